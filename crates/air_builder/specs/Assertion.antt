@@ -1,0 +1,12 @@
+-- What a builder is told to be zero.
+use Rattle.air_field.specs.Term.{Term, mul_term}
+
+-- a base term or an extension term
+pub data Assertion (F : Type 0) : Type 0 where
+  Base : Term F → Assertion F
+  Extension : Term F → Assertion F
+
+-- an assertion where a condition holds
+abbrev pub filtered : {F : Type 0} → Term F → Assertion F → Assertion F
+filtered c (Base t) = Base (mul_term c t)
+filtered c (Extension t) = Extension (mul_term t c)

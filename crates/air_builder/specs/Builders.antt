@@ -1,0 +1,64 @@
+-- What a builder keeps.
+use Rattle.std.specs.Prelude.{◌≡◌, ℕ, List, [], ◌∷◌, ◌++◌, Some, slice_get}
+use Rattle.air_field.specs.Term.{Leaf, first_row, last_row, transition, Term, leaf_term, const_term, sub_term, with_leaves}
+use Rattle.air_field.specs.declared.errors.RingError.{RingError}
+use Rattle.air_builder.specs.declared.errors.AirError.{AirError}
+use Rattle.air_builder.specs.declared.errors.AirError.TheVariants.{Memory}
+use Rattle.air_builder.specs.Errors.{air_error}
+use Rattle.air_builder.specs.Refusals.{NamesLeaf, PartOf}
+use Rattle.air_builder.specs.Assertion.{Assertion, Base}
+
+-- an element means a term in a builder: it does in the builder's ring, with what stands at the leaves
+abbrev pub Means : {S R E F : Type 0} → (R → E → Term F → Type 0) → (S → R) → (S → Leaf → Term F) → S → E → Term F → Type 0
+Means means ring_of stands b x t = means (ring_of b) x (with_leaves (stands b) t)
+
+-- the variable at each place of a row means what stands there
+abbrev pub RowStands : {V F : Type 0} → (V → Term F → Type 0) → (ℕ → Term F) → List V → Type 0
+RowStands {V} means at row = (i : ℕ) (v : V) → slice_get row i ≡ Some v → means v (at i)
+
+-- x - 1
+abbrev pub less_one_term : {F : Type 0} → F → Term F → Term F
+less_one_term one t = sub_term t (const_term one)
+
+-- z means in the new builder the operation of what x and y meant
+abbrev pub MeansOfBoth : {S E F : Type 0} → (S → E → Term F → Type 0) → (Term F → Term F → Term F) → S → S → E → E → E → Type 0
+MeansOfBoth {F = F} means op a b x y z = (t u : Term F) → means a x t → means a y u → means b z (op t u)
+
+-- the builder grew by the one term that the operation makes of what x means
+abbrev pub GrewOf : {S E F : Type 0} → (S → E → Term F → Type 0) → (S → S → List (Assertion F) → Type 0) → (Term F → Term F) → S → S → E → Type 0
+GrewOf {F = F} means grew op a b x = (t : Term F) → means a x t → grew a b (Base (op t) ∷ [])
+
+-- the same, of what x and y mean
+abbrev pub GrewOfBoth : {S E F : Type 0} → (S → E → Term F → Type 0) → (S → S → List (Assertion F) → Type 0) → (Term F → Term F → Term F) → S → S → E → E → Type 0
+GrewOfBoth {F = F} means grew op a b x y = (t u : Term F) → means a x t → means a y u → grew a b (Base (op t u) ∷ [])
+
+-- growing by the one term that the operation makes of what x means may be refused with e
+abbrev pub RefusesOf : {S E F X : Type 0} → (S → E → Term F → Type 0) → (S → X → List (Assertion F) → Type 0) → (Term F → Term F) → S → E → X → Type 0
+RefusesOf {F = F} means refuses op a x e = (t : Term F) → means a x t → refuses a e (Base (op t) ∷ [])
+
+-- the same, of what x and y mean
+abbrev pub RefusesOfBoth : {S E F X : Type 0} → (S → E → Term F → Type 0) → (S → X → List (Assertion F) → Type 0) → (Term F → Term F → Term F) → S → E → E → X → Type 0
+RefusesOfBoth {F = F} means refuses op a x y e = (t u : Term F) → means a x t → means a y u → refuses a e (Base (op t u) ∷ [])
+
+-- What every builder keeps. Growth joins; lending the ring grows nothing; what it kept, it still has.
+pub record BuilderLaws {S R F : Type 0} (ring_of : S → R) (with_ring : S → R → S) (stands : S → Leaf → Term F) (ready : S → Type 0) (kept : S → S → Type 0) (grew : S → S → List (Assertion F) → Type 0) (valid : R → Type 0) (extends : R → R → Type 0) (ring_refuses : RingError → Term F → Type 0) (missing : S → Leaf → Type 0) (refuses : S → AirError → List (Assertion F) → Type 0) : Type 0 where
+  pub same : (a : S) → grew a a []
+  pub joined : (a b c : S) (xs ys : List (Assertion F)) → grew a b xs → grew b c ys → grew a c (xs ++ ys)
+  pub ring_lent : (a : S) (r : R) → extends (ring_of a) r → grew a (with_ring a r) []
+  pub ring_with : (a : S) (r : R) → ring_of (with_ring a r) ≡ r
+  pub ring_valid : (a : S) → ready a → valid (ring_of a)
+  pub by_growth : (a b : S) (xs : List (Assertion F)) → grew a b xs → kept a b
+  pub kept_joined : (a b c : S) → kept a b → kept b c → kept a c
+  pub ring_kept : (a b : S) → kept a b → extends (ring_of a) (ring_of b)
+  pub stands_kept : (a b : S) → kept a b → stands b ≡ stands a
+  pub ready_kept : (a b : S) → kept a b → ready a → ready b
+  pub missing_kept : (a b : S) (l : Leaf) → kept a b → missing b l → missing a l
+  pub missing_stays : (a b : S) (l : Leaf) → kept a b → missing a l → missing b l
+  pub has_first_row : (a : S) → missing a first_row → ⊥
+  pub has_last_row : (a : S) → missing a last_row → ⊥
+  pub has_transition : (a : S) → missing a transition → ⊥
+  pub refuses_memory : (a : S) (ts : List (Assertion F)) → refuses a Memory ts
+  pub refuses_first : (a : S) (e : AirError) (xs ys : List (Assertion F)) → refuses a e xs → refuses a e (xs ++ ys)
+  pub refuses_then : (a b : S) (e : AirError) (xs ys : List (Assertion F)) → grew a b xs → refuses b e ys → refuses a e (xs ++ ys)
+  pub refuses_in_ring : (a : S) (e : RingError) (t : Term F) (ts : List (Assertion F)) → ring_refuses e (with_leaves (stands a) t) → PartOf t ts → refuses a (air_error e) ts
+  pub refuses_missing : (a : S) (e : AirError) (l : Leaf) (ts : List (Assertion F)) → missing a l → NamesLeaf e l → PartOf (leaf_term l) ts → refuses a e ts

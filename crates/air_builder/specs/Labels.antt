@@ -1,0 +1,64 @@
+-- Growth by assertions that have labels.
+use Rattle.std.specs.Prelude.{◌≡◌, ℕ, ◌+◌, ◌<◌, List, [], ◌∷◌, ◌++◌, length, take, map, Option}
+use Rattle.std.specs.List.{zip}
+use Rattle.air_field.specs.Term.{Term}
+use Rattle.air_builder.specs.Assertion.{Assertion, Base}
+use Rattle.air_builder.specs.Batches.{Each}
+
+-- what became of an assertion's name: nothing asked for it, or it was evaluated and displays this text
+pub data Label : Type 0 where
+  Unasked : Label
+  Shown : Option (List ℕ) → Label
+
+-- an assertion and its label
+abbrev pub Labelled : Type 0 → Type 0
+Labelled F = Assertion F × Label
+
+-- a label that was shown is one that the name may display
+abbrev pub IsSaid : (Option (List ℕ) → Type 0) → Label → Type 0
+IsSaid says Unasked = Unit {0}
+IsSaid says (Shown text) = says text
+
+-- the same of labels in order, where `says i` is what the name at place i may display
+abbrev pub AreSaidFrom : (ℕ → Option (List ℕ) → Type 0) → ℕ → List Label → Type 0
+AreSaidFrom says i [] = Unit {0}
+AreSaidFrom says i (l ∷ ls) = IsSaid (says i) l × AreSaidFrom says (i + 1) ls
+
+-- the assertions without their labels
+abbrev pub without_labels : {F : Type 0} → List (Labelled F) → List (Assertion F)
+without_labels ls = map (λ l. l.0) ls
+
+-- growth of a builder that discards labels
+abbrev pub discarding : {S F : Type 0} → (S → S → List (Assertion F) → Type 0) → S → S → List (Labelled F) → Type 0
+discarding grew a b ls = grew a b (without_labels ls)
+
+-- the builder grew by the one term that the operation makes of what x means, under a label that the name may display
+pub record LabelledOf {S E F : Type 0} (means : S → E → Term F → Type 0) (labelled : S → S → List (Labelled F) → Type 0) (says : Option (List ℕ) → Type 0) (op : Term F → Term F) (a b : S) (x : E) : Type 0 where
+  pub label : Label
+  pub said : IsSaid says label
+  pub grown : (t : Term F) → means a x t → labelled a b ((Base (op t), label) ∷ [])
+
+-- the same, of what x and y mean
+pub record LabelledOfBoth {S E F : Type 0} (means : S → E → Term F → Type 0) (labelled : S → S → List (Labelled F) → Type 0) (says : Option (List ℕ) → Type 0) (op : Term F → Term F → Term F) (a b : S) (x y : E) : Type 0 where
+  pub label : Label
+  pub said : IsSaid says label
+  pub grown : (t u : Term F) → means a x t → means a y u → labelled a b ((Base (op t u), label) ∷ [])
+
+-- the builder grew by what each element asserts, in order, the i-th under a label that the name at i may display
+pub record LabelledByEach {S I F : Type 0} (asserts : S → I → Assertion F → Type 0) (labelled : S → S → List (Labelled F) → Type 0) (says : ℕ → Option (List ℕ) → Type 0) (a b : S) (xs : List I) : Type 0 where
+  pub labels : List Label
+  pub as_many : length labels ≡ length xs
+  pub said : AreSaidFrom says 0 labels
+  pub grown : (ss : List (Assertion F)) → Each (asserts a) xs ss → labelled a b (zip ss labels)
+
+-- the same, of some of the elements, the first ones and not all
+pub record LabelledByBeginning {S I F : Type 0} (asserts : S → I → Assertion F → Type 0) (labelled : S → S → List (Labelled F) → Type 0) (says : ℕ → Option (List ℕ) → Type 0) (a b : S) (xs : List I) : Type 0 where
+  pub count : ℕ
+  pub within : count < length xs
+  pub beginning : LabelledByEach asserts labelled says a b (take count xs)
+
+-- What every named builder keeps. Growth under labels is growth; growth by nothing leaves the labels.
+pub record NamedLaws {S F : Type 0} (grew : S → S → List (Assertion F) → Type 0) (labelled : S → S → List (Labelled F) → Type 0) : Type 0 where
+  pub labelled_nothing : (a b : S) → grew a b [] → labelled a b []
+  pub labelled_joined : (a b c : S) (xs ys : List (Labelled F)) → labelled a b xs → labelled b c ys → labelled a c (xs ++ ys)
+  pub labelled_grew : (a b : S) (xs : List (Labelled F)) → labelled a b xs → grew a b (without_labels xs)

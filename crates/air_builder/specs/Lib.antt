@@ -1,0 +1,17 @@
+pub use Rattle.air_field.specs.Ring
+pub use Rattle.air_field.specs.Term
+pub use Rattle.air_field.specs.Algebra
+pub use Rattle.air_field.specs.Grid
+pub use Rattle.air_symbolic.specs.Entries
+pub mod Boundary
+pub mod Texts
+pub mod Errors
+pub mod WindowShapes
+pub mod Assertion
+pub mod Refusals
+pub mod Builders
+pub mod Batches
+pub mod Filters
+pub mod Labels
+pub mod Conditions
+pub mod NamedFilters

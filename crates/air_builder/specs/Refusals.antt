@@ -1,0 +1,78 @@
+-- Where a builder may refuse.
+use Rattle.std.specs.Prelude.{◌≡◌, ◌⊎◌, ◌↔◌, ℕ, List, [], ◌∷◌, map, None, slice_get}
+use Rattle.std.proofs.Common.{inl, inr, refl, subst}
+use Rattle.air_field.specs.Term.{Leaf, Term, leaf_term, const_term, ext_const_term, add_term, sub_term, neg_term, mul_term}
+use Rattle.air_field.specs.Part.{Part, whole, in_add_left, in_add_right, in_sub_left, in_sub_right, in_neg, in_mul_left, in_mul_right}
+use Rattle.air_symbolic.specs.Entries.{entry_leaf}
+use Rattle.air_builder.specs.Assertion.{Assertion, Base, Extension, filtered}
+use Rattle.air_builder.specs.declared.errors.AirError.{AirError}
+use Rattle.air_builder.specs.declared.errors.AirError.TheVariants.{MissingEntry}
+
+-- the error names a leaf
+abbrev pub NamesLeaf : AirError → Leaf → Type 0
+NamesLeaf (MissingEntry e i) l = l ≡ entry_leaf e i
+NamesLeaf _ l = ⊥
+
+-- past the end of a row, and only there, its leaves are missing
+abbrev pub RowEnds : {V : Type 0} → (Leaf → Type 0) → (ℕ → Leaf) → List V → Type 0
+RowEnds missing at row = (i : ℕ) → missing (at i) ↔ (slice_get row i ≡ None)
+
+-- a part of an assertion's term
+abbrev pub PartOfOne : {F : Type 0} → Term F → Assertion F → Type 0
+PartOfOne t (Base u) = Part t u
+PartOfOne t (Extension u) = Part t u
+
+-- a part of one of the assertions
+abbrev pub PartOf : {F : Type 0} → Term F → List (Assertion F) → Type 0
+PartOf t [] = ⊥
+PartOf t (a ∷ rest) = PartOfOne t a ⊎ PartOf t rest
+
+-- growing by any list that has the operation of what x and y mean as a part may be refused with e
+abbrev pub RefusesPartOfBoth : {S E F X : Type 0} → (S → E → Term F → Type 0) → (S → X → List (Assertion F) → Type 0) → (Term F → Term F → Term F) → S → E → E → X → Type 0
+RefusesPartOfBoth {F = F} means refuses op a x y e = (t u : Term F) (ts : List (Assertion F)) → means a x t → means a y u → PartOf (op t u) ts → refuses a e ts
+
+-- no term names a missing leaf
+abbrev pub NoneMissing : {F : Type 0} → (Leaf → Type 0) → List (Assertion F) → Type 0
+NoneMissing missing ts = (l : Leaf) → missing l → PartOf (leaf_term l) ts → ⊥
+
+-- each leaf of a term, and of a list of assertions, has the property
+abbrev pub EachLeaf : {F : Type 0} → (Leaf → Type 0) → Term F → Type 0
+EachLeaf P (leaf_term l) = P l
+EachLeaf P (const_term c) = Unit {0}
+EachLeaf P (ext_const_term cs) = Unit {0}
+EachLeaf P (add_term t u) = EachLeaf P t × EachLeaf P u
+EachLeaf P (sub_term t u) = EachLeaf P t × EachLeaf P u
+EachLeaf P (neg_term t) = EachLeaf P t
+EachLeaf P (mul_term t u) = EachLeaf P t × EachLeaf P u
+
+abbrev pub EachLeafOf : {F : Type 0} → (Leaf → Type 0) → List (Assertion F) → Type 0
+EachLeafOf P [] = Unit {0}
+EachLeafOf P (Base t ∷ rest) = EachLeaf P t × EachLeafOf P rest
+EachLeafOf P (Extension t ∷ rest) = EachLeaf P t × EachLeafOf P rest
+
+leaf_of_part : {F : Type 0} (P : Leaf → Type 0) (l : Leaf) {t u : Term F} → Part t u → t ≡ leaf_term l → EachLeaf P u → P l
+leaf_of_part P l whole e h = subst (λ v. EachLeaf P v) e h
+leaf_of_part P l (in_add_left p) e h = leaf_of_part P l p e h.0
+leaf_of_part P l (in_add_right p) e h = leaf_of_part P l p e h.1
+leaf_of_part P l (in_sub_left p) e h = leaf_of_part P l p e h.0
+leaf_of_part P l (in_sub_right p) e h = leaf_of_part P l p e h.1
+leaf_of_part P l (in_neg p) e h = leaf_of_part P l p e h
+leaf_of_part P l (in_mul_left p) e h = leaf_of_part P l p e h.0
+leaf_of_part P l (in_mul_right p) e h = leaf_of_part P l p e h.1
+
+-- where no leaf is missing, no term names a missing one
+pub none_missing : {F : Type 0} (missing : Leaf → Type 0) (ts : List (Assertion F)) → EachLeafOf (λ l. missing l → ⊥) ts → NoneMissing missing ts
+none_missing missing [] h l m p = p
+none_missing missing (Base t ∷ rest) h l m (inl p) = leaf_of_part (λ k. missing k → ⊥) l p refl h.0 m
+none_missing missing (Extension t ∷ rest) h l m (inl p) = leaf_of_part (λ k. missing k → ⊥) l p refl h.0 m
+none_missing missing (Base t ∷ rest) h l m (inr p) = none_missing missing rest h.1 l m p
+none_missing missing (Extension t ∷ rest) h l m (inr p) = none_missing missing rest h.1 l m p
+
+part_filtered : {F : Type 0} (c t : Term F) (a : Assertion F) → PartOfOne t a → PartOfOne t (filtered c a)
+part_filtered c t (Base u) p = in_mul_right p
+part_filtered c t (Extension u) p = in_mul_left p
+
+pub PartOf-filtered : {F : Type 0} (c t : Term F) (ts : List (Assertion F)) → PartOf t ts → PartOf t (map (filtered c) ts)
+PartOf-filtered c t [] p = p
+PartOf-filtered c t (a ∷ rest) (inl p) = inl (part_filtered c t a p)
+PartOf-filtered c t (a ∷ rest) (inr p) = inr (PartOf-filtered c t rest p)

@@ -1,0 +1,3 @@
+//! AIRs: what they declare, and how they tell it to a builder.
+
+pub mod air;

@@ -1,0 +1,11 @@
+//! The interface of builders, filters on them, and calls built on it.
+
+pub mod air_builder;
+pub mod assert_all;
+pub mod assert_all_named;
+pub mod context;
+pub mod filtered;
+pub mod named;
+pub mod named_filter;
+pub mod passthrough;
+pub mod under;

@@ -1,0 +1,320 @@
+//! The interface of builders.
+ghost use Rattle.std.specs.Prelude.{◌≡◌, ◌≤◌, List, [], ◌∷◌, length, All, OnOk, OnErr, IfOk, IfErr, IsOk};
+ghost use Rattle.std.specs.List.{zip};
+ghost use Rattle.std.specs.Borrow.{sem, Lends};
+ghost use Rattle.air_field.specs.Algebra.{MadeOf, RefusedOf, bool_check_term};
+ghost use Rattle.air_field.specs.Term.{Leaf, main, public, first_row, last_row, transition, Term, leaf_term, const_term, sub_term};
+ghost use Rattle.air_builder.specs.Assertion.{Assertion};
+ghost use Rattle.air_builder.specs.Builders.{Means, MeansOfBoth, RowStands, BuilderLaws, GrewOf, GrewOfBoth, RefusesOf, RefusesOfBoth, less_one_term};
+ghost use Rattle.air_builder.specs.Batches.{AssertsOf, AssertsOfBoth, GrewByEach, GrewByBeginning, RefusesByEach};
+ghost use Rattle.air_builder.specs.Refusals.{RowEnds, RefusesPartOfBoth};
+ghost use Rattle.air_builder.specs.declared.errors.AirError.{AirError};
+
+use crate::builders::filtered::FilteredAirBuilder;
+use crate::errors::AirError;
+use crate::windows::access::WindowAccess;
+use air_field::{Algebra, Field, FromVar, RingError};
+
+/// x - 1
+pub(crate) fn less_one<F: Field, R: Algebra<F>>(
+    ring: &mut R,
+    x: R::Elem,
+) -> Result<R::Elem, RingError>
+    requires { R.has ring.old x }
+    ensures extended { R.extends ring.old ring.new }
+    ensures made { IfOk result (MadeOf R.has R.means (less_one_term F.ONE) ring.old ring.new x) }
+    ensures refused { IfErr result (RefusedOf R.means R.refuses (less_one_term F.ONE) ring.old x) }
+{
+    let one = ring.constant(F::ONE)?;
+    ring.sub(x, one)
+}
+
+/// Receives the constraints of an AIR.
+pub trait AirBuilder {
+    type F: Field;
+
+    type Expr: Copy;
+
+    type Var: Copy;
+
+    type PublicVar: Copy;
+
+    type MainWindow: WindowAccess<Self::Var> + Drop;
+
+    type Ring: Algebra<Self::F, Elem = Self::Expr>
+        + FromVar<Self::F, Self::Var>
+        + FromVar<Self::F, Self::PublicVar>;
+
+    /// The ring in which this builder's expressions are made.
+    ghost ring_of: { Self → Self.Ring };
+
+    /// The builder with another ring.
+    ghost with_ring: { Self → Self.Ring → Self };
+
+    /// What stands at a leaf.
+    ghost stands: { Self → Leaf → Term Self.F };
+
+    /// The builder's ring is as the builder left it, or extends it.
+    ghost ready: { Self → Type 0 };
+
+    /// The builder keeps its leaves, and what meant a term in it still does.
+    ghost kept: { Self → Self → Type 0 };
+
+    /// The builder grew by a list of assertions.
+    ghost grew: { Self → Self → List (Assertion Self.F) → Type 0 };
+
+    /// A leaf has no entry here.
+    ghost missing: { Self → Leaf → Type 0 };
+
+    /// Growing by these assertions may be refused with an error.
+    ghost refuses: { Self → AirError → List (Assertion Self.F) → Type 0 };
+
+    /// The ring in which this builder's expressions are made. What the caller leaves there extends what was lent.
+    fn ring(&mut self) -> &mut Self::Ring
+        ensures* lends { sem 𝓛 (Lends Self.row Self.Ring.row self.entry result (with_ring self.old)) }
+        ensures value { result.now ≡ ring_of self.old };
+
+    /// How many rows a window has.
+    const WINDOW: usize = 2;
+
+    /// The window of the main trace.
+    fn main(&self) -> Result<Self::MainWindow, AirError>
+        ensures window { IfOk result Self.MainWindow.is_window }
+        ensures current { IfOk result (λ w. RowStands Self.Ring.FromVar-1.var_means (λ i. stands self.now (main 0 i)) (Self.MainWindow.current_row w)) }
+        ensures next { IfOk result (λ w. RowStands Self.Ring.FromVar-1.var_means (λ i. stands self.now (main 1 i)) (Self.MainWindow.next_row w)) }
+        ensures current_ends { IfOk result (λ w. RowEnds (missing self.now) (λ i. main 0 i) (Self.MainWindow.current_row w)) }
+        ensures next_ends { IfOk result (λ w. RowEnds (missing self.now) (λ i. main 1 i) (Self.MainWindow.next_row w)) }
+        ensures refused { IfErr result (λ e. e ≡ AirError.Memory) };
+
+    /// The public values.
+    fn public_values(&self) -> &[Self::PublicVar]
+        ensures stands { RowStands Self.Ring.FromVar-2.var_means (λ i. stands self.now (public i)) result.now }
+        ensures ends { RowEnds (missing self.now) public result.now };
+
+    /// One on the first row, else zero.
+    fn is_first_row(&mut self) -> Result<Self::Expr, AirError>
+        requires { ready self.old }
+        ensures always { IsOk result }
+        ensures keeps { grew self.old self.new [] }
+        ensures ok { IfOk result (λ x. Means Self.Ring.means ring_of stands self.new x (leaf_term first_row)) };
+
+    /// One on the last row, else zero.
+    fn is_last_row(&mut self) -> Result<Self::Expr, AirError>
+        requires { ready self.old }
+        ensures always { IsOk result }
+        ensures keeps { grew self.old self.new [] }
+        ensures ok { IfOk result (λ x. Means Self.Ring.means ring_of stands self.new x (leaf_term last_row)) };
+
+    /// Zero on the last row, else one.
+    fn is_transition(&mut self) -> Result<Self::Expr, AirError>
+        requires { ready self.old }
+        ensures always { IsOk result }
+        ensures keeps { grew self.old self.new [] }
+        ensures ok { IfOk result (λ x. Means Self.Ring.means ring_of stands self.new x (leaf_term transition)) };
+
+    /// The transition selector of windows of so many rows: zero on the last row, else one.
+    fn is_transition_window(&mut self, size: usize) -> Result<Self::Expr, AirError>
+        requires ready { ready self.old }
+        requires within { size ≤ 2 }
+        ensures always { IsOk result }
+        ensures keeps { grew self.old self.new [] }
+        ensures ok { IfOk result (λ x. Means Self.Ring.means ring_of stands self.new x (leaf_term transition)) }
+    {
+        prove!(size <= 2);
+        self.is_transition()
+    }
+
+    /// Asserts that `x` is zero: growth by its one term.
+    fn assert_zero(&mut self, x: Self::Expr) -> Result<(), AirError>
+        requires ready { ready self.old }
+        requires of_ring { Self.Ring.has (ring_of self.old) x }
+        ensures keeps { kept self.old self.new }
+        ensures ok { OnOk result (GrewOf (Means Self.Ring.means ring_of stands) grew (λ t. t) self.old self.new x) }
+        ensures err { OnErr result (grew self.old self.new []) }
+        ensures refused { IfErr result (RefusesOf (Means Self.Ring.means ring_of stands) refuses (λ t. t) self.old x) };
+
+    /// Asserts that `x` is one: growth by x - 1.
+    fn assert_one(&mut self, x: Self::Expr) -> Result<(), AirError>
+        requires ready { ready self.old }
+        requires of_ring { Self.Ring.has (ring_of self.old) x }
+        ensures keeps { kept self.old self.new }
+        ensures ok { OnOk result (GrewOf (Means Self.Ring.means ring_of stands) grew (less_one_term Self.F.ONE) self.old self.new x) }
+        ensures err { OnErr result (grew self.old self.new []) }
+        ensures refused { IfErr result (RefusesOf (Means Self.Ring.means ring_of stands) refuses (less_one_term Self.F.ONE) self.old x) }
+    {
+        let less = less_one(self.ring(), x)?;
+        self.assert_zero(less)
+    }
+
+    /// Asserts that `x` and `y` are equal: growth by x - y.
+    fn assert_eq(&mut self, x: Self::Expr, y: Self::Expr) -> Result<(), AirError>
+        requires ready { ready self.old }
+        requires x_in { Self.Ring.has (ring_of self.old) x }
+        requires y_in { Self.Ring.has (ring_of self.old) y }
+        ensures keeps { kept self.old self.new }
+        ensures ok { OnOk result (GrewOfBoth (Means Self.Ring.means ring_of stands) grew sub_term self.old self.new x y) }
+        ensures err { OnErr result (grew self.old self.new []) }
+        ensures refused { IfErr result (RefusesOfBoth (Means Self.Ring.means ring_of stands) refuses sub_term self.old x y) }
+    {
+        let z = self.ring().sub(x, y)?;
+        self.assert_zero(z)
+    }
+
+    /// Asserts that `x` is zero or one: growth by x (x - 1).
+    fn assert_bool(&mut self, x: Self::Expr) -> Result<(), AirError>
+        requires ready { ready self.old }
+        requires of_ring { Self.Ring.has (ring_of self.old) x }
+        ensures keeps { kept self.old self.new }
+        ensures ok { OnOk result (GrewOf (Means Self.Ring.means ring_of stands) grew (bool_check_term Self.F.ONE) self.old self.new x) }
+        ensures err { OnErr result (grew self.old self.new []) }
+        ensures refused { IfErr result (RefusesOf (Means Self.Ring.means ring_of stands) refuses (bool_check_term Self.F.ONE) self.old x) }
+    {
+        let check = self.ring().bool_check(x)?;
+        self.assert_zero(check)
+    }
+
+    /// Asserts that each element is zero, in order.
+    fn assert_zeros_slice(&mut self, elements: &[Self::Expr]) -> Result<(), AirError>
+        requires ready { ready self.old }
+        requires of_ring { All (Self.Ring.has (ring_of self.old)) elements.now }
+        ensures keeps { kept self.old self.new }
+        ensures ok { OnOk result (GrewByEach (AssertsOf (Means Self.Ring.means ring_of stands) (λ t. t)) grew self.old self.new elements.now) }
+        ensures err { OnErr result (GrewByBeginning (AssertsOf (Means Self.Ring.means ring_of stands) (λ t. t)) grew self.old self.new elements.now) }
+        ensures refused { IfErr result (RefusesByEach (AssertsOf (Means Self.Ring.means ring_of stands) (λ t. t)) refuses self.old elements.now) }
+    {
+        for element in elements {
+            self.assert_zero(*element)?;
+        }
+        Ok(())
+    }
+
+    /// Asserts that each element is zero or one, in order.
+    fn assert_bools_slice(&mut self, elements: &[Self::Expr]) -> Result<(), AirError>
+        requires ready { ready self.old }
+        requires of_ring { All (Self.Ring.has (ring_of self.old)) elements.now }
+        ensures keeps { kept self.old self.new }
+        ensures ok { OnOk result (GrewByEach (AssertsOf (Means Self.Ring.means ring_of stands) (bool_check_term Self.F.ONE)) grew self.old self.new elements.now) }
+        ensures err { OnErr result (GrewByBeginning (AssertsOf (Means Self.Ring.means ring_of stands) (bool_check_term Self.F.ONE)) grew self.old self.new elements.now) }
+        ensures refused { IfErr result (RefusesByEach (AssertsOf (Means Self.Ring.means ring_of stands) (bool_check_term Self.F.ONE)) refuses self.old elements.now) }
+    {
+        for element in elements {
+            self.assert_bool(*element)?;
+        }
+        Ok(())
+    }
+
+    /// Asserts that the elements at each place are equal, in order.
+    fn assert_eq_slices(
+        &mut self,
+        left: &[Self::Expr],
+        right: &[Self::Expr],
+    ) -> Result<(), AirError>
+        requires ready { ready self.old }
+        requires same_length { length left.now ≡ length right.now }
+        requires left_in { All (Self.Ring.has (ring_of self.old)) left.now }
+        requires right_in { All (Self.Ring.has (ring_of self.old)) right.now }
+        ensures keeps { kept self.old self.new }
+        ensures ok { OnOk result (GrewByEach (AssertsOfBoth (Means Self.Ring.means ring_of stands) sub_term) grew self.old self.new (zip left.now right.now)) }
+        ensures err { OnErr result (GrewByBeginning (AssertsOfBoth (Means Self.Ring.means ring_of stands) sub_term) grew self.old self.new (zip left.now right.now)) }
+        ensures refused { IfErr result (RefusesByEach (AssertsOfBoth (Means Self.Ring.means ring_of stands) sub_term) refuses self.old (zip left.now right.now)) }
+    {
+        for (i, x) in left.iter().enumerate() {
+            self.assert_eq(*x, right[i])?;
+        }
+        Ok(())
+    }
+
+    final fn when(
+        &mut self,
+        condition: Self::Expr,
+    ) -> Result<FilteredAirBuilder<'_, Self>, AirError>
+    where
+        Self: Sized,
+        ensures always { IsOk result }
+        ensures same_reference { IfOk result (λ f. f.inner.ghost_name ≡ self.entry.ghost_name) }
+        ensures inner { IfOk result (λ f. f.inner.now ≡ self.old) }
+        ensures condition { IfOk result (λ f. f.condition ≡ condition) }
+    {
+        Ok(FilteredAirBuilder::new(self, condition))
+    }
+
+    final fn when_first_row(&mut self) -> Result<FilteredAirBuilder<'_, Self>, AirError>
+    where
+        Self: Sized,
+        requires { ready self.old }
+        ensures always { IsOk result }
+        ensures same_reference { IfOk result (λ f. f.inner.ghost_name ≡ self.entry.ghost_name) }
+        ensures inner { IfOk result (λ f. grew self.old f.inner.now []) }
+        ensures condition { IfOk result (λ f. Means Self.Ring.means ring_of stands f.inner.now f.condition (leaf_term first_row)) }
+    {
+        let condition = self.is_first_row()?;
+        self.when(condition)
+    }
+
+    final fn when_last_row(&mut self) -> Result<FilteredAirBuilder<'_, Self>, AirError>
+    where
+        Self: Sized,
+        requires { ready self.old }
+        ensures always { IsOk result }
+        ensures same_reference { IfOk result (λ f. f.inner.ghost_name ≡ self.entry.ghost_name) }
+        ensures inner { IfOk result (λ f. grew self.old f.inner.now []) }
+        ensures condition { IfOk result (λ f. Means Self.Ring.means ring_of stands f.inner.now f.condition (leaf_term last_row)) }
+    {
+        let condition = self.is_last_row()?;
+        self.when(condition)
+    }
+
+    final fn when_transition(&mut self) -> Result<FilteredAirBuilder<'_, Self>, AirError>
+    where
+        Self: Sized,
+        requires { ready self.old }
+        ensures always { IsOk result }
+        ensures same_reference { IfOk result (λ f. f.inner.ghost_name ≡ self.entry.ghost_name) }
+        ensures inner { IfOk result (λ f. grew self.old f.inner.now []) }
+        ensures condition { IfOk result (λ f. Means Self.Ring.means ring_of stands f.inner.now f.condition (leaf_term transition)) }
+    {
+        let condition = self.is_transition()?;
+        self.when(condition)
+    }
+
+    /// A filter where `x` and `y` differ: its condition is x - y. A refusal leaves the builder open.
+    final fn when_ne(
+        &mut self,
+        x: Self::Expr,
+        y: Self::Expr,
+    ) -> Result<FilteredAirBuilder<'_, Self>, AirError>
+    where
+        Self: Sized,
+        requires ready { ready self.old }
+        requires x_in { Self.Ring.has (ring_of self.old) x }
+        requires y_in { Self.Ring.has (ring_of self.old) y }
+        ensures same_reference { IfOk result (λ f. f.inner.ghost_name ≡ self.entry.ghost_name) }
+        ensures inner { IfOk result (λ f. grew self.old f.inner.now []) }
+        ensures of_ring { IfOk result (λ f. Self.Ring.has (ring_of f.inner.now) f.condition) }
+        ensures condition { IfOk result (λ f. MeansOfBoth (Means Self.Ring.means ring_of stands) sub_term self.old f.inner.now x y f.condition) }
+        ensures refused { IfErr result (RefusesPartOfBoth (Means Self.Ring.means ring_of stands) refuses sub_term self.old x y) }
+    {
+        let condition = self.ring().sub(x, y)?;
+        self.when(condition)
+    }
+
+    /// A filter on the transitions of windows of so many rows.
+    final fn when_transition_window(
+        &mut self,
+        size: usize,
+    ) -> Result<FilteredAirBuilder<'_, Self>, AirError>
+    where
+        Self: Sized,
+        requires ready { ready self.old }
+        requires within { size ≤ 2 }
+        ensures always { IsOk result }
+        ensures same_reference { IfOk result (λ f. f.inner.ghost_name ≡ self.entry.ghost_name) }
+        ensures inner { IfOk result (λ f. grew self.old f.inner.now []) }
+        ensures condition { IfOk result (λ f. Means Self.Ring.means ring_of stands f.inner.now f.condition (leaf_term transition)) }
+    {
+        let condition = self.is_transition_window(size)?;
+        self.when(condition)
+    }
+
+    ghost laws: { BuilderLaws ring_of with_ring stands ready kept grew Self.Ring.valid Self.Ring.extends Self.Ring.refuses missing refuses };
+}

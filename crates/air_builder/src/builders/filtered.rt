@@ -1,0 +1,103 @@
+//! Filters: builders that assert where a condition holds.
+ghost use Rattle.std.specs.Prelude.{◌≡◌, refl};
+ghost use Rattle.air_builder.specs.Builders.{Means};
+ghost use Rattle.air_builder.specs.Filters.{KeptInside, GrewInside, RefusesInside, filter_laws};
+
+use crate::builders::air_builder::AirBuilder;
+use crate::errors::AirError;
+use air_field::Algebra;
+
+/// Asserts where a condition holds.
+pub struct FilteredAirBuilder<'a, AB: AirBuilder> {
+    pub inner: &'a mut AB,
+    pub(crate) condition: AB::Expr,
+}
+
+impl<'a, AB: AirBuilder> FilteredAirBuilder<'a, AB> {
+    pub(crate) fn new(inner: &'a mut AB, condition: AB::Expr) -> FilteredAirBuilder<'a, AB>
+        ensures same_reference { result.inner.ghost_name ≡ inner.entry.ghost_name }
+        ensures inner { result.inner.now ≡ inner.old }
+        ensures condition { result.condition ≡ condition }
+    {
+        FilteredAirBuilder { inner, condition }
+    }
+
+    /// What each assertion is multiplied by.
+    pub fn condition(&self) -> AB::Expr
+        ensures { result ≡ self.now.condition }
+    {
+        self.condition
+    }
+}
+
+impl<'a, AB: AirBuilder> Drop for FilteredAirBuilder<'a, AB> {
+    fn drop(self)
+        ensures { self.exit.0.now ≡ self.entry.inner.now }
+    {
+        let FilteredAirBuilder {
+            inner: _,
+            condition: _,
+        } = self;
+    }
+}
+
+impl<'a, AB: AirBuilder> AirBuilder for FilteredAirBuilder<'a, AB> {
+    type F = AB::F;
+
+    type Expr = AB::Expr;
+
+    type Var = AB::Var;
+
+    type PublicVar = AB::PublicVar;
+
+    type MainWindow = AB::MainWindow;
+
+    type Ring = AB::Ring;
+
+    ghost ring_of = { λ f. AB.ring_of f.inner.now };
+
+    ghost with_ring = { λ f r. record f { inner = record f.inner { now = AB.with_ring f.inner.now r } } };
+
+    ghost stands = { λ f. AB.stands f.inner.now };
+
+    ghost ready = { λ f. AB.ready f.inner.now × AB.Ring.has (AB.ring_of f.inner.now) f.condition };
+
+    ghost kept = { λ f g. KeptInside AB.kept f.inner.ghost_name g.inner.ghost_name f.condition g.condition f.inner.now g.inner.now };
+
+    ghost grew = { λ f g ts. GrewInside AB.kept AB.grew (Means AB.Ring.means AB.ring_of AB.stands) f.inner.ghost_name g.inner.ghost_name f.condition g.condition f.inner.now g.inner.now ts };
+
+    ghost missing = { λ f l. AB.missing f.inner.now l };
+
+    ghost refuses = { λ f e ts. RefusesInside AB.refuses (Means AB.Ring.means AB.ring_of AB.stands) f.condition f.inner.now e ts };
+
+    ghost laws = { filter_laws AB.Ring.Algebra.laws AB.laws (λ p. p.inner.now) (λ p. p.inner.ghost_name) (λ p. p.condition) (λ p s. record p { inner = record p.inner { now = s } }) (λ p s. refl) (λ p s. refl) (λ p s. refl) };
+
+    fn ring(&mut self) -> &mut AB::Ring {
+        self.inner.ring()
+    }
+
+    fn main(&self) -> Result<AB::MainWindow, AirError> {
+        self.inner.main()
+    }
+
+    fn public_values(&self) -> &[AB::PublicVar] {
+        self.inner.public_values()
+    }
+
+    fn is_first_row(&mut self) -> Result<AB::Expr, AirError> {
+        self.inner.is_first_row()
+    }
+
+    fn is_last_row(&mut self) -> Result<AB::Expr, AirError> {
+        self.inner.is_last_row()
+    }
+
+    fn is_transition(&mut self) -> Result<AB::Expr, AirError> {
+        self.inner.is_transition()
+    }
+
+    fn assert_zero(&mut self, x: AB::Expr) -> Result<(), AirError> {
+        let y = self.inner.ring().mul(self.condition, x)?;
+        self.inner.assert_zero(y)
+    }
+}

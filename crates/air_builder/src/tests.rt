@@ -1,0 +1,7 @@
+//! Worked rows, printed texts, and each generic call at a concrete type.
+mod boundary;
+mod builders;
+mod errors;
+mod names;
+mod value_log;
+mod windows;

@@ -1,0 +1,170 @@
+//! A builder that keeps the values that are asserted: every leaf is one, and no row has columns.
+ghost use Rattle.std.specs.Prelude.{◌≡◌, ⊤, refl, OnOk};
+ghost use Rattle.std.proofs.Common.{◌∙◌};
+ghost use Rattle.air_field.specs.Modulo.{class};
+ghost use Rattle.air_field.specs.Term.{first_row, last_row, transition, const_term};
+
+use crate::builders::air_builder::AirBuilder;
+use crate::builders::context::AirBuilderWithContext;
+use crate::builders::named::NamedAirBuilder;
+use crate::errors::AirError;
+use crate::names::name::Name;
+use crate::windows::two_rows::TwoRows;
+use air_field::{BabyBear, Field, FieldRing};
+use std::alloc::Global;
+use std::string::ToString;
+
+/// An assertion that failed.
+#[derive(Debug, Drop)]
+pub struct LoggedFailure {
+    pub place: usize,
+    pub label: Option<String>,
+}
+
+/// The values in order, and which of them weren't zero.
+#[derive(Drop)]
+pub struct ValueLog {
+    alloc: Global,
+    ring: FieldRing<BabyBear>,
+    context: u32,
+    pub values: Vec<BabyBear>,
+    pub failures: Vec<LoggedFailure>,
+}
+
+impl ValueLog {
+    pub fn new(alloc: Global, context: u32) -> Self {
+        ValueLog {
+            alloc,
+            ring: FieldRing::new(),
+            context,
+            values: Vec::new(alloc),
+            failures: Vec::new(alloc),
+        }
+    }
+
+    fn keep<N: Name>(&mut self, x: BabyBear, name: N) -> Result<(), AirError>
+        requires { N.can_evaluate name }
+        ensures keeps { self.new.context ≡ self.old.context }
+        ensures ok { OnOk result (self.new.context ≡ self.old.context) }
+    {
+        if x != BabyBear::ZERO {
+            let text = name.evaluate()?.to_string(self.alloc)?;
+            let label = if text.is_empty() { None } else { Some(text) };
+            self.failures
+                .push(LoggedFailure {
+                    place: self.values.len(),
+                    label,
+                })
+                .map_err(|_| AirError::Memory)?;
+        }
+        self.values.push(x).map_err(|_| AirError::Memory)?;
+        Ok(())
+    }
+}
+
+impl AirBuilder for ValueLog {
+    type F = BabyBear;
+
+    type Expr = BabyBear;
+
+    type Var = BabyBear;
+
+    type PublicVar = BabyBear;
+
+    type MainWindow = TwoRows<BabyBear>;
+
+    type Ring = FieldRing<BabyBear>;
+
+    ghost ring_of = { λ b. b.ring };
+
+    ghost with_ring = { λ b r. record b { ring = r } };
+
+    ghost stands = { λ _ _. const_term (class 1) };
+
+    ghost ready = { λ _. ⊤ };
+
+    ghost kept = { λ a b. b.context ≡ a.context };
+
+    ghost grew = { λ a b _. b.context ≡ a.context };
+
+    ghost missing = { λ _ l. (l ≡ first_row → ⊥) × (l ≡ last_row → ⊥) × (l ≡ transition → ⊥) };
+
+    ghost refuses = { λ _ _ _. ⊤ };
+
+    ghost laws = { record {
+      same = λ a. refl;
+      joined = λ a b c xs ys g h. h ∙ g;
+      ring_lent = λ a r e. refl;
+      ring_with = λ a r. refl;
+      ring_valid = λ a h. tt;
+      by_growth = λ a b xs g. g;
+      kept_joined = λ a b c g h. h ∙ g;
+      ring_kept = λ a b k. tt;
+      stands_kept = λ a b k. refl;
+      ready_kept = λ a b k h. tt;
+      missing_kept = λ a b l k h. h;
+      missing_stays = λ a b l k h. h;
+      has_first_row = λ a h. h.0 refl;
+      has_last_row = λ a h. h.1 refl;
+      has_transition = λ a h. h.2 refl;
+      refuses_memory = λ a ts. tt;
+      refuses_first = λ a e xs ys h. tt;
+      refuses_then = λ a b e xs ys g h. tt;
+      refuses_in_ring = λ a e t ts h p. tt;
+      refuses_missing = λ a e l ts m n p. tt;
+    } };
+
+    fn ring(&mut self) -> &mut FieldRing<BabyBear> {
+        &mut self.ring
+    }
+
+    fn main(&self) -> Result<TwoRows<BabyBear>, AirError> {
+        Ok(TwoRows::new(Vec::new(self.alloc), Vec::new(self.alloc)))
+    }
+
+    fn public_values(&self) -> &[BabyBear] {
+        &[]
+    }
+
+    fn is_first_row(&mut self) -> Result<BabyBear, AirError> {
+        Ok(BabyBear::ONE)
+    }
+
+    fn is_last_row(&mut self) -> Result<BabyBear, AirError> {
+        Ok(BabyBear::ONE)
+    }
+
+    fn is_transition(&mut self) -> Result<BabyBear, AirError> {
+        Ok(BabyBear::ONE)
+    }
+
+    fn assert_zero(&mut self, x: BabyBear) -> Result<(), AirError> {
+        self.keep(x, "")
+    }
+}
+
+impl NamedAirBuilder for ValueLog {
+    ghost labelled = { λ a b _. b.context ≡ a.context };
+
+    ghost named_laws = { record {
+      labelled_nothing = λ a b g. g;
+      labelled_joined = λ a b c xs ys g h. h ∙ g;
+      labelled_grew = λ a b xs g. g;
+    } };
+
+    fn assert_zero_named<N: Name>(&mut self, x: BabyBear, name: N) -> Result<(), AirError> {
+        self.keep(x, name)
+    }
+}
+
+impl AirBuilderWithContext for ValueLog {
+    type EvalContext = u32;
+
+    ghost context = { λ b. b.context };
+
+    ghost context_kept = { λ a b k. k };
+
+    fn eval_context(&self) -> &u32 {
+        &self.context
+    }
+}

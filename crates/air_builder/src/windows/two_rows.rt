@@ -1,0 +1,40 @@
+//! Windows that own their two rows.
+ghost use Rattle.std.specs.Prelude.{◌≡◌, length};
+
+use crate::windows::access::WindowAccess;
+
+/// Two rows of one width, zero too.
+#[derive(Drop)]
+pub struct TwoRows<T> {
+    current: Vec<T>,
+    next: Vec<T>,
+    ghost same_width: { length current.items ≡ length next.items },
+}
+
+impl<T: Copy> TwoRows<T> {
+    pub fn new(current: Vec<T>, next: Vec<T>) -> Self
+        requires { length current.items ≡ length next.items }
+        ensures current { result.current.items ≡ current.items }
+        ensures next { result.next.items ≡ next.items }
+    {
+        TwoRows { current, next }
+    }
+}
+
+impl<T: Copy> WindowAccess<T> for TwoRows<T> {
+    ghost is_window = { λ _. Unit {0} };
+
+    ghost current_row = { λ w. w.current.items };
+
+    ghost next_row = { λ w. w.next.items };
+
+    ghost equal_widths = { λ w _. w.same_width };
+
+    fn current_slice(&self) -> &[T] {
+        self.current.as_slice()
+    }
+
+    fn next_slice(&self) -> &[T] {
+        self.next.as_slice()
+    }
+}

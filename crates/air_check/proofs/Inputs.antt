@@ -1,0 +1,7 @@
+-- The whole input: public values, and then rows.
+use Rattle.std.proofs.Common.{ℕ, eqb, cond, List, ◌++◌, length, Option, Some, None, option_and_then}
+use Rattle.std.specs.List.{list_all, concat}
+
+-- the public values, the values so far and those of the rows that are left
+abbrev pub input_with : List ℕ → List ℕ → Option (List (List ℕ)) → Option (List ℕ × List ℕ)
+input_with public values rows = option_and_then (λ rs. cond (list_all (λ row. eqb (length row) 2) rs) (Some (public, values ++ concat rs)) None) rows

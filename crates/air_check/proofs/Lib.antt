@@ -1,0 +1,11 @@
+pub mod Digits
+pub mod Cuts
+pub mod Pieces
+pub mod Numbers
+pub mod Rows
+pub mod Inputs
+pub mod TextLemmas
+pub mod FibonacciParts
+pub mod FibonacciCells
+pub mod FibonacciRefusals
+pub mod Traces

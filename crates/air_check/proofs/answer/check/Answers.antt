@@ -1,0 +1,14 @@
+use Rattle.std.proofs.Common.{[], subst}
+use Rattle.p3_air.specs.Inferred.{DegreeRefuses}
+use Rattle.p3_air.specs.Layouts.{layout_shape}
+use Rattle.air_check.specs.Fibonacci.{fibonacci}
+use Rattle.air_field.specs.declared.fields.baby_bear.BabyBear.{BabyBear}
+use Rattle.air_check.proofs.FibonacciRefusals.{check_refuses, degree_refuses}
+use Rattle.air_check.proofs.answer.check.Goals as goal
+
+pub refusal_of-requires : goal.refusal_of-requires
+refusal_of-requires c = check_refuses BabyBear c.args.main.now c.args.public_values.now c.in-Err.error c.requires.width c.requires.public c.in-Err.ensures.refused
+
+pub refusal_of-requires-in-Err-get_max_constraint_degree : goal.refusal_of-requires-in-Err-get_max_constraint_degree
+refusal_of-requires-in-Err-get_max_constraint_degree c =
+    degree_refuses BabyBear c.height.result c.in-Err-get_max_constraint_degree.error (rw c.height.ensures c.requires.height) (subst (λ l. DegreeRefuses {F = BabyBear} c.height.result [] (layout_shape l) fibonacci c.in-Err-get_max_constraint_degree.error) c.from_air-layout.ensures c.in-Err-get_max_constraint_degree.ensures.refused)

@@ -1,0 +1,26 @@
+-- What a run over streams writes, and the status that it answers.
+use Rattle.std.specs.Prelude.{◌≡◌, ◌⊎◌, ℕ, List, [], ◌∷◌, codes, Bool, true, false, bytes_eq, Option}
+use Rattle.std.specs.Io.KnownBytes.{Consumes, IsAtEnd}
+use Rattle.air_check.specs.Refusals.{IsRefusal}
+
+-- exactly the one word `fibonacci`
+abbrev pub is_known : List (List ℕ) → Bool
+is_known [] = false
+is_known (word ∷ []) = bytes_eq word (codes "fibonacci")
+is_known (word ∷ more ∷ words) = false
+
+-- Below, `answers` relates an input to a status and a text.
+
+-- The answer to all that the reader had, where it tells its bytes.
+abbrev pub IsAnswer : (List ℕ → ℕ → List ℕ → Type 0) → Option (List ℕ) → Option (List ℕ) → ℕ → List ℕ → Type 0
+IsAnswer answers before after status text = (input : List ℕ) × Consumes before after input × IsAtEnd after × answers input status text
+
+-- `Read` exactly where the reader failed. `Memory` may stand in place of all else.
+abbrev pub IsOutcomeOfReading : (List ℕ → ℕ → List ℕ → Type 0) → Bool → Option (List ℕ) → Option (List ℕ) → ℕ → List ℕ → Type 0
+IsOutcomeOfReading answers true before after status text = IsRefusal (codes "Read") status text
+IsOutcomeOfReading answers false before after status text = IsRefusal (codes "Memory") status text ⊎ IsAnswer answers before after status text
+
+-- The words are judged first: where they aren't known nothing is read.
+abbrev pub IsOutcome : (List ℕ → ℕ → List ℕ → Type 0) → Bool → Bool → Option (List ℕ) → Option (List ℕ) → ℕ → List ℕ → Type 0
+IsOutcome answers false failed before after status text = IsRefusal (codes "Usage") status text × (failed ≡ false) × (after ≡ before)
+IsOutcome answers true failed before after status text = IsOutcomeOfReading answers failed before after status text

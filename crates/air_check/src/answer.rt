@@ -1,0 +1,100 @@
+//! The answer to a whole input.
+
+ghost use Rattle.std.specs.Prelude.{◌≡◌, ◌%◌, ◌<◌, ◌^◌, length, vec_len, IfOk, IfErr, string_bytes};
+ghost use Rattle.air_field.specs.Grid.{grid_of};
+ghost use Rattle.air_check.specs.Texts.{found, findings_status};
+ghost use Rattle.air_check.specs.Answer.{Finds, Answers, MayRefuse};
+
+use crate::fibonacci::Fibonacci;
+use crate::input::{Input, ParseFault, parse};
+use crate::refusals::Refusal;
+use crate::texts::{Findings, findings_text};
+use air_builder::AirError;
+use air_field::{BabyBear, RowMajorMatrix};
+use p3_air::{AirLayout, check_all_constraints, get_max_constraint_degree};
+use std::alloc::Global;
+
+/// The trace of these values, two a row.
+fn trace_of(values: Vec<BabyBear>) -> RowMajorMatrix<BabyBear>
+    requires { vec_len values % 2 ≡ 0 }
+    ensures trace { result ≡ grid_of 2 values.items }
+    ensures height { length result.rows < 2 ^ 63 }
+{
+    match RowMajorMatrix::new(values, 2) {
+        Ok(main) => main,
+        Err(_) => unreachable!(),
+    }
+}
+
+/// What is printed for a refusal of Fibonacci on a trace that fits it: nothing but memory can be wanting.
+fn refusal_of(error: AirError) -> Refusal
+    requires { error ≡ AirError.Memory }
+    ensures { result ≡ Refusal.Memory }
+{
+    match error {
+        AirError::Memory => Refusal::Memory,
+        _ => unreachable!(),
+    }
+}
+
+/// Checks Fibonacci on the trace, and records it and infers its degree.
+fn check(
+    alloc: Global,
+    main: &RowMajorMatrix<BabyBear>,
+    public_values: &[BabyBear],
+) -> Result<Findings, Refusal>
+    requires width { main.now.width ≡ 2 }
+    requires height { length main.now.rows < 2 ^ 63 }
+    requires public { length public_values.now ≡ 3 }
+    ensures found { IfOk result (λ findings. Finds ⟦<BabyBear as PartialEq>⟧.eq main.now public_values.now (found findings)) }
+    ensures refused { IfErr result (λ why. why ≡ Refusal.Memory) }
+{
+    let fibonacci = Fibonacci {};
+    let report = match check_all_constraints(alloc, &fibonacci, main, public_values, None) {
+        Ok(report) => report,
+        Err(error) => return Err(refusal_of(error)),
+    };
+    let layout = AirLayout::from_air::<BabyBear, Fibonacci>(&fibonacci);
+    match get_max_constraint_degree::<BabyBear, Fibonacci>(
+        alloc,
+        &fibonacci,
+        layout,
+        main.height(),
+    ) {
+        Ok(degree) => Ok(Findings { degree, report }),
+        Err(error) => Err(refusal_of(error)),
+    }
+}
+
+/// 0 without failures, 1 with.
+fn status(findings: &Findings) -> u8
+    ensures { result ≡ findings_status (found findings.now) }
+{
+    if findings.report.failures.is_empty() {
+        0
+    } else {
+        1
+    }
+}
+
+/// The status and the text that answer an input.
+pub fn answer(alloc: Global, input: &[u8]) -> Result<(u8, String), Refusal>
+    ensures ok { IfOk result (λ p. Answers ⟦<BabyBear as PartialEq>⟧.eq input.now p.0 (string_bytes p.1)) }
+    ensures refused { IfErr result (MayRefuse ⟦<BabyBear as PartialEq>⟧.eq input.now) }
+{
+    let input = match parse(alloc, input) {
+        Ok(input) => input,
+        Err(ParseFault::Syntax) => return Err(Refusal::Syntax),
+        Err(ParseFault::Memory) => return Err(Refusal::Memory),
+    };
+    let Input {
+        public_values,
+        values,
+    } = input;
+    let main = trace_of(values);
+    let findings = check(alloc, &main, &public_values)?;
+    match findings_text(alloc, &findings) {
+        Ok(text) => Ok((status(&findings), text)),
+        Err(_) => Err(Refusal::Memory),
+    }
+}

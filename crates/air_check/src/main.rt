@@ -1,0 +1,56 @@
+//! Reads public values and a trace from standard input, checks Fibonacci on them, and reports on standard output.
+#![tactic(auto)]
+
+ghost use Rattle.std.specs.Prelude.{◌≡◌};
+
+mod answer;
+mod engine;
+mod fibonacci;
+mod input;
+mod program;
+mod refusals;
+mod streams;
+#[cfg(test)]
+mod tests;
+mod texts;
+
+use program::{refuse, run};
+use refusals::Refusal;
+use std::io::ErrorKind;
+use std::process::ExitCode;
+use std::{env, io};
+use streams::{ReadSource, WriteSink};
+
+/// The words after the program's name.
+fn words(rt: &HostRuntime) -> io::Result<Vec<String>> {
+    let mut words = Vec::new(rt.alloc());
+    for word in env::args(rt)?.skip(1) {
+        words.push(word)?;
+    }
+    Ok(words)
+}
+
+/// Why words that can't be had are refused. A word that is no text is none that the program knows.
+fn refusal_of(kind: ErrorKind) -> Refusal
+    ensures memory { kind ≡ ErrorKind.OutOfMemory → result ≡ Refusal.Memory }
+    ensures other { (kind ≡ ErrorKind.OutOfMemory → ⊥) → result ≡ Refusal.Usage }
+{
+    match kind {
+        ErrorKind::OutOfMemory => Refusal::Memory,
+        _ => Refusal::Usage,
+    }
+}
+
+/// Answers a status and never an `Err`, which would print to standard error.
+fn main(rt: HostRuntime) -> ExitCode {
+    let mut reader = ReadSource::new(rt.stdin());
+    let mut writer = WriteSink::new(rt.stdout());
+    let outcome = match words(&rt) {
+        Ok(words) => run(rt.alloc(), &words, &mut reader, &mut writer),
+        Err(error) => refuse(&mut writer, refusal_of(error.kind())),
+    };
+    match outcome {
+        Ok(status) => ExitCode::from(status),
+        Err(_) => ExitCode::from(2),
+    }
+}

@@ -1,0 +1,51 @@
+//! Sources and sinks of bytes.
+
+ghost use Rattle.std.specs.Prelude.{◌≡◌, ◌≤◌, ◌<◌, ℕ, List, Bool, true, Option, Ok, length, take, IfOk, OnOk, OnErr};
+ghost use Rattle.std.specs.Io.KnownBytes.{Consumes, Appends, IsAtEnd};
+
+/// A stream failed.
+#[derive(Clone, Copy, Debug, PartialEq, Eq, Drop)]
+pub struct StreamFault;
+
+/// Gives bytes, piece after piece, up to its end.
+pub trait Source {
+    // The bytes that pulls will give from here on, where the source tells them.
+    ghost remaining: { Self → Option (List ℕ) };
+
+    // A call has answered an `Err`.
+    ghost has_failed: { Self → Bool };
+
+    /// Fills the front of `buf`, and answers how many bytes it filled: 0 only at the end.
+    fn pull(&mut self, buf: &mut [u8]) -> Result<usize, StreamFault>
+        requires { 0 < length buf.old }
+        ensures bound { IfOk result (λ count. count ≤ length buf.new) }
+        ensures bytes { IfOk result (λ count. Consumes (remaining self.old) (remaining self.new) (take count buf.new)) }
+        ensures end { result ≡ Ok 0 → IsAtEnd (remaining self.new) }
+        ensures ok { OnOk result (has_failed self.new ≡ has_failed self.old) }
+        ensures err { OnErr result (has_failed self.new ≡ true) };
+
+    /// Whether a call has answered an `Err`.
+    fn failed(&self) -> bool
+        ensures { result ≡ has_failed self.now };
+}
+
+/// Takes bytes, piece after piece.
+pub trait Sink {
+    // The bytes that the sink holds, where it tells them.
+    ghost contents: { Self → Option (List ℕ) };
+
+    // A call has answered an `Err`.
+    ghost has_failed: { Self → Bool };
+
+    /// Takes bytes from the front, and answers how many: at least one, where there is one.
+    fn push(&mut self, bytes: &[u8]) -> Result<usize, StreamFault>
+        ensures bound { IfOk result (λ count. count ≤ length bytes.now) }
+        ensures some { IfOk result (λ count. 0 < length bytes.now → 0 < count) }
+        ensures bytes { IfOk result (λ count. Appends (contents self.old) (contents self.new) (take count bytes.now)) }
+        ensures ok { OnOk result (has_failed self.new ≡ has_failed self.old) }
+        ensures err { OnErr result (has_failed self.new ≡ true) };
+
+    /// Whether a call has answered an `Err`.
+    fn failed(&self) -> bool
+        ensures { result ≡ has_failed self.now };
+}

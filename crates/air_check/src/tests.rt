@@ -1,0 +1,5 @@
+//! Runs over readers and writers in memory.
+
+mod answers;
+mod refusals;
+mod streams;

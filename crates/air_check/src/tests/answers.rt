@@ -1,0 +1,111 @@
+//! What is written for inputs that are read to their end.
+
+use super::streams::{Kept, Pieces};
+use crate::program::run;
+use crate::streams::{ReadSource, WriteSink};
+use std::alloc::Global;
+use std::process::Abort;
+use std::test::*;
+
+const MANY: u64 = 1000;
+
+fn words(alloc: Global) -> Result<Vec<String>, Fail> {
+    let mut words = Vec::new(alloc);
+    words.push(String::from_str(alloc, "fibonacci")?)?;
+    Ok(words)
+}
+
+/// Runs on an input in pieces of three lengths.
+fn answers(
+    rt: &(impl Abort + AllocGlobal),
+    input: &[u8],
+    text: &str,
+    status: u8,
+) -> Result<(), Fail> {
+    let alloc = rt.alloc();
+    for most in [1, 3, 4096] {
+        let mut reader = Pieces::new(input, most, MANY);
+        let mut writer = Kept::new(alloc, most, MANY);
+        let answered = run(alloc, &words(alloc)?, &mut reader, &mut writer)?;
+        assert_eq!(rt; writer.bytes(), text.as_bytes(), "for {input:?}");
+        assert_eq!(rt; answered, status, "for {input:?}");
+    }
+    Ok(())
+}
+
+const FOUR_ROWS: &str = "degree 2\nrows 4\nconstraints 5\n";
+
+#[test]
+fn checks_traces(rt: HostRuntime) -> Result<(), Fail> {
+    answers(&rt, b"0 1 3\n0 1\n1 1\n1 2\n2 3\n", FOUR_ROWS, 0)?;
+    answers(&rt, b"0 1 1\n0 1\n", "degree 2\nrows 1\nconstraints 5\n", 0)?;
+    answers(&rt, b"0 1 3", "degree 2\nrows 0\nconstraints 0\n", 0)
+}
+
+#[test]
+fn reports_each_failure(rt: HostRuntime) -> Result<(), Fail> {
+    answers(
+        &rt,
+        b"0 1 3\n0 1\n1 1\n1 5\n2 3\n",
+        "degree 2\nrows 4\nconstraints 5\nrow 1: #3\nrow 2: #2\nrow 2: #3\n",
+        1,
+    )
+}
+
+#[test]
+fn reads_lines(rt: HostRuntime) -> Result<(), Fail> {
+    answers(&rt, b"0 1 3\r\n0 1\r\n1 1\r\n1 2\r\n2 3\r\n", FOUR_ROWS, 0)?;
+    answers(
+        &rt,
+        b"\n \r\n0 1 3\n\n 0  1 \n1 1\n1 2\n  \n2 3",
+        FOUR_ROWS,
+        0,
+    )?;
+    answers(
+        &rt,
+        b"0000000000 1 2013265920",
+        "degree 2\nrows 0\nconstraints 0\n",
+        0,
+    )
+}
+
+#[test]
+fn refuses_other_syntax(rt: HostRuntime) -> Result<(), Fail> {
+    let faulty = [
+        b"".as_slice(),
+        b"\n \n",
+        b"0 1",
+        b"0 1 2 3",
+        b"0 1 2013265921",
+        b"0 1 9999999999",
+        b"0 1 00000000003",
+        b"0\t1 3",
+        b"0 1 +3",
+        b"0 1 3x",
+        b"0 1 3\r",
+        b"0 1 3\r\r\n",
+        b"0 1 3\n\r\r\n",
+        b"0 1 3\n0",
+        b"0 1 3\n0 1 1\n",
+        b"0 1 3\n0 1\n1 \xff\n",
+    ];
+    for input in faulty {
+        answers(&rt, input, "refused: Syntax\n", 2)?;
+    }
+    Ok(())
+}
+
+#[test]
+fn goes_over_std_streams(rt: HostRuntime) -> Result<(), Fail> {
+    let alloc = rt.alloc();
+    let mut written = Vec::new(alloc);
+    let mut reader = ReadSource::new(b"0 1 1\n0 1".as_slice());
+    let mut writer = WriteSink::new(&mut written);
+    let status = run(alloc, &words(alloc)?, &mut reader, &mut writer)?;
+    assert_eq!(rt; status, 0);
+    assert_eq!(rt;
+        written.as_slice(),
+        b"degree 2\nrows 1\nconstraints 5\n".as_slice()
+    );
+    Ok(())
+}

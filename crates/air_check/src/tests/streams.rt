@@ -1,0 +1,106 @@
+//! A reader and a writer in memory that move small pieces and can fail.
+
+ghost use Rattle.std.specs.Prelude.{◌≡◌, false};
+
+use crate::streams::{Sink, Source, StreamFault};
+use std::alloc::Global;
+
+/// Gives bytes, at most so many at a call, and fails once it has answered so many calls.
+#[derive(Drop)]
+pub struct Pieces<'a> {
+    bytes: &'a [u8],
+    most: usize,
+    calls_left: u64,
+    failed: bool,
+}
+
+impl Pieces<'_> {
+    pub fn new(bytes: &[u8], most: usize, calls_left: u64) -> Pieces<'_>
+        ensures { result.failed ≡ false }
+    {
+        Pieces {
+            bytes,
+            most,
+            calls_left,
+            failed: false,
+        }
+    }
+
+    pub fn left(&self) -> usize {
+        self.bytes.len()
+    }
+}
+
+impl Source for Pieces<'_> {
+    ghost use Rattle.std.specs.Prelude.{Some};
+
+    ghost remaining = { λ s. Some s.bytes.now };
+
+    ghost has_failed = { λ s. s.failed };
+
+    fn pull(&mut self, buf: &mut [u8]) -> Result<usize, StreamFault> {
+        if self.calls_left == 0 {
+            self.failed = true;
+            return Err(StreamFault);
+        }
+        self.calls_left -= 1;
+        let bytes = self.bytes;
+        let count = bytes.len().min(buf.len()).min(self.most.max(1));
+        let (front, rest) = bytes.split_at(count);
+        buf[..count].copy_from_slice(front);
+        self.bytes = rest;
+        Ok(count)
+    }
+
+    fn failed(&self) -> bool {
+        self.failed
+    }
+}
+
+/// Keeps bytes, at most so many of a call, and fails once it has answered so many calls.
+#[derive(Drop)]
+pub struct Kept {
+    bytes: Vec<u8>,
+    most: usize,
+    calls_left: u64,
+    failed: bool,
+}
+
+impl Kept {
+    pub fn new(alloc: Global, most: usize, calls_left: u64) -> Kept
+        ensures { result.failed ≡ false }
+    {
+        Kept {
+            bytes: Vec::new(alloc),
+            most,
+            calls_left,
+            failed: false,
+        }
+    }
+
+    pub fn bytes(&self) -> &[u8] {
+        self.bytes.as_slice()
+    }
+}
+
+impl Sink for Kept {
+    ghost use Rattle.std.specs.Prelude.{Some};
+
+    ghost contents = { λ s. Some s.bytes.items };
+
+    ghost has_failed = { λ s. s.failed };
+
+    fn push(&mut self, bytes: &[u8]) -> Result<usize, StreamFault> {
+        let count = bytes.len().min(self.most.max(1));
+        if self.calls_left == 0 || self.bytes.extend_from_slice(&bytes[..count]).is_err() {
+            self.failed = true;
+            return Err(StreamFault);
+        }
+        self.calls_left -= 1;
+        Ok(count)
+    }
+
+    fn failed(&self) -> bool {
+        self.failed
+    }
+}

@@ -1,0 +1,4 @@
+pub mod GridRows
+pub mod Binomials
+pub mod JoinLaws
+pub mod BodyLaws

@@ -1,0 +1,6 @@
+use Rattle.std.proofs.Common.{sym}
+use Rattle.air_field.proofs.GridRows.{length-rows_of}
+use Rattle.air_field.proofs.matrices.matrix.RowMajorMatrix.height.Goals as goal
+
+pub returns : goal.returns
+returns g c = rw (← c.self.view_is) (sym (length-rows_of _ _ _))

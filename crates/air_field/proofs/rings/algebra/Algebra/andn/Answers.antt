@@ -1,0 +1,29 @@
+use Rattle.std.proofs.Common.{subst}
+use Rattle.std.proofs.lemmas.Result.{err_from_is_err_and, IfOk-weaker}
+use Rattle.air_field.specs.Term.{const_term}
+use Rattle.air_field.specs.Algebra.{Made}
+use Rattle.air_field.proofs.BodyLaws.{andn_made, andn_refused_one, andn_refused_rest}
+use Rattle.air_field.proofs.rings.algebra.Algebra.andn.Goals as goal
+
+pub returns-in_err-one-clause-refused : goal.returns-in_err-one-clause-refused
+returns-in_err-one-clause-refused g c =
+    let p = err_from_is_err_and c.from_residual.result c.from_residual.ensures.1 in
+    rw (p.1, p.2)
+    (andn_refused_one g.met.Self.Algebra.laws g.F.Field.ONE c.args.self.now c.args.x c.args.y c.in_err-one.field-0.0
+    (subst (λ o. g.Self.Algebra.refuses c.in_err-one.field-0.0 (const_term o)) c.ONE.ensures c.in_err-one.ensures.refused))
+
+pub returns-in_err-rest-clause-refused : goal.returns-in_err-rest-clause-refused
+returns-in_err-rest-clause-refused g c =
+    let p = err_from_is_err_and c.from_residual-in_err-rest.result c.from_residual-in_err-rest.ensures.1 in
+    rw (p.1, p.2)
+    (andn_refused_rest g.met.Self.Algebra.laws g.F.Field.ONE c.args.self.now c.constant.new.self c.constant.new.self c.constant.new.self c.args.x c.args.y c.in_ok-one.one c.in_ok-one.one c.constant.ensures.extended
+    (subst (λ o. Made g.Self.Algebra.has g.Self.Algebra.means (const_term o) c.constant.new.self c.in_ok-one.one) c.ONE.ensures c.in_ok-one.ensures.made)
+    c.in_err-rest.field-0.0 c.in_err-rest.ensures.refused)
+
+pub returns-clause-made : goal.returns-clause-made
+returns-clause-made g c =
+    IfOk-weaker c.mul.result _ _
+    (λ z. andn_made g.met.Self.Algebra.laws g.F.Field.ONE c.args.self.now c.constant.new.self c.sub.new.self c.mul.new.self c.args.x c.args.y c.in_ok-one.one c.in_ok-rest.rest c.constant.ensures.extended
+    (subst (λ o. Made g.Self.Algebra.has g.Self.Algebra.means (const_term o) c.constant.new.self c.in_ok-one.one) c.ONE.ensures c.in_ok-one.ensures.made)
+    z c.sub.ensures.extended c.in_ok-rest.ensures.made)
+    c.mul.ensures.made

@@ -1,0 +1,24 @@
+use Rattle.std.proofs.Common.{◌∙◌, ap}
+use Rattle.air_field.specs.ValueLaws.{closed_value-embed}
+use Rattle.air_field.specs.Extension.{extend-coefficients}
+use Rattle.air_field.proofs.rings.ext_field_ring.ExtFieldRingExtAlgebra.TheImpl.Goals as goal
+
+pub lift-tells : goal.lift-tells
+lift-tells g c =
+    let over = g.EF.ExtensionField.over in
+    rw c.ensures
+    (record {
+      extended = tt;
+      made = (tt, λ t h. closed_value-embed g.F.Field.ring over g.met.EF.ExtensionField.over_laws t h.0 ∙ ap over.embed h.1);
+      refused = tt;
+    })
+
+pub ext_constant-tells : goal.ext_constant-tells
+ext_constant-tells g c =
+    let extension = g.EF.ExtensionField in
+    rw c.ensures
+    (record {
+      extended = tt;
+      made = (tt, extend-coefficients g.F.Field.ring extension.over extension.coefficients extension.DIMENSION g.met.EF.ExtensionField.laws c.args.c);
+      refused = tt;
+    })

@@ -1,0 +1,93 @@
+-- What a ring that makes its elements keeps.
+use Rattle.std.specs.Prelude.{◌≡◌, ⊤, refl}
+use Rattle.std.proofs.Common.{ap, ap₂}
+use Rattle.air_field.specs.Ring.{CommRing, minus, Over, itself}
+use Rattle.air_field.specs.Term.{Leaf, Term, leaf_term, const_term, ext_const_term, add_term, sub_term, neg_term, mul_term, with_leaves}
+use Rattle.air_field.specs.Value.{value}
+use Rattle.air_field.specs.Part.{Part}
+
+-- A ring that makes its elements keeps them and what they mean; what may refuse a part may refuse the whole.
+pub record AlgebraLaws {R E F X : Type 0} (valid : R → Type 0) (has : R → E → Type 0) (means : R → E → Term F → Type 0) (extends : R → R → Type 0) (refuses : X → Term F → Type 0) : Type 0 where
+  pub refuses_whole : (e : X) (t u : Term F) → Part t u → refuses e t → refuses e u
+  pub same : (p : R) → extends p p
+  pub joined : (p q s : R) → extends p q → extends q s → extends p s
+  pub valid_stays : (p q : R) → extends p q → valid p → valid q
+  pub has_stays : (p q : R) (x : E) → extends p q → has p x → has q x
+  pub means_stays : (p q : R) (x : E) (t : Term F) → extends p q → means p x t → means q x t
+  pub means_has : (p : R) (x : E) (t : Term F) → means p x t → has p x
+  pub has_valid : (p : R) (x : E) → has p x → valid p
+
+-- z is an element that means t
+abbrev pub Made : {R E F : Type 0} → (R → E → Type 0) → (R → E → Term F → Type 0) → Term F → R → E → Type 0
+Made has means t new z = has new z × means new z t
+
+-- z is an element that means the operation of what x meant
+abbrev pub MadeOf : {R E F : Type 0} → (R → E → Type 0) → (R → E → Term F → Type 0) → (Term F → Term F) → R → R → E → E → Type 0
+MadeOf {F = F} has means op old new x z = has new z × ((t : Term F) → means old x t → means new z (op t))
+
+-- z is an element that means the operation of what x and y meant
+abbrev pub MadeOfBoth : {R E F : Type 0} → (R → E → Type 0) → (R → E → Term F → Type 0) → (Term F → Term F → Term F) → R → R → E → E → E → Type 0
+MadeOfBoth {F = F} has means op old new x y z = has new z × ((t u : Term F) → means old x t → means old y u → means new z (op t u))
+
+-- the making of the operation of what x meant may answer e
+abbrev pub RefusedOf : {R E F X : Type 0} → (R → E → Term F → Type 0) → (X → Term F → Type 0) → (Term F → Term F) → R → E → X → Type 0
+RefusedOf {F = F} means refuses op old x e = (t : Term F) → means old x t → refuses e (op t)
+
+-- the making of the operation of what x and y meant may answer e
+abbrev pub RefusedOfBoth : {R E F X : Type 0} → (R → E → Term F → Type 0) → (X → Term F → Type 0) → (Term F → Term F → Term F) → R → E → E → X → Type 0
+RefusedOfBoth {F = F} means refuses op old x y e = (t u : Term F) → means old x t → means old y u → refuses e (op t u)
+
+-- x + x
+abbrev pub double_term : {F : Type 0} → Term F → Term F
+double_term t = add_term t t
+
+-- x (x - 1)
+abbrev pub bool_check_term : {F : Type 0} → F → Term F → Term F
+bool_check_term one t = mul_term t (sub_term t (const_term one))
+
+-- (x + y) - 2xy
+abbrev pub xor_term : {F : Type 0} → Term F → Term F → Term F
+xor_term t u = sub_term (add_term t u) (double_term (mul_term t u))
+
+-- (1 - x) y
+abbrev pub andn_term : {F : Type 0} → F → Term F → Term F → Term F
+andn_term one t u = mul_term (sub_term (const_term one) t) u
+
+-- x times a constant
+abbrev pub scaled_term : {F : Type 0} → F → Term F → Term F
+scaled_term c t = mul_term t (const_term c)
+
+-- the value, in an algebra, of a term whose leaves are zero: that of a term without leaves
+abbrev pub closed_value_in : {F E : Type 0} → Over F E → Term F → E
+closed_value_in a t = value a (λ _. a.ring.nil) t
+
+-- the same in the ring itself
+abbrev pub closed_value : {F : Type 0} → CommRing F → Term F → F
+closed_value r t = value (itself r) (λ _. r.nil) t
+
+-- a ring without state, whose elements are their values
+pub value_in_laws : {R F E X : Type 0} (a : Over F E) → AlgebraLaws {R = R} {E = E} {F = F} {X = X} (λ _. ⊤) (λ _ _. ⊤) (λ _ x t. closed_value_in a t ≡ x) (λ _ _. ⊤) (λ _ _. ⊥)
+value_in_laws a = record {
+  refuses_whole = λ e t u p h. h;
+  same = λ p. tt;
+  joined = λ p q s g h. tt;
+  valid_stays = λ p q g h. tt;
+  has_stays = λ p q x g h. tt;
+  means_stays = λ p q x t g h. h;
+  means_has = λ p x t h. tt;
+  has_valid = λ p x h. tt;
+}
+
+pub value_laws : {R F X : Type 0} (r : CommRing F) → AlgebraLaws {R = R} {E = F} {X = X} (λ _. ⊤) (λ _ _. ⊤) (λ _ x t. closed_value r t ≡ x) (λ _ _. ⊤) (λ _ _. ⊥)
+value_laws r = value_in_laws (itself r)
+
+-- a term with its leaves' values put in has the term's value
+module _ {F : Type 0} (r : CommRing F) (at w : Leaf → F) where
+  pub value-with_leaves : (t : Term F) → value (itself r) w (with_leaves (λ l. const_term (at l)) t) ≡ value (itself r) at t
+  value-with_leaves (leaf_term l) = refl
+  value-with_leaves (const_term c) = refl
+  value-with_leaves (ext_const_term c) = refl
+  value-with_leaves (add_term t u) = ap₂ r.add (value-with_leaves t) (value-with_leaves u)
+  value-with_leaves (sub_term t u) = ap₂ (minus r) (value-with_leaves t) (value-with_leaves u)
+  value-with_leaves (neg_term t) = ap r.neg (value-with_leaves t)
+  value-with_leaves (mul_term t u) = ap₂ r.mul (value-with_leaves t) (value-with_leaves u)

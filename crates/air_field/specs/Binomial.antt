@@ -1,0 +1,86 @@
+-- The polynomials over `BabyBear` modulo X^4 - 11: a ring, and an extension of `BabyBear`.
+use Rattle.std.specs.Prelude.{◌≡◌, refl, List, length, eqb}
+use Rattle.std.specs.Bool.{Decides}
+use Rattle.std.proofs.Common.{ap, lit<}
+use Rattle.std.proofs.Math.Nat.{ℕ_set}
+use Rattle.std.proofs.lemmas.Slice.Eq.{slice_eq-Decides}
+use Rattle.air_field.specs.Ring.{CommRing, Over, OverLaws}
+use Rattle.air_field.specs.RingOps.{ops}
+use Rattle.air_field.specs.Coefficients.{poly_add, poly_neg, binomial_mul, constant_four, padded}
+use Rattle.air_field.specs.FourCoefficients.{mul_length, add_length, neg_length, four_mul_assoc, four_mul_add, four_mul_comm, four_mul_one, four_add_assoc, four_add_comm, four_add_nil, four_add_neg, four_scale}
+use Rattle.air_field.specs.Extension.{ExtensionLaws, extension_over_laws, length-padded}
+use Rattle.air_field.specs.Modulo.{class, baby_bear_ring, equal_is}
+use Rattle.air_field.specs.declared.fields.baby_bear.BabyBear.{BabyBear}
+use Rattle.air_field.specs.declared.fields.binomial.BinomialExtensionField.{BinomialExtensionField}
+use lib.Pointwise.{pointwise}
+use mathlib.Core.HLevel.{is_prop→PathP}
+
+-- two polynomials are equal if their coefficients are
+pub same_list : (a b : BinomialExtensionField) → a.value ≡ b.value → a ≡ b
+same_list a b p = λ i. record { value = p i; four = is_prop→PathP (λ j. length (p j) ≡ 4) (λ j x y. ℕ_set _ _ x y) a.four b.four i }
+
+abbrev pub of_list : (l : List BabyBear) → length l ≡ 4 → BinomialExtensionField
+of_list l h = record { value = l; four = h }
+
+abbrev pub binomial_add : BinomialExtensionField → BinomialExtensionField → BinomialExtensionField
+binomial_add a b = of_list (poly_add (ops baby_bear_ring) a.value b.value) (add_length baby_bear_ring a.value b.value a.four b.four)
+
+-- the product of the polynomials, reduced by X^4 = 11
+abbrev pub binomial_product : BinomialExtensionField → BinomialExtensionField → BinomialExtensionField
+binomial_product a b =
+    of_list (binomial_mul (ops baby_bear_ring) (class 11) a.value b.value) (mul_length baby_bear_ring (class 11) a.value b.value a.four b.four)
+
+abbrev pub binomial_neg : BinomialExtensionField → BinomialExtensionField
+binomial_neg a = of_list (poly_neg (ops baby_bear_ring) a.value) (neg_length baby_bear_ring a.value a.four)
+
+abbrev pub constant_polynomial : BabyBear → BinomialExtensionField
+constant_polynomial x = of_list (constant_four (ops baby_bear_ring) x) refl
+
+abbrev pub binomial_ring : CommRing BinomialExtensionField
+binomial_ring =
+    record {
+      nil = constant_polynomial (class 0);
+      one = constant_polynomial (class 1);
+      add = binomial_add;
+      mul = binomial_product;
+      neg = binomial_neg;
+      add_assoc = λ a b c. same_list _ _ (four_add_assoc baby_bear_ring a.value b.value c.value a.four b.four c.four);
+      add_comm = λ a b. same_list _ _ (four_add_comm baby_bear_ring a.value b.value a.four b.four);
+      add_nil = λ a. same_list _ _ (four_add_nil baby_bear_ring a.value a.four);
+      add_neg = λ a. same_list _ _ (four_add_neg baby_bear_ring a.value a.four);
+      mul_assoc = λ a b c. same_list _ _ (four_mul_assoc baby_bear_ring (class 11) a.value b.value c.value a.four b.four c.four);
+      mul_comm = λ a b. same_list _ _ (four_mul_comm baby_bear_ring (class 11) a.value b.value a.four b.four);
+      mul_one = λ a. same_list _ _ (four_mul_one baby_bear_ring (class 11) a.value a.four);
+      mul_add = λ a b c. same_list _ _ (four_mul_add baby_bear_ring (class 11) a.value b.value c.value a.four b.four c.four);
+    }
+
+-- the ring, the constant polynomials in it, and the polynomial of a coefficient list
+abbrev pub binomial_over : Over BabyBear BinomialExtensionField
+binomial_over =
+    record {
+      ring = binomial_ring;
+      embed = constant_polynomial;
+      extend = λ l. of_list (padded (class 0) 4 l) (length-padded (class 0) 4 l);
+    }
+
+pub binomial_laws : ExtensionLaws baby_bear_ring binomial_over (λ a. a.value) 4
+binomial_laws =
+    record {
+      positive = lit< tt;
+      count = λ a. a.four;
+      same = same_list;
+      extend_is = λ l. refl;
+      embed_is = λ c. refl;
+      embed_one = refl;
+      add_is = λ a b. refl;
+      scale_is = λ c a. four_scale baby_bear_ring (class 11) c a.value a.four;
+    }
+
+pub binomial_over_laws : OverLaws baby_bear_ring binomial_over
+binomial_over_laws = extension_over_laws baby_bear_ring binomial_over (λ a. a.value) 4 binomial_laws
+
+-- `==` tells the same polynomial
+pub same_polynomial : (a b : BinomialExtensionField) → Decides (pointwise (λ x y. eqb x.residue y.residue) a.value b.value) (a ≡ b)
+same_polynomial a b =
+    let told : Decides (pointwise (λ (x y : BabyBear). eqb x.residue y.residue) a.value b.value) (a.value ≡ b.value) = slice_eq-Decides equal_is a.value b.value _ refl in
+    ((λ h. same_list a b (told.0 h)), (λ e. told.1 (ap (λ x. x.value) e)))

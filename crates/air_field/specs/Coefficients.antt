@@ -1,0 +1,45 @@
+-- Polynomials as lists of coefficients, lowest first, and what is left of them modulo X^4 - w.
+use Rattle.std.specs.Prelude.{ℕ, zero, suc, List, [], ◌∷◌, get_or}
+use Rattle.air_field.specs.RingOps.{RingOps}
+
+-- the sum, coefficient by coefficient; a list is zero past its end
+abbrev pub poly_add : {A : Type 0} → RingOps A → List A → List A → List A
+poly_add R [] q = q
+poly_add R (x ∷ p) [] = x ∷ p
+poly_add R (x ∷ p) (y ∷ q) = R.add x y ∷ poly_add R p q
+
+abbrev pub poly_scale : {A : Type 0} → RingOps A → A → List A → List A
+poly_scale R x [] = []
+poly_scale R x (y ∷ q) = R.mul x y ∷ poly_scale R x q
+
+abbrev pub poly_neg : {A : Type 0} → RingOps A → List A → List A
+poly_neg R [] = []
+poly_neg R (x ∷ p) = R.neg x ∷ poly_neg R p
+
+-- the product
+abbrev pub poly_mul : {A : Type 0} → RingOps A → List A → List A → List A
+poly_mul R [] q = []
+poly_mul R (x ∷ p) q = poly_add R (poly_scale R x q) (R.nil ∷ poly_mul R p q)
+
+-- the first four coefficients, with w times the further ones added from the front: X^4 is w
+abbrev pub fold_four : {A : Type 0} → RingOps A → A → List A → List A
+fold_four R w (a ∷ b ∷ c ∷ d ∷ p) = poly_add R (a ∷ b ∷ c ∷ d ∷ []) (poly_scale R w p)
+fold_four R w p = p
+
+-- the product modulo X^4 - w, of lists of four coefficients
+abbrev pub binomial_mul : {A : Type 0} → RingOps A → A → List A → List A → List A
+binomial_mul R w p q = fold_four R w (poly_mul R p q)
+
+-- x as a polynomial of four coefficients
+abbrev pub constant_four : {A : Type 0} → RingOps A → A → List A
+constant_four R x = x ∷ R.nil ∷ R.nil ∷ R.nil ∷ []
+
+-- the first n coefficients, zero past the list's end
+abbrev pub padded : {A : Type 0} → A → ℕ → List A → List A
+padded d zero p = []
+padded d (suc n) [] = d ∷ padded d n []
+padded d (suc n) (x ∷ p) = x ∷ padded d n p
+
+-- the coefficient at a place, zero past the list's end
+abbrev pub coefficient : {A : Type 0} → A → List A → ℕ → A
+coefficient d p n = get_or p n d

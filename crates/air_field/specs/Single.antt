@@ -1,0 +1,27 @@
+-- A ring is an extension of itself: its elements are lists of one coefficient.
+use Rattle.std.specs.Prelude.{◌≡◌, refl, List, [], ◌∷◌}
+use Rattle.std.proofs.Common.{lit<}
+use Rattle.air_field.specs.Ring.{CommRing, itself, first_or}
+use Rattle.air_field.specs.Coefficients.{padded}
+use Rattle.air_field.specs.Extension.{ExtensionLaws}
+
+module _ {F : Type 0} (R : CommRing F) where
+  single-same : (a b : F) → a ∷ [] ≡ b ∷ [] → a ≡ b
+  single-same a b h = cc
+
+  single-extend : (l : List F) → first_or R.nil l ∷ [] ≡ padded R.nil 1 l
+  single-extend [] = refl
+  single-extend (x ∷ l) = refl
+
+  pub single_laws : ExtensionLaws R (itself R) (λ a. a ∷ []) 1
+  single_laws =
+      record {
+        positive = lit< tt;
+        count = λ a. refl;
+        same = single-same;
+        extend_is = single-extend;
+        embed_is = λ c. refl;
+        embed_one = refl;
+        add_is = λ a b. refl;
+        scale_is = λ c a. refl;
+      }

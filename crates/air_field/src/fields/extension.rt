@@ -1,0 +1,79 @@
+//! Extension fields.
+ghost use Rattle.std.specs.Prelude.{◌≡◌, ℕ, ◌↔◌, List, length, IsTrue, IfOk, IsOkUnless};
+ghost use Rattle.std.specs.Bool.{Decides};
+ghost use Rattle.air_field.specs.Ring.{Over, OverLaws, minus};
+ghost use Rattle.air_field.specs.Extension.{ExtensionLaws, IsInBase};
+ghost use Rattle.air_field.specs.Powers.{powers_of};
+
+use crate::errors::RingError;
+use crate::fields::field::Field;
+use std::alloc::Global;
+use std::fmt::Debug;
+
+/// A commutative algebra over `F` whose elements are the lists of `DIMENSION` coefficients.
+pub trait ExtensionField<F: Field>: Copy + Eq + Ord + Debug {
+    /// The ring, the element of an element of `F`, and the element of a coefficient list: zero past its end and cut
+    /// at `DIMENSION`.
+    ghost over: { Over F Self };
+
+    ghost coefficients: { Self → List F };
+
+    ghost DIMENSION: { ℕ };
+
+    const DIMENSION: usize;
+
+    fn zero() -> Self
+        ensures { result ≡ over.ring.nil };
+
+    fn one() -> Self
+        ensures { result ≡ over.ring.one };
+
+    fn add(self, other: Self) -> Self
+        ensures { result ≡ over.ring.add self other };
+
+    fn sub(self, other: Self) -> Self
+        ensures { result ≡ minus over.ring self other };
+
+    fn neg(self) -> Self
+        ensures { result ≡ over.ring.neg self };
+
+    fn mul(self, other: Self) -> Self
+        ensures { result ≡ over.ring.mul self other };
+
+    /// The element with the coefficients x, 0, .., 0.
+    fn from_base(x: F) -> Self
+        ensures { result ≡ over.embed x };
+
+    /// The coefficients, lowest first.
+    fn as_basis_coefficients_slice(&self) -> &[F]
+        ensures { result.now ≡ coefficients self.now };
+
+    /// The element with these coefficients, lowest first.
+    fn from_basis_coefficients(c: &[F]) -> Self
+        requires { length c.now ≡ DIMENSION }
+        ensures { coefficients result ≡ c.now };
+
+    /// Whether it is `from_base` of an element.
+    fn is_in_basefield(&self) -> bool
+        ensures { IsTrue result ↔ IsInBase over self.now };
+
+    /// The powers 1, a, .., a^(k-1). Refused only where memory is.
+    fn powers(self, alloc: Global, k: usize) -> Result<Vec<Self>, RingError>
+        ensures powers { IfOk result (λ v. v.items ≡ powers_of over.ring self k) }
+        ensures only_memory { IsOkUnless result RingError.Memory }
+    {
+        let mut all = Vec::new(alloc);
+        let mut power = Self::one();
+        for _ in 0..k {
+            all.push(power)?;
+            power = power.mul(self);
+        }
+        Ok(all)
+    }
+
+    ghost laws: { ExtensionLaws F.ring over coefficients DIMENSION };
+
+    ghost over_laws: { OverLaws F.ring over };
+
+    ghost eq_is: { (a b : Self) → Decides (Self.eq a b) (a ≡ b) };
+}

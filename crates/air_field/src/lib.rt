@@ -1,0 +1,23 @@
+//! Fields, matrices, and rings that make expressions, with the definitions that all crates share: terms, their
+//! values, polynomials and degrees, and what stands at the leaves at a row of a trace.
+#![tactic(auto)]
+
+pub mod errors;
+pub mod fields;
+pub mod matrices;
+pub mod rings;
+#[cfg(test)]
+mod tests;
+
+pub use errors::{MatrixError, RingError};
+pub use fields::baby_bear::BabyBear;
+pub use fields::binomial::BinomialExtensionField;
+pub use fields::extension::ExtensionField;
+pub use fields::field::{Field, PrimeField};
+pub use fields::order::{extension_order, field_order};
+pub use matrices::matrix::RowMajorMatrix;
+pub use matrices::view::{RowMajorMatrixView, ViewPair};
+pub use rings::algebra::{Algebra, FromVar};
+pub use rings::ext_algebra::ExtAlgebra;
+pub use rings::ext_field_ring::ExtFieldRing;
+pub use rings::field_ring::FieldRing;

@@ -1,0 +1,85 @@
+//! A matrix, which clauses see as its list of rows.
+ghost use Rattle.std.specs.Prelude.{◌≡◌, IfSome, length, slice_get};
+ghost use Rattle.std.specs.Option.{option_copied, option_and_then};
+ghost use Rattle.air_field.specs.Matrix.{matrix_of};
+
+use crate::errors::MatrixError;
+use std::marker::Model;
+
+/// A matrix.
+#[derive(Drop)]
+pub struct RowMajorMatrix<T> {
+    values: Vec<T>,
+    width: usize,
+    height: usize,
+}
+
+impl<T> Model for RowMajorMatrix<T> {
+    ghost use Rattle.std.specs.Prelude.{◌≡◌, ℕ, ◌*◌, length};
+    ghost use Rattle.air_field.specs.Grid.{Grid, rows_of};
+
+    ghost Value = { Grid T };
+
+    ghost view = { λ m. record { width = m.width; rows = rows_of m.height m.width m.values.items } };
+
+    ghost invariant = { λ m. (length m.values.items ≡ m.height * m.width) × (m.width ≡ 0 → m.height ≡ 0) };
+}
+
+impl<T: Copy> RowMajorMatrix<T> {
+    /// The matrix of these values, row after row.
+    pub fn new(values: Vec<T>, width: usize) -> Result<Self, MatrixError>
+        ensures { result ≡ matrix_of width values.items }
+    {
+        let len = values.len();
+        if width == 0 {
+            if len != 0 {
+                return Err(MatrixError::Ragged { len, width });
+            }
+            return Ok(RowMajorMatrix {
+                values,
+                width,
+                height: 0,
+            });
+        }
+        if len % width != 0 {
+            return Err(MatrixError::Ragged { len, width });
+        }
+        Ok(RowMajorMatrix {
+            values,
+            width,
+            height: len / width,
+        })
+    }
+
+    pub fn width(&self) -> usize
+        ensures { result ≡ self.now.width }
+    {
+        self.width
+    }
+
+    pub fn height(&self) -> usize
+        ensures { result ≡ length self.now.rows }
+    {
+        self.height
+    }
+
+    /// The row's elements, if there is such a row.
+    pub fn row_slice(&self, row: usize) -> Option<&[T]>
+        ensures row { option_copied result ≡ slice_get self.now.rows row }
+        ensures width { IfSome result (λ r. length r.now ≡ self.now.width) }
+    {
+        if row >= self.height {
+            return None;
+        }
+        let start = row * self.width;
+        Some(&self.values[start..start + self.width])
+    }
+
+    /// The element, if there is such a place.
+    pub fn get(&self, row: usize, column: usize) -> Option<T>
+        ensures { result ≡ option_and_then (λ r. slice_get r column) (slice_get self.now.rows row) }
+    {
+        let row = self.row_slice(row)?;
+        row.get(column).copied()
+    }
+}

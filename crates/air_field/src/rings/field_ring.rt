@@ -1,0 +1,83 @@
+//! The ring whose elements are the values themselves.
+ghost use Rattle.std.specs.Prelude.{◌≡◌, ⊤, IsTrue};
+ghost use Rattle.air_field.specs.Ring.{minus};
+ghost use Rattle.air_field.specs.Algebra.{closed_value, value_laws};
+
+use crate::errors::RingError;
+use crate::fields::field::Field;
+use crate::rings::algebra::{Algebra, FromVar};
+use std::marker::PhantomData;
+
+/// The field as a ring: it keeps nothing and refuses nothing.
+#[derive(Clone, Copy)]
+pub struct FieldRing<F> {
+    of: PhantomData<F>,
+}
+
+impl<F: Field> FieldRing<F> {
+    pub fn new() -> Self {
+        FieldRing { of: PhantomData }
+    }
+}
+
+impl<F: Field> Algebra<F> for FieldRing<F> {
+    type Elem = F;
+
+    ghost valid = { λ _. ⊤ };
+
+    ghost has = { λ _ _. ⊤ };
+
+    ghost means = { λ _ x t. closed_value F.ring t ≡ x };
+
+    ghost extends = { λ _ _. ⊤ };
+
+    ghost refuses = { λ _ _. ⊥ };
+
+    fn contains(&self, _x: F) -> bool
+        ensures { IsTrue result }
+    {
+        true
+    }
+
+    fn constant(&mut self, c: F) -> Result<F, RingError>
+        ensures { result ≡ Ok c }
+    {
+        Ok(c)
+    }
+
+    fn add(&mut self, x: F, y: F) -> Result<F, RingError>
+        ensures { result ≡ Ok (F.ring.add x y) }
+    {
+        Ok(x.add(y))
+    }
+
+    fn sub(&mut self, x: F, y: F) -> Result<F, RingError>
+        ensures { result ≡ Ok (minus F.ring x y) }
+    {
+        Ok(x.sub(y))
+    }
+
+    fn neg(&mut self, x: F) -> Result<F, RingError>
+        ensures { result ≡ Ok (F.ring.neg x) }
+    {
+        Ok(x.neg())
+    }
+
+    fn mul(&mut self, x: F, y: F) -> Result<F, RingError>
+        ensures { result ≡ Ok (F.ring.mul x y) }
+    {
+        Ok(x.mul(y))
+    }
+
+    ghost laws = { value_laws F.ring };
+}
+
+impl<F: Field> FromVar<F, F> for FieldRing<F> {
+    ghost var_means = { λ v t. closed_value F.ring t ≡ v };
+
+    fn from_var(&mut self, v: F) -> Result<F, RingError>
+        ensures { result ≡ Ok v }
+    {
+        Ok(v)
+    }
+}

@@ -1,0 +1,4 @@
+pub mod Sharing
+pub mod Vectors
+pub mod Making
+pub mod Folding

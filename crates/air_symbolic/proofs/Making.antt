@@ -1,0 +1,65 @@
+-- What a folded operation makes, in the words of rings that make their elements.
+use Rattle.std.proofs.Common.{Result, Ok, Err, IfOk, IfErr, ◌≡◌, ℕ, ◌<◌, ◌≤◌, ◌+◌, ◌^◌, List, length, refl, sym, ap, subst, arith}
+use Rattle.air_field.specs.declared.errors.RingError.{RingError}
+use Rattle.air_field.specs.declared.errors.RingError.TheVariants.{Memory, DegreeOverflow}
+use Rattle.air_field.specs.Ring.{CommRing}
+use Rattle.air_field.specs.Term.{const_term, add_term, sub_term, neg_term, mul_term}
+use Rattle.air_field.specs.Degree.{degree_by, cached_weight}
+use Rattle.air_field.specs.Same.{Stands}
+use Rattle.air_field.specs.DegreeLaws.{Stands-refl, Stands-trans, Stands-add, Stands-sub, Stands-neg, Stands-mul}
+use Rattle.air_field.specs.Algebra.{Made, MadeOf, MadeOfBoth, RefusedOfBoth}
+use Rattle.air_symbolic.specs.Leaves.{Leaves}
+use Rattle.air_symbolic.specs.Trees.{leaf_tree, term_of}
+use Rattle.air_symbolic.specs.Pools.{IsPool, term_at, PoolHas, PoolMeans, HasTree, HasConst}
+use Rattle.air_symbolic.specs.PoolRefusals.{PoolRefuses}
+use Rattle.air_symbolic.specs.declared.pools.expr.SymbolicExpr.{SymbolicExpr}
+
+module _ {U A F : Type 0} (r : CommRing F) (reads : U → Leaves A F) (p q : U × List (SymbolicExpr A)) (pool : IsPool reads q) (z : ℕ) (here : z < length q.1) where
+  pub made-sum : (x y : ℕ) → Stands r (term_at reads q z) (add_term (term_at reads p x) (term_at reads p y)) → MadeOfBoth (PoolHas reads) (PoolMeans reads r) add_term p q x y z
+  made-sum x y s = (
+    record { pool = pool; here = here },
+    λ t u h k. record { pool = pool; here = here; stands = Stands-trans r _ _ _ s (Stands-add r _ _ t u h.stands k.stands) },
+  )
+
+  pub made-difference : (x y : ℕ) → Stands r (term_at reads q z) (sub_term (term_at reads p x) (term_at reads p y)) → MadeOfBoth (PoolHas reads) (PoolMeans reads r) sub_term p q x y z
+  made-difference x y s = (
+    record { pool = pool; here = here },
+    λ t u h k. record { pool = pool; here = here; stands = Stands-trans r _ _ _ s (Stands-sub r _ _ t u h.stands k.stands) },
+  )
+
+  pub made-product : (x y : ℕ) → Stands r (term_at reads q z) (mul_term (term_at reads p x) (term_at reads p y)) → MadeOfBoth (PoolHas reads) (PoolMeans reads r) mul_term p q x y z
+  made-product x y s = (
+    record { pool = pool; here = here },
+    λ t u h k. record { pool = pool; here = here; stands = Stands-trans r _ _ _ s (Stands-mul r _ _ t u h.stands k.stands) },
+  )
+
+  pub made-negative : (x : ℕ) → Stands r (term_at reads q z) (neg_term (term_at reads p x)) → MadeOf (PoolHas reads) (PoolMeans reads r) neg_term p q x z
+  made-negative x s = (
+    record { pool = pool; here = here },
+    λ t h. record { pool = pool; here = here; stands = Stands-trans r _ _ _ s (Stands-neg r _ t h.stands) },
+  )
+
+-- A leaf means its term.
+pub made-leaf : {U A F : Type 0} (r : CommRing F) (reads : U → Leaves A F) (q : U × List (SymbolicExpr A)) (a : A) (z : ℕ) → IsPool reads q → HasTree q (leaf_tree a) z → Made (PoolHas reads) (PoolMeans reads r) ((reads q.0).term a) q z
+made-leaf r reads q a z pool h =
+    let t = (reads q.0).term a in (
+      record { pool = pool; here = h.here },
+      record { pool = pool; here = h.here; stands = subst (λ x. Stands r x t) (sym (ap (term_of (reads q.0).term) h.tree)) (Stands-refl r t) },
+    )
+
+-- A constant means its term.
+pub made-constant : {U A F : Type 0} (r : CommRing F) (reads : U → Leaves A F) (q : U × List (SymbolicExpr A)) (c : F) (z : ℕ) → IsPool reads q → HasConst reads q c z → Made (PoolHas reads) (PoolMeans reads r) (const_term c) q z
+made-constant r reads q c z pool h =
+    let a = h.constant.0 in
+    subst (λ t. Made (PoolHas reads) (PoolMeans reads r) t q z) h.constant.2.term
+    (made-leaf r reads q a z pool record { here = h.here; tree = h.constant.1 })
+
+-- A product is refused only where its degree passes `usize`.
+pub refused-product : {X U A F : Type 0} (r : CommRing F) (reads : U → Leaves A F) (p : U × List (SymbolicExpr A)) (x y : ℕ) (q : Result X RingError) → (q ≡ Err DegreeOverflow → 2 ^ 64 ≤ degree_by cached_weight (term_at reads p x) + degree_by cached_weight (term_at reads p y)) → IfErr q (RefusedOfBoth (PoolMeans reads r) PoolRefuses mul_term p x y)
+refused-product r reads p x y (Ok i) h = tt
+refused-product r reads p x y (Err Memory) h = λ t u k m. tt
+refused-product r reads p x y (Err DegreeOverflow) h = λ t u k m. omega (arith, h refl, k.stands.light cached_weight, m.stands.light cached_weight)
+
+pub IfOk-both : {X E : Type 0} (r : Result X E) (P Q R : X → Type 0) → ((x : X) → P x → Q x → R x) → IfOk r P → IfOk r Q → IfOk r R
+IfOk-both (Ok x) P Q R f p q = f x p q
+IfOk-both (Err e) P Q R f p q = tt

@@ -1,0 +1,5 @@
+use Rattle.air_field.specs.PolynomialLaws.{Same-poly}
+use Rattle.air_symbolic.proofs.laws.polynomial_is_kept.Goals as goal
+
+pub returns : goal.returns
+returns g c = λ a laws t h s n. Same-poly g.A.F.Field.ring a laws s h.stands.same n

@@ -1,0 +1,19 @@
+use Rattle.std.proofs.Common.{rules, IfOk}
+use Rattle.std.proofs.lemmas.Result.{IfOk-weaker}
+use Rattle.air_symbolic.specs.Folds.{IsProduct}
+use Rattle.air_symbolic.proofs.Folding.{IsProduct-stands}
+use Rattle.air_symbolic.proofs.pools.pool.ExprPool.mul.Goals as goal
+
+pub returns-in-Some-clause-stands : goal.returns-in-Some-clause-stands
+returns-in-Some-clause-stands g c =
+    let made : IfOk c.folded.result (IsProduct g.A.SymLeaf.reads g.A.F.Field.ring g.A.F.PartialEq.eq c.args.self.now c.folded.new.self c.args.x c.args.y) = search rules in
+    IfOk-weaker _ _ _
+    (IsProduct-stands g.A.F.Field.ring g.A.F.PartialEq.eq g.met.A.F.Field.eq_is g.A.SymLeaf.reads g.A.SymLeaf.grows g.A.SymLeaf.no_under g.met.A.SymLeaf.leaf_laws c.args.self.now c.folded.new.self c.requires.pool c.folded.ensures.grown.under c.args.x c.args.y c.requires.x_in c.requires.y_in)
+    made
+
+pub returns-in-None-clause-stands : goal.returns-in-None-clause-stands
+returns-in-None-clause-stands g c =
+    let made : IfOk c.insert_mul.result (IsProduct g.A.SymLeaf.reads g.A.F.Field.ring g.A.F.PartialEq.eq c.args.self.now c.insert_mul.new.self c.args.x c.args.y) = search rules in
+    IfOk-weaker _ _ _
+    (IsProduct-stands g.A.F.Field.ring g.A.F.PartialEq.eq g.met.A.F.Field.eq_is g.A.SymLeaf.reads g.A.SymLeaf.grows g.A.SymLeaf.no_under g.met.A.SymLeaf.leaf_laws c.args.self.now c.insert_mul.new.self c.requires.pool c.insert_mul.ensures.grown.under c.args.x c.args.y c.requires.x_in c.requires.y_in)
+    made

@@ -1,0 +1,54 @@
+-- What the leaves of base expressions mean.
+use Rattle.std.specs.Prelude.{◌≡◌, Option, None, Some, refl}
+use Rattle.air_field.specs.Ring.{CommRing}
+use Rattle.air_field.specs.Term.{first_row, last_row, transition, Term, leaf_term, const_term}
+use Rattle.air_field.specs.Same.{Same, same_refl}
+use Rattle.air_symbolic.specs.Entries.{entry_leaf}
+use Rattle.air_symbolic.specs.Leaves.{Leaves, LeafLaws}
+use Rattle.air_symbolic.specs.declared.leaves.base_leaf.BaseLeaf.{BaseLeaf}
+use Rattle.air_symbolic.specs.declared.leaves.base_leaf.BaseLeaf.TheVariants.{Variable, IsFirstRow, IsLastRow, IsTransition, Constant}
+
+abbrev pub base_term : {F : Type 0} → BaseLeaf F → Term F
+base_term (Variable v) = leaf_term (entry_leaf v.entry v.index)
+base_term IsFirstRow = leaf_term first_row
+base_term IsLastRow = leaf_term last_row
+base_term IsTransition = leaf_term transition
+base_term (Constant c) = const_term c
+
+abbrev pub base_constant : {F : Type 0} → BaseLeaf F → Option F
+base_constant (Variable v) = None
+base_constant IsFirstRow = None
+base_constant IsLastRow = None
+base_constant IsTransition = None
+base_constant (Constant c) = Some c
+
+abbrev pub base_leaves : {F : Type 0} → Leaves (BaseLeaf F) F
+base_leaves = record { sound = Unit {0}; valid = λ _. Unit {0}; constant = base_constant; term = base_term }
+
+-- with nothing under the pool
+abbrev pub base_reads : {F : Type 0} → Unit {0} → Leaves (BaseLeaf F) F
+base_reads _ = base_leaves
+
+abbrev pub base_grows : Unit {0} → Unit {0} → Type 0
+base_grows _ _ = Unit {0}
+
+base_constant-is : {F : Type 0} (r : CommRing F) (a : BaseLeaf F) (c : F) → base_constant a ≡ Some c → Same r (const_term c) (base_term a)
+base_constant-is r (Variable v) c e = cc
+base_constant-is r IsFirstRow c e = cc
+base_constant-is r IsLastRow c e = cc
+base_constant-is r IsTransition c e = cc
+base_constant-is r (Constant d) c e =
+    let same : d ≡ c = cc in
+    same_at same
+  where
+    same_at : d ≡ c → Same r (const_term c) (const_term d)
+    same_at q = rw q same_refl
+
+pub base_leaf_laws : {F : Type 0} (r : CommRing F) → LeafLaws r (base_reads {F = F}) base_grows tt
+base_leaf_laws r = record {
+  constant_is = λ u a c _ e. base_constant-is r a c e;
+  empty_sound = tt;
+  same = λ _. tt;
+  joined = λ _ _ _ _ _. tt;
+  keeps = λ _ _ _. record { sound = λ h. h; valid = λ _ h. h; constant = λ _ _. refl; term = λ _ _. refl };
+}

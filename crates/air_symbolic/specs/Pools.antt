@@ -1,0 +1,57 @@
+-- A pool, seen as what lies under it and its nodes, the newest first.
+use Rattle.std.specs.Prelude.{◌≡◌, ℕ, ◌<◌, List, ◌++◌, length, Option}
+use Rattle.air_field.specs.Ring.{CommRing}
+use Rattle.air_field.specs.Term.{Term}
+use Rattle.air_field.specs.Same.{Stands}
+use Rattle.air_symbolic.specs.Leaves.{Leaves, IsConstLeaf}
+use Rattle.air_symbolic.specs.Trees.{Tree, leaf_tree, term_of, tree_constant}
+use Rattle.air_symbolic.specs.Nodes.{tree_of, WellFormed}
+use Rattle.air_symbolic.specs.declared.pools.expr.SymbolicExpr.{SymbolicExpr}
+
+-- What lies under the pool is sound, each node fits those before it, and none is there twice.
+pub record IsPool {U A F : Type 0} (reads : U → Leaves A F) (p : U × List (SymbolicExpr A)) : Type 0 where
+  pub under : (reads p.0).sound
+  pub nodes : WellFormed (reads p.0) p.1
+
+-- the tree of number i
+abbrev pub tree_at : {U A : Type 0} → U × List (SymbolicExpr A) → ℕ → Tree A
+tree_at p i = tree_of p.1 i
+
+-- the term of number i
+abbrev pub term_at : {U A F : Type 0} → (U → Leaves A F) → U × List (SymbolicExpr A) → ℕ → Term F
+term_at reads p i = term_of (reads p.0).term (tree_of p.1 i)
+
+-- the constant that number i is, if it is one
+abbrev pub constant_at : {U A F : Type 0} → (U → Leaves A F) → U × List (SymbolicExpr A) → ℕ → Option F
+constant_at reads p i = tree_constant (reads p.0).constant (tree_of p.1 i)
+
+-- q is p with nothing lost: earlier numbers keep their trees
+pub record Grown {U A F : Type 0} (grows : U → U → Type 0) (reads : U → Leaves A F) (p q : U × List (SymbolicExpr A)) : Type 0 where
+  pub under : grows p.0 q.0
+  pub nodes : (more : List (SymbolicExpr A)) × (q.1 ≡ more ++ p.1)
+  pub pool : IsPool reads p → IsPool reads q
+
+-- number i is of the pool
+pub record PoolHas {U A F : Type 0} (reads : U → Leaves A F) (p : U × List (SymbolicExpr A)) (i : ℕ) : Type 0 where
+  pub pool : IsPool reads p
+  pub here : i < length p.1
+
+-- number i means term t in the pool
+pub record PoolMeans {U A F : Type 0} (reads : U → Leaves A F) (r : CommRing F) (p : U × List (SymbolicExpr A)) (i : ℕ) (t : Term F) : Type 0 where
+  pub pool : IsPool reads p
+  pub here : i < length p.1
+  pub stands : Stands r (term_at reads p i) t
+
+-- number i has the tree t
+pub record HasTree {U A : Type 0} (p : U × List (SymbolicExpr A)) (t : Tree A) (i : ℕ) : Type 0 where
+  pub here : i < length p.1
+  pub tree : tree_at p i ≡ t
+
+-- the tree is the constant c, written as a base constant
+abbrev pub IsConst : {A F : Type 0} → Leaves A F → F → Tree A → Type 0
+IsConst {A = A} l c t = (a : A) × (t ≡ leaf_tree a) × IsConstLeaf l c a
+
+-- number i is the constant c, written as a base constant
+pub record HasConst {U A F : Type 0} (reads : U → Leaves A F) (p : U × List (SymbolicExpr A)) (c : F) (i : ℕ) : Type 0 where
+  pub here : i < length p.1
+  pub constant : IsConst (reads p.0) c (tree_at p i)

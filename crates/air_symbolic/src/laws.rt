@@ -1,0 +1,36 @@
+//! What callers rely on, as the contracts of functions.
+ghost use Rattle.std.specs.Prelude.{◌≡◌, ℕ, ◌<◌, ◌≤◌, List, length, Decides, get_or};
+ghost use Rattle.air_field.specs.Ring.{Over, OverLaws};
+ghost use Rattle.air_field.specs.Term.{Leaf, Term};
+ghost use Rattle.air_field.specs.Polynomial.{polynomial, SamePolynomial, HasDegreeAtMost};
+ghost use Rattle.air_field.specs.Degree.{degree_by};
+ghost use Rattle.air_symbolic.specs.Pools.{IsPool, PoolMeans, tree_at, term_at};
+
+use crate::leaves::sym_leaf::SymLeaf;
+use crate::pools::expr::ExprId;
+use crate::pools::pool::ExprPool;
+
+/// Two numbers of a pool are equal exactly where their trees are.
+pub fn is_same_tree<A: SymLeaf>(pool: &ExprPool<A>, x: ExprId<A>, y: ExprId<A>) -> bool
+    requires pool { IsPool A.reads pool.now }
+    requires x_in { x < length pool.now.1 }
+    requires y_in { y < length pool.now.1 }
+    ensures { Decides result (tree_at pool.now x ≡ tree_at pool.now y) }
+{
+    x == y
+}
+
+/// An expression has the polynomial of each term that it means, under every assignment over every algebra `E`.
+pub fn polynomial_is_kept<E, A: SymLeaf>(_pool: &ExprPool<A>, _x: ExprId<A>)
+    ensures { (a : Over A.F E) → OverLaws A.F.ring a → (t : Term A.F) → PoolMeans A.reads A.F.ring _pool.now _x t → (s : Leaf → List E) → SamePolynomial (polynomial a s (term_at A.reads _pool.now _x)) (polynomial a s t) }
+{}
+
+/// Its degree is at most theirs, by every weighting of the leaves.
+pub fn degree_is_kept<A: SymLeaf>(_pool: &ExprPool<A>, _x: ExprId<A>)
+    ensures { (t : Term A.F) → PoolMeans A.reads A.F.ring _pool.now _x t → (w : Leaf → ℕ) → degree_by w (term_at A.reads _pool.now _x) ≤ degree_by w t }
+{}
+
+/// Where each leaf's polynomial is within the leaf's weight, that of an expression is within its degree.
+pub fn polynomial_is_within_degree<E, A: SymLeaf>(_pool: &ExprPool<A>, _x: ExprId<A>)
+    ensures { (a : Over A.F E) (s : Leaf → List E) (w : Leaf → ℕ) → ((l : Leaf) → HasDegreeAtMost a.ring (λ n. get_or (s l) n a.ring.nil) (w l)) → HasDegreeAtMost a.ring (polynomial a s (term_at A.reads _pool.now _x)) (degree_by w (term_at A.reads _pool.now _x)) }
+{}

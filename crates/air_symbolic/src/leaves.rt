@@ -1,0 +1,4 @@
+//! The leaves of expressions.
+
+pub mod base_leaf;
+pub mod sym_leaf;

@@ -1,0 +1,73 @@
+//! The leaves of base expressions.
+
+use crate::leaves::sym_leaf::SymLeaf;
+use crate::variables::variable::SymbolicVariable;
+use air_field::{Field, RingError};
+use std::alloc::Global;
+
+/// A leaf of a base expression: a variable, a selector of rows, or a constant.
+#[derive(Clone, Copy, Debug, PartialEq, Eq, PartialOrd, Ord)]
+pub enum BaseLeaf<F> {
+    Variable(SymbolicVariable<F>),
+    IsFirstRow,
+    IsLastRow,
+    IsTransition,
+    Constant(F),
+}
+
+impl<F: Field> SymLeaf for BaseLeaf<F> {
+    type F = F;
+
+    type Under = ();
+
+    ghost use Rattle.std.proofs.Common.{arith};
+    ghost use Rattle.air_symbolic.specs.BaseLeaves.{base_reads, base_grows, base_leaf_laws};
+
+    ghost reads = { base_reads };
+
+    ghost grows = { base_grows };
+
+    ghost no_under = { tt };
+
+    fn new_under(_alloc: Global) {}
+
+    fn degree_multiple(&self, _under: &()) -> usize {
+        match self {
+            BaseLeaf::Variable(v) => v.degree_multiple(),
+            BaseLeaf::IsFirstRow => 1,
+            BaseLeaf::IsLastRow => 1,
+            BaseLeaf::IsTransition => 0,
+            BaseLeaf::Constant(_) => 0,
+        }
+    }
+
+    fn as_const(&self, _under: &()) -> Option<F> {
+        match self {
+            BaseLeaf::Constant(c) => Some(*c),
+            _ => None,
+        }
+    }
+
+    fn poly_degree(
+        &self,
+        trace_len: usize,
+        periods: &[usize],
+        _under: &(),
+    ) -> Result<usize, RingError> {
+        match self {
+            BaseLeaf::Variable(v) => Ok(v.poly_degree(trace_len, periods)),
+            BaseLeaf::IsFirstRow => Ok(trace_len.saturating_sub(1)),
+            BaseLeaf::IsLastRow => Ok(trace_len.saturating_sub(1)),
+            BaseLeaf::IsTransition => Ok(1),
+            BaseLeaf::Constant(_) => Ok(0),
+        }
+    }
+
+    fn from_const(c: F, _under: &mut ()) -> Result<Self, RingError> {
+        Ok(BaseLeaf::Constant(c))
+    }
+
+    ghost eq_is = { λ x y. Prim.grind (arith, F.eq_is) };
+
+    ghost leaf_laws = { base_leaf_laws F.ring };
+}

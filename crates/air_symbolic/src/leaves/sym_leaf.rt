@@ -1,0 +1,61 @@
+//! What a leaf of an expression has to tell.
+ghost use Rattle.std.specs.Prelude.{◌≡◌, IfOk, IfErr, Decides};
+ghost use Rattle.air_field.specs.Degree.{degree_by, cached_weight, trace_weight};
+ghost use Rattle.air_symbolic.specs.Leaves.{Leaves, LeafLaws, IsConstLeaf};
+ghost use Rattle.air_symbolic.specs.PoolRefusals.{AnswersDegree};
+
+use air_field::{Field, RingError};
+use std::alloc::Global;
+use std::fmt::Debug;
+
+/// A leaf of an expression, which may name something in what lies under the pool.
+pub trait SymLeaf: Copy + Eq + Ord + Debug {
+    /// The field of the constants.
+    type F: Field;
+
+    /// What lies under a pool of such leaves.
+    type Under: Drop;
+
+    /// What the leaves mean over what lies under them.
+    ghost reads: { Self.Under → Leaves Self Self.F };
+
+    /// What lies under the leaves has grown: what was named there stays.
+    ghost grows: { Self.Under → Self.Under → Type 0 };
+
+    /// What lies under a new pool.
+    ghost no_under: { Self.Under };
+
+    fn new_under(alloc: Global) -> Self::Under
+        ensures { result ≡ no_under };
+
+    /// The degree that nodes state.
+    fn degree_multiple(&self, under: &Self::Under) -> usize
+        requires { (reads under.now).valid self.now }
+        ensures { result ≡ degree_by cached_weight ((reads under.now).term self.now) };
+
+    /// The constant that the leaf is, for folding.
+    fn as_const(&self, under: &Self::Under) -> Option<Self::F>
+        requires { (reads under.now).valid self.now }
+        ensures { result ≡ (reads under.now).constant self.now };
+
+    /// The degree of the leaf's polynomial over `trace_len` rows; `periods` holds the lengths of the periodic columns.
+    fn poly_degree(
+        &self,
+        trace_len: usize,
+        periods: &[usize],
+        under: &Self::Under,
+    ) -> Result<usize, RingError>
+        requires { (reads under.now).valid self.now }
+        ensures { AnswersDegree (degree_by (trace_weight trace_len periods.now) ((reads under.now).term self.now)) result };
+
+    /// The leaf of a constant.
+    fn from_const(c: Self::F, under: &mut Self::Under) -> Result<Self, RingError>
+        requires { (reads under.old).sound }
+        ensures grown { grows under.old under.new }
+        ensures made { IfOk result (IsConstLeaf (reads under.new) c) }
+        ensures refused { IfErr result (λ e. e ≡ RingError.Memory) };
+
+    ghost eq_is: { (x y : Self) → Decides (Self.eq x y) (x ≡ y) };
+
+    ghost leaf_laws: { LeafLaws Self.F.ring reads grows no_under };
+}

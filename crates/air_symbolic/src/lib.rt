@@ -1,0 +1,19 @@
+//! Symbolic variables, and expressions in a pool in which each tree stands once.
+#![tactic(auto)]
+
+pub mod laws;
+pub mod leaves;
+pub mod pools;
+#[cfg(test)]
+mod tests;
+pub mod variables;
+
+pub use leaves::base_leaf::BaseLeaf;
+pub use leaves::sym_leaf::SymLeaf;
+pub use pools::expr::{ExprId, SymbolicExpr};
+pub use pools::pool::ExprPool;
+pub use variables::entry::BaseEntry;
+pub use variables::variable::SymbolicVariable;
+
+/// A node of an expression of base leaves.
+pub type SymbolicExpression<F> = SymbolicExpr<BaseLeaf<F>>;

@@ -1,0 +1,10 @@
+//! Pools of expressions, in which each tree stands once.
+
+pub mod algebra;
+pub mod base_pool;
+pub mod degrees;
+pub mod expr;
+pub mod fold;
+pub mod folded;
+pub mod insert;
+pub mod pool;

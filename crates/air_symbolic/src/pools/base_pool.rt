@@ -1,0 +1,46 @@
+//! Pools of base expressions.
+ghost use Rattle.std.specs.Prelude.{◌≡◌, IfOk, IfErr};
+ghost use Rattle.air_field.specs.Algebra.{Made};
+ghost use Rattle.air_field.specs.Term.{leaf_term};
+ghost use Rattle.air_symbolic.specs.Entries.{entry_leaf};
+ghost use Rattle.air_symbolic.specs.BaseLeaves.{base_term, base_reads, base_grows};
+ghost use Rattle.air_symbolic.specs.Trees.{leaf_tree};
+ghost use Rattle.air_symbolic.specs.Pools.{IsPool, PoolHas, PoolMeans, Grown, HasTree};
+
+use crate::leaves::base_leaf::BaseLeaf;
+use crate::pools::expr::ExprId;
+use crate::pools::pool::ExprPool;
+use crate::variables::variable::SymbolicVariable;
+use air_field::{Field, FromVar, RingError};
+
+impl<F: Field> ExprPool<BaseLeaf<F>> {
+    /// The expression of a leaf, which means the leaf's term.
+    pub fn leaf_expr(&mut self, a: BaseLeaf<F>) -> Result<ExprId<BaseLeaf<F>>, RingError>
+        requires { IsPool base_reads self.old }
+        ensures grown { Grown base_grows base_reads self.old self.new }
+        ensures tree { IfOk result (HasTree self.new (leaf_tree a)) }
+        ensures made { IfOk result (Made (PoolHas base_reads) (PoolMeans base_reads F.ring) (base_term a) self.new) }
+        ensures refused { IfErr result (λ e. e ≡ RingError.Memory) }
+    {
+        self.leaf(a)
+    }
+
+    /// The expression of a variable.
+    pub fn variable(&mut self, v: SymbolicVariable<F>) -> Result<ExprId<BaseLeaf<F>>, RingError>
+        requires { IsPool base_reads self.old }
+        ensures grown { Grown base_grows base_reads self.old self.new }
+        ensures tree { IfOk result (HasTree self.new (leaf_tree (BaseLeaf.Variable v))) }
+        ensures made { IfOk result (Made (PoolHas base_reads) (PoolMeans base_reads F.ring) (leaf_term (entry_leaf v.entry v.index)) self.new) }
+        ensures refused { IfErr result (λ e. e ≡ RingError.Memory) }
+    {
+        self.leaf_expr(BaseLeaf::Variable(v))
+    }
+}
+
+impl<F: Field> FromVar<F, SymbolicVariable<F>> for ExprPool<BaseLeaf<F>> {
+    ghost var_means = { λ v t. t ≡ leaf_term (entry_leaf v.entry v.index) };
+
+    fn from_var(&mut self, v: SymbolicVariable<F>) -> Result<ExprId<BaseLeaf<F>>, RingError> {
+        self.variable(v)
+    }
+}

@@ -1,0 +1,64 @@
+//! The numbers of a pool's expressions, and its nodes.
+ghost use Rattle.std.specs.Prelude.{◌≡◌};
+
+use std::marker::{Model, PhantomData};
+
+/// The number of an expression in a pool of leaves `A`. Inside one pool two numbers are equal exactly where their trees
+/// are.
+#[derive(Clone, Copy, Debug, PartialEq, Eq, PartialOrd, Ord)]
+pub struct ExprId<A> {
+    number: usize,
+    of: PhantomData<A>,
+}
+
+impl<A> Model for ExprId<A> {
+    ghost use Rattle.std.specs.Prelude.{ℕ};
+
+    ghost Value = { ℕ };
+
+    ghost view = { λ e. e.number };
+
+    ghost inverse = { λ n. record { number = n; of = record {} } };
+}
+
+impl<A: Copy> ExprId<A> {
+    pub(crate) fn new(number: usize) -> Self
+        ensures { result ≡ number }
+    {
+        ExprId {
+            number,
+            of: PhantomData,
+        }
+    }
+
+    pub(crate) fn number(self) -> usize
+        ensures { result ≡ self }
+    {
+        self.number
+    }
+}
+
+/// A node of a pool, which names its operands by their numbers and states its degree.
+#[derive(Clone, Copy, Debug, PartialEq, Eq, PartialOrd, Ord)]
+pub enum SymbolicExpr<A> {
+    Leaf(A),
+    Add {
+        x: ExprId<A>,
+        y: ExprId<A>,
+        degree_multiple: usize,
+    },
+    Sub {
+        x: ExprId<A>,
+        y: ExprId<A>,
+        degree_multiple: usize,
+    },
+    Neg {
+        x: ExprId<A>,
+        degree_multiple: usize,
+    },
+    Mul {
+        x: ExprId<A>,
+        y: ExprId<A>,
+        degree_multiple: usize,
+    },
+}

@@ -1,0 +1,122 @@
+//! The folded operations: the first case of the folding table that fits, else a node.
+ghost use Rattle.std.specs.Prelude.{◌≡◌, ◌<◌, ◌≤◌, ◌+◌, ◌^◌, ◌↔◌, length, IfOk, IfErr};
+ghost use Rattle.air_field.specs.Term.{add_term, sub_term, neg_term, mul_term};
+ghost use Rattle.air_field.specs.Degree.{degree_by, cached_weight};
+ghost use Rattle.air_field.specs.Same.{Stands};
+ghost use Rattle.air_symbolic.specs.Pools.{IsPool, tree_at, term_at, Grown, HasConst};
+ghost use Rattle.air_symbolic.specs.Folds.{HasFold, IsSum, IsDifference, IsNegative, IsProduct, NeedsNode};
+
+use crate::leaves::sym_leaf::SymLeaf;
+use crate::pools::expr::ExprId;
+use crate::pools::fold::{Fold, fold_of_difference, fold_of_product, fold_of_sum};
+use crate::pools::pool::ExprPool;
+use air_field::{Field, RingError};
+
+impl<A: SymLeaf> ExprPool<A> {
+    /// A constant.
+    pub fn constant(&mut self, c: A::F) -> Result<ExprId<A>, RingError>
+        requires { IsPool A.reads self.old }
+        ensures grown { Grown A.grows A.reads self.old self.new }
+        ensures made { IfOk result (HasConst A.reads self.new c) }
+        ensures refused { IfErr result (λ e. e ≡ RingError.Memory) }
+    {
+        let a = A::from_const(c, &mut self.under)?;
+        self.leaf(a)
+    }
+
+    /// The constant 0.
+    pub fn zero(&mut self) -> Result<ExprId<A>, RingError>
+        requires { IsPool A.reads self.old }
+        ensures grown { Grown A.grows A.reads self.old self.new }
+        ensures made { IfOk result (HasConst A.reads self.new A.F.ring.nil) }
+        ensures refused { IfErr result (λ e. e ≡ RingError.Memory) }
+    {
+        self.constant(A::F::ZERO)
+    }
+
+    // What an operation on x and y folds to.
+    fn folded(
+        &mut self,
+        fold: Fold<A::F>,
+        x: ExprId<A>,
+        y: ExprId<A>,
+    ) -> Result<ExprId<A>, RingError>
+        requires pool { IsPool A.reads self.old }
+        requires x_in { x < length self.old.1 }
+        requires y_in { y < length self.old.1 }
+        ensures grown { Grown A.grows A.reads self.old self.new }
+        ensures made { IfOk result (HasFold A.reads self.new (tree_at self.old x) (tree_at self.old y) fold) }
+        ensures refused { IfErr result (λ e. e ≡ RingError.Memory) }
+    {
+        match fold {
+            Fold::Constant(c) => self.constant(c),
+            Fold::Left => Ok(x),
+            Fold::Right => Ok(y),
+            Fold::Negated => self.insert_neg(y),
+        }
+    }
+
+    /// The sum, folded.
+    pub fn add(&mut self, x: ExprId<A>, y: ExprId<A>) -> Result<ExprId<A>, RingError>
+        requires pool { IsPool A.reads self.old }
+        requires x_in { x < length self.old.1 }
+        requires y_in { y < length self.old.1 }
+        ensures grown { Grown A.grows A.reads self.old self.new }
+        ensures made { IfOk result (IsSum A.reads A.F.ring A.F.eq self.old self.new x y) }
+        ensures stands { IfOk result (λ z. Stands A.F.ring (term_at A.reads self.new z) (add_term (term_at A.reads self.old x) (term_at A.reads self.old y))) }
+        ensures refused { IfErr result (λ e. e ≡ RingError.Memory) }
+    {
+        match fold_of_sum(self.as_const(x), self.as_const(y)) {
+            Some(fold) => self.folded(fold, x, y),
+            None => self.insert_add(x, y),
+        }
+    }
+
+    /// The difference, folded.
+    pub fn sub(&mut self, x: ExprId<A>, y: ExprId<A>) -> Result<ExprId<A>, RingError>
+        requires pool { IsPool A.reads self.old }
+        requires x_in { x < length self.old.1 }
+        requires y_in { y < length self.old.1 }
+        ensures grown { Grown A.grows A.reads self.old self.new }
+        ensures made { IfOk result (IsDifference A.reads A.F.ring A.F.eq self.old self.new x y) }
+        ensures stands { IfOk result (λ z. Stands A.F.ring (term_at A.reads self.new z) (sub_term (term_at A.reads self.old x) (term_at A.reads self.old y))) }
+        ensures refused { IfErr result (λ e. e ≡ RingError.Memory) }
+    {
+        match fold_of_difference(self.as_const(x), self.as_const(y)) {
+            Some(fold) => self.folded(fold, x, y),
+            None => self.insert_sub(x, y),
+        }
+    }
+
+    /// The negative, folded.
+    pub fn neg(&mut self, x: ExprId<A>) -> Result<ExprId<A>, RingError>
+        requires pool { IsPool A.reads self.old }
+        requires x_in { x < length self.old.1 }
+        ensures grown { Grown A.grows A.reads self.old self.new }
+        ensures made { IfOk result (IsNegative A.reads A.F.ring A.F.eq self.old self.new x) }
+        ensures stands { IfOk result (λ z. Stands A.F.ring (term_at A.reads self.new z) (neg_term (term_at A.reads self.old x))) }
+        ensures refused { IfErr result (λ e. e ≡ RingError.Memory) }
+    {
+        match self.as_const(x) {
+            Some(c) => self.constant(c.neg()),
+            None => self.insert_neg(x),
+        }
+    }
+
+    /// The product, folded. It is refused with `DegreeOverflow` exactly where a node is needed and the operands'
+    /// degrees add past `usize`.
+    pub fn mul(&mut self, x: ExprId<A>, y: ExprId<A>) -> Result<ExprId<A>, RingError>
+        requires pool { IsPool A.reads self.old }
+        requires x_in { x < length self.old.1 }
+        requires y_in { y < length self.old.1 }
+        ensures grown { Grown A.grows A.reads self.old self.new }
+        ensures made { IfOk result (IsProduct A.reads A.F.ring A.F.eq self.old self.new x y) }
+        ensures stands { IfOk result (λ z. Stands A.F.ring (term_at A.reads self.new z) (mul_term (term_at A.reads self.old x) (term_at A.reads self.old y))) }
+        ensures overflow { (result ≡ Err RingError.DegreeOverflow) ↔ (NeedsNode A.reads A.F.ring A.F.eq self.old x y × (2 ^ 64 ≤ degree_by cached_weight (term_at A.reads self.old x) + degree_by cached_weight (term_at A.reads self.old y))) }
+    {
+        match fold_of_product(self.as_const(x), self.as_const(y)) {
+            Some(fold) => self.folded(fold, x, y),
+            None => self.insert_mul(x, y),
+        }
+    }
+}

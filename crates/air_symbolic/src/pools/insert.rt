@@ -1,0 +1,134 @@
+//! The calls that make a node as it is, without folding.
+ghost use Rattle.std.specs.Prelude.{◌≡◌, ◌<◌, ◌≤◌, ◌+◌, ◌^◌, ◌↔◌, length, IfOk, IfErr, MatchOption, Decides};
+ghost use Rattle.air_field.specs.Degree.{degree_by, cached_weight};
+ghost use Rattle.air_symbolic.specs.Trees.{leaf_tree, add_tree, sub_tree, neg_tree, mul_tree};
+ghost use Rattle.air_symbolic.specs.Nodes.{unfold_node, tree_of, node_at, NodeFits, Absent};
+ghost use Rattle.air_symbolic.specs.Pools.{IsPool, tree_at, term_at, Grown, HasTree};
+
+use crate::leaves::sym_leaf::SymLeaf;
+use crate::pools::expr::{ExprId, SymbolicExpr};
+use crate::pools::pool::ExprPool;
+use air_field::RingError;
+
+impl<A: SymLeaf> ExprPool<A> {
+    fn is_same(known: &SymbolicExpr<A>, node: &SymbolicExpr<A>) -> bool
+        ensures { Decides result (known.now ≡ node.now) }
+    {
+        *known == *node
+    }
+
+    // The place of an equal node.
+    fn find(&self, node: &SymbolicExpr<A>) -> Option<usize>
+        ensures { MatchOption result (Absent node.now self.now.1) (λ i. (i < length self.now.1) × (node_at self.now.1 i ≡ Some node.now)) }
+    {
+        for (i, known) in self.nodes.iter().enumerate() {
+            if Self::is_same(known, node) {
+                return Some(i);
+            }
+        }
+        None
+    }
+
+    // The number of an equal node, or of one more.
+    fn insert(&mut self, node: SymbolicExpr<A>) -> Result<ExprId<A>, RingError>
+        requires pool { IsPool A.reads self.old }
+        requires fits { NodeFits (A.reads self.old.0) self.old.1 node }
+        ensures same_under { self.new.0 ≡ self.old.0 }
+        ensures grown { Grown A.grows A.reads self.old self.new }
+        ensures made { IfOk result (HasTree self.new (unfold_node (tree_of self.old.1) node)) }
+        ensures refused { IfErr result (λ e. e ≡ RingError.Memory) }
+    {
+        match self.find(&node) {
+            Some(number) => Ok(ExprId::new(number)),
+            None => {
+                let number = self.nodes.len();
+                if self.nodes.push(node).is_err() {
+                    return Err(RingError::Memory);
+                }
+                Ok(ExprId::new(number))
+            }
+        }
+    }
+
+    /// The expression of a leaf.
+    pub fn leaf(&mut self, a: A) -> Result<ExprId<A>, RingError>
+        requires pool { IsPool A.reads self.old }
+        requires valid { (A.reads self.old.0).valid a }
+        ensures same_under { self.new.0 ≡ self.old.0 }
+        ensures grown { Grown A.grows A.reads self.old self.new }
+        ensures made { IfOk result (HasTree self.new (leaf_tree a)) }
+        ensures refused { IfErr result (λ e. e ≡ RingError.Memory) }
+    {
+        self.insert(SymbolicExpr::Leaf(a))
+    }
+
+    /// The sum, not folded.
+    pub fn insert_add(&mut self, x: ExprId<A>, y: ExprId<A>) -> Result<ExprId<A>, RingError>
+        requires pool { IsPool A.reads self.old }
+        requires x_in { x < length self.old.1 }
+        requires y_in { y < length self.old.1 }
+        ensures same_under { self.new.0 ≡ self.old.0 }
+        ensures grown { Grown A.grows A.reads self.old self.new }
+        ensures made { IfOk result (HasTree self.new (add_tree (tree_at self.old x) (tree_at self.old y))) }
+        ensures refused { IfErr result (λ e. e ≡ RingError.Memory) }
+    {
+        let degree_multiple = self.degree_multiple(x).max(self.degree_multiple(y));
+        self.insert(SymbolicExpr::Add {
+            x,
+            y,
+            degree_multiple,
+        })
+    }
+
+    /// The difference, not folded.
+    pub fn insert_sub(&mut self, x: ExprId<A>, y: ExprId<A>) -> Result<ExprId<A>, RingError>
+        requires pool { IsPool A.reads self.old }
+        requires x_in { x < length self.old.1 }
+        requires y_in { y < length self.old.1 }
+        ensures same_under { self.new.0 ≡ self.old.0 }
+        ensures grown { Grown A.grows A.reads self.old self.new }
+        ensures made { IfOk result (HasTree self.new (sub_tree (tree_at self.old x) (tree_at self.old y))) }
+        ensures refused { IfErr result (λ e. e ≡ RingError.Memory) }
+    {
+        let degree_multiple = self.degree_multiple(x).max(self.degree_multiple(y));
+        self.insert(SymbolicExpr::Sub {
+            x,
+            y,
+            degree_multiple,
+        })
+    }
+
+    /// The negative, not folded.
+    pub fn insert_neg(&mut self, x: ExprId<A>) -> Result<ExprId<A>, RingError>
+        requires pool { IsPool A.reads self.old }
+        requires x_in { x < length self.old.1 }
+        ensures same_under { self.new.0 ≡ self.old.0 }
+        ensures grown { Grown A.grows A.reads self.old self.new }
+        ensures made { IfOk result (HasTree self.new (neg_tree (tree_at self.old x))) }
+        ensures refused { IfErr result (λ e. e ≡ RingError.Memory) }
+    {
+        let degree_multiple = self.degree_multiple(x);
+        self.insert(SymbolicExpr::Neg { x, degree_multiple })
+    }
+
+    /// The product, not folded. It is refused with `DegreeOverflow` exactly where the operands' degrees add past
+    /// `usize`.
+    pub fn insert_mul(&mut self, x: ExprId<A>, y: ExprId<A>) -> Result<ExprId<A>, RingError>
+        requires pool { IsPool A.reads self.old }
+        requires x_in { x < length self.old.1 }
+        requires y_in { y < length self.old.1 }
+        ensures same_under { self.new.0 ≡ self.old.0 }
+        ensures grown { Grown A.grows A.reads self.old self.new }
+        ensures made { IfOk result (HasTree self.new (mul_tree (tree_at self.old x) (tree_at self.old y))) }
+        ensures overflow { (result ≡ Err RingError.DegreeOverflow) ↔ (2 ^ 64 ≤ degree_by cached_weight (term_at A.reads self.old x) + degree_by cached_weight (term_at A.reads self.old y)) }
+    {
+        match self.degree_multiple(x).checked_add(self.degree_multiple(y)) {
+            Some(degree_multiple) => self.insert(SymbolicExpr::Mul {
+                x,
+                y,
+                degree_multiple,
+            }),
+            None => Err(RingError::DegreeOverflow),
+        }
+    }
+}

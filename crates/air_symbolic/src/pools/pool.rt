@@ -1,0 +1,101 @@
+//! A pool of nodes, and the calls that read it.
+ghost use Rattle.std.specs.Prelude.{◌≡◌, ◌<◌, ◌↔◌, length, [], IsTrue, MatchOption, Some};
+ghost use Rattle.air_field.specs.Degree.{degree_by, cached_weight};
+ghost use Rattle.air_symbolic.specs.Nodes.{IsNode};
+ghost use Rattle.air_symbolic.specs.Pools.{IsPool, term_at, constant_at};
+
+use crate::leaves::sym_leaf::SymLeaf;
+use crate::pools::expr::{ExprId, SymbolicExpr};
+use std::alloc::Global;
+use std::marker::Model;
+
+/// Expressions, each tree once, over what their leaves name.
+#[derive(Drop)]
+pub struct ExprPool<A: SymLeaf> {
+    pub(crate) nodes: Vec<SymbolicExpr<A>>,
+    pub(crate) under: A::Under,
+}
+
+impl<A: SymLeaf> Model for ExprPool<A> {
+    ghost use Rattle.std.specs.Prelude.{List, reverse};
+    ghost use Rattle.air_symbolic.specs.declared.pools.expr.SymbolicExpr.{SymbolicExpr};
+
+    ghost Value = { A.Under × List (SymbolicExpr A) };
+
+    ghost view = { λ p. (p.under, reverse p.nodes.items) };
+}
+
+impl<A: SymLeaf> ExprPool<A> {
+    /// An empty pool.
+    pub fn new(alloc: Global) -> Self
+        ensures empty { result ≡ (A.no_under, []) }
+        ensures pool { IsPool A.reads result }
+    {
+        ExprPool {
+            nodes: Vec::new(alloc),
+            under: A::new_under(alloc),
+        }
+    }
+
+    /// How many nodes there are.
+    pub fn len(&self) -> usize
+        ensures { result ≡ length self.now.1 }
+    {
+        self.nodes.len()
+    }
+
+    /// Whether `id` is of this pool.
+    pub fn contains(&self, id: ExprId<A>) -> bool
+        ensures { IsTrue result ↔ (id < length self.now.1) }
+    {
+        id.number() < self.nodes.len()
+    }
+
+    /// The node of a number.
+    pub fn node(&self, id: ExprId<A>) -> &SymbolicExpr<A>
+        requires pool { IsPool A.reads self.now }
+        requires here { id < length self.now.1 }
+        ensures { IsNode (A.reads self.now.0) self.now.1 id result.now }
+    {
+        &self.nodes[id.number()]
+    }
+
+    /// The degree by the cached weights, which the node states.
+    pub fn degree_multiple(&self, id: ExprId<A>) -> usize
+        requires pool { IsPool A.reads self.now }
+        requires here { id < length self.now.1 }
+        ensures { result ≡ degree_by cached_weight (term_at A.reads self.now id) }
+    {
+        match self.node(id) {
+            SymbolicExpr::Leaf(a) => a.degree_multiple(&self.under),
+            SymbolicExpr::Add {
+                degree_multiple,
+                ..
+            } => *degree_multiple,
+            SymbolicExpr::Sub {
+                degree_multiple,
+                ..
+            } => *degree_multiple,
+            SymbolicExpr::Neg {
+                degree_multiple,
+                ..
+            } => *degree_multiple,
+            SymbolicExpr::Mul {
+                degree_multiple,
+                ..
+            } => *degree_multiple,
+        }
+    }
+
+    /// The constant that the expression is, for folding: only a leaf is one.
+    pub fn as_const(&self, id: ExprId<A>) -> Option<A::F>
+        requires pool { IsPool A.reads self.now }
+        requires here { id < length self.now.1 }
+        ensures { result ≡ constant_at A.reads self.now id }
+    {
+        match self.node(id) {
+            SymbolicExpr::Leaf(a) => a.as_const(&self.under),
+            _ => None,
+        }
+    }
+}

@@ -1,0 +1,2 @@
+mod base;
+mod bench;

@@ -1,0 +1,4 @@
+//! The variables of expressions: which entry of a builder they name.
+
+pub mod entry;
+pub mod variable;

@@ -1,0 +1,3 @@
+pub mod RowsAt
+pub mod Reports
+pub mod Recordings

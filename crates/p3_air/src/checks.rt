@@ -1,0 +1,4 @@
+//! Checks of a whole trace.
+
+pub mod check;
+pub mod report;

@@ -1,0 +1,5 @@
+//! Evaluation of an AIR on one concrete row.
+
+pub mod builder;
+pub mod builder_impl;
+pub mod failure;

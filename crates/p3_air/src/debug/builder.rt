@@ -1,0 +1,84 @@
+//! The debug builder: it holds the values at one row, and evaluates what is asserted there.
+ghost use Rattle.std.specs.Prelude.{◌≡◌, ◌≢◌, ◌↔◌, IsTrue, []};
+
+use crate::debug::failure::ConstraintFailure;
+use air_field::{Field, FieldRing, ViewPair};
+use std::alloc::Global;
+
+/// Evaluates constraints on one row. It borrows the rows and the public values; the periodic row alone is its own.
+#[derive(Drop)]
+pub struct DebugConstraintBuilder<'a, F: Field> {
+    pub(crate) row_index: usize,
+    pub(crate) main: ViewPair<'a, F>,
+    pub(crate) preprocessed: ViewPair<'a, F>,
+    pub(crate) public_values: &'a [F],
+    pub(crate) is_first_row: F,
+    pub(crate) is_last_row: F,
+    pub(crate) is_transition: F,
+    pub(crate) periodic_row: Vec<F>,
+    pub(crate) ring: FieldRing<F>,
+    pub(crate) constraint_index: usize,
+    pub(crate) failures: Vec<ConstraintFailure>,
+}
+
+impl<'a, F: Field> DebugConstraintBuilder<'a, F> {
+    /// A builder at the row of this index: the pairs hold that row and the one after it. It takes no memory.
+    pub fn new(
+        alloc: Global,
+        row_index: usize,
+        main: ViewPair<'a, F>,
+        preprocessed: ViewPair<'a, F>,
+        public_values: &'a [F],
+        is_first_row: F,
+        is_last_row: F,
+        is_transition: F,
+        periodic_row: Vec<F>,
+    ) -> Self
+        ensures row_index { result.row_index ≡ row_index }
+        ensures main { result.main ≡ main.entry }
+        ensures preprocessed { result.preprocessed ≡ preprocessed.entry }
+        ensures public_values { result.public_values.now ≡ public_values.now }
+        ensures is_first_row { result.is_first_row ≡ is_first_row }
+        ensures is_last_row { result.is_last_row ≡ is_last_row }
+        ensures is_transition { result.is_transition ≡ is_transition }
+        ensures periodic_row { result.periodic_row ≡ periodic_row }
+        ensures counter { result.constraint_index ≡ 0 }
+        ensures failures { result.failures.items ≡ [] }
+    {
+        DebugConstraintBuilder {
+            row_index,
+            main,
+            preprocessed,
+            public_values,
+            is_first_row,
+            is_last_row,
+            is_transition,
+            periodic_row,
+            ring: FieldRing::new(),
+            constraint_index: 0,
+            failures: Vec::new(alloc),
+        }
+    }
+
+    /// Whether an assertion failed.
+    pub fn has_failures(&self) -> bool
+        ensures { IsTrue result ↔ (self.now.failures.items ≢ []) }
+    {
+        !self.failures.is_empty()
+    }
+
+    /// The assertions that failed, in order.
+    pub fn failures(&self) -> &[ConstraintFailure]
+        ensures { result.now ≡ self.now.failures.items }
+    {
+        self.failures.as_slice()
+    }
+
+    /// The assertions that failed, handed over.
+    pub fn into_failures(self) -> Vec<ConstraintFailure>
+        ensures { result ≡ self.entry.failures }
+    {
+        let DebugConstraintBuilder { failures, .. } = self;
+        failures
+    }
+}

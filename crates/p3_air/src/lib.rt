@@ -1,0 +1,38 @@
+//! The constraint crate: AIRs recorded as symbolic expressions, and evaluated on concrete rows.
+//!
+//! An AIR implements [`BaseAir`] and [`Air`]; [`get_symbolic_constraints`] records it, [`check_all_constraints`] checks
+//! a trace of it, and [`get_max_constraint_degree`] infers its degree. The public items of the crates below are passed
+//! on here.
+#![tactic(auto)]
+
+pub mod checks;
+pub mod debug;
+pub mod layouts;
+pub mod symbolic;
+
+pub use air_builder::{
+    Air, AirBuilder, AirBuilderWithContext, AirError, AssertAll, AssertAllNamed, BaseAir,
+    BoundaryEnd, BoundaryIoError, BoundaryPublic, Element, EvaluatedJoined, FilteredAirBuilder,
+    Joined, Lazy, Name, NamedAirBuilder, Namespace, NamespaceExt, PassthroughNamedAirBuilder,
+    RowWindow, TwoRows, WindowAccess, boundary,
+};
+pub use air_field::{
+    Algebra, BabyBear, BinomialExtensionField, ExtAlgebra, ExtFieldRing, ExtensionField, Field,
+    FieldRing, FromVar, MatrixError, PrimeField, RingError, RowMajorMatrix, RowMajorMatrixView,
+    ViewPair,
+};
+pub use air_symbolic::{
+    BaseEntry, BaseLeaf, ExprId, ExprPool, SymLeaf, SymbolicExpr, SymbolicExpression,
+    SymbolicVariable,
+};
+pub use checks::check::check_all_constraints;
+pub use checks::report::ConstraintReport;
+pub use debug::builder::DebugConstraintBuilder;
+pub use debug::failure::ConstraintFailure;
+pub use layouts::air_layout::AirLayout;
+pub use symbolic::builder::SymbolicAirBuilder;
+pub use symbolic::degree::{constraint_degree_from_poly_degree, get_max_constraint_degree};
+pub use symbolic::record::{Recorded, get_symbolic_constraints};
+
+#[cfg(test)]
+mod tests;
