@@ -9,7 +9,9 @@ pub mod Report
 pub mod Refused
 pub mod Layouts
 pub mod Rows
+pub mod Kinds
 pub mod Recording
+pub mod RecordedLists
 pub mod RecordingLaws
 pub mod SymbolicParts
 pub mod Recorded

@@ -2,6 +2,9 @@
 
 pub mod builder;
 pub mod builder_impl;
+pub(crate) mod constraints;
 pub mod degree;
+pub mod kind;
 pub mod record;
 pub(crate) mod row;
+pub(crate) mod selectors;
