@@ -15,3 +15,7 @@ pub mod Filters
 pub mod Labels
 pub mod Conditions
 pub mod NamedFilters
+pub mod Extensions
+pub mod ExtensionFilters
+pub mod ExtensionLabels
+pub mod ExtensionConditions

@@ -2,6 +2,8 @@
 mod boundary;
 mod builders;
 mod errors;
+mod extension;
+mod extension_log;
 mod names;
 mod value_log;
 mod windows;

@@ -6,6 +6,7 @@ pub use Rattle.air_field.specs.Degree
 pub use Rattle.air_field.specs.Same
 pub use Rattle.air_field.specs.Algebra
 pub mod Entries
+pub mod ExtEntries
 pub mod Leaves
 pub mod Trees
 pub mod Nodes
@@ -16,3 +17,6 @@ pub mod Numbers
 pub mod PoolLaws
 pub mod BaseLeaves
 pub mod BasePool
+pub mod BaseParts
+pub mod ExtLeaves
+pub mod ExtPool
