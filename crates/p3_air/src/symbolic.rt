@@ -4,6 +4,7 @@ pub mod builder;
 pub mod builder_impl;
 pub(crate) mod constraints;
 pub mod degree;
+pub mod extension_impl;
 pub mod kind;
 pub mod record;
 pub(crate) mod row;

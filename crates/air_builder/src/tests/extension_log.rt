@@ -10,6 +10,7 @@ use crate::builders::named_extension::NamedExtensionBuilder;
 use crate::builders::permutation::PermutationAirBuilder;
 use crate::errors::AirError;
 use crate::names::name::Name;
+use crate::tests::value_log::NoColumns;
 use crate::windows::two_rows::TwoRows;
 use air_field::{BabyBear, BinomialExtensionField, ExtFieldRing, ExtensionField, Field, FieldRing};
 use std::alloc::Global;
@@ -28,6 +29,7 @@ pub struct ExtensionLog {
     alloc: Global,
     ring: FieldRing<BabyBear>,
     ext_ring: ExtFieldRing<BabyBear, BinomialExtensionField>,
+    no_columns: NoColumns,
     pub asserted: Vec<Asserted>,
     pub labels: Vec<String>,
 }
@@ -38,6 +40,7 @@ impl ExtensionLog {
             alloc,
             ring: FieldRing::new(),
             ext_ring: ExtFieldRing::new(),
+            no_columns: NoColumns::new(alloc),
             asserted: Vec::new(alloc),
             labels: Vec::new(alloc),
         }
@@ -63,6 +66,10 @@ impl AirBuilder for ExtensionLog {
     type Var = BabyBear;
 
     type PublicVar = BabyBear;
+
+    type PeriodicVar = BabyBear;
+
+    type PreprocessedWindow = TwoRows<BabyBear>;
 
     type MainWindow = TwoRows<BabyBear>;
 
@@ -115,7 +122,15 @@ impl AirBuilder for ExtensionLog {
         Ok(TwoRows::new(Vec::new(self.alloc), Vec::new(self.alloc)))
     }
 
+    fn preprocessed(&self) -> &TwoRows<BabyBear> {
+        &self.no_columns.window
+    }
+
     fn public_values(&self) -> &[BabyBear] {
+        &[]
+    }
+
+    fn periodic_values(&self) -> &[BabyBear] {
         &[]
     }
 

@@ -23,10 +23,18 @@ pub struct LoggedFailure {
 
 /// A window without columns.
 #[derive(Drop)]
-struct NoColumns {
-    window: TwoRows<BabyBear>,
-    ghost current: { window.current.items ≡ [] },
-    ghost next: { window.next.items ≡ [] },
+pub struct NoColumns {
+    pub window: TwoRows<BabyBear>,
+    pub ghost current: { window.current.items ≡ [] },
+    pub ghost next: { window.next.items ≡ [] },
+}
+
+impl NoColumns {
+    pub fn new(alloc: Global) -> Self {
+        NoColumns {
+            window: TwoRows::new(Vec::new(alloc), Vec::new(alloc)),
+        }
+    }
 }
 
 /// The values in order, and which of them weren't zero.
@@ -46,9 +54,7 @@ impl ValueLog {
             alloc,
             ring: FieldRing::new(),
             context,
-            no_columns: NoColumns {
-                window: TwoRows::new(Vec::new(alloc), Vec::new(alloc)),
-            },
+            no_columns: NoColumns::new(alloc),
             values: Vec::new(alloc),
             failures: Vec::new(alloc),
         }
