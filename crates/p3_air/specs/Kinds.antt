@@ -1,5 +1,5 @@
 -- The base and the extension terms of a declared list, and where they stand in it.
-use Rattle.std.specs.Prelude.{ℕ, Bool, true, false, List, [], ◌∷◌, map}
+use Rattle.std.specs.Prelude.{◌≡◌, ℕ, Bool, true, false, List, [], ◌∷◌, map}
 use Rattle.std.specs.List.{filter, enumerate_from}
 use Rattle.air_field.specs.Term.{Term}
 use Rattle.air_builder.specs.Assertion.{Assertion, Base, Extension}
@@ -33,3 +33,7 @@ is_extension kind.Extension = true
 -- the places, counted from 0 on, at which the kind is one of those
 abbrev pub places_where : (ConstraintKind → Bool) → List ConstraintKind → List ℕ
 places_where is ks = map (λ p. p.0) (filter (λ p. is p.1) (enumerate_from 0 ks))
+
+-- the kinds of the declared list, at each place its own
+abbrev pub RecordsKinds : {F : Type 0} → List ConstraintKind → List (Assertion F) → Type 0
+RecordsKinds kinds ts = kinds ≡ map kind_of ts

@@ -1,48 +1,111 @@
 //! The constraints of an AIR as expressions.
-ghost use Rattle.std.specs.Prelude.{◌≡◌, IfOk, IfErr, OnOk};
+ghost use Rattle.std.specs.Prelude.{◌≡◌, [], IfOk, IfErr, OnOk};
 ghost use Rattle.air_field.specs.Assignment.{IsMissing};
 ghost use Rattle.air_builder.specs.Refusals.{NoneMissing};
+ghost use Rattle.air_symbolic.specs.BaseLeaves.{base_reads};
+ghost use Rattle.air_symbolic.specs.ExtLeaves.{ext_reads};
 ghost use Rattle.p3_air.specs.Layouts.{layout_shape};
-ghost use Rattle.p3_air.specs.Recorded.{IsRecording, RecordRefuses};
+ghost use Rattle.p3_air.specs.Kinds.{RecordsKinds};
+ghost use Rattle.p3_air.specs.Recorded.{RecordsBase, RecordsExt, RecordRefuses};
 
 use crate::layouts::air_layout::AirLayout;
 use crate::symbolic::builder::SymbolicAirBuilder;
 use air_builder::{Air, AirError};
-use air_field::Field;
-use air_symbolic::{BaseLeaf, ExprId, ExprPool};
+use air_field::{ExtensionField, Field};
+use air_symbolic::{BaseLeaf, ExprId, ExprPool, ExtLeaf};
 use std::alloc::Global;
 
-/// The recorded constraints, in the order of their assertion, and the pool that they are of.
+/// The recorded constraints of each kind, in the order of their assertion: the base ones are numbers of the pool's base
+/// pool, the extension ones of the pool.
 #[derive(Drop)]
-pub struct Recorded<F: Field> {
-    pub pool: ExprPool<BaseLeaf<F>>,
+pub struct Recorded<F: Field, EF: ExtensionField<F>> {
+    pub pool: ExprPool<ExtLeaf<F, EF>>,
     pub base: Vec<ExprId<BaseLeaf<F>>>,
+    pub ext: Vec<ExprId<ExtLeaf<F, EF>>>,
 }
 
-impl<F: Field> SymbolicAirBuilder<F> {
-    fn into_recorded(self) -> Recorded<F>
-        ensures pool { result.pool ≡ self.pool }
-        ensures base { result.base ≡ self.constraints }
-    {
-        Recorded {
-            pool: self.pool,
-            base: self.constraints,
-        }
-    }
-}
-
-/// Records the constraints of an AIR: for each declared place, in order, one expression, which means the term that is
-/// declared there. So it has the term's polynomial, and no greater degree by any weights of the leaves.
-pub fn get_symbolic_constraints<F: Field, A: Air<SymbolicAirBuilder<F>>>(
+/// Has an AIR assert its constraints on a symbolic builder of this layout.
+pub(crate) fn record<F: Field, EF: ExtensionField<F>, A: Air<SymbolicAirBuilder<F, EF>>>(
     alloc: Global,
     air: &A,
     layout: AirLayout,
-) -> Result<Recorded<F>, AirError>
-    ensures recorded { IfOk result (λ r. IsRecording F.ring r.pool r.base.items (A.declared air.now)) }
+) -> Result<SymbolicAirBuilder<F, EF>, AirError>
+    ensures base { IfOk result (λ b. RecordsBase F.ring EF.over base_reads b.pool.0 b.constraints.base.items (A.declared air.now)) }
+    ensures ext { IfOk result (λ b. RecordsExt F.ring EF.over (ext_reads F.ring F.eq EF.coefficients) b.pool b.constraints.ext.items (A.declared air.now)) }
+    ensures kinds { IfOk result (λ b. RecordsKinds b.constraints.kinds.items (A.declared air.now)) }
     ensures there { OnOk result (NoneMissing (IsMissing (layout_shape layout)) (A.declared air.now)) }
     ensures refused { IfErr result (RecordRefuses (layout_shape layout) (A.declared air.now)) }
 {
     let mut builder = SymbolicAirBuilder::new(alloc, layout)?;
     air.eval(&mut builder)?;
-    Ok(builder.into_recorded())
+    Ok(builder)
+}
+
+/// Records the constraints of an AIR: for each declared place, in order, one expression of its kind, which means the term
+/// that is declared there. So it has the term's polynomial, and no greater degree by any weights of the leaves.
+pub fn get_all_symbolic_constraints<
+    F: Field,
+    EF: ExtensionField<F>,
+    A: Air<SymbolicAirBuilder<F, EF>>,
+>(
+    alloc: Global,
+    air: &A,
+    layout: AirLayout,
+) -> Result<Recorded<F, EF>, AirError>
+    ensures base { IfOk result (λ r. RecordsBase F.ring EF.over base_reads r.pool.0 r.base.items (A.declared air.now)) }
+    ensures ext { IfOk result (λ r. RecordsExt F.ring EF.over (ext_reads F.ring F.eq EF.coefficients) r.pool r.ext.items (A.declared air.now)) }
+    ensures there { OnOk result (NoneMissing (IsMissing (layout_shape layout)) (A.declared air.now)) }
+    ensures refused { IfErr result (RecordRefuses (layout_shape layout) (A.declared air.now)) }
+{
+    let builder = record(alloc, air, layout)?;
+    Ok(Recorded {
+        pool: builder.pool,
+        base: builder.constraints.base,
+        ext: builder.constraints.ext,
+    })
+}
+
+/// Records the base constraints of an AIR, as [`get_all_symbolic_constraints`] does; `ext` is left empty.
+pub fn get_symbolic_constraints<
+    F: Field + ExtensionField<F>,
+    A: Air<SymbolicAirBuilder<F, F>>,
+>(
+    alloc: Global,
+    air: &A,
+    layout: AirLayout,
+) -> Result<Recorded<F, F>, AirError>
+    ensures base { IfOk result (λ r. RecordsBase F.ring F.over base_reads r.pool.0 r.base.items (A.declared air.now)) }
+    ensures ext { IfOk result (λ r. r.ext.items ≡ []) }
+    ensures there { OnOk result (NoneMissing (IsMissing (layout_shape layout)) (A.declared air.now)) }
+    ensures refused { IfErr result (RecordRefuses (layout_shape layout) (A.declared air.now)) }
+{
+    let builder = record(alloc, air, layout)?;
+    Ok(Recorded {
+        pool: builder.pool,
+        base: builder.constraints.base,
+        ext: Vec::new(alloc),
+    })
+}
+
+/// Records the extension constraints of an AIR, as [`get_all_symbolic_constraints`] does; `base` is left empty.
+pub fn get_symbolic_constraints_extension<
+    F: Field,
+    EF: ExtensionField<F>,
+    A: Air<SymbolicAirBuilder<F, EF>>,
+>(
+    alloc: Global,
+    air: &A,
+    layout: AirLayout,
+) -> Result<Recorded<F, EF>, AirError>
+    ensures base { IfOk result (λ r. r.base.items ≡ []) }
+    ensures ext { IfOk result (λ r. RecordsExt F.ring EF.over (ext_reads F.ring F.eq EF.coefficients) r.pool r.ext.items (A.declared air.now)) }
+    ensures there { OnOk result (NoneMissing (IsMissing (layout_shape layout)) (A.declared air.now)) }
+    ensures refused { IfErr result (RecordRefuses (layout_shape layout) (A.declared air.now)) }
+{
+    let builder = record(alloc, air, layout)?;
+    Ok(Recorded {
+        pool: builder.pool,
+        base: Vec::new(alloc),
+        ext: builder.constraints.ext,
+    })
 }
