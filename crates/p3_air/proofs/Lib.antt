@@ -1,4 +1,5 @@
 pub mod RowsAt
 pub mod Reports
 pub mod Recordings
-mod Least
+pub mod Least
+pub mod Degrees

@@ -1,5 +1,5 @@
 -- The degree that is inferred, and where it is refused.
-use Rattle.std.specs.Prelude.{Result, Ok, Err, ◌≡◌, ◌⊎◌, ℕ, ◌≤◌, ◌^◌, List, ◌++◌}
+use Rattle.std.specs.Prelude.{Result, Ok, Err, ◌≡◌, ◌⊎◌, ℕ, ◌≤◌, ◌^◌, List, ◌++◌, Vec, length, map}
 use Rattle.air_field.specs.Ring.{CommRing, Over, itself}
 use Rattle.air_field.specs.Term.{Term}
 use Rattle.air_field.specs.Degree.{cached_weight, trace_weight, greatest_degree, inferred_degree}
@@ -12,6 +12,10 @@ use Rattle.p3_air.specs.Kinds.{base_terms, ext_terms}
 use Rattle.p3_air.specs.Recording.{IsOver}
 use Rattle.p3_air.specs.Recorded.{EachRecords}
 use Rattle.p3_air.specs.Refused.{Refused}
+
+-- the lengths of periodic columns
+abbrev pub periods_of : {T A : Type 0} → List (Vec T A) → List ℕ
+periods_of columns = map (λ c. length c.items) columns
 
 -- d is the degree inferred for n rows from terms that record what is declared: base terms over the base field and over
 -- the extension, extension terms over the extension

@@ -31,8 +31,14 @@ pub use debug::builder::DebugConstraintBuilder;
 pub use debug::failure::ConstraintFailure;
 pub use layouts::air_layout::AirLayout;
 pub use symbolic::builder::SymbolicAirBuilder;
-pub use symbolic::degree::{constraint_degree_from_poly_degree, get_max_constraint_degree};
-pub use symbolic::record::{Recorded, get_symbolic_constraints};
+pub use symbolic::degree::{
+    constraint_degree_from_poly_degree, get_max_constraint_degree,
+    get_max_constraint_degree_extension,
+};
+pub use symbolic::record::{
+    Recorded, get_all_symbolic_constraints, get_symbolic_constraints,
+    get_symbolic_constraints_extension,
+};
 
 #[cfg(test)]
 mod tests;

@@ -2,7 +2,6 @@
 ghost use Rattle.std.specs.Prelude.{◌≡◌, ◌<◌, ◌++◌, [], length, map, max, IfOk, IfErr, OnOk, All};
 ghost use Rattle.air_field.specs.Degree.{cached_weight, trace_weight, greatest_degree, quotient_degree};
 ghost use Rattle.air_field.specs.Assignment.{IsMissing};
-ghost use Rattle.air_builder.specs.Periodic.{periods_of};
 ghost use Rattle.air_builder.specs.Refusals.{NoneMissing};
 ghost use Rattle.air_symbolic.specs.BaseLeaves.{base_reads};
 ghost use Rattle.air_symbolic.specs.ExtLeaves.{ext_reads};
@@ -10,7 +9,7 @@ ghost use Rattle.air_symbolic.specs.Pools.{IsPool};
 ghost use Rattle.air_symbolic.specs.PoolRefusals.{AnswersDegree};
 ghost use Rattle.p3_air.specs.Layouts.{layout_shape};
 ghost use Rattle.p3_air.specs.Recorded.{terms_of};
-ghost use Rattle.p3_air.specs.Inferred.{IsInferred, AnswersInferred, DegreeRefuses};
+ghost use Rattle.p3_air.specs.Inferred.{periods_of, IsInferred, AnswersInferred, DegreeRefuses};
 
 use crate::layouts::air_layout::AirLayout;
 use crate::symbolic::builder::SymbolicAirBuilder;

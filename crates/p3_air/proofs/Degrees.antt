@@ -1,0 +1,32 @@
+-- The inferred degree of two lists of terms, worked out of the greatest degrees of each.
+use Rattle.std.proofs.Common.{◌≡◌, ◌≢◌, ℕ, ◌≤◌, ◌^◌, max, List, [], ◌∷◌, ◌++◌, refl, sym, ap, ap₂, ◌∙◌, subst, arith}
+use Rattle.std.proofs.Math.Nat.{max-eq_right, max-le, le-max_left, le-max_right}
+use Rattle.air_field.specs.Term.{Leaf, Term}
+use Rattle.air_field.specs.Degree.{degree_by, cached_weight, trace_weight, greatest_degree, quotient_degree, inferred_degree}
+
+max_assoc : (a b c : ℕ) → max a (max b c) ≡ max (max a b) c
+max_assoc a b c =
+    let left : max a (max b c) ≤ max (max a b) c = max-le (omega (arith, le-max_left a b, le-max_left (max a b) c)) (max-le (omega (arith, le-max_right a b, le-max_left (max a b) c)) (le-max_right (max a b) c)) in
+    let right : max (max a b) c ≤ max a (max b c) = max-le (max-le (le-max_left a (max b c)) (omega (arith, le-max_left b c, le-max_right a (max b c)))) (omega (arith, le-max_right b c, le-max_right a (max b c))) in
+    omega (arith, left, right)
+
+pub greatest-append : {F : Type 0} (w : Leaf → ℕ) (us vs : List (Term F)) → greatest_degree w (us ++ vs) ≡ max (greatest_degree w us) (greatest_degree w vs)
+greatest-append w [] vs = sym (max-eq_right (omega arith))
+greatest-append w (u ∷ us) vs = ap (λ x. max (degree_by w u) x) (greatest-append w us vs) ∙ max_assoc (degree_by w u) (greatest_degree w us) (greatest_degree w vs)
+
+-- where columns are periodic
+pub inferred_periodic : {F : Type 0} (n : ℕ) (periods : List ℕ) (us vs : List (Term F)) → periods ≢ [] → quotient_degree (max (greatest_degree (trace_weight n periods) us) (greatest_degree (trace_weight n periods) vs)) n ≡ inferred_degree n periods (us ++ vs)
+inferred_periodic n [] us vs h = absurd (h refl)
+inferred_periodic n (p ∷ periods) us vs h = ap (λ d. quotient_degree d n) (sym (greatest-append (trace_weight n (p ∷ periods)) us vs))
+
+-- where none is
+pub inferred_plain : {F : Type 0} (n : ℕ) (periods : List ℕ) (us vs : List (Term F)) → periods ≡ [] → max (quotient_degree (max (greatest_degree (trace_weight n periods) us) (greatest_degree (trace_weight n periods) vs)) n) (max (greatest_degree cached_weight us) (greatest_degree cached_weight vs)) ≡ inferred_degree n periods (us ++ vs)
+inferred_plain n [] us vs h = ap₂ (λ d e. max (quotient_degree d n) e) (sym (greatest-append (trace_weight n []) us vs)) (sym (greatest-append cached_weight us vs))
+inferred_plain n (p ∷ periods) us vs h = cc
+
+-- a degree that passes `usize` on either side passes it on the whole
+pub over_left : {F : Type 0} (w : Leaf → ℕ) (us vs : List (Term F)) → 2 ^ 64 ≤ greatest_degree w us → 2 ^ 64 ≤ greatest_degree w (us ++ vs)
+over_left w us vs h = omega (arith, h, greatest-append w us vs, le-max_left (greatest_degree w us) (greatest_degree w vs))
+
+pub over_right : {F : Type 0} (w : Leaf → ℕ) (us vs : List (Term F)) → 2 ^ 64 ≤ greatest_degree w vs → 2 ^ 64 ≤ greatest_degree w (us ++ vs)
+over_right w us vs h = omega (arith, h, greatest-append w us vs, le-max_right (greatest_degree w us) (greatest_degree w vs))
