@@ -1,3 +1,4 @@
 pub mod RowsAt
 pub mod Reports
 pub mod Recordings
+pub mod FailureLists
