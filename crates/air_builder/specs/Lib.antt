@@ -3,6 +3,7 @@ pub use Rattle.air_field.specs.Term
 pub use Rattle.air_field.specs.Algebra
 pub use Rattle.air_field.specs.Grid
 pub use Rattle.air_symbolic.specs.Entries
+pub use Rattle.air_symbolic.specs.ExtEntries
 pub mod Boundary
 pub mod Periodic
 pub mod Beside

@@ -3,3 +3,4 @@ pub mod Reports
 pub mod Recordings
 pub mod Least
 pub mod Degrees
+pub mod FailureLists

@@ -19,4 +19,7 @@ pub mod Inferred
 pub mod Debug
 pub mod DebugLaws
 pub mod DebugRow
+pub mod FailureTexts
+pub mod DebugLabels
+pub mod DebugLabelLaws
 pub mod Checks

@@ -3,6 +3,8 @@ ghost use Rattle.std.specs.Prelude.{◌≡◌, ◌∷◌, [], IfOk, IfErr, Some,
 ghost use Rattle.air_field.specs.Term.{Term, main, leaf_term, mul_term};
 ghost use Rattle.air_builder.specs.Assertion.{Base};
 
+mod labels;
+
 use crate::{
     AirLayout, DebugConstraintBuilder, SymbolicAirBuilder, check_all_constraints,
     constraint_degree_from_poly_degree, get_max_constraint_degree, get_symbolic_constraints,

@@ -17,11 +17,7 @@ use air_field::Algebra;
 /// Receives constraints over an extension with names, as `NamedAirBuilder` does base constraints.
 pub trait NamedExtensionBuilder: ExtensionBuilder + NamedAirBuilder {
     /// Asserts that `x` is zero.
-    fn assert_zero_ext_named<N: Name>(
-        &mut self,
-        x: Self::ExprEF,
-        name: N,
-    ) -> Result<(), AirError>
+    fn assert_zero_ext_named<N: Name>(&mut self, x: Self::ExprEF, name: N) -> Result<(), AirError>
         requires ready { Self.ready self.old }
         requires of_ring { Self.ExtRing.has (Self.ext_ring_of self.old) x }
         requires can_evaluate { N.can_evaluate name }

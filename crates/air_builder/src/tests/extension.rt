@@ -24,7 +24,10 @@ fn extension(a: u32, b: u32, c: u32, d: u32) -> BinomialExtensionField {
 
 // The log has this value of the extension at a place.
 fn assert_extension(rt: &impl Abort, log: &ExtensionLog, at: usize, value: BinomialExtensionField) {
-    assert_eq!(rt; log.asserted.get(at).copied(), Some(Asserted::Extension(value)));
+    assert_eq!(rt;
+        log.asserted.get(at).copied(),
+        Some(Asserted::Extension(value))
+    );
 }
 
 #[test]
@@ -50,9 +53,15 @@ fn kinds_keep_their_places(rt: HostRuntime) -> Result<(), Fail> {
     let lifted = log.ext_ring().lift(number(7))?;
     log.assert_zero_ext(lifted)?;
     log.assert_one(number(1))?;
-    assert_eq!(rt; log.asserted.get(0).copied(), Some(Asserted::Base(number(7))));
+    assert_eq!(rt;
+        log.asserted.get(0).copied(),
+        Some(Asserted::Base(number(7)))
+    );
     assert_extension(&rt, &log, 1, extension(7, 0, 0, 0));
-    assert_eq!(rt; log.asserted.get(2).copied(), Some(Asserted::Base(number(0))));
+    assert_eq!(rt;
+        log.asserted.get(2).copied(),
+        Some(Asserted::Base(number(0)))
+    );
     Ok(())
 }
 
