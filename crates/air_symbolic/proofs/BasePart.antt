@@ -1,6 +1,6 @@
 -- Which elements of an extension are in the base field.
-use Rattle.std.proofs.Common.{◌≡◌, ℕ, zero, suc, ◌-◌, ◌<◌, ◌≤◌, Bool, true, false, ◌&&◌, cond, Decides, List, [], ◌∷◌, length, replicate, get_or, refl, sym, ap, ap₂, subst, ◌∙◌, arith}
-use Rattle.std.specs.Prelude.{Option, Some, None}
+use Rattle.std.proofs.Common.{◌≡◌, ℕ, zero, suc, ◌-◌, ◌≤◌, Bool, true, false, ◌&&◌, cond, Decides, List, [], ◌∷◌, length, replicate, get_or, refl, sym, ap, ap₂, ◌∙◌, arith}
+use Rattle.std.specs.Prelude.{Some, None}
 use Rattle.air_field.specs.Ring.{CommRing, AllZero, Over}
 use Rattle.air_field.specs.Extension.{ExtensionLaws, IsInBase}
 use Rattle.air_symbolic.specs.BaseParts.{all_zero, base_part, AllZero-all_zero}

@@ -2,4 +2,8 @@ pub mod Sharing
 pub mod Vectors
 pub mod Making
 pub mod Folding
+pub mod FoldedLists
+pub mod FoldedTerms
 pub mod BasePart
+pub mod WholeTrees
+pub mod Lowering

@@ -1,12 +1,12 @@
 -- What the leaves of extension expressions mean, over a pool of base expressions.
-use Rattle.std.specs.Prelude.{◌≡◌, ℕ, Bool, List, [], Option, None, Some, refl}
+use Rattle.std.specs.Prelude.{◌≡◌, Bool, List, [], Option, None, Some, refl}
 use Rattle.std.proofs.Common.{Decides, ap}
 use Rattle.air_field.specs.Ring.{CommRing}
 use Rattle.air_field.specs.Term.{Term, leaf_term, const_term, ext_const_term}
 use Rattle.air_field.specs.Same.{Same}
 use Rattle.air_symbolic.specs.ExtEntries.{ext_entry_leaf}
 use Rattle.air_symbolic.specs.BaseParts.{base_part, base_part-is}
-use Rattle.air_symbolic.specs.Leaves.{Leaves, LeafLaws, Keeps}
+use Rattle.air_symbolic.specs.Leaves.{Leaves, LeafLaws}
 use Rattle.air_symbolic.specs.Trees.{Tree, nothing, leaf_tree, add_tree, sub_tree, neg_tree, mul_tree, term_of, tree_constant}
 use Rattle.air_symbolic.specs.Pools.{IsPool, Grown, PoolHas, tree_at, term_at, constant_at}
 use Rattle.air_symbolic.specs.PoolLaws.{Grown-refl, Grown-trans, has-kept, tree-kept, term-kept}

@@ -1,6 +1,6 @@
 -- A pool of extension expressions, over the base pool that it owns.
-use Rattle.std.specs.Prelude.{◌≡◌, ℕ, ◌<◌, Bool, List, length}
-use Rattle.std.proofs.Common.{Decides, subst, refl, sym}
+use Rattle.std.specs.Prelude.{◌≡◌, ℕ, Bool, List}
+use Rattle.std.proofs.Common.{Decides, subst}
 use Rattle.air_field.specs.Ring.{CommRing}
 use Rattle.air_field.specs.Term.{Term}
 use Rattle.air_field.specs.Algebra.{AlgebraLaws}
@@ -40,6 +40,10 @@ module _ {F EF : Type 0} (r : CommRing F) (eq : F → F → Bool) (coefficients 
     -- where the base pool was lent and has grown, the extension pool has grown
     pub base_lent : (p : ExtNodes F EF) (u : BaseNodes F) → ext_grows p.0 u → Grown ext_grows (ext_reads r eq coefficients) p (u, p.1)
     base_lent p u g = Grown-under r (ext_reads r eq coefficients) ext_grows no_base_nodes (ext_leaf_laws r eq coefficients decides) p.0 u p.1 g
+
+    -- the same of what was lent, which is the base pool
+    pub base_lent_from : (p : ExtNodes F EF) (lent u : BaseNodes F) → lent ≡ p.0 → ext_grows lent u → Grown ext_grows (ext_reads r eq coefficients) p (u, p.1)
+    base_lent_from p lent u e g = base_lent p u (subst (λ (l : BaseNodes F). ext_grows l u) e g)
 
   -- where the extension pool has grown, its base pool has
   pub base_grown : (p q : ExtNodes F EF) → Grown ext_grows (ext_reads r eq coefficients) p q → Grown base_grows base_reads p.0 q.0

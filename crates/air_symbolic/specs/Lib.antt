@@ -12,6 +12,7 @@ pub mod Trees
 pub mod Nodes
 pub mod Pools
 pub mod Folds
+pub mod FoldedLists
 pub mod PoolRefusals
 pub mod Numbers
 pub mod PoolLaws
@@ -20,3 +21,4 @@ pub mod BasePool
 pub mod BaseParts
 pub mod ExtLeaves
 pub mod ExtPool
+pub mod ExtTrees

@@ -8,5 +8,7 @@ pub mod ext_pool;
 pub mod fold;
 pub mod folded;
 pub mod insert;
+pub mod joined;
 pub mod lending;
+pub mod lower;
 pub mod pool;
