@@ -1,3 +1,5 @@
 pub mod RowsAt
 pub mod Reports
 pub mod Recordings
+pub mod FoldLaws
+pub mod WeightLaws
