@@ -4,3 +4,5 @@ pub mod Recordings
 pub mod Least
 pub mod Degrees
 pub mod FailureLists
+pub mod FoldLaws
+pub mod WeightLaws

@@ -8,6 +8,8 @@ pub use Rattle.air_builder.specs.Builders
 pub mod Report
 pub mod Refused
 pub mod Layouts
+pub mod Weights
+pub mod Folds
 pub mod Rows
 pub mod Kinds
 pub mod Recording

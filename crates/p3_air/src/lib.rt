@@ -30,6 +30,7 @@ pub use checks::report::ConstraintReport;
 pub use debug::builder::DebugConstraintBuilder;
 pub use debug::failure::ConstraintFailure;
 pub use layouts::air_layout::AirLayout;
+pub use layouts::constraint_layout::ConstraintLayout;
 pub use symbolic::builder::SymbolicAirBuilder;
 pub use symbolic::degree::{
     constraint_degree_from_poly_degree, get_max_constraint_degree,

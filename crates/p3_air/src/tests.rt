@@ -17,6 +17,8 @@ use air_symbolic::{BaseEntry, SymbolicVariable};
 use std::alloc::Global;
 use std::test::Fail;
 
+mod layouts;
+
 /// Columns x and y: at each row x y is zero, and the next x is zero.
 struct Products {}
 

@@ -1,11 +1,11 @@
 //! Layouts of AIRs.
-ghost use Rattle.std.specs.Prelude.{◌≡◌};
-ghost use Rattle.p3_air.specs.Layouts.{plain_layout};
+ghost use Rattle.std.specs.Prelude.{◌≡◌, OnOk, IfErr};
+ghost use Rattle.p3_air.specs.Layouts.{plain_layout, FitsAir, LayoutRefuses};
 
-use air_builder::BaseAir;
+use air_builder::{AirError, BaseAir};
 
-/// How many entries of each kind a symbolic builder has.
-#[derive(Clone, Copy, Debug, PartialEq, Eq)]
+/// How many entries of each kind a symbolic builder has; by default none.
+#[derive(Clone, Copy, Debug, Default, PartialEq, Eq)]
 pub struct AirLayout {
     pub preprocessed_width: usize,
     pub main_width: usize,
@@ -30,5 +30,27 @@ impl AirLayout {
             num_permutation_values: 0,
             num_periodic_columns: 0,
         }
+    }
+    /// Compares the counts that the AIR determines with the layout's: main width, then public values. The preprocessed
+    /// width is not compared, since the preprocessed trace itself decides it. It takes no memory.
+    pub fn validate_against_air<F, A: BaseAir<F>>(&self, air: &A) -> Result<(), AirError>
+        ensures fits { OnOk result (FitsAir self.now (A.width air.now) (A.num_public_values air.now)) }
+        ensures refused { IfErr result (LayoutRefuses self.now (A.width air.now) (A.num_public_values air.now)) }
+    {
+        let width = air.width();
+        if self.main_width != width {
+            return Err(AirError::LayoutMainWidth {
+                layout: self.main_width,
+                air: width,
+            });
+        }
+        let public = air.num_public_values();
+        if self.num_public_values != public {
+            return Err(AirError::LayoutPublicValues {
+                layout: self.num_public_values,
+                air: public,
+            });
+        }
+        Ok(())
     }
 }

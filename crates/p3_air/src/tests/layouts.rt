@@ -1,0 +1,186 @@
+//! Layouts of AIRs and of constraints.
+ghost use Rattle.std.specs.Prelude.{◌≡◌, []};
+ghost use Rattle.p3_air.specs.Layouts.{plain_layout};
+
+use crate::{AirLayout, ConstraintLayout};
+use air_builder::{AirError, BaseAir};
+use air_field::{BabyBear, BinomialExtensionField, ExtensionField, Field};
+use std::alloc::Global;
+use std::test::Fail;
+
+/// Two columns and three public values, without constraints.
+struct Counts {}
+
+impl<F> BaseAir<F> for Counts {
+    ghost declared = { λ _. [] };
+
+    ghost width = { λ _. 2 };
+
+    ghost num_public_values = { λ _. 3 };
+
+    fn width(&self) -> usize {
+        2
+    }
+
+    fn num_public_values(&self) -> usize {
+        3
+    }
+}
+
+fn default_layout() -> AirLayout
+    ensures { result ≡ plain_layout 0 0 }
+{
+    AirLayout::default()
+}
+
+#[test]
+fn the_default_layout_is_zeros(rt: HostRuntime) -> Result<(), Fail> {
+    assert_eq!(rt;
+        default_layout(),
+        AirLayout {
+            preprocessed_width: 0,
+            main_width: 0,
+            num_public_values: 0,
+            permutation_width: 0,
+            num_permutation_challenges: 0,
+            num_permutation_values: 0,
+            num_periodic_columns: 0,
+        }
+    );
+    Ok(())
+}
+
+fn validated(layout: AirLayout) -> Option<AirError> {
+    layout
+        .validate_against_air::<BabyBear, Counts>(&Counts {})
+        .err()
+}
+
+#[test]
+fn names_the_first_count_that_differs(rt: HostRuntime) -> Result<(), Fail> {
+    let layout = AirLayout::from_air::<BabyBear, Counts>(&Counts {});
+    assert_eq!(rt; validated(layout), None);
+    let preprocessed = AirLayout {
+        preprocessed_width: 9,
+        ..layout
+    };
+    assert_eq!(rt; validated(preprocessed), None);
+    let public = AirLayout {
+        num_public_values: 2,
+        ..layout
+    };
+    assert_eq!(rt;
+        validated(public),
+        Some(AirError::LayoutPublicValues { layout: 2, air: 3 })
+    );
+    let width = AirLayout {
+        main_width: 3,
+        ..public
+    };
+    assert_eq!(rt;
+        validated(width),
+        Some(AirError::LayoutMainWidth { layout: 3, air: 2 })
+    );
+    Ok(())
+}
+
+fn constraints(alloc: Global, base: &[usize], ext: &[usize]) -> Result<ConstraintLayout, Fail> {
+    Ok(ConstraintLayout {
+        base_indices: base.to_vec(alloc)?,
+        ext_indices: ext.to_vec(alloc)?,
+    })
+}
+
+fn numbers(alloc: Global, values: &[u32]) -> Result<Vec<BabyBear>, Fail> {
+    let mut all = Vec::new(alloc);
+    for value in values {
+        all.push(BabyBear::new(*value))?;
+    }
+    Ok(all)
+}
+
+/// The sum of weight times value.
+fn weighted(weights: &[BabyBear], values: &[BabyBear]) -> BabyBear {
+    let mut sum = BabyBear::ZERO;
+    for (weight, value) in weights.iter().zip(values) {
+        sum = Field::add(sum, Field::mul(*weight, *value));
+    }
+    sum
+}
+
+#[test]
+fn recombines_by_descending_powers(rt: HostRuntime) -> Result<(), Fail> {
+    let layout = constraints(rt.alloc(), &[0, 2], &[1])?;
+    assert_eq!(rt; layout.total_constraints(), 3);
+    let text = format!(in rt.alloc(); "{layout:?}")?;
+    assert_eq!(rt;
+        text.as_str(),
+        "ConstraintLayout { base_indices: [0, 2], ext_indices: [1] }"
+    );
+    let alpha = BabyBear::new(5);
+    let (coordinates, powers) = layout.decompose_alpha::<BabyBear, BabyBear>(rt.alloc(), alpha)?;
+    assert_eq!(rt; coordinates.len(), 1);
+    let expected = numbers(rt.alloc(), &[25, 1])?;
+    assert_eq!(rt; coordinates[0].as_slice(), expected.as_slice());
+    let expected = numbers(rt.alloc(), &[5])?;
+    assert_eq!(rt; powers.as_slice(), expected.as_slice());
+    let mut fold = BabyBear::ZERO;
+    for value in [1, 2, 3] {
+        fold = Field::add(Field::mul(fold, alpha), BabyBear::new(value));
+    }
+    assert_eq!(rt; fold, BabyBear::new(38));
+    let base = numbers(rt.alloc(), &[1, 3])?;
+    let ext = numbers(rt.alloc(), &[2])?;
+    let recombined = Field::add(weighted(&coordinates[0], &base), weighted(&powers, &ext));
+    assert_eq!(rt; recombined, BabyBear::new(38));
+    Ok(())
+}
+
+#[test]
+fn names_the_first_index_past_the_total(rt: HostRuntime) -> Result<(), Fail> {
+    let cases: [(&[usize], &[usize], usize); 3] = [
+        (&[0, 3], &[1], 3),
+        (&[0, 4], &[7], 4),
+        (&[0, 1], &[9], 9),
+    ];
+    for (base, ext, index) in cases {
+        let layout = constraints(rt.alloc(), base, ext)?;
+        let refused = layout.decompose_alpha::<BabyBear, BabyBear>(rt.alloc(), BabyBear::new(5));
+        assert_eq!(rt;
+            refused.err(),
+            Some(AirError::IndexPastTotal { index, total: 3 })
+        );
+    }
+    Ok(())
+}
+
+#[test]
+fn gives_coordinates_of_an_extension(rt: HostRuntime) -> Result<(), Fail> {
+    let x = numbers(rt.alloc(), &[0, 1, 0, 0])?;
+    assert_eq!(rt; x.len(), 4);
+    let alpha = BinomialExtensionField::from_basis_coefficients(&x);
+    let layout = constraints(rt.alloc(), &[0], &[1])?;
+    let (coordinates, powers) = layout.decompose_alpha::<BabyBear, BinomialExtensionField>(
+        rt.alloc(),
+        alpha,
+    )?;
+    assert_eq!(rt; coordinates.len(), 4);
+    for (list, expected) in coordinates.iter().zip(x) {
+        assert_eq!(rt; list.as_slice(), [expected].as_slice());
+    }
+    assert_eq!(rt;
+        powers.as_slice(),
+        [BinomialExtensionField::one()].as_slice()
+    );
+    let none = constraints(rt.alloc(), &[], &[])?;
+    let (coordinates, powers) = none.decompose_alpha::<BabyBear, BinomialExtensionField>(
+        rt.alloc(),
+        alpha,
+    )?;
+    assert_eq!(rt; coordinates.len(), 4);
+    for list in &coordinates {
+        assert!(rt; list.is_empty());
+    }
+    assert!(rt; powers.is_empty());
+    Ok(())
+}
