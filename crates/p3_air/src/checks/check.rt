@@ -9,7 +9,7 @@ ghost use Rattle.p3_air.specs.Checks.{CheckRefuses, CheckedRow, IsReport};
 use crate::checks::report::ConstraintReport;
 use crate::debug::builder::DebugConstraintBuilder;
 use crate::debug::failure::ConstraintFailure;
-use air_builder::{Air, AirError};
+use air_builder::{Air, AirError, RowWindow};
 use air_field::{Field, FieldRing, RowMajorMatrix, RowMajorMatrixView, ViewPair};
 use std::alloc::Global;
 
@@ -69,11 +69,10 @@ fn check_row<'a, F: Field, A: Air<DebugConstraintBuilder<'a, F>>>(
     ensures refused { IfErr result (CheckRefuses (plain_trace main.now public_values.now) (A.declared air.now)) }
 {
     let height = main.height();
-    let none = RowMajorMatrixView::new_row(&[]);
     let mut builder = DebugConstraintBuilder {
         row_index: row,
         main: row_pair(main, row),
-        preprocessed: ViewPair::new(none, none),
+        preprocessed: RowWindow::from_two_rows(&[], &[]),
         public_values,
         is_first_row: selector(row == 0),
         is_last_row: selector(row + 1 == height),

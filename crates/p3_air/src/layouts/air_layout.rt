@@ -18,7 +18,7 @@ pub struct AirLayout {
 
 impl AirLayout {
     /// The layout that the AIR says it has; the three permutation counts are 0.
-    pub fn from_air<F, A: BaseAir<F>>(air: &A) -> Self
+    pub fn from_air<F: Copy, A: BaseAir<F>>(air: &A) -> Self
         ensures { result ≡ plain_layout (A.width air.now) (A.num_public_values air.now) }
     {
         AirLayout {
@@ -33,7 +33,7 @@ impl AirLayout {
     }
     /// Compares the counts that the AIR determines with the layout's: main width, then public values. The preprocessed
     /// width is not compared, since the preprocessed trace itself decides it. It takes no memory.
-    pub fn validate_against_air<F, A: BaseAir<F>>(&self, air: &A) -> Result<(), AirError>
+    pub fn validate_against_air<F: Copy, A: BaseAir<F>>(&self, air: &A) -> Result<(), AirError>
         ensures fits { OnOk result (FitsAir self.now (A.width air.now) (A.num_public_values air.now)) }
         ensures refused { IfErr result (LayoutRefuses self.now (A.width air.now) (A.num_public_values air.now)) }
     {

@@ -15,7 +15,7 @@ use crate::layouts::air_layout::AirLayout;
 use crate::symbolic::builder::SymbolicAirBuilder;
 use crate::symbolic::record::{Recorded, get_all_symbolic_constraints};
 use air_builder::{Air, AirError};
-use air_field::{ExtensionField, Field, RingError};
+use air_field::{ExtensionField, Field, RingError, SelfExtension};
 use air_symbolic::{ExprId, ExprPool, SymLeaf};
 use std::alloc::Global;
 
@@ -125,7 +125,7 @@ pub fn get_max_constraint_degree_extension<
 
 /// The same with the base field as its own extension.
 pub fn get_max_constraint_degree<
-    F: Field + ExtensionField<F>,
+    F: SelfExtension,
     A: Air<SymbolicAirBuilder<F, F>>,
 >(
     alloc: Global,

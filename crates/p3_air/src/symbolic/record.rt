@@ -11,7 +11,7 @@ ghost use Rattle.p3_air.specs.Recorded.{RecordsBase, RecordsExt, RecordRefuses};
 use crate::layouts::air_layout::AirLayout;
 use crate::symbolic::builder::SymbolicAirBuilder;
 use air_builder::{Air, AirError};
-use air_field::{ExtensionField, Field};
+use air_field::{ExtensionField, Field, SelfExtension};
 use air_symbolic::{BaseLeaf, ExprId, ExprPool, ExtLeaf};
 use std::alloc::Global;
 
@@ -67,7 +67,7 @@ pub fn get_all_symbolic_constraints<
 
 /// Records the base constraints of an AIR, as [`get_all_symbolic_constraints`] does; `ext` is left empty.
 pub fn get_symbolic_constraints<
-    F: Field + ExtensionField<F>,
+    F: SelfExtension,
     A: Air<SymbolicAirBuilder<F, F>>,
 >(
     alloc: Global,
