@@ -30,9 +30,13 @@ abbrev pub is_extension : ConstraintKind → Bool
 is_extension kind.Base = false
 is_extension kind.Extension = true
 
--- the places, counted from 0 on, at which the kind is one of those
+-- the places, counted from n on, at which the kind is one of those
+abbrev pub places_from : (ConstraintKind → Bool) → ℕ → List ConstraintKind → List ℕ
+places_from is n ks = map (λ p. p.0) (filter (λ p. is p.1) (enumerate_from n ks))
+
+-- the same, counted from 0 on
 abbrev pub places_where : (ConstraintKind → Bool) → List ConstraintKind → List ℕ
-places_where is ks = map (λ p. p.0) (filter (λ p. is p.1) (enumerate_from 0 ks))
+places_where is ks = places_from is 0 ks
 
 -- the kinds of the declared list, at each place its own
 abbrev pub RecordsKinds : {F : Type 0} → List ConstraintKind → List (Assertion F) → Type 0

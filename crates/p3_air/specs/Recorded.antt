@@ -10,7 +10,7 @@ use Rattle.air_symbolic.specs.Pools.{IsPool, PoolMeans, term_at}
 use Rattle.air_symbolic.specs.declared.pools.expr.SymbolicExpr.{SymbolicExpr}
 use Rattle.air_builder.specs.Assertion.{Assertion}
 use Rattle.air_builder.specs.declared.errors.AirError.{AirError}
-use Rattle.p3_air.specs.Kinds.{kind_of, base_terms, ext_terms, places_where, is_base, is_extension}
+use Rattle.p3_air.specs.Kinds.{base_terms, ext_terms}
 use Rattle.p3_air.specs.Recording.{EachMeans, IsOver}
 use Rattle.p3_air.specs.Refused.{Refused}
 
@@ -45,11 +45,6 @@ pub record RecordsExt {U A F E : Type 0} (r : CommRing F) (over : Over F E) (rea
   pub well_formed : IsPool reads pool
   pub means : EachMeans (PoolMeans reads r pool) numbers (ext_terms ts)
   pub terms : EachRecords over (terms_of reads pool numbers) (ext_terms ts)
-
--- the places of the declared list at which base terms, and at which extension terms stand
-pub record IsLayout {F : Type 0} (base ext : List ℕ) (ts : List (Assertion F)) : Type 0 where
-  pub base_places : base ≡ places_where is_base (map kind_of ts)
-  pub ext_places : ext ≡ places_where is_extension (map kind_of ts)
 
 -- A recording refuses for want of memory, a declared term that names a missing entry, or one whose degree passes `usize`.
 abbrev pub RecordRefuses : {F : Type 0} → Shape → List (Assertion F) → AirError → Type 0

@@ -37,7 +37,7 @@ pub use symbolic::degree::{
     get_max_constraint_degree_extension,
 };
 pub use symbolic::record::{
-    Recorded, get_all_symbolic_constraints, get_symbolic_constraints,
+    Recorded, get_all_symbolic_constraints, get_constraint_layout, get_symbolic_constraints,
     get_symbolic_constraints_extension,
 };
 

@@ -1,9 +1,11 @@
 //! The symbolic builder: what is asserted becomes expressions of a pool.
 ghost use Rattle.std.specs.Prelude.{◌≡◌, [], IfOk, IfErr};
 ghost use Rattle.p3_air.specs.RecordedLists.{no_lists, lists_of};
+ghost use Rattle.p3_air.specs.Folds.{ArePlacesOf};
 ghost use Rattle.p3_air.specs.SymbolicParts.{SelectorsAreLeaves};
 
 use crate::layouts::air_layout::AirLayout;
+use crate::layouts::constraint_layout::ConstraintLayout;
 use crate::symbolic::constraints::Constraints;
 use crate::symbolic::row::{Entries, ExtEntries, entries_of, ext_entries_of};
 use crate::symbolic::selectors::{Selectors, make_selectors};
@@ -58,5 +60,13 @@ impl<F: Field, EF: ExtensionField<F>> SymbolicAirBuilder<F, EF> {
         ensures { result.now ≡ self.now.constraints.ext.items }
     {
         self.constraints.ext.as_slice()
+    }
+
+    /// Where the base and the extension constraints recorded so far stand among all of them.
+    pub fn constraint_layout(&self) -> Result<ConstraintLayout, AirError>
+        ensures places { IfOk result (λ l. ArePlacesOf self.now.constraints.kinds.items l.base_indices.items l.ext_indices.items) }
+        ensures refused { IfErr result (λ e. e ≡ AirError.Memory) }
+    {
+        self.constraints.layout(self.alloc)
     }
 }

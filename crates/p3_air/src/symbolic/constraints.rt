@@ -1,8 +1,10 @@
 //! What a symbolic builder has recorded.
-ghost use Rattle.std.specs.Prelude.{◌≡◌, [], OnOk, OnErr, IfErr};
+ghost use Rattle.std.specs.Prelude.{◌≡◌, [], IfOk, OnOk, OnErr, IfErr};
+ghost use Rattle.p3_air.specs.Folds.{ArePlacesOf};
 ghost use Rattle.p3_air.specs.Recording.{with_base, with_ext};
 ghost use Rattle.p3_air.specs.RecordedLists.{lists_of};
 
+use crate::layouts::constraint_layout::ConstraintLayout;
 use crate::symbolic::kind::ConstraintKind;
 use air_builder::AirError;
 use air_field::{ExtensionField, Field};
@@ -61,5 +63,27 @@ impl<F: Field, EF: ExtensionField<F>> Constraints<F, EF> {
             return Err(AirError::Memory);
         }
         Ok(())
+    }
+
+    /// The places of each kind.
+    pub(crate) fn layout(&self, alloc: Global) -> Result<ConstraintLayout, AirError>
+        ensures places { IfOk result (λ l. ArePlacesOf self.now.kinds.items l.base_indices.items l.ext_indices.items) }
+        ensures refused { IfErr result (λ e. e ≡ AirError.Memory) }
+    {
+        let mut base_indices = Vec::new(alloc);
+        let mut ext_indices = Vec::new(alloc);
+        for (place, kind) in self.kinds.iter().enumerate() {
+            let pushed = match kind {
+                ConstraintKind::Base => base_indices.push(place),
+                ConstraintKind::Extension => ext_indices.push(place),
+            };
+            if pushed.is_err() {
+                return Err(AirError::Memory);
+            }
+        }
+        Ok(ConstraintLayout {
+            base_indices,
+            ext_indices,
+        })
     }
 }

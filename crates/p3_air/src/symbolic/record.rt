@@ -1,14 +1,16 @@
 //! The constraints of an AIR as expressions.
-ghost use Rattle.std.specs.Prelude.{◌≡◌, [], IfOk, IfErr, OnOk};
+ghost use Rattle.std.specs.Prelude.{◌≡◌, [], map, IfOk, IfErr, OnOk};
 ghost use Rattle.air_field.specs.Assignment.{IsMissing};
 ghost use Rattle.air_builder.specs.Refusals.{NoneMissing};
 ghost use Rattle.air_symbolic.specs.BaseLeaves.{base_reads};
 ghost use Rattle.air_symbolic.specs.ExtLeaves.{ext_reads};
 ghost use Rattle.p3_air.specs.Layouts.{layout_shape};
-ghost use Rattle.p3_air.specs.Kinds.{RecordsKinds};
+ghost use Rattle.p3_air.specs.Folds.{ArePlacesOf};
+ghost use Rattle.p3_air.specs.Kinds.{kind_of, RecordsKinds};
 ghost use Rattle.p3_air.specs.Recorded.{RecordsBase, RecordsExt, RecordRefuses};
 
 use crate::layouts::air_layout::AirLayout;
+use crate::layouts::constraint_layout::ConstraintLayout;
 use crate::symbolic::builder::SymbolicAirBuilder;
 use air_builder::{Air, AirError};
 use air_field::{ExtensionField, Field, SelfExtension};
@@ -108,4 +110,22 @@ pub fn get_symbolic_constraints_extension<
         base: Vec::new(alloc),
         ext: builder.constraints.ext,
     })
+}
+
+/// Where the base and the extension constraints of an AIR stand among all of them.
+pub fn get_constraint_layout<
+    F: Field,
+    EF: ExtensionField<F>,
+    A: Air<SymbolicAirBuilder<F, EF>>,
+>(
+    alloc: Global,
+    air: &A,
+    layout: AirLayout,
+) -> Result<ConstraintLayout, AirError>
+    ensures places { IfOk result (λ l. ArePlacesOf (map kind_of (A.declared air.now)) l.base_indices.items l.ext_indices.items) }
+    ensures there { OnOk result (NoneMissing (IsMissing (layout_shape layout)) (A.declared air.now)) }
+    ensures refused { IfErr result (RecordRefuses (layout_shape layout) (A.declared air.now)) }
+{
+    let builder: SymbolicAirBuilder<F, EF> = record(alloc, air, layout)?;
+    builder.constraint_layout()
 }
