@@ -1,3 +1,5 @@
+pub mod Powers
 pub mod RowsAt
 pub mod Reports
+pub mod CellsListed
 pub mod Recordings
