@@ -1,5 +1,7 @@
+pub mod Powers
 pub mod RowsAt
 pub mod Reports
+pub mod CellsListed
 pub mod Recordings
 pub mod Least
 pub mod Degrees

@@ -38,8 +38,8 @@ impl<'a, F: Field> DebugConstraintBuilder<'a, F> {
     ) -> Self
         ensures row_index { result.row_index ≡ row_index }
         ensures main { result.main ≡ main.entry }
-        ensures preprocessed { result.preprocessed.current.now ≡ preprocessed.top.values.now }
-        ensures preprocessed_next { result.preprocessed.next.now ≡ preprocessed.bottom.values.now }
+        ensures preprocessed { result.preprocessed.current.now ≡ preprocessed.entry.top.values.now }
+        ensures preprocessed_next { result.preprocessed.next.now ≡ preprocessed.entry.bottom.values.now }
         ensures public_values { result.public_values.now ≡ public_values.now }
         ensures is_first_row { result.is_first_row ≡ is_first_row }
         ensures is_last_row { result.is_last_row ≡ is_last_row }
