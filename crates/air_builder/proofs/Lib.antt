@@ -1,3 +1,5 @@
 pub mod Growth
 pub mod EachGrowth
 pub mod LabelGrowth
+pub mod GridRows
+pub mod PeriodicRows

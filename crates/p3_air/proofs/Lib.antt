@@ -1,5 +1,7 @@
+pub mod Powers
 pub mod RowsAt
 pub mod Reports
+pub mod CellsListed
 pub mod Recordings
 pub mod Tabulations
 pub mod SumLaws

@@ -2,6 +2,7 @@
 ghost use Rattle.std.specs.Prelude.{◌≡◌, ◌≢◌, ◌↔◌, IsTrue, []};
 
 use crate::debug::failure::ConstraintFailure;
+use air_builder::RowWindow;
 use air_field::{Field, FieldRing, ViewPair};
 use std::alloc::Global;
 
@@ -10,7 +11,7 @@ use std::alloc::Global;
 pub struct DebugConstraintBuilder<'a, F: Field> {
     pub(crate) row_index: usize,
     pub(crate) main: ViewPair<'a, F>,
-    pub(crate) preprocessed: ViewPair<'a, F>,
+    pub(crate) preprocessed: RowWindow<'a, F>,
     pub(crate) public_values: &'a [F],
     pub(crate) is_first_row: F,
     pub(crate) is_last_row: F,
@@ -36,7 +37,8 @@ impl<'a, F: Field> DebugConstraintBuilder<'a, F> {
     ) -> Self
         ensures row_index { result.row_index ≡ row_index }
         ensures main { result.main ≡ main.entry }
-        ensures preprocessed { result.preprocessed ≡ preprocessed.entry }
+        ensures preprocessed { result.preprocessed.current.now ≡ preprocessed.entry.top.values.now }
+        ensures preprocessed_next { result.preprocessed.next.now ≡ preprocessed.entry.bottom.values.now }
         ensures public_values { result.public_values.now ≡ public_values.now }
         ensures is_first_row { result.is_first_row ≡ is_first_row }
         ensures is_last_row { result.is_last_row ≡ is_last_row }
@@ -48,7 +50,10 @@ impl<'a, F: Field> DebugConstraintBuilder<'a, F> {
         DebugConstraintBuilder {
             row_index,
             main,
-            preprocessed,
+            preprocessed: RowWindow::from_two_rows(
+                preprocessed.top.values,
+                preprocessed.bottom.values,
+            ),
             public_values,
             is_first_row,
             is_last_row,

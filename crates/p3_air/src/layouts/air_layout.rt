@@ -1,6 +1,7 @@
 //! Layouts of AIRs.
-ghost use Rattle.std.specs.Prelude.{◌≡◌, OnOk, IfErr};
-ghost use Rattle.p3_air.specs.Layouts.{plain_layout, FitsAir, LayoutRefuses};
+ghost use Rattle.std.specs.Prelude.{◌≡◌, length, OnOk, IfErr};
+ghost use Rattle.air_builder.specs.Beside.{table_width};
+ghost use Rattle.p3_air.specs.Layouts.{air_layout, FitsAir, LayoutRefuses};
 
 use air_builder::{AirError, BaseAir};
 
@@ -18,24 +19,25 @@ pub struct AirLayout {
 
 impl AirLayout {
     /// The layout that the AIR says it has; the three permutation counts are 0.
-    pub fn from_air<F, A: BaseAir<F>>(air: &A) -> Self
-        ensures { result ≡ plain_layout (A.width air.now) (A.num_public_values air.now) }
+    pub fn from_air<F: Copy, A: BaseAir<F>>(air: &A) -> Self
+        ensures { result ≡ air_layout (table_width (A.beside air.now).preprocessed) (A.width air.now) (A.num_public_values air.now) (length (A.beside air.now).periodic) }
     {
         AirLayout {
-            preprocessed_width: 0,
+            preprocessed_width: air.preprocessed_width(),
             main_width: air.width(),
             num_public_values: air.num_public_values(),
             permutation_width: 0,
             num_permutation_challenges: 0,
             num_permutation_values: 0,
-            num_periodic_columns: 0,
+            num_periodic_columns: air.num_periodic_columns(),
         }
     }
-    /// Compares the counts that the AIR determines with the layout's: main width, then public values. The preprocessed
-    /// width is not compared, since the preprocessed trace itself decides it. It takes no memory.
-    pub fn validate_against_air<F, A: BaseAir<F>>(&self, air: &A) -> Result<(), AirError>
-        ensures fits { OnOk result (FitsAir self.now (A.width air.now) (A.num_public_values air.now)) }
-        ensures refused { IfErr result (LayoutRefuses self.now (A.width air.now) (A.num_public_values air.now)) }
+
+    /// Compares the counts that the AIR determines with the layout's: main width, then public values, then periodic
+    /// columns. The preprocessed width is not compared, since the preprocessed trace itself decides it. It takes no memory.
+    pub fn validate_against_air<F: Copy, A: BaseAir<F>>(&self, air: &A) -> Result<(), AirError>
+        ensures fits { OnOk result (FitsAir self.now (A.width air.now) (A.num_public_values air.now) (length (A.beside air.now).periodic)) }
+        ensures refused { IfErr result (LayoutRefuses self.now (A.width air.now) (A.num_public_values air.now) (length (A.beside air.now).periodic)) }
     {
         let width = air.width();
         if self.main_width != width {
@@ -49,6 +51,13 @@ impl AirLayout {
             return Err(AirError::LayoutPublicValues {
                 layout: self.num_public_values,
                 air: public,
+            });
+        }
+        let periodic = air.num_periodic_columns();
+        if self.num_periodic_columns != periodic {
+            return Err(AirError::LayoutPeriodicColumns {
+                layout: self.num_periodic_columns,
+                air: periodic,
             });
         }
         Ok(())
