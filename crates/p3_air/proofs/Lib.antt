@@ -6,5 +6,8 @@ pub mod Recordings
 pub mod Least
 pub mod Degrees
 pub mod FailureLists
+pub mod Tabulations
+pub mod SumLaws
+pub mod BasisParts
 pub mod FoldLaws
 pub mod WeightLaws

@@ -1,36 +1,25 @@
 -- Weights by index in a list of powers, and indices below a total.
-use Rattle.std.proofs.Common.{◌≡◌, ℕ, zero, suc, ◌+◌, ◌-◌, ◌<◌, ⊎_elim, true, false, cond, leb, List, [], ◌∷◌, ◌++◌, length, map, get_or, All, Some, None, refl, sym, ap, ap₂, ◌∙◌, subst, arith, length-append}
-use Rattle.std.proofs.lemmas.List.{get_or_at, get_or_append_left, get_or-append-add}
+use Rattle.std.proofs.Common.{◌≡◌, ℕ, zero, suc, ◌+◌, ◌-◌, ◌<◌, true, false, cond, leb, List, [], ◌∷◌, ◌++◌, length, map, get_or, All, Some, None, refl, sym, ap, ap₂, ◌∙◌, subst, arith, length-append}
+use Rattle.std.proofs.lemmas.List.{get_or_append_left, get_or-append-add}
 use borrow.Author.Tests.{leb-false}
 use Rattle.air_field.specs.Ring.{CommRing}
 use Rattle.air_field.specs.Powers.{power, powers_of}
 use Rattle.p3_air.specs.Weights.{weights_of}
 use Rattle.p3_air.specs.Layouts.{first_past}
-use Rattle.p3_air.proofs.FoldLaws.{cases_lt}
+use Rattle.p3_air.proofs.Tabulations.{IsTabulation, length-tabulation, get_or-tabulation}
 
 module _ {E : Type 0} (r : CommRing E) (alpha : E) where
+  tabulated : IsTabulation (powers_of r alpha) (power r alpha)
+  tabulated = record { none = refl; more = λ m. refl }
+
   length-powers : (k : ℕ) → length (powers_of r alpha k) ≡ k
-  length-powers zero = refl
-  length-powers (suc k) =
-      length-append (powers_of r alpha k) (power r alpha k ∷ []) ∙ (ap (λ i. i + 1) (length-powers k) ∙ omega arith)
-
-  get_or-powers : (k j : ℕ) (d : E) → j < k → get_or (powers_of r alpha k) j d ≡ power r alpha j
-  get_or-powers zero j d h = absurd (omega arith)
-  get_or-powers (suc k) j d h = ⊎_elim (λ (l : j < k). earlier l (get_or-powers k j d l)) here (cases_lt j k h)
-    where
-      earlier : j < k → get_or (powers_of r alpha k) j d ≡ power r alpha j → get_or (powers_of r alpha (suc k)) j d ≡ power r alpha j
-      earlier l rest =
-          let lt : j < length (powers_of r alpha k) = omega (arith, length-powers k) in
-          get_or_append_left (powers_of r alpha k) (power r alpha k ∷ []) d j lt ∙ rest
-
-      here : j ≡ k → get_or (powers_of r alpha (suc k)) j d ≡ power r alpha j
-      here e = get_or_at (powers_of r alpha k) (power r alpha k) [] d j (length-powers k ∙ sym e) ∙ ap (power r alpha) (sym e)
+  length-powers = length-tabulation (powers_of r alpha) (power r alpha) tabulated
 
   weights-by_index : (k : ℕ) (d : E) (indices : List ℕ) → All (λ i. i < k) indices → map (λ i. get_or (powers_of r alpha k) (k - 1 - i) d) indices ≡ weights_of r alpha k indices
   weights-by_index k d [] h = refl
   weights-by_index k d (i ∷ indices) h =
       let lt : i < k = h 0 0 (omega arith) in
-      ap₂ (λ x l. x ∷ l) (get_or-powers k (k - 1 - i) d (omega arith)) (weights-by_index k d indices (λ j e b. h (suc j) e (omega arith)))
+      ap₂ (λ x l. x ∷ l) (get_or-tabulation (powers_of r alpha) (power r alpha) tabulated k (k - 1 - i) d (omega arith)) (weights-by_index k d indices (λ j e b. h (suc j) e (omega arith)))
 
   -- where the powers below the k-th are given, indices below k are below their number
   pub below-powers : (k : ℕ) (given powers : List E) (indices below : List ℕ) → given ≡ powers → powers ≡ powers_of r alpha k → indices ≡ below → All (λ i. i < k) below → All (λ i. i < length given) indices

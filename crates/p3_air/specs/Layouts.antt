@@ -3,7 +3,7 @@ use Rattle.std.specs.Prelude.{◌≡◌, ◌≢◌, ℕ, ◌+◌, ◌<◌, ◌�
 use Rattle.std.specs.List.{find}
 use Rattle.air_field.specs.Assignment.{Shape}
 use Rattle.air_builder.specs.declared.errors.AirError.{AirError}
-use Rattle.air_builder.specs.declared.errors.AirError.TheVariants.{Memory, CountOverflow, LayoutMainWidth, LayoutPublicValues, IndexPastTotal}
+use Rattle.air_builder.specs.declared.errors.AirError.TheVariants.{Memory, CountOverflow, LayoutMainWidth, LayoutPublicValues, LayoutPeriodicColumns, IndexPastTotal}
 use Rattle.p3_air.specs.declared.layouts.air_layout.AirLayout.{AirLayout}
 use Rattle.p3_air.specs.declared.layouts.constraint_layout.ConstraintLayout.{ConstraintLayout}
 
@@ -31,17 +31,24 @@ air_layout preprocessed width public periodic = record {
   num_periodic_columns = periodic;
 }
 
+-- a main trace of this width and so many public values, and nothing else
+abbrev pub plain_layout : ℕ → ℕ → AirLayout
+plain_layout width public = air_layout 0 width public 0
+
 -- the layout's counts are those that an AIR has
-pub record FitsAir (l : AirLayout) (width public : ℕ) : Type 0 where
+pub record FitsAir (l : AirLayout) (width public periodic : ℕ) : Type 0 where
   pub width_is : l.main_width ≡ width
   pub public_is : l.num_public_values ≡ public
+  pub periodic_is : l.num_periodic_columns ≡ periodic
 
 -- the first count, in this order, that isn't the AIR's
-abbrev pub LayoutRefuses : AirLayout → ℕ → ℕ → AirError → Type 0
-LayoutRefuses l width public (LayoutMainWidth layout air) = (layout ≡ l.main_width) × (air ≡ width) × (layout ≢ air)
-LayoutRefuses l width public (LayoutPublicValues layout air) =
+abbrev pub LayoutRefuses : AirLayout → ℕ → ℕ → ℕ → AirError → Type 0
+LayoutRefuses l width public periodic (LayoutMainWidth layout air) = (layout ≡ l.main_width) × (air ≡ width) × (layout ≢ air)
+LayoutRefuses l width public periodic (LayoutPublicValues layout air) =
     (l.main_width ≡ width) × (layout ≡ l.num_public_values) × (air ≡ public) × (layout ≢ air)
-LayoutRefuses l width public _ = ⊥
+LayoutRefuses l width public periodic (LayoutPeriodicColumns layout air) =
+    (l.main_width ≡ width) × (l.num_public_values ≡ public) × (layout ≡ l.num_periodic_columns) × (air ≡ periodic) × (layout ≢ air)
+LayoutRefuses l width public periodic _ = ⊥
 
 -- how many constraints there are
 abbrev pub constraint_count : ConstraintLayout → ℕ
@@ -68,6 +75,3 @@ DecompositionRefuses l CountOverflow = 2 ^ 64 ≤ constraint_count l
 DecompositionRefuses l (IndexPastTotal index total) =
     (total ≡ constraint_count l) × (first_past (constraint_count l) (constraint_indices l) ≡ Some index)
 DecompositionRefuses l _ = ⊥
--- a main trace of this width and so many public values, and nothing else
-abbrev pub plain_layout : ℕ → ℕ → AirLayout
-plain_layout width public = air_layout 0 width public 0

@@ -33,11 +33,11 @@ impl AirLayout {
         }
     }
 
-    /// Compares the counts that the AIR determines with the layout's: main width, then public values. The preprocessed
-    /// width is not compared, since the preprocessed trace itself decides it. It takes no memory.
+    /// Compares the counts that the AIR determines with the layout's: main width, then public values, then periodic
+    /// columns. The preprocessed width is not compared, since the preprocessed trace itself decides it. It takes no memory.
     pub fn validate_against_air<F: Copy, A: BaseAir<F>>(&self, air: &A) -> Result<(), AirError>
-        ensures fits { OnOk result (FitsAir self.now (A.width air.now) (A.num_public_values air.now)) }
-        ensures refused { IfErr result (LayoutRefuses self.now (A.width air.now) (A.num_public_values air.now)) }
+        ensures fits { OnOk result (FitsAir self.now (A.width air.now) (A.num_public_values air.now) (length (A.beside air.now).periodic)) }
+        ensures refused { IfErr result (LayoutRefuses self.now (A.width air.now) (A.num_public_values air.now) (length (A.beside air.now).periodic)) }
     {
         let width = air.width();
         if self.main_width != width {
@@ -51,6 +51,13 @@ impl AirLayout {
             return Err(AirError::LayoutPublicValues {
                 layout: self.num_public_values,
                 air: public,
+            });
+        }
+        let periodic = air.num_periodic_columns();
+        if self.num_periodic_columns != periodic {
+            return Err(AirError::LayoutPeriodicColumns {
+                layout: self.num_periodic_columns,
+                air: periodic,
             });
         }
         Ok(())

@@ -1,22 +1,25 @@
 //! Layouts of AIRs and of constraints.
 ghost use Rattle.std.specs.Prelude.{◌≡◌, []};
-ghost use Rattle.p3_air.specs.Layouts.{plain_layout};
+ghost use Rattle.air_builder.specs.Beside.{nothing_beside};
+ghost use Rattle.p3_air.specs.Layouts.{air_layout};
 
 use crate::{AirLayout, ConstraintLayout};
-use air_builder::{AirError, BaseAir};
-use air_field::{BabyBear, BinomialExtensionField, ExtensionField, Field};
+use air_builder::{AirError, BaseAir, BoundaryPublic};
+use air_field::{BabyBear, BinomialExtensionField, ExtensionField, Field, RowMajorMatrix};
 use std::alloc::Global;
 use std::test::Fail;
 
 /// Two columns and three public values, without constraints.
 struct Counts {}
 
-impl<F> BaseAir<F> for Counts {
+impl<F: Copy> BaseAir<F> for Counts {
     ghost declared = { λ _. [] };
 
     ghost width = { λ _. 2 };
 
     ghost num_public_values = { λ _. 3 };
+
+    ghost beside = { λ _. nothing_beside };
 
     fn width(&self) -> usize {
         2
@@ -25,10 +28,22 @@ impl<F> BaseAir<F> for Counts {
     fn num_public_values(&self) -> usize {
         3
     }
+
+    fn preprocessed_trace(&self) -> Option<&RowMajorMatrix<F>> {
+        None
+    }
+
+    fn periodic_columns(&self) -> &[Vec<F>] {
+        &[]
+    }
+
+    fn public_boundary_io(&self) -> &[BoundaryPublic] {
+        &[]
+    }
 }
 
 fn default_layout() -> AirLayout
-    ensures { result ≡ plain_layout 0 0 }
+    ensures { result ≡ air_layout 0 0 0 0 }
 {
     AirLayout::default()
 }
@@ -65,22 +80,24 @@ fn names_the_first_count_that_differs(rt: HostRuntime) -> Result<(), Fail> {
         ..layout
     };
     assert_eq!(rt; validated(preprocessed), None);
-    let public = AirLayout {
-        num_public_values: 2,
-        ..layout
-    };
-    assert_eq!(rt;
-        validated(public),
-        Some(AirError::LayoutPublicValues { layout: 2, air: 3 })
-    );
-    let width = AirLayout {
-        main_width: 3,
-        ..public
-    };
-    assert_eq!(rt;
-        validated(width),
-        Some(AirError::LayoutMainWidth { layout: 3, air: 2 })
-    );
+    let width = AirError::LayoutMainWidth { layout: 3, air: 2 };
+    let public = AirError::LayoutPublicValues { layout: 2, air: 3 };
+    let periodic = AirError::LayoutPeriodicColumns { layout: 1, air: 0 };
+    for (main_width, num_public_values, num_periodic_columns, error) in [
+        (3, 3, 0, width),
+        (3, 2, 1, width),
+        (2, 2, 0, public),
+        (2, 2, 1, public),
+        (2, 3, 1, periodic),
+    ] {
+        let other = AirLayout {
+            main_width,
+            num_public_values,
+            num_periodic_columns,
+            ..layout
+        };
+        assert_eq!(rt; validated(other), Some(error));
+    }
     Ok(())
 }
 
