@@ -3,12 +3,14 @@ use Rattle.std.specs.Prelude.{Result, Ok, Err, ◌≡◌, ◌⊎◌, ℕ, ◌≤
 use Rattle.air_field.specs.Ring.{CommRing, Over, itself}
 use Rattle.air_field.specs.Term.{Term}
 use Rattle.air_field.specs.Degree.{cached_weight, trace_weight, greatest_degree, inferred_degree}
-use Rattle.air_field.specs.Assignment.{Shape, IsMissing}
+use Rattle.air_field.specs.Assignment.{IsMissing}
 use Rattle.air_field.specs.declared.errors.RingError.{RingError}
 use Rattle.air_field.specs.declared.errors.RingError.TheVariants.{Memory, DegreeOverflow}
 use Rattle.air_builder.specs.Assertion.{Assertion}
 use Rattle.air_builder.specs.declared.errors.AirError.{AirError}
 use Rattle.p3_air.specs.Kinds.{base_terms, ext_terms}
+use Rattle.p3_air.specs.Layouts.{layout_shape, FitsAir, LayoutRefuses}
+use Rattle.p3_air.specs.declared.layouts.air_layout.AirLayout.{AirLayout}
 use Rattle.p3_air.specs.Recording.{IsOver}
 use Rattle.p3_air.specs.Recorded.{EachRecords}
 use Rattle.p3_air.specs.Refused.{Refused}
@@ -35,5 +37,7 @@ AnswersInferred n periods us (Err Memory) = ⊥
 AnswersInferred n periods us (Err DegreeOverflow) = 2 ^ 64 ≤ greatest_degree (trace_weight n periods) us
 
 -- It refuses what a recording refuses, and a declared term whose degree over n rows passes `usize`.
-abbrev pub DegreeRefuses : {F : Type 0} → ℕ → List ℕ → Shape → List (Assertion F) → AirError → Type 0
-DegreeRefuses n periods shape ts e = Refused (IsMissing shape) (λ t. IsOver cached_weight t ⊎ IsOver (trace_weight n periods) t) (λ _. ⊥) e ts
+abbrev pub DegreeRefuses : {F : Type 0} → ℕ → List ℕ → AirLayout → ℕ → ℕ → List (Assertion F) → AirError → Type 0
+DegreeRefuses n periods layout width public ts e =
+    LayoutRefuses layout width public (length periods) e
+    ⊎ (FitsAir layout width public (length periods) × Refused (IsMissing (layout_shape layout)) (λ t. IsOver cached_weight t ⊎ IsOver (trace_weight n periods) t) (λ _. ⊥) e ts)

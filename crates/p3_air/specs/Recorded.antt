@@ -1,16 +1,18 @@
 -- What a recording answers and refuses.
-use Rattle.std.specs.Prelude.{◌≡◌, ℕ, ◌≤◌, List, [], ◌∷◌, map}
+use Rattle.std.specs.Prelude.{◌⊎◌, ℕ, ◌≤◌, List, [], ◌∷◌, map}
 use Rattle.air_field.specs.Ring.{CommRing, Over, itself}
 use Rattle.air_field.specs.Term.{Leaf, Term}
 use Rattle.air_field.specs.Polynomial.{polynomial, SamePolynomial}
 use Rattle.air_field.specs.Degree.{degree_by, cached_weight}
-use Rattle.air_field.specs.Assignment.{Shape, IsMissing}
+use Rattle.air_field.specs.Assignment.{IsMissing}
 use Rattle.air_symbolic.specs.Leaves.{Leaves}
 use Rattle.air_symbolic.specs.Pools.{IsPool, PoolMeans, term_at}
 use Rattle.air_symbolic.specs.declared.pools.expr.SymbolicExpr.{SymbolicExpr}
 use Rattle.air_builder.specs.Assertion.{Assertion}
 use Rattle.air_builder.specs.declared.errors.AirError.{AirError}
 use Rattle.p3_air.specs.Kinds.{base_terms, ext_terms}
+use Rattle.p3_air.specs.Layouts.{layout_shape, FitsAir, LayoutRefuses}
+use Rattle.p3_air.specs.declared.layouts.air_layout.AirLayout.{AirLayout}
 use Rattle.p3_air.specs.Recording.{EachMeans, IsOver}
 use Rattle.p3_air.specs.Refused.{Refused}
 
@@ -46,6 +48,9 @@ pub record RecordsExt {U A F E : Type 0} (r : CommRing F) (over : Over F E) (rea
   pub means : EachMeans (PoolMeans reads r pool) numbers (ext_terms ts)
   pub terms : EachRecords over (terms_of reads pool numbers) (ext_terms ts)
 
--- A recording refuses for want of memory, a declared term that names a missing entry, or one whose degree passes `usize`.
-abbrev pub RecordRefuses : {F : Type 0} → Shape → List (Assertion F) → AirError → Type 0
-RecordRefuses shape ts e = Refused (IsMissing shape) (IsOver cached_weight) (λ _. ⊥) e ts
+-- A recording refuses the first count of the layout that isn't the AIR's; then want of memory, a declared term that names a
+-- missing entry, or one whose degree passes `usize`.
+abbrev pub RecordRefuses : {F : Type 0} → AirLayout → ℕ → ℕ → ℕ → List (Assertion F) → AirError → Type 0
+RecordRefuses layout width public periodic ts e =
+    LayoutRefuses layout width public periodic e
+    ⊎ (FitsAir layout width public periodic × Refused (IsMissing (layout_shape layout)) (IsOver cached_weight) (λ _. ⊥) e ts)

@@ -7,7 +7,7 @@ ghost use Rattle.air_symbolic.specs.BaseLeaves.{base_reads};
 ghost use Rattle.air_symbolic.specs.ExtLeaves.{ext_reads};
 ghost use Rattle.air_symbolic.specs.Pools.{IsPool};
 ghost use Rattle.air_symbolic.specs.PoolRefusals.{AnswersDegree};
-ghost use Rattle.p3_air.specs.Layouts.{layout_shape};
+ghost use Rattle.p3_air.specs.Layouts.{layout_shape, FitsAir};
 ghost use Rattle.p3_air.specs.Recorded.{terms_of};
 ghost use Rattle.p3_air.specs.Inferred.{periods_of, IsInferred, AnswersInferred, DegreeRefuses};
 
@@ -114,8 +114,9 @@ pub fn get_max_constraint_degree_extension<
     trace_len: usize,
 ) -> Result<usize, AirError>
     ensures inferred { IfOk result (IsInferred F.ring EF.over trace_len (periods_of (A.beside air.now).periodic) (A.declared air.now)) }
+    ensures fits { OnOk result (FitsAir layout (A.width air.now) (A.num_public_values air.now) (length (A.beside air.now).periodic)) }
     ensures there { OnOk result (NoneMissing (IsMissing (layout_shape layout)) (A.declared air.now)) }
-    ensures refused { IfErr result (DegreeRefuses trace_len (periods_of (A.beside air.now).periodic) (layout_shape layout) (A.declared air.now)) }
+    ensures refused { IfErr result (DegreeRefuses trace_len (periods_of (A.beside air.now).periodic) layout (A.width air.now) (A.num_public_values air.now) (A.declared air.now)) }
 {
     let recorded = get_all_symbolic_constraints(alloc, air, layout)?;
     let periods = lengths_of(alloc, air.periodic_columns())?;
@@ -134,8 +135,9 @@ pub fn get_max_constraint_degree<
     trace_len: usize,
 ) -> Result<usize, AirError>
     ensures inferred { IfOk result (IsInferred F.ring F.over trace_len (periods_of (A.beside air.now).periodic) (A.declared air.now)) }
+    ensures fits { OnOk result (FitsAir layout (A.width air.now) (A.num_public_values air.now) (length (A.beside air.now).periodic)) }
     ensures there { OnOk result (NoneMissing (IsMissing (layout_shape layout)) (A.declared air.now)) }
-    ensures refused { IfErr result (DegreeRefuses trace_len (periods_of (A.beside air.now).periodic) (layout_shape layout) (A.declared air.now)) }
+    ensures refused { IfErr result (DegreeRefuses trace_len (periods_of (A.beside air.now).periodic) layout (A.width air.now) (A.num_public_values air.now) (A.declared air.now)) }
 {
     get_max_constraint_degree_extension(alloc, air, layout, trace_len)
 }

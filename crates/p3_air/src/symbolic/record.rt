@@ -1,10 +1,10 @@
 //! The constraints of an AIR as expressions.
-ghost use Rattle.std.specs.Prelude.{◌≡◌, [], map, IfOk, IfErr, OnOk};
+ghost use Rattle.std.specs.Prelude.{◌≡◌, [], length, map, IfOk, IfErr, OnOk};
 ghost use Rattle.air_field.specs.Assignment.{IsMissing};
 ghost use Rattle.air_builder.specs.Refusals.{NoneMissing};
 ghost use Rattle.air_symbolic.specs.BaseLeaves.{base_reads};
 ghost use Rattle.air_symbolic.specs.ExtLeaves.{ext_reads};
-ghost use Rattle.p3_air.specs.Layouts.{layout_shape};
+ghost use Rattle.p3_air.specs.Layouts.{layout_shape, FitsAir};
 ghost use Rattle.p3_air.specs.Folds.{ArePlacesOf};
 ghost use Rattle.p3_air.specs.Kinds.{kind_of, RecordsKinds};
 ghost use Rattle.p3_air.specs.Recorded.{RecordsBase, RecordsExt, RecordRefuses};
@@ -26,7 +26,7 @@ pub struct Recorded<F: Field, EF: ExtensionField<F>> {
     pub ext: Vec<ExprId<ExtLeaf<F, EF>>>,
 }
 
-/// Has an AIR assert its constraints on a symbolic builder of this layout.
+/// Has an AIR assert its constraints on a symbolic builder of this layout, which is compared with the AIR first.
 pub(crate) fn record<F: Field, EF: ExtensionField<F>, A: Air<SymbolicAirBuilder<F, EF>>>(
     alloc: Global,
     air: &A,
@@ -35,9 +35,11 @@ pub(crate) fn record<F: Field, EF: ExtensionField<F>, A: Air<SymbolicAirBuilder<
     ensures base { IfOk result (λ b. RecordsBase F.ring EF.over base_reads b.pool.0 b.constraints.base.items (A.declared air.now)) }
     ensures ext { IfOk result (λ b. RecordsExt F.ring EF.over (ext_reads F.ring F.eq EF.coefficients) b.pool b.constraints.ext.items (A.declared air.now)) }
     ensures kinds { IfOk result (λ b. RecordsKinds b.constraints.kinds.items (A.declared air.now)) }
+    ensures fits { OnOk result (FitsAir layout (A.width air.now) (A.num_public_values air.now) (length (A.beside air.now).periodic)) }
     ensures there { OnOk result (NoneMissing (IsMissing (layout_shape layout)) (A.declared air.now)) }
-    ensures refused { IfErr result (RecordRefuses (layout_shape layout) (A.declared air.now)) }
+    ensures refused { IfErr result (RecordRefuses layout (A.width air.now) (A.num_public_values air.now) (length (A.beside air.now).periodic) (A.declared air.now)) }
 {
+    layout.validate_against_air(air)?;
     let mut builder = SymbolicAirBuilder::new(alloc, layout)?;
     air.eval(&mut builder)?;
     Ok(builder)
@@ -56,8 +58,9 @@ pub fn get_all_symbolic_constraints<
 ) -> Result<Recorded<F, EF>, AirError>
     ensures base { IfOk result (λ r. RecordsBase F.ring EF.over base_reads r.pool.0 r.base.items (A.declared air.now)) }
     ensures ext { IfOk result (λ r. RecordsExt F.ring EF.over (ext_reads F.ring F.eq EF.coefficients) r.pool r.ext.items (A.declared air.now)) }
+    ensures fits { OnOk result (FitsAir layout (A.width air.now) (A.num_public_values air.now) (length (A.beside air.now).periodic)) }
     ensures there { OnOk result (NoneMissing (IsMissing (layout_shape layout)) (A.declared air.now)) }
-    ensures refused { IfErr result (RecordRefuses (layout_shape layout) (A.declared air.now)) }
+    ensures refused { IfErr result (RecordRefuses layout (A.width air.now) (A.num_public_values air.now) (length (A.beside air.now).periodic) (A.declared air.now)) }
 {
     let builder = record(alloc, air, layout)?;
     Ok(Recorded {
@@ -78,8 +81,9 @@ pub fn get_symbolic_constraints<
 ) -> Result<Recorded<F, F>, AirError>
     ensures base { IfOk result (λ r. RecordsBase F.ring F.over base_reads r.pool.0 r.base.items (A.declared air.now)) }
     ensures ext { IfOk result (λ r. r.ext.items ≡ []) }
+    ensures fits { OnOk result (FitsAir layout (A.width air.now) (A.num_public_values air.now) (length (A.beside air.now).periodic)) }
     ensures there { OnOk result (NoneMissing (IsMissing (layout_shape layout)) (A.declared air.now)) }
-    ensures refused { IfErr result (RecordRefuses (layout_shape layout) (A.declared air.now)) }
+    ensures refused { IfErr result (RecordRefuses layout (A.width air.now) (A.num_public_values air.now) (length (A.beside air.now).periodic) (A.declared air.now)) }
 {
     let builder = record(alloc, air, layout)?;
     Ok(Recorded {
@@ -101,8 +105,9 @@ pub fn get_symbolic_constraints_extension<
 ) -> Result<Recorded<F, EF>, AirError>
     ensures base { IfOk result (λ r. r.base.items ≡ []) }
     ensures ext { IfOk result (λ r. RecordsExt F.ring EF.over (ext_reads F.ring F.eq EF.coefficients) r.pool r.ext.items (A.declared air.now)) }
+    ensures fits { OnOk result (FitsAir layout (A.width air.now) (A.num_public_values air.now) (length (A.beside air.now).periodic)) }
     ensures there { OnOk result (NoneMissing (IsMissing (layout_shape layout)) (A.declared air.now)) }
-    ensures refused { IfErr result (RecordRefuses (layout_shape layout) (A.declared air.now)) }
+    ensures refused { IfErr result (RecordRefuses layout (A.width air.now) (A.num_public_values air.now) (length (A.beside air.now).periodic) (A.declared air.now)) }
 {
     let builder = record(alloc, air, layout)?;
     Ok(Recorded {
@@ -123,8 +128,9 @@ pub fn get_constraint_layout<
     layout: AirLayout,
 ) -> Result<ConstraintLayout, AirError>
     ensures places { IfOk result (λ l. ArePlacesOf (map kind_of (A.declared air.now)) l.base_indices.items l.ext_indices.items) }
+    ensures fits { OnOk result (FitsAir layout (A.width air.now) (A.num_public_values air.now) (length (A.beside air.now).periodic)) }
     ensures there { OnOk result (NoneMissing (IsMissing (layout_shape layout)) (A.declared air.now)) }
-    ensures refused { IfErr result (RecordRefuses (layout_shape layout) (A.declared air.now)) }
+    ensures refused { IfErr result (RecordRefuses layout (A.width air.now) (A.num_public_values air.now) (length (A.beside air.now).periodic) (A.declared air.now)) }
 {
     let builder: SymbolicAirBuilder<F, EF> = record(alloc, air, layout)?;
     builder.constraint_layout()
