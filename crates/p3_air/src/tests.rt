@@ -3,6 +3,7 @@ ghost use Rattle.std.specs.Prelude.{◌≡◌, ◌∷◌, [], IfOk, IfErr, Some,
 ghost use Rattle.air_field.specs.Term.{Term, main, leaf_term, mul_term};
 ghost use Rattle.air_builder.specs.Assertion.{Base};
 
+mod extension;
 mod labels;
 
 use crate::{

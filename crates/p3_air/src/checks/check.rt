@@ -10,7 +10,9 @@ use crate::checks::report::ConstraintReport;
 use crate::debug::builder::DebugConstraintBuilder;
 use crate::debug::failure::ConstraintFailure;
 use air_builder::{Air, AirError};
-use air_field::{Field, FieldRing, RowMajorMatrix, RowMajorMatrixView, ViewPair};
+use air_field::{
+    ExtFieldRing, Field, FieldRing, RowMajorMatrix, RowMajorMatrixView, SelfExtension, ViewPair,
+};
 use std::alloc::Global;
 
 /// One where it holds, else zero.
@@ -55,7 +57,7 @@ struct RowOutcome {
 }
 
 /// Evaluates an AIR on one row, and adds what is not zero to the failures.
-fn check_row<'a, F: Field, A: Air<DebugConstraintBuilder<'a, F>>>(
+fn check_row<'a, F: SelfExtension, A: Air<DebugConstraintBuilder<'a, F, F>>>(
     alloc: Global,
     air: &A,
     main: &'a RowMajorMatrix<F>,
@@ -79,7 +81,11 @@ fn check_row<'a, F: Field, A: Air<DebugConstraintBuilder<'a, F>>>(
         is_last_row: selector(row + 1 == height),
         is_transition: selector(row + 1 != height),
         periodic_row: Vec::new(alloc),
+        permutation: None,
+        permutation_challenges: &[],
+        permutation_values: &[],
         ring: FieldRing::new(),
+        ext_ring: ExtFieldRing::new(),
         constraint_index: 0,
         failures,
     };
@@ -107,7 +113,7 @@ fn is_reached(cap: Option<usize>, failures: usize) -> bool
 ///
 /// It refuses an entry that a constraint names and the trace has not, and a count past `usize`. The trace's width
 /// is not compared with that of the AIR.
-pub fn check_all_constraints<'a, F: Field, A: Air<DebugConstraintBuilder<'a, F>>>(
+pub fn check_all_constraints<'a, F: SelfExtension, A: Air<DebugConstraintBuilder<'a, F, F>>>(
     alloc: Global,
     air: &'a A,
     main: &'a RowMajorMatrix<F>,

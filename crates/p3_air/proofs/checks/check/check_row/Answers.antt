@@ -1,6 +1,7 @@
 use Rattle.std.proofs.Common.{map, ap, ◌∙◌, rules}
 use Rattle.air_field.specs.Assignment.{leaf_value}
 use Rattle.p3_air.specs.Debug.{nonzero_from}
+use Rattle.p3_air.proofs.OwnExtension.{own_nonzero}
 use Rattle.p3_air.proofs.RowsAt.{row_at-plain}
 use Rattle.p3_air.proofs.checks.check.check_row.Goals as goal
 
@@ -14,6 +15,8 @@ returns-clause-checked g c =
     record {
       more = grew.more;
       failures = ap (λ v. v.items) c.into_failures.ensures ∙ grew.failures;
-      places = grew.places ∙ ap (λ v. map (λ k. (c.args.row, k)) (nonzero_from r eq (leaf_value r.nil v) 0 ts)) same;
+      places = grew.places
+          ∙ (ap (map (λ k. (c.args.row, k))) (own_nonzero r eq g.F.ExtensionField.over g.met.F.SelfExtension.over_itself c.args.row _ 0 ts)
+          ∙ ap (λ v. map (λ k. (c.args.row, k)) (nonzero_from r eq (leaf_value r.nil v) 0 ts)) same);
       constraints = grew.count ∙ search rules;
     }
