@@ -5,6 +5,8 @@ pub use Rattle.air_field.specs.Grid
 pub use Rattle.air_symbolic.specs.Entries
 pub use Rattle.air_symbolic.specs.ExtEntries
 pub mod Boundary
+pub mod Periodic
+pub mod Beside
 pub mod Texts
 pub mod Errors
 pub mod WindowShapes

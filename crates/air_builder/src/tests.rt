@@ -1,4 +1,5 @@
 //! Worked rows, printed texts, and each generic call at a concrete type.
+mod airs;
 mod boundary;
 mod builders;
 mod errors;

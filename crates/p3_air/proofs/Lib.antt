@@ -1,7 +1,9 @@
 pub mod OwnExtension
 pub mod ExtensionAirs
 pub mod ExtensionRows
+pub mod Powers
 pub mod RowsAt
 pub mod Reports
+pub mod CellsListed
 pub mod Recordings
 pub mod FailureLists

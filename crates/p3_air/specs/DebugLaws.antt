@@ -15,7 +15,7 @@ use Rattle.p3_air.specs.Report.{failure_place}
 use Rattle.p3_air.specs.Debug.{RowData, nonzero_by, GrewAtRow}
 use Rattle.p3_air.specs.declared.debug.failure.ConstraintFailure.{ConstraintFailure}
 
-enumerate_from-append : {X : Type 0} (n : ℕ) (xs ys : List X) → enumerate_from n (xs ++ ys) ≡ enumerate_from n xs ++ enumerate_from (n + length xs) ys
+pub enumerate_from-append : {X : Type 0} (n : ℕ) (xs ys : List X) → enumerate_from n (xs ++ ys) ≡ enumerate_from n xs ++ enumerate_from (n + length xs) ys
 enumerate_from-append n [] ys = ap (λ m. enumerate_from m ys) (omega arith)
 enumerate_from-append n (x ∷ xs) ys =
     let e : (n + 1) + length xs ≡ n + length (x ∷ xs) = omega arith in

@@ -15,14 +15,18 @@ layout_shape l = record {
   permutation_values = l.num_permutation_values;
 }
 
--- a main trace of this width and so many public values, and nothing else
-abbrev pub plain_layout : ℕ → ℕ → AirLayout
-plain_layout width public = record {
-  preprocessed_width = 0;
+-- a preprocessed and a main trace of these widths, so many public values and periodic columns, and no permutation data
+abbrev pub air_layout : ℕ → ℕ → ℕ → ℕ → AirLayout
+air_layout preprocessed width public periodic = record {
+  preprocessed_width = preprocessed;
   main_width = width;
   num_public_values = public;
   permutation_width = 0;
   num_permutation_challenges = 0;
   num_permutation_values = 0;
-  num_periodic_columns = 0;
+  num_periodic_columns = periodic;
 }
+
+-- a main trace of this width and so many public values, and nothing else
+abbrev pub plain_layout : ℕ → ℕ → AirLayout
+plain_layout width public = air_layout 0 width public 0

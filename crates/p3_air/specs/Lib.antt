@@ -7,6 +7,9 @@ pub use Rattle.air_field.specs.OneRow
 pub use Rattle.air_builder.specs.Assertion
 pub use Rattle.air_builder.specs.Builders
 pub mod Report
+pub mod Given
+pub mod Shapes
+pub mod Cells
 pub mod Refused
 pub mod Layouts
 pub mod Rows

@@ -27,6 +27,7 @@ pub use air_symbolic::{
     SymbolicVariable,
 };
 pub use checks::check::check_all_constraints;
+pub use checks::check_first::{CheckError, check_constraints};
 pub use checks::report::ConstraintReport;
 pub use debug::builder::DebugConstraintBuilder;
 pub use debug::failure::ConstraintFailure;

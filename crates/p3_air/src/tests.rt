@@ -2,6 +2,7 @@
 ghost use Rattle.std.specs.Prelude.{◌≡◌, ◌∷◌, [], IfOk, IfErr, Some, None};
 ghost use Rattle.air_field.specs.Term.{Term, main, leaf_term, mul_term};
 ghost use Rattle.air_builder.specs.Assertion.{Base};
+ghost use Rattle.air_builder.specs.Beside.{nothing_beside};
 
 mod extension;
 mod labels;
@@ -10,7 +11,7 @@ use crate::{
     AirLayout, DebugConstraintBuilder, SymbolicAirBuilder, check_all_constraints,
     constraint_degree_from_poly_degree, get_max_constraint_degree, get_symbolic_constraints,
 };
-use air_builder::{Air, AirBuilder, AirError, BaseAir, WindowAccess};
+use air_builder::{Air, AirBuilder, AirError, BaseAir, BoundaryPublic, WindowAccess};
 use air_field::{
     BabyBear, Field, FromVar, RingError, RowMajorMatrix, RowMajorMatrixView, ViewPair,
 };
@@ -21,12 +22,14 @@ use std::test::Fail;
 /// Columns x and y: at each row x y is zero, and the next x is zero.
 struct Products {}
 
-impl<F> BaseAir<F> for Products {
+impl<F: Copy> BaseAir<F> for Products {
     ghost declared = { λ _. Base (mul_term (leaf_term (main 0 0)) (leaf_term (main 0 1))) ∷ Base (leaf_term (main 1 0)) ∷ [] };
 
     ghost width = { λ _. 2 };
 
     ghost num_public_values = { λ _. 1 };
+
+    ghost beside = { λ _. nothing_beside };
 
     fn width(&self) -> usize {
         2
@@ -34,6 +37,18 @@ impl<F> BaseAir<F> for Products {
 
     fn num_public_values(&self) -> usize {
         1
+    }
+
+    fn preprocessed_trace(&self) -> Option<&RowMajorMatrix<F>> {
+        None
+    }
+
+    fn periodic_columns(&self) -> &[Vec<F>] {
+        &[]
+    }
+
+    fn public_boundary_io(&self) -> &[BoundaryPublic] {
+        &[]
     }
 }
 

@@ -1,5 +1,5 @@
 //! A builder over the extension that keeps what is asserted: every leaf is one, and there is no trace.
-ghost use Rattle.std.specs.Prelude.{⊤, refl};
+ghost use Rattle.std.specs.Prelude.{◌≡◌, [], ⊤, refl};
 ghost use Rattle.air_field.specs.Modulo.{class};
 ghost use Rattle.air_field.specs.Term.{first_row, last_row, transition, const_term};
 
@@ -22,12 +22,21 @@ pub enum Asserted {
     Extension(BinomialExtensionField),
 }
 
+/// A window without columns.
+#[derive(Drop)]
+struct NoColumns {
+    window: TwoRows<BabyBear>,
+    ghost current: { window.current.items ≡ [] },
+    ghost next: { window.next.items ≡ [] },
+}
+
 /// The values in order, and the labels of those that weren't zero.
 #[derive(Drop)]
 pub struct ExtensionLog {
     alloc: Global,
     ring: FieldRing<BabyBear>,
     ext_ring: ExtFieldRing<BabyBear, BinomialExtensionField>,
+    no_columns: NoColumns,
     pub asserted: Vec<Asserted>,
     pub labels: Vec<String>,
 }
@@ -38,6 +47,9 @@ impl ExtensionLog {
             alloc,
             ring: FieldRing::new(),
             ext_ring: ExtFieldRing::new(),
+            no_columns: NoColumns {
+                window: TwoRows::new(Vec::new(alloc), Vec::new(alloc)),
+            },
             asserted: Vec::new(alloc),
             labels: Vec::new(alloc),
         }
@@ -63,6 +75,10 @@ impl AirBuilder for ExtensionLog {
     type Var = BabyBear;
 
     type PublicVar = BabyBear;
+
+    type PeriodicVar = BabyBear;
+
+    type PreprocessedWindow = TwoRows<BabyBear>;
 
     type MainWindow = TwoRows<BabyBear>;
 
@@ -115,7 +131,15 @@ impl AirBuilder for ExtensionLog {
         Ok(TwoRows::new(Vec::new(self.alloc), Vec::new(self.alloc)))
     }
 
+    fn preprocessed(&self) -> &TwoRows<BabyBear> {
+        &self.no_columns.window
+    }
+
     fn public_values(&self) -> &[BabyBear] {
+        &[]
+    }
+
+    fn periodic_values(&self) -> &[BabyBear] {
         &[]
     }
 

@@ -3,7 +3,7 @@ ghost use Rattle.std.specs.Prelude.{◌≡◌, ◌≢◌, ◌↔◌, IsTrue, [],
 ghost use Rattle.p3_air.specs.FailureTexts.{failures_text};
 
 use crate::debug::failure::{ConstraintFailure, failures_text};
-use air_builder::AirError;
+use air_builder::{AirError, RowWindow};
 use air_field::{ExtFieldRing, ExtensionField, Field, FieldRing, ViewPair};
 use std::alloc::Global;
 
@@ -13,7 +13,7 @@ use std::alloc::Global;
 pub struct DebugConstraintBuilder<'a, F: Field, EF: ExtensionField<F>> {
     pub(crate) row_index: usize,
     pub(crate) main: ViewPair<'a, F>,
-    pub(crate) preprocessed: ViewPair<'a, F>,
+    pub(crate) preprocessed: RowWindow<'a, F>,
     pub(crate) public_values: &'a [F],
     pub(crate) is_first_row: F,
     pub(crate) is_last_row: F,
@@ -44,7 +44,8 @@ impl<'a, F: Field + ExtensionField<F>> DebugConstraintBuilder<'a, F, F> {
     ) -> Self
         ensures row_index { result.row_index ≡ row_index }
         ensures main { result.main ≡ main.entry }
-        ensures preprocessed { result.preprocessed ≡ preprocessed.entry }
+        ensures preprocessed { result.preprocessed.current.now ≡ preprocessed.entry.top.values.now }
+        ensures preprocessed_next { result.preprocessed.next.now ≡ preprocessed.entry.bottom.values.now }
         ensures public_values { result.public_values.now ≡ public_values.now }
         ensures is_first_row { result.is_first_row ≡ is_first_row }
         ensures is_last_row { result.is_last_row ≡ is_last_row }
@@ -90,7 +91,8 @@ impl<'a, F: Field, EF: ExtensionField<F>> DebugConstraintBuilder<'a, F, EF> {
     ) -> Self
         ensures row_index { result.row_index ≡ row_index }
         ensures main { result.main ≡ main.entry }
-        ensures preprocessed { result.preprocessed ≡ preprocessed.entry }
+        ensures preprocessed { result.preprocessed.current.now ≡ preprocessed.entry.top.values.now }
+        ensures preprocessed_next { result.preprocessed.next.now ≡ preprocessed.entry.bottom.values.now }
         ensures public_values { result.public_values.now ≡ public_values.now }
         ensures is_first_row { result.is_first_row ≡ on_first_row }
         ensures is_last_row { result.is_last_row ≡ on_last_row }
@@ -105,7 +107,10 @@ impl<'a, F: Field, EF: ExtensionField<F>> DebugConstraintBuilder<'a, F, EF> {
         DebugConstraintBuilder {
             row_index,
             main,
-            preprocessed,
+            preprocessed: RowWindow::from_two_rows(
+                preprocessed.top.values,
+                preprocessed.bottom.values,
+            ),
             public_values,
             is_first_row: on_first_row,
             is_last_row: on_last_row,
@@ -139,7 +144,8 @@ impl<'a, F: Field, EF: ExtensionField<F>> DebugConstraintBuilder<'a, F, EF> {
     ) -> Self
         ensures row_index { result.row_index ≡ row_index }
         ensures main { result.main ≡ main.entry }
-        ensures preprocessed { result.preprocessed ≡ preprocessed.entry }
+        ensures preprocessed { result.preprocessed.current.now ≡ preprocessed.entry.top.values.now }
+        ensures preprocessed_next { result.preprocessed.next.now ≡ preprocessed.entry.bottom.values.now }
         ensures public_values { result.public_values.now ≡ public_values.now }
         ensures is_first_row { result.is_first_row ≡ is_first_row }
         ensures is_last_row { result.is_last_row ≡ is_last_row }

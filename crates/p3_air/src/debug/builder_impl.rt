@@ -20,6 +20,10 @@ impl<'a, F: Field, EF: ExtensionField<F>> AirBuilder for DebugConstraintBuilder<
 
     type PublicVar = F;
 
+    type PeriodicVar = F;
+
+    type PreprocessedWindow = RowWindow<'a, F>;
+
     type MainWindow = RowWindow<'a, F>;
 
     type Ring = FieldRing<F>;
@@ -50,8 +54,16 @@ impl<'a, F: Field, EF: ExtensionField<F>> AirBuilder for DebugConstraintBuilder<
         Ok(RowWindow::from_two_rows(self.main.top.values, self.main.bottom.values))
     }
 
+    fn preprocessed(&self) -> &RowWindow<'a, F> {
+        &self.preprocessed
+    }
+
     fn public_values(&self) -> &[F] {
         self.public_values
+    }
+
+    fn periodic_values(&self) -> &[F] {
+        self.periodic_row.as_slice()
     }
 
     fn is_first_row(&mut self) -> Result<F, AirError> {

@@ -3,10 +3,10 @@ ghost use Rattle.std.specs.Prelude.{◌≡◌, [], IfOk, IfErr};
 ghost use Rattle.p3_air.specs.SymbolicParts.{SelectorsAreLeaves};
 
 use crate::layouts::air_layout::AirLayout;
-use crate::symbolic::row::{Entries, row_of};
+use crate::symbolic::row::{Entries, entries_of};
 use air_builder::{AirBuilder, AirError};
 use air_field::Field;
-use air_symbolic::{BaseEntry, BaseLeaf, ExprId, ExprPool};
+use air_symbolic::{BaseLeaf, ExprId, ExprPool};
 use std::alloc::Global;
 
 /// Records what is asserted as expressions of its pool, in order.
@@ -34,13 +34,10 @@ impl<F: Field> SymbolicAirBuilder<F> {
         let first_row = pool.leaf_expr(BaseLeaf::IsFirstRow)?;
         let last_row = pool.leaf_expr(BaseLeaf::IsLastRow)?;
         let transition = pool.leaf_expr(BaseLeaf::IsTransition)?;
-        let public_values = row_of(alloc, BaseEntry::Public, layout.num_public_values)?;
+        let entries = entries_of(alloc, layout)?;
         Ok(SymbolicAirBuilder {
             alloc,
-            entries: Entries {
-                layout,
-                public_values,
-            },
+            entries,
             pool,
             first_row,
             last_row,

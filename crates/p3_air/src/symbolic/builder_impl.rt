@@ -26,6 +26,10 @@ impl<F: Field> AirBuilder for SymbolicAirBuilder<F> {
 
     type PublicVar = SymbolicVariable<F>;
 
+    type PeriodicVar = SymbolicVariable<F>;
+
+    type PreprocessedWindow = TwoRows<SymbolicVariable<F>>;
+
     type MainWindow = TwoRows<SymbolicVariable<F>>;
 
     type Ring = ExprPool<BaseLeaf<F>>;
@@ -59,8 +63,16 @@ impl<F: Field> AirBuilder for SymbolicAirBuilder<F> {
         Ok(TwoRows::new(current, next))
     }
 
+    fn preprocessed(&self) -> &TwoRows<SymbolicVariable<F>> {
+        &self.entries.preprocessed
+    }
+
     fn public_values(&self) -> &[SymbolicVariable<F>] {
         self.entries.public_values.as_slice()
+    }
+
+    fn periodic_values(&self) -> &[SymbolicVariable<F>] {
+        self.entries.periodic_columns.as_slice()
     }
 
     fn is_first_row(&mut self) -> Result<ExprId<BaseLeaf<F>>, AirError> {

@@ -1,12 +1,13 @@
 //! One row with permutation data, and AIRs with constraints over the extension.
 ghost use Rattle.std.specs.Prelude.{◌≡◌, IfOk, IfErr, OnOk, Some, None};
 ghost use Rattle.air_field.specs.Term.{permutation, challenge, permutation_value, Term, sub_term, mul_term};
+ghost use Rattle.air_builder.specs.Beside.{nothing_beside};
 ghost use Rattle.air_builder.specs.Refusals.{NoneMissing};
 ghost use Rattle.p3_air.specs.TestAirs.{permuted, column, mixed};
 
 use crate::tests::present;
 use crate::{
-    Air, AirBuilder, AirError, BaseAir, DebugConstraintBuilder, ExtEntry, ExtensionBuilder,
+    Air, AirBuilder, AirError, BaseAir, BoundaryPublic, DebugConstraintBuilder, ExtEntry, ExtensionBuilder,
     NamedExtensionBuilder, PermutationAirBuilder, WindowAccess, check_all_constraints,
 };
 use air_field::{
@@ -21,12 +22,14 @@ use std::test::Fail;
 /// Over the extension: permutation 0 times challenge 0 is permutation value 0.
 struct Permuted {}
 
-impl<F> BaseAir<F> for Permuted {
+impl<F: Copy> BaseAir<F> for Permuted {
     ghost declared = { λ _. permuted };
 
     ghost width = { λ _. 0 };
 
     ghost num_public_values = { λ _. 0 };
+
+    ghost beside = { λ _. nothing_beside };
 
     fn width(&self) -> usize {
         0
@@ -35,17 +38,31 @@ impl<F> BaseAir<F> for Permuted {
     fn num_public_values(&self) -> usize {
         0
     }
+
+    fn preprocessed_trace(&self) -> Option<&RowMajorMatrix<F>> {
+        None
+    }
+
+    fn periodic_columns(&self) -> &[Vec<F>] {
+        &[]
+    }
+
+    fn public_boundary_io(&self) -> &[BoundaryPublic] {
+        &[]
+    }
 }
 
 /// Column 0 is zero; then the constraint of `Permuted`; then column 1 is zero.
 struct Mixed {}
 
-impl<F> BaseAir<F> for Mixed {
+impl<F: Copy> BaseAir<F> for Mixed {
     ghost declared = { λ _. mixed };
 
     ghost width = { λ _. 2 };
 
     ghost num_public_values = { λ _. 0 };
+
+    ghost beside = { λ _. nothing_beside };
 
     fn width(&self) -> usize {
         2
@@ -53,6 +70,18 @@ impl<F> BaseAir<F> for Mixed {
 
     fn num_public_values(&self) -> usize {
         0
+    }
+
+    fn preprocessed_trace(&self) -> Option<&RowMajorMatrix<F>> {
+        None
+    }
+
+    fn periodic_columns(&self) -> &[Vec<F>] {
+        &[]
+    }
+
+    fn public_boundary_io(&self) -> &[BoundaryPublic] {
+        &[]
     }
 }
 

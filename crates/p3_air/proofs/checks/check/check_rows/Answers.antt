@@ -1,16 +1,17 @@
-use Rattle.std.proofs.Common.{rules, ◌≡◌, ◌++◌, length, map, ap, sym, subst, ◌∙◌}
-use Rattle.std.proofs.lemmas.List.{map-append, length-map}
+use Rattle.std.proofs.Common.{rules, ◌≡◌, length, map, ap, sym, subst, ◌∙◌}
+use Rattle.std.proofs.lemmas.List.{length-map}
 use borrow.Author.Count.{below_more}
-use Rattle.p3_air.specs.Report.{failure_place, report_of, plain_trace, IsReached}
-use Rattle.p3_air.proofs.Reports.{report_of-more, count_shown-more}
-use Rattle.p3_air.proofs.checks.check.check_all_constraints.Goals as goal
+use Rattle.p3_air.specs.Given.{given, given_trace}
+use Rattle.p3_air.specs.Report.{failure_place, report_of, IsReached}
+use Rattle.p3_air.proofs.Reports.{checked_more, count_shown-more}
+use Rattle.p3_air.proofs.checks.check.check_rows.Goals as goal
 
 pub rows-preserved : goal.rows-preserved
 rows-preserved g c =
     let r = g.F.Field.ring in
     let eq = g.F.PartialEq.eq in
     let ts = g.A.BaseAir.declared c.args.air.now in
-    let trace = plain_trace c.args.main.now c.args.public_values.now in
+    let trace = given_trace (given ts (g.A.BaseAir.beside c.args.air.now) c.args.main.now c.args.public_values.now) in
     let row = c.rows.row in
     let cap = c.args.max_failures in
     let inv = c.rows.invariant in
@@ -19,11 +20,7 @@ rows-preserved g c =
     let len : length c.rows.failures.items ≡ length (report_of r eq trace ts row) = sym (length-map c.rows.failures.items failure_place) ∙ ap length inv.places in
     let here : IsReached cap (length (report_of r eq trace ts row)) → ⊥ = λ h. open_cap (subst (λ n. IsReached cap n) (sym len) h) in
     record {
-      places = ap (map failure_place) checked.failures
-          ∙ (map-append failure_place c.rows.failures.items checked.more
-          ∙ (ap (λ l. l ++ map failure_place checked.more) inv.places
-          ∙ (ap (λ l. report_of r eq trace ts row ++ l) checked.places
-          ∙ sym (report_of-more r eq trace ts row))));
+      places = checked_more r eq trace ts row _ _ _ checked inv.places;
       count = checked.constraints ∙ count_shown-more ts row;
       least = below_more (λ k. IsReached cap (length (report_of r eq trace ts k)) → ⊥) row inv.least here;
       there = λ h. c.in_ok-outcome.ensures.there;
