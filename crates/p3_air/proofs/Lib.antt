@@ -1,3 +1,6 @@
+pub mod OwnExtension
+pub mod ExtensionAirs
+pub mod ExtensionRows
 pub mod Powers
 pub mod RowsAt
 pub mod Reports

@@ -3,6 +3,7 @@ pub use Rattle.air_field.specs.Term
 pub use Rattle.air_field.specs.Value
 pub use Rattle.air_field.specs.Algebra
 pub use Rattle.air_field.specs.Assignment
+pub use Rattle.air_field.specs.OneRow
 pub use Rattle.air_builder.specs.Assertion
 pub use Rattle.air_builder.specs.Builders
 pub mod Report
@@ -23,8 +24,10 @@ pub mod Recorded
 pub mod Inferred
 pub mod Debug
 pub mod DebugLaws
+pub mod DebugValues
 pub mod DebugRow
 pub mod FailureTexts
 pub mod DebugLabels
 pub mod DebugLabelLaws
 pub mod Checks
+pub mod TestAirs

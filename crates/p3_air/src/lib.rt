@@ -11,18 +11,19 @@ pub mod layouts;
 pub mod symbolic;
 
 pub use air_builder::{
-    Air, AirBuilder, AirBuilderWithContext, AirError, AssertAll, AssertAllNamed, BaseAir,
-    BoundaryEnd, BoundaryIoError, BoundaryPublic, Element, EvaluatedJoined, FilteredAirBuilder,
-    Joined, Lazy, Name, NamedAirBuilder, Namespace, NamespaceExt, PassthroughNamedAirBuilder,
-    RowWindow, TwoRows, WindowAccess, boundary,
+    Air, AirBuilder, AirBuilderWithContext, AirError, AssertAll, AssertAllExt, AssertAllNamed,
+    BaseAir, BoundaryEnd, BoundaryIoError, BoundaryPublic, Element, EvaluatedJoined,
+    ExtensionBuilder, FilteredAirBuilder, Joined, Lazy, Name, NamedAirBuilder,
+    NamedExtensionBuilder, Namespace, NamespaceExt, PassthroughNamedAirBuilder,
+    PermutationAirBuilder, RowWindow, TwoRows, WindowAccess, boundary,
 };
 pub use air_field::{
     Algebra, BabyBear, BinomialExtensionField, ExtAlgebra, ExtFieldRing, ExtensionField, Field,
     FieldRing, FromVar, MatrixError, PrimeField, RingError, RowMajorMatrix, RowMajorMatrixView,
-    ViewPair,
+    SelfExtension, ViewPair,
 };
 pub use air_symbolic::{
-    BaseEntry, BaseLeaf, ExprId, ExprPool, SymLeaf, SymbolicExpr, SymbolicExpression,
+    BaseEntry, BaseLeaf, ExprId, ExprPool, ExtEntry, SymLeaf, SymbolicExpr, SymbolicExpression,
     SymbolicVariable,
 };
 pub use checks::check::check_all_constraints;

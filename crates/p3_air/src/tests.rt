@@ -4,6 +4,7 @@ ghost use Rattle.air_field.specs.Term.{Term, main, leaf_term, mul_term};
 ghost use Rattle.air_builder.specs.Assertion.{Base};
 ghost use Rattle.air_builder.specs.Beside.{nothing_beside};
 
+mod extension;
 mod labels;
 
 use crate::{

@@ -16,7 +16,7 @@ use std::string::ToString;
 use std::test::Fail;
 
 /// A builder at row 7 of a trace without columns.
-fn row<'a>(alloc: Global) -> DebugConstraintBuilder<'a, BabyBear> {
+fn row<'a>(alloc: Global) -> DebugConstraintBuilder<'a, BabyBear, BabyBear> {
     let none = RowMajorMatrixView::new_row(&[]);
     DebugConstraintBuilder::new(
         alloc,
@@ -37,7 +37,7 @@ fn number(n: u32) -> BabyBear {
 
 fn assert_formatted(
     rt: &impl Abort,
-    builder: &DebugConstraintBuilder<'_, BabyBear>,
+    builder: &DebugConstraintBuilder<'_, BabyBear, BabyBear>,
     wanted: &str,
 ) -> Result<(), Fail> {
     assert_eq!(rt; builder.formatted_failures()?.as_str(), wanted);
@@ -201,7 +201,10 @@ fn copies_are_equal(rt: HostRuntime) -> Result<(), Fail> {
     builder.assert_zero_named(number(5), "b")?;
     for (failure, wanted) in builder.failures().iter().zip(["#0", "#1 \"b\""]) {
         let copy = failure.clone()?;
-        assert_eq!(rt; (copy.row, copy.constraint), (failure.row, failure.constraint));
+        assert_eq!(rt;
+            (copy.row, copy.constraint),
+            (failure.row, failure.constraint)
+        );
         assert_eq!(rt; copy.to_string(alloc)?.as_str(), wanted);
     }
     let report = ConstraintReport {
