@@ -1,7 +1,11 @@
 -- The inferred degree of two lists of terms, worked out of the greatest degrees of each.
-use Rattle.std.proofs.Common.{◌≡◌, ◌≢◌, ℕ, ◌≤◌, ◌^◌, max, List, [], ◌∷◌, ◌++◌, refl, sym, ap, ap₂, ◌∙◌, subst, arith}
+use Rattle.std.proofs.Common.{◌≡◌, ◌≢◌, ℕ, ◌≤◌, ◌^◌, max, List, [], ◌∷◌, ◌++◌, refl, sym, ap, ap₂, ◌∙◌, arith, Err}
 use Rattle.std.proofs.Math.Nat.{max-eq_right, max-le, le-max_left, le-max_right}
 use Rattle.air_field.specs.Term.{Leaf, Term}
+use Rattle.air_field.specs.declared.errors.RingError.{RingError}
+use Rattle.air_field.specs.declared.errors.RingError.TheVariants.{Memory, DegreeOverflow}
+use Rattle.air_symbolic.specs.PoolRefusals.{AnswersDegree}
+use Rattle.p3_air.specs.Inferred.{AnswersInferred}
 use Rattle.air_field.specs.Degree.{degree_by, cached_weight, trace_weight, greatest_degree, quotient_degree, inferred_degree}
 
 max_assoc : (a b c : ℕ) → max a (max b c) ≡ max (max a b) c
@@ -30,3 +34,12 @@ over_left w us vs h = omega (arith, h, greatest-append w us vs, le-max_left (gre
 
 pub over_right : {F : Type 0} (w : Leaf → ℕ) (us vs : List (Term F)) → 2 ^ 64 ≤ greatest_degree w vs → 2 ^ 64 ≤ greatest_degree w (us ++ vs)
 over_right w us vs h = omega (arith, h, greatest-append w us vs, le-max_right (greatest_degree w us) (greatest_degree w vs))
+
+-- a refusal on either side is one of the whole
+pub refused_left : {F : Type 0} (n : ℕ) (periods : List ℕ) (us vs : List (Term F)) (e : RingError) → AnswersDegree (greatest_degree (trace_weight n periods) us) (Err e) → AnswersInferred n periods (us ++ vs) (Err e)
+refused_left n periods us vs Memory h = h
+refused_left n periods us vs DegreeOverflow h = over_left (trace_weight n periods) us vs h
+
+pub refused_right : {F : Type 0} (n : ℕ) (periods : List ℕ) (us vs : List (Term F)) (e : RingError) → AnswersDegree (greatest_degree (trace_weight n periods) vs) (Err e) → AnswersInferred n periods (us ++ vs) (Err e)
+refused_right n periods us vs Memory h = h
+refused_right n periods us vs DegreeOverflow h = over_right (trace_weight n periods) us vs h

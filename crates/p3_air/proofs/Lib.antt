@@ -14,3 +14,4 @@ pub mod SumLaws
 pub mod BasisParts
 pub mod FoldLaws
 pub mod WeightLaws
+pub mod SymbolicGrowth

@@ -7,7 +7,7 @@ ghost use Rattle.p3_air.specs.SymbolicParts.{SelectorsAreLeaves};
 use crate::layouts::air_layout::AirLayout;
 use crate::layouts::constraint_layout::ConstraintLayout;
 use crate::symbolic::constraints::Constraints;
-use crate::symbolic::row::{Entries, ExtEntries, entries_of, ext_entries_of};
+use crate::symbolic::row::{AllEntries, all_entries_of};
 use crate::symbolic::selectors::{Selectors, make_selectors};
 use air_builder::{AirBuilder, AirError};
 use air_field::{ExtensionField, Field};
@@ -19,19 +19,17 @@ use std::alloc::Global;
 #[derive(Drop)]
 pub struct SymbolicAirBuilder<F: Field, EF: ExtensionField<F>> {
     pub(crate) alloc: Global,
-    pub(crate) entries: Entries<F>,
-    pub(crate) ext_entries: ExtEntries<F, EF>,
+    pub(crate) entries: AllEntries<F, EF>,
     pub(crate) pool: ExprPool<ExtLeaf<F, EF>>,
     pub(crate) selectors: Selectors<F>,
     pub(crate) constraints: Constraints<F, EF>,
-    pub(crate) ghost one_layout: { ext_entries.layout ≡ entries.layout },
 }
 
 impl<F: Field, EF: ExtensionField<F>> SymbolicAirBuilder<F, EF> {
     /// A builder of this layout that has recorded nothing. Its selectors are made at once, so that they are there.
     pub fn new(alloc: Global, layout: AirLayout) -> Result<Self, AirError>
         ensures ready { IfOk result ⟦<SymbolicAirBuilder<F, EF> as AirBuilder>⟧.ready }
-        ensures layout { IfOk result (λ b. b.entries.layout ≡ layout) }
+        ensures layout { IfOk result (λ b. b.entries.base.layout ≡ layout) }
         ensures selectors { IfOk result (λ b. SelectorsAreLeaves b.pool.0 b.selectors) }
         ensures none { IfOk result (λ b. lists_of b.constraints ≡ no_lists) }
         ensures refused { IfErr result (λ e. e ≡ AirError.Memory) }
@@ -40,8 +38,7 @@ impl<F: Field, EF: ExtensionField<F>> SymbolicAirBuilder<F, EF> {
         let selectors = make_selectors(pool.base_mut())?;
         Ok(SymbolicAirBuilder {
             alloc,
-            entries: entries_of(alloc, layout)?,
-            ext_entries: ext_entries_of(alloc, layout)?,
+            entries: all_entries_of(alloc, layout)?,
             pool,
             selectors,
             constraints: Constraints::new(alloc),

@@ -43,39 +43,39 @@ impl<F: Field, EF: ExtensionField<F>> AirBuilder for SymbolicAirBuilder<F, EF> {
 
     ghost stands = { λ _ l. leaf_term l };
 
-    ghost ready = { λ b. IsReady (IsPool (ext_reads F.ring F.eq EF.coefficients) b.pool) (PoolMeans base_reads F.ring b.pool.0) (fixed_by b.selectors b.entries.layout) };
+    ghost ready = { λ b. IsReady (IsPool (ext_reads F.ring F.eq EF.coefficients) b.pool) (PoolMeans base_reads F.ring b.pool.0) (fixed_by b.selectors b.entries.base.layout) };
 
-    ghost kept = { λ a b. KeptRecording (Grown ext_grows (ext_reads F.ring F.eq EF.coefficients)) a.pool b.pool (fixed_by a.selectors a.entries.layout) (fixed_by b.selectors b.entries.layout) };
+    ghost kept = { λ a b. KeptRecording (Grown ext_grows (ext_reads F.ring F.eq EF.coefficients)) a.pool b.pool (fixed_by a.selectors a.entries.base.layout) (fixed_by b.selectors b.entries.base.layout) };
 
-    ghost grew = { λ a b ts. GrewRecording (λ p. PoolMeans base_reads F.ring p.0) (PoolMeans (ext_reads F.ring F.eq EF.coefficients) F.ring) (Grown ext_grows (ext_reads F.ring F.eq EF.coefficients)) a.pool b.pool (fixed_by a.selectors a.entries.layout) (fixed_by b.selectors b.entries.layout) (lists_of a.constraints) (lists_of b.constraints) ts };
+    ghost grew = { λ a b ts. GrewRecording (λ p. PoolMeans base_reads F.ring p.0) (PoolMeans (ext_reads F.ring F.eq EF.coefficients) F.ring) (Grown ext_grows (ext_reads F.ring F.eq EF.coefficients)) a.pool b.pool (fixed_by a.selectors a.entries.base.layout) (fixed_by b.selectors b.entries.base.layout) (lists_of a.constraints) (lists_of b.constraints) ts };
 
-    ghost missing = { λ b l. IsMissing (fixed_by b.selectors b.entries.layout).shape l };
+    ghost missing = { λ b l. IsMissing (fixed_by b.selectors b.entries.base.layout).shape l };
 
-    ghost refuses = { λ b e ts. Refused (IsMissing (fixed_by b.selectors b.entries.layout).shape) (IsOver cached_weight) (λ _. ⊥) e ts };
+    ghost refuses = { λ b e ts. Refused (IsMissing (fixed_by b.selectors b.entries.base.layout).shape) (IsOver cached_weight) (λ _. ⊥) e ts };
 
-    ghost laws = { recording_laws (base_pool_laws F.ring) (ext_pool_laws F.ring F.eq EF.coefficients F.eq_is) (λ p. p.0) (base_grown F.ring F.eq EF.coefficients) (λ b. b.pool) (λ b r. record b { pool = (r, b.pool.1) }) (λ b. fixed_by b.selectors b.entries.layout) (λ b. lists_of b.constraints) (λ b r g. base_lent F.ring F.eq EF.coefficients F.eq_is b.pool r g) (λ _ _. refl) (λ _ _. refl) (λ _ _. refl) };
+    ghost laws = { recording_laws (base_pool_laws F.ring) (ext_pool_laws F.ring F.eq EF.coefficients F.eq_is) (λ p. p.0) (base_grown F.ring F.eq EF.coefficients) (λ b. b.pool) (λ b r. record b { pool = (r, b.pool.1) }) (λ b. fixed_by b.selectors b.entries.base.layout) (λ b. lists_of b.constraints) (λ b r g. base_lent F.ring F.eq EF.coefficients F.eq_is b.pool r g) (λ _ _. refl) (λ _ _. refl) (λ _ _. refl) };
 
     fn ring(&mut self) -> &mut ExprPool<BaseLeaf<F>> {
         self.pool.base_mut()
     }
 
     fn main(&self) -> Result<TwoRows<SymbolicVariable<F>>, AirError> {
-        let width = self.entries.layout.main_width;
+        let width = self.entries.base.layout.main_width;
         let current = row_of(self.alloc, BaseEntry::Main { offset: 0 }, width)?;
         let next = row_of(self.alloc, BaseEntry::Main { offset: 1 }, width)?;
         Ok(TwoRows::new(current, next))
     }
 
     fn preprocessed(&self) -> &TwoRows<SymbolicVariable<F>> {
-        &self.entries.preprocessed
+        &self.entries.base.preprocessed
     }
 
     fn public_values(&self) -> &[SymbolicVariable<F>] {
-        self.entries.public_values.as_slice()
+        self.entries.base.public_values.as_slice()
     }
 
     fn periodic_values(&self) -> &[SymbolicVariable<F>] {
-        self.entries.periodic_columns.as_slice()
+        self.entries.base.periodic_columns.as_slice()
     }
 
     fn is_first_row(&mut self) -> Result<ExprId<BaseLeaf<F>>, AirError> {

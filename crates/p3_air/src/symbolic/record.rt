@@ -12,6 +12,7 @@ ghost use Rattle.p3_air.specs.Recorded.{RecordsBase, RecordsExt, RecordRefuses};
 use crate::layouts::air_layout::AirLayout;
 use crate::layouts::constraint_layout::ConstraintLayout;
 use crate::symbolic::builder::SymbolicAirBuilder;
+use crate::symbolic::constraints::Constraints;
 use air_builder::{Air, AirError};
 use air_field::{ExtensionField, Field, SelfExtension};
 use air_symbolic::{BaseLeaf, ExprId, ExprPool, ExtLeaf};
@@ -24,6 +25,19 @@ pub struct Recorded<F: Field, EF: ExtensionField<F>> {
     pub pool: ExprPool<ExtLeaf<F, EF>>,
     pub base: Vec<ExprId<BaseLeaf<F>>>,
     pub ext: Vec<ExprId<ExtLeaf<F, EF>>>,
+}
+
+impl<F: Field, EF: ExtensionField<F>> SymbolicAirBuilder<F, EF> {
+    /// What was recorded, handed over.
+    pub(crate) fn into_recorded(self) -> Recorded<F, EF>
+        ensures pool { result.pool ≡ self.pool }
+        ensures base { result.base ≡ self.constraints.base }
+        ensures ext { result.ext ≡ self.constraints.ext }
+    {
+        let SymbolicAirBuilder { pool, constraints, .. } = self;
+        let Constraints { base, ext, .. } = constraints;
+        Recorded { pool, base, ext }
+    }
 }
 
 /// Has an AIR assert its constraints on a symbolic builder of this layout, which is compared with the AIR first.
@@ -63,11 +77,7 @@ pub fn get_all_symbolic_constraints<
     ensures refused { IfErr result (RecordRefuses layout (A.width air.now) (A.num_public_values air.now) (length (A.beside air.now).periodic) (A.declared air.now)) }
 {
     let builder = record(alloc, air, layout)?;
-    Ok(Recorded {
-        pool: builder.pool,
-        base: builder.constraints.base,
-        ext: builder.constraints.ext,
-    })
+    Ok(builder.into_recorded())
 }
 
 /// Records the base constraints of an AIR, as [`get_all_symbolic_constraints`] does; `ext` is left empty.
@@ -85,12 +95,9 @@ pub fn get_symbolic_constraints<
     ensures there { OnOk result (NoneMissing (IsMissing (layout_shape layout)) (A.declared air.now)) }
     ensures refused { IfErr result (RecordRefuses layout (A.width air.now) (A.num_public_values air.now) (length (A.beside air.now).periodic) (A.declared air.now)) }
 {
-    let builder = record(alloc, air, layout)?;
-    Ok(Recorded {
-        pool: builder.pool,
-        base: builder.constraints.base,
-        ext: Vec::new(alloc),
-    })
+    let Recorded { pool, base, .. } = get_all_symbolic_constraints(alloc, air, layout)?;
+    let ext = Vec::new(alloc);
+    Ok(Recorded { pool, base, ext })
 }
 
 /// Records the extension constraints of an AIR, as [`get_all_symbolic_constraints`] does; `base` is left empty.
@@ -109,12 +116,9 @@ pub fn get_symbolic_constraints_extension<
     ensures there { OnOk result (NoneMissing (IsMissing (layout_shape layout)) (A.declared air.now)) }
     ensures refused { IfErr result (RecordRefuses layout (A.width air.now) (A.num_public_values air.now) (length (A.beside air.now).periodic) (A.declared air.now)) }
 {
-    let builder = record(alloc, air, layout)?;
-    Ok(Recorded {
-        pool: builder.pool,
-        base: Vec::new(alloc),
-        ext: builder.constraints.ext,
-    })
+    let Recorded { pool, ext, .. } = get_all_symbolic_constraints(alloc, air, layout)?;
+    let base = Vec::new(alloc);
+    Ok(Recorded { pool, base, ext })
 }
 
 /// Where the base and the extension constraints of an AIR stand among all of them.

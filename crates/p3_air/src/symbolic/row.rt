@@ -105,3 +105,24 @@ pub(crate) fn ext_entries_of<F: Field, EF: ExtensionField<F>>(
         permutation_values,
     })
 }
+
+/// All entries of a builder, of one layout.
+#[derive(Drop)]
+pub(crate) struct AllEntries<F, EF> {
+    pub(crate) base: Entries<F>,
+    pub(crate) ext: ExtEntries<F, EF>,
+    pub(crate) ghost one_layout: { ext.layout ≡ base.layout },
+}
+
+/// All entries of this layout.
+pub(crate) fn all_entries_of<F: Field, EF: ExtensionField<F>>(
+    alloc: Global,
+    layout: AirLayout,
+) -> Result<AllEntries<F, EF>, AirError>
+    ensures layout { IfOk result (λ entries. entries.base.layout ≡ layout) }
+    ensures refused { IfErr result (λ e. e ≡ AirError.Memory) }
+{
+    let base = entries_of(alloc, layout)?;
+    let ext = ext_entries_of(alloc, layout)?;
+    Ok(AllEntries { base, ext })
+}

@@ -26,9 +26,12 @@ pub(crate) fn make_selectors<F: Field>(
     ensures mean { IfOk result (SelectorsMeanLeaves (PoolMeans base_reads F.ring pool.new)) }
     ensures refused { IfErr result (λ e. e ≡ AirError.Memory) }
 {
+    let first_row = pool.leaf_expr(BaseLeaf::IsFirstRow)?;
+    let last_row = pool.leaf_expr(BaseLeaf::IsLastRow)?;
+    let transition = pool.leaf_expr(BaseLeaf::IsTransition)?;
     Ok(Selectors {
-        first_row: pool.leaf_expr(BaseLeaf::IsFirstRow)?,
-        last_row: pool.leaf_expr(BaseLeaf::IsLastRow)?,
-        transition: pool.leaf_expr(BaseLeaf::IsTransition)?,
+        first_row,
+        last_row,
+        transition,
     })
 }

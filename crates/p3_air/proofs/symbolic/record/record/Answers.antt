@@ -1,11 +1,11 @@
-use Rattle.std.proofs.Common.{◌≡◌, ◌++◌, sym, subst, ◌∙◌, ap}
+use Rattle.std.proofs.Common.{◌≡◌, ◌++◌, map, sym, subst, ◌∙◌, ap}
 use Rattle.air_field.specs.Ring.{itself, itself_laws}
 use Rattle.air_field.specs.Assignment.{IsMissing}
 use Rattle.air_symbolic.specs.BaseLeaves.{base_reads}
 use Rattle.air_symbolic.specs.ExtLeaves.{ext_reads}
 use Rattle.air_symbolic.specs.Pools.{PoolMeans}
 use Rattle.air_builder.specs.Refusals.{NoneMissing}
-use Rattle.p3_air.specs.Kinds.{base_terms, ext_terms}
+use Rattle.p3_air.specs.Kinds.{kind_of, base_terms, ext_terms}
 use Rattle.p3_air.specs.Layouts.{layout_shape}
 use Rattle.p3_air.specs.Recording.{EachMeans}
 use Rattle.p3_air.proofs.Recordings.{each_records}
@@ -24,13 +24,13 @@ returns-clause-base g c =
       well_formed = (grew.keeps.pool.pool c.in_ok-builder.ensures.ready.pool).under;
       means = means;
       terms = each_records r base_reads pool.0 (itself r) (itself_laws r) numbers (base_terms ts) means;
-      in_extension = each_records r base_reads pool.0 g.EF.ExtensionField.over g.EF.ExtensionField.over_laws numbers (base_terms ts) means;
+      in_extension = each_records r base_reads pool.0 g.EF.ExtensionField.over g.met.EF.ExtensionField.over_laws numbers (base_terms ts) means;
     }
 
 pub returns-clause-ext : goal.returns-clause-ext
 returns-clause-ext g c =
     let r = g.F.Field.ring in
-    let reads = ext_reads r g.F.Field.eq g.EF.ExtensionField.coefficients in
+    let reads = ext_reads r g.F.PartialEq.eq g.EF.ExtensionField.coefficients in
     let ts = g.A.BaseAir.declared c.args.air.now in
     let grew = c.in_ok-eval.ensures.ok in
     let pool = c.eval.new.builder.pool in
@@ -40,13 +40,13 @@ returns-clause-ext g c =
     record {
       well_formed = grew.keeps.pool.pool c.in_ok-builder.ensures.ready.pool;
       means = means;
-      terms = each_records r reads pool g.EF.ExtensionField.over g.EF.ExtensionField.over_laws numbers (ext_terms ts) means;
+      terms = each_records r reads pool g.EF.ExtensionField.over g.met.EF.ExtensionField.over_laws numbers (ext_terms ts) means;
     }
 
 pub returns-clause-kinds : goal.returns-clause-kinds
 returns-clause-kinds g c =
     let grew = c.in_ok-eval.ensures.ok in
-    grew.kinds ∙ ap (λ l. l.kinds ++ _) c.in_ok-builder.ensures.none
+    grew.kinds ∙ ap (λ l. l.kinds ++ map kind_of (g.A.BaseAir.declared c.args.air.now)) c.in_ok-builder.ensures.none
 
 pub returns-clause-there : goal.returns-clause-there
 returns-clause-there g c =

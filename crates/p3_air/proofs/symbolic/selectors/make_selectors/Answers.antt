@@ -21,19 +21,41 @@ pub returns-clause-leaves : goal.returns-clause-leaves
 returns-clause-leaves g c =
     let r = g.F.Field.ring in
     record {
-      first = kept r c.leaf_expr-2.new.pool c.leaf_expr-3.new.pool _ c.in_ok-first_row.field-0 c.leaf_expr-3.ensures.grown (kept r c.leaf_expr.new.pool c.leaf_expr-2.new.pool _ c.in_ok-first_row.field-0 c.leaf_expr-2.ensures.grown c.in_ok-first_row.ensures.tree);
-      last = kept r c.leaf_expr-2.new.pool c.leaf_expr-3.new.pool _ c.in_ok-last_row.field-0 c.leaf_expr-3.ensures.grown c.in_ok-last_row.ensures.tree;
+      first = kept r c.leaf_expr-2.new.self c.leaf_expr-3.new.self _ c.in_ok-first_row.first_row c.leaf_expr-3.ensures.grown (kept r c.leaf_expr.new.self c.leaf_expr-2.new.self _ c.in_ok-first_row.first_row c.leaf_expr-2.ensures.grown c.in_ok-first_row.ensures.tree);
+      last = kept r c.leaf_expr-2.new.self c.leaf_expr-3.new.self _ c.in_ok-last_row.last_row c.leaf_expr-3.ensures.grown c.in_ok-last_row.ensures.tree;
       step = c.in_ok-transition.ensures.tree;
     }
 
 pub returns-clause-mean : goal.returns-clause-mean
 returns-clause-mean g c =
     let laws = base_pool_laws g.F.Field.ring in
-    let p = c.leaf_expr.new.pool in
-    let q = c.leaf_expr-2.new.pool in
-    let r = c.leaf_expr-3.new.pool in
+    let p = c.leaf_expr.new.self in
+    let q = c.leaf_expr-2.new.self in
+    let r = c.leaf_expr-3.new.self in
     record {
-      first = laws.means_stays p r c.in_ok-first_row.field-0 (leaf_term first_row) (laws.joined p q r c.leaf_expr-2.ensures.grown c.leaf_expr-3.ensures.grown) c.in_ok-first_row.ensures.made.1;
-      last = laws.means_stays q r c.in_ok-last_row.field-0 (leaf_term last_row) c.leaf_expr-3.ensures.grown c.in_ok-last_row.ensures.made.1;
+      first = laws.means_stays p r c.in_ok-first_row.first_row (leaf_term first_row) (laws.joined p q r c.leaf_expr-2.ensures.grown c.leaf_expr-3.ensures.grown) c.in_ok-first_row.ensures.made.1;
+      last = laws.means_stays q r c.in_ok-last_row.last_row (leaf_term last_row) c.leaf_expr-3.ensures.grown c.in_ok-last_row.ensures.made.1;
       step = c.in_ok-transition.ensures.made.1;
     }
+
+pub returns-in_err-last_row-clause-grown : goal.returns-in_err-last_row-clause-grown
+returns-in_err-last_row-clause-grown g c =
+    (base_pool_laws g.F.Field.ring).joined c.args.pool.now c.leaf_expr.new.self c.leaf_expr-2.new.self c.leaf_expr.ensures.grown c.leaf_expr-2.ensures.grown
+
+pub returns-in_err-transition-clause-grown : goal.returns-in_err-transition-clause-grown
+returns-in_err-transition-clause-grown g c =
+    let laws = base_pool_laws g.F.Field.ring in
+    let old = c.args.pool.now in
+    let p = c.leaf_expr.new.self in
+    let q = c.leaf_expr-2.new.self in
+    let r = c.leaf_expr-3.new.self in
+    laws.joined old q r (laws.joined old p q c.leaf_expr.ensures.grown c.leaf_expr-2.ensures.grown) c.leaf_expr-3.ensures.grown
+
+pub returns-clause-grown : goal.returns-clause-grown
+returns-clause-grown g c =
+    let laws = base_pool_laws g.F.Field.ring in
+    let old = c.args.pool.now in
+    let p = c.leaf_expr.new.self in
+    let q = c.leaf_expr-2.new.self in
+    let r = c.leaf_expr-3.new.self in
+    laws.joined old q r (laws.joined old p q c.leaf_expr.ensures.grown c.leaf_expr-2.ensures.grown) c.leaf_expr-3.ensures.grown
