@@ -201,7 +201,10 @@ fn copies_are_equal(rt: HostRuntime) -> Result<(), Fail> {
     builder.assert_zero_named(number(5), "b")?;
     for (failure, wanted) in builder.failures().iter().zip(["#0", "#1 \"b\""]) {
         let copy = failure.clone()?;
-        assert_eq!(rt; (copy.row, copy.constraint), (failure.row, failure.constraint));
+        assert_eq!(rt;
+            (copy.row, copy.constraint),
+            (failure.row, failure.constraint)
+        );
         assert_eq!(rt; copy.to_string(alloc)?.as_str(), wanted);
     }
     let report = ConstraintReport {
