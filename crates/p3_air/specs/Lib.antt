@@ -21,3 +21,4 @@ pub mod Debug
 pub mod DebugLaws
 pub mod DebugRow
 pub mod Checks
+pub mod Plain
