@@ -3,3 +3,4 @@ pub mod RowsAt
 pub mod Reports
 pub mod CellsListed
 pub mod Recordings
+pub mod FailureLists

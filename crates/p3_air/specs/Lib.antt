@@ -20,5 +20,8 @@ pub mod Inferred
 pub mod Debug
 pub mod DebugLaws
 pub mod DebugRow
+pub mod FailureTexts
+pub mod DebugLabels
+pub mod DebugLabelLaws
 pub mod Checks
 pub mod Plain

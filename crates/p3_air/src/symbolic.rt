@@ -3,5 +3,6 @@
 pub mod builder;
 pub mod builder_impl;
 pub mod degree;
+pub mod named;
 pub mod record;
 pub(crate) mod row;

@@ -6,6 +6,8 @@ ghost use Rattle.air_builder.specs.Beside.{nothing_beside};
 
 mod checks;
 
+mod labels;
+
 use crate::{
     AirLayout, DebugConstraintBuilder, SymbolicAirBuilder, check_all_constraints,
     constraint_degree_from_poly_degree, get_max_constraint_degree, get_symbolic_constraints,

@@ -1,8 +1,9 @@
 //! The debug builder: it holds the values at one row, and evaluates what is asserted there.
-ghost use Rattle.std.specs.Prelude.{◌≡◌, ◌≢◌, ◌↔◌, IsTrue, []};
+ghost use Rattle.std.specs.Prelude.{◌≡◌, ◌≢◌, ◌↔◌, IsTrue, [], IfOk, IfErr, IfSome, string_bytes};
+ghost use Rattle.p3_air.specs.FailureTexts.{failures_text};
 
-use crate::debug::failure::ConstraintFailure;
-use air_builder::RowWindow;
+use crate::debug::failure::{ConstraintFailure, failures_text};
+use air_builder::{AirError, RowWindow};
 use air_field::{Field, FieldRing, ViewPair};
 use std::alloc::Global;
 
@@ -77,6 +78,15 @@ impl<'a, F: Field> DebugConstraintBuilder<'a, F> {
         ensures { result.now ≡ self.now.failures.items }
     {
         self.failures.as_slice()
+    }
+
+    /// The failures in brackets, joined by `, `, as `[#0, #2 "label"]`. It refuses for want of memory alone.
+    pub fn formatted_failures(&self) -> Result<String, AirError>
+        ensures text { IfOk result (λ text. IfSome (failures_text self.now.failures.items) (λ bytes. string_bytes text ≡ bytes)) }
+        ensures refused { IfErr result (λ e. e ≡ AirError.Memory) }
+    {
+        let text = failures_text(*self.failures.allocator(), &self.failures)?;
+        Ok(text)
     }
 
     /// The assertions that failed, handed over.
