@@ -1,5 +1,6 @@
 -- Checks of an AIR that has nothing beside its main trace.
-use Rattle.std.specs.Prelude.{◌≡◌, ◌⊎◌, ℕ, ◌-◌, ◌<◌, List, [], ◌++◌, length, map, take, Bool, Option, None, Some, slice_get, refl}
+use Rattle.std.specs.Prelude.{◌≡◌, ◌⊎◌, ℕ, ◌-◌, ◌<◌, List, [], ◌∷◌, ◌++◌, length, map, take, Bool, Option, None, Some, slice_get, refl}
+use Rattle.std.specs.Global.{Global}
 use Rattle.std.proofs.Common.{inl, inr, sym, ap, ◌∙◌, arith}
 use Rattle.std.proofs.lemmas.List.{take_all, append-nil}
 use Rattle.air_field.specs.Ring.{CommRing}
@@ -27,11 +28,11 @@ map_none f [] e = refl
 map_none f (x ∷ xs) e = cc
 
 -- no periodic column and no table is at fault
-fits_shapes : {T A : Type 0} (h : ℕ) (e : AirError) → IsShapeFault {T = T} {A = A} [] h None e → ⊥
-fits_shapes h (PreprocessedHeight p m) f = let none : None ≡ Some p = f.0 in cc
-fits_shapes h (PeriodNotPowerOfTwo i n) f = let lt : i < 0 = f.1 in absurd (omega arith)
-fits_shapes h (PeriodDoesNotDivide i n k) f = let lt : i < 0 = f.1 in absurd (omega arith)
-fits_shapes h _ f = f
+fits_shapes : (T A : Type 0) (h : ℕ) (e : AirError) → IsShapeFault {T = T} {A = A} [] h None e → ⊥
+fits_shapes T A h (PreprocessedHeight p m) f = let none : None ≡ Some p = f.0 in cc
+fits_shapes T A h (PeriodNotPowerOfTwo i n) f = let lt : i < 0 = f.1 in absurd (omega arith)
+fits_shapes T A h (PeriodDoesNotDivide i n k) f = let lt : i < 0 = f.1 in absurd (omega arith)
+fits_shapes T A h _ f = f
 
 -- no cell is at fault
 fits_cells : {F : Type 0} (main : Grid F) (public : List F) (e : AirError) → IsCellFault main public [] e → ⊥
@@ -47,7 +48,7 @@ none_listed cap n at x e =
 module _ {F : Type 0} (r : CommRing F) (eq : F → F → Bool) (ts : List (Assertion F)) (main : Grid F) (public : List F) (cap : Option ℕ) where
   -- it is refused as its rows are
   pub plain_refusal : (e : AirError) → CheckRefuses r eq (given ts nothing_beside main public) cap e → Refused (IsMissing (trace_shape (plain_trace main public))) (λ _. ⊥) (IsFull 0) e ts
-  plain_refusal e (inl h) = absurd (fits_shapes (length main.rows) e h)
+  plain_refusal e (inl h) = absurd (fits_shapes F Global (length main.rows) e h)
   plain_refusal e (inr h) = elim h.1 [
     | inl row ↦ row
     | inr later ↦ elim later [
