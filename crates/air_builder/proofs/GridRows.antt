@@ -1,29 +1,16 @@
--- the rows of a matrix
-use Rattle.std.proofs.Common.{[], ◌∷◌, ◌++◌, add-one, length-drop, Ok, ◌≡◌, ℕ, ◌+◌, ◌*◌, ◌/◌, ◌%◌, ◌<◌, ◌≤◌, zero, suc, List, Some, None, take, drop, length, slice_get, refl, sym, ap, ◌∙◌, arith}
+-- The rows of a matrix that is made row by row.
+use Rattle.std.proofs.Common.{[], ◌∷◌, ◌++◌, add-one, length-drop, Ok, ◌≡◌, ℕ, ◌+◌, ◌*◌, ◌/◌, ◌%◌, ◌<◌, ◌≤◌, zero, suc, List, take, drop, length, refl, sym, ap, ◌∙◌, arith}
 use Rattle.std.proofs.Math.Nat.{suc-mul, zero-mul}
 use Rattle.std.proofs.Math.Seq.{take-length}
 use Rattle.std.proofs.Math.Dec.{eqb-suc-zero}
 use Rattle.std.proofs.lemmas.Nat.{mod-mul-add, div-mul-add}
-use Rattle.std.proofs.lemmas.List.{drop-drop, take-append-le, drop-append-le}
+use Rattle.std.proofs.lemmas.List.{take-append-le, drop-append-le}
 use Rattle.air_field.specs.Matrix.{matrix_of}
 use Rattle.air_field.specs.Grid.{rows_of}
 
 pub length-rows_of : {T : Type 0} (h w : ℕ) (xs : List T) → length (rows_of h w xs) ≡ h
 length-rows_of zero w xs = refl
 length-rows_of (suc h) w xs = ap suc (length-rows_of h w (drop w xs))
-
-pub slice_get-rows_of : {T : Type 0} (h w : ℕ) (xs : List T) (k : ℕ) → k < h
-    → slice_get (rows_of h w xs) k ≡ Some (take w (drop (k * w) xs))
-slice_get-rows_of zero w xs k lt = absurd (omega arith)
-slice_get-rows_of (suc h) w xs zero lt = ap (λ n. Some (take w (drop n xs))) (sym (zero-mul w))
-slice_get-rows_of (suc h) w xs (suc k) lt =
-    slice_get-rows_of h w (drop w xs) k (omega arith)
-    ∙ ap (λ ys. Some (take w ys)) (drop-drop (k * w) w xs ∙ ap (λ n. drop n xs) (omega (arith, suc-mul k w)))
-
-pub slice_get-past_rows : {T : Type 0} (h w : ℕ) (xs : List T) (k : ℕ) → h ≤ k → slice_get (rows_of h w xs) k ≡ None
-slice_get-past_rows zero w xs k le = refl
-slice_get-past_rows (suc h) w xs zero le = absurd (omega arith)
-slice_get-past_rows (suc h) w xs (suc k) le = slice_get-past_rows h w (drop w xs) k (omega arith)
 
 -- one more row
 pub rows_of-more : {T : Type 0} (h w : ℕ) (xs a : List T) → length xs ≡ h * w → length a ≡ w

@@ -1,4 +1,4 @@
--- one more column's value
+-- Rows of periodic columns, value by value and row by row.
 use Rattle.std.proofs.Common.{◌≡◌, ℕ, ◌+◌, ◌<◌, List, [], ◌∷◌, ◌++◌, length, Option, Some, map, take, get_or, refl, sym, ap, ◌∙◌, append_assoc, arith, Vec, Ok, Err, length-append}
 use Rattle.std.proofs.Math.Nat.{suc-mul}
 use Rattle.std.proofs.lemmas.List.FromFn.{map-range_with_len_more}

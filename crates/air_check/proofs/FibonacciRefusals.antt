@@ -12,7 +12,8 @@ use Rattle.air_builder.specs.declared.errors.AirError.{AirError}
 use Rattle.air_builder.specs.declared.errors.AirError.TheVariants.{Memory, DegreeOverflow, CountOverflow, MissingEntry}
 use Rattle.air_symbolic.specs.Entries.{entry_leaf}
 use Rattle.p3_air.specs.Report.{plain_trace}
-use Rattle.p3_air.specs.Checks.{CheckRefuses}
+use Rattle.p3_air.specs.DebugLaws.{IsFull}
+use Rattle.p3_air.specs.Refused.{Refused}
 use Rattle.p3_air.specs.Recording.{IsOver}
 use Rattle.p3_air.specs.Inferred.{DegreeRefuses}
 use Rattle.p3_air.specs.Layouts.{layout_shape, plain_layout}
@@ -63,7 +64,7 @@ module _ (F : Type 0) where
   trace_below n = (omega arith, (omega arith, (omega arith, (omega arith, (omega arith, tt)))))
 
   -- a check refuses memory alone
-  pub check_refuses : (g : Grid F) (public : List F) (e : AirError) → g.width ≡ 2 → length public ≡ 3 → CheckRefuses (plain_trace g public) fibonacci e → e ≡ Memory
+  pub check_refuses : (g : Grid F) (public : List F) (e : AirError) → g.width ≡ 2 → length public ≡ 3 → Refused (IsMissing (trace_shape (plain_trace g public))) (λ _. ⊥) (IsFull 0) e fibonacci → e ≡ Memory
   check_refuses g public Memory w p h = refl
   check_refuses g public DegreeOverflow w p h = absurd h.1.0
   check_refuses g public CountOverflow w p h = absurd (omega arith)

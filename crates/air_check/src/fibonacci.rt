@@ -1,11 +1,14 @@
 //! Fibonacci: columns a and b, in which each row leads to the next.
 ghost use Rattle.std.specs.Prelude.{◌≡◌, true, false, if◌then◌else◌, [], OnOk, IfOk, IfErr, Some, None, slice_get};
 ghost use Rattle.air_field.specs.Term.{Leaf, Term};
+ghost use Rattle.air_builder.specs.Beside.{nothing_beside};
 ghost use Rattle.air_builder.specs.Refusals.{NoneMissing};
 ghost use Rattle.air_check.specs.Fibonacci.{fibonacci, fibonacci_first, fibonacci_step, fibonacci_last, VariablesMean, CellsMean, CellRefused};
 
-use air_builder::{Air, AirBuilder, AirError, BaseAir, NamedAirBuilder, WindowAccess};
-use air_field::{Algebra, Field, FromVar, RingError};
+use air_builder::{
+    Air, AirBuilder, AirError, BaseAir, BoundaryPublic, NamedAirBuilder, WindowAccess,
+};
+use air_field::{Algebra, Field, FromVar, RingError, RowMajorMatrix};
 use air_symbolic::BaseEntry;
 
 /// The Fibonacci AIR. The first row holds public values 0 and 1, each further row the second number of the one before
@@ -40,12 +43,14 @@ impl Fibonacci {
     }
 }
 
-impl<F> BaseAir<F> for Fibonacci {
+impl<F: Copy> BaseAir<F> for Fibonacci {
     ghost declared = { λ _. fibonacci };
 
     ghost width = { λ _. 2 };
 
     ghost num_public_values = { λ _. 3 };
+
+    ghost beside = { λ _. nothing_beside };
 
     fn width(&self) -> usize {
         2
@@ -53,6 +58,18 @@ impl<F> BaseAir<F> for Fibonacci {
 
     fn num_public_values(&self) -> usize {
         3
+    }
+
+    fn preprocessed_trace(&self) -> Option<&RowMajorMatrix<F>> {
+        None
+    }
+
+    fn periodic_columns(&self) -> &[Vec<F>] {
+        &[]
+    }
+
+    fn public_boundary_io(&self) -> &[BoundaryPublic] {
+        &[]
     }
 }
 

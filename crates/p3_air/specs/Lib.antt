@@ -31,3 +31,4 @@ pub mod DebugLabels
 pub mod DebugLabelLaws
 pub mod Checks
 pub mod TestAirs
+pub mod Plain

@@ -5,6 +5,7 @@ ghost use Rattle.air_builder.specs.Assertion.{Base};
 ghost use Rattle.air_builder.specs.Beside.{nothing_beside};
 
 mod extension;
+mod checks;
 mod labels;
 
 use crate::{
@@ -246,7 +247,10 @@ fn evaluates_one_row(rt: HostRuntime) -> Result<(), Fail> {
     let top = [BabyBear::new(1), BabyBear::new(2)];
     let bottom = [BabyBear::new(3), BabyBear::new(4)];
     let public = [BabyBear::new(7)];
-    let none = RowMajorMatrixView::new_row(&[]);
+    let before = [BabyBear::new(8)];
+    let after = [BabyBear::new(9)];
+    let mut periodic = Vec::new(rt.alloc());
+    periodic.push(BabyBear::new(6))?;
     let mut builder = DebugConstraintBuilder::new(
         rt.alloc(),
         9,
@@ -254,18 +258,24 @@ fn evaluates_one_row(rt: HostRuntime) -> Result<(), Fail> {
             RowMajorMatrixView::new_row(&top),
             RowMajorMatrixView::new_row(&bottom),
         ),
-        ViewPair::new(none, none),
+        ViewPair::new(
+            RowMajorMatrixView::new_row(&before),
+            RowMajorMatrixView::new_row(&after),
+        ),
         &public,
         BabyBear::ONE,
         BabyBear::ZERO,
         BabyBear::TWO,
-        Vec::new(rt.alloc()),
+        periodic,
     );
     let window = builder.main()?;
     assert_eq!(rt; window.current(1), Some(BabyBear::new(2)));
     assert_eq!(rt; window.next(0), Some(BabyBear::new(3)));
     assert_eq!(rt; window.next(2), None);
     assert_eq!(rt; builder.public_values(), public.as_slice());
+    assert_eq!(rt; builder.preprocessed().current(0), Some(BabyBear::new(8)));
+    assert_eq!(rt; builder.preprocessed().next(0), Some(BabyBear::new(9)));
+    assert_eq!(rt; builder.periodic_values(), [BabyBear::new(6)].as_slice());
     assert_eq!(rt; builder.is_first_row()?, BabyBear::ONE);
     assert_eq!(rt; builder.is_last_row()?, BabyBear::ZERO);
     assert_eq!(rt; builder.is_transition()?, BabyBear::TWO);
@@ -286,7 +296,11 @@ fn evaluates_one_row(rt: HostRuntime) -> Result<(), Fail> {
 
 #[test]
 fn lends_variables(rt: HostRuntime) -> Result<(), Fail> {
-    let layout = AirLayout::from_air::<BabyBear, Products>(&Products {});
+    let layout = AirLayout {
+        preprocessed_width: 1,
+        num_periodic_columns: 1,
+        ..AirLayout::from_air::<BabyBear, Products>(&Products {})
+    };
     let builder = SymbolicAirBuilder::<BabyBear>::new(rt.alloc(), layout)?;
     let window = builder.main()?;
     let current = SymbolicVariable::new(BaseEntry::Main { offset: 0 }, 1);
@@ -296,5 +310,11 @@ fn lends_variables(rt: HostRuntime) -> Result<(), Fail> {
     assert_eq!(rt; window.current(2), None);
     let public = [SymbolicVariable::new(BaseEntry::Public, 0)];
     assert_eq!(rt; builder.public_values(), public.as_slice());
+    let before = SymbolicVariable::new(BaseEntry::Preprocessed { offset: 0 }, 0);
+    let after = SymbolicVariable::new(BaseEntry::Preprocessed { offset: 1 }, 0);
+    assert_eq!(rt; builder.preprocessed().current(0), Some(before));
+    assert_eq!(rt; builder.preprocessed().next(0), Some(after));
+    let periodic = [SymbolicVariable::new(BaseEntry::Periodic, 0)];
+    assert_eq!(rt; builder.periodic_values(), periodic.as_slice());
     Ok(())
 }
