@@ -1,5 +1,5 @@
 //! One row with permutation data, and AIRs with constraints over the extension.
-ghost use Rattle.std.specs.Prelude.{◌≡◌, IfOk, IfErr, OnOk, Some, None};
+ghost use Rattle.std.specs.Prelude.{◌≡◌, IfOk, IfErr, OnOk, Some, None, slice_get};
 ghost use Rattle.air_field.specs.Term.{permutation, challenge, permutation_value, Term, sub_term, mul_term};
 ghost use Rattle.air_builder.specs.Beside.{nothing_beside};
 ghost use Rattle.air_builder.specs.Refusals.{NoneMissing};
@@ -96,6 +96,13 @@ fn present_ext<T: Copy>(found: Option<T>, entry: ExtEntry, index: usize) -> Resu
     }
 }
 
+/// The element of this index, if there is one.
+fn element<T: Copy>(row: &[T], index: usize) -> Option<T>
+    ensures { result ≡ slice_get row.now index }
+{
+    row.get(index).copied()
+}
+
 /// The variables of the constraint over the extension.
 #[derive(Clone, Copy)]
 struct Variables<V, W, X> {
@@ -118,9 +125,9 @@ where
     let window = builder.permutation()?;
     let column = present_ext(window.current(0), ExtEntry::Permutation { offset: 0 }, 0)?;
     let challenges = builder.permutation_randomness();
-    let challenge = present_ext(challenges.get(0).copied(), ExtEntry::Challenge, 0)?;
+    let challenge = present_ext(element(challenges, 0), ExtEntry::Challenge, 0)?;
     let values = builder.permutation_values();
-    let value = present_ext(values.get(0).copied(), ExtEntry::PermutationValue, 0)?;
+    let value = present_ext(element(values, 0), ExtEntry::PermutationValue, 0)?;
     Ok(Variables {
         column,
         challenge,
@@ -168,8 +175,8 @@ fn assert_column<AB: AirBuilder>(builder: &mut AB, index: usize) -> Result<(), A
 {
     let main = builder.main()?;
     let x = present(main.current(index), BaseEntry::Main { offset: 0 }, index)?;
-    let x = builder.ring().from_var(x)?;
-    builder.assert_zero(x)
+    let value = builder.ring().from_var(x)?;
+    builder.assert_zero(value)
 }
 
 impl<AB: PermutationAirBuilder> Air<AB> for Permuted
