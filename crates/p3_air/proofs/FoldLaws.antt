@@ -4,7 +4,7 @@ use Rattle.air_field.specs.Ring.{CommRing, Over}
 use Rattle.air_field.specs.Extension.{ExtensionLaws}
 use Rattle.p3_air.specs.Weights.{weight, weights_of, coordinates_of, all_coordinates_of}
 use Rattle.p3_air.specs.declared.symbolic.kind.ConstraintKind.{ConstraintKind}
-use Rattle.p3_air.specs.Folds.{sum_below, horner, basis_element, weighted_sum, recombination, ArePlacesOf, values_at}
+use Rattle.p3_air.specs.Folds.{sum_below, horner, basis_element, weighted_sum, recombination, ArePlacesOf, values_at, Recombines}
 use Rattle.p3_air.proofs.Tabulations.{IsTabulation, length-tabulation, get_or-tabulation}
 use Rattle.p3_air.proofs.SumLaws.{sum_below-ext, sum_below-mul, sum_over, sum_over-ext, sum_below-over, weighted_sum-map, sum_below-from, sum-places, length-places}
 use Rattle.p3_air.proofs.BasisParts.{part, element-parts}
@@ -68,9 +68,8 @@ module _ {F E : Type 0} (R : CommRing F) (a : Over F E) (coefficients : E → Li
       total = ap₂ (λ x y. length x + length y) are.base are.extension ∙ (length-places 0 kinds ∙ sym same_length)
 
   -- the same of lists that are said to be these coordinates and these whole powers, of k constraints
-  pub decomposed-horner : (alpha : E) (k : ℕ) (b e : List ℕ) (lists : List (List F)) (powers : List E) → k ≡ length b + length e → lists ≡ all_coordinates_of R coefficients (weights_of a.ring alpha k b) n → powers ≡ weights_of a.ring alpha k e →
-      (kinds : List ConstraintKind) (values : List E) → ArePlacesOf kinds b e → length values ≡ length kinds → recombination R a lists powers (values_at a.ring values b) (values_at a.ring values e) ≡ horner a.ring alpha values
-  decomposed-horner alpha k b e lists powers count lists_are powers_are kinds values are same_length =
+  pub recombines : (alpha : E) (k : ℕ) (b e : List ℕ) (lists : List (List F)) (powers : List E) → k ≡ length b + length e → lists ≡ all_coordinates_of R coefficients (weights_of a.ring alpha k b) n → powers ≡ weights_of a.ring alpha k e → Recombines R a alpha b e lists powers
+  recombines alpha k b e lists powers count lists_are powers_are kinds values are same_length =
       ap₂ (λ l p. recombination R a l p (values_at a.ring values b) (values_at a.ring values e))
       (lists_are ∙ ap (λ m. all_coordinates_of R coefficients (weights_of a.ring alpha m b) n) count)
       (powers_are ∙ ap (λ m. weights_of a.ring alpha m e) count)

@@ -40,3 +40,10 @@ pub record ArePlacesOf (kinds : List ConstraintKind) (base_indices ext_indices :
 -- the values at these indices
 abbrev pub values_at : {E : Type 0} → CommRing E → List E → List ℕ → List E
 values_at r values indices = map (λ i. get_or values i r.nil) indices
+
+-- Of constraints whose kinds stand at these indices, whatever their values, the recombination from these coordinates
+-- and powers is Horner's fold of all values in order. Of no constraints it is zero.
+abbrev pub Recombines : {F E : Type 0} → CommRing F → Over F E → E → List ℕ → List ℕ → List (List F) → List E → Type 0
+Recombines {E = E} R a alpha base_indices ext_indices coordinates powers =
+    (kinds : List ConstraintKind) (values : List E) → ArePlacesOf kinds base_indices ext_indices → length values ≡ length kinds
+    → recombination R a coordinates powers (values_at a.ring values base_indices) (values_at a.ring values ext_indices) ≡ horner a.ring alpha values

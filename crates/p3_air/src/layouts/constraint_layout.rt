@@ -1,9 +1,8 @@
 //! The order of the constraints, and their weights in a fold.
-ghost use Rattle.std.specs.Prelude.{◌≡◌, ◌-◌, ◌<◌, List, length, map, slice_index_or, All, IfOk, IfErr, OnOk};
-ghost use Rattle.p3_air.specs.declared.symbolic.kind.ConstraintKind.{ConstraintKind};
+ghost use Rattle.std.specs.Prelude.{◌≡◌, ◌-◌, ◌<◌, length, map, slice_index_or, All, IfOk, IfErr, OnOk};
 ghost use Rattle.p3_air.specs.Layouts.{constraint_count, constraint_indices, first_past, IsWithinCount, DecompositionRefuses};
 ghost use Rattle.p3_air.specs.Weights.{weights_of, coordinates_of, all_coordinates_of};
-ghost use Rattle.p3_air.specs.Folds.{ArePlacesOf, values_at, recombination, horner};
+ghost use Rattle.p3_air.specs.Folds.{Recombines};
 
 use air_builder::AirError;
 use air_field::{ExtensionField, Field};
@@ -53,7 +52,7 @@ impl ConstraintLayout {
         ensures coordinates { IfOk result (λ r. map (λ v. v.items) r.0.items ≡ all_coordinates_of F.ring EF.coefficients (weights_of EF.over.ring alpha (constraint_count self.now) self.now.base_indices.items) EF.DIMENSION) }
         ensures powers { IfOk result (λ r. r.1.items ≡ weights_of EF.over.ring alpha (constraint_count self.now) self.now.ext_indices.items) }
         ensures within { OnOk result (IsWithinCount self.now) }
-        ensures fold { IfOk result (λ r. (kinds : List ConstraintKind) (values : List EF) → ArePlacesOf kinds self.now.base_indices.items self.now.ext_indices.items → length values ≡ length kinds → recombination F.ring EF.over (map (λ v. v.items) r.0.items) r.1.items (values_at EF.over.ring values self.now.base_indices.items) (values_at EF.over.ring values self.now.ext_indices.items) ≡ horner EF.over.ring alpha values) }
+        ensures fold { IfOk result (λ r. Recombines F.ring EF.over alpha self.now.base_indices.items self.now.ext_indices.items (map (λ v. v.items) r.0.items) r.1.items) }
         ensures refused { IfErr result (DecompositionRefuses self.now) }
     {
         let total = self.total_constraints();

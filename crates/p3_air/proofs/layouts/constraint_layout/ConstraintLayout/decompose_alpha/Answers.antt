@@ -1,7 +1,7 @@
 use Rattle.std.proofs.Common.{◌≡◌, ℕ, ◌<◌, All, map, ap, ◌∙◌, subst, arith}
 use Rattle.p3_air.specs.Weights.{weights_of, all_coordinates_of}
 use Rattle.p3_air.specs.Layouts.{constraint_count, constraint_indices}
-use Rattle.p3_air.proofs.FoldLaws.{decomposed-horner}
+use Rattle.p3_air.proofs.FoldLaws.{recombines}
 use Rattle.p3_air.proofs.WeightLaws.{below-powers, picked-weights, below-none_past, All-left, All-right}
 use Rattle.p3_air.proofs.layouts.constraint_layout.ConstraintLayout.decompose_alpha.Goals as goal
 
@@ -36,6 +36,6 @@ returns g c =
       coordinates = lists;
       powers = whole;
       within = record { fits = omega arith; below = subst (λ (m : ℕ). All (λ i. i < m) (constraint_indices l)) c.total_constraints-total.ensures within };
-      fold = decomposed-horner g.F.Field.ring g.EF.ExtensionField.over g.EF.ExtensionField.coefficients g.EF.ExtensionField.DIMENSION g.met.EF.ExtensionField.laws c.args.alpha (constraint_count l) l.base_indices.items l.ext_indices.items (map (λ v. v.items) c.in_ok-coordinates.coordinates.items) c.in_ok-whole.whole.items (omega arith) lists whole;
+      fold = recombines g.F.Field.ring g.EF.ExtensionField.over g.EF.ExtensionField.coefficients g.EF.ExtensionField.DIMENSION g.met.EF.ExtensionField.laws c.args.alpha (constraint_count l) l.base_indices.items l.ext_indices.items (map (λ v. v.items) c.in_ok-coordinates.coordinates.items) c.in_ok-whole.whole.items (omega arith) lists whole;
       refused = tt;
     }
