@@ -5,5 +5,6 @@ pub mod Folding
 pub mod FoldedLists
 pub mod FoldedTerms
 pub mod BasePart
+pub mod Overflows
 pub mod WholeTrees
 pub mod Lowering

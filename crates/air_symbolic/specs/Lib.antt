@@ -14,6 +14,7 @@ pub mod Pools
 pub mod Folds
 pub mod FoldedLists
 pub mod PoolRefusals
+pub mod Weights
 pub mod Numbers
 pub mod PoolLaws
 pub mod BaseLeaves

@@ -13,6 +13,7 @@ pub use leaves::ext_leaf::ExtLeaf;
 pub use leaves::sym_leaf::SymLeaf;
 pub use pools::expr::{ExprId, SymbolicExpr};
 pub use pools::pool::ExprPool;
+pub use pools::weight::{Degrees, LeafWeight};
 pub use variables::entry::BaseEntry;
 pub use variables::ext_entry::ExtEntry;
 pub use variables::variable::SymbolicVariable;

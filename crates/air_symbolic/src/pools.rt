@@ -12,3 +12,4 @@ pub mod joined;
 pub mod lending;
 pub mod lower;
 pub mod pool;
+pub mod weight;

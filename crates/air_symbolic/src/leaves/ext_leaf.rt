@@ -52,6 +52,18 @@ impl<F: Field, EF: ExtensionField<F>> SymLeaf for ExtLeaf<F, EF> {
         }
     }
 
+    fn degree_multiple_with_transition(
+        &self,
+        weight: usize,
+        under: &ExprPool<BaseLeaf<F>>,
+    ) -> Result<usize, RingError> {
+        match self {
+            ExtLeaf::Base(id) => under.degree_multiple_with_transition(*id, weight),
+            ExtLeaf::ExtVariable(v) => Ok(v.degree_multiple()),
+            ExtLeaf::ExtConstant(_) => Ok(0),
+        }
+    }
+
     fn poly_degree(
         &self,
         trace_len: usize,
