@@ -11,9 +11,9 @@ pub returns-clause-ok : goal.returns-clause-ok
 returns-clause-ok g c =
     let a = c.args.self.now in
     let r = g.F.Field.ring in
-    on_ok_weaker _ (λ e t m. recorded_base (base_pool_laws r) (ext_pool_laws r g.F.PartialEq.eq g.EF.ExtensionField.coefficients g.met.F.Field.eq_is) (λ p. p.0) (base_grown r g.F.PartialEq.eq g.EF.ExtensionField.coefficients) a.pool (fixed_by a.selectors a.entries.base.layout) (lists_of a.constraints) _ c.args.x t e m) c.push_base.ensures.ok
+    on_ok_weaker c.push_base.result (λ e t m. recorded_base (base_pool_laws r) (ext_pool_laws r g.F.PartialEq.eq g.EF.ExtensionField.coefficients g.met.F.Field.eq_is) (λ p. p.0) (base_grown r g.F.PartialEq.eq g.EF.ExtensionField.coefficients) a.pool (fixed_by a.selectors a.entries.base.layout) (lists_of a.constraints) _ c.args.x t e m) c.push_base.ensures.ok
 
 pub returns-clause-err : goal.returns-clause-err
 returns-clause-err g c =
     let a = c.args.self.now in
-    on_err_weaker _ (λ e. nothing_recorded g.F.Field.ring g.F.PartialEq.eq g.EF.ExtensionField.coefficients g.met.F.Field.eq_is a.pool (fixed_by a.selectors a.entries.base.layout) (lists_of a.constraints) _ e) c.push_base.ensures.err
+    on_err_weaker c.push_base.result (λ e. nothing_recorded g.F.Field.ring g.F.PartialEq.eq g.EF.ExtensionField.coefficients g.met.F.Field.eq_is a.pool (fixed_by a.selectors a.entries.base.layout) (lists_of a.constraints) _ e) c.push_base.ensures.err
