@@ -1,6 +1,7 @@
 -- What answers a whole input.
 use Rattle.std.specs.Prelude.{◌≡◌, ◌⊎◌, ℕ, List, [], length, map, codes, Bool, Option, Some, None}
 use Rattle.air_field.specs.Grid.{Grid, grid_of}
+use Rattle.air_field.specs.Ring.{itself}
 use Rattle.air_field.specs.Modulo.{baby_bear_ring}
 use Rattle.air_field.specs.declared.fields.baby_bear.BabyBear.{BabyBear}
 use Rattle.p3_air.specs.Inferred.{IsInferred}
@@ -16,7 +17,7 @@ use Rattle.air_check.specs.declared.refusals.Refusal.TheVariants as refusals
 -- What recording, checking and inferring find of Fibonacci on public values and a trace of two columns: the degree
 -- inferred from terms that record its constraints, the height, how many constraints a row has, and its report.
 pub record Finds (eq : BabyBear → BabyBear → Bool) (main : Grid BabyBear) (public : List BabyBear) (f : Found) : Type 0 where
-  pub degree : IsInferred baby_bear_ring f.rows [] fibonacci f.degree
+  pub degree : IsInferred baby_bear_ring (itself baby_bear_ring) f.rows [] fibonacci f.degree
   pub rows : f.rows ≡ length main.rows
   pub constraints : f.constraints ≡ count_shown {F = BabyBear} fibonacci f.rows
   pub failures : map place_of f.failures ≡ report_of baby_bear_ring eq (plain_trace main public) fibonacci f.rows

@@ -23,8 +23,9 @@ pub use air_field::{
     SelfExtension, ViewPair,
 };
 pub use air_symbolic::{
-    BaseEntry, BaseLeaf, ExprId, ExprPool, ExtEntry, SymLeaf, SymbolicExpr, SymbolicExpression,
-    SymbolicVariable,
+    BaseEntry, BaseLeaf, Degrees, ExprId, ExprPool, ExtEntry, ExtLeaf, LeafWeight, SymLeaf,
+    SymbolicExpr, SymbolicExpression, SymbolicExpressionExt, SymbolicVariable,
+    SymbolicVariableExt,
 };
 pub use checks::check::check_all_constraints;
 pub use checks::check_first::{CheckError, check_constraints};

@@ -4,9 +4,11 @@ ghost use Rattle.air_field.specs.Term.{Term, main, leaf_term, mul_term};
 ghost use Rattle.air_builder.specs.Assertion.{Base};
 ghost use Rattle.air_builder.specs.Beside.{nothing_beside};
 
-mod extension;
 mod checks;
+mod extension;
 mod labels;
+mod layouts;
+mod recordings;
 
 use crate::{
     AirLayout, DebugConstraintBuilder, SymbolicAirBuilder, check_all_constraints,
@@ -19,8 +21,6 @@ use air_field::{
 use air_symbolic::{BaseEntry, SymbolicVariable};
 use std::alloc::Global;
 use std::test::Fail;
-
-mod layouts;
 
 /// Columns x and y: at each row x y is zero, and the next x is zero.
 struct Products {}
@@ -168,19 +168,6 @@ fn names_the_entry_that_is_missing(rt: HostRuntime) -> Result<(), Fail> {
     let narrow = matrix(rt.alloc(), &[0, 0], 1)?;
     let checked = check_all_constraints(rt.alloc(), &Products {}, &narrow, &[], None);
     assert_eq!(rt; checked.err(), Some(missing));
-    let layout = AirLayout {
-        main_width: 1,
-        ..AirLayout::from_air::<BabyBear, Products>(&Products {})
-    };
-    let recorded = get_symbolic_constraints::<BabyBear, Products>(rt.alloc(), &Products {}, layout);
-    assert_eq!(rt; recorded.err(), Some(missing));
-    let degree = get_max_constraint_degree::<BabyBear, Products>(
-        rt.alloc(),
-        &Products {},
-        layout,
-        4,
-    );
-    assert_eq!(rt; degree.err(), Some(missing));
     Ok(())
 }
 
@@ -206,8 +193,8 @@ fn records_one_expression_for_each_place(rt: HostRuntime) -> Result<(), Fail> {
     )?;
     assert_eq!(rt; recorded.base.len(), 2);
     for (number, degree) in recorded.base.iter().zip([2, 1]) {
-        assert!(rt; recorded.pool.contains(*number));
-        assert_eq!(rt; recorded.pool.degree_multiple(*number), degree);
+        assert!(rt; recorded.pool.base().contains(*number));
+        assert_eq!(rt; recorded.pool.base().degree_multiple(*number), degree);
     }
     Ok(())
 }
@@ -301,7 +288,7 @@ fn lends_variables(rt: HostRuntime) -> Result<(), Fail> {
         num_periodic_columns: 1,
         ..AirLayout::from_air::<BabyBear, Products>(&Products {})
     };
-    let builder = SymbolicAirBuilder::<BabyBear>::new(rt.alloc(), layout)?;
+    let builder = SymbolicAirBuilder::<BabyBear, BabyBear>::new(rt.alloc(), layout)?;
     let window = builder.main()?;
     let current = SymbolicVariable::new(BaseEntry::Main { offset: 0 }, 1);
     let next = SymbolicVariable::new(BaseEntry::Main { offset: 1 }, 0);

@@ -20,7 +20,7 @@ use std::process::Abort;
 use std::test::Fail;
 
 /// Over the extension: permutation 0 times challenge 0 is permutation value 0.
-struct Permuted {}
+pub struct Permuted {}
 
 impl<F: Copy> BaseAir<F> for Permuted {
     ghost declared = { λ _. permuted };
@@ -53,7 +53,7 @@ impl<F: Copy> BaseAir<F> for Permuted {
 }
 
 /// Column 0 is zero; then the constraint of `Permuted`; then column 1 is zero.
-struct Mixed {}
+pub struct Mixed {}
 
 impl<F: Copy> BaseAir<F> for Mixed {
     ghost declared = { λ _. mixed };
