@@ -7,7 +7,7 @@ pub mod Reports
 pub mod CellsListed
 pub mod Recordings
 pub mod Least
-pub mod Degrees
+pub mod InferredDegrees
 pub mod FailureLists
 pub mod Tabulations
 pub mod SumLaws

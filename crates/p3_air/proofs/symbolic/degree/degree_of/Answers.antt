@@ -6,7 +6,7 @@ use Rattle.air_symbolic.specs.BaseLeaves.{base_reads}
 use Rattle.air_symbolic.specs.ExtLeaves.{ext_reads}
 use Rattle.air_symbolic.specs.PoolRefusals.{AnswersDegree}
 use Rattle.p3_air.specs.Recorded.{terms_of}
-use Rattle.p3_air.proofs.Degrees.{inferred_periodic, inferred_plain, refused_left, refused_right}
+use Rattle.p3_air.proofs.InferredDegrees.{inferred_periodic, inferred_plain, refused_left, refused_right}
 use Rattle.p3_air.proofs.symbolic.degree.degree_of.Goals as goal
 
 some_periods : (l : List ℕ) → false ≡ (length l == 0) → l ≢ []
