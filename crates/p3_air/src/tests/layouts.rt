@@ -117,10 +117,19 @@ fn numbers(alloc: Global, values: &[u32]) -> Result<Vec<BabyBear>, Fail> {
 }
 
 /// The sum of weight times value.
-fn weighted(weights: &[BabyBear], values: &[BabyBear]) -> BabyBear {
-    let mut sum = BabyBear::ZERO;
+fn weighted<F: Field>(weights: &[F], values: &[F]) -> F {
+    let mut sum = F::ZERO;
     for (weight, value) in weights.iter().zip(values) {
-        sum = Field::add(sum, Field::mul(*weight, *value));
+        sum = sum.add(weight.mul(*value));
+    }
+    sum
+}
+
+/// Horner's fold, value after value.
+fn folded<F: Field>(alpha: F, values: &[F]) -> F {
+    let mut sum = F::ZERO;
+    for value in values {
+        sum = sum.mul(alpha).add(*value);
     }
     sum
 }
@@ -141,11 +150,8 @@ fn recombines_by_descending_powers(rt: HostRuntime) -> Result<(), Fail> {
     assert_eq!(rt; coordinates[0].as_slice(), expected.as_slice());
     let expected = numbers(rt.alloc(), &[5])?;
     assert_eq!(rt; powers.as_slice(), expected.as_slice());
-    let mut fold = BabyBear::ZERO;
-    for value in [1, 2, 3] {
-        fold = Field::add(Field::mul(fold, alpha), BabyBear::new(value));
-    }
-    assert_eq!(rt; fold, BabyBear::new(38));
+    let values = numbers(rt.alloc(), &[1, 2, 3])?;
+    assert_eq!(rt; folded(alpha, &values), BabyBear::new(38));
     let base = numbers(rt.alloc(), &[1, 3])?;
     let ext = numbers(rt.alloc(), &[2])?;
     let recombined = Field::add(weighted(&coordinates[0], &base), weighted(&powers, &ext));
