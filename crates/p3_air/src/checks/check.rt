@@ -76,7 +76,7 @@ pub(crate) struct RowOutcome {
 }
 
 /// Evaluates an AIR on one row, and adds what is not zero to the failures.
-pub(crate) fn check_row<'a, F: SelfExtension, A: Air<DebugConstraintBuilder<'a, F, F>>>(
+pub(crate) fn check_row<'a, F: SelfExtension + 'static, A: Air<DebugConstraintBuilder<'a, F, F>>>(
     alloc: Global,
     air: &'a A,
     main: &'a RowMajorMatrix<F>,
@@ -128,7 +128,7 @@ pub(crate) fn is_reached(cap: Option<usize>, failures: usize) -> bool
 }
 
 /// Evaluates an AIR on the rows of a trace while the failures so far are fewer than the cap.
-fn check_rows<'a, F: SelfExtension, A: Air<DebugConstraintBuilder<'a, F, F>>>(
+fn check_rows<'a, F: SelfExtension + 'static, A: Air<DebugConstraintBuilder<'a, F, F>>>(
     alloc: Global,
     air: &'a A,
     main: &'a RowMajorMatrix<F>,
@@ -166,7 +166,7 @@ fn check_rows<'a, F: SelfExtension, A: Air<DebugConstraintBuilder<'a, F, F>>>(
 /// It refuses the first shape that doesn't fit; then an entry that a constraint names and the trace has not, and a count
 /// past `usize`; then the first cell that doesn't fit the trace, and cells of a trace without rows. The trace's width
 /// is not compared with that of the AIR.
-pub fn check_all_constraints<'a, F: SelfExtension, A: Air<DebugConstraintBuilder<'a, F, F>>>(
+pub fn check_all_constraints<'a, F: SelfExtension + 'static, A: Air<DebugConstraintBuilder<'a, F, F>>>(
     alloc: Global,
     air: &'a A,
     main: &'a RowMajorMatrix<F>,

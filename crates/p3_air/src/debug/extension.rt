@@ -18,7 +18,7 @@ use air_builder::{
 };
 use air_field::{Algebra, ExtFieldRing, ExtensionField, Field};
 
-impl<'a, F: Field, EF: ExtensionField<F> + 'a> ExtensionBuilder for DebugConstraintBuilder<'a, F, EF> {
+impl<'a, F: Field, EF: ExtensionField<F> + 'static> ExtensionBuilder for DebugConstraintBuilder<'a, F, EF> {
     type EF = EF;
 
     type ExprEF = EF;
@@ -42,14 +42,14 @@ impl<'a, F: Field, EF: ExtensionField<F> + 'a> ExtensionBuilder for DebugConstra
     }
 }
 
-impl<'a, F: Field, EF: ExtensionField<F> + 'a> NamedExtensionBuilder
+impl<'a, F: Field, EF: ExtensionField<F> + 'static> NamedExtensionBuilder
     for DebugConstraintBuilder<'a, F, EF> {
     fn assert_zero_ext_named<N: Name>(&mut self, x: EF, name: N) -> Result<(), AirError> {
         self.log(x == EF::zero(), name)
     }
 }
 
-impl<'a, F: Field, EF: ExtensionField<F> + 'a> PermutationAirBuilder
+impl<'a, F: Field, EF: ExtensionField<F> + 'static> PermutationAirBuilder
     for DebugConstraintBuilder<'a, F, EF> {
     type MP = RowWindow<'a, EF>;
 
