@@ -65,7 +65,7 @@ module _ (F : Type 0) where
   trace_below n = (omega arith, (omega arith, (omega arith, (omega arith, (omega arith, tt)))))
 
   -- a check refuses memory alone
-  pub check_refuses : (g : Grid F) (public : List F) (e : AirError) → g.width ≡ 2 → length public ≡ 3 → Refused (IsMissing (trace_shape (plain_trace g public))) (λ _. ⊥) (IsFull 0) e fibonacci → e ≡ Memory
+  pub check_refuses : (g : Grid F) (public : List F) (e : AirError) → g.width ≡ 2 → length public ≡ 3 → Refused {F = F} (IsMissing (trace_shape (plain_trace g public))) (λ _. ⊥) (IsFull 0) e fibonacci → e ≡ Memory
   check_refuses g public Memory w p h = refl
   check_refuses g public DegreeOverflow w p h = absurd h.1.0
   check_refuses g public CountOverflow w p h = absurd (omega arith)
