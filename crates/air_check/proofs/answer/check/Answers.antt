@@ -1,6 +1,5 @@
 use Rattle.std.proofs.Common.{rules, [], None, subst, ◌∙◌}
 use Rattle.p3_air.specs.Inferred.{DegreeRefuses}
-use Rattle.p3_air.specs.Layouts.{layout_shape}
 use Rattle.p3_air.specs.Plain.{plain_refusal}
 use Rattle.air_check.specs.Fibonacci.{fibonacci}
 use Rattle.air_field.specs.declared.fields.baby_bear.BabyBear.{BabyBear}
@@ -15,7 +14,7 @@ refusal_of-requires c = check_refuses BabyBear c.args.main.now c.args.public_val
 
 pub refusal_of-requires-in-Err-get_max_constraint_degree : goal.refusal_of-requires-in-Err-get_max_constraint_degree
 refusal_of-requires-in-Err-get_max_constraint_degree c =
-    degree_refuses BabyBear c.height.result c.in-Err-get_max_constraint_degree.error (rw c.height.ensures c.requires.height) (subst (λ l. DegreeRefuses {F = BabyBear} c.height.result [] (layout_shape l) fibonacci c.in-Err-get_max_constraint_degree.error) c.from_air-layout.ensures c.in-Err-get_max_constraint_degree.ensures.refused)
+    degree_refuses BabyBear c.height.result c.in-Err-get_max_constraint_degree.error (rw c.height.ensures c.requires.height) (subst (λ l. DegreeRefuses {F = BabyBear} c.height.result [] l 2 3 fibonacci c.in-Err-get_max_constraint_degree.error) c.from_air-layout.ensures c.in-Err-get_max_constraint_degree.ensures.refused)
 
 pub returns-in-Ok-get_max_constraint_degree-clause-found : goal.returns-in-Ok-get_max_constraint_degree-clause-found
 returns-in-Ok-get_max_constraint_degree-clause-found c = record {
