@@ -166,7 +166,11 @@ fn check_rows<'a, F: SelfExtension + 'static, A: Air<DebugConstraintBuilder<'a, 
 /// It refuses the first shape that doesn't fit; then an entry that a constraint names and the trace has not, and a count
 /// past `usize`; then the first cell that doesn't fit the trace, and cells of a trace without rows. The trace's width
 /// is not compared with that of the AIR.
-pub fn check_all_constraints<'a, F: SelfExtension + 'static, A: Air<DebugConstraintBuilder<'a, F, F>>>(
+pub fn check_all_constraints<
+    'a,
+    F: SelfExtension + 'static,
+    A: Air<DebugConstraintBuilder<'a, F, F>>,
+>(
     alloc: Global,
     air: &'a A,
     main: &'a RowMajorMatrix<F>,

@@ -11,7 +11,8 @@ use crate::debug::builder::DebugConstraintBuilder;
 use air_builder::{AirBuilder, AirError, RowWindow};
 use air_field::{Algebra, ExtensionField, Field, FieldRing};
 
-impl<'a, F: Field, EF: ExtensionField<F> + 'static> AirBuilder for DebugConstraintBuilder<'a, F, EF> {
+impl<'a, F: Field, EF: ExtensionField<F> + 'static> AirBuilder
+    for DebugConstraintBuilder<'a, F, EF> {
     type F = F;
 
     type Expr = F;

@@ -18,7 +18,8 @@ use air_builder::{
 };
 use air_field::{Algebra, ExtFieldRing, ExtensionField, Field};
 
-impl<'a, F: Field, EF: ExtensionField<F> + 'static> ExtensionBuilder for DebugConstraintBuilder<'a, F, EF> {
+impl<'a, F: Field, EF: ExtensionField<F> + 'static> ExtensionBuilder
+    for DebugConstraintBuilder<'a, F, EF> {
     type EF = EF;
 
     type ExprEF = EF;

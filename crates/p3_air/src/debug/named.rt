@@ -11,7 +11,8 @@ use crate::debug::builder::DebugConstraintBuilder;
 use air_builder::{AirBuilder, AirBuilderWithContext, AirError, Name, NamedAirBuilder};
 use air_field::{Algebra, ExtensionField, Field, FieldRing};
 
-impl<'a, F: Field, EF: ExtensionField<F> + 'static> NamedAirBuilder for DebugConstraintBuilder<'a, F, EF> {
+impl<'a, F: Field, EF: ExtensionField<F> + 'static> NamedAirBuilder
+    for DebugConstraintBuilder<'a, F, EF> {
     ghost labelled = { λ a b ls. LabelledAtRow (is_zero_at F.ring EF.over F.eq EF.eq) (row_of a) (row_of b) a.constraint_index b.constraint_index a.failures.items b.failures.items ls };
 
     ghost named_laws = { debug_named_laws (is_zero_at F.ring EF.over F.eq EF.eq) row_of (λ b. b.constraint_index) (λ b. b.failures.items) };

@@ -7,8 +7,9 @@ ghost use Rattle.p3_air.specs.TestAirs.{permuted, column, mixed};
 
 use crate::tests::present;
 use crate::{
-    Air, AirBuilder, AirError, BaseAir, BoundaryPublic, DebugConstraintBuilder, ExtEntry, ExtensionBuilder,
-    NamedExtensionBuilder, PermutationAirBuilder, WindowAccess, check_all_constraints,
+    Air, AirBuilder, AirError, BaseAir, BoundaryPublic, DebugConstraintBuilder, ExtEntry,
+    ExtensionBuilder, NamedExtensionBuilder, PermutationAirBuilder, WindowAccess,
+    check_all_constraints,
 };
 use air_field::{
     Algebra, BabyBear, BinomialExtensionField, ExtensionField, Field, FromVar, RingError,
@@ -136,10 +137,13 @@ where
 }
 
 /// The product of the first two variables, less the third.
-fn product_less<F: Field, V: Copy, W: Copy, X: Copy, R: FromVar<F, V> + FromVar<F, W> + FromVar<F, X>>(
-    ring: &mut R,
-    variables: Variables<V, W, X>,
-) -> Result<R::Elem, RingError>
+fn product_less<
+    F: Field,
+    V: Copy,
+    W: Copy,
+    X: Copy,
+    R: FromVar<F, V> + FromVar<F, W> + FromVar<F, X>,
+>(ring: &mut R, variables: Variables<V, W, X>) -> Result<R::Elem, RingError>
     requires { R.Algebra.valid ring.old }
     ensures extended { R.Algebra.extends ring.old ring.new }
     ensures made { IfOk result (λ z. R.Algebra.has ring.new z × ((s t u : Term F) → R.FromVar-1.var_means variables.column s → R.FromVar-2.var_means variables.challenge t → R.FromVar-3.var_means variables.value u → R.Algebra.means ring.new z (sub_term (mul_term s t) u))) }
@@ -262,7 +266,10 @@ fn one_row_is_evaluated_over_the_extension(rt: HostRuntime) -> Result<(), Fail> 
     let mut without = row(rt.alloc(), &[], &column, &[], &values);
     assert!(rt;
         Permuted {}.eval(&mut without)
-            == Err(AirError::MissingExtEntry { entry: ExtEntry::Challenge, index: 0 })
+            == Err(AirError::MissingExtEntry {
+                entry: ExtEntry::Challenge,
+                index: 0
+            })
     );
     Ok(())
 }
@@ -293,7 +300,10 @@ fn failures_over_the_extension_are_labelled(rt: HostRuntime) -> Result<(), Fail>
     builder.assert_zero_ext_named(extension(0, 0, 0, 7), "fails")?;
     builder.assert_zero(number(1))?;
     assert_places(&rt, &builder, &[1, 2]);
-    assert_eq!(rt; builder.formatted_failures()?.as_str(), "[#1 \"fails\", #2]");
+    assert_eq!(rt;
+        builder.formatted_failures()?.as_str(),
+        "[#1 \"fails\", #2]"
+    );
     Ok(())
 }
 
