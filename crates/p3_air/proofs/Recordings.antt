@@ -1,13 +1,13 @@
 -- What means a declared term has its polynomial.
-use Rattle.std.proofs.Common.{ℕ, zero, suc, ◌<◌, ◌≤◌, ◌^◌, List, [], ◌∷◌, ◌++◌, length, slice_index_or, Err, ◌⊎◌, inl, inr, ⊎_elim, arith}
+use Rattle.std.proofs.Common.{ℕ, zero, suc, ◌<◌, ◌≤◌, ◌^◌, List, [], ◌∷◌, ◌++◌, length, slice_index_or, sym, ◌∙◌, ◌⊎◌, inl, inr, ⊎_elim, arith}
 use Rattle.std.proofs.lemmas.Bool.{cases_lt}
 use Rattle.air_field.specs.Ring.{CommRing, Over, OverLaws}
 use Rattle.air_field.specs.Term.{Leaf, Term}
 use Rattle.air_field.specs.Part.{whole}
 use Rattle.air_field.specs.Degree.{greatest_degree}
-use Rattle.air_field.specs.PolynomialLaws.{Same-poly}
+use Rattle.air_field.specs.PolynomialLaws.{Same-poly, polynomial-lists_of_one}
 use Rattle.air_symbolic.specs.Leaves.{Leaves}
-use Rattle.air_symbolic.specs.Pools.{PoolMeans}
+use Rattle.air_symbolic.specs.Pools.{PoolMeans, term_at}
 use Rattle.air_symbolic.specs.declared.pools.expr.SymbolicExpr.{SymbolicExpr}
 use Rattle.air_builder.specs.Assertion.{Assertion, Base, Extension}
 use Rattle.air_builder.specs.Refusals.{PartOf}
@@ -21,7 +21,11 @@ module _ {U A F : Type 0} (r : CommRing F) (reads : U → Leaves A F) (pool : U 
   each_records a l [] (t ∷ ts) m = absurd m
   each_records a l (i ∷ is) [] m = absurd m
   each_records a l (i ∷ is) (t ∷ ts) m = (
-    record { same = λ s. Same-poly r a l s m.0.stands.same; light = m.0.stands.light },
+    record {
+      same = λ s. Same-poly r a l s m.0.stands.same;
+      same_value = λ s. sym (polynomial-lists_of_one a s (term_at reads pool i)) ∙ (Same-poly r a l (λ x. s x ∷ []) m.0.stands.same 0 ∙ polynomial-lists_of_one a s t);
+      light = m.0.stands.light;
+    },
     each_records a l is ts m.1,
   )
 

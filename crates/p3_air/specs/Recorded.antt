@@ -1,7 +1,8 @@
 -- What a recording answers and refuses.
-use Rattle.std.specs.Prelude.{◌⊎◌, ℕ, ◌≤◌, List, [], ◌∷◌, map}
+use Rattle.std.specs.Prelude.{◌≡◌, ◌⊎◌, ℕ, ◌≤◌, List, [], ◌∷◌, map}
 use Rattle.air_field.specs.Ring.{CommRing, Over, itself}
 use Rattle.air_field.specs.Term.{Leaf, Term}
+use Rattle.air_field.specs.Value.{value}
 use Rattle.air_field.specs.Polynomial.{polynomial, SamePolynomial}
 use Rattle.air_field.specs.Degree.{degree_by, cached_weight}
 use Rattle.air_field.specs.Assignment.{IsMissing}
@@ -17,9 +18,10 @@ use Rattle.p3_air.specs.Recording.{EachMeans, IsOver}
 use Rattle.p3_air.specs.Refused.{Refused}
 
 -- a recorded term for one that is declared: in an algebra, the same polynomial under every assignment of coefficient
--- lists, and a degree that is no greater by any weights
+-- lists, the same value under every assignment, and a degree that is no greater by any weights
 pub record RecordsTerm {F E : Type 0} (a : Over F E) (u t : Term F) : Type 0 where
   pub same : (s : Leaf → List E) → SamePolynomial (polynomial a s u) (polynomial a s t)
+  pub same_value : (s : Leaf → E) → value a s u ≡ value a s t
   pub light : (w : Leaf → ℕ) → degree_by w u ≤ degree_by w t
 
 -- one for each, in order
