@@ -1,6 +1,3 @@
-pub mod OwnExtension
-pub mod ExtensionAirs
-pub mod ExtensionRows
 pub mod Powers
 pub mod RowsAt
 pub mod Reports
@@ -15,3 +12,4 @@ pub mod BasisParts
 pub mod FoldLaws
 pub mod WeightLaws
 pub mod SymbolicGrowth
+pub mod ExtRows

@@ -24,11 +24,9 @@ pub mod Recorded
 pub mod Inferred
 pub mod Debug
 pub mod DebugLaws
-pub mod DebugValues
 pub mod DebugRow
 pub mod FailureTexts
 pub mod DebugLabels
 pub mod DebugLabelLaws
 pub mod Checks
-pub mod TestAirs
 pub mod Plain

@@ -5,7 +5,6 @@ ghost use Rattle.air_builder.specs.Assertion.{Base};
 ghost use Rattle.air_builder.specs.Beside.{nothing_beside};
 
 mod checks;
-mod extension;
 mod labels;
 mod layouts;
 mod recordings;

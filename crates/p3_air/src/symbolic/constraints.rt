@@ -1,6 +1,7 @@
 //! What a symbolic builder has recorded.
 ghost use Rattle.std.specs.Prelude.{◌≡◌, [], IfOk, OnOk, OnErr, IfErr};
 ghost use Rattle.p3_air.specs.Folds.{ArePlacesOf};
+ghost use Rattle.p3_air.specs.Kinds.{is_base, is_extension, places_where};
 ghost use Rattle.p3_air.specs.Recording.{with_base, with_ext};
 ghost use Rattle.p3_air.specs.RecordedLists.{lists_of};
 
@@ -70,20 +71,41 @@ impl<F: Field, EF: ExtensionField<F>> Constraints<F, EF> {
         ensures places { IfOk result (λ l. ArePlacesOf self.now.kinds.items l.base_indices.items l.ext_indices.items) }
         ensures refused { IfErr result (λ e. e ≡ AirError.Memory) }
     {
-        let mut base_indices = Vec::new(alloc);
-        let mut ext_indices = Vec::new(alloc);
-        for (place, kind) in self.kinds.iter().enumerate() {
-            let pushed = match kind {
-                ConstraintKind::Base => base_indices.push(place),
-                ConstraintKind::Extension => ext_indices.push(place),
-            };
-            if pushed.is_err() {
-                return Err(AirError::Memory);
-            }
-        }
+        let base_indices = base_places(alloc, &self.kinds)?;
+        let ext_indices = ext_places(alloc, &self.kinds)?;
         Ok(ConstraintLayout {
             base_indices,
             ext_indices,
         })
     }
+}
+
+/// The places of the base kinds.
+fn base_places(alloc: Global, kinds: &[ConstraintKind]) -> Result<Vec<usize>, AirError>
+    ensures places { IfOk result (λ places. places.items ≡ places_where is_base kinds.now) }
+    ensures refused { IfErr result (λ e. e ≡ AirError.Memory) }
+{
+    let mut places = Vec::new(alloc);
+    for (place, kind) in kinds.iter().enumerate() {
+        match kind {
+            ConstraintKind::Base => places.push(place).map_err(|_| AirError::Memory)?,
+            ConstraintKind::Extension => {}
+        }
+    }
+    Ok(places)
+}
+
+/// The places of the extension kinds.
+fn ext_places(alloc: Global, kinds: &[ConstraintKind]) -> Result<Vec<usize>, AirError>
+    ensures places { IfOk result (λ places. places.items ≡ places_where is_extension kinds.now) }
+    ensures refused { IfErr result (λ e. e ≡ AirError.Memory) }
+{
+    let mut places = Vec::new(alloc);
+    for (place, kind) in kinds.iter().enumerate() {
+        match kind {
+            ConstraintKind::Base => {}
+            ConstraintKind::Extension => places.push(place).map_err(|_| AirError::Memory)?,
+        }
+    }
+    Ok(places)
 }

@@ -7,7 +7,6 @@ use Rattle.p3_air.specs.Debug.{nonzero_from}
 use Rattle.p3_air.specs.DebugLaws.{IsFull}
 use Rattle.p3_air.specs.Given.{given, given_trace, height, table_grid}
 use Rattle.p3_air.specs.Refused.{Refused}
-use Rattle.p3_air.proofs.OwnExtension.{own_nonzero}
 use Rattle.p3_air.proofs.RowsAt.{row_at-given, shape-given, around_table, periodic_refusal}
 use Rattle.p3_air.proofs.checks.check.check_row.Goals as goal
 
@@ -29,9 +28,7 @@ returns-clause-checked g c =
     record {
       more = grew.more;
       failures = ap (λ v. v.items) c.into_failures.ensures ∙ grew.failures;
-      places = grew.places
-          ∙ (ap (map (λ k. (row, k))) (own_nonzero r eq g.F.ExtensionField.over g.met.F.SelfExtension.over_itself row _ 0 ts)
-          ∙ ap (λ v. map (λ k. (row, k)) (nonzero_from r eq (leaf_value r.nil v) 0 ts)) same);
+      places = grew.places ∙ ap (λ v. map (λ k. (row, k)) (nonzero_from r eq (leaf_value r.nil v) 0 ts)) same;
       constraints = grew.count ∙ search rules;
     }
 
