@@ -22,7 +22,7 @@ use std::alloc::Global;
 use std::test::Fail;
 
 /// Columns x and y: at each row x y is zero, and the next x is zero.
-struct Products {}
+pub struct Products {}
 
 impl<F: Copy> BaseAir<F> for Products {
     ghost declared = { λ _. Base (mul_term (leaf_term (main 0 0)) (leaf_term (main 0 1))) ∷ Base (leaf_term (main 1 0)) ∷ [] };

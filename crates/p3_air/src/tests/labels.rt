@@ -168,20 +168,20 @@ fn a_recording_asks_for_no_label(rt: HostRuntime) -> Result<(), Fail> {
         num_permutation_values: 0,
         num_periodic_columns: 0,
     };
-    let mut builder = SymbolicAirBuilder::<BabyBear>::new(rt.alloc(), layout)?;
+    let mut builder = SymbolicAirBuilder::<BabyBear, BabyBear>::new(rt.alloc(), layout)?;
     let name = Lazy(|| {
         asked.set(1);
         Ok("never")
     });
     assert_named(&mut builder, name)?;
-    assert_eq!(rt; builder.constraints.len(), 1);
-    let mut builder = SymbolicAirBuilder::<BabyBear>::new(rt.alloc(), layout)?;
+    assert_eq!(rt; builder.constraints.base.len(), 1);
+    let mut builder = SymbolicAirBuilder::<BabyBear, BabyBear>::new(rt.alloc(), layout)?;
     let name = Lazy(|| {
         asked.set(2);
         Ok("never")
     });
     assert_unlabelled(&mut builder, name)?;
-    assert_eq!(rt; builder.constraints.len(), 1);
+    assert_eq!(rt; builder.constraints.base.len(), 1);
     assert_eq!(rt; asked.get(), 0);
     Ok(())
 }
