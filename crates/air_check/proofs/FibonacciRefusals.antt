@@ -78,7 +78,7 @@ module _ (F : Type 0) where
   over n b t (inl o) p = absurd (omega (arith, o, parts_below cached_weight 2 fibonacci cached_below t p))
   over n b t (inr o) p = absurd (omega (arith, o, b, parts_below (trace_weight n []) (n + n + 1) fibonacci (trace_below n) t p))
 
-  degree_part_refuses : (n : ℕ) (e : AirError) → n < 2 ^ 63 → Refused (IsMissing (layout_shape (plain_layout 2 3))) (λ t. IsOver cached_weight t ⊎ IsOver (trace_weight n []) t) (λ _. ⊥) e fibonacci → e ≡ Memory
+  degree_part_refuses : (n : ℕ) (e : AirError) → n < 2 ^ 63 → Refused {F = F} (IsMissing (layout_shape (plain_layout 2 3))) (λ t. IsOver cached_weight t ⊎ IsOver (trace_weight n []) t) (λ _. ⊥) e fibonacci → e ≡ Memory
   degree_part_refuses n Memory b h = refl
   degree_part_refuses n CountOverflow b h = absurd h
   degree_part_refuses n (MissingEntry e i) b h = absurd (none_missing_in (layout_shape (plain_layout 2 3)) refl refl (entry_leaf e i) h.0 h.1)

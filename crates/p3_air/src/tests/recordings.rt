@@ -2,9 +2,8 @@
 
 use crate::tests::Products;
 use crate::{
-    Air, AirBuilder, AirError, AirLayout, BabyBear, BinomialExtensionField, ExtAlgebra, ExtEntry,
-    ExtensionBuilder, ExtensionField, Field, FromVar, PermutationAirBuilder, SymbolicAirBuilder,
-    SymbolicVariableExt, WindowAccess, get_all_symbolic_constraints, get_constraint_layout,
+    Air, AirError, AirLayout, BabyBear, BinomialExtensionField, ExtEntry, PermutationAirBuilder,
+    SymbolicAirBuilder, SymbolicVariableExt, WindowAccess, get_all_symbolic_constraints, get_constraint_layout,
     get_max_constraint_degree_extension, get_symbolic_constraints,
     get_symbolic_constraints_extension,
 };
@@ -59,7 +58,7 @@ fn compares_the_layout_first(rt: HostRuntime) -> Result<(), Fail> {
 }
 
 #[test]
-fn records_extension_constraints(rt: HostRuntime) -> Result<(), Fail> {
+fn lends_extension_variables(rt: HostRuntime) -> Result<(), Fail> {
     let layout = AirLayout {
         permutation_width: 1,
         num_permutation_challenges: 1,
@@ -76,14 +75,12 @@ fn records_extension_constraints(rt: HostRuntime) -> Result<(), Fail> {
     assert_eq!(rt; window.current(1), None);
     assert_eq!(rt; builder.permutation_randomness().len(), 1);
     assert_eq!(rt; builder.permutation_values().len(), 1);
-    let column = builder.ext_ring().variable(current)?;
-    builder.assert_zero_ext(column)?;
     Products {}.eval(&mut builder)?;
     assert_eq!(rt; builder.base_constraints().len(), 2);
-    assert_eq!(rt; builder.extension_constraints().len(), 1);
+    assert_eq!(rt; builder.extension_constraints().len(), 0);
     let places = builder.constraint_layout()?;
-    assert_eq!(rt; places.total_constraints(), 3);
-    assert_eq!(rt; places.base_indices.as_slice(), [1, 2].as_slice());
-    assert_eq!(rt; places.ext_indices.as_slice(), [0].as_slice());
+    assert_eq!(rt; places.total_constraints(), 2);
+    assert_eq!(rt; places.base_indices.as_slice(), [0, 1].as_slice());
+    assert_eq!(rt; places.ext_indices.len(), 0);
     Ok(())
 }
