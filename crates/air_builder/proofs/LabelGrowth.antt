@@ -56,7 +56,7 @@ module _ {S F : Type 0} {grew : S → S → List (Assertion F) → Type 0} {labe
 
 module _ {S R F : Type 0} {valid : R → Type 0} {extends : R → R → Type 0} {ring_of : S → R} {with_ring : S → R → S} {stands : S → Leaf → Term F} {ready : S → Type 0} {kept : S → S → Type 0} {grew : S → S → List (Assertion F) → Type 0} {ring_refuses : RingError → Term F → Type 0} {missing : S → Leaf → Type 0} {refuses : S → AirError → List (Assertion F) → Type 0} {labelled : S → S → List (Labelled F) → Type 0} (laws : BuilderLaws ring_of with_ring stands ready kept grew valid extends ring_refuses missing refuses) (named : NamedLaws grew labelled) where
   -- the ring was lent, and then the builder grew
-  lent_labels : (a b : S) (q r : R) (ls : List (Labelled F)) → q ≡ ring_of a → extends q r → labelled (with_ring a r) b ls → labelled a b ls
+  pub lent_labels : (a b : S) (q r : R) (ls : List (Labelled F)) → q ≡ ring_of a → extends q r → labelled (with_ring a r) b ls → labelled a b ls
   lent_labels a b q r ls p e g = named.labelled_joined a (with_ring a r) b [] ls (named.labelled_nothing a (with_ring a r) (lent laws a q r p e)) g
 
   module _ {I : Type 0} (asserts : S → I → Assertion F → Type 0) (asserts_kept : (a b : S) → kept a b → (x : I) (s : Assertion F) → asserts a x s → asserts b x s) (says : ℕ → Option (List ℕ) → Type 0) where

@@ -1,3 +1,7 @@
 pub mod Growth
+pub mod ExtensionGrowth
 pub mod EachGrowth
 pub mod LabelGrowth
+pub mod ExtensionLabelGrowth
+pub mod GridRows
+pub mod PeriodicRows

@@ -3,7 +3,10 @@ pub use Rattle.air_field.specs.Term
 pub use Rattle.air_field.specs.Algebra
 pub use Rattle.air_field.specs.Grid
 pub use Rattle.air_symbolic.specs.Entries
+pub use Rattle.air_symbolic.specs.ExtEntries
 pub mod Boundary
+pub mod Periodic
+pub mod Beside
 pub mod Texts
 pub mod Errors
 pub mod WindowShapes
@@ -15,3 +18,7 @@ pub mod Filters
 pub mod Labels
 pub mod Conditions
 pub mod NamedFilters
+pub mod Extensions
+pub mod ExtensionFilters
+pub mod ExtensionLabels
+pub mod ExtensionConditions

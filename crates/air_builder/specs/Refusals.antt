@@ -1,16 +1,23 @@
 -- Where a builder may refuse.
 use Rattle.std.specs.Prelude.{◌≡◌, ◌⊎◌, ◌↔◌, ℕ, List, [], ◌∷◌, map, None, slice_get}
 use Rattle.std.proofs.Common.{inl, inr, refl, subst}
-use Rattle.air_field.specs.Term.{Leaf, Term, leaf_term, const_term, ext_const_term, add_term, sub_term, neg_term, mul_term}
+use Rattle.air_field.specs.Term.{Leaf, permutation, Term, leaf_term, const_term, ext_const_term, add_term, sub_term, neg_term, mul_term}
 use Rattle.air_field.specs.Part.{Part, whole, in_add_left, in_add_right, in_sub_left, in_sub_right, in_neg, in_mul_left, in_mul_right}
 use Rattle.air_symbolic.specs.Entries.{entry_leaf}
+use Rattle.air_symbolic.specs.ExtEntries.{ext_entry_leaf}
 use Rattle.air_builder.specs.Assertion.{Assertion, Base, Extension, filtered}
 use Rattle.air_builder.specs.declared.errors.AirError.{AirError}
-use Rattle.air_builder.specs.declared.errors.AirError.TheVariants.{MissingEntry}
+use Rattle.air_builder.specs.declared.errors.AirError.TheVariants.{MissingEntry, MissingExtEntry, NoPermutation}
 
--- the error names a leaf
+-- a column of the permutation trace
+abbrev pub IsPermutation : Leaf → Type 0
+IsPermutation l = (o : ℕ) × (i : ℕ) × (l ≡ permutation o i)
+
+-- the error names a leaf; that there is no permutation trace names each of its columns
 abbrev pub NamesLeaf : AirError → Leaf → Type 0
 NamesLeaf (MissingEntry e i) l = l ≡ entry_leaf e i
+NamesLeaf (MissingExtEntry e i) l = l ≡ ext_entry_leaf e i
+NamesLeaf NoPermutation l = IsPermutation l
 NamesLeaf _ l = ⊥
 
 -- past the end of a row, and only there, its leaves are missing

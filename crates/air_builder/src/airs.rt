@@ -1,3 +1,5 @@
 //! AIRs: what they declare, and how they tell it to a builder.
 
 pub mod air;
+pub mod columns;
+pub mod periodic;

@@ -2,10 +2,16 @@
 
 pub mod air_builder;
 pub mod assert_all;
+pub mod assert_all_ext;
 pub mod assert_all_named;
 pub mod context;
+pub mod extension;
+pub mod extension_filter;
+pub mod extension_under;
 pub mod filtered;
 pub mod named;
+pub mod named_extension;
 pub mod named_filter;
 pub mod passthrough;
+pub mod permutation;
 pub mod under;

@@ -5,7 +5,7 @@ ghost use Rattle.std.specs.Prelude.{◌≡◌};
 
 use crate::boundary::BoundaryIoError;
 use air_field::{MatrixError, RingError};
-use air_symbolic::BaseEntry;
+use air_symbolic::{BaseEntry, ExtEntry};
 use std::alloc::AllocError;
 use thiserror::Error;
 
@@ -31,6 +31,12 @@ pub enum AirError {
     #[error("a window has no row {offset}")]
     RowOffset {
         offset: usize,
+    },
+    /// There is no such entry over the extension.
+    #[error("entry {entry:?} has no index {index}")]
+    MissingExtEntry {
+        entry: ExtEntry,
+        index: usize,
     },
     /// The builder has no permutation data.
     #[error("the builder has no permutation data")]

@@ -8,4 +8,5 @@ pub mod TextLemmas
 pub mod FibonacciParts
 pub mod FibonacciCells
 pub mod FibonacciRefusals
+pub mod FibonacciReports
 pub mod Traces

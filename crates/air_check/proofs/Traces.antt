@@ -5,11 +5,11 @@ use Rattle.air_field.specs.declared.fields.baby_bear.BabyBear.{BabyBear}
 use Rattle.air_check.specs.Answer.{Finds, Answers}
 use Rattle.air_check.specs.Grammar.{parse}
 use Rattle.air_check.specs.Parsing.{residues}
-use Rattle.air_check.specs.Texts.{Found, findings_text, findings_status}
+use Rattle.air_check.specs.Texts.{Found, IsFindingsText, findings_status}
 
 pub length-rows : {T : Type 0} (h w : ℕ) (xs : List T) → length (rows_of h w xs) ≡ h
 length-rows zero w xs = refl
 length-rows (suc h) w xs = ap suc (length-rows h w (drop w xs))
 
-pub answered : (eq : BabyBear → BabyBear → Bool) (input : List ℕ) (public values : List BabyBear) (f : Found) (status : ℕ) (text : List ℕ) → parse input ≡ Some (residues public, residues values) → Finds eq (grid_of 2 values) public f → status ≡ findings_status f → text ≡ findings_text f → Answers eq input status text
+pub answered : (eq : BabyBear → BabyBear → Bool) (input : List ℕ) (public values : List BabyBear) (f : Found) (status : ℕ) (text : List ℕ) → parse input ≡ Some (residues public, residues values) → Finds eq (grid_of 2 values) public f → status ≡ findings_status f → IsFindingsText f text → Answers eq input status text
 answered eq input public values f status text e finds s t = rw e (public, values, f, refl, refl, finds, s, t)

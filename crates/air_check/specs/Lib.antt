@@ -5,4 +5,5 @@ pub mod Texts
 pub mod Refusals
 pub mod Fibonacci
 pub mod Answer
+pub mod Commands
 pub mod Outcome

@@ -1,15 +1,10 @@
 -- What a run over streams writes, and the status that it answers.
-use Rattle.std.specs.Prelude.{◌≡◌, ◌⊎◌, ℕ, List, [], ◌∷◌, codes, Bool, true, false, bytes_eq, Option}
+use Rattle.std.specs.Prelude.{◌≡◌, ◌⊎◌, ℕ, List, codes, Bool, true, false, Option, Some, None}
 use Rattle.std.specs.Io.KnownBytes.{Consumes, IsAtEnd}
 use Rattle.air_check.specs.Refusals.{IsRefusal}
+use Rattle.air_check.specs.declared.commands.Command.{Command}
 
--- exactly the one word `fibonacci`
-abbrev pub is_known : List (List ℕ) → Bool
-is_known [] = false
-is_known (word ∷ []) = bytes_eq word (codes "fibonacci")
-is_known (word ∷ more ∷ words) = false
-
--- Below, `answers` relates an input to a status and a text.
+-- Below, `answers` relates an input to a status and a text, for a command where there is one.
 
 -- The answer to all that the reader had, where it tells its bytes.
 abbrev pub IsAnswer : (List ℕ → ℕ → List ℕ → Type 0) → Option (List ℕ) → Option (List ℕ) → ℕ → List ℕ → Type 0
@@ -20,7 +15,7 @@ abbrev pub IsOutcomeOfReading : (List ℕ → ℕ → List ℕ → Type 0) → B
 IsOutcomeOfReading answers true before after status text = IsRefusal (codes "Read") status text
 IsOutcomeOfReading answers false before after status text = IsRefusal (codes "Memory") status text ⊎ IsAnswer answers before after status text
 
--- The words are judged first: where they aren't known nothing is read.
-abbrev pub IsOutcome : (List ℕ → ℕ → List ℕ → Type 0) → Bool → Bool → Option (List ℕ) → Option (List ℕ) → ℕ → List ℕ → Type 0
-IsOutcome answers false failed before after status text = IsRefusal (codes "Usage") status text × (failed ≡ false) × (after ≡ before)
-IsOutcome answers true failed before after status text = IsOutcomeOfReading answers failed before after status text
+-- The words are judged first: where they ask for no command nothing is read.
+abbrev pub IsOutcome : (Command → List ℕ → ℕ → List ℕ → Type 0) → Option Command → Bool → Option (List ℕ) → Option (List ℕ) → ℕ → List ℕ → Type 0
+IsOutcome answers None failed before after status text = IsRefusal (codes "Usage") status text × (failed ≡ false) × (after ≡ before)
+IsOutcome answers (Some command) failed before after status text = IsOutcomeOfReading (answers command) failed before after status text

@@ -3,8 +3,10 @@
 ghost use Rattle.std.specs.Prelude.{◌≡◌, ◌%◌, ◌<◌, ◌^◌, length, vec_len, IfOk, IfErr, string_bytes};
 ghost use Rattle.air_field.specs.Grid.{grid_of};
 ghost use Rattle.air_check.specs.Texts.{found, findings_status};
+ghost use Rattle.air_check.specs.Commands.{has_labels};
 ghost use Rattle.air_check.specs.Answer.{Finds, Answers, MayRefuse};
 
+use crate::commands::Command;
 use crate::fibonacci::Fibonacci;
 use crate::input::{Input, ParseFault, parse};
 use crate::refusals::Refusal;
@@ -37,9 +39,20 @@ fn refusal_of(error: AirError) -> Refusal
     }
 }
 
+/// The AIR that a command is about.
+fn air_of(command: Command) -> Fibonacci
+    ensures { result.is_named ≡ has_labels command }
+{
+    match command {
+        Command::Fibonacci => Fibonacci::new(),
+        Command::Named => Fibonacci::named(),
+    }
+}
+
 /// Checks Fibonacci on the trace, and records it and infers its degree.
 fn check(
     alloc: Global,
+    fibonacci: Fibonacci,
     main: &RowMajorMatrix<BabyBear>,
     public_values: &[BabyBear],
 ) -> Result<Findings, Refusal>
@@ -49,7 +62,6 @@ fn check(
     ensures found { IfOk result (λ findings. Finds ⟦<BabyBear as PartialEq>⟧.eq main.now public_values.now (found findings)) }
     ensures refused { IfErr result (λ why. why ≡ Refusal.Memory) }
 {
-    let fibonacci = Fibonacci {};
     let report = match check_all_constraints(alloc, &fibonacci, main, public_values, None) {
         Ok(report) => report,
         Err(error) => return Err(refusal_of(error)),
@@ -78,7 +90,7 @@ fn status(findings: &Findings) -> u8
 }
 
 /// The status and the text that answer an input.
-pub fn answer(alloc: Global, input: &[u8]) -> Result<(u8, String), Refusal>
+pub fn answer(alloc: Global, command: Command, input: &[u8]) -> Result<(u8, String), Refusal>
     ensures ok { IfOk result (λ p. Answers ⟦<BabyBear as PartialEq>⟧.eq input.now p.0 (string_bytes p.1)) }
     ensures refused { IfErr result (MayRefuse ⟦<BabyBear as PartialEq>⟧.eq input.now) }
 {
@@ -92,7 +104,7 @@ pub fn answer(alloc: Global, input: &[u8]) -> Result<(u8, String), Refusal>
         values,
     } = input;
     let main = trace_of(values);
-    let findings = check(alloc, &main, &public_values)?;
+    let findings = check(alloc, air_of(command), &main, &public_values)?;
     match findings_text(alloc, &findings) {
         Ok(text) => Ok((status(&findings), text)),
         Err(_) => Err(Refusal::Memory),

@@ -1,24 +1,56 @@
 //! Fibonacci: columns a and b, in which each row leads to the next.
-ghost use Rattle.std.specs.Prelude.{◌≡◌, [], OnOk, IfOk, IfErr, Some, None, slice_get};
+ghost use Rattle.std.specs.Prelude.{◌≡◌, true, false, if◌then◌else◌, [], OnOk, IfOk, IfErr, Some, None, slice_get};
 ghost use Rattle.air_field.specs.Term.{Leaf, Term};
+ghost use Rattle.air_builder.specs.Beside.{nothing_beside};
 ghost use Rattle.air_builder.specs.Refusals.{NoneMissing};
 ghost use Rattle.air_check.specs.Fibonacci.{fibonacci, fibonacci_first, fibonacci_step, fibonacci_last, VariablesMean, CellsMean, CellRefused};
 
-use air_builder::{Air, AirBuilder, AirError, BaseAir, WindowAccess};
-use air_field::{Algebra, Field, FromVar, RingError};
+use air_builder::{
+    Air, AirBuilder, AirError, BaseAir, BoundaryPublic, NamedAirBuilder, WindowAccess,
+};
+use air_field::{Algebra, Field, FromVar, RingError, RowMajorMatrix};
 use air_symbolic::BaseEntry;
 
 /// The Fibonacci AIR. The first row holds public values 0 and 1, each further row the second number of the one before
 /// it and the sum of both, and the last row's second number is public value 2.
+///
+/// Its assertions have labels where it is made by `named`; they change no value and no place.
 #[derive(Clone, Copy, Debug)]
-pub struct Fibonacci {}
+pub struct Fibonacci {
+    is_named: bool,
+}
 
-impl<F> BaseAir<F> for Fibonacci {
+impl Fibonacci {
+    /// The AIR whose assertions have no labels.
+    pub fn new() -> Self
+        ensures { result.is_named ≡ false }
+    {
+        Fibonacci { is_named: false }
+    }
+
+    /// The AIR whose assertions have labels.
+    pub fn named() -> Self
+        ensures { result.is_named ≡ true }
+    {
+        Fibonacci { is_named: true }
+    }
+
+    /// The label of an assertion; an empty one is none.
+    fn label(self, text: &'static str) -> &'static str
+        ensures { result.now ≡ (if self.is_named then text.now else []) }
+    {
+        if self.is_named { text } else { "" }
+    }
+}
+
+impl<F: Copy> BaseAir<F> for Fibonacci {
     ghost declared = { λ _. fibonacci };
 
     ghost width = { λ _. 2 };
 
     ghost num_public_values = { λ _. 3 };
+
+    ghost beside = { λ _. nothing_beside };
 
     fn width(&self) -> usize {
         2
@@ -26,6 +58,18 @@ impl<F> BaseAir<F> for Fibonacci {
 
     fn num_public_values(&self) -> usize {
         3
+    }
+
+    fn preprocessed_trace(&self) -> Option<&RowMajorMatrix<F>> {
+        None
+    }
+
+    fn periodic_columns(&self) -> &[Vec<F>] {
+        &[]
+    }
+
+    fn public_boundary_io(&self) -> &[BoundaryPublic] {
+        &[]
     }
 }
 
@@ -141,7 +185,11 @@ fn make_row<AB: AirBuilder>(builder: &mut AB) -> Result<Cells<AB::Expr>, AirErro
 }
 
 /// The first row holds the first two numbers.
-fn assert_first<AB: AirBuilder>(builder: &mut AB, row: Cells<AB::Expr>) -> Result<(), AirError>
+fn assert_first<AB: NamedAirBuilder>(
+    air: Fibonacci,
+    builder: &mut AB,
+    row: Cells<AB::Expr>,
+) -> Result<(), AirError>
     requires ready { AB.ready builder.old }
     requires means { CellsMean (AB.Ring.means (AB.ring_of builder.old)) (AB.stands builder.old) row.a row.b row.next_a row.next_b row.first row.second row.last row.sum }
     ensures keeps { AB.kept builder.old builder.new }
@@ -149,13 +197,17 @@ fn assert_first<AB: AirBuilder>(builder: &mut AB, row: Cells<AB::Expr>) -> Resul
     ensures refused { IfErr result (λ e. AB.refuses builder.old e fibonacci_first) }
 {
     let mut f = builder.when_first_row()?;
-    f.assert_eq(row.a, row.first)?;
-    f.assert_eq(row.b, row.second)?;
+    f.assert_eq_named(row.a, row.first, air.label("fib::first_a"))?;
+    f.assert_eq_named(row.b, row.second, air.label("fib::first_b"))?;
     Ok(())
 }
 
 /// Each row but the last leads to the next.
-fn assert_steps<AB: AirBuilder>(builder: &mut AB, row: Cells<AB::Expr>) -> Result<(), AirError>
+fn assert_steps<AB: NamedAirBuilder>(
+    air: Fibonacci,
+    builder: &mut AB,
+    row: Cells<AB::Expr>,
+) -> Result<(), AirError>
     requires ready { AB.ready builder.old }
     requires means { CellsMean (AB.Ring.means (AB.ring_of builder.old)) (AB.stands builder.old) row.a row.b row.next_a row.next_b row.first row.second row.last row.sum }
     ensures keeps { AB.kept builder.old builder.new }
@@ -163,13 +215,17 @@ fn assert_steps<AB: AirBuilder>(builder: &mut AB, row: Cells<AB::Expr>) -> Resul
     ensures refused { IfErr result (λ e. AB.refuses builder.old e fibonacci_step) }
 {
     let mut f = builder.when_transition()?;
-    f.assert_eq(row.next_a, row.b)?;
-    f.assert_eq(row.next_b, row.sum)?;
+    f.assert_eq_named(row.next_a, row.b, air.label("fib::step_a"))?;
+    f.assert_eq_named(row.next_b, row.sum, air.label("fib::step_b"))?;
     Ok(())
 }
 
 /// The last row holds the last number.
-fn assert_last<AB: AirBuilder>(builder: &mut AB, row: Cells<AB::Expr>) -> Result<(), AirError>
+fn assert_last<AB: NamedAirBuilder>(
+    air: Fibonacci,
+    builder: &mut AB,
+    row: Cells<AB::Expr>,
+) -> Result<(), AirError>
     requires ready { AB.ready builder.old }
     requires means { CellsMean (AB.Ring.means (AB.ring_of builder.old)) (AB.stands builder.old) row.a row.b row.next_a row.next_b row.first row.second row.last row.sum }
     ensures keeps { AB.kept builder.old builder.new }
@@ -177,16 +233,16 @@ fn assert_last<AB: AirBuilder>(builder: &mut AB, row: Cells<AB::Expr>) -> Result
     ensures refused { IfErr result (λ e. AB.refuses builder.old e fibonacci_last) }
 {
     let mut f = builder.when_last_row()?;
-    f.assert_eq(row.b, row.last)?;
+    f.assert_eq_named(row.b, row.last, air.label("fib::last_b"))?;
     Ok(())
 }
 
-impl<AB: AirBuilder> Air<AB> for Fibonacci {
+impl<AB: NamedAirBuilder> Air<AB> for Fibonacci {
     fn eval(&self, builder: &mut AB) -> Result<(), AirError> {
         let row = make_row(builder)?;
-        assert_first(builder, row)?;
-        assert_steps(builder, row)?;
-        assert_last(builder, row)?;
+        assert_first(*self, builder, row)?;
+        assert_steps(*self, builder, row)?;
+        assert_last(*self, builder, row)?;
         Ok(())
     }
 }

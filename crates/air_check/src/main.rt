@@ -4,6 +4,7 @@
 ghost use Rattle.std.specs.Prelude.{◌≡◌};
 
 mod answer;
+mod commands;
 mod engine;
 mod fibonacci;
 mod input;

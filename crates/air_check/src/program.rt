@@ -4,24 +4,16 @@ ghost use Rattle.std.specs.Prelude.{◌≡◌, ℕ, List, false, IfOk, OnOk, is_
 ghost use Rattle.std.specs.Io.KnownBytes.{Appends};
 ghost use Rattle.air_check.specs.Refusals.{name_of, refusal_text};
 ghost use Rattle.air_check.specs.Answer.{Answers};
-ghost use Rattle.air_check.specs.Outcome.{is_known, IsOutcome};
+ghost use Rattle.air_check.specs.Commands.{command_of};
+ghost use Rattle.air_check.specs.Outcome.{IsOutcome};
 
 use crate::answer::answer;
+use crate::commands::command_of;
 use crate::engine::{ReadFault, read_all, write_all};
 use crate::refusals::Refusal;
 use crate::streams::{Sink, Source, StreamFault};
 use air_field::BabyBear;
 use std::alloc::Global;
-
-/// Whether the program knows these words.
-fn is_known(words: &[String]) -> bool
-    ensures { result ≡ is_known (map string_bytes words.now) }
-{
-    match words {
-        [word] => word.as_str() == "fibonacci",
-        _ => false,
-    }
-}
 
 /// Writes the line of a refusal, in pieces, since there may be no memory for it.
 pub fn refuse<W: Sink>(writer: &mut W, why: Refusal) -> Result<u8, StreamFault>
@@ -46,18 +38,18 @@ pub fn run<R: Source, W: Sink>(
     requires reader { R.has_failed reader.old ≡ false }
     requires writer { W.has_failed writer.old ≡ false }
     ensures outcome { IfOk result (λ status. (text : List ℕ) × Appends (W.contents writer.old) (W.contents writer.new) text
-        × IsOutcome (Answers ⟦<BabyBear as PartialEq>⟧.eq) (is_known (map string_bytes words.now)) (R.has_failed reader.new) (R.remaining reader.old) (R.remaining reader.new) status text) }
+        × IsOutcome (λ _. Answers ⟦<BabyBear as PartialEq>⟧.eq) (command_of (map string_bytes words.now)) (R.has_failed reader.new) (R.remaining reader.old) (R.remaining reader.new) status text) }
     ensures failed { W.has_failed writer.new ≡ is_err result }
 {
-    if !is_known(words) {
+    let Some(command) = command_of(words) else {
         return refuse(writer, Refusal::Usage);
-    }
+    };
     let input = match read_all(alloc, reader) {
         Ok(input) => input,
         Err(ReadFault::Failed) => return refuse(writer, Refusal::Read),
         Err(ReadFault::Memory) => return refuse(writer, Refusal::Memory),
     };
-    match answer(alloc, &input) {
+    match answer(alloc, command, &input) {
         Ok((status, text)) => {
             write_all(writer, text.as_bytes())?;
             Ok(status)

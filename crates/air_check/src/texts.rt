@@ -1,9 +1,10 @@
 //! The text of what was found.
 
-ghost use Rattle.std.specs.Prelude.{◌≡◌, [], ◌∷◌, ◌++◌, OnOk, IfOk, string_bytes};
-ghost use Rattle.air_check.specs.Texts.{lines_text, count_lines, failure_line, found, findings_text};
+ghost use Rattle.std.specs.Prelude.{◌≡◌, ◌++◌, OnOk, IfOk, IfSome, option_map, string_bytes};
+ghost use Rattle.p3_air.specs.FailureTexts.{label_suffix, seen_failure};
+ghost use Rattle.air_check.specs.Texts.{lines_text, count_lines, found, PushesLine, IsFindingsText};
 
-use p3_air::ConstraintReport;
+use p3_air::{ConstraintFailure, ConstraintReport};
 use std::alloc::{AllocError, Global};
 
 /// What recording and checking found.
@@ -26,23 +27,39 @@ fn push_counts(text: &mut String, findings: &Findings) -> Result<(), AllocError>
     writeln!(text, "constraints {constraints}")
 }
 
-/// Adds the line of a failure.
-#[tactic(auto, unfolding(crate::specs::Texts::failure_line))]
-fn push_failure(text: &mut String, row: usize, constraint: usize) -> Result<(), AllocError>
-    ensures { OnOk result (string_bytes text.new ≡ string_bytes text.old ++ lines_text (failure_line (row, constraint) ∷ [])) }
+/// What stands behind a failure's place: nothing, or a space and the label's debug text.
+fn shown_label(alloc: Global, label: &Option<String>) -> Result<String, AllocError>
+    ensures { IfOk result (λ text. IfSome (label_suffix (option_map string_bytes label.now)) (λ suffix. string_bytes text ≡ suffix)) }
 {
-    writeln!(text, "row {row}: #{constraint}")
+    match label {
+        Some(label) => format!(in alloc; " {label:?}"),
+        None => Ok(String::new(alloc)),
+    }
+}
+
+/// Adds the line of a failure.
+#[tactic(auto, unfolding(crate::specs::Texts::place_text))]
+fn push_failure(
+    alloc: Global,
+    text: &mut String,
+    failure: &ConstraintFailure,
+) -> Result<(), AllocError>
+    ensures { OnOk result (PushesLine (seen_failure failure.now) (string_bytes text.old) (string_bytes text.new)) }
+{
+    let row = failure.row;
+    let constraint = failure.constraint;
+    let label = shown_label(alloc, &failure.label)?;
+    writeln!(text, "row {row}: #{constraint}{label}")
 }
 
 /// A line for each count and for each failure.
-#[tactic(auto, using(crate::proofs::TextLemmas::next_failure))]
 pub fn findings_text(alloc: Global, findings: &Findings) -> Result<String, AllocError>
-    ensures { IfOk result (λ text. string_bytes text ≡ findings_text (found findings.now)) }
+    ensures { IfOk result (λ text. IsFindingsText (found findings.now) (string_bytes text)) }
 {
     let mut text = String::new(alloc);
     push_counts(&mut text, findings)?;
     for failure in &findings.report.failures {
-        push_failure(&mut text, failure.row, failure.constraint)?;
+        push_failure(alloc, &mut text, failure)?;
     }
     Ok(text)
 }

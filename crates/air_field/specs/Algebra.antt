@@ -2,7 +2,7 @@
 use Rattle.std.specs.Prelude.{◌≡◌, ⊤, refl}
 use Rattle.std.proofs.Common.{ap, ap₂}
 use Rattle.air_field.specs.Ring.{CommRing, minus, Over, itself}
-use Rattle.air_field.specs.Term.{Leaf, Term, leaf_term, const_term, ext_const_term, add_term, sub_term, neg_term, mul_term, with_leaves}
+use Rattle.air_field.specs.Term.{Leaf, Term, leaf_term, const_term, ext_const_term, add_term, sub_term, neg_term, mul_term, with_leaves, IsBase}
 use Rattle.air_field.specs.Value.{value}
 use Rattle.air_field.specs.Part.{Part}
 
@@ -78,8 +78,18 @@ value_in_laws a = record {
   has_valid = λ p x h. tt;
 }
 
-pub value_laws : {R F X : Type 0} (r : CommRing F) → AlgebraLaws {R = R} {E = F} {X = X} (λ _. ⊤) (λ _ _. ⊤) (λ _ x t. closed_value r t ≡ x) (λ _ _. ⊤) (λ _ _. ⊥)
-value_laws r = value_in_laws (itself r)
+-- the same of base terms alone, whose elements are their values in the ring itself
+pub value_laws : {R F X : Type 0} (r : CommRing F) → AlgebraLaws {R = R} {E = F} {X = X} (λ _. ⊤) (λ _ _. ⊤) (λ _ x t. IsBase t × (closed_value r t ≡ x)) (λ _ _. ⊤) (λ _ _. ⊥)
+value_laws r = record {
+  refuses_whole = λ e t u p h. h;
+  same = λ p. tt;
+  joined = λ p q s g h. tt;
+  valid_stays = λ p q g h. tt;
+  has_stays = λ p q x g h. tt;
+  means_stays = λ p q x t g h. h;
+  means_has = λ p x t h. tt;
+  has_valid = λ p x h. tt;
+}
 
 -- a term with its leaves' values put in has the term's value
 module _ {F : Type 0} (r : CommRing F) (at w : Leaf → F) where

@@ -26,6 +26,7 @@ pub mod ExtAlgebra
 pub mod Grid
 pub mod Matrix
 pub mod Assignment
+pub mod OneRow
 pub mod Primality
 pub mod Modulo
 pub mod Binomial

@@ -10,3 +10,4 @@ pub mod field;
 pub mod order;
 pub mod power;
 pub mod product;
+pub mod self_extension;

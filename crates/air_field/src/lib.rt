@@ -15,6 +15,7 @@ pub use fields::binomial::BinomialExtensionField;
 pub use fields::extension::ExtensionField;
 pub use fields::field::{Field, PrimeField};
 pub use fields::order::{extension_order, field_order};
+pub use fields::self_extension::SelfExtension;
 pub use matrices::matrix::RowMajorMatrix;
 pub use matrices::view::{RowMajorMatrixView, ViewPair};
 pub use rings::algebra::{Algebra, FromVar};

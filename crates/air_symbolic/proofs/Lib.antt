@@ -2,3 +2,9 @@ pub mod Sharing
 pub mod Vectors
 pub mod Making
 pub mod Folding
+pub mod FoldedLists
+pub mod FoldedTerms
+pub mod BasePart
+pub mod Overflows
+pub mod WholeTrees
+pub mod Lowering

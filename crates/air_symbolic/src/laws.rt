@@ -5,10 +5,14 @@ ghost use Rattle.air_field.specs.Term.{Leaf, Term};
 ghost use Rattle.air_field.specs.Polynomial.{polynomial, SamePolynomial, HasDegreeAtMost};
 ghost use Rattle.air_field.specs.Degree.{degree_by};
 ghost use Rattle.air_symbolic.specs.Pools.{IsPool, PoolMeans, tree_at, term_at};
+ghost use Rattle.air_symbolic.specs.ExtLeaves.{ext_reads};
+ghost use Rattle.air_symbolic.specs.ExtTrees.{whole_tree_at};
 
+use crate::leaves::ext_leaf::ExtLeaf;
 use crate::leaves::sym_leaf::SymLeaf;
 use crate::pools::expr::ExprId;
 use crate::pools::pool::ExprPool;
+use air_field::{ExtensionField, Field};
 
 /// Two numbers of a pool are equal exactly where their trees are.
 pub fn is_same_tree<A: SymLeaf>(pool: &ExprPool<A>, x: ExprId<A>, y: ExprId<A>) -> bool
@@ -18,6 +22,20 @@ pub fn is_same_tree<A: SymLeaf>(pool: &ExprPool<A>, x: ExprId<A>, y: ExprId<A>) 
     ensures { Decides result (tree_at pool.now x ≡ tree_at pool.now y) }
 {
     x == y
+}
+
+/// Two numbers of an extension pool are equal exactly where their trees are, each Base leaf being its whole base tree.
+pub fn is_same_whole_tree<F: Field, EF: ExtensionField<F>>(
+    pool: &ExprPool<ExtLeaf<F, EF>>,
+    x: ExprId<ExtLeaf<F, EF>>,
+    y: ExprId<ExtLeaf<F, EF>>,
+) -> bool
+    requires pool { IsPool (ext_reads F.ring F.eq EF.coefficients) pool.now }
+    requires x_in { x < length pool.now.1 }
+    requires y_in { y < length pool.now.1 }
+    ensures { Decides result (whole_tree_at pool.now x ≡ whole_tree_at pool.now y) }
+{
+    is_same_tree(pool, x, y)
 }
 
 /// An expression has the polynomial of each term that it means, under every assignment over every algebra `E`.

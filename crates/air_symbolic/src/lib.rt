@@ -9,11 +9,18 @@ mod tests;
 pub mod variables;
 
 pub use leaves::base_leaf::BaseLeaf;
+pub use leaves::ext_leaf::ExtLeaf;
 pub use leaves::sym_leaf::SymLeaf;
 pub use pools::expr::{ExprId, SymbolicExpr};
 pub use pools::pool::ExprPool;
+pub use pools::weight::{Degrees, LeafWeight};
 pub use variables::entry::BaseEntry;
+pub use variables::ext_entry::ExtEntry;
 pub use variables::variable::SymbolicVariable;
+pub use variables::variable_ext::SymbolicVariableExt;
 
 /// A node of an expression of base leaves.
 pub type SymbolicExpression<F> = SymbolicExpr<BaseLeaf<F>>;
+
+/// A node of an expression of extension leaves.
+pub type SymbolicExpressionExt<F, EF> = SymbolicExpr<ExtLeaf<F, EF>>;

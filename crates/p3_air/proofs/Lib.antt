@@ -1,3 +1,15 @@
+pub mod Powers
 pub mod RowsAt
 pub mod Reports
+pub mod CellsListed
 pub mod Recordings
+pub mod Least
+pub mod InferredDegrees
+pub mod FailureLists
+pub mod Tabulations
+pub mod SumLaws
+pub mod BasisParts
+pub mod FoldLaws
+pub mod WeightLaws
+pub mod SymbolicGrowth
+pub mod ExtRows

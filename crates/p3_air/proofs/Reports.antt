@@ -1,5 +1,5 @@
 -- The report grows by a row's places.
-use Rattle.std.proofs.Common.{◌≡◌, ℕ, zero, suc, ◌+◌, List, [], ◌∷◌, ◌++◌, map, length, Bool, true, false, not, cond, refl, ◌∙◌, ap, arith, add-one}
+use Rattle.std.proofs.Common.{◌≡◌, ℕ, zero, suc, ◌+◌, List, [], ◌∷◌, ◌++◌, map, length, Bool, true, false, not, cond, refl, sym, ◌∙◌, ap, arith, add-one}
 use Rattle.std.specs.List.{filter, flat_map, range_with_len, enumerate_from}
 use Rattle.std.proofs.lemmas.List.{map-append, append-nil}
 use Rattle.std.proofs.lemmas.List.Elements.{filter-append}
@@ -8,7 +8,9 @@ use Rattle.std.proofs.Math.Dec.{eqb-suc-zero}
 use Rattle.air_field.specs.Ring.{CommRing}
 use Rattle.air_field.specs.Assignment.{Trace, row_assignment}
 use Rattle.air_builder.specs.Assertion.{Assertion}
-use Rattle.p3_air.specs.Report.{assertion_value, all_places, is_nonzero, place, report_of, count_shown}
+use Rattle.p3_air.specs.Checks.{CheckedRow}
+use Rattle.p3_air.specs.Report.{assertion_value, all_places, failure_place, is_nonzero, place, report_of, count_shown}
+use Rattle.p3_air.specs.declared.debug.failure.ConstraintFailure.{ConstraintFailure}
 use Rattle.p3_air.specs.Debug.{nonzero_from}
 
 range_more : (a n : ℕ) → range_with_len a (suc n) ≡ range_with_len a n ++ (a + n) ∷ []
@@ -42,6 +44,15 @@ module _ {F : Type 0} (r : CommRing F) (eq : F → F → Bool) (trace : Trace F)
       ∙ (ap (map place) (filter-append test (all_places h ts) (map (λ p. (h, p)) (enumerate_from 0 ts)))
       ∙ (map-append place (filter test (all_places h ts)) (filter test (map (λ p. (h, p)) (enumerate_from 0 ts)))
       ∙ ap (λ l. report_of r eq trace ts h ++ l) (row_places h (enumerate_from 0 ts)))))
+
+  -- what a checked row adds are its places
+  pub checked_more : (ts : List (Assertion F)) (row : ℕ) (fs gs : List ConstraintFailure) (count : ℕ) → CheckedRow r eq trace ts row fs gs count → map failure_place fs ≡ report_of r eq trace ts row → map failure_place gs ≡ report_of r eq trace ts (row + 1)
+  checked_more ts row fs gs count checked places =
+      ap (map failure_place) checked.failures
+      ∙ (map-append failure_place fs checked.more
+      ∙ (ap (λ l. l ++ map failure_place checked.more) places
+      ∙ (ap (λ l. report_of r eq trace ts row ++ l) checked.places
+      ∙ sym (report_of-more ts row))))
 
 -- where a row ran, the count is that of the list
 pub count_shown-more : {F : Type 0} (ts : List (Assertion F)) (n : ℕ) → length ts ≡ count_shown ts (n + 1)

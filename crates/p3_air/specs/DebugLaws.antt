@@ -16,7 +16,7 @@ use Rattle.p3_air.specs.Report.{assertion_value, failure_place}
 use Rattle.p3_air.specs.Debug.{RowData, row_leaves, nonzero_from, GrewAtRow}
 use Rattle.p3_air.specs.declared.debug.failure.ConstraintFailure.{ConstraintFailure}
 
-enumerate_from-append : {X : Type 0} (n : ℕ) (xs ys : List X) → enumerate_from n (xs ++ ys) ≡ enumerate_from n xs ++ enumerate_from (n + length xs) ys
+pub enumerate_from-append : {X : Type 0} (n : ℕ) (xs ys : List X) → enumerate_from n (xs ++ ys) ≡ enumerate_from n xs ++ enumerate_from (n + length xs) ys
 enumerate_from-append n [] ys = ap (λ m. enumerate_from m ys) (omega arith)
 enumerate_from-append n (x ∷ xs) ys =
     let e : (n + 1) + length xs ≡ n + length (x ∷ xs) = omega arith in
@@ -59,27 +59,27 @@ module _ {F : Type 0} (r : CommRing F) (eq : F → F → Bool) where
 
   -- one assertion, whose expression is the value v
   module _ (d : RowData F) (m : ℕ) (fs : List ConstraintFailure) (v : F) (t : Term F) (e : closed_value r (with_leaves (λ l. const_term (row_leaves r d l)) t) ≡ v) where
-    its_value : value (itself r) (row_leaves r d) t ≡ v
+    pub its_value : value (itself r) (row_leaves r d) t ≡ v
     its_value = sym (value-with_leaves r (row_leaves r d) (λ _. r.nil) t) ∙ e
 
-    pub asserted_zero : eq v r.nil ≡ true → GrewAtRow r eq d d m (m + 1) fs fs (Base t ∷ [])
-    asserted_zero z =
+    pub asserted_zero : (f : RowData F) (n : ℕ) (gs : List ConstraintFailure) → f ≡ d → n ≡ m + 1 → eq v r.nil ≡ true → gs ≡ fs → GrewAtRow r eq d f m n fs gs (Base t ∷ [])
+    asserted_zero f n gs same count z p =
         let b : eq (value (itself r) (row_leaves r d) t) r.nil ≡ true = ap (λ w. eq w r.nil) its_value ∙ z in
         record {
-          same_row = refl;
-          count = omega arith;
+          same_row = same;
+          count = omega (arith, count);
           more = [];
-          failures = sym (append-nil fs);
+          failures = p ∙ sym (append-nil fs);
           places = ap (λ c. map (λ i. (d.row, i)) (map (λ (p : ℕ × Assertion F). p.0) (cond (not c) ((m, Base t) ∷ []) []))) (sym b);
         }
 
-    pub asserted_other : (gs : List ConstraintFailure) (f : ConstraintFailure) → eq v r.nil ≡ false → gs ≡ fs ++ f ∷ [] → failure_place f ≡ (d.row, m) → GrewAtRow r eq d d m (m + 1) fs gs (Base t ∷ [])
-    asserted_other gs f z p q =
+    pub asserted_other : (f : RowData F) (n : ℕ) (gs : List ConstraintFailure) (failure : ConstraintFailure) → f ≡ d → n ≡ m + 1 → eq v r.nil ≡ false → gs ≡ fs ++ failure ∷ [] → failure_place failure ≡ (d.row, m) → GrewAtRow r eq d f m n fs gs (Base t ∷ [])
+    asserted_other f n gs failure same count z p q =
         let b : eq (value (itself r) (row_leaves r d) t) r.nil ≡ false = ap (λ w. eq w r.nil) its_value ∙ z in
         record {
-          same_row = refl;
-          count = omega arith;
-          more = f ∷ [];
+          same_row = same;
+          count = omega (arith, count);
+          more = failure ∷ [];
           failures = p;
           places = ap (λ x. x ∷ []) q ∙ ap (λ c. map (λ i. (d.row, i)) (map (λ (p : ℕ × Assertion F). p.0) (cond (not c) ((m, Base t) ∷ []) []))) (sym b);
         }

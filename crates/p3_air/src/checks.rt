@@ -1,4 +1,7 @@
 //! Checks of a whole trace.
 
+pub mod cells;
 pub mod check;
+pub mod check_first;
 pub mod report;
+pub mod shapes;

@@ -3,3 +3,5 @@
 pub mod builder;
 pub mod builder_impl;
 pub mod failure;
+mod logging;
+pub mod named;

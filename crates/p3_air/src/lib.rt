@@ -11,28 +11,38 @@ pub mod layouts;
 pub mod symbolic;
 
 pub use air_builder::{
-    Air, AirBuilder, AirBuilderWithContext, AirError, AssertAll, AssertAllNamed, BaseAir,
-    BoundaryEnd, BoundaryIoError, BoundaryPublic, Element, EvaluatedJoined, FilteredAirBuilder,
-    Joined, Lazy, Name, NamedAirBuilder, Namespace, NamespaceExt, PassthroughNamedAirBuilder,
-    RowWindow, TwoRows, WindowAccess, boundary,
+    Air, AirBuilder, AirBuilderWithContext, AirError, AssertAll, AssertAllExt, AssertAllNamed,
+    BaseAir, BoundaryEnd, BoundaryIoError, BoundaryPublic, Element, EvaluatedJoined,
+    ExtensionBuilder, FilteredAirBuilder, Joined, Lazy, Name, NamedAirBuilder,
+    NamedExtensionBuilder, Namespace, NamespaceExt, PassthroughNamedAirBuilder,
+    PermutationAirBuilder, RowWindow, TwoRows, WindowAccess, boundary,
 };
 pub use air_field::{
     Algebra, BabyBear, BinomialExtensionField, ExtAlgebra, ExtFieldRing, ExtensionField, Field,
     FieldRing, FromVar, MatrixError, PrimeField, RingError, RowMajorMatrix, RowMajorMatrixView,
-    ViewPair,
+    SelfExtension, ViewPair,
 };
 pub use air_symbolic::{
-    BaseEntry, BaseLeaf, ExprId, ExprPool, SymLeaf, SymbolicExpr, SymbolicExpression,
-    SymbolicVariable,
+    BaseEntry, BaseLeaf, Degrees, ExprId, ExprPool, ExtEntry, ExtLeaf, LeafWeight, SymLeaf,
+    SymbolicExpr, SymbolicExpression, SymbolicExpressionExt, SymbolicVariable,
+    SymbolicVariableExt,
 };
 pub use checks::check::check_all_constraints;
+pub use checks::check_first::{CheckError, check_constraints};
 pub use checks::report::ConstraintReport;
 pub use debug::builder::DebugConstraintBuilder;
 pub use debug::failure::ConstraintFailure;
 pub use layouts::air_layout::AirLayout;
+pub use layouts::constraint_layout::ConstraintLayout;
 pub use symbolic::builder::SymbolicAirBuilder;
-pub use symbolic::degree::{constraint_degree_from_poly_degree, get_max_constraint_degree};
-pub use symbolic::record::{Recorded, get_symbolic_constraints};
+pub use symbolic::degree::{
+    constraint_degree_from_poly_degree, get_max_constraint_degree,
+    get_max_constraint_degree_extension,
+};
+pub use symbolic::record::{
+    Recorded, get_all_symbolic_constraints, get_constraint_layout, get_symbolic_constraints,
+    get_symbolic_constraints_extension,
+};
 
 #[cfg(test)]
 mod tests;

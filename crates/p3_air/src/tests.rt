@@ -2,12 +2,18 @@
 ghost use Rattle.std.specs.Prelude.{◌≡◌, ◌∷◌, [], IfOk, IfErr, Some, None};
 ghost use Rattle.air_field.specs.Term.{Term, main, leaf_term, mul_term};
 ghost use Rattle.air_builder.specs.Assertion.{Base};
+ghost use Rattle.air_builder.specs.Beside.{nothing_beside};
+
+mod checks;
+mod labels;
+mod layouts;
+mod recordings;
 
 use crate::{
     AirLayout, DebugConstraintBuilder, SymbolicAirBuilder, check_all_constraints,
     constraint_degree_from_poly_degree, get_max_constraint_degree, get_symbolic_constraints,
 };
-use air_builder::{Air, AirBuilder, AirError, BaseAir, WindowAccess};
+use air_builder::{Air, AirBuilder, AirError, BaseAir, BoundaryPublic, WindowAccess};
 use air_field::{
     BabyBear, Field, FromVar, RingError, RowMajorMatrix, RowMajorMatrixView, ViewPair,
 };
@@ -16,14 +22,16 @@ use std::alloc::Global;
 use std::test::Fail;
 
 /// Columns x and y: at each row x y is zero, and the next x is zero.
-struct Products {}
+pub struct Products {}
 
-impl<F> BaseAir<F> for Products {
+impl<F: Copy> BaseAir<F> for Products {
     ghost declared = { λ _. Base (mul_term (leaf_term (main 0 0)) (leaf_term (main 0 1))) ∷ Base (leaf_term (main 1 0)) ∷ [] };
 
     ghost width = { λ _. 2 };
 
     ghost num_public_values = { λ _. 1 };
+
+    ghost beside = { λ _. nothing_beside };
 
     fn width(&self) -> usize {
         2
@@ -31,6 +39,18 @@ impl<F> BaseAir<F> for Products {
 
     fn num_public_values(&self) -> usize {
         1
+    }
+
+    fn preprocessed_trace(&self) -> Option<&RowMajorMatrix<F>> {
+        None
+    }
+
+    fn periodic_columns(&self) -> &[Vec<F>] {
+        &[]
+    }
+
+    fn public_boundary_io(&self) -> &[BoundaryPublic] {
+        &[]
     }
 }
 
@@ -147,19 +167,6 @@ fn names_the_entry_that_is_missing(rt: HostRuntime) -> Result<(), Fail> {
     let narrow = matrix(rt.alloc(), &[0, 0], 1)?;
     let checked = check_all_constraints(rt.alloc(), &Products {}, &narrow, &[], None);
     assert_eq!(rt; checked.err(), Some(missing));
-    let layout = AirLayout {
-        main_width: 1,
-        ..AirLayout::from_air::<BabyBear, Products>(&Products {})
-    };
-    let recorded = get_symbolic_constraints::<BabyBear, Products>(rt.alloc(), &Products {}, layout);
-    assert_eq!(rt; recorded.err(), Some(missing));
-    let degree = get_max_constraint_degree::<BabyBear, Products>(
-        rt.alloc(),
-        &Products {},
-        layout,
-        4,
-    );
-    assert_eq!(rt; degree.err(), Some(missing));
     Ok(())
 }
 
@@ -185,8 +192,8 @@ fn records_one_expression_for_each_place(rt: HostRuntime) -> Result<(), Fail> {
     )?;
     assert_eq!(rt; recorded.base.len(), 2);
     for (number, degree) in recorded.base.iter().zip([2, 1]) {
-        assert!(rt; recorded.pool.contains(*number));
-        assert_eq!(rt; recorded.pool.degree_multiple(*number), degree);
+        assert!(rt; recorded.pool.base().contains(*number));
+        assert_eq!(rt; recorded.pool.base().degree_multiple(*number), degree);
     }
     Ok(())
 }
@@ -226,7 +233,10 @@ fn evaluates_one_row(rt: HostRuntime) -> Result<(), Fail> {
     let top = [BabyBear::new(1), BabyBear::new(2)];
     let bottom = [BabyBear::new(3), BabyBear::new(4)];
     let public = [BabyBear::new(7)];
-    let none = RowMajorMatrixView::new_row(&[]);
+    let before = [BabyBear::new(8)];
+    let after = [BabyBear::new(9)];
+    let mut periodic = Vec::new(rt.alloc());
+    periodic.push(BabyBear::new(6))?;
     let mut builder = DebugConstraintBuilder::new(
         rt.alloc(),
         9,
@@ -234,18 +244,24 @@ fn evaluates_one_row(rt: HostRuntime) -> Result<(), Fail> {
             RowMajorMatrixView::new_row(&top),
             RowMajorMatrixView::new_row(&bottom),
         ),
-        ViewPair::new(none, none),
+        ViewPair::new(
+            RowMajorMatrixView::new_row(&before),
+            RowMajorMatrixView::new_row(&after),
+        ),
         &public,
         BabyBear::ONE,
         BabyBear::ZERO,
         BabyBear::TWO,
-        Vec::new(rt.alloc()),
+        periodic,
     );
     let window = builder.main()?;
     assert_eq!(rt; window.current(1), Some(BabyBear::new(2)));
     assert_eq!(rt; window.next(0), Some(BabyBear::new(3)));
     assert_eq!(rt; window.next(2), None);
     assert_eq!(rt; builder.public_values(), public.as_slice());
+    assert_eq!(rt; builder.preprocessed().current(0), Some(BabyBear::new(8)));
+    assert_eq!(rt; builder.preprocessed().next(0), Some(BabyBear::new(9)));
+    assert_eq!(rt; builder.periodic_values(), [BabyBear::new(6)].as_slice());
     assert_eq!(rt; builder.is_first_row()?, BabyBear::ONE);
     assert_eq!(rt; builder.is_last_row()?, BabyBear::ZERO);
     assert_eq!(rt; builder.is_transition()?, BabyBear::TWO);
@@ -266,8 +282,12 @@ fn evaluates_one_row(rt: HostRuntime) -> Result<(), Fail> {
 
 #[test]
 fn lends_variables(rt: HostRuntime) -> Result<(), Fail> {
-    let layout = AirLayout::from_air::<BabyBear, Products>(&Products {});
-    let builder = SymbolicAirBuilder::<BabyBear>::new(rt.alloc(), layout)?;
+    let layout = AirLayout {
+        preprocessed_width: 1,
+        num_periodic_columns: 1,
+        ..AirLayout::from_air::<BabyBear, Products>(&Products {})
+    };
+    let builder = SymbolicAirBuilder::<BabyBear, BabyBear>::new(rt.alloc(), layout)?;
     let window = builder.main()?;
     let current = SymbolicVariable::new(BaseEntry::Main { offset: 0 }, 1);
     let next = SymbolicVariable::new(BaseEntry::Main { offset: 1 }, 0);
@@ -276,5 +296,11 @@ fn lends_variables(rt: HostRuntime) -> Result<(), Fail> {
     assert_eq!(rt; window.current(2), None);
     let public = [SymbolicVariable::new(BaseEntry::Public, 0)];
     assert_eq!(rt; builder.public_values(), public.as_slice());
+    let before = SymbolicVariable::new(BaseEntry::Preprocessed { offset: 0 }, 0);
+    let after = SymbolicVariable::new(BaseEntry::Preprocessed { offset: 1 }, 0);
+    assert_eq!(rt; builder.preprocessed().current(0), Some(before));
+    assert_eq!(rt; builder.preprocessed().next(0), Some(after));
+    let periodic = [SymbolicVariable::new(BaseEntry::Periodic, 0)];
+    assert_eq!(rt; builder.periodic_values(), periodic.as_slice());
     Ok(())
 }

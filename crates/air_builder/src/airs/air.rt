@@ -1,19 +1,35 @@
 //! AIRs.
-ghost use Rattle.std.specs.Prelude.{◌≡◌, ℕ, List, OnOk, IfErr};
+ghost use Rattle.std.specs.Prelude.{◌≡◌, ℕ, List, None, false, length, IfOk, IfErr, OnOk};
+ghost use Rattle.std.specs.List.{range_with_len};
+ghost use Rattle.std.specs.Option.{option_copied};
 ghost use Rattle.air_builder.specs.Assertion.{Assertion};
+ghost use Rattle.air_builder.specs.Beside.{Beside, table_width};
+ghost use Rattle.air_builder.specs.Periodic.{MatchPeriodicMatrix, MatchPeriodicValues};
 ghost use Rattle.air_builder.specs.Refusals.{NoneMissing};
 
+use crate::airs::columns::columns_below;
+use crate::airs::periodic::{periodic_matrix, periodic_row};
+use crate::boundary::BoundaryPublic;
 use crate::builders::air_builder::AirBuilder;
 use crate::errors::AirError;
+use air_field::RowMajorMatrix;
+use std::alloc::Global;
 
-/// What an AIR says of itself. Every answer is a function of the AIR's value.
-pub trait BaseAir<F> {
+/// What an AIR says of itself. Every answer is a function of the AIR's value, want of memory apart.
+pub trait BaseAir<F: Copy> {
     /// The constraints, in order: base or extension terms, the same for all builders.
     ghost declared: { Self → List (Assertion F) };
 
     ghost width: { Self → ℕ };
 
     ghost num_public_values: { Self → ℕ };
+
+    /// The preprocessed table, the periodic columns and the boundary cells.
+    ghost beside: { Self → Beside F };
+
+    /// An implementation with bodies of its own for the lists of next-row columns or the three hints says so, and states
+    /// its answers at its methods.
+    ghost has_own_hints: { Self → Type 0 } = { λ _. ⊥ };
 
     /// The number of columns of the main trace.
     fn width(&self) -> usize
@@ -22,6 +38,87 @@ pub trait BaseAir<F> {
     /// The number of public values.
     fn num_public_values(&self) -> usize
         ensures { result ≡ num_public_values self.now };
+
+    /// The preprocessed table, if there is one: as many rows as the main trace.
+    fn preprocessed_trace(&self) -> Option<&RowMajorMatrix<F>>
+        ensures { option_copied result ≡ (beside self.now).preprocessed };
+
+    /// The number of columns of the preprocessed table, 0 without one.
+    fn preprocessed_width(&self) -> usize
+        ensures { result ≡ table_width (beside self.now).preprocessed }
+    {
+        match self.preprocessed_trace() {
+            Some(table) => table.width(),
+            None => 0,
+        }
+    }
+
+    /// The periodic columns, each the values of one period.
+    fn periodic_columns(&self) -> &[Vec<F>]
+        ensures { result.now ≡ (beside self.now).periodic };
+
+    fn num_periodic_columns(&self) -> usize
+        ensures { result ≡ length (beside self.now).periodic }
+    {
+        self.periodic_columns().len()
+    }
+
+    /// Each periodic column's value at the row: the column at the row modulo its length. The first empty column is
+    /// refused.
+    fn periodic_values(&self, alloc: Global, row_index: usize) -> Result<Vec<F>, AirError>
+        ensures { MatchPeriodicValues (beside self.now).periodic row_index result }
+    {
+        periodic_row(alloc, self.periodic_columns(), row_index)
+    }
+
+    /// The periodic columns as a matrix that has as many rows as the greatest period; None without columns. The first
+    /// empty column is refused where another isn't empty.
+    fn periodic_columns_matrix(&self, alloc: Global) -> Result<Option<RowMajorMatrix<F>>, AirError>
+        ensures { MatchPeriodicMatrix (beside self.now).periodic result }
+    {
+        periodic_matrix(alloc, self.periodic_columns())
+    }
+
+    /// The columns of the main trace whose next row the constraints read: all of them.
+    fn main_next_row_columns(&self, alloc: Global) -> Result<Vec<usize>, AirError>
+        ensures all { (has_own_hints self.now → ⊥) → IfOk result (λ columns. columns.items ≡ range_with_len 0 (width self.now)) }
+        ensures refused { IfErr result (λ e. e ≡ AirError.Memory) }
+    {
+        columns_below(alloc, self.width())
+    }
+
+    /// The columns of the preprocessed table whose next row the constraints read: all of them.
+    fn preprocessed_next_row_columns(&self, alloc: Global) -> Result<Vec<usize>, AirError>
+        ensures all { (has_own_hints self.now → ⊥) → IfOk result (λ columns. columns.items ≡ range_with_len 0 (table_width (beside self.now).preprocessed)) }
+        ensures refused { IfErr result (λ e. e ≡ AirError.Memory) }
+    {
+        columns_below(alloc, self.preprocessed_width())
+    }
+
+    /// How many constraints the AIR has, where it says so.
+    fn num_constraints(&self) -> Option<usize>
+        ensures { (has_own_hints self.now → ⊥) → result ≡ None }
+    {
+        None
+    }
+
+    /// A bound on the constraints' degree, where the AIR gives one.
+    fn max_constraint_degree(&self) -> Option<usize>
+        ensures { (has_own_hints self.now → ⊥) → result ≡ None }
+    {
+        None
+    }
+
+    /// The cells of the main trace that hold public values.
+    fn public_boundary_io(&self) -> &[BoundaryPublic]
+        ensures { result.now ≡ (beside self.now).cells };
+
+    /// Whether the AIR is sound only where each cell of the main trace is a bit, which its constraints don't enforce.
+    fn assumes_boolean_trace(&self) -> bool
+        ensures { (has_own_hints self.now → ⊥) → result ≡ false }
+    {
+        false
+    }
 }
 
 /// An AIR for builders of one type.

@@ -3,7 +3,7 @@ ghost use Rattle.std.specs.Prelude.{◌≡◌, ◌≤◌, List, [], ◌∷◌, l
 ghost use Rattle.std.specs.List.{zip};
 ghost use Rattle.std.specs.Borrow.{sem, Lends};
 ghost use Rattle.air_field.specs.Algebra.{MadeOf, RefusedOf, bool_check_term};
-ghost use Rattle.air_field.specs.Term.{Leaf, main, public, first_row, last_row, transition, Term, leaf_term, const_term, sub_term};
+ghost use Rattle.air_field.specs.Term.{Leaf, preprocessed, main, periodic, public, first_row, last_row, transition, Term, leaf_term, const_term, sub_term};
 ghost use Rattle.air_builder.specs.Assertion.{Assertion};
 ghost use Rattle.air_builder.specs.Builders.{Means, MeansOfBoth, RowStands, BuilderLaws, GrewOf, GrewOfBoth, RefusesOf, RefusesOfBoth, less_one_term};
 ghost use Rattle.air_builder.specs.Batches.{AssertsOf, AssertsOfBoth, GrewByEach, GrewByBeginning, RefusesByEach};
@@ -39,11 +39,16 @@ pub trait AirBuilder {
 
     type PublicVar: Copy;
 
+    type PeriodicVar: Copy;
+
+    type PreprocessedWindow: WindowAccess<Self::Var>;
+
     type MainWindow: WindowAccess<Self::Var> + Drop;
 
     type Ring: Algebra<Self::F, Elem = Self::Expr>
         + FromVar<Self::F, Self::Var>
-        + FromVar<Self::F, Self::PublicVar>;
+        + FromVar<Self::F, Self::PublicVar>
+        + FromVar<Self::F, Self::PeriodicVar>;
 
     /// The ring in which this builder's expressions are made.
     ghost ring_of: { Self → Self.Ring };
@@ -86,10 +91,23 @@ pub trait AirBuilder {
         ensures next_ends { IfOk result (λ w. RowEnds (missing self.now) (λ i. main 1 i) (Self.MainWindow.next_row w)) }
         ensures refused { IfErr result (λ e. e ≡ AirError.Memory) };
 
+    /// The window of the preprocessed trace; without one it has no columns.
+    fn preprocessed(&self) -> &Self::PreprocessedWindow
+        ensures window { Self.PreprocessedWindow.is_window result.now }
+        ensures current { RowStands Self.Ring.FromVar-1.var_means (λ i. stands self.now (preprocessed 0 i)) (Self.PreprocessedWindow.current_row result.now) }
+        ensures next { RowStands Self.Ring.FromVar-1.var_means (λ i. stands self.now (preprocessed 1 i)) (Self.PreprocessedWindow.next_row result.now) }
+        ensures current_ends { RowEnds (missing self.now) (λ i. preprocessed 0 i) (Self.PreprocessedWindow.current_row result.now) }
+        ensures next_ends { RowEnds (missing self.now) (λ i. preprocessed 1 i) (Self.PreprocessedWindow.next_row result.now) };
+
     /// The public values.
     fn public_values(&self) -> &[Self::PublicVar]
         ensures stands { RowStands Self.Ring.FromVar-2.var_means (λ i. stands self.now (public i)) result.now }
         ensures ends { RowEnds (missing self.now) public result.now };
+
+    /// The values of the periodic columns.
+    fn periodic_values(&self) -> &[Self::PeriodicVar]
+        ensures stands { RowStands Self.Ring.FromVar-3.var_means (λ i. stands self.now (periodic i)) result.now }
+        ensures ends { RowEnds (missing self.now) periodic result.now };
 
     /// One on the first row, else zero.
     fn is_first_row(&mut self) -> Result<Self::Expr, AirError>

@@ -50,6 +50,10 @@ impl<'a, AB: AirBuilder> AirBuilder for FilteredAirBuilder<'a, AB> {
 
     type PublicVar = AB::PublicVar;
 
+    type PeriodicVar = AB::PeriodicVar;
+
+    type PreprocessedWindow = AB::PreprocessedWindow;
+
     type MainWindow = AB::MainWindow;
 
     type Ring = AB::Ring;
@@ -80,8 +84,16 @@ impl<'a, AB: AirBuilder> AirBuilder for FilteredAirBuilder<'a, AB> {
         self.inner.main()
     }
 
+    fn preprocessed(&self) -> &AB::PreprocessedWindow {
+        self.inner.preprocessed()
+    }
+
     fn public_values(&self) -> &[AB::PublicVar] {
         self.inner.public_values()
+    }
+
+    fn periodic_values(&self) -> &[AB::PeriodicVar] {
+        self.inner.periodic_values()
     }
 
     fn is_first_row(&mut self) -> Result<AB::Expr, AirError> {

@@ -1,5 +1,5 @@
 //! A builder that keeps the values that are asserted: every leaf is one, and no row has columns.
-ghost use Rattle.std.specs.Prelude.{◌≡◌, ⊤, refl, OnOk};
+ghost use Rattle.std.specs.Prelude.{◌≡◌, [], ⊤, refl, OnOk};
 ghost use Rattle.std.proofs.Common.{◌∙◌};
 ghost use Rattle.air_field.specs.Modulo.{class};
 ghost use Rattle.air_field.specs.Term.{first_row, last_row, transition, const_term};
@@ -21,12 +21,29 @@ pub struct LoggedFailure {
     pub label: Option<String>,
 }
 
+/// A window without columns.
+#[derive(Drop)]
+pub struct NoColumns {
+    pub window: TwoRows<BabyBear>,
+    pub ghost current: { window.current.items ≡ [] },
+    pub ghost next: { window.next.items ≡ [] },
+}
+
+impl NoColumns {
+    pub fn new(alloc: Global) -> Self {
+        NoColumns {
+            window: TwoRows::new(Vec::new(alloc), Vec::new(alloc)),
+        }
+    }
+}
+
 /// The values in order, and which of them weren't zero.
 #[derive(Drop)]
 pub struct ValueLog {
     alloc: Global,
     ring: FieldRing<BabyBear>,
     context: u32,
+    no_columns: NoColumns,
     pub values: Vec<BabyBear>,
     pub failures: Vec<LoggedFailure>,
 }
@@ -37,6 +54,7 @@ impl ValueLog {
             alloc,
             ring: FieldRing::new(),
             context,
+            no_columns: NoColumns::new(alloc),
             values: Vec::new(alloc),
             failures: Vec::new(alloc),
         }
@@ -70,6 +88,10 @@ impl AirBuilder for ValueLog {
     type Var = BabyBear;
 
     type PublicVar = BabyBear;
+
+    type PeriodicVar = BabyBear;
+
+    type PreprocessedWindow = TwoRows<BabyBear>;
 
     type MainWindow = TwoRows<BabyBear>;
 
@@ -122,7 +144,15 @@ impl AirBuilder for ValueLog {
         Ok(TwoRows::new(Vec::new(self.alloc), Vec::new(self.alloc)))
     }
 
+    fn preprocessed(&self) -> &TwoRows<BabyBear> {
+        &self.no_columns.window
+    }
+
     fn public_values(&self) -> &[BabyBear] {
+        &[]
+    }
+
+    fn periodic_values(&self) -> &[BabyBear] {
         &[]
     }
 

@@ -9,15 +9,26 @@ use std::test::*;
 
 const MANY: u64 = 1000;
 
-fn words(alloc: Global) -> Result<Vec<String>, Fail> {
+fn words(alloc: Global, word: &str) -> Result<Vec<String>, Fail> {
     let mut words = Vec::new(alloc);
-    words.push(String::from_str(alloc, "fibonacci")?)?;
+    words.push(String::from_str(alloc, word)?)?;
     Ok(words)
 }
 
-/// Runs on an input in pieces of three lengths.
+/// Runs without labels on an input in pieces of three lengths.
 fn answers(
     rt: &(impl Abort + AllocGlobal),
+    input: &[u8],
+    text: &str,
+    status: u8,
+) -> Result<(), Fail> {
+    answers_word(rt, "fibonacci", input, text, status)
+}
+
+/// The same of any word.
+fn answers_word(
+    rt: &(impl Abort + AllocGlobal),
+    word: &str,
     input: &[u8],
     text: &str,
     status: u8,
@@ -26,7 +37,7 @@ fn answers(
     for most in [1, 3, 4096] {
         let mut reader = Pieces::new(input, most, MANY);
         let mut writer = Kept::new(alloc, most, MANY);
-        let answered = run(alloc, &words(alloc)?, &mut reader, &mut writer)?;
+        let answered = run(alloc, &words(alloc, word)?, &mut reader, &mut writer)?;
         assert_eq!(rt; writer.bytes(), text.as_bytes(), "for {input:?}");
         assert_eq!(rt; answered, status, "for {input:?}");
     }
@@ -50,6 +61,26 @@ fn reports_each_failure(rt: HostRuntime) -> Result<(), Fail> {
         "degree 2\nrows 4\nconstraints 5\nrow 1: #3\nrow 2: #2\nrow 2: #3\n",
         1,
     )
+}
+
+#[test]
+fn names_each_failure(rt: HostRuntime) -> Result<(), Fail> {
+    answers_word(&rt, "named", b"0 1 3\n0 1\n1 1\n1 2\n2 3\n", FOUR_ROWS, 0)?;
+    answers_word(
+        &rt,
+        "named",
+        b"0 1 3\n0 1\n1 1\n1 5\n2 3\n",
+        "degree 2\nrows 4\nconstraints 5\nrow 1: #3 \"fib::step_b\"\nrow 2: #2 \"fib::step_a\"\nrow 2: #3 \"fib::step_b\"\n",
+        1,
+    )?;
+    answers_word(
+        &rt,
+        "named",
+        b"0 1 3\n7 7\n",
+        "degree 2\nrows 1\nconstraints 5\nrow 0: #0 \"fib::first_a\"\nrow 0: #1 \"fib::first_b\"\nrow 0: #4 \"fib::last_b\"\n",
+        1,
+    )?;
+    answers_word(&rt, "named", b"0 1", "refused: Syntax\n", 2)
 }
 
 #[test]
@@ -101,7 +132,7 @@ fn goes_over_std_streams(rt: HostRuntime) -> Result<(), Fail> {
     let mut written = Vec::new(alloc);
     let mut reader = ReadSource::new(b"0 1 1\n0 1".as_slice());
     let mut writer = WriteSink::new(&mut written);
-    let status = run(alloc, &words(alloc)?, &mut reader, &mut writer)?;
+    let status = run(alloc, &words(alloc, "fibonacci")?, &mut reader, &mut writer)?;
     assert_eq!(rt; status, 0);
     assert_eq!(rt;
         written.as_slice(),

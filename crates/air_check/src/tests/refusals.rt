@@ -21,7 +21,16 @@ fn words(alloc: Global, text: &str) -> Result<Vec<String>, Fail> {
 #[test]
 fn refuses_other_words(rt: HostRuntime) -> Result<(), Fail> {
     let alloc = rt.alloc();
-    for text in ["", "fib", "Fibonacci", "fibonacci fibonacci", "fibonacci 1"] {
+    for text in [
+        "",
+        "fib",
+        "Fibonacci",
+        "Named",
+        "named ",
+        "fibonacci named",
+        "fibonacci fibonacci",
+        "fibonacci 1",
+    ] {
         let mut reader = Pieces::new(INPUT, 3, MANY);
         let mut writer = Kept::new(alloc, 4, MANY);
         let status = run(alloc, &words(alloc, text)?, &mut reader, &mut writer)?;

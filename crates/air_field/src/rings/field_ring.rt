@@ -1,6 +1,7 @@
 //! The ring whose elements are the values themselves.
 ghost use Rattle.std.specs.Prelude.{◌≡◌, ⊤, IsTrue};
 ghost use Rattle.air_field.specs.Ring.{minus};
+ghost use Rattle.air_field.specs.Term.{IsBase};
 ghost use Rattle.air_field.specs.Algebra.{closed_value, value_laws};
 
 use crate::errors::RingError;
@@ -8,7 +9,7 @@ use crate::fields::field::Field;
 use crate::rings::algebra::{Algebra, FromVar};
 use std::marker::PhantomData;
 
-/// The field as a ring: it keeps nothing and refuses nothing.
+/// The field as a ring: it keeps nothing and refuses nothing. Its elements mean base terms alone.
 #[derive(Clone, Copy)]
 pub struct FieldRing<F> {
     of: PhantomData<F>,
@@ -27,7 +28,7 @@ impl<F: Field> Algebra<F> for FieldRing<F> {
 
     ghost has = { λ _ _. ⊤ };
 
-    ghost means = { λ _ x t. closed_value F.ring t ≡ x };
+    ghost means = { λ _ x t. IsBase t × (closed_value F.ring t ≡ x) };
 
     ghost extends = { λ _ _. ⊤ };
 
@@ -73,7 +74,7 @@ impl<F: Field> Algebra<F> for FieldRing<F> {
 }
 
 impl<F: Field> FromVar<F, F> for FieldRing<F> {
-    ghost var_means = { λ v t. closed_value F.ring t ≡ v };
+    ghost var_means = { λ v t. IsBase t × (closed_value F.ring t ≡ v) };
 
     fn from_var(&mut self, v: F) -> Result<F, RingError>
         ensures { result ≡ Ok v }

@@ -48,6 +48,17 @@ impl<F: Field> SymLeaf for BaseLeaf<F> {
         }
     }
 
+    fn degree_multiple_with_transition(
+        &self,
+        weight: usize,
+        under: &(),
+    ) -> Result<usize, RingError> {
+        match self {
+            BaseLeaf::IsTransition => Ok(weight),
+            _ => Ok(self.degree_multiple(under)),
+        }
+    }
+
     fn poly_degree(
         &self,
         trace_len: usize,

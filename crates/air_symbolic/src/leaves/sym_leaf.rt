@@ -1,6 +1,6 @@
 //! What a leaf of an expression has to tell.
 ghost use Rattle.std.specs.Prelude.{◌≡◌, IfOk, IfErr, Decides};
-ghost use Rattle.air_field.specs.Degree.{degree_by, cached_weight, trace_weight};
+ghost use Rattle.air_field.specs.Degree.{degree_by, cached_weight, transition_weight, trace_weight};
 ghost use Rattle.air_symbolic.specs.Leaves.{Leaves, LeafLaws, IsConstLeaf};
 ghost use Rattle.air_symbolic.specs.PoolRefusals.{AnswersDegree};
 
@@ -38,6 +38,15 @@ pub trait SymLeaf: Copy + Eq + Ord + Debug {
         requires { (reads under.now).valid self.now }
         ensures { result ≡ (reads under.now).constant self.now };
 
+    /// The same with the weight `weight` for the transition selector.
+    fn degree_multiple_with_transition(
+        &self,
+        weight: usize,
+        under: &Self::Under,
+    ) -> Result<usize, RingError>
+        requires { (reads under.now).valid self.now }
+        ensures { AnswersDegree (degree_by (transition_weight weight) ((reads under.now).term self.now)) result };
+
     /// The degree of the leaf's polynomial over `trace_len` rows; `periods` holds the lengths of the periodic columns.
     fn poly_degree(
         &self,
@@ -54,6 +63,46 @@ pub trait SymLeaf: Copy + Eq + Ord + Debug {
         ensures grown { grows under.old under.new }
         ensures made { IfOk result (IsConstLeaf (reads under.new) c) }
         ensures refused { IfErr result (λ e. e ≡ RingError.Memory) };
+
+    /// The leaf of 0.
+    fn zero(under: &mut Self::Under) -> Result<Self, RingError>
+        requires { (reads under.old).sound }
+        ensures grown { grows under.old under.new }
+        ensures made { IfOk result (IsConstLeaf (reads under.new) Self.F.ring.nil) }
+        ensures refused { IfErr result (λ e. e ≡ RingError.Memory) }
+    {
+        Self::from_const(Self::F::ZERO, under)
+    }
+
+    /// The leaf of 1.
+    fn one(under: &mut Self::Under) -> Result<Self, RingError>
+        requires { (reads under.old).sound }
+        ensures grown { grows under.old under.new }
+        ensures made { IfOk result (IsConstLeaf (reads under.new) Self.F.ring.one) }
+        ensures refused { IfErr result (λ e. e ≡ RingError.Memory) }
+    {
+        Self::from_const(Self::F::ONE, under)
+    }
+
+    /// The leaf of 2.
+    fn two(under: &mut Self::Under) -> Result<Self, RingError>
+        requires { (reads under.old).sound }
+        ensures grown { grows under.old under.new }
+        ensures made { IfOk result (IsConstLeaf (reads under.new) (Self.F.ring.add Self.F.ring.one Self.F.ring.one)) }
+        ensures refused { IfErr result (λ e. e ≡ RingError.Memory) }
+    {
+        Self::from_const(Self::F::TWO, under)
+    }
+
+    /// The leaf of -1.
+    fn neg_one(under: &mut Self::Under) -> Result<Self, RingError>
+        requires { (reads under.old).sound }
+        ensures grown { grows under.old under.new }
+        ensures made { IfOk result (IsConstLeaf (reads under.new) (Self.F.ring.neg Self.F.ring.one)) }
+        ensures refused { IfErr result (λ e. e ≡ RingError.Memory) }
+    {
+        Self::from_const(Self::F::NEG_ONE, under)
+    }
 
     ghost eq_is: { (x y : Self) → Decides (Self.eq x y) (x ≡ y) };
 

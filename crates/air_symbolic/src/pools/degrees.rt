@@ -1,12 +1,14 @@
 //! Degrees by weights of the leaves other than the cached ones, by recursion on the nodes.
-ghost use Rattle.std.specs.Prelude.{◌≡◌, ℕ, ◌<◌, ◌+◌, max, length};
-ghost use Rattle.air_field.specs.Degree.{degree_by, trace_weight};
+ghost use Rattle.std.specs.Prelude.{◌≡◌, ◌≢◌, ℕ, ◌<◌, ◌+◌, max, length, map, All, IfOk, IfErr};
+ghost use Rattle.air_field.specs.Degree.{degree_by, transition_weight, trace_weight};
+ghost use Rattle.air_symbolic.specs.Weights.{leaf_weight, SomeOverflows};
 ghost use Rattle.air_symbolic.specs.Pools.{IsPool, term_at};
 ghost use Rattle.air_symbolic.specs.PoolRefusals.{AnswersDegree};
 
 use crate::leaves::sym_leaf::SymLeaf;
 use crate::pools::expr::{ExprId, SymbolicExpr};
 use crate::pools::pool::ExprPool;
+use crate::pools::weight::{Degrees, LeafWeight};
 use air_field::RingError;
 
 // The degree of a sum.
@@ -38,6 +40,41 @@ fn added_degree(
 }
 
 impl<A: SymLeaf> ExprPool<A> {
+    // The degree by the leaves' weights.
+    fn degree_with(&self, id: ExprId<A>, weight: LeafWeight<'_>) -> Result<usize, RingError>
+        requires pool { IsPool A.reads self.now }
+        requires here { id < length self.now.1 }
+        ensures { AnswersDegree (degree_by (leaf_weight weight.entry) (term_at A.reads self.now id)) result }
+    {
+        match self.node(id) {
+            SymbolicExpr::Leaf(a) => weight.degree_of(*a, &self.under),
+            SymbolicExpr::Add { x, y, .. } => {
+                greater_degree(self.degree_with(*x, weight), self.degree_with(*y, weight))
+            }
+            SymbolicExpr::Sub { x, y, .. } => {
+                greater_degree(self.degree_with(*x, weight), self.degree_with(*y, weight))
+            }
+            SymbolicExpr::Neg { x, .. } => self.degree_with(*x, weight),
+            SymbolicExpr::Mul { x, y, .. } => {
+                added_degree(self.degree_with(*x, weight), self.degree_with(*y, weight))
+            }
+        }
+    }
+
+    /// The cached degree with the weight `weight` for the transition selector; it is refused with `DegreeOverflow`
+    /// exactly where it passes `usize`. No memory is taken.
+    pub fn degree_multiple_with_transition(
+        &self,
+        id: ExprId<A>,
+        weight: usize,
+    ) -> Result<usize, RingError>
+        requires pool { IsPool A.reads self.now }
+        requires here { id < length self.now.1 }
+        ensures { AnswersDegree (degree_by (transition_weight weight) (term_at A.reads self.now id)) result }
+    {
+        self.degree_with(id, LeafWeight::Transition(weight))
+    }
+
     /// The degree of the expression's polynomial over `trace_len` rows; `periods` holds the lengths of the periodic
     /// columns. It is refused with `DegreeOverflow` exactly where it passes `usize`. No memory is taken.
     pub fn poly_degree(
@@ -50,21 +87,22 @@ impl<A: SymLeaf> ExprPool<A> {
         requires here { id < length self.now.1 }
         ensures { AnswersDegree (degree_by (trace_weight trace_len periods.now) (term_at A.reads self.now id)) result }
     {
-        match self.node(id) {
-            SymbolicExpr::Leaf(a) => a.poly_degree(trace_len, periods, &self.under),
-            SymbolicExpr::Add { x, y, .. } => greater_degree(
-                self.poly_degree(*x, trace_len, periods),
-                self.poly_degree(*y, trace_len, periods),
-            ),
-            SymbolicExpr::Sub { x, y, .. } => greater_degree(
-                self.poly_degree(*x, trace_len, periods),
-                self.poly_degree(*y, trace_len, periods),
-            ),
-            SymbolicExpr::Neg { x, .. } => self.poly_degree(*x, trace_len, periods),
-            SymbolicExpr::Mul { x, y, .. } => added_degree(
-                self.poly_degree(*x, trace_len, periods),
-                self.poly_degree(*y, trace_len, periods),
-            ),
+        self.degree_with(id, LeafWeight::Trace { trace_len, periods })
+    }
+
+    /// The degree of each root by the leaves' weights. It is refused with `DegreeOverflow` exactly where that of some
+    /// root passes `usize`.
+    pub fn degrees(&self, roots: &[ExprId<A>], weight: LeafWeight<'_>) -> Result<Degrees, RingError>
+        requires pool { IsPool A.reads self.now }
+        requires all_in { All (λ x. x < length self.now.1) roots.now }
+        ensures values { IfOk result (λ d. d.values.items ≡ map (λ x. degree_by (leaf_weight weight.entry) (term_at A.reads self.now x)) roots.now) }
+        ensures refused { IfErr result (λ e. e ≢ RingError.Memory → SomeOverflows (map (λ x. degree_by (leaf_weight weight.entry) (term_at A.reads self.now x)) roots.now)) }
+    {
+        let mut values = Vec::new(*self.nodes.allocator());
+        for root in roots {
+            let degree = self.degree_with(*root, weight)?;
+            values.push(degree)?;
         }
+        Ok(Degrees { values })
     }
 }

@@ -1,7 +1,9 @@
 //! The debug builder: it holds the values at one row, and evaluates what is asserted there.
-ghost use Rattle.std.specs.Prelude.{◌≡◌, ◌≢◌, ◌↔◌, IsTrue, []};
+ghost use Rattle.std.specs.Prelude.{◌≡◌, ◌≢◌, ◌↔◌, IsTrue, [], IfOk, IfErr, IfSome, string_bytes};
+ghost use Rattle.p3_air.specs.FailureTexts.{failures_text};
 
-use crate::debug::failure::ConstraintFailure;
+use crate::debug::failure::{ConstraintFailure, failures_text};
+use air_builder::{AirError, RowWindow};
 use air_field::{Field, FieldRing, ViewPair};
 use std::alloc::Global;
 
@@ -10,7 +12,7 @@ use std::alloc::Global;
 pub struct DebugConstraintBuilder<'a, F: Field> {
     pub(crate) row_index: usize,
     pub(crate) main: ViewPair<'a, F>,
-    pub(crate) preprocessed: ViewPair<'a, F>,
+    pub(crate) preprocessed: RowWindow<'a, F>,
     pub(crate) public_values: &'a [F],
     pub(crate) is_first_row: F,
     pub(crate) is_last_row: F,
@@ -36,7 +38,8 @@ impl<'a, F: Field> DebugConstraintBuilder<'a, F> {
     ) -> Self
         ensures row_index { result.row_index ≡ row_index }
         ensures main { result.main ≡ main.entry }
-        ensures preprocessed { result.preprocessed ≡ preprocessed.entry }
+        ensures preprocessed { result.preprocessed.current.now ≡ preprocessed.entry.top.values.now }
+        ensures preprocessed_next { result.preprocessed.next.now ≡ preprocessed.entry.bottom.values.now }
         ensures public_values { result.public_values.now ≡ public_values.now }
         ensures is_first_row { result.is_first_row ≡ is_first_row }
         ensures is_last_row { result.is_last_row ≡ is_last_row }
@@ -48,7 +51,10 @@ impl<'a, F: Field> DebugConstraintBuilder<'a, F> {
         DebugConstraintBuilder {
             row_index,
             main,
-            preprocessed,
+            preprocessed: RowWindow::from_two_rows(
+                preprocessed.top.values,
+                preprocessed.bottom.values,
+            ),
             public_values,
             is_first_row,
             is_last_row,
@@ -72,6 +78,15 @@ impl<'a, F: Field> DebugConstraintBuilder<'a, F> {
         ensures { result.now ≡ self.now.failures.items }
     {
         self.failures.as_slice()
+    }
+
+    /// The failures in brackets, joined by `, `, as `[#0, #2 "label"]`. It refuses for want of memory alone.
+    pub fn formatted_failures(&self) -> Result<String, AirError>
+        ensures text { IfOk result (λ text. IfSome (failures_text self.now.failures.items) (λ bytes. string_bytes text ≡ bytes)) }
+        ensures refused { IfErr result (λ e. e ≡ AirError.Memory) }
+    {
+        let text = failures_text(*self.failures.allocator(), &self.failures)?;
+        Ok(text)
     }
 
     /// The assertions that failed, handed over.

@@ -1,15 +1,16 @@
 //! The debug builder keeps the laws of builders.
-ghost use Rattle.std.specs.Prelude.{◌≡◌, refl, ⊤};
+ghost use Rattle.std.specs.Prelude.{◌≡◌, refl, ⊤, [], OnOk, OnErr, IfErr};
 ghost use Rattle.air_field.specs.Term.{const_term};
+ghost use Rattle.air_builder.specs.Builders.{Means, GrewOf, RefusesOf};
 ghost use Rattle.p3_air.specs.Debug.{row_leaves, GrewAtRow};
+ghost use Rattle.p3_air.specs.DebugLabels.{LogRefuses};
 ghost use Rattle.p3_air.specs.DebugLaws.{debug_laws, RowMissing, IsFull};
 ghost use Rattle.p3_air.specs.Refused.{Refused};
 ghost use Rattle.p3_air.specs.DebugRow.{row_of};
 
 use crate::debug::builder::DebugConstraintBuilder;
-use crate::debug::failure::ConstraintFailure;
 use air_builder::{AirBuilder, AirError, RowWindow};
-use air_field::{Field, FieldRing};
+use air_field::{Algebra, Field, FieldRing};
 
 impl<'a, F: Field> AirBuilder for DebugConstraintBuilder<'a, F> {
     type F = F;
@@ -19,6 +20,10 @@ impl<'a, F: Field> AirBuilder for DebugConstraintBuilder<'a, F> {
     type Var = F;
 
     type PublicVar = F;
+
+    type PeriodicVar = F;
+
+    type PreprocessedWindow = RowWindow<'a, F>;
 
     type MainWindow = RowWindow<'a, F>;
 
@@ -50,8 +55,16 @@ impl<'a, F: Field> AirBuilder for DebugConstraintBuilder<'a, F> {
         Ok(RowWindow::from_two_rows(self.main.top.values, self.main.bottom.values))
     }
 
+    fn preprocessed(&self) -> &RowWindow<'a, F> {
+        &self.preprocessed
+    }
+
     fn public_values(&self) -> &[F] {
         self.public_values
+    }
+
+    fn periodic_values(&self) -> &[F] {
+        self.periodic_row.as_slice()
     }
 
     fn is_first_row(&mut self) -> Result<F, AirError> {
@@ -66,23 +79,13 @@ impl<'a, F: Field> AirBuilder for DebugConstraintBuilder<'a, F> {
         Ok(self.is_transition)
     }
 
-    fn assert_zero(&mut self, x: F) -> Result<(), AirError> {
-        if self.constraint_index == usize::MAX {
-            return Err(AirError::CountOverflow);
-        }
-        if x == F::ZERO {
-            self.constraint_index += 1;
-            return Ok(());
-        }
-        let failure = ConstraintFailure {
-            row: self.row_index,
-            constraint: self.constraint_index,
-            label: None,
-        };
-        if self.failures.push(failure).is_err() {
-            return Err(AirError::Memory);
-        }
-        self.constraint_index += 1;
-        Ok(())
+    fn assert_zero(&mut self, x: F) -> Result<(), AirError>
+        ensures keeps { row_of self.new ≡ row_of self.old }
+        ensures ok { OnOk result (GrewOf (Means ⟦<FieldRing<F> as Algebra<F>>⟧.means ⟦<DebugConstraintBuilder<'a, F> as AirBuilder>⟧.ring_of ⟦<DebugConstraintBuilder<'a, F> as AirBuilder>⟧.stands) ⟦<DebugConstraintBuilder<'a, F> as AirBuilder>⟧.grew (λ t. t) self.old self.new x) }
+        ensures err { OnErr result (⟦<DebugConstraintBuilder<'a, F> as AirBuilder>⟧.grew self.old self.new []) }
+        ensures refused { IfErr result (RefusesOf (Means ⟦<FieldRing<F> as Algebra<F>>⟧.means ⟦<DebugConstraintBuilder<'a, F> as AirBuilder>⟧.ring_of ⟦<DebugConstraintBuilder<'a, F> as AirBuilder>⟧.stands) ⟦<DebugConstraintBuilder<'a, F> as AirBuilder>⟧.refuses (λ t. t) self.old x) }
+        ensures passes { IfErr result (LogRefuses self.old.constraint_index (F.eq x F.ring.nil)) }
+    {
+        self.log(x == F::ZERO, "")
     }
 }

@@ -14,16 +14,16 @@ returns-clause-ok g c =
     let laws = g.met.AB.AirBuilder.laws in
     let f = c.in_ok-f.ensures in
     let i = cells_kept ring laws _ _ _ _ _ _ _ _ _ _ (laws.by_growth _ _ [] f.inner) c.requires.means in
-    let one = c.in_ok-assert_eq.ensures.ok (leaf_term (main 0 1)) (leaf_term (public 2)) i.b_means i.last_means in
+    let one = c.in_ok-assert_eq_named.ensures.ok (leaf_term (main 0 1)) (leaf_term (public 2)) i.b_means i.last_means in
     after_filter ring laws _ _ _ _ _ _ _ _ [] _ (leaf_term last_row) f.inner f.condition one (search rules)
 
-pub returns-in_err-assert_eq-clause-refused : goal.returns-in_err-assert_eq-clause-refused
-returns-in_err-assert_eq-clause-refused g c =
+pub returns-in_err-assert_eq_named-clause-refused : goal.returns-in_err-assert_eq_named-clause-refused
+returns-in_err-assert_eq_named-clause-refused g c =
     let ring = g.met.AB.Ring.Algebra.laws in
     let laws = g.met.AB.AirBuilder.laws in
     let f = c.in_ok-f.ensures in
     let i = cells_kept ring laws _ _ _ _ _ _ _ _ _ _ (laws.by_growth _ _ [] f.inner) c.requires.means in
-    let p = err_from_is_err_and c.from_residual-in_err-assert_eq.result c.from_residual-in_err-assert_eq.ensures.1 in
-    let h = c.in_err-assert_eq.ensures.refused (leaf_term (main 0 1)) (leaf_term (public 2)) i.b_means i.last_means in
+    let p = err_from_is_err_and c.from_residual-in_err-assert_eq_named.result c.from_residual-in_err-assert_eq_named.ensures.1 in
+    let h = c.in_err-assert_eq_named.ensures.refused (leaf_term (main 0 1)) (leaf_term (public 2)) i.b_means i.last_means in
     rw (p.1, p.2)
-    (refused_filter ring laws c.in_ok-f.f.condition c.args.builder.now c.in_ok-f.f.inner.now c.in_err-assert_eq.field-0.0 [] (Base (sub_term (leaf_term (main 0 1)) (leaf_term (public 2))) ∷ []) (leaf_term last_row) f.inner f.condition h)
+    (refused_filter ring laws c.in_ok-f.f.condition c.args.builder.now c.in_ok-f.f.inner.now c.in_err-assert_eq_named.field-0.0 [] (Base (sub_term (leaf_term (main 0 1)) (leaf_term (public 2))) ∷ []) (leaf_term last_row) f.inner f.condition h)

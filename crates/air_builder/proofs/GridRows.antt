@@ -1,0 +1,37 @@
+-- The rows of a matrix that is made row by row.
+use Rattle.std.proofs.Common.{[], ◌∷◌, ◌++◌, add-one, length-drop, Ok, ◌≡◌, ℕ, ◌+◌, ◌*◌, ◌/◌, ◌%◌, ◌<◌, ◌≤◌, zero, suc, List, take, drop, length, refl, sym, ap, ◌∙◌, arith}
+use Rattle.std.proofs.Math.Nat.{suc-mul, zero-mul}
+use Rattle.std.proofs.Math.Seq.{take-length}
+use Rattle.std.proofs.Math.Dec.{eqb-suc-zero}
+use Rattle.std.proofs.lemmas.Nat.{mod-mul-add, div-mul-add}
+use Rattle.std.proofs.lemmas.List.{take-append-le, drop-append-le}
+use Rattle.air_field.specs.Matrix.{matrix_of}
+use Rattle.air_field.specs.Grid.{rows_of}
+
+pub length-rows_of : {T : Type 0} (h w : ℕ) (xs : List T) → length (rows_of h w xs) ≡ h
+length-rows_of zero w xs = refl
+length-rows_of (suc h) w xs = ap suc (length-rows_of h w (drop w xs))
+
+-- one more row
+pub rows_of-more : {T : Type 0} (h w : ℕ) (xs a : List T) → length xs ≡ h * w → length a ≡ w
+    → rows_of (h + 1) w (xs ++ a) ≡ rows_of h w xs ++ a ∷ []
+rows_of-more h w xs a count row = rw add-one (go h w xs a count row)
+  where
+    go : {T : Type 0} (h w : ℕ) (xs a : List T) → length xs ≡ h * w → length a ≡ w
+        → rows_of (suc h) w (xs ++ a) ≡ rows_of h w xs ++ a ∷ []
+    go zero w [] a count row = ap (λ n. take n a ∷ []) (sym row) ∙ ap (λ v. v ∷ []) (take-length a)
+    go zero w (x ∷ xs) a count row = absurd (omega (arith, zero-mul w))
+    go (suc h) w xs a count row =
+        let within : w ≤ length xs = omega (arith, suc-mul h w) in
+        let rest : length (drop w xs) ≡ h * w = rw length-drop (omega (arith, suc-mul h w)) in
+        rw (take-append-le, drop-append-le) (ap (λ v. take w xs ∷ v) (go h w (drop w xs) a rest row))
+
+-- whole rows aren't ragged
+pub matrix_of_rows : {T : Type 0} (h w : ℕ) (values : List T) → 0 < w → length values ≡ h * w
+    → matrix_of w values ≡ Ok (record { width = w; rows = rows_of h w values })
+matrix_of_rows h zero values some count = absurd (omega arith)
+matrix_of_rows h (suc w) values some count =
+    let whole : length values ≡ h * suc w + 0 = omega arith in
+    let rest : length values % suc w ≡ 0 = ap (λ n. n % suc w) whole ∙ mod-mul-add h (suc w) 0 (omega arith) in
+    let height : length values / suc w ≡ h = ap (λ n. n / suc w) whole ∙ div-mul-add h (suc w) 0 (omega arith) in
+    rw (eqb-suc-zero w, rest, height)

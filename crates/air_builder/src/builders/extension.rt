@@ -1,0 +1,87 @@
+//! Builders that also receive constraints over an extension.
+ghost use Rattle.std.specs.Prelude.{◌≡◌, [], All, OnOk, OnErr, IfErr};
+ghost use Rattle.std.specs.Borrow.{sem, Lends};
+ghost use Rattle.air_field.specs.Term.{sub_term};
+ghost use Rattle.air_builder.specs.Batches.{GrewByEach, GrewByBeginning, RefusesByEach};
+ghost use Rattle.air_builder.specs.Builders.{Means, less_one_term};
+ghost use Rattle.air_builder.specs.Extensions.{GrewExtOf, GrewExtOfBoth, RefusesExtOf, RefusesExtOfBoth, AssertsExtOf, ExtensionLaws};
+
+use crate::builders::air_builder::{AirBuilder, less_one};
+use crate::errors::AirError;
+use air_field::{Algebra, ExtAlgebra, ExtensionField, FromVar};
+
+/// Receives base and extension constraints. Both kinds stand in one order of places.
+pub trait ExtensionBuilder: AirBuilder {
+    type EF: ExtensionField<Self::F>;
+
+    type ExprEF: Copy;
+
+    type VarEF: Copy;
+
+    type ExtRing: ExtAlgebra<Self::F, Self::EF, Base = Self::Expr, Elem = Self::ExprEF>
+        + FromVar<Self::F, Self::VarEF>;
+
+    /// The ring over the extension, in which this builder's extension expressions are made.
+    ghost ext_ring_of: { Self → Self.ExtRing };
+
+    /// The builder with another ring over the extension.
+    ghost with_ext_ring: { Self → Self.ExtRing → Self };
+
+    /// The ring over the extension. Its base is the builder's ring. What the caller leaves there extends what was lent.
+    fn ext_ring(&mut self) -> &mut Self::ExtRing
+        ensures* lends { sem 𝓛 (Lends Self.row Self.ExtRing.row self.entry result (with_ext_ring self.old)) }
+        ensures value { result.now ≡ ext_ring_of self.old };
+
+    /// Asserts that `x` is zero: growth by its one extension term.
+    fn assert_zero_ext(&mut self, x: Self::ExprEF) -> Result<(), AirError>
+        requires ready { Self.ready self.old }
+        requires of_ring { Self.ExtRing.has (ext_ring_of self.old) x }
+        ensures keeps { Self.kept self.old self.new }
+        ensures ok { OnOk result (GrewExtOf (Means Self.ExtRing.means ext_ring_of Self.stands) Self.grew (λ t. t) self.old self.new x) }
+        ensures err { OnErr result (Self.grew self.old self.new []) }
+        ensures refused { IfErr result (RefusesExtOf (Means Self.ExtRing.means ext_ring_of Self.stands) Self.refuses (λ t. t) self.old x) };
+
+    /// Asserts that `x` is one: growth by x - 1.
+    fn assert_one_ext(&mut self, x: Self::ExprEF) -> Result<(), AirError>
+        requires ready { Self.ready self.old }
+        requires of_ring { Self.ExtRing.has (ext_ring_of self.old) x }
+        ensures keeps { Self.kept self.old self.new }
+        ensures ok { OnOk result (GrewExtOf (Means Self.ExtRing.means ext_ring_of Self.stands) Self.grew (less_one_term Self.F.ONE) self.old self.new x) }
+        ensures err { OnErr result (Self.grew self.old self.new []) }
+        ensures refused { IfErr result (RefusesExtOf (Means Self.ExtRing.means ext_ring_of Self.stands) Self.refuses (less_one_term Self.F.ONE) self.old x) }
+    {
+        let less = less_one(self.ext_ring(), x)?;
+        self.assert_zero_ext(less)
+    }
+
+    /// Asserts that `x` and `y` are equal: growth by x - y.
+    fn assert_eq_ext(&mut self, x: Self::ExprEF, y: Self::ExprEF) -> Result<(), AirError>
+        requires ready { Self.ready self.old }
+        requires x_in { Self.ExtRing.has (ext_ring_of self.old) x }
+        requires y_in { Self.ExtRing.has (ext_ring_of self.old) y }
+        ensures keeps { Self.kept self.old self.new }
+        ensures ok { OnOk result (GrewExtOfBoth (Means Self.ExtRing.means ext_ring_of Self.stands) Self.grew sub_term self.old self.new x y) }
+        ensures err { OnErr result (Self.grew self.old self.new []) }
+        ensures refused { IfErr result (RefusesExtOfBoth (Means Self.ExtRing.means ext_ring_of Self.stands) Self.refuses sub_term self.old x y) }
+    {
+        let z = self.ext_ring().sub(x, y)?;
+        self.assert_zero_ext(z)
+    }
+
+    /// Asserts that each element is zero, in order.
+    fn assert_zeros_ext_slice(&mut self, elements: &[Self::ExprEF]) -> Result<(), AirError>
+        requires ready { Self.ready self.old }
+        requires of_ring { All (Self.ExtRing.has (ext_ring_of self.old)) elements.now }
+        ensures keeps { Self.kept self.old self.new }
+        ensures ok { OnOk result (GrewByEach (AssertsExtOf (Means Self.ExtRing.means ext_ring_of Self.stands) (λ t. t)) Self.grew self.old self.new elements.now) }
+        ensures err { OnErr result (GrewByBeginning (AssertsExtOf (Means Self.ExtRing.means ext_ring_of Self.stands) (λ t. t)) Self.grew self.old self.new elements.now) }
+        ensures refused { IfErr result (RefusesByEach (AssertsExtOf (Means Self.ExtRing.means ext_ring_of Self.stands) (λ t. t)) Self.refuses self.old elements.now) }
+    {
+        for element in elements {
+            self.assert_zero_ext(*element)?;
+        }
+        Ok(())
+    }
+
+    ghost ext_laws: { ExtensionLaws Self.ring_of ext_ring_of with_ext_ring Self.stands Self.ready Self.kept Self.grew Self.Ring.has Self.Ring.means Self.ExtRing.valid Self.ExtRing.extends Self.ExtRing.base_has Self.ExtRing.base_means Self.ExtRing.refuses Self.refuses };
+}

@@ -1,0 +1,43 @@
+//! Builders with a permutation trace.
+ghost use Rattle.std.specs.Prelude.{IfOk, IfErr};
+ghost use Rattle.air_field.specs.Term.{permutation, challenge, permutation_value};
+ghost use Rattle.air_builder.specs.Builders.{RowStands};
+ghost use Rattle.air_builder.specs.Refusals.{RowEnds};
+ghost use Rattle.air_builder.specs.Extensions.{RefusesWindow};
+
+use crate::builders::air_builder::AirBuilder;
+use crate::builders::extension::ExtensionBuilder;
+use crate::errors::AirError;
+use crate::windows::access::WindowAccess;
+use air_field::{Algebra, FromVar};
+
+/// A builder with a permutation trace over the extension, its challenges, and the values that it exposes.
+pub trait PermutationAirBuilder: ExtensionBuilder
+where
+    Self::ExtRing: FromVar<Self::F, Self::RandomVar> + FromVar<Self::F, Self::PermutationVar>,
+{
+    type MP: WindowAccess<Self::VarEF> + Drop;
+
+    type RandomVar: Copy;
+
+    type PermutationVar: Copy;
+
+    /// The window of the permutation trace; refused where the builder has none.
+    fn permutation(&self) -> Result<Self::MP, AirError>
+        ensures window { IfOk result Self.MP.is_window }
+        ensures current { IfOk result (λ w. RowStands Self.ExtRing.FromVar-1.var_means (λ i. Self.stands self.now (permutation 0 i)) (Self.MP.current_row w)) }
+        ensures next { IfOk result (λ w. RowStands Self.ExtRing.FromVar-1.var_means (λ i. Self.stands self.now (permutation 1 i)) (Self.MP.next_row w)) }
+        ensures current_ends { IfOk result (λ w. RowEnds (Self.missing self.now) (λ i. permutation 0 i) (Self.MP.current_row w)) }
+        ensures next_ends { IfOk result (λ w. RowEnds (Self.missing self.now) (λ i. permutation 1 i) (Self.MP.next_row w)) }
+        ensures refused { IfErr result (RefusesWindow (Self.missing self.now)) };
+
+    /// The challenges.
+    fn permutation_randomness(&self) -> &[Self::RandomVar]
+        ensures stands { RowStands Self.ExtRing.FromVar-2.var_means (λ i. Self.stands self.now (challenge i)) result.now }
+        ensures ends { RowEnds (Self.missing self.now) challenge result.now };
+
+    /// The values that the permutation argument exposes.
+    fn permutation_values(&self) -> &[Self::PermutationVar]
+        ensures stands { RowStands Self.ExtRing.FromVar-3.var_means (λ i. Self.stands self.now (permutation_value i)) result.now }
+        ensures ends { RowEnds (Self.missing self.now) permutation_value result.now };
+}

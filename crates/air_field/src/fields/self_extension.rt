@@ -1,0 +1,17 @@
+//! Fields that are extensions of themselves.
+ghost use Rattle.std.specs.Prelude.{◌≡◌, refl};
+ghost use Rattle.air_field.specs.Ring.{itself};
+
+use crate::fields::baby_bear::BabyBear;
+use crate::fields::extension::ExtensionField;
+use crate::fields::field::Field;
+
+/// A field as an extension of itself: its elements and operations are those of the field.
+pub trait SelfExtension: Field + ExtensionField<Self> {
+    // the algebra over the field is the field itself
+    ghost over_itself: { Self.over ≡ itself Self.ring };
+}
+
+impl SelfExtension for BabyBear {
+    ghost over_itself = { refl };
+}

@@ -1,0 +1,181 @@
+-- The folded sum or product of a list, step by step.
+use Rattle.std.proofs.Common.{◌≡◌, ℕ, suc, ◌+◌, ◌<◌, ◌≤◌, ◌^◌, Bool, List, [], ◌∷◌, All, length, map, refl, sym, ap, ap₂, subst, ◌∙◌, arith, inl, inr, drop, get_or, drop-cons, add-one}
+use Rattle.std.specs.Prelude.{Option, Some, None}
+use Rattle.air_field.specs.Ring.{CommRing}
+use Rattle.air_field.specs.Degree.{degree_by, cached_weight}
+use Rattle.air_symbolic.specs.Leaves.{Leaves, Keeps, LeafLaws}
+use Rattle.air_symbolic.specs.Trees.{Tree, nothing, leaf_tree, add_tree, sub_tree, neg_tree, mul_tree, term_of, tree_constant, IsWhole}
+use Rattle.air_symbolic.specs.Pools.{IsPool, Grown, tree_at, term_at, constant_at, IsConst}
+use Rattle.air_symbolic.specs.PoolLaws.{Grown-refl, Grown-trans, here-kept, tree-kept}
+use Rattle.air_symbolic.specs.Numbers.{tree_of-whole, term_of-kept}
+use Rattle.air_symbolic.specs.Folds.{IsFolded, sum_fold, product_fold, IsSum, IsProduct, NeedsNode}
+use Rattle.air_symbolic.specs.FoldedLists.{JoinedFrom, IsJoined, SumStep, ProductStep, Overflows, OverflowsFrom, ProductOverflows, IsSumOfAll, IsProductOfAll}
+use Rattle.air_symbolic.specs.declared.pools.expr.SymbolicExpr.{SymbolicExpr}
+use Rattle.air_symbolic.specs.declared.pools.fold.Fold.{Fold}
+use Rattle.air_symbolic.specs.declared.pools.fold.Fold.TheVariants.{Constant, Left, Right, Negated}
+
+-- What folding says stays while what lies under grows.
+module _ {A F : Type 0} (l m : Leaves A F) (k : Keeps l m) where
+  pub tree_constant-kept : (t : Tree A) → IsWhole l.valid t → tree_constant m.constant t ≡ tree_constant l.constant t
+  tree_constant-kept nothing h = refl
+  tree_constant-kept (leaf_tree a) h = k.constant a h
+  tree_constant-kept (add_tree t u) h = refl
+  tree_constant-kept (sub_tree t u) h = refl
+  tree_constant-kept (neg_tree t) h = refl
+  tree_constant-kept (mul_tree t u) h = refl
+
+  pub IsConst-kept : (c : F) (t : Tree A) → IsConst l c t → IsConst m c t
+  IsConst-kept c t h =
+      let a : A = h.0 in
+      (a, h.1, record { valid = k.valid a h.2.valid; constant = k.constant a h.2.valid ∙ h.2.constant; term = k.term a h.2.valid ∙ h.2.term })
+
+  pub IsFolded-kept : (t u node v : Tree A) (f : Option (Fold F)) → IsFolded l t u node f v → IsFolded m t u node f v
+  IsFolded-kept t u node v (Some (Constant c)) h = IsConst-kept c v h
+  IsFolded-kept t u node v (Some Left) h = h
+  IsFolded-kept t u node v (Some Right) h = h
+  IsFolded-kept t u node v (Some Negated) h = h
+  IsFolded-kept t u node v None h = h
+
+Keeps-trans : {A F : Type 0} (l m n : Leaves A F) → Keeps l m → Keeps m n → Keeps l n
+Keeps-trans l m n h k = record {
+  sound = λ s. k.sound (h.sound s);
+  valid = λ a v. k.valid a (h.valid a v);
+  constant = λ a v. k.constant a (h.valid a v) ∙ h.constant a v;
+  term = λ a v. k.term a (h.valid a v) ∙ h.term a v;
+}
+
+-- total was joined of what was taken, and the rest is left
+pub record IsJoining {U A F W : Type 0} (reads : U → Leaves A F) (grows : U → U → Type 0) (Rest : W → U → Tree A → List (Tree A) → Type 0) (Goal : W → U → Type 0) (p s : U × List (SymbolicExpr A)) (total : ℕ) (left : List ℕ) : Type 0 where
+  pub grown : Grown grows reads p s
+  pub total_in : total < length s.1
+  pub left_in : All (λ x. x < length p.1) left
+  pub leads : (v : W) (u : U) → grows s.0 u → Rest v u (tree_at s total) (map (tree_at p) left) → Goal v u
+
+-- the same list in other words
+pub left-is : {U A F W : Type 0} {reads : U → Leaves A F} {grows : U → U → Type 0} {Rest : W → U → Tree A → List (Tree A) → Type 0} {Goal : W → U → Type 0} {p s : U × List (SymbolicExpr A)} {total : ℕ} (left after : List ℕ) → left ≡ after → IsJoining reads grows Rest Goal p s total left → IsJoining reads grows Rest Goal p s total after
+left-is {reads = reads} {grows = grows} {Rest = Rest} {Goal = Goal} {p = p} {s = s} {total = total} left after e h =
+    subst (λ l. IsJoining reads grows Rest Goal p s total l) e h
+
+-- what is left of a sum and of a product, which answers v or overflows
+module _ {U A F : Type 0} (r : CommRing F) (eq : F → F → Bool) (reads : U → Leaves A F) where
+  abbrev pub SumRest : Tree A → U → Tree A → List (Tree A) → Type 0
+  SumRest v u t ts = JoinedFrom (SumStep r eq (reads u)) t ts v
+
+  abbrev pub ProductRest : Tree A → U → Tree A → List (Tree A) → Type 0
+  ProductRest v u t ts = JoinedFrom (ProductStep r eq (reads u)) t ts v
+
+  abbrev pub OverflowRest : Unit {0} → U → Tree A → List (Tree A) → Type 0
+  OverflowRest v u t ts = OverflowsFrom r eq (reads u) t ts
+
+-- total is the product of what was taken of xs, and none of its steps was refused
+pub record IsMultiplying {U A F : Type 0} (r : CommRing F) (eq : F → F → Bool) (reads : U → Leaves A F) (grows : U → U → Type 0) (p s : U × List (SymbolicExpr A)) (xs : List ℕ) (total : ℕ) (left : List ℕ) : Type 0 where
+  pub product : IsJoining reads grows (ProductRest r eq reads) (λ v u. IsJoined (reads u) r.one (ProductStep r eq (reads u)) (map (tree_at p) xs) v) p s total left
+  pub overflow : IsJoining reads grows (OverflowRest r eq reads) (λ _ u. ProductOverflows r eq (reads u) (map (tree_at p) xs)) p s total left
+
+module _ {U A F : Type 0} (r : CommRing F) (eq : F → F → Bool) (reads : U → Leaves A F) (grows : U → U → Type 0) (empty : U) (laws : LeafLaws r reads grows empty) where
+  -- the steps of a sum and of a product, over what lies under later on
+  module _ (s q : U × List (SymbolicExpr A)) (u : U) (pool : IsPool reads s) (g : Grown grows reads s q) (later : grows q.0 u) (x y : ℕ) (b : x < length s.1) (c : y < length s.1) where
+    now : Keeps (reads s.0) (reads u)
+    now = Keeps-trans (reads s.0) (reads q.0) (reads u) (laws.keeps s.0 q.0 g.under) (laws.keeps q.0 u later)
+
+    constant-later : (i : ℕ) → i < length s.1 → tree_constant (reads u).constant (tree_at s i) ≡ constant_at reads s i
+    constant-later i h = tree_constant-kept (reads s.0) (reads u) now (tree_at s i) (tree_of-whole (reads s.0) s.1 pool.nodes i h)
+
+    term-later : (i : ℕ) → i < length s.1 → term_of (reads u).term (tree_at s i) ≡ term_at reads s i
+    term-later i h = term_of-kept (reads s.0) (reads u) now (tree_at s i) (tree_of-whole (reads s.0) s.1 pool.nodes i h)
+
+    pub sum-later : (z : ℕ) → IsSum reads r eq s q x y z → SumStep r eq (reads u) (tree_at s x) (tree_at s y) (tree_at q z)
+    sum-later z h =
+        subst (λ f. IsFolded (reads u) (tree_at s x) (tree_at s y) (add_tree (tree_at s x) (tree_at s y)) f (tree_at q z))
+        (sym (ap₂ (sum_fold r eq) (constant-later x b) (constant-later y c)))
+        (IsFolded-kept (reads q.0) (reads u) (laws.keeps q.0 u later) (tree_at s x) (tree_at s y) (add_tree (tree_at s x) (tree_at s y)) (tree_at q z) _ h.tree)
+
+    fold-later : product_fold r eq (tree_constant (reads u).constant (tree_at s x)) (tree_constant (reads u).constant (tree_at s y)) ≡ product_fold r eq (constant_at reads s x) (constant_at reads s y)
+    fold-later = ap₂ (product_fold r eq) (constant-later x b) (constant-later y c)
+
+    degrees-later : degree_by cached_weight (term_of (reads u).term (tree_at s x)) + degree_by cached_weight (term_of (reads u).term (tree_at s y)) ≡ degree_by cached_weight (term_at reads s x) + degree_by cached_weight (term_at reads s y)
+    degrees-later = ap₂ (λ t v. degree_by cached_weight t + degree_by cached_weight v) (term-later x b) (term-later y c)
+
+    pub overflows-later : NeedsNode reads r eq s x y → 2 ^ 64 ≤ degree_by cached_weight (term_at reads s x) + degree_by cached_weight (term_at reads s y) → Overflows r eq (reads u) (tree_at s x) (tree_at s y)
+    overflows-later h k = (fold-later ∙ h, omega (arith, degrees-later))
+
+    pub overflows-before : Overflows r eq (reads u) (tree_at s x) (tree_at s y) → NeedsNode reads r eq s x y × (2 ^ 64 ≤ degree_by cached_weight (term_at reads s x) + degree_by cached_weight (term_at reads s y))
+    overflows-before h = (sym fold-later ∙ h.0, omega (arith, degrees-later, h.1))
+
+    pub product-later : (z : ℕ) → (NeedsNode reads r eq s x y × (2 ^ 64 ≤ degree_by cached_weight (term_at reads s x) + degree_by cached_weight (term_at reads s y)) → ⊥) → IsProduct reads r eq s q x y z → ProductStep r eq (reads u) (tree_at s x) (tree_at s y) (tree_at q z)
+    product-later z n h = (
+      λ o. n (overflows-before o),
+      subst (λ f. IsFolded (reads u) (tree_at s x) (tree_at s y) (mul_tree (tree_at s x) (tree_at s y)) f (tree_at q z))
+          (sym fold-later)
+          (IsFolded-kept (reads q.0) (reads u) (laws.keeps q.0 u later) (tree_at s x) (tree_at s y) (mul_tree (tree_at s x) (tree_at s y)) (tree_at q z) _ h.tree),
+    )
+
+  -- joining begins with the first element
+  pub begin_joining : {W : Type 0} (Rest : W → U → Tree A → List (Tree A) → Type 0) (p : U × List (SymbolicExpr A)) (x : ℕ) (xs : List ℕ) → All (λ i. i < length p.1) (x ∷ xs) → IsJoining reads grows Rest (λ v u. Rest v u (tree_at p x) (map (tree_at p) xs)) p p x xs
+  begin_joining Rest p x xs h = record {
+    grown = Grown-refl r reads grows empty laws p;
+    total_in = h 0 x (omega arith);
+    left_in = λ k d lt. h (suc k) d (omega arith);
+    leads = λ v u g rest. rest;
+  }
+
+  -- one more element
+  pub take_one : {W : Type 0} (Rest : W → U → Tree A → List (Tree A) → Type 0) (Goal : W → U → Type 0) (p s q : U × List (SymbolicExpr A)) (total x z : ℕ) (left : List ℕ) → Grown grows reads s q → z < length q.1 → IsJoining reads grows Rest Goal p s total (x ∷ left)
+      → ((v : W) (u : U) (ts : List (Tree A)) → grows q.0 u → Rest v u (tree_at q z) ts → Rest v u (tree_at s total) (tree_at p x ∷ ts))
+      → IsJoining reads grows Rest Goal p q z left
+  take_one Rest Goal p s q total x z left g here h step = record {
+    grown = Grown-trans r reads grows empty laws p s q h.grown g;
+    total_in = here;
+    left_in = λ k d lt. h.left_in (suc k) d (omega arith);
+    leads = λ v u later rest. h.leads v u (laws.joined s.0 q.0 u g.under later) (step v u (map (tree_at p) left) later rest);
+  }
+
+  -- the trees of a list's elements, which are of the pool p, stay in s
+  element-stays : (p s : U × List (SymbolicExpr A)) (x : ℕ) → Grown grows reads p s → x < length p.1 → tree_at s x ≡ tree_at p x
+  element-stays p s x g b = tree-kept r reads grows empty laws p s x g b
+
+  pub sum_taken : {Goal : Tree A → U → Type 0} (p s q : U × List (SymbolicExpr A)) (total x z : ℕ) (left : List ℕ) → IsPool reads p → Grown grows reads s q → IsSum reads r eq s q total x z → IsJoining reads grows (SumRest r eq reads) Goal p s total (x ∷ left) → IsJoining reads grows (SumRest r eq reads) Goal p q z left
+  sum_taken p s q total x z left pool g m h =
+      let b : x < length p.1 = h.left_in 0 x (omega arith) in
+      take_one (SumRest r eq reads) _ p s q total x z left g m.here h
+      (λ v u ts later rest. (
+        tree_at q z,
+        subst (λ t. SumStep r eq (reads u) (tree_at s total) t (tree_at q z)) (element-stays p s x h.grown b)
+            (sum-later s q u (h.grown.pool pool) g later total x h.total_in (here-kept r reads grows empty laws p s x h.grown b) z m),
+        rest,
+      ))
+
+  module _ (p s q : U × List (SymbolicExpr A)) (total x : ℕ) (left : List ℕ) (pool : IsPool reads p) (g : Grown grows reads s q) where
+    step-taken : (u : U) → grows q.0 u → (z : ℕ) → Grown grows reads p s → total < length s.1 → x < length p.1 → (NeedsNode reads r eq s total x × (2 ^ 64 ≤ degree_by cached_weight (term_at reads s total) + degree_by cached_weight (term_at reads s x)) → ⊥) → IsProduct reads r eq s q total x z → ProductStep r eq (reads u) (tree_at s total) (tree_at p x) (tree_at q z)
+    step-taken u later z grown c b n m =
+        subst (λ t. ProductStep r eq (reads u) (tree_at s total) t (tree_at q z)) (element-stays p s x grown b)
+        (product-later s q u (grown.pool pool) g later total x c (here-kept r reads grows empty laws p s x grown b) z n m)
+
+    module _ (z : ℕ) (n : NeedsNode reads r eq s total x × (2 ^ 64 ≤ degree_by cached_weight (term_at reads s total) + degree_by cached_weight (term_at reads s x)) → ⊥) (m : IsProduct reads r eq s q total x z) where
+      pub product_taken : {Goal : Tree A → U → Type 0} → IsJoining reads grows (ProductRest r eq reads) Goal p s total (x ∷ left) → IsJoining reads grows (ProductRest r eq reads) Goal p q z left
+      product_taken h =
+          take_one (ProductRest r eq reads) _ p s q total x z left g m.here h
+          (λ v u ts later rest. (tree_at q z, step-taken u later z h.grown h.total_in (h.left_in 0 x (omega arith)) n m, rest))
+
+      pub overflow_taken : {Goal : Unit {0} → U → Type 0} → IsJoining reads grows (OverflowRest r eq reads) Goal p s total (x ∷ left) → IsJoining reads grows (OverflowRest r eq reads) Goal p q z left
+      overflow_taken h =
+          take_one (OverflowRest r eq reads) _ p s q total x z left g m.here h
+          (λ v u ts later rest. inr (tree_at q z, step-taken u later z h.grown h.total_in (h.left_in 0 x (omega arith)) n m, rest))
+
+    -- the product with x overflows
+    pub overflow_told : {Goal : Unit {0} → U → Type 0} → NeedsNode reads r eq s total x × (2 ^ 64 ≤ degree_by cached_weight (term_at reads s total) + degree_by cached_weight (term_at reads s x)) → IsJoining reads grows (OverflowRest r eq reads) Goal p s total (x ∷ left) → Goal tt q.0
+    overflow_told o h =
+        let b : x < length p.1 = h.left_in 0 x (omega arith) in
+        h.leads tt q.0 g.under
+        (inl (subst (λ t. Overflows r eq (reads q.0) (tree_at s total) t) (element-stays p s x h.grown b)
+        (overflows-later s q q.0 (h.grown.pool pool) g (laws.same q.0) total x h.total_in (here-kept r reads grows empty laws p s x h.grown b) o.0 o.1)))
+
+  -- nothing is left
+  pub sum_ended : (p s : U × List (SymbolicExpr A)) (xs : List ℕ) (total : ℕ) → IsJoining reads grows (SumRest r eq reads) (λ v u. IsJoined (reads u) r.nil (SumStep r eq (reads u)) (map (tree_at p) xs) v) p s total [] → IsSumOfAll reads r eq p s xs total
+  sum_ended p s xs total h = record { here = h.total_in; tree = h.leads (tree_at s total) s.0 (laws.same s.0) refl }
+
+  pub product_ended : (p s : U × List (SymbolicExpr A)) (xs : List ℕ) (total : ℕ) → IsJoining reads grows (ProductRest r eq reads) (λ v u. IsJoined (reads u) r.one (ProductStep r eq (reads u)) (map (tree_at p) xs) v) p s total [] → IsProductOfAll reads r eq p s xs total
+  product_ended p s xs total h = record { here = h.total_in; tree = h.leads (tree_at s total) s.0 (laws.same s.0) refl }
+
+pub drop_item : {X : Type 0} (l : List X) (i : ℕ) (x : X) → i < length l → x ≡ get_or l i x → drop i l ≡ x ∷ drop (i + 1) l
+drop_item l i x h is = drop-cons l i x h ∙ (ap (λ y. y ∷ drop (suc i) l) (sym is) ∙ ap (λ n. x ∷ drop n l) (sym (add-one i)))

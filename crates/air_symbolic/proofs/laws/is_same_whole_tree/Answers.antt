@@ -1,0 +1,17 @@
+use Rattle.std.proofs.Common.{ap}
+use Rattle.air_symbolic.specs.Numbers.{tree_of-whole}
+use Rattle.air_symbolic.specs.ExtLeaves.{ext_reads}
+use Rattle.air_symbolic.specs.ExtTrees.{whole_tree}
+use Rattle.air_symbolic.specs.Pools.{tree_at}
+use Rattle.air_symbolic.proofs.WholeTrees.{same_tree}
+use Rattle.air_symbolic.proofs.laws.is_same_whole_tree.Goals as goal
+
+pub returns : goal.returns
+returns g c =
+    let p = c.args.pool.now in
+    let r = c.requires in
+    let l = ext_reads g.F.Field.ring g.F.PartialEq.eq g.EF.ExtensionField.coefficients p.0 in
+    let d = c.is_same_tree.ensures in (
+      λ q. ap (whole_tree p.0) (d.0 q),
+      λ e. d.1 (same_tree p.0 (tree_at p c.args.x) (tree_at p c.args.y) (tree_of-whole l p.1 r.pool.nodes c.args.x r.x_in) (tree_of-whole l p.1 r.pool.nodes c.args.y r.y_in) e),
+    )

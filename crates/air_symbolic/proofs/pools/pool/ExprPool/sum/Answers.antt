@@ -1,0 +1,24 @@
+use Rattle.std.proofs.Common.{length, ◌-◌, drop, take}
+use Rattle.std.proofs.lemmas.List.{drop_all}
+use Rattle.air_symbolic.specs.PoolLaws.{Grown-trans}
+use Rattle.air_symbolic.proofs.FoldedLists.{left-is, sum_taken, sum_ended, drop_item}
+use Rattle.air_symbolic.proofs.FoldedTerms.{IsSumOfAll-stands}
+use Rattle.air_symbolic.proofs.pools.pool.ExprPool.sum.Goals as goal
+
+pub returns-in_err-total-clause-grown : goal.returns-in_err-total-clause-grown
+returns-in_err-total-clause-grown g c =
+    Grown-trans g.A.F.Field.ring g.A.SymLeaf.reads g.A.SymLeaf.grows g.A.SymLeaf.no_under g.met.A.SymLeaf.leaf_laws c.args.self.now c.loop-x.self c.add.new.self
+    c.loop-x.invariant.grown c.add.ensures.grown
+
+pub loop-x-preserved : goal.loop-x-preserved
+loop-x-preserved g c =
+    sum_taken g.A.F.Field.ring g.A.F.PartialEq.eq g.A.SymLeaf.reads g.A.SymLeaf.grows g.A.SymLeaf.no_under g.met.A.SymLeaf.leaf_laws c.args.self.now c.loop-x.self c.add.new.self c.loop-x.total c.x-item.result c.in_ok-total.total _
+    c.requires.pool c.add.ensures.grown c.in_ok-total.ensures.made
+    (left-is _ _ (drop_item (take (length c.args.xs.now - 1) (drop 1 c.args.xs.now)) c.loop-x.x-index c.x-item.result c.loop-x-test.true c.x-item.is) c.loop-x.invariant)
+
+pub returns-clause-stands : goal.returns-clause-stands
+returns-clause-stands g c =
+    IsSumOfAll-stands g.A.F.Field.ring g.A.F.PartialEq.eq g.met.A.F.Field.eq_is g.A.SymLeaf.reads g.A.SymLeaf.grows g.A.SymLeaf.no_under g.met.A.SymLeaf.leaf_laws c.args.self.now c.loop-x.self c.requires.pool c.loop-x.invariant.grown
+    c.args.xs.now c.requires.all_in c.loop-x.total
+    (sum_ended g.A.F.Field.ring g.A.F.PartialEq.eq g.A.SymLeaf.reads g.A.SymLeaf.grows g.A.SymLeaf.no_under g.met.A.SymLeaf.leaf_laws c.args.self.now c.loop-x.self c.args.xs.now c.loop-x.total
+    (left-is _ _ (drop_all c.loop-x.x-index (take (length c.args.xs.now - 1) (drop 1 c.args.xs.now)) c.loop-x-test.false) c.loop-x.invariant))

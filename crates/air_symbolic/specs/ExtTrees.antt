@@ -1,0 +1,69 @@
+-- The trees of extension expressions, in which a Base leaf holds a whole base tree.
+use Rattle.std.specs.Prelude.{ℕ, ◌⊎◌}
+use Rattle.air_symbolic.specs.Trees.{Tree, nothing, leaf_tree, add_tree, sub_tree, neg_tree, mul_tree}
+use Rattle.air_symbolic.specs.Pools.{tree_at, HasTree}
+use Rattle.air_symbolic.specs.ExtLeaves.{BaseNodes}
+use Rattle.air_symbolic.specs.ExtPool.{ExtNodes}
+use Rattle.air_symbolic.specs.declared.leaves.base_leaf.BaseLeaf.{BaseLeaf}
+use Rattle.air_symbolic.specs.declared.leaves.ext_leaf.ExtLeaf.{ExtLeaf}
+use Rattle.air_symbolic.specs.declared.leaves.ext_leaf.ExtLeaf.TheVariants.{Base, ExtVariable, ExtConstant}
+use Rattle.air_symbolic.specs.declared.variables.variable_ext.SymbolicVariableExt.{SymbolicVariableExt}
+
+-- A leaf with the base tree in place of its number.
+pub data WholeLeaf (F EF : Type 0) : Type 0 where
+  whole_base : Tree (BaseLeaf F) → WholeLeaf F EF
+  whole_variable : SymbolicVariableExt F EF → WholeLeaf F EF
+  whole_constant : EF → WholeLeaf F EF
+
+abbrev pub whole_leaf : {F EF : Type 0} → BaseNodes F → ExtLeaf F EF → WholeLeaf F EF
+whole_leaf u (Base i) = whole_base (tree_at u i)
+whole_leaf u (ExtVariable v) = whole_variable v
+whole_leaf u (ExtConstant c) = whole_constant c
+
+-- the tree over such leaves
+abbrev pub whole_tree : {F EF : Type 0} → BaseNodes F → Tree (ExtLeaf F EF) → Tree (WholeLeaf F EF)
+whole_tree u nothing = nothing
+whole_tree u (leaf_tree a) = leaf_tree (whole_leaf u a)
+whole_tree u (add_tree t v) = add_tree (whole_tree u t) (whole_tree u v)
+whole_tree u (sub_tree t v) = sub_tree (whole_tree u t) (whole_tree u v)
+whole_tree u (neg_tree t) = neg_tree (whole_tree u t)
+whole_tree u (mul_tree t v) = mul_tree (whole_tree u t) (whole_tree u v)
+
+-- the tree of number i of an extension pool
+abbrev pub whole_tree_at : {F EF : Type 0} → ExtNodes F EF → ℕ → Tree (WholeLeaf F EF)
+whole_tree_at p i = whole_tree p.0 (tree_at p i)
+
+-- the leaf is of the extension alone
+abbrev pub IsExtOnly : {F EF : Type 0} → ExtLeaf F EF → Type 0
+IsExtOnly (Base i) = ⊥
+IsExtOnly (ExtVariable v) = Unit {0}
+IsExtOnly (ExtConstant c) = Unit {0}
+
+-- such a leaf occurs in the tree
+abbrev pub HasExtOnly : {F EF : Type 0} → Tree (ExtLeaf F EF) → Type 0
+HasExtOnly nothing = ⊥
+HasExtOnly (leaf_tree a) = IsExtOnly a
+HasExtOnly (add_tree t v) = HasExtOnly t ⊎ HasExtOnly v
+HasExtOnly (sub_tree t v) = HasExtOnly t ⊎ HasExtOnly v
+HasExtOnly (neg_tree t) = HasExtOnly t
+HasExtOnly (mul_tree t v) = HasExtOnly t ⊎ HasExtOnly v
+
+-- The base tree with the same nodes, the base trees of the leaves unfolded; where an extension-only leaf occurs,
+-- nothing stands in its place.
+abbrev pub lowered_leaf : {F EF : Type 0} → BaseNodes F → ExtLeaf F EF → Tree (BaseLeaf F)
+lowered_leaf u (Base i) = tree_at u i
+lowered_leaf u (ExtVariable v) = nothing
+lowered_leaf u (ExtConstant c) = nothing
+
+abbrev pub lowered : {F EF : Type 0} → BaseNodes F → Tree (ExtLeaf F EF) → Tree (BaseLeaf F)
+lowered u nothing = nothing
+lowered u (leaf_tree a) = lowered_leaf u a
+lowered u (add_tree t v) = add_tree (lowered u t) (lowered u v)
+lowered u (sub_tree t v) = sub_tree (lowered u t) (lowered u v)
+lowered u (neg_tree t) = neg_tree (lowered u t)
+lowered u (mul_tree t v) = mul_tree (lowered u t) (lowered u v)
+
+-- number b of the base pool u is the lowered tree t, in which no extension-only leaf occurs
+pub record IsLowered {F EF : Type 0} (old u : BaseNodes F) (t : Tree (ExtLeaf F EF)) (b : ℕ) : Type 0 where
+  pub base_only : HasExtOnly t → ⊥
+  pub tree : HasTree u (lowered old t) b

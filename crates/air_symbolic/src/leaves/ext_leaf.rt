@@ -1,0 +1,88 @@
+//! The leaves of extension expressions.
+
+use crate::leaves::base_leaf::BaseLeaf;
+use crate::leaves::base_part::base_part;
+use crate::leaves::sym_leaf::SymLeaf;
+use crate::pools::expr::ExprId;
+use crate::pools::pool::ExprPool;
+use crate::variables::variable_ext::SymbolicVariableExt;
+use air_field::{ExtensionField, Field, RingError};
+use std::alloc::Global;
+
+/// A leaf of an extension expression: an expression of the base pool that lies under it, an extension variable, or a
+/// constant of the extension.
+#[derive(Clone, Copy, Debug, PartialEq, Eq, PartialOrd, Ord)]
+pub enum ExtLeaf<F, EF> {
+    Base(ExprId<BaseLeaf<F>>),
+    ExtVariable(SymbolicVariableExt<F, EF>),
+    ExtConstant(EF),
+}
+
+impl<F: Field, EF: ExtensionField<F>> SymLeaf for ExtLeaf<F, EF> {
+    type F = F;
+
+    type Under = ExprPool<BaseLeaf<F>>;
+
+    ghost use Rattle.std.proofs.Common.{arith};
+    ghost use Rattle.air_symbolic.specs.ExtLeaves.{no_base_nodes, ext_reads, ext_grows, ext_leaf_laws};
+
+    ghost reads = { λ u. ext_reads F.ring F.eq EF.coefficients u };
+
+    ghost grows = { λ u v. ext_grows u v };
+
+    ghost no_under = { no_base_nodes };
+
+    fn new_under(alloc: Global) -> ExprPool<BaseLeaf<F>> {
+        ExprPool::new(alloc)
+    }
+
+    fn degree_multiple(&self, under: &ExprPool<BaseLeaf<F>>) -> usize {
+        match self {
+            ExtLeaf::Base(id) => under.degree_multiple(*id),
+            ExtLeaf::ExtVariable(v) => v.degree_multiple(),
+            ExtLeaf::ExtConstant(_) => 0,
+        }
+    }
+
+    fn as_const(&self, under: &ExprPool<BaseLeaf<F>>) -> Option<F> {
+        match self {
+            ExtLeaf::Base(id) => under.as_const(*id),
+            ExtLeaf::ExtVariable(_) => None,
+            ExtLeaf::ExtConstant(c) => base_part(c),
+        }
+    }
+
+    fn degree_multiple_with_transition(
+        &self,
+        weight: usize,
+        under: &ExprPool<BaseLeaf<F>>,
+    ) -> Result<usize, RingError> {
+        match self {
+            ExtLeaf::Base(id) => under.degree_multiple_with_transition(*id, weight),
+            ExtLeaf::ExtVariable(v) => Ok(v.degree_multiple()),
+            ExtLeaf::ExtConstant(_) => Ok(0),
+        }
+    }
+
+    fn poly_degree(
+        &self,
+        trace_len: usize,
+        periods: &[usize],
+        under: &ExprPool<BaseLeaf<F>>,
+    ) -> Result<usize, RingError> {
+        match self {
+            ExtLeaf::Base(id) => under.poly_degree(*id, trace_len, periods),
+            ExtLeaf::ExtVariable(v) => Ok(v.poly_degree(trace_len)),
+            ExtLeaf::ExtConstant(_) => Ok(0),
+        }
+    }
+
+    fn from_const(c: F, under: &mut ExprPool<BaseLeaf<F>>) -> Result<Self, RingError> {
+        let id = under.constant(c)?;
+        Ok(ExtLeaf::Base(id))
+    }
+
+    ghost eq_is = { λ x y. Prim.grind (arith, EF.eq_is) };
+
+    ghost leaf_laws = { ext_leaf_laws F.ring F.eq EF.coefficients F.eq_is };
+}

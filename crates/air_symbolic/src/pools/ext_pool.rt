@@ -1,0 +1,91 @@
+//! Pools of extension expressions.
+ghost use Rattle.std.specs.Prelude.{◌≡◌, ◌<◌, length, IfOk, IfErr};
+ghost use Rattle.air_field.specs.Algebra.{Made};
+ghost use Rattle.air_field.specs.ExtAlgebra.{Lifted};
+ghost use Rattle.air_field.specs.Term.{leaf_term, ext_const_term};
+ghost use Rattle.air_symbolic.specs.ExtEntries.{ext_entry_leaf};
+ghost use Rattle.air_symbolic.specs.ExtLeaves.{ext_reads, ext_grows};
+ghost use Rattle.air_symbolic.specs.ExtPool.{BaseMeans};
+ghost use Rattle.air_symbolic.specs.Trees.{leaf_tree};
+ghost use Rattle.air_symbolic.specs.Pools.{IsPool, PoolHas, PoolMeans, Grown, HasTree};
+
+use crate::leaves::base_leaf::BaseLeaf;
+use crate::leaves::ext_leaf::ExtLeaf;
+use crate::pools::expr::ExprId;
+use crate::pools::pool::ExprPool;
+use crate::variables::variable_ext::SymbolicVariableExt;
+use air_field::{ExtAlgebra, ExtensionField, Field, FromVar, RingError};
+
+impl<F: Field, EF: ExtensionField<F>> ExprPool<ExtLeaf<F, EF>> {
+    /// The expression of a variable.
+    pub fn variable(
+        &mut self,
+        v: SymbolicVariableExt<F, EF>,
+    ) -> Result<ExprId<ExtLeaf<F, EF>>, RingError>
+        requires { IsPool (ext_reads F.ring F.eq EF.coefficients) self.old }
+        ensures same_base { self.new.0 ≡ self.old.0 }
+        ensures grown { Grown ext_grows (ext_reads F.ring F.eq EF.coefficients) self.old self.new }
+        ensures tree { IfOk result (HasTree self.new (leaf_tree (ExtLeaf.ExtVariable v))) }
+        ensures made { IfOk result (Made (PoolHas (ext_reads F.ring F.eq EF.coefficients)) (PoolMeans (ext_reads F.ring F.eq EF.coefficients) F.ring) (leaf_term (ext_entry_leaf v.entry v.index)) self.new) }
+        ensures refused { IfErr result (λ e. e ≡ RingError.Memory) }
+    {
+        self.leaf(ExtLeaf::ExtVariable(v))
+    }
+
+    /// The expression of a constant of the extension, as a leaf of its own.
+    pub fn ext_constant(&mut self, c: EF) -> Result<ExprId<ExtLeaf<F, EF>>, RingError>
+        requires { IsPool (ext_reads F.ring F.eq EF.coefficients) self.old }
+        ensures same_base { self.new.0 ≡ self.old.0 }
+        ensures grown { Grown ext_grows (ext_reads F.ring F.eq EF.coefficients) self.old self.new }
+        ensures tree { IfOk result (HasTree self.new (leaf_tree (ExtLeaf.ExtConstant c))) }
+        ensures made { IfOk result (Made (PoolHas (ext_reads F.ring F.eq EF.coefficients)) (PoolMeans (ext_reads F.ring F.eq EF.coefficients) F.ring) (ext_const_term (EF.coefficients c)) self.new) }
+        ensures refused { IfErr result (λ e. e ≡ RingError.Memory) }
+    {
+        self.leaf(ExtLeaf::ExtConstant(c))
+    }
+
+    /// The expression of an expression of the base pool, as a leaf that holds the whole of it.
+    pub fn lift(&mut self, x: ExprId<BaseLeaf<F>>) -> Result<ExprId<ExtLeaf<F, EF>>, RingError>
+        requires pool { IsPool (ext_reads F.ring F.eq EF.coefficients) self.old }
+        requires here { x < length self.old.0.1 }
+        ensures same_base { self.new.0 ≡ self.old.0 }
+        ensures grown { Grown ext_grows (ext_reads F.ring F.eq EF.coefficients) self.old self.new }
+        ensures tree { IfOk result (HasTree self.new (leaf_tree (ExtLeaf.Base x))) }
+        ensures made { IfOk result (Lifted (PoolHas (ext_reads F.ring F.eq EF.coefficients)) (PoolMeans (ext_reads F.ring F.eq EF.coefficients) F.ring) (BaseMeans F.ring F.eq EF.coefficients) self.old self.new x) }
+        ensures refused { IfErr result (λ e. e ≡ RingError.Memory) }
+    {
+        self.leaf(ExtLeaf::Base(x))
+    }
+}
+
+impl<F: Field, EF: ExtensionField<F>> FromVar<F, SymbolicVariableExt<F, EF>>
+    for ExprPool<ExtLeaf<F, EF>> {
+    ghost var_means = { λ v t. t ≡ leaf_term (ext_entry_leaf v.entry v.index) };
+
+    fn from_var(
+        &mut self,
+        v: SymbolicVariableExt<F, EF>,
+    ) -> Result<ExprId<ExtLeaf<F, EF>>, RingError> {
+        self.variable(v)
+    }
+}
+
+impl<F: Field, EF: ExtensionField<F>> ExtAlgebra<F, EF> for ExprPool<ExtLeaf<F, EF>> {
+    type Base = ExprId<BaseLeaf<F>>;
+
+    ghost use Rattle.air_symbolic.specs.ExtPool.{BaseHas, ext_keeps_base};
+
+    ghost base_has = { λ p x. BaseHas F.ring F.eq EF.coefficients p x };
+
+    ghost base_means = { λ p x t. BaseMeans F.ring F.eq EF.coefficients p x t };
+
+    fn lift(&mut self, x: ExprId<BaseLeaf<F>>) -> Result<ExprId<ExtLeaf<F, EF>>, RingError> {
+        ExprPool::lift(self, x)
+    }
+
+    fn ext_constant(&mut self, c: EF) -> Result<ExprId<ExtLeaf<F, EF>>, RingError> {
+        ExprPool::ext_constant(self, c)
+    }
+
+    ghost base_laws = { ext_keeps_base F.ring F.eq EF.coefficients };
+}

@@ -1,0 +1,25 @@
+//! The pool that lies under another: an extension pool owns its base pool.
+ghost use Rattle.std.specs.Prelude.{◌≡◌};
+ghost use Rattle.std.specs.Borrow.{Lends, sem};
+ghost use Rattle.air_symbolic.specs.contracts.pools.pool.ExprPool.{the_row};
+
+use crate::leaves::sym_leaf::SymLeaf;
+use crate::pools::pool::ExprPool;
+
+impl<A: SymLeaf> ExprPool<A> {
+    /// What lies under the pool: of an extension pool its base pool, for reading.
+    pub fn base(&self) -> &A::Under
+        ensures { result.now ≡ self.now.0 }
+    {
+        &self.under
+    }
+
+    /// What lies under the pool: of an extension pool its base pool, for writing. What is left there has to extend what
+    /// was lent, as every call of a pool does, and then the pool itself has grown.
+    pub fn base_mut(&mut self) -> &mut A::Under
+        ensures* lends { sem 𝓛 (Lends (the_row A.row A.F.row A.Under.row A.SymLeaf.own A.PartialEq.own A.Ord.own A.PartialOrd.own A.Debug.own A.F.Field.own A.F.PartialEq.own A.F.Ord.own A.F.PartialOrd.own A.F.Debug.own) A.Under.row self.entry result (λ w. (w, self.old.1))) }
+        ensures value { result.now ≡ self.old.0 }
+    {
+        &mut self.under
+    }
+}

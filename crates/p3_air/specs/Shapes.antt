@@ -1,0 +1,43 @@
+-- Which preprocessed tables and periodic columns fit a trace.
+use Rattle.std.specs.Prelude.{◌≡◌, ◌≢◌, ℕ, ◌%◌, ◌^◌, ◌<◌, List, length, Option, Some, None, Result, Ok, Err, Vec, slice_index_or}
+use Rattle.air_field.specs.Grid.{Grid}
+use Rattle.air_builder.specs.declared.errors.AirError.{AirError}
+use Rattle.air_builder.specs.declared.errors.AirError.TheVariants.{PreprocessedHeight, PeriodNotPowerOfTwo, PeriodDoesNotDivide}
+
+-- the number of rows, if there is a table
+abbrev pub table_height : {F : Type 0} → Option (Grid F) → Option ℕ
+table_height None = None
+table_height (Some table) = Some (length table.rows)
+
+-- the period is a power of two
+pub record IsPowerOfTwo (n : ℕ) : Type 0 where
+  pub exponent : ℕ
+  pub power : n ≡ 2 ^ exponent
+
+-- the first n columns' periods are powers of two that divide the height
+abbrev pub PeriodsFitBelow : {T A : Type 0} → List (Vec T A) → ℕ → ℕ → Type 0
+PeriodsFitBelow {T} {A} columns height n = (k : ℕ) (d : Vec T A) → k < n
+    → IsPowerOfTwo (length (slice_index_or columns k d).items) × (height % length (slice_index_or columns k d).items ≡ 0)
+
+abbrev pub FitsHeight : Option ℕ → ℕ → Type 0
+FitsHeight None height = Unit {0}
+FitsHeight (Some preprocessed) height = preprocessed ≡ height
+
+-- the table has the trace's height, and each period is a power of two that divides it
+pub record ShapesFit {T A : Type 0} (columns : List (Vec T A)) (height : ℕ) (preprocessed : Option ℕ) : Type 0 where
+  pub table_fits : FitsHeight preprocessed height
+  pub periods_fit : PeriodsFitBelow columns height (length columns)
+
+-- this error names the first shape that doesn't fit: the table's, then each column's
+abbrev pub IsShapeFault : {T A : Type 0} → List (Vec T A) → ℕ → Option ℕ → AirError → Type 0
+IsShapeFault columns height preprocessed (PreprocessedHeight p m) = (preprocessed ≡ Some p) × (m ≡ height) × (p ≢ height)
+IsShapeFault {T} {A} columns height preprocessed (PeriodNotPowerOfTwo i n) = FitsHeight preprocessed height × (i < length columns)
+    × PeriodsFitBelow columns height i × ((d : Vec T A) → n ≡ length (slice_index_or columns i d).items) × ¬ (IsPowerOfTwo n)
+IsShapeFault {T} {A} columns height preprocessed (PeriodDoesNotDivide i n h) = FitsHeight preprocessed height × (i < length columns)
+    × PeriodsFitBelow columns height i × ((d : Vec T A) → n ≡ length (slice_index_or columns i d).items) × IsPowerOfTwo n × (h ≡ height) × (height % n ≢ 0)
+IsShapeFault columns height preprocessed _ = ⊥
+
+-- the shapes fit, or this is the first that doesn't
+abbrev pub MatchShapes : {T A : Type 0} → List (Vec T A) → ℕ → Option ℕ → Result (Unit {0}) AirError → Type 0
+MatchShapes columns height preprocessed (Ok _) = ShapesFit columns height preprocessed
+MatchShapes columns height preprocessed (Err e) = IsShapeFault columns height preprocessed e
