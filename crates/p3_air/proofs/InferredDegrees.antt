@@ -60,16 +60,18 @@ inferred_refused r over n periods layout width public us vs ts Memory b x f h = 
 inferred_refused r over n periods layout width public us vs ts DegreeOverflow b x f h =
     let w = trace_weight n periods in
     let whole = greatest-append w us vs in
-    inr (f,
-    ⊎_elim
-    (λ (small : greatest_degree w us < 2 ^ 64).
-    let big : 2 ^ 64 ≤ greatest_degree w vs = over_other (greatest_degree w us) (greatest_degree w vs) small (omega (arith, h, whole)) in
-    let o = ext_declared (IsOver w) ts (over_recorded over w vs (ext_terms ts) x big) in
-    (o.0, (inr o.1.0, o.1.1)))
-    (λ (big : 2 ^ 64 ≤ greatest_degree w us).
-    let o = base_declared (IsOver w) ts (over_recorded (itself r) w us (base_terms ts) b big) in
-    (o.0, (inr o.1.0, o.1.1)))
-    (cases_lt (greatest_degree w us) (2 ^ 64)))
+    inr (
+      f,
+      ⊎_elim
+          (λ (small : greatest_degree w us < 2 ^ 64).
+          let big : 2 ^ 64 ≤ greatest_degree w vs = over_other (greatest_degree w us) (greatest_degree w vs) small (omega (arith, h, whole)) in
+          let o = ext_declared (IsOver w) ts (over_recorded over w vs (ext_terms ts) x big) in
+          (o.0, (inr o.1.0, o.1.1)))
+          (λ (big : 2 ^ 64 ≤ greatest_degree w us).
+          let o = base_declared (IsOver w) ts (over_recorded (itself r) w us (base_terms ts) b big) in
+          (o.0, (inr o.1.0, o.1.1)))
+          (cases_lt (greatest_degree w us) (2 ^ 64)),
+    )
   where
     over_other : (a b : ℕ) → a < 2 ^ 64 → 2 ^ 64 ≤ max a b → 2 ^ 64 ≤ b
     over_other a b s m =

@@ -24,8 +24,7 @@ pub use air_field::{
 };
 pub use air_symbolic::{
     BaseEntry, BaseLeaf, Degrees, ExprId, ExprPool, ExtEntry, ExtLeaf, LeafWeight, SymLeaf,
-    SymbolicExpr, SymbolicExpression, SymbolicExpressionExt, SymbolicVariable,
-    SymbolicVariableExt,
+    SymbolicExpr, SymbolicExpression, SymbolicExpressionExt, SymbolicVariable, SymbolicVariableExt,
 };
 pub use checks::check::check_all_constraints;
 pub use checks::check_first::{CheckError, check_constraints};

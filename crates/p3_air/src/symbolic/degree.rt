@@ -107,12 +107,7 @@ pub fn get_max_constraint_degree_extension<
     F: Field,
     EF: ExtensionField<F>,
     A: Air<SymbolicAirBuilder<F, EF>>,
->(
-    alloc: Global,
-    air: &A,
-    layout: AirLayout,
-    trace_len: usize,
-) -> Result<usize, AirError>
+>(alloc: Global, air: &A, layout: AirLayout, trace_len: usize) -> Result<usize, AirError>
     ensures inferred { IfOk result (IsInferred F.ring EF.over trace_len (periods_of (A.beside air.now).periodic) (A.declared air.now)) }
     ensures fits { OnOk result (FitsAir layout (A.width air.now) (A.num_public_values air.now) (length (A.beside air.now).periodic)) }
     ensures there { OnOk result (NoneMissing (IsMissing (layout_shape layout)) (A.declared air.now)) }
@@ -125,10 +120,7 @@ pub fn get_max_constraint_degree_extension<
 }
 
 /// The same with the base field as its own extension.
-pub fn get_max_constraint_degree<
-    F: SelfExtension,
-    A: Air<SymbolicAirBuilder<F, F>>,
->(
+pub fn get_max_constraint_degree<F: SelfExtension, A: Air<SymbolicAirBuilder<F, F>>>(
     alloc: Global,
     air: &A,
     layout: AirLayout,

@@ -34,7 +34,11 @@ impl<F: Field, EF: ExtensionField<F>> SymbolicAirBuilder<F, EF> {
         ensures base { result.base ≡ self.constraints.base }
         ensures ext { result.ext ≡ self.constraints.ext }
     {
-        let SymbolicAirBuilder { pool, constraints, .. } = self;
+        let SymbolicAirBuilder {
+            pool,
+            constraints,
+            ..
+        } = self;
         let Constraints { base, ext, .. } = constraints;
         Recorded { pool, base, ext }
     }
@@ -65,11 +69,7 @@ pub fn get_all_symbolic_constraints<
     F: Field,
     EF: ExtensionField<F>,
     A: Air<SymbolicAirBuilder<F, EF>>,
->(
-    alloc: Global,
-    air: &A,
-    layout: AirLayout,
-) -> Result<Recorded<F, EF>, AirError>
+>(alloc: Global, air: &A, layout: AirLayout) -> Result<Recorded<F, EF>, AirError>
     ensures base { IfOk result (λ r. RecordsBase F.ring EF.over base_reads r.pool.0 r.base.items (A.declared air.now)) }
     ensures ext { IfOk result (λ r. RecordsExt F.ring EF.over (ext_reads F.ring F.eq EF.coefficients) r.pool r.ext.items (A.declared air.now)) }
     ensures fits { OnOk result (FitsAir layout (A.width air.now) (A.num_public_values air.now) (length (A.beside air.now).periodic)) }
@@ -81,10 +81,7 @@ pub fn get_all_symbolic_constraints<
 }
 
 /// Records the base constraints of an AIR, as [`get_all_symbolic_constraints`] does; `ext` is left empty.
-pub fn get_symbolic_constraints<
-    F: SelfExtension,
-    A: Air<SymbolicAirBuilder<F, F>>,
->(
+pub fn get_symbolic_constraints<F: SelfExtension, A: Air<SymbolicAirBuilder<F, F>>>(
     alloc: Global,
     air: &A,
     layout: AirLayout,
@@ -105,11 +102,7 @@ pub fn get_symbolic_constraints_extension<
     F: Field,
     EF: ExtensionField<F>,
     A: Air<SymbolicAirBuilder<F, EF>>,
->(
-    alloc: Global,
-    air: &A,
-    layout: AirLayout,
-) -> Result<Recorded<F, EF>, AirError>
+>(alloc: Global, air: &A, layout: AirLayout) -> Result<Recorded<F, EF>, AirError>
     ensures base { IfOk result (λ r. r.base.items ≡ []) }
     ensures ext { IfOk result (λ r. RecordsExt F.ring EF.over (ext_reads F.ring F.eq EF.coefficients) r.pool r.ext.items (A.declared air.now)) }
     ensures fits { OnOk result (FitsAir layout (A.width air.now) (A.num_public_values air.now) (length (A.beside air.now).periodic)) }
@@ -122,11 +115,7 @@ pub fn get_symbolic_constraints_extension<
 }
 
 /// Where the base and the extension constraints of an AIR stand among all of them.
-pub fn get_constraint_layout<
-    F: Field,
-    EF: ExtensionField<F>,
-    A: Air<SymbolicAirBuilder<F, EF>>,
->(
+pub fn get_constraint_layout<F: Field, EF: ExtensionField<F>, A: Air<SymbolicAirBuilder<F, EF>>>(
     alloc: Global,
     air: &A,
     layout: AirLayout,

@@ -96,9 +96,16 @@ pub(crate) fn ext_entries_of<F: Field, EF: ExtensionField<F>>(
     ensures layout { IfOk result (λ entries. entries.layout ≡ layout) }
     ensures refused { IfErr result (λ e. e ≡ AirError.Memory) }
 {
-    let challenges = ext_row_of(alloc, ExtEntry::Challenge, layout.num_permutation_challenges)?;
-    let permutation_values =
-        ext_row_of(alloc, ExtEntry::PermutationValue, layout.num_permutation_values)?;
+    let challenges = ext_row_of(
+        alloc,
+        ExtEntry::Challenge,
+        layout.num_permutation_challenges,
+    )?;
+    let permutation_values = ext_row_of(
+        alloc,
+        ExtEntry::PermutationValue,
+        layout.num_permutation_values,
+    )?;
     Ok(ExtEntries {
         layout,
         challenges,

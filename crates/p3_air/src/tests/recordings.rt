@@ -3,8 +3,8 @@
 use crate::tests::Products;
 use crate::{
     Air, AirError, AirLayout, BabyBear, BinomialExtensionField, ExtEntry, PermutationAirBuilder,
-    SymbolicAirBuilder, SymbolicVariableExt, WindowAccess, get_all_symbolic_constraints, get_constraint_layout,
-    get_max_constraint_degree_extension, get_symbolic_constraints,
+    SymbolicAirBuilder, SymbolicVariableExt, WindowAccess, get_all_symbolic_constraints,
+    get_constraint_layout, get_max_constraint_degree_extension, get_symbolic_constraints,
     get_symbolic_constraints_extension,
 };
 use std::test::Fail;
@@ -33,11 +33,12 @@ fn records_each_kind(rt: HostRuntime) -> Result<(), Fail> {
     )?;
     assert_eq!(rt; places.base_indices.as_slice(), [0, 1].as_slice());
     assert_eq!(rt; places.ext_indices.len(), 0);
-    let degree = get_max_constraint_degree_extension::<
-        BabyBear,
-        BinomialExtensionField,
-        Products,
-    >(rt.alloc(), &Products {}, layout, 8)?;
+    let degree = get_max_constraint_degree_extension::<BabyBear, BinomialExtensionField, Products>(
+        rt.alloc(),
+        &Products {},
+        layout,
+        8,
+    )?;
     assert_eq!(rt; degree, 2);
     Ok(())
 }
@@ -65,8 +66,10 @@ fn lends_extension_variables(rt: HostRuntime) -> Result<(), Fail> {
         num_permutation_values: 1,
         ..AirLayout::from_air::<BabyBear, Products>(&Products {})
     };
-    let mut builder =
-        SymbolicAirBuilder::<BabyBear, BinomialExtensionField>::new(rt.alloc(), layout)?;
+    let mut builder = SymbolicAirBuilder::<BabyBear, BinomialExtensionField>::new(
+        rt.alloc(),
+        layout,
+    )?;
     let window = builder.permutation()?;
     let current = SymbolicVariableExt::new(ExtEntry::Permutation { offset: 0 }, 0);
     let next = SymbolicVariableExt::new(ExtEntry::Permutation { offset: 1 }, 0);
