@@ -1,4 +1,3 @@
 mod base;
 mod bench;
-mod ext;
 mod variables;

@@ -1,5 +1,5 @@
 //! A builder over the extension that keeps what is asserted: every leaf is one, and there is no trace.
-ghost use Rattle.std.specs.Prelude.{⊤, refl};
+ghost use Rattle.std.specs.Prelude.{◌≡◌, ⊤, refl};
 ghost use Rattle.air_field.specs.Modulo.{class};
 ghost use Rattle.air_field.specs.Term.{first_row, last_row, transition, const_term};
 
