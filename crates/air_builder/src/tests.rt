@@ -3,8 +3,6 @@ mod airs;
 mod boundary;
 mod builders;
 mod errors;
-mod extension;
-mod extension_log;
 mod names;
 mod value_log;
 mod windows;
