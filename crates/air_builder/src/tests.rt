@@ -3,6 +3,8 @@ mod airs;
 mod boundary;
 mod builders;
 mod errors;
+mod extension;
+mod extension_log;
 mod names;
 mod value_log;
 mod windows;

@@ -8,5 +8,5 @@ pub mod TextLemmas
 pub mod FibonacciParts
 pub mod FibonacciCells
 pub mod FibonacciRefusals
-pub mod FibonacciReports
+pub mod Caps
 pub mod Traces

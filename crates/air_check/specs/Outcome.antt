@@ -2,9 +2,9 @@
 use Rattle.std.specs.Prelude.{◌≡◌, ◌⊎◌, ℕ, List, codes, Bool, true, false, Option, Some, None}
 use Rattle.std.specs.Io.KnownBytes.{Consumes, IsAtEnd}
 use Rattle.air_check.specs.Refusals.{IsRefusal}
-use Rattle.air_check.specs.declared.commands.Command.{Command}
+use Rattle.air_check.specs.declared.commands.Request.{Request}
 
--- Below, `answers` relates an input to a status and a text, for a command where there is one.
+-- Below, `answers` relates an input to a status and a text, for a request where there is one.
 
 -- The answer to all that the reader had, where it tells its bytes.
 abbrev pub IsAnswer : (List ℕ → ℕ → List ℕ → Type 0) → Option (List ℕ) → Option (List ℕ) → ℕ → List ℕ → Type 0
@@ -15,7 +15,7 @@ abbrev pub IsOutcomeOfReading : (List ℕ → ℕ → List ℕ → Type 0) → B
 IsOutcomeOfReading answers true before after status text = IsRefusal (codes "Read") status text
 IsOutcomeOfReading answers false before after status text = IsRefusal (codes "Memory") status text ⊎ IsAnswer answers before after status text
 
--- The words are judged first: where they ask for no command nothing is read.
-abbrev pub IsOutcome : (Command → List ℕ → ℕ → List ℕ → Type 0) → Option Command → Bool → Option (List ℕ) → Option (List ℕ) → ℕ → List ℕ → Type 0
+-- The words are judged first: where they ask for nothing that is known nothing is read.
+abbrev pub IsOutcome : (Request → List ℕ → ℕ → List ℕ → Type 0) → Option Request → Bool → Option (List ℕ) → Option (List ℕ) → ℕ → List ℕ → Type 0
 IsOutcome answers None failed before after status text = IsRefusal (codes "Usage") status text × (failed ≡ false) × (after ≡ before)
-IsOutcome answers (Some command) failed before after status text = IsOutcomeOfReading (answers command) failed before after status text
+IsOutcome answers (Some request) failed before after status text = IsOutcomeOfReading (answers request) failed before after status text

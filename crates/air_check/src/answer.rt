@@ -6,7 +6,7 @@ ghost use Rattle.air_check.specs.Texts.{found, findings_status};
 ghost use Rattle.air_check.specs.Commands.{has_labels};
 ghost use Rattle.air_check.specs.Answer.{Finds, Answers, MayRefuse};
 
-use crate::commands::Command;
+use crate::commands::{Command, Request};
 use crate::fibonacci::Fibonacci;
 use crate::input::{Input, ParseFault, parse};
 use crate::refusals::Refusal;
@@ -55,14 +55,15 @@ fn check(
     fibonacci: Fibonacci,
     main: &RowMajorMatrix<BabyBear>,
     public_values: &[BabyBear],
+    cap: Option<usize>,
 ) -> Result<Findings, Refusal>
     requires width { main.now.width ≡ 2 }
     requires height { length main.now.rows < 2 ^ 63 }
     requires public { length public_values.now ≡ 3 }
-    ensures found { IfOk result (λ findings. Finds ⟦<BabyBear as PartialEq>⟧.eq main.now public_values.now (found findings)) }
+    ensures found { IfOk result (λ findings. Finds ⟦<BabyBear as PartialEq>⟧.eq main.now public_values.now cap (found findings)) }
     ensures refused { IfErr result (λ why. why ≡ Refusal.Memory) }
 {
-    let report = match check_all_constraints(alloc, &fibonacci, main, public_values, None) {
+    let report = match check_all_constraints(alloc, &fibonacci, main, public_values, cap) {
         Ok(report) => report,
         Err(error) => return Err(refusal_of(error)),
     };
@@ -90,9 +91,9 @@ fn status(findings: &Findings) -> u8
 }
 
 /// The status and the text that answer an input.
-pub fn answer(alloc: Global, command: Command, input: &[u8]) -> Result<(u8, String), Refusal>
-    ensures ok { IfOk result (λ p. Answers ⟦<BabyBear as PartialEq>⟧.eq input.now p.0 (string_bytes p.1)) }
-    ensures refused { IfErr result (MayRefuse ⟦<BabyBear as PartialEq>⟧.eq input.now) }
+pub fn answer(alloc: Global, request: Request, input: &[u8]) -> Result<(u8, String), Refusal>
+    ensures ok { IfOk result (λ p. Answers ⟦<BabyBear as PartialEq>⟧.eq request.cap input.now p.0 (string_bytes p.1)) }
+    ensures refused { IfErr result (MayRefuse ⟦<BabyBear as PartialEq>⟧.eq request.cap input.now) }
 {
     let input = match parse(alloc, input) {
         Ok(input) => input,
@@ -104,7 +105,13 @@ pub fn answer(alloc: Global, command: Command, input: &[u8]) -> Result<(u8, Stri
         values,
     } = input;
     let main = trace_of(values);
-    let findings = check(alloc, air_of(command), &main, &public_values)?;
+    let findings = check(
+        alloc,
+        air_of(request.command),
+        &main,
+        &public_values,
+        request.cap,
+    )?;
     match findings_text(alloc, &findings) {
         Ok(text) => Ok((status(&findings), text)),
         Err(_) => Err(Refusal::Memory),

@@ -4,11 +4,11 @@ ghost use Rattle.std.specs.Prelude.{◌≡◌, ℕ, List, false, IfOk, OnOk, is_
 ghost use Rattle.std.specs.Io.KnownBytes.{Appends};
 ghost use Rattle.air_check.specs.Refusals.{name_of, refusal_text};
 ghost use Rattle.air_check.specs.Answer.{Answers};
-ghost use Rattle.air_check.specs.Commands.{command_of};
+ghost use Rattle.air_check.specs.Commands.{request_of};
 ghost use Rattle.air_check.specs.Outcome.{IsOutcome};
 
 use crate::answer::answer;
-use crate::commands::command_of;
+use crate::commands::request_of;
 use crate::engine::{ReadFault, read_all, write_all};
 use crate::refusals::Refusal;
 use crate::streams::{Sink, Source, StreamFault};
@@ -38,10 +38,10 @@ pub fn run<R: Source, W: Sink>(
     requires reader { R.has_failed reader.old ≡ false }
     requires writer { W.has_failed writer.old ≡ false }
     ensures outcome { IfOk result (λ status. (text : List ℕ) × Appends (W.contents writer.old) (W.contents writer.new) text
-        × IsOutcome (λ _. Answers ⟦<BabyBear as PartialEq>⟧.eq) (command_of (map string_bytes words.now)) (R.has_failed reader.new) (R.remaining reader.old) (R.remaining reader.new) status text) }
+        × IsOutcome (λ request. Answers ⟦<BabyBear as PartialEq>⟧.eq request.cap) (request_of (map string_bytes words.now)) (R.has_failed reader.new) (R.remaining reader.old) (R.remaining reader.new) status text) }
     ensures failed { W.has_failed writer.new ≡ is_err result }
 {
-    let Some(command) = command_of(words) else {
+    let Some(request) = request_of(words) else {
         return refuse(writer, Refusal::Usage);
     };
     let input = match read_all(alloc, reader) {
@@ -49,7 +49,7 @@ pub fn run<R: Source, W: Sink>(
         Err(ReadFault::Failed) => return refuse(writer, Refusal::Read),
         Err(ReadFault::Memory) => return refuse(writer, Refusal::Memory),
     };
-    match answer(alloc, command, &input) {
+    match answer(alloc, request, &input) {
         Ok((status, text)) => {
             write_all(writer, text.as_bytes())?;
             Ok(status)

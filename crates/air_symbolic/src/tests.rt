@@ -1,3 +1,4 @@
 mod base;
 mod bench;
+mod ext;
 mod variables;

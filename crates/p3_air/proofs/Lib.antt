@@ -13,3 +13,8 @@ pub mod FoldLaws
 pub mod WeightLaws
 pub mod SymbolicGrowth
 pub mod ExtRows
+pub mod OwnExtension
+pub mod ExtensionRows
+pub mod ExtensionAirs
+pub mod Audited
+pub mod AuditTheorem

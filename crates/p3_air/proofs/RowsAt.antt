@@ -7,13 +7,14 @@ use Rattle.std.proofs.lemmas.Option.{get_or_from_slice_get}
 use Rattle.air_field.specs.Grid.{Grid}
 use Rattle.air_field.specs.Ring.{CommRing}
 use Rattle.air_field.specs.Assignment.{selector, row_at, row_or_none, shape_of, trace_shape}
+use Rattle.air_field.specs.OneRow.{no_permutation}
 use Rattle.air_builder.specs.Periodic.{column_at, IsFirstEmpty, RefusesPeriodicRow}
 use Rattle.air_builder.specs.declared.errors.AirError.{AirError}
 use Rattle.air_builder.specs.declared.errors.AirError.TheVariants.{Memory, EmptyPeriodicColumn}
 use Rattle.p3_air.specs.Checks.{Fits, RowRefuses}
-use Rattle.p3_air.specs.Given.{Given, given_trace, height, table_grid}
+use Rattle.p3_air.specs.Given.{Given, given_trace, table_grid}
 use Rattle.p3_air.specs.Debug.{row_data}
-use Rattle.p3_air.specs.Shapes.{FitsHeight, table_height, IsPowerOfTwo}
+use Rattle.p3_air.specs.Shapes.{FitsHeight, table_height}
 
 not_selector : {F : Type 0} (r : CommRing F) (b : Bool) → selector r (not b) ≡ (if b then r.nil else r.one)
 not_selector r b = elim b as (λ c. selector r (not c) ≡ (if c then r.nil else r.one)) [ true ↦ refl | false ↦ refl ]
@@ -29,14 +30,14 @@ periodic_is z i (p ∷ ps) (c ∷ cs) e =
     ap (λ v. v ∷ ps) (sym (get_or_from_slice_get c.items (i % length c.items) p z here))
     ∙ ap (λ l. slice_index_or c.items (i % length c.items) z ∷ l) (periodic_is z i ps cs rest)
 
-pub row_at-given : {F : Type 0} (r : CommRing F) (g : Given F) (i : ℕ) (current next before after periodic : List F) (first last other : F) → slice_get g.main.rows i ≡ Some current → slice_get g.main.rows ((i + 1) % length g.main.rows) ≡ Some next → before ≡ row_or_none (slice_get (table_grid g.beside.preprocessed).rows i) → after ≡ row_or_none (slice_get (table_grid g.beside.preprocessed).rows ((i + 1) % length g.main.rows)) → map Some periodic ≡ map (column_at i) g.beside.periodic → first ≡ selector r (i == 0) → last ≡ selector r (i + 1 == length g.main.rows) → other ≡ selector r (not (i + 1 == length g.main.rows)) → (row_data i current next before after periodic g.public first last other).values ≡ row_at r (given_trace g) i
+pub row_at-given : {F : Type 0} (r : CommRing F) (g : Given F) (i : ℕ) (current next before after periodic : List F) (first last other : F) → slice_get g.main.rows i ≡ Some current → slice_get g.main.rows ((i + 1) % length g.main.rows) ≡ Some next → before ≡ row_or_none (slice_get (table_grid g.beside.preprocessed).rows i) → after ≡ row_or_none (slice_get (table_grid g.beside.preprocessed).rows ((i + 1) % length g.main.rows)) → map Some periodic ≡ map (column_at i) g.beside.periodic → first ≡ selector r (i == 0) → last ≡ selector r (i + 1 == length g.main.rows) → other ≡ selector r (not (i + 1 == length g.main.rows)) → (row_data i current next before after periodic g.public first last other (no_permutation {E = F})).values ≡ row_at r (given_trace g) i
 row_at-given r g i current next before after periodic first last other c n b a p f l o =
     let t : other ≡ (if i + 1 == length g.main.rows then r.nil else r.one) = o ∙ not_selector r (i + 1 == length g.main.rows) in
     let q = periodic_is r.nil i periodic g.beside.periodic p in
     rw (c, n, b, a, q, f, l, t)
 
 -- a row of a builder has what the trace has
-pub shape-given : {F : Type 0} (g : Given F) (i : ℕ) (current next before after periodic : List F) (first last other : F) → length current ≡ g.main.width → length before ≡ (table_grid g.beside.preprocessed).width → map Some periodic ≡ map (column_at i) g.beside.periodic → shape_of (row_data i current next before after periodic g.public first last other).values ≡ trace_shape (given_trace g)
+pub shape-given : {F : Type 0} (g : Given F) (i : ℕ) (current next before after periodic : List F) (first last other : F) → length current ≡ g.main.width → length before ≡ (table_grid g.beside.preprocessed).width → map Some periodic ≡ map (column_at i) g.beside.periodic → shape_of (row_data i current next before after periodic g.public first last other (no_permutation {E = F})).values ≡ trace_shape (given_trace g)
 shape-given g i current next before after periodic first last other c b p =
     let n : length periodic ≡ length (map (λ column. column.items) g.beside.periodic) =
     sym (length-map periodic Some) ∙ (ap length p ∙ (length-map g.beside.periodic (column_at i) ∙ sym (length-map g.beside.periodic (λ column. column.items)))) in

@@ -1,15 +1,14 @@
 -- How the debug builder logs an assertion, and how it grows by assertions that have labels.
-use Rattle.std.specs.Prelude.{◌≡◌, ◌⊎◌, ℕ, ◌+◌, ◌^◌, List, [], ◌∷◌, ◌++◌, map, Bool, true, false, not, All, Option, Some, None, option_map, String, string_bytes}
+use Rattle.std.specs.Prelude.{◌≡◌, ℕ, ◌+◌, ◌^◌, List, [], ◌∷◌, ◌++◌, map, Bool, true, false, not, All, Option, Some, None, option_map, String, string_bytes}
 use Rattle.std.specs.List.{filter}
-use Rattle.air_field.specs.Ring.{CommRing}
-use Rattle.air_field.specs.Term.{Leaf}
+use Rattle.air_builder.specs.Assertion.{Assertion}
 use Rattle.air_builder.specs.Batches.{Each}
 use Rattle.air_builder.specs.Labels.{Label, Unasked, Shown, Labelled, without_labels}
 use Rattle.air_builder.specs.Texts.{kept_text}
 use Rattle.air_builder.specs.declared.errors.AirError.{AirError}
 use Rattle.air_builder.specs.declared.errors.AirError.TheVariants.{Memory, CountOverflow}
-use Rattle.p3_air.specs.Report.{assertion_value, failure_place}
-use Rattle.p3_air.specs.Debug.{RowData, row_leaves, GrewAtRow}
+use Rattle.p3_air.specs.Report.{failure_place}
+use Rattle.p3_air.specs.Debug.{RowData, GrewAtRow}
 use Rattle.p3_air.specs.declared.debug.failure.ConstraintFailure.{ConstraintFailure}
 
 -- the label has the bytes of a text, and there is none where the text is empty; a text of which nothing is said gives any
@@ -42,19 +41,19 @@ LogRefuses k holds Memory = holds ≡ false
 LogRefuses k holds CountOverflow = k + 1 ≡ 2 ^ 64
 LogRefuses k holds _ = ⊥
 
--- the labels of the assertions that aren't zero, in order
-abbrev pub failing_labels : {F : Type 0} → CommRing F → (F → F → Bool) → (Leaf → F) → List (Labelled F) → List Label
-failing_labels r eq s ls = map (λ l. l.1) (filter (λ l. not (eq (assertion_value r s l.0) r.nil)) ls)
+-- the labels of the assertions that the test doesn't find zero, in order
+abbrev pub failing_labels : {F : Type 0} → (Assertion F → Bool) → List (Labelled F) → List Label
+failing_labels zero ls = map (λ l. l.1) (filter (λ l. not (zero l.0)) ls)
 
--- the labels of those that are
-abbrev pub passing_labels : {F : Type 0} → CommRing F → (F → F → Bool) → (Leaf → F) → List (Labelled F) → List Label
-passing_labels r eq s ls = map (λ l. l.1) (filter (λ l. eq (assertion_value r s l.0) r.nil) ls)
+-- the labels of those that it does
+abbrev pub passing_labels : {F : Type 0} → (Assertion F → Bool) → List (Labelled F) → List Label
+passing_labels zero ls = map (λ l. l.1) (filter (λ l. zero l.0) ls)
 
 -- The builder grew by the assertions; each failure keeps what its assertion's name displays, and no name was asked for
 -- where the assertion is zero.
-pub record LabelledAtRow {F : Type 0} (r : CommRing F) (eq : F → F → Bool) (d e : RowData F) (m n : ℕ) (fs gs : List ConstraintFailure) (ls : List (Labelled F)) : Type 0 where
-  pub grew : GrewAtRow r eq d e m n fs gs (without_labels ls)
+pub record LabelledAtRow {F E : Type 0} (zero : RowData F E → Assertion F → Bool) (d e : RowData F E) (m n : ℕ) (fs gs : List ConstraintFailure) (ls : List (Labelled F)) : Type 0 where
+  pub grew : GrewAtRow zero d e m n fs gs (without_labels ls)
   pub more : List ConstraintFailure
   pub failures : gs ≡ fs ++ more
-  pub kept : Each KeepsLabel more (failing_labels r eq (row_leaves r d) ls)
-  pub unasked : All (λ l. l ≡ Unasked) (passing_labels r eq (row_leaves r d) ls)
+  pub kept : Each KeepsLabel more (failing_labels (zero d) ls)
+  pub unasked : All (λ l. l ≡ Unasked) (passing_labels (zero d) ls)

@@ -24,9 +24,12 @@ pub mod Recorded
 pub mod Inferred
 pub mod Debug
 pub mod DebugLaws
+pub mod DebugValues
 pub mod DebugRow
 pub mod FailureTexts
 pub mod DebugLabels
 pub mod DebugLabelLaws
 pub mod Checks
+pub mod TestAirs
+pub mod Audits
 pub mod Plain

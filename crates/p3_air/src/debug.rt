@@ -2,6 +2,7 @@
 
 pub mod builder;
 pub mod builder_impl;
+pub mod extension;
 pub mod failure;
 mod logging;
 pub mod named;

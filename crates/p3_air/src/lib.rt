@@ -1,10 +1,11 @@
 //! The constraint crate: AIRs recorded as symbolic expressions, and evaluated on concrete rows.
 //!
 //! An AIR implements [`BaseAir`] and [`Air`]; [`get_symbolic_constraints`] records it, [`check_all_constraints`] checks
-//! a trace of it, and [`get_max_constraint_degree`] infers its degree. The public items of the crates below are passed
-//! on here.
+//! a trace of it, and [`get_max_constraint_degree`] infers its degree. [`audit_air`] does all three: what it recorded is
+//! what it tested. The public items of the crates below are passed on here.
 #![tactic(auto)]
 
+pub mod audit;
 pub mod checks;
 pub mod debug;
 pub mod layouts;
@@ -26,6 +27,7 @@ pub use air_symbolic::{
     BaseEntry, BaseLeaf, Degrees, ExprId, ExprPool, ExtEntry, ExtLeaf, LeafWeight, SymLeaf,
     SymbolicExpr, SymbolicExpression, SymbolicExpressionExt, SymbolicVariable, SymbolicVariableExt,
 };
+pub use audit::{Audit, audit_air};
 pub use checks::check::check_all_constraints;
 pub use checks::check_first::{CheckError, check_constraints};
 pub use checks::report::ConstraintReport;

@@ -4,10 +4,14 @@ ghost use Rattle.air_field.specs.Term.{Term, main, leaf_term, mul_term};
 ghost use Rattle.air_builder.specs.Assertion.{Base};
 ghost use Rattle.air_builder.specs.Beside.{nothing_beside};
 
+mod audits;
 mod checks;
+mod degrees;
+mod extension;
 mod labels;
 mod layouts;
 mod recordings;
+mod traces;
 
 use crate::{
     AirLayout, DebugConstraintBuilder, SymbolicAirBuilder, check_all_constraints,

@@ -9,9 +9,12 @@ use std::test::*;
 
 const MANY: u64 = 1000;
 
-fn words(alloc: Global, word: &str) -> Result<Vec<String>, Fail> {
+/// The text cut at its spaces.
+fn words(alloc: Global, text: &str) -> Result<Vec<String>, Fail> {
     let mut words = Vec::new(alloc);
-    words.push(String::from_str(alloc, word)?)?;
+    for word in text.split(' ') {
+        words.push(String::from_str(alloc, word)?)?;
+    }
     Ok(words)
 }
 
@@ -25,7 +28,7 @@ fn answers(
     answers_word(rt, "fibonacci", input, text, status)
 }
 
-/// The same of any word.
+/// The same of any words.
 fn answers_word(
     rt: &(impl Abort + AllocGlobal),
     word: &str,
@@ -81,6 +84,21 @@ fn names_each_failure(rt: HostRuntime) -> Result<(), Fail> {
         1,
     )?;
     answers_word(&rt, "named", b"0 1", "refused: Syntax\n", 2)
+}
+
+#[test]
+fn stops_at_the_cap(rt: HostRuntime) -> Result<(), Fail> {
+    let broken = b"0 1 3\n0 1\n1 1\n1 5\n2 3\n";
+    let one = "degree 2\nrows 4\nconstraints 5\nrow 1: #3\n";
+    let all = "degree 2\nrows 4\nconstraints 5\nrow 1: #3\nrow 2: #2\nrow 2: #3\n";
+    let none = "degree 2\nrows 4\nconstraints 0\n";
+    answers_word(&rt, "fibonacci 0", broken, none, 0)?;
+    answers_word(&rt, "fibonacci 1", broken, one, 1)?;
+    answers_word(&rt, "fibonacci 2", broken, all, 1)?;
+    answers_word(&rt, "fibonacci 00000000000000000000001", broken, one, 1)?;
+    answers_word(&rt, "fibonacci 18446744073709551615", broken, all, 1)?;
+    let named = "degree 2\nrows 4\nconstraints 5\nrow 1: #3 \"fib::step_b\"\n";
+    answers_word(&rt, "named 1", broken, named, 1)
 }
 
 #[test]

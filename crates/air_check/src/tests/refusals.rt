@@ -29,7 +29,14 @@ fn refuses_other_words(rt: HostRuntime) -> Result<(), Fail> {
         "named ",
         "fibonacci named",
         "fibonacci fibonacci",
-        "fibonacci 1",
+        "1",
+        "fibonacci +1",
+        "fibonacci -1",
+        "fibonacci 1x",
+        "fibonacci ",
+        "named x1",
+        "fibonacci 18446744073709551616",
+        "fibonacci 1 1",
     ] {
         let mut reader = Pieces::new(INPUT, 3, MANY);
         let mut writer = Kept::new(alloc, 4, MANY);

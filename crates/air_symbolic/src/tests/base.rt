@@ -110,3 +110,20 @@ fn nodes_and_degrees(rt: HostRuntime) -> Result<(), Fail> {
     );
     Ok(())
 }
+
+#[test]
+fn the_transition_selector_weighs_what_is_asked(rt: HostRuntime) -> Result<(), Fail> {
+    let mut bench: Bench<BaseLeaf<BabyBear>> = Bench::new(rt.alloc());
+    let selector = bench.transition()?;
+    let x = bench.variable(column(0))?;
+    let square = bench.mul(selector, selector)?;
+    let selected = bench.mul(square, x)?;
+    for (weight, degree) in [(0, 1), (1, 3), (2, 5)] {
+        assert_eq!(rt; bench.degree_with_transition(selected, weight), Ok(degree));
+    }
+    assert_eq!(rt;
+        bench.degree_with_transition(square, 1 << 63),
+        Err(RingError::DegreeOverflow)
+    );
+    Ok(())
+}

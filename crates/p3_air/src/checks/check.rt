@@ -13,7 +13,9 @@ use crate::checks::shapes::{check_shapes, table_height};
 use crate::debug::builder::DebugConstraintBuilder;
 use crate::debug::failure::ConstraintFailure;
 use air_builder::{Air, AirError, RowWindow};
-use air_field::{Field, FieldRing, RowMajorMatrix, RowMajorMatrixView, ViewPair};
+use air_field::{
+    ExtFieldRing, Field, FieldRing, RowMajorMatrix, RowMajorMatrixView, SelfExtension, ViewPair,
+};
 use std::alloc::Global;
 
 /// One where it holds, else zero.
@@ -74,7 +76,7 @@ pub(crate) struct RowOutcome {
 }
 
 /// Evaluates an AIR on one row, and adds what is not zero to the failures.
-pub(crate) fn check_row<'a, F: Field, A: Air<DebugConstraintBuilder<'a, F>>>(
+pub(crate) fn check_row<'a, F: SelfExtension + 'static, A: Air<DebugConstraintBuilder<'a, F, F>>>(
     alloc: Global,
     air: &'a A,
     main: &'a RowMajorMatrix<F>,
@@ -99,7 +101,11 @@ pub(crate) fn check_row<'a, F: Field, A: Air<DebugConstraintBuilder<'a, F>>>(
         is_last_row: selector(row + 1 == height),
         is_transition: selector(row + 1 != height),
         periodic_row,
+        permutation: None,
+        permutation_challenges: &[],
+        permutation_values: &[],
         ring: FieldRing::new(),
+        ext_ring: ExtFieldRing::new(),
         constraint_index: 0,
         failures,
     };
@@ -122,7 +128,7 @@ pub(crate) fn is_reached(cap: Option<usize>, failures: usize) -> bool
 }
 
 /// Evaluates an AIR on the rows of a trace while the failures so far are fewer than the cap.
-fn check_rows<'a, F: Field, A: Air<DebugConstraintBuilder<'a, F>>>(
+fn check_rows<'a, F: SelfExtension + 'static, A: Air<DebugConstraintBuilder<'a, F, F>>>(
     alloc: Global,
     air: &'a A,
     main: &'a RowMajorMatrix<F>,
@@ -160,7 +166,11 @@ fn check_rows<'a, F: Field, A: Air<DebugConstraintBuilder<'a, F>>>(
 /// It refuses the first shape that doesn't fit; then an entry that a constraint names and the trace has not, and a count
 /// past `usize`; then the first cell that doesn't fit the trace, and cells of a trace without rows. The trace's width
 /// is not compared with that of the AIR.
-pub fn check_all_constraints<'a, F: Field, A: Air<DebugConstraintBuilder<'a, F>>>(
+pub fn check_all_constraints<
+    'a,
+    F: SelfExtension + 'static,
+    A: Air<DebugConstraintBuilder<'a, F, F>>,
+>(
     alloc: Global,
     air: &'a A,
     main: &'a RowMajorMatrix<F>,

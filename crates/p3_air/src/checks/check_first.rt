@@ -10,7 +10,7 @@ use crate::checks::shapes::{check_shapes, table_height};
 use crate::debug::builder::DebugConstraintBuilder;
 use crate::debug::failure::ConstraintFailure;
 use air_builder::{Air, AirError};
-use air_field::{Field, RowMajorMatrix};
+use air_field::{RowMajorMatrix, SelfExtension};
 use std::alloc::Global;
 use thiserror::Error;
 
@@ -48,7 +48,7 @@ impl From<AirError> for CheckError {
 ///
 /// It is Ok exactly if no cell differs and no constraint fails at any row. The error is the first cell that differs,
 /// else the first row that fails with all its failures, or what the check refuses, as `check_all_constraints` does.
-pub fn check_constraints<'a, F: Field, A: Air<DebugConstraintBuilder<'a, F>>>(
+pub fn check_constraints<'a, F: SelfExtension + 'static, A: Air<DebugConstraintBuilder<'a, F, F>>>(
     alloc: Global,
     air: &'a A,
     main: &'a RowMajorMatrix<F>,

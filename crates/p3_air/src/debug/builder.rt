@@ -1,15 +1,16 @@
 //! The debug builder: it holds the values at one row, and evaluates what is asserted there.
-ghost use Rattle.std.specs.Prelude.{◌≡◌, ◌≢◌, ◌↔◌, IsTrue, [], IfOk, IfErr, IfSome, string_bytes};
+ghost use Rattle.std.specs.Prelude.{◌≡◌, ◌≢◌, ◌↔◌, IsTrue, [], None, Some, IfOk, IfErr, IfSome, string_bytes};
 ghost use Rattle.p3_air.specs.FailureTexts.{failures_text};
 
 use crate::debug::failure::{ConstraintFailure, failures_text};
 use air_builder::{AirError, RowWindow};
-use air_field::{Field, FieldRing, ViewPair};
+use air_field::{ExtFieldRing, ExtensionField, Field, FieldRing, ViewPair};
 use std::alloc::Global;
 
-/// Evaluates constraints on one row. It borrows the rows and the public values; the periodic row alone is its own.
+/// Evaluates constraints on one row: base constraints in `F`, the others in its extension `EF`. It borrows the rows and
+/// the values; the periodic row alone is its own.
 #[derive(Drop)]
-pub struct DebugConstraintBuilder<'a, F: Field> {
+pub struct DebugConstraintBuilder<'a, F: Field, EF: ExtensionField<F>> {
     pub(crate) row_index: usize,
     pub(crate) main: ViewPair<'a, F>,
     pub(crate) preprocessed: RowWindow<'a, F>,
@@ -18,13 +19,18 @@ pub struct DebugConstraintBuilder<'a, F: Field> {
     pub(crate) is_last_row: F,
     pub(crate) is_transition: F,
     pub(crate) periodic_row: Vec<F>,
+    pub(crate) permutation: Option<ViewPair<'a, EF>>,
+    pub(crate) permutation_challenges: &'a [EF],
+    pub(crate) permutation_values: &'a [EF],
     pub(crate) ring: FieldRing<F>,
+    pub(crate) ext_ring: ExtFieldRing<F, EF>,
     pub(crate) constraint_index: usize,
     pub(crate) failures: Vec<ConstraintFailure>,
 }
 
-impl<'a, F: Field> DebugConstraintBuilder<'a, F> {
-    /// A builder at the row of this index: the pairs hold that row and the one after it. It takes no memory.
+impl<'a, F: Field + ExtensionField<F>> DebugConstraintBuilder<'a, F, F> {
+    /// A builder at the row of this index, without permutation data: the pairs hold that row and the one after it. It
+    /// takes no memory.
     pub fn new(
         alloc: Global,
         row_index: usize,
@@ -44,6 +50,57 @@ impl<'a, F: Field> DebugConstraintBuilder<'a, F> {
         ensures is_first_row { result.is_first_row ≡ is_first_row }
         ensures is_last_row { result.is_last_row ≡ is_last_row }
         ensures is_transition { result.is_transition ≡ is_transition }
+        ensures permutation { result.permutation ≡ None }
+        ensures permutation_challenges { result.permutation_challenges.now ≡ [] }
+        ensures permutation_values { result.permutation_values.now ≡ [] }
+        ensures periodic_row { result.periodic_row ≡ periodic_row }
+        ensures counter { result.constraint_index ≡ 0 }
+        ensures failures { result.failures.items ≡ [] }
+    {
+        DebugConstraintBuilder::at_row(
+            alloc,
+            row_index,
+            main,
+            preprocessed,
+            public_values,
+            is_first_row,
+            is_last_row,
+            is_transition,
+            None,
+            &[],
+            &[],
+            periodic_row,
+        )
+    }
+}
+
+impl<'a, F: Field, EF: ExtensionField<F>> DebugConstraintBuilder<'a, F, EF> {
+    /// A builder at the row of this index that has counted nothing yet; both constructors are this.
+    fn at_row(
+        alloc: Global,
+        row_index: usize,
+        main: ViewPair<'a, F>,
+        preprocessed: ViewPair<'a, F>,
+        public_values: &'a [F],
+        on_first_row: F,
+        on_last_row: F,
+        on_transition: F,
+        permutation: Option<ViewPair<'a, EF>>,
+        permutation_challenges: &'a [EF],
+        permutation_values: &'a [EF],
+        periodic_row: Vec<F>,
+    ) -> Self
+        ensures row_index { result.row_index ≡ row_index }
+        ensures main { result.main ≡ main.entry }
+        ensures preprocessed { result.preprocessed.current.now ≡ preprocessed.entry.top.values.now }
+        ensures preprocessed_next { result.preprocessed.next.now ≡ preprocessed.entry.bottom.values.now }
+        ensures public_values { result.public_values.now ≡ public_values.now }
+        ensures is_first_row { result.is_first_row ≡ on_first_row }
+        ensures is_last_row { result.is_last_row ≡ on_last_row }
+        ensures is_transition { result.is_transition ≡ on_transition }
+        ensures permutation { result.permutation ≡ permutation.entry }
+        ensures permutation_challenges { result.permutation_challenges.now ≡ permutation_challenges.now }
+        ensures permutation_values { result.permutation_values.now ≡ permutation_values.now }
         ensures periodic_row { result.periodic_row ≡ periodic_row }
         ensures counter { result.constraint_index ≡ 0 }
         ensures failures { result.failures.items ≡ [] }
@@ -56,14 +113,65 @@ impl<'a, F: Field> DebugConstraintBuilder<'a, F> {
                 preprocessed.bottom.values,
             ),
             public_values,
-            is_first_row,
-            is_last_row,
-            is_transition,
+            is_first_row: on_first_row,
+            is_last_row: on_last_row,
+            is_transition: on_transition,
             periodic_row,
+            permutation,
+            permutation_challenges,
+            permutation_values,
             ring: FieldRing::new(),
+            ext_ring: ExtFieldRing::new(),
             constraint_index: 0,
             failures: Vec::new(alloc),
         }
+    }
+
+    /// A builder at the row of this index, with the two rows of the permutation trace, the challenges, and the values
+    /// that the permutation argument exposes. It takes no memory.
+    pub fn new_with_permutation(
+        alloc: Global,
+        row_index: usize,
+        main: ViewPair<'a, F>,
+        preprocessed: ViewPair<'a, F>,
+        public_values: &'a [F],
+        is_first_row: F,
+        is_last_row: F,
+        is_transition: F,
+        permutation: ViewPair<'a, EF>,
+        permutation_challenges: &'a [EF],
+        permutation_values: &'a [EF],
+        periodic_row: Vec<F>,
+    ) -> Self
+        ensures row_index { result.row_index ≡ row_index }
+        ensures main { result.main ≡ main.entry }
+        ensures preprocessed { result.preprocessed.current.now ≡ preprocessed.entry.top.values.now }
+        ensures preprocessed_next { result.preprocessed.next.now ≡ preprocessed.entry.bottom.values.now }
+        ensures public_values { result.public_values.now ≡ public_values.now }
+        ensures is_first_row { result.is_first_row ≡ is_first_row }
+        ensures is_last_row { result.is_last_row ≡ is_last_row }
+        ensures is_transition { result.is_transition ≡ is_transition }
+        ensures permutation { result.permutation ≡ Some permutation.entry }
+        ensures permutation_challenges { result.permutation_challenges.now ≡ permutation_challenges.now }
+        ensures permutation_values { result.permutation_values.now ≡ permutation_values.now }
+        ensures periodic_row { result.periodic_row ≡ periodic_row }
+        ensures counter { result.constraint_index ≡ 0 }
+        ensures failures { result.failures.items ≡ [] }
+    {
+        DebugConstraintBuilder::at_row(
+            alloc,
+            row_index,
+            main,
+            preprocessed,
+            public_values,
+            is_first_row,
+            is_last_row,
+            is_transition,
+            Some(permutation),
+            permutation_challenges,
+            permutation_values,
+            periodic_row,
+        )
     }
 
     /// Whether an assertion failed.

@@ -6,7 +6,7 @@ ghost use Rattle.p3_air.specs.DebugRow.{row_of};
 use crate::debug::builder::DebugConstraintBuilder;
 use crate::debug::failure::ConstraintFailure;
 use air_builder::{AirError, Name};
-use air_field::Field;
+use air_field::{ExtensionField, Field};
 use std::alloc::{AllocError, Global};
 use std::string::ToString;
 
@@ -23,7 +23,7 @@ fn label_of<N: Name>(alloc: Global, name: N) -> Result<Option<String>, AllocErro
     }
 }
 
-impl<'a, F: Field> DebugConstraintBuilder<'a, F> {
+impl<'a, F: Field, EF: ExtensionField<F>> DebugConstraintBuilder<'a, F, EF> {
     /// Counts an assertion. Where it doesn't hold its failure is kept, and then alone the name is evaluated.
     pub(crate) fn log<N: Name>(&mut self, holds: bool, name: N) -> Result<(), AirError>
         requires { holds ≡ false → N.can_evaluate name }

@@ -48,8 +48,11 @@ impl BaseAir<BabyBear> for Tables {
     }
 }
 
-impl<'a> Air<DebugConstraintBuilder<'a, BabyBear>> for Tables {
-    fn eval(&self, _builder: &mut DebugConstraintBuilder<'a, BabyBear>) -> Result<(), AirError> {
+impl<'a> Air<DebugConstraintBuilder<'a, BabyBear, BabyBear>> for Tables {
+    fn eval(
+        &self,
+        _builder: &mut DebugConstraintBuilder<'a, BabyBear, BabyBear>,
+    ) -> Result<(), AirError> {
         Ok(())
     }
 }

@@ -16,7 +16,7 @@ use std::string::ToString;
 use std::test::Fail;
 
 /// A builder at row 7 of a trace without columns.
-fn row<'a>(alloc: Global) -> DebugConstraintBuilder<'a, BabyBear> {
+fn row<'a>(alloc: Global) -> DebugConstraintBuilder<'a, BabyBear, BabyBear> {
     let none = RowMajorMatrixView::new_row(&[]);
     DebugConstraintBuilder::new(
         alloc,
@@ -37,7 +37,7 @@ fn number(n: u32) -> BabyBear {
 
 fn assert_formatted(
     rt: &impl Abort,
-    builder: &DebugConstraintBuilder<'_, BabyBear>,
+    builder: &DebugConstraintBuilder<'_, BabyBear, BabyBear>,
     wanted: &str,
 ) -> Result<(), Fail> {
     assert_eq!(rt; builder.formatted_failures()?.as_str(), wanted);

@@ -1,12 +1,13 @@
-use Rattle.std.proofs.Common.{◌≡◌, ◌+◌, ◌%◌, length, map, slice_get, ap, sym, subst, ◌∙◌, rules}
+use Rattle.std.proofs.Common.{◌≡◌, ◌+◌, ◌%◌, length, map, slice_get, ap, subst, ◌∙◌, rules}
 use Rattle.std.specs.Option.{option_copied}
 use Rattle.std.proofs.lemmas.Result.{err_from_is_err_and}
-use Rattle.air_field.specs.Assignment.{leaf_value, row_or_none, shape_of, trace_shape, IsMissing}
+use Rattle.air_field.specs.Assignment.{leaf_value, row_or_none, IsMissing}
 use Rattle.air_builder.specs.Refusals.{NoneMissing}
 use Rattle.p3_air.specs.Debug.{nonzero_from}
 use Rattle.p3_air.specs.DebugLaws.{IsFull}
-use Rattle.p3_air.specs.Given.{given, given_trace, height, table_grid}
+use Rattle.p3_air.specs.Given.{given, height, table_grid}
 use Rattle.p3_air.specs.Refused.{Refused}
+use Rattle.p3_air.proofs.OwnExtension.{own_nonzero}
 use Rattle.p3_air.proofs.RowsAt.{row_at-given, shape-given, around_table, periodic_refusal}
 use Rattle.p3_air.proofs.checks.check.check_row.Goals as goal
 
@@ -28,7 +29,9 @@ returns-clause-checked g c =
     record {
       more = grew.more;
       failures = ap (λ v. v.items) c.into_failures.ensures ∙ grew.failures;
-      places = grew.places ∙ ap (λ v. map (λ k. (row, k)) (nonzero_from r eq (leaf_value r.nil v) 0 ts)) same;
+      places = grew.places
+          ∙ (ap (map (λ k. (row, k))) (own_nonzero r eq g.F.ExtensionField.over g.met.F.SelfExtension.over_itself row _ 0 ts)
+          ∙ ap (λ v. map (λ k. (row, k)) (nonzero_from r eq (leaf_value r.nil v) 0 ts)) same);
       constraints = grew.count ∙ search rules;
     }
 

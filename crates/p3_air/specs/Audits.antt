@@ -1,0 +1,119 @@
+-- What an audit answers and refuses.
+use Rattle.std.specs.Prelude.{◌≡◌, ◌⊎◌, ℕ, ◌+◌, ◌-◌, ◌*◌, ◌≤◌, ◌^◌, List, [], ◌∷◌, ◌++◌, All, Bool, Option, None, Some, length, map, slice_get, get_or}
+use Rattle.std.specs.List.{AllZip}
+use Rattle.air_field.specs.Ring.{CommRing, Over, itself}
+use Rattle.air_field.specs.Term.{Leaf, Term}
+use Rattle.air_field.specs.Polynomial.{polynomial, HasDegreeAtMost}
+use Rattle.air_field.specs.Degree.{degree_by, cached_weight, trace_weight, greatest_degree, inferred_degree}
+use Rattle.air_field.specs.Assignment.{IsMissing, row_assignment}
+use Rattle.air_symbolic.specs.BaseLeaves.{base_reads}
+use Rattle.air_symbolic.specs.ExtLeaves.{ext_reads}
+use Rattle.air_symbolic.specs.Leaves.{Leaves}
+use Rattle.air_symbolic.specs.Pools.{term_at}
+use Rattle.air_symbolic.specs.declared.pools.expr.SymbolicExpr.{SymbolicExpr}
+use Rattle.air_builder.specs.Assertion.{Assertion, Base, Extension}
+use Rattle.air_builder.specs.Refusals.{NoneMissing}
+use Rattle.air_builder.specs.declared.errors.AirError.{AirError}
+use Rattle.air_builder.specs.declared.errors.AirError.TheVariants.{DegreeOverflow}
+use Rattle.p3_air.specs.Cells.{cell_place, differing}
+use Rattle.p3_air.specs.Checks.{IsReport, CheckRefuses}
+use Rattle.p3_air.specs.Folds.{ArePlacesOf}
+use Rattle.p3_air.specs.Given.{Given, given_trace, height}
+use Rattle.p3_air.specs.Inferred.{periods_of}
+use Rattle.p3_air.specs.Kinds.{kind_of, base_terms, ext_terms}
+use Rattle.p3_air.specs.Layouts.{layout_shape}
+use Rattle.p3_air.specs.Recorded.{RecordsTerm, EachRecords, RecordsBase, RecordsExt, terms_of}
+use Rattle.p3_air.specs.Recording.{IsOver}
+use Rattle.p3_air.specs.Refused.{Refused}
+use Rattle.p3_air.specs.Report.{assertion_value, report_of, failure_place, count_shown}
+use Rattle.p3_air.specs.declared.audit.Audit.{Audit}
+use Rattle.p3_air.specs.declared.layouts.air_layout.AirLayout.{AirLayout}
+use Rattle.p3_air.specs.declared.symbolic.record.Recorded.{Recorded}
+
+-- a recorded assertion for one that is declared: of the same kind, and its term records the declared one
+abbrev pub RecordsAssertion : {F E : Type 0} → Over F E → Assertion F → Assertion F → Type 0
+RecordsAssertion a (Base u) (Base t) = RecordsTerm a u t
+RecordsAssertion a (Base u) (Extension t) = ⊥
+RecordsAssertion a (Extension u) (Base t) = ⊥
+RecordsAssertion a (Extension u) (Extension t) = RecordsTerm a u t
+
+-- at each place one for the declared one there
+abbrev pub RecordsEach : {F E : Type 0} → Over F E → List (Assertion F) → List (Assertion F) → Type 0
+RecordsEach a us ts = AllZip (RecordsAssertion a) us ts
+
+-- what stands at these places are these numbers' terms, in order, as assertions of one kind
+abbrev pub StandAt : {U A F : Type 0} → (U → Leaves A F) → U × List (SymbolicExpr A) → (Term F → Assertion F) → List (Assertion F) → List ℕ → List ℕ → Type 0
+StandAt reads pool kind recorded places numbers =
+    map (λ p. slice_get recorded p) places ≡ map (λ i. Some (kind (term_at reads pool i))) numbers
+
+-- all recorded terms: the base ones, and then the extension ones
+abbrev pub all_terms : {F : Type 0} → CommRing F → (F → F → Bool) → (F → List F) → Recorded F F → List (Term F)
+all_terms r eq coefficients recorded =
+    terms_of base_reads recorded.pool.0 recorded.base.items ++ terms_of (ext_reads r eq coefficients) recorded.pool recorded.ext.items
+
+-- The recording: the numbers of both lists record the declared terms of their kind; the indices are the places of each
+-- kind; and the recorded assertion at each place is that of the number whose index it is, and records what is declared there.
+pub record IsRecording {F : Type 0} (r : CommRing F) (eq : F → F → Bool) (coefficients : F → List F) (declared recorded : List (Assertion F)) (audit : Audit F) : Type 0 where
+  pub base : RecordsBase r (itself r) base_reads audit.recorded.pool.0 audit.recorded.base.items declared
+  pub ext : RecordsExt r (itself r) (ext_reads r eq coefficients) audit.recorded.pool audit.recorded.ext.items declared
+  pub places : ArePlacesOf (map kind_of declared) audit.layout.base_indices.items audit.layout.ext_indices.items
+  pub at_base : StandAt base_reads audit.recorded.pool.0 Base recorded audit.layout.base_indices.items audit.recorded.base.items
+  pub at_ext : StandAt (ext_reads r eq coefficients) audit.recorded.pool Extension recorded audit.layout.ext_indices.items audit.recorded.ext.items
+  pub each : RecordsEach (itself r) recorded declared
+
+-- The values of the assertions at a row, in order.
+abbrev pub values_at_row : {F : Type 0} → CommRing F → Given F → ℕ → List (Assertion F) → List F
+values_at_row r g row ts = map (assertion_value r (row_assignment r (given_trace g) row)) ts
+
+-- where the failures of an uncapped report stand: the nonzero pairs of row and place, and then the differing cells
+abbrev pub all_failures : {F : Type 0} → CommRing F → (F → F → Bool) → Given F → List (Assertion F) → List (ℕ × ℕ)
+all_failures r eq g ts =
+    report_of r eq (given_trace g) ts (height g)
+    ++ map (cell_place (height g) (count_shown ts (height g))) (differing r eq g.main g.public g.beside.cells)
+
+-- the degrees of the leaves' polynomials over the trace's rows
+abbrev pub weights_of_trace : {F : Type 0} → Given F → Leaf → ℕ
+weights_of_trace g = trace_weight (height g) (periods_of g.beside.periodic)
+
+-- each leaf's polynomial is within its weight
+abbrev pub LeavesWithin : {F : Type 0} → CommRing F → (Leaf → ℕ) → (Leaf → List F) → Type 0
+LeavesWithin r w s = (l : Leaf) → HasDegreeAtMost r (λ n. get_or (s l) n r.nil) (w l)
+
+-- the degree of a quotient's bound: d times one less than the rows, plus one
+abbrev pub bound_of : ℕ → ℕ → ℕ
+bound_of d n = d * (n - 1) + 1
+
+-- the terms' degrees by these weights are at most this
+abbrev pub DegreesWithin : {F : Type 0} → (Leaf → ℕ) → ℕ → List (Term F) → Type 0
+DegreesWithin w bound ts = All (λ t. degree_by w t ≤ bound) ts
+
+-- The audit theorem. What is recorded at each place has at each row the value tested there; the report lists exactly the
+-- nonzero pairs of row and place, in order, and then the differing cells; each recorded polynomial has degree at most
+-- d (n - 1) + 1 over n rows, n at least 2; and for n at least 3 the recorded terms allow no smaller d.
+pub record IsAudit {F : Type 0} (r : CommRing F) (eq : F → F → Bool) (coefficients : F → List F) (g : Given F) (audit : Audit F) : Type 0 where
+  pub recorded : List (Assertion F)
+  pub recording : IsRecording r eq coefficients g.terms recorded audit
+  pub values : (row : ℕ) → values_at_row r g row recorded ≡ values_at_row r g row g.terms
+  pub report : IsReport r eq g None audit.report
+  pub lists : map failure_place audit.report.failures.items ≡ all_failures r eq g recorded
+  pub degree : audit.degree ≡ inferred_degree (height g) (periods_of g.beside.periodic) (all_terms r eq coefficients audit.recorded)
+  pub within : 2 ≤ height g → DegreesWithin (weights_of_trace g) (bound_of audit.degree (height g)) (all_terms r eq coefficients audit.recorded)
+  pub bounded : 2 ≤ height g → (s : Leaf → List F) → LeavesWithin r (weights_of_trace g) s
+      → All (λ t. HasDegreeAtMost r (polynomial (itself r) s t) (bound_of audit.degree (height g))) (all_terms r eq coefficients audit.recorded)
+  pub least : 3 ≤ height g → (d : ℕ) → DegreesWithin (weights_of_trace g) (bound_of d (height g)) (all_terms r eq coefficients audit.recorded) → audit.degree ≤ d
+
+-- terms that record the declared list, one of which has a degree past `usize` over the trace's rows
+pub record IsDegreePast {F : Type 0} (r : CommRing F) (g : Given F) : Type 0 where
+  pub base : List (Term F)
+  pub ext : List (Term F)
+  pub base_recorded : EachRecords (itself r) base (base_terms g.terms)
+  pub ext_recorded : EachRecords (itself r) ext (ext_terms g.terms)
+  pub past : 2 ^ 64 ≤ greatest_degree (weights_of_trace g) (base ++ ext)
+
+-- An audit refuses what the recording refuses: want of memory, a declared term that names an entry missing in the
+-- AIR's own layout, or one whose cached degree passes `usize`. Where no entry is missing there it refuses what the
+-- check without a cap refuses, and then a degree over the trace's rows past `usize`.
+abbrev pub AuditRefuses : {F : Type 0} → CommRing F → (F → F → Bool) → AirLayout → Given F → AirError → Type 0
+AuditRefuses r eq layout g e =
+    Refused (IsMissing (layout_shape layout)) (IsOver cached_weight) (λ _. ⊥) e g.terms
+    ⊎ (NoneMissing (IsMissing (layout_shape layout)) g.terms × (CheckRefuses r eq g None e ⊎ ((e ≡ DegreeOverflow) × IsDegreePast r g)))
