@@ -15,6 +15,5 @@ pub mod SymbolicGrowth
 pub mod ExtRows
 pub mod OwnExtension
 pub mod ExtensionRows
-pub mod ExtensionAirs
 pub mod Audited
 pub mod AuditTheorem

@@ -30,6 +30,5 @@ pub mod FailureTexts
 pub mod DebugLabels
 pub mod DebugLabelLaws
 pub mod Checks
-pub mod TestAirs
 pub mod Audits
 pub mod Plain

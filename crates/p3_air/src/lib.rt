@@ -44,6 +44,3 @@ pub use symbolic::record::{
     Recorded, get_all_symbolic_constraints, get_constraint_layout, get_symbolic_constraints,
     get_symbolic_constraints_extension,
 };
-
-#[cfg(test)]
-mod tests;

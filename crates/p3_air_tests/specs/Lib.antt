@@ -1,0 +1,2 @@
+-- The AIRs of the tests.
+pub mod TestAirs
