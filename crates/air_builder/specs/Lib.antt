@@ -2,8 +2,8 @@ pub use Rattle.air_field.specs.Ring
 pub use Rattle.air_field.specs.Term
 pub use Rattle.air_field.specs.Algebra
 pub use Rattle.air_field.specs.Grid
-pub use Rattle.air_symbolic.specs.Entries
-pub use Rattle.air_symbolic.specs.ExtEntries
+pub use Rattle.air_variables.specs.Entries
+pub use Rattle.air_variables.specs.ExtEntries
 pub mod Boundary
 pub mod Periodic
 pub mod Beside
@@ -12,6 +12,7 @@ pub mod Errors
 pub mod WindowShapes
 pub mod Assertion
 pub mod Refusals
+pub mod Refused
 pub mod Builders
 pub mod Batches
 pub mod Filters

@@ -3,8 +3,8 @@ use Rattle.std.specs.Prelude.{◌≡◌, ◌⊎◌, ◌↔◌, ℕ, List, [], �
 use Rattle.std.proofs.Common.{inl, inr, refl, subst}
 use Rattle.air_field.specs.Term.{Leaf, permutation, Term, leaf_term, const_term, ext_const_term, add_term, sub_term, neg_term, mul_term}
 use Rattle.air_field.specs.Part.{Part, whole, in_add_left, in_add_right, in_sub_left, in_sub_right, in_neg, in_mul_left, in_mul_right}
-use Rattle.air_symbolic.specs.Entries.{entry_leaf}
-use Rattle.air_symbolic.specs.ExtEntries.{ext_entry_leaf}
+use Rattle.air_variables.specs.Entries.{entry_leaf}
+use Rattle.air_variables.specs.ExtEntries.{ext_entry_leaf}
 use Rattle.air_builder.specs.Assertion.{Assertion, Base, Extension, filtered}
 use Rattle.air_builder.specs.declared.errors.AirError.{AirError}
 use Rattle.air_builder.specs.declared.errors.AirError.TheVariants.{MissingEntry, MissingExtEntry, NoPermutation}

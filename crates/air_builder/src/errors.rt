@@ -5,7 +5,7 @@ ghost use Rattle.std.specs.Prelude.{◌≡◌};
 
 use crate::boundary::BoundaryIoError;
 use air_field::{MatrixError, RingError};
-use air_symbolic::{BaseEntry, ExtEntry};
+use air_variables::{BaseEntry, ExtEntry};
 use std::alloc::AllocError;
 use thiserror::Error;
 

@@ -10,14 +10,14 @@ use Rattle.air_builder.specs.Assertion.{Assertion, Base, Extension}
 use Rattle.air_builder.specs.Refusals.{PartOf, PartOfOne, NoneMissing, none_missing}
 use Rattle.air_builder.specs.declared.errors.AirError.{AirError}
 use Rattle.air_builder.specs.declared.errors.AirError.TheVariants.{Memory, DegreeOverflow, CountOverflow, MissingEntry, MissingExtEntry, NoPermutation, LayoutMainWidth, LayoutPublicValues, LayoutPeriodicColumns}
-use Rattle.air_symbolic.specs.Entries.{entry_leaf}
-use Rattle.air_symbolic.specs.ExtEntries.{ext_entry_leaf}
-use Rattle.p3_air.specs.Report.{plain_trace}
-use Rattle.p3_air.specs.DebugLaws.{IsFull}
-use Rattle.p3_air.specs.Refused.{Refused}
-use Rattle.p3_air.specs.Recording.{IsOver}
-use Rattle.p3_air.specs.Inferred.{DegreeRefuses}
-use Rattle.p3_air.specs.Layouts.{layout_shape, plain_layout, LayoutRefuses}
+use Rattle.air_variables.specs.Entries.{entry_leaf}
+use Rattle.air_variables.specs.ExtEntries.{ext_entry_leaf}
+use Rattle.air_report.specs.Report.{plain_trace}
+use Rattle.air_report.specs.DebugLaws.{IsFull}
+use Rattle.air_builder.specs.Refused.{Refused}
+use Rattle.air_recording.specs.Recording.{IsOver}
+use Rattle.air_recording.specs.Inferred.{DegreeRefuses}
+use Rattle.air_recording.specs.Layouts.{layout_shape, plain_layout, LayoutRefuses}
 use Rattle.air_check.specs.Fibonacci.{fibonacci}
 
 part_degree : {F : Type 0} (w : Leaf → ℕ) {t u : Term F} → Part t u → degree_by w t ≤ degree_by w u

@@ -3,9 +3,9 @@ use Rattle.std.proofs.Common.{◌≡◌, ℕ, ◌+◌, ◌<◌, ◌≤◌, List,
 use Rattle.std.proofs.lemmas.Grind.{flat_map-append}
 use Rattle.std.proofs.lemmas.List.{map-append, take_more, take_all}
 use Rattle.air_builder.specs.Batches.{Each}
-use Rattle.p3_air.specs.FailureTexts.{seen_failure}
-use Rattle.p3_air.specs.Report.{failure_place}
-use Rattle.p3_air.specs.declared.debug.failure.ConstraintFailure.{ConstraintFailure}
+use Rattle.air_report.specs.FailureTexts.{seen_failure}
+use Rattle.air_report.specs.Report.{failure_place}
+use Rattle.air_report.specs.declared.debug.failure.ConstraintFailure.{ConstraintFailure}
 use Rattle.air_check.specs.Texts.{lines_text, place_of, IsFailureLine, PushesLine}
 
 -- the text is the lines in front, and one for each of the failures before i

@@ -4,8 +4,8 @@ use Rattle.air_field.specs.Grid.{Grid, grid_of}
 use Rattle.air_field.specs.Ring.{itself}
 use Rattle.air_field.specs.Modulo.{baby_bear_ring}
 use Rattle.air_field.specs.declared.fields.baby_bear.BabyBear.{BabyBear}
-use Rattle.p3_air.specs.Inferred.{IsInferred}
-use Rattle.p3_air.specs.Report.{report_of, plain_trace, count_shown, IsRowsShown}
+use Rattle.air_recording.specs.Inferred.{IsInferred}
+use Rattle.air_report.specs.Report.{report_of, plain_trace, count_shown, IsRowsShown}
 use Rattle.air_check.specs.Fibonacci.{fibonacci}
 use Rattle.air_check.specs.Grammar.{parse}
 use Rattle.air_check.specs.Parsing.{residues}

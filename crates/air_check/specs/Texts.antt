@@ -2,7 +2,7 @@
 use Rattle.std.specs.Prelude.{◌≡◌, ℕ, List, [], ◌∷◌, ◌++◌, length, map, codes, decimal, ◌==◌, if◌then◌else◌, Option, IfSome}
 use Rattle.std.specs.List.{flat_map}
 use Rattle.air_builder.specs.Batches.{Each}
-use Rattle.p3_air.specs.FailureTexts.{seen_failure, label_suffix}
+use Rattle.air_report.specs.FailureTexts.{seen_failure, label_suffix}
 use Rattle.air_check.specs.declared.texts.Findings.{Findings}
 
 -- each line ended by a byte 10

@@ -1,7 +1,7 @@
 //! The text of what was found.
 
 ghost use Rattle.std.specs.Prelude.{◌≡◌, ◌++◌, OnOk, IfOk, IfSome, option_map, string_bytes};
-ghost use Rattle.p3_air.specs.FailureTexts.{label_suffix, seen_failure};
+ghost use Rattle.air_report.specs.FailureTexts.{label_suffix, seen_failure};
 ghost use Rattle.air_check.specs.Texts.{lines_text, count_lines, found, PushesLine, IsFindingsText};
 
 use p3_air::{ConstraintFailure, ConstraintReport};

@@ -3,7 +3,7 @@ use Rattle.std.specs.Prelude.{◌≡◌, Option, None, Some, refl}
 use Rattle.air_field.specs.Ring.{CommRing}
 use Rattle.air_field.specs.Term.{first_row, last_row, transition, Term, leaf_term, const_term}
 use Rattle.air_field.specs.Same.{Same, same_refl}
-use Rattle.air_symbolic.specs.Entries.{entry_leaf}
+use Rattle.air_variables.specs.Entries.{entry_leaf}
 use Rattle.air_symbolic.specs.Leaves.{Leaves, LeafLaws}
 use Rattle.air_symbolic.specs.declared.leaves.base_leaf.BaseLeaf.{BaseLeaf}
 use Rattle.air_symbolic.specs.declared.leaves.base_leaf.BaseLeaf.TheVariants.{Variable, IsFirstRow, IsLastRow, IsTransition, Constant}

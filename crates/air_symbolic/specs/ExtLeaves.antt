@@ -4,7 +4,7 @@ use Rattle.std.proofs.Common.{Decides, ap}
 use Rattle.air_field.specs.Ring.{CommRing}
 use Rattle.air_field.specs.Term.{Term, leaf_term, const_term, ext_const_term}
 use Rattle.air_field.specs.Same.{Same}
-use Rattle.air_symbolic.specs.ExtEntries.{ext_entry_leaf}
+use Rattle.air_variables.specs.ExtEntries.{ext_entry_leaf}
 use Rattle.air_symbolic.specs.BaseParts.{base_part, base_part-is}
 use Rattle.air_symbolic.specs.Leaves.{Leaves, LeafLaws}
 use Rattle.air_symbolic.specs.Trees.{Tree, nothing, leaf_tree, add_tree, sub_tree, neg_tree, mul_tree, term_of, tree_constant}

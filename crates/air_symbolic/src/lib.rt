@@ -1,4 +1,4 @@
-//! Symbolic variables, and expressions in a pool in which each tree stands once.
+//! Expressions of symbolic variables, in a pool in which each tree stands once.
 #![tactic(auto)]
 
 pub mod laws;
@@ -6,18 +6,14 @@ pub mod leaves;
 pub mod pools;
 #[cfg(test)]
 mod tests;
-pub mod variables;
 
+pub use air_variables::{BaseEntry, ExtEntry, SymbolicVariable, SymbolicVariableExt};
 pub use leaves::base_leaf::BaseLeaf;
 pub use leaves::ext_leaf::ExtLeaf;
 pub use leaves::sym_leaf::SymLeaf;
 pub use pools::expr::{ExprId, SymbolicExpr};
 pub use pools::pool::ExprPool;
 pub use pools::weight::{Degrees, LeafWeight};
-pub use variables::entry::BaseEntry;
-pub use variables::ext_entry::ExtEntry;
-pub use variables::variable::SymbolicVariable;
-pub use variables::variable_ext::SymbolicVariableExt;
 
 /// A node of an expression of base leaves.
 pub type SymbolicExpression<F> = SymbolicExpr<BaseLeaf<F>>;

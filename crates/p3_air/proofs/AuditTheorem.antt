@@ -4,7 +4,6 @@ use Rattle.std.proofs.lemmas.List.{map-append}
 use Rattle.std.proofs.lemmas.Simd.{map-map}
 use Rattle.air_field.specs.Ring.{CommRing, itself}
 use Rattle.air_field.specs.Term.{Leaf, Term}
-use Rattle.air_field.specs.Degree.{degree_by, greatest_degree, inferred_degree}
 use Rattle.air_field.specs.DegreeLaws.{polynomial-degree}
 use Rattle.air_field.specs.Assignment.{IsMissing, row_assignment}
 use Rattle.air_field.specs.declared.errors.RingError.{RingError}
@@ -17,21 +16,21 @@ use Rattle.air_builder.specs.Errors.{air_error}
 use Rattle.air_builder.specs.Refusals.{NoneMissing}
 use Rattle.air_builder.specs.declared.errors.AirError.{AirError}
 use Rattle.air_builder.specs.declared.errors.AirError.TheVariants.{LayoutMainWidth, LayoutPublicValues, LayoutPeriodicColumns}
-use Rattle.p3_air.specs.Audits.{RecordsEach, StandAt, IsRecording, IsAudit, AuditRefuses, LeavesWithin, DegreesWithin, all_terms, all_failures, weights_of_trace, bound_of}
-use Rattle.p3_air.specs.Cells.{cell_place, differing}
-use Rattle.p3_air.specs.Checks.{IsReport, listed}
-use Rattle.p3_air.specs.Folds.{ArePlacesOf}
-use Rattle.p3_air.specs.Given.{Given, given_trace, height}
-use Rattle.p3_air.specs.Inferred.{AnswersInferred, periods_of}
-use Rattle.p3_air.specs.Kinds.{kind_of, base_terms, ext_terms}
-use Rattle.p3_air.specs.Layouts.{air_layout, layout_shape, LayoutRefuses}
-use Rattle.p3_air.specs.Recorded.{EachRecords, RecordRefuses, RecordsBase, RecordsExt, terms_of}
-use Rattle.p3_air.specs.Report.{IsReached, failure_place, report_of, count_shown}
+use Rattle.p3_air.specs.Audits.{RecordsEach, IsRecording, IsAudit, AuditRefuses, all_terms, all_failures, weights_of_trace}
+use Rattle.air_recording.specs.Bounds.{bound_of, IsDegreeFor}
+use Rattle.air_report.specs.Cells.{cell_place, differing}
+use Rattle.air_report.specs.Checks.{IsReport, listed}
+use Rattle.air_recording.specs.Folds.{ArePlacesOf}
+use Rattle.air_report.specs.Given.{Given, given_trace, height}
+use Rattle.air_recording.specs.Inferred.{AnswersInferred, periods_of}
+use Rattle.air_recording.specs.Kinds.{kind_of, base_terms, ext_terms}
+use Rattle.air_recording.specs.Layouts.{air_layout, layout_shape, LayoutRefuses}
+use Rattle.air_recording.specs.Recorded.{EachRecords, RecordRefuses, RecordsBase, RecordsExt, terms_of}
+use Rattle.air_report.specs.Report.{IsReached, failure_place, report_of, count_shown}
 use Rattle.p3_air.specs.declared.audit.Audit.{Audit}
-use Rattle.p3_air.specs.declared.layouts.air_layout.AirLayout.{AirLayout}
-use Rattle.p3_air.specs.declared.checks.report.ConstraintReport.{ConstraintReport}
-use Rattle.p3_air.proofs.Audited.{placed, placed_records, at_base_places, at_ext_places, same_values, same_report, same_length, each_within, greatest_within_all}
-use Rattle.p3_air.proofs.Least.{inferred_bounds, inferred_least}
+use Rattle.air_recording.specs.declared.layouts.air_layout.AirLayout.{AirLayout}
+use Rattle.air_report.specs.declared.checks.report.ConstraintReport.{ConstraintReport}
+use Rattle.p3_air.proofs.Audited.{placed, placed_records, at_base_places, at_ext_places, same_values, same_report, same_length}
 
 module _ {F : Type 0} (r : CommRing F) (eq : F → F → Bool) (coefficients : F → List F) (g : Given F) (audit : Audit F) where
   abbrev base_terms_of : List (Term F)
@@ -75,14 +74,13 @@ module _ {F : Type 0} (r : CommRing F) (eq : F → F → Bool) (coefficients : F
       → RecordsExt r (itself r) (ext_reads r eq coefficients) audit.recorded.pool audit.recorded.ext.items g.terms
       → ArePlacesOf (map kind_of g.terms) audit.layout.base_indices.items audit.layout.ext_indices.items
       → IsReport r eq g None audit.report
-      → audit.degree ≡ inferred_degree (height g) (periods_of g.beside.periodic) (all_terms r eq coefficients audit.recorded)
+      → IsDegreeFor (height g) (periods_of g.beside.periodic) (all_terms r eq coefficients audit.recorded) audit.degree
       → IsAudit r eq coefficients g audit
   audited base ext places report degree =
       let n = height g in
       let w = weights_of_trace g in
       let us = all_terms r eq coefficients audit.recorded in
       let recording = recording_is base ext places in
-      let reach : 2 ≤ n → greatest_degree w us ≤ bound_of audit.degree n = λ h. subst (λ d. greatest_degree w us ≤ bound_of d n) (sym degree) (inferred_bounds n (periods_of g.beside.periodic) us h) in
       record {
         recorded = recorded_list;
         recording = recording;
@@ -90,9 +88,7 @@ module _ {F : Type 0} (r : CommRing F) (eq : F → F → Bool) (coefficients : F
         report = report;
         lists = all_listed report ∙ sym (ap₂ (λ xs k. xs ++ map (cell_place n k) (differing r eq g.main g.public g.beside.cells)) (same_report r eq (given_trace g) recorded_list g.terms recording.each n) (same_count recording.each n));
         degree = degree;
-        within = λ h. each_within w (bound_of audit.degree n) us (reach h);
-        bounded = λ h s leaves k d b m past. polynomial-degree (itself r) s w leaves (slice_index_or us k d) m (omega (arith, past, each_within w (bound_of audit.degree n) us (reach h) k d b));
-        least = λ h d within. subst (λ e. e ≤ d) (sym degree) (inferred_least n (periods_of g.beside.periodic) us d h (greatest_within_all w (bound_of d n) us within));
+        bounded = λ h s leaves k d b m past. polynomial-degree (itself r) s w leaves (slice_index_or us k d) m (omega (arith, past, degree.within h k d b));
       }
     where
       same_count : RecordsEach (itself r) recorded_list g.terms → (n : ℕ) → count_shown recorded_list n ≡ count_shown g.terms n
@@ -117,7 +113,7 @@ module _ {F : Type 0} (r : CommRing F) (eq : F → F → Bool) (g : Given F) (pr
       step (inl other) = absurd (own_layout_fits preprocessed width public periodic e other)
       step (inr refused) = inl refused.1
 
-  pub degree_refused : (us vs : List (Term F)) (e : RingError) → NoneMissing (IsMissing (layout_shape own_layout)) g.terms → EachRecords (itself r) us (base_terms g.terms) → EachRecords (itself r) vs (ext_terms g.terms)
+  pub degree_refused : (report : ConstraintReport) (us vs : List (Term F)) (e : RingError) → IsReport r eq g None report → NoneMissing (IsMissing (layout_shape own_layout)) g.terms → EachRecords (itself r) us (base_terms g.terms) → EachRecords (itself r) vs (ext_terms g.terms)
       → AnswersInferred (height g) (periods_of g.beside.periodic) (us ++ vs) (Err e) → AuditRefuses r eq own_layout g (air_error e)
-  degree_refused us vs Memory there m n h = inl tt
-  degree_refused us vs DegreeOverflow there m n h = inr (there, inr (refl, record { base = us; ext = vs; base_recorded = m; ext_recorded = n; past = h }))
+  degree_refused report us vs Memory checked there m n h = inl tt
+  degree_refused report us vs DegreeOverflow checked there m n h = inr (there, inr (refl, record { report = report; checked = checked; base = us; ext = vs; base_recorded = m; ext_recorded = n; past = h }))

@@ -7,12 +7,12 @@ use Rattle.air_field.specs.Term.{Leaf, Term}
 use Rattle.air_field.specs.Degree.{degree_by, greatest_degree}
 use Rattle.air_field.specs.Assignment.{Trace, row_assignment}
 use Rattle.air_builder.specs.Assertion.{Assertion, Base, Extension}
-use Rattle.p3_air.specs.Audits.{RecordsAssertion, RecordsEach, DegreesWithin}
-use Rattle.p3_air.specs.Debug.{nonzero_from}
-use Rattle.p3_air.specs.Kinds.{kind_of, base_terms, ext_terms, is_base, is_extension, places_from}
-use Rattle.p3_air.specs.Recorded.{EachRecords}
-use Rattle.p3_air.specs.Report.{assertion_value, report_of}
-use Rattle.p3_air.proofs.Reports.{report_of-more}
+use Rattle.p3_air.specs.Audits.{RecordsAssertion, RecordsEach}
+use Rattle.air_report.specs.Debug.{nonzero_from}
+use Rattle.air_recording.specs.Kinds.{kind_of, base_terms, ext_terms, is_base, is_extension, places_from}
+use Rattle.air_recording.specs.Recorded.{EachRecords}
+use Rattle.air_report.specs.Report.{assertion_value, report_of}
+use Rattle.air_report.specs.ReportLaws.{report_of-more}
 
 -- The recorded terms of both kinds at the places of the declared list.
 abbrev pub placed : {F : Type 0} → List (Assertion F) → List (Term F) → List (Term F) → List (Assertion F)
@@ -98,13 +98,3 @@ same_length a [] [] h = refl
 same_length a [] (t ∷ ts) h = absurd h
 same_length a (u ∷ us) [] h = absurd h
 same_length a (u ∷ us) (t ∷ ts) h = ap suc (same_length a us ts h.1)
-
--- the greatest degree bounds each, and is the least that does
-pub each_within : {F : Type 0} (w : Leaf → ℕ) (n : ℕ) (ts : List (Term F)) → greatest_degree w ts ≤ n → DegreesWithin w n ts
-each_within w n [] h k d b = absurd (omega arith)
-each_within w n (t ∷ ts) h zero d b = omega (arith, le-max_left (degree_by w t) (greatest_degree w ts))
-each_within w n (t ∷ ts) h (suc k) d b = each_within w n ts (omega (arith, h, le-max_right (degree_by w t) (greatest_degree w ts))) k d (omega arith)
-
-pub greatest_within_all : {F : Type 0} (w : Leaf → ℕ) (n : ℕ) (ts : List (Term F)) → DegreesWithin w n ts → greatest_degree w ts ≤ n
-greatest_within_all w n [] h = omega arith
-greatest_within_all w n (t ∷ ts) h = max-le (h 0 t (omega arith)) (greatest_within_all w n ts (λ k d b. h (suc k) d (omega arith)))

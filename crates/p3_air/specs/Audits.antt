@@ -1,10 +1,9 @@
 -- What an audit answers and refuses.
-use Rattle.std.specs.Prelude.{◌≡◌, ◌⊎◌, ℕ, ◌+◌, ◌-◌, ◌*◌, ◌≤◌, ◌^◌, List, [], ◌∷◌, ◌++◌, All, Bool, Option, None, Some, length, map, slice_get, get_or}
+use Rattle.std.specs.Prelude.{◌≡◌, ◌⊎◌, ℕ, ◌≤◌, ◌^◌, List, [], ◌∷◌, ◌++◌, Bool, Option, None, Some, length, map, slice_get}
 use Rattle.std.specs.List.{AllZip}
 use Rattle.air_field.specs.Ring.{CommRing, Over, itself}
 use Rattle.air_field.specs.Term.{Leaf, Term}
-use Rattle.air_field.specs.Polynomial.{polynomial, HasDegreeAtMost}
-use Rattle.air_field.specs.Degree.{degree_by, cached_weight, trace_weight, greatest_degree, inferred_degree}
+use Rattle.air_field.specs.Degree.{cached_weight, trace_weight, greatest_degree}
 use Rattle.air_field.specs.Assignment.{IsMissing, row_assignment}
 use Rattle.air_symbolic.specs.BaseLeaves.{base_reads}
 use Rattle.air_symbolic.specs.ExtLeaves.{ext_reads}
@@ -15,20 +14,22 @@ use Rattle.air_builder.specs.Assertion.{Assertion, Base, Extension}
 use Rattle.air_builder.specs.Refusals.{NoneMissing}
 use Rattle.air_builder.specs.declared.errors.AirError.{AirError}
 use Rattle.air_builder.specs.declared.errors.AirError.TheVariants.{DegreeOverflow}
-use Rattle.p3_air.specs.Cells.{cell_place, differing}
-use Rattle.p3_air.specs.Checks.{IsReport, CheckRefuses}
-use Rattle.p3_air.specs.Folds.{ArePlacesOf}
-use Rattle.p3_air.specs.Given.{Given, given_trace, height}
-use Rattle.p3_air.specs.Inferred.{periods_of}
-use Rattle.p3_air.specs.Kinds.{kind_of, base_terms, ext_terms}
-use Rattle.p3_air.specs.Layouts.{layout_shape}
-use Rattle.p3_air.specs.Recorded.{RecordsTerm, EachRecords, RecordsBase, RecordsExt, terms_of}
-use Rattle.p3_air.specs.Recording.{IsOver}
-use Rattle.p3_air.specs.Refused.{Refused}
-use Rattle.p3_air.specs.Report.{assertion_value, report_of, failure_place, count_shown}
+use Rattle.air_report.specs.Cells.{cell_place, differing}
+use Rattle.air_report.specs.Checks.{IsReport, CheckRefuses}
+use Rattle.air_recording.specs.Bounds.{bound_of, PolynomialsWithin, IsDegreeFor}
+use Rattle.air_recording.specs.Folds.{ArePlacesOf}
+use Rattle.air_report.specs.Given.{Given, given_trace, height}
+use Rattle.air_recording.specs.Inferred.{periods_of}
+use Rattle.air_recording.specs.Kinds.{kind_of, base_terms, ext_terms}
+use Rattle.air_recording.specs.Layouts.{layout_shape}
+use Rattle.air_recording.specs.Recorded.{RecordsTerm, EachRecords, RecordsBase, RecordsExt, terms_of}
+use Rattle.air_recording.specs.Recording.{IsOver}
+use Rattle.air_builder.specs.Refused.{Refused}
+use Rattle.air_report.specs.Report.{assertion_value, report_of, failure_place, count_shown}
 use Rattle.p3_air.specs.declared.audit.Audit.{Audit}
-use Rattle.p3_air.specs.declared.layouts.air_layout.AirLayout.{AirLayout}
-use Rattle.p3_air.specs.declared.symbolic.record.Recorded.{Recorded}
+use Rattle.air_recording.specs.declared.layouts.air_layout.AirLayout.{AirLayout}
+use Rattle.air_recording.specs.declared.symbolic.record.Recorded.{Recorded}
+use Rattle.air_report.specs.declared.checks.report.ConstraintReport.{ConstraintReport}
 
 -- a recorded assertion for one that is declared: of the same kind, and its term records the declared one
 abbrev pub RecordsAssertion : {F E : Type 0} → Over F E → Assertion F → Assertion F → Type 0
@@ -75,18 +76,6 @@ all_failures r eq g ts =
 abbrev pub weights_of_trace : {F : Type 0} → Given F → Leaf → ℕ
 weights_of_trace g = trace_weight (height g) (periods_of g.beside.periodic)
 
--- each leaf's polynomial is within its weight
-abbrev pub LeavesWithin : {F : Type 0} → CommRing F → (Leaf → ℕ) → (Leaf → List F) → Type 0
-LeavesWithin r w s = (l : Leaf) → HasDegreeAtMost r (λ n. get_or (s l) n r.nil) (w l)
-
--- the degree of a quotient's bound: d times one less than the rows, plus one
-abbrev pub bound_of : ℕ → ℕ → ℕ
-bound_of d n = d * (n - 1) + 1
-
--- the terms' degrees by these weights are at most this
-abbrev pub DegreesWithin : {F : Type 0} → (Leaf → ℕ) → ℕ → List (Term F) → Type 0
-DegreesWithin w bound ts = All (λ t. degree_by w t ≤ bound) ts
-
 -- The audit theorem. What is recorded at each place has at each row the value tested there; the report lists exactly the
 -- nonzero pairs of row and place, in order, and then the differing cells; each recorded polynomial has degree at most
 -- d (n - 1) + 1 over n rows, n at least 2; and for n at least 3 the recorded terms allow no smaller d.
@@ -96,14 +85,13 @@ pub record IsAudit {F : Type 0} (r : CommRing F) (eq : F → F → Bool) (coeffi
   pub values : (row : ℕ) → values_at_row r g row recorded ≡ values_at_row r g row g.terms
   pub report : IsReport r eq g None audit.report
   pub lists : map failure_place audit.report.failures.items ≡ all_failures r eq g recorded
-  pub degree : audit.degree ≡ inferred_degree (height g) (periods_of g.beside.periodic) (all_terms r eq coefficients audit.recorded)
-  pub within : 2 ≤ height g → DegreesWithin (weights_of_trace g) (bound_of audit.degree (height g)) (all_terms r eq coefficients audit.recorded)
-  pub bounded : 2 ≤ height g → (s : Leaf → List F) → LeavesWithin r (weights_of_trace g) s
-      → All (λ t. HasDegreeAtMost r (polynomial (itself r) s t) (bound_of audit.degree (height g))) (all_terms r eq coefficients audit.recorded)
-  pub least : 3 ≤ height g → (d : ℕ) → DegreesWithin (weights_of_trace g) (bound_of d (height g)) (all_terms r eq coefficients audit.recorded) → audit.degree ≤ d
+  pub degree : IsDegreeFor (height g) (periods_of g.beside.periodic) (all_terms r eq coefficients audit.recorded) audit.degree
+  pub bounded : 2 ≤ height g → PolynomialsWithin (itself r) (weights_of_trace g) (bound_of audit.degree (height g)) (all_terms r eq coefficients audit.recorded)
 
--- terms that record the declared list, one of which has a degree past `usize` over the trace's rows
-pub record IsDegreePast {F : Type 0} (r : CommRing F) (g : Given F) : Type 0 where
+-- the check had answered, and of terms that record the declared list one has a degree past `usize` over the trace's rows
+pub record IsDegreePast {F : Type 0} (r : CommRing F) (eq : F → F → Bool) (g : Given F) : Type 0 where
+  pub report : ConstraintReport
+  pub checked : IsReport r eq g None report
   pub base : List (Term F)
   pub ext : List (Term F)
   pub base_recorded : EachRecords (itself r) base (base_terms g.terms)
@@ -112,8 +100,8 @@ pub record IsDegreePast {F : Type 0} (r : CommRing F) (g : Given F) : Type 0 whe
 
 -- An audit refuses what the recording refuses: want of memory, a declared term that names an entry missing in the
 -- AIR's own layout, or one whose cached degree passes `usize`. Where no entry is missing there it refuses what the
--- check without a cap refuses, and then a degree over the trace's rows past `usize`.
+-- check without a cap refuses, and, where the check answers, a degree over the trace's rows past `usize`.
 abbrev pub AuditRefuses : {F : Type 0} → CommRing F → (F → F → Bool) → AirLayout → Given F → AirError → Type 0
 AuditRefuses r eq layout g e =
     Refused (IsMissing (layout_shape layout)) (IsOver cached_weight) (λ _. ⊥) e g.terms
-    ⊎ (NoneMissing (IsMissing (layout_shape layout)) g.terms × (CheckRefuses r eq g None e ⊎ ((e ≡ DegreeOverflow) × IsDegreePast r g)))
+    ⊎ (NoneMissing (IsMissing (layout_shape layout)) g.terms × (CheckRefuses r eq g None e ⊎ ((e ≡ DegreeOverflow) × IsDegreePast r eq g)))

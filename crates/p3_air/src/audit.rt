@@ -2,19 +2,15 @@
 ghost use Rattle.std.specs.Prelude.{length, IfOk, IfErr};
 ghost use Rattle.air_builder.specs.Beside.{table_width};
 ghost use Rattle.p3_air.specs.Audits.{IsAudit, AuditRefuses};
-ghost use Rattle.p3_air.specs.Given.{given};
-ghost use Rattle.p3_air.specs.Layouts.{air_layout};
+ghost use Rattle.air_report.specs.Given.{given};
+ghost use Rattle.air_recording.specs.Layouts.{air_layout};
 
-use crate::checks::check::check_all_constraints;
-use crate::checks::report::ConstraintReport;
-use crate::debug::builder::DebugConstraintBuilder;
-use crate::layouts::air_layout::AirLayout;
-use crate::layouts::constraint_layout::ConstraintLayout;
-use crate::symbolic::builder::SymbolicAirBuilder;
-use crate::symbolic::degree::{degree_of, lengths_of};
-use crate::symbolic::record::{Recorded, record};
 use air_builder::{Air, AirError, BaseAir};
 use air_field::{RowMajorMatrix, SelfExtension};
+use air_recording::symbolic::degree::{degree_of, lengths_of};
+use air_recording::symbolic::record::record;
+use air_recording::{AirLayout, ConstraintLayout, Recorded, SymbolicAirBuilder};
+use air_report::{ConstraintReport, DebugConstraintBuilder, check_all_constraints};
 use std::alloc::Global;
 
 /// What an audit found.

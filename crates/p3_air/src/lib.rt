@@ -6,9 +6,6 @@
 #![tactic(auto)]
 
 pub mod audit;
-pub mod checks;
-pub mod debug;
-pub mod layouts;
 pub mod symbolic;
 
 pub use air_builder::{
@@ -23,24 +20,19 @@ pub use air_field::{
     FieldRing, FromVar, MatrixError, PrimeField, RingError, RowMajorMatrix, RowMajorMatrixView,
     SelfExtension, ViewPair,
 };
-pub use air_symbolic::{
-    BaseEntry, BaseLeaf, Degrees, ExprId, ExprPool, ExtEntry, ExtLeaf, LeafWeight, SymLeaf,
-    SymbolicExpr, SymbolicExpression, SymbolicExpressionExt, SymbolicVariable, SymbolicVariableExt,
-};
-pub use audit::{Audit, audit_air};
-pub use checks::check::check_all_constraints;
-pub use checks::check_first::{CheckError, check_constraints};
-pub use checks::report::ConstraintReport;
-pub use debug::builder::DebugConstraintBuilder;
-pub use debug::failure::ConstraintFailure;
-pub use layouts::air_layout::AirLayout;
-pub use layouts::constraint_layout::ConstraintLayout;
-pub use symbolic::builder::SymbolicAirBuilder;
-pub use symbolic::degree::{
-    constraint_degree_from_poly_degree, get_max_constraint_degree,
-    get_max_constraint_degree_extension,
-};
-pub use symbolic::record::{
-    Recorded, get_all_symbolic_constraints, get_constraint_layout, get_symbolic_constraints,
+pub use air_recording::{
+    AirLayout, ConstraintLayout, Recorded, SymbolicAirBuilder, constraint_degree_from_poly_degree,
+    get_all_symbolic_constraints, get_constraint_layout, get_max_constraint_degree,
+    get_max_constraint_degree_extension, get_symbolic_constraints,
     get_symbolic_constraints_extension,
 };
+pub use air_report::{
+    CheckError, ConstraintFailure, ConstraintReport, DebugConstraintBuilder, check_all_constraints,
+    check_constraints,
+};
+pub use air_symbolic::{
+    BaseLeaf, Degrees, ExprId, ExprPool, ExtLeaf, LeafWeight, SymLeaf, SymbolicExpr,
+    SymbolicExpression, SymbolicExpressionExt,
+};
+pub use air_variables::{BaseEntry, ExtEntry, SymbolicVariable, SymbolicVariableExt};
+pub use audit::{Audit, audit_air};

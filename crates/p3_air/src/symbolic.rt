@@ -1,12 +1,14 @@
-//! The recording of an AIR as expressions in a pool.
+//! Symbolic expressions: leaves and variables, the pools in which each tree stands once, the builder that records an AIR
+//! in them, and the degree of what it recorded.
 
-pub mod builder;
-pub mod builder_impl;
-pub(crate) mod constraints;
-pub mod degree;
-pub mod extension_impl;
-pub mod kind;
-pub mod named;
-pub mod record;
-pub(crate) mod row;
-pub(crate) mod selectors;
+pub use air_recording::{
+    AirLayout, ConstraintLayout, Recorded, SymbolicAirBuilder, constraint_degree_from_poly_degree,
+    get_all_symbolic_constraints, get_constraint_layout, get_max_constraint_degree,
+    get_max_constraint_degree_extension, get_symbolic_constraints,
+    get_symbolic_constraints_extension,
+};
+pub use air_symbolic::{
+    BaseLeaf, Degrees, ExprId, ExprPool, ExtLeaf, LeafWeight, SymLeaf, SymbolicExpr,
+    SymbolicExpression, SymbolicExpressionExt,
+};
+pub use air_variables::{BaseEntry, ExtEntry, SymbolicVariable, SymbolicVariableExt};

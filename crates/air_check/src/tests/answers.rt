@@ -1,22 +1,11 @@
 //! What is written for inputs that are read to their end.
 
 use super::streams::{Kept, Pieces};
+use super::{MANY, run_on, words};
 use crate::program::run;
 use crate::streams::{ReadSource, WriteSink};
-use std::alloc::Global;
 use std::process::Abort;
 use std::test::*;
-
-const MANY: u64 = 1000;
-
-/// The text cut at its spaces.
-fn words(alloc: Global, text: &str) -> Result<Vec<String>, Fail> {
-    let mut words = Vec::new(alloc);
-    for word in text.split(' ') {
-        words.push(String::from_str(alloc, word)?)?;
-    }
-    Ok(words)
-}
 
 /// Runs without labels on an input in pieces of three lengths.
 fn answers(
@@ -40,9 +29,9 @@ fn answers_word(
     for most in [1, 3, 4096] {
         let mut reader = Pieces::new(input, most, MANY);
         let mut writer = Kept::new(alloc, most, MANY);
-        let answered = run(alloc, &words(alloc, word)?, &mut reader, &mut writer)?;
+        let answered = run_on(alloc, &words(alloc, word)?, &mut reader, &mut writer);
         assert_eq!(rt; writer.bytes(), text.as_bytes(), "for {input:?}");
-        assert_eq!(rt; answered, status, "for {input:?}");
+        assert_eq!(rt; answered, Some(status), "for {input:?}");
     }
     Ok(())
 }

@@ -1,10 +1,9 @@
 //! The audit of Fibonacci.
 
-use crate::fibonacci::Fibonacci;
+use super::audit_on;
 use air_builder::AirError;
 use air_field::{BabyBear, RowMajorMatrix};
 use air_symbolic::BaseEntry;
-use p3_air::audit_air;
 use std::alloc::Global;
 use std::test::*;
 
@@ -25,7 +24,7 @@ fn trace(alloc: Global, values: &[u32]) -> Result<RowMajorMatrix<BabyBear>, Fail
 fn audits_the_broken_trace(rt: HostRuntime) -> Result<(), Fail> {
     let main = trace(rt.alloc(), &[0, 1, 1, 1, 1, 5, 2, 3])?;
     let public = numbers(rt.alloc(), &[0, 1, 3])?;
-    let audit = audit_air(rt.alloc(), &Fibonacci::new(), &main, &public)?;
+    let audit = audit_on(rt.alloc(), &main, &public)?;
     assert_eq!(rt;
         audit.layout.base_indices.as_slice(),
         [0, 1, 2, 3, 4].as_slice()
@@ -46,7 +45,7 @@ fn audits_the_broken_trace(rt: HostRuntime) -> Result<(), Fail> {
 fn an_audit_names_the_public_value_that_is_missing(rt: HostRuntime) -> Result<(), Fail> {
     let main = trace(rt.alloc(), &[0, 1, 1, 1, 1, 2, 2, 3])?;
     let public = numbers(rt.alloc(), &[0, 1])?;
-    let audit = audit_air(rt.alloc(), &Fibonacci::new(), &main, &public);
+    let audit = audit_on(rt.alloc(), &main, &public);
     assert_eq!(rt;
         audit.err(),
         Some(AirError::MissingEntry {

@@ -1,22 +1,10 @@
 //! Runs that refuse before there is an answer.
 
 use super::streams::{Kept, Pieces};
-use crate::program::run;
-use std::alloc::Global;
+use super::{MANY, run_on, words};
 use std::test::*;
 
 const INPUT: &[u8] = b"0 1 3\n0 1\n1 1\n1 2\n2 3\n";
-
-const MANY: u64 = 1000;
-
-/// The text cut at its spaces.
-fn words(alloc: Global, text: &str) -> Result<Vec<String>, Fail> {
-    let mut words = Vec::new(alloc);
-    for word in text.split(' ') {
-        words.push(String::from_str(alloc, word)?)?;
-    }
-    Ok(words)
-}
 
 #[test]
 fn refuses_other_words(rt: HostRuntime) -> Result<(), Fail> {
@@ -40,19 +28,19 @@ fn refuses_other_words(rt: HostRuntime) -> Result<(), Fail> {
     ] {
         let mut reader = Pieces::new(INPUT, 3, MANY);
         let mut writer = Kept::new(alloc, 4, MANY);
-        let status = run(alloc, &words(alloc, text)?, &mut reader, &mut writer)?;
+        let status = run_on(alloc, &words(alloc, text)?, &mut reader, &mut writer);
         assert_eq!(rt;
             writer.bytes(),
             b"refused: Usage\n".as_slice(),
             "for {text}"
         );
-        assert_eq!(rt; status, 2);
+        assert_eq!(rt; status, Some(2));
         assert_eq!(rt; reader.left(), INPUT.len());
     }
     let mut writer = Kept::new(alloc, 4, MANY);
-    let status = run(alloc, &[], &mut Pieces::new(INPUT, 3, MANY), &mut writer)?;
+    let status = run_on(alloc, &[], &mut Pieces::new(INPUT, 3, MANY), &mut writer);
     assert_eq!(rt; writer.bytes(), b"refused: Usage\n".as_slice());
-    assert_eq!(rt; status, 2);
+    assert_eq!(rt; status, Some(2));
     Ok(())
 }
 
@@ -63,22 +51,18 @@ fn tells_failed_reads(rt: HostRuntime) -> Result<(), Fail> {
     let words = words(alloc, "fibonacci")?;
     for calls in 0..9 {
         let mut writer = Kept::new(alloc, 3, MANY);
-        let status = run(
-            alloc,
-            &words,
-            &mut Pieces::new(INPUT, 3, calls),
-            &mut writer,
-        )?;
+        let mut reader = Pieces::new(INPUT, 3, calls);
+        let status = run_on(alloc, &words, &mut reader, &mut writer);
         assert_eq!(rt;
             writer.bytes(),
             b"refused: Read\n".as_slice(),
             "after {calls} reads"
         );
-        assert_eq!(rt; status, 2);
+        assert_eq!(rt; status, Some(2));
     }
     let mut writer = Kept::new(alloc, 3, MANY);
-    let status = run(alloc, &words, &mut Pieces::new(INPUT, 3, 9), &mut writer)?;
-    assert_eq!(rt; status, 0);
+    let status = run_on(alloc, &words, &mut Pieces::new(INPUT, 3, 9), &mut writer);
+    assert_eq!(rt; status, Some(0));
     Ok(())
 }
 
@@ -90,30 +74,27 @@ fn tells_failed_writes(rt: HostRuntime) -> Result<(), Fail> {
         let words = words(alloc, text)?;
         for calls in 0..writes {
             let mut writer = Kept::new(alloc, 3, calls);
-            let result = run(alloc, &words, &mut Pieces::new(INPUT, 3, MANY), &mut writer);
-            assert!(rt; result.is_err(), "after {calls} writes");
+            let mut reader = Pieces::new(INPUT, 3, MANY);
+            let status = run_on(alloc, &words, &mut reader, &mut writer);
+            assert_eq!(rt; status, None, "after {calls} writes");
         }
         let mut writer = Kept::new(alloc, 3, writes);
-        run(alloc, &words, &mut Pieces::new(INPUT, 3, MANY), &mut writer)?;
+        let mut reader = Pieces::new(INPUT, 3, MANY);
+        assert!(rt; run_on(alloc, &words, &mut reader, &mut writer).is_some());
     }
     Ok(())
 }
 
-/// A byte at a time, for long. Where an allocation fails `Memory` stands in place of the answer.
+/// A byte at a time, for long.
 #[test]
 fn reads_long_inputs(rt: HostRuntime) -> Result<(), Fail> {
     let alloc = rt.alloc();
     let words = words(alloc, "fibonacci")?;
     let input = vec![in alloc; b'0'; 16384]?;
     let mut writer = Kept::new(alloc, 64, MANY);
-    let status = run(
-        alloc,
-        &words,
-        &mut Pieces::new(&input, 1, 20000),
-        &mut writer,
-    )?;
-    let text = writer.bytes();
-    assert!(rt; text == b"refused: Syntax\n".as_slice() || text == b"refused: Memory\n".as_slice());
-    assert_eq!(rt; status, 2);
+    let mut reader = Pieces::new(&input, 1, 20000);
+    let status = run_on(alloc, &words, &mut reader, &mut writer);
+    assert_eq!(rt; writer.bytes(), b"refused: Syntax\n".as_slice());
+    assert_eq!(rt; status, Some(2));
     Ok(())
 }

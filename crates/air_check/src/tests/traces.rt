@@ -2,6 +2,7 @@
 ghost use Rattle.std.specs.Prelude.{[], None};
 ghost use Rattle.air_check.specs.Fibonacci.{fibonacci};
 
+use super::{check_on, report_on};
 use crate::fibonacci::Fibonacci;
 use air_builder::{Air, AirError, BaseAir, BoundaryEnd, BoundaryPublic};
 use air_field::{BabyBear, RowMajorMatrix};
@@ -112,15 +113,16 @@ fn a_cap_ends_after_the_row_that_reaches_it(rt: HostRuntime) -> Result<(), Fail>
     let alloc = rt.alloc();
     let main = broken(alloc)?;
     let public = public_values(0);
-    let air = Fibonacci::new();
-    let report = check_all_constraints(alloc, &air, &main, &public, Some(1))?;
-    assert_report(&rt, &report, 5, &[(1, 3)]);
-    let report = check_all_constraints(alloc, &air, &main, &public, Some(2))?;
-    assert_report(&rt, &report, 5, &[(1, 3), (2, 2), (2, 3)]);
-    let report = check_all_constraints(alloc, &air, &main, &public, Some(0))?;
-    assert_report(&rt, &report, 0, &[]);
-    let report = check_all_constraints(alloc, &air, &main, &public, None)?;
-    assert_report(&rt, &report, 5, &[(1, 3), (2, 2), (2, 3)]);
+    let all = [(1, 3), (2, 2), (2, 3)];
+    for (cap, constraints, shown) in [
+        (Some(1), 5, 1),
+        (Some(2), 5, 3),
+        (Some(0), 0, 0),
+        (None, 5, 3),
+    ] {
+        let report = report_on(alloc, &main, &public, cap)?;
+        assert_report(&rt, &report, constraints, &all[..shown]);
+    }
     Ok(())
 }
 
@@ -128,7 +130,7 @@ fn a_cap_ends_after_the_row_that_reaches_it(rt: HostRuntime) -> Result<(), Fail>
 fn the_first_failing_row_has_all_its_failures(rt: HostRuntime) -> Result<(), Fail> {
     let alloc = rt.alloc();
     let main = broken(alloc)?;
-    match check_constraints(alloc, &Fibonacci::new(), &main, &public_values(0)) {
+    match check_on(alloc, &main, &public_values(0)) {
         Err(CheckError::RowFailed { row, failures }) => {
             assert_eq!(rt; row, 1);
             assert_places(&rt, &failures, &[(1, 3)]);
@@ -158,8 +160,8 @@ fn further_columns_change_nothing(rt: HostRuntime) -> Result<(), Fail> {
     let alloc = rt.alloc();
     let main = matrix(alloc, &[0, 1, 9, 1, 1, 9, 1, 2, 9, 2, 3, 9], 3)?;
     let public = public_values(0);
-    let report = check_all_constraints(alloc, &Fibonacci::new(), &main, &public, None)?;
+    let report = report_on(alloc, &main, &public, None)?;
     assert_report(&rt, &report, 5, &[]);
-    assert!(rt; check_constraints(alloc, &Fibonacci::new(), &main, &public).is_ok());
+    assert!(rt; check_on(alloc, &main, &public).is_ok());
     Ok(())
 }

@@ -1,7 +1,7 @@
 //! The leaves of base expressions.
 
 use crate::leaves::sym_leaf::SymLeaf;
-use crate::variables::variable::SymbolicVariable;
+use air_variables::SymbolicVariable;
 use air_field::{Field, RingError};
 use std::alloc::Global;
 

@@ -5,7 +5,7 @@ use crate::leaves::base_part::base_part;
 use crate::leaves::sym_leaf::SymLeaf;
 use crate::pools::expr::ExprId;
 use crate::pools::pool::ExprPool;
-use crate::variables::variable_ext::SymbolicVariableExt;
+use air_variables::SymbolicVariableExt;
 use air_field::{ExtensionField, Field, RingError};
 use std::alloc::Global;
 

@@ -3,7 +3,7 @@ ghost use Rattle.std.specs.Prelude.{◌≡◌, ◌<◌, length, IfOk, IfErr};
 ghost use Rattle.air_field.specs.Algebra.{Made};
 ghost use Rattle.air_field.specs.ExtAlgebra.{Lifted};
 ghost use Rattle.air_field.specs.Term.{leaf_term, ext_const_term};
-ghost use Rattle.air_symbolic.specs.ExtEntries.{ext_entry_leaf};
+ghost use Rattle.air_variables.specs.ExtEntries.{ext_entry_leaf};
 ghost use Rattle.air_symbolic.specs.ExtLeaves.{ext_reads, ext_grows};
 ghost use Rattle.air_symbolic.specs.ExtPool.{BaseMeans};
 ghost use Rattle.air_symbolic.specs.Trees.{leaf_tree};
@@ -13,7 +13,7 @@ use crate::leaves::base_leaf::BaseLeaf;
 use crate::leaves::ext_leaf::ExtLeaf;
 use crate::pools::expr::ExprId;
 use crate::pools::pool::ExprPool;
-use crate::variables::variable_ext::SymbolicVariableExt;
+use air_variables::SymbolicVariableExt;
 use air_field::{ExtAlgebra, ExtensionField, Field, FromVar, RingError};
 
 impl<F: Field, EF: ExtensionField<F>> ExprPool<ExtLeaf<F, EF>> {

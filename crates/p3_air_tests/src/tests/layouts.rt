@@ -1,7 +1,7 @@
 //! Layouts of AIRs and of constraints.
 ghost use Rattle.std.specs.Prelude.{◌≡◌, []};
 ghost use Rattle.air_builder.specs.Beside.{nothing_beside};
-ghost use Rattle.p3_air.specs.Layouts.{air_layout};
+ghost use Rattle.air_recording.specs.Layouts.{air_layout};
 
 use air_builder::{AirError, BaseAir, BoundaryPublic};
 use air_field::{BabyBear, BinomialExtensionField, ExtensionField, Field, RowMajorMatrix};

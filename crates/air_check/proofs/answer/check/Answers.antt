@@ -1,6 +1,6 @@
 use Rattle.std.proofs.Common.{rules, [], subst, ◌∙◌}
-use Rattle.p3_air.specs.Inferred.{DegreeRefuses}
-use Rattle.p3_air.specs.Plain.{plain_refusal, plain_report}
+use Rattle.air_recording.specs.Inferred.{DegreeRefuses}
+use Rattle.air_report.specs.Plain.{plain_refusal, plain_report}
 use Rattle.air_check.specs.Fibonacci.{fibonacci}
 use Rattle.air_field.specs.declared.fields.baby_bear.BabyBear.{BabyBear}
 use Rattle.air_check.proofs.FibonacciRefusals.{check_refuses, degree_refuses}

@@ -1,17 +1,15 @@
 use Rattle.std.proofs.Common.{◌≡◌, ℕ, List, ◌++◌, map, length, sym, ap, ap₂, ◌∙◌, subst, inl, inr, Err}
 use Rattle.std.proofs.lemmas.Result.{err_from_is_err_and}
 use Rattle.air_field.specs.Ring.{itself}
-use Rattle.air_field.specs.Degree.{inferred_degree}
+use Rattle.air_recording.specs.Bounds.{IsDegreeFor}
 use Rattle.air_symbolic.specs.BaseLeaves.{base_reads}
 use Rattle.air_symbolic.specs.ExtLeaves.{ext_reads}
 use Rattle.air_builder.specs.Beside.{table_width}
-use Rattle.p3_air.specs.Folds.{ArePlacesOf}
-use Rattle.p3_air.specs.Given.{given}
-use Rattle.p3_air.specs.Inferred.{AnswersInferred, periods_of}
-use Rattle.p3_air.specs.Kinds.{base_terms, ext_terms}
-use Rattle.p3_air.specs.Recorded.{RecordsBase, RecordsExt, terms_of}
+use Rattle.air_recording.specs.Folds.{ArePlacesOf}
+use Rattle.air_report.specs.Given.{given}
+use Rattle.air_recording.specs.Inferred.{AnswersInferred, periods_of}
+use Rattle.air_recording.specs.Recorded.{RecordsBase, RecordsExt, terms_of}
 use Rattle.p3_air.proofs.AuditTheorem.{audited, recording_refused, degree_refused}
-use Rattle.p3_air.proofs.Recordings.{numbers_here}
 use Rattle.p3_air.proofs.audit.audit_air.Goals as goal
 
 pub returns-in_err-builder-clause-refused : goal.returns-in_err-builder-clause-refused
@@ -31,16 +29,10 @@ pub degree_of-requires-clause-pool : goal.degree_of-requires-clause-pool
 degree_of-requires-clause-pool g c = rw c.into_recorded-recorded.ensures.pool c.in_ok-builder.ensures.ext.well_formed
 
 pub degree_of-requires-clause-base_here : goal.degree_of-requires-clause-base_here
-degree_of-requires-clause-base_here g c =
-    let b = c.in_ok-builder.builder in
-    rw (c.into_recorded-recorded.ensures.pool, c.into_recorded-recorded.ensures.base)
-    (numbers_here g.F.Field.ring base_reads b.pool.0 b.constraints.base.items (base_terms (g.A.BaseAir.declared c.args.air.now)) c.in_ok-builder.ensures.base.means)
+degree_of-requires-clause-base_here g c = rw (c.into_recorded-recorded.ensures.pool, c.into_recorded-recorded.ensures.base) c.in_ok-builder.ensures.base_here
 
 pub degree_of-requires-clause-ext_here : goal.degree_of-requires-clause-ext_here
-degree_of-requires-clause-ext_here g c =
-    let b = c.in_ok-builder.builder in
-    rw (c.into_recorded-recorded.ensures.pool, c.into_recorded-recorded.ensures.ext)
-    (numbers_here g.F.Field.ring (ext_reads g.F.Field.ring g.F.PartialEq.eq g.F.ExtensionField.coefficients) b.pool b.constraints.ext.items (ext_terms (g.A.BaseAir.declared c.args.air.now)) c.in_ok-builder.ensures.ext.means)
+degree_of-requires-clause-ext_here g c = rw (c.into_recorded-recorded.ensures.pool, c.into_recorded-recorded.ensures.ext) c.in_ok-builder.ensures.ext_here
 
 pub returns-in_err-degree-clause-refused : goal.returns-in_err-degree-clause-refused
 returns-in_err-degree-clause-refused g c =
@@ -60,7 +52,7 @@ returns-in_err-degree-clause-refused g c =
     let q = c.deref.ensures.value ∙ (c.in_ok-periods.ensures.lengths ∙ ap periods_of c.periodic_columns.ensures) in
     let past = subst (λ (n : ℕ). AnswersInferred n (periods_of beside.periodic) (us ++ vs) (Err e)) c.height.ensures (subst (λ (l : List ℕ). AnswersInferred c.height.result l (us ++ vs) (Err e)) q c.in_err-degree.ensures) in
     rw (p.1, p.2)
-    (degree_refused r g.F.PartialEq.eq (given ts beside c.args.main.now c.args.public_values.now) (table_width beside.preprocessed) (g.A.BaseAir.width air) (g.A.BaseAir.num_public_values air) (length beside.periodic) us vs e (rw c.from_air.ensures at c.in_ok-builder.ensures.there) base.terms ext.terms past)
+    (degree_refused r g.F.PartialEq.eq (given ts beside c.args.main.now c.args.public_values.now) (table_width beside.preprocessed) (g.A.BaseAir.width air) (g.A.BaseAir.num_public_values air) (length beside.periodic) c.in_ok-report.report us vs e c.in_ok-report.ensures.report (rw c.from_air.ensures at c.in_ok-builder.ensures.there) base.terms ext.terms past)
 
 pub returns-clause-audited : goal.returns-clause-audited
 returns-clause-audited g c =
@@ -83,4 +75,4 @@ returns-clause-audited g c =
     audited r eq coefficients (given ts beside c.args.main.now c.args.public_values.now)
     record { recorded = recorded; layout = c.in_ok-layout.layout; report = c.in_ok-report.report; degree = c.in_ok-degree.degree }
     base ext places c.in_ok-report.ensures.report
-    (c.in_ok-degree.ensures ∙ ap₂ (λ n l. inferred_degree n l (us ++ vs)) c.height.ensures q)
+    (subst (λ n. IsDegreeFor n (periods_of beside.periodic) (us ++ vs) c.in_ok-degree.degree) c.height.ensures (subst (λ l. IsDegreeFor c.height.result l (us ++ vs) c.in_ok-degree.degree) q c.in_ok-degree.ensures))

@@ -1,0 +1,120 @@
+-- The inferred degree bounds the degrees of terms and their polynomials; for three rows and more it is the least bound.
+use Rattle.std.proofs.Common.{◌≡◌, ℕ, zero, suc, ◌+◌, ◌-◌, ◌*◌, add-mul, ◌<◌, ◌≤◌, ◌^◌, max, List, [], ◌∷◌, ◌++◌, slice_index_or, refl, sym, subst, arith, ⊎_elim}
+use Rattle.std.proofs.Math.Nat.{max-eq_left, max-eq_right, max-le, le-max_left, le-max_right, lt_of_mul-lt-mul_right, mul-le-mul_right, suc-mul, div_self}
+use Rattle.std.proofs.lemmas.Bool.{cases_lt}
+use Rattle.std.proofs.lemmas.Grind.{div_ceil_times}
+use Rattle.std.specs.Int.{div_ceil}
+use Rattle.air_field.specs.Term.{Leaf, preprocessed, main, periodic, public, first_row, last_row, transition, permutation, challenge, permutation_value, Term, leaf_term, const_term, ext_const_term, add_term, sub_term, neg_term, mul_term}
+use Rattle.air_field.specs.Ring.{Over}
+use Rattle.air_field.specs.DegreeLaws.{polynomial-degree}
+use Rattle.air_recording.specs.Bounds.{bound_of, DegreesWithin, PolynomialsWithin, IsDegreeFor}
+use Rattle.air_field.specs.Degree.{degree_by, cached_weight, trace_weight, periodic_degree, greatest_degree, quotient_degree, inferred_degree}
+
+quotient_of : (k n : ℕ) → quotient_degree (suc k) n ≡ div_ceil k (max (n - 1) 1)
+quotient_of k n = Prim.grind arith
+
+-- (d (n - 1) + 1) is reached by the quotient of p
+quotient_reaches : (p n : ℕ) → 2 ≤ n → p ≤ quotient_degree p n * (n - 1) + 1
+quotient_reaches zero n h = omega arith
+quotient_reaches (suc k) n h =
+    let m : max (n - 1) 1 ≡ n - 1 = max-eq_left (omega (arith, h)) in
+    let b = div_ceil_times k (n - 1) (omega (arith, h)) in
+    subst (λ x. suc k ≤ x * (n - 1) + 1) (sym (quotient_of k n)) (subst (λ x. suc k ≤ div_ceil k x * (n - 1) + 1) (sym m) (omega (arith, b.0)))
+
+-- and by nothing less
+quotient_least : (p n e : ℕ) → 2 ≤ n → p ≤ e * (n - 1) + 1 → quotient_degree p n ≤ e
+quotient_least zero n e h b = omega arith
+quotient_least (suc k) n e h b =
+    let m : max (n - 1) 1 ≡ n - 1 = max-eq_left (omega (arith, h)) in
+    let c = div_ceil_times k (n - 1) (omega (arith, h)) in
+    let lt : div_ceil k (n - 1) < suc e = lt_of_mul-lt-mul_right (n - 1) (omega (arith, c.1, b, suc-mul e (n - 1))) in
+    subst (λ x. x ≤ e) (sym (quotient_of k n)) (subst (λ x. div_ceil k x ≤ e) (sym m) (omega (arith, lt)))
+
+greater_of : (P : ℕ → Type 0) (a b : ℕ) → P a → P b → P (max a b)
+greater_of P a b x y =
+    ⊎_elim
+    (λ (lt : a < b). subst P (sym (max-eq_right (omega (arith, lt)))) y)
+    (λ (ge : b ≤ a). subst P (sym (max-eq_left ge)) x)
+    (cases_lt a b)
+
+-- Over n rows, n at least 1, a term's degree is no less than n - 1 times its cached degree, where no column is periodic.
+module _ (n : ℕ) (some : 1 ≤ n) where
+  leaf_within : (l : Leaf) → cached_weight l * (n - 1) ≤ trace_weight n [] l
+  leaf_within (preprocessed o i) = omega arith
+  leaf_within (main o i) = omega arith
+  leaf_within (periodic i) = periodic_within n some
+    where
+      periodic_within : (n : ℕ) → 1 ≤ n → 1 * (n - 1) ≤ periodic_degree n n
+      periodic_within zero h = omega arith
+      periodic_within (suc k) h = omega (arith, div_self {n = suc k} (omega arith))
+  leaf_within (public i) = omega arith
+  leaf_within first_row = omega arith
+  leaf_within last_row = omega arith
+  leaf_within transition = omega arith
+  leaf_within (permutation o i) = omega arith
+  leaf_within (challenge i) = omega arith
+  leaf_within (permutation_value i) = omega arith
+
+  greater_within : (a b c d : ℕ) → a * (n - 1) ≤ c → b * (n - 1) ≤ d → max a b * (n - 1) ≤ max c d
+  greater_within a b c d h k =
+      greater_of (λ x. x * (n - 1) ≤ max c d) a b (omega (arith, h, le-max_left c d)) (omega (arith, k, le-max_right c d))
+
+  pub cached_within : {F : Type 0} (t : Term F) → degree_by cached_weight t * (n - 1) ≤ degree_by (trace_weight n []) t
+  cached_within (leaf_term l) = leaf_within l
+  cached_within (const_term c) = omega arith
+  cached_within (ext_const_term c) = omega arith
+  cached_within (add_term t u) = greater_within (degree_by cached_weight t) (degree_by cached_weight u) (degree_by (trace_weight n []) t) (degree_by (trace_weight n []) u) (cached_within t) (cached_within u)
+  cached_within (sub_term t u) = greater_within (degree_by cached_weight t) (degree_by cached_weight u) (degree_by (trace_weight n []) t) (degree_by (trace_weight n []) u) (cached_within t) (cached_within u)
+  cached_within (neg_term t) = cached_within t
+  cached_within (mul_term t u) =
+      omega (arith, cached_within t, cached_within u, add-mul (degree_by cached_weight t) (degree_by cached_weight u) (n - 1))
+
+  greatest_within : {F : Type 0} (ts : List (Term F)) → greatest_degree cached_weight ts * (n - 1) ≤ greatest_degree (trace_weight n []) ts
+  greatest_within [] = omega arith
+  greatest_within (t ∷ ts) = greater_within (degree_by cached_weight t) (greatest_degree cached_weight ts) (degree_by (trace_weight n []) t) (greatest_degree (trace_weight n []) ts) (cached_within t) (greatest_within ts)
+
+-- The inferred degree is a bound.
+pub inferred_bounds : {F : Type 0} (n : ℕ) (periods : List ℕ) (ts : List (Term F)) → 2 ≤ n → greatest_degree (trace_weight n periods) ts ≤ inferred_degree n periods ts * (n - 1) + 1
+inferred_bounds n [] ts h =
+    let p = greatest_degree (trace_weight n []) ts in
+    let c = greatest_degree cached_weight ts in
+    let q = quotient_degree p n in
+    omega (arith, quotient_reaches p n h, mul-le-mul_right (n - 1) (le-max_left q c))
+inferred_bounds n (x ∷ periods) ts h = quotient_reaches (greatest_degree (trace_weight n (x ∷ periods)) ts) n h
+
+-- And of the bounds it is the least, for three rows and more.
+pub inferred_least : {F : Type 0} (n : ℕ) (periods : List ℕ) (ts : List (Term F)) (e : ℕ) → 3 ≤ n → greatest_degree (trace_weight n periods) ts ≤ e * (n - 1) + 1 → inferred_degree n periods ts ≤ e
+inferred_least n [] ts e h b =
+    let p = greatest_degree (trace_weight n []) ts in
+    let c = greatest_degree cached_weight ts in
+    max-le (quotient_least p n e (omega (arith, h)) b)
+    (⊎_elim
+    (λ (over : e < c). absurd (omega (arith, over, h, b, greatest_within n (omega (arith, h)) ts, suc-mul e (n - 1), mul-le-mul_right {m = suc e} {n = c} (n - 1) (omega (arith, over)))))
+    (λ (within : c ≤ e). within)
+    (cases_lt e c))
+inferred_least n (x ∷ periods) ts e h b = quotient_least (greatest_degree (trace_weight n (x ∷ periods)) ts) n e (omega (arith, h)) b
+
+-- the greatest degree bounds each, and is the least that does
+pub each_within : {F : Type 0} (w : Leaf → ℕ) (n : ℕ) (ts : List (Term F)) → greatest_degree w ts ≤ n → DegreesWithin w n ts
+each_within w n [] h k d b = absurd (omega arith)
+each_within w n (t ∷ ts) h zero d b = omega (arith, le-max_left (degree_by w t) (greatest_degree w ts))
+each_within w n (t ∷ ts) h (suc k) d b = each_within w n ts (omega (arith, h, le-max_right (degree_by w t) (greatest_degree w ts))) k d (omega arith)
+
+pub greatest_within_all : {F : Type 0} (w : Leaf → ℕ) (n : ℕ) (ts : List (Term F)) → DegreesWithin w n ts → greatest_degree w ts ≤ n
+greatest_within_all w n [] h = omega arith
+greatest_within_all w n (t ∷ ts) h = max-le (h 0 t (omega arith)) (greatest_within_all w n ts (λ k d b. h (suc k) d (omega arith)))
+
+-- What is inferred of terms whose degrees fit is the degree for them.
+pub degree_for : {F : Type 0} (n : ℕ) (periods : List ℕ) (ts : List (Term F)) (d : ℕ) → d ≡ inferred_degree n periods ts → greatest_degree (trace_weight n periods) ts < 2 ^ 64 → IsDegreeFor n periods ts d
+degree_for n periods ts d value fits =
+    let w = trace_weight n periods in
+    record {
+      value = value;
+      fits = fits;
+      within = λ h. each_within w (bound_of d n) ts (subst (λ e. greatest_degree w ts ≤ bound_of e n) (sym value) (inferred_bounds n periods ts h));
+      least = λ h e within. subst (λ k. k ≤ e) (sym value) (inferred_least n periods ts e h (greatest_within_all w (bound_of e n) ts within));
+    }
+
+-- Terms of such degrees have polynomials of such degrees.
+pub polynomials_within : {F E : Type 0} (a : Over F E) (w : Leaf → ℕ) (bound : ℕ) (ts : List (Term F)) → DegreesWithin w bound ts → PolynomialsWithin a w bound ts
+polynomials_within a w bound ts h s leaves k d b m past = polynomial-degree a s w leaves (slice_index_or ts k d) m (omega (arith, past, h k d b))

@@ -1,0 +1,10 @@
+pub mod Recordings
+pub mod Least
+pub mod InferredDegrees
+pub mod Tabulations
+pub mod SumLaws
+pub mod BasisParts
+pub mod FoldLaws
+pub mod WeightLaws
+pub mod SymbolicGrowth
+pub mod ExtRows

@@ -1,0 +1,7 @@
+use Rattle.std.proofs.Common.{◌≡◌, max, drop}
+use Rattle.air_field.specs.Degree.{cached_weight, greatest_degree}
+use Rattle.air_recording.specs.Recorded.{terms_of}
+use Rattle.air_recording.proofs.symbolic.degree.greatest_cached.Given as goal
+
+abbrev pub invariant-loop-number : goal.invariant-loop-number
+invariant-loop-number g l = max l.greatest (greatest_degree cached_weight (terms_of g.A.SymLeaf.reads l.pool (drop l.number-index l.numbers))) ≡ greatest_degree cached_weight (terms_of g.A.SymLeaf.reads l.pool l.numbers)

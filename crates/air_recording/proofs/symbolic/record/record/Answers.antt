@@ -1,0 +1,72 @@
+use Rattle.std.proofs.Common.{◌≡◌, ◌++◌, List, ℕ, map, sym, subst, ◌∙◌, ap}
+use Rattle.air_field.specs.Ring.{itself, itself_laws}
+use Rattle.air_field.specs.Assignment.{IsMissing}
+use Rattle.air_symbolic.specs.BaseLeaves.{base_reads}
+use Rattle.air_symbolic.specs.ExtLeaves.{ext_reads}
+use Rattle.air_symbolic.specs.Pools.{PoolMeans}
+use Rattle.air_builder.specs.Refusals.{NoneMissing}
+use Rattle.air_recording.specs.Kinds.{kind_of, base_terms, ext_terms}
+use Rattle.air_recording.specs.Layouts.{layout_shape}
+use Rattle.air_recording.specs.Recording.{EachMeans}
+use Rattle.air_recording.proofs.Recordings.{each_records, numbers_here}
+use Rattle.air_recording.proofs.symbolic.record.record.Goals as goal
+
+pub returns-clause-base : goal.returns-clause-base
+returns-clause-base g c =
+    let r = g.F.Field.ring in
+    let ts = g.A.BaseAir.declared c.args.air.now in
+    let grew = c.in_ok-eval.ensures.ok in
+    let pool = c.eval.new.builder.pool in
+    let numbers = c.eval.new.builder.constraints.base.items in
+    let all : numbers ≡ grew.more_base = grew.base ∙ ap (λ l. l.base ++ grew.more_base) c.in_ok-builder.ensures.none in
+    let means : EachMeans (PoolMeans base_reads r pool.0) numbers (base_terms ts) = subst (λ l. EachMeans (PoolMeans base_reads r pool.0) l (base_terms ts)) (sym all) grew.each_base in
+    record {
+      well_formed = (grew.keeps.pool.pool c.in_ok-builder.ensures.ready.pool).under;
+      means = means;
+      terms = each_records r base_reads pool.0 (itself r) (itself_laws r) numbers (base_terms ts) means;
+      in_extension = each_records r base_reads pool.0 g.EF.ExtensionField.over g.met.EF.ExtensionField.over_laws numbers (base_terms ts) means;
+    }
+
+pub returns-clause-ext : goal.returns-clause-ext
+returns-clause-ext g c =
+    let r = g.F.Field.ring in
+    let reads = ext_reads r g.F.PartialEq.eq g.EF.ExtensionField.coefficients in
+    let ts = g.A.BaseAir.declared c.args.air.now in
+    let grew = c.in_ok-eval.ensures.ok in
+    let pool = c.eval.new.builder.pool in
+    let numbers = c.eval.new.builder.constraints.ext.items in
+    let all : numbers ≡ grew.more_ext = grew.ext ∙ ap (λ l. l.ext ++ grew.more_ext) c.in_ok-builder.ensures.none in
+    let means : EachMeans (PoolMeans reads r pool) numbers (ext_terms ts) = subst (λ l. EachMeans (PoolMeans reads r pool) l (ext_terms ts)) (sym all) grew.each_ext in
+    record {
+      well_formed = grew.keeps.pool.pool c.in_ok-builder.ensures.ready.pool;
+      means = means;
+      terms = each_records r reads pool g.EF.ExtensionField.over g.met.EF.ExtensionField.over_laws numbers (ext_terms ts) means;
+    }
+
+pub returns-clause-base_here : goal.returns-clause-base_here
+returns-clause-base_here g c =
+    let r = g.F.Field.ring in
+    let ts = base_terms (g.A.BaseAir.declared c.args.air.now) in
+    let grew = c.in_ok-eval.ensures.ok in
+    let pool = c.eval.new.builder.pool.0 in
+    let all : c.eval.new.builder.constraints.base.items ≡ grew.more_base = grew.base ∙ ap (λ l. l.base ++ grew.more_base) c.in_ok-builder.ensures.none in
+    numbers_here r base_reads pool c.eval.new.builder.constraints.base.items ts (subst (λ l. EachMeans (PoolMeans base_reads r pool) l ts) (sym all) grew.each_base)
+
+pub returns-clause-ext_here : goal.returns-clause-ext_here
+returns-clause-ext_here g c =
+    let r = g.F.Field.ring in
+    let reads = ext_reads r g.F.PartialEq.eq g.EF.ExtensionField.coefficients in
+    let ts = ext_terms (g.A.BaseAir.declared c.args.air.now) in
+    let grew = c.in_ok-eval.ensures.ok in
+    let pool = c.eval.new.builder.pool in
+    let all : c.eval.new.builder.constraints.ext.items ≡ grew.more_ext = grew.ext ∙ ap (λ l. l.ext ++ grew.more_ext) c.in_ok-builder.ensures.none in
+    numbers_here r reads pool c.eval.new.builder.constraints.ext.items ts (subst (λ l. EachMeans (PoolMeans reads r pool) l ts) (sym all) grew.each_ext)
+
+pub returns-clause-kinds : goal.returns-clause-kinds
+returns-clause-kinds g c =
+    let grew = c.in_ok-eval.ensures.ok in
+    grew.kinds ∙ ap (λ l. l.kinds ++ map kind_of (g.A.BaseAir.declared c.args.air.now)) c.in_ok-builder.ensures.none
+
+pub returns-clause-there : goal.returns-clause-there
+returns-clause-there g c =
+    subst (λ l. NoneMissing (IsMissing (layout_shape l)) (g.A.BaseAir.declared c.args.air.now)) c.in_ok-builder.ensures.layout c.in_ok-eval.ensures.there

@@ -1,0 +1,58 @@
+-- What a recording answers and refuses.
+use Rattle.std.specs.Prelude.{◌≡◌, ◌⊎◌, ℕ, ◌≤◌, List, [], ◌∷◌, map}
+use Rattle.air_field.specs.Ring.{CommRing, Over, itself}
+use Rattle.air_field.specs.Term.{Leaf, Term}
+use Rattle.air_field.specs.Value.{value}
+use Rattle.air_field.specs.Polynomial.{polynomial, SamePolynomial}
+use Rattle.air_field.specs.Degree.{degree_by, cached_weight}
+use Rattle.air_field.specs.Assignment.{IsMissing}
+use Rattle.air_symbolic.specs.Leaves.{Leaves}
+use Rattle.air_symbolic.specs.Pools.{IsPool, PoolMeans, term_at}
+use Rattle.air_symbolic.specs.declared.pools.expr.SymbolicExpr.{SymbolicExpr}
+use Rattle.air_builder.specs.Assertion.{Assertion}
+use Rattle.air_builder.specs.declared.errors.AirError.{AirError}
+use Rattle.air_recording.specs.Kinds.{base_terms, ext_terms}
+use Rattle.air_recording.specs.Layouts.{layout_shape, FitsAir, LayoutRefuses}
+use Rattle.air_recording.specs.declared.layouts.air_layout.AirLayout.{AirLayout}
+use Rattle.air_recording.specs.Recording.{EachMeans, IsOver}
+use Rattle.air_builder.specs.Refused.{Refused}
+
+-- a recorded term for one that is declared: in an algebra, the same polynomial under every assignment of coefficient
+-- lists, the same value under every assignment, and a degree that is no greater by any weights
+pub record RecordsTerm {F E : Type 0} (a : Over F E) (u t : Term F) : Type 0 where
+  pub same : (s : Leaf → List E) → SamePolynomial (polynomial a s u) (polynomial a s t)
+  pub same_value : (s : Leaf → E) → value a s u ≡ value a s t
+  pub light : (w : Leaf → ℕ) → degree_by w u ≤ degree_by w t
+
+-- one for each, in order
+abbrev pub EachRecords : {F E : Type 0} → Over F E → List (Term F) → List (Term F) → Type 0
+EachRecords a [] [] = Unit {0}
+EachRecords a [] (t ∷ ts) = ⊥
+EachRecords a (u ∷ us) [] = ⊥
+EachRecords a (u ∷ us) (t ∷ ts) = RecordsTerm a u t × EachRecords a us ts
+
+-- the terms of these numbers of a pool
+abbrev pub terms_of : {U A F : Type 0} → (U → Leaves A F) → U × List (SymbolicExpr A) → List ℕ → List (Term F)
+terms_of reads pool is = map (λ i. term_at reads pool i) is
+
+-- Each declared base term has one number of the base pool, in order: it means that term, and so has its polynomial,
+-- over the base field and over the extension.
+pub record RecordsBase {U A F E : Type 0} (r : CommRing F) (over : Over F E) (reads : U → Leaves A F) (pool : U × List (SymbolicExpr A)) (numbers : List ℕ) (ts : List (Assertion F)) : Type 0 where
+  pub well_formed : IsPool reads pool
+  pub means : EachMeans (PoolMeans reads r pool) numbers (base_terms ts)
+  pub terms : EachRecords (itself r) (terms_of reads pool numbers) (base_terms ts)
+  pub in_extension : EachRecords over (terms_of reads pool numbers) (base_terms ts)
+
+-- Each declared extension term has one number of the extension pool, in order: it means that term, and so has its
+-- polynomial.
+pub record RecordsExt {U A F E : Type 0} (r : CommRing F) (over : Over F E) (reads : U → Leaves A F) (pool : U × List (SymbolicExpr A)) (numbers : List ℕ) (ts : List (Assertion F)) : Type 0 where
+  pub well_formed : IsPool reads pool
+  pub means : EachMeans (PoolMeans reads r pool) numbers (ext_terms ts)
+  pub terms : EachRecords over (terms_of reads pool numbers) (ext_terms ts)
+
+-- A recording refuses the first count of the layout that isn't the AIR's; then want of memory, a declared term that names a
+-- missing entry, or one whose degree passes `usize`.
+abbrev pub RecordRefuses : {F : Type 0} → AirLayout → ℕ → ℕ → ℕ → List (Assertion F) → AirError → Type 0
+RecordRefuses layout width public periodic ts e =
+    LayoutRefuses layout width public periodic e
+    ⊎ (FitsAir layout width public periodic × Refused (IsMissing (layout_shape layout)) (IsOver cached_weight) (λ _. ⊥) e ts)

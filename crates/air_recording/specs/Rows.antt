@@ -1,0 +1,16 @@
+-- Rows of variables.
+use Rattle.std.specs.Prelude.{◌≡◌, ℕ, List, length, Some, slice_get}
+use Rattle.air_variables.specs.declared.entry.BaseEntry.{BaseEntry}
+use Rattle.air_variables.specs.declared.ext_entry.ExtEntry.{ExtEntry}
+use Rattle.air_variables.specs.declared.variable.SymbolicVariable.{SymbolicVariable}
+use Rattle.air_variables.specs.declared.variable_ext.SymbolicVariableExt.{SymbolicVariableExt}
+
+-- the row has this width, and at each place that place's variable of the entry
+pub record IsRowOf {F : Type 0} (e : BaseEntry) (width : ℕ) (row : List (SymbolicVariable F)) : Type 0 where
+  pub columns : length row ≡ width
+  pub each : (i : ℕ) (v : SymbolicVariable F) → slice_get row i ≡ Some v → (v.entry ≡ e) × (v.index ≡ i)
+
+-- the same of extension variables
+pub record IsExtRowOf {F EF : Type 0} (e : ExtEntry) (width : ℕ) (row : List (SymbolicVariableExt F EF)) : Type 0 where
+  pub columns : length row ≡ width
+  pub each : (i : ℕ) (v : SymbolicVariableExt F EF) → slice_get row i ≡ Some v → (v.entry ≡ e) × (v.index ≡ i)

@@ -1,0 +1,43 @@
+-- What a symbolic builder keeps beside its pool and its lists, and what its pool has from the start.
+use Rattle.std.specs.Prelude.{ℕ, Bool, List}
+use Rattle.air_field.specs.Ring.{CommRing}
+use Rattle.air_field.specs.Term.{first_row, last_row, transition, Term, leaf_term}
+use Rattle.air_symbolic.specs.Trees.{leaf_tree}
+use Rattle.air_symbolic.specs.Pools.{IsPool, PoolHas, PoolMeans, HasTree}
+use Rattle.air_symbolic.specs.BaseLeaves.{base_reads}
+use Rattle.air_symbolic.specs.ExtLeaves.{BaseNodes, ext_reads}
+use Rattle.air_symbolic.specs.ExtPool.{ExtNodes, BaseHas, BaseMeans}
+use Rattle.air_symbolic.specs.declared.leaves.base_leaf.BaseLeaf.TheVariants.{IsFirstRow, IsLastRow, IsTransition}
+use Rattle.air_recording.specs.Layouts.{layout_shape}
+use Rattle.air_recording.specs.Recording.{Fixed}
+use Rattle.air_recording.specs.declared.layouts.air_layout.AirLayout.{AirLayout}
+use Rattle.air_recording.specs.declared.symbolic.selectors.Selectors.{Selectors}
+
+-- the selectors' expressions, and how many entries the layout has
+abbrev pub fixed_by : {F : Type 0} → Selectors F → AirLayout → Fixed ℕ
+fixed_by s layout = record {
+  on_first_row = s.first_row;
+  on_last_row = s.last_row;
+  on_transition = s.transition;
+  shape = layout_shape layout;
+}
+
+-- the selectors' expressions are their leaves
+pub record SelectorsAreLeaves {F : Type 0} (pool : BaseNodes F) (s : Selectors F) : Type 0 where
+  pub first : HasTree pool (leaf_tree IsFirstRow) s.first_row
+  pub last : HasTree pool (leaf_tree IsLastRow) s.last_row
+  pub step : HasTree pool (leaf_tree IsTransition) s.transition
+
+-- the selectors' expressions mean their leaves
+pub record SelectorsMeanLeaves {F : Type 0} (means : ℕ → Term F → Type 0) (s : Selectors F) : Type 0 where
+  pub first : means s.first_row (leaf_term first_row)
+  pub last : means s.last_row (leaf_term last_row)
+  pub step : means s.transition (leaf_term transition)
+
+-- what is of the base pool that lies under an extension pool, and means a term there, is and does in the extension pool
+module _ {F EF : Type 0} (r : CommRing F) (eq : F → F → Bool) (coefficients : EF → List F) where
+  pub base_has_it : (p : ExtNodes F EF) (x : ℕ) → IsPool (ext_reads r eq coefficients) p → PoolHas base_reads p.0 x → BaseHas r eq coefficients p x
+  base_has_it p x w h = record { pool = w; base = h }
+
+  pub base_means_it : (p : ExtNodes F EF) (x : ℕ) (t : Term F) → IsPool (ext_reads r eq coefficients) p → PoolMeans base_reads r p.0 x t → BaseMeans r eq coefficients p x t
+  base_means_it p x t w h = record { pool = w; base = h }

@@ -1,0 +1,69 @@
+//! The symbolic builder: what is asserted becomes expressions of a pool.
+ghost use Rattle.std.specs.Prelude.{◌≡◌, [], IfOk, IfErr};
+ghost use Rattle.air_recording.specs.RecordedLists.{no_lists, lists_of};
+ghost use Rattle.air_recording.specs.Folds.{ArePlacesOf};
+ghost use Rattle.air_recording.specs.SymbolicParts.{SelectorsAreLeaves};
+
+use crate::layouts::air_layout::AirLayout;
+use crate::layouts::constraint_layout::ConstraintLayout;
+use crate::symbolic::constraints::Constraints;
+use crate::symbolic::row::{AllEntries, all_entries_of};
+use crate::symbolic::selectors::{Selectors, make_selectors};
+use air_builder::{AirBuilder, AirError};
+use air_field::{ExtensionField, Field};
+use air_symbolic::{BaseLeaf, ExprId, ExprPool, ExtLeaf};
+use std::alloc::Global;
+
+/// Records what is asserted as expressions of its pool, in order: base constraints over its base pool, extension
+/// constraints over the whole.
+#[derive(Drop)]
+pub struct SymbolicAirBuilder<F: Field, EF: ExtensionField<F>> {
+    pub(crate) alloc: Global,
+    pub(crate) entries: AllEntries<F, EF>,
+    pub(crate) pool: ExprPool<ExtLeaf<F, EF>>,
+    pub(crate) selectors: Selectors<F>,
+    pub(crate) constraints: Constraints<F, EF>,
+}
+
+impl<F: Field, EF: ExtensionField<F>> SymbolicAirBuilder<F, EF> {
+    /// A builder of this layout that has recorded nothing. Its selectors are made at once, so that they are there.
+    pub fn new(alloc: Global, layout: AirLayout) -> Result<Self, AirError>
+        ensures ready { IfOk result ⟦<SymbolicAirBuilder<F, EF> as AirBuilder>⟧.ready }
+        ensures layout { IfOk result (λ b. b.entries.base.layout ≡ layout) }
+        ensures selectors { IfOk result (λ b. SelectorsAreLeaves b.pool.0 b.selectors) }
+        ensures none { IfOk result (λ b. lists_of b.constraints ≡ no_lists) }
+        ensures refused { IfErr result (λ e. e ≡ AirError.Memory) }
+    {
+        let mut pool = ExprPool::new(alloc);
+        let selectors = make_selectors(pool.base_mut())?;
+        Ok(SymbolicAirBuilder {
+            alloc,
+            entries: all_entries_of(alloc, layout)?,
+            pool,
+            selectors,
+            constraints: Constraints::new(alloc),
+        })
+    }
+
+    /// The recorded base constraints, in order: numbers of the pool's base pool.
+    pub fn base_constraints(&self) -> &[ExprId<BaseLeaf<F>>]
+        ensures { result.now ≡ self.now.constraints.base.items }
+    {
+        self.constraints.base.as_slice()
+    }
+
+    /// The recorded extension constraints, in order: numbers of the pool.
+    pub fn extension_constraints(&self) -> &[ExprId<ExtLeaf<F, EF>>]
+        ensures { result.now ≡ self.now.constraints.ext.items }
+    {
+        self.constraints.ext.as_slice()
+    }
+
+    /// Where the base and the extension constraints recorded so far stand among all of them.
+    pub fn constraint_layout(&self) -> Result<ConstraintLayout, AirError>
+        ensures places { IfOk result (λ l. ArePlacesOf self.now.constraints.kinds.items l.base_indices.items l.ext_indices.items) }
+        ensures refused { IfErr result (λ e. e ≡ AirError.Memory) }
+    {
+        self.constraints.layout(self.alloc)
+    }
+}

@@ -1,0 +1,111 @@
+//! What a symbolic builder has recorded.
+ghost use Rattle.std.specs.Prelude.{◌≡◌, [], IfOk, OnOk, OnErr, IfErr};
+ghost use Rattle.air_recording.specs.Folds.{ArePlacesOf};
+ghost use Rattle.air_recording.specs.Kinds.{is_base, is_extension, places_where};
+ghost use Rattle.air_recording.specs.Recording.{with_base, with_ext};
+ghost use Rattle.air_recording.specs.RecordedLists.{lists_of};
+
+use crate::layouts::constraint_layout::ConstraintLayout;
+use crate::symbolic::kind::ConstraintKind;
+use air_builder::AirError;
+use air_field::{ExtensionField, Field};
+use air_symbolic::{BaseLeaf, ExprId, ExtLeaf};
+use std::alloc::Global;
+
+/// The recorded expressions of each kind, in order, and the kind at each place of the whole.
+#[derive(Drop)]
+pub(crate) struct Constraints<F: Field, EF: ExtensionField<F>> {
+    pub(crate) base: Vec<ExprId<BaseLeaf<F>>>,
+    pub(crate) ext: Vec<ExprId<ExtLeaf<F, EF>>>,
+    pub(crate) kinds: Vec<ConstraintKind>,
+}
+
+impl<F: Field, EF: ExtensionField<F>> Constraints<F, EF> {
+    /// Nothing recorded.
+    pub(crate) fn new(alloc: Global) -> Self
+        ensures base { result.base.items ≡ [] }
+        ensures ext { result.ext.items ≡ [] }
+        ensures kinds { result.kinds.items ≡ [] }
+    {
+        Constraints {
+            base: Vec::new(alloc),
+            ext: Vec::new(alloc),
+            kinds: Vec::new(alloc),
+        }
+    }
+
+    /// Records a base expression at the next place.
+    pub(crate) fn push_base(&mut self, x: ExprId<BaseLeaf<F>>) -> Result<(), AirError>
+        ensures ok { OnOk result (lists_of self.new ≡ with_base (lists_of self.old) x) }
+        ensures err { OnErr result (lists_of self.new ≡ lists_of self.old) }
+        ensures refused { IfErr result (λ e. e ≡ AirError.Memory) }
+    {
+        if self.kinds.push(ConstraintKind::Base).is_err() {
+            return Err(AirError::Memory);
+        }
+        if self.base.push(x).is_err() {
+            self.kinds.pop();
+            return Err(AirError::Memory);
+        }
+        Ok(())
+    }
+
+    /// Records an extension expression at the next place.
+    pub(crate) fn push_ext(&mut self, x: ExprId<ExtLeaf<F, EF>>) -> Result<(), AirError>
+        ensures ok { OnOk result (lists_of self.new ≡ with_ext (lists_of self.old) x) }
+        ensures err { OnErr result (lists_of self.new ≡ lists_of self.old) }
+        ensures refused { IfErr result (λ e. e ≡ AirError.Memory) }
+    {
+        if self.kinds.push(ConstraintKind::Extension).is_err() {
+            return Err(AirError::Memory);
+        }
+        if self.ext.push(x).is_err() {
+            self.kinds.pop();
+            return Err(AirError::Memory);
+        }
+        Ok(())
+    }
+
+    /// The places of each kind.
+    pub(crate) fn layout(&self, alloc: Global) -> Result<ConstraintLayout, AirError>
+        ensures places { IfOk result (λ l. ArePlacesOf self.now.kinds.items l.base_indices.items l.ext_indices.items) }
+        ensures refused { IfErr result (λ e. e ≡ AirError.Memory) }
+    {
+        let base_indices = base_places(alloc, &self.kinds)?;
+        let ext_indices = ext_places(alloc, &self.kinds)?;
+        Ok(ConstraintLayout {
+            base_indices,
+            ext_indices,
+        })
+    }
+}
+
+/// The places of the base kinds.
+fn base_places(alloc: Global, kinds: &[ConstraintKind]) -> Result<Vec<usize>, AirError>
+    ensures places { IfOk result (λ places. places.items ≡ places_where is_base kinds.now) }
+    ensures refused { IfErr result (λ e. e ≡ AirError.Memory) }
+{
+    let mut places = Vec::new(alloc);
+    for (place, kind) in kinds.iter().enumerate() {
+        match kind {
+            ConstraintKind::Base => places.push(place).map_err(|_| AirError::Memory)?,
+            ConstraintKind::Extension => {}
+        }
+    }
+    Ok(places)
+}
+
+/// The places of the extension kinds.
+fn ext_places(alloc: Global, kinds: &[ConstraintKind]) -> Result<Vec<usize>, AirError>
+    ensures places { IfOk result (λ places. places.items ≡ places_where is_extension kinds.now) }
+    ensures refused { IfErr result (λ e. e ≡ AirError.Memory) }
+{
+    let mut places = Vec::new(alloc);
+    for (place, kind) in kinds.iter().enumerate() {
+        match kind {
+            ConstraintKind::Base => {}
+            ConstraintKind::Extension => places.push(place).map_err(|_| AirError::Memory)?,
+        }
+    }
+    Ok(places)
+}

@@ -1,0 +1,61 @@
+//! The symbolic builder over the extension, and with permutation data.
+ghost use Rattle.std.specs.Prelude.{◌≡◌, [], refl};
+ghost use Rattle.air_symbolic.specs.BaseLeaves.{base_reads};
+ghost use Rattle.air_symbolic.specs.BasePool.{base_pool_laws};
+ghost use Rattle.air_symbolic.specs.ExtPool.{ext_pool_laws, base_lent, base_grown};
+ghost use Rattle.air_recording.specs.RecordingLaws.{recording_ext_laws};
+ghost use Rattle.air_recording.specs.RecordedLists.{lists_of};
+ghost use Rattle.air_recording.specs.SymbolicParts.{fixed_by, base_has_it, base_means_it};
+
+use crate::symbolic::builder::SymbolicAirBuilder;
+use crate::symbolic::row::ext_row_of;
+use air_builder::{AirBuilder, AirError, ExtensionBuilder, PermutationAirBuilder, TwoRows};
+use air_field::{ExtensionField, Field};
+use air_symbolic::{ExprId, ExprPool, ExtEntry, ExtLeaf, SymbolicVariableExt};
+
+impl<F: Field, EF: ExtensionField<F>> ExtensionBuilder for SymbolicAirBuilder<F, EF> {
+    type EF = EF;
+
+    type ExprEF = ExprId<ExtLeaf<F, EF>>;
+
+    type VarEF = SymbolicVariableExt<F, EF>;
+
+    type ExtRing = ExprPool<ExtLeaf<F, EF>>;
+
+    ghost ext_ring_of = { λ b. b.pool };
+
+    ghost with_ext_ring = { λ b r. record b { pool = r } };
+
+    ghost ext_laws = { recording_ext_laws (base_pool_laws F.ring) (ext_pool_laws F.ring F.eq EF.coefficients F.eq_is) (λ p. p.0) (base_grown F.ring F.eq EF.coefficients) (λ b. b.pool) (λ b r. record b { pool = (r, b.pool.1) }) (λ b. fixed_by b.selectors b.entries.base.layout) (λ b. lists_of b.constraints) (λ b r g. base_lent F.ring F.eq EF.coefficients F.eq_is b.pool r g) (λ _ _. refl) (λ _ _. refl) (λ _ _. refl) (λ b r. record b { pool = r }) (λ _ _. refl) (λ _ _. refl) (λ _ _. refl) (base_has_it F.ring F.eq EF.coefficients) (base_means_it F.ring F.eq EF.coefficients) };
+
+    fn ext_ring(&mut self) -> &mut ExprPool<ExtLeaf<F, EF>> {
+        &mut self.pool
+    }
+
+    fn assert_zero_ext(&mut self, x: ExprId<ExtLeaf<F, EF>>) -> Result<(), AirError> {
+        self.constraints.push_ext(x)
+    }
+}
+
+impl<F: Field, EF: ExtensionField<F>> PermutationAirBuilder for SymbolicAirBuilder<F, EF> {
+    type MP = TwoRows<SymbolicVariableExt<F, EF>>;
+
+    type RandomVar = SymbolicVariableExt<F, EF>;
+
+    type PermutationVar = SymbolicVariableExt<F, EF>;
+
+    fn permutation(&self) -> Result<TwoRows<SymbolicVariableExt<F, EF>>, AirError> {
+        let width = self.entries.ext.layout.permutation_width;
+        let current = ext_row_of(self.alloc, ExtEntry::Permutation { offset: 0 }, width)?;
+        let next = ext_row_of(self.alloc, ExtEntry::Permutation { offset: 1 }, width)?;
+        Ok(TwoRows::new(current, next))
+    }
+
+    fn permutation_randomness(&self) -> &[SymbolicVariableExt<F, EF>] {
+        self.entries.ext.challenges.as_slice()
+    }
+
+    fn permutation_values(&self) -> &[SymbolicVariableExt<F, EF>] {
+        self.entries.ext.permutation_values.as_slice()
+    }
+}

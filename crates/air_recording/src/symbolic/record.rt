@@ -1,0 +1,132 @@
+//! The constraints of an AIR as expressions.
+ghost use Rattle.std.specs.Prelude.{◌≡◌, ◌<◌, [], length, map, All, IfOk, IfErr, OnOk};
+ghost use Rattle.air_field.specs.Assignment.{IsMissing};
+ghost use Rattle.air_builder.specs.Refusals.{NoneMissing};
+ghost use Rattle.air_symbolic.specs.BaseLeaves.{base_reads};
+ghost use Rattle.air_symbolic.specs.ExtLeaves.{ext_reads};
+ghost use Rattle.air_recording.specs.Layouts.{layout_shape, FitsAir};
+ghost use Rattle.air_recording.specs.Folds.{ArePlacesOf};
+ghost use Rattle.air_recording.specs.Kinds.{kind_of, RecordsKinds};
+ghost use Rattle.air_recording.specs.Recorded.{RecordsBase, RecordsExt, RecordRefuses};
+
+use crate::layouts::air_layout::AirLayout;
+use crate::layouts::constraint_layout::ConstraintLayout;
+use crate::symbolic::builder::SymbolicAirBuilder;
+use crate::symbolic::constraints::Constraints;
+use air_builder::{Air, AirError};
+use air_field::{ExtensionField, Field, SelfExtension};
+use air_symbolic::{BaseLeaf, ExprId, ExprPool, ExtLeaf};
+use std::alloc::Global;
+
+/// The recorded constraints of each kind, in the order of their assertion: the base ones are numbers of the pool's base
+/// pool, the extension ones of the pool.
+#[derive(Drop)]
+pub struct Recorded<F: Field, EF: ExtensionField<F>> {
+    pub pool: ExprPool<ExtLeaf<F, EF>>,
+    pub base: Vec<ExprId<BaseLeaf<F>>>,
+    pub ext: Vec<ExprId<ExtLeaf<F, EF>>>,
+}
+
+impl<F: Field, EF: ExtensionField<F>> SymbolicAirBuilder<F, EF> {
+    /// What was recorded, handed over.
+    pub fn into_recorded(self) -> Recorded<F, EF>
+        ensures pool { result.pool ≡ self.pool }
+        ensures base { result.base ≡ self.constraints.base }
+        ensures ext { result.ext ≡ self.constraints.ext }
+    {
+        let SymbolicAirBuilder {
+            pool,
+            constraints,
+            ..
+        } = self;
+        let Constraints { base, ext, .. } = constraints;
+        Recorded { pool, base, ext }
+    }
+}
+
+/// Has an AIR assert its constraints on a symbolic builder of this layout, which is compared with the AIR first.
+pub fn record<F: Field, EF: ExtensionField<F>, A: Air<SymbolicAirBuilder<F, EF>>>(
+    alloc: Global,
+    air: &A,
+    layout: AirLayout,
+) -> Result<SymbolicAirBuilder<F, EF>, AirError>
+    ensures base { IfOk result (λ b. RecordsBase F.ring EF.over base_reads b.pool.0 b.constraints.base.items (A.declared air.now)) }
+    ensures ext { IfOk result (λ b. RecordsExt F.ring EF.over (ext_reads F.ring F.eq EF.coefficients) b.pool b.constraints.ext.items (A.declared air.now)) }
+    ensures base_here { IfOk result (λ b. All (λ i. i < length b.pool.0.1) b.constraints.base.items) }
+    ensures ext_here { IfOk result (λ b. All (λ i. i < length b.pool.1) b.constraints.ext.items) }
+    ensures kinds { IfOk result (λ b. RecordsKinds b.constraints.kinds.items (A.declared air.now)) }
+    ensures fits { OnOk result (FitsAir layout (A.width air.now) (A.num_public_values air.now) (length (A.beside air.now).periodic)) }
+    ensures there { OnOk result (NoneMissing (IsMissing (layout_shape layout)) (A.declared air.now)) }
+    ensures refused { IfErr result (RecordRefuses layout (A.width air.now) (A.num_public_values air.now) (length (A.beside air.now).periodic) (A.declared air.now)) }
+{
+    layout.validate_against_air(air)?;
+    let mut builder = SymbolicAirBuilder::new(alloc, layout)?;
+    air.eval(&mut builder)?;
+    Ok(builder)
+}
+
+/// Records the constraints of an AIR: for each declared place, in order, one expression of its kind, which means the term
+/// that is declared there. So it has the term's polynomial, and no greater degree by any weights of the leaves.
+pub fn get_all_symbolic_constraints<
+    F: Field,
+    EF: ExtensionField<F>,
+    A: Air<SymbolicAirBuilder<F, EF>>,
+>(alloc: Global, air: &A, layout: AirLayout) -> Result<Recorded<F, EF>, AirError>
+    ensures base { IfOk result (λ r. RecordsBase F.ring EF.over base_reads r.pool.0 r.base.items (A.declared air.now)) }
+    ensures ext { IfOk result (λ r. RecordsExt F.ring EF.over (ext_reads F.ring F.eq EF.coefficients) r.pool r.ext.items (A.declared air.now)) }
+    ensures fits { OnOk result (FitsAir layout (A.width air.now) (A.num_public_values air.now) (length (A.beside air.now).periodic)) }
+    ensures there { OnOk result (NoneMissing (IsMissing (layout_shape layout)) (A.declared air.now)) }
+    ensures refused { IfErr result (RecordRefuses layout (A.width air.now) (A.num_public_values air.now) (length (A.beside air.now).periodic) (A.declared air.now)) }
+{
+    let builder = record(alloc, air, layout)?;
+    Ok(builder.into_recorded())
+}
+
+/// Records the base constraints of an AIR, as [`get_all_symbolic_constraints`] does; `ext` is left empty.
+pub fn get_symbolic_constraints<F: SelfExtension, A: Air<SymbolicAirBuilder<F, F>>>(
+    alloc: Global,
+    air: &A,
+    layout: AirLayout,
+) -> Result<Recorded<F, F>, AirError>
+    ensures base { IfOk result (λ r. RecordsBase F.ring F.over base_reads r.pool.0 r.base.items (A.declared air.now)) }
+    ensures ext { IfOk result (λ r. r.ext.items ≡ []) }
+    ensures fits { OnOk result (FitsAir layout (A.width air.now) (A.num_public_values air.now) (length (A.beside air.now).periodic)) }
+    ensures there { OnOk result (NoneMissing (IsMissing (layout_shape layout)) (A.declared air.now)) }
+    ensures refused { IfErr result (RecordRefuses layout (A.width air.now) (A.num_public_values air.now) (length (A.beside air.now).periodic) (A.declared air.now)) }
+{
+    let Recorded { pool, base, .. } = get_all_symbolic_constraints(alloc, air, layout)?;
+    let ext = Vec::new(alloc);
+    Ok(Recorded { pool, base, ext })
+}
+
+/// Records the extension constraints of an AIR, as [`get_all_symbolic_constraints`] does; `base` is left empty.
+pub fn get_symbolic_constraints_extension<
+    F: Field,
+    EF: ExtensionField<F>,
+    A: Air<SymbolicAirBuilder<F, EF>>,
+>(alloc: Global, air: &A, layout: AirLayout) -> Result<Recorded<F, EF>, AirError>
+    ensures base { IfOk result (λ r. r.base.items ≡ []) }
+    ensures ext { IfOk result (λ r. RecordsExt F.ring EF.over (ext_reads F.ring F.eq EF.coefficients) r.pool r.ext.items (A.declared air.now)) }
+    ensures fits { OnOk result (FitsAir layout (A.width air.now) (A.num_public_values air.now) (length (A.beside air.now).periodic)) }
+    ensures there { OnOk result (NoneMissing (IsMissing (layout_shape layout)) (A.declared air.now)) }
+    ensures refused { IfErr result (RecordRefuses layout (A.width air.now) (A.num_public_values air.now) (length (A.beside air.now).periodic) (A.declared air.now)) }
+{
+    let Recorded { pool, ext, .. } = get_all_symbolic_constraints(alloc, air, layout)?;
+    let base = Vec::new(alloc);
+    Ok(Recorded { pool, base, ext })
+}
+
+/// Where the base and the extension constraints of an AIR stand among all of them.
+pub fn get_constraint_layout<F: Field, EF: ExtensionField<F>, A: Air<SymbolicAirBuilder<F, EF>>>(
+    alloc: Global,
+    air: &A,
+    layout: AirLayout,
+) -> Result<ConstraintLayout, AirError>
+    ensures places { IfOk result (λ l. ArePlacesOf (map kind_of (A.declared air.now)) l.base_indices.items l.ext_indices.items) }
+    ensures fits { OnOk result (FitsAir layout (A.width air.now) (A.num_public_values air.now) (length (A.beside air.now).periodic)) }
+    ensures there { OnOk result (NoneMissing (IsMissing (layout_shape layout)) (A.declared air.now)) }
+    ensures refused { IfErr result (RecordRefuses layout (A.width air.now) (A.num_public_values air.now) (length (A.beside air.now).periodic) (A.declared air.now)) }
+{
+    let builder: SymbolicAirBuilder<F, EF> = record(alloc, air, layout)?;
+    builder.constraint_layout()
+}

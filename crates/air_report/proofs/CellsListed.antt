@@ -1,0 +1,147 @@
+-- The list of differing cells grows cell by cell.
+use Rattle.std.proofs.Common.{◌≡◌, ℕ, zero, suc, ◌+◌, ◌-◌, ◌<◌, ◌≤◌, ◌^◌, min, List, [], ◌∷◌, ◌++◌, map, length, take, drop, get_or, Bool, true, false, not, cond, Option, None, Some, slice_get, refl, sym, ap, ◌∙◌, subst, arith, append_assoc, length-append}
+use Rattle.std.specs.List.{filter, enumerate_from}
+use Rattle.std.proofs.lemmas.List.{map-append, take_more, take_all, length-take, length-map, take-append-le, take-append-drop, append-nil}
+use Rattle.std.proofs.lemmas.List.Elements.{filter-append}
+use Rattle.std.proofs.Math.Seq.{take-append-add}
+use Rattle.air_field.specs.Ring.{CommRing}
+use Rattle.air_field.specs.Grid.{Grid}
+use Rattle.air_builder.specs.declared.boundary.BoundaryPublic.{BoundaryPublic}
+use Rattle.air_report.specs.Cells.{differs, differing, left_of, cell_place, cell_label, failure_text, ListsCells, IsListedPast}
+use Rattle.air_report.specs.Report.{failure_place, IsReached}
+use Rattle.air_report.specs.DebugLaws.{enumerate_from-append}
+use Rattle.air_report.specs.declared.debug.failure.ConstraintFailure.{ConstraintFailure}
+
+-- a cap that isn't reached leaves all
+below_cap : {X : Type 0} (cap n : ℕ) (xs : List X) → (cap ≤ n + length (take (cap - n) xs) → ⊥) → length xs + 1 ≤ cap - n
+below_cap cap n xs h =
+    let lens : length (take (cap - n) xs) ≡ min (cap - n) (length xs) = length-take (cap - n) xs in
+    omega (arith, lens, h)
+
+-- one more after those that a cap has left, where it isn't reached
+left_of-more : {X : Type 0} (cap : Option ℕ) (n : ℕ) (xs : List X) (x : X) → (IsReached cap (n + length (left_of cap n xs)) → ⊥) → left_of cap n (xs ++ x ∷ []) ≡ left_of cap n xs ++ x ∷ []
+left_of-more None n xs x h = refl
+left_of-more (Some cap) n xs x h =
+    let few : length xs + 1 ≤ cap - n = below_cap cap n xs h in
+    let fit : length (xs ++ x ∷ []) ≤ cap - n = omega (arith, length-append xs (x ∷ [])) in
+    take_all (cap - n) (xs ++ x ∷ []) fit ∙ ap (λ l. l ++ x ∷ []) (sym (take_all (cap - n) xs (omega arith)))
+
+-- where the cap is reached the rest adds nothing
+left_of-full : {X : Type 0} (cap : Option ℕ) (n : ℕ) (xs ys : List X) → IsReached cap (n + length (left_of cap n xs)) → left_of cap n (xs ++ ys) ≡ left_of cap n xs
+left_of-full None n xs ys h = absurd h
+left_of-full (Some cap) n xs ys h =
+    let lens : length (take (cap - n) xs) ≡ min (cap - n) (length xs) = length-take (cap - n) xs in
+    take-append-le (cap - n) xs ys (omega (arith, lens, h))
+
+get_seam : {X : Type 0} (xs : List X) (x : X) (ys : List X) → slice_get (xs ++ x ∷ ys) (length xs) ≡ Some x
+get_seam [] x ys = refl
+get_seam (y ∷ xs) x ys = get_seam xs x ys
+
+-- the next one is among those that a cap leaves, where it isn't reached
+left_of-next : {X : Type 0} (cap : Option ℕ) (n : ℕ) (xs : List X) (x : X) (ys : List X) → (IsReached cap (n + length (left_of cap n xs)) → ⊥) → slice_get (left_of cap n (xs ++ x ∷ ys)) (length xs) ≡ Some x
+left_of-next None n xs x ys h = get_seam xs x ys
+left_of-next (Some cap) n xs x ys h =
+    let few : length xs + 1 ≤ cap - n = below_cap cap n xs h in
+    let m = (cap - n) - (length xs + 1) in
+    let whole : cap - n ≡ length xs + suc m = omega arith in
+    ap (λ k. slice_get (take k (xs ++ x ∷ ys)) (length xs)) whole
+    ∙ (ap (λ l. slice_get l (length xs)) (take-append-add xs (x ∷ ys) (suc m)) ∙ get_seam xs x (take m ys))
+
+left_of-none : {X : Type 0} (cap : Option ℕ) (n : ℕ) → left_of {X = X} cap n [] ≡ []
+left_of-none None n = refl
+left_of-none (Some cap) n = take_all (cap - n) [] (omega arith)
+
+pub lists_none : (h count : ℕ) (cap : Option ℕ) (n : ℕ) (fs : List ConstraintFailure) → ListsCells h count (left_of cap n []) fs fs
+lists_none h count cap n fs = record {
+  more = [];
+  failures = sym (append-nil fs);
+  places = ap (map (cell_place h count)) (sym (left_of-none cap n));
+  labels = ap (map (λ (p : ℕ × BoundaryPublic). Some (cell_label p.1))) (sym (left_of-none cap n));
+}
+
+lists_one : (h count : ℕ) (xs : List (ℕ × BoundaryPublic)) (p : ℕ × BoundaryPublic) (fs gs hs : List ConstraintFailure) (f : ConstraintFailure) → ListsCells h count xs fs gs → hs ≡ gs ++ f ∷ [] → failure_place f ≡ cell_place h count p → failure_text f ≡ Some (cell_label p.1) → ListsCells h count (xs ++ p ∷ []) fs hs
+lists_one h count xs p fs gs hs f l e place label =
+    let label_of : ℕ × BoundaryPublic → Option (List ℕ) = λ q. Some (cell_label q.1) in
+    record {
+      more = l.more ++ f ∷ [];
+      failures = e ∙ (ap (λ us. us ++ f ∷ []) l.failures ∙ append_assoc fs l.more (f ∷ []));
+      places = map-append failure_place l.more (f ∷ [])
+          ∙ (ap (λ us. us ++ failure_place f ∷ []) l.places
+          ∙ (ap (λ q. map (cell_place h count) xs ++ q ∷ []) place ∙ sym (map-append (cell_place h count) xs (p ∷ []))));
+      labels = map-append failure_text l.more (f ∷ [])
+          ∙ (ap (λ us. us ++ failure_text f ∷ []) l.labels
+          ∙ (ap (λ q. map label_of xs ++ q ∷ []) label ∙ sym (map-append label_of xs (p ∷ []))));
+    }
+
+length-lists : (h count : ℕ) (xs : List (ℕ × BoundaryPublic)) (fs gs : List ConstraintFailure) → ListsCells h count xs fs gs → length gs ≡ length fs + length xs
+length-lists h count xs fs gs l =
+    ap length l.failures ∙ (length-append fs l.more ∙ ap (λ n. length fs + n) (sym (length-map l.more failure_place) ∙ (ap length l.places ∙ length-map xs (cell_place h count))))
+
+module _ {F : Type 0} (r : CommRing F) (eq : F → F → Bool) (main : Grid F) (public : List F) where
+  differing-append : (xs ys : List BoundaryPublic) → differing r eq main public (xs ++ ys) ≡ differing r eq main public xs ++ filter (λ p. differs r eq main public p.1) (enumerate_from (length xs) ys)
+  differing-append xs ys =
+      let test : ℕ × BoundaryPublic → Bool = λ p. differs r eq main public p.1 in
+      let e : 0 + length xs ≡ length xs = omega arith in
+      ap (filter test) (enumerate_from-append 0 xs ys ∙ ap (λ n. enumerate_from 0 xs ++ enumerate_from n ys) e)
+      ∙ filter-append test (enumerate_from 0 xs) (enumerate_from (length xs) ys)
+
+  differing-more : (cells : List BoundaryPublic) (i : ℕ) (d : BoundaryPublic) → i < length cells → differing r eq main public (take (i + 1) cells) ≡ differing r eq main public (take i cells) ++ cond (differs r eq main public (get_or cells i d)) ((i, get_or cells i d) ∷ []) []
+  differing-more cells i d lt =
+      let test : ℕ × BoundaryPublic → Bool = λ p. differs r eq main public p.1 in
+      let e : length (take i cells) ≡ i = length-take i cells ∙ omega arith in
+      ap (differing r eq main public) (take_more cells i d lt)
+      ∙ (differing-append (take i cells) (get_or cells i d ∷ [])
+      ∙ ap (λ n. differing r eq main public (take i cells) ++ filter test (enumerate_from n (get_or cells i d ∷ []))) e)
+
+  -- all of them, from the first i and the rest
+  differing-rest : (cells : List BoundaryPublic) (i : ℕ) → differing r eq main public cells ≡ differing r eq main public (take i cells) ++ filter (λ p. differs r eq main public p.1) (enumerate_from (length (take i cells)) (drop i cells))
+  differing-rest cells i = ap (differing r eq main public) (sym (take-append-drop i cells)) ∙ differing-append (take i cells) (drop i cells)
+
+  module _ (height count : ℕ) (cap : Option ℕ) (cells : List BoundaryPublic) (i : ℕ) (fs gs : List ConstraintFailure) (l : ListsCells height count (left_of cap (length fs) (differing r eq main public (take i cells))) fs gs) where
+    -- a cell that holds its value adds nothing
+    pub lists_same : (d : BoundaryPublic) → i < length cells → differs r eq main public (get_or cells i d) ≡ false → ListsCells height count (left_of cap (length fs) (differing r eq main public (take (i + 1) cells))) fs gs
+    lists_same d lt e =
+        let same : differing r eq main public (take (i + 1) cells) ≡ differing r eq main public (take i cells) =
+        differing-more cells i d lt ∙ (ap (λ b. differing r eq main public (take i cells) ++ cond b ((i, get_or cells i d) ∷ []) []) e ∙ append-nil (differing r eq main public (take i cells))) in
+        subst (λ xs. ListsCells height count (left_of cap (length fs) xs) fs gs) (sym same) l
+
+    open_cap : (IsReached cap (length gs) → ⊥) → IsReached cap (length fs + length (left_of cap (length fs) (differing r eq main public (take i cells)))) → ⊥
+    open_cap few h =
+        let e : length gs ≡ length fs + length (left_of cap (length fs) (differing r eq main public (take i cells))) = length-lists height count (left_of cap (length fs) (differing r eq main public (take i cells))) fs gs l in
+        few (subst (λ n. IsReached cap n) (sym e) h)
+
+    -- a cell that differs is listed, where the cap isn't reached
+    pub lists_new : (d : BoundaryPublic) (f : ConstraintFailure) (hs : List ConstraintFailure) → i < length cells → differs r eq main public (get_or cells i d) ≡ true → (IsReached cap (length gs) → ⊥) → hs ≡ gs ++ f ∷ [] → failure_place f ≡ cell_place height count (i, get_or cells i d) → failure_text f ≡ Some (cell_label (get_or cells i d)) → ListsCells height count (left_of cap (length fs) (differing r eq main public (take (i + 1) cells))) fs hs
+    lists_new d f hs lt e few push place label =
+        let before = differing r eq main public (take i cells) in
+        let cell : ℕ × BoundaryPublic = (i, get_or cells i d) in
+        let more : differing r eq main public (take (i + 1) cells) ≡ before ++ cell ∷ [] =
+        differing-more cells i d lt ∙ ap (λ b. before ++ cond b (cell ∷ []) []) e in
+        let all = ap (left_of cap (length fs)) more ∙ left_of-more cap (length fs) before cell (open_cap few) in
+        subst (λ xs. ListsCells height count xs fs hs) (sym all) (lists_one height count (left_of cap (length fs) before) cell fs gs hs f l push place label)
+
+    -- where the cap is reached, all are listed that it leaves
+    pub lists_full : IsReached cap (length gs) → ListsCells height count (left_of cap (length fs) (differing r eq main public cells)) fs gs
+    lists_full full =
+        let before = differing r eq main public (take i cells) in
+        let e : length gs ≡ length fs + length (left_of cap (length fs) before) = length-lists height count (left_of cap (length fs) before) fs gs l in
+        let all = ap (left_of cap (length fs)) (differing-rest cells i) ∙ left_of-full cap (length fs) before _ (subst (λ n. IsReached cap n) e full) in
+        subst (λ xs. ListsCells height count xs fs gs) (sym all) l
+
+    -- a cell that differs is among those that are listed, where the cap isn't reached
+    pub listed_past : (d : BoundaryPublic) → i < length cells → differs r eq main public (get_or cells i d) ≡ true → (IsReached cap (length gs) → ⊥) → 2 ^ 64 ≤ count + i → IsListedPast count (left_of cap (length fs) (differing r eq main public cells))
+    listed_past d lt e few past =
+        let before = differing r eq main public (take i cells) in
+        let cell : ℕ × BoundaryPublic = (i, get_or cells i d) in
+        let test : ℕ × BoundaryPublic → Bool = λ p. differs r eq main public p.1 in
+        let after = filter test (enumerate_from (length (take (i + 1) cells)) (drop (i + 1) cells)) in
+        let more : differing r eq main public (take (i + 1) cells) ≡ before ++ cell ∷ [] =
+        differing-more cells i d lt ∙ ap (λ b. before ++ cond b (cell ∷ []) []) e in
+        let all : differing r eq main public cells ≡ before ++ cell ∷ after =
+        differing-rest cells (i + 1) ∙ (ap (λ xs. xs ++ after) more ∙ append_assoc before (cell ∷ []) after) in
+        record {
+          at = length before;
+          cell = cell;
+          is_listed = ap (λ xs. slice_get (left_of cap (length fs) xs) (length before)) all ∙ left_of-next cap (length fs) before cell after (open_cap few);
+          past = past;
+        }

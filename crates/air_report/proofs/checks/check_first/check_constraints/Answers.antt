@@ -1,0 +1,54 @@
+use Rattle.std.proofs.Common.{rules, ◌≡◌, ◌+◌, [], length, map, ap, sym, subst, ◌∙◌, arith, ◌<◌}
+use Rattle.std.proofs.lemmas.Grind.{common_steps}
+use Rattle.air_report.specs.Cells.{CellsFit, AgreeBelow}
+use Rattle.air_report.specs.Checks.{Fits}
+use Rattle.air_report.specs.Given.{given, given_trace, height}
+use Rattle.air_report.specs.Report.{failure_place, report_of}
+use Rattle.air_report.proofs.Reports.{checked_more}
+use Rattle.air_report.proofs.checks.check_first.check_constraints.Goals as goal
+
+pub returns-then-not-is_empty-clause-error : goal.returns-then-not-is_empty-clause-error
+returns-then-not-is_empty-clause-error g c =
+    let r = g.F.Field.ring in
+    let eq = g.F.PartialEq.eq in
+    let all = given (g.A.BaseAir.declared c.args.air.now) (g.A.BaseAir.beside c.args.air.now) c.args.main.now c.args.public_values.now in
+    let shapes : Fits all = search rules in
+    let fit : CellsFit all.main all.public all.beside.cells = search rules in
+    let agree : AgreeBelow r eq all.main all.public all.beside.cells (length all.beside.cells) = search rules in
+    record {
+      shapes = shapes;
+      cells = record { fit = fit; agree = agree };
+      within = search rules;
+      before = c.rows.invariant.none;
+      places = checked_more r eq (given_trace all) all.terms c.rows.row _ _ _ c.in_ok-outcome.ensures.checked (ap (map failure_place) c.new.ensures.items ∙ sym c.rows.invariant.none);
+      some = search rules;
+    }
+
+pub rows-preserved : goal.rows-preserved
+rows-preserved g c =
+    let r = g.F.Field.ring in
+    let eq = g.F.PartialEq.eq in
+    let all = given (g.A.BaseAir.declared c.args.air.now) (g.A.BaseAir.beside c.args.air.now) c.args.main.now c.args.public_values.now in
+    let places : map failure_place c.in_ok-outcome.outcome.failures.items ≡ report_of r eq (given_trace all) all.terms (c.rows.row + 1) =
+    checked_more r eq (given_trace all) all.terms c.rows.row _ _ _ c.in_ok-outcome.ensures.checked (ap (map failure_place) c.new.ensures.items ∙ sym c.rows.invariant.none) in
+    let empty : c.in_ok-outcome.outcome.failures.items ≡ [] = grind (arith, common_steps) in
+    record {
+      none = sym places ∙ ap (map failure_place) empty;
+      there = λ h. c.in_ok-outcome.ensures.there;
+    }
+
+pub returns-clause-kept : goal.returns-clause-kept
+returns-clause-kept g c =
+    let r = g.F.Field.ring in
+    let eq = g.F.PartialEq.eq in
+    let all = given (g.A.BaseAir.declared c.args.air.now) (g.A.BaseAir.beside c.args.air.now) c.args.main.now c.args.public_values.now in
+    let shapes : Fits all = search rules in
+    let fit : CellsFit all.main all.public all.beside.cells = search rules in
+    let agree : AgreeBelow r eq all.main all.public all.beside.cells (length all.beside.cells) = search rules in
+    let done : c.rows.row ≡ height all = search rules in
+    record {
+      shapes = shapes;
+      cells = record { fit = fit; agree = agree };
+      none = ap (λ n. report_of r eq (given_trace all) all.terms n) (sym done) ∙ c.rows.invariant.none;
+      there = λ h. c.rows.invariant.there (subst (λ n. 0 < n) (sym done) h);
+    }

@@ -1,0 +1,17 @@
+use Rattle.std.proofs.Common.{sym, ◌∙◌, ap}
+use Rattle.std.proofs.lemmas.Result.{on_ok_weaker}
+use Rattle.air_field.specs.Extension.{extend-coefficients}
+use Rattle.air_builder.specs.Assertion.{Extension}
+use Rattle.air_report.specs.Debug.{is_zero_at}
+use Rattle.air_report.specs.DebugLabelLaws.{logged_grew}
+use Rattle.air_report.specs.DebugRow.{row_of}
+use Rattle.air_report.specs.DebugValues.{ext_is_zero}
+use Rattle.air_report.proofs.debug.extension.DebugConstraintBuilderExtensionBuilder.assert_zero_ext.Goals as goal
+
+pub returns-clause-ok : goal.returns-clause-ok
+returns-clause-ok g c =
+    let over = g.EF.ExtensionField.over in
+    let zero = is_zero_at g.F.Field.ring over g.F.PartialEq.eq g.EF.PartialEq.eq in
+    on_ok_weaker c.log.result
+    (λ h t m. logged_grew zero (row_of c.args.self.now) _ _ _ _ _ _ c.log.ensures.keeps c.eq.result h (Extension t) (ext_is_zero g.F.Field.ring over g.EF.ExtensionField.coefficients g.F.PartialEq.eq g.EF.PartialEq.eq (extend-coefficients g.F.Field.ring over g.EF.ExtensionField.coefficients g.EF.ExtensionField.DIMENSION g.met.EF.ExtensionField.laws) (row_of c.args.self.now) c.args.x t m ∙ (ap (λ w. g.EF.PartialEq.eq c.args.x w) (sym c.zero.ensures) ∙ sym c.eq.ensures)))
+    c.log.ensures.ok

@@ -1,0 +1,84 @@
+-- Boundary cells of a trace: which of them differ from their public values, and how these are listed.
+use Rattle.std.specs.Prelude.{◌≡◌, ◌≢◌, ℕ, ◌+◌, ◌-◌, ◌<◌, ◌≤◌, ◌^◌, List, [], ◌++◌, length, map, take, Bool, true, false, not, Option, None, Some, String, codes, decimal, string_bytes, slice_get, slice_index_or}
+use Rattle.std.specs.Global.{Global}
+use Rattle.std.specs.List.{filter, enumerate_from}
+use Rattle.air_field.specs.Ring.{CommRing}
+use Rattle.air_field.specs.Grid.{Grid}
+use Rattle.air_field.specs.Assignment.{row_or_none}
+use Rattle.air_builder.specs.Boundary.{row_of, AreSound, IsFirstFault}
+use Rattle.air_builder.specs.declared.boundary.BoundaryPublic.{BoundaryPublic}
+use Rattle.air_builder.specs.declared.errors.AirError.{AirError}
+use Rattle.air_builder.specs.declared.errors.AirError.TheVariants.{Boundary, EmptyTrace}
+use Rattle.air_report.specs.Report.{failure_place}
+use Rattle.air_report.specs.declared.debug.failure.ConstraintFailure.{ConstraintFailure}
+
+-- the value in a cell of the trace, z where there is no such cell
+abbrev pub cell_value : {F : Type 0} → F → Grid F → BoundaryPublic → F
+cell_value z main cell = slice_index_or (row_or_none (slice_get main.rows (row_of cell.end (length main.rows)))) cell.column z
+
+-- the cell doesn't hold its public value
+abbrev pub differs : {F : Type 0} → CommRing F → (F → F → Bool) → Grid F → List F → BoundaryPublic → Bool
+differs r eq main public cell = not (eq (cell_value r.nil main cell) (slice_index_or public cell.public_value r.nil))
+
+-- the differing cells, each with its place in the list
+abbrev pub differing : {F : Type 0} → CommRing F → (F → F → Bool) → Grid F → List F → List BoundaryPublic → List (ℕ × BoundaryPublic)
+differing r eq main public cells = filter (λ p. differs r eq main public p.1) (enumerate_from 0 cells)
+
+-- as many as a cap leaves after n failures
+abbrev pub left_of : {X : Type 0} → Option ℕ → ℕ → List X → List X
+left_of None n xs = xs
+left_of (Some cap) n xs = take (cap - n) xs
+
+-- where a cell's failure stands: its row of h, and its place after the constraints
+abbrev pub cell_place : ℕ → ℕ → ℕ × BoundaryPublic → ℕ × ℕ
+cell_place h count p = (row_of p.1.end h, count + p.0)
+
+abbrev pub cell_label : BoundaryPublic → List ℕ
+cell_label cell = codes "boundary-IO cell in column " ++ (decimal cell.column ++ (codes " does not hold public value " ++ decimal cell.public_value))
+
+-- the text of a failure's label, if it has one
+abbrev pub text_of : Option (String Global) → Option (List ℕ)
+text_of None = None
+text_of (Some s) = Some (string_bytes s)
+
+abbrev pub failure_text : ConstraintFailure → Option (List ℕ)
+failure_text f = text_of f.label
+
+-- a cell is listed only where the trace has rows
+abbrev pub HasRowsFor : ℕ → List BoundaryPublic → Type 0
+HasRowsFor h cells = cells ≢ [] → 0 < h
+
+-- the cells are cells of the trace, each once, and hold public values that are there
+pub record CellsFit {F : Type 0} (main : Grid F) (public : List F) (cells : List BoundaryPublic) : Type 0 where
+  pub sound : AreSound main.width (length public) cells
+  pub rows_there : HasRowsFor (length main.rows) cells
+
+-- the first cell that isn't sound, or cells and no rows
+abbrev pub IsCellFault : {F : Type 0} → Grid F → List F → List BoundaryPublic → AirError → Type 0
+IsCellFault main public cells (Boundary e) = IsFirstFault main.width (length public) cells e
+IsCellFault main public cells EmptyTrace = AreSound main.width (length public) cells × (cells ≢ []) × (length main.rows ≡ 0)
+IsCellFault main public cells _ = ⊥
+
+-- each of the first n cells holds its public value
+abbrev pub AgreeBelow : {F : Type 0} → CommRing F → (F → F → Bool) → Grid F → List F → List BoundaryPublic → ℕ → Type 0
+AgreeBelow r eq main public cells n = (k : ℕ) (d : BoundaryPublic) → k < n → differs r eq main public (slice_index_or cells k d) ≡ false
+
+-- the first cell that differs stands here, in this row
+pub record IsFirstDiffering {F : Type 0} (r : CommRing F) (eq : F → F → Bool) (main : Grid F) (public : List F) (cells : List BoundaryPublic) (index : ℕ) : Type 0 where
+  pub within : index < length cells
+  pub before : AgreeBelow r eq main public cells index
+  pub differs_here : (d : BoundaryPublic) → differs r eq main public (slice_index_or cells index d) ≡ true
+
+-- The failures got one more for each of these cells, in order: at its place, and with its label.
+pub record ListsCells (h count : ℕ) (cells : List (ℕ × BoundaryPublic)) (fs gs : List ConstraintFailure) : Type 0 where
+  pub more : List ConstraintFailure
+  pub failures : gs ≡ fs ++ more
+  pub places : map failure_place more ≡ map (cell_place h count) cells
+  pub labels : map failure_text more ≡ map (λ p. Some (cell_label p.1)) cells
+
+-- the place of one of these cells, after so many constraints, passes `usize`
+pub record IsListedPast (count : ℕ) (cells : List (ℕ × BoundaryPublic)) : Type 0 where
+  pub at : ℕ
+  pub cell : ℕ × BoundaryPublic
+  pub is_listed : slice_get cells at ≡ Some cell
+  pub past : 2 ^ 64 ≤ count + cell.0

@@ -1,0 +1,129 @@
+-- What a check of a trace answers and refuses.
+use Rattle.std.specs.Prelude.{◌≡◌, ◌≢◌, ◌⊎◌, ℕ, ◌+◌, ◌≤◌, ◌<◌, ◌^◌, List, [], ◌++◌, length, map, Bool, Option, None, Some, slice_get, slice_index_or}
+use Rattle.air_field.specs.Ring.{CommRing}
+use Rattle.air_field.specs.Assignment.{Trace, trace_shape, row_assignment, IsMissing}
+use Rattle.air_builder.specs.Assertion.{Assertion}
+use Rattle.air_builder.specs.Boundary.{row_of}
+use Rattle.air_builder.specs.Refusals.{NoneMissing}
+use Rattle.air_builder.specs.declared.boundary.BoundaryPublic.{BoundaryPublic}
+use Rattle.air_builder.specs.declared.errors.AirError.{AirError}
+use Rattle.air_builder.specs.declared.errors.AirError.TheVariants.{CountOverflow, Memory}
+use Rattle.air_report.specs.Cells.{differing, left_of, ListsCells, IsListedPast, CellsFit, IsCellFault, AgreeBelow, IsFirstDiffering}
+use Rattle.air_report.specs.Debug.{nonzero_from}
+use Rattle.air_report.specs.DebugLaws.{IsFull}
+use Rattle.air_report.specs.Given.{Given, given_trace, height}
+use Rattle.air_builder.specs.Refused.{Refused}
+use Rattle.air_report.specs.Report.{failure_place, report_of, IsReached, IsRowsShown, count_shown}
+use Rattle.air_report.specs.Shapes.{ShapesFit, IsShapeFault, table_height}
+use Rattle.air_report.specs.declared.checks.check_first.CheckError.{CheckError}
+use Rattle.air_report.specs.declared.checks.check_first.CheckError.TheVariants.{BoundaryMismatch, RowFailed, Refused as NotChecked}
+use Rattle.air_report.specs.declared.debug.failure.ConstraintFailure.{ConstraintFailure}
+use Rattle.air_report.specs.declared.checks.report.ConstraintReport.{ConstraintReport}
+
+-- The failures got the places of one row at which a term isn't zero, in order; the row has so many constraints.
+pub record CheckedRow {F : Type 0} (r : CommRing F) (eq : F → F → Bool) (trace : Trace F) (ts : List (Assertion F)) (row : ℕ) (fs gs : List ConstraintFailure) (count : ℕ) : Type 0 where
+  pub more : List ConstraintFailure
+  pub failures : gs ≡ fs ++ more
+  pub places : map failure_place more ≡ map (λ k. (row, k)) (nonzero_from r eq (row_assignment r trace row) 0 ts)
+  pub constraints : count ≡ length ts
+
+-- The rows that a cap shows, and that they have what the terms name.
+pub record RowsRan {F : Type 0} (r : CommRing F) (eq : F → F → Bool) (g : Given F) (cap : Option ℕ) (shown : ℕ) : Type 0 where
+  pub rows : IsRowsShown r eq (given_trace g) g.terms cap (height g) shown
+  pub there : 0 < shown → NoneMissing (IsMissing (trace_shape (given_trace g))) g.terms
+
+-- The failures are the nonzero pairs of the rows that the cap shows.
+pub record CheckedRows {F : Type 0} (r : CommRing F) (eq : F → F → Bool) (g : Given F) (cap : Option ℕ) (fs : List ConstraintFailure) (count : ℕ) : Type 0 where
+  pub shown : ℕ
+  pub ran : RowsRan r eq g cap shown
+  pub places : map failure_place fs ≡ report_of r eq (given_trace g) g.terms shown
+  pub counted : count ≡ count_shown g.terms shown
+
+-- the shapes of what the check is given fit
+abbrev pub Fits : {F : Type 0} → Given F → Type 0
+Fits g = ShapesFit g.beside.periodic (height g) (table_height g.beside.preprocessed)
+
+-- the differing cells that a cap lists after the first n rows
+abbrev pub listed : {F : Type 0} → CommRing F → (F → F → Bool) → Given F → Option ℕ → ℕ → List (ℕ × BoundaryPublic)
+listed r eq g cap n = left_of cap (length (report_of r eq (given_trace g) g.terms n)) (differing r eq g.main g.public g.beside.cells)
+
+-- The report of a check under a cap: the nonzero pairs of the rows that the cap shows, and then the differing cells, as
+-- many as the cap leaves. The shapes and the cells fit.
+pub record IsReport {F : Type 0} (r : CommRing F) (eq : F → F → Bool) (g : Given F) (cap : Option ℕ) (report : ConstraintReport) : Type 0 where
+  pub shapes : Fits g
+  pub shown : ℕ
+  pub ran : RowsRan r eq g cap shown
+  pub cells : CellsFit g.main g.public g.beside.cells
+  pub of_rows : List ConstraintFailure
+  pub places : map failure_place of_rows ≡ report_of r eq (given_trace g) g.terms shown
+  pub lists : ListsCells (height g) (count_shown g.terms shown) (listed r eq g cap shown) of_rows report.failures.items
+  pub rows : report.total_rows ≡ height g
+  pub count : report.total_constraints_per_row ≡ count_shown g.terms shown
+
+-- a row refuses for want of memory, a term that names a missing entry, or a count that passes `usize`
+abbrev pub RowRefuses : {F : Type 0} → Given F → AirError → Type 0
+RowRefuses g e = Refused (IsMissing (trace_shape (given_trace g))) (λ _. ⊥) (IsFull 0) e g.terms
+
+-- a row runs: the trace has rows, and the cap isn't reached before the first
+abbrev pub RowRuns : Option ℕ → ℕ → Type 0
+RowRuns cap h = (0 < h) × (IsReached cap 0 → ⊥)
+
+-- Rows refuse only where one runs; memory may be wanting all the same.
+abbrev pub RowsRefuse : {F : Type 0} → Option ℕ → Given F → AirError → Type 0
+RowsRefuse cap g e = (e ≡ Memory) ⊎ (RowRuns cap (height g) × RowRefuses g e)
+
+-- the rows ran, the cells fit, and a listed cell's place passes `usize`
+pub record IsCellPastCount {F : Type 0} (r : CommRing F) (eq : F → F → Bool) (g : Given F) (cap : Option ℕ) : Type 0 where
+  pub shown : ℕ
+  pub ran : RowsRan r eq g cap shown
+  pub cells : CellsFit g.main g.public g.beside.cells
+  pub past : IsListedPast (count_shown g.terms shown) (listed r eq g cap shown)
+
+-- the rows ran, and then the cells had this fault
+abbrev pub RefusesCells : {F : Type 0} → CommRing F → (F → F → Bool) → Given F → Option ℕ → AirError → Type 0
+RefusesCells r eq g cap e = (shown : ℕ) × RowsRan r eq g cap shown × IsCellFault g.main g.public g.beside.cells e
+
+-- A check of a whole trace refuses the first shape that doesn't fit; then what its rows refuse, where one runs; then the first cell that
+-- doesn't fit; then a listed cell whose place passes `usize`. Want of memory comes after the shapes.
+abbrev pub CheckRefuses : {F : Type 0} → CommRing F → (F → F → Bool) → Given F → Option ℕ → AirError → Type 0
+CheckRefuses r eq g cap e = IsShapeFault g.beside.periodic (height g) (table_height g.beside.preprocessed) e
+    ⊎ (Fits g × (RowsRefuse cap g e ⊎ (RefusesCells r eq g cap e ⊎ ((e ≡ CountOverflow) × IsCellPastCount r eq g cap))))
+
+-- each cell fits and holds its public value
+pub record CellsAgree {F : Type 0} (r : CommRing F) (eq : F → F → Bool) (g : Given F) : Type 0 where
+  pub fit : CellsFit g.main g.public g.beside.cells
+  pub agree : AgreeBelow r eq g.main g.public g.beside.cells (length g.beside.cells)
+
+-- The trace keeps the constraints: no cell differs, and no pair of row and place is nonzero.
+pub record IsKept {F : Type 0} (r : CommRing F) (eq : F → F → Bool) (g : Given F) : Type 0 where
+  pub shapes : Fits g
+  pub cells : CellsAgree r eq g
+  pub none : report_of r eq (given_trace g) g.terms (height g) ≡ []
+  pub there : 0 < height g → NoneMissing (IsMissing (trace_shape (given_trace g))) g.terms
+
+-- The first differing cell, and its row.
+pub record IsMismatch {F : Type 0} (r : CommRing F) (eq : F → F → Bool) (g : Given F) (row index : ℕ) : Type 0 where
+  pub shapes : Fits g
+  pub cells : CellsFit g.main g.public g.beside.cells
+  pub first : IsFirstDiffering r eq g.main g.public g.beside.cells index
+  pub row_is : (d : BoundaryPublic) → row ≡ row_of (slice_index_or g.beside.cells index d).end (height g)
+
+-- No cell differs; this is the least row with a nonzero pair, and these are all of its pairs.
+pub record IsFailedRow {F : Type 0} (r : CommRing F) (eq : F → F → Bool) (g : Given F) (row : ℕ) (fs : List ConstraintFailure) : Type 0 where
+  pub shapes : Fits g
+  pub cells : CellsAgree r eq g
+  pub within : row < height g
+  pub before : report_of r eq (given_trace g) g.terms row ≡ []
+  pub places : map failure_place fs ≡ report_of r eq (given_trace g) g.terms (row + 1)
+  pub some : fs ≢ []
+
+-- The shapes are looked at first, then the cells are validated and compared, and then rows run.
+abbrev pub FirstCheckRefuses : {F : Type 0} → CommRing F → (F → F → Bool) → Given F → AirError → Type 0
+FirstCheckRefuses r eq g e = IsShapeFault g.beside.periodic (height g) (table_height g.beside.preprocessed) e
+    ⊎ (Fits g × (IsCellFault g.main g.public g.beside.cells e ⊎ (CellsAgree r eq g × RowsRefuse None g e)))
+
+-- what a check up to the first fault answers where it isn't Ok
+abbrev pub IsFirstError : {F : Type 0} → CommRing F → (F → F → Bool) → Given F → CheckError → Type 0
+IsFirstError r eq g (BoundaryMismatch row index) = IsMismatch r eq g row index
+IsFirstError r eq g (RowFailed row failures) = IsFailedRow r eq g row failures.items
+IsFirstError r eq g (NotChecked e) = FirstCheckRefuses r eq g e

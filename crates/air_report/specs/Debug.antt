@@ -1,0 +1,71 @@
+-- What the debug builder holds of a row, and how it grows.
+use Rattle.std.specs.Prelude.{◌≡◌, ℕ, ◌+◌, List, ◌++◌, length, map, Bool, not}
+use Rattle.std.specs.List.{filter, enumerate_from}
+use Rattle.air_field.specs.Ring.{CommRing, Over, itself}
+use Rattle.air_field.specs.Term.{Leaf, permutation, challenge, permutation_value, Term, const_term, ext_const_term}
+use Rattle.air_field.specs.Value.{value}
+use Rattle.air_field.specs.Assignment.{RowValues, leaf_value}
+use Rattle.air_field.specs.OneRow.{PermutationData, one_row_value}
+use Rattle.air_builder.specs.Assertion.{Assertion, Base, Extension}
+use Rattle.air_report.specs.Report.{assertion_value, failure_place}
+use Rattle.air_report.specs.declared.debug.failure.ConstraintFailure.{ConstraintFailure}
+
+-- the number of a row, and what stands there
+pub record RowData (F E : Type 0) : Type 0 where
+  pub row : ℕ
+  pub values : RowValues F
+  pub permutation : PermutationData E
+
+abbrev pub row_data : {F E : Type 0} → ℕ → List F → List F → List F → List F → List F → List F → F → F → F → PermutationData E → RowData F E
+row_data row current next preprocessed_current preprocessed_next periodic public first last transition others = record {
+  row = row;
+  values = record {
+    current = current;
+    next = next;
+    preprocessed_current = preprocessed_current;
+    preprocessed_next = preprocessed_next;
+    periodic_row = periodic;
+    public_row = public;
+    on_first_row = first;
+    on_last_row = last;
+    on_transition = transition;
+  };
+  permutation = others;
+}
+
+-- the assignment of the row
+abbrev pub row_leaves : {F E : Type 0} → CommRing F → RowData F E → Leaf → F
+row_leaves r d = leaf_value r.nil d.values
+
+-- the same over the extension, with the permutation data
+abbrev pub ext_row_leaves : {F E : Type 0} → CommRing F → Over F E → RowData F E → Leaf → E
+ext_row_leaves r a d = one_row_value r.nil a d.values d.permutation
+
+-- what stands at a leaf, as a constant of F, or of the extension where it is of the permutation data
+abbrev pub row_stands : {F E : Type 0} → CommRing F → Over F E → (E → List F) → RowData F E → Leaf → Term F
+row_stands r a coefficients d (permutation o i) = ext_const_term (coefficients (ext_row_leaves r a d (permutation o i)))
+row_stands r a coefficients d (challenge i) = ext_const_term (coefficients (ext_row_leaves r a d (challenge i)))
+row_stands r a coefficients d (permutation_value i) = ext_const_term (coefficients (ext_row_leaves r a d (permutation_value i)))
+row_stands r a coefficients d l = const_term (row_leaves r d l)
+
+-- whether an assertion is zero at the row: a base term by its value in F, an extension term by its value over the
+-- extension
+abbrev pub is_zero_at : {F E : Type 0} → CommRing F → Over F E → (F → F → Bool) → (E → E → Bool) → RowData F E → Assertion F → Bool
+is_zero_at r a eq ext_eq d (Base t) = eq (value (itself r) (row_leaves r d) t) r.nil
+is_zero_at r a eq ext_eq d (Extension t) = ext_eq (value a (ext_row_leaves r a d) t) a.ring.nil
+
+-- the places, counted from n on, of the assertions that the test doesn't find zero
+abbrev pub nonzero_by : {F : Type 0} → (Assertion F → Bool) → ℕ → List (Assertion F) → List ℕ
+nonzero_by zero n ts = map (λ p. p.0) (filter (λ p. not (zero p.1)) (enumerate_from n ts))
+
+-- the same where the field is its own extension
+abbrev pub nonzero_from : {F : Type 0} → CommRing F → (F → F → Bool) → (Leaf → F) → ℕ → List (Assertion F) → List ℕ
+nonzero_from r eq s n ts = nonzero_by (λ t. eq (assertion_value r s t) r.nil) n ts
+
+-- The counter rose by the length of the list, and the failures got the places of what isn't zero, in order.
+pub record GrewAtRow {F E : Type 0} (zero : RowData F E → Assertion F → Bool) (d e : RowData F E) (m n : ℕ) (fs gs : List ConstraintFailure) (ts : List (Assertion F)) : Type 0 where
+  pub same_row : e ≡ d
+  pub count : n ≡ m + length ts
+  pub more : List ConstraintFailure
+  pub failures : gs ≡ fs ++ more
+  pub places : map failure_place more ≡ map (λ k. (d.row, k)) (nonzero_by (zero d) m ts)

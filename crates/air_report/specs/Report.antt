@@ -1,0 +1,55 @@
+-- The report on a whole trace: where the declared terms are not zero.
+use Rattle.std.specs.Prelude.{◌≡◌, ℕ, ◌≤◌, ◌<◌, List, [], length, map, Bool, not, Option, None, Some, ◌⊎◌, ◌==◌, if◌then◌else◌}
+use Rattle.std.specs.List.{filter, flat_map, range_with_len, enumerate_from}
+use Rattle.air_field.specs.Ring.{CommRing, itself}
+use Rattle.air_field.specs.Term.{Leaf}
+use Rattle.air_field.specs.Value.{value}
+use Rattle.air_field.specs.Assignment.{Trace, row_assignment}
+use Rattle.air_field.specs.Grid.{Grid}
+use Rattle.air_builder.specs.Assertion.{Assertion, Base, Extension}
+use Rattle.air_report.specs.declared.debug.failure.ConstraintFailure.{ConstraintFailure}
+
+-- the value of an assertion's term, the leaves having the values of s
+abbrev pub assertion_value : {F : Type 0} → CommRing F → (Leaf → F) → Assertion F → F
+assertion_value r s (Base t) = value (itself r) s t
+assertion_value r s (Extension t) = value (itself r) s t
+
+-- the first h rows, each with every place of the list and the assertion there: rows ascending, and in each row the
+-- places ascending
+abbrev pub all_places : {F : Type 0} → ℕ → List (Assertion F) → List (ℕ × (ℕ × Assertion F))
+all_places h ts = flat_map (λ r. map (λ p. (r, p)) (enumerate_from 0 ts)) (range_with_len 0 h)
+
+-- the assertion isn't zero at the row
+abbrev pub is_nonzero : {F : Type 0} → CommRing F → (F → F → Bool) → Trace F → ℕ × (ℕ × Assertion F) → Bool
+is_nonzero r eq trace p = not (eq (assertion_value r (row_assignment r trace p.0) p.1.1) r.nil)
+
+-- the row, and the place in the list
+abbrev pub place : {F : Type 0} → ℕ × (ℕ × Assertion F) → ℕ × ℕ
+place p = (p.0, p.1.0)
+
+-- The report on the first h rows: all pairs of row and place, in order, whose term isn't zero there.
+abbrev pub report_of : {F : Type 0} → CommRing F → (F → F → Bool) → Trace F → List (Assertion F) → ℕ → List (ℕ × ℕ)
+report_of r eq trace ts h = map place (filter (is_nonzero r eq trace) (all_places h ts))
+
+-- where a failure stands
+abbrev pub failure_place : ConstraintFailure → ℕ × ℕ
+failure_place f = (f.row, f.constraint)
+
+-- a trace without preprocessed rows and periodic columns
+abbrev pub plain_trace : {F : Type 0} → Grid F → List F → Trace F
+plain_trace g public = record { main_trace = g; preprocessed_trace = record { width = 0; rows = [] }; periodic_columns = []; public_values = public }
+
+-- the cap is reached by so many failures
+abbrev pub IsReached : Option ℕ → ℕ → Type 0
+IsReached None n = ⊥
+IsReached (Some cap) n = cap ≤ n
+
+-- m is the least number of the h rows whose report reaches the cap, or all of them where none does
+pub record IsRowsShown {F : Type 0} (r : CommRing F) (eq : F → F → Bool) (trace : Trace F) (ts : List (Assertion F)) (cap : Option ℕ) (h m : ℕ) : Type 0 where
+  pub within : m ≤ h
+  pub enough : (m ≡ h) ⊎ IsReached cap (length (report_of r eq trace ts m))
+  pub least : (k : ℕ) → k < m → IsReached cap (length (report_of r eq trace ts k)) → ⊥
+
+-- the number of constraints of row 0, none where no row ran
+abbrev pub count_shown : {F : Type 0} → List (Assertion F) → ℕ → ℕ
+count_shown ts m = if m == 0 then 0 else length ts

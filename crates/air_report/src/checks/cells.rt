@@ -1,0 +1,113 @@
+//! Boundary cells of a whole trace.
+ghost use Rattle.std.specs.Prelude.{◌≡◌, ◌+◌, ◌<◌, ◌≤◌, ◌^◌, ◌⊎◌, Some, IfOk, IfErr, OnOk, MatchOption, length, string_bytes};
+ghost use Rattle.air_builder.specs.Boundary.{row_of, AreSound};
+ghost use Rattle.air_report.specs.Cells.{differs, differing, left_of, ListsCells, IsListedPast, cell_label, failure_text, CellsFit, IsCellFault, AgreeBelow, IsFirstDiffering};
+ghost use Rattle.air_report.specs.Report.{failure_place};
+
+use crate::checks::check::{is_reached, row_of};
+use crate::debug::failure::ConstraintFailure;
+use air_builder::boundary::validate;
+use air_builder::{AirError, BoundaryPublic};
+use air_field::{Field, RowMajorMatrix};
+use std::alloc::Global;
+
+/// Checks that the cells are cells of the trace, each once, and hold public values that are there.
+pub(crate) fn check_cells<F: Field>(
+    cells: &[BoundaryPublic],
+    main: &RowMajorMatrix<F>,
+    public_values: &[F],
+) -> Result<(), AirError>
+    ensures fit { OnOk result (CellsFit main.now public_values.now cells.now) }
+    ensures refused { IfErr result (IsCellFault main.now public_values.now cells.now) }
+{
+    validate(cells, main.width(), public_values.len())?;
+    if !cells.is_empty() && main.height() == 0 {
+        return Err(AirError::EmptyTrace);
+    }
+    Ok(())
+}
+
+/// Whether the trace doesn't hold the cell's public value there.
+fn differs<F: Field>(cell: &BoundaryPublic, main: &RowMajorMatrix<F>, public_values: &[F]) -> bool
+    requires rows { 0 < length main.now.rows }
+    requires column { cell.now.column < main.now.width }
+    requires value { cell.now.public_value < length public_values.now }
+    ensures { result ≡ differs F.ring F.eq main.now public_values.now cell.now }
+{
+    let row = row_of(main, cell.row(main.height()));
+    !(row[cell.column] == public_values[cell.public_value])
+}
+
+/// The first cell that differs from its public value.
+pub(crate) fn first_mismatch<F: Field>(
+    cells: &[BoundaryPublic],
+    main: &RowMajorMatrix<F>,
+    public_values: &[F],
+) -> Option<usize>
+    requires { CellsFit main.now public_values.now cells.now }
+    ensures { MatchOption result (AgreeBelow F.ring F.eq main.now public_values.now cells.now (length cells.now)) (IsFirstDiffering F.ring F.eq main.now public_values.now cells.now) }
+{
+    for (index, cell) in cells.iter().enumerate() {
+        if differs(cell, main, public_values) {
+            return Some(index);
+        }
+    }
+    None
+}
+
+/// The failure of a cell: its constraint is its place after `count` constraints.
+fn cell_failure(
+    alloc: Global,
+    cell: &BoundaryPublic,
+    row: usize,
+    count: usize,
+    place: usize,
+) -> Result<ConstraintFailure, AirError>
+    ensures place { IfOk result (λ f. failure_place f ≡ (row, count + place)) }
+    ensures label { IfOk result (λ f. failure_text f ≡ Some (cell_label cell.now)) }
+    ensures refused { IfErr result (λ e. (e ≡ AirError.Memory) ⊎ ((e ≡ AirError.CountOverflow) × (2 ^ 64 ≤ count + place))) }
+{
+    let Some(constraint) = count.checked_add(place) else {
+        return Err(AirError::CountOverflow);
+    };
+    let column = cell.column;
+    let value = cell.public_value;
+    let label = format!(in alloc;
+        "boundary-IO cell in column {column} does not hold public value {value}"
+    )?;
+    Ok(ConstraintFailure {
+        row,
+        constraint,
+        label: Some(label),
+    })
+}
+
+/// Adds the failures of the cells that differ, in order, as many as the cap leaves.
+pub(crate) fn list_cells<F: Field>(
+    alloc: Global,
+    cells: &[BoundaryPublic],
+    main: &RowMajorMatrix<F>,
+    public_values: &[F],
+    max_failures: Option<usize>,
+    count: usize,
+    failures: &mut Vec<ConstraintFailure>,
+) -> Result<(), AirError>
+    requires { CellsFit main.now public_values.now cells.now }
+    ensures listed { OnOk result (ListsCells (length main.now.rows) count (left_of max_failures (length failures.old.items) (differing F.ring F.eq main.now public_values.now cells.now)) failures.old.items failures.new.items) }
+    ensures refused { IfErr result (λ e. (e ≡ AirError.Memory) ⊎ ((e ≡ AirError.CountOverflow) × IsListedPast count (left_of max_failures (length failures.old.items) (differing F.ring F.eq main.now public_values.now cells.now)))) }
+{
+    let height = main.height();
+    'cells: for (place, cell) in cells.iter().enumerate() {
+        if is_reached(max_failures, failures.len()) {
+            return Ok(());
+        }
+        if !differs(cell, main, public_values) {
+            continue;
+        }
+        let failure = cell_failure(alloc, cell, cell.row(height), count, place)?;
+        if failures.push(failure).is_err() {
+            return Err(AirError::Memory);
+        }
+    }
+    Ok(())
+}

@@ -1,0 +1,208 @@
+//! A check of a whole trace.
+ghost use Rattle.std.specs.Prelude.{IsTrue, ◌↔◌, ◌≡◌, ◌+◌, ◌%◌, Some, slice_get, ◌<◌, length, IfOk, IfErr, IfSome, OnOk};
+ghost use Rattle.std.specs.Option.{option_copied};
+ghost use Rattle.air_field.specs.Assignment.{selector, trace_shape, IsMissing, row_or_none};
+ghost use Rattle.air_builder.specs.Refusals.{NoneMissing};
+ghost use Rattle.air_report.specs.Report.{IsReached};
+ghost use Rattle.air_report.specs.Given.{given, given_trace, table_grid};
+ghost use Rattle.air_report.specs.Checks.{CheckRefuses, CheckedRow, CheckedRows, Fits, IsReport, RowRefuses, RowsRefuse};
+
+use crate::checks::cells::{check_cells, list_cells};
+use crate::checks::report::ConstraintReport;
+use crate::checks::shapes::{check_shapes, table_height};
+use crate::debug::builder::DebugConstraintBuilder;
+use crate::debug::failure::ConstraintFailure;
+use air_builder::{Air, AirError, RowWindow};
+use air_field::{
+    ExtFieldRing, Field, FieldRing, RowMajorMatrix, RowMajorMatrixView, SelfExtension, ViewPair,
+};
+use std::alloc::Global;
+
+/// One where it holds, else zero.
+fn selector<F: Field>(on: bool) -> F
+    ensures { result ≡ selector F.ring on }
+{
+    if on { F::ONE } else { F::ZERO }
+}
+
+/// A row that is there.
+pub(crate) fn row_of<'a, F: Field>(main: &'a RowMajorMatrix<F>, row: usize) -> &'a [F]
+    requires { row < length main.now.rows }
+    ensures row { slice_get main.now.rows row ≡ Some result.now }
+    ensures width { length result.now ≡ main.now.width }
+{
+    match main.row_slice(row) {
+        Some(values) => values,
+        None => unreachable!(),
+    }
+}
+
+/// The views of a row and of the one after it around the end.
+fn row_pair<'a, F: Field>(main: &'a RowMajorMatrix<F>, row: usize) -> ViewPair<'a, F>
+    requires { row < length main.now.rows }
+    ensures top { slice_get main.now.rows row ≡ Some result.top.values.now }
+    ensures bottom { slice_get main.now.rows ((row + 1) % length main.now.rows) ≡ Some result.bottom.values.now }
+    ensures width { length result.top.values.now ≡ main.now.width }
+{
+    let height = main.height();
+    let next = if row + 1 == height { 0 } else { row + 1 };
+    ViewPair::new(
+        RowMajorMatrixView::new_row(row_of(main, row)),
+        RowMajorMatrixView::new_row(row_of(main, next)),
+    )
+}
+
+/// The window of a table's row and of the one after it around the end; without a table it has no columns.
+fn table_window<'a, F: Field>(table: Option<&'a RowMajorMatrix<F>>, row: usize) -> RowWindow<'a, F>
+    requires { IfSome table (λ t. row < length t.now.rows) }
+    ensures current { result.current.now ≡ row_or_none (slice_get (table_grid (option_copied table.entry)).rows row) }
+    ensures next { result.next.now ≡ row_or_none (slice_get (table_grid (option_copied table.entry)).rows ((row + 1) % length (table_grid (option_copied table.entry)).rows)) }
+    ensures width { length result.current.now ≡ (table_grid (option_copied table.entry)).width }
+{
+    match table {
+        Some(table) => {
+            let pair = row_pair(table, row);
+            RowWindow::from_two_rows(pair.top.values, pair.bottom.values)
+        }
+        None => RowWindow::from_two_rows(&[], &[]),
+    }
+}
+
+/// What rows gave.
+#[derive(Drop)]
+pub(crate) struct RowOutcome {
+    pub(crate) failures: Vec<ConstraintFailure>,
+    pub(crate) constraints: usize,
+}
+
+/// Evaluates an AIR on one row, and adds what is not zero to the failures.
+pub(crate) fn check_row<'a, F: SelfExtension + 'static, A: Air<DebugConstraintBuilder<'a, F, F>>>(
+    alloc: Global,
+    air: &'a A,
+    main: &'a RowMajorMatrix<F>,
+    public_values: &'a [F],
+    row: usize,
+    failures: Vec<ConstraintFailure>,
+) -> Result<RowOutcome, AirError>
+    requires within { row < length main.now.rows }
+    requires fits { Fits (given (A.declared air.now) (A.beside air.now) main.now public_values.now) }
+    ensures checked { IfOk result (λ c. CheckedRow F.ring F.eq (given_trace (given (A.declared air.now) (A.beside air.now) main.now public_values.now)) (A.declared air.now) row failures.items c.failures.items c.constraints) }
+    ensures there { OnOk result (NoneMissing (IsMissing (trace_shape (given_trace (given (A.declared air.now) (A.beside air.now) main.now public_values.now)))) (A.declared air.now)) }
+    ensures refused { IfErr result (RowRefuses (given (A.declared air.now) (A.beside air.now) main.now public_values.now)) }
+{
+    let height = main.height();
+    let periodic_row = air.periodic_values(alloc, row)?;
+    let mut builder = DebugConstraintBuilder {
+        row_index: row,
+        main: row_pair(main, row),
+        preprocessed: table_window(air.preprocessed_trace(), row),
+        public_values,
+        is_first_row: selector(row == 0),
+        is_last_row: selector(row + 1 == height),
+        is_transition: selector(row + 1 != height),
+        periodic_row,
+        permutation: None,
+        permutation_challenges: &[],
+        permutation_values: &[],
+        ring: FieldRing::new(),
+        ext_ring: ExtFieldRing::new(),
+        constraint_index: 0,
+        failures,
+    };
+    air.eval(&mut builder)?;
+    let constraints = builder.constraint_index;
+    Ok(RowOutcome {
+        failures: builder.into_failures(),
+        constraints,
+    })
+}
+
+/// Whether so many failures reach the cap.
+pub(crate) fn is_reached(cap: Option<usize>, failures: usize) -> bool
+    ensures { IsTrue result ↔ IsReached cap failures }
+{
+    match cap {
+        Some(cap) => cap <= failures,
+        None => false,
+    }
+}
+
+/// Evaluates an AIR on the rows of a trace while the failures so far are fewer than the cap.
+fn check_rows<'a, F: SelfExtension + 'static, A: Air<DebugConstraintBuilder<'a, F, F>>>(
+    alloc: Global,
+    air: &'a A,
+    main: &'a RowMajorMatrix<F>,
+    public_values: &'a [F],
+    max_failures: Option<usize>,
+) -> Result<RowOutcome, AirError>
+    requires { Fits (given (A.declared air.now) (A.beside air.now) main.now public_values.now) }
+    ensures checked { IfOk result (λ c. CheckedRows F.ring F.eq (given (A.declared air.now) (A.beside air.now) main.now public_values.now) max_failures c.failures.items c.constraints) }
+    ensures refused { IfErr result (RowsRefuse max_failures (given (A.declared air.now) (A.beside air.now) main.now public_values.now)) }
+{
+    let mut failures = Vec::new(alloc);
+    let mut total_constraints_per_row = 0;
+    'rows: for row in 0..main.height() {
+        if is_reached(max_failures, failures.len()) {
+            return Ok(RowOutcome {
+                failures,
+                constraints: total_constraints_per_row,
+            });
+        }
+        let outcome = check_row(alloc, air, main, public_values, row, failures)?;
+        failures = outcome.failures;
+        total_constraints_per_row = outcome.constraints;
+    }
+    Ok(RowOutcome {
+        failures,
+        constraints: total_constraints_per_row,
+    })
+}
+
+/// Checks the shapes of the preprocessed table and of the periodic columns; evaluates an AIR on the rows of a trace, each
+/// paired with the one after it around the end, while the failures so far are fewer than `max_failures`; and then
+/// compares the boundary cells with their public values. It reports each constraint that is not zero, rows ascending
+/// and in each row the places ascending, and then the cells that differ, in order, as many as the cap leaves.
+///
+/// It refuses the first shape that doesn't fit; then, where a row runs, an entry that a constraint names and the trace has
+/// not, and a count past `usize`; then the first cell that doesn't fit the trace, and cells of a trace without rows. The trace's width
+/// is not compared with that of the AIR.
+pub fn check_all_constraints<
+    'a,
+    F: SelfExtension + 'static,
+    A: Air<DebugConstraintBuilder<'a, F, F>>,
+>(
+    alloc: Global,
+    air: &'a A,
+    main: &'a RowMajorMatrix<F>,
+    public_values: &'a [F],
+    max_failures: Option<usize>,
+) -> Result<ConstraintReport, AirError>
+    ensures report { IfOk result (IsReport F.ring F.eq (given (A.declared air.now) (A.beside air.now) main.now public_values.now) max_failures) }
+    ensures refused { IfErr result (CheckRefuses F.ring F.eq (given (A.declared air.now) (A.beside air.now) main.now public_values.now) max_failures) }
+{
+    let total_rows = main.height();
+    check_shapes(
+        air.periodic_columns(),
+        total_rows,
+        table_height(air.preprocessed_trace()),
+    )?;
+    let checked = check_rows(alloc, air, main, public_values, max_failures)?;
+    let cells = air.public_boundary_io();
+    check_cells(cells, main, public_values)?;
+    let total_constraints_per_row = checked.constraints;
+    let mut failures = checked.failures;
+    list_cells(
+        alloc,
+        cells,
+        main,
+        public_values,
+        max_failures,
+        total_constraints_per_row,
+        &mut failures,
+    )?;
+    Ok(ConstraintReport {
+        failures,
+        total_rows,
+        total_constraints_per_row,
+    })
+}

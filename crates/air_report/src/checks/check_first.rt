@@ -1,0 +1,84 @@
+//! A check of a whole trace up to its first fault.
+ghost use Rattle.std.specs.Prelude.{◌≡◌, OnOk, IfErr};
+ghost use Rattle.air_report.specs.Checks.{IsKept, IsFirstError};
+ghost use Rattle.air_report.specs.Given.{given};
+ghost use Rattle.air_report.specs.declared.checks.check_first.CheckError.TheVariants.{Refused};
+
+use crate::checks::cells::{check_cells, first_mismatch};
+use crate::checks::check::check_row;
+use crate::checks::shapes::{check_shapes, table_height};
+use crate::debug::builder::DebugConstraintBuilder;
+use crate::debug::failure::ConstraintFailure;
+use air_builder::{Air, AirError};
+use air_field::{RowMajorMatrix, SelfExtension};
+use std::alloc::Global;
+use thiserror::Error;
+
+/// Why a trace doesn't keep the constraints, or wasn't checked.
+#[derive(Debug, Drop, Error)]
+pub enum CheckError {
+    /// A boundary cell doesn't hold its public value: the first such, by its place in the list, and its row.
+    #[error("boundary-IO cell {index} does not hold its public value on row {row}")]
+    BoundaryMismatch {
+        row: usize,
+        index: usize,
+    },
+    /// The first row with constraints that aren't zero, and all of these.
+    #[error("constraints fail on row {row}")]
+    RowFailed {
+        row: usize,
+        failures: Vec<ConstraintFailure>,
+    },
+    /// The trace wasn't checked.
+    #[error(transparent)]
+    Refused(AirError),
+}
+
+impl From<AirError> for CheckError {
+    ghost from_gives = { λ e c. c ≡ Refused e };
+
+    fn from(e: AirError) -> CheckError {
+        CheckError::Refused(e)
+    }
+}
+
+/// Checks the shapes of the preprocessed table and of the periodic columns, compares the boundary cells with their public
+/// values, and evaluates an AIR on the rows of a trace, each paired with the one after it around the end, up to the
+/// first row with a constraint that is not zero.
+///
+/// It is Ok exactly if no cell differs and no constraint fails at any row. The error is the first cell that differs,
+/// else the first row that fails with all its failures, or what the check refuses, as `check_all_constraints` does.
+pub fn check_constraints<'a, F: SelfExtension + 'static, A: Air<DebugConstraintBuilder<'a, F, F>>>(
+    alloc: Global,
+    air: &'a A,
+    main: &'a RowMajorMatrix<F>,
+    public_values: &'a [F],
+) -> Result<(), CheckError>
+    ensures kept { OnOk result (IsKept F.ring F.eq (given (A.declared air.now) (A.beside air.now) main.now public_values.now)) }
+    ensures error { IfErr result (IsFirstError F.ring F.eq (given (A.declared air.now) (A.beside air.now) main.now public_values.now)) }
+{
+    let height = main.height();
+    check_shapes(
+        air.periodic_columns(),
+        height,
+        table_height(air.preprocessed_trace()),
+    )?;
+    let cells = air.public_boundary_io();
+    check_cells(cells, main, public_values)?;
+    if let Some(index) = first_mismatch(cells, main, public_values) {
+        return Err(CheckError::BoundaryMismatch {
+            row: cells[index].row(height),
+            index,
+        });
+    }
+    'rows: for row in 0..height {
+        let outcome = check_row(alloc, air, main, public_values, row, Vec::new(alloc))?;
+        if !outcome.failures.is_empty() {
+            return Err(CheckError::RowFailed {
+                row,
+                failures: outcome.failures,
+            });
+        }
+    }
+    Ok(())
+}

@@ -1,0 +1,56 @@
+//! Which preprocessed tables and periodic columns fit a trace.
+ghost use Rattle.std.specs.Prelude.{◌≡◌, ◌↔◌, IsTrue};
+ghost use Rattle.std.specs.Option.{option_copied};
+ghost use Rattle.air_report.specs.Shapes.{IsPowerOfTwo, MatchShapes, table_height};
+
+use air_builder::AirError;
+use air_field::RowMajorMatrix;
+
+/// Whether the number is a power of two; 0 isn't.
+fn is_power(n: usize) -> bool
+    ensures { IsTrue result ↔ IsPowerOfTwo n }
+{
+    n.is_power_of_two()
+}
+
+/// The number of rows, if there is a table.
+pub(crate) fn table_height<F: Copy>(table: Option<&RowMajorMatrix<F>>) -> Option<usize>
+    ensures { result ≡ table_height (option_copied table.entry) }
+{
+    match table {
+        Some(table) => Some(table.height()),
+        None => None,
+    }
+}
+
+/// Checks the heights: of the preprocessed table, then each column's period.
+pub(crate) fn check_shapes<T: Copy>(
+    columns: &[Vec<T>],
+    height: usize,
+    preprocessed: Option<usize>,
+) -> Result<(), AirError>
+    ensures { MatchShapes columns.now height preprocessed result }
+{
+    if let Some(preprocessed) = preprocessed {
+        if preprocessed != height {
+            return Err(AirError::PreprocessedHeight {
+                preprocessed,
+                main: height,
+            });
+        }
+    }
+    for (index, column) in columns.iter().enumerate() {
+        let length = column.len();
+        if !is_power(length) {
+            return Err(AirError::PeriodNotPowerOfTwo { index, length });
+        }
+        if height % length != 0 {
+            return Err(AirError::PeriodDoesNotDivide {
+                index,
+                length,
+                height,
+            });
+        }
+    }
+    Ok(())
+}

@@ -1,0 +1,91 @@
+//! The debug builder keeps the laws of builders.
+ghost use Rattle.std.specs.Prelude.{◌≡◌, refl, ⊤, [], OnOk, OnErr, IfErr};
+ghost use Rattle.air_builder.specs.Builders.{Means, GrewOf, RefusesOf};
+ghost use Rattle.air_report.specs.Debug.{row_stands, is_zero_at, GrewAtRow};
+ghost use Rattle.air_report.specs.DebugLabels.{LogRefuses};
+ghost use Rattle.air_report.specs.DebugLaws.{debug_laws, RowMissing, IsFull};
+ghost use Rattle.air_builder.specs.Refused.{Refused};
+ghost use Rattle.air_report.specs.DebugRow.{row_of};
+
+use crate::debug::builder::DebugConstraintBuilder;
+use air_builder::{AirBuilder, AirError, RowWindow};
+use air_field::{Algebra, ExtensionField, Field, FieldRing};
+
+impl<'a, F: Field, EF: ExtensionField<F> + 'static> AirBuilder
+    for DebugConstraintBuilder<'a, F, EF> {
+    type F = F;
+
+    type Expr = F;
+
+    type Var = F;
+
+    type PublicVar = F;
+
+    type PeriodicVar = F;
+
+    type PreprocessedWindow = RowWindow<'a, F>;
+
+    type MainWindow = RowWindow<'a, F>;
+
+    type Ring = FieldRing<F>;
+
+    ghost ring_of = { λ b. b.ring };
+
+    ghost with_ring = { λ b r. record b { ring = r } };
+
+    ghost stands = { λ b. row_stands F.ring EF.over EF.coefficients (row_of b) };
+
+    ghost ready = { λ _. ⊤ };
+
+    ghost kept = { λ a b. (row_of b) ≡ (row_of a) };
+
+    ghost grew = { λ a b ts. GrewAtRow (is_zero_at F.ring EF.over F.eq EF.eq) (row_of a) (row_of b) a.constraint_index b.constraint_index a.failures.items b.failures.items ts };
+
+    ghost missing = { λ b l. RowMissing (row_of b) l };
+
+    ghost refuses = { λ b e ts. Refused (RowMissing (row_of b)) (λ _. ⊥) (IsFull b.constraint_index) e ts };
+
+    ghost laws = { debug_laws (is_zero_at F.ring EF.over F.eq EF.eq) row_of (λ b. b.constraint_index) (λ b. b.failures.items) (row_stands F.ring EF.over EF.coefficients) (λ b. b.ring) (λ b r. record b { ring = r }) (λ _ _. refl) (λ _ _. refl) (λ _ _. refl) (λ _ _. refl) };
+
+    fn ring(&mut self) -> &mut FieldRing<F> {
+        &mut self.ring
+    }
+
+    fn main(&self) -> Result<RowWindow<'a, F>, AirError> {
+        Ok(RowWindow::from_two_rows(self.main.top.values, self.main.bottom.values))
+    }
+
+    fn preprocessed(&self) -> &RowWindow<'a, F> {
+        &self.preprocessed
+    }
+
+    fn public_values(&self) -> &[F] {
+        self.public_values
+    }
+
+    fn periodic_values(&self) -> &[F] {
+        self.periodic_row.as_slice()
+    }
+
+    fn is_first_row(&mut self) -> Result<F, AirError> {
+        Ok(self.is_first_row)
+    }
+
+    fn is_last_row(&mut self) -> Result<F, AirError> {
+        Ok(self.is_last_row)
+    }
+
+    fn is_transition(&mut self) -> Result<F, AirError> {
+        Ok(self.is_transition)
+    }
+
+    fn assert_zero(&mut self, x: F) -> Result<(), AirError>
+        ensures keeps { row_of self.new ≡ row_of self.old }
+        ensures ok { OnOk result (GrewOf (Means ⟦<FieldRing<F> as Algebra<F>>⟧.means ⟦<DebugConstraintBuilder<'a, F, EF> as AirBuilder>⟧.ring_of ⟦<DebugConstraintBuilder<'a, F, EF> as AirBuilder>⟧.stands) ⟦<DebugConstraintBuilder<'a, F, EF> as AirBuilder>⟧.grew (λ t. t) self.old self.new x) }
+        ensures err { OnErr result (⟦<DebugConstraintBuilder<'a, F, EF> as AirBuilder>⟧.grew self.old self.new []) }
+        ensures refused { IfErr result (RefusesOf (Means ⟦<FieldRing<F> as Algebra<F>>⟧.means ⟦<DebugConstraintBuilder<'a, F, EF> as AirBuilder>⟧.ring_of ⟦<DebugConstraintBuilder<'a, F, EF> as AirBuilder>⟧.stands) ⟦<DebugConstraintBuilder<'a, F, EF> as AirBuilder>⟧.refuses (λ t. t) self.old x) }
+        ensures passes { IfErr result (LogRefuses self.old.constraint_index (F.eq x F.ring.nil)) }
+    {
+        self.log(x == F::ZERO, "")
+    }
+}

@@ -1,0 +1,84 @@
+//! The debug builder over an extension.
+ghost use Rattle.std.specs.Prelude.{◌≡◌, ◌≢◌, false, [], OnOk, OnErr, IfOk, IfErr, IsOk, Err, None, refl};
+ghost use Rattle.air_field.specs.Algebra.{closed_value, closed_value_in};
+ghost use Rattle.air_field.specs.Term.{IsBase, permutation};
+ghost use Rattle.air_builder.specs.Builders.{Means, RowStands};
+ghost use Rattle.air_builder.specs.Refusals.{RowEnds};
+ghost use Rattle.air_builder.specs.Extensions.{GrewExtOf, RefusesExtOf};
+ghost use Rattle.air_builder.specs.ExtensionLabels.{LabelledExtOf};
+ghost use Rattle.air_report.specs.Debug.{is_zero_at, row_stands};
+ghost use Rattle.air_report.specs.DebugLabels.{LabelledAtRow, LogRefuses};
+ghost use Rattle.air_report.specs.DebugLaws.{debug_extension_laws, RowMissing};
+ghost use Rattle.air_report.specs.DebugRow.{row_of};
+
+use crate::debug::builder::DebugConstraintBuilder;
+use air_builder::{
+    AirBuilder, AirError, ExtensionBuilder, Name, NamedExtensionBuilder, PermutationAirBuilder,
+    RowWindow, WindowAccess,
+};
+use air_field::{Algebra, ExtFieldRing, ExtensionField, Field};
+
+impl<'a, F: Field, EF: ExtensionField<F> + 'static> ExtensionBuilder
+    for DebugConstraintBuilder<'a, F, EF> {
+    type EF = EF;
+
+    type ExprEF = EF;
+
+    type VarEF = EF;
+
+    type ExtRing = ExtFieldRing<F, EF>;
+
+    ghost ext_ring_of = { λ b. b.ext_ring };
+
+    ghost with_ext_ring = { λ b r. record b { ext_ring = r } };
+
+    ghost ext_laws = { debug_extension_laws (is_zero_at F.ring EF.over F.eq EF.eq) row_of (λ b. b.constraint_index) (λ b. b.failures.items) (row_stands F.ring EF.over EF.coefficients) (λ b. b.ext_ring) (λ b r. record b { ext_ring = r }) (λ _ _. refl) (λ _ _. refl) (λ _ _. refl) (λ _ _. refl) (λ b. b.ring) (λ x t. IsBase t × (closed_value F.ring t ≡ x)) };
+
+    fn ext_ring(&mut self) -> &mut ExtFieldRing<F, EF> {
+        &mut self.ext_ring
+    }
+
+    fn assert_zero_ext(&mut self, x: EF) -> Result<(), AirError> {
+        self.log(x == EF::zero(), "")
+    }
+}
+
+impl<'a, F: Field, EF: ExtensionField<F> + 'static> NamedExtensionBuilder
+    for DebugConstraintBuilder<'a, F, EF> {
+    fn assert_zero_ext_named<N: Name>(&mut self, x: EF, name: N) -> Result<(), AirError> {
+        self.log(x == EF::zero(), name)
+    }
+}
+
+impl<'a, F: Field, EF: ExtensionField<F> + 'static> PermutationAirBuilder
+    for DebugConstraintBuilder<'a, F, EF> {
+    type MP = RowWindow<'a, EF>;
+
+    type RandomVar = EF;
+
+    type PermutationVar = EF;
+
+    /// The window of the permutation trace; a builder that was made without one, and it alone, refuses.
+    fn permutation(&self) -> Result<RowWindow<'a, EF>, AirError>
+        ensures current { IfOk result (λ w. RowStands (λ v t. closed_value_in EF.over t ≡ v) (λ i. row_stands F.ring EF.over EF.coefficients (row_of self.now) (permutation 0 i)) w.current.now) }
+        ensures next { IfOk result (λ w. RowStands (λ v t. closed_value_in EF.over t ≡ v) (λ i. row_stands F.ring EF.over EF.coefficients (row_of self.now) (permutation 1 i)) w.next.now) }
+        ensures current_ends { IfOk result (λ w. RowEnds (RowMissing (row_of self.now)) (λ i. permutation 0 i) w.current.now) }
+        ensures next_ends { IfOk result (λ w. RowEnds (RowMissing (row_of self.now)) (λ i. permutation 1 i) w.next.now) }
+        ensures answered { self.now.permutation ≢ None → IsOk result }
+        ensures without { self.now.permutation ≡ None → result ≡ Err AirError.NoPermutation }
+        ensures refused { IfErr result (λ e. (e ≡ AirError.NoPermutation) × (self.now.permutation ≡ None)) }
+    {
+        match &self.permutation {
+            Some(pair) => Ok(RowWindow::from_two_rows(pair.top.values, pair.bottom.values)),
+            None => Err(AirError::NoPermutation),
+        }
+    }
+
+    fn permutation_randomness(&self) -> &[EF] {
+        self.permutation_challenges
+    }
+
+    fn permutation_values(&self) -> &[EF] {
+        self.permutation_values
+    }
+}

@@ -1,0 +1,53 @@
+//! The log of a row: how many assertions there were, and which failed.
+ghost use Rattle.std.specs.Prelude.{◌≡◌, ◌+◌, ◌^◌, ℕ, List, Option, false, IfOk, OnOk, OnErr, IfErr};
+ghost use Rattle.air_report.specs.DebugLabels.{KeepsText, LogsOne, LogRefuses};
+ghost use Rattle.air_report.specs.DebugRow.{row_of};
+
+use crate::debug::builder::DebugConstraintBuilder;
+use crate::debug::failure::ConstraintFailure;
+use air_builder::{AirError, Name};
+use air_field::{ExtensionField, Field};
+use std::alloc::{AllocError, Global};
+use std::string::ToString;
+
+/// The label of a failure: what the name displays, or none where that is empty.
+fn label_of<N: Name>(alloc: Global, name: N) -> Result<Option<String>, AllocError>
+    requires { N.can_evaluate name }
+    ensures { IfOk result (λ label. (text : Option (List ℕ)) × N.displays name text × KeepsText text label) }
+{
+    let text = name.evaluate()?.to_string(alloc)?;
+    if text.is_empty() {
+        Ok(None)
+    } else {
+        Ok(Some(text))
+    }
+}
+
+impl<'a, F: Field, EF: ExtensionField<F>> DebugConstraintBuilder<'a, F, EF> {
+    /// Counts an assertion. Where it doesn't hold its failure is kept, and then alone the name is evaluated.
+    pub(crate) fn log<N: Name>(&mut self, holds: bool, name: N) -> Result<(), AirError>
+        requires { holds ≡ false → N.can_evaluate name }
+        ensures keeps { row_of self.new ≡ row_of self.old }
+        ensures ok { OnOk result (LogsOne self.old.row_index self.old.constraint_index self.new.constraint_index (N.displays name) holds self.old.failures.items self.new.failures.items) }
+        ensures err_count { OnErr result (self.new.constraint_index ≡ self.old.constraint_index) }
+        ensures err { OnErr result (self.new.failures.items ≡ self.old.failures.items) }
+        ensures refused { IfErr result (LogRefuses self.old.constraint_index holds) }
+    {
+        if self.constraint_index == usize::MAX {
+            return Err(AirError::CountOverflow);
+        }
+        if !holds {
+            let label = label_of(*self.failures.allocator(), name)?;
+            let failure = ConstraintFailure {
+                row: self.row_index,
+                constraint: self.constraint_index,
+                label,
+            };
+            if self.failures.push(failure).is_err() {
+                return Err(AirError::Memory);
+            }
+        }
+        self.constraint_index += 1;
+        Ok(())
+    }
+}

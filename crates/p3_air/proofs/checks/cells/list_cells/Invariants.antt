@@ -1,8 +1,0 @@
-use Rattle.std.proofs.Common.{length, take}
-use Rattle.p3_air.specs.Cells.{differing, left_of, ListsCells}
-use Rattle.p3_air.proofs.checks.cells.list_cells.Given as goal
-
-abbrev pub invariant-cells : goal.invariant-cells
-invariant-cells g l =
-    let before = differing g.F.Field.ring g.F.PartialEq.eq l.main l.public_values (take l.place l.cells) in
-    ListsCells (length l.main.rows) l.count (left_of l.max_failures (length l.initial.failures.items) before) l.initial.failures.items l.failures.items

@@ -1,6 +1,0 @@
-use Rattle.std.proofs.Common.{◌≡◌, take}
-use Rattle.p3_air.specs.Weights.{coordinates_of}
-use Rattle.p3_air.proofs.layouts.constraint_layout.coordinate.Given as goal
-
-abbrev pub invariant-loop-element : goal.invariant-loop-element
-invariant-loop-element g l = l.coefficients.items ≡ coordinates_of g.F.Field.ring g.EF.ExtensionField.coefficients (take l.element-index l.elements) l.d

@@ -1,6 +1,0 @@
-use Rattle.std.proofs.Common.{◌≡◌, ◌++◌, drop}
-use Rattle.p3_air.specs.Kinds.{is_extension, places_from, places_where}
-use Rattle.p3_air.proofs.symbolic.constraints.ext_places.Given as goal
-
-abbrev pub invariant-loop-place : goal.invariant-loop-place
-invariant-loop-place l = l.places.items ++ places_from is_extension l.place (drop l.place l.kinds) ≡ places_where is_extension l.kinds

@@ -1,6 +1,0 @@
-use Rattle.std.proofs.Common.{◌≡◌, ◌++◌, drop}
-use Rattle.p3_air.specs.Inferred.{periods_of}
-use Rattle.p3_air.proofs.symbolic.degree.lengths_of.Given as goal
-
-abbrev pub invariant-loop-column : goal.invariant-loop-column
-invariant-loop-column g l = l.periods.items ++ periods_of (drop l.column-index l.columns) ≡ periods_of l.columns
