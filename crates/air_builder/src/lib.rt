@@ -29,6 +29,3 @@ pub use names::namespace::{Namespace, NamespaceExt};
 pub use windows::access::WindowAccess;
 pub use windows::row_window::RowWindow;
 pub use windows::two_rows::TwoRows;
-
-#[cfg(test)]
-mod tests;

@@ -6,8 +6,6 @@ pub mod errors;
 pub mod fields;
 pub mod matrices;
 pub mod rings;
-#[cfg(test)]
-mod tests;
 
 pub use errors::{MatrixError, RingError};
 pub use fields::baby_bear::BabyBear;

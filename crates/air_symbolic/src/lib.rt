@@ -4,8 +4,6 @@
 pub mod laws;
 pub mod leaves;
 pub mod pools;
-#[cfg(test)]
-mod tests;
 
 pub use air_variables::{BaseEntry, ExtEntry, SymbolicVariable, SymbolicVariableExt};
 pub use leaves::base_leaf::BaseLeaf;

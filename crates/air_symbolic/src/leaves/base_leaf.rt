@@ -1,8 +1,8 @@
 //! The leaves of base expressions.
 
 use crate::leaves::sym_leaf::SymLeaf;
-use air_variables::SymbolicVariable;
 use air_field::{Field, RingError};
+use air_variables::SymbolicVariable;
 use std::alloc::Global;
 
 /// A leaf of a base expression: a variable, a selector of rows, or a constant.

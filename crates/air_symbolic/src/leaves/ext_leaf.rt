@@ -5,8 +5,8 @@ use crate::leaves::base_part::base_part;
 use crate::leaves::sym_leaf::SymLeaf;
 use crate::pools::expr::ExprId;
 use crate::pools::pool::ExprPool;
-use air_variables::SymbolicVariableExt;
 use air_field::{ExtensionField, Field, RingError};
+use air_variables::SymbolicVariableExt;
 use std::alloc::Global;
 
 /// A leaf of an extension expression: an expression of the base pool that lies under it, an extension variable, or a

@@ -10,8 +10,8 @@ ghost use Rattle.air_symbolic.specs.Pools.{IsPool, PoolHas, PoolMeans, Grown, Ha
 use crate::leaves::base_leaf::BaseLeaf;
 use crate::pools::expr::ExprId;
 use crate::pools::pool::ExprPool;
-use air_variables::SymbolicVariable;
 use air_field::{Field, FromVar, RingError};
+use air_variables::SymbolicVariable;
 
 impl<F: Field> ExprPool<BaseLeaf<F>> {
     /// The expression of a leaf, which means the leaf's term.

@@ -13,8 +13,8 @@ use crate::leaves::base_leaf::BaseLeaf;
 use crate::leaves::ext_leaf::ExtLeaf;
 use crate::pools::expr::ExprId;
 use crate::pools::pool::ExprPool;
-use air_variables::SymbolicVariableExt;
 use air_field::{ExtAlgebra, ExtensionField, Field, FromVar, RingError};
+use air_variables::SymbolicVariableExt;
 
 impl<F: Field, EF: ExtensionField<F>> ExprPool<ExtLeaf<F, EF>> {
     /// The expression of a variable.

@@ -1,4 +1,0 @@
-mod base;
-mod bench;
-mod ext;
-mod variables;

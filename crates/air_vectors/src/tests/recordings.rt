@@ -1,0 +1,205 @@
+//! Recordings, the places of constraints, and the variables that the symbolic builder lends over an extension.
+
+use crate::tests::extension::{Mixed, Permuted};
+use crate::tests::{Products, make_products, products_layout, record_products};
+use p3_air::{
+    Air, AirError, AirLayout, BabyBear, BinomialExtensionField, ConstraintLayout, ExtEntry,
+    ExtensionField, PermutationAirBuilder, SymbolicAirBuilder, SymbolicVariableExt, WindowAccess,
+    get_all_symbolic_constraints, get_constraint_layout, get_max_constraint_degree_extension,
+    get_symbolic_constraints_extension,
+};
+use std::alloc::Global;
+use std::process::Abort;
+use std::test::Fail;
+
+// The calls that follow know their AIR by its traits alone, so that the tests have none of its constraints at hand; and
+// each AIR is given to them once.
+
+/// How many base and how many extension constraints are recorded.
+fn recorded_counts<EF: ExtensionField<BabyBear>, A: Air<SymbolicAirBuilder<BabyBear, EF>>>(
+    alloc: Global,
+    air: &A,
+    layout: AirLayout,
+) -> Result<(usize, usize), AirError> {
+    let recorded = get_all_symbolic_constraints(alloc, air, layout)?;
+    Ok((recorded.base.len(), recorded.ext.len()))
+}
+
+/// The cached degrees of the extension constraints, after the count of the base ones that stand beside them.
+fn extension_degrees<EF: ExtensionField<BabyBear>, A: Air<SymbolicAirBuilder<BabyBear, EF>>>(
+    alloc: Global,
+    air: &A,
+    layout: AirLayout,
+) -> Result<(usize, Vec<usize>), AirError> {
+    let recorded = get_symbolic_constraints_extension(alloc, air, layout)?;
+    let mut degrees = Vec::new(alloc);
+    for number in &recorded.ext {
+        if recorded.pool.contains(*number) {
+            let degree = recorded.pool.degree_multiple(*number);
+            if degrees.push(degree).is_err() {
+                return Err(AirError::Memory);
+            }
+        }
+    }
+    Ok((recorded.base.len(), degrees))
+}
+
+/// The places of the constraints of each kind.
+fn places_of<EF: ExtensionField<BabyBear>, A: Air<SymbolicAirBuilder<BabyBear, EF>>>(
+    alloc: Global,
+    air: &A,
+    layout: AirLayout,
+) -> Result<ConstraintLayout, AirError> {
+    get_constraint_layout(alloc, air, layout)
+}
+
+/// The degree that is inferred for eight rows.
+fn degree_for_eight<EF: ExtensionField<BabyBear>, A: Air<SymbolicAirBuilder<BabyBear, EF>>>(
+    alloc: Global,
+    air: &A,
+    layout: AirLayout,
+) -> Result<usize, AirError> {
+    get_max_constraint_degree_extension(alloc, air, layout, 8)
+}
+
+/// A main trace of this width, with one permutation column, one challenge and one permutation value.
+fn permuted_layout(main_width: usize) -> AirLayout {
+    AirLayout {
+        preprocessed_width: 0,
+        main_width,
+        num_public_values: 0,
+        permutation_width: 1,
+        num_permutation_challenges: 1,
+        num_permutation_values: 1,
+        num_periodic_columns: 0,
+    }
+}
+
+/// What is recorded of an AIR, by each of the calls above.
+#[derive(Drop)]
+struct Recording {
+    /// How many base and how many extension constraints.
+    counts: (usize, usize),
+    /// How many base constraints stand beside the extension ones, where these alone are asked for.
+    beside: usize,
+    /// The cached degrees of the extension constraints.
+    degrees: Vec<usize>,
+    places: ConstraintLayout,
+    /// The degree that is inferred for eight rows.
+    inferred: usize,
+}
+
+/// Records an AIR; the first refusal is that of `get_all_symbolic_constraints`.
+fn recording_of<EF: ExtensionField<BabyBear>, A: Air<SymbolicAirBuilder<BabyBear, EF>>>(
+    alloc: Global,
+    air: &A,
+    layout: AirLayout,
+) -> Result<Recording, AirError> {
+    let counts = recorded_counts(alloc, air, layout)?;
+    let (beside, degrees) = extension_degrees(alloc, air, layout)?;
+    let places = places_of(alloc, air, layout)?;
+    let inferred = degree_for_eight(alloc, air, layout)?;
+    Ok(Recording {
+        counts,
+        beside,
+        degrees,
+        places,
+        inferred,
+    })
+}
+
+fn mixed_recording(alloc: Global, layout: AirLayout) -> Result<Recording, AirError> {
+    recording_of::<BinomialExtensionField, Mixed>(alloc, &Mixed {}, layout)
+}
+
+/// Compares all that was recorded.
+fn assert_recorded(
+    rt: &impl Abort,
+    recording: &Recording,
+    base: &[usize],
+    ext: &[usize],
+    degrees: &[usize],
+    inferred: usize,
+) {
+    assert_eq!(rt; recording.counts, (base.len(), ext.len()));
+    assert_eq!(rt; recording.beside, 0);
+    assert_eq!(rt; recording.degrees.as_slice(), degrees);
+    assert_eq!(rt; recording.places.base_indices.as_slice(), base);
+    assert_eq!(rt; recording.places.ext_indices.as_slice(), ext);
+    assert_eq!(rt; recording.inferred, inferred);
+}
+
+#[test]
+fn records_each_kind_at_its_place(rt: HostRuntime) -> Result<(), Fail> {
+    let alloc = rt.alloc();
+    let layout = products_layout(alloc);
+    let recording = recording_of::<BinomialExtensionField, Products<BabyBear>>(
+        alloc,
+        &make_products(alloc),
+        layout,
+    )?;
+    assert_recorded(&rt, &recording, &[0, 1], &[], &[], 2);
+    let layout = permuted_layout(0);
+    let recording = recording_of::<BinomialExtensionField, Permuted>(alloc, &Permuted {}, layout)?;
+    assert_recorded(&rt, &recording, &[], &[0], &[1], 1);
+    let recording = mixed_recording(alloc, permuted_layout(2))?;
+    assert_recorded(&rt, &recording, &[0, 2], &[1], &[1], 1);
+    Ok(())
+}
+
+#[test]
+fn compares_the_layout_first(rt: HostRuntime) -> Result<(), Fail> {
+    let layout = AirLayout {
+        main_width: 3,
+        num_public_values: 2,
+        ..products_layout(rt.alloc())
+    };
+    let recorded = record_products(rt.alloc(), layout);
+    assert_eq!(rt;
+        recorded.err(),
+        Some(AirError::LayoutMainWidth { layout: 3, air: 2 })
+    );
+    Ok(())
+}
+
+#[test]
+fn names_the_extension_entry_that_is_missing(rt: HostRuntime) -> Result<(), Fail> {
+    let layout = AirLayout {
+        permutation_width: 0,
+        ..permuted_layout(2)
+    };
+    let recorded = mixed_recording(rt.alloc(), layout);
+    assert_eq!(rt;
+        recorded.err(),
+        Some(AirError::MissingExtEntry {
+            entry: ExtEntry::Permutation { offset: 0 },
+            index: 0,
+        })
+    );
+    Ok(())
+}
+
+#[test]
+fn lends_extension_variables(rt: HostRuntime) -> Result<(), Fail> {
+    let layout = permuted_layout(2);
+    let mut builder = SymbolicAirBuilder::<BabyBear, BinomialExtensionField>::new(
+        rt.alloc(),
+        layout,
+    )?;
+    let window = builder.permutation()?;
+    let current = SymbolicVariableExt::new(ExtEntry::Permutation { offset: 0 }, 0);
+    let next = SymbolicVariableExt::new(ExtEntry::Permutation { offset: 1 }, 0);
+    assert_eq!(rt; window.current(0), Some(current));
+    assert_eq!(rt; window.next(0), Some(next));
+    assert_eq!(rt; window.current(1), None);
+    assert_eq!(rt; builder.permutation_randomness().len(), 1);
+    assert_eq!(rt; builder.permutation_values().len(), 1);
+    Mixed {}.eval(&mut builder)?;
+    assert_eq!(rt; builder.base_constraints().len(), 2);
+    assert_eq!(rt; builder.extension_constraints().len(), 1);
+    let places = builder.constraint_layout()?;
+    assert_eq!(rt; places.total_constraints(), 3);
+    assert_eq!(rt; places.base_indices.as_slice(), [0, 2].as_slice());
+    assert_eq!(rt; places.ext_indices.as_slice(), [1].as_slice());
+    Ok(())
+}

@@ -1,0 +1,6 @@
+//! Worked rows of fields, matrices, rings, variables, pools, builders, windows, names and boundary cells: the tests of
+//! what stands below the recording and the report, over public items alone.
+#![tactic(auto)]
+
+#[cfg(test)]
+mod tests;

@@ -1,0 +1,21 @@
+//! Worked rows, printed texts, and each generic call at a concrete type.
+mod airs;
+mod assertion;
+mod base_pool;
+mod bench;
+mod boundary;
+mod builders;
+mod errors;
+mod ext_bench;
+mod ext_pool;
+mod extension_builders;
+mod fields;
+mod leaves;
+mod matrices;
+mod names;
+mod numbers;
+mod rings;
+mod table;
+mod value_log;
+mod variables;
+mod windows;

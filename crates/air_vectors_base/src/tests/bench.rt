@@ -1,0 +1,324 @@
+//! A well-formed pool, whose expressions go by the places of the steps that made them: what is at a place is tested at
+//! run time to be of the pool.
+ghost use Rattle.std.specs.Prelude.{◌<◌, length, IsTrue, All, IfOk};
+
+use crate::tests::table::{LeafKind, Row, Shape, Step};
+use air_field::{Field, RingError};
+use air_symbolic::{ExprId, ExprPool, LeafWeight, SymLeaf, SymbolicExpr};
+use std::alloc::Global;
+use std::marker::Model;
+use std::process::Abort;
+
+/// What a call answers for a place at which there is nothing.
+pub const MISSING: RingError = RingError::Memory;
+
+/// The place of what no step made.
+const NOWHERE: usize = usize::MAX;
+
+/// A leaf that tables can write.
+pub trait TableLeaf: SymLeaf {
+    /// The expression of a column of the main trace.
+    fn column(bench: &mut Bench<Self>, index: usize) -> Result<ExprId<Self>, RingError>;
+
+    fn first_row(bench: &mut Bench<Self>) -> Result<ExprId<Self>, RingError>;
+
+    fn transition(bench: &mut Bench<Self>) -> Result<ExprId<Self>, RingError>;
+
+    fn kind(&self) -> LeafKind;
+}
+
+#[derive(Drop)]
+pub struct Bench<A: SymLeaf> {
+    pub pool: ExprPool<A>,
+    made: Vec<ExprId<A>>,
+}
+
+impl<A: SymLeaf> Model for Bench<A> {
+    ghost use Rattle.std.specs.Prelude.{List};
+    ghost use Rattle.air_symbolic.specs.Pools.{IsPool};
+    ghost use Rattle.air_symbolic.specs.declared.pools.expr.SymbolicExpr.{SymbolicExpr};
+
+    ghost Value = { A.Under × List (SymbolicExpr A) };
+
+    ghost view = { λ b. b.pool };
+
+    ghost invariant = { λ b. IsPool A.reads b.pool };
+}
+
+/// The first place of an expression.
+pub fn place_of<A: SymLeaf>(made: &[ExprId<A>], x: ExprId<A>) -> usize {
+    for (place, known) in made.iter().enumerate() {
+        if *known == x {
+            return place;
+        }
+    }
+    NOWHERE
+}
+
+/// A node by places.
+pub fn shape_of<A: TableLeaf>(made: &[ExprId<A>], node: SymbolicExpr<A>) -> Shape {
+    match node {
+        SymbolicExpr::Leaf(a) => Shape::Leaf(a.kind()),
+        SymbolicExpr::Add {
+            x,
+            y,
+            degree_multiple,
+        } => Shape::Add(place_of(made, x), place_of(made, y), degree_multiple),
+        SymbolicExpr::Sub {
+            x,
+            y,
+            degree_multiple,
+        } => Shape::Sub(place_of(made, x), place_of(made, y), degree_multiple),
+        SymbolicExpr::Neg { x, degree_multiple } => Shape::Neg(place_of(made, x), degree_multiple),
+        SymbolicExpr::Mul {
+            x,
+            y,
+            degree_multiple,
+        } => Shape::Mul(place_of(made, x), place_of(made, y), degree_multiple),
+    }
+}
+
+impl<A: SymLeaf> Bench<A> {
+    pub fn new(alloc: Global) -> Self {
+        Bench {
+            pool: ExprPool::new(alloc),
+            made: Vec::new(alloc),
+        }
+    }
+
+    pub fn alloc(&self) -> Global {
+        *self.made.allocator()
+    }
+
+    /// Gives an expression the next place.
+    pub fn keep(&mut self, x: ExprId<A>) -> Result<(), RingError> {
+        self.made.push(x)?;
+        Ok(())
+    }
+
+    /// The expression at a place.
+    pub fn at(&self, place: usize) -> Result<ExprId<A>, RingError>
+        ensures { IfOk result (λ x. x < length self.now.1) }
+    {
+        match self.made.get(place) {
+            Some(x) if self.pool.contains(*x) => Ok(*x),
+            _ => Err(MISSING),
+        }
+    }
+
+    // The expressions at some places.
+    fn all_at(&self, places: &[usize]) -> Result<Vec<ExprId<A>>, RingError> {
+        let mut all = Vec::new(self.alloc());
+        for place in places {
+            let x = self.at(*place)?;
+            all.push(x)?;
+        }
+        Ok(all)
+    }
+
+    // Whether all are of the pool.
+    fn contains_all(&self, xs: &[ExprId<A>]) -> bool
+        ensures { IsTrue result → All (λ x. x < length self.now.1) xs.now }
+    {
+        for x in xs {
+            if !self.pool.contains(*x) {
+                return false;
+            }
+        }
+        true
+    }
+
+    fn constant(&mut self, c: u64) -> Result<ExprId<A>, RingError> {
+        self.pool.constant(A::F::from_u64(c))
+    }
+
+    fn add(&mut self, x: usize, y: usize) -> Result<ExprId<A>, RingError> {
+        let x = self.at(x)?;
+        let y = self.at(y)?;
+        self.pool.add(x, y)
+    }
+
+    fn sub(&mut self, x: usize, y: usize) -> Result<ExprId<A>, RingError> {
+        let x = self.at(x)?;
+        let y = self.at(y)?;
+        self.pool.sub(x, y)
+    }
+
+    fn neg(&mut self, x: usize) -> Result<ExprId<A>, RingError> {
+        let x = self.at(x)?;
+        self.pool.neg(x)
+    }
+
+    fn mul(&mut self, x: usize, y: usize) -> Result<ExprId<A>, RingError> {
+        let x = self.at(x)?;
+        let y = self.at(y)?;
+        self.pool.mul(x, y)
+    }
+
+    fn insert_add(&mut self, x: usize, y: usize) -> Result<ExprId<A>, RingError> {
+        let x = self.at(x)?;
+        let y = self.at(y)?;
+        self.pool.insert_add(x, y)
+    }
+
+    fn insert_sub(&mut self, x: usize, y: usize) -> Result<ExprId<A>, RingError> {
+        let x = self.at(x)?;
+        let y = self.at(y)?;
+        self.pool.insert_sub(x, y)
+    }
+
+    fn insert_neg(&mut self, x: usize) -> Result<ExprId<A>, RingError> {
+        let x = self.at(x)?;
+        self.pool.insert_neg(x)
+    }
+
+    fn insert_mul(&mut self, x: usize, y: usize) -> Result<ExprId<A>, RingError> {
+        let x = self.at(x)?;
+        let y = self.at(y)?;
+        self.pool.insert_mul(x, y)
+    }
+
+    fn sum(&mut self, places: &[usize]) -> Result<ExprId<A>, RingError> {
+        let all = self.all_at(places)?;
+        let xs = all.as_slice();
+        if self.contains_all(xs) {
+            self.pool.sum(xs)
+        } else {
+            Err(MISSING)
+        }
+    }
+
+    fn product(&mut self, places: &[usize]) -> Result<ExprId<A>, RingError> {
+        let all = self.all_at(places)?;
+        let xs = all.as_slice();
+        if self.contains_all(xs) {
+            self.pool.product(xs)
+        } else {
+            Err(MISSING)
+        }
+    }
+
+    fn constant_at(&self, place: usize) -> Result<Option<A::F>, RingError> {
+        let x = self.at(place)?;
+        Ok(self.pool.as_const(x))
+    }
+
+    fn degree_at(&self, place: usize) -> Result<usize, RingError> {
+        let x = self.at(place)?;
+        Ok(self.pool.degree_multiple(x))
+    }
+
+    fn poly_degree_at(&self, place: usize, trace_len: usize) -> Result<usize, RingError> {
+        let x = self.at(place)?;
+        self.pool.poly_degree(x, trace_len, &[])
+    }
+
+    fn weighted_at(&self, place: usize, weight: usize) -> Result<usize, RingError> {
+        let x = self.at(place)?;
+        self.pool.degree_multiple_with_transition(x, weight)
+    }
+
+    fn degrees_at(
+        &self,
+        places: &[usize],
+        weight: LeafWeight<'_>,
+    ) -> Result<Vec<usize>, RingError> {
+        let all = self.all_at(places)?;
+        let roots = all.as_slice();
+        if self.contains_all(roots) {
+            let degrees = self.pool.degrees(roots, weight)?;
+            Ok(degrees.values)
+        } else {
+            Err(MISSING)
+        }
+    }
+}
+
+impl<A: TableLeaf> Bench<A> {
+    fn make(&mut self, step: Step<'_>) -> Result<ExprId<A>, RingError> {
+        match step {
+            Step::Zero => self.pool.zero(),
+            Step::Constant(c) => self.constant(c),
+            Step::Column(index) => A::column(self, index),
+            Step::FirstRow => A::first_row(self),
+            Step::Transition => A::transition(self),
+            Step::Add(x, y) => self.add(x, y),
+            Step::Sub(x, y) => self.sub(x, y),
+            Step::Neg(x) => self.neg(x),
+            Step::Mul(x, y) => self.mul(x, y),
+            Step::InsertAdd(x, y) => self.insert_add(x, y),
+            Step::InsertSub(x, y) => self.insert_sub(x, y),
+            Step::InsertNeg(x) => self.insert_neg(x),
+            Step::InsertMul(x, y) => self.insert_mul(x, y),
+            Step::Sum(places) => self.sum(places),
+            Step::Product(places) => self.product(places),
+        }
+    }
+
+    fn shape_at(&self, place: usize) -> Result<Shape, RingError> {
+        let x = self.at(place)?;
+        Ok(shape_of(self.made.as_slice(), *self.pool.node(x)))
+    }
+
+    /// Each row in turn.
+    pub fn check_all(&mut self, rt: &impl Abort, rows: &[Row<'_>]) -> Result<(), RingError> {
+        for (number, row) in rows.iter().enumerate() {
+            self.check(rt, number, *row)?;
+        }
+        Ok(())
+    }
+
+    /// What a row makes, or says.
+    pub fn check(&mut self, rt: &impl Abort, number: usize, row: Row<'_>) -> Result<(), RingError> {
+        match row {
+            Row::Make(step) => {
+                let x = self.make(step)?;
+                self.keep(x)
+            }
+            Row::Same(step, place) => {
+                let x = self.make(step)?;
+                assert_eq!(rt; place_of(self.made.as_slice(), x), place, "at row {number}");
+                Ok(())
+            }
+            Row::Overflows(step) => {
+                let refused = self.make(step).err();
+                assert_eq!(rt; refused, Some(RingError::DegreeOverflow), "at row {number}");
+                Ok(())
+            }
+            _ => self.check_seen(rt, number, row),
+        }
+    }
+
+    fn check_seen(&self, rt: &impl Abort, number: usize, row: Row<'_>) -> Result<(), RingError> {
+        match row {
+            Row::Count(count) => assert_eq!(rt; self.pool.len(), count, "at row {number}"),
+            Row::Node(x, shape) => assert_eq!(rt; self.shape_at(x)?, shape, "at row {number}"),
+            Row::Constant(x, wanted) => {
+                let wanted = match wanted {
+                    Some(c) => Some(A::F::from_u64(c)),
+                    None => None,
+                };
+                assert_eq!(rt; self.constant_at(x)?, wanted, "at row {number}");
+            }
+            Row::Degree(x, degree) => {
+                assert_eq!(rt; self.degree_at(x)?, degree, "at row {number}")
+            }
+            Row::PolyDegree(x, trace_len, wanted) => {
+                assert_eq!(rt;
+                    self.poly_degree_at(x, trace_len),
+                    wanted,
+                    "at row {number}"
+                )
+            }
+            Row::Weighted(x, weight, wanted) => {
+                assert_eq!(rt; self.weighted_at(x, weight), wanted, "at row {number}")
+            }
+            Row::Degrees(places, weight, wanted) => {
+                let degrees = self.degrees_at(places, weight)?;
+                assert_eq!(rt; degrees.as_slice(), wanted, "at row {number}");
+            }
+            _ => assert!(rt; false, "at row {number}"),
+        }
+        Ok(())
+    }
+}
