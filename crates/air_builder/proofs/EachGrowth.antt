@@ -6,7 +6,7 @@ use Rattle.std.specs.List.{zip}
 use Rattle.air_field.specs.Algebra.{AlgebraLaws}
 use Rattle.air_field.specs.Term.{Leaf, Term}
 use Rattle.air_field.specs.declared.errors.RingError.{RingError}
-use Rattle.air_builder.specs.declared.errors.AirError.{AirError}
+use Rattle.air_windows.specs.declared.errors.AirError.{AirError}
 use Rattle.air_builder.specs.Assertion.{Assertion}
 use Rattle.air_builder.specs.Batches.{Each, AssertsOf, AssertsOfBoth, GrewByEach, GrewByBeginning, RefusesByEach}
 use Rattle.air_builder.specs.Builders.{Means, BuilderLaws, GrewOf, GrewOfBoth, RefusesOf, RefusesOfBoth}

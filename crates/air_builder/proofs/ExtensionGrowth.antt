@@ -3,11 +3,11 @@ use Rattle.std.proofs.Common.{◌≡◌, List, [], ◌∷◌, subst, sym, inl}
 use Rattle.air_field.specs.Part.{whole}
 use Rattle.air_field.specs.Term.{Leaf, Term, with_leaves}
 use Rattle.air_field.specs.declared.errors.RingError.{RingError}
-use Rattle.air_builder.specs.declared.errors.AirError.{AirError}
+use Rattle.air_windows.specs.declared.errors.AirError.{AirError}
 use Rattle.air_field.specs.Algebra.{AlgebraLaws}
 use Rattle.air_builder.specs.Assertion.{Assertion, Extension}
 use Rattle.air_builder.specs.Builders.{Means, BuilderLaws}
-use Rattle.air_builder.specs.Errors.{air_error}
+use Rattle.air_windows.specs.Errors.{air_error}
 use Rattle.air_builder.specs.Extensions.{GrewExtOf, RefusesExtOf, AssertsExtOf, ExtensionLaws}
 use Rattle.air_builder.specs.Filters.{means_kept}
 use Rattle.air_builder.proofs.Growth.{means_in, lent_then, lent_refused, lent_means}

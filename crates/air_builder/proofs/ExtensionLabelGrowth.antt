@@ -3,7 +3,7 @@ use Rattle.std.proofs.Common.{◌≡◌, ℕ, List, [], ◌∷◌, Option}
 use Rattle.air_field.specs.Algebra.{AlgebraLaws}
 use Rattle.air_field.specs.Term.{Leaf, Term, with_leaves}
 use Rattle.air_field.specs.declared.errors.RingError.{RingError}
-use Rattle.air_builder.specs.declared.errors.AirError.{AirError}
+use Rattle.air_windows.specs.declared.errors.AirError.{AirError}
 use Rattle.air_builder.specs.Assertion.{Assertion, Extension}
 use Rattle.air_builder.specs.Builders.{Means, BuilderLaws}
 use Rattle.air_builder.specs.ExtensionLabels.{LabelledExtOf, LabelledExtOfBoth}

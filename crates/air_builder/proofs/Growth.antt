@@ -3,11 +3,11 @@ use Rattle.std.proofs.Common.{◌≡◌, List, [], ◌∷◌, subst, sym, inl}
 use Rattle.air_field.specs.Part.{whole}
 use Rattle.air_field.specs.Term.{Leaf, Term, with_leaves}
 use Rattle.air_field.specs.declared.errors.RingError.{RingError}
-use Rattle.air_builder.specs.declared.errors.AirError.{AirError}
+use Rattle.air_windows.specs.declared.errors.AirError.{AirError}
 use Rattle.air_field.specs.Algebra.{AlgebraLaws}
 use Rattle.air_builder.specs.Assertion.{Assertion, Base}
 use Rattle.air_builder.specs.Builders.{Means, BuilderLaws, GrewOf, RefusesOf}
-use Rattle.air_builder.specs.Errors.{air_error}
+use Rattle.air_windows.specs.Errors.{air_error}
 use Rattle.air_builder.specs.Filters.{means_lent}
 
 -- what an element means in the builder's ring it means in the ring as it is lent

@@ -5,7 +5,7 @@ use Rattle.std.specs.List.{zip}
 use Rattle.air_field.specs.Algebra.{AlgebraLaws}
 use Rattle.air_field.specs.Term.{Leaf, Term, with_leaves}
 use Rattle.air_field.specs.declared.errors.RingError.{RingError}
-use Rattle.air_builder.specs.declared.errors.AirError.{AirError}
+use Rattle.air_windows.specs.declared.errors.AirError.{AirError}
 use Rattle.air_builder.specs.Assertion.{Assertion, Base}
 use Rattle.air_builder.specs.Batches.{Each, AssertsOf, GrewByEach, GrewByBeginning}
 use Rattle.air_builder.specs.Builders.{Means, BuilderLaws, GrewOf, GrewOfBoth}

@@ -3,5 +3,3 @@ pub mod ExtensionGrowth
 pub mod EachGrowth
 pub mod LabelGrowth
 pub mod ExtensionLabelGrowth
-pub mod GridRows
-pub mod PeriodicRows

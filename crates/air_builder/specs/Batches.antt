@@ -28,6 +28,12 @@ pub record GrewByBeginning {S I F : Type 0} (asserts : S → I → Assertion F �
   pub within : count < length xs
   pub beginning : GrewByEach asserts grew a b (take count xs)
 
+-- the builder grew by the first ones of the list, and not by all
+pub record GrewByFirst {S F : Type 0} (grew : S → S → List (Assertion F) → Type 0) (a b : S) (ts : List (Assertion F)) : Type 0 where
+  pub count : ℕ
+  pub within : count < length ts
+  pub beginning : grew a b (take count ts)
+
 -- growing by what each element asserts may be refused with e
 abbrev pub RefusesByEach : {S I F X : Type 0} → (S → I → Assertion F → Type 0) → (S → X → List (Assertion F) → Type 0) → S → List I → X → Type 0
 RefusesByEach {F = F} asserts refuses a xs e = (ss : List (Assertion F)) → Each (asserts a) xs ss → refuses a e ss

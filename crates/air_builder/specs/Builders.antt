@@ -2,10 +2,10 @@
 use Rattle.std.specs.Prelude.{◌≡◌, ℕ, List, [], ◌∷◌, ◌++◌, Some, slice_get}
 use Rattle.air_field.specs.Term.{Leaf, first_row, last_row, transition, Term, leaf_term, const_term, sub_term, with_leaves}
 use Rattle.air_field.specs.declared.errors.RingError.{RingError}
-use Rattle.air_builder.specs.declared.errors.AirError.{AirError}
-use Rattle.air_builder.specs.declared.errors.AirError.TheVariants.{Memory}
-use Rattle.air_builder.specs.Errors.{air_error}
-use Rattle.air_builder.specs.Refusals.{NamesLeaf, PartOf}
+use Rattle.air_windows.specs.declared.errors.AirError.{AirError}
+use Rattle.air_windows.specs.declared.errors.AirError.TheVariants.{Memory}
+use Rattle.air_windows.specs.Errors.{air_error}
+use Rattle.air_builder.specs.Refusals.{IsPastWindow, NamesLeaf, PartOf}
 use Rattle.air_builder.specs.Assertion.{Assertion, Base}
 
 -- an element means a term in a builder: it does in the builder's ring, with what stands at the leaves
@@ -15,6 +15,10 @@ Means means ring_of stands b x t = means (ring_of b) x (with_leaves (stands b) t
 -- the variable at each place of a row means what stands there
 abbrev pub RowStands : {V F : Type 0} → (V → Term F → Type 0) → (ℕ → Term F) → List V → Type 0
 RowStands {V} means at row = (i : ℕ) (v : V) → slice_get row i ≡ Some v → means v (at i)
+
+-- the variable means what stands at the leaf
+abbrev pub VariableStands : {V F : Type 0} → (V → Term F → Type 0) → (Leaf → Term F) → Leaf → V → Type 0
+VariableStands means stands l v = means v (stands l)
 
 -- x - 1
 abbrev pub less_one_term : {F : Type 0} → F → Term F → Term F
@@ -54,6 +58,7 @@ pub record BuilderLaws {S R F : Type 0} (ring_of : S → R) (with_ring : S → R
   pub ready_kept : (a b : S) → kept a b → ready a → ready b
   pub missing_kept : (a b : S) (l : Leaf) → kept a b → missing b l → missing a l
   pub missing_stays : (a b : S) (l : Leaf) → kept a b → missing a l → missing b l
+  pub past_window : (a : S) (o : ℕ) (l : Leaf) → IsPastWindow o l → missing a l
   pub has_first_row : (a : S) → missing a first_row → ⊥
   pub has_last_row : (a : S) → missing a last_row → ⊥
   pub has_transition : (a : S) → missing a transition → ⊥

@@ -2,11 +2,11 @@
 use Rattle.std.specs.Prelude.{◌≡◌, ◌⊎◌, ℕ, List, [], ◌∷◌}
 use Rattle.air_field.specs.Term.{Leaf, Term, permutation, with_leaves}
 use Rattle.air_field.specs.declared.errors.RingError.{RingError}
-use Rattle.air_builder.specs.declared.errors.AirError.{AirError}
-use Rattle.air_builder.specs.declared.errors.AirError.TheVariants.{Memory, NoPermutation}
+use Rattle.air_windows.specs.declared.errors.AirError.{AirError}
+use Rattle.air_windows.specs.declared.errors.AirError.TheVariants.{Memory, NoPermutation}
 use Rattle.air_builder.specs.Assertion.{Assertion, Extension}
 use Rattle.air_builder.specs.Builders.{BuilderLaws}
-use Rattle.air_builder.specs.Errors.{air_error}
+use Rattle.air_windows.specs.Errors.{air_error}
 use Rattle.air_builder.specs.Refusals.{PartOf}
 
 -- the builder grew by the one extension term that the operation makes of what x means
@@ -60,6 +60,7 @@ module _ {S R X B F : Type 0} {base_valid : R → Type 0} {base_extends : R → 
     ready_kept = laws.ready_kept;
     missing_kept = laws.missing_kept;
     missing_stays = laws.missing_stays;
+    past_window = laws.past_window;
     has_first_row = laws.has_first_row;
     has_last_row = laws.has_last_row;
     has_transition = laws.has_transition;

@@ -3,7 +3,7 @@ use Rattle.std.specs.Prelude.{◌≡◌, List, [], ◌∷◌, ◌++◌, map, ref
 use Rattle.std.proofs.Common.{sym, ◌∙◌, ap, subst}
 use Rattle.air_field.specs.Term.{Leaf, Term, leaf_term, with_leaves}
 use Rattle.air_field.specs.declared.errors.RingError.{RingError}
-use Rattle.air_builder.specs.declared.errors.AirError.{AirError}
+use Rattle.air_windows.specs.declared.errors.AirError.{AirError}
 use Rattle.air_field.specs.Algebra.{AlgebraLaws}
 use Rattle.air_builder.specs.Assertion.{Assertion, filtered}
 use Rattle.air_builder.specs.Builders.{Means, BuilderLaws}
@@ -89,6 +89,7 @@ module _ {S R E F : Type 0} {valid : R → Type 0} {has : R → E → Type 0} {m
       ready_kept = λ p q g h. (laws.ready_kept (inner p) (inner q) g.inside h.0, subst (λ x. has (ring_of (inner q)) x) (sym g.same_condition) (has_kept (inner p) (inner q) (condition p) g.inside h.1));
       missing_kept = λ p q l g h. laws.missing_kept (inner p) (inner q) l g.inside h;
       missing_stays = λ p q l g h. laws.missing_stays (inner p) (inner q) l g.inside h;
+      past_window = λ p o l h. laws.past_window (inner p) o l h;
       has_first_row = λ p h. laws.has_first_row (inner p) h;
       has_last_row = λ p h. laws.has_last_row (inner p) h;
       has_transition = λ p h. laws.has_transition (inner p) h;

@@ -4,12 +4,11 @@ pub use Rattle.air_field.specs.Algebra
 pub use Rattle.air_field.specs.Grid
 pub use Rattle.air_variables.specs.Entries
 pub use Rattle.air_variables.specs.ExtEntries
-pub mod Boundary
-pub mod Periodic
+pub use Rattle.air_windows.specs.Boundary
+pub use Rattle.air_windows.specs.Periodic
+pub use Rattle.air_windows.specs.Texts
+pub use Rattle.air_windows.specs.Errors
 pub mod Beside
-pub mod Texts
-pub mod Errors
-pub mod WindowShapes
 pub mod Assertion
 pub mod Refusals
 pub mod Refused
@@ -17,9 +16,7 @@ pub mod Builders
 pub mod Batches
 pub mod Filters
 pub mod Labels
-pub mod Conditions
 pub mod NamedFilters
 pub mod Extensions
 pub mod ExtensionFilters
 pub mod ExtensionLabels
-pub mod ExtensionConditions

@@ -4,7 +4,7 @@ use Rattle.std.proofs.Common.{sym, ◌∙◌, ap, subst}
 use Rattle.air_field.specs.Term.{Leaf, Term}
 use Rattle.air_field.specs.declared.errors.RingError.{RingError}
 use Rattle.air_field.specs.Algebra.{AlgebraLaws}
-use Rattle.air_builder.specs.declared.errors.AirError.{AirError}
+use Rattle.air_windows.specs.declared.errors.AirError.{AirError}
 use Rattle.air_builder.specs.Assertion.{Assertion, filtered}
 use Rattle.air_builder.specs.Builders.{Means, BuilderLaws}
 use Rattle.air_builder.specs.Filters.{KeptInside, GrewInside, map-append, means_kept}

@@ -1,21 +1,28 @@
 -- Where a builder may refuse.
-use Rattle.std.specs.Prelude.{◌≡◌, ◌⊎◌, ◌↔◌, ℕ, List, [], ◌∷◌, map, None, slice_get}
-use Rattle.std.proofs.Common.{inl, inr, refl, subst}
-use Rattle.air_field.specs.Term.{Leaf, permutation, Term, leaf_term, const_term, ext_const_term, add_term, sub_term, neg_term, mul_term}
+use Rattle.std.specs.Prelude.{◌≡◌, ◌<◌, ◌⊎◌, ◌↔◌, ℕ, List, [], ◌∷◌, map, None, slice_get}
+use Rattle.std.proofs.Common.{inl, inr, refl, sym, subst, zero, suc, arith}
+use Rattle.air_field.specs.Term.{Leaf, preprocessed, main, permutation, Term, leaf_term, const_term, ext_const_term, add_term, sub_term, neg_term, mul_term}
+use Rattle.air_field.specs.Assignment.{Shape, IsMissing}
 use Rattle.air_field.specs.Part.{Part, whole, in_add_left, in_add_right, in_sub_left, in_sub_right, in_neg, in_mul_left, in_mul_right}
 use Rattle.air_variables.specs.Entries.{entry_leaf}
 use Rattle.air_variables.specs.ExtEntries.{ext_entry_leaf}
 use Rattle.air_builder.specs.Assertion.{Assertion, Base, Extension, filtered}
-use Rattle.air_builder.specs.declared.errors.AirError.{AirError}
-use Rattle.air_builder.specs.declared.errors.AirError.TheVariants.{MissingEntry, MissingExtEntry, NoPermutation}
+use Rattle.air_windows.specs.declared.errors.AirError.{AirError}
+use Rattle.air_windows.specs.declared.errors.AirError.TheVariants.{MissingEntry, RowOffset, MissingExtEntry, NoPermutation}
 
 -- a column of the permutation trace
 abbrev pub IsPermutation : Leaf → Type 0
 IsPermutation l = (o : ℕ) × (i : ℕ) × (l ≡ permutation o i)
 
--- the error names a leaf; that there is no permutation trace names each of its columns
+-- a column of a row that no window has
+abbrev pub IsPastWindow : ℕ → Leaf → Type 0
+IsPastWindow o l = (1 < o) × (i : ℕ) × ((l ≡ preprocessed o i) ⊎ (l ≡ main o i))
+
+-- the error names a leaf; an offset that no window has names each column of that row, and that there is no permutation
+-- trace each of its columns
 abbrev pub NamesLeaf : AirError → Leaf → Type 0
 NamesLeaf (MissingEntry e i) l = l ≡ entry_leaf e i
+NamesLeaf (RowOffset o) l = IsPastWindow o l
 NamesLeaf (MissingExtEntry e i) l = l ≡ ext_entry_leaf e i
 NamesLeaf NoPermutation l = IsPermutation l
 NamesLeaf _ l = ⊥
@@ -83,3 +90,10 @@ pub PartOf-filtered : {F : Type 0} (c t : Term F) (ts : List (Assertion F)) → 
 PartOf-filtered c t [] p = p
 PartOf-filtered c t (a ∷ rest) (inl p) = inl (part_filtered c t a p)
 PartOf-filtered c t (a ∷ rest) (inr p) = inr (PartOf-filtered c t rest p)
+
+-- a column of a row past the window has no entry, whatever the counts
+pub past_window_missing : (s : Shape) (o : ℕ) (l : Leaf) → IsPastWindow o l → IsMissing s l
+past_window_missing s (suc (suc o)) l (lt, i, inl e) = subst (λ k. IsMissing s k) (sym e) tt
+past_window_missing s (suc (suc o)) l (lt, i, inr e) = subst (λ k. IsMissing s k) (sym e) tt
+past_window_missing s (suc zero) l (lt, i, h) = absurd (omega (arith, lt))
+past_window_missing s zero l (lt, i, h) = absurd (omega (arith, lt))

@@ -7,18 +7,20 @@ use Rattle.air_field.specs.declared.errors.RingError.TheVariants as ring
 use Rattle.air_variables.specs.Entries.{entry_leaf}
 use Rattle.air_variables.specs.ExtEntries.{ext_entry_leaf}
 use Rattle.air_builder.specs.Assertion.{Assertion}
-use Rattle.air_builder.specs.Errors.{air_error}
-use Rattle.air_builder.specs.Refusals.{NamesLeaf, PartOf}
-use Rattle.air_builder.specs.declared.errors.AirError.{AirError}
-use Rattle.air_builder.specs.declared.errors.AirError.TheVariants.{Memory, DegreeOverflow, CountOverflow, MissingEntry, MissingExtEntry, NoPermutation}
+use Rattle.air_windows.specs.Errors.{air_error}
+use Rattle.air_builder.specs.Refusals.{IsPastWindow, NamesLeaf, PartOf}
+use Rattle.air_windows.specs.declared.errors.AirError.{AirError}
+use Rattle.air_windows.specs.declared.errors.AirError.TheVariants.{Memory, DegreeOverflow, CountOverflow, MissingEntry, RowOffset, MissingExtEntry, NoPermutation}
 
 -- memory always; a degree, where a part of the assertions has too great a one; a count that is full; a missing entry
--- that a part names; the permutation trace, where a part names a missing column of it; nothing else
+-- that a part names; an offset that no window has, where a part names a missing column of that row; the permutation
+-- trace, where a part names a missing column of it; nothing else
 abbrev pub Refused : {F : Type 0} → (Leaf → Type 0) → (Term F → Type 0) → (List (Assertion F) → Type 0) → AirError → List (Assertion F) → Type 0
 Refused missing over full Memory ts = Unit {0}
 Refused {F = F} missing over full DegreeOverflow ts = (t : Term F) × (over t × PartOf t ts)
 Refused missing over full CountOverflow ts = full ts
 Refused missing over full (MissingEntry e i) ts = missing (entry_leaf e i) × PartOf (leaf_term (entry_leaf e i)) ts
+Refused missing over full (RowOffset o) ts = (l : Leaf) × IsPastWindow o l × missing l × PartOf (leaf_term l) ts
 Refused missing over full (MissingExtEntry e i) ts = missing (ext_entry_leaf e i) × PartOf (leaf_term (ext_entry_leaf e i)) ts
 Refused missing over full NoPermutation ts = (o : ℕ) × (i : ℕ) × missing (permutation o i) × PartOf (leaf_term (permutation o i)) ts
 Refused missing over full _ ts = ⊥
@@ -38,6 +40,7 @@ module _ {F : Type 0} (missing : Leaf → Type 0) (over : Term F → Type 0) (fu
   Refused-first DegreeOverflow xs ys k h = (h.0, (h.1.0, PartOf-first h.0 xs ys h.1.1))
   Refused-first CountOverflow xs ys k h = k h
   Refused-first (MissingEntry e i) xs ys k h = (h.0, PartOf-first (leaf_term (entry_leaf e i)) xs ys h.1)
+  Refused-first (RowOffset o) xs ys k h = (h.0, h.1, h.2, PartOf-first (leaf_term h.0) xs ys h.3)
   Refused-first (MissingExtEntry e i) xs ys k h = (h.0, PartOf-first (leaf_term (ext_entry_leaf e i)) xs ys h.1)
   Refused-first NoPermutation xs ys k h = (h.0, h.1, h.2, PartOf-first (leaf_term (permutation h.0 h.1)) xs ys h.3)
   Refused-first _ xs ys k h = absurd h
@@ -47,6 +50,7 @@ module _ {F : Type 0} (missing : Leaf → Type 0) (over : Term F → Type 0) (fu
   Refused-then before DegreeOverflow xs ys k h = (h.0, (h.1.0, PartOf-then h.0 xs ys h.1.1))
   Refused-then before CountOverflow xs ys k h = k h
   Refused-then before (MissingEntry e i) xs ys k h = (h.0, PartOf-then (leaf_term (entry_leaf e i)) xs ys h.1)
+  Refused-then before (RowOffset o) xs ys k h = (h.0, h.1, h.2, PartOf-then (leaf_term h.0) xs ys h.3)
   Refused-then before (MissingExtEntry e i) xs ys k h = (h.0, PartOf-then (leaf_term (ext_entry_leaf e i)) xs ys h.1)
   Refused-then before NoPermutation xs ys k h = (h.0, h.1, h.2, PartOf-then (leaf_term (permutation h.0 h.1)) xs ys h.3)
   Refused-then before _ xs ys k h = absurd h
@@ -56,6 +60,7 @@ module _ {F : Type 0} (missing : Leaf → Type 0) (over : Term F → Type 0) (fu
   Refused-missing DegreeOverflow l ts m n p = absurd n
   Refused-missing CountOverflow l ts m n p = absurd n
   Refused-missing (MissingEntry e i) l ts m n p = (subst missing n m, subst (λ k. PartOf (leaf_term k) ts) n p)
+  Refused-missing (RowOffset o) l ts m n p = (l, n, m, p)
   Refused-missing (MissingExtEntry e i) l ts m n p = (subst missing n m, subst (λ k. PartOf (leaf_term k) ts) n p)
   Refused-missing NoPermutation l ts m n p = (n.0, n.1, subst missing n.2 m, subst (λ k. PartOf (leaf_term k) ts) n.2 p)
   Refused-missing _ l ts m n p = absurd n

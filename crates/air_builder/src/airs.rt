@@ -2,4 +2,3 @@
 
 pub mod air;
 pub mod columns;
-pub mod periodic;

@@ -8,8 +8,8 @@ use Rattle.air_field.specs.Grid.{Grid}
 use Rattle.air_field.specs.Assignment.{Shape, IsMissing, trace_shape}
 use Rattle.air_builder.specs.Assertion.{Assertion, Base, Extension}
 use Rattle.air_builder.specs.Refusals.{PartOf, PartOfOne, NoneMissing, none_missing}
-use Rattle.air_builder.specs.declared.errors.AirError.{AirError}
-use Rattle.air_builder.specs.declared.errors.AirError.TheVariants.{Memory, DegreeOverflow, CountOverflow, MissingEntry, MissingExtEntry, NoPermutation, LayoutMainWidth, LayoutPublicValues, LayoutPeriodicColumns}
+use Rattle.air_windows.specs.declared.errors.AirError.{AirError}
+use Rattle.air_windows.specs.declared.errors.AirError.TheVariants.{Memory, DegreeOverflow, CountOverflow, MissingEntry, RowOffset, MissingExtEntry, NoPermutation, LayoutMainWidth, LayoutPublicValues, LayoutPeriodicColumns}
 use Rattle.air_variables.specs.Entries.{entry_leaf}
 use Rattle.air_variables.specs.ExtEntries.{ext_entry_leaf}
 use Rattle.air_report.specs.Report.{plain_trace}
@@ -70,6 +70,7 @@ module _ (F : Type 0) where
   check_refuses g public DegreeOverflow w p h = absurd h.1.0
   check_refuses g public CountOverflow w p h = absurd (omega arith)
   check_refuses g public (MissingEntry e i) w p h = absurd (none_missing_in (trace_shape (plain_trace g public)) w p (entry_leaf e i) h.0 h.1)
+  check_refuses g public (RowOffset o) w p h = absurd (none_missing_in (trace_shape (plain_trace g public)) w p h.0 h.2 h.3)
   check_refuses g public (MissingExtEntry e i) w p h = absurd (none_missing_in (trace_shape (plain_trace g public)) w p (ext_entry_leaf e i) h.0 h.1)
   check_refuses g public NoPermutation w p h = absurd (none_missing_in (trace_shape (plain_trace g public)) w p (permutation h.0 h.1) h.2 h.3)
   check_refuses g public _ w p h = absurd h
@@ -82,6 +83,7 @@ module _ (F : Type 0) where
   degree_part_refuses n Memory b h = refl
   degree_part_refuses n CountOverflow b h = absurd h
   degree_part_refuses n (MissingEntry e i) b h = absurd (none_missing_in (layout_shape (plain_layout 2 3)) refl refl (entry_leaf e i) h.0 h.1)
+  degree_part_refuses n (RowOffset o) b h = absurd (none_missing_in (layout_shape (plain_layout 2 3)) refl refl h.0 h.2 h.3)
   degree_part_refuses n (MissingExtEntry e i) b h = absurd (none_missing_in (layout_shape (plain_layout 2 3)) refl refl (ext_entry_leaf e i) h.0 h.1)
   degree_part_refuses n NoPermutation b h = absurd (none_missing_in (layout_shape (plain_layout 2 3)) refl refl (permutation h.0 h.1) h.2 h.3)
   degree_part_refuses n DegreeOverflow b h = absurd (over n b h.0 h.1.0 h.1.1)

@@ -5,8 +5,7 @@ pub mod Numbers
 pub mod Rows
 pub mod Inputs
 pub mod TextLemmas
-pub mod FibonacciParts
-pub mod FibonacciCells
+pub mod LineEnds
 pub mod FibonacciRefusals
 pub mod Caps
 pub mod Traces

@@ -1,5 +1,5 @@
 -- The lines that are printed.
-use Rattle.std.specs.Prelude.{◌≡◌, ℕ, List, [], ◌∷◌, ◌++◌, length, map, codes, decimal, ◌==◌, if◌then◌else◌, Option, IfSome}
+use Rattle.std.specs.Prelude.{◌≡◌, ◌≢◌, ℕ, All, List, [], ◌∷◌, ◌++◌, length, map, codes, decimal, ◌==◌, if◌then◌else◌, Option, IfSome}
 use Rattle.std.specs.List.{flat_map}
 use Rattle.air_builder.specs.Batches.{Each}
 use Rattle.air_report.specs.FailureTexts.{seen_failure, label_suffix}
@@ -32,11 +32,17 @@ place_of f = (f.0, f.1)
 unfoldable pub place_text : ℕ × ℕ → List ℕ
 place_text p = codes "row " ++ (decimal p.0 ++ (codes ": #" ++ decimal p.1))
 
--- the place of the failure, and behind it what its label shows as: any text, where nothing is said of that
+-- no byte 10
+abbrev pub HasNoLineEnd : List ℕ → Type 0
+HasNoLineEnd text = All (λ byte. byte ≢ 10) text
+
+-- the place of the failure, and behind it what its label shows as: any text without a line end, where nothing more is said
+-- of that
 pub record IsFailureLine (f : ℕ × ℕ × Option (List ℕ)) (line : List ℕ) : Type 0 where
   pub shown : List ℕ
   pub line_is : line ≡ place_text (place_of f) ++ shown
   pub shown_is : IfSome (label_suffix f.2) (λ suffix. shown ≡ suffix)
+  pub one_line : HasNoLineEnd shown
 
 -- the three counts
 unfoldable pub count_lines : Found → List (List ℕ)

@@ -2,7 +2,7 @@
 
 ghost use Rattle.std.specs.Prelude.{◌≡◌, ◌++◌, OnOk, IfOk, IfSome, option_map, string_bytes};
 ghost use Rattle.air_report.specs.FailureTexts.{label_suffix, seen_failure};
-ghost use Rattle.air_check.specs.Texts.{lines_text, count_lines, found, PushesLine, IsFindingsText};
+ghost use Rattle.air_check.specs.Texts.{HasNoLineEnd, lines_text, count_lines, found, PushesLine, IsFindingsText};
 
 use p3_air::{ConstraintFailure, ConstraintReport};
 use std::alloc::{AllocError, Global};
@@ -27,12 +27,20 @@ fn push_counts(text: &mut String, findings: &Findings) -> Result<(), AllocError>
     writeln!(text, "constraints {constraints}")
 }
 
-/// What stands behind a failure's place: nothing, or a space and the label's debug text.
+/// What stands behind a failure's place: nothing, or a space and the label's debug text. A text that would break the
+/// line isn't shown, so that no label can feign a further line.
 fn shown_label(alloc: Global, label: &Option<String>) -> Result<String, AllocError>
-    ensures { IfOk result (λ text. IfSome (label_suffix (option_map string_bytes label.now)) (λ suffix. string_bytes text ≡ suffix)) }
+    ensures one_line { IfOk result (λ text. HasNoLineEnd (string_bytes text)) }
+    ensures shown { IfOk result (λ text. IfSome (label_suffix (option_map string_bytes label.now)) (λ suffix. string_bytes text ≡ suffix)) }
 {
     match label {
-        Some(label) => format!(in alloc; " {label:?}"),
+        Some(label) => {
+            let shown = format!(in alloc; " {label:?}")?;
+            if shown.as_bytes().contains(&b'\n') {
+                return Ok(String::new(alloc));
+            }
+            Ok(shown)
+        }
         None => Ok(String::new(alloc)),
     }
 }

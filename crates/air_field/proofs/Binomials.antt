@@ -1,10 +1,12 @@
 -- reading polynomials of four coefficients
 use Rattle.std.specs.Bool.{Decides}
-use Rattle.std.proofs.Common.{◌≡◌, ◌∷◌, List, [], length, Bool, eqb, take, drop, sym, ◌∙◌, ap}
+use Rattle.std.proofs.Common.{◌≡◌, ◌+◌, ◌*◌, ◌%◌, ◌∷◌, ℕ, List, [], length, Bool, eqb, get_or, take, drop, sym, ◌∙◌, ap, arith}
 use Rattle.std.proofs.lemmas.Slice.Eq.{slice_eq-Decides}
 use Rattle.air_field.specs.FourCoefficients.{by_four}
 use Rattle.air_field.specs.Extension.{IsInBase}
-use Rattle.air_field.specs.Modulo.{class, equal_is, same_value}
+use Rattle.air_field.specs.RingOps.{ops}
+use Rattle.air_field.specs.Coefficients.{dot}
+use Rattle.air_field.specs.Modulo.{class, class-add, baby_bear_add, baby_bear_ring, equal_is, same_value}
 use Rattle.air_field.specs.Binomial.{same_list, constant_polynomial, binomial_over}
 use Rattle.air_field.specs.declared.fields.baby_bear.BabyBear.{BabyBear}
 use Rattle.air_field.specs.declared.fields.binomial.BinomialExtensionField.{BinomialExtensionField}
@@ -32,3 +34,24 @@ pub base_tells : (a : BinomialExtensionField) (r : Bool) (x y z : BabyBear) → 
 base_tells a r x y z hx hy hz e =
     let told : Decides r ((s : BabyBear) × (a.value ≡ (constant_polynomial s).value)) = base_at a.value r x y z a.four (same_value x (class 0) hx) (same_value y (class 0) hy) (same_value z (class 0) hz) e in
     ((λ i. let w : (s : BabyBear) × (a.value ≡ (constant_polynomial s).value) = told.0 i in (w.0, same_list a (constant_polynomial w.0) w.1)), (λ w. told.1 (w.0, ap (λ m. m.value) w.1)))
+
+nested : (w x y z : ℕ) → class (w + x + y + z) ≡ baby_bear_add (class w) (baby_bear_add (class x) (baby_bear_add (class y) (baby_bear_add (class z) (class 0))))
+nested w x y z =
+    ap class {x = w + x + y + z} {y = w + (x + (y + (z + 0)))} (omega arith)
+    ∙ (class-add w (x + (y + (z + 0)))
+    ∙ ap (baby_bear_add (class w)) (class-add x (y + (z + 0))
+    ∙ ap (baby_bear_add (class x)) (class-add y (z + 0)
+    ∙ ap (baby_bear_add (class y)) (class-add z 0))))
+
+abbrev pub product_at : List BabyBear → List BabyBear → ℕ → BabyBear → BabyBear → ℕ
+product_at p q k a b = (get_or p k a).residue * (get_or q k b).residue
+
+-- one reduction of four products is the sum of their classes
+pub dot_reduced : (r : BabyBear) (p q : List BabyBear) (a b c d e f g h : BabyBear) → length p ≡ 4 → length q ≡ 4
+    → r.residue ≡ (product_at p q 0 a e + product_at p q 1 b f + product_at p q 2 c g + product_at p q 3 d h) % 2013265921
+    → r ≡ dot (ops baby_bear_ring) p q
+dot_reduced r p q a b c d e f g h hp hq is =
+    same_value r (class (product_at p q 0 a e + product_at p q 1 b f + product_at p q 2 c g + product_at p q 3 d h)) is
+    ∙ by_four (λ l. class (product_at l q 0 a e + product_at l q 1 b f + product_at l q 2 c g + product_at l q 3 d h) ≡ dot (ops baby_bear_ring) l q) (λ s t u v.
+    by_four (λ m. class (product_at (s ∷ t ∷ u ∷ v ∷ []) m 0 a e + product_at (s ∷ t ∷ u ∷ v ∷ []) m 1 b f + product_at (s ∷ t ∷ u ∷ v ∷ []) m 2 c g + product_at (s ∷ t ∷ u ∷ v ∷ []) m 3 d h) ≡ dot (ops baby_bear_ring) (s ∷ t ∷ u ∷ v ∷ []) m) (λ w x y z.
+    nested (s.residue * w.residue) (t.residue * x.residue) (u.residue * y.residue) (v.residue * z.residue)) q hq) p hp

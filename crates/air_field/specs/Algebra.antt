@@ -1,12 +1,13 @@
 -- What a ring that makes its elements keeps.
-use Rattle.std.specs.Prelude.{◌≡◌, ⊤, refl}
+use Rattle.std.specs.Prelude.{◌≡◌, ⊤, List, refl}
 use Rattle.std.proofs.Common.{ap, ap₂}
 use Rattle.air_field.specs.Ring.{CommRing, minus, Over, itself}
 use Rattle.air_field.specs.Term.{Leaf, Term, leaf_term, const_term, ext_const_term, add_term, sub_term, neg_term, mul_term, with_leaves, IsBase}
 use Rattle.air_field.specs.Value.{value}
 use Rattle.air_field.specs.Part.{Part}
 
--- A ring that makes its elements keeps them and what they mean; what may refuse a part may refuse the whole.
+-- A ring that makes its elements keeps them and what they mean; what may refuse a part may refuse the whole. An element
+-- means some term.
 pub record AlgebraLaws {R E F X : Type 0} (valid : R → Type 0) (has : R → E → Type 0) (means : R → E → Term F → Type 0) (extends : R → R → Type 0) (refuses : X → Term F → Type 0) : Type 0 where
   pub refuses_whole : (e : X) (t u : Term F) → Part t u → refuses e t → refuses e u
   pub same : (p : R) → extends p p
@@ -16,6 +17,7 @@ pub record AlgebraLaws {R E F X : Type 0} (valid : R → Type 0) (has : R → E 
   pub means_stays : (p q : R) (x : E) (t : Term F) → extends p q → means p x t → means q x t
   pub means_has : (p : R) (x : E) (t : Term F) → means p x t → has p x
   pub has_valid : (p : R) (x : E) → has p x → valid p
+  pub means_some : (p : R) (x : E) → has p x → (t : Term F) × means p x t
 
 -- z is an element that means t
 abbrev pub Made : {R E F : Type 0} → (R → E → Type 0) → (R → E → Term F → Type 0) → Term F → R → E → Type 0
@@ -65,9 +67,9 @@ closed_value_in a t = value a (λ _. a.ring.nil) t
 abbrev pub closed_value : {F : Type 0} → CommRing F → Term F → F
 closed_value r t = value (itself r) (λ _. r.nil) t
 
--- a ring without state, whose elements are their values
-pub value_in_laws : {R F E X : Type 0} (a : Over F E) → AlgebraLaws {R = R} {E = E} {F = F} {X = X} (λ _. ⊤) (λ _ _. ⊤) (λ _ x t. closed_value_in a t ≡ x) (λ _ _. ⊤) (λ _ _. ⊥)
-value_in_laws a = record {
+-- a ring without state, whose elements are their values; each is an extension constant
+pub value_in_laws : {R F E X : Type 0} (a : Over F E) (coefficients : E → List F) → ((x : E) → a.extend (coefficients x) ≡ x) → AlgebraLaws {R = R} {E = E} {F = F} {X = X} (λ _. ⊤) (λ _ _. ⊤) (λ _ x t. closed_value_in a t ≡ x) (λ _ _. ⊤) (λ _ _. ⊥)
+value_in_laws a coefficients named = record {
   refuses_whole = λ e t u p h. h;
   same = λ p. tt;
   joined = λ p q s g h. tt;
@@ -76,6 +78,7 @@ value_in_laws a = record {
   means_stays = λ p q x t g h. h;
   means_has = λ p x t h. tt;
   has_valid = λ p x h. tt;
+  means_some = λ p x h. (ext_const_term (coefficients x), named x);
 }
 
 -- the same of base terms alone, whose elements are their values in the ring itself
@@ -89,6 +92,7 @@ value_laws r = record {
   means_stays = λ p q x t g h. h;
   means_has = λ p x t h. tt;
   has_valid = λ p x h. tt;
+  means_some = λ p x h. (const_term x, (tt, refl));
 }
 
 -- a term with its leaves' values put in has the term's value

@@ -21,6 +21,12 @@ abbrev pub poly_mul : {A : Type 0} → RingOps A → List A → List A → List 
 poly_mul R [] q = []
 poly_mul R (x ∷ p) q = poly_add R (poly_scale R x q) (R.nil ∷ poly_mul R p q)
 
+-- the sum of the products of what stands at one place of both lists
+abbrev pub dot : {A : Type 0} → RingOps A → List A → List A → A
+dot R [] q = R.nil
+dot R (x ∷ p) [] = R.nil
+dot R (x ∷ p) (y ∷ q) = R.add (R.mul x y) (dot R p q)
+
 -- the first four coefficients, with w times the further ones added from the front: X^4 is w
 abbrev pub fold_four : {A : Type 0} → RingOps A → A → List A → List A
 fold_four R w (a ∷ b ∷ c ∷ d ∷ p) = poly_add R (a ∷ b ∷ c ∷ d ∷ []) (poly_scale R w p)

@@ -1,10 +1,10 @@
 -- The lists of four coefficients are a commutative ring modulo X^4 - w.
 use Rattle.std.specs.Prelude.{◌≡◌, refl, List, [], ◌∷◌, length}
-use Rattle.std.proofs.Common.{get_or, ◌∙◌, ap₂, arith}
+use Rattle.std.proofs.Common.{get_or, ◌∙◌, ap, ap₂, arith}
 use Rattle.air_field.specs.Ring.{CommRing}
 use Rattle.air_field.specs.RingOps.{RingOps, ops}
 use Rattle.air_field.specs.RingSolver.{Expr, var, unit, nought, expr_ops, vars, ring_list}
-use Rattle.air_field.specs.Coefficients.{poly_add, poly_neg, poly_scale, binomial_mul, constant_four}
+use Rattle.air_field.specs.Coefficients.{poly_add, poly_neg, poly_scale, binomial_mul, constant_four, dot}
 
 -- a fact of every four coefficients holds of every list of length 4
 pub by_four : {A : Type 0} (P : List A → Type 0) → ((a b c d : A) → P (a ∷ b ∷ c ∷ d ∷ [])) → (l : List A) → length l ≡ 4 → P l
@@ -178,3 +178,26 @@ pub four_terms-is : {A : Type 0} (R : CommRing A) (w : A) (p q : List A) (a b c 
     → four_terms (ops R) w a b c d e f g h ≡ binomial_mul (ops R) w p q
 four_terms-is R w p q a b c d e f g h hp hq ha hb hc hd he hf hg hh =
     terms_at R w a b c d e f g h ∙ ap₂ (binomial_mul (ops R) w) (from_reads p a b c d hp ha hb hc hd) (from_reads q e f g h hq he hf hg hh)
+
+-- the product as sums of products with q's coefficients, w times those that X^4 has passed
+abbrev pub four_rows : {A : Type 0} → RingOps A → A → List A → A → A → A → A → List A
+four_rows R w p e f g h =
+    dot R p (e ∷ R.mul w h ∷ R.mul w g ∷ R.mul w f ∷ [])
+    ∷ dot R p (f ∷ e ∷ R.mul w h ∷ R.mul w g ∷ [])
+    ∷ dot R p (g ∷ f ∷ e ∷ R.mul w h ∷ [])
+    ∷ dot R p (h ∷ g ∷ f ∷ e ∷ [])
+    ∷ []
+
+rows_at : {A : Type 0} (R : CommRing A) (w a b c d e f g h : A)
+    → four_rows (ops R) w (a ∷ b ∷ c ∷ d ∷ []) e f g h ≡ binomial_mul (ops R) w (a ∷ b ∷ c ∷ d ∷ []) (e ∷ f ∷ g ∷ h ∷ [])
+rows_at R w a b c d e f g h =
+    ring_list R (a ∷ b ∷ c ∷ d ∷ e ∷ f ∷ g ∷ h ∷ R.nil ∷ R.nil ∷ R.nil ∷ R.nil ∷ w ∷ [])
+    (four_rows expr_ops (var 12) (vars 0 4) (var 4) (var 5) (var 6) (var 7))
+    (wide (vars 0 4) (vars 4 4)) refl
+
+pub four_rows-is : {A : Type 0} (R : CommRing A) (w : A) (p q : List A) (e f g h : A) → length p ≡ 4 → length q ≡ 4
+    → e ≡ get_or q 0 e → f ≡ get_or q 1 f → g ≡ get_or q 2 g → h ≡ get_or q 3 h
+    → four_rows (ops R) w p e f g h ≡ binomial_mul (ops R) w p q
+four_rows-is R w p q e f g h hp hq he hf hg hh =
+    by_four (λ l. four_rows (ops R) w l e f g h ≡ binomial_mul (ops R) w l (e ∷ f ∷ g ∷ h ∷ [])) (λ a b c d. rows_at R w a b c d e f g h) p hp
+    ∙ ap (binomial_mul (ops R) w p) (from_reads q e f g h hq he hf hg hh)

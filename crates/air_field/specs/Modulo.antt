@@ -68,6 +68,10 @@ baby_bear_ring =
       mul_add = λ a b c. same_value _ _ (mul_add_at 2013265921 a.residue b.residue c.residue);
     }
 
+-- the class of a sum is that of the classes
+pub class-add : (m n : ℕ) → class (m + n) ≡ baby_bear_add (class m) (class n)
+class-add m n = same_value _ _ (sym (mod-add-mod m 2013265921 (n % 2013265921) ∙ add-mod-mod m n 2013265921))
+
 -- the image of n is its class
 pub image-class : (n : ℕ) → image baby_bear_ring n ≡ class n
 unfolding image

@@ -7,7 +7,7 @@ use Rattle.air_field.specs.declared.errors.RingError.TheVariants.{Memory, Degree
 use Rattle.air_symbolic.specs.PoolRefusals.{AnswersDegree}
 use Rattle.air_field.specs.Ring.{CommRing, Over, itself}
 use Rattle.air_builder.specs.Assertion.{Assertion}
-use Rattle.air_builder.specs.Errors.{air_error}
+use Rattle.air_windows.specs.Errors.{air_error}
 use Rattle.air_recording.specs.Inferred.{AnswersInferred, DegreeRefuses}
 use Rattle.air_recording.specs.Kinds.{base_terms, ext_terms}
 use Rattle.air_recording.specs.Layouts.{FitsAir}
@@ -64,7 +64,7 @@ refused_right n periods us vs DegreeOverflow h = over_right (trace_weight n peri
 
 -- a refusal of the degree of what is recorded is one that a declared term has
 pub inferred_refused : {F E : Type 0} (r : CommRing F) (over : Over F E) (n : ℕ) (periods : List ℕ) (layout : AirLayout) (width public : ℕ) (us vs : List (Term F)) (ts : List (Assertion F)) (e : RingError) → EachRecords (itself r) us (base_terms ts) → EachRecords over vs (ext_terms ts) → FitsAir layout width public (length periods) → AnswersInferred n periods (us ++ vs) (Err e) → DegreeRefuses n periods layout width public ts (air_error e)
-inferred_refused r over n periods layout width public us vs ts Memory b x f h = absurd h
+inferred_refused r over n periods layout width public us vs ts Memory b x f h = inr (f, tt)
 inferred_refused r over n periods layout width public us vs ts DegreeOverflow b x f h =
     let w = trace_weight n periods in
     let whole = greatest-append w us vs in

@@ -7,7 +7,7 @@ use Rattle.air_field.specs.Assignment.{IsMissing}
 use Rattle.air_field.specs.declared.errors.RingError.{RingError}
 use Rattle.air_field.specs.declared.errors.RingError.TheVariants.{Memory, DegreeOverflow}
 use Rattle.air_builder.specs.Assertion.{Assertion}
-use Rattle.air_builder.specs.declared.errors.AirError.{AirError}
+use Rattle.air_windows.specs.declared.errors.AirError.{AirError}
 use Rattle.air_recording.specs.Bounds.{bound_of, PolynomialsWithin, IsDegreeFor}
 use Rattle.air_recording.specs.Kinds.{base_terms, ext_terms}
 use Rattle.air_recording.specs.Layouts.{layout_shape, FitsAir, LayoutRefuses}
@@ -33,10 +33,11 @@ pub record IsInferred {F E : Type 0} (r : CommRing F) (over : Over F E) (n : ℕ
   pub base_bounded : 2 ≤ n → PolynomialsWithin (itself r) (trace_weight n periods) (bound_of d n) base
   pub bounded : 2 ≤ n → PolynomialsWithin over (trace_weight n periods) (bound_of d n) (base ++ ext)
 
--- the answer is the degree for n rows of these terms; it is refused exactly where their greatest degree passes `usize`
+-- the answer is the degree for n rows of these terms; it is refused where their greatest degree
+-- passes `usize`, and for want of memory
 abbrev pub AnswersInferred : {F : Type 0} → ℕ → List ℕ → List (Term F) → Result ℕ RingError → Type 0
 AnswersInferred n periods us (Ok d) = IsDegreeFor n periods us d
-AnswersInferred n periods us (Err Memory) = ⊥
+AnswersInferred n periods us (Err Memory) = Unit {0}
 AnswersInferred n periods us (Err DegreeOverflow) = 2 ^ 64 ≤ greatest_degree (trace_weight n periods) us
 
 -- It refuses what a recording refuses, and a declared term whose degree over n rows passes `usize`.

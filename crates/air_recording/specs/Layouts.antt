@@ -2,8 +2,8 @@
 use Rattle.std.specs.Prelude.{◌≡◌, ◌≢◌, ℕ, ◌+◌, ◌<◌, ◌≤◌, ◌^◌, List, ◌++◌, All, Option, Some, vec_len, nat_le}
 use Rattle.std.specs.List.{find}
 use Rattle.air_field.specs.Assignment.{Shape}
-use Rattle.air_builder.specs.declared.errors.AirError.{AirError}
-use Rattle.air_builder.specs.declared.errors.AirError.TheVariants.{Memory, CountOverflow, LayoutMainWidth, LayoutPublicValues, LayoutPeriodicColumns, IndexPastTotal}
+use Rattle.air_windows.specs.declared.errors.AirError.{AirError}
+use Rattle.air_windows.specs.declared.errors.AirError.TheVariants.{Memory, CountOverflow, LayoutMainWidth, LayoutPublicValues, LayoutPeriodicColumns, IndexPastTotal}
 use Rattle.air_recording.specs.declared.layouts.air_layout.AirLayout.{AirLayout}
 use Rattle.air_recording.specs.declared.layouts.constraint_layout.ConstraintLayout.{ConstraintLayout}
 

@@ -11,6 +11,7 @@ use Rattle.air_field.specs.declared.errors.RingError.TheVariants.{DegreeOverflow
 use Rattle.air_symbolic.specs.PoolRefusals.{PoolRefuses}
 use Rattle.air_builder.specs.Assertion.{Assertion, Base, Extension}
 use Rattle.air_builder.specs.Builders.{BuilderLaws}
+use Rattle.air_builder.specs.Refusals.{past_window_missing}
 use Rattle.air_builder.specs.Extensions.{ExtensionLaws}
 use Rattle.air_builder.specs.Refused.{Refused, Refused-first, Refused-then, Refused-missing, Refused-ring}
 use Rattle.air_recording.specs.Kinds.{kind_of, base_terms, ext_terms}
@@ -143,6 +144,7 @@ module _ {R Q E X F : Type 0} {valid : R → Type 0} {has : R → E → Type 0} 
       ready_kept = λ a b k h. ready_stays (pool a) (pool b) (fixed a) (fixed b) k h;
       missing_kept = λ a b l k h. subst (λ v. IsMissing v.shape l) k.fixed h;
       missing_stays = λ a b l k h. subst (λ v. IsMissing v.shape l) (sym k.fixed) h;
+      past_window = λ a o l h. past_window_missing (fixed a).shape o l h;
       has_first_row = λ a h. h;
       has_last_row = λ a h. h;
       has_transition = λ a h. h;

@@ -8,9 +8,9 @@ use Rattle.air_field.specs.Grid.{Grid}
 use Rattle.air_field.specs.Ring.{CommRing}
 use Rattle.air_field.specs.Assignment.{selector, row_at, row_or_none, shape_of, trace_shape}
 use Rattle.air_field.specs.OneRow.{no_permutation}
-use Rattle.air_builder.specs.Periodic.{column_at, IsFirstEmpty, RefusesPeriodicRow}
-use Rattle.air_builder.specs.declared.errors.AirError.{AirError}
-use Rattle.air_builder.specs.declared.errors.AirError.TheVariants.{Memory, EmptyPeriodicColumn}
+use Rattle.air_windows.specs.Periodic.{column_at, IsFirstEmpty, RefusesPeriodicRow}
+use Rattle.air_windows.specs.declared.errors.AirError.{AirError}
+use Rattle.air_windows.specs.declared.errors.AirError.TheVariants.{Memory, EmptyPeriodicColumn}
 use Rattle.air_report.specs.Checks.{Fits, RowRefuses}
 use Rattle.air_report.specs.Given.{Given, given_trace, table_grid}
 use Rattle.air_report.specs.Debug.{row_data}

@@ -3,11 +3,11 @@ use Rattle.std.specs.Prelude.{◌≡◌, ◌≢◌, ◌⊎◌, ℕ, ◌+◌, ◌
 use Rattle.air_field.specs.Ring.{CommRing}
 use Rattle.air_field.specs.Assignment.{Trace, trace_shape, row_assignment, IsMissing}
 use Rattle.air_builder.specs.Assertion.{Assertion}
-use Rattle.air_builder.specs.Boundary.{row_of}
+use Rattle.air_windows.specs.Boundary.{row_of}
 use Rattle.air_builder.specs.Refusals.{NoneMissing}
-use Rattle.air_builder.specs.declared.boundary.BoundaryPublic.{BoundaryPublic}
-use Rattle.air_builder.specs.declared.errors.AirError.{AirError}
-use Rattle.air_builder.specs.declared.errors.AirError.TheVariants.{CountOverflow, Memory}
+use Rattle.air_windows.specs.declared.boundary.BoundaryPublic.{BoundaryPublic}
+use Rattle.air_windows.specs.declared.errors.AirError.{AirError}
+use Rattle.air_windows.specs.declared.errors.AirError.TheVariants.{CountOverflow, Memory}
 use Rattle.air_report.specs.Cells.{differing, left_of, ListsCells, IsListedPast, CellsFit, IsCellFault, AgreeBelow, IsFirstDiffering}
 use Rattle.air_report.specs.Debug.{nonzero_from}
 use Rattle.air_report.specs.DebugLaws.{IsFull}

@@ -9,6 +9,7 @@ use Rattle.air_field.specs.Assignment.{IsMissing}
 use Rattle.air_field.specs.OneRow.{one_row_shape}
 use Rattle.air_builder.specs.Assertion.{Assertion}
 use Rattle.air_builder.specs.Builders.{BuilderLaws}
+use Rattle.air_builder.specs.Refusals.{past_window_missing}
 use Rattle.air_builder.specs.Extensions.{ExtensionLaws}
 use Rattle.air_builder.specs.Refused.{Refused, Refused-first, Refused-then, Refused-missing}
 use Rattle.air_report.specs.Report.{failure_place}
@@ -101,6 +102,7 @@ module _ {F E : Type 0} (zero : RowData F E → Assertion F → Bool) where
         ready_kept = λ a b k h. tt;
         missing_kept = λ a b l k h. subst (λ d. RowMissing d l) k h;
         missing_stays = λ a b l k h. subst (λ d. RowMissing d l) (sym k) h;
+        past_window = λ a o l h. past_window_missing (one_row_shape (data_of a).values (data_of a).permutation) o l h;
         has_first_row = λ a h. h;
         has_last_row = λ a h. h;
         has_transition = λ a h. h;

@@ -8,8 +8,8 @@ use Rattle.air_field.specs.Assignment.{trace_shape, IsMissing}
 use Rattle.air_field.specs.Grid.{Grid}
 use Rattle.air_builder.specs.Assertion.{Assertion}
 use Rattle.air_builder.specs.Beside.{nothing_beside}
-use Rattle.air_builder.specs.declared.errors.AirError.{AirError}
-use Rattle.air_builder.specs.declared.errors.AirError.TheVariants.{PreprocessedHeight, PeriodNotPowerOfTwo, PeriodDoesNotDivide, Boundary, EmptyTrace}
+use Rattle.air_windows.specs.declared.errors.AirError.{AirError}
+use Rattle.air_windows.specs.declared.errors.AirError.TheVariants.{PreprocessedHeight, PeriodNotPowerOfTwo, PeriodDoesNotDivide, Boundary, EmptyTrace}
 use Rattle.air_report.specs.Cells.{left_of, cell_place, IsCellFault}
 use Rattle.air_report.specs.Checks.{CheckRefuses, IsReport}
 use Rattle.air_report.specs.Given.{given}

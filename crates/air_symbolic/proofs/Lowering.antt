@@ -13,7 +13,7 @@ use Rattle.air_symbolic.specs.Numbers.{tree_of-whole}
 use Rattle.air_symbolic.specs.ExtLeaves.{BaseNodes, ext_valid, ext_grows, ext_term, ext_reads}
 use Rattle.air_symbolic.specs.ExtPool.{ExtNodes, ext_pool_laws, base_lent_from}
 use Rattle.air_symbolic.specs.declared.pools.expr.SymbolicExpr.{SymbolicExpr}
-use Rattle.air_symbolic.specs.ExtTrees.{HasExtOnly, lowered}
+use Rattle.air_symbolic.specs.ExtTrees.{HasExtOnly, lowered, HasTermOf}
 use Rattle.air_symbolic.specs.declared.leaves.base_leaf.BaseLeaf.{BaseLeaf}
 use Rattle.air_symbolic.specs.declared.leaves.ext_leaf.ExtLeaf.{ExtLeaf}
 use Rattle.air_symbolic.specs.declared.leaves.ext_leaf.ExtLeaf.TheVariants.{Base, ExtVariable, ExtConstant}
@@ -40,6 +40,12 @@ module _ {F EF : Type 0} (r : CommRing F) where
   lowered-term co u (sub_tree t x) h n = cc (lowered-term co u t h.0 (λ e. n (inl e)), lowered-term co u x h.1 (λ e. n (inr e)))
   lowered-term co u (neg_tree t) h n = cc (lowered-term co u t h n)
   lowered-term co u (mul_tree t x) h n = cc (lowered-term co u t h.0 (λ e. n (inl e)), lowered-term co u x h.1 (λ e. n (inr e)))
+
+-- the lowered tree of a number has the number's term
+pub lowered-has-term : {F EF : Type 0} (r : CommRing F) (eq : F → F → Bool) (coefficients : EF → List F) (p : ExtNodes F EF) (i : ℕ) (u : BaseNodes F) (b : ℕ) → IsPool (ext_reads r eq coefficients) p → i < length p.1 → (HasExtOnly (tree_at p i) → ⊥) → HasTree u (lowered p.0 (tree_at p i)) b → HasTermOf coefficients p i u b
+lowered-has-term r eq coefficients p i u b pool here n h =
+    ap (term_of base_term) h.tree
+    ∙ lowered-term r coefficients p.0 (tree_at p i) (tree_of-whole (ext_reads r eq coefficients p.0) p.1 pool.nodes i here) n
 
 -- A number of the base pool keeps its tree.
 HasTree-kept : {F : Type 0} (r : CommRing F) (u v : BaseNodes F) (i : ℕ) (t : Tree (BaseLeaf F)) → ext_grows u v → HasTree u t i → HasTree v t i

@@ -1,13 +1,18 @@
 -- Degrees that pass `usize`.
-use Rattle.std.proofs.Common.{◌≡◌, ℕ, zero, suc, ◌<◌, ◌≤◌, ◌^◌, List, [], ◌∷◌, length, map, get_or, inl, inr, subst, arith, Err}
+use Rattle.std.proofs.Common.{◌≡◌, ◌≢◌, refl, ℕ, zero, suc, ◌<◌, ◌≤◌, ◌^◌, List, [], ◌∷◌, length, map, get_or, inl, inr, subst, arith, Err}
 use Rattle.air_field.specs.declared.errors.RingError.{RingError}
 use Rattle.air_field.specs.declared.errors.RingError.TheVariants.{Memory, DegreeOverflow}
 use Rattle.air_symbolic.specs.PoolRefusals.{AnswersDegree}
 use Rattle.air_symbolic.specs.Weights.{SomeOverflows}
 
-pub refused-degree : (d : ℕ) (e : RingError) → AnswersDegree d (Err e) → 2 ^ 64 ≤ d
-refused-degree d Memory h = absurd h
-refused-degree d DegreeOverflow h = h
+pub refused-degree : (d : ℕ) (e : RingError) → AnswersDegree d (Err e) → e ≢ Memory → 2 ^ 64 ≤ d
+refused-degree d Memory h n = absurd (n refl)
+refused-degree d DegreeOverflow h n = h
+
+-- what refuses an operand's degree refuses the whole's
+pub refused-left : (d n : ℕ) (e : RingError) → d ≤ n → AnswersDegree d (Err e) → AnswersDegree n (Err e)
+refused-left d n Memory b h = tt
+refused-left d n DegreeOverflow b h = omega (arith, b, h)
 
 -- the degree at place i passes
 pub overflows-at : {X : Type 0} (f : X → ℕ) (xs : List X) (i : ℕ) (x : X) → i < length xs → x ≡ get_or xs i x → 2 ^ 64 ≤ f x → SomeOverflows (map f xs)

@@ -22,6 +22,10 @@ module _ {F EF : Type 0} (r : CommRing F) (eq : F → F → Bool) (coefficients 
   abbrev pub ExtGrown : ExtNodes F EF → ExtNodes F EF → Type 0
   ExtGrown p q = Grown ext_grows (ext_reads r eq coefficients) p q
 
+  -- the extension pool has grown wherever its base pool alone has
+  abbrev pub GrowsWithBase : ExtNodes F EF → Type 0
+  GrowsWithBase p = (u : BaseNodes F) → ext_grows p.0 u → ExtGrown p (u, p.1)
+
   -- number i is of the base pool
   pub record BaseHas (p : ExtNodes F EF) (i : ℕ) : Type 0 where
     pub pool : IsPool (ext_reads r eq coefficients) p

@@ -1,9 +1,11 @@
 -- The trees of extension expressions, in which a Base leaf holds a whole base tree.
-use Rattle.std.specs.Prelude.{ℕ, ◌⊎◌}
-use Rattle.air_symbolic.specs.Trees.{Tree, nothing, leaf_tree, add_tree, sub_tree, neg_tree, mul_tree}
-use Rattle.air_symbolic.specs.Pools.{tree_at, HasTree}
-use Rattle.air_symbolic.specs.ExtLeaves.{BaseNodes}
-use Rattle.air_symbolic.specs.ExtPool.{ExtNodes}
+use Rattle.std.specs.Prelude.{◌≡◌, ℕ, ◌⊎◌, Bool, List}
+use Rattle.air_field.specs.Ring.{CommRing}
+use Rattle.air_symbolic.specs.Trees.{Tree, nothing, leaf_tree, add_tree, sub_tree, neg_tree, mul_tree, term_of}
+use Rattle.air_symbolic.specs.Pools.{tree_at, term_at, HasTree}
+use Rattle.air_symbolic.specs.BaseLeaves.{base_reads}
+use Rattle.air_symbolic.specs.ExtLeaves.{BaseNodes, ext_term}
+use Rattle.air_symbolic.specs.ExtPool.{ExtNodes, ExtGrown}
 use Rattle.air_symbolic.specs.declared.leaves.base_leaf.BaseLeaf.{BaseLeaf}
 use Rattle.air_symbolic.specs.declared.leaves.ext_leaf.ExtLeaf.{ExtLeaf}
 use Rattle.air_symbolic.specs.declared.leaves.ext_leaf.ExtLeaf.TheVariants.{Base, ExtVariable, ExtConstant}
@@ -32,6 +34,11 @@ whole_tree u (mul_tree t v) = mul_tree (whole_tree u t) (whole_tree u v)
 -- the tree of number i of an extension pool
 abbrev pub whole_tree_at : {F EF : Type 0} → ExtNodes F EF → ℕ → Tree (WholeLeaf F EF)
 whole_tree_at p i = whole_tree p.0 (tree_at p i)
+
+-- number i has its whole tree in every pool that p has grown to
+abbrev pub KeepsWholeTree : {F EF : Type 0} → CommRing F → (F → F → Bool) → (EF → List F) → ExtNodes F EF → ℕ → Type 0
+KeepsWholeTree {F = F} {EF = EF} r eq coefficients p i =
+    (q : ExtNodes F EF) → ExtGrown r eq coefficients p q → whole_tree_at q i ≡ whole_tree_at p i
 
 -- the leaf is of the extension alone
 abbrev pub IsExtOnly : {F EF : Type 0} → ExtLeaf F EF → Type 0
@@ -67,3 +74,7 @@ lowered u (mul_tree t v) = mul_tree (lowered u t) (lowered u v)
 pub record IsLowered {F EF : Type 0} (old u : BaseNodes F) (t : Tree (ExtLeaf F EF)) (b : ℕ) : Type 0 where
   pub base_only : HasExtOnly t → ⊥
   pub tree : HasTree u (lowered old t) b
+
+-- number b of the base pool u has the term of number i of the extension pool p
+abbrev pub HasTermOf : {F EF : Type 0} → (EF → List F) → ExtNodes F EF → ℕ → BaseNodes F → ℕ → Type 0
+HasTermOf coefficients p i u b = term_at base_reads u b ≡ term_of (ext_term coefficients p.0) (tree_at p i)

@@ -3,7 +3,7 @@ use Rattle.std.proofs.Common.{◌≡◌, ℕ, ◌<◌, List, [], ◌++◌, lengt
 use Rattle.std.proofs.Math.ListN.{length-append}
 use Rattle.air_field.specs.Ring.{CommRing}
 use Rattle.air_field.specs.Term.{Term}
-use Rattle.air_field.specs.Same.{Stands}
+use Rattle.air_field.specs.Same.{Stands, same_refl}
 use Rattle.air_field.specs.Algebra.{AlgebraLaws}
 use Rattle.air_symbolic.specs.Leaves.{Leaves, LeafLaws}
 use Rattle.air_symbolic.specs.Trees.{term_of}
@@ -70,4 +70,5 @@ module _ {U A F : Type 0} (r : CommRing F) (reads : U → Leaves A F) (grows : U
     means_stays = means-kept;
     means_has = λ p x t h. record { pool = h.pool; here = h.here };
     has_valid = λ p x h. h.pool;
+    means_some = λ p x h. (term_at reads p x, record { pool = h.pool; here = h.here; stands = record { same = same_refl; light = λ w. omega arith } });
   }

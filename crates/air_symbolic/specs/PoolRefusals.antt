@@ -13,10 +13,10 @@ abbrev pub PoolRefuses : {F : Type 0} → RingError → Term F → Type 0
 PoolRefuses Memory t = Unit {0}
 PoolRefuses DegreeOverflow t = 2 ^ 64 ≤ degree_by cached_weight t
 
--- the answer is the degree d, and a refusal exactly where d passes `usize`
+-- the answer is the degree d, or want of memory, or a refusal where d passes `usize`
 abbrev pub AnswersDegree : ℕ → Result ℕ RingError → Type 0
 AnswersDegree d (Ok n) = n ≡ d
-AnswersDegree d (Err Memory) = ⊥
+AnswersDegree d (Err Memory) = Unit {0}
 AnswersDegree d (Err DegreeOverflow) = 2 ^ 64 ≤ d
 
 -- a part has a degree that is no greater

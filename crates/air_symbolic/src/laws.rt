@@ -1,18 +1,22 @@
 //! What callers rely on, as the contracts of functions.
 ghost use Rattle.std.specs.Prelude.{◌≡◌, ℕ, ◌<◌, ◌≤◌, List, length, Decides, get_or};
+ghost use Rattle.std.specs.Ordering.{nat_cmp};
 ghost use Rattle.air_field.specs.Ring.{Over, OverLaws};
 ghost use Rattle.air_field.specs.Term.{Leaf, Term};
 ghost use Rattle.air_field.specs.Polynomial.{polynomial, SamePolynomial, HasDegreeAtMost};
 ghost use Rattle.air_field.specs.Degree.{degree_by};
+ghost use Rattle.air_field.specs.Comparison.{IsExactOrder};
 ghost use Rattle.air_symbolic.specs.Pools.{IsPool, PoolMeans, tree_at, term_at};
 ghost use Rattle.air_symbolic.specs.ExtLeaves.{ext_reads};
-ghost use Rattle.air_symbolic.specs.ExtTrees.{whole_tree_at};
+ghost use Rattle.air_symbolic.specs.ExtPool.{GrowsWithBase};
+ghost use Rattle.air_symbolic.specs.ExtTrees.{whole_tree_at, KeepsWholeTree};
 
 use crate::leaves::ext_leaf::ExtLeaf;
 use crate::leaves::sym_leaf::SymLeaf;
 use crate::pools::expr::ExprId;
 use crate::pools::pool::ExprPool;
 use air_field::{ExtensionField, Field};
+use std::cmp::Ordering;
 
 /// Two numbers of a pool are equal exactly where their trees are.
 pub fn is_same_tree<A: SymLeaf>(pool: &ExprPool<A>, x: ExprId<A>, y: ExprId<A>) -> bool
@@ -51,4 +55,33 @@ pub fn degree_is_kept<A: SymLeaf>(_pool: &ExprPool<A>, _x: ExprId<A>)
 /// Where each leaf's polynomial is within the leaf's weight, that of an expression is within its degree.
 pub fn polynomial_is_within_degree<E, A: SymLeaf>(_pool: &ExprPool<A>, _x: ExprId<A>)
     ensures { (a : Over A.F E) (s : Leaf → List E) (w : Leaf → ℕ) → ((l : Leaf) → HasDegreeAtMost a.ring (λ n. get_or (s l) n a.ring.nil) (w l)) → HasDegreeAtMost a.ring (polynomial a s (term_at A.reads _pool.now _x)) (degree_by w (term_at A.reads _pool.now _x)) }
+{}
+
+/// `==` of leaves is true exactly for the same leaf, and `cmp` a total order that answers Equal exactly there.
+pub fn leaf_order<A: SymLeaf>()
+    ensures { IsExactOrder A.eq A.cmp }
+{}
+
+/// How two expressions' numbers compare: as numbers, in a total order, and `==` is true exactly for the same number.
+pub fn id_order<A: SymLeaf>(x: ExprId<A>, y: ExprId<A>) -> Ordering
+    ensures compared { result ≡ nat_cmp x y }
+    ensures by_number { (a b : ℕ) → ⟦<ExprId<A> as Ord>⟧.cmp a b ≡ nat_cmp a b }
+    ensures order { IsExactOrder ⟦<ExprId<A> as PartialEq>⟧.eq ⟦<ExprId<A> as Ord>⟧.cmp }
+{
+    x.cmp(&y)
+}
+
+/// Where the base pool of an extension pool was lent and has grown, the extension pool has grown.
+pub fn pool_grows_with_base<F: Field, EF: ExtensionField<F>>(_pool: &ExprPool<ExtLeaf<F, EF>>)
+    ensures { GrowsWithBase F.ring F.eq EF.coefficients _pool.now }
+{}
+
+/// A number keeps its whole tree, the base trees of its Base leaves with it, while the pool grows.
+pub fn whole_tree_is_kept<F: Field, EF: ExtensionField<F>>(
+    _pool: &ExprPool<ExtLeaf<F, EF>>,
+    _x: ExprId<ExtLeaf<F, EF>>,
+)
+    requires pool { IsPool (ext_reads F.ring F.eq EF.coefficients) _pool.now }
+    requires here { _x < length _pool.now.1 }
+    ensures { KeepsWholeTree F.ring F.eq EF.coefficients _pool.now _x }
 {}

@@ -1,5 +1,5 @@
 -- The constraints of the tests' AIRs over an extension.
-use Rattle.std.specs.Prelude.{ℕ, List, [], ◌∷◌}
+use Rattle.std.specs.Prelude.{List, [], ◌∷◌}
 use Rattle.air_field.specs.Term.{main, permutation, challenge, permutation_value, Term, leaf_term, sub_term, mul_term}
 use Rattle.air_builder.specs.Assertion.{Assertion, Base, Extension}
 
@@ -10,18 +10,6 @@ permuted_term = sub_term (mul_term (leaf_term (permutation 0 0)) (leaf_term (cha
 abbrev pub permuted : {F : Type 0} → List (Assertion F)
 permuted = Extension permuted_term ∷ []
 
--- column i
-abbrev pub column : {F : Type 0} → ℕ → List (Assertion F)
-column i = Base (leaf_term (main 0 i)) ∷ []
-
--- column i of the next row
-abbrev pub next_column : {F : Type 0} → ℕ → List (Assertion F)
-next_column i = Base (leaf_term (main 1 i)) ∷ []
-
 -- column 0, the constraint over the extension, column 1
 abbrev pub mixed : {F : Type 0} → List (Assertion F)
 mixed = Base (leaf_term (main 0 0)) ∷ Extension permuted_term ∷ Base (leaf_term (main 0 1)) ∷ []
-
--- column 0 times column 1
-abbrev pub column_product : {F : Type 0} → List (Assertion F)
-column_product = Base (mul_term (leaf_term (main 0 0)) (leaf_term (main 0 1))) ∷ []

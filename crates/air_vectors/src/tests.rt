@@ -1,25 +1,22 @@
 //! Each public function once, on an AIR of two columns.
-ghost use Rattle.std.specs.Prelude.{◌≡◌, ◌∷◌, [], IfOk, IfErr, OnOk, Some, None};
-ghost use Rattle.air_field.specs.Term.{Term, main, leaf_term, mul_term};
+ghost use Rattle.std.specs.Prelude.{◌∷◌, [], IfOk, None};
+ghost use Rattle.air_field.specs.Term.{main, leaf_term, mul_term};
 ghost use Rattle.air_builder.specs.Assertion.{Base};
-ghost use Rattle.air_builder.specs.Refusals.{NoneMissing};
-ghost use Rattle.air_vectors.specs.TestAirs.{column_product};
 
 mod audits;
 mod checks;
 mod degrees;
 mod extension;
+mod filters;
 mod labels;
 mod layouts;
 mod recordings;
 mod traces;
 
-use crate::tests::degrees::assert_next;
 use air_builder::{Air, AirBuilder, AirError, BaseAir, BoundaryPublic, WindowAccess};
-use air_field::{
-    BabyBear, Field, FromVar, RingError, RowMajorMatrix, RowMajorMatrixView, ViewPair,
-};
+use air_field::{BabyBear, Field, RowMajorMatrix, RowMajorMatrixView, ViewPair};
 use air_symbolic::{BaseEntry, SymbolicVariable};
+use p3_air::author::{Current, Next, Product, Zero, assert_all};
 use p3_air::{
     AirLayout, ConstraintReport, DebugConstraintBuilder, SymbolicAirBuilder, check_all_constraints,
     constraint_degree_from_poly_degree, get_max_constraint_degree, get_symbolic_constraints,
@@ -65,52 +62,10 @@ impl<F: Copy> BaseAir<F> for Products<F> {
     }
 }
 
-/// The entry of a row, or the refusal that names it.
-fn present<T: Copy>(found: Option<T>, entry: BaseEntry, index: usize) -> Result<T, AirError>
-    ensures ok { IfOk result (λ x. found ≡ Some x) }
-    ensures err { IfErr result (λ e. (found ≡ None) × (e ≡ AirError.MissingEntry entry index)) }
-{
-    match found {
-        Some(x) => Ok(x),
-        None => Err(AirError::MissingEntry { entry, index }),
-    }
-}
-
-/// The product of two variables.
-fn product<F: Field, V: Copy, R: FromVar<F, V>>(
-    ring: &mut R,
-    x: V,
-    y: V,
-) -> Result<R::Elem, RingError>
-    requires { R.Algebra.valid ring.old }
-    ensures extended { R.Algebra.extends ring.old ring.new }
-    ensures made { IfOk result (λ z. R.Algebra.has ring.new z × ((s t : Term F) → R.var_means x s → R.var_means y t → R.Algebra.means ring.new z (mul_term s t))) }
-    ensures refused { IfErr result (λ e. (s t : Term F) → R.var_means x s → R.var_means y t → R.Algebra.refuses e (mul_term s t)) }
-{
-    let x = ring.from_var(x)?;
-    let y = ring.from_var(y)?;
-    ring.mul(x, y)
-}
-
-/// Asserts that x y is zero at this row.
-pub fn assert_product<AB: AirBuilder>(builder: &mut AB) -> Result<(), AirError>
-    requires { AB.ready builder.old }
-    ensures keeps { AB.kept builder.old builder.new }
-    ensures ok { OnOk result (AB.grew builder.old builder.new column_product) }
-    ensures there { OnOk result (NoneMissing (AB.missing builder.old) (column_product {F = AB.F})) }
-    ensures refused { IfErr result (λ e. AB.refuses builder.old e column_product) }
-{
-    let main = builder.main()?;
-    let x = present(main.current(0), BaseEntry::Main { offset: 0 }, 0)?;
-    let y = present(main.current(1), BaseEntry::Main { offset: 0 }, 1)?;
-    let product = product(builder.ring(), x, y)?;
-    builder.assert_zero(product)
-}
-
 impl<AB: AirBuilder> Air<AB> for Products<AB::F> {
     fn eval(&self, builder: &mut AB) -> Result<(), AirError> {
-        assert_product(builder)?;
-        assert_next(builder, 0)
+        let product = Zero(Product(Current(0), Current(1)));
+        assert_all(builder, &(product, Zero(Next(0))))
     }
 }
 

@@ -10,6 +10,8 @@ mod ext_bench;
 mod ext_pool;
 mod extension_builders;
 mod fields;
+mod filters;
+mod gadgets;
 mod leaves;
 mod matrices;
 mod names;

@@ -12,10 +12,10 @@ use Rattle.air_symbolic.specs.BaseLeaves.{base_reads}
 use Rattle.air_symbolic.specs.ExtLeaves.{ext_reads}
 use Rattle.air_symbolic.specs.Pools.{term_at}
 use Rattle.air_builder.specs.Assertion.{Assertion, Base, Extension}
-use Rattle.air_builder.specs.Errors.{air_error}
+use Rattle.air_windows.specs.Errors.{air_error}
 use Rattle.air_builder.specs.Refusals.{NoneMissing}
-use Rattle.air_builder.specs.declared.errors.AirError.{AirError}
-use Rattle.air_builder.specs.declared.errors.AirError.TheVariants.{LayoutMainWidth, LayoutPublicValues, LayoutPeriodicColumns}
+use Rattle.air_windows.specs.declared.errors.AirError.{AirError}
+use Rattle.air_windows.specs.declared.errors.AirError.TheVariants.{LayoutMainWidth, LayoutPublicValues, LayoutPeriodicColumns}
 use Rattle.p3_air.specs.Audits.{RecordsEach, IsRecording, IsAudit, AuditRefuses, all_terms, all_failures, weights_of_trace}
 use Rattle.air_recording.specs.Bounds.{bound_of, IsDegreeFor}
 use Rattle.air_report.specs.Cells.{cell_place, differing}

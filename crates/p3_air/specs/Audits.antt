@@ -12,8 +12,8 @@ use Rattle.air_symbolic.specs.Pools.{term_at}
 use Rattle.air_symbolic.specs.declared.pools.expr.SymbolicExpr.{SymbolicExpr}
 use Rattle.air_builder.specs.Assertion.{Assertion, Base, Extension}
 use Rattle.air_builder.specs.Refusals.{NoneMissing}
-use Rattle.air_builder.specs.declared.errors.AirError.{AirError}
-use Rattle.air_builder.specs.declared.errors.AirError.TheVariants.{DegreeOverflow}
+use Rattle.air_windows.specs.declared.errors.AirError.{AirError}
+use Rattle.air_windows.specs.declared.errors.AirError.TheVariants.{DegreeOverflow}
 use Rattle.air_report.specs.Cells.{cell_place, differing}
 use Rattle.air_report.specs.Checks.{IsReport, CheckRefuses}
 use Rattle.air_recording.specs.Bounds.{bound_of, PolynomialsWithin, IsDegreeFor}

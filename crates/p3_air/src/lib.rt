@@ -6,6 +6,7 @@
 #![tactic(auto)]
 
 pub mod audit;
+pub mod author;
 pub mod symbolic;
 
 pub use air_builder::{
@@ -13,7 +14,7 @@ pub use air_builder::{
     BaseAir, BoundaryEnd, BoundaryIoError, BoundaryPublic, Element, EvaluatedJoined,
     ExtensionBuilder, FilteredAirBuilder, Joined, Lazy, Name, NamedAirBuilder,
     NamedExtensionBuilder, Namespace, NamespaceExt, PassthroughNamedAirBuilder,
-    PermutationAirBuilder, RowWindow, TwoRows, WindowAccess, boundary,
+    PermutationAirBuilder, RowWindow, TwoRows, WindowAccess,
 };
 pub use air_field::{
     Algebra, BabyBear, BinomialExtensionField, ExtAlgebra, ExtFieldRing, ExtensionField, Field,
@@ -35,4 +36,5 @@ pub use air_symbolic::{
     SymbolicExpression, SymbolicExpressionExt,
 };
 pub use air_variables::{BaseEntry, ExtEntry, SymbolicVariable, SymbolicVariableExt};
+pub use air_windows::boundary;
 pub use audit::{Audit, audit_air};

@@ -1,18 +1,19 @@
 //! AIRs.
-ghost use Rattle.std.specs.Prelude.{◌≡◌, ℕ, List, None, false, length, IfOk, IfErr, OnOk};
+ghost use Rattle.std.specs.Prelude.{◌≡◌, ℕ, List, None, false, length, IfOk, IfErr, OnOk, OnErr};
 ghost use Rattle.std.specs.List.{range_with_len};
 ghost use Rattle.std.specs.Option.{option_copied};
 ghost use Rattle.air_builder.specs.Assertion.{Assertion};
+ghost use Rattle.air_builder.specs.Batches.{GrewByFirst};
 ghost use Rattle.air_builder.specs.Beside.{Beside, table_width};
-ghost use Rattle.air_builder.specs.Periodic.{MatchPeriodicMatrix, MatchPeriodicValues};
+ghost use Rattle.air_windows.specs.Periodic.{MatchPeriodicMatrix, MatchPeriodicValues};
 ghost use Rattle.air_builder.specs.Refusals.{NoneMissing};
 
 use crate::airs::columns::columns_below;
-use crate::airs::periodic::{periodic_matrix, periodic_row};
-use crate::boundary::BoundaryPublic;
 use crate::builders::air_builder::AirBuilder;
-use crate::errors::AirError;
 use air_field::RowMajorMatrix;
+use air_windows::boundary::BoundaryPublic;
+use air_windows::errors::AirError;
+use air_windows::periodic::{periodic_matrix, periodic_row};
 use std::alloc::Global;
 
 /// What an AIR says of itself. Every answer is a function of the AIR's value, want of memory apart.
@@ -125,12 +126,13 @@ pub trait BaseAir<F: Copy> {
 ///
 /// `eval` keeps the declaration: it answers Ok only after the builder grew by the declared list, and only where no
 /// declared term names an entry that is missing in the builder; it refuses only what the builder may refuse of that
-/// list. A refused `eval` leaves earlier entries and a beginning of its own.
+/// list. A refused `eval` leaves earlier entries and a beginning of its own, which isn't the whole.
 pub trait Air<AB: AirBuilder>: BaseAir<AB::F> {
     fn eval(&self, builder: &mut AB) -> Result<(), AirError>
         requires { AB.ready builder.old }
         ensures ok { OnOk result (AB.grew builder.old builder.new (Self.declared self.now)) }
         ensures there { OnOk result (NoneMissing (AB.missing builder.old) (Self.declared self.now)) }
         ensures keeps { AB.kept builder.old builder.new }
+        ensures err { OnErr result (GrewByFirst AB.grew builder.old builder.new (Self.declared self.now)) }
         ensures refused { IfErr result (λ e. AB.refuses builder.old e (Self.declared self.now)) };
 }

@@ -1,19 +1,19 @@
 //! The interface of builders.
-ghost use Rattle.std.specs.Prelude.{◌≡◌, ◌≤◌, List, [], ◌∷◌, length, All, OnOk, OnErr, IfOk, IfErr, IsOk};
+ghost use Rattle.std.specs.Prelude.{◌≡◌, ◌↔◌, ◌≤◌, List, [], ◌∷◌, None, length, All, OnOk, OnErr, IfOk, IfErr, IfSome, IsOk};
 ghost use Rattle.std.specs.List.{zip};
 ghost use Rattle.std.specs.Borrow.{sem, Lends};
 ghost use Rattle.air_field.specs.Algebra.{MadeOf, RefusedOf, bool_check_term};
 ghost use Rattle.air_field.specs.Term.{Leaf, preprocessed, main, periodic, public, first_row, last_row, transition, Term, leaf_term, const_term, sub_term};
 ghost use Rattle.air_builder.specs.Assertion.{Assertion};
-ghost use Rattle.air_builder.specs.Builders.{Means, MeansOfBoth, RowStands, BuilderLaws, GrewOf, GrewOfBoth, RefusesOf, RefusesOfBoth, less_one_term};
+ghost use Rattle.air_builder.specs.Builders.{Means, MeansOfBoth, RowStands, VariableStands, BuilderLaws, GrewOf, GrewOfBoth, RefusesOf, RefusesOfBoth, less_one_term};
 ghost use Rattle.air_builder.specs.Batches.{AssertsOf, AssertsOfBoth, GrewByEach, GrewByBeginning, RefusesByEach};
 ghost use Rattle.air_builder.specs.Refusals.{RowEnds, RefusesPartOfBoth};
-ghost use Rattle.air_builder.specs.declared.errors.AirError.{AirError};
+ghost use Rattle.air_windows.specs.declared.errors.AirError.{AirError};
 
 use crate::builders::filtered::FilteredAirBuilder;
-use crate::errors::AirError;
-use crate::windows::access::WindowAccess;
 use air_field::{Algebra, Field, FromVar, RingError};
+use air_windows::errors::AirError;
+use air_windows::windows::access::WindowAccess;
 
 /// x - 1
 pub(crate) fn less_one<F: Field, R: Algebra<F>>(
@@ -91,6 +91,12 @@ pub trait AirBuilder {
         ensures next_ends { IfOk result (λ w. RowEnds (missing self.now) (λ i. main 1 i) (Self.MainWindow.next_row w)) }
         ensures refused { IfErr result (λ e. e ≡ AirError.Memory) };
 
+    /// The variable in a column of the main trace, at offset 0 the current row's and at 1 the next one's, if there is
+    /// one. Takes no memory, where a window may.
+    fn main_variable(&self, offset: usize, column: usize) -> Option<Self::Var>
+        ensures found { IfSome result (VariableStands Self.Ring.FromVar-1.var_means (stands self.now) (main offset column)) }
+        ensures none { (result ≡ None) ↔ missing self.now (main offset column) };
+
     /// The window of the preprocessed trace; without one it has no columns.
     fn preprocessed(&self) -> &Self::PreprocessedWindow
         ensures window { Self.PreprocessedWindow.is_window result.now }
@@ -98,6 +104,19 @@ pub trait AirBuilder {
         ensures next { RowStands Self.Ring.FromVar-1.var_means (λ i. stands self.now (preprocessed 1 i)) (Self.PreprocessedWindow.next_row result.now) }
         ensures current_ends { RowEnds (missing self.now) (λ i. preprocessed 0 i) (Self.PreprocessedWindow.current_row result.now) }
         ensures next_ends { RowEnds (missing self.now) (λ i. preprocessed 1 i) (Self.PreprocessedWindow.next_row result.now) };
+
+    /// The variable in a column of the preprocessed trace, at offset 0 the current row's and at 1 the next one's, if
+    /// there is one. Takes no memory.
+    fn preprocessed_variable(&self, offset: usize, column: usize) -> Option<Self::Var>
+        ensures found { IfSome result (VariableStands Self.Ring.FromVar-1.var_means (stands self.now) (preprocessed offset column)) }
+        ensures none { (result ≡ None) ↔ missing self.now (preprocessed offset column) }
+    {
+        match offset {
+            0 => self.preprocessed().current(column),
+            1 => self.preprocessed().next(column),
+            _ => None,
+        }
+    }
 
     /// The public values.
     fn public_values(&self) -> &[Self::PublicVar]
@@ -140,6 +159,22 @@ pub trait AirBuilder {
     {
         prove!(size <= 2);
         self.is_transition()
+    }
+
+    /// x - y in the builder's ring. The builder grew by nothing, also where that is refused.
+    final fn difference(&mut self, x: Self::Expr, y: Self::Expr) -> Result<Self::Expr, AirError>
+    where
+        Self: Sized,
+        requires ready { ready self.old }
+        requires x_in { Self.Ring.has (ring_of self.old) x }
+        requires y_in { Self.Ring.has (ring_of self.old) y }
+        ensures keeps { grew self.old self.new [] }
+        ensures of_ring { IfOk result (λ z. Self.Ring.has (ring_of self.new) z) }
+        ensures made { IfOk result (λ z. MeansOfBoth (Means Self.Ring.means ring_of stands) sub_term self.old self.new x y z) }
+        ensures refused { IfErr result (RefusesPartOfBoth (Means Self.Ring.means ring_of stands) refuses sub_term self.old x y) }
+    {
+        let difference = self.ring().sub(x, y)?;
+        Ok(difference)
     }
 
     /// Asserts that `x` is zero: growth by its one term.
@@ -295,7 +330,8 @@ pub trait AirBuilder {
         self.when(condition)
     }
 
-    /// A filter where `x` and `y` differ: its condition is x - y. A refusal leaves the builder open.
+    /// A filter where `x` and `y` differ: its condition is x - y. A refusal leaves the builder open: where more is to be
+    /// said of it, make the [`difference`](AirBuilder::difference) first and then the filter.
     final fn when_ne(
         &mut self,
         x: Self::Expr,

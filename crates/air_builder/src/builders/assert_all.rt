@@ -7,7 +7,7 @@ ghost use Rattle.air_builder.specs.Batches.{AssertsOf, AssertsOfBoth, GrewByEach
 ghost use Rattle.air_builder.specs.Builders.{Means};
 
 use crate::builders::air_builder::AirBuilder;
-use crate::errors::AirError;
+use air_windows::errors::AirError;
 
 /// Asserts arrays of `N` elements, one after another: growth by a term an element.
 pub trait AssertAll<const N: usize>: AirBuilder {

@@ -5,7 +5,7 @@ ghost use Rattle.air_builder.specs.Builders.{Means};
 ghost use Rattle.air_builder.specs.Extensions.{AssertsExtOf};
 
 use crate::builders::extension::ExtensionBuilder;
-use crate::errors::AirError;
+use air_windows::errors::AirError;
 
 /// Asserts arrays of `N` elements over the extension, one after another: growth by a term an element.
 pub trait AssertAllExt<const N: usize>: ExtensionBuilder {

@@ -4,11 +4,11 @@ ghost use Rattle.air_field.specs.Algebra.{bool_check_term};
 ghost use Rattle.air_builder.specs.Batches.{AssertsOf, GrewByEach, GrewByBeginning, RefusesByEach};
 ghost use Rattle.air_builder.specs.Builders.{Means};
 ghost use Rattle.air_builder.specs.Labels.{LabelledByEach, LabelledByBeginning};
-ghost use Rattle.air_builder.specs.Texts.{ElementSays};
+ghost use Rattle.air_windows.specs.Texts.{ElementSays};
 
 use crate::builders::named::NamedAirBuilder;
-use crate::errors::AirError;
-use crate::names::namespace::Namespace;
+use air_windows::errors::AirError;
+use air_windows::names::namespace::Namespace;
 
 /// Asserts arrays of `N` elements, one after another, the i-th under the name `name::[i]`.
 pub trait AssertAllNamed<const N: usize>: NamedAirBuilder {

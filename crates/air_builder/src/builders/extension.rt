@@ -7,8 +7,8 @@ ghost use Rattle.air_builder.specs.Builders.{Means, less_one_term};
 ghost use Rattle.air_builder.specs.Extensions.{GrewExtOf, GrewExtOfBoth, RefusesExtOf, RefusesExtOfBoth, AssertsExtOf, ExtensionLaws};
 
 use crate::builders::air_builder::{AirBuilder, less_one};
-use crate::errors::AirError;
 use air_field::{Algebra, ExtAlgebra, ExtensionField, FromVar};
+use air_windows::errors::AirError;
 
 /// Receives base and extension constraints. Both kinds stand in one order of places.
 pub trait ExtensionBuilder: AirBuilder {

@@ -6,8 +6,8 @@ use crate::builders::air_builder::AirBuilder;
 use crate::builders::extension::ExtensionBuilder;
 use crate::builders::filtered::FilteredAirBuilder;
 use crate::builders::permutation::PermutationAirBuilder;
-use crate::errors::AirError;
 use air_field::{Algebra, ExtAlgebra, ExtensionField, Field, FromVar, RingError};
+use air_windows::errors::AirError;
 
 /// x times the lifted condition
 pub(crate) fn under_condition<F: Field, EF: ExtensionField<F>, R: ExtAlgebra<F, EF>>(

@@ -4,8 +4,8 @@ ghost use Rattle.air_builder.specs.Builders.{Means};
 ghost use Rattle.air_builder.specs.Filters.{KeptInside, GrewInside, RefusesInside, filter_laws};
 
 use crate::builders::air_builder::AirBuilder;
-use crate::errors::AirError;
 use air_field::Algebra;
+use air_windows::errors::AirError;
 
 /// Asserts where a condition holds.
 pub struct FilteredAirBuilder<'a, AB: AirBuilder> {
@@ -84,8 +84,16 @@ impl<'a, AB: AirBuilder> AirBuilder for FilteredAirBuilder<'a, AB> {
         self.inner.main()
     }
 
+    fn main_variable(&self, offset: usize, column: usize) -> Option<AB::Var> {
+        self.inner.main_variable(offset, column)
+    }
+
     fn preprocessed(&self) -> &AB::PreprocessedWindow {
         self.inner.preprocessed()
+    }
+
+    fn preprocessed_variable(&self, offset: usize, column: usize) -> Option<AB::Var> {
+        self.inner.preprocessed_variable(offset, column)
     }
 
     fn public_values(&self) -> &[AB::PublicVar] {

@@ -5,15 +5,15 @@ ghost use Rattle.air_field.specs.Term.{sub_term};
 ghost use Rattle.air_builder.specs.Batches.{AssertsOf, GrewByEach, GrewByBeginning, RefusesByEach};
 ghost use Rattle.air_builder.specs.Builders.{Means, GrewOf, GrewOfBoth, RefusesOf, RefusesOfBoth, less_one_term};
 ghost use Rattle.air_builder.specs.Labels.{Labelled, LabelledOf, LabelledOfBoth, LabelledByEach, LabelledByBeginning, NamedLaws};
-ghost use Rattle.air_builder.specs.Texts.{ElementSays};
+ghost use Rattle.air_windows.specs.Texts.{ElementSays};
 
 use crate::builders::air_builder::{AirBuilder, less_one};
-use crate::errors::AirError;
-use crate::names::element::Element;
-use crate::names::joined::Joined;
-use crate::names::name::Name;
-use crate::names::namespace::Namespace;
 use air_field::Algebra;
+use air_windows::errors::AirError;
+use air_windows::names::element::Element;
+use air_windows::names::joined::Joined;
+use air_windows::names::name::Name;
+use air_windows::names::namespace::Namespace;
 
 /// Receives constraints with names.
 ///

@@ -5,9 +5,9 @@ ghost use Rattle.air_builder.specs.NamedFilters.{LabelledInside, named_filter_la
 use crate::builders::air_builder::AirBuilder;
 use crate::builders::filtered::FilteredAirBuilder;
 use crate::builders::named::NamedAirBuilder;
-use crate::errors::AirError;
-use crate::names::name::Name;
 use air_field::Algebra;
+use air_windows::errors::AirError;
+use air_windows::names::name::Name;
 
 impl<'a, AB: NamedAirBuilder> NamedAirBuilder for FilteredAirBuilder<'a, AB> {
     ghost labelled = { λ f g ls. LabelledInside AB.kept AB.labelled (Means AB.Ring.means AB.ring_of AB.stands) f.inner.ghost_name g.inner.ghost_name f.condition g.condition f.inner.now g.inner.now ls };

@@ -4,8 +4,8 @@ ghost use Rattle.air_builder.specs.Builders.{Means, GrewOf, RefusesOf};
 ghost use Rattle.air_builder.specs.Labels.{LabelledOf, discarding};
 
 use crate::builders::air_builder::AirBuilder;
-use crate::errors::AirError;
-use crate::names::name::Name;
+use air_windows::errors::AirError;
+use air_windows::names::name::Name;
 
 /// A builder whose named assertions are those without a name: no name is evaluated.
 ///

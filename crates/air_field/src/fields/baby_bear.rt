@@ -1,5 +1,5 @@
 //! The field of the whole numbers modulo 2013265921.
-ghost use Rattle.std.specs.Prelude.{◌≡◌, ◌<◌, ◌%◌};
+ghost use Rattle.std.specs.Prelude.{◌≡◌, ◌<◌, ◌%◌, ◌*◌};
 
 /// A whole number modulo 2013265921, kept below it.
 #[derive(Clone, Copy, PartialEq, Eq, PartialOrd, Ord, Debug)]
@@ -32,6 +32,23 @@ impl BabyBear {
             n - Self::MODULUS
         };
         BabyBear { residue }
+    }
+
+    /// The class of any number.
+    pub(crate) fn reduced(n: u64) -> Self
+        ensures { result.residue ≡ n % 2013265921 }
+    {
+        BabyBear {
+            residue: (n % Self::MODULUS as u64) as u32,
+        }
+    }
+
+    /// The product before its reduction. Four of them have a sum below 2^64.
+    pub(crate) fn unreduced_product(self, other: Self) -> u64
+        ensures product { result ≡ self.residue * other.residue }
+        ensures small { result < 2013265921 * 2013265921 }
+    {
+        self.as_canonical_u64() * other.as_canonical_u64()
     }
 
     /// The number below the modulus.

@@ -44,17 +44,15 @@ impl Field for BabyBear {
     }
 
     fn mul(self, other: Self) -> Self {
-        BabyBear {
-            residue: (self.residue as u64 * other.residue as u64 % BabyBear::MODULUS as u64) as u32,
-        }
+        BabyBear::reduced(self.unreduced_product(other))
     }
 
     fn from_u64(n: u64) -> Self {
-        BabyBear::new((n % BabyBear::MODULUS as u64) as u32)
+        BabyBear::reduced(n)
     }
 
     fn from_bool(b: bool) -> Self {
-        BabyBear::new(b as u32)
+        BabyBear { residue: b as u32 }
     }
 
     ghost zero_is = { refl };

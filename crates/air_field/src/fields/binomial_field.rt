@@ -8,7 +8,7 @@ use crate::fields::baby_bear::BabyBear;
 use crate::fields::binomial::BinomialExtensionField;
 use crate::fields::extension::ExtensionField;
 use crate::fields::field::Field;
-use crate::fields::product::reduced_product;
+use crate::fields::product::dot_product;
 
 impl ExtensionField<BabyBear> for BinomialExtensionField {
     ghost over = { binomial_over };
@@ -74,13 +74,24 @@ impl ExtensionField<BabyBear> for BinomialExtensionField {
         }
     }
 
-    // the product of the polynomials, reduced by X^4 = 11
+    // the product of the polynomials, reduced by X^4 = 11: w1, w2, w3 stand where a power passes X^3
     fn mul(self, other: Self) -> Self
         ensures product { result ≡ binomial_product self other }
         ensures coefficients { IsProductModulo baby_bear_ring (class 11) self.value other.value result.value }
     {
+        let a = self.value;
+        let [b0, b1, b2, b3] = other.value;
+        let eleven = BabyBear { residue: 11 };
+        let w1 = Field::mul(eleven, b1);
+        let w2 = Field::mul(eleven, b2);
+        let w3 = Field::mul(eleven, b3);
         BinomialExtensionField {
-            value: reduced_product(BabyBear::new(11), &self.value, &other.value),
+            value: [
+                dot_product(&a, &[b0, w3, w2, w1]),
+                dot_product(&a, &[b1, b0, w3, w2]),
+                dot_product(&a, &[b2, b1, b0, w3]),
+                dot_product(&a, &[b3, b2, b1, b0]),
+            ],
         }
     }
 

@@ -3,6 +3,7 @@ ghost use Rattle.std.specs.Prelude.{◌≡◌, ⊤, IsTrue};
 ghost use Rattle.air_field.specs.Ring.{minus};
 ghost use Rattle.air_field.specs.Term.{IsBase};
 ghost use Rattle.air_field.specs.Algebra.{closed_value, closed_value_in, value_in_laws};
+ghost use Rattle.air_field.specs.Extension.{extend-coefficients};
 ghost use Rattle.air_field.specs.ExtAlgebra.{values_are_base};
 
 use crate::errors::RingError;
@@ -77,7 +78,7 @@ impl<F: Field, EF: ExtensionField<F>> Algebra<F> for ExtFieldRing<F, EF> {
         Ok(x.mul(y))
     }
 
-    ghost laws = { value_in_laws EF.over };
+    ghost laws = { value_in_laws EF.over EF.coefficients (extend-coefficients F.ring EF.over EF.coefficients EF.DIMENSION EF.ExtensionField.laws) };
 }
 
 impl<F: Field, EF: ExtensionField<F>> FromVar<F, EF> for ExtFieldRing<F, EF> {

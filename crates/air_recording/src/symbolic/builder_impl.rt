@@ -66,6 +66,14 @@ impl<F: Field, EF: ExtensionField<F>> AirBuilder for SymbolicAirBuilder<F, EF> {
         Ok(TwoRows::new(current, next))
     }
 
+    fn main_variable(&self, offset: usize, column: usize) -> Option<SymbolicVariable<F>> {
+        if offset <= 1 && column < self.entries.base.layout.main_width {
+            Some(SymbolicVariable::new(BaseEntry::Main { offset }, column))
+        } else {
+            None
+        }
+    }
+
     fn preprocessed(&self) -> &TwoRows<SymbolicVariable<F>> {
         &self.entries.base.preprocessed
     }

@@ -8,7 +8,7 @@ ghost use Rattle.air_builder.specs.Refused.{Refused};
 ghost use Rattle.air_report.specs.DebugRow.{row_of};
 
 use crate::debug::builder::DebugConstraintBuilder;
-use air_builder::{AirBuilder, AirError, RowWindow};
+use air_builder::{AirBuilder, AirError, RowWindow, WindowAccess};
 use air_field::{Algebra, ExtensionField, Field, FieldRing};
 
 impl<'a, F: Field, EF: ExtensionField<F> + 'static> AirBuilder
@@ -55,8 +55,24 @@ impl<'a, F: Field, EF: ExtensionField<F> + 'static> AirBuilder
         Ok(RowWindow::from_two_rows(self.main.top.values, self.main.bottom.values))
     }
 
+    fn main_variable(&self, offset: usize, column: usize) -> Option<F> {
+        match offset {
+            0 => self.main.top.values.get(column).copied(),
+            1 => self.main.bottom.values.get(column).copied(),
+            _ => None,
+        }
+    }
+
     fn preprocessed(&self) -> &RowWindow<'a, F> {
         &self.preprocessed
+    }
+
+    fn preprocessed_variable(&self, offset: usize, column: usize) -> Option<F> {
+        match offset {
+            0 => self.preprocessed.current(column),
+            1 => self.preprocessed.next(column),
+            _ => None,
+        }
     }
 
     fn public_values(&self) -> &[F] {

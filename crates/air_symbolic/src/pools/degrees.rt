@@ -11,36 +11,28 @@ use crate::pools::pool::ExprPool;
 use crate::pools::weight::{Degrees, LeafWeight};
 use air_field::RingError;
 
-// The degree of a sum.
-fn greater_degree(
-    x: Result<usize, RingError>,
-    y: Result<usize, RingError>,
-) -> Result<usize, RingError>
-    ensures { (a b : ℕ) → AnswersDegree a x → AnswersDegree b y → AnswersDegree (max a b) result }
+// The degree of a sum, the left degree being known.
+fn greater_degree(a: usize, y: Result<usize, RingError>) -> Result<usize, RingError>
+    ensures { (b : ℕ) → AnswersDegree b y → AnswersDegree (max a b) result }
 {
-    match (x, y) {
-        (Ok(a), Ok(b)) => Ok(a.max(b)),
-        (Err(e), _) => Err(e),
-        (_, Err(e)) => Err(e),
+    match y {
+        Ok(b) => Ok(a.max(b)),
+        Err(e) => Err(e),
     }
 }
 
-// The degree of a product.
-fn added_degree(
-    x: Result<usize, RingError>,
-    y: Result<usize, RingError>,
-) -> Result<usize, RingError>
-    ensures { (a b : ℕ) → AnswersDegree a x → AnswersDegree b y → AnswersDegree (a + b) result }
+// The degree of a product, the left degree being known.
+fn added_degree(a: usize, y: Result<usize, RingError>) -> Result<usize, RingError>
+    ensures { (b : ℕ) → AnswersDegree b y → AnswersDegree (a + b) result }
 {
-    match (x, y) {
-        (Ok(a), Ok(b)) => a.checked_add(b).ok_or(RingError::DegreeOverflow),
-        (Err(e), _) => Err(e),
-        (_, Err(e)) => Err(e),
+    match y {
+        Ok(b) => a.checked_add(b).ok_or(RingError::DegreeOverflow),
+        Err(e) => Err(e),
     }
 }
 
 impl<A: SymLeaf> ExprPool<A> {
-    // The degree by the leaves' weights.
+    // The degree by the leaves' weights. What the left operand is refused for is answered before the right is walked.
     fn degree_with(&self, id: ExprId<A>, weight: LeafWeight<'_>) -> Result<usize, RingError>
         requires pool { IsPool A.reads self.now }
         requires here { id < length self.now.1 }
@@ -49,20 +41,35 @@ impl<A: SymLeaf> ExprPool<A> {
         match self.node(id) {
             SymbolicExpr::Leaf(a) => weight.degree_of(*a, &self.under),
             SymbolicExpr::Add { x, y, .. } => {
-                greater_degree(self.degree_with(*x, weight), self.degree_with(*y, weight))
+                let left = self.degree_with(*x, weight)?;
+                greater_degree(left, self.degree_with(*y, weight))
             }
             SymbolicExpr::Sub { x, y, .. } => {
-                greater_degree(self.degree_with(*x, weight), self.degree_with(*y, weight))
+                let left = self.degree_with(*x, weight)?;
+                greater_degree(left, self.degree_with(*y, weight))
             }
             SymbolicExpr::Neg { x, .. } => self.degree_with(*x, weight),
             SymbolicExpr::Mul { x, y, .. } => {
-                added_degree(self.degree_with(*x, weight), self.degree_with(*y, weight))
+                let left = self.degree_with(*x, weight)?;
+                added_degree(left, self.degree_with(*y, weight))
             }
         }
     }
 
+    // The same, where the cached degree is read from the node and nothing is walked.
+    fn root_degree(&self, id: ExprId<A>, weight: LeafWeight<'_>) -> Result<usize, RingError>
+        requires pool { IsPool A.reads self.now }
+        requires here { id < length self.now.1 }
+        ensures { AnswersDegree (degree_by (leaf_weight weight.entry) (term_at A.reads self.now id)) result }
+    {
+        match weight {
+            LeafWeight::Cached => Ok(self.degree_multiple(id)),
+            _ => self.degree_with(id, weight),
+        }
+    }
+
     /// The cached degree with the weight `weight` for the transition selector; it is refused with `DegreeOverflow`
-    /// exactly where it passes `usize`. No memory is taken.
+    /// only where it passes `usize`, and otherwise only for want of memory.
     pub fn degree_multiple_with_transition(
         &self,
         id: ExprId<A>,
@@ -76,7 +83,8 @@ impl<A: SymLeaf> ExprPool<A> {
     }
 
     /// The degree of the expression's polynomial over `trace_len` rows; `periods` holds the lengths of the periodic
-    /// columns. It is refused with `DegreeOverflow` exactly where it passes `usize`. No memory is taken.
+    /// columns. It is refused with `DegreeOverflow` only where it passes `usize`, and otherwise only for want of
+    /// memory.
     pub fn poly_degree(
         &self,
         id: ExprId<A>,
@@ -100,7 +108,7 @@ impl<A: SymLeaf> ExprPool<A> {
     {
         let mut values = Vec::new(*self.nodes.allocator());
         for root in roots {
-            let degree = self.degree_with(*root, weight)?;
+            let degree = self.root_degree(*root, weight)?;
             values.push(degree)?;
         }
         Ok(Degrees { values })

@@ -1,7 +1,8 @@
 //! Extension expressions that are base expressions.
 ghost use Rattle.std.specs.Prelude.{◌≡◌, ◌<◌, length, IfOk, IfErr, MatchOption, Decides};
+ghost use Rattle.std.specs.Option.{IfSome};
 ghost use Rattle.air_symbolic.specs.ExtLeaves.{ext_reads, ext_grows};
-ghost use Rattle.air_symbolic.specs.ExtTrees.{HasExtOnly, lowered, IsLowered};
+ghost use Rattle.air_symbolic.specs.ExtTrees.{HasExtOnly, lowered, IsLowered, HasTermOf};
 ghost use Rattle.air_symbolic.specs.Pools.{IsPool, Grown, HasTree, tree_at};
 
 use crate::leaves::base_leaf::BaseLeaf;
@@ -67,7 +68,7 @@ impl<F: Field, EF: ExtensionField<F>> ExprPool<ExtLeaf<F, EF>> {
         }
     }
 
-    /// The base expression with the same tree, not folded; None exactly where a leaf of the extension alone occurs.
+    /// The base expression with the same tree, not folded, and so with the same term; None exactly where a leaf of the extension alone occurs.
     pub fn to_base(
         &mut self,
         id: ExprId<ExtLeaf<F, EF>>,
@@ -77,6 +78,7 @@ impl<F: Field, EF: ExtensionField<F>> ExprPool<ExtLeaf<F, EF>> {
         ensures same_nodes { self.new.1 ≡ self.old.1 }
         ensures grown { Grown ext_grows (ext_reads F.ring F.eq EF.coefficients) self.old self.new }
         ensures made { IfOk result (λ b. MatchOption b (HasExtOnly (tree_at self.old id)) (IsLowered self.old.0 self.new.0 (tree_at self.old id))) }
+        ensures term { IfOk result (λ b. IfSome b (HasTermOf EF.coefficients self.old id self.new.0)) }
         ensures refused { IfErr result (λ e. e ≡ RingError.Memory) }
     {
         if self.has_ext_only(id) {

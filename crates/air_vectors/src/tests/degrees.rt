@@ -1,17 +1,14 @@
 //! Inferred degrees: selectors, periodic columns and short traces.
-ghost use Rattle.std.specs.Prelude.{◌≡◌, ◌∷◌, [], IfOk, IfErr, OnOk, None};
-ghost use Rattle.air_field.specs.Term.{Term, main, periodic, transition, leaf_term, mul_term};
+ghost use Rattle.std.specs.Prelude.{◌∷◌, [], None};
+ghost use Rattle.air_field.specs.Term.{main, periodic, transition, leaf_term, mul_term};
 ghost use Rattle.air_builder.specs.Assertion.{Base};
 ghost use Rattle.air_builder.specs.Beside.{nothing_beside};
-ghost use Rattle.air_builder.specs.Refusals.{NoneMissing};
-ghost use Rattle.air_vectors.specs.TestAirs.{next_column, column_product};
 
 use crate::tests::checks::no_tables;
-use crate::tests::extension::{assert_column, element};
-use crate::tests::{assert_product, columns, inferred, present, product};
-use air_builder::{Air, AirBuilder, AirError, BaseAir, BoundaryPublic, WindowAccess};
-use air_field::{Algebra, Field, FromVar, RingError, RowMajorMatrix};
-use air_symbolic::BaseEntry;
+use crate::tests::{columns, inferred};
+use air_builder::{Air, AirBuilder, AirError, BaseAir, BoundaryPublic};
+use air_field::RowMajorMatrix;
+use p3_air::author::{Current, Next, Periodic, Product, Square, Transition, Zero, assert_all};
 use std::test::Fail;
 
 /// One column x: the transition selector twice times x is zero.
@@ -47,30 +44,9 @@ impl<F: Copy> BaseAir<F> for Steps {
     }
 }
 
-/// The square of an element times a variable.
-fn square_times<F: Field, V: Copy, R: FromVar<F, V>>(
-    ring: &mut R,
-    step: R::Elem,
-    x: V,
-) -> Result<R::Elem, RingError>
-    requires valid { R.Algebra.valid ring.old }
-    requires step_in { R.Algebra.has ring.old step }
-    ensures extended { R.Algebra.extends ring.old ring.new }
-    ensures made { IfOk result (λ z. R.Algebra.has ring.new z × ((s t : Term F) → R.Algebra.means ring.old step s → R.var_means x t → R.Algebra.means ring.new z (mul_term (mul_term s s) t))) }
-    ensures refused { IfErr result (λ e. (s t : Term F) → R.Algebra.means ring.old step s → R.var_means x t → R.Algebra.refuses e (mul_term (mul_term s s) t)) }
-{
-    let square = ring.mul(step, step)?;
-    let x = ring.from_var(x)?;
-    ring.mul(square, x)
-}
-
 impl<AB: AirBuilder> Air<AB> for Steps {
     fn eval(&self, builder: &mut AB) -> Result<(), AirError> {
-        let step = builder.is_transition()?;
-        let main = builder.main()?;
-        let x = present(main.current(0), BaseEntry::Main { offset: 0 }, 0)?;
-        let value = square_times(builder.ring(), step, x)?;
-        builder.assert_zero(value)
+        assert_all(builder, &Zero(Product(Square(Transition), Current(0))))
     }
 }
 
@@ -112,11 +88,7 @@ impl<F: Copy> BaseAir<F> for Cycles<F> {
 
 impl<AB: AirBuilder> Air<AB> for Cycles<AB::F> {
     fn eval(&self, builder: &mut AB) -> Result<(), AirError> {
-        let values = builder.periodic_values();
-        let x = present(element(values, 0), BaseEntry::Periodic, 0)?;
-        let y = present(element(values, 1), BaseEntry::Periodic, 1)?;
-        let product = product(builder.ring(), x, y)?;
-        builder.assert_zero(product)
+        assert_all(builder, &Zero(Product(Periodic(0), Periodic(1))))
     }
 }
 
@@ -153,25 +125,9 @@ impl<F: Copy> BaseAir<F> for Wide {
     }
 }
 
-/// Asserts that the next row's column is zero.
-pub fn assert_next<AB: AirBuilder>(builder: &mut AB, index: usize) -> Result<(), AirError>
-    requires { AB.ready builder.old }
-    ensures keeps { AB.kept builder.old builder.new }
-    ensures ok { OnOk result (AB.grew builder.old builder.new (next_column index)) }
-    ensures there { OnOk result (NoneMissing (AB.missing builder.old) (next_column {F = AB.F} index)) }
-    ensures refused { IfErr result (λ e. AB.refuses builder.old e (next_column index)) }
-{
-    let main = builder.main()?;
-    let x = present(main.next(index), BaseEntry::Main { offset: 1 }, index)?;
-    let value = builder.ring().from_var(x)?;
-    builder.assert_zero(value)
-}
-
 impl<AB: AirBuilder> Air<AB> for Wide {
     fn eval(&self, builder: &mut AB) -> Result<(), AirError> {
-        assert_column(builder, 0)?;
-        assert_next(builder, 1)?;
-        assert_next(builder, 2)
+        assert_all(builder, &(Zero(Current(0)), Zero(Next(1)), Zero(Next(2))))
     }
 }
 
@@ -179,7 +135,7 @@ impl<AB: AirBuilder> Air<AB> for Wide {
 struct Alone {}
 
 impl<F: Copy> BaseAir<F> for Alone {
-    ghost declared = { λ _. column_product };
+    ghost declared = { λ _. Base (mul_term (leaf_term (main 0 0)) (leaf_term (main 0 1))) ∷ [] };
 
     ghost width = { λ _. 2 };
 
@@ -210,7 +166,7 @@ impl<F: Copy> BaseAir<F> for Alone {
 
 impl<AB: AirBuilder> Air<AB> for Alone {
     fn eval(&self, builder: &mut AB) -> Result<(), AirError> {
-        assert_product(builder)
+        assert_all(builder, &Zero(Product(Current(0), Current(1))))
     }
 }
 

@@ -1,16 +1,15 @@
 //! One row with permutation data, and AIRs with constraints over the extension.
-ghost use Rattle.std.specs.Prelude.{◌≡◌, IfOk, IfErr, OnOk, Some, None, slice_get};
-ghost use Rattle.air_field.specs.Term.{permutation, challenge, permutation_value, Term, sub_term, mul_term};
 ghost use Rattle.air_builder.specs.Beside.{nothing_beside};
-ghost use Rattle.air_builder.specs.Refusals.{NoneMissing};
-ghost use Rattle.air_vectors.specs.TestAirs.{permuted, column, mixed};
+ghost use Rattle.air_vectors.specs.TestAirs.{permuted, mixed};
 
-use crate::tests::present;
 use air_field::{
-    Algebra, BabyBear, BinomialExtensionField, ExtensionField, Field, FromVar, RingError,
-    RowMajorMatrix, RowMajorMatrixView, ViewPair,
+    BabyBear, BinomialExtensionField, ExtensionField, Field, FromVar, RowMajorMatrix,
+    RowMajorMatrixView, ViewPair,
 };
-use air_symbolic::BaseEntry;
+use p3_air::author::{
+    Challenge, Current, Difference, ExtZero, PermutationCurrent, PermutationValue, Product, Zero,
+    assert_all,
+};
 use p3_air::{
     Air, AirBuilder, AirError, BaseAir, BoundaryPublic, DebugConstraintBuilder, ExtEntry,
     ExtensionBuilder, NamedExtensionBuilder, PermutationAirBuilder, WindowAccess,
@@ -86,110 +85,13 @@ impl<F: Copy> BaseAir<F> for Mixed {
     }
 }
 
-/// The entry over the extension, or the refusal that names it.
-fn present_ext<T: Copy>(found: Option<T>, entry: ExtEntry, index: usize) -> Result<T, AirError>
-    ensures ok { IfOk result (λ x. found ≡ Some x) }
-    ensures err { IfErr result (λ e. (found ≡ None) × (e ≡ AirError.MissingExtEntry entry index)) }
-{
-    match found {
-        Some(x) => Ok(x),
-        None => Err(AirError::MissingExtEntry { entry, index }),
-    }
-}
-
-/// The element of this index, if there is one.
-pub fn element<T: Copy>(row: &[T], index: usize) -> Option<T>
-    ensures { result ≡ slice_get row.now index }
-{
-    row.get(index).copied()
-}
-
-/// The variables of the constraint over the extension.
-#[derive(Clone, Copy)]
-struct Variables<V, W, X> {
-    column: V,
-    challenge: W,
-    value: X,
-}
-
-fn read_variables<AB: PermutationAirBuilder>(
-    builder: &AB,
-) -> Result<Variables<AB::VarEF, AB::RandomVar, AB::PermutationVar>, AirError>
-where
-    AB::ExtRing: FromVar<AB::F, AB::RandomVar> + FromVar<AB::F, AB::PermutationVar>,
-    ensures column { IfOk result (λ v. AB.ExtRing.FromVar-1.var_means v.column (AB.stands builder.now (permutation 0 0))) }
-    ensures challenge { IfOk result (λ v. AB.ExtRing.FromVar-2.var_means v.challenge (AB.stands builder.now (challenge 0))) }
-    ensures value { IfOk result (λ v. AB.ExtRing.FromVar-3.var_means v.value (AB.stands builder.now (permutation_value 0))) }
-    ensures there { OnOk result (NoneMissing (AB.missing builder.now) (permuted {F = AB.F})) }
-    ensures refused { IfErr result (λ e. AB.refuses builder.now e permuted) }
-{
-    let window = builder.permutation()?;
-    let column = present_ext(window.current(0), ExtEntry::Permutation { offset: 0 }, 0)?;
-    let challenges = builder.permutation_randomness();
-    let challenge = present_ext(element(challenges, 0), ExtEntry::Challenge, 0)?;
-    let values = builder.permutation_values();
-    let value = present_ext(element(values, 0), ExtEntry::PermutationValue, 0)?;
-    Ok(Variables {
-        column,
-        challenge,
-        value,
-    })
-}
-
-/// The product of the first two variables, less the third.
-fn product_less<
-    F: Field,
-    V: Copy,
-    W: Copy,
-    X: Copy,
-    R: FromVar<F, V> + FromVar<F, W> + FromVar<F, X>,
->(ring: &mut R, variables: Variables<V, W, X>) -> Result<R::Elem, RingError>
-    requires { R.Algebra.valid ring.old }
-    ensures extended { R.Algebra.extends ring.old ring.new }
-    ensures made { IfOk result (λ z. R.Algebra.has ring.new z × ((s t u : Term F) → R.FromVar-1.var_means variables.column s → R.FromVar-2.var_means variables.challenge t → R.FromVar-3.var_means variables.value u → R.Algebra.means ring.new z (sub_term (mul_term s t) u))) }
-    ensures refused { IfErr result (λ e. (s t u : Term F) → R.FromVar-1.var_means variables.column s → R.FromVar-2.var_means variables.challenge t → R.FromVar-3.var_means variables.value u → R.Algebra.refuses e (sub_term (mul_term s t) u)) }
-{
-    let column = ring.from_var(variables.column)?;
-    let challenge = ring.from_var(variables.challenge)?;
-    let product = ring.mul(column, challenge)?;
-    let value = ring.from_var(variables.value)?;
-    ring.sub(product, value)
-}
-
-fn assert_permuted<AB: PermutationAirBuilder>(builder: &mut AB) -> Result<(), AirError>
-where
-    AB::ExtRing: FromVar<AB::F, AB::RandomVar> + FromVar<AB::F, AB::PermutationVar>,
-    requires { AB.ready builder.old }
-    ensures keeps { AB.kept builder.old builder.new }
-    ensures ok { OnOk result (AB.grew builder.old builder.new permuted) }
-    ensures there { OnOk result (NoneMissing (AB.missing builder.old) (permuted {F = AB.F})) }
-    ensures refused { IfErr result (λ e. AB.refuses builder.old e permuted) }
-{
-    let variables = read_variables(builder)?;
-    let x = product_less(builder.ext_ring(), variables)?;
-    builder.assert_zero_ext(x)
-}
-
-/// Asserts that this row's column is zero.
-pub fn assert_column<AB: AirBuilder>(builder: &mut AB, index: usize) -> Result<(), AirError>
-    requires { AB.ready builder.old }
-    ensures keeps { AB.kept builder.old builder.new }
-    ensures ok { OnOk result (AB.grew builder.old builder.new (column index)) }
-    ensures there { OnOk result (NoneMissing (AB.missing builder.old) (column {F = AB.F} index)) }
-    ensures refused { IfErr result (λ e. AB.refuses builder.old e (column index)) }
-{
-    let main = builder.main()?;
-    let x = present(main.current(index), BaseEntry::Main { offset: 0 }, index)?;
-    let value = builder.ring().from_var(x)?;
-    builder.assert_zero(value)
-}
-
 impl<AB: PermutationAirBuilder> Air<AB> for Permuted
 where
     AB::ExtRing: FromVar<AB::F, AB::RandomVar> + FromVar<AB::F, AB::PermutationVar>,
 {
     fn eval(&self, builder: &mut AB) -> Result<(), AirError> {
-        assert_permuted(builder)
+        let product = Product(PermutationCurrent(0), Challenge(0));
+        assert_all(builder, &ExtZero(Difference(product, PermutationValue(0))))
     }
 }
 
@@ -198,9 +100,9 @@ where
     AB::ExtRing: FromVar<AB::F, AB::RandomVar> + FromVar<AB::F, AB::PermutationVar>,
 {
     fn eval(&self, builder: &mut AB) -> Result<(), AirError> {
-        assert_column(builder, 0)?;
-        assert_permuted(builder)?;
-        assert_column(builder, 1)
+        let product = Product(PermutationCurrent(0), Challenge(0));
+        let permuted = ExtZero(Difference(product, PermutationValue(0)));
+        assert_all(builder, &(Zero(Current(0)), permuted, Zero(Current(1))))
     }
 }
 

@@ -1,9 +1,9 @@
 //! Labels of failures, their texts, and filters over the debug builder.
-use crate::tests::recording_builder;
-use air_builder::builders::under::{
+use crate::tests::filters::{
     assert_zero_named_under, assert_zero_named_under_both, assert_zero_under,
     assert_zero_under_both,
 };
+use crate::tests::recording_builder;
 use air_field::{BabyBear, Field, RowMajorMatrixView, ViewPair};
 use p3_air::{
     AirBuilder, AirBuilderWithContext, AirError, AirLayout, AssertAllNamed, ConstraintFailure,

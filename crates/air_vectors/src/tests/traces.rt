@@ -1,14 +1,13 @@
 //! Checks of AIRs whose constraints read a periodic column, or the next row of a preprocessed table.
-ghost use Rattle.std.specs.Prelude.{◌≡◌, [], ◌∷◌, None, Some, OnOk, IfErr};
+ghost use Rattle.std.specs.Prelude.{[], ◌∷◌, None, Some};
 ghost use Rattle.air_field.specs.Term.{periodic, preprocessed, leaf_term};
 ghost use Rattle.air_builder.specs.Assertion.{Base};
-ghost use Rattle.air_builder.specs.Refusals.{NoneMissing};
 
-use crate::tests::extension::element;
-use crate::tests::{matrix, present};
-use air_builder::{Air, AirBuilder, AirError, BaseAir, BoundaryPublic, WindowAccess};
-use air_field::{BabyBear, FromVar, RowMajorMatrix};
+use crate::tests::matrix;
+use air_builder::{Air, AirError, BaseAir, BoundaryPublic};
+use air_field::{BabyBear, RowMajorMatrix};
 use air_symbolic::BaseEntry;
+use p3_air::author::{Periodic, PreprocessedNext, Zero, assert_all};
 use p3_air::{
     CheckError, ConstraintFailure, ConstraintReport, DebugConstraintBuilder, check_all_constraints,
     check_constraints,
@@ -16,42 +15,6 @@ use p3_air::{
 use std::alloc::Global;
 use std::process::Abort;
 use std::test::Fail;
-
-/// Asserts that periodic column 0 is zero.
-fn assert_period<AB: AirBuilder>(builder: &mut AB) -> Result<(), AirError>
-    requires { AB.ready builder.old }
-    ensures ok { OnOk result (AB.grew builder.old builder.new (Base (leaf_term (periodic 0)) ∷ [])) }
-    ensures there { OnOk result (NoneMissing {F = AB.F} (AB.missing builder.old) (Base (leaf_term (periodic 0)) ∷ [])) }
-    ensures keeps { AB.kept builder.old builder.new }
-    ensures refused { IfErr result (λ e. AB.refuses builder.old e (Base (leaf_term (periodic 0)) ∷ [])) }
-{
-    let value = present(
-        element(builder.periodic_values(), 0),
-        BaseEntry::Periodic,
-        0,
-    )?;
-    let x = builder.ring().from_var(value)?;
-    builder.assert_zero(x)?;
-    Ok(())
-}
-
-/// Asserts that the next row's preprocessed column 0 is zero.
-fn assert_next_of_table<AB: AirBuilder>(builder: &mut AB) -> Result<(), AirError>
-    requires { AB.ready builder.old }
-    ensures ok { OnOk result (AB.grew builder.old builder.new (Base (leaf_term (preprocessed 1 0)) ∷ [])) }
-    ensures there { OnOk result (NoneMissing {F = AB.F} (AB.missing builder.old) (Base (leaf_term (preprocessed 1 0)) ∷ [])) }
-    ensures keeps { AB.kept builder.old builder.new }
-    ensures refused { IfErr result (λ e. AB.refuses builder.old e (Base (leaf_term (preprocessed 1 0)) ∷ [])) }
-{
-    let value = present(
-        builder.preprocessed().next(0),
-        BaseEntry::Preprocessed { offset: 1 },
-        0,
-    )?;
-    let x = builder.ring().from_var(value)?;
-    builder.assert_zero(x)?;
-    Ok(())
-}
 
 /// At each row the first of its periodic columns is zero.
 #[derive(Drop)]
@@ -94,7 +57,7 @@ impl<'a> Air<DebugConstraintBuilder<'a, BabyBear, BabyBear>> for Clocked {
         &self,
         builder: &mut DebugConstraintBuilder<'a, BabyBear, BabyBear>,
     ) -> Result<(), AirError> {
-        assert_period(builder)
+        assert_all(builder, &Zero(Periodic(0)))
     }
 }
 
@@ -139,7 +102,7 @@ impl<'a> Air<DebugConstraintBuilder<'a, BabyBear, BabyBear>> for Tabled {
         &self,
         builder: &mut DebugConstraintBuilder<'a, BabyBear, BabyBear>,
     ) -> Result<(), AirError> {
-        assert_next_of_table(builder)
+        assert_all(builder, &Zero(PreprocessedNext(0)))
     }
 }
 

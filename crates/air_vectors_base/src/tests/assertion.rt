@@ -1,9 +1,9 @@
 //! Assertions as rows of tables, and the call that each of them is.
 ghost use Rattle.std.specs.Prelude.{OnOk};
 
-use air_builder::builders::extension_under::{assert_zero_ext_under, assert_zero_ext_under_both};
-use air_builder::builders::under::{
-    assert_zero_named_under_both, assert_zero_under, assert_zero_under_both,
+use crate::tests::filters::{
+    assert_zero_ext_under, assert_zero_ext_under_both, assert_zero_named_under_both,
+    assert_zero_under, assert_zero_under_both,
 };
 use air_builder::{
     AirBuilder, AirError, ExtensionBuilder, Lazy, Name, NamedAirBuilder, NamedExtensionBuilder,

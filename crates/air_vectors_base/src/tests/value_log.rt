@@ -1,6 +1,6 @@
 //! A builder that keeps the values that are asserted, over an extension too: every leaf is one, and no row has columns.
 ghost use Rattle.std.specs.Prelude.{◌≡◌, [], ⊤, refl, OnOk};
-ghost use Rattle.std.proofs.Common.{◌∙◌};
+ghost use Rattle.std.proofs.Common.{◌∙◌, ⊎_elim};
 ghost use Rattle.air_field.specs.Modulo.{class};
 ghost use Rattle.air_field.specs.Term.{first_row, last_row, transition, const_term};
 
@@ -134,6 +134,7 @@ impl AirBuilder for ValueLog {
       ready_kept = λ a b k h. tt;
       missing_kept = λ a b l k h. h;
       missing_stays = λ a b l k h. h;
+      past_window = λ a o l h. ⊎_elim (λ p. (λ e. cc, λ e. cc, λ e. cc)) (λ p. (λ e. cc, λ e. cc, λ e. cc)) h.2;
       has_first_row = λ a h. h.0 refl;
       has_last_row = λ a h. h.1 refl;
       has_transition = λ a h. h.2 refl;
@@ -150,6 +151,10 @@ impl AirBuilder for ValueLog {
 
     fn main(&self) -> Result<TwoRows<BabyBear>, AirError> {
         Ok(TwoRows::new(Vec::new(self.alloc), Vec::new(self.alloc)))
+    }
+
+    fn main_variable(&self, _offset: usize, _column: usize) -> Option<BabyBear> {
+        None
     }
 
     fn preprocessed(&self) -> &TwoRows<BabyBear> {

@@ -8,7 +8,7 @@ unfolding place_text
 returns c = on_ok_weaker c.writeln.result
     (λ h. record {
       line = place_text (c.args.failure.now.row, c.args.failure.now.constraint) ++ string_bytes c.in_ok-label.label;
-      is_line = record { shown = string_bytes c.in_ok-label.label; line_is = refl; shown_is = c.in_ok-label.ensures };
+      is_line = record { shown = string_bytes c.in_ok-label.label; line_is = refl; shown_is = c.in_ok-label.ensures.shown; one_line = c.in_ok-label.ensures.one_line };
       pushed = h ∙ simp (append_assoc, append-nil);
     })
     c.writeln.ensures.bytes

@@ -3,7 +3,7 @@ use Rattle.air_field.specs.Algebra.{bool_check_term}
 use Rattle.air_builder.specs.Batches.{AssertsOf}
 use Rattle.air_builder.specs.Builders.{Means}
 use Rattle.air_builder.specs.Labels.{LabelledByEach}
-use Rattle.air_builder.specs.Texts.{ElementSays}
+use Rattle.air_windows.specs.Texts.{ElementSays}
 use Rattle.air_builder.proofs.builders.named.NamedAirBuilder.assert_bools_named_slice.Given as goal
 
 abbrev pub invariant-loop-i : goal.invariant-loop-i

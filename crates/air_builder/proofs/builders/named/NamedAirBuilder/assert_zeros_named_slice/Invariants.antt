@@ -2,7 +2,7 @@ use Rattle.std.proofs.Common.{take}
 use Rattle.air_builder.specs.Batches.{AssertsOf}
 use Rattle.air_builder.specs.Builders.{Means}
 use Rattle.air_builder.specs.Labels.{LabelledByEach}
-use Rattle.air_builder.specs.Texts.{ElementSays}
+use Rattle.air_windows.specs.Texts.{ElementSays}
 use Rattle.air_builder.proofs.builders.named.NamedAirBuilder.assert_zeros_named_slice.Given as goal
 
 abbrev pub invariant-loop-i : goal.invariant-loop-i

@@ -1,19 +1,22 @@
-use Rattle.std.proofs.Common.{◌∙◌, ap, subst}
+use Rattle.std.proofs.Common.{◌≡◌, ◌∙◌, ◌∷◌, [], subst, sym}
 use Rattle.air_field.specs.RingOps.{ops}
 use Rattle.air_field.specs.Coefficients.{binomial_mul}
-use Rattle.air_field.specs.CoefficientLaws.{IsProductModulo}
-use Rattle.air_field.specs.Modulo.{baby_bear_ring, class, same_value}
+use Rattle.air_field.specs.CoefficientLaws.{IsProductModulo, product-modulo}
+use Rattle.air_field.specs.FourCoefficients.{four_rows, four_rows-is}
+use Rattle.air_field.specs.Modulo.{baby_bear_ring, class}
 use Rattle.air_field.specs.Binomial.{same_list}
 use Rattle.air_field.proofs.fields.binomial_field.BinomialExtensionFieldExtensionFieldBabyBear.mul.Goals as goal
 
 pub returns : goal.returns
 returns c =
-    let eleven = same_value c.new.result (class 11) c.new.ensures in
+    let written : c.dot_product.result ∷ c.dot_product-2.result ∷ c.dot_product-3.result ∷ c.dot_product-4.result ∷ [] ≡ four_rows (ops baby_bear_ring) (class 11) c.args.self.value c.index-other-0.result c.index-other-1.result c.index-other-2.result c.index-other-3.result = cc in
+    let reduced : c.dot_product.result ∷ c.dot_product-2.result ∷ c.dot_product-3.result ∷ c.dot_product-4.result ∷ [] ≡ binomial_mul (ops baby_bear_ring) (class 11) c.args.self.value c.args.other.value =
+    written
+    ∙ four_rows-is baby_bear_ring (class 11) c.args.self.value c.args.other.value _ _ _ _ c.args.self.four c.args.other.four
+    c.index-other-0.is c.index-other-1.is c.index-other-2.is c.index-other-3.is in
     record {
-      product =
-          same_list _ _
-          (c.reduced_product.ensures.reduced
-          ∙ ap (λ w. binomial_mul (ops baby_bear_ring) w c.args.self.value c.args.other.value) eleven);
+      product = same_list _ _ reduced;
       coefficients =
-          subst (λ w. IsProductModulo baby_bear_ring w c.args.self.value c.args.other.value c.reduced_product.result) eleven c.reduced_product.ensures.coefficients;
+          subst (IsProductModulo baby_bear_ring (class 11) c.args.self.value c.args.other.value) (sym reduced)
+          (product-modulo baby_bear_ring (class 11) c.args.self.value c.args.other.value c.args.self.four c.args.other.four);
     }

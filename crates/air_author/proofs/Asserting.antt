@@ -1,0 +1,191 @@
+-- Assertions, one call after another.
+use Rattle.std.proofs.lemmas.Result.{err_from_is_err_and}
+use Rattle.std.specs.Result.{IsErrAnd}
+use Rattle.std.proofs.Common.{◌≡◌, ℕ, zero, suc, arith, ◌+◌, ◌-◌, ◌<◌, ◌≤◌, List, [], ◌∷◌, ◌++◌, length, take, drop, get_or, Result, Ok, Err, OnOk, OnErr, IfErr, inl, inr, refl, sym, ap, subst, ◌∙◌, append_assoc, append-nil}
+use Rattle.std.proofs.lemmas.List.{take_more, drop_more, take-append-drop, take-append-le, length-append}
+use Rattle.std.proofs.Math.Seq.{take-append-add}
+use Rattle.air_field.specs.Part.{whole}
+use Rattle.air_field.specs.Term.{Leaf, Term}
+use Rattle.air_field.specs.declared.errors.RingError.{RingError}
+use Rattle.air_windows.specs.declared.errors.AirError.{AirError}
+use Rattle.air_builder.specs.Assertion.{Assertion, Base, Extension}
+use Rattle.air_builder.specs.Batches.{GrewByFirst}
+use Rattle.air_builder.specs.Builders.{BuilderLaws, GrewOf, RefusesOf}
+use Rattle.air_builder.specs.Extensions.{GrewExtOf, RefusesExtOf}
+use Rattle.air_builder.specs.Refusals.{NoneMissing, none_missing}
+use Rattle.air_author.specs.Constraints.{Asserted, asserts_of_each, asserts_of_first}
+use Rattle.air_author.specs.Expressions.{Made}
+
+none_missing_both : {F : Type 0} (missing : Leaf → Type 0) (ts us : List (Assertion F)) → NoneMissing missing ts → NoneMissing missing us → NoneMissing missing (ts ++ us)
+none_missing_both missing [] us h k l m p = k l m p
+none_missing_both missing (t ∷ ts) us h k l m (inl p) = h l m (inl p)
+none_missing_both missing (t ∷ ts) us h k l m (inr p) = none_missing_both missing ts us (λ x n q. h x n (inr q)) k l m p
+
+-- the first elements, one more, and the others
+in_parts : {X : Type 0} (xs : List X) (i : ℕ) (d : X) → i < length xs → xs ≡ take i xs ++ (get_or xs i d ∷ drop (i + 1) xs)
+in_parts xs i d lt = sym (take-append-drop i xs) ∙ ap (λ v. take i xs ++ v) (drop_more xs i d lt)
+
+-- a list whole, and a beginning of another
+beginning_then : {A : Type 0} (P : List A → Type 0) (xs ys : List A) (n : ℕ) → P (xs ++ take n ys) → P (take (length xs + n) (xs ++ ys))
+beginning_then P xs ys n h = subst P (sym (take-append-add xs ys n)) h
+
+within_then : {A : Type 0} (xs ys : List A) (n : ℕ) → n < length ys → length xs + n < length (xs ++ ys)
+within_then xs ys n lt = let e = length-append xs ys in omega (arith, lt, e)
+
+-- a beginning of the first of two
+within_first : {A : Type 0} (xs ys : List A) (n : ℕ) → n < length xs → n < length (xs ++ ys)
+within_first xs ys n lt = let e = length-append xs ys in omega (arith, lt, e)
+
+beginning_first : {A : Type 0} (P : List A → Type 0) (xs ys : List A) (n : ℕ) → n < length xs → P (take n xs) → P (take n (xs ++ ys))
+beginning_first P xs ys n lt h = let le : n ≤ length xs = omega (arith, lt) in subst P (sym (take-append-le n xs ys le)) h
+
+each-append : {C A : Type 0} (f : C → List A) (xs ys : List C) → asserts_of_each f (xs ++ ys) ≡ asserts_of_each f xs ++ asserts_of_each f ys
+each-append f [] ys = refl
+each-append f (x ∷ xs) ys = ap (λ v. f x ++ v) (each-append f xs ys) ∙ sym (append_assoc (f x) (asserts_of_each f xs) (asserts_of_each f ys))
+
+module _ {S R F : Type 0} {valid : R → Type 0} {extends : R → R → Type 0} {ring_of : S → R} {with_ring : S → R → S} {stands : S → Leaf → Term F} {ready : S → Type 0} {kept : S → S → Type 0} {grew : S → S → List (Assertion F) → Type 0} {ring_refuses : RingError → Term F → Type 0} {missing : S → Leaf → Type 0} {refuses : S → AirError → List (Assertion F) → Type 0} (laws : BuilderLaws ring_of with_ring stands ready kept grew valid extends ring_refuses missing refuses) where
+  -- a list was asserted, and then another
+  pub asserted_then : (a b d : S) (u : Unit {0}) (r : Result (Unit {0}) AirError) (ts us : List (Assertion F)) → Asserted kept grew missing refuses a b (Ok u) ts → Asserted kept grew missing refuses b d r us → Asserted kept grew missing refuses a d r (ts ++ us)
+  asserted_then a b d u (Ok v) ts us h k = record {
+    keeps = laws.kept_joined a b d h.keeps k.keeps;
+    ok = laws.joined a b d ts us h.ok k.ok;
+    there = none_missing_both _ ts us h.there (λ l m. k.there l (laws.missing_stays a b l h.keeps m));
+    err = tt;
+    refused = tt;
+  }
+  asserted_then a b d u (Err e) ts us h k = record {
+    keeps = laws.kept_joined a b d h.keeps k.keeps;
+    ok = tt;
+    there = tt;
+    err = record {
+      count = length ts + k.err.count;
+      within = within_then ts us k.err.count k.err.within;
+      beginning = beginning_then (grew a d) ts us k.err.count (laws.joined a b d ts (take k.err.count us) h.ok k.err.beginning);
+    };
+    refused = laws.refuses_then a b e ts us h.ok k.refused;
+  }
+
+  -- a beginning was refused
+  pub refused_first : (a b : S) (e : AirError) (ts us : List (Assertion F)) → Asserted kept grew missing refuses a b (Err e) ts → Asserted kept grew missing refuses a b (Err e) (ts ++ us)
+  refused_first a b e ts us h = record {
+    keeps = h.keeps;
+    ok = tt;
+    there = tt;
+    err = record {
+      count = h.err.count;
+      within = within_first ts us h.err.count h.err.within;
+      beginning = beginning_first (grew a b) ts us h.err.count h.err.within h.err.beginning;
+    };
+    refused = laws.refuses_first a e ts us h.refused;
+  }
+
+  module _ {E : Type 0} {means : S → E → Term F → Type 0} where
+    -- the making of an expression was refused
+    pub making_refused : (a b : S) (e : AirError) (t : Term F) → Made means grew missing refuses a b (Err e) t → Asserted kept grew missing refuses a b (Err e) (Base t ∷ [])
+    making_refused a b e t h = record {
+      keeps = laws.by_growth a b [] h.keeps;
+      ok = tt;
+      there = tt;
+      err = record { count = 0; within = omega arith; beginning = h.keeps };
+      refused = h.refused (Base t ∷ []) (inl whole);
+    }
+
+    -- an expression was made, and asserted to be zero
+    pub made_then_zero : (a b d : S) (x : E) (r : Result (Unit {0}) AirError) (t : Term F) → Made means grew missing refuses a b (Ok x) t → kept b d → OnOk r (GrewOf means grew (λ t. t) b d x) → OnErr r (grew b d []) → IfErr r (RefusesOf means refuses (λ t. t) b x) → Asserted kept grew missing refuses a d r (Base t ∷ [])
+    made_then_zero a b d x (Ok u) t h k g n f = record {
+      keeps = laws.kept_joined a b d (laws.by_growth a b [] h.keeps) k;
+      ok = laws.joined a b d [] (Base t ∷ []) h.keeps (g t h.made);
+      there = none_missing (missing a) (Base t ∷ []) (h.there, tt);
+      err = tt;
+      refused = tt;
+    }
+    made_then_zero a b d x (Err e) t h k g n f = record {
+      keeps = laws.kept_joined a b d (laws.by_growth a b [] h.keeps) k;
+      ok = tt;
+      there = tt;
+      err = record { count = 0; within = omega arith; beginning = laws.joined a b d [] [] h.keeps n };
+      refused = laws.refuses_then a b e [] (Base t ∷ []) h.keeps (f t h.made);
+    }
+
+    -- the making of an expression was refused
+    pub making_refused_ext : (a b : S) (e : AirError) (t : Term F) → Made means grew missing refuses a b (Err e) t → Asserted kept grew missing refuses a b (Err e) (Extension t ∷ [])
+    making_refused_ext a b e t h = record {
+      keeps = laws.by_growth a b [] h.keeps;
+      ok = tt;
+      there = tt;
+      err = record { count = 0; within = omega arith; beginning = h.keeps };
+      refused = h.refused (Extension t ∷ []) (inl whole);
+    }
+
+    -- an expression was made, and asserted to be zero
+    pub made_then_zero_ext : (a b d : S) (x : E) (r : Result (Unit {0}) AirError) (t : Term F) → Made means grew missing refuses a b (Ok x) t → kept b d → OnOk r (GrewExtOf means grew (λ t. t) b d x) → OnErr r (grew b d []) → IfErr r (RefusesExtOf means refuses (λ t. t) b x) → Asserted kept grew missing refuses a d r (Extension t ∷ [])
+    made_then_zero_ext a b d x (Ok u) t h k g n f = record {
+      keeps = laws.kept_joined a b d (laws.by_growth a b [] h.keeps) k;
+      ok = laws.joined a b d [] (Extension t ∷ []) h.keeps (g t h.made);
+      there = none_missing (missing a) (Extension t ∷ []) (h.there, tt);
+      err = tt;
+      refused = tt;
+    }
+    made_then_zero_ext a b d x (Err e) t h k g n f = record {
+      keeps = laws.kept_joined a b d (laws.by_growth a b [] h.keeps) k;
+      ok = tt;
+      there = tt;
+      err = record { count = 0; within = omega arith; beginning = laws.joined a b d [] [] h.keeps n };
+      refused = laws.refuses_then a b e [] (Extension t ∷ []) h.keeps (f t h.made);
+    }
+
+module _ {S R F : Type 0} {valid : R → Type 0} {extends : R → R → Type 0} {ring_of : S → R} {with_ring : S → R → S} {stands : S → Leaf → Term F} {ready : S → Type 0} {kept : S → S → Type 0} {grew : S → S → List (Assertion F) → Type 0} {ring_refuses : RingError → Term F → Type 0} {missing : S → Leaf → Type 0} {refuses : S → AirError → List (Assertion F) → Type 0} (laws : BuilderLaws ring_of with_ring stands ready kept grew valid extends ring_refuses missing refuses) where
+  -- one assertion, and then others
+  pub then_more : {a b d : S} {u : Unit {0}} {r : Result (Unit {0}) AirError} {t : Assertion F} {us : List (Assertion F)} → Asserted kept grew missing refuses a b (Ok u) (t ∷ []) → Asserted kept grew missing refuses b d r us → Asserted kept grew missing refuses a d r (t ∷ us)
+  then_more {a} {b} {d} {u} {r} {t} {us} h k = asserted_then laws a b d u r (t ∷ []) us h k
+
+  -- a `?` gives up at one of several
+  pub gives_up : {a b : S} {e : AirError} {r : Result (Unit {0}) AirError} {t : Assertion F} {us : List (Assertion F)} → IsErrAnd r (λ x. x ≡ e) → Asserted kept grew missing refuses a b (Err e) (t ∷ []) → Asserted kept grew missing refuses a b r (t ∷ us)
+  gives_up {a} {b} {e} {r} {t} {us} p h =
+      let q = err_from_is_err_and r p in
+      rw (q.1, q.2) (refused_first laws a b e (t ∷ []) us h)
+
+  -- one element more of a list
+  pub each_more : {C : Type 0} (f : C → List (Assertion F)) (a b d : S) (u : Unit {0}) (xs : List C) (i : ℕ) (x : C) → i < length xs → x ≡ get_or xs i x → Asserted kept grew missing refuses a b (Ok tt) (asserts_of_each f (take i xs)) → Asserted kept grew missing refuses b d (Ok u) (f x) → Asserted kept grew missing refuses a d (Ok tt) (asserts_of_each f (take (i + 1) xs))
+  each_more f a b d u xs i x lt is h k =
+      let here : take (i + 1) xs ≡ take i xs ++ (x ∷ []) = take_more xs i x lt ∙ ap (λ v. take i xs ++ (v ∷ [])) (sym is) in
+      let parts : asserts_of_each f (take (i + 1) xs) ≡ asserts_of_each f (take i xs) ++ f x = ap (λ v. asserts_of_each f v) here ∙ each-append f (take i xs) (x ∷ []) ∙ ap (λ v. asserts_of_each f (take i xs) ++ v) (append-nil (f x)) in
+      subst (λ v. Asserted kept grew missing refuses a d (Ok tt) v) (sym parts) (asserted_then laws a b d tt (Ok u) (asserts_of_each f (take i xs)) (f x) h k)
+
+  -- an element was refused
+  pub each_refused : {C : Type 0} (f : C → List (Assertion F)) (a b d : S) (e : AirError) (xs : List C) (i : ℕ) (x : C) → i < length xs → x ≡ get_or xs i x → Asserted kept grew missing refuses a b (Ok tt) (asserts_of_each f (take i xs)) → Asserted kept grew missing refuses b d (Err e) (f x) → Asserted kept grew missing refuses a d (Err e) (asserts_of_each f xs)
+  each_refused f a b d e xs i x lt is h k =
+      let whole : xs ≡ take i xs ++ (x ∷ drop (i + 1) xs) = in_parts xs i x lt ∙ ap (λ v. take i xs ++ (v ∷ drop (i + 1) xs)) (sym is) in
+      let parts : asserts_of_each f xs ≡ asserts_of_each f (take i xs) ++ (f x ++ asserts_of_each f (drop (i + 1) xs)) = ap (λ v. asserts_of_each f v) whole ∙ each-append f (take i xs) (x ∷ drop (i + 1) xs) in
+      subst (λ v. Asserted kept grew missing refuses a d (Err e) v) (sym parts)
+      (asserted_then laws a b d tt (Err e) (asserts_of_each f (take i xs)) (f x ++ asserts_of_each f (drop (i + 1) xs)) h (refused_first laws b d e (f x) (asserts_of_each f (drop (i + 1) xs)) k))
+
+  pub nothing_asserted : (a : S) → Asserted kept grew missing refuses a a (Ok tt) []
+  nothing_asserted a = record {
+    keeps = laws.by_growth a a [] (laws.same a);
+    ok = laws.same a;
+    there = λ l m p. p;
+    err = tt;
+    refused = tt;
+  }
+
+  -- one index more
+  pub first_more : (f : ℕ → List (Assertion F)) (a b d : S) (u : Unit {0}) (i : ℕ) → Asserted kept grew missing refuses a b (Ok tt) (asserts_of_first f i) → Asserted kept grew missing refuses b d (Ok u) (f i) → Asserted kept grew missing refuses a d (Ok tt) (asserts_of_first f (i + 1))
+  first_more f a b d u i h k =
+      let e : suc i ≡ i + 1 = omega arith in
+      subst (λ n. Asserted kept grew missing refuses a d (Ok tt) (asserts_of_first f n)) e (asserted_then laws a b d tt (Ok u) (asserts_of_first f i) (f i) h k)
+
+  later : (f : ℕ → List (Assertion F)) (a d : S) (e : AirError) (i k n : ℕ) → n ≡ k + suc i → Asserted kept grew missing refuses a d (Err e) (asserts_of_first f (suc i)) → Asserted kept grew missing refuses a d (Err e) (asserts_of_first f n)
+  later f a d e i zero n p h =
+      let q : suc i ≡ n = omega arith in
+      subst (λ m. Asserted kept grew missing refuses a d (Err e) (asserts_of_first f m)) q h
+  later f a d e i (suc k) n p h =
+      let q : suc (k + suc i) ≡ n = omega arith in
+      subst (λ m. Asserted kept grew missing refuses a d (Err e) (asserts_of_first f m)) q
+      (refused_first laws a d e (asserts_of_first f (k + suc i)) (f (k + suc i)) (later f a d e i k (k + suc i) refl h))
+
+  -- one at an index was refused
+  pub first_refused : (f : ℕ → List (Assertion F)) (a b d : S) (e : AirError) (i n : ℕ) → i < n → Asserted kept grew missing refuses a b (Ok tt) (asserts_of_first f i) → Asserted kept grew missing refuses b d (Err e) (f i) → Asserted kept grew missing refuses a d (Err e) (asserts_of_first f n)
+  first_refused f a b d e i n lt h k =
+      let p : n ≡ (n - suc i) + suc i = omega arith in
+      later f a d e i (n - suc i) n p (asserted_then laws a b d tt (Err e) (asserts_of_first f i) (f i) h k)

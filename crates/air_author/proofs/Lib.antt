@@ -1,0 +1,4 @@
+-- Lemmas on making and asserting.
+mod Making
+mod Asserting
+mod Powers

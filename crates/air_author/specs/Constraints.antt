@@ -1,0 +1,25 @@
+-- What the asserting of constraints does.
+use Rattle.std.specs.Prelude.{ℕ, zero, suc, List, [], ◌∷◌, ◌++◌, Result, OnOk, OnErr, IfErr}
+use Rattle.air_field.specs.Term.{Leaf, Term}
+use Rattle.air_builder.specs.Assertion.{Assertion}
+use Rattle.air_builder.specs.Batches.{GrewByFirst}
+use Rattle.air_builder.specs.Refusals.{NoneMissing}
+
+-- The list was asserted, and each of its leaves is there; or a beginning of it was that isn't the whole, and the refusal
+-- is one of the list.
+pub record Asserted {S F X : Type 0} (kept : S → S → Type 0) (grew : S → S → List (Assertion F) → Type 0) (missing : S → Leaf → Type 0) (refuses : S → X → List (Assertion F) → Type 0) (a b : S) (r : Result (Unit {0}) X) (ts : List (Assertion F)) : Type 0 where
+  pub keeps : kept a b
+  pub ok : OnOk r (grew a b ts)
+  pub there : OnOk r (NoneMissing (missing a) ts)
+  pub err : OnErr r (GrewByFirst grew a b ts)
+  pub refused : IfErr r (λ e. refuses a e ts)
+
+-- what each element asserts, in order
+abbrev pub asserts_of_each : {C A : Type 0} → (C → List A) → List C → List A
+asserts_of_each f [] = []
+asserts_of_each f (c ∷ cs) = f c ++ asserts_of_each f cs
+
+-- what is asserted at each index below a count, in order
+abbrev pub asserts_of_first : {A : Type 0} → (ℕ → List A) → ℕ → List A
+asserts_of_first f zero = []
+asserts_of_first f (suc n) = asserts_of_first f n ++ f n

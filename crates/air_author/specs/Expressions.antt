@@ -1,0 +1,19 @@
+-- What the making of an expression does.
+use Rattle.std.specs.Prelude.{ℕ, zero, suc, List, [], Result, OnOk, IfOk, IfErr}
+use Rattle.air_field.specs.Term.{Leaf, Term, const_term, mul_term}
+use Rattle.air_builder.specs.Assertion.{Assertion}
+use Rattle.air_builder.specs.Refusals.{PartOf, EachLeaf}
+
+-- An element of the term was made: nothing was asserted, and each leaf of the term is there. A refusal may be one of any
+-- list that has the term as a part.
+pub record Made {S E F X : Type 0} (means : S → E → Term F → Type 0) (grew : S → S → List (Assertion F) → Type 0) (missing : S → Leaf → Type 0) (refuses : S → X → List (Assertion F) → Type 0) (a b : S) (r : Result E X) (t : Term F) : Type 0 where
+  pub keeps : grew a b []
+  pub made : IfOk r (λ x. means b x t)
+  pub there : OnOk r (EachLeaf (λ l. missing a l → ⊥) t)
+  pub refused : IfErr r (λ e. (ts : List (Assertion F)) → PartOf t ts → refuses a e ts)
+
+-- the product of so many of the term, from the left; of none, one
+abbrev pub power_term : {F : Type 0} → F → Term F → ℕ → Term F
+power_term one t zero = const_term one
+power_term one t (suc zero) = t
+power_term one t (suc (suc n)) = mul_term (power_term one t (suc n)) t

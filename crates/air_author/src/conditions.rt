@@ -1,0 +1,85 @@
+//! Where constraints hold. An author writes `When`; these are what it hands to the constraints inside.
+ghost use Rattle.air_field.specs.Term.{Term, mul_term};
+ghost use Rattle.air_builder.specs.Builders.{Means};
+ghost use Rattle.air_author.specs.Expressions.{Made};
+
+use crate::expressions::arithmetic::Product;
+use crate::expressions::extension::Lifted;
+use crate::expressions::{Expression, ExtExpression};
+use air_builder::{AirBuilder, AirError, ExtensionBuilder};
+use air_field::Algebra;
+
+/// Where an expression is to be zero.
+pub trait Condition<AB: AirBuilder> {
+    /// What is to be zero everywhere where a base term is to be zero here.
+    ghost under: { Self → Term AB.F → Term AB.F };
+
+    /// The same of an extension term.
+    ghost ext_under: { Self → Term AB.F → Term AB.F };
+
+    /// Makes what is to be zero everywhere where `x` is to be zero here.
+    fn make_under<X: Expression<AB>>(&self, builder: &mut AB, x: &X) -> Result<AB::Expr, AirError>
+        requires { AB.ready builder.old }
+        ensures { Made (Means AB.Ring.means AB.ring_of AB.stands) AB.grew AB.missing AB.refuses builder.old builder.new result (under self.now (X.term x.now)) };
+
+    /// The same over the extension.
+    fn make_ext_under<X: ExtExpression<AB>>(
+        &self,
+        builder: &mut AB,
+        x: &X,
+    ) -> Result<AB::ExprEF, AirError>
+    where
+        AB: ExtensionBuilder,
+        requires { AB.ready builder.old }
+        ensures { Made (Means AB.ExtRing.means AB.ext_ring_of AB.stands) AB.grew AB.missing AB.refuses builder.old builder.new result (ext_under self.now (X.ext_term x.now)) };
+}
+
+/// Everywhere.
+#[derive(Clone, Copy, Drop)]
+pub struct Everywhere;
+
+impl<AB: AirBuilder> Condition<AB> for Everywhere {
+    ghost under = { λ _ t. t };
+
+    ghost ext_under = { λ _ t. t };
+
+    fn make_under<X: Expression<AB>>(&self, builder: &mut AB, x: &X) -> Result<AB::Expr, AirError> {
+        x.make(builder)
+    }
+
+    fn make_ext_under<X: ExtExpression<AB>>(
+        &self,
+        builder: &mut AB,
+        x: &X,
+    ) -> Result<AB::ExprEF, AirError>
+    where
+        AB: ExtensionBuilder,
+    {
+        x.make_ext(builder)
+    }
+}
+
+/// Where a condition holds and a selector isn't zero.
+#[derive(Clone, Copy, Drop)]
+pub struct Where<'a, K, S>(pub(crate) &'a K, pub(crate) S);
+
+impl<'a, AB: AirBuilder, K: Condition<AB>, S: Expression<AB>> Condition<AB> for Where<'a, K, S> {
+    ghost under = { λ s t. K.under s.0.now (mul_term (S.term s.1) t) };
+
+    ghost ext_under = { λ s t. K.ext_under s.0.now (mul_term t (S.term s.1)) };
+
+    fn make_under<X: Expression<AB>>(&self, builder: &mut AB, x: &X) -> Result<AB::Expr, AirError> {
+        self.0.make_under(builder, &Product(&self.1, x))
+    }
+
+    fn make_ext_under<X: ExtExpression<AB>>(
+        &self,
+        builder: &mut AB,
+        x: &X,
+    ) -> Result<AB::ExprEF, AirError>
+    where
+        AB: ExtensionBuilder,
+    {
+        self.0.make_ext_under(builder, &Product(x, Lifted(&self.1)))
+    }
+}

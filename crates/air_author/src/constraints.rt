@@ -1,0 +1,70 @@
+//! Constraints as values, each of a small type of its own that knows what it asserts.
+ghost use Rattle.std.specs.Prelude.{List, OnOk, OnErr, IfErr};
+ghost use Rattle.air_field.specs.Term.{Term};
+ghost use Rattle.air_builder.specs.Assertion.{Assertion};
+ghost use Rattle.air_builder.specs.Batches.{GrewByFirst};
+ghost use Rattle.air_builder.specs.Refusals.{NoneMissing};
+ghost use Rattle.air_author.specs.Constraints.{Asserted};
+
+use crate::conditions::{Condition, Everywhere};
+use air_builder::{AirBuilder, AirError};
+
+pub mod claims;
+pub mod extension;
+pub mod families;
+pub mod named;
+pub mod tuples;
+pub mod when;
+
+/// Constraints, in order.
+pub trait Constraint<AB: AirBuilder> {
+    /// What is asserted, where each base term becomes another, and each extension term.
+    ghost asserts: { Self → (Term AB.F → Term AB.F) → (Term AB.F → Term AB.F) → List (Assertion AB.F) };
+
+    /// Asserts them where the condition holds.
+    fn assert_under<K: Condition<AB>>(
+        &self,
+        builder: &mut AB,
+        condition: &K,
+    ) -> Result<(), AirError>
+        requires { AB.ready builder.old }
+        ensures { Asserted AB.kept AB.grew AB.missing AB.refuses builder.old builder.new result (asserts self.now (K.under condition.now) (K.ext_under condition.now)) };
+}
+
+impl<'a, AB: AirBuilder, C: Constraint<AB>> Constraint<AB> for &'a C {
+    ghost asserts = { λ s f g. C.asserts s.now f g };
+
+    fn assert_under<K: Condition<AB>>(
+        &self,
+        builder: &mut AB,
+        condition: &K,
+    ) -> Result<(), AirError> {
+        (**self).assert_under(builder, condition)
+    }
+}
+
+/// Asserts the constraints; more may follow.
+pub fn assert_these<AB: AirBuilder, C: Constraint<AB>>(
+    builder: &mut AB,
+    constraints: &C,
+) -> Result<(), AirError>
+    requires { AB.ready builder.old }
+    ensures { Asserted AB.kept AB.grew AB.missing AB.refuses builder.old builder.new result (C.asserts constraints.now (λ t. t) (λ t. t)) }
+{
+    constraints.assert_under(builder, &Everywhere)
+}
+
+/// Asserts the constraints, as an AIR's `eval` is to.
+pub fn assert_all<AB: AirBuilder, C: Constraint<AB>>(
+    builder: &mut AB,
+    constraints: &C,
+) -> Result<(), AirError>
+    requires { AB.ready builder.old }
+    ensures ok { OnOk result (AB.grew builder.old builder.new (C.asserts constraints.now (λ t. t) (λ t. t))) }
+    ensures there { OnOk result (NoneMissing (AB.missing builder.old) (C.asserts constraints.now (λ t. t) (λ t. t))) }
+    ensures keeps { AB.kept builder.old builder.new }
+    ensures err { OnErr result (GrewByFirst AB.grew builder.old builder.new (C.asserts constraints.now (λ t. t) (λ t. t))) }
+    ensures refused { IfErr result (λ e. AB.refuses builder.old e (C.asserts constraints.now (λ t. t) (λ t. t))) }
+{
+    assert_these(builder, constraints)
+}

@@ -1,0 +1,156 @@
+//! Constraints of one assertion.
+ghost use Rattle.std.specs.Prelude.{[], ◌∷◌};
+ghost use Rattle.air_field.specs.Algebra.{bool_check_term};
+ghost use Rattle.air_field.specs.Term.{Term, sub_term};
+ghost use Rattle.air_builder.specs.Assertion.{Base};
+ghost use Rattle.air_builder.specs.Builders.{Means, less_one_term};
+ghost use Rattle.air_author.specs.Constraints.{Asserted};
+ghost use Rattle.air_author.specs.Expressions.{Made};
+
+use crate::conditions::Condition;
+use crate::constraints::Constraint;
+use crate::expressions::Expression;
+use crate::expressions::arithmetic::{BoolCheck, Difference};
+use crate::expressions::constants::One;
+use air_builder::{AirBuilder, AirError};
+use air_field::Algebra;
+
+/// What is claimed by one assertion: that an expression is zero.
+pub trait Claim<AB: AirBuilder> {
+    /// What is claimed to be zero.
+    ghost claims: { Self → Term AB.F };
+
+    /// Makes what is zero if the claim holds where the condition does.
+    fn make_claim<K: Condition<AB>>(
+        &self,
+        builder: &mut AB,
+        condition: &K,
+    ) -> Result<AB::Expr, AirError>
+        requires { AB.ready builder.old }
+        ensures { Made (Means AB.Ring.means AB.ring_of AB.stands) AB.grew AB.missing AB.refuses builder.old builder.new result (K.under condition.now (claims self.now)) };
+}
+
+/// Asserts what is claimed.
+fn assert_claim<AB: AirBuilder, C: Claim<AB>, K: Condition<AB>>(
+    builder: &mut AB,
+    condition: &K,
+    claim: &C,
+) -> Result<(), AirError>
+    requires { AB.ready builder.old }
+    ensures { Asserted AB.kept AB.grew AB.missing AB.refuses builder.old builder.new result (Base (K.under condition.now (C.claims claim.now)) ∷ []) }
+{
+    let x = claim.make_claim(builder, condition)?;
+    builder.assert_zero(x)
+}
+
+/// The expression is zero.
+#[derive(Clone, Copy, Drop)]
+pub struct Zero<X>(pub X);
+
+impl<AB: AirBuilder, X: Expression<AB>> Claim<AB> for Zero<X> {
+    ghost claims = { λ s. X.term s.0 };
+
+    fn make_claim<K: Condition<AB>>(
+        &self,
+        builder: &mut AB,
+        condition: &K,
+    ) -> Result<AB::Expr, AirError> {
+        condition.make_under(builder, &self.0)
+    }
+}
+
+impl<AB: AirBuilder, X: Expression<AB>> Constraint<AB> for Zero<X> {
+    ghost asserts = { λ s f _. Base (f (X.term s.0)) ∷ [] };
+
+    fn assert_under<K: Condition<AB>>(
+        &self,
+        builder: &mut AB,
+        condition: &K,
+    ) -> Result<(), AirError> {
+        assert_claim(builder, condition, self)
+    }
+}
+
+/// The expression is one.
+#[derive(Clone, Copy, Drop)]
+pub struct IsOne<X>(pub X);
+
+impl<AB: AirBuilder, X: Expression<AB>> Claim<AB> for IsOne<X> {
+    ghost claims = { λ s. less_one_term AB.F.ONE (X.term s.0) };
+
+    fn make_claim<K: Condition<AB>>(
+        &self,
+        builder: &mut AB,
+        condition: &K,
+    ) -> Result<AB::Expr, AirError> {
+        condition.make_under(builder, &Difference(&self.0, One))
+    }
+}
+
+impl<AB: AirBuilder, X: Expression<AB>> Constraint<AB> for IsOne<X> {
+    ghost asserts = { λ s f _. Base (f (less_one_term AB.F.ONE (X.term s.0))) ∷ [] };
+
+    fn assert_under<K: Condition<AB>>(
+        &self,
+        builder: &mut AB,
+        condition: &K,
+    ) -> Result<(), AirError> {
+        assert_claim(builder, condition, self)
+    }
+}
+
+/// Both are equal.
+#[derive(Clone, Copy, Drop)]
+pub struct Equal<X, Y>(pub X, pub Y);
+
+impl<AB: AirBuilder, X: Expression<AB>, Y: Expression<AB>> Claim<AB> for Equal<X, Y> {
+    ghost claims = { λ s. sub_term (X.term s.0) (Y.term s.1) };
+
+    fn make_claim<K: Condition<AB>>(
+        &self,
+        builder: &mut AB,
+        condition: &K,
+    ) -> Result<AB::Expr, AirError> {
+        condition.make_under(builder, &Difference(&self.0, &self.1))
+    }
+}
+
+impl<AB: AirBuilder, X: Expression<AB>, Y: Expression<AB>> Constraint<AB> for Equal<X, Y> {
+    ghost asserts = { λ s f _. Base (f (sub_term (X.term s.0) (Y.term s.1))) ∷ [] };
+
+    fn assert_under<K: Condition<AB>>(
+        &self,
+        builder: &mut AB,
+        condition: &K,
+    ) -> Result<(), AirError> {
+        assert_claim(builder, condition, self)
+    }
+}
+
+/// The expression is zero or one.
+#[derive(Clone, Copy, Drop)]
+pub struct Boolean<X>(pub X);
+
+impl<AB: AirBuilder, X: Expression<AB>> Claim<AB> for Boolean<X> {
+    ghost claims = { λ s. bool_check_term AB.F.ONE (X.term s.0) };
+
+    fn make_claim<K: Condition<AB>>(
+        &self,
+        builder: &mut AB,
+        condition: &K,
+    ) -> Result<AB::Expr, AirError> {
+        condition.make_under(builder, &BoolCheck(&self.0))
+    }
+}
+
+impl<AB: AirBuilder, X: Expression<AB>> Constraint<AB> for Boolean<X> {
+    ghost asserts = { λ s f _. Base (f (bool_check_term AB.F.ONE (X.term s.0))) ∷ [] };
+
+    fn assert_under<K: Condition<AB>>(
+        &self,
+        builder: &mut AB,
+        condition: &K,
+    ) -> Result<(), AirError> {
+        assert_claim(builder, condition, self)
+    }
+}

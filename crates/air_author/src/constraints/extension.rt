@@ -1,0 +1,148 @@
+//! Constraints over the extension, each of one assertion.
+ghost use Rattle.std.specs.Prelude.{[], ◌∷◌};
+ghost use Rattle.air_field.specs.Term.{Term, sub_term};
+ghost use Rattle.air_builder.specs.Assertion.{Extension};
+ghost use Rattle.air_builder.specs.Builders.{Means, less_one_term};
+ghost use Rattle.air_author.specs.Constraints.{Asserted};
+ghost use Rattle.air_author.specs.Expressions.{Made};
+
+use crate::conditions::Condition;
+use crate::constraints::Constraint;
+use crate::constraints::named::Label;
+use crate::expressions::ExtExpression;
+use crate::expressions::arithmetic::Difference;
+use crate::expressions::constants::One;
+use crate::expressions::extension::Lifted;
+use air_builder::{AirError, ExtensionBuilder, NamedExtensionBuilder};
+use air_field::Algebra;
+
+/// What is claimed by one assertion over the extension: that an expression is zero.
+pub trait ExtClaim<AB: ExtensionBuilder> {
+    /// What is claimed to be zero.
+    ghost ext_claims: { Self → Term AB.F };
+
+    /// Makes what is zero if the claim holds where the condition does.
+    fn make_ext_claim<K: Condition<AB>>(
+        &self,
+        builder: &mut AB,
+        condition: &K,
+    ) -> Result<AB::ExprEF, AirError>
+        requires { AB.ready builder.old }
+        ensures { Made (Means AB.ExtRing.means AB.ext_ring_of AB.stands) AB.grew AB.missing AB.refuses builder.old builder.new result (K.ext_under condition.now (ext_claims self.now)) };
+}
+
+/// Asserts what is claimed.
+fn assert_ext_claim<AB: ExtensionBuilder, C: ExtClaim<AB>, K: Condition<AB>>(
+    builder: &mut AB,
+    condition: &K,
+    claim: &C,
+) -> Result<(), AirError>
+    requires { AB.ready builder.old }
+    ensures { Asserted AB.kept AB.grew AB.missing AB.refuses builder.old builder.new result (Extension (K.ext_under condition.now (C.ext_claims claim.now)) ∷ []) }
+{
+    let x = claim.make_ext_claim(builder, condition)?;
+    builder.assert_zero_ext(x)
+}
+
+/// The expression over the extension is zero.
+#[derive(Clone, Copy, Drop)]
+pub struct ExtZero<X>(pub X);
+
+impl<AB: ExtensionBuilder, X: ExtExpression<AB>> ExtClaim<AB> for ExtZero<X> {
+    ghost ext_claims = { λ s. X.ext_term s.0 };
+
+    fn make_ext_claim<K: Condition<AB>>(
+        &self,
+        builder: &mut AB,
+        condition: &K,
+    ) -> Result<AB::ExprEF, AirError> {
+        condition.make_ext_under(builder, &self.0)
+    }
+}
+
+impl<AB: ExtensionBuilder, X: ExtExpression<AB>> Constraint<AB> for ExtZero<X> {
+    ghost asserts = { λ s _ g. Extension (g (X.ext_term s.0)) ∷ [] };
+
+    fn assert_under<K: Condition<AB>>(
+        &self,
+        builder: &mut AB,
+        condition: &K,
+    ) -> Result<(), AirError> {
+        assert_ext_claim(builder, condition, self)
+    }
+}
+
+/// The expression over the extension is one.
+#[derive(Clone, Copy, Drop)]
+pub struct ExtIsOne<X>(pub X);
+
+impl<AB: ExtensionBuilder, X: ExtExpression<AB>> ExtClaim<AB> for ExtIsOne<X> {
+    ghost ext_claims = { λ s. less_one_term AB.F.ONE (X.ext_term s.0) };
+
+    fn make_ext_claim<K: Condition<AB>>(
+        &self,
+        builder: &mut AB,
+        condition: &K,
+    ) -> Result<AB::ExprEF, AirError> {
+        condition.make_ext_under(builder, &Difference(&self.0, Lifted(One)))
+    }
+}
+
+impl<AB: ExtensionBuilder, X: ExtExpression<AB>> Constraint<AB> for ExtIsOne<X> {
+    ghost asserts = { λ s _ g. Extension (g (less_one_term AB.F.ONE (X.ext_term s.0))) ∷ [] };
+
+    fn assert_under<K: Condition<AB>>(
+        &self,
+        builder: &mut AB,
+        condition: &K,
+    ) -> Result<(), AirError> {
+        assert_ext_claim(builder, condition, self)
+    }
+}
+
+/// Both, over the extension, are equal.
+#[derive(Clone, Copy, Drop)]
+pub struct ExtEqual<X, Y>(pub X, pub Y);
+
+impl<AB: ExtensionBuilder, X: ExtExpression<AB>, Y: ExtExpression<AB>> ExtClaim<AB>
+    for ExtEqual<X, Y> {
+    ghost ext_claims = { λ s. sub_term (X.ext_term s.0) (Y.ext_term s.1) };
+
+    fn make_ext_claim<K: Condition<AB>>(
+        &self,
+        builder: &mut AB,
+        condition: &K,
+    ) -> Result<AB::ExprEF, AirError> {
+        condition.make_ext_under(builder, &Difference(&self.0, &self.1))
+    }
+}
+
+impl<AB: ExtensionBuilder, X: ExtExpression<AB>, Y: ExtExpression<AB>> Constraint<AB>
+    for ExtEqual<X, Y> {
+    ghost asserts = { λ s _ g. Extension (g (sub_term (X.ext_term s.0) (Y.ext_term s.1))) ∷ [] };
+
+    fn assert_under<K: Condition<AB>>(
+        &self,
+        builder: &mut AB,
+        condition: &K,
+    ) -> Result<(), AirError> {
+        assert_ext_claim(builder, condition, self)
+    }
+}
+
+/// A constraint of one assertion over the extension, under a name.
+#[derive(Clone, Copy, Drop)]
+pub struct ExtNamed<N, C>(pub N, pub C);
+
+impl<AB: NamedExtensionBuilder, N: Label, C: ExtClaim<AB>> Constraint<AB> for ExtNamed<N, C> {
+    ghost asserts = { λ s _ g. Extension (g (C.ext_claims s.1)) ∷ [] };
+
+    fn assert_under<K: Condition<AB>>(
+        &self,
+        builder: &mut AB,
+        condition: &K,
+    ) -> Result<(), AirError> {
+        let x = self.1.make_ext_claim(builder, condition)?;
+        builder.assert_zero_ext_named(x, self.0)
+    }
+}

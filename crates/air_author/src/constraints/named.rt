@@ -1,0 +1,43 @@
+//! Constraints under names.
+ghost use Rattle.std.specs.Prelude.{[], ◌∷◌};
+ghost use Rattle.air_builder.specs.Assertion.{Base};
+
+use crate::conditions::Condition;
+use crate::constraints::Constraint;
+use crate::constraints::claims::Claim;
+use air_builder::{AirError, Element, Joined, Name, NamedAirBuilder};
+
+/// A name that a constraint can have: it may be evaluated at any time.
+pub trait Label: Name + Copy {
+    ghost always: { (name : Self) → Self.can_evaluate name };
+}
+
+impl Label for &'static str {
+    ghost always = { λ _. tt };
+}
+
+impl Label for Element {
+    ghost always = { λ _. tt };
+}
+
+impl<A: Label, B: Label> Label for Joined<A, B> {
+    ghost always = { λ name. (A.always name.left, B.always name.right) };
+}
+
+/// A constraint of one assertion, under a name: `Named("a is b", Equal(Current(0), Current(1)))`. An assertion that fails
+/// keeps the name, and the name is evaluated where an assertion's is.
+#[derive(Clone, Copy, Drop)]
+pub struct Named<N, C>(pub N, pub C);
+
+impl<AB: NamedAirBuilder, N: Label, C: Claim<AB>> Constraint<AB> for Named<N, C> {
+    ghost asserts = { λ s f _. Base (f (C.claims s.1)) ∷ [] };
+
+    fn assert_under<K: Condition<AB>>(
+        &self,
+        builder: &mut AB,
+        condition: &K,
+    ) -> Result<(), AirError> {
+        let x = self.1.make_claim(builder, condition)?;
+        builder.assert_zero_named(x, self.0)
+    }
+}

@@ -1,0 +1,24 @@
+//! Constraints where a selector isn't zero.
+ghost use Rattle.air_field.specs.Term.{mul_term};
+
+use crate::conditions::{Condition, Where};
+use crate::constraints::Constraint;
+use crate::expressions::Expression;
+use air_builder::{AirBuilder, AirError};
+
+/// The constraints where the selector isn't zero: each is multiplied by it, a base term from the left and an extension
+/// term from the right. One inside another multiplies first.
+#[derive(Clone, Copy, Drop)]
+pub struct When<S, C>(pub S, pub C);
+
+impl<AB: AirBuilder, S: Expression<AB>, C: Constraint<AB>> Constraint<AB> for When<S, C> {
+    ghost asserts = { λ s f g. C.asserts s.1 (λ t. f (mul_term (S.term s.0) t)) (λ t. g (mul_term t (S.term s.0))) };
+
+    fn assert_under<K: Condition<AB>>(
+        &self,
+        builder: &mut AB,
+        condition: &K,
+    ) -> Result<(), AirError> {
+        self.1.assert_under(builder, &Where(condition, &self.0))
+    }
+}

@@ -1,0 +1,53 @@
+//! Expressions as values, each of a small type of its own that knows its term.
+ghost use Rattle.air_field.specs.Term.{Term};
+ghost use Rattle.air_builder.specs.Builders.{Means};
+ghost use Rattle.air_author.specs.Expressions.{Made};
+
+use air_builder::{AirBuilder, AirError, ExtensionBuilder};
+use air_field::Algebra;
+
+pub mod arithmetic;
+pub mod columns;
+pub mod constants;
+pub mod extension;
+pub mod permutation;
+pub mod power;
+pub mod selectors;
+
+/// An expression of base constraints.
+pub trait Expression<AB: AirBuilder> {
+    /// What the expression means.
+    ghost term: { Self → Term AB.F };
+
+    /// Makes it in the builder's ring. Nothing is asserted.
+    fn make(&self, builder: &mut AB) -> Result<AB::Expr, AirError>
+        requires { AB.ready builder.old }
+        ensures { Made (Means AB.Ring.means AB.ring_of AB.stands) AB.grew AB.missing AB.refuses builder.old builder.new result (term self.now) };
+}
+
+/// An expression of constraints over the extension.
+pub trait ExtExpression<AB: ExtensionBuilder> {
+    /// What the expression means.
+    ghost ext_term: { Self → Term AB.F };
+
+    /// Makes it in the builder's ring over the extension. Nothing is asserted.
+    fn make_ext(&self, builder: &mut AB) -> Result<AB::ExprEF, AirError>
+        requires { AB.ready builder.old }
+        ensures { Made (Means AB.ExtRing.means AB.ext_ring_of AB.stands) AB.grew AB.missing AB.refuses builder.old builder.new result (ext_term self.now) };
+}
+
+impl<'a, AB: AirBuilder, X: Expression<AB>> Expression<AB> for &'a X {
+    ghost term = { λ s. X.term s.now };
+
+    fn make(&self, builder: &mut AB) -> Result<AB::Expr, AirError> {
+        (**self).make(builder)
+    }
+}
+
+impl<'a, AB: ExtensionBuilder, X: ExtExpression<AB>> ExtExpression<AB> for &'a X {
+    ghost ext_term = { λ s. X.ext_term s.now };
+
+    fn make_ext(&self, builder: &mut AB) -> Result<AB::ExprEF, AirError> {
+        (**self).make_ext(builder)
+    }
+}

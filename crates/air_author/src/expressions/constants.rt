@@ -1,0 +1,44 @@
+//! Constants of the field.
+ghost use Rattle.air_field.specs.Ring.{image};
+ghost use Rattle.air_field.specs.Term.{const_term};
+
+use crate::expressions::Expression;
+use air_builder::{AirBuilder, AirError};
+use air_field::{Algebra, Field};
+
+/// A constant.
+#[derive(Clone, Copy, Drop)]
+pub struct Constant<F>(pub F);
+
+impl<AB: AirBuilder> Expression<AB> for Constant<AB::F> {
+    ghost term = { λ s. const_term s.0 };
+
+    fn make(&self, builder: &mut AB) -> Result<AB::Expr, AirError> {
+        let x = builder.ring().constant(self.0)?;
+        Ok(x)
+    }
+}
+
+/// One.
+#[derive(Clone, Copy, Drop)]
+pub struct One;
+
+impl<AB: AirBuilder> Expression<AB> for One {
+    ghost term = { λ _. const_term AB.F.ONE };
+
+    fn make(&self, builder: &mut AB) -> Result<AB::Expr, AirError> {
+        Constant(AB::F::ONE).make(builder)
+    }
+}
+
+/// A number in the field.
+#[derive(Clone, Copy, Drop)]
+pub struct Number(pub u64);
+
+impl<AB: AirBuilder> Expression<AB> for Number {
+    ghost term = { λ s. const_term (image AB.F.ring s.0) };
+
+    fn make(&self, builder: &mut AB) -> Result<AB::Expr, AirError> {
+        Constant(AB::F::from_u64(self.0)).make(builder)
+    }
+}

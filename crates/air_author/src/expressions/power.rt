@@ -1,0 +1,44 @@
+//! Powers of an expression.
+ghost use Rattle.std.specs.Prelude.{suc, IfOk, IfErr};
+ghost use Rattle.air_field.specs.Algebra.{MadeOf, RefusedOf};
+ghost use Rattle.air_author.specs.Expressions.{power_term};
+
+use crate::expressions::Expression;
+use crate::expressions::constants::One;
+use air_builder::{AirBuilder, AirError};
+use air_field::{Algebra, Field, RingError};
+
+/// x, times x so many times more, from the left
+fn multiplied<F: Field, R: Algebra<F>>(
+    ring: &mut R,
+    x: R::Elem,
+    more: usize,
+) -> Result<R::Elem, RingError>
+    requires { R.has ring.old x }
+    ensures extended { R.extends ring.old ring.new }
+    ensures made { IfOk result (MadeOf R.has R.means (λ t. power_term F.ONE t (suc more)) ring.old ring.new x) }
+    ensures refused { IfErr result (RefusedOf R.means R.refuses (λ t. power_term F.ONE t (suc more)) ring.old x) }
+{
+    let mut total = x;
+    for done in 0..more {
+        total = ring.mul(total, x)?;
+    }
+    Ok(total)
+}
+
+/// The product of so many of x, from the left; of none, one.
+#[derive(Clone, Copy, Drop)]
+pub struct Power<X>(pub X, pub usize);
+
+impl<AB: AirBuilder, X: Expression<AB>> Expression<AB> for Power<X> {
+    ghost term = { λ s. power_term AB.F.ONE (X.term s.0) s.1 };
+
+    fn make(&self, builder: &mut AB) -> Result<AB::Expr, AirError> {
+        if self.1 == 0 {
+            return One.make(builder);
+        }
+        let x = self.0.make(builder)?;
+        let y = multiplied(builder.ring(), x, self.1 - 1)?;
+        Ok(y)
+    }
+}

@@ -1,0 +1,44 @@
+//! Selectors of rows.
+ghost use Rattle.air_field.specs.Term.{first_row, last_row, transition, leaf_term};
+
+use crate::expressions::Expression;
+use air_builder::{AirBuilder, AirError};
+
+/// One on the first row, else zero.
+#[derive(Clone, Copy, Drop)]
+pub struct FirstRow;
+
+impl<AB: AirBuilder> Expression<AB> for FirstRow {
+    ghost term = { λ _. leaf_term first_row };
+
+    fn make(&self, builder: &mut AB) -> Result<AB::Expr, AirError> {
+        let x = builder.is_first_row()?;
+        Ok(x)
+    }
+}
+
+/// One on the last row, else zero.
+#[derive(Clone, Copy, Drop)]
+pub struct LastRow;
+
+impl<AB: AirBuilder> Expression<AB> for LastRow {
+    ghost term = { λ _. leaf_term last_row };
+
+    fn make(&self, builder: &mut AB) -> Result<AB::Expr, AirError> {
+        let x = builder.is_last_row()?;
+        Ok(x)
+    }
+}
+
+/// Zero on the last row, else one.
+#[derive(Clone, Copy, Drop)]
+pub struct Transition;
+
+impl<AB: AirBuilder> Expression<AB> for Transition {
+    ghost term = { λ _. leaf_term transition };
+
+    fn make(&self, builder: &mut AB) -> Result<AB::Expr, AirError> {
+        let x = builder.is_transition()?;
+        Ok(x)
+    }
+}

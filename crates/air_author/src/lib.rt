@@ -1,0 +1,42 @@
+//! Constraints as values: an author of an AIR writes its declared list and one call, and no proof.
+//!
+//! An expression is a value of a small type that knows its term, as `Sum(Current(0), Current(1))`, and a constraint is
+//! one of a small type that knows what it asserts, as `Equal(Next(1), Sum(Current(0), Current(1)))`. In `eval` an author
+//! writes
+//!
+//!     let first = When(FirstRow, (Equal(Current(0), Public(0)), Equal(Current(1), Public(1))));
+//!     let steps = When(Transition, (Equal(Next(0), Current(1)), Named("sum", Equal(Next(1), Sum(..)))));
+//!     assert_all(builder, &(first, steps))
+//!
+//! and the prover finds that this is the declared list, by computation. Tuples are constraints one after another, up to
+//! five; `Each` is those of a slice, and `All` those of a `Family`, which an index numbers. A `When` inside another
+//! multiplies first. Over the extension, `ExtZero`, `ExtEqual` and `ExtIsOne` take `Sum`, `Difference`, `Product` and
+//! `Negative` of `PermutationCurrent`, `Challenge`, `Lifted(Current(0))` and so on.
+//!
+//! An entry that the builder hasn't is refused by its name. A function proves about five constraints quickly; further
+//! ones go into structs whose `assert_under` only delegates to a value as above.
+#![tactic(auto)]
+
+pub mod conditions;
+pub mod constraints;
+pub mod expressions;
+
+pub use conditions::{Condition, Everywhere};
+pub use constraints::claims::{Boolean, Claim, Equal, IsOne, Zero};
+pub use constraints::extension::{ExtClaim, ExtEqual, ExtIsOne, ExtNamed, ExtZero};
+pub use constraints::families::{All, Each, Family};
+pub use constraints::named::{Label, Named};
+pub use constraints::when::When;
+pub use constraints::{Constraint, assert_all, assert_these};
+pub use expressions::arithmetic::{BoolCheck, Difference, Double, Negative, Product, Square, Sum};
+pub use expressions::columns::{
+    Current, Next, Periodic, PreprocessedCurrent, PreprocessedNext, Public,
+};
+pub use expressions::constants::{Constant, Number, One};
+pub use expressions::extension::{ExtConstant, Lifted};
+pub use expressions::permutation::{
+    Challenge, PermutationCurrent, PermutationNext, PermutationValue,
+};
+pub use expressions::power::Power;
+pub use expressions::selectors::{FirstRow, LastRow, Transition};
+pub use expressions::{Expression, ExtExpression};

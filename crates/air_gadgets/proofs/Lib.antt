@@ -1,0 +1,3 @@
+pub mod Combining
+pub mod BitLaws
+pub mod PackingLaws

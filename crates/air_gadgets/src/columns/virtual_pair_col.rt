@@ -1,0 +1,209 @@
+//! A column that no trace has: a weighted sum of columns.
+ghost use Rattle.std.specs.Prelude.{◌≡◌, ◌↔◌, IsTrue, IfOk, IfErr, [], All, length};
+ghost use Rattle.air_field.specs.Algebra.{MadeOf, RefusedOf, scaled_term};
+ghost use Rattle.air_gadgets.specs.declared.columns.pair_col.PairCol.TheVariants.{Preprocessed, Main};
+ghost use Rattle.air_gadgets.specs.Columns.{FitsWithin, combination, on_preprocessed, on_main, single_of, sum_of, difference_of};
+ghost use Rattle.air_gadgets.specs.Columns.{MadeOfColumns, RefusedOfColumns};
+
+use crate::columns::pair_col::PairCol;
+use air_field::{Algebra, Field, RingError};
+use std::alloc::{AllocError, Global};
+use std::marker::Model;
+
+/// A constant and columns with their weights.
+#[derive(Debug, Drop)]
+pub struct VirtualPairCol<F> {
+    column_weights: Vec<(PairCol, F)>,
+    constant: F,
+}
+
+impl<F> Model for VirtualPairCol<F> {
+    ghost use Rattle.air_gadgets.specs.Columns.{Combination};
+
+    ghost Value = { Combination F };
+
+    ghost view = { λ v. record { weights = v.column_weights.items; constant = v.constant } };
+}
+
+/// x times the constant `weight`
+fn weighted<F: Field, R: Algebra<F>>(
+    ring: &mut R,
+    x: R::Elem,
+    weight: F,
+) -> Result<R::Elem, RingError>
+    requires { R.has ring.old x }
+    ensures extended { R.extends ring.old ring.new }
+    ensures made { IfOk result (MadeOf R.has R.means (scaled_term weight) ring.old ring.new x) }
+    ensures refused { IfErr result (RefusedOf R.means R.refuses (scaled_term weight) ring.old x) }
+{
+    let scale = ring.constant(weight)?;
+    ring.mul(x, scale)
+}
+
+impl<F: Field> VirtualPairCol<F> {
+    /// The constant plus each weight times its column.
+    pub fn new(column_weights: Vec<(PairCol, F)>, constant: F) -> Self
+        ensures { result ≡ combination column_weights.items constant }
+    {
+        VirtualPairCol {
+            column_weights,
+            constant,
+        }
+    }
+
+    /// The same of preprocessed columns alone.
+    pub fn new_preprocessed(
+        alloc: Global,
+        column_weights: Vec<(usize, F)>,
+        constant: F,
+    ) -> Result<Self, AllocError>
+        ensures { IfOk result (λ v. v ≡ on_preprocessed column_weights.items constant) }
+    {
+        let mut columns = Vec::new(alloc);
+        for (column, weight) in &column_weights {
+            columns.push((PairCol::Preprocessed(*column), *weight))?;
+        }
+        Ok(Self::new(columns, constant))
+    }
+
+    /// The same of main columns alone.
+    pub fn new_main(
+        alloc: Global,
+        column_weights: Vec<(usize, F)>,
+        constant: F,
+    ) -> Result<Self, AllocError>
+        ensures { IfOk result (λ v. v ≡ on_main column_weights.items constant) }
+    {
+        let mut columns = Vec::new(alloc);
+        for (column, weight) in &column_weights {
+            columns.push((PairCol::Main(*column), *weight))?;
+        }
+        Ok(Self::new(columns, constant))
+    }
+
+    /// One on every row.
+    pub fn one(alloc: Global) -> Self
+        ensures { result ≡ combination [] F.ONE }
+    {
+        Self::constant(alloc, F::ONE)
+    }
+
+    /// The same on every row.
+    pub fn constant(alloc: Global, x: F) -> Self
+        ensures { result ≡ combination [] x }
+    {
+        Self::new(Vec::new(alloc), x)
+    }
+
+    /// The column itself.
+    pub fn single(alloc: Global, column: PairCol) -> Result<Self, AllocError>
+        ensures { IfOk result (λ v. v ≡ single_of F.ONE F.ZERO column) }
+    {
+        let mut column_weights = Vec::new(alloc);
+        column_weights.push((column, F::ONE))?;
+        Ok(Self::new(column_weights, F::ZERO))
+    }
+
+    /// A preprocessed column itself.
+    pub fn single_preprocessed(alloc: Global, column: usize) -> Result<Self, AllocError>
+        ensures { IfOk result (λ v. v ≡ single_of F.ONE F.ZERO (Preprocessed column)) }
+    {
+        Self::single(alloc, PairCol::Preprocessed(column))
+    }
+
+    /// A main column itself.
+    pub fn single_main(alloc: Global, column: usize) -> Result<Self, AllocError>
+        ensures { IfOk result (λ v. v ≡ single_of F.ONE F.ZERO (Main column)) }
+    {
+        Self::single(alloc, PairCol::Main(column))
+    }
+
+    /// The sum of preprocessed columns.
+    pub fn sum_preprocessed(alloc: Global, columns: Vec<usize>) -> Result<Self, AllocError>
+        ensures { IfOk result (λ v. v ≡ sum_of F.ONE F.ZERO Preprocessed columns.items) }
+    {
+        let mut column_weights = Vec::new(alloc);
+        for column in &columns {
+            column_weights.push((PairCol::Preprocessed(*column), F::ONE))?;
+        }
+        Ok(Self::new(column_weights, F::ZERO))
+    }
+
+    /// The sum of main columns.
+    pub fn sum_main(alloc: Global, columns: Vec<usize>) -> Result<Self, AllocError>
+        ensures { IfOk result (λ v. v ≡ sum_of F.ONE F.ZERO Main columns.items) }
+    {
+        let mut column_weights = Vec::new(alloc);
+        for column in &columns {
+            column_weights.push((PairCol::Main(*column), F::ONE))?;
+        }
+        Ok(Self::new(column_weights, F::ZERO))
+    }
+
+    /// One preprocessed column less another.
+    pub fn diff_preprocessed(alloc: Global, a_col: usize, b_col: usize) -> Result<Self, AllocError>
+        ensures { IfOk result (λ v. v ≡ difference_of F.ONE F.NEG_ONE F.ZERO (Preprocessed a_col) (Preprocessed b_col)) }
+    {
+        let mut column_weights = Vec::new(alloc);
+        column_weights.push((PairCol::Preprocessed(a_col), F::ONE))?;
+        column_weights.push((PairCol::Preprocessed(b_col), F::NEG_ONE))?;
+        Ok(Self::new(column_weights, F::ZERO))
+    }
+
+    /// One main column less another.
+    pub fn diff_main(alloc: Global, a_col: usize, b_col: usize) -> Result<Self, AllocError>
+        ensures { IfOk result (λ v. v ≡ difference_of F.ONE F.NEG_ONE F.ZERO (Main a_col) (Main b_col)) }
+    {
+        let mut column_weights = Vec::new(alloc);
+        column_weights.push((PairCol::Main(a_col), F::ONE))?;
+        column_weights.push((PairCol::Main(b_col), F::NEG_ONE))?;
+        Ok(Self::new(column_weights, F::ZERO))
+    }
+
+    /// Whether every column named is below the width of its trace.
+    pub fn fits(&self, preprocessed_width: usize, main_width: usize) -> bool
+        ensures { IsTrue result ↔ FitsWithin preprocessed_width main_width self.now }
+    {
+        for (column, _) in &self.column_weights {
+            if !column.in_range(preprocessed_width, main_width) {
+                return false;
+            }
+        }
+        true
+    }
+
+    /// The constant plus the sum of weight times column, of the elements that stand in the columns.
+    pub fn apply<R: Algebra<F>>(
+        &self,
+        ring: &mut R,
+        preprocessed: &[R::Elem],
+        main: &[R::Elem],
+    ) -> Result<R::Elem, RingError>
+        requires fits { FitsWithin (length preprocessed.now) (length main.now) self.now }
+        requires valid { R.valid ring.old }
+        requires preprocessed_in { All (R.has ring.old) preprocessed.now }
+        requires main_in { All (R.has ring.old) main.now }
+        ensures extended { R.extends ring.old ring.new }
+        ensures made { IfOk result
+            (MadeOfColumns R.has R.means ring.old ring.new self.now preprocessed.now main.now) }
+        ensures refused { IfErr result
+            (RefusedOfColumns R.means R.refuses ring.old self.now preprocessed.now main.now) }
+    {
+        let mut total = ring.constant(self.constant)?;
+        for (column, weight) in &self.column_weights {
+            let entry = column.get(preprocessed, main);
+            let scaled = weighted(ring, entry, *weight)?;
+            total = ring.add(total, scaled)?;
+        }
+        Ok(total)
+    }
+
+    /// An equal virtual column. It refuses for want of memory alone.
+    pub fn clone(&self) -> Result<Self, AllocError>
+        ensures { IfOk result (λ copy. copy ≡ self.now) }
+    {
+        let alloc = *self.column_weights.allocator();
+        let column_weights = Vec::from_slice(alloc, &self.column_weights)?;
+        Ok(Self::new(column_weights, self.constant))
+    }
+}

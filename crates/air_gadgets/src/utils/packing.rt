@@ -1,0 +1,30 @@
+//! Bits packed into a number.
+ghost use Rattle.std.specs.Prelude.{IfOk, IfErr, All};
+ghost use Rattle.air_gadgets.specs.Packing.{MadeOfPacked, RefusedOfPacked};
+
+use air_field::{Algebra, Field, RingError};
+
+/// The sum of 2^i v_i; of none, 0.
+pub fn pack_bits_le<F: Field, R: Algebra<F>>(
+    ring: &mut R,
+    bits: &[R::Elem],
+) -> Result<R::Elem, RingError>
+    requires valid { R.valid ring.old }
+    requires all_in { All (R.has ring.old) bits.now }
+    ensures extended { R.extends ring.old ring.new }
+    ensures made { IfOk result (MadeOfPacked R.has R.means F.ZERO ring.old ring.new bits.now) }
+    ensures refused { IfErr result (RefusedOfPacked R.means R.refuses F.ZERO ring.old bits.now) }
+{
+    if bits.is_empty() {
+        return ring.constant(F::ZERO);
+    }
+    let mut left = bits.len() - 1;
+    let mut total = bits[left];
+    while left > 0 {
+        left -= 1;
+        let bit = bits[left];
+        let twice = ring.double(total)?;
+        total = ring.add(twice, bit)?;
+    }
+    Ok(total)
+}

@@ -1,0 +1,18 @@
+use Rattle.std.proofs.Common.{◌∙◌, ap}
+use Rattle.air_symbolic.specs.Numbers.{tree_of-whole}
+use Rattle.air_symbolic.specs.PoolLaws.{tree-kept}
+use Rattle.air_symbolic.specs.ExtLeaves.{no_base_nodes, ext_reads, ext_grows, ext_leaf_laws}
+use Rattle.air_symbolic.specs.ExtTrees.{whole_tree}
+use Rattle.air_symbolic.specs.Pools.{tree_at}
+use Rattle.air_symbolic.proofs.WholeTrees.{whole_tree-kept}
+use Rattle.air_symbolic.proofs.laws.whole_tree_is_kept.Goals as goal
+
+pub returns : goal.returns
+returns g c =
+    let r = g.F.Field.ring in
+    let p = c.args._pool.now in
+    let i = c.args._x in
+    let reads = ext_reads r g.F.PartialEq.eq g.EF.ExtensionField.coefficients in
+    let laws = ext_leaf_laws r g.F.PartialEq.eq g.EF.ExtensionField.coefficients g.met.F.Field.eq_is in
+    λ q h. ap (whole_tree q.0) (tree-kept r reads ext_grows no_base_nodes laws p q i h c.requires.here)
+    ∙ whole_tree-kept r p.0 q.0 h.under (tree_at p i) (tree_of-whole (reads p.0) p.1 c.requires.pool.nodes i c.requires.here)

@@ -1,0 +1,2 @@
+pub mod GridRows
+pub mod PeriodicRows

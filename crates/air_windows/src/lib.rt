@@ -1,0 +1,20 @@
+//! Windows on rows, and what AIRs, builders and checks say to each other about them: periodic columns, boundary cells,
+//! names of constraints, and the errors.
+#![tactic(auto)]
+
+pub mod boundary;
+pub mod errors;
+pub mod names;
+pub mod periodic;
+pub mod windows;
+
+pub use boundary::{BoundaryEnd, BoundaryIoError, BoundaryPublic};
+pub use errors::AirError;
+pub use names::element::Element;
+pub use names::joined::{EvaluatedJoined, Joined};
+pub use names::name::{Lazy, Name};
+pub use names::namespace::{Namespace, NamespaceExt};
+pub use periodic::{periodic_matrix, periodic_row};
+pub use windows::access::WindowAccess;
+pub use windows::row_window::RowWindow;
+pub use windows::two_rows::TwoRows;
