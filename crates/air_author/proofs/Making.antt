@@ -113,12 +113,12 @@ module _ {S R E F : Type 0} {valid : R → Type 0} {has : R → E → Type 0} {m
       subst (λ s. has s x) (sym p) (ring.means_has (ring_of d) x (with_leaves (stands d) t) m)
 
 module _ {S R F : Type 0} {valid : R → Type 0} {extends : R → R → Type 0} {ring_of : S → R} {with_ring : S → R → S} {stands : S → Leaf → Term F} {ready : S → Type 0} {kept : S → S → Type 0} {grew : S → S → List (Assertion F) → Type 0} {ring_refuses : RingError → Term F → Type 0} {missing : S → Leaf → Type 0} {refuses : S → AirError → List (Assertion F) → Type 0} (laws : BuilderLaws ring_of with_ring stands ready kept grew valid extends ring_refuses missing refuses) where
-  window_refuses : (a : S) (e : AirError) (o i : ℕ) → RefusesWindow (missing a) e → (ts : List (Assertion F)) → PartOf (leaf_term (permutation o i)) ts → refuses a e ts
-  window_refuses a e o i (inl p) ts q = subst (λ x. refuses a x ts) (sym p) (laws.refuses_memory a ts)
+  window_refuses : (a : S) (e : AirError) (o i : ℕ) → RefusesWindow (refuses a) (missing a) e → (ts : List (Assertion F)) → PartOf (leaf_term (permutation o i)) ts → refuses a e ts
+  window_refuses a e o i (inl p) ts q = laws.refuses_first a e [] ts p
   window_refuses a e o i (inr p) ts q = subst (λ x. refuses a x ts) (sym p.0) (laws.refuses_missing a NoPermutation (permutation o i) ts (p.1 o i) (o, i, refl) q)
 
   -- there is no window of the permutation trace
-  pub window_refused : {E : Type 0} {means : S → E → Term F → Type 0} (a : S) (e : AirError) (o i : ℕ) → RefusesWindow (missing a) e → Made {E = E} means grew missing refuses a a (Err e) (leaf_term (permutation o i))
+  pub window_refused : {E : Type 0} {means : S → E → Term F → Type 0} (a : S) (e : AirError) (o i : ℕ) → RefusesWindow (refuses a) (missing a) e → Made {E = E} means grew missing refuses a a (Err e) (leaf_term (permutation o i))
   window_refused a e o i h = record {
     keeps = laws.same a;
     made = tt;

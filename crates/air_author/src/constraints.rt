@@ -1,9 +1,10 @@
 //! Constraints as values, each of a small type of its own that knows what it asserts.
-ghost use Rattle.std.specs.Prelude.{List, OnOk, OnErr, IfErr};
+ghost use Rattle.std.specs.Prelude.{◌≡◌, ◌⊎◌, List, OnOk, OnErr, IfErr};
 ghost use Rattle.air_field.specs.Term.{Term};
 ghost use Rattle.air_builder.specs.Assertion.{Assertion};
 ghost use Rattle.air_builder.specs.Batches.{GrewByFirst};
 ghost use Rattle.air_builder.specs.Refusals.{NoneMissing};
+ghost use Rattle.air_windows.specs.declared.errors.AirError.{AirError};
 ghost use Rattle.air_author.specs.Constraints.{Asserted};
 
 use crate::conditions::{Condition, Everywhere};
@@ -64,7 +65,7 @@ pub fn assert_all<AB: AirBuilder, C: Constraint<AB>>(
     ensures there { OnOk result (NoneMissing (AB.missing builder.old) (C.asserts constraints.now (λ t. t) (λ t. t))) }
     ensures keeps { AB.kept builder.old builder.new }
     ensures err { OnErr result (GrewByFirst AB.grew builder.old builder.new (C.asserts constraints.now (λ t. t) (λ t. t))) }
-    ensures refused { IfErr result (λ e. AB.refuses builder.old e (C.asserts constraints.now (λ t. t) (λ t. t))) }
+    ensures refused { IfErr result (λ e. (e ≡ AirError.Memory) ⊎ AB.refuses builder.old e (C.asserts constraints.now (λ t. t) (λ t. t))) }
 {
     assert_these(builder, constraints)
 }

@@ -3,7 +3,6 @@ use Rattle.std.specs.Prelude.{◌≡◌, ℕ, List, [], ◌∷◌, ◌++◌, Som
 use Rattle.air_field.specs.Term.{Leaf, first_row, last_row, transition, Term, leaf_term, const_term, sub_term, with_leaves}
 use Rattle.air_field.specs.declared.errors.RingError.{RingError}
 use Rattle.air_windows.specs.declared.errors.AirError.{AirError}
-use Rattle.air_windows.specs.declared.errors.AirError.TheVariants.{Memory}
 use Rattle.air_windows.specs.Errors.{air_error}
 use Rattle.air_builder.specs.Refusals.{IsPastWindow, NamesLeaf, PartOf}
 use Rattle.air_builder.specs.Assertion.{Assertion, Base}
@@ -62,7 +61,6 @@ pub record BuilderLaws {S R F : Type 0} (ring_of : S → R) (with_ring : S → R
   pub has_first_row : (a : S) → missing a first_row → ⊥
   pub has_last_row : (a : S) → missing a last_row → ⊥
   pub has_transition : (a : S) → missing a transition → ⊥
-  pub refuses_memory : (a : S) (ts : List (Assertion F)) → refuses a Memory ts
   pub refuses_first : (a : S) (e : AirError) (xs ys : List (Assertion F)) → refuses a e xs → refuses a e (xs ++ ys)
   pub refuses_then : (a b : S) (e : AirError) (xs ys : List (Assertion F)) → grew a b xs → refuses b e ys → refuses a e (xs ++ ys)
   pub refuses_in_ring : (a : S) (e : RingError) (t : Term F) (ts : List (Assertion F)) → ring_refuses e (with_leaves (stands a) t) → PartOf t ts → refuses a (air_error e) ts

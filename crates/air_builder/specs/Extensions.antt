@@ -3,7 +3,7 @@ use Rattle.std.specs.Prelude.{◌≡◌, ◌⊎◌, ℕ, List, [], ◌∷◌}
 use Rattle.air_field.specs.Term.{Leaf, Term, permutation, with_leaves}
 use Rattle.air_field.specs.declared.errors.RingError.{RingError}
 use Rattle.air_windows.specs.declared.errors.AirError.{AirError}
-use Rattle.air_windows.specs.declared.errors.AirError.TheVariants.{Memory, NoPermutation}
+use Rattle.air_windows.specs.declared.errors.AirError.TheVariants.{NoPermutation}
 use Rattle.air_builder.specs.Assertion.{Assertion, Extension}
 use Rattle.air_builder.specs.Builders.{BuilderLaws}
 use Rattle.air_windows.specs.Errors.{air_error}
@@ -29,9 +29,10 @@ RefusesExtOfBoth {F = F} means refuses op a x y e = (t u : Term F) → means a x
 abbrev pub AssertsExtOf : {S E F : Type 0} → (S → E → Term F → Type 0) → (Term F → Term F) → S → E → Assertion F → Type 0
 AssertsExtOf {F = F} means op a x s = (t : Term F) × means a x t × (s ≡ Extension (op t))
 
--- why there is no window of the permutation trace: memory, or the builder has no permutation column
-abbrev pub RefusesWindow : (Leaf → Type 0) → AirError → Type 0
-RefusesWindow missing e = (e ≡ Memory) ⊎ ((e ≡ NoPermutation) × ((o i : ℕ) → missing (permutation o i)))
+-- why there is no window of the permutation trace: the builder may refuse before any assertion, or it has no permutation
+-- column
+abbrev pub RefusesWindow : {F : Type 0} → (AirError → List (Assertion F) → Type 0) → (Leaf → Type 0) → AirError → Type 0
+RefusesWindow refuses missing e = refuses e [] ⊎ ((e ≡ NoPermutation) × ((o i : ℕ) → missing (permutation o i)))
 
 -- What every builder keeps of its ring over the extension. Lending it grows nothing; what it kept, it still has; what
 -- is in the base ring is in the base of this one, and means there what it means.
@@ -64,7 +65,6 @@ module _ {S R X B F : Type 0} {base_valid : R → Type 0} {base_extends : R → 
     has_first_row = laws.has_first_row;
     has_last_row = laws.has_last_row;
     has_transition = laws.has_transition;
-    refuses_memory = laws.refuses_memory;
     refuses_first = laws.refuses_first;
     refuses_then = laws.refuses_then;
     refuses_in_ring = extension.refuses_in_ext_ring;

@@ -93,7 +93,6 @@ module _ {S R E F : Type 0} {valid : R → Type 0} {has : R → E → Type 0} {m
       has_first_row = λ p h. laws.has_first_row (inner p) h;
       has_last_row = λ p h. laws.has_last_row (inner p) h;
       has_transition = λ p h. laws.has_transition (inner p) h;
-      refuses_memory = λ p ts c m. laws.refuses_memory (inner p) (map (filtered c) ts);
       refuses_first = λ p e xs ys h c m. subst (λ zs. refuses (inner p) e zs) (sym (map-append (filtered c) xs ys)) (laws.refuses_first (inner p) e (map (filtered c) xs) (map (filtered c) ys) (h c m));
       refuses_then = λ p q e xs ys g h. inside_refused (name p) (name q) (condition p) (condition q) (inner p) (inner q) e xs ys g h;
       refuses_in_ring = λ p e t ts h b c m. laws.refuses_in_ring (inner p) e t (map (filtered c) ts) h (PartOf-filtered c t ts b);

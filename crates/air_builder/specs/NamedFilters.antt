@@ -1,5 +1,5 @@
 -- Named builders that discard labels, and named builders under a filter.
-use Rattle.std.specs.Prelude.{◌≡◌, ℕ, List, [], ◌∷◌, ◌++◌, map, refl}
+use Rattle.std.specs.Prelude.{◌≡◌, List, [], ◌∷◌, ◌++◌, map, refl}
 use Rattle.std.proofs.Common.{sym, ◌∙◌, ap, subst}
 use Rattle.air_field.specs.Term.{Leaf, Term}
 use Rattle.air_field.specs.declared.errors.RingError.{RingError}

@@ -148,7 +148,6 @@ module _ {R Q E X F : Type 0} {valid : R → Type 0} {has : R → E → Type 0} 
       has_first_row = λ a h. h;
       has_last_row = λ a h. h;
       has_transition = λ a h. h;
-      refuses_memory = λ a ts. tt;
       refuses_first = λ a e xs ys h. Refused-first (IsMissing (fixed a).shape) (IsOver cached_weight) (λ _. ⊥) e xs ys (λ f. f) h;
       refuses_then = λ a b e xs ys g h.
           subst (λ v. Refused (IsMissing v.shape) (IsOver cached_weight) (λ _. ⊥) e (xs ++ ys)) g.keeps.fixed

@@ -1,7 +1,7 @@
 -- The debug builder keeps the laws of named builders.
-use Rattle.std.specs.Prelude.{◌≡◌, ℕ, List, [], ◌∷◌, ◌++◌, map, Bool, true, false, not, cond, refl, All, Option}
+use Rattle.std.specs.Prelude.{◌≡◌, Result, Ok, Err, IfErr, ℕ, List, [], ◌∷◌, ◌++◌, map, Bool, true, false, not, cond, refl, All, Option}
 use Rattle.std.specs.List.{filter}
-use Rattle.std.proofs.Common.{sym, ◌∙◌, ap, subst, append_assoc}
+use Rattle.std.proofs.Common.{inl, sym, ◌∙◌, ap, subst, arith, append_assoc}
 use Rattle.std.proofs.lemmas.List.{map-append, append-nil}
 use Rattle.std.proofs.lemmas.List.Elements.{filter-append, All-append, All-nil, All-cons}
 use Rattle.air_builder.specs.Assertion.{Assertion}
@@ -9,8 +9,10 @@ use Rattle.air_builder.specs.Batches.{Each}
 use Rattle.air_builder.specs.Labels.{Label, Unasked, Shown, Labelled, IsSaid, without_labels, NamedLaws}
 use Rattle.air_report.specs.Report.{failure_place}
 use Rattle.air_report.specs.Debug.{RowData, GrewAtRow}
-use Rattle.air_report.specs.DebugLaws.{asserted_zero, asserted_other, joined_at_row}
-use Rattle.air_report.specs.DebugLabels.{KeepsLabel, LogsOne, failing_labels, passing_labels, LabelledAtRow}
+use Rattle.air_windows.specs.declared.errors.AirError.{AirError}
+use Rattle.air_windows.specs.declared.errors.AirError.TheVariants.{Memory, CountOverflow}
+use Rattle.air_report.specs.DebugLaws.{RefusedAtRow, asserted_zero, asserted_other, joined_at_row}
+use Rattle.air_report.specs.DebugLabels.{KeepsLabel, LogsOne, LogRefuses, failing_labels, passing_labels, LabelledAtRow}
 use Rattle.air_report.specs.declared.debug.failure.ConstraintFailure.{ConstraintFailure}
 
 Each-joined : {A B : Type 0} (R : A → B → Type 0) (xs us : List A) (ys vs : List B) → Each R xs ys → Each R us vs → Each R (xs ++ us) (ys ++ vs)
@@ -35,7 +37,22 @@ labels_where-append test xs ys = ap (λ ls. map (λ l. l.1) ls) (filter-append t
 without_labels-append : {F : Type 0} (xs ys : List (Labelled F)) → without_labels (xs ++ ys) ≡ without_labels xs ++ without_labels ys
 without_labels-append xs ys = map-append (λ l. l.0) xs ys
 
+-- what holds of an error holds of it in weaker words
+pub if_err_weaker : {T X : Type 0} {P Q : X → Type 0} (r : Result T X) → ((e : X) → P e → Q e) → IfErr r P → IfErr r Q
+if_err_weaker (Ok x) w h = tt
+if_err_weaker (Err e) w h = w e h
+
 module _ {F E : Type 0} (zero : RowData F E → Assertion F → Bool) where
+  refused_of_log : (d : RowData F E) (k : ℕ) (holds : Bool) (s : Assertion F) → zero d s ≡ holds → (e : AirError) → LogRefuses k holds e → RefusedAtRow zero d k e (s ∷ [])
+  refused_of_log d k holds s z Memory h = record { refused = tt; memory = λ _. inl (z ∙ h) }
+  refused_of_log d k holds s z CountOverflow h = record { refused = omega (arith, h); memory = cc }
+  refused_of_log d k holds s z _ h = absurd h
+
+  -- what the log refuses of an assertion, the builder may refuse
+  pub logged_refused : (d : RowData F E) (k : ℕ) (holds : Bool) (r : Result (Unit {0}) AirError) → IfErr r (LogRefuses k holds) → IfErr r (λ e. (s : Assertion F) → zero d s ≡ holds → RefusedAtRow zero d k e (s ∷ []))
+  logged_refused d k holds (Ok u) h = tt
+  logged_refused d k holds (Err e) h = λ s z. refused_of_log d k holds s z e h
+
   module _ (d f : RowData F E) (m n : ℕ) (fs gs : List ConstraintFailure) (says : Option (List ℕ) → Type 0) (same : f ≡ d) where
     -- what was logged of one assertion is growth by it
     pub logged_grew : (holds : Bool) → LogsOne d.row m n says holds fs gs → (s : Assertion F) → zero d s ≡ holds → GrewAtRow zero d f m n fs gs (s ∷ [])

@@ -1,7 +1,7 @@
 -- The debug builder keeps the laws of builders.
-use Rattle.std.specs.Prelude.{◌≡◌, ℕ, ◌≤◌, ◌^◌, List, [], ◌∷◌, ◌++◌, length, map, Bool, true, false, not, cond, refl, ⊤}
+use Rattle.std.specs.Prelude.{◌≡◌, ◌⊎◌, ℕ, ◌≤◌, ◌^◌, List, [], ◌∷◌, ◌++◌, length, map, Bool, true, false, not, cond, refl, ⊤}
 use Rattle.std.specs.List.{filter, enumerate_from}
-use Rattle.std.proofs.Common.{sym, ◌∙◌, ap, subst, arith, append_assoc, length-append, ◌+◌}
+use Rattle.std.proofs.Common.{inl, inr, sym, ◌∙◌, ap, subst, arith, append_assoc, length-append, ◌+◌}
 use Rattle.std.proofs.lemmas.List.{map-append, append-nil}
 use Rattle.std.proofs.lemmas.List.Elements.{filter-append}
 use Rattle.air_field.specs.Term.{Leaf, Term}
@@ -9,9 +9,11 @@ use Rattle.air_field.specs.Assignment.{IsMissing}
 use Rattle.air_field.specs.OneRow.{one_row_shape}
 use Rattle.air_builder.specs.Assertion.{Assertion}
 use Rattle.air_builder.specs.Builders.{BuilderLaws}
-use Rattle.air_builder.specs.Refusals.{past_window_missing}
+use Rattle.air_builder.specs.Refusals.{NamesLeaf, past_window_missing}
 use Rattle.air_builder.specs.Extensions.{ExtensionLaws}
 use Rattle.air_builder.specs.Refused.{Refused, Refused-first, Refused-then, Refused-missing}
+use Rattle.air_windows.specs.declared.errors.AirError.{AirError}
+use Rattle.air_windows.specs.declared.errors.AirError.TheVariants.{Memory}
 use Rattle.air_report.specs.Report.{failure_place}
 use Rattle.air_report.specs.Debug.{RowData, nonzero_by, GrewAtRow}
 use Rattle.air_report.specs.declared.debug.failure.ConstraintFailure.{ConstraintFailure}
@@ -29,6 +31,30 @@ RowMissing d l = IsMissing (one_row_shape d.values d.permutation) l
 -- the counter would pass `usize`
 abbrev pub IsFull : {F : Type 0} → ℕ → List (Assertion F) → Type 0
 IsFull n ts = 2 ^ 64 ≤ n + length ts
+
+-- some assertion isn't zero
+abbrev pub SomeNonzero : {F : Type 0} → (Assertion F → Bool) → List (Assertion F) → Type 0
+SomeNonzero zero [] = ⊥
+SomeNonzero zero (t ∷ ts) = (zero t ≡ false) ⊎ SomeNonzero zero ts
+
+-- A builder at the row refuses to grow as any does, and for want of memory only where some assertion isn't zero.
+pub record RefusedAtRow {F E : Type 0} (zero : RowData F E → Assertion F → Bool) (d : RowData F E) (n : ℕ) (e : AirError) (ts : List (Assertion F)) : Type 0 where
+  pub refused : Refused (RowMissing d) (λ _. ⊥) (IsFull n) e ts
+  pub memory : e ≡ Memory → SomeNonzero (zero d) ts
+
+-- an AIR refuses for want of memory, or what its builder refuses
+pub refused_anyway : {F E : Type 0} {zero : RowData F E → Assertion F → Bool} {d : RowData F E} {n : ℕ} {ts : List (Assertion F)} (e : AirError) → (e ≡ Memory) ⊎ RefusedAtRow zero d n e ts → Refused (RowMissing d) (λ _. ⊥) (IsFull n) e ts
+refused_anyway {d = d} {n = n} {ts = ts} e (inl m) = subst (λ x. Refused (RowMissing d) (λ _. ⊥) (IsFull n) x ts) (sym m) tt
+refused_anyway e (inr h) = h.refused
+
+SomeNonzero-first : {F : Type 0} (zero : Assertion F → Bool) (xs ys : List (Assertion F)) → SomeNonzero zero xs → SomeNonzero zero (xs ++ ys)
+SomeNonzero-first zero [] ys h = absurd h
+SomeNonzero-first zero (x ∷ xs) ys (inl h) = inl h
+SomeNonzero-first zero (x ∷ xs) ys (inr h) = inr (SomeNonzero-first zero xs ys h)
+
+SomeNonzero-then : {F : Type 0} (zero : Assertion F → Bool) (xs ys : List (Assertion F)) → SomeNonzero zero ys → SomeNonzero zero (xs ++ ys)
+SomeNonzero-then zero [] ys h = h
+SomeNonzero-then zero (x ∷ xs) ys h = inr (SomeNonzero-then zero xs ys h)
 
 nonzero_by-append : {F : Type 0} (zero : Assertion F → Bool) (n : ℕ) (xs ys : List (Assertion F)) → nonzero_by zero n (xs ++ ys) ≡ nonzero_by zero n xs ++ nonzero_by zero (n + length xs) ys
 nonzero_by-append {F} zero n xs ys =
@@ -88,7 +114,7 @@ module _ {F E : Type 0} (zero : RowData F E → Assertion F → Bool) where
 
     module _ (stands : RowData F E → Leaf → Term F) {R : Type 0} (ring_of : S → R) (with_ring : S → R → S) (data_is : (a : S) (q : R) → data_of (with_ring a q) ≡ data_of a) (count_is : (a : S) (q : R) → count (with_ring a q) ≡ count a) (failures_is : (a : S) (q : R) → failures (with_ring a q) ≡ failures a) (ring_is : (a : S) (q : R) → ring_of (with_ring a q) ≡ q) where
       -- a builder over the values of a row keeps the laws
-      pub debug_laws : BuilderLaws ring_of with_ring (λ b. stands (data_of b)) (λ _. ⊤) (λ a b. data_of b ≡ data_of a) (λ a b ts. GrewAtRow zero (data_of a) (data_of b) (count a) (count b) (failures a) (failures b) ts) (λ _. ⊤) (λ _ _. ⊤) (λ _ _. ⊥) (λ b l. RowMissing (data_of b) l) (λ b e ts. Refused (RowMissing (data_of b)) (λ _. ⊥) (IsFull (count b)) e ts)
+      pub debug_laws : BuilderLaws ring_of with_ring (λ b. stands (data_of b)) (λ _. ⊤) (λ a b. data_of b ≡ data_of a) (λ a b ts. GrewAtRow zero (data_of a) (data_of b) (count a) (count b) (failures a) (failures b) ts) (λ _. ⊤) (λ _ _. ⊤) (λ _ _. ⊥) (λ b l. RowMissing (data_of b) l) (λ b e ts. RefusedAtRow zero (data_of b) (count b) e ts)
       debug_laws = record {
         same = λ a. same_at_row (data_of a) (count a) (failures a);
         joined = λ a b c xs ys g h. joined_at_row (data_of a) (data_of b) (data_of c) (count a) (count b) (count c) (failures a) (failures b) (failures c) xs ys g h;
@@ -106,18 +132,25 @@ module _ {F E : Type 0} (zero : RowData F E → Assertion F → Bool) where
         has_first_row = λ a h. h;
         has_last_row = λ a h. h;
         has_transition = λ a h. h;
-        refuses_memory = λ a ts. tt;
-        refuses_first = λ a e xs ys h. Refused-first (RowMissing (data_of a)) (λ _. ⊥) (IsFull (count a)) e xs ys (λ f. omega (arith, f, length-append xs ys)) h;
-        refuses_then = λ a b e xs ys g h.
-            subst (λ d. Refused (RowMissing d) (λ _. ⊥) (IsFull (count a)) e (xs ++ ys)) g.same_row
-            (Refused-then (RowMissing (data_of b)) (λ _. ⊥) (IsFull (count b)) (IsFull (count a)) e xs ys (λ f. omega (arith, f, g.count, length-append xs ys)) h);
+        refuses_first = λ a e xs ys h. record {
+          refused = Refused-first (RowMissing (data_of a)) (λ _. ⊥) (IsFull (count a)) e xs ys (λ f. omega (arith, f, length-append xs ys)) h.refused;
+          memory = λ m. SomeNonzero-first (zero (data_of a)) xs ys (h.memory m);
+        };
+        refuses_then = λ a b e xs ys g h. record {
+          refused = subst (λ d. Refused (RowMissing d) (λ _. ⊥) (IsFull (count a)) e (xs ++ ys)) g.same_row
+              (Refused-then (RowMissing (data_of b)) (λ _. ⊥) (IsFull (count b)) (IsFull (count a)) e xs ys (λ f. omega (arith, f, g.count, length-append xs ys)) h.refused);
+          memory = λ m. SomeNonzero-then (zero (data_of a)) xs ys (subst (λ d. SomeNonzero (zero d) ys) g.same_row (h.memory m));
+        };
         refuses_in_ring = λ a e t ts h p. absurd h;
-        refuses_missing = λ a e l ts m n p. Refused-missing (RowMissing (data_of a)) (λ _. ⊥) (IsFull (count a)) e l ts m n p;
+        refuses_missing = λ a e l ts m n p. record {
+          refused = Refused-missing (RowMissing (data_of a)) (λ _. ⊥) (IsFull (count a)) e l ts m n p;
+          memory = λ q. absurd (subst (λ x. NamesLeaf x l) q n);
+        };
       }
 
       module _ {B : Type 0} (base_of : S → B) {V : Type 0} (means : V → Term F → Type 0) where
         -- and those of builders over an extension, for its ring over the extension
-        pub debug_extension_laws : ExtensionLaws base_of ring_of with_ring (λ b. stands (data_of b)) (λ _. ⊤) (λ a b. data_of b ≡ data_of a) (λ a b ts. GrewAtRow zero (data_of a) (data_of b) (count a) (count b) (failures a) (failures b) ts) (λ _ _. ⊤) (λ _ x t. means x t) (λ _. ⊤) (λ _ _. ⊤) (λ _ _. ⊤) (λ _ x t. means x t) (λ _ _. ⊥) (λ b e ts. Refused (RowMissing (data_of b)) (λ _. ⊥) (IsFull (count b)) e ts)
+        pub debug_extension_laws : ExtensionLaws base_of ring_of with_ring (λ b. stands (data_of b)) (λ _. ⊤) (λ a b. data_of b ≡ data_of a) (λ a b ts. GrewAtRow zero (data_of a) (data_of b) (count a) (count b) (failures a) (failures b) ts) (λ _ _. ⊤) (λ _ x t. means x t) (λ _. ⊤) (λ _ _. ⊤) (λ _ _. ⊤) (λ _ x t. means x t) (λ _ _. ⊥) (λ b e ts. RefusedAtRow zero (data_of b) (count b) e ts)
         debug_extension_laws = record {
           ext_ring_lent = λ a q e. unchanged a (with_ring a q) (data_is a q) (count_is a q) (failures_is a q);
           ext_ring_with = ring_is;

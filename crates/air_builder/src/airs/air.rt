@@ -1,5 +1,5 @@
 //! AIRs.
-ghost use Rattle.std.specs.Prelude.{◌≡◌, ℕ, List, None, false, length, IfOk, IfErr, OnOk, OnErr};
+ghost use Rattle.std.specs.Prelude.{◌≡◌, ◌⊎◌, ℕ, List, None, false, length, IfOk, IfErr, OnOk, OnErr};
 ghost use Rattle.std.specs.List.{range_with_len};
 ghost use Rattle.std.specs.Option.{option_copied};
 ghost use Rattle.air_builder.specs.Assertion.{Assertion};
@@ -126,7 +126,7 @@ pub trait BaseAir<F: Copy> {
 ///
 /// `eval` keeps the declaration: it answers Ok only after the builder grew by the declared list, and only where no
 /// declared term names an entry that is missing in the builder; it refuses only what the builder may refuse of that
-/// list. A refused `eval` leaves earlier entries and a beginning of its own, which isn't the whole.
+/// list, and where memory is wanting to the AIR itself. A refused `eval` leaves earlier entries and a beginning of its own, which isn't the whole.
 pub trait Air<AB: AirBuilder>: BaseAir<AB::F> {
     fn eval(&self, builder: &mut AB) -> Result<(), AirError>
         requires { AB.ready builder.old }
@@ -134,5 +134,5 @@ pub trait Air<AB: AirBuilder>: BaseAir<AB::F> {
         ensures there { OnOk result (NoneMissing (AB.missing builder.old) (Self.declared self.now)) }
         ensures keeps { AB.kept builder.old builder.new }
         ensures err { OnErr result (GrewByFirst AB.grew builder.old builder.new (Self.declared self.now)) }
-        ensures refused { IfErr result (λ e. AB.refuses builder.old e (Self.declared self.now)) };
+        ensures refused { IfErr result (λ e. (e ≡ AirError.Memory) ⊎ AB.refuses builder.old e (Self.declared self.now)) };
 }

@@ -89,7 +89,7 @@ pub trait AirBuilder {
         ensures next { IfOk result (λ w. RowStands Self.Ring.FromVar-1.var_means (λ i. stands self.now (main 1 i)) (Self.MainWindow.next_row w)) }
         ensures current_ends { IfOk result (λ w. RowEnds (missing self.now) (λ i. main 0 i) (Self.MainWindow.current_row w)) }
         ensures next_ends { IfOk result (λ w. RowEnds (missing self.now) (λ i. main 1 i) (Self.MainWindow.next_row w)) }
-        ensures refused { IfErr result (λ e. e ≡ AirError.Memory) };
+        ensures refused { IfErr result (λ e. refuses self.now e []) };
 
     /// The variable in a column of the main trace, at offset 0 the current row's and at 1 the next one's, if there is
     /// one. Takes no memory, where a window may.

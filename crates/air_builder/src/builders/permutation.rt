@@ -29,7 +29,7 @@ where
         ensures next { IfOk result (λ w. RowStands Self.ExtRing.FromVar-1.var_means (λ i. Self.stands self.now (permutation 1 i)) (Self.MP.next_row w)) }
         ensures current_ends { IfOk result (λ w. RowEnds (Self.missing self.now) (λ i. permutation 0 i) (Self.MP.current_row w)) }
         ensures next_ends { IfOk result (λ w. RowEnds (Self.missing self.now) (λ i. permutation 1 i) (Self.MP.next_row w)) }
-        ensures refused { IfErr result (RefusesWindow (Self.missing self.now)) };
+        ensures refused { IfErr result (RefusesWindow (Self.refuses self.now) (Self.missing self.now)) };
 
     /// The challenges.
     fn permutation_randomness(&self) -> &[Self::RandomVar]

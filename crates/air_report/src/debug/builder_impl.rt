@@ -1,10 +1,7 @@
 //! The debug builder keeps the laws of builders.
-ghost use Rattle.std.specs.Prelude.{◌≡◌, refl, ⊤, [], OnOk, OnErr, IfErr};
-ghost use Rattle.air_builder.specs.Builders.{Means, GrewOf, RefusesOf};
+ghost use Rattle.std.specs.Prelude.{◌≡◌, refl, ⊤};
 ghost use Rattle.air_report.specs.Debug.{row_stands, is_zero_at, GrewAtRow};
-ghost use Rattle.air_report.specs.DebugLabels.{LogRefuses};
-ghost use Rattle.air_report.specs.DebugLaws.{debug_laws, RowMissing, IsFull};
-ghost use Rattle.air_builder.specs.Refused.{Refused};
+ghost use Rattle.air_report.specs.DebugLaws.{debug_laws, RowMissing, RefusedAtRow};
 ghost use Rattle.air_report.specs.DebugRow.{row_of};
 
 use crate::debug::builder::DebugConstraintBuilder;
@@ -43,7 +40,7 @@ impl<'a, F: Field, EF: ExtensionField<F> + 'static> AirBuilder
 
     ghost missing = { λ b l. RowMissing (row_of b) l };
 
-    ghost refuses = { λ b e ts. Refused (RowMissing (row_of b)) (λ _. ⊥) (IsFull b.constraint_index) e ts };
+    ghost refuses = { λ b e ts. RefusedAtRow (is_zero_at F.ring EF.over F.eq EF.eq) (row_of b) b.constraint_index e ts };
 
     ghost laws = { debug_laws (is_zero_at F.ring EF.over F.eq EF.eq) row_of (λ b. b.constraint_index) (λ b. b.failures.items) (row_stands F.ring EF.over EF.coefficients) (λ b. b.ring) (λ b r. record b { ring = r }) (λ _ _. refl) (λ _ _. refl) (λ _ _. refl) (λ _ _. refl) };
 
@@ -95,13 +92,7 @@ impl<'a, F: Field, EF: ExtensionField<F> + 'static> AirBuilder
         Ok(self.is_transition)
     }
 
-    fn assert_zero(&mut self, x: F) -> Result<(), AirError>
-        ensures keeps { row_of self.new ≡ row_of self.old }
-        ensures ok { OnOk result (GrewOf (Means ⟦<FieldRing<F> as Algebra<F>>⟧.means ⟦<DebugConstraintBuilder<'a, F, EF> as AirBuilder>⟧.ring_of ⟦<DebugConstraintBuilder<'a, F, EF> as AirBuilder>⟧.stands) ⟦<DebugConstraintBuilder<'a, F, EF> as AirBuilder>⟧.grew (λ t. t) self.old self.new x) }
-        ensures err { OnErr result (⟦<DebugConstraintBuilder<'a, F, EF> as AirBuilder>⟧.grew self.old self.new []) }
-        ensures refused { IfErr result (RefusesOf (Means ⟦<FieldRing<F> as Algebra<F>>⟧.means ⟦<DebugConstraintBuilder<'a, F, EF> as AirBuilder>⟧.ring_of ⟦<DebugConstraintBuilder<'a, F, EF> as AirBuilder>⟧.stands) ⟦<DebugConstraintBuilder<'a, F, EF> as AirBuilder>⟧.refuses (λ t. t) self.old x) }
-        ensures passes { IfErr result (LogRefuses self.old.constraint_index (F.eq x F.ring.nil)) }
-    {
+    fn assert_zero(&mut self, x: F) -> Result<(), AirError> {
         self.log(x == F::ZERO, "")
     }
 }

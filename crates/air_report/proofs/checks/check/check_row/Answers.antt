@@ -4,7 +4,7 @@ use Rattle.std.proofs.lemmas.Result.{err_from_is_err_and}
 use Rattle.air_field.specs.Assignment.{leaf_value, row_or_none, IsMissing}
 use Rattle.air_builder.specs.Refusals.{NoneMissing}
 use Rattle.air_report.specs.Debug.{nonzero_from}
-use Rattle.air_report.specs.DebugLaws.{IsFull}
+use Rattle.air_report.specs.DebugLaws.{IsFull, refused_anyway}
 use Rattle.air_report.specs.Given.{given, height, table_grid}
 use Rattle.air_builder.specs.Refused.{Refused}
 use Rattle.air_report.proofs.OwnExtension.{own_nonzero}
@@ -58,4 +58,4 @@ returns-in_err-eval-clause-refused g c =
     let width : length c.table_window.result.current.now ≡ (table_grid all.beside.preprocessed).width =
     c.table_window.ensures.width ∙ ap (λ t. (table_grid t).width) c.preprocessed_trace.ensures in
     let same = shape-given all c.args.row c.row_pair.result.top.values.now c.row_pair.result.bottom.values.now c.table_window.result.current.now c.table_window.result.next.now c.in_ok-periodic_row.periodic_row.items c.selector.result c.selector-2.result c.selector-3.result c.row_pair.ensures.width width c.in_ok-periodic_row.ensures in
-    rw (p.1, p.2) (subst (λ s. Refused (IsMissing s) (λ _. ⊥) (IsFull 0) c.in_err-eval.field-0.0 ts) same c.in_err-eval.ensures.refused)
+    rw (p.1, p.2) (subst (λ s. Refused (IsMissing s) (λ _. ⊥) (IsFull 0) c.in_err-eval.field-0.0 ts) same (refused_anyway c.in_err-eval.field-0.0 c.in_err-eval.ensures.refused))
