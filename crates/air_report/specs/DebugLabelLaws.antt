@@ -42,10 +42,13 @@ pub if_err_weaker : {T X : Type 0} {P Q : X → Type 0} (r : Result T X) → ((e
 if_err_weaker (Ok x) w h = tt
 if_err_weaker (Err e) w h = w e h
 
+count_is_not_memory : CountOverflow ≡ Memory → ⊥
+count_is_not_memory m = cc
+
 module _ {F E : Type 0} (zero : RowData F E → Assertion F → Bool) where
   refused_of_log : (d : RowData F E) (k : ℕ) (holds : Bool) (s : Assertion F) → zero d s ≡ holds → (e : AirError) → LogRefuses k holds e → RefusedAtRow zero d k e (s ∷ [])
   refused_of_log d k holds s z Memory h = record { refused = tt; memory = λ _. inl (z ∙ h) }
-  refused_of_log d k holds s z CountOverflow h = record { refused = omega (arith, h); memory = cc }
+  refused_of_log d k holds s z CountOverflow h = record { refused = omega (arith, h); memory = λ m. absurd (count_is_not_memory m) }
   refused_of_log d k holds s z _ h = absurd h
 
   -- what the log refuses of an assertion, the builder may refuse

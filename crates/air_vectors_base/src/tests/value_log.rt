@@ -138,7 +138,6 @@ impl AirBuilder for ValueLog {
       has_first_row = λ a h. h.0 refl;
       has_last_row = λ a h. h.1 refl;
       has_transition = λ a h. h.2 refl;
-      refuses_memory = λ a ts. tt;
       refuses_first = λ a e xs ys h. tt;
       refuses_then = λ a b e xs ys g h. tt;
       refuses_in_ring = λ a e t ts h p. tt;
