@@ -6,6 +6,7 @@ ghost use Rattle.air_builder.specs.Assertion.{Base};
 mod audits;
 mod checks;
 mod degrees;
+mod differing;
 mod extension;
 mod filters;
 mod labels;
