@@ -7,9 +7,14 @@ ghost use Rattle.air_builder.specs.Builders.{Means};
 ghost use Rattle.air_builder.specs.Refusals.{NoneMissing};
 ghost use Rattle.air_vectors.specs.Differing.{differing, RowMeans, RefusesPart};
 
+use crate::tests::{Listed, assert_listed, matrix, recorded_list};
 use air_builder::{Air, AirBuilder, AirError, BaseAir, BoundaryPublic};
-use air_field::{Algebra, Field, FromVar, RowMajorMatrix};
+use air_field::{Algebra, BabyBear, Field, FromVar, RowMajorMatrix};
 use air_symbolic::BaseEntry;
+use p3_air::{AirLayout, ConstraintReport, check_all_constraints};
+use std::alloc::Global;
+use std::process::Abort;
+use std::test::Fail;
 
 /// Columns x, y and z: where y and z differ, x is a bit, and it is y.
 pub struct Differing {}
@@ -103,4 +108,58 @@ impl<AB: AirBuilder> Air<AB> for Differing {
         let row = read_row(builder)?;
         assert_row(builder, row)
     }
+}
+
+/// The report on a trace of three columns.
+fn report_of(
+    alloc: Global,
+    main: &RowMajorMatrix<BabyBear>,
+) -> Result<ConstraintReport, AirError> {
+    check_all_constraints(alloc, &Differing {}, main, &[], None)
+}
+
+/// What is recorded by a layout of so many columns.
+fn record_differing(alloc: Global, main_width: usize) -> Result<Listed, AirError> {
+    let layout = AirLayout {
+        main_width,
+        ..AirLayout::default()
+    };
+    recorded_list(alloc, &Differing {}, layout)
+}
+
+/// The report has these rows and places, of two constraints a row.
+fn assert_report(rt: &impl Abort, report: &ConstraintReport, wanted: &[(usize, usize)]) {
+    assert_eq!(rt; report.total_constraints_per_row, 2);
+    assert_eq!(rt; report.failures.len(), wanted.len());
+    for (failure, place) in report.failures.iter().zip(wanted) {
+        assert_eq!(rt; (failure.row, failure.constraint), *place);
+    }
+}
+
+// In the first two rows y and z are the same. In the third x is a bit, and it is y; in the fourth it is y and no bit; in
+// the fifth it is a bit and not y; in the last neither.
+#[test]
+fn a_difference_is_a_condition(rt: HostRuntime) -> Result<(), Fail> {
+    let alloc = rt.alloc();
+    let main = matrix(
+        alloc,
+        &[2, 3, 3, 1, 0, 0, 1, 1, 0, 2, 2, 0, 1, 2, 0, 5, 2, 0],
+        3,
+    )?;
+    let report = report_of(alloc, &main)?;
+    assert_report(&rt, &report, &[(3, 0), (4, 1), (5, 0), (5, 1)]);
+    let trees = [
+        "((main0[1] - main0[2]) * (main0[0] * (main0[0] - 1)))",
+        "((main0[1] - main0[2]) * (main0[0] - main0[1]))",
+    ];
+    assert_listed(&rt, &record_differing(alloc, 3)?, &trees, &[3, 2]);
+    let narrow = matrix(alloc, &[0, 0], 2)?;
+    let missing = AirError::MissingEntry {
+        entry: BaseEntry::Main { offset: 0 },
+        index: 2,
+    };
+    assert_eq!(rt; report_of(alloc, &narrow).err(), Some(missing));
+    let width = AirError::LayoutMainWidth { layout: 2, air: 3 };
+    assert_eq!(rt; record_differing(alloc, 2).err(), Some(width));
+    Ok(())
 }
