@@ -93,11 +93,17 @@ fn columns(alloc: Global, lengths: &[usize]) -> Result<Vec<Vec<BabyBear>>, Fail>
     Ok(columns)
 }
 
-fn matrix(alloc: Global, numbers: &[u32], width: usize) -> Result<RowMajorMatrix<BabyBear>, Fail> {
+/// A column of these values, a value a row.
+fn column(alloc: Global, numbers: &[u32]) -> Result<Vec<BabyBear>, Fail> {
     let mut values = Vec::new(alloc);
     for n in numbers {
         values.push(BabyBear::new(*n))?;
     }
+    Ok(values)
+}
+
+fn matrix(alloc: Global, numbers: &[u32], width: usize) -> Result<RowMajorMatrix<BabyBear>, Fail> {
+    let values = column(alloc, numbers)?;
     Ok(RowMajorMatrix::new(values, width)?)
 }
 
