@@ -1,2 +1,3 @@
 -- The AIRs of the tests.
+pub mod Differing
 pub mod TestAirs

@@ -1,7 +1,8 @@
--- The constraints of the tests' AIRs over an extension.
-use Rattle.std.specs.Prelude.{List, [], ◌∷◌}
-use Rattle.air_field.specs.Term.{main, permutation, challenge, permutation_value, Term, leaf_term, sub_term, mul_term}
+-- The constraints of the tests' AIRs.
+use Rattle.std.specs.Prelude.{ℕ, List, [], ◌∷◌}
+use Rattle.air_field.specs.Term.{main, preprocessed, periodic, permutation, challenge, permutation_value, Term, leaf_term, sub_term, mul_term}
 use Rattle.air_builder.specs.Assertion.{Assertion, Base, Extension}
+use Rattle.air_author.specs.Expressions.{power_term}
 
 -- permutation 0 times challenge 0, less permutation value 0
 abbrev pub permuted_term : {F : Type 0} → Term F
@@ -13,3 +14,17 @@ permuted = Extension permuted_term ∷ []
 -- column 0, the constraint over the extension, column 1
 abbrev pub mixed : {F : Type 0} → List (Assertion F)
 mixed = Base (leaf_term (main 0 0)) ∷ Extension permuted_term ∷ Base (leaf_term (main 0 1)) ∷ []
+
+-- column 0 is the periodic column; column 0 times the table's next row
+abbrev pub surrounded : {F : Type 0} → List (Assertion F)
+surrounded =
+    Base (sub_term (leaf_term (main 0 0)) (leaf_term (periodic 0))) ∷
+    Base (mul_term (leaf_term (main 0 0)) (leaf_term (preprocessed 1 0))) ∷ []
+
+-- the product of so many, and of so many of these
+abbrev pub raised_twice : {F : Type 0} → F → ℕ → Term F → Term F
+raised_twice one n t = power_term one (power_term one t n) n
+
+-- column 0, raised eight times
+abbrev pub steep : {F : Type 0} → F → ℕ → List (Assertion F)
+steep one n = Base (raised_twice one n (raised_twice one n (raised_twice one n (raised_twice one n (leaf_term (main 0 0)))))) ∷ []

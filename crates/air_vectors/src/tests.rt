@@ -6,20 +6,24 @@ ghost use Rattle.air_builder.specs.Assertion.{Base};
 mod audits;
 mod checks;
 mod degrees;
+mod differing;
 mod extension;
 mod filters;
 mod labels;
 mod layouts;
 mod recordings;
 mod traces;
+mod trees;
 
+use crate::tests::trees::base_text;
 use air_builder::{Air, AirBuilder, AirError, BaseAir, BoundaryPublic, WindowAccess};
 use air_field::{BabyBear, Field, RowMajorMatrix, RowMajorMatrixView, ViewPair};
 use air_symbolic::{BaseEntry, SymbolicVariable};
 use p3_air::author::{Current, Next, Product, Zero, assert_all};
 use p3_air::{
-    AirLayout, ConstraintReport, DebugConstraintBuilder, SymbolicAirBuilder, check_all_constraints,
-    constraint_degree_from_poly_degree, get_max_constraint_degree, get_symbolic_constraints,
+    AirLayout, ConstraintReport, DebugConstraintBuilder, Recorded, SymbolicAirBuilder,
+    check_all_constraints, constraint_degree_from_poly_degree, get_max_constraint_degree,
+    get_symbolic_constraints,
 };
 use std::alloc::Global;
 use std::process::Abort;
@@ -89,11 +93,17 @@ fn columns(alloc: Global, lengths: &[usize]) -> Result<Vec<Vec<BabyBear>>, Fail>
     Ok(columns)
 }
 
-fn matrix(alloc: Global, numbers: &[u32], width: usize) -> Result<RowMajorMatrix<BabyBear>, Fail> {
+/// A column of these values, a value a row.
+fn column(alloc: Global, numbers: &[u32]) -> Result<Vec<BabyBear>, Fail> {
     let mut values = Vec::new(alloc);
     for n in numbers {
         values.push(BabyBear::new(*n))?;
     }
+    Ok(values)
+}
+
+fn matrix(alloc: Global, numbers: &[u32], width: usize) -> Result<RowMajorMatrix<BabyBear>, Fail> {
+    let values = column(alloc, numbers)?;
     Ok(RowMajorMatrix::new(values, width)?)
 }
 
@@ -116,28 +126,58 @@ fn products_layout(alloc: Global) -> AirLayout {
     AirLayout::from_air::<BabyBear, Products<BabyBear>>(&make_products(alloc))
 }
 
-/// How many base constraints are recorded of an AIR, and the cached degrees of those that are in the pool.
-fn recorded_degrees<A: Air<SymbolicAirBuilder<BabyBear, BabyBear>>>(
+/// What is recorded of an AIR's base constraints.
+#[derive(Drop)]
+struct Listed {
+    /// The cached degree of each.
+    degrees: Vec<usize>,
+    /// The tree of each, as a text.
+    trees: Vec<String>,
+}
+
+/// The base constraints that are recorded.
+fn listed_of(alloc: Global, recorded: &Recorded<BabyBear, BabyBear>) -> Result<Listed, AirError> {
+    let pool = recorded.pool.base();
+    let mut listed = Listed {
+        degrees: Vec::new(alloc),
+        trees: Vec::new(alloc),
+    };
+    for number in &recorded.base {
+        let tree = base_text(alloc, pool, *number, 8)?;
+        let kept = listed.trees.push(tree);
+        if kept.is_err() || !pool.contains(*number) {
+            return Err(AirError::Memory);
+        }
+        let degree = pool.degree_multiple(*number);
+        if listed.degrees.push(degree).is_err() {
+            return Err(AirError::Memory);
+        }
+    }
+    Ok(listed)
+}
+
+/// The base constraints that are recorded of an AIR.
+fn recorded_list<A: Air<SymbolicAirBuilder<BabyBear, BabyBear>>>(
     alloc: Global,
     air: &A,
     layout: AirLayout,
-) -> Result<(usize, Vec<usize>), AirError> {
+) -> Result<Listed, AirError> {
     let recorded = get_symbolic_constraints(alloc, air, layout)?;
-    let mut degrees = Vec::new(alloc);
-    for number in &recorded.base {
-        if recorded.pool.base().contains(*number) {
-            let degree = recorded.pool.base().degree_multiple(*number);
-            if degrees.push(degree).is_err() {
-                return Err(AirError::Memory);
-            }
-        }
-    }
-    Ok((recorded.base.len(), degrees))
+    listed_of(alloc, &recorded)
 }
 
 /// What is recorded of `Products`.
-fn record_products(alloc: Global, layout: AirLayout) -> Result<(usize, Vec<usize>), AirError> {
-    recorded_degrees(alloc, &make_products(alloc), layout)
+fn record_products(alloc: Global, layout: AirLayout) -> Result<Listed, AirError> {
+    recorded_list(alloc, &make_products(alloc), layout)
+}
+
+/// What was recorded has these trees, and these cached degrees.
+fn assert_listed(rt: &impl Abort, listed: &Listed, trees: &[&str], degrees: &[usize]) {
+    assert_eq!(rt; listed.degrees.as_slice(), degrees);
+    assert_eq!(rt; listed.trees.len(), trees.len());
+    for (tree, wanted) in listed.trees.iter().zip(trees) {
+        assert_eq!(rt; tree.as_str(), *wanted);
+    }
 }
 
 /// The degree that is inferred of an AIR by its own layout, for so many rows.
@@ -257,9 +297,9 @@ fn records_one_expression_for_each_place(rt: HostRuntime) -> Result<(), Fail> {
             num_periodic_columns: 0,
         }
     );
-    let (count, degrees) = record_products(rt.alloc(), layout)?;
-    assert_eq!(rt; count, 2);
-    assert_eq!(rt; degrees.as_slice(), [2, 1].as_slice());
+    let listed = record_products(rt.alloc(), layout)?;
+    let trees = ["(main0[0] * main0[1])", "main1[0]"];
+    assert_listed(&rt, &listed, &trees, &[2, 1]);
     Ok(())
 }
 

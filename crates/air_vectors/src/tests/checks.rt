@@ -259,6 +259,7 @@ fn cells_that_differ_are_listed(rt: HostRuntime) -> Result<(), Fail> {
         let report = report_of(alloc, &air, &main, public, cap)?;
         assert_cells(&rt, &report, wanted);
     }
+    assert_mismatch(&rt, first_fault(alloc, &air, &main, &first), (0, 0));
     assert_mismatch(&rt, first_fault(alloc, &air, &main, &both), (0, 0));
     let last = [BabyBear::new(0), BabyBear::new(4)];
     assert_mismatch(&rt, first_fault(alloc, &air, &main, &last), (3, 1));

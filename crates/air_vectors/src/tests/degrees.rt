@@ -3,12 +3,17 @@ ghost use Rattle.std.specs.Prelude.{◌∷◌, [], None};
 ghost use Rattle.air_field.specs.Term.{main, periodic, transition, leaf_term, mul_term};
 ghost use Rattle.air_builder.specs.Assertion.{Base};
 ghost use Rattle.air_builder.specs.Beside.{nothing_beside};
+ghost use Rattle.air_vectors.specs.TestAirs.{steep};
 
 use crate::tests::checks::no_tables;
-use crate::tests::{columns, inferred};
+use crate::tests::{columns, inferred, recorded_list};
 use air_builder::{Air, AirBuilder, AirError, BaseAir, BoundaryPublic};
-use air_field::RowMajorMatrix;
-use p3_air::author::{Current, Next, Periodic, Product, Square, Transition, Zero, assert_all};
+use air_field::{BabyBear, Field, RowMajorMatrix};
+use p3_air::author::{
+    Current, Next, Periodic, Power, Product, Square, Transition, Zero, assert_all,
+};
+use p3_air::{AirLayout, Recorded, SymbolicAirBuilder, get_symbolic_constraints};
+use std::alloc::Global;
 use std::test::Fail;
 
 /// One column x: the transition selector twice times x is zero.
@@ -170,6 +175,104 @@ impl<AB: AirBuilder> Air<AB> for Alone {
     }
 }
 
+/// One column, raised to a power eight times, is zero.
+#[derive(Drop)]
+struct Steep {
+    power: usize,
+}
+
+impl<F: Field> BaseAir<F> for Steep {
+    ghost declared = { λ a. steep F.ONE a.power };
+
+    ghost width = { λ _. 1 };
+
+    ghost num_public_values = { λ _. 0 };
+
+    ghost beside = { λ _. nothing_beside };
+
+    fn width(&self) -> usize {
+        1
+    }
+
+    fn num_public_values(&self) -> usize {
+        0
+    }
+
+    fn preprocessed_trace(&self) -> Option<&RowMajorMatrix<F>> {
+        None
+    }
+
+    fn periodic_columns(&self) -> &[Vec<F>] {
+        &[]
+    }
+
+    fn public_boundary_io(&self) -> &[BoundaryPublic] {
+        &[]
+    }
+}
+
+impl<AB: AirBuilder> Air<AB> for Steep {
+    fn eval(&self, builder: &mut AB) -> Result<(), AirError> {
+        let n = self.power;
+        let four = Power(Power(Power(Power(Current(0), n), n), n), n);
+        let eight = Power(Power(Power(Power(four, n), n), n), n);
+        assert_all(builder, &Zero(eight))
+    }
+}
+
+/// The cached degrees of what is recorded of a column raised to this power eight times.
+fn steep_degrees(alloc: Global, power: usize) -> Result<Vec<usize>, AirError> {
+    let layout = AirLayout {
+        main_width: 1,
+        ..AirLayout::default()
+    };
+    let listed = recorded_list(alloc, &Steep { power }, layout)?;
+    Ok(listed.degrees)
+}
+
+// 128 to the power of 8 is 2 to that of 56, and 256 to the power of 8 is 2 to that of 64.
+#[test]
+fn a_degree_past_the_greatest_number_is_refused(rt: HostRuntime) -> Result<(), Fail> {
+    let degrees = steep_degrees(rt.alloc(), 128)?;
+    assert_eq!(rt; degrees.as_slice(), [1 << 56].as_slice());
+    let refused = steep_degrees(rt.alloc(), 256);
+    assert_eq!(rt; refused.err(), Some(AirError::DegreeOverflow));
+    Ok(())
+}
+
+/// The degrees of the recorded polynomials over so many rows.
+fn polynomial_degrees(
+    alloc: Global,
+    recorded: &Recorded<BabyBear, BabyBear>,
+    trace_len: usize,
+    periods: &[usize],
+) -> Result<Vec<usize>, AirError> {
+    let pool = recorded.pool.base();
+    let mut degrees = Vec::new(alloc);
+    for number in &recorded.base {
+        if pool.contains(*number) {
+            let degree = pool.poly_degree(*number, trace_len, periods)?;
+            if degrees.push(degree).is_err() {
+                return Err(AirError::Memory);
+            }
+        }
+    }
+    Ok(degrees)
+}
+
+/// The degrees of the recorded polynomials over eight rows, and the degree that is inferred of them.
+fn degrees_over_eight<A: BaseAir<BabyBear> + Air<SymbolicAirBuilder<BabyBear, BabyBear>>>(
+    alloc: Global,
+    air: &A,
+    periods: &[usize],
+) -> Result<(Vec<usize>, usize), AirError> {
+    let layout = AirLayout::from_air::<BabyBear, A>(air);
+    let recorded = get_symbolic_constraints(alloc, air, layout)?;
+    let degrees = polynomial_degrees(alloc, &recorded, 8, periods)?;
+    let inferred = inferred(alloc, air, 8)?;
+    Ok((degrees, inferred))
+}
+
 #[test]
 fn a_product_alone_keeps_its_cached_degree(rt: HostRuntime) -> Result<(), Fail> {
     for trace_len in [1, 2] {
@@ -182,12 +285,16 @@ fn a_product_alone_keeps_its_cached_degree(rt: HostRuntime) -> Result<(), Fail> 
 #[test]
 fn degrees_for_eight_rows(rt: HostRuntime) -> Result<(), Fail> {
     let alloc = rt.alloc();
-    assert_eq!(rt; inferred(alloc, &Steps {}, 8)?, 2);
+    let (degrees, inferred_degree) = degrees_over_eight(alloc, &Steps {}, &[])?;
+    assert_eq!(rt; degrees.as_slice(), [9].as_slice());
+    assert_eq!(rt; inferred_degree, 2);
     assert_eq!(rt; inferred(alloc, &Wide {}, 8)?, 1);
     let air = Cycles {
         columns: columns(alloc, &[2, 2])?,
     };
-    assert_eq!(rt; inferred(alloc, &air, 8)?, 1);
+    let (degrees, inferred_degree) = degrees_over_eight(alloc, &air, &[2, 2])?;
+    assert_eq!(rt; degrees.as_slice(), [8].as_slice());
+    assert_eq!(rt; inferred_degree, 1);
     let idle = no_tables(alloc, 4, 0);
     assert_eq!(rt; inferred(alloc, &idle, 8)?, 0);
     Ok(())

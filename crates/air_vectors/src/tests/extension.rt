@@ -2,6 +2,7 @@
 ghost use Rattle.air_builder.specs.Beside.{nothing_beside};
 ghost use Rattle.air_vectors.specs.TestAirs.{permuted, mixed};
 
+use crate::tests::filters::assert_constant_ext_under;
 use air_field::{
     BabyBear, BinomialExtensionField, ExtensionField, Field, FromVar, RowMajorMatrix,
     RowMajorMatrixView, ViewPair,
@@ -110,7 +111,8 @@ fn number(n: u32) -> BabyBear {
     BabyBear::new(n)
 }
 
-fn extension(a: u32, b: u32, c: u32, d: u32) -> BinomialExtensionField {
+/// The element with these coefficients, lowest first.
+pub fn extension(a: u32, b: u32, c: u32, d: u32) -> BinomialExtensionField {
     BinomialExtensionField::from_basis_coefficients(&[number(a), number(b), number(c), number(d)])
 }
 
@@ -223,6 +225,17 @@ fn failures_over_the_extension_are_labelled(rt: HostRuntime) -> Result<(), Fail>
         builder.formatted_failures()?.as_str(),
         "[#1 \"fails\", #2]"
     );
+    Ok(())
+}
+
+#[test]
+fn a_filter_multiplies_over_the_extension(rt: HostRuntime) -> Result<(), Fail> {
+    let mut builder = row(rt.alloc(), &[], &[], &[], &[]);
+    for condition in [3, 0, 3] {
+        let x = extension(0, 1, 0, 0);
+        assert_constant_ext_under(&mut builder, number(condition), x)?;
+    }
+    assert_places(&rt, &builder, &[0, 2]);
     Ok(())
 }
 

@@ -1,6 +1,8 @@
 //! Assertions under filters, and under filters over filters: a filter is itself a builder.
-use air_builder::{AirBuilder, AirError, Name, NamedAirBuilder};
-use air_field::Algebra;
+ghost use Rattle.std.specs.Prelude.{IfOk};
+
+use air_builder::{AirBuilder, AirError, ExtensionBuilder, Name, NamedAirBuilder};
+use air_field::{Algebra, ExtAlgebra, Field, RingError};
 
 /// Asserts where a condition holds that `x` is zero.
 pub fn assert_zero_under<AB: AirBuilder>(
@@ -68,4 +70,64 @@ pub fn assert_zero_named_under<AB: NamedAirBuilder, N: Name>(
     let mut filter = builder.when(condition)?;
     filter.assert_zero_named(x, name)?;
     Ok(())
+}
+
+/// Three constants of a ring.
+fn make_constants<F: Field, R: Algebra<F>>(
+    ring: &mut R,
+    a: F,
+    b: F,
+    c: F,
+) -> Result<(R::Elem, R::Elem, R::Elem), RingError>
+    requires { R.valid ring.old }
+    ensures extended { R.extends ring.old ring.new }
+    ensures first { IfOk result (λ made. R.has ring.new made.0) }
+    ensures second { IfOk result (λ made. R.has ring.new made.1) }
+    ensures third { IfOk result (λ made. R.has ring.new made.2) }
+{
+    let x = ring.constant(a)?;
+    let y = ring.constant(b)?;
+    let z = ring.constant(c)?;
+    Ok((x, y, z))
+}
+
+/// Asserts where two constants hold that a third is zero.
+pub fn assert_constant_under_both<AB: AirBuilder>(
+    builder: &mut AB,
+    outer: AB::F,
+    inner: AB::F,
+    x: AB::F,
+) -> Result<(), AirError>
+    requires { AB.ready builder.old }
+{
+    let (outer, inner, x) = make_constants(builder.ring(), outer, inner, x)?;
+    assert_zero_under_both(builder, outer, inner, x)
+}
+
+/// Asserts where a condition holds that `x` over the extension is zero.
+fn assert_zero_ext_under<AB: ExtensionBuilder>(
+    builder: &mut AB,
+    condition: AB::Expr,
+    x: AB::ExprEF,
+) -> Result<(), AirError>
+    requires ready { AB.ready builder.old }
+    requires condition_in { AB.Ring.has (AB.ring_of builder.old) condition }
+    requires x_in { AB.ExtRing.has (AB.ext_ring_of builder.old) x }
+{
+    let mut filter = builder.when(condition)?;
+    filter.assert_zero_ext(x)?;
+    Ok(())
+}
+
+/// Asserts where a constant holds that one of the extension is zero.
+pub fn assert_constant_ext_under<AB: ExtensionBuilder>(
+    builder: &mut AB,
+    condition: AB::F,
+    x: AB::EF,
+) -> Result<(), AirError>
+    requires { AB.ready builder.old }
+{
+    let x = builder.ext_ring().ext_constant(x)?;
+    let condition = builder.ring().constant(condition)?;
+    assert_zero_ext_under(builder, condition, x)
 }

@@ -3,7 +3,7 @@ ghost use Rattle.std.specs.Prelude.{[], ◌∷◌, None, Some};
 ghost use Rattle.air_field.specs.Term.{periodic, preprocessed, leaf_term};
 ghost use Rattle.air_builder.specs.Assertion.{Base};
 
-use crate::tests::matrix;
+use crate::tests::{column, matrix};
 use air_builder::{Air, AirError, BaseAir, BoundaryPublic};
 use air_field::{BabyBear, RowMajorMatrix};
 use air_symbolic::BaseEntry;
@@ -104,15 +104,6 @@ impl<'a> Air<DebugConstraintBuilder<'a, BabyBear, BabyBear>> for Tabled {
     ) -> Result<(), AirError> {
         assert_all(builder, &Zero(PreprocessedNext(0)))
     }
-}
-
-/// A column of these values, a value a row.
-fn column(alloc: Global, numbers: &[u32]) -> Result<Vec<BabyBear>, Fail> {
-    let mut values = Vec::new(alloc);
-    for n in numbers {
-        values.push(BabyBear::new(*n))?;
-    }
-    Ok(values)
 }
 
 /// A main trace of so many rows of one zero.

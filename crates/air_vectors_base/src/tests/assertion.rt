@@ -2,8 +2,9 @@
 ghost use Rattle.std.specs.Prelude.{OnOk};
 
 use crate::tests::filters::{
+    Batch, NamedBatch, assert_batch_under_both, assert_named_batch_under_both,
     assert_zero_ext_under, assert_zero_ext_under_both, assert_zero_named_under_both,
-    assert_zero_under, assert_zero_under_both,
+    assert_zero_under, assert_zero_under_both, assert_zeros_ext_under,
 };
 use air_builder::{
     AirBuilder, AirError, ExtensionBuilder, Lazy, Name, NamedAirBuilder, NamedExtensionBuilder,
@@ -26,6 +27,8 @@ pub enum Assertion<E> {
     ZeroWhereDifferent(E, E, E),
     /// It is zero in each window of two rows.
     ZeroInWindow(E),
+    /// The batch holds where neither of the first two is zero.
+    BatchUnderBoth(E, E, Batch<E>),
 }
 
 /// An assertion under a name, which has as many parts as are said here, and else one.
@@ -39,6 +42,8 @@ pub enum NamedAssertion<E> {
     ZeroInSpace(E),
     /// The last is zero where neither of the first two is; three parts.
     ZeroUnderBoth(E, E, E),
+    /// The batch holds where neither of the first two is zero; two parts.
+    BatchUnderBoth(E, E, NamedBatch<E>),
 }
 
 /// An assertion over an extension.
@@ -49,6 +54,7 @@ pub enum ExtAssertion<E, X> {
     Equal(X, X),
     ZeroUnder(E, X),
     ZeroUnderBoth(E, E, X),
+    ZerosUnder(E, [X; 2]),
 }
 
 /// An assertion over an extension under a name.
@@ -125,6 +131,9 @@ pub fn assert_row<AB: AirBuilder>(
         }
         Assertion::ZeroWhereDifferent(x, y, z) => assert_filtered(builder, x, y, z),
         Assertion::ZeroInWindow(x) => assert_in_window(builder, x),
+        Assertion::BatchUnderBoth(outer, inner, batch) => {
+            assert_batch_under_both(builder, outer, inner, batch)
+        }
     }
 }
 
@@ -146,6 +155,9 @@ pub fn assert_named_row<AB: NamedAirBuilder>(
         NamedAssertion::ZeroInSpace(x) => builder.assert_zero_named(x, a.name(b)),
         NamedAssertion::ZeroUnderBoth(outer, inner, x) => {
             assert_zero_named_under_both(builder, outer, inner, x, a.join(b).name(c))
+        }
+        NamedAssertion::BatchUnderBoth(outer, inner, batch) => {
+            assert_named_batch_under_both(builder, outer, inner, batch, a.join(b))
         }
     }
 }
@@ -185,6 +197,7 @@ pub fn assert_ext_row<AB: ExtensionBuilder>(
         ExtAssertion::ZeroUnderBoth(outer, inner, x) => {
             assert_zero_ext_under_both(builder, outer, inner, x)
         }
+        ExtAssertion::ZerosUnder(condition, all) => assert_zeros_ext_under(builder, condition, all),
     }
 }
 

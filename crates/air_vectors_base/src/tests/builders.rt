@@ -4,6 +4,7 @@ ghost use Rattle.std.specs.Prelude.{◌≡◌, IfOk};
 use crate::tests::assertion::{
     Assertion, NamedAssertion, assert_lazily, assert_named_row, assert_row,
 };
+use crate::tests::filters::{Batch, NamedBatch};
 use crate::tests::numbers::number;
 use crate::tests::value_log::{Asserted, ValueLog, assert_failures};
 use air_builder::{
@@ -88,6 +89,31 @@ fn filters_multiply(rt: HostRuntime) -> Result<(), Fail> {
     Ok(())
 }
 
+/// Two numbers.
+fn pair(x: u32, y: u32) -> [BabyBear; 2] {
+    [number(x), number(y)]
+}
+
+// 2 times 3 times what the batch asserts of each element.
+#[test]
+fn filters_multiply_each_element(rt: HostRuntime) -> Result<(), Fail> {
+    let mut log = ValueLog::new(rt.alloc(), 0);
+    let batches = [
+        Batch::Zeros(pair(5, 0)),
+        Batch::Bools(pair(3, 1)),
+        Batch::Equal(pair(9, 8), pair(4, 8)),
+    ];
+    for batch in batches {
+        let row = Assertion::BatchUnderBoth(number(2), number(3), batch);
+        assert_on_log(&mut log, row)?;
+    }
+    let hidden = Assertion::BatchUnderBoth(number(2), number(0), Batch::Zeros(pair(5, 7)));
+    assert_on_log(&mut log, hidden)?;
+    assert_values(&rt, &log, &[30, 0, 36, 0, 30, 0, 0, 0]);
+    assert_failures(&rt, &log, &[(0, None), (2, None), (4, None)]);
+    Ok(())
+}
+
 #[test]
 fn failures_keep_their_labels(rt: HostRuntime) -> Result<(), Fail> {
     let mut log = ValueLog::new(rt.alloc(), 0);
@@ -129,8 +155,22 @@ fn elements_of_a_batch_are_labelled_by_place(rt: HostRuntime) -> Result<(), Fail
     let mut log = ValueLog::new(rt.alloc(), 0);
     log.assert_zeros_named([number(0), number(1)], "z")?;
     log.assert_bools_named([number(1), number(0), number(4)], "a".join("b"))?;
-    assert_values(&rt, &log, &[0, 1, 0, 0, 12]);
-    let failures = [(1, Some("z::[1]")), (4, Some("a::b::[2]"))];
+    let batches = [
+        NamedBatch::Zeros(pair(0, 5)),
+        NamedBatch::Bools(pair(3, 2)),
+    ];
+    for batch in batches {
+        let row = NamedAssertion::BatchUnderBoth(number(2), number(3), batch);
+        assert_named_on_log(&mut log, row, ["outer", "mid", ""])?;
+    }
+    assert_values(&rt, &log, &[0, 1, 0, 0, 12, 0, 30, 36, 12]);
+    let failures = [
+        (1, Some("z::[1]")),
+        (4, Some("a::b::[2]")),
+        (6, Some("outer::mid::[1]")),
+        (7, Some("outer::mid::[0]")),
+        (8, Some("outer::mid::[1]")),
+    ];
     assert_failures(&rt, &log, &failures);
     Ok(())
 }

@@ -74,9 +74,13 @@ fn filters_multiply_by_the_lifted_condition(rt: HostRuntime) -> Result<(), Fail>
     let mut log = ValueLog::new(rt.alloc(), 0);
     assert_on_log(&mut log, Row::ZeroUnder(number(3), element([0, 1, 0, 0])))?;
     assert_on_log(&mut log, Row::ZeroUnder(number(0), element([0, 1, 0, 0])))?;
+    let both = [element([0, 0, 1, 5]), element([4, 0, 0, 0])];
+    assert_on_log(&mut log, Row::ZerosUnder(number(2), both))?;
     let wanted = [
         Asserted::Extension(element([0, 3, 0, 0])),
         Asserted::Extension(element([0, 0, 0, 0])),
+        Asserted::Extension(element([0, 0, 2, 10])),
+        Asserted::Extension(element([8, 0, 0, 0])),
     ];
     assert_values(&rt, &log, &wanted);
     Ok(())
