@@ -13,6 +13,7 @@ pub mod Shapes
 pub mod Cells
 pub mod Debug
 pub mod DebugLaws
+pub mod DebugRefusals
 pub mod DebugValues
 pub mod DebugRow
 pub mod FailureTexts
