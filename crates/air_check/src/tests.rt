@@ -7,7 +7,10 @@ use crate::program::run;
 use air_builder::AirError;
 use air_field::{BabyBear, RowMajorMatrix};
 use p3_air::{
-    Audit, CheckError, ConstraintReport, audit_air, check_all_constraints, check_constraints,
+    Air, AirLayout, Audit, CheckError, ConstraintReport, SymbolicAirBuilder, audit_air,
+    check_all_constraints, check_constraints, get_all_symbolic_constraints, get_constraint_layout,
+    get_max_constraint_degree, get_max_constraint_degree_extension, get_symbolic_constraints,
+    get_symbolic_constraints_extension,
 };
 use std::alloc::Global;
 use std::test::Fail;
@@ -15,6 +18,7 @@ use streams::{Kept, Pieces};
 
 mod answers;
 mod audits;
+mod layouts;
 mod refusals;
 mod streams;
 mod traces;
@@ -63,4 +67,24 @@ fn audit_on(
     public_values: &[BabyBear],
 ) -> Result<Audit<BabyBear>, AirError> {
     audit_air(alloc, &Fibonacci::new(), main, public_values)
+}
+
+/// What each call that records an AIR by a layout refuses.
+fn refusals_of<A: Air<SymbolicAirBuilder<BabyBear, BabyBear>>>(
+    alloc: Global,
+    air: &A,
+    layout: AirLayout,
+) -> [Option<AirError>; 6] {
+    [
+        get_symbolic_constraints(alloc, air, layout).err(),
+        get_symbolic_constraints_extension(alloc, air, layout).err(),
+        get_all_symbolic_constraints(alloc, air, layout).err(),
+        get_constraint_layout(alloc, air, layout).err(),
+        get_max_constraint_degree(alloc, air, layout, 4).err(),
+        get_max_constraint_degree_extension(alloc, air, layout, 4).err(),
+    ]
+}
+
+fn recorded_refusals(alloc: Global, layout: AirLayout) -> [Option<AirError>; 6] {
+    refusals_of(alloc, &Fibonacci::new(), layout)
 }

@@ -111,10 +111,7 @@ impl<AB: AirBuilder> Air<AB> for Differing {
 }
 
 /// The report on a trace of three columns.
-fn report_of(
-    alloc: Global,
-    main: &RowMajorMatrix<BabyBear>,
-) -> Result<ConstraintReport, AirError> {
+fn report_of(alloc: Global, main: &RowMajorMatrix<BabyBear>) -> Result<ConstraintReport, AirError> {
     check_all_constraints(alloc, &Differing {}, main, &[], None)
 }
 

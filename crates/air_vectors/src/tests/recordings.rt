@@ -5,14 +5,12 @@ ghost use Rattle.std.specs.Prelude.{IfOk};
 use crate::tests::extension::{Mixed, Permuted, extension};
 use crate::tests::filters::{assert_constant_ext_under, assert_constant_under_both};
 use crate::tests::trees::{base_text, ext_text, product_of};
-use crate::tests::{
-    Products, make_products, products_layout, record_products, recording_builder,
-};
+use crate::tests::{Products, make_products, products_layout, record_products, recording_builder};
 use p3_air::{
-    Air, AirBuilder, AirError, AirLayout, BabyBear, BinomialExtensionField, ConstraintLayout, ExtEntry,
-    ExtensionBuilder, ExtensionField, PermutationAirBuilder, SymbolicAirBuilder, SymbolicVariableExt, WindowAccess,
-    get_all_symbolic_constraints, get_constraint_layout, get_max_constraint_degree_extension,
-    get_symbolic_constraints_extension,
+    Air, AirBuilder, AirError, AirLayout, BabyBear, BinomialExtensionField, ConstraintLayout,
+    ExtEntry, ExtensionBuilder, ExtensionField, PermutationAirBuilder, SymbolicAirBuilder,
+    SymbolicVariableExt, WindowAccess, get_all_symbolic_constraints, get_constraint_layout,
+    get_max_constraint_degree_extension, get_symbolic_constraints_extension,
 };
 use std::alloc::Global;
 use std::process::Abort;

@@ -155,10 +155,7 @@ fn elements_of_a_batch_are_labelled_by_place(rt: HostRuntime) -> Result<(), Fail
     let mut log = ValueLog::new(rt.alloc(), 0);
     log.assert_zeros_named([number(0), number(1)], "z")?;
     log.assert_bools_named([number(1), number(0), number(4)], "a".join("b"))?;
-    let batches = [
-        NamedBatch::Zeros(pair(0, 5)),
-        NamedBatch::Bools(pair(3, 2)),
-    ];
+    let batches = [NamedBatch::Zeros(pair(0, 5)), NamedBatch::Bools(pair(3, 2))];
     for batch in batches {
         let row = NamedAssertion::BatchUnderBoth(number(2), number(3), batch);
         assert_named_on_log(&mut log, row, ["outer", "mid", ""])?;
