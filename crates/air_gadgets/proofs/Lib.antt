@@ -1,3 +1,4 @@
 pub mod Combining
 pub mod BitLaws
 pub mod PackingLaws
+pub mod PowerSums

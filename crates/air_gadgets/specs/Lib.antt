@@ -1,3 +1,4 @@
 pub mod Columns
 pub mod Bits
 pub mod Packing
+pub mod PowerSums

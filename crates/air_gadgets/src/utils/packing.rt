@@ -1,6 +1,7 @@
 //! Bits packed into a number.
-ghost use Rattle.std.specs.Prelude.{IfOk, IfErr, All};
+ghost use Rattle.std.specs.Prelude.{IfOk, IfErr, OnOk, All};
 ghost use Rattle.air_gadgets.specs.Packing.{MadeOfPacked, RefusedOfPacked};
+ghost use Rattle.air_gadgets.specs.PowerSums.{PacksValues};
 
 use air_field::{Algebra, Field, RingError};
 
@@ -11,6 +12,7 @@ pub fn pack_bits_le<F: Field, R: Algebra<F>>(
 ) -> Result<R::Elem, RingError>
     requires valid { R.valid ring.old }
     requires all_in { All (R.has ring.old) bits.now }
+    ensures sum { OnOk result (PacksValues F.ring F.ZERO) }
     ensures extended { R.extends ring.old ring.new }
     ensures made { IfOk result (MadeOfPacked R.has R.means F.ZERO ring.old ring.new bits.now) }
     ensures refused { IfErr result (RefusedOfPacked R.means R.refuses F.ZERO ring.old bits.now) }

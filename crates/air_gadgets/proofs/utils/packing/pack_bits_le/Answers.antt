@@ -1,6 +1,8 @@
 use Rattle.std.proofs.Common.{◌≡◌, ◌-◌, ◌<◌, suc, length, subst, sym, arith}
 use Rattle.std.proofs.lemmas.List.Elements.{All-get_or}
 use Rattle.std.proofs.lemmas.Result.{err_from_is_err_and}
+use Rattle.std.specs.Prelude.{Result, Ok, Err, OnOk}
+use Rattle.air_gadgets.proofs.PowerSums.{packs_values}
 use Rattle.air_gadgets.proofs.PackingLaws.{begin_packing, pack_one, doubling_refused, adding_bit_refused, one_below}
 use Rattle.air_gadgets.proofs.utils.packing.pack_bits_le.Goals as goal
 
@@ -48,3 +50,13 @@ loop-left-preserved g c =
       pack_one g.met.R.Algebra.laws g.F.Field.ZERO c.args.bits.now c.args.ring.now c.loop-left.ring c.double.new.self c.add.new.self (c.loop-left.left - 1) c.loop-left.total c.in_ok-twice.twice c.index-bits-left-in-loop-left.result c.in_ok-total.total
           inside c.index-bits-left-in-loop-left.is c.double.ensures.extended c.add.ensures.extended c.in_ok-twice.ensures.made c.in_ok-total.ensures.made (one_below c.loop-left.left c.loop-left.total c.loop-left-test.true c.loop-left.invariant.1),
     )
+
+what_holds : {T E P : Type 0} (r : Result T E) → P → OnOk r P
+what_holds (Ok x) p = p
+what_holds (Err e) p = tt
+
+pub returns-then-is_empty-clause-sum : goal.returns-then-is_empty-clause-sum
+returns-then-is_empty-clause-sum g c = what_holds c.constant.result (packs_values g.F.Field.ring g.F.Field.ZERO g.met.F.Field.zero_is)
+
+pub returns-clause-sum : goal.returns-clause-sum
+returns-clause-sum g c = packs_values g.F.Field.ring g.F.Field.ZERO g.met.F.Field.zero_is

@@ -1,0 +1,43 @@
+-- what is packed is the sum of powers of two times elements
+use Rattle.std.proofs.Common.{◌≡◌, ◌∙◌, ℕ, suc, ◌+◌, ◌^◌, List, [], ◌∷◌, map, refl, sym, ap, ap₂, arith}
+use Rattle.std.proofs.Math.Nat.{pow-suc}
+use Rattle.air_field.specs.Ring.{CommRing, image, itself}
+use Rattle.air_field.specs.RingSolver.{var, nought, unit, plus, times, ring}
+use Rattle.air_field.specs.Images.{image-one, image-add}
+use Rattle.air_field.specs.Term.{Leaf, Term}
+use Rattle.air_field.specs.Value.{value}
+use Rattle.air_gadgets.specs.Packing.{packed_from}
+use Rattle.air_gadgets.specs.PowerSums.{power_sum, PacksValues}
+
+module _ {A : Type 0} (R : CommRing A) where
+  doubled_power : (k : ℕ) → image R (2 ^ suc k) ≡ R.add (image R (2 ^ k)) (image R (2 ^ k))
+  doubled_power k =
+      let e : 2 ^ suc k ≡ 2 ^ k + 2 ^ k = omega (arith, pow-suc 2 k) in
+      ap (image R) e ∙ image-add R (2 ^ k) (2 ^ k)
+
+  twice_power_sum : (k : ℕ) (xs : List A) → power_sum R (suc k) xs ≡ R.add (power_sum R k xs) (power_sum R k xs)
+  twice_power_sum k [] = ring R [] nought (plus nought nought) refl
+  twice_power_sum k (x ∷ xs) =
+      ap₂ R.add (ap (λ i. R.mul i x) (doubled_power k)) (twice_power_sum (suc k) xs)
+      ∙ ring R (image R (2 ^ k) ∷ x ∷ power_sum R (suc k) xs ∷ [])
+      (plus (times (plus (var 0) (var 0)) (var 1)) (plus (var 2) (var 2)))
+      (plus (plus (times (var 0) (var 1)) (var 2)) (plus (times (var 0) (var 1)) (var 2))) refl
+
+  first_place : (x y : A) → R.add (R.mul (image R 1) x) y ≡ R.add y x
+  first_place x y = ap (λ i. R.add (R.mul i x) y) (image-one R) ∙ ring R (x ∷ y ∷ []) (plus (times unit (var 0)) (var 1)) (plus (var 1) (var 0)) refl
+
+  none_after : (x : A) → R.add R.nil x ≡ x
+  none_after x = ring R (x ∷ []) (plus nought (var 0)) (var 0) refl
+
+module _ {F : Type 0} (R : CommRing F) (s : Leaf → F) where
+  packed_from_value : (t : Term F) (us : List (Term F)) → value (itself R) s (packed_from t us) ≡ power_sum R 0 (map (value (itself R) s) (t ∷ us))
+  packed_from_value t [] = sym (first_place R (value (itself R) s t) R.nil ∙ none_after R (value (itself R) s t))
+  packed_from_value t (u ∷ us) =
+      let rest = map (value (itself R) s) (u ∷ us) in
+      ap (λ w. R.add (R.add w w) (value (itself R) s t)) (packed_from_value u us)
+      ∙ (ap (λ w. R.add w (value (itself R) s t)) (sym (twice_power_sum R 0 rest))
+      ∙ sym (first_place R (value (itself R) s t) (power_sum R 1 rest)))
+
+pub packs_values : {F : Type 0} (R : CommRing F) (none : F) → none ≡ R.nil → PacksValues R none
+packs_values R none e s [] = e
+packs_values R none e s (t ∷ us) = packed_from_value R s t us
