@@ -2,6 +2,7 @@
 ghost use Rattle.std.specs.Prelude.{◌∷◌, [], IfOk, None};
 ghost use Rattle.air_field.specs.Term.{main, leaf_term, mul_term};
 ghost use Rattle.air_builder.specs.Assertion.{Base};
+ghost use Rattle.air_symbolic.specs.Pools.{IsPool};
 
 mod audits;
 mod checks;
@@ -18,7 +19,7 @@ mod trees;
 use crate::tests::trees::base_text;
 use air_builder::{Air, AirBuilder, AirError, BaseAir, BoundaryPublic, WindowAccess};
 use air_field::{BabyBear, Field, RowMajorMatrix, RowMajorMatrixView, ViewPair};
-use air_symbolic::{BaseEntry, SymbolicVariable};
+use air_symbolic::{BaseEntry, BaseLeaf, SymLeaf, SymbolicVariable};
 use p3_air::author::{Current, Next, Product, Zero, assert_all};
 use p3_air::{
     AirLayout, ConstraintReport, DebugConstraintBuilder, Recorded, SymbolicAirBuilder,
@@ -136,7 +137,9 @@ struct Listed {
 }
 
 /// The base constraints that are recorded.
-fn listed_of(alloc: Global, recorded: &Recorded<BabyBear, BabyBear>) -> Result<Listed, AirError> {
+fn listed_of(alloc: Global, recorded: &Recorded<BabyBear, BabyBear>) -> Result<Listed, AirError>
+    requires { IsPool ⟦<BaseLeaf<BabyBear> as SymLeaf>⟧.reads recorded.now.pool.0 }
+{
     let pool = recorded.pool.base();
     let mut listed = Listed {
         degrees: Vec::new(alloc),

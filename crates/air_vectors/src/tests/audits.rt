@@ -1,5 +1,6 @@
 //! Audits: the recording, the report and the degree at once.
-ghost use Rattle.std.specs.Prelude.{Some};
+ghost use Rattle.std.specs.Prelude.{Some, IfOk};
+ghost use Rattle.air_symbolic.specs.Pools.{IsPool};
 ghost use Rattle.air_vectors.specs.TestAirs.{surrounded};
 
 use crate::tests::{assert_listed, column, listed_of, make_products, matrix};
@@ -7,8 +8,8 @@ use air_symbolic::BaseEntry;
 use p3_air::author::{Current, Equal, Periodic, PreprocessedNext, Product, Zero, assert_all};
 use p3_air::boundary::{BoundaryEnd, BoundaryIoError, BoundaryPublic};
 use p3_air::{
-    Air, AirBuilder, AirError, Audit, BabyBear, BaseAir, ConstraintReport, RowMajorMatrix,
-    audit_air,
+    Air, AirBuilder, AirError, Audit, BabyBear, BaseAir, BaseLeaf, ConstraintReport,
+    RowMajorMatrix, SymLeaf, audit_air,
 };
 use std::alloc::Global;
 use std::process::Abort;
@@ -84,7 +85,9 @@ fn surrounded_audit(
     air: &Surrounded<BabyBear>,
     main: &RowMajorMatrix<BabyBear>,
     public: &[BabyBear],
-) -> Result<Audit<BabyBear>, AirError> {
+) -> Result<Audit<BabyBear>, AirError>
+    ensures { IfOk result (λ a. IsPool ⟦<BaseLeaf<BabyBear> as SymLeaf>⟧.reads a.recorded.pool.0) }
+{
     audit_air(alloc, air, main, public)
 }
 

@@ -3,6 +3,7 @@ ghost use Rattle.std.specs.Prelude.{◌∷◌, [], None};
 ghost use Rattle.air_field.specs.Term.{main, periodic, transition, leaf_term, mul_term};
 ghost use Rattle.air_builder.specs.Assertion.{Base};
 ghost use Rattle.air_builder.specs.Beside.{nothing_beside};
+ghost use Rattle.air_symbolic.specs.Pools.{IsPool};
 ghost use Rattle.air_vectors.specs.TestAirs.{steep};
 
 use crate::tests::checks::no_tables;
@@ -12,7 +13,9 @@ use air_field::{BabyBear, Field, RowMajorMatrix};
 use p3_air::author::{
     Current, Next, Periodic, Power, Product, Square, Transition, Zero, assert_all,
 };
-use p3_air::{AirLayout, Recorded, SymbolicAirBuilder, get_symbolic_constraints};
+use p3_air::{
+    AirLayout, BaseLeaf, Recorded, SymLeaf, SymbolicAirBuilder, get_symbolic_constraints,
+};
 use std::alloc::Global;
 use std::test::Fail;
 
@@ -246,7 +249,9 @@ fn polynomial_degrees(
     recorded: &Recorded<BabyBear, BabyBear>,
     trace_len: usize,
     periods: &[usize],
-) -> Result<Vec<usize>, AirError> {
+) -> Result<Vec<usize>, AirError>
+    requires { IsPool ⟦<BaseLeaf<BabyBear> as SymLeaf>⟧.reads recorded.now.pool.0 }
+{
     let pool = recorded.pool.base();
     let mut degrees = Vec::new(alloc);
     for number in &recorded.base {

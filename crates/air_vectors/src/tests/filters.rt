@@ -13,6 +13,7 @@ pub fn assert_zero_under<AB: AirBuilder>(
     requires ready { AB.ready builder.old }
     requires condition_in { AB.Ring.has (AB.ring_of builder.old) condition }
     requires x_in { AB.Ring.has (AB.ring_of builder.old) x }
+    ensures { AB.kept builder.old builder.new }
 {
     let mut filter = builder.when(condition)?;
     filter.assert_zero(x)?;
@@ -30,6 +31,7 @@ pub fn assert_zero_under_both<AB: AirBuilder>(
     requires outer_in { AB.Ring.has (AB.ring_of builder.old) outer }
     requires inner_in { AB.Ring.has (AB.ring_of builder.old) inner }
     requires x_in { AB.Ring.has (AB.ring_of builder.old) x }
+    ensures { AB.kept builder.old builder.new }
 {
     let mut filter = builder.when(outer)?;
     assert_zero_under(&mut filter, inner, x)?;
@@ -99,6 +101,7 @@ pub fn assert_constant_under_both<AB: AirBuilder>(
     x: AB::F,
 ) -> Result<(), AirError>
     requires { AB.ready builder.old }
+    ensures { AB.kept builder.old builder.new }
 {
     let (outer, inner, x) = make_constants(builder.ring(), outer, inner, x)?;
     assert_zero_under_both(builder, outer, inner, x)
@@ -113,6 +116,7 @@ fn assert_zero_ext_under<AB: ExtensionBuilder>(
     requires ready { AB.ready builder.old }
     requires condition_in { AB.Ring.has (AB.ring_of builder.old) condition }
     requires x_in { AB.ExtRing.has (AB.ext_ring_of builder.old) x }
+    ensures { AB.kept builder.old builder.new }
 {
     let mut filter = builder.when(condition)?;
     filter.assert_zero_ext(x)?;
@@ -126,6 +130,7 @@ pub fn assert_constant_ext_under<AB: ExtensionBuilder>(
     x: AB::EF,
 ) -> Result<(), AirError>
     requires { AB.ready builder.old }
+    ensures { AB.kept builder.old builder.new }
 {
     let x = builder.ext_ring().ext_constant(x)?;
     let condition = builder.ring().constant(condition)?;

@@ -1,8 +1,10 @@
 //! Recorded expressions read back: the text of a tree has its operands in brackets, with the operation between them.
+ghost use Rattle.air_symbolic.specs.Pools.{IsPool};
+
 use air_field::{BabyBear, BinomialExtensionField, ExtensionField};
 use air_symbolic::{
-    BaseEntry, BaseLeaf, ExprId, ExprPool, ExtEntry, ExtLeaf, SymbolicExpr, SymbolicVariable,
-    SymbolicVariableExt,
+    BaseEntry, BaseLeaf, ExprId, ExprPool, ExtEntry, ExtLeaf, SymLeaf, SymbolicExpr,
+    SymbolicVariable, SymbolicVariableExt,
 };
 use std::alloc::{AllocError, Global};
 
@@ -51,7 +53,9 @@ pub fn base_text(
     pool: &ExprPool<BaseLeaf<BabyBear>>,
     id: BaseId,
     depth: usize,
-) -> Result<String, AllocError> {
+) -> Result<String, AllocError>
+    requires { IsPool ⟦<BaseLeaf<BabyBear> as SymLeaf>⟧.reads pool.now }
+{
     if depth == 0 || !pool.contains(id) {
         return String::from_str(alloc, "?");
     }
@@ -76,7 +80,10 @@ pub fn ext_text(
     pool: &ExprPool<ExtLeaf<BabyBear, Element>>,
     id: ExtId,
     depth: usize,
-) -> Result<String, AllocError> {
+) -> Result<String, AllocError>
+    requires base { IsPool ⟦<BaseLeaf<BabyBear> as SymLeaf>⟧.reads pool.now.0 }
+    requires whole { IsPool ⟦<ExtLeaf<BabyBear, Element> as SymLeaf>⟧.reads pool.now }
+{
     if depth == 0 || !pool.contains(id) {
         return String::from_str(alloc, "?");
     }
@@ -98,7 +105,9 @@ pub fn ext_text(
 }
 
 /// The element that a leaf of an extension pool is.
-fn element_of(pool: &ExprPool<ExtLeaf<BabyBear, Element>>, id: ExtId) -> Option<Element> {
+fn element_of(pool: &ExprPool<ExtLeaf<BabyBear, Element>>, id: ExtId) -> Option<Element>
+    requires { IsPool ⟦<ExtLeaf<BabyBear, Element> as SymLeaf>⟧.reads pool.now }
+{
     if !pool.contains(id) {
         return None;
     }
@@ -110,7 +119,9 @@ fn element_of(pool: &ExprPool<ExtLeaf<BabyBear, Element>>, id: ExtId) -> Option<
 }
 
 /// The product that two elements are recorded as.
-pub fn product_of(pool: &ExprPool<ExtLeaf<BabyBear, Element>>, id: ExtId) -> Option<Element> {
+pub fn product_of(pool: &ExprPool<ExtLeaf<BabyBear, Element>>, id: ExtId) -> Option<Element>
+    requires { IsPool ⟦<ExtLeaf<BabyBear, Element> as SymLeaf>⟧.reads pool.now }
+{
     if !pool.contains(id) {
         return None;
     }
