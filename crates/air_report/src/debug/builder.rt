@@ -174,6 +174,15 @@ impl<'a, F: Field, EF: ExtensionField<F>> DebugConstraintBuilder<'a, F, EF> {
         )
     }
 
+    /// The builder with its counter at a number, as one that goes on where another stopped.
+    pub fn counting_from(self, count: usize) -> Self
+        ensures { result ≡ record self.entry { constraint_index = count } }
+    {
+        let mut builder = self;
+        builder.constraint_index = count;
+        builder
+    }
+
     /// Whether an assertion failed.
     pub fn has_failures(&self) -> bool
         ensures { IsTrue result ↔ (self.now.failures.items ≢ []) }

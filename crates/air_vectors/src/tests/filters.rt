@@ -107,6 +107,21 @@ pub fn assert_constant_under_both<AB: AirBuilder>(
     assert_zero_under_both(builder, outer, inner, x)
 }
 
+/// Asserts where two constants hold that a third is zero, and answers the element of a fourth.
+pub fn constant_after_both<AB: AirBuilder>(
+    builder: &mut AB,
+    outer: AB::F,
+    inner: AB::F,
+    x: AB::F,
+    constant: AB::F,
+) -> Result<AB::Expr, AirError>
+    requires { AB.ready builder.old }
+{
+    assert_constant_under_both(builder, outer, inner, x)?;
+    let element = builder.ring().constant(constant)?;
+    Ok(element)
+}
+
 /// Asserts where a condition holds that `x` over the extension is zero.
 fn assert_zero_ext_under<AB: ExtensionBuilder>(
     builder: &mut AB,

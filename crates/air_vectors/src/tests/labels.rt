@@ -259,3 +259,13 @@ fn copies_say_the_same(rt: HostRuntime) -> Result<(), Fail> {
     assert!(rt; none.is_ok());
     Ok(())
 }
+
+#[test]
+fn a_full_count_is_refused(rt: HostRuntime) -> Result<(), Fail> {
+    let mut builder = row(rt.alloc()).counting_from(usize::MAX - 1);
+    zero(&mut builder, 0)?;
+    assert_eq!(rt; zero(&mut builder, 0).err(), Some(AirError::CountOverflow));
+    assert_eq!(rt; zero(&mut builder, 1).err(), Some(AirError::CountOverflow));
+    assert!(rt; !builder.has_failures());
+    Ok(())
+}

@@ -1,11 +1,13 @@
 //! Recordings, the places of constraints, and the variables that the symbolic builder lends over an extension.
 ghost use Rattle.std.specs.Prelude.{IfOk};
 
-use crate::tests::extension::{Mixed, Permuted};
-use crate::tests::{Products, make_products, products_layout, record_products};
+use crate::tests::extension::{Mixed, Permuted, extension};
+use crate::tests::filters::{assert_constant_ext_under, constant_after_both};
+use crate::tests::trees::product_of;
+use crate::tests::{Products, make_products, products_layout, record_products, recording_builder};
 use p3_air::{
     Air, AirBuilder, AirError, AirLayout, BabyBear, BinomialExtensionField, ConstraintLayout,
-    ExtEntry, ExtensionField, PermutationAirBuilder, SymbolicAirBuilder,
+    ExtEntry, ExtensionBuilder, ExtensionField, PermutationAirBuilder, SymbolicAirBuilder,
     SymbolicVariableExt, WindowAccess, get_all_symbolic_constraints, get_constraint_layout,
     get_max_constraint_degree_extension, get_symbolic_constraints_extension,
 };
@@ -188,6 +190,41 @@ fn ext_builder(
     ensures ready { IfOk result ⟦<SymbolicAirBuilder<BabyBear, BinomialExtensionField> as AirBuilder>⟧.ready }
 {
     SymbolicAirBuilder::new(alloc, layout)
+}
+
+// An equal expression has one number, so what is recorded is the constant 30 if it has that constant's number.
+#[test]
+fn nested_filters_are_recorded(rt: HostRuntime) -> Result<(), Fail> {
+    let mut builder = recording_builder(rt.alloc(), permuted_layout(0))?;
+    let [two, three, five, thirty] = [2, 3, 5, 30].map(BabyBear::new);
+    let thirty = constant_after_both(&mut builder, two, three, five, thirty)?;
+    assert_eq!(rt; builder.base_constraints(), [thirty].as_slice());
+    Ok(())
+}
+
+/// The product that is recorded first where a constant holds for an element of the extension.
+fn recorded_product(
+    builder: &mut SymbolicAirBuilder<BabyBear, BinomialExtensionField>,
+    condition: BabyBear,
+    x: BinomialExtensionField,
+) -> Result<Option<BinomialExtensionField>, AirError>
+    requires { ⟦<SymbolicAirBuilder<BabyBear, BinomialExtensionField> as AirBuilder>⟧.ready builder.old }
+{
+    assert_constant_ext_under(builder, condition, x)?;
+    let Some(first) = builder.extension_constraints().first().copied() else {
+        return Ok(None);
+    };
+    Ok(product_of(builder.ext_ring(), first))
+}
+
+#[test]
+fn a_filter_over_the_extension_is_recorded(rt: HostRuntime) -> Result<(), Fail> {
+    let mut builder = ext_builder(rt.alloc(), permuted_layout(0))?;
+    let x = extension(0, 1, 0, 0);
+    let product = recorded_product(&mut builder, BabyBear::new(3), x)?;
+    assert_eq!(rt; product, Some(extension(0, 3, 0, 0)));
+    assert_eq!(rt; builder.extension_constraints().len(), 1);
+    Ok(())
 }
 
 #[test]
