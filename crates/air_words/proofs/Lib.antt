@@ -1,0 +1,7 @@
+-- Lemmas on words.
+mod Carrying
+mod ExactSums
+mod LimbLaws
+mod Lending
+mod XorLaws
+mod ExactXors
