@@ -22,14 +22,14 @@ zip_mapped P f [] (y ∷ ys) h = absurd h
 zip_mapped P f (x ∷ xs) [] h = absurd h
 zip_mapped P f (x ∷ xs) (y ∷ ys) h = (h.0, zip_mapped P f xs ys h.1)
 
-Each-take : {A B : Type 0} (R : A → B → Type 0) (n : ℕ) (xs : List A) (ys : List B) → Each R xs ys → Each R (take n xs) (take n ys)
+pub Each-take : {A B : Type 0} (R : A → B → Type 0) (n : ℕ) (xs : List A) (ys : List B) → Each R xs ys → Each R (take n xs) (take n ys)
 Each-take R zero xs ys h = tt
 Each-take R (suc n) [] [] h = tt
 Each-take R (suc n) [] (y ∷ ys) h = absurd h
 Each-take R (suc n) (x ∷ xs) [] h = absurd h
 Each-take R (suc n) (x ∷ xs) (y ∷ ys) h = (h.0, Each-take R n xs ys h.1)
 
-Each-length : {A B : Type 0} (R : A → B → Type 0) (xs : List A) (ys : List B) → Each R xs ys → length xs ≡ length ys
+pub Each-length : {A B : Type 0} (R : A → B → Type 0) (xs : List A) (ys : List B) → Each R xs ys → length xs ≡ length ys
 Each-length R [] [] h = refl
 Each-length R [] (y ∷ ys) h = absurd h
 Each-length R (x ∷ xs) [] h = absurd h
@@ -64,6 +64,9 @@ module _ {S R E F : Type 0} {valid : R → Type 0} {has : R → E → Type 0} {m
   pub elements_lent : (xs : List E) (t : Limbs (Term F)) → LimbsMean (Means means ring_of stands a) xs t → LimbsMean (means q) xs (leaves_of (stands a) t)
   elements_lent xs t h =
       subst (λ s. LimbsMean (means s) xs (leaves_of (stands a) t)) (sym p) (zip_mapped (means (ring_of a)) (with_leaves (stands a)) xs (t.low ∷ t.high ∷ []) h)
+
+  pub list_lent : (xs : List E) (ts : List (Term F)) → AllZip (Means means ring_of stands a) xs ts → AllZip (means q) xs (map (with_leaves (stands a)) ts)
+  list_lent xs ts h = subst (λ s. AllZip (means s) xs (map (with_leaves (stands a)) ts)) (sym p) (zip_mapped (means (ring_of a)) (with_leaves (stands a)) xs ts h)
 
   -- what the elements assert
   lent_asserts : (xs : List E) (ts : List (Term F)) → AllZip (means r) xs (map (with_leaves (stands a)) ts) → Each (AssertsOf (Means means ring_of stands) (λ t. t) (with_ring a r)) xs (map Base ts)

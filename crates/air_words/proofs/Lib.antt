@@ -5,3 +5,6 @@ mod LimbLaws
 mod Lending
 mod XorLaws
 mod ExactXors
+mod ZipLaws
+mod HalfLeaves
+mod Testing

@@ -63,9 +63,13 @@ half_terms R a b c shift =
     let bits = xor_terms b (rotated_left shift c) in
     sub_term a.low (packed_term R.nil (take 16 bits)) ∷ sub_term a.high (packed_term R.nil (drop 16 bits)) ∷ []
 
+-- each is zero or one
+abbrev pub test_asserts : {F : Type 0} → CommRing F → List (Term F) → List (Assertion F)
+test_asserts R ts = map (λ t. Base (bool_check_term R.one t)) ts
+
 -- c is made of bits, and a is b xor c rotated to the left
 abbrev pub xor_asserts : {F : Type 0} → CommRing F → Limbs (Term F) → List (Term F) → List (Term F) → ℕ → List (Assertion F)
-xor_asserts R a b c shift = map (λ t. Base (bool_check_term R.one t)) c ++ map Base (half_terms R a b c shift)
+xor_asserts R a b c shift = test_asserts R c ++ map Base (half_terms R a b c shift)
 
 -- the making of one of the terms may answer e
 abbrev pub RefusesOne : {X F : Type 0} → (X → Term F → Type 0) → X → List (Term F) → Type 0
@@ -91,6 +95,12 @@ abbrev pub Adds3 : {V E F : Type 0} → CommRing F → (V → Term F → Type 0)
 Adds3 {F = F} R stands means a b c d ts =
     (t : Limbs (Term F)) × (u : Limbs (Term F)) × (v : Limbs (Term F)) × (w : Limbs (Term F))
     × LimbsMean stands a t × LimbsMean stands b u × LimbsMean means c v × LimbsMean means d w × (ts ≡ add3_asserts R t u v w)
+
+-- the list is what `xor_32_shift` asserts of terms that were handed to it
+abbrev pub Xors : {V F : Type 0} → CommRing F → (V → Term F → Type 0) → List V → List V → List V → ℕ → List (Assertion F) → Type 0
+Xors {F = F} R stands a b c shift ts =
+    (t : Limbs (Term F)) × (u : List (Term F)) × (v : List (Term F))
+    × LimbsMean stands a t × AllZip stands b u × AllZip stands c v × (ts ≡ xor_asserts R t u v shift)
 
 -- the builder grew by the list, whichever terms were handed
 abbrev pub GrewBy : {S F : Type 0} → (List (Assertion F) → Type 0) → (S → S → List (Assertion F) → Type 0) → S → S → Type 0
