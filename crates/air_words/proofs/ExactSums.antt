@@ -1,10 +1,10 @@
 -- The asserted terms of an addition, and the sum of the words.
-use Rattle.std.specs.Prelude.{◌≡◌, ℕ, refl, ◌<◌}
+use Rattle.std.specs.Prelude.{◌≡◌, ℕ}
 use Rattle.std.proofs.Common.{sym, ◌∙◌, ap, ap₂}
 use Rattle.air_field.specs.Ring.{CommRing, image, minus}
 use Rattle.air_field.specs.Images.{HasCharacteristic}
 use Rattle.air_words.specs.Exact.{Add2IsExact, Add3IsExact}
-use Rattle.air_words.proofs.Carrying.{low_term, whole_term, low_term_3, whole_term_3, add2_exact, add3_exact}
+use Rattle.air_words.proofs.Carrying.{add2_exact, add3_exact}
 
 carry_same : {A : Type 0} (R : CommRing A) (n x y : A) → x ≡ y → R.mul x (R.add x n) ≡ R.mul y (R.add y n)
 carry_same R n x y e = ap (λ z. R.mul z (R.add z n)) e

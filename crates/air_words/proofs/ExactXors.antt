@@ -1,18 +1,18 @@
 -- The asserted terms of a xor, and the xor of the words.
-use Rattle.std.specs.Prelude.{◌≡◌, ℕ, refl, ◌↔◌, List, [], ◌∷◌, ◌++◌, map, take, drop}
-use Rattle.std.proofs.Common.{sym, ◌∙◌, ap, ap₂, subst}
-use Rattle.air_field.specs.Ring.{CommRing, image, minus, itself}
+use Rattle.std.specs.Prelude.{◌≡◌, ℕ, refl, List, [], ◌∷◌, ◌++◌, map, take, drop}
+use Rattle.std.proofs.Common.{sym, ◌∙◌, ap, subst}
+use Rattle.air_field.specs.Ring.{CommRing, minus, itself}
 use Rattle.air_field.specs.RingSolver.{var, nought, unit, plus, times, ring}
 use Rattle.air_field.specs.Term.{Leaf, Term}
 use Rattle.air_field.specs.Value.{value}
 use Rattle.air_field.specs.Algebra.{bool_check_term, xor_term}
-use Rattle.air_gadgets.specs.Bits.{AreBits, packed}
+use Rattle.air_gadgets.specs.Bits.{packed}
 use Rattle.air_gadgets.specs.Packing.{packed_from, packed_term}
 use Rattle.air_builder.specs.Assertion.{Assertion, Base}
-use Rattle.air_words.specs.Words.{Limbs, rotated_left}
-use Rattle.air_words.specs.Gadgets.{xor_terms, half_terms, xor_asserts}
-use Rattle.air_words.specs.Exact.{AllVanish, IsXorOf, XorIsExact}
-use Rattle.air_words.proofs.XorLaws.{AllChecked, TermsAreZero, IsXor, ring_xors, map-take, map-drop, map-rotated, xor_exact}
+use Rattle.air_words.specs.Words.{rotated_left}
+use Rattle.air_words.specs.Gadgets.{xor_terms, half_terms}
+use Rattle.air_words.specs.Exact.{AllVanish, XorIsExact}
+use Rattle.air_words.proofs.XorLaws.{AllChecked, TermsAreZero, ring_xors, map-take, map-drop, map-rotated, xor_exact}
 
 module _ {F : Type 0} (R : CommRing F) (s : Leaf → F) where
   last_bit : (x : F) → x ≡ R.add x (R.mul (R.add R.one R.one) R.nil)

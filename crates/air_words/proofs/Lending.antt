@@ -1,6 +1,6 @@
 -- Growth by what a lent ring made.
 use Rattle.std.specs.List.{AllZip}
-use Rattle.std.proofs.Common.{◌≡◌, ℕ, zero, suc, ◌<◌, List, [], ◌∷◌, map, length, take, subst, sym, refl, ap, ◌∙◌, inl, inr}
+use Rattle.std.proofs.Common.{◌≡◌, ℕ, zero, suc, ◌<◌, List, [], ◌∷◌, map, length, take, subst, sym, refl, ap, inl, inr}
 use Rattle.air_field.specs.Part.{whole}
 use Rattle.air_field.specs.Term.{Leaf, Term, with_leaves}
 use Rattle.air_field.specs.declared.errors.RingError.{RingError}
@@ -67,6 +67,9 @@ module _ {S R E F : Type 0} {valid : R → Type 0} {has : R → E → Type 0} {m
 
   pub list_lent : (xs : List E) (ts : List (Term F)) → AllZip (Means means ring_of stands a) xs ts → AllZip (means q) xs (map (with_leaves (stands a)) ts)
   list_lent xs ts h = subst (λ s. AllZip (means s) xs (map (with_leaves (stands a)) ts)) (sym p) (zip_mapped (means (ring_of a)) (with_leaves (stands a)) xs ts h)
+
+  pub lent_means : (x : E) (t : Term F) → means r x (with_leaves (stands a) t) → Means means ring_of stands (with_ring a r) x t
+  lent_means x t m = means_lent ring laws a r x t (subst (λ s. extends s r) p e) m
 
   -- what the elements assert
   lent_asserts : (xs : List E) (ts : List (Term F)) → AllZip (means r) xs (map (with_leaves (stands a)) ts) → Each (AssertsOf (Means means ring_of stands) (λ t. t) (with_ring a r)) xs (map Base ts)

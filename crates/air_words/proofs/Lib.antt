@@ -5,6 +5,8 @@ mod LimbLaws
 mod Lending
 mod XorLaws
 mod ExactXors
-mod ZipLaws
 mod HalfLeaves
 mod Testing
+mod EachGrowth
+mod PackedXors
+mod ZipLaws

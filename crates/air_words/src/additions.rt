@@ -20,15 +20,15 @@ pub fn add2<AB: AirBuilder>(
     ensures keeps { AB.kept builder.old builder.new }
     ensures ok { OnOk result (GrewBy
         (Adds2 AB.F.ring (VariableMeans AB.Ring.FromVar-1.var_means AB.stands builder.old)
-            (Means AB.Ring.means AB.ring_of AB.stands builder.old) a.now b.now c.now)
+        (Means AB.Ring.means AB.ring_of AB.stands builder.old) a.now b.now c.now)
         AB.grew builder.old builder.new) }
     ensures err { OnErr result (GrewBySome
         (Adds2 AB.F.ring (VariableMeans AB.Ring.FromVar-1.var_means AB.stands builder.old)
-            (Means AB.Ring.means AB.ring_of AB.stands builder.old) a.now b.now c.now)
+        (Means AB.Ring.means AB.ring_of AB.stands builder.old) a.now b.now c.now)
         AB.grew builder.old builder.new) }
     ensures refused { IfErr result (RefusesList
         (Adds2 AB.F.ring (VariableMeans AB.Ring.FromVar-1.var_means AB.stands builder.old)
-            (Means AB.Ring.means AB.ring_of AB.stands builder.old) a.now b.now c.now)
+        (Means AB.Ring.means AB.ring_of AB.stands builder.old) a.now b.now c.now)
         AB.refuses builder.old) }
     ensures exact { Add2IsExact AB.F.ring AB.F.CHARACTERISTIC }
 {
@@ -50,15 +50,15 @@ pub fn add3<AB: AirBuilder>(
     ensures keeps { AB.kept builder.old builder.new }
     ensures ok { OnOk result (GrewBy
         (Adds3 AB.F.ring (VariableMeans AB.Ring.FromVar-1.var_means AB.stands builder.old)
-            (Means AB.Ring.means AB.ring_of AB.stands builder.old) a.now b.now c.now d.now)
+        (Means AB.Ring.means AB.ring_of AB.stands builder.old) a.now b.now c.now d.now)
         AB.grew builder.old builder.new) }
     ensures err { OnErr result (GrewBySome
         (Adds3 AB.F.ring (VariableMeans AB.Ring.FromVar-1.var_means AB.stands builder.old)
-            (Means AB.Ring.means AB.ring_of AB.stands builder.old) a.now b.now c.now d.now)
+        (Means AB.Ring.means AB.ring_of AB.stands builder.old) a.now b.now c.now d.now)
         AB.grew builder.old builder.new) }
     ensures refused { IfErr result (RefusesList
         (Adds3 AB.F.ring (VariableMeans AB.Ring.FromVar-1.var_means AB.stands builder.old)
-            (Means AB.Ring.means AB.ring_of AB.stands builder.old) a.now b.now c.now d.now)
+        (Means AB.Ring.means AB.ring_of AB.stands builder.old) a.now b.now c.now d.now)
         AB.refuses builder.old) }
     ensures exact { Add3IsExact AB.F.ring AB.F.CHARACTERISTIC }
 {

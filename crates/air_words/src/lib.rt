@@ -3,6 +3,9 @@
 
 mod additions;
 mod limbs;
+mod rotations;
 mod sums;
+mod xors;
 
 pub use additions::{add2, add3};
+pub use rotations::xor_32_shift;

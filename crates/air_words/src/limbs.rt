@@ -7,11 +7,7 @@ ghost use Rattle.air_words.specs.Gadgets.{less_two_term, less_three_term, raised
 use air_field::{Algebra, Field, FromVar, RingError};
 
 /// x - y, of variables.
-fn less<F: Field, V: Copy, R: FromVar<F, V>>(
-    ring: &mut R,
-    x: V,
-    y: V,
-) -> Result<R::Elem, RingError>
+fn less<F: Field, V: Copy, R: FromVar<F, V>>(ring: &mut R, x: V, y: V) -> Result<R::Elem, RingError>
     requires { R.valid ring.old }
     ensures extended { R.extends ring.old ring.new }
     ensures made { IfOk result (λ r. R.has ring.new r × ((t u : Term F) → R.var_means x t → R.var_means y u
@@ -82,11 +78,7 @@ pub(crate) fn whole<F: Field, R: Algebra<F>>(
 }
 
 /// x + n
-fn raised<F: Field, R: Algebra<F>>(
-    ring: &mut R,
-    n: u64,
-    x: R::Elem,
-) -> Result<R::Elem, RingError>
+fn raised<F: Field, R: Algebra<F>>(ring: &mut R, n: u64, x: R::Elem) -> Result<R::Elem, RingError>
     requires { R.has ring.old x }
     ensures extended { R.extends ring.old ring.new }
     ensures made { IfOk result (MadeOf R.has R.means (raised_term F.ring n) ring.old ring.new x) }

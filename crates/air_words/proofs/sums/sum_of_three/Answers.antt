@@ -1,4 +1,4 @@
-use Rattle.std.proofs.Common.{inl, inr}
+use Rattle.std.proofs.Common.{inl}
 use Rattle.std.proofs.lemmas.Result.{err_from_is_err_and, IfOk-weaker, IfErr-weaker}
 use Rattle.air_field.specs.Part.{whole, in_add_left, in_add_right, in_mul_left}
 use Rattle.air_words.specs.Gadgets.{less_three_term, two_carries_term, whole_term}
@@ -36,11 +36,11 @@ returns-clause-made g c =
       λ t u v w hm hn hk hl. h.1 (less_three_term t.low u.low v.low w.low) (less_three_term t.high u.high v.high w.high)
           (laws.means_stays c.less_three.new.ring c.less_three-2.new.ring c.in_ok-low.low (less_three_term t.low u.low v.low w.low) c.less_three-2.ensures.extended
           (c.in_ok-low.ensures.made.1 t.low u.low v.low w.low (low_means g.R.FromVar.var_means c.args.a.now t c.index-a-0.result hm) (low_means g.R.FromVar.var_means c.args.b.now u c.index-b-0.result hn)
-    (low_means (g.R.Algebra.means c.args.ring.now) c.args.c.now v c.index-c-0.result hk)
-    (low_means (g.R.Algebra.means c.args.ring.now) c.args.d.now w c.index-d-0.result hl)))
+          (low_means (g.R.Algebra.means c.args.ring.now) c.args.c.now v c.index-c-0.result hk)
+          (low_means (g.R.Algebra.means c.args.ring.now) c.args.d.now w c.index-d-0.result hl)))
           (c.in_ok-high.ensures.made.1 t.high u.high v.high w.high (high_means g.R.FromVar.var_means c.args.a.now t c.index-a-1.result hm) (high_means g.R.FromVar.var_means c.args.b.now u c.index-b-1.result hn)
-    (laws.means_stays c.args.ring.now c.less_three.new.ring _ v.high c.less_three.ensures.extended (high_means (g.R.Algebra.means c.args.ring.now) c.args.c.now v c.index-c-1.result hk))
-    (laws.means_stays c.args.ring.now c.less_three.new.ring _ w.high c.less_three.ensures.extended (high_means (g.R.Algebra.means c.args.ring.now) c.args.d.now w c.index-d-1.result hl))),
+          (laws.means_stays c.args.ring.now c.less_three.new.ring _ v.high c.less_three.ensures.extended (high_means (g.R.Algebra.means c.args.ring.now) c.args.c.now v c.index-c-1.result hk))
+          (laws.means_stays c.args.ring.now c.less_three.new.ring _ w.high c.less_three.ensures.extended (high_means (g.R.Algebra.means c.args.ring.now) c.args.d.now w c.index-d-1.result hl))),
     ))
     c.with_two_carries.ensures.made
 

@@ -1,4 +1,4 @@
-use Rattle.std.proofs.Common.{inl, inr}
+use Rattle.std.proofs.Common.{inl}
 use Rattle.std.proofs.lemmas.Result.{err_from_is_err_and, IfOk-weaker, IfErr-weaker}
 use Rattle.air_field.specs.Part.{whole, in_add_left, in_add_right, in_mul_left}
 use Rattle.air_words.specs.Gadgets.{less_two_term, carry_term, whole_term}
@@ -34,9 +34,9 @@ returns-clause-made g c =
       λ t u v hm hn hk. h.1 (less_two_term t.low u.low v.low) (less_two_term t.high u.high v.high)
           (laws.means_stays c.less_two.new.ring c.less_two-2.new.ring c.in_ok-low.low (less_two_term t.low u.low v.low) c.less_two-2.ensures.extended
           (c.in_ok-low.ensures.made.1 t.low u.low v.low (low_means g.R.FromVar.var_means c.args.a.now t c.index-a-0.result hm) (low_means g.R.FromVar.var_means c.args.b.now u c.index-b-0.result hn)
-    (low_means (g.R.Algebra.means c.args.ring.now) c.args.c.now v c.index-c-0.result hk)))
+          (low_means (g.R.Algebra.means c.args.ring.now) c.args.c.now v c.index-c-0.result hk)))
           (c.in_ok-high.ensures.made.1 t.high u.high v.high (high_means g.R.FromVar.var_means c.args.a.now t c.index-a-1.result hm) (high_means g.R.FromVar.var_means c.args.b.now u c.index-b-1.result hn)
-    (laws.means_stays c.args.ring.now c.less_two.new.ring _ v.high c.less_two.ensures.extended (high_means (g.R.Algebra.means c.args.ring.now) c.args.c.now v c.index-c-1.result hk))),
+          (laws.means_stays c.args.ring.now c.less_two.new.ring _ v.high c.less_two.ensures.extended (high_means (g.R.Algebra.means c.args.ring.now) c.args.c.now v c.index-c-1.result hk))),
     ))
     c.with_carry.ensures.made
 
