@@ -21,3 +21,4 @@ mod table;
 mod value_log;
 mod variables;
 mod windows;
+mod words;

@@ -8,6 +8,7 @@
 pub mod audit;
 pub mod author;
 pub mod symbolic;
+pub mod utils;
 
 pub use air_builder::{
     Air, AirBuilder, AirBuilderWithContext, AirError, AssertAll, AssertAllExt, AssertAllNamed,
@@ -21,6 +22,7 @@ pub use air_field::{
     FieldRing, FromVar, MatrixError, PrimeField, RingError, RowMajorMatrix, RowMajorMatrixView,
     SelfExtension, ViewPair,
 };
+pub use air_gadgets::{PairCol, VirtualPairCol};
 pub use air_recording::{
     AirLayout, ConstraintLayout, Recorded, SymbolicAirBuilder, constraint_degree_from_poly_degree,
     get_all_symbolic_constraints, get_constraint_layout, get_max_constraint_degree,

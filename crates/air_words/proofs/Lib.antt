@@ -1,0 +1,12 @@
+-- Lemmas on words.
+mod Carrying
+mod ExactSums
+mod LimbLaws
+mod Lending
+mod XorLaws
+mod ExactXors
+mod HalfLeaves
+mod Testing
+mod EachGrowth
+mod PackedXors
+mod ZipLaws

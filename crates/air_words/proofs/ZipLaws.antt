@@ -1,0 +1,64 @@
+-- Two lists beside one another, cut and rotated alike.
+use Rattle.std.specs.List.{AllZip}
+use Rattle.std.proofs.Common.{◌≡◌, ℕ, zero, suc, ◌-◌, ◌≤◌, List, [], ◌∷◌, ◌++◌, length, take, drop, refl, ap, arith, length-append, length-drop}
+use Rattle.std.proofs.lemmas.List.{take_all, length-take}
+use Rattle.air_field.specs.Term.{Term}
+use Rattle.air_field.specs.Algebra.{xor_term}
+use Rattle.air_words.specs.Words.{rotated_left}
+use Rattle.air_words.specs.Gadgets.{xor_terms}
+
+pub zip_take : {X Y : Type 0} (P : X → Y → Type 0) (n : ℕ) (xs : List X) (ys : List Y) → AllZip P xs ys → AllZip P (take n xs) (take n ys)
+zip_take P zero xs ys h = tt
+zip_take P (suc n) [] [] h = tt
+zip_take P (suc n) [] (y ∷ ys) h = absurd h
+zip_take P (suc n) (x ∷ xs) [] h = absurd h
+zip_take P (suc n) (x ∷ xs) (y ∷ ys) h = (h.0, zip_take P n xs ys h.1)
+
+pub zip_drop : {X Y : Type 0} (P : X → Y → Type 0) (n : ℕ) (xs : List X) (ys : List Y) → AllZip P xs ys → AllZip P (drop n xs) (drop n ys)
+zip_drop P zero xs ys h = h
+zip_drop P (suc n) [] [] h = tt
+zip_drop P (suc n) [] (y ∷ ys) h = absurd h
+zip_drop P (suc n) (x ∷ xs) [] h = absurd h
+zip_drop P (suc n) (x ∷ xs) (y ∷ ys) h = zip_drop P n xs ys h.1
+
+zip_join : {X Y : Type 0} (P : X → Y → Type 0) (xs : List X) (ys : List Y) (vs : List X) (ws : List Y) → AllZip P xs ys → AllZip P vs ws → AllZip P (xs ++ vs) (ys ++ ws)
+zip_join P [] [] vs ws h k = k
+zip_join P [] (y ∷ ys) vs ws h k = absurd h
+zip_join P (x ∷ xs) [] vs ws h k = absurd h
+zip_join P (x ∷ xs) (y ∷ ys) vs ws h k = (h.0, zip_join P xs ys vs ws h.1 k)
+
+-- rotated alike
+pub zip_rotated : {X Y : Type 0} (P : X → Y → Type 0) (shift : ℕ) (xs : List X) (ys : List Y) → AllZip P xs ys → AllZip P (rotated_left shift xs) (rotated_left shift ys)
+zip_rotated P shift xs ys h =
+    zip_join P (drop (32 - shift) xs) (drop (32 - shift) ys) (take (32 - shift) xs) (take (32 - shift) ys) (zip_drop P (32 - shift) xs ys h) (zip_take P (32 - shift) xs ys h)
+
+-- the upper half
+pub upper_half : {X : Type 0} (xs : List X) → take (length xs - 16) (drop 16 xs) ≡ drop 16 xs
+upper_half xs =
+    let e = length-drop 16 xs in
+    let le : length (drop 16 xs) ≤ length xs - 16 = omega (arith, e) in
+    take_all (length xs - 16) (drop 16 xs) le
+
+-- the xor of two lists cut alike
+no_xors : {F : Type 0} (ts : List (Term F)) → xor_terms ts [] ≡ []
+no_xors [] = refl
+no_xors (t ∷ ts) = refl
+
+pub take-xors : {F : Type 0} (n : ℕ) (ts us : List (Term F)) → xor_terms (take n ts) (take n us) ≡ take n (xor_terms ts us)
+take-xors zero ts us = refl
+take-xors (suc n) [] us = refl
+take-xors (suc n) (t ∷ ts) [] = refl
+take-xors (suc n) (t ∷ ts) (u ∷ us) = ap (λ vs. xor_term t u ∷ vs) (take-xors n ts us)
+
+pub drop-xors : {F : Type 0} (n : ℕ) (ts us : List (Term F)) → xor_terms (drop n ts) (drop n us) ≡ drop n (xor_terms ts us)
+drop-xors zero ts us = refl
+drop-xors (suc n) [] us = refl
+drop-xors (suc n) (t ∷ ts) [] = no_xors (drop n ts)
+drop-xors (suc n) (t ∷ ts) (u ∷ us) = drop-xors n ts us
+
+pub rotated_long : {X : Type 0} (shift : ℕ) (xs : List X) → shift ≤ 32 → length xs ≡ 32 → length (rotated_left shift xs) ≡ 32
+rotated_long shift xs le long =
+    let e = length-append (drop (32 - shift) xs) (take (32 - shift) xs) in
+    let d = length-drop (32 - shift) xs in
+    let t = length-take (32 - shift) xs in
+    omega (arith, e, d, t, le, long)

@@ -1,0 +1,115 @@
+-- What the gadgets of words assert.
+use Rattle.std.specs.Prelude.{◌≡◌, ℕ, ◌*◌, ◌^◌, ◌⊎◌, List, [], ◌∷◌, ◌++◌, map, take, drop}
+use Rattle.std.specs.List.{AllZip}
+use Rattle.air_field.specs.Ring.{CommRing, image}
+use Rattle.air_field.specs.Term.{Leaf, Term, with_leaves, const_term, add_term, sub_term, mul_term}
+use Rattle.air_field.specs.Algebra.{bool_check_term, scaled_term, xor_term}
+use Rattle.air_gadgets.specs.Packing.{packed_term}
+use Rattle.air_builder.specs.Assertion.{Assertion, Base}
+use Rattle.air_builder.specs.Batches.{GrewByFirst}
+use Rattle.air_words.specs.Words.{Limbs, rotated_left}
+
+-- t - u - v, and t - u - v - w
+abbrev pub less_two_term : {F : Type 0} → Term F → Term F → Term F → Term F
+less_two_term t u v = sub_term (sub_term t u) v
+
+abbrev pub less_three_term : {F : Type 0} → Term F → Term F → Term F → Term F → Term F
+less_three_term t u v w = sub_term (less_two_term t u v) w
+
+-- t + n
+abbrev pub raised_term : {F : Type 0} → CommRing F → ℕ → Term F → Term F
+raised_term R n t = add_term t (const_term (image R n))
+
+-- t (t + n), and t (t + n) (t + 2n)
+abbrev pub carry_term : {F : Type 0} → CommRing F → ℕ → Term F → Term F
+carry_term R n t = mul_term t (raised_term R n t)
+
+abbrev pub two_carries_term : {F : Type 0} → CommRing F → ℕ → Term F → Term F
+two_carries_term R n t = mul_term (carry_term R n t) (raised_term R (2 * n) t)
+
+-- low + 2^16 high
+abbrev pub whole_term : {F : Type 0} → CommRing F → Term F → Term F → Term F
+whole_term R low high = add_term low (scaled_term (image R (2 ^ 16)) high)
+
+-- a - b - c of the words and of their low limbs, each times itself and a carry
+abbrev pub add2_terms : {F : Type 0} → CommRing F → Limbs (Term F) → Limbs (Term F) → Limbs (Term F) → List (Term F)
+add2_terms R a b c =
+    let low = less_two_term a.low b.low c.low in
+    let high = less_two_term a.high b.high c.high in
+    carry_term R (2 ^ 32) (whole_term R low high) ∷ carry_term R (2 ^ 16) low ∷ []
+
+abbrev pub add2_asserts : {F : Type 0} → CommRing F → Limbs (Term F) → Limbs (Term F) → Limbs (Term F) → List (Assertion F)
+add2_asserts R a b c = map Base (add2_terms R a b c)
+
+-- a - b - c - d of the words and of their low limbs, each times itself and two carries
+abbrev pub add3_terms : {F : Type 0} → CommRing F → Limbs (Term F) → Limbs (Term F) → Limbs (Term F) → Limbs (Term F) → List (Term F)
+add3_terms R a b c d =
+    let low = less_three_term a.low b.low c.low d.low in
+    let high = less_three_term a.high b.high c.high d.high in
+    two_carries_term R (2 ^ 32) (whole_term R low high) ∷ two_carries_term R (2 ^ 16) low ∷ []
+
+abbrev pub add3_asserts : {F : Type 0} → CommRing F → Limbs (Term F) → Limbs (Term F) → Limbs (Term F) → Limbs (Term F) → List (Assertion F)
+add3_asserts R a b c d = map Base (add3_terms R a b c d)
+
+-- the xor of two lists of bits, place by place
+abbrev pub xor_terms : {F : Type 0} → List (Term F) → List (Term F) → List (Term F)
+xor_terms [] us = []
+xor_terms (t ∷ ts) [] = []
+xor_terms (t ∷ ts) (u ∷ us) = xor_term t u ∷ xor_terms ts us
+
+-- the halves of a less those of b xor c rotated
+abbrev pub half_terms : {F : Type 0} → CommRing F → Limbs (Term F) → List (Term F) → List (Term F) → ℕ → List (Term F)
+half_terms R a b c shift =
+    let bits = xor_terms b (rotated_left shift c) in
+    sub_term a.low (packed_term R.nil (take 16 bits)) ∷ sub_term a.high (packed_term R.nil (drop 16 bits)) ∷ []
+
+-- each is zero or one
+abbrev pub test_asserts : {F : Type 0} → CommRing F → List (Term F) → List (Assertion F)
+test_asserts R ts = map (λ t. Base (bool_check_term R.one t)) ts
+
+-- c is made of bits, and a is b xor c rotated to the left
+abbrev pub xor_asserts : {F : Type 0} → CommRing F → Limbs (Term F) → List (Term F) → List (Term F) → ℕ → List (Assertion F)
+xor_asserts R a b c shift = test_asserts R c ++ map Base (half_terms R a b c shift)
+
+-- the making of one of the terms may answer e
+abbrev pub RefusesOne : {X F : Type 0} → (X → Term F → Type 0) → X → List (Term F) → Type 0
+RefusesOne refuses e [] = ⊥
+RefusesOne refuses e (t ∷ ts) = refuses e t ⊎ RefusesOne refuses e ts
+
+-- the two of a list mean the limbs' terms
+abbrev pub LimbsMean : {X F : Type 0} → (X → Term F → Type 0) → List X → Limbs (Term F) → Type 0
+LimbsMean means xs t = AllZip means xs (t.low ∷ t.high ∷ [])
+
+-- a variable means a term in a builder: what stands at its leaves
+abbrev pub VariableMeans : {S V F : Type 0} → (V → Term F → Type 0) → (S → Leaf → Term F) → S → V → Term F → Type 0
+VariableMeans means stands b v t = means v (with_leaves (stands b) t)
+
+-- the list is what `add2` asserts of terms that were handed to it
+abbrev pub Adds2 : {V E F : Type 0} → CommRing F → (V → Term F → Type 0) → (E → Term F → Type 0) → List V → List V → List E → List (Assertion F) → Type 0
+Adds2 {F = F} R stands means a b c ts =
+    (t : Limbs (Term F)) × (u : Limbs (Term F)) × (v : Limbs (Term F))
+    × LimbsMean stands a t × LimbsMean stands b u × LimbsMean means c v × (ts ≡ add2_asserts R t u v)
+
+-- the list is what `add3` asserts of terms that were handed to it
+abbrev pub Adds3 : {V E F : Type 0} → CommRing F → (V → Term F → Type 0) → (E → Term F → Type 0) → List V → List V → List E → List E → List (Assertion F) → Type 0
+Adds3 {F = F} R stands means a b c d ts =
+    (t : Limbs (Term F)) × (u : Limbs (Term F)) × (v : Limbs (Term F)) × (w : Limbs (Term F))
+    × LimbsMean stands a t × LimbsMean stands b u × LimbsMean means c v × LimbsMean means d w × (ts ≡ add3_asserts R t u v w)
+
+-- the list is what `xor_32_shift` asserts of terms that were handed to it
+abbrev pub Xors : {V F : Type 0} → CommRing F → (V → Term F → Type 0) → List V → List V → List V → ℕ → List (Assertion F) → Type 0
+Xors {F = F} R stands a b c shift ts =
+    (t : Limbs (Term F)) × (u : List (Term F)) × (v : List (Term F))
+    × LimbsMean stands a t × AllZip stands b u × AllZip stands c v × (ts ≡ xor_asserts R t u v shift)
+
+-- the builder grew by the list, whichever terms were handed
+abbrev pub GrewBy : {S F : Type 0} → (List (Assertion F) → Type 0) → (S → S → List (Assertion F) → Type 0) → S → S → Type 0
+GrewBy {F = F} is grew a b = (ts : List (Assertion F)) → is ts → grew a b ts
+
+-- the builder grew by a beginning of the list, and not by all
+abbrev pub GrewBySome : {S F : Type 0} → (List (Assertion F) → Type 0) → (S → S → List (Assertion F) → Type 0) → S → S → Type 0
+GrewBySome {F = F} is grew a b = (ts : List (Assertion F)) → is ts → GrewByFirst grew a b ts
+
+-- growing by the list may be refused with e
+abbrev pub RefusesList : {S F X : Type 0} → (List (Assertion F) → Type 0) → (S → X → List (Assertion F) → Type 0) → S → X → Type 0
+RefusesList {F = F} is refuses a e = (ts : List (Assertion F)) → is ts → refuses a e ts
