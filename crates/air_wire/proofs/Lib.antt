@@ -1,0 +1,2 @@
+pub mod OnlyMember
+pub mod Answering

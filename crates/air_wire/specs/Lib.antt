@@ -1,0 +1,11 @@
+pub use Rattle.air_field.specs.Term
+pub use Rattle.air_field.specs.Degree
+pub mod Faults
+pub mod Parts
+pub mod Results
+pub mod Spelling
+pub mod Entries
+pub mod ExtEntries
+pub mod Readings
+pub mod EntryLaws
+pub mod ExtEntryLaws
