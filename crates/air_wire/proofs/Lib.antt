@@ -1,2 +1,3 @@
 pub mod OnlyMember
 pub mod Answering
+pub mod SeenTrees

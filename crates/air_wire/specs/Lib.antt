@@ -9,3 +9,5 @@ pub mod ExtEntries
 pub mod Readings
 pub mod EntryLaws
 pub mod ExtEntryLaws
+pub mod Seen
+pub mod Nodes

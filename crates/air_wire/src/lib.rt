@@ -4,8 +4,11 @@
 mod entries;
 mod errors;
 mod ext_entries;
+mod nodes;
 mod parts;
 mod spelled;
+mod wire_leaf;
 
 pub use errors::FlatError;
 pub use spelled::Spelled;
+pub use wire_leaf::WireLeaf;
