@@ -1,3 +1,5 @@
 pub mod OnlyMember
 pub mod Answering
 pub mod SeenTrees
+pub mod Growing
+pub mod Loop

@@ -19,8 +19,11 @@ module _ {U A S F : Type 0} (reads : U → Leaves A F) (grows : U → U → Type
   over_term u (neg_tree t) = cc (over_term u t)
   over_term u (mul_tree t v) = cc (over_term u t, over_term u v)
 
-  pub degree_seen : (p : U × List (SymbolicExpr A)) (i : ℕ) → degree term (seen_at seen p i) ≡ degree_by cached_weight (term_at reads p i)
+  degree_seen : (p : U × List (SymbolicExpr A)) (i : ℕ) → degree term (seen_at seen p i) ≡ degree_by cached_weight (term_at reads p i)
   degree_seen p i = ap (degree_by cached_weight) (over_term p.0 (tree_at p i))
+
+  pub degree_is_seen : (p : U × List (SymbolicExpr A)) (i d : ℕ) → d ≡ degree_by cached_weight (term_at reads p i) → d ≡ degree term (seen_at seen p i)
+  degree_is_seen p i d e = e ∙ sym (degree_seen p i)
 
   over_kept : (u v : U) → grows u v → (t : Tree A) → IsWhole (reads u).valid t → over (seen v) t ≡ over (seen u) t
   over_kept u v g nothing h = refl

@@ -11,3 +11,4 @@ pub mod EntryLaws
 pub mod ExtEntryLaws
 pub mod Seen
 pub mod Nodes
+pub mod BaseLeaves

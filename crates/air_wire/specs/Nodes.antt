@@ -1,10 +1,10 @@
 -- How a list of nodes is read, fault by fault.
-use Rattle.std.specs.Prelude.{◌≡◌, ℕ, ◌+◌, ◌-◌, ◌^◌, max, List, [], ◌∷◌, ◌++◌, length, slice_index_or, Option, Some, None, Result, Ok, Err, codes, if◌then◌else◌, nat_lt, ◌==◌, bytes_eq, ok_or}
+use Rattle.std.specs.Prelude.{◌≡◌, ℕ, ◌+◌, ◌-◌, ◌^◌, max, List, [], ◌∷◌, ◌++◌, length, Option, Some, None, Result, Ok, Err, codes, if◌then◌else◌, nat_lt, ◌==◌, bytes_eq, ok_or}
 use Rattle.std.specs.List.{slice_get}
 use Rattle.serde_json.specs.Data.{Data, Items, no_items, item}
 use Rattle.serde_json.specs.Find.{as_array}
 use Rattle.air_field.specs.Term.{Term}
-use Rattle.air_symbolic.specs.Trees.{Tree, nothing, leaf_tree, add_tree, sub_tree, neg_tree, mul_tree}
+use Rattle.air_symbolic.specs.Trees.{Tree, leaf_tree, add_tree, sub_tree, neg_tree, mul_tree}
 use Rattle.air_wire.specs.Parts.{only_member, whole_at}
 use Rattle.air_wire.specs.Results.{◌>>=◌}
 use Rattle.air_wire.specs.Seen.{degree}
@@ -107,22 +107,13 @@ unfoldable pub nodes_from : {S F : Type 0} → Kind S F → List (Tree S) → It
 nodes_from kind done no_items = Ok done
 nodes_from kind done (item d ds) = node_at kind done d >>= λ t. nodes_from kind (done ++ t ∷ []) ds
 
-abbrev pub nodes_in : {S F : Type 0} → Kind S F → Items → Result (List (Tree S)) FlatError
-nodes_in kind no_items = Err faults.EmptyList
-nodes_in kind (item d ds) = nodes_from kind [] (item d ds)
+-- the root of a list is its last node
+unfoldable pub last_tree : {S : Type 0} → List (Tree S) → Result (Tree S) FlatError
+last_tree ts = ok_or (slice_get ts (length ts - 1)) faults.EmptyList
 
-abbrev pub nodes_or : {S F : Type 0} → Kind S F → Option Items → Result (List (Tree S)) FlatError
-nodes_or kind None = Err (faults.Shape 0)
-nodes_or kind (Some ds) = nodes_in kind ds
-
--- the trees at the places of the list that is spelt by a value, or its first fault
-unfoldable pub nodes_of : {S F : Type 0} → Kind S F → Data → Result (List (Tree S)) FlatError
-nodes_of kind d = nodes_or kind (as_array d)
-
--- the last tree
-abbrev pub last_tree : {S : Type 0} → List (Tree S) → Tree S
-last_tree ts = slice_index_or ts (length ts - 1) nothing
-
--- the tree of the list's root, or the first fault
+-- the tree of the root of the list that is spelt by a value, or the first fault
 unfoldable pub root_of : {S F : Type 0} → Kind S F → Data → Result (Tree S) FlatError
-root_of kind d = nodes_of kind d >>= λ ts. Ok (last_tree ts)
+root_of kind d = do
+  ds ← ok_or (as_array d) (faults.Shape 0)
+  ts ← nodes_from kind [] ds
+  last_tree ts

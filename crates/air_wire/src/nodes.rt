@@ -182,3 +182,94 @@ fn add_from<A: WireLeaf>(
     let (left, right) = sum_operands(pool, ids, contents)?;
     Ok(pool.insert_add(left, right)?)
 }
+
+fn sub_from<A: WireLeaf>(
+    pool: &mut ExprPool<A>,
+    ids: &[ExprId<A>],
+    contents: &Value,
+) -> Result<ExprId<A>, FlatError>
+    requires pool { IsPool A.reads pool.old }
+    requires ids_in { All (λ i. i < length pool.old.1) ids.now }
+    ensures grown { Grown A.grows A.reads pool.old pool.new }
+    ensures here { IfOk result (λ i. i < length pool.new.1) }
+    ensures read { Gives (seen_at A.seen pool.new) result (sub_at A.kind (map (seen_at A.seen pool.old) ids.now) (view contents.now)) }
+{
+    let (left, right) = sum_operands(pool, ids, contents)?;
+    Ok(pool.insert_sub(left, right)?)
+}
+
+fn mul_from<A: WireLeaf>(
+    pool: &mut ExprPool<A>,
+    ids: &[ExprId<A>],
+    contents: &Value,
+) -> Result<ExprId<A>, FlatError>
+    requires pool { IsPool A.reads pool.old }
+    requires ids_in { All (λ i. i < length pool.old.1) ids.now }
+    ensures grown { Grown A.grows A.reads pool.old pool.new }
+    ensures here { IfOk result (λ i. i < length pool.new.1) }
+    ensures read { Gives (seen_at A.seen pool.new) result (mul_at A.kind (map (seen_at A.seen pool.old) ids.now) (view contents.now)) }
+{
+    let (left, right) = product_operands(pool, ids, contents)?;
+    inserted_product(pool, left, right)
+}
+
+fn neg_from<A: WireLeaf>(
+    pool: &mut ExprPool<A>,
+    ids: &[ExprId<A>],
+    contents: &Value,
+) -> Result<ExprId<A>, FlatError>
+    requires pool { IsPool A.reads pool.old }
+    requires ids_in { All (λ i. i < length pool.old.1) ids.now }
+    ensures grown { Grown A.grows A.reads pool.old pool.new }
+    ensures here { IfOk result (λ i. i < length pool.new.1) }
+    ensures read { Gives (seen_at A.seen pool.new) result (neg_at A.kind (map (seen_at A.seen pool.old) ids.now) (view contents.now)) }
+{
+    let inner = negated_operand(pool, ids, contents)?;
+    Ok(pool.insert_neg(inner)?)
+}
+
+fn leaf_from<A: WireLeaf>(
+    alloc: Global,
+    pool: &mut ExprPool<A>,
+    ids: &[ExprId<A>],
+    contents: &Value,
+) -> Result<ExprId<A>, FlatError>
+    requires pool { IsPool A.reads pool.old }
+    ensures grown { Grown A.grows A.reads pool.old pool.new }
+    ensures here { IfOk result (λ i. i < length pool.new.1) }
+    ensures read { Gives (seen_at A.seen pool.new) result (leaf_node_at A.kind (map (seen_at A.seen pool.old) ids.now) (view contents.now)) }
+{
+    let leaf = A::leaf_from_value(alloc, ids.len(), pool.base_mut(), contents)?;
+    Ok(pool.leaf(leaf)?)
+}
+
+/// The expression of the node that the value spells behind the expressions `ids`.
+#[tactic(auto, unfolding(crate::specs::Nodes::node_at))]
+pub(crate) fn node_from<A: WireLeaf>(
+    alloc: Global,
+    pool: &mut ExprPool<A>,
+    ids: &[ExprId<A>],
+    value: &Value,
+) -> Result<ExprId<A>, FlatError>
+    requires pool { IsPool A.reads pool.old }
+    requires ids_in { All (λ i. i < length pool.old.1) ids.now }
+    ensures grown { Grown A.grows A.reads pool.old pool.new }
+    ensures here { IfOk result (λ i. i < length pool.new.1) }
+    ensures read { Gives (seen_at A.seen pool.new) result (node_at A.kind (map (seen_at A.seen pool.old) ids.now) (view value.now)) }
+{
+    let shape = FlatError::Shape { at: ids.len() };
+    let (name, contents) = only_member(value).ok_or(shape)?;
+    if name == "Leaf" {
+        leaf_from(alloc, pool, ids, contents)
+    } else if name == "Add" {
+        add_from(pool, ids, contents)
+    } else if name == "Sub" {
+        sub_from(pool, ids, contents)
+    } else if name == "Mul" {
+        mul_from(pool, ids, contents)
+    } else if name == "Neg" {
+        neg_from(pool, ids, contents)
+    } else {
+        Err(shape)
+    }
+}
