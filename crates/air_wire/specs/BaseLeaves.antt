@@ -1,6 +1,6 @@
--- Base leaves: how they are read in a node.
-use Rattle.std.specs.Prelude.{ℕ, List, Option, Some, None, Result, Ok, Err, option_map, codes, if◌then◌else◌, nat_lt, bytes_eq, ok_or, refl}
-use Rattle.serde_json.specs.Data.{Data}
+-- Base leaves: how they are spelt, and how they are read in a node.
+use Rattle.std.specs.Prelude.{◌≡◌, ℕ, List, Option, Some, None, Result, Ok, Err, option_map, codes, if◌then◌else◌, nat_lt, bytes_eq, ok_or, refl}
+use Rattle.serde_json.specs.Data.{Data, string}
 use Rattle.serde_json.specs.Find.{as_str}
 use Rattle.air_field.specs.Modulo.{class}
 use Rattle.air_field.specs.declared.fields.baby_bear.BabyBear.{BabyBear}
@@ -9,11 +9,21 @@ use Rattle.air_symbolic.specs.declared.leaves.base_leaf.BaseLeaf.{BaseLeaf}
 use Rattle.air_symbolic.specs.declared.leaves.base_leaf.BaseLeaf.TheVariants as leaves
 use Rattle.air_wire.specs.Parts.{only_member, whole}
 use Rattle.air_wire.specs.Results.{◌>>=◌}
-use Rattle.air_wire.specs.Entries.{variable_of}
+use Rattle.air_wire.specs.Entries.{SpellsVariable, variable_of}
+use Rattle.air_wire.specs.Spelling.{IsCase, IsWhole}
 use Rattle.air_wire.specs.Nodes.{Kind}
 use Rattle.air_wire.specs.Seen.{WireLaws}
 use Rattle.air_wire.specs.declared.errors.FlatError.{FlatError}
 use Rattle.air_wire.specs.declared.errors.FlatError.TheVariants as faults
+
+abbrev pub SpellsLeaf : Data → BaseLeaf BabyBear → Type 0
+SpellsLeaf d (leaves.Variable v) = IsCase (codes "Variable") (λ c. SpellsVariable c v) d
+SpellsLeaf d leaves.IsFirstRow = d ≡ string (codes "IsFirstRow")
+SpellsLeaf d leaves.IsLastRow = d ≡ string (codes "IsLastRow")
+SpellsLeaf d leaves.IsTransition = d ≡ string (codes "IsTransition")
+SpellsLeaf d (leaves.Constant x) = IsCase (codes "Constant") (IsWhole x.residue) d
+
+-- ---- how a reader finds it
 
 -- a field element, by its canonical number
 abbrev pub element_or : ℕ → Option ℕ → Result BabyBear FlatError
@@ -44,7 +54,7 @@ unfoldable pub leaf_at : ℕ → Data → Result (BaseLeaf BabyBear) FlatError
 leaf_at place d = leaf_named place (as_str d) d
 
 abbrev pub base_kind : Kind (BaseLeaf BabyBear) BabyBear
-base_kind = record { leaf_at = leaf_at; term = base_term }
+base_kind = record { spells = SpellsLeaf; leaf_at = leaf_at; term = base_term }
 
 -- a base leaf holds no number
 abbrev pub base_seen : Unit {0} → BaseLeaf BabyBear → BaseLeaf BabyBear

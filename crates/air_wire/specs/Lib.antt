@@ -12,3 +12,5 @@ pub mod ExtEntryLaws
 pub mod Seen
 pub mod Nodes
 pub mod BaseLeaves
+pub mod BaseLeafLaws
+pub mod Good

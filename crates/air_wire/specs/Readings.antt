@@ -1,5 +1,7 @@
 -- What is found by reading a value is what the value spells.
-use Rattle.std.specs.Prelude.{◌≡◌, ℕ, List, Bool, true, false, Option, Some, None, option_map, option_and_then, if◌then◌else◌, bytes_eq, refl}
+use Rattle.air_wire.specs.declared.errors.FlatError.{FlatError}
+use Rattle.air_wire.specs.Results.{◌>>=◌}
+use Rattle.std.specs.Prelude.{◌≡◌, ℕ, List, Bool, true, false, Option, Some, None, Result, Ok, Err, ok_or, option_map, option_and_then, if◌then◌else◌, bytes_eq, refl}
 use Rattle.std.proofs.Common.{ap, subst}
 use Rattle.std.proofs.lemmas.Slice.Eq.{bytes_eq-Decides}
 use Rattle.serde_json.specs.Data.{Data, null, boolean, number, string, array, object, unsigned, negative, float, no_members, member}
@@ -60,3 +62,61 @@ text_or_case P read (array ds) z b c n e = n (array ds) refl e
 text_or_case P read (object no_members) z b c n e = n (object no_members) refl e
 text_or_case P read (object (member k v no_members)) z b c n e = c k v e
 text_or_case P read (object (member k v (member l w ms))) z b c n e = n (object (member k v (member l w ms))) refl e
+
+-- ---- results
+
+abbrev pub done : {A : Type 0} → A → Result A FlatError
+done x = Ok x
+
+pub done_is : {A : Type 0} (P : A → Type 0) (x z : A) → done x ≡ done z → P x → P z
+done_is {A} P x z e h = subst P (same x z e) h
+  where
+    same : (x z : A) → done x ≡ done z → x ≡ z
+    same x z e = cc
+
+pub not_done : {A : Type 0} (P : A → Type 0) (f : FlatError) (z : A) → Err f ≡ done z → P z
+not_done P f z e = absurd cc
+
+pub bind_ok : {A B : Type 0} (r : Result A FlatError) (f : A → Result B FlatError) (y : B) → (r >>= f) ≡ Ok y → (x : A) × (r ≡ Ok x) × (f x ≡ Ok y)
+bind_ok (Ok x) f y e = (x, refl, e)
+bind_ok (Err d) f y e = absurd cc
+
+pub ok_or_found : {A : Type 0} (o : Option A) (f : FlatError) (x : A) → ok_or o f ≡ Ok x → o ≡ Some x
+ok_or_found None f x e = absurd cc
+ok_or_found (Some y) f x e = done_is (λ z. Some y ≡ Some z) y x e refl
+
+pub test_ok : {A : Type 0} (P : A → Type 0) (b : Bool) (x y : Result A FlatError) (z : A) → if b then x else y ≡ Ok z → (b ≡ true → x ≡ Ok z → P z) → (y ≡ Ok z → P z) → P z
+test_ok P true x y z e p q = p refl e
+test_ok P false x y z e p q = q e
+
+pub name_ok : {A : Type 0} (P : A → Type 0) (s t : List ℕ) (x y : Result A FlatError) (z : A) → if bytes_eq s t then x else y ≡ Ok z → (s ≡ t → x ≡ Ok z → P z) → (y ≡ Ok z → P z) → P z
+name_ok P s t x y z e p q = test_ok P (bytes_eq s t) x y z e (λ b. p ((bytes_eq-Decides s t).0 b)) q
+
+-- a case is an object of one member
+pub only_found : (d : Data) (c : List ℕ × Data) → only_member d ≡ Some c → d ≡ case_data c.0 c.1
+only_found null c e = absurd cc
+only_found (boolean b) c e = absurd cc
+only_found (number n) c e = absurd cc
+only_found (string s) c e = absurd cc
+only_found (array ds) c e = absurd cc
+only_found (object no_members) c e = absurd cc
+only_found (object (member k v no_members)) c e = ap (λ p. case_data p.0 p.1) (some_is (k, v) c e)
+only_found (object (member k v (member l w ms))) c e = absurd cc
+
+pub text_found : (d : Data) (s : List ℕ) → as_str d ≡ Some s → d ≡ string s
+text_found null s e = absurd cc
+text_found (boolean b) s e = absurd cc
+text_found (number n) s e = absurd cc
+text_found (string t) s e = ap (λ x. string x) (some_is t s e)
+text_found (array ds) s e = absurd cc
+text_found (object ms) s e = absurd cc
+
+pub number_found : (d : Data) (n : ℕ) → whole d ≡ Some n → d ≡ number_data n
+number_found null n e = absurd cc
+number_found (boolean b) n e = absurd cc
+number_found (number (unsigned m)) n e = ap number_data (some_is m n e)
+number_found (number (negative z)) n e = absurd cc
+number_found (number (float x)) n e = absurd cc
+number_found (string s) n e = absurd cc
+number_found (array ds) n e = absurd cc
+number_found (object ms) n e = absurd cc

@@ -64,6 +64,7 @@ impl WireLeaf for BaseLeaf<BabyBear> {
     ghost use Rattle.air_field.specs.declared.fields.baby_bear.BabyBear.{BabyBear};
     ghost use Rattle.air_symbolic.specs.declared.leaves.base_leaf.BaseLeaf.{BaseLeaf};
     ghost use Rattle.air_wire.specs.BaseLeaves.{base_kind, base_seen, base_wire_laws};
+    ghost use Rattle.air_wire.specs.BaseLeafLaws.{base_kind_laws};
 
     ghost Seen = { BaseLeaf BabyBear };
 
@@ -81,4 +82,6 @@ impl WireLeaf for BaseLeaf<BabyBear> {
     }
 
     ghost wire_laws = { base_wire_laws };
+
+    ghost kind_laws = { base_kind_laws };
 }

@@ -1,9 +1,10 @@
 //! Lists of nodes.
-ghost use Rattle.std.specs.Prelude.{◌<◌, [], length, map, All, IfOk};
+ghost use Rattle.std.specs.Prelude.{◌≢◌, ◌<◌, [], length, map, All, IfOk, IfErr};
 ghost use Rattle.serde_json.specs.View.{view, items_view};
 ghost use Rattle.air_symbolic.specs.Pools.{IsPool, Grown};
 ghost use Rattle.air_wire.specs.Results.{Gives};
 ghost use Rattle.air_wire.specs.Seen.{seen_at};
+ghost use Rattle.air_wire.specs.Good.{IsList, HasFault};
 ghost use Rattle.air_wire.specs.Nodes.{nodes_from, last_tree, root_of};
 
 use crate::errors::FlatError;
@@ -48,10 +49,8 @@ fn root_from<A: WireLeaf>(
     }
 }
 
-/// Reads a list of nodes, which are inserted unfolded, and answers the expression of its root, the last node. Where
-/// the list is refused, the fault is the first one in the list's order.
 #[tactic(auto, unfolding(crate::specs::Nodes::root_of))]
-pub fn from_flat_value<A: WireLeaf>(
+fn list_from<A: WireLeaf>(
     alloc: Global,
     pool: &mut ExprPool<A>,
     value: &Value,
@@ -64,4 +63,20 @@ pub fn from_flat_value<A: WireLeaf>(
     let items = value.as_array().ok_or(FlatError::Shape { at: 0 })?;
     let ids = ids_from(alloc, pool, items)?;
     root_from(pool, &ids)
+}
+
+/// Reads a list of nodes, which are inserted unfolded, and answers the expression of its root, the last node. Any
+/// other value is refused with the first fault in the list's order.
+pub fn from_flat_value<A: WireLeaf>(
+    alloc: Global,
+    pool: &mut ExprPool<A>,
+    value: &Value,
+) -> Result<ExprId<A>, FlatError>
+    requires { IsPool A.reads pool.old }
+    ensures grown { Grown A.grows A.reads pool.old pool.new }
+    ensures here { IfOk result (λ i. i < length pool.new.1) }
+    ensures root { IfOk result (λ i. IsList A.kind (view value.now) (seen_at A.seen pool.new i)) }
+    ensures fault { IfErr result (λ e. e ≢ FlatError.Memory → HasFault A.kind (view value.now) e) }
+{
+    list_from(alloc, pool, value)
 }

@@ -1,7 +1,7 @@
 //! Leaves that stand in lists of nodes.
 ghost use Rattle.std.specs.Prelude.{IfOk};
 ghost use Rattle.serde_json.specs.View.{view};
-ghost use Rattle.air_wire.specs.Nodes.{Kind};
+ghost use Rattle.air_wire.specs.Nodes.{Kind, KindLaws};
 ghost use Rattle.air_wire.specs.Results.{Gives};
 ghost use Rattle.air_wire.specs.Seen.{WireLaws};
 
@@ -34,4 +34,6 @@ pub trait WireLeaf: SymLeaf {
         ensures read { Gives (seen under.new) result (kind.leaf_at at (view value.now)) };
 
     ghost wire_laws: { WireLaws Self.reads Self.grows seen kind.term };
+
+    ghost kind_laws: { KindLaws kind };
 }
