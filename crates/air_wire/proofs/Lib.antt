@@ -3,5 +3,5 @@ pub mod Answering
 pub mod SeenTrees
 pub mod Growing
 pub mod Loop
-pub mod NodeLaws
-pub mod ListLaws
+pub mod Numbers
+pub mod Lifting

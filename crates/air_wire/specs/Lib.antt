@@ -14,3 +14,8 @@ pub mod Nodes
 pub mod BaseLeaves
 pub mod BaseLeafLaws
 pub mod Good
+pub mod NodeLaws
+pub mod ListLaws
+pub mod Coefficients
+pub mod ExtLeaves
+pub mod ExtLeafLaws

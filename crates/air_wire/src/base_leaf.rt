@@ -13,7 +13,7 @@ use air_symbolic::BaseLeaf;
 use serde_json::Value;
 use std::alloc::Global;
 
-fn class_of(number: u32) -> BabyBear
+pub(crate) fn class_of(number: u32) -> BabyBear
     ensures { result ≡ class number }
 {
     BabyBear::new(number)

@@ -5,6 +5,7 @@ mod base_leaf;
 mod entries;
 mod errors;
 mod ext_entries;
+mod ext_leaf;
 pub mod laws;
 mod lists;
 mod nodes;

@@ -50,7 +50,7 @@ fn root_from<A: WireLeaf>(
 }
 
 #[tactic(auto, unfolding(crate::specs::Nodes::root_of))]
-fn list_from<A: WireLeaf>(
+pub(crate) fn list_from<A: WireLeaf>(
     alloc: Global,
     pool: &mut ExprPool<A>,
     value: &Value,

@@ -13,7 +13,7 @@ use Rattle.air_wire.specs.Results.{◌>>=◌, Fails, Gives}
 use Rattle.air_wire.specs.Readings.{done, done_is, not_done, bind_ok, ok_or_found}
 use Rattle.air_wire.specs.Nodes.{Kind, KindLaws, node_at, nodes_from, last_tree, root_of}
 use Rattle.air_wire.specs.Good.{IsNode, AreNodes, IsList, FirstFault, ItemsFault, HasFault}
-use Rattle.air_wire.proofs.NodeLaws.{node_found, node_again}
+use Rattle.air_wire.specs.NodeLaws.{node_found, node_again}
 
 abbrev failed : {A : Type 0} → FlatError → Result A FlatError
 failed f = Err f
