@@ -5,3 +5,4 @@ pub mod Growing
 pub mod Loop
 pub mod Numbers
 pub mod Lifting
+pub mod FormLaws

@@ -1,12 +1,12 @@
 -- The base expression of a list inside a leaf.
-use Rattle.std.proofs.Common.{◌≡◌, ℕ, ◌<◌, List, length, Result, Ok, Err, refl, sym, ap, ap₂, subst, ◌∙◌}
+use Rattle.std.proofs.Common.{◌≡◌, ℕ, List, length, Result, Ok, refl, sym, ap, subst, ◌∙◌}
 use Rattle.air_field.specs.declared.fields.baby_bear.BabyBear.{BabyBear}
 use Rattle.serde_json.specs.Data.{Data}
 use Rattle.air_field.specs.Ring.{CommRing, Over}
 use Rattle.air_field.specs.Extension.{ExtensionLaws}
 use Rattle.air_symbolic.specs.Trees.{Tree, nothing, leaf_tree, add_tree, sub_tree, neg_tree, mul_tree}
 use Rattle.air_symbolic.specs.declared.leaves.base_leaf.BaseLeaf.{BaseLeaf}
-use Rattle.air_wire.specs.Results.{◌>>=◌, Fails, Gives}
+use Rattle.air_wire.specs.Results.{◌>>=◌, Fails}
 use Rattle.air_wire.specs.Readings.{done}
 use Rattle.air_wire.specs.Coefficients.{elements_at, elements_found}
 use Rattle.air_wire.specs.ExtLeafLaws.{made_of}

@@ -1,5 +1,5 @@
 -- Base leaves: what is read is what is spelt.
-use Rattle.std.specs.Prelude.{◌≡◌, ℕ, List, Option, Some, None, Result, Ok, Err, option_map, codes, if◌then◌else◌, nat_lt, bytes_eq, ok_or, refl, ltb, true}
+use Rattle.std.specs.Prelude.{◌≡◌, ℕ, List, Option, Some, None, Ok, Err, option_map, codes, if◌then◌else◌, nat_lt, ok_or, refl, true}
 use Rattle.std.proofs.Common.{sym, ap, subst, ◌∙◌}
 use Rattle.std.proofs.lemmas.Bool.{ltb-true, lt-ltb}
 use Rattle.serde_json.specs.Data.{Data, string}
@@ -11,13 +11,12 @@ use Rattle.air_symbolic.specs.declared.leaves.base_leaf.BaseLeaf.{BaseLeaf}
 use Rattle.air_symbolic.specs.declared.leaves.base_leaf.BaseLeaf.TheVariants as leaves
 use Rattle.air_wire.specs.Parts.{only_member, whole}
 use Rattle.air_wire.specs.Results.{◌>>=◌}
-use Rattle.air_wire.specs.Spelling.{number_data, case_data, IsWhole}
+use Rattle.air_wire.specs.Spelling.{case_data, IsWhole}
 use Rattle.air_wire.specs.Readings.{by_name, none_found, named, mapped, done, done_is, not_done, bind_ok, ok_or_found, test_ok, name_ok, only_found, text_found, number_found}
 use Rattle.air_wire.specs.Entries.{variable_of}
 use Rattle.air_wire.specs.EntryLaws.{variable_again, variable_found}
-use Rattle.air_wire.specs.Nodes.{Kind, KindLaws}
+use Rattle.air_wire.specs.Nodes.{KindLaws}
 use Rattle.air_wire.specs.BaseLeaves.{SpellsLeaf, element_or, element_at, bare_leaf, leaf_with, case_leaf, leaf_named, leaf_at, base_kind}
-use Rattle.air_wire.specs.declared.errors.FlatError.{FlatError}
 use Rattle.air_wire.specs.declared.errors.FlatError.TheVariants as faults
 
 -- an element and its canonical number

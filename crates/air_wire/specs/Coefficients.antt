@@ -112,9 +112,10 @@ elements_found count place d cs e =
     let all = bind_ok (if_count count place ns.0) (λ all. if_canonical place all) cs ns.2 in
     let counted = test_ok (λ v. (ns.0 ≡ v) × (length ns.0 ≡ count)) (eqb (length ns.0) count) (Ok ns.0) (Err (faults.Shape place)) all.0 all.1 (λ same e. done_is (λ v. (ns.0 ≡ v) × (length ns.0 ≡ count)) ns.0 all.0 e (refl, eqb-true (length ns.0) count same)) (not_done (λ v. (ns.0 ≡ v) × (length ns.0 ≡ count)) (faults.Shape place) all.0) in
     test_ok (λ v. (d ≡ array (number_items v)) × (length v ≡ count)) (list_all is_canonical all.0) (Ok (map class all.0)) (Err (faults.NotCanonical place)) cs all.2
-    (λ good e. done_is (λ v. (d ≡ array (number_items v)) × (length v ≡ count)) (map class all.0) cs e
-    (as_array_is d ds.0 (ok_or_found (as_array d) (faults.Shape place) ds.0 ds.1) ∙ ap (λ x. array x) (items_found ds.0 all.0 (ok_or_found (wholes ds.0) (faults.Shape place) ns.0 ns.1 ∙ ap (λ l. Some l) counted.0) good),
-    class_length all.0 ∙ (ap length (sym counted.0) ∙ counted.1)))
+    (λ good e. done_is (λ v. (d ≡ array (number_items v)) × (length v ≡ count)) (map class all.0) cs e (
+      as_array_is d ds.0 (ok_or_found (as_array d) (faults.Shape place) ds.0 ds.1) ∙ ap (λ x. array x) (items_found ds.0 all.0 (ok_or_found (wholes ds.0) (faults.Shape place) ns.0 ns.1 ∙ ap (λ l. Some l) counted.0) good),
+      class_length all.0 ∙ (ap length (sym counted.0) ∙ counted.1),
+    ))
     (not_done (λ v. (d ≡ array (number_items v)) × (length v ≡ count)) (faults.NotCanonical place) cs)
 
 pub elements_again : (count place : ℕ) (d : Data) (cs : List BabyBear) → d ≡ array (number_items cs) → length cs ≡ count → elements_at count place d ≡ Ok cs

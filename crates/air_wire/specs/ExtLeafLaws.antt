@@ -1,11 +1,10 @@
 -- Extension leaves: what is read is what is spelt, and what is seen of a leaf stays.
-use Rattle.std.specs.Prelude.{◌≡◌, ℕ, Bool, List, Option, Some, None, Result, Ok, Err, option_map, codes, if◌then◌else◌, bytes_eq, ok_or, length, refl}
+use Rattle.std.specs.Prelude.{◌≡◌, ℕ, Bool, List, Option, Some, None, Result, Ok, Err, option_map, codes, ok_or, length, refl}
 use Rattle.std.proofs.Common.{sym, ap, subst, ◌∙◌}
 use Rattle.serde_json.specs.Data.{Data, array}
 use Rattle.air_field.specs.Ring.{CommRing, Over}
 use Rattle.air_field.specs.Extension.{ExtensionLaws, padded-whole}
 use Rattle.air_field.specs.declared.fields.baby_bear.BabyBear.{BabyBear}
-use Rattle.air_symbolic.specs.Trees.{Tree}
 use Rattle.air_symbolic.specs.PoolLaws.{tree-kept}
 use Rattle.air_symbolic.specs.BaseLeaves.{base_reads, base_grows, base_leaf_laws}
 use Rattle.air_symbolic.specs.ExtLeaves.{BaseNodes, ext_grows, ext_reads, ext_valid}
@@ -20,12 +19,11 @@ use Rattle.air_wire.specs.ExtEntries.{ext_variable_of}
 use Rattle.air_wire.specs.ExtEntryLaws.{ext_variable_again, ext_variable_found}
 use Rattle.air_wire.specs.Coefficients.{number_items, elements_at, elements_found, elements_again}
 use Rattle.air_wire.specs.Seen.{WireLaws}
-use Rattle.air_wire.specs.Nodes.{Kind, KindLaws, root_of}
-use Rattle.air_wire.specs.Good.{IsList}
+use Rattle.air_wire.specs.Nodes.{KindLaws, root_of}
 use Rattle.air_wire.specs.ListLaws.{root_found, root_again}
 use Rattle.air_wire.specs.BaseLeaves.{base_kind}
 use Rattle.air_wire.specs.BaseLeafLaws.{base_kind_laws}
-use Rattle.air_wire.specs.ExtLeaves.{SpellsWhole, whole_term, at_place, moved, lifted_at, ext_constant_at, ext_leaf_with, case_ext_leaf, ext_leaf_at, ext_kind}
+use Rattle.air_wire.specs.ExtLeaves.{SpellsWhole, whole_term, moved, ext_constant_at, ext_leaf_with, case_ext_leaf, ext_leaf_at, ext_kind}
 use Rattle.air_wire.specs.declared.errors.FlatError.{FlatError}
 use Rattle.air_wire.specs.declared.errors.FlatError.TheVariants as faults
 

@@ -1,5 +1,5 @@
 -- Extension leaves: how they are spelt, and how they are read in a node.
-use Rattle.std.specs.Prelude.{◌≡◌, ℕ, List, Option, Some, None, Result, Ok, Err, option_map, codes, if◌then◌else◌, bytes_eq, ok_or, refl}
+use Rattle.std.specs.Prelude.{◌≡◌, ℕ, List, Option, Some, None, Result, Ok, Err, option_map, codes, if◌then◌else◌, bytes_eq, ok_or}
 use Rattle.serde_json.specs.Data.{Data, array}
 use Rattle.air_field.specs.Ring.{Over}
 use Rattle.air_field.specs.Term.{Term, leaf_term, ext_const_term}

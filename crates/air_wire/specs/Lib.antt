@@ -19,3 +19,4 @@ pub mod ListLaws
 pub mod Coefficients
 pub mod ExtLeaves
 pub mod ExtLeafLaws
+pub mod Forms

@@ -1,5 +1,5 @@
 -- A value is a list of nodes of one tree, or has one first fault.
-use Rattle.std.proofs.Common.{◌≡◌, ◌≢◌, ℕ, suc, zero, ◌<◌, ◌+◌, ◌-◌, List, [], ◌∷◌, ◌++◌, append_assoc, length, Option, Some, None, Result, Ok, Err, refl, sym, ap, subst, ◌∙◌, arith, ◌⊎◌, inl, inr}
+use Rattle.std.proofs.Common.{◌≡◌, ◌≢◌, ℕ, suc, zero, ◌<◌, ◌-◌, List, [], ◌∷◌, ◌++◌, append_assoc, length, Option, Some, None, Result, Ok, Err, refl, sym, ap, subst, ◌∙◌, arith, inl, inr}
 use Rattle.std.specs.Option.{ok_or}
 use Rattle.std.specs.Result.{IfOk, IfErr}
 use Rattle.std.specs.List.{slice_get}
@@ -12,7 +12,7 @@ use Rattle.air_wire.specs.declared.errors.FlatError.TheVariants as faults
 use Rattle.air_wire.specs.Results.{◌>>=◌, Fails, Gives}
 use Rattle.air_wire.specs.Readings.{done, done_is, not_done, bind_ok, ok_or_found}
 use Rattle.air_wire.specs.Nodes.{Kind, KindLaws, node_at, nodes_from, last_tree, root_of}
-use Rattle.air_wire.specs.Good.{IsNode, AreNodes, IsList, FirstFault, ItemsFault, HasFault}
+use Rattle.air_wire.specs.Good.{AreNodes, IsList, FirstFault, ItemsFault, HasFault}
 use Rattle.air_wire.specs.NodeLaws.{node_found, node_again}
 
 abbrev failed : {A : Type 0} → FlatError → Result A FlatError

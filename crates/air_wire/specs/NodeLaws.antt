@@ -1,21 +1,18 @@
 -- What is read is a list of nodes, and every list of nodes is read.
-use Rattle.std.proofs.Common.{◌≡◌, ◌≢◌, ℕ, ◌<◌, ◌+◌, ◌^◌, ◌-◌, max, Bool, true, false, ltb, eqb, bytes_eq, if◌then◌else◌, List, [], ◌∷◌, ◌++◌, append_assoc, length, Option, Some, None, Result, Ok, Err, codes, refl, sym, ap, subst, ◌∙◌, arith, rules, tests, ◌⊎◌, inl, inr}
+use Rattle.std.proofs.Common.{◌≡◌, ℕ, ◌<◌, ◌+◌, ◌^◌, max, true, ltb, eqb, if◌then◌else◌, List, length, Option, Some, None, Ok, Err, codes, refl, sym, ap, subst, ◌∙◌, rules, tests}
 use Rattle.std.specs.Option.{ok_or}
 use Rattle.std.specs.List.{slice_get}
 use Rattle.std.proofs.lemmas.Bool.{ltb-true, eqb-true, lt-ltb}
-use Rattle.std.proofs.lemmas.List.{append-nil, length_push}
-use Rattle.serde_json.specs.Data.{Data, Items, no_items, item}
-use Rattle.serde_json.specs.Find.{as_array, get}
+use Rattle.serde_json.specs.Data.{Data}
 use Rattle.air_symbolic.specs.Trees.{Tree, nothing, leaf_tree, add_tree, sub_tree, neg_tree, mul_tree}
-use Rattle.air_wire.specs.declared.errors.FlatError.{FlatError}
 use Rattle.air_wire.specs.declared.errors.FlatError.TheVariants as faults
 use Rattle.air_wire.specs.Parts.{only_member, whole_at}
 use Rattle.air_wire.specs.Results.{◌>>=◌}
 use Rattle.air_wire.specs.Spelling.{case_data, HasWhole}
 use Rattle.air_wire.specs.Readings.{field_found, field_read, done, done_is, not_done, bind_ok, ok_or_found, test_ok, name_ok, only_found}
 use Rattle.air_wire.specs.Seen.{degree}
-use Rattle.air_wire.specs.Nodes.{Kind, KindLaws, operand_of, operand, stated, product_degree, two_with, two_of, one_with, one_of, sum_at, product_at, negated_at, add_at, sub_at, mul_at, neg_at, leaf_node_at, node_with, case_node, node_at, nodes_from, last_tree, root_of}
-use Rattle.air_wire.specs.Good.{HasOperand, HasTwo, HasOne, IsNode, AreNodes, IsList, FirstFault, ItemsFault, HasFault}
+use Rattle.air_wire.specs.Nodes.{Kind, KindLaws, operand_of, operand, stated, product_degree, two_with, two_of, one_with, one_of, sum_at, product_at, negated_at, node_with, case_node, node_at}
+use Rattle.air_wire.specs.Good.{HasTwo, HasOne, IsNode}
 
 -- ---- fields
 
@@ -28,11 +25,11 @@ two_found_of c (Some d) (Some x) (Some y) p dh xh yh e =
     let same : (d, x, y) ≡ p = cc in
     (field_found (codes "degree_multiple") c p.0 (dh ∙ ap (λ q. Some q.0) same), field_found (codes "x") c p.1 (xh ∙ ap (λ q. Some q.1) same), field_found (codes "y") c p.2 (yh ∙ ap (λ q. Some q.2) same))
 
-two_found : (c : Data) (p : ℕ × ℕ × ℕ) → two_of c ≡ Some p → HasWhole (codes "degree_multiple") p.0 c × HasWhole (codes "x") p.1 c × HasWhole (codes "y") p.2 c
+pub two_found : (c : Data) (p : ℕ × ℕ × ℕ) → two_of c ≡ Some p → HasWhole (codes "degree_multiple") p.0 c × HasWhole (codes "x") p.1 c × HasWhole (codes "y") p.2 c
 unfolding two_of
 two_found c p e = two_found_of c _ _ _ p refl refl refl e
 
-two_read : (c : Data) (d x y : ℕ) → HasWhole (codes "degree_multiple") d c → HasWhole (codes "x") x c → HasWhole (codes "y") y c → two_of c ≡ Some (d, x, y)
+pub two_read : (c : Data) (d x y : ℕ) → HasWhole (codes "degree_multiple") d c → HasWhole (codes "x") x c → HasWhole (codes "y") y c → two_of c ≡ Some (d, x, y)
 unfolding two_of
 two_read c d x y dh xh yh = rw (field_read (codes "degree_multiple") c d dh, field_read (codes "x") c x xh, field_read (codes "y") c y yh) refl
 
@@ -43,11 +40,11 @@ one_found_of c (Some d) (Some x) p dh xh e =
     let same : (d, x) ≡ p = cc in
     (field_found (codes "degree_multiple") c p.0 (dh ∙ ap (λ q. Some q.0) same), field_found (codes "x") c p.1 (xh ∙ ap (λ q. Some q.1) same))
 
-one_found : (c : Data) (p : ℕ × ℕ) → one_of c ≡ Some p → HasWhole (codes "degree_multiple") p.0 c × HasWhole (codes "x") p.1 c
+pub one_found : (c : Data) (p : ℕ × ℕ) → one_of c ≡ Some p → HasWhole (codes "degree_multiple") p.0 c × HasWhole (codes "x") p.1 c
 unfolding one_of
 one_found c p e = one_found_of c _ _ p refl refl e
 
-one_read : (c : Data) (d x : ℕ) → HasWhole (codes "degree_multiple") d c → HasWhole (codes "x") x c → one_of c ≡ Some (d, x)
+pub one_read : (c : Data) (d x : ℕ) → HasWhole (codes "degree_multiple") d c → HasWhole (codes "x") x c → one_of c ≡ Some (d, x)
 unfolding one_of
 one_read c d x dh xh = rw (field_read (codes "degree_multiple") c d dh, field_read (codes "x") c x xh) refl
 

@@ -90,7 +90,11 @@ fn at_place(at: usize, fault: FlatError) -> FlatError
         FlatError::Shape { .. } => FlatError::Shape { at },
         FlatError::EmptyList => FlatError::EmptyList,
         FlatError::Operand { operand, .. } => FlatError::Operand { at, operand },
-        FlatError::WrongDegree { stated, found, .. } => FlatError::WrongDegree { at, stated, found },
+        FlatError::WrongDegree { stated, found, .. } => FlatError::WrongDegree {
+            at,
+            stated,
+            found,
+        },
         FlatError::NotCanonical { .. } => FlatError::NotCanonical { at },
     }
 }

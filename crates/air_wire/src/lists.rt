@@ -35,10 +35,7 @@ fn ids_from<A: WireLeaf>(
 
 // The expression at the last place.
 #[tactic(auto, unfolding(crate::specs::Nodes::last_tree))]
-fn root_from<A: WireLeaf>(
-    pool: &ExprPool<A>,
-    ids: &[ExprId<A>],
-) -> Result<ExprId<A>, FlatError>
+fn root_from<A: WireLeaf>(pool: &ExprPool<A>, ids: &[ExprId<A>]) -> Result<ExprId<A>, FlatError>
     requires { All (λ i. i < length pool.now.1) ids.now }
     ensures here { IfOk result (λ i. i < length pool.now.1) }
     ensures read { Gives (seen_at A.seen pool.now) result (last_tree (map (seen_at A.seen pool.now) ids.now)) }

@@ -1,4 +1,3 @@
-use Rattle.std.proofs.Common.{sym}
 use Rattle.serde_json.specs.View.{view}
 use Rattle.air_field.specs.Modulo.{baby_bear_ring}
 use Rattle.air_wire.proofs.Lifting.{right_count, made_constant}

@@ -1,10 +1,10 @@
-use Rattle.std.proofs.Common.{◌≡◌, ◌++◌, ◌∷◌, [], map, sym, ◌∙◌, ap, arith}
+use Rattle.std.proofs.Common.{[], map}
 use Rattle.std.proofs.lemmas.Result.{err_from_is_err_and}
 use Rattle.std.proofs.lemmas.List.{map_push}
-use Rattle.serde_json.specs.View.{view, items_view}
+use Rattle.serde_json.specs.View.{items_view}
 use Rattle.air_symbolic.specs.PoolLaws.{Grown-trans}
 use Rattle.air_wire.specs.Seen.{seen_at}
-use Rattle.air_wire.specs.Nodes.{node_at, nodes_from}
+use Rattle.air_wire.specs.Nodes.{nodes_from}
 use Rattle.air_wire.proofs.Growing.{longer, below_push, map_kept}
 use Rattle.air_wire.proofs.SeenTrees.{seen_kept}
 use Rattle.air_wire.proofs.Loop.{goes_on, ends, is_done}
