@@ -29,14 +29,17 @@ fn ext_fault(alloc: Global, text: &str) -> Result<Option<FlatError>, Fail> {
 fn count(alloc: Global, text: &str) -> Result<usize, Fail> {
     let value = Value::from_str(alloc, text).ok().ok_or("no JSON")?;
     let mut pool: ExprPool<BaseLeaf<BabyBear>> = ExprPool::new(alloc);
-    let _root = from_flat_value(alloc, &mut pool, &value).ok().ok_or("refused")?;
+    let _root = from_flat_value(alloc, &mut pool, &value)
+        .ok()
+        .ok_or("refused")?;
     Ok(pool.len())
 }
 
 #[test]
 fn faults_of_operands_and_degrees(rt: HostRuntime) -> Result<(), Fail> {
     let alloc = rt.alloc();
-    let doubled = r#"[{"Leaf":{"Variable":{"entry":{"Main":{"offset":0}},"index":0}}},{"Add":{"degree_multiple":2,"x":0,"y":0}}]"#;
+    let doubled =
+        r#"[{"Leaf":{"Variable":{"entry":{"Main":{"offset":0}},"index":0}}},{"Add":{"degree_multiple":2,"x":0,"y":0}}]"#;
     let wrong = FlatError::WrongDegree {
         at: 1,
         stated: 2,
@@ -45,11 +48,20 @@ fn faults_of_operands_and_degrees(rt: HostRuntime) -> Result<(), Fail> {
     assert_eq!(rt; fault(alloc, doubled)?, Some(wrong));
     assert_eq!(rt; fault(alloc, "[]")?, Some(FlatError::EmptyList));
     let first = r#"[{"Add":{"x":0,"y":2,"degree_multiple":1}}]"#;
-    assert_eq!(rt; fault(alloc, first)?, Some(FlatError::Operand { at: 0, operand: 0 }));
+    assert_eq!(rt;
+        fault(alloc, first)?,
+        Some(FlatError::Operand { at: 0, operand: 0 })
+    );
     let itself = r#"[{"Leaf":"IsFirstRow"},{"Neg":{"degree_multiple":1,"x":1}}]"#;
-    assert_eq!(rt; fault(alloc, itself)?, Some(FlatError::Operand { at: 1, operand: 1 }));
+    assert_eq!(rt;
+        fault(alloc, itself)?,
+        Some(FlatError::Operand { at: 1, operand: 1 })
+    );
     let later = r#"[{"Leaf":"IsFirstRow"},{"Add":{"degree_multiple":9,"x":0,"y":7}}]"#;
-    assert_eq!(rt; fault(alloc, later)?, Some(FlatError::Operand { at: 1, operand: 7 }));
+    assert_eq!(rt;
+        fault(alloc, later)?,
+        Some(FlatError::Operand { at: 1, operand: 7 })
+    );
     Ok(())
 }
 
@@ -64,8 +76,14 @@ fn faults_of_shapes_and_numbers(rt: HostRuntime) -> Result<(), Fail> {
     assert_eq!(rt; fault(alloc, "[{}]")?, shape);
     assert_eq!(rt; fault(alloc, COLUMN)?, shape);
     let modulus = Some(FlatError::NotCanonical { at: 0 });
-    assert_eq!(rt; fault(alloc, r#"[{"Leaf":{"Constant":2013265921}}]"#)?, modulus);
-    assert_eq!(rt; fault(alloc, r#"[{"Leaf":{"Constant":2013265921}},5]"#)?, modulus);
+    assert_eq!(rt;
+        fault(alloc, r#"[{"Leaf":{"Constant":2013265921}}]"#)?,
+        modulus
+    );
+    assert_eq!(rt;
+        fault(alloc, r#"[{"Leaf":{"Constant":2013265921}},5]"#)?,
+        modulus
+    );
     let unreached = r#"[{"Leaf":{"Constant":2013265921}},{"Leaf":{"Constant":1}}]"#;
     assert_eq!(rt; fault(alloc, unreached)?, modulus);
     Ok(())
@@ -76,9 +94,11 @@ fn lists_that_are_read(rt: HostRuntime) -> Result<(), Fail> {
     let alloc = rt.alloc();
     let noted = r#"[{"Leaf":"IsFirstRow"},{"Neg":{"degree_multiple":1,"note":true,"x":0}}]"#;
     assert_eq!(rt; count(alloc, noted)?, 2);
-    let unfolded = r#"[{"Leaf":{"Constant":1}},{"Leaf":{"Constant":2}},{"Add":{"degree_multiple":0,"x":0,"y":1}}]"#;
+    let unfolded =
+        r#"[{"Leaf":{"Constant":1}},{"Leaf":{"Constant":2}},{"Add":{"degree_multiple":0,"x":0,"y":1}}]"#;
     assert_eq!(rt; count(alloc, unfolded)?, 3);
-    let twice = r#"[{"Leaf":"IsFirstRow"},{"Leaf":"IsFirstRow"},{"Mul":{"degree_multiple":2,"x":0,"y":1}}]"#;
+    let twice =
+        r#"[{"Leaf":"IsFirstRow"},{"Leaf":"IsFirstRow"},{"Mul":{"degree_multiple":2,"x":0,"y":1}}]"#;
     assert_eq!(rt; count(alloc, twice)?, 2);
     Ok(())
 }
@@ -88,10 +108,17 @@ fn faults_of_extension_lists(rt: HostRuntime) -> Result<(), Fail> {
     let alloc = rt.alloc();
     let short = r#"[{"Leaf":{"ExtConstant":[1,0,0]}}]"#;
     assert_eq!(rt; ext_fault(alloc, short)?, Some(FlatError::Shape { at: 0 }));
-    assert_eq!(rt; ext_fault(alloc, r#"[{"Leaf":{"Base":[]}}]"#)?, Some(FlatError::EmptyList));
+    assert_eq!(rt;
+        ext_fault(alloc, r#"[{"Leaf":{"Base":[]}}]"#)?,
+        Some(FlatError::EmptyList)
+    );
     let inner = r#"[{"Leaf":{"Base":[{"Neg":{"degree_multiple":0,"x":0}}]}}]"#;
-    assert_eq!(rt; ext_fault(alloc, inner)?, Some(FlatError::Operand { at: 0, operand: 0 }));
-    let example = r#"[{"Leaf":{"ExtVariable":{"entry":{"Permutation":{"offset":0}},"index":0}}},{"Leaf":{"ExtConstant":[0,1,0,0]}},{"Sub":{"degree_multiple":1,"x":0,"y":1}},{"Leaf":{"Base":[{"Leaf":{"Constant":7}}]}},{"Add":{"degree_multiple":1,"x":2,"y":3}}]"#;
+    assert_eq!(rt;
+        ext_fault(alloc, inner)?,
+        Some(FlatError::Operand { at: 0, operand: 0 })
+    );
+    let example =
+        r#"[{"Leaf":{"ExtVariable":{"entry":{"Permutation":{"offset":0}},"index":0}}},{"Leaf":{"ExtConstant":[0,1,0,0]}},{"Sub":{"degree_multiple":1,"x":0,"y":1}},{"Leaf":{"Base":[{"Leaf":{"Constant":7}}]}},{"Add":{"degree_multiple":1,"x":2,"y":3}}]"#;
     assert_eq!(rt; ext_fault(alloc, example)?, None);
     Ok(())
 }
@@ -148,8 +175,10 @@ fn spellings_of_variables(rt: HostRuntime) -> Result<(), Fail> {
     let (text, back) = there_and_back(alloc, &base)?;
     assert_eq!(rt; text.as_str(), r#"{"entry":"Public","index":2}"#);
     assert_eq!(rt; back, base);
-    let ext: SymbolicVariableExt<BabyBear, BabyBear> =
-        SymbolicVariableExt::new(ExtEntry::PermutationValue, 3);
+    let ext: SymbolicVariableExt<BabyBear, BabyBear> = SymbolicVariableExt::new(
+        ExtEntry::PermutationValue,
+        3,
+    );
     let (text, back) = there_and_back(alloc, &ext)?;
     assert_eq!(rt; text.as_str(), r#"{"entry":"PermutationValue","index":3}"#);
     assert_eq!(rt; back, ext);
