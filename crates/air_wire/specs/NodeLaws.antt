@@ -81,6 +81,9 @@ product_found a b n e =
 product_read : (a b : ℕ) → a + b < 2 ^ 64 → product_degree a b ≡ Ok (a + b)
 product_read a b h = ap (λ t. if t then Ok (a + b) else Err faults.DegreeOverflow) (lt-ltb (a + b) (2 ^ 64) h)
 
+restated : (c : Data) (m n : ℕ) → m ≡ n → HasWhole (codes "degree_multiple") m c → HasWhole (codes "degree_multiple") n c
+restated c m n e h = subst (λ k. HasWhole (codes "degree_multiple") k c) {y = n} e h
+
 module _ {S F : Type 0} (kind : Kind S F) (before : List (Tree S)) where
   sum_found : (c : Data) (q : Tree S × Tree S) → sum_at kind before c ≡ Ok q → HasTwo before q.0 q.1 (max (degree kind.term q.0) (degree kind.term q.1)) c
   unfolding sum_at
@@ -90,8 +93,8 @@ module _ {S F : Type 0} (kind : Kind S F) (before : List (Tree S)) where
       let u = bind_ok (operand before p.0.2) (λ u. stated (length before) p.0.0 (max (degree kind.term t.0) (degree kind.term u)) (t.0, u)) q t.2 in
       let s = stated_found (length before) p.0.0 (max (degree kind.term t.0) (degree kind.term u.0)) (t.0, u.0) q u.2 in
       let f = two_found c p.0 (ok_or_found (two_of c) (faults.Shape (length before)) p.0 p.1) in
-      subst (λ v. HasTwo before v.0 v.1 (max (degree kind.term v.0) (degree kind.term v.1)) c) {y = q} s.1
-      (subst (λ n. HasWhole (codes "degree_multiple") n c) s.0 f.0, (p.0.1, f.1, operand_found before p.0.1 t.0 t.1), (p.0.2, f.2, operand_found before p.0.2 u.0 u.1))
+      subst (λ v. HasTwo before v.0 v.1 (max (degree kind.term v.0) (degree kind.term v.1)) c) {x = (t.0, u.0)} {y = q} s.1
+      (restated c p.0.0 (max (degree kind.term t.0) (degree kind.term u.0)) s.0 f.0, (p.0.1, f.1, operand_found before p.0.1 t.0 t.1), (p.0.2, f.2, operand_found before p.0.2 u.0 u.1))
 
   sum_read : (c : Data) (t u : Tree S) → HasTwo before t u (max (degree kind.term t) (degree kind.term u)) c → sum_at kind before c ≡ Ok (t, u)
   unfolding sum_at
@@ -108,8 +111,8 @@ module _ {S F : Type 0} (kind : Kind S F) (before : List (Tree S)) where
       let s = stated_found (length before) p.0.0 n.0 (t.0, u.0) q n.2 in
       let g = product_found (degree kind.term t.0) (degree kind.term u.0) n.0 n.1 in
       let f = two_found c p.0 (ok_or_found (two_of c) (faults.Shape (length before)) p.0 p.1) in
-      subst (λ v. HasTwo before v.0 v.1 (degree kind.term v.0 + degree kind.term v.1) c × (degree kind.term v.0 + degree kind.term v.1 < 2 ^ 64)) {y = q} s.1
-      ((subst (λ n. HasWhole (codes "degree_multiple") n c) (s.0 ∙ g.1) f.0, (p.0.1, f.1, operand_found before p.0.1 t.0 t.1), (p.0.2, f.2, operand_found before p.0.2 u.0 u.1)), g.0)
+      subst (λ v. HasTwo before v.0 v.1 (degree kind.term v.0 + degree kind.term v.1) c × (degree kind.term v.0 + degree kind.term v.1 < 2 ^ 64)) {x = (t.0, u.0)} {y = q} s.1
+      ((restated c n.0 (degree kind.term t.0 + degree kind.term u.0) g.1 (restated c p.0.0 n.0 s.0 f.0), (p.0.1, f.1, operand_found before p.0.1 t.0 t.1), (p.0.2, f.2, operand_found before p.0.2 u.0 u.1)), g.0)
 
   product_of_read : (c : Data) (t u : Tree S) → HasTwo before t u (degree kind.term t + degree kind.term u) c → degree kind.term t + degree kind.term u < 2 ^ 64 → product_at kind before c ≡ Ok (t, u)
   unfolding product_at
@@ -123,8 +126,8 @@ module _ {S F : Type 0} (kind : Kind S F) (before : List (Tree S)) where
       let t = bind_ok (operand before p.0.1) (λ t. stated (length before) p.0.0 (degree kind.term t) t) q p.2 in
       let s = stated_found (length before) p.0.0 (degree kind.term t.0) t.0 q t.2 in
       let f = one_found c p.0 (ok_or_found (one_of c) (faults.Shape (length before)) p.0 p.1) in
-      subst (λ v. HasOne before v (degree kind.term v) c) {y = q} s.1
-      (subst (λ n. HasWhole (codes "degree_multiple") n c) s.0 f.0, (p.0.1, f.1, operand_found before p.0.1 t.0 t.1))
+      subst (λ v. HasOne before v (degree kind.term v) c) {x = t.0} {y = q} s.1
+      (restated c p.0.0 (degree kind.term t.0) s.0 f.0, (p.0.1, f.1, operand_found before p.0.1 t.0 t.1))
 
   negated_read : (c : Data) (t : Tree S) → HasOne before t (degree kind.term t) c → negated_at kind before c ≡ Ok t
   unfolding negated_at
