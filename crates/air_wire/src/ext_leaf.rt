@@ -24,7 +24,8 @@ use std::alloc::Global;
 
 // The whole numbers of a list.
 fn wholes(alloc: Global, at: usize, items: &[Value]) -> Result<Vec<usize>, FlatError>
-    ensures { Gives (λ v. v.items) result (ok_or (wholes (items_view items.now)) (FlatError.Shape at)) }
+    ensures { Gives (λ v. v.items) result
+        (ok_or (wholes (items_view items.now)) (FlatError.Shape at)) }
 {
     let mut numbers = Vec::new(alloc);
     for item in items {
@@ -109,7 +110,8 @@ fn base_from(
     requires { IsPool base_reads under.old }
     ensures grown { Grown base_grows base_reads under.old under.new }
     ensures here { IfOk result (λ i. i < length under.new.1) }
-    ensures read { Gives (tree_at under.new) result (moved at (root_of base_kind (view contents.now))) }
+    ensures read { Gives (tree_at under.new) result
+        (moved at (root_of base_kind (view contents.now))) }
 {
     match list_from(alloc, under, contents) {
         Ok(id) => Ok(id),
@@ -127,7 +129,8 @@ fn ext_leaf_from<EF: ExtensionField<BabyBear>>(
     requires { IsPool base_reads under.old }
     ensures grown { Grown base_grows base_reads under.old under.new }
     ensures valid { IfOk result (λ a. ext_valid under.new a) }
-    ensures read { Gives (λ a. whole_leaf under.new a) result (ext_leaf_at EF.over EF.DIMENSION at (view value.now)) }
+    ensures read { Gives (λ a. whole_leaf under.new a) result
+        (ext_leaf_at EF.over EF.DIMENSION at (view value.now)) }
 {
     let shape = FlatError::Shape { at };
     let (name, contents) = only_member(value).ok_or(shape)?;

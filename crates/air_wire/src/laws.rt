@@ -11,12 +11,16 @@ use crate::wire_leaf::WireLeaf;
 
 /// A value is a list of nodes of one tree, or it has one first fault, and never both.
 pub fn lists_are_read_one_way<A: WireLeaf>()
-    ensures one_tree { (d : Data) (t u : Tree A.Seen) → IsList A.kind d t → IsList A.kind d u → t ≡ u }
-    ensures no_fault { (d : Data) (t : Tree A.Seen) (f : FlatError) → IsList A.kind d t → HasFault A.kind d f → ⊥ }
-    ensures one_fault { (d : Data) (f g : FlatError) → HasFault A.kind d f → HasFault A.kind d g → f ≡ g }
+    ensures one_tree { (d : Data) (t u : Tree A.Seen) → IsList A.kind d t → IsList A.kind d u →
+        t ≡ u }
+    ensures no_fault { (d : Data) (t : Tree A.Seen) (f : FlatError) → IsList A.kind d t →
+        HasFault A.kind d f → ⊥ }
+    ensures one_fault { (d : Data) (f g : FlatError) → HasFault A.kind d f → HasFault A.kind d g →
+        f ≡ g }
 {}
 
 /// The fault of a node that isn't read: it has no form, or the first fault of its form.
 pub fn faults_of_nodes<A: WireLeaf>()
-    ensures { (before : List (Tree A.Seen)) (d : Data) (f : FlatError) → node_at A.kind before d ≡ Err f → NodeFault A.kind before d f }
+    ensures { (before : List (Tree A.Seen)) (d : Data) (f : FlatError) →
+        node_at A.kind before d ≡ Err f → NodeFault A.kind before d f }
 {}

@@ -23,7 +23,8 @@ fn ids_from<A: WireLeaf>(
     requires { IsPool A.reads pool.old }
     ensures grown { Grown A.grows A.reads pool.old pool.new }
     ensures here { IfOk result (λ ids. All (λ i. i < length pool.new.1) ids.items) }
-    ensures read { Gives (λ ids. map (seen_at A.seen pool.new) ids.items) result (nodes_from A.kind [] (items_view items.now)) }
+    ensures read { Gives (λ ids. map (seen_at A.seen pool.new) ids.items) result
+        (nodes_from A.kind [] (items_view items.now)) }
 {
     let mut ids = Vec::new(alloc);
     for item in items {
@@ -38,7 +39,8 @@ fn ids_from<A: WireLeaf>(
 fn root_from<A: WireLeaf>(pool: &ExprPool<A>, ids: &[ExprId<A>]) -> Result<ExprId<A>, FlatError>
     requires { All (λ i. i < length pool.now.1) ids.now }
     ensures here { IfOk result (λ i. i < length pool.now.1) }
-    ensures read { Gives (seen_at A.seen pool.now) result (last_tree (map (seen_at A.seen pool.now) ids.now)) }
+    ensures read { Gives (seen_at A.seen pool.now) result
+        (last_tree (map (seen_at A.seen pool.now) ids.now)) }
 {
     match ids.last() {
         Some(id) => Ok(*id),

@@ -23,7 +23,8 @@ fn operand<A: WireLeaf>(
 ) -> Result<ExprId<A>, FlatError>
     requires { All (λ i. i < length pool.now.1) ids.now }
     ensures here { IfOk result (λ i. i < length pool.now.1) }
-    ensures read { Gives (seen_at A.seen pool.now) result (operand (map (seen_at A.seen pool.now) ids.now) place) }
+    ensures read { Gives (seen_at A.seen pool.now) result
+        (operand (map (seen_at A.seen pool.now) ids.now) place) }
 {
     match ids.get(place) {
         Some(id) => Ok(*id),
@@ -94,7 +95,8 @@ fn sum_operands<A: WireLeaf>(
     requires ids_in { All (λ i. i < length pool.now.1) ids.now }
     ensures left { IfOk result (λ p. p.0 < length pool.now.1) }
     ensures right { IfOk result (λ p. p.1 < length pool.now.1) }
-    ensures read { Gives (λ p. (seen_at A.seen pool.now p.0, seen_at A.seen pool.now p.1)) result (sum_at A.kind (map (seen_at A.seen pool.now) ids.now) (view contents.now)) }
+    ensures read { Gives (λ p. (seen_at A.seen pool.now p.0, seen_at A.seen pool.now p.1)) result
+        (sum_at A.kind (map (seen_at A.seen pool.now) ids.now) (view contents.now)) }
 {
     let shape = FlatError::Shape { at: ids.len() };
     let (degree, x, y) = two_from(contents).ok_or(shape)?;
@@ -116,8 +118,10 @@ fn product_operands<A: WireLeaf>(
     requires ids_in { All (λ i. i < length pool.now.1) ids.now }
     ensures left { IfOk result (λ p. p.0 < length pool.now.1) }
     ensures right { IfOk result (λ p. p.1 < length pool.now.1) }
-    ensures fits { IfOk result (λ p. degree A.kind.term (seen_at A.seen pool.now p.0) + degree A.kind.term (seen_at A.seen pool.now p.1) < 2 ^ 64) }
-    ensures read { Gives (λ p. (seen_at A.seen pool.now p.0, seen_at A.seen pool.now p.1)) result (product_at A.kind (map (seen_at A.seen pool.now) ids.now) (view contents.now)) }
+    ensures fits { IfOk result (λ p. degree A.kind.term (seen_at A.seen pool.now p.0)
+        + degree A.kind.term (seen_at A.seen pool.now p.1) < 2 ^ 64) }
+    ensures read { Gives (λ p. (seen_at A.seen pool.now p.0, seen_at A.seen pool.now p.1)) result
+        (product_at A.kind (map (seen_at A.seen pool.now) ids.now) (view contents.now)) }
 {
     let shape = FlatError::Shape { at: ids.len() };
     let (degree, x, y) = two_from(contents).ok_or(shape)?;
@@ -138,7 +142,8 @@ fn negated_operand<A: WireLeaf>(
     requires pool { IsPool A.reads pool.now }
     requires ids_in { All (λ i. i < length pool.now.1) ids.now }
     ensures here { IfOk result (λ i. i < length pool.now.1) }
-    ensures read { Gives (seen_at A.seen pool.now) result (negated_at A.kind (map (seen_at A.seen pool.now) ids.now) (view contents.now)) }
+    ensures read { Gives (seen_at A.seen pool.now) result
+        (negated_at A.kind (map (seen_at A.seen pool.now) ids.now) (view contents.now)) }
 {
     let shape = FlatError::Shape { at: ids.len() };
     let (degree, x) = one_from(contents).ok_or(shape)?;
@@ -156,10 +161,12 @@ fn inserted_product<A: WireLeaf>(
     requires pool { IsPool A.reads pool.old }
     requires x_in { x < length pool.old.1 }
     requires y_in { y < length pool.old.1 }
-    requires fits { degree A.kind.term (seen_at A.seen pool.old x) + degree A.kind.term (seen_at A.seen pool.old y) < 2 ^ 64 }
+    requires fits { degree A.kind.term (seen_at A.seen pool.old x)
+        + degree A.kind.term (seen_at A.seen pool.old y) < 2 ^ 64 }
     ensures same_under { pool.new.0 ≡ pool.old.0 }
     ensures grown { Grown A.grows A.reads pool.old pool.new }
-    ensures made { IfOk result (HasTree pool.new (mul_tree (tree_at pool.old x) (tree_at pool.old y))) }
+    ensures made { IfOk result (HasTree pool.new
+        (mul_tree (tree_at pool.old x) (tree_at pool.old y))) }
     ensures refused { IfErr result (λ e. e ≡ FlatError.Memory) }
 {
     match pool.insert_mul(x, y) {
@@ -177,7 +184,8 @@ fn add_from<A: WireLeaf>(
     requires ids_in { All (λ i. i < length pool.old.1) ids.now }
     ensures grown { Grown A.grows A.reads pool.old pool.new }
     ensures here { IfOk result (λ i. i < length pool.new.1) }
-    ensures read { Gives (seen_at A.seen pool.new) result (add_at A.kind (map (seen_at A.seen pool.old) ids.now) (view contents.now)) }
+    ensures read { Gives (seen_at A.seen pool.new) result
+        (add_at A.kind (map (seen_at A.seen pool.old) ids.now) (view contents.now)) }
 {
     let (left, right) = sum_operands(pool, ids, contents)?;
     Ok(pool.insert_add(left, right)?)
@@ -192,7 +200,8 @@ fn sub_from<A: WireLeaf>(
     requires ids_in { All (λ i. i < length pool.old.1) ids.now }
     ensures grown { Grown A.grows A.reads pool.old pool.new }
     ensures here { IfOk result (λ i. i < length pool.new.1) }
-    ensures read { Gives (seen_at A.seen pool.new) result (sub_at A.kind (map (seen_at A.seen pool.old) ids.now) (view contents.now)) }
+    ensures read { Gives (seen_at A.seen pool.new) result
+        (sub_at A.kind (map (seen_at A.seen pool.old) ids.now) (view contents.now)) }
 {
     let (left, right) = sum_operands(pool, ids, contents)?;
     Ok(pool.insert_sub(left, right)?)
@@ -207,7 +216,8 @@ fn mul_from<A: WireLeaf>(
     requires ids_in { All (λ i. i < length pool.old.1) ids.now }
     ensures grown { Grown A.grows A.reads pool.old pool.new }
     ensures here { IfOk result (λ i. i < length pool.new.1) }
-    ensures read { Gives (seen_at A.seen pool.new) result (mul_at A.kind (map (seen_at A.seen pool.old) ids.now) (view contents.now)) }
+    ensures read { Gives (seen_at A.seen pool.new) result
+        (mul_at A.kind (map (seen_at A.seen pool.old) ids.now) (view contents.now)) }
 {
     let (left, right) = product_operands(pool, ids, contents)?;
     inserted_product(pool, left, right)
@@ -222,7 +232,8 @@ fn neg_from<A: WireLeaf>(
     requires ids_in { All (λ i. i < length pool.old.1) ids.now }
     ensures grown { Grown A.grows A.reads pool.old pool.new }
     ensures here { IfOk result (λ i. i < length pool.new.1) }
-    ensures read { Gives (seen_at A.seen pool.new) result (neg_at A.kind (map (seen_at A.seen pool.old) ids.now) (view contents.now)) }
+    ensures read { Gives (seen_at A.seen pool.new) result
+        (neg_at A.kind (map (seen_at A.seen pool.old) ids.now) (view contents.now)) }
 {
     let inner = negated_operand(pool, ids, contents)?;
     Ok(pool.insert_neg(inner)?)
@@ -237,7 +248,8 @@ fn leaf_from<A: WireLeaf>(
     requires pool { IsPool A.reads pool.old }
     ensures grown { Grown A.grows A.reads pool.old pool.new }
     ensures here { IfOk result (λ i. i < length pool.new.1) }
-    ensures read { Gives (seen_at A.seen pool.new) result (leaf_node_at A.kind (map (seen_at A.seen pool.old) ids.now) (view contents.now)) }
+    ensures read { Gives (seen_at A.seen pool.new) result
+        (leaf_node_at A.kind (map (seen_at A.seen pool.old) ids.now) (view contents.now)) }
 {
     let leaf = A::leaf_from_value(alloc, ids.len(), pool.base_mut(), contents)?;
     Ok(pool.leaf(leaf)?)
@@ -255,7 +267,8 @@ pub(crate) fn node_from<A: WireLeaf>(
     requires ids_in { All (λ i. i < length pool.old.1) ids.now }
     ensures grown { Grown A.grows A.reads pool.old pool.new }
     ensures here { IfOk result (λ i. i < length pool.new.1) }
-    ensures read { Gives (seen_at A.seen pool.new) result (node_at A.kind (map (seen_at A.seen pool.old) ids.now) (view value.now)) }
+    ensures read { Gives (seen_at A.seen pool.new) result
+        (node_at A.kind (map (seen_at A.seen pool.old) ids.now) (view value.now)) }
 {
     let shape = FlatError::Shape { at: ids.len() };
     let (name, contents) = only_member(value).ok_or(shape)?;

@@ -26,7 +26,8 @@ pub trait Spelled {
         Self: Sized,
         ensures read { IfOk result (λ x. spells (view value.now) x) }
         ensures shape { IfErr result (λ e. e ≢ FlatError.Memory → e ≡ FlatError.Shape 0) }
-        ensures nothing { IfErr result (λ e. e ≢ FlatError.Memory → (x : Self) → spells (view value.now) x → ⊥) };
+        ensures nothing { IfErr result (λ e. e ≢ FlatError.Memory → (x : Self) → spells
+            (view value.now) x → ⊥) };
 
     // What is written spells what it was written for, and a value spells one at most.
     ghost is_spelt: { (x : Self) → spells (spelling x) x };
