@@ -11,6 +11,7 @@ mod ext_pool;
 mod extension_builders;
 mod fields;
 mod filters;
+mod flat_lists;
 mod gadgets;
 mod leaves;
 mod matrices;

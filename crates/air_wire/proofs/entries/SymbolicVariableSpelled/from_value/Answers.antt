@@ -1,0 +1,11 @@
+use Rattle.std.proofs.Common.{sym, ◌∙◌}
+use Rattle.serde_json.specs.View.{view}
+use Rattle.air_wire.specs.EntryLaws.{variable_found, variable_again}
+use Rattle.air_wire.proofs.Answering.{read_is, nothing_is}
+use Rattle.air_wire.proofs.entries.SymbolicVariableSpelled.from_value.Goals as goal
+
+pub returns-clause-read : goal.returns-clause-read
+returns-clause-read g c = read_is _ _ _ _ c.ok_or.ensures.value (λ x h. variable_found (view c.args.value.now) x (sym c.variable_from.ensures ∙ h))
+
+pub returns-clause-nothing : goal.returns-clause-nothing
+returns-clause-nothing g c = nothing_is _ _ _ _ c.ok_or.ensures.value (λ x h. c.variable_from.ensures ∙ variable_again (view c.args.value.now) x h)

@@ -1,0 +1,64 @@
+-- Base leaves: how they are spelt, and how they are read in a node.
+use Rattle.std.specs.Prelude.{◌≡◌, ℕ, List, Option, Some, None, Result, Ok, Err, option_map, codes, if◌then◌else◌, nat_lt, bytes_eq, ok_or, refl}
+use Rattle.serde_json.specs.Data.{Data, string}
+use Rattle.serde_json.specs.Find.{as_str}
+use Rattle.air_field.specs.Modulo.{class}
+use Rattle.air_field.specs.declared.fields.baby_bear.BabyBear.{BabyBear}
+use Rattle.air_symbolic.specs.BaseLeaves.{base_term, base_reads, base_grows}
+use Rattle.air_symbolic.specs.declared.leaves.base_leaf.BaseLeaf.{BaseLeaf}
+use Rattle.air_symbolic.specs.declared.leaves.base_leaf.BaseLeaf.TheVariants as leaves
+use Rattle.air_wire.specs.Parts.{only_member, whole}
+use Rattle.air_wire.specs.Results.{◌>>=◌}
+use Rattle.air_wire.specs.Entries.{SpellsVariable, variable_of}
+use Rattle.air_wire.specs.Spelling.{IsCase, IsWhole}
+use Rattle.air_wire.specs.Nodes.{Kind}
+use Rattle.air_wire.specs.Seen.{WireLaws}
+use Rattle.air_wire.specs.declared.errors.FlatError.{FlatError}
+use Rattle.air_wire.specs.declared.errors.FlatError.TheVariants as faults
+
+abbrev pub SpellsLeaf : Data → BaseLeaf BabyBear → Type 0
+SpellsLeaf d (leaves.Variable v) = IsCase (codes "Variable") (λ c. SpellsVariable c v) d
+SpellsLeaf d leaves.IsFirstRow = d ≡ string (codes "IsFirstRow")
+SpellsLeaf d leaves.IsLastRow = d ≡ string (codes "IsLastRow")
+SpellsLeaf d leaves.IsTransition = d ≡ string (codes "IsTransition")
+SpellsLeaf d (leaves.Constant x) = IsCase (codes "Constant") (IsWhole x.residue) d
+
+-- ---- how a reader finds it
+
+-- a field element, by its canonical number
+abbrev pub element_or : ℕ → Option ℕ → Result BabyBear FlatError
+element_or place None = Err (faults.Shape place)
+element_or place (Some n) = if nat_lt n 2013265921 then Ok (class n) else Err (faults.NotCanonical place)
+
+unfoldable pub element_at : ℕ → Data → Result BabyBear FlatError
+element_at place d = element_or place (whole d)
+
+-- a leaf without contents, by its name
+abbrev pub bare_leaf : List ℕ → Option (BaseLeaf BabyBear)
+bare_leaf name = if bytes_eq name (codes "IsFirstRow") then Some leaves.IsFirstRow else (if bytes_eq name (codes "IsLastRow") then Some leaves.IsLastRow else (if bytes_eq name (codes "IsTransition") then Some leaves.IsTransition else None))
+
+-- a leaf with contents, by its name
+abbrev pub leaf_with : ℕ → List ℕ → Data → Result (BaseLeaf BabyBear) FlatError
+leaf_with place name d = if bytes_eq name (codes "Variable") then ok_or (option_map (λ v. leaves.Variable v) (variable_of d)) (faults.Shape place) else (if bytes_eq name (codes "Constant") then (element_at place d >>= λ c. Ok (leaves.Constant c)) else Err (faults.Shape place))
+
+abbrev pub case_leaf : ℕ → Option (List ℕ × Data) → Result (BaseLeaf BabyBear) FlatError
+case_leaf place None = Err (faults.Shape place)
+case_leaf place (Some c) = leaf_with place c.0 c.1
+
+abbrev pub leaf_named : ℕ → Option (List ℕ) → Data → Result (BaseLeaf BabyBear) FlatError
+leaf_named place None d = case_leaf place (only_member d)
+leaf_named place (Some name) d = ok_or (bare_leaf name) (faults.Shape place)
+
+-- the leaf that is spelt by a value in the node at a place, or its fault
+unfoldable pub leaf_at : ℕ → Data → Result (BaseLeaf BabyBear) FlatError
+leaf_at place d = leaf_named place (as_str d) d
+
+abbrev pub base_kind : Kind (BaseLeaf BabyBear) BabyBear
+base_kind = record { spells = SpellsLeaf; leaf_at = leaf_at; term = base_term }
+
+-- a base leaf holds no number
+abbrev pub base_seen : Unit {0} → BaseLeaf BabyBear → BaseLeaf BabyBear
+base_seen u a = a
+
+pub base_wire_laws : WireLaws (base_reads {F = BabyBear}) base_grows base_seen base_term
+base_wire_laws = record { term_is = λ u a. refl; kept = λ u v g a h. refl }

@@ -1,0 +1,68 @@
+-- Extension leaves: how they are spelt, and how they are read in a node.
+use Rattle.std.specs.Prelude.{◌≡◌, ℕ, List, Option, Some, None, Result, Ok, Err, option_map, codes, if◌then◌else◌, bytes_eq, ok_or}
+use Rattle.serde_json.specs.Data.{Data, array}
+use Rattle.air_field.specs.Ring.{Over}
+use Rattle.air_field.specs.Term.{Term, leaf_term, ext_const_term}
+use Rattle.air_field.specs.declared.fields.baby_bear.BabyBear.{BabyBear}
+use Rattle.air_variables.specs.ExtEntries.{ext_entry_leaf}
+use Rattle.air_symbolic.specs.Trees.{term_of}
+use Rattle.air_symbolic.specs.BaseLeaves.{base_term}
+use Rattle.air_symbolic.specs.ExtTrees.{WholeLeaf, whole_base, whole_variable, whole_constant}
+use Rattle.air_wire.specs.Parts.{only_member}
+use Rattle.air_wire.specs.Results.{◌>>=◌}
+use Rattle.air_wire.specs.Spelling.{IsCase}
+use Rattle.air_wire.specs.ExtEntries.{SpellsExtVariable, ext_variable_of}
+use Rattle.air_wire.specs.Coefficients.{number_items, elements_at}
+use Rattle.air_wire.specs.Nodes.{Kind, root_of}
+use Rattle.air_wire.specs.Good.{IsList}
+use Rattle.air_wire.specs.BaseLeaves.{base_kind}
+use Rattle.air_wire.specs.declared.errors.FlatError.{FlatError}
+use Rattle.air_wire.specs.declared.errors.FlatError.TheVariants as faults
+
+-- a Base leaf is spelt by a whole list of base nodes, a constant by its coefficients
+abbrev pub SpellsWhole : {EF : Type 0} → (EF → List BabyBear) → Data → WholeLeaf BabyBear EF → Type 0
+SpellsWhole coefficients d (whole_base t) = IsCase (codes "Base") (λ c. IsList base_kind c t) d
+SpellsWhole coefficients d (whole_variable v) = IsCase (codes "ExtVariable") (λ c. SpellsExtVariable c v) d
+SpellsWhole coefficients d (whole_constant e) = IsCase (codes "ExtConstant") (λ c. c ≡ array (number_items (coefficients e))) d
+
+abbrev pub whole_term : {EF : Type 0} → (EF → List BabyBear) → WholeLeaf BabyBear EF → Term BabyBear
+whole_term coefficients (whole_base t) = term_of base_term t
+whole_term coefficients (whole_variable v) = leaf_term (ext_entry_leaf v.entry v.index)
+whole_term coefficients (whole_constant c) = ext_const_term (coefficients c)
+
+-- ---- how a reader finds it
+
+-- a fault inside the list of a leaf, told at the place of the leaf's node
+abbrev pub at_place : ℕ → FlatError → FlatError
+at_place place faults.Memory = faults.Memory
+at_place place faults.DegreeOverflow = faults.DegreeOverflow
+at_place place (faults.Shape inner) = faults.Shape place
+at_place place faults.EmptyList = faults.EmptyList
+at_place place (faults.Operand inner i) = faults.Operand place i
+at_place place (faults.WrongDegree inner d found) = faults.WrongDegree place d found
+at_place place (faults.NotCanonical inner) = faults.NotCanonical place
+
+abbrev pub moved : {A : Type 0} → ℕ → Result A FlatError → Result A FlatError
+moved place (Ok a) = Ok a
+moved place (Err f) = Err (at_place place f)
+
+abbrev pub lifted_at : {EF : Type 0} → ℕ → Data → Result (WholeLeaf BabyBear EF) FlatError
+lifted_at place c = moved place (root_of base_kind c) >>= λ t. Ok (whole_base t)
+
+abbrev pub ext_constant_at : {EF : Type 0} → Over BabyBear EF → ℕ → ℕ → Data → Result EF FlatError
+ext_constant_at a count place c = elements_at count place c >>= λ cs. Ok (a.extend cs)
+
+abbrev pub ext_leaf_with : {EF : Type 0} → Over BabyBear EF → ℕ → ℕ → List ℕ → Data → Result (WholeLeaf BabyBear EF) FlatError
+ext_leaf_with a count place name c = if bytes_eq name (codes "Base") then lifted_at place c else (if bytes_eq name (codes "ExtVariable") then ok_or (option_map (λ v. whole_variable v) (ext_variable_of c)) (faults.Shape place) else (if bytes_eq name (codes "ExtConstant") then (ext_constant_at a count place c >>= λ e. Ok (whole_constant e)) else Err (faults.Shape place)))
+
+abbrev pub case_ext_leaf : {EF : Type 0} → Over BabyBear EF → ℕ → ℕ → Option (List ℕ × Data) → Result (WholeLeaf BabyBear EF) FlatError
+case_ext_leaf a count place None = Err (faults.Shape place)
+case_ext_leaf a count place (Some c) = ext_leaf_with a count place c.0 c.1
+
+-- the leaf that is spelt by a value in the node at a place, or its fault
+unfoldable pub ext_leaf_at : {EF : Type 0} → Over BabyBear EF → ℕ → ℕ → Data → Result (WholeLeaf BabyBear EF) FlatError
+ext_leaf_at a count place d = case_ext_leaf a count place (only_member d)
+
+-- extension leaves, with so many coefficients
+abbrev pub ext_kind : {EF : Type 0} → Over BabyBear EF → (EF → List BabyBear) → ℕ → Kind (WholeLeaf BabyBear EF) BabyBear
+ext_kind a coefficients count = record { spells = SpellsWhole coefficients; leaf_at = ext_leaf_at a count; term = whole_term coefficients }

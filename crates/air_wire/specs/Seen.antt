@@ -1,0 +1,30 @@
+-- Trees whose leaves hold no numbers of a pool.
+use Rattle.std.specs.Prelude.{◌≡◌, ℕ, List}
+use Rattle.air_field.specs.Term.{Term}
+use Rattle.air_field.specs.Degree.{degree_by, cached_weight}
+use Rattle.air_symbolic.specs.Leaves.{Leaves}
+use Rattle.air_symbolic.specs.Trees.{Tree, nothing, leaf_tree, add_tree, sub_tree, neg_tree, mul_tree, term_of}
+use Rattle.air_symbolic.specs.Pools.{tree_at}
+use Rattle.air_symbolic.specs.declared.pools.expr.SymbolicExpr.{SymbolicExpr}
+
+-- the tree over other leaves
+abbrev pub over : {A S : Type 0} → (A → S) → Tree A → Tree S
+over f nothing = nothing
+over f (leaf_tree a) = leaf_tree (f a)
+over f (add_tree t u) = add_tree (over f t) (over f u)
+over f (sub_tree t u) = sub_tree (over f t) (over f u)
+over f (neg_tree t) = neg_tree (over f t)
+over f (mul_tree t u) = mul_tree (over f t) (over f u)
+
+-- the tree of number i
+abbrev pub seen_at : {U A S : Type 0} → (U → A → S) → U × List (SymbolicExpr A) → ℕ → Tree S
+seen_at seen p i = over (seen p.0) (tree_at p i)
+
+-- the degree by the cached weights, which a list states
+abbrev pub degree : {S F : Type 0} → (S → Term F) → Tree S → ℕ
+degree term t = degree_by cached_weight (term_of term t)
+
+-- A leaf's term is that of what is seen of it, and what is seen of a valid leaf stays.
+pub record WireLaws {U A S F : Type 0} (reads : U → Leaves A F) (grows : U → U → Type 0) (seen : U → A → S) (term : S → Term F) : Type 0 where
+  pub term_is : (u : U) (a : A) → term (seen u a) ≡ (reads u).term a
+  pub kept : (u v : U) → grows u v → (a : A) → (reads u).valid a → seen v a ≡ seen u a

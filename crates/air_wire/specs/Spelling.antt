@@ -1,0 +1,27 @@
+-- The parts of a spelling.
+use Rattle.std.specs.Prelude.{◌≡◌, ℕ, List, Some}
+use Rattle.serde_json.specs.Data.{Data, number, unsigned, object, no_members, member}
+use Rattle.serde_json.specs.Find.{get}
+
+abbrev pub number_data : ℕ → Data
+number_data n = number (unsigned n)
+
+-- a case with contents: an object of one member
+abbrev pub case_data : List ℕ → Data → Data
+case_data name contents = object (member name contents no_members)
+
+-- d is the case of this name, with such contents
+abbrev pub IsCase : List ℕ → (Data → Type 0) → Data → Type 0
+IsCase name P d = (c : Data) × (d ≡ case_data name c) × P c
+
+-- d has a field of this name, with such a value, whatever else it has
+abbrev pub HasField : List ℕ → (Data → Type 0) → Data → Type 0
+HasField name P d = (c : Data) × (get name d ≡ Some c) × P c
+
+-- d is the whole number n
+abbrev pub IsWhole : ℕ → Data → Type 0
+IsWhole n d = d ≡ number_data n
+
+-- the field of this name is the whole number n
+abbrev pub HasWhole : List ℕ → ℕ → Data → Type 0
+HasWhole name n d = get name d ≡ Some (number_data n)

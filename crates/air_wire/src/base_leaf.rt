@@ -1,0 +1,87 @@
+//! Base leaves in lists of nodes.
+ghost use Rattle.std.specs.Prelude.{◌≡◌, ◌<◌};
+ghost use Rattle.serde_json.specs.View.{view};
+ghost use Rattle.air_field.specs.Modulo.{class};
+ghost use Rattle.air_wire.specs.BaseLeaves.{element_at, leaf_at};
+
+use crate::entries::variable_from;
+use crate::errors::FlatError;
+use crate::parts::{only_member, whole};
+use crate::wire_leaf::WireLeaf;
+use air_field::BabyBear;
+use air_symbolic::BaseLeaf;
+use serde_json::Value;
+use std::alloc::Global;
+
+pub(crate) fn class_of(number: u32) -> BabyBear
+    ensures { result ≡ class number }
+{
+    BabyBear::new(number)
+}
+
+/// The field element that the value spells by its canonical number.
+#[tactic(auto, unfolding(crate::specs::BaseLeaves::element_at))]
+pub(crate) fn element_from(at: usize, value: &Value) -> Result<BabyBear, FlatError>
+    ensures { result ≡ element_at at (view value.now) }
+{
+    let number = whole(value).ok_or(FlatError::Shape { at })?;
+    if number < BabyBear::MODULUS as usize {
+        Ok(class_of(number as u32))
+    } else {
+        Err(FlatError::NotCanonical { at })
+    }
+}
+
+#[tactic(auto, unfolding(crate::specs::BaseLeaves::leaf_at))]
+fn base_leaf_from(at: usize, value: &Value) -> Result<BaseLeaf<BabyBear>, FlatError>
+    ensures { result ≡ leaf_at at (view value.now) }
+{
+    let shape = FlatError::Shape { at };
+    if let Some(name) = value.as_str() {
+        return if name == "IsFirstRow" {
+            Ok(BaseLeaf::IsFirstRow)
+        } else if name == "IsLastRow" {
+            Ok(BaseLeaf::IsLastRow)
+        } else if name == "IsTransition" {
+            Ok(BaseLeaf::IsTransition)
+        } else {
+            Err(shape)
+        };
+    }
+    let (name, contents) = only_member(value).ok_or(shape)?;
+    if name == "Variable" {
+        let variable = variable_from(contents).ok_or(shape)?;
+        Ok(BaseLeaf::Variable(variable))
+    } else if name == "Constant" {
+        let element = element_from(at, contents)?;
+        Ok(BaseLeaf::Constant(element))
+    } else {
+        Err(shape)
+    }
+}
+
+impl WireLeaf for BaseLeaf<BabyBear> {
+    ghost use Rattle.air_field.specs.declared.fields.baby_bear.BabyBear.{BabyBear};
+    ghost use Rattle.air_symbolic.specs.declared.leaves.base_leaf.BaseLeaf.{BaseLeaf};
+    ghost use Rattle.air_wire.specs.BaseLeaves.{base_kind, base_seen, base_wire_laws};
+    ghost use Rattle.air_wire.specs.BaseLeafLaws.{base_kind_laws};
+
+    ghost Seen = { BaseLeaf BabyBear };
+
+    ghost seen = { base_seen };
+
+    ghost kind = { base_kind };
+
+    fn leaf_from_value(
+        _alloc: Global,
+        at: usize,
+        _under: &mut (),
+        value: &Value,
+    ) -> Result<Self, FlatError> {
+        base_leaf_from(at, value)
+    }
+
+    ghost wire_laws = { base_wire_laws };
+
+    ghost kind_laws = { base_kind_laws };
+}

@@ -1,0 +1,174 @@
+//! Extension leaves in lists of nodes.
+ghost use Rattle.std.specs.Prelude.{◌≡◌, ◌<◌, length, map, IfOk, ok_or};
+ghost use Rattle.serde_json.specs.View.{view, items_view};
+ghost use Rattle.air_symbolic.specs.Pools.{IsPool, Grown, tree_at};
+ghost use Rattle.air_symbolic.specs.BaseLeaves.{base_reads, base_grows};
+ghost use Rattle.air_symbolic.specs.ExtLeaves.{ext_valid};
+ghost use Rattle.air_symbolic.specs.ExtTrees.{whole_leaf};
+ghost use Rattle.air_wire.specs.Results.{Gives};
+ghost use Rattle.air_wire.specs.Coefficients.{wholes, if_canonical, elements_at};
+ghost use Rattle.air_wire.specs.BaseLeaves.{base_kind};
+ghost use Rattle.air_wire.specs.Nodes.{root_of};
+ghost use Rattle.air_wire.specs.ExtLeaves.{at_place, moved, ext_constant_at, ext_leaf_at};
+
+use crate::base_leaf::class_of;
+use crate::errors::FlatError;
+use crate::ext_entries::ext_variable_from;
+use crate::lists::list_from;
+use crate::parts::{only_member, whole};
+use crate::wire_leaf::WireLeaf;
+use air_field::{BabyBear, ExtensionField};
+use air_symbolic::{BaseLeaf, ExprId, ExprPool, ExtLeaf};
+use serde_json::Value;
+use std::alloc::Global;
+
+// The whole numbers of a list.
+fn wholes(alloc: Global, at: usize, items: &[Value]) -> Result<Vec<usize>, FlatError>
+    ensures { Gives (λ v. v.items) result
+        (ok_or (wholes (items_view items.now)) (FlatError.Shape at)) }
+{
+    let mut numbers = Vec::new(alloc);
+    for item in items {
+        let Some(number) = whole(item) else {
+            return Err(FlatError::Shape { at });
+        };
+        numbers.push(number)?;
+    }
+    Ok(numbers)
+}
+
+// The elements with these numbers, each below the modulus.
+fn canonical(alloc: Global, at: usize, numbers: &[usize]) -> Result<Vec<BabyBear>, FlatError>
+    ensures { Gives (λ v. v.items) result (if_canonical at numbers.now) }
+{
+    let mut elements = Vec::new(alloc);
+    for number in numbers {
+        if *number >= BabyBear::MODULUS as usize {
+            return Err(FlatError::NotCanonical { at });
+        }
+        elements.push(class_of(*number as u32))?;
+    }
+    Ok(elements)
+}
+
+#[tactic(auto, unfolding(crate::specs::Coefficients::elements_at))]
+fn elements_from(
+    alloc: Global,
+    at: usize,
+    count: usize,
+    contents: &Value,
+) -> Result<Vec<BabyBear>, FlatError>
+    ensures { Gives (λ v. v.items) result (elements_at count at (view contents.now)) }
+{
+    let shape = FlatError::Shape { at };
+    let items = contents.as_array().ok_or(shape)?;
+    let numbers = wholes(alloc, at, items)?;
+    if numbers.len() != count {
+        return Err(shape);
+    }
+    canonical(alloc, at, &numbers)
+}
+
+// The element with these coefficients.
+fn constant_from<EF: ExtensionField<BabyBear>>(
+    alloc: Global,
+    at: usize,
+    contents: &Value,
+) -> Result<EF, FlatError>
+    ensures { Gives (λ e. e) result (ext_constant_at EF.over EF.DIMENSION at (view contents.now)) }
+{
+    let elements = elements_from(alloc, at, EF::DIMENSION, contents)?;
+    Ok(EF::from_basis_coefficients(&elements))
+}
+
+// The fault, told at the place of the leaf's node.
+fn at_place(at: usize, fault: FlatError) -> FlatError
+    ensures { result ≡ at_place at fault }
+{
+    match fault {
+        FlatError::Memory => FlatError::Memory,
+        FlatError::DegreeOverflow => FlatError::DegreeOverflow,
+        FlatError::Shape { .. } => FlatError::Shape { at },
+        FlatError::EmptyList => FlatError::EmptyList,
+        FlatError::Operand { operand, .. } => FlatError::Operand { at, operand },
+        FlatError::WrongDegree { stated, found, .. } => FlatError::WrongDegree {
+            at,
+            stated,
+            found,
+        },
+        FlatError::NotCanonical { .. } => FlatError::NotCanonical { at },
+    }
+}
+
+// The base expression of the list inside a Base leaf.
+fn base_from(
+    alloc: Global,
+    at: usize,
+    under: &mut ExprPool<BaseLeaf<BabyBear>>,
+    contents: &Value,
+) -> Result<ExprId<BaseLeaf<BabyBear>>, FlatError>
+    requires { IsPool base_reads under.old }
+    ensures grown { Grown base_grows base_reads under.old under.new }
+    ensures here { IfOk result (λ i. i < length under.new.1) }
+    ensures read { Gives (tree_at under.new) result
+        (moved at (root_of base_kind (view contents.now))) }
+{
+    match list_from(alloc, under, contents) {
+        Ok(id) => Ok(id),
+        Err(fault) => Err(at_place(at, fault)),
+    }
+}
+
+#[tactic(auto, unfolding(crate::specs::ExtLeaves::ext_leaf_at))]
+fn ext_leaf_from<EF: ExtensionField<BabyBear>>(
+    alloc: Global,
+    at: usize,
+    under: &mut ExprPool<BaseLeaf<BabyBear>>,
+    value: &Value,
+) -> Result<ExtLeaf<BabyBear, EF>, FlatError>
+    requires { IsPool base_reads under.old }
+    ensures grown { Grown base_grows base_reads under.old under.new }
+    ensures valid { IfOk result (λ a. ext_valid under.new a) }
+    ensures read { Gives (λ a. whole_leaf under.new a) result
+        (ext_leaf_at EF.over EF.DIMENSION at (view value.now)) }
+{
+    let shape = FlatError::Shape { at };
+    let (name, contents) = only_member(value).ok_or(shape)?;
+    if name == "Base" {
+        Ok(ExtLeaf::Base(base_from(alloc, at, under, contents)?))
+    } else if name == "ExtVariable" {
+        let variable = ext_variable_from(contents).ok_or(shape)?;
+        Ok(ExtLeaf::ExtVariable(variable))
+    } else if name == "ExtConstant" {
+        Ok(ExtLeaf::ExtConstant(constant_from(alloc, at, contents)?))
+    } else {
+        Err(shape)
+    }
+}
+
+impl<EF: ExtensionField<BabyBear>> WireLeaf for ExtLeaf<BabyBear, EF> {
+    ghost use Rattle.air_field.specs.Modulo.{baby_bear_ring};
+    ghost use Rattle.air_field.specs.declared.fields.baby_bear.BabyBear.{BabyBear};
+    ghost use Rattle.air_symbolic.specs.ExtTrees.{WholeLeaf, whole_leaf as whole};
+    ghost use Rattle.air_wire.specs.ExtLeaves.{ext_kind};
+    ghost use Rattle.air_wire.specs.ExtLeafLaws.{ext_wire_laws, ext_kind_laws};
+
+    ghost Seen = { WholeLeaf BabyBear EF };
+
+    ghost seen = { λ u a. whole u a };
+
+    ghost kind = { ext_kind EF.over EF.coefficients EF.DIMENSION };
+
+    fn leaf_from_value(
+        alloc: Global,
+        at: usize,
+        under: &mut ExprPool<BaseLeaf<BabyBear>>,
+        value: &Value,
+    ) -> Result<Self, FlatError> {
+        ext_leaf_from(alloc, at, under, value)
+    }
+
+    ghost wire_laws = { ext_wire_laws baby_bear_ring ⟦<BabyBear as PartialEq>⟧.eq EF.coefficients };
+
+    ghost kind_laws = { ext_kind_laws baby_bear_ring EF.over EF.coefficients EF.DIMENSION EF.ExtensionField.laws };
+}

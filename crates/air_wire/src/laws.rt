@@ -1,0 +1,26 @@
+//! What callers rely on, as the contracts of functions.
+ghost use Rattle.std.specs.Prelude.{◌≡◌, List, Err};
+ghost use Rattle.serde_json.specs.Data.{Data};
+ghost use Rattle.air_symbolic.specs.Trees.{Tree};
+ghost use Rattle.air_wire.specs.Good.{IsList, HasFault};
+ghost use Rattle.air_wire.specs.Nodes.{node_at};
+ghost use Rattle.air_wire.specs.Forms.{NodeFault};
+ghost use Rattle.air_wire.specs.declared.errors.FlatError.{FlatError};
+
+use crate::wire_leaf::WireLeaf;
+
+/// A value is a list of nodes of one tree, or it has one first fault, and never both.
+pub fn lists_are_read_one_way<A: WireLeaf>()
+    ensures one_tree { (d : Data) (t u : Tree A.Seen) → IsList A.kind d t → IsList A.kind d u →
+        t ≡ u }
+    ensures no_fault { (d : Data) (t : Tree A.Seen) (f : FlatError) → IsList A.kind d t →
+        HasFault A.kind d f → ⊥ }
+    ensures one_fault { (d : Data) (f g : FlatError) → HasFault A.kind d f → HasFault A.kind d g →
+        f ≡ g }
+{}
+
+/// The fault of a node that isn't read: it has no form, or the first fault of its form.
+pub fn faults_of_nodes<A: WireLeaf>()
+    ensures { (before : List (Tree A.Seen)) (d : Data) (f : FlatError) →
+        node_at A.kind before d ≡ Err f → NodeFault A.kind before d f }
+{}
