@@ -38,11 +38,7 @@ fn add_two(
     add2(log, &a, &b, &c)
 }
 
-fn add_three(
-    log: &mut ValueLog,
-    a: [BabyBear; 2],
-    word: [BabyBear; 2],
-) -> Result<(), AirError> {
+fn add_three(log: &mut ValueLog, a: [BabyBear; 2], word: [BabyBear; 2]) -> Result<(), AirError> {
     add3(log, &a, &word, &word, &word)
 }
 
