@@ -65,9 +65,6 @@ module _ {S R E F : Type 0} {valid : R → Type 0} {has : R → E → Type 0} {m
   elements_lent xs t h =
       subst (λ s. LimbsMean (means s) xs (leaves_of (stands a) t)) (sym p) (zip_mapped (means (ring_of a)) (with_leaves (stands a)) xs (t.low ∷ t.high ∷ []) h)
 
-  pub list_lent : (xs : List E) (ts : List (Term F)) → AllZip (Means means ring_of stands a) xs ts → AllZip (means q) xs (map (with_leaves (stands a)) ts)
-  list_lent xs ts h = subst (λ s. AllZip (means s) xs (map (with_leaves (stands a)) ts)) (sym p) (zip_mapped (means (ring_of a)) (with_leaves (stands a)) xs ts h)
-
   pub lent_means : (x : E) (t : Term F) → means r x (with_leaves (stands a) t) → Means means ring_of stands (with_ring a r) x t
   lent_means x t m = means_lent ring laws a r x t (subst (λ s. extends s r) p e) m
 
@@ -96,6 +93,3 @@ module _ {S R E F : Type 0} {valid : R → Type 0} {has : R → E → Type 0} {m
   pub making_refused : (ts : List (Term F)) (f : RingError) → RefusesOne ring_refuses f (map (with_leaves (stands a)) ts) → refuses a (air_error f) (map Base ts)
   making_refused ts f h =
       let part = refused_part ring_refuses (stands a) f ts h in laws.refuses_in_ring a f part.term (map Base ts) part.refused part.part
-
-  pub nothing_yet : (ts : List (Assertion F)) → 0 < length ts → GrewByFirst grew a (with_ring a r) ts
-  nothing_yet ts some = record { count = 0; within = some; beginning = lent }
