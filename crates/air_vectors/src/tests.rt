@@ -15,6 +15,7 @@ mod layouts;
 mod recordings;
 mod traces;
 mod trees;
+mod words;
 
 use crate::tests::trees::base_text;
 use air_builder::{Air, AirBuilder, AirError, BaseAir, BoundaryPublic, WindowAccess};
