@@ -10,7 +10,8 @@ use air_field::{Algebra, Field, FromVar, RingError};
 fn less<F: Field, V: Copy, R: FromVar<F, V>>(ring: &mut R, x: V, y: V) -> Result<R::Elem, RingError>
     requires { R.valid ring.old }
     ensures extended { R.extends ring.old ring.new }
-    ensures made { IfOk result (λ r. R.has ring.new r × ((t u : Term F) → R.var_means x t → R.var_means y u
+    ensures made { IfOk result (λ r. R.has ring.new r × ((t u : Term F) → R.var_means x t
+        → R.var_means y u
         → R.means ring.new r (sub_term t u))) }
     ensures refused { IfErr result (λ e. (t u : Term F) → R.var_means x t → R.var_means y u
         → R.refuses e (sub_term t u)) }
@@ -30,7 +31,8 @@ pub(crate) fn less_two<F: Field, V: Copy, R: FromVar<F, V>>(
     requires valid { R.valid ring.old }
     requires z_in { R.has ring.old z }
     ensures extended { R.extends ring.old ring.new }
-    ensures made { IfOk result (λ r. R.has ring.new r × ((t u v : Term F) → R.var_means x t → R.var_means y u
+    ensures made { IfOk result (λ r. R.has ring.new r × ((t u v : Term F) → R.var_means x t
+        → R.var_means y u
         → R.means ring.old z v → R.means ring.new r (less_two_term t u v))) }
     ensures refused { IfErr result (λ e. (t u v : Term F) → R.var_means x t → R.var_means y u
         → R.means ring.old z v → R.refuses e (less_two_term t u v)) }
@@ -51,8 +53,10 @@ pub(crate) fn less_three<F: Field, V: Copy, R: FromVar<F, V>>(
     requires z_in { R.has ring.old z }
     requires w_in { R.has ring.old w }
     ensures extended { R.extends ring.old ring.new }
-    ensures made { IfOk result (λ r. R.has ring.new r × ((t u v s : Term F) → R.var_means x t → R.var_means y u
-        → R.means ring.old z v → R.means ring.old w s → R.means ring.new r (less_three_term t u v s))) }
+    ensures made { IfOk result (λ r. R.has ring.new r × ((t u v s : Term F) → R.var_means x t
+        → R.var_means y u
+        → R.means ring.old z v → R.means ring.old w s
+        → R.means ring.new r (less_three_term t u v s))) }
     ensures refused { IfErr result (λ e. (t u v s : Term F) → R.var_means x t → R.var_means y u
         → R.means ring.old z v → R.means ring.old w s → R.refuses e (less_three_term t u v s)) }
 {
@@ -69,8 +73,10 @@ pub(crate) fn whole<F: Field, R: Algebra<F>>(
     requires low_in { R.has ring.old low }
     requires high_in { R.has ring.old high }
     ensures extended { R.extends ring.old ring.new }
-    ensures made { IfOk result (MadeOfBoth R.has R.means (whole_term F.ring) ring.old ring.new low high) }
-    ensures refused { IfErr result (RefusedOfBoth R.means R.refuses (whole_term F.ring) ring.old low high) }
+    ensures made { IfOk result (MadeOfBoth R.has R.means
+        (whole_term F.ring) ring.old ring.new low high) }
+    ensures refused { IfErr result (RefusedOfBoth R.means R.refuses
+        (whole_term F.ring) ring.old low high) }
 {
     let scale = ring.constant(F::from_u64(65536))?;
     let raised = ring.mul(high, scale)?;
@@ -112,8 +118,10 @@ pub(crate) fn two_carries<F: Field, R: Algebra<F>>(
     requires small { n ≤ 2 ^ 32 }
     requires x_in { R.has ring.old x }
     ensures extended { R.extends ring.old ring.new }
-    ensures made { IfOk result (MadeOf R.has R.means (two_carries_term F.ring n) ring.old ring.new x) }
-    ensures refused { IfErr result (RefusedOf R.means R.refuses (two_carries_term F.ring n) ring.old x) }
+    ensures made { IfOk result (MadeOf R.has R.means
+        (two_carries_term F.ring n) ring.old ring.new x) }
+    ensures refused { IfErr result (RefusedOf R.means R.refuses
+        (two_carries_term F.ring n) ring.old x) }
 {
     let product = carry(ring, n, x)?;
     let higher = raised(ring, 2 * n, x)?;

@@ -21,7 +21,8 @@ fn assert_bit<AB: AirBuilder>(builder: &mut AB, variable: AB::Var) -> Result<(),
     ensures ok { OnOk result (GrewOf (VariableMeans AB.Ring.FromVar-1.var_means AB.stands) AB.grew
         (bool_check_term AB.F.ONE) builder.old builder.new variable) }
     ensures err { OnErr result (AB.grew builder.old builder.new []) }
-    ensures refused { IfErr result (RefusesOf (VariableMeans AB.Ring.FromVar-1.var_means AB.stands) AB.refuses
+    ensures refused { IfErr result (RefusesOf
+        (VariableMeans AB.Ring.FromVar-1.var_means AB.stands) AB.refuses
         (bool_check_term AB.F.ONE) builder.old variable) }
 {
     let element = builder.ring().from_var(variable)?;
@@ -63,13 +64,15 @@ fn assert_half<AB: AirBuilder>(
         → VariableMeans AB.Ring.FromVar-1.var_means AB.stands builder.old limb t
         → AllZip (VariableMeans AB.Ring.FromVar-1.var_means AB.stands builder.old) b.now us
         → AllZip (VariableMeans AB.Ring.FromVar-1.var_means AB.stands builder.old) c.now vs
-        → AB.grew builder.old builder.new (Base (sub_term t (packed_term AB.F.ring.nil (xor_terms us vs))) ∷ [])) }
+        → AB.grew builder.old builder.new (Base (sub_term t (packed_term AB.F.ring.nil
+        (xor_terms us vs))) ∷ [])) }
     ensures err { OnErr result (AB.grew builder.old builder.new []) }
     ensures refused { IfErr result (λ e. (t : Term AB.F) (us vs : List (Term AB.F))
         → VariableMeans AB.Ring.FromVar-1.var_means AB.stands builder.old limb t
         → AllZip (VariableMeans AB.Ring.FromVar-1.var_means AB.stands builder.old) b.now us
         → AllZip (VariableMeans AB.Ring.FromVar-1.var_means AB.stands builder.old) c.now vs
-        → AB.refuses builder.old e (Base (sub_term t (packed_term AB.F.ring.nil (xor_terms us vs))) ∷ [])) }
+        → AB.refuses builder.old e (Base (sub_term t (packed_term AB.F.ring.nil
+        (xor_terms us vs))) ∷ [])) }
 {
     let difference = less_packed(builder.ring(), limb, b, c)?;
     builder.assert_zero(difference)
@@ -88,13 +91,16 @@ pub fn xor_32_shift<AB: AirBuilder>(
     requires within { shift ≤ 32 }
     ensures keeps { AB.kept builder.old builder.new }
     ensures ok { OnOk result (GrewBy
-        (Xors AB.F.ring (VariableMeans AB.Ring.FromVar-1.var_means AB.stands builder.old) a.now b.now c.now shift)
+        (Xors AB.F.ring (VariableMeans AB.Ring.FromVar-1.var_means AB.stands builder.old) a.now
+        b.now c.now shift)
         AB.grew builder.old builder.new) }
     ensures err { OnErr result (GrewBySome
-        (Xors AB.F.ring (VariableMeans AB.Ring.FromVar-1.var_means AB.stands builder.old) a.now b.now c.now shift)
+        (Xors AB.F.ring (VariableMeans AB.Ring.FromVar-1.var_means AB.stands builder.old) a.now
+        b.now c.now shift)
         AB.grew builder.old builder.new) }
     ensures refused { IfErr result (RefusesList
-        (Xors AB.F.ring (VariableMeans AB.Ring.FromVar-1.var_means AB.stands builder.old) a.now b.now c.now shift)
+        (Xors AB.F.ring (VariableMeans AB.Ring.FromVar-1.var_means AB.stands builder.old) a.now
+        b.now c.now shift)
         AB.refuses builder.old) }
     ensures exact { XorIsExact AB.F.ring }
 {

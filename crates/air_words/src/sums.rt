@@ -17,10 +17,14 @@ fn with_carry<F: Field, R: Algebra<F>>(
     requires low_in { R.has ring.old low }
     requires high_in { R.has ring.old high }
     ensures extended { R.extends ring.old ring.new }
-    ensures made { IfOk result (λ r. All (R.has ring.new) r × ((t u : Term F) → R.means ring.old low t → R.means ring.old high u
-        → AllZip (R.means ring.new) r (carry_term F.ring (2 ^ 32) (whole_term F.ring t u) ∷ carry_term F.ring (2 ^ 16) t ∷ []))) }
-    ensures refused { IfErr result (λ e. (t u : Term F) → R.means ring.old low t → R.means ring.old high u
-        → RefusesOne R.refuses e (carry_term F.ring (2 ^ 32) (whole_term F.ring t u) ∷ carry_term F.ring (2 ^ 16) t ∷ [])) }
+    ensures made { IfOk result (λ r. All (R.has ring.new) r × ((t u : Term F)
+        → R.means ring.old low t → R.means ring.old high u
+        → AllZip (R.means ring.new) r (carry_term F.ring (2 ^ 32) (whole_term F.ring t u)
+        ∷ carry_term F.ring (2 ^ 16) t ∷ []))) }
+    ensures refused { IfErr result (λ e. (t u : Term F) → R.means ring.old low t
+        → R.means ring.old high u
+        → RefusesOne R.refuses e (carry_term F.ring (2 ^ 32) (whole_term F.ring t u)
+        ∷ carry_term F.ring (2 ^ 16) t ∷ [])) }
 {
     let both = whole(ring, low, high)?;
     let first = carry(ring, 4294967296, both)?;
@@ -37,10 +41,14 @@ fn with_two_carries<F: Field, R: Algebra<F>>(
     requires low_in { R.has ring.old low }
     requires high_in { R.has ring.old high }
     ensures extended { R.extends ring.old ring.new }
-    ensures made { IfOk result (λ r. All (R.has ring.new) r × ((t u : Term F) → R.means ring.old low t → R.means ring.old high u
-        → AllZip (R.means ring.new) r (two_carries_term F.ring (2 ^ 32) (whole_term F.ring t u) ∷ two_carries_term F.ring (2 ^ 16) t ∷ []))) }
-    ensures refused { IfErr result (λ e. (t u : Term F) → R.means ring.old low t → R.means ring.old high u
-        → RefusesOne R.refuses e (two_carries_term F.ring (2 ^ 32) (whole_term F.ring t u) ∷ two_carries_term F.ring (2 ^ 16) t ∷ [])) }
+    ensures made { IfOk result (λ r. All (R.has ring.new) r × ((t u : Term F)
+        → R.means ring.old low t → R.means ring.old high u
+        → AllZip (R.means ring.new) r (two_carries_term F.ring (2 ^ 32) (whole_term F.ring t u)
+        ∷ two_carries_term F.ring (2 ^ 16) t ∷ []))) }
+    ensures refused { IfErr result (λ e. (t u : Term F) → R.means ring.old low t
+        → R.means ring.old high u
+        → RefusesOne R.refuses e (two_carries_term F.ring (2 ^ 32) (whole_term F.ring t u)
+        ∷ two_carries_term F.ring (2 ^ 16) t ∷ [])) }
 {
     let both = whole(ring, low, high)?;
     let first = two_carries(ring, 4294967296, both)?;
@@ -59,10 +67,12 @@ pub(crate) fn sum_of_two<F: Field, V: Copy, R: FromVar<F, V>>(
     requires c_in { All (R.has ring.old) c.now }
     ensures extended { R.extends ring.old ring.new }
     ensures made { IfOk result (λ r. All (R.has ring.new) r × ((t u v : Limbs (Term F))
-        → LimbsMean R.var_means a.now t → LimbsMean R.var_means b.now u → LimbsMean (R.means ring.old) c.now v
+        → LimbsMean R.var_means a.now t → LimbsMean R.var_means b.now u
+        → LimbsMean (R.means ring.old) c.now v
         → AllZip (R.means ring.new) r (add2_terms F.ring t u v))) }
     ensures refused { IfErr result (λ e. (t u v : Limbs (Term F))
-        → LimbsMean R.var_means a.now t → LimbsMean R.var_means b.now u → LimbsMean (R.means ring.old) c.now v
+        → LimbsMean R.var_means a.now t → LimbsMean R.var_means b.now u
+        → LimbsMean (R.means ring.old) c.now v
         → RefusesOne R.refuses e (add2_terms F.ring t u v)) }
 {
     let [a0, a1] = *a;

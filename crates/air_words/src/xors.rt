@@ -13,7 +13,8 @@ use air_field::{Algebra, Field, FromVar, RingError};
 fn bit<F: Field, V: Copy, R: FromVar<F, V>>(ring: &mut R, x: V, y: V) -> Result<R::Elem, RingError>
     requires { R.valid ring.old }
     ensures extended { R.extends ring.old ring.new }
-    ensures made { IfOk result (λ r. R.has ring.new r × ((t u : Term F) → R.var_means x t → R.var_means y u
+    ensures made { IfOk result (λ r. R.has ring.new r × ((t u : Term F) → R.var_means x t
+        → R.var_means y u
         → R.means ring.new r (xor_term t u))) }
     ensures refused { IfErr result (λ e. (t u : Term F) → R.var_means x t → R.var_means y u
         → R.refuses e (xor_term t u)) }
@@ -33,8 +34,10 @@ fn packed<F: Field, V: Copy, R: FromVar<F, V>>(
     requires some { 0 < length b.now }
     requires same { length b.now ≡ length c.now }
     ensures extended { R.extends ring.old ring.new }
-    ensures made { IfOk result (λ r. R.has ring.new r × ((ts us : List (Term F)) → AllZip R.var_means b.now ts
-        → AllZip R.var_means c.now us → R.means ring.new r (packed_term F.ring.nil (xor_terms ts us)))) }
+    ensures made { IfOk result (λ r. R.has ring.new r × ((ts us : List (Term F))
+        → AllZip R.var_means b.now ts
+        → AllZip R.var_means c.now us → R.means ring.new r (packed_term F.ring.nil
+        (xor_terms ts us)))) }
     ensures refused { IfErr result (λ e. (ts us : List (Term F)) → AllZip R.var_means b.now ts
         → AllZip R.var_means c.now us → R.refuses e (packed_term F.ring.nil (xor_terms ts us))) }
 {
@@ -58,7 +61,8 @@ pub(crate) fn less_packed<F: Field, V: Copy, R: FromVar<F, V>>(
     requires some { 0 < length b.now }
     requires same { length b.now ≡ length c.now }
     ensures extended { R.extends ring.old ring.new }
-    ensures made { IfOk result (λ r. R.has ring.new r × ((t : Term F) (us vs : List (Term F)) → R.var_means x t
+    ensures made { IfOk result (λ r. R.has ring.new r × ((t : Term F) (us vs : List (Term F))
+        → R.var_means x t
         → AllZip R.var_means b.now us → AllZip R.var_means c.now vs
         → R.means ring.new r (sub_term t (packed_term F.ring.nil (xor_terms us vs))))) }
     ensures refused { IfErr result (λ e. (t : Term F) (us vs : List (Term F)) → R.var_means x t
