@@ -202,6 +202,18 @@ fn nested_filters_are_recorded(rt: HostRuntime) -> Result<(), Fail> {
     Ok(())
 }
 
+/// Asserts where a constant holds that one of the extension is zero, and leaves the builder ready.
+fn assert_once<AB: ExtensionBuilder>(
+    builder: &mut AB,
+    condition: AB::F,
+    x: AB::EF,
+) -> Result<(), AirError>
+    requires { AB.ready builder.old }
+    ensures { AB.ready builder.new }
+{
+    assert_constant_ext_under(builder, condition, x)
+}
+
 /// The product that is recorded first where a constant holds for an element of the extension.
 fn recorded_product(
     builder: &mut SymbolicAirBuilder<BabyBear, BinomialExtensionField>,
@@ -210,7 +222,7 @@ fn recorded_product(
 ) -> Result<Option<BinomialExtensionField>, AirError>
     requires { ⟦<SymbolicAirBuilder<BabyBear, BinomialExtensionField> as AirBuilder>⟧.ready builder.old }
 {
-    assert_constant_ext_under(builder, condition, x)?;
+    assert_once(builder, condition, x)?;
     let Some(first) = builder.extension_constraints().first().copied() else {
         return Ok(None);
     };

@@ -49,8 +49,8 @@ fn add_two<AB: AirBuilder>(
     ensures { AB.kept builder.old builder.new }
 {
     let [low, high] = c;
-    let c = make_limbs(builder.ring(), low, high)?;
-    add2(builder, &a, &b, &c)
+    let limbs = make_limbs(builder.ring(), low, high)?;
+    add2(builder, &a, &b, &limbs)
 }
 
 /// Asserts a sum of three words, the second and the third of the same columns.
@@ -64,8 +64,21 @@ fn add_three<AB: AirBuilder>(
     ensures { AB.kept builder.old builder.new }
 {
     let [low, high] = c;
-    let c = make_limbs(builder.ring(), low, high)?;
-    add3(builder, &a, &b, &c, &c)
+    let limbs = make_limbs(builder.ring(), low, high)?;
+    add3(builder, &a, &b, &limbs, &limbs)
+}
+
+/// Asserts the xor of a word with one that is rotated by seven.
+fn xor_rotated<AB: AirBuilder>(
+    builder: &mut AB,
+    a: [AB::Var; 2],
+    b: [AB::Var; 32],
+    c: [AB::Var; 32],
+) -> Result<(), AirError>
+    requires { AB.ready builder.old }
+    ensures { AB.kept builder.old builder.new }
+{
+    xor_32_shift(builder, &a, &b, &c, 7)
 }
 
 /// The degrees of expressions, those that the pool has.
@@ -125,7 +138,7 @@ fn degrees_of_xor(alloc: Global) -> Result<Vec<usize>, AirError> {
         ..AirLayout::default()
     };
     let mut builder = recording_builder(alloc, layout)?;
-    xor_32_shift(&mut builder, &columns(0), &columns(2), &columns(34), 7)?;
+    xor_rotated(&mut builder, columns(0), columns(2), columns(34))?;
     recorded_degrees(alloc, &mut builder)
 }
 
