@@ -4,7 +4,7 @@ ghost use Rattle.air_symbolic.specs.Pools.{IsPool};
 
 use crate::tests::recording_builder;
 use air_builder::{AirBuilder, AirError};
-use air_field::{BabyBear, Field, FromVar, RingError};
+use air_field::{Algebra, BabyBear, FromVar};
 use air_symbolic::{BaseEntry, BaseLeaf, ExprId, ExprPool, SymLeaf, SymbolicVariable};
 use p3_air::utils::{add2, add3, xor_32_shift};
 use p3_air::{AirLayout, SymbolicAirBuilder};
@@ -23,49 +23,44 @@ fn columns<const N: usize>(first: usize) -> [Column; N] {
     columns
 }
 
-/// The elements of two variables.
-fn make_limbs<F: Field, V: Copy, R: FromVar<F, V>>(
-    ring: &mut R,
-    low: V,
-    high: V,
-) -> Result<[R::Elem; 2], RingError>
-    requires { R.valid ring.old }
-    ensures extended { R.extends ring.old ring.new }
-    ensures of_ring { IfOk result (λ limbs. All (R.has ring.new) limbs) }
+/// The element of a variable. What was in the ring still is.
+fn element_of<AB: AirBuilder>(builder: &mut AB, v: AB::Var) -> Result<AB::Expr, AirError>
+    requires { AB.ready builder.old }
+    ensures ready { AB.ready builder.new }
+    ensures stays { (x : AB.Expr) → AB.Ring.has (AB.ring_of builder.old) x
+        → AB.Ring.has (AB.ring_of builder.new) x }
+    ensures of_ring { IfOk result (λ x. AB.Ring.has (AB.ring_of builder.new) x) }
 {
-    let low = ring.from_var(low)?;
-    let high = ring.from_var(high)?;
-    Ok([low, high])
+    let element = builder.ring().from_var(v)?;
+    Ok(element)
 }
 
-/// Asserts a sum of two words, the second of columns.
+/// Asserts a sum of two words.
 fn add_two<AB: AirBuilder>(
     builder: &mut AB,
     a: [AB::Var; 2],
     b: [AB::Var; 2],
-    c: [AB::Var; 2],
+    c: [AB::Expr; 2],
 ) -> Result<(), AirError>
-    requires { AB.ready builder.old }
-    ensures { AB.kept builder.old builder.new }
+    requires ready { AB.ready builder.old }
+    requires of_ring { All (AB.Ring.has (AB.ring_of builder.old)) c }
+    ensures { AB.ready builder.new }
 {
-    let [low, high] = c;
-    let limbs = make_limbs(builder.ring(), low, high)?;
-    add2(builder, &a, &b, &limbs)
+    add2(builder, &a, &b, &c)
 }
 
-/// Asserts a sum of three words, the second and the third of the same columns.
+/// Asserts a sum of three words, of which two are the same.
 fn add_three<AB: AirBuilder>(
     builder: &mut AB,
     a: [AB::Var; 2],
     b: [AB::Var; 2],
-    c: [AB::Var; 2],
+    c: [AB::Expr; 2],
 ) -> Result<(), AirError>
-    requires { AB.ready builder.old }
-    ensures { AB.kept builder.old builder.new }
+    requires ready { AB.ready builder.old }
+    requires of_ring { All (AB.Ring.has (AB.ring_of builder.old)) c }
+    ensures { AB.ready builder.new }
 {
-    let [low, high] = c;
-    let limbs = make_limbs(builder.ring(), low, high)?;
-    add3(builder, &a, &b, &limbs, &limbs)
+    add3(builder, &a, &b, &c, &c)
 }
 
 /// Asserts the xor of a word with one that is rotated by seven.
@@ -76,7 +71,7 @@ fn xor_rotated<AB: AirBuilder>(
     c: [AB::Var; 32],
 ) -> Result<(), AirError>
     requires { AB.ready builder.old }
-    ensures { AB.kept builder.old builder.new }
+    ensures { AB.ready builder.new }
 {
     xor_32_shift(builder, &a, &b, &c, 7)
 }
@@ -115,20 +110,43 @@ fn recorded_degrees(
     degrees_in(alloc, builder.ring(), &numbers)
 }
 
-/// The degrees that are recorded of a sum of two words, and of one of three.
-fn degrees_of_sums(alloc: Global) -> Result<(Vec<usize>, Vec<usize>), AirError> {
+/// A builder of six columns, and the elements of the last two.
+fn sum_builder(
+    alloc: Global,
+) -> Result<
+    (
+        SymbolicAirBuilder<BabyBear, BabyBear>,
+        [ExprId<BaseLeaf<BabyBear>>; 2],
+    ),
+    AirError,
+>
+    ensures ready { IfOk result (λ made. ⟦<SymbolicAirBuilder<BabyBear, BabyBear> as AirBuilder>⟧.ready made.0) }
+    ensures of_ring { IfOk result (λ made. All (⟦<ExprPool<BaseLeaf<BabyBear>> as Algebra<BabyBear>>⟧.has
+        (⟦<SymbolicAirBuilder<BabyBear, BabyBear> as AirBuilder>⟧.ring_of made.0)) made.1) }
+{
     let layout = AirLayout {
         main_width: 6,
         ..AirLayout::default()
     };
-    let mut two = recording_builder(alloc, layout)?;
-    add_two(&mut two, columns(0), columns(2), columns(4))?;
-    let mut three = recording_builder(alloc, layout)?;
-    add_three(&mut three, columns(0), columns(2), columns(4))?;
-    Ok((
-        recorded_degrees(alloc, &mut two)?,
-        recorded_degrees(alloc, &mut three)?,
-    ))
+    let mut builder = recording_builder(alloc, layout)?;
+    let [low, high]: [Column; 2] = columns(4);
+    let low = element_of(&mut builder, low)?;
+    let high = element_of(&mut builder, high)?;
+    Ok((builder, [low, high]))
+}
+
+/// The degrees that are recorded of a sum of two words.
+fn degrees_of_two(alloc: Global) -> Result<Vec<usize>, AirError> {
+    let (mut builder, c) = sum_builder(alloc)?;
+    add_two(&mut builder, columns(0), columns(2), c)?;
+    recorded_degrees(alloc, &mut builder)
+}
+
+/// The degrees that are recorded of a sum of three words.
+fn degrees_of_three(alloc: Global) -> Result<Vec<usize>, AirError> {
+    let (mut builder, c) = sum_builder(alloc)?;
+    add_three(&mut builder, columns(0), columns(2), c)?;
+    recorded_degrees(alloc, &mut builder)
 }
 
 /// The degrees that are recorded of the xor of a word with a rotated one.
@@ -144,9 +162,8 @@ fn degrees_of_xor(alloc: Global) -> Result<Vec<usize>, AirError> {
 
 #[test]
 fn degrees_of_gadgets(rt: HostRuntime) -> Result<(), Fail> {
-    let (two, three) = degrees_of_sums(rt.alloc())?;
-    assert_eq!(rt; two.as_slice(), [2, 2].as_slice());
-    assert_eq!(rt; three.as_slice(), [3, 3].as_slice());
+    assert_eq!(rt; degrees_of_two(rt.alloc())?.as_slice(), [2, 2].as_slice());
+    assert_eq!(rt; degrees_of_three(rt.alloc())?.as_slice(), [3, 3].as_slice());
     let xor = degrees_of_xor(rt.alloc())?;
     assert_eq!(rt; xor.as_slice(), [2; 34].as_slice());
     Ok(())
