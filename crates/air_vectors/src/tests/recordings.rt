@@ -5,6 +5,7 @@ use crate::tests::extension::{Mixed, Permuted, extension};
 use crate::tests::filters::{assert_constant_ext_under, constant_after_both};
 use crate::tests::trees::product_of;
 use crate::tests::{Products, make_products, products_layout, record_products, recording_builder};
+use air_symbolic::{ExprId, ExtLeaf};
 use p3_air::{
     Air, AirBuilder, AirError, AirLayout, BabyBear, BinomialExtensionField, ConstraintLayout,
     ExtEntry, ExtensionBuilder, ExtensionField, PermutationAirBuilder, SymbolicAirBuilder,
@@ -214,6 +215,16 @@ fn assert_once<AB: ExtensionBuilder>(
     assert_constant_ext_under(builder, condition, x)
 }
 
+/// The product that a number of the extension pool is.
+fn product_at(
+    builder: &mut SymbolicAirBuilder<BabyBear, BinomialExtensionField>,
+    id: ExprId<ExtLeaf<BabyBear, BinomialExtensionField>>,
+) -> Option<BinomialExtensionField>
+    requires { ⟦<SymbolicAirBuilder<BabyBear, BinomialExtensionField> as AirBuilder>⟧.ready builder.old }
+{
+    product_of(builder.ext_ring(), id)
+}
+
 /// The product that is recorded first where a constant holds for an element of the extension.
 fn recorded_product(
     builder: &mut SymbolicAirBuilder<BabyBear, BinomialExtensionField>,
@@ -226,7 +237,7 @@ fn recorded_product(
     let Some(first) = builder.extension_constraints().first().copied() else {
         return Ok(None);
     };
-    Ok(product_of(builder.ext_ring(), first))
+    Ok(product_at(builder, first))
 }
 
 #[test]
