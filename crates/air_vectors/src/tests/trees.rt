@@ -3,8 +3,7 @@ ghost use Rattle.air_symbolic.specs.Pools.{IsPool};
 
 use air_field::{BabyBear, BinomialExtensionField, ExtensionField};
 use air_symbolic::{
-    BaseEntry, BaseLeaf, ExprId, ExprPool, ExtEntry, ExtLeaf, SymLeaf, SymbolicExpr,
-    SymbolicVariable, SymbolicVariableExt,
+    BaseEntry, BaseLeaf, ExprId, ExprPool, ExtLeaf, SymLeaf, SymbolicExpr, SymbolicVariable,
 };
 use std::alloc::{AllocError, Global};
 
@@ -22,18 +21,6 @@ fn variable_text(alloc: Global, v: SymbolicVariable<BabyBear>) -> Result<String,
         BaseEntry::Preprocessed { offset } => format!(in alloc; "table{offset}[{index}]"),
         BaseEntry::Periodic => format!(in alloc; "periodic[{index}]"),
         BaseEntry::Public => format!(in alloc; "public[{index}]"),
-    }
-}
-
-fn ext_variable_text(
-    alloc: Global,
-    v: SymbolicVariableExt<BabyBear, Element>,
-) -> Result<String, AllocError> {
-    let index = v.index;
-    match v.entry {
-        ExtEntry::Permutation { offset } => format!(in alloc; "permutation{offset}[{index}]"),
-        ExtEntry::Challenge => format!(in alloc; "challenge[{index}]"),
-        ExtEntry::PermutationValue => format!(in alloc; "value[{index}]"),
     }
 }
 
@@ -71,36 +58,6 @@ pub fn base_text(
     };
     let left = base_text(alloc, pool, x, depth - 1)?;
     let right = base_text(alloc, pool, y, depth - 1)?;
-    format!(in alloc; "({left} {operation} {right})")
-}
-
-/// The tree of an extension expression, to this depth.
-pub fn ext_text(
-    alloc: Global,
-    pool: &ExprPool<ExtLeaf<BabyBear, Element>>,
-    id: ExtId,
-    depth: usize,
-) -> Result<String, AllocError>
-    requires base { IsPool ⟦<BaseLeaf<BabyBear> as SymLeaf>⟧.reads pool.now.0 }
-    requires whole { IsPool ⟦<ExtLeaf<BabyBear, Element> as SymLeaf>⟧.reads pool.now }
-{
-    if depth == 0 || !pool.contains(id) {
-        return String::from_str(alloc, "?");
-    }
-    let (x, operation, y) = match *pool.node(id) {
-        SymbolicExpr::Leaf(ExtLeaf::Base(x)) => return base_text(alloc, pool.base(), x, depth),
-        SymbolicExpr::Leaf(ExtLeaf::ExtVariable(v)) => return ext_variable_text(alloc, v),
-        SymbolicExpr::Leaf(ExtLeaf::ExtConstant(_)) => return String::from_str(alloc, "element"),
-        SymbolicExpr::Neg { x, .. } => {
-            let inner = ext_text(alloc, pool, x, depth - 1)?;
-            return format!(in alloc; "(-{inner})");
-        }
-        SymbolicExpr::Add { x, y, .. } => (x, '+', y),
-        SymbolicExpr::Sub { x, y, .. } => (x, '-', y),
-        SymbolicExpr::Mul { x, y, .. } => (x, '*', y),
-    };
-    let left = ext_text(alloc, pool, x, depth - 1)?;
-    let right = ext_text(alloc, pool, y, depth - 1)?;
     format!(in alloc; "({left} {operation} {right})")
 }
 
