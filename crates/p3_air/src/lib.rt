@@ -2,7 +2,8 @@
 //!
 //! An AIR implements [`BaseAir`] and [`Air`]; [`get_symbolic_constraints`] records it, [`check_all_constraints`] checks
 //! a trace of it, and [`get_max_constraint_degree`] infers its degree. [`audit_air`] does all three: what it recorded is
-//! what it tested. The public items of the crates below are passed on here.
+//! what it tested. Constraints as values stand in [`author`], the recorded expressions in [`symbolic`], bits and words in
+//! [`utils`]. The public items of the crates below are passed on here.
 #![tactic(auto)]
 
 pub mod audit;
