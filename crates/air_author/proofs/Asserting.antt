@@ -9,7 +9,6 @@ use Rattle.air_field.specs.Term.{Leaf, Term}
 use Rattle.air_field.specs.declared.errors.RingError.{RingError}
 use Rattle.air_windows.specs.declared.errors.AirError.{AirError}
 use Rattle.air_builder.specs.Assertion.{Assertion, Base, Extension}
-use Rattle.air_builder.specs.Batches.{GrewByFirst}
 use Rattle.air_builder.specs.Builders.{BuilderLaws, GrewOf, RefusesOf}
 use Rattle.air_builder.specs.Extensions.{GrewExtOf, RefusesExtOf}
 use Rattle.air_builder.specs.Refusals.{NoneMissing, none_missing}

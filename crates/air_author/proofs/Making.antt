@@ -1,6 +1,6 @@
 -- Making elements, step by step.
 use Rattle.std.proofs.Common.{◌≡◌, List, [], ◌∷◌, Ok, Err, Some, None, subst, sym, inl, inr, ℕ, refl}
-use Rattle.air_field.specs.Term.{Leaf, permutation, Term, leaf_term, const_term, ext_const_term, add_term, sub_term, neg_term, mul_term, with_leaves}
+use Rattle.air_field.specs.Term.{Leaf, permutation, Term, leaf_term, with_leaves}
 use Rattle.air_field.specs.Part.{Part, whole, in_add_left, in_add_right, in_sub_left, in_sub_right, in_neg, in_mul_left, in_mul_right}
 use Rattle.air_field.specs.declared.errors.RingError.{RingError}
 use Rattle.air_windows.specs.declared.errors.AirError.{AirError}
@@ -12,7 +12,8 @@ use Rattle.air_builder.specs.Filters.{means_kept, means_lent}
 use Rattle.air_builder.specs.Refusals.{PartOf, EachLeaf}
 use Rattle.air_builder.specs.Extensions.{RefusesWindow}
 use Rattle.air_windows.specs.declared.errors.AirError.TheVariants.{NoPermutation}
-use Rattle.air_author.specs.Expressions.{Made}
+use Rattle.air_author.specs.Expressions.{Made, Lasts, Holds}
+use Rattle.air_author.specs.Handing.{each_weaker}
 
 pub part_in : {F : Type 0} {t u v : Term F} → Part t u → Part u v → Part t v
 part_in p whole = p
@@ -32,15 +33,6 @@ part_of_in t u (a ∷ ts) p (inr q) = inr (part_of_in t u ts p q)
 
 pub some_none : {A : Type 0} {x : A} → Some x ≡ None → ⊥
 some_none e = cc
-
-pub each_weaker : {F : Type 0} {P Q : Leaf → Type 0} (t : Term F) → ((l : Leaf) → P l → Q l) → EachLeaf P t → EachLeaf Q t
-each_weaker (leaf_term l) f h = f l h
-each_weaker (const_term c) f h = tt
-each_weaker (ext_const_term cs) f h = tt
-each_weaker (add_term t u) f h = (each_weaker t f h.0, each_weaker u f h.1)
-each_weaker (sub_term t u) f h = (each_weaker t f h.0, each_weaker u f h.1)
-each_weaker (neg_term t) f h = each_weaker t f h
-each_weaker (mul_term t u) f h = (each_weaker t f h.0, each_weaker u f h.1)
 
 module _ {S R E F : Type 0} {valid : R → Type 0} {has : R → E → Type 0} {means : R → E → Term F → Type 0} {extends : R → R → Type 0} {ring_of : S → R} {with_ring : S → R → S} {stands : S → Leaf → Term F} {ready : S → Type 0} {kept : S → S → Type 0} {grew : S → S → List (Assertion F) → Type 0} {ring_refuses : RingError → Term F → Type 0} {missing : S → Leaf → Type 0} {refuses : S → AirError → List (Assertion F) → Type 0} (ring : AlgebraLaws valid has means extends ring_refuses) (laws : BuilderLaws ring_of with_ring stands ready kept grew valid extends ring_refuses missing refuses) where
   -- a refused part
@@ -125,3 +117,14 @@ module _ {S R F : Type 0} {valid : R → Type 0} {extends : R → R → Type 0} 
     there = tt;
     refused = window_refuses a e o i h;
   }
+
+  -- it is made already
+  pub made_already : {E : Type 0} {means : S → E → Term F → Type 0} (a : S) (x : E) (t : Term F) → Lasts kept (Holds means missing x t) a → Made means grew missing refuses a a (Ok x) t
+  made_already a x t h =
+      let now = h a (laws.by_growth a a [] (laws.same a)) in
+      record {
+        keeps = laws.same a;
+        made = now.meant;
+        there = now.leaves;
+        refused = tt;
+      }

@@ -1,6 +1,6 @@
 -- What the asserting of constraints does.
 use Rattle.std.specs.Prelude.{ℕ, zero, suc, List, [], ◌∷◌, ◌++◌, Result, OnOk, OnErr, IfErr}
-use Rattle.air_field.specs.Term.{Leaf, Term}
+use Rattle.air_field.specs.Term.{Leaf}
 use Rattle.air_builder.specs.Assertion.{Assertion}
 use Rattle.air_builder.specs.Batches.{GrewByFirst}
 use Rattle.air_builder.specs.Refusals.{NoneMissing}

@@ -4,6 +4,10 @@ use Rattle.air_field.specs.Term.{Leaf, Term, const_term, mul_term}
 use Rattle.air_builder.specs.Assertion.{Assertion}
 use Rattle.air_builder.specs.Refusals.{PartOf, EachLeaf}
 
+-- the fact holds of a builder, and of what becomes of it
+abbrev pub Lasts : {S : Type 0} → (S → S → Type 0) → (S → Type 0) → S → Type 0
+Lasts {S} kept fact a = (b : S) → kept a b → fact b
+
 -- An element of the term was made: nothing was asserted, and each leaf of the term is there. A refusal may be one of any
 -- list that has the term as a part.
 pub record Made {S E F X : Type 0} (means : S → E → Term F → Type 0) (grew : S → S → List (Assertion F) → Type 0) (missing : S → Leaf → Type 0) (refuses : S → X → List (Assertion F) → Type 0) (a b : S) (r : Result E X) (t : Term F) : Type 0 where
@@ -17,3 +21,8 @@ abbrev pub power_term : {F : Type 0} → F → Term F → ℕ → Term F
 power_term one t zero = const_term one
 power_term one t (suc zero) = t
 power_term one t (suc (suc n)) = mul_term (power_term one t (suc n)) t
+
+-- x means the term in the builder, and each leaf of the term is there
+pub record Holds {S E F : Type 0} (means : S → E → Term F → Type 0) (missing : S → Leaf → Type 0) (x : E) (t : Term F) (b : S) : Type 0 where
+  pub meant : means b x t
+  pub leaves : EachLeaf (λ l. missing b l → ⊥) t

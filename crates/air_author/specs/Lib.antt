@@ -3,3 +3,4 @@ pub use Rattle.air_builder.specs.Batches
 pub use Rattle.air_builder.specs.Extensions
 pub mod Expressions
 pub mod Constraints
+pub mod Handing

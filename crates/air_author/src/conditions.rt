@@ -1,7 +1,8 @@
 //! Where constraints hold. An author writes `When`; these are what it hands to the constraints inside.
+ghost use Rattle.std.specs.Prelude.{⊤};
 ghost use Rattle.air_field.specs.Term.{Term, mul_term};
 ghost use Rattle.air_builder.specs.Builders.{Means};
-ghost use Rattle.air_author.specs.Expressions.{Made};
+ghost use Rattle.air_author.specs.Expressions.{Made, Lasts};
 
 use crate::expressions::arithmetic::Product;
 use crate::expressions::extension::Lifted;
@@ -17,9 +18,13 @@ pub trait Condition<AB: AirBuilder> {
     /// The same of an extension term.
     ghost ext_under: { Self → Term AB.F → Term AB.F };
 
+    /// What it holds ready-made is of the builder, and means what it should there.
+    ghost where_holds: { Self → AB → Type 0 } = { λ _ _. ⊤ };
+
     /// Makes what is to be zero everywhere where `x` is to be zero here.
     fn make_under<X: Expression<AB>>(&self, builder: &mut AB, x: &X) -> Result<AB::Expr, AirError>
-        requires { AB.ready builder.old }
+        requires ready { AB.ready builder.old }
+        requires held { Lasts AB.kept (λ b. where_holds self.now b × X.holds x.now b) builder.old }
         ensures { Made (Means AB.Ring.means AB.ring_of AB.stands) AB.grew AB.missing AB.refuses builder.old builder.new result (under self.now (X.term x.now)) };
 
     /// The same over the extension.
@@ -30,7 +35,9 @@ pub trait Condition<AB: AirBuilder> {
     ) -> Result<AB::ExprEF, AirError>
     where
         AB: ExtensionBuilder,
-        requires { AB.ready builder.old }
+        requires ready { AB.ready builder.old }
+        requires held { Lasts AB.kept (λ b. where_holds self.now b × X.ext_holds x.now b)
+            builder.old }
         ensures { Made (Means AB.ExtRing.means AB.ext_ring_of AB.stands) AB.grew AB.missing AB.refuses builder.old builder.new result (ext_under self.now (X.ext_term x.now)) };
 }
 
@@ -67,6 +74,8 @@ impl<'a, AB: AirBuilder, K: Condition<AB>, S: Expression<AB>> Condition<AB> for 
     ghost under = { λ s t. K.under s.0.now (mul_term (S.term s.1) t) };
 
     ghost ext_under = { λ s t. K.ext_under s.0.now (mul_term t (S.term s.1)) };
+
+    ghost where_holds = { λ s b. K.where_holds s.0.now b × S.holds s.1 b };
 
     fn make_under<X: Expression<AB>>(&self, builder: &mut AB, x: &X) -> Result<AB::Expr, AirError> {
         self.0.make_under(builder, &Product(&self.1, x))

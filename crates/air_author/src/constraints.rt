@@ -1,11 +1,12 @@
 //! Constraints as values, each of a small type of its own that knows what it asserts.
-ghost use Rattle.std.specs.Prelude.{◌≡◌, ◌⊎◌, List, OnOk, OnErr, IfErr};
+ghost use Rattle.std.specs.Prelude.{◌≡◌, ◌⊎◌, ⊤, List, OnOk, OnErr, IfErr};
 ghost use Rattle.air_field.specs.Term.{Term};
 ghost use Rattle.air_builder.specs.Assertion.{Assertion};
 ghost use Rattle.air_builder.specs.Batches.{GrewByFirst};
 ghost use Rattle.air_builder.specs.Refusals.{NoneMissing};
 ghost use Rattle.air_windows.specs.declared.errors.AirError.{AirError};
 ghost use Rattle.air_author.specs.Constraints.{Asserted};
+ghost use Rattle.air_author.specs.Expressions.{Lasts};
 
 use crate::conditions::{Condition, Everywhere};
 use air_builder::{AirBuilder, AirError};
@@ -22,18 +23,25 @@ pub trait Constraint<AB: AirBuilder> {
     /// What is asserted, where each base term becomes another, and each extension term.
     ghost asserts: { Self → (Term AB.F → Term AB.F) → (Term AB.F → Term AB.F) → List (Assertion AB.F) };
 
+    /// What they hold ready-made is of the builder, and means what it should there.
+    ghost all_hold: { Self → AB → Type 0 } = { λ _ _. ⊤ };
+
     /// Asserts them where the condition holds.
     fn assert_under<K: Condition<AB>>(
         &self,
         builder: &mut AB,
         condition: &K,
     ) -> Result<(), AirError>
-        requires { AB.ready builder.old }
+        requires ready { AB.ready builder.old }
+        requires held { Lasts AB.kept (λ b. all_hold self.now b × K.where_holds condition.now b)
+            builder.old }
         ensures { Asserted AB.kept AB.grew AB.missing AB.refuses builder.old builder.new result (asserts self.now (K.under condition.now) (K.ext_under condition.now)) };
 }
 
 impl<'a, AB: AirBuilder, C: Constraint<AB>> Constraint<AB> for &'a C {
     ghost asserts = { λ s f g. C.asserts s.now f g };
+
+    ghost all_hold = { λ s b. C.all_hold s.now b };
 
     fn assert_under<K: Condition<AB>>(
         &self,
@@ -49,7 +57,8 @@ pub fn assert_these<AB: AirBuilder, C: Constraint<AB>>(
     builder: &mut AB,
     constraints: &C,
 ) -> Result<(), AirError>
-    requires { AB.ready builder.old }
+    requires ready { AB.ready builder.old }
+    requires held { Lasts AB.kept (C.all_hold constraints.now) builder.old }
     ensures { Asserted AB.kept AB.grew AB.missing AB.refuses builder.old builder.new result (C.asserts constraints.now (λ t. t) (λ t. t)) }
 {
     constraints.assert_under(builder, &Everywhere)
@@ -60,7 +69,8 @@ pub fn assert_all<AB: AirBuilder, C: Constraint<AB>>(
     builder: &mut AB,
     constraints: &C,
 ) -> Result<(), AirError>
-    requires { AB.ready builder.old }
+    requires ready { AB.ready builder.old }
+    requires held { Lasts AB.kept (C.all_hold constraints.now) builder.old }
     ensures ok { OnOk result (AB.grew builder.old builder.new (C.asserts constraints.now (λ t. t) (λ t. t))) }
     ensures there { OnOk result (NoneMissing (AB.missing builder.old) (C.asserts constraints.now (λ t. t) (λ t. t))) }
     ensures keeps { AB.kept builder.old builder.new }

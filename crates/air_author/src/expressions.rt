@@ -1,11 +1,13 @@
 //! Expressions as values, each of a small type of its own that knows its term.
+ghost use Rattle.std.specs.Prelude.{⊤};
 ghost use Rattle.air_field.specs.Term.{Term};
 ghost use Rattle.air_builder.specs.Builders.{Means};
-ghost use Rattle.air_author.specs.Expressions.{Made};
+ghost use Rattle.air_author.specs.Expressions.{Made, Lasts};
 
 use air_builder::{AirBuilder, AirError, ExtensionBuilder};
 use air_field::Algebra;
 
+pub mod already;
 pub mod arithmetic;
 pub mod columns;
 pub mod constants;
@@ -19,9 +21,13 @@ pub trait Expression<AB: AirBuilder> {
     /// What the expression means.
     ghost term: { Self → Term AB.F };
 
+    /// What it holds ready-made is of the builder, and means what it should there.
+    ghost holds: { Self → AB → Type 0 } = { λ _ _. ⊤ };
+
     /// Makes it in the builder's ring. Nothing is asserted.
     fn make(&self, builder: &mut AB) -> Result<AB::Expr, AirError>
-        requires { AB.ready builder.old }
+        requires ready { AB.ready builder.old }
+        requires held { Lasts AB.kept (holds self.now) builder.old }
         ensures { Made (Means AB.Ring.means AB.ring_of AB.stands) AB.grew AB.missing AB.refuses builder.old builder.new result (term self.now) };
 }
 
@@ -30,14 +36,20 @@ pub trait ExtExpression<AB: ExtensionBuilder> {
     /// What the expression means.
     ghost ext_term: { Self → Term AB.F };
 
+    /// What it holds ready-made is of the builder, and means what it should there.
+    ghost ext_holds: { Self → AB → Type 0 } = { λ _ _. ⊤ };
+
     /// Makes it in the builder's ring over the extension. Nothing is asserted.
     fn make_ext(&self, builder: &mut AB) -> Result<AB::ExprEF, AirError>
-        requires { AB.ready builder.old }
+        requires ready { AB.ready builder.old }
+        requires held { Lasts AB.kept (ext_holds self.now) builder.old }
         ensures { Made (Means AB.ExtRing.means AB.ext_ring_of AB.stands) AB.grew AB.missing AB.refuses builder.old builder.new result (ext_term self.now) };
 }
 
 impl<'a, AB: AirBuilder, X: Expression<AB>> Expression<AB> for &'a X {
     ghost term = { λ s. X.term s.now };
+
+    ghost holds = { λ s b. X.holds s.now b };
 
     fn make(&self, builder: &mut AB) -> Result<AB::Expr, AirError> {
         (**self).make(builder)
@@ -46,6 +58,8 @@ impl<'a, AB: AirBuilder, X: Expression<AB>> Expression<AB> for &'a X {
 
 impl<'a, AB: ExtensionBuilder, X: ExtExpression<AB>> ExtExpression<AB> for &'a X {
     ghost ext_term = { λ s. X.ext_term s.now };
+
+    ghost ext_holds = { λ s b. X.ext_holds s.now b };
 
     fn make_ext(&self, builder: &mut AB) -> Result<AB::ExprEF, AirError> {
         (**self).make_ext(builder)

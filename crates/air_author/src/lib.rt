@@ -13,6 +13,8 @@
 //! multiplies first. Over the extension, `ExtZero`, `ExtEqual` and `ExtIsOne` take `Sum`, `Difference`, `Product` and
 //! `Negative` of `PermutationCurrent`, `Challenge`, `Lifted(Current(0))` and so on.
 //!
+//! What a filter or a gadget was handed stands among them as `Already(x, value)`, with the value that it was made of.
+//!
 //! An entry that the builder hasn't is refused by its name. A function proves about five constraints quickly; further
 //! ones go into structs whose `assert_under` only delegates to a value as above.
 #![tactic(auto)]
@@ -28,6 +30,7 @@ pub use constraints::families::{All, Each, Family};
 pub use constraints::named::{Label, Named};
 pub use constraints::when::When;
 pub use constraints::{Constraint, assert_all, assert_these};
+pub use expressions::already::Already;
 pub use expressions::arithmetic::{BoolCheck, Difference, Double, Negative, Product, Square, Sum};
 pub use expressions::columns::{
     Current, Next, Periodic, PreprocessedCurrent, PreprocessedNext, Public,

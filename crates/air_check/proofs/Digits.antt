@@ -1,6 +1,5 @@
 -- Numbers, digit after digit.
-use Rattle.std.proofs.Common.{◌≡◌, ℕ, ◌<◌, ◌≤◌, ◌*◌, ◌+◌, Bool, true, false, cond, leb, List, [], ◌∷◌, Option, Some, None, refl, arith, rules, tests}
-use Rattle.std.proofs.lemmas.Grind.{common_steps}
+use Rattle.std.proofs.Common.{◌≡◌, ℕ, ◌<◌, ◌≤◌, ◌*◌, ◌+◌, Bool, true, false, cond, List, [], ◌∷◌, Option, None, refl, arith, rules, tests}
 use Rattle.std.specs.Char.{digit_value}
 use Rattle.std.specs.Str.{all_ascii_digits}
 use Rattle.std.specs.Str.Parse.{digits_value_after}

@@ -1,12 +1,11 @@
 -- Texts, line after line.
-use Rattle.std.proofs.Common.{◌≡◌, ℕ, ◌+◌, ◌<◌, ◌≤◌, List, [], ◌∷◌, ◌++◌, append_assoc, append-nil, length, map, take, get_or, codes, refl, sym, ap, subst, ◌∙◌}
+use Rattle.std.proofs.Common.{◌≡◌, ℕ, ◌+◌, ◌<◌, ◌≤◌, List, [], ◌∷◌, ◌++◌, append_assoc, append-nil, length, map, take, get_or, codes, sym, ap, subst, ◌∙◌}
 use Rattle.std.proofs.lemmas.Grind.{flat_map-append}
 use Rattle.std.proofs.lemmas.List.{map-append, take_more, take_all}
 use Rattle.air_builder.specs.Batches.{Each}
 use Rattle.air_report.specs.FailureTexts.{seen_failure}
-use Rattle.air_report.specs.Report.{failure_place}
 use Rattle.air_report.specs.declared.debug.failure.ConstraintFailure.{ConstraintFailure}
-use Rattle.air_check.specs.Texts.{lines_text, place_of, IsFailureLine, PushesLine}
+use Rattle.air_check.specs.Texts.{lines_text, IsFailureLine, PushesLine}
 
 -- the text is the lines in front, and one for each of the failures before i
 pub record HasLines (front : List (List ℕ)) (failures : List ConstraintFailure) (i : ℕ) (text : List ℕ) : Type 0 where
@@ -45,8 +44,3 @@ HasLines-more front items failures i f old new e below found h p =
 -- all of them
 pub HasLines-all : (front : List (List ℕ)) (failures : List ConstraintFailure) (i : ℕ) (text : List ℕ) (h : HasLines front failures i text) → length failures ≤ i → Each IsFailureLine (map seen_failure failures) h.lines
 HasLines-all front failures i text h le = subst (λ fs. Each IsFailureLine (map seen_failure fs) h.lines) (take_all i failures le) h.each
-
--- the places that are seen are those of the failures
-pub places_seen : (failures : List ConstraintFailure) → map place_of (map seen_failure failures) ≡ map failure_place failures
-places_seen [] = refl
-places_seen (f ∷ fs) = ap (λ ps. failure_place f ∷ ps) (places_seen fs)

@@ -2,9 +2,12 @@
 
 ghost use Rattle.std.specs.Prelude.{◌≡◌, ◌%◌, ◌<◌, ◌^◌, length, vec_len, IfOk, IfErr, string_bytes};
 ghost use Rattle.air_field.specs.Grid.{grid_of};
+ghost use Rattle.air_field.specs.Modulo.{baby_bear_ring};
+ghost use Rattle.air_report.specs.Given.{given};
+ghost use Rattle.p3_air.specs.Audits.{AuditRefusesUnder, own_layout};
 ghost use Rattle.air_check.specs.Texts.{found, findings_status};
 ghost use Rattle.air_check.specs.Commands.{has_labels};
-ghost use Rattle.air_check.specs.Answer.{Finds, Answers, MayRefuse};
+ghost use Rattle.air_check.specs.Answer.{AuditFinds, given_fibonacci, Answers, MayRefuse};
 
 use crate::commands::{Command, Request};
 use crate::fibonacci::Fibonacci;
@@ -13,7 +16,7 @@ use crate::refusals::Refusal;
 use crate::texts::{Findings, findings_text};
 use air_builder::AirError;
 use air_field::{BabyBear, RowMajorMatrix};
-use p3_air::{AirLayout, check_all_constraints, get_max_constraint_degree};
+use p3_air::{Air, BaseAir, DebugConstraintBuilder, SymbolicAirBuilder, audit_air_with_cap};
 use std::alloc::Global;
 
 /// The trace of these values, two a row.
@@ -49,8 +52,37 @@ fn air_of(command: Command) -> Fibonacci
     }
 }
 
-/// Checks Fibonacci on the trace, and records it and infers its degree.
-fn check(
+/// What the audit of an AIR on a trace finds.
+fn findings_of<
+    'a,
+    A: BaseAir<BabyBear>
+        + Air<SymbolicAirBuilder<BabyBear, BabyBear>>
+        + Air<DebugConstraintBuilder<'a, BabyBear, BabyBear>>,
+>(
+    alloc: Global,
+    air: &'a A,
+    main: &'a RowMajorMatrix<BabyBear>,
+    public_values: &'a [BabyBear],
+    cap: Option<usize>,
+) -> Result<Findings, AirError>
+    ensures found { IfOk result (λ findings. AuditFinds ⟦<BabyBear as PartialEq>⟧.eq
+        (given (A.declared air.now) (A.beside air.now) main.now public_values.now) cap
+        (found findings)) }
+    ensures refused { IfErr result (AuditRefusesUnder baby_bear_ring ⟦<BabyBear as PartialEq>⟧.eq
+        (own_layout (A.beside air.now) (A.width air.now) (A.num_public_values air.now))
+        (given (A.declared air.now) (A.beside air.now) main.now public_values.now) cap) }
+{
+    match audit_air_with_cap(alloc, air, main, public_values, cap) {
+        Ok(audit) => Ok(Findings {
+            degree: audit.degree,
+            report: audit.report,
+        }),
+        Err(error) => Err(error),
+    }
+}
+
+/// Audits Fibonacci on the trace.
+fn audit_fibonacci(
     alloc: Global,
     fibonacci: Fibonacci,
     main: &RowMajorMatrix<BabyBear>,
@@ -60,21 +92,12 @@ fn check(
     requires width { main.now.width ≡ 2 }
     requires height { length main.now.rows < 2 ^ 63 }
     requires public { length public_values.now ≡ 3 }
-    ensures found { IfOk result (λ findings. Finds ⟦<BabyBear as PartialEq>⟧.eq main.now public_values.now cap (found findings)) }
+    ensures found { IfOk result (λ findings. AuditFinds ⟦<BabyBear as PartialEq>⟧.eq
+        (given_fibonacci main.now public_values.now) cap (found findings)) }
     ensures refused { IfErr result (λ why. why ≡ Refusal.Memory) }
 {
-    let report = match check_all_constraints(alloc, &fibonacci, main, public_values, cap) {
-        Ok(report) => report,
-        Err(error) => return Err(refusal_of(error)),
-    };
-    let layout = AirLayout::from_air::<BabyBear, Fibonacci>(&fibonacci);
-    match get_max_constraint_degree::<BabyBear, Fibonacci>(
-        alloc,
-        &fibonacci,
-        layout,
-        main.height(),
-    ) {
-        Ok(degree) => Ok(Findings { degree, report }),
+    match findings_of(alloc, &fibonacci, main, public_values, cap) {
+        Ok(findings) => Ok(findings),
         Err(error) => Err(refusal_of(error)),
     }
 }
@@ -105,7 +128,7 @@ pub fn answer(alloc: Global, request: Request, input: &[u8]) -> Result<(u8, Stri
         values,
     } = input;
     let main = trace_of(values);
-    let findings = check(
+    let findings = audit_fibonacci(
         alloc,
         air_of(request.command),
         &main,

@@ -2,3 +2,4 @@ pub mod Combining
 pub mod BitLaws
 pub mod PackingLaws
 pub mod PowerSums
+pub mod ListedColumns

@@ -1,5 +1,5 @@
 -- Rows of extension variables, one variable longer.
-use Rattle.std.proofs.Common.{◌≡◌, ℕ, zero, suc, ◌+◌, List, [], ◌∷◌, ◌++◌, length, Some, slice_get, sym, subst, ap, ◌∙◌, arith}
+use Rattle.std.proofs.Common.{◌≡◌, ℕ, zero, suc, ◌+◌, List, [], ◌∷◌, ◌++◌, length, Some, slice_get, sym, subst, ap, ◌∙◌}
 use Rattle.std.proofs.Math.ListN.{length-append}
 use Rattle.air_variables.specs.declared.ext_entry.ExtEntry.{ExtEntry}
 use Rattle.air_variables.specs.declared.variable_ext.SymbolicVariableExt.{SymbolicVariableExt}

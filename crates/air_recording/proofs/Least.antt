@@ -1,5 +1,5 @@
 -- The inferred degree bounds the degrees of terms and their polynomials; for three rows and more it is the least bound.
-use Rattle.std.proofs.Common.{◌≡◌, ℕ, zero, suc, ◌+◌, ◌-◌, ◌*◌, add-mul, ◌<◌, ◌≤◌, ◌^◌, max, List, [], ◌∷◌, ◌++◌, slice_index_or, refl, sym, subst, arith, ⊎_elim}
+use Rattle.std.proofs.Common.{◌≡◌, ℕ, zero, suc, ◌+◌, ◌-◌, ◌*◌, add-mul, ◌<◌, ◌≤◌, ◌^◌, max, List, [], ◌∷◌, slice_index_or, sym, subst, arith, ⊎_elim}
 use Rattle.std.proofs.Math.Nat.{max-eq_left, max-eq_right, max-le, le-max_left, le-max_right, lt_of_mul-lt-mul_right, mul-le-mul_right, suc-mul, div_self}
 use Rattle.std.proofs.lemmas.Bool.{cases_lt}
 use Rattle.std.proofs.lemmas.Grind.{div_ceil_times}

@@ -8,3 +8,4 @@ pub mod FoldLaws
 pub mod WeightLaws
 pub mod SymbolicGrowth
 pub mod ExtRows
+pub mod ListFields

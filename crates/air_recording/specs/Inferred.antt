@@ -1,5 +1,5 @@
 -- The degree that is inferred, and where it is refused.
-use Rattle.std.specs.Prelude.{Result, Ok, Err, ◌≡◌, ◌⊎◌, ℕ, ◌≤◌, ◌^◌, List, ◌++◌, Vec, length, map}
+use Rattle.std.specs.Prelude.{Result, Ok, Err, ◌⊎◌, ℕ, ◌≤◌, ◌^◌, List, ◌++◌, Vec, length, map}
 use Rattle.air_field.specs.Ring.{CommRing, Over, itself}
 use Rattle.air_field.specs.Term.{Term}
 use Rattle.air_field.specs.Degree.{cached_weight, trace_weight, greatest_degree}

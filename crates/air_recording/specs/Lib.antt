@@ -7,6 +7,8 @@ pub use Rattle.air_field.specs.OneRow
 pub use Rattle.air_builder.specs.Assertion
 pub use Rattle.air_builder.specs.Builders
 pub mod Layouts
+pub mod Spellings
+pub mod SpellingLaws
 pub mod Weights
 pub mod Folds
 pub mod Rows

@@ -15,7 +15,7 @@ use Rattle.air_builder.specs.Refusals.{past_window_missing}
 use Rattle.air_builder.specs.Extensions.{ExtensionLaws}
 use Rattle.air_builder.specs.Refused.{Refused, Refused-first, Refused-then, Refused-missing, Refused-ring}
 use Rattle.air_recording.specs.Kinds.{kind_of, base_terms, ext_terms}
-use Rattle.air_recording.specs.Recording.{EachMeans, Fixed, Lists, with_base, with_ext, SelectorsMean, IsReady, KeptRecording, GrewRecording, IsOver}
+use Rattle.air_recording.specs.Recording.{EachMeans, Fixed, Lists, with_base, with_ext, IsReady, KeptRecording, GrewRecording, IsOver}
 
 -- a term with each leaf put at itself
 pub with_leaves-same : {F : Type 0} (t : Term F) → with_leaves (λ l. leaf_term l) t ≡ t

@@ -2,3 +2,4 @@
 
 pub mod air_layout;
 pub mod constraint_layout;
+mod spellings;

@@ -5,3 +5,5 @@ pub mod CellsListed
 pub mod FailureLists
 pub mod OwnExtension
 pub mod ExtensionRows
+pub mod BaseRows
+pub mod EmptyLists

@@ -1,12 +1,15 @@
 -- The report grows by a row's places.
-use Rattle.std.proofs.Common.{◌≡◌, ℕ, ◌+◌, ◌≤◌, List, ◌++◌, map, length, Bool, Option, None, Some, refl, sym, ◌∙◌, ap, arith, add-one}
-use Rattle.std.proofs.lemmas.List.{map-append}
+use Rattle.std.proofs.Common.{◌≡◌, ℕ, ◌+◌, ◌≤◌, List, ◌++◌, map, length, Bool, Option, None, Some, refl, sym, ◌∙◌, ap, subst, arith, add-one}
+use Rattle.std.proofs.lemmas.List.{length-map, map-append}
 use Rattle.std.proofs.Math.Dec.{eqb-suc-zero}
 use Rattle.air_field.specs.Ring.{CommRing}
 use Rattle.air_field.specs.Assignment.{Trace, row_assignment}
 use Rattle.air_builder.specs.Assertion.{Assertion}
 use Rattle.air_report.specs.ReportLaws.{report_of-more}
-use Rattle.air_report.specs.Checks.{CheckedRow}
+use Rattle.air_windows.specs.declared.boundary.BoundaryPublic.{BoundaryPublic}
+use Rattle.air_report.specs.Cells.{differing, left_of, ListsCells}
+use Rattle.air_report.specs.Checks.{CheckedRow, listed}
+use Rattle.air_report.specs.Given.{Given, given_trace, height}
 use Rattle.air_report.specs.Report.{failure_place, report_of, count_shown, IsReached}
 use Rattle.air_report.specs.declared.debug.failure.ConstraintFailure.{ConstraintFailure}
 use Rattle.air_report.specs.Debug.{nonzero_from}
@@ -29,3 +32,11 @@ count_shown-more ts n = rw (add-one, eqb-suc-zero n) refl
 pub reached_later : (cap : Option ℕ) (n : ℕ) → IsReached cap 0 → IsReached cap n
 reached_later None n h = h
 reached_later (Some cap) n h = omega (arith, h)
+
+-- the cells that are listed after the failures of the rows
+pub listed_after : {F : Type 0} (r : CommRing F) (eq : F → F → Bool) (g : Given F) (cap : Option ℕ) (shown : ℕ) (fs gs : List ConstraintFailure) (count : ℕ) (cells : List BoundaryPublic) → map failure_place fs ≡ report_of r eq (given_trace g) g.terms shown → count ≡ count_shown g.terms shown → cells ≡ g.beside.cells → ListsCells (height g) count (left_of cap (length fs) (differing r eq g.main g.public cells)) fs gs → ListsCells (height g) (count_shown g.terms shown) (listed r eq g cap shown) fs gs
+listed_after r eq g cap shown fs gs count cells places counted same l =
+    let len : length fs ≡ length (report_of r eq (given_trace g) g.terms shown) = sym (length-map fs failure_place) ∙ ap length places in
+    subst (λ n. ListsCells (height g) n (listed r eq g cap shown) fs gs) counted
+    (subst (λ n. ListsCells (height g) count (left_of cap n (differing r eq g.main g.public g.beside.cells)) fs gs) len
+    (subst (λ cs. ListsCells (height g) count (left_of cap (length fs) (differing r eq g.main g.public cs)) fs gs) same l))

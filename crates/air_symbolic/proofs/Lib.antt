@@ -1,4 +1,3 @@
-pub mod Sharing
 pub mod Vectors
 pub mod Making
 pub mod Folding
@@ -6,5 +5,6 @@ pub mod FoldedLists
 pub mod FoldedTerms
 pub mod BasePart
 pub mod Overflows
-pub mod WholeTrees
 pub mod Lowering
+pub mod LeafCases
+pub mod FoldCases

@@ -1,18 +1,23 @@
 -- What a folded operation makes, in the words of rings that make their elements.
-use Rattle.std.proofs.Common.{Result, Ok, Err, IfOk, IfErr, ◌≡◌, ℕ, ◌<◌, ◌≤◌, ◌+◌, ◌^◌, List, length, refl, sym, ap, subst, arith}
+use Rattle.std.proofs.Common.{Result, Ok, Err, IfOk, IfErr, ◌≡◌, Bool, ℕ, ◌<◌, ◌≤◌, ◌+◌, ◌^◌, List, length, refl, sym, ap, subst, ◌∙◌, arith}
 use Rattle.air_field.specs.declared.errors.RingError.{RingError}
 use Rattle.air_field.specs.declared.errors.RingError.TheVariants.{Memory, DegreeOverflow}
 use Rattle.air_field.specs.Ring.{CommRing}
-use Rattle.air_field.specs.Term.{const_term, add_term, sub_term, neg_term, mul_term}
+use Rattle.air_field.specs.Term.{Term, const_term, add_term, sub_term, neg_term, mul_term}
 use Rattle.air_field.specs.Degree.{degree_by, cached_weight}
 use Rattle.air_field.specs.Same.{Stands}
 use Rattle.air_field.specs.DegreeLaws.{Stands-refl, Stands-trans, Stands-add, Stands-sub, Stands-neg, Stands-mul}
 use Rattle.air_field.specs.Algebra.{Made, MadeOf, MadeOfBoth, RefusedOfBoth}
+use Rattle.air_field.specs.ExtAlgebra.{Lifted}
 use Rattle.air_symbolic.specs.Leaves.{Leaves}
 use Rattle.air_symbolic.specs.Trees.{leaf_tree, term_of}
 use Rattle.air_symbolic.specs.Pools.{IsPool, term_at, PoolHas, PoolMeans, HasTree, HasConst}
 use Rattle.air_symbolic.specs.PoolRefusals.{PoolRefuses}
+use Rattle.air_symbolic.specs.BaseLeaves.{base_reads}
+use Rattle.air_symbolic.specs.ExtLeaves.{ext_reads}
+use Rattle.air_symbolic.specs.ExtPool.{ExtNodes, BaseMeans}
 use Rattle.air_symbolic.specs.declared.pools.expr.SymbolicExpr.{SymbolicExpr}
+use Rattle.air_symbolic.specs.declared.leaves.ext_leaf.ExtLeaf.TheVariants.{Base}
 
 module _ {U A F : Type 0} (r : CommRing F) (reads : U → Leaves A F) (p q : U × List (SymbolicExpr A)) (pool : IsPool reads q) (z : ℕ) (here : z < length q.1) where
   pub made-sum : (x y : ℕ) → Stands r (term_at reads q z) (add_term (term_at reads p x) (term_at reads p y)) → MadeOfBoth (PoolHas reads) (PoolMeans reads r) add_term p q x y z
@@ -63,3 +68,16 @@ refused-product r reads p x y (Err DegreeOverflow) h = λ t u k m. omega (arith,
 pub IfOk-both : {X E : Type 0} (r : Result X E) (P Q R : X → Type 0) → ((x : X) → P x → Q x → R x) → IfOk r P → IfOk r Q → IfOk r R
 IfOk-both (Ok x) P Q R f p q = f x p q
 IfOk-both (Err e) P Q R f p q = tt
+
+-- The leaf of a base expression means what that means.
+pub made-lifted : {F EF : Type 0} (r : CommRing F) (eq : F → F → Bool) (coefficients : EF → List F) (p q : ExtNodes F EF) (x : ℕ) → q.0 ≡ p.0 → IsPool (ext_reads r eq coefficients) q → (z : ℕ) → HasTree q (leaf_tree (Base x)) z → Lifted (PoolHas (ext_reads r eq coefficients)) (PoolMeans (ext_reads r eq coefficients) r) (BaseMeans r eq coefficients) p q x z
+made-lifted r eq coefficients p q x same pool z m =
+    let reads = ext_reads r eq coefficients in
+    let is : term_at reads q z ≡ term_at base_reads p.0 x = ap (term_of (reads q.0).term) m.tree ∙ ap (λ u. term_at base_reads u x) same in (
+      record { pool = pool; here = m.here },
+      λ t h. record { pool = pool; here = m.here; stands = subst (λ u. Stands r u t) (sym is) h.base.stands },
+    )
+
+-- What means a term means each term that is it.
+pub made-equal : {U A F : Type 0} (r : CommRing F) (reads : U → Leaves A F) (q : U × List (SymbolicExpr A)) (u : Term F) (z : ℕ) → Made (PoolHas reads) (PoolMeans reads r) u q z → PoolHas reads q z × ((t : Term F) → t ≡ u → PoolMeans reads r q z t)
+made-equal r reads q u z m = (m.0, λ t h. subst (λ w. PoolMeans reads r q z w) (sym h) m.1)

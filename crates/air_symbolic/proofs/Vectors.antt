@@ -10,7 +10,7 @@ use Rattle.air_symbolic.specs.Nodes.{node_at, NodeFits, Absent, WellFormed, IsNo
 use Rattle.air_symbolic.specs.Pools.{IsPool, Grown}
 use Rattle.air_symbolic.specs.PoolLaws.{Grown-under}
 use Rattle.air_symbolic.specs.Numbers.{at_end, node_at-newest, node_at-older}
-use Rattle.air_symbolic.proofs.Sharing.{node_at-is}
+use Rattle.air_symbolic.specs.Sharing.{node_at-is}
 use Rattle.air_symbolic.specs.declared.pools.expr.SymbolicExpr.{SymbolicExpr}
 
 module _ {A : Type 0} where

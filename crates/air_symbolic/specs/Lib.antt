@@ -23,3 +23,5 @@ pub mod BaseParts
 pub mod ExtLeaves
 pub mod ExtPool
 pub mod ExtTrees
+pub mod Sharing
+pub mod WholeTrees

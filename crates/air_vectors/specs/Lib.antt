@@ -1,3 +1,4 @@
 -- The AIRs of the tests.
 pub mod Differing
+pub mod Handed
 pub mod TestAirs

@@ -1,2 +1,3 @@
 pub mod GridRows
 pub mod PeriodicRows
+pub mod WindowRows

@@ -1,8 +1,12 @@
 pub mod OnlyMember
-pub mod Answering
 pub mod SeenTrees
 pub mod Growing
 pub mod Loop
 pub mod Numbers
 pub mod Lifting
 pub mod FormLaws
+pub mod Left
+pub mod Ordered
+pub mod Progress
+pub mod PoolNodes
+pub mod Elements

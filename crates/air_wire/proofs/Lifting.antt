@@ -11,7 +11,8 @@ use Rattle.air_wire.specs.Readings.{done}
 use Rattle.air_wire.specs.Coefficients.{elements_at, elements_found}
 use Rattle.air_wire.specs.ExtLeafLaws.{made_of}
 use Rattle.air_wire.specs.Seen.{over}
-use Rattle.air_wire.specs.BaseLeaves.{base_seen}
+use Rattle.air_wire.specs.Written.{IsWritten}
+use Rattle.air_wire.specs.BaseLeaves.{base_kind, base_seen}
 use Rattle.air_wire.specs.ExtLeaves.{at_place, moved, ext_constant_at}
 use Rattle.air_wire.specs.declared.errors.FlatError.{FlatError}
 use Rattle.air_wire.specs.declared.errors.FlatError.TheVariants as faults
@@ -23,6 +24,10 @@ over_same (add_tree t u) = cc (over_same t, over_same u)
 over_same (sub_tree t u) = cc (over_same t, over_same u)
 over_same (neg_tree t) = cc (over_same t)
 over_same (mul_tree t u) = cc (over_same t, over_same u)
+
+-- a list that is written for what is seen of a tree is the tree's own
+pub written_tree : (d : Data) (t : Tree (BaseLeaf BabyBear)) → IsWritten base_kind d (over (base_seen tt) t) → IsWritten base_kind d t
+written_tree d t h = subst (IsWritten base_kind d) (over_same t) h
 
 -- a list that is read gives its tree
 pub moved_tree : (place : ℕ) (t : Tree (BaseLeaf BabyBear)) (read : Result (Tree (BaseLeaf BabyBear)) FlatError) → read ≡ Ok (over (base_seen tt) t) → moved place read ≡ Ok t

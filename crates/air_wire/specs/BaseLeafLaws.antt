@@ -11,12 +11,12 @@ use Rattle.air_symbolic.specs.declared.leaves.base_leaf.BaseLeaf.{BaseLeaf}
 use Rattle.air_symbolic.specs.declared.leaves.base_leaf.BaseLeaf.TheVariants as leaves
 use Rattle.air_wire.specs.Parts.{only_member, whole}
 use Rattle.air_wire.specs.Results.{◌>>=◌}
-use Rattle.air_wire.specs.Spelling.{case_data, IsWhole}
+use Rattle.air_wire.specs.Spelling.{number_data, case_data, IsWhole}
 use Rattle.air_wire.specs.Readings.{by_name, none_found, named, mapped, done, done_is, not_done, bind_ok, ok_or_found, test_ok, name_ok, only_found, text_found, number_found}
-use Rattle.air_wire.specs.Entries.{variable_of}
-use Rattle.air_wire.specs.EntryLaws.{variable_again, variable_found}
+use Rattle.air_wire.specs.Entries.{variable_data, variable_of}
+use Rattle.air_wire.specs.EntryLaws.{variable_is_spelt, variable_again, variable_found}
 use Rattle.air_wire.specs.Nodes.{KindLaws}
-use Rattle.air_wire.specs.BaseLeaves.{SpellsLeaf, element_or, element_at, bare_leaf, leaf_with, case_leaf, leaf_named, leaf_at, base_kind}
+use Rattle.air_wire.specs.BaseLeaves.{SpellsLeaf, WritesLeaf, element_or, element_at, bare_leaf, leaf_with, case_leaf, leaf_named, leaf_at, base_kind}
 use Rattle.air_wire.specs.declared.errors.FlatError.TheVariants as faults
 
 -- an element and its canonical number
@@ -87,5 +87,12 @@ leaf_found : (place : ℕ) (d : Data) (a : BaseLeaf BabyBear) → leaf_at place 
 unfolding leaf_at
 leaf_found place d a h = named_found place d (as_str d) a refl h
 
+leaf_written : (d : Data) (a : BaseLeaf BabyBear) → WritesLeaf d a → SpellsLeaf d a
+leaf_written d (leaves.Variable v) h = (variable_data v, h, variable_is_spelt v)
+leaf_written d leaves.IsFirstRow h = h
+leaf_written d leaves.IsLastRow h = h
+leaf_written d leaves.IsTransition h = h
+leaf_written d (leaves.Constant x) h = (number_data x.residue, h, refl)
+
 pub base_kind_laws : KindLaws base_kind
-base_kind_laws = record { found = leaf_found; again = leaf_again }
+base_kind_laws = record { found = leaf_found; again = leaf_again; written = leaf_written; once = λ d e a h k. h ∙ sym k }

@@ -9,8 +9,8 @@ use Rattle.air_symbolic.specs.declared.leaves.base_leaf.BaseLeaf.{BaseLeaf}
 use Rattle.air_symbolic.specs.declared.leaves.base_leaf.BaseLeaf.TheVariants as leaves
 use Rattle.air_wire.specs.Parts.{only_member, whole}
 use Rattle.air_wire.specs.Results.{◌>>=◌}
-use Rattle.air_wire.specs.Entries.{SpellsVariable, variable_of}
-use Rattle.air_wire.specs.Spelling.{IsCase, IsWhole}
+use Rattle.air_wire.specs.Entries.{SpellsVariable, variable_data, variable_of}
+use Rattle.air_wire.specs.Spelling.{number_data, case_data, IsCase, IsWhole}
 use Rattle.air_wire.specs.Nodes.{Kind}
 use Rattle.air_wire.specs.Seen.{WireLaws}
 use Rattle.air_wire.specs.declared.errors.FlatError.{FlatError}
@@ -22,6 +22,18 @@ SpellsLeaf d leaves.IsFirstRow = d ≡ string (codes "IsFirstRow")
 SpellsLeaf d leaves.IsLastRow = d ≡ string (codes "IsLastRow")
 SpellsLeaf d leaves.IsTransition = d ≡ string (codes "IsTransition")
 SpellsLeaf d (leaves.Constant x) = IsCase (codes "Constant") (IsWhole x.residue) d
+
+-- ---- what is written
+
+abbrev pub leaf_data : BaseLeaf BabyBear → Data
+leaf_data (leaves.Variable v) = case_data (codes "Variable") (variable_data v)
+leaf_data leaves.IsFirstRow = string (codes "IsFirstRow")
+leaf_data leaves.IsLastRow = string (codes "IsLastRow")
+leaf_data leaves.IsTransition = string (codes "IsTransition")
+leaf_data (leaves.Constant x) = case_data (codes "Constant") (number_data x.residue)
+
+abbrev pub WritesLeaf : Data → BaseLeaf BabyBear → Type 0
+WritesLeaf d a = d ≡ leaf_data a
 
 -- ---- how a reader finds it
 
@@ -54,11 +66,11 @@ unfoldable pub leaf_at : ℕ → Data → Result (BaseLeaf BabyBear) FlatError
 leaf_at place d = leaf_named place (as_str d) d
 
 abbrev pub base_kind : Kind (BaseLeaf BabyBear) BabyBear
-base_kind = record { spells = SpellsLeaf; leaf_at = leaf_at; term = base_term }
+base_kind = record { spells = SpellsLeaf; writes = WritesLeaf; leaf_at = leaf_at; term = base_term }
 
 -- a base leaf holds no number
 abbrev pub base_seen : Unit {0} → BaseLeaf BabyBear → BaseLeaf BabyBear
 base_seen u a = a
 
 pub base_wire_laws : WireLaws (base_reads {F = BabyBear}) base_grows base_seen base_term
-base_wire_laws = record { term_is = λ u a. refl; kept = λ u v g a h. refl }
+base_wire_laws = record { term_is = λ u a. refl; kept = λ u v g a h. refl; one = λ u a b h k e. e }

@@ -6,6 +6,7 @@ use Rattle.air_field.specs.Ring.{CommRing, Over}
 use Rattle.air_field.specs.Extension.{ExtensionLaws, padded-whole}
 use Rattle.air_field.specs.declared.fields.baby_bear.BabyBear.{BabyBear}
 use Rattle.air_symbolic.specs.PoolLaws.{tree-kept}
+use Rattle.air_symbolic.specs.WholeTrees.{same_leaf}
 use Rattle.air_symbolic.specs.BaseLeaves.{base_reads, base_grows, base_leaf_laws}
 use Rattle.air_symbolic.specs.ExtLeaves.{BaseNodes, ext_grows, ext_reads, ext_valid}
 use Rattle.air_symbolic.specs.ExtTrees.{WholeLeaf, whole_base, whole_variable, whole_constant, whole_leaf}
@@ -15,15 +16,16 @@ use Rattle.air_wire.specs.Parts.{only_member}
 use Rattle.air_wire.specs.Results.{◌>>=◌}
 use Rattle.air_wire.specs.Spelling.{case_data}
 use Rattle.air_wire.specs.Readings.{mapped, done, done_is, not_done, bind_ok, ok_or_found, name_ok, only_found}
-use Rattle.air_wire.specs.ExtEntries.{ext_variable_of}
-use Rattle.air_wire.specs.ExtEntryLaws.{ext_variable_again, ext_variable_found}
+use Rattle.air_wire.specs.ExtEntries.{ext_variable_data, ext_variable_of}
+use Rattle.air_wire.specs.ExtEntryLaws.{ext_variable_is_spelt, ext_variable_again, ext_variable_found}
 use Rattle.air_wire.specs.Coefficients.{number_items, elements_at, elements_found, elements_again}
 use Rattle.air_wire.specs.Seen.{WireLaws}
 use Rattle.air_wire.specs.Nodes.{KindLaws, root_of}
 use Rattle.air_wire.specs.ListLaws.{root_found, root_again}
+use Rattle.air_wire.specs.WrittenLaws.{written_list, one_list}
 use Rattle.air_wire.specs.BaseLeaves.{base_kind}
 use Rattle.air_wire.specs.BaseLeafLaws.{base_kind_laws}
-use Rattle.air_wire.specs.ExtLeaves.{SpellsWhole, whole_term, moved, ext_constant_at, ext_leaf_with, case_ext_leaf, ext_leaf_at, ext_kind}
+use Rattle.air_wire.specs.ExtLeaves.{SpellsWhole, WritesWhole, whole_term, moved, ext_constant_at, ext_leaf_with, case_ext_leaf, ext_leaf_at, ext_kind}
 use Rattle.air_wire.specs.declared.errors.FlatError.{FlatError}
 use Rattle.air_wire.specs.declared.errors.FlatError.TheVariants as faults
 
@@ -44,7 +46,7 @@ module _ {EF : Type 0} (r : CommRing BabyBear) (eq : BabyBear → BabyBear → B
   seen-term u (ExtConstant c) = refl
 
   pub ext_wire_laws : WireLaws (ext_reads r eq coefficients) (λ u v. ext_grows u v) (λ u a. whole_leaf u a) (whole_term coefficients)
-  ext_wire_laws = record { term_is = seen-term; kept = seen-kept }
+  ext_wire_laws = record { term_is = seen-term; kept = seen-kept; one = λ u. same_leaf u }
 
 module _ {EF : Type 0} (r : CommRing BabyBear) (a : Over BabyBear EF) (coefficients : EF → List BabyBear) (count : ℕ) (laws : ExtensionLaws r a coefficients count) where
   -- the element of a list of so many coefficients
@@ -98,5 +100,15 @@ module _ {EF : Type 0} (r : CommRing BabyBear) (a : Over BabyBear EF) (coefficie
   unfolding ext_leaf_at
   ext_leaf_found place d l h = case_found place d (only_member d) l refl h
 
+  ext_leaf_written : (d : Data) (l : WholeLeaf BabyBear EF) → WritesWhole coefficients d l → SpellsWhole coefficients d l
+  ext_leaf_written d (whole_base t) h = (h.0, h.1, written_list base_kind base_kind_laws h.0 t h.2)
+  ext_leaf_written d (whole_variable v) h = (ext_variable_data v, h, ext_variable_is_spelt v)
+  ext_leaf_written d (whole_constant e) h = (array (number_items (coefficients e)), h, refl)
+
+  ext_leaf_once : (d e : Data) (l : WholeLeaf BabyBear EF) → WritesWhole coefficients d l → WritesWhole coefficients e l → d ≡ e
+  ext_leaf_once d e (whole_base t) h k = h.1 ∙ ap (case_data (codes "Base")) (one_list base_kind base_kind_laws h.0 k.0 t h.2 k.2) ∙ sym k.1
+  ext_leaf_once d e (whole_variable v) h k = h ∙ sym k
+  ext_leaf_once d e (whole_constant x) h k = h ∙ sym k
+
   pub ext_kind_laws : KindLaws (ext_kind a coefficients count)
-  ext_kind_laws = record { found = ext_leaf_found; again = ext_leaf_again }
+  ext_kind_laws = record { found = ext_leaf_found; again = ext_leaf_again; written = ext_leaf_written; once = ext_leaf_once }

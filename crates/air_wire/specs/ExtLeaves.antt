@@ -10,11 +10,12 @@ use Rattle.air_symbolic.specs.BaseLeaves.{base_term}
 use Rattle.air_symbolic.specs.ExtTrees.{WholeLeaf, whole_base, whole_variable, whole_constant}
 use Rattle.air_wire.specs.Parts.{only_member}
 use Rattle.air_wire.specs.Results.{◌>>=◌}
-use Rattle.air_wire.specs.Spelling.{IsCase}
-use Rattle.air_wire.specs.ExtEntries.{SpellsExtVariable, ext_variable_of}
+use Rattle.air_wire.specs.Spelling.{case_data, IsCase}
+use Rattle.air_wire.specs.ExtEntries.{SpellsExtVariable, ext_variable_data, ext_variable_of}
 use Rattle.air_wire.specs.Coefficients.{number_items, elements_at}
 use Rattle.air_wire.specs.Nodes.{Kind, root_of}
 use Rattle.air_wire.specs.Good.{IsList}
+use Rattle.air_wire.specs.Written.{IsWritten}
 use Rattle.air_wire.specs.BaseLeaves.{base_kind}
 use Rattle.air_wire.specs.declared.errors.FlatError.{FlatError}
 use Rattle.air_wire.specs.declared.errors.FlatError.TheVariants as faults
@@ -24,6 +25,12 @@ abbrev pub SpellsWhole : {EF : Type 0} → (EF → List BabyBear) → Data → W
 SpellsWhole coefficients d (whole_base t) = IsCase (codes "Base") (λ c. IsList base_kind c t) d
 SpellsWhole coefficients d (whole_variable v) = IsCase (codes "ExtVariable") (λ c. SpellsExtVariable c v) d
 SpellsWhole coefficients d (whole_constant e) = IsCase (codes "ExtConstant") (λ c. c ≡ array (number_items (coefficients e))) d
+
+-- what is written: a Base leaf's list begun anew
+abbrev pub WritesWhole : {EF : Type 0} → (EF → List BabyBear) → Data → WholeLeaf BabyBear EF → Type 0
+WritesWhole coefficients d (whole_base t) = IsCase (codes "Base") (λ c. IsWritten base_kind c t) d
+WritesWhole coefficients d (whole_variable v) = d ≡ case_data (codes "ExtVariable") (ext_variable_data v)
+WritesWhole coefficients d (whole_constant e) = d ≡ case_data (codes "ExtConstant") (array (number_items (coefficients e)))
 
 abbrev pub whole_term : {EF : Type 0} → (EF → List BabyBear) → WholeLeaf BabyBear EF → Term BabyBear
 whole_term coefficients (whole_base t) = term_of base_term t
@@ -65,4 +72,4 @@ ext_leaf_at a count place d = case_ext_leaf a count place (only_member d)
 
 -- extension leaves, with so many coefficients
 abbrev pub ext_kind : {EF : Type 0} → Over BabyBear EF → (EF → List BabyBear) → ℕ → Kind (WholeLeaf BabyBear EF) BabyBear
-ext_kind a coefficients count = record { spells = SpellsWhole coefficients; leaf_at = ext_leaf_at a count; term = whole_term coefficients }
+ext_kind a coefficients count = record { spells = SpellsWhole coefficients; writes = WritesWhole coefficients; leaf_at = ext_leaf_at a count; term = whole_term coefficients }

@@ -11,16 +11,19 @@ use Rattle.air_wire.specs.Seen.{degree}
 use Rattle.air_wire.specs.declared.errors.FlatError.{FlatError}
 use Rattle.air_wire.specs.declared.errors.FlatError.TheVariants as faults
 
--- Leaves of a kind: what spells one, how one is read in the node at a place, and its term.
+-- Leaves of a kind: what spells one, which of these is written, how one is read in the node at a place, and its term.
 pub record Kind (S F : Type 0) : Type 1 where
   pub spells : Data → S → Type 0
+  pub writes : Data → S → Type 0
   pub leaf_at : ℕ → Data → Result S FlatError
   pub term : S → Term F
 
--- read is what is spelt
+-- read is what is spelt, and written one spelling
 pub record KindLaws {S F : Type 0} (kind : Kind S F) : Type 0 where
   pub found : (place : ℕ) (d : Data) (a : S) → kind.leaf_at place d ≡ Ok a → kind.spells d a
   pub again : (place : ℕ) (d : Data) (a : S) → kind.spells d a → kind.leaf_at place d ≡ Ok a
+  pub written : (d : Data) (a : S) → kind.writes d a → kind.spells d a
+  pub once : (d e : Data) (a : S) → kind.writes d a → kind.writes e a → d ≡ e
 
 -- ---- a node that stands behind the trees of done
 

@@ -24,7 +24,8 @@ seen_at seen p i = over (seen p.0) (tree_at p i)
 abbrev pub degree : {S F : Type 0} → (S → Term F) → Tree S → ℕ
 degree term t = degree_by cached_weight (term_of term t)
 
--- A leaf's term is that of what is seen of it, and what is seen of a valid leaf stays.
+-- A leaf's term is that of what is seen of it; what is seen of a valid leaf stays, and is seen of that leaf alone.
 pub record WireLaws {U A S F : Type 0} (reads : U → Leaves A F) (grows : U → U → Type 0) (seen : U → A → S) (term : S → Term F) : Type 0 where
   pub term_is : (u : U) (a : A) → term (seen u a) ≡ (reads u).term a
   pub kept : (u v : U) → grows u v → (a : A) → (reads u).valid a → seen v a ≡ seen u a
+  pub one : (u : U) (a b : A) → (reads u).valid a → (reads u).valid b → seen u a ≡ seen u b → a ≡ b

@@ -1,17 +1,18 @@
 //! Base leaves in lists of nodes.
-ghost use Rattle.std.specs.Prelude.{◌≡◌, ◌<◌};
+ghost use Rattle.std.specs.Prelude.{◌≡◌, ◌<◌, IfOk};
 ghost use Rattle.serde_json.specs.View.{view};
 ghost use Rattle.air_field.specs.Modulo.{class};
-ghost use Rattle.air_wire.specs.BaseLeaves.{element_at, leaf_at};
+ghost use Rattle.air_wire.specs.BaseLeaves.{element_at, leaf_at, leaf_data};
+ghost use Rattle.air_wire.specs.Spelling.{number_data};
 
-use crate::entries::variable_from;
+use crate::entries::{variable_from, variable_value};
 use crate::errors::FlatError;
 use crate::parts::{only_member, whole};
 use crate::wire_leaf::WireLeaf;
 use air_field::BabyBear;
 use air_symbolic::BaseLeaf;
-use serde_json::Value;
-use std::alloc::Global;
+use serde_json::{Value, json};
+use std::alloc::{AllocError, Global};
 
 pub(crate) fn class_of(number: u32) -> BabyBear
     ensures { result ≡ class number }
@@ -21,7 +22,7 @@ pub(crate) fn class_of(number: u32) -> BabyBear
 
 /// The field element that the value spells by its canonical number.
 #[tactic(auto, unfolding(crate::specs::BaseLeaves::element_at))]
-pub(crate) fn element_from(at: usize, value: &Value) -> Result<BabyBear, FlatError>
+pub fn element_from(at: usize, value: &Value) -> Result<BabyBear, FlatError>
     ensures { result ≡ element_at at (view value.now) }
 {
     let number = whole(value).ok_or(FlatError::Shape { at })?;
@@ -60,6 +61,30 @@ fn base_leaf_from(at: usize, value: &Value) -> Result<BaseLeaf<BabyBear>, FlatEr
     }
 }
 
+pub(crate) fn element_value(element: BabyBear) -> Value
+    ensures { view result ≡ number_data element.residue }
+{
+    Value::from(element.as_canonical_u64())
+}
+
+fn base_leaf_value(alloc: Global, leaf: &BaseLeaf<BabyBear>) -> Result<Value, AllocError>
+    ensures { IfOk result (λ v. view v ≡ leaf_data leaf.now) }
+{
+    match leaf {
+        BaseLeaf::Variable(variable) => {
+            let contents = variable_value(alloc, variable)?;
+            json!(in alloc; {"Variable": contents})
+        }
+        BaseLeaf::IsFirstRow => json!(in alloc; "IsFirstRow"),
+        BaseLeaf::IsLastRow => json!(in alloc; "IsLastRow"),
+        BaseLeaf::IsTransition => json!(in alloc; "IsTransition"),
+        BaseLeaf::Constant(element) => {
+            let contents = element_value(*element);
+            json!(in alloc; {"Constant": contents})
+        }
+    }
+}
+
 impl WireLeaf for BaseLeaf<BabyBear> {
     ghost use Rattle.air_field.specs.declared.fields.baby_bear.BabyBear.{BabyBear};
     ghost use Rattle.air_symbolic.specs.declared.leaves.base_leaf.BaseLeaf.{BaseLeaf};
@@ -79,6 +104,10 @@ impl WireLeaf for BaseLeaf<BabyBear> {
         value: &Value,
     ) -> Result<Self, FlatError> {
         base_leaf_from(at, value)
+    }
+
+    fn leaf_value(&self, alloc: Global, _under: &()) -> Result<Value, FlatError> {
+        Ok(base_leaf_value(alloc, self)?)
     }
 
     ghost wire_laws = { base_wire_laws };

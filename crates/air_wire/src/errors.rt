@@ -1,9 +1,10 @@
 //! Why a value could not be read, or written.
 ghost use Rattle.std.specs.Prelude.{◌≡◌};
-ghost use Rattle.air_wire.specs.Faults.{ring_fault};
+ghost use Rattle.air_wire.specs.Faults.{ring_fault, air_fault};
 ghost use Rattle.air_wire.specs.declared.errors.FlatError.TheVariants.{Memory};
 
 use air_field::RingError;
+use air_windows::AirError;
 use std::alloc::{AllocError, AllocFailed};
 use thiserror::Error;
 
@@ -67,6 +68,26 @@ impl From<RingError> for FlatError {
         match e {
             RingError::Memory => FlatError::Memory,
             RingError::DegreeOverflow => FlatError::DegreeOverflow,
+        }
+    }
+}
+
+impl From<FlatError> for AirError {
+    ghost from_gives = { λ f e. e ≡ air_fault f };
+
+    fn from(f: FlatError) -> AirError {
+        match f {
+            FlatError::Memory => AirError::Memory,
+            FlatError::DegreeOverflow => AirError::DegreeOverflow,
+            FlatError::Shape { at } => AirError::Shape { at },
+            FlatError::EmptyList => AirError::EmptyList,
+            FlatError::Operand { at, operand } => AirError::Operand { at, operand },
+            FlatError::WrongDegree { at, stated, found } => AirError::WrongDegree {
+                at,
+                stated,
+                found,
+            },
+            FlatError::NotCanonical { at } => AirError::NotCanonical { at },
         }
     }
 }

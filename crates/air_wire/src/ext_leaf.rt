@@ -1,29 +1,34 @@
 //! Extension leaves in lists of nodes.
-ghost use Rattle.std.specs.Prelude.{◌≡◌, ◌<◌, length, map, IfOk, ok_or};
+ghost use Rattle.std.specs.Prelude.{◌≡◌, ◌<◌, length, map, IfOk, IfErr, ok_or, codes};
+ghost use Rattle.serde_json.specs.Data.{array};
 ghost use Rattle.serde_json.specs.View.{view, items_view};
 ghost use Rattle.air_symbolic.specs.Pools.{IsPool, Grown, tree_at};
 ghost use Rattle.air_symbolic.specs.BaseLeaves.{base_reads, base_grows};
 ghost use Rattle.air_symbolic.specs.ExtLeaves.{ext_valid};
 ghost use Rattle.air_symbolic.specs.ExtTrees.{whole_leaf};
 ghost use Rattle.air_wire.specs.Results.{Gives};
-ghost use Rattle.air_wire.specs.Coefficients.{wholes, if_canonical, elements_at};
+ghost use Rattle.air_wire.specs.Spelling.{case_data};
+ghost use Rattle.air_wire.specs.Coefficients.{number_items, wholes, if_canonical, elements_at};
 ghost use Rattle.air_wire.specs.BaseLeaves.{base_kind};
 ghost use Rattle.air_wire.specs.Nodes.{root_of};
-ghost use Rattle.air_wire.specs.ExtLeaves.{at_place, moved, ext_constant_at, ext_leaf_at};
+ghost use Rattle.air_wire.specs.ExtEntries.{ext_variable_data};
+ghost use Rattle.air_wire.specs.ExtLeaves.{WritesWhole, at_place, moved, ext_constant_at, ext_leaf_at};
 
-use crate::base_leaf::class_of;
+use crate::base_leaf::{class_of, element_value};
 use crate::errors::FlatError;
-use crate::ext_entries::ext_variable_from;
+use crate::ext_entries::{ext_variable_from, ext_variable_value};
 use crate::lists::list_from;
 use crate::parts::{only_member, whole};
 use crate::wire_leaf::WireLeaf;
+use crate::written_lists::to_flat_value;
 use air_field::{BabyBear, ExtensionField};
 use air_symbolic::{BaseLeaf, ExprId, ExprPool, ExtLeaf};
-use serde_json::Value;
-use std::alloc::Global;
+use air_variables::SymbolicVariableExt;
+use serde_json::{Value, json};
+use std::alloc::{AllocError, Global};
 
 // The whole numbers of a list.
-fn wholes(alloc: Global, at: usize, items: &[Value]) -> Result<Vec<usize>, FlatError>
+pub(crate) fn wholes(alloc: Global, at: usize, items: &[Value]) -> Result<Vec<usize>, FlatError>
     ensures { Gives (λ v. v.items) result
         (ok_or (wholes (items_view items.now)) (FlatError.Shape at)) }
 {
@@ -146,6 +151,66 @@ fn ext_leaf_from<EF: ExtensionField<BabyBear>>(
     }
 }
 
+// The list of the elements' canonical numbers.
+fn elements_value(alloc: Global, elements: &[BabyBear]) -> Result<Value, AllocError>
+    ensures { IfOk result (λ v. view v ≡ array (number_items elements.now)) }
+{
+    let mut items = Vec::new(alloc);
+    for element in elements {
+        items.push(element_value(*element))?;
+    }
+    Ok(Value::from(items))
+}
+
+fn base_value(alloc: Global, list: Value) -> Result<Value, AllocError>
+    ensures { IfOk result (λ v. view v ≡ case_data (codes "Base") (view list)) }
+{
+    json!(in alloc; {"Base": list})
+}
+
+fn constant_value<EF: ExtensionField<BabyBear>>(
+    alloc: Global,
+    element: &EF,
+) -> Result<Value, AllocError>
+    ensures { IfOk result (λ v. view v ≡ case_data (codes "ExtConstant")
+        (array (number_items (EF.coefficients element.now)))) }
+{
+    let contents = elements_value(alloc, element.as_basis_coefficients_slice())?;
+    json!(in alloc; {"ExtConstant": contents})
+}
+
+fn variable_value<EF: ExtensionField<BabyBear>>(
+    alloc: Global,
+    variable: &SymbolicVariableExt<BabyBear, EF>,
+) -> Result<Value, AllocError>
+    ensures { IfOk result (λ v. view v ≡ case_data (codes "ExtVariable")
+        (ext_variable_data variable.now)) }
+{
+    let contents = ext_variable_value(alloc, variable)?;
+    json!(in alloc; {"ExtVariable": contents})
+}
+
+fn ext_leaf_value<EF: ExtensionField<BabyBear>>(
+    alloc: Global,
+    under: &ExprPool<BaseLeaf<BabyBear>>,
+    leaf: &ExtLeaf<BabyBear, EF>,
+) -> Result<Value, FlatError>
+    requires pool { IsPool base_reads under.now }
+    requires valid { ext_valid under.now leaf.now }
+    ensures written { IfOk result (λ v. WritesWhole EF.coefficients (view v)
+        (whole_leaf under.now leaf.now)) }
+    ensures refused { IfErr result (λ e. e ≡ FlatError.Memory) }
+{
+    match leaf {
+        ExtLeaf::Base(id) => {
+            let list = to_flat_value(alloc, under, *id)?;
+            Ok(base_value(alloc, list)?)
+        }
+        ExtLeaf::ExtVariable(variable) => Ok(variable_value(alloc, variable)?),
+        ExtLeaf::ExtConstant(element) => Ok(constant_value(alloc, element)?),
+    }
+}
+
 impl<EF: ExtensionField<BabyBear>> WireLeaf for ExtLeaf<BabyBear, EF> {
     ghost use Rattle.air_field.specs.Modulo.{baby_bear_ring};
     ghost use Rattle.air_field.specs.declared.fields.baby_bear.BabyBear.{BabyBear};
@@ -166,6 +231,14 @@ impl<EF: ExtensionField<BabyBear>> WireLeaf for ExtLeaf<BabyBear, EF> {
         value: &Value,
     ) -> Result<Self, FlatError> {
         ext_leaf_from(alloc, at, under, value)
+    }
+
+    fn leaf_value(
+        &self,
+        alloc: Global,
+        under: &ExprPool<BaseLeaf<BabyBear>>,
+    ) -> Result<Value, FlatError> {
+        ext_leaf_value(alloc, under, self)
     }
 
     ghost wire_laws = { ext_wire_laws baby_bear_ring ⟦<BabyBear as PartialEq>⟧.eq EF.coefficients };

@@ -3,6 +3,7 @@ ghost use Rattle.std.specs.Prelude.{◌≡◌, List, Err};
 ghost use Rattle.serde_json.specs.Data.{Data};
 ghost use Rattle.air_symbolic.specs.Trees.{Tree};
 ghost use Rattle.air_wire.specs.Good.{IsList, HasFault};
+ghost use Rattle.air_wire.specs.Written.{IsWritten};
 ghost use Rattle.air_wire.specs.Nodes.{node_at};
 ghost use Rattle.air_wire.specs.Forms.{NodeFault};
 ghost use Rattle.air_wire.specs.declared.errors.FlatError.{FlatError};
@@ -17,6 +18,16 @@ pub fn lists_are_read_one_way<A: WireLeaf>()
         HasFault A.kind d f → ⊥ }
     ensures one_fault { (d : Data) (f g : FlatError) → HasFault A.kind d f → HasFault A.kind d g →
         f ≡ g }
+{}
+
+/// What is written for a tree is a list of that tree, one value and no other; so two trees are equal exactly if their
+/// written lists are.
+pub fn lists_are_written_one_way<A: WireLeaf>()
+    ensures list { (d : Data) (t : Tree A.Seen) → IsWritten A.kind d t → IsList A.kind d t }
+    ensures one_list { (d e : Data) (t : Tree A.Seen) → IsWritten A.kind d t →
+        IsWritten A.kind e t → d ≡ e }
+    ensures one_tree { (d : Data) (t u : Tree A.Seen) → IsWritten A.kind d t →
+        IsWritten A.kind d u → t ≡ u }
 {}
 
 /// The fault of a node that isn't read: it has no form, or the first fault of its form.

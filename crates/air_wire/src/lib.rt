@@ -1,7 +1,8 @@
-//! The wire form: entries, variables and expressions as JSON values.
+//! The wire form: entries, variables, boundary cells and expressions as JSON values.
 #![tactic(auto)]
 
 mod base_leaf;
+mod boundary;
 mod entries;
 mod errors;
 mod ext_entries;
@@ -9,11 +10,17 @@ mod ext_leaf;
 pub mod laws;
 mod lists;
 mod nodes;
-mod parts;
+pub mod parts;
 mod spelled;
+pub mod whole_lists;
 mod wire_leaf;
+mod written_lists;
+mod written_nodes;
 
+pub use base_leaf::element_from;
 pub use errors::FlatError;
 pub use lists::from_flat_value;
+pub use parts::{whole, whole_at};
 pub use spelled::Spelled;
 pub use wire_leaf::WireLeaf;
+pub use written_lists::to_flat_value;

@@ -19,7 +19,7 @@ pub(crate) fn only_member(value: &Value) -> Option<(&str, &Value)>
 }
 
 /// A whole number from 0 on that fits 64 bits.
-pub(crate) fn whole(value: &Value) -> Option<usize>
+pub fn whole(value: &Value) -> Option<usize>
     ensures { result ≡ whole (view value.now) }
 {
     let number = value.as_u64()?;
@@ -27,7 +27,7 @@ pub(crate) fn whole(value: &Value) -> Option<usize>
 }
 
 /// The whole number that is a field of an object.
-pub(crate) fn whole_at(value: &Value, name: &str) -> Option<usize>
+pub fn whole_at(value: &Value, name: &str) -> Option<usize>
     ensures { result ≡ whole_at name.now (view value.now) }
 {
     whole(value.get(name)?)

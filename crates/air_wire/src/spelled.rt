@@ -15,6 +15,9 @@ pub trait Spelled {
     // The value spells it, by the rules of reading.
     ghost spells: { Data → Self → Type 0 };
 
+    // They hold the same: where no memory is kept, they are equal.
+    ghost same: { Self → Self → Type 0 } = { λ x y. x ≡ y };
+
     /// The spelling.
     fn to_value(&self, alloc: Global) -> Result<Value, FlatError>
         ensures written { IfOk result (λ v. view v ≡ spelling self.now) }
@@ -32,5 +35,5 @@ pub trait Spelled {
     // What is written spells what it was written for, and a value spells one at most.
     ghost is_spelt: { (x : Self) → spells (spelling x) x };
 
-    ghost is_only: { (d : Data) (x y : Self) → spells d x → spells d y → x ≡ y };
+    ghost is_only: { (d : Data) (x y : Self) → spells d x → spells d y → same x y };
 }

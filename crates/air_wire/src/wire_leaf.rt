@@ -1,5 +1,5 @@
 //! Leaves that stand in lists of nodes.
-ghost use Rattle.std.specs.Prelude.{IfOk};
+ghost use Rattle.std.specs.Prelude.{◌≡◌, IfOk, IfErr};
 ghost use Rattle.serde_json.specs.View.{view};
 ghost use Rattle.air_wire.specs.Nodes.{Kind, KindLaws};
 ghost use Rattle.air_wire.specs.Results.{Gives};
@@ -10,7 +10,7 @@ use air_symbolic::SymLeaf;
 use serde_json::Value;
 use std::alloc::Global;
 
-/// A leaf that can be read from a value.
+/// A leaf that can be read from a value and written as one.
 pub trait WireLeaf: SymLeaf {
     // A leaf that holds no number of a pool.
     ghost Seen: { Type 0 };
@@ -32,6 +32,13 @@ pub trait WireLeaf: SymLeaf {
         ensures grown { Self.grows under.old under.new }
         ensures valid { IfOk result (λ a. (Self.reads under.new).valid a) }
         ensures read { Gives (seen under.new) result (kind.leaf_at at (view value.now)) };
+
+    /// What is written for the leaf.
+    fn leaf_value(&self, alloc: Global, under: &Self::Under) -> Result<Value, FlatError>
+        requires sound { (Self.reads under.now).sound }
+        requires valid { (Self.reads under.now).valid self.now }
+        ensures written { IfOk result (λ v. kind.writes (view v) (seen under.now self.now)) }
+        ensures refused { IfErr result (λ e. e ≡ FlatError.Memory) };
 
     ghost wire_laws: { WireLaws Self.reads Self.grows seen kind.term };
 

@@ -1,10 +1,8 @@
 -- What is recorded, place by place, and its degrees.
-use Rattle.std.proofs.Common.{◌≡◌, ◌≢◌, ℕ, zero, suc, ◌+◌, ◌-◌, ◌*◌, ◌<◌, ◌≤◌, max, List, [], ◌∷◌, ◌++◌, map, length, slice_index_or, Bool, true, false, not, Option, None, Some, slice_get, refl, sym, ap, ap₂, ◌∙◌, subst, arith, add-one, cond}
+use Rattle.std.proofs.Common.{◌≡◌, ℕ, zero, suc, ◌+◌, List, [], ◌∷◌, ◌++◌, map, length, Bool, true, false, not, Option, Some, slice_get, refl, sym, ap, ap₂, ◌∙◌, arith, cond}
 use Rattle.std.specs.List.{filter, enumerate_from}
-use Rattle.std.proofs.Math.Nat.{max-le, le-max_left, le-max_right}
 use Rattle.air_field.specs.Ring.{CommRing, Over, itself}
 use Rattle.air_field.specs.Term.{Leaf, Term}
-use Rattle.air_field.specs.Degree.{degree_by, greatest_degree}
 use Rattle.air_field.specs.Assignment.{Trace, row_assignment}
 use Rattle.air_builder.specs.Assertion.{Assertion, Base, Extension}
 use Rattle.p3_air.specs.Audits.{RecordsAssertion, RecordsEach}

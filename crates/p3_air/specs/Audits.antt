@@ -1,5 +1,5 @@
 -- What an audit answers and refuses.
-use Rattle.std.specs.Prelude.{◌≡◌, ◌⊎◌, ℕ, ◌≤◌, ◌^◌, List, [], ◌∷◌, ◌++◌, Bool, Option, None, Some, length, map, slice_get}
+use Rattle.std.specs.Prelude.{◌≡◌, ◌⊎◌, ℕ, ◌≤◌, ◌^◌, List, ◌++◌, Bool, Option, None, Some, length, map, slice_get}
 use Rattle.std.specs.List.{AllZip}
 use Rattle.air_field.specs.Ring.{CommRing, Over, itself}
 use Rattle.air_field.specs.Term.{Leaf, Term}
@@ -11,21 +11,22 @@ use Rattle.air_symbolic.specs.Leaves.{Leaves}
 use Rattle.air_symbolic.specs.Pools.{term_at}
 use Rattle.air_symbolic.specs.declared.pools.expr.SymbolicExpr.{SymbolicExpr}
 use Rattle.air_builder.specs.Assertion.{Assertion, Base, Extension}
+use Rattle.air_builder.specs.Beside.{Beside, table_width}
 use Rattle.air_builder.specs.Refusals.{NoneMissing}
 use Rattle.air_windows.specs.declared.errors.AirError.{AirError}
 use Rattle.air_windows.specs.declared.errors.AirError.TheVariants.{DegreeOverflow}
-use Rattle.air_report.specs.Cells.{cell_place, differing}
+use Rattle.air_report.specs.Cells.{cell_place, differing, left_of}
 use Rattle.air_report.specs.Checks.{IsReport, CheckRefuses}
 use Rattle.air_recording.specs.Bounds.{bound_of, PolynomialsWithin, IsDegreeFor}
 use Rattle.air_recording.specs.Folds.{ArePlacesOf}
 use Rattle.air_report.specs.Given.{Given, given_trace, height}
 use Rattle.air_recording.specs.Inferred.{periods_of}
 use Rattle.air_recording.specs.Kinds.{kind_of, base_terms, ext_terms}
-use Rattle.air_recording.specs.Layouts.{layout_shape}
+use Rattle.air_recording.specs.Layouts.{layout_shape, air_layout}
 use Rattle.air_recording.specs.Recorded.{RecordsTerm, EachRecords, RecordsBase, RecordsExt, terms_of}
 use Rattle.air_recording.specs.Recording.{IsOver}
 use Rattle.air_builder.specs.Refused.{Refused}
-use Rattle.air_report.specs.Report.{assertion_value, report_of, failure_place, count_shown}
+use Rattle.air_report.specs.Report.{assertion_value, report_of, failure_place, IsRowsShown, count_shown}
 use Rattle.p3_air.specs.declared.audit.Audit.{Audit}
 use Rattle.air_recording.specs.declared.layouts.air_layout.AirLayout.{AirLayout}
 use Rattle.air_recording.specs.declared.symbolic.record.Recorded.{Recorded}
@@ -66,42 +67,62 @@ pub record IsRecording {F : Type 0} (r : CommRing F) (eq : F → F → Bool) (co
 abbrev pub values_at_row : {F : Type 0} → CommRing F → Given F → ℕ → List (Assertion F) → List F
 values_at_row r g row ts = map (assertion_value r (row_assignment r (given_trace g) row)) ts
 
--- where the failures of an uncapped report stand: the nonzero pairs of row and place, and then the differing cells
-abbrev pub all_failures : {F : Type 0} → CommRing F → (F → F → Bool) → Given F → List (Assertion F) → List (ℕ × ℕ)
-all_failures r eq g ts =
-    report_of r eq (given_trace g) ts (height g)
-    ++ map (cell_place (height g) (count_shown ts (height g))) (differing r eq g.main g.public g.beside.cells)
+-- where failures stand that are reported of the first n rows: the nonzero pairs of row and place, and then the differing
+-- cells, as many as the cap leaves
+abbrev pub failures_within : {F : Type 0} → CommRing F → (F → F → Bool) → Given F → Option ℕ → List (Assertion F) → ℕ → List (ℕ × ℕ)
+failures_within r eq g cap ts n =
+    report_of r eq (given_trace g) ts n
+    ++ map (cell_place (height g) (count_shown ts n)) (left_of cap (length (report_of r eq (given_trace g) ts n)) (differing r eq g.main g.public g.beside.cells))
+
+-- The report lists these failures of the rows that the cap shows; without a cap these are all rows, and all differing cells.
+pub record ListsFailures {F : Type 0} (r : CommRing F) (eq : F → F → Bool) (g : Given F) (cap : Option ℕ) (ts : List (Assertion F)) (report : ConstraintReport) : Type 0 where
+  pub shown : ℕ
+  pub is_shown : IsRowsShown r eq (given_trace g) ts cap (height g) shown
+  pub places : map failure_place report.failures.items ≡ failures_within r eq g cap ts shown
 
 -- the degrees of the leaves' polynomials over the trace's rows
 abbrev pub weights_of_trace : {F : Type 0} → Given F → Leaf → ℕ
 weights_of_trace g = trace_weight (height g) (periods_of g.beside.periodic)
 
--- The audit theorem. What is recorded at each place has at each row the value tested there; the report lists exactly the
--- nonzero pairs of row and place, in order, and then the differing cells; each recorded polynomial has degree at most
--- d (n - 1) + 1 over n rows, n at least 2; and for n at least 3 the recorded terms allow no smaller d.
-pub record IsAudit {F : Type 0} (r : CommRing F) (eq : F → F → Bool) (coefficients : F → List F) (g : Given F) (audit : Audit F) : Type 0 where
+-- The audit theorem, under a cap. What is recorded at each place has at each row the value tested there; the report lists
+-- exactly the nonzero pairs of row and place, in order, of the rows that the cap shows, and then the differing cells, as
+-- many as it leaves; each recorded polynomial has degree at most d (n - 1) + 1 over n rows, n at least 2; and for n at
+-- least 3 the recorded terms allow no smaller d.
+pub record IsAuditUnder {F : Type 0} (r : CommRing F) (eq : F → F → Bool) (coefficients : F → List F) (g : Given F) (cap : Option ℕ) (audit : Audit F) : Type 0 where
   pub recorded : List (Assertion F)
   pub recording : IsRecording r eq coefficients g.terms recorded audit
   pub values : (row : ℕ) → values_at_row r g row recorded ≡ values_at_row r g row g.terms
-  pub report : IsReport r eq g None audit.report
-  pub lists : map failure_place audit.report.failures.items ≡ all_failures r eq g recorded
+  pub report : IsReport r eq g cap audit.report
+  pub lists : ListsFailures r eq g cap recorded audit.report
   pub degree : IsDegreeFor (height g) (periods_of g.beside.periodic) (all_terms r eq coefficients audit.recorded) audit.degree
   pub bounded : 2 ≤ height g → PolynomialsWithin (itself r) (weights_of_trace g) (bound_of audit.degree (height g)) (all_terms r eq coefficients audit.recorded)
 
+-- without a cap
+abbrev pub IsAudit : {F : Type 0} → CommRing F → (F → F → Bool) → (F → List F) → Given F → Audit F → Type 0
+IsAudit r eq coefficients g audit = IsAuditUnder r eq coefficients g None audit
+
 -- the check had answered, and of terms that record the declared list one has a degree past `usize` over the trace's rows
-pub record IsDegreePast {F : Type 0} (r : CommRing F) (eq : F → F → Bool) (g : Given F) : Type 0 where
+pub record IsDegreePast {F : Type 0} (r : CommRing F) (eq : F → F → Bool) (g : Given F) (cap : Option ℕ) : Type 0 where
   pub report : ConstraintReport
-  pub checked : IsReport r eq g None report
+  pub checked : IsReport r eq g cap report
   pub base : List (Term F)
   pub ext : List (Term F)
   pub base_recorded : EachRecords (itself r) base (base_terms g.terms)
   pub ext_recorded : EachRecords (itself r) ext (ext_terms g.terms)
   pub past : 2 ^ 64 ≤ greatest_degree (weights_of_trace g) (base ++ ext)
 
--- An audit refuses what the recording refuses: want of memory, a declared term that names an entry missing in the
--- AIR's own layout, or one whose cached degree passes `usize`. Where no entry is missing there it refuses what the
--- check without a cap refuses, and, where the check answers, a degree over the trace's rows past `usize`.
-abbrev pub AuditRefuses : {F : Type 0} → CommRing F → (F → F → Bool) → AirLayout → Given F → AirError → Type 0
-AuditRefuses r eq layout g e =
+-- the layout of an AIR that has this beside its main trace, of this width and so many public values
+abbrev pub own_layout : {F : Type 0} → Beside F → ℕ → ℕ → AirLayout
+own_layout beside width public = air_layout (table_width beside.preprocessed) width public (length beside.periodic)
+
+-- An audit under a cap refuses what the recording refuses: want of memory, a declared term that names an entry missing in
+-- the AIR's own layout, or one whose cached degree passes `usize`. Where no entry is missing there it refuses what the
+-- check under the cap refuses, and, where the check answers, a degree over the trace's rows past `usize`.
+abbrev pub AuditRefusesUnder : {F : Type 0} → CommRing F → (F → F → Bool) → AirLayout → Given F → Option ℕ → AirError → Type 0
+AuditRefusesUnder r eq layout g cap e =
     Refused (IsMissing (layout_shape layout)) (IsOver cached_weight) (λ _. ⊥) e g.terms
-    ⊎ (NoneMissing (IsMissing (layout_shape layout)) g.terms × (CheckRefuses r eq g None e ⊎ ((e ≡ DegreeOverflow) × IsDegreePast r eq g)))
+    ⊎ (NoneMissing (IsMissing (layout_shape layout)) g.terms × (CheckRefuses r eq g cap e ⊎ ((e ≡ DegreeOverflow) × IsDegreePast r eq g cap)))
+
+-- without a cap
+abbrev pub AuditRefuses : {F : Type 0} → CommRing F → (F → F → Bool) → AirLayout → Given F → AirError → Type 0
+AuditRefuses r eq layout g e = AuditRefusesUnder r eq layout g None e

@@ -1,7 +1,7 @@
 //! The audit: an AIR is recorded and checked at once, so that what is recorded is what is tested.
 ghost use Rattle.std.specs.Prelude.{length, IfOk, IfErr};
 ghost use Rattle.air_builder.specs.Beside.{table_width};
-ghost use Rattle.p3_air.specs.Audits.{IsAudit, AuditRefuses};
+ghost use Rattle.p3_air.specs.Audits.{IsAudit, IsAuditUnder, AuditRefuses, AuditRefusesUnder, own_layout};
 ghost use Rattle.air_report.specs.Given.{given};
 ghost use Rattle.air_recording.specs.Layouts.{air_layout};
 
@@ -20,7 +20,7 @@ pub struct Audit<F: SelfExtension> {
     pub recorded: Recorded<F, F>,
     /// The places of the recorded constraints among all of them.
     pub layout: ConstraintLayout,
-    /// Where the constraints and the boundary cells fail, without a cap.
+    /// Where the constraints and the boundary cells fail.
     pub report: ConstraintReport,
     /// The degree that is inferred for the trace's height.
     pub degree: usize,
@@ -48,10 +48,32 @@ pub fn audit_air<
     ensures audited { IfOk result (IsAudit F.ring F.eq F.coefficients (given (A.declared air.now) (A.beside air.now) main.now public_values.now)) }
     ensures refused { IfErr result (AuditRefuses F.ring F.eq (air_layout (table_width (A.beside air.now).preprocessed) (A.width air.now) (A.num_public_values air.now) (length (A.beside air.now).periodic)) (given (A.declared air.now) (A.beside air.now) main.now public_values.now)) }
 {
+    audit_air_with_cap(alloc, air, main, public_values, None)
+}
+
+/// The audit of `audit_air` with a check that runs no further row, and lists no further cell, once it has
+/// `max_failures` failures; a row that runs is reported whole.
+pub fn audit_air_with_cap<
+    'a,
+    F: SelfExtension + 'static,
+    A: BaseAir<F> + Air<SymbolicAirBuilder<F, F>> + Air<DebugConstraintBuilder<'a, F, F>>,
+>(
+    alloc: Global,
+    air: &'a A,
+    main: &'a RowMajorMatrix<F>,
+    public_values: &'a [F],
+    max_failures: Option<usize>,
+) -> Result<Audit<F>, AirError>
+    ensures audited { IfOk result (IsAuditUnder F.ring F.eq F.coefficients
+        (given (A.declared air.now) (A.beside air.now) main.now public_values.now) max_failures) }
+    ensures refused { IfErr result (AuditRefusesUnder F.ring F.eq
+        (own_layout (A.beside air.now) (A.width air.now) (A.num_public_values air.now))
+        (given (A.declared air.now) (A.beside air.now) main.now public_values.now) max_failures) }
+{
     let builder: SymbolicAirBuilder<F, F> = record(alloc, air, AirLayout::from_air::<F, A>(air))?;
     let layout = builder.constraint_layout()?;
     let recorded = builder.into_recorded();
-    let report = check_all_constraints(alloc, air, main, public_values, None)?;
+    let report = check_all_constraints(alloc, air, main, public_values, max_failures)?;
     let periods = lengths_of(alloc, air.periodic_columns())?;
     let degree = degree_of(&recorded, main.height(), &periods)?;
     Ok(Audit {

@@ -2,8 +2,9 @@
 //!
 //! An AIR implements [`BaseAir`] and [`Air`]; [`get_symbolic_constraints`] records it, [`check_all_constraints`] checks
 //! a trace of it, and [`get_max_constraint_degree`] infers its degree. [`audit_air`] does all three: what it recorded is
-//! what it tested. Constraints as values stand in [`author`], the recorded expressions in [`symbolic`], bits and words in
-//! [`utils`]. The public items of the crates below are passed on here.
+//! what it tested. Constraints as values stand in [`author`], the recorded expressions and their JSON values in [`symbolic`],
+//! bits and words in [`utils`]. An AIR from outside, made of expressions of a pool, is a [`FlatAir`]; [`resolve`] works one
+//! such expression out in any builder. The public items of the crates below are passed on here.
 #![tactic(auto)]
 
 pub mod audit;
@@ -23,6 +24,7 @@ pub use air_field::{
     FieldRing, FromVar, MatrixError, PrimeField, RingError, RowMajorMatrix, RowMajorMatrixView,
     SelfExtension, ViewPair,
 };
+pub use air_flat::{FlatAir, resolve, resolve_all};
 pub use air_gadgets::{PairCol, VirtualPairCol};
 pub use air_recording::{
     AirLayout, ConstraintLayout, Recorded, SymbolicAirBuilder, constraint_degree_from_poly_degree,
@@ -40,4 +42,5 @@ pub use air_symbolic::{
 };
 pub use air_variables::{BaseEntry, ExtEntry, SymbolicVariable, SymbolicVariableExt};
 pub use air_windows::boundary;
-pub use audit::{Audit, audit_air};
+pub use air_wire::{FlatError, Spelled, WireLeaf, from_flat_value, to_flat_value};
+pub use audit::{Audit, audit_air, audit_air_with_cap};

@@ -1,6 +1,7 @@
 //! Symbolic expressions: leaves and variables, the pools in which each tree stands once, the builder that records an AIR
-//! in them, and the degree of what it recorded.
+//! in them, the degree of what it recorded, all of these as JSON values, and the AIR that such expressions are.
 
+pub use air_flat::{FlatAir, resolve, resolve_all};
 pub use air_recording::{
     AirLayout, ConstraintLayout, Recorded, SymbolicAirBuilder, constraint_degree_from_poly_degree,
     get_all_symbolic_constraints, get_constraint_layout, get_max_constraint_degree,
@@ -12,3 +13,4 @@ pub use air_symbolic::{
     SymbolicExpression, SymbolicExpressionExt,
 };
 pub use air_variables::{BaseEntry, ExtEntry, SymbolicVariable, SymbolicVariableExt};
+pub use air_wire::{FlatError, Spelled, WireLeaf, from_flat_value, to_flat_value};

@@ -1,11 +1,11 @@
 //! Constraints of one assertion.
-ghost use Rattle.std.specs.Prelude.{[], ◌∷◌};
+ghost use Rattle.std.specs.Prelude.{⊤, [], ◌∷◌};
 ghost use Rattle.air_field.specs.Algebra.{bool_check_term};
 ghost use Rattle.air_field.specs.Term.{Term, sub_term};
 ghost use Rattle.air_builder.specs.Assertion.{Base};
 ghost use Rattle.air_builder.specs.Builders.{Means, less_one_term};
 ghost use Rattle.air_author.specs.Constraints.{Asserted};
-ghost use Rattle.air_author.specs.Expressions.{Made};
+ghost use Rattle.air_author.specs.Expressions.{Made, Lasts};
 
 use crate::conditions::Condition;
 use crate::constraints::Constraint;
@@ -20,13 +20,18 @@ pub trait Claim<AB: AirBuilder> {
     /// What is claimed to be zero.
     ghost claims: { Self → Term AB.F };
 
+    /// What it holds ready-made is of the builder, and means what it should there.
+    ghost claim_holds: { Self → AB → Type 0 } = { λ _ _. ⊤ };
+
     /// Makes what is zero if the claim holds where the condition does.
     fn make_claim<K: Condition<AB>>(
         &self,
         builder: &mut AB,
         condition: &K,
     ) -> Result<AB::Expr, AirError>
-        requires { AB.ready builder.old }
+        requires ready { AB.ready builder.old }
+        requires held { Lasts AB.kept (λ b. claim_holds self.now b × K.where_holds condition.now b)
+            builder.old }
         ensures { Made (Means AB.Ring.means AB.ring_of AB.stands) AB.grew AB.missing AB.refuses builder.old builder.new result (K.under condition.now (claims self.now)) };
 }
 
@@ -36,7 +41,9 @@ fn assert_claim<AB: AirBuilder, C: Claim<AB>, K: Condition<AB>>(
     condition: &K,
     claim: &C,
 ) -> Result<(), AirError>
-    requires { AB.ready builder.old }
+    requires ready { AB.ready builder.old }
+    requires held { Lasts AB.kept (λ b. C.claim_holds claim.now b × K.where_holds condition.now b)
+        builder.old }
     ensures { Asserted AB.kept AB.grew AB.missing AB.refuses builder.old builder.new result (Base (K.under condition.now (C.claims claim.now)) ∷ []) }
 {
     let x = claim.make_claim(builder, condition)?;
@@ -50,6 +57,8 @@ pub struct Zero<X>(pub X);
 impl<AB: AirBuilder, X: Expression<AB>> Claim<AB> for Zero<X> {
     ghost claims = { λ s. X.term s.0 };
 
+    ghost claim_holds = { λ s b. X.holds s.0 b };
+
     fn make_claim<K: Condition<AB>>(
         &self,
         builder: &mut AB,
@@ -61,6 +70,8 @@ impl<AB: AirBuilder, X: Expression<AB>> Claim<AB> for Zero<X> {
 
 impl<AB: AirBuilder, X: Expression<AB>> Constraint<AB> for Zero<X> {
     ghost asserts = { λ s f _. Base (f (X.term s.0)) ∷ [] };
+
+    ghost all_hold = { λ s b. X.holds s.0 b };
 
     fn assert_under<K: Condition<AB>>(
         &self,
@@ -78,6 +89,8 @@ pub struct IsOne<X>(pub X);
 impl<AB: AirBuilder, X: Expression<AB>> Claim<AB> for IsOne<X> {
     ghost claims = { λ s. less_one_term AB.F.ONE (X.term s.0) };
 
+    ghost claim_holds = { λ s b. X.holds s.0 b };
+
     fn make_claim<K: Condition<AB>>(
         &self,
         builder: &mut AB,
@@ -89,6 +102,8 @@ impl<AB: AirBuilder, X: Expression<AB>> Claim<AB> for IsOne<X> {
 
 impl<AB: AirBuilder, X: Expression<AB>> Constraint<AB> for IsOne<X> {
     ghost asserts = { λ s f _. Base (f (less_one_term AB.F.ONE (X.term s.0))) ∷ [] };
+
+    ghost all_hold = { λ s b. X.holds s.0 b };
 
     fn assert_under<K: Condition<AB>>(
         &self,
@@ -106,6 +121,8 @@ pub struct Equal<X, Y>(pub X, pub Y);
 impl<AB: AirBuilder, X: Expression<AB>, Y: Expression<AB>> Claim<AB> for Equal<X, Y> {
     ghost claims = { λ s. sub_term (X.term s.0) (Y.term s.1) };
 
+    ghost claim_holds = { λ s b. X.holds s.0 b × Y.holds s.1 b };
+
     fn make_claim<K: Condition<AB>>(
         &self,
         builder: &mut AB,
@@ -117,6 +134,8 @@ impl<AB: AirBuilder, X: Expression<AB>, Y: Expression<AB>> Claim<AB> for Equal<X
 
 impl<AB: AirBuilder, X: Expression<AB>, Y: Expression<AB>> Constraint<AB> for Equal<X, Y> {
     ghost asserts = { λ s f _. Base (f (sub_term (X.term s.0) (Y.term s.1))) ∷ [] };
+
+    ghost all_hold = { λ s b. X.holds s.0 b × Y.holds s.1 b };
 
     fn assert_under<K: Condition<AB>>(
         &self,
@@ -134,6 +153,8 @@ pub struct Boolean<X>(pub X);
 impl<AB: AirBuilder, X: Expression<AB>> Claim<AB> for Boolean<X> {
     ghost claims = { λ s. bool_check_term AB.F.ONE (X.term s.0) };
 
+    ghost claim_holds = { λ s b. X.holds s.0 b };
+
     fn make_claim<K: Condition<AB>>(
         &self,
         builder: &mut AB,
@@ -145,6 +166,8 @@ impl<AB: AirBuilder, X: Expression<AB>> Claim<AB> for Boolean<X> {
 
 impl<AB: AirBuilder, X: Expression<AB>> Constraint<AB> for Boolean<X> {
     ghost asserts = { λ s f _. Base (f (bool_check_term AB.F.ONE (X.term s.0))) ∷ [] };
+
+    ghost all_hold = { λ s b. X.holds s.0 b };
 
     fn assert_under<K: Condition<AB>>(
         &self,

@@ -1,10 +1,10 @@
 //! Constraints over the extension, each of one assertion.
-ghost use Rattle.std.specs.Prelude.{[], ◌∷◌};
+ghost use Rattle.std.specs.Prelude.{⊤, [], ◌∷◌};
 ghost use Rattle.air_field.specs.Term.{Term, sub_term};
 ghost use Rattle.air_builder.specs.Assertion.{Extension};
 ghost use Rattle.air_builder.specs.Builders.{Means, less_one_term};
 ghost use Rattle.air_author.specs.Constraints.{Asserted};
-ghost use Rattle.air_author.specs.Expressions.{Made};
+ghost use Rattle.air_author.specs.Expressions.{Made, Lasts};
 
 use crate::conditions::Condition;
 use crate::constraints::Constraint;
@@ -21,13 +21,18 @@ pub trait ExtClaim<AB: ExtensionBuilder> {
     /// What is claimed to be zero.
     ghost ext_claims: { Self → Term AB.F };
 
+    /// What it holds ready-made is of the builder, and means what it should there.
+    ghost ext_claim_holds: { Self → AB → Type 0 } = { λ _ _. ⊤ };
+
     /// Makes what is zero if the claim holds where the condition does.
     fn make_ext_claim<K: Condition<AB>>(
         &self,
         builder: &mut AB,
         condition: &K,
     ) -> Result<AB::ExprEF, AirError>
-        requires { AB.ready builder.old }
+        requires ready { AB.ready builder.old }
+        requires held { Lasts AB.kept (λ b. ext_claim_holds self.now b × K.where_holds condition.now b)
+            builder.old }
         ensures { Made (Means AB.ExtRing.means AB.ext_ring_of AB.stands) AB.grew AB.missing AB.refuses builder.old builder.new result (K.ext_under condition.now (ext_claims self.now)) };
 }
 
@@ -37,7 +42,9 @@ fn assert_ext_claim<AB: ExtensionBuilder, C: ExtClaim<AB>, K: Condition<AB>>(
     condition: &K,
     claim: &C,
 ) -> Result<(), AirError>
-    requires { AB.ready builder.old }
+    requires ready { AB.ready builder.old }
+    requires held { Lasts AB.kept (λ b. C.ext_claim_holds claim.now b × K.where_holds condition.now b)
+        builder.old }
     ensures { Asserted AB.kept AB.grew AB.missing AB.refuses builder.old builder.new result (Extension (K.ext_under condition.now (C.ext_claims claim.now)) ∷ []) }
 {
     let x = claim.make_ext_claim(builder, condition)?;
@@ -51,6 +58,8 @@ pub struct ExtZero<X>(pub X);
 impl<AB: ExtensionBuilder, X: ExtExpression<AB>> ExtClaim<AB> for ExtZero<X> {
     ghost ext_claims = { λ s. X.ext_term s.0 };
 
+    ghost ext_claim_holds = { λ s b. X.ext_holds s.0 b };
+
     fn make_ext_claim<K: Condition<AB>>(
         &self,
         builder: &mut AB,
@@ -62,6 +71,8 @@ impl<AB: ExtensionBuilder, X: ExtExpression<AB>> ExtClaim<AB> for ExtZero<X> {
 
 impl<AB: ExtensionBuilder, X: ExtExpression<AB>> Constraint<AB> for ExtZero<X> {
     ghost asserts = { λ s _ g. Extension (g (X.ext_term s.0)) ∷ [] };
+
+    ghost all_hold = { λ s b. X.ext_holds s.0 b };
 
     fn assert_under<K: Condition<AB>>(
         &self,
@@ -79,6 +90,8 @@ pub struct ExtIsOne<X>(pub X);
 impl<AB: ExtensionBuilder, X: ExtExpression<AB>> ExtClaim<AB> for ExtIsOne<X> {
     ghost ext_claims = { λ s. less_one_term AB.F.ONE (X.ext_term s.0) };
 
+    ghost ext_claim_holds = { λ s b. X.ext_holds s.0 b };
+
     fn make_ext_claim<K: Condition<AB>>(
         &self,
         builder: &mut AB,
@@ -90,6 +103,8 @@ impl<AB: ExtensionBuilder, X: ExtExpression<AB>> ExtClaim<AB> for ExtIsOne<X> {
 
 impl<AB: ExtensionBuilder, X: ExtExpression<AB>> Constraint<AB> for ExtIsOne<X> {
     ghost asserts = { λ s _ g. Extension (g (less_one_term AB.F.ONE (X.ext_term s.0))) ∷ [] };
+
+    ghost all_hold = { λ s b. X.ext_holds s.0 b };
 
     fn assert_under<K: Condition<AB>>(
         &self,
@@ -108,6 +123,8 @@ impl<AB: ExtensionBuilder, X: ExtExpression<AB>, Y: ExtExpression<AB>> ExtClaim<
     for ExtEqual<X, Y> {
     ghost ext_claims = { λ s. sub_term (X.ext_term s.0) (Y.ext_term s.1) };
 
+    ghost ext_claim_holds = { λ s b. X.ext_holds s.0 b × Y.ext_holds s.1 b };
+
     fn make_ext_claim<K: Condition<AB>>(
         &self,
         builder: &mut AB,
@@ -120,6 +137,8 @@ impl<AB: ExtensionBuilder, X: ExtExpression<AB>, Y: ExtExpression<AB>> ExtClaim<
 impl<AB: ExtensionBuilder, X: ExtExpression<AB>, Y: ExtExpression<AB>> Constraint<AB>
     for ExtEqual<X, Y> {
     ghost asserts = { λ s _ g. Extension (g (sub_term (X.ext_term s.0) (Y.ext_term s.1))) ∷ [] };
+
+    ghost all_hold = { λ s b. X.ext_holds s.0 b × Y.ext_holds s.1 b };
 
     fn assert_under<K: Condition<AB>>(
         &self,
@@ -136,6 +155,8 @@ pub struct ExtNamed<N, C>(pub N, pub C);
 
 impl<AB: NamedExtensionBuilder, N: Label, C: ExtClaim<AB>> Constraint<AB> for ExtNamed<N, C> {
     ghost asserts = { λ s _ g. Extension (g (C.ext_claims s.1)) ∷ [] };
+
+    ghost all_hold = { λ s b. C.ext_claim_holds s.1 b };
 
     fn assert_under<K: Condition<AB>>(
         &self,

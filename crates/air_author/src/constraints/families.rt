@@ -1,8 +1,10 @@
 //! Constraints that a slice or an index numbers.
-ghost use Rattle.std.specs.Prelude.{◌≡◌, ℕ, ◌<◌, List};
+ghost use Rattle.std.specs.Prelude.{◌≡◌, ℕ, ◌<◌, ⊤, List};
+ghost use Rattle.std.specs.Prelude.{All as EachOf};
 ghost use Rattle.air_field.specs.Term.{Term};
 ghost use Rattle.air_builder.specs.Assertion.{Assertion};
 ghost use Rattle.air_author.specs.Constraints.{Asserted, asserts_of_each, asserts_of_first};
+ghost use Rattle.air_author.specs.Expressions.{Lasts};
 
 use crate::conditions::Condition;
 use crate::constraints::Constraint;
@@ -14,6 +16,8 @@ pub struct Each<'a, C>(pub &'a [C]);
 
 impl<'a, AB: AirBuilder, C: Constraint<AB>> Constraint<AB> for Each<'a, C> {
     ghost asserts = { λ s f g. asserts_of_each (λ c. C.asserts c f g) s.0.now };
+
+    ghost all_hold = { λ s b. EachOf (λ c. C.all_hold c b) s.0.now };
 
     fn assert_under<K: Condition<AB>>(
         &self,
@@ -36,6 +40,9 @@ pub trait Family<AB: AirBuilder> {
     /// What the one at an index asserts, where each base term becomes another, and each extension term.
     ghost asserts_at: { Self → ℕ → (Term AB.F → Term AB.F) → (Term AB.F → Term AB.F) → List (Assertion AB.F) };
 
+    /// What they hold ready-made is of the builder, and means what it should there.
+    ghost family_holds: { Self → AB → Type 0 } = { λ _ _. ⊤ };
+
     /// How many there are.
     fn size(&self) -> usize
         ensures { result ≡ size self.now };
@@ -49,6 +56,8 @@ pub trait Family<AB: AirBuilder> {
     ) -> Result<(), AirError>
         requires ready { AB.ready builder.old }
         requires within { index < size self.now }
+        requires held { Lasts AB.kept (λ b. family_holds self.now b × K.where_holds condition.now b)
+            builder.old }
         ensures { Asserted AB.kept AB.grew AB.missing AB.refuses builder.old builder.new result (asserts_at self.now index (K.under condition.now) (K.ext_under condition.now)) };
 }
 
@@ -58,6 +67,8 @@ pub struct All<C>(pub C);
 
 impl<AB: AirBuilder, C: Family<AB>> Constraint<AB> for All<C> {
     ghost asserts = { λ s f g. asserts_of_first (λ i. C.asserts_at s.0 i f g) (C.size s.0) };
+
+    ghost all_hold = { λ s b. C.family_holds s.0 b };
 
     fn assert_under<K: Condition<AB>>(
         &self,

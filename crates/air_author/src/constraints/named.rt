@@ -32,6 +32,8 @@ pub struct Named<N, C>(pub N, pub C);
 impl<AB: NamedAirBuilder, N: Label, C: Claim<AB>> Constraint<AB> for Named<N, C> {
     ghost asserts = { λ s f _. Base (f (C.claims s.1)) ∷ [] };
 
+    ghost all_hold = { λ s b. C.claim_holds s.1 b };
+
     fn assert_under<K: Condition<AB>>(
         &self,
         builder: &mut AB,

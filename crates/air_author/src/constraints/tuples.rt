@@ -9,6 +9,8 @@ use air_builder::{AirBuilder, AirError};
 impl<AB: AirBuilder, C: Constraint<AB>, D: Constraint<AB>> Constraint<AB> for (C, D) {
     ghost asserts = { λ s f g. C.asserts s.0 f g ++ D.asserts s.1 f g };
 
+    ghost all_hold = { λ s b. C.all_hold s.0 b × D.all_hold s.1 b };
+
     fn assert_under<K: Condition<AB>>(
         &self,
         builder: &mut AB,
@@ -23,6 +25,8 @@ impl<AB: AirBuilder, C: Constraint<AB>, D: Constraint<AB>> Constraint<AB> for (C
 impl<AB: AirBuilder, C: Constraint<AB>, D: Constraint<AB>, E: Constraint<AB>> Constraint<AB>
     for (C, D, E) {
     ghost asserts = { λ s f g. C.asserts s.0 f g ++ (D.asserts s.1 f g ++ E.asserts s.2 f g) };
+
+    ghost all_hold = { λ s b. C.all_hold s.0 b × (D.all_hold s.1 b × E.all_hold s.2 b) };
 
     fn assert_under<K: Condition<AB>>(
         &self,
@@ -43,6 +47,8 @@ impl<
 > Constraint<AB> for (C, D, E, G) {
     ghost asserts = { λ s f g. C.asserts s.0 f g ++ (D.asserts s.1 f g ++ (E.asserts s.2 f g ++ G.asserts s.3 f g)) };
 
+    ghost all_hold = { λ s b. C.all_hold s.0 b × (D.all_hold s.1 b × (E.all_hold s.2 b × G.all_hold s.3 b)) };
+
     fn assert_under<K: Condition<AB>>(
         &self,
         builder: &mut AB,
@@ -62,6 +68,8 @@ impl<
     H: Constraint<AB>,
 > Constraint<AB> for (C, D, E, G, H) {
     ghost asserts = { λ s f g. C.asserts s.0 f g ++ (D.asserts s.1 f g ++ (E.asserts s.2 f g ++ (G.asserts s.3 f g ++ H.asserts s.4 f g))) };
+
+    ghost all_hold = { λ s b. C.all_hold s.0 b × (D.all_hold s.1 b × (E.all_hold s.2 b × (G.all_hold s.3 b × H.all_hold s.4 b))) };
 
     fn assert_under<K: Condition<AB>>(
         &self,

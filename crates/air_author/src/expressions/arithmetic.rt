@@ -13,6 +13,8 @@ pub struct Sum<X, Y>(pub X, pub Y);
 impl<AB: AirBuilder, X: Expression<AB>, Y: Expression<AB>> Expression<AB> for Sum<X, Y> {
     ghost term = { λ s. add_term (X.term s.0) (Y.term s.1) };
 
+    ghost holds = { λ s b. X.holds s.0 b × Y.holds s.1 b };
+
     fn make(&self, builder: &mut AB) -> Result<AB::Expr, AirError> {
         let x = self.0.make(builder)?;
         let y = self.1.make(builder)?;
@@ -27,6 +29,8 @@ pub struct Difference<X, Y>(pub X, pub Y);
 
 impl<AB: AirBuilder, X: Expression<AB>, Y: Expression<AB>> Expression<AB> for Difference<X, Y> {
     ghost term = { λ s. sub_term (X.term s.0) (Y.term s.1) };
+
+    ghost holds = { λ s b. X.holds s.0 b × Y.holds s.1 b };
 
     fn make(&self, builder: &mut AB) -> Result<AB::Expr, AirError> {
         let x = self.0.make(builder)?;
@@ -43,6 +47,8 @@ pub struct Product<X, Y>(pub X, pub Y);
 impl<AB: AirBuilder, X: Expression<AB>, Y: Expression<AB>> Expression<AB> for Product<X, Y> {
     ghost term = { λ s. mul_term (X.term s.0) (Y.term s.1) };
 
+    ghost holds = { λ s b. X.holds s.0 b × Y.holds s.1 b };
+
     fn make(&self, builder: &mut AB) -> Result<AB::Expr, AirError> {
         let x = self.0.make(builder)?;
         let y = self.1.make(builder)?;
@@ -58,6 +64,8 @@ pub struct Negative<X>(pub X);
 impl<AB: AirBuilder, X: Expression<AB>> Expression<AB> for Negative<X> {
     ghost term = { λ s. neg_term (X.term s.0) };
 
+    ghost holds = { λ s b. X.holds s.0 b };
+
     fn make(&self, builder: &mut AB) -> Result<AB::Expr, AirError> {
         let x = self.0.make(builder)?;
         let y = builder.ring().neg(x)?;
@@ -71,6 +79,8 @@ pub struct Double<X>(pub X);
 
 impl<AB: AirBuilder, X: Expression<AB>> Expression<AB> for Double<X> {
     ghost term = { λ s. double_term (X.term s.0) };
+
+    ghost holds = { λ s b. X.holds s.0 b };
 
     fn make(&self, builder: &mut AB) -> Result<AB::Expr, AirError> {
         let x = self.0.make(builder)?;
@@ -86,6 +96,8 @@ pub struct Square<X>(pub X);
 impl<AB: AirBuilder, X: Expression<AB>> Expression<AB> for Square<X> {
     ghost term = { λ s. mul_term (X.term s.0) (X.term s.0) };
 
+    ghost holds = { λ s b. X.holds s.0 b };
+
     fn make(&self, builder: &mut AB) -> Result<AB::Expr, AirError> {
         let x = self.0.make(builder)?;
         let y = builder.ring().mul(x, x)?;
@@ -99,6 +111,8 @@ pub struct BoolCheck<X>(pub X);
 
 impl<AB: AirBuilder, X: Expression<AB>> Expression<AB> for BoolCheck<X> {
     ghost term = { λ s. bool_check_term AB.F.ONE (X.term s.0) };
+
+    ghost holds = { λ s b. X.holds s.0 b };
 
     fn make(&self, builder: &mut AB) -> Result<AB::Expr, AirError> {
         let x = self.0.make(builder)?;

@@ -13,6 +13,8 @@ pub struct Lifted<X>(pub X);
 impl<AB: ExtensionBuilder, X: Expression<AB>> ExtExpression<AB> for Lifted<X> {
     ghost ext_term = { λ s. X.term s.0 };
 
+    ghost ext_holds = { λ s b. X.holds s.0 b };
+
     fn make_ext(&self, builder: &mut AB) -> Result<AB::ExprEF, AirError> {
         let x = self.0.make(builder)?;
         let y = builder.ext_ring().lift(x)?;
@@ -37,6 +39,8 @@ impl<AB: ExtensionBuilder, X: ExtExpression<AB>, Y: ExtExpression<AB>> ExtExpres
     for Sum<X, Y> {
     ghost ext_term = { λ s. add_term (X.ext_term s.0) (Y.ext_term s.1) };
 
+    ghost ext_holds = { λ s b. X.ext_holds s.0 b × Y.ext_holds s.1 b };
+
     fn make_ext(&self, builder: &mut AB) -> Result<AB::ExprEF, AirError> {
         let x = self.0.make_ext(builder)?;
         let y = self.1.make_ext(builder)?;
@@ -48,6 +52,8 @@ impl<AB: ExtensionBuilder, X: ExtExpression<AB>, Y: ExtExpression<AB>> ExtExpres
 impl<AB: ExtensionBuilder, X: ExtExpression<AB>, Y: ExtExpression<AB>> ExtExpression<AB>
     for Difference<X, Y> {
     ghost ext_term = { λ s. sub_term (X.ext_term s.0) (Y.ext_term s.1) };
+
+    ghost ext_holds = { λ s b. X.ext_holds s.0 b × Y.ext_holds s.1 b };
 
     fn make_ext(&self, builder: &mut AB) -> Result<AB::ExprEF, AirError> {
         let x = self.0.make_ext(builder)?;
@@ -61,6 +67,8 @@ impl<AB: ExtensionBuilder, X: ExtExpression<AB>, Y: ExtExpression<AB>> ExtExpres
     for Product<X, Y> {
     ghost ext_term = { λ s. mul_term (X.ext_term s.0) (Y.ext_term s.1) };
 
+    ghost ext_holds = { λ s b. X.ext_holds s.0 b × Y.ext_holds s.1 b };
+
     fn make_ext(&self, builder: &mut AB) -> Result<AB::ExprEF, AirError> {
         let x = self.0.make_ext(builder)?;
         let y = self.1.make_ext(builder)?;
@@ -71,6 +79,8 @@ impl<AB: ExtensionBuilder, X: ExtExpression<AB>, Y: ExtExpression<AB>> ExtExpres
 
 impl<AB: ExtensionBuilder, X: ExtExpression<AB>> ExtExpression<AB> for Negative<X> {
     ghost ext_term = { λ s. neg_term (X.ext_term s.0) };
+
+    ghost ext_holds = { λ s b. X.ext_holds s.0 b };
 
     fn make_ext(&self, builder: &mut AB) -> Result<AB::ExprEF, AirError> {
         let x = self.0.make_ext(builder)?;

@@ -33,6 +33,8 @@ pub struct Power<X>(pub X, pub usize);
 impl<AB: AirBuilder, X: Expression<AB>> Expression<AB> for Power<X> {
     ghost term = { λ s. power_term AB.F.ONE (X.term s.0) s.1 };
 
+    ghost holds = { λ s b. X.holds s.0 b };
+
     fn make(&self, builder: &mut AB) -> Result<AB::Expr, AirError> {
         if self.1 == 0 {
             return One.make(builder);

@@ -21,7 +21,10 @@ pub struct ExtFieldRing<F, EF> {
 }
 
 impl<F: Field, EF: ExtensionField<F>> ExtFieldRing<F, EF> {
-    pub fn new() -> Self {
+    /// The ring of the extension: its type has this value alone.
+    pub fn new() -> Self
+        ensures { (r : Self F EF) → r ≡ result }
+    {
         ExtFieldRing {
             base: PhantomData,
             of: PhantomData,

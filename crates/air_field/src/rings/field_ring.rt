@@ -16,7 +16,10 @@ pub struct FieldRing<F> {
 }
 
 impl<F: Field> FieldRing<F> {
-    pub fn new() -> Self {
+    /// The ring of the field: its type has this value alone.
+    pub fn new() -> Self
+        ensures { (r : Self F) → r ≡ result }
+    {
         FieldRing { of: PhantomData }
     }
 }

@@ -31,7 +31,8 @@ impl<A: Copy> ExprId<A> {
         }
     }
 
-    pub(crate) fn number(self) -> usize
+    /// The number itself, which is below the pool's length.
+    pub fn number(self) -> usize
         ensures { result ≡ self }
     {
         self.number

@@ -9,7 +9,7 @@ use p3_air::author::{Current, Equal, Periodic, PreprocessedNext, Product, Zero, 
 use p3_air::boundary::{BoundaryEnd, BoundaryIoError, BoundaryPublic};
 use p3_air::{
     Air, AirBuilder, AirError, Audit, BabyBear, BaseAir, BaseLeaf, ConstraintReport,
-    RowMajorMatrix, SymLeaf, audit_air,
+    RowMajorMatrix, SymLeaf, audit_air, audit_air_with_cap,
 };
 use std::alloc::Global;
 use std::process::Abort;
@@ -188,6 +188,41 @@ fn audits_a_trace(rt: HostRuntime) -> Result<(), Fail> {
     assert_eq!(rt; audit.report.failures.len(), 4);
     for (failure, place) in audit.report.failures.iter().zip(places) {
         assert_eq!(rt; (failure.row, failure.constraint), place);
+    }
+    Ok(())
+}
+
+/// The audit of `Products` on a trace, under a cap.
+fn capped_audit_of(
+    alloc: Global,
+    main: &RowMajorMatrix<BabyBear>,
+    public: &[BabyBear],
+    cap: Option<usize>,
+) -> Result<Audit<BabyBear>, AirError> {
+    let air = make_products(alloc);
+    audit_air_with_cap(alloc, &air, main, public, cap)
+}
+
+// Under a cap of 1 the first row's failures stand alone, both of them.
+#[test]
+fn audits_a_trace_under_a_cap(rt: HostRuntime) -> Result<(), Fail> {
+    let main = matrix(rt.alloc(), &[1, 1, 2, 3, 0, 5], 2)?;
+    let public = [BabyBear::new(7)];
+    let places = [(0, 0), (0, 1), (1, 0), (2, 1)];
+    for (cap, shown, constraints) in [(None, 4, 2), (Some(1), 2, 2), (Some(0), 0, 0)] {
+        let audit = capped_audit_of(rt.alloc(), &main, &public, cap)?;
+        assert_eq!(rt; audit.report.failures.len(), shown, "cap {cap:?}");
+        for (failure, place) in audit.report.failures.iter().zip(places) {
+            assert_eq!(rt; (failure.row, failure.constraint), place, "cap {cap:?}");
+        }
+        assert_eq!(rt; audit.report.total_rows, 3);
+        assert_eq!(rt;
+            audit.report.total_constraints_per_row,
+            constraints,
+            "cap {cap:?}"
+        );
+        assert_eq!(rt; audit.recorded.base.len(), 2);
+        assert_eq!(rt; audit.degree, 2);
     }
     Ok(())
 }

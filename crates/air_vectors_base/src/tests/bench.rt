@@ -235,7 +235,7 @@ impl<A: SymLeaf> Bench<A> {
 }
 
 impl<A: TableLeaf> Bench<A> {
-    fn make(&mut self, step: Step<'_>) -> Result<ExprId<A>, RingError> {
+    pub fn make(&mut self, step: Step<'_>) -> Result<ExprId<A>, RingError> {
         match step {
             Step::Zero => self.pool.zero(),
             Step::Constant(c) => self.constant(c),

@@ -151,20 +151,39 @@ fn there_and_back<S: Spelled>(alloc: Global, x: &S) -> Result<(String, S), Fail>
 #[test]
 fn spellings_of_entries(rt: HostRuntime) -> Result<(), Fail> {
     let alloc = rt.alloc();
-    let main = BaseEntry::Main { offset: 1 };
-    let (text, back) = there_and_back(alloc, &main)?;
-    assert_eq!(rt; text.as_str(), r#"{"Main":{"offset":1}}"#);
-    assert_eq!(rt; back, main);
-    let (text, back) = there_and_back(alloc, &BaseEntry::Periodic)?;
-    assert_eq!(rt; text.as_str(), r#""Periodic""#);
-    assert_eq!(rt; back, BaseEntry::Periodic);
-    let permutation = ExtEntry::Permutation { offset: 0 };
-    let (text, back) = there_and_back(alloc, &permutation)?;
-    assert_eq!(rt; text.as_str(), r#"{"Permutation":{"offset":0}}"#);
-    assert_eq!(rt; back, permutation);
-    let (text, back) = there_and_back(alloc, &ExtEntry::Challenge)?;
-    assert_eq!(rt; text.as_str(), r#""Challenge""#);
-    assert_eq!(rt; back, ExtEntry::Challenge);
+    let entries = [
+        (BaseEntry::Main { offset: 1 }, r#"{"Main":{"offset":1}}"#),
+        (
+            BaseEntry::Preprocessed { offset: 0 },
+            r#"{"Preprocessed":{"offset":0}}"#,
+        ),
+        (BaseEntry::Periodic, r#""Periodic""#),
+        (BaseEntry::Public, r#""Public""#),
+    ];
+    for (entry, wanted) in entries {
+        let (text, back) = there_and_back(alloc, &entry)?;
+        assert_eq!(rt; text.as_str(), wanted);
+        assert_eq!(rt; back, entry);
+    }
+    Ok(())
+}
+
+#[test]
+fn spellings_of_extension_entries(rt: HostRuntime) -> Result<(), Fail> {
+    let alloc = rt.alloc();
+    let entries = [
+        (
+            ExtEntry::Permutation { offset: 0 },
+            r#"{"Permutation":{"offset":0}}"#,
+        ),
+        (ExtEntry::Challenge, r#""Challenge""#),
+        (ExtEntry::PermutationValue, r#""PermutationValue""#),
+    ];
+    for (entry, wanted) in entries {
+        let (text, back) = there_and_back(alloc, &entry)?;
+        assert_eq!(rt; text.as_str(), wanted);
+        assert_eq!(rt; back, entry);
+    }
     Ok(())
 }
 

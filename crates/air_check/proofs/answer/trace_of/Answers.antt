@@ -1,4 +1,4 @@
-use Rattle.std.proofs.Common.{rules, ◌≡◌, ◌<◌, ◌/◌, ◌^◌, arith, length}
+use Rattle.std.proofs.Common.{rules, ◌≡◌, ◌/◌, arith, length}
 use Rattle.air_field.specs.Grid.{grid_of}
 use Rattle.air_check.proofs.Traces.{length-rows}
 use Rattle.air_check.proofs.answer.trace_of.Goals as goal

@@ -1,4 +1,4 @@
-use Rattle.std.proofs.Common.{◌≡◌, ◌++◌, ◌∙◌, refl, string_bytes, append_assoc, append-nil}
+use Rattle.std.proofs.Common.{◌++◌, ◌∙◌, refl, string_bytes, append_assoc, append-nil}
 use Rattle.std.proofs.lemmas.Result.{on_ok_weaker}
 use Rattle.air_check.specs.Texts.{place_text}
 use Rattle.air_check.proofs.texts.push_failure.Goals as goal

@@ -1,6 +1,5 @@
-use Rattle.std.proofs.Common.{◌≡◌, IfSome, option_map, string_bytes, rules}
+use Rattle.std.proofs.Common.{option_map, string_bytes, rules}
 use Rattle.std.specs.List.{Contains}
-use Rattle.air_report.specs.FailureTexts.{label_suffix}
 use Rattle.air_check.proofs.LineEnds.{with_line_end}
 use Rattle.air_check.proofs.texts.shown_label.Goals as goal
 

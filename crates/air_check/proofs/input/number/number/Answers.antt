@@ -1,7 +1,7 @@
-use Rattle.std.proofs.Common.{◌≡◌, ◌+◌, drop, sym, ◌∙◌, arith, rules}
+use Rattle.std.proofs.Common.{◌+◌, drop, arith}
 use Rattle.std.proofs.lemmas.Grind.{common_steps}
 use Rattle.air_check.specs.Grammar.{number_of}
-use Rattle.air_check.proofs.Digits.{too_great, number_on}
+use Rattle.air_check.proofs.Digits.{too_great}
 use Rattle.air_check.proofs.input.number.number.Goals as goal
 
 pub returns-then-value-gt-GREATEST-clause-value : goal.returns-then-value-gt-GREATEST-clause-value

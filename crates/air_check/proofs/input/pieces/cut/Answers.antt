@@ -1,4 +1,4 @@
-use Rattle.std.proofs.Common.{sym, ◌∙◌}
+use Rattle.std.proofs.Common.{sym}
 use Rattle.air_check.proofs.Cuts.{found, not_found, rest_of}
 use Rattle.air_check.proofs.input.pieces.cut.Goals as goal
 

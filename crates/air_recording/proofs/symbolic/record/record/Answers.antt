@@ -1,4 +1,4 @@
-use Rattle.std.proofs.Common.{◌≡◌, ◌++◌, List, ℕ, map, sym, subst, ◌∙◌, ap}
+use Rattle.std.proofs.Common.{◌≡◌, ◌++◌, map, sym, subst, ◌∙◌, ap}
 use Rattle.air_field.specs.Ring.{itself, itself_laws}
 use Rattle.air_field.specs.Assignment.{IsMissing}
 use Rattle.air_symbolic.specs.BaseLeaves.{base_reads}

@@ -1,4 +1,5 @@
-use Rattle.std.proofs.Common.{◌<◌, arith, length}
+use Rattle.std.proofs.Common.{◌<◌, arith, length, sym, subst}
+use Rattle.std.proofs.lemmas.List.Elements.{All-get_or}
 use Rattle.std.proofs.lemmas.Result.{err_from_is_err_and}
 use Rattle.air_author.proofs.Asserting.{each_more, each_refused, nothing_asserted}
 use Rattle.air_author.proofs.constraints.families.EachConstraint.assert_under.Goals as goal
@@ -17,3 +18,10 @@ loop-constraint-preserved g c =
     let lt : c.loop-constraint.constraint-index < length c.args.self.now.0.now = omega arith in
     let h = each_more g.met.AB.AirBuilder.laws (λ x. g.C.Constraint.asserts x (g.K.Condition.under c.args.condition.now) (g.K.Condition.ext_under c.args.condition.now)) c.args.builder.now c.loop-constraint.builder c.assert_under.new.builder c.in_ok-assert_under.field-0 c.args.self.now.0.now c.loop-constraint.constraint-index c.constraint-item.result lt c.constraint-item.is c.loop-constraint.invariant.asserted c.in_ok-assert_under.ensures in
     record { keeps = h.keeps; asserted = h }
+
+pub assert_under-requires-clause-held : goal.assert_under-requires-clause-held
+assert_under-requires-clause-held g c =
+    let lt : c.loop-constraint.constraint-index < length c.args.self.now.0.now = omega arith in
+    λ b k.
+    let h = c.requires.held b (g.met.AB.AirBuilder.laws.kept_joined _ _ _ c.loop-constraint.invariant.keeps k) in
+    (subst (λ x. g.C.Constraint.all_hold x b) (sym c.constraint-item.is) (All-get_or (λ x. g.C.Constraint.all_hold x b) c.args.self.now.0.now c.loop-constraint.constraint-index c.constraint-item.result lt h.0), h.1)

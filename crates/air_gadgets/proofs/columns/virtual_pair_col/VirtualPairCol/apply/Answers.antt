@@ -1,7 +1,7 @@
 use Rattle.std.proofs.Common.{◌+◌, drop, subst}
 use Rattle.std.proofs.lemmas.Result.{err_from_is_err_and}
 use Rattle.air_field.specs.Term.{const_term}
-use Rattle.air_gadgets.proofs.Combining.{IsCombining, combine_one, beginning_refused, scaling_refused, adding_refused, entry_in, stays_in, drop_item}
+use Rattle.air_gadgets.proofs.Combining.{IsCombining, begin_combining, combine_one, beginning_refused, scaling_refused, adding_refused, entry_in, stays_in, drop_item}
 use Rattle.air_gadgets.proofs.columns.virtual_pair_col.VirtualPairCol.apply.Goals as goal
 
 pub returns-in_err-total-clause-refused : goal.returns-in_err-total-clause-refused
@@ -10,6 +10,12 @@ returns-in_err-total-clause-refused g c =
     rw (p.1, p.2)
     (beginning_refused g.met.R.Algebra.laws c.args.self.now c.args.preprocessed.now c.args.main.now c.args.ring.now c.in_err-total.field-0.0
     (subst (λ v. g.R.Algebra.refuses c.in_err-total.field-0.0 (const_term v.constant)) c.self.view_is c.in_err-total.ensures.refused))
+
+pub loop-column-init : goal.loop-column-init
+loop-column-init g c =
+    rw (c.deref-column-items.ensures.value, ← c.self.view_is)
+    (begin_combining g.met.R.Algebra.laws _ c.args.preprocessed.now c.args.main.now c.args.ring.now c.constant.new.self c.in_ok-total.total
+    c.in_ok-total.ensures.extended c.in_ok-total.ensures.made)
 
 pub weighted-requires : goal.weighted-requires
 weighted-requires g c =

@@ -1,6 +1,9 @@
 use Rattle.air_symbolic.proofs.Making.{IfOk-both, made-negative}
 use Rattle.air_symbolic.proofs.pools.algebra.ExprPoolAlgebraF.neg.Goals as goal
 
+pub returns-clause-extended : goal.returns-clause-extended
+returns-clause-extended g c = c.neg.ensures.grown
+
 pub returns-clause-made : goal.returns-clause-made
 returns-clause-made g c =
     let e = c.neg.ensures in

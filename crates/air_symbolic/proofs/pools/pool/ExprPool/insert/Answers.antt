@@ -1,5 +1,5 @@
 use Rattle.std.proofs.Common.{rules}
-use Rattle.air_symbolic.proofs.Sharing.{node_at-is}
+use Rattle.air_symbolic.specs.Sharing.{node_at-is}
 use Rattle.air_symbolic.proofs.Vectors.{Grown-push}
 use Rattle.air_symbolic.proofs.pools.pool.ExprPool.insert.Goals as goal
 

@@ -1,0 +1,34 @@
+//! Expressions that are made already.
+ghost use Rattle.air_builder.specs.Builders.{Means};
+ghost use Rattle.air_author.specs.Expressions.{Holds};
+
+use crate::expressions::{Expression, ExtExpression};
+use air_builder::{AirBuilder, AirError, ExtensionBuilder};
+use air_field::Algebra;
+
+/// An expression that is made already, as one that a filter or a gadget was handed, and the value that it was made of: it
+/// has to mean the value's term.
+#[derive(Clone, Copy, Drop)]
+pub struct Already<E, X>(pub E, pub X);
+
+impl<AB: AirBuilder, X: Expression<AB>> Expression<AB> for Already<AB::Expr, X> {
+    ghost term = { λ s. X.term s.1 };
+
+    ghost holds = { λ s b. Holds (Means AB.Ring.means AB.ring_of AB.stands) AB.missing
+        s.0 (X.term s.1) b };
+
+    fn make(&self, _builder: &mut AB) -> Result<AB::Expr, AirError> {
+        Ok(self.0)
+    }
+}
+
+impl<AB: ExtensionBuilder, X: ExtExpression<AB>> ExtExpression<AB> for Already<AB::ExprEF, X> {
+    ghost ext_term = { λ s. X.ext_term s.1 };
+
+    ghost ext_holds = { λ s b. Holds (Means AB.ExtRing.means AB.ext_ring_of AB.stands) AB.missing
+        s.0 (X.ext_term s.1) b };
+
+    fn make_ext(&self, _builder: &mut AB) -> Result<AB::ExprEF, AirError> {
+        Ok(self.0)
+    }
+}

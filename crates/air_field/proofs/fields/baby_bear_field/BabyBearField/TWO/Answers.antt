@@ -1,0 +1,6 @@
+use Rattle.std.proofs.Common.{refl}
+use Rattle.air_field.specs.Modulo.{same_value}
+use Rattle.air_field.proofs.fields.baby_bear_field.BabyBearField.TWO.Goals as goal
+
+pub returns : goal.returns
+returns c = same_value _ _ refl

@@ -1,0 +1,5 @@
+use Rattle.std.proofs.Common.{ap, Ok}
+use Rattle.air_field.proofs.rings.ext_field_ring.ExtFieldRingAlgebra.mul.Goals as goal
+
+pub returns : goal.returns
+returns g c = ap Ok c.mul.ensures

@@ -1,0 +1,5 @@
+use Rattle.std.proofs.Common.{ap, Ok}
+use Rattle.air_field.proofs.rings.field_ring.FieldRingAlgebra.mul.Goals as goal
+
+pub returns : goal.returns
+returns g c = ap Ok c.mul.ensures

@@ -1,0 +1,97 @@
+-- The assertion of roots.
+use Rattle.std.proofs.Common.{◌≡◌, ℕ, zero, suc, ◌<◌, List, [], ◌∷◌, length, map, take, All, Result, Ok, Err, OnOk, OnErr, IfErr, inl, inr, refl, arith}
+use Rattle.std.proofs.lemmas.List.{length-map}
+use Rattle.air_field.specs.Algebra.{AlgebraLaws}
+use Rattle.air_field.specs.Part.{whole}
+use Rattle.air_field.specs.Term.{Leaf, Term, with_leaves}
+use Rattle.air_field.specs.declared.errors.RingError.{RingError}
+use Rattle.air_windows.specs.declared.errors.AirError.{AirError}
+use Rattle.air_builder.specs.Assertion.{Assertion, Base}
+use Rattle.air_builder.specs.Batches.{Each, AssertsOf, GrewByEach, GrewByBeginning, RefusesByEach}
+use Rattle.air_builder.specs.Builders.{Means, BuilderLaws}
+use Rattle.air_builder.specs.Refusals.{PartOf, EachLeaf, EachLeafOf, none_missing}
+use Rattle.air_author.specs.Constraints.{Asserted}
+use Rattle.air_flat.specs.Tables.{OrMemory}
+
+all_cons : {X : Type 0} (P : X → Type 0) (x : X) (xs : List X) → P x → All P xs → All P (x ∷ xs)
+all_cons P x xs p h zero d lt = p
+all_cons P x xs p h (suc k) d lt = h k d (omega (arith, lt))
+
+all_rest : {X : Type 0} (P : X → Type 0) (x : X) (xs : List X) → All P (x ∷ xs) → All P xs
+all_rest P x xs h k d lt = h (suc k) d (omega (arith, lt))
+
+-- the assertion of each term has the term as a part
+all_parts : {F : Type 0} (ts : List (Term F)) → All (λ t. PartOf t (map (λ u. Base u) ts)) ts
+all_parts [] = λ k d lt. absurd (omega (arith, lt))
+all_parts (t ∷ ts) = all_cons (λ u. PartOf u (map (λ v. Base v) (t ∷ ts))) t ts (inl whole) (λ k d lt. inr (all_parts ts k d lt))
+
+leaves_of : {F : Type 0} (P : Leaf → Type 0) (ts : List (Term F)) → All (λ t. EachLeaf P t) ts → EachLeafOf P (map (λ t. Base t) ts)
+leaves_of P [] h = tt
+leaves_of P (t ∷ ts) h = (h 0 t (omega arith), leaves_of P ts (all_rest (λ u. EachLeaf P u) t ts h))
+
+each_length : {A B : Type 0} (R : A → B → Type 0) (xs : List A) (ys : List B) → Each R xs ys → length xs ≡ length ys
+each_length R [] [] h = refl
+each_length R [] (y ∷ ys) h = absurd h
+each_length R (x ∷ xs) [] h = absurd h
+each_length R (x ∷ xs) (y ∷ ys) h = let e = each_length R xs ys h.1 in omega (arith, e)
+
+each_take : {A B : Type 0} (R : A → B → Type 0) (n : ℕ) (xs : List A) (ys : List B) → Each R xs ys → Each R (take n xs) (take n ys)
+each_take R zero xs ys h = tt
+each_take R (suc n) [] [] h = tt
+each_take R (suc n) [] (y ∷ ys) h = absurd h
+each_take R (suc n) (x ∷ xs) [] h = absurd h
+each_take R (suc n) (x ∷ xs) (y ∷ ys) h = (h.0, each_take R n xs ys h.1)
+
+-- what each expression asserts
+each_asserts : {S E F : Type 0} (means : S → E → Term F → Type 0) (b : S) (xs : List E) (ts : List (Term F)) → Each (λ x t. means b x t) xs ts → Each (AssertsOf means (λ t. t) b) xs (map (λ t. Base t) ts)
+each_asserts means b [] [] h = tt
+each_asserts means b [] (t ∷ ts) h = absurd h
+each_asserts means b (x ∷ xs) [] h = absurd h
+each_asserts means b (x ∷ xs) (t ∷ ts) h = ((t, h.0, refl), each_asserts means b xs ts h.1)
+
+module _ {S R E F : Type 0} {valid : R → Type 0} {has : R → E → Type 0} {means : R → E → Term F → Type 0} {extends : R → R → Type 0} {ring_of : S → R} {with_ring : S → R → S} {stands : S → Leaf → Term F} {ready : S → Type 0} {kept : S → S → Type 0} {grew : S → S → List (Assertion F) → Type 0} {ring_refuses : RingError → Term F → Type 0} {missing : S → Leaf → Type 0} {refuses : S → AirError → List (Assertion F) → Type 0} (ring : AlgebraLaws valid has means extends ring_refuses) (laws : BuilderLaws ring_of with_ring stands ready kept grew valid extends ring_refuses missing refuses) where
+  -- what means a term is of the ring
+  pub all_has : (b : S) (xs : List E) (ts : List (Term F)) → Each (λ x t. Means means ring_of stands b x t) xs ts → All (λ x. has (ring_of b) x) xs
+  all_has b [] [] h = λ k d lt. absurd (omega (arith, lt))
+  all_has b [] (t ∷ ts) h = absurd h
+  all_has b (x ∷ xs) [] h = absurd h
+  all_has b (x ∷ xs) (t ∷ ts) h = all_cons (λ y. has (ring_of b) y) x xs (ring.means_has (ring_of b) x (with_leaves (stands b) t) h.0) (all_has b xs ts h.1)
+
+  -- each root's expression was made, and asserted to be zero
+  pub roots_asserted : (a b d : S) (xs : List E) (ts : List (Term F)) (r : Result (Unit {0}) AirError) → grew a b [] → Each (λ x t. Means means ring_of stands b x t) xs ts → All (λ t. EachLeaf (λ l. missing a l → ⊥) t) ts → kept b d → OnOk r (GrewByEach (AssertsOf (Means means ring_of stands) (λ t. t)) grew b d xs) → OnErr r (GrewByBeginning (AssertsOf (Means means ring_of stands) (λ t. t)) grew b d xs) → IfErr r (λ e. RefusesByEach (AssertsOf (Means means ring_of stands) (λ t. t)) refuses b xs e) → Asserted kept grew missing (OrMemory refuses) a d r (map (λ t. Base t) ts)
+  roots_asserted a b d xs ts (Ok u) g made there k ok none f = record {
+    keeps = laws.kept_joined a b d (laws.by_growth a b [] g) k;
+    ok = laws.joined a b d [] (map (λ t. Base t) ts) g (ok (map (λ t. Base t) ts) (each_asserts (Means means ring_of stands) b xs ts made));
+    there = none_missing (missing a) (map (λ t. Base t) ts) (leaves_of (λ l. missing a l → ⊥) ts there);
+    err = tt;
+    refused = tt;
+  }
+  roots_asserted a b d xs ts (Err e) g made there k ok none f =
+      let ss : List (Assertion F) = map (λ t. Base t) ts in
+      let each = each_asserts (Means means ring_of stands) b xs ts made in
+      let len = each_length _ xs ss each in
+      let within = none.within in
+      record {
+        keeps = laws.kept_joined a b d (laws.by_growth a b [] g) k;
+        ok = tt;
+        there = tt;
+        err = record {
+          count = none.count;
+          within = omega (arith, len, within);
+          beginning = laws.joined a b d [] (take none.count ss) g (none.beginning (take none.count ss) (each_take _ none.count xs ss each));
+        };
+        refused = inr (laws.refuses_then a b e [] ss g (f ss each));
+      }
+
+  -- the making of the expressions was refused
+  pub making_refused : (a b : S) (e : AirError) (ts : List (Term F)) → 0 < length ts → grew a b [] → ((ss : List (Assertion F)) → All (λ u. PartOf u ss) ts → OrMemory refuses a e ss) → Asserted kept grew missing (OrMemory refuses) a b (Err e) (map (λ u. Base u) ts)
+  making_refused a b e ts some g f =
+      let ss : List (Assertion F) = map (λ u. Base u) ts in
+      let len : length ss ≡ length ts = length-map ts (λ (u : Term F). Base u) in
+      record {
+        keeps = laws.by_growth a b [] g;
+        ok = tt;
+        there = tt;
+        err = record { count = 0; within = omega (arith, len, some); beginning = g };
+        refused = f ss (all_parts ts);
+      }

@@ -1,0 +1,4 @@
+pub use Rattle.air_builder.specs.Builders
+pub mod Reach
+pub mod Tables
+pub mod FlatAirs

@@ -1,0 +1,13 @@
+//! Constraints from outside: expressions of a pool in any builder, and the AIR that such expressions are.
+#![tactic(auto)]
+
+pub mod flat_air;
+mod leaves;
+mod nodes;
+mod pushing;
+mod reach;
+pub mod resolving;
+mod table;
+
+pub use flat_air::FlatAir;
+pub use resolving::{resolve, resolve_all};

@@ -1,0 +1,57 @@
+-- What data spell, and the first fault of data that spell nothing.
+use Rattle.std.specs.Prelude.{◌≡◌, ℕ, List, [], ◌∷◌, Some, None, ◌⊎◌}
+use Rattle.serde_json.specs.Data.{Data, Items, no_items, item}
+use Rattle.serde_json.specs.Find.{get, as_array}
+use Rattle.air_wire.specs.Spelling.{HasField}
+use Rattle.air_wire.specs.declared.errors.FlatError.{FlatError}
+use Rattle.air_wire.specs.declared.errors.FlatError.TheVariants as faults
+
+pub record Grammar (X : Type 0) : Type 1 where
+  pub spells : Data → X → Type 0
+  pub fault : Data → FlatError → Type 0
+
+-- what spells nothing hasn't its form
+abbrev pub by_form : {X : Type 0} → (Data → X → Type 0) → Grammar X
+by_form {X} spells = record { spells = spells; fault = λ d f. ((x : X) → spells d x → ⊥) × (f ≡ faults.Shape 0) }
+
+-- ---- lists, element by element
+
+abbrev pub AllSpell : {X : Type 0} → Grammar X → Items → List X → Type 0
+AllSpell g no_items [] = Unit {0}
+AllSpell g no_items (x ∷ xs) = ⊥
+AllSpell g (item d ds) [] = ⊥
+AllSpell g (item d ds) (x ∷ xs) = g.spells d x × AllSpell g ds xs
+
+-- the first element that spells nothing has this fault, and all before it spell something
+abbrev pub FirstFault : {X : Type 0} → Grammar X → Items → FlatError → Type 0
+FirstFault g no_items f = ⊥
+FirstFault {X} g (item d ds) f = g.fault d f ⊎ ((x : X) × g.spells d x × FirstFault g ds f)
+
+abbrev pub list_of : {X : Type 0} → Grammar X → Grammar (List X)
+list_of g = record {
+  spells = λ d xs. (ds : Items) × (as_array d ≡ Some ds) × AllSpell g ds xs;
+  fault = λ d f. ((as_array d ≡ None) × (f ≡ faults.Shape 0)) ⊎ ((ds : Items) × (as_array d ≡ Some ds) × FirstFault g ds f);
+}
+
+-- ---- members of an object
+
+-- the member of this name, which is there
+abbrev pub needed : {X : Type 0} → List ℕ → Grammar X → Grammar X
+needed name g = record {
+  spells = λ d x. HasField name (λ c. g.spells c x) d;
+  fault = λ d f. ((get name d ≡ None) × (f ≡ faults.Shape 0)) ⊎ HasField name (λ c. g.fault c f) d;
+}
+
+-- the member of this name, or what stands for its absence
+abbrev pub optional : {X : Type 0} → List ℕ → X → Grammar X → Grammar X
+optional name absent g = record {
+  spells = λ d x. ((get name d ≡ None) × (x ≡ absent)) ⊎ HasField name (λ c. g.spells c x) d;
+  fault = λ d f. HasField name (λ c. g.fault c f) d;
+}
+
+-- one member and then another: the first one's fault comes first
+abbrev pub both : {X Y : Type 0} → Grammar X → Grammar Y → Grammar (X × Y)
+both {X} g h = record {
+  spells = λ d p. g.spells d p.0 × h.spells d p.1;
+  fault = λ d f. g.fault d f ⊎ ((x : X) × g.spells d x × h.fault d f);
+}

@@ -1,0 +1,5 @@
+pub mod Grammar
+pub mod Members
+pub mod Readers
+pub mod Input
+pub mod Seen

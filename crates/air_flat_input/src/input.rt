@@ -1,0 +1,64 @@
+//! The whole object.
+ghost use Rattle.std.specs.Prelude.{◌≢◌, ◌<◌, length, All, IfOk, IfErr};
+ghost use Rattle.serde_json.specs.View.{view};
+ghost use Rattle.air_symbolic.specs.BaseLeaves.{base_reads};
+ghost use Rattle.air_symbolic.specs.Pools.{IsPool};
+ghost use Rattle.air_flat_input.specs.Input.{SpellsInput, HasInputFault};
+
+use crate::members::{Members, members_from};
+use air_field::{BabyBear, RowMajorMatrix};
+use air_symbolic::{BaseLeaf, ExprId, ExprPool};
+use air_windows::{AirError, BoundaryPublic};
+use serde_json::Value;
+use std::alloc::Global;
+
+/// An AIR's constraints, public values, periodic columns and boundary cells, with a trace and a cap.
+#[derive(Drop)]
+pub struct FlatInput {
+    /// The expressions of the constraints.
+    pub pool: ExprPool<BaseLeaf<BabyBear>>,
+    /// The constraints.
+    pub roots: Vec<ExprId<BaseLeaf<BabyBear>>>,
+    /// The trace.
+    pub main: RowMajorMatrix<BabyBear>,
+    pub public_values: Vec<BabyBear>,
+    /// The periodic columns, each of a length of its own.
+    pub periodic: Vec<Vec<BabyBear>>,
+    /// The boundary cells.
+    pub cells: Vec<BoundaryPublic>,
+    /// How many failures are wanted at most.
+    pub cap: Option<usize>,
+}
+
+/// Reads the object: its members in the order `main_width`, `main` (row after row), `public_values`, `constraints`
+/// (lists of nodes), `periodic`, `boundary` and `cap`, of which the last three may be absent, and `cap` may be null.
+/// Any other value is refused with the first fault in this order; values that fill no rows of the width are `Ragged`
+/// after all members. Other members are ignored.
+pub fn flat_input_from(alloc: Global, value: &Value) -> Result<FlatInput, AirError>
+    ensures pool { IfOk result (λ input. IsPool base_reads input.pool) }
+    ensures roots { IfOk result (λ input. All (λ i. i < length input.pool.1) input.roots.items) }
+    ensures read { IfOk result (SpellsInput (view value.now)) }
+    ensures refused { IfErr result (λ e. e ≢ AirError.Memory → HasInputFault (view value.now) e) }
+{
+    let members = members_from(alloc, value)?;
+    let Members {
+        main_width,
+        main,
+        public_values,
+        pool,
+        roots,
+        periodic,
+        cells,
+        cap,
+    } = members;
+    let main = RowMajorMatrix::new(main, main_width)?;
+    Ok(FlatInput {
+        pool,
+        roots,
+        main,
+        public_values,
+        periodic,
+        cells,
+        cap,
+    })
+}

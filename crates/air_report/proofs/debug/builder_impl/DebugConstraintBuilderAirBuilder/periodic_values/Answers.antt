@@ -1,0 +1,9 @@
+use Rattle.air_report.proofs.ExtensionRows.{row_ends}
+use Rattle.air_report.proofs.BaseRows.{element_is}
+use Rattle.air_report.proofs.debug.builder_impl.DebugConstraintBuilderAirBuilder.periodic_values.Goals as goal
+
+pub returns-clause-stands : goal.returns-clause-stands
+returns-clause-stands g c = λ i v e. element_is c.args.self.now.periodic_row.items i _ v (rw c.as_slice.ensures.value at e)
+
+pub returns-clause-ends : goal.returns-clause-ends
+returns-clause-ends g c = λ i. rw c.as_slice.ensures.value (row_ends c.args.self.now.periodic_row.items i)

@@ -1,0 +1,9 @@
+use Rattle.air_report.proofs.ExtensionRows.{row_ends}
+use Rattle.air_report.proofs.BaseRows.{element_is}
+use Rattle.air_report.proofs.debug.builder_impl.DebugConstraintBuilderAirBuilder.public_values.Goals as goal
+
+pub returns-clause-stands : goal.returns-clause-stands
+returns-clause-stands g c = λ i v e. element_is c.args.self.now.public_values.now i _ v e
+
+pub returns-clause-ends : goal.returns-clause-ends
+returns-clause-ends g c = λ i. row_ends c.args.self.now.public_values.now i

@@ -1,0 +1,152 @@
+-- The nodes of a pool, as they are written.
+use Rattle.std.proofs.Common.{◌≡◌, ℕ, suc, zero, ◌<◌, Bool, true, false, List, [], ◌∷◌, ◌++◌, length, Option, Some, None, codes, refl, sym, ap, subst, ◌∙◌, arith}
+use Rattle.std.specs.List.{slice_get}
+use Rattle.std.specs.Option.{is_some}
+use Rattle.std.proofs.Math.ListN.{set}
+use Rattle.serde_json.specs.Data.{Data}
+use Rattle.air_symbolic.specs.Leaves.{Leaves}
+use Rattle.air_symbolic.specs.Trees.{Tree, nothing, leaf_tree, add_tree, sub_tree, neg_tree, mul_tree, IsWhole}
+use Rattle.air_symbolic.specs.Nodes.{unfold_node, tree_of, NodeFits, stated_degree, OperandsBelow, IsNode}
+use Rattle.air_symbolic.specs.Numbers.{tree_of-whole}
+use Rattle.air_symbolic.specs.Sharing.{shared}
+use Rattle.air_symbolic.specs.Pools.{IsPool, tree_at}
+use Rattle.air_symbolic.specs.declared.pools.expr.SymbolicExpr.{SymbolicExpr}
+use Rattle.air_symbolic.specs.declared.pools.expr.SymbolicExpr.TheVariants.{Leaf, Add, Sub, Neg, Mul}
+use Rattle.air_wire.specs.Spelling.{case_data}
+use Rattle.air_wire.specs.Nodes.{Kind}
+use Rattle.air_wire.specs.Seen.{over, seen_at, degree, WireLaws}
+use Rattle.air_wire.specs.Written.{Stands, two_data, one_data, IsWrittenNode}
+use Rattle.air_wire.specs.Writing.{Placed, IsReady, IsNodeValue, steps_of}
+use Rattle.air_wire.proofs.SeenTrees.{degree_is_seen}
+use Rattle.air_wire.proofs.Left.{node_tree, within_last, work, work_pop, look_less}
+use Rattle.air_wire.proofs.Ordered.{HasOperands}
+use Rattle.air_wire.proofs.Progress.{IsTable, IsOneToOne, Progress, skips, looks, is_next, writes}
+
+-- ---- from the table of places to the list
+
+module _ {A S F : Type 0} (kind : Kind S F) (seen : A → S) (f : ℕ → Tree S) (size : ℕ) (done : List (Tree S)) (places : List (Option ℕ)) (t : IsTable f size done places) where
+  stands_at : (x : ℕ) (p : Placed places x) → slice_get done p.0 ≡ Some (f x)
+  stands_at x p = t.placed x p.0 p.1
+
+  -- the operand that stands in the list has a place
+  placed_at : (x : ℕ) → x < size → Stands done (f x) → Placed places x
+  placed_at x h s = by_entry (entry places x (omega (arith, t.len, h)))
+    where
+      entry : {X : Type 0} (xs : List X) (n : ℕ) → n < length xs → (y : X) × (slice_get xs n ≡ Some y)
+      entry [] n h = absurd (omega arith)
+      entry (y ∷ xs) zero h = (y, refl)
+      entry (y ∷ xs) (suc n) h = entry xs n (omega (arith, h))
+
+      by_entry : (o : Option ℕ) × (slice_get places x ≡ Some o) → Placed places x
+      by_entry (None, e) = absurd (t.missing x e s)
+      by_entry (Some i, e) = (i, e)
+
+  ready_of : (valid : A → Type 0) (n : ℕ) (node : SymbolicExpr A) → n < size → OperandsBelow n node → ((a : A) → node ≡ Leaf a → valid a) → HasOperands done (node_tree seen f node) → IsReady valid places node
+  unfolding HasOperands
+  ready_of valid n (Leaf a) h below leaf has = leaf a refl
+  ready_of valid n (Add x y d) h below leaf has = (placed_at x (omega (arith, below.0, h)) has.0, placed_at y (omega (arith, below.1, h)) has.1)
+  ready_of valid n (Sub x y d) h below leaf has = (placed_at x (omega (arith, below.0, h)) has.0, placed_at y (omega (arith, below.1, h)) has.1)
+  ready_of valid n (Neg x d) h below leaf has = placed_at x (omega (arith, below, h)) has
+  ready_of valid n (Mul x y d) h below leaf has = (placed_at x (omega (arith, below.0, h)) has.0, placed_at y (omega (arith, below.1, h)) has.1)
+
+  value_of : (l : Leaves A F) (node : SymbolicExpr A) (d : Data) → stated_degree l node ≡ degree kind.term (node_tree seen f node) → IsNodeValue kind seen places node d → IsWrittenNode kind done d (node_tree seen f node)
+  value_of l (Leaf a) d e h = h
+  value_of l (Add x y n) d e (i, j, is) =
+      ((i.0, stands_at x i), (j.0, stands_at y j), is ∙ ap (λ (k : ℕ). case_data (codes "Add") (two_data k i.0 j.0)) e)
+  value_of l (Sub x y n) d e (i, j, is) =
+      ((i.0, stands_at x i), (j.0, stands_at y j), is ∙ ap (λ (k : ℕ). case_data (codes "Sub") (two_data k i.0 j.0)) e)
+  value_of l (Neg x n) d e (i, is) = ((i.0, stands_at x i), is ∙ ap (λ (k : ℕ). case_data (codes "Neg") (one_data k i.0)) e)
+  value_of l (Mul x y n) d e ((i, j, is), small) =
+      (((i.0, stands_at x i), (j.0, stands_at y j), is ∙ ap (λ (k : ℕ). case_data (codes "Mul") (two_data k i.0 j.0)) e), omega (arith, e, small))
+
+-- ---- pools
+
+module _ {U A S F : Type 0} (reads : U → Leaves A F) (grows : U → U → Type 0) (seen : U → A → S) (kind : Kind S F) (laws : WireLaws reads grows seen kind.term) where
+  over_one : (u : U) (t v : Tree A) → IsWhole (reads u).valid t → IsWhole (reads u).valid v → over (seen u) t ≡ over (seen u) v → t ≡ v
+  over_one u nothing v h k e = absurd h
+  over_one u (leaf_tree a) (leaf_tree b) h k e =
+      let l : seen u a ≡ seen u b = cc in
+      ap (λ (x : A). leaf_tree x) (laws.one u a b h k l)
+  over_one u (add_tree t v) (add_tree x y) h k e =
+      let p : t ≡ x = over_one u t x h.0 k.0 (cc) in let q : v ≡ y = over_one u v y h.1 k.1 (cc) in cc
+  over_one u (sub_tree t v) (sub_tree x y) h k e =
+      let p : t ≡ x = over_one u t x h.0 k.0 (cc) in let q : v ≡ y = over_one u v y h.1 k.1 (cc) in cc
+  over_one u (neg_tree t) (neg_tree x) h k e =
+      let p : t ≡ x = over_one u t x h k (cc) in cc
+  over_one u (mul_tree t v) (mul_tree x y) h k e =
+      let p : t ≡ x = over_one u t x h.0 k.0 (cc) in let q : v ≡ y = over_one u v y h.1 k.1 (cc) in cc
+  over_one u _ _ h k e = absurd (cc)
+
+  -- no tree has two numbers
+  pub seen_one : (p : U × List (SymbolicExpr A)) → IsPool reads p → IsOneToOne (seen_at seen p) (length p.1)
+  seen_one p w n m h k e =
+      shared (reads p.0) p.1 w.nodes n m h k
+      (over_one p.0 (tree_at p n) (tree_at p m) (tree_of-whole (reads p.0) p.1 w.nodes n h) (tree_of-whole (reads p.0) p.1 w.nodes m k) e)
+
+  over_node : (p : U × List (SymbolicExpr A)) (node : SymbolicExpr A) → over (seen p.0) (unfold_node (tree_of p.1) node) ≡ node_tree (seen p.0) (seen_at seen p) node
+  over_node p (Leaf a) = refl
+  over_node p (Add x y d) = refl
+  over_node p (Sub x y d) = refl
+  over_node p (Neg x d) = refl
+  over_node p (Mul x y d) = refl
+
+  -- the tree of a number is that of its node
+  pub node_seen : (p : U × List (SymbolicExpr A)) (n : ℕ) (node : SymbolicExpr A) → IsNode (reads p.0) p.1 n node → seen_at seen p n ≡ node_tree (seen p.0) (seen_at seen p) node
+  node_seen p n node is = ap (over (seen p.0)) is.tree ∙ over_node p node
+
+  -- ---- the loop, at its next step
+
+  module _ (p : U × List (SymbolicExpr A)) (root : Tree S) (places : List (Option ℕ)) (ds : List Data) where
+    abbrev pub At : List (ℕ × Bool) → Type 0
+    At steps = Progress kind (seen_at seen p) (length p.1) root steps places ds
+
+    pub next_within : (steps rest : List (ℕ × Bool)) (s : ℕ × Bool) → steps ≡ rest ++ s ∷ [] → At steps → s.0 < length p.1
+    next_within steps rest s e h = within_last (length p.1) rest s (subst At e h).within
+
+    pub next_smaller : (steps rest : List (ℕ × Bool)) (s : ℕ × Bool) → steps ≡ rest ++ s ∷ [] → work (seen_at seen p) rest < work (seen_at seen p) steps
+    next_smaller steps rest s e = subst (λ (l : List (ℕ × Bool)). work (seen_at seen p) rest < work (seen_at seen p) l) (sym e) (work_pop (seen_at seen p) rest s)
+
+    pub next_skips : (steps rest : List (ℕ × Bool)) (s : ℕ × Bool) (o : Option ℕ) → steps ≡ rest ++ s ∷ [] → At steps → slice_get places s.0 ≡ Some o → is_some o ≡ true → At rest
+    next_skips steps rest s (Some i) e h at b = skips kind (seen_at seen p) (length p.1) root rest places ds s.0 i s.1 (subst At e h) at
+    next_skips steps rest s None e h at b = absurd cc
+
+    look_at : (rest : List (ℕ × Bool)) (n : ℕ) (b : Bool) → b ≡ false → At (rest ++ (n, b) ∷ []) → At (rest ++ (n, false) ∷ [])
+    look_at rest n b e h = subst (λ (c : Bool). At (rest ++ (n, c) ∷ [])) e h
+
+    write_at : (rest : List (ℕ × Bool)) (n : ℕ) (b : Bool) → b ≡ true → At (rest ++ (n, b) ∷ []) → At (rest ++ (n, true) ∷ [])
+    write_at rest n b e h = subst (λ (c : Bool). At (rest ++ (n, c) ∷ [])) e h
+
+    pub next_looks : (steps rest more : List (ℕ × Bool)) (s : ℕ × Bool) (node : SymbolicExpr A) → steps ≡ rest ++ s ∷ [] → s.1 ≡ false → IsNode (reads p.0) p.1 s.0 node → more ≡ rest ++ steps_of s.0 node → At steps → At more
+    next_looks steps rest more s node e b is m h =
+        subst At (sym m)
+        (looks kind (seen_at seen p) (length p.1) (seen p.0) root rest places ds s.0 node (node_seen p s.0 node is) is.below
+        (look_at rest s.0 s.1 b (subst At e h)))
+
+    pub looks_smaller : (steps rest more : List (ℕ × Bool)) (s : ℕ × Bool) (node : SymbolicExpr A) → steps ≡ rest ++ s ∷ [] → s.1 ≡ false → IsNode (reads p.0) p.1 s.0 node → more ≡ rest ++ steps_of s.0 node → work (seen_at seen p) more < work (seen_at seen p) steps
+    looks_smaller steps rest more s node e b is m =
+        let w : List (ℕ × Bool) → ℕ = work (seen_at seen p) in
+        let same : steps ≡ rest ++ (s.0, false) ∷ [] = e ∙ ap (λ (c : Bool). rest ++ (s.0, c) ∷ []) b in
+        subst (λ (l : List (ℕ × Bool)). w l < w steps) (sym m)
+        (subst (λ (l : List (ℕ × Bool)). w (rest ++ steps_of s.0 node) < w l) (sym same) (look_less (seen_at seen p) (seen p.0) rest s.0 node (node_seen p s.0 node is)))
+
+    -- at a step that writes a node, its operands are written
+    pub next_ready : (steps rest : List (ℕ × Bool)) (s : ℕ × Bool) (node : SymbolicExpr A) → steps ≡ rest ++ s ∷ [] → s.1 ≡ true → IsNode (reads p.0) p.1 s.0 node → At steps → IsReady (reads p.0).valid places node
+    next_ready steps rest s node e b is g =
+        let h : At (rest ++ (s.0, true) ∷ []) = write_at rest s.0 s.1 b (subst At e g) in
+        ready_of kind (seen p.0) (seen_at seen p) (length p.1) h.done places h.table (reads p.0).valid s.0 node (within_last (length p.1) rest (s.0, true) h.within) is.below
+        (λ a q. subst (λ (m : SymbolicExpr A). NodeFits (reads p.0) p.1 m) q is.fits)
+        (subst (HasOperands h.done) (node_seen p s.0 node is) (is_next kind (seen_at seen p) (length p.1) root rest places ds s.0 h).0)
+
+    node_written : (steps : List (ℕ × Bool)) (n : ℕ) (node : SymbolicExpr A) (d : Data) → IsNode (reads p.0) p.1 n node → (h : At steps) → IsNodeValue kind (seen p.0) places node d → IsWrittenNode kind h.done d (seen_at seen p n)
+    node_written steps n node d is h v =
+        let stated : stated_degree (reads p.0) node ≡ degree kind.term (node_tree (seen p.0) (seen_at seen p) node) =
+        degree_is_seen reads grows seen kind.term laws p n (stated_degree (reads p.0) node) (sym is.degree) ∙ ap (degree kind.term) (node_seen p n node is) in
+        subst (IsWrittenNode kind h.done d) (sym (node_seen p n node is))
+        (value_of kind (seen p.0) (seen_at seen p) (length p.1) h.done places h.table (reads p.0) node d stated v)
+
+    pub next_writes : (steps rest : List (ℕ × Bool)) (s : ℕ × Bool) (node : SymbolicExpr A) (o : Option ℕ) (d : Data) → IsPool reads p → steps ≡ rest ++ s ∷ [] → s.1 ≡ true → slice_get places s.0 ≡ Some o → is_some o ≡ false → IsNode (reads p.0) p.1 s.0 node → IsNodeValue kind (seen p.0) places node d → At steps
+        → Progress kind (seen_at seen p) (length p.1) root rest (set places s.0 (Some (length ds))) (ds ++ d ∷ [])
+    next_writes steps rest s node (Some i) d w e b at q is v g = absurd cc
+    next_writes steps rest s node None d w e b at q is v g =
+        let h : At (rest ++ (s.0, true) ∷ []) = write_at rest s.0 s.1 b (subst At e g) in
+        writes kind (seen_at seen p) (length p.1) root rest places ds s.0 d (seen_one p w) h at (node_written (rest ++ (s.0, true) ∷ []) s.0 node d is h v)

@@ -1,0 +1,11 @@
+use Rattle.std.proofs.Common.{sym, ◌∙◌}
+use Rattle.serde_json.specs.View.{view}
+use Rattle.air_wire.specs.BoundaryLaws.{cell_found, cell_again}
+use Rattle.air_wire.specs.Answering.{read_is, nothing_is}
+use Rattle.air_wire.proofs.boundary.BoundaryPublicSpelled.from_value.Goals as goal
+
+pub returns-clause-read : goal.returns-clause-read
+returns-clause-read c = read_is _ _ _ _ c.ok_or.ensures.value (λ x h. cell_found (view c.args.value.now) x (sym c.cell_from.ensures ∙ h))
+
+pub returns-clause-nothing : goal.returns-clause-nothing
+returns-clause-nothing c = nothing_is _ _ _ _ c.ok_or.ensures.value (λ x h. c.cell_from.ensures ∙ cell_again (view c.args.value.now) x h)

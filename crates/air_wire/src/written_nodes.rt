@@ -1,0 +1,104 @@
+//! One node of a list that is written.
+ghost use Rattle.std.specs.Prelude.{◌≡◌, ◌<◌, length, Some, IfOk, IfErr, codes};
+ghost use Rattle.std.specs.List.{slice_get};
+ghost use Rattle.serde_json.specs.View.{view};
+ghost use Rattle.air_wire.specs.Spelling.{case_data};
+ghost use Rattle.air_wire.specs.Written.{two_data, one_data};
+ghost use Rattle.air_wire.specs.Writing.{Placed, IsReady, IsNodeValue};
+
+use crate::errors::FlatError;
+use crate::wire_leaf::WireLeaf;
+use air_symbolic::{ExprId, SymbolicExpr};
+use serde_json::{Value, json};
+use std::alloc::{AllocError, Global};
+
+/// The place of an expression in the list, if it is written.
+pub(crate) fn place_of<A: WireLeaf>(places: &[Option<usize>], id: ExprId<A>) -> Option<usize>
+    requires { id < length places.now }
+    ensures { slice_get places.now id ≡ Some result }
+{
+    places[id.number()]
+}
+
+// The place of an expression that is written.
+fn place<A: WireLeaf>(places: &[Option<usize>], id: ExprId<A>) -> usize
+    requires { Placed places.now id }
+    ensures { slice_get places.now id ≡ Some (Some result) }
+{
+    match place_of(places, id) {
+        Some(place) => place,
+        None => unreachable!(),
+    }
+}
+
+fn add_value(alloc: Global, degree: usize, x: usize, y: usize) -> Result<Value, AllocError>
+    ensures { IfOk result (λ v. view v ≡ case_data (codes "Add") (two_data degree x y)) }
+{
+    json!(in alloc; {"Add": {"degree_multiple": degree, "x": x, "y": y}})
+}
+
+fn sub_value(alloc: Global, degree: usize, x: usize, y: usize) -> Result<Value, AllocError>
+    ensures { IfOk result (λ v. view v ≡ case_data (codes "Sub") (two_data degree x y)) }
+{
+    json!(in alloc; {"Sub": {"degree_multiple": degree, "x": x, "y": y}})
+}
+
+fn mul_value(alloc: Global, degree: usize, x: usize, y: usize) -> Result<Value, AllocError>
+    ensures { IfOk result (λ v. view v ≡ case_data (codes "Mul") (two_data degree x y)) }
+{
+    json!(in alloc; {"Mul": {"degree_multiple": degree, "x": x, "y": y}})
+}
+
+fn neg_value(alloc: Global, degree: usize, x: usize) -> Result<Value, AllocError>
+    ensures { IfOk result (λ v. view v ≡ case_data (codes "Neg") (one_data degree x)) }
+{
+    json!(in alloc; {"Neg": {"degree_multiple": degree, "x": x}})
+}
+
+/// What is written for a node whose operands are written.
+pub(crate) fn node_value<A: WireLeaf>(
+    alloc: Global,
+    under: &A::Under,
+    places: &[Option<usize>],
+    node: &SymbolicExpr<A>,
+) -> Result<Value, FlatError>
+    requires sound { (A.reads under.now).sound }
+    requires ready { IsReady (A.reads under.now).valid places.now node.now }
+    ensures written { IfOk result (λ v. IsNodeValue A.kind (A.seen under.now) places.now node.now
+        (view v)) }
+    ensures refused { IfErr result (λ e. e ≡ FlatError.Memory) }
+{
+    match *node {
+        SymbolicExpr::Leaf(leaf) => {
+            let contents = leaf.leaf_value(alloc, under)?;
+            Ok(json!(in alloc; {"Leaf": contents})?)
+        }
+        SymbolicExpr::Add {
+            x,
+            y,
+            degree_multiple,
+        } => {
+            let (i, j) = (place(places, x), place(places, y));
+            Ok(add_value(alloc, degree_multiple, i, j)?)
+        }
+        SymbolicExpr::Sub {
+            x,
+            y,
+            degree_multiple,
+        } => {
+            let (i, j) = (place(places, x), place(places, y));
+            Ok(sub_value(alloc, degree_multiple, i, j)?)
+        }
+        SymbolicExpr::Neg { x, degree_multiple } => {
+            Ok(neg_value(alloc, degree_multiple, place(places, x))?)
+        }
+        SymbolicExpr::Mul {
+            x,
+            y,
+            degree_multiple,
+        } => {
+            let (i, j) = (place(places, x), place(places, y));
+            Ok(mul_value(alloc, degree_multiple, i, j)?)
+        }
+    }
+}
