@@ -3,24 +3,13 @@
 
 ghost use Rattle.std.specs.Prelude.{◌≡◌};
 
-mod answer;
-mod commands;
-mod engine;
-mod fibonacci;
-mod input;
-mod program;
-mod refusals;
-mod streams;
 #[cfg(test)]
 mod tests;
-mod texts;
 
-use program::{refuse, run};
-use refusals::Refusal;
+use air_program::{ReadSource, Refusal, WriteSink, refuse, run};
 use std::io::ErrorKind;
 use std::process::ExitCode;
 use std::{env, io};
-use streams::{ReadSource, WriteSink};
 
 /// The words after the program's name.
 fn words(rt: &HostRuntime) -> io::Result<Vec<String>> {

@@ -2,10 +2,9 @@
 
 ghost use Rattle.std.specs.Prelude.{◌≡◌, false};
 
-use crate::fibonacci::Fibonacci;
-use crate::program::run;
 use air_builder::AirError;
 use air_field::{BabyBear, RowMajorMatrix};
+use air_program::{Fibonacci, run};
 use p3_air::{
     Air, AirLayout, Audit, CheckError, ConstraintReport, SymbolicAirBuilder, audit_air,
     check_all_constraints, check_constraints, get_all_symbolic_constraints, get_constraint_layout,

@@ -1,9 +1,76 @@
 //! Constraints one after another.
 ghost use Rattle.std.specs.Prelude.{◌++◌};
+ghost use Rattle.air_author.specs.Constraints.{Asserted};
+ghost use Rattle.air_author.specs.Expressions.{Lasts};
 
 use crate::conditions::Condition;
 use crate::constraints::Constraint;
 use air_builder::{AirBuilder, AirError};
+
+// Each length takes its first constraint and hands on the others one by one: as a tuple of references they would make a
+// type of all of theirs, which is dear to prove.
+
+/// Asserts both, in order.
+fn assert_two<AB: AirBuilder, C: Constraint<AB>, D: Constraint<AB>, K: Condition<AB>>(
+    builder: &mut AB,
+    condition: &K,
+    c: &C,
+    d: &D,
+) -> Result<(), AirError>
+    requires ready { AB.ready builder.old }
+    requires held { Lasts AB.kept
+        (λ b. (C.all_hold c.now b × D.all_hold d.now b) × K.where_holds condition.now b)
+        builder.old }
+    ensures { let under = K.under condition.now in let ext_under = K.ext_under condition.now in
+        Asserted AB.kept AB.grew AB.missing AB.refuses builder.old builder.new result
+        (C.asserts c.now under ext_under ++ D.asserts d.now under ext_under) }
+{
+    c.assert_under(builder, condition)?;
+    d.assert_under(builder, condition)
+}
+
+/// Asserts all three, in order.
+fn assert_three<
+    AB: AirBuilder,
+    C: Constraint<AB>,
+    D: Constraint<AB>,
+    E: Constraint<AB>,
+    K: Condition<AB>,
+>(builder: &mut AB, condition: &K, c: &C, d: &D, e: &E) -> Result<(), AirError>
+    requires ready { AB.ready builder.old }
+    requires held { Lasts AB.kept
+        (λ b. (C.all_hold c.now b × (D.all_hold d.now b × E.all_hold e.now b))
+        × K.where_holds condition.now b) builder.old }
+    ensures { let under = K.under condition.now in let ext_under = K.ext_under condition.now in
+        Asserted AB.kept AB.grew AB.missing AB.refuses builder.old builder.new result
+        (C.asserts c.now under ext_under ++ (D.asserts d.now under ext_under
+        ++ E.asserts e.now under ext_under)) }
+{
+    c.assert_under(builder, condition)?;
+    assert_two(builder, condition, d, e)
+}
+
+/// Asserts all four, in order.
+fn assert_four<
+    AB: AirBuilder,
+    C: Constraint<AB>,
+    D: Constraint<AB>,
+    E: Constraint<AB>,
+    G: Constraint<AB>,
+    K: Condition<AB>,
+>(builder: &mut AB, condition: &K, c: &C, d: &D, e: &E, g: &G) -> Result<(), AirError>
+    requires ready { AB.ready builder.old }
+    requires held { Lasts AB.kept
+        (λ b. (C.all_hold c.now b × (D.all_hold d.now b × (E.all_hold e.now b
+        × G.all_hold g.now b))) × K.where_holds condition.now b) builder.old }
+    ensures { let under = K.under condition.now in let ext_under = K.ext_under condition.now in
+        Asserted AB.kept AB.grew AB.missing AB.refuses builder.old builder.new result
+        (C.asserts c.now under ext_under ++ (D.asserts d.now under ext_under
+        ++ (E.asserts e.now under ext_under ++ G.asserts g.now under ext_under))) }
+{
+    c.assert_under(builder, condition)?;
+    assert_three(builder, condition, d, e, g)
+}
 
 /// Both, in order.
 impl<AB: AirBuilder, C: Constraint<AB>, D: Constraint<AB>> Constraint<AB> for (C, D) {
@@ -16,8 +83,7 @@ impl<AB: AirBuilder, C: Constraint<AB>, D: Constraint<AB>> Constraint<AB> for (C
         builder: &mut AB,
         condition: &K,
     ) -> Result<(), AirError> {
-        self.0.assert_under(builder, condition)?;
-        self.1.assert_under(builder, condition)
+        assert_two(builder, condition, &self.0, &self.1)
     }
 }
 
@@ -33,7 +99,7 @@ impl<AB: AirBuilder, C: Constraint<AB>, D: Constraint<AB>, E: Constraint<AB>> Co
         builder: &mut AB,
         condition: &K,
     ) -> Result<(), AirError> {
-        (&self.0, (&self.1, &self.2)).assert_under(builder, condition)
+        assert_three(builder, condition, &self.0, &self.1, &self.2)
     }
 }
 
@@ -45,16 +111,18 @@ impl<
     E: Constraint<AB>,
     G: Constraint<AB>,
 > Constraint<AB> for (C, D, E, G) {
-    ghost asserts = { λ s f g. C.asserts s.0 f g ++ (D.asserts s.1 f g ++ (E.asserts s.2 f g ++ G.asserts s.3 f g)) };
+    ghost asserts = { λ s f g. C.asserts s.0 f g ++ (D.asserts s.1 f g
+        ++ (E.asserts s.2 f g ++ G.asserts s.3 f g)) };
 
-    ghost all_hold = { λ s b. C.all_hold s.0 b × (D.all_hold s.1 b × (E.all_hold s.2 b × G.all_hold s.3 b)) };
+    ghost all_hold = { λ s b. C.all_hold s.0 b × (D.all_hold s.1 b
+        × (E.all_hold s.2 b × G.all_hold s.3 b)) };
 
     fn assert_under<K: Condition<AB>>(
         &self,
         builder: &mut AB,
         condition: &K,
     ) -> Result<(), AirError> {
-        (&self.0, (&self.1, &self.2, &self.3)).assert_under(builder, condition)
+        assert_four(builder, condition, &self.0, &self.1, &self.2, &self.3)
     }
 }
 
@@ -67,15 +135,18 @@ impl<
     G: Constraint<AB>,
     H: Constraint<AB>,
 > Constraint<AB> for (C, D, E, G, H) {
-    ghost asserts = { λ s f g. C.asserts s.0 f g ++ (D.asserts s.1 f g ++ (E.asserts s.2 f g ++ (G.asserts s.3 f g ++ H.asserts s.4 f g))) };
+    ghost asserts = { λ s f g. C.asserts s.0 f g ++ (D.asserts s.1 f g
+        ++ (E.asserts s.2 f g ++ (G.asserts s.3 f g ++ H.asserts s.4 f g))) };
 
-    ghost all_hold = { λ s b. C.all_hold s.0 b × (D.all_hold s.1 b × (E.all_hold s.2 b × (G.all_hold s.3 b × H.all_hold s.4 b))) };
+    ghost all_hold = { λ s b. C.all_hold s.0 b × (D.all_hold s.1 b
+        × (E.all_hold s.2 b × (G.all_hold s.3 b × H.all_hold s.4 b))) };
 
     fn assert_under<K: Condition<AB>>(
         &self,
         builder: &mut AB,
         condition: &K,
     ) -> Result<(), AirError> {
-        (&self.0, (&self.1, &self.2, &self.3, &self.4)).assert_under(builder, condition)
+        self.0.assert_under(builder, condition)?;
+        assert_four(builder, condition, &self.1, &self.2, &self.3, &self.4)
     }
 }

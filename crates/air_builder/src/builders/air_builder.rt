@@ -187,7 +187,7 @@ pub trait AirBuilder {
         ensures refused { IfErr result (RefusesOf (Means Self.Ring.means ring_of stands) refuses (λ t. t) self.old x) };
 
     /// Asserts that `x` is one: growth by x - 1.
-    fn assert_one(&mut self, x: Self::Expr) -> Result<(), AirError>
+    final fn assert_one(&mut self, x: Self::Expr) -> Result<(), AirError>
         requires ready { ready self.old }
         requires of_ring { Self.Ring.has (ring_of self.old) x }
         ensures keeps { kept self.old self.new }
@@ -200,7 +200,7 @@ pub trait AirBuilder {
     }
 
     /// Asserts that `x` and `y` are equal: growth by x - y.
-    fn assert_eq(&mut self, x: Self::Expr, y: Self::Expr) -> Result<(), AirError>
+    final fn assert_eq(&mut self, x: Self::Expr, y: Self::Expr) -> Result<(), AirError>
         requires ready { ready self.old }
         requires x_in { Self.Ring.has (ring_of self.old) x }
         requires y_in { Self.Ring.has (ring_of self.old) y }
@@ -214,7 +214,7 @@ pub trait AirBuilder {
     }
 
     /// Asserts that `x` is zero or one: growth by x (x - 1).
-    fn assert_bool(&mut self, x: Self::Expr) -> Result<(), AirError>
+    final fn assert_bool(&mut self, x: Self::Expr) -> Result<(), AirError>
         requires ready { ready self.old }
         requires of_ring { Self.Ring.has (ring_of self.old) x }
         ensures keeps { kept self.old self.new }
@@ -227,7 +227,7 @@ pub trait AirBuilder {
     }
 
     /// Asserts that each element is zero, in order.
-    fn assert_zeros_slice(&mut self, elements: &[Self::Expr]) -> Result<(), AirError>
+    final fn assert_zeros_slice(&mut self, elements: &[Self::Expr]) -> Result<(), AirError>
         requires ready { ready self.old }
         requires of_ring { All (Self.Ring.has (ring_of self.old)) elements.now }
         ensures keeps { kept self.old self.new }
@@ -242,7 +242,7 @@ pub trait AirBuilder {
     }
 
     /// Asserts that each element is zero or one, in order.
-    fn assert_bools_slice(&mut self, elements: &[Self::Expr]) -> Result<(), AirError>
+    final fn assert_bools_slice(&mut self, elements: &[Self::Expr]) -> Result<(), AirError>
         requires ready { ready self.old }
         requires of_ring { All (Self.Ring.has (ring_of self.old)) elements.now }
         ensures keeps { kept self.old self.new }
@@ -257,7 +257,7 @@ pub trait AirBuilder {
     }
 
     /// Asserts that the elements at each place are equal, in order.
-    fn assert_eq_slices(
+    final fn assert_eq_slices(
         &mut self,
         left: &[Self::Expr],
         right: &[Self::Expr],

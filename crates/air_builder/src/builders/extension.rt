@@ -42,7 +42,7 @@ pub trait ExtensionBuilder: AirBuilder {
         ensures refused { IfErr result (RefusesExtOf (Means Self.ExtRing.means ext_ring_of Self.stands) Self.refuses (λ t. t) self.old x) };
 
     /// Asserts that `x` is one: growth by x - 1.
-    fn assert_one_ext(&mut self, x: Self::ExprEF) -> Result<(), AirError>
+    final fn assert_one_ext(&mut self, x: Self::ExprEF) -> Result<(), AirError>
         requires ready { Self.ready self.old }
         requires of_ring { Self.ExtRing.has (ext_ring_of self.old) x }
         ensures keeps { Self.kept self.old self.new }
@@ -55,7 +55,7 @@ pub trait ExtensionBuilder: AirBuilder {
     }
 
     /// Asserts that `x` and `y` are equal: growth by x - y.
-    fn assert_eq_ext(&mut self, x: Self::ExprEF, y: Self::ExprEF) -> Result<(), AirError>
+    final fn assert_eq_ext(&mut self, x: Self::ExprEF, y: Self::ExprEF) -> Result<(), AirError>
         requires ready { Self.ready self.old }
         requires x_in { Self.ExtRing.has (ext_ring_of self.old) x }
         requires y_in { Self.ExtRing.has (ext_ring_of self.old) y }
@@ -69,7 +69,7 @@ pub trait ExtensionBuilder: AirBuilder {
     }
 
     /// Asserts that each element is zero, in order.
-    fn assert_zeros_ext_slice(&mut self, elements: &[Self::ExprEF]) -> Result<(), AirError>
+    final fn assert_zeros_ext_slice(&mut self, elements: &[Self::ExprEF]) -> Result<(), AirError>
         requires ready { Self.ready self.old }
         requires of_ring { All (Self.ExtRing.has (ext_ring_of self.old)) elements.now }
         ensures keeps { Self.kept self.old self.new }

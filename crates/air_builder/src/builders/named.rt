@@ -35,7 +35,7 @@ pub trait NamedAirBuilder: AirBuilder {
         ensures refused { IfErr result (RefusesOf (Means Self.Ring.means Self.ring_of Self.stands) Self.refuses (λ t. t) self.old x) };
 
     /// Asserts that `x` is one.
-    fn assert_one_named<N: Name>(&mut self, x: Self::Expr, name: N) -> Result<(), AirError>
+    final fn assert_one_named<N: Name>(&mut self, x: Self::Expr, name: N) -> Result<(), AirError>
         requires ready { Self.ready self.old }
         requires of_ring { Self.Ring.has (Self.ring_of self.old) x }
         requires can_evaluate { N.can_evaluate name }
@@ -50,7 +50,7 @@ pub trait NamedAirBuilder: AirBuilder {
     }
 
     /// Asserts that `x` and `y` are equal.
-    fn assert_eq_named<N: Name>(
+    final fn assert_eq_named<N: Name>(
         &mut self,
         x: Self::Expr,
         y: Self::Expr,
@@ -71,7 +71,7 @@ pub trait NamedAirBuilder: AirBuilder {
     }
 
     /// Asserts that `x` is zero or one.
-    fn assert_bool_named<N: Name>(&mut self, x: Self::Expr, name: N) -> Result<(), AirError>
+    final fn assert_bool_named<N: Name>(&mut self, x: Self::Expr, name: N) -> Result<(), AirError>
         requires ready { Self.ready self.old }
         requires of_ring { Self.Ring.has (Self.ring_of self.old) x }
         requires can_evaluate { N.can_evaluate name }
@@ -86,7 +86,7 @@ pub trait NamedAirBuilder: AirBuilder {
     }
 
     /// Asserts that each element is zero, the i-th under the name `name::[i]`.
-    fn assert_zeros_named_slice<N: Namespace>(
+    final fn assert_zeros_named_slice<N: Namespace>(
         &mut self,
         elements: &[Self::Expr],
         name: N,
@@ -108,7 +108,7 @@ pub trait NamedAirBuilder: AirBuilder {
     }
 
     /// Asserts that each element is zero or one, the i-th under the name `name::[i]`.
-    fn assert_bools_named_slice<N: Namespace>(
+    final fn assert_bools_named_slice<N: Namespace>(
         &mut self,
         elements: &[Self::Expr],
         name: N,

@@ -28,7 +28,7 @@ pub trait NamedExtensionBuilder: ExtensionBuilder + NamedAirBuilder {
         ensures refused { IfErr result (RefusesExtOf (Means Self.ExtRing.means Self.ext_ring_of Self.stands) Self.refuses (λ t. t) self.old x) };
 
     /// Asserts that `x` is one.
-    fn assert_one_ext_named<N: Name>(&mut self, x: Self::ExprEF, name: N) -> Result<(), AirError>
+    final fn assert_one_ext_named<N: Name>(&mut self, x: Self::ExprEF, name: N) -> Result<(), AirError>
         requires ready { Self.ready self.old }
         requires of_ring { Self.ExtRing.has (Self.ext_ring_of self.old) x }
         requires can_evaluate { N.can_evaluate name }
@@ -43,7 +43,7 @@ pub trait NamedExtensionBuilder: ExtensionBuilder + NamedAirBuilder {
     }
 
     /// Asserts that `x` and `y` are equal.
-    fn assert_eq_ext_named<N: Name>(
+    final fn assert_eq_ext_named<N: Name>(
         &mut self,
         x: Self::ExprEF,
         y: Self::ExprEF,

@@ -2,8 +2,7 @@
 
 use super::streams::{Kept, Pieces};
 use super::{MANY, run_on, words};
-use crate::program::run;
-use crate::streams::{ReadSource, WriteSink};
+use air_program::{ReadSource, WriteSink, run};
 use std::process::Abort;
 use std::test::*;
 

@@ -2,7 +2,7 @@
 
 ghost use Rattle.std.specs.Prelude.{◌≡◌, false};
 
-use crate::streams::{Sink, Source, StreamFault};
+use air_program::{Sink, Source, StreamFault};
 use std::alloc::Global;
 
 /// Gives bytes, at most so many at a call, and fails once it has answered so many calls.

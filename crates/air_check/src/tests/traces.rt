@@ -1,11 +1,11 @@
 //! Fibonacci by the checks of a whole trace: capped, up to the first fault, with a boundary cell, on a wider trace.
 ghost use Rattle.std.specs.Prelude.{[], None};
-ghost use Rattle.air_check.specs.Fibonacci.{fibonacci};
+ghost use Rattle.air_program.specs.Fibonacci.{fibonacci};
 
 use super::{check_on, report_on};
-use crate::fibonacci::Fibonacci;
 use air_builder::{Air, AirError, BaseAir, BoundaryEnd, BoundaryPublic};
 use air_field::{BabyBear, RowMajorMatrix};
+use air_program::Fibonacci;
 use p3_air::{
     CheckError, ConstraintFailure, ConstraintReport, DebugConstraintBuilder, check_all_constraints,
     check_constraints,

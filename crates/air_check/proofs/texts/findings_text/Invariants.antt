@@ -1,7 +1,0 @@
-use Rattle.std.proofs.Common.{string_bytes}
-use Rattle.air_check.specs.Texts.{count_lines, found}
-use Rattle.air_check.proofs.TextLemmas.{HasLines}
-use Rattle.air_check.proofs.texts.findings_text.Given as goal
-
-abbrev pub invariant-loop-failure : goal.invariant-loop-failure
-invariant-loop-failure l = HasLines (count_lines (found l.findings)) l.findings.report.failures.items l.failure-index (string_bytes l.text)

@@ -1,0 +1,130 @@
+-- On a trace of two columns with three public values Fibonacci is refused for want of memory alone.
+use Rattle.std.proofs.Common.{◌≡◌, ℕ, ◌+◌, ◌<◌, ◌≤◌, ◌^◌, List, [], ◌∷◌, ◌++◌, length, refl, arith, Bool, Option, inl, inr}
+use Rattle.std.proofs.Math.Nat.{max-le, le-max_left, le-max_right}
+use Rattle.air_field.specs.Ring.{CommRing, Over, itself}
+use Rattle.air_field.specs.Term.{Leaf, permutation, Term}
+use Rattle.air_field.specs.Part.{Part, whole, in_add_left, in_add_right, in_sub_left, in_sub_right, in_neg, in_mul_left, in_mul_right}
+use Rattle.air_field.specs.Degree.{degree_by, cached_weight, trace_weight, greatest_degree}
+use Rattle.air_field.specs.Grid.{Grid}
+use Rattle.air_field.specs.Assignment.{Shape, IsMissing, trace_shape}
+use Rattle.air_builder.specs.Assertion.{Assertion, Base, Extension}
+use Rattle.air_builder.specs.Beside.{nothing_beside}
+use Rattle.air_builder.specs.Refusals.{PartOf, NoneMissing, none_missing}
+use Rattle.air_windows.specs.declared.errors.AirError.{AirError}
+use Rattle.air_windows.specs.declared.errors.AirError.TheVariants.{Memory, DegreeOverflow, CountOverflow, MissingEntry, RowOffset, MissingExtEntry, NoPermutation}
+use Rattle.air_variables.specs.Entries.{entry_leaf}
+use Rattle.air_variables.specs.ExtEntries.{ext_entry_leaf}
+use Rattle.air_report.specs.Report.{plain_trace}
+use Rattle.air_report.specs.DebugLaws.{IsFull}
+use Rattle.air_report.specs.Given.{given}
+use Rattle.air_report.specs.Plain.{plain_refusal}
+use Rattle.air_builder.specs.Refused.{Refused}
+use Rattle.air_recording.specs.Kinds.{base_terms, ext_terms}
+use Rattle.air_recording.specs.Layouts.{layout_shape, plain_layout}
+use Rattle.air_recording.specs.Recorded.{EachRecords}
+use Rattle.air_recording.specs.Recording.{IsOver}
+use Rattle.p3_air.specs.Audits.{AuditRefusesUnder}
+use Rattle.air_program.specs.Fibonacci.{fibonacci}
+
+part_degree : {F : Type 0} (w : Leaf → ℕ) {t u : Term F} → Part t u → degree_by w t ≤ degree_by w u
+part_degree w whole = omega arith
+part_degree w (in_add_left {u = u} {v = v} p) = omega (arith, part_degree w p, le-max_left (degree_by w u) (degree_by w v))
+part_degree w (in_add_right {u = u} {v = v} p) = omega (arith, part_degree w p, le-max_right (degree_by w u) (degree_by w v))
+part_degree w (in_sub_left {u = u} {v = v} p) = omega (arith, part_degree w p, le-max_left (degree_by w u) (degree_by w v))
+part_degree w (in_sub_right {u = u} {v = v} p) = omega (arith, part_degree w p, le-max_right (degree_by w u) (degree_by w v))
+part_degree w (in_neg p) = part_degree w p
+part_degree w (in_mul_left {u = u} {v = v} p) = omega (arith, part_degree w p)
+part_degree w (in_mul_right {u = u} {v = v} p) = omega (arith, part_degree w p)
+
+-- where no term has a degree past b, no part has
+AllBelow : {F : Type 0} → (Leaf → ℕ) → ℕ → List (Assertion F) → Type 0
+AllBelow w b [] = Unit {0}
+AllBelow w b (Base t ∷ ts) = (degree_by w t ≤ b) × AllBelow w b ts
+AllBelow w b (Extension t ∷ ts) = (degree_by w t ≤ b) × AllBelow w b ts
+
+parts_below : {F : Type 0} (w : Leaf → ℕ) (b : ℕ) (ts : List (Assertion F)) → AllBelow w b ts → (t : Term F) → PartOf t ts → degree_by w t ≤ b
+unfolding AllBelow
+parts_below w b [] h t p = absurd p
+parts_below w b (Base u ∷ ts) h t (inl p) = omega (arith, part_degree w p, h.0)
+parts_below w b (Extension u ∷ ts) h t (inl p) = omega (arith, part_degree w p, h.0)
+parts_below w b (Base u ∷ ts) h t (inr p) = parts_below w b ts h.1 t p
+parts_below w b (Extension u ∷ ts) h t (inr p) = parts_below w b ts h.1 t p
+
+-- each of these terms has at most degree b
+TermsBelow : {F : Type 0} → (Leaf → ℕ) → ℕ → List (Term F) → Type 0
+TermsBelow w b [] = Unit {0}
+TermsBelow w b (t ∷ ts) = (degree_by w t ≤ b) × TermsBelow w b ts
+
+-- what records such terms has no greater degree
+recorded_below : {F E : Type 0} (a : Over F E) (w : Leaf → ℕ) (b : ℕ) (us ts : List (Term F)) → EachRecords a us ts → TermsBelow w b ts → greatest_degree w us ≤ b
+unfolding TermsBelow
+recorded_below a w b [] [] m h = omega arith
+recorded_below a w b [] (t ∷ ts) m h = absurd m
+recorded_below a w b (u ∷ us) [] m h = absurd m
+recorded_below a w b (u ∷ us) (t ∷ ts) m h = max-le (omega (arith, m.0.light w, h.0)) (recorded_below a w b us ts m.1 h.1)
+
+both_below : {F E : Type 0} (a : Over F E) (w : Leaf → ℕ) (b : ℕ) (us ts vs ss : List (Term F)) → EachRecords a us ts → EachRecords a vs ss → TermsBelow w b ts → TermsBelow w b ss → greatest_degree w (us ++ vs) ≤ b
+unfolding TermsBelow
+both_below a w b [] [] vs ss m n h k = recorded_below a w b vs ss n k
+both_below a w b [] (t ∷ ts) vs ss m n h k = absurd m
+both_below a w b (u ∷ us) [] vs ss m n h k = absurd m
+both_below a w b (u ∷ us) (t ∷ ts) vs ss m n h k = max-le (omega (arith, m.0.light w, h.0)) (both_below a w b us ts vs ss m.1 n h.1 k)
+
+module _ (F : Type 0) where
+  -- two columns and three public values have all entries that the constraints name
+  none_missing_in : (s : Shape) → s.main_width ≡ 2 → s.public_values ≡ 3 → NoneMissing {F = F} (IsMissing s) fibonacci
+  none_missing_in s w p =
+      let column : (i : ℕ) → i < 2 → s.main_width ≤ i → ⊥ = λ i b h. absurd (omega arith) in
+      let value : (i : ℕ) → i < 3 → s.public_values ≤ i → ⊥ = λ i b h. absurd (omega arith) in
+      let a = column 0 (omega arith) in
+      let b = column 1 (omega arith) in
+      let none : ⊥ → ⊥ = λ h. h in
+      none_missing (IsMissing s) fibonacci
+      ((none, (a, value 0 (omega arith))), ((none, (b, value 1 (omega arith))), ((none, (a, b)), ((none, (b, (a, b))), ((none, (b, value 2 (omega arith))), tt)))))
+
+  cached_below : AllBelow {F = F} cached_weight 2 fibonacci
+  unfolding AllBelow
+  cached_below = (omega arith, (omega arith, (omega arith, (omega arith, (omega arith, tt)))))
+
+  trace_below : (n : ℕ) → TermsBelow {F = F} (trace_weight n []) (n + n + 1) (base_terms fibonacci)
+  unfolding TermsBelow
+  trace_below n = (omega arith, (omega arith, (omega arith, (omega arith, (omega arith, tt)))))
+
+  none_below : (n : ℕ) → TermsBelow {F = F} (trace_weight n []) (n + n + 1) (ext_terms fibonacci)
+  unfolding TermsBelow
+  none_below n = tt
+
+  -- a check refuses memory alone
+  check_refuses : (g : Grid F) (public : List F) (e : AirError) → g.width ≡ 2 → length public ≡ 3 → Refused {F = F} (IsMissing (trace_shape (plain_trace g public))) (λ _. ⊥) (IsFull 0) e fibonacci → e ≡ Memory
+  check_refuses g public Memory w p h = refl
+  check_refuses g public DegreeOverflow w p h = absurd h.1.0
+  check_refuses g public CountOverflow w p h = absurd (omega arith)
+  check_refuses g public (MissingEntry e i) w p h = absurd (none_missing_in (trace_shape (plain_trace g public)) w p (entry_leaf e i) h.0 h.1)
+  check_refuses g public (RowOffset o) w p h = absurd (none_missing_in (trace_shape (plain_trace g public)) w p h.0 h.2 h.3)
+  check_refuses g public (MissingExtEntry e i) w p h = absurd (none_missing_in (trace_shape (plain_trace g public)) w p (ext_entry_leaf e i) h.0 h.1)
+  check_refuses g public NoPermutation w p h = absurd (none_missing_in (trace_shape (plain_trace g public)) w p (permutation h.0 h.1) h.2 h.3)
+  check_refuses g public _ w p h = absurd h
+
+  -- and so does the recording
+  recording_refuses : (e : AirError) → Refused {F = F} (IsMissing (layout_shape (plain_layout 2 3))) (IsOver cached_weight) (λ _. ⊥) e fibonacci → e ≡ Memory
+  recording_refuses Memory h = refl
+  recording_refuses CountOverflow h = absurd h
+  recording_refuses (MissingEntry e i) h = absurd (none_missing_in (layout_shape (plain_layout 2 3)) refl refl (entry_leaf e i) h.0 h.1)
+  recording_refuses (RowOffset o) h = absurd (none_missing_in (layout_shape (plain_layout 2 3)) refl refl h.0 h.2 h.3)
+  recording_refuses (MissingExtEntry e i) h = absurd (none_missing_in (layout_shape (plain_layout 2 3)) refl refl (ext_entry_leaf e i) h.0 h.1)
+  recording_refuses NoPermutation h = absurd (none_missing_in (layout_shape (plain_layout 2 3)) refl refl (permutation h.0 h.1) h.2 h.3)
+  recording_refuses DegreeOverflow h = absurd (omega (arith, h.1.0, parts_below cached_weight 2 fibonacci cached_below h.0 h.1.1))
+  recording_refuses _ h = absurd h
+
+  -- no degree passes `usize`
+  degree_fits : (r : CommRing F) (n : ℕ) (us vs : List (Term F)) → n < 2 ^ 63 → EachRecords (itself r) us (base_terms fibonacci) → EachRecords (itself r) vs (ext_terms fibonacci) → 2 ^ 64 ≤ greatest_degree (trace_weight n []) (us ++ vs) → ⊥
+  degree_fits r n us vs b m k past =
+      absurd (omega (arith, b, past, both_below (itself r) (trace_weight n []) (n + n + 1) us (base_terms fibonacci) vs (ext_terms fibonacci) m k (trace_below n) (none_below n)))
+
+  -- and so an audit refuses memory alone
+  pub audit_refuses : (r : CommRing F) (eq : F → F → Bool) (main : Grid F) (public : List F) (cap : Option ℕ) (e : AirError) → main.width ≡ 2 → length public ≡ 3 → length main.rows < 2 ^ 63
+      → AuditRefusesUnder r eq (plain_layout 2 3) (given fibonacci nothing_beside main public) cap e → e ≡ Memory
+  audit_refuses r eq main public cap e w p b (inl recording) = recording_refuses e recording
+  audit_refuses r eq main public cap e w p b (inr (there, inl check)) = check_refuses main public e w p (plain_refusal r eq fibonacci main public cap e check)
+  audit_refuses r eq main public cap e w p b (inr (there, inr past)) =
+      absurd (degree_fits r (length main.rows) past.1.base past.1.ext b past.1.base_recorded past.1.ext_recorded past.1.past)

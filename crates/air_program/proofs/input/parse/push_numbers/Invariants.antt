@@ -1,0 +1,13 @@
+use Rattle.std.proofs.Common.{◌≡◌, ◌≤◌, length, vec_len}
+use Rattle.air_program.specs.Grammar.{numbers_in, numbers_of, fields_of}
+use Rattle.air_program.specs.Parsing.{residues, onto}
+use Rattle.air_program.proofs.input.parse.push_numbers.Given as goal
+
+abbrev pub invariant-fields : goal.invariant-fields
+invariant-fields l = record {
+  same : onto (residues l.numbers.items) (numbers_in (fields_of l.rest)) ≡ onto (residues l.fn.numbers.items) (numbers_of l.line);
+  more : l.before ≤ vec_len l.numbers;
+}
+
+abbrev pub decreases-fields : goal.decreases-fields
+decreases-fields l = length (fields_of l.rest)

@@ -1,0 +1,65 @@
+-- The lines that are printed.
+use Rattle.std.specs.Prelude.{◌≡◌, ◌≢◌, ℕ, All, List, [], ◌∷◌, ◌++◌, length, map, codes, decimal, ◌==◌, if◌then◌else◌, Option, IfSome}
+use Rattle.std.specs.List.{flat_map}
+use Rattle.air_builder.specs.Batches.{Each}
+use Rattle.air_report.specs.FailureTexts.{seen_failure, label_suffix}
+use Rattle.air_program.specs.declared.texts.Findings.{Findings}
+
+-- each line ended by a byte 10
+abbrev pub lines_text : List (List ℕ) → List ℕ
+lines_text lines = flat_map (λ line. line ++ codes "\n") lines
+
+-- what was found: the three counts, and of each failure the row, the constraint and the label's bytes
+pub record Found : Type 0 where
+  pub degree : ℕ
+  pub rows : ℕ
+  pub constraints : ℕ
+  pub failures : List (ℕ × ℕ × Option (List ℕ))
+
+abbrev pub found : Findings → Found
+found f = record {
+  degree = f.degree;
+  rows = f.report.total_rows;
+  constraints = f.report.total_constraints_per_row;
+  failures = map seen_failure f.report.failures.items;
+}
+
+-- the row and the constraint of a failure
+abbrev pub place_of : ℕ × ℕ × Option (List ℕ) → ℕ × ℕ
+place_of f = (f.0, f.1)
+
+-- `row r: #k`
+unfoldable pub place_text : ℕ × ℕ → List ℕ
+place_text p = codes "row " ++ (decimal p.0 ++ (codes ": #" ++ decimal p.1))
+
+-- no byte 10
+abbrev pub HasNoLineEnd : List ℕ → Type 0
+HasNoLineEnd text = All (λ byte. byte ≢ 10) text
+
+-- the place of the failure, and behind it what its label shows as: any text without a line end, where nothing more is said
+-- of that
+pub record IsFailureLine (f : ℕ × ℕ × Option (List ℕ)) (line : List ℕ) : Type 0 where
+  pub shown : List ℕ
+  pub line_is : line ≡ place_text (place_of f) ++ shown
+  pub shown_is : IfSome (label_suffix f.2) (λ suffix. shown ≡ suffix)
+  pub one_line : HasNoLineEnd shown
+
+-- the three counts
+unfoldable pub count_lines : Found → List (List ℕ)
+count_lines f = (codes "degree " ++ decimal f.degree) ∷ (codes "rows " ++ decimal f.rows) ∷ (codes "constraints " ++ decimal f.constraints) ∷ []
+
+-- and then a line for each failure
+pub record IsFindingsText (f : Found) (text : List ℕ) : Type 0 where
+  pub lines : List (List ℕ)
+  pub each : Each IsFailureLine f.failures lines
+  pub text_is : text ≡ lines_text (count_lines f ++ lines)
+
+-- new is old and a further line for the failure
+pub record PushesLine (f : ℕ × ℕ × Option (List ℕ)) (old new : List ℕ) : Type 0 where
+  pub line : List ℕ
+  pub is_line : IsFailureLine f line
+  pub pushed : new ≡ old ++ lines_text (line ∷ [])
+
+-- 0 without failures, 1 with
+abbrev pub findings_status : Found → ℕ
+findings_status f = if length f.failures == 0 then 0 else 1

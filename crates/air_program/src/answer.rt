@@ -1,0 +1,142 @@
+//! The answer to a whole input.
+
+ghost use Rattle.std.specs.Prelude.{◌≡◌, ◌%◌, ◌<◌, ◌^◌, length, vec_len, IfOk, IfErr, string_bytes};
+ghost use Rattle.air_field.specs.Grid.{grid_of};
+ghost use Rattle.air_field.specs.Modulo.{baby_bear_ring};
+ghost use Rattle.air_report.specs.Given.{given};
+ghost use Rattle.p3_air.specs.Audits.{AuditRefusesUnder, own_layout};
+ghost use Rattle.air_program.specs.Texts.{found, findings_status};
+ghost use Rattle.air_program.specs.Commands.{has_labels};
+ghost use Rattle.air_program.specs.Answer.{AuditFinds, given_fibonacci, Answers, MayRefuse};
+
+use crate::commands::{Command, Request};
+use crate::fibonacci::Fibonacci;
+use crate::input::{Input, ParseFault, parse};
+use crate::refusals::Refusal;
+use crate::texts::{Findings, findings_text};
+use air_builder::AirError;
+use air_field::{BabyBear, RowMajorMatrix};
+use p3_air::{Air, BaseAir, DebugConstraintBuilder, SymbolicAirBuilder, audit_air_with_cap};
+use std::alloc::Global;
+
+/// The trace of these values, two a row.
+fn trace_of(values: Vec<BabyBear>) -> RowMajorMatrix<BabyBear>
+    requires { vec_len values % 2 ≡ 0 }
+    ensures trace { result ≡ grid_of 2 values.items }
+    ensures height { length result.rows < 2 ^ 63 }
+{
+    match RowMajorMatrix::new(values, 2) {
+        Ok(main) => main,
+        Err(_) => unreachable!(),
+    }
+}
+
+/// What is printed for a refusal of Fibonacci on a trace that fits it: nothing but memory can be wanting.
+fn refusal_of(error: AirError) -> Refusal
+    requires { error ≡ AirError.Memory }
+    ensures { result ≡ Refusal.Memory }
+{
+    match error {
+        AirError::Memory => Refusal::Memory,
+        _ => unreachable!(),
+    }
+}
+
+/// The AIR that a command is about.
+fn air_of(command: Command) -> Fibonacci
+    ensures { result.is_named ≡ has_labels command }
+{
+    match command {
+        Command::Fibonacci => Fibonacci::new(),
+        Command::Named => Fibonacci::named(),
+    }
+}
+
+/// What the audit of an AIR on a trace finds.
+fn findings_of<
+    'a,
+    A: BaseAir<BabyBear>
+        + Air<SymbolicAirBuilder<BabyBear, BabyBear>>
+        + Air<DebugConstraintBuilder<'a, BabyBear, BabyBear>>,
+>(
+    alloc: Global,
+    air: &'a A,
+    main: &'a RowMajorMatrix<BabyBear>,
+    public_values: &'a [BabyBear],
+    cap: Option<usize>,
+) -> Result<Findings, AirError>
+    ensures found { IfOk result (λ findings. AuditFinds ⟦<BabyBear as PartialEq>⟧.eq
+        (given (A.declared air.now) (A.beside air.now) main.now public_values.now) cap
+        (found findings)) }
+    ensures refused { IfErr result (AuditRefusesUnder baby_bear_ring ⟦<BabyBear as PartialEq>⟧.eq
+        (own_layout (A.beside air.now) (A.width air.now) (A.num_public_values air.now))
+        (given (A.declared air.now) (A.beside air.now) main.now public_values.now) cap) }
+{
+    match audit_air_with_cap(alloc, air, main, public_values, cap) {
+        Ok(audit) => Ok(Findings {
+            degree: audit.degree,
+            report: audit.report,
+        }),
+        Err(error) => Err(error),
+    }
+}
+
+/// Audits Fibonacci on the trace.
+fn audit_fibonacci(
+    alloc: Global,
+    fibonacci: Fibonacci,
+    main: &RowMajorMatrix<BabyBear>,
+    public_values: &[BabyBear],
+    cap: Option<usize>,
+) -> Result<Findings, Refusal>
+    requires width { main.now.width ≡ 2 }
+    requires height { length main.now.rows < 2 ^ 63 }
+    requires public { length public_values.now ≡ 3 }
+    ensures found { IfOk result (λ findings. AuditFinds ⟦<BabyBear as PartialEq>⟧.eq
+        (given_fibonacci main.now public_values.now) cap (found findings)) }
+    ensures refused { IfErr result (λ why. why ≡ Refusal.Memory) }
+{
+    match findings_of(alloc, &fibonacci, main, public_values, cap) {
+        Ok(findings) => Ok(findings),
+        Err(error) => Err(refusal_of(error)),
+    }
+}
+
+/// 0 without failures, 1 with.
+fn status(findings: &Findings) -> u8
+    ensures { result ≡ findings_status (found findings.now) }
+{
+    if findings.report.failures.is_empty() {
+        0
+    } else {
+        1
+    }
+}
+
+/// The status and the text that answer an input.
+pub fn answer(alloc: Global, request: Request, input: &[u8]) -> Result<(u8, String), Refusal>
+    ensures ok { IfOk result (λ p. Answers ⟦<BabyBear as PartialEq>⟧.eq request.cap input.now p.0 (string_bytes p.1)) }
+    ensures refused { IfErr result (MayRefuse ⟦<BabyBear as PartialEq>⟧.eq request.cap input.now) }
+{
+    let input = match parse(alloc, input) {
+        Ok(input) => input,
+        Err(ParseFault::Syntax) => return Err(Refusal::Syntax),
+        Err(ParseFault::Memory) => return Err(Refusal::Memory),
+    };
+    let Input {
+        public_values,
+        values,
+    } = input;
+    let main = trace_of(values);
+    let findings = audit_fibonacci(
+        alloc,
+        air_of(request.command),
+        &main,
+        &public_values,
+        request.cap,
+    )?;
+    match findings_text(alloc, &findings) {
+        Ok(text) => Ok((status(&findings), text)),
+        Err(_) => Err(Refusal::Memory),
+    }
+}

@@ -1,0 +1,75 @@
+//! The words that the program is called with.
+
+ghost use Rattle.std.specs.Prelude.{◌≡◌, ◌==◌, map, slice_index_or, string_bytes};
+ghost use Rattle.air_program.specs.Commands.{command_of, cap_of, request_of};
+
+/// What the words ask for.
+#[derive(Clone, Copy, Debug, PartialEq, Eq, Drop)]
+pub enum Command {
+    /// Fibonacci.
+    Fibonacci,
+    /// Fibonacci with labels.
+    Named,
+}
+
+/// What is asked for: a command, and how many failures are enough, if any number is.
+#[derive(Clone, Copy, Debug, PartialEq, Eq, Drop)]
+pub struct Request {
+    pub command: Command,
+    pub cap: Option<usize>,
+}
+
+/// The command of this word, if it is one.
+fn command_of(word: &str) -> Option<Command>
+    ensures { result ≡ command_of word.now }
+{
+    if word == "fibonacci" {
+        Some(Command::Fibonacci)
+    } else if word == "named" {
+        Some(Command::Named)
+    } else {
+        None
+    }
+}
+
+/// Whether a plus stands first, which std's numbers may have.
+fn starts_with_plus(word: &str) -> bool
+    ensures { result ≡ (slice_index_or word.now 0 0 == 43) }
+{
+    let bytes = word.as_bytes();
+    !bytes.is_empty() && bytes[0] == b'+'
+}
+
+/// The cap that a word writes in decimal digits, if it writes one.
+fn cap_of(word: &str) -> Option<usize>
+    ensures { result ≡ cap_of word.now }
+{
+    if starts_with_plus(word) {
+        return None;
+    }
+    match word.parse::<usize>() {
+        Ok(cap) => Some(cap),
+        Err(_) => None,
+    }
+}
+
+/// What these words, the program's name not among them, ask for; nothing where they aren't known.
+pub fn request_of(words: &[String]) -> Option<Request>
+    ensures { result ≡ request_of (map string_bytes words.now) }
+{
+    match words {
+        [word] => {
+            let command = command_of(word.as_str())?;
+            Some(Request { command, cap: None })
+        }
+        [word, cap] => {
+            let command = command_of(word.as_str())?;
+            let cap = cap_of(cap.as_str())?;
+            Some(Request {
+                command,
+                cap: Some(cap),
+            })
+        }
+        _ => None,
+    }
+}

@@ -1,0 +1,31 @@
+//! Numbers in decimal digits.
+
+ghost use Rattle.std.specs.Prelude.{◌≡◌, ◌≤◌, IfSome};
+ghost use Rattle.air_program.specs.Grammar.{number_of};
+
+const MOST_DIGITS: usize = 10;
+
+/// The greatest number below the modulus of the field.
+const GREATEST: u64 = 2013265920;
+
+/// The number that a field writes.
+#[tactic(auto, unfolding(crate::specs::Grammar::number_of))]
+pub fn number(field: &[u8]) -> Option<u32>
+    ensures value { result ≡ number_of field.now }
+    ensures small { IfSome result (λ n. n ≤ 2013265920) }
+{
+    if field.is_empty() || field.len() > MOST_DIGITS {
+        return None;
+    }
+    let mut value: u64 = 0;
+    for digit in field {
+        if !digit.is_ascii_digit() {
+            return None;
+        }
+        value = 10 * value + u64::from(*digit - b'0');
+        if value > GREATEST {
+            return None;
+        }
+    }
+    Some(value as u32)
+}

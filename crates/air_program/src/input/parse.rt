@@ -1,0 +1,99 @@
+//! Parsing a whole input.
+
+ghost use Rattle.std.specs.Prelude.{◌≡◌, ◌<◌, ◌%◌, None, Some, ◌+◌, length, vec_len, IfOk, OnOk, IsErrOf};
+ghost use Rattle.std.specs.Str.Lines.{lines};
+ghost use Rattle.air_program.specs.Grammar.{numbers_of, rows_of, parse};
+ghost use Rattle.air_program.specs.Parsing.{residues, onto, PushesRow};
+
+use crate::input::number::number;
+use crate::input::pieces::{next_field, next_line};
+use air_field::BabyBear;
+use std::alloc::{AllocFailed, Global};
+
+/// Why an input was not read.
+#[derive(Clone, Copy, Debug, PartialEq, Eq, Drop)]
+pub enum ParseFault {
+    Syntax,
+    Memory,
+}
+
+impl<T: Drop> From<AllocFailed<T>> for ParseFault {
+    ghost use Rattle.air_program.specs.declared.input.parse.ParseFault.TheVariants.{Memory};
+
+    ghost from_gives = { λ _ e. e ≡ Memory };
+
+    fn from(_e: AllocFailed<T>) -> ParseFault {
+        ParseFault::Memory
+    }
+}
+
+/// Adds the numbers of a line at the end, and answers how many it has.
+#[tactic(auto, using(crate::proofs::Numbers::next_number))]
+fn push_numbers(numbers: &mut Vec<BabyBear>, line: &[u8]) -> Result<usize, ParseFault>
+    ensures numbers { OnOk result (onto (residues numbers.old.items) (numbers_of line.now) ≡ Some (residues numbers.new.items)) }
+    ensures count { IfOk result (λ count. vec_len numbers.new ≡ vec_len numbers.old + count) }
+    ensures syntax { IsErrOf result ParseFault.Syntax → numbers_of line.now ≡ None }
+{
+    let before = numbers.len();
+    let mut rest = line;
+    'fields: while let Some((field, after)) = next_field(rest) {
+        let Some(number) = number(field) else {
+            return Err(ParseFault::Syntax);
+        };
+        numbers.push(BabyBear::new(number))?;
+        rest = after;
+    }
+    Ok(numbers.len() - before)
+}
+
+/// Adds the numbers of the next line that has some, and answers how many: 0 where no such line is left.
+#[tactic(auto, using(crate::proofs::Rows::row_taken, crate::proofs::Rows::line_skipped, crate::proofs::Rows::bad_line))]
+fn push_row(numbers: &mut Vec<BabyBear>, rest: &mut &[u8]) -> Result<usize, ParseFault>
+    ensures ok { IfOk result (λ count. PushesRow (residues numbers.old.items) (residues numbers.new.items) count (rows_of (lines rest.old.now)) (rows_of (lines rest.new.now))) }
+    ensures shorter { IfOk result (λ count. 0 < count → length (lines rest.new.now) < length (lines rest.old.now)) }
+    ensures syntax { IsErrOf result ParseFault.Syntax → rows_of (lines rest.old.now) ≡ None }
+{
+    'lines: while let Some((line, after)) = next_line(*rest) {
+        *rest = after;
+        let count = push_numbers(numbers, line)?;
+        if count > 0 {
+            return Ok(count);
+        }
+    }
+    Ok(0)
+}
+
+/// Three public values, and the trace row after row.
+#[derive(Drop)]
+pub struct Input {
+    pub public_values: Vec<BabyBear>,
+    pub values: Vec<BabyBear>,
+}
+
+/// What the bytes spell.
+#[tactic(auto, unfolding(crate::specs::Grammar::parse))]
+pub fn parse(alloc: Global, bytes: &[u8]) -> Result<Input, ParseFault>
+    ensures ok { IfOk result (λ input. parse bytes.now ≡ Some (residues input.public_values.items, residues input.values.items)) }
+    ensures three { IfOk result (λ input. vec_len input.public_values ≡ 3) }
+    ensures whole_rows { IfOk result (λ input. vec_len input.values % 2 ≡ 0) }
+    ensures syntax { IsErrOf result ParseFault.Syntax → parse bytes.now ≡ None }
+{
+    let mut rest = bytes;
+    let mut public_values = Vec::new(alloc);
+    if push_row(&mut public_values, &mut rest)? != 3 {
+        return Err(ParseFault::Syntax);
+    }
+    let mut values = Vec::new(alloc);
+    'rows: loop {
+        match push_row(&mut values, &mut rest)? {
+            0 => {
+                return Ok(Input {
+                    public_values,
+                    values,
+                });
+            }
+            2 => {}
+            _ => return Err(ParseFault::Syntax),
+        }
+    }
+}

@@ -1,0 +1,59 @@
+//! The program over streams.
+
+ghost use Rattle.std.specs.Prelude.{◌≡◌, ℕ, List, false, IfOk, OnOk, is_err, map, string_bytes};
+ghost use Rattle.std.specs.Io.KnownBytes.{Appends};
+ghost use Rattle.air_program.specs.Refusals.{name_of, refusal_text};
+ghost use Rattle.air_program.specs.Answer.{Answers};
+ghost use Rattle.air_program.specs.Commands.{request_of};
+ghost use Rattle.air_program.specs.Outcome.{IsOutcome};
+
+use crate::answer::answer;
+use crate::commands::request_of;
+use crate::engine::{ReadFault, read_all, write_all};
+use crate::refusals::Refusal;
+use crate::streams::{Sink, Source, StreamFault};
+use air_field::BabyBear;
+use std::alloc::Global;
+
+/// Writes the line of a refusal, in pieces, since there may be no memory for it.
+pub fn refuse<W: Sink>(writer: &mut W, why: Refusal) -> Result<u8, StreamFault>
+    requires { W.has_failed writer.old ≡ false }
+    ensures status { IfOk result (λ status. status ≡ 2) }
+    ensures ok { OnOk result (Appends (W.contents writer.old) (W.contents writer.new) (refusal_text (name_of why))) }
+    ensures failed { W.has_failed writer.new ≡ is_err result }
+{
+    write_all(writer, b"refused: ")?;
+    write_all(writer, why.name().as_bytes())?;
+    write_all(writer, b"\n")?;
+    Ok(2)
+}
+
+/// Judges the words, reads the whole input, writes the answer to it, and answers the exit status.
+pub fn run<R: Source, W: Sink>(
+    alloc: Global,
+    words: &[String],
+    reader: &mut R,
+    writer: &mut W,
+) -> Result<u8, StreamFault>
+    requires reader { R.has_failed reader.old ≡ false }
+    requires writer { W.has_failed writer.old ≡ false }
+    ensures outcome { IfOk result (λ status. (text : List ℕ) × Appends (W.contents writer.old) (W.contents writer.new) text
+        × IsOutcome (λ request. Answers ⟦<BabyBear as PartialEq>⟧.eq request.cap) (request_of (map string_bytes words.now)) (R.has_failed reader.new) (R.remaining reader.old) (R.remaining reader.new) status text) }
+    ensures failed { W.has_failed writer.new ≡ is_err result }
+{
+    let Some(request) = request_of(words) else {
+        return refuse(writer, Refusal::Usage);
+    };
+    let input = match read_all(alloc, reader) {
+        Ok(input) => input,
+        Err(ReadFault::Failed) => return refuse(writer, Refusal::Read),
+        Err(ReadFault::Memory) => return refuse(writer, Refusal::Memory),
+    };
+    match answer(alloc, request, &input) {
+        Ok((status, text)) => {
+            write_all(writer, text.as_bytes())?;
+            Ok(status)
+        }
+        Err(why) => refuse(writer, why),
+    }
+}

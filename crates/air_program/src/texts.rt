@@ -1,0 +1,73 @@
+//! The text of what was found.
+
+ghost use Rattle.std.specs.Prelude.{◌≡◌, ◌++◌, OnOk, IfOk, IfSome, option_map, string_bytes};
+ghost use Rattle.air_report.specs.FailureTexts.{label_suffix, seen_failure};
+ghost use Rattle.air_program.specs.Texts.{HasNoLineEnd, lines_text, count_lines, found, PushesLine, IsFindingsText};
+
+use p3_air::{ConstraintFailure, ConstraintReport};
+use std::alloc::{AllocError, Global};
+
+/// What recording and checking found.
+#[derive(Drop)]
+pub struct Findings {
+    pub degree: usize,
+    pub report: ConstraintReport,
+}
+
+/// Adds the lines of the three counts.
+#[tactic(auto, unfolding(crate::specs::Texts::count_lines))]
+fn push_counts(text: &mut String, findings: &Findings) -> Result<(), AllocError>
+    ensures { OnOk result (string_bytes text.new ≡ string_bytes text.old ++ lines_text (count_lines (found findings.now))) }
+{
+    let degree = findings.degree;
+    let rows = findings.report.total_rows;
+    let constraints = findings.report.total_constraints_per_row;
+    writeln!(text, "degree {degree}")?;
+    writeln!(text, "rows {rows}")?;
+    writeln!(text, "constraints {constraints}")
+}
+
+/// What stands behind a failure's place: nothing, or a space and the label's debug text. A text that would break the
+/// line isn't shown, so that no label can feign a further line.
+fn shown_label(alloc: Global, label: &Option<String>) -> Result<String, AllocError>
+    ensures one_line { IfOk result (λ text. HasNoLineEnd (string_bytes text)) }
+    ensures shown { IfOk result (λ text. IfSome (label_suffix (option_map string_bytes label.now)) (λ suffix. string_bytes text ≡ suffix)) }
+{
+    match label {
+        Some(label) => {
+            let shown = format!(in alloc; " {label:?}")?;
+            if shown.as_bytes().contains(&b'\n') {
+                return Ok(String::new(alloc));
+            }
+            Ok(shown)
+        }
+        None => Ok(String::new(alloc)),
+    }
+}
+
+/// Adds the line of a failure.
+#[tactic(auto, unfolding(crate::specs::Texts::place_text))]
+fn push_failure(
+    alloc: Global,
+    text: &mut String,
+    failure: &ConstraintFailure,
+) -> Result<(), AllocError>
+    ensures { OnOk result (PushesLine (seen_failure failure.now) (string_bytes text.old) (string_bytes text.new)) }
+{
+    let row = failure.row;
+    let constraint = failure.constraint;
+    let label = shown_label(alloc, &failure.label)?;
+    writeln!(text, "row {row}: #{constraint}{label}")
+}
+
+/// A line for each count and for each failure.
+pub fn findings_text(alloc: Global, findings: &Findings) -> Result<String, AllocError>
+    ensures { IfOk result (λ text. IsFindingsText (found findings.now) (string_bytes text)) }
+{
+    let mut text = String::new(alloc);
+    push_counts(&mut text, findings)?;
+    for failure in &findings.report.failures {
+        push_failure(alloc, &mut text, failure)?;
+    }
+    Ok(text)
+}

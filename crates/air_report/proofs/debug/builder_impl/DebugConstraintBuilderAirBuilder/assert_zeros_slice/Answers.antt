@@ -1,5 +1,0 @@
-use contract.BorrowLft.{⊑_static}
-use Rattle.air_report.proofs.debug.builder_impl.DebugConstraintBuilderAirBuilder.assert_zeros_slice.Goals as goal
-
-pub assert_zeros_slice-requires-lives-Self-AirBuilder-2 : goal.assert_zeros_slice-requires-lives-Self-AirBuilder-2
-assert_zeros_slice-requires-lives-Self-AirBuilder-2 g c κs within = λ a m. ⊑_static _ a (c.requires-raw.1.1.0 a m)

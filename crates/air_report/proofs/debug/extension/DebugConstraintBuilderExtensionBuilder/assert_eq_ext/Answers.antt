@@ -1,8 +1,0 @@
-use contract.BorrowLft.{⊑_static}
-use Rattle.air_report.proofs.debug.extension.DebugConstraintBuilderExtensionBuilder.assert_eq_ext.Goals as goal
-
-pub assert_eq_ext-requires-lives-Self-ExtensionBuilder-2 : goal.assert_eq_ext-requires-lives-Self-ExtensionBuilder-2
-assert_eq_ext-requires-lives-Self-ExtensionBuilder-2 g c κs within = λ a m. ⊑_static _ a (c.requires-raw.1.1.0 a m)
-
-pub assert_eq_ext-requires-lives-Self-AirBuilder-2 : goal.assert_eq_ext-requires-lives-Self-AirBuilder-2
-assert_eq_ext-requires-lives-Self-AirBuilder-2 g c κs within = λ a m. ⊑_static _ a (c.requires-raw.1.1.0 a m)
