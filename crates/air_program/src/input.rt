@@ -1,7 +1,7 @@
 //! The input: public values, and a trace row after row.
 
 mod number;
-mod parse;
+mod parser;
 mod pieces;
 
-pub use parse::{Input, ParseFault, parse};
+pub use parser::{Input, ParseFault, parse};

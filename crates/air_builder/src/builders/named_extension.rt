@@ -28,7 +28,11 @@ pub trait NamedExtensionBuilder: ExtensionBuilder + NamedAirBuilder {
         ensures refused { IfErr result (RefusesExtOf (Means Self.ExtRing.means Self.ext_ring_of Self.stands) Self.refuses (λ t. t) self.old x) };
 
     /// Asserts that `x` is one.
-    final fn assert_one_ext_named<N: Name>(&mut self, x: Self::ExprEF, name: N) -> Result<(), AirError>
+    final fn assert_one_ext_named<N: Name>(
+        &mut self,
+        x: Self::ExprEF,
+        name: N,
+    ) -> Result<(), AirError>
         requires ready { Self.ready self.old }
         requires of_ring { Self.ExtRing.has (Self.ext_ring_of self.old) x }
         requires can_evaluate { N.can_evaluate name }

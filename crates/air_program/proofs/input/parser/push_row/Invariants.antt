@@ -2,7 +2,7 @@ use Rattle.std.proofs.Common.{◌≡◌, ◌≤◌, length}
 use Rattle.std.specs.Str.Lines.{lines}
 use Rattle.air_program.specs.Grammar.{rows_of}
 use Rattle.air_program.specs.Parsing.{residues}
-use Rattle.air_program.proofs.input.parse.push_row.Given as goal
+use Rattle.air_program.proofs.input.parser.push_row.Given as goal
 
 abbrev pub invariant-lines : goal.invariant-lines
 invariant-lines l = record {

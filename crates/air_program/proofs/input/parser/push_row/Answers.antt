@@ -4,7 +4,7 @@ use Rattle.std.specs.Str.Lines.{lines}
 use Rattle.air_program.specs.Grammar.{rows_of}
 use Rattle.air_program.specs.Parsing.{residues}
 use Rattle.air_program.proofs.Rows.{row_taken, no_line}
-use Rattle.air_program.proofs.input.parse.push_row.Goals as goal
+use Rattle.air_program.proofs.input.parser.push_row.Goals as goal
 
 pub returns-then-count-gt0-clause-ok : goal.returns-then-count-gt0-clause-ok
 returns-then-count-gt0-clause-ok c =

@@ -18,7 +18,7 @@ pub enum ParseFault {
 }
 
 impl<T: Drop> From<AllocFailed<T>> for ParseFault {
-    ghost use Rattle.air_program.specs.declared.input.parse.ParseFault.TheVariants.{Memory};
+    ghost use Rattle.air_program.specs.declared.input.parser.ParseFault.TheVariants.{Memory};
 
     ghost from_gives = { λ _ e. e ≡ Memory };
 

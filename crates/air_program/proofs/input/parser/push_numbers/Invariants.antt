@@ -1,7 +1,7 @@
 use Rattle.std.proofs.Common.{◌≡◌, ◌≤◌, length, vec_len}
 use Rattle.air_program.specs.Grammar.{numbers_in, numbers_of, fields_of}
 use Rattle.air_program.specs.Parsing.{residues, onto}
-use Rattle.air_program.proofs.input.parse.push_numbers.Given as goal
+use Rattle.air_program.proofs.input.parser.push_numbers.Given as goal
 
 abbrev pub invariant-fields : goal.invariant-fields
 invariant-fields l = record {

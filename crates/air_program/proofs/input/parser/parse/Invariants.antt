@@ -3,7 +3,7 @@ use Rattle.std.specs.Str.Lines.{lines}
 use Rattle.air_program.specs.Grammar.{rows_of, parse}
 use Rattle.air_program.specs.Parsing.{residues}
 use Rattle.air_program.proofs.Inputs.{input_with}
-use Rattle.air_program.proofs.input.parse.parse.Given as goal
+use Rattle.air_program.proofs.input.parser.parse.Given as goal
 
 abbrev pub invariant-rows : goal.invariant-rows
 invariant-rows l = record {
