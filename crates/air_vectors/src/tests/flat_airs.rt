@@ -6,8 +6,9 @@ ghost use Rattle.air_symbolic.specs.Pools.{IsPool};
 use crate::tests::{column, matrix};
 use p3_air::boundary::{BoundaryEnd, BoundaryPublic};
 use p3_air::{
-    AirError, Audit, BabyBear, BaseEntry, BaseLeaf, ExprId, ExprPool, FlatAir, RowMajorMatrix,
-    SymbolicVariable, audit_air,
+    AirError, Audit, BabyBear, BaseEntry, BaseLeaf, DebugConstraintBuilder, ExprId, ExprPool,
+    Field, FlatAir, RowMajorMatrix, RowMajorMatrixView, SymbolicVariable, ViewPair, audit_air,
+    resolve,
 };
 use std::alloc::Global;
 use std::process::Abort;
@@ -138,5 +139,41 @@ fn an_audit_from_outside_refuses_a_period(rt: HostRuntime) -> Result<(), Fail> {
         length: 3,
     };
     assert_eq!(rt; audit.err(), Some(odd));
+    Ok(())
+}
+
+/// A builder at the first of two rows that hold these numbers.
+fn row_of<'a>(
+    alloc: Global,
+    current: &'a [BabyBear; 1],
+    next: &'a [BabyBear; 1],
+) -> DebugConstraintBuilder<'a, BabyBear, BabyBear> {
+    let none = RowMajorMatrixView::new_row(&[]);
+    let current = RowMajorMatrixView::new_row(current);
+    let next = RowMajorMatrixView::new_row(next);
+    DebugConstraintBuilder::new(
+        alloc,
+        0,
+        ViewPair::new(current, next),
+        ViewPair::new(none, none),
+        &[],
+        BabyBear::ONE,
+        BabyBear::ZERO,
+        BabyBear::ONE,
+        Vec::new(alloc),
+    )
+}
+
+#[test]
+fn an_expression_from_outside_has_its_value_on_a_row(rt: HostRuntime) -> Result<(), Fail> {
+    let alloc = rt.alloc();
+    let mut pool = ExprPool::new(alloc);
+    let current = pool.leaf(variable(BaseEntry::Main { offset: 0 }, 0))?;
+    let next = pool.leaf(variable(BaseEntry::Main { offset: 1 }, 0))?;
+    let product = pool.mul(current, next)?;
+    let (three, five) = ([BabyBear::new(3)], [BabyBear::new(5)]);
+    let mut builder = row_of(alloc, &three, &five);
+    let value = resolve(alloc, &pool, product, &mut builder)?;
+    assert_eq!(rt; value, BabyBear::new(15));
     Ok(())
 }
