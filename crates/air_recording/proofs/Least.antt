@@ -1,13 +1,11 @@
--- The inferred degree bounds the degrees of terms and their polynomials; for three rows and more it is the least bound.
-use Rattle.std.proofs.Common.{◌≡◌, ℕ, zero, suc, ◌+◌, ◌-◌, ◌*◌, add-mul, ◌<◌, ◌≤◌, ◌^◌, max, List, [], ◌∷◌, slice_index_or, sym, subst, arith, ⊎_elim}
+-- The inferred degree bounds the degrees of terms, and is the least bound: for weight 0 for three rows and more.
+use Rattle.std.proofs.Common.{◌≡◌, ℕ, zero, suc, ◌+◌, ◌-◌, ◌*◌, add-mul, ◌<◌, ◌≤◌, ◌^◌, max, List, [], ◌∷◌, sym, subst, arith, ⊎_elim}
 use Rattle.std.proofs.Math.Nat.{max-eq_left, max-eq_right, max-le, le-max_left, le-max_right, lt_of_mul-lt-mul_right, mul-le-mul_right, suc-mul, div_self}
 use Rattle.std.proofs.lemmas.Bool.{cases_lt}
 use Rattle.std.proofs.lemmas.Grind.{div_ceil_times}
 use Rattle.std.specs.Int.{div_ceil}
 use Rattle.air_field.specs.Term.{Leaf, preprocessed, main, periodic, public, first_row, last_row, transition, permutation, challenge, permutation_value, Term, leaf_term, const_term, ext_const_term, add_term, sub_term, neg_term, mul_term}
-use Rattle.air_field.specs.Ring.{Over}
-use Rattle.air_field.specs.DegreeLaws.{polynomial-degree}
-use Rattle.air_recording.specs.Bounds.{bound_of, DegreesWithin, PolynomialsWithin, IsDegreeFor}
+use Rattle.air_recording.specs.Bounds.{bound_of, DegreesWithin, IsTraceDegree, IsGreatestDegree}
 use Rattle.air_field.specs.Degree.{degree_by, cached_weight, trace_weight, periodic_degree, greatest_degree, quotient_degree, inferred_degree}
 
 quotient_of : (k n : ℕ) → quotient_degree (suc k) n ≡ div_ceil k (max (n - 1) 1)
@@ -104,8 +102,8 @@ pub greatest_within_all : {F : Type 0} (w : Leaf → ℕ) (n : ℕ) (ts : List (
 greatest_within_all w n [] h = omega arith
 greatest_within_all w n (t ∷ ts) h = max-le (h 0 t (omega arith)) (greatest_within_all w n ts (λ k d b. h (suc k) d (omega arith)))
 
--- What is inferred of terms whose degrees fit is the degree for them.
-pub degree_for : {F : Type 0} (n : ℕ) (periods : List ℕ) (ts : List (Term F)) (d : ℕ) → d ≡ inferred_degree n periods ts → greatest_degree (trace_weight n periods) ts < 2 ^ 64 → IsDegreeFor n periods ts d
+-- What is inferred of terms whose degrees fit is the degree for them over a trace.
+pub degree_for : {F : Type 0} (n : ℕ) (periods : List ℕ) (ts : List (Term F)) (d : ℕ) → d ≡ inferred_degree n periods ts → greatest_degree (trace_weight n periods) ts < 2 ^ 64 → IsTraceDegree n periods ts d
 degree_for n periods ts d value fits =
     let w = trace_weight n periods in
     record {
@@ -115,6 +113,11 @@ degree_for n periods ts d value fits =
       least = λ h e within. subst (λ k. k ≤ e) (sym value) (inferred_least n periods ts e h (greatest_within_all w (bound_of e n) ts within));
     }
 
--- Terms of such degrees have polynomials of such degrees.
-pub polynomials_within : {F E : Type 0} (a : Over F E) (w : Leaf → ℕ) (bound : ℕ) (ts : List (Term F)) → DegreesWithin w bound ts → PolynomialsWithin a w bound ts
-polynomials_within a w bound ts h s leaves k d b m past = polynomial-degree a s w leaves (slice_index_or ts k d) m (omega (arith, past, h k d b))
+-- Of terms whose degrees fit the greatest degree is a bound, and the least.
+pub greatest_for : {F : Type 0} (w : Leaf → ℕ) (ts : List (Term F)) (d : ℕ) → d ≡ greatest_degree w ts → greatest_degree w ts < 2 ^ 64 → IsGreatestDegree w ts d
+greatest_for w ts d value fits = record {
+  value = value;
+  fits = fits;
+  within = each_within w d ts (omega (arith, value));
+  least = λ e within. subst (λ k. k ≤ e) (sym value) (greatest_within_all w e ts within);
+}

@@ -1,9 +1,12 @@
--- The bound that an inferred degree sets on polynomials over so many rows.
-use Rattle.std.specs.Prelude.{◌≡◌, ℕ, ◌+◌, ◌-◌, ◌*◌, ◌≤◌, ◌<◌, ◌^◌, List, All, get_or}
+-- The degree that is inferred for a domain, and the bound that it sets on polynomials over so many rows.
+--
+-- In some domains the transition selector is a linear polynomial, in others one of about the trace's degree. A domain says
+-- which by a weight w: with 0 it is linear, with 1 and more it counts as w columns.
+use Rattle.std.specs.Prelude.{◌≡◌, ℕ, zero, suc, ◌+◌, ◌-◌, ◌*◌, ◌≤◌, ◌<◌, ◌^◌, List, All, get_or}
 use Rattle.air_field.specs.Ring.{CommRing, Over}
 use Rattle.air_field.specs.Term.{Leaf, Term}
 use Rattle.air_field.specs.Polynomial.{polynomial, HasDegreeAtMost}
-use Rattle.air_field.specs.Degree.{degree_by, trace_weight, greatest_degree, inferred_degree}
+use Rattle.air_field.specs.Degree.{degree_by, transition_weight, trace_weight, greatest_degree, inferred_degree}
 
 -- the bound of a quotient of degree d: d times one less than the rows, plus one
 abbrev pub bound_of : ℕ → ℕ → ℕ
@@ -21,10 +24,41 @@ LeavesWithin r w s = (l : Leaf) → HasDegreeAtMost r (λ n. get_or (s l) n r.ni
 abbrev pub PolynomialsWithin : {F E : Type 0} → Over F E → (Leaf → ℕ) → ℕ → List (Term F) → Type 0
 PolynomialsWithin {E = E} a w bound ts = (s : Leaf → List E) → LeavesWithin a.ring w s → All (λ t. HasDegreeAtMost a.ring (polynomial a s t) bound) ts
 
+-- The weights by which a domain counts degrees over n rows: for weight 0 the degrees of the leaves' polynomials; for a
+-- weight from 1 the cached ones with it for the transition selector, whatever the rows and the periods are.
+abbrev pub domain_weight : ℕ → ℕ → List ℕ → Leaf → ℕ
+domain_weight zero n periods = trace_weight n periods
+domain_weight (suc w) n periods = transition_weight (suc w)
+
+-- The greatest degree over n rows that a leaf's polynomial has in the domain: for weight 0 its degree over a trace; for a
+-- weight from 1 its weight times one less than the rows.
+abbrev pub leaf_degree : ℕ → ℕ → List ℕ → Leaf → ℕ
+leaf_degree zero n periods = trace_weight n periods
+leaf_degree (suc w) n periods = λ l. transition_weight (suc w) l * (n - 1)
+
+-- The bound that degree d sets over n rows on polynomials in the domain: for weight 0 that of a quotient of degree d; for a
+-- weight from 1 d times one less than the rows.
+abbrev pub polynomial_bound : ℕ → ℕ → ℕ → ℕ
+polynomial_bound zero d n = bound_of d n
+polynomial_bound (suc w) d n = d * (n - 1)
+
 -- d is the degree inferred for n rows of these terms, no degree of which passes `usize`. For two rows and more it bounds
 -- their degrees; for three and more it is the least number that does.
-pub record IsDegreeFor {F : Type 0} (n : ℕ) (periods : List ℕ) (ts : List (Term F)) (d : ℕ) : Type 0 where
+pub record IsTraceDegree {F : Type 0} (n : ℕ) (periods : List ℕ) (ts : List (Term F)) (d : ℕ) : Type 0 where
   pub value : d ≡ inferred_degree n periods ts
   pub fits : greatest_degree (trace_weight n periods) ts < 2 ^ 64
   pub within : 2 ≤ n → DegreesWithin (trace_weight n periods) (bound_of d n) ts
   pub least : 3 ≤ n → (e : ℕ) → DegreesWithin (trace_weight n periods) (bound_of e n) ts → d ≤ e
+
+-- d is the greatest degree by these weights of these terms, and doesn't pass `usize`: it bounds their degrees, and is the
+-- least number that does.
+pub record IsGreatestDegree {F : Type 0} (w : Leaf → ℕ) (ts : List (Term F)) (d : ℕ) : Type 0 where
+  pub value : d ≡ greatest_degree w ts
+  pub fits : greatest_degree w ts < 2 ^ 64
+  pub within : DegreesWithin w d ts
+  pub least : (e : ℕ) → DegreesWithin w e ts → d ≤ e
+
+-- d is the degree inferred for n rows of these terms, in a domain of this weight for the transition selector
+abbrev pub IsDegreeFor : {F : Type 0} → ℕ → ℕ → List ℕ → List (Term F) → ℕ → Type 0
+IsDegreeFor zero n periods ts d = IsTraceDegree n periods ts d
+IsDegreeFor (suc w) n periods ts d = IsGreatestDegree (transition_weight (suc w)) ts d

@@ -1,47 +1,68 @@
 -- The degree that is inferred, and where it is refused.
-use Rattle.std.specs.Prelude.{Result, Ok, Err, ◌⊎◌, ℕ, ◌≤◌, ◌^◌, List, ◌++◌, Vec, length, map}
+use Rattle.std.specs.Prelude.{Result, Ok, Err, ◌≡◌, ◌⊎◌, ℕ, ◌≤◌, ◌^◌, max, Bool, List, [], ◌∷◌, ◌++◌, Vec, length, map}
 use Rattle.air_field.specs.Ring.{CommRing, Over, itself}
-use Rattle.air_field.specs.Term.{Term}
-use Rattle.air_field.specs.Degree.{cached_weight, trace_weight, greatest_degree}
-use Rattle.air_field.specs.Assignment.{IsMissing}
+use Rattle.air_field.specs.Term.{Leaf, Term}
+use Rattle.air_field.specs.Degree.{greatest_degree}
 use Rattle.air_field.specs.declared.errors.RingError.{RingError}
 use Rattle.air_field.specs.declared.errors.RingError.TheVariants.{Memory, DegreeOverflow}
 use Rattle.air_builder.specs.Assertion.{Assertion}
 use Rattle.air_windows.specs.declared.errors.AirError.{AirError}
-use Rattle.air_recording.specs.Bounds.{bound_of, PolynomialsWithin, IsDegreeFor}
+use Rattle.air_windows.specs.declared.errors.AirError.TheVariants as air
+use Rattle.air_symbolic.specs.BaseLeaves.{base_reads}
+use Rattle.air_symbolic.specs.ExtLeaves.{ext_reads}
+use Rattle.air_recording.specs.Bounds.{domain_weight, leaf_degree, polynomial_bound, PolynomialsWithin, IsDegreeFor}
 use Rattle.air_recording.specs.Kinds.{base_terms, ext_terms}
-use Rattle.air_recording.specs.Layouts.{layout_shape, FitsAir, LayoutRefuses}
+use Rattle.air_recording.specs.Layouts.{FitsAir}
 use Rattle.air_recording.specs.declared.layouts.air_layout.AirLayout.{AirLayout}
-use Rattle.air_recording.specs.Recording.{IsOver}
-use Rattle.air_recording.specs.Recorded.{EachRecords}
-use Rattle.air_builder.specs.Refused.{Refused}
+use Rattle.air_recording.specs.Recorded.{EachRecords, RecordRefuses, terms_of}
+use Rattle.air_recording.specs.declared.symbolic.record.Recorded.{Recorded}
 
 -- the lengths of periodic columns
 abbrev pub periods_of : {T A : Type 0} → List (Vec T A) → List ℕ
 periods_of columns = map (λ c. length c.items) columns
 
--- d is the degree inferred for n rows from terms that record what is declared: base terms over the base field and over
--- the extension, extension terms over the extension. For two rows and more it bounds the degrees of their polynomials
--- wherever the leaves' are within theirs.
-pub record IsInferred {F E : Type 0} (r : CommRing F) (over : Over F E) (n : ℕ) (periods : List ℕ) (ts : List (Assertion F)) (d : ℕ) : Type 0 where
+-- the greatest of these numbers, 0 of none
+abbrev pub greatest_in : List ℕ → ℕ
+greatest_in [] = 0
+greatest_in (n ∷ ns) = max n (greatest_in ns)
+
+-- all terms that were recorded: the base ones, and then the extension ones
+abbrev pub recorded_terms : {F E : Type 0} → CommRing F → (F → F → Bool) → (E → List F) → Recorded F E → List (Term F)
+recorded_terms r eq coefficients recorded =
+    terms_of base_reads recorded.pool.0 recorded.base.items ++ terms_of (ext_reads r eq coefficients) recorded.pool recorded.ext.items
+
+-- d is the degree inferred for n rows, in a domain of weight w, from terms that record what is declared: base terms over
+-- the base field and over the extension, extension terms over the extension. For two rows and more it bounds the degrees
+-- of their polynomials wherever the leaves' are within theirs.
+pub record IsInferred {F E : Type 0} (r : CommRing F) (over : Over F E) (w n : ℕ) (periods : List ℕ) (ts : List (Assertion F)) (d : ℕ) : Type 0 where
   pub base : List (Term F)
   pub ext : List (Term F)
   pub base_recorded : EachRecords (itself r) base (base_terms ts)
   pub base_in_extension : EachRecords over base (base_terms ts)
   pub ext_recorded : EachRecords over ext (ext_terms ts)
-  pub degree : IsDegreeFor n periods (base ++ ext) d
-  pub base_bounded : 2 ≤ n → PolynomialsWithin (itself r) (trace_weight n periods) (bound_of d n) base
-  pub bounded : 2 ≤ n → PolynomialsWithin over (trace_weight n periods) (bound_of d n) (base ++ ext)
+  pub degree : IsDegreeFor w n periods (base ++ ext) d
+  pub base_bounded : 2 ≤ n → PolynomialsWithin (itself r) (leaf_degree w n periods) (polynomial_bound w d n) base
+  pub bounded : 2 ≤ n → PolynomialsWithin over (leaf_degree w n periods) (polynomial_bound w d n) (base ++ ext)
 
--- the answer is the degree for n rows of these terms; it is refused where their greatest degree
--- passes `usize`, and for want of memory
-abbrev pub AnswersInferred : {F : Type 0} → ℕ → List ℕ → List (Term F) → Result ℕ RingError → Type 0
-AnswersInferred n periods us (Ok d) = IsDegreeFor n periods us d
-AnswersInferred n periods us (Err Memory) = Unit {0}
-AnswersInferred n periods us (Err DegreeOverflow) = 2 ^ 64 ≤ greatest_degree (trace_weight n periods) us
+-- the answer is the degree for n rows of these terms, in a domain of weight w; it is refused where their greatest degree,
+-- as the domain counts, passes `usize`, and for want of memory
+abbrev pub AnswersInferred : {F : Type 0} → ℕ → ℕ → List ℕ → List (Term F) → Result ℕ RingError → Type 0
+AnswersInferred w n periods us (Ok d) = IsDegreeFor w n periods us d
+AnswersInferred w n periods us (Err Memory) = Unit {0}
+AnswersInferred w n periods us (Err DegreeOverflow) = 2 ^ 64 ≤ greatest_degree (domain_weight w n periods) us
 
--- It refuses what a recording refuses, and a declared term whose degree over n rows passes `usize`.
-abbrev pub DegreeRefuses : {F : Type 0} → ℕ → List ℕ → AirLayout → ℕ → ℕ → List (Assertion F) → AirError → Type 0
-DegreeRefuses n periods layout width public ts e =
-    LayoutRefuses layout width public (length periods) e
-    ⊎ (FitsAir layout width public (length periods) × Refused (IsMissing (layout_shape layout)) (λ t. IsOver cached_weight t ⊎ IsOver (trace_weight n periods) t) (λ _. ⊥) e ts)
+-- of terms that record what is declared one has a degree past `usize` by these weights
+pub record IsDegreeOver {F E : Type 0} (r : CommRing F) (over : Over F E) (weights : Leaf → ℕ) (ts : List (Assertion F)) : Type 0 where
+  pub base : List (Term F)
+  pub ext : List (Term F)
+  pub base_recorded : EachRecords (itself r) base (base_terms ts)
+  pub ext_recorded : EachRecords over ext (ext_terms ts)
+  pub past : 2 ^ 64 ≤ greatest_degree weights (base ++ ext)
+
+-- It refuses what the recording refuses, and, where the recording answers, a recorded degree past `usize`, as a domain of
+-- weight w counts degrees over n rows.
+abbrev pub DegreeRefuses : {F E : Type 0} → CommRing F → Over F E → ℕ → ℕ → List ℕ → AirLayout → ℕ → ℕ → List (Assertion F) → AirError → Type 0
+DegreeRefuses r over w n periods layout width public ts e =
+    RecordRefuses layout width public (length periods) ts e
+    ⊎ (FitsAir layout width public (length periods)
+    × ((e ≡ air.DegreeOverflow) × IsDegreeOver r over (domain_weight w n periods) ts))

@@ -19,4 +19,5 @@ pub mod RecordingLaws
 pub mod SymbolicParts
 pub mod Recorded
 pub mod Bounds
+pub mod BoundLaws
 pub mod Inferred

@@ -1,22 +1,22 @@
 //! The degree inferred for the constraints of an AIR.
-ghost use Rattle.std.specs.Prelude.{◌≡◌, ◌<◌, ◌^◌, ◌++◌, [], length, map, max, IfOk, IfErr, OnOk, All};
-ghost use Rattle.air_field.specs.Degree.{cached_weight, trace_weight, greatest_degree, quotient_degree};
+ghost use Rattle.std.specs.Prelude.{◌≡◌, ◌<◌, ◌^◌, length, IfOk, IfErr, OnOk, All};
+ghost use Rattle.air_field.specs.Degree.{cached_weight, greatest_degree, quotient_degree};
 ghost use Rattle.air_field.specs.Assignment.{IsMissing};
 ghost use Rattle.air_builder.specs.Refusals.{NoneMissing};
-ghost use Rattle.air_symbolic.specs.BaseLeaves.{base_reads};
 ghost use Rattle.air_symbolic.specs.ExtLeaves.{ext_reads};
 ghost use Rattle.air_symbolic.specs.Pools.{IsPool};
 ghost use Rattle.air_symbolic.specs.PoolRefusals.{AnswersDegree};
+ghost use Rattle.air_symbolic.specs.Weights.{leaf_weight};
 ghost use Rattle.air_recording.specs.Layouts.{layout_shape, FitsAir};
 ghost use Rattle.air_recording.specs.Recorded.{terms_of};
-ghost use Rattle.air_recording.specs.Inferred.{periods_of, IsInferred, AnswersInferred, DegreeRefuses};
+ghost use Rattle.air_recording.specs.Inferred.{periods_of, greatest_in, recorded_terms, IsInferred, AnswersInferred, DegreeRefuses};
 
 use crate::layouts::air_layout::AirLayout;
 use crate::symbolic::builder::SymbolicAirBuilder;
 use crate::symbolic::record::{Recorded, get_all_symbolic_constraints};
 use air_builder::{Air, AirError};
 use air_field::{ExtensionField, Field, RingError, SelfExtension};
-use air_symbolic::{ExprId, ExprPool, SymLeaf};
+use air_symbolic::{ExprId, ExprPool, LeafWeight, SymLeaf};
 use std::alloc::Global;
 
 /// The constraint degree of a polynomial of degree `poly_degree` over `trace_len` rows: 0 for degree 0, else
@@ -43,28 +43,56 @@ fn greatest_cached<A: SymLeaf>(pool: &ExprPool<A>, numbers: &[ExprId<A>]) -> usi
     greatest
 }
 
-/// The greatest degree of their polynomials over `trace_len` rows, 0 of none.
-fn greatest_poly<A: SymLeaf>(
-    pool: &ExprPool<A>,
-    numbers: &[ExprId<A>],
-    trace_len: usize,
-    periods: &[usize],
-) -> Result<usize, RingError>
-    requires pool { IsPool A.reads pool.now }
-    requires here { All (λ i. i < length pool.now.1) numbers.now }
-    ensures answer { AnswersDegree (greatest_degree (trace_weight trace_len periods.now) (terms_of A.reads pool.now numbers.now)) result }
-    ensures fits { OnOk result (greatest_degree (trace_weight trace_len periods.now) (terms_of A.reads pool.now numbers.now) < 2 ^ 64) }
+/// The greatest of these numbers, 0 of none.
+fn greatest_of(numbers: &[usize]) -> usize
+    ensures value { result ≡ greatest_in numbers.now }
+    ensures fits { result < 2 ^ 64 }
 {
     let mut greatest = 0;
     for number in numbers {
-        greatest = pool.poly_degree(*number, trace_len, periods)?.max(greatest);
+        greatest = greatest.max(*number);
     }
-    Ok(greatest)
+    greatest
 }
 
-/// The degree inferred from constraints as they are recorded: the constraint degree of their greatest polynomial degree,
-/// and, where no column is periodic, no less than their greatest cached degree.
-pub fn degree_of<F: Field, EF: ExtensionField<F>>(
+/// The greatest degree of these expressions by the leaves' weights, 0 of none.
+fn greatest_by<A: SymLeaf>(
+    pool: &ExprPool<A>,
+    numbers: &[ExprId<A>],
+    weight: LeafWeight<'_>,
+) -> Result<usize, RingError>
+    requires pool { IsPool A.reads pool.now }
+    requires here { All (λ i. i < length pool.now.1) numbers.now }
+    ensures answer { AnswersDegree
+        (greatest_degree (leaf_weight weight.entry) (terms_of A.reads pool.now numbers.now)) result }
+    ensures fits { OnOk result
+        (greatest_degree (leaf_weight weight.entry) (terms_of A.reads pool.now numbers.now) < 2 ^ 64) }
+{
+    let degrees = pool.degrees(numbers, weight)?;
+    Ok(greatest_of(&degrees.values))
+}
+
+/// The greatest degree, by the leaves' weights, of all constraints as they are recorded, 0 of none.
+pub fn greatest_degree_of<F: Field, EF: ExtensionField<F>>(
+    recorded: &Recorded<F, EF>,
+    weight: LeafWeight<'_>,
+) -> Result<usize, RingError>
+    requires pool { IsPool (ext_reads F.ring F.eq EF.coefficients) recorded.now.pool }
+    requires base_here { All (λ i. i < length recorded.now.pool.0.1) recorded.now.base.items }
+    requires ext_here { All (λ i. i < length recorded.now.pool.1) recorded.now.ext.items }
+    ensures answer { AnswersDegree (greatest_degree (leaf_weight weight.entry)
+        (recorded_terms F.ring F.eq EF.coefficients recorded.now)) result }
+    ensures fits { OnOk result (greatest_degree (leaf_weight weight.entry)
+        (recorded_terms F.ring F.eq EF.coefficients recorded.now) < 2 ^ 64) }
+{
+    let base = greatest_by(recorded.pool.base(), &recorded.base, weight)?;
+    let ext = greatest_by(&recorded.pool, &recorded.ext, weight)?;
+    Ok(base.max(ext))
+}
+
+/// The degree inferred where the transition selector is linear: the constraint degree of the greatest polynomial degree
+/// over `trace_len` rows, and, where no column is periodic, no less than the greatest cached degree.
+fn trace_degree_of<F: Field, EF: ExtensionField<F>>(
     recorded: &Recorded<F, EF>,
     trace_len: usize,
     periods: &[usize],
@@ -72,17 +100,40 @@ pub fn degree_of<F: Field, EF: ExtensionField<F>>(
     requires pool { IsPool (ext_reads F.ring F.eq EF.coefficients) recorded.now.pool }
     requires base_here { All (λ i. i < length recorded.now.pool.0.1) recorded.now.base.items }
     requires ext_here { All (λ i. i < length recorded.now.pool.1) recorded.now.ext.items }
-    ensures { AnswersInferred trace_len periods.now (terms_of base_reads recorded.now.pool.0 recorded.now.base.items ++ terms_of (ext_reads F.ring F.eq EF.coefficients) recorded.now.pool recorded.now.ext.items) result }
+    ensures { AnswersInferred 0 trace_len periods.now
+        (recorded_terms F.ring F.eq EF.coefficients recorded.now) result }
 {
-    let base = greatest_poly(recorded.pool.base(), &recorded.base, trace_len, periods)?;
-    let ext = greatest_poly(&recorded.pool, &recorded.ext, trace_len, periods)?;
-    let degree = constraint_degree_from_poly_degree(base.max(ext), trace_len);
+    let weight = LeafWeight::Trace { trace_len, periods };
+    let greatest = greatest_degree_of(recorded, weight)?;
+    let degree = constraint_degree_from_poly_degree(greatest, trace_len);
     if !periods.is_empty() {
         return Ok(degree);
     }
     let base = greatest_cached(recorded.pool.base(), &recorded.base);
     let ext = greatest_cached(&recorded.pool, &recorded.ext);
     Ok(degree.max(base.max(ext)))
+}
+
+/// The degree inferred from constraints as they are recorded, in a domain with this weight for the transition selector:
+/// for weight 0 the constraint degree of their greatest polynomial degree over `trace_len` rows, and, where no column is
+/// periodic, no less than their greatest cached degree; for a weight from 1 their greatest degree by the cached weights
+/// with this one for the transition selector, whatever `trace_len` and `periods` are.
+pub fn degree_of<F: Field, EF: ExtensionField<F>>(
+    recorded: &Recorded<F, EF>,
+    trace_len: usize,
+    periods: &[usize],
+    transition_weight: usize,
+) -> Result<usize, RingError>
+    requires pool { IsPool (ext_reads F.ring F.eq EF.coefficients) recorded.now.pool }
+    requires base_here { All (λ i. i < length recorded.now.pool.0.1) recorded.now.base.items }
+    requires ext_here { All (λ i. i < length recorded.now.pool.1) recorded.now.ext.items }
+    ensures { AnswersInferred transition_weight trace_len periods.now
+        (recorded_terms F.ring F.eq EF.coefficients recorded.now) result }
+{
+    if transition_weight == 0 {
+        return trace_degree_of(recorded, trace_len, periods);
+    }
+    greatest_degree_of(recorded, LeafWeight::Transition(transition_weight))
 }
 
 /// The lengths of periodic columns, in order.
@@ -99,28 +150,43 @@ pub fn lengths_of<F>(alloc: Global, columns: &[Vec<F>]) -> Result<Vec<usize>, Ai
     Ok(periods)
 }
 
-/// The degree inferred for a trace of `trace_len` rows from the base and extension constraints as they are recorded:
-/// the constraint degree of their greatest polynomial degree; and, where no column is periodic, no less than their
-/// greatest cached degree.
+/// The degree inferred from the base and extension constraints as they are recorded, for a trace of `trace_len` rows in a
+/// domain with the weight `transition_weight` for the transition selector.
 ///
-/// For two rows and more each recorded polynomial has degree at most the answer times `trace_len` - 1, plus one, wherever
-/// the leaves' polynomials have the degrees of a trace of so many rows; for three and more no smaller number bounds the
-/// recorded terms' degrees so.
+/// Weight 0 stands for a linear selector: the degree is the constraint degree of their greatest polynomial degree; and,
+/// where no column is periodic, no less than their greatest cached degree. For two rows and more each recorded polynomial
+/// has degree at most the answer times `trace_len` - 1, plus one, wherever the leaves' polynomials have the degrees of a
+/// trace of so many rows; for three and more no smaller number bounds the recorded terms' degrees so.
 ///
-/// It refuses what the recording refuses, and a polynomial degree past `usize`.
+/// For a weight from 1 the degree is their greatest by the cached weights with this one for the selector; a periodic column
+/// weighs 1, and `trace_len` plays no part. For two rows and more each recorded polynomial has degree at most the answer
+/// times `trace_len` - 1, wherever each leaf's polynomial has degree at most its weight times `trace_len` - 1; and no
+/// smaller number bounds the recorded terms' degrees.
+///
+/// It refuses what the recording refuses, and a recorded degree past `usize`: a polynomial's for weight 0, one by these
+/// weights for a weight from 1.
 pub fn get_max_constraint_degree_extension<
     F: Field,
     EF: ExtensionField<F>,
     A: Air<SymbolicAirBuilder<F, EF>>,
->(alloc: Global, air: &A, layout: AirLayout, trace_len: usize) -> Result<usize, AirError>
-    ensures inferred { IfOk result (IsInferred F.ring EF.over trace_len (periods_of (A.beside air.now).periodic) (A.declared air.now)) }
+>(
+    alloc: Global,
+    air: &A,
+    layout: AirLayout,
+    trace_len: usize,
+    transition_weight: usize,
+) -> Result<usize, AirError>
+    ensures inferred { IfOk result (IsInferred F.ring EF.over transition_weight trace_len
+        (periods_of (A.beside air.now).periodic) (A.declared air.now)) }
     ensures fits { OnOk result (FitsAir layout (A.width air.now) (A.num_public_values air.now) (length (A.beside air.now).periodic)) }
     ensures there { OnOk result (NoneMissing (IsMissing (layout_shape layout)) (A.declared air.now)) }
-    ensures refused { IfErr result (DegreeRefuses trace_len (periods_of (A.beside air.now).periodic) layout (A.width air.now) (A.num_public_values air.now) (A.declared air.now)) }
+    ensures refused { IfErr result (DegreeRefuses F.ring EF.over transition_weight trace_len
+        (periods_of (A.beside air.now).periodic) layout (A.width air.now)
+        (A.num_public_values air.now) (A.declared air.now)) }
 {
     let recorded = get_all_symbolic_constraints(alloc, air, layout)?;
     let periods = lengths_of(alloc, air.periodic_columns())?;
-    let degree = degree_of(&recorded, trace_len, &periods)?;
+    let degree = degree_of(&recorded, trace_len, &periods, transition_weight)?;
     Ok(degree)
 }
 
@@ -130,11 +196,15 @@ pub fn get_max_constraint_degree<F: SelfExtension, A: Air<SymbolicAirBuilder<F, 
     air: &A,
     layout: AirLayout,
     trace_len: usize,
+    transition_weight: usize,
 ) -> Result<usize, AirError>
-    ensures inferred { IfOk result (IsInferred F.ring F.over trace_len (periods_of (A.beside air.now).periodic) (A.declared air.now)) }
+    ensures inferred { IfOk result (IsInferred F.ring F.over transition_weight trace_len
+        (periods_of (A.beside air.now).periodic) (A.declared air.now)) }
     ensures fits { OnOk result (FitsAir layout (A.width air.now) (A.num_public_values air.now) (length (A.beside air.now).periodic)) }
     ensures there { OnOk result (NoneMissing (IsMissing (layout_shape layout)) (A.declared air.now)) }
-    ensures refused { IfErr result (DegreeRefuses trace_len (periods_of (A.beside air.now).periodic) layout (A.width air.now) (A.num_public_values air.now) (A.declared air.now)) }
+    ensures refused { IfErr result (DegreeRefuses F.ring F.over transition_weight trace_len
+        (periods_of (A.beside air.now).periodic) layout (A.width air.now)
+        (A.num_public_values air.now) (A.declared air.now)) }
 {
-    get_max_constraint_degree_extension(alloc, air, layout, trace_len)
+    get_max_constraint_degree_extension(alloc, air, layout, trace_len, transition_weight)
 }

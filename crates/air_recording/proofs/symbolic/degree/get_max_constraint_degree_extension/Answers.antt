@@ -1,7 +1,7 @@
 use Rattle.std.proofs.Common.{ℕ, List, ◌++◌, Err, length, sym, subst, ◌∙◌, ap}
 use Rattle.air_field.specs.Ring.{itself}
-use Rattle.air_field.specs.Degree.{trace_weight}
-use Rattle.air_recording.specs.Bounds.{bound_of, IsDegreeFor}
+use Rattle.air_recording.specs.Bounds.{leaf_degree, polynomial_bound, IsDegreeFor}
+use Rattle.air_recording.specs.BoundLaws.{degrees_within, polynomials_within}
 use Rattle.air_recording.specs.Layouts.{FitsAir}
 use Rattle.std.proofs.lemmas.List.{length-map}
 use Rattle.std.proofs.lemmas.Result.{err_from_is_err_and}
@@ -11,7 +11,6 @@ use Rattle.air_recording.specs.Inferred.{periods_of, AnswersInferred}
 use Rattle.air_recording.specs.Kinds.{base_terms, ext_terms}
 use Rattle.air_recording.specs.Recorded.{terms_of}
 use Rattle.air_recording.proofs.InferredDegrees.{base_within, inferred_refused}
-use Rattle.air_recording.proofs.Least.{polynomials_within}
 use Rattle.air_recording.proofs.Recordings.{numbers_here}
 use Rattle.air_recording.proofs.symbolic.degree.get_max_constraint_degree_extension.Goals as goal
 
@@ -32,12 +31,12 @@ returns-in_err-degree-clause-refused g c =
     let vs = terms_of (ext_reads g.F.Field.ring g.F.PartialEq.eq g.EF.ExtensionField.coefficients) r.pool r.ext.items in
     let e = c.in_err-degree.field-0.0 in
     let q = c.deref.ensures.value ∙ (c.in_ok-periods.ensures.lengths ∙ ap periods_of c.periodic_columns.ensures) in
-    let h = subst (λ (l : List ℕ). AnswersInferred c.args.trace_len l (us ++ vs) (Err e)) q c.in_err-degree.ensures in
+    let h = subst (λ (l : List ℕ). AnswersInferred c.args.transition_weight c.args.trace_len l (us ++ vs) (Err e)) q c.in_err-degree.ensures in
     let periodic = (g.A.BaseAir.beside c.args.air.now).periodic in
     let fits = subst (λ k. FitsAir c.args.layout (g.A.BaseAir.width c.args.air.now) (g.A.BaseAir.num_public_values c.args.air.now) k) (sym (length-map periodic (λ v. length v.items))) c.in_ok-recorded.ensures.fits in
     let p = err_from_is_err_and c.from_residual-in_err-degree.result c.from_residual-in_err-degree.ensures.1 in
     rw (p.1, p.2)
-    (inferred_refused g.F.Field.ring g.EF.ExtensionField.over c.args.trace_len (periods_of (g.A.BaseAir.beside c.args.air.now).periodic) c.args.layout (g.A.BaseAir.width c.args.air.now) (g.A.BaseAir.num_public_values c.args.air.now) us vs (g.A.BaseAir.declared c.args.air.now) e c.in_ok-recorded.ensures.base.terms c.in_ok-recorded.ensures.ext.terms fits h)
+    (inferred_refused g.F.Field.ring g.EF.ExtensionField.over c.args.transition_weight c.args.trace_len (periods_of (g.A.BaseAir.beside c.args.air.now).periodic) c.args.layout (g.A.BaseAir.width c.args.air.now) (g.A.BaseAir.num_public_values c.args.air.now) us vs (g.A.BaseAir.declared c.args.air.now) e c.in_ok-recorded.ensures.base.terms c.in_ok-recorded.ensures.ext.terms fits h)
 
 pub returns-clause-inferred : goal.returns-clause-inferred
 returns-clause-inferred g c =
@@ -46,12 +45,14 @@ returns-clause-inferred g c =
     let r = c.in_ok-recorded.recorded in
     let us = terms_of base_reads r.pool.0 r.base.items in
     let vs = terms_of (ext_reads field g.F.PartialEq.eq g.EF.ExtensionField.coefficients) r.pool r.ext.items in
+    let v = c.args.transition_weight in
     let n = c.args.trace_len in
     let periods = periods_of (g.A.BaseAir.beside c.args.air.now).periodic in
     let d = c.in_ok-degree.degree in
-    let w = trace_weight n periods in
+    let w = leaf_degree v n periods in
+    let bound = polynomial_bound v d n in
     let q = c.deref.ensures.value ∙ (c.in_ok-periods.ensures.lengths ∙ ap periods_of c.periodic_columns.ensures) in
-    let degree : IsDegreeFor n periods (us ++ vs) d = subst (λ (l : List ℕ). IsDegreeFor n l (us ++ vs) d) q c.in_ok-degree.ensures in
+    let degree : IsDegreeFor v n periods (us ++ vs) d = subst (λ (l : List ℕ). IsDegreeFor v n l (us ++ vs) d) q c.in_ok-degree.ensures in
     record {
       base = us;
       ext = vs;
@@ -59,6 +60,6 @@ returns-clause-inferred g c =
       base_in_extension = c.in_ok-recorded.ensures.base.in_extension;
       ext_recorded = c.in_ok-recorded.ensures.ext.terms;
       degree = degree;
-      base_bounded = λ h. polynomials_within (itself field) w (bound_of d n) us (base_within w (bound_of d n) us vs (degree.within h));
-      bounded = λ h. polynomials_within over w (bound_of d n) (us ++ vs) (degree.within h);
+      base_bounded = λ h. polynomials_within (itself field) w bound us (base_within w bound us vs (degrees_within v n periods (us ++ vs) d degree h));
+      bounded = λ h. polynomials_within over w bound (us ++ vs) (degrees_within v n periods (us ++ vs) d degree h);
     }
