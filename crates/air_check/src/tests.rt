@@ -65,7 +65,7 @@ fn audit_on(
     main: &RowMajorMatrix<BabyBear>,
     public_values: &[BabyBear],
 ) -> Result<Audit<BabyBear>, AirError> {
-    audit_air(alloc, &Fibonacci::new(), main, public_values)
+    audit_air(alloc, &Fibonacci::new(), main, public_values, 0)
 }
 
 /// What each call that records an AIR by a layout refuses.
@@ -79,8 +79,8 @@ fn refusals_of<A: Air<SymbolicAirBuilder<BabyBear, BabyBear>>>(
         get_symbolic_constraints_extension(alloc, air, layout).err(),
         get_all_symbolic_constraints(alloc, air, layout).err(),
         get_constraint_layout(alloc, air, layout).err(),
-        get_max_constraint_degree(alloc, air, layout, 4).err(),
-        get_max_constraint_degree_extension(alloc, air, layout, 4).err(),
+        get_max_constraint_degree(alloc, air, layout, 4, 0).err(),
+        get_max_constraint_degree_extension(alloc, air, layout, 4, 0).err(),
     ]
 }
 

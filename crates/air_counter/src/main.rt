@@ -20,7 +20,7 @@ fn audit_of_four_rows(alloc: Global) -> Result<Audit<BabyBear>, AirError> {
         }
     }
     let trace = RowMajorMatrix::new(values, 2)?;
-    audit_air(alloc, &Counter {}, &trace, &[])
+    audit_air(alloc, &Counter {}, &trace, &[], 0)
 }
 
 fn main(rt: HostRuntime) -> io::Result<()> {

@@ -123,7 +123,7 @@ module _ (F : Type 0) where
 
   -- and so an audit refuses memory alone
   pub audit_refuses : (r : CommRing F) (eq : F → F → Bool) (main : Grid F) (public : List F) (cap : Option ℕ) (e : AirError) → main.width ≡ 2 → length public ≡ 3 → length main.rows < 2 ^ 63
-      → AuditRefusesUnder r eq (plain_layout 2 3) (given fibonacci nothing_beside main public) cap e → e ≡ Memory
+      → AuditRefusesUnder r eq (plain_layout 2 3) (given fibonacci nothing_beside main public) cap 0 e → e ≡ Memory
   audit_refuses r eq main public cap e w p b (inl recording) = recording_refuses e recording
   audit_refuses r eq main public cap e w p b (inr (there, inl check)) = check_refuses main public e w p (plain_refusal r eq fibonacci main public cap e check)
   audit_refuses r eq main public cap e w p b (inr (there, inr past)) =

@@ -23,10 +23,10 @@ own_coefficients x = x ∷ []
 abbrev pub found_by : Audit BabyBear → Found
 found_by audit = found (record { degree = audit.degree; report = audit.report })
 
--- What an audit under a cap finds of what is given: an AIR's declared list, what it has beside the trace, and the trace.
+-- What an audit under a cap, its domain's transition selector linear, finds of what is given: an AIR's declared list, what it has beside the trace, and the trace.
 pub record AuditFinds (eq : BabyBear → BabyBear → Bool) (g : Given BabyBear) (cap : Option ℕ) (f : Found) : Type 0 where
   pub audit : Audit BabyBear
-  pub is_audit : IsAuditUnder baby_bear_ring eq own_coefficients g cap audit
+  pub is_audit : IsAuditUnder baby_bear_ring eq own_coefficients g cap 0 audit
   pub found_is : f ≡ found_by audit
 
 -- Fibonacci on public values and a trace, with nothing beside it

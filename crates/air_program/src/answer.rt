@@ -70,9 +70,9 @@ fn findings_of<
         (found findings)) }
     ensures refused { IfErr result (AuditRefusesUnder baby_bear_ring ⟦<BabyBear as PartialEq>⟧.eq
         (own_layout (A.beside air.now) (A.width air.now) (A.num_public_values air.now))
-        (given (A.declared air.now) (A.beside air.now) main.now public_values.now) cap) }
+        (given (A.declared air.now) (A.beside air.now) main.now public_values.now) cap 0) }
 {
-    match audit_air_with_cap(alloc, air, main, public_values, cap) {
+    match audit_air_with_cap(alloc, air, main, public_values, cap, 0) {
         Ok(audit) => Ok(Findings {
             degree: audit.degree,
             report: audit.report,

@@ -18,6 +18,7 @@ mod recordings;
 mod spellings;
 mod traces;
 mod trees;
+mod weights;
 mod words;
 
 use crate::tests::trees::base_text;
@@ -187,14 +188,25 @@ fn assert_listed(rt: &impl Abort, listed: &Listed, trees: &[&str], degrees: &[us
     }
 }
 
-/// The degree that is inferred of an AIR by its own layout, for so many rows.
+/// The degree that is inferred of an AIR by its own layout, for so many rows, in a domain of this weight for the
+/// transition selector.
+fn weighted<A: BaseAir<BabyBear> + Air<SymbolicAirBuilder<BabyBear, BabyBear>>>(
+    alloc: Global,
+    air: &A,
+    trace_len: usize,
+    transition_weight: usize,
+) -> Result<usize, AirError> {
+    let layout = AirLayout::from_air::<BabyBear, A>(air);
+    get_max_constraint_degree(alloc, air, layout, trace_len, transition_weight)
+}
+
+/// The same where the selector is linear.
 fn inferred<A: BaseAir<BabyBear> + Air<SymbolicAirBuilder<BabyBear, BabyBear>>>(
     alloc: Global,
     air: &A,
     trace_len: usize,
 ) -> Result<usize, AirError> {
-    let layout = AirLayout::from_air::<BabyBear, A>(air);
-    get_max_constraint_degree(alloc, air, layout, trace_len)
+    weighted(alloc, air, trace_len, 0)
 }
 
 /// A builder that has recorded nothing.

@@ -1,10 +1,9 @@
 -- The audit theorem, from what the recording, the check and the inferred degree answer.
-use Rattle.std.proofs.Common.{Err, ◌≡◌, ◌⊎◌, ℕ, List, ◌++◌, map, length, slice_index_or, Bool, if◌then◌else◌, ◌==◌, Option, Some, slice_get, refl, sym, ap, ap₂, ◌∙◌, subst, arith, inl, inr}
+use Rattle.std.proofs.Common.{Err, ◌≡◌, ◌⊎◌, ℕ, List, ◌++◌, map, length, Bool, if◌then◌else◌, ◌==◌, Option, Some, slice_get, refl, sym, ap, ap₂, ◌∙◌, subst, arith, inl, inr}
 use Rattle.std.proofs.lemmas.List.{map-append}
 use Rattle.std.proofs.lemmas.Simd.{map-map}
 use Rattle.air_field.specs.Ring.{CommRing, itself}
 use Rattle.air_field.specs.Term.{Term}
-use Rattle.air_field.specs.DegreeLaws.{polynomial-degree}
 use Rattle.air_field.specs.Assignment.{IsMissing, row_assignment}
 use Rattle.air_field.specs.declared.errors.RingError.{RingError}
 use Rattle.air_field.specs.declared.errors.RingError.TheVariants.{Memory, DegreeOverflow}
@@ -16,13 +15,14 @@ use Rattle.air_windows.specs.Errors.{air_error}
 use Rattle.air_builder.specs.Refusals.{NoneMissing}
 use Rattle.air_windows.specs.declared.errors.AirError.{AirError}
 use Rattle.air_windows.specs.declared.errors.AirError.TheVariants.{LayoutMainWidth, LayoutPublicValues, LayoutPeriodicColumns}
-use Rattle.p3_air.specs.Audits.{RecordsEach, IsRecording, ListsFailures, IsAuditUnder, AuditRefusesUnder, all_terms, failures_within, weights_of_trace}
-use Rattle.air_recording.specs.Bounds.{IsDegreeFor}
+use Rattle.p3_air.specs.Audits.{RecordsEach, IsRecording, ListsFailures, IsAuditUnder, AuditRefusesUnder, failures_within, leaves_over}
+use Rattle.air_recording.specs.Bounds.{polynomial_bound, IsDegreeFor}
 use Rattle.air_report.specs.Cells.{cell_place, differing, left_of}
 use Rattle.air_report.specs.Checks.{IsReport}
 use Rattle.air_recording.specs.Folds.{ArePlacesOf}
 use Rattle.air_report.specs.Given.{Given, given_trace, height}
-use Rattle.air_recording.specs.Inferred.{AnswersInferred, periods_of}
+use Rattle.air_recording.specs.Inferred.{AnswersInferred, periods_of, recorded_terms}
+use Rattle.air_recording.specs.BoundLaws.{degrees_within, polynomials_within}
 use Rattle.air_recording.specs.Kinds.{kind_of, base_terms, ext_terms}
 use Rattle.air_recording.specs.Layouts.{air_layout, layout_shape, LayoutRefuses}
 use Rattle.air_recording.specs.Recorded.{EachRecords, RecordRefuses, RecordsBase, RecordsExt, terms_of}
@@ -32,7 +32,7 @@ use Rattle.air_recording.specs.declared.layouts.air_layout.AirLayout.{AirLayout}
 use Rattle.air_report.specs.declared.checks.report.ConstraintReport.{ConstraintReport}
 use Rattle.p3_air.proofs.Audited.{placed, placed_records, at_base_places, at_ext_places, same_values, same_report, same_length}
 
-module _ {F : Type 0} (r : CommRing F) (eq : F → F → Bool) (coefficients : F → List F) (g : Given F) (cap : Option ℕ) (audit : Audit F) where
+module _ {F : Type 0} (r : CommRing F) (eq : F → F → Bool) (coefficients : F → List F) (g : Given F) (cap : Option ℕ) (w : ℕ) (audit : Audit F) where
   abbrev base_terms_of : List (Term F)
   base_terms_of = terms_of base_reads audit.recorded.pool.0 audit.recorded.base.items
 
@@ -85,11 +85,10 @@ module _ {F : Type 0} (r : CommRing F) (eq : F → F → Bool) (coefficients : F
       → RecordsExt r (itself r) (ext_reads r eq coefficients) audit.recorded.pool audit.recorded.ext.items g.terms
       → ArePlacesOf (map kind_of g.terms) audit.layout.base_indices.items audit.layout.ext_indices.items
       → IsReport r eq g cap audit.report
-      → IsDegreeFor (height g) (periods_of g.beside.periodic) (all_terms r eq coefficients audit.recorded) audit.degree
-      → IsAuditUnder r eq coefficients g cap audit
+      → IsDegreeFor w (height g) (periods_of g.beside.periodic) (recorded_terms r eq coefficients audit.recorded) audit.degree
+      → IsAuditUnder r eq coefficients g cap w audit
   audited base ext places report degree =
-      let w = weights_of_trace g in
-      let us = all_terms r eq coefficients audit.recorded in
+      let us = recorded_terms r eq coefficients audit.recorded in
       let recording = recording_is base ext places in
       record {
         recorded = recorded_list;
@@ -98,7 +97,7 @@ module _ {F : Type 0} (r : CommRing F) (eq : F → F → Bool) (coefficients : F
         report = report;
         lists = lists_recorded recording.each report;
         degree = degree;
-        bounded = λ h s leaves k d b m past. polynomial-degree (itself r) s w leaves (slice_index_or us k d) m (omega (arith, past, degree.within h k d b));
+        bounded = λ h. polynomials_within (itself r) (leaves_over g w) (polynomial_bound w audit.degree (height g)) us (degrees_within w (height g) (periods_of g.beside.periodic) us audit.degree degree h);
       }
 
 -- an AIR's own layout fits it
@@ -109,18 +108,18 @@ own_layout_fits preprocessed width public periodic (LayoutPeriodicColumns layout
 own_layout_fits preprocessed width public periodic _ h = h
 
 -- Where an audit refuses.
-module _ {F : Type 0} (r : CommRing F) (eq : F → F → Bool) (g : Given F) (cap : Option ℕ) (preprocessed width public periodic : ℕ) where
+module _ {F : Type 0} (r : CommRing F) (eq : F → F → Bool) (g : Given F) (cap : Option ℕ) (w preprocessed width public periodic : ℕ) where
   abbrev layout_is : AirLayout
   layout_is = air_layout preprocessed width public periodic
 
-  pub recording_refused : (l : AirLayout) (e : AirError) → l ≡ layout_is → RecordRefuses l width public periodic g.terms e → AuditRefusesUnder r eq layout_is g cap e
+  pub recording_refused : (l : AirLayout) (e : AirError) → l ≡ layout_is → RecordRefuses l width public periodic g.terms e → AuditRefusesUnder r eq layout_is g cap w e
   recording_refused l e q h = step (subst (λ m. RecordRefuses m width public periodic g.terms e) q h)
     where
-      step : RecordRefuses layout_is width public periodic g.terms e → AuditRefusesUnder r eq layout_is g cap e
+      step : RecordRefuses layout_is width public periodic g.terms e → AuditRefusesUnder r eq layout_is g cap w e
       step (inl other) = absurd (own_layout_fits preprocessed width public periodic e other)
       step (inr refused) = inl refused.1
 
   pub degree_refused : (report : ConstraintReport) (us vs : List (Term F)) (e : RingError) → IsReport r eq g cap report → NoneMissing (IsMissing (layout_shape layout_is)) g.terms → EachRecords (itself r) us (base_terms g.terms) → EachRecords (itself r) vs (ext_terms g.terms)
-      → AnswersInferred (height g) (periods_of g.beside.periodic) (us ++ vs) (Err e) → AuditRefusesUnder r eq layout_is g cap (air_error e)
+      → AnswersInferred w (height g) (periods_of g.beside.periodic) (us ++ vs) (Err e) → AuditRefusesUnder r eq layout_is g cap w (air_error e)
   degree_refused report us vs Memory checked there m n h = inl tt
   degree_refused report us vs DegreeOverflow checked there m n h = inr (there, inr (refl, record { report = report; checked = checked; base = us; ext = vs; base_recorded = m; ext_recorded = n; past = h }))

@@ -3,7 +3,7 @@ use Rattle.std.specs.Prelude.{◌≡◌, ◌⊎◌, ℕ, ◌≤◌, ◌^◌, Lis
 use Rattle.std.specs.List.{AllZip}
 use Rattle.air_field.specs.Ring.{CommRing, Over, itself}
 use Rattle.air_field.specs.Term.{Leaf, Term}
-use Rattle.air_field.specs.Degree.{cached_weight, trace_weight, greatest_degree}
+use Rattle.air_field.specs.Degree.{cached_weight, greatest_degree}
 use Rattle.air_field.specs.Assignment.{IsMissing, row_assignment}
 use Rattle.air_symbolic.specs.BaseLeaves.{base_reads}
 use Rattle.air_symbolic.specs.ExtLeaves.{ext_reads}
@@ -17,19 +17,18 @@ use Rattle.air_windows.specs.declared.errors.AirError.{AirError}
 use Rattle.air_windows.specs.declared.errors.AirError.TheVariants.{DegreeOverflow}
 use Rattle.air_report.specs.Cells.{cell_place, differing, left_of}
 use Rattle.air_report.specs.Checks.{IsReport, CheckRefuses}
-use Rattle.air_recording.specs.Bounds.{bound_of, PolynomialsWithin, IsDegreeFor}
+use Rattle.air_recording.specs.Bounds.{domain_weight, leaf_degree, polynomial_bound, PolynomialsWithin, IsDegreeFor}
 use Rattle.air_recording.specs.Folds.{ArePlacesOf}
 use Rattle.air_report.specs.Given.{Given, given_trace, height}
-use Rattle.air_recording.specs.Inferred.{periods_of}
+use Rattle.air_recording.specs.Inferred.{periods_of, recorded_terms}
 use Rattle.air_recording.specs.Kinds.{kind_of, base_terms, ext_terms}
 use Rattle.air_recording.specs.Layouts.{layout_shape, air_layout}
-use Rattle.air_recording.specs.Recorded.{RecordsTerm, EachRecords, RecordsBase, RecordsExt, terms_of}
+use Rattle.air_recording.specs.Recorded.{RecordsTerm, EachRecords, RecordsBase, RecordsExt}
 use Rattle.air_recording.specs.Recording.{IsOver}
 use Rattle.air_builder.specs.Refused.{Refused}
 use Rattle.air_report.specs.Report.{assertion_value, report_of, failure_place, IsRowsShown, count_shown}
 use Rattle.p3_air.specs.declared.audit.Audit.{Audit}
 use Rattle.air_recording.specs.declared.layouts.air_layout.AirLayout.{AirLayout}
-use Rattle.air_recording.specs.declared.symbolic.record.Recorded.{Recorded}
 use Rattle.air_report.specs.declared.checks.report.ConstraintReport.{ConstraintReport}
 
 -- a recorded assertion for one that is declared: of the same kind, and its term records the declared one
@@ -47,11 +46,6 @@ RecordsEach a us ts = AllZip (RecordsAssertion a) us ts
 abbrev pub StandAt : {U A F : Type 0} → (U → Leaves A F) → U × List (SymbolicExpr A) → (Term F → Assertion F) → List (Assertion F) → List ℕ → List ℕ → Type 0
 StandAt reads pool kind recorded places numbers =
     map (λ p. slice_get recorded p) places ≡ map (λ i. Some (kind (term_at reads pool i))) numbers
-
--- all recorded terms: the base ones, and then the extension ones
-abbrev pub all_terms : {F : Type 0} → CommRing F → (F → F → Bool) → (F → List F) → Recorded F F → List (Term F)
-all_terms r eq coefficients recorded =
-    terms_of base_reads recorded.pool.0 recorded.base.items ++ terms_of (ext_reads r eq coefficients) recorded.pool recorded.ext.items
 
 -- The recording: the numbers of both lists record the declared terms of their kind; the indices are the places of each
 -- kind; and the recorded assertion at each place is that of the number whose index it is, and records what is declared there.
@@ -80,36 +74,38 @@ pub record ListsFailures {F : Type 0} (r : CommRing F) (eq : F → F → Bool) (
   pub is_shown : IsRowsShown r eq (given_trace g) ts cap (height g) shown
   pub places : map failure_place report.failures.items ≡ failures_within r eq g cap ts shown
 
--- the degrees of the leaves' polynomials over the trace's rows
-abbrev pub weights_of_trace : {F : Type 0} → Given F → Leaf → ℕ
-weights_of_trace g = trace_weight (height g) (periods_of g.beside.periodic)
+-- the greatest degrees of the leaves' polynomials over the trace's rows, in a domain of weight w
+abbrev pub leaves_over : {F : Type 0} → Given F → ℕ → Leaf → ℕ
+leaves_over g w = leaf_degree w (height g) (periods_of g.beside.periodic)
 
--- The audit theorem, under a cap. What is recorded at each place has at each row the value tested there; the report lists
--- exactly the nonzero pairs of row and place, in order, of the rows that the cap shows, and then the differing cells, as
--- many as it leaves; each recorded polynomial has degree at most d (n - 1) + 1 over n rows, n at least 2; and for n at
--- least 3 the recorded terms allow no smaller d.
-pub record IsAuditUnder {F : Type 0} (r : CommRing F) (eq : F → F → Bool) (coefficients : F → List F) (g : Given F) (cap : Option ℕ) (audit : Audit F) : Type 0 where
+-- The audit theorem, under a cap and in a domain of weight w. What is recorded at each place has at each row the value
+-- tested there; the report lists exactly the nonzero pairs of row and place, in order, of the rows that the cap shows, and
+-- then the differing cells, as many as it leaves; and for n rows, n at least 2, each recorded polynomial has degree at most
+-- d (n - 1) + 1 for weight 0, d being for n at least 3 the least that the recorded terms allow, and at most d (n - 1) for a
+-- weight from 1, d being the least that they allow.
+pub record IsAuditUnder {F : Type 0} (r : CommRing F) (eq : F → F → Bool) (coefficients : F → List F) (g : Given F) (cap : Option ℕ) (w : ℕ) (audit : Audit F) : Type 0 where
   pub recorded : List (Assertion F)
   pub recording : IsRecording r eq coefficients g.terms recorded audit
   pub values : (row : ℕ) → values_at_row r g row recorded ≡ values_at_row r g row g.terms
   pub report : IsReport r eq g cap audit.report
   pub lists : ListsFailures r eq g cap recorded audit.report
-  pub degree : IsDegreeFor (height g) (periods_of g.beside.periodic) (all_terms r eq coefficients audit.recorded) audit.degree
-  pub bounded : 2 ≤ height g → PolynomialsWithin (itself r) (weights_of_trace g) (bound_of audit.degree (height g)) (all_terms r eq coefficients audit.recorded)
+  pub degree : IsDegreeFor w (height g) (periods_of g.beside.periodic) (recorded_terms r eq coefficients audit.recorded) audit.degree
+  pub bounded : 2 ≤ height g → PolynomialsWithin (itself r) (leaves_over g w) (polynomial_bound w audit.degree (height g)) (recorded_terms r eq coefficients audit.recorded)
 
 -- without a cap
-abbrev pub IsAudit : {F : Type 0} → CommRing F → (F → F → Bool) → (F → List F) → Given F → Audit F → Type 0
-IsAudit r eq coefficients g audit = IsAuditUnder r eq coefficients g None audit
+abbrev pub IsAudit : {F : Type 0} → CommRing F → (F → F → Bool) → (F → List F) → Given F → ℕ → Audit F → Type 0
+IsAudit r eq coefficients g w audit = IsAuditUnder r eq coefficients g None w audit
 
--- the check had answered, and of terms that record the declared list one has a degree past `usize` over the trace's rows
-pub record IsDegreePast {F : Type 0} (r : CommRing F) (eq : F → F → Bool) (g : Given F) (cap : Option ℕ) : Type 0 where
+-- the check had answered, and of terms that record the declared list one has a degree past `usize`, as a domain of weight w
+-- counts degrees for the trace
+pub record IsDegreePast {F : Type 0} (r : CommRing F) (eq : F → F → Bool) (g : Given F) (cap : Option ℕ) (w : ℕ) : Type 0 where
   pub report : ConstraintReport
   pub checked : IsReport r eq g cap report
   pub base : List (Term F)
   pub ext : List (Term F)
   pub base_recorded : EachRecords (itself r) base (base_terms g.terms)
   pub ext_recorded : EachRecords (itself r) ext (ext_terms g.terms)
-  pub past : 2 ^ 64 ≤ greatest_degree (weights_of_trace g) (base ++ ext)
+  pub past : 2 ^ 64 ≤ greatest_degree (domain_weight w (height g) (periods_of g.beside.periodic)) (base ++ ext)
 
 -- the layout of an AIR that has this beside its main trace, of this width and so many public values
 abbrev pub own_layout : {F : Type 0} → Beside F → ℕ → ℕ → AirLayout
@@ -117,12 +113,13 @@ own_layout beside width public = air_layout (table_width beside.preprocessed) wi
 
 -- An audit under a cap refuses what the recording refuses: want of memory, a declared term that names an entry missing in
 -- the AIR's own layout, or one whose cached degree passes `usize`. Where no entry is missing there it refuses what the
--- check under the cap refuses, and, where the check answers, a degree over the trace's rows past `usize`.
-abbrev pub AuditRefusesUnder : {F : Type 0} → CommRing F → (F → F → Bool) → AirLayout → Given F → Option ℕ → AirError → Type 0
-AuditRefusesUnder r eq layout g cap e =
+-- check under the cap refuses, and, where the check answers, a recorded degree past `usize`, as a domain of weight w counts
+-- degrees for the trace.
+abbrev pub AuditRefusesUnder : {F : Type 0} → CommRing F → (F → F → Bool) → AirLayout → Given F → Option ℕ → ℕ → AirError → Type 0
+AuditRefusesUnder r eq layout g cap w e =
     Refused (IsMissing (layout_shape layout)) (IsOver cached_weight) (λ _. ⊥) e g.terms
-    ⊎ (NoneMissing (IsMissing (layout_shape layout)) g.terms × (CheckRefuses r eq g cap e ⊎ ((e ≡ DegreeOverflow) × IsDegreePast r eq g cap)))
+    ⊎ (NoneMissing (IsMissing (layout_shape layout)) g.terms × (CheckRefuses r eq g cap e ⊎ ((e ≡ DegreeOverflow) × IsDegreePast r eq g cap w)))
 
 -- without a cap
-abbrev pub AuditRefuses : {F : Type 0} → CommRing F → (F → F → Bool) → AirLayout → Given F → AirError → Type 0
-AuditRefuses r eq layout g e = AuditRefusesUnder r eq layout g None e
+abbrev pub AuditRefuses : {F : Type 0} → CommRing F → (F → F → Bool) → AirLayout → Given F → ℕ → AirError → Type 0
+AuditRefuses r eq layout g w e = AuditRefusesUnder r eq layout g None w e

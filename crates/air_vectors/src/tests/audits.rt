@@ -79,16 +79,17 @@ fn make_surrounded(
     })
 }
 
-/// The audit of `Surrounded` on a trace.
+/// The audit of `Surrounded` on a trace, in a domain of this weight for the transition selector.
 fn surrounded_audit(
     alloc: Global,
     air: &Surrounded<BabyBear>,
     main: &RowMajorMatrix<BabyBear>,
     public: &[BabyBear],
+    transition_weight: usize,
 ) -> Result<Audit<BabyBear>, AirError>
     ensures { IfOk result (λ a. IsPool ⟦<BaseLeaf<BabyBear> as SymLeaf>⟧.reads a.recorded.pool.0) }
 {
-    audit_air(alloc, air, main, public)
+    audit_air(alloc, air, main, public, transition_weight)
 }
 
 /// The report is of two constraints a row, and lists these rows and places; the last is a cell if one is labelled.
@@ -115,7 +116,7 @@ fn audits_what_is_beside_a_trace(rt: HostRuntime) -> Result<(), Fail> {
     let alloc = rt.alloc();
     let air = make_surrounded(alloc, &[0, 0, 3, 0], &[0, 5], 0)?;
     let main = matrix(alloc, &[0, 5, 1, 5], 1)?;
-    let audit = surrounded_audit(alloc, &air, &main, &[BabyBear::new(7)])?;
+    let audit = surrounded_audit(alloc, &air, &main, &[BabyBear::new(7)], 0)?;
     let cell = "boundary-IO cell in column 0 does not hold public value 0";
     let wanted = [(1, 1, None), (2, 0, None), (3, 2, Some(cell))];
     assert_report(&rt, &audit.report, &wanted);
@@ -127,9 +128,12 @@ fn audits_what_is_beside_a_trace(rt: HostRuntime) -> Result<(), Fail> {
     assert_eq!(rt; audit.degree, 2);
     let air = make_surrounded(alloc, &[0, 0], &[0, 5], 0)?;
     let main = matrix(alloc, &[0, 5], 1)?;
-    let audit = surrounded_audit(alloc, &air, &main, &[BabyBear::new(5)])?;
-    assert_report(&rt, &audit.report, &[]);
-    assert_eq!(rt; audit.degree, 1);
+    for (transition_weight, degree) in [(0, 1), (1, 2)] {
+        let public = [BabyBear::new(5)];
+        let audit = surrounded_audit(alloc, &air, &main, &public, transition_weight)?;
+        assert_report(&rt, &audit.report, &[]);
+        assert_eq!(rt; audit.degree, degree);
+    }
     Ok(())
 }
 
@@ -156,7 +160,7 @@ fn an_audit_refuses_what_is_beside_a_trace(rt: HostRuntime) -> Result<(), Fail> 
     ];
     for (table, periodic, refused) in cases {
         let air = make_surrounded(alloc, table, periodic, 5)?;
-        let audit = surrounded_audit(alloc, &air, &main, &[BabyBear::new(0)]);
+        let audit = surrounded_audit(alloc, &air, &main, &[BabyBear::new(0)], 0);
         assert_eq!(rt; audit.err(), Some(refused));
     }
     Ok(())
@@ -169,7 +173,7 @@ fn audit_of(
     public: &[BabyBear],
 ) -> Result<Audit<BabyBear>, AirError> {
     let air = make_products(alloc);
-    audit_air(alloc, &air, main, public)
+    audit_air(alloc, &air, main, public, 0)
 }
 
 #[test]
@@ -200,7 +204,7 @@ fn capped_audit_of(
     cap: Option<usize>,
 ) -> Result<Audit<BabyBear>, AirError> {
     let air = make_products(alloc);
-    audit_air_with_cap(alloc, &air, main, public, cap)
+    audit_air_with_cap(alloc, &air, main, public, cap, 0)
 }
 
 // Under a cap of 1 the first row's failures stand alone, both of them.

@@ -20,7 +20,7 @@ use std::alloc::Global;
 use std::test::Fail;
 
 /// One column x: the transition selector twice times x is zero.
-struct Steps {}
+pub struct Steps {}
 
 impl<F: Copy> BaseAir<F> for Steps {
     ghost declared = { λ _. Base (mul_term (mul_term (leaf_term transition) (leaf_term transition)) (leaf_term (main 0 0))) ∷ [] };
@@ -60,8 +60,8 @@ impl<AB: AirBuilder> Air<AB> for Steps {
 
 /// The product of the first two periodic columns is zero.
 #[derive(Drop)]
-struct Cycles<F> {
-    columns: Vec<Vec<F>>,
+pub struct Cycles<F> {
+    pub columns: Vec<Vec<F>>,
 }
 
 impl<F: Copy> BaseAir<F> for Cycles<F> {

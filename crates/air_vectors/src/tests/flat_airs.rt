@@ -66,7 +66,7 @@ fn flat_audit(
     main: &RowMajorMatrix<BabyBear>,
     public: &[BabyBear],
 ) -> Result<Audit<BabyBear>, AirError> {
-    audit_air(alloc, air, main, public)
+    audit_air(alloc, air, main, public, 0)
 }
 
 /// Why there is no audit of a column on a trace, if there is none.

@@ -63,7 +63,7 @@ fn degree_for_eight<EF: ExtensionField<BabyBear>, A: Air<SymbolicAirBuilder<Baby
     air: &A,
     layout: AirLayout,
 ) -> Result<usize, AirError> {
-    get_max_constraint_degree_extension(alloc, air, layout, 8)
+    get_max_constraint_degree_extension(alloc, air, layout, 8, 0)
 }
 
 /// A main trace of this width, with one permutation column, one challenge and one permutation value.

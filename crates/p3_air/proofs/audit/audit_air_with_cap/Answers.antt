@@ -18,7 +18,7 @@ returns-in_err-builder-clause-refused g c =
     let air = c.args.air.now in
     let beside = g.A.BaseAir.beside air in
     rw (p.1, p.2)
-    (recording_refused g.F.Field.ring g.F.PartialEq.eq (given (g.A.BaseAir.declared air) beside c.args.main.now c.args.public_values.now) c.args.max_failures (table_width beside.preprocessed) (g.A.BaseAir.width air) (g.A.BaseAir.num_public_values air) (length beside.periodic) c.from_air.result _ c.from_air.ensures c.in_err-builder.ensures.refused)
+    (recording_refused g.F.Field.ring g.F.PartialEq.eq (given (g.A.BaseAir.declared air) beside c.args.main.now c.args.public_values.now) c.args.max_failures c.args.transition_weight (table_width beside.preprocessed) (g.A.BaseAir.width air) (g.A.BaseAir.num_public_values air) (length beside.periodic) c.from_air.result _ c.from_air.ensures c.in_err-builder.ensures.refused)
 
 pub returns-in_err-report-clause-refused : goal.returns-in_err-report-clause-refused
 returns-in_err-report-clause-refused g c =
@@ -50,9 +50,9 @@ returns-in_err-degree-clause-refused g c =
     let base : RecordsBase r g.F.ExtensionField.over base_reads recorded.pool.0 recorded.base.items ts = rw (c.into_recorded-recorded.ensures.pool, c.into_recorded-recorded.ensures.base) c.in_ok-builder.ensures.base in
     let e = c.in_err-degree.field-0.0 in
     let q = c.deref.ensures.value ∙ (c.in_ok-periods.ensures.lengths ∙ ap periods_of c.periodic_columns.ensures) in
-    let past = subst (λ (n : ℕ). AnswersInferred n (periods_of beside.periodic) (us ++ vs) (Err e)) c.height.ensures (subst (λ (l : List ℕ). AnswersInferred c.height.result l (us ++ vs) (Err e)) q c.in_err-degree.ensures) in
+    let past = subst (λ (n : ℕ). AnswersInferred c.args.transition_weight n (periods_of beside.periodic) (us ++ vs) (Err e)) c.height.ensures (subst (λ (l : List ℕ). AnswersInferred c.args.transition_weight c.height.result l (us ++ vs) (Err e)) q c.in_err-degree.ensures) in
     rw (p.1, p.2)
-    (degree_refused r g.F.PartialEq.eq (given ts beside c.args.main.now c.args.public_values.now) c.args.max_failures (table_width beside.preprocessed) (g.A.BaseAir.width air) (g.A.BaseAir.num_public_values air) (length beside.periodic) c.in_ok-report.report us vs e c.in_ok-report.ensures.report (rw c.from_air.ensures at c.in_ok-builder.ensures.there) base.terms ext.terms past)
+    (degree_refused r g.F.PartialEq.eq (given ts beside c.args.main.now c.args.public_values.now) c.args.max_failures c.args.transition_weight (table_width beside.preprocessed) (g.A.BaseAir.width air) (g.A.BaseAir.num_public_values air) (length beside.periodic) c.in_ok-report.report us vs e c.in_ok-report.ensures.report (rw c.from_air.ensures at c.in_ok-builder.ensures.there) base.terms ext.terms past)
 
 pub returns-clause-audited : goal.returns-clause-audited
 returns-clause-audited g c =
@@ -72,7 +72,7 @@ returns-clause-audited g c =
     let q = c.deref.ensures.value ∙ (c.in_ok-periods.ensures.lengths ∙ ap periods_of c.periodic_columns.ensures) in
     let us = terms_of base_reads recorded.pool.0 recorded.base.items in
     let vs = terms_of reads recorded.pool recorded.ext.items in
-    audited r eq coefficients (given ts beside c.args.main.now c.args.public_values.now) c.args.max_failures
+    audited r eq coefficients (given ts beside c.args.main.now c.args.public_values.now) c.args.max_failures c.args.transition_weight
     record { recorded = recorded; layout = c.in_ok-layout.layout; report = c.in_ok-report.report; degree = c.in_ok-degree.degree }
     base ext places c.in_ok-report.ensures.report
-    (subst (λ n. IsDegreeFor n (periods_of beside.periodic) (us ++ vs) c.in_ok-degree.degree) c.height.ensures (subst (λ l. IsDegreeFor c.height.result l (us ++ vs) c.in_ok-degree.degree) q c.in_ok-degree.ensures))
+    (subst (λ n. IsDegreeFor c.args.transition_weight n (periods_of beside.periodic) (us ++ vs) c.in_ok-degree.degree) c.height.ensures (subst (λ l. IsDegreeFor c.args.transition_weight c.height.result l (us ++ vs) c.in_ok-degree.degree) q c.in_ok-degree.ensures))
