@@ -4,6 +4,7 @@ ghost use Rattle.air_field.specs.Algebra.{Made};
 ghost use Rattle.air_field.specs.ExtAlgebra.{Lifted};
 ghost use Rattle.air_field.specs.Term.{leaf_term, ext_const_term};
 ghost use Rattle.air_variables.specs.ExtEntries.{ext_entry_leaf};
+ghost use Rattle.air_symbolic.specs.BaseLeaves.{base_reads};
 ghost use Rattle.air_symbolic.specs.ExtLeaves.{ext_reads, ext_grows};
 ghost use Rattle.air_symbolic.specs.ExtPool.{BaseMeans};
 ghost use Rattle.air_symbolic.specs.Trees.{leaf_tree};
@@ -55,6 +56,15 @@ impl<F: Field, EF: ExtensionField<F>> ExprPool<ExtLeaf<F, EF>> {
         ensures refused { IfErr result (λ e. e ≡ RingError.Memory) }
     {
         self.leaf(ExtLeaf::Base(x))
+    }
+
+    /// The base pool, handed over as it is.
+    pub fn into_base(self) -> ExprPool<BaseLeaf<F>>
+        ensures base { result ≡ self.0 }
+        ensures pool { IsPool (ext_reads F.ring F.eq EF.coefficients) self → IsPool base_reads result }
+    {
+        let ExprPool { under, .. } = self;
+        under
     }
 }
 
