@@ -50,8 +50,10 @@ pub fn fold_air<
     ensures row { row_of folder.new ≡ row_of folder.old }
     ensures fits { OnOk result (FitsAir layout
         (A.width air.now) (A.num_public_values air.now) (length (A.beside air.now).periodic)) }
-    ensures recorded { OnOk result (NoneMissing (IsMissing (layout_shape layout)) (A.declared air.now)) }
-    ensures there { OnOk result (NoneMissing (FolderMissing (row_of folder.old)) (A.declared air.now)) }
+    ensures recorded { OnOk result
+        (NoneMissing (IsMissing (layout_shape layout)) (A.declared air.now)) }
+    ensures there { OnOk result
+        (NoneMissing (FolderMissing (row_of folder.old)) (A.declared air.now)) }
     ensures beginning { OnErr result (GrewByBeginningOf EF.over
         folder.old folder.new (A.declared air.now)) }
     ensures refused { IfErr result (FoldingRefuses layout

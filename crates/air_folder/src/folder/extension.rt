@@ -48,7 +48,8 @@ impl<'a, F: Field, EF: ExtensionField<F>> PermutationAirBuilder for ConstraintFo
             PermutationStands EF.over EF.coefficients (row_of self.now) 0 w.current.now) }
         ensures next { IfOk result (λ w.
             PermutationStands EF.over EF.coefficients (row_of self.now) 1 w.next.now) }
-        ensures current_ends { IfOk result (λ w. PermutationEnds (row_of self.now) 0 w.current.now) }
+        ensures current_ends { IfOk result (λ w.
+            PermutationEnds (row_of self.now) 0 w.current.now) }
         ensures next_ends { IfOk result (λ w. PermutationEnds (row_of self.now) 1 w.next.now) }
         ensures answered { self.now.permutation ≢ None → IsOk result }
         ensures without { self.now.permutation ≡ None → result ≡ Err AirError.NoPermutation }
