@@ -1,6 +1,6 @@
 -- The constraints of the tests' AIRs.
 use Rattle.std.specs.Prelude.{ℕ, List, [], ◌∷◌}
-use Rattle.air_field.specs.Term.{main, preprocessed, periodic, permutation, challenge, permutation_value, Term, leaf_term, sub_term, mul_term}
+use Rattle.air_field.specs.Term.{main, preprocessed, periodic, public, first_row, last_row, transition, permutation, challenge, permutation_value, Term, leaf_term, add_term, sub_term, mul_term}
 use Rattle.air_builder.specs.Assertion.{Assertion, Base, Extension}
 use Rattle.air_author.specs.Expressions.{power_term}
 
@@ -28,3 +28,13 @@ raised_twice one n t = power_term one (power_term one t n) n
 -- column 0, raised eight times
 abbrev pub steep : {F : Type 0} → F → ℕ → List (Assertion F)
 steep one n = Base (raised_twice one n (raised_twice one n (raised_twice one n (raised_twice one n (leaf_term (main 0 0)))))) ∷ []
+
+-- on the first row the columns are public values 0 and 1; the next row is the second number and the sum; on the last row the
+-- second number is public value 2
+abbrev pub fibonacci : {F : Type 0} → List (Assertion F)
+fibonacci =
+    Base (mul_term (leaf_term first_row) (sub_term (leaf_term (main 0 0)) (leaf_term (public 0)))) ∷
+    Base (mul_term (leaf_term first_row) (sub_term (leaf_term (main 0 1)) (leaf_term (public 1)))) ∷
+    Base (mul_term (leaf_term transition) (sub_term (leaf_term (main 1 0)) (leaf_term (main 0 1)))) ∷
+    Base (mul_term (leaf_term transition) (sub_term (leaf_term (main 1 1)) (add_term (leaf_term (main 0 0)) (leaf_term (main 0 1))))) ∷
+    Base (mul_term (leaf_term last_row) (sub_term (leaf_term (main 0 1)) (leaf_term (public 2)))) ∷ []

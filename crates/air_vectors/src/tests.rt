@@ -11,6 +11,7 @@ mod differing;
 mod extension;
 mod filters;
 mod flat_airs;
+mod folds;
 mod handed;
 mod labels;
 mod layouts;

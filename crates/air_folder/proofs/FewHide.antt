@@ -1,0 +1,114 @@
+-- Fewer distinct elements than there are values fold these to zero, where one of them isn't zero.
+use Rattle.std.specs.Prelude.{◌≡◌, refl, ◌+◌, ◌<◌, List, [], ◌∷◌, ◌++◌, length, Bool, true, false, cond, count_by}
+use Rattle.std.specs.List.{filter}
+use Rattle.std.proofs.Common.{Ordering, Less, Equal, Greater}
+use Rattle.std.specs.Ordering.{ordering_reverse}
+use Rattle.std.specs.Cmp.{IsTotalOrder}
+use Rattle.std.proofs.Common.{sym, ◌∙◌, ap, ap₂, inl, inr, arith, length-append}
+use Rattle.std.proofs.lemmas.Bool.{cases_lt}
+use Rattle.std.proofs.lemmas.List.Sums.{length-filter}
+use Rattle.air_field.specs.Ring.{CommRing, AllZero}
+use Rattle.air_field.specs.Powers.{power}
+use Rattle.air_field.specs.RingLaws.{nil_add, one_mul, ring_rules}
+use Rattle.air_field.specs.RingSolver.{var, plus, times, ring}
+use Rattle.air_recording.specs.Folds.{horner}
+use Rattle.air_folder.specs.Fold.{horner-first}
+use Rattle.air_folder.specs.Hiding.{IsBelowAll, IsIncreasing}
+use Rattle.air_folder.proofs.Roots.{IsDomain, DiffersFromAll, Distinct, poly_value, AllRoots, nil_of_roots}
+
+-- the values in the other order: the coefficients of their fold, lowest first
+abbrev backwards : {A : Type 0} → List A → List A
+backwards [] = []
+backwards (v ∷ vs) = backwards vs ++ v ∷ []
+
+backwards-length : {A : Type 0} (vs : List A) → length (backwards vs) ≡ length vs
+backwards-length [] = refl
+backwards-length (v ∷ vs) = length-append (backwards vs) (v ∷ []) ∙ (ap (λ n. n + 1) (backwards-length vs) ∙ omega arith)
+
+module _ {A : Type 0} (r : CommRing A) where
+  append_step : (c x p q s : A) → r.add c (r.mul x (r.add p (r.mul q s))) ≡ r.add (r.add c (r.mul x p)) (r.mul (r.mul q x) s)
+  append_step c x p q s =
+      ring r (c ∷ x ∷ p ∷ q ∷ s ∷ [])
+      (plus (var 0) (times (var 1) (plus (var 2) (times (var 3) (var 4)))))
+      (plus (plus (var 0) (times (var 1) (var 2))) (times (times (var 3) (var 1)) (var 4)))
+      refl
+
+  value-append : (cs ds : List A) (x : A) → poly_value r (cs ++ ds) x ≡ r.add (poly_value r cs x) (r.mul (power r x (length cs)) (poly_value r ds x))
+  value-append [] ds x = sym (nil_add r (r.mul r.one (poly_value r ds x)) ∙ one_mul r (poly_value r ds x))
+  value-append (c ∷ cs) ds x =
+      ap (λ y. r.add c (r.mul x y)) (value-append cs ds x)
+      ∙ append_step c x (poly_value r cs x) (power r x (length cs)) (poly_value r ds x)
+
+  last_step : (w p v x : A) → r.add (r.mul p v) w ≡ r.add w (r.mul p (r.add v (r.mul x r.nil)))
+  last_step w p v x = simp ring_rules
+
+  horner-backwards : (vs : List A) (x : A) → horner r x vs ≡ poly_value r (backwards vs) x
+  horner-backwards [] x = refl
+  horner-backwards (v ∷ vs) x =
+      horner-first r x v vs
+      ∙ (last_step (horner r x vs) (power r x (length vs)) v x
+      ∙ (ap₂ (λ w n. r.add w (r.mul (power r x n) (r.add v (r.mul x r.nil)))) (horner-backwards vs x) (sym (backwards-length vs))
+      ∙ sym (value-append (backwards vs) (v ∷ []) x)))
+
+  all_zero-append : (cs : List A) (v : A) → AllZero r (cs ++ v ∷ []) → AllZero r cs × (v ≡ r.nil)
+  all_zero-append [] v h = (tt, h.0)
+  all_zero-append (c ∷ cs) v h = let rest : AllZero r cs × (v ≡ r.nil) = all_zero-append cs v h.1 in ((h.0, rest.0), rest.1)
+
+  all_zero-backwards : (vs : List A) → AllZero r (backwards vs) → AllZero r vs
+  all_zero-backwards [] h = tt
+  all_zero-backwards (v ∷ vs) h =
+      let rest : AllZero r (backwards vs) × (v ≡ r.nil) = all_zero-append (backwards vs) v h in (rest.1, all_zero-backwards vs rest.0)
+
+-- what is kept of distinct elements is distinct
+kept-differs : {A : Type 0} (p : A → Bool) (y : A) (xs : List A) → DiffersFromAll y xs → DiffersFromAll y (filter p xs)
+kept-differs p y [] h = tt
+kept-differs p y (x ∷ xs) h =
+    elim (p x) as (λ b. DiffersFromAll y (cond b (x ∷ filter p xs) (filter p xs)))
+    [ true ↦ (h.0, kept-differs p y xs h.1) | false ↦ kept-differs p y xs h.1 ]
+
+kept-distinct : {A : Type 0} (p : A → Bool) (xs : List A) → Distinct xs → Distinct (filter p xs)
+kept-distinct p [] h = tt
+kept-distinct p (x ∷ xs) h =
+    elim (p x) as (λ b. Distinct (cond b (x ∷ filter p xs) (filter p xs)))
+    [ true ↦ (kept-differs p x xs h.0, kept-distinct p xs h.1) | false ↦ kept-distinct p xs h.1 ]
+
+module _ {A : Type 0} (r : CommRing A) where
+  kept-roots-step : (cs : List A) (p : A → Bool) (x : A) (xs : List A) (b : Bool) → (b ≡ true → poly_value r cs x ≡ r.nil) → AllRoots r cs (filter p xs) → AllRoots r cs (cond b (x ∷ filter p xs) (filter p xs))
+  kept-roots-step cs p x xs true told rest = (told refl, rest)
+  kept-roots-step cs p x xs false told rest = rest
+
+  kept-roots : (cs : List A) (p : A → Bool) → ((x : A) → p x ≡ true → poly_value r cs x ≡ r.nil) → (xs : List A) → AllRoots r cs (filter p xs)
+  kept-roots cs p told [] = tt
+  kept-roots cs p told (x ∷ xs) = kept-roots-step cs p x xs (p x) (told x) (kept-roots cs p told xs)
+
+  -- fewer elements than values fold the values to zero, where not all values are
+  pub few_hide : IsDomain r → (p : A → Bool) (vs alphas : List A) → ((x : A) → p x ≡ true → horner r x vs ≡ r.nil) → Distinct alphas → (AllZero r vs → ⊥) → count_by p alphas < length vs
+  few_hide domain p vs alphas told distinct some =
+      elim (cases_lt (count_by p alphas) (length vs)) [
+        | inl less ↦ less
+        | inr more ↦
+            absurd (some (all_zero-backwards r vs
+            (nil_of_roots r domain (backwards vs) (filter p alphas) (kept-distinct p alphas distinct)
+            (kept-roots (backwards vs) p (λ x h. sym (horner-backwards r vs x) ∙ told x h) alphas)
+            (omega (arith, backwards-length vs, length-filter p alphas)))))
+      ]
+
+-- ---- elements in increasing order
+differs_from_above : {A : Type 0} (cmp : A → A → Ordering) → ((x : A) → cmp x x ≡ Equal) → (x : A) (ys : List A) → IsBelowAll cmp x ys → DiffersFromAll x ys
+differs_from_above cmp own x [] h = tt
+differs_from_above cmp own x (y ∷ ys) h = (
+  (λ e. let same : Less ≡ Equal = sym h.0 ∙ (ap (cmp x) (sym e) ∙ own x) in cc),
+  differs_from_above cmp own x ys h.1,
+)
+
+distinct_of_increasing : {A : Type 0} (cmp : A → A → Ordering) → ((x : A) → cmp x x ≡ Equal) → (xs : List A) → IsIncreasing cmp xs → Distinct xs
+distinct_of_increasing cmp own [] h = tt
+distinct_of_increasing cmp own (x ∷ xs) h = (differs_from_above cmp own x xs h.0, distinct_of_increasing cmp own xs h.1)
+
+own_reverse : (o : Ordering) → o ≡ ordering_reverse o → o ≡ Equal
+own_reverse Less h = cc
+own_reverse Equal h = refl
+own_reverse Greater h = cc
+
+pub increasing_distinct : {A : Type 0} (cmp : A → A → Ordering) → IsTotalOrder cmp → (xs : List A) → IsIncreasing cmp xs → Distinct xs
+increasing_distinct cmp total xs h = distinct_of_increasing cmp (λ x. own_reverse (cmp x x) (total.antisymm x x)) xs h

@@ -1,0 +1,4 @@
+pub mod Roots
+pub mod FewHide
+pub mod Rows
+pub mod FoldedAirs

@@ -1,0 +1,14 @@
+use Rattle.std.proofs.Common.{◌≡◌, ◌≤◌, ℕ, List, length, drop, sym, ap, ◌∙◌}
+use Rattle.std.proofs.lemmas.List.{drop_all}
+use Rattle.air_field.specs.Ring.{CommRing}
+use Rattle.air_recording.specs.Folds.{horner}
+use Rattle.air_folder.specs.Fold.{running, running-is, folded_on-nil}
+use Rattle.air_folder.proofs.hiding.fold.Goals as goal
+
+-- what is folded when no value is left
+ran : {A : Type 0} (r : CommRing A) (alpha : A) (values : List A) (folded : A) (n : ℕ) → length values ≤ n → running r alpha folded (drop n values) ≡ running r alpha r.nil values → folded ≡ horner r alpha values
+ran r alpha values folded n ended so_far =
+    ap (running r alpha folded) (sym (drop_all n values ended)) ∙ (so_far ∙ (running-is r alpha r.nil values ∙ folded_on-nil r alpha values))
+
+pub returns : goal.returns
+returns g c = ran g.F.Field.ring c.args.alpha c.args.values.now c.loop-value.accumulator c.loop-value.value-index c.loop-value-test.false c.loop-value.invariant

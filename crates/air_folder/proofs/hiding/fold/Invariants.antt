@@ -1,0 +1,6 @@
+use Rattle.std.proofs.Common.{◌≡◌, drop}
+use Rattle.air_folder.specs.Fold.{running}
+use Rattle.air_folder.proofs.hiding.fold.Given as goal
+
+abbrev pub invariant-loop-value : goal.invariant-loop-value
+invariant-loop-value g l = running g.F.Field.ring l.alpha l.accumulator (drop l.value-index l.values) ≡ running g.F.Field.ring l.alpha g.F.Field.ring.nil l.values

@@ -1,0 +1,18 @@
+-- Elements that fold values to zero.
+use Rattle.std.specs.Prelude.{◌≡◌, Bool, List, [], ◌∷◌}
+use Rattle.std.proofs.Common.{Ordering, Less}
+use Rattle.air_field.specs.Ring.{CommRing}
+use Rattle.air_recording.specs.Folds.{horner}
+
+-- whether Horner's fold of the values by alpha is zero
+abbrev pub folds_to_zero : {A : Type 0} → CommRing A → (A → A → Bool) → List A → A → Bool
+folds_to_zero r eq values alpha = eq (horner r alpha values) r.nil
+
+abbrev pub IsBelowAll : {A : Type 0} → (A → A → Ordering) → A → List A → Type 0
+IsBelowAll cmp x [] = Unit {0}
+IsBelowAll cmp x (y ∷ ys) = (cmp x y ≡ Less) × IsBelowAll cmp x ys
+
+-- each is below all that follow
+abbrev pub IsIncreasing : {A : Type 0} → (A → A → Ordering) → List A → Type 0
+IsIncreasing cmp [] = Unit {0}
+IsIncreasing cmp (x ∷ xs) = IsBelowAll cmp x xs × IsIncreasing cmp xs

@@ -1,0 +1,7 @@
+-- Folds of values, the folder's row, growth and laws, and folds beside recordings.
+pub mod Fold
+pub mod Hiding
+pub mod Folder
+pub mod FolderRow
+pub mod FolderLaws
+pub mod Folding

@@ -1,0 +1,90 @@
+//! The folder keeps the laws of builders.
+ghost use Rattle.std.specs.Prelude.{◌≡◌, ⊤};
+ghost use Rattle.air_folder.specs.Folder.{folder_stands, FolderMissing, FolderRefuses};
+ghost use Rattle.air_folder.specs.FolderLaws.{folder_laws};
+ghost use Rattle.air_folder.specs.FolderRow.{row_of, FolderGrew};
+
+use crate::folder::builder::ConstraintFolder;
+use crate::folder::ring::FolderRing;
+use p3_air::{AirBuilder, AirError, ExtensionField, Field, RowWindow, WindowAccess};
+
+impl<'a, F: Field, EF: ExtensionField<F>> AirBuilder for ConstraintFolder<'a, F, EF> {
+    type F = F;
+
+    type Expr = EF;
+
+    type Var = EF;
+
+    type PublicVar = EF;
+
+    type PeriodicVar = EF;
+
+    type PreprocessedWindow = RowWindow<'a, EF>;
+
+    type MainWindow = RowWindow<'a, EF>;
+
+    type Ring = FolderRing<F, EF>;
+
+    ghost ring_of = { λ b. b.ring };
+
+    ghost with_ring = { λ b r. record b { ring = r } };
+
+    ghost stands = { λ b. folder_stands EF.over EF.coefficients (row_of b) };
+
+    ghost ready = { λ _. ⊤ };
+
+    ghost kept = { λ a b. (row_of b) ≡ (row_of a) };
+
+    ghost grew = { FolderGrew EF.over };
+
+    ghost missing = { λ b l. FolderMissing (row_of b) l };
+
+    ghost refuses = { λ b e ts. FolderRefuses (row_of b) e ts };
+
+    ghost laws = { folder_laws EF.over EF.coefficients };
+
+    fn ring(&mut self) -> &mut FolderRing<F, EF> {
+        &mut self.ring
+    }
+
+    fn main(&self) -> Result<RowWindow<'a, EF>, AirError> {
+        Ok(self.main)
+    }
+
+    fn main_variable(&self, offset: usize, column: usize) -> Option<EF> {
+        match offset {
+            0 => self.main.current(column),
+            1 => self.main.next(column),
+            _ => None,
+        }
+    }
+
+    fn preprocessed(&self) -> &RowWindow<'a, EF> {
+        &self.preprocessed
+    }
+
+    fn public_values(&self) -> &[EF] {
+        self.public_values
+    }
+
+    fn periodic_values(&self) -> &[EF] {
+        self.periodic
+    }
+
+    fn is_first_row(&mut self) -> Result<EF, AirError> {
+        Ok(self.is_first_row)
+    }
+
+    fn is_last_row(&mut self) -> Result<EF, AirError> {
+        Ok(self.is_last_row)
+    }
+
+    fn is_transition(&mut self) -> Result<EF, AirError> {
+        Ok(self.is_transition)
+    }
+
+    fn assert_zero(&mut self, x: EF) -> Result<(), AirError> {
+        self.fold_in(x);
+        Ok(())
+    }
+}

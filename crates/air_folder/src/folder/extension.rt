@@ -1,0 +1,72 @@
+//! The folder over the extension, and with permutation data.
+ghost use Rattle.std.specs.Prelude.{◌≡◌, ◌≢◌, IfOk, IfErr, IsOk, Err, None};
+ghost use Rattle.air_folder.specs.Folder.{PermutationStands, PermutationEnds};
+ghost use Rattle.air_folder.specs.FolderLaws.{folder_extension_laws};
+ghost use Rattle.air_folder.specs.FolderRow.{row_of};
+
+use crate::folder::builder::ConstraintFolder;
+use crate::folder::ring::FolderRing;
+use p3_air::{
+    AirBuilder, AirError, ExtensionBuilder, ExtensionField, Field, PermutationAirBuilder, RowWindow,
+};
+
+impl<'a, F: Field, EF: ExtensionField<F>> ExtensionBuilder for ConstraintFolder<'a, F, EF> {
+    type EF = EF;
+
+    type ExprEF = EF;
+
+    type VarEF = EF;
+
+    type ExtRing = FolderRing<F, EF>;
+
+    ghost ext_ring_of = { λ b. b.ring };
+
+    ghost with_ext_ring = { λ b r. record b { ring = r } };
+
+    ghost ext_laws = { folder_extension_laws EF.over EF.coefficients };
+
+    fn ext_ring(&mut self) -> &mut FolderRing<F, EF> {
+        &mut self.ring
+    }
+
+    fn assert_zero_ext(&mut self, x: EF) -> Result<(), AirError> {
+        self.fold_in(x);
+        Ok(())
+    }
+}
+
+impl<'a, F: Field, EF: ExtensionField<F>> PermutationAirBuilder for ConstraintFolder<'a, F, EF> {
+    type MP = RowWindow<'a, EF>;
+
+    type RandomVar = EF;
+
+    type PermutationVar = EF;
+
+    /// The window of the permutation trace; a folder that was made without one, and it alone, refuses.
+    fn permutation(&self) -> Result<RowWindow<'a, EF>, AirError>
+        ensures current { IfOk result (λ w.
+            PermutationStands EF.over EF.coefficients (row_of self.now) 0 w.current.now) }
+        ensures next { IfOk result (λ w.
+            PermutationStands EF.over EF.coefficients (row_of self.now) 1 w.next.now) }
+        ensures current_ends { IfOk result (λ w.
+            PermutationEnds (row_of self.now) 0 w.current.now) }
+        ensures next_ends { IfOk result (λ w. PermutationEnds (row_of self.now) 1 w.next.now) }
+        ensures answered { self.now.permutation ≢ None → IsOk result }
+        ensures without { self.now.permutation ≡ None → result ≡ Err AirError.NoPermutation }
+        ensures refused { IfErr result (λ e.
+            (e ≡ AirError.NoPermutation) × (self.now.permutation ≡ None)) }
+    {
+        match &self.permutation {
+            Some(pair) => Ok(RowWindow::from_two_rows(pair.top.values, pair.bottom.values)),
+            None => Err(AirError::NoPermutation),
+        }
+    }
+
+    fn permutation_randomness(&self) -> &[EF] {
+        self.challenges
+    }
+
+    fn permutation_values(&self) -> &[EF] {
+        self.permutation_values
+    }
+}

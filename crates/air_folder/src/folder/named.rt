@@ -1,0 +1,42 @@
+//! The folder discards labels, and has no context.
+ghost use Rattle.std.specs.Prelude.{refl};
+ghost use Rattle.air_builder.specs.Labels.{discarding};
+ghost use Rattle.air_builder.specs.NamedFilters.{discarding_laws};
+ghost use Rattle.air_folder.specs.FolderLaws.{folder_laws};
+
+use crate::folder::builder::ConstraintFolder;
+use p3_air::{
+    AirBuilder, AirBuilderWithContext, AirError, ExtensionBuilder, ExtensionField, Field, Name,
+    NamedAirBuilder, NamedExtensionBuilder, PassthroughNamedAirBuilder,
+};
+
+impl<'a, F: Field, EF: ExtensionField<F>> PassthroughNamedAirBuilder
+    for ConstraintFolder<'a, F, EF> {}
+
+impl<'a, F: Field, EF: ExtensionField<F>> NamedAirBuilder for ConstraintFolder<'a, F, EF> {
+    ghost labelled = { discarding ⟦<ConstraintFolder<'a, F, EF> as AirBuilder>⟧.grew };
+
+    ghost named_laws = { discarding_laws (folder_laws EF.over EF.coefficients) };
+
+    fn assert_zero_named<N: Name>(&mut self, x: EF, name: N) -> Result<(), AirError> {
+        self.assert_zero_unlabelled(x, name)
+    }
+}
+
+impl<'a, F: Field, EF: ExtensionField<F>> NamedExtensionBuilder for ConstraintFolder<'a, F, EF> {
+    fn assert_zero_ext_named<N: Name>(&mut self, x: EF, _name: N) -> Result<(), AirError> {
+        self.assert_zero_ext(x)
+    }
+}
+
+impl<'a, F: Field, EF: ExtensionField<F>> AirBuilderWithContext for ConstraintFolder<'a, F, EF> {
+    type EvalContext = ();
+
+    ghost context = { λ _. tt };
+
+    ghost context_kept = { λ _ _ _. refl };
+
+    fn eval_context(&self) -> &() {
+        &()
+    }
+}

@@ -1,0 +1,71 @@
+//! An AIR folded beside its recording.
+ghost use Rattle.std.specs.Prelude.{◌≡◌, length, IfOk, IfErr, OnOk, OnErr};
+ghost use Rattle.air_field.specs.Assignment.{IsMissing};
+ghost use Rattle.air_builder.specs.Refusals.{NoneMissing};
+ghost use Rattle.air_recording.specs.Layouts.{layout_shape, FitsAir};
+ghost use Rattle.air_folder.specs.Folder.{FolderMissing};
+ghost use Rattle.air_folder.specs.FolderRow.{row_of};
+ghost use Rattle.air_folder.specs.Folding.{IsFolded, GrewByBeginningOf, FoldingRefuses};
+
+use crate::folder::builder::ConstraintFolder;
+use p3_air::{
+    Air, AirError, AirLayout, BaseAir, ConstraintLayout, ExtensionField, Field, Recorded,
+    SymbolicAirBuilder, get_all_symbolic_constraints, get_constraint_layout,
+};
+use std::alloc::Global;
+
+/// An AIR's constraints, and the fold of their values at one row.
+#[derive(Drop)]
+pub struct Folded<F: Field, EF: ExtensionField<F>> {
+    /// The constraints as expressions.
+    pub recorded: Recorded<F, EF>,
+    /// The places of the recorded constraints among all of them.
+    pub layout: ConstraintLayout,
+    /// Horner's fold of the values of all constraints in order.
+    pub accumulator: EF,
+}
+
+/// Records an AIR by a layout, and then folds the values of its constraints at the folder's row.
+///
+/// The folder's accumulator, which is zero before, is then Horner's fold, by the folder's alpha, of the values that the
+/// recorded constraints have at its row, in order. It is their recombination too: the sum of each coordinate and each whole
+/// power that [`decompose_alpha`](ConstraintLayout::decompose_alpha) answers for `layout`, times its constraint's value.
+///
+/// A refusal, of the recording or of the folder, leaves a beginning of the fold.
+pub fn fold_air<
+    'a,
+    F: Field,
+    EF: ExtensionField<F>,
+    A: BaseAir<F> + Air<SymbolicAirBuilder<F, EF>> + Air<ConstraintFolder<'a, F, EF>>,
+>(
+    alloc: Global,
+    air: &A,
+    layout: AirLayout,
+    folder: &mut ConstraintFolder<'a, F, EF>,
+) -> Result<Folded<F, EF>, AirError>
+    requires from_zero { folder.old.accumulator ≡ EF.over.ring.nil }
+    ensures folded { IfOk result (IsFolded F.ring F.eq EF.over EF.coefficients
+        (row_of folder.old) (A.declared air.now)) }
+    ensures accumulator { IfOk result (λ f. folder.new.accumulator ≡ f.accumulator) }
+    ensures row { row_of folder.new ≡ row_of folder.old }
+    ensures fits { OnOk result (FitsAir layout
+        (A.width air.now) (A.num_public_values air.now) (length (A.beside air.now).periodic)) }
+    ensures recorded { OnOk result
+        (NoneMissing (IsMissing (layout_shape layout)) (A.declared air.now)) }
+    ensures there { OnOk result
+        (NoneMissing (FolderMissing (row_of folder.old)) (A.declared air.now)) }
+    ensures beginning { OnErr result (GrewByBeginningOf EF.over
+        folder.old folder.new (A.declared air.now)) }
+    ensures refused { IfErr result (FoldingRefuses layout
+        (A.width air.now) (A.num_public_values air.now) (length (A.beside air.now).periodic)
+        (row_of folder.old) (A.declared air.now)) }
+{
+    let places = get_constraint_layout::<F, EF, A>(alloc, air, layout)?;
+    let recorded = get_all_symbolic_constraints(alloc, air, layout)?;
+    air.eval(folder)?;
+    Ok(Folded {
+        recorded,
+        layout: places,
+        accumulator: folder.accumulator(),
+    })
+}

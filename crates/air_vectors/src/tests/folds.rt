@@ -1,0 +1,259 @@
+//! Folds of an AIR's values at one row, beside its recording, and how few elements hide a value.
+ghost use Rattle.std.specs.Prelude.{◌≡◌, length};
+ghost use Rattle.air_folder.specs.Hiding.{IsIncreasing};
+ghost use Rattle.air_builder.specs.Beside.{nothing_beside};
+ghost use Rattle.air_vectors.specs.TestAirs.{fibonacci};
+
+use crate::tests::checks::no_tables;
+use crate::tests::extension::{Permuted, extension};
+use crate::tests::filters::{assert_constant_ext_under, assert_zero_under};
+use air_folder::{ConstraintFolder, Folded, fold_air, hiding_alphas};
+use p3_air::author::{
+    Current, Equal, FirstRow, LastRow, Next, Public, Sum, Transition, When, assert_all,
+};
+use p3_air::{
+    Air, AirBuilder, AirError, AirLayout, BabyBear, BaseAir, BinomialExtensionField,
+    BoundaryPublic, ExtensionField, Lazy, NamedAirBuilder, NamedExtensionBuilder, RowMajorMatrix,
+    RowMajorMatrixView, SymbolicAirBuilder, ViewPair,
+};
+use std::alloc::Global;
+use std::cell::Cell;
+use std::test::Fail;
+
+/// The first row holds public values 0 and 1, each further row the second number of the one before it and the sum of
+/// both, and the last row's second number is public value 2.
+struct Fibonacci {}
+
+impl<F: Copy> BaseAir<F> for Fibonacci {
+    ghost declared = { λ _. fibonacci };
+
+    ghost width = { λ _. 2 };
+
+    ghost num_public_values = { λ _. 3 };
+
+    ghost beside = { λ _. nothing_beside };
+
+    fn width(&self) -> usize {
+        2
+    }
+
+    fn num_public_values(&self) -> usize {
+        3
+    }
+
+    fn preprocessed_trace(&self) -> Option<&RowMajorMatrix<F>> {
+        None
+    }
+
+    fn periodic_columns(&self) -> &[Vec<F>] {
+        &[]
+    }
+
+    fn public_boundary_io(&self) -> &[BoundaryPublic] {
+        &[]
+    }
+}
+
+impl<AB: AirBuilder> Air<AB> for Fibonacci {
+    fn eval(&self, builder: &mut AB) -> Result<(), AirError> {
+        let first = (Equal(Current(0), Public(0)), Equal(Current(1), Public(1)));
+        let sum = Sum(Current(0), Current(1));
+        let step = (Equal(Next(0), Current(1)), Equal(Next(1), sum));
+        let last = Equal(Current(1), Public(2));
+        let constraints = (
+            When(FirstRow, first),
+            When(Transition, step),
+            When(LastRow, last),
+        );
+        assert_all(builder, &constraints)
+    }
+}
+
+type Element = BinomialExtensionField;
+
+type Folder<'a> = ConstraintFolder<'a, BabyBear, Element>;
+
+/// The image of a number.
+fn element(n: u32) -> Element {
+    extension(n, 0, 0, 0)
+}
+
+/// A folder between the first row and the last, without permutation data.
+fn folder_at<'a>(
+    row: &'a [Element],
+    next: &'a [Element],
+    public: &'a [Element],
+    alpha: Element,
+) -> Folder<'a>
+    requires { length row.now ≡ length next.now }
+    ensures { result.accumulator ≡ ⟦<BinomialExtensionField as ExtensionField<BabyBear>>⟧.over.ring.nil }
+{
+    let none = RowMajorMatrixView::new_row(&[]);
+    ConstraintFolder::new(
+        ViewPair::new(
+            RowMajorMatrixView::new_row(row),
+            RowMajorMatrixView::new_row(next),
+        ),
+        ViewPair::new(none, none),
+        None,
+        public,
+        &[],
+        &[],
+        &[],
+        element(0),
+        element(0),
+        element(1),
+        alpha,
+    )
+}
+
+/// The same without columns, with permutation data: both rows of the permutation trace are this one.
+fn permuted_folder<'a>(
+    permutation: &'a [Element],
+    challenges: &'a [Element],
+    values: &'a [Element],
+    alpha: Element,
+) -> Folder<'a>
+    ensures { result.accumulator ≡ ⟦<BinomialExtensionField as ExtensionField<BabyBear>>⟧.over.ring.nil }
+{
+    let none = RowMajorMatrixView::new_row(&[]);
+    let row = RowMajorMatrixView::new_row(permutation);
+    ConstraintFolder::new(
+        ViewPair::new(none, none),
+        ViewPair::new(none, none),
+        Some(ViewPair::new(row, row)),
+        &[],
+        &[],
+        challenges,
+        values,
+        element(0),
+        element(0),
+        element(1),
+        alpha,
+    )
+}
+
+/// What is folded of an AIR.
+fn fold<'a, A: BaseAir<BabyBear> + Air<SymbolicAirBuilder<BabyBear, Element>> + Air<Folder<'a>>>(
+    alloc: Global,
+    air: &A,
+    layout: AirLayout,
+    folder: &mut Folder<'a>,
+) -> Result<Folded<BabyBear, Element>, AirError>
+    requires { folder.old.accumulator ≡ ⟦<BinomialExtensionField as ExtensionField<BabyBear>>⟧.over.ring.nil }
+{
+    fold_air(alloc, air, layout, folder)
+}
+
+/// The layout of `Permuted`.
+fn permuted_layout() -> AirLayout {
+    AirLayout {
+        permutation_width: 1,
+        num_permutation_challenges: 1,
+        num_permutation_values: 1,
+        ..AirLayout::default()
+    }
+}
+
+/// Folds the values of Fibonacci. Nothing here is handed an allocator, so this takes no memory.
+fn fold_row<'a>(folder: &mut Folder<'a>) -> Result<(), AirError> {
+    Fibonacci {}.eval(folder)
+}
+
+// Rows 2 and 3 of (0, 1), (1, 1), (1, 5), (2, 3): the values are 0, 0, -3, -3 and 0.
+#[test]
+fn folds_the_values_at_a_row(rt: HostRuntime) -> Result<(), Fail> {
+    let row = [element(1), element(5)];
+    let next = [element(2), element(3)];
+    let public = [element(0), element(1), element(3)];
+    let alpha = extension(0, 1, 0, 0);
+    let wanted = extension(0, 2013265918, 2013265918, 0);
+    for (alpha, wanted) in [(element(5), element(2013265831)), (alpha, wanted)] {
+        let mut folder = folder_at(&row, &next, &public, alpha);
+        fold_row(&mut folder)?;
+        assert_eq!(rt; folder.accumulator(), wanted);
+    }
+    let layout = AirLayout {
+        main_width: 2,
+        num_public_values: 3,
+        ..AirLayout::default()
+    };
+    let mut folder = folder_at(&row, &next, &public, alpha);
+    let folded = fold(rt.alloc(), &Fibonacci {}, layout, &mut folder)?;
+    assert_eq!(rt; folded.accumulator, wanted);
+    assert_eq!(rt; folded.recorded.base.len(), 5);
+    assert!(rt; folded.recorded.ext.is_empty());
+    Ok(())
+}
+
+#[test]
+fn folds_no_constraints_to_zero(rt: HostRuntime) -> Result<(), Fail> {
+    let mut folder = folder_at(&[], &[], &[], element(5));
+    let air = no_tables(rt.alloc(), 0, 0);
+    let folded = fold(rt.alloc(), &air, AirLayout::default(), &mut folder)?;
+    assert_eq!(rt; folded.accumulator, element(0));
+    assert_eq!(rt; folded.layout.total_constraints(), 0);
+    Ok(())
+}
+
+#[test]
+fn folds_over_the_extension(rt: HostRuntime) -> Result<(), Fail> {
+    let row = [extension(0, 1, 0, 0)];
+    let challenges = [extension(0, 0, 0, 1)];
+    let values = [element(12)];
+    let alpha = extension(0, 1, 0, 0);
+    let mut folder = permuted_folder(&row, &challenges, &values, alpha);
+    let folded = fold(rt.alloc(), &Permuted {}, permuted_layout(), &mut folder)?;
+    assert_eq!(rt; folded.accumulator, element(2013265920));
+    assert_eq!(rt; folded.layout.ext_indices.as_slice(), [0].as_slice());
+    Ok(())
+}
+
+/// Asserts four values, each in its own way, under names that count how often they are asked for.
+fn assert_each(folder: &mut Folder<'_>, asked: &Cell<u32>) -> Result<(), AirError> {
+    folder.assert_zero_named(
+        element(1),
+        Lazy(|| {
+            asked.set(1);
+            Ok("base")
+        }),
+    )?;
+    folder.assert_zero_ext_named(
+        extension(0, 2, 0, 0),
+        Lazy(|| {
+            asked.set(2);
+            Ok("extension")
+        }),
+    )?;
+    assert_zero_under(folder, element(3), element(4))?;
+    assert_constant_ext_under(folder, BabyBear::new(5), element(6))
+}
+
+// 1, 2X, 12 and 30: 1000 + 200X + 120 + 30 by alpha 10.
+#[test]
+fn each_assertion_is_folded(rt: HostRuntime) -> Result<(), Fail> {
+    let mut folder = folder_at(&[], &[], &[], element(10));
+    let asked = Cell::new(0);
+    assert_each(&mut folder, &asked)?;
+    assert_eq!(rt; asked.get(), 0);
+    assert_eq!(rt; folder.accumulator(), extension(1150, 200, 0, 0));
+    Ok(())
+}
+
+/// How many of the alphas fold the values to zero.
+fn hiding(values: &[BabyBear], alphas: &[BabyBear]) -> usize
+    requires { IsIncreasing ⟦<BabyBear as Ord>⟧.cmp alphas.now }
+{
+    hiding_alphas(values, alphas)
+}
+
+#[test]
+fn counts_the_alphas_that_hide(rt: HostRuntime) -> Result<(), Fail> {
+    let [zero, one, two, three] = [0, 1, 2, 3].map(BabyBear::new);
+    let [four, five] = [4, 5].map(BabyBear::new);
+    let values = [one, BabyBear::new(2013265918), two];
+    assert_eq!(rt; hiding(&values, &[zero, one, two, three]), 2);
+    assert_eq!(rt; hiding(&[zero, zero], &[four, five]), 2);
+    assert_eq!(rt; hiding(&[five], &[zero, one]), 0);
+    Ok(())
+}
