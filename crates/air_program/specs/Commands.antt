@@ -27,13 +27,16 @@ trace cap command = requests.Trace command cap
 
 -- what a word by itself asks for
 abbrev pub word_request : List ℕ → Option Request
-word_request word = if bytes_eq word (codes "flat") then Some requests.Flat else option_map (trace None) (command_of word)
+word_request word =
+    if bytes_eq word (codes "flat") then Some requests.Flat else
+    option_map (trace None) (command_of word)
 
 -- a word by itself, or a command and behind it a cap
 abbrev pub request_of : List (List ℕ) → Option Request
 request_of [] = None
 request_of (word ∷ []) = word_request word
-request_of (word ∷ cap ∷ []) = option_and_then (λ command. option_map (λ n. trace (Some n) command) (cap_of cap)) (command_of word)
+request_of (word ∷ cap ∷ []) =
+    option_and_then (λ command. option_map (λ n. trace (Some n) command) (cap_of cap)) (command_of word)
 request_of (word ∷ cap ∷ more ∷ words) = None
 
 -- the command labels what is asserted

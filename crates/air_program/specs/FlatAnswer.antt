@@ -34,25 +34,36 @@ Spells bytes input = (d : Data) × StandsFor bytes d × SpellsInput d input
 
 -- periodic columns and cells, and no table
 abbrev pub flat_beside : FlatInput → Beside BabyBear
-flat_beside input = record { preprocessed = None; periodic = input.periodic.items; cells = input.cells.items }
+flat_beside input =
+    record { preprocessed = None; periodic = input.periodic.items; cells = input.cells.items }
 
 -- that the roots are zero, on the input's trace
 abbrev pub given_flat : FlatInput → Given BabyBear
-given_flat input = given (zero_at_roots input.pool input.roots.items) (flat_beside input) input.main input.public_values.items
+given_flat input =
+    given (zero_at_roots input.pool input.roots.items) (flat_beside input)
+    input.main input.public_values.items
 
 -- the layout of an AIR that is as wide as the trace, and has so many public values
 abbrev pub flat_layout : FlatInput → AirLayout
-flat_layout input = own_layout (flat_beside input) input.main.width (length input.public_values.items)
+flat_layout input =
+    own_layout (flat_beside input) input.main.width (length input.public_values.items)
 
 -- what an audit finds of the input that a value spells
 abbrev pub FindsOfValue : (BabyBear → BabyBear → Bool) → Data → Found → Type 0
-FindsOfValue eq d f = (input : FlatInput) × SpellsInput d input × AuditFinds eq (given_flat input) input.cap f
+FindsOfValue eq d f =
+    (input : FlatInput) × SpellsInput d input × AuditFinds eq (given_flat input) input.cap f
 
--- the first refusal: of the reading and then of the matrix, where the value spells no input, else of the audit
+-- what its audit refuses
+abbrev pub AuditRefusesInput : (BabyBear → BabyBear → Bool) → FlatInput → AirError → Type 0
+AuditRefusesInput eq input e =
+    AuditRefusesUnder baby_bear_ring eq (flat_layout input) (given_flat input) input.cap e
+
+-- the first refusal: of the reading and then of the matrix, where the value spells no input,
+-- else of the audit
 abbrev pub RefusesValue : (BabyBear → BabyBear → Bool) → Data → AirError → Type 0
 RefusesValue eq d e =
     HasInputFault d e
-    ⊎ ((input : FlatInput) × SpellsInput d input × AuditRefusesUnder baby_bear_ring eq (flat_layout input) (given_flat input) input.cap e)
+    ⊎ ((input : FlatInput) × SpellsInput d input × AuditRefusesInput eq input e)
 
 -- ---- the answer
 

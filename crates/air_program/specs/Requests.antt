@@ -17,4 +17,5 @@ Answers eq Flat input status text = IsFlatAnswer eq input status text
 
 -- a refusal is the answer, unless memory ran out
 abbrev pub MayRefuse : (BabyBear → BabyBear → Bool) → Request → List ℕ → Refusal → Type 0
-MayRefuse eq request input why = (why ≡ refusals.Memory) ⊎ Answers eq request input 2 (refusal_text (name_of why))
+MayRefuse eq request input why =
+    (why ≡ refusals.Memory) ⊎ Answers eq request input 2 (refusal_text (name_of why))

@@ -2,12 +2,10 @@
 
 ghost use Rattle.std.specs.Prelude.{◌≡◌, ◌<◌, ◌⊎◌, length, All, IfOk, IfErr, string_bytes};
 ghost use Rattle.serde_json.specs.View.{view};
-ghost use Rattle.air_field.specs.Modulo.{baby_bear_ring};
 ghost use Rattle.air_symbolic.specs.BaseLeaves.{base_reads};
 ghost use Rattle.air_symbolic.specs.Pools.{IsPool};
-ghost use Rattle.p3_air.specs.Audits.{AuditRefusesUnder};
 ghost use Rattle.air_program.specs.Answer.{AuditFinds};
-ghost use Rattle.air_program.specs.FlatAnswer.{StandsFor, HasNoValue, Spells, given_flat, flat_layout, IsFlatAnswer};
+ghost use Rattle.air_program.specs.FlatAnswer.{StandsFor, HasNoValue, Spells, given_flat, AuditRefusesInput, IsFlatAnswer};
 ghost use Rattle.air_program.specs.Requests.{MayRefuse};
 ghost use Rattle.air_program.specs.Texts.{found};
 
@@ -52,8 +50,7 @@ fn audit_input(alloc: Global, input: FlatInput) -> Result<Findings, AirError>
     requires roots { All (λ i. i < length input.pool.1) input.roots.items }
     ensures found { IfOk result (λ findings. AuditFinds ⟦<BabyBear as PartialEq>⟧.eq
         (given_flat input) input.cap (found findings)) }
-    ensures refused { IfErr result (AuditRefusesUnder baby_bear_ring
-        ⟦<BabyBear as PartialEq>⟧.eq (flat_layout input) (given_flat input) input.cap) }
+    ensures refused { IfErr result (AuditRefusesInput ⟦<BabyBear as PartialEq>⟧.eq input) }
 {
     let FlatInput {
         pool,
