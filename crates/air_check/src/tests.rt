@@ -18,6 +18,7 @@ use streams::{Kept, Pieces};
 mod answers;
 mod audits;
 mod layouts;
+mod objects;
 mod refusals;
 mod streams;
 mod traces;

@@ -9,3 +9,4 @@ pub mod LineEnds
 pub mod FibonacciRefusals
 pub mod Caps
 pub mod Traces
+pub mod FlatAnswers

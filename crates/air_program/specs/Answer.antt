@@ -1,5 +1,5 @@
--- What answers a whole input.
-use Rattle.std.specs.Prelude.{◌≡◌, ◌⊎◌, ℕ, List, [], ◌∷◌, codes, Bool, Option, Some, None}
+-- What an audit finds, and what answers a whole input that is a trace of Fibonacci.
+use Rattle.std.specs.Prelude.{◌≡◌, ℕ, List, [], ◌∷◌, codes, Bool, Option, Some, None}
 use Rattle.air_field.specs.Grid.{Grid, grid_of}
 use Rattle.air_field.specs.Modulo.{baby_bear_ring}
 use Rattle.air_field.specs.declared.fields.baby_bear.BabyBear.{BabyBear}
@@ -8,12 +8,9 @@ use Rattle.air_report.specs.Given.{Given, given}
 use Rattle.p3_air.specs.Audits.{IsAuditUnder}
 use Rattle.p3_air.specs.declared.audit.Audit.{Audit}
 use Rattle.air_program.specs.Fibonacci.{fibonacci}
-use Rattle.air_program.specs.Grammar.{parse}
 use Rattle.air_program.specs.Parsing.{residues}
 use Rattle.air_program.specs.Texts.{Found, found, IsFindingsText, findings_status}
-use Rattle.air_program.specs.Refusals.{IsRefusal, name_of, refusal_text}
-use Rattle.air_program.specs.declared.refusals.Refusal.{Refusal}
-use Rattle.air_program.specs.declared.refusals.Refusal.TheVariants as refusals
+use Rattle.air_program.specs.Refusals.{IsRefusal}
 
 -- the coefficients of an element over its own field
 abbrev pub own_coefficients : BabyBear → List BabyBear
@@ -38,11 +35,3 @@ abbrev pub IsAnswerTo : (BabyBear → BabyBear → Bool) → Option ℕ → Opti
 IsAnswerTo eq cap None status text = IsRefusal (codes "Syntax") status text
 IsAnswerTo eq cap (Some p) status text = (public : List BabyBear) × (values : List BabyBear) × (f : Found)
     × (residues public ≡ p.0) × (residues values ≡ p.1) × AuditFinds eq (given_fibonacci (grid_of 2 values) public) cap f × (status ≡ findings_status f) × IsFindingsText f text
-
--- the answer to an input, where eq tells equal elements
-abbrev pub Answers : (BabyBear → BabyBear → Bool) → Option ℕ → List ℕ → ℕ → List ℕ → Type 0
-Answers eq cap input status text = IsAnswerTo eq cap (parse input) status text
-
--- a refusal is the answer, unless memory ran out
-abbrev pub MayRefuse : (BabyBear → BabyBear → Bool) → Option ℕ → List ℕ → Refusal → Type 0
-MayRefuse eq cap input why = (why ≡ refusals.Memory) ⊎ Answers eq cap input 2 (refusal_text (name_of why))

@@ -5,8 +5,9 @@ use Rattle.std.specs.Str.Parse.{digits_value}
 use Rattle.air_program.specs.declared.commands.Command.{Command}
 use Rattle.air_program.specs.declared.commands.Request.{Request}
 use Rattle.air_program.specs.declared.commands.Command.TheVariants as commands
+use Rattle.air_program.specs.declared.commands.Request.TheVariants as requests
 
--- what the first word asks for
+-- the AIR that the first word names
 abbrev pub command_of : List ℕ → Option Command
 command_of word =
     if bytes_eq word (codes "fibonacci") then Some commands.Fibonacci else
@@ -20,14 +21,22 @@ is_cap word = nat_lt 0 (length word) && (all_ascii_digits word && nat_lt (digits
 abbrev pub cap_of : List ℕ → Option ℕ
 cap_of word = if is_cap word then Some (digits_value 10 word) else None
 
-abbrev pub request : Option ℕ → Command → Request
-request cap command = record { command = command; cap = cap }
+-- an audit of the command's AIR on a trace
+abbrev pub trace : Option ℕ → Command → Request
+trace cap command = requests.Trace command cap
 
--- a command, and behind it a cap where there is a second word
+-- what a word by itself asks for
+abbrev pub word_request : List ℕ → Option Request
+word_request word =
+    if bytes_eq word (codes "flat") then Some requests.Flat else
+    option_map (trace None) (command_of word)
+
+-- a word by itself, or a command and behind it a cap
 abbrev pub request_of : List (List ℕ) → Option Request
 request_of [] = None
-request_of (word ∷ []) = option_map (λ command. request None command) (command_of word)
-request_of (word ∷ cap ∷ []) = option_and_then (λ command. option_map (λ n. request (Some n) command) (cap_of cap)) (command_of word)
+request_of (word ∷ []) = word_request word
+request_of (word ∷ cap ∷ []) =
+    option_and_then (λ command. option_map (λ n. trace (Some n) command) (cap_of cap)) (command_of word)
 request_of (word ∷ cap ∷ more ∷ words) = None
 
 -- the command labels what is asserted

@@ -5,5 +5,7 @@ pub mod Texts
 pub mod Refusals
 pub mod Fibonacci
 pub mod Answer
+pub mod FlatAnswer
 pub mod Commands
+pub mod Requests
 pub mod Outcome

@@ -1,14 +1,50 @@
 -- Refusals, their names and their line.
 use Rattle.std.specs.Prelude.{◌≡◌, ℕ, List, [], ◌∷◌, ◌++◌, codes}
+use Rattle.air_windows.specs.declared.errors.AirError.{AirError}
+use Rattle.air_windows.specs.declared.errors.AirError.TheVariants as air
 use Rattle.air_program.specs.Texts.{lines_text}
 use Rattle.air_program.specs.declared.refusals.Refusal.{Refusal}
 use Rattle.air_program.specs.declared.refusals.Refusal.TheVariants as refusals
+
+-- the name of the refusal's variant
+abbrev pub air_name : AirError → List ℕ
+air_name air.Memory = codes "Memory"
+air_name air.DegreeOverflow = codes "DegreeOverflow"
+air_name air.CountOverflow = codes "CountOverflow"
+air_name (air.MissingEntry a b) = codes "MissingEntry"
+air_name (air.RowOffset a) = codes "RowOffset"
+air_name (air.MissingExtEntry a b) = codes "MissingExtEntry"
+air_name air.NoPermutation = codes "NoPermutation"
+air_name (air.LayoutMainWidth a b) = codes "LayoutMainWidth"
+air_name (air.LayoutPublicValues a b) = codes "LayoutPublicValues"
+air_name (air.LayoutPeriodicColumns a b) = codes "LayoutPeriodicColumns"
+air_name (air.IndexPastTotal a b) = codes "IndexPastTotal"
+air_name (air.PreprocessedHeight a b) = codes "PreprocessedHeight"
+air_name (air.PeriodNotPowerOfTwo a b) = codes "PeriodNotPowerOfTwo"
+air_name (air.PeriodDoesNotDivide a b c) = codes "PeriodDoesNotDivide"
+air_name (air.Boundary a) = codes "Boundary"
+air_name air.EmptyTrace = codes "EmptyTrace"
+air_name (air.Ragged a b) = codes "Ragged"
+air_name (air.WindowShape a b) = codes "WindowShape"
+air_name (air.EmptyPeriodicColumn a) = codes "EmptyPeriodicColumn"
+air_name (air.Shape a) = codes "Shape"
+air_name air.EmptyList = codes "EmptyList"
+air_name (air.Operand a b) = codes "Operand"
+air_name (air.WrongDegree a b c) = codes "WrongDegree"
+air_name (air.NotCanonical a) = codes "NotCanonical"
 
 abbrev pub name_of : Refusal → List ℕ
 name_of refusals.Usage = codes "Usage"
 name_of refusals.Read = codes "Read"
 name_of refusals.Memory = codes "Memory"
 name_of refusals.Syntax = codes "Syntax"
+name_of refusals.Json = codes "Json"
+name_of (refusals.Air e) = air_name e
+
+-- what the program refuses for a refusal from below: want of memory is its own
+abbrev pub air_refusal : AirError → Refusal
+air_refusal air.Memory = refusals.Memory
+air_refusal e = refusals.Air e
 
 -- `refused: NAME`
 abbrev pub refusal_text : List ℕ → List ℕ

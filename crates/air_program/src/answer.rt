@@ -5,12 +5,15 @@ ghost use Rattle.air_field.specs.Grid.{grid_of};
 ghost use Rattle.air_field.specs.Modulo.{baby_bear_ring};
 ghost use Rattle.air_report.specs.Given.{given};
 ghost use Rattle.p3_air.specs.Audits.{AuditRefusesUnder, own_layout};
-ghost use Rattle.air_program.specs.Texts.{found, findings_status};
-ghost use Rattle.air_program.specs.Commands.{has_labels};
-ghost use Rattle.air_program.specs.Answer.{AuditFinds, given_fibonacci, Answers, MayRefuse};
+ghost use Rattle.air_program.specs.Texts.{found, findings_status, IsFindingsText};
+ghost use Rattle.air_program.specs.Commands.{has_labels, trace};
+ghost use Rattle.air_program.specs.Grammar.{parse};
+ghost use Rattle.air_program.specs.Answer.{AuditFinds, given_fibonacci, IsAnswerTo};
+ghost use Rattle.air_program.specs.Requests.{Answers, MayRefuse};
 
 use crate::commands::{Command, Request};
 use crate::fibonacci::Fibonacci;
+use crate::flat::answer_flat;
 use crate::input::{Input, ParseFault, parse};
 use crate::refusals::Refusal;
 use crate::texts::{Findings, findings_text};
@@ -53,7 +56,7 @@ fn air_of(command: Command) -> Fibonacci
 }
 
 /// What the audit of an AIR on a trace finds.
-fn findings_of<
+pub(crate) fn findings_of<
     'a,
     A: BaseAir<BabyBear>
         + Air<SymbolicAirBuilder<BabyBear, BabyBear>>
@@ -113,10 +116,29 @@ fn status(findings: &Findings) -> u8
     }
 }
 
-/// The status and the text that answer an input.
-pub fn answer(alloc: Global, request: Request, input: &[u8]) -> Result<(u8, String), Refusal>
-    ensures ok { IfOk result (λ p. Answers ⟦<BabyBear as PartialEq>⟧.eq request.cap input.now p.0 (string_bytes p.1)) }
-    ensures refused { IfErr result (MayRefuse ⟦<BabyBear as PartialEq>⟧.eq request.cap input.now) }
+/// The status and the text of what was found.
+pub(crate) fn told(alloc: Global, findings: &Findings) -> Result<(u8, String), Refusal>
+    ensures status { IfOk result (λ p. p.0 ≡ findings_status (found findings.now)) }
+    ensures text { IfOk result (λ p. IsFindingsText (found findings.now) (string_bytes p.1)) }
+    ensures refused { IfErr result (λ why. why ≡ Refusal.Memory) }
+{
+    match findings_text(alloc, findings) {
+        Ok(text) => Ok((status(findings), text)),
+        Err(_) => Err(Refusal::Memory),
+    }
+}
+
+/// The status and the text that answer a trace of Fibonacci.
+fn answer_trace(
+    alloc: Global,
+    command: Command,
+    cap: Option<usize>,
+    input: &[u8],
+) -> Result<(u8, String), Refusal>
+    ensures ok { IfOk result (λ p. IsAnswerTo ⟦<BabyBear as PartialEq>⟧.eq cap (parse input.now) p.0
+        (string_bytes p.1)) }
+    ensures refused { IfErr result (MayRefuse ⟦<BabyBear as PartialEq>⟧.eq
+        (trace cap command) input.now) }
 {
     let input = match parse(alloc, input) {
         Ok(input) => input,
@@ -128,15 +150,18 @@ pub fn answer(alloc: Global, request: Request, input: &[u8]) -> Result<(u8, Stri
         values,
     } = input;
     let main = trace_of(values);
-    let findings = audit_fibonacci(
-        alloc,
-        air_of(request.command),
-        &main,
-        &public_values,
-        request.cap,
-    )?;
-    match findings_text(alloc, &findings) {
-        Ok(text) => Ok((status(&findings), text)),
-        Err(_) => Err(Refusal::Memory),
+    let findings = audit_fibonacci(alloc, air_of(command), &main, &public_values, cap)?;
+    told(alloc, &findings)
+}
+
+/// The status and the text that answer an input.
+pub fn answer(alloc: Global, request: Request, input: &[u8]) -> Result<(u8, String), Refusal>
+    ensures ok { IfOk result (λ p. Answers ⟦<BabyBear as PartialEq>⟧.eq request input.now p.0
+        (string_bytes p.1)) }
+    ensures refused { IfErr result (MayRefuse ⟦<BabyBear as PartialEq>⟧.eq request input.now) }
+{
+    match request {
+        Request::Trace { command, cap } => answer_trace(alloc, command, cap, input),
+        Request::Flat => answer_flat(alloc, input),
     }
 }

@@ -1,9 +1,9 @@
 //! The words that the program is called with.
 
 ghost use Rattle.std.specs.Prelude.{◌≡◌, ◌==◌, map, slice_index_or, string_bytes};
-ghost use Rattle.air_program.specs.Commands.{command_of, cap_of, request_of};
+ghost use Rattle.air_program.specs.Commands.{command_of, cap_of, word_request, request_of};
 
-/// What the words ask for.
+/// An AIR of the program's own.
 #[derive(Clone, Copy, Debug, PartialEq, Eq, Drop)]
 pub enum Command {
     /// Fibonacci.
@@ -12,11 +12,16 @@ pub enum Command {
     Named,
 }
 
-/// What is asked for: a command, and how many failures are enough, if any number is.
+/// What the words ask for.
 #[derive(Clone, Copy, Debug, PartialEq, Eq, Drop)]
-pub struct Request {
-    pub command: Command,
-    pub cap: Option<usize>,
+pub enum Request {
+    /// An audit of the command's AIR on a trace; as many failures as the cap are enough, if there is one.
+    Trace {
+        command: Command,
+        cap: Option<usize>,
+    },
+    /// An audit of the AIR and the trace of a JSON object.
+    Flat,
 }
 
 /// The command of this word, if it is one.
@@ -53,19 +58,27 @@ fn cap_of(word: &str) -> Option<usize>
     }
 }
 
+/// What a word by itself asks for, if anything.
+fn word_request(word: &str) -> Option<Request>
+    ensures { result ≡ word_request word.now }
+{
+    if word == "flat" {
+        return Some(Request::Flat);
+    }
+    let command = command_of(word)?;
+    Some(Request::Trace { command, cap: None })
+}
+
 /// What these words, the program's name not among them, ask for; nothing where they aren't known.
 pub fn request_of(words: &[String]) -> Option<Request>
     ensures { result ≡ request_of (map string_bytes words.now) }
 {
     match words {
-        [word] => {
-            let command = command_of(word.as_str())?;
-            Some(Request { command, cap: None })
-        }
+        [word] => word_request(word.as_str()),
         [word, cap] => {
             let command = command_of(word.as_str())?;
             let cap = cap_of(cap.as_str())?;
-            Some(Request {
+            Some(Request::Trace {
                 command,
                 cap: Some(cap),
             })

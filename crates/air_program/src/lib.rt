@@ -5,6 +5,7 @@ mod answer;
 mod commands;
 mod engine;
 pub mod fibonacci;
+mod flat;
 mod input;
 pub mod program;
 pub mod refusals;

@@ -3,7 +3,7 @@
 ghost use Rattle.std.specs.Prelude.{◌≡◌, ℕ, List, false, IfOk, OnOk, is_err, map, string_bytes};
 ghost use Rattle.std.specs.Io.KnownBytes.{Appends};
 ghost use Rattle.air_program.specs.Refusals.{name_of, refusal_text};
-ghost use Rattle.air_program.specs.Answer.{Answers};
+ghost use Rattle.air_program.specs.Requests.{Answers};
 ghost use Rattle.air_program.specs.Commands.{request_of};
 ghost use Rattle.air_program.specs.Outcome.{IsOutcome};
 
@@ -38,7 +38,7 @@ pub fn run<R: Source, W: Sink>(
     requires reader { R.has_failed reader.old ≡ false }
     requires writer { W.has_failed writer.old ≡ false }
     ensures outcome { IfOk result (λ status. (text : List ℕ) × Appends (W.contents writer.old) (W.contents writer.new) text
-        × IsOutcome (λ request. Answers ⟦<BabyBear as PartialEq>⟧.eq request.cap) (request_of (map string_bytes words.now)) (R.has_failed reader.new) (R.remaining reader.old) (R.remaining reader.new) status text) }
+        × IsOutcome (Answers ⟦<BabyBear as PartialEq>⟧.eq) (request_of (map string_bytes words.now)) (R.has_failed reader.new) (R.remaining reader.old) (R.remaining reader.new) status text) }
     ensures failed { W.has_failed writer.new ≡ is_err result }
 {
     let Some(request) = request_of(words) else {

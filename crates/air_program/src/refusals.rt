@@ -1,6 +1,9 @@
 //! Why the program refuses.
 
 ghost use Rattle.std.specs.Prelude.{◌≡◌};
+ghost use Rattle.air_program.specs.Refusals.{name_of, air_name, air_refusal};
+
+use air_builder::AirError;
 
 /// Why there is no answer.
 #[derive(Clone, Copy, Debug, PartialEq, Eq, Drop)]
@@ -9,11 +12,13 @@ pub enum Refusal {
     Read,
     Memory,
     Syntax,
+    /// The input is no JSON value.
+    Json,
+    /// What the reading of a JSON value refuses, or the audit; its name is that of this refusal.
+    Air(AirError),
 }
 
 impl Refusal {
-    ghost use Rattle.air_program.specs.Refusals.{name_of};
-
     /// The name in the line that is written.
     pub fn name(self) -> &'static str
         ensures { result.now ≡ name_of self }
@@ -23,6 +28,51 @@ impl Refusal {
             Refusal::Read => "Read",
             Refusal::Memory => "Memory",
             Refusal::Syntax => "Syntax",
+            Refusal::Json => "Json",
+            Refusal::Air(error) => air_name(error),
         }
+    }
+}
+
+impl From<AirError> for Refusal {
+    ghost from_gives = { λ e why. why ≡ air_refusal e };
+
+    fn from(e: AirError) -> Refusal {
+        match e {
+            AirError::Memory => Refusal::Memory,
+            _ => Refusal::Air(e),
+        }
+    }
+}
+
+/// The name of the refusal's variant.
+fn air_name(error: AirError) -> &'static str
+    ensures { result.now ≡ air_name error }
+{
+    match error {
+        AirError::Memory => "Memory",
+        AirError::DegreeOverflow => "DegreeOverflow",
+        AirError::CountOverflow => "CountOverflow",
+        AirError::MissingEntry { .. } => "MissingEntry",
+        AirError::RowOffset { .. } => "RowOffset",
+        AirError::MissingExtEntry { .. } => "MissingExtEntry",
+        AirError::NoPermutation => "NoPermutation",
+        AirError::LayoutMainWidth { .. } => "LayoutMainWidth",
+        AirError::LayoutPublicValues { .. } => "LayoutPublicValues",
+        AirError::LayoutPeriodicColumns { .. } => "LayoutPeriodicColumns",
+        AirError::IndexPastTotal { .. } => "IndexPastTotal",
+        AirError::PreprocessedHeight { .. } => "PreprocessedHeight",
+        AirError::PeriodNotPowerOfTwo { .. } => "PeriodNotPowerOfTwo",
+        AirError::PeriodDoesNotDivide { .. } => "PeriodDoesNotDivide",
+        AirError::Boundary(_) => "Boundary",
+        AirError::EmptyTrace => "EmptyTrace",
+        AirError::Ragged { .. } => "Ragged",
+        AirError::WindowShape { .. } => "WindowShape",
+        AirError::EmptyPeriodicColumn { .. } => "EmptyPeriodicColumn",
+        AirError::Shape { .. } => "Shape",
+        AirError::EmptyList => "EmptyList",
+        AirError::Operand { .. } => "Operand",
+        AirError::WrongDegree { .. } => "WrongDegree",
+        AirError::NotCanonical { .. } => "NotCanonical",
     }
 }

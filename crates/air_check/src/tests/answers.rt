@@ -17,7 +17,7 @@ fn answers(
 }
 
 /// The same of any words.
-fn answers_word(
+pub fn answers_word(
     rt: &(impl Abort + AllocGlobal),
     word: &str,
     input: &[u8],

@@ -25,6 +25,8 @@ fn refuses_other_words(rt: HostRuntime) -> Result<(), Fail> {
         "named x1",
         "fibonacci 18446744073709551616",
         "fibonacci 1 1",
+        "flat 1",
+        "Flat",
     ] {
         let mut reader = Pieces::new(INPUT, 3, MANY);
         let mut writer = Kept::new(alloc, 4, MANY);

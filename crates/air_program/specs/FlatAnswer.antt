@@ -1,0 +1,80 @@
+-- What answers a whole input that is a JSON object.
+use Rattle.std.specs.Prelude.{◌≡◌, ◌⊎◌, ℕ, List, length, codes, Bool, Some, None, IsUtf8}
+use Rattle.serde_json.specs.Data.{Data}
+use Rattle.serde_json.specs.Read.{read}
+use Rattle.air_field.specs.Modulo.{baby_bear_ring}
+use Rattle.air_field.specs.declared.fields.baby_bear.BabyBear.{BabyBear}
+use Rattle.air_builder.specs.Beside.{Beside}
+use Rattle.air_flat.specs.FlatAirs.{zero_at_roots}
+use Rattle.air_flat_input.specs.Input.{SpellsInput, HasInputFault}
+use Rattle.air_flat_input.specs.declared.input.FlatInput.{FlatInput}
+use Rattle.air_recording.specs.declared.layouts.air_layout.AirLayout.{AirLayout}
+use Rattle.air_report.specs.Given.{Given, given}
+use Rattle.air_windows.specs.declared.errors.AirError.{AirError}
+use Rattle.p3_air.specs.Audits.{AuditRefusesUnder, own_layout}
+use Rattle.air_program.specs.Answer.{AuditFinds}
+use Rattle.air_program.specs.Refusals.{IsRefusal, air_name}
+use Rattle.air_program.specs.Texts.{Found, IsFindingsText, findings_status}
+
+-- ---- from bytes to a value
+
+-- the JSON value that the bytes of a text stand for
+abbrev pub StandsFor : List ℕ → Data → Type 0
+StandsFor bytes d = IsUtf8 bytes × (read bytes ≡ Some d)
+
+-- they stand for none
+abbrev pub HasNoValue : List ℕ → Type 0
+HasNoValue bytes = (d : Data) → StandsFor bytes d → ⊥
+
+-- their value spells the input
+abbrev pub Spells : List ℕ → FlatInput → Type 0
+Spells bytes input = (d : Data) × StandsFor bytes d × SpellsInput d input
+
+-- ---- from a value to what is found
+
+-- periodic columns and cells, and no table
+abbrev pub flat_beside : FlatInput → Beside BabyBear
+flat_beside input =
+    record { preprocessed = None; periodic = input.periodic.items; cells = input.cells.items }
+
+-- that the roots are zero, on the input's trace
+abbrev pub given_flat : FlatInput → Given BabyBear
+given_flat input =
+    given (zero_at_roots input.pool input.roots.items) (flat_beside input)
+    input.main input.public_values.items
+
+-- the layout of an AIR that is as wide as the trace, and has so many public values
+abbrev pub flat_layout : FlatInput → AirLayout
+flat_layout input =
+    own_layout (flat_beside input) input.main.width (length input.public_values.items)
+
+-- what an audit finds of the input that a value spells
+abbrev pub FindsOfValue : (BabyBear → BabyBear → Bool) → Data → Found → Type 0
+FindsOfValue eq d f =
+    (input : FlatInput) × SpellsInput d input × AuditFinds eq (given_flat input) input.cap f
+
+-- what its audit refuses
+abbrev pub AuditRefusesInput : (BabyBear → BabyBear → Bool) → FlatInput → AirError → Type 0
+AuditRefusesInput eq input e =
+    AuditRefusesUnder baby_bear_ring eq (flat_layout input) (given_flat input) input.cap 0 e
+
+-- the first refusal: of the reading and then of the matrix, where the value spells no input,
+-- else of the audit
+abbrev pub RefusesValue : (BabyBear → BabyBear → Bool) → Data → AirError → Type 0
+RefusesValue eq d e =
+    HasInputFault d e
+    ⊎ ((input : FlatInput) × SpellsInput d input × AuditRefusesInput eq input e)
+
+-- ---- the answer
+
+-- the text and the status of what is found, or the name of the first refusal
+abbrev pub AnswersValue : (BabyBear → BabyBear → Bool) → Data → ℕ → List ℕ → Type 0
+AnswersValue eq d status text =
+    ((f : Found) × FindsOfValue eq d f × (status ≡ findings_status f) × IsFindingsText f text)
+    ⊎ ((e : AirError) × RefusesValue eq d e × IsRefusal (air_name e) status text)
+
+-- `Json` where the bytes stand for no value
+abbrev pub IsFlatAnswer : (BabyBear → BabyBear → Bool) → List ℕ → ℕ → List ℕ → Type 0
+IsFlatAnswer eq bytes status text =
+    (HasNoValue bytes × IsRefusal (codes "Json") status text)
+    ⊎ ((d : Data) × StandsFor bytes d × AnswersValue eq d status text)

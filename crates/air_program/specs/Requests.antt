@@ -1,0 +1,21 @@
+-- What answers a request.
+use Rattle.std.specs.Prelude.{◌≡◌, ◌⊎◌, ℕ, List, Bool}
+use Rattle.air_field.specs.declared.fields.baby_bear.BabyBear.{BabyBear}
+use Rattle.air_program.specs.Answer.{IsAnswerTo}
+use Rattle.air_program.specs.FlatAnswer.{IsFlatAnswer}
+use Rattle.air_program.specs.Grammar.{parse}
+use Rattle.air_program.specs.Refusals.{name_of, refusal_text}
+use Rattle.air_program.specs.declared.commands.Request.{Request}
+use Rattle.air_program.specs.declared.commands.Request.TheVariants.{Trace, Flat}
+use Rattle.air_program.specs.declared.refusals.Refusal.{Refusal}
+use Rattle.air_program.specs.declared.refusals.Refusal.TheVariants as refusals
+
+-- the answer to an input, where eq tells equal elements
+abbrev pub Answers : (BabyBear → BabyBear → Bool) → Request → List ℕ → ℕ → List ℕ → Type 0
+Answers eq (Trace command cap) input status text = IsAnswerTo eq cap (parse input) status text
+Answers eq Flat input status text = IsFlatAnswer eq input status text
+
+-- a refusal is the answer, unless memory ran out
+abbrev pub MayRefuse : (BabyBear → BabyBear → Bool) → Request → List ℕ → Refusal → Type 0
+MayRefuse eq request input why =
+    (why ≡ refusals.Memory) ⊎ Answers eq request input 2 (refusal_text (name_of why))

@@ -1,0 +1,84 @@
+//! The answer to a JSON object: an AIR whose constraints are lists of nodes, and a trace of it.
+
+ghost use Rattle.std.specs.Prelude.{◌≡◌, ◌<◌, ◌⊎◌, length, All, IfOk, IfErr, string_bytes};
+ghost use Rattle.serde_json.specs.View.{view};
+ghost use Rattle.air_symbolic.specs.BaseLeaves.{base_reads};
+ghost use Rattle.air_symbolic.specs.Pools.{IsPool};
+ghost use Rattle.air_program.specs.Answer.{AuditFinds};
+ghost use Rattle.air_program.specs.FlatAnswer.{StandsFor, HasNoValue, Spells, given_flat, AuditRefusesInput, IsFlatAnswer};
+ghost use Rattle.air_program.specs.Requests.{MayRefuse};
+ghost use Rattle.air_program.specs.Texts.{found};
+
+use crate::answer::{findings_of, told};
+use crate::commands::Request;
+use crate::refusals::Refusal;
+use crate::texts::Findings;
+use air_builder::AirError;
+use air_field::BabyBear;
+use air_flat::FlatAir;
+use air_flat_input::{FlatInput, flat_input_from};
+use serde_json::Value;
+use std::alloc::Global;
+
+/// The JSON value that the bytes stand for.
+fn value_of(alloc: Global, bytes: &[u8]) -> Result<Value, Refusal>
+    ensures value { IfOk result (λ v. StandsFor bytes.now (view v)) }
+    ensures refused { IfErr result (λ why. (why ≡ Refusal.Memory)
+        ⊎ ((why ≡ Refusal.Json) × HasNoValue bytes.now)) }
+{
+    match Value::from_slice(alloc, bytes) {
+        Ok(value) => Ok(value),
+        Err(error) if error.is_memory() => Err(Refusal::Memory),
+        Err(_) => Err(Refusal::Json),
+    }
+}
+
+/// The input that the bytes spell.
+fn input_of(alloc: Global, bytes: &[u8]) -> Result<FlatInput, Refusal>
+    ensures pool { IfOk result (λ input. IsPool base_reads input.pool) }
+    ensures roots { IfOk result (λ input. All (λ i. i < length input.pool.1) input.roots.items) }
+    ensures read { IfOk result (Spells bytes.now) }
+    ensures refused { IfErr result (MayRefuse ⟦<BabyBear as PartialEq>⟧.eq Request.Flat bytes.now) }
+{
+    let value = value_of(alloc, bytes)?;
+    Ok(flat_input_from(alloc, &value)?)
+}
+
+/// Audits that the roots are zero on the trace.
+fn audit_input(alloc: Global, input: FlatInput) -> Result<Findings, AirError>
+    requires pool { IsPool base_reads input.pool }
+    requires roots { All (λ i. i < length input.pool.1) input.roots.items }
+    ensures found { IfOk result (λ findings. AuditFinds ⟦<BabyBear as PartialEq>⟧.eq
+        (given_flat input) input.cap (found findings)) }
+    ensures refused { IfErr result (AuditRefusesInput ⟦<BabyBear as PartialEq>⟧.eq input) }
+{
+    let FlatInput {
+        pool,
+        roots,
+        main,
+        public_values,
+        periodic,
+        cells,
+        cap,
+    } = input;
+    let air = FlatAir::new(
+        pool,
+        roots,
+        main.width(),
+        public_values.len(),
+        periodic,
+        cells,
+    );
+    findings_of(alloc, &air, &main, &public_values, cap)
+}
+
+/// The status and the text that answer a JSON object.
+pub fn answer_flat(alloc: Global, bytes: &[u8]) -> Result<(u8, String), Refusal>
+    ensures ok { IfOk result (λ p. IsFlatAnswer ⟦<BabyBear as PartialEq>⟧.eq bytes.now p.0
+        (string_bytes p.1)) }
+    ensures refused { IfErr result (MayRefuse ⟦<BabyBear as PartialEq>⟧.eq Request.Flat bytes.now) }
+{
+    let input = input_of(alloc, bytes)?;
+    let findings = audit_input(alloc, input)?;
+    told(alloc, &findings)
+}
