@@ -1,4 +1,5 @@
 pub mod Vectors
+pub mod Pushed
 pub mod Making
 pub mod Folding
 pub mod FoldedLists

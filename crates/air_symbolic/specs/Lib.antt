@@ -16,6 +16,7 @@ pub mod FoldedLists
 pub mod PoolRefusals
 pub mod Weights
 pub mod Numbers
+pub mod Numbering
 pub mod PoolLaws
 pub mod BaseLeaves
 pub mod BasePool

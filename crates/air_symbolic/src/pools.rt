@@ -11,5 +11,6 @@ pub mod insert;
 pub mod joined;
 pub mod lending;
 pub mod lower;
+mod node_table;
 pub mod pool;
 pub mod weight;

@@ -19,6 +19,7 @@ mod matrices;
 mod names;
 mod numbers;
 mod rings;
+mod shared_nodes;
 mod table;
 mod value_log;
 mod variables;
