@@ -5,6 +5,7 @@ pub mod FoldedLists
 pub mod FoldedTerms
 pub mod BasePart
 pub mod Overflows
+pub mod DegreeTables
 pub mod Lowering
 pub mod LeafCases
 pub mod FoldCases

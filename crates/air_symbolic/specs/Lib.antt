@@ -15,6 +15,7 @@ pub mod Folds
 pub mod FoldedLists
 pub mod PoolRefusals
 pub mod Weights
+pub mod DegreeTables
 pub mod Numbers
 pub mod PoolLaws
 pub mod BaseLeaves

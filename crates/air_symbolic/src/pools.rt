@@ -2,6 +2,7 @@
 
 pub mod algebra;
 pub mod base_pool;
+pub mod degree_table;
 pub mod degrees;
 pub mod expr;
 pub mod ext_pool;
