@@ -7,5 +7,7 @@ pub mod BasePart
 pub mod Overflows
 pub mod DegreeTables
 pub mod Lowering
+pub mod Marking
+pub mod ReachedTrees
 pub mod LeafCases
 pub mod FoldCases

@@ -25,4 +25,6 @@ pub mod ExtLeaves
 pub mod ExtPool
 pub mod ExtTrees
 pub mod Sharing
+pub mod Reach
+pub mod Lowered
 pub mod WholeTrees

@@ -13,4 +13,5 @@ pub mod joined;
 pub mod lending;
 pub mod lower;
 pub mod pool;
+pub mod reach;
 pub mod weight;

@@ -1,7 +1,7 @@
 use Rattle.std.proofs.Common.{◌≡◌, ◌≤◌, length, All}
-use Rattle.air_flat.specs.Reach.{Marked}
-use Rattle.air_flat.proofs.Marking.{OnlyReached, ClosedFrom}
-use Rattle.air_flat.proofs.reach.mark_reached.Given as goal
+use Rattle.air_symbolic.specs.Reach.{Marked}
+use Rattle.air_symbolic.proofs.Marking.{OnlyReached, ClosedFrom}
+use Rattle.air_symbolic.proofs.pools.reach.mark_reached.Given as goal
 
 -- What is marked is reached, and the marked nodes that were looked at have their operands marked.
 abbrev pub invariant-loop-number : goal.invariant-loop-number

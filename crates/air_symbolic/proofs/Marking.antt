@@ -5,7 +5,7 @@ use Rattle.air_symbolic.specs.Leaves.{Leaves}
 use Rattle.air_symbolic.specs.Nodes.{IsNode, OperandsBelow}
 use Rattle.air_symbolic.specs.declared.pools.expr.SymbolicExpr.{SymbolicExpr}
 use Rattle.air_symbolic.specs.declared.pools.expr.SymbolicExpr.TheVariants.{Leaf, Add, Sub, Neg, Mul}
-use Rattle.air_flat.specs.Reach.{EachOperand, IsOperand, Marked, MarkedMore, ReachedFrom, root, operand}
+use Rattle.air_symbolic.specs.Reach.{EachOperand, IsOperand, Marked, MarkedMore, ReachedFrom, root, operand}
 
 each_operand : {A : Type 0} (P Q : ℕ → Type 0) (n : SymbolicExpr A) → ((i : ℕ) → P i → Q i) → EachOperand P n → EachOperand Q n
 each_operand P Q (Leaf a) f h = tt

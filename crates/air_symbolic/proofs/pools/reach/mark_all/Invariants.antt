@@ -1,6 +1,6 @@
 use Rattle.std.proofs.Common.{◌<◌, ℕ, get_or, Contains}
-use Rattle.air_flat.specs.Reach.{Marked, MarkedMore}
-use Rattle.air_flat.proofs.reach.mark_all.Given as goal
+use Rattle.air_symbolic.specs.Reach.{Marked, MarkedMore}
+use Rattle.air_symbolic.proofs.pools.reach.mark_all.Given as goal
 
 abbrev pub invariant-loop-root : goal.invariant-loop-root
 invariant-loop-root g l = record {

@@ -1,6 +1,6 @@
 use Rattle.std.proofs.Common.{◌-◌, ◌<◌, length, arith, subst, ◌∙◌}
-use Rattle.air_flat.proofs.Marking.{ClosedFrom, mark_read, all_marked_only, past_closed, more_only, more_closed}
-use Rattle.air_flat.proofs.reach.mark_reached.Goals as goal
+use Rattle.air_symbolic.proofs.Marking.{ClosedFrom, mark_read, all_marked_only, past_closed, more_only, more_closed}
+use Rattle.air_symbolic.proofs.pools.reach.mark_reached.Goals as goal
 
 pub loop-number-init : goal.loop-number-init
 loop-number-init g c =

@@ -2,23 +2,23 @@
 ghost use Rattle.std.specs.Prelude.{◌≡◌, ◌⊎◌, ◌<◌, ℕ, length, get_or, None, All, Contains, IfOk, IfErr};
 ghost use Rattle.air_symbolic.specs.Nodes.{OperandsBelow};
 ghost use Rattle.air_symbolic.specs.Pools.{IsPool};
-ghost use Rattle.air_windows.specs.declared.errors.AirError.{AirError};
-ghost use Rattle.air_flat.specs.Reach.{EachOperand, IsOperand, Marked, MarkedMore, Reached};
+ghost use Rattle.air_symbolic.specs.Reach.{EachOperand, IsOperand, Marked, MarkedMore, Reached};
 
-use crate::pushing::push;
-use air_builder::AirError;
-use air_symbolic::{ExprId, ExprPool, SymLeaf, SymbolicExpr};
+use crate::leaves::sym_leaf::SymLeaf;
+use crate::pools::expr::{ExprId, SymbolicExpr};
+use crate::pools::pool::ExprPool;
+use air_field::RingError;
 use std::alloc::Global;
 
 // So many places, of which none is marked.
-fn unmarked<A: SymLeaf>(alloc: Global, places: usize) -> Result<Vec<Option<ExprId<A>>>, AirError>
+fn unmarked<A: SymLeaf>(alloc: Global, places: usize) -> Result<Vec<Option<ExprId<A>>>, RingError>
     ensures places { IfOk result (λ marks. length marks.items ≡ places) }
     ensures none { IfOk result (λ marks. (i : ℕ) → get_or marks.items i None ≡ None) }
-    ensures refused { IfErr result (λ e. e ≡ AirError.Memory) }
+    ensures refused { IfErr result (λ e. e ≡ RingError.Memory) }
 {
-    let mut marks = Vec::new(alloc);
+    let mut marks = Vec::with_capacity(alloc, places)?;
     for _place in 0..places {
-        push(&mut marks, None)?;
+        marks.push(None)?;
     }
     Ok(marks)
 }
@@ -92,17 +92,17 @@ fn mark_reached<A: SymLeaf>(
     }
 }
 
-/// The expressions that the roots reach, each at the place of its number.
-pub(crate) fn reached<A: SymLeaf>(
+/// The expressions that the roots reach, each at the place of its number. It is refused for want of memory alone.
+pub fn reached<A: SymLeaf>(
     alloc: Global,
     pool: &ExprPool<A>,
     roots: &[ExprId<A>],
-) -> Result<Vec<Option<ExprId<A>>>, AirError>
+) -> Result<Vec<Option<ExprId<A>>>, RingError>
     requires pool { IsPool A.reads pool.now }
     requires here { All (λ x. x < length pool.now.1) roots.now }
     ensures marked { IfOk result (λ marks.
         Reached (A.reads pool.now.0) pool.now.1 roots.now marks.items) }
-    ensures refused { IfErr result (λ e. e ≡ AirError.Memory) }
+    ensures refused { IfErr result (λ e. e ≡ RingError.Memory) }
 {
     let mut marks = unmarked(alloc, pool.len())?;
     mark_reached(&mut marks, pool, roots);
