@@ -6,6 +6,9 @@ pub mod FoldedLists
 pub mod FoldedTerms
 pub mod BasePart
 pub mod Overflows
+pub mod DegreeTables
 pub mod Lowering
+pub mod Marking
+pub mod ReachedTrees
 pub mod LeafCases
 pub mod FoldCases

@@ -18,6 +18,7 @@ mod leaves;
 mod matrices;
 mod names;
 mod numbers;
+mod passes;
 mod rings;
 mod shared_nodes;
 mod table;

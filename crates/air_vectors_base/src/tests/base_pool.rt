@@ -33,7 +33,7 @@ impl<F: Field> TableLeaf for BaseLeaf<F> {
     }
 }
 
-/// Takes a new pool through a table.
+// Takes a new pool through a table.
 pub fn check_rows(rt: &impl Abort, alloc: Global, rows: &[Row<'_>]) -> Result<(), RingError> {
     let mut bench: Bench<BaseLeaf<BabyBear>> = Bench::new(alloc);
     bench.check_all(rt, rows)

@@ -4,7 +4,7 @@ ghost use Rattle.std.specs.Prelude.{◌<◌, length, IsTrue, All, IfOk};
 
 use crate::tests::table::{LeafKind, Row, Shape, Step};
 use air_field::{Field, RingError};
-use air_symbolic::{ExprId, ExprPool, LeafWeight, SymLeaf, SymbolicExpr};
+use air_symbolic::{Degrees, ExprId, ExprPool, LeafWeight, SymLeaf, SymbolicExpr};
 use std::alloc::Global;
 use std::marker::Model;
 use std::process::Abort;
@@ -13,7 +13,7 @@ use std::process::Abort;
 pub const MISSING: RingError = RingError::Memory;
 
 /// The place of what no step made.
-const NOWHERE: usize = usize::MAX;
+pub const NOWHERE: usize = usize::MAX;
 
 /// A leaf that tables can write.
 pub trait TableLeaf: SymLeaf {
@@ -218,16 +218,11 @@ impl<A: SymLeaf> Bench<A> {
         self.pool.degree_multiple_with_transition(x, weight)
     }
 
-    fn degrees_at(
-        &self,
-        places: &[usize],
-        weight: LeafWeight<'_>,
-    ) -> Result<Vec<usize>, RingError> {
+    fn degrees_at(&self, places: &[usize], weight: LeafWeight<'_>) -> Result<Degrees, RingError> {
         let all = self.all_at(places)?;
         let roots = all.as_slice();
         if self.contains_all(roots) {
-            let degrees = self.pool.degrees(roots, weight)?;
-            Ok(degrees.values)
+            self.pool.degrees(roots, weight)
         } else {
             Err(MISSING)
         }
@@ -315,7 +310,15 @@ impl<A: TableLeaf> Bench<A> {
             }
             Row::Degrees(places, weight, wanted) => {
                 let degrees = self.degrees_at(places, weight)?;
-                assert_eq!(rt; degrees.as_slice(), wanted, "at row {number}");
+                assert_eq!(rt; degrees.values.as_slice(), wanted, "at row {number}");
+            }
+            Row::TurnsAtMost(places, weight, most) => {
+                let degrees = self.degrees_at(places, weight)?;
+                assert!(rt; degrees.turns <= most, "at row {number}");
+            }
+            Row::NoDegrees(places, weight) => {
+                let refused = self.degrees_at(places, weight).err();
+                assert_eq!(rt; refused, Some(RingError::DegreeOverflow), "at row {number}");
             }
             _ => assert!(rt; false, "at row {number}"),
         }
