@@ -14,6 +14,7 @@ mod flat_airs;
 mod handed;
 mod labels;
 mod layouts;
+mod recorded_airs;
 mod recordings;
 mod spellings;
 mod traces;
