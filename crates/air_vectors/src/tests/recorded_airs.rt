@@ -7,13 +7,23 @@ use crate::tests::flat_airs::flat_audit;
 use crate::tests::{matrix, recording_builder};
 use p3_air::author::{Boolean, Current, Equal, Next, Sum, Transition, When};
 use p3_air::{
-    AirError, AirLayout, BabyBear, ExprPool, FlatAir, Recorded, finish_recording, record_these,
-    recorded_air,
+    AirBuilder, AirError, AirLayout, BabyBear, ExprPool, FlatAir, Recorded, finish_recording,
+    record_these, recorded_air,
 };
 use std::alloc::Global;
 use std::test::Fail;
 
-/// What is recorded here: column 0 is a bit, and from each row to the next column 1 rises by it.
+/// Column 0 is a bit, and from each row to the next column 1 rises by it.
+fn assert_counter<AB: AirBuilder>(builder: &mut AB) -> Result<(), AirError>
+    requires { AB.ready builder.old }
+    ensures { AB.ready builder.new }
+{
+    record_these(builder, &Boolean(Current(0)))?;
+    let count = Equal(Next(1), Sum(Current(1), Current(0)));
+    record_these(builder, &When(Transition, count))
+}
+
+/// What is recorded of it.
 fn record_counter(alloc: Global) -> Result<Recorded<BabyBear, BabyBear>, AirError>
     ensures { IfOk result (λ r. IsPool base_reads r.pool.0) }
 {
@@ -22,9 +32,7 @@ fn record_counter(alloc: Global) -> Result<Recorded<BabyBear, BabyBear>, AirErro
         ..AirLayout::default()
     };
     let mut builder = recording_builder(alloc, layout)?;
-    record_these(&mut builder, &Boolean(Current(0)))?;
-    let count = Equal(Next(1), Sum(Current(1), Current(0)));
-    record_these(&mut builder, &When(Transition, count))?;
+    assert_counter(&mut builder)?;
     Ok(finish_recording(builder))
 }
 
