@@ -15,6 +15,7 @@ mod folds;
 mod handed;
 mod labels;
 mod layouts;
+mod recorded_airs;
 mod recordings;
 mod spellings;
 mod traces;

@@ -60,7 +60,7 @@ fn make_periodic(
 }
 
 /// The audit of an AIR from outside.
-fn flat_audit(
+pub(super) fn flat_audit(
     alloc: Global,
     air: &FlatAir<BabyBear>,
     main: &RowMajorMatrix<BabyBear>,
