@@ -4,6 +4,7 @@ ghost use Rattle.air_field.specs.Term.{main, leaf_term, mul_term};
 ghost use Rattle.air_builder.specs.Assertion.{Base};
 ghost use Rattle.air_symbolic.specs.Pools.{IsPool};
 
+mod assertions;
 mod audits;
 mod checks;
 mod degrees;
@@ -20,6 +21,7 @@ mod traces;
 mod trees;
 mod words;
 
+use crate::tests::filters::assert_zero_under;
 use crate::tests::trees::base_text;
 use air_builder::{Air, AirBuilder, AirError, BaseAir, BoundaryPublic, WindowAccess};
 use air_field::{BabyBear, Field, RowMajorMatrix, RowMajorMatrixView, ViewPair};
@@ -222,20 +224,6 @@ fn lent_variables(
     Ok((window.current(column), window.next(column)))
 }
 
-/// Asserts that `x` is zero where the condition holds.
-fn assert_where<AB: AirBuilder>(
-    builder: &mut AB,
-    condition: AB::Expr,
-    x: AB::Expr,
-) -> Result<(), AirError>
-    requires ready { AB.ready builder.old }
-    requires condition_in { AB.Ring.has (AB.ring_of builder.old) condition }
-    requires x_in { AB.Ring.has (AB.ring_of builder.old) x }
-{
-    let mut filter = builder.when(condition)?;
-    filter.assert_zero(x)
-}
-
 #[test]
 fn reports_rows_and_places_in_order(rt: HostRuntime) -> Result<(), Fail> {
     let main = matrix(rt.alloc(), &[1, 1, 0, 5, 2, 3], 2)?;
@@ -387,7 +375,7 @@ fn evaluates_one_row(rt: HostRuntime) -> Result<(), Fail> {
     assert_eq!(rt; builder.is_first_row()?, BabyBear::ONE);
     assert_eq!(rt; builder.is_last_row()?, BabyBear::ZERO);
     assert_eq!(rt; builder.is_transition()?, BabyBear::TWO);
-    assert_where(&mut builder, BabyBear::ZERO, BabyBear::new(5))?;
+    assert_zero_under(&mut builder, BabyBear::ZERO, BabyBear::new(5))?;
     assert!(rt; !builder.has_failures());
     builder.assert_zero(BabyBear::ONE)?;
     assert!(rt; builder.has_failures());

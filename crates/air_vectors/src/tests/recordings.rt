@@ -1,11 +1,8 @@
 //! Recordings, the places of constraints, and the variables that the symbolic builder lends over an extension.
 ghost use Rattle.std.specs.Prelude.{IfOk};
 
-use crate::tests::extension::{Mixed, Permuted, extension};
-use crate::tests::filters::{assert_constant_ext_under, constant_after_both};
-use crate::tests::trees::product_of;
-use crate::tests::{Products, make_products, products_layout, record_products, recording_builder};
-use air_symbolic::{ExprId, ExtLeaf};
+use crate::tests::extension::{Mixed, Permuted};
+use crate::tests::{Products, make_products, products_layout, record_products};
 use p3_air::{
     Air, AirBuilder, AirError, AirLayout, BabyBear, BinomialExtensionField, ConstraintLayout,
     ExtEntry, ExtensionBuilder, ExtensionField, PermutationAirBuilder, SymbolicAirBuilder,
@@ -184,70 +181,13 @@ fn names_the_extension_entry_that_is_missing(rt: HostRuntime) -> Result<(), Fail
 }
 
 /// A builder over the extension that has recorded nothing.
-fn ext_builder(
+pub fn ext_builder(
     alloc: Global,
     layout: AirLayout,
 ) -> Result<SymbolicAirBuilder<BabyBear, BinomialExtensionField>, AirError>
     ensures ready { IfOk result ⟦<SymbolicAirBuilder<BabyBear, BinomialExtensionField> as AirBuilder>⟧.ready }
 {
     SymbolicAirBuilder::new(alloc, layout)
-}
-
-// An equal expression has one number, so what is recorded is the constant 30 if it has that constant's number.
-#[test]
-fn nested_filters_are_recorded(rt: HostRuntime) -> Result<(), Fail> {
-    let mut builder = recording_builder(rt.alloc(), permuted_layout(0))?;
-    let [two, three, five, thirty] = [2, 3, 5, 30].map(BabyBear::new);
-    let thirty = constant_after_both(&mut builder, two, three, five, thirty)?;
-    assert_eq!(rt; builder.base_constraints(), [thirty].as_slice());
-    Ok(())
-}
-
-/// Asserts where a constant holds that one of the extension is zero, and leaves the builder ready.
-fn assert_once<AB: ExtensionBuilder>(
-    builder: &mut AB,
-    condition: AB::F,
-    x: AB::EF,
-) -> Result<(), AirError>
-    requires { AB.ready builder.old }
-    ensures { AB.ready builder.new }
-{
-    assert_constant_ext_under(builder, condition, x)
-}
-
-/// The product that a number of the extension pool is.
-fn product_at(
-    builder: &mut SymbolicAirBuilder<BabyBear, BinomialExtensionField>,
-    id: ExprId<ExtLeaf<BabyBear, BinomialExtensionField>>,
-) -> Option<BinomialExtensionField>
-    requires { ⟦<SymbolicAirBuilder<BabyBear, BinomialExtensionField> as AirBuilder>⟧.ready builder.old }
-{
-    product_of(builder.ext_ring(), id)
-}
-
-/// The product that is recorded first where a constant holds for an element of the extension.
-fn recorded_product(
-    builder: &mut SymbolicAirBuilder<BabyBear, BinomialExtensionField>,
-    condition: BabyBear,
-    x: BinomialExtensionField,
-) -> Result<Option<BinomialExtensionField>, AirError>
-    requires { ⟦<SymbolicAirBuilder<BabyBear, BinomialExtensionField> as AirBuilder>⟧.ready builder.old }
-{
-    assert_once(builder, condition, x)?;
-    let Some(first) = builder.extension_constraints().first().copied() else {
-        return Ok(None);
-    };
-    Ok(product_at(builder, first))
-}
-
-#[test]
-fn a_filter_over_the_extension_is_recorded(rt: HostRuntime) -> Result<(), Fail> {
-    let mut builder = ext_builder(rt.alloc(), permuted_layout(0))?;
-    let x = extension(0, 1, 0, 0);
-    let product = recorded_product(&mut builder, BabyBear::new(3), x)?;
-    assert_eq!(rt; product, Some(extension(0, 3, 0, 0)));
-    assert_eq!(rt; builder.extension_constraints().len(), 1);
-    Ok(())
 }
 
 #[test]
