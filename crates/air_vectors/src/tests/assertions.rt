@@ -40,7 +40,13 @@ fn numbers(filters: Filters, kind: Kind, values: [u32; 4]) -> Row<BabyBear> {
 }
 
 /// An assertion of two elements, where the conditions are these.
-fn elements(outer: u32, inner: u32, kind: ExtKind, x: Element, y: Element) -> ExtRow<BabyBear, Element> {
+fn elements(
+    outer: u32,
+    inner: u32,
+    kind: ExtKind,
+    x: Element,
+    y: Element,
+) -> ExtRow<BabyBear, Element> {
     ExtRow {
         outer: number(outer),
         inner: number(inner),
@@ -234,15 +240,33 @@ fn each_extension_assertion_is_its_term(rt: HostRuntime) -> Result<(), Fail> {
             elements(1, 1, ExtKind::One, extension(5, 0, 0, 1), zero),
             &[extension(4, 0, 0, 1)],
         ),
-        (elements(1, 1, ExtKind::Equal, x, y), &[extension(5, 0, 5, 5)]),
         (
-            elements(1, 1, ExtKind::Zeros, extension(1, 0, 0, 0), extension(0, 0, 2, 0)),
+            elements(1, 1, ExtKind::Equal, x, y),
+            &[extension(5, 0, 5, 5)],
+        ),
+        (
+            elements(
+                1,
+                1,
+                ExtKind::Zeros,
+                extension(1, 0, 0, 0),
+                extension(0, 0, 2, 0),
+            ),
             &[extension(1, 0, 0, 0), extension(0, 0, 2, 0)],
         ),
-        (elements(1, 3, ExtKind::Zero, root, zero), &[extension(0, 3, 0, 0)]),
+        (
+            elements(1, 3, ExtKind::Zero, root, zero),
+            &[extension(0, 3, 0, 0)],
+        ),
         (elements(1, 0, ExtKind::Zero, root, zero), &[zero]),
         (
-            elements(1, 2, ExtKind::Zeros, extension(0, 0, 1, 5), extension(4, 0, 0, 0)),
+            elements(
+                1,
+                2,
+                ExtKind::Zeros,
+                extension(0, 0, 1, 5),
+                extension(4, 0, 0, 0),
+            ),
             &[extension(0, 0, 2, 10), extension(8, 0, 0, 0)],
         ),
         (
@@ -264,9 +288,15 @@ fn each_extension_assertion_is_its_term(rt: HostRuntime) -> Result<(), Fail> {
 fn kinds_keep_their_places(rt: HostRuntime) -> Result<(), Fail> {
     let mut builder = row(rt.alloc(), &[], &[], &[], &[]);
     let seven = extension(7, 0, 0, 0);
-    assert_on_row(&mut builder, numbers(Filters::None, Kind::Zero, [0, 0, 7, 0]))?;
+    assert_on_row(
+        &mut builder,
+        numbers(Filters::None, Kind::Zero, [0, 0, 7, 0]),
+    )?;
     assert_ext_on_row(&mut builder, ExtKind::Zero, seven, seven)?;
-    assert_on_row(&mut builder, numbers(Filters::None, Kind::One, [0, 0, 1, 0]))?;
+    assert_on_row(
+        &mut builder,
+        numbers(Filters::None, Kind::One, [0, 0, 1, 0]),
+    )?;
     assert_ext_on_row(&mut builder, ExtKind::Zeros, extension(0, 0, 0, 0), seven)?;
     assert_ext_on_row(&mut builder, ExtKind::Equal, seven, seven)?;
     assert_places(&rt, &builder, &[0, 1, 4]);
@@ -310,7 +340,10 @@ fn failures_over_the_extension_keep_their_labels(rt: HostRuntime) -> Result<(), 
     }
     assert_named_under_on_row(&mut builder, 0, last, "passes")?;
     assert_named_under_on_row(&mut builder, 2, last, "filtered")?;
-    assert_on_row(&mut builder, numbers(Filters::None, Kind::Zero, [0, 0, 1, 0]))?;
+    assert_on_row(
+        &mut builder,
+        numbers(Filters::None, Kind::Zero, [0, 0, 1, 0]),
+    )?;
     assert_eq!(rt;
         builder.formatted_failures()?.as_str(),
         "[#1 \"zero\", #2 \"one\", #4 \"equal\", #6 \"filtered\", #7]"

@@ -271,7 +271,10 @@ where
 fn a_debug_builder_has_the_empty_context(rt: HostRuntime) -> Result<(), Fail> {
     let alloc = rt.alloc();
     let mut builder = row(alloc);
-    assert_eq!(rt; context_text(alloc, &mut builder, number(2))?.as_str(), "()");
+    assert_eq!(rt;
+        context_text(alloc, &mut builder, number(2))?.as_str(),
+        "()"
+    );
     Ok(())
 }
 

@@ -234,7 +234,10 @@ fn assert_places(
         assert_eq!(rt; failure.constraint, *place);
     }
     builder.assert_zero(number(1))?;
-    assert_eq!(rt; builder.failures().last().map(|f| f.constraint), Some(count));
+    assert_eq!(rt;
+        builder.failures().last().map(|f| f.constraint),
+        Some(count)
+    );
     Ok(())
 }
 
