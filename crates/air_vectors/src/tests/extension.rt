@@ -232,6 +232,11 @@ fn a_builder_without_permutation_data_refuses_its_window(rt: HostRuntime) -> Res
     }
     assert_eq!(rt; builder.permutation_randomness().len(), 0);
     assert_eq!(rt; builder.permutation_values().len(), 0);
+    Ok(())
+}
+
+#[test]
+fn a_check_without_permutation_data_refuses_its_window(rt: HostRuntime) -> Result<(), Fail> {
     let main = RowMajorMatrix::new(Vec::from_array(rt.alloc(), [number(0)])?, 1)?;
     match check_all_constraints(rt.alloc(), &Permuted {}, &main, &[], None) {
         Ok(_) => assert!(rt; false),

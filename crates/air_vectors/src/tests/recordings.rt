@@ -190,22 +190,48 @@ pub fn ext_builder(
     SymbolicAirBuilder::new(alloc, layout)
 }
 
+type ExtBuilder = SymbolicAirBuilder<BabyBear, BinomialExtensionField>;
+
+type ExtColumn = SymbolicVariableExt<BabyBear, BinomialExtensionField>;
+
+/// The variables of a permutation column, at the current and at the next row.
+fn permutation_column(
+    builder: &ExtBuilder,
+    column: usize,
+) -> Result<(Option<ExtColumn>, Option<ExtColumn>), AirError> {
+    let window = builder.permutation()?;
+    Ok((window.current(column), window.next(column)))
+}
+
 #[test]
 fn lends_extension_variables(rt: HostRuntime) -> Result<(), Fail> {
-    let layout = permuted_layout(2);
-    let mut builder = ext_builder(rt.alloc(), layout)?;
-    let window = builder.permutation()?;
+    let builder = ext_builder(rt.alloc(), permuted_layout(2))?;
     let current = SymbolicVariableExt::new(ExtEntry::Permutation { offset: 0 }, 0);
     let next = SymbolicVariableExt::new(ExtEntry::Permutation { offset: 1 }, 0);
-    assert_eq!(rt; window.current(0), Some(current));
-    assert_eq!(rt; window.next(0), Some(next));
-    assert_eq!(rt; window.current(1), None);
+    assert_eq!(rt;
+        permutation_column(&builder, 0)?,
+        (Some(current), Some(next))
+    );
+    assert_eq!(rt; permutation_column(&builder, 1)?, (None, None));
     assert_eq!(rt; builder.permutation_randomness().len(), 1);
     assert_eq!(rt; builder.permutation_values().len(), 1);
+    Ok(())
+}
+
+/// How many constraints of each kind a builder has, and their places, once `Mixed` is evaluated on it.
+fn mixed_places(alloc: Global) -> Result<(usize, usize, ConstraintLayout), AirError> {
+    let mut builder = ext_builder(alloc, permuted_layout(2))?;
     Mixed {}.eval(&mut builder)?;
-    assert_eq!(rt; builder.base_constraints().len(), 2);
-    assert_eq!(rt; builder.extension_constraints().len(), 1);
+    let base = builder.base_constraints().len();
+    let ext = builder.extension_constraints().len();
     let places = builder.constraint_layout()?;
+    Ok((base, ext, places))
+}
+
+#[test]
+fn a_builder_tells_the_places_of_its_constraints(rt: HostRuntime) -> Result<(), Fail> {
+    let (base, ext, places) = mixed_places(rt.alloc())?;
+    assert_eq!(rt; (base, ext), (2, 1));
     assert_eq!(rt; places.total_constraints(), 3);
     assert_eq!(rt; places.base_indices.as_slice(), [0, 2].as_slice());
     assert_eq!(rt; places.ext_indices.as_slice(), [1].as_slice());
