@@ -1,4 +1,7 @@
 //! Inferred degrees: selectors, periodic columns and short traces.
+ghost use Rattle.std.specs.Prelude.{◌∷◌, []};
+ghost use Rattle.air_field.specs.Term.{main, transition, leaf_term, mul_term};
+ghost use Rattle.air_builder.specs.Assertion.{Base};
 ghost use Rattle.air_builder.specs.Beside.{nothing_beside};
 ghost use Rattle.air_symbolic.specs.Pools.{IsPool};
 ghost use Rattle.air_vectors.specs.TestAirs.{steep};
@@ -9,10 +12,51 @@ use crate::tests::flat_airs::{
 use crate::tests::{columns, inferred, recorded_list};
 use air_builder::{Air, AirBuilder, AirError, BaseAir, BoundaryPublic};
 use air_field::{BabyBear, Field, RowMajorMatrix};
-use p3_air::author::{Current, Power, Zero, assert_all};
-use p3_air::{AirLayout, BaseLeaf, FlatAir, Recorded, SymLeaf, get_symbolic_constraints};
+use p3_air::author::{Current, Power, Product, Square, Transition, Zero, assert_all};
+use p3_air::{
+    AirLayout, BaseLeaf, FlatAir, Recorded, SymLeaf, SymbolicAirBuilder, get_symbolic_constraints,
+};
 use std::alloc::Global;
 use std::test::Fail;
+
+/// One column x: the transition selector twice times x is zero.
+struct Steps {}
+
+impl<F: Copy> BaseAir<F> for Steps {
+    ghost declared = { λ _. Base (mul_term (mul_term (leaf_term transition) (leaf_term transition)) (leaf_term (main 0 0))) ∷ [] };
+
+    ghost width = { λ _. 1 };
+
+    ghost num_public_values = { λ _. 0 };
+
+    ghost beside = { λ _. nothing_beside };
+
+    fn width(&self) -> usize {
+        1
+    }
+
+    fn num_public_values(&self) -> usize {
+        0
+    }
+
+    fn preprocessed_trace(&self) -> Option<&RowMajorMatrix<F>> {
+        None
+    }
+
+    fn periodic_columns(&self) -> &[Vec<F>] {
+        &[]
+    }
+
+    fn public_boundary_io(&self) -> &[BoundaryPublic] {
+        &[]
+    }
+}
+
+impl<AB: AirBuilder> Air<AB> for Steps {
+    fn eval(&self, builder: &mut AB) -> Result<(), AirError> {
+        assert_all(builder, &Zero(Product(Square(Transition), Current(0))))
+    }
+}
 
 /// One column, raised to a power eight times, is zero.
 #[derive(Drop)]
@@ -101,15 +145,17 @@ fn polynomial_degrees(
     Ok(degrees)
 }
 
-/// The degrees of the recorded polynomials over eight rows.
-fn degrees_over_eight(
+/// The degrees of the recorded polynomials over eight rows, and the degree that is inferred of them.
+fn degrees_over_eight<A: BaseAir<BabyBear> + Air<SymbolicAirBuilder<BabyBear, BabyBear>>>(
     alloc: Global,
-    air: &FlatAir<BabyBear>,
+    air: &A,
     periods: &[usize],
-) -> Result<Vec<usize>, AirError> {
-    let layout = AirLayout::from_air::<BabyBear, FlatAir<BabyBear>>(air);
+) -> Result<(Vec<usize>, usize), AirError> {
+    let layout = AirLayout::from_air::<BabyBear, A>(air);
     let recorded = get_symbolic_constraints(alloc, air, layout)?;
-    polynomial_degrees(alloc, &recorded, 8, periods)
+    let degrees = polynomial_degrees(alloc, &recorded, 8, periods)?;
+    let inferred = inferred(alloc, air, 8)?;
+    Ok((degrees, inferred))
 }
 
 /// The degree that is inferred of an AIR from outside.
@@ -134,27 +180,17 @@ fn a_product_alone_keeps_its_cached_degree(rt: HostRuntime) -> Result<(), Fail> 
 #[test]
 fn degrees_for_eight_rows(rt: HostRuntime) -> Result<(), Fail> {
     let alloc = rt.alloc();
-    let one = columns_alone(alloc, 1);
-    let steps = make_flat(
-        alloc,
-        Joined::SquareTimes,
-        BaseLeaf::IsTransition,
-        current(0),
-        one,
-    )?;
+    let (degrees, inferred) = degrees_over_eight(alloc, &Steps {}, &[])?;
+    assert_eq!(rt; degrees.as_slice(), [9].as_slice());
+    assert_eq!(rt; inferred, 2);
     let clocks = Beside {
         periodic: columns(alloc, &[2, 2])?,
         ..columns_alone(alloc, 0)
     };
     let cycles = make_flat(alloc, Joined::Product, periodic(0), periodic(1), clocks)?;
-    for (air, periods, degree, wanted) in [
-        (&steps, [].as_slice(), 9, 2),
-        (&cycles, [2, 2].as_slice(), 8, 1),
-    ] {
-        let degrees = degrees_over_eight(alloc, air, periods)?;
-        assert_eq!(rt; degrees.as_slice(), [degree].as_slice());
-        assert_eq!(rt; inferred_flat(alloc, air, 8)?, wanted);
-    }
+    let (degrees, inferred) = degrees_over_eight(alloc, &cycles, &[2, 2])?;
+    assert_eq!(rt; degrees.as_slice(), [8].as_slice());
+    assert_eq!(rt; inferred, 1);
     assert_eq!(rt; inferred_flat(alloc, &make_idle(alloc), 8)?, 0);
     Ok(())
 }

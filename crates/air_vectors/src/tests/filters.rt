@@ -385,9 +385,10 @@ pub fn assert_ext_row<AB: ExtensionBuilder>(
     requires { AB.ready builder.old }
     ensures { AB.kept builder.old builder.new }
 {
-    let (x, y) = make_ext_constants(builder.ext_ring(), row.x, row.y)?;
-    let made = make_constants(builder.ring(), row.outer, row.inner, row.outer, row.inner)?;
-    let (outer, inner, _, _) = made;
+    let elements = make_ext_constants(builder.ext_ring(), row.x, row.y)?;
+    let conditions = make_constants(builder.ring(), row.outer, row.inner, row.outer, row.inner)?;
+    let (x, y) = elements;
+    let (outer, inner, _, _) = conditions;
     assert_ext_under_both(builder, outer, inner, row.kind, x, y)
 }
 

@@ -33,8 +33,6 @@ pub enum Joined {
     First,
     Difference,
     Product,
-    /// The first squared, times the second.
-    SquareTimes,
 }
 
 /// The expression in the pool.
@@ -54,10 +52,6 @@ fn root_of(
         Joined::First => Ok(x),
         Joined::Difference => Ok(pool.sub(x, y)?),
         Joined::Product => Ok(pool.mul(x, y)?),
-        Joined::SquareTimes => {
-            let square = pool.mul(x, x)?;
-            Ok(pool.mul(square, y)?)
-        }
     }
 }
 
