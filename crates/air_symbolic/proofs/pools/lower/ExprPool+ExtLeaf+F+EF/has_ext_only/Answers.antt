@@ -15,13 +15,15 @@ loop-mark-preserved g c =
 
 pub returns-then-is_ext_only : goal.returns-then-is_ext_only
 returns-then-is_ext_only g c =
-    let p = c.args.self.now in
-    (λ _. marked-ext-only (ext_reads g.F.Field.ring g.F.PartialEq.eq g.EF.ExtensionField.coefficients p.0) p c.args.id c.args.marks.now c.requires.marked c.loop-mark.mark-index c.mark-item.result (omega (arith, c.loop-mark-test.true)) c.mark-item.is (c.is_ext_only.ensures.0 c.if-is_ext_only.true),
-    λ _. refl)
+    let p = c.args.self.now in (
+      λ _. marked-ext-only (ext_reads g.F.Field.ring g.F.PartialEq.eq g.EF.ExtensionField.coefficients p.0) p c.args.id c.args.marks.now c.requires.marked c.loop-mark.mark-index c.mark-item.result (omega (arith, c.loop-mark-test.true)) c.mark-item.is (c.is_ext_only.ensures.0 c.if-is_ext_only.true),
+      λ _. refl,
+    )
 
 pub returns : goal.returns
 returns g c =
-    let p = c.args.self.now in
-    (λ (e : false ≡ true). absurd (cc),
-    λ h. absurd (none-marked (ext_reads g.F.Field.ring g.F.PartialEq.eq g.EF.ExtensionField.coefficients p.0) p c.args.id c.args.marks.now c.requires.marked c.requires.pool.nodes
-    (λ i lt. c.loop-mark.invariant i (omega (arith, lt, c.loop-mark-test.false))) c.requires.here h))
+    let p = c.args.self.now in (
+      λ (e : false ≡ true). absurd (cc),
+      λ h. absurd (none-marked (ext_reads g.F.Field.ring g.F.PartialEq.eq g.EF.ExtensionField.coefficients p.0) p c.args.id c.args.marks.now c.requires.marked c.requires.pool.nodes
+          (λ i lt. c.loop-mark.invariant i (omega (arith, lt, c.loop-mark-test.false))) c.requires.here h),
+    )

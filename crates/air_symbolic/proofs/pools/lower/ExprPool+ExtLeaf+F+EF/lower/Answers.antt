@@ -53,6 +53,6 @@ returns-clause-made g c =
     let reach = c.requires.marked in
     let below : id < c.loop-mark.mark-index = omega (arith, c.requires.here, reach.places, c.loop-mark-test.false) in
     let at : get_or c.loop-mark.table.items id None ≡ Some c.lowered_at.result =
-        subst (λ t. get_or t id None ≡ Some c.lowered_at.result) c.as_slice.ensures.value c.lowered_at.ensures in
+    subst (λ t. get_or t id None ≡ Some c.lowered_at.result) c.as_slice.ensures.value c.lowered_at.ensures in
     lowered-at-first g.F.Field.ring g.F.PartialEq.eq g.EF.ExtensionField.coefficients p s c.loop-mark.table.items id c.lowered_at.result c.requires.pool h.grown h.same_nodes c.requires.here
     (h.made id below (reach.roots_marked 0 id (omega arith))) at
