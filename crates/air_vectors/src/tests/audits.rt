@@ -141,7 +141,7 @@ fn audits_each_next_row_of_a_table(rt: HostRuntime) -> Result<(), Fail> {
     ];
     for (table, wanted) in cases {
         let air = make_surrounded(alloc, table, &[1], 0)?;
-        let audit = surrounded_audit(alloc, &air, &ones, &[BabyBear::new(1)])?;
+        let audit = surrounded_audit(alloc, &air, &ones, &[BabyBear::new(1)], 0)?;
         assert_report(&rt, &audit.report, wanted);
     }
     let air = make_surrounded(alloc, &[0, 0], &[0, 5], 0)?;

@@ -14,6 +14,7 @@ use p3_air::{
     AirLayout, BaseLeaf, FlatAir, Recorded, SymLeaf, SymbolicAirBuilder, get_symbolic_constraints,
 };
 use std::alloc::Global;
+use std::process::Abort;
 use std::test::Fail;
 
 /// One column, raised to a power eight times, is zero.
@@ -167,12 +168,13 @@ fn degrees_for_eight_rows(rt: HostRuntime) -> Result<(), Fail> {
 
 /// Over eight rows an AIR has these degrees in domains of these weights.
 fn assert_weighed(
-    rt: &HostRuntime,
+    rt: &impl Abort,
+    alloc: Global,
     air: &FlatAir<BabyBear>,
     wanted: &[(usize, Result<usize, AirError>)],
 ) {
     for (transition_weight, degree) in wanted {
-        let found = inferred_flat(rt.alloc(), air, 8, *transition_weight);
+        let found = inferred_flat(alloc, air, 8, *transition_weight);
         assert_eq!(rt; found, *degree, "weight {transition_weight}");
     }
 }
@@ -181,12 +183,17 @@ fn assert_weighed(
 fn a_weight_counts_the_transition_selector(rt: HostRuntime) -> Result<(), Fail> {
     let alloc = rt.alloc();
     let steps = make_steps(alloc)?;
-    assert_weighed(&rt, &steps, &[(0, Ok(2)), (1, Ok(3)), (2, Ok(5))]);
-    assert_weighed(&rt, &make_cycles(alloc)?, &[(0, Ok(1)), (1, Ok(2))]);
-    assert_weighed(&rt, &make_idle(alloc), &[(0, Ok(0)), (1, Ok(0))]);
+    assert_weighed(&rt, alloc, &steps, &[(0, Ok(2)), (1, Ok(3)), (2, Ok(5))]);
+    assert_weighed(&rt, alloc, &make_cycles(alloc)?, &[(0, Ok(1)), (1, Ok(2))]);
+    assert_weighed(&rt, alloc, &make_idle(alloc), &[(0, Ok(0)), (1, Ok(0))]);
     let selector = BaseLeaf::IsTransition;
     let none = columns_alone(alloc, 0);
     let twice = make_flat(alloc, Joined::Product, selector, selector, none)?;
-    assert_weighed(&rt, &twice, &[(1 << 63, Err(AirError::DegreeOverflow))]);
+    assert_weighed(
+        &rt,
+        alloc,
+        &twice,
+        &[(1 << 63, Err(AirError::DegreeOverflow))],
+    );
     Ok(())
 }
