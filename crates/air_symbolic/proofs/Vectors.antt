@@ -1,5 +1,5 @@
 -- A pool's table of nodes, the oldest first, and the pool's value, the newest first.
-use Rattle.std.proofs.Common.{◌≡◌, ◌≢◌, ℕ, suc, ◌<◌, List, [], ◌∷◌, ◌++◌, length, reverse, get_or, refl, sym, ap, subst, ◌∙◌, arith, ⊎_elim}
+use Rattle.std.proofs.Common.{◌≡◌, ◌≢◌, ℕ, suc, ◌<◌, List, [], ◌∷◌, ◌++◌, length, reverse, get_or, sym, ap, subst, ◌∙◌, arith, ⊎_elim}
 use Rattle.std.specs.Prelude.{Some}
 use Rattle.std.specs.List.{slice_get}
 use Rattle.std.proofs.lemmas.Option.{slice_get_within, get_or_from_slice_get}
@@ -8,10 +8,10 @@ use Rattle.std.proofs.Math.ListN.{get_or-append}
 use Rattle.std.proofs.Math.Seq.{get_or-append_seam}
 use Rattle.air_field.specs.Ring.{CommRing}
 use Rattle.air_symbolic.specs.Leaves.{Leaves, LeafLaws}
-use Rattle.air_symbolic.specs.Nodes.{unfold_node, tree_of, node_at, NodeFits, Absent, WellFormed, IsNode}
-use Rattle.air_symbolic.specs.Pools.{IsPool, Grown, HasTree}
+use Rattle.air_symbolic.specs.Nodes.{node_at, NodeFits, Absent, WellFormed, IsNode}
+use Rattle.air_symbolic.specs.Pools.{IsPool, Grown}
 use Rattle.air_symbolic.specs.PoolLaws.{Grown-under}
-use Rattle.air_symbolic.specs.Numbers.{at_end, tree_of-newest, node_at-newest, node_at-older}
+use Rattle.air_symbolic.specs.Numbers.{at_end, node_at-newest, node_at-older}
 use Rattle.air_symbolic.specs.Sharing.{node_at-is}
 use Rattle.air_symbolic.specs.declared.pools.expr.SymbolicExpr.{SymbolicExpr}
 
@@ -65,18 +65,6 @@ pub IsNode-seen : {A F : Type 0} (l : Leaves A F) (xs v : List (SymbolicExpr A))
 IsNode-seen l xs v i n e wf q =
     let s : (i < length v) × (node_at v i ≡ Some n) = node_at-seen xs v i n e q in
     node_at-is l v wf i n s.0 s.1
-
--- One more node has the number that was the table's length.
-pub HasTree-push : {U A : Type 0} (p : U × List (SymbolicExpr A)) (u : U) (xs ys : List (SymbolicExpr A)) (n : SymbolicExpr A) (i : ℕ) → (u, reverse xs) ≡ p → ys ≡ xs ++ n ∷ [] → i ≡ length xs → HasTree (u, reverse ys) (unfold_node (tree_of p.1) n) i
-HasTree-push p u xs ys n i e q number =
-    let s : reverse ys ≡ n ∷ reverse xs = ap reverse q ∙ reverse-append xs (n ∷ []) in
-    let last : i ≡ length (reverse xs) = number ∙ sym (length-reverse xs) in
-    let newest : tree_of (reverse ys) i ≡ unfold_node (tree_of (reverse xs)) n =
-    ap (λ l. tree_of l i) s ∙ ap (λ k. tree_of (n ∷ reverse xs) k) last ∙ tree_of-newest n (reverse xs) in
-    record {
-      here = omega (arith, last, ap length s);
-      tree = newest ∙ ap (λ v. unfold_node (tree_of v.1) n) e;
-    }
 
 module _ {U A F : Type 0} (r : CommRing F) (reads : U → Leaves A F) (grows : U → U → Type 0) (empty : U) (laws : LeafLaws r reads grows empty) where
   -- one more node at the table's end
