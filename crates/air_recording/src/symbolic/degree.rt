@@ -55,7 +55,7 @@ fn greatest_of(numbers: &[usize]) -> usize
     greatest
 }
 
-/// The greatest degree of these expressions by the leaves' weights, 0 of none.
+/// The greatest degree of these expressions by the leaves' weights, 0 of none: then no table is made.
 fn greatest_by<A: SymLeaf>(
     pool: &ExprPool<A>,
     numbers: &[ExprId<A>],
@@ -68,6 +68,9 @@ fn greatest_by<A: SymLeaf>(
     ensures fits { OnOk result
         (greatest_degree (leaf_weight weight.entry) (terms_of A.reads pool.now numbers.now) < 2 ^ 64) }
 {
+    if numbers.is_empty() {
+        return Ok(0);
+    }
     let degrees = pool.degrees(numbers, weight)?;
     Ok(greatest_of(&degrees.values))
 }
