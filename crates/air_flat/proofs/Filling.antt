@@ -10,7 +10,7 @@ use Rattle.air_symbolic.specs.declared.pools.expr.SymbolicExpr.{SymbolicExpr}
 use Rattle.air_symbolic.specs.declared.pools.expr.SymbolicExpr.TheVariants as node
 use Rattle.air_builder.specs.Assertion.{Assertion, Base, Extension}
 use Rattle.air_builder.specs.Refusals.{PartOf}
-use Rattle.air_flat.specs.Reach.{EachOperand, IsOperand, Marked, Reached, ReachedFrom, root, operand}
+use Rattle.air_symbolic.specs.Reach.{EachOperand, IsOperand, Marked, Reached, ReachedFrom, root, operand}
 use Rattle.air_flat.specs.Tables.{HasOne, HasAt, OperandsMade}
 
 pub each_mark : (P : ℕ → Type 0) (o : Option ℕ) → ((i : ℕ) → o ≡ Some i → P i) → IfSome o P

@@ -1,5 +1,4 @@
 -- Lemmas on what is reached.
-mod Marking
 mod Making
 mod Filling
 mod Roots

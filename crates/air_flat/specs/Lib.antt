@@ -1,4 +1,3 @@
 pub use Rattle.air_builder.specs.Builders
-pub mod Reach
 pub mod Tables
 pub mod FlatAirs

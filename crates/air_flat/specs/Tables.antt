@@ -12,7 +12,7 @@ use Rattle.air_builder.specs.Assertion.{Assertion}
 use Rattle.air_builder.specs.Batches.{Each}
 use Rattle.air_builder.specs.Refusals.{PartOf, EachLeaf}
 use Rattle.air_author.specs.Expressions.{Made, Holds}
-use Rattle.air_flat.specs.Reach.{EachOperand}
+use Rattle.air_symbolic.specs.Reach.{EachOperand}
 
 -- in the builder the term has this expression
 abbrev pub IsMade : {S E F : Type 0} → (S → E → Term F → Type 0) → (S → Leaf → Type 0) → S → Term F → E → Type 0

@@ -5,7 +5,6 @@ pub mod flat_air;
 mod leaves;
 mod nodes;
 mod pushing;
-mod reach;
 pub mod resolving;
 mod table;
 

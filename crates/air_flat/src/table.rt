@@ -9,10 +9,9 @@ ghost use Rattle.air_flat.specs.Tables.{IsMade, HasOne, HasAt, OperandsMade, Ref
 
 use crate::nodes::make_node;
 use crate::pushing::push;
-use crate::reach::reached;
 use air_builder::{AirBuilder, AirError};
 use air_field::Algebra;
-use air_symbolic::{BaseLeaf, ExprId, ExprPool};
+use air_symbolic::{BaseLeaf, ExprId, ExprPool, reached};
 use std::alloc::Global;
 
 // The expression of what is marked at a place, out of those of smaller numbers.

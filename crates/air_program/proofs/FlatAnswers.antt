@@ -7,7 +7,7 @@ use Rattle.air_flat_input.specs.declared.input.FlatInput.{FlatInput}
 use Rattle.air_windows.specs.declared.errors.AirError.{AirError}
 use Rattle.air_windows.specs.declared.errors.AirError.TheVariants.{Memory}
 use Rattle.air_program.specs.Answer.{AuditFinds}
-use Rattle.air_program.specs.FlatAnswer.{StandsFor, HasNoValue, Spells, given_flat, RefusesValue, IsFlatAnswer}
+use Rattle.air_program.specs.FlatAnswer.{StandsFor, Spells, given_flat, RefusesValue, IsFlatAnswer}
 use Rattle.air_program.specs.Refusals.{name_of, refusal_text, air_refusal}
 use Rattle.air_program.specs.Requests.{MayRefuse}
 use Rattle.air_program.specs.Texts.{Found, IsFindingsText, findings_status}

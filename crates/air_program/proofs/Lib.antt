@@ -10,3 +10,4 @@ pub mod FibonacciRefusals
 pub mod Caps
 pub mod Traces
 pub mod FlatAnswers
+pub mod Outcomes

@@ -1,10 +1,14 @@
 pub mod Vectors
+pub mod Pushed
 pub mod Making
 pub mod Folding
 pub mod FoldedLists
 pub mod FoldedTerms
 pub mod BasePart
 pub mod Overflows
+pub mod DegreeTables
 pub mod Lowering
+pub mod Marking
+pub mod ReachedTrees
 pub mod LeafCases
 pub mod FoldCases

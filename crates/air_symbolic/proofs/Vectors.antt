@@ -1,6 +1,8 @@
--- A pool's vector of nodes, the oldest first, and the pool's value, the newest first.
-use Rattle.std.proofs.Common.{◌≡◌, ◌≢◌, ℕ, suc, ◌<◌, List, [], ◌∷◌, ◌++◌, length, reverse, get_or, refl, sym, ap, subst, ◌∙◌, arith, ⊎_elim}
+-- A pool's table of nodes, the oldest first, and the pool's value, the newest first.
+use Rattle.std.proofs.Common.{◌≡◌, ◌≢◌, ℕ, suc, ◌<◌, List, [], ◌∷◌, ◌++◌, length, reverse, get_or, sym, ap, subst, ◌∙◌, arith, ⊎_elim}
 use Rattle.std.specs.Prelude.{Some}
+use Rattle.std.specs.List.{slice_get}
+use Rattle.std.proofs.lemmas.Option.{slice_get_within, get_or_from_slice_get}
 use Rattle.std.proofs.lemmas.List.{reverse-append, length-reverse, reverse-reverse}
 use Rattle.std.proofs.Math.ListN.{get_or-append}
 use Rattle.std.proofs.Math.Seq.{get_or-append_seam}
@@ -40,33 +42,32 @@ module _ {A : Type 0} where
   absent-append n [] ys h k = k
   absent-append n (x ∷ xs) ys h k = (h.0, absent-append n xs ys h.1 k)
 
-  -- what no place of the vector holds is absent
-  absent-read : (xs : List (SymbolicExpr A)) (n : SymbolicExpr A) → ((i : ℕ) → i < length xs → get_or xs i n ≢ n) → Absent n (reverse xs)
+  -- what no place of the table holds is absent
+  absent-read : (xs : List (SymbolicExpr A)) (n : SymbolicExpr A) → ((i : ℕ) → slice_get xs i ≢ Some n) → Absent n (reverse xs)
   absent-read [] n h = tt
   absent-read (x ∷ xs) n h =
       subst (λ l. Absent n l) (sym (reverse-cons x xs))
-      (absent-append n (reverse xs) (x ∷ []) (absent-read xs n (λ i b. h (suc i) (omega arith))) (h 0 (omega arith), tt))
+      (absent-append n (reverse xs) (x ∷ []) (absent-read xs n (λ i. h (suc i))) ((λ e. h 0 (ap (λ (m : SymbolicExpr A). Some m) e)), tt))
 
-  -- what was read of the vector, said of the pool's value v
-  pub node_at-seen : (xs v : List (SymbolicExpr A)) (i : ℕ) (r n : SymbolicExpr A) → reverse xs ≡ v → i < length xs → r ≡ get_or xs i r → r ≡ n → (i < length v) × (node_at v i ≡ Some n)
-  node_at-seen xs v i r n e b q s =
+  -- what was read of the table, said of the pool's value v
+  pub node_at-seen : (xs v : List (SymbolicExpr A)) (i : ℕ) (n : SymbolicExpr A) → reverse xs ≡ v → slice_get xs i ≡ Some n → (i < length v) × (node_at v i ≡ Some n)
+  node_at-seen xs v i n e q =
       let len : length (reverse xs) ≡ length xs = length-reverse xs in
       let lv : length (reverse xs) ≡ length v = ap length e in
-      (omega (arith, len, lv), ap (λ l. node_at l i) (sym e) ∙ node_at-read xs i r b q ∙ ap (λ (x : SymbolicExpr A). Some x) s)
+      let b : i < length xs = slice_get_within xs i n q in
+      (omega (arith, len, lv, b), ap (λ l. node_at l i) (sym e) ∙ node_at-read xs i n b (sym (get_or_from_slice_get xs i n n q)))
 
-  pub absent-seen : (xs v : List (SymbolicExpr A)) (n : SymbolicExpr A) → reverse xs ≡ v → ((i : ℕ) → i < length xs → get_or xs i n ≢ n) → Absent n v
+  pub absent-seen : (xs v : List (SymbolicExpr A)) (n : SymbolicExpr A) → reverse xs ≡ v → ((i : ℕ) → slice_get xs i ≢ Some n) → Absent n v
   absent-seen xs v n e h = subst (λ l. Absent n l) e (absent-read xs n h)
 
--- The node read of the vector is the pool's node of that number.
-pub IsNode-seen : {A F : Type 0} (l : Leaves A F) (xs v : List (SymbolicExpr A)) (i : ℕ) (r : SymbolicExpr A) → reverse xs ≡ v → WellFormed l v → i < length v → r ≡ get_or xs i r → IsNode l v i r
-IsNode-seen l xs v i r e wf b q =
-    let len : length (reverse xs) ≡ length xs = length-reverse xs in
-    let lv : length (reverse xs) ≡ length v = ap length e in
-    let s : (i < length v) × (node_at v i ≡ Some r) = node_at-seen xs v i r r e (omega (arith, len, lv)) q refl in
-    node_at-is l v wf i r s.0 s.1
+-- The node read of the table is the pool's node of that number.
+pub IsNode-seen : {A F : Type 0} (l : Leaves A F) (xs v : List (SymbolicExpr A)) (i : ℕ) (n : SymbolicExpr A) → reverse xs ≡ v → WellFormed l v → slice_get xs i ≡ Some n → IsNode l v i n
+IsNode-seen l xs v i n e wf q =
+    let s : (i < length v) × (node_at v i ≡ Some n) = node_at-seen xs v i n e q in
+    node_at-is l v wf i n s.0 s.1
 
 module _ {U A F : Type 0} (r : CommRing F) (reads : U → Leaves A F) (grows : U → U → Type 0) (empty : U) (laws : LeafLaws r reads grows empty) where
-  -- one more node at the vector's end
+  -- one more node at the table's end
   pub Grown-push : (p : U × List (SymbolicExpr A)) (u : U) (xs ys : List (SymbolicExpr A)) (n : SymbolicExpr A) → (u, reverse xs) ≡ p → ys ≡ xs ++ n ∷ [] → NodeFits (reads p.0) p.1 n → Absent n p.1 → Grown grows reads p (u, reverse ys)
   Grown-push p u xs ys n e q fits absent =
       let s : reverse ys ≡ n ∷ reverse xs = ap reverse q ∙ reverse-append xs (n ∷ []) in
@@ -79,7 +80,7 @@ module _ {U A F : Type 0} (r : CommRing F) (reads : U → Leaves A F) (grows : U
       } in
       subst (λ (v : U × List (SymbolicExpr A)). NodeFits (reads v.0) v.1 n → Absent n v.1 → Grown grows reads v (u, reverse ys)) e step fits absent
 
-  -- what lies under the vector has grown
+  -- what lies under the table has grown
   pub Grown-under-seen : (p : U × List (SymbolicExpr A)) (u v : U) (ns : List (SymbolicExpr A)) → (u, ns) ≡ p → grows u v → Grown grows reads p (v, ns)
   Grown-under-seen p u v ns e g =
       subst (λ (q : U × List (SymbolicExpr A)). Grown grows reads q (v, ns)) e (Grown-under r reads grows empty laws u v ns g)

@@ -15,7 +15,9 @@ pub mod Folds
 pub mod FoldedLists
 pub mod PoolRefusals
 pub mod Weights
+pub mod DegreeTables
 pub mod Numbers
+pub mod Numbering
 pub mod PoolLaws
 pub mod BaseLeaves
 pub mod BasePool
@@ -24,4 +26,6 @@ pub mod ExtLeaves
 pub mod ExtPool
 pub mod ExtTrees
 pub mod Sharing
+pub mod Reach
+pub mod Lowered
 pub mod WholeTrees

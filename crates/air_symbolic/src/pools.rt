@@ -2,6 +2,7 @@
 
 pub mod algebra;
 pub mod base_pool;
+pub mod degree_table;
 pub mod degrees;
 pub mod expr;
 pub mod ext_pool;
@@ -11,5 +12,7 @@ pub mod insert;
 pub mod joined;
 pub mod lending;
 pub mod lower;
+mod node_table;
 pub mod pool;
+pub mod reach;
 pub mod weight;

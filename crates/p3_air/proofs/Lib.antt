@@ -1,2 +1,3 @@
 pub mod Audited
 pub mod AuditTheorem
+pub mod RecordedRoots

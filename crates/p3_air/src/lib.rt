@@ -4,11 +4,13 @@
 //! a trace of it, and [`get_max_constraint_degree`] infers its degree. [`audit_air`] does all three: what it recorded is
 //! what it tested. Constraints as values stand in [`author`], the recorded expressions and their JSON values in [`symbolic`],
 //! bits and words in [`utils`]. An AIR from outside, made of expressions of a pool, is a [`FlatAir`]; [`resolve`] works one
-//! such expression out in any builder. The public items of the crates below are passed on here.
+//! such expression out in any builder, and [`recorded_air`] makes such an AIR of a recording. The public items of the
+//! crates below are passed on here.
 #![tactic(auto)]
 
 pub mod audit;
 pub mod author;
+pub mod recorded_airs;
 pub mod symbolic;
 pub mod utils;
 
@@ -44,3 +46,4 @@ pub use air_variables::{BaseEntry, ExtEntry, SymbolicVariable, SymbolicVariableE
 pub use air_windows::boundary;
 pub use air_wire::{FlatError, Spelled, WireLeaf, from_flat_value, to_flat_value};
 pub use audit::{Audit, audit_air, audit_air_with_cap};
+pub use recorded_airs::{finish_recording, record_these, recorded_air};

@@ -1,6 +1,7 @@
 //! The leaves of base expressions.
 
 use crate::leaves::sym_leaf::SymLeaf;
+use crate::pools::weight::{DegreeTable, LeafWeight};
 use air_field::{Field, RingError};
 use air_variables::SymbolicVariable;
 use std::alloc::Global;
@@ -26,6 +27,10 @@ impl<F: Field> SymLeaf for BaseLeaf<F> {
     ghost reads = { base_reads };
 
     ghost grows = { base_grows };
+
+    ghost nodes_under = { λ _. 0 };
+
+    ghost has_degrees = { λ _ _ _. Unit {0} };
 
     ghost no_under = { tt };
 
@@ -71,6 +76,30 @@ impl<F: Field> SymLeaf for BaseLeaf<F> {
             BaseLeaf::IsLastRow => Ok(trace_len.saturating_sub(1)),
             BaseLeaf::IsTransition => Ok(1),
             BaseLeaf::Constant(_) => Ok(0),
+        }
+    }
+
+    fn degrees_under(
+        _under: &(),
+        _weight: LeafWeight<'_>,
+        alloc: Global,
+    ) -> Result<DegreeTable, RingError> {
+        Ok(DegreeTable {
+            degrees: Vec::new(alloc),
+            turns: 0,
+        })
+    }
+
+    fn degree_in(
+        &self,
+        weight: LeafWeight<'_>,
+        under: &(),
+        _table: &[Result<usize, RingError>],
+    ) -> Result<usize, RingError> {
+        match weight {
+            LeafWeight::Cached => Ok(self.degree_multiple(under)),
+            LeafWeight::Transition(weight) => self.degree_multiple_with_transition(weight, under),
+            LeafWeight::Trace { trace_len, periods } => self.poly_degree(trace_len, periods, under),
         }
     }
 

@@ -3,8 +3,10 @@
 use crate::leaves::base_leaf::BaseLeaf;
 use crate::leaves::base_part::base_part;
 use crate::leaves::sym_leaf::SymLeaf;
+use crate::pools::degree_table::known;
 use crate::pools::expr::ExprId;
 use crate::pools::pool::ExprPool;
+use crate::pools::weight::{DegreeTable, LeafWeight};
 use air_field::{ExtensionField, Field, RingError};
 use air_variables::SymbolicVariableExt;
 use std::alloc::Global;
@@ -24,11 +26,22 @@ impl<F: Field, EF: ExtensionField<F>> SymLeaf for ExtLeaf<F, EF> {
     type Under = ExprPool<BaseLeaf<F>>;
 
     ghost use Rattle.std.proofs.Common.{arith};
+    ghost use Rattle.std.specs.Prelude.{length};
+    ghost use Rattle.air_field.specs.Degree.{degree_by};
+    ghost use Rattle.air_symbolic.specs.Weights.{leaf_weight};
+    ghost use Rattle.air_symbolic.specs.Pools.{term_at};
+    ghost use Rattle.air_symbolic.specs.BaseLeaves.{base_reads};
+    ghost use Rattle.air_symbolic.specs.DegreeTables.{AnswersDegrees};
     ghost use Rattle.air_symbolic.specs.ExtLeaves.{no_base_nodes, ext_reads, ext_grows, ext_leaf_laws};
 
     ghost reads = { λ u. ext_reads F.ring F.eq EF.coefficients u };
 
     ghost grows = { λ u v. ext_grows u v };
+
+    ghost nodes_under = { λ u. length u.1 };
+
+    ghost has_degrees = { λ u w table.
+        AnswersDegrees (λ i. degree_by (leaf_weight w) (term_at base_reads u i)) (length u.1) table };
 
     ghost no_under = { no_base_nodes };
 
@@ -74,6 +87,30 @@ impl<F: Field, EF: ExtensionField<F>> SymLeaf for ExtLeaf<F, EF> {
             ExtLeaf::Base(id) => under.poly_degree(*id, trace_len, periods),
             ExtLeaf::ExtVariable(v) => Ok(v.poly_degree(trace_len)),
             ExtLeaf::ExtConstant(_) => Ok(0),
+        }
+    }
+
+    fn degrees_under(
+        under: &ExprPool<BaseLeaf<F>>,
+        weight: LeafWeight<'_>,
+        _alloc: Global,
+    ) -> Result<DegreeTable, RingError> {
+        under.degree_table(under.len(), weight)
+    }
+
+    fn degree_in(
+        &self,
+        weight: LeafWeight<'_>,
+        under: &ExprPool<BaseLeaf<F>>,
+        table: &[Result<usize, RingError>],
+    ) -> Result<usize, RingError> {
+        if let ExtLeaf::Base(id) = self {
+            return known(table, *id);
+        }
+        match weight {
+            LeafWeight::Cached => Ok(self.degree_multiple(under)),
+            LeafWeight::Transition(weight) => self.degree_multiple_with_transition(weight, under),
+            LeafWeight::Trace { trace_len, periods } => self.poly_degree(trace_len, periods, under),
         }
     }
 

@@ -1,9 +1,13 @@
 //! What a leaf of an expression has to tell.
-ghost use Rattle.std.specs.Prelude.{◌≡◌, IfOk, IfErr, Decides};
+ghost use Rattle.std.specs.Prelude.{◌≡◌, ℕ, ◌≤◌, ◌<◌, ◌^◌, List, Result, IfOk, IfErr, Decides};
 ghost use Rattle.air_field.specs.Degree.{degree_by, cached_weight, transition_weight, trace_weight};
 ghost use Rattle.air_symbolic.specs.Leaves.{Leaves, LeafLaws, IsConstLeaf};
 ghost use Rattle.air_symbolic.specs.PoolRefusals.{AnswersDegree};
+ghost use Rattle.air_symbolic.specs.Weights.{leaf_weight};
+ghost use Rattle.air_symbolic.specs.declared.pools.weight.LeafWeight.{LeafWeight};
+ghost use Rattle.air_field.specs.declared.errors.RingError.{RingError};
 
+use crate::pools::weight::{DegreeTable, LeafWeight};
 use air_field::{Field, RingError};
 use std::alloc::Global;
 use std::fmt::Debug;
@@ -21,6 +25,12 @@ pub trait SymLeaf: Copy + Eq + Ord + Debug {
 
     /// What lies under the leaves has grown: what was named there stays.
     ghost grows: { Self.Under → Self.Under → Type 0 };
+
+    /// How many nodes lie under the pool.
+    ghost nodes_under: { Self.Under → ℕ };
+
+    /// By this weight what lies under the pool has these degrees, by number.
+    ghost has_degrees: { Self.Under → LeafWeight → List (Result ℕ RingError) → Type 0 };
 
     /// What lies under a new pool.
     ghost no_under: { Self.Under };
@@ -56,6 +66,30 @@ pub trait SymLeaf: Copy + Eq + Ord + Debug {
     ) -> Result<usize, RingError>
         requires { (reads under.now).valid self.now }
         ensures { AnswersDegree (degree_by (trace_weight trace_len periods.now) ((reads under.now).term self.now)) result };
+
+    /// The degrees of what lies under the pool, each worked out once for all leaves that name it.
+    fn degrees_under(
+        under: &Self::Under,
+        weight: LeafWeight<'_>,
+        alloc: Global,
+    ) -> Result<DegreeTable, RingError>
+        requires { (reads under.now).sound }
+        ensures degrees { IfOk result (λ t. has_degrees under.now weight.entry t.degrees.items) }
+        ensures turns { IfOk result (λ t. t.turns ≤ nodes_under under.now) }
+        ensures few { IfOk result (λ t. t.turns < 2 ^ 64) }
+        ensures refused { IfErr result (λ e. e ≡ RingError.Memory) };
+
+    /// The degree by a weight, read from `table` where the leaf names something that lies under the pool.
+    fn degree_in(
+        &self,
+        weight: LeafWeight<'_>,
+        under: &Self::Under,
+        table: &[Result<usize, RingError>],
+    ) -> Result<usize, RingError>
+        requires valid { (reads under.now).valid self.now }
+        requires known { has_degrees under.now weight table.now }
+        ensures { AnswersDegree
+            (degree_by (leaf_weight weight.entry) ((reads under.now).term self.now)) result };
 
     /// The leaf of a constant.
     fn from_const(c: Self::F, under: &mut Self::Under) -> Result<Self, RingError>

@@ -1,8 +1,8 @@
 //! The calls that make a node as it is, without folding.
-ghost use Rattle.std.specs.Prelude.{◌≡◌, ◌<◌, ◌≤◌, ◌+◌, ◌^◌, ◌↔◌, length, IfOk, IfErr, MatchOption, Decides};
+ghost use Rattle.std.specs.Prelude.{◌≡◌, ◌<◌, ◌≤◌, ◌+◌, ◌^◌, ◌↔◌, length, IfOk, IfErr};
 ghost use Rattle.air_field.specs.Degree.{degree_by, cached_weight};
 ghost use Rattle.air_symbolic.specs.Trees.{leaf_tree, add_tree, sub_tree, neg_tree, mul_tree};
-ghost use Rattle.air_symbolic.specs.Nodes.{unfold_node, tree_of, node_at, NodeFits, Absent};
+ghost use Rattle.air_symbolic.specs.Nodes.{unfold_node, tree_of, NodeFits};
 ghost use Rattle.air_symbolic.specs.Pools.{IsPool, tree_at, term_at, Grown, HasTree};
 
 use crate::leaves::sym_leaf::SymLeaf;
@@ -11,24 +11,6 @@ use crate::pools::pool::ExprPool;
 use air_field::RingError;
 
 impl<A: SymLeaf> ExprPool<A> {
-    fn is_same(known: &SymbolicExpr<A>, node: &SymbolicExpr<A>) -> bool
-        ensures { Decides result (known.now ≡ node.now) }
-    {
-        *known == *node
-    }
-
-    // The place of an equal node.
-    fn find(&self, node: &SymbolicExpr<A>) -> Option<usize>
-        ensures { MatchOption result (Absent node.now self.now.1) (λ i. (i < length self.now.1) × (node_at self.now.1 i ≡ Some node.now)) }
-    {
-        for (i, known) in self.nodes.iter().enumerate() {
-            if Self::is_same(known, node) {
-                return Some(i);
-            }
-        }
-        None
-    }
-
     // The number of an equal node, or of one more.
     fn insert(&mut self, node: SymbolicExpr<A>) -> Result<ExprId<A>, RingError>
         requires pool { IsPool A.reads self.old }
@@ -38,13 +20,10 @@ impl<A: SymLeaf> ExprPool<A> {
         ensures made { IfOk result (HasTree self.new (unfold_node (tree_of self.old.1) node)) }
         ensures refused { IfErr result (λ e. e ≡ RingError.Memory) }
     {
-        match self.find(&node) {
+        match self.nodes.find(&node) {
             Some(number) => Ok(ExprId::new(number)),
             None => {
-                let number = self.nodes.len();
-                if self.nodes.push(node).is_err() {
-                    return Err(RingError::Memory);
-                }
+                let number = self.nodes.push(node)?;
                 Ok(ExprId::new(number))
             }
         }

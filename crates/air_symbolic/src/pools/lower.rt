@@ -1,38 +1,78 @@
 //! Extension expressions that are base expressions.
-ghost use Rattle.std.specs.Prelude.{◌≡◌, ◌<◌, length, IfOk, IfErr, MatchOption, Decides};
+ghost use Rattle.std.specs.Prelude.{◌≡◌, ◌≢◌, ◌<◌, [], ◌∷◌, length, get_or, None, IfOk, IfErr, MatchOption, Decides};
 ghost use Rattle.std.specs.Option.{IfSome};
 ghost use Rattle.air_symbolic.specs.ExtLeaves.{ext_reads, ext_grows};
 ghost use Rattle.air_symbolic.specs.ExtTrees.{HasExtOnly, lowered, IsLowered, HasTermOf};
+ghost use Rattle.air_symbolic.specs.Lowered.{IsMarkedExtOnly, IsLoweredIn, CanLower};
 ghost use Rattle.air_symbolic.specs.Pools.{IsPool, Grown, HasTree, tree_at};
+ghost use Rattle.air_symbolic.specs.Reach.{Reached};
 
 use crate::leaves::base_leaf::BaseLeaf;
 use crate::leaves::ext_leaf::ExtLeaf;
 use crate::pools::expr::{ExprId, SymbolicExpr};
 use crate::pools::pool::ExprPool;
+use crate::pools::reach::reached;
 use air_field::{ExtensionField, Field, RingError};
 
+// The base number at a number's place.
+fn lowered_at<F: Field, EF: ExtensionField<F>>(
+    table: &[Option<ExprId<BaseLeaf<F>>>],
+    id: ExprId<ExtLeaf<F, EF>>,
+) -> ExprId<BaseLeaf<F>>
+    requires { get_or table.now id None ≢ None }
+    ensures { get_or table.now id None ≡ Some result }
+{
+    match table[id.number()] {
+        Some(x) => x,
+        None => unreachable!(),
+    }
+}
+
 impl<F: Field, EF: ExtensionField<F>> ExprPool<ExtLeaf<F, EF>> {
-    // Whether a leaf of the extension alone occurs.
-    fn has_ext_only(&self, id: ExprId<ExtLeaf<F, EF>>) -> bool
+    // Whether what is marked is a leaf of the extension alone.
+    fn is_ext_only(&self, mark: Option<ExprId<ExtLeaf<F, EF>>>) -> bool
         requires pool { IsPool (ext_reads F.ring F.eq EF.coefficients) self.now }
-        requires here { id < length self.now.1 }
-        ensures { Decides result (HasExtOnly (tree_at self.now id)) }
+        requires here { IfSome mark (λ i. i < length self.now.1) }
+        ensures { Decides result (IsMarkedExtOnly self.now mark) }
     {
-        match self.node(id) {
-            SymbolicExpr::Leaf(ExtLeaf::Base(_)) => false,
-            SymbolicExpr::Leaf(_) => true,
-            SymbolicExpr::Add { x, y, .. } => self.has_ext_only(*x) || self.has_ext_only(*y),
-            SymbolicExpr::Sub { x, y, .. } => self.has_ext_only(*x) || self.has_ext_only(*y),
-            SymbolicExpr::Neg { x, .. } => self.has_ext_only(*x),
-            SymbolicExpr::Mul { x, y, .. } => self.has_ext_only(*x) || self.has_ext_only(*y),
+        match mark {
+            Some(id) => match self.node(id) {
+                SymbolicExpr::Leaf(ExtLeaf::Base(_)) => false,
+                SymbolicExpr::Leaf(_) => true,
+                _ => false,
+            },
+            None => false,
         }
     }
 
-    // The base expression of a tree in which no leaf of the extension alone occurs.
-    fn lower(&mut self, id: ExprId<ExtLeaf<F, EF>>) -> Result<ExprId<BaseLeaf<F>>, RingError>
+    // Whether a leaf of the extension alone occurs: whether one is reached.
+    fn has_ext_only(
+        &self,
+        id: ExprId<ExtLeaf<F, EF>>,
+        marks: &[Option<ExprId<ExtLeaf<F, EF>>>],
+    ) -> bool
+        requires pool { IsPool (ext_reads F.ring F.eq EF.coefficients) self.now }
+        requires here { id < length self.now.1 }
+        requires marked { Reached (ext_reads F.ring F.eq EF.coefficients self.now.0)
+            self.now.1 (id ∷ []) marks.now }
+        ensures { Decides result (HasExtOnly (tree_at self.now id)) }
+    {
+        for mark in marks {
+            if self.is_ext_only(*mark) {
+                return true;
+            }
+        }
+        false
+    }
+
+    // The base expression of a number, out of those of its operands.
+    fn lower_node(
+        &mut self,
+        id: ExprId<ExtLeaf<F, EF>>,
+        table: &[Option<ExprId<BaseLeaf<F>>>],
+    ) -> Result<ExprId<BaseLeaf<F>>, RingError>
         requires pool { IsPool (ext_reads F.ring F.eq EF.coefficients) self.old }
-        requires here { id < length self.old.1 }
-        requires base_only { HasExtOnly (tree_at self.old id) → ⊥ }
+        requires ready { CanLower self.old table.now id }
         ensures same_nodes { self.new.1 ≡ self.old.1 }
         ensures grown { Grown ext_grows (ext_reads F.ring F.eq EF.coefficients) self.old self.new }
         ensures made { IfOk result (HasTree self.new.0 (lowered self.old.0 (tree_at self.old id))) }
@@ -42,17 +82,17 @@ impl<F: Field, EF: ExtensionField<F>> ExprPool<ExtLeaf<F, EF>> {
             SymbolicExpr::Leaf(ExtLeaf::Base(b)) => Ok(b),
             SymbolicExpr::Leaf(_) => unreachable!(),
             SymbolicExpr::Add { x, y, .. } => {
-                let left = self.lower(x)?;
-                let right = self.lower(y)?;
+                let left = lowered_at(table, x);
+                let right = lowered_at(table, y);
                 self.base_mut().insert_add(left, right)
             }
             SymbolicExpr::Sub { x, y, .. } => {
-                let left = self.lower(x)?;
-                let right = self.lower(y)?;
+                let left = lowered_at(table, x);
+                let right = lowered_at(table, y);
                 self.base_mut().insert_sub(left, right)
             }
             SymbolicExpr::Neg { x, .. } => {
-                let inner = self.lower(x)?;
+                let inner = lowered_at(table, x);
                 self.base_mut().insert_neg(inner)
             }
             SymbolicExpr::Mul {
@@ -61,11 +101,58 @@ impl<F: Field, EF: ExtensionField<F>> ExprPool<ExtLeaf<F, EF>> {
                 // what is read fits `usize`
                 degree_multiple: _fits,
             } => {
-                let left = self.lower(x)?;
-                let right = self.lower(y)?;
+                let left = lowered_at(table, x);
+                let right = lowered_at(table, y);
                 self.base_mut().insert_mul(left, right)
             }
         }
+    }
+
+    // The same of what is marked.
+    fn lower_mark(
+        &mut self,
+        mark: Option<ExprId<ExtLeaf<F, EF>>>,
+        table: &[Option<ExprId<BaseLeaf<F>>>],
+    ) -> Result<Option<ExprId<BaseLeaf<F>>>, RingError>
+        requires pool { IsPool (ext_reads F.ring F.eq EF.coefficients) self.old }
+        requires ready { IfSome mark (CanLower self.old table.now) }
+        ensures same_nodes { self.new.1 ≡ self.old.1 }
+        ensures grown { Grown ext_grows (ext_reads F.ring F.eq EF.coefficients) self.old self.new }
+        ensures made { IfOk result (λ b. IfSome mark (λ i. IsLoweredIn self.old self.new i b)) }
+        ensures refused { IfErr result (λ e. e ≡ RingError.Memory) }
+    {
+        match mark {
+            Some(id) => {
+                let lowered = self.lower_node(id, table)?;
+                Ok(Some(lowered))
+            }
+            None => Ok(None),
+        }
+    }
+
+    // The base expression of a tree in which no leaf of the extension alone occurs: what it reaches is lowered from the
+    // least number up.
+    fn lower(
+        &mut self,
+        id: ExprId<ExtLeaf<F, EF>>,
+        marks: &[Option<ExprId<ExtLeaf<F, EF>>>],
+    ) -> Result<ExprId<BaseLeaf<F>>, RingError>
+        requires pool { IsPool (ext_reads F.ring F.eq EF.coefficients) self.old }
+        requires here { id < length self.old.1 }
+        requires marked { Reached (ext_reads F.ring F.eq EF.coefficients self.old.0)
+            self.old.1 (id ∷ []) marks.now }
+        requires base_only { HasExtOnly (tree_at self.old id) → ⊥ }
+        ensures same_nodes { self.new.1 ≡ self.old.1 }
+        ensures grown { Grown ext_grows (ext_reads F.ring F.eq EF.coefficients) self.old self.new }
+        ensures made { IfOk result (HasTree self.new.0 (lowered self.old.0 (tree_at self.old id))) }
+        ensures refused { IfErr result (λ e. e ≡ RingError.Memory) }
+    {
+        let mut table = Vec::with_capacity(*self.nodes.allocator(), marks.len())?;
+        for mark in marks {
+            let made = self.lower_mark(*mark, &table)?;
+            table.push(made)?;
+        }
+        Ok(lowered_at(table.as_slice(), id))
     }
 
     /// The base expression with the same tree, not folded, and so with the same term; None exactly where a leaf of the extension alone occurs.
@@ -81,10 +168,11 @@ impl<F: Field, EF: ExtensionField<F>> ExprPool<ExtLeaf<F, EF>> {
         ensures term { IfOk result (λ b. IfSome b (HasTermOf EF.coefficients self.old id self.new.0)) }
         ensures refused { IfErr result (λ e. e ≡ RingError.Memory) }
     {
-        if self.has_ext_only(id) {
+        let marks = reached(*self.nodes.allocator(), self, &[id])?;
+        if self.has_ext_only(id, &marks) {
             return Ok(None);
         }
-        let base = self.lower(id)?;
+        let base = self.lower(id, &marks)?;
         Ok(Some(base))
     }
 }

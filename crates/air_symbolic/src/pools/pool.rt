@@ -6,13 +6,14 @@ ghost use Rattle.air_symbolic.specs.Pools.{IsPool, term_at, constant_at};
 
 use crate::leaves::sym_leaf::SymLeaf;
 use crate::pools::expr::{ExprId, SymbolicExpr};
+use crate::pools::node_table::NodeTable;
 use std::alloc::Global;
 use std::marker::Model;
 
 /// Expressions, each tree once, over what their leaves name.
 #[derive(Drop)]
 pub struct ExprPool<A: SymLeaf> {
-    pub(crate) nodes: Vec<SymbolicExpr<A>>,
+    pub(crate) nodes: NodeTable<SymbolicExpr<A>>,
     pub(crate) under: A::Under,
 }
 
@@ -22,7 +23,7 @@ impl<A: SymLeaf> Model for ExprPool<A> {
 
     ghost Value = { A.Under × List (SymbolicExpr A) };
 
-    ghost view = { λ p. (p.under, reverse p.nodes.items) };
+    ghost view = { λ p. (p.under, reverse p.nodes) };
 }
 
 impl<A: SymLeaf> ExprPool<A> {
@@ -32,7 +33,7 @@ impl<A: SymLeaf> ExprPool<A> {
         ensures pool { IsPool A.reads result }
     {
         ExprPool {
-            nodes: Vec::new(alloc),
+            nodes: NodeTable::new(alloc),
             under: A::new_under(alloc),
         }
     }
@@ -57,7 +58,7 @@ impl<A: SymLeaf> ExprPool<A> {
         requires here { id < length self.now.1 }
         ensures { IsNode (A.reads self.now.0) self.now.1 id result.now }
     {
-        &self.nodes[id.number()]
+        self.nodes.get(id.number())
     }
 
     /// The degree by the cached weights, which the node states.

@@ -1,10 +1,5 @@
 //! Weights of the leaves, by which a degree is counted.
-ghost use Rattle.std.specs.Prelude.{◌≡◌};
-ghost use Rattle.air_field.specs.Degree.{degree_by};
-ghost use Rattle.air_symbolic.specs.Weights.{leaf_weight};
-ghost use Rattle.air_symbolic.specs.PoolRefusals.{AnswersDegree};
 
-use crate::leaves::sym_leaf::SymLeaf;
 use air_field::RingError;
 
 /// How much each leaf counts in a degree.
@@ -21,22 +16,20 @@ pub enum LeafWeight<'a> {
     },
 }
 
-impl LeafWeight<'_> {
-    pub(crate) fn degree_of<A: SymLeaf>(self, a: A, under: &A::Under) -> Result<usize, RingError>
-        requires { (A.reads under.now).valid a }
-        ensures { AnswersDegree (degree_by (leaf_weight self.entry) ((A.reads under.now).term a)) result }
-    {
-        match self {
-            LeafWeight::Cached => Ok(a.degree_multiple(under)),
-            LeafWeight::Transition(weight) => a.degree_multiple_with_transition(weight, under),
-            LeafWeight::Trace { trace_len, periods } => a.poly_degree(trace_len, periods, under),
-        }
-    }
-}
-
 /// The degrees of some expressions.
 #[derive(Debug, Drop)]
 pub struct Degrees {
     /// The degree of each root, in order.
     pub values: Vec<usize>,
+    /// The turns taken: a turn is the working out of one node's degree.
+    pub turns: u128,
+}
+
+/// The degrees of a pool's first numbers.
+#[derive(Drop)]
+pub struct DegreeTable {
+    /// The degree of each number, or why it is refused.
+    pub degrees: Vec<Result<usize, RingError>>,
+    /// The turns taken.
+    pub turns: u128,
 }

@@ -34,7 +34,7 @@ impl<F: Field> TableLeaf for BaseLeaf<F> {
 }
 
 // Takes a new pool through a table.
-fn check_rows(rt: &impl Abort, alloc: Global, rows: &[Row<'_>]) -> Result<(), RingError> {
+pub fn check_rows(rt: &impl Abort, alloc: Global, rows: &[Row<'_>]) -> Result<(), RingError> {
     let mut bench: Bench<BaseLeaf<BabyBear>> = Bench::new(alloc);
     bench.check_all(rt, rows)
 }

@@ -4,7 +4,7 @@ ghost use Rattle.std.specs.Prelude.{◌<◌, length, IsTrue, All, IfOk};
 
 use crate::tests::table::{LeafKind, Row, Shape, Step};
 use air_field::{Field, RingError};
-use air_symbolic::{ExprId, ExprPool, LeafWeight, SymLeaf, SymbolicExpr};
+use air_symbolic::{Degrees, ExprId, ExprPool, LeafWeight, SymLeaf, SymbolicExpr};
 use std::alloc::Global;
 use std::marker::Model;
 use std::process::Abort;
@@ -13,7 +13,7 @@ use std::process::Abort;
 pub const MISSING: RingError = RingError::Memory;
 
 /// The place of what no step made.
-const NOWHERE: usize = usize::MAX;
+pub const NOWHERE: usize = usize::MAX;
 
 /// A leaf that tables can write.
 pub trait TableLeaf: SymLeaf {
@@ -25,6 +25,17 @@ pub trait TableLeaf: SymLeaf {
     fn transition(bench: &mut Bench<Self>) -> Result<ExprId<Self>, RingError>;
 
     fn kind(&self) -> LeafKind;
+}
+
+/// An operation of two expressions, which folds or only inserts.
+#[derive(Clone, Copy)]
+enum Binary {
+    Add,
+    Sub,
+    Mul,
+    InsertAdd,
+    InsertSub,
+    InsertMul,
 }
 
 #[derive(Drop)]
@@ -132,69 +143,40 @@ impl<A: SymLeaf> Bench<A> {
         self.pool.constant(A::F::from_u64(c))
     }
 
-    fn add(&mut self, x: usize, y: usize) -> Result<ExprId<A>, RingError> {
+    // The operation on what is at two places.
+    fn binary(&mut self, operation: Binary, x: usize, y: usize) -> Result<ExprId<A>, RingError> {
         let x = self.at(x)?;
         let y = self.at(y)?;
-        self.pool.add(x, y)
-    }
-
-    fn sub(&mut self, x: usize, y: usize) -> Result<ExprId<A>, RingError> {
-        let x = self.at(x)?;
-        let y = self.at(y)?;
-        self.pool.sub(x, y)
-    }
-
-    fn neg(&mut self, x: usize) -> Result<ExprId<A>, RingError> {
-        let x = self.at(x)?;
-        self.pool.neg(x)
-    }
-
-    fn mul(&mut self, x: usize, y: usize) -> Result<ExprId<A>, RingError> {
-        let x = self.at(x)?;
-        let y = self.at(y)?;
-        self.pool.mul(x, y)
-    }
-
-    fn insert_add(&mut self, x: usize, y: usize) -> Result<ExprId<A>, RingError> {
-        let x = self.at(x)?;
-        let y = self.at(y)?;
-        self.pool.insert_add(x, y)
-    }
-
-    fn insert_sub(&mut self, x: usize, y: usize) -> Result<ExprId<A>, RingError> {
-        let x = self.at(x)?;
-        let y = self.at(y)?;
-        self.pool.insert_sub(x, y)
-    }
-
-    fn insert_neg(&mut self, x: usize) -> Result<ExprId<A>, RingError> {
-        let x = self.at(x)?;
-        self.pool.insert_neg(x)
-    }
-
-    fn insert_mul(&mut self, x: usize, y: usize) -> Result<ExprId<A>, RingError> {
-        let x = self.at(x)?;
-        let y = self.at(y)?;
-        self.pool.insert_mul(x, y)
-    }
-
-    fn sum(&mut self, places: &[usize]) -> Result<ExprId<A>, RingError> {
-        let all = self.all_at(places)?;
-        let xs = all.as_slice();
-        if self.contains_all(xs) {
-            self.pool.sum(xs)
-        } else {
-            Err(MISSING)
+        match operation {
+            Binary::Add => self.pool.add(x, y),
+            Binary::Sub => self.pool.sub(x, y),
+            Binary::Mul => self.pool.mul(x, y),
+            Binary::InsertAdd => self.pool.insert_add(x, y),
+            Binary::InsertSub => self.pool.insert_sub(x, y),
+            Binary::InsertMul => self.pool.insert_mul(x, y),
         }
     }
 
-    fn product(&mut self, places: &[usize]) -> Result<ExprId<A>, RingError> {
+    fn negative(&mut self, x: usize, folded: bool) -> Result<ExprId<A>, RingError> {
+        let x = self.at(x)?;
+        if folded {
+            self.pool.neg(x)
+        } else {
+            self.pool.insert_neg(x)
+        }
+    }
+
+    // The sum of what is at some places, or the product.
+    fn joined(&mut self, places: &[usize], added: bool) -> Result<ExprId<A>, RingError> {
         let all = self.all_at(places)?;
         let xs = all.as_slice();
-        if self.contains_all(xs) {
-            self.pool.product(xs)
+        if !self.contains_all(xs) {
+            return Err(MISSING);
+        }
+        if added {
+            self.pool.sum(xs)
         } else {
-            Err(MISSING)
+            self.pool.product(xs)
         }
     }
 
@@ -218,16 +200,11 @@ impl<A: SymLeaf> Bench<A> {
         self.pool.degree_multiple_with_transition(x, weight)
     }
 
-    fn degrees_at(
-        &self,
-        places: &[usize],
-        weight: LeafWeight<'_>,
-    ) -> Result<Vec<usize>, RingError> {
+    fn degrees_at(&self, places: &[usize], weight: LeafWeight<'_>) -> Result<Degrees, RingError> {
         let all = self.all_at(places)?;
         let roots = all.as_slice();
         if self.contains_all(roots) {
-            let degrees = self.pool.degrees(roots, weight)?;
-            Ok(degrees.values)
+            self.pool.degrees(roots, weight)
         } else {
             Err(MISSING)
         }
@@ -242,16 +219,16 @@ impl<A: TableLeaf> Bench<A> {
             Step::Column(index) => A::column(self, index),
             Step::FirstRow => A::first_row(self),
             Step::Transition => A::transition(self),
-            Step::Add(x, y) => self.add(x, y),
-            Step::Sub(x, y) => self.sub(x, y),
-            Step::Neg(x) => self.neg(x),
-            Step::Mul(x, y) => self.mul(x, y),
-            Step::InsertAdd(x, y) => self.insert_add(x, y),
-            Step::InsertSub(x, y) => self.insert_sub(x, y),
-            Step::InsertNeg(x) => self.insert_neg(x),
-            Step::InsertMul(x, y) => self.insert_mul(x, y),
-            Step::Sum(places) => self.sum(places),
-            Step::Product(places) => self.product(places),
+            Step::Add(x, y) => self.binary(Binary::Add, x, y),
+            Step::Sub(x, y) => self.binary(Binary::Sub, x, y),
+            Step::Neg(x) => self.negative(x, true),
+            Step::Mul(x, y) => self.binary(Binary::Mul, x, y),
+            Step::InsertAdd(x, y) => self.binary(Binary::InsertAdd, x, y),
+            Step::InsertSub(x, y) => self.binary(Binary::InsertSub, x, y),
+            Step::InsertNeg(x) => self.negative(x, false),
+            Step::InsertMul(x, y) => self.binary(Binary::InsertMul, x, y),
+            Step::Sum(places) => self.joined(places, true),
+            Step::Product(places) => self.joined(places, false),
         }
     }
 
@@ -315,7 +292,15 @@ impl<A: TableLeaf> Bench<A> {
             }
             Row::Degrees(places, weight, wanted) => {
                 let degrees = self.degrees_at(places, weight)?;
-                assert_eq!(rt; degrees.as_slice(), wanted, "at row {number}");
+                assert_eq!(rt; degrees.values.as_slice(), wanted, "at row {number}");
+            }
+            Row::TurnsAtMost(places, weight, most) => {
+                let degrees = self.degrees_at(places, weight)?;
+                assert!(rt; degrees.turns <= most, "at row {number}");
+            }
+            Row::NoDegrees(places, weight) => {
+                let refused = self.degrees_at(places, weight).err();
+                assert_eq!(rt; refused, Some(RingError::DegreeOverflow), "at row {number}");
             }
             _ => assert!(rt; false, "at row {number}"),
         }

@@ -225,6 +225,10 @@ impl<F: Field, EF: ExtensionField<F>> ExtBench<F, EF> {
                 assert_eq!(rt; self.lowered_shape(x)?, Some(wanted), "at row {number}");
                 Ok(())
             }
+            ExtRow::BaseCount(count) => {
+                assert_eq!(rt; self.own.pool.base().len(), count, "at row {number}");
+                Ok(())
+            }
             _ => {
                 assert!(rt; false, "at row {number}");
                 Ok(())

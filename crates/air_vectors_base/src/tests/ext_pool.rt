@@ -9,7 +9,7 @@ use std::process::Abort;
 use std::test::Fail;
 
 // Takes a new pool through a table.
-fn check_rows(rt: &impl Abort, alloc: Global, rows: &[ExtRow<'_>]) -> Result<(), RingError> {
+pub fn check_rows(rt: &impl Abort, alloc: Global, rows: &[ExtRow<'_>]) -> Result<(), RingError> {
     let mut bench: ExtBench<BabyBear, BinomialExtensionField> = ExtBench::new(alloc);
     bench.check_all(rt, rows)
 }

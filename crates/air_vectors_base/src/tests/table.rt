@@ -70,6 +70,10 @@ pub enum Row<'a> {
     Weighted(usize, usize, Result<usize, RingError>),
     /// The degrees of some places.
     Degrees(&'a [usize], LeafWeight<'a>, &'a [usize]),
+    /// The degrees of some places take at most so many turns.
+    TurnsAtMost(&'a [usize], LeafWeight<'a>, u128),
+    /// The degrees of some places are refused with `DegreeOverflow`.
+    NoDegrees(&'a [usize], LeafWeight<'a>),
 }
 
 /// A row of a table of an extension pool.
@@ -91,4 +95,6 @@ pub enum ExtRow<'a> {
     ToBase(usize, Option<usize>),
     /// The node in the base pool of a base expression.
     Lowered(usize, Shape),
+    /// The base pool has so many nodes.
+    BaseCount(usize),
 }

@@ -4,7 +4,7 @@ use Rattle.air_symbolic.specs.Nodes.{unfold_node, tree_of}
 use Rattle.air_symbolic.specs.Trees.{add_tree, sub_tree, mul_tree, term_of}
 use Rattle.air_builder.specs.Builders.{Means}
 use Rattle.air_author.specs.Expressions.{Made}
-use Rattle.air_flat.specs.Reach.{EachOperand}
+use Rattle.air_symbolic.specs.Reach.{EachOperand}
 use Rattle.air_flat.specs.Tables.{IsMade, HasAt}
 use Rattle.air_flat.proofs.Making.{read_is}
 use Rattle.air_flat.proofs.nodes.make_node.Goals as goal

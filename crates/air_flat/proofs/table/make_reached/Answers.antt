@@ -5,7 +5,7 @@ use Rattle.air_symbolic.specs.BaseLeaves.{base_leaves, base_reads}
 use Rattle.air_symbolic.specs.Pools.{term_at}
 use Rattle.air_builder.specs.Builders.{Means}
 use Rattle.air_builder.specs.Refusals.{PartOf}
-use Rattle.air_flat.specs.Reach.{Reached}
+use Rattle.air_symbolic.specs.Reach.{Reached}
 use Rattle.air_flat.specs.Tables.{IsMade, OperandsMade}
 use Rattle.air_flat.proofs.Making.{made_stays}
 use Rattle.air_flat.proofs.Filling.{each_mark, reached_part, mark_is, operands_in, more_made}

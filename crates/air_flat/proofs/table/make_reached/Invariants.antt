@@ -2,7 +2,7 @@ use Rattle.std.proofs.Common.{◌≡◌, ◌<◌, ℕ, [], length}
 use Rattle.air_symbolic.specs.BaseLeaves.{base_reads}
 use Rattle.air_symbolic.specs.Pools.{term_at}
 use Rattle.air_builder.specs.Builders.{Means}
-use Rattle.air_flat.specs.Reach.{Marked}
+use Rattle.air_symbolic.specs.Reach.{Marked}
 use Rattle.air_flat.specs.Tables.{IsMade, HasAt}
 use Rattle.air_flat.proofs.table.make_reached.Given as goal
 

@@ -1,17 +1,17 @@
-use Rattle.std.proofs.Common.{rules}
+use Rattle.std.proofs.Common.{ap}
 use Rattle.air_symbolic.specs.Sharing.{node_at-is}
-use Rattle.air_symbolic.proofs.Vectors.{Grown-push}
+use Rattle.air_symbolic.proofs.Vectors.{node_at-seen, absent-seen, Grown-push}
 use Rattle.air_symbolic.proofs.pools.pool.ExprPool.insert.Goals as goal
-
-pub returns-else-is_err-clause-grown : goal.returns-else-is_err-clause-grown
-returns-else-is_err-clause-grown g c =
-    Grown-push g.A.F.Field.ring g.A.SymLeaf.reads g.A.SymLeaf.grows g.A.SymLeaf.no_under g.met.A.SymLeaf.leaf_laws c.args.self.now c.self.inside.under c.self.inside.nodes.items c.push.new.self.items c.args.node
-    c.self.view_is
-    (let h = c.if-is_err.false in let k = c.is_err.ensures.negation in let i = c.push.ensures.items in search rules)
-    c.requires.fits c.in-None.ensures
 
 pub returns-in-Some-clause-made : goal.returns-in-Some-clause-made
 returns-in-Some-clause-made g c =
     let p = c.args.self.now in
-    let known = node_at-is (g.A.SymLeaf.reads p.0) p.1 c.requires.pool.nodes c.in-Some.number c.args.node c.in-Some.ensures.0 c.in-Some.ensures.1 in
-    rw c.new.ensures record { here = c.in-Some.ensures.0; tree = known.tree }
+    let seen = node_at-seen c.self.inside.nodes p.1 c.in-Some.number c.args.node (ap (λ v. v.1) c.self.view_is) c.in-Some.ensures in
+    let known = node_at-is (g.A.SymLeaf.reads p.0) p.1 c.requires.pool.nodes c.in-Some.number c.args.node seen.0 seen.1 in
+    rw c.new.ensures record { here = seen.0; tree = known.tree }
+
+pub returns-in_ok-number-in-None-clause-grown : goal.returns-in_ok-number-in-None-clause-grown
+returns-in_ok-number-in-None-clause-grown g c =
+    Grown-push g.A.F.Field.ring g.A.SymLeaf.reads g.A.SymLeaf.grows g.A.SymLeaf.no_under g.met.A.SymLeaf.leaf_laws c.args.self.now c.self.inside.under c.self.inside.nodes c.push.new.self c.args.node
+    c.self.view_is c.in_ok-number-in-None.ensures.pushed c.requires.fits
+    (absent-seen c.self.inside.nodes c.args.self.now.1 c.args.node (ap (λ v. v.1) c.self.view_is) c.in-None.ensures)

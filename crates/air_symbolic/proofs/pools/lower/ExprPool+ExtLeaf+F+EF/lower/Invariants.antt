@@ -1,0 +1,15 @@
+use Rattle.std.proofs.Common.{◌≡◌, ◌<◌, ℕ, length}
+use Rattle.air_symbolic.specs.ExtLeaves.{ext_grows, ext_reads}
+use Rattle.air_symbolic.specs.Lowered.{LoweredAt}
+use Rattle.air_symbolic.specs.Pools.{Grown}
+use Rattle.air_symbolic.specs.Reach.{Marked}
+use Rattle.air_symbolic.proofs.pools.lower.ExprPool+ExtLeaf+F+EF.lower.Given as goal
+
+-- what is marked so far is lowered in the base pool as it is now
+abbrev pub invariant-loop-mark : goal.invariant-loop-mark
+invariant-loop-mark g l = record {
+  same_nodes : l.self.1 ≡ l.initial.self.1;
+  grown : Grown ext_grows (ext_reads g.F.Field.ring g.F.PartialEq.eq g.EF.ExtensionField.coefficients) l.initial.self l.self;
+  places : length l.table.items ≡ l.mark-index;
+  made : (i : ℕ) → i < l.mark-index → Marked l.marks i → LoweredAt l.self l.table.items i;
+}

@@ -1,0 +1,27 @@
+use Rattle.std.proofs.Common.{◌≡◌, ℕ, length, sym, ap, subst, ◌∙◌}
+use Rattle.air_field.specs.Degree.{degree_by}
+use Rattle.air_symbolic.specs.Weights.{leaf_weight}
+use Rattle.air_symbolic.specs.Trees.{term_of}
+use Rattle.air_symbolic.specs.Nodes.{tree_of}
+use Rattle.air_symbolic.specs.Pools.{term_at}
+use Rattle.air_symbolic.specs.PoolRefusals.{AnswersDegree}
+use Rattle.air_symbolic.specs.DegreeTables.{AnswersDegrees, node_degree}
+use Rattle.air_symbolic.proofs.DegreeTables.{more-degrees, node_degree-is}
+use Rattle.air_symbolic.proofs.pools.pool.ExprPool.turn.Goals as goal
+
+pub returns-clause-degrees : goal.returns-clause-degrees
+returns-clause-degrees g c =
+    let p = c.args.self.now in
+    let w = leaf_weight c.args.weight in
+    let table = c.args.table.now.degrees.items in
+    let degree = λ (i : ℕ). degree_by w (term_at g.A.SymLeaf.reads p i) in
+    let known : AnswersDegrees degree (length c.deref-2.result.now) c.deref-2.result.now =
+    subst (λ t. AnswersDegrees degree (length t) t) (sym c.deref-2.ensures.value)
+    (subst (λ n. AnswersDegrees degree n table) (sym c.requires.operands.places) c.requires.operands) in
+    let leaves = λ (u : _). λ (a : _). degree_by w ((g.A.SymLeaf.reads u).term a) in
+    let same : node_degree (leaves c.base.result.now) degree c.node-node.result.now ≡ degree c.args.id =
+    ap (λ u. node_degree (leaves u) degree c.node-node.result.now) c.base.ensures
+    ∙ node_degree-is w (g.A.SymLeaf.reads p.0).term (tree_of p.1) c.node-node.result.now
+    ∙ sym (ap (λ t. degree_by w (term_of (g.A.SymLeaf.reads p.0).term t)) c.node-node.ensures.tree) in
+    more-degrees degree c.args.id table c.push.new.self.items c.degree_of_node-degree.result c.in_ok-push.ensures.items c.requires.operands
+    (subst (λ d. AnswersDegree d c.degree_of_node-degree.result) same (c.degree_of_node-degree.ensures degree known))

@@ -1,0 +1,38 @@
+-- Base numbers in place of the numbers of an extension pool.
+use Rattle.std.specs.Prelude.{◌≡◌, ℕ, ◌<◌, List, length, get_or, Option, None, Some}
+use Rattle.air_symbolic.specs.Trees.{Tree, nothing, leaf_tree, add_tree, sub_tree, neg_tree, mul_tree}
+use Rattle.air_symbolic.specs.Nodes.{node_at}
+use Rattle.air_symbolic.specs.Pools.{tree_at, HasTree}
+use Rattle.air_symbolic.specs.ExtPool.{ExtNodes}
+use Rattle.air_symbolic.specs.ExtTrees.{IsExtOnly, HasExtOnly, lowered}
+use Rattle.air_symbolic.specs.Reach.{EachOperand}
+use Rattle.air_symbolic.specs.declared.pools.expr.SymbolicExpr.{SymbolicExpr}
+use Rattle.air_symbolic.specs.declared.leaves.ext_leaf.ExtLeaf.{ExtLeaf}
+
+-- the tree is a leaf of the extension alone
+abbrev pub IsExtOnlyLeaf : {F EF : Type 0} → Tree (ExtLeaf F EF) → Type 0
+IsExtOnlyLeaf nothing = ⊥
+IsExtOnlyLeaf (leaf_tree a) = IsExtOnly a
+IsExtOnlyLeaf (add_tree t u) = ⊥
+IsExtOnlyLeaf (sub_tree t u) = ⊥
+IsExtOnlyLeaf (neg_tree t) = ⊥
+IsExtOnlyLeaf (mul_tree t u) = ⊥
+
+-- a number is there, and its tree is such a leaf
+abbrev pub IsMarkedExtOnly : {F EF : Type 0} → ExtNodes F EF → Option ℕ → Type 0
+IsMarkedExtOnly p None = ⊥
+IsMarkedExtOnly p (Some i) = IsExtOnlyLeaf (tree_at p i)
+
+-- there is a base number, and in q it is number i of p lowered
+abbrev pub IsLoweredIn : {F EF : Type 0} → ExtNodes F EF → ExtNodes F EF → ℕ → Option ℕ → Type 0
+IsLoweredIn p q i o = (b : ℕ) × (o ≡ Some b) × HasTree q.0 (lowered p.0 (tree_at p i)) b
+
+-- the table has at number i the base number that is i lowered
+abbrev pub LoweredAt : {F EF : Type 0} → ExtNodes F EF → List (Option ℕ) → ℕ → Type 0
+LoweredAt p table i = IsLoweredIn p p i (get_or table i None)
+
+-- Number i can be lowered: no extension-only leaf occurs in its tree, and the table has its operands lowered.
+pub record CanLower {F EF : Type 0} (p : ExtNodes F EF) (table : List (Option ℕ)) (i : ℕ) : Type 0 where
+  pub here : i < length p.1
+  pub base_only : HasExtOnly (tree_at p i) → ⊥
+  pub operands : (n : SymbolicExpr (ExtLeaf F EF)) → node_at p.1 i ≡ Some n → EachOperand (LoweredAt p table) n

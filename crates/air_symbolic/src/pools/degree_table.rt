@@ -1,0 +1,142 @@
+//! The degrees of a pool's nodes by number, each worked out once.
+ghost use Rattle.std.specs.Prelude.{◌≡◌, ℕ, ◌<◌, ◌≤◌, ◌+◌, ◌^◌, max, length, OnOk, IfOk, IfErr};
+ghost use Rattle.air_field.specs.Degree.{degree_by};
+ghost use Rattle.air_symbolic.specs.Weights.{leaf_weight};
+ghost use Rattle.air_symbolic.specs.Nodes.{OperandsBelow};
+ghost use Rattle.air_symbolic.specs.Pools.{IsPool, term_at};
+ghost use Rattle.air_symbolic.specs.PoolRefusals.{AnswersDegree};
+ghost use Rattle.air_symbolic.specs.DegreeTables.{answer_at, AnswersDegrees, node_degree, IsValidNode};
+
+use crate::leaves::sym_leaf::SymLeaf;
+use crate::pools::expr::{ExprId, SymbolicExpr};
+use crate::pools::pool::ExprPool;
+use crate::pools::weight::{DegreeTable, LeafWeight};
+use air_field::RingError;
+
+/// The degree of a number.
+pub(crate) fn known<A: Copy>(
+    table: &[Result<usize, RingError>],
+    id: ExprId<A>,
+) -> Result<usize, RingError>
+    requires { id < length table.now }
+    ensures { result ≡ answer_at table.now id }
+{
+    table[id.number()]
+}
+
+// The degree of a sum or a difference.
+fn greater_degree<A: Copy>(
+    table: &[Result<usize, RingError>],
+    x: ExprId<A>,
+    y: ExprId<A>,
+) -> Result<usize, RingError>
+    requires x_in { x < length table.now }
+    requires y_in { y < length table.now }
+    ensures { (a b : ℕ) → AnswersDegree a (answer_at table.now x) →
+        AnswersDegree b (answer_at table.now y) → AnswersDegree (max a b) result }
+{
+    let left = known(table, x)?;
+    match known(table, y) {
+        Ok(right) => Ok(left.max(right)),
+        Err(e) => Err(e),
+    }
+}
+
+// The degree of a product.
+fn added_degree<A: Copy>(
+    table: &[Result<usize, RingError>],
+    x: ExprId<A>,
+    y: ExprId<A>,
+) -> Result<usize, RingError>
+    requires x_in { x < length table.now }
+    requires y_in { y < length table.now }
+    ensures { (a b : ℕ) → AnswersDegree a (answer_at table.now x) →
+        AnswersDegree b (answer_at table.now y) → AnswersDegree (a + b) result }
+{
+    let left = known(table, x)?;
+    match known(table, y) {
+        Ok(right) => left.checked_add(right).ok_or(RingError::DegreeOverflow),
+        Err(e) => Err(e),
+    }
+}
+
+// The degree of a node from those of its operands.
+fn degree_of_node<A: SymLeaf>(
+    node: SymbolicExpr<A>,
+    weight: LeafWeight<'_>,
+    under: &A::Under,
+    known_under: &[Result<usize, RingError>],
+    table: &[Result<usize, RingError>],
+) -> Result<usize, RingError>
+    requires valid { IsValidNode (A.reads under.now).valid node }
+    requires under { A.has_degrees under.now weight known_under.now }
+    requires below { OperandsBelow (length table.now) node }
+    ensures { (degree : ℕ → ℕ) → AnswersDegrees degree (length table.now) table.now →
+        AnswersDegree (node_degree
+        (λ a. degree_by (leaf_weight weight.entry) ((A.reads under.now).term a)) degree node) result }
+{
+    match node {
+        SymbolicExpr::Leaf(a) => a.degree_in(weight, under, known_under),
+        SymbolicExpr::Add { x, y, .. } => greater_degree(table, x, y),
+        SymbolicExpr::Sub { x, y, .. } => greater_degree(table, x, y),
+        SymbolicExpr::Neg { x, .. } => known(table, x),
+        SymbolicExpr::Mul { x, y, .. } => added_degree(table, x, y),
+    }
+}
+
+impl<A: SymLeaf> ExprPool<A> {
+    // One turn: the degree of the next number is worked out from those of smaller numbers.
+    fn turn(
+        &self,
+        id: ExprId<A>,
+        weight: LeafWeight<'_>,
+        under: &DegreeTable,
+        table: &mut DegreeTable,
+    ) -> Result<(), RingError>
+        requires pool { IsPool A.reads self.now }
+        requires here { id < length self.now.1 }
+        requires under { A.has_degrees self.now.0 weight under.now.degrees.items }
+        requires operands { AnswersDegrees
+            (λ i. degree_by (leaf_weight weight) (term_at A.reads self.now i))
+            id table.old.degrees.items }
+        requires room { table.old.turns + 1 < 2 ^ 128 }
+        ensures degrees { OnOk result (AnswersDegrees
+            (λ i. degree_by (leaf_weight weight.entry) (term_at A.reads self.now i))
+            (id + 1) table.new.degrees.items) }
+        ensures counted { table.new.turns ≡ table.old.turns + 1 }
+        ensures refused { IfErr result (λ e. e ≡ RingError.Memory) }
+    {
+        table.turns += 1;
+        let node = *self.node(id);
+        let degree = degree_of_node(node, weight, self.base(), &under.degrees, &table.degrees);
+        table.degrees.push(degree)?;
+        Ok(())
+    }
+
+    /// The degrees of the first `count` numbers by the leaves' weights, from the least number up: a node's operands
+    /// have smaller numbers.
+    pub(crate) fn degree_table(
+        &self,
+        count: usize,
+        weight: LeafWeight<'_>,
+    ) -> Result<DegreeTable, RingError>
+        requires pool { IsPool A.reads self.now }
+        requires here { count ≤ length self.now.1 }
+        ensures degrees { IfOk result (λ t. AnswersDegrees
+            (λ i. degree_by (leaf_weight weight.entry) (term_at A.reads self.now i))
+            count t.degrees.items) }
+        ensures turns { IfOk result (λ t. t.turns ≤ count + A.nodes_under self.now.0) }
+        ensures refused { IfErr result (λ e. e ≡ RingError.Memory) }
+    {
+        let alloc = *self.nodes.allocator();
+        let under = A::degrees_under(self.base(), weight, alloc)?;
+        let mut table = DegreeTable {
+            degrees: Vec::with_capacity(alloc, count)?,
+            turns: under.turns,
+        };
+        for number in 0..count {
+            self.turn(ExprId::new(number), weight, &under, &mut table)?;
+        }
+        Ok(table)
+    }
+}

@@ -1,0 +1,77 @@
+//! Nodes in the order of their numbers, and the number of each in an ordered map.
+ghost use Rattle.std.specs.Prelude.{◌≡◌, ◌≢◌, ◌<◌, ◌++◌, [], ◌∷◌, ℕ, length, Some, MatchOption, IfOk, OnErr};
+ghost use Rattle.std.specs.declared.cmp.Ordering.TheVariants.{Equal};
+ghost use Rattle.std.specs.List.{slice_get};
+
+use std::alloc::{AllocError, Global};
+use std::collections::BTreeMap;
+use std::marker::Model;
+
+/// Nodes by their numbers, which are handed out in order. A map finds a node's number, so that no call walks the list.
+#[derive(Drop)]
+pub struct NodeTable<N: Copy + Ord> {
+    nodes: Vec<N>,
+    numbers: BTreeMap<N, usize>,
+}
+
+impl<N: Copy + Ord> Model for NodeTable<N> {
+    ghost use Rattle.std.specs.Prelude.{List};
+    ghost use Rattle.air_symbolic.specs.Numbering.{MapsToNumbers};
+
+    ghost Value = { List N };
+
+    ghost view = { λ t. t.nodes.items };
+
+    ghost invariant = { λ t. MapsToNumbers N.cmp t.nodes.items t.numbers };
+}
+
+impl<N: Copy + Ord> NodeTable<N> {
+    pub fn new(alloc: Global) -> Self
+        ensures { result ≡ [] }
+    {
+        NodeTable {
+            nodes: Vec::new(alloc),
+            numbers: BTreeMap::new(alloc),
+        }
+    }
+
+    pub fn allocator(&self) -> &Global {
+        self.nodes.allocator()
+    }
+
+    pub fn len(&self) -> usize
+        ensures { result ≡ length self.now }
+    {
+        self.nodes.len()
+    }
+
+    /// The node of a number.
+    pub fn get(&self, number: usize) -> &N
+        requires { number < length self.now }
+        ensures { slice_get self.now number ≡ Some result.now }
+    {
+        &self.nodes[number]
+    }
+
+    /// The number of a node, if it is there.
+    pub fn find(&self, node: &N) -> Option<usize>
+        ensures { MatchOption result ((i : ℕ) → slice_get self.now i ≢ Some node.now) (λ i. slice_get self.now i ≡ Some node.now) }
+    {
+        self.numbers.get(node).copied()
+    }
+
+    /// One more node, and its number. Where memory is refused, nothing has changed.
+    pub fn push(&mut self, node: N) -> Result<usize, AllocError>
+        requires exact { (n : N) → N.cmp node n ≡ Equal → node ≡ n }
+        requires absent { (i : ℕ) → slice_get self.old i ≢ Some node }
+        ensures numbered { IfOk result (λ i. i ≡ length self.old) }
+        ensures pushed { IfOk result (λ _. self.new ≡ self.old ++ node ∷ []) }
+        ensures refused { OnErr result (self.new ≡ self.old) }
+    {
+        let number = self.nodes.len();
+        self.nodes.reserve(1)?;
+        self.numbers.insert(node, number)?;
+        self.nodes.push_reserved(node);
+        Ok(number)
+    }
+}

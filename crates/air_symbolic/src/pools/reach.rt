@@ -1,0 +1,110 @@
+//! Which expressions of a pool some roots reach.
+ghost use Rattle.std.specs.Prelude.{◌≡◌, ◌⊎◌, ◌<◌, ℕ, length, get_or, None, All, Contains, IfOk, IfErr};
+ghost use Rattle.air_symbolic.specs.Nodes.{OperandsBelow};
+ghost use Rattle.air_symbolic.specs.Pools.{IsPool};
+ghost use Rattle.air_symbolic.specs.Reach.{EachOperand, IsOperand, Marked, MarkedMore, Reached};
+
+use crate::leaves::sym_leaf::SymLeaf;
+use crate::pools::expr::{ExprId, SymbolicExpr};
+use crate::pools::pool::ExprPool;
+use air_field::RingError;
+use std::alloc::Global;
+
+// So many places, of which none is marked.
+fn unmarked<A: SymLeaf>(alloc: Global, places: usize) -> Result<Vec<Option<ExprId<A>>>, RingError>
+    ensures places { IfOk result (λ marks. length marks.items ≡ places) }
+    ensures none { IfOk result (λ marks. (i : ℕ) → get_or marks.items i None ≡ None) }
+    ensures refused { IfErr result (λ e. e ≡ RingError.Memory) }
+{
+    let mut marks = Vec::with_capacity(alloc, places)?;
+    for _place in 0..places {
+        marks.push(None)?;
+    }
+    Ok(marks)
+}
+
+// Marks an expression: its place holds it.
+fn mark<A: SymLeaf>(marks: &mut [Option<ExprId<A>>], x: ExprId<A>)
+    requires { x < length marks.old }
+    ensures more { MarkedMore (λ i. i ≡ x) marks.old marks.new }
+    ensures marked { Marked marks.new x }
+{
+    marks[x.number()] = Some(x);
+}
+
+// Marks two expressions.
+fn mark_both<A: SymLeaf>(marks: &mut [Option<ExprId<A>>], x: ExprId<A>, y: ExprId<A>)
+    requires x_in { x < length marks.old }
+    requires y_in { y < length marks.old }
+    ensures more { MarkedMore (λ i. (i ≡ x) ⊎ (i ≡ y)) marks.old marks.new }
+    ensures x_marked { Marked marks.new x }
+    ensures y_marked { Marked marks.new y }
+{
+    mark(marks, x);
+    mark(marks, y);
+}
+
+// Marks the operands of a node.
+fn mark_operands<A: SymLeaf>(marks: &mut [Option<ExprId<A>>], node: SymbolicExpr<A>)
+    requires { OperandsBelow (length marks.old) node }
+    ensures more { MarkedMore (λ i. IsOperand i node) marks.old marks.new }
+    ensures marked { EachOperand (λ i. Marked marks.new i) node }
+{
+    match node {
+        SymbolicExpr::Leaf(_) => {}
+        SymbolicExpr::Add { x, y, .. } => mark_both(marks, x, y),
+        SymbolicExpr::Sub { x, y, .. } => mark_both(marks, x, y),
+        SymbolicExpr::Neg { x, .. } => mark(marks, x),
+        SymbolicExpr::Mul { x, y, .. } => mark_both(marks, x, y),
+    }
+}
+
+// Marks each expression of the list.
+fn mark_all<A: SymLeaf>(marks: &mut [Option<ExprId<A>>], roots: &[ExprId<A>])
+    requires { All (λ x. x < length marks.old) roots.now }
+    ensures more { MarkedMore (λ i. Contains roots.now i) marks.old marks.new }
+    ensures marked { All (λ x. Marked marks.new x) roots.now }
+{
+    for root in roots {
+        mark(marks, *root);
+    }
+}
+
+// Marks what the roots reach, from the greatest number down: a node's operands have smaller numbers.
+fn mark_reached<A: SymLeaf>(
+    marks: &mut [Option<ExprId<A>>],
+    pool: &ExprPool<A>,
+    roots: &[ExprId<A>],
+)
+    requires pool { IsPool A.reads pool.now }
+    requires here { All (λ x. x < length pool.now.1) roots.now }
+    requires places { length marks.old ≡ length pool.now.1 }
+    requires none { (i : ℕ) → get_or marks.old i None ≡ None }
+    ensures { Reached (A.reads pool.now.0) pool.now.1 roots.now marks.new }
+{
+    mark_all(marks, roots);
+    let mut number = marks.len();
+    while number > 0 {
+        number -= 1;
+        if let Some(x) = marks[number] {
+            mark_operands(marks, *pool.node(x));
+        }
+    }
+}
+
+/// The expressions that the roots reach, each at the place of its number. It is refused for want of memory alone.
+pub fn reached<A: SymLeaf>(
+    alloc: Global,
+    pool: &ExprPool<A>,
+    roots: &[ExprId<A>],
+) -> Result<Vec<Option<ExprId<A>>>, RingError>
+    requires pool { IsPool A.reads pool.now }
+    requires here { All (λ x. x < length pool.now.1) roots.now }
+    ensures marked { IfOk result (λ marks.
+        Reached (A.reads pool.now.0) pool.now.1 roots.now marks.items) }
+    ensures refused { IfErr result (λ e. e ≡ RingError.Memory) }
+{
+    let mut marks = unmarked(alloc, pool.len())?;
+    mark_reached(&mut marks, pool, roots);
+    Ok(marks)
+}

@@ -1,0 +1,21 @@
+use Rattle.std.proofs.Common.{◌≡◌, ◌∙◌, length, None, Some, ap, sym}
+use Rattle.air_symbolic.specs.BaseLeaves.{base_reads}
+use Rattle.air_recording.specs.Kinds.{base_terms}
+use Rattle.air_recording.specs.Layouts.{first_past}
+use Rattle.p3_air.proofs.RecordedRoots.{below-none_past, none_past, records_zero_at}
+use Rattle.p3_air.proofs.recorded_airs.recorded_air.Goals as goal
+
+pub returns-in-Some-clause-of_an_air : goal.returns-in-Some-clause-of_an_air
+returns-in-Some-clause-of_an_air g c declared h =
+    let none = none_past g.F.Field.ring base_reads c.args.recorded.pool.0 c.args.recorded.base.items (base_terms declared) h.means in
+    let found : Some c.in-Some.id ≡ first_past (length c.args.recorded.pool.0.1) c.args.recorded.base.items = rw (c.deref.ensures.value, c.len-total.ensures, c.into_base-pool.ensures.base) at c.in-Some.ensures in
+    let clash : None ≡ Some c.in-Some.id = none ∙ sym found in
+    cc
+
+pub new-requires-clause-here : goal.new-requires-clause-here
+new-requires-clause-here g c =
+    let none : None ≡ first_past (length c.into_base-pool.result.1) c.args.recorded.base.items = rw (c.deref.ensures.value, c.len-total.ensures) at c.in_default.ensures in
+    below-none_past _ _ none
+
+pub returns-clause-of_an_air : goal.returns-clause-of_an_air
+returns-clause-of_an_air g c declared h = records_zero_at g.F.Field.ring _ _ _ _ declared (c.new.ensures.pool ∙ c.into_base-pool.ensures.base) (ap (λ v. v.items) c.new.ensures.roots) h.terms

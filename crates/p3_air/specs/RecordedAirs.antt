@@ -1,0 +1,27 @@
+-- The AIR that a recording is.
+use Rattle.std.specs.Prelude.{◌≡◌, List, length, map, Some}
+use Rattle.air_field.specs.Ring.{CommRing, itself}
+use Rattle.air_symbolic.specs.BaseLeaves.{base_reads}
+use Rattle.air_builder.specs.Assertion.{Assertion, Base}
+use Rattle.air_windows.specs.declared.errors.AirError.{AirError}
+use Rattle.air_windows.specs.declared.errors.AirError.TheVariants.{IndexPastTotal}
+use Rattle.air_recording.specs.Kinds.{base_terms}
+use Rattle.air_recording.specs.Layouts.{first_past}
+use Rattle.air_recording.specs.Recorded.{EachRecords, terms_of}
+use Rattle.air_recording.specs.declared.symbolic.record.Recorded.{Recorded}
+
+-- that each recorded base term is zero, in order
+abbrev pub zero_at_recorded : {F EF : Type 0} → Recorded F EF → List (Assertion F)
+zero_at_recorded recorded =
+    map (λ t. Base t) (terms_of base_reads recorded.pool.0 recorded.base.items)
+
+-- the first recorded base number that isn't one of the base pool
+abbrev pub RecordedAirRefuses : {F EF : Type 0} → Recorded F EF → AirError → Type 0
+RecordedAirRefuses recorded (IndexPastTotal index total) =
+    (total ≡ length recorded.pool.0.1) × (first_past total recorded.base.items ≡ Some index)
+RecordedAirRefuses recorded _ = ⊥
+
+-- each declared base term is recorded by the one that another list declares, in order
+abbrev pub RecordsBaseTerms : {F : Type 0} → CommRing F
+    → List (Assertion F) → List (Assertion F) → Type 0
+RecordsBaseTerms r recorded declared = EachRecords (itself r) (base_terms recorded) (base_terms declared)

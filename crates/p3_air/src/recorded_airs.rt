@@ -1,0 +1,90 @@
+//! A recording as an AIR.
+ghost use Rattle.std.specs.Prelude.{◌≡◌, List, IfOk, IfErr, IsOkAnd};
+ghost use Rattle.air_symbolic.specs.BaseLeaves.{base_reads};
+ghost use Rattle.air_symbolic.specs.Pools.{IsPool};
+ghost use Rattle.air_builder.specs.Assertion.{Assertion};
+ghost use Rattle.air_author.specs.Constraints.{Asserted};
+ghost use Rattle.air_author.specs.Expressions.{Lasts};
+ghost use Rattle.air_recording.specs.Layouts.{first_past};
+ghost use Rattle.air_recording.specs.Recorded.{RecordsBase};
+ghost use Rattle.p3_air.specs.RecordedAirs.{zero_at_recorded, RecordedAirRefuses, RecordsBaseTerms};
+
+use air_author::{Constraint, assert_these};
+use air_builder::{AirBuilder, AirError, BaseAir, BoundaryPublic};
+use air_field::{ExtensionField, Field};
+use air_flat::FlatAir;
+use air_recording::{Recorded, SymbolicAirBuilder};
+use air_symbolic::ExprId;
+
+/// Asserts the constraints on a builder, which is ready for more afterwards, also where they are refused. On a
+/// [`SymbolicAirBuilder`] they are recorded, and no AIR has to be written.
+pub fn record_these<AB: AirBuilder, C: Constraint<AB>>(
+    builder: &mut AB,
+    constraints: &C,
+) -> Result<(), AirError>
+    requires ready { AB.ready builder.old }
+    requires held { Lasts AB.kept (C.all_hold constraints.now) builder.old }
+    ensures ready { AB.ready builder.new }
+    ensures asserted { Asserted AB.kept AB.grew AB.missing AB.refuses builder.old builder.new result
+        (C.asserts constraints.now (λ t. t) (λ t. t)) }
+{
+    assert_these(builder, constraints)
+}
+
+/// What was recorded on a builder that is ready, handed over with its pool.
+pub fn finish_recording<F: Field, EF: ExtensionField<F>>(
+    builder: SymbolicAirBuilder<F, EF>,
+) -> Recorded<F, EF>
+    requires { ⟦<SymbolicAirBuilder<F, EF> as AirBuilder>⟧.ready builder }
+    ensures well_formed { IsPool base_reads result.pool.0 }
+    ensures pool { result.pool ≡ builder.pool }
+    ensures base { result.base ≡ builder.constraints.base }
+    ensures ext { result.ext ≡ builder.constraints.ext }
+{
+    builder.into_recorded()
+}
+
+// The first of these numbers at or past the total.
+fn first_past<A: Copy>(numbers: &[ExprId<A>], total: usize) -> Option<ExprId<A>>
+    ensures { result ≡ first_past total numbers.now }
+{
+    numbers.iter().copied().find(|id| id.number() >= total)
+}
+
+/// The AIR that declares the recorded base constraints, in order: that each recorded term is zero. Its main trace has
+/// `width` columns. It has no preprocessed table: a column of one that a recorded term names is refused by its name
+/// (`MissingEntry`) when the AIR is audited, or a row of it checked. Recorded extension constraints are left out.
+///
+/// What was recorded of an AIR is never refused, and the declared list then records the AIR's base constraints. Of numbers
+/// that were put together otherwise the first that isn't in the base pool is refused (`IndexPastTotal`).
+pub fn recorded_air<F: Field, EF: ExtensionField<F>>(
+    recorded: Recorded<F, EF>,
+    width: usize,
+    num_public_values: usize,
+    periodic: Vec<Vec<F>>,
+    cells: Vec<BoundaryPublic>,
+) -> Result<FlatAir<F>, AirError>
+    requires { IsPool base_reads recorded.pool.0 }
+    ensures declared { IfOk result (λ a.
+        ⟦<FlatAir<F> as BaseAir<F>>⟧.declared a ≡ zero_at_recorded recorded) }
+    ensures width { IfOk result (λ a. a.width ≡ width) }
+    ensures num_public_values { IfOk result (λ a. a.num_public_values ≡ num_public_values) }
+    ensures periodic { IfOk result (λ a. a.periodic ≡ periodic) }
+    ensures cells { IfOk result (λ a. a.cells ≡ cells) }
+    ensures of_an_air { (declared : List (Assertion F)) →
+        RecordsBase F.ring EF.over base_reads recorded.pool.0 recorded.base.items declared →
+        IsOkAnd result (λ a.
+        RecordsBaseTerms F.ring (⟦<FlatAir<F> as BaseAir<F>>⟧.declared a) declared) }
+    ensures refused { IfErr result (RecordedAirRefuses recorded) }
+{
+    let Recorded { pool, base, .. } = recorded;
+    let pool = pool.into_base();
+    let total = pool.len();
+    if let Some(id) = first_past(&base, total) {
+        return Err(AirError::IndexPastTotal {
+            index: id.number(),
+            total,
+        });
+    }
+    Ok(FlatAir::new(pool, base, width, num_public_values, periodic, cells))
+}
