@@ -17,7 +17,7 @@ use Rattle.air_wire.specs.declared.errors.FlatError.{FlatError}
 use Rattle.air_wire.specs.declared.errors.FlatError.TheVariants as faults
 use Rattle.air_flat_input.specs.Grammar.{list_of, needed, optional}
 use Rattle.air_flat_input.specs.Members.{whole_number, ElementFault, element, constraint, cell, SpellsCap, cap, MemberValues, members}
-use Rattle.air_flat_input.specs.Readers.{formed, tree, trees, elements, columns, cell_read, cells, cap_of, width_member, elements_member, constraints_member, periodic_member, boundary_member, cap_member, members_read, Reader}
+use Rattle.air_flat_input.specs.Readers.{formed, tree, trees, elements, columns, cell_read, cells, cap_of, width_member, elements_member, constraints_member, periodic_member, boundary_member, cap_member, weight_member, members_read, Reader}
 use Rattle.air_flat_input.proofs.Agreement.{Agrees, by_form_agrees, list_agrees, needed_agrees, optional_agrees, both_agree, agrees_as, both_read, failed, err_is}
 
 whole_again : (d : Data) (n : ℕ) → IsWhole n d → whole d ≡ Some n
@@ -132,9 +132,13 @@ cap_member_agrees : Agrees (optional (codes "cap") None cap) cap_member
 unfolding cap_member
 cap_member_agrees = optional_agrees (codes "cap") cap (λ d. formed (cap_of d)) cap_agrees None
 
+weight_agrees : Agrees (optional (codes "transition_weight") 0 whole_number) weight_member
+unfolding weight_member
+weight_agrees = optional_agrees (codes "transition_weight") whole_number (λ d. formed (whole d)) whole_agrees 0
+
 -- the readers in turn, each with all that follow it
 abbrev in_turn : Reader MemberValues
-in_turn = both_read width_member (both_read (elements_member (codes "main")) (both_read (elements_member (codes "public_values")) (both_read constraints_member (both_read periodic_member (both_read boundary_member cap_member)))))
+in_turn = both_read width_member (both_read (elements_member (codes "main")) (both_read (elements_member (codes "public_values")) (both_read constraints_member (both_read periodic_member (both_read boundary_member (both_read cap_member weight_member))))))
 
 turns_agree : Agrees members in_turn
 turns_agree =
@@ -143,11 +147,12 @@ turns_agree =
     (both_agree _ (elements_member (codes "public_values")) (numbers_agree (codes "public_values")) _ _
     (both_agree _ constraints_member constraints_agree _ _
     (both_agree _ periodic_member periodic_agrees _ _
-    (both_agree _ boundary_member boundary_agrees _ cap_member cap_member_agrees)))))
+    (both_agree _ boundary_member boundary_agrees _ _
+    (both_agree _ cap_member cap_member_agrees _ weight_member weight_agrees))))))
 
-module _ {P Q R S T U V : Type 0} where
-  abbrev in_a_row : Result P FlatError → Result Q FlatError → Result R FlatError → Result S FlatError → Result T FlatError → Result U FlatError → Result V FlatError → Result (P × (Q × (R × (S × (T × (U × V)))))) FlatError
-  in_a_row p q r s t u v = do
+module _ {P Q R S T U V W : Type 0} where
+  abbrev in_a_row : Result P FlatError → Result Q FlatError → Result R FlatError → Result S FlatError → Result T FlatError → Result U FlatError → Result V FlatError → Result W FlatError → Result (P × (Q × (R × (S × (T × (U × (V × W))))))) FlatError
+  in_a_row p q r s t u v w = do
     x ← p
     y ← q
     z ← r
@@ -155,22 +160,24 @@ module _ {P Q R S T U V : Type 0} where
     b ← t
     c ← u
     e ← v
-    Ok (x, (y, (z, (a, (b, (c, e))))))
+    g ← w
+    Ok (x, (y, (z, (a, (b, (c, (e, g)))))))
 
-  same_row : (d : Data) (p : Result P FlatError) (q : Result Q FlatError) (r : Result R FlatError) (s : Result S FlatError) (t : Result T FlatError) (u : Result U FlatError) (v : Result V FlatError)
-      → in_a_row p q r s t u v ≡ both_read (λ _. p) (both_read (λ _. q) (both_read (λ _. r) (both_read (λ _. s) (both_read (λ _. t) (both_read (λ _. u) (λ _. v)))))) d
-  same_row d (Err f) q r s t u v = refl
-  same_row d (Ok x) (Err f) r s t u v = refl
-  same_row d (Ok x) (Ok y) (Err f) s t u v = refl
-  same_row d (Ok x) (Ok y) (Ok z) (Err f) t u v = refl
-  same_row d (Ok x) (Ok y) (Ok z) (Ok a) (Err f) u v = refl
-  same_row d (Ok x) (Ok y) (Ok z) (Ok a) (Ok b) (Err f) v = refl
-  same_row d (Ok x) (Ok y) (Ok z) (Ok a) (Ok b) (Ok c) (Err f) = refl
-  same_row d (Ok x) (Ok y) (Ok z) (Ok a) (Ok b) (Ok c) (Ok e) = refl
+  same_row : (d : Data) (p : Result P FlatError) (q : Result Q FlatError) (r : Result R FlatError) (s : Result S FlatError) (t : Result T FlatError) (u : Result U FlatError) (v : Result V FlatError) (w : Result W FlatError)
+      → in_a_row p q r s t u v w ≡ both_read (λ _. p) (both_read (λ _. q) (both_read (λ _. r) (both_read (λ _. s) (both_read (λ _. t) (both_read (λ _. u) (both_read (λ _. v) (λ _. w))))))) d
+  same_row d (Err f) q r s t u v w = refl
+  same_row d (Ok x) (Err f) r s t u v w = refl
+  same_row d (Ok x) (Ok y) (Err f) s t u v w = refl
+  same_row d (Ok x) (Ok y) (Ok z) (Err f) t u v w = refl
+  same_row d (Ok x) (Ok y) (Ok z) (Ok a) (Err f) u v w = refl
+  same_row d (Ok x) (Ok y) (Ok z) (Ok a) (Ok b) (Err f) v w = refl
+  same_row d (Ok x) (Ok y) (Ok z) (Ok a) (Ok b) (Ok c) (Err f) w = refl
+  same_row d (Ok x) (Ok y) (Ok z) (Ok a) (Ok b) (Ok c) (Ok e) (Err f) = refl
+  same_row d (Ok x) (Ok y) (Ok z) (Ok a) (Ok b) (Ok c) (Ok e) (Ok g) = refl
 
 same_read : (d : Data) → members_read d ≡ in_turn d
 unfolding members_read
-same_read d = same_row d (width_member d) (elements_member (codes "main") d) (elements_member (codes "public_values") d) (constraints_member d) (periodic_member d) (boundary_member d) (cap_member d)
+same_read d = same_row d (width_member d) (elements_member (codes "main") d) (elements_member (codes "public_values") d) (constraints_member d) (periodic_member d) (boundary_member d) (cap_member d) (weight_member d)
 
 pub members_agree : Agrees members members_read
 members_agree = agrees_as members in_turn members_read same_read turns_agree

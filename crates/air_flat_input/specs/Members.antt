@@ -39,9 +39,10 @@ SpellsCap d (Some n) = IsWhole n d
 abbrev pub cap : Grammar (Option ℕ)
 cap = by_form SpellsCap
 
--- the width, the trace's values, the public values, the constraints, the periodic columns, the boundary cells, the cap
+-- the width, the trace's values, the public values, the constraints, the periodic columns, the boundary cells, the cap,
+-- the weight of the transition selector
 abbrev pub MemberValues : Type 0
-MemberValues = ℕ × (List BabyBear × (List BabyBear × (List (Tree (BaseLeaf BabyBear)) × (List (List BabyBear) × (List BoundaryPublic × Option ℕ)))))
+MemberValues = ℕ × (List BabyBear × (List BabyBear × (List (Tree (BaseLeaf BabyBear)) × (List (List BabyBear) × (List BoundaryPublic × (Option ℕ × ℕ))))))
 
 abbrev pub members : Grammar MemberValues
 members =
@@ -51,4 +52,5 @@ members =
     (both (needed (codes "constraints") (list_of constraint))
     (both (optional (codes "periodic") [] (list_of (list_of element)))
     (both (optional (codes "boundary") [] (list_of cell))
-    (optional (codes "cap") None cap))))))
+    (both (optional (codes "cap") None cap)
+    (optional (codes "transition_weight") 0 whole_number)))))))

@@ -87,6 +87,9 @@ boundary_member d = optional_read (codes "boundary") [] cells d
 unfoldable pub cap_member : Reader (Option ℕ)
 cap_member d = optional_read (codes "cap") None (λ c. formed (cap_of c)) d
 
+unfoldable pub weight_member : Reader ℕ
+weight_member d = optional_read (codes "transition_weight") 0 (λ c. formed (whole c)) d
+
 unfoldable pub members_read : Reader MemberValues
 members_read d = do
   width ← width_member d
@@ -96,4 +99,5 @@ members_read d = do
   periodic ← periodic_member d
   boundary ← boundary_member d
   cap ← cap_member d
-  Ok (width, (main, (public_values, (constraints, (periodic, (boundary, cap))))))
+  weight ← weight_member d
+  Ok (width, (main, (public_values, (constraints, (periodic, (boundary, (cap, weight)))))))

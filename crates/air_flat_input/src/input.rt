@@ -12,7 +12,7 @@ use air_windows::{AirError, BoundaryPublic};
 use serde_json::Value;
 use std::alloc::Global;
 
-/// An AIR's constraints, public values, periodic columns and boundary cells, with a trace and a cap.
+/// An AIR's constraints, public values, periodic columns and boundary cells, with a trace, a cap and a domain's weight.
 #[derive(Drop)]
 pub struct FlatInput {
     /// The expressions of the constraints.
@@ -28,12 +28,14 @@ pub struct FlatInput {
     pub cells: Vec<BoundaryPublic>,
     /// How many failures are wanted at most.
     pub cap: Option<usize>,
+    /// What the transition selector weighs in the domain; 0 where it is linear.
+    pub transition_weight: usize,
 }
 
 /// Reads the object: its members in the order `main_width`, `main` (row after row), `public_values`, `constraints`
-/// (lists of nodes), `periodic`, `boundary` and `cap`, of which the last three may be absent, and `cap` may be null.
-/// Any other value is refused with the first fault in this order; values that fill no rows of the width are `Ragged`
-/// after all members. Other members are ignored.
+/// (lists of nodes), `periodic`, `boundary`, `cap` and `transition_weight`, of which the last four may be absent, and
+/// `cap` may be null; no weight is the weight 0. Any other value is refused with the first fault in this order; values
+/// that fill no rows of the width are `Ragged` after all members. Other members are ignored.
 pub fn flat_input_from(alloc: Global, value: &Value) -> Result<FlatInput, AirError>
     ensures pool { IfOk result (λ input. IsPool base_reads input.pool) }
     ensures roots { IfOk result (λ input. All (λ i. i < length input.pool.1) input.roots.items) }
@@ -50,6 +52,7 @@ pub fn flat_input_from(alloc: Global, value: &Value) -> Result<FlatInput, AirErr
         periodic,
         cells,
         cap,
+        transition_weight,
     } = members;
     let main = RowMajorMatrix::new(main, main_width)?;
     Ok(FlatInput {
@@ -60,5 +63,6 @@ pub fn flat_input_from(alloc: Global, value: &Value) -> Result<FlatInput, AirErr
         periodic,
         cells,
         cap,
+        transition_weight,
     })
 }

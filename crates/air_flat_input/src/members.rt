@@ -6,7 +6,7 @@ ghost use Rattle.air_symbolic.specs.BaseLeaves.{base_reads, base_grows};
 ghost use Rattle.air_symbolic.specs.Pools.{IsPool, Grown, tree_at};
 ghost use Rattle.air_wire.specs.Results.{Gives};
 ghost use Rattle.air_wire.specs.declared.errors.FlatError.TheVariants.{Shape};
-ghost use Rattle.air_flat_input.specs.Readers.{width_member, elements_member, constraints_member, periodic_member, boundary_member, cap_of, cap_member, members_read};
+ghost use Rattle.air_flat_input.specs.Readers.{width_member, elements_member, constraints_member, periodic_member, boundary_member, cap_of, cap_member, weight_member, members_read};
 ghost use Rattle.air_flat_input.specs.Seen.{seen_members};
 
 use crate::cells::cells_from;
@@ -30,6 +30,7 @@ pub(crate) struct Members {
     pub periodic: Vec<Vec<BabyBear>>,
     pub cells: Vec<BoundaryPublic>,
     pub cap: Option<usize>,
+    pub transition_weight: usize,
 }
 
 fn needed<'a>(value: &'a Value, name: &str) -> Result<&'a Value, FlatError>
@@ -109,6 +110,16 @@ fn cap_from(value: &Value) -> Result<Option<usize>, FlatError>
     }
 }
 
+#[tactic(auto, unfolding(crate::specs::Readers::weight_member))]
+fn weight_from(value: &Value) -> Result<usize, FlatError>
+    ensures { Gives (λ n. n) result (weight_member (view value.now)) }
+{
+    match value.get("transition_weight") {
+        Some(weight) => whole(weight).ok_or(FlatError::Shape { at: 0 }),
+        None => Ok(0),
+    }
+}
+
 /// The members that the object spells, or the first fault among them.
 #[tactic(auto, unfolding(crate::specs::Readers::members_read))]
 pub(crate) fn members_from(alloc: Global, value: &Value) -> Result<Members, FlatError>
@@ -124,6 +135,7 @@ pub(crate) fn members_from(alloc: Global, value: &Value) -> Result<Members, Flat
     let periodic = periodic_from(alloc, value)?;
     let cells = boundary_from(alloc, value)?;
     let cap = cap_from(value)?;
+    let transition_weight = weight_from(value)?;
     Ok(Members {
         main_width,
         main,
@@ -133,5 +145,6 @@ pub(crate) fn members_from(alloc: Global, value: &Value) -> Result<Members, Flat
         periodic,
         cells,
         cap,
+        transition_weight,
     })
 }

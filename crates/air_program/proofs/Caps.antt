@@ -1,11 +1,15 @@
--- Caps in decimal digits.
-use Rattle.std.proofs.Common.{◌≡◌, ◌≢◌, ℕ, ◌<◌, ◌^◌, Bool, true, false, ◌&&◌, if◌then◌else◌, List, length, get_or, Some, None, Result, Ok, Err, refl, ap, ◌∙◌}
+-- Caps in decimal digits, and weights, which are such digits behind `w=`.
+use Rattle.std.proofs.Common.{◌≡◌, ◌≢◌, ℕ, ◌<◌, ◌^◌, Bool, true, false, ◌&&◌, if◌then◌else◌, ◌++◌, List, length, drop, get_or, codes, Some, None, Result, Ok, Err, refl, sym, ap, subst, ◌∙◌}
 use Rattle.std.specs.Str.{all_ascii_digits}
 use Rattle.std.specs.Str.Parse.{digits_value, ParsesUnsigned}
 use Rattle.std.proofs.lemmas.Bool.{lt-ltb, ltb-true}
 use Rattle.std.proofs.lemmas.Result.{OkIff-at_ok, OkIff-at_err}
 use Rattle.std.proofs.lemmas.Str.Parse.{IsNumeralModel, numerals_by_value, tells_all_ascii_digits, parse_plain}
-use Rattle.air_program.specs.Commands.{cap_of}
+use Rattle.std.specs.List.{starts_with}
+use Rattle.std.specs.Prelude.{◌==◌}
+use Rattle.std.specs.Str.Pattern.{FindsTextPrefix, StripsPrefix}
+use Rattle.std.proofs.lemmas.Str.Pattern.{starts_text}
+use Rattle.air_program.specs.Commands.{cap_of, weight_of}
 
 model : IsNumeralModel (λ ds. all_ascii_digits ds ≡ true) (digits_value 10)
 model = numerals_by_value (λ ds. all_ascii_digits ds ≡ true) tells_all_ascii_digits
@@ -35,3 +39,19 @@ module _ {E : Type 0} (word : List ℕ) (r : Result ℕ E) (parsed : ParsesUnsig
 
   pub no_cap_parsed : (e : E) → r ≡ Err e → None ≡ cap_of word
   no_cap_parsed e is = no_cap word (OkIff-at_err r _ _ e (parse_plain model 64 word r parsed plain) is)
+
+-- What is left of a word without `w=` at its front is read as a cap is.
+module _ (word : List ℕ) where
+  abbrev starts : Bool
+  starts = starts_with (λ a b. a == b) word (codes "w=")
+
+  pub weight_found : (rest : List ℕ) → StripsPrefix (FindsTextPrefix (codes "w=")) word rest → cap_of rest ≡ weight_of word
+  weight_found rest h =
+      let split : word ≡ codes "w=" ++ drop 2 word = subst (λ k. word ≡ codes "w=" ++ drop k word) h.1.0 h.1.1 in
+      let found : true ≡ starts = starts_text true (codes "w=") word (2, (refl, split, h.1.2), h.1.2) in
+      rw (← found, h.2, h.1.0) refl
+
+  pub no_weight : FindsTextPrefix (codes "w=") word None → None ≡ weight_of word
+  no_weight lacks =
+      let found : false ≡ starts = starts_text false (codes "w=") word lacks in
+      rw (← found) refl

@@ -1,5 +1,6 @@
--- On a trace of two columns with three public values Fibonacci is refused for want of memory alone.
-use Rattle.std.proofs.Common.{◌≡◌, ℕ, ◌+◌, ◌<◌, ◌≤◌, ◌^◌, List, [], ◌∷◌, ◌++◌, length, refl, arith, Bool, Option, inl, inr}
+-- On a trace of two columns with three public values Fibonacci is refused for want of memory alone, or for a degree of a
+-- domain whose weight is great.
+use Rattle.std.proofs.Common.{◌≡◌, ◌⊎◌, ℕ, zero, suc, ◌+◌, ◌<◌, ◌≤◌, ◌^◌, List, [], ◌∷◌, ◌++◌, length, refl, arith, Bool, Option, inl, inr}
 use Rattle.std.proofs.Math.Nat.{max-le, le-max_left, le-max_right}
 use Rattle.air_field.specs.Ring.{CommRing, Over, itself}
 use Rattle.air_field.specs.Term.{Leaf, permutation, Term}
@@ -23,7 +24,7 @@ use Rattle.air_recording.specs.Kinds.{base_terms, ext_terms}
 use Rattle.air_recording.specs.Layouts.{layout_shape, plain_layout}
 use Rattle.air_recording.specs.Recorded.{EachRecords}
 use Rattle.air_recording.specs.Recording.{IsOver}
-use Rattle.p3_air.specs.Audits.{AuditRefusesUnder}
+use Rattle.p3_air.specs.Audits.{AuditRefusesUnder, IsDegreePast}
 use Rattle.air_program.specs.Fibonacci.{fibonacci}
 
 part_degree : {F : Type 0} (w : Leaf → ℕ) {t u : Term F} → Part t u → degree_by w t ≤ degree_by w u
@@ -121,10 +122,17 @@ module _ (F : Type 0) where
   degree_fits r n us vs b m k past =
       absurd (omega (arith, b, past, both_below (itself r) (trace_weight n []) (n + n + 1) us (base_terms fibonacci) vs (ext_terms fibonacci) m k (trace_below n) (none_below n)))
 
-  -- and so an audit refuses memory alone
-  pub audit_refuses : (r : CommRing F) (eq : F → F → Bool) (main : Grid F) (public : List F) (cap : Option ℕ) (e : AirError) → main.width ≡ 2 → length public ≡ 3 → length main.rows < 2 ^ 63
-      → AuditRefusesUnder r eq (plain_layout 2 3) (given fibonacci nothing_beside main public) cap 0 e → e ≡ Memory
-  audit_refuses r eq main public cap e w p b (inl recording) = recording_refuses e recording
-  audit_refuses r eq main public cap e w p b (inr (there, inl check)) = check_refuses main public e w p (plain_refusal r eq fibonacci main public cap e check)
-  audit_refuses r eq main public cap e w p b (inr (there, inr past)) =
-      absurd (degree_fits r (length main.rows) past.1.base past.1.ext b past.1.base_recorded past.1.ext_recorded past.1.past)
+  -- the only degree that may pass `usize` is one of a domain whose weight isn't 0
+  some_weight : (r : CommRing F) (eq : F → F → Bool) (main : Grid F) (public : List F) (cap : Option ℕ) (w : ℕ) → length main.rows < 2 ^ 63
+      → IsDegreePast r eq (given fibonacci nothing_beside main public) cap w → 0 < w
+  some_weight r eq main public cap zero b past = absurd (degree_fits r (length main.rows) past.base past.ext b past.base_recorded past.ext_recorded past.past)
+  some_weight r eq main public cap (suc w) b past = omega arith
+
+  -- and so an audit refuses memory alone, or such a degree
+  pub audit_refuses : (r : CommRing F) (eq : F → F → Bool) (main : Grid F) (public : List F) (cap : Option ℕ) (w : ℕ) (e : AirError) → main.width ≡ 2 → length public ≡ 3 → length main.rows < 2 ^ 63
+      → AuditRefusesUnder r eq (plain_layout 2 3) (given fibonacci nothing_beside main public) cap w e
+      → (e ≡ Memory) ⊎ ((e ≡ DegreeOverflow) × ((0 < w) × IsDegreePast r eq (given fibonacci nothing_beside main public) cap w))
+  audit_refuses r eq main public cap w e wide three b (inl recording) = inl (recording_refuses e recording)
+  audit_refuses r eq main public cap w e wide three b (inr (there, inl check)) = inl (check_refuses main public e wide three (plain_refusal r eq fibonacci main public cap e check))
+  audit_refuses r eq main public cap w e wide three b (inr (there, inr past)) =
+      inr (past.0, (some_weight r eq main public cap w b past.1, past.1))

@@ -31,6 +31,6 @@ module _ (eq : BabyBear → BabyBear → Bool) (bytes : List ℕ) where
   ]
 
   -- what an audit found is the answer
-  pub value_answered : {E : Type 0} (r : Result (ℕ × String Global) E) (input : FlatInput) (f : Found) → Spells bytes input → AuditFinds eq (given_flat input) input.cap f → IfOk r (λ p. p.0 ≡ findings_status f) → IfOk r (λ p. IsFindingsText f (string_bytes p.1)) → IfOk r (λ p. IsFlatAnswer eq bytes p.0 (string_bytes p.1))
-  value_answered (Ok p) input f spelt finds s t = inr (spelt.0, spelt.1, inl (f, (input, spelt.2, finds), s, t))
+  pub value_answered : {E : Type 0} (r : Result (ℕ × String Global) E) (input : FlatInput) (f : Found) → Spells bytes input → AuditFinds eq (given_flat input) input.cap input.transition_weight f → IfOk r (λ p. p.0 ≡ findings_status f) → IfOk r (λ p. IsFindingsText f (string_bytes p.1)) → IfOk r (λ p. IsFlatAnswer eq bytes p.0 (string_bytes p.1))
+  value_answered (Ok p) input f spelt finds s t = inr (spelt.0, spelt.1, inl (input, spelt.2, (f, finds, s, t)))
   value_answered (Err _) input f spelt finds s t = tt

@@ -1,11 +1,11 @@
 -- What an audit finds, and what answers a whole input that is a trace of Fibonacci.
-use Rattle.std.specs.Prelude.{◌≡◌, ℕ, List, [], ◌∷◌, codes, Bool, Option, Some, None}
+use Rattle.std.specs.Prelude.{◌≡◌, ◌⊎◌, ◌<◌, ℕ, List, [], ◌∷◌, codes, Bool, Option, Some, None}
 use Rattle.air_field.specs.Grid.{Grid, grid_of}
 use Rattle.air_field.specs.Modulo.{baby_bear_ring}
 use Rattle.air_field.specs.declared.fields.baby_bear.BabyBear.{BabyBear}
 use Rattle.air_builder.specs.Beside.{nothing_beside}
 use Rattle.air_report.specs.Given.{Given, given}
-use Rattle.p3_air.specs.Audits.{IsAuditUnder}
+use Rattle.p3_air.specs.Audits.{IsAuditUnder, IsDegreePast}
 use Rattle.p3_air.specs.declared.audit.Audit.{Audit}
 use Rattle.air_program.specs.Fibonacci.{fibonacci}
 use Rattle.air_program.specs.Parsing.{residues}
@@ -20,18 +20,39 @@ own_coefficients x = x ∷ []
 abbrev pub found_by : Audit BabyBear → Found
 found_by audit = found (record { degree = audit.degree; report = audit.report })
 
--- What an audit under a cap, its domain's transition selector linear, finds of what is given: an AIR's declared list, what it has beside the trace, and the trace.
-pub record AuditFinds (eq : BabyBear → BabyBear → Bool) (g : Given BabyBear) (cap : Option ℕ) (f : Found) : Type 0 where
+-- What an audit under a cap, in a domain of weight w, finds of what is given: an AIR's declared
+-- list, what it has beside the trace, and the trace.
+pub record AuditFinds (eq : BabyBear → BabyBear → Bool) (g : Given BabyBear) (cap : Option ℕ) (w : ℕ) (f : Found) : Type 0 where
   pub audit : Audit BabyBear
-  pub is_audit : IsAuditUnder baby_bear_ring eq own_coefficients g cap 0 audit
+  pub is_audit : IsAuditUnder baby_bear_ring eq own_coefficients g cap w audit
   pub found_is : f ≡ found_by audit
 
 -- Fibonacci on public values and a trace, with nothing beside it
 abbrev pub given_fibonacci : Grid BabyBear → List BabyBear → Given BabyBear
 given_fibonacci main public = given fibonacci nothing_beside main public
 
--- `Syntax` where the input isn't in the grammar, else the text and the status of what is found
-abbrev pub IsAnswerTo : (BabyBear → BabyBear → Bool) → Option ℕ → Option (List ℕ × List ℕ) → ℕ → List ℕ → Type 0
-IsAnswerTo eq cap None status text = IsRefusal (codes "Syntax") status text
-IsAnswerTo eq cap (Some p) status text = (public : List BabyBear) × (values : List BabyBear) × (f : Found)
-    × (residues public ≡ p.0) × (residues values ≡ p.1) × AuditFinds eq (given_fibonacci (grid_of 2 values) public) cap f × (status ≡ findings_status f) × IsFindingsText f text
+-- the text and the status of what an audit finds
+abbrev pub TellsFound : (BabyBear → BabyBear → Bool)
+    → Given BabyBear → Option ℕ → ℕ → ℕ → List ℕ → Type 0
+TellsFound eq g cap w status text =
+    (f : Found) × AuditFinds eq g cap w f × (status ≡ findings_status f) × IsFindingsText f text
+
+-- a recorded degree passes `usize`, in a domain whose weight isn't 0
+abbrev pub PassesDegree : (BabyBear → BabyBear → Bool) → Given BabyBear → Option ℕ → ℕ → Type 0
+PassesDegree eq g cap w = (0 < w) × IsDegreePast baby_bear_ring eq g cap w
+
+-- what is found, or the name of a degree that passes `usize`
+abbrev pub AnswersGiven : (BabyBear → BabyBear → Bool)
+    → Given BabyBear → Option ℕ → ℕ → ℕ → List ℕ → Type 0
+AnswersGiven eq g cap w status text =
+    TellsFound eq g cap w status text
+    ⊎ (PassesDegree eq g cap w × IsRefusal (codes "DegreeOverflow") status text)
+
+-- `Syntax` where the input isn't in the grammar, else what answers Fibonacci on its trace
+abbrev pub IsAnswerTo : (BabyBear → BabyBear → Bool)
+    → Option ℕ → ℕ → Option (List ℕ × List ℕ) → ℕ → List ℕ → Type 0
+IsAnswerTo eq cap w None status text = IsRefusal (codes "Syntax") status text
+IsAnswerTo eq cap w (Some p) status text =
+    (public : List BabyBear) × (values : List BabyBear)
+    × (residues public ≡ p.0) × (residues values ≡ p.1)
+    × AnswersGiven eq (given_fibonacci (grid_of 2 values) public) cap w status text

@@ -1,5 +1,6 @@
 -- The words that the program knows.
-use Rattle.std.specs.Prelude.{Bool, true, false, ◌&&◌, nat_lt, ◌^◌, length, ℕ, List, [], ◌∷◌, codes, bytes_eq, if◌then◌else◌, Option, Some, None, option_map, option_and_then}
+use Rattle.std.specs.Prelude.{Bool, true, false, ◌&&◌, nat_lt, ◌^◌, length, ℕ, List, [], ◌∷◌, codes, bytes_eq, ◌==◌, drop, if◌then◌else◌, Option, Some, None, option_map, option_and_then}
+use Rattle.std.specs.List.{starts_with}
 use Rattle.std.specs.Str.{all_ascii_digits}
 use Rattle.std.specs.Str.Parse.{digits_value}
 use Rattle.air_program.specs.declared.commands.Command.{Command}
@@ -17,27 +18,45 @@ command_of word =
 abbrev pub is_cap : List ℕ → Bool
 is_cap word = nat_lt 0 (length word) && (all_ascii_digits word && nat_lt (digits_value 10 word) (2 ^ 64))
 
--- the value of the second word's digits
+-- the value of a cap's digits
 abbrev pub cap_of : List ℕ → Option ℕ
 cap_of word = if is_cap word then Some (digits_value 10 word) else None
 
--- an audit of the command's AIR on a trace
-abbrev pub trace : Option ℕ → Command → Request
-trace cap command = requests.Trace command cap
+-- the value of the digits behind `w=`, by the rule of a cap
+abbrev pub weight_of : List ℕ → Option ℕ
+weight_of word =
+    if starts_with (λ a b. a == b) word (codes "w=") then cap_of (drop 2 word) else None
+
+-- an audit of the command's AIR on a trace, under the cap if there is one, in a domain of weight w
+abbrev pub trace : Option ℕ → ℕ → Command → Request
+trace cap w command = requests.Trace command cap w
+
+-- behind a command one word: a weight, and there is no cap; or else a cap, and the weight is 0
+abbrev pub setting_of : Command → List ℕ → Option ℕ → Option Request
+setting_of command word None = option_map (λ n. trace (Some n) 0 command) (cap_of word)
+setting_of command word (Some w) = Some (trace None w command)
+
+-- behind a command two words: a cap and then a weight
+abbrev pub settings_of : Command → List ℕ → List ℕ → Option Request
+settings_of command cap weight =
+    option_and_then
+    (λ n. option_map (λ w. trace (Some n) w command) (weight_of weight)) (cap_of cap)
 
 -- what a word by itself asks for
 abbrev pub word_request : List ℕ → Option Request
 word_request word =
     if bytes_eq word (codes "flat") then Some requests.Flat else
-    option_map (trace None) (command_of word)
+    option_map (trace None 0) (command_of word)
 
--- a word by itself, or a command and behind it a cap
+-- a word by itself, or a command and behind it a cap, a weight or both
 abbrev pub request_of : List (List ℕ) → Option Request
 request_of [] = None
 request_of (word ∷ []) = word_request word
-request_of (word ∷ cap ∷ []) =
-    option_and_then (λ command. option_map (λ n. trace (Some n) command) (cap_of cap)) (command_of word)
-request_of (word ∷ cap ∷ more ∷ words) = None
+request_of (word ∷ setting ∷ []) =
+    option_and_then (λ command. setting_of command setting (weight_of setting)) (command_of word)
+request_of (word ∷ cap ∷ weight ∷ []) =
+    option_and_then (λ command. settings_of command cap weight) (command_of word)
+request_of (word ∷ cap ∷ weight ∷ more ∷ words) = None
 
 -- the command labels what is asserted
 abbrev pub has_labels : Command → Bool

@@ -12,9 +12,8 @@ use Rattle.air_recording.specs.declared.layouts.air_layout.AirLayout.{AirLayout}
 use Rattle.air_report.specs.Given.{Given, given}
 use Rattle.air_windows.specs.declared.errors.AirError.{AirError}
 use Rattle.p3_air.specs.Audits.{AuditRefusesUnder, own_layout}
-use Rattle.air_program.specs.Answer.{AuditFinds}
+use Rattle.air_program.specs.Answer.{TellsFound}
 use Rattle.air_program.specs.Refusals.{IsRefusal, air_name}
-use Rattle.air_program.specs.Texts.{Found, IsFindingsText, findings_status}
 
 -- ---- from bytes to a value
 
@@ -48,15 +47,16 @@ abbrev pub flat_layout : FlatInput → AirLayout
 flat_layout input =
     own_layout (flat_beside input) input.main.width (length input.public_values.items)
 
--- what an audit finds of the input that a value spells
-abbrev pub FindsOfValue : (BabyBear → BabyBear → Bool) → Data → Found → Type 0
-FindsOfValue eq d f =
-    (input : FlatInput) × SpellsInput d input × AuditFinds eq (given_flat input) input.cap f
+-- the text and the status of what its audit finds, under its cap and in a domain of its weight
+abbrev pub TellsInput : (BabyBear → BabyBear → Bool) → FlatInput → ℕ → List ℕ → Type 0
+TellsInput eq input status text =
+    TellsFound eq (given_flat input) input.cap input.transition_weight status text
 
 -- what its audit refuses
 abbrev pub AuditRefusesInput : (BabyBear → BabyBear → Bool) → FlatInput → AirError → Type 0
 AuditRefusesInput eq input e =
-    AuditRefusesUnder baby_bear_ring eq (flat_layout input) (given_flat input) input.cap 0 e
+    AuditRefusesUnder baby_bear_ring eq (flat_layout input) (given_flat input)
+    input.cap input.transition_weight e
 
 -- the first refusal: of the reading and then of the matrix, where the value spells no input,
 -- else of the audit
@@ -67,10 +67,10 @@ RefusesValue eq d e =
 
 -- ---- the answer
 
--- the text and the status of what is found, or the name of the first refusal
+-- what is found of the input that the value spells, or the name of the first refusal
 abbrev pub AnswersValue : (BabyBear → BabyBear → Bool) → Data → ℕ → List ℕ → Type 0
 AnswersValue eq d status text =
-    ((f : Found) × FindsOfValue eq d f × (status ≡ findings_status f) × IsFindingsText f text)
+    ((input : FlatInput) × SpellsInput d input × TellsInput eq input status text)
     ⊎ ((e : AirError) × RefusesValue eq d e × IsRefusal (air_name e) status text)
 
 -- `Json` where the bytes stand for no value

@@ -12,7 +12,7 @@ use Rattle.air_program.specs.declared.refusals.Refusal.TheVariants as refusals
 
 -- the answer to an input, where eq tells equal elements
 abbrev pub Answers : (BabyBear → BabyBear → Bool) → Request → List ℕ → ℕ → List ℕ → Type 0
-Answers eq (Trace command cap) input status text = IsAnswerTo eq cap (parse input) status text
+Answers eq (Trace command cap w) input status text = IsAnswerTo eq cap w (parse input) status text
 Answers eq Flat input status text = IsFlatAnswer eq input status text
 
 -- a refusal is the answer, unless memory ran out

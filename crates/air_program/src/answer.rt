@@ -1,6 +1,6 @@
 //! The answer to a whole input.
 
-ghost use Rattle.std.specs.Prelude.{◌≡◌, ◌%◌, ◌<◌, ◌^◌, length, vec_len, IfOk, IfErr, string_bytes};
+ghost use Rattle.std.specs.Prelude.{◌≡◌, ◌⊎◌, ◌%◌, ◌<◌, ◌^◌, length, vec_len, IfOk, IfErr, string_bytes};
 ghost use Rattle.air_field.specs.Grid.{grid_of};
 ghost use Rattle.air_field.specs.Modulo.{baby_bear_ring};
 ghost use Rattle.air_report.specs.Given.{given};
@@ -8,7 +8,7 @@ ghost use Rattle.p3_air.specs.Audits.{AuditRefusesUnder, own_layout};
 ghost use Rattle.air_program.specs.Texts.{found, findings_status, IsFindingsText};
 ghost use Rattle.air_program.specs.Commands.{has_labels, trace};
 ghost use Rattle.air_program.specs.Grammar.{parse};
-ghost use Rattle.air_program.specs.Answer.{AuditFinds, given_fibonacci, IsAnswerTo};
+ghost use Rattle.air_program.specs.Answer.{AuditFinds, given_fibonacci, PassesDegree, IsAnswerTo};
 ghost use Rattle.air_program.specs.Requests.{Answers, MayRefuse};
 
 use crate::commands::{Command, Request};
@@ -34,17 +34,6 @@ fn trace_of(values: Vec<BabyBear>) -> RowMajorMatrix<BabyBear>
     }
 }
 
-/// What is printed for a refusal of Fibonacci on a trace that fits it: nothing but memory can be wanting.
-fn refusal_of(error: AirError) -> Refusal
-    requires { error ≡ AirError.Memory }
-    ensures { result ≡ Refusal.Memory }
-{
-    match error {
-        AirError::Memory => Refusal::Memory,
-        _ => unreachable!(),
-    }
-}
-
 /// The AIR that a command is about.
 fn air_of(command: Command) -> Fibonacci
     ensures { result.is_named ≡ has_labels command }
@@ -67,15 +56,17 @@ pub(crate) fn findings_of<
     main: &'a RowMajorMatrix<BabyBear>,
     public_values: &'a [BabyBear],
     cap: Option<usize>,
+    transition_weight: usize,
 ) -> Result<Findings, AirError>
     ensures found { IfOk result (λ findings. AuditFinds ⟦<BabyBear as PartialEq>⟧.eq
-        (given (A.declared air.now) (A.beside air.now) main.now public_values.now) cap
-        (found findings)) }
+        (given (A.declared air.now) (A.beside air.now) main.now public_values.now)
+        cap transition_weight (found findings)) }
     ensures refused { IfErr result (AuditRefusesUnder baby_bear_ring ⟦<BabyBear as PartialEq>⟧.eq
         (own_layout (A.beside air.now) (A.width air.now) (A.num_public_values air.now))
-        (given (A.declared air.now) (A.beside air.now) main.now public_values.now) cap 0) }
+        (given (A.declared air.now) (A.beside air.now) main.now public_values.now)
+        cap transition_weight) }
 {
-    match audit_air_with_cap(alloc, air, main, public_values, cap, 0) {
+    match audit_air_with_cap(alloc, air, main, public_values, cap, transition_weight) {
         Ok(audit) => Ok(Findings {
             degree: audit.degree,
             report: audit.report,
@@ -84,24 +75,36 @@ pub(crate) fn findings_of<
     }
 }
 
-/// Audits Fibonacci on the trace.
+/// Audits Fibonacci on the trace. It fits the trace: nothing but memory can be wanting, and no degree but one of a domain
+/// whose weight is great can be refused.
 fn audit_fibonacci(
     alloc: Global,
     fibonacci: Fibonacci,
     main: &RowMajorMatrix<BabyBear>,
     public_values: &[BabyBear],
     cap: Option<usize>,
+    transition_weight: usize,
 ) -> Result<Findings, Refusal>
     requires width { main.now.width ≡ 2 }
     requires height { length main.now.rows < 2 ^ 63 }
     requires public { length public_values.now ≡ 3 }
     ensures found { IfOk result (λ findings. AuditFinds ⟦<BabyBear as PartialEq>⟧.eq
-        (given_fibonacci main.now public_values.now) cap (found findings)) }
-    ensures refused { IfErr result (λ why. why ≡ Refusal.Memory) }
+        (given_fibonacci main.now public_values.now) cap transition_weight (found findings)) }
+    ensures refused { IfErr result (λ why. (why ≡ Refusal.Memory)
+        ⊎ ((why ≡ Refusal.Air AirError.DegreeOverflow)
+        × PassesDegree ⟦<BabyBear as PartialEq>⟧.eq
+        (given_fibonacci main.now public_values.now) cap transition_weight)) }
 {
-    match findings_of(alloc, &fibonacci, main, public_values, cap) {
+    match findings_of(
+        alloc,
+        &fibonacci,
+        main,
+        public_values,
+        cap,
+        transition_weight,
+    ) {
         Ok(findings) => Ok(findings),
-        Err(error) => Err(refusal_of(error)),
+        Err(error) => Err(Refusal::from(error)),
     }
 }
 
@@ -133,12 +136,13 @@ fn answer_trace(
     alloc: Global,
     command: Command,
     cap: Option<usize>,
+    transition_weight: usize,
     input: &[u8],
 ) -> Result<(u8, String), Refusal>
-    ensures ok { IfOk result (λ p. IsAnswerTo ⟦<BabyBear as PartialEq>⟧.eq cap (parse input.now) p.0
-        (string_bytes p.1)) }
+    ensures ok { IfOk result (λ p. IsAnswerTo ⟦<BabyBear as PartialEq>⟧.eq cap transition_weight
+        (parse input.now) p.0 (string_bytes p.1)) }
     ensures refused { IfErr result (MayRefuse ⟦<BabyBear as PartialEq>⟧.eq
-        (trace cap command) input.now) }
+        (trace cap transition_weight command) input.now) }
 {
     let input = match parse(alloc, input) {
         Ok(input) => input,
@@ -150,7 +154,15 @@ fn answer_trace(
         values,
     } = input;
     let main = trace_of(values);
-    let findings = audit_fibonacci(alloc, air_of(command), &main, &public_values, cap)?;
+    let fibonacci = air_of(command);
+    let findings = audit_fibonacci(
+        alloc,
+        fibonacci,
+        &main,
+        &public_values,
+        cap,
+        transition_weight,
+    )?;
     told(alloc, &findings)
 }
 
@@ -161,7 +173,11 @@ pub fn answer(alloc: Global, request: Request, input: &[u8]) -> Result<(u8, Stri
     ensures refused { IfErr result (MayRefuse ⟦<BabyBear as PartialEq>⟧.eq request input.now) }
 {
     match request {
-        Request::Trace { command, cap } => answer_trace(alloc, command, cap, input),
+        Request::Trace {
+            command,
+            cap,
+            transition_weight,
+        } => answer_trace(alloc, command, cap, transition_weight, input),
         Request::Flat => answer_flat(alloc, input),
     }
 }

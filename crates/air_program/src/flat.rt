@@ -49,7 +49,7 @@ fn audit_input(alloc: Global, input: FlatInput) -> Result<Findings, AirError>
     requires pool { IsPool base_reads input.pool }
     requires roots { All (λ i. i < length input.pool.1) input.roots.items }
     ensures found { IfOk result (λ findings. AuditFinds ⟦<BabyBear as PartialEq>⟧.eq
-        (given_flat input) input.cap (found findings)) }
+        (given_flat input) input.cap input.transition_weight (found findings)) }
     ensures refused { IfErr result (AuditRefusesInput ⟦<BabyBear as PartialEq>⟧.eq input) }
 {
     let FlatInput {
@@ -60,6 +60,7 @@ fn audit_input(alloc: Global, input: FlatInput) -> Result<Findings, AirError>
         periodic,
         cells,
         cap,
+        transition_weight,
     } = input;
     let air = FlatAir::new(
         pool,
@@ -69,7 +70,7 @@ fn audit_input(alloc: Global, input: FlatInput) -> Result<Findings, AirError>
         periodic,
         cells,
     );
-    findings_of(alloc, &air, &main, &public_values, cap)
+    findings_of(alloc, &air, &main, &public_values, cap, transition_weight)
 }
 
 /// The status and the text that answer a JSON object.

@@ -90,6 +90,26 @@ fn stops_at_the_cap(rt: HostRuntime) -> Result<(), Fail> {
 }
 
 #[test]
+fn weighs_the_transition(rt: HostRuntime) -> Result<(), Fail> {
+    let broken = b"0 1 3\n0 1\n1 1\n1 5\n2 3\n";
+    let one = "degree 3\nrows 4\nconstraints 5\nrow 1: #3\n";
+    let all = "degree 3\nrows 4\nconstraints 5\nrow 1: #3\nrow 2: #2\nrow 2: #3\n";
+    let linear = "degree 2\nrows 4\nconstraints 5\nrow 1: #3\n";
+    answers_word(&rt, "fibonacci 1 w=2", broken, one, 1)?;
+    answers_word(&rt, "fibonacci w=2", broken, all, 1)?;
+    answers_word(&rt, "fibonacci 1 w=0", broken, linear, 1)?;
+    answers_word(
+        &rt,
+        "fibonacci w=18446744073709551615",
+        broken,
+        "refused: DegreeOverflow\n",
+        2,
+    )?;
+    let named = "degree 3\nrows 4\nconstraints 5\nrow 1: #3 \"fib::step_b\"\n";
+    answers_word(&rt, "named 1 w=02", broken, named, 1)
+}
+
+#[test]
 fn reads_lines(rt: HostRuntime) -> Result<(), Fail> {
     answers(&rt, b"0 1 3\r\n0 1\r\n1 1\r\n1 2\r\n2 3\r\n", FOUR_ROWS, 0)?;
     answers(

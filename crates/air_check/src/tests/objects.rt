@@ -15,6 +15,10 @@ const PAST_WIDTH: &str = r#"{"Leaf":{"Variable":{"entry":{"Main":{"offset":0}},"
 const DIFFERENCE: &str =
     r#"{"Leaf":{"Variable":{"entry":{"Main":{"offset":0}},"index":0}}},{"Leaf":{"Variable":{"entry":"Periodic","index":0}}},{"Sub":{"degree_multiple":1,"x":0,"y":1}}"#;
 
+/// The transition selector times column 0.
+const STEP: &str =
+    r#"{"Leaf":"IsTransition"},{"Leaf":{"Variable":{"entry":{"Main":{"offset":0}},"index":0}}},{"Mul":{"degree_multiple":1,"x":0,"y":1}}"#;
+
 /// The object of these members with one constraint, the list of these nodes.
 fn object(alloc: Global, members: &str, nodes: &str) -> Result<String, AllocError> {
     format!(in alloc; "{{{members},\"constraints\":[[{nodes}]]}}")
@@ -31,6 +35,7 @@ fn answers_objects(rt: HostRuntime) -> Result<(), Fail> {
     let odd = r#""main_width":1,"main":[0,1,0,1],"public_values":[],"periodic":[[0,1,0]]"#;
     let bounded =
         r#""main_width":1,"main":[0,1,0,1],"public_values":[5],"periodic":[[0,1]],"boundary":[{"column":0,"end":"Last","public_value":0}]"#;
+    let weighed = r#""main_width":1,"main":[0,1],"public_values":[],"transition_weight":2"#;
     let one = r#""main_width":1,"main":[0],"public_values":[]"#;
     let all = "degree 1\nrows 3\nconstraints 1\nrow 1: #0\nrow 2: #0\n";
     let first = "degree 1\nrows 3\nconstraints 1\nrow 1: #0\n";
@@ -46,6 +51,7 @@ fn answers_objects(rt: HostRuntime) -> Result<(), Fail> {
         (four, DIFFERENCE, clean, 0),
         (odd, DIFFERENCE, "refused: PeriodNotPowerOfTwo\n", 2),
         (bounded, DIFFERENCE, differs, 1),
+        (weighed, STEP, "degree 3\nrows 2\nconstraints 1\n", 0),
         (one, PAST_WINDOW, "refused: RowOffset\n", 2),
         (one, PAST_WIDTH, "refused: MissingEntry\n", 2),
     ] {

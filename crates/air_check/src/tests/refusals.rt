@@ -25,7 +25,17 @@ fn refuses_other_words(rt: HostRuntime) -> Result<(), Fail> {
         "named x1",
         "fibonacci 18446744073709551616",
         "fibonacci 1 1",
+        "fibonacci w=",
+        "fibonacci w=1x",
+        "fibonacci w=+1",
+        "fibonacci W=1",
+        "fibonacci w=18446744073709551616",
+        "fibonacci w=1 1",
+        "fibonacci w=1 w=1",
+        "fibonacci 1 w=1 1",
+        "w=1",
         "flat 1",
+        "flat w=1",
         "Flat",
     ] {
         let mut reader = Pieces::new(INPUT, 3, MANY);

@@ -123,6 +123,10 @@ fn members_that_may_be_absent(rt: HostRuntime) -> Result<(), Fail> {
             shape,
         ),
         (
+            r#"{"main_width":1,"main":[0],"public_values":[],"constraints":[],"transition_weight":null}"#,
+            shape,
+        ),
+        (
             r#"{"main_width":1,"main":[0],"public_values":[],"constraints":[],"other":null,"boundary":[{"column":0,"end":"First","public_value":0,"note":[]}]}"#,
             None,
         ),
@@ -162,6 +166,28 @@ fn values_that_fill_no_rows(rt: HostRuntime) -> Result<(), Fail> {
     ];
     for (text, wanted) in rows {
         assert_eq!(rt; fault(alloc, text)?, wanted, "{text}");
+    }
+    Ok(())
+}
+
+// Of an object without other members than these.
+#[test]
+fn weights_that_are_read(rt: HostRuntime) -> Result<(), Fail> {
+    let alloc = rt.alloc();
+    let rows = [
+        (
+            r#"{"main_width":1,"main":[0],"public_values":[],"constraints":[]}"#,
+            0,
+        ),
+        (
+            r#"{"main_width":1,"main":[0],"public_values":[],"constraints":[],"transition_weight":2}"#,
+            2,
+        ),
+    ];
+    for (text, wanted) in rows {
+        let input = read(alloc, text)?.ok().ok_or("refused")?;
+        assert_eq!(rt; input.transition_weight, wanted, "{text}");
+        assert_eq!(rt; input.cap, None);
     }
     Ok(())
 }
