@@ -129,21 +129,27 @@ fn audits_what_is_beside_a_trace(rt: HostRuntime) -> Result<(), Fail> {
     Ok(())
 }
 
+/// The audit of four ones beside this table lists these rows and places.
+fn assert_table(
+    rt: &impl Abort,
+    alloc: Global,
+    table: &[u32],
+    wanted: &[(usize, usize, Option<&str>)],
+) -> Result<(), Fail> {
+    let ones = matrix(alloc, &[1, 1, 1, 1], 1)?;
+    let air = make_surrounded(alloc, table, &[1], 0)?;
+    let audit = surrounded_audit(alloc, &air, &ones, &[BabyBear::new(1)], 0)?;
+    assert_report(rt, &audit.report, wanted);
+    Ok(())
+}
+
 // The last row is followed by the first.
 #[test]
 fn audits_each_next_row_of_a_table(rt: HostRuntime) -> Result<(), Fail> {
     let alloc = rt.alloc();
-    let ones = matrix(alloc, &[1, 1, 1, 1], 1)?;
-    let cases: [(&[u32], &[(usize, usize, Option<&str>)]); 3] = [
-        (&[5, 0, 0, 0], &[(3, 1, None)]),
-        (&[0, 5, 0, 5], &[(0, 1, None), (2, 1, None)]),
-        (&[0, 0, 0, 0], &[]),
-    ];
-    for (table, wanted) in cases {
-        let air = make_surrounded(alloc, table, &[1], 0)?;
-        let audit = surrounded_audit(alloc, &air, &ones, &[BabyBear::new(1)], 0)?;
-        assert_report(&rt, &audit.report, wanted);
-    }
+    assert_table(&rt, alloc, &[5, 0, 0, 0], &[(3, 1, None)])?;
+    assert_table(&rt, alloc, &[0, 5, 0, 5], &[(0, 1, None), (2, 1, None)])?;
+    assert_table(&rt, alloc, &[0, 0, 0, 0], &[])?;
     let air = make_surrounded(alloc, &[0, 0], &[0, 5], 0)?;
     let main = matrix(alloc, &[0, 5], 1)?;
     for (transition_weight, degree) in [(0, 1), (1, 2)] {

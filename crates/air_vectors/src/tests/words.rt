@@ -241,6 +241,20 @@ fn assert_places(
     Ok(())
 }
 
+/// A sum of two words fails at these places.
+fn assert_sum_of_two(
+    rt: &impl Abort,
+    alloc: Global,
+    a: [BabyBear; 2],
+    b: [BabyBear; 2],
+    c: [BabyBear; 2],
+    failed: &[usize],
+) -> Result<(), AirError> {
+    let mut builder = row(alloc, &[], &[], &[], &[]);
+    add_two_numbers(&mut builder, a, b, c)?;
+    assert_places(rt, &mut builder, 2, failed)
+}
+
 #[test]
 fn sums_of_two_wrap_at_2_32(rt: HostRuntime) -> Result<(), Fail> {
     let zero = limbs(0, 0);
@@ -252,11 +266,22 @@ fn sums_of_two_wrap_at_2_32(rt: HostRuntime) -> Result<(), Fail> {
         (limbs(1, 0x7800), zero, zero, &[1]),
     ];
     for (a, b, c, failed) in rows {
-        let mut builder = row(rt.alloc(), &[], &[], &[], &[]);
-        add_two_numbers(&mut builder, a, b, c)?;
-        assert_places(&rt, &mut builder, 2, failed)?;
+        assert_sum_of_two(&rt, rt.alloc(), a, b, c, failed)?;
     }
     Ok(())
+}
+
+/// A sum of three words, of which two are the same, fails at these places.
+fn assert_sum_of_three(
+    rt: &impl Abort,
+    alloc: Global,
+    a: [BabyBear; 2],
+    word: [BabyBear; 2],
+    failed: &[usize],
+) -> Result<(), AirError> {
+    let mut builder = row(alloc, &[], &[], &[], &[]);
+    add_three_numbers(&mut builder, a, word)?;
+    assert_places(rt, &mut builder, 2, failed)
 }
 
 #[test]
@@ -268,11 +293,23 @@ fn sums_of_three_carry_twice(rt: HostRuntime) -> Result<(), Fail> {
         (limbs(1, 0x7800), limbs(0, 0), &[1]),
     ];
     for (a, word, failed) in rows {
-        let mut builder = row(rt.alloc(), &[], &[], &[], &[]);
-        add_three_numbers(&mut builder, a, word)?;
-        assert_places(&rt, &mut builder, 2, failed)?;
+        assert_sum_of_three(&rt, rt.alloc(), a, word, failed)?;
     }
     Ok(())
+}
+
+/// The xor of a word with zeros that are rotated fails at these places.
+fn assert_xor(
+    rt: &impl Abort,
+    alloc: Global,
+    a: [BabyBear; 2],
+    c: [BabyBear; 32],
+    shift: usize,
+    failed: &[usize],
+) -> Result<(), AirError> {
+    let mut builder = row(alloc, &[], &[], &[], &[]);
+    xor_with_zero(&mut builder, a, c, shift)?;
+    assert_places(rt, &mut builder, 34, failed)
 }
 
 #[test]
@@ -283,9 +320,7 @@ fn a_xor_rotates(rt: HostRuntime) -> Result<(), Fail> {
         (limbs(2, 0), bits_with(0, 2), 0, &[0]),
     ];
     for (a, c, shift, failed) in rows {
-        let mut builder = row(rt.alloc(), &[], &[], &[], &[]);
-        xor_with_zero(&mut builder, a, c, shift)?;
-        assert_places(&rt, &mut builder, 34, failed)?;
+        assert_xor(&rt, rt.alloc(), a, c, shift, failed)?;
     }
     Ok(())
 }

@@ -7,6 +7,7 @@ use air_variables::ExtEntry;
 use air_wire::{WireLeaf, from_flat_value, to_flat_value};
 use serde_json::Value;
 use std::alloc::Global;
+use std::process::Abort;
 use std::test::*;
 
 type ExtensionLeaf = ExtLeaf<BabyBear, BinomialExtensionField>;
@@ -54,10 +55,25 @@ fn written_base(alloc: Global, steps: &[Step<'_>], place: usize) -> Result<Value
     written(&mut bench, steps, place)
 }
 
+// The text that is written for a base expression.
+fn assert_written(
+    rt: &impl Abort,
+    alloc: Global,
+    steps: &[Step<'_>],
+    place: usize,
+    wanted: &str,
+) -> Result<(), Fail> {
+    let text = written_base(alloc, steps, place)?.to_string(alloc)?;
+    assert_eq!(rt; text.as_str(), wanted);
+    Ok(())
+}
+
 #[test]
 fn base_trees_written_and_read(rt: HostRuntime) -> Result<(), Fail> {
-    let alloc = rt.alloc();
     let doubled = [Step::Column(0), Step::InsertAdd(0, 0)];
+    let text =
+        r#"[{"Leaf":{"Variable":{"entry":{"Main":{"offset":0}},"index":0}}},{"Add":{"degree_multiple":1,"x":0,"y":0}}]"#;
+    assert_written(&rt, rt.alloc(), &doubled, 1, text)?;
     let six = [
         Step::Column(0),
         Step::Column(1),
@@ -66,24 +82,11 @@ fn base_trees_written_and_read(rt: HostRuntime) -> Result<(), Fail> {
         Step::Constant(7),
         Step::Add(3, 4),
     ];
-    let rows: [(&[Step<'_>], usize, &str); 3] = [
-        (
-            &doubled,
-            1,
-            r#"[{"Leaf":{"Variable":{"entry":{"Main":{"offset":0}},"index":0}}},{"Add":{"degree_multiple":1,"x":0,"y":0}}]"#,
-        ),
-        (
-            &six,
-            5,
-            r#"[{"Leaf":{"Variable":{"entry":{"Main":{"offset":0}},"index":0}}},{"Leaf":{"Variable":{"entry":{"Main":{"offset":0}},"index":1}}},{"Mul":{"degree_multiple":2,"x":0,"y":1}},{"Sub":{"degree_multiple":2,"x":2,"y":0}},{"Leaf":{"Constant":7}},{"Add":{"degree_multiple":2,"x":3,"y":4}}]"#,
-        ),
-        (&[Step::Constant(42)], 0, r#"[{"Leaf":{"Constant":42}}]"#),
-    ];
-    for (steps, place, wanted) in rows {
-        let text = written_base(alloc, steps, place)?.to_string(alloc)?;
-        assert_eq!(rt; text.as_str(), wanted);
-    }
-    Ok(())
+    let text =
+        r#"[{"Leaf":{"Variable":{"entry":{"Main":{"offset":0}},"index":0}}},{"Leaf":{"Variable":{"entry":{"Main":{"offset":0}},"index":1}}},{"Mul":{"degree_multiple":2,"x":0,"y":1}},{"Sub":{"degree_multiple":2,"x":2,"y":0}},{"Leaf":{"Constant":7}},{"Add":{"degree_multiple":2,"x":3,"y":4}}]"#;
+    assert_written(&rt, rt.alloc(), &six, 5, text)?;
+    let text = r#"[{"Leaf":{"Constant":42}}]"#;
+    assert_written(&rt, rt.alloc(), &[Step::Constant(42)], 0, text)
 }
 
 // What is written again for a list of base nodes.
