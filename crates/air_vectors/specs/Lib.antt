@@ -2,3 +2,4 @@
 pub mod Differing
 pub mod Handed
 pub mod TestAirs
+pub mod Weighed

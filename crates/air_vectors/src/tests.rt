@@ -4,7 +4,6 @@ ghost use Rattle.air_field.specs.Term.{main, leaf_term, mul_term};
 ghost use Rattle.air_builder.specs.Assertion.{Base};
 ghost use Rattle.air_symbolic.specs.Pools.{IsPool};
 
-mod assertions;
 mod audits;
 mod checks;
 mod degrees;
@@ -21,9 +20,9 @@ mod recordings;
 mod spellings;
 mod traces;
 mod trees;
+mod weights;
 mod words;
 
-use crate::tests::filters::assert_zero_under;
 use crate::tests::trees::base_text;
 use air_builder::{Air, AirBuilder, AirError, BaseAir, BoundaryPublic, WindowAccess};
 use air_field::{BabyBear, Field, RowMajorMatrix, RowMajorMatrixView, ViewPair};
@@ -193,7 +192,7 @@ fn assert_listed(rt: &impl Abort, listed: &Listed, trees: &[&str], degrees: &[us
 
 /// The degree that is inferred of an AIR by its own layout, for so many rows, in a domain of this weight for the
 /// transition selector.
-fn inferred<A: BaseAir<BabyBear> + Air<SymbolicAirBuilder<BabyBear, BabyBear>>>(
+fn weighted<A: BaseAir<BabyBear> + Air<SymbolicAirBuilder<BabyBear, BabyBear>>>(
     alloc: Global,
     air: &A,
     trace_len: usize,
@@ -201,6 +200,15 @@ fn inferred<A: BaseAir<BabyBear> + Air<SymbolicAirBuilder<BabyBear, BabyBear>>>(
 ) -> Result<usize, AirError> {
     let layout = AirLayout::from_air::<BabyBear, A>(air);
     get_max_constraint_degree(alloc, air, layout, trace_len, transition_weight)
+}
+
+/// The same where the selector is linear.
+fn inferred<A: BaseAir<BabyBear> + Air<SymbolicAirBuilder<BabyBear, BabyBear>>>(
+    alloc: Global,
+    air: &A,
+    trace_len: usize,
+) -> Result<usize, AirError> {
+    weighted(alloc, air, trace_len, 0)
 }
 
 /// A builder that has recorded nothing.
@@ -226,6 +234,20 @@ fn lent_variables(
 > {
     let window = builder.main()?;
     Ok((window.current(column), window.next(column)))
+}
+
+/// Asserts that `x` is zero where the condition holds.
+fn assert_where<AB: AirBuilder>(
+    builder: &mut AB,
+    condition: AB::Expr,
+    x: AB::Expr,
+) -> Result<(), AirError>
+    requires ready { AB.ready builder.old }
+    requires condition_in { AB.Ring.has (AB.ring_of builder.old) condition }
+    requires x_in { AB.Ring.has (AB.ring_of builder.old) x }
+{
+    let mut filter = builder.when(condition)?;
+    filter.assert_zero(x)
 }
 
 #[test]
@@ -336,60 +358,19 @@ fn periodic_columns_leave_out_the_cached_degree(rt: HostRuntime) -> Result<(), F
         let air = Products {
             columns: columns(rt.alloc(), lengths)?,
         };
-        let inferred = inferred(rt.alloc(), &air, trace_len, 0)?;
+        let inferred = inferred(rt.alloc(), &air, trace_len)?;
         assert_eq!(rt; inferred, degree, "{trace_len} rows, periods {lengths:?}");
     }
     Ok(())
 }
 
-type DebugRow<'a> = DebugConstraintBuilder<'a, BabyBear, BabyBear>;
-
-/// The elements of a column of the main trace, at the current and at the next row.
-fn main_column(
-    builder: &DebugRow<'_>,
-    column: usize,
-) -> Result<(Option<BabyBear>, Option<BabyBear>), AirError> {
-    let window = builder.main()?;
-    Ok((window.current(column), window.next(column)))
-}
-
-/// The elements of a preprocessed column, at the current and at the next row.
-fn table_column(builder: &DebugRow<'_>, column: usize) -> (Option<BabyBear>, Option<BabyBear>) {
-    let window = builder.preprocessed();
-    (window.current(column), window.next(column))
-}
-
-/// The selectors of the first row, of the last, and of transitions.
-fn selectors(builder: &mut DebugRow<'_>) -> Result<[BabyBear; 3], AirError> {
-    let first = builder.is_first_row()?;
-    let last = builder.is_last_row()?;
-    let transition = builder.is_transition()?;
-    Ok([first, last, transition])
-}
-
-/// A failed assertion is kept, and one where the condition is zero is none.
-fn assert_kept(rt: &impl Abort, alloc: Global, mut builder: DebugRow<'_>) -> Result<(), Fail> {
-    assert_zero_under(&mut builder, BabyBear::ZERO, BabyBear::new(5))?;
-    assert!(rt; !builder.has_failures());
-    builder.assert_zero(BabyBear::ONE)?;
-    assert!(rt; builder.has_failures());
-    assert_eq!(rt; builder.failures().len(), 1);
-    let failures = builder.into_failures();
-    assert_eq!(rt; failures.len(), 1);
-    let text = format!(in alloc; "{:?}", &failures[0])?;
-    assert_eq!(rt;
-        text.as_str(),
-        "ConstraintFailure { row: 9, constraint: 1, label: None }"
-    );
-    Ok(())
-}
-
 #[test]
 fn evaluates_one_row(rt: HostRuntime) -> Result<(), Fail> {
-    let [one, two, three, four] = [1, 2, 3, 4].map(BabyBear::new);
-    let (top, bottom) = ([one, two], [three, four]);
-    let [public, before, after] = [7, 8, 9].map(BabyBear::new);
-    let (public, before, after) = ([public], [before], [after]);
+    let top = [BabyBear::new(1), BabyBear::new(2)];
+    let bottom = [BabyBear::new(3), BabyBear::new(4)];
+    let public = [BabyBear::new(7)];
+    let before = [BabyBear::new(8)];
+    let after = [BabyBear::new(9)];
     let mut periodic = Vec::new(rt.alloc());
     periodic.push(BabyBear::new(6))?;
     let mut builder = DebugConstraintBuilder::new(
@@ -409,16 +390,30 @@ fn evaluates_one_row(rt: HostRuntime) -> Result<(), Fail> {
         BabyBear::TWO,
         periodic,
     );
-    assert_eq!(rt; main_column(&builder, 0)?, (Some(one), Some(three)));
-    assert_eq!(rt; main_column(&builder, 1)?, (Some(two), Some(four)));
-    assert_eq!(rt; main_column(&builder, 2)?, (None, None));
-    let table = table_column(&builder, 0);
-    assert_eq!(rt; table, (Some(before[0]), Some(after[0])));
+    let window = builder.main()?;
+    assert_eq!(rt; window.current(1), Some(BabyBear::new(2)));
+    assert_eq!(rt; window.next(0), Some(BabyBear::new(3)));
+    assert_eq!(rt; window.next(2), None);
     assert_eq!(rt; builder.public_values(), public.as_slice());
+    assert_eq!(rt; builder.preprocessed().current(0), Some(BabyBear::new(8)));
+    assert_eq!(rt; builder.preprocessed().next(0), Some(BabyBear::new(9)));
     assert_eq!(rt; builder.periodic_values(), [BabyBear::new(6)].as_slice());
-    let wanted = [BabyBear::ONE, BabyBear::ZERO, BabyBear::TWO];
-    assert_eq!(rt; selectors(&mut builder)?, wanted);
-    assert_kept(&rt, rt.alloc(), builder)
+    assert_eq!(rt; builder.is_first_row()?, BabyBear::ONE);
+    assert_eq!(rt; builder.is_last_row()?, BabyBear::ZERO);
+    assert_eq!(rt; builder.is_transition()?, BabyBear::TWO);
+    assert_where(&mut builder, BabyBear::ZERO, BabyBear::new(5))?;
+    assert!(rt; !builder.has_failures());
+    builder.assert_zero(BabyBear::ONE)?;
+    assert!(rt; builder.has_failures());
+    assert_eq!(rt; builder.failures().len(), 1);
+    let failures = builder.into_failures();
+    assert_eq!(rt; failures.len(), 1);
+    let text = format!(in rt.alloc(); "{:?}", &failures[0])?;
+    assert_eq!(rt;
+        text.as_str(),
+        "ConstraintFailure { row: 9, constraint: 1, label: None }"
+    );
+    Ok(())
 }
 
 /// The variable that was found is that of this place.
@@ -429,18 +424,6 @@ fn assert_lent(
     index: usize,
 ) {
     assert_eq!(rt; found, Some(SymbolicVariable::new(entry, index)));
-}
-
-/// The variables that a symbolic builder lends for preprocessed columns, at the current and at the next row.
-fn lent_by_table(
-    builder: &SymbolicAirBuilder<BabyBear, BabyBear>,
-    column: usize,
-) -> (
-    Option<SymbolicVariable<BabyBear>>,
-    Option<SymbolicVariable<BabyBear>>,
-) {
-    let window = builder.preprocessed();
-    (window.current(column), window.next(column))
 }
 
 #[test]
@@ -459,9 +442,11 @@ fn lends_variables(rt: HostRuntime) -> Result<(), Fail> {
     assert!(rt; current.is_none());
     let public = [SymbolicVariable::new(BaseEntry::Public, 0)];
     assert_eq!(rt; builder.public_values(), public.as_slice());
-    let (current, next) = lent_by_table(&builder, 0);
-    assert_lent(&rt, current, BaseEntry::Preprocessed { offset: 0 }, 0);
-    assert_lent(&rt, next, BaseEntry::Preprocessed { offset: 1 }, 0);
+    let window = builder.preprocessed();
+    let before = BaseEntry::Preprocessed { offset: 0 };
+    let after = BaseEntry::Preprocessed { offset: 1 };
+    assert_lent(&rt, window.current(0), before, 0);
+    assert_lent(&rt, window.next(0), after, 0);
     let periodic = [SymbolicVariable::new(BaseEntry::Periodic, 0)];
     assert_eq!(rt; builder.periodic_values(), periodic.as_slice());
     Ok(())

@@ -1,12 +1,16 @@
 //! Worked rows, printed texts, and each generic call at a concrete type.
 mod airs;
+mod assertion;
 mod base_pool;
 mod bench;
 mod boundary;
+mod builders;
 mod errors;
 mod ext_bench;
 mod ext_pool;
+mod extension_builders;
 mod fields;
+mod filters;
 mod flat_inputs;
 mod flat_lists;
 mod gadgets;
@@ -18,6 +22,8 @@ mod passes;
 mod rings;
 mod shared_nodes;
 mod table;
+mod value_log;
 mod variables;
 mod windows;
+mod words;
 mod written_lists;

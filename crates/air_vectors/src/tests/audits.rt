@@ -126,30 +126,6 @@ fn audits_what_is_beside_a_trace(rt: HostRuntime) -> Result<(), Fail> {
     assert_eq!(rt; audit.layout.base_indices.as_slice(), [0, 1].as_slice());
     assert!(rt; audit.layout.ext_indices.is_empty());
     assert_eq!(rt; audit.degree, 2);
-    Ok(())
-}
-
-/// The audit of four ones beside this table lists these rows and places.
-fn assert_table(
-    rt: &impl Abort,
-    alloc: Global,
-    table: &[u32],
-    wanted: &[(usize, usize, Option<&str>)],
-) -> Result<(), Fail> {
-    let ones = matrix(alloc, &[1, 1, 1, 1], 1)?;
-    let air = make_surrounded(alloc, table, &[1], 0)?;
-    let audit = surrounded_audit(alloc, &air, &ones, &[BabyBear::new(1)], 0)?;
-    assert_report(rt, &audit.report, wanted);
-    Ok(())
-}
-
-// The last row is followed by the first.
-#[test]
-fn audits_each_next_row_of_a_table(rt: HostRuntime) -> Result<(), Fail> {
-    let alloc = rt.alloc();
-    assert_table(&rt, alloc, &[5, 0, 0, 0], &[(3, 1, None)])?;
-    assert_table(&rt, alloc, &[0, 5, 0, 5], &[(0, 1, None), (2, 1, None)])?;
-    assert_table(&rt, alloc, &[0, 0, 0, 0], &[])?;
     let air = make_surrounded(alloc, &[0, 0], &[0, 5], 0)?;
     let main = matrix(alloc, &[0, 5], 1)?;
     for (transition_weight, degree) in [(0, 1), (1, 2)] {
@@ -190,6 +166,36 @@ fn an_audit_refuses_what_is_beside_a_trace(rt: HostRuntime) -> Result<(), Fail> 
     Ok(())
 }
 
+/// The audit of `Products` on a trace.
+fn audit_of(
+    alloc: Global,
+    main: &RowMajorMatrix<BabyBear>,
+    public: &[BabyBear],
+) -> Result<Audit<BabyBear>, AirError> {
+    let air = make_products(alloc);
+    audit_air(alloc, &air, main, public, 0)
+}
+
+#[test]
+fn audits_a_trace(rt: HostRuntime) -> Result<(), Fail> {
+    let main = matrix(rt.alloc(), &[1, 1, 0, 5, 2, 3], 2)?;
+    let public = [BabyBear::new(7)];
+    let audit = audit_of(rt.alloc(), &main, &public)?;
+    assert_eq!(rt; audit.layout.base_indices.as_slice(), [0, 1].as_slice());
+    assert_eq!(rt; audit.layout.ext_indices.len(), 0);
+    assert_eq!(rt; audit.recorded.base.len(), 2);
+    assert_eq!(rt; audit.recorded.ext.len(), 0);
+    assert_eq!(rt; audit.degree, 2);
+    assert_eq!(rt; audit.report.total_rows, 3);
+    assert_eq!(rt; audit.report.total_constraints_per_row, 2);
+    let places = [(0, 0), (1, 1), (2, 0), (2, 1)];
+    assert_eq!(rt; audit.report.failures.len(), 4);
+    for (failure, place) in audit.report.failures.iter().zip(places) {
+        assert_eq!(rt; (failure.row, failure.constraint), place);
+    }
+    Ok(())
+}
+
 /// The audit of `Products` on a trace, under a cap.
 fn capped_audit_of(
     alloc: Global,
@@ -201,49 +207,26 @@ fn capped_audit_of(
     audit_air_with_cap(alloc, &air, main, public, cap, 0)
 }
 
-/// The audit is of two constraints on three rows, of degree 2, and lists the first of these rows and places.
-fn assert_capped(
-    rt: &impl Abort,
-    audit: &Audit<BabyBear>,
-    constraints: usize,
-    places: &[(usize, usize)],
-) {
-    assert_eq!(rt; audit.report.failures.len(), places.len());
-    for (failure, place) in audit.report.failures.iter().zip(places) {
-        assert_eq!(rt; (failure.row, failure.constraint), *place);
-    }
-    assert_eq!(rt; audit.report.total_rows, 3);
-    assert_eq!(rt; audit.report.total_constraints_per_row, constraints);
-    assert_eq!(rt; audit.layout.base_indices.as_slice(), [0, 1].as_slice());
-    assert!(rt; audit.layout.ext_indices.is_empty());
-    assert_eq!(rt; audit.recorded.base.len(), 2);
-    assert!(rt; audit.recorded.ext.is_empty());
-    assert_eq!(rt; audit.degree, 2);
-}
-
 // Under a cap of 1 the first row's failures stand alone, both of them.
 #[test]
 fn audits_a_trace_under_a_cap(rt: HostRuntime) -> Result<(), Fail> {
-    let alloc = rt.alloc();
+    let main = matrix(rt.alloc(), &[1, 1, 2, 3, 0, 5], 2)?;
     let public = [BabyBear::new(7)];
-    let places = [(0, 0), (1, 1), (2, 0), (2, 1)];
-    let first = matrix(alloc, &[1, 1, 0, 5, 2, 3], 2)?;
-    assert_capped(
-        &rt,
-        &capped_audit_of(alloc, &first, &public, None)?,
-        2,
-        &places,
-    );
-    let main = matrix(alloc, &[1, 1, 2, 3, 0, 5], 2)?;
     let places = [(0, 0), (0, 1), (1, 0), (2, 1)];
-    let cases: [(Option<usize>, usize, &[(usize, usize)]); 3] = [
-        (None, 2, &places),
-        (Some(1), 2, &[(0, 0), (0, 1)]),
-        (Some(0), 0, &[]),
-    ];
-    for (cap, constraints, wanted) in cases {
-        let audit = capped_audit_of(alloc, &main, &public, cap)?;
-        assert_capped(&rt, &audit, constraints, wanted);
+    for (cap, shown, constraints) in [(None, 4, 2), (Some(1), 2, 2), (Some(0), 0, 0)] {
+        let audit = capped_audit_of(rt.alloc(), &main, &public, cap)?;
+        assert_eq!(rt; audit.report.failures.len(), shown, "cap {cap:?}");
+        for (failure, place) in audit.report.failures.iter().zip(places) {
+            assert_eq!(rt; (failure.row, failure.constraint), place, "cap {cap:?}");
+        }
+        assert_eq!(rt; audit.report.total_rows, 3);
+        assert_eq!(rt;
+            audit.report.total_constraints_per_row,
+            constraints,
+            "cap {cap:?}"
+        );
+        assert_eq!(rt; audit.recorded.base.len(), 2);
+        assert_eq!(rt; audit.degree, 2);
     }
     Ok(())
 }
@@ -255,7 +238,7 @@ fn an_audit_answers_the_first_refusal(rt: HostRuntime) -> Result<(), Fail> {
         index: 1,
     };
     let narrow = matrix(rt.alloc(), &[0, 0], 1)?;
-    let refused = capped_audit_of(rt.alloc(), &narrow, &[], None);
+    let refused = audit_of(rt.alloc(), &narrow, &[]);
     assert_eq!(rt; refused.err(), Some(missing));
     Ok(())
 }

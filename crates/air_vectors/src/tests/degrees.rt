@@ -1,21 +1,182 @@
 //! Inferred degrees: selectors, periodic columns and short traces.
+ghost use Rattle.std.specs.Prelude.{◌∷◌, [], None};
+ghost use Rattle.air_field.specs.Term.{main, periodic, transition, leaf_term, mul_term};
+ghost use Rattle.air_builder.specs.Assertion.{Base};
 ghost use Rattle.air_builder.specs.Beside.{nothing_beside};
 ghost use Rattle.air_symbolic.specs.Pools.{IsPool};
 ghost use Rattle.air_vectors.specs.TestAirs.{steep};
 
-use crate::tests::flat_airs::{
-    Beside, Joined, columns_alone, current, make_flat, make_idle, periodic,
-};
+use crate::tests::checks::no_tables;
 use crate::tests::{columns, inferred, recorded_list};
 use air_builder::{Air, AirBuilder, AirError, BaseAir, BoundaryPublic};
 use air_field::{BabyBear, Field, RowMajorMatrix};
-use p3_air::author::{Current, Power, Zero, assert_all};
+use p3_air::author::{
+    Current, Next, Periodic, Power, Product, Square, Transition, Zero, assert_all,
+};
 use p3_air::{
-    AirLayout, BaseLeaf, FlatAir, Recorded, SymLeaf, SymbolicAirBuilder, get_symbolic_constraints,
+    AirLayout, BaseLeaf, Recorded, SymLeaf, SymbolicAirBuilder, get_symbolic_constraints,
 };
 use std::alloc::Global;
-use std::process::Abort;
 use std::test::Fail;
+
+/// One column x: the transition selector twice times x is zero.
+pub struct Steps {}
+
+impl<F: Copy> BaseAir<F> for Steps {
+    ghost declared = { λ _. Base (mul_term (mul_term (leaf_term transition) (leaf_term transition)) (leaf_term (main 0 0))) ∷ [] };
+
+    ghost width = { λ _. 1 };
+
+    ghost num_public_values = { λ _. 0 };
+
+    ghost beside = { λ _. nothing_beside };
+
+    fn width(&self) -> usize {
+        1
+    }
+
+    fn num_public_values(&self) -> usize {
+        0
+    }
+
+    fn preprocessed_trace(&self) -> Option<&RowMajorMatrix<F>> {
+        None
+    }
+
+    fn periodic_columns(&self) -> &[Vec<F>] {
+        &[]
+    }
+
+    fn public_boundary_io(&self) -> &[BoundaryPublic] {
+        &[]
+    }
+}
+
+impl<AB: AirBuilder> Air<AB> for Steps {
+    fn eval(&self, builder: &mut AB) -> Result<(), AirError> {
+        assert_all(builder, &Zero(Product(Square(Transition), Current(0))))
+    }
+}
+
+/// The product of the first two periodic columns is zero.
+#[derive(Drop)]
+pub struct Cycles<F> {
+    pub columns: Vec<Vec<F>>,
+}
+
+impl<F: Copy> BaseAir<F> for Cycles<F> {
+    ghost declared = { λ _. Base (mul_term (leaf_term (periodic 0)) (leaf_term (periodic 1))) ∷ [] };
+
+    ghost width = { λ _. 0 };
+
+    ghost num_public_values = { λ _. 0 };
+
+    ghost beside = { λ a. record { preprocessed = None; periodic = a.columns.items; cells = [] } };
+
+    fn width(&self) -> usize {
+        0
+    }
+
+    fn num_public_values(&self) -> usize {
+        0
+    }
+
+    fn preprocessed_trace(&self) -> Option<&RowMajorMatrix<F>> {
+        None
+    }
+
+    fn periodic_columns(&self) -> &[Vec<F>] {
+        self.columns.as_slice()
+    }
+
+    fn public_boundary_io(&self) -> &[BoundaryPublic] {
+        &[]
+    }
+}
+
+impl<AB: AirBuilder> Air<AB> for Cycles<AB::F> {
+    fn eval(&self, builder: &mut AB) -> Result<(), AirError> {
+        assert_all(builder, &Zero(Product(Periodic(0), Periodic(1))))
+    }
+}
+
+/// Four columns: the first is zero, and so are the second and the third of the next row.
+struct Wide {}
+
+impl<F: Copy> BaseAir<F> for Wide {
+    ghost declared = { λ _. Base (leaf_term (main 0 0)) ∷ Base (leaf_term (main 1 1)) ∷ Base (leaf_term (main 1 2)) ∷ [] };
+
+    ghost width = { λ _. 4 };
+
+    ghost num_public_values = { λ _. 0 };
+
+    ghost beside = { λ _. nothing_beside };
+
+    fn width(&self) -> usize {
+        4
+    }
+
+    fn num_public_values(&self) -> usize {
+        0
+    }
+
+    fn preprocessed_trace(&self) -> Option<&RowMajorMatrix<F>> {
+        None
+    }
+
+    fn periodic_columns(&self) -> &[Vec<F>] {
+        &[]
+    }
+
+    fn public_boundary_io(&self) -> &[BoundaryPublic] {
+        &[]
+    }
+}
+
+impl<AB: AirBuilder> Air<AB> for Wide {
+    fn eval(&self, builder: &mut AB) -> Result<(), AirError> {
+        assert_all(builder, &(Zero(Current(0)), Zero(Next(1)), Zero(Next(2))))
+    }
+}
+
+/// Columns x and y: at each row x y is zero.
+struct Alone {}
+
+impl<F: Copy> BaseAir<F> for Alone {
+    ghost declared = { λ _. Base (mul_term (leaf_term (main 0 0)) (leaf_term (main 0 1))) ∷ [] };
+
+    ghost width = { λ _. 2 };
+
+    ghost num_public_values = { λ _. 0 };
+
+    ghost beside = { λ _. nothing_beside };
+
+    fn width(&self) -> usize {
+        2
+    }
+
+    fn num_public_values(&self) -> usize {
+        0
+    }
+
+    fn preprocessed_trace(&self) -> Option<&RowMajorMatrix<F>> {
+        None
+    }
+
+    fn periodic_columns(&self) -> &[Vec<F>] {
+        &[]
+    }
+
+    fn public_boundary_io(&self) -> &[BoundaryPublic] {
+        &[]
+    }
+}
+
+impl<AB: AirBuilder> Air<AB> for Alone {
+    fn eval(&self, builder: &mut AB) -> Result<(), AirError> {
+        assert_all(builder, &Zero(Product(Current(0), Current(1))))
+    }
+}
 
 /// One column, raised to a power eight times, is zero.
 #[derive(Drop)]
@@ -104,96 +265,42 @@ fn polynomial_degrees(
     Ok(degrees)
 }
 
-/// The degrees of the recorded polynomials of an AIR from outside over eight rows.
-fn degrees_over_eight(
+/// The degrees of the recorded polynomials over eight rows, and the degree that is inferred of them.
+fn degrees_over_eight<A: BaseAir<BabyBear> + Air<SymbolicAirBuilder<BabyBear, BabyBear>>>(
     alloc: Global,
-    air: &FlatAir<BabyBear>,
+    air: &A,
     periods: &[usize],
-) -> Result<Vec<usize>, AirError> {
-    let layout = AirLayout::from_air::<BabyBear, FlatAir<BabyBear>>(air);
+) -> Result<(Vec<usize>, usize), AirError> {
+    let layout = AirLayout::from_air::<BabyBear, A>(air);
     let recorded = get_symbolic_constraints(alloc, air, layout)?;
-    polynomial_degrees(alloc, &recorded, 8, periods)
-}
-
-/// The degree that is inferred of an AIR from outside, in a domain of this weight for the transition selector.
-fn inferred_flat(
-    alloc: Global,
-    air: &FlatAir<BabyBear>,
-    trace_len: usize,
-    transition_weight: usize,
-) -> Result<usize, AirError> {
-    inferred(alloc, air, trace_len, transition_weight)
+    let degrees = polynomial_degrees(alloc, &recorded, 8, periods)?;
+    let inferred = inferred(alloc, air, 8)?;
+    Ok((degrees, inferred))
 }
 
 #[test]
 fn a_product_alone_keeps_its_cached_degree(rt: HostRuntime) -> Result<(), Fail> {
-    let two = columns_alone(rt.alloc(), 2);
-    let air = make_flat(rt.alloc(), Joined::Product, current(0), current(1), two)?;
     for trace_len in [1, 2] {
-        assert_eq!(rt; inferred_flat(rt.alloc(), &air, trace_len, 0)?, 2);
+        let degree = inferred(rt.alloc(), &Alone {}, trace_len)?;
+        assert_eq!(rt; degree, 2, "{trace_len} rows");
     }
     Ok(())
-}
-
-/// The square of the transition selector times a column is zero.
-fn make_steps(alloc: Global) -> Result<FlatAir<BabyBear>, AirError> {
-    let one = columns_alone(alloc, 1);
-    make_flat(
-        alloc,
-        Joined::SquareTimes,
-        BaseLeaf::IsTransition,
-        current(0),
-        one,
-    )
-}
-
-/// The product of two periodic columns of length 2 is zero.
-fn make_cycles(alloc: Global) -> Result<FlatAir<BabyBear>, Fail> {
-    let clocks = Beside {
-        periodic: columns(alloc, &[2, 2])?,
-        ..columns_alone(alloc, 0)
-    };
-    Ok(make_flat(alloc, Joined::Product, periodic(0), periodic(1), clocks)?)
 }
 
 #[test]
 fn degrees_for_eight_rows(rt: HostRuntime) -> Result<(), Fail> {
     let alloc = rt.alloc();
-    let degrees = degrees_over_eight(alloc, &make_steps(alloc)?, &[])?;
+    let (degrees, inferred_degree) = degrees_over_eight(alloc, &Steps {}, &[])?;
     assert_eq!(rt; degrees.as_slice(), [9].as_slice());
-    let degrees = degrees_over_eight(alloc, &make_cycles(alloc)?, &[2, 2])?;
+    assert_eq!(rt; inferred_degree, 2);
+    assert_eq!(rt; inferred(alloc, &Wide {}, 8)?, 1);
+    let air = Cycles {
+        columns: columns(alloc, &[2, 2])?,
+    };
+    let (degrees, inferred_degree) = degrees_over_eight(alloc, &air, &[2, 2])?;
     assert_eq!(rt; degrees.as_slice(), [8].as_slice());
-    Ok(())
-}
-
-/// Over eight rows an AIR has these degrees in domains of these weights.
-fn assert_weighed(
-    rt: &impl Abort,
-    alloc: Global,
-    air: &FlatAir<BabyBear>,
-    wanted: &[(usize, Result<usize, AirError>)],
-) {
-    for (transition_weight, degree) in wanted {
-        let found = inferred_flat(alloc, air, 8, *transition_weight);
-        assert_eq!(rt; found, *degree, "weight {transition_weight}");
-    }
-}
-
-#[test]
-fn a_weight_counts_the_transition_selector(rt: HostRuntime) -> Result<(), Fail> {
-    let alloc = rt.alloc();
-    let steps = make_steps(alloc)?;
-    assert_weighed(&rt, alloc, &steps, &[(0, Ok(2)), (1, Ok(3)), (2, Ok(5))]);
-    assert_weighed(&rt, alloc, &make_cycles(alloc)?, &[(0, Ok(1)), (1, Ok(2))]);
-    assert_weighed(&rt, alloc, &make_idle(alloc), &[(0, Ok(0)), (1, Ok(0))]);
-    let selector = BaseLeaf::IsTransition;
-    let none = columns_alone(alloc, 0);
-    let twice = make_flat(alloc, Joined::Product, selector, selector, none)?;
-    assert_weighed(
-        &rt,
-        alloc,
-        &twice,
-        &[(1 << 63, Err(AirError::DegreeOverflow))],
-    );
+    assert_eq!(rt; inferred_degree, 1);
+    let idle = no_tables(alloc, 4, 0);
+    assert_eq!(rt; inferred(alloc, &idle, 8)?, 0);
     Ok(())
 }

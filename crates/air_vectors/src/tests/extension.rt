@@ -2,6 +2,7 @@
 ghost use Rattle.air_builder.specs.Beside.{nothing_beside};
 ghost use Rattle.air_vectors.specs.TestAirs.{permuted, mixed};
 
+use crate::tests::filters::assert_constant_ext_under;
 use air_field::{
     BabyBear, BinomialExtensionField, ExtensionField, Field, FromVar, RowMajorMatrix,
     RowMajorMatrixView, ViewPair,
@@ -12,7 +13,8 @@ use p3_air::author::{
 };
 use p3_air::{
     Air, AirBuilder, AirError, BaseAir, BoundaryPublic, DebugConstraintBuilder, ExtEntry,
-    ExtensionBuilder, PermutationAirBuilder, WindowAccess, check_all_constraints,
+    ExtensionBuilder, NamedExtensionBuilder, PermutationAirBuilder, WindowAccess,
+    check_all_constraints,
 };
 use std::alloc::Global;
 use std::process::Abort;
@@ -115,7 +117,7 @@ pub fn extension(a: u32, b: u32, c: u32, d: u32) -> BinomialExtensionField {
 }
 
 /// A builder at row 2, with the permutation row (0, 1, 0, 0).
-pub fn row<'a>(
+fn row<'a>(
     alloc: Global,
     main: &'a [BabyBear],
     permutation: &'a [BinomialExtensionField],
@@ -213,6 +215,31 @@ fn kinds_fail_at_their_places(rt: HostRuntime) -> Result<(), Fail> {
 }
 
 #[test]
+fn failures_over_the_extension_are_labelled(rt: HostRuntime) -> Result<(), Fail> {
+    let mut builder = row(rt.alloc(), &[], &[], &[], &[]);
+    builder.assert_zero_ext_named(extension(0, 0, 0, 0), "passes")?;
+    builder.assert_zero_ext_named(extension(0, 0, 0, 7), "fails")?;
+    builder.assert_zero(number(1))?;
+    assert_places(&rt, &builder, &[1, 2]);
+    assert_eq!(rt;
+        builder.formatted_failures()?.as_str(),
+        "[#1 \"fails\", #2]"
+    );
+    Ok(())
+}
+
+#[test]
+fn a_filter_multiplies_over_the_extension(rt: HostRuntime) -> Result<(), Fail> {
+    let mut builder = row(rt.alloc(), &[], &[], &[], &[]);
+    for condition in [3, 0, 3] {
+        let x = extension(0, 1, 0, 0);
+        assert_constant_ext_under(&mut builder, number(condition), x)?;
+    }
+    assert_places(&rt, &builder, &[0, 2]);
+    Ok(())
+}
+
+#[test]
 fn a_builder_without_permutation_data_refuses_its_window(rt: HostRuntime) -> Result<(), Fail> {
     let none = RowMajorMatrixView::new_row(&[]);
     let builder = DebugConstraintBuilder::<BabyBear, BabyBear>::new(
@@ -232,11 +259,6 @@ fn a_builder_without_permutation_data_refuses_its_window(rt: HostRuntime) -> Res
     }
     assert_eq!(rt; builder.permutation_randomness().len(), 0);
     assert_eq!(rt; builder.permutation_values().len(), 0);
-    Ok(())
-}
-
-#[test]
-fn a_check_without_permutation_data_refuses_its_window(rt: HostRuntime) -> Result<(), Fail> {
     let main = RowMajorMatrix::new(Vec::from_array(rt.alloc(), [number(0)])?, 1)?;
     match check_all_constraints(rt.alloc(), &Permuted {}, &main, &[], None) {
         Ok(_) => assert!(rt; false),

@@ -18,136 +18,45 @@ fn variable(entry: BaseEntry, index: usize) -> BaseLeaf<BabyBear> {
     BaseLeaf::Variable(SymbolicVariable::new(entry, index))
 }
 
-pub fn current(index: usize) -> BaseLeaf<BabyBear> {
-    variable(BaseEntry::Main { offset: 0 }, index)
-}
-
-pub fn periodic(index: usize) -> BaseLeaf<BabyBear> {
-    variable(BaseEntry::Periodic, index)
-}
-
-/// An expression of two leaves.
-#[derive(Clone, Copy)]
-pub enum Joined {
-    /// The first alone.
-    First,
-    Difference,
-    Product,
-    /// The square of the first times the second.
-    SquareTimes,
-}
-
-/// The expression in the pool.
-fn root_of(
+/// Column 0 of the main trace less periodic column 0.
+fn difference(
     pool: &mut ExprPool<BaseLeaf<BabyBear>>,
-    joined: Joined,
-    x: BaseLeaf<BabyBear>,
-    y: BaseLeaf<BabyBear>,
 ) -> Result<ExprId<BaseLeaf<BabyBear>>, AirError>
     requires { IsPool base_reads pool.old }
     ensures pool { IsPool base_reads pool.new }
     ensures here { IfOk result (λ i. i < length pool.new.1) }
 {
-    let y = pool.leaf(y)?;
-    let x = pool.leaf(x)?;
-    match joined {
-        Joined::First => Ok(x),
-        Joined::Difference => Ok(pool.sub(x, y)?),
-        Joined::Product => Ok(pool.mul(x, y)?),
-        Joined::SquareTimes => {
-            let square = pool.mul(x, x)?;
-            Ok(pool.mul(square, y)?)
-        }
-    }
-}
-
-/// What an AIR from outside has beside its constraints.
-#[derive(Drop)]
-pub struct Beside {
-    pub width: usize,
-    pub num_public_values: usize,
-    pub periodic: Vec<Vec<BabyBear>>,
-    pub cells: Vec<BoundaryPublic>,
-}
-
-/// A trace of so many columns, and nothing else.
-pub fn columns_alone(alloc: Global, width: usize) -> Beside {
-    Beside {
-        width,
-        num_public_values: 0,
-        periodic: Vec::new(alloc),
-        cells: Vec::new(alloc),
-    }
-}
-
-/// The AIR of one constraint.
-pub fn make_flat(
-    alloc: Global,
-    joined: Joined,
-    x: BaseLeaf<BabyBear>,
-    y: BaseLeaf<BabyBear>,
-    beside: Beside,
-) -> Result<FlatAir<BabyBear>, AirError> {
-    let mut pool = ExprPool::new(alloc);
-    let root = root_of(&mut pool, joined, x, y)?;
-    let mut roots = Vec::new(alloc);
-    if roots.push(root).is_err() {
-        return Err(AirError::Memory);
-    }
-    let Beside {
-        width,
-        num_public_values,
-        periodic,
-        cells,
-    } = beside;
-    Ok(FlatAir::new(pool, roots, width, num_public_values, periodic, cells))
-}
-
-/// The AIR without constraints on a trace of four columns.
-pub fn make_idle(alloc: Global) -> FlatAir<BabyBear> {
-    let pool = ExprPool::new(alloc);
-    FlatAir::new(
-        pool,
-        Vec::new(alloc),
-        4,
-        0,
-        Vec::new(alloc),
-        Vec::new(alloc),
-    )
+    let main = pool.leaf(variable(BaseEntry::Main { offset: 0 }, 0))?;
+    let periodic = pool.leaf(variable(BaseEntry::Periodic, 0))?;
+    Ok(pool.sub(main, periodic)?)
 }
 
 /// The AIR on a trace of one column that asserts a column of the main trace.
-fn make_column(alloc: Global, offset: usize, index: usize) -> Result<FlatAir<BabyBear>, AirError> {
-    let column = variable(BaseEntry::Main { offset }, index);
-    make_flat(
-        alloc,
-        Joined::First,
-        column,
-        column,
-        columns_alone(alloc, 1),
-    )
+fn make_column(alloc: Global, offset: usize, index: usize) -> Result<FlatAir<BabyBear>, Fail> {
+    let mut pool = ExprPool::new(alloc);
+    let root = pool.leaf(variable(BaseEntry::Main { offset }, index))?;
+    let mut roots = Vec::new(alloc);
+    roots.push(root)?;
+    Ok(FlatAir::new(pool, roots, 1, 0, Vec::new(alloc), Vec::new(alloc)))
 }
 
-/// The AIR on a trace of one column whose difference from periodic column 0 is zero; with a public value, the last row's
-/// cell is to hold it.
+/// The AIR of the difference with this periodic column; with a public value, the last row's cell is to hold it.
 fn make_periodic(
     alloc: Global,
     values: &[u32],
     num_public_values: usize,
 ) -> Result<FlatAir<BabyBear>, Fail> {
-    let mut columns = Vec::new(alloc);
-    columns.push(column(alloc, values)?)?;
+    let mut periodic = Vec::new(alloc);
+    periodic.push(column(alloc, values)?)?;
     let mut cells = Vec::new(alloc);
     if num_public_values > 0 {
         cells.push(BoundaryPublic::new(0, BoundaryEnd::Last, 0))?;
     }
-    let beside = Beside {
-        width: 1,
-        num_public_values,
-        periodic: columns,
-        cells,
-    };
-    Ok(make_flat(alloc, Joined::Difference, current(0), periodic(0), beside)?)
+    let mut pool = ExprPool::new(alloc);
+    let root = difference(&mut pool)?;
+    let mut roots = Vec::new(alloc);
+    roots.push(root)?;
+    Ok(FlatAir::new(pool, roots, 1, num_public_values, periodic, cells))
 }
 
 /// The audit of an AIR from outside.

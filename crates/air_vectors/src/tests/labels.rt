@@ -1,10 +1,13 @@
 //! Labels of failures, their texts, and filters over the debug builder.
-use crate::tests::filters::{NamedKind, assert_named_kind, assert_named_under_both};
+use crate::tests::filters::{
+    assert_zero_named_under, assert_zero_named_under_both, assert_zero_under,
+    assert_zero_under_both,
+};
 use crate::tests::recording_builder;
 use air_field::{BabyBear, Field, RowMajorMatrixView, ViewPair};
 use p3_air::{
-    AirBuilder, AirBuilderWithContext, AirError, AirLayout, ConstraintFailure, ConstraintReport,
-    DebugConstraintBuilder, Joined, Lazy, Name, NamedAirBuilder, NamespaceExt,
+    AirBuilder, AirBuilderWithContext, AirError, AirLayout, AssertAllNamed, ConstraintFailure,
+    ConstraintReport, DebugConstraintBuilder, Lazy, Name, NamedAirBuilder, NamespaceExt,
     PassthroughNamedAirBuilder,
 };
 use std::alloc::Global;
@@ -42,48 +45,13 @@ fn zero(
     builder.assert_zero(number(x))
 }
 
-/// Asserts it of two numbers under a name.
-fn named(
-    builder: &mut DebugConstraintBuilder<'_, BabyBear, BabyBear>,
-    kind: NamedKind,
-    x: u32,
-    y: u32,
-    name: &'static str,
-) -> Result<(), AirError> {
-    assert_named_kind(builder, kind, number(x), number(y), name)
-}
-
-/// Asserts it of two numbers under a namespace of two parts.
-fn named_in_space(
-    builder: &mut DebugConstraintBuilder<'_, BabyBear, BabyBear>,
-    kind: NamedKind,
-    x: u32,
-    y: u32,
-    space: Joined<&'static str, &'static str>,
-) -> Result<(), AirError> {
-    assert_named_kind(builder, kind, number(x), number(y), space)
-}
-
-/// Asserts it of two numbers where both conditions hold, under a namespace of two parts.
-fn named_under_both(
-    builder: &mut DebugConstraintBuilder<'_, BabyBear, BabyBear>,
-    conditions: [u32; 2],
-    kind: NamedKind,
-    x: u32,
-    y: u32,
-    space: Joined<&'static str, &'static str>,
-) -> Result<(), AirError> {
-    let [outer, inner] = conditions.map(number);
-    assert_named_under_both(builder, outer, inner, kind, number(x), number(y), space)
-}
-
 /// Asserts under a name that a number is zero.
 fn zero_named(
     builder: &mut DebugConstraintBuilder<'_, BabyBear, BabyBear>,
     x: u32,
     name: &'static str,
 ) -> Result<(), AirError> {
-    named(builder, NamedKind::Zero, x, x, name)
+    builder.assert_zero_named(number(x), name)
 }
 
 /// Asserts that a number is zero, under a name that sets a counter when it is asked for.
@@ -118,9 +86,9 @@ fn labels_stand_behind_places(rt: HostRuntime) -> Result<(), Fail> {
     assert_formatted(&rt, &builder, "[]")?;
     zero(&mut builder, 3)?;
     zero_named(&mut builder, 5, "col_1_must_be_zero")?;
-    named(&mut builder, NamedKind::Equal, 2, 2, "passes")?;
-    named(&mut builder, NamedKind::One, 1, 0, "passes")?;
-    named(&mut builder, NamedKind::Bool, 2, 0, "")?;
+    builder.assert_eq_named(number(2), number(2), "passes")?;
+    builder.assert_one_named(number(1), "passes")?;
+    builder.assert_bool_named(number(2), "")?;
     assert_formatted(&rt, &builder, "[#0, #1 \"col_1_must_be_zero\", #4]")?;
     for failure in builder.failures() {
         assert_eq!(rt; failure.row, 7);
@@ -131,33 +99,10 @@ fn labels_stand_behind_places(rt: HostRuntime) -> Result<(), Fail> {
 #[test]
 fn elements_are_labelled_by_place(rt: HostRuntime) -> Result<(), Fail> {
     let mut builder = row(rt.alloc());
-    named(&mut builder, NamedKind::Zeros, 0, 1, "z")?;
+    builder.assert_zeros_named([number(0), number(1)], "z")?;
     assert_formatted(&rt, &builder, "[#1 \"z::[1]\"]")?;
-    named_in_space(&mut builder, NamedKind::Bools, 2, 1, "outer".join("mid"))?;
+    builder.assert_bools_named([number(2), number(1)], "outer".join("mid"))?;
     assert_formatted(&rt, &builder, "[#1 \"z::[1]\", #2 \"outer::mid::[0]\"]")
-}
-
-// 2 times 3 times what is asserted; where the second condition is zero nothing fails.
-#[test]
-fn filters_keep_the_labels(rt: HostRuntime) -> Result<(), Fail> {
-    let mut builder = row(rt.alloc());
-    let rows = [
-        ([2, 0], NamedKind::Zero, 5, 5),
-        ([2, 3], NamedKind::Zero, 5, 5),
-        ([2, 3], NamedKind::Zeros, 0, 5),
-        ([2, 3], NamedKind::Bools, 3, 2),
-        ([2, 3], NamedKind::Bools, 3, 1),
-        ([0, 3], NamedKind::Bools, 3, 2),
-    ];
-    for (conditions, kind, x, y) in rows {
-        named_under_both(&mut builder, conditions, kind, x, y, "outer".join("mid"))?;
-    }
-    zero(&mut builder, 1)?;
-    assert_formatted(
-        &rt,
-        &builder,
-        "[#1 \"outer::mid\", #3 \"outer::mid::[1]\", #4 \"outer::mid::[0]\", #5 \"outer::mid::[1]\", #6 \"outer::mid::[0]\", #10]",
-    )
 }
 
 #[test]
@@ -165,7 +110,7 @@ fn names_stand_under_namespaces(rt: HostRuntime) -> Result<(), Fail> {
     let mut builder = row(rt.alloc());
     builder.assert_zero_named(number(1), "outer".join("mid").name("leaf"))?;
     zero_named(&mut builder, 1, "")?;
-    named_in_space(&mut builder, NamedKind::Zero, 1, 1, "".join(""))?;
+    builder.assert_zero_named(number(1), "".name(""))?;
     assert_formatted(&rt, &builder, "[#0 \"outer::mid::leaf\", #1, #2 \"::\"]")?;
     let labelled = [true, false, true];
     for (failure, labelled) in builder.failures().iter().zip(labelled) {
@@ -190,6 +135,18 @@ fn labels_are_quoted(rt: HostRuntime) -> Result<(), Fail> {
         &builder,
         "[#0 \"\\0\\n\\r\\\\'~ \\u{1}\\u{1f}\\u{7f}\"]",
     )
+}
+
+#[test]
+fn a_filter_multiplies_and_keeps_the_label(rt: HostRuntime) -> Result<(), Fail> {
+    let mut builder = row(rt.alloc());
+    assert_zero_under(&mut builder, number(0), number(5))?;
+    zero(&mut builder, 1)?;
+    assert_formatted(&rt, &builder, "[#1]")?;
+    assert_zero_under_both(&mut builder, number(2), number(0), number(5))?;
+    assert_zero_named_under(&mut builder, number(0), number(5), "hidden")?;
+    assert_zero_named_under_both(&mut builder, number(2), number(3), number(5), "both")?;
+    assert_formatted(&rt, &builder, "[#1, #4 \"both\"]")
 }
 
 #[test]
@@ -253,28 +210,20 @@ fn a_recording_asks_for_no_label(rt: HostRuntime) -> Result<(), Fail> {
     Ok(())
 }
 
-/// The context that a builder hands on to a filter, as a text.
-fn context_text<AB: AirBuilderWithContext>(
-    alloc: Global,
-    builder: &mut AB,
-    condition: AB::Expr,
-) -> Result<String, Fail>
+/// The context that a builder hands on, as a text.
+fn context_text<AB: AirBuilderWithContext>(alloc: Global, builder: &AB) -> Result<String, Fail>
 where
     AB::EvalContext: Debug,
 {
-    let filter = builder.when(condition)?;
-    let context = filter.eval_context();
+    let context = builder.eval_context();
     Ok(format!(in alloc; "{context:?}")?)
 }
 
 #[test]
 fn a_debug_builder_has_the_empty_context(rt: HostRuntime) -> Result<(), Fail> {
     let alloc = rt.alloc();
-    let mut builder = row(alloc);
-    assert_eq!(rt;
-        context_text(alloc, &mut builder, number(2))?.as_str(),
-        "()"
-    );
+    let builder = row(alloc);
+    assert_eq!(rt; context_text(alloc, &builder)?.as_str(), "()");
     Ok(())
 }
 

@@ -1,8 +1,11 @@
 //! Recordings, the places of constraints, and the variables that the symbolic builder lends over an extension.
 ghost use Rattle.std.specs.Prelude.{IfOk};
 
-use crate::tests::extension::{Mixed, Permuted};
-use crate::tests::{Products, make_products, products_layout, record_products};
+use crate::tests::extension::{Mixed, Permuted, extension};
+use crate::tests::filters::{assert_constant_ext_under, constant_after_both};
+use crate::tests::trees::product_of;
+use crate::tests::{Products, make_products, products_layout, record_products, recording_builder};
+use air_symbolic::{ExprId, ExtLeaf};
 use p3_air::{
     Air, AirBuilder, AirError, AirLayout, BabyBear, BinomialExtensionField, ConstraintLayout,
     ExtEntry, ExtensionBuilder, ExtensionField, PermutationAirBuilder, SymbolicAirBuilder,
@@ -181,7 +184,7 @@ fn names_the_extension_entry_that_is_missing(rt: HostRuntime) -> Result<(), Fail
 }
 
 /// A builder over the extension that has recorded nothing.
-pub fn ext_builder(
+fn ext_builder(
     alloc: Global,
     layout: AirLayout,
 ) -> Result<SymbolicAirBuilder<BabyBear, BinomialExtensionField>, AirError>
@@ -190,48 +193,79 @@ pub fn ext_builder(
     SymbolicAirBuilder::new(alloc, layout)
 }
 
-type ExtBuilder = SymbolicAirBuilder<BabyBear, BinomialExtensionField>;
+// An equal expression has one number, so what is recorded is the constant 30 if it has that constant's number.
+#[test]
+fn nested_filters_are_recorded(rt: HostRuntime) -> Result<(), Fail> {
+    let mut builder = recording_builder(rt.alloc(), permuted_layout(0))?;
+    let [two, three, five, thirty] = [2, 3, 5, 30].map(BabyBear::new);
+    let thirty = constant_after_both(&mut builder, two, three, five, thirty)?;
+    assert_eq!(rt; builder.base_constraints(), [thirty].as_slice());
+    Ok(())
+}
 
-type ExtColumn = SymbolicVariableExt<BabyBear, BinomialExtensionField>;
+/// Asserts where a constant holds that one of the extension is zero, and leaves the builder ready.
+fn assert_once<AB: ExtensionBuilder>(
+    builder: &mut AB,
+    condition: AB::F,
+    x: AB::EF,
+) -> Result<(), AirError>
+    requires { AB.ready builder.old }
+    ensures { AB.ready builder.new }
+{
+    assert_constant_ext_under(builder, condition, x)
+}
 
-/// The variables of a permutation column, at the current and at the next row.
-fn permutation_column(
-    builder: &ExtBuilder,
-    column: usize,
-) -> Result<(Option<ExtColumn>, Option<ExtColumn>), AirError> {
-    let window = builder.permutation()?;
-    Ok((window.current(column), window.next(column)))
+/// The product that a number of the extension pool is.
+fn product_at(
+    builder: &mut SymbolicAirBuilder<BabyBear, BinomialExtensionField>,
+    id: ExprId<ExtLeaf<BabyBear, BinomialExtensionField>>,
+) -> Option<BinomialExtensionField>
+    requires { ⟦<SymbolicAirBuilder<BabyBear, BinomialExtensionField> as AirBuilder>⟧.ready builder.old }
+{
+    product_of(builder.ext_ring(), id)
+}
+
+/// The product that is recorded first where a constant holds for an element of the extension.
+fn recorded_product(
+    builder: &mut SymbolicAirBuilder<BabyBear, BinomialExtensionField>,
+    condition: BabyBear,
+    x: BinomialExtensionField,
+) -> Result<Option<BinomialExtensionField>, AirError>
+    requires { ⟦<SymbolicAirBuilder<BabyBear, BinomialExtensionField> as AirBuilder>⟧.ready builder.old }
+{
+    assert_once(builder, condition, x)?;
+    let Some(first) = builder.extension_constraints().first().copied() else {
+        return Ok(None);
+    };
+    Ok(product_at(builder, first))
+}
+
+#[test]
+fn a_filter_over_the_extension_is_recorded(rt: HostRuntime) -> Result<(), Fail> {
+    let mut builder = ext_builder(rt.alloc(), permuted_layout(0))?;
+    let x = extension(0, 1, 0, 0);
+    let product = recorded_product(&mut builder, BabyBear::new(3), x)?;
+    assert_eq!(rt; product, Some(extension(0, 3, 0, 0)));
+    assert_eq!(rt; builder.extension_constraints().len(), 1);
+    Ok(())
 }
 
 #[test]
 fn lends_extension_variables(rt: HostRuntime) -> Result<(), Fail> {
-    let builder = ext_builder(rt.alloc(), permuted_layout(2))?;
+    let layout = permuted_layout(2);
+    let mut builder = ext_builder(rt.alloc(), layout)?;
+    let window = builder.permutation()?;
     let current = SymbolicVariableExt::new(ExtEntry::Permutation { offset: 0 }, 0);
     let next = SymbolicVariableExt::new(ExtEntry::Permutation { offset: 1 }, 0);
-    assert_eq!(rt;
-        permutation_column(&builder, 0)?,
-        (Some(current), Some(next))
-    );
-    assert_eq!(rt; permutation_column(&builder, 1)?, (None, None));
+    assert_eq!(rt; window.current(0), Some(current));
+    assert_eq!(rt; window.next(0), Some(next));
+    assert_eq!(rt; window.current(1), None);
     assert_eq!(rt; builder.permutation_randomness().len(), 1);
     assert_eq!(rt; builder.permutation_values().len(), 1);
-    Ok(())
-}
-
-/// How many constraints of each kind a builder has, and their places, once `Mixed` is evaluated on it.
-fn mixed_places(alloc: Global) -> Result<(usize, usize, ConstraintLayout), AirError> {
-    let mut builder = ext_builder(alloc, permuted_layout(2))?;
     Mixed {}.eval(&mut builder)?;
-    let base = builder.base_constraints().len();
-    let ext = builder.extension_constraints().len();
+    assert_eq!(rt; builder.base_constraints().len(), 2);
+    assert_eq!(rt; builder.extension_constraints().len(), 1);
     let places = builder.constraint_layout()?;
-    Ok((base, ext, places))
-}
-
-#[test]
-fn a_builder_tells_the_places_of_its_constraints(rt: HostRuntime) -> Result<(), Fail> {
-    let (base, ext, places) = mixed_places(rt.alloc())?;
-    assert_eq!(rt; (base, ext), (2, 1));
     assert_eq!(rt; places.total_constraints(), 3);
     assert_eq!(rt; places.base_indices.as_slice(), [0, 2].as_slice());
     assert_eq!(rt; places.ext_indices.as_slice(), [1].as_slice());

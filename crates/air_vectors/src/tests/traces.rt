@@ -1,16 +1,110 @@
-//! Checks of AIRs whose constraints read a periodic column.
-use crate::tests::column;
-use crate::tests::flat_airs::{Beside, Joined, columns_alone, make_flat, periodic};
-use air_builder::AirError;
+//! Checks of AIRs whose constraints read a periodic column, or the next row of a preprocessed table.
+ghost use Rattle.std.specs.Prelude.{[], ◌∷◌, None, Some};
+ghost use Rattle.air_field.specs.Term.{periodic, preprocessed, leaf_term};
+ghost use Rattle.air_builder.specs.Assertion.{Base};
+
+use crate::tests::{column, matrix};
+use air_builder::{Air, AirError, BaseAir, BoundaryPublic};
 use air_field::{BabyBear, RowMajorMatrix};
 use air_symbolic::BaseEntry;
+use p3_air::author::{Periodic, PreprocessedNext, Zero, assert_all};
 use p3_air::{
-    CheckError, ConstraintFailure, ConstraintReport, FlatAir, check_all_constraints,
+    CheckError, ConstraintFailure, ConstraintReport, DebugConstraintBuilder, check_all_constraints,
     check_constraints,
 };
 use std::alloc::Global;
 use std::process::Abort;
 use std::test::Fail;
+
+/// At each row the first of its periodic columns is zero.
+#[derive(Drop)]
+struct Clocked {
+    periodic: Vec<Vec<BabyBear>>,
+}
+
+impl BaseAir<BabyBear> for Clocked {
+    ghost declared = { λ _. Base (leaf_term (periodic 0)) ∷ [] };
+
+    ghost width = { λ _. 1 };
+
+    ghost num_public_values = { λ _. 0 };
+
+    ghost beside = { λ a. record { preprocessed = None; periodic = a.periodic.items; cells = [] } };
+
+    fn width(&self) -> usize {
+        1
+    }
+
+    fn num_public_values(&self) -> usize {
+        0
+    }
+
+    fn preprocessed_trace(&self) -> Option<&RowMajorMatrix<BabyBear>> {
+        None
+    }
+
+    fn periodic_columns(&self) -> &[Vec<BabyBear>] {
+        self.periodic.as_slice()
+    }
+
+    fn public_boundary_io(&self) -> &[BoundaryPublic] {
+        &[]
+    }
+}
+
+impl<'a> Air<DebugConstraintBuilder<'a, BabyBear, BabyBear>> for Clocked {
+    fn eval(
+        &self,
+        builder: &mut DebugConstraintBuilder<'a, BabyBear, BabyBear>,
+    ) -> Result<(), AirError> {
+        assert_all(builder, &Zero(Periodic(0)))
+    }
+}
+
+/// At each row the next row of its table begins with zero.
+#[derive(Drop)]
+struct Tabled {
+    table: RowMajorMatrix<BabyBear>,
+}
+
+impl BaseAir<BabyBear> for Tabled {
+    ghost declared = { λ _. Base (leaf_term (preprocessed 1 0)) ∷ [] };
+
+    ghost width = { λ _. 1 };
+
+    ghost num_public_values = { λ _. 0 };
+
+    ghost beside = { λ a. record { preprocessed = Some a.table; periodic = []; cells = [] } };
+
+    fn width(&self) -> usize {
+        1
+    }
+
+    fn num_public_values(&self) -> usize {
+        0
+    }
+
+    fn preprocessed_trace(&self) -> Option<&RowMajorMatrix<BabyBear>> {
+        Some(&self.table)
+    }
+
+    fn periodic_columns(&self) -> &[Vec<BabyBear>] {
+        &[]
+    }
+
+    fn public_boundary_io(&self) -> &[BoundaryPublic] {
+        &[]
+    }
+}
+
+impl<'a> Air<DebugConstraintBuilder<'a, BabyBear, BabyBear>> for Tabled {
+    fn eval(
+        &self,
+        builder: &mut DebugConstraintBuilder<'a, BabyBear, BabyBear>,
+    ) -> Result<(), AirError> {
+        assert_all(builder, &Zero(PreprocessedNext(0)))
+    }
+}
 
 /// A main trace of so many rows of one zero.
 fn zeros(alloc: Global, rows: usize) -> Result<RowMajorMatrix<BabyBear>, Fail> {
@@ -21,35 +115,43 @@ fn zeros(alloc: Global, rows: usize) -> Result<RowMajorMatrix<BabyBear>, Fail> {
     Ok(RowMajorMatrix::new(values, 1)?)
 }
 
-/// At each row the first of these periodic columns is zero.
-fn make_clocked(alloc: Global, columns: &[&[u32]]) -> Result<FlatAir<BabyBear>, Fail> {
-    let mut listed = Vec::new(alloc);
+fn make_clocked(alloc: Global, columns: &[&[u32]]) -> Result<Clocked, Fail> {
+    let mut periodic = Vec::new(alloc);
     for numbers in columns {
-        listed.push(column(alloc, numbers)?)?;
+        periodic.push(column(alloc, numbers)?)?;
     }
-    let beside = Beside {
-        periodic: listed,
-        ..columns_alone(alloc, 1)
-    };
-    Ok(make_flat(alloc, Joined::First, periodic(0), periodic(0), beside)?)
+    Ok(Clocked { periodic })
 }
 
-/// The report on a trace by a clock.
+/// The report on a trace of `Clocked`.
 fn clock_report<'a>(
     alloc: Global,
-    air: &'a FlatAir<BabyBear>,
+    air: &'a Clocked,
     main: &'a RowMajorMatrix<BabyBear>,
 ) -> Result<ConstraintReport, AirError> {
     check_all_constraints(alloc, air, main, &[], None)
 }
 
-/// The first fault of a trace by a clock.
+/// The first fault of a trace of `Clocked`.
 fn clock_fault<'a>(
     alloc: Global,
-    air: &'a FlatAir<BabyBear>,
+    air: &'a Clocked,
     main: &'a RowMajorMatrix<BabyBear>,
 ) -> Result<(), CheckError> {
     check_constraints(alloc, air, main, &[])
+}
+
+/// The report on four rows of `Tabled`, by this table.
+fn table_report(
+    alloc: Global,
+    numbers: &[u32],
+    cap: Option<usize>,
+) -> Result<Result<ConstraintReport, AirError>, Fail> {
+    let air = Tabled {
+        table: matrix(alloc, numbers, 1)?,
+    };
+    let main = zeros(alloc, 4)?;
+    Ok(check_all_constraints(alloc, &air, &main, &[], cap))
 }
 
 /// The failures are of these rows, each at place 0 and without a label.
@@ -149,5 +251,28 @@ fn periods_that_do_not_fit_are_refused(rt: HostRuntime) -> Result<(), Fail> {
     for (columns, rows, refused) in cases {
         assert_clock_refused(&rt, rt.alloc(), columns, rows, refused)?;
     }
+    Ok(())
+}
+
+#[test]
+fn the_last_row_is_followed_by_the_first(rt: HostRuntime) -> Result<(), Fail> {
+    let cases: [(&[u32], &[usize]); 2] = [(&[5, 0, 0, 0], &[3]), (&[0, 5, 0, 5], &[0, 2])];
+    for (numbers, wanted) in cases {
+        let report = table_report(rt.alloc(), numbers, None)??;
+        assert_rows(&rt, &report.failures, wanted);
+        let report = table_report(rt.alloc(), numbers, Some(1))??;
+        assert_eq!(rt; report.failures.len(), 1);
+    }
+    Ok(())
+}
+
+#[test]
+fn a_table_of_another_height_is_refused(rt: HostRuntime) -> Result<(), Fail> {
+    let refused = AirError::PreprocessedHeight {
+        preprocessed: 3,
+        main: 4,
+    };
+    let report = table_report(rt.alloc(), &[0, 0, 0], None)?;
+    assert_eq!(rt; report.err(), Some(refused));
     Ok(())
 }

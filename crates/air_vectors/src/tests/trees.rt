@@ -1,5 +1,4 @@
 //! Recorded expressions read back: the text of a tree has its operands in brackets, with the operation between them.
-ghost use Rattle.std.specs.Prelude.{◌<◌, length};
 ghost use Rattle.air_symbolic.specs.Pools.{IsPool};
 
 use air_field::{BabyBear, BinomialExtensionField, ExtensionField};
@@ -63,46 +62,28 @@ pub fn base_text(
 }
 
 /// The element that a leaf of an extension pool is.
-fn element_of(
-    pool: &ExprPool<ExtLeaf<BabyBear, Element>>,
-    id: ExtId,
-    leaf: ExtLeaf<BabyBear, Element>,
-) -> Option<Element>
-    requires pool { IsPool ⟦<ExtLeaf<BabyBear, Element> as SymLeaf>⟧.reads pool.now }
-    requires here { id < length pool.now.1 }
-{
-    match leaf {
-        ExtLeaf::ExtConstant(c) => Some(c),
-        ExtLeaf::Base(_) => Some(Element::from_base(pool.as_const(id)?)),
-        ExtLeaf::ExtVariable(_) => None,
-    }
-}
-
-/// The value of an expression of constants, to this depth.
-pub fn value_of(
-    pool: &ExprPool<ExtLeaf<BabyBear, Element>>,
-    id: ExtId,
-    depth: usize,
-) -> Option<Element>
+fn element_of(pool: &ExprPool<ExtLeaf<BabyBear, Element>>, id: ExtId) -> Option<Element>
     requires { IsPool ⟦<ExtLeaf<BabyBear, Element> as SymLeaf>⟧.reads pool.now }
 {
-    if depth == 0 || !pool.contains(id) {
+    if !pool.contains(id) {
         return None;
     }
     match *pool.node(id) {
-        SymbolicExpr::Leaf(leaf) => element_of(pool, id, leaf),
-        SymbolicExpr::Neg { x, .. } => Some(value_of(pool, x, depth - 1)?.neg()),
-        SymbolicExpr::Add { x, y, .. } => {
-            let left = value_of(pool, x, depth - 1)?;
-            Some(left.add(value_of(pool, y, depth - 1)?))
-        }
-        SymbolicExpr::Sub { x, y, .. } => {
-            let left = value_of(pool, x, depth - 1)?;
-            Some(left.sub(value_of(pool, y, depth - 1)?))
-        }
-        SymbolicExpr::Mul { x, y, .. } => {
-            let left = value_of(pool, x, depth - 1)?;
-            Some(left.mul(value_of(pool, y, depth - 1)?))
-        }
+        SymbolicExpr::Leaf(ExtLeaf::ExtConstant(c)) => Some(c),
+        SymbolicExpr::Leaf(ExtLeaf::Base(_)) => Some(Element::from_base(pool.as_const(id)?)),
+        _ => None,
+    }
+}
+
+/// The product that two elements are recorded as.
+pub fn product_of(pool: &ExprPool<ExtLeaf<BabyBear, Element>>, id: ExtId) -> Option<Element>
+    requires { IsPool ⟦<ExtLeaf<BabyBear, Element> as SymLeaf>⟧.reads pool.now }
+{
+    if !pool.contains(id) {
+        return None;
+    }
+    match *pool.node(id) {
+        SymbolicExpr::Mul { x, y, .. } => Some(element_of(pool, x)?.mul(element_of(pool, y)?)),
+        _ => None,
     }
 }

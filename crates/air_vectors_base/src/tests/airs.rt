@@ -5,7 +5,6 @@ use crate::tests::numbers::{assert_numbers, number};
 use air_builder::{AirError, BaseAir, BoundaryEnd, BoundaryPublic};
 use air_field::{BabyBear, RowMajorMatrix};
 use std::alloc::Global;
-use std::process::Abort;
 use std::test::Fail;
 
 /// No constraints; a preprocessed table, periodic columns and cells.
@@ -67,55 +66,42 @@ fn periodic(alloc: Global, columns: &[&[u32]]) -> Result<Tables, Fail> {
     })
 }
 
-fn values_at(alloc: Global, air: &Tables, row: usize) -> Result<Vec<BabyBear>, AirError> {
-    air.periodic_values(alloc, row)
-}
-
-fn matrix_of(alloc: Global, air: &Tables) -> Result<Option<RowMajorMatrix<BabyBear>>, AirError> {
-    air.periodic_columns_matrix(alloc)
-}
-
-// The matrix of the columns has these rows, of this width.
-fn assert_matrix(
-    rt: &impl Abort,
-    alloc: Global,
-    air: &Tables,
-    width: usize,
-    rows: &[[u32; 2]],
-) -> Result<(), Fail> {
-    let Some(matrix) = matrix_of(alloc, air)? else {
+#[test]
+fn columns_go_round(rt: HostRuntime) -> Result<(), Fail> {
+    let air = periodic(rt.alloc(), &[&[1, 2], &[3, 4, 5, 6]])?;
+    assert_eq!(rt; air.num_periodic_columns(), 2);
+    assert_numbers(&rt, &air.periodic_values(rt.alloc(), 7)?, &[2, 6]);
+    let Some(matrix) = air.periodic_columns_matrix(rt.alloc())? else {
         return Err(Fail::new("no matrix"));
     };
-    assert_eq!(rt; (matrix.width(), matrix.height()), (width, rows.len()));
-    for (row, wanted) in rows.iter().enumerate() {
+    assert_eq!(rt; matrix.width(), 2);
+    assert_eq!(rt; matrix.height(), 4);
+    for (row, wanted) in [[1, 3], [2, 4], [1, 5], [2, 6]].iter().enumerate() {
         let Some(values) = matrix.row_slice(row) else {
             return Err(Fail::new("no row"));
         };
-        assert_numbers(rt, values, wanted);
+        assert_numbers(&rt, values, wanted);
     }
     Ok(())
 }
 
 #[test]
-fn columns_go_round(rt: HostRuntime) -> Result<(), Fail> {
-    let air = periodic(rt.alloc(), &[&[1, 2], &[3, 4, 5, 6]])?;
-    assert_eq!(rt; air.num_periodic_columns(), 2);
-    assert_numbers(&rt, &values_at(rt.alloc(), &air, 7)?, &[2, 6]);
-    assert_matrix(&rt, rt.alloc(), &air, 2, &[[1, 3], [2, 4], [1, 5], [2, 6]])
-}
-
-#[test]
 fn empty_columns_are_refused(rt: HostRuntime) -> Result<(), Fail> {
-    let alloc = rt.alloc();
     let refused = AirError::EmptyPeriodicColumn { index: 0 };
-    let one = periodic(alloc, &[&[], &[1]])?;
-    assert_eq!(rt; matrix_of(alloc, &one).err(), Some(refused));
-    assert_eq!(rt; values_at(alloc, &one, 0).err(), Some(refused));
-    let all = periodic(alloc, &[&[], &[]])?;
-    assert_matrix(&rt, alloc, &all, 2, &[])?;
-    let none = periodic(alloc, &[])?;
-    assert!(rt; matrix_of(alloc, &none)?.is_none());
-    assert!(rt; values_at(alloc, &none, 5)?.is_empty());
+    let one = periodic(rt.alloc(), &[&[], &[1]])?;
+    assert_eq!(rt;
+        one.periodic_columns_matrix(rt.alloc()).err(),
+        Some(refused)
+    );
+    assert_eq!(rt; one.periodic_values(rt.alloc(), 0).err(), Some(refused));
+    let all = periodic(rt.alloc(), &[&[], &[]])?;
+    let Some(matrix) = all.periodic_columns_matrix(rt.alloc())? else {
+        return Err(Fail::new("no matrix"));
+    };
+    assert_eq!(rt; (matrix.width(), matrix.height()), (2, 0));
+    let none = periodic(rt.alloc(), &[])?;
+    assert!(rt; none.periodic_columns_matrix(rt.alloc())?.is_none());
+    assert_numbers(&rt, &none.periodic_values(rt.alloc(), 5)?, &[]);
     Ok(())
 }
 

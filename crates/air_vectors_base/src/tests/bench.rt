@@ -27,17 +27,6 @@ pub trait TableLeaf: SymLeaf {
     fn kind(&self) -> LeafKind;
 }
 
-/// An operation of two expressions, which folds or only inserts.
-#[derive(Clone, Copy)]
-enum Binary {
-    Add,
-    Sub,
-    Mul,
-    InsertAdd,
-    InsertSub,
-    InsertMul,
-}
-
 #[derive(Drop)]
 pub struct Bench<A: SymLeaf> {
     pub pool: ExprPool<A>,
@@ -143,40 +132,69 @@ impl<A: SymLeaf> Bench<A> {
         self.pool.constant(A::F::from_u64(c))
     }
 
-    // The operation on what is at two places.
-    fn binary(&mut self, operation: Binary, x: usize, y: usize) -> Result<ExprId<A>, RingError> {
+    fn add(&mut self, x: usize, y: usize) -> Result<ExprId<A>, RingError> {
         let x = self.at(x)?;
         let y = self.at(y)?;
-        match operation {
-            Binary::Add => self.pool.add(x, y),
-            Binary::Sub => self.pool.sub(x, y),
-            Binary::Mul => self.pool.mul(x, y),
-            Binary::InsertAdd => self.pool.insert_add(x, y),
-            Binary::InsertSub => self.pool.insert_sub(x, y),
-            Binary::InsertMul => self.pool.insert_mul(x, y),
-        }
+        self.pool.add(x, y)
     }
 
-    fn negative(&mut self, x: usize, folded: bool) -> Result<ExprId<A>, RingError> {
+    fn sub(&mut self, x: usize, y: usize) -> Result<ExprId<A>, RingError> {
         let x = self.at(x)?;
-        if folded {
-            self.pool.neg(x)
-        } else {
-            self.pool.insert_neg(x)
-        }
+        let y = self.at(y)?;
+        self.pool.sub(x, y)
     }
 
-    // The sum of what is at some places, or the product.
-    fn joined(&mut self, places: &[usize], added: bool) -> Result<ExprId<A>, RingError> {
+    fn neg(&mut self, x: usize) -> Result<ExprId<A>, RingError> {
+        let x = self.at(x)?;
+        self.pool.neg(x)
+    }
+
+    fn mul(&mut self, x: usize, y: usize) -> Result<ExprId<A>, RingError> {
+        let x = self.at(x)?;
+        let y = self.at(y)?;
+        self.pool.mul(x, y)
+    }
+
+    fn insert_add(&mut self, x: usize, y: usize) -> Result<ExprId<A>, RingError> {
+        let x = self.at(x)?;
+        let y = self.at(y)?;
+        self.pool.insert_add(x, y)
+    }
+
+    fn insert_sub(&mut self, x: usize, y: usize) -> Result<ExprId<A>, RingError> {
+        let x = self.at(x)?;
+        let y = self.at(y)?;
+        self.pool.insert_sub(x, y)
+    }
+
+    fn insert_neg(&mut self, x: usize) -> Result<ExprId<A>, RingError> {
+        let x = self.at(x)?;
+        self.pool.insert_neg(x)
+    }
+
+    fn insert_mul(&mut self, x: usize, y: usize) -> Result<ExprId<A>, RingError> {
+        let x = self.at(x)?;
+        let y = self.at(y)?;
+        self.pool.insert_mul(x, y)
+    }
+
+    fn sum(&mut self, places: &[usize]) -> Result<ExprId<A>, RingError> {
         let all = self.all_at(places)?;
         let xs = all.as_slice();
-        if !self.contains_all(xs) {
-            return Err(MISSING);
-        }
-        if added {
+        if self.contains_all(xs) {
             self.pool.sum(xs)
         } else {
+            Err(MISSING)
+        }
+    }
+
+    fn product(&mut self, places: &[usize]) -> Result<ExprId<A>, RingError> {
+        let all = self.all_at(places)?;
+        let xs = all.as_slice();
+        if self.contains_all(xs) {
             self.pool.product(xs)
+        } else {
+            Err(MISSING)
         }
     }
 
@@ -219,16 +237,16 @@ impl<A: TableLeaf> Bench<A> {
             Step::Column(index) => A::column(self, index),
             Step::FirstRow => A::first_row(self),
             Step::Transition => A::transition(self),
-            Step::Add(x, y) => self.binary(Binary::Add, x, y),
-            Step::Sub(x, y) => self.binary(Binary::Sub, x, y),
-            Step::Neg(x) => self.negative(x, true),
-            Step::Mul(x, y) => self.binary(Binary::Mul, x, y),
-            Step::InsertAdd(x, y) => self.binary(Binary::InsertAdd, x, y),
-            Step::InsertSub(x, y) => self.binary(Binary::InsertSub, x, y),
-            Step::InsertNeg(x) => self.negative(x, false),
-            Step::InsertMul(x, y) => self.binary(Binary::InsertMul, x, y),
-            Step::Sum(places) => self.joined(places, true),
-            Step::Product(places) => self.joined(places, false),
+            Step::Add(x, y) => self.add(x, y),
+            Step::Sub(x, y) => self.sub(x, y),
+            Step::Neg(x) => self.neg(x),
+            Step::Mul(x, y) => self.mul(x, y),
+            Step::InsertAdd(x, y) => self.insert_add(x, y),
+            Step::InsertSub(x, y) => self.insert_sub(x, y),
+            Step::InsertNeg(x) => self.insert_neg(x),
+            Step::InsertMul(x, y) => self.insert_mul(x, y),
+            Step::Sum(places) => self.sum(places),
+            Step::Product(places) => self.product(places),
         }
     }
 

@@ -5,134 +5,121 @@ use air_variables::{BaseEntry, ExtEntry, SymbolicVariable, SymbolicVariableExt};
 use air_wire::{FlatError, Spelled, from_flat_value};
 use serde_json::{Value, json};
 use std::alloc::Global;
-use std::process::Abort;
 use std::test::*;
 
 type ExtensionLeaf = ExtLeaf<BabyBear, BinomialExtensionField>;
 
 const COLUMN: &str = r#"{"Leaf":{"Variable":{"entry":{"Main":{"offset":0}},"index":0}}}"#;
 
-// How many nodes a list of base nodes makes in a new pool, or why it is refused.
-fn read(alloc: Global, value: &Value) -> Result<usize, FlatError> {
+// Why a list of base nodes is refused, if it is.
+fn fault(alloc: Global, text: &str) -> Result<Option<FlatError>, Fail> {
+    let value = Value::from_str(alloc, text).ok().ok_or("no JSON")?;
     let mut pool: ExprPool<BaseLeaf<BabyBear>> = ExprPool::new(alloc);
-    let _root = from_flat_value(alloc, &mut pool, value)?;
-    Ok(pool.len())
+    Ok(from_flat_value(alloc, &mut pool, &value).err())
 }
 
-// The same of a list of extension nodes.
-fn read_ext(alloc: Global, value: &Value) -> Result<usize, FlatError> {
+// Why a list of extension nodes is refused, if it is.
+fn ext_fault(alloc: Global, text: &str) -> Result<Option<FlatError>, Fail> {
+    let value = Value::from_str(alloc, text).ok().ok_or("no JSON")?;
     let mut pool: ExprPool<ExtensionLeaf> = ExprPool::new(alloc);
-    let _root = from_flat_value(alloc, &mut pool, value)?;
-    Ok(pool.len())
+    Ok(from_flat_value(alloc, &mut pool, &value).err())
 }
 
-// What is read of each text.
-fn assert_read(
-    rt: &impl Abort,
-    alloc: Global,
-    rows: &[(&str, Result<usize, FlatError>)],
-) -> Result<(), Fail> {
-    for (text, wanted) in rows {
-        let value = Value::from_str(alloc, *text).ok().ok_or("no JSON")?;
-        assert_eq!(rt; read(alloc, &value), *wanted, "{text}");
-    }
-    Ok(())
+// How many nodes a list of base nodes makes in a new pool.
+fn count(alloc: Global, text: &str) -> Result<usize, Fail> {
+    let value = Value::from_str(alloc, text).ok().ok_or("no JSON")?;
+    let mut pool: ExprPool<BaseLeaf<BabyBear>> = ExprPool::new(alloc);
+    let _root = from_flat_value(alloc, &mut pool, &value)
+        .ok()
+        .ok_or("refused")?;
+    Ok(pool.len())
 }
 
 #[test]
 fn faults_of_operands_and_degrees(rt: HostRuntime) -> Result<(), Fail> {
+    let alloc = rt.alloc();
+    let doubled =
+        r#"[{"Leaf":{"Variable":{"entry":{"Main":{"offset":0}},"index":0}}},{"Add":{"degree_multiple":2,"x":0,"y":0}}]"#;
     let wrong = FlatError::WrongDegree {
         at: 1,
         stated: 2,
         found: 1,
     };
-    let rows = [
-        (
-            r#"[{"Leaf":{"Variable":{"entry":{"Main":{"offset":0}},"index":0}}},{"Add":{"degree_multiple":2,"x":0,"y":0}}]"#,
-            Err(wrong),
-        ),
-        ("[]", Err(FlatError::EmptyList)),
-        (
-            r#"[{"Add":{"x":0,"y":2,"degree_multiple":1}}]"#,
-            Err(FlatError::Operand { at: 0, operand: 0 }),
-        ),
-        (
-            r#"[{"Leaf":"IsFirstRow"},{"Neg":{"degree_multiple":1,"x":1}}]"#,
-            Err(FlatError::Operand { at: 1, operand: 1 }),
-        ),
-        (
-            r#"[{"Leaf":"IsFirstRow"},{"Add":{"degree_multiple":9,"x":0,"y":7}}]"#,
-            Err(FlatError::Operand { at: 1, operand: 7 }),
-        ),
-    ];
-    assert_read(&rt, rt.alloc(), &rows)
+    assert_eq!(rt; fault(alloc, doubled)?, Some(wrong));
+    assert_eq!(rt; fault(alloc, "[]")?, Some(FlatError::EmptyList));
+    let first = r#"[{"Add":{"x":0,"y":2,"degree_multiple":1}}]"#;
+    assert_eq!(rt;
+        fault(alloc, first)?,
+        Some(FlatError::Operand { at: 0, operand: 0 })
+    );
+    let itself = r#"[{"Leaf":"IsFirstRow"},{"Neg":{"degree_multiple":1,"x":1}}]"#;
+    assert_eq!(rt;
+        fault(alloc, itself)?,
+        Some(FlatError::Operand { at: 1, operand: 1 })
+    );
+    let later = r#"[{"Leaf":"IsFirstRow"},{"Add":{"degree_multiple":9,"x":0,"y":7}}]"#;
+    assert_eq!(rt;
+        fault(alloc, later)?,
+        Some(FlatError::Operand { at: 1, operand: 7 })
+    );
+    Ok(())
 }
 
 #[test]
 fn faults_of_shapes_and_numbers(rt: HostRuntime) -> Result<(), Fail> {
-    let shape = Err(FlatError::Shape { at: 0 });
-    let modulus = Err(FlatError::NotCanonical { at: 0 });
-    let rows = [
-        (
-            r#"[{"Leaf":"IsFirstRow","Neg":{"degree_multiple":1,"x":0}}]"#,
-            shape,
-        ),
-        (r#"[{"Leaf":{"IsFirstRow":null}}]"#, shape),
-        (r#"[{"Leaf":{"Constant":-1}}]"#, shape),
-        ("[{}]", shape),
-        (COLUMN, shape),
-        (r#"[{"Leaf":{"Constant":2013265921}}]"#, modulus),
-        (r#"[{"Leaf":{"Constant":2013265921}},5]"#, modulus),
-        (
-            r#"[{"Leaf":{"Constant":2013265921}},{"Leaf":{"Constant":1}}]"#,
-            modulus,
-        ),
-    ];
-    assert_read(&rt, rt.alloc(), &rows)
+    let alloc = rt.alloc();
+    let shape = Some(FlatError::Shape { at: 0 });
+    let two = r#"[{"Leaf":"IsFirstRow","Neg":{"degree_multiple":1,"x":0}}]"#;
+    assert_eq!(rt; fault(alloc, two)?, shape);
+    assert_eq!(rt; fault(alloc, r#"[{"Leaf":{"IsFirstRow":null}}]"#)?, shape);
+    assert_eq!(rt; fault(alloc, r#"[{"Leaf":{"Constant":-1}}]"#)?, shape);
+    assert_eq!(rt; fault(alloc, "[{}]")?, shape);
+    assert_eq!(rt; fault(alloc, COLUMN)?, shape);
+    let modulus = Some(FlatError::NotCanonical { at: 0 });
+    assert_eq!(rt;
+        fault(alloc, r#"[{"Leaf":{"Constant":2013265921}}]"#)?,
+        modulus
+    );
+    assert_eq!(rt;
+        fault(alloc, r#"[{"Leaf":{"Constant":2013265921}},5]"#)?,
+        modulus
+    );
+    let unreached = r#"[{"Leaf":{"Constant":2013265921}},{"Leaf":{"Constant":1}}]"#;
+    assert_eq!(rt; fault(alloc, unreached)?, modulus);
+    Ok(())
 }
 
 #[test]
 fn lists_that_are_read(rt: HostRuntime) -> Result<(), Fail> {
-    let rows = [
-        (
-            r#"[{"Leaf":"IsFirstRow"},{"Neg":{"degree_multiple":1,"note":true,"x":0}}]"#,
-            Ok(2),
-        ),
-        (
-            r#"[{"Leaf":{"Constant":1}},{"Leaf":{"Constant":2}},{"Add":{"degree_multiple":0,"x":0,"y":1}}]"#,
-            Ok(3),
-        ),
-        (
-            r#"[{"Leaf":"IsFirstRow"},{"Leaf":"IsFirstRow"},{"Mul":{"degree_multiple":2,"x":0,"y":1}}]"#,
-            Ok(2),
-        ),
-    ];
-    assert_read(&rt, rt.alloc(), &rows)
+    let alloc = rt.alloc();
+    let noted = r#"[{"Leaf":"IsFirstRow"},{"Neg":{"degree_multiple":1,"note":true,"x":0}}]"#;
+    assert_eq!(rt; count(alloc, noted)?, 2);
+    let unfolded =
+        r#"[{"Leaf":{"Constant":1}},{"Leaf":{"Constant":2}},{"Add":{"degree_multiple":0,"x":0,"y":1}}]"#;
+    assert_eq!(rt; count(alloc, unfolded)?, 3);
+    let twice =
+        r#"[{"Leaf":"IsFirstRow"},{"Leaf":"IsFirstRow"},{"Mul":{"degree_multiple":2,"x":0,"y":1}}]"#;
+    assert_eq!(rt; count(alloc, twice)?, 2);
+    Ok(())
 }
 
-// The last is read, with a list of base nodes inside, and makes five nodes.
 #[test]
 fn faults_of_extension_lists(rt: HostRuntime) -> Result<(), Fail> {
     let alloc = rt.alloc();
-    let rows = [
-        (
-            r#"[{"Leaf":{"ExtConstant":[1,0,0]}}]"#,
-            Err(FlatError::Shape { at: 0 }),
-        ),
-        (r#"[{"Leaf":{"Base":[]}}]"#, Err(FlatError::EmptyList)),
-        (
-            r#"[{"Leaf":{"Base":[{"Neg":{"degree_multiple":0,"x":0}}]}}]"#,
-            Err(FlatError::Operand { at: 0, operand: 0 }),
-        ),
-        (
-            r#"[{"Leaf":{"ExtVariable":{"entry":{"Permutation":{"offset":0}},"index":0}}},{"Leaf":{"ExtConstant":[0,1,0,0]}},{"Sub":{"degree_multiple":1,"x":0,"y":1}},{"Leaf":{"Base":[{"Leaf":{"Constant":7}}]}},{"Add":{"degree_multiple":1,"x":2,"y":3}}]"#,
-            Ok(5),
-        ),
-    ];
-    for (text, wanted) in rows {
-        let value = Value::from_str(alloc, text).ok().ok_or("no JSON")?;
-        assert_eq!(rt; read_ext(alloc, &value), wanted, "{text}");
-    }
+    let short = r#"[{"Leaf":{"ExtConstant":[1,0,0]}}]"#;
+    assert_eq!(rt; ext_fault(alloc, short)?, Some(FlatError::Shape { at: 0 }));
+    assert_eq!(rt;
+        ext_fault(alloc, r#"[{"Leaf":{"Base":[]}}]"#)?,
+        Some(FlatError::EmptyList)
+    );
+    let inner = r#"[{"Leaf":{"Base":[{"Neg":{"degree_multiple":0,"x":0}}]}}]"#;
+    assert_eq!(rt;
+        ext_fault(alloc, inner)?,
+        Some(FlatError::Operand { at: 0, operand: 0 })
+    );
+    let example =
+        r#"[{"Leaf":{"ExtVariable":{"entry":{"Permutation":{"offset":0}},"index":0}}},{"Leaf":{"ExtConstant":[0,1,0,0]}},{"Sub":{"degree_multiple":1,"x":0,"y":1}},{"Leaf":{"Base":[{"Leaf":{"Constant":7}}]}},{"Add":{"degree_multiple":1,"x":2,"y":3}}]"#;
+    assert_eq!(rt; ext_fault(alloc, example)?, None);
     Ok(())
 }
 
@@ -146,8 +133,10 @@ fn squarings_past_the_greatest_degree(rt: HostRuntime) -> Result<(), Fail> {
         items.push(json!(in alloc; {"Mul": {"degree_multiple": degree, "x": place, "y": place}})?)?;
     }
     items.push(json!(in alloc; {"Mul": {"degree_multiple": 0, "x": 63, "y": 63}})?)?;
-    let refused = read(alloc, &Value::Array(items));
-    assert_eq!(rt; refused, Err(FlatError::DegreeOverflow));
+    let value = Value::Array(items);
+    let mut pool: ExprPool<BaseLeaf<BabyBear>> = ExprPool::new(alloc);
+    let refused = from_flat_value(alloc, &mut pool, &value).err();
+    assert_eq!(rt; refused, Some(FlatError::DegreeOverflow));
     Ok(())
 }
 

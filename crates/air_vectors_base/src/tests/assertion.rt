@@ -1,0 +1,222 @@
+//! Assertions as rows of tables, and the call that each of them is.
+ghost use Rattle.std.specs.Prelude.{OnOk};
+
+use crate::tests::filters::{
+    Batch, NamedBatch, assert_batch_under_both, assert_named_batch_under_both,
+    assert_zero_ext_under, assert_zero_ext_under_both, assert_zero_named_under_both,
+    assert_zero_under, assert_zero_under_both, assert_zeros_ext_under,
+};
+use air_builder::{
+    AirBuilder, AirError, ExtensionBuilder, Lazy, Name, NamedAirBuilder, NamedExtensionBuilder,
+    NamespaceExt,
+};
+use std::cell::Cell;
+
+/// An assertion without a name.
+#[derive(Clone, Copy)]
+pub enum Assertion<E> {
+    Zero(E),
+    One(E),
+    Equal(E, E),
+    Bool(E),
+    /// The last is zero where the first is not.
+    ZeroUnder(E, E),
+    /// The last is zero where neither of the first two is.
+    ZeroUnderBoth(E, E, E),
+    /// The last is zero where the first two differ.
+    ZeroWhereDifferent(E, E, E),
+    /// It is zero in each window of two rows.
+    ZeroInWindow(E),
+    /// The batch holds where neither of the first two is zero.
+    BatchUnderBoth(E, E, Batch<E>),
+}
+
+/// An assertion under a name, which has as many parts as are said here, and else one.
+#[derive(Clone, Copy)]
+pub enum NamedAssertion<E> {
+    Zero(E),
+    One(E),
+    Equal(E, E),
+    Bool(E),
+    /// Two parts.
+    ZeroInSpace(E),
+    /// The last is zero where neither of the first two is; three parts.
+    ZeroUnderBoth(E, E, E),
+    /// The batch holds where neither of the first two is zero; two parts.
+    BatchUnderBoth(E, E, NamedBatch<E>),
+}
+
+/// An assertion over an extension.
+#[derive(Clone, Copy)]
+pub enum ExtAssertion<E, X> {
+    Zero(X),
+    One(X),
+    Equal(X, X),
+    ZeroUnder(E, X),
+    ZeroUnderBoth(E, E, X),
+    ZerosUnder(E, [X; 2]),
+}
+
+/// An assertion over an extension under a name.
+#[derive(Clone, Copy)]
+pub enum NamedExtAssertion<E, X> {
+    Zero(X),
+    One(X),
+    Equal(X, X),
+    ZeroUnder(E, X),
+}
+
+// An assertion under each kind of filter: a filter at a concrete builder has no proof yet.
+fn assert_filtered<AB: AirBuilder>(
+    builder: &mut AB,
+    x: AB::Expr,
+    y: AB::Expr,
+    z: AB::Expr,
+) -> Result<(), AirError>
+    requires ready { AB.ready builder.old }
+    requires x_in { AB.Ring.has (AB.ring_of builder.old) x }
+    requires y_in { AB.Ring.has (AB.ring_of builder.old) y }
+    requires z_in { AB.Ring.has (AB.ring_of builder.old) z }
+    ensures { OnOk result (AB.kept builder.old builder.new) }
+{
+    let mut filter = builder.when_ne(x, y)?;
+    filter.assert_zero(z)?;
+    Ok(())
+}
+
+fn assert_in_window<AB: AirBuilder>(builder: &mut AB, x: AB::Expr) -> Result<(), AirError>
+    requires ready { AB.ready builder.old }
+    requires x_in { AB.Ring.has (AB.ring_of builder.old) x }
+    ensures { AB.kept builder.old builder.new }
+{
+    let mut filter = builder.when_transition_window(2)?;
+    filter.assert_zero(x)?;
+    Ok(())
+}
+
+// An assertion over the extension under a name, where a condition holds.
+fn assert_named_under<AB: NamedExtensionBuilder, N: Name>(
+    builder: &mut AB,
+    condition: AB::Expr,
+    x: AB::ExprEF,
+    name: N,
+) -> Result<(), AirError>
+    requires ready { AB.ready builder.old }
+    requires condition_in { AB.Ring.has (AB.ring_of builder.old) condition }
+    requires x_in { AB.ExtRing.has (AB.ext_ring_of builder.old) x }
+    requires can_evaluate { N.can_evaluate name }
+    ensures { OnOk result (AB.kept builder.old builder.new) }
+{
+    let mut filter = builder.when(condition)?;
+    filter.assert_zero_ext_named(x, name)?;
+    Ok(())
+}
+
+/// Makes the assertion.
+pub fn assert_row<AB: AirBuilder>(
+    builder: &mut AB,
+    row: Assertion<AB::Expr>,
+) -> Result<(), AirError>
+    requires ready { AB.ready builder.old }
+    requires all_in { (x : AB.Expr) → AB.Ring.has (AB.ring_of builder.old) x }
+{
+    match row {
+        Assertion::Zero(x) => builder.assert_zero(x),
+        Assertion::One(x) => builder.assert_one(x),
+        Assertion::Equal(x, y) => builder.assert_eq(x, y),
+        Assertion::Bool(x) => builder.assert_bool(x),
+        Assertion::ZeroUnder(condition, x) => assert_zero_under(builder, condition, x),
+        Assertion::ZeroUnderBoth(outer, inner, x) => {
+            assert_zero_under_both(builder, outer, inner, x)
+        }
+        Assertion::ZeroWhereDifferent(x, y, z) => assert_filtered(builder, x, y, z),
+        Assertion::ZeroInWindow(x) => assert_in_window(builder, x),
+        Assertion::BatchUnderBoth(outer, inner, batch) => {
+            assert_batch_under_both(builder, outer, inner, batch)
+        }
+    }
+}
+
+/// Makes the assertion under the name of these parts.
+pub fn assert_named_row<AB: NamedAirBuilder>(
+    builder: &mut AB,
+    row: NamedAssertion<AB::Expr>,
+    parts: [&'static str; 3],
+) -> Result<(), AirError>
+    requires ready { AB.ready builder.old }
+    requires all_in { (x : AB.Expr) → AB.Ring.has (AB.ring_of builder.old) x }
+{
+    let [a, b, c] = parts;
+    match row {
+        NamedAssertion::Zero(x) => builder.assert_zero_named(x, a),
+        NamedAssertion::One(x) => builder.assert_one_named(x, a),
+        NamedAssertion::Equal(x, y) => builder.assert_eq_named(x, y, a),
+        NamedAssertion::Bool(x) => builder.assert_bool_named(x, a),
+        NamedAssertion::ZeroInSpace(x) => builder.assert_zero_named(x, a.name(b)),
+        NamedAssertion::ZeroUnderBoth(outer, inner, x) => {
+            assert_zero_named_under_both(builder, outer, inner, x, a.join(b).name(c))
+        }
+        NamedAssertion::BatchUnderBoth(outer, inner, batch) => {
+            assert_named_batch_under_both(builder, outer, inner, batch, a.join(b))
+        }
+    }
+}
+
+/// Asserts that `x` is zero under a name that a closure makes, which then leaves the number in the cell.
+pub fn assert_lazily<AB: NamedAirBuilder>(
+    builder: &mut AB,
+    x: AB::Expr,
+    asked: &Cell<u32>,
+    number: u32,
+    name: &'static str,
+) -> Result<(), AirError>
+    requires ready { AB.ready builder.old }
+    requires x_in { AB.Ring.has (AB.ring_of builder.old) x }
+{
+    let lazy = Lazy(|| {
+        asked.set(number);
+        Ok(name)
+    });
+    builder.assert_zero_named(x, lazy)
+}
+
+/// Makes the assertion.
+pub fn assert_ext_row<AB: ExtensionBuilder>(
+    builder: &mut AB,
+    row: ExtAssertion<AB::Expr, AB::ExprEF>,
+) -> Result<(), AirError>
+    requires ready { AB.ready builder.old }
+    requires all_in { (x : AB.Expr) → AB.Ring.has (AB.ring_of builder.old) x }
+    requires all_ext_in { (x : AB.ExprEF) → AB.ExtRing.has (AB.ext_ring_of builder.old) x }
+{
+    match row {
+        ExtAssertion::Zero(x) => builder.assert_zero_ext(x),
+        ExtAssertion::One(x) => builder.assert_one_ext(x),
+        ExtAssertion::Equal(x, y) => builder.assert_eq_ext(x, y),
+        ExtAssertion::ZeroUnder(condition, x) => assert_zero_ext_under(builder, condition, x),
+        ExtAssertion::ZeroUnderBoth(outer, inner, x) => {
+            assert_zero_ext_under_both(builder, outer, inner, x)
+        }
+        ExtAssertion::ZerosUnder(condition, all) => assert_zeros_ext_under(builder, condition, all),
+    }
+}
+
+/// Makes the assertion under a name.
+pub fn assert_named_ext_row<AB: NamedExtensionBuilder>(
+    builder: &mut AB,
+    row: NamedExtAssertion<AB::Expr, AB::ExprEF>,
+    name: &'static str,
+) -> Result<(), AirError>
+    requires ready { AB.ready builder.old }
+    requires all_in { (x : AB.Expr) → AB.Ring.has (AB.ring_of builder.old) x }
+    requires all_ext_in { (x : AB.ExprEF) → AB.ExtRing.has (AB.ext_ring_of builder.old) x }
+{
+    match row {
+        NamedExtAssertion::Zero(x) => builder.assert_zero_ext_named(x, name),
+        NamedExtAssertion::One(x) => builder.assert_one_ext_named(x, name),
+        NamedExtAssertion::Equal(x, y) => builder.assert_eq_ext_named(x, y, name),
+        NamedExtAssertion::ZeroUnder(condition, x) => {
+            assert_named_under(builder, condition, x, name)
+        }
+    }
+}
