@@ -25,7 +25,8 @@ pub trait Condition<AB: AirBuilder> {
     fn make_under<X: Expression<AB>>(&self, builder: &mut AB, x: &X) -> Result<AB::Expr, AirError>
         requires ready { AB.ready builder.old }
         requires held { Lasts AB.kept (λ b. where_holds self.now b × X.holds x.now b) builder.old }
-        ensures { Made (Means AB.Ring.means AB.ring_of AB.stands) AB.grew AB.missing AB.refuses builder.old builder.new result (under self.now (X.term x.now)) };
+        ensures { Made (Means AB.Ring.means AB.ring_of AB.stands) AB.grew AB.missing AB.refuses
+            builder.old builder.new result (under self.now (X.term x.now)) };
 
     /// The same over the extension.
     fn make_ext_under<X: ExtExpression<AB>>(
@@ -38,7 +39,8 @@ pub trait Condition<AB: AirBuilder> {
         requires ready { AB.ready builder.old }
         requires held { Lasts AB.kept (λ b. where_holds self.now b × X.ext_holds x.now b)
             builder.old }
-        ensures { Made (Means AB.ExtRing.means AB.ext_ring_of AB.stands) AB.grew AB.missing AB.refuses builder.old builder.new result (ext_under self.now (X.ext_term x.now)) };
+        ensures { Made (Means AB.ExtRing.means AB.ext_ring_of AB.stands) AB.grew AB.missing
+            AB.refuses builder.old builder.new result (ext_under self.now (X.ext_term x.now)) };
 }
 
 /// Everywhere.
@@ -50,10 +52,12 @@ impl<AB: AirBuilder> Condition<AB> for Everywhere {
 
     ghost ext_under = { λ _ t. t };
 
+    #[inline(always)]
     fn make_under<X: Expression<AB>>(&self, builder: &mut AB, x: &X) -> Result<AB::Expr, AirError> {
         x.make(builder)
     }
 
+    #[inline(always)]
     fn make_ext_under<X: ExtExpression<AB>>(
         &self,
         builder: &mut AB,
@@ -77,10 +81,12 @@ impl<'a, AB: AirBuilder, K: Condition<AB>, S: Expression<AB>> Condition<AB> for 
 
     ghost where_holds = { λ s b. K.where_holds s.0.now b × S.holds s.1 b };
 
+    #[inline(always)]
     fn make_under<X: Expression<AB>>(&self, builder: &mut AB, x: &X) -> Result<AB::Expr, AirError> {
         self.0.make_under(builder, &Product(&self.1, x))
     }
 
+    #[inline(always)]
     fn make_ext_under<X: ExtExpression<AB>>(
         &self,
         builder: &mut AB,

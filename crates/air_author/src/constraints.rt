@@ -21,7 +21,8 @@ pub mod when;
 /// Constraints, in order.
 pub trait Constraint<AB: AirBuilder> {
     /// What is asserted, where each base term becomes another, and each extension term.
-    ghost asserts: { Self → (Term AB.F → Term AB.F) → (Term AB.F → Term AB.F) → List (Assertion AB.F) };
+    ghost asserts: { Self → (Term AB.F → Term AB.F) → (Term AB.F → Term AB.F) → List
+        (Assertion AB.F) };
 
     /// What they hold ready-made is of the builder, and means what it should there.
     ghost all_hold: { Self → AB → Type 0 } = { λ _ _. ⊤ };
@@ -35,7 +36,8 @@ pub trait Constraint<AB: AirBuilder> {
         requires ready { AB.ready builder.old }
         requires held { Lasts AB.kept (λ b. all_hold self.now b × K.where_holds condition.now b)
             builder.old }
-        ensures { Asserted AB.kept AB.grew AB.missing AB.refuses builder.old builder.new result (asserts self.now (K.under condition.now) (K.ext_under condition.now)) };
+        ensures { Asserted AB.kept AB.grew AB.missing AB.refuses builder.old builder.new result
+            (asserts self.now (K.under condition.now) (K.ext_under condition.now)) };
 }
 
 impl<'a, AB: AirBuilder, C: Constraint<AB>> Constraint<AB> for &'a C {
@@ -43,6 +45,7 @@ impl<'a, AB: AirBuilder, C: Constraint<AB>> Constraint<AB> for &'a C {
 
     ghost all_hold = { λ s b. C.all_hold s.now b };
 
+    #[inline(always)]
     fn assert_under<K: Condition<AB>>(
         &self,
         builder: &mut AB,
@@ -53,29 +56,36 @@ impl<'a, AB: AirBuilder, C: Constraint<AB>> Constraint<AB> for &'a C {
 }
 
 /// Asserts the constraints; more may follow.
+#[inline(always)]
 pub fn assert_these<AB: AirBuilder, C: Constraint<AB>>(
     builder: &mut AB,
     constraints: &C,
 ) -> Result<(), AirError>
     requires ready { AB.ready builder.old }
     requires held { Lasts AB.kept (C.all_hold constraints.now) builder.old }
-    ensures { Asserted AB.kept AB.grew AB.missing AB.refuses builder.old builder.new result (C.asserts constraints.now (λ t. t) (λ t. t)) }
+    ensures { Asserted AB.kept AB.grew AB.missing AB.refuses builder.old builder.new result
+        (C.asserts constraints.now (λ t. t) (λ t. t)) }
 {
     constraints.assert_under(builder, &Everywhere)
 }
 
 /// Asserts the constraints, as an AIR's `eval` is to.
+#[inline(always)]
 pub fn assert_all<AB: AirBuilder, C: Constraint<AB>>(
     builder: &mut AB,
     constraints: &C,
 ) -> Result<(), AirError>
     requires ready { AB.ready builder.old }
     requires held { Lasts AB.kept (C.all_hold constraints.now) builder.old }
-    ensures ok { OnOk result (AB.grew builder.old builder.new (C.asserts constraints.now (λ t. t) (λ t. t))) }
-    ensures there { OnOk result (NoneMissing (AB.missing builder.old) (C.asserts constraints.now (λ t. t) (λ t. t))) }
+    ensures ok { OnOk result (AB.grew builder.old builder.new
+        (C.asserts constraints.now (λ t. t) (λ t. t))) }
+    ensures there { OnOk result (NoneMissing (AB.missing builder.old)
+        (C.asserts constraints.now (λ t. t) (λ t. t))) }
     ensures keeps { AB.kept builder.old builder.new }
-    ensures err { OnErr result (GrewByFirst AB.grew builder.old builder.new (C.asserts constraints.now (λ t. t) (λ t. t))) }
-    ensures refused { IfErr result (λ e. (e ≡ AirError.Memory) ⊎ AB.refuses builder.old e (C.asserts constraints.now (λ t. t) (λ t. t))) }
+    ensures err { OnErr result (GrewByFirst AB.grew builder.old builder.new
+        (C.asserts constraints.now (λ t. t) (λ t. t))) }
+    ensures refused { IfErr result (λ e. (e ≡ AirError.Memory) ⊎ AB.refuses builder.old e
+        (C.asserts constraints.now (λ t. t) (λ t. t))) }
 {
     assert_these(builder, constraints)
 }

@@ -28,7 +28,8 @@ pub trait Expression<AB: AirBuilder> {
     fn make(&self, builder: &mut AB) -> Result<AB::Expr, AirError>
         requires ready { AB.ready builder.old }
         requires held { Lasts AB.kept (holds self.now) builder.old }
-        ensures { Made (Means AB.Ring.means AB.ring_of AB.stands) AB.grew AB.missing AB.refuses builder.old builder.new result (term self.now) };
+        ensures { Made (Means AB.Ring.means AB.ring_of AB.stands) AB.grew AB.missing AB.refuses
+            builder.old builder.new result (term self.now) };
 }
 
 /// An expression of constraints over the extension.
@@ -43,7 +44,8 @@ pub trait ExtExpression<AB: ExtensionBuilder> {
     fn make_ext(&self, builder: &mut AB) -> Result<AB::ExprEF, AirError>
         requires ready { AB.ready builder.old }
         requires held { Lasts AB.kept (ext_holds self.now) builder.old }
-        ensures { Made (Means AB.ExtRing.means AB.ext_ring_of AB.stands) AB.grew AB.missing AB.refuses builder.old builder.new result (ext_term self.now) };
+        ensures { Made (Means AB.ExtRing.means AB.ext_ring_of AB.stands) AB.grew AB.missing
+            AB.refuses builder.old builder.new result (ext_term self.now) };
 }
 
 impl<'a, AB: AirBuilder, X: Expression<AB>> Expression<AB> for &'a X {
@@ -51,6 +53,7 @@ impl<'a, AB: AirBuilder, X: Expression<AB>> Expression<AB> for &'a X {
 
     ghost holds = { λ s b. X.holds s.now b };
 
+    #[inline(always)]
     fn make(&self, builder: &mut AB) -> Result<AB::Expr, AirError> {
         (**self).make(builder)
     }
@@ -61,6 +64,7 @@ impl<'a, AB: ExtensionBuilder, X: ExtExpression<AB>> ExtExpression<AB> for &'a X
 
     ghost ext_holds = { λ s b. X.ext_holds s.now b };
 
+    #[inline(always)]
     fn make_ext(&self, builder: &mut AB) -> Result<AB::ExprEF, AirError> {
         (**self).make_ext(builder)
     }

@@ -1,8 +1,8 @@
 //! Constraints as values: an author of an AIR writes its declared list and one call, and no proof.
 //!
 //! An expression is a value of a small type that knows its term, as `Sum(Current(0), Current(1))`, and a constraint is
-//! one of a small type that knows what it asserts, as `Equal(Next(1), Sum(Current(0), Current(1)))`. In `eval` an author
-//! writes
+//! one of a small type that knows what it asserts, as `Equal(Next(1), Sum(Current(0), Current(1)))`. In `eval` an
+//! author writes
 //!
 //!     let first = When(FirstRow, (Equal(Current(0), Public(0)), Equal(Current(1), Public(1))));
 //!     let steps = When(Transition, (Equal(Next(0), Current(1)), Named("sum", Equal(Next(1), Sum(..)))));
@@ -15,7 +15,8 @@
 //!
 //! What a filter or a gadget was handed stands among them as `Already(x, value)`, with the value that it was made of.
 //!
-//! An entry that the builder hasn't is refused by its name. A function proves about five constraints quickly; further
+//! An entry that the builder hasn't is refused by its name, and an entry of the permutation trace with `NoPermutation`
+//! where the builder has no such trace. A function proves about five constraints quickly; further
 //! ones go into structs whose `assert_under` only delegates to a value as above.
 #![tactic(auto)]
 

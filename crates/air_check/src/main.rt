@@ -1,5 +1,5 @@
-//! Reads a trace for Fibonacci, or a JSON object with an AIR and its trace, from standard input, audits it, and reports on
-//! standard output.
+//! Reads a trace for Fibonacci, or a JSON object with an AIR and its trace, from standard input, audits it, and reports
+//! on standard output.
 #![tactic(auto)]
 
 ghost use Rattle.std.specs.Prelude.{◌≡◌};

@@ -17,13 +17,17 @@ use streams::{Kept, Pieces};
 
 mod answers;
 mod audits;
+mod generated;
+mod generator;
 mod layouts;
 mod objects;
+mod plain_airs;
+mod plain_texts;
 mod refusals;
 mod streams;
 mod traces;
 
-const MANY: u64 = 1000;
+const MANY: u64 = 10_000;
 
 /// The text cut at its spaces.
 fn words(alloc: Global, text: &str) -> Result<Vec<String>, Fail> {

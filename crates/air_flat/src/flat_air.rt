@@ -28,7 +28,8 @@ pub struct FlatAir<F: Field> {
 }
 
 impl<F: Field> FlatAir<F> {
-    /// The AIR that asserts the roots in order; its main trace has `width` columns.
+    /// The AIR that asserts the roots in order; its main trace has `width` columns. The pool must be as its calls left
+    /// it, and each root a number of it.
     pub fn new(
         pool: ExprPool<BaseLeaf<F>>,
         roots: Vec<ExprId<BaseLeaf<F>>>,

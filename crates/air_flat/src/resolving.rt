@@ -16,9 +16,10 @@ use air_field::Algebra;
 use air_symbolic::{BaseLeaf, ExprId, ExprPool, SymLeaf};
 use std::alloc::Global;
 
-/// Makes what an expression of the pool means in the builder. Nothing is asserted; each node that the expression reaches
-/// is made once, and no other is looked at. A leaf that isn't there is refused by its name, and an offset other than 0
-/// and 1 whatever the column (`RowOffset`). Besides these the builder's ring may refuse, and memory may be wanting.
+/// Makes what an expression of the pool means in the builder. Nothing is asserted; each node that the expression
+/// reaches is made once, and no other is looked at. A leaf that isn't there is refused by its name, and an offset other
+/// than 0 and 1 whatever the column (`RowOffset`). Besides these the builder's ring may refuse, and memory may be
+/// wanting.
 pub fn resolve<AB: AirBuilder>(
     alloc: Global,
     pool: &ExprPool<BaseLeaf<AB::F>>,

@@ -35,7 +35,8 @@ pub struct FlatInput {
 /// Reads the object: its members in the order `main_width`, `main` (row after row), `public_values`, `constraints`
 /// (lists of nodes), `periodic`, `boundary`, `cap` and `transition_weight`, of which the last four may be absent, and
 /// `cap` may be null; no weight is the weight 0. Any other value is refused with the first fault in this order; values
-/// that fill no rows of the width are `Ragged` after all members. Other members are ignored.
+/// that aren't whole rows of the width are `Ragged` after all members. Other members are ignored. The place in a
+/// refusal is that of a node in its constraint's own list, and 0 in all other members.
 pub fn flat_input_from(alloc: Global, value: &Value) -> Result<FlatInput, AirError>
     ensures pool { IfOk result (λ input. IsPool base_reads input.pool) }
     ensures roots { IfOk result (λ input. All (λ i. i < length input.pool.1) input.roots.items) }

@@ -6,7 +6,7 @@ ghost use Rattle.air_flat_input.specs.Members.{MemberValues, members};
 ghost use Rattle.air_flat_input.specs.Input.{SpellsInput, HasInputFault};
 ghost use Rattle.air_flat_input.specs.declared.input.FlatInput.{FlatInput};
 
-/// A value spells the members of one input, or it has one first fault, and never both.
+/// A value spells the members of one input at most, has one first fault at most, and never both.
 pub fn inputs_are_read_one_way()
     ensures one_value { (d : Data) (m n : MemberValues) → members.spells d m → members.spells d n →
         m ≡ n }

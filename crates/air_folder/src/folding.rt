@@ -28,8 +28,10 @@ pub struct Folded<F: Field, EF: ExtensionField<F>> {
 /// Records an AIR by a layout, and then folds the values of its constraints at the folder's row.
 ///
 /// The folder's accumulator, which is zero before, is then Horner's fold, by the folder's alpha, of the values that the
-/// recorded constraints have at its row, in order. It is their recombination too: the sum of each coordinate and each whole
-/// power that [`decompose_alpha`](ConstraintLayout::decompose_alpha) answers for `layout`, times its constraint's value.
+/// recorded constraints have at its row, in order. It is their recombination too, from what
+/// [`decompose_alpha`](ConstraintLayout::decompose_alpha) answers for the answered layout and the folder's alpha: the
+/// sum of each coordinate times its basis element times its constraint's value, and of each whole power times its
+/// constraint's value.
 ///
 /// A refusal, of the recording or of the folder, leaves a beginning of the fold.
 pub fn fold_air<

@@ -17,8 +17,8 @@ fn fold<F: Field>(values: &[F], alpha: F) -> F
     accumulator
 }
 
-/// How many of the alphas fold the values to zero: fewer than there are values, where one of them isn't zero. It takes
-/// no memory.
+/// How many of the alphas, which increase strictly, fold the values to zero: fewer than there are values, where one of
+/// them isn't zero. It takes no memory.
 pub fn hiding_alphas<F: PrimeField>(values: &[F], alphas: &[F]) -> usize
     requires { IsIncreasing F.cmp alphas.now }
     ensures count { result ≡ count_by (folds_to_zero F.ring F.eq values.now) alphas.now }

@@ -1,4 +1,4 @@
-//! Virtual columns over the rows of a trace, and the arithmetic of bits and words.
+//! Virtual columns over the rows of a trace, and the bits and limbs of numbers in a field.
 #![tactic(auto)]
 
 pub mod columns;

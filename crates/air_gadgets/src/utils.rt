@@ -1,4 +1,4 @@
-//! Bits and words in a field.
+//! Bits and limbs of numbers, in a field.
 
 pub mod bits;
 pub mod packing;

@@ -75,8 +75,8 @@ pub(crate) fn findings_of<
     }
 }
 
-/// Audits Fibonacci on the trace. It fits the trace: nothing but memory can be wanting, and no degree but one of a domain
-/// whose weight is great can be refused.
+/// Audits Fibonacci on the trace. It fits the trace: nothing but memory can be wanting, and no degree but one of a
+/// domain whose weight is great can be refused.
 fn audit_fibonacci(
     alloc: Global,
     fibonacci: Fibonacci,

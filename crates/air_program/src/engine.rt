@@ -14,10 +14,12 @@ pub enum ReadFault {
     Memory,
 }
 
-/// All bytes up to a pull that answers 0. A source without an end runs into `Memory`.
+/// All bytes up to a pull that answers 0. A source without an end runs into `Memory`. The source mustn't have failed
+/// before.
 pub fn read_all<R: Source>(alloc: Global, reader: &mut R) -> Result<Vec<u8>, ReadFault>
     requires { R.has_failed reader.old ≡ false }
-    ensures ok { IfOk result (λ input. Consumes (R.remaining reader.old) (R.remaining reader.new) input.items) }
+    ensures ok { IfOk result (λ input. Consumes (R.remaining reader.old) (R.remaining reader.new)
+        input.items) }
     ensures end { OnOk result (IsAtEnd (R.remaining reader.new)) }
     ensures failed { R.has_failed reader.new ≡ is_failed result }
 {
@@ -36,7 +38,7 @@ pub fn read_all<R: Source>(alloc: Global, reader: &mut R) -> Result<Vec<u8>, Rea
     }
 }
 
-/// Writes all bytes, in as many pieces as the sink wants.
+/// Writes all bytes, in as many pieces as the sink wants. The sink mustn't have failed before.
 pub fn write_all<W: Sink>(writer: &mut W, text: &[u8]) -> Result<(), StreamFault>
     requires { W.has_failed writer.old ≡ false }
     ensures ok { OnOk result (Appends (W.contents writer.old) (W.contents writer.new) text.now) }

@@ -15,11 +15,13 @@ use crate::streams::{Sink, Source, StreamFault};
 use air_field::BabyBear;
 use std::alloc::Global;
 
-/// Writes the line of a refusal, in pieces, since there may be no memory for it.
+/// Writes the line of a refusal, in pieces, since there may be no memory for it, and answers the status 2; an `Err`
+/// exactly where the writer fails. The writer mustn't have failed before.
 pub fn refuse<W: Sink>(writer: &mut W, why: Refusal) -> Result<u8, StreamFault>
     requires { W.has_failed writer.old ≡ false }
     ensures status { IfOk result (λ status. status ≡ 2) }
-    ensures ok { OnOk result (Appends (W.contents writer.old) (W.contents writer.new) (refusal_text (name_of why))) }
+    ensures ok { OnOk result (Appends (W.contents writer.old) (W.contents writer.new)
+        (refusal_text (name_of why))) }
     ensures failed { W.has_failed writer.new ≡ is_err result }
 {
     write_all(writer, b"refused: ")?;
@@ -28,7 +30,8 @@ pub fn refuse<W: Sink>(writer: &mut W, why: Refusal) -> Result<u8, StreamFault>
     Ok(2)
 }
 
-/// Judges the words, reads the whole input, writes the answer to it, and answers the exit status.
+/// Judges the words, reads the whole input where they are known, writes the answer to it, and answers the exit status;
+/// an `Err` exactly where the writer fails. Neither stream may have failed before.
 pub fn run<R: Source, W: Sink>(
     alloc: Global,
     words: &[String],
@@ -37,7 +40,8 @@ pub fn run<R: Source, W: Sink>(
 ) -> Result<u8, StreamFault>
     requires reader { R.has_failed reader.old ≡ false }
     requires writer { W.has_failed writer.old ≡ false }
-    ensures outcome { IfOk result (λ status. (text : List ℕ) × Appends (W.contents writer.old) (W.contents writer.new) text
+    ensures outcome { IfOk result (λ status. (text : List ℕ) × Appends (W.contents writer.old)
+        (W.contents writer.new) text
         × IsOutcome (Answers ⟦<BabyBear as PartialEq>⟧.eq) (request_of (map string_bytes words.now)) (R.has_failed reader.new) (R.remaining reader.old) (R.remaining reader.new) status text) }
     ensures failed { W.has_failed writer.new ≡ is_err result }
 {

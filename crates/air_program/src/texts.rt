@@ -7,7 +7,7 @@ ghost use Rattle.air_program.specs.Texts.{HasNoLineEnd, lines_text, count_lines,
 use p3_air::{ConstraintFailure, ConstraintReport};
 use std::alloc::{AllocError, Global};
 
-/// What recording and checking found.
+/// What an audit found.
 #[derive(Drop)]
 pub struct Findings {
     pub degree: usize,
@@ -17,7 +17,8 @@ pub struct Findings {
 /// Adds the lines of the three counts.
 #[tactic(auto, unfolding(crate::specs::Texts::count_lines))]
 fn push_counts(text: &mut String, findings: &Findings) -> Result<(), AllocError>
-    ensures { OnOk result (string_bytes text.new ≡ string_bytes text.old ++ lines_text (count_lines (found findings.now))) }
+    ensures { OnOk result (string_bytes text.new ≡ string_bytes text.old ++ lines_text
+        (count_lines (found findings.now))) }
 {
     let degree = findings.degree;
     let rows = findings.report.total_rows;
@@ -31,7 +32,8 @@ fn push_counts(text: &mut String, findings: &Findings) -> Result<(), AllocError>
 /// line isn't shown, so that no label can feign a further line.
 fn shown_label(alloc: Global, label: &Option<String>) -> Result<String, AllocError>
     ensures one_line { IfOk result (λ text. HasNoLineEnd (string_bytes text)) }
-    ensures shown { IfOk result (λ text. IfSome (label_suffix (option_map string_bytes label.now)) (λ suffix. string_bytes text ≡ suffix)) }
+    ensures shown { IfOk result (λ text. IfSome (label_suffix (option_map string_bytes label.now))
+        (λ suffix. string_bytes text ≡ suffix)) }
 {
     match label {
         Some(label) => {
@@ -52,7 +54,8 @@ fn push_failure(
     text: &mut String,
     failure: &ConstraintFailure,
 ) -> Result<(), AllocError>
-    ensures { OnOk result (PushesLine (seen_failure failure.now) (string_bytes text.old) (string_bytes text.new)) }
+    ensures { OnOk result (PushesLine (seen_failure failure.now) (string_bytes text.old)
+        (string_bytes text.new)) }
 {
     let row = failure.row;
     let constraint = failure.constraint;

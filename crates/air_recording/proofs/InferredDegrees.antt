@@ -1,5 +1,5 @@
 -- The inferred degree of two lists of terms, worked out of their greatest degrees.
-use Rattle.std.proofs.Common.{◌≡◌, ◌≢◌, ℕ, ◌≤◌, ◌^◌, max, List, [], ◌∷◌, ◌++◌, refl, sym, ap, ◌∙◌, arith, Result, Ok, Err, OnOk, length, zero, suc, ◌<◌, ◌-◌, map, inl, inr}
+use Rattle.std.proofs.Common.{◌≡◌, ◌≢◌, ℕ, ◌≤◌, ◌^◌, max, List, [], ◌∷◌, ◌++◌, refl, sym, ap, ◌∙◌, arith, Result, Ok, Err, OnOk, length, zero, suc, ◌<◌, ◌-◌, map, inl, inr, ◌⊎◌, ⊎_elim}
 use Rattle.std.proofs.Math.Nat.{max-eq_right, max-le, le-max_left, le-max_right}
 use Rattle.air_field.specs.Term.{Leaf, Term}
 use Rattle.air_field.specs.declared.errors.RingError.{RingError}
@@ -97,3 +97,14 @@ module _ {U A F : Type 0} (reads : U → Leaves A F) (pool : U × List (Symbolic
   pub degrees_refused : (numbers : List ℕ) (e : RingError) → (e ≢ Memory → SomeOverflows (map (λ x. degree_by w (term_at reads pool x)) numbers)) → AnswersDegree (greatest_degree w (terms_of reads pool numbers)) (Err e)
   degrees_refused numbers Memory h = tt
   degrees_refused numbers DegreeOverflow h = some_over numbers (h (λ e. cc))
+
+-- a refusal for some term of either list is one for all terms
+pub both_refused : {U A V B F : Type 0} (reads : U → Leaves A F) (pool : U × List (SymbolicExpr A)) (ext_reads : V → Leaves B F) (ext_pool : V × List (SymbolicExpr B)) (w : Leaf → ℕ) (base ext : List ℕ) (e : RingError) → (e ≢ Memory → SomeOverflows (map (λ x. degree_by w (term_at reads pool x)) base) ⊎ SomeOverflows (map (λ x. degree_by w (term_at ext_reads ext_pool x)) ext)) → AnswersDegree (greatest_degree w (terms_of reads pool base ++ terms_of ext_reads ext_pool ext)) (Err e)
+both_refused reads pool ext_reads ext_pool w base ext Memory h = tt
+both_refused reads pool ext_reads ext_pool w base ext DegreeOverflow h =
+    let us = terms_of reads pool base in
+    let vs = terms_of ext_reads ext_pool ext in
+    ⊎_elim
+    (λ x. refused_left w us vs DegreeOverflow (some_over reads pool w base x))
+    (λ y. refused_right w us vs DegreeOverflow (some_over ext_reads ext_pool w ext y))
+    (h (λ e. cc))

@@ -44,17 +44,23 @@ pub fn is_same_whole_tree<F: Field, EF: ExtensionField<F>>(
 
 /// An expression has the polynomial of each term that it means, under every assignment over every algebra `E`.
 pub fn polynomial_is_kept<E, A: SymLeaf>(_pool: &ExprPool<A>, _x: ExprId<A>)
-    ensures { (a : Over A.F E) → OverLaws A.F.ring a → (t : Term A.F) → PoolMeans A.reads A.F.ring _pool.now _x t → (s : Leaf → List E) → SamePolynomial (polynomial a s (term_at A.reads _pool.now _x)) (polynomial a s t) }
+    ensures { (a : Over A.F E) → OverLaws A.F.ring a → (t : Term A.F) → PoolMeans A.reads A.F.ring
+        _pool.now _x t → (s : Leaf → List E) → SamePolynomial
+        (polynomial a s (term_at A.reads _pool.now _x)) (polynomial a s t) }
 {}
 
 /// Its degree is at most theirs, by every weighting of the leaves.
 pub fn degree_is_kept<A: SymLeaf>(_pool: &ExprPool<A>, _x: ExprId<A>)
-    ensures { (t : Term A.F) → PoolMeans A.reads A.F.ring _pool.now _x t → (w : Leaf → ℕ) → degree_by w (term_at A.reads _pool.now _x) ≤ degree_by w t }
+    ensures { (t : Term A.F) → PoolMeans A.reads A.F.ring _pool.now _x t → (w : Leaf → ℕ)
+        → degree_by w (term_at A.reads _pool.now _x) ≤ degree_by w t }
 {}
 
 /// Where each leaf's polynomial is within the leaf's weight, that of an expression is within its degree.
 pub fn polynomial_is_within_degree<E, A: SymLeaf>(_pool: &ExprPool<A>, _x: ExprId<A>)
-    ensures { (a : Over A.F E) (s : Leaf → List E) (w : Leaf → ℕ) → ((l : Leaf) → HasDegreeAtMost a.ring (λ n. get_or (s l) n a.ring.nil) (w l)) → HasDegreeAtMost a.ring (polynomial a s (term_at A.reads _pool.now _x)) (degree_by w (term_at A.reads _pool.now _x)) }
+    ensures { (a : Over A.F E) (s : Leaf → List E) (w : Leaf → ℕ)
+        → ((l : Leaf) → HasDegreeAtMost a.ring (λ n. get_or (s l) n a.ring.nil) (w l))
+        → HasDegreeAtMost a.ring (polynomial a s (term_at A.reads _pool.now _x))
+        (degree_by w (term_at A.reads _pool.now _x)) }
 {}
 
 /// `==` of leaves is true exactly for the same leaf, and `cmp` a total order that answers Equal exactly there.

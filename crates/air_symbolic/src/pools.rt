@@ -4,6 +4,7 @@ pub mod algebra;
 pub mod base_pool;
 pub mod degree_table;
 pub mod degrees;
+pub mod degrees_with_base;
 pub mod expr;
 pub mod ext_pool;
 pub mod fold;

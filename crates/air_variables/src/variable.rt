@@ -38,8 +38,9 @@ impl<F> SymbolicVariable<F> {
     }
 
     /// The degree of the variable's polynomial over `trace_len` rows; `periods` holds the lengths of the periodic
-    /// columns. A column that repeats with period p has a polynomial of the p-th power of the row's variable, p being
-    /// a divisor of the rows; one without a period counts as a column of the trace.
+    /// columns. A column that repeats with period p, a divisor of the rows N, has a polynomial in the (N/p)-th power of
+    /// the trace's variable, of degree at most N - N/p; for any other p up to N the answer is the same with N/p rounded
+    /// down. One without a period, or with one past N, counts as a column of the trace.
     pub fn poly_degree(&self, trace_len: usize, periods: &[usize]) -> usize
         ensures { result ≡ trace_weight trace_len periods.now (entry_leaf self.now.entry self.now.index) }
     {

@@ -2,4 +2,3 @@
 pub mod Differing
 pub mod Handed
 pub mod TestAirs
-pub mod Weighed

@@ -21,6 +21,10 @@ surrounded =
     Base (sub_term (leaf_term (main 0 0)) (leaf_term (periodic 0))) ∷
     Base (mul_term (leaf_term (main 0 0)) (leaf_term (preprocessed 1 0))) ∷ []
 
+-- the transition selector times itself
+abbrev pub twice : {F : Type 0} → List (Assertion F)
+twice = Base (mul_term (leaf_term transition) (leaf_term transition)) ∷ []
+
 -- the product of so many, and of so many of these
 abbrev pub raised_twice : {F : Type 0} → F → ℕ → Term F → Term F
 raised_twice one n t = power_term one (power_term one t n) n

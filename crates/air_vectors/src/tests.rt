@@ -4,6 +4,7 @@ ghost use Rattle.air_field.specs.Term.{main, leaf_term, mul_term};
 ghost use Rattle.air_builder.specs.Assertion.{Base};
 ghost use Rattle.air_symbolic.specs.Pools.{IsPool};
 
+mod ample_memory;
 mod audits;
 mod checks;
 mod degrees;
@@ -45,7 +46,8 @@ pub struct Products<F> {
 }
 
 impl<F: Copy> BaseAir<F> for Products<F> {
-    ghost declared = { λ _. Base (mul_term (leaf_term (main 0 0)) (leaf_term (main 0 1))) ∷ Base (leaf_term (main 1 0)) ∷ [] };
+    ghost declared = { λ _. Base (mul_term (leaf_term (main 0 0)) (leaf_term (main 0 1))) ∷ Base
+        (leaf_term (main 1 0)) ∷ [] };
 
     ghost width = { λ _. 2 };
 

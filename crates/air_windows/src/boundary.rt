@@ -34,6 +34,8 @@ pub struct BoundaryPublic {
 }
 
 impl BoundaryPublic {
+    /// The cell of a column at an end, and the index of the public value that it holds. Nothing is checked here: see
+    /// [`validate`].
     pub fn new(column: usize, end: BoundaryEnd, public_value: usize) -> Self
         ensures { result ≡ record { column = column; end = end; public_value = public_value } }
     {
@@ -44,7 +46,7 @@ impl BoundaryPublic {
         }
     }
 
-    /// The cell's row in a trace of this height.
+    /// The cell's row in a trace of this height, which must be positive: 0, or `height` - 1.
     pub fn row(&self, height: usize) -> usize
         requires { 0 < height }
         ensures { result ≡ row_of self.now.end height }
@@ -88,7 +90,8 @@ fn contains_place(cells: &[BoundaryPublic], column: usize, end: BoundaryEnd) -> 
         .any(|cell| cell.column == column && cell.end == end)
 }
 
-/// Checks that each cell is in the trace, holds a public value that is there, and stands once.
+/// Checks that each cell is in the trace, holds a public value that is there, and stands once. The first cell at fault
+/// is refused: for its column, else for its public value, else for an earlier cell at its place. It takes no memory.
 pub fn validate(
     cells: &[BoundaryPublic],
     width: usize,

@@ -115,7 +115,8 @@ pub enum AirError {
     /// A flat list has no node.
     #[error("the list of nodes is empty")]
     EmptyList,
-    /// An operand of a node stands at the node's own place, or past it.
+    /// An operand of a node stands at the node's own place in its list, or past it. Where that list stands inside a
+    /// Base leaf, `at` is the place of the leaf's node, and the operand that in the list inside.
     #[error("the node at place {at} has the operand {operand}, which doesn't stand before it")]
     Operand {
         at: usize,

@@ -30,7 +30,8 @@ fn push_row<T: Copy>(values: &mut Vec<T>, columns: &[Vec<T>], row: usize) -> Res
     Ok(())
 }
 
-/// Each periodic column's value at the row: the column at the row modulo its length. The first empty column is refused.
+/// Each periodic column's value at the row: the column at the row modulo its length. The first empty column is refused
+/// with `EmptyPeriodicColumn`, and want of memory with `Memory`.
 pub fn periodic_row<T: Copy>(
     alloc: Global,
     columns: &[Vec<T>],
@@ -60,7 +61,7 @@ fn greatest_period<T: Copy>(columns: &[Vec<T>]) -> usize
 }
 
 /// The periodic columns as a matrix that has as many rows as the greatest period; None without columns. The first empty
-/// column is refused where another isn't empty.
+/// column is refused where another isn't empty, with `EmptyPeriodicColumn`, and want of memory with `Memory`.
 pub fn periodic_matrix<T: Copy>(
     alloc: Global,
     columns: &[Vec<T>],

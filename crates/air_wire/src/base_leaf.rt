@@ -20,7 +20,8 @@ pub(crate) fn class_of(number: u32) -> BabyBear
     BabyBear::new(number)
 }
 
-/// The field element that the value spells by its canonical number.
+/// The field element that the value spells by its canonical number: `Shape` where it is no whole number that fits 64
+/// bits, and `NotCanonical` where that is at or past the modulus, each with the place `at`.
 #[tactic(auto, unfolding(crate::specs::BaseLeaves::element_at))]
 pub fn element_from(at: usize, value: &Value) -> Result<BabyBear, FlatError>
     ensures { result ≡ element_at at (view value.now) }

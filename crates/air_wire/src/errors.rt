@@ -8,7 +8,8 @@ use air_windows::AirError;
 use std::alloc::{AllocError, AllocFailed};
 use thiserror::Error;
 
-/// What is wrong with a value: in a list of nodes, the first fault in the list's order.
+/// What is wrong with a value: in a list of nodes, the first fault in the list's order. A fault in the list inside a
+/// Base leaf is told at the place of the leaf's node; an operand, and degrees, stay those of the list inside.
 #[derive(Clone, Copy, Debug, PartialEq, Eq, Error)]
 pub enum FlatError {
     /// A growth was refused.
@@ -25,7 +26,8 @@ pub enum FlatError {
     /// A flat list has no node.
     #[error("the list of nodes is empty")]
     EmptyList,
-    /// An operand of a node stands at the node's own place, or past it.
+    /// An operand of a node stands at the node's own place in its list, or past it. Where that list stands inside a
+    /// Base leaf, `at` is the place of the leaf's node, and the operand that in the list inside.
     #[error("the node at place {at} has the operand {operand}, which doesn't stand before it")]
     Operand {
         at: usize,

@@ -10,7 +10,7 @@ ghost use Rattle.air_wire.specs.declared.errors.FlatError.{FlatError};
 
 use crate::wire_leaf::WireLeaf;
 
-/// A value is a list of nodes of one tree, or it has one first fault, and never both.
+/// A value is a list of nodes of one tree at most, has one first fault at most, and never both.
 pub fn lists_are_read_one_way<A: WireLeaf>()
     ensures one_tree { (d : Data) (t u : Tree A.Seen) → IsList A.kind d t → IsList A.kind d u →
         t ≡ u }

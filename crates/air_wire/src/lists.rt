@@ -65,7 +65,7 @@ pub(crate) fn list_from<A: WireLeaf>(
 }
 
 /// Reads a list of nodes, which are inserted unfolded, and answers the expression of its root, the last node. Any
-/// other value is refused with the first fault in the list's order.
+/// other value is refused with the first fault in the list's order; nodes before it may stay in the pool.
 pub fn from_flat_value<A: WireLeaf>(
     alloc: Global,
     pool: &mut ExprPool<A>,

@@ -19,7 +19,7 @@ pub trait WireLeaf: SymLeaf {
 
     ghost kind: { Kind Seen Self.F };
 
-    /// The leaf that the value spells in the node at place `at`.
+    /// The leaf that the value spells in the node at place `at`; any other value is refused with its first fault.
     fn leaf_from_value(
         alloc: Global,
         at: usize,

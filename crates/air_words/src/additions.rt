@@ -8,7 +8,8 @@ use crate::sums::{sum_of_three, sum_of_two};
 use air_builder::{AirBuilder, AirError};
 use air_field::{Algebra, Field, FromVar};
 
-/// Asserts that the word `a` is the sum of `b` and `c` modulo 2^32, of limbs that are known to have 16 bits.
+/// Asserts that the word `a` is the sum of `b` and `c` modulo 2^32, of limbs that are known to have 16 bits, the lower
+/// one first. So it is in a field of characteristic above 2^17, in which a product is zero only if a factor is.
 pub fn add2<AB: AirBuilder>(
     builder: &mut AB,
     a: &[AB::Var; 2],
@@ -36,7 +37,9 @@ pub fn add2<AB: AirBuilder>(
     builder.assert_zeros_slice(&elements)
 }
 
-/// Asserts that the word `a` is the sum of `b`, `c` and `d` modulo 2^32, of limbs that are known to have 16 bits.
+/// Asserts that the word `a` is the sum of `b`, `c` and `d` modulo 2^32, of limbs that are known to have 16 bits, the
+/// lower one first. So it is in a field of characteristic above 3 · 2^16, in which a product is zero only if a factor
+/// is.
 pub fn add3<AB: AirBuilder>(
     builder: &mut AB,
     a: &[AB::Var; 2],

@@ -20,22 +20,23 @@ pub struct Audit<F: SelfExtension> {
     pub layout: ConstraintLayout,
     /// Where the constraints and the boundary cells fail.
     pub report: ConstraintReport,
-    /// The degree that is inferred for the trace's height, in the domain of the given weight for the transition selector.
+    /// The degree that is inferred for the trace's height, in the domain of the given weight for the transition
+    /// selector.
     pub degree: usize,
 }
 
-/// Records an AIR by its own layout, checks a trace of it without a cap, and infers the degree of its constraints for the
-/// trace's height N and the domain's weight for the transition selector.
+/// Records an AIR by its own layout, checks a trace of it without a cap, and infers the degree of its constraints for
+/// the trace's height N and the domain's weight for the transition selector.
 ///
 /// What is recorded at each place has at each row the value that is tested there. The report lists exactly the pairs of
 /// row and place where that value isn't zero, in order, and then the boundary cells that differ.
 ///
-/// `transition_weight` is what the transition selector weighs in the domain. Weight 0 stands for a linear selector: each
-/// recorded polynomial has degree at most `degree` (N - 1) + 1 for N at least 2, wherever the leaves' polynomials have the
-/// degrees of a trace of N rows; and for N at least 3 no smaller number bounds the recorded terms' degrees so. For a weight
-/// from 1, `degree` is the greatest degree of a recorded term by the cached weights with this one for the selector: each
-/// recorded polynomial has degree at most `degree` (N - 1) for N at least 2, wherever each leaf's polynomial has degree at
-/// most its weight times N - 1; and no smaller number bounds the recorded terms' degrees.
+/// `transition_weight` is what the transition selector weighs in the domain. Weight 0 stands for a linear selector:
+/// each recorded polynomial has degree at most `degree` (N - 1) + 1 for N at least 2, wherever the leaves' polynomials
+/// have the degrees of a trace of N rows; and for N at least 3 no smaller number bounds the recorded terms' degrees so.
+/// For a weight from 1, `degree` is the greatest degree of a recorded term by the cached weights with this one for the
+/// selector: each recorded polynomial has degree at most `degree` (N - 1) for N at least 2, wherever each leaf's
+/// polynomial has degree at most its weight times N - 1; and no smaller number bounds the recorded terms' degrees.
 ///
 /// The first refusal is answered: of the recording, then of the check, then a recorded degree past `usize`, that of a
 /// polynomial for weight 0, and by these weights for a weight from 1.

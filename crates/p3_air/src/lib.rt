@@ -1,11 +1,11 @@
 //! The constraint crate: AIRs recorded as symbolic expressions, and evaluated on concrete rows.
 //!
-//! An AIR implements [`BaseAir`] and [`Air`]; [`get_symbolic_constraints`] records it, [`check_all_constraints`] checks
-//! a trace of it, and [`get_max_constraint_degree`] infers its degree. [`audit_air`] does all three: what it recorded is
-//! what it tested. Constraints as values stand in [`author`], the recorded expressions and their JSON values in [`symbolic`],
-//! bits and words in [`utils`]. An AIR from outside, made of expressions of a pool, is a [`FlatAir`]; [`resolve`] works one
-//! such expression out in any builder, and [`recorded_air`] makes such an AIR of a recording. The public items of the
-//! crates below are passed on here.
+//! An AIR implements [`BaseAir`] and [`Air`]; [`get_all_symbolic_constraints`] records it, [`check_all_constraints`]
+//! checks a trace of it, and [`get_max_constraint_degree`] infers its degree. [`audit_air`] does all three: what it
+//! recorded is what it tested. Constraints as values stand in [`author`], the recorded expressions and their JSON
+//! values in [`symbolic`], bits and words in [`utils`]. An AIR from outside, made of expressions of a pool, is a
+//! [`FlatAir`]; [`resolve`] works one such expression out in any builder, and [`recorded_air`] makes such an AIR of a
+//! recording. What users need of the crates below is passed on here.
 #![tactic(auto)]
 
 pub mod audit;

@@ -16,7 +16,8 @@ use air_flat::FlatAir;
 use air_recording::{Recorded, SymbolicAirBuilder};
 use air_symbolic::ExprId;
 
-/// Asserts the constraints on a builder, which is ready for more afterwards, also where they are refused. On a
+/// Asserts the constraints on a builder, which is ready for more afterwards, also where they are refused. Refused ones
+/// leave a beginning of them asserted, which isn't the whole. On a
 /// [`SymbolicAirBuilder`] they are recorded, and no AIR has to be written.
 pub fn record_these<AB: AirBuilder, C: Constraint<AB>>(
     builder: &mut AB,
@@ -53,10 +54,12 @@ fn first_past<A: Copy>(numbers: &[ExprId<A>], total: usize) -> Option<ExprId<A>>
 
 /// The AIR that declares the recorded base constraints, in order: that each recorded term is zero. Its main trace has
 /// `width` columns. It has no preprocessed table: a column of one that a recorded term names is refused by its name
-/// (`MissingEntry`) when the AIR is audited, or a row of it checked. Recorded extension constraints are left out.
+/// (`MissingEntry`), or at an offset past 1 with `RowOffset`, when the AIR is audited, or a row of it checked. Recorded
+/// extension constraints are left out.
 ///
-/// What was recorded of an AIR is never refused, and the declared list then records the AIR's base constraints. Of numbers
-/// that were put together otherwise the first that isn't in the base pool is refused (`IndexPastTotal`).
+/// The base pool must be as its calls left it; each call that records an AIR, and `finish_recording`, promise that.
+/// What was recorded of an AIR with its base constraints is never refused, and the declared list then records these.
+/// Of numbers that were put together otherwise the first that isn't in the base pool is refused (`IndexPastTotal`).
 pub fn recorded_air<F: Field, EF: ExtensionField<F>>(
     recorded: Recorded<F, EF>,
     width: usize,

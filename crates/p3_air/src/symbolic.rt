@@ -1,5 +1,6 @@
-//! Symbolic expressions: leaves and variables, the pools in which each tree stands once, the builder that records an AIR
-//! in them, the degree of what it recorded, all of these as JSON values, and the AIR that such expressions are.
+//! Symbolic expressions: leaves and variables, the pools in which each tree stands once, the builder that records an
+//! AIR in them, the degree of what it recorded, and the AIR that such expressions are; and leaves, variables,
+//! expressions and layouts as JSON values.
 
 pub use air_flat::{FlatAir, resolve, resolve_all};
 pub use air_recording::{

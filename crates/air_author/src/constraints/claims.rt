@@ -32,10 +32,12 @@ pub trait Claim<AB: AirBuilder> {
         requires ready { AB.ready builder.old }
         requires held { Lasts AB.kept (λ b. claim_holds self.now b × K.where_holds condition.now b)
             builder.old }
-        ensures { Made (Means AB.Ring.means AB.ring_of AB.stands) AB.grew AB.missing AB.refuses builder.old builder.new result (K.under condition.now (claims self.now)) };
+        ensures { Made (Means AB.Ring.means AB.ring_of AB.stands) AB.grew AB.missing AB.refuses
+            builder.old builder.new result (K.under condition.now (claims self.now)) };
 }
 
 /// Asserts what is claimed.
+#[inline(always)]
 fn assert_claim<AB: AirBuilder, C: Claim<AB>, K: Condition<AB>>(
     builder: &mut AB,
     condition: &K,
@@ -44,7 +46,8 @@ fn assert_claim<AB: AirBuilder, C: Claim<AB>, K: Condition<AB>>(
     requires ready { AB.ready builder.old }
     requires held { Lasts AB.kept (λ b. C.claim_holds claim.now b × K.where_holds condition.now b)
         builder.old }
-    ensures { Asserted AB.kept AB.grew AB.missing AB.refuses builder.old builder.new result (Base (K.under condition.now (C.claims claim.now)) ∷ []) }
+    ensures { Asserted AB.kept AB.grew AB.missing AB.refuses builder.old builder.new result
+        (Base (K.under condition.now (C.claims claim.now)) ∷ []) }
 {
     let x = claim.make_claim(builder, condition)?;
     builder.assert_zero(x)
@@ -59,6 +62,7 @@ impl<AB: AirBuilder, X: Expression<AB>> Claim<AB> for Zero<X> {
 
     ghost claim_holds = { λ s b. X.holds s.0 b };
 
+    #[inline(always)]
     fn make_claim<K: Condition<AB>>(
         &self,
         builder: &mut AB,
@@ -73,6 +77,7 @@ impl<AB: AirBuilder, X: Expression<AB>> Constraint<AB> for Zero<X> {
 
     ghost all_hold = { λ s b. X.holds s.0 b };
 
+    #[inline(always)]
     fn assert_under<K: Condition<AB>>(
         &self,
         builder: &mut AB,
@@ -91,6 +96,7 @@ impl<AB: AirBuilder, X: Expression<AB>> Claim<AB> for IsOne<X> {
 
     ghost claim_holds = { λ s b. X.holds s.0 b };
 
+    #[inline(always)]
     fn make_claim<K: Condition<AB>>(
         &self,
         builder: &mut AB,
@@ -105,6 +111,7 @@ impl<AB: AirBuilder, X: Expression<AB>> Constraint<AB> for IsOne<X> {
 
     ghost all_hold = { λ s b. X.holds s.0 b };
 
+    #[inline(always)]
     fn assert_under<K: Condition<AB>>(
         &self,
         builder: &mut AB,
@@ -123,6 +130,7 @@ impl<AB: AirBuilder, X: Expression<AB>, Y: Expression<AB>> Claim<AB> for Equal<X
 
     ghost claim_holds = { λ s b. X.holds s.0 b × Y.holds s.1 b };
 
+    #[inline(always)]
     fn make_claim<K: Condition<AB>>(
         &self,
         builder: &mut AB,
@@ -137,6 +145,7 @@ impl<AB: AirBuilder, X: Expression<AB>, Y: Expression<AB>> Constraint<AB> for Eq
 
     ghost all_hold = { λ s b. X.holds s.0 b × Y.holds s.1 b };
 
+    #[inline(always)]
     fn assert_under<K: Condition<AB>>(
         &self,
         builder: &mut AB,
@@ -155,6 +164,7 @@ impl<AB: AirBuilder, X: Expression<AB>> Claim<AB> for Boolean<X> {
 
     ghost claim_holds = { λ s b. X.holds s.0 b };
 
+    #[inline(always)]
     fn make_claim<K: Condition<AB>>(
         &self,
         builder: &mut AB,
@@ -169,6 +179,7 @@ impl<AB: AirBuilder, X: Expression<AB>> Constraint<AB> for Boolean<X> {
 
     ghost all_hold = { λ s b. X.holds s.0 b };
 
+    #[inline(always)]
     fn assert_under<K: Condition<AB>>(
         &self,
         builder: &mut AB,

@@ -31,21 +31,27 @@ pub trait ExtClaim<AB: ExtensionBuilder> {
         condition: &K,
     ) -> Result<AB::ExprEF, AirError>
         requires ready { AB.ready builder.old }
-        requires held { Lasts AB.kept (λ b. ext_claim_holds self.now b × K.where_holds condition.now b)
+        requires held { Lasts AB.kept (λ b. ext_claim_holds self.now b × K.where_holds condition.now
+            b)
             builder.old }
-        ensures { Made (Means AB.ExtRing.means AB.ext_ring_of AB.stands) AB.grew AB.missing AB.refuses builder.old builder.new result (K.ext_under condition.now (ext_claims self.now)) };
+        ensures { Made (Means AB.ExtRing.means AB.ext_ring_of AB.stands) AB.grew AB.missing
+            AB.refuses builder.old builder.new result
+            (K.ext_under condition.now (ext_claims self.now)) };
 }
 
 /// Asserts what is claimed.
+#[inline(always)]
 fn assert_ext_claim<AB: ExtensionBuilder, C: ExtClaim<AB>, K: Condition<AB>>(
     builder: &mut AB,
     condition: &K,
     claim: &C,
 ) -> Result<(), AirError>
     requires ready { AB.ready builder.old }
-    requires held { Lasts AB.kept (λ b. C.ext_claim_holds claim.now b × K.where_holds condition.now b)
+    requires held { Lasts AB.kept (λ b. C.ext_claim_holds claim.now b × K.where_holds condition.now
+        b)
         builder.old }
-    ensures { Asserted AB.kept AB.grew AB.missing AB.refuses builder.old builder.new result (Extension (K.ext_under condition.now (C.ext_claims claim.now)) ∷ []) }
+    ensures { Asserted AB.kept AB.grew AB.missing AB.refuses builder.old builder.new result
+        (Extension (K.ext_under condition.now (C.ext_claims claim.now)) ∷ []) }
 {
     let x = claim.make_ext_claim(builder, condition)?;
     builder.assert_zero_ext(x)
@@ -60,6 +66,7 @@ impl<AB: ExtensionBuilder, X: ExtExpression<AB>> ExtClaim<AB> for ExtZero<X> {
 
     ghost ext_claim_holds = { λ s b. X.ext_holds s.0 b };
 
+    #[inline(always)]
     fn make_ext_claim<K: Condition<AB>>(
         &self,
         builder: &mut AB,
@@ -74,6 +81,7 @@ impl<AB: ExtensionBuilder, X: ExtExpression<AB>> Constraint<AB> for ExtZero<X> {
 
     ghost all_hold = { λ s b. X.ext_holds s.0 b };
 
+    #[inline(always)]
     fn assert_under<K: Condition<AB>>(
         &self,
         builder: &mut AB,
@@ -92,6 +100,7 @@ impl<AB: ExtensionBuilder, X: ExtExpression<AB>> ExtClaim<AB> for ExtIsOne<X> {
 
     ghost ext_claim_holds = { λ s b. X.ext_holds s.0 b };
 
+    #[inline(always)]
     fn make_ext_claim<K: Condition<AB>>(
         &self,
         builder: &mut AB,
@@ -106,6 +115,7 @@ impl<AB: ExtensionBuilder, X: ExtExpression<AB>> Constraint<AB> for ExtIsOne<X> 
 
     ghost all_hold = { λ s b. X.ext_holds s.0 b };
 
+    #[inline(always)]
     fn assert_under<K: Condition<AB>>(
         &self,
         builder: &mut AB,
@@ -125,6 +135,7 @@ impl<AB: ExtensionBuilder, X: ExtExpression<AB>, Y: ExtExpression<AB>> ExtClaim<
 
     ghost ext_claim_holds = { λ s b. X.ext_holds s.0 b × Y.ext_holds s.1 b };
 
+    #[inline(always)]
     fn make_ext_claim<K: Condition<AB>>(
         &self,
         builder: &mut AB,
@@ -140,6 +151,7 @@ impl<AB: ExtensionBuilder, X: ExtExpression<AB>, Y: ExtExpression<AB>> Constrain
 
     ghost all_hold = { λ s b. X.ext_holds s.0 b × Y.ext_holds s.1 b };
 
+    #[inline(always)]
     fn assert_under<K: Condition<AB>>(
         &self,
         builder: &mut AB,
@@ -158,6 +170,7 @@ impl<AB: NamedExtensionBuilder, N: Label, C: ExtClaim<AB>> Constraint<AB> for Ex
 
     ghost all_hold = { λ s b. C.ext_claim_holds s.1 b };
 
+    #[inline(always)]
     fn assert_under<K: Condition<AB>>(
         &self,
         builder: &mut AB,

@@ -38,7 +38,8 @@ pub trait Family<AB: AirBuilder> {
     ghost size: { Self → ℕ };
 
     /// What the one at an index asserts, where each base term becomes another, and each extension term.
-    ghost asserts_at: { Self → ℕ → (Term AB.F → Term AB.F) → (Term AB.F → Term AB.F) → List (Assertion AB.F) };
+    ghost asserts_at: { Self → ℕ → (Term AB.F → Term AB.F) → (Term AB.F → Term AB.F) → List
+        (Assertion AB.F) };
 
     /// What they hold ready-made is of the builder, and means what it should there.
     ghost family_holds: { Self → AB → Type 0 } = { λ _ _. ⊤ };
@@ -58,7 +59,8 @@ pub trait Family<AB: AirBuilder> {
         requires within { index < size self.now }
         requires held { Lasts AB.kept (λ b. family_holds self.now b × K.where_holds condition.now b)
             builder.old }
-        ensures { Asserted AB.kept AB.grew AB.missing AB.refuses builder.old builder.new result (asserts_at self.now index (K.under condition.now) (K.ext_under condition.now)) };
+        ensures { Asserted AB.kept AB.grew AB.missing AB.refuses builder.old builder.new result
+            (asserts_at self.now index (K.under condition.now) (K.ext_under condition.now)) };
 }
 
 /// Each of a family, in order.

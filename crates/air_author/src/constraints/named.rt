@@ -24,8 +24,8 @@ impl<A: Label, B: Label> Label for Joined<A, B> {
     ghost always = { λ name. (A.always name.left, B.always name.right) };
 }
 
-/// A constraint of one assertion, under a name: `Named("a is b", Equal(Current(0), Current(1)))`. An assertion that fails
-/// keeps the name, and the name is evaluated where an assertion's is.
+/// A constraint of one assertion, under a name: `Named("a is b", Equal(Current(0), Current(1)))`. An assertion that
+/// fails keeps the name, and the name is evaluated where an assertion's is.
 #[derive(Clone, Copy, Drop)]
 pub struct Named<N, C>(pub N, pub C);
 
@@ -34,6 +34,7 @@ impl<AB: NamedAirBuilder, N: Label, C: Claim<AB>> Constraint<AB> for Named<N, C>
 
     ghost all_hold = { λ s b. C.claim_holds s.1 b };
 
+    #[inline(always)]
     fn assert_under<K: Condition<AB>>(
         &self,
         builder: &mut AB,

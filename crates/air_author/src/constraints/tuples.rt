@@ -11,6 +11,7 @@ use air_builder::{AirBuilder, AirError};
 // type of all of theirs, which is dear to prove.
 
 /// Asserts both, in order.
+#[inline(always)]
 fn assert_two<AB: AirBuilder, C: Constraint<AB>, D: Constraint<AB>, K: Condition<AB>>(
     builder: &mut AB,
     condition: &K,
@@ -78,6 +79,7 @@ impl<AB: AirBuilder, C: Constraint<AB>, D: Constraint<AB>> Constraint<AB> for (C
 
     ghost all_hold = { λ s b. C.all_hold s.0 b × D.all_hold s.1 b };
 
+    #[inline(always)]
     fn assert_under<K: Condition<AB>>(
         &self,
         builder: &mut AB,
@@ -94,6 +96,7 @@ impl<AB: AirBuilder, C: Constraint<AB>, D: Constraint<AB>, E: Constraint<AB>> Co
 
     ghost all_hold = { λ s b. C.all_hold s.0 b × (D.all_hold s.1 b × E.all_hold s.2 b) };
 
+    #[inline(always)]
     fn assert_under<K: Condition<AB>>(
         &self,
         builder: &mut AB,
@@ -117,6 +120,7 @@ impl<
     ghost all_hold = { λ s b. C.all_hold s.0 b × (D.all_hold s.1 b
         × (E.all_hold s.2 b × G.all_hold s.3 b)) };
 
+    #[inline(always)]
     fn assert_under<K: Condition<AB>>(
         &self,
         builder: &mut AB,
@@ -141,6 +145,7 @@ impl<
     ghost all_hold = { λ s b. C.all_hold s.0 b × (D.all_hold s.1 b
         × (E.all_hold s.2 b × (G.all_hold s.3 b × H.all_hold s.4 b))) };
 
+    #[inline(always)]
     fn assert_under<K: Condition<AB>>(
         &self,
         builder: &mut AB,

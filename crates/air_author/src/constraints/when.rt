@@ -12,10 +12,12 @@ use air_builder::{AirBuilder, AirError};
 pub struct When<S, C>(pub S, pub C);
 
 impl<AB: AirBuilder, S: Expression<AB>, C: Constraint<AB>> Constraint<AB> for When<S, C> {
-    ghost asserts = { λ s f g. C.asserts s.1 (λ t. f (mul_term (S.term s.0) t)) (λ t. g (mul_term t (S.term s.0))) };
+    ghost asserts = { λ s f g. C.asserts s.1 (λ t. f (mul_term (S.term s.0) t))
+        (λ t. g (mul_term t (S.term s.0))) };
 
     ghost all_hold = { λ s b. S.holds s.0 b × C.all_hold s.1 b };
 
+    #[inline(always)]
     fn assert_under<K: Condition<AB>>(
         &self,
         builder: &mut AB,

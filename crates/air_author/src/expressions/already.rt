@@ -6,8 +6,8 @@ use crate::expressions::{Expression, ExtExpression};
 use air_builder::{AirBuilder, AirError, ExtensionBuilder};
 use air_field::Algebra;
 
-/// An expression that is made already, as one that a filter or a gadget was handed, and the value that it was made of: it
-/// has to mean the value's term.
+/// An expression that is made already, as one that a filter or a gadget was handed, and the value that it was made of:
+/// in the builder it has to mean the value's term, each leaf of which has to be there.
 #[derive(Clone, Copy, Drop)]
 pub struct Already<E, X>(pub E, pub X);
 
@@ -17,6 +17,7 @@ impl<AB: AirBuilder, X: Expression<AB>> Expression<AB> for Already<AB::Expr, X> 
     ghost holds = { λ s b. Holds (Means AB.Ring.means AB.ring_of AB.stands) AB.missing
         s.0 (X.term s.1) b };
 
+    #[inline(always)]
     fn make(&self, _builder: &mut AB) -> Result<AB::Expr, AirError> {
         Ok(self.0)
     }
@@ -28,6 +29,7 @@ impl<AB: ExtensionBuilder, X: ExtExpression<AB>> ExtExpression<AB> for Already<A
     ghost ext_holds = { λ s b. Holds (Means AB.ExtRing.means AB.ext_ring_of AB.stands) AB.missing
         s.0 (X.ext_term s.1) b };
 
+    #[inline(always)]
     fn make_ext(&self, _builder: &mut AB) -> Result<AB::ExprEF, AirError> {
         Ok(self.0)
     }

@@ -15,6 +15,7 @@ impl<AB: AirBuilder, X: Expression<AB>, Y: Expression<AB>> Expression<AB> for Su
 
     ghost holds = { λ s b. X.holds s.0 b × Y.holds s.1 b };
 
+    #[inline(always)]
     fn make(&self, builder: &mut AB) -> Result<AB::Expr, AirError> {
         let x = self.0.make(builder)?;
         let y = self.1.make(builder)?;
@@ -32,6 +33,7 @@ impl<AB: AirBuilder, X: Expression<AB>, Y: Expression<AB>> Expression<AB> for Di
 
     ghost holds = { λ s b. X.holds s.0 b × Y.holds s.1 b };
 
+    #[inline(always)]
     fn make(&self, builder: &mut AB) -> Result<AB::Expr, AirError> {
         let x = self.0.make(builder)?;
         let y = self.1.make(builder)?;
@@ -49,6 +51,7 @@ impl<AB: AirBuilder, X: Expression<AB>, Y: Expression<AB>> Expression<AB> for Pr
 
     ghost holds = { λ s b. X.holds s.0 b × Y.holds s.1 b };
 
+    #[inline(always)]
     fn make(&self, builder: &mut AB) -> Result<AB::Expr, AirError> {
         let x = self.0.make(builder)?;
         let y = self.1.make(builder)?;
@@ -66,6 +69,7 @@ impl<AB: AirBuilder, X: Expression<AB>> Expression<AB> for Negative<X> {
 
     ghost holds = { λ s b. X.holds s.0 b };
 
+    #[inline(always)]
     fn make(&self, builder: &mut AB) -> Result<AB::Expr, AirError> {
         let x = self.0.make(builder)?;
         let y = builder.ring().neg(x)?;
@@ -82,6 +86,7 @@ impl<AB: AirBuilder, X: Expression<AB>> Expression<AB> for Double<X> {
 
     ghost holds = { λ s b. X.holds s.0 b };
 
+    #[inline(always)]
     fn make(&self, builder: &mut AB) -> Result<AB::Expr, AirError> {
         let x = self.0.make(builder)?;
         let y = builder.ring().double(x)?;
@@ -98,6 +103,7 @@ impl<AB: AirBuilder, X: Expression<AB>> Expression<AB> for Square<X> {
 
     ghost holds = { λ s b. X.holds s.0 b };
 
+    #[inline(always)]
     fn make(&self, builder: &mut AB) -> Result<AB::Expr, AirError> {
         let x = self.0.make(builder)?;
         let y = builder.ring().mul(x, x)?;
@@ -114,6 +120,7 @@ impl<AB: AirBuilder, X: Expression<AB>> Expression<AB> for BoolCheck<X> {
 
     ghost holds = { λ s b. X.holds s.0 b };
 
+    #[inline(always)]
     fn make(&self, builder: &mut AB) -> Result<AB::Expr, AirError> {
         let x = self.0.make(builder)?;
         let y = builder.ring().bool_check(x)?;

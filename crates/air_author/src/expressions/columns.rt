@@ -11,6 +11,7 @@ use air_field::{Algebra, FromVar};
 use air_variables::BaseEntry;
 
 /// The entry, or the refusal that names it.
+#[inline(always)]
 fn present<T: Copy>(found: Option<T>, entry: BaseEntry, index: usize) -> Result<T, AirError>
     ensures ok { IfOk result (λ x. found ≡ Some x) }
     ensures err { IfErr result (λ e. (found ≡ None) × (e ≡ AirError.MissingEntry entry index)) }
@@ -22,6 +23,7 @@ fn present<T: Copy>(found: Option<T>, entry: BaseEntry, index: usize) -> Result<
 }
 
 /// The element of this index, if there is one.
+#[inline(always)]
 fn element<T: Copy>(row: &[T], index: usize) -> Option<T>
     ensures { result ≡ slice_get row.now index }
 {
@@ -29,6 +31,7 @@ fn element<T: Copy>(row: &[T], index: usize) -> Option<T>
 }
 
 /// The expression of the variable that was found at a place of the entry.
+#[inline(always)]
 fn make_found<AB: AirBuilder>(
     builder: &mut AB,
     found: Option<AB::Var>,
@@ -36,9 +39,11 @@ fn make_found<AB: AirBuilder>(
     index: usize,
 ) -> Result<AB::Expr, AirError>
     requires ready { AB.ready builder.old }
-    requires found { IfSome found (VariableStands AB.Ring.FromVar-1.var_means (AB.stands builder.old) (entry_leaf entry index)) }
+    requires found { IfSome found (VariableStands AB.Ring.FromVar-1.var_means
+        (AB.stands builder.old) (entry_leaf entry index)) }
     requires none { (found ≡ None) ↔ AB.missing builder.old (entry_leaf entry index) }
-    ensures { Made (Means AB.Ring.means AB.ring_of AB.stands) AB.grew AB.missing AB.refuses builder.old builder.new result (leaf_term (entry_leaf entry index)) }
+    ensures { Made (Means AB.Ring.means AB.ring_of AB.stands) AB.grew AB.missing AB.refuses
+        builder.old builder.new result (leaf_term (entry_leaf entry index)) }
 {
     let v = present(found, entry, index)?;
     let x = builder.ring().from_var(v)?;
@@ -52,6 +57,7 @@ pub struct Current(pub usize);
 impl<AB: AirBuilder> Expression<AB> for Current {
     ghost term = { λ s. leaf_term (main 0 s.0) };
 
+    #[inline(always)]
     fn make(&self, builder: &mut AB) -> Result<AB::Expr, AirError> {
         let found = builder.main_variable(0, self.0);
         make_found(builder, found, BaseEntry::Main { offset: 0 }, self.0)
@@ -65,6 +71,7 @@ pub struct Next(pub usize);
 impl<AB: AirBuilder> Expression<AB> for Next {
     ghost term = { λ s. leaf_term (main 1 s.0) };
 
+    #[inline(always)]
     fn make(&self, builder: &mut AB) -> Result<AB::Expr, AirError> {
         let found = builder.main_variable(1, self.0);
         make_found(builder, found, BaseEntry::Main { offset: 1 }, self.0)
@@ -78,6 +85,7 @@ pub struct PreprocessedCurrent(pub usize);
 impl<AB: AirBuilder> Expression<AB> for PreprocessedCurrent {
     ghost term = { λ s. leaf_term (preprocessed 0 s.0) };
 
+    #[inline(always)]
     fn make(&self, builder: &mut AB) -> Result<AB::Expr, AirError> {
         let found = builder.preprocessed_variable(0, self.0);
         make_found(
@@ -96,6 +104,7 @@ pub struct PreprocessedNext(pub usize);
 impl<AB: AirBuilder> Expression<AB> for PreprocessedNext {
     ghost term = { λ s. leaf_term (preprocessed 1 s.0) };
 
+    #[inline(always)]
     fn make(&self, builder: &mut AB) -> Result<AB::Expr, AirError> {
         let found = builder.preprocessed_variable(1, self.0);
         make_found(
@@ -114,6 +123,7 @@ pub struct Public(pub usize);
 impl<AB: AirBuilder> Expression<AB> for Public {
     ghost term = { λ s. leaf_term (public s.0) };
 
+    #[inline(always)]
     fn make(&self, builder: &mut AB) -> Result<AB::Expr, AirError> {
         let v = present(
             element(builder.public_values(), self.0),
@@ -132,6 +142,7 @@ pub struct Periodic(pub usize);
 impl<AB: AirBuilder> Expression<AB> for Periodic {
     ghost term = { λ s. leaf_term (periodic s.0) };
 
+    #[inline(always)]
     fn make(&self, builder: &mut AB) -> Result<AB::Expr, AirError> {
         let v = present(
             element(builder.periodic_values(), self.0),

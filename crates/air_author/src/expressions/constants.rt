@@ -13,6 +13,7 @@ pub struct Constant<F>(pub F);
 impl<AB: AirBuilder> Expression<AB> for Constant<AB::F> {
     ghost term = { λ s. const_term s.0 };
 
+    #[inline(always)]
     fn make(&self, builder: &mut AB) -> Result<AB::Expr, AirError> {
         let x = builder.ring().constant(self.0)?;
         Ok(x)
@@ -26,6 +27,7 @@ pub struct One;
 impl<AB: AirBuilder> Expression<AB> for One {
     ghost term = { λ _. const_term AB.F.ONE };
 
+    #[inline(always)]
     fn make(&self, builder: &mut AB) -> Result<AB::Expr, AirError> {
         Constant(AB::F::ONE).make(builder)
     }
@@ -38,6 +40,7 @@ pub struct Number(pub u64);
 impl<AB: AirBuilder> Expression<AB> for Number {
     ghost term = { λ s. const_term (image AB.F.ring s.0) };
 
+    #[inline(always)]
     fn make(&self, builder: &mut AB) -> Result<AB::Expr, AirError> {
         Constant(AB::F::from_u64(self.0)).make(builder)
     }

@@ -15,6 +15,7 @@ impl<AB: ExtensionBuilder, X: Expression<AB>> ExtExpression<AB> for Lifted<X> {
 
     ghost ext_holds = { λ s b. X.holds s.0 b };
 
+    #[inline(always)]
     fn make_ext(&self, builder: &mut AB) -> Result<AB::ExprEF, AirError> {
         let x = self.0.make(builder)?;
         let y = builder.ext_ring().lift(x)?;
@@ -29,6 +30,7 @@ pub struct ExtConstant<EF>(pub EF);
 impl<AB: ExtensionBuilder> ExtExpression<AB> for ExtConstant<AB::EF> {
     ghost ext_term = { λ s. ext_const_term (AB.EF.coefficients s.0) };
 
+    #[inline(always)]
     fn make_ext(&self, builder: &mut AB) -> Result<AB::ExprEF, AirError> {
         let x = builder.ext_ring().ext_constant(self.0)?;
         Ok(x)
@@ -41,6 +43,7 @@ impl<AB: ExtensionBuilder, X: ExtExpression<AB>, Y: ExtExpression<AB>> ExtExpres
 
     ghost ext_holds = { λ s b. X.ext_holds s.0 b × Y.ext_holds s.1 b };
 
+    #[inline(always)]
     fn make_ext(&self, builder: &mut AB) -> Result<AB::ExprEF, AirError> {
         let x = self.0.make_ext(builder)?;
         let y = self.1.make_ext(builder)?;
@@ -55,6 +58,7 @@ impl<AB: ExtensionBuilder, X: ExtExpression<AB>, Y: ExtExpression<AB>> ExtExpres
 
     ghost ext_holds = { λ s b. X.ext_holds s.0 b × Y.ext_holds s.1 b };
 
+    #[inline(always)]
     fn make_ext(&self, builder: &mut AB) -> Result<AB::ExprEF, AirError> {
         let x = self.0.make_ext(builder)?;
         let y = self.1.make_ext(builder)?;
@@ -69,6 +73,7 @@ impl<AB: ExtensionBuilder, X: ExtExpression<AB>, Y: ExtExpression<AB>> ExtExpres
 
     ghost ext_holds = { λ s b. X.ext_holds s.0 b × Y.ext_holds s.1 b };
 
+    #[inline(always)]
     fn make_ext(&self, builder: &mut AB) -> Result<AB::ExprEF, AirError> {
         let x = self.0.make_ext(builder)?;
         let y = self.1.make_ext(builder)?;
@@ -82,6 +87,7 @@ impl<AB: ExtensionBuilder, X: ExtExpression<AB>> ExtExpression<AB> for Negative<
 
     ghost ext_holds = { λ s b. X.ext_holds s.0 b };
 
+    #[inline(always)]
     fn make_ext(&self, builder: &mut AB) -> Result<AB::ExprEF, AirError> {
         let x = self.0.make_ext(builder)?;
         let y = builder.ext_ring().neg(x)?;

@@ -1,4 +1,5 @@
-//! Entries of the permutation trace, its challenges and its values. A missing one is refused by name.
+//! Entries of the permutation trace, its challenges and its values. A missing one is refused by name, and each column
+//! of a builder without a permutation trace with `NoPermutation`.
 ghost use Rattle.std.specs.Prelude.{◌≡◌, Some, None, IfOk, IfErr, slice_get};
 ghost use Rattle.air_field.specs.Term.{permutation, challenge, permutation_value, leaf_term};
 
@@ -8,6 +9,7 @@ use air_field::{Algebra, FromVar};
 use air_variables::ExtEntry;
 
 /// The entry, or the refusal that names it.
+#[inline(always)]
 fn present_ext<T: Copy>(found: Option<T>, entry: ExtEntry, index: usize) -> Result<T, AirError>
     ensures ok { IfOk result (λ x. found ≡ Some x) }
     ensures err { IfErr result (λ e. (found ≡ None) × (e ≡ AirError.MissingExtEntry entry index)) }
@@ -19,6 +21,7 @@ fn present_ext<T: Copy>(found: Option<T>, entry: ExtEntry, index: usize) -> Resu
 }
 
 /// The element of this index, if there is one.
+#[inline(always)]
 fn ext_element<T: Copy>(row: &[T], index: usize) -> Option<T>
     ensures { result ≡ slice_get row.now index }
 {
@@ -35,6 +38,7 @@ where
 {
     ghost ext_term = { λ s. leaf_term (permutation 0 s.0) };
 
+    #[inline(always)]
     fn make_ext(&self, builder: &mut AB) -> Result<AB::ExprEF, AirError> {
         let window = builder.permutation()?;
         let v = present_ext(
@@ -57,6 +61,7 @@ where
 {
     ghost ext_term = { λ s. leaf_term (permutation 1 s.0) };
 
+    #[inline(always)]
     fn make_ext(&self, builder: &mut AB) -> Result<AB::ExprEF, AirError> {
         let window = builder.permutation()?;
         let v = present_ext(
@@ -79,6 +84,7 @@ where
 {
     ghost ext_term = { λ s. leaf_term (challenge s.0) };
 
+    #[inline(always)]
     fn make_ext(&self, builder: &mut AB) -> Result<AB::ExprEF, AirError> {
         let v = present_ext(
             ext_element(builder.permutation_randomness(), self.0),
@@ -100,6 +106,7 @@ where
 {
     ghost ext_term = { λ s. leaf_term (permutation_value s.0) };
 
+    #[inline(always)]
     fn make_ext(&self, builder: &mut AB) -> Result<AB::ExprEF, AirError> {
         let v = present_ext(
             ext_element(builder.permutation_values(), self.0),

@@ -16,8 +16,10 @@ fn multiplied<F: Field, R: Algebra<F>>(
 ) -> Result<R::Elem, RingError>
     requires { R.has ring.old x }
     ensures extended { R.extends ring.old ring.new }
-    ensures made { IfOk result (MadeOf R.has R.means (λ t. power_term F.ONE t (suc more)) ring.old ring.new x) }
-    ensures refused { IfErr result (RefusedOf R.means R.refuses (λ t. power_term F.ONE t (suc more)) ring.old x) }
+    ensures made { IfOk result (MadeOf R.has R.means (λ t. power_term F.ONE t (suc more)) ring.old
+        ring.new x) }
+    ensures refused { IfErr result (RefusedOf R.means R.refuses (λ t. power_term F.ONE t (suc more))
+        ring.old x) }
 {
     let mut total = x;
     for done in 0..more {
@@ -35,6 +37,7 @@ impl<AB: AirBuilder, X: Expression<AB>> Expression<AB> for Power<X> {
 
     ghost holds = { λ s b. X.holds s.0 b };
 
+    #[inline(always)]
     fn make(&self, builder: &mut AB) -> Result<AB::Expr, AirError> {
         if self.1 == 0 {
             return One.make(builder);

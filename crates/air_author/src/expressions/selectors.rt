@@ -11,6 +11,7 @@ pub struct FirstRow;
 impl<AB: AirBuilder> Expression<AB> for FirstRow {
     ghost term = { λ _. leaf_term first_row };
 
+    #[inline(always)]
     fn make(&self, builder: &mut AB) -> Result<AB::Expr, AirError> {
         let x = builder.is_first_row()?;
         Ok(x)
@@ -24,6 +25,7 @@ pub struct LastRow;
 impl<AB: AirBuilder> Expression<AB> for LastRow {
     ghost term = { λ _. leaf_term last_row };
 
+    #[inline(always)]
     fn make(&self, builder: &mut AB) -> Result<AB::Expr, AirError> {
         let x = builder.is_last_row()?;
         Ok(x)
@@ -37,6 +39,7 @@ pub struct Transition;
 impl<AB: AirBuilder> Expression<AB> for Transition {
     ghost term = { λ _. leaf_term transition };
 
+    #[inline(always)]
     fn make(&self, builder: &mut AB) -> Result<AB::Expr, AirError> {
         let x = builder.is_transition()?;
         Ok(x)

@@ -16,7 +16,8 @@ use air_windows::errors::AirError;
 use air_windows::periodic::{periodic_matrix, periodic_row};
 use std::alloc::Global;
 
-/// What an AIR says of itself. Every answer is a function of the AIR's value, want of memory apart.
+/// What an AIR says of itself. Every answer is a function of the AIR's value, want of memory apart; of hints of its own
+/// only what an implementation states at its methods.
 pub trait BaseAir<F: Copy> {
     /// The constraints, in order: base or extension terms, the same for all builders.
     ghost declared: { Self → List (Assertion F) };
@@ -28,8 +29,8 @@ pub trait BaseAir<F: Copy> {
     /// The preprocessed table, the periodic columns and the boundary cells.
     ghost beside: { Self → Beside F };
 
-    /// An implementation with bodies of its own for the lists of next-row columns or the three hints says so, and states
-    /// its answers at its methods.
+    /// An implementation with bodies of its own for the lists of next-row columns or the three hints says so, and
+    /// states its answers at its methods.
     ghost has_own_hints: { Self → Type 0 } = { λ _. ⊥ };
 
     /// The number of columns of the main trace.
@@ -40,7 +41,7 @@ pub trait BaseAir<F: Copy> {
     fn num_public_values(&self) -> usize
         ensures { result ≡ num_public_values self.now };
 
-    /// The preprocessed table, if there is one: as many rows as the main trace.
+    /// The preprocessed table, if there is one. A check compares its height with that of the main trace.
     fn preprocessed_trace(&self) -> Option<&RowMajorMatrix<F>>
         ensures { option_copied result ≡ (beside self.now).preprocessed };
 
@@ -58,6 +59,7 @@ pub trait BaseAir<F: Copy> {
     fn periodic_columns(&self) -> &[Vec<F>]
         ensures { result.now ≡ (beside self.now).periodic };
 
+    /// The number of periodic columns.
     fn num_periodic_columns(&self) -> usize
         ensures { result ≡ length (beside self.now).periodic }
     {
@@ -65,7 +67,7 @@ pub trait BaseAir<F: Copy> {
     }
 
     /// Each periodic column's value at the row: the column at the row modulo its length. The first empty column is
-    /// refused.
+    /// refused, and want of memory.
     fn periodic_values(&self, alloc: Global, row_index: usize) -> Result<Vec<F>, AirError>
         ensures { MatchPeriodicValues (beside self.now).periodic row_index result }
     {
@@ -73,24 +75,29 @@ pub trait BaseAir<F: Copy> {
     }
 
     /// The periodic columns as a matrix that has as many rows as the greatest period; None without columns. The first
-    /// empty column is refused where another isn't empty.
+    /// empty column is refused where another isn't empty, and want of memory.
     fn periodic_columns_matrix(&self, alloc: Global) -> Result<Option<RowMajorMatrix<F>>, AirError>
         ensures { MatchPeriodicMatrix (beside self.now).periodic result }
     {
         periodic_matrix(alloc, self.periodic_columns())
     }
 
-    /// The columns of the main trace whose next row the constraints read: all of them.
+    /// The columns of the main trace whose next row the constraints read: all of them, where the AIR has no list of its
+    /// own. It refuses for want of memory alone.
     fn main_next_row_columns(&self, alloc: Global) -> Result<Vec<usize>, AirError>
-        ensures all { (has_own_hints self.now → ⊥) → IfOk result (λ columns. columns.items ≡ range_with_len 0 (width self.now)) }
+        ensures all { (has_own_hints self.now → ⊥) → IfOk result
+            (λ columns. columns.items ≡ range_with_len 0 (width self.now)) }
         ensures refused { IfErr result (λ e. e ≡ AirError.Memory) }
     {
         columns_below(alloc, self.width())
     }
 
-    /// The columns of the preprocessed table whose next row the constraints read: all of them.
+    /// The columns of the preprocessed table whose next row the constraints read: all of them, where the AIR has no
+    /// list of its own. It refuses for want of memory alone.
     fn preprocessed_next_row_columns(&self, alloc: Global) -> Result<Vec<usize>, AirError>
-        ensures all { (has_own_hints self.now → ⊥) → IfOk result (λ columns. columns.items ≡ range_with_len 0 (table_width (beside self.now).preprocessed)) }
+        ensures all { (has_own_hints self.now → ⊥) → IfOk result
+            (λ columns. columns.items ≡ range_with_len 0
+            (table_width (beside self.now).preprocessed)) }
         ensures refused { IfErr result (λ e. e ≡ AirError.Memory) }
     {
         columns_below(alloc, self.preprocessed_width())
@@ -126,13 +133,18 @@ pub trait BaseAir<F: Copy> {
 ///
 /// `eval` keeps the declaration: it answers Ok only after the builder grew by the declared list, and only where no
 /// declared term names an entry that is missing in the builder; it refuses only what the builder may refuse of that
-/// list, and where memory is wanting to the AIR itself. A refused `eval` leaves earlier entries and a beginning of its own, which isn't the whole.
+/// list, and where memory is wanting to the AIR itself. A refused `eval` leaves earlier entries and a beginning of its
+/// own, which isn't the whole.
 pub trait Air<AB: AirBuilder>: BaseAir<AB::F> {
+    /// Asserts the constraints on the builder, in the order of the declared list.
     fn eval(&self, builder: &mut AB) -> Result<(), AirError>
         requires { AB.ready builder.old }
         ensures ok { OnOk result (AB.grew builder.old builder.new (Self.declared self.now)) }
-        ensures there { OnOk result (NoneMissing (AB.missing builder.old) (Self.declared self.now)) }
+        ensures there { OnOk result (NoneMissing (AB.missing builder.old)
+            (Self.declared self.now)) }
         ensures keeps { AB.kept builder.old builder.new }
-        ensures err { OnErr result (GrewByFirst AB.grew builder.old builder.new (Self.declared self.now)) }
-        ensures refused { IfErr result (λ e. (e ≡ AirError.Memory) ⊎ AB.refuses builder.old e (Self.declared self.now)) };
+        ensures err { OnErr result (GrewByFirst AB.grew builder.old builder.new
+            (Self.declared self.now)) }
+        ensures refused { IfErr result (λ e. (e ≡ AirError.Memory) ⊎ AB.refuses builder.old e
+            (Self.declared self.now)) };
 }

@@ -16,6 +16,7 @@ use air_windows::errors::AirError;
 use air_windows::windows::access::WindowAccess;
 
 /// x - 1
+#[inline(always)]
 pub(crate) fn less_one<F: Field, R: Algebra<F>>(
     ring: &mut R,
     x: R::Elem,
@@ -31,20 +32,28 @@ pub(crate) fn less_one<F: Field, R: Algebra<F>>(
 
 /// Receives the constraints of an AIR.
 pub trait AirBuilder {
+    /// The field of the trace.
     type F: Field;
 
+    /// The expressions that are asserted: elements of the builder's ring.
     type Expr: Copy;
 
+    /// The entries of the main and of the preprocessed trace.
     type Var: Copy;
 
+    /// The public values.
     type PublicVar: Copy;
 
+    /// The values of the periodic columns.
     type PeriodicVar: Copy;
 
+    /// The window of the preprocessed trace.
     type PreprocessedWindow: WindowAccess<Self::Var>;
 
+    /// The window of the main trace.
     type MainWindow: WindowAccess<Self::Var> + Drop;
 
+    /// The ring in which expressions are made.
     type Ring: Algebra<Self::F, Elem = Self::Expr>
         + FromVar<Self::F, Self::Var>
         + FromVar<Self::F, Self::PublicVar>
@@ -76,39 +85,53 @@ pub trait AirBuilder {
 
     /// The ring in which this builder's expressions are made. What the caller leaves there extends what was lent.
     fn ring(&mut self) -> &mut Self::Ring
-        ensures* lends { sem 𝓛 (Lends Self.row Self.Ring.row self.entry result (with_ring self.old)) }
+        ensures* lends { sem 𝓛 (Lends Self.row Self.Ring.row self.entry result
+            (with_ring self.old)) }
         ensures value { result.now ≡ ring_of self.old };
 
     /// How many rows a window has.
     const WINDOW: usize = 2;
 
-    /// The window of the main trace.
+    /// The window of the main trace. A builder that makes its window may refuse for want of memory.
     fn main(&self) -> Result<Self::MainWindow, AirError>
         ensures window { IfOk result Self.MainWindow.is_window }
-        ensures current { IfOk result (λ w. RowStands Self.Ring.FromVar-1.var_means (λ i. stands self.now (main 0 i)) (Self.MainWindow.current_row w)) }
-        ensures next { IfOk result (λ w. RowStands Self.Ring.FromVar-1.var_means (λ i. stands self.now (main 1 i)) (Self.MainWindow.next_row w)) }
-        ensures current_ends { IfOk result (λ w. RowEnds (missing self.now) (λ i. main 0 i) (Self.MainWindow.current_row w)) }
-        ensures next_ends { IfOk result (λ w. RowEnds (missing self.now) (λ i. main 1 i) (Self.MainWindow.next_row w)) }
+        ensures current { IfOk result (λ w. RowStands Self.Ring.FromVar-1.var_means
+            (λ i. stands self.now (main 0 i)) (Self.MainWindow.current_row w)) }
+        ensures next { IfOk result (λ w. RowStands Self.Ring.FromVar-1.var_means
+            (λ i. stands self.now (main 1 i)) (Self.MainWindow.next_row w)) }
+        ensures current_ends { IfOk result (λ w. RowEnds (missing self.now) (λ i. main 0 i)
+            (Self.MainWindow.current_row w)) }
+        ensures next_ends { IfOk result (λ w. RowEnds (missing self.now) (λ i. main 1 i)
+            (Self.MainWindow.next_row w)) }
         ensures refused { IfErr result (λ e. refuses self.now e []) };
 
     /// The variable in a column of the main trace, at offset 0 the current row's and at 1 the next one's, if there is
     /// one. Takes no memory, where a window may.
     fn main_variable(&self, offset: usize, column: usize) -> Option<Self::Var>
-        ensures found { IfSome result (VariableStands Self.Ring.FromVar-1.var_means (stands self.now) (main offset column)) }
+        ensures found { IfSome result (VariableStands Self.Ring.FromVar-1.var_means
+            (stands self.now) (main offset column)) }
         ensures none { (result ≡ None) ↔ missing self.now (main offset column) };
 
     /// The window of the preprocessed trace; without one it has no columns.
     fn preprocessed(&self) -> &Self::PreprocessedWindow
         ensures window { Self.PreprocessedWindow.is_window result.now }
-        ensures current { RowStands Self.Ring.FromVar-1.var_means (λ i. stands self.now (preprocessed 0 i)) (Self.PreprocessedWindow.current_row result.now) }
-        ensures next { RowStands Self.Ring.FromVar-1.var_means (λ i. stands self.now (preprocessed 1 i)) (Self.PreprocessedWindow.next_row result.now) }
-        ensures current_ends { RowEnds (missing self.now) (λ i. preprocessed 0 i) (Self.PreprocessedWindow.current_row result.now) }
-        ensures next_ends { RowEnds (missing self.now) (λ i. preprocessed 1 i) (Self.PreprocessedWindow.next_row result.now) };
+        ensures current { RowStands Self.Ring.FromVar-1.var_means
+            (λ i. stands self.now (preprocessed 0 i))
+            (Self.PreprocessedWindow.current_row result.now) }
+        ensures next { RowStands Self.Ring.FromVar-1.var_means
+            (λ i. stands self.now (preprocessed 1 i))
+            (Self.PreprocessedWindow.next_row result.now) }
+        ensures current_ends { RowEnds (missing self.now) (λ i. preprocessed 0 i)
+            (Self.PreprocessedWindow.current_row result.now) }
+        ensures next_ends { RowEnds (missing self.now) (λ i. preprocessed 1 i)
+            (Self.PreprocessedWindow.next_row result.now) };
 
     /// The variable in a column of the preprocessed trace, at offset 0 the current row's and at 1 the next one's, if
     /// there is one. Takes no memory.
+    #[inline(always)]
     fn preprocessed_variable(&self, offset: usize, column: usize) -> Option<Self::Var>
-        ensures found { IfSome result (VariableStands Self.Ring.FromVar-1.var_means (stands self.now) (preprocessed offset column)) }
+        ensures found { IfSome result (VariableStands Self.Ring.FromVar-1.var_means
+            (stands self.now) (preprocessed offset column)) }
         ensures none { (result ≡ None) ↔ missing self.now (preprocessed offset column) }
     {
         match offset {
@@ -120,12 +143,14 @@ pub trait AirBuilder {
 
     /// The public values.
     fn public_values(&self) -> &[Self::PublicVar]
-        ensures stands { RowStands Self.Ring.FromVar-2.var_means (λ i. stands self.now (public i)) result.now }
+        ensures stands { RowStands Self.Ring.FromVar-2.var_means (λ i. stands self.now (public i))
+            result.now }
         ensures ends { RowEnds (missing self.now) public result.now };
 
     /// The values of the periodic columns.
     fn periodic_values(&self) -> &[Self::PeriodicVar]
-        ensures stands { RowStands Self.Ring.FromVar-3.var_means (λ i. stands self.now (periodic i)) result.now }
+        ensures stands { RowStands Self.Ring.FromVar-3.var_means (λ i. stands self.now (periodic i))
+            result.now }
         ensures ends { RowEnds (missing self.now) periodic result.now };
 
     /// One on the first row, else zero.
@@ -133,35 +158,41 @@ pub trait AirBuilder {
         requires { ready self.old }
         ensures always { IsOk result }
         ensures keeps { grew self.old self.new [] }
-        ensures ok { IfOk result (λ x. Means Self.Ring.means ring_of stands self.new x (leaf_term first_row)) };
+        ensures ok { IfOk result (λ x. Means Self.Ring.means ring_of stands self.new x
+            (leaf_term first_row)) };
 
     /// One on the last row, else zero.
     fn is_last_row(&mut self) -> Result<Self::Expr, AirError>
         requires { ready self.old }
         ensures always { IsOk result }
         ensures keeps { grew self.old self.new [] }
-        ensures ok { IfOk result (λ x. Means Self.Ring.means ring_of stands self.new x (leaf_term last_row)) };
+        ensures ok { IfOk result (λ x. Means Self.Ring.means ring_of stands self.new x
+            (leaf_term last_row)) };
 
     /// Zero on the last row, else one.
     fn is_transition(&mut self) -> Result<Self::Expr, AirError>
         requires { ready self.old }
         ensures always { IsOk result }
         ensures keeps { grew self.old self.new [] }
-        ensures ok { IfOk result (λ x. Means Self.Ring.means ring_of stands self.new x (leaf_term transition)) };
+        ensures ok { IfOk result (λ x. Means Self.Ring.means ring_of stands self.new x
+            (leaf_term transition)) };
 
-    /// The transition selector of windows of so many rows: zero on the last row, else one.
+    /// The transition selector of windows of `size` rows, which must be at most 2: zero on the last row, else one.
+    #[inline(always)]
     fn is_transition_window(&mut self, size: usize) -> Result<Self::Expr, AirError>
         requires ready { ready self.old }
         requires within { size ≤ 2 }
         ensures always { IsOk result }
         ensures keeps { grew self.old self.new [] }
-        ensures ok { IfOk result (λ x. Means Self.Ring.means ring_of stands self.new x (leaf_term transition)) }
+        ensures ok { IfOk result (λ x. Means Self.Ring.means ring_of stands self.new x
+            (leaf_term transition)) }
     {
         prove!(size <= 2);
         self.is_transition()
     }
 
     /// x - y in the builder's ring. The builder grew by nothing, also where that is refused.
+    #[inline(always)]
     final fn difference(&mut self, x: Self::Expr, y: Self::Expr) -> Result<Self::Expr, AirError>
     where
         Self: Sized,
@@ -170,8 +201,10 @@ pub trait AirBuilder {
         requires y_in { Self.Ring.has (ring_of self.old) y }
         ensures keeps { grew self.old self.new [] }
         ensures of_ring { IfOk result (λ z. Self.Ring.has (ring_of self.new) z) }
-        ensures made { IfOk result (λ z. MeansOfBoth (Means Self.Ring.means ring_of stands) sub_term self.old self.new x y z) }
-        ensures refused { IfErr result (RefusesPartOfBoth (Means Self.Ring.means ring_of stands) refuses sub_term self.old x y) }
+        ensures made { IfOk result (λ z. MeansOfBoth (Means Self.Ring.means ring_of stands) sub_term
+            self.old self.new x y z) }
+        ensures refused { IfErr result (RefusesPartOfBoth (Means Self.Ring.means ring_of stands)
+            refuses sub_term self.old x y) }
     {
         let difference = self.ring().sub(x, y)?;
         Ok(difference)
@@ -182,45 +215,56 @@ pub trait AirBuilder {
         requires ready { ready self.old }
         requires of_ring { Self.Ring.has (ring_of self.old) x }
         ensures keeps { kept self.old self.new }
-        ensures ok { OnOk result (GrewOf (Means Self.Ring.means ring_of stands) grew (λ t. t) self.old self.new x) }
+        ensures ok { OnOk result (GrewOf (Means Self.Ring.means ring_of stands) grew (λ t. t)
+            self.old self.new x) }
         ensures err { OnErr result (grew self.old self.new []) }
-        ensures refused { IfErr result (RefusesOf (Means Self.Ring.means ring_of stands) refuses (λ t. t) self.old x) };
+        ensures refused { IfErr result (RefusesOf (Means Self.Ring.means ring_of stands) refuses
+            (λ t. t) self.old x) };
 
     /// Asserts that `x` is one: growth by x - 1.
+    #[inline(always)]
     final fn assert_one(&mut self, x: Self::Expr) -> Result<(), AirError>
         requires ready { ready self.old }
         requires of_ring { Self.Ring.has (ring_of self.old) x }
         ensures keeps { kept self.old self.new }
-        ensures ok { OnOk result (GrewOf (Means Self.Ring.means ring_of stands) grew (less_one_term Self.F.ONE) self.old self.new x) }
+        ensures ok { OnOk result (GrewOf (Means Self.Ring.means ring_of stands) grew
+            (less_one_term Self.F.ONE) self.old self.new x) }
         ensures err { OnErr result (grew self.old self.new []) }
-        ensures refused { IfErr result (RefusesOf (Means Self.Ring.means ring_of stands) refuses (less_one_term Self.F.ONE) self.old x) }
+        ensures refused { IfErr result (RefusesOf (Means Self.Ring.means ring_of stands) refuses
+            (less_one_term Self.F.ONE) self.old x) }
     {
         let less = less_one(self.ring(), x)?;
         self.assert_zero(less)
     }
 
     /// Asserts that `x` and `y` are equal: growth by x - y.
+    #[inline(always)]
     final fn assert_eq(&mut self, x: Self::Expr, y: Self::Expr) -> Result<(), AirError>
         requires ready { ready self.old }
         requires x_in { Self.Ring.has (ring_of self.old) x }
         requires y_in { Self.Ring.has (ring_of self.old) y }
         ensures keeps { kept self.old self.new }
-        ensures ok { OnOk result (GrewOfBoth (Means Self.Ring.means ring_of stands) grew sub_term self.old self.new x y) }
+        ensures ok { OnOk result (GrewOfBoth (Means Self.Ring.means ring_of stands) grew sub_term
+            self.old self.new x y) }
         ensures err { OnErr result (grew self.old self.new []) }
-        ensures refused { IfErr result (RefusesOfBoth (Means Self.Ring.means ring_of stands) refuses sub_term self.old x y) }
+        ensures refused { IfErr result (RefusesOfBoth (Means Self.Ring.means ring_of stands) refuses
+            sub_term self.old x y) }
     {
         let z = self.ring().sub(x, y)?;
         self.assert_zero(z)
     }
 
     /// Asserts that `x` is zero or one: growth by x (x - 1).
+    #[inline(always)]
     final fn assert_bool(&mut self, x: Self::Expr) -> Result<(), AirError>
         requires ready { ready self.old }
         requires of_ring { Self.Ring.has (ring_of self.old) x }
         ensures keeps { kept self.old self.new }
-        ensures ok { OnOk result (GrewOf (Means Self.Ring.means ring_of stands) grew (bool_check_term Self.F.ONE) self.old self.new x) }
+        ensures ok { OnOk result (GrewOf (Means Self.Ring.means ring_of stands) grew
+            (bool_check_term Self.F.ONE) self.old self.new x) }
         ensures err { OnErr result (grew self.old self.new []) }
-        ensures refused { IfErr result (RefusesOf (Means Self.Ring.means ring_of stands) refuses (bool_check_term Self.F.ONE) self.old x) }
+        ensures refused { IfErr result (RefusesOf (Means Self.Ring.means ring_of stands) refuses
+            (bool_check_term Self.F.ONE) self.old x) }
     {
         let check = self.ring().bool_check(x)?;
         self.assert_zero(check)
@@ -231,9 +275,14 @@ pub trait AirBuilder {
         requires ready { ready self.old }
         requires of_ring { All (Self.Ring.has (ring_of self.old)) elements.now }
         ensures keeps { kept self.old self.new }
-        ensures ok { OnOk result (GrewByEach (AssertsOf (Means Self.Ring.means ring_of stands) (λ t. t)) grew self.old self.new elements.now) }
-        ensures err { OnErr result (GrewByBeginning (AssertsOf (Means Self.Ring.means ring_of stands) (λ t. t)) grew self.old self.new elements.now) }
-        ensures refused { IfErr result (RefusesByEach (AssertsOf (Means Self.Ring.means ring_of stands) (λ t. t)) refuses self.old elements.now) }
+        ensures ok { OnOk result (GrewByEach (AssertsOf (Means Self.Ring.means ring_of stands)
+            (λ t. t)) grew self.old self.new elements.now) }
+        ensures err { OnErr result (GrewByBeginning
+            (AssertsOf (Means Self.Ring.means ring_of stands) (λ t. t)) grew self.old self.new
+            elements.now) }
+        ensures refused { IfErr result (RefusesByEach
+            (AssertsOf (Means Self.Ring.means ring_of stands) (λ t. t)) refuses self.old
+            elements.now) }
     {
         for element in elements {
             self.assert_zero(*element)?;
@@ -246,9 +295,14 @@ pub trait AirBuilder {
         requires ready { ready self.old }
         requires of_ring { All (Self.Ring.has (ring_of self.old)) elements.now }
         ensures keeps { kept self.old self.new }
-        ensures ok { OnOk result (GrewByEach (AssertsOf (Means Self.Ring.means ring_of stands) (bool_check_term Self.F.ONE)) grew self.old self.new elements.now) }
-        ensures err { OnErr result (GrewByBeginning (AssertsOf (Means Self.Ring.means ring_of stands) (bool_check_term Self.F.ONE)) grew self.old self.new elements.now) }
-        ensures refused { IfErr result (RefusesByEach (AssertsOf (Means Self.Ring.means ring_of stands) (bool_check_term Self.F.ONE)) refuses self.old elements.now) }
+        ensures ok { OnOk result (GrewByEach (AssertsOf (Means Self.Ring.means ring_of stands)
+            (bool_check_term Self.F.ONE)) grew self.old self.new elements.now) }
+        ensures err { OnErr result (GrewByBeginning
+            (AssertsOf (Means Self.Ring.means ring_of stands) (bool_check_term Self.F.ONE)) grew
+            self.old self.new elements.now) }
+        ensures refused { IfErr result (RefusesByEach
+            (AssertsOf (Means Self.Ring.means ring_of stands) (bool_check_term Self.F.ONE)) refuses
+            self.old elements.now) }
     {
         for element in elements {
             self.assert_bool(*element)?;
@@ -256,7 +310,7 @@ pub trait AirBuilder {
         Ok(())
     }
 
-    /// Asserts that the elements at each place are equal, in order.
+    /// Asserts that the elements at each place are equal, in order. Both lists must be of one length.
     final fn assert_eq_slices(
         &mut self,
         left: &[Self::Expr],
@@ -267,9 +321,14 @@ pub trait AirBuilder {
         requires left_in { All (Self.Ring.has (ring_of self.old)) left.now }
         requires right_in { All (Self.Ring.has (ring_of self.old)) right.now }
         ensures keeps { kept self.old self.new }
-        ensures ok { OnOk result (GrewByEach (AssertsOfBoth (Means Self.Ring.means ring_of stands) sub_term) grew self.old self.new (zip left.now right.now)) }
-        ensures err { OnErr result (GrewByBeginning (AssertsOfBoth (Means Self.Ring.means ring_of stands) sub_term) grew self.old self.new (zip left.now right.now)) }
-        ensures refused { IfErr result (RefusesByEach (AssertsOfBoth (Means Self.Ring.means ring_of stands) sub_term) refuses self.old (zip left.now right.now)) }
+        ensures ok { OnOk result (GrewByEach (AssertsOfBoth (Means Self.Ring.means ring_of stands)
+            sub_term) grew self.old self.new (zip left.now right.now)) }
+        ensures err { OnErr result (GrewByBeginning
+            (AssertsOfBoth (Means Self.Ring.means ring_of stands) sub_term) grew self.old self.new
+            (zip left.now right.now)) }
+        ensures refused { IfErr result (RefusesByEach
+            (AssertsOfBoth (Means Self.Ring.means ring_of stands) sub_term) refuses self.old
+            (zip left.now right.now)) }
     {
         for (i, x) in left.iter().enumerate() {
             self.assert_eq(*x, right[i])?;
@@ -277,6 +336,8 @@ pub trait AirBuilder {
         Ok(())
     }
 
+    /// A filter of this condition: each constraint that is asserted on it is asserted here times `condition`.
+    #[inline(always)]
     final fn when(
         &mut self,
         condition: Self::Expr,
@@ -291,6 +352,8 @@ pub trait AirBuilder {
         Ok(FilteredAirBuilder::new(self, condition))
     }
 
+    /// A filter on the first row.
+    #[inline(always)]
     final fn when_first_row(&mut self) -> Result<FilteredAirBuilder<'_, Self>, AirError>
     where
         Self: Sized,
@@ -298,12 +361,15 @@ pub trait AirBuilder {
         ensures always { IsOk result }
         ensures same_reference { IfOk result (λ f. f.inner.ghost_name ≡ self.entry.ghost_name) }
         ensures inner { IfOk result (λ f. grew self.old f.inner.now []) }
-        ensures condition { IfOk result (λ f. Means Self.Ring.means ring_of stands f.inner.now f.condition (leaf_term first_row)) }
+        ensures condition { IfOk result (λ f. Means Self.Ring.means ring_of stands f.inner.now
+            f.condition (leaf_term first_row)) }
     {
         let condition = self.is_first_row()?;
         self.when(condition)
     }
 
+    /// A filter on the last row.
+    #[inline(always)]
     final fn when_last_row(&mut self) -> Result<FilteredAirBuilder<'_, Self>, AirError>
     where
         Self: Sized,
@@ -311,12 +377,15 @@ pub trait AirBuilder {
         ensures always { IsOk result }
         ensures same_reference { IfOk result (λ f. f.inner.ghost_name ≡ self.entry.ghost_name) }
         ensures inner { IfOk result (λ f. grew self.old f.inner.now []) }
-        ensures condition { IfOk result (λ f. Means Self.Ring.means ring_of stands f.inner.now f.condition (leaf_term last_row)) }
+        ensures condition { IfOk result (λ f. Means Self.Ring.means ring_of stands f.inner.now
+            f.condition (leaf_term last_row)) }
     {
         let condition = self.is_last_row()?;
         self.when(condition)
     }
 
+    /// A filter on all rows but the last.
+    #[inline(always)]
     final fn when_transition(&mut self) -> Result<FilteredAirBuilder<'_, Self>, AirError>
     where
         Self: Sized,
@@ -324,14 +393,16 @@ pub trait AirBuilder {
         ensures always { IsOk result }
         ensures same_reference { IfOk result (λ f. f.inner.ghost_name ≡ self.entry.ghost_name) }
         ensures inner { IfOk result (λ f. grew self.old f.inner.now []) }
-        ensures condition { IfOk result (λ f. Means Self.Ring.means ring_of stands f.inner.now f.condition (leaf_term transition)) }
+        ensures condition { IfOk result (λ f. Means Self.Ring.means ring_of stands f.inner.now
+            f.condition (leaf_term transition)) }
     {
         let condition = self.is_transition()?;
         self.when(condition)
     }
 
-    /// A filter where `x` and `y` differ: its condition is x - y. A refusal leaves the builder open: where more is to be
-    /// said of it, make the [`difference`](AirBuilder::difference) first and then the filter.
+    /// A filter where `x` and `y` differ: its condition is x - y. A refusal leaves the builder open: where more is to
+    /// be said of it, make the [`difference`](AirBuilder::difference) first and then the filter.
+    #[inline(always)]
     final fn when_ne(
         &mut self,
         x: Self::Expr,
@@ -345,14 +416,17 @@ pub trait AirBuilder {
         ensures same_reference { IfOk result (λ f. f.inner.ghost_name ≡ self.entry.ghost_name) }
         ensures inner { IfOk result (λ f. grew self.old f.inner.now []) }
         ensures of_ring { IfOk result (λ f. Self.Ring.has (ring_of f.inner.now) f.condition) }
-        ensures condition { IfOk result (λ f. MeansOfBoth (Means Self.Ring.means ring_of stands) sub_term self.old f.inner.now x y f.condition) }
-        ensures refused { IfErr result (RefusesPartOfBoth (Means Self.Ring.means ring_of stands) refuses sub_term self.old x y) }
+        ensures condition { IfOk result (λ f. MeansOfBoth (Means Self.Ring.means ring_of stands)
+            sub_term self.old f.inner.now x y f.condition) }
+        ensures refused { IfErr result (RefusesPartOfBoth (Means Self.Ring.means ring_of stands)
+            refuses sub_term self.old x y) }
     {
         let condition = self.ring().sub(x, y)?;
         self.when(condition)
     }
 
-    /// A filter on the transitions of windows of so many rows.
+    /// A filter on the transitions of windows of `size` rows, which must be at most 2.
+    #[inline(always)]
     final fn when_transition_window(
         &mut self,
         size: usize,
@@ -364,11 +438,13 @@ pub trait AirBuilder {
         ensures always { IsOk result }
         ensures same_reference { IfOk result (λ f. f.inner.ghost_name ≡ self.entry.ghost_name) }
         ensures inner { IfOk result (λ f. grew self.old f.inner.now []) }
-        ensures condition { IfOk result (λ f. Means Self.Ring.means ring_of stands f.inner.now f.condition (leaf_term transition)) }
+        ensures condition { IfOk result (λ f. Means Self.Ring.means ring_of stands f.inner.now
+            f.condition (leaf_term transition)) }
     {
         let condition = self.is_transition_window(size)?;
         self.when(condition)
     }
 
-    ghost laws: { BuilderLaws ring_of with_ring stands ready kept grew Self.Ring.valid Self.Ring.extends Self.Ring.refuses missing refuses };
+    ghost laws: { BuilderLaws ring_of with_ring stands ready kept grew Self.Ring.valid
+        Self.Ring.extends Self.Ring.refuses missing refuses };
 }

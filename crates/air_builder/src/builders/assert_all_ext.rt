@@ -14,19 +14,32 @@ pub trait AssertAllExt<const N: usize>: ExtensionBuilder {
         requires ready { Self.ready self.old }
         requires of_ring { All (Self.ExtRing.has (Self.ext_ring_of self.old)) elements }
         ensures keeps { Self.kept self.old self.new }
-        ensures ok { OnOk result (GrewByEach (AssertsExtOf (Means Self.ExtRing.means Self.ext_ring_of Self.stands) (λ t. t)) Self.grew self.old self.new elements) }
-        ensures err { OnErr result (GrewByBeginning (AssertsExtOf (Means Self.ExtRing.means Self.ext_ring_of Self.stands) (λ t. t)) Self.grew self.old self.new elements) }
-        ensures refused { IfErr result (RefusesByEach (AssertsExtOf (Means Self.ExtRing.means Self.ext_ring_of Self.stands) (λ t. t)) Self.refuses self.old elements) };
+        ensures ok { OnOk result (GrewByEach (AssertsExtOf
+            (Means Self.ExtRing.means Self.ext_ring_of Self.stands) (λ t. t)) Self.grew self.old
+            self.new elements) }
+        ensures err { OnErr result (GrewByBeginning
+            (AssertsExtOf (Means Self.ExtRing.means Self.ext_ring_of Self.stands) (λ t. t))
+            Self.grew self.old self.new elements) }
+        ensures refused { IfErr result (RefusesByEach
+            (AssertsExtOf (Means Self.ExtRing.means Self.ext_ring_of Self.stands) (λ t. t))
+            Self.refuses self.old elements) };
 }
 
 impl<const N: usize, AB: ExtensionBuilder> AssertAllExt<N> for AB {
+    #[inline(always)]
     fn assert_zeros_ext(&mut self, elements: [AB::ExprEF; N]) -> Result<(), AirError>
         requires ready { AB.ready self.old }
         requires of_ring { All (AB.ExtRing.has (AB.ext_ring_of self.old)) elements }
         ensures keeps { AB.kept self.old self.new }
-        ensures ok { OnOk result (GrewByEach (AssertsExtOf (Means AB.ExtRing.means AB.ext_ring_of AB.stands) (λ t. t)) AB.grew self.old self.new elements) }
-        ensures err { OnErr result (GrewByBeginning (AssertsExtOf (Means AB.ExtRing.means AB.ext_ring_of AB.stands) (λ t. t)) AB.grew self.old self.new elements) }
-        ensures refused { IfErr result (RefusesByEach (AssertsExtOf (Means AB.ExtRing.means AB.ext_ring_of AB.stands) (λ t. t)) AB.refuses self.old elements) }
+        ensures ok { OnOk result (GrewByEach (AssertsExtOf
+            (Means AB.ExtRing.means AB.ext_ring_of AB.stands) (λ t. t)) AB.grew self.old self.new
+            elements) }
+        ensures err { OnErr result (GrewByBeginning
+            (AssertsExtOf (Means AB.ExtRing.means AB.ext_ring_of AB.stands) (λ t. t)) AB.grew
+            self.old self.new elements) }
+        ensures refused { IfErr result (RefusesByEach
+            (AssertsExtOf (Means AB.ExtRing.means AB.ext_ring_of AB.stands) (λ t. t)) AB.refuses
+            self.old elements) }
     {
         self.assert_zeros_ext_slice(&elements)
     }

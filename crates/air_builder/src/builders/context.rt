@@ -6,10 +6,12 @@ use crate::builders::filtered::FilteredAirBuilder;
 
 /// A builder that hands AIRs a context.
 pub trait AirBuilderWithContext: AirBuilder {
+    /// What AIRs are handed.
     type EvalContext;
 
     ghost context: { Self → Self.EvalContext };
 
+    /// The context, which stays the same while constraints are asserted.
     fn eval_context(&self) -> &Self::EvalContext
         ensures { result.now ≡ context self.now };
 
@@ -24,6 +26,7 @@ impl<'a, AB: AirBuilderWithContext> AirBuilderWithContext for FilteredAirBuilder
 
     ghost context_kept = { λ f g k. AB.context_kept f.inner.now g.inner.now k.inside };
 
+    #[inline(always)]
     fn eval_context(&self) -> &AB::EvalContext {
         self.inner.eval_context()
     }

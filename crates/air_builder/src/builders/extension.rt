@@ -12,12 +12,16 @@ use air_windows::errors::AirError;
 
 /// Receives base and extension constraints. Both kinds stand in one order of places.
 pub trait ExtensionBuilder: AirBuilder {
+    /// The extension of the trace's field.
     type EF: ExtensionField<Self::F>;
 
+    /// The extension expressions that are asserted: elements of the builder's ring over the extension.
     type ExprEF: Copy;
 
+    /// The entries of the permutation trace.
     type VarEF: Copy;
 
+    /// The ring in which extension expressions are made, over the builder's ring.
     type ExtRing: ExtAlgebra<Self::F, Self::EF, Base = Self::Expr, Elem = Self::ExprEF>
         + FromVar<Self::F, Self::VarEF>;
 
@@ -29,7 +33,8 @@ pub trait ExtensionBuilder: AirBuilder {
 
     /// The ring over the extension. Its base is the builder's ring. What the caller leaves there extends what was lent.
     fn ext_ring(&mut self) -> &mut Self::ExtRing
-        ensures* lends { sem 𝓛 (Lends Self.row Self.ExtRing.row self.entry result (with_ext_ring self.old)) }
+        ensures* lends { sem 𝓛 (Lends Self.row Self.ExtRing.row self.entry result
+            (with_ext_ring self.old)) }
         ensures value { result.now ≡ ext_ring_of self.old };
 
     /// Asserts that `x` is zero: growth by its one extension term.
@@ -37,32 +42,41 @@ pub trait ExtensionBuilder: AirBuilder {
         requires ready { Self.ready self.old }
         requires of_ring { Self.ExtRing.has (ext_ring_of self.old) x }
         ensures keeps { Self.kept self.old self.new }
-        ensures ok { OnOk result (GrewExtOf (Means Self.ExtRing.means ext_ring_of Self.stands) Self.grew (λ t. t) self.old self.new x) }
+        ensures ok { OnOk result (GrewExtOf (Means Self.ExtRing.means ext_ring_of Self.stands)
+            Self.grew (λ t. t) self.old self.new x) }
         ensures err { OnErr result (Self.grew self.old self.new []) }
-        ensures refused { IfErr result (RefusesExtOf (Means Self.ExtRing.means ext_ring_of Self.stands) Self.refuses (λ t. t) self.old x) };
+        ensures refused { IfErr result (RefusesExtOf
+            (Means Self.ExtRing.means ext_ring_of Self.stands) Self.refuses (λ t. t) self.old x) };
 
     /// Asserts that `x` is one: growth by x - 1.
+    #[inline(always)]
     final fn assert_one_ext(&mut self, x: Self::ExprEF) -> Result<(), AirError>
         requires ready { Self.ready self.old }
         requires of_ring { Self.ExtRing.has (ext_ring_of self.old) x }
         ensures keeps { Self.kept self.old self.new }
-        ensures ok { OnOk result (GrewExtOf (Means Self.ExtRing.means ext_ring_of Self.stands) Self.grew (less_one_term Self.F.ONE) self.old self.new x) }
+        ensures ok { OnOk result (GrewExtOf (Means Self.ExtRing.means ext_ring_of Self.stands)
+            Self.grew (less_one_term Self.F.ONE) self.old self.new x) }
         ensures err { OnErr result (Self.grew self.old self.new []) }
-        ensures refused { IfErr result (RefusesExtOf (Means Self.ExtRing.means ext_ring_of Self.stands) Self.refuses (less_one_term Self.F.ONE) self.old x) }
+        ensures refused { IfErr result (RefusesExtOf
+            (Means Self.ExtRing.means ext_ring_of Self.stands) Self.refuses
+            (less_one_term Self.F.ONE) self.old x) }
     {
         let less = less_one(self.ext_ring(), x)?;
         self.assert_zero_ext(less)
     }
 
     /// Asserts that `x` and `y` are equal: growth by x - y.
+    #[inline(always)]
     final fn assert_eq_ext(&mut self, x: Self::ExprEF, y: Self::ExprEF) -> Result<(), AirError>
         requires ready { Self.ready self.old }
         requires x_in { Self.ExtRing.has (ext_ring_of self.old) x }
         requires y_in { Self.ExtRing.has (ext_ring_of self.old) y }
         ensures keeps { Self.kept self.old self.new }
-        ensures ok { OnOk result (GrewExtOfBoth (Means Self.ExtRing.means ext_ring_of Self.stands) Self.grew sub_term self.old self.new x y) }
+        ensures ok { OnOk result (GrewExtOfBoth (Means Self.ExtRing.means ext_ring_of Self.stands)
+            Self.grew sub_term self.old self.new x y) }
         ensures err { OnErr result (Self.grew self.old self.new []) }
-        ensures refused { IfErr result (RefusesExtOfBoth (Means Self.ExtRing.means ext_ring_of Self.stands) Self.refuses sub_term self.old x y) }
+        ensures refused { IfErr result (RefusesExtOfBoth
+            (Means Self.ExtRing.means ext_ring_of Self.stands) Self.refuses sub_term self.old x y) }
     {
         let z = self.ext_ring().sub(x, y)?;
         self.assert_zero_ext(z)
@@ -73,9 +87,15 @@ pub trait ExtensionBuilder: AirBuilder {
         requires ready { Self.ready self.old }
         requires of_ring { All (Self.ExtRing.has (ext_ring_of self.old)) elements.now }
         ensures keeps { Self.kept self.old self.new }
-        ensures ok { OnOk result (GrewByEach (AssertsExtOf (Means Self.ExtRing.means ext_ring_of Self.stands) (λ t. t)) Self.grew self.old self.new elements.now) }
-        ensures err { OnErr result (GrewByBeginning (AssertsExtOf (Means Self.ExtRing.means ext_ring_of Self.stands) (λ t. t)) Self.grew self.old self.new elements.now) }
-        ensures refused { IfErr result (RefusesByEach (AssertsExtOf (Means Self.ExtRing.means ext_ring_of Self.stands) (λ t. t)) Self.refuses self.old elements.now) }
+        ensures ok { OnOk result (GrewByEach (AssertsExtOf
+            (Means Self.ExtRing.means ext_ring_of Self.stands) (λ t. t)) Self.grew self.old self.new
+            elements.now) }
+        ensures err { OnErr result (GrewByBeginning
+            (AssertsExtOf (Means Self.ExtRing.means ext_ring_of Self.stands) (λ t. t)) Self.grew
+            self.old self.new elements.now) }
+        ensures refused { IfErr result (RefusesByEach
+            (AssertsExtOf (Means Self.ExtRing.means ext_ring_of Self.stands) (λ t. t)) Self.refuses
+            self.old elements.now) }
     {
         for element in elements {
             self.assert_zero_ext(*element)?;
@@ -83,5 +103,7 @@ pub trait ExtensionBuilder: AirBuilder {
         Ok(())
     }
 
-    ghost ext_laws: { ExtensionLaws Self.ring_of ext_ring_of with_ext_ring Self.stands Self.ready Self.kept Self.grew Self.Ring.has Self.Ring.means Self.ExtRing.valid Self.ExtRing.extends Self.ExtRing.base_has Self.ExtRing.base_means Self.ExtRing.refuses Self.refuses };
+    ghost ext_laws: { ExtensionLaws Self.ring_of ext_ring_of with_ext_ring Self.stands Self.ready
+        Self.kept Self.grew Self.Ring.has Self.Ring.means Self.ExtRing.valid Self.ExtRing.extends
+        Self.ExtRing.base_has Self.ExtRing.base_means Self.ExtRing.refuses Self.refuses };
 }

@@ -10,6 +10,7 @@ use air_field::{Algebra, ExtAlgebra, ExtensionField, Field, FromVar, RingError};
 use air_windows::errors::AirError;
 
 /// x times the lifted condition
+#[inline(always)]
 pub(crate) fn under_condition<F: Field, EF: ExtensionField<F>, R: ExtAlgebra<F, EF>>(
     ring: &mut R,
     condition: R::Base,
@@ -18,8 +19,10 @@ pub(crate) fn under_condition<F: Field, EF: ExtensionField<F>, R: ExtAlgebra<F, 
     requires condition_in { R.base_has ring.old condition }
     requires x_in { R.has ring.old x }
     ensures extended { R.extends ring.old ring.new }
-    ensures made { IfOk result (MadeUnder R.has R.means R.base_means ring.old ring.new condition x) }
-    ensures refused { IfErr result (RefusedUnder R.means R.base_means R.refuses ring.old condition x) }
+    ensures made { IfOk result (MadeUnder R.has R.means R.base_means ring.old ring.new condition
+        x) }
+    ensures refused { IfErr result (RefusedUnder R.means R.base_means R.refuses ring.old condition
+        x) }
 {
     let lifted = ring.lift(condition)?;
     ring.mul(x, lifted)
@@ -36,14 +39,22 @@ impl<'a, AB: ExtensionBuilder> ExtensionBuilder for FilteredAirBuilder<'a, AB> {
 
     ghost ext_ring_of = { λ f. AB.ext_ring_of f.inner.now };
 
-    ghost with_ext_ring = { λ f r. record f { inner = record f.inner { now = AB.with_ext_ring f.inner.now r } } };
+    ghost with_ext_ring = { λ f r. record f {
+      inner = record f.inner
+          { now = AB.with_ext_ring f.inner.now r };
+    } };
 
-    ghost ext_laws = { extension_filter_laws AB.laws AB.ext_laws (λ p. p.inner.now) (λ p. p.inner.ghost_name) (λ p. p.condition) (λ p s. record p { inner = record p.inner { now = s } }) (λ p s. refl) (λ p s. refl) (λ p s. refl) };
+    ghost ext_laws = { extension_filter_laws AB.laws AB.ext_laws (λ p. p.inner.now)
+        (λ p. p.inner.ghost_name) (λ p. p.condition)
+        (λ p s. record p { inner = record p.inner { now = s } }) (λ p s. refl) (λ p s. refl)
+        (λ p s. refl) };
 
+    #[inline(always)]
     fn ext_ring(&mut self) -> &mut AB::ExtRing {
         self.inner.ext_ring()
     }
 
+    #[inline(always)]
     fn assert_zero_ext(&mut self, x: AB::ExprEF) -> Result<(), AirError> {
         let y = under_condition(self.inner.ext_ring(), self.condition, x)?;
         self.inner.assert_zero_ext(y)
@@ -60,14 +71,17 @@ where
 
     type PermutationVar = AB::PermutationVar;
 
+    #[inline(always)]
     fn permutation(&self) -> Result<AB::MP, AirError> {
         self.inner.permutation()
     }
 
+    #[inline(always)]
     fn permutation_randomness(&self) -> &[AB::RandomVar] {
         self.inner.permutation_randomness()
     }
 
+    #[inline(always)]
     fn permutation_values(&self) -> &[AB::PermutationVar] {
         self.inner.permutation_values()
     }

@@ -14,6 +14,7 @@ pub struct FilteredAirBuilder<'a, AB: AirBuilder> {
 }
 
 impl<'a, AB: AirBuilder> FilteredAirBuilder<'a, AB> {
+    #[inline(always)]
     pub(crate) fn new(inner: &'a mut AB, condition: AB::Expr) -> FilteredAirBuilder<'a, AB>
         ensures same_reference { result.inner.ghost_name ≡ inner.entry.ghost_name }
         ensures inner { result.inner.now ≡ inner.old }
@@ -23,6 +24,7 @@ impl<'a, AB: AirBuilder> FilteredAirBuilder<'a, AB> {
     }
 
     /// What each assertion is multiplied by.
+    #[inline(always)]
     pub fn condition(&self) -> AB::Expr
         ensures { result ≡ self.now.condition }
     {
@@ -31,6 +33,7 @@ impl<'a, AB: AirBuilder> FilteredAirBuilder<'a, AB> {
 }
 
 impl<'a, AB: AirBuilder> Drop for FilteredAirBuilder<'a, AB> {
+    #[inline(always)]
     fn drop(self)
         ensures { self.exit.0.now ≡ self.entry.inner.now }
     {
@@ -60,62 +63,82 @@ impl<'a, AB: AirBuilder> AirBuilder for FilteredAirBuilder<'a, AB> {
 
     ghost ring_of = { λ f. AB.ring_of f.inner.now };
 
-    ghost with_ring = { λ f r. record f { inner = record f.inner { now = AB.with_ring f.inner.now r } } };
+    ghost with_ring = { λ f r. record f {
+      inner = record f.inner
+          { now = AB.with_ring f.inner.now r };
+    } };
 
     ghost stands = { λ f. AB.stands f.inner.now };
 
     ghost ready = { λ f. AB.ready f.inner.now × AB.Ring.has (AB.ring_of f.inner.now) f.condition };
 
-    ghost kept = { λ f g. KeptInside AB.kept f.inner.ghost_name g.inner.ghost_name f.condition g.condition f.inner.now g.inner.now };
+    ghost kept = { λ f g. KeptInside AB.kept f.inner.ghost_name g.inner.ghost_name f.condition
+        g.condition f.inner.now g.inner.now };
 
-    ghost grew = { λ f g ts. GrewInside AB.kept AB.grew (Means AB.Ring.means AB.ring_of AB.stands) f.inner.ghost_name g.inner.ghost_name f.condition g.condition f.inner.now g.inner.now ts };
+    ghost grew = { λ f g ts. GrewInside AB.kept AB.grew (Means AB.Ring.means AB.ring_of AB.stands)
+        f.inner.ghost_name g.inner.ghost_name f.condition g.condition f.inner.now g.inner.now ts };
 
     ghost missing = { λ f l. AB.missing f.inner.now l };
 
-    ghost refuses = { λ f e ts. RefusesInside AB.refuses (Means AB.Ring.means AB.ring_of AB.stands) f.condition f.inner.now e ts };
+    ghost refuses = { λ f e ts. RefusesInside AB.refuses (Means AB.Ring.means AB.ring_of AB.stands)
+        f.condition f.inner.now e ts };
 
-    ghost laws = { filter_laws AB.Ring.Algebra.laws AB.laws (λ p. p.inner.now) (λ p. p.inner.ghost_name) (λ p. p.condition) (λ p s. record p { inner = record p.inner { now = s } }) (λ p s. refl) (λ p s. refl) (λ p s. refl) };
+    ghost laws = { filter_laws AB.Ring.Algebra.laws AB.laws (λ p. p.inner.now)
+        (λ p. p.inner.ghost_name) (λ p. p.condition)
+        (λ p s. record p { inner = record p.inner { now = s } }) (λ p s. refl) (λ p s. refl)
+        (λ p s. refl) };
 
+    #[inline(always)]
     fn ring(&mut self) -> &mut AB::Ring {
         self.inner.ring()
     }
 
+    #[inline(always)]
     fn main(&self) -> Result<AB::MainWindow, AirError> {
         self.inner.main()
     }
 
+    #[inline(always)]
     fn main_variable(&self, offset: usize, column: usize) -> Option<AB::Var> {
         self.inner.main_variable(offset, column)
     }
 
+    #[inline(always)]
     fn preprocessed(&self) -> &AB::PreprocessedWindow {
         self.inner.preprocessed()
     }
 
+    #[inline(always)]
     fn preprocessed_variable(&self, offset: usize, column: usize) -> Option<AB::Var> {
         self.inner.preprocessed_variable(offset, column)
     }
 
+    #[inline(always)]
     fn public_values(&self) -> &[AB::PublicVar] {
         self.inner.public_values()
     }
 
+    #[inline(always)]
     fn periodic_values(&self) -> &[AB::PeriodicVar] {
         self.inner.periodic_values()
     }
 
+    #[inline(always)]
     fn is_first_row(&mut self) -> Result<AB::Expr, AirError> {
         self.inner.is_first_row()
     }
 
+    #[inline(always)]
     fn is_last_row(&mut self) -> Result<AB::Expr, AirError> {
         self.inner.is_last_row()
     }
 
+    #[inline(always)]
     fn is_transition(&mut self) -> Result<AB::Expr, AirError> {
         self.inner.is_transition()
     }
 
+    #[inline(always)]
     fn assert_zero(&mut self, x: AB::Expr) -> Result<(), AirError> {
         let y = self.inner.ring().mul(self.condition, x)?;
         self.inner.assert_zero(y)

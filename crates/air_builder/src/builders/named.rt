@@ -17,8 +17,8 @@ use air_windows::names::namespace::Namespace;
 
 /// Receives constraints with names.
 ///
-/// A named assertion is the growth of the one without a name, and a refused one leaves the builder as that does. An
-/// assertion that fails keeps a text that its name displays.
+/// A named assertion is the growth of the one without a name, and a refused one leaves the builder as that does. A text
+/// that a builder keeps for an assertion is one that its name displays. The name must be one that may be evaluated.
 pub trait NamedAirBuilder: AirBuilder {
     /// The builder grew by a list of assertions under labels.
     ghost labelled: { Self → Self → List (Labelled Self.F) → Type 0 };
@@ -29,27 +29,35 @@ pub trait NamedAirBuilder: AirBuilder {
         requires of_ring { Self.Ring.has (Self.ring_of self.old) x }
         requires can_evaluate { N.can_evaluate name }
         ensures keeps { Self.kept self.old self.new }
-        ensures ok { OnOk result (GrewOf (Means Self.Ring.means Self.ring_of Self.stands) Self.grew (λ t. t) self.old self.new x) }
-        ensures label { OnOk result (LabelledOf (Means Self.Ring.means Self.ring_of Self.stands) labelled (N.displays name) (λ t. t) self.old self.new x) }
+        ensures ok { OnOk result (GrewOf (Means Self.Ring.means Self.ring_of Self.stands) Self.grew
+            (λ t. t) self.old self.new x) }
+        ensures label { OnOk result (LabelledOf (Means Self.Ring.means Self.ring_of Self.stands)
+            labelled (N.displays name) (λ t. t) self.old self.new x) }
         ensures err { OnErr result (Self.grew self.old self.new []) }
-        ensures refused { IfErr result (RefusesOf (Means Self.Ring.means Self.ring_of Self.stands) Self.refuses (λ t. t) self.old x) };
+        ensures refused { IfErr result (RefusesOf (Means Self.Ring.means Self.ring_of Self.stands)
+            Self.refuses (λ t. t) self.old x) };
 
     /// Asserts that `x` is one.
+    #[inline(always)]
     final fn assert_one_named<N: Name>(&mut self, x: Self::Expr, name: N) -> Result<(), AirError>
         requires ready { Self.ready self.old }
         requires of_ring { Self.Ring.has (Self.ring_of self.old) x }
         requires can_evaluate { N.can_evaluate name }
         ensures keeps { Self.kept self.old self.new }
-        ensures ok { OnOk result (GrewOf (Means Self.Ring.means Self.ring_of Self.stands) Self.grew (less_one_term Self.F.ONE) self.old self.new x) }
-        ensures label { OnOk result (LabelledOf (Means Self.Ring.means Self.ring_of Self.stands) labelled (N.displays name) (less_one_term Self.F.ONE) self.old self.new x) }
+        ensures ok { OnOk result (GrewOf (Means Self.Ring.means Self.ring_of Self.stands) Self.grew
+            (less_one_term Self.F.ONE) self.old self.new x) }
+        ensures label { OnOk result (LabelledOf (Means Self.Ring.means Self.ring_of Self.stands)
+            labelled (N.displays name) (less_one_term Self.F.ONE) self.old self.new x) }
         ensures err { OnErr result (Self.grew self.old self.new []) }
-        ensures refused { IfErr result (RefusesOf (Means Self.Ring.means Self.ring_of Self.stands) Self.refuses (less_one_term Self.F.ONE) self.old x) }
+        ensures refused { IfErr result (RefusesOf (Means Self.Ring.means Self.ring_of Self.stands)
+            Self.refuses (less_one_term Self.F.ONE) self.old x) }
     {
         let less = less_one(self.ring(), x)?;
         self.assert_zero_named(less, name)
     }
 
     /// Asserts that `x` and `y` are equal.
+    #[inline(always)]
     final fn assert_eq_named<N: Name>(
         &mut self,
         x: Self::Expr,
@@ -61,25 +69,32 @@ pub trait NamedAirBuilder: AirBuilder {
         requires y_in { Self.Ring.has (Self.ring_of self.old) y }
         requires can_evaluate { N.can_evaluate name }
         ensures keeps { Self.kept self.old self.new }
-        ensures ok { OnOk result (GrewOfBoth (Means Self.Ring.means Self.ring_of Self.stands) Self.grew sub_term self.old self.new x y) }
-        ensures label { OnOk result (LabelledOfBoth (Means Self.Ring.means Self.ring_of Self.stands) labelled (N.displays name) sub_term self.old self.new x y) }
+        ensures ok { OnOk result (GrewOfBoth (Means Self.Ring.means Self.ring_of Self.stands)
+            Self.grew sub_term self.old self.new x y) }
+        ensures label { OnOk result (LabelledOfBoth (Means Self.Ring.means Self.ring_of Self.stands)
+            labelled (N.displays name) sub_term self.old self.new x y) }
         ensures err { OnErr result (Self.grew self.old self.new []) }
-        ensures refused { IfErr result (RefusesOfBoth (Means Self.Ring.means Self.ring_of Self.stands) Self.refuses sub_term self.old x y) }
+        ensures refused { IfErr result (RefusesOfBoth
+            (Means Self.Ring.means Self.ring_of Self.stands) Self.refuses sub_term self.old x y) }
     {
         let z = self.ring().sub(x, y)?;
         self.assert_zero_named(z, name)
     }
 
     /// Asserts that `x` is zero or one.
+    #[inline(always)]
     final fn assert_bool_named<N: Name>(&mut self, x: Self::Expr, name: N) -> Result<(), AirError>
         requires ready { Self.ready self.old }
         requires of_ring { Self.Ring.has (Self.ring_of self.old) x }
         requires can_evaluate { N.can_evaluate name }
         ensures keeps { Self.kept self.old self.new }
-        ensures ok { OnOk result (GrewOf (Means Self.Ring.means Self.ring_of Self.stands) Self.grew (bool_check_term Self.F.ONE) self.old self.new x) }
-        ensures label { OnOk result (LabelledOf (Means Self.Ring.means Self.ring_of Self.stands) labelled (N.displays name) (bool_check_term Self.F.ONE) self.old self.new x) }
+        ensures ok { OnOk result (GrewOf (Means Self.Ring.means Self.ring_of Self.stands) Self.grew
+            (bool_check_term Self.F.ONE) self.old self.new x) }
+        ensures label { OnOk result (LabelledOf (Means Self.Ring.means Self.ring_of Self.stands)
+            labelled (N.displays name) (bool_check_term Self.F.ONE) self.old self.new x) }
         ensures err { OnErr result (Self.grew self.old self.new []) }
-        ensures refused { IfErr result (RefusesOf (Means Self.Ring.means Self.ring_of Self.stands) Self.refuses (bool_check_term Self.F.ONE) self.old x) }
+        ensures refused { IfErr result (RefusesOf (Means Self.Ring.means Self.ring_of Self.stands)
+            Self.refuses (bool_check_term Self.F.ONE) self.old x) }
     {
         let check = self.ring().bool_check(x)?;
         self.assert_zero_named(check, name)
@@ -95,11 +110,21 @@ pub trait NamedAirBuilder: AirBuilder {
         requires of_ring { All (Self.Ring.has (Self.ring_of self.old)) elements.now }
         requires can_evaluate { N.can_evaluate name }
         ensures keeps { Self.kept self.old self.new }
-        ensures ok { OnOk result (GrewByEach (AssertsOf (Means Self.Ring.means Self.ring_of Self.stands) (λ t. t)) Self.grew self.old self.new elements.now) }
-        ensures label { OnOk result (LabelledByEach (AssertsOf (Means Self.Ring.means Self.ring_of Self.stands) (λ t. t)) labelled (ElementSays (N.displays name)) self.old self.new elements.now) }
-        ensures err { OnErr result (GrewByBeginning (AssertsOf (Means Self.Ring.means Self.ring_of Self.stands) (λ t. t)) Self.grew self.old self.new elements.now) }
-        ensures err_label { OnErr result (LabelledByBeginning (AssertsOf (Means Self.Ring.means Self.ring_of Self.stands) (λ t. t)) labelled (ElementSays (N.displays name)) self.old self.new elements.now) }
-        ensures refused { IfErr result (RefusesByEach (AssertsOf (Means Self.Ring.means Self.ring_of Self.stands) (λ t. t)) Self.refuses self.old elements.now) }
+        ensures ok { OnOk result (GrewByEach (AssertsOf
+            (Means Self.Ring.means Self.ring_of Self.stands) (λ t. t)) Self.grew self.old self.new
+            elements.now) }
+        ensures label { OnOk result (LabelledByEach
+            (AssertsOf (Means Self.Ring.means Self.ring_of Self.stands) (λ t. t)) labelled
+            (ElementSays (N.displays name)) self.old self.new elements.now) }
+        ensures err { OnErr result (GrewByBeginning
+            (AssertsOf (Means Self.Ring.means Self.ring_of Self.stands) (λ t. t)) Self.grew self.old
+            self.new elements.now) }
+        ensures err_label { OnErr result (LabelledByBeginning
+            (AssertsOf (Means Self.Ring.means Self.ring_of Self.stands) (λ t. t)) labelled
+            (ElementSays (N.displays name)) self.old self.new elements.now) }
+        ensures refused { IfErr result (RefusesByEach
+            (AssertsOf (Means Self.Ring.means Self.ring_of Self.stands) (λ t. t)) Self.refuses
+            self.old elements.now) }
     {
         for (i, element) in elements.iter().enumerate() {
             self.assert_zero_named(*element, Joined::new(name, Element(i)))?;
@@ -117,11 +142,23 @@ pub trait NamedAirBuilder: AirBuilder {
         requires of_ring { All (Self.Ring.has (Self.ring_of self.old)) elements.now }
         requires can_evaluate { N.can_evaluate name }
         ensures keeps { Self.kept self.old self.new }
-        ensures ok { OnOk result (GrewByEach (AssertsOf (Means Self.Ring.means Self.ring_of Self.stands) (bool_check_term Self.F.ONE)) Self.grew self.old self.new elements.now) }
-        ensures label { OnOk result (LabelledByEach (AssertsOf (Means Self.Ring.means Self.ring_of Self.stands) (bool_check_term Self.F.ONE)) labelled (ElementSays (N.displays name)) self.old self.new elements.now) }
-        ensures err { OnErr result (GrewByBeginning (AssertsOf (Means Self.Ring.means Self.ring_of Self.stands) (bool_check_term Self.F.ONE)) Self.grew self.old self.new elements.now) }
-        ensures err_label { OnErr result (LabelledByBeginning (AssertsOf (Means Self.Ring.means Self.ring_of Self.stands) (bool_check_term Self.F.ONE)) labelled (ElementSays (N.displays name)) self.old self.new elements.now) }
-        ensures refused { IfErr result (RefusesByEach (AssertsOf (Means Self.Ring.means Self.ring_of Self.stands) (bool_check_term Self.F.ONE)) Self.refuses self.old elements.now) }
+        ensures ok { OnOk result (GrewByEach (AssertsOf
+            (Means Self.Ring.means Self.ring_of Self.stands) (bool_check_term Self.F.ONE)) Self.grew
+            self.old self.new elements.now) }
+        ensures label { OnOk result (LabelledByEach
+            (AssertsOf (Means Self.Ring.means Self.ring_of Self.stands)
+            (bool_check_term Self.F.ONE)) labelled (ElementSays (N.displays name)) self.old self.new
+            elements.now) }
+        ensures err { OnErr result (GrewByBeginning
+            (AssertsOf (Means Self.Ring.means Self.ring_of Self.stands)
+            (bool_check_term Self.F.ONE)) Self.grew self.old self.new elements.now) }
+        ensures err_label { OnErr result (LabelledByBeginning
+            (AssertsOf (Means Self.Ring.means Self.ring_of Self.stands)
+            (bool_check_term Self.F.ONE)) labelled (ElementSays (N.displays name)) self.old self.new
+            elements.now) }
+        ensures refused { IfErr result (RefusesByEach
+            (AssertsOf (Means Self.Ring.means Self.ring_of Self.stands)
+            (bool_check_term Self.F.ONE)) Self.refuses self.old elements.now) }
     {
         for (i, element) in elements.iter().enumerate() {
             self.assert_bool_named(*element, Joined::new(name, Element(i)))?;

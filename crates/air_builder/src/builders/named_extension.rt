@@ -22,12 +22,18 @@ pub trait NamedExtensionBuilder: ExtensionBuilder + NamedAirBuilder {
         requires of_ring { Self.ExtRing.has (Self.ext_ring_of self.old) x }
         requires can_evaluate { N.can_evaluate name }
         ensures keeps { Self.kept self.old self.new }
-        ensures ok { OnOk result (GrewExtOf (Means Self.ExtRing.means Self.ext_ring_of Self.stands) Self.grew (λ t. t) self.old self.new x) }
-        ensures label { OnOk result (LabelledExtOf (Means Self.ExtRing.means Self.ext_ring_of Self.stands) Self.labelled (N.displays name) (λ t. t) self.old self.new x) }
+        ensures ok { OnOk result (GrewExtOf (Means Self.ExtRing.means Self.ext_ring_of Self.stands)
+            Self.grew (λ t. t) self.old self.new x) }
+        ensures label { OnOk result (LabelledExtOf
+            (Means Self.ExtRing.means Self.ext_ring_of Self.stands) Self.labelled (N.displays name)
+            (λ t. t) self.old self.new x) }
         ensures err { OnErr result (Self.grew self.old self.new []) }
-        ensures refused { IfErr result (RefusesExtOf (Means Self.ExtRing.means Self.ext_ring_of Self.stands) Self.refuses (λ t. t) self.old x) };
+        ensures refused { IfErr result (RefusesExtOf
+            (Means Self.ExtRing.means Self.ext_ring_of Self.stands) Self.refuses (λ t. t) self.old
+            x) };
 
     /// Asserts that `x` is one.
+    #[inline(always)]
     final fn assert_one_ext_named<N: Name>(
         &mut self,
         x: Self::ExprEF,
@@ -37,16 +43,22 @@ pub trait NamedExtensionBuilder: ExtensionBuilder + NamedAirBuilder {
         requires of_ring { Self.ExtRing.has (Self.ext_ring_of self.old) x }
         requires can_evaluate { N.can_evaluate name }
         ensures keeps { Self.kept self.old self.new }
-        ensures ok { OnOk result (GrewExtOf (Means Self.ExtRing.means Self.ext_ring_of Self.stands) Self.grew (less_one_term Self.F.ONE) self.old self.new x) }
-        ensures label { OnOk result (LabelledExtOf (Means Self.ExtRing.means Self.ext_ring_of Self.stands) Self.labelled (N.displays name) (less_one_term Self.F.ONE) self.old self.new x) }
+        ensures ok { OnOk result (GrewExtOf (Means Self.ExtRing.means Self.ext_ring_of Self.stands)
+            Self.grew (less_one_term Self.F.ONE) self.old self.new x) }
+        ensures label { OnOk result (LabelledExtOf
+            (Means Self.ExtRing.means Self.ext_ring_of Self.stands) Self.labelled (N.displays name)
+            (less_one_term Self.F.ONE) self.old self.new x) }
         ensures err { OnErr result (Self.grew self.old self.new []) }
-        ensures refused { IfErr result (RefusesExtOf (Means Self.ExtRing.means Self.ext_ring_of Self.stands) Self.refuses (less_one_term Self.F.ONE) self.old x) }
+        ensures refused { IfErr result (RefusesExtOf
+            (Means Self.ExtRing.means Self.ext_ring_of Self.stands) Self.refuses
+            (less_one_term Self.F.ONE) self.old x) }
     {
         let less = less_one(self.ext_ring(), x)?;
         self.assert_zero_ext_named(less, name)
     }
 
     /// Asserts that `x` and `y` are equal.
+    #[inline(always)]
     final fn assert_eq_ext_named<N: Name>(
         &mut self,
         x: Self::ExprEF,
@@ -58,10 +70,15 @@ pub trait NamedExtensionBuilder: ExtensionBuilder + NamedAirBuilder {
         requires y_in { Self.ExtRing.has (Self.ext_ring_of self.old) y }
         requires can_evaluate { N.can_evaluate name }
         ensures keeps { Self.kept self.old self.new }
-        ensures ok { OnOk result (GrewExtOfBoth (Means Self.ExtRing.means Self.ext_ring_of Self.stands) Self.grew sub_term self.old self.new x y) }
-        ensures label { OnOk result (LabelledExtOfBoth (Means Self.ExtRing.means Self.ext_ring_of Self.stands) Self.labelled (N.displays name) sub_term self.old self.new x y) }
+        ensures ok { OnOk result (GrewExtOfBoth (Means Self.ExtRing.means Self.ext_ring_of
+            Self.stands) Self.grew sub_term self.old self.new x y) }
+        ensures label { OnOk result (LabelledExtOfBoth
+            (Means Self.ExtRing.means Self.ext_ring_of Self.stands) Self.labelled (N.displays name)
+            sub_term self.old self.new x y) }
         ensures err { OnErr result (Self.grew self.old self.new []) }
-        ensures refused { IfErr result (RefusesExtOfBoth (Means Self.ExtRing.means Self.ext_ring_of Self.stands) Self.refuses sub_term self.old x y) }
+        ensures refused { IfErr result (RefusesExtOfBoth
+            (Means Self.ExtRing.means Self.ext_ring_of Self.stands) Self.refuses sub_term self.old x
+            y) }
     {
         let z = self.ext_ring().sub(x, y)?;
         self.assert_zero_ext_named(z, name)
@@ -69,6 +86,7 @@ pub trait NamedExtensionBuilder: ExtensionBuilder + NamedAirBuilder {
 }
 
 impl<'a, AB: NamedExtensionBuilder> NamedExtensionBuilder for FilteredAirBuilder<'a, AB> {
+    #[inline(always)]
     fn assert_zero_ext_named<N: Name>(&mut self, x: AB::ExprEF, name: N) -> Result<(), AirError> {
         let y = under_condition(self.inner.ext_ring(), self.condition, x)?;
         self.inner.assert_zero_ext_named(y, name)

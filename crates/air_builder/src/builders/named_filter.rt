@@ -10,10 +10,14 @@ use air_windows::errors::AirError;
 use air_windows::names::name::Name;
 
 impl<'a, AB: NamedAirBuilder> NamedAirBuilder for FilteredAirBuilder<'a, AB> {
-    ghost labelled = { λ f g ls. LabelledInside AB.kept AB.labelled (Means AB.Ring.means AB.ring_of AB.stands) f.inner.ghost_name g.inner.ghost_name f.condition g.condition f.inner.now g.inner.now ls };
+    ghost labelled = { λ f g ls. LabelledInside AB.kept AB.labelled
+        (Means AB.Ring.means AB.ring_of AB.stands) f.inner.ghost_name g.inner.ghost_name f.condition
+        g.condition f.inner.now g.inner.now ls };
 
-    ghost named_laws = { named_filter_laws AB.Ring.Algebra.laws AB.laws AB.named_laws (λ p. p.inner.now) (λ p. p.inner.ghost_name) (λ p. p.condition) };
+    ghost named_laws = { named_filter_laws AB.Ring.Algebra.laws AB.laws AB.named_laws
+        (λ p. p.inner.now) (λ p. p.inner.ghost_name) (λ p. p.condition) };
 
+    #[inline(always)]
     fn assert_zero_named<N: Name>(&mut self, x: AB::Expr, name: N) -> Result<(), AirError> {
         let y = self.inner.ring().mul(self.condition, x)?;
         self.inner.assert_zero_named(y, name)

@@ -13,6 +13,7 @@ use air_windows::names::name::Name;
 /// asserts by `assert_zero_unlabelled`.
 pub trait PassthroughNamedAirBuilder: AirBuilder {
     /// Asserts that `x` is zero, and discards the name.
+    #[inline(always)]
     final fn assert_zero_unlabelled<N: Name>(
         &mut self,
         x: Self::Expr,
@@ -21,10 +22,13 @@ pub trait PassthroughNamedAirBuilder: AirBuilder {
         requires ready { Self.ready self.old }
         requires of_ring { Self.Ring.has (Self.ring_of self.old) x }
         ensures keeps { Self.kept self.old self.new }
-        ensures ok { OnOk result (GrewOf (Means Self.Ring.means Self.ring_of Self.stands) Self.grew (λ t. t) self.old self.new x) }
-        ensures label { OnOk result (LabelledOf (Means Self.Ring.means Self.ring_of Self.stands) (discarding Self.grew) (N.displays _name) (λ t. t) self.old self.new x) }
+        ensures ok { OnOk result (GrewOf (Means Self.Ring.means Self.ring_of Self.stands) Self.grew
+            (λ t. t) self.old self.new x) }
+        ensures label { OnOk result (LabelledOf (Means Self.Ring.means Self.ring_of Self.stands)
+            (discarding Self.grew) (N.displays _name) (λ t. t) self.old self.new x) }
         ensures err { OnErr result (Self.grew self.old self.new []) }
-        ensures refused { IfErr result (RefusesOf (Means Self.Ring.means Self.ring_of Self.stands) Self.refuses (λ t. t) self.old x) }
+        ensures refused { IfErr result (RefusesOf (Means Self.Ring.means Self.ring_of Self.stands)
+            Self.refuses (λ t. t) self.old x) }
     {
         self.assert_zero(x)
     }

@@ -16,28 +16,39 @@ pub trait PermutationAirBuilder: ExtensionBuilder
 where
     Self::ExtRing: FromVar<Self::F, Self::RandomVar> + FromVar<Self::F, Self::PermutationVar>,
 {
+    /// The window of the permutation trace.
     type MP: WindowAccess<Self::VarEF> + Drop;
 
+    /// The challenges.
     type RandomVar: Copy;
 
+    /// The values that the permutation argument exposes.
     type PermutationVar: Copy;
 
-    /// The window of the permutation trace; refused where the builder has none.
+    /// The window of the permutation trace. It may be refused with `NoPermutation`, only where the builder has no
+    /// permutation column, and as `main` may be.
     fn permutation(&self) -> Result<Self::MP, AirError>
         ensures window { IfOk result Self.MP.is_window }
-        ensures current { IfOk result (λ w. RowStands Self.ExtRing.FromVar-1.var_means (λ i. Self.stands self.now (permutation 0 i)) (Self.MP.current_row w)) }
-        ensures next { IfOk result (λ w. RowStands Self.ExtRing.FromVar-1.var_means (λ i. Self.stands self.now (permutation 1 i)) (Self.MP.next_row w)) }
-        ensures current_ends { IfOk result (λ w. RowEnds (Self.missing self.now) (λ i. permutation 0 i) (Self.MP.current_row w)) }
-        ensures next_ends { IfOk result (λ w. RowEnds (Self.missing self.now) (λ i. permutation 1 i) (Self.MP.next_row w)) }
-        ensures refused { IfErr result (RefusesWindow (Self.refuses self.now) (Self.missing self.now)) };
+        ensures current { IfOk result (λ w. RowStands Self.ExtRing.FromVar-1.var_means
+            (λ i. Self.stands self.now (permutation 0 i)) (Self.MP.current_row w)) }
+        ensures next { IfOk result (λ w. RowStands Self.ExtRing.FromVar-1.var_means
+            (λ i. Self.stands self.now (permutation 1 i)) (Self.MP.next_row w)) }
+        ensures current_ends { IfOk result (λ w. RowEnds (Self.missing self.now)
+            (λ i. permutation 0 i) (Self.MP.current_row w)) }
+        ensures next_ends { IfOk result (λ w. RowEnds (Self.missing self.now) (λ i. permutation 1 i)
+            (Self.MP.next_row w)) }
+        ensures refused { IfErr result (RefusesWindow (Self.refuses self.now)
+            (Self.missing self.now)) };
 
     /// The challenges.
     fn permutation_randomness(&self) -> &[Self::RandomVar]
-        ensures stands { RowStands Self.ExtRing.FromVar-2.var_means (λ i. Self.stands self.now (challenge i)) result.now }
+        ensures stands { RowStands Self.ExtRing.FromVar-2.var_means
+            (λ i. Self.stands self.now (challenge i)) result.now }
         ensures ends { RowEnds (Self.missing self.now) challenge result.now };
 
     /// The values that the permutation argument exposes.
     fn permutation_values(&self) -> &[Self::PermutationVar]
-        ensures stands { RowStands Self.ExtRing.FromVar-3.var_means (λ i. Self.stands self.now (permutation_value i)) result.now }
+        ensures stands { RowStands Self.ExtRing.FromVar-3.var_means
+            (λ i. Self.stands self.now (permutation_value i)) result.now }
         ensures ends { RowEnds (Self.missing self.now) permutation_value result.now };
 }

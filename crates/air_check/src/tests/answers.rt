@@ -6,7 +6,7 @@ use air_program::{ReadSource, WriteSink, run};
 use std::process::Abort;
 use std::test::*;
 
-/// Runs without labels on an input in pieces of three lengths.
+/// Runs without labels on an input in pieces of five lengths.
 fn answers(
     rt: &(impl Abort + AllocGlobal),
     input: &[u8],
@@ -25,7 +25,7 @@ pub fn answers_word(
     status: u8,
 ) -> Result<(), Fail> {
     let alloc = rt.alloc();
-    for most in [1, 3, 4096] {
+    for most in [1, 2, 3, 7, 4096] {
         let mut reader = Pieces::new(input, most, MANY);
         let mut writer = Kept::new(alloc, most, MANY);
         let answered = run_on(alloc, &words(alloc, word)?, &mut reader, &mut writer);

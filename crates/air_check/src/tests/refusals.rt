@@ -6,6 +6,15 @@ use std::test::*;
 
 const INPUT: &[u8] = b"0 1 3\n0 1\n1 1\n1 2\n2 3\n";
 
+const OBJECT: &[u8] = b"{\"main_width\":1,\"main\":[0],\"public_values\":[],\"constraints\":[]}";
+
+/// Words, and an input for each that has no failures.
+const RUNS: [(&str, &[u8]); 3] = [
+    ("fibonacci", INPUT),
+    ("named 1 w=2", INPUT),
+    ("flat", OBJECT),
+];
+
 #[test]
 fn refuses_other_words(rt: HostRuntime) -> Result<(), Fail> {
     let alloc = rt.alloc();
@@ -60,39 +69,50 @@ fn refuses_other_words(rt: HostRuntime) -> Result<(), Fail> {
 #[test]
 fn tells_failed_reads(rt: HostRuntime) -> Result<(), Fail> {
     let alloc = rt.alloc();
-    let words = words(alloc, "fibonacci")?;
-    for calls in 0..9 {
+    for (text, input) in RUNS {
+        let words = words(alloc, text)?;
+        let reads = input.len().div_ceil(3) as u64;
+        for calls in 0..=reads {
+            let mut writer = Kept::new(alloc, 3, MANY);
+            let mut reader = Pieces::new(input, 3, calls);
+            let status = run_on(alloc, &words, &mut reader, &mut writer);
+            assert_eq!(rt;
+                writer.bytes(),
+                b"refused: Read\n".as_slice(),
+                "{text} after {calls} reads"
+            );
+            assert_eq!(rt; status, Some(2));
+        }
         let mut writer = Kept::new(alloc, 3, MANY);
-        let mut reader = Pieces::new(INPUT, 3, calls);
+        let mut reader = Pieces::new(input, 3, reads.saturating_add(1));
         let status = run_on(alloc, &words, &mut reader, &mut writer);
-        assert_eq!(rt;
-            writer.bytes(),
-            b"refused: Read\n".as_slice(),
-            "after {calls} reads"
-        );
-        assert_eq!(rt; status, Some(2));
+        assert_eq!(rt; status, Some(0), "{text}");
     }
-    let mut writer = Kept::new(alloc, 3, MANY);
-    let status = run_on(alloc, &words, &mut Pieces::new(INPUT, 3, 9), &mut writer);
-    assert_eq!(rt; status, Some(0));
     Ok(())
 }
 
-/// Each write of an answer and of a refusal fails in turn.
+/// Each write of an answer and of a refusal fails in turn, until a run has as many as it needs.
 #[test]
 fn tells_failed_writes(rt: HostRuntime) -> Result<(), Fail> {
     let alloc = rt.alloc();
-    for (text, writes) in [("fibonacci", 10), ("other", 6)] {
+    for (text, input, writes) in [
+        ("fibonacci", INPUT, 10),
+        ("named 1 w=2", INPUT, 10),
+        ("flat", OBJECT, 10),
+        ("flat", INPUT, 6),
+        ("other", INPUT, 6),
+    ] {
         let words = words(alloc, text)?;
         for calls in 0..writes {
             let mut writer = Kept::new(alloc, 3, calls);
-            let mut reader = Pieces::new(INPUT, 3, MANY);
+            let mut reader = Pieces::new(input, 3, MANY);
             let status = run_on(alloc, &words, &mut reader, &mut writer);
-            assert_eq!(rt; status, None, "after {calls} writes");
+            assert_eq!(rt; status, None, "{text} after {calls} writes");
         }
         let mut writer = Kept::new(alloc, 3, writes);
-        let mut reader = Pieces::new(INPUT, 3, MANY);
-        assert!(rt; run_on(alloc, &words, &mut reader, &mut writer).is_some());
+        let mut reader = Pieces::new(input, 3, MANY);
+        let status = run_on(alloc, &words, &mut reader, &mut writer);
+        assert!(rt; status.is_some(), "{text}");
     }
     Ok(())
 }

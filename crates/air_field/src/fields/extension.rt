@@ -20,23 +20,30 @@ pub trait ExtensionField<F: Field>: Copy + Eq + Ord + Debug {
 
     ghost DIMENSION: { ℕ };
 
+    /// How many coefficients an element has.
     const DIMENSION: usize;
 
+    /// Zero.
     fn zero() -> Self
         ensures { result ≡ over.ring.nil };
 
+    /// One.
     fn one() -> Self
         ensures { result ≡ over.ring.one };
 
+    /// The sum.
     fn add(self, other: Self) -> Self
         ensures { result ≡ over.ring.add self other };
 
+    /// The difference.
     fn sub(self, other: Self) -> Self
         ensures { result ≡ minus over.ring self other };
 
+    /// The negative.
     fn neg(self) -> Self
         ensures { result ≡ over.ring.neg self };
 
+    /// The product.
     fn mul(self, other: Self) -> Self
         ensures { result ≡ over.ring.mul self other };
 
@@ -48,7 +55,7 @@ pub trait ExtensionField<F: Field>: Copy + Eq + Ord + Debug {
     fn as_basis_coefficients_slice(&self) -> &[F]
         ensures { result.now ≡ coefficients self.now };
 
-    /// The element with these coefficients, lowest first.
+    /// The element with these coefficients, lowest first, which must be `DIMENSION`.
     fn from_basis_coefficients(c: &[F]) -> Self
         requires { length c.now ≡ DIMENSION }
         ensures { coefficients result ≡ c.now };

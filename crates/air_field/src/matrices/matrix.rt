@@ -6,7 +6,7 @@ ghost use Rattle.air_field.specs.Matrix.{matrix_of};
 use crate::errors::MatrixError;
 use std::marker::Model;
 
-/// A matrix.
+/// A matrix of `height` rows of `width` elements each. One of width 0 has no rows.
 #[derive(Drop)]
 pub struct RowMajorMatrix<T> {
     values: Vec<T>,
@@ -26,7 +26,8 @@ impl<T> Model for RowMajorMatrix<T> {
 }
 
 impl<T: Copy> RowMajorMatrix<T> {
-    /// The matrix of these values, row after row.
+    /// The matrix of these values, row after row. It refuses with `Ragged` where they don't make whole rows: where the
+    /// width doesn't divide their number, or is 0 and there are some. It takes no memory.
     pub fn new(values: Vec<T>, width: usize) -> Result<Self, MatrixError>
         ensures { result ≡ matrix_of width values.items }
     {
@@ -51,12 +52,14 @@ impl<T: Copy> RowMajorMatrix<T> {
         })
     }
 
+    /// The number of columns.
     pub fn width(&self) -> usize
         ensures { result ≡ self.now.width }
     {
         self.width
     }
 
+    /// The number of rows.
     pub fn height(&self) -> usize
         ensures { result ≡ length self.now.rows }
     {

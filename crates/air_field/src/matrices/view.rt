@@ -11,6 +11,7 @@ pub struct RowMajorMatrixView<'a, T> {
 }
 
 impl<'a, T: Copy> RowMajorMatrixView<'a, T> {
+    /// A view of these values, row after row, as rows of `width` elements. The width is not compared with their number.
     pub fn new(values: &'a [T], width: usize) -> Self
         ensures values { result.values.now ≡ values.now }
         ensures width { result.width ≡ width }
@@ -53,6 +54,7 @@ impl<'a, T: Copy> Clone for ViewPair<'a, T> {
 }
 
 impl<'a, T: Copy> ViewPair<'a, T> {
+    /// Two views of one row each, of one width.
     pub fn new(top: RowMajorMatrixView<'a, T>, bottom: RowMajorMatrixView<'a, T>) -> Self
         requires top_row { length top.values.now ≡ top.width }
         requires bottom_row { length bottom.values.now ≡ bottom.width }

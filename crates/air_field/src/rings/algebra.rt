@@ -10,8 +10,10 @@ use crate::errors::RingError;
 use crate::fields::field::Field;
 use crate::fields::power::power_of;
 
-/// A ring that makes its elements. What is an element stays one, and what it means stays.
+/// A ring that makes its elements. What is an element stays one, and what it means stays. Its calls take only elements
+/// of this ring, as [`contains`](Algebra::contains) tells.
 pub trait Algebra<F: Field> {
+    /// The ring's elements.
     type Elem: Copy;
 
     /// The ring is as its calls left it.
@@ -41,6 +43,7 @@ pub trait Algebra<F: Field> {
         ensures made { IfOk result (Made has means (const_term c) self.new) }
         ensures refused { IfErr result (λ e. refuses e (const_term c)) };
 
+    /// x + y
     fn add(&mut self, x: Self::Elem, y: Self::Elem) -> Result<Self::Elem, RingError>
         requires x_in { has self.old x }
         requires y_in { has self.old y }
@@ -48,6 +51,7 @@ pub trait Algebra<F: Field> {
         ensures made { IfOk result (MadeOfBoth has means add_term self.old self.new x y) }
         ensures refused { IfErr result (RefusedOfBoth means refuses add_term self.old x y) };
 
+    /// x - y
     fn sub(&mut self, x: Self::Elem, y: Self::Elem) -> Result<Self::Elem, RingError>
         requires x_in { has self.old x }
         requires y_in { has self.old y }
@@ -55,12 +59,14 @@ pub trait Algebra<F: Field> {
         ensures made { IfOk result (MadeOfBoth has means sub_term self.old self.new x y) }
         ensures refused { IfErr result (RefusedOfBoth means refuses sub_term self.old x y) };
 
+    /// -x
     fn neg(&mut self, x: Self::Elem) -> Result<Self::Elem, RingError>
         requires { has self.old x }
         ensures extended { extends self.old self.new }
         ensures made { IfOk result (MadeOf has means neg_term self.old self.new x) }
         ensures refused { IfErr result (RefusedOf means refuses neg_term self.old x) };
 
+    /// x y
     fn mul(&mut self, x: Self::Elem, y: Self::Elem) -> Result<Self::Elem, RingError>
         requires x_in { has self.old x }
         requires y_in { has self.old y }

@@ -11,6 +11,7 @@ use crate::rings::algebra::Algebra;
 
 /// A ring over the extension `EF` of `F`. What is an element of its base stays one, and what it means stays.
 pub trait ExtAlgebra<F: Field, EF: ExtensionField<F>>: Algebra<F> {
+    /// The elements of the base ring.
     type Base: Copy;
 
     /// It is an element of the base.

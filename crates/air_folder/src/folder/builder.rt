@@ -27,8 +27,8 @@ pub struct ConstraintFolder<'a, F: Field, EF: ExtensionField<F>> {
 }
 
 impl<'a, F: Field, EF: ExtensionField<F>> ConstraintFolder<'a, F, EF> {
-    /// A folder at a row and the one after it, as the pairs hold them, that has folded nothing yet. The permutation trace
-    /// may be left out.
+    /// A folder at a row and the one after it, as the pairs hold them, that has folded nothing yet. The permutation
+    /// trace may be left out.
     pub fn new(
         main: ViewPair<'a, EF>,
         preprocessed: ViewPair<'a, EF>,
@@ -45,7 +45,8 @@ impl<'a, F: Field, EF: ExtensionField<F>> ConstraintFolder<'a, F, EF> {
         ensures main { result.main.current.now ≡ main.entry.top.values.now }
         ensures main_next { result.main.next.now ≡ main.entry.bottom.values.now }
         ensures preprocessed { result.preprocessed.current.now ≡ preprocessed.entry.top.values.now }
-        ensures preprocessed_next { result.preprocessed.next.now ≡ preprocessed.entry.bottom.values.now }
+        ensures preprocessed_next { result.preprocessed.next.now
+            ≡ preprocessed.entry.bottom.values.now }
         ensures permutation { result.permutation ≡ permutation.entry }
         ensures public_values { result.public_values.now ≡ public_values.now }
         ensures periodic { result.periodic.now ≡ periodic.now }

@@ -8,8 +8,8 @@ ghost use Rattle.air_folder.specs.Folder.{HasValue, values_are_their_base};
 use p3_air::{Algebra, ExtAlgebra, ExtensionField, Field, FromVar, RingError};
 use std::marker::PhantomData;
 
-/// The extension as a ring over itself: base expressions are elements of the extension too. It keeps nothing and refuses
-/// nothing.
+/// The extension as a ring over itself: base expressions are elements of the extension too. It keeps nothing and
+/// refuses nothing.
 #[derive(Clone, Copy)]
 pub struct FolderRing<F, EF> {
     base: PhantomData<F>,
@@ -17,7 +17,10 @@ pub struct FolderRing<F, EF> {
 }
 
 impl<F: Field, EF: ExtensionField<F>> FolderRing<F, EF> {
-    pub fn new() -> Self {
+    /// The ring of the extension: its type has this value alone.
+    pub fn new() -> Self
+        ensures { (r : Self F EF) → r ≡ result }
+    {
         FolderRing {
             base: PhantomData,
             of: PhantomData,

@@ -22,7 +22,8 @@ impl PairCol {
         }
     }
 
-    /// What stands in the column.
+    /// What stands in the column of these two rows. The column must be in range of their lengths, as
+    /// [`in_range`](PairCol::in_range) tells.
     pub fn get<T: Copy>(self, preprocessed: &[T], main: &[T]) -> T
         requires { IsWithin (length preprocessed.now) (length main.now) self }
         ensures { entry_of self preprocessed.now main.now ≡ Some result }

@@ -172,7 +172,8 @@ impl<F: Field> VirtualPairCol<F> {
         true
     }
 
-    /// The constant plus the sum of weight times column, of the elements that stand in the columns.
+    /// The constant plus the sum of weight times column, of the elements that stand in the columns. These must be in
+    /// range of the rows' lengths, as [`fits`](VirtualPairCol::fits) tells. It refuses only what the ring refuses.
     pub fn apply<R: Algebra<F>>(
         &self,
         ring: &mut R,

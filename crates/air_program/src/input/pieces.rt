@@ -14,7 +14,8 @@ fn find(bytes: &[u8], byte: u8) -> Option<usize>
 
 /// The bytes before the first such byte and those behind it, where there is one.
 fn cut(bytes: &[u8], byte: u8) -> Option<(&[u8], &[u8])>
-    ensures some { IfSome result (λ p. slice_split (λ b. b == byte) bytes.now ≡ p.0.now ∷ slice_split (λ b. b == byte) p.1.now) }
+    ensures some { IfSome result (λ p. slice_split (λ b. b == byte) bytes.now ≡ p.0.now
+        ∷ slice_split (λ b. b == byte) p.1.now) }
     ensures shorter { IfSome result (λ p. length p.1.now < length bytes.now) }
     ensures none { IfNone result (slice_split (λ b. b == byte) bytes.now ≡ bytes.now ∷ []) }
 {

@@ -15,11 +15,12 @@ pub trait Source {
     // A call has answered an `Err`.
     ghost has_failed: { Self → Bool };
 
-    /// Fills the front of `buf`, and answers how many bytes it filled: 0 only at the end.
+    /// Fills the front of `buf`, which mustn't be empty, and answers how many bytes it filled: 0 only at the end.
     fn pull(&mut self, buf: &mut [u8]) -> Result<usize, StreamFault>
         requires { 0 < length buf.old }
         ensures bound { IfOk result (λ count. count ≤ length buf.new) }
-        ensures bytes { IfOk result (λ count. Consumes (remaining self.old) (remaining self.new) (take count buf.new)) }
+        ensures bytes { IfOk result (λ count. Consumes (remaining self.old) (remaining self.new)
+            (take count buf.new)) }
         ensures end { result ≡ Ok 0 → IsAtEnd (remaining self.new) }
         ensures ok { OnOk result (has_failed self.new ≡ has_failed self.old) }
         ensures err { OnErr result (has_failed self.new ≡ true) };
@@ -41,7 +42,8 @@ pub trait Sink {
     fn push(&mut self, bytes: &[u8]) -> Result<usize, StreamFault>
         ensures bound { IfOk result (λ count. count ≤ length bytes.now) }
         ensures some { IfOk result (λ count. 0 < length bytes.now → 0 < count) }
-        ensures bytes { IfOk result (λ count. Appends (contents self.old) (contents self.new) (take count bytes.now)) }
+        ensures bytes { IfOk result (λ count. Appends (contents self.old) (contents self.new)
+            (take count bytes.now)) }
         ensures ok { OnOk result (has_failed self.new ≡ has_failed self.old) }
         ensures err { OnErr result (has_failed self.new ≡ true) };
 

@@ -20,7 +20,8 @@ pub struct AirLayout {
 impl AirLayout {
     /// The layout that the AIR says it has; the three permutation counts are 0.
     pub fn from_air<F: Copy, A: BaseAir<F>>(air: &A) -> Self
-        ensures { result ≡ air_layout (table_width (A.beside air.now).preprocessed) (A.width air.now) (A.num_public_values air.now) (length (A.beside air.now).periodic) }
+        ensures { result ≡ air_layout (table_width (A.beside air.now).preprocessed)
+            (A.width air.now) (A.num_public_values air.now) (length (A.beside air.now).periodic) }
     {
         AirLayout {
             preprocessed_width: air.preprocessed_width(),
@@ -34,10 +35,13 @@ impl AirLayout {
     }
 
     /// Compares the counts that the AIR determines with the layout's: main width, then public values, then periodic
-    /// columns. The preprocessed width is not compared, since the preprocessed trace itself decides it. It takes no memory.
+    /// columns. The preprocessed width is not compared, since the preprocessed trace itself decides it. It takes no
+    /// memory.
     pub fn validate_against_air<F: Copy, A: BaseAir<F>>(&self, air: &A) -> Result<(), AirError>
-        ensures fits { OnOk result (FitsAir self.now (A.width air.now) (A.num_public_values air.now) (length (A.beside air.now).periodic)) }
-        ensures refused { IfErr result (LayoutRefuses self.now (A.width air.now) (A.num_public_values air.now) (length (A.beside air.now).periodic)) }
+        ensures fits { OnOk result (FitsAir self.now (A.width air.now) (A.num_public_values air.now)
+            (length (A.beside air.now).periodic)) }
+        ensures refused { IfErr result (LayoutRefuses self.now (A.width air.now)
+            (A.num_public_values air.now) (length (A.beside air.now).periodic)) }
     {
         let width = air.width();
         if self.main_width != width {

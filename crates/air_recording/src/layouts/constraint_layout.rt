@@ -39,8 +39,9 @@ impl ConstraintLayout {
     ///
     /// First, for each of the `DIMENSION` basis elements, the coefficients of the base constraints' weights there, in
     /// the order of `base_indices`; then the whole weights of the extension constraints, in the order of `ext_indices`.
-    /// So the sum of each coefficient times its basis element times its constraint's value, and of each whole weight
-    /// times its constraint's value, is the fold of all values in order.
+    /// Where the indices are the places of a list of constraints, each once and in order, the sum of each coefficient
+    /// times its basis element times its constraint's value, and of each whole weight times its constraint's value, is
+    /// the fold of all values in order.
     ///
     /// It refuses the first index at or past the count of constraints, base indices first, and want of memory. The
     /// count itself always fits `usize`, since so many indices fit into memory.
@@ -49,10 +50,14 @@ impl ConstraintLayout {
         alloc: Global,
         alpha: EF,
     ) -> Result<(Vec<Vec<F>>, Vec<EF>), AirError>
-        ensures coordinates { IfOk result (λ r. map (λ v. v.items) r.0.items ≡ all_coordinates_of F.ring EF.coefficients (weights_of EF.over.ring alpha (constraint_count self.now) self.now.base_indices.items) EF.DIMENSION) }
-        ensures powers { IfOk result (λ r. r.1.items ≡ weights_of EF.over.ring alpha (constraint_count self.now) self.now.ext_indices.items) }
+        ensures coordinates { IfOk result (λ r. map (λ v. v.items) r.0.items ≡ all_coordinates_of
+            F.ring EF.coefficients (weights_of EF.over.ring alpha (constraint_count self.now)
+            self.now.base_indices.items) EF.DIMENSION) }
+        ensures powers { IfOk result (λ r. r.1.items ≡ weights_of EF.over.ring alpha
+            (constraint_count self.now) self.now.ext_indices.items) }
         ensures within { OnOk result (IsWithinCount self.now) }
-        ensures fold { IfOk result (λ r. Recombines F.ring EF.over alpha self.now.base_indices.items self.now.ext_indices.items (map (λ v. v.items) r.0.items) r.1.items) }
+        ensures fold { IfOk result (λ r. Recombines F.ring EF.over alpha self.now.base_indices.items
+            self.now.ext_indices.items (map (λ v. v.items) r.0.items) r.1.items) }
         ensures refused { IfErr result (DecompositionRefuses self.now) }
     {
         let total = self.total_constraints();
@@ -77,7 +82,8 @@ fn first_past(indices: &[usize], total: usize) -> Option<usize>
 /// The powers at these indices, counted from the last power on.
 fn powers_at<T: Copy>(alloc: Global, powers: &[T], indices: &[usize]) -> Result<Vec<T>, AllocError>
     requires { All (λ i. i < length powers.now) indices.now }
-    ensures { IfOk result (λ v. (d : T) → v.items ≡ map (λ i. slice_index_or powers.now (length powers.now - 1 - i) d) indices.now) }
+    ensures { IfOk result (λ v. (d : T) → v.items ≡ map
+        (λ i. slice_index_or powers.now (length powers.now - 1 - i) d) indices.now) }
 {
     let mut picked = Vec::new(alloc);
     for index in indices {
@@ -108,7 +114,8 @@ fn all_coordinates<F: Field, EF: ExtensionField<F>>(
     alloc: Global,
     elements: &[EF],
 ) -> Result<Vec<Vec<F>>, AirError>
-    ensures coordinates { IfOk result (λ v. map (λ w. w.items) v.items ≡ all_coordinates_of F.ring EF.coefficients elements.now EF.DIMENSION) }
+    ensures coordinates { IfOk result (λ v. map (λ w. w.items) v.items ≡ all_coordinates_of F.ring
+        EF.coefficients elements.now EF.DIMENSION) }
     ensures refused { IfErr result (λ e. e ≡ AirError.Memory) }
 {
     let mut all = Vec::new(alloc);

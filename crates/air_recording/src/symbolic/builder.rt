@@ -61,7 +61,8 @@ impl<F: Field, EF: ExtensionField<F>> SymbolicAirBuilder<F, EF> {
 
     /// Where the base and the extension constraints recorded so far stand among all of them.
     pub fn constraint_layout(&self) -> Result<ConstraintLayout, AirError>
-        ensures places { IfOk result (λ l. ArePlacesOf self.now.constraints.kinds.items l.base_indices.items l.ext_indices.items) }
+        ensures places { IfOk result (λ l. ArePlacesOf self.now.constraints.kinds.items
+            l.base_indices.items l.ext_indices.items) }
         ensures refused { IfErr result (λ e. e ≡ AirError.Memory) }
     {
         self.constraints.layout(self.alloc)

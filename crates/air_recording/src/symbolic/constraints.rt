@@ -68,7 +68,8 @@ impl<F: Field, EF: ExtensionField<F>> Constraints<F, EF> {
 
     /// The places of each kind.
     pub(crate) fn layout(&self, alloc: Global) -> Result<ConstraintLayout, AirError>
-        ensures places { IfOk result (λ l. ArePlacesOf self.now.kinds.items l.base_indices.items l.ext_indices.items) }
+        ensures places { IfOk result (λ l. ArePlacesOf self.now.kinds.items l.base_indices.items
+            l.ext_indices.items) }
         ensures refused { IfErr result (λ e. e ≡ AirError.Memory) }
     {
         let base_indices = base_places(alloc, &self.kinds)?;

@@ -55,27 +55,9 @@ fn greatest_of(numbers: &[usize]) -> usize
     greatest
 }
 
-/// The greatest degree of these expressions by the leaves' weights, 0 of none: then no table is made.
-fn greatest_by<A: SymLeaf>(
-    pool: &ExprPool<A>,
-    numbers: &[ExprId<A>],
-    weight: LeafWeight<'_>,
-) -> Result<usize, RingError>
-    requires pool { IsPool A.reads pool.now }
-    requires here { All (λ i. i < length pool.now.1) numbers.now }
-    ensures answer { AnswersDegree
-        (greatest_degree (leaf_weight weight.entry) (terms_of A.reads pool.now numbers.now)) result }
-    ensures fits { OnOk result
-        (greatest_degree (leaf_weight weight.entry) (terms_of A.reads pool.now numbers.now) < 2 ^ 64) }
-{
-    if numbers.is_empty() {
-        return Ok(0);
-    }
-    let degrees = pool.degrees(numbers, weight)?;
-    Ok(greatest_of(&degrees.values))
-}
-
-/// The greatest degree, by the leaves' weights, of all constraints as they are recorded, 0 of none.
+/// The greatest degree, by the leaves' weights, of all constraints as they are recorded, 0 of none. Each pool has one
+/// table for all of them. The pool must be as its calls left it, and the numbers in it. It refuses a greatest degree
+/// past `usize` (`DegreeOverflow`), and want of memory.
 pub fn greatest_degree_of<F: Field, EF: ExtensionField<F>>(
     recorded: &Recorded<F, EF>,
     weight: LeafWeight<'_>,
@@ -88,9 +70,10 @@ pub fn greatest_degree_of<F: Field, EF: ExtensionField<F>>(
     ensures fits { OnOk result (greatest_degree (leaf_weight weight.entry)
         (recorded_terms F.ring F.eq EF.coefficients recorded.now) < 2 ^ 64) }
 {
-    let base = greatest_by(recorded.pool.base(), &recorded.base, weight)?;
-    let ext = greatest_by(&recorded.pool, &recorded.ext, weight)?;
-    Ok(base.max(ext))
+    let (base, ext) = recorded
+        .pool
+        .degrees_with_base(&recorded.base, &recorded.ext, weight)?;
+    Ok(greatest_of(&base.values).max(greatest_of(&ext.values)))
 }
 
 /// The degree inferred where the transition selector is linear: the constraint degree of the greatest polynomial degree
@@ -118,9 +101,12 @@ fn trace_degree_of<F: Field, EF: ExtensionField<F>>(
 }
 
 /// The degree inferred from constraints as they are recorded, in a domain with this weight for the transition selector:
-/// for weight 0 the constraint degree of their greatest polynomial degree over `trace_len` rows, and, where no column is
-/// periodic, no less than their greatest cached degree; for a weight from 1 their greatest degree by the cached weights
-/// with this one for the transition selector, whatever `trace_len` and `periods` are.
+/// for weight 0 the constraint degree of their greatest polynomial degree over `trace_len` rows, and, where no column
+/// is periodic, no less than their greatest cached degree; for a weight from 1 their greatest degree by the cached
+/// weights with this one for the transition selector, whatever `trace_len` and `periods` are.
+///
+/// The pool must be as its calls left it, and the numbers in it. It refuses `DegreeOverflow` where their greatest
+/// degree, as the domain counts, passes `usize`, and want of memory.
 pub fn degree_of<F: Field, EF: ExtensionField<F>>(
     recorded: &Recorded<F, EF>,
     trace_len: usize,
@@ -153,18 +139,18 @@ pub fn lengths_of<F>(alloc: Global, columns: &[Vec<F>]) -> Result<Vec<usize>, Ai
     Ok(periods)
 }
 
-/// The degree inferred from the base and extension constraints as they are recorded, for a trace of `trace_len` rows in a
-/// domain with the weight `transition_weight` for the transition selector.
+/// The degree inferred from the base and extension constraints as they are recorded, for a trace of `trace_len` rows in
+/// a domain with the weight `transition_weight` for the transition selector.
 ///
 /// Weight 0 stands for a linear selector: the degree is the constraint degree of their greatest polynomial degree; and,
-/// where no column is periodic, no less than their greatest cached degree. For two rows and more each recorded polynomial
-/// has degree at most the answer times `trace_len` - 1, plus one, wherever the leaves' polynomials have the degrees of a
-/// trace of so many rows; for three and more no smaller number bounds the recorded terms' degrees so.
+/// where no column is periodic, no less than their greatest cached degree. For two rows and more each recorded
+/// polynomial has degree at most the answer times `trace_len` - 1, plus one, wherever the leaves' polynomials have the
+/// degrees of a trace of so many rows; for three and more no smaller number bounds the recorded terms' degrees so.
 ///
-/// For a weight from 1 the degree is their greatest by the cached weights with this one for the selector; a periodic column
-/// weighs 1, and `trace_len` plays no part. For two rows and more each recorded polynomial has degree at most the answer
-/// times `trace_len` - 1, wherever each leaf's polynomial has degree at most its weight times `trace_len` - 1; and no
-/// smaller number bounds the recorded terms' degrees.
+/// For a weight from 1 the degree is their greatest by the cached weights with this one for the selector; a periodic
+/// column weighs 1, and `trace_len` plays no part. For two rows and more each recorded polynomial has degree at most
+/// the answer times `trace_len` - 1, wherever each leaf's polynomial has degree at most its weight times `trace_len` -
+/// 1; and no smaller number bounds the recorded terms' degrees.
 ///
 /// It refuses what the recording refuses, and a recorded degree past `usize`: a polynomial's for weight 0, one by these
 /// weights for a weight from 1.
@@ -181,8 +167,10 @@ pub fn get_max_constraint_degree_extension<
 ) -> Result<usize, AirError>
     ensures inferred { IfOk result (IsInferred F.ring EF.over transition_weight trace_len
         (periods_of (A.beside air.now).periodic) (A.declared air.now)) }
-    ensures fits { OnOk result (FitsAir layout (A.width air.now) (A.num_public_values air.now) (length (A.beside air.now).periodic)) }
-    ensures there { OnOk result (NoneMissing (IsMissing (layout_shape layout)) (A.declared air.now)) }
+    ensures fits { OnOk result (FitsAir layout (A.width air.now) (A.num_public_values air.now)
+        (length (A.beside air.now).periodic)) }
+    ensures there { OnOk result (NoneMissing (IsMissing (layout_shape layout))
+        (A.declared air.now)) }
     ensures refused { IfErr result (DegreeRefuses F.ring EF.over transition_weight trace_len
         (periods_of (A.beside air.now).periodic) layout (A.width air.now)
         (A.num_public_values air.now) (A.declared air.now)) }
@@ -203,8 +191,10 @@ pub fn get_max_constraint_degree<F: SelfExtension, A: Air<SymbolicAirBuilder<F, 
 ) -> Result<usize, AirError>
     ensures inferred { IfOk result (IsInferred F.ring F.over transition_weight trace_len
         (periods_of (A.beside air.now).periodic) (A.declared air.now)) }
-    ensures fits { OnOk result (FitsAir layout (A.width air.now) (A.num_public_values air.now) (length (A.beside air.now).periodic)) }
-    ensures there { OnOk result (NoneMissing (IsMissing (layout_shape layout)) (A.declared air.now)) }
+    ensures fits { OnOk result (FitsAir layout (A.width air.now) (A.num_public_values air.now)
+        (length (A.beside air.now).periodic)) }
+    ensures there { OnOk result (NoneMissing (IsMissing (layout_shape layout))
+        (A.declared air.now)) }
     ensures refused { IfErr result (DegreeRefuses F.ring F.over transition_weight trace_len
         (periods_of (A.beside air.now).periodic) layout (A.width air.now)
         (A.num_public_values air.now) (A.declared air.now)) }

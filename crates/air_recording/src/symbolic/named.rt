@@ -21,7 +21,12 @@ impl<F: Field, EF: ExtensionField<F>> PassthroughNamedAirBuilder for SymbolicAir
 impl<F: Field, EF: ExtensionField<F>> NamedAirBuilder for SymbolicAirBuilder<F, EF> {
     ghost labelled = { discarding ⟦<SymbolicAirBuilder<F, EF> as AirBuilder>⟧.grew };
 
-    ghost named_laws = { discarding_laws (recording_laws (base_pool_laws F.ring) (ext_pool_laws F.ring F.eq EF.coefficients F.eq_is) (λ p. p.0) (base_grown F.ring F.eq EF.coefficients) (λ b. b.pool) (λ b r. record b { pool = (r, b.pool.1) }) (λ b. fixed_by b.selectors b.entries.base.layout) (λ b. lists_of b.constraints) (λ b r g. base_lent F.ring F.eq EF.coefficients F.eq_is b.pool r g) (λ _ _. refl) (λ _ _. refl) (λ _ _. refl)) };
+    ghost named_laws = { discarding_laws (recording_laws (base_pool_laws F.ring)
+        (ext_pool_laws F.ring F.eq EF.coefficients F.eq_is) (λ p. p.0)
+        (base_grown F.ring F.eq EF.coefficients) (λ b. b.pool)
+        (λ b r. record b { pool = (r, b.pool.1) }) (λ b. fixed_by b.selectors b.entries.base.layout)
+        (λ b. lists_of b.constraints) (λ b r g. base_lent F.ring F.eq EF.coefficients F.eq_is b.pool
+        r g) (λ _ _. refl) (λ _ _. refl) (λ _ _. refl)) };
 
     fn assert_zero_named<N: Name>(
         &mut self,

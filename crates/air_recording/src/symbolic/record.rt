@@ -44,20 +44,28 @@ impl<F: Field, EF: ExtensionField<F>> SymbolicAirBuilder<F, EF> {
     }
 }
 
-/// Has an AIR assert its constraints on a symbolic builder of this layout, which is compared with the AIR first.
+/// Has an AIR assert its constraints on a symbolic builder of this layout, which is compared with the AIR first. It
+/// refuses what [`get_all_symbolic_constraints`] refuses.
 pub fn record<F: Field, EF: ExtensionField<F>, A: Air<SymbolicAirBuilder<F, EF>>>(
     alloc: Global,
     air: &A,
     layout: AirLayout,
 ) -> Result<SymbolicAirBuilder<F, EF>, AirError>
-    ensures base { IfOk result (λ b. RecordsBase F.ring EF.over base_reads b.pool.0 b.constraints.base.items (A.declared air.now)) }
-    ensures ext { IfOk result (λ b. RecordsExt F.ring EF.over (ext_reads F.ring F.eq EF.coefficients) b.pool b.constraints.ext.items (A.declared air.now)) }
-    ensures base_here { IfOk result (λ b. All (λ i. i < length b.pool.0.1) b.constraints.base.items) }
+    ensures base { IfOk result (λ b. RecordsBase F.ring EF.over base_reads b.pool.0
+        b.constraints.base.items (A.declared air.now)) }
+    ensures ext { IfOk result (λ b. RecordsExt F.ring EF.over
+        (ext_reads F.ring F.eq EF.coefficients) b.pool b.constraints.ext.items
+        (A.declared air.now)) }
+    ensures base_here { IfOk result (λ b. All (λ i. i < length b.pool.0.1)
+        b.constraints.base.items) }
     ensures ext_here { IfOk result (λ b. All (λ i. i < length b.pool.1) b.constraints.ext.items) }
     ensures kinds { IfOk result (λ b. RecordsKinds b.constraints.kinds.items (A.declared air.now)) }
-    ensures fits { OnOk result (FitsAir layout (A.width air.now) (A.num_public_values air.now) (length (A.beside air.now).periodic)) }
-    ensures there { OnOk result (NoneMissing (IsMissing (layout_shape layout)) (A.declared air.now)) }
-    ensures refused { IfErr result (RecordRefuses layout (A.width air.now) (A.num_public_values air.now) (length (A.beside air.now).periodic) (A.declared air.now)) }
+    ensures fits { OnOk result (FitsAir layout (A.width air.now) (A.num_public_values air.now)
+        (length (A.beside air.now).periodic)) }
+    ensures there { OnOk result (NoneMissing (IsMissing (layout_shape layout))
+        (A.declared air.now)) }
+    ensures refused { IfErr result (RecordRefuses layout (A.width air.now)
+        (A.num_public_values air.now) (length (A.beside air.now).periodic) (A.declared air.now)) }
 {
     layout.validate_against_air(air)?;
     let mut builder = SymbolicAirBuilder::new(alloc, layout)?;
@@ -65,18 +73,26 @@ pub fn record<F: Field, EF: ExtensionField<F>, A: Air<SymbolicAirBuilder<F, EF>>
     Ok(builder)
 }
 
-/// Records the constraints of an AIR: for each declared place, in order, one expression of its kind, which means the term
-/// that is declared there. So it has the term's polynomial, and no greater degree by any weights of the leaves.
+/// Records the constraints of an AIR: for each declared place, in order, one expression of its kind, which means the
+/// term that is declared there. So it has the term's polynomial, and no greater degree by any weights of the leaves.
+///
+/// It refuses a layout that differs from the AIR's width, public values or periodic columns, in this order, then an
+/// entry that the layout has not, a cached degree past `usize`, or want of memory.
 pub fn get_all_symbolic_constraints<
     F: Field,
     EF: ExtensionField<F>,
     A: Air<SymbolicAirBuilder<F, EF>>,
 >(alloc: Global, air: &A, layout: AirLayout) -> Result<Recorded<F, EF>, AirError>
-    ensures base { IfOk result (λ r. RecordsBase F.ring EF.over base_reads r.pool.0 r.base.items (A.declared air.now)) }
-    ensures ext { IfOk result (λ r. RecordsExt F.ring EF.over (ext_reads F.ring F.eq EF.coefficients) r.pool r.ext.items (A.declared air.now)) }
-    ensures fits { OnOk result (FitsAir layout (A.width air.now) (A.num_public_values air.now) (length (A.beside air.now).periodic)) }
-    ensures there { OnOk result (NoneMissing (IsMissing (layout_shape layout)) (A.declared air.now)) }
-    ensures refused { IfErr result (RecordRefuses layout (A.width air.now) (A.num_public_values air.now) (length (A.beside air.now).periodic) (A.declared air.now)) }
+    ensures base { IfOk result (λ r. RecordsBase F.ring EF.over base_reads r.pool.0 r.base.items
+        (A.declared air.now)) }
+    ensures ext { IfOk result (λ r. RecordsExt F.ring EF.over
+        (ext_reads F.ring F.eq EF.coefficients) r.pool r.ext.items (A.declared air.now)) }
+    ensures fits { OnOk result (FitsAir layout (A.width air.now) (A.num_public_values air.now)
+        (length (A.beside air.now).periodic)) }
+    ensures there { OnOk result (NoneMissing (IsMissing (layout_shape layout))
+        (A.declared air.now)) }
+    ensures refused { IfErr result (RecordRefuses layout (A.width air.now)
+        (A.num_public_values air.now) (length (A.beside air.now).periodic) (A.declared air.now)) }
 {
     let builder = record(alloc, air, layout)?;
     Ok(builder.into_recorded())
@@ -88,11 +104,15 @@ pub fn get_symbolic_constraints<F: SelfExtension, A: Air<SymbolicAirBuilder<F, F
     air: &A,
     layout: AirLayout,
 ) -> Result<Recorded<F, F>, AirError>
-    ensures base { IfOk result (λ r. RecordsBase F.ring F.over base_reads r.pool.0 r.base.items (A.declared air.now)) }
+    ensures base { IfOk result (λ r. RecordsBase F.ring F.over base_reads r.pool.0 r.base.items
+        (A.declared air.now)) }
     ensures ext { IfOk result (λ r. r.ext.items ≡ []) }
-    ensures fits { OnOk result (FitsAir layout (A.width air.now) (A.num_public_values air.now) (length (A.beside air.now).periodic)) }
-    ensures there { OnOk result (NoneMissing (IsMissing (layout_shape layout)) (A.declared air.now)) }
-    ensures refused { IfErr result (RecordRefuses layout (A.width air.now) (A.num_public_values air.now) (length (A.beside air.now).periodic) (A.declared air.now)) }
+    ensures fits { OnOk result (FitsAir layout (A.width air.now) (A.num_public_values air.now)
+        (length (A.beside air.now).periodic)) }
+    ensures there { OnOk result (NoneMissing (IsMissing (layout_shape layout))
+        (A.declared air.now)) }
+    ensures refused { IfErr result (RecordRefuses layout (A.width air.now)
+        (A.num_public_values air.now) (length (A.beside air.now).periodic) (A.declared air.now)) }
 {
     let Recorded { pool, base, .. } = get_all_symbolic_constraints(alloc, air, layout)?;
     let ext = Vec::new(alloc);
@@ -106,26 +126,34 @@ pub fn get_symbolic_constraints_extension<
     A: Air<SymbolicAirBuilder<F, EF>>,
 >(alloc: Global, air: &A, layout: AirLayout) -> Result<Recorded<F, EF>, AirError>
     ensures base { IfOk result (λ r. r.base.items ≡ []) }
-    ensures ext { IfOk result (λ r. RecordsExt F.ring EF.over (ext_reads F.ring F.eq EF.coefficients) r.pool r.ext.items (A.declared air.now)) }
-    ensures fits { OnOk result (FitsAir layout (A.width air.now) (A.num_public_values air.now) (length (A.beside air.now).periodic)) }
-    ensures there { OnOk result (NoneMissing (IsMissing (layout_shape layout)) (A.declared air.now)) }
-    ensures refused { IfErr result (RecordRefuses layout (A.width air.now) (A.num_public_values air.now) (length (A.beside air.now).periodic) (A.declared air.now)) }
+    ensures ext { IfOk result (λ r. RecordsExt F.ring EF.over
+        (ext_reads F.ring F.eq EF.coefficients) r.pool r.ext.items (A.declared air.now)) }
+    ensures fits { OnOk result (FitsAir layout (A.width air.now) (A.num_public_values air.now)
+        (length (A.beside air.now).periodic)) }
+    ensures there { OnOk result (NoneMissing (IsMissing (layout_shape layout))
+        (A.declared air.now)) }
+    ensures refused { IfErr result (RecordRefuses layout (A.width air.now)
+        (A.num_public_values air.now) (length (A.beside air.now).periodic) (A.declared air.now)) }
 {
     let Recorded { pool, ext, .. } = get_all_symbolic_constraints(alloc, air, layout)?;
     let base = Vec::new(alloc);
     Ok(Recorded { pool, base, ext })
 }
 
-/// Where the base and the extension constraints of an AIR stand among all of them.
+/// Where the base and the extension constraints of an AIR stand among all of them. It refuses what a recording refuses.
 pub fn get_constraint_layout<F: Field, EF: ExtensionField<F>, A: Air<SymbolicAirBuilder<F, EF>>>(
     alloc: Global,
     air: &A,
     layout: AirLayout,
 ) -> Result<ConstraintLayout, AirError>
-    ensures places { IfOk result (λ l. ArePlacesOf (map kind_of (A.declared air.now)) l.base_indices.items l.ext_indices.items) }
-    ensures fits { OnOk result (FitsAir layout (A.width air.now) (A.num_public_values air.now) (length (A.beside air.now).periodic)) }
-    ensures there { OnOk result (NoneMissing (IsMissing (layout_shape layout)) (A.declared air.now)) }
-    ensures refused { IfErr result (RecordRefuses layout (A.width air.now) (A.num_public_values air.now) (length (A.beside air.now).periodic) (A.declared air.now)) }
+    ensures places { IfOk result (λ l. ArePlacesOf (map kind_of (A.declared air.now))
+        l.base_indices.items l.ext_indices.items) }
+    ensures fits { OnOk result (FitsAir layout (A.width air.now) (A.num_public_values air.now)
+        (length (A.beside air.now).periodic)) }
+    ensures there { OnOk result (NoneMissing (IsMissing (layout_shape layout))
+        (A.declared air.now)) }
+    ensures refused { IfErr result (RecordRefuses layout (A.width air.now)
+        (A.num_public_values air.now) (length (A.beside air.now).periodic) (A.declared air.now)) }
 {
     let builder: SymbolicAirBuilder<F, EF> = record(alloc, air, layout)?;
     builder.constraint_layout()

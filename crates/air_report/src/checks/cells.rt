@@ -45,7 +45,8 @@ pub(crate) fn first_mismatch<F: Field>(
     public_values: &[F],
 ) -> Option<usize>
     requires { CellsFit main.now public_values.now cells.now }
-    ensures { MatchOption result (AgreeBelow F.ring F.eq main.now public_values.now cells.now (length cells.now)) (IsFirstDiffering F.ring F.eq main.now public_values.now cells.now) }
+    ensures { MatchOption result (AgreeBelow F.ring F.eq main.now public_values.now cells.now
+        (length cells.now)) (IsFirstDiffering F.ring F.eq main.now public_values.now cells.now) }
 {
     for (index, cell) in cells.iter().enumerate() {
         if differs(cell, main, public_values) {
@@ -65,7 +66,8 @@ fn cell_failure(
 ) -> Result<ConstraintFailure, AirError>
     ensures place { IfOk result (λ f. failure_place f ≡ (row, count + place)) }
     ensures label { IfOk result (λ f. failure_text f ≡ Some (cell_label cell.now)) }
-    ensures refused { IfErr result (λ e. (e ≡ AirError.Memory) ⊎ ((e ≡ AirError.CountOverflow) × (2 ^ 64 ≤ count + place))) }
+    ensures refused { IfErr result (λ e. (e ≡ AirError.Memory)
+        ⊎ ((e ≡ AirError.CountOverflow) × (2 ^ 64 ≤ count + place))) }
 {
     let Some(constraint) = count.checked_add(place) else {
         return Err(AirError::CountOverflow);
@@ -93,8 +95,14 @@ pub(crate) fn list_cells<F: Field>(
     failures: &mut Vec<ConstraintFailure>,
 ) -> Result<(), AirError>
     requires { CellsFit main.now public_values.now cells.now }
-    ensures listed { OnOk result (ListsCells (length main.now.rows) count (left_of max_failures (length failures.old.items) (differing F.ring F.eq main.now public_values.now cells.now)) failures.old.items failures.new.items) }
-    ensures refused { IfErr result (λ e. (e ≡ AirError.Memory) ⊎ ((e ≡ AirError.CountOverflow) × IsListedPast count (left_of max_failures (length failures.old.items) (differing F.ring F.eq main.now public_values.now cells.now)))) }
+    ensures listed { OnOk result (ListsCells (length main.now.rows) count
+        (left_of max_failures (length failures.old.items)
+        (differing F.ring F.eq main.now public_values.now cells.now)) failures.old.items
+        failures.new.items) }
+    ensures refused { IfErr result (λ e. (e ≡ AirError.Memory)
+        ⊎ ((e ≡ AirError.CountOverflow) × IsListedPast count
+        (left_of max_failures (length failures.old.items)
+        (differing F.ring F.eq main.now public_values.now cells.now)))) }
 {
     let height = main.height();
     'cells: for (place, cell) in cells.iter().enumerate() {

@@ -19,6 +19,7 @@ use air_field::{
 use std::alloc::Global;
 
 /// One where it holds, else zero.
+#[inline(always)]
 fn selector<F: Field>(on: bool) -> F
     ensures { result ≡ selector F.ring on }
 {
@@ -26,6 +27,7 @@ fn selector<F: Field>(on: bool) -> F
 }
 
 /// A row that is there.
+#[inline(always)]
 pub(crate) fn row_of<'a, F: Field>(main: &'a RowMajorMatrix<F>, row: usize) -> &'a [F]
     requires { row < length main.now.rows }
     ensures row { slice_get main.now.rows row ≡ Some result.now }
@@ -38,10 +40,12 @@ pub(crate) fn row_of<'a, F: Field>(main: &'a RowMajorMatrix<F>, row: usize) -> &
 }
 
 /// The views of a row and of the one after it around the end.
+#[inline(always)]
 fn row_pair<'a, F: Field>(main: &'a RowMajorMatrix<F>, row: usize) -> ViewPair<'a, F>
     requires { row < length main.now.rows }
     ensures top { slice_get main.now.rows row ≡ Some result.top.values.now }
-    ensures bottom { slice_get main.now.rows ((row + 1) % length main.now.rows) ≡ Some result.bottom.values.now }
+    ensures bottom { slice_get main.now.rows ((row + 1) % length main.now.rows) ≡ Some
+        result.bottom.values.now }
     ensures width { length result.top.values.now ≡ main.now.width }
 {
     let height = main.height();
@@ -53,10 +57,14 @@ fn row_pair<'a, F: Field>(main: &'a RowMajorMatrix<F>, row: usize) -> ViewPair<'
 }
 
 /// The window of a table's row and of the one after it around the end; without a table it has no columns.
+#[inline(always)]
 fn table_window<'a, F: Field>(table: Option<&'a RowMajorMatrix<F>>, row: usize) -> RowWindow<'a, F>
     requires { IfSome table (λ t. row < length t.now.rows) }
-    ensures current { result.current.now ≡ row_or_none (slice_get (table_grid (option_copied table.entry)).rows row) }
-    ensures next { result.next.now ≡ row_or_none (slice_get (table_grid (option_copied table.entry)).rows ((row + 1) % length (table_grid (option_copied table.entry)).rows)) }
+    ensures current { result.current.now ≡ row_or_none
+        (slice_get (table_grid (option_copied table.entry)).rows row) }
+    ensures next { result.next.now ≡ row_or_none
+        (slice_get (table_grid (option_copied table.entry)).rows
+        ((row + 1) % length (table_grid (option_copied table.entry)).rows)) }
     ensures width { length result.current.now ≡ (table_grid (option_copied table.entry)).width }
 {
     match table {
@@ -85,10 +93,16 @@ pub(crate) fn check_row<'a, F: SelfExtension + 'static, A: Air<DebugConstraintBu
     failures: Vec<ConstraintFailure>,
 ) -> Result<RowOutcome, AirError>
     requires within { row < length main.now.rows }
-    requires fits { Fits (given (A.declared air.now) (A.beside air.now) main.now public_values.now) }
-    ensures checked { IfOk result (λ c. CheckedRow F.ring F.eq (given_trace (given (A.declared air.now) (A.beside air.now) main.now public_values.now)) (A.declared air.now) row failures.items c.failures.items c.constraints) }
-    ensures there { OnOk result (NoneMissing (IsMissing (trace_shape (given_trace (given (A.declared air.now) (A.beside air.now) main.now public_values.now)))) (A.declared air.now)) }
-    ensures refused { IfErr result (RowRefuses (given (A.declared air.now) (A.beside air.now) main.now public_values.now)) }
+    requires fits { Fits (given (A.declared air.now) (A.beside air.now) main.now
+        public_values.now) }
+    ensures checked { IfOk result (λ c. CheckedRow F.ring F.eq
+        (given_trace (given (A.declared air.now) (A.beside air.now) main.now public_values.now))
+        (A.declared air.now) row failures.items c.failures.items c.constraints) }
+    ensures there { OnOk result (NoneMissing
+        (IsMissing (trace_shape (given_trace (given (A.declared air.now) (A.beside air.now) main.now
+        public_values.now)))) (A.declared air.now)) }
+    ensures refused { IfErr result (RowRefuses
+        (given (A.declared air.now) (A.beside air.now) main.now public_values.now)) }
 {
     let height = main.height();
     let periodic_row = air.periodic_values(alloc, row)?;
@@ -118,6 +132,7 @@ pub(crate) fn check_row<'a, F: SelfExtension + 'static, A: Air<DebugConstraintBu
 }
 
 /// Whether so many failures reach the cap.
+#[inline(always)]
 pub(crate) fn is_reached(cap: Option<usize>, failures: usize) -> bool
     ensures { IsTrue result ↔ IsReached cap failures }
 {
@@ -136,8 +151,11 @@ fn check_rows<'a, F: SelfExtension + 'static, A: Air<DebugConstraintBuilder<'a, 
     max_failures: Option<usize>,
 ) -> Result<RowOutcome, AirError>
     requires { Fits (given (A.declared air.now) (A.beside air.now) main.now public_values.now) }
-    ensures checked { IfOk result (λ c. CheckedRows F.ring F.eq (given (A.declared air.now) (A.beside air.now) main.now public_values.now) max_failures c.failures.items c.constraints) }
-    ensures refused { IfErr result (RowsRefuse max_failures (given (A.declared air.now) (A.beside air.now) main.now public_values.now)) }
+    ensures checked { IfOk result (λ c. CheckedRows F.ring F.eq
+        (given (A.declared air.now) (A.beside air.now) main.now public_values.now) max_failures
+        c.failures.items c.constraints) }
+    ensures refused { IfErr result (RowsRefuse max_failures
+        (given (A.declared air.now) (A.beside air.now) main.now public_values.now)) }
 {
     let mut failures = Vec::new(alloc);
     let mut total_constraints_per_row = 0;
@@ -158,14 +176,15 @@ fn check_rows<'a, F: SelfExtension + 'static, A: Air<DebugConstraintBuilder<'a, 
     })
 }
 
-/// Checks the shapes of the preprocessed table and of the periodic columns; evaluates an AIR on the rows of a trace, each
-/// paired with the one after it around the end, while the failures so far are fewer than `max_failures`; and then
+/// Checks the shapes of the preprocessed table and of the periodic columns; evaluates an AIR on the rows of a trace,
+/// each paired with the one after it around the end, while the failures so far are fewer than `max_failures`; and then
 /// compares the boundary cells with their public values. It reports each constraint that is not zero, rows ascending
 /// and in each row the places ascending, and then the cells that differ, in order, as many as the cap leaves.
 ///
-/// It refuses the first shape that doesn't fit; then, where a row runs, an entry that a constraint names and the trace has
-/// not, and a count past `usize`; then the first cell that doesn't fit the trace, and cells of a trace without rows. The trace's width
-/// is not compared with that of the AIR.
+/// It refuses the first shape that doesn't fit; then, where a row runs, an entry that a constraint names and the trace
+/// has not, and a count past `usize`; then the first cell that doesn't fit the trace, and cells of a trace without
+/// rows; then a listed cell whose place passes `usize`. Want of memory is refused too, once the shapes fit. The trace's
+/// width is not compared with that of the AIR.
 pub fn check_all_constraints<
     'a,
     F: SelfExtension + 'static,
@@ -177,8 +196,10 @@ pub fn check_all_constraints<
     public_values: &'a [F],
     max_failures: Option<usize>,
 ) -> Result<ConstraintReport, AirError>
-    ensures report { IfOk result (IsReport F.ring F.eq (given (A.declared air.now) (A.beside air.now) main.now public_values.now) max_failures) }
-    ensures refused { IfErr result (CheckRefuses F.ring F.eq (given (A.declared air.now) (A.beside air.now) main.now public_values.now) max_failures) }
+    ensures report { IfOk result (IsReport F.ring F.eq
+        (given (A.declared air.now) (A.beside air.now) main.now public_values.now) max_failures) }
+    ensures refused { IfErr result (CheckRefuses F.ring F.eq
+        (given (A.declared air.now) (A.beside air.now) main.now public_values.now) max_failures) }
 {
     let total_rows = main.height();
     check_shapes(

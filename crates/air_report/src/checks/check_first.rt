@@ -14,7 +14,7 @@ use air_field::{RowMajorMatrix, SelfExtension};
 use std::alloc::Global;
 use thiserror::Error;
 
-/// Why a trace doesn't keep the constraints, or wasn't checked.
+/// Why a trace doesn't keep the constraints, or wasn't checked to its end.
 #[derive(Debug, Drop, Error)]
 pub enum CheckError {
     /// A boundary cell doesn't hold its public value: the first such, by its place in the list, and its row.
@@ -29,7 +29,7 @@ pub enum CheckError {
         row: usize,
         failures: Vec<ConstraintFailure>,
     },
-    /// The trace wasn't checked.
+    /// The check gave up before its end.
     #[error(transparent)]
     Refused(AirError),
 }
@@ -42,20 +42,26 @@ impl From<AirError> for CheckError {
     }
 }
 
-/// Checks the shapes of the preprocessed table and of the periodic columns, compares the boundary cells with their public
-/// values, and evaluates an AIR on the rows of a trace, each paired with the one after it around the end, up to the
-/// first row with a constraint that is not zero.
+/// Checks the shapes of the preprocessed table and of the periodic columns, compares the boundary cells with their
+/// public values, and evaluates an AIR on the rows of a trace, each paired with the one after it around the end, up to
+/// the first row with a constraint that is not zero.
 ///
-/// It is Ok exactly if no cell differs and no constraint fails at any row. The error is the first cell that differs,
-/// else the first row that fails with all its failures, or what the check refuses, as `check_all_constraints` does.
+/// It is Ok only if no cell differs and no constraint fails at any row. The error is the first fault in this order: a
+/// shape that doesn't fit, a boundary cell that doesn't fit the trace, or cells of a trace without rows (all these are
+/// `Refused`); a cell that differs (`BoundaryMismatch`); the first row that fails, with all its failures (`RowFailed`),
+/// or that is refused for an entry which a constraint names and the trace has not, or for a count past `usize`. So
+/// cells come before rows here, where `check_all_constraints` has them behind the rows. Want of memory is refused only
+/// where the shapes fit and each cell holds its public value.
 pub fn check_constraints<'a, F: SelfExtension + 'static, A: Air<DebugConstraintBuilder<'a, F, F>>>(
     alloc: Global,
     air: &'a A,
     main: &'a RowMajorMatrix<F>,
     public_values: &'a [F],
 ) -> Result<(), CheckError>
-    ensures kept { OnOk result (IsKept F.ring F.eq (given (A.declared air.now) (A.beside air.now) main.now public_values.now)) }
-    ensures error { IfErr result (IsFirstError F.ring F.eq (given (A.declared air.now) (A.beside air.now) main.now public_values.now)) }
+    ensures kept { OnOk result (IsKept F.ring F.eq
+        (given (A.declared air.now) (A.beside air.now) main.now public_values.now)) }
+    ensures error { IfErr result (IsFirstError F.ring F.eq
+        (given (A.declared air.now) (A.beside air.now) main.now public_values.now)) }
 {
     let height = main.height();
     check_shapes(

@@ -5,7 +5,8 @@ ghost use Rattle.air_report.specs.FailureTexts.{seen_failure};
 use crate::debug::failure::ConstraintFailure;
 use std::alloc::AllocError;
 
-/// The failures of a trace: rows ascending, and in each row the places ascending.
+/// The failures of a trace: those of its rows, rows ascending and in each row the places ascending, and then those of
+/// the boundary cells, in the order of the AIR's list.
 #[derive(Debug, Drop)]
 pub struct ConstraintReport {
     pub failures: Vec<ConstraintFailure>,
@@ -16,7 +17,7 @@ pub struct ConstraintReport {
 }
 
 impl ConstraintReport {
-    /// Whether nothing failed.
+    /// Whether no failure is listed; under the cap 0 none is.
     pub fn is_ok(&self) -> bool
         ensures { IsTrue result ↔ (self.now.failures.items ≡ []) }
     {
@@ -26,8 +27,10 @@ impl ConstraintReport {
     /// A report with the same counts and failures. It refuses for want of memory alone.
     pub fn clone(&self) -> Result<Self, AllocError>
         ensures rows { IfOk result (λ copy. copy.total_rows ≡ self.now.total_rows) }
-        ensures constraints { IfOk result (λ copy. copy.total_constraints_per_row ≡ self.now.total_constraints_per_row) }
-        ensures failures { IfOk result (λ copy. map seen_failure copy.failures.items ≡ map seen_failure self.now.failures.items) }
+        ensures constraints { IfOk result (λ copy. copy.total_constraints_per_row
+            ≡ self.now.total_constraints_per_row) }
+        ensures failures { IfOk result (λ copy. map seen_failure copy.failures.items ≡ map
+            seen_failure self.now.failures.items) }
     {
         let mut failures = Vec::new(*self.failures.allocator());
         for failure in &self.failures {

@@ -45,7 +45,8 @@ impl<'a, F: Field + ExtensionField<F>> DebugConstraintBuilder<'a, F, F> {
         ensures row_index { result.row_index ≡ row_index }
         ensures main { result.main ≡ main.entry }
         ensures preprocessed { result.preprocessed.current.now ≡ preprocessed.entry.top.values.now }
-        ensures preprocessed_next { result.preprocessed.next.now ≡ preprocessed.entry.bottom.values.now }
+        ensures preprocessed_next { result.preprocessed.next.now
+            ≡ preprocessed.entry.bottom.values.now }
         ensures public_values { result.public_values.now ≡ public_values.now }
         ensures is_first_row { result.is_first_row ≡ is_first_row }
         ensures is_last_row { result.is_last_row ≡ is_last_row }
@@ -93,13 +94,15 @@ impl<'a, F: Field, EF: ExtensionField<F>> DebugConstraintBuilder<'a, F, EF> {
         ensures row_index { result.row_index ≡ row_index }
         ensures main { result.main ≡ main.entry }
         ensures preprocessed { result.preprocessed.current.now ≡ preprocessed.entry.top.values.now }
-        ensures preprocessed_next { result.preprocessed.next.now ≡ preprocessed.entry.bottom.values.now }
+        ensures preprocessed_next { result.preprocessed.next.now
+            ≡ preprocessed.entry.bottom.values.now }
         ensures public_values { result.public_values.now ≡ public_values.now }
         ensures is_first_row { result.is_first_row ≡ on_first_row }
         ensures is_last_row { result.is_last_row ≡ on_last_row }
         ensures is_transition { result.is_transition ≡ on_transition }
         ensures permutation { result.permutation ≡ permutation.entry }
-        ensures permutation_challenges { result.permutation_challenges.now ≡ permutation_challenges.now }
+        ensures permutation_challenges { result.permutation_challenges.now
+            ≡ permutation_challenges.now }
         ensures permutation_values { result.permutation_values.now ≡ permutation_values.now }
         ensures periodic_row { result.periodic_row ≡ periodic_row }
         ensures counter { result.constraint_index ≡ 0 }
@@ -146,13 +149,15 @@ impl<'a, F: Field, EF: ExtensionField<F>> DebugConstraintBuilder<'a, F, EF> {
         ensures row_index { result.row_index ≡ row_index }
         ensures main { result.main ≡ main.entry }
         ensures preprocessed { result.preprocessed.current.now ≡ preprocessed.entry.top.values.now }
-        ensures preprocessed_next { result.preprocessed.next.now ≡ preprocessed.entry.bottom.values.now }
+        ensures preprocessed_next { result.preprocessed.next.now
+            ≡ preprocessed.entry.bottom.values.now }
         ensures public_values { result.public_values.now ≡ public_values.now }
         ensures is_first_row { result.is_first_row ≡ is_first_row }
         ensures is_last_row { result.is_last_row ≡ is_last_row }
         ensures is_transition { result.is_transition ≡ is_transition }
         ensures permutation { result.permutation ≡ Some permutation.entry }
-        ensures permutation_challenges { result.permutation_challenges.now ≡ permutation_challenges.now }
+        ensures permutation_challenges { result.permutation_challenges.now
+            ≡ permutation_challenges.now }
         ensures permutation_values { result.permutation_values.now ≡ permutation_values.now }
         ensures periodic_row { result.periodic_row ≡ periodic_row }
         ensures counter { result.constraint_index ≡ 0 }
@@ -197,9 +202,11 @@ impl<'a, F: Field, EF: ExtensionField<F>> DebugConstraintBuilder<'a, F, EF> {
         self.failures.as_slice()
     }
 
-    /// The failures in brackets, joined by `, `, as `[#0, #2 "label"]`. It refuses for want of memory alone.
+    /// The failures in brackets, joined by `, `, as `[#0, #2 "label"]`; where a label isn't ASCII, nothing is said of
+    /// the text. It refuses for want of memory alone.
     pub fn formatted_failures(&self) -> Result<String, AirError>
-        ensures text { IfOk result (λ text. IfSome (failures_text self.now.failures.items) (λ bytes. string_bytes text ≡ bytes)) }
+        ensures text { IfOk result (λ text. IfSome (failures_text self.now.failures.items)
+            (λ bytes. string_bytes text ≡ bytes)) }
         ensures refused { IfErr result (λ e. e ≡ AirError.Memory) }
     {
         let text = failures_text(*self.failures.allocator(), &self.failures)?;

@@ -36,22 +36,30 @@ impl<'a, F: Field, EF: ExtensionField<F> + 'static> AirBuilder
 
     ghost kept = { λ a b. (row_of b) ≡ (row_of a) };
 
-    ghost grew = { λ a b ts. GrewAtRow (is_zero_at F.ring EF.over F.eq EF.eq) (row_of a) (row_of b) a.constraint_index b.constraint_index a.failures.items b.failures.items ts };
+    ghost grew = { λ a b ts. GrewAtRow (is_zero_at F.ring EF.over F.eq EF.eq) (row_of a) (row_of b)
+        a.constraint_index b.constraint_index a.failures.items b.failures.items ts };
 
     ghost missing = { λ b l. RowMissing (row_of b) l };
 
-    ghost refuses = { λ b e ts. RefusedAtRow (is_zero_at F.ring EF.over F.eq EF.eq) (row_of b) b.constraint_index e ts };
+    ghost refuses = { λ b e ts. RefusedAtRow (is_zero_at F.ring EF.over F.eq EF.eq) (row_of b)
+        b.constraint_index e ts };
 
-    ghost laws = { debug_laws (is_zero_at F.ring EF.over F.eq EF.eq) row_of (λ b. b.constraint_index) (λ b. b.failures.items) (row_stands F.ring EF.over EF.coefficients) (λ b. b.ring) (λ b r. record b { ring = r }) (λ _ _. refl) (λ _ _. refl) (λ _ _. refl) (λ _ _. refl) };
+    ghost laws = { debug_laws (is_zero_at F.ring EF.over F.eq EF.eq) row_of
+        (λ b. b.constraint_index) (λ b. b.failures.items)
+        (row_stands F.ring EF.over EF.coefficients) (λ b. b.ring) (λ b r. record b { ring = r })
+        (λ _ _. refl) (λ _ _. refl) (λ _ _. refl) (λ _ _. refl) };
 
+    #[inline(always)]
     fn ring(&mut self) -> &mut FieldRing<F> {
         &mut self.ring
     }
 
+    #[inline(always)]
     fn main(&self) -> Result<RowWindow<'a, F>, AirError> {
         Ok(RowWindow::from_two_rows(self.main.top.values, self.main.bottom.values))
     }
 
+    #[inline(always)]
     fn main_variable(&self, offset: usize, column: usize) -> Option<F> {
         match offset {
             0 => self.main.top.values.get(column).copied(),
@@ -60,10 +68,12 @@ impl<'a, F: Field, EF: ExtensionField<F> + 'static> AirBuilder
         }
     }
 
+    #[inline(always)]
     fn preprocessed(&self) -> &RowWindow<'a, F> {
         &self.preprocessed
     }
 
+    #[inline(always)]
     fn preprocessed_variable(&self, offset: usize, column: usize) -> Option<F> {
         match offset {
             0 => self.preprocessed.current(column),
@@ -72,26 +82,32 @@ impl<'a, F: Field, EF: ExtensionField<F> + 'static> AirBuilder
         }
     }
 
+    #[inline(always)]
     fn public_values(&self) -> &[F] {
         self.public_values
     }
 
+    #[inline(always)]
     fn periodic_values(&self) -> &[F] {
         self.periodic_row.as_slice()
     }
 
+    #[inline(always)]
     fn is_first_row(&mut self) -> Result<F, AirError> {
         Ok(self.is_first_row)
     }
 
+    #[inline(always)]
     fn is_last_row(&mut self) -> Result<F, AirError> {
         Ok(self.is_last_row)
     }
 
+    #[inline(always)]
     fn is_transition(&mut self) -> Result<F, AirError> {
         Ok(self.is_transition)
     }
 
+    #[inline(always)]
     fn assert_zero(&mut self, x: F) -> Result<(), AirError> {
         self.log(x == F::ZERO, "")
     }

@@ -32,12 +32,18 @@ impl<'a, F: Field, EF: ExtensionField<F> + 'static> ExtensionBuilder
 
     ghost with_ext_ring = { λ b r. record b { ext_ring = r } };
 
-    ghost ext_laws = { debug_extension_laws (is_zero_at F.ring EF.over F.eq EF.eq) row_of (λ b. b.constraint_index) (λ b. b.failures.items) (row_stands F.ring EF.over EF.coefficients) (λ b. b.ext_ring) (λ b r. record b { ext_ring = r }) (λ _ _. refl) (λ _ _. refl) (λ _ _. refl) (λ _ _. refl) (λ b. b.ring) (λ x t. IsBase t × (closed_value F.ring t ≡ x)) };
+    ghost ext_laws = { debug_extension_laws (is_zero_at F.ring EF.over F.eq EF.eq) row_of
+        (λ b. b.constraint_index) (λ b. b.failures.items)
+        (row_stands F.ring EF.over EF.coefficients) (λ b. b.ext_ring)
+        (λ b r. record b { ext_ring = r }) (λ _ _. refl) (λ _ _. refl) (λ _ _. refl) (λ _ _. refl)
+        (λ b. b.ring) (λ x t. IsBase t × (closed_value F.ring t ≡ x)) };
 
+    #[inline(always)]
     fn ext_ring(&mut self) -> &mut ExtFieldRing<F, EF> {
         &mut self.ext_ring
     }
 
+    #[inline(always)]
     fn assert_zero_ext(&mut self, x: EF) -> Result<(), AirError> {
         self.log(x == EF::zero(), "")
     }
@@ -45,6 +51,7 @@ impl<'a, F: Field, EF: ExtensionField<F> + 'static> ExtensionBuilder
 
 impl<'a, F: Field, EF: ExtensionField<F> + 'static> NamedExtensionBuilder
     for DebugConstraintBuilder<'a, F, EF> {
+    #[inline(always)]
     fn assert_zero_ext_named<N: Name>(&mut self, x: EF, name: N) -> Result<(), AirError> {
         self.log(x == EF::zero(), name)
     }
@@ -59,14 +66,22 @@ impl<'a, F: Field, EF: ExtensionField<F> + 'static> PermutationAirBuilder
     type PermutationVar = EF;
 
     /// The window of the permutation trace; a builder that was made without one, and it alone, refuses.
+    #[inline(always)]
     fn permutation(&self) -> Result<RowWindow<'a, EF>, AirError>
-        ensures current { IfOk result (λ w. RowStands (λ v t. closed_value_in EF.over t ≡ v) (λ i. row_stands F.ring EF.over EF.coefficients (row_of self.now) (permutation 0 i)) w.current.now) }
-        ensures next { IfOk result (λ w. RowStands (λ v t. closed_value_in EF.over t ≡ v) (λ i. row_stands F.ring EF.over EF.coefficients (row_of self.now) (permutation 1 i)) w.next.now) }
-        ensures current_ends { IfOk result (λ w. RowEnds (RowMissing (row_of self.now)) (λ i. permutation 0 i) w.current.now) }
-        ensures next_ends { IfOk result (λ w. RowEnds (RowMissing (row_of self.now)) (λ i. permutation 1 i) w.next.now) }
+        ensures current { IfOk result (λ w. RowStands (λ v t. closed_value_in EF.over t ≡ v)
+            (λ i. row_stands F.ring EF.over EF.coefficients (row_of self.now) (permutation 0 i))
+            w.current.now) }
+        ensures next { IfOk result (λ w. RowStands (λ v t. closed_value_in EF.over t ≡ v)
+            (λ i. row_stands F.ring EF.over EF.coefficients (row_of self.now) (permutation 1 i))
+            w.next.now) }
+        ensures current_ends { IfOk result (λ w. RowEnds (RowMissing (row_of self.now))
+            (λ i. permutation 0 i) w.current.now) }
+        ensures next_ends { IfOk result (λ w. RowEnds (RowMissing (row_of self.now))
+            (λ i. permutation 1 i) w.next.now) }
         ensures answered { self.now.permutation ≢ None → IsOk result }
         ensures without { self.now.permutation ≡ None → result ≡ Err AirError.NoPermutation }
-        ensures refused { IfErr result (λ e. (e ≡ AirError.NoPermutation) × (self.now.permutation ≡ None)) }
+        ensures refused { IfErr result (λ e. (e ≡ AirError.NoPermutation)
+            × (self.now.permutation ≡ None)) }
     {
         match &self.permutation {
             Some(pair) => Ok(RowWindow::from_two_rows(pair.top.values, pair.bottom.values)),
@@ -74,10 +89,12 @@ impl<'a, F: Field, EF: ExtensionField<F> + 'static> PermutationAirBuilder
         }
     }
 
+    #[inline(always)]
     fn permutation_randomness(&self) -> &[EF] {
         self.permutation_challenges
     }
 
+    #[inline(always)]
     fn permutation_values(&self) -> &[EF] {
         self.permutation_values
     }

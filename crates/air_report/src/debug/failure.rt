@@ -6,16 +6,19 @@ use std::alloc::{AllocError, Global};
 use std::fmt;
 use std::fmt::Display;
 
-/// A constraint that is not zero at a row.
+/// A constraint that is not zero at a row, or a boundary cell that doesn't hold its public value.
 ///
-/// It displays as `#k`, where k is `constraint`, and behind it, where there is a label, a space and the label's debug text.
+/// It displays as `#k`, where k is `constraint`, and behind it, where there is a label, a space and the label's debug
+/// text.
 #[derive(Debug, Drop)]
 pub struct ConstraintFailure {
     /// The row, from 0 on.
     pub row: usize,
-    /// The place of the constraint among those asserted at the row, from 0 on.
+    /// The place of the constraint among those asserted at the row, from 0 on, or from the number that the builder was
+    /// made to count from; for a boundary cell its place in the
+    /// AIR's list, counted on from the constraints of a row.
     pub constraint: usize,
-    /// The label that the constraint was asserted with, if it has one.
+    /// The label that the constraint was asserted with, if it has one; a boundary cell has one always.
     pub label: Option<String>,
 }
 
@@ -53,7 +56,8 @@ pub(crate) fn failures_text(
     alloc: Global,
     failures: &[ConstraintFailure],
 ) -> Result<String, AllocError>
-    ensures { IfOk result (λ text. IfSome (failures_text failures.now) (λ bytes. string_bytes text ≡ bytes)) }
+    ensures { IfOk result (λ text. IfSome (failures_text failures.now)
+        (λ bytes. string_bytes text ≡ bytes)) }
 {
     let mut text = String::new(alloc);
     text.push_str("[")?;

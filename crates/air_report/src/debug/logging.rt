@@ -13,7 +13,8 @@ use std::string::ToString;
 /// The label of a failure: what the name displays, or none where that is empty.
 fn label_of<N: Name>(alloc: Global, name: N) -> Result<Option<String>, AllocError>
     requires { N.can_evaluate name }
-    ensures { IfOk result (λ label. (text : Option (List ℕ)) × N.displays name text × KeepsText text label) }
+    ensures { IfOk result (λ label. (text : Option (List ℕ)) × N.displays name text × KeepsText text
+        label) }
 {
     let text = name.evaluate()?.to_string(alloc)?;
     if text.is_empty() {
@@ -28,7 +29,9 @@ impl<'a, F: Field, EF: ExtensionField<F>> DebugConstraintBuilder<'a, F, EF> {
     pub(crate) fn log<N: Name>(&mut self, holds: bool, name: N) -> Result<(), AirError>
         requires { holds ≡ false → N.can_evaluate name }
         ensures keeps { row_of self.new ≡ row_of self.old }
-        ensures ok { OnOk result (LogsOne self.old.row_index self.old.constraint_index self.new.constraint_index (N.displays name) holds self.old.failures.items self.new.failures.items) }
+        ensures ok { OnOk result (LogsOne self.old.row_index self.old.constraint_index
+            self.new.constraint_index (N.displays name) holds self.old.failures.items
+            self.new.failures.items) }
         ensures err_count { OnErr result (self.new.constraint_index ≡ self.old.constraint_index) }
         ensures err { OnErr result (self.new.failures.items ≡ self.old.failures.items) }
         ensures refused { IfErr result (LogRefuses self.old.constraint_index holds) }

@@ -13,17 +13,32 @@ use air_field::{Algebra, ExtensionField, Field, FieldRing};
 
 impl<'a, F: Field, EF: ExtensionField<F> + 'static> NamedAirBuilder
     for DebugConstraintBuilder<'a, F, EF> {
-    ghost labelled = { λ a b ls. LabelledAtRow (is_zero_at F.ring EF.over F.eq EF.eq) (row_of a) (row_of b) a.constraint_index b.constraint_index a.failures.items b.failures.items ls };
+    ghost labelled = { λ a b ls. LabelledAtRow (is_zero_at F.ring EF.over F.eq EF.eq) (row_of a)
+        (row_of b) a.constraint_index b.constraint_index a.failures.items b.failures.items ls };
 
-    ghost named_laws = { debug_named_laws (is_zero_at F.ring EF.over F.eq EF.eq) row_of (λ b. b.constraint_index) (λ b. b.failures.items) };
+    ghost named_laws = { debug_named_laws (is_zero_at F.ring EF.over F.eq EF.eq) row_of
+        (λ b. b.constraint_index) (λ b. b.failures.items) };
 
     fn assert_zero_named<N: Name>(&mut self, x: F, name: N) -> Result<(), AirError>
         requires can_evaluate { F.eq x F.ring.nil ≡ false → N.can_evaluate name }
         ensures keeps { row_of self.new ≡ row_of self.old }
-        ensures ok { OnOk result (GrewOf (Means ⟦<FieldRing<F> as Algebra<F>>⟧.means ⟦<DebugConstraintBuilder<'a, F, EF> as AirBuilder>⟧.ring_of ⟦<DebugConstraintBuilder<'a, F, EF> as AirBuilder>⟧.stands) ⟦<DebugConstraintBuilder<'a, F, EF> as AirBuilder>⟧.grew (λ t. t) self.old self.new x) }
-        ensures label { OnOk result (LabelledOf (Means ⟦<FieldRing<F> as Algebra<F>>⟧.means ⟦<DebugConstraintBuilder<'a, F, EF> as AirBuilder>⟧.ring_of ⟦<DebugConstraintBuilder<'a, F, EF> as AirBuilder>⟧.stands) (λ a b ls. LabelledAtRow (is_zero_at F.ring EF.over F.eq EF.eq) (row_of a) (row_of b) a.constraint_index b.constraint_index a.failures.items b.failures.items ls) (N.displays name) (λ t. t) self.old self.new x) }
-        ensures err { OnErr result (⟦<DebugConstraintBuilder<'a, F, EF> as AirBuilder>⟧.grew self.old self.new []) }
-        ensures refused { IfErr result (RefusesOf (Means ⟦<FieldRing<F> as Algebra<F>>⟧.means ⟦<DebugConstraintBuilder<'a, F, EF> as AirBuilder>⟧.ring_of ⟦<DebugConstraintBuilder<'a, F, EF> as AirBuilder>⟧.stands) ⟦<DebugConstraintBuilder<'a, F, EF> as AirBuilder>⟧.refuses (λ t. t) self.old x) }
+        ensures ok { OnOk result (GrewOf (Means ⟦<FieldRing<F> as Algebra<F>>⟧.means
+            ⟦<DebugConstraintBuilder<'a, F, EF> as AirBuilder>⟧.ring_of
+            ⟦<DebugConstraintBuilder<'a, F, EF> as AirBuilder>⟧.stands)
+            ⟦<DebugConstraintBuilder<'a, F, EF> as AirBuilder>⟧.grew (λ t. t) self.old self.new x) }
+        ensures label { OnOk result (LabelledOf (Means ⟦<FieldRing<F> as Algebra<F>>⟧.means
+            ⟦<DebugConstraintBuilder<'a, F, EF> as AirBuilder>⟧.ring_of
+            ⟦<DebugConstraintBuilder<'a, F, EF> as AirBuilder>⟧.stands)
+            (λ a b ls. LabelledAtRow (is_zero_at F.ring EF.over F.eq EF.eq) (row_of a) (row_of b)
+            a.constraint_index b.constraint_index a.failures.items b.failures.items ls)
+            (N.displays name) (λ t. t) self.old self.new x) }
+        ensures err { OnErr result (⟦<DebugConstraintBuilder<'a, F, EF> as AirBuilder>⟧.grew
+            self.old self.new []) }
+        ensures refused { IfErr result (RefusesOf
+            (Means ⟦<FieldRing<F> as Algebra<F>>⟧.means
+            ⟦<DebugConstraintBuilder<'a, F, EF> as AirBuilder>⟧.ring_of
+            ⟦<DebugConstraintBuilder<'a, F, EF> as AirBuilder>⟧.stands)
+            ⟦<DebugConstraintBuilder<'a, F, EF> as AirBuilder>⟧.refuses (λ t. t) self.old x) }
         ensures passes { IfErr result (LogRefuses self.old.constraint_index (F.eq x F.ring.nil)) }
     {
         self.log(x == F::ZERO, name)

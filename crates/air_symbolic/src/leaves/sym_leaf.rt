@@ -35,6 +35,7 @@ pub trait SymLeaf: Copy + Eq + Ord + Debug {
     /// What lies under a new pool.
     ghost no_under: { Self.Under };
 
+    /// What lies under a new pool, without nodes.
     fn new_under(alloc: Global) -> Self::Under
         ensures { result ≡ no_under };
 
@@ -48,16 +49,19 @@ pub trait SymLeaf: Copy + Eq + Ord + Debug {
         requires { (reads under.now).valid self.now }
         ensures { result ≡ (reads under.now).constant self.now };
 
-    /// The same with the weight `weight` for the transition selector.
+    /// The degree that nodes state, with the weight `weight` for the transition selector. It is refused with
+    /// `DegreeOverflow` only where it passes `usize`, and otherwise only for want of memory.
     fn degree_multiple_with_transition(
         &self,
         weight: usize,
         under: &Self::Under,
     ) -> Result<usize, RingError>
         requires { (reads under.now).valid self.now }
-        ensures { AnswersDegree (degree_by (transition_weight weight) ((reads under.now).term self.now)) result };
+        ensures { AnswersDegree (degree_by (transition_weight weight)
+            ((reads under.now).term self.now)) result };
 
     /// The degree of the leaf's polynomial over `trace_len` rows; `periods` holds the lengths of the periodic columns.
+    /// It is refused with `DegreeOverflow` only where it passes `usize`, and otherwise only for want of memory.
     fn poly_degree(
         &self,
         trace_len: usize,
@@ -65,7 +69,8 @@ pub trait SymLeaf: Copy + Eq + Ord + Debug {
         under: &Self::Under,
     ) -> Result<usize, RingError>
         requires { (reads under.now).valid self.now }
-        ensures { AnswersDegree (degree_by (trace_weight trace_len periods.now) ((reads under.now).term self.now)) result };
+        ensures { AnswersDegree (degree_by (trace_weight trace_len periods.now)
+            ((reads under.now).term self.now)) result };
 
     /// The degrees of what lies under the pool, each worked out once for all leaves that name it.
     fn degrees_under(
@@ -79,7 +84,9 @@ pub trait SymLeaf: Copy + Eq + Ord + Debug {
         ensures few { IfOk result (λ t. t.turns < 2 ^ 64) }
         ensures refused { IfErr result (λ e. e ≡ RingError.Memory) };
 
-    /// The degree by a weight, read from `table` where the leaf names something that lies under the pool.
+    /// The degree by a weight. Where the leaf names something that lies under the pool it is read from `table`, which
+    /// must hold the degrees of what lies there by the same weight. It is refused with `DegreeOverflow` only where it
+    /// passes `usize`, and otherwise only for want of memory.
     fn degree_in(
         &self,
         weight: LeafWeight<'_>,
@@ -122,7 +129,8 @@ pub trait SymLeaf: Copy + Eq + Ord + Debug {
     fn two(under: &mut Self::Under) -> Result<Self, RingError>
         requires { (reads under.old).sound }
         ensures grown { grows under.old under.new }
-        ensures made { IfOk result (IsConstLeaf (reads under.new) (Self.F.ring.add Self.F.ring.one Self.F.ring.one)) }
+        ensures made { IfOk result (IsConstLeaf (reads under.new)
+            (Self.F.ring.add Self.F.ring.one Self.F.ring.one)) }
         ensures refused { IfErr result (λ e. e ≡ RingError.Memory) }
     {
         Self::from_const(Self::F::TWO, under)
@@ -132,7 +140,8 @@ pub trait SymLeaf: Copy + Eq + Ord + Debug {
     fn neg_one(under: &mut Self::Under) -> Result<Self, RingError>
         requires { (reads under.old).sound }
         ensures grown { grows under.old under.new }
-        ensures made { IfOk result (IsConstLeaf (reads under.new) (Self.F.ring.neg Self.F.ring.one)) }
+        ensures made { IfOk result (IsConstLeaf (reads under.new)
+            (Self.F.ring.neg Self.F.ring.one)) }
         ensures refused { IfErr result (λ e. e ≡ RingError.Memory) }
     {
         Self::from_const(Self::F::NEG_ONE, under)

@@ -19,7 +19,8 @@ impl<F: Field> ExprPool<BaseLeaf<F>> {
         requires { IsPool base_reads self.old }
         ensures grown { Grown base_grows base_reads self.old self.new }
         ensures tree { IfOk result (HasTree self.new (leaf_tree a)) }
-        ensures made { IfOk result (Made (PoolHas base_reads) (PoolMeans base_reads F.ring) (base_term a) self.new) }
+        ensures made { IfOk result (Made (PoolHas base_reads) (PoolMeans base_reads F.ring)
+            (base_term a) self.new) }
         ensures refused { IfErr result (λ e. e ≡ RingError.Memory) }
     {
         self.leaf(a)
@@ -30,7 +31,8 @@ impl<F: Field> ExprPool<BaseLeaf<F>> {
         requires { IsPool base_reads self.old }
         ensures grown { Grown base_grows base_reads self.old self.new }
         ensures tree { IfOk result (HasTree self.new (leaf_tree (BaseLeaf.Variable v))) }
-        ensures made { IfOk result (Made (PoolHas base_reads) (PoolMeans base_reads F.ring) (leaf_term (entry_leaf v.entry v.index)) self.new) }
+        ensures made { IfOk result (Made (PoolHas base_reads) (PoolMeans base_reads F.ring)
+            (leaf_term (entry_leaf v.entry v.index)) self.new) }
         ensures refused { IfErr result (λ e. e ≡ RingError.Memory) }
     {
         self.leaf_expr(BaseLeaf::Variable(v))

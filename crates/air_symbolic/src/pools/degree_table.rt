@@ -114,7 +114,34 @@ impl<A: SymLeaf> ExprPool<A> {
     }
 
     /// The degrees of the first `count` numbers by the leaves' weights, from the least number up: a node's operands
-    /// have smaller numbers.
+    /// have smaller numbers. `under` holds the degrees of what lies under the pool, whose turns aren't counted again.
+    pub(crate) fn table_over(
+        &self,
+        count: usize,
+        weight: LeafWeight<'_>,
+        under: &DegreeTable,
+    ) -> Result<DegreeTable, RingError>
+        requires pool { IsPool A.reads self.now }
+        requires here { count ≤ length self.now.1 }
+        requires under { A.has_degrees self.now.0 weight under.now.degrees.items }
+        ensures degrees { IfOk result (λ t. AnswersDegrees
+            (λ i. degree_by (leaf_weight weight.entry) (term_at A.reads self.now i))
+            count t.degrees.items) }
+        ensures turns { IfOk result (λ t. t.turns ≤ count) }
+        ensures refused { IfErr result (λ e. e ≡ RingError.Memory) }
+    {
+        let mut table = DegreeTable {
+            degrees: Vec::with_capacity(*self.nodes.allocator(), count)?,
+            turns: 0,
+        };
+        for number in 0..count {
+            self.turn(ExprId::new(number), weight, under, &mut table)?;
+        }
+        Ok(table)
+    }
+
+    /// The degrees of the first `count` numbers by the leaves' weights, and before them those of what lies under the
+    /// pool.
     pub(crate) fn degree_table(
         &self,
         count: usize,
@@ -128,15 +155,11 @@ impl<A: SymLeaf> ExprPool<A> {
         ensures turns { IfOk result (λ t. t.turns ≤ count + A.nodes_under self.now.0) }
         ensures refused { IfErr result (λ e. e ≡ RingError.Memory) }
     {
-        let alloc = *self.nodes.allocator();
-        let under = A::degrees_under(self.base(), weight, alloc)?;
-        let mut table = DegreeTable {
-            degrees: Vec::with_capacity(alloc, count)?,
-            turns: under.turns,
-        };
-        for number in 0..count {
-            self.turn(ExprId::new(number), weight, &under, &mut table)?;
-        }
-        Ok(table)
+        let under = A::degrees_under(self.base(), weight, *self.nodes.allocator())?;
+        let DegreeTable { degrees, turns } = self.table_over(count, weight, &under)?;
+        Ok(DegreeTable {
+            degrees,
+            turns: under.turns + turns,
+        })
     }
 }

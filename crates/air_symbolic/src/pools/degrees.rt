@@ -1,15 +1,16 @@
 //! Degrees by weights of the leaves, from a table by number.
-ghost use Rattle.std.specs.Prelude.{◌≡◌, ◌≢◌, ◌<◌, ◌≤◌, ◌+◌, length, map, All, IfOk, IfErr};
+ghost use Rattle.std.specs.Prelude.{◌≡◌, ◌≢◌, ℕ, ◌<◌, ◌≤◌, ◌+◌, length, map, All, IfOk, IfErr};
 ghost use Rattle.air_field.specs.Degree.{degree_by, cached_weight, transition_weight, trace_weight};
 ghost use Rattle.air_symbolic.specs.Weights.{leaf_weight, SomeOverflows};
 ghost use Rattle.air_symbolic.specs.Pools.{IsPool, term_at};
 ghost use Rattle.air_symbolic.specs.PoolRefusals.{AnswersDegree};
+ghost use Rattle.air_symbolic.specs.DegreeTables.{AnswersDegrees};
 
 use crate::leaves::sym_leaf::SymLeaf;
 use crate::pools::degree_table::known;
 use crate::pools::expr::ExprId;
 use crate::pools::pool::ExprPool;
-use crate::pools::weight::{Degrees, LeafWeight};
+use crate::pools::weight::{DegreeTable, Degrees, LeafWeight};
 use air_field::RingError;
 
 impl<A: SymLeaf> ExprPool<A> {
@@ -43,6 +44,32 @@ impl<A: SymLeaf> ExprPool<A> {
         Ok(Degrees { values, turns: 0 })
     }
 
+    /// The roots' degrees, read from a table of all numbers.
+    pub(crate) fn degrees_from(
+        &self,
+        table: &DegreeTable,
+        roots: &[ExprId<A>],
+    ) -> Result<Degrees, RingError>
+        requires all_in { All (λ x. x < length table.now.degrees.items) roots.now }
+        ensures values { IfOk result (λ d. (degree : ℕ → ℕ) → AnswersDegrees degree
+            (length table.now.degrees.items) table.now.degrees.items →
+            d.values.items ≡ map degree roots.now) }
+        ensures turns { IfOk result (λ d. d.turns ≡ table.now.turns) }
+        ensures refused { IfErr result (λ e. e ≢ RingError.Memory → (degree : ℕ → ℕ) →
+            AnswersDegrees degree (length table.now.degrees.items) table.now.degrees.items →
+            SomeOverflows (map degree roots.now)) }
+    {
+        let mut values = Vec::with_capacity(*self.nodes.allocator(), roots.len())?;
+        for root in roots {
+            let degree = known(&table.degrees, *root)?;
+            values.push(degree)?;
+        }
+        Ok(Degrees {
+            values,
+            turns: table.turns,
+        })
+    }
+
     // The roots' degrees by the leaves' weights, all from one table.
     fn table_degrees(
         &self,
@@ -59,15 +86,7 @@ impl<A: SymLeaf> ExprPool<A> {
             (map (λ x. degree_by (leaf_weight weight.entry) (term_at A.reads self.now x)) roots.now)) }
     {
         let table = self.degree_table(self.len(), weight)?;
-        let mut values = Vec::with_capacity(*self.nodes.allocator(), roots.len())?;
-        for root in roots {
-            let degree = known(&table.degrees, *root)?;
-            values.push(degree)?;
-        }
-        Ok(Degrees {
-            values,
-            turns: table.turns,
-        })
+        self.degrees_from(&table, roots)
     }
 
     /// The cached degree with the weight `weight` for the transition selector; it is refused with `DegreeOverflow`
@@ -79,7 +98,8 @@ impl<A: SymLeaf> ExprPool<A> {
     ) -> Result<usize, RingError>
         requires pool { IsPool A.reads self.now }
         requires here { id < length self.now.1 }
-        ensures { AnswersDegree (degree_by (transition_weight weight) (term_at A.reads self.now id)) result }
+        ensures { AnswersDegree (degree_by (transition_weight weight) (term_at A.reads self.now id))
+            result }
     {
         self.root_degree(id, LeafWeight::Transition(weight))
     }
@@ -95,21 +115,26 @@ impl<A: SymLeaf> ExprPool<A> {
     ) -> Result<usize, RingError>
         requires pool { IsPool A.reads self.now }
         requires here { id < length self.now.1 }
-        ensures { AnswersDegree (degree_by (trace_weight trace_len periods.now) (term_at A.reads self.now id)) result }
+        ensures { AnswersDegree (degree_by (trace_weight trace_len periods.now)
+            (term_at A.reads self.now id)) result }
     {
         self.root_degree(id, LeafWeight::Trace { trace_len, periods })
     }
 
     /// The degree of each root by the leaves' weights. Each node's degree is worked out at most once, so the turns are
-    /// at most as many as the pool has nodes, and what lies under it. It is refused with `DegreeOverflow` exactly where
-    /// the degree of some root passes `usize`, whatever nodes hold that no root reaches.
+    /// at most as many as the pool has nodes, and what lies under it. It is refused with `DegreeOverflow` only where
+    /// the degree of some root passes `usize`, whatever nodes hold that no root reaches; and otherwise only for want of
+    /// memory.
     pub fn degrees(&self, roots: &[ExprId<A>], weight: LeafWeight<'_>) -> Result<Degrees, RingError>
         requires pool { IsPool A.reads self.now }
         requires all_in { All (λ x. x < length self.now.1) roots.now }
-        ensures values { IfOk result (λ d. d.values.items ≡ map (λ x. degree_by (leaf_weight weight.entry) (term_at A.reads self.now x)) roots.now) }
+        ensures values { IfOk result (λ d. d.values.items ≡ map
+            (λ x. degree_by (leaf_weight weight.entry) (term_at A.reads self.now x)) roots.now) }
         ensures turns { IfOk result (λ d.
             d.turns ≤ length self.now.1 + A.nodes_under self.now.0) }
-        ensures refused { IfErr result (λ e. e ≢ RingError.Memory → SomeOverflows (map (λ x. degree_by (leaf_weight weight.entry) (term_at A.reads self.now x)) roots.now)) }
+        ensures refused { IfErr result (λ e. e ≢ RingError.Memory → SomeOverflows
+            (map (λ x. degree_by (leaf_weight weight.entry) (term_at A.reads self.now x))
+            roots.now)) }
     {
         match weight {
             LeafWeight::Cached => self.stated_degrees(roots),

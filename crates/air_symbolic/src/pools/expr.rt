@@ -4,7 +4,7 @@ ghost use Rattle.std.specs.Prelude.{◌≡◌};
 use std::marker::{Model, PhantomData};
 
 /// The number of an expression in a pool of leaves `A`. Inside one pool two numbers are equal exactly where their trees
-/// are.
+/// are. The calls of a pool take only its own numbers, as its `contains` tells.
 #[derive(Clone, Copy, Debug, PartialEq, Eq, PartialOrd, Ord)]
 pub struct ExprId<A> {
     number: usize,

@@ -27,7 +27,9 @@ impl<F: Field, EF: ExtensionField<F>> ExprPool<ExtLeaf<F, EF>> {
         ensures same_base { self.new.0 ≡ self.old.0 }
         ensures grown { Grown ext_grows (ext_reads F.ring F.eq EF.coefficients) self.old self.new }
         ensures tree { IfOk result (HasTree self.new (leaf_tree (ExtLeaf.ExtVariable v))) }
-        ensures made { IfOk result (Made (PoolHas (ext_reads F.ring F.eq EF.coefficients)) (PoolMeans (ext_reads F.ring F.eq EF.coefficients) F.ring) (leaf_term (ext_entry_leaf v.entry v.index)) self.new) }
+        ensures made { IfOk result (Made (PoolHas (ext_reads F.ring F.eq EF.coefficients))
+            (PoolMeans (ext_reads F.ring F.eq EF.coefficients) F.ring)
+            (leaf_term (ext_entry_leaf v.entry v.index)) self.new) }
         ensures refused { IfErr result (λ e. e ≡ RingError.Memory) }
     {
         self.leaf(ExtLeaf::ExtVariable(v))
@@ -39,7 +41,9 @@ impl<F: Field, EF: ExtensionField<F>> ExprPool<ExtLeaf<F, EF>> {
         ensures same_base { self.new.0 ≡ self.old.0 }
         ensures grown { Grown ext_grows (ext_reads F.ring F.eq EF.coefficients) self.old self.new }
         ensures tree { IfOk result (HasTree self.new (leaf_tree (ExtLeaf.ExtConstant c))) }
-        ensures made { IfOk result (Made (PoolHas (ext_reads F.ring F.eq EF.coefficients)) (PoolMeans (ext_reads F.ring F.eq EF.coefficients) F.ring) (ext_const_term (EF.coefficients c)) self.new) }
+        ensures made { IfOk result (Made (PoolHas (ext_reads F.ring F.eq EF.coefficients))
+            (PoolMeans (ext_reads F.ring F.eq EF.coefficients) F.ring)
+            (ext_const_term (EF.coefficients c)) self.new) }
         ensures refused { IfErr result (λ e. e ≡ RingError.Memory) }
     {
         self.leaf(ExtLeaf::ExtConstant(c))
@@ -52,7 +56,9 @@ impl<F: Field, EF: ExtensionField<F>> ExprPool<ExtLeaf<F, EF>> {
         ensures same_base { self.new.0 ≡ self.old.0 }
         ensures grown { Grown ext_grows (ext_reads F.ring F.eq EF.coefficients) self.old self.new }
         ensures tree { IfOk result (HasTree self.new (leaf_tree (ExtLeaf.Base x))) }
-        ensures made { IfOk result (Lifted (PoolHas (ext_reads F.ring F.eq EF.coefficients)) (PoolMeans (ext_reads F.ring F.eq EF.coefficients) F.ring) (BaseMeans F.ring F.eq EF.coefficients) self.old self.new x) }
+        ensures made { IfOk result (Lifted (PoolHas (ext_reads F.ring F.eq EF.coefficients))
+            (PoolMeans (ext_reads F.ring F.eq EF.coefficients) F.ring)
+            (BaseMeans F.ring F.eq EF.coefficients) self.old self.new x) }
         ensures refused { IfErr result (λ e. e ≡ RingError.Memory) }
     {
         self.leaf(ExtLeaf::Base(x))
@@ -61,7 +67,8 @@ impl<F: Field, EF: ExtensionField<F>> ExprPool<ExtLeaf<F, EF>> {
     /// The base pool, handed over as it is.
     pub fn into_base(self) -> ExprPool<BaseLeaf<F>>
         ensures base { result ≡ self.0 }
-        ensures pool { IsPool (ext_reads F.ring F.eq EF.coefficients) self → IsPool base_reads result }
+        ensures pool { IsPool (ext_reads F.ring F.eq EF.coefficients) self → IsPool base_reads
+            result }
     {
         let ExprPool { under, .. } = self;
         under

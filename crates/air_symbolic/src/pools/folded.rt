@@ -45,7 +45,8 @@ impl<A: SymLeaf> ExprPool<A> {
         requires x_in { x < length self.old.1 }
         requires y_in { y < length self.old.1 }
         ensures grown { Grown A.grows A.reads self.old self.new }
-        ensures made { IfOk result (HasFold A.reads self.new (tree_at self.old x) (tree_at self.old y) fold) }
+        ensures made { IfOk result (HasFold A.reads self.new (tree_at self.old x)
+            (tree_at self.old y) fold) }
         ensures refused { IfErr result (λ e. e ≡ RingError.Memory) }
     {
         match fold {
@@ -63,7 +64,8 @@ impl<A: SymLeaf> ExprPool<A> {
         requires y_in { y < length self.old.1 }
         ensures grown { Grown A.grows A.reads self.old self.new }
         ensures made { IfOk result (IsSum A.reads A.F.ring A.F.eq self.old self.new x y) }
-        ensures stands { IfOk result (λ z. Stands A.F.ring (term_at A.reads self.new z) (add_term (term_at A.reads self.old x) (term_at A.reads self.old y))) }
+        ensures stands { IfOk result (λ z. Stands A.F.ring (term_at A.reads self.new z)
+            (add_term (term_at A.reads self.old x) (term_at A.reads self.old y))) }
         ensures refused { IfErr result (λ e. e ≡ RingError.Memory) }
     {
         match fold_of_sum(self.as_const(x), self.as_const(y)) {
@@ -79,7 +81,8 @@ impl<A: SymLeaf> ExprPool<A> {
         requires y_in { y < length self.old.1 }
         ensures grown { Grown A.grows A.reads self.old self.new }
         ensures made { IfOk result (IsDifference A.reads A.F.ring A.F.eq self.old self.new x y) }
-        ensures stands { IfOk result (λ z. Stands A.F.ring (term_at A.reads self.new z) (sub_term (term_at A.reads self.old x) (term_at A.reads self.old y))) }
+        ensures stands { IfOk result (λ z. Stands A.F.ring (term_at A.reads self.new z)
+            (sub_term (term_at A.reads self.old x) (term_at A.reads self.old y))) }
         ensures refused { IfErr result (λ e. e ≡ RingError.Memory) }
     {
         match fold_of_difference(self.as_const(x), self.as_const(y)) {
@@ -94,7 +97,8 @@ impl<A: SymLeaf> ExprPool<A> {
         requires x_in { x < length self.old.1 }
         ensures grown { Grown A.grows A.reads self.old self.new }
         ensures made { IfOk result (IsNegative A.reads A.F.ring A.F.eq self.old self.new x) }
-        ensures stands { IfOk result (λ z. Stands A.F.ring (term_at A.reads self.new z) (neg_term (term_at A.reads self.old x))) }
+        ensures stands { IfOk result (λ z. Stands A.F.ring (term_at A.reads self.new z)
+            (neg_term (term_at A.reads self.old x))) }
         ensures refused { IfErr result (λ e. e ≡ RingError.Memory) }
     {
         match self.as_const(x) {
@@ -111,8 +115,12 @@ impl<A: SymLeaf> ExprPool<A> {
         requires y_in { y < length self.old.1 }
         ensures grown { Grown A.grows A.reads self.old self.new }
         ensures made { IfOk result (IsProduct A.reads A.F.ring A.F.eq self.old self.new x y) }
-        ensures stands { IfOk result (λ z. Stands A.F.ring (term_at A.reads self.new z) (mul_term (term_at A.reads self.old x) (term_at A.reads self.old y))) }
-        ensures overflow { (result ≡ Err RingError.DegreeOverflow) ↔ (NeedsNode A.reads A.F.ring A.F.eq self.old x y × (2 ^ 64 ≤ degree_by cached_weight (term_at A.reads self.old x) + degree_by cached_weight (term_at A.reads self.old y))) }
+        ensures stands { IfOk result (λ z. Stands A.F.ring (term_at A.reads self.new z)
+            (mul_term (term_at A.reads self.old x) (term_at A.reads self.old y))) }
+        ensures overflow { (result ≡ Err RingError.DegreeOverflow)
+            ↔ (NeedsNode A.reads A.F.ring A.F.eq self.old x y
+            × (2 ^ 64 ≤ degree_by cached_weight (term_at A.reads self.old x) + degree_by
+            cached_weight (term_at A.reads self.old y))) }
     {
         match fold_of_product(self.as_const(x), self.as_const(y)) {
             Some(fold) => self.folded(fold, x, y),

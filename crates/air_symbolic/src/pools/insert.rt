@@ -1,14 +1,53 @@
 //! The calls that make a node as it is, without folding.
-ghost use Rattle.std.specs.Prelude.{◌≡◌, ◌<◌, ◌≤◌, ◌+◌, ◌^◌, ◌↔◌, length, IfOk, IfErr};
+ghost use Rattle.std.specs.Prelude.{◌≡◌, ◌≢◌, ℕ, ◌<◌, ◌≤◌, ◌+◌, ◌^◌, ◌↔◌, true, length, Some, MatchOption, IfOk, IfErr};
+ghost use Rattle.std.specs.List.{slice_get};
 ghost use Rattle.air_field.specs.Degree.{degree_by, cached_weight};
 ghost use Rattle.air_symbolic.specs.Trees.{leaf_tree, add_tree, sub_tree, neg_tree, mul_tree};
-ghost use Rattle.air_symbolic.specs.Nodes.{unfold_node, tree_of, NodeFits};
+ghost use Rattle.air_symbolic.specs.Nodes.{unfold_node, tree_of, NodeFits, OperandsBelow};
+ghost use Rattle.air_symbolic.specs.declared.pools.expr.SymbolicExpr.{SymbolicExpr};
 ghost use Rattle.air_symbolic.specs.Pools.{IsPool, tree_at, term_at, Grown, HasTree};
 
 use crate::leaves::sym_leaf::SymLeaf;
 use crate::pools::expr::{ExprId, SymbolicExpr};
+use crate::pools::node_table::NodeTable;
 use crate::pools::pool::ExprPool;
 use air_field::RingError;
+
+// Whether an operand is the newest of so many nodes.
+fn is_newest<A: Copy>(x: ExprId<A>, count: usize) -> bool
+    ensures { result ≡ true → count ≡ x + 1 }
+{
+    count.checked_sub(1) == Some(x.number())
+}
+
+// Whether a node names the newest of so many, which none of these does: they name older ones than themselves.
+fn names_newest<A: SymLeaf>(node: &SymbolicExpr<A>, count: usize) -> bool
+    ensures { result ≡ true → (i : ℕ) → i < count → OperandsBelow i node.now → ⊥ }
+{
+    match *node {
+        SymbolicExpr::Leaf(_) => false,
+        SymbolicExpr::Add { x, y, .. } => is_newest(x, count) || is_newest(y, count),
+        SymbolicExpr::Sub { x, y, .. } => is_newest(x, count) || is_newest(y, count),
+        SymbolicExpr::Neg { x, .. } => is_newest(x, count),
+        SymbolicExpr::Mul { x, y, .. } => is_newest(x, count) || is_newest(y, count),
+    }
+}
+
+// The number of a node, if it is there; the map is not asked for one that names the newest.
+fn number_of<A: SymLeaf>(
+    nodes: &NodeTable<SymbolicExpr<A>>,
+    node: &SymbolicExpr<A>,
+) -> Option<usize>
+    requires older { (i : ℕ) (n : SymbolicExpr A) → slice_get nodes.now i ≡ Some n → OperandsBelow i
+        n }
+    ensures { MatchOption result ((i : ℕ) → slice_get nodes.now i ≢ Some node.now)
+        (λ i. slice_get nodes.now i ≡ Some node.now) }
+{
+    if names_newest(node, nodes.len()) {
+        return None;
+    }
+    nodes.find(node)
+}
 
 impl<A: SymLeaf> ExprPool<A> {
     // The number of an equal node, or of one more.
@@ -20,7 +59,7 @@ impl<A: SymLeaf> ExprPool<A> {
         ensures made { IfOk result (HasTree self.new (unfold_node (tree_of self.old.1) node)) }
         ensures refused { IfErr result (λ e. e ≡ RingError.Memory) }
     {
-        match self.nodes.find(&node) {
+        match number_of(&self.nodes, &node) {
             Some(number) => Ok(ExprId::new(number)),
             None => {
                 let number = self.nodes.push(node)?;
@@ -29,7 +68,7 @@ impl<A: SymLeaf> ExprPool<A> {
         }
     }
 
-    /// The expression of a leaf.
+    /// The expression of a leaf, which must name nothing but what lies under this pool.
     pub fn leaf(&mut self, a: A) -> Result<ExprId<A>, RingError>
         requires pool { IsPool A.reads self.old }
         requires valid { (A.reads self.old.0).valid a }
@@ -48,7 +87,8 @@ impl<A: SymLeaf> ExprPool<A> {
         requires y_in { y < length self.old.1 }
         ensures same_under { self.new.0 ≡ self.old.0 }
         ensures grown { Grown A.grows A.reads self.old self.new }
-        ensures made { IfOk result (HasTree self.new (add_tree (tree_at self.old x) (tree_at self.old y))) }
+        ensures made { IfOk result (HasTree self.new
+            (add_tree (tree_at self.old x) (tree_at self.old y))) }
         ensures refused { IfErr result (λ e. e ≡ RingError.Memory) }
     {
         let degree_multiple = self.degree_multiple(x).max(self.degree_multiple(y));
@@ -66,7 +106,8 @@ impl<A: SymLeaf> ExprPool<A> {
         requires y_in { y < length self.old.1 }
         ensures same_under { self.new.0 ≡ self.old.0 }
         ensures grown { Grown A.grows A.reads self.old self.new }
-        ensures made { IfOk result (HasTree self.new (sub_tree (tree_at self.old x) (tree_at self.old y))) }
+        ensures made { IfOk result (HasTree self.new
+            (sub_tree (tree_at self.old x) (tree_at self.old y))) }
         ensures refused { IfErr result (λ e. e ≡ RingError.Memory) }
     {
         let degree_multiple = self.degree_multiple(x).max(self.degree_multiple(y));
@@ -98,8 +139,11 @@ impl<A: SymLeaf> ExprPool<A> {
         requires y_in { y < length self.old.1 }
         ensures same_under { self.new.0 ≡ self.old.0 }
         ensures grown { Grown A.grows A.reads self.old self.new }
-        ensures made { IfOk result (HasTree self.new (mul_tree (tree_at self.old x) (tree_at self.old y))) }
-        ensures overflow { (result ≡ Err RingError.DegreeOverflow) ↔ (2 ^ 64 ≤ degree_by cached_weight (term_at A.reads self.old x) + degree_by cached_weight (term_at A.reads self.old y)) }
+        ensures made { IfOk result (HasTree self.new
+            (mul_tree (tree_at self.old x) (tree_at self.old y))) }
+        ensures overflow { (result ≡ Err RingError.DegreeOverflow)
+            ↔ (2 ^ 64 ≤ degree_by cached_weight (term_at A.reads self.old x) + degree_by
+            cached_weight (term_at A.reads self.old y)) }
     {
         match self.degree_multiple(x).checked_add(self.degree_multiple(y)) {
             Some(degree_multiple) => self.insert(SymbolicExpr::Mul {

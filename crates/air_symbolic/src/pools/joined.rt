@@ -12,13 +12,14 @@ use crate::pools::pool::ExprPool;
 use air_field::{Field, RingError};
 
 impl<A: SymLeaf> ExprPool<A> {
-    /// The sum, folded step by step from the left; of none, 0.
+    /// The sum, folded step by step from the left; of none, 0. It refuses for want of memory alone.
     pub fn sum(&mut self, xs: &[ExprId<A>]) -> Result<ExprId<A>, RingError>
         requires pool { IsPool A.reads self.old }
         requires all_in { All (λ x. x < length self.old.1) xs.now }
         ensures grown { Grown A.grows A.reads self.old self.new }
         ensures made { IfOk result (IsSumOfAll A.reads A.F.ring A.F.eq self.old self.new xs.now) }
-        ensures stands { IfOk result (λ z. Stands A.F.ring (term_at A.reads self.new z) (join_terms add_term A.F.ring.nil (map (term_at A.reads self.old) xs.now))) }
+        ensures stands { IfOk result (λ z. Stands A.F.ring (term_at A.reads self.new z)
+            (join_terms add_term A.F.ring.nil (map (term_at A.reads self.old) xs.now))) }
         ensures refused { IfErr result (λ e. e ≡ RingError.Memory) }
     {
         let [first, rest @ ..] = xs else {
@@ -31,15 +32,18 @@ impl<A: SymLeaf> ExprPool<A> {
         Ok(total)
     }
 
-    /// The product, folded step by step from the left; of none, 1. It is refused with `DegreeOverflow` exactly where
-    /// a step needs a node and the degrees add past `usize`.
+    /// The product, folded step by step from the left; of none, 1. It is refused with `DegreeOverflow` only where a
+    /// step needs a node and the degrees add past `usize`, and always there unless memory is wanting before.
     pub fn product(&mut self, xs: &[ExprId<A>]) -> Result<ExprId<A>, RingError>
         requires pool { IsPool A.reads self.old }
         requires all_in { All (λ x. x < length self.old.1) xs.now }
         ensures grown { Grown A.grows A.reads self.old self.new }
-        ensures made { IfOk result (IsProductOfAll A.reads A.F.ring A.F.eq self.old self.new xs.now) }
-        ensures stands { IfOk result (λ z. Stands A.F.ring (term_at A.reads self.new z) (join_terms mul_term A.F.ring.one (map (term_at A.reads self.old) xs.now))) }
-        ensures overflow { result ≡ Err RingError.DegreeOverflow → ProductOverflows A.F.ring A.F.eq (A.reads self.new.0) (map (tree_at self.old) xs.now) }
+        ensures made { IfOk result (IsProductOfAll A.reads A.F.ring A.F.eq self.old self.new
+            xs.now) }
+        ensures stands { IfOk result (λ z. Stands A.F.ring (term_at A.reads self.new z)
+            (join_terms mul_term A.F.ring.one (map (term_at A.reads self.old) xs.now))) }
+        ensures overflow { result ≡ Err RingError.DegreeOverflow → ProductOverflows A.F.ring A.F.eq
+            (A.reads self.new.0) (map (tree_at self.old) xs.now) }
     {
         let [first, rest @ ..] = xs else {
             return self.constant(A::F::ONE);

@@ -155,7 +155,8 @@ impl<F: Field, EF: ExtensionField<F>> ExprPool<ExtLeaf<F, EF>> {
         Ok(lowered_at(table.as_slice(), id))
     }
 
-    /// The base expression with the same tree, not folded, and so with the same term; None exactly where a leaf of the extension alone occurs.
+    /// The base expression with the same tree, not folded, and so with the same term; None exactly where a leaf of the
+    /// extension alone occurs. It refuses for want of memory alone.
     pub fn to_base(
         &mut self,
         id: ExprId<ExtLeaf<F, EF>>,
@@ -164,8 +165,10 @@ impl<F: Field, EF: ExtensionField<F>> ExprPool<ExtLeaf<F, EF>> {
         requires here { id < length self.old.1 }
         ensures same_nodes { self.new.1 ≡ self.old.1 }
         ensures grown { Grown ext_grows (ext_reads F.ring F.eq EF.coefficients) self.old self.new }
-        ensures made { IfOk result (λ b. MatchOption b (HasExtOnly (tree_at self.old id)) (IsLowered self.old.0 self.new.0 (tree_at self.old id))) }
-        ensures term { IfOk result (λ b. IfSome b (HasTermOf EF.coefficients self.old id self.new.0)) }
+        ensures made { IfOk result (λ b. MatchOption b (HasExtOnly (tree_at self.old id))
+            (IsLowered self.old.0 self.new.0 (tree_at self.old id))) }
+        ensures term { IfOk result (λ b. IfSome b
+            (HasTermOf EF.coefficients self.old id self.new.0)) }
         ensures refused { IfErr result (λ e. e ≡ RingError.Memory) }
     {
         let marks = reached(*self.nodes.allocator(), self, &[id])?;

@@ -4,6 +4,7 @@ ghost use Rattle.std.specs.declared.cmp.Ordering.TheVariants.{Equal};
 ghost use Rattle.std.specs.List.{slice_get};
 
 use std::alloc::{AllocError, Global};
+use std::cmp::Reverse;
 use std::collections::BTreeMap;
 use std::marker::Model;
 
@@ -11,7 +12,8 @@ use std::marker::Model;
 #[derive(Drop)]
 pub struct NodeTable<N: Copy + Ord> {
     nodes: Vec<N>,
-    numbers: BTreeMap<N, usize>,
+    // the newest first: a search reads a block's keys from the first on, and new nodes mostly name new ones
+    numbers: BTreeMap<Reverse<N>, usize>,
 }
 
 impl<N: Copy + Ord> Model for NodeTable<N> {
@@ -26,6 +28,7 @@ impl<N: Copy + Ord> Model for NodeTable<N> {
 }
 
 impl<N: Copy + Ord> NodeTable<N> {
+    /// A table without nodes. It takes no memory.
     pub fn new(alloc: Global) -> Self
         ensures { result ≡ [] }
     {
@@ -35,10 +38,12 @@ impl<N: Copy + Ord> NodeTable<N> {
         }
     }
 
+    /// The allocator of the nodes.
     pub fn allocator(&self) -> &Global {
         self.nodes.allocator()
     }
 
+    /// How many nodes there are.
     pub fn len(&self) -> usize
         ensures { result ≡ length self.now }
     {
@@ -55,9 +60,10 @@ impl<N: Copy + Ord> NodeTable<N> {
 
     /// The number of a node, if it is there.
     pub fn find(&self, node: &N) -> Option<usize>
-        ensures { MatchOption result ((i : ℕ) → slice_get self.now i ≢ Some node.now) (λ i. slice_get self.now i ≡ Some node.now) }
+        ensures { MatchOption result ((i : ℕ) → slice_get self.now i ≢ Some node.now)
+            (λ i. slice_get self.now i ≡ Some node.now) }
     {
-        self.numbers.get(node).copied()
+        self.numbers.get(&Reverse(*node)).copied()
     }
 
     /// One more node, and its number. Where memory is refused, nothing has changed.
@@ -70,7 +76,7 @@ impl<N: Copy + Ord> NodeTable<N> {
     {
         let number = self.nodes.len();
         self.nodes.reserve(1)?;
-        self.numbers.insert(node, number)?;
+        self.numbers.insert(Reverse(node), number)?;
         self.nodes.push_reserved(node);
         Ok(number)
     }

@@ -30,7 +30,12 @@ impl<F: Copy> BaseAir<F> for Surrounded<F> {
 
     ghost num_public_values = { λ _. 1 };
 
-    ghost beside = { λ a. record { preprocessed = Some a.table; periodic = a.periodic.items; cells = a.cells.items } };
+    ghost beside = { λ a. record {
+      preprocessed = Some a.table;
+      periodic = a.periodic.items;
+      cells =
+          a.cells.items;
+    } };
 
     fn width(&self) -> usize {
         1

@@ -28,7 +28,12 @@ impl<F: Copy> BaseAir<F> for Tables<F> {
 
     ghost num_public_values = { λ a. a.num_public_values };
 
-    ghost beside = { λ a. record { preprocessed = a.table; periodic = a.periodic.items; cells = a.cells.items } };
+    ghost beside = { λ a. record {
+      preprocessed = a.table;
+      periodic = a.periodic.items;
+      cells =
+          a.cells.items;
+    } };
 
     fn width(&self) -> usize {
         self.width

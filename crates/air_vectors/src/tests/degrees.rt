@@ -23,7 +23,8 @@ use std::test::Fail;
 pub struct Steps {}
 
 impl<F: Copy> BaseAir<F> for Steps {
-    ghost declared = { λ _. Base (mul_term (mul_term (leaf_term transition) (leaf_term transition)) (leaf_term (main 0 0))) ∷ [] };
+    ghost declared = { λ _. Base (mul_term (mul_term (leaf_term transition) (leaf_term transition))
+        (leaf_term (main 0 0))) ∷ [] };
 
     ghost width = { λ _. 1 };
 
@@ -65,7 +66,8 @@ pub struct Cycles<F> {
 }
 
 impl<F: Copy> BaseAir<F> for Cycles<F> {
-    ghost declared = { λ _. Base (mul_term (leaf_term (periodic 0)) (leaf_term (periodic 1))) ∷ [] };
+    ghost declared = { λ _. Base (mul_term (leaf_term (periodic 0)) (leaf_term (periodic 1)))
+        ∷ [] };
 
     ghost width = { λ _. 0 };
 
@@ -104,7 +106,8 @@ impl<AB: AirBuilder> Air<AB> for Cycles<AB::F> {
 struct Wide {}
 
 impl<F: Copy> BaseAir<F> for Wide {
-    ghost declared = { λ _. Base (leaf_term (main 0 0)) ∷ Base (leaf_term (main 1 1)) ∷ Base (leaf_term (main 1 2)) ∷ [] };
+    ghost declared = { λ _. Base (leaf_term (main 0 0)) ∷ Base (leaf_term (main 1 1)) ∷ Base
+        (leaf_term (main 1 2)) ∷ [] };
 
     ghost width = { λ _. 4 };
 

@@ -22,7 +22,7 @@ use std::test::Fail;
 
 /// The first row holds public values 0 and 1, each further row the second number of the one before it and the sum of
 /// both, and the last row's second number is public value 2.
-struct Fibonacci {}
+pub struct Fibonacci {}
 
 impl<F: Copy> BaseAir<F> for Fibonacci {
     ghost declared = { λ _. fibonacci };

@@ -220,7 +220,8 @@ fn product_at(
     builder: &mut SymbolicAirBuilder<BabyBear, BinomialExtensionField>,
     id: ExprId<ExtLeaf<BabyBear, BinomialExtensionField>>,
 ) -> Option<BinomialExtensionField>
-    requires { ⟦<SymbolicAirBuilder<BabyBear, BinomialExtensionField> as AirBuilder>⟧.ready builder.old }
+    requires { ⟦<SymbolicAirBuilder<BabyBear, BinomialExtensionField> as AirBuilder>⟧.ready
+        builder.old }
 {
     product_of(builder.ext_ring(), id)
 }
@@ -231,7 +232,8 @@ fn recorded_product(
     condition: BabyBear,
     x: BinomialExtensionField,
 ) -> Result<Option<BinomialExtensionField>, AirError>
-    requires { ⟦<SymbolicAirBuilder<BabyBear, BinomialExtensionField> as AirBuilder>⟧.ready builder.old }
+    requires { ⟦<SymbolicAirBuilder<BabyBear, BinomialExtensionField> as AirBuilder>⟧.ready
+        builder.old }
 {
     assert_once(builder, condition, x)?;
     let Some(first) = builder.extension_constraints().first().copied() else {

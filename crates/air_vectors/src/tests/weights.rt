@@ -1,16 +1,14 @@
 //! Inferred degrees in domains in which the transition selector has a weight.
 ghost use Rattle.air_builder.specs.Beside.{nothing_beside};
-ghost use Rattle.air_vectors.specs.Weighed.{twice, fibonacci};
+ghost use Rattle.air_vectors.specs.TestAirs.{twice};
 
 use crate::tests::checks::no_tables;
 use crate::tests::degrees::{Cycles, Steps};
+use crate::tests::folds::Fibonacci;
 use crate::tests::{columns, weighted};
 use air_builder::{Air, AirBuilder, AirError, BaseAir, BoundaryPublic};
 use air_field::RowMajorMatrix;
-use p3_air::author::{
-    Current, Equal, FirstRow, LastRow, Next, Public, Square, Sum, Transition, When, Zero,
-    assert_all,
-};
+use p3_air::author::{Square, Transition, Zero, assert_all};
 use std::alloc::Global;
 use std::test::Fail;
 
@@ -50,54 +48,6 @@ impl<F: Copy> BaseAir<F> for Twice {
 impl<AB: AirBuilder> Air<AB> for Twice {
     fn eval(&self, builder: &mut AB) -> Result<(), AirError> {
         assert_all(builder, &Zero(Square(Transition)))
-    }
-}
-
-/// Columns a and b, in which each row leads to the next.
-struct Fibonacci {}
-
-impl<F: Copy> BaseAir<F> for Fibonacci {
-    ghost declared = { λ _. fibonacci };
-
-    ghost width = { λ _. 2 };
-
-    ghost num_public_values = { λ _. 3 };
-
-    ghost beside = { λ _. nothing_beside };
-
-    fn width(&self) -> usize {
-        2
-    }
-
-    fn num_public_values(&self) -> usize {
-        3
-    }
-
-    fn preprocessed_trace(&self) -> Option<&RowMajorMatrix<F>> {
-        None
-    }
-
-    fn periodic_columns(&self) -> &[Vec<F>] {
-        &[]
-    }
-
-    fn public_boundary_io(&self) -> &[BoundaryPublic] {
-        &[]
-    }
-}
-
-impl<AB: AirBuilder> Air<AB> for Fibonacci {
-    fn eval(&self, builder: &mut AB) -> Result<(), AirError> {
-        let first_a = Equal(Current(0), Public(0));
-        let first_b = Equal(Current(1), Public(1));
-        let step_a = Equal(Next(0), Current(1));
-        let step_b = Equal(Next(1), Sum(Current(0), Current(1)));
-        let constraints = (
-            When(FirstRow, (first_a, first_b)),
-            When(Transition, (step_a, step_b)),
-            When(LastRow, Equal(Current(1), Public(2))),
-        );
-        assert_all(builder, &constraints)
     }
 }
 

@@ -12,6 +12,15 @@ use air_builder::{
 };
 use std::cell::Cell;
 
+/// The rows that a selector names.
+#[derive(Clone, Copy)]
+pub enum Rows {
+    First,
+    Last,
+    /// All but the last.
+    Others,
+}
+
 /// An assertion without a name.
 #[derive(Clone, Copy)]
 pub enum Assertion<E> {
@@ -27,6 +36,8 @@ pub enum Assertion<E> {
     ZeroWhereDifferent(E, E, E),
     /// It is zero in each window of two rows.
     ZeroInWindow(E),
+    /// It is zero on some rows.
+    ZeroOn(Rows, E),
     /// The batch holds where neither of the first two is zero.
     BatchUnderBoth(E, E, Batch<E>),
 }
@@ -94,6 +105,36 @@ fn assert_in_window<AB: AirBuilder>(builder: &mut AB, x: AB::Expr) -> Result<(),
     Ok(())
 }
 
+fn assert_on_first<AB: AirBuilder>(builder: &mut AB, x: AB::Expr) -> Result<(), AirError>
+    requires ready { AB.ready builder.old }
+    requires x_in { AB.Ring.has (AB.ring_of builder.old) x }
+    ensures { OnOk result (AB.kept builder.old builder.new) }
+{
+    let mut filter = builder.when_first_row()?;
+    filter.assert_zero(x)?;
+    Ok(())
+}
+
+fn assert_on_last<AB: AirBuilder>(builder: &mut AB, x: AB::Expr) -> Result<(), AirError>
+    requires ready { AB.ready builder.old }
+    requires x_in { AB.Ring.has (AB.ring_of builder.old) x }
+    ensures { OnOk result (AB.kept builder.old builder.new) }
+{
+    let mut filter = builder.when_last_row()?;
+    filter.assert_zero(x)?;
+    Ok(())
+}
+
+fn assert_on_others<AB: AirBuilder>(builder: &mut AB, x: AB::Expr) -> Result<(), AirError>
+    requires ready { AB.ready builder.old }
+    requires x_in { AB.Ring.has (AB.ring_of builder.old) x }
+    ensures { OnOk result (AB.kept builder.old builder.new) }
+{
+    let mut filter = builder.when_transition()?;
+    filter.assert_zero(x)?;
+    Ok(())
+}
+
 // An assertion over the extension under a name, where a condition holds.
 fn assert_named_under<AB: NamedExtensionBuilder, N: Name>(
     builder: &mut AB,
@@ -131,6 +172,9 @@ pub fn assert_row<AB: AirBuilder>(
         }
         Assertion::ZeroWhereDifferent(x, y, z) => assert_filtered(builder, x, y, z),
         Assertion::ZeroInWindow(x) => assert_in_window(builder, x),
+        Assertion::ZeroOn(Rows::First, x) => assert_on_first(builder, x),
+        Assertion::ZeroOn(Rows::Last, x) => assert_on_last(builder, x),
+        Assertion::ZeroOn(Rows::Others, x) => assert_on_others(builder, x),
         Assertion::BatchUnderBoth(outer, inner, batch) => {
             assert_batch_under_both(builder, outer, inner, batch)
         }

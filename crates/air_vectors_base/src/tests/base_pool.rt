@@ -1,6 +1,6 @@
 //! Worked rows of the base pool.
 use crate::tests::bench::{Bench, TableLeaf};
-use crate::tests::table::{LeafKind, Row, Shape, Step};
+use crate::tests::table::{LeafKind, RingStep, Row, Shape, Step};
 use air_field::{BabyBear, Field, RingError};
 use air_symbolic::{BaseLeaf, ExprId};
 use air_variables::{BaseEntry, SymbolicVariable};
@@ -161,6 +161,28 @@ fn leaves_and_nodes_that_are_not_folded(rt: HostRuntime) -> Result<(), Fail> {
         Row::Make(Step::InsertMul(1, 3)),
         Row::Node(7, Shape::Mul(1, 3, 2)),
         Row::Count(8),
+    ];
+    check_rows(&rt, rt.alloc(), &rows)?;
+    Ok(())
+}
+
+// Of constants each is a constant: 2 times 5; 5 times 4; 3 + 4 - 24; -2 times 4; 5 times 8.
+#[test]
+fn operations_of_every_ring(rt: HostRuntime) -> Result<(), Fail> {
+    let rows = [
+        Row::Make(Step::Constant(5)),
+        Row::Make(Step::Constant(3)),
+        Row::Make(Step::Constant(4)),
+        Row::Make(Step::Ring(RingStep::Double(0))),
+        Row::Constant(3, Some(10)),
+        Row::Make(Step::Ring(RingStep::BoolCheck(0))),
+        Row::Constant(4, Some(20)),
+        Row::Make(Step::Ring(RingStep::Xor(1, 2))),
+        Row::Constant(5, Some(2013265904)),
+        Row::Make(Step::Ring(RingStep::AndNot(1, 2))),
+        Row::Constant(6, Some(2013265913)),
+        Row::Make(Step::Ring(RingStep::Scaled(0, 3))),
+        Row::Constant(7, Some(40)),
     ];
     check_rows(&rt, rt.alloc(), &rows)?;
     Ok(())

@@ -2,8 +2,8 @@
 //! run time to be of the pool.
 ghost use Rattle.std.specs.Prelude.{◌<◌, length, IsTrue, All, IfOk};
 
-use crate::tests::table::{LeafKind, Row, Shape, Step};
-use air_field::{Field, RingError};
+use crate::tests::table::{LeafKind, RingStep, Row, Shape, Step};
+use air_field::{Algebra, Field, RingError};
 use air_symbolic::{Degrees, ExprId, ExprPool, LeafWeight, SymLeaf, SymbolicExpr};
 use std::alloc::Global;
 use std::marker::Model;
@@ -198,6 +198,33 @@ impl<A: SymLeaf> Bench<A> {
         }
     }
 
+    fn in_ring(&mut self, step: RingStep) -> Result<ExprId<A>, RingError> {
+        match step {
+            RingStep::Double(x) => {
+                let x = self.at(x)?;
+                self.pool.double(x)
+            }
+            RingStep::BoolCheck(x) => {
+                let x = self.at(x)?;
+                self.pool.bool_check(x)
+            }
+            RingStep::Xor(x, y) => {
+                let x = self.at(x)?;
+                let y = self.at(y)?;
+                self.pool.xor(x, y)
+            }
+            RingStep::AndNot(x, y) => {
+                let x = self.at(x)?;
+                let y = self.at(y)?;
+                self.pool.andn(x, y)
+            }
+            RingStep::Scaled(x, power) => {
+                let x = self.at(x)?;
+                self.pool.mul_2exp_u64(x, power)
+            }
+        }
+    }
+
     fn constant_at(&self, place: usize) -> Result<Option<A::F>, RingError> {
         let x = self.at(place)?;
         Ok(self.pool.as_const(x))
@@ -218,7 +245,11 @@ impl<A: SymLeaf> Bench<A> {
         self.pool.degree_multiple_with_transition(x, weight)
     }
 
-    fn degrees_at(&self, places: &[usize], weight: LeafWeight<'_>) -> Result<Degrees, RingError> {
+    pub fn degrees_at(
+        &self,
+        places: &[usize],
+        weight: LeafWeight<'_>,
+    ) -> Result<Degrees, RingError> {
         let all = self.all_at(places)?;
         let roots = all.as_slice();
         if self.contains_all(roots) {
@@ -247,6 +278,7 @@ impl<A: TableLeaf> Bench<A> {
             Step::InsertMul(x, y) => self.insert_mul(x, y),
             Step::Sum(places) => self.sum(places),
             Step::Product(places) => self.product(places),
+            Step::Ring(step) => self.in_ring(step),
         }
     }
 

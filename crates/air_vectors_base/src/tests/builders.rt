@@ -2,7 +2,7 @@
 ghost use Rattle.std.specs.Prelude.{◌≡◌, IfOk};
 
 use crate::tests::assertion::{
-    Assertion, NamedAssertion, assert_lazily, assert_named_row, assert_row,
+    Assertion, NamedAssertion, Rows, assert_lazily, assert_named_row, assert_row,
 };
 use crate::tests::filters::{Batch, NamedBatch};
 use crate::tests::numbers::number;
@@ -86,6 +86,17 @@ fn filters_multiply(rt: HostRuntime) -> Result<(), Fail> {
     }
     assert_values(&rt, &log, &[0, 1, 30, 8, 6]);
     assert_failures(&rt, &log, &[(1, None), (2, None), (3, None), (4, None)]);
+    Ok(())
+}
+
+// The log's rows are first and last rows, and have a next row too.
+#[test]
+fn selectors_name_rows(rt: HostRuntime) -> Result<(), Fail> {
+    let mut log = ValueLog::new(rt.alloc(), 0);
+    for (rows, n) in [(Rows::First, 3), (Rows::Last, 4), (Rows::Others, 5)] {
+        assert_on_log(&mut log, Assertion::ZeroOn(rows, number(n)))?;
+    }
+    assert_values(&rt, &log, &[3, 4, 5]);
     Ok(())
 }
 

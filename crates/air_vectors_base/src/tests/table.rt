@@ -22,6 +22,19 @@ pub enum Step<'a> {
     InsertMul(usize, usize),
     Sum(&'a [usize]),
     Product(&'a [usize]),
+    /// An operation that every ring has.
+    Ring(RingStep),
+}
+
+/// The operations that every ring makes of its other ones.
+#[derive(Clone, Copy, Debug)]
+pub enum RingStep {
+    Double(usize),
+    BoolCheck(usize),
+    Xor(usize, usize),
+    AndNot(usize, usize),
+    /// Times this power of two.
+    Scaled(usize, u64),
 }
 
 /// What a leaf is.

@@ -24,7 +24,7 @@ fn rewritten<A: WireLeaf>(alloc: Global, text: &str) -> Result<String, Fail> {
 
 // What is written for the expression at a place, which is read again into the same pool: the same number answers that
 // the same tree was read.
-fn written<A: TableLeaf + WireLeaf>(bench: &mut Bench<A>, place: usize) -> Result<Value, Fail> {
+pub fn written<A: TableLeaf + WireLeaf>(bench: &mut Bench<A>, place: usize) -> Result<Value, Fail> {
     let alloc = bench.alloc();
     let x = bench.at(place)?;
     let value = to_flat_value(alloc, &bench.pool, x)

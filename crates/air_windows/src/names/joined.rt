@@ -16,6 +16,7 @@ pub struct Joined<A, B> {
 }
 
 impl<A, B> Joined<A, B> {
+    /// The name of `right` in the namespace `left`.
     pub fn new(left: A, right: B) -> Self
         ensures { result ≡ record { left = left; right = right } }
     {

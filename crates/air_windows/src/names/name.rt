@@ -6,6 +6,7 @@ use std::fmt::Display;
 
 /// The name of a constraint, which is evaluated at most once.
 pub trait Name: Drop {
+    /// What the evaluated name is, which is displayed.
     type Output: Display + Drop;
 
     /// The name may be evaluated.
@@ -14,6 +15,8 @@ pub trait Name: Drop {
     /// A text that the evaluated name may display. `None` is a text of which nothing is said.
     ghost displays: { Self → Option (List ℕ) → Type 0 };
 
+    /// Evaluates the name, which must be one that may be evaluated: of a closure, what the closure requires must hold.
+    /// It refuses for want of memory alone.
     fn evaluate(self) -> Result<Self::Output, AllocError>
         requires { can_evaluate self }
         ensures { IfOk result (λ shown. displays self (Self.Output.output shown)) };

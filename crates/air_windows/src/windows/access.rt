@@ -1,7 +1,7 @@
 //! Access to a window's two rows.
 ghost use Rattle.std.specs.Prelude.{◌≡◌, ℕ, List, length, slice_get};
 
-/// A current and a next row of one width.
+/// A current and a next row of one width. A value is read only where it is a window: a matrix only if it has two rows.
 pub trait WindowAccess<T: Copy> {
     /// The value is a window.
     ghost is_window: { Self → Type 0 };

@@ -30,7 +30,7 @@ impl<'a, T: Copy> RowWindow<'a, T> {
     ghost use Rattle.std.specs.Prelude.{take, drop, ◌*◌, IfOk, OnOk, IfErr};
     ghost use Rattle.air_windows.specs.WindowShapes.{IsNoWindow};
 
-    /// The window of a view of two rows.
+    /// The window of a view of two rows. A view of another shape is refused with `WindowShape`. It takes no memory.
     pub fn from_view(view: &RowMajorMatrixView<'a, T>) -> Result<Self, AirError>
         ensures shape { OnOk result (length view.now.values.now ≡ 2 * view.now.width) }
         ensures current { IfOk result (λ w. w.current.now ≡ take view.now.width view.now.values.now) }
@@ -48,7 +48,7 @@ impl<'a, T: Copy> RowWindow<'a, T> {
         })
     }
 
-    /// The window of two rows of one width.
+    /// The window of two rows, which must be of one width.
     pub fn from_two_rows(current: &'a [T], next: &'a [T]) -> Self
         requires { length current.now ≡ length next.now }
         ensures current { result.current.now ≡ current.now }

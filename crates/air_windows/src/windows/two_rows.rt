@@ -12,6 +12,7 @@ pub struct TwoRows<T> {
 }
 
 impl<T: Copy> TwoRows<T> {
+    /// The window of two rows, which must be of one width.
     pub fn new(current: Vec<T>, next: Vec<T>) -> Self
         requires { length current.items ≡ length next.items }
         ensures current { result.current.items ≡ current.items }

@@ -1,14 +1,13 @@
-use Rattle.std.proofs.Common.{◌+◌, ◌<◌, ◌≤◌, ◌^◌}
+use Rattle.std.proofs.Common.{◌≤◌}
 use Rattle.air_field.specs.Degree.{degree_by}
 use Rattle.air_symbolic.specs.Weights.{leaf_weight}
 use Rattle.air_symbolic.specs.Pools.{term_at}
 use Rattle.air_symbolic.specs.DegreeTables.{AnswersDegrees}
-use Rattle.air_symbolic.proofs.pools.pool.ExprPool.degree_table.Given as goal
+use Rattle.air_symbolic.proofs.pools.pool.ExprPool.table_over.Given as goal
 
 -- the first numbers' degrees are known, and took a turn each
 abbrev pub invariant-loop-number : goal.invariant-loop-number
 invariant-loop-number g l = record {
   degrees : AnswersDegrees (λ i. degree_by (leaf_weight l.weight) (term_at g.A.SymLeaf.reads l.self i)) l.number l.table.degrees.items;
-  turns : l.table.turns ≤ l.number + g.A.SymLeaf.nodes_under l.self.0;
-  few : l.table.turns < 2 ^ 64 + l.number;
+  turns : l.table.turns ≤ l.number;
 }

@@ -1,0 +1,53 @@
+//! Degrees of expressions of both pools.
+ghost use Rattle.std.specs.Prelude.{◌≡◌, ◌≢◌, ◌<◌, ◌≤◌, ◌+◌, ◌⊎◌, length, map, All, IfOk, IfErr};
+ghost use Rattle.air_field.specs.Degree.{degree_by};
+ghost use Rattle.air_symbolic.specs.BaseLeaves.{base_reads};
+ghost use Rattle.air_symbolic.specs.ExtLeaves.{ext_reads};
+ghost use Rattle.air_symbolic.specs.Pools.{IsPool, term_at};
+ghost use Rattle.air_symbolic.specs.Weights.{leaf_weight, SomeOverflows};
+
+use crate::leaves::base_leaf::BaseLeaf;
+use crate::leaves::ext_leaf::ExtLeaf;
+use crate::pools::expr::ExprId;
+use crate::pools::pool::ExprPool;
+use crate::pools::weight::{Degrees, LeafWeight};
+use air_field::{ExtensionField, Field, RingError};
+
+impl<F: Field, EF: ExtensionField<F>> ExprPool<ExtLeaf<F, EF>> {
+    /// The degrees, by the leaves' weights, of expressions of the base pool and of expressions of this one. Each node
+    /// of either pool is worked out at most once for all of them. It is refused with `DegreeOverflow` only where the
+    /// degree of some root passes `usize`, and otherwise only for want of memory.
+    pub fn degrees_with_base(
+        &self,
+        base_roots: &[ExprId<BaseLeaf<F>>],
+        roots: &[ExprId<ExtLeaf<F, EF>>],
+        weight: LeafWeight<'_>,
+    ) -> Result<(Degrees, Degrees), RingError>
+        requires pool { IsPool (ext_reads F.ring F.eq EF.coefficients) self.now }
+        requires base_in { All (λ x. x < length self.now.0.1) base_roots.now }
+        requires all_in { All (λ x. x < length self.now.1) roots.now }
+        ensures base { IfOk result (λ d. d.0.values.items ≡ map
+            (λ x. degree_by (leaf_weight weight.entry) (term_at base_reads self.now.0 x))
+            base_roots.now) }
+        ensures values { IfOk result (λ d. d.1.values.items ≡ map
+            (λ x. degree_by (leaf_weight weight.entry)
+            (term_at (ext_reads F.ring F.eq EF.coefficients) self.now x))
+            roots.now) }
+        ensures turns { IfOk result (λ d.
+            d.0.turns + d.1.turns ≤ length self.now.0.1 + length self.now.1) }
+        ensures refused { IfErr result (λ e. e ≢ RingError.Memory →
+            SomeOverflows (map
+            (λ x. degree_by (leaf_weight weight.entry) (term_at base_reads self.now.0 x))
+            base_roots.now)
+            ⊎ SomeOverflows (map
+            (λ x. degree_by (leaf_weight weight.entry)
+            (term_at (ext_reads F.ring F.eq EF.coefficients) self.now x))
+            roots.now)) }
+    {
+        let base_table = self.base().degree_table(self.base().len(), weight)?;
+        let base = self.base().degrees_from(&base_table, base_roots)?;
+        let table = self.table_over(self.len(), weight, &base_table)?;
+        let degrees = self.degrees_from(&table, roots)?;
+        Ok((base, degrees))
+    }
+}
