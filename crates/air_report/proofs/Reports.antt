@@ -1,9 +1,9 @@
 -- The report grows by a row's places.
-use Rattle.std.proofs.Common.{◌≡◌, ℕ, ◌+◌, ◌≤◌, List, ◌++◌, map, length, Bool, Option, None, Some, refl, sym, ◌∙◌, ap, subst, arith, add-one}
+use Rattle.std.proofs.Common.{◌≡◌, ℕ, ◌+◌, List, ◌++◌, map, length, Bool, Option, None, Some, refl, sym, ◌∙◌, ap, subst, arith, add-one}
 use Rattle.std.proofs.lemmas.List.{length-map, map-append}
 use Rattle.std.proofs.Math.Dec.{eqb-suc-zero}
 use Rattle.air_field.specs.Ring.{CommRing}
-use Rattle.air_field.specs.Assignment.{Trace, row_assignment}
+use Rattle.air_field.specs.Assignment.{Trace}
 use Rattle.air_builder.specs.Assertion.{Assertion}
 use Rattle.air_report.specs.ReportLaws.{report_of-more}
 use Rattle.air_windows.specs.declared.boundary.BoundaryPublic.{BoundaryPublic}
@@ -12,7 +12,6 @@ use Rattle.air_report.specs.Checks.{CheckedRow, listed}
 use Rattle.air_report.specs.Given.{Given, given_trace, height}
 use Rattle.air_report.specs.Report.{failure_place, report_of, count_shown, IsReached}
 use Rattle.air_report.specs.declared.debug.failure.ConstraintFailure.{ConstraintFailure}
-use Rattle.air_report.specs.Debug.{nonzero_from}
 
 module _ {F : Type 0} (r : CommRing F) (eq : F → F → Bool) (trace : Trace F) where
   -- what a checked row adds are its places

@@ -1,7 +1,7 @@
 -- What the debug builder refuses of an assertion whose value is zero.
-use Rattle.std.specs.Prelude.{◌≡◌, ℕ, List, [], ◌∷◌, Bool, true, false, refl}
+use Rattle.std.specs.Prelude.{◌≡◌, ℕ, [], ◌∷◌, Bool, true, false, refl}
 use Rattle.std.proofs.Common.{inl, inr, sym, ◌∙◌}
-use Rattle.air_field.specs.Term.{Term, const_term}
+use Rattle.air_field.specs.Term.{const_term}
 use Rattle.air_builder.specs.Assertion.{Assertion, Base}
 use Rattle.air_builder.specs.Refusals.{none_missing}
 use Rattle.air_windows.specs.declared.errors.AirError.{AirError}

@@ -1,5 +1,5 @@
 -- Checks of an AIR that has nothing beside its main trace.
-use Rattle.std.specs.Prelude.{◌≡◌, ◌⊎◌, ℕ, ◌-◌, ◌<◌, List, [], ◌∷◌, ◌++◌, length, map, take, Bool, Option, None, Some, slice_get, refl}
+use Rattle.std.specs.Prelude.{◌≡◌, ℕ, ◌-◌, ◌<◌, List, [], ◌∷◌, ◌++◌, length, map, Bool, Option, None, Some, slice_get, refl}
 use Rattle.std.specs.Global.{Global}
 use Rattle.std.proofs.Common.{inl, inr, subst, sym, ap, ◌∙◌, arith}
 use Rattle.std.proofs.lemmas.List.{take_all, append-nil}
@@ -10,7 +10,7 @@ use Rattle.air_builder.specs.Assertion.{Assertion}
 use Rattle.air_builder.specs.Beside.{nothing_beside}
 use Rattle.air_windows.specs.declared.errors.AirError.{AirError}
 use Rattle.air_windows.specs.declared.errors.AirError.TheVariants.{PreprocessedHeight, PeriodNotPowerOfTwo, PeriodDoesNotDivide, Boundary, EmptyTrace}
-use Rattle.air_report.specs.Cells.{left_of, cell_place, IsCellFault}
+use Rattle.air_report.specs.Cells.{left_of, IsCellFault}
 use Rattle.air_report.specs.Checks.{CheckRefuses, IsReport}
 use Rattle.air_report.specs.Given.{given}
 use Rattle.air_report.specs.DebugLaws.{IsFull}

@@ -1,6 +1,6 @@
 //! The log of a row: how many assertions there were, and which failed.
 ghost use Rattle.std.specs.Prelude.{◌≡◌, ◌+◌, ◌^◌, ℕ, List, Option, false, IfOk, OnOk, OnErr, IfErr};
-ghost use Rattle.air_report.specs.DebugLabels.{KeepsText, LogsOne, LogRefuses};
+ghost use Rattle.air_report.specs.DebugLabels.{KeepsText, LogsFailure, LogsOne, LogRefuses};
 ghost use Rattle.air_report.specs.DebugRow.{row_of};
 
 use crate::debug::builder::DebugConstraintBuilder;
@@ -8,6 +8,7 @@ use crate::debug::failure::ConstraintFailure;
 use air_builder::{AirError, Name};
 use air_field::{ExtensionField, Field};
 use std::alloc::{AllocError, Global};
+use std::mem;
 use std::string::ToString;
 
 /// The label of a failure: what the name displays, or none where that is empty.
@@ -24,8 +25,34 @@ fn label_of<N: Name>(alloc: Global, name: N) -> Result<Option<String>, AllocErro
     }
 }
 
+/// Keeps a failure, with what its name displays.
+fn keep_failure<N: Name>(
+    failures: &mut Vec<ConstraintFailure>,
+    row: usize,
+    constraint: usize,
+    name: N,
+) -> Result<(), AirError>
+    requires { N.can_evaluate name }
+    ensures ok { OnOk result (LogsFailure row constraint (N.displays name) failures.old.items
+        failures.new.items) }
+    ensures err { OnErr result (failures.new.items ≡ failures.old.items) }
+    ensures refused { IfErr result (λ e. e ≡ AirError.Memory) }
+{
+    let label = label_of(*failures.allocator(), name)?;
+    let failure = ConstraintFailure {
+        row,
+        constraint,
+        label,
+    };
+    if failures.push(failure).is_err() {
+        return Err(AirError::Memory);
+    }
+    Ok(())
+}
+
 impl<'a, F: Field, EF: ExtensionField<F>> DebugConstraintBuilder<'a, F, EF> {
     /// Counts an assertion. Where it doesn't hold its failure is kept, and then alone the name is evaluated.
+    #[inline(always)]
     pub(crate) fn log<N: Name>(&mut self, holds: bool, name: N) -> Result<(), AirError>
         requires { holds ≡ false → N.can_evaluate name }
         ensures keeps { row_of self.new ≡ row_of self.old }
@@ -40,15 +67,12 @@ impl<'a, F: Field, EF: ExtensionField<F>> DebugConstraintBuilder<'a, F, EF> {
             return Err(AirError::CountOverflow);
         }
         if !holds {
-            let label = label_of(*self.failures.allocator(), name)?;
-            let failure = ConstraintFailure {
-                row: self.row_index,
-                constraint: self.constraint_index,
-                label,
-            };
-            if self.failures.push(failure).is_err() {
-                return Err(AirError::Memory);
-            }
+            // the failures alone are lent to the call, so that a row's builder needs no place in memory
+            let none = Vec::new(*self.failures.allocator());
+            let mut failures = mem::replace(&mut self.failures, none);
+            let kept = keep_failure(&mut failures, self.row_index, self.constraint_index, name);
+            self.failures = failures;
+            kept?;
         }
         self.constraint_index += 1;
         Ok(())

@@ -19,6 +19,7 @@ impl<'a, F: Field, EF: ExtensionField<F> + 'static> NamedAirBuilder
     ghost named_laws = { debug_named_laws (is_zero_at F.ring EF.over F.eq EF.eq) row_of
         (λ b. b.constraint_index) (λ b. b.failures.items) };
 
+    #[inline(always)]
     fn assert_zero_named<N: Name>(&mut self, x: F, name: N) -> Result<(), AirError>
         requires can_evaluate { F.eq x F.ring.nil ≡ false → N.can_evaluate name }
         ensures keeps { row_of self.new ≡ row_of self.old }
