@@ -11,7 +11,22 @@ use crate::leaves::base_leaf::BaseLeaf;
 use crate::pools::expr::ExprId;
 use crate::pools::pool::ExprPool;
 use air_field::{Field, FromVar, RingError};
-use air_variables::SymbolicVariable;
+use air_variables::{BaseEntry, SymbolicVariable};
+
+// Where a leaf is looked for first: leaves that are used together have places of their own.
+fn place_of<F>(a: &BaseLeaf<F>) -> usize {
+    match a {
+        BaseLeaf::Variable(v) => match v.entry {
+            BaseEntry::Main { offset } => v.index.wrapping_mul(2).wrapping_add(offset),
+            BaseEntry::Preprocessed { offset } => v.index.wrapping_mul(2).wrapping_add(offset),
+            _ => v.index,
+        },
+        BaseLeaf::IsFirstRow => 253,
+        BaseLeaf::IsLastRow => 254,
+        BaseLeaf::IsTransition => 255,
+        BaseLeaf::Constant(_) => 0,
+    }
+}
 
 impl<F: Field> ExprPool<BaseLeaf<F>> {
     /// The expression of a leaf, which means the leaf's term.
@@ -23,7 +38,7 @@ impl<F: Field> ExprPool<BaseLeaf<F>> {
             (base_term a) self.new) }
         ensures refused { IfErr result (λ e. e ≡ RingError.Memory) }
     {
-        self.leaf(a)
+        self.leaf_at(place_of(&a), a)
     }
 
     /// The expression of a variable.

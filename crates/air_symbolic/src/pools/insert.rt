@@ -80,6 +80,23 @@ impl<A: SymLeaf> ExprPool<A> {
         self.insert(SymbolicExpr::Leaf(a))
     }
 
+    // The same, looked for first where the last leaf of a place was.
+    pub(crate) fn leaf_at(&mut self, place: usize, a: A) -> Result<ExprId<A>, RingError>
+        requires pool { IsPool A.reads self.old }
+        requires valid { (A.reads self.old.0).valid a }
+        ensures same_under { self.new.0 ≡ self.old.0 }
+        ensures grown { Grown A.grows A.reads self.old self.new }
+        ensures made { IfOk result (HasTree self.new (leaf_tree a)) }
+        ensures refused { IfErr result (λ e. e ≡ RingError.Memory) }
+    {
+        if let Some(number) = self.nodes.recall(place, &SymbolicExpr::Leaf(a)) {
+            return Ok(ExprId::new(number));
+        }
+        let id = self.leaf(a)?;
+        self.nodes.remember(place, id.number());
+        Ok(id)
+    }
+
     /// The sum, not folded.
     pub fn insert_add(&mut self, x: ExprId<A>, y: ExprId<A>) -> Result<ExprId<A>, RingError>
         requires pool { IsPool A.reads self.old }

@@ -1,5 +1,5 @@
 //! Nodes in the order of their numbers, and the number of each in an ordered map.
-ghost use Rattle.std.specs.Prelude.{◌≡◌, ◌≢◌, ◌<◌, ◌++◌, [], ◌∷◌, ℕ, length, Some, MatchOption, IfOk, OnErr};
+ghost use Rattle.std.specs.Prelude.{◌≡◌, ◌≢◌, ◌<◌, ◌++◌, [], ◌∷◌, ℕ, length, Some, MatchOption, IfOk, OnErr, IfSome, true};
 ghost use Rattle.std.specs.declared.cmp.Ordering.TheVariants.{Equal};
 ghost use Rattle.std.specs.List.{slice_get};
 
@@ -8,12 +8,17 @@ use std::cmp::Reverse;
 use std::collections::BTreeMap;
 use std::marker::Model;
 
+// How many places remember a number.
+const PLACES: usize = 256;
+
 /// Nodes by their numbers, which are handed out in order. A map finds a node's number, so that no call walks the list.
 #[derive(Drop)]
 pub struct NodeTable<N: Copy + Ord> {
     nodes: Vec<N>,
     // the newest first: a search reads a block's keys from the first on, and new nodes mostly name new ones
     numbers: BTreeMap<Reverse<N>, usize>,
+    // by place, a number that a node of this place may have
+    remembered: [usize; PLACES],
 }
 
 impl<N: Copy + Ord> Model for NodeTable<N> {
@@ -35,6 +40,7 @@ impl<N: Copy + Ord> NodeTable<N> {
         NodeTable {
             nodes: Vec::new(alloc),
             numbers: BTreeMap::new(alloc),
+            remembered: [0; PLACES],
         }
     }
 
@@ -64,6 +70,25 @@ impl<N: Copy + Ord> NodeTable<N> {
             (λ i. slice_get self.now i ≡ Some node.now) }
     {
         self.numbers.get(&Reverse(*node)).copied()
+    }
+
+    /// The number that is remembered at a place, if it is the node's.
+    pub fn recall(&self, place: usize, node: &N) -> Option<usize>
+        requires exact { (n : N) → N.eq node.now n ≡ true → node.now ≡ n }
+        ensures { IfSome result (λ i. slice_get self.now i ≡ Some node.now) }
+    {
+        let number = self.remembered[place % PLACES];
+        if node == self.nodes.get(number)? {
+            return Some(number);
+        }
+        None
+    }
+
+    /// Remembers a number at a place, which changes no node.
+    pub fn remember(&mut self, place: usize, number: usize)
+        ensures { self.new ≡ self.old }
+    {
+        self.remembered[place % PLACES] = number;
     }
 
     /// One more node, and its number. Where memory is refused, nothing has changed.
