@@ -1,13 +1,19 @@
-use Rattle.std.proofs.Common.{◌≡◌, ◌++◌, map, sym, subst, ◌∙◌, ap}
+use Rattle.std.proofs.Common.{◌≡◌, ◌++◌, inl, inr, ⊎_elim, map, sym, subst, ◌∙◌, ap}
+use Rattle.std.proofs.lemmas.Result.{err_from_is_err_and}
 use Rattle.air_field.specs.Ring.{itself, itself_laws}
 use Rattle.air_field.specs.Assignment.{IsMissing}
+use Rattle.air_field.specs.Degree.{cached_weight}
 use Rattle.air_symbolic.specs.BaseLeaves.{base_reads}
 use Rattle.air_symbolic.specs.ExtLeaves.{ext_reads}
 use Rattle.air_symbolic.specs.Pools.{PoolMeans}
+use Rattle.air_windows.specs.declared.errors.AirError.{AirError}
+use Rattle.air_windows.specs.declared.errors.AirError.TheVariants.{Memory}
 use Rattle.air_builder.specs.Refusals.{NoneMissing}
+use Rattle.air_builder.specs.Refused.{Refused}
 use Rattle.air_recording.specs.Kinds.{kind_of, base_terms, ext_terms}
 use Rattle.air_recording.specs.Layouts.{layout_shape}
-use Rattle.air_recording.specs.Recording.{EachMeans}
+use Rattle.air_recording.specs.declared.layouts.air_layout.AirLayout.{AirLayout}
+use Rattle.air_recording.specs.Recording.{EachMeans, IsOver}
 use Rattle.air_recording.proofs.Recordings.{each_records, numbers_here}
 use Rattle.air_recording.proofs.symbolic.record.record.Goals as goal
 
@@ -70,3 +76,16 @@ returns-clause-kinds g c =
 pub returns-clause-there : goal.returns-clause-there
 returns-clause-there g c =
     subst (λ l. NoneMissing (IsMissing (layout_shape l)) (g.A.BaseAir.declared c.args.air.now)) c.in_ok-builder.ensures.layout c.in_ok-eval.ensures.there
+
+pub returns-in_err-eval-clause-refused : goal.returns-in_err-eval-clause-refused
+returns-in_err-eval-clause-refused g c =
+    let ts = g.A.BaseAir.declared c.args.air.now in
+    let e = c.in_err-eval.field-0.0 in
+    let refuses = λ (l : AirLayout) (e : AirError). Refused (IsMissing (layout_shape l)) (IsOver cached_weight) (λ _. ⊥) e ts in
+    let refused : refuses c.args.layout e =
+    ⊎_elim
+    (λ (m : e ≡ Memory). subst (refuses c.args.layout) (sym m) tt)
+    (λ r. subst (λ l. refuses l e) c.in_ok-builder.ensures.layout r)
+    c.in_err-eval.ensures.refused in
+    let p = err_from_is_err_and c.from_residual-in_err-eval.result c.from_residual-in_err-eval.ensures.1 in
+    rw (p.1, p.2) (inr (c.in_ok-validate_against_air.ensures.fits, refused))
