@@ -11,7 +11,8 @@ use Rattle.air_windows.specs.declared.errors.AirError.{AirError}
 use Rattle.air_builder.specs.Assertion.{Assertion, Base, Extension}
 use Rattle.air_builder.specs.Builders.{BuilderLaws, GrewOf, RefusesOf}
 use Rattle.air_builder.specs.Extensions.{GrewExtOf, RefusesExtOf}
-use Rattle.air_builder.specs.Refusals.{NoneMissing, none_missing}
+use Rattle.air_builder.specs.Refusals.{NoneMissing}
+use Rattle.air_builder.specs.laws.Refusals.{none_missing}
 use Rattle.air_author.specs.Constraints.{Asserted, asserts_of_each, asserts_of_first}
 use Rattle.air_author.specs.Expressions.{Made}
 

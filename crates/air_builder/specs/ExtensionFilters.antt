@@ -8,7 +8,7 @@ use Rattle.air_builder.specs.Assertion.{Assertion, filtered}
 use Rattle.air_builder.specs.Builders.{Means, BuilderLaws}
 use Rattle.air_builder.specs.Extensions.{ExtensionLaws}
 use Rattle.air_builder.specs.Filters.{KeptInside, GrewInside, RefusesInside}
-use Rattle.air_builder.specs.Refusals.{PartOf-filtered}
+use Rattle.air_builder.specs.laws.Refusals.{PartOf-filtered}
 
 -- z is an element that means what x meant times what the condition c meant in the base
 abbrev pub MadeUnder : {R E B F : Type 0} → (R → E → Type 0) → (R → E → Term F → Type 0) → (R → B → Term F → Type 0) → R → R → B → E → E → Type 0

@@ -7,7 +7,7 @@ use Rattle.air_windows.specs.declared.errors.AirError.{AirError}
 use Rattle.air_field.specs.Algebra.{AlgebraLaws}
 use Rattle.air_builder.specs.Assertion.{Assertion, filtered}
 use Rattle.air_builder.specs.Builders.{Means, BuilderLaws}
-use Rattle.air_builder.specs.Refusals.{PartOf-filtered}
+use Rattle.air_builder.specs.laws.Refusals.{PartOf-filtered}
 
 -- a filter stays on its builder, which keeps what it has
 pub record KeptInside {S E N : Type 0} (kept : S → S → Type 0) (n m : N) (x y : E) (a b : S) : Type 0 where

@@ -20,3 +20,4 @@ pub mod NamedFilters
 pub mod Extensions
 pub mod ExtensionFilters
 pub mod ExtensionLabels
+pub mod laws

@@ -2,12 +2,15 @@
 use Rattle.std.specs.Bool.{Decides}
 use Rattle.std.proofs.Common.{◌≡◌, ◌+◌, ◌*◌, ◌%◌, ◌∷◌, ℕ, List, [], length, Bool, eqb, get_or, take, drop, refl, sym, ◌∙◌, ap, arith}
 use Rattle.std.proofs.lemmas.Slice.Eq.{slice_eq-Decides}
-use Rattle.air_field.specs.FourCoefficients.{by_four}
+use Rattle.air_field.specs.laws.FourCoefficients.{by_four}
 use Rattle.air_field.specs.Extension.{IsInBase}
 use Rattle.air_field.specs.RingOps.{ops}
 use Rattle.air_field.specs.Coefficients.{poly_add, poly_neg, dot}
-use Rattle.air_field.specs.Modulo.{class, class-add, baby_bear_add, baby_bear_neg, baby_bear_ring, equal_is, same_value}
-use Rattle.air_field.specs.Binomial.{same_list, constant_polynomial, binomial_over}
+use Rattle.air_field.specs.Modulo.{class, baby_bear_add, baby_bear_neg, baby_bear_ring}
+use Rattle.air_field.specs.laws.Modulo.{class-add, equal_is}
+use Rattle.air_field.specs.laws.Residues.{same_value}
+use Rattle.air_field.specs.laws.SamePolynomial.{same_list}
+use Rattle.air_field.specs.Binomial.{constant_polynomial, binomial_over}
 use Rattle.air_field.specs.declared.fields.baby_bear.BabyBear.{BabyBear}
 use Rattle.air_field.specs.declared.fields.binomial.BinomialExtensionField.{BinomialExtensionField}
 use lib.Pointwise.{pointwise}

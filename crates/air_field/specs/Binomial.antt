@@ -1,23 +1,14 @@
 -- The polynomials over `BabyBear` modulo X^4 - 11: a ring, and an extension of `BabyBear`.
-use Rattle.std.specs.Prelude.{◌≡◌, refl, List, length, eqb}
-use Rattle.std.specs.Bool.{Decides}
-use Rattle.std.proofs.Common.{ap, lit<}
-use Rattle.std.proofs.Math.Nat.{ℕ_set}
-use Rattle.std.proofs.lemmas.Slice.Eq.{slice_eq-Decides}
-use Rattle.air_field.specs.Ring.{CommRing, Over, OverLaws}
+use Rattle.std.specs.Prelude.{◌≡◌, refl, List, length}
+use Rattle.air_field.specs.Ring.{CommRing, Over}
 use Rattle.air_field.specs.RingOps.{ops}
 use Rattle.air_field.specs.Coefficients.{poly_add, poly_neg, binomial_mul, constant_four, padded}
-use Rattle.air_field.specs.FourCoefficients.{mul_length, add_length, neg_length, four_mul_assoc, four_mul_add, four_mul_comm, four_mul_one, four_add_assoc, four_add_comm, four_add_nil, four_add_neg, four_scale}
-use Rattle.air_field.specs.Extension.{ExtensionLaws, extension_over_laws, length-padded}
-use Rattle.air_field.specs.Modulo.{class, baby_bear_ring, equal_is}
+use Rattle.air_field.specs.laws.FourCoefficients.{mul_length, add_length, neg_length, four_mul_assoc, four_mul_add, four_mul_comm, four_mul_one, four_add_assoc, four_add_comm, four_add_nil, four_add_neg}
+use Rattle.air_field.specs.laws.Extension.{length-padded}
+use Rattle.air_field.specs.Modulo.{class, baby_bear_ring}
 use Rattle.air_field.specs.declared.fields.baby_bear.BabyBear.{BabyBear}
 use Rattle.air_field.specs.declared.fields.binomial.BinomialExtensionField.{BinomialExtensionField}
-use lib.Pointwise.{pointwise}
-use mathlib.Core.HLevel.{is_prop→PathP}
-
--- two polynomials are equal if their coefficients are
-pub same_list : (a b : BinomialExtensionField) → a.value ≡ b.value → a ≡ b
-same_list a b p = λ i. record { value = p i; four = is_prop→PathP (λ j. length (p j) ≡ 4) (λ j x y. ℕ_set _ _ x y) a.four b.four i }
+use Rattle.air_field.specs.laws.SamePolynomial.{same_list}
 
 abbrev pub of_list : (l : List BabyBear) → length l ≡ 4 → BinomialExtensionField
 of_list l h = record { value = l; four = h }
@@ -62,25 +53,3 @@ binomial_over =
       embed = constant_polynomial;
       extend = λ l. of_list (padded (class 0) 4 l) (length-padded (class 0) 4 l);
     }
-
-pub binomial_laws : ExtensionLaws baby_bear_ring binomial_over (λ a. a.value) 4
-binomial_laws =
-    record {
-      positive = lit< tt;
-      count = λ a. a.four;
-      same = same_list;
-      extend_is = λ l. refl;
-      embed_is = λ c. refl;
-      embed_one = refl;
-      add_is = λ a b. refl;
-      scale_is = λ c a. four_scale baby_bear_ring (class 11) c a.value a.four;
-    }
-
-pub binomial_over_laws : OverLaws baby_bear_ring binomial_over
-binomial_over_laws = extension_over_laws baby_bear_ring binomial_over (λ a. a.value) 4 binomial_laws
-
--- `==` tells the same polynomial
-pub same_polynomial : (a b : BinomialExtensionField) → Decides (pointwise (λ x y. eqb x.residue y.residue) a.value b.value) (a ≡ b)
-same_polynomial a b =
-    let told : Decides (pointwise (λ (x y : BabyBear). eqb x.residue y.residue) a.value b.value) (a.value ≡ b.value) = slice_eq-Decides equal_is a.value b.value _ refl in
-    ((λ h. same_list a b (told.0 h)), (λ e. told.1 (ap (λ x. x.value) e)))

@@ -1,6 +1,8 @@
 -- Polynomials as lists of coefficients, lowest first, and what is left of them modulo X^4 - w.
-use Rattle.std.specs.Prelude.{ℕ, zero, suc, List, [], ◌∷◌, get_or}
+use Rattle.std.specs.Prelude.{◌≡◌, ℕ, zero, suc, ◌+◌, ◌<◌, List, [], ◌∷◌, get_or}
+use Rattle.air_field.specs.Ring.{CommRing}
 use Rattle.air_field.specs.RingOps.{RingOps}
+use Rattle.air_field.specs.Polynomial.{convolve}
 
 -- the sum, coefficient by coefficient; a list is zero past its end
 abbrev pub poly_add : {A : Type 0} → RingOps A → List A → List A → List A
@@ -49,3 +51,11 @@ padded d (suc n) (x ∷ p) = x ∷ padded d n p
 -- the coefficient at a place, zero past the list's end
 abbrev pub coefficient : {A : Type 0} → A → List A → ℕ → A
 coefficient d p n = get_or p n d
+
+-- r is the product of p and q where X^4 is w: each of its four coefficients is the product's, with w times the one
+-- that stands four places on
+abbrev pub IsProductModulo : {A : Type 0} → CommRing A → A → List A → List A → List A → Type 0
+IsProductModulo R w p q r =
+    (k : ℕ) → k < 4 → coefficient R.nil r k
+    ≡ R.add (convolve R (coefficient R.nil p) (coefficient R.nil q) k)
+      (R.mul w (convolve R (coefficient R.nil p) (coefficient R.nil q) (4 + k)))

@@ -9,7 +9,8 @@ use Rattle.air_windows.specs.declared.errors.AirError.{AirError}
 use Rattle.air_builder.specs.Assertion.{Assertion, Base}
 use Rattle.air_builder.specs.Batches.{Each, AssertsOf, GrewByEach, GrewByBeginning, RefusesByEach}
 use Rattle.air_builder.specs.Builders.{Means, BuilderLaws}
-use Rattle.air_builder.specs.Refusals.{PartOf, EachLeaf, EachLeafOf, none_missing}
+use Rattle.air_builder.specs.Refusals.{PartOf, EachLeaf, EachLeafOf}
+use Rattle.air_builder.specs.laws.Refusals.{none_missing}
 use Rattle.air_author.specs.Constraints.{Asserted}
 use Rattle.air_flat.specs.Tables.{OrMemory}
 

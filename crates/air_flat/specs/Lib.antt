@@ -1,3 +1,4 @@
 pub use Rattle.air_builder.specs.Builders
 pub mod Tables
 pub mod FlatAirs
+pub mod laws

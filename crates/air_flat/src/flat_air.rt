@@ -2,7 +2,8 @@
 ghost use Rattle.std.specs.Prelude.{◌≡◌, ◌<◌, length, All, None};
 ghost use Rattle.air_symbolic.specs.BaseLeaves.{base_reads};
 ghost use Rattle.air_symbolic.specs.Pools.{IsPool};
-ghost use Rattle.air_flat.specs.FlatAirs.{RootsIn, RootsIn-prop, zero_at_roots};
+ghost use Rattle.air_flat.specs.FlatAirs.{RootsIn, zero_at_roots};
+ghost use Rattle.air_flat.specs.laws.FlatAirs.{RootsIn-prop};
 
 use crate::resolving::resolve_all;
 use air_builder::{Air, AirBuilder, AirError, BaseAir, BoundaryPublic};

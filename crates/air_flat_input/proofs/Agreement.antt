@@ -6,7 +6,7 @@ use Rattle.serde_json.specs.Find.{get, as_array}
 use Rattle.air_wire.specs.declared.errors.FlatError.{FlatError}
 use Rattle.air_wire.specs.declared.errors.FlatError.TheVariants as faults
 use Rattle.air_wire.specs.Results.{◌>>=◌}
-use Rattle.air_wire.specs.Readings.{done, done_is, bind_ok, ok_or_found}
+use Rattle.air_wire.specs.laws.Readings.{done, done_is, bind_ok, ok_or_found}
 use Rattle.air_flat_input.specs.Grammar.{Grammar, by_form, AllSpell, FirstFault, list_of, needed, optional, both}
 use Rattle.air_flat_input.specs.Readers.{Reader, formed, each_from, list_read, needed_read, or_absent, optional_read}
 

@@ -6,7 +6,7 @@ use Rattle.air_windows.specs.declared.errors.AirError.TheVariants as air
 use Rattle.air_field.specs.Matrix.{matrix_of}
 use Rattle.air_windows.specs.Errors.{matrix_air_error}
 use Rattle.air_wire.specs.Faults.{air_fault}
-use Rattle.air_wire.specs.Readings.{done_is, not_done}
+use Rattle.air_wire.specs.laws.Readings.{done_is, not_done}
 use Rattle.air_wire.specs.Results.{Fails}
 use Rattle.air_wire.specs.declared.errors.FlatError.{FlatError}
 use Rattle.air_wire.specs.declared.errors.FlatError.TheVariants as faults

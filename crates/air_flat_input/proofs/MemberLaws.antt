@@ -5,13 +5,13 @@ use Rattle.std.specs.Prelude.{nat_lt}
 use Rattle.serde_json.specs.Data.{Data, null, boolean, number, unsigned, negative, float, string, array, object}
 use Rattle.air_field.specs.Modulo.{class}
 use Rattle.air_wire.specs.BaseLeaves.{element_or, element_at, base_kind}
-use Rattle.air_wire.specs.BaseLeafLaws.{element_found, element_again, base_kind_laws}
+use Rattle.air_wire.specs.laws.BaseLeaves.{element_found, element_again, base_kind_laws}
 use Rattle.air_wire.specs.Boundaries.{SpellsCell, cell_of}
-use Rattle.air_wire.specs.BoundaryLaws.{cell_found, cell_again}
-use Rattle.air_wire.specs.ListLaws.{root_found, root_again, root_fault, root_fault_read}
+use Rattle.air_wire.specs.laws.Boundaries.{cell_found, cell_again}
+use Rattle.air_wire.specs.laws.Lists.{root_found, root_again, root_fault, root_fault_read}
 use Rattle.air_wire.specs.Parts.{whole}
 use Rattle.air_wire.specs.Results.{◌>>=◌}
-use Rattle.air_wire.specs.Readings.{named, number_found}
+use Rattle.air_wire.specs.laws.Readings.{named, number_found}
 use Rattle.air_wire.specs.Spelling.{IsWhole}
 use Rattle.air_wire.specs.declared.errors.FlatError.{FlatError}
 use Rattle.air_wire.specs.declared.errors.FlatError.TheVariants as faults

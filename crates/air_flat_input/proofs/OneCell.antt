@@ -4,7 +4,7 @@ use Rattle.std.specs.Result.{IfOk, IfErr}
 use Rattle.serde_json.specs.Data.{Data}
 use Rattle.air_windows.specs.declared.boundary.BoundaryPublic.{BoundaryPublic}
 use Rattle.air_wire.specs.Boundaries.{SpellsCell, cell_of}
-use Rattle.air_wire.specs.BoundaryLaws.{cell_found, cell_again}
+use Rattle.air_wire.specs.laws.Boundaries.{cell_found, cell_again}
 use Rattle.air_wire.specs.Results.{Gives}
 use Rattle.air_wire.specs.declared.errors.FlatError.{FlatError}
 use Rattle.air_wire.specs.declared.errors.FlatError.TheVariants as faults

@@ -4,16 +4,17 @@ use Rattle.std.specs.Result.{IfOk, IfErr}
 use Rattle.serde_json.specs.Data.{Data}
 use Rattle.air_field.specs.Modulo.{baby_bear_ring}
 use Rattle.air_field.specs.declared.fields.baby_bear.BabyBear.{BabyBear}
-use Rattle.air_symbolic.specs.BaseLeaves.{base_reads, base_grows, base_leaf_laws}
+use Rattle.air_symbolic.specs.BaseLeaves.{base_reads, base_grows}
+use Rattle.air_symbolic.specs.laws.BaseLeaves.{base_leaf_laws}
 use Rattle.air_symbolic.specs.Pools.{Grown, tree_at}
-use Rattle.air_symbolic.specs.PoolLaws.{Grown-trans, here-kept, tree-kept}
+use Rattle.air_symbolic.specs.laws.Pools.{Grown-trans, here-kept, tree-kept}
 use Rattle.air_symbolic.specs.Trees.{Tree, nothing, leaf_tree, add_tree, sub_tree, neg_tree, mul_tree}
 use Rattle.air_symbolic.specs.declared.leaves.base_leaf.BaseLeaf.{BaseLeaf}
 use Rattle.air_symbolic.specs.declared.pools.expr.SymbolicExpr.{SymbolicExpr}
 use Rattle.air_wire.specs.BaseLeaves.{base_kind, base_seen}
-use Rattle.air_wire.specs.BaseLeafLaws.{base_kind_laws}
+use Rattle.air_wire.specs.laws.BaseLeaves.{base_kind_laws}
 use Rattle.air_wire.specs.Good.{IsList, HasFault}
-use Rattle.air_wire.specs.ListLaws.{root_again, root_fault_read}
+use Rattle.air_wire.specs.laws.Lists.{root_again, root_fault_read}
 use Rattle.air_wire.specs.Results.{Gives}
 use Rattle.air_wire.specs.Seen.{over, seen_at}
 use Rattle.air_wire.specs.declared.errors.FlatError.{FlatError}

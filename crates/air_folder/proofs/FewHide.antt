@@ -9,10 +9,10 @@ use Rattle.std.proofs.lemmas.Bool.{cases_lt}
 use Rattle.std.proofs.lemmas.List.Sums.{length-filter}
 use Rattle.air_field.specs.Ring.{CommRing, AllZero}
 use Rattle.air_field.specs.Powers.{power}
-use Rattle.air_field.specs.RingLaws.{nil_add, one_mul, ring_rules}
-use Rattle.air_field.specs.RingSolver.{var, plus, times, ring}
+use Rattle.air_field.specs.laws.Ring.{nil_add, one_mul, ring_rules}
+use Rattle.air_field.specs.laws.RingSolver.{var, plus, times, ring}
 use Rattle.air_recording.specs.Folds.{horner}
-use Rattle.air_folder.specs.Fold.{horner-first}
+use Rattle.air_folder.specs.laws.Fold.{horner-first}
 use Rattle.air_folder.specs.Hiding.{IsBelowAll, IsIncreasing}
 use Rattle.air_folder.proofs.Roots.{IsDomain, DiffersFromAll, Distinct, poly_value, AllRoots, nil_of_roots}
 

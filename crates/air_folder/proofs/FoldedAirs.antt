@@ -11,9 +11,10 @@ use Rattle.air_builder.specs.Assertion.{Assertion, Base, Extension}
 use Rattle.air_recording.specs.Folds.{horner, recombination, ArePlacesOf}
 use Rattle.air_recording.specs.Kinds.{kind_of, base_terms, ext_terms, is_base, is_extension, places_from}
 use Rattle.air_recording.specs.Recorded.{EachRecords, RecordsBase, RecordsExt, terms_of}
-use Rattle.air_folder.specs.Fold.{folded_on, folded_on-nil}
+use Rattle.air_folder.specs.Fold.{folded_on}
+use Rattle.air_folder.specs.laws.Fold.{folded_on-nil}
 use Rattle.air_folder.specs.Folder.{FolderRow, folder_leaves, values_in}
-use Rattle.air_folder.specs.FolderLaws.{unchanged}
+use Rattle.air_folder.specs.laws.Folder.{unchanged}
 use Rattle.air_folder.specs.FolderRow.{row_of}
 use Rattle.air_folder.specs.Folding.{IsFolded, GrewByBeginningOf}
 use Rattle.air_folder.specs.declared.folder.builder.ConstraintFolder.{ConstraintFolder}

@@ -1,6 +1,7 @@
 -- Elements that fold values to zero.
 use Rattle.std.specs.Prelude.{◌≡◌, Bool, List, [], ◌∷◌}
-use Rattle.std.proofs.Common.{Ordering, Less}
+use Rattle.std.specs.declared.cmp.Ordering.{Ordering}
+use Rattle.std.specs.declared.cmp.Ordering.TheVariants.{Less}
 use Rattle.air_field.specs.Ring.{CommRing}
 use Rattle.air_recording.specs.Folds.{horner}
 

@@ -3,5 +3,5 @@ pub mod Fold
 pub mod Hiding
 pub mod Folder
 pub mod FolderRow
-pub mod FolderLaws
 pub mod Folding
+pub mod laws

@@ -2,8 +2,8 @@
 use Rattle.std.proofs.Common.{◌≡◌, ◌∙◌, ℕ, zero, suc, ◌+◌, ◌-◌, ◌*◌, ◌/◌, ◌%◌, ◌^◌, ◌<◌, List, [], ◌∷◌, ◌++◌, map, append_assoc, refl, sym, ap, ap₂, arith}
 use Rattle.std.proofs.Math.Nat.{pow-zero, pow-suc}
 use Rattle.air_field.specs.Ring.{CommRing, image, minus}
-use Rattle.air_field.specs.RingSolver.{var, nought, unit, plus, times, less, ring}
-use Rattle.air_field.specs.Images.{image-zero, image-one, image-two, image-add, image-mul}
+use Rattle.air_field.specs.laws.RingSolver.{var, nought, unit, plus, times, less, ring}
+use Rattle.air_field.specs.laws.Images.{image-zero, image-one, image-two, image-add, image-mul}
 use Rattle.air_gadgets.specs.Bits.{digits_of, AreBits, packed, ring_xor, xored}
 
 -- x, and then the xor with each element, from the left

@@ -2,8 +2,8 @@
 use Rattle.std.proofs.Common.{◌≡◌, ◌∙◌, ℕ, suc, ◌+◌, ◌^◌, List, [], ◌∷◌, map, refl, sym, ap, ap₂, arith}
 use Rattle.std.proofs.Math.Nat.{pow-suc}
 use Rattle.air_field.specs.Ring.{CommRing, image, itself}
-use Rattle.air_field.specs.RingSolver.{var, nought, unit, plus, times, ring}
-use Rattle.air_field.specs.Images.{image-one, image-add}
+use Rattle.air_field.specs.laws.RingSolver.{var, nought, unit, plus, times, ring}
+use Rattle.air_field.specs.laws.Images.{image-one, image-add}
 use Rattle.air_field.specs.Term.{Leaf, Term}
 use Rattle.air_field.specs.Value.{value}
 use Rattle.air_gadgets.specs.Packing.{packed_from}

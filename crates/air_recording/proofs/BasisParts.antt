@@ -3,10 +3,11 @@ use Rattle.std.proofs.Common.{◌≡◌, ℕ, zero, suc, ◌-◌, ◌<◌, ◌�
 use Rattle.std.proofs.lemmas.Bool.{cases_lt}
 use Rattle.std.proofs.lemmas.List.{ext_get_or}
 use Rattle.air_field.specs.Ring.{CommRing, Over}
-use Rattle.air_field.specs.RingLaws.{nil_add, mul_nil}
+use Rattle.air_field.specs.laws.Ring.{nil_add, mul_nil}
 use Rattle.air_field.specs.Coefficients.{coefficient, padded}
-use Rattle.air_field.specs.CoefficientLaws.{coefficient-add, coefficient-scale}
-use Rattle.air_field.specs.Extension.{ExtensionLaws, extension_over_laws}
+use Rattle.air_field.specs.laws.Coefficients.{coefficient-add, coefficient-scale}
+use Rattle.air_field.specs.Extension.{ExtensionLaws}
+use Rattle.air_field.specs.laws.Extension.{extension_over_laws}
 use Rattle.air_recording.specs.Folds.{sum_below, basis_element}
 use Rattle.air_recording.proofs.SumLaws.{sum_below-ext}
 

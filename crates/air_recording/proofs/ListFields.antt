@@ -2,9 +2,10 @@
 use Rattle.std.proofs.Common.{◌≡◌, ◌≢◌, ℕ, List, Option, Some, Result, Ok, Err, refl, sym, ap, ◌∙◌}
 use Rattle.std.specs.Option.{ok_or}
 use Rattle.serde_json.specs.Data.{Data}
-use Rattle.air_wire.specs.Readings.{ok_or_found}
+use Rattle.air_wire.specs.laws.Readings.{ok_or_found}
 use Rattle.air_wire.specs.Results.{Fails}
-use Rattle.air_wire.specs.Wholes.{HasWholes, wholes_at, wholes_found, wholes_read}
+use Rattle.air_wire.specs.Wholes.{HasWholes, wholes_at}
+use Rattle.air_wire.specs.laws.Wholes.{wholes_found, wholes_read}
 use Rattle.air_wire.specs.declared.errors.FlatError.{FlatError}
 use Rattle.air_wire.specs.declared.errors.FlatError.TheVariants as faults
 

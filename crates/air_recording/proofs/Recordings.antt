@@ -2,7 +2,7 @@
 use Rattle.std.proofs.Common.{ℕ, zero, suc, ◌<◌, List, [], ◌∷◌, length, slice_index_or, sym, ◌∙◌, arith}
 use Rattle.air_field.specs.Ring.{CommRing, Over, OverLaws}
 use Rattle.air_field.specs.Term.{Term}
-use Rattle.air_field.specs.PolynomialLaws.{Same-poly, polynomial-lists_of_one}
+use Rattle.air_field.specs.laws.Polynomial.{Same-poly, polynomial-lists_of_one}
 use Rattle.air_symbolic.specs.Leaves.{Leaves}
 use Rattle.air_symbolic.specs.Pools.{PoolMeans, term_at}
 use Rattle.air_symbolic.specs.declared.pools.expr.SymbolicExpr.{SymbolicExpr}

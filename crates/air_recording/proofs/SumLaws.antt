@@ -2,7 +2,7 @@
 use Rattle.std.proofs.Common.{◌≡◌, ℕ, zero, suc, ◌+◌, ◌<◌, Bool, List, [], ◌∷◌, length, map, refl, sym, ap, ap₂, ◌∙◌, arith}
 use Rattle.std.specs.List.{filter, enumerate_from}
 use Rattle.air_field.specs.Ring.{CommRing}
-use Rattle.air_field.specs.RingLaws.{nil_mul, add_mul, add_left_comm, ring_rules}
+use Rattle.air_field.specs.laws.Ring.{nil_mul, add_mul, add_left_comm, ring_rules}
 use Rattle.air_recording.specs.Kinds.{is_base, is_extension}
 use Rattle.air_recording.specs.declared.symbolic.kind.ConstraintKind.{ConstraintKind}
 use Rattle.air_recording.specs.declared.symbolic.kind.ConstraintKind.TheVariants as kind

@@ -8,16 +8,14 @@ pub use Rattle.air_builder.specs.Assertion
 pub use Rattle.air_builder.specs.Builders
 pub mod Layouts
 pub mod Spellings
-pub mod SpellingLaws
 pub mod Weights
 pub mod Folds
 pub mod Rows
 pub mod Kinds
 pub mod Recording
 pub mod RecordedLists
-pub mod RecordingLaws
 pub mod SymbolicParts
 pub mod Recorded
 pub mod Bounds
-pub mod BoundLaws
 pub mod Inferred
+pub mod laws

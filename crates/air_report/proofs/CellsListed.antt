@@ -9,7 +9,7 @@ use Rattle.air_field.specs.Grid.{Grid}
 use Rattle.air_windows.specs.declared.boundary.BoundaryPublic.{BoundaryPublic}
 use Rattle.air_report.specs.Cells.{differs, differing, left_of, cell_place, cell_label, failure_text, ListsCells, IsListedPast}
 use Rattle.air_report.specs.Report.{failure_place, IsReached}
-use Rattle.air_report.specs.DebugLaws.{enumerate_from-append}
+use Rattle.air_report.specs.laws.Debug.{enumerate_from-append}
 use Rattle.air_report.specs.declared.debug.failure.ConstraintFailure.{ConstraintFailure}
 
 -- a cap that isn't reached leaves all

@@ -4,7 +4,8 @@ use Rattle.std.proofs.Common.{inl, inr, sym, ◌∙◌, ap, arith}
 use Rattle.std.proofs.lemmas.Option.{get_or_from_slice_get, slice_get_cases, slice_get_past}
 use Rattle.air_field.specs.Ring.{CommRing, Over}
 use Rattle.air_field.specs.Term.{permutation}
-use Rattle.air_field.specs.Extension.{ExtensionLaws, extend-coefficients}
+use Rattle.air_field.specs.Extension.{ExtensionLaws}
+use Rattle.air_field.specs.laws.Extension.{extend-coefficients}
 use Rattle.air_field.specs.Assignment.{RowValues, IsMissing}
 use Rattle.air_field.specs.OneRow.{one_row_shape}
 use Rattle.air_field.specs.declared.matrices.view.ViewPair.{ViewPair}

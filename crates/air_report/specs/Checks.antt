@@ -10,7 +10,7 @@ use Rattle.air_windows.specs.declared.errors.AirError.{AirError}
 use Rattle.air_windows.specs.declared.errors.AirError.TheVariants.{CountOverflow, Memory}
 use Rattle.air_report.specs.Cells.{differing, left_of, ListsCells, IsListedPast, CellsFit, IsCellFault, AgreeBelow, IsFirstDiffering}
 use Rattle.air_report.specs.Debug.{nonzero_from}
-use Rattle.air_report.specs.DebugLaws.{IsFull}
+use Rattle.air_report.specs.RowRefusals.{IsFull}
 use Rattle.air_report.specs.Given.{Given, given_trace, height}
 use Rattle.air_builder.specs.Refused.{Refused}
 use Rattle.air_report.specs.Report.{failure_place, report_of, IsReached, IsRowsShown, count_shown}

@@ -3,7 +3,8 @@ use Rattle.std.proofs.Common.{◌≡◌, ℕ, zero, suc, ◌-◌, ◌≤◌, Boo
 use Rattle.std.specs.Prelude.{Some, None}
 use Rattle.air_field.specs.Ring.{CommRing, AllZero, Over}
 use Rattle.air_field.specs.Extension.{ExtensionLaws, IsInBase}
-use Rattle.air_symbolic.specs.BaseParts.{all_zero, base_part, AllZero-all_zero}
+use Rattle.air_symbolic.specs.BaseParts.{all_zero, base_part}
+use Rattle.air_symbolic.specs.laws.BaseParts.{AllZero-all_zero}
 
 module _ {F E : Type 0} (R : CommRing F) (eq : F → F → Bool) (decides : (x y : F) → Decides (eq x y) (x ≡ y)) (a : Over F E) (coefficients : E → List F) (n : ℕ) (laws : ExtensionLaws R a coefficients n) where
   all_zero-replicate : (k : ℕ) → all_zero R eq (replicate k R.nil) ≡ true

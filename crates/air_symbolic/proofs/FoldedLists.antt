@@ -6,8 +6,8 @@ use Rattle.air_field.specs.Degree.{degree_by, cached_weight}
 use Rattle.air_symbolic.specs.Leaves.{Leaves, Keeps, LeafLaws}
 use Rattle.air_symbolic.specs.Trees.{Tree, nothing, leaf_tree, add_tree, sub_tree, neg_tree, mul_tree, term_of, tree_constant, IsWhole}
 use Rattle.air_symbolic.specs.Pools.{IsPool, Grown, tree_at, term_at, constant_at, IsConst}
-use Rattle.air_symbolic.specs.PoolLaws.{Grown-refl, Grown-trans, here-kept, tree-kept}
-use Rattle.air_symbolic.specs.Numbers.{tree_of-whole, term_of-kept}
+use Rattle.air_symbolic.specs.laws.Pools.{Grown-refl, Grown-trans, here-kept, tree-kept}
+use Rattle.air_symbolic.specs.laws.Numbers.{tree_of-whole, term_of-kept}
 use Rattle.air_symbolic.specs.Folds.{IsFolded, sum_fold, product_fold, IsSum, IsProduct, NeedsNode}
 use Rattle.air_symbolic.specs.FoldedLists.{JoinedFrom, IsJoined, SumStep, ProductStep, Overflows, OverflowsFrom, ProductOverflows, IsSumOfAll, IsProductOfAll}
 use Rattle.air_symbolic.specs.declared.pools.expr.SymbolicExpr.{SymbolicExpr}

@@ -4,13 +4,13 @@ use Rattle.std.specs.Prelude.{Option, Some, None}
 use Rattle.air_field.specs.Ring.{CommRing}
 use Rattle.air_field.specs.Term.{Term, const_term, add_term, mul_term}
 use Rattle.air_field.specs.Same.{Stands}
-use Rattle.air_field.specs.DegreeLaws.{Stands-refl, Stands-trans, Stands-add, Stands-mul}
+use Rattle.air_field.specs.laws.Degree.{Stands-refl, Stands-trans, Stands-add, Stands-mul}
 use Rattle.air_field.specs.Joins.{join_from, join_terms}
 use Rattle.air_symbolic.specs.Leaves.{Leaves, LeafLaws}
 use Rattle.air_symbolic.specs.Trees.{Tree, add_tree, mul_tree, term_of, IsWhole}
 use Rattle.air_symbolic.specs.Pools.{IsPool, Grown, tree_at, term_at}
-use Rattle.air_symbolic.specs.PoolLaws.{here-kept, tree-kept}
-use Rattle.air_symbolic.specs.Numbers.{tree_of-whole, term_of-kept}
+use Rattle.air_symbolic.specs.laws.Pools.{here-kept, tree-kept}
+use Rattle.air_symbolic.specs.laws.Numbers.{tree_of-whole, term_of-kept}
 use Rattle.air_symbolic.specs.Folds.{IsFolded}
 use Rattle.air_symbolic.specs.FoldedLists.{JoinedFrom, IsJoined, SumStep, ProductStep, IsSumOfAll, IsProductOfAll}
 use Rattle.air_symbolic.proofs.Folding.{sum-stands, product-stands}

@@ -6,10 +6,10 @@ use Rattle.air_field.specs.Ring.{CommRing, minus}
 use Rattle.air_field.specs.Term.{Term, const_term, add_term, sub_term, neg_term, mul_term}
 use Rattle.air_field.specs.Degree.{degree_by}
 use Rattle.air_field.specs.Same.{Same, same_refl, same_trans, same_add, same_sub, same_neg, same_mul, const_add, const_sub, const_neg, const_mul, zero_add, add_zero, zero_sub, sub_zero, zero_mul, mul_zero, one_mul, mul_one, Stands}
-use Rattle.air_field.specs.DegreeLaws.{Stands-refl}
+use Rattle.air_field.specs.laws.Degree.{Stands-refl}
 use Rattle.air_symbolic.specs.Leaves.{Leaves, Keeps, LeafLaws}
 use Rattle.air_symbolic.specs.Trees.{Tree, nothing, leaf_tree, add_tree, sub_tree, neg_tree, mul_tree, term_of, IsWhole, tree_constant}
-use Rattle.air_symbolic.specs.Numbers.{term_of-kept, tree_of-whole}
+use Rattle.air_symbolic.specs.laws.Numbers.{term_of-kept, tree_of-whole}
 use Rattle.air_symbolic.specs.Pools.{IsPool, tree_at, term_at, IsConst}
 use Rattle.air_symbolic.specs.Folds.{sum_fold, difference_fold, product_fold, negative_fold, IsFolded, IsSum, IsDifference, IsProduct, IsNegative}
 use Rattle.air_symbolic.specs.declared.pools.expr.SymbolicExpr.{SymbolicExpr}

@@ -6,12 +6,14 @@ use Rattle.air_field.specs.Degree.{degree_by, cached_weight}
 use Rattle.air_field.specs.Ring.{CommRing}
 use Rattle.air_symbolic.specs.Trees.{Tree, nothing, leaf_tree, add_tree, sub_tree, neg_tree, mul_tree, term_of, IsWhole}
 use Rattle.air_symbolic.specs.Pools.{Grown, HasTree, tree_at, term_at, IsPool}
-use Rattle.air_symbolic.specs.BaseLeaves.{base_term, base_reads, base_grows, base_leaf_laws}
-use Rattle.air_symbolic.specs.PoolLaws.{tree-kept, here-kept}
+use Rattle.air_symbolic.specs.BaseLeaves.{base_term, base_reads, base_grows}
+use Rattle.air_symbolic.specs.laws.BaseLeaves.{base_leaf_laws}
+use Rattle.air_symbolic.specs.laws.Pools.{tree-kept, here-kept}
 use Rattle.air_symbolic.specs.Nodes.{node_at, cached_degree}
-use Rattle.air_symbolic.specs.Numbers.{tree_of-whole}
+use Rattle.air_symbolic.specs.laws.Numbers.{tree_of-whole}
 use Rattle.air_symbolic.specs.ExtLeaves.{BaseNodes, ext_valid, ext_grows, ext_term, ext_reads}
-use Rattle.air_symbolic.specs.ExtPool.{ExtNodes, base_lent_from}
+use Rattle.air_symbolic.specs.ExtPool.{ExtNodes}
+use Rattle.air_symbolic.specs.laws.ExtPool.{base_lent_from}
 use Rattle.air_symbolic.specs.Reach.{EachOperand}
 use Rattle.air_symbolic.specs.Lowered.{IsLoweredIn, LoweredAt, CanLower}
 use Rattle.air_symbolic.specs.declared.pools.expr.SymbolicExpr.{SymbolicExpr}

@@ -6,7 +6,7 @@ use Rattle.air_field.specs.Ring.{CommRing}
 use Rattle.air_field.specs.Term.{Term, const_term, add_term, sub_term, neg_term, mul_term}
 use Rattle.air_field.specs.Degree.{degree_by, cached_weight}
 use Rattle.air_field.specs.Same.{Stands}
-use Rattle.air_field.specs.DegreeLaws.{Stands-refl, Stands-trans, Stands-add, Stands-sub, Stands-neg, Stands-mul}
+use Rattle.air_field.specs.laws.Degree.{Stands-refl, Stands-trans, Stands-add, Stands-sub, Stands-neg, Stands-mul}
 use Rattle.air_field.specs.Algebra.{Made, MadeOf, MadeOfBoth, RefusedOfBoth}
 use Rattle.air_field.specs.ExtAlgebra.{Lifted}
 use Rattle.air_symbolic.specs.Leaves.{Leaves}

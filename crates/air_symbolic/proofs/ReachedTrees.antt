@@ -5,8 +5,8 @@ use Rattle.air_field.specs.Ring.{CommRing}
 use Rattle.air_symbolic.specs.Leaves.{Leaves}
 use Rattle.air_symbolic.specs.Trees.{Tree, nothing, leaf_tree, add_tree, sub_tree, neg_tree, mul_tree}
 use Rattle.air_symbolic.specs.Nodes.{unfold_node, tree_of, node_at, WellFormed, OperandsBelow, IsNode}
-use Rattle.air_symbolic.specs.Numbers.{tree_of-whole}
-use Rattle.air_symbolic.specs.Sharing.{found, node_at-is}
+use Rattle.air_symbolic.specs.laws.Numbers.{tree_of-whole}
+use Rattle.air_symbolic.specs.laws.Sharing.{found, node_at-is}
 use Rattle.air_symbolic.specs.Pools.{IsPool, Grown, HasTree, tree_at}
 use Rattle.air_symbolic.specs.ExtLeaves.{ext_grows, ext_reads}
 use Rattle.air_symbolic.specs.ExtPool.{ExtNodes}

@@ -10,9 +10,9 @@ use Rattle.air_field.specs.Ring.{CommRing}
 use Rattle.air_symbolic.specs.Leaves.{Leaves, LeafLaws}
 use Rattle.air_symbolic.specs.Nodes.{node_at, NodeFits, Absent, WellFormed, IsNode}
 use Rattle.air_symbolic.specs.Pools.{IsPool, Grown}
-use Rattle.air_symbolic.specs.PoolLaws.{Grown-under}
-use Rattle.air_symbolic.specs.Numbers.{at_end, node_at-newest, node_at-older}
-use Rattle.air_symbolic.specs.Sharing.{node_at-is}
+use Rattle.air_symbolic.specs.laws.Pools.{Grown-under}
+use Rattle.air_symbolic.specs.laws.Numbers.{at_end, node_at-newest, node_at-older}
+use Rattle.air_symbolic.specs.laws.Sharing.{node_at-is}
 use Rattle.air_symbolic.specs.declared.pools.expr.SymbolicExpr.{SymbolicExpr}
 
 module _ {A : Type 0} where

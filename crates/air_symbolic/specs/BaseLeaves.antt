@@ -1,10 +1,8 @@
 -- What the leaves of base expressions mean.
-use Rattle.std.specs.Prelude.{◌≡◌, Option, None, Some, refl}
-use Rattle.air_field.specs.Ring.{CommRing}
+use Rattle.std.specs.Prelude.{Option, None, Some}
 use Rattle.air_field.specs.Term.{first_row, last_row, transition, Term, leaf_term, const_term}
-use Rattle.air_field.specs.Same.{Same, same_refl}
 use Rattle.air_variables.specs.Entries.{entry_leaf}
-use Rattle.air_symbolic.specs.Leaves.{Leaves, LeafLaws}
+use Rattle.air_symbolic.specs.Leaves.{Leaves}
 use Rattle.air_symbolic.specs.declared.leaves.base_leaf.BaseLeaf.{BaseLeaf}
 use Rattle.air_symbolic.specs.declared.leaves.base_leaf.BaseLeaf.TheVariants.{Variable, IsFirstRow, IsLastRow, IsTransition, Constant}
 
@@ -31,24 +29,3 @@ base_reads _ = base_leaves
 
 abbrev pub base_grows : Unit {0} → Unit {0} → Type 0
 base_grows _ _ = Unit {0}
-
-base_constant-is : {F : Type 0} (r : CommRing F) (a : BaseLeaf F) (c : F) → base_constant a ≡ Some c → Same r (const_term c) (base_term a)
-base_constant-is r (Variable v) c e = cc
-base_constant-is r IsFirstRow c e = cc
-base_constant-is r IsLastRow c e = cc
-base_constant-is r IsTransition c e = cc
-base_constant-is r (Constant d) c e =
-    let same : d ≡ c = cc in
-    same_at same
-  where
-    same_at : d ≡ c → Same r (const_term c) (const_term d)
-    same_at q = rw q same_refl
-
-pub base_leaf_laws : {F : Type 0} (r : CommRing F) → LeafLaws r (base_reads {F = F}) base_grows tt
-base_leaf_laws r = record {
-  constant_is = λ u a c _ e. base_constant-is r a c e;
-  empty_sound = tt;
-  same = λ _. tt;
-  joined = λ _ _ _ _ _. tt;
-  keeps = λ _ _ _. record { sound = λ h. h; valid = λ _ h. h; constant = λ _ _. refl; term = λ _ _. refl };
-}

@@ -1,15 +1,10 @@
 -- A pool of extension expressions, over the base pool that it owns.
-use Rattle.std.specs.Prelude.{◌≡◌, ℕ, Bool, List}
-use Rattle.std.proofs.Common.{Decides, subst}
+use Rattle.std.specs.Prelude.{ℕ, Bool, List}
 use Rattle.air_field.specs.Ring.{CommRing}
 use Rattle.air_field.specs.Term.{Term}
-use Rattle.air_field.specs.Algebra.{AlgebraLaws}
-use Rattle.air_field.specs.ExtAlgebra.{ExtAlgebraLaws}
 use Rattle.air_symbolic.specs.Pools.{IsPool, PoolHas, PoolMeans, Grown}
-use Rattle.air_symbolic.specs.BaseLeaves.{base_reads, base_grows, base_leaf_laws}
-use Rattle.air_symbolic.specs.ExtLeaves.{BaseNodes, no_base_nodes, ext_grows, ext_reads, ext_leaf_laws}
-use Rattle.air_symbolic.specs.PoolRefusals.{PoolRefuses}
-use Rattle.air_symbolic.specs.PoolLaws.{pool_laws, Grown-under, has-kept, means-kept}
+use Rattle.air_symbolic.specs.BaseLeaves.{base_reads}
+use Rattle.air_symbolic.specs.ExtLeaves.{BaseNodes, ext_grows, ext_reads}
 use Rattle.air_symbolic.specs.declared.pools.expr.SymbolicExpr.{SymbolicExpr}
 use Rattle.air_symbolic.specs.declared.leaves.ext_leaf.ExtLeaf.{ExtLeaf}
 
@@ -35,29 +30,3 @@ module _ {F EF : Type 0} (r : CommRing F) (eq : F → F → Bool) (coefficients 
   pub record BaseMeans (p : ExtNodes F EF) (i : ℕ) (t : Term F) : Type 0 where
     pub pool : IsPool (ext_reads r eq coefficients) p
     pub base : PoolMeans base_reads r p.0 i t
-
-  module _ (decides : (x y : F) → Decides (eq x y) (x ≡ y)) where
-    -- what an extension pool keeps as a ring of expressions
-    pub ext_pool_laws : AlgebraLaws (IsPool (ext_reads r eq coefficients)) (PoolHas (ext_reads r eq coefficients)) (PoolMeans (ext_reads r eq coefficients) r) (Grown ext_grows (ext_reads r eq coefficients)) PoolRefuses
-    ext_pool_laws = pool_laws r (ext_reads r eq coefficients) ext_grows no_base_nodes (ext_leaf_laws r eq coefficients decides)
-
-    -- where the base pool was lent and has grown, the extension pool has grown
-    pub base_lent : (p : ExtNodes F EF) (u : BaseNodes F) → ext_grows p.0 u → Grown ext_grows (ext_reads r eq coefficients) p (u, p.1)
-    base_lent p u g = Grown-under r (ext_reads r eq coefficients) ext_grows no_base_nodes (ext_leaf_laws r eq coefficients decides) p.0 u p.1 g
-
-    -- the same of what was lent, which is the base pool
-    pub base_lent_from : (p : ExtNodes F EF) (lent u : BaseNodes F) → lent ≡ p.0 → ext_grows lent u → Grown ext_grows (ext_reads r eq coefficients) p (u, p.1)
-    base_lent_from p lent u e g = base_lent p u (subst (λ (l : BaseNodes F). ext_grows l u) e g)
-
-  -- where the extension pool has grown, its base pool has
-  pub base_grown : (p q : ExtNodes F EF) → Grown ext_grows (ext_reads r eq coefficients) p q → Grown base_grows base_reads p.0 q.0
-  base_grown p q g = g.under
-
-  -- what was of the base pool still is, and means what it meant
-  pub ext_keeps_base : ExtAlgebraLaws (IsPool (ext_reads r eq coefficients)) BaseHas BaseMeans (Grown ext_grows (ext_reads r eq coefficients))
-  ext_keeps_base = record {
-    base_has_stays = λ p q x g h. record { pool = g.pool h.pool; base = has-kept r base_reads base_grows tt (base_leaf_laws r) p.0 q.0 x g.under h.base };
-    base_means_stays = λ p q x t g h. record { pool = g.pool h.pool; base = means-kept r base_reads base_grows tt (base_leaf_laws r) p.0 q.0 x t g.under h.base };
-    base_means_has = λ p x t h. record { pool = h.pool; base = record { pool = h.base.pool; here = h.base.here } };
-    base_has_valid = λ p x h. h.pool;
-  }

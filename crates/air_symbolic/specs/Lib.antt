@@ -16,16 +16,12 @@ pub mod FoldedLists
 pub mod PoolRefusals
 pub mod Weights
 pub mod DegreeTables
-pub mod Numbers
 pub mod Numbering
-pub mod PoolLaws
 pub mod BaseLeaves
-pub mod BasePool
 pub mod BaseParts
 pub mod ExtLeaves
 pub mod ExtPool
 pub mod ExtTrees
-pub mod Sharing
 pub mod Reach
 pub mod Lowered
-pub mod WholeTrees
+pub mod laws

@@ -10,10 +10,10 @@ use Rattle.air_wire.specs.declared.errors.FlatError.TheVariants as faults
 use Rattle.air_wire.specs.Parts.{only_member}
 use Rattle.air_wire.specs.Results.{◌>>=◌}
 use Rattle.air_wire.specs.Spelling.{case_data}
-use Rattle.air_wire.specs.Readings.{done, by_name, none_found, named, mapped, only_found}
+use Rattle.air_wire.specs.laws.Readings.{done, by_name, none_found, named, mapped, only_found}
 use Rattle.air_wire.specs.Seen.{degree}
 use Rattle.air_wire.specs.Nodes.{Kind, operand_of, operand, stated, product_degree, two_of, one_of, sum_at, product_at, negated_at, leaf_node_at, node_with, case_node, node_at}
-use Rattle.air_wire.specs.NodeLaws.{two_found, two_read, one_found, one_read}
+use Rattle.air_wire.specs.laws.Nodes.{two_found, two_read, one_found, one_read}
 use Rattle.air_wire.specs.Forms.{Form, leaf_form, add_form, sub_form, mul_form, neg_form, SpellsForm, IsLate, IsAt, IsMisstated, OperandsFault, SumFault, ProductFault, FormFault, NodeFault}
 
 -- ---- the form of a value

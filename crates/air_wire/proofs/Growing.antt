@@ -3,7 +3,7 @@ use Rattle.std.proofs.Common.{◌≡◌, ℕ, suc, zero, ◌<◌, ◌≤◌, Lis
 use Rattle.air_field.specs.Ring.{CommRing}
 use Rattle.air_symbolic.specs.Leaves.{Leaves, LeafLaws}
 use Rattle.air_symbolic.specs.Pools.{Grown}
-use Rattle.air_symbolic.specs.PoolLaws.{Grown-under}
+use Rattle.air_symbolic.specs.laws.Pools.{Grown-under}
 use Rattle.air_symbolic.specs.declared.pools.expr.SymbolicExpr.{SymbolicExpr}
 
 -- what lies under the pool was lent, and has grown

@@ -6,7 +6,7 @@ use Rattle.air_symbolic.specs.Nodes.{OperandsBelow}
 use Rattle.air_symbolic.specs.declared.pools.expr.SymbolicExpr.{SymbolicExpr}
 use Rattle.air_symbolic.specs.declared.pools.expr.SymbolicExpr.TheVariants.{Leaf, Add, Sub, Neg, Mul}
 use Rattle.air_wire.specs.Written.{subtrees}
-use Rattle.air_wire.specs.WrittenLaws.{parts, parts_root}
+use Rattle.air_wire.specs.laws.Written.{parts, parts_root}
 use Rattle.air_wire.specs.Writing.{steps_of}
 
 -- the tree of a node, the trees of its operands being those of f

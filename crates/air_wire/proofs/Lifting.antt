@@ -7,9 +7,10 @@ use Rattle.air_field.specs.Extension.{ExtensionLaws}
 use Rattle.air_symbolic.specs.Trees.{Tree, nothing, leaf_tree, add_tree, sub_tree, neg_tree, mul_tree}
 use Rattle.air_symbolic.specs.declared.leaves.base_leaf.BaseLeaf.{BaseLeaf}
 use Rattle.air_wire.specs.Results.{◌>>=◌, Fails}
-use Rattle.air_wire.specs.Readings.{done}
-use Rattle.air_wire.specs.Coefficients.{elements_at, elements_found}
-use Rattle.air_wire.specs.ExtLeafLaws.{made_of}
+use Rattle.air_wire.specs.laws.Readings.{done}
+use Rattle.air_wire.specs.Coefficients.{elements_at}
+use Rattle.air_wire.specs.laws.Coefficients.{elements_found}
+use Rattle.air_wire.specs.laws.ExtLeaves.{made_of}
 use Rattle.air_wire.specs.Seen.{over}
 use Rattle.air_wire.specs.Written.{IsWritten}
 use Rattle.air_wire.specs.BaseLeaves.{base_kind, base_seen}

@@ -4,7 +4,7 @@ use Rattle.std.specs.List.{slice_get}
 use Rattle.std.proofs.lemmas.List.{append-nil}
 use Rattle.air_symbolic.specs.Trees.{Tree, nothing, leaf_tree, add_tree, sub_tree, neg_tree, mul_tree}
 use Rattle.air_wire.specs.Written.{subtrees, Stands, Adds}
-use Rattle.air_wire.specs.WrittenLaws.{stands_more, stands_push, stands_either, pushed_either, parts, parts_root}
+use Rattle.air_wire.specs.laws.Written.{stands_more, stands_push, stands_either, pushed_either, parts, parts_root}
 
 -- ---- operands stand earlier
 

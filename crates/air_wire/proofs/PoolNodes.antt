@@ -7,8 +7,8 @@ use Rattle.serde_json.specs.Data.{Data}
 use Rattle.air_symbolic.specs.Leaves.{Leaves}
 use Rattle.air_symbolic.specs.Trees.{Tree, nothing, leaf_tree, add_tree, sub_tree, neg_tree, mul_tree, IsWhole}
 use Rattle.air_symbolic.specs.Nodes.{unfold_node, tree_of, NodeFits, stated_degree, OperandsBelow, IsNode}
-use Rattle.air_symbolic.specs.Numbers.{tree_of-whole}
-use Rattle.air_symbolic.specs.Sharing.{shared}
+use Rattle.air_symbolic.specs.laws.Numbers.{tree_of-whole}
+use Rattle.air_symbolic.specs.laws.Sharing.{shared}
 use Rattle.air_symbolic.specs.Pools.{IsPool, tree_at}
 use Rattle.air_symbolic.specs.declared.pools.expr.SymbolicExpr.{SymbolicExpr}
 use Rattle.air_symbolic.specs.declared.pools.expr.SymbolicExpr.TheVariants.{Leaf, Add, Sub, Neg, Mul}

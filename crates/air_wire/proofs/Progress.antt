@@ -11,7 +11,7 @@ use Rattle.air_symbolic.specs.Nodes.{OperandsBelow}
 use Rattle.air_symbolic.specs.declared.pools.expr.SymbolicExpr.{SymbolicExpr}
 use Rattle.air_wire.specs.Nodes.{Kind}
 use Rattle.air_wire.specs.Written.{subtrees, Stands, Adds, IsWrittenNode, AreWritten, AreNodesOf}
-use Rattle.air_wire.specs.WrittenLaws.{at_push, at_more, stands_cons, pushed_either}
+use Rattle.air_wire.specs.laws.Written.{at_push, at_more, stands_cons, pushed_either}
 use Rattle.air_wire.specs.Writing.{steps_of}
 use Rattle.air_wire.proofs.Left.{node_tree, left_of, left, left_push, left_one, left_none, look_left, Within, within_one, within_front, within_last, look_within}
 use Rattle.air_wire.proofs.Ordered.{HasOperands, Ordered, Closed, ordered_head, ordered_all, adds_skip, ordered_skip, closed_push}

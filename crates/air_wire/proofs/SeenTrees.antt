@@ -5,7 +5,7 @@ use Rattle.air_field.specs.Degree.{degree_by, cached_weight}
 use Rattle.air_symbolic.specs.Leaves.{Leaves}
 use Rattle.air_symbolic.specs.Trees.{Tree, nothing, leaf_tree, add_tree, sub_tree, neg_tree, mul_tree, term_of, IsWhole}
 use Rattle.air_symbolic.specs.Nodes.{tree_of}
-use Rattle.air_symbolic.specs.Numbers.{tree_of-kept, tree_of-whole}
+use Rattle.air_symbolic.specs.laws.Numbers.{tree_of-kept, tree_of-whole}
 use Rattle.air_symbolic.specs.Pools.{IsPool, Grown, tree_at, term_at}
 use Rattle.air_symbolic.specs.declared.pools.expr.SymbolicExpr.{SymbolicExpr}
 use Rattle.air_wire.specs.Seen.{over, seen_at, degree, WireLaws}

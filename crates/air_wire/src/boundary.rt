@@ -54,7 +54,7 @@ fn cell_from(value: &Value) -> Option<BoundaryPublic>
 
 impl Spelled for BoundaryEnd {
     ghost use Rattle.air_wire.specs.Boundaries.{SpellsEnd, end_data as data_of_end};
-    ghost use Rattle.air_wire.specs.BoundaryLaws.{end_is_spelt, end_is_only};
+    ghost use Rattle.air_wire.specs.laws.Boundaries.{end_is_spelt, end_is_only};
 
     ghost spelling = { data_of_end };
 
@@ -75,7 +75,7 @@ impl Spelled for BoundaryEnd {
 
 impl Spelled for BoundaryPublic {
     ghost use Rattle.air_wire.specs.Boundaries.{SpellsCell, cell_data as data_of_cell};
-    ghost use Rattle.air_wire.specs.BoundaryLaws.{cell_is_spelt, cell_is_only};
+    ghost use Rattle.air_wire.specs.laws.Boundaries.{cell_is_spelt, cell_is_only};
 
     ghost spelling = { data_of_cell };
 

@@ -69,7 +69,7 @@ pub(crate) fn variable_from<F>(value: &Value) -> Option<SymbolicVariable<F>>
 
 impl Spelled for BaseEntry {
     ghost use Rattle.air_wire.specs.Entries.{SpellsEntry, entry_data as data_of_entry};
-    ghost use Rattle.air_wire.specs.EntryLaws.{entry_is_spelt, entry_is_only};
+    ghost use Rattle.air_wire.specs.laws.Entries.{entry_is_spelt, entry_is_only};
 
     ghost spelling = { data_of_entry };
 
@@ -90,7 +90,7 @@ impl Spelled for BaseEntry {
 
 impl<F> Spelled for SymbolicVariable<F> {
     ghost use Rattle.air_wire.specs.Entries.{SpellsVariable, variable_data as data_of_variable};
-    ghost use Rattle.air_wire.specs.EntryLaws.{variable_is_spelt, variable_is_only};
+    ghost use Rattle.air_wire.specs.laws.Entries.{variable_is_spelt, variable_is_only};
 
     ghost spelling = { data_of_variable };
 

@@ -63,7 +63,7 @@ pub(crate) fn ext_variable_from<F, EF>(value: &Value) -> Option<SymbolicVariable
 
 impl Spelled for ExtEntry {
     ghost use Rattle.air_wire.specs.ExtEntries.{SpellsExtEntry, ext_entry_data as data_of_entry};
-    ghost use Rattle.air_wire.specs.ExtEntryLaws.{ext_entry_is_spelt, ext_entry_is_only};
+    ghost use Rattle.air_wire.specs.laws.ExtEntries.{ext_entry_is_spelt, ext_entry_is_only};
 
     ghost spelling = { data_of_entry };
 
@@ -84,7 +84,7 @@ impl Spelled for ExtEntry {
 
 impl<F, EF> Spelled for SymbolicVariableExt<F, EF> {
     ghost use Rattle.air_wire.specs.ExtEntries.{SpellsExtVariable, ext_variable_data as data_of_variable};
-    ghost use Rattle.air_wire.specs.ExtEntryLaws.{ext_variable_is_spelt, ext_variable_is_only};
+    ghost use Rattle.air_wire.specs.laws.ExtEntries.{ext_variable_is_spelt, ext_variable_is_only};
 
     ghost spelling = { data_of_variable };
 

@@ -3,10 +3,10 @@ use Rattle.std.specs.Prelude.{◌≡◌, ℕ, zero, suc, refl, ◌+◌, ◌*◌,
 use Rattle.std.proofs.Common.{sym, ◌∙◌, ap, ap₂, inl, inr, arith}
 use Rattle.std.proofs.lemmas.Bool.{cases_lt}
 use Rattle.air_field.specs.Ring.{CommRing, image, minus}
-use Rattle.air_field.specs.RingLaws.{mul_nil, nil_add, nil_mul}
-use Rattle.air_field.specs.RingSolver.{var, nought, plus, times, less, ring}
+use Rattle.air_field.specs.laws.Ring.{mul_nil, nil_add, nil_mul}
+use Rattle.air_field.specs.laws.RingSolver.{var, nought, plus, times, less, ring}
 use Rattle.air_words.specs.Exact.{IsDomain}
-use Rattle.air_field.specs.Images.{HasCharacteristic, image-add, image-mul, image-zero, same_of_image, zero_of_image}
+use Rattle.air_field.specs.laws.Images.{HasCharacteristic, image-add, image-mul, image-zero, same_of_image, zero_of_image}
 
 -- ---- a difference of images
 difference_to : {A : Type 0} (R : CommRing A) (a s n : A) → R.add (minus R a s) n ≡ R.nil → R.add a n ≡ s

@@ -2,7 +2,7 @@
 use Rattle.std.specs.Prelude.{◌≡◌, ℕ}
 use Rattle.std.proofs.Common.{sym, ◌∙◌, ap, ap₂}
 use Rattle.air_field.specs.Ring.{CommRing, image, minus}
-use Rattle.air_field.specs.Images.{HasCharacteristic}
+use Rattle.air_field.specs.laws.Images.{HasCharacteristic}
 use Rattle.air_words.specs.Exact.{Add2IsExact, Add3IsExact}
 use Rattle.air_words.proofs.Carrying.{add2_exact, add3_exact}
 

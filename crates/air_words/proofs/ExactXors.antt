@@ -2,7 +2,7 @@
 use Rattle.std.specs.Prelude.{◌≡◌, ℕ, refl, List, [], ◌∷◌, ◌++◌, map, take, drop}
 use Rattle.std.proofs.Common.{sym, ◌∙◌, ap, subst}
 use Rattle.air_field.specs.Ring.{CommRing, minus, itself}
-use Rattle.air_field.specs.RingSolver.{var, nought, unit, plus, times, ring}
+use Rattle.air_field.specs.laws.RingSolver.{var, nought, unit, plus, times, ring}
 use Rattle.air_field.specs.Term.{Leaf, Term}
 use Rattle.air_field.specs.Value.{value}
 use Rattle.air_field.specs.Algebra.{bool_check_term, xor_term}

@@ -2,9 +2,9 @@
 use Rattle.std.specs.Prelude.{◌≡◌, ℕ, zero, suc, refl, ◌+◌, ◌-◌, ◌*◌, ◌%◌, ◌<◌, ◌↔◌, List, [], ◌∷◌, ◌++◌, map, take, drop}
 use Rattle.std.proofs.Common.{sym, ◌∙◌, ap, ap₂, subst, inl, inr, arith}
 use Rattle.air_field.specs.Ring.{CommRing, image, minus}
-use Rattle.air_field.specs.RingLaws.{nil_add, ring_rules}
-use Rattle.air_field.specs.RingSolver.{var, nought, unit, plus, times, less, ring}
-use Rattle.air_field.specs.Images.{image-add, image-mul, image-zero, image-one, image-two}
+use Rattle.air_field.specs.laws.Ring.{nil_add, ring_rules}
+use Rattle.air_field.specs.laws.RingSolver.{var, nought, unit, plus, times, less, ring}
+use Rattle.air_field.specs.laws.Images.{image-add, image-mul, image-zero, image-one, image-two}
 use Rattle.air_gadgets.specs.Bits.{AreBits, packed, ring_xor}
 use Rattle.air_words.specs.Words.{number_of, xor_bits, rotated_left}
 use Rattle.air_words.specs.Exact.{IsDomain}

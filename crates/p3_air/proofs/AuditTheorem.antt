@@ -22,7 +22,7 @@ use Rattle.air_report.specs.Checks.{IsReport}
 use Rattle.air_recording.specs.Folds.{ArePlacesOf}
 use Rattle.air_report.specs.Given.{Given, given_trace, height}
 use Rattle.air_recording.specs.Inferred.{AnswersInferred, periods_of, recorded_terms}
-use Rattle.air_recording.specs.BoundLaws.{degrees_within, polynomials_within}
+use Rattle.air_recording.specs.laws.Bounds.{degrees_within, polynomials_within}
 use Rattle.air_recording.specs.Kinds.{kind_of, base_terms, ext_terms}
 use Rattle.air_recording.specs.Layouts.{air_layout, layout_shape, LayoutRefuses}
 use Rattle.air_recording.specs.Recorded.{EachRecords, RecordRefuses, RecordsBase, RecordsExt, terms_of}

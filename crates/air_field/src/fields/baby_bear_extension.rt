@@ -1,8 +1,9 @@
 //! `BabyBear` is an extension of itself of dimension 1.
 ghost use Rattle.std.specs.Prelude.{[], ◌∷◌};
 ghost use Rattle.air_field.specs.Ring.{itself, itself_laws};
-ghost use Rattle.air_field.specs.Single.{single_laws};
-ghost use Rattle.air_field.specs.Modulo.{baby_bear_ring, equal_is};
+ghost use Rattle.air_field.specs.laws.Single.{single_laws};
+ghost use Rattle.air_field.specs.Modulo.{baby_bear_ring};
+ghost use Rattle.air_field.specs.laws.Modulo.{equal_is};
 
 use crate::fields::baby_bear::BabyBear;
 use crate::fields::extension::ExtensionField;

@@ -1,7 +1,8 @@
 //! `BabyBear` is a prime field.
 ghost use Rattle.std.specs.Prelude.{refl};
 ghost use Rattle.std.proofs.Common.{rules};
-ghost use Rattle.air_field.specs.Modulo.{class, baby_bear_ring, image-zero, equal_is, baby_bear_domain};
+ghost use Rattle.air_field.specs.Modulo.{class, baby_bear_ring};
+ghost use Rattle.air_field.specs.laws.Modulo.{image-zero, equal_is, baby_bear_domain};
 
 use crate::fields::baby_bear::BabyBear;
 use crate::fields::field::{Field, PrimeField};

@@ -1,8 +1,9 @@
 //! `BinomialExtensionField` is an extension of `BabyBear` of dimension 4.
 ghost use Rattle.std.specs.Prelude.{◌≡◌};
 ghost use Rattle.air_field.specs.Modulo.{baby_bear_ring, class};
-ghost use Rattle.air_field.specs.CoefficientLaws.{IsProductModulo};
-ghost use Rattle.air_field.specs.Binomial.{binomial_product, binomial_over, binomial_laws, binomial_over_laws, same_polynomial};
+ghost use Rattle.air_field.specs.Coefficients.{IsProductModulo};
+ghost use Rattle.air_field.specs.Binomial.{binomial_product, binomial_over};
+ghost use Rattle.air_field.specs.laws.Binomial.{binomial_laws, binomial_over_laws, same_polynomial};
 
 use crate::fields::baby_bear::BabyBear;
 use crate::fields::binomial::BinomialExtensionField;

@@ -2,7 +2,7 @@
 ghost use Rattle.std.specs.Prelude.{◌≡◌};
 ghost use Rattle.air_field.specs.RingOps.{ops};
 ghost use Rattle.air_field.specs.Coefficients.{fold_four, poly_mul, dot};
-ghost use Rattle.air_field.specs.CoefficientLaws.{IsProductModulo};
+ghost use Rattle.air_field.specs.Coefficients.{IsProductModulo};
 ghost use Rattle.air_field.specs.Modulo.{baby_bear_ring};
 
 use crate::fields::baby_bear::BabyBear;

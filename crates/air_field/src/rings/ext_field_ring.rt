@@ -2,8 +2,9 @@
 ghost use Rattle.std.specs.Prelude.{◌≡◌, ⊤, IsTrue};
 ghost use Rattle.air_field.specs.Ring.{minus};
 ghost use Rattle.air_field.specs.Term.{IsBase};
-ghost use Rattle.air_field.specs.Algebra.{closed_value, closed_value_in, value_in_laws};
-ghost use Rattle.air_field.specs.Extension.{extend-coefficients};
+ghost use Rattle.air_field.specs.Algebra.{closed_value, closed_value_in};
+ghost use Rattle.air_field.specs.laws.Algebra.{value_in_laws};
+ghost use Rattle.air_field.specs.laws.Extension.{extend-coefficients};
 ghost use Rattle.air_field.specs.ExtAlgebra.{values_are_base};
 
 use crate::errors::RingError;

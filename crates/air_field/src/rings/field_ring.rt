@@ -2,7 +2,8 @@
 ghost use Rattle.std.specs.Prelude.{◌≡◌, ⊤, IsTrue};
 ghost use Rattle.air_field.specs.Ring.{minus};
 ghost use Rattle.air_field.specs.Term.{IsBase};
-ghost use Rattle.air_field.specs.Algebra.{closed_value, value_laws};
+ghost use Rattle.air_field.specs.Algebra.{closed_value};
+ghost use Rattle.air_field.specs.laws.Algebra.{value_laws};
 
 use crate::errors::RingError;
 use crate::fields::field::Field;

@@ -1,7 +1,7 @@
 //! The folder keeps the laws of builders.
 ghost use Rattle.std.specs.Prelude.{◌≡◌, ⊤};
 ghost use Rattle.air_folder.specs.Folder.{folder_stands, FolderMissing, FolderRefuses};
-ghost use Rattle.air_folder.specs.FolderLaws.{folder_laws};
+ghost use Rattle.air_folder.specs.laws.Folder.{folder_laws};
 ghost use Rattle.air_folder.specs.FolderRow.{row_of, FolderGrew};
 
 use crate::folder::builder::ConstraintFolder;

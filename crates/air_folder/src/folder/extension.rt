@@ -1,7 +1,7 @@
 //! The folder over the extension, and with permutation data.
 ghost use Rattle.std.specs.Prelude.{◌≡◌, ◌≢◌, IfOk, IfErr, IsOk, Err, None};
 ghost use Rattle.air_folder.specs.Folder.{PermutationStands, PermutationEnds};
-ghost use Rattle.air_folder.specs.FolderLaws.{folder_extension_laws};
+ghost use Rattle.air_folder.specs.laws.Folder.{folder_extension_laws};
 ghost use Rattle.air_folder.specs.FolderRow.{row_of};
 
 use crate::folder::builder::ConstraintFolder;

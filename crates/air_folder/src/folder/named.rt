@@ -2,7 +2,7 @@
 ghost use Rattle.std.specs.Prelude.{refl};
 ghost use Rattle.air_builder.specs.Labels.{discarding};
 ghost use Rattle.air_builder.specs.NamedFilters.{discarding_laws};
-ghost use Rattle.air_folder.specs.FolderLaws.{folder_laws};
+ghost use Rattle.air_folder.specs.laws.Folder.{folder_laws};
 
 use crate::folder::builder::ConstraintFolder;
 use p3_air::{

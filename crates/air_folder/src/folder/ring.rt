@@ -1,8 +1,8 @@
 //! The ring in which a folder's expressions are made.
 ghost use Rattle.std.specs.Prelude.{◌≡◌, ⊤, IsTrue};
 ghost use Rattle.air_field.specs.Ring.{minus};
-ghost use Rattle.air_field.specs.Algebra.{value_in_laws};
-ghost use Rattle.air_field.specs.Extension.{extend-coefficients};
+ghost use Rattle.air_field.specs.laws.Algebra.{value_in_laws};
+ghost use Rattle.air_field.specs.laws.Extension.{extend-coefficients};
 ghost use Rattle.air_folder.specs.Folder.{HasValue, values_are_their_base};
 
 use p3_air::{Algebra, ExtAlgebra, ExtensionField, Field, FromVar, RingError};

@@ -50,7 +50,7 @@ fn constraints_value(alloc: Global, layout: &ConstraintLayout) -> Result<Value, 
 
 impl Spelled for AirLayout {
     ghost use Rattle.air_recording.specs.Spellings.{SpellsLayout, layout_data as data_of_layout};
-    ghost use Rattle.air_recording.specs.SpellingLaws.{layout_is_spelt, layout_is_only};
+    ghost use Rattle.air_recording.specs.laws.Spellings.{layout_is_spelt, layout_is_only};
 
     ghost spelling = { data_of_layout };
 
@@ -71,7 +71,7 @@ impl Spelled for AirLayout {
 
 impl Spelled for ConstraintLayout {
     ghost use Rattle.air_recording.specs.Spellings.{SpellsConstraints, HaveSameIndices, constraints_data as data_of_constraints};
-    ghost use Rattle.air_recording.specs.SpellingLaws.{constraints_are_spelt, constraints_are_only};
+    ghost use Rattle.air_recording.specs.laws.Spellings.{constraints_are_spelt, constraints_are_only};
 
     ghost spelling = { data_of_constraints };
 

@@ -1,9 +1,9 @@
 //! The symbolic builder over the extension, and with permutation data.
 ghost use Rattle.std.specs.Prelude.{◌≡◌, [], refl};
 ghost use Rattle.air_symbolic.specs.BaseLeaves.{base_reads};
-ghost use Rattle.air_symbolic.specs.BasePool.{base_pool_laws};
-ghost use Rattle.air_symbolic.specs.ExtPool.{ext_pool_laws, base_lent, base_grown};
-ghost use Rattle.air_recording.specs.RecordingLaws.{recording_ext_laws};
+ghost use Rattle.air_symbolic.specs.laws.BasePool.{base_pool_laws};
+ghost use Rattle.air_symbolic.specs.laws.ExtPool.{ext_pool_laws, base_lent, base_grown};
+ghost use Rattle.air_recording.specs.laws.Recording.{recording_ext_laws};
 ghost use Rattle.air_recording.specs.RecordedLists.{lists_of};
 ghost use Rattle.air_recording.specs.SymbolicParts.{fixed_by, base_has_it, base_means_it};
 

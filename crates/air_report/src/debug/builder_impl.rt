@@ -1,7 +1,8 @@
 //! The debug builder keeps the laws of builders.
 ghost use Rattle.std.specs.Prelude.{◌≡◌, refl, ⊤};
 ghost use Rattle.air_report.specs.Debug.{row_stands, is_zero_at, GrewAtRow};
-ghost use Rattle.air_report.specs.DebugLaws.{debug_laws, RowMissing, RefusedAtRow};
+ghost use Rattle.air_report.specs.laws.Debug.{debug_laws};
+ghost use Rattle.air_report.specs.RowRefusals.{RowMissing, RefusedAtRow};
 ghost use Rattle.air_report.specs.DebugRow.{row_of};
 
 use crate::debug::builder::DebugConstraintBuilder;

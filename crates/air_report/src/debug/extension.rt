@@ -8,7 +8,8 @@ ghost use Rattle.air_builder.specs.Extensions.{GrewExtOf, RefusesExtOf};
 ghost use Rattle.air_builder.specs.ExtensionLabels.{LabelledExtOf};
 ghost use Rattle.air_report.specs.Debug.{is_zero_at, row_stands};
 ghost use Rattle.air_report.specs.DebugLabels.{LabelledAtRow, LogRefuses};
-ghost use Rattle.air_report.specs.DebugLaws.{debug_extension_laws, RowMissing};
+ghost use Rattle.air_report.specs.laws.Debug.{debug_extension_laws};
+ghost use Rattle.air_report.specs.RowRefusals.{RowMissing};
 ghost use Rattle.air_report.specs.DebugRow.{row_of};
 
 use crate::debug::builder::DebugConstraintBuilder;

@@ -4,7 +4,7 @@ ghost use Rattle.air_builder.specs.Builders.{Means, GrewOf, RefusesOf};
 ghost use Rattle.air_builder.specs.Labels.{LabelledOf};
 ghost use Rattle.air_report.specs.Debug.{is_zero_at};
 ghost use Rattle.air_report.specs.DebugLabels.{LabelledAtRow, LogRefuses};
-ghost use Rattle.air_report.specs.DebugLabelLaws.{debug_named_laws};
+ghost use Rattle.air_report.specs.laws.DebugLabels.{debug_named_laws};
 ghost use Rattle.air_report.specs.DebugRow.{row_of};
 
 use crate::debug::builder::DebugConstraintBuilder;

@@ -22,7 +22,8 @@ impl<F: Field> SymLeaf for BaseLeaf<F> {
     type Under = ();
 
     ghost use Rattle.std.proofs.Common.{arith};
-    ghost use Rattle.air_symbolic.specs.BaseLeaves.{base_reads, base_grows, base_leaf_laws};
+    ghost use Rattle.air_symbolic.specs.BaseLeaves.{base_reads, base_grows};
+    ghost use Rattle.air_symbolic.specs.laws.BaseLeaves.{base_leaf_laws};
 
     ghost reads = { base_reads };
 

@@ -32,7 +32,8 @@ impl<F: Field, EF: ExtensionField<F>> SymLeaf for ExtLeaf<F, EF> {
     ghost use Rattle.air_symbolic.specs.Pools.{term_at};
     ghost use Rattle.air_symbolic.specs.BaseLeaves.{base_reads};
     ghost use Rattle.air_symbolic.specs.DegreeTables.{AnswersDegrees};
-    ghost use Rattle.air_symbolic.specs.ExtLeaves.{no_base_nodes, ext_reads, ext_grows, ext_leaf_laws};
+    ghost use Rattle.air_symbolic.specs.ExtLeaves.{no_base_nodes, ext_reads, ext_grows};
+    ghost use Rattle.air_symbolic.specs.laws.ExtLeaves.{ext_leaf_laws};
 
     ghost reads = { λ u. ext_reads F.ring F.eq EF.coefficients u };
 

@@ -45,7 +45,7 @@ impl<A: SymLeaf> Algebra<A::F> for ExprPool<A> {
         ExprPool::mul(self, x, y)
     }
 
-    ghost use Rattle.air_symbolic.specs.PoolLaws.{pool_laws};
+    ghost use Rattle.air_symbolic.specs.laws.Pools.{pool_laws};
 
     ghost laws = { pool_laws A.F.ring A.reads A.grows A.no_under A.leaf_laws };
 }

@@ -90,7 +90,8 @@ impl<F: Field, EF: ExtensionField<F>> FromVar<F, SymbolicVariableExt<F, EF>>
 impl<F: Field, EF: ExtensionField<F>> ExtAlgebra<F, EF> for ExprPool<ExtLeaf<F, EF>> {
     type Base = ExprId<BaseLeaf<F>>;
 
-    ghost use Rattle.air_symbolic.specs.ExtPool.{BaseHas, ext_keeps_base};
+    ghost use Rattle.air_symbolic.specs.ExtPool.{BaseHas};
+    ghost use Rattle.air_symbolic.specs.laws.ExtPool.{ext_keeps_base};
 
     ghost base_has = { λ p x. BaseHas F.ring F.eq EF.coefficients p x };
 

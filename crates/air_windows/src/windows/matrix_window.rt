@@ -3,7 +3,8 @@ use crate::windows::access::WindowAccess;
 use air_field::RowMajorMatrix;
 
 impl<T: Copy> WindowAccess<T> for RowMajorMatrix<T> {
-    ghost use Rattle.air_field.specs.Grid.{IsTwoRows, first_row, second_row, two_rows_width};
+    ghost use Rattle.air_field.specs.Grid.{IsTwoRows, first_row, second_row};
+    ghost use Rattle.air_field.specs.laws.Grid.{two_rows_width};
 
     ghost is_window = { IsTwoRows };
 

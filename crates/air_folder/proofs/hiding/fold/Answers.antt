@@ -2,7 +2,8 @@ use Rattle.std.proofs.Common.{◌≡◌, ◌≤◌, ℕ, List, length, drop, sym
 use Rattle.std.proofs.lemmas.List.{drop_all}
 use Rattle.air_field.specs.Ring.{CommRing}
 use Rattle.air_recording.specs.Folds.{horner}
-use Rattle.air_folder.specs.Fold.{running, running-is, folded_on-nil}
+use Rattle.air_folder.specs.Fold.{running}
+use Rattle.air_folder.specs.laws.Fold.{running-is, folded_on-nil}
 use Rattle.air_folder.proofs.hiding.fold.Goals as goal
 
 -- what is folded when no value is left

@@ -1,7 +1,7 @@
 use Rattle.std.proofs.Common.{◌≡◌, ◌≢◌, ⊎_elim, ℕ, Bool, true, false, eqb, ◌&&◌, Decides, ap, ◌∙◌}
 use Rattle.std.proofs.lemmas.Bool.Decides.{eqb_tells}
 use Rattle.air_symbolic.specs.Pools.{tree_at}
-use Rattle.air_symbolic.specs.Sharing.{shared}
+use Rattle.air_symbolic.specs.laws.Sharing.{shared}
 use Rattle.air_symbolic.proofs.laws.is_same_tree.Goals as goal
 
 tells : (x y : ℕ) (r : Bool) → r ≡ eqb x y && true → Decides r (x ≡ y)

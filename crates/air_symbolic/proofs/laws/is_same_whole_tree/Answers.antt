@@ -1,9 +1,9 @@
 use Rattle.std.proofs.Common.{ap}
-use Rattle.air_symbolic.specs.Numbers.{tree_of-whole}
+use Rattle.air_symbolic.specs.laws.Numbers.{tree_of-whole}
 use Rattle.air_symbolic.specs.ExtLeaves.{ext_reads}
 use Rattle.air_symbolic.specs.ExtTrees.{whole_tree}
 use Rattle.air_symbolic.specs.Pools.{tree_at}
-use Rattle.air_symbolic.specs.WholeTrees.{same_tree}
+use Rattle.air_symbolic.specs.laws.WholeTrees.{same_tree}
 use Rattle.air_symbolic.proofs.laws.is_same_whole_tree.Goals as goal
 
 pub returns : goal.returns

@@ -1,4 +1,4 @@
-use Rattle.air_field.specs.PolynomialLaws.{Same-poly}
+use Rattle.air_field.specs.laws.Polynomial.{Same-poly}
 use Rattle.air_symbolic.proofs.laws.polynomial_is_kept.Goals as goal
 
 pub returns : goal.returns

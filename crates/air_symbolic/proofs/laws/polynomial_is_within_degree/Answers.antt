@@ -1,4 +1,4 @@
-use Rattle.air_field.specs.DegreeLaws.{polynomial-degree}
+use Rattle.air_field.specs.laws.Degree.{polynomial-degree}
 use Rattle.air_symbolic.specs.Pools.{term_at}
 use Rattle.air_symbolic.proofs.laws.polynomial_is_within_degree.Goals as goal
 

@@ -1,4 +1,4 @@
-use Rattle.air_symbolic.specs.ExtPool.{base_lent}
+use Rattle.air_symbolic.specs.laws.ExtPool.{base_lent}
 use Rattle.air_symbolic.proofs.laws.pool_grows_with_base.Goals as goal
 
 pub returns : goal.returns

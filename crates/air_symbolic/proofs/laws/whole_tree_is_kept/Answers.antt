@@ -1,10 +1,11 @@
 use Rattle.std.proofs.Common.{◌∙◌, ap}
-use Rattle.air_symbolic.specs.Numbers.{tree_of-whole}
-use Rattle.air_symbolic.specs.PoolLaws.{tree-kept}
-use Rattle.air_symbolic.specs.ExtLeaves.{no_base_nodes, ext_reads, ext_grows, ext_leaf_laws}
+use Rattle.air_symbolic.specs.laws.Numbers.{tree_of-whole}
+use Rattle.air_symbolic.specs.laws.Pools.{tree-kept}
+use Rattle.air_symbolic.specs.ExtLeaves.{no_base_nodes, ext_reads, ext_grows}
+use Rattle.air_symbolic.specs.laws.ExtLeaves.{ext_leaf_laws}
 use Rattle.air_symbolic.specs.ExtTrees.{whole_tree}
 use Rattle.air_symbolic.specs.Pools.{tree_at}
-use Rattle.air_symbolic.specs.WholeTrees.{whole_tree-kept}
+use Rattle.air_symbolic.specs.laws.WholeTrees.{whole_tree-kept}
 use Rattle.air_symbolic.proofs.laws.whole_tree_is_kept.Goals as goal
 
 pub returns : goal.returns

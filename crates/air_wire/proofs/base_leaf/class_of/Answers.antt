@@ -1,4 +1,5 @@
-use Rattle.air_field.specs.Modulo.{class, same_value}
+use Rattle.air_field.specs.Modulo.{class}
+use Rattle.air_field.specs.laws.Residues.{same_value}
 use Rattle.air_wire.proofs.base_leaf.class_of.Goals as goal
 
 pub returns : goal.returns

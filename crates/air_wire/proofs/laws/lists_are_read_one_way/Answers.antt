@@ -1,4 +1,4 @@
-use Rattle.air_wire.specs.ListLaws.{one_tree, no_fault, one_fault}
+use Rattle.air_wire.specs.laws.Lists.{one_tree, no_fault, one_fault}
 use Rattle.air_wire.proofs.laws.lists_are_read_one_way.Goals as goal
 
 pub returns-clause-one_tree : goal.returns-clause-one_tree

@@ -1,4 +1,4 @@
-use Rattle.air_wire.specs.WrittenLaws.{written_list, one_list, written_tree}
+use Rattle.air_wire.specs.laws.Written.{written_list, one_list, written_tree}
 use Rattle.air_wire.proofs.laws.lists_are_written_one_way.Goals as goal
 
 pub returns-clause-list : goal.returns-clause-list

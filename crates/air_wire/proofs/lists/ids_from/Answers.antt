@@ -2,7 +2,7 @@ use Rattle.std.proofs.Common.{[], map}
 use Rattle.std.proofs.lemmas.Result.{err_from_is_err_and}
 use Rattle.std.proofs.lemmas.List.{map_push}
 use Rattle.serde_json.specs.View.{items_view}
-use Rattle.air_symbolic.specs.PoolLaws.{Grown-trans}
+use Rattle.air_symbolic.specs.laws.Pools.{Grown-trans}
 use Rattle.air_wire.specs.Seen.{seen_at}
 use Rattle.air_wire.specs.Nodes.{nodes_from}
 use Rattle.air_wire.proofs.Growing.{longer, below_push, map_kept}

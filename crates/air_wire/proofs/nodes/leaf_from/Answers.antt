@@ -1,4 +1,4 @@
-use Rattle.air_symbolic.specs.PoolLaws.{Grown-trans}
+use Rattle.air_symbolic.specs.laws.Pools.{Grown-trans}
 use Rattle.air_wire.proofs.Growing.{lent_grown}
 use Rattle.air_wire.proofs.nodes.leaf_from.Goals as goal
 

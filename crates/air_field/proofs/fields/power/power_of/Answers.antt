@@ -1,5 +1,6 @@
 use Rattle.std.proofs.Common.{◌≡◌, ◌∙◌, ◌%◌, arith}
-use Rattle.air_field.specs.Powers.{power, power-even_step, power-odd_step}
+use Rattle.air_field.specs.Powers.{power}
+use Rattle.air_field.specs.laws.Powers.{power-even_step, power-odd_step}
 use Rattle.air_field.proofs.fields.power.power_of.Goals.{then-left-eq1, else-left-eq1}
 use Rattle.air_field.proofs.fields.power.power_of.Goals as goal
 

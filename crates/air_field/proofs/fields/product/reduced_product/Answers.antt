@@ -1,8 +1,9 @@
 use Rattle.std.proofs.Common.{◌≡◌, ◌∙◌, ◌∷◌, [], subst, sym}
 use Rattle.air_field.specs.RingOps.{ops}
 use Rattle.air_field.specs.Coefficients.{fold_four, poly_mul}
-use Rattle.air_field.specs.CoefficientLaws.{IsProductModulo, product-modulo}
-use Rattle.air_field.specs.FourCoefficients.{four_terms, four_terms-is}
+use Rattle.air_field.specs.Coefficients.{IsProductModulo}
+use Rattle.air_field.specs.laws.Coefficients.{product-modulo}
+use Rattle.air_field.specs.laws.FourCoefficients.{four_terms, four_terms-is}
 use Rattle.air_field.proofs.fields.product.reduced_product.Goals as goal
 
 pub returns : goal.returns

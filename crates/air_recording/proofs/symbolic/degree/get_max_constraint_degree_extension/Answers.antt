@@ -1,7 +1,7 @@
 use Rattle.std.proofs.Common.{ℕ, List, ◌++◌, Err, length, sym, subst, ◌∙◌, ap}
 use Rattle.air_field.specs.Ring.{itself}
 use Rattle.air_recording.specs.Bounds.{leaf_degree, polynomial_bound, IsDegreeFor}
-use Rattle.air_recording.specs.BoundLaws.{degrees_within, polynomials_within}
+use Rattle.air_recording.specs.laws.Bounds.{degrees_within, polynomials_within}
 use Rattle.air_recording.specs.Layouts.{FitsAir}
 use Rattle.std.proofs.lemmas.List.{length-map}
 use Rattle.std.proofs.lemmas.Result.{err_from_is_err_and}

@@ -3,9 +3,10 @@ use Rattle.std.proofs.Common.{ℕ, List, ◌∙◌}
 use Rattle.air_field.specs.Ring.{CommRing}
 use Rattle.air_symbolic.specs.Trees.{Tree}
 use Rattle.air_symbolic.specs.Pools.{HasTree, Grown}
-use Rattle.air_symbolic.specs.BaseLeaves.{base_reads, base_grows, base_leaf_laws}
-use Rattle.air_symbolic.specs.PoolLaws.{here-kept, tree-kept}
-use Rattle.air_symbolic.specs.BasePool.{base_pool_laws}
+use Rattle.air_symbolic.specs.BaseLeaves.{base_reads, base_grows}
+use Rattle.air_symbolic.specs.laws.BaseLeaves.{base_leaf_laws}
+use Rattle.air_symbolic.specs.laws.Pools.{here-kept, tree-kept}
+use Rattle.air_symbolic.specs.laws.BasePool.{base_pool_laws}
 use Rattle.air_symbolic.specs.declared.leaves.base_leaf.BaseLeaf.{BaseLeaf}
 use Rattle.air_symbolic.specs.declared.pools.expr.SymbolicExpr.{SymbolicExpr}
 use Rattle.air_recording.proofs.symbolic.selectors.make_selectors.Goals as goal

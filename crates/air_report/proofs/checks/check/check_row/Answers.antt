@@ -4,7 +4,8 @@ use Rattle.std.proofs.lemmas.Result.{err_from_is_err_and}
 use Rattle.air_field.specs.Assignment.{leaf_value, row_or_none, IsMissing}
 use Rattle.air_builder.specs.Refusals.{NoneMissing}
 use Rattle.air_report.specs.Debug.{nonzero_from}
-use Rattle.air_report.specs.DebugLaws.{IsFull, refused_anyway}
+use Rattle.air_report.specs.RowRefusals.{IsFull}
+use Rattle.air_report.specs.laws.Debug.{refused_anyway}
 use Rattle.air_report.specs.Given.{given, height, table_grid}
 use Rattle.air_builder.specs.Refused.{Refused}
 use Rattle.air_report.proofs.OwnExtension.{own_nonzero}

@@ -1,7 +1,7 @@
 use Rattle.std.proofs.lemmas.Result.{err_from_is_err_and}
 use Rattle.std.proofs.Common.{[]}
 use Rattle.air_field.specs.Term.{main}
-use Rattle.air_builder.specs.Refusals.{none_missing}
+use Rattle.air_builder.specs.laws.Refusals.{none_missing}
 use Rattle.air_vectors.specs.Differing.{differing}
 use Rattle.air_vectors.proofs.DifferingParts.{part_x, part_y, part_z}
 use Rattle.air_vectors.proofs.tests.differing.read_row.Goals as goal

@@ -1,7 +1,7 @@
 use Rattle.std.proofs.Common.{sym, ◌∙◌}
 use Rattle.serde_json.specs.View.{view}
-use Rattle.air_wire.specs.BoundaryLaws.{end_found, end_again}
-use Rattle.air_wire.specs.Answering.{read_is, nothing_is}
+use Rattle.air_wire.specs.laws.Boundaries.{end_found, end_again}
+use Rattle.air_wire.specs.laws.Answering.{read_is, nothing_is}
 use Rattle.air_wire.proofs.boundary.BoundaryEndSpelled.from_value.Goals as goal
 
 pub returns-clause-read : goal.returns-clause-read

@@ -1,7 +1,7 @@
 use Rattle.std.proofs.Common.{sym, ◌∙◌}
 use Rattle.serde_json.specs.View.{view}
-use Rattle.air_wire.specs.EntryLaws.{variable_found, variable_again}
-use Rattle.air_wire.specs.Answering.{read_is, nothing_is}
+use Rattle.air_wire.specs.laws.Entries.{variable_found, variable_again}
+use Rattle.air_wire.specs.laws.Answering.{read_is, nothing_is}
 use Rattle.air_wire.proofs.entries.SymbolicVariableSpelled.from_value.Goals as goal
 
 pub returns-clause-read : goal.returns-clause-read

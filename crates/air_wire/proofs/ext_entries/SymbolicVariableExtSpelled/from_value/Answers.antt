@@ -1,7 +1,7 @@
 use Rattle.std.proofs.Common.{sym, ◌∙◌}
 use Rattle.serde_json.specs.View.{view}
-use Rattle.air_wire.specs.ExtEntryLaws.{ext_variable_found, ext_variable_again}
-use Rattle.air_wire.specs.Answering.{read_is, nothing_is}
+use Rattle.air_wire.specs.laws.ExtEntries.{ext_variable_found, ext_variable_again}
+use Rattle.air_wire.specs.laws.Answering.{read_is, nothing_is}
 use Rattle.air_wire.proofs.ext_entries.SymbolicVariableExtSpelled.from_value.Goals as goal
 
 pub returns-clause-read : goal.returns-clause-read

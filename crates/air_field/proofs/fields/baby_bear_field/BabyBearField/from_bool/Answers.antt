@@ -1,7 +1,8 @@
 use Rattle.std.proofs.Common.{◌≡◌, Bool, true, false, refl}
 use Rattle.std.specs.Bool.{if◌then◌else◌}
 use mir.Val.{bool_byte}
-use Rattle.air_field.specs.Modulo.{class, same_value}
+use Rattle.air_field.specs.Modulo.{class}
+use Rattle.air_field.specs.laws.Residues.{same_value}
 use Rattle.air_field.specs.declared.fields.baby_bear.BabyBear.{BabyBear}
 use Rattle.air_field.proofs.fields.baby_bear_field.BabyBearField.from_bool.Goals as goal
 

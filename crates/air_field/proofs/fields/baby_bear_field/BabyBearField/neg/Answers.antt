@@ -1,4 +1,4 @@
-use Rattle.air_field.specs.Modulo.{same_value}
+use Rattle.air_field.specs.laws.Residues.{same_value}
 use Rattle.air_field.proofs.fields.baby_bear_field.BabyBearField.neg.Goals as goal
 
 pub returns : goal.returns

@@ -1,6 +1,6 @@
 use Rattle.std.proofs.Common.{◌∙◌, ◌-◌, sym}
 use Rattle.std.proofs.Math.Nat.{add-mod-mod}
-use Rattle.air_field.specs.Modulo.{same_value}
+use Rattle.air_field.specs.laws.Residues.{same_value}
 use Rattle.air_field.proofs.fields.baby_bear_field.BabyBearField.sub.Goals as goal
 
 pub returns : goal.returns

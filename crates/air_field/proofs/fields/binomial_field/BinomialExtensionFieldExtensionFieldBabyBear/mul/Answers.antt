@@ -1,10 +1,11 @@
 use Rattle.std.proofs.Common.{◌≡◌, ◌∙◌, ◌∷◌, [], subst, sym}
 use Rattle.air_field.specs.RingOps.{ops}
 use Rattle.air_field.specs.Coefficients.{binomial_mul}
-use Rattle.air_field.specs.CoefficientLaws.{IsProductModulo, product-modulo}
-use Rattle.air_field.specs.FourCoefficients.{four_rows, four_rows-is}
+use Rattle.air_field.specs.Coefficients.{IsProductModulo}
+use Rattle.air_field.specs.laws.Coefficients.{product-modulo}
+use Rattle.air_field.specs.laws.FourCoefficients.{four_rows, four_rows-is}
 use Rattle.air_field.specs.Modulo.{baby_bear_ring, class}
-use Rattle.air_field.specs.Binomial.{same_list}
+use Rattle.air_field.specs.laws.SamePolynomial.{same_list}
 use Rattle.air_field.proofs.fields.binomial_field.BinomialExtensionFieldExtensionFieldBabyBear.mul.Goals as goal
 
 pub returns : goal.returns

@@ -1,5 +1,5 @@
 use Rattle.std.proofs.Common.{refl}
-use Rattle.air_field.specs.Binomial.{same_list}
+use Rattle.air_field.specs.laws.SamePolynomial.{same_list}
 use Rattle.air_field.proofs.Binomials.{same_four}
 use Rattle.air_field.proofs.fields.binomial_field.BinomialExtensionFieldExtensionFieldBabyBear.one.Goals as goal
 

@@ -1,5 +1,5 @@
 use Rattle.std.proofs.Common.{◌∙◌, ◌∷◌, []}
-use Rattle.air_field.specs.Binomial.{same_list}
+use Rattle.air_field.specs.laws.SamePolynomial.{same_list}
 use Rattle.air_field.proofs.Binomials.{four_differences}
 use Rattle.air_field.proofs.fields.binomial_field.BinomialExtensionFieldExtensionFieldBabyBear.sub.Goals as goal
 

@@ -1,6 +1,6 @@
 use Rattle.std.proofs.Common.{◌∙◌, ap}
-use Rattle.air_field.specs.ValueLaws.{closed_value-embed}
-use Rattle.air_field.specs.Extension.{extend-coefficients}
+use Rattle.air_field.specs.laws.Value.{closed_value-embed}
+use Rattle.air_field.specs.laws.Extension.{extend-coefficients}
 use Rattle.air_field.proofs.rings.ext_field_ring.ExtFieldRingExtAlgebra.TheImpl.Goals as goal
 
 pub lift-tells : goal.lift-tells

@@ -1,6 +1,6 @@
-use Rattle.air_field.specs.Extension.{extend-coefficients}
+use Rattle.air_field.specs.laws.Extension.{extend-coefficients}
 use Rattle.air_builder.specs.Assertion.{Base}
-use Rattle.air_folder.specs.FolderLaws.{grew_one, folder_value}
+use Rattle.air_folder.specs.laws.Folder.{grew_one, folder_value}
 use Rattle.air_folder.specs.FolderRow.{row_of}
 use Rattle.air_folder.proofs.folder.builder_impl.ConstraintFolderAirBuilder.assert_zero.Goals as goal
 

@@ -1,4 +1,4 @@
-use Rattle.air_field.specs.Extension.{extend-coefficients}
+use Rattle.air_field.specs.laws.Extension.{extend-coefficients}
 use Rattle.air_folder.proofs.folder.builder_impl.ConstraintFolderAirBuilder.is_transition.Goals as goal
 
 pub returns-clause-ok : goal.returns-clause-ok

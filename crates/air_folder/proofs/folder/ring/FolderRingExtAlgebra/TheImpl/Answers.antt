@@ -1,4 +1,4 @@
-use Rattle.air_field.specs.Extension.{extend-coefficients}
+use Rattle.air_field.specs.laws.Extension.{extend-coefficients}
 use Rattle.air_folder.proofs.folder.ring.FolderRingExtAlgebra.TheImpl.Goals as goal
 
 pub ext_constant-tells : goal.ext_constant-tells

@@ -1,9 +1,9 @@
 use Rattle.std.proofs.lemmas.Result.{on_ok_weaker, on_err_weaker}
-use Rattle.air_symbolic.specs.BasePool.{base_pool_laws}
-use Rattle.air_symbolic.specs.ExtPool.{ext_pool_laws, base_grown}
+use Rattle.air_symbolic.specs.laws.BasePool.{base_pool_laws}
+use Rattle.air_symbolic.specs.laws.ExtPool.{ext_pool_laws, base_grown}
 use Rattle.air_recording.specs.SymbolicParts.{fixed_by}
 use Rattle.air_recording.specs.RecordedLists.{lists_of}
-use Rattle.air_recording.specs.RecordingLaws.{recorded_base}
+use Rattle.air_recording.specs.laws.Recording.{recorded_base}
 use Rattle.air_recording.proofs.SymbolicGrowth.{nothing_recorded}
 use Rattle.air_recording.proofs.symbolic.builder_impl.SymbolicAirBuilderAirBuilder.assert_zero.Goals as goal
 

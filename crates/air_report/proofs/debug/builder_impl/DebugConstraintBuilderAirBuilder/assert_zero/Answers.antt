@@ -2,9 +2,9 @@ use Rattle.std.proofs.Common.{sym, ◌∙◌, ap}
 use Rattle.std.proofs.lemmas.Result.{on_ok_weaker}
 use Rattle.air_builder.specs.Assertion.{Base}
 use Rattle.air_report.specs.Debug.{is_zero_at}
-use Rattle.air_report.specs.DebugLabelLaws.{if_err_weaker, logged_grew, logged_refused}
+use Rattle.air_report.specs.laws.DebugLabels.{if_err_weaker, logged_grew, logged_refused}
 use Rattle.air_report.specs.DebugRow.{row_of}
-use Rattle.air_report.specs.DebugValues.{base_is_zero}
+use Rattle.air_report.specs.laws.DebugValues.{base_is_zero}
 use Rattle.air_report.proofs.debug.builder_impl.DebugConstraintBuilderAirBuilder.assert_zero.Goals as goal
 
 pub returns-clause-ok : goal.returns-clause-ok

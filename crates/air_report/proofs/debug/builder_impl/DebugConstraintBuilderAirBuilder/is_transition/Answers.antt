@@ -1,5 +1,5 @@
 use Rattle.std.proofs.Common.{refl}
-use Rattle.air_report.specs.DebugLaws.{same_at_row}
+use Rattle.air_report.specs.laws.Debug.{same_at_row}
 use Rattle.air_report.proofs.debug.builder_impl.DebugConstraintBuilderAirBuilder.is_transition.Goals as goal
 
 pub returns-clause-always : goal.returns-clause-always

@@ -1,11 +1,11 @@
 use Rattle.std.proofs.Common.{sym, ◌∙◌, ap}
 use Rattle.std.proofs.lemmas.Result.{on_ok_weaker}
-use Rattle.air_field.specs.Extension.{extend-coefficients}
+use Rattle.air_field.specs.laws.Extension.{extend-coefficients}
 use Rattle.air_builder.specs.Assertion.{Extension}
 use Rattle.air_report.specs.Debug.{is_zero_at}
-use Rattle.air_report.specs.DebugLabelLaws.{if_err_weaker, logged_grew, logged_label, logged_refused}
+use Rattle.air_report.specs.laws.DebugLabels.{if_err_weaker, logged_grew, logged_label, logged_refused}
 use Rattle.air_report.specs.DebugRow.{row_of}
-use Rattle.air_report.specs.DebugValues.{ext_is_zero}
+use Rattle.air_report.specs.laws.DebugValues.{ext_is_zero}
 use Rattle.air_report.proofs.debug.extension.DebugConstraintBuilderNamedExtensionBuilder.assert_zero_ext_named.Goals as goal
 
 pub returns-clause-ok : goal.returns-clause-ok

@@ -1,5 +1,5 @@
 use Rattle.std.proofs.lemmas.Result.{IfErr-weaker}
-use Rattle.air_symbolic.specs.PoolRefusals.{memory_refuses}
+use Rattle.air_symbolic.specs.laws.PoolRefusals.{memory_refuses}
 use Rattle.air_symbolic.proofs.pools.ext_pool.ExprPoolExtLeafExtAlgebra.ext_constant.Goals as goal
 
 pub returns : goal.returns

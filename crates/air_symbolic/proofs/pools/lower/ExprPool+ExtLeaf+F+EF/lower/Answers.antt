@@ -1,7 +1,7 @@
 use Rattle.std.proofs.Common.{◌≡◌, ◌∙◌, ◌<◌, ◌∷◌, [], get_or, Some, None, arith, sym, subst, IfSome}
 use Rattle.std.proofs.lemmas.List.{length-append}
 use Rattle.air_symbolic.specs.ExtLeaves.{ext_reads}
-use Rattle.air_symbolic.specs.ExtPool.{ext_pool_laws}
+use Rattle.air_symbolic.specs.laws.ExtPool.{ext_pool_laws}
 use Rattle.air_symbolic.specs.Lowered.{CanLower}
 use Rattle.air_symbolic.proofs.ReachedTrees.{mark-can-lower, more-lowered, lowered-at-first}
 use Rattle.air_symbolic.proofs.pools.lower.ExprPool+ExtLeaf+F+EF.lower.Goals as goal

@@ -5,7 +5,7 @@ use Rattle.air_symbolic.specs.Nodes.{unfold_node, tree_of, NodeFits}
 use Rattle.air_symbolic.specs.Pools.{tree_at}
 use Rattle.air_symbolic.specs.ExtLeaves.{ext_reads}
 use Rattle.air_symbolic.specs.ExtTrees.{HasExtOnly, lowered}
-use Rattle.air_symbolic.specs.ExtPool.{ext_pool_laws}
+use Rattle.air_symbolic.specs.laws.ExtPool.{ext_pool_laws}
 use Rattle.air_symbolic.proofs.Lowering.{operands-lowered, lowered-there, lowered-read, lent-here, Grown-lowered, lowered-node, lowered-degrees, only-memory}
 use Rattle.air_symbolic.proofs.pools.lower.ExprPool+ExtLeaf+F+EF.lower_node.Goals as goal
 

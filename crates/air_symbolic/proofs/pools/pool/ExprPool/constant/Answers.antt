@@ -1,5 +1,5 @@
 use Rattle.std.proofs.Common.{reverse}
-use Rattle.air_symbolic.specs.PoolLaws.{Grown-trans}
+use Rattle.air_symbolic.specs.laws.Pools.{Grown-trans}
 use Rattle.air_symbolic.proofs.Vectors.{Grown-under-seen}
 use Rattle.air_symbolic.proofs.pools.pool.ExprPool.constant.Goals as goal
 

@@ -1,5 +1,5 @@
 use Rattle.std.proofs.Common.{ap}
-use Rattle.air_symbolic.specs.Sharing.{node_at-is}
+use Rattle.air_symbolic.specs.laws.Sharing.{node_at-is}
 use Rattle.air_symbolic.proofs.Vectors.{node_at-seen, absent-seen, Grown-push}
 use Rattle.air_symbolic.proofs.pools.pool.ExprPool.insert.Goals as goal
 

@@ -1,7 +1,7 @@
 use Rattle.std.proofs.Common.{length, ◌-◌, drop, take}
 use Rattle.std.proofs.lemmas.List.{drop_all}
 use Rattle.std.proofs.lemmas.Result.{err_from_is_err_and}
-use Rattle.air_symbolic.specs.PoolLaws.{Grown-trans}
+use Rattle.air_symbolic.specs.laws.Pools.{Grown-trans}
 use Rattle.air_symbolic.proofs.FoldedLists.{left-is, product_taken, overflow_taken, overflow_told, product_ended, drop_item}
 use Rattle.air_symbolic.proofs.FoldedTerms.{IsProductOfAll-stands}
 use Rattle.air_symbolic.proofs.pools.pool.ExprPool.product.Goals as goal

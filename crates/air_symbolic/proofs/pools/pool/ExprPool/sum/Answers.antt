@@ -1,6 +1,6 @@
 use Rattle.std.proofs.Common.{length, ◌-◌, drop, take}
 use Rattle.std.proofs.lemmas.List.{drop_all}
-use Rattle.air_symbolic.specs.PoolLaws.{Grown-trans}
+use Rattle.air_symbolic.specs.laws.Pools.{Grown-trans}
 use Rattle.air_symbolic.proofs.FoldedLists.{left-is, sum_taken, sum_ended, drop_item}
 use Rattle.air_symbolic.proofs.FoldedTerms.{IsSumOfAll-stands}
 use Rattle.air_symbolic.proofs.pools.pool.ExprPool.sum.Goals as goal

@@ -1,4 +1,4 @@
-use Rattle.air_symbolic.specs.ExtPool.{base_lent_from}
+use Rattle.air_symbolic.specs.laws.ExtPool.{base_lent_from}
 use Rattle.air_vectors_base.proofs.tests.ext_bench.Bench+ExtLeaf+F+EF.base_add.Goals as goal
 
 pub invariant_of-self : goal.invariant_of-self

@@ -1,0 +1,21 @@
+-- Laws of what specs/ defines: implementations cite them, and the layers above build on them.
+pub mod Degree
+pub mod Polynomial
+pub mod Ring
+pub mod RingSolver
+pub mod FourCoefficients
+pub mod Images
+pub mod Primality
+pub mod Single
+pub mod Sums
+pub mod Value
+pub mod Algebra
+pub mod Comparison
+pub mod Extension
+pub mod Grid
+pub mod Powers
+pub mod Coefficients
+pub mod Residues
+pub mod Modulo
+pub mod SamePolynomial
+pub mod Binomial

@@ -1,0 +1,61 @@
+-- Degrees of terms.
+use Rattle.std.proofs.Common.{ℕ, zero, suc, ◌+◌, ◌-◌, ◌<◌, ◌≤◌, List, get_or, refl, ap, ◌∙◌, arith, ⊎_elim}
+use Rattle.std.proofs.Math.Nat.{le-max_left, le-max_right}
+use Rattle.std.proofs.lemmas.Bool.{cases_lt}
+use Rattle.air_field.specs.Ring.{CommRing, Over}
+use Rattle.air_field.specs.laws.Ring.{nil_mul, mul_nil, neg_nil}
+use Rattle.air_field.specs.Term.{Leaf, Term, leaf_term, const_term, ext_const_term, add_term, sub_term, neg_term, mul_term}
+use Rattle.air_field.specs.Polynomial.{convolve, only, polynomial, HasDegreeAtMost}
+use Rattle.air_field.specs.Degree.{degree_by}
+use Rattle.air_field.specs.Same.{same_refl, same_trans, same_add, same_sub, same_neg, same_mul, Stands}
+use Rattle.air_field.specs.laws.Sums as sums
+
+module _ {E : Type 0} (r : CommRing E) where
+  only-degree : (c : E) (d : ℕ) → HasDegreeAtMost r (only r c) d
+  only-degree c d zero b = absurd (omega arith)
+  only-degree c d (suc k) b = refl
+
+  convolve-degree : (f g : ℕ → E) (d e : ℕ) → HasDegreeAtMost r f d → HasDegreeAtMost r g e → HasDegreeAtMost r (convolve r f g) (d + e)
+  convolve-degree f g d e hf hg k b =
+      sums.sum_to-nil r (λ i. r.mul (f i) (g (k - i))) k
+      (λ i c. ⊎_elim
+      (λ (lt : d < i). ap (λ x. r.mul x (g (k - i))) (hf i lt) ∙ nil_mul r (g (k - i)))
+      (λ (ge : i ≤ d). ap (λ x. r.mul (f i) x) (hg (k - i) (omega arith)) ∙ mul_nil r (f i))
+      (cases_lt d i))
+
+-- Where each leaf's polynomial is within its weight, a term's polynomial is within its degree.
+pub polynomial-degree : {F E : Type 0} (a : Over F E) (s : Leaf → List E) (w : Leaf → ℕ) → ((x : Leaf) → HasDegreeAtMost a.ring (λ n. get_or (s x) n a.ring.nil) (w x)) → (t : Term F) → HasDegreeAtMost a.ring (polynomial a s t) (degree_by w t)
+polynomial-degree a s w h (leaf_term x) k b = h x k b
+polynomial-degree a s w h (const_term c) k b = only-degree a.ring (a.embed c) 0 k b
+polynomial-degree a s w h (ext_const_term c) k b = only-degree a.ring (a.extend c) 0 k b
+polynomial-degree a s w h (add_term t u) k b =
+    let x : degree_by w t < k = omega (arith, le-max_left (degree_by w t) (degree_by w u)) in
+    let y : degree_by w u < k = omega (arith, le-max_right (degree_by w t) (degree_by w u)) in
+    cc (polynomial-degree a s w h t k x, polynomial-degree a s w h u k y, a.ring.add_nil a.ring.nil)
+polynomial-degree a s w h (sub_term t u) k b =
+    let x : degree_by w t < k = omega (arith, le-max_left (degree_by w t) (degree_by w u)) in
+    let y : degree_by w u < k = omega (arith, le-max_right (degree_by w t) (degree_by w u)) in
+    cc (polynomial-degree a s w h t k x, polynomial-degree a s w h u k y, neg_nil a.ring, a.ring.add_nil a.ring.nil)
+polynomial-degree a s w h (neg_term t) k b = cc (polynomial-degree a s w h t k b, neg_nil a.ring)
+polynomial-degree a s w h (mul_term t u) k b =
+    convolve-degree a.ring (polynomial a s t) (polynomial a s u) (degree_by w t) (degree_by w u) (polynomial-degree a s w h t) (polynomial-degree a s w h u) k b
+
+-- Standing for a term is kept by each operation.
+module _ {F : Type 0} (r : CommRing F) where
+  pub Stands-refl : (t : Term F) → Stands r t t
+  Stands-refl t = record { same = same_refl; light = λ w. omega arith }
+
+  pub Stands-trans : (t u v : Term F) → Stands r t u → Stands r u v → Stands r t v
+  Stands-trans t u v h k = record { same = same_trans h.same k.same; light = λ w. omega (arith, h.light w, k.light w) }
+
+  pub Stands-add : (t u v w : Term F) → Stands r t v → Stands r u w → Stands r (add_term t u) (add_term v w)
+  Stands-add t u v w h k = record { same = same_add h.same k.same; light = λ x. omega (arith, h.light x, k.light x) }
+
+  pub Stands-sub : (t u v w : Term F) → Stands r t v → Stands r u w → Stands r (sub_term t u) (sub_term v w)
+  Stands-sub t u v w h k = record { same = same_sub h.same k.same; light = λ x. omega (arith, h.light x, k.light x) }
+
+  pub Stands-neg : (t v : Term F) → Stands r t v → Stands r (neg_term t) (neg_term v)
+  Stands-neg t v h = record { same = same_neg h.same; light = h.light }
+
+  pub Stands-mul : (t u v w : Term F) → Stands r t v → Stands r u w → Stands r (mul_term t u) (mul_term v w)
+  Stands-mul t u v w h k = record { same = same_mul h.same k.same; light = λ x. omega (arith, h.light x, k.light x) }

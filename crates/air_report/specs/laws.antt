@@ -1,0 +1,6 @@
+-- Laws of what specs/ defines: implementations cite them, and the layers above build on them.
+pub mod Debug
+pub mod DebugLabels
+pub mod DebugValues
+pub mod Plain
+pub mod Report

@@ -1,0 +1,55 @@
+-- What a debug builder's expressions mean: the values of terms at its row.
+use Rattle.std.specs.Prelude.{◌≡◌, List, Bool, refl}
+use Rattle.std.proofs.Common.{sym, ◌∙◌, ap, ap₂}
+use Rattle.air_field.specs.Ring.{CommRing, minus, Over, itself}
+use Rattle.air_field.specs.Term.{Leaf, preprocessed, main, periodic, public, first_row, last_row, transition, permutation, challenge, permutation_value, Term, leaf_term, const_term, ext_const_term, add_term, sub_term, neg_term, mul_term, with_leaves, IsBase}
+use Rattle.air_field.specs.Value.{value}
+use Rattle.air_field.specs.laws.Value.{value-leaves}
+use Rattle.air_field.specs.Algebra.{closed_value, closed_value_in}
+use Rattle.air_builder.specs.Assertion.{Base, Extension}
+use Rattle.air_report.specs.Debug.{RowData, row_leaves, ext_row_leaves, row_stands, is_zero_at}
+
+module _ {F E : Type 0} (r : CommRing F) (a : Over F E) (coefficients : E → List F) where
+  -- a base term whose leaves' values are put in has the term's value
+  base_value : (w : Leaf → F) (d : RowData F E) (t : Term F) → IsBase (with_leaves (row_stands r a coefficients d) t) → value (itself r) (row_leaves r d) t ≡ value (itself r) w (with_leaves (row_stands r a coefficients d) t)
+  base_value w d (leaf_term (preprocessed o i)) h = refl
+  base_value w d (leaf_term (main o i)) h = refl
+  base_value w d (leaf_term (periodic i)) h = refl
+  base_value w d (leaf_term (public i)) h = refl
+  base_value w d (leaf_term first_row) h = refl
+  base_value w d (leaf_term last_row) h = refl
+  base_value w d (leaf_term transition) h = refl
+  base_value w d (leaf_term (permutation o i)) h = absurd h
+  base_value w d (leaf_term (challenge i)) h = absurd h
+  base_value w d (leaf_term (permutation_value i)) h = absurd h
+  base_value w d (const_term c) h = refl
+  base_value w d (ext_const_term c) h = absurd h
+  base_value w d (add_term t u) h = ap₂ r.add (base_value w d t h.0) (base_value w d u h.1)
+  base_value w d (sub_term t u) h = ap₂ (minus r) (base_value w d t h.0) (base_value w d u h.1)
+  base_value w d (neg_term t) h = ap r.neg (base_value w d t h)
+  base_value w d (mul_term t u) h = ap₂ r.mul (base_value w d t h.0) (base_value w d u h.1)
+
+  -- what stands at a leaf has over the extension the value of the assignment
+  leaf_stands : ((x : E) → a.extend (coefficients x) ≡ x) → (w : Leaf → E) (d : RowData F E) (l : Leaf) → ext_row_leaves r a d l ≡ value a w (row_stands r a coefficients d l)
+  leaf_stands k w d (preprocessed o i) = refl
+  leaf_stands k w d (main o i) = refl
+  leaf_stands k w d (periodic i) = refl
+  leaf_stands k w d (public i) = refl
+  leaf_stands k w d first_row = refl
+  leaf_stands k w d last_row = refl
+  leaf_stands k w d transition = refl
+  leaf_stands k w d (permutation o i) = sym (k (ext_row_leaves r a d (permutation o i)))
+  leaf_stands k w d (challenge i) = sym (k (ext_row_leaves r a d (challenge i)))
+  leaf_stands k w d (permutation_value i) = sym (k (ext_row_leaves r a d (permutation_value i)))
+
+  ext_value : ((x : E) → a.extend (coefficients x) ≡ x) → (w : Leaf → E) (d : RowData F E) (t : Term F) → value a (ext_row_leaves r a d) t ≡ value a w (with_leaves (row_stands r a coefficients d) t)
+  ext_value k w d t = ap (λ s. value a s t) (λ i l. leaf_stands k w d l i) ∙ sym (value-leaves a w (row_stands r a coefficients d) t)
+
+  module _ (eq : F → F → Bool) (ext_eq : E → E → Bool) where
+    -- a base expression that means t is zero where t is at the row
+    pub base_is_zero : (d : RowData F E) (v : F) (t : Term F) → IsBase (with_leaves (row_stands r a coefficients d) t) × (closed_value r (with_leaves (row_stands r a coefficients d) t) ≡ v) → is_zero_at r a eq ext_eq d (Base t) ≡ eq v r.nil
+    base_is_zero d v t m = ap (λ x. eq x r.nil) (base_value (λ _. r.nil) d t m.0 ∙ m.1)
+
+    -- the same over the extension
+    pub ext_is_zero : ((x : E) → a.extend (coefficients x) ≡ x) → (d : RowData F E) (v : E) (t : Term F) → closed_value_in a (with_leaves (row_stands r a coefficients d) t) ≡ v → is_zero_at r a eq ext_eq d (Extension t) ≡ ext_eq v a.ring.nil
+    ext_is_zero k d v t m = ap (λ x. ext_eq x a.ring.nil) (ext_value k (λ _. a.ring.nil) d t ∙ m)

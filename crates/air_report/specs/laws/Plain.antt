@@ -1,0 +1,68 @@
+-- Checks of an AIR that has nothing beside its main trace.
+use Rattle.std.specs.Prelude.{◌≡◌, ℕ, ◌-◌, ◌<◌, List, [], ◌∷◌, ◌++◌, length, map, Bool, Option, None, Some, slice_get, refl}
+use Rattle.std.specs.Global.{Global}
+use Rattle.std.proofs.Common.{inl, inr, subst, sym, ap, ◌∙◌, arith}
+use Rattle.std.proofs.lemmas.List.{take_all, append-nil}
+use Rattle.air_field.specs.Ring.{CommRing}
+use Rattle.air_field.specs.Assignment.{trace_shape, IsMissing}
+use Rattle.air_field.specs.Grid.{Grid}
+use Rattle.air_builder.specs.Assertion.{Assertion}
+use Rattle.air_builder.specs.Beside.{nothing_beside}
+use Rattle.air_windows.specs.declared.errors.AirError.{AirError}
+use Rattle.air_windows.specs.declared.errors.AirError.TheVariants.{PreprocessedHeight, PeriodNotPowerOfTwo, PeriodDoesNotDivide, Boundary, EmptyTrace}
+use Rattle.air_report.specs.Cells.{left_of, IsCellFault}
+use Rattle.air_report.specs.Checks.{CheckRefuses, IsReport}
+use Rattle.air_report.specs.Given.{given}
+use Rattle.air_report.specs.RowRefusals.{IsFull}
+use Rattle.air_builder.specs.Refused.{Refused}
+use Rattle.air_report.specs.Report.{failure_place, report_of, plain_trace}
+use Rattle.air_report.specs.Shapes.{IsShapeFault}
+use Rattle.air_report.specs.declared.checks.report.ConstraintReport.{ConstraintReport}
+
+left_of-none : {X : Type 0} (cap : Option ℕ) (n : ℕ) → left_of {X = X} cap n [] ≡ []
+left_of-none None n = refl
+left_of-none (Some cap) n = take_all (cap - n) [] (omega arith)
+
+map_none : {X Y : Type 0} (f : X → Y) (xs : List X) → map f xs ≡ [] → xs ≡ []
+map_none f [] e = refl
+map_none f (x ∷ xs) e = cc
+
+-- no periodic column and no table is at fault
+fits_shapes : (T A : Type 0) (h : ℕ) (e : AirError) → IsShapeFault {T = T} {A = A} [] h None e → ⊥
+fits_shapes T A h (PreprocessedHeight p m) f = let none : None ≡ Some p = f.0 in cc
+fits_shapes T A h (PeriodNotPowerOfTwo i n) f = let lt : i < 0 = f.1 in absurd (omega arith)
+fits_shapes T A h (PeriodDoesNotDivide i n k) f = let lt : i < 0 = f.1 in absurd (omega arith)
+fits_shapes T A h _ f = f
+
+-- no cell is at fault
+fits_cells : {F : Type 0} (main : Grid F) (public : List F) (e : AirError) → IsCellFault main public [] e → ⊥
+fits_cells main public (Boundary b) f = let lt : f.place < 0 = f.within in absurd (omega arith)
+fits_cells main public EmptyTrace f = f.1 refl
+fits_cells main public _ f = f
+
+none_listed : {X : Type 0} (cap : Option ℕ) (n at : ℕ) (x : X) → slice_get (left_of cap n []) at ≡ Some x → ⊥
+none_listed cap n at x e =
+    let none : None ≡ Some x = sym (ap (λ l. slice_get l at) (left_of-none cap n)) ∙ e in
+    cc
+
+module _ {F : Type 0} (r : CommRing F) (eq : F → F → Bool) (ts : List (Assertion F)) (main : Grid F) (public : List F) (cap : Option ℕ) where
+  -- it is refused as its rows are
+  pub plain_refusal : (e : AirError) → CheckRefuses r eq (given ts nothing_beside main public) cap e → Refused (IsMissing (trace_shape (plain_trace main public))) (λ _. ⊥) (IsFull 0) e ts
+  plain_refusal e (inl h) = absurd (fits_shapes F Global (length main.rows) e h)
+  plain_refusal e (inr h) = elim h.1 [
+    | inl rows ↦ elim rows [
+      | inl memory ↦ subst (λ x. Refused (IsMissing (trace_shape (plain_trace main public))) (λ _. ⊥) (IsFull 0) x ts) (sym memory) tt
+      | inr ran ↦ ran.1
+    ]
+    | inr later ↦ elim later [
+      | inl cells ↦ absurd (fits_cells main public e cells.2)
+      | inr count ↦ absurd (none_listed cap _ count.1.past.at count.1.past.cell count.1.past.is_listed)
+    ]
+  ]
+
+  -- its report is that of its rows
+  pub plain_report : (report : ConstraintReport) (h : IsReport r eq (given ts nothing_beside main public) cap report) → map failure_place report.failures.items ≡ report_of r eq (plain_trace main public) ts h.shown
+  plain_report report h =
+      let cells = h.lists.places ∙ ap (map _) (left_of-none cap (length (report_of r eq (plain_trace main public) ts h.shown))) in
+      let none : h.lists.more ≡ [] = map_none failure_place h.lists.more cells in
+      ap (map failure_place) (h.lists.failures ∙ (ap (λ fs. h.of_rows ++ fs) none ∙ append-nil h.of_rows)) ∙ h.places

@@ -1,0 +1,11 @@
+-- Laws of what specs/ defines: implementations cite them, and the layers above build on them.
+pub mod Numbers
+pub mod Pools
+pub mod Sharing
+pub mod WholeTrees
+pub mod BasePool
+pub mod BaseParts
+pub mod BaseLeaves
+pub mod PoolRefusals
+pub mod ExtLeaves
+pub mod ExtPool

@@ -1,0 +1,13 @@
+-- Laws of what specs/ defines: implementations cite them, and the layers above build on them.
+pub mod Readings
+pub mod Answering
+pub mod BaseLeaves
+pub mod Boundaries
+pub mod Entries
+pub mod ExtEntries
+pub mod ExtLeaves
+pub mod Nodes
+pub mod Lists
+pub mod Written
+pub mod Coefficients
+pub mod Wholes

@@ -1,0 +1,98 @@
+-- A list of field elements is found where it is spelt, and nowhere else.
+use Rattle.std.specs.Prelude.{◌≡◌, ℕ, ◌&&◌, Bool, true, false, List, [], ◌∷◌, map, length, Option, Some, None, Ok, Err, option_map, option_and_then, if◌then◌else◌, ok_or, refl}
+use Rattle.std.specs.List.{list_all}
+use Rattle.std.proofs.Common.{sym, ap, ap₂, ◌∙◌, arith, eqb, rules, tests}
+use Rattle.std.proofs.lemmas.Bool.{ltb-true, lt-ltb, eqb-true}
+use Rattle.std.proofs.Math.Nat.{mod-eq_of_lt}
+use Rattle.serde_json.specs.Data.{Data, null, boolean, number, string, object, array, Items, no_items, item}
+use Rattle.serde_json.specs.Find.{as_array}
+use Rattle.air_field.specs.Modulo.{class}
+use Rattle.air_field.specs.laws.Modulo.{class_of}
+use Rattle.air_field.specs.declared.fields.baby_bear.BabyBear.{BabyBear}
+use Rattle.air_wire.specs.Parts.{whole}
+use Rattle.air_wire.specs.Results.{◌>>=◌}
+use Rattle.air_wire.specs.Spelling.{number_data}
+use Rattle.air_wire.specs.laws.Readings.{done, done_is, not_done, bind_ok, ok_or_found, test_ok, number_found}
+use Rattle.air_wire.specs.declared.errors.FlatError.TheVariants as faults
+use Rattle.air_wire.specs.Coefficients.{number_items, wholes, is_canonical, if_count, if_canonical, elements_at}
+
+abbrev residues : List BabyBear → List ℕ
+residues [] = []
+residues (c ∷ cs) = c.residue ∷ residues cs
+
+both_true : (a b : Bool) → a && b ≡ true → (a ≡ true) × (b ≡ true)
+both_true true b e = (refl, e)
+both_true false b e = absurd cc
+
+some_list : (m : List ℕ) (ns : List ℕ) → Some m ≡ Some ns → m ≡ ns
+some_list m ns e = cc
+
+items_found_of : (d : Data) (ds : Items) (o : Option ℕ) (p : Option (List ℕ)) (ns : List ℕ) → ((ms : List ℕ) → p ≡ Some ms → list_all is_canonical ms ≡ true → ds ≡ number_items (map class ms)) → whole d ≡ o
+    → option_and_then (λ n. option_map (λ ns. n ∷ ns) p) o ≡ Some ns → list_all is_canonical ns ≡ true → item d ds ≡ number_items (map class ns)
+items_found_of d ds None p ns later is e h = absurd cc
+items_found_of d ds (Some n) None ns later is e h = absurd cc
+items_found_of d ds (Some n) (Some ms) ns later is e h =
+    let same : n ∷ ms ≡ ns = some_list (n ∷ ms) ns e in
+    let all = both_true (is_canonical n) (list_all is_canonical ms) (ap (list_all is_canonical) same ∙ h) in
+    let first : d ≡ number_data (class n).residue = number_found d n is ∙ ap number_data (sym (mod-eq_of_lt (ltb-true n 2013265921 all.0))) in
+    ap₂ (λ x xs. item x xs) first (later ms refl all.1) ∙ ap (λ ks. number_items (map class ks)) same
+
+items_found : (ds : Items) (ns : List ℕ) → wholes ds ≡ Some ns → list_all is_canonical ns ≡ true → ds ≡ number_items (map class ns)
+unfolding wholes
+items_found no_items ns e h = ap (λ ks. number_items (map class ks)) (some_list [] ns e)
+items_found (item d ds) ns e h = items_found_of d ds (whole d) (wholes ds) ns (items_found ds) refl e h
+
+items_read : (cs : List BabyBear) → wholes (number_items cs) ≡ Some (residues cs)
+unfolding wholes
+items_read [] = refl
+items_read (c ∷ cs) = ap (option_map (λ ns. c.residue ∷ ns)) (items_read cs)
+
+residues_canonical : (cs : List BabyBear) → list_all is_canonical (residues cs) ≡ true
+residues_canonical [] = refl
+residues_canonical (c ∷ cs) = ap₂ (λ a b. a && b) (lt-ltb c.residue 2013265921 c.reduced) (residues_canonical cs)
+
+residues_again : (cs : List BabyBear) → map class (residues cs) ≡ cs
+residues_again [] = refl
+residues_again (c ∷ cs) = ap₂ (λ a b. a ∷ b) (class_of c) (residues_again cs)
+
+residues_length : (cs : List BabyBear) → length (residues cs) ≡ length cs
+residues_length [] = refl
+residues_length (c ∷ cs) = omega (arith, residues_length cs)
+
+same_number : (m n : ℕ) → m ≡ n → eqb m n ≡ true
+same_number m n h = search (rules, tests)
+
+class_length : (ns : List ℕ) → length (map class ns) ≡ length ns
+class_length [] = refl
+class_length (n ∷ ns) = omega (arith, class_length ns)
+
+as_array_is : (d : Data) (ds : Items) → as_array d ≡ Some ds → d ≡ array ds
+as_array_is null ds e = absurd cc
+as_array_is (boolean b) ds e = absurd cc
+as_array_is (number n) ds e = absurd cc
+as_array_is (string s) ds e = absurd cc
+as_array_is (array es) ds e = ap (λ o. elim o as (λ _. Data) [ Some x ↦ array x | None ↦ array es ]) e
+as_array_is (object ms) ds e = absurd cc
+
+pub elements_found : (count place : ℕ) (d : Data) (cs : List BabyBear) → elements_at count place d ≡ Ok cs → (d ≡ array (number_items cs)) × (length cs ≡ count)
+unfolding elements_at
+elements_found count place d cs e =
+    let ds = bind_ok (ok_or (as_array d) (faults.Shape place)) (λ ds. ok_or (wholes ds) (faults.Shape place) >>= λ ns. if_count count place ns >>= λ all. if_canonical place all) cs e in
+    let ns = bind_ok (ok_or (wholes ds.0) (faults.Shape place)) (λ ns. if_count count place ns >>= λ all. if_canonical place all) cs ds.2 in
+    let all = bind_ok (if_count count place ns.0) (λ all. if_canonical place all) cs ns.2 in
+    let counted = test_ok (λ v. (ns.0 ≡ v) × (length ns.0 ≡ count)) (eqb (length ns.0) count) (Ok ns.0) (Err (faults.Shape place)) all.0 all.1 (λ same e. done_is (λ v. (ns.0 ≡ v) × (length ns.0 ≡ count)) ns.0 all.0 e (refl, eqb-true (length ns.0) count same)) (not_done (λ v. (ns.0 ≡ v) × (length ns.0 ≡ count)) (faults.Shape place) all.0) in
+    test_ok (λ v. (d ≡ array (number_items v)) × (length v ≡ count)) (list_all is_canonical all.0) (Ok (map class all.0)) (Err (faults.NotCanonical place)) cs all.2
+    (λ good e. done_is (λ v. (d ≡ array (number_items v)) × (length v ≡ count)) (map class all.0) cs e (
+      as_array_is d ds.0 (ok_or_found (as_array d) (faults.Shape place) ds.0 ds.1) ∙ ap (λ x. array x) (items_found ds.0 all.0 (ok_or_found (wholes ds.0) (faults.Shape place) ns.0 ns.1 ∙ ap (λ l. Some l) counted.0) good),
+      class_length all.0 ∙ (ap length (sym counted.0) ∙ counted.1),
+    ))
+    (not_done (λ v. (d ≡ array (number_items v)) × (length v ≡ count)) (faults.NotCanonical place) cs)
+
+pub elements_again : (count place : ℕ) (d : Data) (cs : List BabyBear) → d ≡ array (number_items cs) → length cs ≡ count → elements_at count place d ≡ Ok cs
+unfolding elements_at
+elements_again count place d cs is len =
+    ap (λ x. ok_or (as_array x) (faults.Shape place) >>= λ ds. ok_or (wholes ds) (faults.Shape place) >>= λ ns. if_count count place ns >>= λ all. if_canonical place all) is
+    ∙ ap (λ o. ok_or o (faults.Shape place) >>= λ ns. if_count count place ns >>= λ all. if_canonical place all) (items_read cs)
+    ∙ ap (λ b. (if b then done (residues cs) else Err (faults.Shape place)) >>= λ all. if_canonical place all) (same_number (length (residues cs)) count (residues_length cs ∙ len))
+    ∙ ap (λ b. if b then Ok (map class (residues cs)) else Err (faults.NotCanonical place)) (residues_canonical cs)
+    ∙ ap (λ v. done v) (residues_again cs)

@@ -1,0 +1,117 @@
+-- Extension leaves: what is read is what is spelt, and what is seen of a leaf stays.
+use Rattle.std.specs.Prelude.{◌≡◌, ℕ, Bool, List, Option, Some, None, Result, Ok, Err, option_map, codes, ok_or, length, refl}
+use Rattle.std.proofs.Common.{sym, ap, subst, ◌∙◌}
+use Rattle.serde_json.specs.Data.{Data, array}
+use Rattle.air_field.specs.Ring.{CommRing, Over}
+use Rattle.air_field.specs.Extension.{ExtensionLaws}
+use Rattle.air_field.specs.laws.Extension.{padded-whole}
+use Rattle.air_field.specs.declared.fields.baby_bear.BabyBear.{BabyBear}
+use Rattle.air_symbolic.specs.laws.Pools.{tree-kept}
+use Rattle.air_symbolic.specs.laws.WholeTrees.{same_leaf}
+use Rattle.air_symbolic.specs.BaseLeaves.{base_reads, base_grows}
+use Rattle.air_symbolic.specs.laws.BaseLeaves.{base_leaf_laws}
+use Rattle.air_symbolic.specs.ExtLeaves.{BaseNodes, ext_grows, ext_reads, ext_valid}
+use Rattle.air_symbolic.specs.ExtTrees.{WholeLeaf, whole_base, whole_variable, whole_constant, whole_leaf}
+use Rattle.air_symbolic.specs.declared.leaves.ext_leaf.ExtLeaf.{ExtLeaf}
+use Rattle.air_symbolic.specs.declared.leaves.ext_leaf.ExtLeaf.TheVariants.{Base, ExtVariable, ExtConstant}
+use Rattle.air_wire.specs.Parts.{only_member}
+use Rattle.air_wire.specs.Results.{◌>>=◌}
+use Rattle.air_wire.specs.Spelling.{case_data}
+use Rattle.air_wire.specs.laws.Readings.{mapped, done, done_is, not_done, bind_ok, ok_or_found, name_ok, only_found}
+use Rattle.air_wire.specs.ExtEntries.{ext_variable_data, ext_variable_of}
+use Rattle.air_wire.specs.laws.ExtEntries.{ext_variable_is_spelt, ext_variable_again, ext_variable_found}
+use Rattle.air_wire.specs.Coefficients.{number_items, elements_at}
+use Rattle.air_wire.specs.laws.Coefficients.{elements_found, elements_again}
+use Rattle.air_wire.specs.Seen.{WireLaws}
+use Rattle.air_wire.specs.Nodes.{KindLaws, root_of}
+use Rattle.air_wire.specs.laws.Lists.{root_found, root_again}
+use Rattle.air_wire.specs.laws.Written.{written_list, one_list}
+use Rattle.air_wire.specs.BaseLeaves.{base_kind}
+use Rattle.air_wire.specs.laws.BaseLeaves.{base_kind_laws}
+use Rattle.air_wire.specs.ExtLeaves.{SpellsWhole, WritesWhole, whole_term, moved, ext_constant_at, ext_leaf_with, case_ext_leaf, ext_leaf_at, ext_kind}
+use Rattle.air_wire.specs.declared.errors.FlatError.{FlatError}
+use Rattle.air_wire.specs.declared.errors.FlatError.TheVariants as faults
+
+moved_ok : {A : Type 0} (place : ℕ) (r : Result A FlatError) (t : A) → moved place r ≡ Ok t → r ≡ Ok t
+moved_ok place (Ok a) t e = e
+moved_ok place (Err f) t e = absurd cc
+
+-- what is seen of a leaf stays as the base pool grows
+module _ {EF : Type 0} (r : CommRing BabyBear) (eq : BabyBear → BabyBear → Bool) (coefficients : EF → List BabyBear) where
+  seen-kept : (u v : BaseNodes BabyBear) → ext_grows u v → (a : ExtLeaf BabyBear EF) → ext_valid u a → whole_leaf v a ≡ whole_leaf u a
+  seen-kept u v g (Base i) h = ap (λ t. whole_base t) (tree-kept r base_reads base_grows tt (base_leaf_laws r) u v i g h.here)
+  seen-kept u v g (ExtVariable x) h = refl
+  seen-kept u v g (ExtConstant c) h = refl
+
+  seen-term : (u : BaseNodes BabyBear) (a : ExtLeaf BabyBear EF) → whole_term coefficients (whole_leaf u a) ≡ (ext_reads r eq coefficients u).term a
+  seen-term u (Base i) = refl
+  seen-term u (ExtVariable x) = refl
+  seen-term u (ExtConstant c) = refl
+
+  pub ext_wire_laws : WireLaws (ext_reads r eq coefficients) (λ u v. ext_grows u v) (λ u a. whole_leaf u a) (whole_term coefficients)
+  ext_wire_laws = record { term_is = seen-term; kept = seen-kept; one = λ u. same_leaf u }
+
+module _ {EF : Type 0} (r : CommRing BabyBear) (a : Over BabyBear EF) (coefficients : EF → List BabyBear) (count : ℕ) (laws : ExtensionLaws r a coefficients count) where
+  -- the element of a list of so many coefficients
+  extended : (cs : List BabyBear) → length cs ≡ count → coefficients (a.extend cs) ≡ cs
+  extended cs h = laws.extend_is cs ∙ padded-whole r.nil count cs h
+
+  pub made_of : (e : EF) (cs : List BabyBear) → length cs ≡ count → coefficients e ≡ cs → e ≡ a.extend cs
+  made_of e cs h is = laws.same e (a.extend cs) (is ∙ sym (extended cs h))
+
+  constant_found : (place : ℕ) (c : Data) (e : EF) → ext_constant_at a count place c ≡ Ok e → c ≡ array (number_items (coefficients e))
+  constant_found place c e h =
+      let cs = bind_ok (elements_at count place c) (λ cs. done (a.extend cs)) e h in
+      let found = elements_found count place c cs.0 cs.1 in
+      done_is (λ x. c ≡ array (number_items (coefficients x))) (a.extend cs.0) e cs.2 (found.0 ∙ ap (λ l. array (number_items l)) (sym (extended cs.0 found.1)))
+
+  constant_again : (place : ℕ) (c : Data) (e : EF) → c ≡ array (number_items (coefficients e)) → ext_constant_at a count place c ≡ Ok e
+  constant_again place c e h =
+      ap (λ q. q >>= λ cs. done (a.extend cs)) (elements_again count place c (coefficients e) h (laws.count e))
+      ∙ ap (λ x. done x) (sym (made_of e (coefficients e) (laws.count e) refl))
+
+  ext_leaf_again : (place : ℕ) (d : Data) (l : WholeLeaf BabyBear EF) → SpellsWhole coefficients d l → ext_leaf_at a count place d ≡ Ok l
+  unfolding ext_leaf_at
+  ext_leaf_again place d (whole_base t) h =
+      ap (λ x. case_ext_leaf a count place (only_member x)) h.1 ∙ ap (λ q. moved place q >>= λ t. done (whole_base t)) (root_again base_kind base_kind_laws h.0 t h.2)
+  ext_leaf_again place d (whole_variable v) h =
+      ap (λ x. case_ext_leaf a count place (only_member x)) h.1 ∙ ap (λ o. ok_or (option_map (λ w. whole_variable w) o) (faults.Shape place)) (ext_variable_again h.0 v h.2)
+  ext_leaf_again place d (whole_constant e) h =
+      ap (λ x. case_ext_leaf a count place (only_member x)) h.1 ∙ ap (λ q. q >>= λ e. done (whole_constant e)) (constant_again place h.0 e h.2)
+
+  with_found : (place : ℕ) (name : List ℕ) (c : Data) (l : WholeLeaf BabyBear EF) → ext_leaf_with a count place name c ≡ Ok l → SpellsWhole coefficients (case_data name c) l
+  with_found place name c l h =
+      let P : WholeLeaf BabyBear EF → Type 0 = SpellsWhole coefficients (case_data name c) in
+      name_ok P name (codes "Base") _ _ l h
+      (λ same h.
+      let t = bind_ok (moved place (root_of base_kind c)) (λ t. done (whole_base t)) l h in
+      done_is P (whole_base t.0) l t.2 (c, ap (λ n. case_data n c) same, root_found base_kind base_kind_laws c t.0 (moved_ok place (root_of base_kind c) t.0 t.1)))
+      (λ h. name_ok P name (codes "ExtVariable") _ _ l h
+      (λ same h. mapped P (λ v. whole_variable v) (ext_variable_of c) l (ok_or_found _ _ l h)
+      (λ v at. (c, ap (λ n. case_data n c) same, ext_variable_found c v at)))
+      (λ h. name_ok P name (codes "ExtConstant") _ _ l h
+      (λ same h.
+      let e = bind_ok (ext_constant_at a count place c) (λ e. done (whole_constant e)) l h in
+      done_is P (whole_constant e.0) l e.2 (c, ap (λ n. case_data n c) same, constant_found place c e.0 e.1))
+      (not_done P (faults.Shape place) l)))
+
+  case_found : (place : ℕ) (d : Data) (o : Option (List ℕ × Data)) (l : WholeLeaf BabyBear EF) → only_member d ≡ o → case_ext_leaf a count place o ≡ Ok l → SpellsWhole coefficients d l
+  case_found place d None l is h = not_done (SpellsWhole coefficients d) (faults.Shape place) l h
+  case_found place d (Some c) l is h = subst (λ x. SpellsWhole coefficients x l) (sym (only_found d c is)) (with_found place c.0 c.1 l h)
+
+  ext_leaf_found : (place : ℕ) (d : Data) (l : WholeLeaf BabyBear EF) → ext_leaf_at a count place d ≡ Ok l → SpellsWhole coefficients d l
+  unfolding ext_leaf_at
+  ext_leaf_found place d l h = case_found place d (only_member d) l refl h
+
+  ext_leaf_written : (d : Data) (l : WholeLeaf BabyBear EF) → WritesWhole coefficients d l → SpellsWhole coefficients d l
+  ext_leaf_written d (whole_base t) h = (h.0, h.1, written_list base_kind base_kind_laws h.0 t h.2)
+  ext_leaf_written d (whole_variable v) h = (ext_variable_data v, h, ext_variable_is_spelt v)
+  ext_leaf_written d (whole_constant e) h = (array (number_items (coefficients e)), h, refl)
+
+  ext_leaf_once : (d e : Data) (l : WholeLeaf BabyBear EF) → WritesWhole coefficients d l → WritesWhole coefficients e l → d ≡ e
+  ext_leaf_once d e (whole_base t) h k = h.1 ∙ ap (case_data (codes "Base")) (one_list base_kind base_kind_laws h.0 k.0 t h.2 k.2) ∙ sym k.1
+  ext_leaf_once d e (whole_variable v) h k = h ∙ sym k
+  ext_leaf_once d e (whole_constant x) h k = h ∙ sym k
+
+  pub ext_kind_laws : KindLaws (ext_kind a coefficients count)
+  ext_kind_laws = record { found = ext_leaf_found; again = ext_leaf_again; written = ext_leaf_written; once = ext_leaf_once }
