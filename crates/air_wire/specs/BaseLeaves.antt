@@ -47,11 +47,18 @@ element_at place d = element_or place (whole d)
 
 -- a leaf without contents, by its name
 abbrev pub bare_leaf : List ℕ → Option (BaseLeaf BabyBear)
-bare_leaf name = if bytes_eq name (codes "IsFirstRow") then Some leaves.IsFirstRow else (if bytes_eq name (codes "IsLastRow") then Some leaves.IsLastRow else (if bytes_eq name (codes "IsTransition") then Some leaves.IsTransition else None))
+bare_leaf name =
+    if bytes_eq name (codes "IsFirstRow") then Some leaves.IsFirstRow
+    else (if bytes_eq name (codes "IsLastRow") then Some leaves.IsLastRow
+    else (if bytes_eq name (codes "IsTransition") then Some leaves.IsTransition
+    else None))
 
 -- a leaf with contents, by its name
 abbrev pub leaf_with : ℕ → List ℕ → Data → Result (BaseLeaf BabyBear) FlatError
-leaf_with place name d = if bytes_eq name (codes "Variable") then ok_or (option_map (λ v. leaves.Variable v) (variable_of d)) (faults.Shape place) else (if bytes_eq name (codes "Constant") then (element_at place d >>= λ c. Ok (leaves.Constant c)) else Err (faults.Shape place))
+leaf_with place name d =
+    if bytes_eq name (codes "Variable") then ok_or (option_map (λ v. leaves.Variable v) (variable_of d)) (faults.Shape place)
+    else (if bytes_eq name (codes "Constant") then (element_at place d >>= λ c. Ok (leaves.Constant c))
+    else Err (faults.Shape place))
 
 abbrev pub case_leaf : ℕ → Option (List ℕ × Data) → Result (BaseLeaf BabyBear) FlatError
 case_leaf place None = Err (faults.Shape place)

@@ -38,7 +38,10 @@ bare_entry name = if bytes_eq name (codes "Periodic") then Some entries.Periodic
 
 -- a case with contents, by its name
 abbrev pub entry_with : List ℕ → Data → Option BaseEntry
-entry_with name d = if bytes_eq name (codes "Main") then option_map (λ o. entries.Main o) (whole_at (codes "offset") d) else (if bytes_eq name (codes "Preprocessed") then option_map (λ o. entries.Preprocessed o) (whole_at (codes "offset") d) else None)
+entry_with name d =
+    if bytes_eq name (codes "Main") then option_map (λ o. entries.Main o) (whole_at (codes "offset") d)
+    else (if bytes_eq name (codes "Preprocessed") then option_map (λ o. entries.Preprocessed o) (whole_at (codes "offset") d)
+    else None)
 
 abbrev pub case_entry : Option (List ℕ × Data) → Option BaseEntry
 case_entry None = None

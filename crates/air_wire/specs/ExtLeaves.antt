@@ -60,7 +60,11 @@ abbrev pub ext_constant_at : {EF : Type 0} → Over BabyBear EF → ℕ → ℕ 
 ext_constant_at a count place c = elements_at count place c >>= λ cs. Ok (a.extend cs)
 
 abbrev pub ext_leaf_with : {EF : Type 0} → Over BabyBear EF → ℕ → ℕ → List ℕ → Data → Result (WholeLeaf BabyBear EF) FlatError
-ext_leaf_with a count place name c = if bytes_eq name (codes "Base") then lifted_at place c else (if bytes_eq name (codes "ExtVariable") then ok_or (option_map (λ v. whole_variable v) (ext_variable_of c)) (faults.Shape place) else (if bytes_eq name (codes "ExtConstant") then (ext_constant_at a count place c >>= λ e. Ok (whole_constant e)) else Err (faults.Shape place)))
+ext_leaf_with a count place name c =
+    if bytes_eq name (codes "Base") then lifted_at place c
+    else (if bytes_eq name (codes "ExtVariable") then ok_or (option_map (λ v. whole_variable v) (ext_variable_of c)) (faults.Shape place)
+    else (if bytes_eq name (codes "ExtConstant") then (ext_constant_at a count place c >>= λ e. Ok (whole_constant e))
+    else Err (faults.Shape place)))
 
 abbrev pub case_ext_leaf : {EF : Type 0} → Over BabyBear EF → ℕ → ℕ → Option (List ℕ × Data) → Result (WholeLeaf BabyBear EF) FlatError
 case_ext_leaf a count place None = Err (faults.Shape place)

@@ -101,7 +101,13 @@ abbrev pub leaf_node_at : {S F : Type 0} → Kind S F → List (Tree S) → Data
 leaf_node_at kind done c = kind.leaf_at (length done) c >>= λ a. Ok (leaf_tree a)
 
 abbrev pub node_with : {S F : Type 0} → Kind S F → List (Tree S) → List ℕ → Data → Result (Tree S) FlatError
-node_with kind done name c = if bytes_eq name (codes "Leaf") then leaf_node_at kind done c else (if bytes_eq name (codes "Add") then add_at kind done c else (if bytes_eq name (codes "Sub") then sub_at kind done c else (if bytes_eq name (codes "Mul") then mul_at kind done c else (if bytes_eq name (codes "Neg") then neg_at kind done c else Err (faults.Shape (length done))))))
+node_with kind done name c =
+    if bytes_eq name (codes "Leaf") then leaf_node_at kind done c
+    else (if bytes_eq name (codes "Add") then add_at kind done c
+    else (if bytes_eq name (codes "Sub") then sub_at kind done c
+    else (if bytes_eq name (codes "Mul") then mul_at kind done c
+    else (if bytes_eq name (codes "Neg") then neg_at kind done c
+    else Err (faults.Shape (length done))))))
 
 abbrev pub case_node : {S F : Type 0} → Kind S F → List (Tree S) → Option (List ℕ × Data) → Result (Tree S) FlatError
 case_node kind done None = Err (faults.Shape (length done))

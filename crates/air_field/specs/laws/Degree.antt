@@ -24,7 +24,9 @@ module _ {E : Type 0} (r : CommRing E) where
       (cases_lt d i))
 
 -- Where each leaf's polynomial is within its weight, a term's polynomial is within its degree.
-pub polynomial-degree : {F E : Type 0} (a : Over F E) (s : Leaf → List E) (w : Leaf → ℕ) → ((x : Leaf) → HasDegreeAtMost a.ring (λ n. get_or (s x) n a.ring.nil) (w x)) → (t : Term F) → HasDegreeAtMost a.ring (polynomial a s t) (degree_by w t)
+pub polynomial-degree : {F E : Type 0} (a : Over F E) (s : Leaf → List E) (w : Leaf → ℕ)
+    → ((x : Leaf) → HasDegreeAtMost a.ring (λ n. get_or (s x) n a.ring.nil) (w x)) → (t : Term F)
+    → HasDegreeAtMost a.ring (polynomial a s t) (degree_by w t)
 polynomial-degree a s w h (leaf_term x) k b = h x k b
 polynomial-degree a s w h (const_term c) k b = only-degree a.ring (a.embed c) 0 k b
 polynomial-degree a s w h (ext_const_term c) k b = only-degree a.ring (a.extend c) 0 k b

@@ -26,7 +26,8 @@ module _ {F EF : Type 0} (r : CommRing F) (eq : F → F → Bool) (coefficients 
   base_tree-constant (neg_tree t) c e = cc
   base_tree-constant (mul_tree t u) c e = cc
 
-  ext_constant-is : ((x y : F) → Decides (eq x y) (x ≡ y)) → (u : BaseNodes F) (a : ExtLeaf F EF) (c : F) → ext_constant r eq coefficients u a ≡ Some c → Same r (const_term c) (ext_term coefficients u a)
+  ext_constant-is : ((x y : F) → Decides (eq x y) (x ≡ y)) → (u : BaseNodes F) (a : ExtLeaf F EF) (c : F)
+      → ext_constant r eq coefficients u a ≡ Some c → Same r (const_term c) (ext_term coefficients u a)
   ext_constant-is decides u (Base i) c e = base_tree-constant (tree_at u i) c e
   ext_constant-is decides u (ExtVariable v) c e = cc
   ext_constant-is decides u (ExtConstant d) c e = base_part-is r eq decides (coefficients d) c e

@@ -16,7 +16,8 @@ use Rattle.air_symbolic.specs.ExtPool.{ExtNodes, BaseHas, BaseMeans}
 module _ {F EF : Type 0} (r : CommRing F) (eq : F → F → Bool) (coefficients : EF → List F) where
   module _ (decides : (x y : F) → Decides (eq x y) (x ≡ y)) where
     -- what an extension pool keeps as a ring of expressions
-    pub ext_pool_laws : AlgebraLaws (IsPool (ext_reads r eq coefficients)) (PoolHas (ext_reads r eq coefficients)) (PoolMeans (ext_reads r eq coefficients) r) (Grown ext_grows (ext_reads r eq coefficients)) PoolRefuses
+    pub ext_pool_laws : AlgebraLaws (IsPool (ext_reads r eq coefficients)) (PoolHas (ext_reads r eq coefficients))
+        (PoolMeans (ext_reads r eq coefficients) r) (Grown ext_grows (ext_reads r eq coefficients)) PoolRefuses
     ext_pool_laws = pool_laws r (ext_reads r eq coefficients) ext_grows no_base_nodes (ext_leaf_laws r eq coefficients decides)
 
     -- where the base pool was lent and has grown, the extension pool has grown

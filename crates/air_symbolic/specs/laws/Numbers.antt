@@ -41,7 +41,8 @@ tree_of-kept (n ∷ more) old i h = tree_of-older n (more ++ old) i (below more 
 
 -- Every tree of well-formed nodes is whole.
 module _ {A F : Type 0} (l : Leaves A F) where
-  node_whole : (older : List (SymbolicExpr A)) → ((i : ℕ) → i < length older → IsWhole l.valid (tree_of older i)) → (n : SymbolicExpr A) → NodeFits l older n → IsWhole l.valid (unfold_node (tree_of older) n)
+  node_whole : (older : List (SymbolicExpr A)) → ((i : ℕ) → i < length older → IsWhole l.valid (tree_of older i))
+      → (n : SymbolicExpr A) → NodeFits l older n → IsWhole l.valid (unfold_node (tree_of older) n)
   node_whole older ih (Leaf a) h = h
   node_whole older ih (Add x y d) h = (ih x h.0, ih y h.1)
   node_whole older ih (Sub x y d) h = (ih x h.0, ih y h.1)

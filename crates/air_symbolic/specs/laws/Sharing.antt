@@ -94,7 +94,9 @@ module _ {A F : Type 0} (l : Leaves A F) where
       (at_end i (length ms) b)
 
   -- fitting nodes of one tree are one, where their operands' trees have one number each
-  same_node : (ns : List (SymbolicExpr A)) → ((i j : ℕ) → i < length ns → j < length ns → tree_of ns i ≡ tree_of ns j → i ≡ j) → (n m : SymbolicExpr A) → NodeFits l ns n → NodeFits l ns m → unfold_node (tree_of ns) n ≡ unfold_node (tree_of ns) m → n ≡ m
+  same_node : (ns : List (SymbolicExpr A))
+      → ((i j : ℕ) → i < length ns → j < length ns → tree_of ns i ≡ tree_of ns j → i ≡ j) → (n m : SymbolicExpr A)
+      → NodeFits l ns n → NodeFits l ns m → unfold_node (tree_of ns) n ≡ unfold_node (tree_of ns) m → n ≡ m
   same_node ns one (Leaf a) (Leaf b) h k e = cc
   same_node ns one (Add x y d) (Add u v f) h k e =
       let p : x ≡ u = one x u h.0 k.0 (cc) in let q : y ≡ v = one y v h.1 k.1 (cc) in cc (h.2, k.2)
@@ -123,7 +125,8 @@ module _ {A F : Type 0} (l : Leaves A F) where
       (at_end j (length older) c))
       (at_end i (length older) b)
     where
-      clash : ((i j : ℕ) → i < length older → j < length older → tree_of older i ≡ tree_of older j → i ≡ j) → (k : ℕ) → k < length older → tree_of (n ∷ older) k ≡ tree_of (n ∷ older) (length older) → ⊥
+      clash : ((i j : ℕ) → i < length older → j < length older → tree_of older i ≡ tree_of older j → i ≡ j)
+          → (k : ℕ) → k < length older → tree_of (n ∷ older) k ≡ tree_of (n ∷ older) (length older) → ⊥
       clash one k lt e2 =
           let f = found older wf.2 k lt in
           let t : unfold_node (tree_of older) f.0 ≡ unfold_node (tree_of older) n =

@@ -55,7 +55,9 @@ cell_again d p h =
     ∙ ap (λ o. cell_with (Some p.column) o (whole_at (codes "public_value") d)) (ap (option_and_then end_of) h.1.1 ∙ end_again h.1.0 p.end h.1.2)
     ∙ ap (λ o. cell_with (Some p.column) (Some p.end) o) (field_read (codes "public_value") d p.public_value h.2)
 
-cell_found_of : (d : Data) (c v : Option ℕ) (o : Option Data) (p : BoundaryPublic) → whole_at (codes "column") d ≡ c → get (codes "end") d ≡ o → whole_at (codes "public_value") d ≡ v → cell_with c (option_and_then end_of o) v ≡ Some p → SpellsCell d p
+cell_found_of : (d : Data) (c v : Option ℕ) (o : Option Data) (p : BoundaryPublic) → whole_at (codes "column") d ≡ c
+    → get (codes "end") d ≡ o → whole_at (codes "public_value") d ≡ v
+    → cell_with c (option_and_then end_of o) v ≡ Some p → SpellsCell d p
 cell_found_of d None v o p c_is at v_is h = none_found (SpellsCell d) p h
 cell_found_of d (Some c) v None p c_is at v_is h = none_found (SpellsCell d) p h
 cell_found_of d (Some c) v (Some x) p c_is at v_is h = found (end_of x) v refl v_is h

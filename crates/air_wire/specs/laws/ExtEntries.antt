@@ -6,7 +6,10 @@ use Rattle.serde_json.specs.Find.{get, as_str}
 use Rattle.air_wire.specs.Parts.{whole_at}
 use Rattle.air_wire.specs.Spelling.{case_data}
 use Rattle.air_wire.specs.laws.Readings.{by_name, none_found, named, mapped, field_found, field_read, text_or_case}
-use Rattle.air_wire.specs.ExtEntries.{ext_entry_data, ext_variable_data, SpellsExtEntry, SpellsExtVariable, bare_ext_entry, ext_entry_with, case_ext_entry, ext_entry_named, ext_entry_of, ext_variable_at, ext_variable_with, ext_variable_of}
+use Rattle.air_wire.specs.ExtEntries.{
+    ext_entry_data, ext_variable_data, SpellsExtEntry, SpellsExtVariable, bare_ext_entry, ext_entry_with,
+    case_ext_entry, ext_entry_named, ext_entry_of, ext_variable_at, ext_variable_with, ext_variable_of
+}
 use Rattle.air_variables.specs.declared.ext_entry.ExtEntry.{ExtEntry}
 use Rattle.air_variables.specs.declared.ext_entry.ExtEntry.TheVariants as entries
 use Rattle.air_variables.specs.declared.variable_ext.SymbolicVariableExt.{SymbolicVariableExt}
@@ -39,7 +42,9 @@ with_found name c e h =
 
 pub ext_entry_found : (d : Data) (e : ExtEntry) → ext_entry_of d ≡ Some e → SpellsExtEntry d e
 unfolding ext_entry_of
-ext_entry_found d e h = text_or_case SpellsExtEntry ext_entry_named d e (λ s. bare_found s e) (λ name c. with_found name c e) (λ d none k. none_found (SpellsExtEntry d) e (sym (ap case_ext_entry none) ∙ k)) h
+ext_entry_found d e h = text_or_case SpellsExtEntry ext_entry_named d e (λ s. bare_found s e)
+    (λ name c. with_found name c e)
+      (λ d none k. none_found (SpellsExtEntry d) e (sym (ap case_ext_entry none) ∙ k)) h
 
 pub ext_entry_is_only : (d : Data) (e f : ExtEntry) → SpellsExtEntry d e → SpellsExtEntry d f → e ≡ f
 ext_entry_is_only d e f h k = same e f (sym (ext_entry_again d e h) ∙ ext_entry_again d f k)
@@ -57,7 +62,9 @@ unfolding ext_variable_of
 ext_variable_again d v h =
     ap₂ ext_variable_with (ap (option_and_then ext_entry_of) h.0.1 ∙ ext_entry_again h.0.0 v.entry h.0.2) (field_read (codes "index") d v.index h.1)
 
-ext_variable_found_of : {F EF : Type 0} (d : Data) (o : Option Data) (i : Option ℕ) (v : SymbolicVariableExt F EF) → get (codes "entry") d ≡ o → whole_at (codes "index") d ≡ i → ext_variable_with (option_and_then ext_entry_of o) i ≡ Some v → SpellsExtVariable d v
+ext_variable_found_of : {F EF : Type 0} (d : Data) (o : Option Data) (i : Option ℕ) (v : SymbolicVariableExt F EF)
+    → get (codes "entry") d ≡ o → whole_at (codes "index") d ≡ i
+    → ext_variable_with (option_and_then ext_entry_of o) i ≡ Some v → SpellsExtVariable d v
 ext_variable_found_of d None i v at ix h = absurd cc
 ext_variable_found_of {F = F} {EF = EF} d (Some x) i v at ix h = found (ext_entry_of x) refl i ix h
   where

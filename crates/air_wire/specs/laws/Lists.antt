@@ -83,7 +83,10 @@ module _ {S F : Type 0} (kind : Kind S F) (laws : KindLaws kind) where
   fault_found before no_items f e = absurd cc
   fault_found before (item d ds) f e = at_node (λ t. fault_found (before ++ t ∷ []) ds f) (node_at kind before d) refl e
     where
-      at_node : ((t : Tree S) → nodes_from kind (before ++ t ∷ []) ds ≡ Err f → FirstFault kind (before ++ t ∷ []) ds f) → (r : Result (Tree S) FlatError) → node_at kind before d ≡ r → (r >>= λ t. nodes_from kind (before ++ t ∷ []) ds) ≡ Err f → FirstFault kind before (item d ds) f
+      at_node : ((t : Tree S) → nodes_from kind (before ++ t ∷ []) ds ≡ Err f
+        → FirstFault kind (before ++ t ∷ []) ds f)
+          → (r : Result (Tree S) FlatError) → node_at kind before d ≡ r
+          → (r >>= λ t. nodes_from kind (before ++ t ∷ []) ds) ≡ Err f → FirstFault kind before (item d ds) f
       at_node later (Ok t) is e = inr (t, node_found kind laws before d t is, later t e)
       at_node later (Err g) is e = inl (is ∙ ap (λ h. failed h) (err_is g f e))
 
@@ -172,6 +175,8 @@ fails_is (faults.Operand at operand) read g n = g
 fails_is (faults.WrongDegree at stated found) read g n = g
 fails_is (faults.NotCanonical at) read g n = g
 
-pub gives_err : {X Y : Type 0} (P : FlatError → Type 0) (view : X → Y) (r : Result X FlatError) (read : Result Y FlatError) → Gives view r read → ((f : FlatError) → read ≡ Err f → P f) → IfErr r (λ f. f ≢ faults.Memory → P f)
+pub gives_err : {X Y : Type 0} (P : FlatError → Type 0) (view : X → Y) (r : Result X FlatError)
+  (read : Result Y FlatError)
+    → Gives view r read → ((f : FlatError) → read ≡ Err f → P f) → IfErr r (λ f. f ≢ faults.Memory → P f)
 gives_err P view (Ok x) read g h = tt
 gives_err P view (Err f) read g h = λ n. h f (fails_is f read g n)

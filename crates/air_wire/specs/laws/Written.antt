@@ -155,7 +155,9 @@ module _ {S : Type 0} where
       plus_one n = omega arith
 
   -- a part of the operands is smaller
-  smaller_of_two : (t u x : Tree S) → ((x : Tree S) → Stands (subtrees t) x → count x ≤ count t) → ((x : Tree S) → Stands (subtrees u) x → count x ≤ count u) → Stands (subtrees t ++ subtrees u) x → count x ≤ length (subtrees t ++ subtrees u)
+  smaller_of_two : (t u x : Tree S) → ((x : Tree S) → Stands (subtrees t) x → count x ≤ count t)
+      → ((x : Tree S) → Stands (subtrees u) x → count x ≤ count u) → Stands (subtrees t ++ subtrees u) x
+      → count x ≤ length (subtrees t ++ subtrees u)
   smaller_of_two t u x left right h =
       ⊎_elim
       (λ (l : Stands (subtrees t) x). omega (arith, left x l, length-append (subtrees t) (subtrees u)))
@@ -270,7 +272,10 @@ module _ {S F : Type 0} (kind : Kind S F) (laws : KindLaws kind) where
   pub one_list : (d e : Data) (t : Tree S) → IsWritten kind d t → IsWritten kind e t → d ≡ e
   one_list d e t h k =
       h.is
-      ∙ ap (λ (ds : List Data). array (items_of ds)) (same_items h.items k.items h.of.trees k.of.trees (adds_same [] (subtrees t) h.of.trees k.of.trees h.of.order k.of.order) (adds_once [] (subtrees t) h.of.trees nothing_twice h.of.order) h.of.nodes k.of.nodes)
+      ∙ ap (λ (ds : List Data). array (items_of ds))
+          (same_items h.items k.items h.of.trees k.of.trees
+            (adds_same [] (subtrees t) h.of.trees k.of.trees h.of.order k.of.order)
+            (adds_once [] (subtrees t) h.of.trees nothing_twice h.of.order) h.of.nodes k.of.nodes)
       ∙ sym k.is
 
   pub written_tree : (d : Data) (t u : Tree S) → IsWritten kind d t → IsWritten kind d u → t ≡ u
