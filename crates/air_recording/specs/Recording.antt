@@ -52,7 +52,9 @@ pub record KeptRecording {Q E : Type 0} (extends : Q → Q → Type 0) (p q : Q)
   pub fixed : u ≡ s
 
 -- Each assertion got one further expression of its kind, in order, which means it, and one further kind.
-pub record GrewRecording {Q E X F : Type 0} (base_means : Q → E → Term F → Type 0) (ext_means : Q → X → Term F → Type 0) (extends : Q → Q → Type 0) (p q : Q) (s u : Fixed E) (a b : Lists E X) (ts : List (Assertion F)) : Type 0 where
+pub record GrewRecording {Q E X F : Type 0} (base_means : Q → E → Term F → Type 0)
+    (ext_means : Q → X → Term F → Type 0) (extends : Q → Q → Type 0) (p q : Q) (s u : Fixed E) (a b : Lists E X)
+    (ts : List (Assertion F)) : Type 0 where
   pub keeps : KeptRecording extends p q s u
   pub more_base : List E
   pub more_ext : List X

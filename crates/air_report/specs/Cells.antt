@@ -1,5 +1,8 @@
 -- Boundary cells of a trace: which of them differ from their public values, and how these are listed.
-use Rattle.std.specs.Prelude.{◌≡◌, ◌≢◌, ℕ, ◌+◌, ◌-◌, ◌<◌, ◌≤◌, ◌^◌, List, [], ◌++◌, length, map, take, Bool, true, false, not, Option, None, Some, String, codes, decimal, string_bytes, slice_get, slice_index_or}
+use Rattle.std.specs.Prelude.{
+    ◌≡◌, ◌≢◌, ℕ, ◌+◌, ◌-◌, ◌<◌, ◌≤◌, ◌^◌, List, [], ◌++◌, length, map, take, Bool, true, false, not, Option, None,
+    Some, String, codes, decimal, string_bytes, slice_get, slice_index_or
+}
 use Rattle.std.specs.Global.{Global}
 use Rattle.std.specs.List.{filter, enumerate_from}
 use Rattle.air_field.specs.Ring.{CommRing}

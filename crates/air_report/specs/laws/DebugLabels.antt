@@ -53,7 +53,9 @@ module _ {F E : Type 0} (zero : RowData F E → Assertion F → Bool) where
   refused_of_log d k holds s z _ h = absurd h
 
   -- what the log refuses of an assertion, the builder may refuse
-  pub logged_refused : (d : RowData F E) (k : ℕ) (holds : Bool) (r : Result (Unit {0}) AirError) → IfErr r (LogRefuses k holds) → IfErr r (λ e. (s : Assertion F) → zero d s ≡ holds → RefusedAtRow zero d k e (s ∷ []))
+  pub logged_refused : (d : RowData F E) (k : ℕ) (holds : Bool) (r : Result (Unit {0}) AirError)
+      → IfErr r (LogRefuses k holds)
+      → IfErr r (λ e. (s : Assertion F) → zero d s ≡ holds → RefusedAtRow zero d k e (s ∷ []))
   logged_refused d k holds (Ok u) h = tt
   logged_refused d k holds (Err e) h = λ s z. refused_of_log d k holds s z e h
 
@@ -64,7 +66,10 @@ module _ {F E : Type 0} (zero : RowData F E → Assertion F → Bool) where
     logged_grew false h s z = asserted_other zero d f m n fs gs s same h.0 h.1.failure z h.1.pushed h.1.at
 
     -- and growth under a label that the name may display
-    pub logged_label : (holds : Bool) → LogsOne d.row m n says holds fs gs → (label : Label) × (IsSaid says label × ((s : Assertion F) → zero d s ≡ holds → LabelledAtRow zero d f m n fs gs ((s, label) ∷ [])))
+    pub logged_label : (holds : Bool) → LogsOne d.row m n says holds fs gs
+        → (label : Label)
+          × (IsSaid says label
+            × ((s : Assertion F) → zero d s ≡ holds → LabelledAtRow zero d f m n fs gs ((s, label) ∷ [])))
     logged_label true h = (
       Unasked,
       (
@@ -95,7 +100,10 @@ module _ {F E : Type 0} (zero : RowData F E → Assertion F → Bool) where
   nothing_labelled : (d e : RowData F E) (m n : ℕ) (fs gs : List ConstraintFailure) → GrewAtRow zero d e m n fs gs [] → LabelledAtRow zero d e m n fs gs []
   nothing_labelled d e m n fs gs g = record { grew = g; more = g.more; failures = g.failures; kept = none_placed g.more g.places; unasked = none_unasked }
 
-  labelled_joined : (d e f : RowData F E) (m n k : ℕ) (fs gs hs : List ConstraintFailure) (xs ys : List (Labelled F)) → LabelledAtRow zero d e m n fs gs xs → LabelledAtRow zero e f n k gs hs ys → LabelledAtRow zero d f m k fs hs (xs ++ ys)
+  labelled_joined : (d e f : RowData F E) (m n k : ℕ) (fs gs hs : List ConstraintFailure)
+      (xs ys : List (Labelled F))
+      → LabelledAtRow zero d e m n fs gs xs → LabelledAtRow zero e f n k gs hs ys
+      → LabelledAtRow zero d f m k fs hs (xs ++ ys)
   labelled_joined d e f m n k fs gs hs xs ys g h =
       let fails : RowData F E → Labelled F → Bool = λ c l. not (zero c l.0) in
       let passes : RowData F E → Labelled F → Bool = λ c l. zero c l.0 in
@@ -113,7 +121,9 @@ module _ {F E : Type 0} (zero : RowData F E → Assertion F → Bool) where
 
   module _ {S : Type 0} (data_of : S → RowData F E) (count : S → ℕ) (failures : S → List ConstraintFailure) where
     -- a builder over the values of a row keeps the laws of labels
-    pub debug_named_laws : NamedLaws (λ a b ts. GrewAtRow zero (data_of a) (data_of b) (count a) (count b) (failures a) (failures b) ts) (λ a b ls. LabelledAtRow zero (data_of a) (data_of b) (count a) (count b) (failures a) (failures b) ls)
+    pub debug_named_laws : NamedLaws
+        (λ a b ts. GrewAtRow zero (data_of a) (data_of b) (count a) (count b) (failures a) (failures b) ts)
+        (λ a b ls. LabelledAtRow zero (data_of a) (data_of b) (count a) (count b) (failures a) (failures b) ls)
     debug_named_laws = record {
       labelled_nothing = λ a b g. nothing_labelled (data_of a) (data_of b) (count a) (count b) (failures a) (failures b) g;
       labelled_joined = λ a b c xs ys g h. labelled_joined (data_of a) (data_of b) (data_of c) (count a) (count b) (count c) (failures a) (failures b) (failures c) xs ys g h;

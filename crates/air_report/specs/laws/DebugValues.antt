@@ -2,7 +2,11 @@
 use Rattle.std.specs.Prelude.{◌≡◌, List, Bool, refl}
 use Rattle.std.proofs.Common.{sym, ◌∙◌, ap, ap₂}
 use Rattle.air_field.specs.Ring.{CommRing, minus, Over, itself}
-use Rattle.air_field.specs.Term.{Leaf, preprocessed, main, periodic, public, first_row, last_row, transition, permutation, challenge, permutation_value, Term, leaf_term, const_term, ext_const_term, add_term, sub_term, neg_term, mul_term, with_leaves, IsBase}
+use Rattle.air_field.specs.Term.{
+    Leaf, preprocessed, main, periodic, public, first_row, last_row, transition, permutation, challenge,
+    permutation_value, Term, leaf_term, const_term, ext_const_term, add_term, sub_term, neg_term, mul_term,
+    with_leaves, IsBase
+}
 use Rattle.air_field.specs.Value.{value}
 use Rattle.air_field.specs.laws.Value.{value-leaves}
 use Rattle.air_field.specs.Algebra.{closed_value, closed_value_in}
@@ -11,7 +15,9 @@ use Rattle.air_report.specs.Debug.{RowData, row_leaves, ext_row_leaves, row_stan
 
 module _ {F E : Type 0} (r : CommRing F) (a : Over F E) (coefficients : E → List F) where
   -- a base term whose leaves' values are put in has the term's value
-  base_value : (w : Leaf → F) (d : RowData F E) (t : Term F) → IsBase (with_leaves (row_stands r a coefficients d) t) → value (itself r) (row_leaves r d) t ≡ value (itself r) w (with_leaves (row_stands r a coefficients d) t)
+  base_value : (w : Leaf → F) (d : RowData F E) (t : Term F)
+      → IsBase (with_leaves (row_stands r a coefficients d) t)
+      → value (itself r) (row_leaves r d) t ≡ value (itself r) w (with_leaves (row_stands r a coefficients d) t)
   base_value w d (leaf_term (preprocessed o i)) h = refl
   base_value w d (leaf_term (main o i)) h = refl
   base_value w d (leaf_term (periodic i)) h = refl
@@ -47,9 +53,14 @@ module _ {F E : Type 0} (r : CommRing F) (a : Over F E) (coefficients : E → Li
 
   module _ (eq : F → F → Bool) (ext_eq : E → E → Bool) where
     -- a base expression that means t is zero where t is at the row
-    pub base_is_zero : (d : RowData F E) (v : F) (t : Term F) → IsBase (with_leaves (row_stands r a coefficients d) t) × (closed_value r (with_leaves (row_stands r a coefficients d) t) ≡ v) → is_zero_at r a eq ext_eq d (Base t) ≡ eq v r.nil
+    pub base_is_zero : (d : RowData F E) (v : F) (t : Term F)
+        → IsBase (with_leaves (row_stands r a coefficients d) t)
+          × (closed_value r (with_leaves (row_stands r a coefficients d) t) ≡ v)
+        → is_zero_at r a eq ext_eq d (Base t) ≡ eq v r.nil
     base_is_zero d v t m = ap (λ x. eq x r.nil) (base_value (λ _. r.nil) d t m.0 ∙ m.1)
 
     -- the same over the extension
-    pub ext_is_zero : ((x : E) → a.extend (coefficients x) ≡ x) → (d : RowData F E) (v : E) (t : Term F) → closed_value_in a (with_leaves (row_stands r a coefficients d) t) ≡ v → is_zero_at r a eq ext_eq d (Extension t) ≡ ext_eq v a.ring.nil
+    pub ext_is_zero : ((x : E) → a.extend (coefficients x) ≡ x) → (d : RowData F E) (v : E) (t : Term F)
+        → closed_value_in a (with_leaves (row_stands r a coefficients d) t) ≡ v
+        → is_zero_at r a eq ext_eq d (Extension t) ≡ ext_eq v a.ring.nil
     ext_is_zero k d v t m = ap (λ x. ext_eq x a.ring.nil) (ext_value k (λ _. a.ring.nil) d t ∙ m)

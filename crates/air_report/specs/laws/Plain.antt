@@ -61,7 +61,9 @@ module _ {F : Type 0} (r : CommRing F) (eq : F → F → Bool) (ts : List (Asser
   ]
 
   -- its report is that of its rows
-  pub plain_report : (report : ConstraintReport) (h : IsReport r eq (given ts nothing_beside main public) cap report) → map failure_place report.failures.items ≡ report_of r eq (plain_trace main public) ts h.shown
+  pub plain_report : (report : ConstraintReport)
+      (h : IsReport r eq (given ts nothing_beside main public) cap report)
+      → map failure_place report.failures.items ≡ report_of r eq (plain_trace main public) ts h.shown
   plain_report report h =
       let cells = h.lists.places ∙ ap (map _) (left_of-none cap (length (report_of r eq (plain_trace main public) ts h.shown))) in
       let none : h.lists.more ≡ [] = map_none failure_place h.lists.more cells in

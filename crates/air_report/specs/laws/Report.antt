@@ -24,12 +24,23 @@ all_places-more {F = F} ts h =
     ∙ (flat_map-append f (range_with_len 0 h) (h ∷ []) ∙ ap (λ l. flat_map f (range_with_len 0 h) ++ l) (append-nil (f h)))
 
 module _ {F : Type 0} (r : CommRing F) (eq : F → F → Bool) (trace : Trace F) where
-  row_places : (h : ℕ) (es : List (ℕ × Assertion F)) → map place (filter (is_nonzero r eq trace) (map (λ p. (h, p)) es)) ≡ map (λ k. (h, k)) (map (λ p. p.0) (filter (λ p. not (eq (assertion_value r (row_assignment r trace h) p.1) r.nil)) es))
+  row_places : (h : ℕ) (es : List (ℕ × Assertion F))
+      → map place (filter (is_nonzero r eq trace) (map (λ p. (h, p)) es))
+        ≡ map (λ k. (h, k))
+          (map (λ p. p.0) (filter (λ p. not (eq (assertion_value r (row_assignment r trace h) p.1) r.nil)) es))
   row_places h [] = refl
   row_places h (e ∷ es) = step (not (eq (assertion_value r (row_assignment r trace h) e.1) r.nil)) _ _ (row_places h es)
     where
-      step : (b : Bool) (us : List (ℕ × (ℕ × Assertion F))) (vs : List (ℕ × Assertion F)) → map place us ≡ map (λ k. (h, k)) (map (λ (p : ℕ × Assertion F). p.0) vs) → map place (cond b ((h, e) ∷ us) us) ≡ map (λ k. (h, k)) (map (λ (p : ℕ × Assertion F). p.0) (cond b (e ∷ vs) vs))
-      step b us vs q = elim b as (λ c. map place (cond c ((h, e) ∷ us) us) ≡ map (λ k. (h, k)) (map (λ (p : ℕ × Assertion F). p.0) (cond c (e ∷ vs) vs))) [ true ↦ ap (λ l. (h, e.0) ∷ l) q | false ↦ q ]
+      step : (b : Bool) (us : List (ℕ × (ℕ × Assertion F))) (vs : List (ℕ × Assertion F))
+          → map place us ≡ map (λ k. (h, k)) (map (λ (p : ℕ × Assertion F). p.0) vs)
+          → map place (cond b ((h, e) ∷ us) us)
+            ≡ map (λ k. (h, k)) (map (λ (p : ℕ × Assertion F). p.0) (cond b (e ∷ vs) vs))
+      step b us vs q = elim b as
+          (λ c. map place (cond c ((h, e) ∷ us) us)
+            ≡ map (λ k. (h, k)) (map (λ (p : ℕ × Assertion F). p.0) (cond c (e ∷ vs) vs))) [
+            | true ↦ ap (λ l. (h, e.0) ∷ l) q
+            | false ↦ q
+          ]
 
   -- one more row
   pub report_of-more : (ts : List (Assertion F)) (h : ℕ) → report_of r eq trace ts (h + 1) ≡ report_of r eq trace ts h ++ map (λ k. (h, k)) (nonzero_from r eq (row_assignment r trace h) 0 ts)

@@ -176,7 +176,7 @@ fails_is (faults.WrongDegree at stated found) read g n = g
 fails_is (faults.NotCanonical at) read g n = g
 
 pub gives_err : {X Y : Type 0} (P : FlatError → Type 0) (view : X → Y) (r : Result X FlatError)
-  (read : Result Y FlatError)
+    (read : Result Y FlatError)
     → Gives view r read → ((f : FlatError) → read ≡ Err f → P f) → IfErr r (λ f. f ≢ faults.Memory → P f)
 gives_err P view (Ok x) read g h = tt
 gives_err P view (Err f) read g h = λ n. h f (fails_is f read g n)
