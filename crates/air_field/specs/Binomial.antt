@@ -3,10 +3,9 @@ use Rattle.std.specs.Prelude.{◌≡◌, refl, List, length}
 use Rattle.air_field.specs.Ring.{CommRing, Over}
 use Rattle.air_field.specs.RingOps.{ops}
 use Rattle.air_field.specs.Coefficients.{poly_add, poly_neg, binomial_mul, constant_four, padded}
-use Rattle.air_field.specs.laws.FourCoefficients.{
-    mul_length, add_length, neg_length, four_mul_assoc, four_mul_add, four_mul_comm, four_mul_one, four_add_assoc,
-    four_add_comm, four_add_nil, four_add_neg
-}
+use Rattle.air_field.specs.laws.FourCoefficients.{mul_length, add_length, neg_length, four_mul_assoc, four_mul_add}
+use Rattle.air_field.specs.laws.FourCoefficients.{four_mul_comm, four_mul_one, four_add_assoc, four_add_comm}
+use Rattle.air_field.specs.laws.FourCoefficients.{four_add_nil, four_add_neg}
 use Rattle.air_field.specs.laws.Extension.{length-padded}
 use Rattle.air_field.specs.Modulo.{class, baby_bear_ring}
 use Rattle.air_field.specs.declared.fields.baby_bear.BabyBear.{BabyBear}

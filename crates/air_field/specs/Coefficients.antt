@@ -58,4 +58,4 @@ abbrev pub IsProductModulo : {A : Type 0} → CommRing A → A → List A → Li
 IsProductModulo R w p q r =
     (k : ℕ) → k < 4 → coefficient R.nil r k
     ≡ R.add (convolve R (coefficient R.nil p) (coefficient R.nil q) k)
-      (R.mul w (convolve R (coefficient R.nil p) (coefficient R.nil q) (4 + k)))
+    (R.mul w (convolve R (coefficient R.nil p) (coefficient R.nil q) (4 + k)))

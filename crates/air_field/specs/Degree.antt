@@ -1,10 +1,9 @@
 -- The degree of a term by leaf weights, and the degree that is inferred from it.
 use Rattle.std.specs.Prelude.{ℕ, zero, suc, ◌+◌, ◌-◌, ◌/◌, ◌==◌, max, min, List, [], ◌∷◌, Option, Some, None, slice_get, if◌then◌else◌}
 use Rattle.std.specs.Int.{div_ceil}
-use Rattle.air_field.specs.Term.{
-    Leaf, preprocessed, main, periodic, public, first_row, last_row, transition, permutation, challenge,
-    permutation_value, Term, leaf_term, const_term, ext_const_term, add_term, sub_term, neg_term, mul_term
-}
+use Rattle.air_field.specs.Term.{Leaf, preprocessed, main, periodic, public, first_row, last_row, transition}
+use Rattle.air_field.specs.Term.{permutation, challenge, permutation_value, Term, leaf_term, const_term}
+use Rattle.air_field.specs.Term.{ext_const_term, add_term, sub_term, neg_term, mul_term}
 
 -- the degree by leaf weights
 abbrev pub degree_by : {F : Type 0} → (Leaf → ℕ) → Term F → ℕ

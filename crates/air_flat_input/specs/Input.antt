@@ -16,9 +16,22 @@ use Rattle.air_flat_input.specs.declared.input.FlatInput.{FlatInput}
 pub record SpellsInput (d : Data) (input : FlatInput) : Type 0 where
   pub main_width : ℕ
   pub values : List BabyBear
-  pub members : members.spells d (main_width, (values, (input.public_values.items,
-      (map (tree_at input.pool) input.roots.items, (map (λ c. c.items) input.periodic.items,
-      (input.cells.items, (input.cap, input.transition_weight)))))))
+  pub members : members.spells d (
+    main_width,
+    (
+      values,
+      (
+        input.public_values.items,
+        (
+          map (tree_at input.pool) input.roots.items,
+          (
+            map (λ c. c.items) input.periodic.items,
+            (input.cells.items, (input.cap, input.transition_weight)),
+          ),
+        ),
+      ),
+    ),
+  )
   pub main : matrix_of main_width values ≡ Ok input.main
 
 -- the first fault of the members, or else that of the matrix

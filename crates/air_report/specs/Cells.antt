@@ -1,8 +1,7 @@
 -- Boundary cells of a trace: which of them differ from their public values, and how these are listed.
-use Rattle.std.specs.Prelude.{
-    ◌≡◌, ◌≢◌, ℕ, ◌+◌, ◌-◌, ◌<◌, ◌≤◌, ◌^◌, List, [], ◌++◌, length, map, take, Bool, true, false, not, Option, None,
-    Some, String, codes, decimal, string_bytes, slice_get, slice_index_or
-}
+use Rattle.std.specs.Prelude.{◌≡◌, ◌≢◌, ℕ, ◌+◌, ◌-◌, ◌<◌, ◌≤◌, ◌^◌, List, [], ◌++◌, length, map, take, Bool, true}
+use Rattle.std.specs.Prelude.{false, not, Option, None, Some, String, codes, decimal, string_bytes, slice_get}
+use Rattle.std.specs.Prelude.{slice_index_or}
 use Rattle.std.specs.Global.{Global}
 use Rattle.std.specs.List.{filter, enumerate_from}
 use Rattle.air_field.specs.Ring.{CommRing}

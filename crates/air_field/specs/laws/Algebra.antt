@@ -10,7 +10,7 @@ use Rattle.air_field.specs.Algebra.{AlgebraLaws, closed_value_in, closed_value}
 pub value_in_laws : {R F E X : Type 0} (a : Over F E) (coefficients : E → List F)
     → ((x : E) → a.extend (coefficients x) ≡ x)
     → AlgebraLaws {R = R} {E = E} {F = F} {X = X} (λ _. ⊤) (λ _ _. ⊤) (λ _ x t. closed_value_in a t ≡ x) (λ _ _. ⊤)
-      (λ _ _. ⊥)
+    (λ _ _. ⊥)
 value_in_laws a coefficients named = record {
   refuses_whole = λ e t u p h. h;
   same = λ p. tt;

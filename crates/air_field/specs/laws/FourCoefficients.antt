@@ -101,9 +101,9 @@ four_mul_assoc R w p q r hp hq hr =
     by_four (λ x. binomial_mul (ops R) w (binomial_mul (ops R) w x q) r ≡ binomial_mul (ops R) w x (binomial_mul (ops R) w q r)) (λ a b c d.
     by_four (λ y. binomial_mul (ops R) w (binomial_mul (ops R) w (a ∷ b ∷ c ∷ d ∷ []) y) r ≡ binomial_mul (ops R) w (a ∷ b ∷ c ∷ d ∷ []) (binomial_mul (ops R) w y r)) (λ e f g h.
     by_four
-        (λ z. binomial_mul (ops R) w (binomial_mul (ops R) w (a ∷ b ∷ c ∷ d ∷ []) (e ∷ f ∷ g ∷ h ∷ [])) z
-          ≡ binomial_mul (ops R) w (a ∷ b ∷ c ∷ d ∷ []) (binomial_mul (ops R) w (e ∷ f ∷ g ∷ h ∷ []) z))
-        (λ i j k l.
+    (λ z. binomial_mul (ops R) w (binomial_mul (ops R) w (a ∷ b ∷ c ∷ d ∷ []) (e ∷ f ∷ g ∷ h ∷ [])) z
+    ≡ binomial_mul (ops R) w (a ∷ b ∷ c ∷ d ∷ []) (binomial_mul (ops R) w (e ∷ f ∷ g ∷ h ∷ []) z))
+    (λ i j k l.
     mul_assoc_at R w a b c d e f g h i j k l) r hr) q hq) p hp
 
 pub four_mul_add : {A : Type 0} (R : CommRing A) (w : A) (p q r : List A) → length p ≡ 4 → length q ≡ 4 → length r ≡ 4
@@ -111,15 +111,15 @@ pub four_mul_add : {A : Type 0} (R : CommRing A) (w : A) (p q r : List A) → le
 four_mul_add R w p q r hp hq hr =
     by_four (λ x. binomial_mul (ops R) w x (poly_add (ops R) q r) ≡ poly_add (ops R) (binomial_mul (ops R) w x q) (binomial_mul (ops R) w x r)) (λ a b c d.
     by_four
-        (λ y. binomial_mul (ops R) w (a ∷ b ∷ c ∷ d ∷ []) (poly_add (ops R) y r)
-          ≡ poly_add (ops R) (binomial_mul (ops R) w (a ∷ b ∷ c ∷ d ∷ []) y)
-            (binomial_mul (ops R) w (a ∷ b ∷ c ∷ d ∷ []) r))
-        (λ e f g h.
+    (λ y. binomial_mul (ops R) w (a ∷ b ∷ c ∷ d ∷ []) (poly_add (ops R) y r)
+    ≡ poly_add (ops R) (binomial_mul (ops R) w (a ∷ b ∷ c ∷ d ∷ []) y)
+    (binomial_mul (ops R) w (a ∷ b ∷ c ∷ d ∷ []) r))
+    (λ e f g h.
     by_four
-        (λ z. binomial_mul (ops R) w (a ∷ b ∷ c ∷ d ∷ []) (poly_add (ops R) (e ∷ f ∷ g ∷ h ∷ []) z)
-          ≡ poly_add (ops R) (binomial_mul (ops R) w (a ∷ b ∷ c ∷ d ∷ []) (e ∷ f ∷ g ∷ h ∷ []))
-            (binomial_mul (ops R) w (a ∷ b ∷ c ∷ d ∷ []) z))
-        (λ i j k l.
+    (λ z. binomial_mul (ops R) w (a ∷ b ∷ c ∷ d ∷ []) (poly_add (ops R) (e ∷ f ∷ g ∷ h ∷ []) z)
+    ≡ poly_add (ops R) (binomial_mul (ops R) w (a ∷ b ∷ c ∷ d ∷ []) (e ∷ f ∷ g ∷ h ∷ []))
+    (binomial_mul (ops R) w (a ∷ b ∷ c ∷ d ∷ []) z))
+    (λ i j k l.
     mul_add_at R w a b c d e f g h i j k l) r hr) q hq) p hp
 
 pub four_mul_comm : {A : Type 0} (R : CommRing A) (w : A) (p q : List A) → length p ≡ 4 → length q ≡ 4

@@ -5,11 +5,10 @@ use Rattle.air_field.specs.laws.Ring.{nil_add, nil_mul, mul_nil, neg_nil, one_mu
 use Rattle.air_field.specs.Term.{Leaf, Term, leaf_term, const_term, ext_const_term, add_term, sub_term, neg_term, mul_term}
 use Rattle.air_field.specs.Value.{value}
 use Rattle.air_field.specs.Polynomial.{only, polynomial}
-use Rattle.air_field.specs.Same.{
-    Same, same_refl, same_sym, same_trans, same_add, same_sub, same_neg, same_mul, const_add, const_sub, const_neg,
-    const_mul, zero_add, add_zero, zero_sub, sub_zero, zero_mul, mul_zero, one_mul, mul_one, assoc_add, comm_add,
-    add_opposite, sub_is, assoc_mul, comm_mul, mul_sum, ext_base
-}
+use Rattle.air_field.specs.Same.{Same, same_refl, same_sym, same_trans, same_add, same_sub, same_neg, same_mul}
+use Rattle.air_field.specs.Same.{const_add, const_sub, const_neg, const_mul, zero_add, add_zero, zero_sub, sub_zero}
+use Rattle.air_field.specs.Same.{zero_mul, mul_zero, one_mul, mul_one, assoc_add, comm_add, add_opposite, sub_is}
+use Rattle.air_field.specs.Same.{assoc_mul, comm_mul, mul_sum, ext_base}
 use Rattle.air_field.specs.laws.Sums as sums
 
 -- The constant coefficient is the value.

@@ -171,24 +171,24 @@ means R env unit = refl
 means R env (plus a b) =
     ap (R.add (R.add (value R env a) (value R env b))) (fold-append (sums R) (product_of R env) (parts a).below (parts b).below)
     ∙ (plus_step R (value R env a) (value R env b) (sum_of R env (parts a).below) (sum_of R env (parts b).below)
-        (sum_of R env (parts a).above) (sum_of R env (parts b).above) (means R env a) (means R env b)
+    (sum_of R env (parts a).above) (sum_of R env (parts b).above) (means R env a) (means R env b)
     ∙ sym (fold-append (sums R) (product_of R env) (parts a).above (parts b).above))
 means R env (times a b) =
     let lower : sum_of R env
-      (times_all (parts a).above (parts b).below ++ times_all (parts a).below (parts b).above)
-        ≡ R.add (R.mul (sum_of R env (parts a).above) (sum_of R env (parts b).below))
-          (R.mul (sum_of R env (parts a).below) (sum_of R env (parts b).above)) =
+    (times_all (parts a).above (parts b).below ++ times_all (parts a).below (parts b).above)
+    ≡ R.add (R.mul (sum_of R env (parts a).above) (sum_of R env (parts b).below))
+    (R.mul (sum_of R env (parts a).below) (sum_of R env (parts b).above)) =
     fold-append (sums R) (product_of R env) (times_all (parts a).above (parts b).below) (times_all (parts a).below (parts b).above)
     ∙ ap₂ R.add (sum-times_all R env (parts a).above (parts b).below) (sum-times_all R env (parts a).below (parts b).above) in
     let upper : sum_of R env
-      (times_all (parts a).above (parts b).above ++ times_all (parts a).below (parts b).below)
-        ≡ R.add (R.mul (sum_of R env (parts a).above) (sum_of R env (parts b).above))
-          (R.mul (sum_of R env (parts a).below) (sum_of R env (parts b).below)) =
+    (times_all (parts a).above (parts b).above ++ times_all (parts a).below (parts b).below)
+    ≡ R.add (R.mul (sum_of R env (parts a).above) (sum_of R env (parts b).above))
+    (R.mul (sum_of R env (parts a).below) (sum_of R env (parts b).below)) =
     fold-append (sums R) (product_of R env) (times_all (parts a).above (parts b).above) (times_all (parts a).below (parts b).below)
     ∙ ap₂ R.add (sum-times_all R env (parts a).above (parts b).above) (sum-times_all R env (parts a).below (parts b).below) in
     ap (R.add (R.mul (value R env a) (value R env b))) lower
     ∙ (times_step R (value R env a) (value R env b) (sum_of R env (parts a).below) (sum_of R env (parts b).below)
-        (sum_of R env (parts a).above) (sum_of R env (parts b).above) (means R env a) (means R env b)
+    (sum_of R env (parts a).above) (sum_of R env (parts b).above) (means R env a) (means R env b)
     ∙ sym upper)
 means R env (opp a) = opp_step R (value R env a) (sum_of R env (parts a).below) (sum_of R env (parts a).above) (means R env a)
 
@@ -209,7 +209,7 @@ cancel_step R a b n m p q h k e =
 pub ring : {A : Type 0} (R : CommRing A) (env : List A) (a b : Expr) → left_form a b ≡ left_form b a → value R env a ≡ value R env b
 ring R env a b h =
     cancel_step R (value R env a) (value R env b) (sum_of R env (parts a).below) (sum_of R env (parts b).below)
-        (sum_of R env (parts a).above) (sum_of R env (parts b).above) (means R env a) (means R env b)
+    (sum_of R env (parts a).above) (sum_of R env (parts b).above) (means R env a) (means R env b)
     (sym (fold-append (sums R) (product_of R env) (parts a).above (parts b).below)
     ∙ (sym (sum-canonical R env ((parts a).above ++ (parts b).below))
     ∙ (ap (sum_of R env) h

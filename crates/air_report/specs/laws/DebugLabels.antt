@@ -68,8 +68,8 @@ module _ {F E : Type 0} (zero : RowData F E → Assertion F → Bool) where
     -- and growth under a label that the name may display
     pub logged_label : (holds : Bool) → LogsOne d.row m n says holds fs gs
         → (label : Label)
-          × (IsSaid says label
-            × ((s : Assertion F) → zero d s ≡ holds → LabelledAtRow zero d f m n fs gs ((s, label) ∷ [])))
+        × (IsSaid says label
+        × ((s : Assertion F) → zero d s ≡ holds → LabelledAtRow zero d f m n fs gs ((s, label) ∷ [])))
     logged_label true h = (
       Unasked,
       (

@@ -2,11 +2,9 @@
 use Rattle.std.specs.Prelude.{◌≡◌, List, Bool, refl}
 use Rattle.std.proofs.Common.{sym, ◌∙◌, ap, ap₂}
 use Rattle.air_field.specs.Ring.{CommRing, minus, Over, itself}
-use Rattle.air_field.specs.Term.{
-    Leaf, preprocessed, main, periodic, public, first_row, last_row, transition, permutation, challenge,
-    permutation_value, Term, leaf_term, const_term, ext_const_term, add_term, sub_term, neg_term, mul_term,
-    with_leaves, IsBase
-}
+use Rattle.air_field.specs.Term.{Leaf, preprocessed, main, periodic, public, first_row, last_row, transition}
+use Rattle.air_field.specs.Term.{permutation, challenge, permutation_value, Term, leaf_term, const_term}
+use Rattle.air_field.specs.Term.{ext_const_term, add_term, sub_term, neg_term, mul_term, with_leaves, IsBase}
 use Rattle.air_field.specs.Value.{value}
 use Rattle.air_field.specs.laws.Value.{value-leaves}
 use Rattle.air_field.specs.Algebra.{closed_value, closed_value_in}
@@ -55,7 +53,7 @@ module _ {F E : Type 0} (r : CommRing F) (a : Over F E) (coefficients : E → Li
     -- a base expression that means t is zero where t is at the row
     pub base_is_zero : (d : RowData F E) (v : F) (t : Term F)
         → IsBase (with_leaves (row_stands r a coefficients d) t)
-          × (closed_value r (with_leaves (row_stands r a coefficients d) t) ≡ v)
+        × (closed_value r (with_leaves (row_stands r a coefficients d) t) ≡ v)
         → is_zero_at r a eq ext_eq d (Base t) ≡ eq v r.nil
     base_is_zero d v t m = ap (λ x. eq x r.nil) (base_value (λ _. r.nil) d t m.0 ∙ m.1)
 

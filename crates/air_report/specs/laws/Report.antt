@@ -26,18 +26,18 @@ all_places-more {F = F} ts h =
 module _ {F : Type 0} (r : CommRing F) (eq : F → F → Bool) (trace : Trace F) where
   row_places : (h : ℕ) (es : List (ℕ × Assertion F))
       → map place (filter (is_nonzero r eq trace) (map (λ p. (h, p)) es))
-        ≡ map (λ k. (h, k))
-          (map (λ p. p.0) (filter (λ p. not (eq (assertion_value r (row_assignment r trace h) p.1) r.nil)) es))
+      ≡ map (λ k. (h, k))
+      (map (λ p. p.0) (filter (λ p. not (eq (assertion_value r (row_assignment r trace h) p.1) r.nil)) es))
   row_places h [] = refl
   row_places h (e ∷ es) = step (not (eq (assertion_value r (row_assignment r trace h) e.1) r.nil)) _ _ (row_places h es)
     where
       step : (b : Bool) (us : List (ℕ × (ℕ × Assertion F))) (vs : List (ℕ × Assertion F))
           → map place us ≡ map (λ k. (h, k)) (map (λ (p : ℕ × Assertion F). p.0) vs)
           → map place (cond b ((h, e) ∷ us) us)
-            ≡ map (λ k. (h, k)) (map (λ (p : ℕ × Assertion F). p.0) (cond b (e ∷ vs) vs))
+          ≡ map (λ k. (h, k)) (map (λ (p : ℕ × Assertion F). p.0) (cond b (e ∷ vs) vs))
       step b us vs q = elim b as
           (λ c. map place (cond c ((h, e) ∷ us) us)
-            ≡ map (λ k. (h, k)) (map (λ (p : ℕ × Assertion F). p.0) (cond c (e ∷ vs) vs))) [
+          ≡ map (λ k. (h, k)) (map (λ (p : ℕ × Assertion F). p.0) (cond c (e ∷ vs) vs))) [
             | true ↦ ap (λ l. (h, e.0) ∷ l) q
             | false ↦ q
           ]

@@ -29,7 +29,7 @@ some_list m ns e = cc
 
 items_found_of : (d : Data) (ds : Items) (o : Option ℕ) (p : Option (List ℕ)) (ns : List ℕ)
     → ((ms : List ℕ) → p ≡ Some ms → list_all is_canonical ms ≡ true → ds ≡ number_items (map class ms))
-      → whole d ≡ o
+    → whole d ≡ o
     → option_and_then (λ n. option_map (λ ns. n ∷ ns) p) o ≡ Some ns → list_all is_canonical ns ≡ true → item d ds ≡ number_items (map class ns)
 items_found_of d ds None p ns later is e h = absurd cc
 items_found_of d ds (Some n) None ns later is e h = absurd cc
@@ -83,16 +83,16 @@ elements_found count place d cs e =
     let ns = bind_ok (ok_or (wholes ds.0) (faults.Shape place)) (λ ns. if_count count place ns >>= λ all. if_canonical place all) cs ds.2 in
     let all = bind_ok (if_count count place ns.0) (λ all. if_canonical place all) cs ns.2 in
     let counted = test_ok (λ v. (ns.0 ≡ v) × (length ns.0 ≡ count)) (eqb (length ns.0) count) (Ok ns.0)
-        (Err (faults.Shape place)) all.0 all.1
-        (λ same e. done_is (λ v. (ns.0 ≡ v) × (length ns.0 ≡ count)) ns.0 all.0 e
-          (refl, eqb-true (length ns.0) count same))
-        (not_done (λ v. (ns.0 ≡ v) × (length ns.0 ≡ count)) (faults.Shape place) all.0) in
+    (Err (faults.Shape place)) all.0 all.1
+    (λ same e. done_is (λ v. (ns.0 ≡ v) × (length ns.0 ≡ count)) ns.0 all.0 e
+    (refl, eqb-true (length ns.0) count same))
+    (not_done (λ v. (ns.0 ≡ v) × (length ns.0 ≡ count)) (faults.Shape place) all.0) in
     test_ok (λ v. (d ≡ array (number_items v)) × (length v ≡ count)) (list_all is_canonical all.0) (Ok (map class all.0)) (Err (faults.NotCanonical place)) cs all.2
     (λ good e. done_is (λ v. (d ≡ array (number_items v)) × (length v ≡ count)) (map class all.0) cs e (
       as_array_is d ds.0 (ok_or_found (as_array d) (faults.Shape place) ds.0 ds.1)
           ∙ ap (λ x. array x)
-            (items_found ds.0 all.0
-              (ok_or_found (wholes ds.0) (faults.Shape place) ns.0 ns.1 ∙ ap (λ l. Some l) counted.0) good),
+          (items_found ds.0 all.0
+          (ok_or_found (wholes ds.0) (faults.Shape place) ns.0 ns.1 ∙ ap (λ l. Some l) counted.0) good),
       class_length all.0 ∙ (ap length (sym counted.0) ∙ counted.1),
     ))
     (not_done (λ v. (d ≡ array (number_items v)) × (length v ≡ count)) (faults.NotCanonical place) cs)

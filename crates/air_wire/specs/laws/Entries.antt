@@ -64,7 +64,7 @@ variable_again d v h =
 
 variable_found_of : {F : Type 0} (d : Data) (o : Option Data) (i : Option ℕ) (v : SymbolicVariable F)
     → get (codes "entry") d ≡ o → whole_at (codes "index") d ≡ i
-      → variable_with (option_and_then entry_of o) i ≡ Some v
+    → variable_with (option_and_then entry_of o) i ≡ Some v
     → SpellsVariable d v
 variable_found_of d None i v at ix h = absurd cc
 variable_found_of {F} d (Some x) i v at ix h = found (entry_of x) refl i ix h

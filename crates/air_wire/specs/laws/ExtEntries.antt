@@ -6,10 +6,9 @@ use Rattle.serde_json.specs.Find.{get, as_str}
 use Rattle.air_wire.specs.Parts.{whole_at}
 use Rattle.air_wire.specs.Spelling.{case_data}
 use Rattle.air_wire.specs.laws.Readings.{by_name, none_found, named, mapped, field_found, field_read, text_or_case}
-use Rattle.air_wire.specs.ExtEntries.{
-    ext_entry_data, ext_variable_data, SpellsExtEntry, SpellsExtVariable, bare_ext_entry, ext_entry_with,
-    case_ext_entry, ext_entry_named, ext_entry_of, ext_variable_at, ext_variable_with, ext_variable_of
-}
+use Rattle.air_wire.specs.ExtEntries.{ext_entry_data, ext_variable_data, SpellsExtEntry, SpellsExtVariable}
+use Rattle.air_wire.specs.ExtEntries.{bare_ext_entry, ext_entry_with, case_ext_entry, ext_entry_named, ext_entry_of}
+use Rattle.air_wire.specs.ExtEntries.{ext_variable_at, ext_variable_with, ext_variable_of}
 use Rattle.air_variables.specs.declared.ext_entry.ExtEntry.{ExtEntry}
 use Rattle.air_variables.specs.declared.ext_entry.ExtEntry.TheVariants as entries
 use Rattle.air_variables.specs.declared.variable_ext.SymbolicVariableExt.{SymbolicVariableExt}
@@ -44,7 +43,7 @@ pub ext_entry_found : (d : Data) (e : ExtEntry) → ext_entry_of d ≡ Some e �
 unfolding ext_entry_of
 ext_entry_found d e h = text_or_case SpellsExtEntry ext_entry_named d e (λ s. bare_found s e)
     (λ name c. with_found name c e)
-      (λ d none k. none_found (SpellsExtEntry d) e (sym (ap case_ext_entry none) ∙ k)) h
+    (λ d none k. none_found (SpellsExtEntry d) e (sym (ap case_ext_entry none) ∙ k)) h
 
 pub ext_entry_is_only : (d : Data) (e f : ExtEntry) → SpellsExtEntry d e → SpellsExtEntry d f → e ≡ f
 ext_entry_is_only d e f h k = same e f (sym (ext_entry_again d e h) ∙ ext_entry_again d f k)

@@ -84,7 +84,7 @@ module _ {S F : Type 0} (kind : Kind S F) (laws : KindLaws kind) where
   fault_found before (item d ds) f e = at_node (λ t. fault_found (before ++ t ∷ []) ds f) (node_at kind before d) refl e
     where
       at_node : ((t : Tree S) → nodes_from kind (before ++ t ∷ []) ds ≡ Err f
-        → FirstFault kind (before ++ t ∷ []) ds f)
+          → FirstFault kind (before ++ t ∷ []) ds f)
           → (r : Result (Tree S) FlatError) → node_at kind before d ≡ r
           → (r >>= λ t. nodes_from kind (before ++ t ∷ []) ds) ≡ Err f → FirstFault kind before (item d ds) f
       at_node later (Ok t) is e = inr (t, node_found kind laws before d t is, later t e)

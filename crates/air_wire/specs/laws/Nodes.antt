@@ -22,9 +22,11 @@ two_found_of c None x y p dh xh yh e = absurd cc
 two_found_of c (Some d) None y p dh xh yh e = absurd cc
 two_found_of c (Some d) (Some x) None p dh xh yh e = absurd cc
 two_found_of c (Some d) (Some x) (Some y) p dh xh yh e =
-    let same : (d, x, y) ≡ p = cc in
-    (field_found (codes "degree_multiple") c p.0 (dh ∙ ap (λ q. Some q.0) same), field_found (codes "x") c p.1
-        (xh ∙ ap (λ q. Some q.1) same), field_found (codes "y") c p.2 (yh ∙ ap (λ q. Some q.2) same))
+    let same : (d, x, y) ≡ p = cc in (
+      field_found (codes "degree_multiple") c p.0 (dh ∙ ap (λ q. Some q.0) same),
+      field_found (codes "x") c p.1 (xh ∙ ap (λ q. Some q.1) same),
+      field_found (codes "y") c p.2 (yh ∙ ap (λ q. Some q.2) same),
+    )
 
 pub two_found : (c : Data) (p : ℕ × ℕ × ℕ) → two_of c ≡ Some p → HasWhole (codes "degree_multiple") p.0 c × HasWhole (codes "x") p.1 c × HasWhole (codes "y") p.2 c
 unfolding two_of
@@ -92,8 +94,8 @@ module _ {S F : Type 0} (kind : Kind S F) (before : List (Tree S)) where
   unfolding sum_at
   sum_found c q e =
       let p = bind_ok (ok_or (two_of c) (faults.Shape (length before)))
-          (λ p. operand before p.1 >>= λ t. operand before p.2 >>= λ u. stated (length before) p.0
-            (max (degree kind.term t) (degree kind.term u)) (t, u)) q e in
+      (λ p. operand before p.1 >>= λ t. operand before p.2 >>= λ u. stated (length before) p.0
+      (max (degree kind.term t) (degree kind.term u)) (t, u)) q e in
       let t = bind_ok (operand before p.0.1) (λ t. operand before p.0.2 >>= λ u. stated (length before) p.0.0 (max (degree kind.term t) (degree kind.term u)) (t, u)) q p.2 in
       let u = bind_ok (operand before p.0.2) (λ u. stated (length before) p.0.0 (max (degree kind.term t.0) (degree kind.term u)) (t.0, u)) q t.2 in
       let s = stated_found (length before) p.0.0 (max (degree kind.term t.0) (degree kind.term u.0)) (t.0, u.0) q u.2 in
@@ -104,37 +106,46 @@ module _ {S F : Type 0} (kind : Kind S F) (before : List (Tree S)) where
   sum_read : (c : Data) (t u : Tree S) → HasTwo before t u (max (degree kind.term t) (degree kind.term u)) c → sum_at kind before c ≡ Ok (t, u)
   unfolding sum_at
   sum_read c t u h =
-      rw (two_read c (max (degree kind.term t) (degree kind.term u)) h.1.0 h.2.0 h.0 h.1.1 h.2.1,
-          operand_read before h.1.0 t h.1.2,
-          operand_read before h.2.0 u h.2.2,
-          same_number (max (degree kind.term t) (degree kind.term u)) (max (degree kind.term t) (degree kind.term u)) refl) refl
+      rw (
+        two_read c (max (degree kind.term t) (degree kind.term u)) h.1.0 h.2.0 h.0 h.1.1 h.2.1,
+        operand_read before h.1.0 t h.1.2,
+        operand_read before h.2.0 u h.2.2,
+        same_number (max (degree kind.term t) (degree kind.term u)) (max (degree kind.term t) (degree kind.term u)) refl,
+      ) refl
 
   product_of_found : (c : Data) (q : Tree S × Tree S) → product_at kind before c ≡ Ok q
       → HasTwo before q.0 q.1 (degree kind.term q.0 + degree kind.term q.1) c
-        × (degree kind.term q.0 + degree kind.term q.1 < 2 ^ 64)
+      × (degree kind.term q.0 + degree kind.term q.1 < 2 ^ 64)
   unfolding product_at
   product_of_found c q e =
       let p = bind_ok (ok_or (two_of c) (faults.Shape (length before)))
-          (λ p. operand before p.1 >>= λ t. operand before p.2 >>= λ u. product_degree (degree kind.term t)
-            (degree kind.term u) >>= λ n. stated (length before) p.0 n (t, u)) q e in
+      (λ p. operand before p.1 >>= λ t. operand before p.2 >>= λ u. product_degree (degree kind.term t)
+      (degree kind.term u) >>= λ n. stated (length before) p.0 n (t, u)) q e in
       let t = bind_ok (operand before p.0.1) (λ t. operand before p.0.2 >>= λ u. product_degree (degree kind.term t) (degree kind.term u) >>= λ n. stated (length before) p.0.0 n (t, u)) q p.2 in
       let u = bind_ok (operand before p.0.2) (λ u. product_degree (degree kind.term t.0) (degree kind.term u) >>= λ n. stated (length before) p.0.0 n (t.0, u)) q t.2 in
       let n = bind_ok (product_degree (degree kind.term t.0) (degree kind.term u.0)) (λ n. stated (length before) p.0.0 n (t.0, u.0)) q u.2 in
       let s = stated_found (length before) p.0.0 n.0 (t.0, u.0) q n.2 in
       let g = product_found (degree kind.term t.0) (degree kind.term u.0) n.0 n.1 in
       let f = two_found c p.0 (ok_or_found (two_of c) (faults.Shape (length before)) p.0 p.1) in
-      subst (λ v. HasTwo before v.0 v.1 (degree kind.term v.0 + degree kind.term v.1) c × (degree kind.term v.0 + degree kind.term v.1 < 2 ^ 64)) {x = (t.0, u.0)} {y = q} s.1
-      ((restated c n.0 (degree kind.term t.0 + degree kind.term u.0) g.1 (restated c p.0.0 n.0 s.0 f.0),
-          (p.0.1, f.1, operand_found before p.0.1 t.0 t.1), (p.0.2, f.2, operand_found before p.0.2 u.0 u.1)), g.0)
+      subst (λ v. HasTwo before v.0 v.1 (degree kind.term v.0 + degree kind.term v.1) c × (degree kind.term v.0 + degree kind.term v.1 < 2 ^ 64)) {x = (t.0, u.0)} {y = q} s.1 (
+        (
+          restated c n.0 (degree kind.term t.0 + degree kind.term u.0) g.1 (restated c p.0.0 n.0 s.0 f.0),
+          (p.0.1, f.1, operand_found before p.0.1 t.0 t.1),
+          (p.0.2, f.2, operand_found before p.0.2 u.0 u.1),
+        ),
+        g.0,
+      )
 
   product_of_read : (c : Data) (t u : Tree S) → HasTwo before t u (degree kind.term t + degree kind.term u) c → degree kind.term t + degree kind.term u < 2 ^ 64 → product_at kind before c ≡ Ok (t, u)
   unfolding product_at
   product_of_read c t u h small =
-      rw (two_read c (degree kind.term t + degree kind.term u) h.1.0 h.2.0 h.0 h.1.1 h.2.1,
-          operand_read before h.1.0 t h.1.2,
-          operand_read before h.2.0 u h.2.2,
-          lt-ltb (degree kind.term t + degree kind.term u) (2 ^ 64) small,
-          same_number (degree kind.term t + degree kind.term u) (degree kind.term t + degree kind.term u) refl) refl
+      rw (
+        two_read c (degree kind.term t + degree kind.term u) h.1.0 h.2.0 h.0 h.1.1 h.2.1,
+        operand_read before h.1.0 t h.1.2,
+        operand_read before h.2.0 u h.2.2,
+        lt-ltb (degree kind.term t + degree kind.term u) (2 ^ 64) small,
+        same_number (degree kind.term t + degree kind.term u) (degree kind.term t + degree kind.term u) refl,
+      ) refl
 
   negated_found : (c : Data) (q : Tree S) → negated_at kind before c ≡ Ok q → HasOne before q (degree kind.term q) c
   unfolding negated_at

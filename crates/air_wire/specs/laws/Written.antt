@@ -273,9 +273,9 @@ module _ {S F : Type 0} (kind : Kind S F) (laws : KindLaws kind) where
   one_list d e t h k =
       h.is
       ∙ ap (λ (ds : List Data). array (items_of ds))
-          (same_items h.items k.items h.of.trees k.of.trees
-            (adds_same [] (subtrees t) h.of.trees k.of.trees h.of.order k.of.order)
-            (adds_once [] (subtrees t) h.of.trees nothing_twice h.of.order) h.of.nodes k.of.nodes)
+      (same_items h.items k.items h.of.trees k.of.trees
+      (adds_same [] (subtrees t) h.of.trees k.of.trees h.of.order k.of.order)
+      (adds_once [] (subtrees t) h.of.trees nothing_twice h.of.order) h.of.nodes k.of.nodes)
       ∙ sym k.is
 
   pub written_tree : (d : Data) (t u : Tree S) → IsWritten kind d t → IsWritten kind d u → t ≡ u
