@@ -1,4 +1,3 @@
-pub mod GridRows
 pub mod Binomials
 pub mod JoinLaws
 pub mod BodyLaws

@@ -29,16 +29,8 @@ cached_weight (permutation_value i) = 0
 
 -- the cached weights, and w for the transition selector
 abbrev pub transition_weight : ℕ → Leaf → ℕ
-transition_weight w (preprocessed o i) = 1
-transition_weight w (main o i) = 1
-transition_weight w (periodic i) = 1
-transition_weight w (public i) = 0
-transition_weight w first_row = 1
-transition_weight w last_row = 1
 transition_weight w transition = w
-transition_weight w (permutation o i) = 1
-transition_weight w (challenge i) = 0
-transition_weight w (permutation_value i) = 0
+transition_weight w l = cached_weight l
 
 -- The degree of a periodic column of period p over n rows: n - 1 without a period, else n less a p-th of n.
 abbrev pub periodic_degree : ℕ → ℕ → ℕ

@@ -19,3 +19,4 @@ pub mod Residues
 pub mod Modulo
 pub mod SamePolynomial
 pub mod Binomial
+pub mod Rows

@@ -1,3 +1,2 @@
-pub mod GridRows
 pub mod PeriodicRows
 pub mod WindowRows

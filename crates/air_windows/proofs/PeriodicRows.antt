@@ -5,7 +5,7 @@ use Rattle.std.proofs.lemmas.List.FromFn.{map-range_with_len_more}
 use Rattle.air_field.specs.Grid.{Grid, rows_of}
 use Rattle.air_field.specs.Matrix.{matrix_of}
 use Rattle.air_field.specs.declared.errors.MatrixError.{MatrixError}
-use Rattle.air_windows.proofs.GridRows.{length-rows_of, rows_of-more, matrix_of_rows}
+use Rattle.air_field.specs.laws.Rows.{length-rows_of, rows_of-more, matrix_of_rows}
 use Rattle.std.proofs.lemmas.List.{take_more, map-append, length-map}
 use Rattle.air_windows.specs.Periodic.{HasRows, HasGridRows, IsGreatestPeriod, column_at, rows_below}
 

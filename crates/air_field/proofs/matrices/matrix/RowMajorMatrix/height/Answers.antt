@@ -1,5 +1,5 @@
 use Rattle.std.proofs.Common.{sym}
-use Rattle.air_field.proofs.GridRows.{length-rows_of}
+use Rattle.air_field.specs.laws.Rows.{length-rows_of}
 use Rattle.air_field.proofs.matrices.matrix.RowMajorMatrix.height.Goals as goal
 
 pub returns : goal.returns

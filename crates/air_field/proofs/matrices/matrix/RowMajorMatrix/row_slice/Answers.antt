@@ -1,5 +1,5 @@
 use Rattle.std.proofs.Common.{sym, arith, ◌≡◌, ◌+◌, ◌-◌, ◌*◌}
-use Rattle.air_field.proofs.GridRows.{slice_get-rows_of, slice_get-past_rows}
+use Rattle.air_field.specs.laws.Rows.{slice_get-rows_of, slice_get-past_rows}
 use Rattle.air_field.proofs.matrices.matrix.RowMajorMatrix.row_slice.Goals as goal
 
 pub returns-then-row-self-clause-row : goal.returns-then-row-self-clause-row
