@@ -6,7 +6,7 @@ ghost use Rattle.std.specs.Prelude.{◌≡◌};
 use crate::boundary::BoundaryIoError;
 use air_field::{MatrixError, RingError};
 use air_variables::{BaseEntry, ExtEntry};
-use std::alloc::AllocError;
+use std::alloc::{AllocError, AllocFailed};
 use thiserror::Error;
 
 /// Why a builder, or a call on an AIR, gave up.
@@ -140,6 +140,15 @@ impl From<AllocError> for AirError {
     ghost from_gives = { λ _ a. a ≡ Memory };
 
     fn from(_error: AllocError) -> AirError {
+        AirError::Memory
+    }
+}
+
+// So that a list's growth is refused by `?` too, which hands the item back.
+impl<T: Drop> From<AllocFailed<T>> for AirError {
+    ghost from_gives = { λ _ a. a ≡ Memory };
+
+    fn from(_error: AllocFailed<T>) -> AirError {
         AirError::Memory
     }
 }

@@ -12,9 +12,7 @@ pub fn columns_below(alloc: Global, width: usize) -> Result<Vec<usize>, AirError
 {
     let mut columns = Vec::new(alloc);
     for column in 0..width {
-        if columns.push(column).is_err() {
-            return Err(AirError::Memory);
-        }
+        columns.push(column)?;
     }
     Ok(columns)
 }

@@ -120,9 +120,7 @@ fn all_coordinates<F: Field, EF: ExtensionField<F>>(
 {
     let mut all = Vec::new(alloc);
     for d in 0..EF::DIMENSION {
-        if all.push(coordinate(alloc, elements, d)?).is_err() {
-            return Err(AirError::Memory);
-        }
+        all.push(coordinate(alloc, elements, d)?)?;
     }
     Ok(all)
 }

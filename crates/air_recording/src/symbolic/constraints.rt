@@ -40,13 +40,9 @@ impl<F: Field, EF: ExtensionField<F>> Constraints<F, EF> {
         ensures err { OnErr result (lists_of self.new ≡ lists_of self.old) }
         ensures refused { IfErr result (λ e. e ≡ AirError.Memory) }
     {
-        if self.kinds.push(ConstraintKind::Base).is_err() {
-            return Err(AirError::Memory);
-        }
-        if self.base.push(x).is_err() {
-            self.kinds.pop();
-            return Err(AirError::Memory);
-        }
+        self.kinds.reserve(1)?;
+        self.base.push(x)?;
+        self.kinds.push_reserved(ConstraintKind::Base);
         Ok(())
     }
 
@@ -56,13 +52,9 @@ impl<F: Field, EF: ExtensionField<F>> Constraints<F, EF> {
         ensures err { OnErr result (lists_of self.new ≡ lists_of self.old) }
         ensures refused { IfErr result (λ e. e ≡ AirError.Memory) }
     {
-        if self.kinds.push(ConstraintKind::Extension).is_err() {
-            return Err(AirError::Memory);
-        }
-        if self.ext.push(x).is_err() {
-            self.kinds.pop();
-            return Err(AirError::Memory);
-        }
+        self.kinds.reserve(1)?;
+        self.ext.push(x)?;
+        self.kinds.push_reserved(ConstraintKind::Extension);
         Ok(())
     }
 
@@ -89,7 +81,7 @@ fn base_places(alloc: Global, kinds: &[ConstraintKind]) -> Result<Vec<usize>, Ai
     let mut places = Vec::new(alloc);
     for (place, kind) in kinds.iter().enumerate() {
         match kind {
-            ConstraintKind::Base => places.push(place).map_err(|_| AirError::Memory)?,
+            ConstraintKind::Base => places.push(place)?,
             ConstraintKind::Extension => {}
         }
     }
@@ -105,7 +97,7 @@ fn ext_places(alloc: Global, kinds: &[ConstraintKind]) -> Result<Vec<usize>, Air
     for (place, kind) in kinds.iter().enumerate() {
         match kind {
             ConstraintKind::Base => {}
-            ConstraintKind::Extension => places.push(place).map_err(|_| AirError::Memory)?,
+            ConstraintKind::Extension => places.push(place)?,
         }
     }
     Ok(places)

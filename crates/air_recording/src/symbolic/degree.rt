@@ -132,9 +132,7 @@ pub fn lengths_of<F>(alloc: Global, columns: &[Vec<F>]) -> Result<Vec<usize>, Ai
 {
     let mut periods = Vec::new(alloc);
     for column in columns {
-        if periods.push(column.len()).is_err() {
-            return Err(AirError::Memory);
-        }
+        periods.push(column.len())?;
     }
     Ok(periods)
 }

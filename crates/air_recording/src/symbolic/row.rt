@@ -21,9 +21,7 @@ pub(crate) fn row_of<F>(
 {
     let mut row = Vec::new(alloc);
     for i in 0..width {
-        if row.push(SymbolicVariable::new(entry, i)).is_err() {
-            return Err(AirError::Memory);
-        }
+        row.push(SymbolicVariable::new(entry, i))?;
     }
     Ok(row)
 }
@@ -39,9 +37,7 @@ pub(crate) fn ext_row_of<F, EF>(
 {
     let mut row = Vec::new(alloc);
     for i in 0..width {
-        if row.push(SymbolicVariableExt::new(entry, i)).is_err() {
-            return Err(AirError::Memory);
-        }
+        row.push(SymbolicVariableExt::new(entry, i))?;
     }
     Ok(row)
 }

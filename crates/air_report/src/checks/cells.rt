@@ -113,9 +113,7 @@ pub(crate) fn list_cells<F: Field>(
             continue;
         }
         let failure = cell_failure(alloc, cell, cell.row(height), count, place)?;
-        if failures.push(failure).is_err() {
-            return Err(AirError::Memory);
-        }
+        failures.push(failure)?;
     }
     Ok(())
 }

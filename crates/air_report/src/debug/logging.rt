@@ -44,9 +44,7 @@ fn keep_failure<N: Name>(
         constraint,
         label,
     };
-    if failures.push(failure).is_err() {
-        return Err(AirError::Memory);
-    }
+    failures.push(failure)?;
     Ok(())
 }
 
