@@ -9,7 +9,7 @@ use Rattle.air_field.specs.Term.{Leaf, Term}
 use Rattle.air_field.specs.declared.errors.RingError.{RingError}
 use Rattle.air_windows.specs.declared.errors.AirError.{AirError}
 use Rattle.air_builder.specs.Assertion.{Assertion, Base, Extension}
-use Rattle.air_builder.specs.Builders.{BuilderLaws, GrewOf, RefusesOf}
+use Rattle.air_builder.specs.Builders.{BuilderView, BuilderLaws, GrewOf, RefusesOf}
 use Rattle.air_builder.specs.Extensions.{GrewExtOf, RefusesExtOf}
 use Rattle.air_builder.specs.Refusals.{NoneMissing, none_missing}
 use Rattle.air_author.specs.Constraints.{Asserted, asserts_of_each, asserts_of_first}
@@ -42,7 +42,9 @@ each-append : {C A : Type 0} (f : C → List A) (xs ys : List C) → asserts_of_
 each-append f [] ys = refl
 each-append f (x ∷ xs) ys = ap (λ v. f x ++ v) (each-append f xs ys) ∙ sym (append_assoc (f x) (asserts_of_each f xs) (asserts_of_each f ys))
 
-module _ {S R F : Type 0} {valid : R → Type 0} {extends : R → R → Type 0} {ring_of : S → R} {with_ring : S → R → S} {stands : S → Leaf → Term F} {ready : S → Type 0} {kept : S → S → Type 0} {grew : S → S → List (Assertion F) → Type 0} {ring_refuses : RingError → Term F → Type 0} {missing : S → Leaf → Type 0} {refuses : S → AirError → List (Assertion F) → Type 0} (laws : BuilderLaws ring_of with_ring stands ready kept grew valid extends ring_refuses missing refuses) where
+module _ {S R B F : Type 0} {view : BuilderView S R B F} (laws : BuilderLaws view) where
+  open view use {kept, grew, missing, refuses}
+
   -- a list was asserted, and then another
   pub asserted_then : (a b d : S) (u : Unit {0}) (r : Result (Unit {0}) AirError) (ts us : List (Assertion F)) → Asserted kept grew missing refuses a b (Ok u) ts → Asserted kept grew missing refuses b d r us → Asserted kept grew missing refuses a d r (ts ++ us)
   asserted_then a b d u (Ok v) ts us h k = record {
@@ -133,7 +135,9 @@ module _ {S R F : Type 0} {valid : R → Type 0} {extends : R → R → Type 0} 
       refused = laws.refuses_then a b e [] (Extension t ∷ []) h.keeps (f t h.made);
     }
 
-module _ {S R F : Type 0} {valid : R → Type 0} {extends : R → R → Type 0} {ring_of : S → R} {with_ring : S → R → S} {stands : S → Leaf → Term F} {ready : S → Type 0} {kept : S → S → Type 0} {grew : S → S → List (Assertion F) → Type 0} {ring_refuses : RingError → Term F → Type 0} {missing : S → Leaf → Type 0} {refuses : S → AirError → List (Assertion F) → Type 0} (laws : BuilderLaws ring_of with_ring stands ready kept grew valid extends ring_refuses missing refuses) where
+module _ {S R E F : Type 0} {view : BuilderView S R E F} (laws : BuilderLaws view) where
+  open view use {kept, grew, missing, refuses}
+
   -- one assertion, and then others
   pub then_more : {a b d : S} {u : Unit {0}} {r : Result (Unit {0}) AirError} {t : Assertion F} {us : List (Assertion F)} → Asserted kept grew missing refuses a b (Ok u) (t ∷ []) → Asserted kept grew missing refuses b d r us → Asserted kept grew missing refuses a d r (t ∷ us)
   then_more {a} {b} {d} {u} {r} {t} {us} h k = asserted_then laws a b d u r (t ∷ []) us h k

@@ -6,7 +6,7 @@ use Rattle.air_field.specs.declared.errors.RingError.{RingError}
 use Rattle.air_windows.specs.declared.errors.AirError.{AirError}
 use Rattle.air_field.specs.Algebra.{AlgebraLaws}
 use Rattle.air_builder.specs.Assertion.{Assertion, Base, Extension}
-use Rattle.air_builder.specs.Builders.{Means, BuilderLaws}
+use Rattle.air_builder.specs.Builders.{Means, BuilderView, RingLaws, BuilderLaws}
 use Rattle.air_windows.specs.Errors.{air_error}
 use Rattle.air_builder.specs.Filters.{means_kept, means_lent}
 use Rattle.air_builder.specs.Refusals.{PartOf, EachLeaf}
@@ -34,7 +34,9 @@ part_of_in t u (a ∷ ts) p (inr q) = inr (part_of_in t u ts p q)
 pub some_none : {A : Type 0} {x : A} → Some x ≡ None → ⊥
 some_none e = cc
 
-module _ {S R E F : Type 0} {valid : R → Type 0} {has : R → E → Type 0} {means : R → E → Term F → Type 0} {extends : R → R → Type 0} {ring_of : S → R} {with_ring : S → R → S} {stands : S → Leaf → Term F} {ready : S → Type 0} {kept : S → S → Type 0} {grew : S → S → List (Assertion F) → Type 0} {ring_refuses : RingError → Term F → Type 0} {missing : S → Leaf → Type 0} {refuses : S → AirError → List (Assertion F) → Type 0} (ring : AlgebraLaws valid has means extends ring_refuses) (laws : BuilderLaws ring_of with_ring stands ready kept grew valid extends ring_refuses missing refuses) where
+module _ {S R E F : Type 0} {view : BuilderView S R E F} (ring : RingLaws view) (laws : BuilderLaws view) where
+  open view use {has, means, extends, ring_refuses, ring_of, with_ring, stands, grew, missing, refuses}
+
   -- a refused part
   pub part_refused : (a b : S) (e : AirError) (t u : Term F) → Part t u → Made {E = E} (Means means ring_of stands) grew missing refuses a b (Err e) t → Made {E = E} (Means means ring_of stands) grew missing refuses a b (Err e) u
   part_refused a b e t u p h = record {
@@ -104,7 +106,9 @@ module _ {S R E F : Type 0} {valid : R → Type 0} {has : R → E → Type 0} {m
       let m = means_kept ring laws b d x t (laws.by_growth b d [] k.keeps) h.made in
       subst (λ s. has s x) (sym p) (ring.means_has (ring_of d) x (with_leaves (stands d) t) m)
 
-module _ {S R F : Type 0} {valid : R → Type 0} {extends : R → R → Type 0} {ring_of : S → R} {with_ring : S → R → S} {stands : S → Leaf → Term F} {ready : S → Type 0} {kept : S → S → Type 0} {grew : S → S → List (Assertion F) → Type 0} {ring_refuses : RingError → Term F → Type 0} {missing : S → Leaf → Type 0} {refuses : S → AirError → List (Assertion F) → Type 0} (laws : BuilderLaws ring_of with_ring stands ready kept grew valid extends ring_refuses missing refuses) where
+module _ {S R B F : Type 0} {view : BuilderView S R B F} (laws : BuilderLaws view) where
+  open view use {kept, grew, missing, refuses}
+
   window_refuses : (a : S) (e : AirError) (o i : ℕ) → RefusesWindow (refuses a) (missing a) e → (ts : List (Assertion F)) → PartOf (leaf_term (permutation o i)) ts → refuses a e ts
   window_refuses a e o i (inl p) ts q = laws.refuses_first a e [] ts p
   window_refuses a e o i (inr p) ts q = subst (λ x. refuses a x ts) (sym p.0) (laws.refuses_missing a NoPermutation (permutation o i) ts (p.1 o i) (o, i, refl) q)

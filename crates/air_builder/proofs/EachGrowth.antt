@@ -9,7 +9,7 @@ use Rattle.air_field.specs.declared.errors.RingError.{RingError}
 use Rattle.air_windows.specs.declared.errors.AirError.{AirError}
 use Rattle.air_builder.specs.Assertion.{Assertion}
 use Rattle.air_builder.specs.Batches.{Each, AssertsOf, AssertsOfBoth, GrewByEach, GrewByBeginning, RefusesByEach}
-use Rattle.air_builder.specs.Builders.{Means, BuilderLaws, GrewOf, GrewOfBoth, RefusesOf, RefusesOfBoth}
+use Rattle.air_builder.specs.Builders.{Means, BuilderView, RingLaws, BuilderLaws, GrewOf, GrewOfBoth, RefusesOf, RefusesOfBoth}
 use Rattle.air_builder.specs.Filters.{means_kept}
 
 -- the second list in two parts, as the first one is
@@ -37,7 +37,9 @@ Each-weaker R S w (x ∷ xs) (y ∷ ys) h = (w x y h.0, Each-weaker R S w xs ys 
 pub in_parts : {X : Type 0} (xs : List X) (i : ℕ) (d : X) → i < length xs → xs ≡ take i xs ++ (get_or xs i d ∷ drop (i + 1) xs)
 in_parts xs i d lt = sym (take-append-drop i xs) ∙ ap (λ v. take i xs ++ v) (drop_more xs i d lt)
 
-module _ {S R F : Type 0} {valid : R → Type 0} {extends : R → R → Type 0} {ring_of : S → R} {with_ring : S → R → S} {stands : S → Leaf → Term F} {ready : S → Type 0} {kept : S → S → Type 0} {grew : S → S → List (Assertion F) → Type 0} {ring_refuses : RingError → Term F → Type 0} {missing : S → Leaf → Type 0} {refuses : S → AirError → List (Assertion F) → Type 0} (laws : BuilderLaws ring_of with_ring stands ready kept grew valid extends ring_refuses missing refuses) {I : Type 0} (asserts : S → I → Assertion F → Type 0) (asserts_kept : (a b : S) → kept a b → (x : I) (s : Assertion F) → asserts a x s → asserts b x s) where
+module _ {S R E F : Type 0} {view : BuilderView S R E F} (laws : BuilderLaws view) {I : Type 0} (asserts : S → I → Assertion F → Type 0) (asserts_kept : (a b : S) → view.kept a b → (x : I) (s : Assertion F) → asserts a x s → asserts b x s) where
+  open view use {kept, grew, refuses}
+
   -- no element yet
   pub none_yet : (a : S) → GrewByEach asserts grew a a []
   none_yet a [] h = laws.same a
@@ -77,7 +79,9 @@ module _ {S R F : Type 0} {valid : R → Type 0} {extends : R → R → Type 0} 
 pub get_pair : {A B : Type 0} (xs : List A) (ys : List B) (i : ℕ) (x : A) (y : B) → i < length xs → i < length ys → x ≡ get_or xs i x → y ≡ get_or ys i y → (x, y) ≡ get_or (zip xs ys) i (x, y)
 get_pair xs ys i x y p q e f = ap₂ (λ v w. (v, w)) e f ∙ sym (get_or-zip xs ys i (x, y) p q)
 
-module _ {S R E F : Type 0} {valid : R → Type 0} {has : R → E → Type 0} {means : R → E → Term F → Type 0} {extends : R → R → Type 0} {ring_of : S → R} {with_ring : S → R → S} {stands : S → Leaf → Term F} {ready : S → Type 0} {kept : S → S → Type 0} {grew : S → S → List (Assertion F) → Type 0} {ring_refuses : RingError → Term F → Type 0} {missing : S → Leaf → Type 0} {refuses : S → AirError → List (Assertion F) → Type 0} (ring : AlgebraLaws valid has means extends ring_refuses) (laws : BuilderLaws ring_of with_ring stands ready kept grew valid extends ring_refuses missing refuses) where
+module _ {S R E F : Type 0} {view : BuilderView S R E F} (ring : RingLaws view) (laws : BuilderLaws view) where
+  open view use {means, ring_of, stands, kept}
+
   pub asserts_kept : (op : Term F → Term F) (a b : S) → kept a b → (x : E) (s : Assertion F) → AssertsOf (Means means ring_of stands) op a x s → AssertsOf (Means means ring_of stands) op b x s
   asserts_kept op a b k x s h = (h.0, means_kept ring laws a b x h.0 k h.1, h.2)
 

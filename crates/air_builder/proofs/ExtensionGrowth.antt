@@ -6,13 +6,15 @@ use Rattle.air_field.specs.declared.errors.RingError.{RingError}
 use Rattle.air_windows.specs.declared.errors.AirError.{AirError}
 use Rattle.air_field.specs.Algebra.{AlgebraLaws}
 use Rattle.air_builder.specs.Assertion.{Assertion, Extension}
-use Rattle.air_builder.specs.Builders.{Means, BuilderLaws}
+use Rattle.air_builder.specs.Builders.{Means, BuilderView, RingLaws, BuilderLaws}
 use Rattle.air_windows.specs.Errors.{air_error}
-use Rattle.air_builder.specs.Extensions.{GrewExtOf, RefusesExtOf, AssertsExtOf, ExtensionLaws}
+use Rattle.air_builder.specs.Extensions.{GrewExtOf, RefusesExtOf, AssertsExtOf, ExtensionView, ExtensionLaws}
 use Rattle.air_builder.specs.Filters.{means_kept}
 use Rattle.air_builder.proofs.Growth.{means_in, lent_then, lent_refused, lent_means}
 
-module _ {S R E F : Type 0} {valid : R → Type 0} {has : R → E → Type 0} {means : R → E → Term F → Type 0} {extends : R → R → Type 0} {ring_of : S → R} {with_ring : S → R → S} {stands : S → Leaf → Term F} {ready : S → Type 0} {kept : S → S → Type 0} {grew : S → S → List (Assertion F) → Type 0} {ring_refuses : RingError → Term F → Type 0} {missing : S → Leaf → Type 0} {refuses : S → AirError → List (Assertion F) → Type 0} (ring : AlgebraLaws valid has means extends ring_refuses) (laws : BuilderLaws ring_of with_ring stands ready kept grew valid extends ring_refuses missing refuses) where
+module _ {S R E F : Type 0} {view : BuilderView S R E F} (ring : RingLaws view) (laws : BuilderLaws view) where
+  open view use {means, extends, ring_refuses, ring_of, with_ring, stands, kept, grew, refuses}
+
   -- The lent ring made z of x by an operation, and then z was asserted: growth by the operation of what x means.
   pub lent_grew_ext : (a b : S) (q r : R) (x z : E) (op : Term F → Term F) → q ≡ ring_of a → extends q r → ((t : Term F) → means q x (with_leaves (stands a) t) → means r z (with_leaves (stands a) (op t))) → GrewExtOf (Means means ring_of stands) grew (λ t. t) (with_ring a r) b z → GrewExtOf (Means means ring_of stands) grew op a b x
   lent_grew_ext a b q r x z op p e m g t k =
@@ -42,5 +44,5 @@ module _ {S E F : Type 0} (means : S → E → Term F → Type 0) where
   refuses_ext_of_one refuses op a x e g s h = subst (λ v. refuses a e (v ∷ [])) (sym h.2) (g h.0 h.1)
 
 -- what an element of the base means in the builder it means in the base of the ring over the extension, as it is lent
-pub base_means_in : {S R X B F : Type 0} {ring_of : S → R} {ext_ring_of : S → X} {with_ext_ring : S → X → S} {stands : S → Leaf → Term F} {ready : S → Type 0} {kept : S → S → Type 0} {grew : S → S → List (Assertion F) → Type 0} {has : R → B → Type 0} {means : R → B → Term F → Type 0} {valid : X → Type 0} {extends : X → X → Type 0} {base_has : X → B → Type 0} {base_means : X → B → Term F → Type 0} {ring_refuses : RingError → Term F → Type 0} {refuses : S → AirError → List (Assertion F) → Type 0} (extension : ExtensionLaws ring_of ext_ring_of with_ext_ring stands ready kept grew has means valid extends base_has base_means ring_refuses refuses) (a : S) (q : X) (x : B) (t : Term F) → q ≡ ext_ring_of a → ready a → Means means ring_of stands a x t → base_means q x (with_leaves (stands a) t)
-base_means_in {stands = stands} {base_means = base_means} extension a q x t e r m = means_in base_means x (with_leaves (stands a) t) e (extension.means_base a x (with_leaves (stands a) t) r m)
+pub base_means_in : {S R X B E F : Type 0} {view : BuilderView S R B F} {over : ExtensionView S X B E F} (extension : ExtensionLaws view over) (a : S) (q : X) (x : B) (t : Term F) → q ≡ over.ring_of a → view.ready a → Means view.means view.ring_of view.stands a x t → over.base_means q x (with_leaves (view.stands a) t)
+base_means_in {view = view} {over = over} extension a q x t e r m = means_in over.base_means x (with_leaves (view.stands a) t) e (extension.means_base a x (with_leaves (view.stands a) t) r m)

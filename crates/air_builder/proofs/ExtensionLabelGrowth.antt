@@ -5,13 +5,15 @@ use Rattle.air_field.specs.Term.{Leaf, Term, with_leaves}
 use Rattle.air_field.specs.declared.errors.RingError.{RingError}
 use Rattle.air_windows.specs.declared.errors.AirError.{AirError}
 use Rattle.air_builder.specs.Assertion.{Assertion, Extension}
-use Rattle.air_builder.specs.Builders.{Means, BuilderLaws}
+use Rattle.air_builder.specs.Builders.{Means, BuilderView, RingLaws, BuilderLaws}
 use Rattle.air_builder.specs.ExtensionLabels.{LabelledExtOf, LabelledExtOfBoth}
 use Rattle.air_builder.specs.Labels.{Label, Labelled, NamedLaws}
 use Rattle.air_builder.proofs.Growth.{lent_means, means_in}
 use Rattle.air_builder.proofs.LabelGrowth.{lent_labels}
 
-module _ {S R E F : Type 0} {valid : R → Type 0} {has : R → E → Type 0} {means : R → E → Term F → Type 0} {extends : R → R → Type 0} {ring_of : S → R} {with_ring : S → R → S} {stands : S → Leaf → Term F} {ready : S → Type 0} {kept : S → S → Type 0} {grew : S → S → List (Assertion F) → Type 0} {ring_refuses : RingError → Term F → Type 0} {missing : S → Leaf → Type 0} {refuses : S → AirError → List (Assertion F) → Type 0} {labelled : S → S → List (Labelled F) → Type 0} (ring : AlgebraLaws valid has means extends ring_refuses) (laws : BuilderLaws ring_of with_ring stands ready kept grew valid extends ring_refuses missing refuses) (named : NamedLaws grew labelled) where
+module _ {S R E F : Type 0} {view : BuilderView S R E F} {labelled : S → S → List (Labelled F) → Type 0} (ring : RingLaws view) (laws : BuilderLaws view) (named : NamedLaws view.grew labelled) where
+  open view use {means, extends, ring_of, with_ring, stands}
+
   -- the lent ring made z of x by an operation, and then z was asserted under this label
   pub lent_labelled_ext : (a b : S) (q r : R) (x z : E) (label : Label) (op : Term F → Term F) → q ≡ ring_of a → extends q r → ((t : Term F) → means q x (with_leaves (stands a) t) → means r z (with_leaves (stands a) (op t))) → ((t : Term F) → Means means ring_of stands (with_ring a r) z t → labelled (with_ring a r) b ((Extension t, label) ∷ [])) → (t : Term F) → Means means ring_of stands a x t → labelled a b ((Extension (op t), label) ∷ [])
   lent_labelled_ext a b q r x z label op p e m g t k =

@@ -6,7 +6,7 @@ use Rattle.air_field.specs.declared.errors.RingError.{RingError}
 use Rattle.air_windows.specs.declared.errors.AirError.{AirError}
 use Rattle.air_field.specs.Algebra.{AlgebraLaws}
 use Rattle.air_builder.specs.Assertion.{Assertion, Base}
-use Rattle.air_builder.specs.Builders.{Means, BuilderLaws, GrewOf, RefusesOf}
+use Rattle.air_builder.specs.Builders.{Means, BuilderView, RingLaws, BuilderLaws, GrewOf, RefusesOf}
 use Rattle.air_windows.specs.Errors.{air_error}
 use Rattle.air_builder.specs.Filters.{means_lent}
 
@@ -14,7 +14,9 @@ use Rattle.air_builder.specs.Filters.{means_lent}
 pub means_in : {R E F : Type 0} (means : R → E → Term F → Type 0) {q r : R} (x : E) (t : Term F) → q ≡ r → means r x t → means q x t
 means_in means x t e m = subst (λ r. means r x t) (sym e) m
 
-module _ {S R F : Type 0} {valid : R → Type 0} {extends : R → R → Type 0} {ring_of : S → R} {with_ring : S → R → S} {stands : S → Leaf → Term F} {ready : S → Type 0} {kept : S → S → Type 0} {grew : S → S → List (Assertion F) → Type 0} {ring_refuses : RingError → Term F → Type 0} {missing : S → Leaf → Type 0} {refuses : S → AirError → List (Assertion F) → Type 0} (laws : BuilderLaws ring_of with_ring stands ready kept grew valid extends ring_refuses missing refuses) where
+module _ {S R E F : Type 0} {view : BuilderView S R E F} (laws : BuilderLaws view) where
+  open view use {extends, ring_of, with_ring, ready, kept, grew, refuses}
+
   pub lent : (a : S) (q r : R) → q ≡ ring_of a → extends q r → grew a (with_ring a r) []
   lent a q r p e = laws.ring_lent a r (subst (λ s. extends s r) p e)
 
@@ -30,14 +32,16 @@ module _ {S R F : Type 0} {valid : R → Type 0} {extends : R → R → Type 0} 
   pub lent_ready : (a : S) (q r : R) → q ≡ ring_of a → extends q r → ready a → ready (with_ring a r)
   lent_ready a q r p e h = laws.ready_kept a (with_ring a r) (laws.by_growth a (with_ring a r) [] (lent a q r p e)) h
 
-  pub lent_has : {E : Type 0} (has : R → E → Type 0) (a : S) (r : R) (x : E) → has r x → has (ring_of (with_ring a r)) x
+  pub lent_has : {B : Type 0} (has : R → B → Type 0) (a : S) (r : R) (x : B) → has r x → has (ring_of (with_ring a r)) x
   lent_has has a r x h = subst (λ q. has q x) (sym (laws.ring_with a r)) h
 
 -- what is in the builder's ring is in the ring as it is lent
 pub has_in : {R E : Type 0} (has : R → E → Type 0) {q r : R} (x : E) → q ≡ r → has r x → has q x
 has_in has x e h = subst (λ r. has r x) (sym e) h
 
-module _ {S R E F : Type 0} {valid : R → Type 0} {has : R → E → Type 0} {means : R → E → Term F → Type 0} {extends : R → R → Type 0} {ring_of : S → R} {with_ring : S → R → S} {stands : S → Leaf → Term F} {ready : S → Type 0} {kept : S → S → Type 0} {grew : S → S → List (Assertion F) → Type 0} {ring_refuses : RingError → Term F → Type 0} {missing : S → Leaf → Type 0} {refuses : S → AirError → List (Assertion F) → Type 0} (ring : AlgebraLaws valid has means extends ring_refuses) (laws : BuilderLaws ring_of with_ring stands ready kept grew valid extends ring_refuses missing refuses) where
+module _ {S R E F : Type 0} {view : BuilderView S R E F} (ring : RingLaws view) (laws : BuilderLaws view) where
+  open view use {means, extends, ring_refuses, ring_of, with_ring, stands, grew, refuses}
+
   pub lent_means : (a : S) (q r : R) (x : E) (t : Term F) → q ≡ ring_of a → extends q r → means r x (with_leaves (stands a) t) → Means means ring_of stands (with_ring a r) x t
   lent_means a q r x t p e m = means_lent ring laws a r x t (subst (λ s. extends s r) p e) m
 

@@ -8,7 +8,7 @@ use Rattle.air_field.specs.declared.errors.RingError.{RingError}
 use Rattle.air_windows.specs.declared.errors.AirError.{AirError}
 use Rattle.air_builder.specs.Assertion.{Assertion, Base}
 use Rattle.air_builder.specs.Batches.{Each, AssertsOf, GrewByEach, GrewByBeginning}
-use Rattle.air_builder.specs.Builders.{Means, BuilderLaws, GrewOf, GrewOfBoth}
+use Rattle.air_builder.specs.Builders.{Means, BuilderView, RingLaws, BuilderLaws, GrewOf, GrewOfBoth}
 use Rattle.air_builder.specs.Labels.{Label, Labelled, IsSaid, AreSaidFrom, without_labels, LabelledOf, LabelledOfBoth, LabelledByEach, LabelledByBeginning, NamedLaws}
 use Rattle.air_builder.proofs.Growth.{lent, lent_means, means_in}
 use Rattle.air_builder.proofs.EachGrowth.{Each-append, Each-nil}
@@ -54,7 +54,9 @@ module _ {S F : Type 0} {grew : S → S → List (Assertion F) → Type 0} {labe
   pub beginning_grew : {I : Type 0} {asserts : S → I → Assertion F → Type 0} {says : ℕ → Option (List ℕ) → Type 0} {a b : S} {xs : List I} → LabelledByBeginning asserts labelled says a b xs → GrewByBeginning asserts grew a b xs
   beginning_grew h = record { count = h.count; within = h.within; beginning = labels_grew h.beginning }
 
-module _ {S R F : Type 0} {valid : R → Type 0} {extends : R → R → Type 0} {ring_of : S → R} {with_ring : S → R → S} {stands : S → Leaf → Term F} {ready : S → Type 0} {kept : S → S → Type 0} {grew : S → S → List (Assertion F) → Type 0} {ring_refuses : RingError → Term F → Type 0} {missing : S → Leaf → Type 0} {refuses : S → AirError → List (Assertion F) → Type 0} {labelled : S → S → List (Labelled F) → Type 0} (laws : BuilderLaws ring_of with_ring stands ready kept grew valid extends ring_refuses missing refuses) (named : NamedLaws grew labelled) where
+module _ {S R E F : Type 0} {view : BuilderView S R E F} {labelled : S → S → List (Labelled F) → Type 0} (laws : BuilderLaws view) (named : NamedLaws view.grew labelled) where
+  open view use {extends, ring_of, with_ring, kept, grew}
+
   -- the ring was lent, and then the builder grew
   pub lent_labels : (a b : S) (q r : R) (ls : List (Labelled F)) → q ≡ ring_of a → extends q r → labelled (with_ring a r) b ls → labelled a b ls
   lent_labels a b q r ls p e g = named.labelled_joined a (with_ring a r) b [] ls (named.labelled_nothing a (with_ring a r) (lent laws a q r p e)) g
@@ -101,7 +103,9 @@ module _ {S R F : Type 0} {valid : R → Type 0} {extends : R → R → Type 0} 
       };
     }
 
-module _ {S R E F : Type 0} {valid : R → Type 0} {has : R → E → Type 0} {means : R → E → Term F → Type 0} {extends : R → R → Type 0} {ring_of : S → R} {with_ring : S → R → S} {stands : S → Leaf → Term F} {ready : S → Type 0} {kept : S → S → Type 0} {grew : S → S → List (Assertion F) → Type 0} {ring_refuses : RingError → Term F → Type 0} {missing : S → Leaf → Type 0} {refuses : S → AirError → List (Assertion F) → Type 0} {labelled : S → S → List (Labelled F) → Type 0} (ring : AlgebraLaws valid has means extends ring_refuses) (laws : BuilderLaws ring_of with_ring stands ready kept grew valid extends ring_refuses missing refuses) (named : NamedLaws grew labelled) where
+module _ {S R E F : Type 0} {view : BuilderView S R E F} {labelled : S → S → List (Labelled F) → Type 0} (ring : RingLaws view) (laws : BuilderLaws view) (named : NamedLaws view.grew labelled) where
+  open view use {means, extends, ring_of, with_ring, stands}
+
   -- the lent ring made z of x by an operation, and then z was asserted under a label
   pub lent_label : (a b : S) (q r : R) (x z : E) (says : Option (List ℕ) → Type 0) (op : Term F → Term F) → q ≡ ring_of a → extends q r → ((t : Term F) → means q x (with_leaves (stands a) t) → means r z (with_leaves (stands a) (op t))) → LabelledOf (Means means ring_of stands) labelled says (λ t. t) (with_ring a r) b z → LabelledOf (Means means ring_of stands) labelled says op a b x
   lent_label a b q r x z says op p e m g = record {

@@ -6,7 +6,7 @@ use Rattle.air_field.specs.declared.errors.RingError.{RingError}
 use Rattle.air_windows.specs.declared.errors.AirError.{AirError}
 use Rattle.air_field.specs.Algebra.{AlgebraLaws}
 use Rattle.air_builder.specs.Assertion.{Assertion, filtered}
-use Rattle.air_builder.specs.Builders.{Means, BuilderLaws}
+use Rattle.air_builder.specs.Builders.{Means, BuilderView, RingLaws, BuilderLaws}
 use Rattle.air_builder.specs.Refusals.{PartOf-filtered}
 
 -- a filter stays on its builder, which keeps what it has
@@ -28,7 +28,27 @@ pub map-append : {A B : Type 0} (f : A → B) (xs ys : List A) → map f (xs ++ 
 map-append f [] ys = refl
 map-append f (x ∷ xs) ys = ap (λ zs. f x ∷ zs) (map-append f xs ys)
 
-module _ {S R E F : Type 0} {valid : R → Type 0} {has : R → E → Type 0} {means : R → E → Term F → Type 0} {extends : R → R → Type 0} {ring_of : S → R} {with_ring : S → R → S} {stands : S → Leaf → Term F} {ready : S → Type 0} {kept : S → S → Type 0} {grew : S → S → List (Assertion F) → Type 0} {ring_refuses : RingError → Term F → Type 0} {missing : S → Leaf → Type 0} {refuses : S → AirError → List (Assertion F) → Type 0} (ring : AlgebraLaws valid has means extends ring_refuses) (laws : BuilderLaws ring_of with_ring stands ready kept grew valid extends ring_refuses missing refuses) where
+-- a filter, as the laws see it, of a builder that they see so
+abbrev pub filter_view : {S R E F N P : Type 0} → BuilderView S R E F → (P → S) → (P → N) → (P → E) → (P → S → P) → BuilderView P R E F
+filter_view view inner name condition with_inner = record {
+  valid = view.valid;
+  has = view.has;
+  means = view.means;
+  extends = view.extends;
+  ring_refuses = view.ring_refuses;
+  ring_of = λ p. view.ring_of (inner p);
+  with_ring = λ p r. with_inner p (view.with_ring (inner p) r);
+  stands = λ p. view.stands (inner p);
+  ready = λ p. view.ready (inner p) × view.has (view.ring_of (inner p)) (condition p);
+  kept = λ p q. KeptInside view.kept (name p) (name q) (condition p) (condition q) (inner p) (inner q);
+  grew = λ p q ts. GrewInside view.kept view.grew (Means view.means view.ring_of view.stands) (name p) (name q) (condition p) (condition q) (inner p) (inner q) ts;
+  missing = λ p l. view.missing (inner p) l;
+  refuses = λ p e ts. RefusesInside view.refuses (Means view.means view.ring_of view.stands) (condition p) (inner p) e ts;
+}
+
+module _ {S R E F : Type 0} {view : BuilderView S R E F} (ring : RingLaws view) (laws : BuilderLaws view) where
+  open view use {valid, has, means, extends, ring_refuses, ring_of, with_ring, stands, ready, kept, grew, missing, refuses}
+
   -- what meant a term before still means it
   pub means_kept : (a b : S) (x : E) (t : Term F) → kept a b → Means means ring_of stands a x t → Means means ring_of stands b x t
   means_kept a b x t k m =
@@ -74,7 +94,7 @@ module _ {S R E F : Type 0} {valid : R → Type 0} {has : R → E → Type 0} {m
 
   module _ {N P : Type 0} (inner : P → S) (name : P → N) (condition : P → E) (with_inner : P → S → P) (inner_is : (p : P) (s : S) → inner (with_inner p s) ≡ s) (name_is : (p : P) (s : S) → name (with_inner p s) ≡ name p) (condition_is : (p : P) (s : S) → condition (with_inner p s) ≡ condition p) where
     -- a filter keeps the laws of the builder inside
-    pub filter_laws : BuilderLaws (λ p. ring_of (inner p)) (λ p r. with_inner p (with_ring (inner p) r)) (λ p. stands (inner p)) (λ p. ready (inner p) × has (ring_of (inner p)) (condition p)) (λ p q. KeptInside kept (name p) (name q) (condition p) (condition q) (inner p) (inner q)) (λ p q ts. GrewInside kept grew (Means means ring_of stands) (name p) (name q) (condition p) (condition q) (inner p) (inner q) ts) valid extends ring_refuses (λ p l. missing (inner p) l) (λ p e ts. RefusesInside refuses (Means means ring_of stands) (condition p) (inner p) e ts)
+    pub filter_laws : BuilderLaws (filter_view view inner name condition with_inner)
     filter_laws = record {
       same = λ p. record { keeps = record { same_reference = refl; same_condition = refl; inside = laws.by_growth (inner p) (inner p) [] (laws.same (inner p)) }; by = λ c m. laws.same (inner p) };
       joined = λ p q s xs ys g h. inside_joined (name p) (name q) (name s) (condition p) (condition q) (condition s) (inner p) (inner q) (inner s) xs ys g h;

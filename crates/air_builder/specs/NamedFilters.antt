@@ -6,7 +6,7 @@ use Rattle.air_field.specs.declared.errors.RingError.{RingError}
 use Rattle.air_field.specs.Algebra.{AlgebraLaws}
 use Rattle.air_windows.specs.declared.errors.AirError.{AirError}
 use Rattle.air_builder.specs.Assertion.{Assertion, filtered}
-use Rattle.air_builder.specs.Builders.{Means, BuilderLaws}
+use Rattle.air_builder.specs.Builders.{Means, BuilderView, RingLaws, BuilderLaws}
 use Rattle.air_builder.specs.Filters.{KeptInside, GrewInside, map-append, means_kept}
 use Rattle.air_builder.specs.Labels.{Labelled, without_labels, discarding, NamedLaws}
 
@@ -27,7 +27,9 @@ without_labels-filtered : {F : Type 0} (c : Term F) (ls : List (Labelled F)) →
 without_labels-filtered c [] = refl
 without_labels-filtered c (l ∷ ls) = ap (λ zs. filtered c l.0 ∷ zs) (without_labels-filtered c ls)
 
-module _ {S R F : Type 0} {valid : R → Type 0} {extends : R → R → Type 0} {ring_of : S → R} {with_ring : S → R → S} {stands : S → Leaf → Term F} {ready : S → Type 0} {kept : S → S → Type 0} {grew : S → S → List (Assertion F) → Type 0} {ring_refuses : RingError → Term F → Type 0} {missing : S → Leaf → Type 0} {refuses : S → AirError → List (Assertion F) → Type 0} (laws : BuilderLaws ring_of with_ring stands ready kept grew valid extends ring_refuses missing refuses) where
+module _ {S R E F : Type 0} {view : BuilderView S R E F} (laws : BuilderLaws view) where
+  open view use {grew}
+
   -- a builder that discards labels
   pub discarding_laws : NamedLaws grew (discarding grew)
   discarding_laws = record {
@@ -36,7 +38,9 @@ module _ {S R F : Type 0} {valid : R → Type 0} {extends : R → R → Type 0} 
     labelled_grew = λ a b xs g. g;
   }
 
-module _ {S R E F : Type 0} {valid : R → Type 0} {has : R → E → Type 0} {means : R → E → Term F → Type 0} {extends : R → R → Type 0} {ring_of : S → R} {with_ring : S → R → S} {stands : S → Leaf → Term F} {ready : S → Type 0} {kept : S → S → Type 0} {grew : S → S → List (Assertion F) → Type 0} {ring_refuses : RingError → Term F → Type 0} {missing : S → Leaf → Type 0} {refuses : S → AirError → List (Assertion F) → Type 0} {labelled : S → S → List (Labelled F) → Type 0} (ring : AlgebraLaws valid has means extends ring_refuses) (laws : BuilderLaws ring_of with_ring stands ready kept grew valid extends ring_refuses missing refuses) (named : NamedLaws grew labelled) where
+module _ {S R E F : Type 0} {view : BuilderView S R E F} {labelled : S → S → List (Labelled F) → Type 0} (ring : RingLaws view) (laws : BuilderLaws view) (named : NamedLaws view.grew labelled) where
+  open view use {means, ring_of, stands, kept, grew}
+
   module _ {N : Type 0} where
     inside_joined : (n m k : N) (x y z : E) (a b c : S) (xs ys : List (Labelled F)) → LabelledInside kept labelled (Means means ring_of stands) n m x y a b xs → LabelledInside kept labelled (Means means ring_of stands) m k y z b c ys → LabelledInside kept labelled (Means means ring_of stands) n k x z a c (xs ++ ys)
     inside_joined n m k x y z a b c xs ys g h = record {

@@ -8,7 +8,7 @@ use Rattle.air_field.specs.declared.errors.RingError.{RingError}
 use Rattle.air_windows.specs.declared.errors.AirError.{AirError}
 use Rattle.air_builder.specs.Assertion.{Assertion, Base}
 use Rattle.air_builder.specs.Batches.{Each, AssertsOf, GrewByEach, GrewByBeginning, RefusesByEach}
-use Rattle.air_builder.specs.Builders.{Means, BuilderLaws}
+use Rattle.air_builder.specs.Builders.{Means, BuilderView, RingLaws, BuilderLaws}
 use Rattle.air_builder.specs.Refusals.{PartOf, EachLeaf, EachLeafOf, none_missing}
 use Rattle.air_author.specs.Constraints.{Asserted}
 use Rattle.air_flat.specs.Tables.{OrMemory}
@@ -49,7 +49,9 @@ each_asserts means b [] (t ∷ ts) h = absurd h
 each_asserts means b (x ∷ xs) [] h = absurd h
 each_asserts means b (x ∷ xs) (t ∷ ts) h = ((t, h.0, refl), each_asserts means b xs ts h.1)
 
-module _ {S R E F : Type 0} {valid : R → Type 0} {has : R → E → Type 0} {means : R → E → Term F → Type 0} {extends : R → R → Type 0} {ring_of : S → R} {with_ring : S → R → S} {stands : S → Leaf → Term F} {ready : S → Type 0} {kept : S → S → Type 0} {grew : S → S → List (Assertion F) → Type 0} {ring_refuses : RingError → Term F → Type 0} {missing : S → Leaf → Type 0} {refuses : S → AirError → List (Assertion F) → Type 0} (ring : AlgebraLaws valid has means extends ring_refuses) (laws : BuilderLaws ring_of with_ring stands ready kept grew valid extends ring_refuses missing refuses) where
+module _ {S R E F : Type 0} {view : BuilderView S R E F} (ring : RingLaws view) (laws : BuilderLaws view) where
+  open view use {has, means, ring_of, stands, kept, grew, missing, refuses}
+
   -- what means a term is of the ring
   pub all_has : (b : S) (xs : List E) (ts : List (Term F)) → Each (λ x t. Means means ring_of stands b x t) xs ts → All (λ x. has (ring_of b) x) xs
   all_has b [] [] h = λ k d lt. absurd (omega (arith, lt))

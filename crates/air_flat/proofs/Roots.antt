@@ -10,7 +10,7 @@ use Rattle.air_windows.specs.declared.errors.AirError.{AirError}
 use Rattle.air_windows.specs.declared.errors.AirError.TheVariants.{Memory}
 use Rattle.air_builder.specs.Assertion.{Assertion}
 use Rattle.air_builder.specs.Batches.{Each}
-use Rattle.air_builder.specs.Builders.{Means, BuilderLaws}
+use Rattle.air_builder.specs.Builders.{Means, BuilderView, RingLaws, BuilderLaws}
 use Rattle.air_builder.specs.Refusals.{EachLeaf}
 use Rattle.air_flat.specs.Tables.{IsMade, HasOne, HasAt, MadeAll, OrMemory}
 use Rattle.air_flat.proofs.Making.{there_before}
@@ -54,7 +54,9 @@ each_read {E} means term table (x ∷ xs) (i ∷ roots) h e = (first (h 0 i (ome
     first : HasAt (λ y. means y (term i)) table i → get_or table i None ≡ Some x → means x (term i)
     first (y, p, m) q = subst (λ z. means z (term i)) (same y (sym p ∙ q)) m
 
-module _ {S R E F : Type 0} {valid : R → Type 0} {has : R → E → Type 0} {means : R → E → Term F → Type 0} {extends : R → R → Type 0} {ring_of : S → R} {with_ring : S → R → S} {stands : S → Leaf → Term F} {ready : S → Type 0} {kept : S → S → Type 0} {grew : S → S → List (Assertion F) → Type 0} {ring_refuses : RingError → Term F → Type 0} {missing : S → Leaf → Type 0} {refuses : S → AirError → List (Assertion F) → Type 0} (ring : AlgebraLaws valid has means extends ring_refuses) (laws : BuilderLaws ring_of with_ring stands ready kept grew valid extends ring_refuses missing refuses) where
+module _ {S R E F : Type 0} {view : BuilderView S R E F} (ring : RingLaws view) (laws : BuilderLaws view) where
+  open view use {means, ring_of, stands, grew, missing, refuses}
+
   -- each root's expression was made
   pub all_made : (a b : S) (term : ℕ → Term F) (table : List (Option E)) (roots : List ℕ) (r : Result (Vec E Global) AirError) → grew a b [] → All (λ i. HasAt (IsMade (Means means ring_of stands) missing b (term i)) table i) roots → IfOk r (λ xs. Each (λ x i. get_or table i None ≡ Some x) xs.items roots) → IfErr r (λ e. e ≡ Memory) → MadeAll (Means means ring_of stands) grew missing (OrMemory refuses) a b r (map term roots)
   all_made a b term table roots (Ok xs) g h read memory = record {

@@ -6,7 +6,7 @@ use Rattle.air_field.specs.declared.errors.RingError.{RingError}
 use Rattle.air_windows.specs.declared.errors.AirError.{AirError}
 use Rattle.air_builder.specs.Assertion.{Assertion}
 use Rattle.air_builder.specs.Batches.{Each, AssertsOf, GrewByEach, GrewByBeginning, RefusesByEach}
-use Rattle.air_builder.specs.Builders.{BuilderLaws, GrewOf, RefusesOf}
+use Rattle.air_builder.specs.Builders.{BuilderView, BuilderLaws, GrewOf, RefusesOf}
 use Rattle.air_words.specs.Gadgets.{VariableMeans}
 
 -- the second list in two parts, as the first one is
@@ -27,7 +27,9 @@ Each-nil R (y ∷ ys) h = absurd h
 pub in_parts : {X : Type 0} (xs : List X) (i : ℕ) (d : X) → i < length xs → xs ≡ take i xs ++ (get_or xs i d ∷ drop (i + 1) xs)
 in_parts xs i d lt = sym (take-append-drop i xs) ∙ ap (λ v. take i xs ++ v) (drop_more xs i d lt)
 
-module _ {S R F : Type 0} {valid : R → Type 0} {extends : R → R → Type 0} {ring_of : S → R} {with_ring : S → R → S} {stands : S → Leaf → Term F} {ready : S → Type 0} {kept : S → S → Type 0} {grew : S → S → List (Assertion F) → Type 0} {ring_refuses : RingError → Term F → Type 0} {missing : S → Leaf → Type 0} {refuses : S → AirError → List (Assertion F) → Type 0} (laws : BuilderLaws ring_of with_ring stands ready kept grew valid extends ring_refuses missing refuses) {I : Type 0} (asserts : S → I → Assertion F → Type 0) (asserts_kept : (a b : S) → kept a b → (x : I) (s : Assertion F) → asserts a x s → asserts b x s) where
+module _ {S R E F : Type 0} {view : BuilderView S R E F} (laws : BuilderLaws view) {I : Type 0} (asserts : S → I → Assertion F → Type 0) (asserts_kept : (a b : S) → view.kept a b → (x : I) (s : Assertion F) → asserts a x s → asserts b x s) where
+  open view use {kept, grew, refuses}
+
   -- no element yet
   pub none_yet : (a : S) → GrewByEach asserts grew a a []
   none_yet a [] h = laws.same a

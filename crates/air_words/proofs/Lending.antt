@@ -9,7 +9,7 @@ use Rattle.air_windows.specs.declared.errors.AirError.{AirError}
 use Rattle.air_windows.specs.Errors.{air_error}
 use Rattle.air_builder.specs.Assertion.{Assertion, Base}
 use Rattle.air_builder.specs.Batches.{Each, AssertsOf, GrewByEach, GrewByBeginning, GrewByFirst, RefusesByEach}
-use Rattle.air_builder.specs.Builders.{Means, BuilderLaws}
+use Rattle.air_builder.specs.Builders.{Means, BuilderView, RingLaws, BuilderLaws}
 use Rattle.air_builder.specs.Filters.{means_lent}
 use Rattle.air_builder.specs.Refusals.{PartOf}
 use Rattle.air_words.specs.Words.{Limbs}
@@ -54,7 +54,9 @@ refused_part refuses s e (t ∷ ts) (inl h) = record { term = t; refused = h; pa
 refused_part refuses s e (t ∷ ts) (inr h) =
     let rest = refused_part refuses s e ts h in record { term = rest.term; refused = rest.refused; part = inr rest.part }
 
-module _ {S R E F : Type 0} {valid : R → Type 0} {has : R → E → Type 0} {means : R → E → Term F → Type 0} {extends : R → R → Type 0} {ring_of : S → R} {with_ring : S → R → S} {stands : S → Leaf → Term F} {ready : S → Type 0} {kept : S → S → Type 0} {grew : S → S → List (Assertion F) → Type 0} {ring_refuses : RingError → Term F → Type 0} {missing : S → Leaf → Type 0} {refuses : S → AirError → List (Assertion F) → Type 0} (ring : AlgebraLaws valid has means extends ring_refuses) (laws : BuilderLaws ring_of with_ring stands ready kept grew valid extends ring_refuses missing refuses) (a : S) (q r : R) (p : q ≡ ring_of a) (e : extends q r) where
+module _ {S R E F : Type 0} {view : BuilderView S R E F} (ring : RingLaws view) (laws : BuilderLaws view) (a : S) (q r : R) (p : q ≡ view.ring_of a) (e : view.extends q r) where
+  open view use {means, extends, ring_refuses, ring_of, with_ring, stands, kept, grew, refuses}
+
   pub lent : grew a (with_ring a r) []
   lent = laws.ring_lent a r (subst (λ s. extends s r) p e)
 
