@@ -66,6 +66,10 @@ pub record BuilderView (S R E F : Type 0) : Type 1 where
 abbrev pub RingLaws : {S R E F : Type 0} → BuilderView S R E F → Type 0
 RingLaws view = AlgebraLaws view.valid view.has view.means view.extends view.ring_refuses
 
+-- an element means a term in the builder
+abbrev pub MeansIn : {S R E F : Type 0} → BuilderView S R E F → S → E → Term F → Type 0
+MeansIn view = Means view.means view.ring_of view.stands
+
 -- What every builder keeps. Growth joins; lending the ring grows nothing; what it kept, it still has.
 pub record BuilderLaws {S R E F : Type 0} (view : BuilderView S R E F) : Type 0 where
   pub same : (a : S) → view.grew a a []
@@ -84,7 +88,11 @@ pub record BuilderLaws {S R E F : Type 0} (view : BuilderView S R E F) : Type 0 
   pub has_first_row : (a : S) → view.missing a first_row → ⊥
   pub has_last_row : (a : S) → view.missing a last_row → ⊥
   pub has_transition : (a : S) → view.missing a transition → ⊥
-  pub refuses_first : (a : S) (e : AirError) (xs ys : List (Assertion F)) → view.refuses a e xs → view.refuses a e (xs ++ ys)
-  pub refuses_then : (a b : S) (e : AirError) (xs ys : List (Assertion F)) → view.grew a b xs → view.refuses b e ys → view.refuses a e (xs ++ ys)
-  pub refuses_in_ring : (a : S) (e : RingError) (t : Term F) (ts : List (Assertion F)) → view.ring_refuses e (with_leaves (view.stands a) t) → PartOf t ts → view.refuses a (air_error e) ts
-  pub refuses_missing : (a : S) (e : AirError) (l : Leaf) (ts : List (Assertion F)) → view.missing a l → NamesLeaf e l → PartOf (leaf_term l) ts → view.refuses a e ts
+  pub refuses_first : (a : S) (e : AirError) (xs ys : List (Assertion F))
+      → view.refuses a e xs → view.refuses a e (xs ++ ys)
+  pub refuses_then : (a b : S) (e : AirError) (xs ys : List (Assertion F))
+      → view.grew a b xs → view.refuses b e ys → view.refuses a e (xs ++ ys)
+  pub refuses_in_ring : (a : S) (e : RingError) (t : Term F) (ts : List (Assertion F))
+      → view.ring_refuses e (with_leaves (view.stands a) t) → PartOf t ts → view.refuses a (air_error e) ts
+  pub refuses_missing : (a : S) (e : AirError) (l : Leaf) (ts : List (Assertion F))
+      → view.missing a l → NamesLeaf e l → PartOf (leaf_term l) ts → view.refuses a e ts

@@ -1,10 +1,8 @@
 -- Builders over an extension under a filter.
-use Rattle.std.specs.Prelude.{◌≡◌, List, [], map}
+use Rattle.std.specs.Prelude.{◌≡◌, [], map}
 use Rattle.std.proofs.Common.{sym, ◌∙◌, ap, subst}
-use Rattle.air_field.specs.Term.{Leaf, Term, mul_term}
-use Rattle.air_field.specs.declared.errors.RingError.{RingError}
-use Rattle.air_windows.specs.declared.errors.AirError.{AirError}
-use Rattle.air_builder.specs.Assertion.{Assertion, filtered}
+use Rattle.air_field.specs.Term.{Term, mul_term}
+use Rattle.air_builder.specs.Assertion.{filtered}
 use Rattle.air_builder.specs.Builders.{BuilderView, BuilderLaws}
 use Rattle.air_builder.specs.Extensions.{ExtensionView, ExtensionLaws}
 use Rattle.air_builder.specs.Filters.{filter_view}
@@ -19,7 +17,8 @@ abbrev pub RefusedUnder : {R E B F X : Type 0} → (R → E → Term F → Type 
 RefusedUnder {F = F} means base_means refuses old c x e = (s t : Term F) → base_means old c s → means old x t → refuses e (mul_term t s)
 
 -- a filter's ring over the extension: that of the builder inside
-abbrev pub filter_extension : {S X B E F P : Type 0} → ExtensionView S X B E F → (P → S) → (P → S → P) → ExtensionView P X B E F
+abbrev pub filter_extension : {S X B E F P : Type 0} → ExtensionView S X B E F → (P → S) → (P → S → P)
+    → ExtensionView P X B E F
 filter_extension over inner with_inner = record {
   valid = over.valid;
   has = over.has;
@@ -32,17 +31,26 @@ filter_extension over inner with_inner = record {
   with_ring = λ p r. with_inner p (over.with_ring (inner p) r);
 }
 
-module _ {S R X B E F : Type 0} {view : BuilderView S R B F} {over : ExtensionView S X B E F} (laws : BuilderLaws view) (extension : ExtensionLaws view over) {N P : Type 0}
-    (inner : P → S) (name : P → N) (condition : P → B) (with_inner : P → S → P) (inner_is : (p : P) (s : S) → inner (with_inner p s) ≡ s)
-    (name_is : (p : P) (s : S) → name (with_inner p s) ≡ name p) (condition_is : (p : P) (s : S) → condition (with_inner p s) ≡ condition p) where
-  lent_inside : (p : P) (r : X) → over.extends (over.ring_of (inner p)) r → view.grew (inner p) (inner (with_inner p (over.with_ring (inner p) r))) []
+module _ {S R X B E F : Type 0} {view : BuilderView S R B F} {over : ExtensionView S X B E F}
+    (laws : BuilderLaws view) (extension : ExtensionLaws view over) {N P : Type 0}
+    (inner : P → S) (name : P → N) (condition : P → B) (with_inner : P → S → P)
+    (inner_is : (p : P) (s : S) → inner (with_inner p s) ≡ s)
+    (name_is : (p : P) (s : S) → name (with_inner p s) ≡ name p)
+    (condition_is : (p : P) (s : S) → condition (with_inner p s) ≡ condition p) where
+  lent_inside : (p : P) (r : X) → over.extends (over.ring_of (inner p)) r
+      → view.grew (inner p) (inner (with_inner p (over.with_ring (inner p) r))) []
   lent_inside p r e = subst (λ s. view.grew (inner p) s []) (sym (inner_is p (over.with_ring (inner p) r))) (extension.ext_ring_lent (inner p) r e)
 
   -- a filter keeps the laws of the builder inside
-  pub extension_filter_laws : ExtensionLaws (filter_view view inner name condition with_inner) (filter_extension over inner with_inner)
+  pub extension_filter_laws : ExtensionLaws (filter_view view inner name condition with_inner)
+      (filter_extension over inner with_inner)
   extension_filter_laws = record {
     ext_ring_lent = λ p r e. record {
-      keeps = record { same_reference = name_is p (over.with_ring (inner p) r); same_condition = condition_is p (over.with_ring (inner p) r); inside = laws.by_growth (inner p) (inner (with_inner p (over.with_ring (inner p) r))) [] (lent_inside p r e) };
+      keeps = record {
+        same_reference = name_is p (over.with_ring (inner p) r);
+        same_condition = condition_is p (over.with_ring (inner p) r);
+        inside = laws.by_growth (inner p) (inner (with_inner p (over.with_ring (inner p) r))) [] (lent_inside p r e);
+      };
       by = λ c m. lent_inside p r e;
     };
     ext_ring_with = λ p r. ap over.ring_of (inner_is p (over.with_ring (inner p) r)) ∙ extension.ext_ring_with (inner p) r;

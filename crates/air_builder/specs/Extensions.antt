@@ -66,16 +66,20 @@ over_view view over = record {
 
 -- What every builder keeps of its ring over the extension. Lending it grows nothing; what it kept, it still has; what
 -- is in the base ring is in the base of this one, and means there what it means.
-pub record ExtensionLaws {S R X B E F : Type 0} (view : BuilderView S R B F) (over : ExtensionView S X B E F) : Type 0 where
+pub record ExtensionLaws {S R X B E F : Type 0} (view : BuilderView S R B F) (over : ExtensionView S X B E F)
+    : Type 0 where
   pub ext_ring_lent : (a : S) (r : X) → over.extends (over.ring_of a) r → view.grew a (over.with_ring a r) []
   pub ext_ring_with : (a : S) (r : X) → over.ring_of (over.with_ring a r) ≡ r
   pub ext_ring_valid : (a : S) → view.ready a → over.valid (over.ring_of a)
   pub ext_ring_kept : (a b : S) → view.kept a b → over.extends (over.ring_of a) (over.ring_of b)
   pub has_base : (a : S) (x : B) → view.ready a → view.has (view.ring_of a) x → over.base_has (over.ring_of a) x
-  pub means_base : (a : S) (x : B) (t : Term F) → view.ready a → view.means (view.ring_of a) x t → over.base_means (over.ring_of a) x t
-  pub refuses_in_ext_ring : (a : S) (e : RingError) (t : Term F) (ts : List (Assertion F)) → over.ring_refuses e (with_leaves (view.stands a) t) → PartOf t ts → view.refuses a (air_error e) ts
+  pub means_base : (a : S) (x : B) (t : Term F) → view.ready a
+      → view.means (view.ring_of a) x t → over.base_means (over.ring_of a) x t
+  pub refuses_in_ext_ring : (a : S) (e : RingError) (t : Term F) (ts : List (Assertion F))
+      → over.ring_refuses e (with_leaves (view.stands a) t) → PartOf t ts → view.refuses a (air_error e) ts
 
-module _ {S R X B E F : Type 0} {view : BuilderView S R B F} {over : ExtensionView S X B E F} (laws : BuilderLaws view) (extension : ExtensionLaws view over) where
+module _ {S R X B E F : Type 0} {view : BuilderView S R B F} {over : ExtensionView S X B E F}
+    (laws : BuilderLaws view) (extension : ExtensionLaws view over) where
   -- the builder keeps for its ring over the extension what it keeps for its base ring
   pub over_extension : BuilderLaws (over_view view over)
   over_extension = record {
