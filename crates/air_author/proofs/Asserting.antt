@@ -6,17 +6,17 @@ use Rattle.std.proofs.lemmas.List.{take_more, drop_more, take-append-drop, take-
 use Rattle.std.proofs.Math.Seq.{take-append-add}
 use Rattle.air_field.specs.Part.{whole}
 use Rattle.air_field.specs.Term.{Leaf, Term}
-use Rattle.air_field.specs.declared.errors.RingError.{RingError}
 use Rattle.air_windows.specs.declared.errors.AirError.{AirError}
 use Rattle.air_builder.specs.Assertion.{Assertion, Base, Extension}
-use Rattle.air_builder.specs.Builders.{BuilderLaws, GrewOf, RefusesOf}
+use Rattle.air_builder.specs.Builders.{BuilderView, BuilderLaws, GrewOf, RefusesOf}
 use Rattle.air_builder.specs.Extensions.{GrewExtOf, RefusesExtOf}
 use Rattle.air_builder.specs.Refusals.{NoneMissing}
 use Rattle.air_builder.specs.laws.Refusals.{none_missing}
 use Rattle.air_author.specs.Constraints.{Asserted, asserts_of_each, asserts_of_first}
 use Rattle.air_author.specs.Expressions.{Made}
 
-none_missing_both : {F : Type 0} (missing : Leaf → Type 0) (ts us : List (Assertion F)) → NoneMissing missing ts → NoneMissing missing us → NoneMissing missing (ts ++ us)
+none_missing_both : {F : Type 0} (missing : Leaf → Type 0) (ts us : List (Assertion F)) → NoneMissing missing ts
+    → NoneMissing missing us → NoneMissing missing (ts ++ us)
 none_missing_both missing [] us h k l m p = k l m p
 none_missing_both missing (t ∷ ts) us h k l m (inl p) = h l m (inl p)
 none_missing_both missing (t ∷ ts) us h k l m (inr p) = none_missing_both missing ts us (λ x n q. h x n (inr q)) k l m p
@@ -43,9 +43,13 @@ each-append : {C A : Type 0} (f : C → List A) (xs ys : List C) → asserts_of_
 each-append f [] ys = refl
 each-append f (x ∷ xs) ys = ap (λ v. f x ++ v) (each-append f xs ys) ∙ sym (append_assoc (f x) (asserts_of_each f xs) (asserts_of_each f ys))
 
-module _ {S R F : Type 0} {valid : R → Type 0} {extends : R → R → Type 0} {ring_of : S → R} {with_ring : S → R → S} {stands : S → Leaf → Term F} {ready : S → Type 0} {kept : S → S → Type 0} {grew : S → S → List (Assertion F) → Type 0} {ring_refuses : RingError → Term F → Type 0} {missing : S → Leaf → Type 0} {refuses : S → AirError → List (Assertion F) → Type 0} (laws : BuilderLaws ring_of with_ring stands ready kept grew valid extends ring_refuses missing refuses) where
+module _ {S R B F : Type 0} {view : BuilderView S R B F} (laws : BuilderLaws view) where
+  open view use {kept, grew, missing, refuses}
+
   -- a list was asserted, and then another
-  pub asserted_then : (a b d : S) (u : Unit {0}) (r : Result (Unit {0}) AirError) (ts us : List (Assertion F)) → Asserted kept grew missing refuses a b (Ok u) ts → Asserted kept grew missing refuses b d r us → Asserted kept grew missing refuses a d r (ts ++ us)
+  pub asserted_then : (a b d : S) (u : Unit {0}) (r : Result (Unit {0}) AirError) (ts us : List (Assertion F))
+      → Asserted kept grew missing refuses a b (Ok u) ts → Asserted kept grew missing refuses b d r us
+      → Asserted kept grew missing refuses a d r (ts ++ us)
   asserted_then a b d u (Ok v) ts us h k = record {
     keeps = laws.kept_joined a b d h.keeps k.keeps;
     ok = laws.joined a b d ts us h.ok k.ok;
@@ -66,7 +70,9 @@ module _ {S R F : Type 0} {valid : R → Type 0} {extends : R → R → Type 0} 
   }
 
   -- a beginning was refused
-  pub refused_first : (a b : S) (e : AirError) (ts us : List (Assertion F)) → Asserted kept grew missing refuses a b (Err e) ts → Asserted kept grew missing refuses a b (Err e) (ts ++ us)
+  pub refused_first : (a b : S) (e : AirError) (ts us : List (Assertion F))
+      → Asserted kept grew missing refuses a b (Err e) ts
+      → Asserted kept grew missing refuses a b (Err e) (ts ++ us)
   refused_first a b e ts us h = record {
     keeps = h.keeps;
     ok = tt;
@@ -81,7 +87,8 @@ module _ {S R F : Type 0} {valid : R → Type 0} {extends : R → R → Type 0} 
 
   module _ {E : Type 0} {means : S → E → Term F → Type 0} where
     -- the making of an expression was refused
-    pub making_refused : (a b : S) (e : AirError) (t : Term F) → Made means grew missing refuses a b (Err e) t → Asserted kept grew missing refuses a b (Err e) (Base t ∷ [])
+    pub making_refused : (a b : S) (e : AirError) (t : Term F) → Made means grew missing refuses a b (Err e) t
+        → Asserted kept grew missing refuses a b (Err e) (Base t ∷ [])
     making_refused a b e t h = record {
       keeps = laws.by_growth a b [] h.keeps;
       ok = tt;
@@ -91,7 +98,10 @@ module _ {S R F : Type 0} {valid : R → Type 0} {extends : R → R → Type 0} 
     }
 
     -- an expression was made, and asserted to be zero
-    pub made_then_zero : (a b d : S) (x : E) (r : Result (Unit {0}) AirError) (t : Term F) → Made means grew missing refuses a b (Ok x) t → kept b d → OnOk r (GrewOf means grew (λ t. t) b d x) → OnErr r (grew b d []) → IfErr r (RefusesOf means refuses (λ t. t) b x) → Asserted kept grew missing refuses a d r (Base t ∷ [])
+    pub made_then_zero : (a b d : S) (x : E) (r : Result (Unit {0}) AirError) (t : Term F)
+        → Made means grew missing refuses a b (Ok x) t → kept b d → OnOk r (GrewOf means grew (λ t. t) b d x)
+        → OnErr r (grew b d []) → IfErr r (RefusesOf means refuses (λ t. t) b x)
+        → Asserted kept grew missing refuses a d r (Base t ∷ [])
     made_then_zero a b d x (Ok u) t h k g n f = record {
       keeps = laws.kept_joined a b d (laws.by_growth a b [] h.keeps) k;
       ok = laws.joined a b d [] (Base t ∷ []) h.keeps (g t h.made);
@@ -108,7 +118,8 @@ module _ {S R F : Type 0} {valid : R → Type 0} {extends : R → R → Type 0} 
     }
 
     -- the making of an expression was refused
-    pub making_refused_ext : (a b : S) (e : AirError) (t : Term F) → Made means grew missing refuses a b (Err e) t → Asserted kept grew missing refuses a b (Err e) (Extension t ∷ [])
+    pub making_refused_ext : (a b : S) (e : AirError) (t : Term F) → Made means grew missing refuses a b (Err e) t
+        → Asserted kept grew missing refuses a b (Err e) (Extension t ∷ [])
     making_refused_ext a b e t h = record {
       keeps = laws.by_growth a b [] h.keeps;
       ok = tt;
@@ -118,7 +129,10 @@ module _ {S R F : Type 0} {valid : R → Type 0} {extends : R → R → Type 0} 
     }
 
     -- an expression was made, and asserted to be zero
-    pub made_then_zero_ext : (a b d : S) (x : E) (r : Result (Unit {0}) AirError) (t : Term F) → Made means grew missing refuses a b (Ok x) t → kept b d → OnOk r (GrewExtOf means grew (λ t. t) b d x) → OnErr r (grew b d []) → IfErr r (RefusesExtOf means refuses (λ t. t) b x) → Asserted kept grew missing refuses a d r (Extension t ∷ [])
+    pub made_then_zero_ext : (a b d : S) (x : E) (r : Result (Unit {0}) AirError) (t : Term F)
+        → Made means grew missing refuses a b (Ok x) t → kept b d → OnOk r (GrewExtOf means grew (λ t. t) b d x)
+        → OnErr r (grew b d []) → IfErr r (RefusesExtOf means refuses (λ t. t) b x)
+        → Asserted kept grew missing refuses a d r (Extension t ∷ [])
     made_then_zero_ext a b d x (Ok u) t h k g n f = record {
       keeps = laws.kept_joined a b d (laws.by_growth a b [] h.keeps) k;
       ok = laws.joined a b d [] (Extension t ∷ []) h.keeps (g t h.made);
@@ -134,26 +148,43 @@ module _ {S R F : Type 0} {valid : R → Type 0} {extends : R → R → Type 0} 
       refused = laws.refuses_then a b e [] (Extension t ∷ []) h.keeps (f t h.made);
     }
 
-module _ {S R F : Type 0} {valid : R → Type 0} {extends : R → R → Type 0} {ring_of : S → R} {with_ring : S → R → S} {stands : S → Leaf → Term F} {ready : S → Type 0} {kept : S → S → Type 0} {grew : S → S → List (Assertion F) → Type 0} {ring_refuses : RingError → Term F → Type 0} {missing : S → Leaf → Type 0} {refuses : S → AirError → List (Assertion F) → Type 0} (laws : BuilderLaws ring_of with_ring stands ready kept grew valid extends ring_refuses missing refuses) where
+module _ {S R E F : Type 0} {view : BuilderView S R E F} (laws : BuilderLaws view) where
+  open view use {kept, grew, missing, refuses}
+
   -- one assertion, and then others
-  pub then_more : {a b d : S} {u : Unit {0}} {r : Result (Unit {0}) AirError} {t : Assertion F} {us : List (Assertion F)} → Asserted kept grew missing refuses a b (Ok u) (t ∷ []) → Asserted kept grew missing refuses b d r us → Asserted kept grew missing refuses a d r (t ∷ us)
+  pub then_more : {a b d : S} {u : Unit {0}} {r : Result (Unit {0}) AirError} {t : Assertion F} {us : List
+      (Assertion F)}
+      → Asserted kept grew missing refuses a b (Ok u) (t ∷ []) → Asserted kept grew missing refuses b d r us
+      → Asserted kept grew missing refuses a d r (t ∷ us)
   then_more {a} {b} {d} {u} {r} {t} {us} h k = asserted_then laws a b d u r (t ∷ []) us h k
 
   -- a `?` gives up at one of several
-  pub gives_up : {a b : S} {e : AirError} {r : Result (Unit {0}) AirError} {t : Assertion F} {us : List (Assertion F)} → IsErrAnd r (λ x. x ≡ e) → Asserted kept grew missing refuses a b (Err e) (t ∷ []) → Asserted kept grew missing refuses a b r (t ∷ us)
+  pub gives_up : {a b : S} {e : AirError} {r : Result (Unit {0}) AirError} {t : Assertion F} {us : List
+      (Assertion F)}
+      → IsErrAnd r (λ x. x ≡ e) → Asserted kept grew missing refuses a b (Err e) (t ∷ [])
+      → Asserted kept grew missing refuses a b r (t ∷ us)
   gives_up {a} {b} {e} {r} {t} {us} p h =
       let q = err_from_is_err_and r p in
       rw (q.1, q.2) (refused_first laws a b e (t ∷ []) us h)
 
   -- one element more of a list
-  pub each_more : {C : Type 0} (f : C → List (Assertion F)) (a b d : S) (u : Unit {0}) (xs : List C) (i : ℕ) (x : C) → i < length xs → x ≡ get_or xs i x → Asserted kept grew missing refuses a b (Ok tt) (asserts_of_each f (take i xs)) → Asserted kept grew missing refuses b d (Ok u) (f x) → Asserted kept grew missing refuses a d (Ok tt) (asserts_of_each f (take (i + 1) xs))
+  pub each_more : {C : Type 0} (f : C → List (Assertion F)) (a b d : S) (u : Unit {0}) (xs : List C) (i : ℕ) (x : C)
+      → i < length xs → x ≡ get_or xs i x
+      → Asserted kept grew missing refuses a b (Ok tt) (asserts_of_each f (take i xs))
+      → Asserted kept grew missing refuses b d (Ok u) (f x)
+      → Asserted kept grew missing refuses a d (Ok tt) (asserts_of_each f (take (i + 1) xs))
   each_more f a b d u xs i x lt is h k =
       let here : take (i + 1) xs ≡ take i xs ++ (x ∷ []) = take_more xs i x lt ∙ ap (λ v. take i xs ++ (v ∷ [])) (sym is) in
       let parts : asserts_of_each f (take (i + 1) xs) ≡ asserts_of_each f (take i xs) ++ f x = ap (λ v. asserts_of_each f v) here ∙ each-append f (take i xs) (x ∷ []) ∙ ap (λ v. asserts_of_each f (take i xs) ++ v) (append-nil (f x)) in
       subst (λ v. Asserted kept grew missing refuses a d (Ok tt) v) (sym parts) (asserted_then laws a b d tt (Ok u) (asserts_of_each f (take i xs)) (f x) h k)
 
   -- an element was refused
-  pub each_refused : {C : Type 0} (f : C → List (Assertion F)) (a b d : S) (e : AirError) (xs : List C) (i : ℕ) (x : C) → i < length xs → x ≡ get_or xs i x → Asserted kept grew missing refuses a b (Ok tt) (asserts_of_each f (take i xs)) → Asserted kept grew missing refuses b d (Err e) (f x) → Asserted kept grew missing refuses a d (Err e) (asserts_of_each f xs)
+  pub each_refused : {C : Type 0} (f : C → List (Assertion F)) (a b d : S) (e : AirError) (xs : List C) (i : ℕ)
+      (x : C)
+      → i < length xs → x ≡ get_or xs i x
+      → Asserted kept grew missing refuses a b (Ok tt) (asserts_of_each f (take i xs))
+      → Asserted kept grew missing refuses b d (Err e) (f x)
+      → Asserted kept grew missing refuses a d (Err e) (asserts_of_each f xs)
   each_refused f a b d e xs i x lt is h k =
       let whole : xs ≡ take i xs ++ (x ∷ drop (i + 1) xs) = in_parts xs i x lt ∙ ap (λ v. take i xs ++ (v ∷ drop (i + 1) xs)) (sym is) in
       let parts : asserts_of_each f xs ≡ asserts_of_each f (take i xs) ++ (f x ++ asserts_of_each f (drop (i + 1) xs)) = ap (λ v. asserts_of_each f v) whole ∙ each-append f (take i xs) (x ∷ drop (i + 1) xs) in
@@ -170,12 +201,17 @@ module _ {S R F : Type 0} {valid : R → Type 0} {extends : R → R → Type 0} 
   }
 
   -- one index more
-  pub first_more : (f : ℕ → List (Assertion F)) (a b d : S) (u : Unit {0}) (i : ℕ) → Asserted kept grew missing refuses a b (Ok tt) (asserts_of_first f i) → Asserted kept grew missing refuses b d (Ok u) (f i) → Asserted kept grew missing refuses a d (Ok tt) (asserts_of_first f (i + 1))
+  pub first_more : (f : ℕ → List (Assertion F)) (a b d : S) (u : Unit {0}) (i : ℕ)
+      → Asserted kept grew missing refuses a b (Ok tt) (asserts_of_first f i)
+      → Asserted kept grew missing refuses b d (Ok u) (f i)
+      → Asserted kept grew missing refuses a d (Ok tt) (asserts_of_first f (i + 1))
   first_more f a b d u i h k =
       let e : suc i ≡ i + 1 = omega arith in
       subst (λ n. Asserted kept grew missing refuses a d (Ok tt) (asserts_of_first f n)) e (asserted_then laws a b d tt (Ok u) (asserts_of_first f i) (f i) h k)
 
-  later : (f : ℕ → List (Assertion F)) (a d : S) (e : AirError) (i k n : ℕ) → n ≡ k + suc i → Asserted kept grew missing refuses a d (Err e) (asserts_of_first f (suc i)) → Asserted kept grew missing refuses a d (Err e) (asserts_of_first f n)
+  later : (f : ℕ → List (Assertion F)) (a d : S) (e : AirError) (i k n : ℕ) → n ≡ k + suc i
+      → Asserted kept grew missing refuses a d (Err e) (asserts_of_first f (suc i))
+      → Asserted kept grew missing refuses a d (Err e) (asserts_of_first f n)
   later f a d e i zero n p h =
       let q : suc i ≡ n = omega arith in
       subst (λ m. Asserted kept grew missing refuses a d (Err e) (asserts_of_first f m)) q h
@@ -185,7 +221,10 @@ module _ {S R F : Type 0} {valid : R → Type 0} {extends : R → R → Type 0} 
       (refused_first laws a d e (asserts_of_first f (k + suc i)) (f (k + suc i)) (later f a d e i k (k + suc i) refl h))
 
   -- one at an index was refused
-  pub first_refused : (f : ℕ → List (Assertion F)) (a b d : S) (e : AirError) (i n : ℕ) → i < n → Asserted kept grew missing refuses a b (Ok tt) (asserts_of_first f i) → Asserted kept grew missing refuses b d (Err e) (f i) → Asserted kept grew missing refuses a d (Err e) (asserts_of_first f n)
+  pub first_refused : (f : ℕ → List (Assertion F)) (a b d : S) (e : AirError) (i n : ℕ) → i < n
+      → Asserted kept grew missing refuses a b (Ok tt) (asserts_of_first f i)
+      → Asserted kept grew missing refuses b d (Err e) (f i)
+      → Asserted kept grew missing refuses a d (Err e) (asserts_of_first f n)
   first_refused f a b d e i n lt h k =
       let p : n ≡ (n - suc i) + suc i = omega arith in
       later f a d e i (n - suc i) n p (asserted_then laws a b d tt (Err e) (asserts_of_first f i) (f i) h k)

@@ -1,11 +1,9 @@
 -- What is known of an expression that was made, where it is handed to a gadget.
 use Rattle.std.specs.Prelude.{◌<◌, List, [], length, take, Result, Ok, Err}
 use Rattle.air_field.specs.Term.{Leaf, Term, leaf_term, const_term, ext_const_term, add_term, sub_term, neg_term, mul_term}
-use Rattle.air_field.specs.declared.errors.RingError.{RingError}
-use Rattle.air_field.specs.Algebra.{AlgebraLaws}
 use Rattle.air_windows.specs.declared.errors.AirError.{AirError}
 use Rattle.air_builder.specs.Assertion.{Assertion}
-use Rattle.air_builder.specs.Builders.{Means, BuilderLaws}
+use Rattle.air_builder.specs.Builders.{MeansIn, BuilderView, RingLaws, BuilderLaws}
 use Rattle.air_builder.specs.Filters.{means_kept}
 use Rattle.air_builder.specs.Refusals.{EachLeaf, PartOf}
 use Rattle.air_author.specs.Constraints.{Asserted}
@@ -20,9 +18,12 @@ each_weaker (sub_term t u) f h = (each_weaker t f h.0, each_weaker u f h.1)
 each_weaker (neg_term t) f h = each_weaker t f h
 each_weaker (mul_term t u) f h = (each_weaker t f h.0, each_weaker u f h.1)
 
-module _ {S R E F : Type 0} {valid : R → Type 0} {has : R → E → Type 0} {means : R → E → Term F → Type 0} {extends : R → R → Type 0} {ring_of : S → R} {with_ring : S → R → S} {stands : S → Leaf → Term F} {ready : S → Type 0} {kept : S → S → Type 0} {grew : S → S → List (Assertion F) → Type 0} {ring_refuses : RingError → Term F → Type 0} {missing : S → Leaf → Type 0} {refuses : S → AirError → List (Assertion F) → Type 0} (ring : AlgebraLaws valid has means extends ring_refuses) (laws : BuilderLaws ring_of with_ring stands ready kept grew valid extends ring_refuses missing refuses) where
+module _ {S R E F : Type 0} {view : BuilderView S R E F} (ring : RingLaws view) (laws : BuilderLaws view) where
+  open view use {kept, grew, missing, refuses}
+
   -- what was made means its term, and will
-  pub made_lasts : (a b : S) (x : E) (t : Term F) → Made (Means means ring_of stands) grew missing refuses a b (Ok x) t → Lasts kept (Holds (Means means ring_of stands) missing x t) b
+  pub made_lasts : (a b : S) (x : E) (t : Term F) → Made (MeansIn view) grew missing refuses a b (Ok x) t
+      → Lasts kept (Holds (MeansIn view) missing x t) b
   made_lasts a b x t h d k =
       let before = laws.kept_joined a b d (laws.by_growth a b [] h.keeps) k in
       record {
@@ -30,9 +31,13 @@ module _ {S R E F : Type 0} {valid : R → Type 0} {has : R → E → Type 0} {m
         leaves = each_weaker t (λ l f m. f (laws.missing_kept a d l before m)) h.there;
       }
 
-module _ {S R E F : Type 0} {valid : R → Type 0} {extends : R → R → Type 0} {ring_of : S → R} {with_ring : S → R → S} {stands : S → Leaf → Term F} {ready : S → Type 0} {kept : S → S → Type 0} {grew : S → S → List (Assertion F) → Type 0} {ring_refuses : RingError → Term F → Type 0} {missing : S → Leaf → Type 0} {refuses : S → AirError → List (Assertion F) → Type 0} {means : S → E → Term F → Type 0} (laws : BuilderLaws ring_of with_ring stands ready kept grew valid extends ring_refuses missing refuses) where
+module _ {S R B E F : Type 0} {view : BuilderView S R B F} {means : S → E → Term F → Type 0}
+    (laws : BuilderLaws view) where
+  open view use {kept, grew, missing, refuses}
+
   -- it wasn't made, so that nothing was asserted of what it is a part of
-  pub making_refused : (a b : S) (e : AirError) (t : Term F) (ts : List (Assertion F)) → 0 < length ts → PartOf t ts → Made means grew missing refuses a b (Err e) t → Asserted kept grew missing refuses a b (Err e) ts
+  pub making_refused : (a b : S) (e : AirError) (t : Term F) (ts : List (Assertion F)) → 0 < length ts → PartOf t ts
+      → Made means grew missing refuses a b (Err e) t → Asserted kept grew missing refuses a b (Err e) ts
   making_refused a b e t ts some part h = record {
     keeps = laws.by_growth a b [] h.keeps;
     ok = tt;
@@ -42,7 +47,9 @@ module _ {S R E F : Type 0} {valid : R → Type 0} {extends : R → R → Type 0
   }
 
   -- it was made, and then the list was asserted
-  pub made_then : (a b d : S) (x : E) (r : Result (Unit {0}) AirError) (t : Term F) (ts : List (Assertion F)) → Made means grew missing refuses a b (Ok x) t → Asserted kept grew missing refuses b d r ts → Asserted kept grew missing refuses a d r ts
+  pub made_then : (a b d : S) (x : E) (r : Result (Unit {0}) AirError) (t : Term F) (ts : List (Assertion F))
+      → Made means grew missing refuses a b (Ok x) t → Asserted kept grew missing refuses b d r ts
+      → Asserted kept grew missing refuses a d r ts
   made_then a b d x (Ok u) t ts h k = record {
     keeps = laws.kept_joined a b d (laws.by_growth a b [] h.keeps) k.keeps;
     ok = laws.joined a b d [] ts h.keeps k.ok;

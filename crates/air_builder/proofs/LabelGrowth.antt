@@ -2,18 +2,16 @@
 use Rattle.std.proofs.Common.{◌≡◌, ◌<◌, ◌≤◌, ℕ, ◌+◌, List, [], ◌∷◌, ◌++◌, length, take, get_or, Option, refl, ap, subst, sym, ◌∙◌, arith, length-append, append-nil}
 use Rattle.std.proofs.lemmas.List.{take_more, take_all, length-take-le}
 use Rattle.std.specs.List.{zip}
-use Rattle.air_field.specs.Algebra.{AlgebraLaws}
-use Rattle.air_field.specs.Term.{Leaf, Term, with_leaves}
-use Rattle.air_field.specs.declared.errors.RingError.{RingError}
-use Rattle.air_windows.specs.declared.errors.AirError.{AirError}
+use Rattle.air_field.specs.Term.{Term, with_leaves}
 use Rattle.air_builder.specs.Assertion.{Assertion, Base}
 use Rattle.air_builder.specs.Batches.{Each, AssertsOf, GrewByEach, GrewByBeginning}
-use Rattle.air_builder.specs.Builders.{Means, BuilderLaws, GrewOf, GrewOfBoth}
+use Rattle.air_builder.specs.Builders.{MeansIn, BuilderView, RingLaws, BuilderLaws, GrewOf, GrewOfBoth}
 use Rattle.air_builder.specs.Labels.{Label, Labelled, IsSaid, AreSaidFrom, without_labels, LabelledOf, LabelledOfBoth, LabelledByEach, LabelledByBeginning, NamedLaws}
 use Rattle.air_builder.proofs.Growth.{lent, lent_means, means_in}
 use Rattle.air_builder.proofs.EachGrowth.{Each-append, Each-nil}
 
-AreSaidFrom-more : (says : ℕ → Option (List ℕ) → Type 0) (i j : ℕ) (ls : List Label) (l : Label) → j ≡ i + length ls → AreSaidFrom says i ls → IsSaid (says j) l → AreSaidFrom says i (ls ++ (l ∷ []))
+AreSaidFrom-more : (says : ℕ → Option (List ℕ) → Type 0) (i j : ℕ) (ls : List Label) (l : Label) → j ≡ i + length ls
+    → AreSaidFrom says i ls → IsSaid (says j) l → AreSaidFrom says i (ls ++ (l ∷ []))
 AreSaidFrom-more says i j [] l e h said = (let same : j ≡ i = omega arith in subst (λ k. IsSaid (says k) l) same said, tt)
 AreSaidFrom-more says i j (k ∷ ls) l e h said = (h.0, AreSaidFrom-more says (i + 1) j ls l (omega arith) h.1 said)
 
@@ -23,7 +21,8 @@ Each-length R [] (y ∷ ys) h = absurd h
 Each-length R (x ∷ xs) [] h = absurd h
 Each-length R (x ∷ xs) (y ∷ ys) h = let more = Each-length R xs ys h.1 in omega arith
 
-zip-more : {A B : Type 0} (xs : List A) (ys : List B) (x : A) (y : B) → length xs ≡ length ys → zip (xs ++ (x ∷ [])) (ys ++ (y ∷ [])) ≡ zip xs ys ++ ((x, y) ∷ [])
+zip-more : {A B : Type 0} (xs : List A) (ys : List B) (x : A) (y : B) → length xs ≡ length ys
+    → zip (xs ++ (x ∷ [])) (ys ++ (y ∷ [])) ≡ zip xs ys ++ ((x, y) ∷ [])
 zip-more [] [] x y e = refl
 zip-more [] (w ∷ ys) x y e = absurd (omega arith)
 zip-more (v ∷ xs) [] x y e = absurd (omega arith)
@@ -36,25 +35,39 @@ without_labels-zip (s ∷ ss) (l ∷ ls) e = ap (λ zs. s ∷ zs) (without_label
 
 -- growth under labels is growth
 module _ {S F : Type 0} {grew : S → S → List (Assertion F) → Type 0} {labelled : S → S → List (Labelled F) → Type 0} (named : NamedLaws grew labelled) where
-  pub label_grew : {E : Type 0} {means : S → E → Term F → Type 0} {says : Option (List ℕ) → Type 0} {op : Term F → Term F} {a b : S} {x : E} → LabelledOf means labelled says op a b x → GrewOf means grew op a b x
+  pub label_grew : {E : Type 0} {means : S → E → Term F → Type 0} {says : Option (List ℕ) → Type 0} {op : Term F
+      → Term F} {a b : S} {x : E}
+      → LabelledOf means labelled says op a b x → GrewOf means grew op a b x
   label_grew {op = op} {a = a} {b = b} h t m = named.labelled_grew a b ((Base (op t), h.label) ∷ []) (h.grown t m)
 
-  pub label_grew_both : {E : Type 0} {means : S → E → Term F → Type 0} {says : Option (List ℕ) → Type 0} {op : Term F → Term F → Term F} {a b : S} {x y : E} → LabelledOfBoth means labelled says op a b x y → GrewOfBoth means grew op a b x y
+  pub label_grew_both : {E : Type 0} {means : S → E → Term F → Type 0} {says : Option (List ℕ)
+      → Type 0} {op : Term F → Term F → Term F} {a b : S} {x y : E}
+      → LabelledOfBoth means labelled says op a b x y → GrewOfBoth means grew op a b x y
   label_grew_both {op = op} {a = a} {b = b} h t u m n = named.labelled_grew a b ((Base (op t u), h.label) ∷ []) (h.grown t u m n)
 
-  pub labels_grew : {I : Type 0} {asserts : S → I → Assertion F → Type 0} {says : ℕ → Option (List ℕ) → Type 0} {a b : S} {xs : List I} → LabelledByEach asserts labelled says a b xs → GrewByEach asserts grew a b xs
+  pub labels_grew : {I : Type 0} {asserts : S → I → Assertion F → Type 0} {says : ℕ → Option (List ℕ)
+      → Type 0} {a b : S} {xs : List I}
+      → LabelledByEach asserts labelled says a b xs → GrewByEach asserts grew a b xs
   labels_grew {asserts = asserts} {a = a} {b = b} {xs = xs} h ss e =
       subst (λ zs. grew a b zs) (without_labels-zip ss h.labels (h.as_many ∙ sym (Each-length (asserts a) xs ss e))) (named.labelled_grew a b (zip ss h.labels) (h.grown ss e))
 
   -- the same where the loop is at its end
-  pub labels_grew_whole : {I : Type 0} {asserts : S → I → Assertion F → Type 0} {says : ℕ → Option (List ℕ) → Type 0} {a b : S} (xs : List I) (i : ℕ) → length xs ≤ i → LabelledByEach asserts labelled says a b (take i xs) → GrewByEach asserts grew a b xs
+  pub labels_grew_whole : {I : Type 0} {asserts : S → I → Assertion F → Type 0} {says : ℕ → Option (List ℕ)
+      → Type 0} {a b : S}
+      (xs : List I) (i : ℕ)
+      → length xs ≤ i → LabelledByEach asserts labelled says a b (take i xs) → GrewByEach asserts grew a b xs
   labels_grew_whole {asserts = asserts} {a = a} {b = b} xs i end h =
       subst (λ v. GrewByEach asserts grew a b v) (take_all i xs end) (labels_grew h)
 
-  pub beginning_grew : {I : Type 0} {asserts : S → I → Assertion F → Type 0} {says : ℕ → Option (List ℕ) → Type 0} {a b : S} {xs : List I} → LabelledByBeginning asserts labelled says a b xs → GrewByBeginning asserts grew a b xs
+  pub beginning_grew : {I : Type 0} {asserts : S → I → Assertion F → Type 0} {says : ℕ → Option (List ℕ)
+      → Type 0} {a b : S} {xs : List I}
+      → LabelledByBeginning asserts labelled says a b xs → GrewByBeginning asserts grew a b xs
   beginning_grew h = record { count = h.count; within = h.within; beginning = labels_grew h.beginning }
 
-module _ {S R F : Type 0} {valid : R → Type 0} {extends : R → R → Type 0} {ring_of : S → R} {with_ring : S → R → S} {stands : S → Leaf → Term F} {ready : S → Type 0} {kept : S → S → Type 0} {grew : S → S → List (Assertion F) → Type 0} {ring_refuses : RingError → Term F → Type 0} {missing : S → Leaf → Type 0} {refuses : S → AirError → List (Assertion F) → Type 0} {labelled : S → S → List (Labelled F) → Type 0} (laws : BuilderLaws ring_of with_ring stands ready kept grew valid extends ring_refuses missing refuses) (named : NamedLaws grew labelled) where
+module _ {S R E F : Type 0} {view : BuilderView S R E F} {labelled : S → S → List (Labelled F) → Type 0}
+    (laws : BuilderLaws view) (named : NamedLaws view.grew labelled) where
+  open view use {extends, ring_of, with_ring, kept, grew}
+
   -- the ring was lent, and then the builder grew
   pub lent_labels : (a b : S) (q r : R) (ls : List (Labelled F)) → q ≡ ring_of a → extends q r → labelled (with_ring a r) b ls → labelled a b ls
   lent_labels a b q r ls p e g = named.labelled_joined a (with_ring a r) b [] ls (named.labelled_nothing a (with_ring a r) (lent laws a q r p e)) g
@@ -70,7 +83,10 @@ module _ {S R F : Type 0} {valid : R → Type 0} {extends : R → R → Type 0} 
     }
 
     -- one element more
-    pub label_more : (a b c : S) (xs : List I) (i : ℕ) (x : I) (l : Label) → i < length xs → x ≡ get_or xs i x → kept a b → LabelledByEach asserts labelled says a b (take i xs) → IsSaid (says i) l → ((s : Assertion F) → asserts b x s → labelled b c ((s, l) ∷ [])) → LabelledByEach asserts labelled says a c (take (i + 1) xs)
+    pub label_more : (a b c : S) (xs : List I) (i : ℕ) (x : I) (l : Label) → i < length xs → x ≡ get_or xs i x
+        → kept a b → LabelledByEach asserts labelled says a b (take i xs) → IsSaid (says i) l
+        → ((s : Assertion F) → asserts b x s → labelled b c ((s, l) ∷ []))
+        → LabelledByEach asserts labelled says a c (take (i + 1) xs)
     label_more a b c xs i x l lt is k g said one =
         let here : take (i + 1) xs ≡ take i xs ++ (x ∷ []) = take_more xs i x lt ∙ ap (λ v. take i xs ++ (v ∷ [])) (sym is) in
         let long : length (take i xs) ≡ i = length-take-le i xs (omega arith) in
@@ -89,7 +105,9 @@ module _ {S R F : Type 0} {valid : R → Type 0} {extends : R → R → Type 0} 
         }
 
     -- a refused element leaves the builder as it was, so some of the first elements stand
-    pub label_beginning : (a b c : S) (xs : List I) (i : ℕ) → i < length xs → LabelledByEach asserts labelled says a b (take i xs) → grew b c [] → LabelledByBeginning asserts labelled says a c xs
+    pub label_beginning : (a b c : S) (xs : List I) (i : ℕ) → i < length xs
+        → LabelledByEach asserts labelled says a b (take i xs) → grew b c []
+        → LabelledByBeginning asserts labelled says a c xs
     label_beginning a b c xs i lt g none = record {
       count = i;
       within = lt;
@@ -101,9 +119,16 @@ module _ {S R F : Type 0} {valid : R → Type 0} {extends : R → R → Type 0} 
       };
     }
 
-module _ {S R E F : Type 0} {valid : R → Type 0} {has : R → E → Type 0} {means : R → E → Term F → Type 0} {extends : R → R → Type 0} {ring_of : S → R} {with_ring : S → R → S} {stands : S → Leaf → Term F} {ready : S → Type 0} {kept : S → S → Type 0} {grew : S → S → List (Assertion F) → Type 0} {ring_refuses : RingError → Term F → Type 0} {missing : S → Leaf → Type 0} {refuses : S → AirError → List (Assertion F) → Type 0} {labelled : S → S → List (Labelled F) → Type 0} (ring : AlgebraLaws valid has means extends ring_refuses) (laws : BuilderLaws ring_of with_ring stands ready kept grew valid extends ring_refuses missing refuses) (named : NamedLaws grew labelled) where
+module _ {S R E F : Type 0} {view : BuilderView S R E F} {labelled : S → S → List (Labelled F) → Type 0}
+    (ring : RingLaws view) (laws : BuilderLaws view) (named : NamedLaws view.grew labelled) where
+  open view use {means, extends, ring_of, with_ring, stands}
+
   -- the lent ring made z of x by an operation, and then z was asserted under a label
-  pub lent_label : (a b : S) (q r : R) (x z : E) (says : Option (List ℕ) → Type 0) (op : Term F → Term F) → q ≡ ring_of a → extends q r → ((t : Term F) → means q x (with_leaves (stands a) t) → means r z (with_leaves (stands a) (op t))) → LabelledOf (Means means ring_of stands) labelled says (λ t. t) (with_ring a r) b z → LabelledOf (Means means ring_of stands) labelled says op a b x
+  pub lent_label : (a b : S) (q r : R) (x z : E) (says : Option (List ℕ) → Type 0) (op : Term F → Term F)
+      → q ≡ ring_of a → extends q r
+      → ((t : Term F) → means q x (with_leaves (stands a) t) → means r z (with_leaves (stands a) (op t)))
+      → LabelledOf (MeansIn view) labelled says (λ t. t) (with_ring a r) b z
+      → LabelledOf (MeansIn view) labelled says op a b x
   lent_label a b q r x z says op p e m g = record {
     label = g.label;
     said = g.said;
@@ -112,7 +137,13 @@ module _ {S R E F : Type 0} {valid : R → Type 0} {has : R → E → Type 0} {m
   }
 
   -- the same, of x and y
-  pub lent_label_both : (a b : S) (q r : R) (x y z : E) (says : Option (List ℕ) → Type 0) (op : Term F → Term F → Term F) → q ≡ ring_of a → extends q r → ((t u : Term F) → means q x (with_leaves (stands a) t) → means q y (with_leaves (stands a) u) → means r z (with_leaves (stands a) (op t u))) → LabelledOf (Means means ring_of stands) labelled says (λ t. t) (with_ring a r) b z → LabelledOfBoth (Means means ring_of stands) labelled says op a b x y
+  pub lent_label_both : (a b : S) (q r : R) (x y z : E) (says : Option (List ℕ) → Type 0)
+      (op : Term F → Term F → Term F)
+      → q ≡ ring_of a → extends q r
+      → ((t u : Term F) → means q x (with_leaves (stands a) t) → means q y (with_leaves (stands a) u)
+      → means r z (with_leaves (stands a) (op t u)))
+      → LabelledOf (MeansIn view) labelled says (λ t. t) (with_ring a r) b z
+      → LabelledOfBoth (MeansIn view) labelled says op a b x y
   lent_label_both a b q r x y z says op p e m g = record {
     label = g.label;
     said = g.said;
@@ -121,5 +152,8 @@ module _ {S R E F : Type 0} {valid : R → Type 0} {has : R → E → Type 0} {m
   }
 
 -- what one labelled assertion says of the one assertion that its element gives
-pub labelled_of_one : {S E F : Type 0} {means : S → E → Term F → Type 0} {labelled : S → S → List (Labelled F) → Type 0} {says : Option (List ℕ) → Type 0} {op : Term F → Term F} {a b : S} {x : E} (g : LabelledOf means labelled says op a b x) (s : Assertion F) → AssertsOf means op a x s → labelled a b ((s, g.label) ∷ [])
+pub labelled_of_one : {S E F : Type 0} {means : S → E → Term F → Type 0} {labelled : S → S → List (Labelled F)
+    → Type 0} {says : Option (List ℕ) → Type 0} {op : Term F → Term F} {a b : S} {x : E}
+    (g : LabelledOf means labelled says op a b x) (s : Assertion F)
+    → AssertsOf means op a x s → labelled a b ((s, g.label) ∷ [])
 labelled_of_one {labelled = labelled} {a = a} {b = b} g s h = subst (λ v. labelled a b ((v, g.label) ∷ [])) (sym h.2) (g.grown h.0 h.1)

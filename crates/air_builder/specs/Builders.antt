@@ -1,5 +1,6 @@
 -- What a builder keeps.
 use Rattle.std.specs.Prelude.{◌≡◌, ℕ, List, [], ◌∷◌, ◌++◌, Some, slice_get}
+use Rattle.air_field.specs.Algebra.{AlgebraLaws}
 use Rattle.air_field.specs.Term.{Leaf, first_row, last_row, transition, Term, leaf_term, const_term, sub_term, with_leaves}
 use Rattle.air_field.specs.declared.errors.RingError.{RingError}
 use Rattle.air_windows.specs.declared.errors.AirError.{AirError}
@@ -43,25 +44,55 @@ RefusesOf {F = F} means refuses op a x e = (t : Term F) → means a x t → refu
 abbrev pub RefusesOfBoth : {S E F X : Type 0} → (S → E → Term F → Type 0) → (S → X → List (Assertion F) → Type 0) → (Term F → Term F → Term F) → S → E → E → X → Type 0
 RefusesOfBoth {F = F} means refuses op a x y e = (t u : Term F) → means a x t → means a y u → refuses a e (Base (op t u) ∷ [])
 
+-- A builder as its laws see it: its ring's states, elements, meanings, extensions and refusals; the ring that it lends,
+-- and itself with another one; what stands at a leaf; that its ring is as it left it; what it keeps; growth; which
+-- leaves have no entry; and its refusals.
+pub record BuilderView (S R E F : Type 0) : Type 1 where
+  pub valid : R → Type 0
+  pub has : R → E → Type 0
+  pub means : R → E → Term F → Type 0
+  pub extends : R → R → Type 0
+  pub ring_refuses : RingError → Term F → Type 0
+  pub ring_of : S → R
+  pub with_ring : S → R → S
+  pub stands : S → Leaf → Term F
+  pub ready : S → Type 0
+  pub kept : S → S → Type 0
+  pub grew : S → S → List (Assertion F) → Type 0
+  pub missing : S → Leaf → Type 0
+  pub refuses : S → AirError → List (Assertion F) → Type 0
+
+-- what the builder's ring keeps
+abbrev pub RingLaws : {S R E F : Type 0} → BuilderView S R E F → Type 0
+RingLaws view = AlgebraLaws view.valid view.has view.means view.extends view.ring_refuses
+
+-- an element means a term in the builder
+abbrev pub MeansIn : {S R E F : Type 0} → BuilderView S R E F → S → E → Term F → Type 0
+MeansIn view = Means view.means view.ring_of view.stands
+
 -- What every builder keeps. Growth joins; lending the ring grows nothing; what it kept, it still has.
-pub record BuilderLaws {S R F : Type 0} (ring_of : S → R) (with_ring : S → R → S) (stands : S → Leaf → Term F) (ready : S → Type 0) (kept : S → S → Type 0) (grew : S → S → List (Assertion F) → Type 0) (valid : R → Type 0) (extends : R → R → Type 0) (ring_refuses : RingError → Term F → Type 0) (missing : S → Leaf → Type 0) (refuses : S → AirError → List (Assertion F) → Type 0) : Type 0 where
-  pub same : (a : S) → grew a a []
-  pub joined : (a b c : S) (xs ys : List (Assertion F)) → grew a b xs → grew b c ys → grew a c (xs ++ ys)
-  pub ring_lent : (a : S) (r : R) → extends (ring_of a) r → grew a (with_ring a r) []
-  pub ring_with : (a : S) (r : R) → ring_of (with_ring a r) ≡ r
-  pub ring_valid : (a : S) → ready a → valid (ring_of a)
-  pub by_growth : (a b : S) (xs : List (Assertion F)) → grew a b xs → kept a b
-  pub kept_joined : (a b c : S) → kept a b → kept b c → kept a c
-  pub ring_kept : (a b : S) → kept a b → extends (ring_of a) (ring_of b)
-  pub stands_kept : (a b : S) → kept a b → stands b ≡ stands a
-  pub ready_kept : (a b : S) → kept a b → ready a → ready b
-  pub missing_kept : (a b : S) (l : Leaf) → kept a b → missing b l → missing a l
-  pub missing_stays : (a b : S) (l : Leaf) → kept a b → missing a l → missing b l
-  pub past_window : (a : S) (o : ℕ) (l : Leaf) → IsPastWindow o l → missing a l
-  pub has_first_row : (a : S) → missing a first_row → ⊥
-  pub has_last_row : (a : S) → missing a last_row → ⊥
-  pub has_transition : (a : S) → missing a transition → ⊥
-  pub refuses_first : (a : S) (e : AirError) (xs ys : List (Assertion F)) → refuses a e xs → refuses a e (xs ++ ys)
-  pub refuses_then : (a b : S) (e : AirError) (xs ys : List (Assertion F)) → grew a b xs → refuses b e ys → refuses a e (xs ++ ys)
-  pub refuses_in_ring : (a : S) (e : RingError) (t : Term F) (ts : List (Assertion F)) → ring_refuses e (with_leaves (stands a) t) → PartOf t ts → refuses a (air_error e) ts
-  pub refuses_missing : (a : S) (e : AirError) (l : Leaf) (ts : List (Assertion F)) → missing a l → NamesLeaf e l → PartOf (leaf_term l) ts → refuses a e ts
+pub record BuilderLaws {S R E F : Type 0} (view : BuilderView S R E F) : Type 0 where
+  pub same : (a : S) → view.grew a a []
+  pub joined : (a b c : S) (xs ys : List (Assertion F)) → view.grew a b xs → view.grew b c ys → view.grew a c (xs ++ ys)
+  pub ring_lent : (a : S) (r : R) → view.extends (view.ring_of a) r → view.grew a (view.with_ring a r) []
+  pub ring_with : (a : S) (r : R) → view.ring_of (view.with_ring a r) ≡ r
+  pub ring_valid : (a : S) → view.ready a → view.valid (view.ring_of a)
+  pub by_growth : (a b : S) (xs : List (Assertion F)) → view.grew a b xs → view.kept a b
+  pub kept_joined : (a b c : S) → view.kept a b → view.kept b c → view.kept a c
+  pub ring_kept : (a b : S) → view.kept a b → view.extends (view.ring_of a) (view.ring_of b)
+  pub stands_kept : (a b : S) → view.kept a b → view.stands b ≡ view.stands a
+  pub ready_kept : (a b : S) → view.kept a b → view.ready a → view.ready b
+  pub missing_kept : (a b : S) (l : Leaf) → view.kept a b → view.missing b l → view.missing a l
+  pub missing_stays : (a b : S) (l : Leaf) → view.kept a b → view.missing a l → view.missing b l
+  pub past_window : (a : S) (o : ℕ) (l : Leaf) → IsPastWindow o l → view.missing a l
+  pub has_first_row : (a : S) → view.missing a first_row → ⊥
+  pub has_last_row : (a : S) → view.missing a last_row → ⊥
+  pub has_transition : (a : S) → view.missing a transition → ⊥
+  pub refuses_first : (a : S) (e : AirError) (xs ys : List (Assertion F))
+      → view.refuses a e xs → view.refuses a e (xs ++ ys)
+  pub refuses_then : (a b : S) (e : AirError) (xs ys : List (Assertion F))
+      → view.grew a b xs → view.refuses b e ys → view.refuses a e (xs ++ ys)
+  pub refuses_in_ring : (a : S) (e : RingError) (t : Term F) (ts : List (Assertion F))
+      → view.ring_refuses e (with_leaves (view.stands a) t) → PartOf t ts → view.refuses a (air_error e) ts
+  pub refuses_missing : (a : S) (e : AirError) (l : Leaf) (ts : List (Assertion F))
+      → view.missing a l → NamesLeaf e l → PartOf (leaf_term l) ts → view.refuses a e ts

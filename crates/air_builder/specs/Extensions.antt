@@ -5,7 +5,7 @@ use Rattle.air_field.specs.declared.errors.RingError.{RingError}
 use Rattle.air_windows.specs.declared.errors.AirError.{AirError}
 use Rattle.air_windows.specs.declared.errors.AirError.TheVariants.{NoPermutation}
 use Rattle.air_builder.specs.Assertion.{Assertion, Extension}
-use Rattle.air_builder.specs.Builders.{BuilderLaws}
+use Rattle.air_builder.specs.Builders.{BuilderView, BuilderLaws}
 use Rattle.air_windows.specs.Errors.{air_error}
 use Rattle.air_builder.specs.Refusals.{PartOf}
 
@@ -34,20 +34,54 @@ AssertsExtOf {F = F} means op a x s = (t : Term F) × means a x t × (s ≡ Exte
 abbrev pub RefusesWindow : {F : Type 0} → (AirError → List (Assertion F) → Type 0) → (Leaf → Type 0) → AirError → Type 0
 RefusesWindow refuses missing e = refuses e [] ⊎ ((e ≡ NoPermutation) × ((o i : ℕ) → missing (permutation o i)))
 
+-- A builder's ring over the extension as its laws see it, with what is in its base, and means something there.
+pub record ExtensionView (S X B E F : Type 0) : Type 1 where
+  pub valid : X → Type 0
+  pub has : X → E → Type 0
+  pub means : X → E → Term F → Type 0
+  pub extends : X → X → Type 0
+  pub ring_refuses : RingError → Term F → Type 0
+  pub base_has : X → B → Type 0
+  pub base_means : X → B → Term F → Type 0
+  pub ring_of : S → X
+  pub with_ring : S → X → S
+
+-- the builder with its ring over the extension in the place of its base ring
+abbrev pub over_view : {S R X B E F : Type 0} → BuilderView S R B F → ExtensionView S X B E F → BuilderView S X E F
+over_view view over = record {
+  valid = over.valid;
+  has = over.has;
+  means = over.means;
+  extends = over.extends;
+  ring_refuses = over.ring_refuses;
+  ring_of = over.ring_of;
+  with_ring = over.with_ring;
+  stands = view.stands;
+  ready = view.ready;
+  kept = view.kept;
+  grew = view.grew;
+  missing = view.missing;
+  refuses = view.refuses;
+}
+
 -- What every builder keeps of its ring over the extension. Lending it grows nothing; what it kept, it still has; what
 -- is in the base ring is in the base of this one, and means there what it means.
-pub record ExtensionLaws {S R X B F : Type 0} (ring_of : S → R) (ext_ring_of : S → X) (with_ext_ring : S → X → S) (stands : S → Leaf → Term F) (ready : S → Type 0) (kept : S → S → Type 0) (grew : S → S → List (Assertion F) → Type 0) (has : R → B → Type 0) (means : R → B → Term F → Type 0) (valid : X → Type 0) (extends : X → X → Type 0) (base_has : X → B → Type 0) (base_means : X → B → Term F → Type 0) (ring_refuses : RingError → Term F → Type 0) (refuses : S → AirError → List (Assertion F) → Type 0) : Type 0 where
-  pub ext_ring_lent : (a : S) (r : X) → extends (ext_ring_of a) r → grew a (with_ext_ring a r) []
-  pub ext_ring_with : (a : S) (r : X) → ext_ring_of (with_ext_ring a r) ≡ r
-  pub ext_ring_valid : (a : S) → ready a → valid (ext_ring_of a)
-  pub ext_ring_kept : (a b : S) → kept a b → extends (ext_ring_of a) (ext_ring_of b)
-  pub has_base : (a : S) (x : B) → ready a → has (ring_of a) x → base_has (ext_ring_of a) x
-  pub means_base : (a : S) (x : B) (t : Term F) → ready a → means (ring_of a) x t → base_means (ext_ring_of a) x t
-  pub refuses_in_ext_ring : (a : S) (e : RingError) (t : Term F) (ts : List (Assertion F)) → ring_refuses e (with_leaves (stands a) t) → PartOf t ts → refuses a (air_error e) ts
+pub record ExtensionLaws {S R X B E F : Type 0} (view : BuilderView S R B F) (over : ExtensionView S X B E F)
+    : Type 0 where
+  pub ext_ring_lent : (a : S) (r : X) → over.extends (over.ring_of a) r → view.grew a (over.with_ring a r) []
+  pub ext_ring_with : (a : S) (r : X) → over.ring_of (over.with_ring a r) ≡ r
+  pub ext_ring_valid : (a : S) → view.ready a → over.valid (over.ring_of a)
+  pub ext_ring_kept : (a b : S) → view.kept a b → over.extends (over.ring_of a) (over.ring_of b)
+  pub has_base : (a : S) (x : B) → view.ready a → view.has (view.ring_of a) x → over.base_has (over.ring_of a) x
+  pub means_base : (a : S) (x : B) (t : Term F) → view.ready a
+      → view.means (view.ring_of a) x t → over.base_means (over.ring_of a) x t
+  pub refuses_in_ext_ring : (a : S) (e : RingError) (t : Term F) (ts : List (Assertion F))
+      → over.ring_refuses e (with_leaves (view.stands a) t) → PartOf t ts → view.refuses a (air_error e) ts
 
-module _ {S R X B F : Type 0} {base_valid : R → Type 0} {base_extends : R → R → Type 0} {base_refuses : RingError → Term F → Type 0} {ring_of : S → R} {with_ring : S → R → S} {ext_ring_of : S → X} {with_ext_ring : S → X → S} {stands : S → Leaf → Term F} {ready : S → Type 0} {kept : S → S → Type 0} {grew : S → S → List (Assertion F) → Type 0} {has : R → B → Type 0} {means : R → B → Term F → Type 0} {valid : X → Type 0} {extends : X → X → Type 0} {base_has : X → B → Type 0} {base_means : X → B → Term F → Type 0} {ring_refuses : RingError → Term F → Type 0} {missing : S → Leaf → Type 0} {refuses : S → AirError → List (Assertion F) → Type 0} (laws : BuilderLaws ring_of with_ring stands ready kept grew base_valid base_extends base_refuses missing refuses) (extension : ExtensionLaws ring_of ext_ring_of with_ext_ring stands ready kept grew has means valid extends base_has base_means ring_refuses refuses) where
+module _ {S R X B E F : Type 0} {view : BuilderView S R B F} {over : ExtensionView S X B E F}
+    (laws : BuilderLaws view) (extension : ExtensionLaws view over) where
   -- the builder keeps for its ring over the extension what it keeps for its base ring
-  pub over_extension : BuilderLaws ext_ring_of with_ext_ring stands ready kept grew valid extends ring_refuses missing refuses
+  pub over_extension : BuilderLaws (over_view view over)
   over_extension = record {
     same = laws.same;
     joined = laws.joined;

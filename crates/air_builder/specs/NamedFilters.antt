@@ -1,12 +1,9 @@
 -- Named builders that discard labels, and named builders under a filter.
 use Rattle.std.specs.Prelude.{◌≡◌, List, [], ◌∷◌, ◌++◌, map, refl}
 use Rattle.std.proofs.Common.{sym, ◌∙◌, ap, subst}
-use Rattle.air_field.specs.Term.{Leaf, Term}
-use Rattle.air_field.specs.declared.errors.RingError.{RingError}
-use Rattle.air_field.specs.Algebra.{AlgebraLaws}
-use Rattle.air_windows.specs.declared.errors.AirError.{AirError}
-use Rattle.air_builder.specs.Assertion.{Assertion, filtered}
-use Rattle.air_builder.specs.Builders.{Means, BuilderLaws}
+use Rattle.air_field.specs.Term.{Term}
+use Rattle.air_builder.specs.Assertion.{filtered}
+use Rattle.air_builder.specs.Builders.{MeansIn, BuilderView, RingLaws, BuilderLaws}
 use Rattle.air_builder.specs.Filters.{KeptInside, GrewInside, map-append, means_kept}
 use Rattle.air_builder.specs.Labels.{Labelled, without_labels, discarding, NamedLaws}
 
@@ -15,7 +12,8 @@ abbrev pub filtered_label : {F : Type 0} → Term F → Labelled F → Labelled 
 filtered_label c l = (filtered c l.0, l.1)
 
 -- the builder inside grew by the condition times each term, under the same labels
-pub record LabelledInside {S E F N : Type 0} (kept : S → S → Type 0) (labelled : S → S → List (Labelled F) → Type 0) (means : S → E → Term F → Type 0) (n m : N) (x y : E) (a b : S) (ls : List (Labelled F)) : Type 0 where
+pub record LabelledInside {S E F N : Type 0} (kept : S → S → Type 0) (labelled : S → S → List (Labelled F) → Type 0)
+    (means : S → E → Term F → Type 0) (n m : N) (x y : E) (a b : S) (ls : List (Labelled F)) : Type 0 where
   pub keeps : KeptInside kept n m x y a b
   pub by : (c : Term F) → means a x c → labelled a b (map (filtered_label c) ls)
 
@@ -27,7 +25,9 @@ without_labels-filtered : {F : Type 0} (c : Term F) (ls : List (Labelled F)) →
 without_labels-filtered c [] = refl
 without_labels-filtered c (l ∷ ls) = ap (λ zs. filtered c l.0 ∷ zs) (without_labels-filtered c ls)
 
-module _ {S R F : Type 0} {valid : R → Type 0} {extends : R → R → Type 0} {ring_of : S → R} {with_ring : S → R → S} {stands : S → Leaf → Term F} {ready : S → Type 0} {kept : S → S → Type 0} {grew : S → S → List (Assertion F) → Type 0} {ring_refuses : RingError → Term F → Type 0} {missing : S → Leaf → Type 0} {refuses : S → AirError → List (Assertion F) → Type 0} (laws : BuilderLaws ring_of with_ring stands ready kept grew valid extends ring_refuses missing refuses) where
+module _ {S R E F : Type 0} {view : BuilderView S R E F} (laws : BuilderLaws view) where
+  open view use {grew}
+
   -- a builder that discards labels
   pub discarding_laws : NamedLaws grew (discarding grew)
   discarding_laws = record {
@@ -36,9 +36,15 @@ module _ {S R F : Type 0} {valid : R → Type 0} {extends : R → R → Type 0} 
     labelled_grew = λ a b xs g. g;
   }
 
-module _ {S R E F : Type 0} {valid : R → Type 0} {has : R → E → Type 0} {means : R → E → Term F → Type 0} {extends : R → R → Type 0} {ring_of : S → R} {with_ring : S → R → S} {stands : S → Leaf → Term F} {ready : S → Type 0} {kept : S → S → Type 0} {grew : S → S → List (Assertion F) → Type 0} {ring_refuses : RingError → Term F → Type 0} {missing : S → Leaf → Type 0} {refuses : S → AirError → List (Assertion F) → Type 0} {labelled : S → S → List (Labelled F) → Type 0} (ring : AlgebraLaws valid has means extends ring_refuses) (laws : BuilderLaws ring_of with_ring stands ready kept grew valid extends ring_refuses missing refuses) (named : NamedLaws grew labelled) where
+module _ {S R E F : Type 0} {view : BuilderView S R E F} {labelled : S → S → List (Labelled F) → Type 0}
+    (ring : RingLaws view) (laws : BuilderLaws view) (named : NamedLaws view.grew labelled) where
+  open view use {kept, grew}
+
   module _ {N : Type 0} where
-    inside_joined : (n m k : N) (x y z : E) (a b c : S) (xs ys : List (Labelled F)) → LabelledInside kept labelled (Means means ring_of stands) n m x y a b xs → LabelledInside kept labelled (Means means ring_of stands) m k y z b c ys → LabelledInside kept labelled (Means means ring_of stands) n k x z a c (xs ++ ys)
+    inside_joined : (n m k : N) (x y z : E) (a b c : S) (xs ys : List (Labelled F))
+        → LabelledInside kept labelled (MeansIn view) n m x y a b xs
+        → LabelledInside kept labelled (MeansIn view) m k y z b c ys
+        → LabelledInside kept labelled (MeansIn view) n k x z a c (xs ++ ys)
     inside_joined n m k x y z a b c xs ys g h = record {
       keeps = record {
         same_reference = h.keeps.same_reference ∙ g.keeps.same_reference;
@@ -47,22 +53,30 @@ module _ {S R E F : Type 0} {valid : R → Type 0} {has : R → E → Type 0} {m
       };
       by = λ t m. subst (λ zs. labelled a c zs) (sym (map-append (filtered_label t) xs ys))
           (named.labelled_joined a b c (map (filtered_label t) xs) (map (filtered_label t) ys) (g.by t m)
-          (h.by t (subst (λ e. Means means ring_of stands b e t) (sym g.keeps.same_condition) (means_kept ring laws a b x t g.keeps.inside m))));
+          (h.by t (subst (λ e. MeansIn view b e t) (sym g.keeps.same_condition) (means_kept ring laws a b x t g.keeps.inside m))));
     }
 
-    inside_grew : (n m : N) (x y : E) (a b : S) (ls : List (Labelled F)) → LabelledInside kept labelled (Means means ring_of stands) n m x y a b ls → GrewInside kept grew (Means means ring_of stands) n m x y a b (without_labels ls)
+    inside_grew : (n m : N) (x y : E) (a b : S) (ls : List (Labelled F))
+        → LabelledInside kept labelled (MeansIn view) n m x y a b ls
+        → GrewInside kept grew (MeansIn view) n m x y a b (without_labels ls)
     inside_grew n m x y a b ls g = record {
       keeps = g.keeps;
       by = λ t k. subst (λ zs. grew a b zs) (without_labels-filtered t ls) (named.labelled_grew a b (map (filtered_label t) ls) (g.by t k));
     }
 
     -- a builder after a filter on it is done
-    pub after_named_filter : (n m : N) (x y : E) (a b i j : S) (us ls : List (Labelled F)) (t : Term F) → labelled a i us → Means means ring_of stands i x t → LabelledInside kept labelled (Means means ring_of stands) n m x y i j ls → b ≡ j → labelled a b (us ++ map (filtered_label t) ls)
+    pub after_named_filter : (n m : N) (x y : E) (a b i j : S) (us ls : List (Labelled F)) (t : Term F)
+        → labelled a i us → MeansIn view i x t → LabelledInside kept labelled (MeansIn view) n m x y i j ls → b ≡ j
+        → labelled a b (us ++ map (filtered_label t) ls)
     after_named_filter n m x y a b i j us ls t u p g e = subst (λ s. labelled a s (us ++ map (filtered_label t) ls)) (sym e) (named.labelled_joined a i j us (map (filtered_label t) ls) u (g.by t p))
 
   module _ {N P : Type 0} (inner : P → S) (name : P → N) (condition : P → E) where
     -- a filter keeps the laws of the named builder inside
-    pub named_filter_laws : NamedLaws (λ p q ts. GrewInside kept grew (Means means ring_of stands) (name p) (name q) (condition p) (condition q) (inner p) (inner q) ts) (λ p q ls. LabelledInside kept labelled (Means means ring_of stands) (name p) (name q) (condition p) (condition q) (inner p) (inner q) ls)
+    pub named_filter_laws : NamedLaws
+        (λ p q ts. GrewInside kept grew (MeansIn view) (name p) (name q) (condition p) (condition q) (inner p)
+        (inner q) ts)
+        (λ p q ls. LabelledInside kept labelled (MeansIn view) (name p) (name q) (condition p) (condition q)
+        (inner p) (inner q) ls)
     named_filter_laws = record {
       labelled_nothing = λ p q g. record { keeps = g.keeps; by = λ c m. named.labelled_nothing (inner p) (inner q) (g.by c m) };
       labelled_joined = λ p q s xs ys g h. inside_joined (name p) (name q) (name s) (condition p) (condition q) (condition s) (inner p) (inner q) (inner s) xs ys g h;

@@ -1,14 +1,12 @@
 -- The assertion of roots.
 use Rattle.std.proofs.Common.{◌≡◌, ℕ, zero, suc, ◌<◌, List, [], ◌∷◌, length, map, take, All, Result, Ok, Err, OnOk, OnErr, IfErr, inl, inr, refl, arith}
 use Rattle.std.proofs.lemmas.List.{length-map}
-use Rattle.air_field.specs.Algebra.{AlgebraLaws}
 use Rattle.air_field.specs.Part.{whole}
 use Rattle.air_field.specs.Term.{Leaf, Term, with_leaves}
-use Rattle.air_field.specs.declared.errors.RingError.{RingError}
 use Rattle.air_windows.specs.declared.errors.AirError.{AirError}
 use Rattle.air_builder.specs.Assertion.{Assertion, Base}
 use Rattle.air_builder.specs.Batches.{Each, AssertsOf, GrewByEach, GrewByBeginning, RefusesByEach}
-use Rattle.air_builder.specs.Builders.{Means, BuilderLaws}
+use Rattle.air_builder.specs.Builders.{MeansIn, BuilderView, RingLaws, BuilderLaws}
 use Rattle.air_builder.specs.Refusals.{PartOf, EachLeaf, EachLeafOf}
 use Rattle.air_builder.specs.laws.Refusals.{none_missing}
 use Rattle.air_author.specs.Constraints.{Asserted}
@@ -44,32 +42,40 @@ each_take R (suc n) (x ∷ xs) [] h = absurd h
 each_take R (suc n) (x ∷ xs) (y ∷ ys) h = (h.0, each_take R n xs ys h.1)
 
 -- what each expression asserts
-each_asserts : {S E F : Type 0} (means : S → E → Term F → Type 0) (b : S) (xs : List E) (ts : List (Term F)) → Each (λ x t. means b x t) xs ts → Each (AssertsOf means (λ t. t) b) xs (map (λ t. Base t) ts)
+each_asserts : {S E F : Type 0} (means : S → E → Term F → Type 0) (b : S) (xs : List E) (ts : List (Term F))
+    → Each (λ x t. means b x t) xs ts → Each (AssertsOf means (λ t. t) b) xs (map (λ t. Base t) ts)
 each_asserts means b [] [] h = tt
 each_asserts means b [] (t ∷ ts) h = absurd h
 each_asserts means b (x ∷ xs) [] h = absurd h
 each_asserts means b (x ∷ xs) (t ∷ ts) h = ((t, h.0, refl), each_asserts means b xs ts h.1)
 
-module _ {S R E F : Type 0} {valid : R → Type 0} {has : R → E → Type 0} {means : R → E → Term F → Type 0} {extends : R → R → Type 0} {ring_of : S → R} {with_ring : S → R → S} {stands : S → Leaf → Term F} {ready : S → Type 0} {kept : S → S → Type 0} {grew : S → S → List (Assertion F) → Type 0} {ring_refuses : RingError → Term F → Type 0} {missing : S → Leaf → Type 0} {refuses : S → AirError → List (Assertion F) → Type 0} (ring : AlgebraLaws valid has means extends ring_refuses) (laws : BuilderLaws ring_of with_ring stands ready kept grew valid extends ring_refuses missing refuses) where
+module _ {S R E F : Type 0} {view : BuilderView S R E F} (ring : RingLaws view) (laws : BuilderLaws view) where
+  open view use {has, ring_of, stands, kept, grew, missing, refuses}
+
   -- what means a term is of the ring
-  pub all_has : (b : S) (xs : List E) (ts : List (Term F)) → Each (λ x t. Means means ring_of stands b x t) xs ts → All (λ x. has (ring_of b) x) xs
+  pub all_has : (b : S) (xs : List E) (ts : List (Term F)) → Each (λ x t. MeansIn view b x t) xs ts → All (λ x. has (ring_of b) x) xs
   all_has b [] [] h = λ k d lt. absurd (omega (arith, lt))
   all_has b [] (t ∷ ts) h = absurd h
   all_has b (x ∷ xs) [] h = absurd h
   all_has b (x ∷ xs) (t ∷ ts) h = all_cons (λ y. has (ring_of b) y) x xs (ring.means_has (ring_of b) x (with_leaves (stands b) t) h.0) (all_has b xs ts h.1)
 
   -- each root's expression was made, and asserted to be zero
-  pub roots_asserted : (a b d : S) (xs : List E) (ts : List (Term F)) (r : Result (Unit {0}) AirError) → grew a b [] → Each (λ x t. Means means ring_of stands b x t) xs ts → All (λ t. EachLeaf (λ l. missing a l → ⊥) t) ts → kept b d → OnOk r (GrewByEach (AssertsOf (Means means ring_of stands) (λ t. t)) grew b d xs) → OnErr r (GrewByBeginning (AssertsOf (Means means ring_of stands) (λ t. t)) grew b d xs) → IfErr r (λ e. RefusesByEach (AssertsOf (Means means ring_of stands) (λ t. t)) refuses b xs e) → Asserted kept grew missing (OrMemory refuses) a d r (map (λ t. Base t) ts)
+  pub roots_asserted : (a b d : S) (xs : List E) (ts : List (Term F)) (r : Result (Unit {0}) AirError) → grew a b []
+      → Each (λ x t. MeansIn view b x t) xs ts → All (λ t. EachLeaf (λ l. missing a l → ⊥) t) ts → kept b d
+      → OnOk r (GrewByEach (AssertsOf (MeansIn view) (λ t. t)) grew b d xs)
+      → OnErr r (GrewByBeginning (AssertsOf (MeansIn view) (λ t. t)) grew b d xs)
+      → IfErr r (λ e. RefusesByEach (AssertsOf (MeansIn view) (λ t. t)) refuses b xs e)
+      → Asserted kept grew missing (OrMemory refuses) a d r (map (λ t. Base t) ts)
   roots_asserted a b d xs ts (Ok u) g made there k ok none f = record {
     keeps = laws.kept_joined a b d (laws.by_growth a b [] g) k;
-    ok = laws.joined a b d [] (map (λ t. Base t) ts) g (ok (map (λ t. Base t) ts) (each_asserts (Means means ring_of stands) b xs ts made));
+    ok = laws.joined a b d [] (map (λ t. Base t) ts) g (ok (map (λ t. Base t) ts) (each_asserts (MeansIn view) b xs ts made));
     there = none_missing (missing a) (map (λ t. Base t) ts) (leaves_of (λ l. missing a l → ⊥) ts there);
     err = tt;
     refused = tt;
   }
   roots_asserted a b d xs ts (Err e) g made there k ok none f =
       let ss : List (Assertion F) = map (λ t. Base t) ts in
-      let each = each_asserts (Means means ring_of stands) b xs ts made in
+      let each = each_asserts (MeansIn view) b xs ts made in
       let len = each_length _ xs ss each in
       let within = none.within in
       record {
@@ -85,7 +91,9 @@ module _ {S R E F : Type 0} {valid : R → Type 0} {has : R → E → Type 0} {m
       }
 
   -- the making of the expressions was refused
-  pub making_refused : (a b : S) (e : AirError) (ts : List (Term F)) → 0 < length ts → grew a b [] → ((ss : List (Assertion F)) → All (λ u. PartOf u ss) ts → OrMemory refuses a e ss) → Asserted kept grew missing (OrMemory refuses) a b (Err e) (map (λ u. Base u) ts)
+  pub making_refused : (a b : S) (e : AirError) (ts : List (Term F)) → 0 < length ts → grew a b []
+      → ((ss : List (Assertion F)) → All (λ u. PartOf u ss) ts → OrMemory refuses a e ss)
+      → Asserted kept grew missing (OrMemory refuses) a b (Err e) (map (λ u. Base u) ts)
   making_refused a b e ts some g f =
       let ss : List (Assertion F) = map (λ u. Base u) ts in
       let len : length ss ≡ length ts = length-map ts (λ (u : Term F). Base u) in

@@ -2,12 +2,9 @@
 use Rattle.std.proofs.Common.{◌≡◌, ℕ, List, [], get_or, Option, Some, None, Ok, Err, sym, subst, ◌∙◌}
 use Rattle.air_field.specs.Term.{Leaf, Term, leaf_term, with_leaves}
 use Rattle.air_field.specs.declared.errors.RingError.{RingError}
-use Rattle.air_field.specs.Algebra.{AlgebraLaws}
-use Rattle.air_windows.specs.declared.errors.AirError.{AirError}
 use Rattle.air_windows.specs.declared.errors.AirError.TheVariants.{RowOffset}
 use Rattle.air_windows.specs.Errors.{air_error}
-use Rattle.air_builder.specs.Assertion.{Assertion}
-use Rattle.air_builder.specs.Builders.{Means, BuilderLaws}
+use Rattle.air_builder.specs.Builders.{MeansIn, BuilderView, RingLaws, BuilderLaws}
 use Rattle.air_builder.specs.Filters.{means_kept}
 use Rattle.air_builder.specs.Refusals.{IsPastWindow, EachLeaf}
 use Rattle.air_author.specs.Expressions.{Made}
@@ -21,9 +18,12 @@ read_is {E} P table i j r (x, e, p) q at = subst P (same (sym e ∙ subst (λ k.
     same : Some x ≡ Some r → x ≡ r
     same e = cc
 
-module _ {S R F : Type 0} {valid : R → Type 0} {extends : R → R → Type 0} {ring_of : S → R} {with_ring : S → R → S} {stands : S → Leaf → Term F} {ready : S → Type 0} {kept : S → S → Type 0} {grew : S → S → List (Assertion F) → Type 0} {ring_refuses : RingError → Term F → Type 0} {missing : S → Leaf → Type 0} {refuses : S → AirError → List (Assertion F) → Type 0} (laws : BuilderLaws ring_of with_ring stands ready kept grew valid extends ring_refuses missing refuses) where
+module _ {S R B F : Type 0} {view : BuilderView S R B F} (laws : BuilderLaws view) where
+  open view use {grew, missing, refuses}
+
   -- no window has the row
-  pub past_window_refused : {E : Type 0} {means : S → E → Term F → Type 0} (a : S) (o : ℕ) (l : Leaf) → IsPastWindow o l → Made {E = E} means grew missing refuses a a (Err (RowOffset o)) (leaf_term l)
+  pub past_window_refused : {E : Type 0} {means : S → E → Term F → Type 0} (a : S) (o : ℕ) (l : Leaf)
+      → IsPastWindow o l → Made {E = E} means grew missing refuses a a (Err (RowOffset o)) (leaf_term l)
   past_window_refused a o l past = record {
     keeps = laws.same a;
     made = tt;
@@ -31,28 +31,32 @@ module _ {S R F : Type 0} {valid : R → Type 0} {extends : R → R → Type 0} 
     refused = λ ts p. laws.refuses_missing a (RowOffset o) l ts (laws.past_window a o l past) past p;
   }
 
-module _ {S R E F : Type 0} {valid : R → Type 0} {has : R → E → Type 0} {means : R → E → Term F → Type 0} {extends : R → R → Type 0} {ring_of : S → R} {with_ring : S → R → S} {stands : S → Leaf → Term F} {ready : S → Type 0} {kept : S → S → Type 0} {grew : S → S → List (Assertion F) → Type 0} {ring_refuses : RingError → Term F → Type 0} {missing : S → Leaf → Type 0} {refuses : S → AirError → List (Assertion F) → Type 0} (ring : AlgebraLaws valid has means extends ring_refuses) (laws : BuilderLaws ring_of with_ring stands ready kept grew valid extends ring_refuses missing refuses) where
+module _ {S R E F : Type 0} {view : BuilderView S R E F} (ring : RingLaws view) (laws : BuilderLaws view) where
+  open view use {means, extends, ring_refuses, ring_of, with_ring, stands, kept, grew, missing, refuses}
+
   -- what was made stays made
-  pub made_stays : (a b : S) (t : Term F) (x : E) → kept a b → IsMade (Means means ring_of stands) missing a t x → IsMade (Means means ring_of stands) missing b t x
+  pub made_stays : (a b : S) (t : Term F) (x : E) → kept a b → IsMade (MeansIn view) missing a t x → IsMade (MeansIn view) missing b t x
   made_stays a b t x k h = record {
     meant = means_kept ring laws a b x t k h.meant;
     leaves = each_weaker t (λ l n m. n (laws.missing_kept a b l k m)) h.leaves;
   }
 
   -- what was made is made
-  pub is_made : (a b : S) (t : Term F) (x : E) → Made (Means means ring_of stands) grew missing refuses a b (Ok x) t → IsMade (Means means ring_of stands) missing b t x
+  pub is_made : (a b : S) (t : Term F) (x : E) → Made (MeansIn view) grew missing refuses a b (Ok x) t → IsMade (MeansIn view) missing b t x
   is_made a b t x h = made_lasts ring laws a b x t h b (laws.by_growth b b [] (laws.same b))
 
   -- it was there before
-  pub there_before : (a b : S) (t : Term F) (x : E) → kept a b → IsMade (Means means ring_of stands) missing b t x → EachLeaf (λ l. missing a l → ⊥) t
+  pub there_before : (a b : S) (t : Term F) (x : E) → kept a b → IsMade (MeansIn view) missing b t x → EachLeaf (λ l. missing a l → ⊥) t
   there_before a b t x k h = each_weaker t (λ l n m. n (laws.missing_stays a b l k m)) h.leaves
 
   -- what it means in the lent ring
-  pub lent : (a : S) (q : R) (x : E) (t : Term F) → q ≡ ring_of a → IsMade (Means means ring_of stands) missing a t x → means q x (with_leaves (stands a) t)
+  pub lent : (a : S) (q : R) (x : E) (t : Term F) → q ≡ ring_of a → IsMade (MeansIn view) missing a t x → means q x (with_leaves (stands a) t)
   lent a q x t p h = subst (λ s. means s x (with_leaves (stands a) t)) (sym p) h.meant
 
   -- the lent ring refuses it
-  pub ring_refused : (a : S) (q r : R) (e : RingError) (t : Term F) → q ≡ ring_of a → extends q r → ring_refuses e (with_leaves (stands a) t) → Made {E = E} (Means means ring_of stands) grew missing refuses a (with_ring a r) (Err (air_error e)) t
+  pub ring_refused : (a : S) (q r : R) (e : RingError) (t : Term F) → q ≡ ring_of a → extends q r
+      → ring_refuses e (with_leaves (stands a) t)
+      → Made {E = E} (MeansIn view) grew missing refuses a (with_ring a r) (Err (air_error e)) t
   ring_refused a q r e t p x h = record {
     keeps = laws.ring_lent a r (subst (λ s. extends s r) p x);
     made = tt;

@@ -3,14 +3,11 @@ use Rattle.std.proofs.Common.{◌≡◌, ◌≢◌, ℕ, suc, ◌+◌, ◌<◌, 
 use Rattle.std.specs.Global.{Global}
 use Rattle.std.proofs.lemmas.List.{take_more, get_or-map, length-map}
 use Rattle.std.proofs.lemmas.List.Elements.{All-map}
-use Rattle.air_field.specs.Algebra.{AlgebraLaws}
-use Rattle.air_field.specs.Term.{Leaf, Term}
-use Rattle.air_field.specs.declared.errors.RingError.{RingError}
+use Rattle.air_field.specs.Term.{Term}
 use Rattle.air_windows.specs.declared.errors.AirError.{AirError}
 use Rattle.air_windows.specs.declared.errors.AirError.TheVariants.{Memory}
-use Rattle.air_builder.specs.Assertion.{Assertion}
 use Rattle.air_builder.specs.Batches.{Each}
-use Rattle.air_builder.specs.Builders.{Means, BuilderLaws}
+use Rattle.air_builder.specs.Builders.{MeansIn, BuilderView, RingLaws, BuilderLaws}
 use Rattle.air_builder.specs.Refusals.{EachLeaf}
 use Rattle.air_flat.specs.Tables.{IsMade, HasOne, HasAt, MadeAll, OrMemory}
 use Rattle.air_flat.proofs.Making.{there_before}
@@ -29,20 +26,25 @@ has_some P o (x, e, p) n = none (sym e ∙ n)
     none : Some x ≡ None → ⊥
     none e = cc
 
-each_push : {A B : Type 0} (R : A → B → Type 0) (xs : List A) (ys : List B) (x : A) (y : B) → Each R xs ys → R x y → Each R (xs ++ x ∷ []) (ys ++ y ∷ [])
+each_push : {A B : Type 0} (R : A → B → Type 0) (xs : List A) (ys : List B) (x : A) (y : B) → Each R xs ys → R x y
+    → Each R (xs ++ x ∷ []) (ys ++ y ∷ [])
 each_push R [] [] x y h r = (r, tt)
 each_push R [] (b ∷ ys) x y h r = absurd h
 each_push R (a ∷ xs) [] x y h r = absurd h
 each_push R (a ∷ xs) (b ∷ ys) x y h r = (h.0, each_push R xs ys x y h.1 r)
 
 -- one root more was read
-pub one_more_read : {A B : Type 0} (R : A → B → Type 0) (xs : List A) (ys : List B) (k : ℕ) (x : A) (y : B) → k < length ys → y ≡ get_or ys k y → Each R xs (take k ys) → R x y → Each R (xs ++ x ∷ []) (take (k + 1) ys)
+pub one_more_read : {A B : Type 0} (R : A → B → Type 0) (xs : List A) (ys : List B) (k : ℕ) (x : A) (y : B)
+    → k < length ys → y ≡ get_or ys k y → Each R xs (take k ys) → R x y → Each R (xs ++ x ∷ []) (take (k + 1) ys)
 one_more_read R xs ys k x y lt is h r =
     let here : take (k + 1) ys ≡ take k ys ++ (y ∷ []) = take_more ys k y lt ∙ ap (λ v. take k ys ++ (v ∷ [])) (sym is) in
     subst (λ v. Each R (xs ++ x ∷ []) v) (sym here) (each_push R xs (take k ys) x y h r)
 
 -- what was read of a table means what the table's entries do
-each_read : {E F : Type 0} (means : E → Term F → Type 0) (term : ℕ → Term F) (table : List (Option E)) (xs : List E) (roots : List ℕ) → All (λ i. HasAt (λ x. means x (term i)) table i) roots → Each (λ x i. get_or table i None ≡ Some x) xs roots → Each means xs (map term roots)
+each_read : {E F : Type 0} (means : E → Term F → Type 0) (term : ℕ → Term F) (table : List (Option E)) (xs : List E)
+    (roots : List ℕ)
+    → All (λ i. HasAt (λ x. means x (term i)) table i) roots → Each (λ x i. get_or table i None ≡ Some x) xs roots
+    → Each means xs (map term roots)
 each_read means term table [] [] h e = tt
 each_read means term table [] (i ∷ roots) h e = absurd e
 each_read means term table (x ∷ xs) [] h e = absurd e
@@ -54,12 +56,18 @@ each_read {E} means term table (x ∷ xs) (i ∷ roots) h e = (first (h 0 i (ome
     first : HasAt (λ y. means y (term i)) table i → get_or table i None ≡ Some x → means x (term i)
     first (y, p, m) q = subst (λ z. means z (term i)) (same y (sym p ∙ q)) m
 
-module _ {S R E F : Type 0} {valid : R → Type 0} {has : R → E → Type 0} {means : R → E → Term F → Type 0} {extends : R → R → Type 0} {ring_of : S → R} {with_ring : S → R → S} {stands : S → Leaf → Term F} {ready : S → Type 0} {kept : S → S → Type 0} {grew : S → S → List (Assertion F) → Type 0} {ring_refuses : RingError → Term F → Type 0} {missing : S → Leaf → Type 0} {refuses : S → AirError → List (Assertion F) → Type 0} (ring : AlgebraLaws valid has means extends ring_refuses) (laws : BuilderLaws ring_of with_ring stands ready kept grew valid extends ring_refuses missing refuses) where
+module _ {S R E F : Type 0} {view : BuilderView S R E F} (ring : RingLaws view) (laws : BuilderLaws view) where
+  open view use {grew, missing, refuses}
+
   -- each root's expression was made
-  pub all_made : (a b : S) (term : ℕ → Term F) (table : List (Option E)) (roots : List ℕ) (r : Result (Vec E Global) AirError) → grew a b [] → All (λ i. HasAt (IsMade (Means means ring_of stands) missing b (term i)) table i) roots → IfOk r (λ xs. Each (λ x i. get_or table i None ≡ Some x) xs.items roots) → IfErr r (λ e. e ≡ Memory) → MadeAll (Means means ring_of stands) grew missing (OrMemory refuses) a b r (map term roots)
+  pub all_made : (a b : S) (term : ℕ → Term F) (table : List (Option E)) (roots : List ℕ)
+      (r : Result (Vec E Global) AirError)
+      → grew a b [] → All (λ i. HasAt (IsMade (MeansIn view) missing b (term i)) table i) roots
+      → IfOk r (λ xs. Each (λ x i. get_or table i None ≡ Some x) xs.items roots) → IfErr r (λ e. e ≡ Memory)
+      → MadeAll (MeansIn view) grew missing (OrMemory refuses) a b r (map term roots)
   all_made a b term table roots (Ok xs) g h read memory = record {
     keeps = g;
-    made = each_read (Means means ring_of stands b) term table xs.items roots (λ k d lt. let x = h k d lt in (x.0, x.1, x.2.meant)) read;
+    made = each_read (MeansIn view b) term table xs.items roots (λ k d lt. let x = h k d lt in (x.0, x.1, x.2.meant)) read;
     there = All-map (EachLeaf (λ l. missing a l → ⊥)) term roots (λ k d lt. let x = h k d lt in there_before ring laws a b (term (get_or roots k d)) x.0 (laws.by_growth a b [] g) x.2);
     refused = tt;
   }

@@ -2,15 +2,17 @@
 use Rattle.std.proofs.Common.{◌≡◌, ◌<◌, ℕ, ◌+◌, List, [], ◌∷◌, ◌++◌, length, take, drop, get_or, refl, ap, subst, sym, ◌∙◌, append-nil}
 use Rattle.std.proofs.lemmas.List.{take_more, drop_more, take-append-drop}
 use Rattle.air_field.specs.Term.{Leaf, Term, with_leaves}
-use Rattle.air_field.specs.declared.errors.RingError.{RingError}
 use Rattle.air_windows.specs.declared.errors.AirError.{AirError}
 use Rattle.air_builder.specs.Assertion.{Assertion}
 use Rattle.air_builder.specs.Batches.{Each, AssertsOf, GrewByEach, GrewByBeginning, RefusesByEach}
-use Rattle.air_builder.specs.Builders.{BuilderLaws, GrewOf, RefusesOf}
+use Rattle.air_builder.specs.Builders.{BuilderView, BuilderLaws, GrewOf, RefusesOf}
 use Rattle.air_words.specs.Gadgets.{VariableMeans}
 
 -- the second list in two parts, as the first one is
-pub Each-append : {A B : Type 0} (R : A → B → Type 0) (xs : List A) (x : A) (rest : List A) (ys : List B) → Each R (xs ++ (x ∷ rest)) ys → (before : List B) × (y : B) × (after : List B) × (ys ≡ before ++ (y ∷ after)) × Each R xs before × R x y × Each R rest after
+pub Each-append : {A B : Type 0} (R : A → B → Type 0) (xs : List A) (x : A) (rest : List A) (ys : List B)
+    → Each R (xs ++ (x ∷ rest)) ys
+    → (before : List B) × (y : B) × (after : List B) × (ys ≡ before ++ (y ∷ after)) × Each R xs before × R x y
+    × Each R rest after
 Each-append R [] x rest [] h = absurd h
 Each-append R [] x rest (y ∷ ys) h = ([], y, ys, refl, tt, h.0, h.1)
 Each-append R (z ∷ xs) x rest [] h = absurd h
@@ -27,14 +29,19 @@ Each-nil R (y ∷ ys) h = absurd h
 pub in_parts : {X : Type 0} (xs : List X) (i : ℕ) (d : X) → i < length xs → xs ≡ take i xs ++ (get_or xs i d ∷ drop (i + 1) xs)
 in_parts xs i d lt = sym (take-append-drop i xs) ∙ ap (λ v. take i xs ++ v) (drop_more xs i d lt)
 
-module _ {S R F : Type 0} {valid : R → Type 0} {extends : R → R → Type 0} {ring_of : S → R} {with_ring : S → R → S} {stands : S → Leaf → Term F} {ready : S → Type 0} {kept : S → S → Type 0} {grew : S → S → List (Assertion F) → Type 0} {ring_refuses : RingError → Term F → Type 0} {missing : S → Leaf → Type 0} {refuses : S → AirError → List (Assertion F) → Type 0} (laws : BuilderLaws ring_of with_ring stands ready kept grew valid extends ring_refuses missing refuses) {I : Type 0} (asserts : S → I → Assertion F → Type 0) (asserts_kept : (a b : S) → kept a b → (x : I) (s : Assertion F) → asserts a x s → asserts b x s) where
+module _ {S R E F : Type 0} {view : BuilderView S R E F} (laws : BuilderLaws view) {I : Type 0} (asserts : S → I → Assertion F → Type 0)
+    (asserts_kept : (a b : S) → view.kept a b → (x : I) (s : Assertion F) → asserts a x s → asserts b x s) where
+  open view use {kept, grew, refuses}
+
   -- no element yet
   pub none_yet : (a : S) → GrewByEach asserts grew a a []
   none_yet a [] h = laws.same a
   none_yet a (s ∷ ss) h = absurd h
 
   -- one element more
-  pub each_more : (a b c : S) (xs : List I) (i : ℕ) (x : I) → i < length xs → x ≡ get_or xs i x → kept a b → GrewByEach asserts grew a b (take i xs) → ((s : Assertion F) → asserts b x s → grew b c (s ∷ [])) → GrewByEach asserts grew a c (take (i + 1) xs)
+  pub each_more : (a b c : S) (xs : List I) (i : ℕ) (x : I) → i < length xs → x ≡ get_or xs i x → kept a b
+      → GrewByEach asserts grew a b (take i xs) → ((s : Assertion F) → asserts b x s → grew b c (s ∷ []))
+      → GrewByEach asserts grew a c (take (i + 1) xs)
   each_more a b c xs i x lt is k g one ss h =
       let here : take (i + 1) xs ≡ take i xs ++ (x ∷ []) = take_more xs i x lt ∙ ap (λ v. take i xs ++ (v ∷ [])) (sym is) in
       let parts = Each-append (asserts a) (take i xs) x [] ss (subst (λ v. Each (asserts a) v ss) here h) in
@@ -47,17 +54,22 @@ module _ {S R F : Type 0} {valid : R → Type 0} {extends : R → R → Type 0} 
   each_then a b c xs g none ss h = subst (λ v. grew a c v) (append-nil ss) (laws.joined a b c ss [] (g ss h) none)
 
   -- so some of the first elements stand
-  pub beginning : (a b c : S) (xs : List I) (i : ℕ) → i < length xs → GrewByEach asserts grew a b (take i xs) → grew b c [] → GrewByBeginning asserts grew a c xs
+  pub beginning : (a b c : S) (xs : List I) (i : ℕ) → i < length xs → GrewByEach asserts grew a b (take i xs)
+      → grew b c [] → GrewByBeginning asserts grew a c xs
   beginning a b c xs i lt g none = record { count = i; within = lt; beginning = each_then a b c (take i xs) g none }
 
   -- one assertion was refused after others
-  refused_at : (a b : S) (e : AirError) (ss before after : List (Assertion F)) (s : Assertion F) → ss ≡ before ++ (s ∷ after) → grew a b before → refuses b e (s ∷ []) → refuses a e ss
+  refused_at : (a b : S) (e : AirError) (ss before after : List (Assertion F)) (s : Assertion F)
+      → ss ≡ before ++ (s ∷ after) → grew a b before → refuses b e (s ∷ []) → refuses a e ss
   refused_at a b e ss before after s parts g r =
       subst (λ v. refuses a e v) (sym parts)
       (laws.refuses_then a b e before (s ∷ after) g (laws.refuses_first b e (s ∷ []) after r))
 
   -- one element was refused
-  pub each_refused : (a b : S) (e : AirError) (xs : List I) (i : ℕ) (x : I) → i < length xs → x ≡ get_or xs i x → kept a b → GrewByEach asserts grew a b (take i xs) → ((s : Assertion F) → asserts b x s → refuses b e (s ∷ [])) → RefusesByEach asserts refuses a xs e
+  pub each_refused : (a b : S) (e : AirError) (xs : List I) (i : ℕ) (x : I) → i < length xs → x ≡ get_or xs i x
+      → kept a b → GrewByEach asserts grew a b (take i xs)
+      → ((s : Assertion F) → asserts b x s → refuses b e (s ∷ []))
+      → RefusesByEach asserts refuses a xs e
   each_refused a b e xs i x lt is k g one ss h =
       let here : xs ≡ take i xs ++ (x ∷ drop (i + 1) xs) = in_parts xs i x lt ∙ ap (λ v. take i xs ++ (v ∷ drop (i + 1) xs)) (sym is) in
       let parts = Each-append (asserts a) (take i xs) x (drop (i + 1) xs) ss (subst (λ v. Each (asserts a) v ss) here h) in
@@ -65,12 +77,19 @@ module _ {S R F : Type 0} {valid : R → Type 0} {extends : R → R → Type 0} 
 
 -- what one assertion says of the one assertion that its element gives
 module _ {S E F : Type 0} (means : S → E → Term F → Type 0) where
-  pub grew_of_one : (grew : S → S → List (Assertion F) → Type 0) (op : Term F → Term F) (a b : S) (x : E) → GrewOf means grew op a b x → (s : Assertion F) → AssertsOf means op a x s → grew a b (s ∷ [])
+  pub grew_of_one : (grew : S → S → List (Assertion F) → Type 0) (op : Term F → Term F) (a b : S) (x : E)
+      → GrewOf means grew op a b x → (s : Assertion F) → AssertsOf means op a x s → grew a b (s ∷ [])
   grew_of_one grew op a b x g s h = subst (λ v. grew a b (v ∷ [])) (sym h.2) (g h.0 h.1)
 
-  pub refuses_of_one : {X : Type 0} (refuses : S → X → List (Assertion F) → Type 0) (op : Term F → Term F) (a : S) (x : E) (e : X) → RefusesOf means refuses op a x e → (s : Assertion F) → AssertsOf means op a x s → refuses a e (s ∷ [])
+  pub refuses_of_one : {X : Type 0} (refuses : S → X → List (Assertion F) → Type 0) (op : Term F → Term F) (a : S)
+      (x : E) (e : X)
+      → RefusesOf means refuses op a x e → (s : Assertion F) → AssertsOf means op a x s → refuses a e (s ∷ [])
   refuses_of_one refuses op a x e g s h = subst (λ v. refuses a e (v ∷ [])) (sym h.2) (g h.0 h.1)
 
 -- a variable keeps what it means
-pub variable_stays : {S V F : Type 0} (means : V → Term F → Type 0) (stands : S → Leaf → Term F) (kept : S → S → Type 0) → ((a b : S) → kept a b → stands b ≡ stands a) → (op : Term F → Term F) (a b : S) → kept a b → (x : V) (s : Assertion F) → AssertsOf (VariableMeans means stands) op a x s → AssertsOf (VariableMeans means stands) op b x s
+pub variable_stays : {S V F : Type 0} (means : V → Term F → Type 0) (stands : S → Leaf → Term F)
+    (kept : S → S → Type 0)
+    → ((a b : S) → kept a b → stands b ≡ stands a) → (op : Term F → Term F) (a b : S) → kept a b
+    → (x : V) (s : Assertion F) → AssertsOf (VariableMeans means stands) op a x s
+    → AssertsOf (VariableMeans means stands) op b x s
 variable_stays means stands kept same op a b k x s h = (h.0, subst (λ l. means x (with_leaves l h.0)) (sym (same a b k)) h.1, h.2)

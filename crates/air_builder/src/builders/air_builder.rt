@@ -445,6 +445,19 @@ pub trait AirBuilder {
         self.when(condition)
     }
 
-    ghost laws: { BuilderLaws ring_of with_ring stands ready kept grew Self.Ring.valid
-        Self.Ring.extends Self.Ring.refuses missing refuses };
+    ghost laws: { BuilderLaws (record {
+      valid = Self.Ring.valid;
+      has = Self.Ring.has;
+      means = Self.Ring.means;
+      extends = Self.Ring.extends;
+      ring_refuses = Self.Ring.refuses;
+      ring_of = ring_of;
+      with_ring = with_ring;
+      stands = stands;
+      ready = ready;
+      kept = kept;
+      grew = grew;
+      missing = missing;
+      refuses = refuses;
+    }) };
 }

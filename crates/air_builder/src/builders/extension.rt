@@ -103,7 +103,29 @@ pub trait ExtensionBuilder: AirBuilder {
         Ok(())
     }
 
-    ghost ext_laws: { ExtensionLaws Self.ring_of ext_ring_of with_ext_ring Self.stands Self.ready
-        Self.kept Self.grew Self.Ring.has Self.Ring.means Self.ExtRing.valid Self.ExtRing.extends
-        Self.ExtRing.base_has Self.ExtRing.base_means Self.ExtRing.refuses Self.refuses };
+    ghost ext_laws: { ExtensionLaws (record {
+      valid = Self.Ring.valid;
+      has = Self.Ring.has;
+      means = Self.Ring.means;
+      extends = Self.Ring.extends;
+      ring_refuses = Self.Ring.refuses;
+      ring_of = Self.ring_of;
+      with_ring = Self.with_ring;
+      stands = Self.stands;
+      ready = Self.ready;
+      kept = Self.kept;
+      grew = Self.grew;
+      missing = Self.missing;
+      refuses = Self.refuses;
+    }) (record {
+      valid = Self.ExtRing.valid;
+      has = Self.ExtRing.has;
+      means = Self.ExtRing.means;
+      extends = Self.ExtRing.extends;
+      ring_refuses = Self.ExtRing.refuses;
+      base_has = Self.ExtRing.base_has;
+      base_means = Self.ExtRing.base_means;
+      ring_of = ext_ring_of;
+      with_ring = with_ext_ring;
+    }) };
 }

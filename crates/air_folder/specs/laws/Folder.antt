@@ -8,17 +8,18 @@ use Rattle.air_field.specs.Value.{value}
 use Rattle.air_field.specs.laws.Value.{value-leaves}
 use Rattle.air_field.specs.OneRow.{one_row_shape}
 use Rattle.air_builder.specs.Assertion.{Assertion}
-use Rattle.air_builder.specs.Builders.{BuilderLaws}
+use Rattle.air_builder.specs.Builders.{BuilderView, BuilderLaws}
 use Rattle.air_builder.specs.Refusals.{NamesLeaf}
 use Rattle.air_builder.specs.laws.Refusals.{past_window_missing}
 use Rattle.air_builder.specs.Refused.{Refused}
 use Rattle.air_builder.specs.laws.Refused.{Refused-first, Refused-then, Refused-missing}
-use Rattle.air_builder.specs.Extensions.{ExtensionLaws}
+use Rattle.air_builder.specs.Extensions.{ExtensionView, ExtensionLaws}
 use Rattle.air_folder.specs.Fold.{folded_on}
 use Rattle.air_folder.specs.laws.Fold.{folded_on-none, folded_on-one, folded_on-append}
 use Rattle.air_folder.specs.Folder.{FolderRow, HasValue, folder_leaves, folder_stands, FolderMissing, value_in, values_in, GrewFolder, FolderRefuses}
 use Rattle.air_folder.specs.FolderRow.{row_of, FolderGrew}
 use Rattle.air_folder.specs.declared.folder.builder.ConstraintFolder.{ConstraintFolder}
+use Rattle.air_folder.specs.declared.folder.ring.FolderRing.{FolderRing}
 
 module _ {F E : Type 0} (a : Over F E) where
   grew_joined : (d e f : FolderRow E) (x y z : E) (ts us : List (Assertion F)) → GrewFolder a d e x y ts → GrewFolder a e f y z us → GrewFolder a d f x z (ts ++ us)
@@ -47,8 +48,40 @@ module _ {F E : Type 0} (a : Over F E) where
       ap (λ s. value a s t) (λ i l. sym (named (folder_leaves a d l)) i)
       ∙ (sym (value-leaves a (λ _. a.ring.nil) (folder_stands a coefficients d) t) ∙ means)
 
+  -- a folder as the laws see it, where each element means a term
+  abbrev pub folder_view : (E → List F) → BuilderView (ConstraintFolder F E) (FolderRing F E) E F
+  folder_view coefficients = record {
+    valid = λ _. ⊤;
+    has = λ _ _. ⊤;
+    means = λ _ x t. HasValue a x t;
+    extends = λ _ _. ⊤;
+    ring_refuses = λ _ _. ⊥;
+    ring_of = λ b. b.ring;
+    with_ring = λ b q. record b { ring = q };
+    stands = λ b. folder_stands a coefficients (row_of b);
+    ready = λ _. ⊤;
+    kept = λ b c. row_of c ≡ row_of b;
+    grew = FolderGrew a;
+    missing = λ b l. FolderMissing (row_of b) l;
+    refuses = λ b e ts. FolderRefuses (row_of b) e ts;
+  }
+
+  -- and its ring over the extension, which is the same
+  abbrev pub folder_over : ExtensionView (ConstraintFolder F E) (FolderRing F E) E E F
+  folder_over = record {
+    valid = λ _. ⊤;
+    has = λ _ _. ⊤;
+    means = λ _ x t. HasValue a x t;
+    extends = λ _ _. ⊤;
+    ring_refuses = λ _ _. ⊥;
+    base_has = λ _ _. ⊤;
+    base_means = λ _ x t. HasValue a x t;
+    ring_of = λ b. b.ring;
+    with_ring = λ b q. record b { ring = q };
+  }
+
   -- it keeps them for its ring
-  pub folder_laws : (coefficients : E → List F) → BuilderLaws {S = ConstraintFolder F E} (λ b. b.ring) (λ b q. record b { ring = q }) (λ b. folder_stands a coefficients (row_of b)) (λ _. ⊤) (λ b c. row_of c ≡ row_of b) (FolderGrew a) (λ _. ⊤) (λ _ _. ⊤) (λ _ _. ⊥) (λ b l. FolderMissing (row_of b) l) (λ b e ts. FolderRefuses (row_of b) e ts)
+  pub folder_laws : (coefficients : E → List F) → BuilderLaws (folder_view coefficients)
   folder_laws coefficients = record {
     same = λ b. unchanged (row_of b) (row_of b) b.accumulator b.accumulator refl refl;
     joined = λ b c d ts us g h. grew_joined (row_of b) (row_of c) (row_of d) b.accumulator c.accumulator d.accumulator ts us g h;
@@ -83,7 +116,7 @@ module _ {F E : Type 0} (a : Over F E) where
   }
 
   -- and for its ring over the extension, which is the same
-  pub folder_extension_laws : (coefficients : E → List F) → ExtensionLaws {S = ConstraintFolder F E} (λ b. b.ring) (λ b. b.ring) (λ b q. record b { ring = q }) (λ b. folder_stands a coefficients (row_of b)) (λ _. ⊤) (λ b c. row_of c ≡ row_of b) (FolderGrew a) (λ _ _. ⊤) (λ _ x t. HasValue a x t) (λ _. ⊤) (λ _ _. ⊤) (λ _ _. ⊤) (λ _ x t. HasValue a x t) (λ _ _. ⊥) (λ b e ts. FolderRefuses (row_of b) e ts)
+  pub folder_extension_laws : (coefficients : E → List F) → ExtensionLaws (folder_view coefficients) folder_over
   folder_extension_laws coefficients = record {
     ext_ring_lent = λ b q e. unchanged (row_of b) (row_of b) b.accumulator b.accumulator refl refl;
     ext_ring_with = λ b q. refl;

@@ -10,9 +10,9 @@ use Rattle.air_field.specs.declared.errors.RingError.{RingError}
 use Rattle.air_field.specs.declared.errors.RingError.TheVariants.{DegreeOverflow}
 use Rattle.air_symbolic.specs.PoolRefusals.{PoolRefuses}
 use Rattle.air_builder.specs.Assertion.{Assertion, Base, Extension}
-use Rattle.air_builder.specs.Builders.{BuilderLaws}
+use Rattle.air_builder.specs.Builders.{BuilderView, BuilderLaws}
 use Rattle.air_builder.specs.laws.Refusals.{past_window_missing}
-use Rattle.air_builder.specs.Extensions.{ExtensionLaws}
+use Rattle.air_builder.specs.Extensions.{ExtensionView, ExtensionLaws}
 use Rattle.air_builder.specs.Refused.{Refused}
 use Rattle.air_builder.specs.laws.Refused.{Refused-first, Refused-then, Refused-missing, Refused-ring}
 use Rattle.air_recording.specs.Kinds.{kind_of, base_terms, ext_terms}
@@ -129,9 +129,31 @@ module _ {R Q E X F : Type 0} {valid : R → Type 0} {has : R → E → Type 0} 
         };
       }
 
-  module _ {S : Type 0} (pool : S → Q) (with_ring : S → R → S) (fixed : S → Fixed E) (lists : S → Lists E X) (lent : (b : S) (r : R) → extends (base_of (pool b)) r → ext_extends (pool b) (pool (with_ring b r))) (ring_is : (b : S) (r : R) → base_of (pool (with_ring b r)) ≡ r) (fixed_is : (b : S) (r : R) → fixed (with_ring b r) ≡ fixed b) (lists_are : (b : S) (r : R) → lists (with_ring b r) ≡ lists b) where
-    -- a builder that records keeps the laws
-    pub recording_laws : BuilderLaws (λ b. base_of (pool b)) with_ring (λ _ l. leaf_term l) (λ b. IsReady (ext_valid (pool b)) (means (base_of (pool b))) (fixed b)) (λ a b. KeptRecording ext_extends (pool a) (pool b) (fixed a) (fixed b)) (λ a b ts. GrewRecording (λ v x t. means (base_of v) x t) ext_means ext_extends (pool a) (pool b) (fixed a) (fixed b) (lists a) (lists b) ts) valid extends PoolRefuses (λ b l. IsMissing (fixed b).shape l) (λ b e ts. Refused (IsMissing (fixed b).shape) (IsOver cached_weight) (λ _. ⊥) e ts)
+  module _ {S : Type 0} (pool : S → Q) (with_ring : S → R → S) (fixed : S → Fixed E) (lists : S → Lists E X)
+      (lent : (b : S) (r : R) → extends (base_of (pool b)) r → ext_extends (pool b) (pool (with_ring b r)))
+      (ring_is : (b : S) (r : R) → base_of (pool (with_ring b r)) ≡ r)
+      (fixed_is : (b : S) (r : R) → fixed (with_ring b r) ≡ fixed b)
+      (lists_are : (b : S) (r : R) → lists (with_ring b r) ≡ lists b) where
+    -- a builder that records, as its laws see it
+    abbrev pub recording_view : BuilderView S R E F
+    recording_view = record {
+      valid = valid;
+      has = has;
+      means = means;
+      extends = extends;
+      ring_refuses = PoolRefuses;
+      ring_of = λ b. base_of (pool b);
+      with_ring = with_ring;
+      stands = λ _ l. leaf_term l;
+      ready = λ b. IsReady (ext_valid (pool b)) (means (base_of (pool b))) (fixed b);
+      kept = λ a b. KeptRecording ext_extends (pool a) (pool b) (fixed a) (fixed b);
+      grew = λ a b ts. GrewRecording (λ v x t. means (base_of v) x t) ext_means ext_extends (pool a) (pool b) (fixed a) (fixed b) (lists a) (lists b) ts;
+      missing = λ b l. IsMissing (fixed b).shape l;
+      refuses = λ b e ts. Refused (IsMissing (fixed b).shape) (IsOver cached_weight) (λ _. ⊥) e ts;
+    }
+
+    -- it keeps the laws
+    pub recording_laws : BuilderLaws recording_view
     recording_laws = record {
       same = λ a. recorded_none (pool a) (pool a) (fixed a) (fixed a) (lists a) (lists a) (ext.same (pool a)) refl refl;
       joined = λ a b c xs ys g h. recorded_joined (pool a) (pool b) (pool c) (fixed a) (fixed b) (fixed c) (lists a) (lists b) (lists c) xs ys g h;
@@ -158,8 +180,26 @@ module _ {R Q E X F : Type 0} {valid : R → Type 0} {has : R → E → Type 0} 
     }
 
     -- and those of builders over the extension: the base of the pool is the builder's ring
-    module _ {base_has : Q → E → Type 0} {base_means : Q → E → Term F → Type 0} (with_ext_ring : S → Q → S) (ext_ring_is : (b : S) (q : Q) → pool (with_ext_ring b q) ≡ q) (fixed_stays : (b : S) (q : Q) → fixed (with_ext_ring b q) ≡ fixed b) (lists_stay : (b : S) (q : Q) → lists (with_ext_ring b q) ≡ lists b) (has_base : (q : Q) (x : E) → ext_valid q → has (base_of q) x → base_has q x) (means_base : (q : Q) (x : E) (t : Term F) → ext_valid q → means (base_of q) x t → base_means q x t) where
-      pub recording_ext_laws : ExtensionLaws (λ b. base_of (pool b)) pool with_ext_ring (λ _ l. leaf_term l) (λ b. IsReady (ext_valid (pool b)) (means (base_of (pool b))) (fixed b)) (λ a b. KeptRecording ext_extends (pool a) (pool b) (fixed a) (fixed b)) (λ a b ts. GrewRecording (λ v x t. means (base_of v) x t) ext_means ext_extends (pool a) (pool b) (fixed a) (fixed b) (lists a) (lists b) ts) has means ext_valid ext_extends base_has base_means PoolRefuses (λ b e ts. Refused (IsMissing (fixed b).shape) (IsOver cached_weight) (λ _. ⊥) e ts)
+    module _ {base_has : Q → E → Type 0} {base_means : Q → E → Term F → Type 0} (with_ext_ring : S → Q → S)
+        (ext_ring_is : (b : S) (q : Q) → pool (with_ext_ring b q) ≡ q)
+        (fixed_stays : (b : S) (q : Q) → fixed (with_ext_ring b q) ≡ fixed b)
+        (lists_stay : (b : S) (q : Q) → lists (with_ext_ring b q) ≡ lists b)
+        (has_base : (q : Q) (x : E) → ext_valid q → has (base_of q) x → base_has q x)
+        (means_base : (q : Q) (x : E) (t : Term F) → ext_valid q → means (base_of q) x t → base_means q x t) where
+      abbrev pub recording_over : ExtensionView S Q E X F
+      recording_over = record {
+        valid = ext_valid;
+        has = ext_has;
+        means = ext_means;
+        extends = ext_extends;
+        ring_refuses = PoolRefuses;
+        base_has = base_has;
+        base_means = base_means;
+        ring_of = pool;
+        with_ring = with_ext_ring;
+      }
+
+      pub recording_ext_laws : ExtensionLaws recording_view recording_over
       recording_ext_laws = record {
         ext_ring_lent = λ a q e. recorded_none (pool a) (pool (with_ext_ring a q)) (fixed a) (fixed (with_ext_ring a q)) (lists a) (lists (with_ext_ring a q)) (subst (λ v. ext_extends (pool a) v) (sym (ext_ring_is a q)) e) (fixed_stays a q) (lists_stay a q);
         ext_ring_with = ext_ring_is;

@@ -7,10 +7,10 @@ use Rattle.std.proofs.lemmas.List.Elements.{filter-append}
 use Rattle.air_field.specs.Term.{Leaf, Term}
 use Rattle.air_field.specs.OneRow.{one_row_shape}
 use Rattle.air_builder.specs.Assertion.{Assertion}
-use Rattle.air_builder.specs.Builders.{BuilderLaws}
+use Rattle.air_builder.specs.Builders.{BuilderView, BuilderLaws}
 use Rattle.air_builder.specs.Refusals.{NamesLeaf}
 use Rattle.air_builder.specs.laws.Refusals.{past_window_missing}
-use Rattle.air_builder.specs.Extensions.{ExtensionLaws}
+use Rattle.air_builder.specs.Extensions.{ExtensionView, ExtensionLaws}
 use Rattle.air_builder.specs.Refused.{Refused}
 use Rattle.air_builder.specs.laws.Refused.{Refused-first, Refused-then, Refused-missing}
 use Rattle.air_windows.specs.declared.errors.AirError.{AirError}
@@ -96,9 +96,44 @@ module _ {F E : Type 0} (zero : RowData F E → Assertion F → Bool) where
         let s = same_at_row (data_of a) (count a) (failures a) in
         record { same_row = d; count = c ∙ s.count; more = []; failures = f ∙ sym (append-nil (failures a)); places = refl }
 
-    module _ (stands : RowData F E → Leaf → Term F) {R : Type 0} (ring_of : S → R) (with_ring : S → R → S) (data_is : (a : S) (q : R) → data_of (with_ring a q) ≡ data_of a) (count_is : (a : S) (q : R) → count (with_ring a q) ≡ count a) (failures_is : (a : S) (q : R) → failures (with_ring a q) ≡ failures a) (ring_is : (a : S) (q : R) → ring_of (with_ring a q) ≡ q) where
+    -- such a builder as its laws see it, where its ring has no state, and an element means its terms
+    abbrev pub debug_view : {R V : Type 0} → (RowData F E → Leaf → Term F) → (S → R) → (S → R → S) → (V → Term F → Type 0) → BuilderView S R V F
+    debug_view stands ring_of with_ring means = record {
+      valid = λ _. ⊤;
+      has = λ _ _. ⊤;
+      means = λ _ x t. means x t;
+      extends = λ _ _. ⊤;
+      ring_refuses = λ _ _. ⊥;
+      ring_of = ring_of;
+      with_ring = with_ring;
+      stands = λ b. stands (data_of b);
+      ready = λ _. ⊤;
+      kept = λ a b. data_of b ≡ data_of a;
+      grew = λ a b ts. GrewAtRow zero (data_of a) (data_of b) (count a) (count b) (failures a) (failures b) ts;
+      missing = λ b l. RowMissing (data_of b) l;
+      refuses = λ b e ts. RefusedAtRow zero (data_of b) (count b) e ts;
+    }
+
+    -- and its ring over the extension
+    abbrev pub debug_over : {R V W : Type 0} → (S → R) → (S → R → S) → (V → Term F → Type 0) → (W → Term F → Type 0) → ExtensionView S R V W F
+    debug_over ring_of with_ring base_means means = record {
+      valid = λ _. ⊤;
+      has = λ _ _. ⊤;
+      means = λ _ x t. means x t;
+      extends = λ _ _. ⊤;
+      ring_refuses = λ _ _. ⊥;
+      base_has = λ _ _. ⊤;
+      base_means = λ _ x t. base_means x t;
+      ring_of = ring_of;
+      with_ring = with_ring;
+    }
+
+    module _ (stands : RowData F E → Leaf → Term F) {R V : Type 0} (ring_of : S → R) (with_ring : S → R → S)
+        (data_is : (a : S) (q : R) → data_of (with_ring a q) ≡ data_of a) (count_is : (a : S) (q : R) → count (with_ring a q) ≡ count a)
+        (failures_is : (a : S) (q : R) → failures (with_ring a q) ≡ failures a) (ring_is : (a : S) (q : R) → ring_of (with_ring a q) ≡ q)
+        {means : V → Term F → Type 0} where
       -- a builder over the values of a row keeps the laws
-      pub debug_laws : BuilderLaws ring_of with_ring (λ b. stands (data_of b)) (λ _. ⊤) (λ a b. data_of b ≡ data_of a) (λ a b ts. GrewAtRow zero (data_of a) (data_of b) (count a) (count b) (failures a) (failures b) ts) (λ _. ⊤) (λ _ _. ⊤) (λ _ _. ⊥) (λ b l. RowMissing (data_of b) l) (λ b e ts. RefusedAtRow zero (data_of b) (count b) e ts)
+      pub debug_laws : BuilderLaws (debug_view stands ring_of with_ring means)
       debug_laws = record {
         same = λ a. same_at_row (data_of a) (count a) (failures a);
         joined = λ a b c xs ys g h. joined_at_row (data_of a) (data_of b) (data_of c) (count a) (count b) (count c) (failures a) (failures b) (failures c) xs ys g h;
@@ -132,9 +167,9 @@ module _ {F E : Type 0} (zero : RowData F E → Assertion F → Bool) where
         };
       }
 
-      module _ {B : Type 0} (base_of : S → B) {V : Type 0} (means : V → Term F → Type 0) where
+      module _ {B U : Type 0} (base_of : S → B) (base_means : U → Term F → Type 0) {with_base : S → B → S} where
         -- and those of builders over an extension, for its ring over the extension
-        pub debug_extension_laws : ExtensionLaws base_of ring_of with_ring (λ b. stands (data_of b)) (λ _. ⊤) (λ a b. data_of b ≡ data_of a) (λ a b ts. GrewAtRow zero (data_of a) (data_of b) (count a) (count b) (failures a) (failures b) ts) (λ _ _. ⊤) (λ _ x t. means x t) (λ _. ⊤) (λ _ _. ⊤) (λ _ _. ⊤) (λ _ x t. means x t) (λ _ _. ⊥) (λ b e ts. RefusedAtRow zero (data_of b) (count b) e ts)
+        pub debug_extension_laws : ExtensionLaws (debug_view stands base_of with_base base_means) (debug_over ring_of with_ring base_means means)
         debug_extension_laws = record {
           ext_ring_lent = λ a q e. unchanged a (with_ring a q) (data_is a q) (count_is a q) (failures_is a q);
           ext_ring_with = ring_is;
