@@ -7,7 +7,7 @@ use Rattle.air_windows.specs.declared.errors.AirError.{AirError}
 use Rattle.air_builder.specs.Assertion.{Assertion, Base, Extension}
 use Rattle.air_builder.specs.Builders.{MeansIn, BuilderView, RingLaws, BuilderLaws}
 use Rattle.air_windows.specs.Errors.{air_error}
-use Rattle.air_builder.specs.Filters.{means_kept, means_lent}
+use Rattle.air_builder.specs.laws.Filters.{means_kept, means_lent}
 use Rattle.air_builder.specs.Refusals.{PartOf, EachLeaf}
 use Rattle.air_builder.specs.Extensions.{RefusesWindow}
 use Rattle.air_windows.specs.declared.errors.AirError.TheVariants.{NoPermutation}

@@ -4,7 +4,7 @@ use Rattle.air_field.specs.Term.{Leaf, Term, leaf_term, const_term, ext_const_te
 use Rattle.air_windows.specs.declared.errors.AirError.{AirError}
 use Rattle.air_builder.specs.Assertion.{Assertion}
 use Rattle.air_builder.specs.Builders.{MeansIn, BuilderView, RingLaws, BuilderLaws}
-use Rattle.air_builder.specs.Filters.{means_kept}
+use Rattle.air_builder.specs.laws.Filters.{means_kept}
 use Rattle.air_builder.specs.Refusals.{EachLeaf, PartOf}
 use Rattle.air_author.specs.Constraints.{Asserted}
 use Rattle.air_author.specs.Expressions.{Made, Lasts, Holds}

@@ -8,7 +8,7 @@ use Rattle.air_windows.specs.declared.errors.AirError.{AirError}
 use Rattle.air_builder.specs.Assertion.{Assertion}
 use Rattle.air_builder.specs.Batches.{Each, AssertsOf, AssertsOfBoth, GrewByEach, GrewByBeginning, RefusesByEach}
 use Rattle.air_builder.specs.Builders.{MeansIn, BuilderView, RingLaws, BuilderLaws, GrewOf, GrewOfBoth, RefusesOf, RefusesOfBoth}
-use Rattle.air_builder.specs.Filters.{means_kept}
+use Rattle.air_builder.specs.laws.Filters.{means_kept}
 
 -- the second list in two parts, as the first one is
 pub Each-append : {A B : Type 0} (R : A → B → Type 0) (xs : List A) (x : A) (rest : List A) (ys : List B)

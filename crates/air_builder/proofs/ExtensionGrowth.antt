@@ -8,7 +8,7 @@ use Rattle.air_builder.specs.Assertion.{Assertion, Extension}
 use Rattle.air_builder.specs.Builders.{MeansIn, BuilderView, RingLaws, BuilderLaws}
 use Rattle.air_windows.specs.Errors.{air_error}
 use Rattle.air_builder.specs.Extensions.{GrewExtOf, RefusesExtOf, AssertsExtOf, ExtensionView, ExtensionLaws}
-use Rattle.air_builder.specs.Filters.{means_kept}
+use Rattle.air_builder.specs.laws.Filters.{means_kept}
 use Rattle.air_builder.proofs.Growth.{means_in, lent_then, lent_refused, lent_means}
 
 module _ {S R E F : Type 0} {view : BuilderView S R E F} (ring : RingLaws view) (laws : BuilderLaws view) where

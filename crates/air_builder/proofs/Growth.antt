@@ -7,7 +7,7 @@ use Rattle.air_windows.specs.declared.errors.AirError.{AirError}
 use Rattle.air_builder.specs.Assertion.{Assertion, Base}
 use Rattle.air_builder.specs.Builders.{MeansIn, BuilderView, RingLaws, BuilderLaws, GrewOf, RefusesOf}
 use Rattle.air_windows.specs.Errors.{air_error}
-use Rattle.air_builder.specs.Filters.{means_lent}
+use Rattle.air_builder.specs.laws.Filters.{means_lent}
 
 -- what an element means in the builder's ring it means in the ring as it is lent
 pub means_in : {R E F : Type 0} (means : R → E → Term F → Type 0) {q r : R} (x : E) (t : Term F) → q ≡ r → means r x t → means q x t

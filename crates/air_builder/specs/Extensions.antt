@@ -5,7 +5,7 @@ use Rattle.air_field.specs.declared.errors.RingError.{RingError}
 use Rattle.air_windows.specs.declared.errors.AirError.{AirError}
 use Rattle.air_windows.specs.declared.errors.AirError.TheVariants.{NoPermutation}
 use Rattle.air_builder.specs.Assertion.{Assertion, Extension}
-use Rattle.air_builder.specs.Builders.{BuilderView, BuilderLaws}
+use Rattle.air_builder.specs.Builders.{BuilderView}
 use Rattle.air_windows.specs.Errors.{air_error}
 use Rattle.air_builder.specs.Refusals.{PartOf}
 
@@ -77,30 +77,3 @@ pub record ExtensionLaws {S R X B E F : Type 0} (view : BuilderView S R B F) (ov
       → view.means (view.ring_of a) x t → over.base_means (over.ring_of a) x t
   pub refuses_in_ext_ring : (a : S) (e : RingError) (t : Term F) (ts : List (Assertion F))
       → over.ring_refuses e (with_leaves (view.stands a) t) → PartOf t ts → view.refuses a (air_error e) ts
-
-module _ {S R X B E F : Type 0} {view : BuilderView S R B F} {over : ExtensionView S X B E F}
-    (laws : BuilderLaws view) (extension : ExtensionLaws view over) where
-  -- the builder keeps for its ring over the extension what it keeps for its base ring
-  pub over_extension : BuilderLaws (over_view view over)
-  over_extension = record {
-    same = laws.same;
-    joined = laws.joined;
-    ring_lent = extension.ext_ring_lent;
-    ring_with = extension.ext_ring_with;
-    ring_valid = extension.ext_ring_valid;
-    by_growth = laws.by_growth;
-    kept_joined = laws.kept_joined;
-    ring_kept = extension.ext_ring_kept;
-    stands_kept = laws.stands_kept;
-    ready_kept = laws.ready_kept;
-    missing_kept = laws.missing_kept;
-    missing_stays = laws.missing_stays;
-    past_window = laws.past_window;
-    has_first_row = laws.has_first_row;
-    has_last_row = laws.has_last_row;
-    has_transition = laws.has_transition;
-    refuses_first = laws.refuses_first;
-    refuses_then = laws.refuses_then;
-    refuses_in_ring = extension.refuses_in_ext_ring;
-    refuses_missing = laws.refuses_missing;
-  }

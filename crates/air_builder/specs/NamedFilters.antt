@@ -1,11 +1,9 @@
 -- Named builders that discard labels, and named builders under a filter.
-use Rattle.std.specs.Prelude.{◌≡◌, List, [], ◌∷◌, ◌++◌, map, refl}
-use Rattle.std.proofs.Common.{sym, ◌∙◌, ap, subst}
+use Rattle.std.specs.Prelude.{List, map}
 use Rattle.air_field.specs.Term.{Term}
 use Rattle.air_builder.specs.Assertion.{filtered}
-use Rattle.air_builder.specs.Builders.{MeansIn, BuilderView, RingLaws, BuilderLaws}
-use Rattle.air_builder.specs.Filters.{KeptInside, GrewInside, map-append, means_kept}
-use Rattle.air_builder.specs.Labels.{Labelled, without_labels, discarding, NamedLaws}
+use Rattle.air_builder.specs.Filters.{KeptInside}
+use Rattle.air_builder.specs.Labels.{Labelled}
 
 -- a labelled assertion where a condition holds
 abbrev pub filtered_label : {F : Type 0} → Term F → Labelled F → Labelled F
@@ -16,69 +14,3 @@ pub record LabelledInside {S E F N : Type 0} (kept : S → S → Type 0) (labell
     (means : S → E → Term F → Type 0) (n m : N) (x y : E) (a b : S) (ls : List (Labelled F)) : Type 0 where
   pub keeps : KeptInside kept n m x y a b
   pub by : (c : Term F) → means a x c → labelled a b (map (filtered_label c) ls)
-
-without_labels-append : {F : Type 0} (xs ys : List (Labelled F)) → without_labels (xs ++ ys) ≡ without_labels xs ++ without_labels ys
-without_labels-append [] ys = refl
-without_labels-append (x ∷ xs) ys = ap (λ zs. x.0 ∷ zs) (without_labels-append xs ys)
-
-without_labels-filtered : {F : Type 0} (c : Term F) (ls : List (Labelled F)) → without_labels (map (filtered_label c) ls) ≡ map (filtered c) (without_labels ls)
-without_labels-filtered c [] = refl
-without_labels-filtered c (l ∷ ls) = ap (λ zs. filtered c l.0 ∷ zs) (without_labels-filtered c ls)
-
-module _ {S R E F : Type 0} {view : BuilderView S R E F} (laws : BuilderLaws view) where
-  open view use {grew}
-
-  -- a builder that discards labels
-  pub discarding_laws : NamedLaws grew (discarding grew)
-  discarding_laws = record {
-    labelled_nothing = λ a b g. g;
-    labelled_joined = λ a b c xs ys g h. subst (λ zs. grew a c zs) (sym (without_labels-append xs ys)) (laws.joined a b c (without_labels xs) (without_labels ys) g h);
-    labelled_grew = λ a b xs g. g;
-  }
-
-module _ {S R E F : Type 0} {view : BuilderView S R E F} {labelled : S → S → List (Labelled F) → Type 0}
-    (ring : RingLaws view) (laws : BuilderLaws view) (named : NamedLaws view.grew labelled) where
-  open view use {kept, grew}
-
-  module _ {N : Type 0} where
-    inside_joined : (n m k : N) (x y z : E) (a b c : S) (xs ys : List (Labelled F))
-        → LabelledInside kept labelled (MeansIn view) n m x y a b xs
-        → LabelledInside kept labelled (MeansIn view) m k y z b c ys
-        → LabelledInside kept labelled (MeansIn view) n k x z a c (xs ++ ys)
-    inside_joined n m k x y z a b c xs ys g h = record {
-      keeps = record {
-        same_reference = h.keeps.same_reference ∙ g.keeps.same_reference;
-        same_condition = h.keeps.same_condition ∙ g.keeps.same_condition;
-        inside = laws.kept_joined a b c g.keeps.inside h.keeps.inside;
-      };
-      by = λ t m. subst (λ zs. labelled a c zs) (sym (map-append (filtered_label t) xs ys))
-          (named.labelled_joined a b c (map (filtered_label t) xs) (map (filtered_label t) ys) (g.by t m)
-          (h.by t (subst (λ e. MeansIn view b e t) (sym g.keeps.same_condition) (means_kept ring laws a b x t g.keeps.inside m))));
-    }
-
-    inside_grew : (n m : N) (x y : E) (a b : S) (ls : List (Labelled F))
-        → LabelledInside kept labelled (MeansIn view) n m x y a b ls
-        → GrewInside kept grew (MeansIn view) n m x y a b (without_labels ls)
-    inside_grew n m x y a b ls g = record {
-      keeps = g.keeps;
-      by = λ t k. subst (λ zs. grew a b zs) (without_labels-filtered t ls) (named.labelled_grew a b (map (filtered_label t) ls) (g.by t k));
-    }
-
-    -- a builder after a filter on it is done
-    pub after_named_filter : (n m : N) (x y : E) (a b i j : S) (us ls : List (Labelled F)) (t : Term F)
-        → labelled a i us → MeansIn view i x t → LabelledInside kept labelled (MeansIn view) n m x y i j ls → b ≡ j
-        → labelled a b (us ++ map (filtered_label t) ls)
-    after_named_filter n m x y a b i j us ls t u p g e = subst (λ s. labelled a s (us ++ map (filtered_label t) ls)) (sym e) (named.labelled_joined a i j us (map (filtered_label t) ls) u (g.by t p))
-
-  module _ {N P : Type 0} (inner : P → S) (name : P → N) (condition : P → E) where
-    -- a filter keeps the laws of the named builder inside
-    pub named_filter_laws : NamedLaws
-        (λ p q ts. GrewInside kept grew (MeansIn view) (name p) (name q) (condition p) (condition q) (inner p)
-        (inner q) ts)
-        (λ p q ls. LabelledInside kept labelled (MeansIn view) (name p) (name q) (condition p) (condition q)
-        (inner p) (inner q) ls)
-    named_filter_laws = record {
-      labelled_nothing = λ p q g. record { keeps = g.keeps; by = λ c m. named.labelled_nothing (inner p) (inner q) (g.by c m) };
-      labelled_joined = λ p q s xs ys g h. inside_joined (name p) (name q) (name s) (condition p) (condition q) (condition s) (inner p) (inner q) (inner s) xs ys g h;
-      labelled_grew = λ p q ls g. inside_grew (name p) (name q) (condition p) (condition q) (inner p) (inner q) ls g;
-    }

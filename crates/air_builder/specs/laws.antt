@@ -1,3 +1,8 @@
 -- Laws of what specs/ defines: implementations cite them, and the layers above build on them.
 pub mod Refusals
 pub mod Refused
+pub mod Labels
+pub mod Filters
+pub mod NamedFilters
+pub mod ExtensionFilters
+pub mod Extensions

@@ -5,7 +5,7 @@ use Rattle.air_field.specs.declared.errors.RingError.{RingError}
 use Rattle.air_windows.specs.declared.errors.AirError.TheVariants.{RowOffset}
 use Rattle.air_windows.specs.Errors.{air_error}
 use Rattle.air_builder.specs.Builders.{MeansIn, BuilderView, RingLaws, BuilderLaws}
-use Rattle.air_builder.specs.Filters.{means_kept}
+use Rattle.air_builder.specs.laws.Filters.{means_kept}
 use Rattle.air_builder.specs.Refusals.{IsPastWindow, EachLeaf}
 use Rattle.air_author.specs.Expressions.{Made}
 use Rattle.air_author.specs.Handing.{each_weaker, made_lasts}

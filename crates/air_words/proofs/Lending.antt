@@ -9,7 +9,7 @@ use Rattle.air_windows.specs.Errors.{air_error}
 use Rattle.air_builder.specs.Assertion.{Base}
 use Rattle.air_builder.specs.Batches.{Each, AssertsOf, GrewByEach, GrewByBeginning, GrewByFirst, RefusesByEach}
 use Rattle.air_builder.specs.Builders.{MeansIn, BuilderView, RingLaws, BuilderLaws}
-use Rattle.air_builder.specs.Filters.{means_lent}
+use Rattle.air_builder.specs.laws.Filters.{means_lent}
 use Rattle.air_builder.specs.Refusals.{PartOf}
 use Rattle.air_words.specs.Words.{Limbs}
 use Rattle.air_words.specs.Gadgets.{LimbsMean, VariableMeans, RefusesOne}

@@ -1,6 +1,7 @@
 //! Filters on builders over an extension.
 ghost use Rattle.std.specs.Prelude.{IfOk, IfErr, refl};
-ghost use Rattle.air_builder.specs.ExtensionFilters.{MadeUnder, RefusedUnder, extension_filter_laws};
+ghost use Rattle.air_builder.specs.ExtensionFilters.{MadeUnder, RefusedUnder};
+ghost use Rattle.air_builder.specs.laws.ExtensionFilters.{extension_filter_laws};
 
 use crate::builders::air_builder::AirBuilder;
 use crate::builders::extension::ExtensionBuilder;

@@ -1,7 +1,8 @@
 //! Filters: builders that assert where a condition holds.
 ghost use Rattle.std.specs.Prelude.{◌≡◌, refl};
 ghost use Rattle.air_builder.specs.Builders.{Means};
-ghost use Rattle.air_builder.specs.Filters.{KeptInside, GrewInside, RefusesInside, filter_laws};
+ghost use Rattle.air_builder.specs.Filters.{KeptInside, GrewInside, RefusesInside};
+ghost use Rattle.air_builder.specs.laws.Filters.{filter_laws};
 
 use crate::builders::air_builder::AirBuilder;
 use air_field::Algebra;

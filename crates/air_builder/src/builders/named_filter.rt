@@ -1,6 +1,7 @@
 //! Filters on named builders.
 ghost use Rattle.air_builder.specs.Builders.{Means};
-ghost use Rattle.air_builder.specs.NamedFilters.{LabelledInside, named_filter_laws};
+ghost use Rattle.air_builder.specs.NamedFilters.{LabelledInside};
+ghost use Rattle.air_builder.specs.laws.NamedFilters.{named_filter_laws};
 
 use crate::builders::air_builder::AirBuilder;
 use crate::builders::filtered::FilteredAirBuilder;

@@ -1,7 +1,7 @@
 //! The folder discards labels, and has no context.
 ghost use Rattle.std.specs.Prelude.{refl};
 ghost use Rattle.air_builder.specs.Labels.{discarding};
-ghost use Rattle.air_builder.specs.NamedFilters.{discarding_laws};
+ghost use Rattle.air_builder.specs.laws.NamedFilters.{discarding_laws};
 ghost use Rattle.air_folder.specs.laws.Folder.{folder_laws};
 
 use crate::folder::builder::ConstraintFolder;

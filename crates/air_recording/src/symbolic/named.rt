@@ -3,7 +3,7 @@ ghost use Rattle.std.specs.Prelude.{refl};
 ghost use Rattle.air_symbolic.specs.laws.BasePool.{base_pool_laws};
 ghost use Rattle.air_symbolic.specs.laws.ExtPool.{ext_pool_laws, base_lent, base_grown};
 ghost use Rattle.air_builder.specs.Labels.{discarding};
-ghost use Rattle.air_builder.specs.NamedFilters.{discarding_laws};
+ghost use Rattle.air_builder.specs.laws.NamedFilters.{discarding_laws};
 ghost use Rattle.air_recording.specs.laws.Recording.{recording_laws};
 ghost use Rattle.air_recording.specs.RecordedLists.{lists_of};
 ghost use Rattle.air_recording.specs.SymbolicParts.{fixed_by};

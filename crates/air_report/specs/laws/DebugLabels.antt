@@ -6,6 +6,7 @@ use Rattle.std.proofs.lemmas.List.{map-append, append-nil}
 use Rattle.std.proofs.lemmas.List.Elements.{filter-append, All-append, All-nil, All-cons}
 use Rattle.air_builder.specs.Assertion.{Assertion}
 use Rattle.air_builder.specs.Batches.{Each}
+use Rattle.air_builder.specs.laws.Labels.{without_labels-append}
 use Rattle.air_builder.specs.Labels.{Label, Unasked, Shown, Labelled, IsSaid, without_labels, NamedLaws}
 use Rattle.air_report.specs.Report.{failure_place}
 use Rattle.air_report.specs.Debug.{RowData, GrewAtRow}
@@ -34,9 +35,6 @@ none_placed (f ∷ fs) e = cc
 
 labels_where-append : {F : Type 0} (test : Labelled F → Bool) (xs ys : List (Labelled F)) → map (λ l. l.1) (filter test (xs ++ ys)) ≡ map (λ l. l.1) (filter test xs) ++ map (λ l. l.1) (filter test ys)
 labels_where-append test xs ys = ap (λ ls. map (λ l. l.1) ls) (filter-append test xs ys) ∙ map-append (λ l. l.1) (filter test xs) (filter test ys)
-
-without_labels-append : {F : Type 0} (xs ys : List (Labelled F)) → without_labels (xs ++ ys) ≡ without_labels xs ++ without_labels ys
-without_labels-append xs ys = map-append (λ l. l.0) xs ys
 
 -- what holds of an error holds of it in weaker words
 pub if_err_weaker : {T X : Type 0} {P Q : X → Type 0} (r : Result T X) → ((e : X) → P e → Q e) → IfErr r P → IfErr r Q

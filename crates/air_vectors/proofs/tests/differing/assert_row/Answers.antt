@@ -4,7 +4,7 @@ use Rattle.air_field.specs.Algebra.{bool_check_term}
 use Rattle.air_field.specs.Term.{Term, sub_term, mul_term}
 use Rattle.air_builder.specs.Assertion.{Assertion, Base}
 use Rattle.air_builder.specs.Builders.{Means}
-use Rattle.air_builder.specs.Filters.{means_kept, inside_joined, inside_refused, refused_filter, after_filter}
+use Rattle.air_builder.specs.laws.Filters.{means_kept, inside_joined, inside_refused, refused_filter, after_filter}
 use Rattle.air_vectors.specs.Differing.{x_term, y_term, z_term, differing}
 use Rattle.air_vectors.proofs.DifferingParts.{part_condition, moved}
 use Rattle.air_vectors.proofs.tests.differing.assert_row.Goals as goal

@@ -1,5 +1,5 @@
 use Rattle.std.proofs.lemmas.Result.{err_from_is_err_and}
-use Rattle.air_builder.specs.Extensions.{over_extension}
+use Rattle.air_builder.specs.laws.Extensions.{over_extension}
 use Rattle.air_author.proofs.Making.{ring_refused}
 use Rattle.air_author.proofs.expressions.extension.ExtConstantEFExtExpression.make_ext.Goals as goal
 

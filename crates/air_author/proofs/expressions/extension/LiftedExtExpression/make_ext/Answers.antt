@@ -1,7 +1,7 @@
 use Rattle.std.proofs.Common.{[], subst, sym}
 use Rattle.std.proofs.lemmas.Result.{err_from_is_err_and}
 use Rattle.air_field.specs.Term.{with_leaves}
-use Rattle.air_builder.specs.Extensions.{over_extension}
+use Rattle.air_builder.specs.laws.Extensions.{over_extension}
 use Rattle.air_author.proofs.Making.{ring_refused, ring_made}
 use Rattle.air_author.proofs.expressions.extension.LiftedExtExpression.make_ext.Goals as goal
 

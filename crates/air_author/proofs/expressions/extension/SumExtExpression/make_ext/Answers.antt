@@ -1,6 +1,6 @@
 use Rattle.std.proofs.lemmas.Result.{err_from_is_err_and}
 use Rattle.air_field.specs.Part.{whole, in_add_left, in_add_right}
-use Rattle.air_builder.specs.Extensions.{over_extension}
+use Rattle.air_builder.specs.laws.Extensions.{over_extension}
 use Rattle.air_author.proofs.Making.{part_refused, then_refused, both_refused, both_made, still_has}
 use Rattle.air_author.proofs.expressions.extension.SumExtExpression.make_ext.Goals as goal
 

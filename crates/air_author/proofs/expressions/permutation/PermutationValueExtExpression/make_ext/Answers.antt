@@ -1,7 +1,7 @@
 use Rattle.std.proofs.lemmas.Result.{err_from_is_err_and}
 use Rattle.std.proofs.Common.{sym, ◌∙◌}
 use Rattle.air_field.specs.Term.{permutation_value, leaf_term}
-use Rattle.air_builder.specs.Extensions.{over_extension}
+use Rattle.air_builder.specs.laws.Extensions.{over_extension}
 use Rattle.air_author.proofs.Making.{ring_refused, ring_made, some_none}
 use Rattle.air_author.proofs.expressions.permutation.PermutationValueExtExpression.make_ext.Goals as goal
 

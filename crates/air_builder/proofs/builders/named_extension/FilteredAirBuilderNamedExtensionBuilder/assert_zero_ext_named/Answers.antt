@@ -1,7 +1,7 @@
 use Rattle.std.proofs.Common.{[], refl}
 use Rattle.std.proofs.lemmas.Result.{on_ok_weaker, on_err_weaker, IfErr-weaker, err_from_is_err_and}
 use Rattle.air_field.specs.Term.{with_leaves, mul_term}
-use Rattle.air_builder.specs.Extensions.{over_extension}
+use Rattle.air_builder.specs.laws.Extensions.{over_extension}
 use Rattle.air_builder.proofs.Growth.{lent_then, lent_kept}
 use Rattle.air_builder.proofs.ExtensionLabelGrowth.{lent_labelled_ext}
 use Rattle.air_builder.proofs.ExtensionGrowth.{lent_grew_ext, lent_refuses_ext, ring_refuses_ext, base_means_in}
