@@ -1,25 +1,20 @@
 -- Growth under labels.
 use Rattle.std.proofs.Common.{◌≡◌, ◌<◌, ◌≤◌, ℕ, ◌+◌, List, [], ◌∷◌, ◌++◌, length, take, get_or, Option, refl, ap, subst, sym, ◌∙◌, arith, length-append, append-nil}
 use Rattle.std.proofs.lemmas.List.{take_more, take_all, length-take-le}
-use Rattle.std.specs.List.{zip}
+use Rattle.std.specs.List.{AllZip, zip}
 use Rattle.air_field.specs.Term.{Term, with_leaves}
 use Rattle.air_builder.specs.Assertion.{Assertion, Base}
-use Rattle.air_builder.specs.Batches.{Each, AssertsOf, GrewByEach, GrewByBeginning}
+use Rattle.air_builder.specs.Batches.{AssertsOf, GrewByEach, GrewByBeginning}
 use Rattle.air_builder.specs.Builders.{MeansIn, BuilderView, RingLaws, BuilderLaws, GrewOf, GrewOfBoth}
 use Rattle.air_builder.specs.Labels.{Label, Labelled, IsSaid, AreSaidFrom, without_labels, LabelledOf, LabelledOfBoth, LabelledByEach, LabelledByBeginning, NamedLaws}
 use Rattle.air_builder.proofs.Growth.{lent, lent_means, means_in}
-use Rattle.air_builder.proofs.EachGrowth.{Each-append, Each-nil}
+use Rattle.std.proofs.lemmas.Slice.Zip.{AllZip-long}
+use Rattle.air_builder.specs.laws.Zips.{AllZip-parts, AllZip-nil}
 
 AreSaidFrom-more : (says : ℕ → Option (List ℕ) → Type 0) (i j : ℕ) (ls : List Label) (l : Label) → j ≡ i + length ls
     → AreSaidFrom says i ls → IsSaid (says j) l → AreSaidFrom says i (ls ++ (l ∷ []))
 AreSaidFrom-more says i j [] l e h said = (let same : j ≡ i = omega arith in subst (λ k. IsSaid (says k) l) same said, tt)
 AreSaidFrom-more says i j (k ∷ ls) l e h said = (h.0, AreSaidFrom-more says (i + 1) j ls l (omega arith) h.1 said)
-
-Each-length : {A B : Type 0} (R : A → B → Type 0) (xs : List A) (ys : List B) → Each R xs ys → length ys ≡ length xs
-Each-length R [] [] h = refl
-Each-length R [] (y ∷ ys) h = absurd h
-Each-length R (x ∷ xs) [] h = absurd h
-Each-length R (x ∷ xs) (y ∷ ys) h = let more = Each-length R xs ys h.1 in omega arith
 
 zip-more : {A B : Type 0} (xs : List A) (ys : List B) (x : A) (y : B) → length xs ≡ length ys
     → zip (xs ++ (x ∷ [])) (ys ++ (y ∷ [])) ≡ zip xs ys ++ ((x, y) ∷ [])
@@ -49,7 +44,7 @@ module _ {S F : Type 0} {grew : S → S → List (Assertion F) → Type 0} {labe
       → Type 0} {a b : S} {xs : List I}
       → LabelledByEach asserts labelled says a b xs → GrewByEach asserts grew a b xs
   labels_grew {asserts = asserts} {a = a} {b = b} {xs = xs} h ss e =
-      subst (λ zs. grew a b zs) (without_labels-zip ss h.labels (h.as_many ∙ sym (Each-length (asserts a) xs ss e))) (named.labelled_grew a b (zip ss h.labels) (h.grown ss e))
+      subst (λ zs. grew a b zs) (without_labels-zip ss h.labels (h.as_many ∙ sym (AllZip-long (asserts a) xs ss e))) (named.labelled_grew a b (zip ss h.labels) (h.grown ss e))
 
   -- the same where the loop is at its end
   pub labels_grew_whole : {I : Type 0} {asserts : S → I → Assertion F → Type 0} {says : ℕ → Option (List ℕ)
@@ -79,7 +74,7 @@ module _ {S R E F : Type 0} {view : BuilderView S R E F} {labelled : S → S →
       labels = [];
       as_many = refl;
       said = tt;
-      grown = λ ss h. subst (λ zs. labelled a a (zip zs [])) (sym (Each-nil (asserts a) ss h)) (named.labelled_nothing a a (laws.same a));
+      grown = λ ss h. subst (λ zs. labelled a a (zip zs [])) (sym (AllZip-nil (asserts a) ss h)) (named.labelled_nothing a a (laws.same a));
     }
 
     -- one element more
@@ -97,9 +92,9 @@ module _ {S R E F : Type 0} {view : BuilderView S R E F} {labelled : S → S →
           as_many = rw length-append (omega arith);
           said = AreSaidFrom-more says 0 i g.labels l (omega arith) g.said said;
           grown = λ ss h.
-              let parts = Each-append (asserts a) (take i xs) x [] ss (subst (λ v. Each (asserts a) v ss) here h) in
-              let whole : ss ≡ parts.0 ++ (parts.1 ∷ []) = parts.3 ∙ ap (λ v. parts.0 ++ (parts.1 ∷ v)) (Each-nil (asserts a) parts.2 parts.6) in
-              let as_long : length parts.0 ≡ length g.labels = Each-length (asserts a) (take i xs) parts.0 parts.4 ∙ sym g.as_many in
+              let parts = AllZip-parts (asserts a) (take i xs) x [] ss (subst (λ v. AllZip (asserts a) v ss) here h) in
+              let whole : ss ≡ parts.0 ++ (parts.1 ∷ []) = parts.3 ∙ ap (λ v. parts.0 ++ (parts.1 ∷ v)) (AllZip-nil (asserts a) parts.2 parts.6) in
+              let as_long : length parts.0 ≡ length g.labels = AllZip-long (asserts a) (take i xs) parts.0 parts.4 ∙ sym g.as_many in
               subst (λ v. labelled a c v) (sym (ap (λ v. zip v (g.labels ++ (l ∷ []))) whole ∙ zip-more parts.0 g.labels parts.1 l as_long))
               (named.labelled_joined a b c (zip parts.0 g.labels) ((parts.1, l) ∷ []) (g.grown parts.0 parts.4) (one parts.1 (asserts_kept a b k x parts.1 parts.5)));
         }

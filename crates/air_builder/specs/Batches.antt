@@ -1,14 +1,8 @@
 -- Growth by a list of elements, one after another.
+use Rattle.std.specs.List.{AllZip}
 use Rattle.std.specs.Prelude.{◌≡◌, ℕ, ◌<◌, List, [], ◌∷◌, length, take}
 use Rattle.air_field.specs.Term.{Term}
 use Rattle.air_builder.specs.Assertion.{Assertion, Base}
-
--- the relation holds of the elements at each place, and there are as many
-abbrev pub Each : {A B : Type 0} → (A → B → Type 0) → List A → List B → Type 0
-Each R [] [] = Unit {0}
-Each R [] (y ∷ ys) = ⊥
-Each R (x ∷ xs) [] = ⊥
-Each R (x ∷ xs) (y ∷ ys) = R x y × Each R xs ys
 
 -- the assertion is that of the operation of a term that x means
 abbrev pub AssertsOf : {S E F : Type 0} → (S → E → Term F → Type 0) → (Term F → Term F) → S → E → Assertion F → Type 0
@@ -20,7 +14,7 @@ AssertsOfBoth {F = F} means op a p s = (t : Term F) × (u : Term F) × means a p
 
 -- the builder grew by what each element asserts, in order
 abbrev pub GrewByEach : {S I F : Type 0} → (S → I → Assertion F → Type 0) → (S → S → List (Assertion F) → Type 0) → S → S → List I → Type 0
-GrewByEach {F = F} asserts grew a b xs = (ss : List (Assertion F)) → Each (asserts a) xs ss → grew a b ss
+GrewByEach {F = F} asserts grew a b xs = (ss : List (Assertion F)) → AllZip (asserts a) xs ss → grew a b ss
 
 -- the builder grew by what some of the elements assert, the first ones and not all
 pub record GrewByBeginning {S I F : Type 0} (asserts : S → I → Assertion F → Type 0) (grew : S → S → List (Assertion F) → Type 0) (a b : S) (xs : List I) : Type 0 where
@@ -36,4 +30,4 @@ pub record GrewByFirst {S F : Type 0} (grew : S → S → List (Assertion F) →
 
 -- growing by what each element asserts may be refused with e
 abbrev pub RefusesByEach : {S I F X : Type 0} → (S → I → Assertion F → Type 0) → (S → X → List (Assertion F) → Type 0) → S → List I → X → Type 0
-RefusesByEach {F = F} asserts refuses a xs e = (ss : List (Assertion F)) → Each (asserts a) xs ss → refuses a e ss
+RefusesByEach {F = F} asserts refuses a xs e = (ss : List (Assertion F)) → AllZip (asserts a) xs ss → refuses a e ss

@@ -1,9 +1,8 @@
 -- Growth by assertions that have labels.
 use Rattle.std.specs.Prelude.{◌≡◌, ℕ, ◌+◌, ◌<◌, List, [], ◌∷◌, ◌++◌, length, take, map, Option}
-use Rattle.std.specs.List.{zip}
+use Rattle.std.specs.List.{AllZip, zip}
 use Rattle.air_field.specs.Term.{Term}
 use Rattle.air_builder.specs.Assertion.{Assertion, Base}
-use Rattle.air_builder.specs.Batches.{Each}
 
 -- what became of an assertion's name: nothing asked for it, or it was evaluated and displays this text
 pub data Label : Type 0 where
@@ -49,7 +48,7 @@ pub record LabelledByEach {S I F : Type 0} (asserts : S → I → Assertion F �
   pub labels : List Label
   pub as_many : length labels ≡ length xs
   pub said : AreSaidFrom says 0 labels
-  pub grown : (ss : List (Assertion F)) → Each (asserts a) xs ss → labelled a b (zip ss labels)
+  pub grown : (ss : List (Assertion F)) → AllZip (asserts a) xs ss → labelled a b (zip ss labels)
 
 -- the same, of some of the elements, the first ones and not all
 pub record LabelledByBeginning {S I F : Type 0} (asserts : S → I → Assertion F → Type 0) (labelled : S → S → List (Labelled F) → Type 0) (says : ℕ → Option (List ℕ) → Type 0) (a b : S) (xs : List I) : Type 0 where

@@ -6,3 +6,5 @@ pub mod Filters
 pub mod NamedFilters
 pub mod ExtensionFilters
 pub mod Extensions
+pub mod Batches
+pub mod Zips

@@ -1,11 +1,14 @@
 -- The assertion of roots.
-use Rattle.std.proofs.Common.{◌≡◌, ℕ, zero, suc, ◌<◌, List, [], ◌∷◌, length, map, take, All, Result, Ok, Err, OnOk, OnErr, IfErr, inl, inr, refl, arith}
+use Rattle.std.specs.List.{AllZip}
+use Rattle.std.proofs.Common.{◌≡◌, ℕ, zero, suc, ◌<◌, List, [], ◌∷◌, length, map, take, All, Result, Ok, Err, OnOk, OnErr, IfErr, inl, inr, refl, sym, arith}
 use Rattle.std.proofs.lemmas.List.{length-map}
 use Rattle.air_field.specs.Part.{whole}
 use Rattle.air_field.specs.Term.{Leaf, Term, with_leaves}
 use Rattle.air_windows.specs.declared.errors.AirError.{AirError}
 use Rattle.air_builder.specs.Assertion.{Assertion, Base}
-use Rattle.air_builder.specs.Batches.{Each, AssertsOf, GrewByEach, GrewByBeginning, RefusesByEach}
+use Rattle.air_builder.specs.laws.Zips.{AllZip-take}
+use Rattle.std.proofs.lemmas.Slice.Zip.{AllZip-long}
+use Rattle.air_builder.specs.Batches.{AssertsOf, GrewByEach, GrewByBeginning, RefusesByEach}
 use Rattle.air_builder.specs.Builders.{MeansIn, BuilderView, RingLaws, BuilderLaws}
 use Rattle.air_builder.specs.Refusals.{PartOf, EachLeaf, EachLeafOf}
 use Rattle.air_builder.specs.laws.Refusals.{none_missing}
@@ -28,22 +31,9 @@ leaves_of : {F : Type 0} (P : Leaf → Type 0) (ts : List (Term F)) → All (λ 
 leaves_of P [] h = tt
 leaves_of P (t ∷ ts) h = (h 0 t (omega arith), leaves_of P ts (all_rest (λ u. EachLeaf P u) t ts h))
 
-each_length : {A B : Type 0} (R : A → B → Type 0) (xs : List A) (ys : List B) → Each R xs ys → length xs ≡ length ys
-each_length R [] [] h = refl
-each_length R [] (y ∷ ys) h = absurd h
-each_length R (x ∷ xs) [] h = absurd h
-each_length R (x ∷ xs) (y ∷ ys) h = let e = each_length R xs ys h.1 in omega (arith, e)
-
-each_take : {A B : Type 0} (R : A → B → Type 0) (n : ℕ) (xs : List A) (ys : List B) → Each R xs ys → Each R (take n xs) (take n ys)
-each_take R zero xs ys h = tt
-each_take R (suc n) [] [] h = tt
-each_take R (suc n) [] (y ∷ ys) h = absurd h
-each_take R (suc n) (x ∷ xs) [] h = absurd h
-each_take R (suc n) (x ∷ xs) (y ∷ ys) h = (h.0, each_take R n xs ys h.1)
-
 -- what each expression asserts
 each_asserts : {S E F : Type 0} (means : S → E → Term F → Type 0) (b : S) (xs : List E) (ts : List (Term F))
-    → Each (λ x t. means b x t) xs ts → Each (AssertsOf means (λ t. t) b) xs (map (λ t. Base t) ts)
+    → AllZip (λ x t. means b x t) xs ts → AllZip (AssertsOf means (λ t. t) b) xs (map (λ t. Base t) ts)
 each_asserts means b [] [] h = tt
 each_asserts means b [] (t ∷ ts) h = absurd h
 each_asserts means b (x ∷ xs) [] h = absurd h
@@ -53,7 +43,7 @@ module _ {S R E F : Type 0} {view : BuilderView S R E F} (ring : RingLaws view) 
   open view use {has, ring_of, stands, kept, grew, missing, refuses}
 
   -- what means a term is of the ring
-  pub all_has : (b : S) (xs : List E) (ts : List (Term F)) → Each (λ x t. MeansIn view b x t) xs ts → All (λ x. has (ring_of b) x) xs
+  pub all_has : (b : S) (xs : List E) (ts : List (Term F)) → AllZip (λ x t. MeansIn view b x t) xs ts → All (λ x. has (ring_of b) x) xs
   all_has b [] [] h = λ k d lt. absurd (omega (arith, lt))
   all_has b [] (t ∷ ts) h = absurd h
   all_has b (x ∷ xs) [] h = absurd h
@@ -61,7 +51,7 @@ module _ {S R E F : Type 0} {view : BuilderView S R E F} (ring : RingLaws view) 
 
   -- each root's expression was made, and asserted to be zero
   pub roots_asserted : (a b d : S) (xs : List E) (ts : List (Term F)) (r : Result (Unit {0}) AirError) → grew a b []
-      → Each (λ x t. MeansIn view b x t) xs ts → All (λ t. EachLeaf (λ l. missing a l → ⊥) t) ts → kept b d
+      → AllZip (λ x t. MeansIn view b x t) xs ts → All (λ t. EachLeaf (λ l. missing a l → ⊥) t) ts → kept b d
       → OnOk r (GrewByEach (AssertsOf (MeansIn view) (λ t. t)) grew b d xs)
       → OnErr r (GrewByBeginning (AssertsOf (MeansIn view) (λ t. t)) grew b d xs)
       → IfErr r (λ e. RefusesByEach (AssertsOf (MeansIn view) (λ t. t)) refuses b xs e)
@@ -76,7 +66,7 @@ module _ {S R E F : Type 0} {view : BuilderView S R E F} (ring : RingLaws view) 
   roots_asserted a b d xs ts (Err e) g made there k ok none f =
       let ss : List (Assertion F) = map (λ t. Base t) ts in
       let each = each_asserts (MeansIn view) b xs ts made in
-      let len = each_length _ xs ss each in
+      let len = sym (AllZip-long _ xs ss each) in
       let within = none.within in
       record {
         keeps = laws.kept_joined a b d (laws.by_growth a b [] g) k;
@@ -85,7 +75,7 @@ module _ {S R E F : Type 0} {view : BuilderView S R E F} (ring : RingLaws view) 
         err = record {
           count = none.count;
           within = omega (arith, len, within);
-          beginning = laws.joined a b d [] (take none.count ss) g (none.beginning (take none.count ss) (each_take _ none.count xs ss each));
+          beginning = laws.joined a b d [] (take none.count ss) g (none.beginning (take none.count ss) (AllZip-take _ none.count xs ss each));
         };
         refused = inr (laws.refuses_then a b e [] ss g (f ss each));
       }

@@ -1,4 +1,5 @@
 -- The expressions of roots, read from the table.
+use Rattle.std.specs.List.{AllZip}
 use Rattle.std.proofs.Common.{◌≡◌, ◌≢◌, ℕ, suc, ◌+◌, ◌<◌, List, [], ◌∷◌, ◌++◌, length, get_or, map, take, All, Option, None, Some, Result, Ok, Err, IfOk, IfErr, Vec, inl, sym, ap, subst, ◌∙◌, arith}
 use Rattle.std.specs.Global.{Global}
 use Rattle.std.proofs.lemmas.List.{take_more, get_or-map, length-map}
@@ -6,7 +7,7 @@ use Rattle.std.proofs.lemmas.List.Elements.{All-map}
 use Rattle.air_field.specs.Term.{Term}
 use Rattle.air_windows.specs.declared.errors.AirError.{AirError}
 use Rattle.air_windows.specs.declared.errors.AirError.TheVariants.{Memory}
-use Rattle.air_builder.specs.Batches.{Each}
+use Rattle.air_builder.specs.laws.Zips.{AllZip-joined}
 use Rattle.air_builder.specs.Builders.{MeansIn, BuilderView, RingLaws, BuilderLaws}
 use Rattle.air_builder.specs.Refusals.{EachLeaf}
 use Rattle.air_flat.specs.Tables.{IsMade, HasOne, HasAt, MadeAll, OrMemory}
@@ -26,25 +27,18 @@ has_some P o (x, e, p) n = none (sym e ∙ n)
     none : Some x ≡ None → ⊥
     none e = cc
 
-each_push : {A B : Type 0} (R : A → B → Type 0) (xs : List A) (ys : List B) (x : A) (y : B) → Each R xs ys → R x y
-    → Each R (xs ++ x ∷ []) (ys ++ y ∷ [])
-each_push R [] [] x y h r = (r, tt)
-each_push R [] (b ∷ ys) x y h r = absurd h
-each_push R (a ∷ xs) [] x y h r = absurd h
-each_push R (a ∷ xs) (b ∷ ys) x y h r = (h.0, each_push R xs ys x y h.1 r)
-
 -- one root more was read
 pub one_more_read : {A B : Type 0} (R : A → B → Type 0) (xs : List A) (ys : List B) (k : ℕ) (x : A) (y : B)
-    → k < length ys → y ≡ get_or ys k y → Each R xs (take k ys) → R x y → Each R (xs ++ x ∷ []) (take (k + 1) ys)
+    → k < length ys → y ≡ get_or ys k y → AllZip R xs (take k ys) → R x y → AllZip R (xs ++ x ∷ []) (take (k + 1) ys)
 one_more_read R xs ys k x y lt is h r =
     let here : take (k + 1) ys ≡ take k ys ++ (y ∷ []) = take_more ys k y lt ∙ ap (λ v. take k ys ++ (v ∷ [])) (sym is) in
-    subst (λ v. Each R (xs ++ x ∷ []) v) (sym here) (each_push R xs (take k ys) x y h r)
+    subst (λ v. AllZip R (xs ++ x ∷ []) v) (sym here) (AllZip-joined R xs (x ∷ []) (take k ys) (y ∷ []) h (r, tt))
 
 -- what was read of a table means what the table's entries do
 each_read : {E F : Type 0} (means : E → Term F → Type 0) (term : ℕ → Term F) (table : List (Option E)) (xs : List E)
     (roots : List ℕ)
-    → All (λ i. HasAt (λ x. means x (term i)) table i) roots → Each (λ x i. get_or table i None ≡ Some x) xs roots
-    → Each means xs (map term roots)
+    → All (λ i. HasAt (λ x. means x (term i)) table i) roots → AllZip (λ x i. get_or table i None ≡ Some x) xs roots
+    → AllZip means xs (map term roots)
 each_read means term table [] [] h e = tt
 each_read means term table [] (i ∷ roots) h e = absurd e
 each_read means term table (x ∷ xs) [] h e = absurd e
@@ -63,7 +57,7 @@ module _ {S R E F : Type 0} {view : BuilderView S R E F} (ring : RingLaws view) 
   pub all_made : (a b : S) (term : ℕ → Term F) (table : List (Option E)) (roots : List ℕ)
       (r : Result (Vec E Global) AirError)
       → grew a b [] → All (λ i. HasAt (IsMade (MeansIn view) missing b (term i)) table i) roots
-      → IfOk r (λ xs. Each (λ x i. get_or table i None ≡ Some x) xs.items roots) → IfErr r (λ e. e ≡ Memory)
+      → IfOk r (λ xs. AllZip (λ x i. get_or table i None ≡ Some x) xs.items roots) → IfErr r (λ e. e ≡ Memory)
       → MadeAll (MeansIn view) grew missing (OrMemory refuses) a b r (map term roots)
   all_made a b term table roots (Ok xs) g h read memory = record {
     keeps = g;

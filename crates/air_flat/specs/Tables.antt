@@ -1,4 +1,5 @@
 -- Expressions by the numbers of a pool.
+use Rattle.std.specs.List.{AllZip}
 use Rattle.std.specs.Prelude.{◌≡◌, ◌⊎◌, ℕ, List, [], get_or, All, Option, Some, None, Result, Vec, OnOk, IfOk, IfErr}
 use Rattle.std.specs.Global.{Global}
 use Rattle.air_field.specs.Term.{Leaf, Term}
@@ -9,7 +10,6 @@ use Rattle.air_symbolic.specs.declared.pools.expr.SymbolicExpr.{SymbolicExpr}
 use Rattle.air_windows.specs.declared.errors.AirError.{AirError}
 use Rattle.air_windows.specs.declared.errors.AirError.TheVariants.{Memory}
 use Rattle.air_builder.specs.Assertion.{Assertion}
-use Rattle.air_builder.specs.Batches.{Each}
 use Rattle.air_builder.specs.Refusals.{PartOf, EachLeaf}
 use Rattle.air_author.specs.Expressions.{Made, Holds}
 use Rattle.air_symbolic.specs.Reach.{EachOperand}
@@ -50,6 +50,6 @@ MadeFromBoth {F = F} means grew missing refuses op a b r x y = (t u : Term F) �
 -- may be one of any list that has each of the terms as a part.
 pub record MadeAll {S E F X : Type 0} (means : S → E → Term F → Type 0) (grew : S → S → List (Assertion F) → Type 0) (missing : S → Leaf → Type 0) (refuses : S → X → List (Assertion F) → Type 0) (a b : S) (r : Result (Vec E Global) X) (ts : List (Term F)) : Type 0 where
   pub keeps : grew a b []
-  pub made : IfOk r (λ xs. Each (λ x t. means b x t) xs.items ts)
+  pub made : IfOk r (λ xs. AllZip (λ x t. means b x t) xs.items ts)
   pub there : OnOk r (All (λ t. EachLeaf (λ l. missing a l → ⊥) t) ts)
   pub refused : IfErr r (λ e. (ss : List (Assertion F)) → All (λ t. PartOf t ss) ts → refuses a e ss)

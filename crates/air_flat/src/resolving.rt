@@ -1,9 +1,9 @@
 //! The expressions of a pool in any builder.
+ghost use Rattle.std.specs.List.{AllZip};
 ghost use Rattle.std.specs.Prelude.{◌≡◌, ◌≢◌, ◌<◌, length, get_or, map, Some, None, All, IfOk, IfErr};
 ghost use Rattle.air_symbolic.specs.BaseLeaves.{base_reads};
 ghost use Rattle.air_symbolic.specs.Pools.{IsPool, term_at};
 ghost use Rattle.air_windows.specs.declared.errors.AirError.{AirError};
-ghost use Rattle.air_builder.specs.Batches.{Each};
 ghost use Rattle.air_builder.specs.Builders.{Means};
 ghost use Rattle.air_author.specs.Expressions.{Made};
 ghost use Rattle.air_flat.specs.Tables.{MadeAll, OrMemory};
@@ -45,7 +45,7 @@ fn read_roots<E: Copy, A: SymLeaf>(
 ) -> Result<Vec<E>, AirError>
     requires { All (λ i. get_or table.now i None ≢ None) roots.now }
     ensures read { IfOk result (λ xs.
-        Each (λ x i. get_or table.now i None ≡ Some x) xs.items roots.now) }
+        AllZip (λ x i. get_or table.now i None ≡ Some x) xs.items roots.now) }
     ensures refused { IfErr result (λ e. e ≡ AirError.Memory) }
 {
     let mut expressions = Vec::new(alloc);

@@ -1,8 +1,8 @@
 -- Texts, line after line.
+use Rattle.std.specs.List.{AllZip}
 use Rattle.std.proofs.Common.{◌≡◌, ℕ, ◌+◌, ◌<◌, ◌≤◌, List, [], ◌∷◌, ◌++◌, append_assoc, append-nil, length, map, take, get_or, codes, sym, ap, subst, ◌∙◌}
 use Rattle.std.proofs.lemmas.Grind.{flat_map-append}
 use Rattle.std.proofs.lemmas.List.{map-append, take_more, take_all}
-use Rattle.air_builder.specs.Batches.{Each}
 use Rattle.air_report.specs.FailureTexts.{seen_failure}
 use Rattle.air_report.specs.declared.debug.failure.ConstraintFailure.{ConstraintFailure}
 use Rattle.air_program.specs.Texts.{lines_text, IsFailureLine, PushesLine}
@@ -10,14 +10,14 @@ use Rattle.air_program.specs.Texts.{lines_text, IsFailureLine, PushesLine}
 -- the text is the lines in front, and one for each of the failures before i
 pub record HasLines (front : List (List ℕ)) (failures : List ConstraintFailure) (i : ℕ) (text : List ℕ) : Type 0 where
   pub lines : List (List ℕ)
-  pub each : Each IsFailureLine (map seen_failure (take i failures)) lines
+  pub each : AllZip IsFailureLine (map seen_failure (take i failures)) lines
   pub text_is : text ≡ lines_text (front ++ lines)
 
-Each-more : {A B : Type 0} (R : A → B → Type 0) (xs : List A) (ys : List B) (x : A) (y : B) → Each R xs ys → R x y → Each R (xs ++ x ∷ []) (ys ++ y ∷ [])
-Each-more R [] [] x y h r = (r, tt)
-Each-more R [] (z ∷ ys) x y h r = absurd h
-Each-more R (z ∷ xs) [] x y h r = absurd h
-Each-more R (z ∷ xs) (w ∷ ys) x y h r = (h.0, Each-more R xs ys x y h.1 r)
+AllZip-more : {A B : Type 0} (R : A → B → Type 0) (xs : List A) (ys : List B) (x : A) (y : B) → AllZip R xs ys → R x y → AllZip R (xs ++ x ∷ []) (ys ++ y ∷ [])
+AllZip-more R [] [] x y h r = (r, tt)
+AllZip-more R [] (z ∷ ys) x y h r = absurd h
+AllZip-more R (z ∷ xs) [] x y h r = absurd h
+AllZip-more R (z ∷ xs) (w ∷ ys) x y h r = (h.0, AllZip-more R xs ys x y h.1 r)
 
 next_line : (front lines : List (List ℕ)) (line : List ℕ) → lines_text (front ++ (lines ++ line ∷ [])) ≡ lines_text (front ++ lines) ++ lines_text (line ∷ [])
 next_line front lines line = ap lines_text (sym (append_assoc front lines (line ∷ []))) ∙ flat_map-append (λ l. l ++ codes "\n") (front ++ lines) (line ∷ [])
@@ -37,10 +37,10 @@ HasLines-more front items failures i f old new e below found h p =
     ∙ ap (λ g. map seen_failure (take i failures) ++ seen_failure g ∷ []) (sym is)) in
     record {
       lines = h.lines ++ p.line ∷ [];
-      each = subst (λ fs. Each IsFailureLine fs (h.lines ++ p.line ∷ [])) (sym seen) (Each-more IsFailureLine (map seen_failure (take i failures)) h.lines (seen_failure f) p.line h.each p.is_line);
+      each = subst (λ fs. AllZip IsFailureLine fs (h.lines ++ p.line ∷ [])) (sym seen) (AllZip-more IsFailureLine (map seen_failure (take i failures)) h.lines (seen_failure f) p.line h.each p.is_line);
       text_is = p.pushed ∙ (ap (λ t. t ++ lines_text (p.line ∷ [])) h.text_is ∙ sym (next_line front h.lines p.line));
     }
 
 -- all of them
-pub HasLines-all : (front : List (List ℕ)) (failures : List ConstraintFailure) (i : ℕ) (text : List ℕ) (h : HasLines front failures i text) → length failures ≤ i → Each IsFailureLine (map seen_failure failures) h.lines
-HasLines-all front failures i text h le = subst (λ fs. Each IsFailureLine (map seen_failure fs) h.lines) (take_all i failures le) h.each
+pub HasLines-all : (front : List (List ℕ)) (failures : List ConstraintFailure) (i : ℕ) (text : List ℕ) (h : HasLines front failures i text) → length failures ≤ i → AllZip IsFailureLine (map seen_failure failures) h.lines
+HasLines-all front failures i text h le = subst (λ fs. AllZip IsFailureLine (map seen_failure fs) h.lines) (take_all i failures le) h.each

@@ -1,7 +1,6 @@
 -- The lines that are printed.
 use Rattle.std.specs.Prelude.{◌≡◌, ◌≢◌, ℕ, All, List, [], ◌∷◌, ◌++◌, length, map, codes, decimal, ◌==◌, if◌then◌else◌, Option, IfSome}
-use Rattle.std.specs.List.{flat_map}
-use Rattle.air_builder.specs.Batches.{Each}
+use Rattle.std.specs.List.{AllZip, flat_map}
 use Rattle.air_report.specs.FailureTexts.{seen_failure, label_suffix}
 use Rattle.air_program.specs.declared.texts.Findings.{Findings}
 
@@ -51,7 +50,7 @@ count_lines f = (codes "degree " ++ decimal f.degree) ∷ (codes "rows " ++ deci
 -- and then a line for each failure
 pub record IsFindingsText (f : Found) (text : List ℕ) : Type 0 where
   pub lines : List (List ℕ)
-  pub each : Each IsFailureLine f.failures lines
+  pub each : AllZip IsFailureLine f.failures lines
   pub text_is : text ≡ lines_text (count_lines f ++ lines)
 
 -- new is old and a further line for the failure

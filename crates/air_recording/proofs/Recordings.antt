@@ -1,4 +1,5 @@
 -- What means a declared term has its polynomial.
+use Rattle.std.specs.List.{AllZip}
 use Rattle.std.proofs.Common.{ℕ, zero, suc, ◌<◌, List, [], ◌∷◌, length, slice_index_or, sym, ◌∙◌, arith}
 use Rattle.air_field.specs.Ring.{CommRing, Over, OverLaws}
 use Rattle.air_field.specs.Term.{Term}
@@ -6,11 +7,10 @@ use Rattle.air_field.specs.laws.Polynomial.{Same-poly, polynomial-lists_of_one}
 use Rattle.air_symbolic.specs.Leaves.{Leaves}
 use Rattle.air_symbolic.specs.Pools.{PoolMeans, term_at}
 use Rattle.air_symbolic.specs.declared.pools.expr.SymbolicExpr.{SymbolicExpr}
-use Rattle.air_recording.specs.Recording.{EachMeans}
 use Rattle.air_recording.specs.Recorded.{EachRecords, terms_of}
 
 module _ {U A F : Type 0} (r : CommRing F) (reads : U → Leaves A F) (pool : U × List (SymbolicExpr A)) where
-  pub each_records : {E : Type 0} (a : Over F E) (m : OverLaws r a) (is : List ℕ) (ts : List (Term F)) → EachMeans (PoolMeans reads r pool) is ts → EachRecords a (terms_of reads pool is) ts
+  pub each_records : {E : Type 0} (a : Over F E) (m : OverLaws r a) (is : List ℕ) (ts : List (Term F)) → AllZip (PoolMeans reads r pool) is ts → EachRecords a (terms_of reads pool is) ts
   each_records a l [] [] m = tt
   each_records a l [] (t ∷ ts) m = absurd m
   each_records a l (i ∷ is) [] m = absurd m
@@ -24,7 +24,7 @@ module _ {U A F : Type 0} (r : CommRing F) (reads : U → Leaves A F) (pool : U 
   )
 
   -- and is of the pool
-  pub numbers_here : (is : List ℕ) (ts : List (Term F)) → EachMeans (PoolMeans reads r pool) is ts → (k d : ℕ) → k < length is → slice_index_or is k d < length pool.1
+  pub numbers_here : (is : List ℕ) (ts : List (Term F)) → AllZip (PoolMeans reads r pool) is ts → (k d : ℕ) → k < length is → slice_index_or is k d < length pool.1
   numbers_here [] ts m k d b = absurd (omega arith)
   numbers_here (i ∷ is) [] m k d b = absurd m
   numbers_here (i ∷ is) (t ∷ ts) m zero d b = m.0.here

@@ -1,4 +1,5 @@
 -- What a recording answers and refuses.
+use Rattle.std.specs.List.{AllZip}
 use Rattle.std.specs.Prelude.{◌≡◌, ◌⊎◌, ℕ, ◌≤◌, List, [], ◌∷◌, map}
 use Rattle.air_field.specs.Ring.{CommRing, Over, itself}
 use Rattle.air_field.specs.Term.{Leaf, Term}
@@ -14,7 +15,7 @@ use Rattle.air_windows.specs.declared.errors.AirError.{AirError}
 use Rattle.air_recording.specs.Kinds.{base_terms, ext_terms}
 use Rattle.air_recording.specs.Layouts.{layout_shape, FitsAir, LayoutRefuses}
 use Rattle.air_recording.specs.declared.layouts.air_layout.AirLayout.{AirLayout}
-use Rattle.air_recording.specs.Recording.{EachMeans, IsOver}
+use Rattle.air_recording.specs.Recording.{IsOver}
 use Rattle.air_builder.specs.Refused.{Refused}
 
 -- a recorded term for one that is declared: in an algebra, the same polynomial under every assignment of coefficient
@@ -26,10 +27,7 @@ pub record RecordsTerm {F E : Type 0} (a : Over F E) (u t : Term F) : Type 0 whe
 
 -- one for each, in order
 abbrev pub EachRecords : {F E : Type 0} → Over F E → List (Term F) → List (Term F) → Type 0
-EachRecords a [] [] = Unit {0}
-EachRecords a [] (t ∷ ts) = ⊥
-EachRecords a (u ∷ us) [] = ⊥
-EachRecords a (u ∷ us) (t ∷ ts) = RecordsTerm a u t × EachRecords a us ts
+EachRecords a us ts = AllZip (RecordsTerm a) us ts
 
 -- the terms of these numbers of a pool
 abbrev pub terms_of : {U A F : Type 0} → (U → Leaves A F) → U × List (SymbolicExpr A) → List ℕ → List (Term F)
@@ -39,7 +37,7 @@ terms_of reads pool is = map (λ i. term_at reads pool i) is
 -- over the base field and over the extension.
 pub record RecordsBase {U A F E : Type 0} (r : CommRing F) (over : Over F E) (reads : U → Leaves A F) (pool : U × List (SymbolicExpr A)) (numbers : List ℕ) (ts : List (Assertion F)) : Type 0 where
   pub well_formed : IsPool reads pool
-  pub means : EachMeans (PoolMeans reads r pool) numbers (base_terms ts)
+  pub means : AllZip (PoolMeans reads r pool) numbers (base_terms ts)
   pub terms : EachRecords (itself r) (terms_of reads pool numbers) (base_terms ts)
   pub in_extension : EachRecords over (terms_of reads pool numbers) (base_terms ts)
 
@@ -47,7 +45,7 @@ pub record RecordsBase {U A F E : Type 0} (r : CommRing F) (over : Over F E) (re
 -- polynomial.
 pub record RecordsExt {U A F E : Type 0} (r : CommRing F) (over : Over F E) (reads : U → Leaves A F) (pool : U × List (SymbolicExpr A)) (numbers : List ℕ) (ts : List (Assertion F)) : Type 0 where
   pub well_formed : IsPool reads pool
-  pub means : EachMeans (PoolMeans reads r pool) numbers (ext_terms ts)
+  pub means : AllZip (PoolMeans reads r pool) numbers (ext_terms ts)
   pub terms : EachRecords over (terms_of reads pool numbers) (ext_terms ts)
 
 -- A recording refuses the first count of the layout that isn't the AIR's; then want of memory, a declared term that names a

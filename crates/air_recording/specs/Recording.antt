@@ -1,4 +1,5 @@
 -- How a builder that records grows.
+use Rattle.std.specs.List.{AllZip}
 use Rattle.std.specs.Prelude.{◌≡◌, ℕ, ◌≤◌, ◌^◌, List, [], ◌∷◌, ◌++◌, map}
 use Rattle.air_field.specs.Term.{Leaf, first_row, last_row, transition, Term, leaf_term}
 use Rattle.air_field.specs.Degree.{degree_by}
@@ -7,13 +8,6 @@ use Rattle.air_builder.specs.Assertion.{Assertion}
 use Rattle.air_recording.specs.Kinds.{kind_of, base_terms, ext_terms}
 use Rattle.air_recording.specs.declared.symbolic.kind.ConstraintKind.{ConstraintKind}
 use Rattle.air_recording.specs.declared.symbolic.kind.ConstraintKind.TheVariants as kind
-
--- one expression for each term, in order, which means it
-abbrev pub EachMeans : {E F : Type 0} → (E → Term F → Type 0) → List E → List (Term F) → Type 0
-EachMeans means [] [] = Unit {0}
-EachMeans means [] (t ∷ ts) = ⊥
-EachMeans means (x ∷ xs) [] = ⊥
-EachMeans means (x ∷ xs) (t ∷ ts) = means x t × EachMeans means xs ts
 
 -- what a recording builder has beside its pool and its lists: the selectors' expressions, and how many entries there are
 pub record Fixed (E : Type 0) : Type 0 where
@@ -61,8 +55,8 @@ pub record GrewRecording {Q E X F : Type 0} (base_means : Q → E → Term F →
   pub base : b.base ≡ a.base ++ more_base
   pub ext : b.ext ≡ a.ext ++ more_ext
   pub kinds : b.kinds ≡ a.kinds ++ map kind_of ts
-  pub each_base : EachMeans (base_means q) more_base (base_terms ts)
-  pub each_ext : EachMeans (ext_means q) more_ext (ext_terms ts)
+  pub each_base : AllZip (base_means q) more_base (base_terms ts)
+  pub each_ext : AllZip (ext_means q) more_ext (ext_terms ts)
 
 -- the term has a degree past `usize` by these weights
 abbrev pub IsOver : {F : Type 0} → (Leaf → ℕ) → Term F → Type 0

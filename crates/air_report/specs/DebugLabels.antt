@@ -1,8 +1,7 @@
 -- How the debug builder logs an assertion, and how it grows by assertions that have labels.
 use Rattle.std.specs.Prelude.{◌≡◌, ℕ, ◌+◌, ◌^◌, List, [], ◌∷◌, ◌++◌, map, Bool, true, false, not, All, Option, Some, None, option_map, String, string_bytes}
-use Rattle.std.specs.List.{filter}
+use Rattle.std.specs.List.{AllZip, filter}
 use Rattle.air_builder.specs.Assertion.{Assertion}
-use Rattle.air_builder.specs.Batches.{Each}
 use Rattle.air_builder.specs.Labels.{Label, Unasked, Shown, Labelled, without_labels}
 use Rattle.air_windows.specs.Texts.{kept_text}
 use Rattle.air_windows.specs.declared.errors.AirError.{AirError}
@@ -55,5 +54,5 @@ pub record LabelledAtRow {F E : Type 0} (zero : RowData F E → Assertion F → 
   pub grew : GrewAtRow zero d e m n fs gs (without_labels ls)
   pub more : List ConstraintFailure
   pub failures : gs ≡ fs ++ more
-  pub kept : Each KeepsLabel more (failing_labels (zero d) ls)
+  pub kept : AllZip KeepsLabel more (failing_labels (zero d) ls)
   pub unasked : All (λ l. l ≡ Unasked) (passing_labels (zero d) ls)

@@ -7,7 +7,9 @@ use Rattle.air_field.specs.declared.errors.RingError.{RingError}
 use Rattle.air_windows.specs.declared.errors.AirError.{AirError}
 use Rattle.air_windows.specs.Errors.{air_error}
 use Rattle.air_builder.specs.Assertion.{Base}
-use Rattle.air_builder.specs.Batches.{Each, AssertsOf, GrewByEach, GrewByBeginning, GrewByFirst, RefusesByEach}
+use Rattle.air_builder.specs.laws.Zips.{AllZip-take}
+use Rattle.std.proofs.lemmas.Slice.Zip.{AllZip-long}
+use Rattle.air_builder.specs.Batches.{AssertsOf, GrewByEach, GrewByBeginning, GrewByFirst, RefusesByEach}
 use Rattle.air_builder.specs.Builders.{MeansIn, BuilderView, RingLaws, BuilderLaws}
 use Rattle.air_builder.specs.laws.Filters.{means_lent}
 use Rattle.air_builder.specs.Refusals.{PartOf}
@@ -21,19 +23,6 @@ zip_mapped P f [] [] h = h
 zip_mapped P f [] (y ∷ ys) h = absurd h
 zip_mapped P f (x ∷ xs) [] h = absurd h
 zip_mapped P f (x ∷ xs) (y ∷ ys) h = (h.0, zip_mapped P f xs ys h.1)
-
-pub Each-take : {A B : Type 0} (R : A → B → Type 0) (n : ℕ) (xs : List A) (ys : List B) → Each R xs ys → Each R (take n xs) (take n ys)
-Each-take R zero xs ys h = tt
-Each-take R (suc n) [] [] h = tt
-Each-take R (suc n) [] (y ∷ ys) h = absurd h
-Each-take R (suc n) (x ∷ xs) [] h = absurd h
-Each-take R (suc n) (x ∷ xs) (y ∷ ys) h = (h.0, Each-take R n xs ys h.1)
-
-pub Each-length : {A B : Type 0} (R : A → B → Type 0) (xs : List A) (ys : List B) → Each R xs ys → length xs ≡ length ys
-Each-length R [] [] h = refl
-Each-length R [] (y ∷ ys) h = absurd h
-Each-length R (x ∷ xs) [] h = absurd h
-Each-length R (x ∷ xs) (y ∷ ys) h = ap suc (Each-length R xs ys h.1)
 
 -- the limbs with what stands at their leaves
 abbrev pub leaves_of : {F : Type 0} → (Leaf → Term F) → Limbs (Term F) → Limbs (Term F)
@@ -76,7 +65,7 @@ module _ {S R E F : Type 0} {view : BuilderView S R E F} (ring : RingLaws view) 
 
   -- what the elements assert
   lent_asserts : (xs : List E) (ts : List (Term F)) → AllZip (means r) xs (map (with_leaves (stands a)) ts)
-      → Each (AssertsOf (MeansIn view) (λ t. t) (with_ring a r)) xs (map Base ts)
+      → AllZip (AssertsOf (MeansIn view) (λ t. t) (with_ring a r)) xs (map Base ts)
   lent_asserts [] [] h = tt
   lent_asserts [] (t ∷ ts) h = absurd h
   lent_asserts (x ∷ xs) [] h = absurd h
@@ -95,8 +84,8 @@ module _ {S R E F : Type 0} {view : BuilderView S R E F} (ring : RingLaws view) 
       let asserts = AssertsOf (MeansIn view) (λ t. t) (with_ring a r) in
       let each = lent_asserts xs ts h in record {
         count = g.count;
-        within = subst (λ n. g.count < n) (Each-length asserts xs (map Base ts) each) g.within;
-        beginning = laws.joined a (with_ring a r) b [] (take g.count (map Base ts)) lent (g.beginning (take g.count (map Base ts)) (Each-take asserts g.count xs (map Base ts) each));
+        within = subst (λ n. g.count < n) (sym (AllZip-long asserts xs (map Base ts) each)) g.within;
+        beginning = laws.joined a (with_ring a r) b [] (take g.count (map Base ts)) lent (g.beginning (take g.count (map Base ts)) (AllZip-take asserts g.count xs (map Base ts) each));
       }
 
   pub batch_refused : (xs : List E) (ts : List (Term F)) (f : AirError)

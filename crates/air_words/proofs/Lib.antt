@@ -7,6 +7,6 @@ mod XorLaws
 mod ExactXors
 mod HalfLeaves
 mod Testing
-mod EachGrowth
+mod Variables
 mod PackedXors
 mod ZipLaws

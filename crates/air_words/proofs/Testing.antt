@@ -7,9 +7,10 @@ use Rattle.air_field.specs.Ring.{CommRing}
 use Rattle.air_field.specs.Term.{Leaf, Term, with_leaves}
 use Rattle.air_field.specs.Algebra.{bool_check_term}
 use Rattle.air_builder.specs.Assertion.{Assertion, Base}
-use Rattle.air_builder.specs.Batches.{Each, AssertsOf, GrewByBeginning, GrewByFirst}
+use Rattle.air_builder.specs.Batches.{AssertsOf, GrewByBeginning, GrewByFirst}
 use Rattle.air_words.specs.Gadgets.{VariableMeans, test_asserts}
-use Rattle.air_words.proofs.Lending.{Each-take, Each-length}
+use Rattle.air_builder.specs.laws.Zips.{AllZip-take}
+use Rattle.std.proofs.lemmas.Slice.Zip.{AllZip-long}
 
 -- what variables mean in a builder, where what stands at the leaves is the same
 pub variables_stay : {S V F : Type 0} (means : V → Term F → Type 0) (stands : S → Leaf → Term F) (a b : S) (xs : List V) (ts : List (Term F)) → stands b ≡ stands a → AllZip (VariableMeans means stands a) xs ts → AllZip (VariableMeans means stands b) xs ts
@@ -19,17 +20,17 @@ pub variable_stays_in : {S V F : Type 0} (means : V → Term F → Type 0) (stan
 variable_stays_in means stands a b x t e h = subst (λ s. means x (with_leaves s t)) (sym e) h
 
 -- what the tests of variables assert
-pub tests_of : {S V F : Type 0} (means : S → V → Term F → Type 0) (R : CommRing F) (one : F) → one ≡ R.one → (a : S) (xs : List V) (ts : List (Term F)) → AllZip (means a) xs ts → Each (AssertsOf means (bool_check_term one) a) xs (test_asserts R ts)
+pub tests_of : {S V F : Type 0} (means : S → V → Term F → Type 0) (R : CommRing F) (one : F) → one ≡ R.one → (a : S) (xs : List V) (ts : List (Term F)) → AllZip (means a) xs ts → AllZip (AssertsOf means (bool_check_term one) a) xs (test_asserts R ts)
 tests_of means R one is a [] [] h = tt
 tests_of means R one is a [] (t ∷ ts) h = absurd h
 tests_of means R one is a (x ∷ xs) [] h = absurd h
 tests_of means R one is a (x ∷ xs) (t ∷ ts) h = ((t, h.0, ap (λ o. Base (bool_check_term o t)) (sym is)), tests_of means R one is a xs ts h.1)
 
-pub some_of_tests : {S I F : Type 0} (asserts : S → I → Assertion F → Type 0) (grew : S → S → List (Assertion F) → Type 0) (a b : S) (xs : List I) (ss : List (Assertion F)) → Each (asserts a) xs ss → GrewByBeginning asserts grew a b xs → GrewByFirst grew a b ss
+pub some_of_tests : {S I F : Type 0} (asserts : S → I → Assertion F → Type 0) (grew : S → S → List (Assertion F) → Type 0) (a b : S) (xs : List I) (ss : List (Assertion F)) → AllZip (asserts a) xs ss → GrewByBeginning asserts grew a b xs → GrewByFirst grew a b ss
 some_of_tests asserts grew a b xs ss each h = record {
   count = h.count;
-  within = subst (λ n. h.count < n) (Each-length (asserts a) xs ss each) h.within;
-  beginning = h.beginning (take h.count ss) (Each-take (asserts a) h.count xs ss each);
+  within = subst (λ n. h.count < n) (sym (AllZip-long (asserts a) xs ss each)) h.within;
+  beginning = h.beginning (take h.count ss) (AllZip-take (asserts a) h.count xs ss each);
 }
 
 -- ---- a list whole, and a beginning of another

@@ -1,4 +1,5 @@
 -- The numbers of a recording as roots of an AIR.
+use Rattle.std.specs.List.{AllZip}
 use Rattle.std.proofs.Common.{◌≡◌, ℕ, zero, suc, ◌<◌, true, false, cond, leb, List, [], ◌∷◌, length, map, All, None, Some, refl, ap, ap₂, ◌∙◌, subst, sym, arith}
 use borrow.Author.Tests.{leb-false, leb-true}
 use Rattle.air_field.specs.Ring.{CommRing, itself}
@@ -13,7 +14,6 @@ use Rattle.air_flat.specs.FlatAirs.{zero_at_roots}
 use Rattle.air_recording.specs.Kinds.{base_terms}
 use Rattle.air_recording.specs.Layouts.{first_past}
 use Rattle.air_recording.specs.Recorded.{EachRecords, terms_of}
-use Rattle.air_recording.specs.Recording.{EachMeans}
 use Rattle.p3_air.specs.RecordedAirs.{RecordsBaseTerms}
 
 -- where none is at or past the total, all are below it
@@ -29,7 +29,7 @@ below-none_past total (i ∷ numbers) h = elim (leb total i) as (λ t. leb total
     both here rest (suc k) d b = rest k d (omega arith)
 
 -- where each is a number of the pool, none is past its nodes
-pub none_past : {U A F : Type 0} (r : CommRing F) (reads : U → Leaves A F) (pool : U × List (SymbolicExpr A)) (numbers : List ℕ) (ts : List (Term F)) → EachMeans (PoolMeans reads r pool) numbers ts → None ≡ first_past (length pool.1) numbers
+pub none_past : {U A F : Type 0} (r : CommRing F) (reads : U → Leaves A F) (pool : U × List (SymbolicExpr A)) (numbers : List ℕ) (ts : List (Term F)) → AllZip (PoolMeans reads r pool) numbers ts → None ≡ first_past (length pool.1) numbers
 none_past r reads pool [] ts m = refl
 none_past r reads pool (i ∷ numbers) [] m = absurd m
 none_past r reads pool (i ∷ numbers) (t ∷ ts) m = elim (leb (length pool.1) i) as (λ b. leb (length pool.1) i ≡ b → None ≡ cond b (Some i) (first_past (length pool.1) numbers)) [

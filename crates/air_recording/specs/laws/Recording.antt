@@ -1,4 +1,5 @@
 -- A builder that records keeps the laws of builders.
+use Rattle.std.specs.List.{AllZip}
 use Rattle.std.specs.Prelude.{◌≡◌, List, [], ◌∷◌, ◌++◌, map, refl}
 use Rattle.std.proofs.Common.{sym, ◌∙◌, ap, ap₂, subst, append_assoc}
 use Rattle.std.proofs.lemmas.List.{append-nil, map-append}
@@ -9,6 +10,7 @@ use Rattle.air_field.specs.Assignment.{IsMissing}
 use Rattle.air_field.specs.declared.errors.RingError.{RingError}
 use Rattle.air_field.specs.declared.errors.RingError.TheVariants.{DegreeOverflow}
 use Rattle.air_symbolic.specs.PoolRefusals.{PoolRefuses}
+use Rattle.air_builder.specs.laws.Zips.{AllZip-joined, AllZip-weaker}
 use Rattle.air_builder.specs.Assertion.{Assertion, Base, Extension}
 use Rattle.air_builder.specs.Builders.{BuilderView, BuilderLaws}
 use Rattle.air_builder.specs.laws.Refusals.{past_window_missing}
@@ -16,7 +18,7 @@ use Rattle.air_builder.specs.Extensions.{ExtensionView, ExtensionLaws}
 use Rattle.air_builder.specs.Refused.{Refused}
 use Rattle.air_builder.specs.laws.Refused.{Refused-first, Refused-then, Refused-missing, Refused-ring}
 use Rattle.air_recording.specs.Kinds.{kind_of, base_terms, ext_terms}
-use Rattle.air_recording.specs.Recording.{EachMeans, Fixed, Lists, with_base, with_ext, IsReady, KeptRecording, GrewRecording, IsOver}
+use Rattle.air_recording.specs.Recording.{Fixed, Lists, with_base, with_ext, IsReady, KeptRecording, GrewRecording, IsOver}
 
 -- a term with each leaf put at itself
 pub with_leaves-same : {F : Type 0} (t : Term F) → with_leaves (λ l. leaf_term l) t ≡ t
@@ -40,19 +42,6 @@ ext_terms-append : {F : Type 0} (xs ys : List (Assertion F)) → ext_terms (xs +
 ext_terms-append [] ys = refl
 ext_terms-append (Base t ∷ xs) ys = ext_terms-append xs ys
 ext_terms-append (Extension t ∷ xs) ys = ap (λ ts. t ∷ ts) (ext_terms-append xs ys)
-
-EachMeans-append : {E F : Type 0} (means : E → Term F → Type 0) (xs ys : List E) (ts us : List (Term F)) → EachMeans means xs ts → EachMeans means ys us → EachMeans means (xs ++ ys) (ts ++ us)
-EachMeans-append means [] ys [] us h k = k
-EachMeans-append means [] ys (t ∷ ts) us h k = absurd h
-EachMeans-append means (x ∷ xs) ys [] us h k = absurd h
-EachMeans-append means (x ∷ xs) ys (t ∷ ts) us h k = (h.0, EachMeans-append means xs ys ts us h.1 k)
-
--- what each expression means it still means, where that stays for one
-EachMeans-map : {E F : Type 0} (means now : E → Term F → Type 0) (stays : (x : E) (t : Term F) → means x t → now x t) (xs : List E) (ts : List (Term F)) → EachMeans means xs ts → EachMeans now xs ts
-EachMeans-map means now stays [] [] h = tt
-EachMeans-map means now stays [] (t ∷ ts) h = absurd h
-EachMeans-map means now stays (x ∷ xs) [] h = absurd h
-EachMeans-map means now stays (x ∷ xs) (t ∷ ts) h = (stays x t h.0, EachMeans-map means now stays xs ts h.1)
 
 -- The base ring, of elements E, lies under the pool, whose elements are X.
 module _ {R Q E X F : Type 0} {valid : R → Type 0} {has : R → E → Type 0} {means : R → E → Term F → Type 0} {extends : R → R → Type 0} {ext_valid : Q → Type 0} {ext_has : Q → X → Type 0} {ext_means : Q → X → Term F → Type 0} {ext_extends : Q → Q → Type 0} (ring : AlgebraLaws valid has means extends PoolRefuses) (ext : AlgebraLaws ext_valid ext_has ext_means ext_extends PoolRefuses) (base_of : Q → R) (under : (p q : Q) → ext_extends p q → extends (base_of p) (base_of q)) where
@@ -106,13 +95,13 @@ module _ {R Q E X F : Type 0} {valid : R → Type 0} {has : R → E → Type 0} 
     base = h.base ∙ (ap (λ ws. ws ++ h.more_base) g.base ∙ append_assoc a.base g.more_base h.more_base);
     ext = h.ext ∙ (ap (λ ws. ws ++ h.more_ext) g.ext ∙ append_assoc a.ext g.more_ext h.more_ext);
     kinds = h.kinds ∙ (ap (λ ws. ws ++ map kind_of us) g.kinds ∙ (append_assoc a.kinds (map kind_of ts) (map kind_of us) ∙ ap (λ ws. a.kinds ++ ws) (sym (map-append kind_of ts us))));
-    each_base = subst (λ ws. EachMeans (means (base_of r)) (g.more_base ++ h.more_base) ws) (sym (base_terms-append ts us))
-        (EachMeans-append (means (base_of r)) g.more_base h.more_base (base_terms ts) (base_terms us)
-        (EachMeans-map (means (base_of q)) (means (base_of r)) (λ x t. ring.means_stays (base_of q) (base_of r) x t (under q r h.keeps.pool)) g.more_base (base_terms ts) g.each_base)
+    each_base = subst (λ ws. AllZip (means (base_of r)) (g.more_base ++ h.more_base) ws) (sym (base_terms-append ts us))
+        (AllZip-joined (means (base_of r)) g.more_base h.more_base (base_terms ts) (base_terms us)
+        (AllZip-weaker (means (base_of q)) (means (base_of r)) (λ x t. ring.means_stays (base_of q) (base_of r) x t (under q r h.keeps.pool)) g.more_base (base_terms ts) g.each_base)
         h.each_base);
-    each_ext = subst (λ ws. EachMeans (ext_means r) (g.more_ext ++ h.more_ext) ws) (sym (ext_terms-append ts us))
-        (EachMeans-append (ext_means r) g.more_ext h.more_ext (ext_terms ts) (ext_terms us)
-        (EachMeans-map (ext_means q) (ext_means r) (λ x t. ext.means_stays q r x t h.keeps.pool) g.more_ext (ext_terms ts) g.each_ext)
+    each_ext = subst (λ ws. AllZip (ext_means r) (g.more_ext ++ h.more_ext) ws) (sym (ext_terms-append ts us))
+        (AllZip-joined (ext_means r) g.more_ext h.more_ext (ext_terms ts) (ext_terms us)
+        (AllZip-weaker (ext_means q) (ext_means r) (λ x t. ext.means_stays q r x t h.keeps.pool) g.more_ext (ext_terms ts) g.each_ext)
         h.each_ext);
   }
 

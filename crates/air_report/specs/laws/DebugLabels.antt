@@ -1,12 +1,12 @@
 -- The debug builder keeps the laws of named builders.
 use Rattle.std.specs.Prelude.{◌≡◌, Result, Ok, Err, IfErr, ℕ, List, [], ◌∷◌, ◌++◌, map, Bool, true, false, not, cond, refl, All, Option}
-use Rattle.std.specs.List.{filter}
+use Rattle.std.specs.List.{AllZip, filter}
 use Rattle.std.proofs.Common.{inl, sym, ◌∙◌, ap, subst, arith, append_assoc}
 use Rattle.std.proofs.lemmas.List.{map-append, append-nil}
 use Rattle.std.proofs.lemmas.List.Elements.{filter-append, All-append, All-nil, All-cons}
 use Rattle.air_builder.specs.Assertion.{Assertion}
-use Rattle.air_builder.specs.Batches.{Each}
 use Rattle.air_builder.specs.laws.Labels.{without_labels-append}
+use Rattle.air_builder.specs.laws.Zips.{AllZip-joined}
 use Rattle.air_builder.specs.Labels.{Label, Unasked, Shown, Labelled, IsSaid, without_labels, NamedLaws}
 use Rattle.air_report.specs.Report.{failure_place}
 use Rattle.air_report.specs.Debug.{RowData, GrewAtRow}
@@ -17,19 +17,13 @@ use Rattle.air_report.specs.laws.Debug.{asserted_zero, asserted_other, joined_at
 use Rattle.air_report.specs.DebugLabels.{KeepsLabel, LogsOne, LogRefuses, failing_labels, passing_labels, LabelledAtRow}
 use Rattle.air_report.specs.declared.debug.failure.ConstraintFailure.{ConstraintFailure}
 
-Each-joined : {A B : Type 0} (R : A → B → Type 0) (xs us : List A) (ys vs : List B) → Each R xs ys → Each R us vs → Each R (xs ++ us) (ys ++ vs)
-Each-joined R [] us [] vs h k = k
-Each-joined R [] us (y ∷ ys) vs h k = absurd h
-Each-joined R (x ∷ xs) us [] vs h k = absurd h
-Each-joined R (x ∷ xs) us (y ∷ ys) vs h k = (h.0, Each-joined R xs us ys vs h.1 k)
-
 none_unasked : All (λ l. l ≡ Unasked) []
 none_unasked = All-nil (λ l. l ≡ Unasked)
 
 one_unasked : All (λ l. l ≡ Unasked) (Unasked ∷ [])
 one_unasked = All-cons (λ l. l ≡ Unasked) Unasked [] refl none_unasked
 
-none_placed : (fs : List ConstraintFailure) → map failure_place fs ≡ [] → Each KeepsLabel fs []
+none_placed : (fs : List ConstraintFailure) → map failure_place fs ≡ [] → AllZip KeepsLabel fs []
 none_placed [] e = tt
 none_placed (f ∷ fs) e = cc
 
@@ -76,7 +70,7 @@ module _ {F E : Type 0} (zero : RowData F E → Assertion F → Bool) where
           grew = logged_grew true h s z;
           more = [];
           failures = h.1 ∙ sym (append-nil fs);
-          kept = subst (λ c. Each KeepsLabel [] (map (λ (l : Labelled F). l.1) (cond (not c) ((s, Unasked) ∷ []) []))) (sym z) tt;
+          kept = subst (λ c. AllZip KeepsLabel [] (map (λ (l : Labelled F). l.1) (cond (not c) ((s, Unasked) ∷ []) []))) (sym z) tt;
           unasked = subst (λ c. All (λ l. l ≡ Unasked) (map (λ (l : Labelled F). l.1) (cond c ((s, Unasked) ∷ []) []))) (sym z) one_unasked;
         },
       ),
@@ -89,7 +83,7 @@ module _ {F E : Type 0} (zero : RowData F E → Assertion F → Bool) where
           grew = logged_grew false h s z;
           more = h.1.failure ∷ [];
           failures = h.1.pushed;
-          kept = subst (λ c. Each KeepsLabel (h.1.failure ∷ []) (map (λ (l : Labelled F). l.1) (cond (not c) ((s, Shown h.1.text) ∷ []) []))) (sym z) (h.1.kept, tt);
+          kept = subst (λ c. AllZip KeepsLabel (h.1.failure ∷ []) (map (λ (l : Labelled F). l.1) (cond (not c) ((s, Shown h.1.text) ∷ []) []))) (sym z) (h.1.kept, tt);
           unasked = subst (λ c. All (λ l. l ≡ Unasked) (map (λ (l : Labelled F). l.1) (cond c ((s, Shown h.1.text) ∷ []) []))) (sym z) none_unasked;
         },
       ),
@@ -113,7 +107,7 @@ module _ {F E : Type 0} (zero : RowData F E → Assertion F → Bool) where
         grew = subst (λ ts. GrewAtRow zero d f m k fs hs ts) (sym (without_labels-append xs ys)) (joined_at_row zero d e f m n k fs gs hs (without_labels xs) (without_labels ys) g.grew h.grew);
         more = g.more ++ h.more;
         failures = h.failures ∙ (ap (λ us. us ++ h.more) g.failures ∙ append_assoc fs g.more h.more);
-        kept = subst (λ ls. Each KeepsLabel (g.more ++ h.more) ls) failing (Each-joined KeepsLabel g.more h.more (failing_labels (zero d) xs) (failing_labels (zero e) ys) g.kept h.kept);
+        kept = subst (λ ls. AllZip KeepsLabel (g.more ++ h.more) ls) failing (AllZip-joined KeepsLabel g.more h.more (failing_labels (zero d) xs) (failing_labels (zero e) ys) g.kept h.kept);
         unasked = subst (λ ls. All (λ l. l ≡ Unasked) ls) passing (All-append (λ l. l ≡ Unasked) (passing_labels (zero d) xs) (passing_labels (zero e) ys) g.unasked h.unasked);
       }
 

@@ -3,7 +3,8 @@ use Rattle.std.proofs.lemmas.Result.{err_from_is_err_and}
 use Rattle.air_field.specs.Algebra.{bool_check_term}
 use Rattle.air_builder.specs.Batches.{AssertsOf}
 use Rattle.air_words.specs.Gadgets.{VariableMeans}
-use Rattle.air_words.proofs.EachGrowth.{none_yet, each_more, beginning, each_refused, grew_of_one, refuses_of_one, variable_stays}
+use Rattle.air_builder.specs.laws.Batches.{none_yet, each_more, beginning, each_refused, grew_of_one, refuses_of_one}
+use Rattle.air_words.proofs.Variables.{variable_stays}
 use Rattle.air_words.proofs.rotations.assert_bits.Goals as goal
 
 pub loop-variable-init : goal.loop-variable-init

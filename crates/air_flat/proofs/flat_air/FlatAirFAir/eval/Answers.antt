@@ -1,9 +1,9 @@
+use Rattle.std.specs.List.{AllZip}
 use Rattle.std.proofs.Common.{◌≡◌, ◌<◌, ◌==◌, ℕ, zero, suc, false, [], map, length, arith, sym, subst}
 use Rattle.std.proofs.lemmas.List.{length-map}
 use Rattle.std.proofs.lemmas.Result.{err_from_is_err_and}
 use Rattle.air_symbolic.specs.BaseLeaves.{base_reads}
 use Rattle.air_symbolic.specs.Pools.{term_at}
-use Rattle.air_builder.specs.Batches.{Each}
 use Rattle.air_builder.specs.Builders.{Means}
 use Rattle.air_flat.proofs.Asserting.{all_has, roots_asserted, making_refused}
 use Rattle.air_flat.proofs.flat_air.FlatAirFAir.eval.Goals as goal
@@ -37,6 +37,6 @@ returns g c =
     let term = term_at base_reads c.args.self.now.pool in
     let ts = map term c.deref.result.now in
     let means = Means g.AB.Ring.Algebra.means A.ring_of A.stands in
-    let made = subst (λ xs. Each (λ x t. means c.resolve_all.new.builder x t) xs ts) (sym c.deref-2.ensures.value) c.in_ok-expressions.ensures.made in
+    let made = subst (λ xs. AllZip (λ x t. means c.resolve_all.new.builder x t) xs ts) (sym c.deref-2.ensures.value) c.in_ok-expressions.ensures.made in
     let h = roots_asserted g.met.AB.Ring.Algebra.laws g.met.AB.AirBuilder.laws _ _ _ c.deref-2.result.now ts c.assert_zeros_slice.result c.resolve_all.ensures.keeps made c.in_ok-expressions.ensures.there c.assert_zeros_slice.ensures.keeps c.assert_zeros_slice.ensures.ok c.assert_zeros_slice.ensures.err c.assert_zeros_slice.ensures.refused in
     rw (← c.deref.ensures.value) record { ok = h.ok; there = h.there; keeps = h.keeps; err = h.err; refused = h.refused }

@@ -1,3 +1,4 @@
+use Rattle.std.specs.List.{AllZip}
 use Rattle.std.proofs.Common.{◌≡◌, ◌++◌, inl, inr, ⊎_elim, map, sym, subst, ◌∙◌, ap}
 use Rattle.std.proofs.lemmas.Result.{err_from_is_err_and}
 use Rattle.air_field.specs.Ring.{itself, itself_laws}
@@ -13,7 +14,7 @@ use Rattle.air_builder.specs.Refused.{Refused}
 use Rattle.air_recording.specs.Kinds.{kind_of, base_terms, ext_terms}
 use Rattle.air_recording.specs.Layouts.{layout_shape}
 use Rattle.air_recording.specs.declared.layouts.air_layout.AirLayout.{AirLayout}
-use Rattle.air_recording.specs.Recording.{EachMeans, IsOver}
+use Rattle.air_recording.specs.Recording.{IsOver}
 use Rattle.air_recording.proofs.Recordings.{each_records, numbers_here}
 use Rattle.air_recording.proofs.symbolic.record.record.Goals as goal
 
@@ -25,7 +26,7 @@ returns-clause-base g c =
     let pool = c.eval.new.builder.pool in
     let numbers = c.eval.new.builder.constraints.base.items in
     let all : numbers ≡ grew.more_base = grew.base ∙ ap (λ l. l.base ++ grew.more_base) c.in_ok-builder.ensures.none in
-    let means : EachMeans (PoolMeans base_reads r pool.0) numbers (base_terms ts) = subst (λ l. EachMeans (PoolMeans base_reads r pool.0) l (base_terms ts)) (sym all) grew.each_base in
+    let means : AllZip (PoolMeans base_reads r pool.0) numbers (base_terms ts) = subst (λ l. AllZip (PoolMeans base_reads r pool.0) l (base_terms ts)) (sym all) grew.each_base in
     record {
       well_formed = (grew.keeps.pool.pool c.in_ok-builder.ensures.ready.pool).under;
       means = means;
@@ -42,7 +43,7 @@ returns-clause-ext g c =
     let pool = c.eval.new.builder.pool in
     let numbers = c.eval.new.builder.constraints.ext.items in
     let all : numbers ≡ grew.more_ext = grew.ext ∙ ap (λ l. l.ext ++ grew.more_ext) c.in_ok-builder.ensures.none in
-    let means : EachMeans (PoolMeans reads r pool) numbers (ext_terms ts) = subst (λ l. EachMeans (PoolMeans reads r pool) l (ext_terms ts)) (sym all) grew.each_ext in
+    let means : AllZip (PoolMeans reads r pool) numbers (ext_terms ts) = subst (λ l. AllZip (PoolMeans reads r pool) l (ext_terms ts)) (sym all) grew.each_ext in
     record {
       well_formed = grew.keeps.pool.pool c.in_ok-builder.ensures.ready.pool;
       means = means;
@@ -56,7 +57,7 @@ returns-clause-base_here g c =
     let grew = c.in_ok-eval.ensures.ok in
     let pool = c.eval.new.builder.pool.0 in
     let all : c.eval.new.builder.constraints.base.items ≡ grew.more_base = grew.base ∙ ap (λ l. l.base ++ grew.more_base) c.in_ok-builder.ensures.none in
-    numbers_here r base_reads pool c.eval.new.builder.constraints.base.items ts (subst (λ l. EachMeans (PoolMeans base_reads r pool) l ts) (sym all) grew.each_base)
+    numbers_here r base_reads pool c.eval.new.builder.constraints.base.items ts (subst (λ l. AllZip (PoolMeans base_reads r pool) l ts) (sym all) grew.each_base)
 
 pub returns-clause-ext_here : goal.returns-clause-ext_here
 returns-clause-ext_here g c =
@@ -66,7 +67,7 @@ returns-clause-ext_here g c =
     let grew = c.in_ok-eval.ensures.ok in
     let pool = c.eval.new.builder.pool in
     let all : c.eval.new.builder.constraints.ext.items ≡ grew.more_ext = grew.ext ∙ ap (λ l. l.ext ++ grew.more_ext) c.in_ok-builder.ensures.none in
-    numbers_here r reads pool c.eval.new.builder.constraints.ext.items ts (subst (λ l. EachMeans (PoolMeans reads r pool) l ts) (sym all) grew.each_ext)
+    numbers_here r reads pool c.eval.new.builder.constraints.ext.items ts (subst (λ l. AllZip (PoolMeans reads r pool) l ts) (sym all) grew.each_ext)
 
 pub returns-clause-kinds : goal.returns-clause-kinds
 returns-clause-kinds g c =

@@ -6,7 +6,7 @@ use Rattle.std.proofs.lemmas.Slice.Zip.{length-zip}
 use Rattle.air_field.specs.Term.{sub_term}
 use Rattle.air_builder.specs.Batches.{AssertsOfBoth, GrewByEach}
 use Rattle.air_builder.specs.Builders.{Means}
-use Rattle.air_builder.proofs.EachGrowth.{none_yet, each_more, beginning, each_refused, both_kept, grew_of_both, refuses_of_both, get_pair}
+use Rattle.air_builder.specs.laws.Batches.{none_yet, each_more, beginning, each_refused, both_kept, grew_of_both, refuses_of_both, get_pair}
 use Rattle.air_builder.proofs.builders.air_builder.AirBuilder.assert_eq_slices.Goals as goal
 
 pub loop-i-init : goal.loop-i-init

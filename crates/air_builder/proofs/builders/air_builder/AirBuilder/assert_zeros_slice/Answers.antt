@@ -1,7 +1,7 @@
 use Rattle.std.proofs.Common.{arith}
 use Rattle.std.proofs.lemmas.Result.{err_from_is_err_and}
 use Rattle.air_builder.specs.Builders.{Means}
-use Rattle.air_builder.proofs.EachGrowth.{none_yet, each_more, beginning, each_refused, asserts_kept, grew_of_one, refuses_of_one}
+use Rattle.air_builder.specs.laws.Batches.{none_yet, each_more, beginning, each_refused, asserts_kept, grew_of_one, refuses_of_one}
 use Rattle.air_builder.proofs.builders.air_builder.AirBuilder.assert_zeros_slice.Goals as goal
 
 pub loop-element-init : goal.loop-element-init

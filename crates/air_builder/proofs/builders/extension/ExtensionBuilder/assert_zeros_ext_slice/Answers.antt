@@ -2,7 +2,7 @@ use Rattle.std.proofs.Common.{arith}
 use Rattle.std.proofs.lemmas.Result.{err_from_is_err_and}
 use Rattle.air_builder.specs.Builders.{Means}
 use Rattle.air_builder.specs.laws.Extensions.{over_extension}
-use Rattle.air_builder.proofs.EachGrowth.{none_yet, each_more, beginning, each_refused}
+use Rattle.air_builder.specs.laws.Batches.{none_yet, each_more, beginning, each_refused}
 use Rattle.air_builder.proofs.ExtensionGrowth.{asserts_ext_kept, grew_ext_of_one, refuses_ext_of_one}
 use Rattle.air_builder.proofs.builders.extension.ExtensionBuilder.assert_zeros_ext_slice.Goals as goal
 

@@ -4,7 +4,7 @@ use Rattle.air_field.specs.Algebra.{bool_check_term}
 use Rattle.air_builder.specs.Batches.{AssertsOf}
 use Rattle.air_builder.specs.Builders.{Means}
 use Rattle.air_windows.specs.Texts.{ElementSays}
-use Rattle.air_builder.proofs.EachGrowth.{each_refused, asserts_kept, refuses_of_one}
+use Rattle.air_builder.specs.laws.Batches.{each_refused, asserts_kept, refuses_of_one}
 use Rattle.air_builder.proofs.LabelGrowth.{no_label_yet, label_more, label_beginning, labels_grew, labels_grew_whole, beginning_grew, labelled_of_one}
 use Rattle.air_builder.proofs.builders.named.NamedAirBuilder.assert_bools_named_slice.Goals as goal
 

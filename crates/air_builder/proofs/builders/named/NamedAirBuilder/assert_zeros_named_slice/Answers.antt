@@ -3,7 +3,7 @@ use Rattle.std.proofs.lemmas.Result.{err_from_is_err_and}
 use Rattle.air_builder.specs.Batches.{AssertsOf}
 use Rattle.air_builder.specs.Builders.{Means}
 use Rattle.air_windows.specs.Texts.{ElementSays}
-use Rattle.air_builder.proofs.EachGrowth.{each_refused, asserts_kept, refuses_of_one}
+use Rattle.air_builder.specs.laws.Batches.{each_refused, asserts_kept, refuses_of_one}
 use Rattle.air_builder.proofs.LabelGrowth.{no_label_yet, label_more, label_beginning, labels_grew, labels_grew_whole, beginning_grew, labelled_of_one}
 use Rattle.air_builder.proofs.builders.named.NamedAirBuilder.assert_zeros_named_slice.Goals as goal
 

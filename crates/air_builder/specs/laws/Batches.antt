@@ -1,39 +1,15 @@
 -- Growth by one more element of a list.
-use Rattle.std.proofs.Common.{◌≡◌, ◌<◌, ℕ, ◌+◌, List, [], ◌∷◌, ◌++◌, length, take, drop, get_or, refl, ap, subst, sym, ◌∙◌, ap₂, append-nil}
+use Rattle.std.proofs.Common.{◌≡◌, ◌<◌, ℕ, ◌+◌, List, [], ◌∷◌, ◌++◌, length, take, drop, get_or, ap, subst, sym, ◌∙◌, ap₂, append-nil}
 use Rattle.std.proofs.lemmas.List.{take_more, drop_more, take-append-drop}
 use Rattle.std.proofs.lemmas.Slice.Zip.{get_or-zip}
-use Rattle.std.specs.List.{zip}
+use Rattle.std.specs.List.{AllZip, zip}
 use Rattle.air_field.specs.Term.{Term}
 use Rattle.air_windows.specs.declared.errors.AirError.{AirError}
 use Rattle.air_builder.specs.Assertion.{Assertion}
-use Rattle.air_builder.specs.Batches.{Each, AssertsOf, AssertsOfBoth, GrewByEach, GrewByBeginning, RefusesByEach}
+use Rattle.air_builder.specs.Batches.{AssertsOf, AssertsOfBoth, GrewByEach, GrewByBeginning, RefusesByEach}
 use Rattle.air_builder.specs.Builders.{MeansIn, BuilderView, RingLaws, BuilderLaws, GrewOf, GrewOfBoth, RefusesOf, RefusesOfBoth}
 use Rattle.air_builder.specs.laws.Filters.{means_kept}
-
--- the second list in two parts, as the first one is
-pub Each-append : {A B : Type 0} (R : A → B → Type 0) (xs : List A) (x : A) (rest : List A) (ys : List B)
-    → Each R (xs ++ (x ∷ rest)) ys
-    → (before : List B) × (y : B) × (after : List B) × (ys ≡ before ++ (y ∷ after)) × Each R xs before × R x y
-    × Each R rest after
-Each-append R [] x rest [] h = absurd h
-Each-append R [] x rest (y ∷ ys) h = ([], y, ys, refl, tt, h.0, h.1)
-Each-append R (z ∷ xs) x rest [] h = absurd h
-Each-append R (z ∷ xs) x rest (y ∷ ys) h =
-    let more = Each-append R xs x rest ys h.1 in
-    (y ∷ more.0, more.1, more.2, ap (λ v. y ∷ v) more.3, (h.0, more.4), more.5, more.6)
-
--- nothing stands beside no element
-pub Each-nil : {A B : Type 0} (R : A → B → Type 0) (ys : List B) → Each R [] ys → ys ≡ []
-Each-nil R [] h = refl
-Each-nil R (y ∷ ys) h = absurd h
-
--- the relation may give way to a weaker one
-pub Each-weaker : {A B : Type 0} (R S : A → B → Type 0) → ((x : A) (y : B) → R x y → S x y)
-    → (xs : List A) (ys : List B) → Each R xs ys → Each S xs ys
-Each-weaker R S w [] [] h = tt
-Each-weaker R S w [] (y ∷ ys) h = absurd h
-Each-weaker R S w (x ∷ xs) [] h = absurd h
-Each-weaker R S w (x ∷ xs) (y ∷ ys) h = (w x y h.0, Each-weaker R S w xs ys h.1)
+use Rattle.air_builder.specs.laws.Zips.{AllZip-parts, AllZip-nil}
 
 -- the first elements, one more, and the others
 pub in_parts : {X : Type 0} (xs : List X) (i : ℕ) (d : X) → i < length xs → xs ≡ take i xs ++ (get_or xs i d ∷ drop (i + 1) xs)
@@ -54,8 +30,8 @@ module _ {S R E F : Type 0} {view : BuilderView S R E F} (laws : BuilderLaws vie
       → GrewByEach asserts grew a c (take (i + 1) xs)
   each_more a b c xs i x lt is k g one ss h =
       let here : take (i + 1) xs ≡ take i xs ++ (x ∷ []) = take_more xs i x lt ∙ ap (λ v. take i xs ++ (v ∷ [])) (sym is) in
-      let parts = Each-append (asserts a) (take i xs) x [] ss (subst (λ v. Each (asserts a) v ss) here h) in
-      let whole : ss ≡ parts.0 ++ (parts.1 ∷ []) = parts.3 ∙ ap (λ v. parts.0 ++ (parts.1 ∷ v)) (Each-nil (asserts a) parts.2 parts.6) in
+      let parts = AllZip-parts (asserts a) (take i xs) x [] ss (subst (λ v. AllZip (asserts a) v ss) here h) in
+      let whole : ss ≡ parts.0 ++ (parts.1 ∷ []) = parts.3 ∙ ap (λ v. parts.0 ++ (parts.1 ∷ v)) (AllZip-nil (asserts a) parts.2 parts.6) in
       subst (λ v. grew a c v) (sym whole)
       (laws.joined a b c parts.0 (parts.1 ∷ []) (g parts.0 parts.4) (one parts.1 (asserts_kept a b k x parts.1 parts.5)))
 
@@ -82,7 +58,7 @@ module _ {S R E F : Type 0} {view : BuilderView S R E F} (laws : BuilderLaws vie
       → RefusesByEach asserts refuses a xs e
   each_refused a b e xs i x lt is k g one ss h =
       let here : xs ≡ take i xs ++ (x ∷ drop (i + 1) xs) = in_parts xs i x lt ∙ ap (λ v. take i xs ++ (v ∷ drop (i + 1) xs)) (sym is) in
-      let parts = Each-append (asserts a) (take i xs) x (drop (i + 1) xs) ss (subst (λ v. Each (asserts a) v ss) here h) in
+      let parts = AllZip-parts (asserts a) (take i xs) x (drop (i + 1) xs) ss (subst (λ v. AllZip (asserts a) v ss) here h) in
       refused_at a b e ss parts.0 parts.2 parts.1 parts.3 (g parts.0 parts.4) (one parts.1 (asserts_kept a b k x parts.1 parts.5))
 
 -- the pair at a place of two lists
