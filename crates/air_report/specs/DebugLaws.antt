@@ -112,7 +112,7 @@ module _ {F E : Type 0} (zero : RowData F E → Assertion F → Bool) where
         let s = same_at_row (data_of a) (count a) (failures a) in
         record { same_row = d; count = c ∙ s.count; more = []; failures = f ∙ sym (append-nil (failures a)); places = refl }
 
-    -- a builder over the values of a row as its laws see it: its ring's elements are their values, and nothing is refused there
+    -- a builder over the values of a row as its laws see it; its ring keeps and refuses nothing
     abbrev pub debug_view : {R V : Type 0} → (RowData F E → Leaf → Term F) → (S → R) → (S → R → S)
         → (V → Term F → Type 0) → BuilderView S R V F
     debug_view stands ring_of with_ring means = record {
