@@ -44,9 +44,7 @@ RefusesOf {F = F} means refuses op a x e = (t : Term F) → means a x t → refu
 abbrev pub RefusesOfBoth : {S E F X : Type 0} → (S → E → Term F → Type 0) → (S → X → List (Assertion F) → Type 0) → (Term F → Term F → Term F) → S → E → E → X → Type 0
 RefusesOfBoth {F = F} means refuses op a x y e = (t u : Term F) → means a x t → means a y u → refuses a e (Base (op t u) ∷ [])
 
--- A builder as its laws see it: its ring's states, elements, meanings, extensions and refusals; the ring that it lends,
--- and itself with another one; what stands at a leaf; that its ring is as it left it; what it keeps; growth; which
--- leaves have no entry; and its refusals.
+-- A builder as its laws see it: the ghost members of its ring, whose refusals are `ring_refuses`, and its own.
 pub record BuilderView (S R E F : Type 0) : Type 1 where
   pub valid : R → Type 0
   pub has : R → E → Type 0

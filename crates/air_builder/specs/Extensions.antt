@@ -34,7 +34,8 @@ AssertsExtOf {F = F} means op a x s = (t : Term F) × means a x t × (s ≡ Exte
 abbrev pub RefusesWindow : {F : Type 0} → (AirError → List (Assertion F) → Type 0) → (Leaf → Type 0) → AirError → Type 0
 RefusesWindow refuses missing e = refuses e [] ⊎ ((e ≡ NoPermutation) × ((o i : ℕ) → missing (permutation o i)))
 
--- A builder's ring over the extension as its laws see it, with what is in its base, and means something there.
+-- A builder's ring over the extension as the laws see it: the ghost members of this ring, whose refusals are
+-- `ring_refuses`, the ring that the builder lends, and the builder with another one.
 pub record ExtensionView (S X B E F : Type 0) : Type 1 where
   pub valid : X → Type 0
   pub has : X → E → Type 0

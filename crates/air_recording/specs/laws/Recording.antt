@@ -136,7 +136,8 @@ module _ {R Q E X F : Type 0} {valid : R → Type 0} {has : R → E → Type 0} 
       stands = λ _ l. leaf_term l;
       ready = λ b. IsReady (ext_valid (pool b)) (means (base_of (pool b))) (fixed b);
       kept = λ a b. KeptRecording ext_extends (pool a) (pool b) (fixed a) (fixed b);
-      grew = λ a b ts. GrewRecording (λ v x t. means (base_of v) x t) ext_means ext_extends (pool a) (pool b) (fixed a) (fixed b) (lists a) (lists b) ts;
+      grew = λ a b ts.
+          GrewRecording (λ v x t. means (base_of v) x t) ext_means ext_extends (pool a) (pool b) (fixed a) (fixed b) (lists a) (lists b) ts;
       missing = λ b l. IsMissing (fixed b).shape l;
       refuses = λ b e ts. Refused (IsMissing (fixed b).shape) (IsOver cached_weight) (λ _. ⊥) e ts;
     }

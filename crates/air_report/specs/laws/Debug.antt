@@ -96,8 +96,9 @@ module _ {F E : Type 0} (zero : RowData F E → Assertion F → Bool) where
         let s = same_at_row (data_of a) (count a) (failures a) in
         record { same_row = d; count = c ∙ s.count; more = []; failures = f ∙ sym (append-nil (failures a)); places = refl }
 
-    -- such a builder as its laws see it, where its ring has no state, and an element means its terms
-    abbrev pub debug_view : {R V : Type 0} → (RowData F E → Leaf → Term F) → (S → R) → (S → R → S) → (V → Term F → Type 0) → BuilderView S R V F
+    -- a builder over the values of a row as its laws see it; its ring keeps and refuses nothing
+    abbrev pub debug_view : {R V : Type 0} → (RowData F E → Leaf → Term F) → (S → R) → (S → R → S)
+        → (V → Term F → Type 0) → BuilderView S R V F
     debug_view stands ring_of with_ring means = record {
       valid = λ _. ⊤;
       has = λ _ _. ⊤;
@@ -115,7 +116,8 @@ module _ {F E : Type 0} (zero : RowData F E → Assertion F → Bool) where
     }
 
     -- and its ring over the extension
-    abbrev pub debug_over : {R V W : Type 0} → (S → R) → (S → R → S) → (V → Term F → Type 0) → (W → Term F → Type 0) → ExtensionView S R V W F
+    abbrev pub debug_over : {R V W : Type 0} → (S → R) → (S → R → S) → (V → Term F → Type 0) → (W → Term F → Type 0)
+        → ExtensionView S R V W F
     debug_over ring_of with_ring base_means means = record {
       valid = λ _. ⊤;
       has = λ _ _. ⊤;
@@ -129,10 +131,12 @@ module _ {F E : Type 0} (zero : RowData F E → Assertion F → Bool) where
     }
 
     module _ (stands : RowData F E → Leaf → Term F) {R V : Type 0} (ring_of : S → R) (with_ring : S → R → S)
-        (data_is : (a : S) (q : R) → data_of (with_ring a q) ≡ data_of a) (count_is : (a : S) (q : R) → count (with_ring a q) ≡ count a)
-        (failures_is : (a : S) (q : R) → failures (with_ring a q) ≡ failures a) (ring_is : (a : S) (q : R) → ring_of (with_ring a q) ≡ q)
+        (data_is : (a : S) (q : R) → data_of (with_ring a q) ≡ data_of a)
+        (count_is : (a : S) (q : R) → count (with_ring a q) ≡ count a)
+        (failures_is : (a : S) (q : R) → failures (with_ring a q) ≡ failures a)
+        (ring_is : (a : S) (q : R) → ring_of (with_ring a q) ≡ q)
         {means : V → Term F → Type 0} where
-      -- a builder over the values of a row keeps the laws
+      -- it keeps the laws
       pub debug_laws : BuilderLaws (debug_view stands ring_of with_ring means)
       debug_laws = record {
         same = λ a. same_at_row (data_of a) (count a) (failures a);
@@ -169,7 +173,8 @@ module _ {F E : Type 0} (zero : RowData F E → Assertion F → Bool) where
 
       module _ {B U : Type 0} (base_of : S → B) (base_means : U → Term F → Type 0) {with_base : S → B → S} where
         -- and those of builders over an extension, for its ring over the extension
-        pub debug_extension_laws : ExtensionLaws (debug_view stands base_of with_base base_means) (debug_over ring_of with_ring base_means means)
+        pub debug_extension_laws : ExtensionLaws (debug_view stands base_of with_base base_means)
+            (debug_over ring_of with_ring base_means means)
         debug_extension_laws = record {
           ext_ring_lent = λ a q e. unchanged a (with_ring a q) (data_is a q) (count_is a q) (failures_is a q);
           ext_ring_with = ring_is;
