@@ -7,7 +7,10 @@ use Rattle.air_builder.specs.Refusals.{NoneMissing}
 
 -- The list was asserted, and each of its leaves is there; or a beginning of it was that isn't the whole, and the refusal
 -- is one of the list.
-pub record Asserted {S F X : Type 0} (kept : S → S → Type 0) (grew : S → S → List (Assertion F) → Type 0) (missing : S → Leaf → Type 0) (refuses : S → X → List (Assertion F) → Type 0) (a b : S) (r : Result (Unit {0}) X) (ts : List (Assertion F)) : Type 0 where
+pub record Asserted {S F X : Type 0} (kept : S → S → Type 0) (grew : S → S → List (Assertion F) → Type 0)
+    (missing : S → Leaf → Type 0) (refuses : S → X → List (Assertion F) → Type 0) (a b : S)
+    (r : Result (Unit {0}) X)
+    (ts : List (Assertion F)) : Type 0 where
   pub keeps : kept a b
   pub ok : OnOk r (grew a b ts)
   pub there : OnOk r (NoneMissing (missing a) ts)

@@ -10,7 +10,9 @@ Lasts {S} kept fact a = (b : S) → kept a b → fact b
 
 -- An element of the term was made: nothing was asserted, and each leaf of the term is there. A refusal may be one of any
 -- list that has the term as a part.
-pub record Made {S E F X : Type 0} (means : S → E → Term F → Type 0) (grew : S → S → List (Assertion F) → Type 0) (missing : S → Leaf → Type 0) (refuses : S → X → List (Assertion F) → Type 0) (a b : S) (r : Result E X) (t : Term F) : Type 0 where
+pub record Made {S E F X : Type 0} (means : S → E → Term F → Type 0) (grew : S → S → List (Assertion F) → Type 0)
+    (missing : S → Leaf → Type 0) (refuses : S → X → List (Assertion F) → Type 0) (a b : S) (r : Result E X)
+    (t : Term F) : Type 0 where
   pub keeps : grew a b []
   pub made : IfOk r (λ x. means b x t)
   pub there : OnOk r (EachLeaf (λ l. missing a l → ⊥) t)

@@ -32,26 +32,36 @@ abbrev pub discarding : {S F : Type 0} → (S → S → List (Assertion F) → T
 discarding grew a b ls = grew a b (without_labels ls)
 
 -- the builder grew by the one term that the operation makes of what x means, under a label that the name may display
-pub record LabelledOf {S E F : Type 0} (means : S → E → Term F → Type 0) (labelled : S → S → List (Labelled F) → Type 0) (says : Option (List ℕ) → Type 0) (op : Term F → Term F) (a b : S) (x : E) : Type 0 where
+pub record LabelledOf {S E F : Type 0} (means : S → E → Term F → Type 0)
+    (labelled : S → S → List (Labelled F) → Type 0) (says : Option (List ℕ) → Type 0) (op : Term F → Term F)
+    (a b : S)
+    (x : E) : Type 0 where
   pub label : Label
   pub said : IsSaid says label
   pub grown : (t : Term F) → means a x t → labelled a b ((Base (op t), label) ∷ [])
 
 -- the same, of what x and y mean
-pub record LabelledOfBoth {S E F : Type 0} (means : S → E → Term F → Type 0) (labelled : S → S → List (Labelled F) → Type 0) (says : Option (List ℕ) → Type 0) (op : Term F → Term F → Term F) (a b : S) (x y : E) : Type 0 where
+pub record LabelledOfBoth {S E F : Type 0} (means : S → E → Term F → Type 0)
+    (labelled : S → S → List (Labelled F) → Type 0) (says : Option (List ℕ) → Type 0)
+    (op : Term F → Term F → Term F)
+    (a b : S) (x y : E) : Type 0 where
   pub label : Label
   pub said : IsSaid says label
   pub grown : (t u : Term F) → means a x t → means a y u → labelled a b ((Base (op t u), label) ∷ [])
 
 -- the builder grew by what each element asserts, in order, the i-th under a label that the name at i may display
-pub record LabelledByEach {S I F : Type 0} (asserts : S → I → Assertion F → Type 0) (labelled : S → S → List (Labelled F) → Type 0) (says : ℕ → Option (List ℕ) → Type 0) (a b : S) (xs : List I) : Type 0 where
+pub record LabelledByEach {S I F : Type 0} (asserts : S → I → Assertion F → Type 0)
+    (labelled : S → S → List (Labelled F) → Type 0) (says : ℕ → Option (List ℕ) → Type 0) (a b : S)
+    (xs : List I) : Type 0 where
   pub labels : List Label
   pub as_many : length labels ≡ length xs
   pub said : AreSaidFrom says 0 labels
   pub grown : (ss : List (Assertion F)) → AllZip (asserts a) xs ss → labelled a b (zip ss labels)
 
 -- the same, of some of the elements, the first ones and not all
-pub record LabelledByBeginning {S I F : Type 0} (asserts : S → I → Assertion F → Type 0) (labelled : S → S → List (Labelled F) → Type 0) (says : ℕ → Option (List ℕ) → Type 0) (a b : S) (xs : List I) : Type 0 where
+pub record LabelledByBeginning {S I F : Type 0} (asserts : S → I → Assertion F → Type 0)
+    (labelled : S → S → List (Labelled F) → Type 0) (says : ℕ → Option (List ℕ) → Type 0) (a b : S)
+    (xs : List I) : Type 0 where
   pub count : ℕ
   pub within : count < length xs
   pub beginning : LabelledByEach asserts labelled says a b (take count xs)

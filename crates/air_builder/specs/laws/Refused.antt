@@ -33,7 +33,8 @@ module _ {F : Type 0} (missing : Leaf → Type 0) (over : Term F → Type 0) (fu
   Refused-first NoPermutation xs ys k h = (h.0, h.1, h.2, PartOf-first (leaf_term (permutation h.0 h.1)) xs ys h.3)
   Refused-first _ xs ys k h = absurd h
 
-  pub Refused-then : (before : List (Assertion F) → Type 0) (e : AirError) (xs ys : List (Assertion F)) → (full ys → before (xs ++ ys)) → Refused missing over full e ys → Refused missing over before e (xs ++ ys)
+  pub Refused-then : (before : List (Assertion F) → Type 0) (e : AirError) (xs ys : List (Assertion F))
+      → (full ys → before (xs ++ ys)) → Refused missing over full e ys → Refused missing over before e (xs ++ ys)
   Refused-then before Memory xs ys k h = tt
   Refused-then before DegreeOverflow xs ys k h = (h.0, (h.1.0, PartOf-then h.0 xs ys h.1.1))
   Refused-then before CountOverflow xs ys k h = k h

@@ -43,7 +43,9 @@ module _ {F E : Type 0} (a : Over F E) where
   }
 
   -- an expression that means a term is the term's value at the row
-  pub folder_value : (coefficients : E → List F) → ((x : E) → a.extend (coefficients x) ≡ x) → (d : FolderRow E) (t : Term F) (v : E) → HasValue a v (with_leaves (folder_stands a coefficients d) t) → value a (folder_leaves a d) t ≡ v
+  pub folder_value : (coefficients : E → List F) → ((x : E) → a.extend (coefficients x) ≡ x)
+      → (d : FolderRow E) (t : Term F) (v : E) → HasValue a v (with_leaves (folder_stands a coefficients d) t)
+      → value a (folder_leaves a d) t ≡ v
   folder_value coefficients named d t v means =
       ap (λ s. value a s t) (λ i l. sym (named (folder_leaves a d l)) i)
       ∙ (sym (value-leaves a (λ _. a.ring.nil) (folder_stands a coefficients d) t) ∙ means)

@@ -44,7 +44,13 @@ ext_terms-append (Base t ∷ xs) ys = ext_terms-append xs ys
 ext_terms-append (Extension t ∷ xs) ys = ap (λ ts. t ∷ ts) (ext_terms-append xs ys)
 
 -- The base ring, of elements E, lies under the pool, whose elements are X.
-module _ {R Q E X F : Type 0} {valid : R → Type 0} {has : R → E → Type 0} {means : R → E → Term F → Type 0} {extends : R → R → Type 0} {ext_valid : Q → Type 0} {ext_has : Q → X → Type 0} {ext_means : Q → X → Term F → Type 0} {ext_extends : Q → Q → Type 0} (ring : AlgebraLaws valid has means extends PoolRefuses) (ext : AlgebraLaws ext_valid ext_has ext_means ext_extends PoolRefuses) (base_of : Q → R) (under : (p q : Q) → ext_extends p q → extends (base_of p) (base_of q)) where
+module _ {R Q E X F : Type 0} {valid : R → Type 0} {has : R → E → Type 0} {means : R → E → Term F
+    → Type 0} {extends : R → R → Type 0} {ext_valid : Q → Type 0} {ext_has : Q → X → Type 0} {ext_means : Q → X
+    → Term F
+    → Type 0} {ext_extends : Q → Q → Type 0}
+    (ring : AlgebraLaws valid has means extends PoolRefuses)
+    (ext : AlgebraLaws ext_valid ext_has ext_means ext_extends PoolRefuses) (base_of : Q → R)
+    (under : (p q : Q) → ext_extends p q → extends (base_of p) (base_of q)) where
   means_now : Q → E → Term F → Type 0
   means_now q x t = means (base_of q) x t
 
@@ -62,7 +68,9 @@ module _ {R Q E X F : Type 0} {valid : R → Type 0} {has : R → E → Type 0} 
   }
 
   -- one base assertion was recorded
-  pub recorded_base : (p : Q) (s : Fixed E) (a b : Lists E X) (x : E) (t : Term F) → b ≡ with_base a x → means (base_of p) x (with_leaves (λ l. leaf_term l) t) → GrewRecording (λ v y u. means (base_of v) y u) ext_means ext_extends p p s s a b (Base t ∷ [])
+  pub recorded_base : (p : Q) (s : Fixed E) (a b : Lists E X) (x : E) (t : Term F) → b ≡ with_base a x
+      → means (base_of p) x (with_leaves (λ l. leaf_term l) t)
+      → GrewRecording (λ v y u. means (base_of v) y u) ext_means ext_extends p p s s a b (Base t ∷ [])
   recorded_base p s a b x t e m = record {
     keeps = record { pool = ext.same p; fixed = refl };
     more_base = x ∷ [];
@@ -75,7 +83,9 @@ module _ {R Q E X F : Type 0} {valid : R → Type 0} {has : R → E → Type 0} 
   }
 
   -- one extension assertion was recorded
-  pub recorded_ext : (p : Q) (s : Fixed E) (a b : Lists E X) (x : X) (t : Term F) → b ≡ with_ext a x → ext_means p x (with_leaves (λ l. leaf_term l) t) → GrewRecording (λ v y u. means (base_of v) y u) ext_means ext_extends p p s s a b (Extension t ∷ [])
+  pub recorded_ext : (p : Q) (s : Fixed E) (a b : Lists E X) (x : X) (t : Term F) → b ≡ with_ext a x
+      → ext_means p x (with_leaves (λ l. leaf_term l) t)
+      → GrewRecording (λ v y u. means (base_of v) y u) ext_means ext_extends p p s s a b (Extension t ∷ [])
   recorded_ext p s a b x t e m = record {
     keeps = record { pool = ext.same p; fixed = refl };
     more_base = [];
@@ -87,7 +97,10 @@ module _ {R Q E X F : Type 0} {valid : R → Type 0} {has : R → E → Type 0} 
     each_ext = (subst (λ v. ext_means p x v) (with_leaves-same t) m, tt);
   }
 
-  recorded_joined : (p q r : Q) (s u v : Fixed E) (a b c : Lists E X) (ts us : List (Assertion F)) → GrewRecording (λ w x t. means (base_of w) x t) ext_means ext_extends p q s u a b ts → GrewRecording (λ w x t. means (base_of w) x t) ext_means ext_extends q r u v b c us → GrewRecording (λ w x t. means (base_of w) x t) ext_means ext_extends p r s v a c (ts ++ us)
+  recorded_joined : (p q r : Q) (s u v : Fixed E) (a b c : Lists E X) (ts us : List (Assertion F))
+      → GrewRecording (λ w x t. means (base_of w) x t) ext_means ext_extends p q s u a b ts
+      → GrewRecording (λ w x t. means (base_of w) x t) ext_means ext_extends q r u v b c us
+      → GrewRecording (λ w x t. means (base_of w) x t) ext_means ext_extends p r s v a c (ts ++ us)
   recorded_joined p q r s u v a b c ts us g h = record {
     keeps = record { pool = ext.joined p q r g.keeps.pool h.keeps.pool; fixed = h.keeps.fixed ∙ g.keeps.fixed };
     more_base = g.more_base ++ h.more_base;
@@ -191,7 +204,9 @@ module _ {R Q E X F : Type 0} {valid : R → Type 0} {has : R → E → Type 0} 
 
       pub recording_ext_laws : ExtensionLaws recording_view recording_over
       recording_ext_laws = record {
-        ext_ring_lent = λ a q e. recorded_none (pool a) (pool (with_ext_ring a q)) (fixed a) (fixed (with_ext_ring a q)) (lists a) (lists (with_ext_ring a q)) (subst (λ v. ext_extends (pool a) v) (sym (ext_ring_is a q)) e) (fixed_stays a q) (lists_stay a q);
+        ext_ring_lent = λ a q e. recorded_none (pool a) (pool (with_ext_ring a q)) (fixed a)
+            (fixed (with_ext_ring a q)) (lists a) (lists (with_ext_ring a q))
+            (subst (λ v. ext_extends (pool a) v) (sym (ext_ring_is a q)) e) (fixed_stays a q) (lists_stay a q);
         ext_ring_with = ext_ring_is;
         ext_ring_valid = λ a h. h.pool;
         ext_ring_kept = λ a b k. k.pool;

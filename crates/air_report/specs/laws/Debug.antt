@@ -27,7 +27,10 @@ enumerate_from-append n (x ∷ xs) ys =
     ap (λ l. (n, x) ∷ l) (enumerate_from-append (n + 1) xs ys ∙ ap (λ m. enumerate_from (n + 1) xs ++ enumerate_from m ys) e)
 
 -- an AIR refuses for want of memory, or what its builder refuses
-pub refused_anyway : {F E : Type 0} {zero : RowData F E → Assertion F → Bool} {d : RowData F E} {n : ℕ} {ts : List (Assertion F)} (e : AirError) → (e ≡ Memory) ⊎ RefusedAtRow zero d n e ts → Refused (RowMissing d) (λ _. ⊥) (IsFull n) e ts
+pub refused_anyway : {F E : Type 0} {zero : RowData F E → Assertion F
+    → Bool} {d : RowData F E} {n : ℕ} {ts : List (Assertion F)}
+    (e : AirError)
+    → (e ≡ Memory) ⊎ RefusedAtRow zero d n e ts → Refused (RowMissing d) (λ _. ⊥) (IsFull n) e ts
 refused_anyway {d = d} {n = n} {ts = ts} e (inl m) = subst (λ x. Refused (RowMissing d) (λ _. ⊥) (IsFull n) x ts) (sym m) tt
 refused_anyway e (inr h) = h.refused
 
@@ -51,7 +54,9 @@ module _ {F E : Type 0} (zero : RowData F E → Assertion F → Bool) where
   pub same_at_row : (d : RowData F E) (m : ℕ) (fs : List ConstraintFailure) → GrewAtRow zero d d m m fs fs []
   same_at_row d m fs = record { same_row = refl; count = omega arith; more = []; failures = sym (append-nil fs); places = refl }
 
-  pub joined_at_row : (d e f : RowData F E) (m n k : ℕ) (fs gs hs : List ConstraintFailure) (xs ys : List (Assertion F)) → GrewAtRow zero d e m n fs gs xs → GrewAtRow zero e f n k gs hs ys → GrewAtRow zero d f m k fs hs (xs ++ ys)
+  pub joined_at_row : (d e f : RowData F E) (m n k : ℕ) (fs gs hs : List ConstraintFailure)
+      (xs ys : List (Assertion F))
+      → GrewAtRow zero d e m n fs gs xs → GrewAtRow zero e f n k gs hs ys → GrewAtRow zero d f m k fs hs (xs ++ ys)
   joined_at_row d e f m n k fs gs hs xs ys g h =
       let at : RowData F E → ℕ → List (Assertion F) → List (ℕ × ℕ) = λ c j ts. map (λ i. (c.row, i)) (nonzero_by (zero c) j ts) in
       let later : at e n ys ≡ at d (m + length xs) ys = ap (λ c. at c n ys) g.same_row ∙ ap (λ j. at d j ys) g.count in
