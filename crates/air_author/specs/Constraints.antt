@@ -9,8 +9,7 @@ use Rattle.air_builder.specs.Refusals.{NoneMissing}
 -- is one of the list.
 pub record Asserted {S F X : Type 0} (kept : S → S → Type 0) (grew : S → S → List (Assertion F) → Type 0)
     (missing : S → Leaf → Type 0) (refuses : S → X → List (Assertion F) → Type 0) (a b : S)
-    (r : Result (Unit {0}) X)
-    (ts : List (Assertion F)) : Type 0 where
+    (r : Result (Unit {0}) X) (ts : List (Assertion F)) : Type 0 where
   pub keeps : kept a b
   pub ok : OnOk r (grew a b ts)
   pub there : OnOk r (NoneMissing (missing a) ts)

@@ -8,8 +8,7 @@ use Rattle.air_builder.specs.Labels.{Label, Labelled, IsSaid}
 -- display
 pub record LabelledExtOf {S E F : Type 0} (means : S → E → Term F → Type 0)
     (labelled : S → S → List (Labelled F) → Type 0) (says : Option (List ℕ) → Type 0) (op : Term F → Term F)
-    (a b : S)
-    (x : E) : Type 0 where
+    (a b : S) (x : E) : Type 0 where
   pub label : Label
   pub said : IsSaid says label
   pub grown : (t : Term F) → means a x t → labelled a b ((Extension (op t), label) ∷ [])
@@ -17,8 +16,7 @@ pub record LabelledExtOf {S E F : Type 0} (means : S → E → Term F → Type 0
 -- the same, of what x and y mean
 pub record LabelledExtOfBoth {S E F : Type 0} (means : S → E → Term F → Type 0)
     (labelled : S → S → List (Labelled F) → Type 0) (says : Option (List ℕ) → Type 0)
-    (op : Term F → Term F → Term F)
-    (a b : S) (x y : E) : Type 0 where
+    (op : Term F → Term F → Term F) (a b : S) (x y : E) : Type 0 where
   pub label : Label
   pub said : IsSaid says label
   pub grown : (t u : Term F) → means a x t → means a y u → labelled a b ((Extension (op t u), label) ∷ [])

@@ -34,8 +34,7 @@ discarding grew a b ls = grew a b (without_labels ls)
 -- the builder grew by the one term that the operation makes of what x means, under a label that the name may display
 pub record LabelledOf {S E F : Type 0} (means : S → E → Term F → Type 0)
     (labelled : S → S → List (Labelled F) → Type 0) (says : Option (List ℕ) → Type 0) (op : Term F → Term F)
-    (a b : S)
-    (x : E) : Type 0 where
+    (a b : S) (x : E) : Type 0 where
   pub label : Label
   pub said : IsSaid says label
   pub grown : (t : Term F) → means a x t → labelled a b ((Base (op t), label) ∷ [])
@@ -43,8 +42,7 @@ pub record LabelledOf {S E F : Type 0} (means : S → E → Term F → Type 0)
 -- the same, of what x and y mean
 pub record LabelledOfBoth {S E F : Type 0} (means : S → E → Term F → Type 0)
     (labelled : S → S → List (Labelled F) → Type 0) (says : Option (List ℕ) → Type 0)
-    (op : Term F → Term F → Term F)
-    (a b : S) (x y : E) : Type 0 where
+    (op : Term F → Term F → Term F) (a b : S) (x y : E) : Type 0 where
   pub label : Label
   pub said : IsSaid says label
   pub grown : (t u : Term F) → means a x t → means a y u → labelled a b ((Base (op t u), label) ∷ [])

@@ -40,15 +40,14 @@ OrMemory refuses a e ts = (e ≡ Memory) ⊎ refuses a e ts
 
 -- the operation of what x means in the builder
 abbrev pub MadeFrom : {S E F X : Type 0} → (S → E → Term F → Type 0) → (S → S → List (Assertion F) → Type 0)
-    → (S → Leaf → Type 0) → (S → X → List (Assertion F) → Type 0) → (Term F → Term F) → S → S → Result E X → E
-    → Type 0
+    → (S → Leaf → Type 0) → (S → X → List (Assertion F) → Type 0) → (Term F → Term F) → S → S → Result E X
+    → E → Type 0
 MadeFrom {F = F} means grew missing refuses op a b r x = (t : Term F) → IsMade means missing a t x → Made means grew missing refuses a b r (op t)
 
 -- the operation of what x and y mean in it
 abbrev pub MadeFromBoth : {S E F X : Type 0} → (S → E → Term F → Type 0) → (S → S → List (Assertion F) → Type 0)
     → (S → Leaf → Type 0) → (S → X → List (Assertion F) → Type 0) → (Term F → Term F → Term F) → S → S → Result E X
-    → E
-    → E → Type 0
+    → E → E → Type 0
 MadeFromBoth {F = F} means grew missing refuses op a b r x y = (t u : Term F) → IsMade means missing a t x → IsMade means missing a u y → Made means grew missing refuses a b r (op t u)
 
 -- The expression of each term was made, in order: nothing was asserted, and each leaf of the terms is there. A refusal

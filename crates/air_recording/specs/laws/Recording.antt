@@ -44,10 +44,10 @@ ext_terms-append (Base t ∷ xs) ys = ext_terms-append xs ys
 ext_terms-append (Extension t ∷ xs) ys = ap (λ ts. t ∷ ts) (ext_terms-append xs ys)
 
 -- The base ring, of elements E, lies under the pool, whose elements are X.
-module _ {R Q E X F : Type 0} {valid : R → Type 0} {has : R → E → Type 0} {means : R → E → Term F
-    → Type 0} {extends : R → R → Type 0} {ext_valid : Q → Type 0} {ext_has : Q → X → Type 0} {ext_means : Q → X
-    → Term F
-    → Type 0} {ext_extends : Q → Q → Type 0}
+module _ {R Q E X F : Type 0}
+    {valid : R → Type 0} {has : R → E → Type 0} {means : R → E → Term F → Type 0} {extends : R → R → Type 0}
+    {ext_valid : Q → Type 0} {ext_has : Q → X → Type 0} {ext_means : Q → X → Term F → Type 0}
+    {ext_extends : Q → Q → Type 0}
     (ring : AlgebraLaws valid has means extends PoolRefuses)
     (ext : AlgebraLaws ext_valid ext_has ext_means ext_extends PoolRefuses) (base_of : Q → R)
     (under : (p q : Q) → ext_extends p q → extends (base_of p) (base_of q)) where

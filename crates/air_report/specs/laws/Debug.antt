@@ -27,9 +27,8 @@ enumerate_from-append n (x ∷ xs) ys =
     ap (λ l. (n, x) ∷ l) (enumerate_from-append (n + 1) xs ys ∙ ap (λ m. enumerate_from (n + 1) xs ++ enumerate_from m ys) e)
 
 -- an AIR refuses for want of memory, or what its builder refuses
-pub refused_anyway : {F E : Type 0} {zero : RowData F E → Assertion F
-    → Bool} {d : RowData F E} {n : ℕ} {ts : List (Assertion F)}
-    (e : AirError)
+pub refused_anyway : {F E : Type 0} {zero : RowData F E → Assertion F → Bool} {d : RowData F E} {n : ℕ}
+    {ts : List (Assertion F)} (e : AirError)
     → (e ≡ Memory) ⊎ RefusedAtRow zero d n e ts → Refused (RowMissing d) (λ _. ⊥) (IsFull n) e ts
 refused_anyway {d = d} {n = n} {ts = ts} e (inl m) = subst (λ x. Refused (RowMissing d) (λ _. ⊥) (IsFull n) x ts) (sym m) tt
 refused_anyway e (inr h) = h.refused
