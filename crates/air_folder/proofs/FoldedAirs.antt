@@ -15,7 +15,7 @@ use Rattle.air_folder.specs.Fold.{folded_on}
 use Rattle.air_folder.specs.laws.Fold.{folded_on-nil}
 use Rattle.air_folder.specs.Folder.{FolderRow, folder_leaves, values_in}
 use Rattle.air_folder.specs.laws.Folder.{unchanged}
-use Rattle.air_folder.specs.FolderRow.{row_of}
+use Rattle.air_folder.specs.FolderRow.{folder_row}
 use Rattle.air_folder.specs.Folding.{IsFolded, GrewByBeginningOf}
 use Rattle.air_folder.specs.declared.folder.builder.ConstraintFolder.{ConstraintFolder}
 use Rattle.air_folder.specs.declared.folding.Folded.{Folded}
@@ -80,4 +80,4 @@ module _ {F E : Type 0} (r : CommRing F) (eq : F → F → Bool) (a : Over F E) 
 -- a folder beside which the recording was refused grew by none
 pub refused_before : {F E T X : Type 0} (a : Over F E) (b : ConstraintFolder F E) (ts : List (Assertion F)) (result : Result T X) → OnErr result (GrewByBeginningOf a b b ts)
 refused_before a b ts (Ok v) = tt
-refused_before a b ts (Err e) = record { count = 0; within = omega arith; beginning = unchanged a (row_of b) (row_of b) b.accumulator b.accumulator refl refl }
+refused_before a b ts (Err e) = record { count = 0; within = omega arith; beginning = unchanged a (folder_row b) (folder_row b) b.accumulator b.accumulator refl refl }

@@ -19,8 +19,8 @@ next_permutation_row (Some p) = p.bottom.values.now
 abbrev pub permutation_data : {E : Type 0} → Option (ViewPair E) → List E → List E → PermutationData E
 permutation_data p challenges exposed = record { current = permutation_row p; next = next_permutation_row p; challenges = challenges; exposed = exposed }
 
-abbrev pub row_of : {F E : Type 0} → ConstraintFolder F E → FolderRow E
-row_of b = record {
+abbrev pub folder_row : {F E : Type 0} → ConstraintFolder F E → FolderRow E
+folder_row b = record {
   values = record {
     current = b.main.current.now;
     next = b.main.next.now;
@@ -42,4 +42,4 @@ StepsBy a value b c = c.accumulator ≡ a.ring.add (a.ring.mul b.accumulator b.a
 
 -- the folder grew by the list
 abbrev pub FolderGrew : {F E : Type 0} → Over F E → ConstraintFolder F E → ConstraintFolder F E → List (Assertion F) → Type 0
-FolderGrew a b c ts = GrewFolder a (row_of b) (row_of c) b.accumulator c.accumulator ts
+FolderGrew a b c ts = GrewFolder a (folder_row b) (folder_row c) b.accumulator c.accumulator ts

@@ -35,9 +35,9 @@ bad (f ∷ fs) lines e = rw (some_true f fs, e) refl
 
 -- ---- the lines that are left
 
-row_of : (before after : List ℕ) (numbers : Option (List ℕ)) → onto before numbers ≡ Some after → (row : List ℕ) × (numbers ≡ Some row) × (after ≡ before ++ row)
-row_of before after None e = absurd cc
-row_of before after (Some row) e = (row, refl, cc)
+row_read : (before after : List ℕ) (numbers : Option (List ℕ)) → onto before numbers ≡ Some after → (row : List ℕ) × (numbers ≡ Some row) × (after ≡ before ++ row)
+row_read before after None e = absurd cc
+row_read before after (Some row) e = (row, refl, cc)
 
 nothing_behind : (before row : List ℕ) → length row ≡ 0 → before ++ row ≡ before
 nothing_behind before [] none = append-nil before
@@ -46,7 +46,7 @@ nothing_behind before (n ∷ ns) none = absurd (omega arith)
 pub row_taken : (before after : List BabyBear) (line : List ℕ) (lines : List (List ℕ)) (count : ℕ) → onto (residues before) (numbers_of line) ≡ Some (residues after) → length after ≡ length before + count → 0 < count → PushesRow (residues before) (residues after) count (rows_of (line ∷ lines)) (rows_of lines)
 unfolding rows_of
 row_taken before after line lines count e long some =
-    let row = row_of (residues before) (residues after) (numbers_of line) e in
+    let row = row_read (residues before) (residues after) (numbers_of line) e in
     let same : length (residues after) ≡ length (residues before) + length row.0 = ap length row.2 ∙ length-append (residues before) row.0 in
     let all : count ≡ length row.0 = omega (arith, length-map before (λ x. x.residue), length-map after (λ x. x.residue)) in
     (row.0, row.2, all, first_row (fields_of line) (map fields_of lines) row.0 row.1 (omega arith))
@@ -54,7 +54,7 @@ row_taken before after line lines count e long some =
 pub line_skipped : (before after : List BabyBear) (line : List ℕ) (lines : List (List ℕ)) (count : ℕ) → onto (residues before) (numbers_of line) ≡ Some (residues after) → length after ≡ length before + count → count ≡ 0 → (residues after ≡ residues before) × (rows_of (line ∷ lines) ≡ rows_of lines)
 unfolding rows_of
 line_skipped before after line lines count e long none =
-    let row = row_of (residues before) (residues after) (numbers_of line) e in
+    let row = row_read (residues before) (residues after) (numbers_of line) e in
     let same : length (residues after) ≡ length (residues before) + length row.0 = ap length row.2 ∙ length-append (residues before) row.0 in
     let empty : length row.0 ≡ 0 = omega (arith, length-map before (λ x. x.residue), length-map after (λ x. x.residue)) in
     (row.2 ∙ nothing_behind (residues before) row.0 empty, blank (fields_of line) (map fields_of lines) row.0 row.1 empty)

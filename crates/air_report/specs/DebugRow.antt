@@ -18,8 +18,8 @@ next_permutation_row (Some p) = p.bottom.values.now
 abbrev pub permutation_data : {E : Type 0} → Option (ViewPair E) → List E → List E → PermutationData E
 permutation_data p challenges exposed = record { current = permutation_row p; next = next_permutation_row p; challenges = challenges; exposed = exposed }
 
-abbrev pub row_of : {F E : Type 0} → DebugConstraintBuilder F E → RowData F E
-row_of b = row_data b.row_index b.main.top.values.now b.main.bottom.values.now
+abbrev pub debug_row : {F E : Type 0} → DebugConstraintBuilder F E → RowData F E
+debug_row b = row_data b.row_index b.main.top.values.now b.main.bottom.values.now
     b.preprocessed.current.now b.preprocessed.next.now b.periodic_row.items b.public_values.now
     b.is_first_row b.is_last_row b.is_transition
     (permutation_data b.permutation b.permutation_challenges.now b.permutation_values.now)

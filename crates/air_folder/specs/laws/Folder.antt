@@ -17,7 +17,7 @@ use Rattle.air_builder.specs.Extensions.{ExtensionView, ExtensionLaws}
 use Rattle.air_folder.specs.Fold.{folded_on}
 use Rattle.air_folder.specs.laws.Fold.{folded_on-none, folded_on-one, folded_on-append}
 use Rattle.air_folder.specs.Folder.{FolderRow, HasValue, folder_leaves, folder_stands, FolderMissing, value_in, values_in, GrewFolder, FolderRefuses}
-use Rattle.air_folder.specs.FolderRow.{row_of, FolderGrew}
+use Rattle.air_folder.specs.FolderRow.{folder_row, FolderGrew}
 use Rattle.air_folder.specs.declared.folder.builder.ConstraintFolder.{ConstraintFolder}
 use Rattle.air_folder.specs.declared.folder.ring.FolderRing.{FolderRing}
 
@@ -60,12 +60,12 @@ module _ {F E : Type 0} (a : Over F E) where
     ring_refuses = λ _ _. ⊥;
     ring_of = λ b. b.ring;
     with_ring = λ b q. record b { ring = q };
-    stands = λ b. folder_stands a coefficients (row_of b);
+    stands = λ b. folder_stands a coefficients (folder_row b);
     ready = λ _. ⊤;
-    kept = λ b c. row_of c ≡ row_of b;
+    kept = λ b c. folder_row c ≡ folder_row b;
     grew = FolderGrew a;
-    missing = λ b l. FolderMissing (row_of b) l;
-    refuses = λ b e ts. FolderRefuses (row_of b) e ts;
+    missing = λ b l. FolderMissing (folder_row b) l;
+    refuses = λ b e ts. FolderRefuses (folder_row b) e ts;
   }
 
   -- and its ring over the extension, which is the same
@@ -85,9 +85,9 @@ module _ {F E : Type 0} (a : Over F E) where
   -- it keeps them for its ring
   pub folder_laws : (coefficients : E → List F) → BuilderLaws (folder_view coefficients)
   folder_laws coefficients = record {
-    same = λ b. unchanged (row_of b) (row_of b) b.accumulator b.accumulator refl refl;
-    joined = λ b c d ts us g h. grew_joined (row_of b) (row_of c) (row_of d) b.accumulator c.accumulator d.accumulator ts us g h;
-    ring_lent = λ b q e. unchanged (row_of b) (row_of b) b.accumulator b.accumulator refl refl;
+    same = λ b. unchanged (folder_row b) (folder_row b) b.accumulator b.accumulator refl refl;
+    joined = λ b c d ts us g h. grew_joined (folder_row b) (folder_row c) (folder_row d) b.accumulator c.accumulator d.accumulator ts us g h;
+    ring_lent = λ b q e. unchanged (folder_row b) (folder_row b) b.accumulator b.accumulator refl refl;
     ring_with = λ b q. refl;
     ring_valid = λ b h. tt;
     by_growth = λ b c ts g. g.same_row;
@@ -97,22 +97,22 @@ module _ {F E : Type 0} (a : Over F E) where
     ready_kept = λ b c k h. tt;
     missing_kept = λ b c l k h. subst (λ d. FolderMissing d l) k h;
     missing_stays = λ b c l k h. subst (λ d. FolderMissing d l) (sym k) h;
-    past_window = λ b o l h. past_window_missing (one_row_shape (row_of b).values (row_of b).others) o l h;
+    past_window = λ b o l h. past_window_missing (one_row_shape (folder_row b).values (folder_row b).others) o l h;
     has_first_row = λ b h. h;
     has_last_row = λ b h. h;
     has_transition = λ b h. h;
     refuses_first = λ b e ts us h. record {
-      refused = Refused-first (FolderMissing (row_of b)) (λ _. ⊥) (λ _. ⊥) e ts us (λ f. f) h.refused;
+      refused = Refused-first (FolderMissing (folder_row b)) (λ _. ⊥) (λ _. ⊥) e ts us (λ f. f) h.refused;
       not_memory = h.not_memory;
     };
     refuses_then = λ b c e ts us g h. record {
       refused = subst (λ d. Refused (FolderMissing d) (λ _. ⊥) (λ _. ⊥) e (ts ++ us)) g.same_row
-          (Refused-then (FolderMissing (row_of c)) (λ _. ⊥) (λ _. ⊥) (λ _. ⊥) e ts us (λ f. f) h.refused);
+          (Refused-then (FolderMissing (folder_row c)) (λ _. ⊥) (λ _. ⊥) (λ _. ⊥) e ts us (λ f. f) h.refused);
       not_memory = h.not_memory;
     };
     refuses_in_ring = λ b e t ts h p. absurd h;
     refuses_missing = λ b e l ts m n p. record {
-      refused = Refused-missing (FolderMissing (row_of b)) (λ _. ⊥) (λ _. ⊥) e l ts m n p;
+      refused = Refused-missing (FolderMissing (folder_row b)) (λ _. ⊥) (λ _. ⊥) e l ts m n p;
       not_memory = λ q. absurd (subst (λ x. NamesLeaf x l) q n);
     };
   }
@@ -120,7 +120,7 @@ module _ {F E : Type 0} (a : Over F E) where
   -- and for its ring over the extension, which is the same
   pub folder_extension_laws : (coefficients : E → List F) → ExtensionLaws (folder_view coefficients) folder_over
   folder_extension_laws coefficients = record {
-    ext_ring_lent = λ b q e. unchanged (row_of b) (row_of b) b.accumulator b.accumulator refl refl;
+    ext_ring_lent = λ b q e. unchanged (folder_row b) (folder_row b) b.accumulator b.accumulator refl refl;
     ext_ring_with = λ b q. refl;
     ext_ring_valid = λ b h. tt;
     ext_ring_kept = λ b c k. tt;

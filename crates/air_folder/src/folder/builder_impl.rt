@@ -2,7 +2,7 @@
 ghost use Rattle.std.specs.Prelude.{◌≡◌, ⊤};
 ghost use Rattle.air_folder.specs.Folder.{folder_stands, FolderMissing, FolderRefuses};
 ghost use Rattle.air_folder.specs.laws.Folder.{folder_laws};
-ghost use Rattle.air_folder.specs.FolderRow.{row_of, FolderGrew};
+ghost use Rattle.air_folder.specs.FolderRow.{folder_row, FolderGrew};
 
 use crate::folder::builder::ConstraintFolder;
 use crate::folder::ring::FolderRing;
@@ -29,17 +29,17 @@ impl<'a, F: Field, EF: ExtensionField<F>> AirBuilder for ConstraintFolder<'a, F,
 
     ghost with_ring = { λ b r. record b { ring = r } };
 
-    ghost stands = { λ b. folder_stands EF.over EF.coefficients (row_of b) };
+    ghost stands = { λ b. folder_stands EF.over EF.coefficients (folder_row b) };
 
     ghost ready = { λ _. ⊤ };
 
-    ghost kept = { λ a b. (row_of b) ≡ (row_of a) };
+    ghost kept = { λ a b. (folder_row b) ≡ (folder_row a) };
 
     ghost grew = { FolderGrew EF.over };
 
-    ghost missing = { λ b l. FolderMissing (row_of b) l };
+    ghost missing = { λ b l. FolderMissing (folder_row b) l };
 
-    ghost refuses = { λ b e ts. FolderRefuses (row_of b) e ts };
+    ghost refuses = { λ b e ts. FolderRefuses (folder_row b) e ts };
 
     ghost laws = { folder_laws EF.over EF.coefficients };
 

@@ -2,7 +2,7 @@
 ghost use Rattle.std.specs.Prelude.{◌≡◌, ◌≢◌, IfOk, IfErr, IsOk, Err, None};
 ghost use Rattle.air_folder.specs.Folder.{PermutationStands, PermutationEnds};
 ghost use Rattle.air_folder.specs.laws.Folder.{folder_extension_laws};
-ghost use Rattle.air_folder.specs.FolderRow.{row_of};
+ghost use Rattle.air_folder.specs.FolderRow.{folder_row};
 
 use crate::folder::builder::ConstraintFolder;
 use crate::folder::ring::FolderRing;
@@ -45,12 +45,12 @@ impl<'a, F: Field, EF: ExtensionField<F>> PermutationAirBuilder for ConstraintFo
     /// The window of the permutation trace; a folder that was made without one, and it alone, refuses.
     fn permutation(&self) -> Result<RowWindow<'a, EF>, AirError>
         ensures current { IfOk result (λ w.
-            PermutationStands EF.over EF.coefficients (row_of self.now) 0 w.current.now) }
+            PermutationStands EF.over EF.coefficients (folder_row self.now) 0 w.current.now) }
         ensures next { IfOk result (λ w.
-            PermutationStands EF.over EF.coefficients (row_of self.now) 1 w.next.now) }
+            PermutationStands EF.over EF.coefficients (folder_row self.now) 1 w.next.now) }
         ensures current_ends { IfOk result (λ w.
-            PermutationEnds (row_of self.now) 0 w.current.now) }
-        ensures next_ends { IfOk result (λ w. PermutationEnds (row_of self.now) 1 w.next.now) }
+            PermutationEnds (folder_row self.now) 0 w.current.now) }
+        ensures next_ends { IfOk result (λ w. PermutationEnds (folder_row self.now) 1 w.next.now) }
         ensures answered { self.now.permutation ≢ None → IsOk result }
         ensures without { self.now.permutation ≡ None → result ≡ Err AirError.NoPermutation }
         ensures refused { IfErr result (λ e.

@@ -1,6 +1,6 @@
 //! The values that a folder folds.
 ghost use Rattle.std.specs.Prelude.{◌≡◌};
-ghost use Rattle.air_folder.specs.FolderRow.{row_of, StepsBy};
+ghost use Rattle.air_folder.specs.FolderRow.{folder_row, StepsBy};
 
 use crate::folder::builder::ConstraintFolder;
 use p3_air::{ExtensionField, Field};
@@ -8,7 +8,7 @@ use p3_air::{ExtensionField, Field};
 impl<'a, F: Field, EF: ExtensionField<F>> ConstraintFolder<'a, F, EF> {
     /// Folds one value more: what was folded before counts alpha times.
     pub(crate) fn fold_in(&mut self, value: EF)
-        ensures keeps { row_of self.new ≡ row_of self.old }
+        ensures keeps { folder_row self.new ≡ folder_row self.old }
         ensures folded { StepsBy EF.over value self.old self.new }
     {
         self.accumulator = self.accumulator.mul(self.alpha).add(value);

@@ -15,7 +15,7 @@ ghost use Rattle.air_builder.specs.Refused.{Refused};
 ghost use Rattle.air_recording.specs.SymbolicParts.{fixed_by};
 
 use crate::symbolic::builder::SymbolicAirBuilder;
-use crate::symbolic::row::row_of;
+use crate::symbolic::row::variables_of;
 use air_builder::{AirBuilder, AirError, TwoRows};
 use air_field::{ExtensionField, Field};
 use air_symbolic::{BaseEntry, BaseLeaf, ExprId, ExprPool, SymbolicVariable};
@@ -74,8 +74,8 @@ impl<F: Field, EF: ExtensionField<F>> AirBuilder for SymbolicAirBuilder<F, EF> {
 
     fn main(&self) -> Result<TwoRows<SymbolicVariable<F>>, AirError> {
         let width = self.entries.base.layout.main_width;
-        let current = row_of(self.alloc, BaseEntry::Main { offset: 0 }, width)?;
-        let next = row_of(self.alloc, BaseEntry::Main { offset: 1 }, width)?;
+        let current = variables_of(self.alloc, BaseEntry::Main { offset: 0 }, width)?;
+        let next = variables_of(self.alloc, BaseEntry::Main { offset: 1 }, width)?;
         Ok(TwoRows::new(current, next))
     }
 

@@ -8,7 +8,7 @@ ghost use Rattle.air_recording.specs.RecordedLists.{lists_of};
 ghost use Rattle.air_recording.specs.SymbolicParts.{fixed_by, base_has_it, base_means_it};
 
 use crate::symbolic::builder::SymbolicAirBuilder;
-use crate::symbolic::row::ext_row_of;
+use crate::symbolic::row::ext_variables_of;
 use air_builder::{AirBuilder, AirError, ExtensionBuilder, PermutationAirBuilder, TwoRows};
 use air_field::{ExtensionField, Field};
 use air_symbolic::{ExprId, ExprPool, ExtEntry, ExtLeaf, SymbolicVariableExt};
@@ -53,8 +53,8 @@ impl<F: Field, EF: ExtensionField<F>> PermutationAirBuilder for SymbolicAirBuild
 
     fn permutation(&self) -> Result<TwoRows<SymbolicVariableExt<F, EF>>, AirError> {
         let width = self.entries.ext.layout.permutation_width;
-        let current = ext_row_of(self.alloc, ExtEntry::Permutation { offset: 0 }, width)?;
-        let next = ext_row_of(self.alloc, ExtEntry::Permutation { offset: 1 }, width)?;
+        let current = ext_variables_of(self.alloc, ExtEntry::Permutation { offset: 0 }, width)?;
+        let next = ext_variables_of(self.alloc, ExtEntry::Permutation { offset: 1 }, width)?;
         Ok(TwoRows::new(current, next))
     }
 

@@ -11,7 +11,7 @@ use air_symbolic::{BaseEntry, ExtEntry, SymbolicVariable, SymbolicVariableExt};
 use std::alloc::Global;
 
 /// The variables of an entry, one a column.
-pub(crate) fn row_of<F>(
+pub(crate) fn variables_of<F>(
     alloc: Global,
     entry: BaseEntry,
     width: usize,
@@ -27,7 +27,7 @@ pub(crate) fn row_of<F>(
 }
 
 /// The extension variables of an entry, one a column.
-pub(crate) fn ext_row_of<F, EF>(
+pub(crate) fn ext_variables_of<F, EF>(
     alloc: Global,
     entry: ExtEntry,
     width: usize,
@@ -62,10 +62,10 @@ pub(crate) fn entries_of<F: Field>(alloc: Global, layout: AirLayout) -> Result<E
     ensures refused { IfErr result (λ e. e ≡ AirError.Memory) }
 {
     let width = layout.preprocessed_width;
-    let current = row_of(alloc, BaseEntry::Preprocessed { offset: 0 }, width)?;
-    let next = row_of(alloc, BaseEntry::Preprocessed { offset: 1 }, width)?;
-    let public_values = row_of(alloc, BaseEntry::Public, layout.num_public_values)?;
-    let periodic_columns = row_of(alloc, BaseEntry::Periodic, layout.num_periodic_columns)?;
+    let current = variables_of(alloc, BaseEntry::Preprocessed { offset: 0 }, width)?;
+    let next = variables_of(alloc, BaseEntry::Preprocessed { offset: 1 }, width)?;
+    let public_values = variables_of(alloc, BaseEntry::Public, layout.num_public_values)?;
+    let periodic_columns = variables_of(alloc, BaseEntry::Periodic, layout.num_periodic_columns)?;
     Ok(Entries {
         layout,
         public_values,
@@ -92,12 +92,12 @@ pub(crate) fn ext_entries_of<F: Field, EF: ExtensionField<F>>(
     ensures layout { IfOk result (λ entries. entries.layout ≡ layout) }
     ensures refused { IfErr result (λ e. e ≡ AirError.Memory) }
 {
-    let challenges = ext_row_of(
+    let challenges = ext_variables_of(
         alloc,
         ExtEntry::Challenge,
         layout.num_permutation_challenges,
     )?;
-    let permutation_values = ext_row_of(
+    let permutation_values = ext_variables_of(
         alloc,
         ExtEntry::PermutationValue,
         layout.num_permutation_values,

@@ -28,7 +28,7 @@ fn selector<F: Field>(on: bool) -> F
 
 /// A row that is there.
 #[inline(always)]
-pub(crate) fn row_of<'a, F: Field>(main: &'a RowMajorMatrix<F>, row: usize) -> &'a [F]
+pub(crate) fn main_row<'a, F: Field>(main: &'a RowMajorMatrix<F>, row: usize) -> &'a [F]
     requires { row < length main.now.rows }
     ensures row { slice_get main.now.rows row ≡ Some result.now }
     ensures width { length result.now ≡ main.now.width }
@@ -51,8 +51,8 @@ fn row_pair<'a, F: Field>(main: &'a RowMajorMatrix<F>, row: usize) -> ViewPair<'
     let height = main.height();
     let next = if row + 1 == height { 0 } else { row + 1 };
     ViewPair::new(
-        RowMajorMatrixView::new_row(row_of(main, row)),
-        RowMajorMatrixView::new_row(row_of(main, next)),
+        RowMajorMatrixView::new_row(main_row(main, row)),
+        RowMajorMatrixView::new_row(main_row(main, next)),
     )
 }
 

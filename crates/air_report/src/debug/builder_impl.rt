@@ -3,7 +3,7 @@ ghost use Rattle.std.specs.Prelude.{◌≡◌, refl, ⊤};
 ghost use Rattle.air_report.specs.Debug.{row_stands, is_zero_at, GrewAtRow};
 ghost use Rattle.air_report.specs.laws.Debug.{debug_laws};
 ghost use Rattle.air_report.specs.RowRefusals.{RowMissing, RefusedAtRow};
-ghost use Rattle.air_report.specs.DebugRow.{row_of};
+ghost use Rattle.air_report.specs.DebugRow.{debug_row};
 
 use crate::debug::builder::DebugConstraintBuilder;
 use air_builder::{AirBuilder, AirError, RowWindow, WindowAccess};
@@ -31,21 +31,21 @@ impl<'a, F: Field, EF: ExtensionField<F> + 'static> AirBuilder
 
     ghost with_ring = { λ b r. record b { ring = r } };
 
-    ghost stands = { λ b. row_stands F.ring EF.over EF.coefficients (row_of b) };
+    ghost stands = { λ b. row_stands F.ring EF.over EF.coefficients (debug_row b) };
 
     ghost ready = { λ _. ⊤ };
 
-    ghost kept = { λ a b. (row_of b) ≡ (row_of a) };
+    ghost kept = { λ a b. (debug_row b) ≡ (debug_row a) };
 
-    ghost grew = { λ a b ts. GrewAtRow (is_zero_at F.ring EF.over F.eq EF.eq) (row_of a) (row_of b)
+    ghost grew = { λ a b ts. GrewAtRow (is_zero_at F.ring EF.over F.eq EF.eq) (debug_row a) (debug_row b)
         a.constraint_index b.constraint_index a.failures.items b.failures.items ts };
 
-    ghost missing = { λ b l. RowMissing (row_of b) l };
+    ghost missing = { λ b l. RowMissing (debug_row b) l };
 
-    ghost refuses = { λ b e ts. RefusedAtRow (is_zero_at F.ring EF.over F.eq EF.eq) (row_of b)
+    ghost refuses = { λ b e ts. RefusedAtRow (is_zero_at F.ring EF.over F.eq EF.eq) (debug_row b)
         b.constraint_index e ts };
 
-    ghost laws = { debug_laws (is_zero_at F.ring EF.over F.eq EF.eq) row_of
+    ghost laws = { debug_laws (is_zero_at F.ring EF.over F.eq EF.eq) debug_row
         (λ b. b.constraint_index) (λ b. b.failures.items)
         (row_stands F.ring EF.over EF.coefficients) (λ b. b.ring) (λ b r. record b { ring = r })
         (λ _ _. refl) (λ _ _. refl) (λ _ _. refl) (λ _ _. refl) };

@@ -10,7 +10,7 @@ ghost use Rattle.air_report.specs.Debug.{is_zero_at, row_stands};
 ghost use Rattle.air_report.specs.DebugLabels.{LabelledAtRow, LogRefuses};
 ghost use Rattle.air_report.specs.laws.Debug.{debug_extension_laws};
 ghost use Rattle.air_report.specs.RowRefusals.{RowMissing};
-ghost use Rattle.air_report.specs.DebugRow.{row_of};
+ghost use Rattle.air_report.specs.DebugRow.{debug_row};
 
 use crate::debug::builder::DebugConstraintBuilder;
 use air_builder::{
@@ -33,7 +33,7 @@ impl<'a, F: Field, EF: ExtensionField<F> + 'static> ExtensionBuilder
 
     ghost with_ext_ring = { λ b r. record b { ext_ring = r } };
 
-    ghost ext_laws = { debug_extension_laws (is_zero_at F.ring EF.over F.eq EF.eq) row_of
+    ghost ext_laws = { debug_extension_laws (is_zero_at F.ring EF.over F.eq EF.eq) debug_row
         (λ b. b.constraint_index) (λ b. b.failures.items)
         (row_stands F.ring EF.over EF.coefficients) (λ b. b.ext_ring)
         (λ b r. record b { ext_ring = r }) (λ _ _. refl) (λ _ _. refl) (λ _ _. refl) (λ _ _. refl)
@@ -70,14 +70,14 @@ impl<'a, F: Field, EF: ExtensionField<F> + 'static> PermutationAirBuilder
     #[inline(always)]
     fn permutation(&self) -> Result<RowWindow<'a, EF>, AirError>
         ensures current { IfOk result (λ w. RowStands (λ v t. closed_value_in EF.over t ≡ v)
-            (λ i. row_stands F.ring EF.over EF.coefficients (row_of self.now) (permutation 0 i))
+            (λ i. row_stands F.ring EF.over EF.coefficients (debug_row self.now) (permutation 0 i))
             w.current.now) }
         ensures next { IfOk result (λ w. RowStands (λ v t. closed_value_in EF.over t ≡ v)
-            (λ i. row_stands F.ring EF.over EF.coefficients (row_of self.now) (permutation 1 i))
+            (λ i. row_stands F.ring EF.over EF.coefficients (debug_row self.now) (permutation 1 i))
             w.next.now) }
-        ensures current_ends { IfOk result (λ w. RowEnds (RowMissing (row_of self.now))
+        ensures current_ends { IfOk result (λ w. RowEnds (RowMissing (debug_row self.now))
             (λ i. permutation 0 i) w.current.now) }
-        ensures next_ends { IfOk result (λ w. RowEnds (RowMissing (row_of self.now))
+        ensures next_ends { IfOk result (λ w. RowEnds (RowMissing (debug_row self.now))
             (λ i. permutation 1 i) w.next.now) }
         ensures answered { self.now.permutation ≢ None → IsOk result }
         ensures without { self.now.permutation ≡ None → result ≡ Err AirError.NoPermutation }

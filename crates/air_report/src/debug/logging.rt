@@ -1,7 +1,7 @@
 //! The log of a row: how many assertions there were, and which failed.
 ghost use Rattle.std.specs.Prelude.{◌≡◌, ◌+◌, ◌^◌, ℕ, List, Option, false, IfOk, OnOk, OnErr, IfErr};
 ghost use Rattle.air_report.specs.DebugLabels.{KeepsText, LogsFailure, LogsOne, LogRefuses};
-ghost use Rattle.air_report.specs.DebugRow.{row_of};
+ghost use Rattle.air_report.specs.DebugRow.{debug_row};
 
 use crate::debug::builder::DebugConstraintBuilder;
 use crate::debug::failure::ConstraintFailure;
@@ -53,7 +53,7 @@ impl<'a, F: Field, EF: ExtensionField<F>> DebugConstraintBuilder<'a, F, EF> {
     #[inline(always)]
     pub(crate) fn log<N: Name>(&mut self, holds: bool, name: N) -> Result<(), AirError>
         requires { holds ≡ false → N.can_evaluate name }
-        ensures keeps { row_of self.new ≡ row_of self.old }
+        ensures keeps { debug_row self.new ≡ debug_row self.old }
         ensures ok { OnOk result (LogsOne self.old.row_index self.old.constraint_index
             self.new.constraint_index (N.displays name) holds self.old.failures.items
             self.new.failures.items) }

@@ -5,7 +5,7 @@ ghost use Rattle.air_builder.specs.Labels.{LabelledOf};
 ghost use Rattle.air_report.specs.Debug.{is_zero_at};
 ghost use Rattle.air_report.specs.DebugLabels.{LabelledAtRow, LogRefuses};
 ghost use Rattle.air_report.specs.laws.DebugLabels.{debug_named_laws};
-ghost use Rattle.air_report.specs.DebugRow.{row_of};
+ghost use Rattle.air_report.specs.DebugRow.{debug_row};
 
 use crate::debug::builder::DebugConstraintBuilder;
 use air_builder::{AirBuilder, AirBuilderWithContext, AirError, Name, NamedAirBuilder};
@@ -13,16 +13,16 @@ use air_field::{Algebra, ExtensionField, Field, FieldRing};
 
 impl<'a, F: Field, EF: ExtensionField<F> + 'static> NamedAirBuilder
     for DebugConstraintBuilder<'a, F, EF> {
-    ghost labelled = { λ a b ls. LabelledAtRow (is_zero_at F.ring EF.over F.eq EF.eq) (row_of a)
-        (row_of b) a.constraint_index b.constraint_index a.failures.items b.failures.items ls };
+    ghost labelled = { λ a b ls. LabelledAtRow (is_zero_at F.ring EF.over F.eq EF.eq) (debug_row a)
+        (debug_row b) a.constraint_index b.constraint_index a.failures.items b.failures.items ls };
 
-    ghost named_laws = { debug_named_laws (is_zero_at F.ring EF.over F.eq EF.eq) row_of
+    ghost named_laws = { debug_named_laws (is_zero_at F.ring EF.over F.eq EF.eq) debug_row
         (λ b. b.constraint_index) (λ b. b.failures.items) };
 
     #[inline(always)]
     fn assert_zero_named<N: Name>(&mut self, x: F, name: N) -> Result<(), AirError>
         requires can_evaluate { F.eq x F.ring.nil ≡ false → N.can_evaluate name }
-        ensures keeps { row_of self.new ≡ row_of self.old }
+        ensures keeps { debug_row self.new ≡ debug_row self.old }
         ensures ok { OnOk result (GrewOf (Means ⟦<FieldRing<F> as Algebra<F>>⟧.means
             ⟦<DebugConstraintBuilder<'a, F, EF> as AirBuilder>⟧.ring_of
             ⟦<DebugConstraintBuilder<'a, F, EF> as AirBuilder>⟧.stands)
@@ -30,7 +30,7 @@ impl<'a, F: Field, EF: ExtensionField<F> + 'static> NamedAirBuilder
         ensures label { OnOk result (LabelledOf (Means ⟦<FieldRing<F> as Algebra<F>>⟧.means
             ⟦<DebugConstraintBuilder<'a, F, EF> as AirBuilder>⟧.ring_of
             ⟦<DebugConstraintBuilder<'a, F, EF> as AirBuilder>⟧.stands)
-            (λ a b ls. LabelledAtRow (is_zero_at F.ring EF.over F.eq EF.eq) (row_of a) (row_of b)
+            (λ a b ls. LabelledAtRow (is_zero_at F.ring EF.over F.eq EF.eq) (debug_row a) (debug_row b)
             a.constraint_index b.constraint_index a.failures.items b.failures.items ls)
             (N.displays name) (λ t. t) self.old self.new x) }
         ensures err { OnErr result (⟦<DebugConstraintBuilder<'a, F, EF> as AirBuilder>⟧.grew

@@ -1,5 +1,5 @@
 use Rattle.air_folder.specs.Folder.{folder_leaves, values_in}
-use Rattle.air_folder.specs.FolderRow.{row_of}
+use Rattle.air_folder.specs.FolderRow.{folder_row}
 use Rattle.air_folder.proofs.FoldedAirs.{fold_from_zero, folded_air, refused_before}
 use Rattle.air_folder.proofs.folding.fold_air.Goals as goal
 
@@ -10,7 +10,7 @@ returns-in_err-recorded-clause-beginning g c =
 pub returns-clause-folded : goal.returns-clause-folded
 returns-clause-folded g c =
     let over = g.EF.ExtensionField.over in
-    let d = row_of c.args.folder.now in
+    let d = folder_row c.args.folder.now in
     let ts = g.A.BaseAir.declared c.args.air.now in
     let values = values_in over (folder_leaves over d) ts in
     folded_air g.F.Field.ring g.F.PartialEq.eq over g.EF.ExtensionField.coefficients d ts

@@ -1,6 +1,6 @@
 use Rattle.std.proofs.Common.{inr}
 use Rattle.std.proofs.lemmas.Result.{IfOk-weaker, IfErr-weaker}
-use Rattle.air_folder.specs.FolderRow.{row_of}
+use Rattle.air_folder.specs.FolderRow.{folder_row}
 use Rattle.air_folder.proofs.Rows.{without_permutation}
 use Rattle.air_folder.proofs.folder.extension.ConstraintFolderPermutationAirBuilder.TheImpl.Goals as goal
 
@@ -13,5 +13,5 @@ permutation-tells g i d c =
       next = c.ensures.next;
       current_ends = c.ensures.current_ends;
       next_ends = c.ensures.next_ends;
-      refused = IfErr-weaker c.result _ _ (λ e h. inr (h.0, without_permutation (row_of folder).values folder.permutation folder.challenges.now folder.permutation_values.now h.1)) c.ensures.refused;
+      refused = IfErr-weaker c.result _ _ (λ e h. inr (h.0, without_permutation (folder_row folder).values folder.permutation folder.challenges.now folder.permutation_values.now h.1)) c.ensures.refused;
     }

@@ -4,7 +4,7 @@ use Rattle.air_field.specs.laws.Extension.{extend-coefficients}
 use Rattle.air_builder.specs.Assertion.{Extension}
 use Rattle.air_report.specs.Debug.{is_zero_at}
 use Rattle.air_report.specs.laws.DebugLabels.{if_err_weaker, logged_grew, logged_refused}
-use Rattle.air_report.specs.DebugRow.{row_of}
+use Rattle.air_report.specs.DebugRow.{debug_row}
 use Rattle.air_report.specs.laws.DebugValues.{ext_is_zero}
 use Rattle.air_report.proofs.debug.extension.DebugConstraintBuilderExtensionBuilder.assert_zero_ext.Goals as goal
 
@@ -13,7 +13,7 @@ returns-clause-ok g c =
     let over = g.EF.ExtensionField.over in
     let zero = is_zero_at g.F.Field.ring over g.F.PartialEq.eq g.EF.PartialEq.eq in
     on_ok_weaker c.log.result
-    (λ h t m. logged_grew zero (row_of c.args.self.now) _ _ _ _ _ _ c.log.ensures.keeps c.eq.result h (Extension t) (ext_is_zero g.F.Field.ring over g.EF.ExtensionField.coefficients g.F.PartialEq.eq g.EF.PartialEq.eq (extend-coefficients g.F.Field.ring over g.EF.ExtensionField.coefficients g.EF.ExtensionField.DIMENSION g.met.EF.ExtensionField.laws) (row_of c.args.self.now) c.args.x t m ∙ (ap (λ w. g.EF.PartialEq.eq c.args.x w) (sym c.zero.ensures) ∙ sym c.eq.ensures)))
+    (λ h t m. logged_grew zero (debug_row c.args.self.now) _ _ _ _ _ _ c.log.ensures.keeps c.eq.result h (Extension t) (ext_is_zero g.F.Field.ring over g.EF.ExtensionField.coefficients g.F.PartialEq.eq g.EF.PartialEq.eq (extend-coefficients g.F.Field.ring over g.EF.ExtensionField.coefficients g.EF.ExtensionField.DIMENSION g.met.EF.ExtensionField.laws) (debug_row c.args.self.now) c.args.x t m ∙ (ap (λ w. g.EF.PartialEq.eq c.args.x w) (sym c.zero.ensures) ∙ sym c.eq.ensures)))
     c.log.ensures.ok
 
 pub returns-clause-refused : goal.returns-clause-refused
@@ -21,5 +21,5 @@ returns-clause-refused g c =
     let over = g.EF.ExtensionField.over in
     let zero = is_zero_at g.F.Field.ring over g.F.PartialEq.eq g.EF.PartialEq.eq in
     if_err_weaker c.log.result
-    (λ e h t m. h (Extension t) (ext_is_zero g.F.Field.ring over g.EF.ExtensionField.coefficients g.F.PartialEq.eq g.EF.PartialEq.eq (extend-coefficients g.F.Field.ring over g.EF.ExtensionField.coefficients g.EF.ExtensionField.DIMENSION g.met.EF.ExtensionField.laws) (row_of c.args.self.now) c.args.x t m ∙ (ap (λ w. g.EF.PartialEq.eq c.args.x w) (sym c.zero.ensures) ∙ sym c.eq.ensures)))
-    (logged_refused zero (row_of c.args.self.now) c.args.self.now.constraint_index c.eq.result c.log.result c.log.ensures.refused)
+    (λ e h t m. h (Extension t) (ext_is_zero g.F.Field.ring over g.EF.ExtensionField.coefficients g.F.PartialEq.eq g.EF.PartialEq.eq (extend-coefficients g.F.Field.ring over g.EF.ExtensionField.coefficients g.EF.ExtensionField.DIMENSION g.met.EF.ExtensionField.laws) (debug_row c.args.self.now) c.args.x t m ∙ (ap (λ w. g.EF.PartialEq.eq c.args.x w) (sym c.zero.ensures) ∙ sym c.eq.ensures)))
+    (logged_refused zero (debug_row c.args.self.now) c.args.self.now.constraint_index c.eq.result c.log.result c.log.ensures.refused)

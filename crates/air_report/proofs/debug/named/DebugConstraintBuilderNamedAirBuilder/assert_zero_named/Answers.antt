@@ -3,7 +3,7 @@ use Rattle.std.proofs.lemmas.Result.{on_ok_weaker}
 use Rattle.air_builder.specs.Assertion.{Base}
 use Rattle.air_report.specs.Debug.{is_zero_at}
 use Rattle.air_report.specs.laws.DebugLabels.{if_err_weaker, logged_grew, logged_label, logged_refused}
-use Rattle.air_report.specs.DebugRow.{row_of}
+use Rattle.air_report.specs.DebugRow.{debug_row}
 use Rattle.air_report.specs.laws.DebugValues.{base_is_zero}
 use Rattle.air_report.proofs.debug.named.DebugConstraintBuilderNamedAirBuilder.assert_zero_named.Goals as goal
 
@@ -12,7 +12,7 @@ returns-clause-ok g c =
     let over = g.EF.ExtensionField.over in
     let zero = is_zero_at g.F.Field.ring over g.F.PartialEq.eq g.EF.PartialEq.eq in
     on_ok_weaker c.log.result
-    (λ h t m. logged_grew zero (row_of c.args.self.now) _ _ _ _ _ (g.N.Name.displays c.args.name) c.log.ensures.keeps c.eq.result h (Base t) (base_is_zero g.F.Field.ring over g.EF.ExtensionField.coefficients g.F.PartialEq.eq g.EF.PartialEq.eq (row_of c.args.self.now) c.args.x t m ∙ (ap (λ w. g.F.PartialEq.eq c.args.x w) (sym (c.ZERO.ensures ∙ g.met.F.Field.zero_is)) ∙ sym c.eq.ensures)))
+    (λ h t m. logged_grew zero (debug_row c.args.self.now) _ _ _ _ _ (g.N.Name.displays c.args.name) c.log.ensures.keeps c.eq.result h (Base t) (base_is_zero g.F.Field.ring over g.EF.ExtensionField.coefficients g.F.PartialEq.eq g.EF.PartialEq.eq (debug_row c.args.self.now) c.args.x t m ∙ (ap (λ w. g.F.PartialEq.eq c.args.x w) (sym (c.ZERO.ensures ∙ g.met.F.Field.zero_is)) ∙ sym c.eq.ensures)))
     c.log.ensures.ok
 
 pub returns-clause-label : goal.returns-clause-label
@@ -21,8 +21,8 @@ returns-clause-label g c =
     let zero = is_zero_at g.F.Field.ring over g.F.PartialEq.eq g.EF.PartialEq.eq in
     on_ok_weaker c.log.result
     (λ h.
-    let l = logged_label zero (row_of c.args.self.now) _ _ _ _ _ (g.N.Name.displays c.args.name) c.log.ensures.keeps c.eq.result h in
-    record { label = l.0; said = l.1.0; grown = λ t m. l.1.1 (Base t) (base_is_zero g.F.Field.ring over g.EF.ExtensionField.coefficients g.F.PartialEq.eq g.EF.PartialEq.eq (row_of c.args.self.now) c.args.x t m ∙ (ap (λ w. g.F.PartialEq.eq c.args.x w) (sym (c.ZERO.ensures ∙ g.met.F.Field.zero_is)) ∙ sym c.eq.ensures)) })
+    let l = logged_label zero (debug_row c.args.self.now) _ _ _ _ _ (g.N.Name.displays c.args.name) c.log.ensures.keeps c.eq.result h in
+    record { label = l.0; said = l.1.0; grown = λ t m. l.1.1 (Base t) (base_is_zero g.F.Field.ring over g.EF.ExtensionField.coefficients g.F.PartialEq.eq g.EF.PartialEq.eq (debug_row c.args.self.now) c.args.x t m ∙ (ap (λ w. g.F.PartialEq.eq c.args.x w) (sym (c.ZERO.ensures ∙ g.met.F.Field.zero_is)) ∙ sym c.eq.ensures)) })
     c.log.ensures.ok
 
 pub returns-clause-refused : goal.returns-clause-refused
@@ -30,5 +30,5 @@ returns-clause-refused g c =
     let over = g.EF.ExtensionField.over in
     let zero = is_zero_at g.F.Field.ring over g.F.PartialEq.eq g.EF.PartialEq.eq in
     if_err_weaker c.log.result
-    (λ e h t m. h (Base t) (base_is_zero g.F.Field.ring over g.EF.ExtensionField.coefficients g.F.PartialEq.eq g.EF.PartialEq.eq (row_of c.args.self.now) c.args.x t m ∙ (ap (λ w. g.F.PartialEq.eq c.args.x w) (sym (c.ZERO.ensures ∙ g.met.F.Field.zero_is)) ∙ sym c.eq.ensures)))
-    (logged_refused zero (row_of c.args.self.now) c.args.self.now.constraint_index c.eq.result c.log.result c.log.ensures.refused)
+    (λ e h t m. h (Base t) (base_is_zero g.F.Field.ring over g.EF.ExtensionField.coefficients g.F.PartialEq.eq g.EF.PartialEq.eq (debug_row c.args.self.now) c.args.x t m ∙ (ap (λ w. g.F.PartialEq.eq c.args.x w) (sym (c.ZERO.ensures ∙ g.met.F.Field.zero_is)) ∙ sym c.eq.ensures)))
+    (logged_refused zero (debug_row c.args.self.now) c.args.self.now.constraint_index c.eq.result c.log.result c.log.ensures.refused)

@@ -1,7 +1,7 @@
 use Rattle.std.proofs.Common.{rules, ◌≡◌, ◌+◌, ◌++◌, ◌∷◌, [], sym, subst}
 use Rattle.air_recording.specs.Rows.{IsExtRowOf}
 use Rattle.air_recording.proofs.ExtRows.{ext_row_more}
-use Rattle.air_recording.proofs.symbolic.row.ext_row_of.Goals as goal
+use Rattle.air_recording.proofs.symbolic.row.ext_variables_of.Goals as goal
 
 pub loop-i-preserved : goal.loop-i-preserved
 loop-i-preserved g c =
