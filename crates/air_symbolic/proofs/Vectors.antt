@@ -8,11 +8,10 @@ use Rattle.std.proofs.Math.ListN.{get_or-append}
 use Rattle.std.proofs.Math.Seq.{get_or-append_seam}
 use Rattle.air_field.specs.Ring.{CommRing}
 use Rattle.air_symbolic.specs.Leaves.{Leaves, LeafLaws}
-use Rattle.air_symbolic.specs.Nodes.{unfold_node, tree_of, node_at, NodeFits, Absent, WellFormed, OperandsBelow, IsNode}
-use Rattle.air_symbolic.specs.Pools.{IsPool, Grown, HasTree}
-use Rattle.air_symbolic.specs.laws.Pools.{Grown-refl, Grown-under}
-use Rattle.air_symbolic.specs.laws.Numbers.{at_end, tree_of-newest, node_at-newest, node_at-older}
-use Rattle.air_symbolic.specs.Numbering.{IsNumbered}
+use Rattle.air_symbolic.specs.Nodes.{node_at, NodeFits, Absent, WellFormed, IsNode}
+use Rattle.air_symbolic.specs.Pools.{IsPool, Grown}
+use Rattle.air_symbolic.specs.laws.Pools.{Grown-under}
+use Rattle.air_symbolic.specs.laws.Numbers.{at_end, node_at-newest, node_at-older}
 use Rattle.air_symbolic.specs.laws.Sharing.{node_at-is}
 use Rattle.air_symbolic.specs.declared.pools.expr.SymbolicExpr.{SymbolicExpr}
 
@@ -67,11 +66,6 @@ IsNode-seen l xs v i n e wf q =
     let s : (i < length v) × (node_at v i ≡ Some n) = node_at-seen xs v i n e q in
     node_at-is l v wf i n s.0 s.1
 
--- A node that names no older one than the newest is none of the table.
-pub newest-absent : {A F : Type 0} (l : Leaves A F) (xs v : List (SymbolicExpr A)) (n : SymbolicExpr A) (count : ℕ) → reverse xs ≡ v → WellFormed l v → count ≡ length xs → ((i : ℕ) → i < count → OperandsBelow i n → ⊥) → (i : ℕ) → slice_get xs i ≢ Some n
-newest-absent l xs v n count e wf long names i q =
-    names i (omega (arith, long, slice_get_within xs i n q)) (IsNode-seen l xs v i n e wf q).below
-
 module _ {U A F : Type 0} (r : CommRing F) (reads : U → Leaves A F) (grows : U → U → Type 0) (empty : U) (laws : LeafLaws r reads grows empty) where
   -- one more node at the table's end
   pub Grown-push : (p : U × List (SymbolicExpr A)) (u : U) (xs ys : List (SymbolicExpr A)) (n : SymbolicExpr A) → (u, reverse xs) ≡ p → ys ≡ xs ++ n ∷ [] → NodeFits (reads p.0) p.1 n → Absent n p.1 → Grown grows reads p (u, reverse ys)
@@ -85,25 +79,6 @@ module _ {U A F : Type 0} (r : CommRing F) (reads : U → Leaves A F) (grows : U
             record { under = h.under; nodes = subst (λ (ns : List (SymbolicExpr A)). WellFormed (reads u) ns) (sym s) (f, a, h.nodes) };
       } in
       subst (λ (v : U × List (SymbolicExpr A)). NodeFits (reads v.0) v.1 n → Absent n v.1 → Grown grows reads v (u, reverse ys)) e step fits absent
-
-  -- a node that the table had, or one more at its end
-  pub IsNumbered-pool : (p : U × List (SymbolicExpr A)) (u : U) (xs ys : List (SymbolicExpr A)) (n : SymbolicExpr A) (i : ℕ) → (u, reverse xs) ≡ p → IsPool reads p → NodeFits (reads p.0) p.1 n → IsNumbered xs ys n i → Grown grows reads p (u, reverse ys) × HasTree (u, reverse ys) (unfold_node (tree_of p.1) n) i
-  IsNumbered-pool p u xs ys n i e pool fits numbered =
-      let seen : reverse xs ≡ p.1 = ap (λ (v : U × List (SymbolicExpr A)). v.1) e in
-      ⊎_elim
-      (λ (h : (ys ≡ xs) × (slice_get xs i ≡ Some n)).
-      let at : (i < length p.1) × (node_at p.1 i ≡ Some n) = node_at-seen xs p.1 i n seen h.1 in
-      let same : (u, reverse ys) ≡ p = ap (λ l. (u, reverse l)) h.0 ∙ e in
-      let known = node_at-is (reads p.0) p.1 pool.nodes i n at.0 at.1 in
-      subst (λ (q : U × List (SymbolicExpr A)). Grown grows reads p q × HasTree q (unfold_node (tree_of p.1) n) i) (sym same)
-      (Grown-refl r reads grows empty laws p, record { here = at.0; tree = known.tree }))
-      (λ (h : (ys ≡ xs ++ n ∷ []) × (i ≡ length xs) × ((j : ℕ) → slice_get xs j ≢ Some n)).
-      let now : reverse ys ≡ n ∷ p.1 = ap reverse h.0 ∙ reverse-append xs (n ∷ []) ∙ ap (λ l. n ∷ l) seen in
-      let last : i ≡ length p.1 = h.1 ∙ sym (length-reverse xs) ∙ ap length seen in (
-        Grown-push p u xs ys n e h.0 fits (absent-seen xs p.1 n seen h.2),
-        record { here = omega (arith, last, ap length now); tree = ap (λ l. tree_of l i) now ∙ ap (λ j. tree_of (n ∷ p.1) j) last ∙ tree_of-newest n p.1 },
-      ))
-      numbered
 
   -- what lies under the table has grown
   pub Grown-under-seen : (p : U × List (SymbolicExpr A)) (u v : U) (ns : List (SymbolicExpr A)) → (u, ns) ≡ p → grows u v → Grown grows reads p (v, ns)

@@ -9,6 +9,7 @@ ghost use Rattle.air_symbolic.specs.Pools.{IsPool, tree_at, term_at, Grown, HasT
 
 use crate::leaves::sym_leaf::SymLeaf;
 use crate::pools::expr::{ExprId, SymbolicExpr};
+use crate::pools::node_table::NodeTable;
 use crate::pools::pool::ExprPool;
 use air_field::RingError;
 
@@ -32,6 +33,22 @@ fn names_newest<A: SymLeaf>(node: &SymbolicExpr<A>, count: usize) -> bool
     }
 }
 
+// The number of a node, if it is there; the map is not asked for one that names the newest.
+fn number_of<A: SymLeaf>(
+    nodes: &NodeTable<SymbolicExpr<A>>,
+    node: &SymbolicExpr<A>,
+) -> Option<usize>
+    requires older { (i : ℕ) (n : SymbolicExpr A) → slice_get nodes.now i ≡ Some n → OperandsBelow i
+        n }
+    ensures { MatchOption result ((i : ℕ) → slice_get nodes.now i ≢ Some node.now)
+        (λ i. slice_get nodes.now i ≡ Some node.now) }
+{
+    if names_newest(node, nodes.len()) {
+        return None;
+    }
+    nodes.find(node)
+}
+
 impl<A: SymLeaf> ExprPool<A> {
     // The number of an equal node, or of one more.
     fn insert(&mut self, node: SymbolicExpr<A>) -> Result<ExprId<A>, RingError>
@@ -42,12 +59,13 @@ impl<A: SymLeaf> ExprPool<A> {
         ensures made { IfOk result (HasTree self.new (unfold_node (tree_of self.old.1) node)) }
         ensures refused { IfErr result (λ e. e ≡ RingError.Memory) }
     {
-        if names_newest(&node, self.nodes.len()) {
-            let number = self.nodes.push(node)?;
-            return Ok(ExprId::new(number));
+        match number_of(&self.nodes, &node) {
+            Some(number) => Ok(ExprId::new(number)),
+            None => {
+                let number = self.nodes.push(node)?;
+                Ok(ExprId::new(number))
+            }
         }
-        let number = self.nodes.find_or_push(node)?;
-        Ok(ExprId::new(number))
     }
 
     /// The expression of a leaf, which must name nothing but what lies under this pool.

@@ -2,12 +2,10 @@
 ghost use Rattle.std.specs.Prelude.{◌≡◌, ◌≢◌, ◌<◌, ◌++◌, [], ◌∷◌, ℕ, length, Some, MatchOption, IfOk, OnErr, IfSome, true};
 ghost use Rattle.std.specs.declared.cmp.Ordering.TheVariants.{Equal};
 ghost use Rattle.std.specs.List.{slice_get};
-ghost use Rattle.air_symbolic.specs.Numbering.{IsNumbered};
 
 use std::alloc::{AllocError, Global};
 use std::cmp::Reverse;
 use std::collections::BTreeMap;
-use std::collections::btree_map::Entry;
 use std::marker::Model;
 
 // How many places remember a number.
@@ -106,29 +104,5 @@ impl<N: Copy + Ord> NodeTable<N> {
         self.numbers.insert(Reverse(node), number)?;
         self.nodes.push_reserved(node);
         Ok(number)
-    }
-
-    /// The number of a node, which is pushed where it is not there. Where memory is refused, nothing has changed.
-    pub fn find_or_push(&mut self, node: N) -> Result<usize, AllocError>
-        requires exact { (n : N) → N.cmp node n ≡ Equal → node ≡ n }
-        ensures numbered { IfOk result (IsNumbered self.old self.new node) }
-        ensures refused { OnErr result (self.new ≡ self.old) }
-    {
-        let number = self.nodes.len();
-        if number == self.nodes.capacity() {
-            // the list has to grow for a new node, and where it cannot, no clause says what an entry's map holds
-            return match self.find(&node) {
-                Some(found) => Ok(found),
-                None => self.push(node),
-            };
-        }
-        match self.numbers.entry(Reverse(node))? {
-            Entry::Occupied(entry) => Ok(*entry.get()),
-            Entry::Vacant(entry) => {
-                entry.insert(number);
-                self.nodes.push_reserved(node);
-                Ok(number)
-            }
-        }
     }
 }
