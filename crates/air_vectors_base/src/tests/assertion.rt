@@ -1,8 +1,7 @@
 //! Assertions as rows of tables, and the call that each of them is.
-ghost use Rattle.std.specs.Prelude.{OnOk};
-
 use crate::tests::filters::{
-    Batch, NamedBatch, assert_batch_under_both, assert_named_batch_under_both,
+    Batch, NamedBatch, assert_batch, assert_batch_under_both, assert_both_zero_ext,
+    assert_named_batch, assert_named_batch_under_both, assert_three_bool_named,
     assert_zero_ext_under, assert_zero_ext_under_both, assert_zero_named_under_both,
     assert_zero_under, assert_zero_under_both, assert_zeros_ext_under,
 };
@@ -10,6 +9,7 @@ use air_builder::{
     AirBuilder, AirError, ExtensionBuilder, Lazy, Name, NamedAirBuilder, NamedExtensionBuilder,
     NamespaceExt,
 };
+use std::alloc::AllocError;
 use std::cell::Cell;
 
 /// The rows that a selector names.
@@ -22,7 +22,6 @@ pub enum Rows {
 }
 
 /// An assertion without a name.
-#[derive(Clone, Copy)]
 pub enum Assertion<E> {
     Zero(E),
     One(E),
@@ -38,12 +37,21 @@ pub enum Assertion<E> {
     ZeroInWindow(E),
     /// It is zero on some rows.
     ZeroOn(Rows, E),
+    Batch(Batch<E>),
     /// The batch holds where neither of the first two is zero.
     BatchUnderBoth(E, E, Batch<E>),
 }
 
+// A derived clone goes through the cases, which takes long to prove.
+impl<E: Copy> Clone for Assertion<E> {
+    fn clone(&self) -> Result<Self, AllocError> {
+        Ok(*self)
+    }
+}
+
+impl<E: Copy> Copy for Assertion<E> {}
+
 /// An assertion under a name, which has as many parts as are said here, and else one.
-#[derive(Clone, Copy)]
 pub enum NamedAssertion<E> {
     Zero(E),
     One(E),
@@ -53,29 +61,55 @@ pub enum NamedAssertion<E> {
     ZeroInSpace(E),
     /// The last is zero where neither of the first two is; three parts.
     ZeroUnderBoth(E, E, E),
+    Batch(NamedBatch<E>),
+    /// Each is zero or one; two parts.
+    Bools([E; 3]),
     /// The batch holds where neither of the first two is zero; two parts.
     BatchUnderBoth(E, E, NamedBatch<E>),
 }
 
+impl<E: Copy> Clone for NamedAssertion<E> {
+    fn clone(&self) -> Result<Self, AllocError> {
+        Ok(*self)
+    }
+}
+
+impl<E: Copy> Copy for NamedAssertion<E> {}
+
 /// An assertion over an extension.
-#[derive(Clone, Copy)]
 pub enum ExtAssertion<E, X> {
     Zero(X),
     One(X),
     Equal(X, X),
+    Zeros([X; 2]),
     ZeroUnder(E, X),
     ZeroUnderBoth(E, E, X),
     ZerosUnder(E, [X; 2]),
 }
 
+impl<E: Copy, X: Copy> Clone for ExtAssertion<E, X> {
+    fn clone(&self) -> Result<Self, AllocError> {
+        Ok(*self)
+    }
+}
+
+impl<E: Copy, X: Copy> Copy for ExtAssertion<E, X> {}
+
 /// An assertion over an extension under a name.
-#[derive(Clone, Copy)]
 pub enum NamedExtAssertion<E, X> {
     Zero(X),
     One(X),
     Equal(X, X),
     ZeroUnder(E, X),
 }
+
+impl<E: Copy, X: Copy> Clone for NamedExtAssertion<E, X> {
+    fn clone(&self) -> Result<Self, AllocError> {
+        Ok(*self)
+    }
+}
+
+impl<E: Copy, X: Copy> Copy for NamedExtAssertion<E, X> {}
 
 // An assertion under each kind of filter: a filter at a concrete builder has no proof yet.
 fn assert_filtered<AB: AirBuilder>(
@@ -88,51 +122,41 @@ fn assert_filtered<AB: AirBuilder>(
     requires x_in { AB.Ring.has (AB.ring_of builder.old) x }
     requires y_in { AB.Ring.has (AB.ring_of builder.old) y }
     requires z_in { AB.Ring.has (AB.ring_of builder.old) z }
-    ensures { OnOk result (AB.kept builder.old builder.new) }
 {
     let mut filter = builder.when_ne(x, y)?;
-    filter.assert_zero(z)?;
-    Ok(())
+    filter.assert_zero(z)
 }
 
 fn assert_in_window<AB: AirBuilder>(builder: &mut AB, x: AB::Expr) -> Result<(), AirError>
     requires ready { AB.ready builder.old }
     requires x_in { AB.Ring.has (AB.ring_of builder.old) x }
-    ensures { AB.kept builder.old builder.new }
 {
     let mut filter = builder.when_transition_window(2)?;
-    filter.assert_zero(x)?;
-    Ok(())
+    filter.assert_zero(x)
 }
 
 fn assert_on_first<AB: AirBuilder>(builder: &mut AB, x: AB::Expr) -> Result<(), AirError>
     requires ready { AB.ready builder.old }
     requires x_in { AB.Ring.has (AB.ring_of builder.old) x }
-    ensures { OnOk result (AB.kept builder.old builder.new) }
 {
     let mut filter = builder.when_first_row()?;
-    filter.assert_zero(x)?;
-    Ok(())
+    filter.assert_zero(x)
 }
 
 fn assert_on_last<AB: AirBuilder>(builder: &mut AB, x: AB::Expr) -> Result<(), AirError>
     requires ready { AB.ready builder.old }
     requires x_in { AB.Ring.has (AB.ring_of builder.old) x }
-    ensures { OnOk result (AB.kept builder.old builder.new) }
 {
     let mut filter = builder.when_last_row()?;
-    filter.assert_zero(x)?;
-    Ok(())
+    filter.assert_zero(x)
 }
 
 fn assert_on_others<AB: AirBuilder>(builder: &mut AB, x: AB::Expr) -> Result<(), AirError>
     requires ready { AB.ready builder.old }
     requires x_in { AB.Ring.has (AB.ring_of builder.old) x }
-    ensures { OnOk result (AB.kept builder.old builder.new) }
 {
     let mut filter = builder.when_transition()?;
-    filter.assert_zero(x)?;
-    Ok(())
+    filter.assert_zero(x)
 }
 
 // An assertion over the extension under a name, where a condition holds.
@@ -146,11 +170,9 @@ fn assert_named_under<AB: NamedExtensionBuilder, N: Name>(
     requires condition_in { AB.Ring.has (AB.ring_of builder.old) condition }
     requires x_in { AB.ExtRing.has (AB.ext_ring_of builder.old) x }
     requires can_evaluate { N.can_evaluate name }
-    ensures { OnOk result (AB.kept builder.old builder.new) }
 {
     let mut filter = builder.when(condition)?;
-    filter.assert_zero_ext_named(x, name)?;
-    Ok(())
+    filter.assert_zero_ext_named(x, name)
 }
 
 /// Makes the assertion.
@@ -175,6 +197,7 @@ pub fn assert_row<AB: AirBuilder>(
         Assertion::ZeroOn(Rows::First, x) => assert_on_first(builder, x),
         Assertion::ZeroOn(Rows::Last, x) => assert_on_last(builder, x),
         Assertion::ZeroOn(Rows::Others, x) => assert_on_others(builder, x),
+        Assertion::Batch(batch) => assert_batch(builder, batch),
         Assertion::BatchUnderBoth(outer, inner, batch) => {
             assert_batch_under_both(builder, outer, inner, batch)
         }
@@ -200,6 +223,8 @@ pub fn assert_named_row<AB: NamedAirBuilder>(
         NamedAssertion::ZeroUnderBoth(outer, inner, x) => {
             assert_zero_named_under_both(builder, outer, inner, x, a.join(b).name(c))
         }
+        NamedAssertion::Batch(batch) => assert_named_batch(builder, batch, a),
+        NamedAssertion::Bools(all) => assert_three_bool_named(builder, all, a.join(b)),
         NamedAssertion::BatchUnderBoth(outer, inner, batch) => {
             assert_named_batch_under_both(builder, outer, inner, batch, a.join(b))
         }
@@ -237,6 +262,7 @@ pub fn assert_ext_row<AB: ExtensionBuilder>(
         ExtAssertion::Zero(x) => builder.assert_zero_ext(x),
         ExtAssertion::One(x) => builder.assert_one_ext(x),
         ExtAssertion::Equal(x, y) => builder.assert_eq_ext(x, y),
+        ExtAssertion::Zeros(all) => assert_both_zero_ext(builder, all),
         ExtAssertion::ZeroUnder(condition, x) => assert_zero_ext_under(builder, condition, x),
         ExtAssertion::ZeroUnderBoth(outer, inner, x) => {
             assert_zero_ext_under_both(builder, outer, inner, x)

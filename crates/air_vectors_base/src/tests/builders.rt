@@ -8,7 +8,7 @@ use crate::tests::filters::{Batch, NamedBatch};
 use crate::tests::numbers::number;
 use crate::tests::value_log::{Asserted, ValueLog, assert_failures};
 use air_builder::{
-    AirBuilder, AirBuilderWithContext, AirError, AssertAll, AssertAllNamed, NamespaceExt,
+    AirBuilder, AirBuilderWithContext, AirError,
 };
 use air_field::BabyBear;
 use std::cell::Cell;
@@ -64,9 +64,14 @@ fn each_assertion_is_its_term(rt: HostRuntime) -> Result<(), Fail> {
 #[test]
 fn arrays_are_asserted_in_order(rt: HostRuntime) -> Result<(), Fail> {
     let mut log = ValueLog::new(rt.alloc(), 0);
-    log.assert_zeros([number(1), number(2)])?;
-    log.assert_bools([number(3), number(1)])?;
-    log.assert_eq_arrays([number(9), number(8)], [number(4), number(8)])?;
+    let batches = [
+        Batch::Zeros(pair(1, 2)),
+        Batch::Bools(pair(3, 1)),
+        Batch::Equal(pair(9, 8), pair(4, 8)),
+    ];
+    for batch in batches {
+        assert_on_log(&mut log, Assertion::Batch(batch))?;
+    }
     assert_values(&rt, &log, &[1, 2, 6, 0, 5, 0]);
     Ok(())
 }
@@ -164,8 +169,10 @@ fn failures_keep_their_labels(rt: HostRuntime) -> Result<(), Fail> {
 #[test]
 fn elements_of_a_batch_are_labelled_by_place(rt: HostRuntime) -> Result<(), Fail> {
     let mut log = ValueLog::new(rt.alloc(), 0);
-    log.assert_zeros_named([number(0), number(1)], "z")?;
-    log.assert_bools_named([number(1), number(0), number(4)], "a".join("b"))?;
+    let alone = NamedAssertion::Batch(NamedBatch::Zeros(pair(0, 1)));
+    assert_named_on_log(&mut log, alone, ["z", "", ""])?;
+    let three = NamedAssertion::Bools([number(1), number(0), number(4)]);
+    assert_named_on_log(&mut log, three, ["a", "b", ""])?;
     let batches = [NamedBatch::Zeros(pair(0, 5)), NamedBatch::Bools(pair(3, 2))];
     for batch in batches {
         let row = NamedAssertion::BatchUnderBoth(number(2), number(3), batch);

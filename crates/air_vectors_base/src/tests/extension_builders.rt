@@ -5,7 +5,7 @@ use crate::tests::assertion::{
 use crate::tests::builders;
 use crate::tests::numbers::{element, number};
 use crate::tests::value_log::{Asserted, ValueLog, assert_failures};
-use air_builder::{AirError, AssertAllExt};
+use air_builder::AirError;
 use air_field::{BabyBear, BinomialExtensionField};
 use std::process::Abort;
 use std::test::Fail;
@@ -38,11 +38,11 @@ fn each_extension_assertion_is_its_term(rt: HostRuntime) -> Result<(), Fail> {
         Row::Zero(element([0, 1, 0, 0])),
         Row::One(element([5, 0, 0, 1])),
         Row::Equal(element([9, 8, 7, 6]), element([4, 8, 2, 1])),
+        Row::Zeros([element([1, 0, 0, 0]), element([0, 0, 2, 0])]),
     ];
     for row in rows {
         assert_on_log(&mut log, row)?;
     }
-    log.assert_zeros_ext([element([1, 0, 0, 0]), element([0, 0, 2, 0])])?;
     let wanted = [
         Asserted::Extension(element([0, 1, 0, 0])),
         Asserted::Extension(element([4, 0, 0, 1])),
