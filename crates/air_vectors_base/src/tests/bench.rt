@@ -57,12 +57,7 @@ pub fn place_of<A: SymLeaf>(made: &[ExprId<A>], x: ExprId<A>) -> usize {
 }
 
 /// What a row finds is what it wants.
-pub fn assert_at<T: Copy + PartialEq + Debug>(
-    rt: &impl Abort,
-    number: usize,
-    found: T,
-    wanted: T,
-) {
+pub fn assert_at<T: Copy + PartialEq + Debug>(rt: &impl Abort, number: usize, found: T, wanted: T) {
     assert_eq!(rt; found, wanted, "at row {number}");
 }
 
