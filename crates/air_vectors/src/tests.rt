@@ -366,47 +366,107 @@ fn periodic_columns_leave_out_the_cached_degree(rt: HostRuntime) -> Result<(), F
     Ok(())
 }
 
-#[test]
-fn evaluates_one_row(rt: HostRuntime) -> Result<(), Fail> {
-    let top = [BabyBear::new(1), BabyBear::new(2)];
-    let bottom = [BabyBear::new(3), BabyBear::new(4)];
-    let public = [BabyBear::new(7)];
-    let before = [BabyBear::new(8)];
-    let after = [BabyBear::new(9)];
-    let mut periodic = Vec::new(rt.alloc());
-    periodic.push(BabyBear::new(6))?;
-    let mut builder = DebugConstraintBuilder::new(
-        rt.alloc(),
+/// A builder of two columns.
+type RowBuilder<'a> = DebugConstraintBuilder<'a, BabyBear, BabyBear>;
+
+/// What stands at a row and at the next one, in two columns and in one preprocessed column, and a public value.
+#[derive(Drop)]
+struct TwoRowsOfValues {
+    top: Vec<BabyBear>,
+    bottom: Vec<BabyBear>,
+    before: Vec<BabyBear>,
+    after: Vec<BabyBear>,
+    public: Vec<BabyBear>,
+}
+
+fn two_rows(alloc: Global) -> Result<TwoRowsOfValues, Fail> {
+    Ok(TwoRowsOfValues {
+        top: column(alloc, &[1, 2])?,
+        bottom: column(alloc, &[3, 4])?,
+        before: column(alloc, &[8])?,
+        after: column(alloc, &[9])?,
+        public: column(alloc, &[7])?,
+    })
+}
+
+/// A builder at row 9, where these values stand, with this periodic column's.
+fn builder_at<'a>(
+    alloc: Global,
+    rows: &'a TwoRowsOfValues,
+    periodic: Vec<BabyBear>,
+) -> RowBuilder<'a> {
+    DebugConstraintBuilder::new(
+        alloc,
         9,
         ViewPair::new(
-            RowMajorMatrixView::new_row(&top),
-            RowMajorMatrixView::new_row(&bottom),
+            RowMajorMatrixView::new_row(&rows.top),
+            RowMajorMatrixView::new_row(&rows.bottom),
         ),
         ViewPair::new(
-            RowMajorMatrixView::new_row(&before),
-            RowMajorMatrixView::new_row(&after),
+            RowMajorMatrixView::new_row(&rows.before),
+            RowMajorMatrixView::new_row(&rows.after),
         ),
-        &public,
+        &rows.public,
         BabyBear::ONE,
         BabyBear::ZERO,
         BabyBear::TWO,
         periodic,
-    );
+    )
+}
+
+fn assert_main(rt: &impl Abort, builder: &RowBuilder<'_>) -> Result<(), Fail> {
     let window = builder.main()?;
     assert_eq!(rt; window.current(1), Some(BabyBear::new(2)));
     assert_eq!(rt; window.next(0), Some(BabyBear::new(3)));
     assert_eq!(rt; window.next(2), None);
-    assert_eq!(rt; builder.public_values(), public.as_slice());
+    Ok(())
+}
+
+fn assert_beside(rt: &impl Abort, builder: &RowBuilder<'_>) {
+    assert_eq!(rt; builder.public_values(), [BabyBear::new(7)].as_slice());
     assert_eq!(rt; builder.preprocessed().current(0), Some(BabyBear::new(8)));
     assert_eq!(rt; builder.preprocessed().next(0), Some(BabyBear::new(9)));
     assert_eq!(rt; builder.periodic_values(), [BabyBear::new(6)].as_slice());
-    assert_eq!(rt; builder.is_first_row()?, BabyBear::ONE);
-    assert_eq!(rt; builder.is_last_row()?, BabyBear::ZERO);
-    assert_eq!(rt; builder.is_transition()?, BabyBear::TWO);
-    assert_where(&mut builder, BabyBear::ZERO, BabyBear::new(5))?;
-    assert!(rt; !builder.has_failures());
+}
+
+#[test]
+fn a_row_lends_its_values(rt: HostRuntime) -> Result<(), Fail> {
+    let rows = two_rows(rt.alloc())?;
+    let periodic = column(rt.alloc(), &[6])?;
+    let builder = builder_at(rt.alloc(), &rows, periodic);
+    assert_beside(&rt, &builder);
+    assert_main(&rt, &builder)
+}
+
+fn selectors(builder: &mut RowBuilder<'_>) -> Result<[BabyBear; 3], AirError> {
+    let first = builder.is_first_row()?;
+    let last = builder.is_last_row()?;
+    let transition = builder.is_transition()?;
+    Ok([first, last, transition])
+}
+
+#[test]
+fn a_row_has_its_selectors(rt: HostRuntime) -> Result<(), Fail> {
+    let rows = two_rows(rt.alloc())?;
+    let mut builder = builder_at(rt.alloc(), &rows, Vec::new(rt.alloc()));
+    let wanted = [BabyBear::ONE, BabyBear::ZERO, BabyBear::TWO];
+    assert_eq!(rt; selectors(&mut builder)?, wanted);
+    Ok(())
+}
+
+/// Asserts that 5 is zero where zero isn't, and then that 1 is zero; whether there are failures after each.
+fn assert_two(builder: &mut RowBuilder<'_>) -> Result<(bool, bool), AirError> {
+    assert_where(builder, BabyBear::ZERO, BabyBear::new(5))?;
+    let first = builder.has_failures();
     builder.assert_zero(BabyBear::ONE)?;
-    assert!(rt; builder.has_failures());
+    Ok((first, builder.has_failures()))
+}
+
+#[test]
+fn evaluates_one_row(rt: HostRuntime) -> Result<(), Fail> {
+    let rows = two_rows(rt.alloc())?;
+    let mut builder = builder_at(rt.alloc(), &rows, Vec::new(rt.alloc()));
+    assert_eq!(rt; assert_two(&mut builder)?, (false, true));
     assert_eq!(rt; builder.failures().len(), 1);
     let failures = builder.into_failures();
     assert_eq!(rt; failures.len(), 1);
@@ -428,6 +488,33 @@ fn assert_lent(
     assert_eq!(rt; found, Some(SymbolicVariable::new(entry, index)));
 }
 
+/// The builder lends the variables of column 1 at this row and of column 0 at the next one, and none of column 2.
+fn assert_main_lent(
+    rt: &impl Abort,
+    builder: &SymbolicAirBuilder<BabyBear, BabyBear>,
+) -> Result<(), Fail> {
+    let (current, _) = lent_variables(builder, 1)?;
+    assert_lent(rt, current, BaseEntry::Main { offset: 0 }, 1);
+    let (_, next) = lent_variables(builder, 0)?;
+    assert_lent(rt, next, BaseEntry::Main { offset: 1 }, 0);
+    let (current, _) = lent_variables(builder, 2)?;
+    assert!(rt; current.is_none());
+    Ok(())
+}
+
+/// The builder lends the variables of the first public value, preprocessed column and periodic column.
+fn assert_beside_lent(rt: &impl Abort, builder: &SymbolicAirBuilder<BabyBear, BabyBear>) {
+    let public = [SymbolicVariable::new(BaseEntry::Public, 0)];
+    assert_eq!(rt; builder.public_values(), public.as_slice());
+    let window = builder.preprocessed();
+    let before = BaseEntry::Preprocessed { offset: 0 };
+    let after = BaseEntry::Preprocessed { offset: 1 };
+    assert_lent(rt, window.current(0), before, 0);
+    assert_lent(rt, window.next(0), after, 0);
+    let periodic = [SymbolicVariable::new(BaseEntry::Periodic, 0)];
+    assert_eq!(rt; builder.periodic_values(), periodic.as_slice());
+}
+
 #[test]
 fn lends_variables(rt: HostRuntime) -> Result<(), Fail> {
     let layout = AirLayout {
@@ -436,22 +523,8 @@ fn lends_variables(rt: HostRuntime) -> Result<(), Fail> {
         ..products_layout(rt.alloc())
     };
     let builder = recording_builder(rt.alloc(), layout)?;
-    let (current, _) = lent_variables(&builder, 1)?;
-    assert_lent(&rt, current, BaseEntry::Main { offset: 0 }, 1);
-    let (_, next) = lent_variables(&builder, 0)?;
-    assert_lent(&rt, next, BaseEntry::Main { offset: 1 }, 0);
-    let (current, _) = lent_variables(&builder, 2)?;
-    assert!(rt; current.is_none());
-    let public = [SymbolicVariable::new(BaseEntry::Public, 0)];
-    assert_eq!(rt; builder.public_values(), public.as_slice());
-    let window = builder.preprocessed();
-    let before = BaseEntry::Preprocessed { offset: 0 };
-    let after = BaseEntry::Preprocessed { offset: 1 };
-    assert_lent(&rt, window.current(0), before, 0);
-    assert_lent(&rt, window.next(0), after, 0);
-    let periodic = [SymbolicVariable::new(BaseEntry::Periodic, 0)];
-    assert_eq!(rt; builder.periodic_values(), periodic.as_slice());
-    Ok(())
+    assert_beside_lent(&rt, &builder);
+    assert_main_lent(&rt, &builder)
 }
 
 #[test]

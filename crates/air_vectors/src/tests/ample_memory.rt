@@ -30,14 +30,14 @@
 //! | **builders** | |
 //! | `main` of the symbolic builder; `permutation` | tests (`lent_variables`); recordings |
 //! | `is_first_row`, `is_last_row`, `is_transition` | tests, labels; of the symbolic builder through folds |
-//! | `is_transition_window` | base: assertion, through `when_transition_window` |
-//! | `when`, `when_ne`, `when_transition_window` | base: assertion; filters |
-//! | `when_first_row`, `when_last_row`, `when_transition` | base: assertion |
+//! | `is_transition_window` | base: filters, through `when_transition_window` |
+//! | `when`, `when_ne`, `when_transition_window` | base: filters; filters |
+//! | `when_first_row`, `when_last_row`, `when_transition` | base: filters |
 //! | `assert_zero`, `assert_one`, `assert_eq`, `assert_bool` | base: assertion; labels, words, differing |
-//! | `assert_zeros`, `assert_bools`, `assert_eq_arrays`, and through them those of slices | base: builders, filters |
-//! | `assert_zero_ext`, `assert_one_ext`, `assert_eq_ext`, `assert_zeros_ext` | base: assertion, extension_builders |
+//! | `assert_zeros`, `assert_bools`, `assert_eq_arrays`, and through them those of slices | base: assertion |
+//! | `assert_zero_ext`, `assert_one_ext`, `assert_eq_ext`, `assert_zeros_ext` | base: assertion |
 //! | `assert_zero_named`, `assert_one_named`, `assert_eq_named`, `assert_bool_named` | base: assertion; labels |
-//! | `assert_zeros_named`, `assert_bools_named` | base: builders; labels |
+//! | `assert_zeros_named`, `assert_bools_named` | base: assertion; labels |
 //! | `assert_zero_ext_named`, `assert_one_ext_named`, `assert_eq_ext_named` | base: assertion; extension |
 //! | `assert_zero_unlabelled` | labels |
 //! | `evaluate` of a text, a `Lazy` and a `Joined` | base: names |

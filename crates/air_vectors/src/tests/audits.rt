@@ -131,10 +131,16 @@ fn audits_what_is_beside_a_trace(rt: HostRuntime) -> Result<(), Fail> {
     assert_eq!(rt; audit.layout.base_indices.as_slice(), [0, 1].as_slice());
     assert!(rt; audit.layout.ext_indices.is_empty());
     assert_eq!(rt; audit.degree, 2);
+    Ok(())
+}
+
+#[test]
+fn an_audit_counts_the_transition_selector(rt: HostRuntime) -> Result<(), Fail> {
+    let alloc = rt.alloc();
     let air = make_surrounded(alloc, &[0, 0], &[0, 5], 0)?;
     let main = matrix(alloc, &[0, 5], 1)?;
+    let public = [BabyBear::new(5)];
     for (transition_weight, degree) in [(0, 1), (1, 2)] {
-        let public = [BabyBear::new(5)];
         let audit = surrounded_audit(alloc, &air, &main, &public, transition_weight)?;
         assert_report(&rt, &audit.report, &[]);
         assert_eq!(rt; audit.degree, degree);

@@ -17,6 +17,7 @@ use p3_air::{
     AirLayout, BaseLeaf, Recorded, SymLeaf, SymbolicAirBuilder, get_symbolic_constraints,
 };
 use std::alloc::Global;
+use std::process::Abort;
 use std::test::Fail;
 
 /// One column x: the transition selector twice times x is zero.
@@ -290,20 +291,51 @@ fn a_product_alone_keeps_its_cached_degree(rt: HostRuntime) -> Result<(), Fail> 
     Ok(())
 }
 
+fn steps_over_eight(alloc: Global) -> Result<(Vec<usize>, usize), AirError> {
+    degrees_over_eight(alloc, &Steps {}, &[])
+}
+
+fn cycles_over_eight(
+    alloc: Global,
+    air: &Cycles<BabyBear>,
+) -> Result<(Vec<usize>, usize), AirError> {
+    degrees_over_eight(alloc, air, &[2, 2])
+}
+
+/// The recorded polynomials have these degrees, and of them this degree is inferred.
+fn assert_degrees(
+    rt: &impl Abort,
+    found: Result<(Vec<usize>, usize), AirError>,
+    degrees: &[usize],
+    inferred: usize,
+) -> Result<(), Fail> {
+    let (found, found_inferred) = found?;
+    assert_eq!(rt; found.as_slice(), degrees);
+    assert_eq!(rt; found_inferred, inferred);
+    Ok(())
+}
+
 #[test]
 fn degrees_for_eight_rows(rt: HostRuntime) -> Result<(), Fail> {
     let alloc = rt.alloc();
-    let (degrees, inferred_degree) = degrees_over_eight(alloc, &Steps {}, &[])?;
-    assert_eq!(rt; degrees.as_slice(), [9].as_slice());
-    assert_eq!(rt; inferred_degree, 2);
-    assert_eq!(rt; inferred(alloc, &Wide {}, 8)?, 1);
+    assert_degrees(&rt, steps_over_eight(alloc), &[9], 2)?;
     let air = Cycles {
         columns: columns(alloc, &[2, 2])?,
     };
-    let (degrees, inferred_degree) = degrees_over_eight(alloc, &air, &[2, 2])?;
-    assert_eq!(rt; degrees.as_slice(), [8].as_slice());
-    assert_eq!(rt; inferred_degree, 1);
-    let idle = no_tables(alloc, 4, 0);
-    assert_eq!(rt; inferred(alloc, &idle, 8)?, 0);
+    assert_degrees(&rt, cycles_over_eight(alloc, &air), &[8], 1)
+}
+
+fn inferred_of_wide(alloc: Global) -> Result<usize, AirError> {
+    inferred(alloc, &Wide {}, 8)
+}
+
+fn inferred_of_nothing(alloc: Global) -> Result<usize, AirError> {
+    inferred(alloc, &no_tables(alloc, 4, 0), 8)
+}
+
+#[test]
+fn least_degrees_for_eight_rows(rt: HostRuntime) -> Result<(), Fail> {
+    assert_eq!(rt; inferred_of_wide(rt.alloc())?, 1);
+    assert_eq!(rt; inferred_of_nothing(rt.alloc())?, 0);
     Ok(())
 }

@@ -3,6 +3,7 @@ ghost use Rattle.air_builder.specs.Beside.{nothing_beside};
 ghost use Rattle.air_vectors.specs.TestAirs.{permuted, mixed};
 
 use crate::tests::filters::assert_constant_ext_under;
+use crate::tests::matrix;
 use air_field::{
     BabyBear, BinomialExtensionField, ExtensionField, Field, FromVar, RowMajorMatrix,
     RowMajorMatrixView, ViewPair,
@@ -12,8 +13,8 @@ use p3_air::author::{
     assert_all,
 };
 use p3_air::{
-    Air, AirBuilder, AirError, BaseAir, BoundaryPublic, DebugConstraintBuilder, ExtEntry,
-    ExtensionBuilder, NamedExtensionBuilder, PermutationAirBuilder, WindowAccess,
+    Air, AirBuilder, AirError, BaseAir, BoundaryPublic, ConstraintReport, DebugConstraintBuilder,
+    ExtEntry, ExtensionBuilder, NamedExtensionBuilder, PermutationAirBuilder, WindowAccess,
     check_all_constraints,
 };
 use std::alloc::Global;
@@ -195,6 +196,13 @@ fn one_row_is_evaluated_over_the_extension(rt: HostRuntime) -> Result<(), Fail> 
     Ok(())
 }
 
+/// Asserts the constraints of `Mixed` on a row.
+fn eval_mixed(
+    builder: &mut DebugConstraintBuilder<'_, BabyBear, BinomialExtensionField>,
+) -> Result<(), AirError> {
+    Mixed {}.eval(builder)
+}
+
 #[test]
 fn kinds_fail_at_their_places(rt: HostRuntime) -> Result<(), Fail> {
     let column = [extension(0, 1, 0, 0)];
@@ -208,18 +216,34 @@ fn kinds_fail_at_their_places(rt: HostRuntime) -> Result<(), Fail> {
         ([number(3), number(4)], &others, [0, 1, 2].as_slice()),
     ] {
         let mut builder = row(rt.alloc(), &main, &column, &challenges, values);
-        Mixed {}.eval(&mut builder)?;
+        eval_mixed(&mut builder)?;
         assert_places(&rt, &builder, places);
     }
     Ok(())
 }
 
+fn zero_ext_named(
+    builder: &mut DebugConstraintBuilder<'_, BabyBear, BinomialExtensionField>,
+    x: BinomialExtensionField,
+    name: &'static str,
+) -> Result<(), AirError> {
+    builder.assert_zero_ext_named(x, name)
+}
+
+fn zero(
+    builder: &mut DebugConstraintBuilder<'_, BabyBear, BinomialExtensionField>,
+    x: u32,
+) -> Result<(), AirError> {
+    builder.assert_zero(number(x))
+}
+
 #[test]
 fn failures_over_the_extension_are_labelled(rt: HostRuntime) -> Result<(), Fail> {
     let mut builder = row(rt.alloc(), &[], &[], &[], &[]);
-    builder.assert_zero_ext_named(extension(0, 0, 0, 0), "passes")?;
-    builder.assert_zero_ext_named(extension(0, 0, 0, 7), "fails")?;
-    builder.assert_zero(number(1))?;
+    for (last, name) in [(0, "passes"), (7, "fails")] {
+        zero_ext_named(&mut builder, extension(0, 0, 0, last), name)?;
+    }
+    zero(&mut builder, 1)?;
     assert_places(&rt, &builder, &[1, 2]);
     assert_eq!(rt;
         builder.formatted_failures()?.as_str(),
@@ -228,22 +252,30 @@ fn failures_over_the_extension_are_labelled(rt: HostRuntime) -> Result<(), Fail>
     Ok(())
 }
 
+fn assert_constant_under(
+    builder: &mut DebugConstraintBuilder<'_, BabyBear, BinomialExtensionField>,
+    condition: u32,
+    x: BinomialExtensionField,
+) -> Result<(), AirError> {
+    assert_constant_ext_under(builder, number(condition), x)
+}
+
 #[test]
 fn a_filter_multiplies_over_the_extension(rt: HostRuntime) -> Result<(), Fail> {
     let mut builder = row(rt.alloc(), &[], &[], &[], &[]);
     for condition in [3, 0, 3] {
         let x = extension(0, 1, 0, 0);
-        assert_constant_ext_under(&mut builder, number(condition), x)?;
+        assert_constant_under(&mut builder, condition, x)?;
     }
     assert_places(&rt, &builder, &[0, 2]);
     Ok(())
 }
 
-#[test]
-fn a_builder_without_permutation_data_refuses_its_window(rt: HostRuntime) -> Result<(), Fail> {
+/// A builder at a row without columns and without permutation data.
+fn without_permutation<'a>(alloc: Global) -> DebugConstraintBuilder<'a, BabyBear, BabyBear> {
     let none = RowMajorMatrixView::new_row(&[]);
-    let builder = DebugConstraintBuilder::<BabyBear, BabyBear>::new(
-        rt.alloc(),
+    DebugConstraintBuilder::new(
+        alloc,
         0,
         ViewPair::new(none, none),
         ViewPair::new(none, none),
@@ -251,18 +283,34 @@ fn a_builder_without_permutation_data_refuses_its_window(rt: HostRuntime) -> Res
         BabyBear::ONE,
         BabyBear::ONE,
         BabyBear::ZERO,
-        Vec::new(rt.alloc()),
-    );
+        Vec::new(alloc),
+    )
+}
+
+#[test]
+fn a_builder_without_permutation_data_refuses_its_window(rt: HostRuntime) -> Result<(), Fail> {
+    let builder = without_permutation(rt.alloc());
     match builder.permutation() {
         Ok(_) => assert!(rt; false),
         Err(e) => assert_eq!(rt; e, AirError::NoPermutation),
     }
     assert_eq!(rt; builder.permutation_randomness().len(), 0);
     assert_eq!(rt; builder.permutation_values().len(), 0);
-    let main = RowMajorMatrix::new(Vec::from_array(rt.alloc(), [number(0)])?, 1)?;
-    match check_all_constraints(rt.alloc(), &Permuted {}, &main, &[], None) {
-        Ok(_) => assert!(rt; false),
-        Err(e) => assert_eq!(rt; e, AirError::NoPermutation),
-    }
+    Ok(())
+}
+
+/// The report of `Permuted`, whose checks have no permutation data.
+fn permuted_report(
+    alloc: Global,
+    main: &RowMajorMatrix<BabyBear>,
+) -> Result<ConstraintReport, AirError> {
+    check_all_constraints(alloc, &Permuted {}, main, &[], None)
+}
+
+#[test]
+fn a_check_without_permutation_data_is_refused(rt: HostRuntime) -> Result<(), Fail> {
+    let main = matrix(rt.alloc(), &[0], 1)?;
+    let report = permuted_report(rt.alloc(), &main);
+    assert_eq!(rt; report.err(), Some(AirError::NoPermutation));
     Ok(())
 }

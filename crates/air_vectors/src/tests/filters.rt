@@ -16,8 +16,7 @@ pub fn assert_zero_under<AB: AirBuilder>(
     ensures { AB.kept builder.old builder.new }
 {
     let mut filter = builder.when(condition)?;
-    filter.assert_zero(x)?;
-    Ok(())
+    filter.assert_zero(x)
 }
 
 /// Asserts where two conditions hold that `x` is zero.
@@ -34,8 +33,7 @@ pub fn assert_zero_under_both<AB: AirBuilder>(
     ensures { AB.kept builder.old builder.new }
 {
     let mut filter = builder.when(outer)?;
-    assert_zero_under(&mut filter, inner, x)?;
-    Ok(())
+    assert_zero_under(&mut filter, inner, x)
 }
 
 /// Asserts under a name, where two conditions hold, that `x` is zero.
@@ -53,8 +51,7 @@ pub fn assert_zero_named_under_both<AB: NamedAirBuilder, N: Name>(
     requires can_evaluate { N.can_evaluate name }
 {
     let mut filter = builder.when(outer)?;
-    assert_zero_named_under(&mut filter, inner, x, name)?;
-    Ok(())
+    assert_zero_named_under(&mut filter, inner, x, name)
 }
 
 /// Asserts under a name, where a condition holds, that `x` is zero.
@@ -70,8 +67,7 @@ pub fn assert_zero_named_under<AB: NamedAirBuilder, N: Name>(
     requires can_evaluate { N.can_evaluate name }
 {
     let mut filter = builder.when(condition)?;
-    filter.assert_zero_named(x, name)?;
-    Ok(())
+    filter.assert_zero_named(x, name)
 }
 
 /// Three constants of a ring.
@@ -134,8 +130,7 @@ fn assert_zero_ext_under<AB: ExtensionBuilder>(
     ensures { AB.kept builder.old builder.new }
 {
     let mut filter = builder.when(condition)?;
-    filter.assert_zero_ext(x)?;
-    Ok(())
+    filter.assert_zero_ext(x)
 }
 
 /// Asserts where a constant holds that one of the extension is zero.

@@ -102,17 +102,24 @@ fn audits_a_constraint_from_outside(rt: HostRuntime) -> Result<(), Fail> {
     Ok(())
 }
 
+/// The audit with a periodic column of 0 and 1 lists these rows and places.
+fn assert_periodic_audit(
+    rt: &impl Abort,
+    alloc: Global,
+    public: &[BabyBear],
+    wanted: &[(usize, usize)],
+) -> Result<(), Fail> {
+    let main = matrix(alloc, &[0, 1, 0, 1], 1)?;
+    let air = make_periodic(alloc, &[0, 1], public.len())?;
+    let audit = flat_audit(alloc, &air, &main, public)?;
+    assert_audit(rt, &audit, wanted);
+    Ok(())
+}
+
 #[test]
 fn audits_a_periodic_column_and_a_cell_from_outside(rt: HostRuntime) -> Result<(), Fail> {
-    let alloc = rt.alloc();
-    let main = matrix(alloc, &[0, 1, 0, 1], 1)?;
-    let air = make_periodic(alloc, &[0, 1], 0)?;
-    let audit = flat_audit(alloc, &air, &main, &[])?;
-    assert_audit(&rt, &audit, &[]);
-    let air = make_periodic(alloc, &[0, 1], 1)?;
-    let audit = flat_audit(alloc, &air, &main, &[BabyBear::new(5)])?;
-    assert_audit(&rt, &audit, &[(3, 1)]);
-    Ok(())
+    assert_periodic_audit(&rt, rt.alloc(), &[], &[])?;
+    assert_periodic_audit(&rt, rt.alloc(), &[BabyBear::new(5)], &[(3, 1)])
 }
 
 #[test]

@@ -173,14 +173,33 @@ fn folds_the_values_at_a_row(rt: HostRuntime) -> Result<(), Fail> {
         fold_row(&mut folder)?;
         assert_eq!(rt; folder.accumulator(), wanted);
     }
+    Ok(())
+}
+
+/// What is folded of Fibonacci.
+fn fold_fibonacci<'a>(
+    alloc: Global,
+    folder: &mut Folder<'a>,
+) -> Result<Folded<BabyBear, Element>, AirError>
+    requires { folder.old.accumulator ≡ ⟦<BinomialExtensionField as ExtensionField<BabyBear>>⟧.over.ring.nil }
+{
     let layout = AirLayout {
         main_width: 2,
         num_public_values: 3,
         ..AirLayout::default()
     };
-    let mut folder = folder_at(&row, &next, &public, alpha);
-    let folded = fold(rt.alloc(), &Fibonacci {}, layout, &mut folder)?;
-    assert_eq!(rt; folded.accumulator, wanted);
+    fold(alloc, &Fibonacci {}, layout, folder)
+}
+
+// The same rows.
+#[test]
+fn folds_beside_a_recording(rt: HostRuntime) -> Result<(), Fail> {
+    let row = [element(1), element(5)];
+    let next = [element(2), element(3)];
+    let public = [element(0), element(1), element(3)];
+    let mut folder = folder_at(&row, &next, &public, extension(0, 1, 0, 0));
+    let folded = fold_fibonacci(rt.alloc(), &mut folder)?;
+    assert_eq!(rt; folded.accumulator, extension(0, 2013265918, 2013265918, 0));
     assert_eq!(rt; folded.recorded.base.len(), 5);
     assert!(rt; folded.recorded.ext.is_empty());
     Ok(())
@@ -209,24 +228,48 @@ fn folds_over_the_extension(rt: HostRuntime) -> Result<(), Fail> {
     Ok(())
 }
 
-/// Asserts four values, each in its own way, under names that count how often they are asked for.
-fn assert_each(folder: &mut Folder<'_>, asked: &Cell<u32>) -> Result<(), AirError> {
+/// Asserts a value under a name that sets the counter where it is asked for.
+fn assert_named(folder: &mut Folder<'_>, asked: &Cell<u32>, x: Element) -> Result<(), AirError> {
     folder.assert_zero_named(
-        element(1),
+        x,
         Lazy(|| {
             asked.set(1);
             Ok("base")
         }),
-    )?;
+    )
+}
+
+/// The same for an extension constraint.
+fn assert_ext_named(
+    folder: &mut Folder<'_>,
+    asked: &Cell<u32>,
+    x: Element,
+) -> Result<(), AirError> {
     folder.assert_zero_ext_named(
-        extension(0, 2, 0, 0),
+        x,
         Lazy(|| {
             asked.set(2);
             Ok("extension")
         }),
-    )?;
-    assert_zero_under(folder, element(3), element(4))?;
-    assert_constant_ext_under(folder, BabyBear::new(5), element(6))
+    )
+}
+
+/// Asserts a value under a filter.
+fn assert_under(folder: &mut Folder<'_>, condition: u32, x: u32) -> Result<(), AirError> {
+    assert_zero_under(folder, element(condition), element(x))
+}
+
+/// The same for an extension constraint.
+fn assert_ext_under(folder: &mut Folder<'_>, condition: u32, x: u32) -> Result<(), AirError> {
+    assert_constant_ext_under(folder, BabyBear::new(condition), element(x))
+}
+
+/// Asserts four values, each in its own way, under names that count how often they are asked for.
+fn assert_each(folder: &mut Folder<'_>, asked: &Cell<u32>) -> Result<(), AirError> {
+    assert_named(folder, asked, element(1))?;
+    assert_ext_named(folder, asked, extension(0, 2, 0, 0))?;
+    assert_under(folder, 3, 4)?;
+    assert_ext_under(folder, 5, 6)
 }
 
 // 1, 2X, 12 and 30: 1000 + 200X + 120 + 30 by alpha 10.

@@ -79,14 +79,6 @@ fn constraints(alloc: Global, base: &[usize], ext: &[usize]) -> Result<Constrain
     })
 }
 
-fn numbers(alloc: Global, values: &[u32]) -> Result<Vec<BabyBear>, Fail> {
-    let mut all = Vec::new(alloc);
-    for value in values {
-        all.push(BabyBear::new(*value))?;
-    }
-    Ok(all)
-}
-
 /// The powers of an element of the base field.
 fn base_powers(
     layout: &ConstraintLayout,
@@ -124,7 +116,7 @@ fn folded<F: Field>(alpha: F, values: &[F]) -> F {
 }
 
 #[test]
-fn recombines_by_descending_powers(rt: HostRuntime) -> Result<(), Fail> {
+fn a_layout_counts_its_places(rt: HostRuntime) -> Result<(), Fail> {
     let layout = constraints(rt.alloc(), &[0, 2], &[1])?;
     assert_eq!(rt; layout.total_constraints(), 3);
     let text = format!(in rt.alloc(); "{layout:?}")?;
@@ -132,19 +124,25 @@ fn recombines_by_descending_powers(rt: HostRuntime) -> Result<(), Fail> {
         text.as_str(),
         "ConstraintLayout { base_indices: [0, 2], ext_indices: [1] }"
     );
-    let alpha = BabyBear::new(5);
-    let (coordinates, powers) = base_powers(&layout, rt.alloc(), alpha)?;
+    Ok(())
+}
+
+fn powers_of_five(alloc: Global) -> Result<(Vec<Vec<BabyBear>>, Vec<BabyBear>), Fail> {
+    let layout = constraints(alloc, &[0, 2], &[1])?;
+    Ok(base_powers(&layout, alloc, BabyBear::new(5))?)
+}
+
+#[test]
+fn recombines_by_descending_powers(rt: HostRuntime) -> Result<(), Fail> {
+    let [one, two, three, five, twenty_five, wanted] = [1, 2, 3, 5, 25, 38].map(BabyBear::new);
+    let (coordinates, powers) = powers_of_five(rt.alloc())?;
     assert_eq!(rt; coordinates.len(), 1);
-    let expected = numbers(rt.alloc(), &[25, 1])?;
-    assert_eq!(rt; coordinates[0].as_slice(), expected.as_slice());
-    let expected = numbers(rt.alloc(), &[5])?;
-    assert_eq!(rt; powers.as_slice(), expected.as_slice());
-    let values = numbers(rt.alloc(), &[1, 2, 3])?;
-    assert_eq!(rt; folded(alpha, &values), BabyBear::new(38));
-    let base = numbers(rt.alloc(), &[1, 3])?;
-    let ext = numbers(rt.alloc(), &[2])?;
-    let recombined = Field::add(weighted(&coordinates[0], &base), weighted(&powers, &ext));
-    assert_eq!(rt; recombined, BabyBear::new(38));
+    assert_eq!(rt; coordinates[0].as_slice(), [twenty_five, one].as_slice());
+    assert_eq!(rt; powers.as_slice(), [five].as_slice());
+    assert_eq!(rt; folded(five, &[one, two, three]), wanted);
+    let base = weighted(&coordinates[0], &[one, three]);
+    let recombined = Field::add(base, weighted(&powers, &[two]));
+    assert_eq!(rt; recombined, wanted);
     Ok(())
 }
 
@@ -166,23 +164,34 @@ fn names_the_first_index_past_the_total(rt: HostRuntime) -> Result<(), Fail> {
     Ok(())
 }
 
+/// The powers of the extension's root by such a layout.
+fn root_powers(
+    alloc: Global,
+    base: &[usize],
+    ext: &[usize],
+) -> Result<(Vec<Vec<BabyBear>>, Vec<BinomialExtensionField>), Fail> {
+    let root = BinomialExtensionField::from_basis_coefficients(&[0, 1, 0, 0].map(BabyBear::new));
+    let layout = constraints(alloc, base, ext)?;
+    Ok(extension_powers(&layout, alloc, root)?)
+}
+
 #[test]
 fn gives_coordinates_of_an_extension(rt: HostRuntime) -> Result<(), Fail> {
-    let x = numbers(rt.alloc(), &[0, 1, 0, 0])?;
-    assert_eq!(rt; x.len(), 4);
-    let alpha = BinomialExtensionField::from_basis_coefficients(&x);
-    let layout = constraints(rt.alloc(), &[0], &[1])?;
-    let (coordinates, powers) = extension_powers(&layout, rt.alloc(), alpha)?;
+    let (coordinates, powers) = root_powers(rt.alloc(), &[0], &[1])?;
     assert_eq!(rt; coordinates.len(), 4);
-    for (list, expected) in coordinates.iter().zip(x) {
+    for (list, expected) in coordinates.iter().zip([0, 1, 0, 0].map(BabyBear::new)) {
         assert_eq!(rt; list.as_slice(), [expected].as_slice());
     }
     assert_eq!(rt;
         powers.as_slice(),
         [BinomialExtensionField::one()].as_slice()
     );
-    let none = constraints(rt.alloc(), &[], &[])?;
-    let (coordinates, powers) = extension_powers(&none, rt.alloc(), alpha)?;
+    Ok(())
+}
+
+#[test]
+fn gives_no_coordinates_of_no_constraints(rt: HostRuntime) -> Result<(), Fail> {
+    let (coordinates, powers) = root_powers(rt.alloc(), &[], &[])?;
     assert_eq!(rt; coordinates.len(), 4);
     for list in &coordinates {
         assert!(rt; list.is_empty());

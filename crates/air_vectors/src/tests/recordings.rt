@@ -112,6 +112,15 @@ fn recording_of<EF: ExtensionField<BabyBear>, A: Air<SymbolicAirBuilder<BabyBear
     })
 }
 
+fn products_recording(alloc: Global) -> Result<Recording, AirError> {
+    let air = make_products(alloc);
+    recording_of::<BinomialExtensionField, Products<BabyBear>>(alloc, &air, products_layout(alloc))
+}
+
+fn permuted_recording(alloc: Global) -> Result<Recording, AirError> {
+    recording_of::<BinomialExtensionField, Permuted>(alloc, &Permuted {}, permuted_layout(0))
+}
+
 fn mixed_recording(alloc: Global, layout: AirLayout) -> Result<Recording, AirError> {
     recording_of::<BinomialExtensionField, Mixed>(alloc, &Mixed {}, layout)
 }
@@ -119,36 +128,29 @@ fn mixed_recording(alloc: Global, layout: AirLayout) -> Result<Recording, AirErr
 /// Compares all that was recorded.
 fn assert_recorded(
     rt: &impl Abort,
-    recording: &Recording,
+    recording: Result<Recording, AirError>,
     base: &[usize],
     ext: &[usize],
     degrees: &[usize],
     inferred: usize,
-) {
+) -> Result<(), Fail> {
+    let recording = recording?;
     assert_eq!(rt; recording.counts, (base.len(), ext.len()));
     assert_eq!(rt; recording.beside, 0);
     assert_eq!(rt; recording.degrees.as_slice(), degrees);
     assert_eq!(rt; recording.places.base_indices.as_slice(), base);
     assert_eq!(rt; recording.places.ext_indices.as_slice(), ext);
     assert_eq!(rt; recording.inferred, inferred);
+    Ok(())
 }
 
 #[test]
 fn records_each_kind_at_its_place(rt: HostRuntime) -> Result<(), Fail> {
     let alloc = rt.alloc();
-    let layout = products_layout(alloc);
-    let recording = recording_of::<BinomialExtensionField, Products<BabyBear>>(
-        alloc,
-        &make_products(alloc),
-        layout,
-    )?;
-    assert_recorded(&rt, &recording, &[0, 1], &[], &[], 2);
-    let layout = permuted_layout(0);
-    let recording = recording_of::<BinomialExtensionField, Permuted>(alloc, &Permuted {}, layout)?;
-    assert_recorded(&rt, &recording, &[], &[0], &[1], 1);
-    let recording = mixed_recording(alloc, permuted_layout(2))?;
-    assert_recorded(&rt, &recording, &[0, 2], &[1], &[1], 1);
-    Ok(())
+    assert_recorded(&rt, products_recording(alloc), &[0, 1], &[], &[], 2)?;
+    assert_recorded(&rt, permuted_recording(alloc), &[], &[0], &[1], 1)?;
+    let mixed = mixed_recording(alloc, permuted_layout(2));
+    assert_recorded(&rt, mixed, &[0, 2], &[1], &[1], 1)
 }
 
 #[test]
@@ -252,10 +254,11 @@ fn a_filter_over_the_extension_is_recorded(rt: HostRuntime) -> Result<(), Fail> 
     Ok(())
 }
 
-#[test]
-fn lends_extension_variables(rt: HostRuntime) -> Result<(), Fail> {
-    let layout = permuted_layout(2);
-    let mut builder = ext_builder(rt.alloc(), layout)?;
+/// The builder lends the variables of one permutation column, one challenge and one permutation value.
+fn assert_permutation_lent(
+    rt: &impl Abort,
+    builder: &SymbolicAirBuilder<BabyBear, BinomialExtensionField>,
+) -> Result<(), Fail> {
     let window = builder.permutation()?;
     let current = SymbolicVariableExt::new(ExtEntry::Permutation { offset: 0 }, 0);
     let next = SymbolicVariableExt::new(ExtEntry::Permutation { offset: 1 }, 0);
@@ -264,7 +267,27 @@ fn lends_extension_variables(rt: HostRuntime) -> Result<(), Fail> {
     assert_eq!(rt; window.current(1), None);
     assert_eq!(rt; builder.permutation_randomness().len(), 1);
     assert_eq!(rt; builder.permutation_values().len(), 1);
+    Ok(())
+}
+
+#[test]
+fn lends_extension_variables(rt: HostRuntime) -> Result<(), Fail> {
+    let builder = ext_builder(rt.alloc(), permuted_layout(2))?;
+    assert_permutation_lent(&rt, &builder)
+}
+
+/// The builder after `Mixed` was recorded in it.
+fn mixed_builder(
+    alloc: Global,
+) -> Result<SymbolicAirBuilder<BabyBear, BinomialExtensionField>, AirError> {
+    let mut builder = ext_builder(alloc, permuted_layout(2))?;
     Mixed {}.eval(&mut builder)?;
+    Ok(builder)
+}
+
+#[test]
+fn a_builder_knows_the_places(rt: HostRuntime) -> Result<(), Fail> {
+    let builder = mixed_builder(rt.alloc())?;
     assert_eq!(rt; builder.base_constraints().len(), 2);
     assert_eq!(rt; builder.extension_constraints().len(), 1);
     let places = builder.constraint_layout()?;

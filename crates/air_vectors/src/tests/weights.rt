@@ -7,7 +7,7 @@ use crate::tests::degrees::{Cycles, Steps};
 use crate::tests::folds::Fibonacci;
 use crate::tests::{columns, weighted};
 use air_builder::{Air, AirBuilder, AirError, BaseAir, BoundaryPublic};
-use air_field::RowMajorMatrix;
+use air_field::{BabyBear, RowMajorMatrix};
 use p3_air::author::{Square, Transition, Zero, assert_all};
 use std::alloc::Global;
 use std::test::Fail;
@@ -66,6 +66,30 @@ enum Weighed {
     Twice,
 }
 
+fn degree_of_steps(alloc: Global, transition_weight: usize) -> Result<usize, AirError> {
+    weighted(alloc, &Steps {}, 8, transition_weight)
+}
+
+fn degree_of_fibonacci(alloc: Global, transition_weight: usize) -> Result<usize, AirError> {
+    weighted(alloc, &Fibonacci {}, 4, transition_weight)
+}
+
+fn degree_of_cycles(
+    alloc: Global,
+    air: &Cycles<BabyBear>,
+    transition_weight: usize,
+) -> Result<usize, AirError> {
+    weighted(alloc, air, 8, transition_weight)
+}
+
+fn degree_of_nothing(alloc: Global, transition_weight: usize) -> Result<usize, AirError> {
+    weighted(alloc, &no_tables(alloc, 4, 0), 8, transition_weight)
+}
+
+fn degree_of_twice(alloc: Global, transition_weight: usize) -> Result<usize, AirError> {
+    weighted(alloc, &Twice {}, 8, transition_weight)
+}
+
 /// The degree that is inferred of one of these in a domain of this weight.
 fn degree_of(
     alloc: Global,
@@ -73,16 +97,16 @@ fn degree_of(
     transition_weight: usize,
 ) -> Result<Result<usize, AirError>, Fail> {
     let degree = match air {
-        Weighed::Steps => weighted(alloc, &Steps {}, 8, transition_weight),
-        Weighed::Fibonacci => weighted(alloc, &Fibonacci {}, 4, transition_weight),
+        Weighed::Steps => degree_of_steps(alloc, transition_weight),
+        Weighed::Fibonacci => degree_of_fibonacci(alloc, transition_weight),
         Weighed::Cycles => {
             let air = Cycles {
                 columns: columns(alloc, &[2, 2])?,
             };
-            weighted(alloc, &air, 8, transition_weight)
+            degree_of_cycles(alloc, &air, transition_weight)
         }
-        Weighed::Nothing => weighted(alloc, &no_tables(alloc, 4, 0), 8, transition_weight),
-        Weighed::Twice => weighted(alloc, &Twice {}, 8, transition_weight),
+        Weighed::Nothing => degree_of_nothing(alloc, transition_weight),
+        Weighed::Twice => degree_of_twice(alloc, transition_weight),
     };
     Ok(degree)
 }

@@ -1,208 +1,313 @@
-//! Assertions as rows of tables, and the call that each of them is.
-ghost use Rattle.std.specs.Prelude.{OnOk};
-
-use crate::tests::filters::{
-    Batch, NamedBatch, assert_batch_under_both, assert_named_batch_under_both,
-    assert_zero_ext_under, assert_zero_ext_under_both, assert_zero_named_under_both,
-    assert_zero_under, assert_zero_under_both, assert_zeros_ext_under,
-};
+//! Assertions as rows of tables, and the calls that they are. Each call stands in a function of its own, which knows the
+//! builder by its traits alone, and all ask for the same of it: a function with several calls takes long to prove, and
+//! so does one that has to find what each of several others asks for.
 use air_builder::{
-    AirBuilder, AirError, ExtensionBuilder, Lazy, Name, NamedAirBuilder, NamedExtensionBuilder,
-    NamespaceExt,
+    AirBuilder, AirError, AssertAll, AssertAllExt, AssertAllNamed, ExtensionBuilder, Lazy, Name,
+    NamedAirBuilder, NamedExtensionBuilder, NamespaceExt,
 };
+use std::alloc::AllocError;
 use std::cell::Cell;
 
-/// The rows that a selector names.
-#[derive(Clone, Copy)]
-pub enum Rows {
-    First,
-    Last,
-    /// All but the last.
-    Others,
-}
-
 /// An assertion without a name.
-#[derive(Clone, Copy)]
 pub enum Assertion<E> {
     Zero(E),
     One(E),
     Equal(E, E),
     Bool(E),
-    /// The last is zero where the first is not.
-    ZeroUnder(E, E),
-    /// The last is zero where neither of the first two is.
-    ZeroUnderBoth(E, E, E),
-    /// The last is zero where the first two differ.
-    ZeroWhereDifferent(E, E, E),
-    /// It is zero in each window of two rows.
-    ZeroInWindow(E),
-    /// It is zero on some rows.
-    ZeroOn(Rows, E),
-    /// The batch holds where neither of the first two is zero.
-    BatchUnderBoth(E, E, Batch<E>),
+    Zeros([E; 2]),
+    Bools([E; 2]),
+    EqualArrays([E; 2], [E; 2]),
 }
 
+// A derived clone goes through the cases, which takes long to prove.
+impl<E: Copy> Clone for Assertion<E> {
+    fn clone(&self) -> Result<Self, AllocError> {
+        Ok(*self)
+    }
+}
+
+impl<E: Copy> Copy for Assertion<E> {}
+
 /// An assertion under a name, which has as many parts as are said here, and else one.
-#[derive(Clone, Copy)]
 pub enum NamedAssertion<E> {
     Zero(E),
     One(E),
     Equal(E, E),
     Bool(E),
+    Zeros([E; 2]),
     /// Two parts.
     ZeroInSpace(E),
-    /// The last is zero where neither of the first two is; three parts.
-    ZeroUnderBoth(E, E, E),
-    /// The batch holds where neither of the first two is zero; two parts.
-    BatchUnderBoth(E, E, NamedBatch<E>),
+    /// Three parts.
+    ZeroInSpaces(E),
+    /// Two parts.
+    ZerosInSpace([E; 2]),
+    /// Two parts.
+    BoolsInSpace([E; 2]),
+    /// Two parts.
+    ThreeBoolsInSpace([E; 3]),
 }
+
+impl<E: Copy> Clone for NamedAssertion<E> {
+    fn clone(&self) -> Result<Self, AllocError> {
+        Ok(*self)
+    }
+}
+
+impl<E: Copy> Copy for NamedAssertion<E> {}
 
 /// An assertion over an extension.
-#[derive(Clone, Copy)]
-pub enum ExtAssertion<E, X> {
+pub enum ExtAssertion<X> {
     Zero(X),
     One(X),
     Equal(X, X),
-    ZeroUnder(E, X),
-    ZeroUnderBoth(E, E, X),
-    ZerosUnder(E, [X; 2]),
+    Zeros([X; 2]),
 }
 
-/// An assertion over an extension under a name.
-#[derive(Clone, Copy)]
-pub enum NamedExtAssertion<E, X> {
-    Zero(X),
-    One(X),
-    Equal(X, X),
-    ZeroUnder(E, X),
+impl<X: Copy> Clone for ExtAssertion<X> {
+    fn clone(&self) -> Result<Self, AllocError> {
+        Ok(*self)
+    }
 }
 
-// An assertion under each kind of filter: a filter at a concrete builder has no proof yet.
-fn assert_filtered<AB: AirBuilder>(
+impl<X: Copy> Copy for ExtAssertion<X> {}
+
+fn assert_zero<AB: AirBuilder>(builder: &mut AB, x: AB::Expr) -> Result<(), AirError>
+    requires ready { AB.ready builder.old }
+    requires all_in { (x : AB.Expr) → AB.Ring.has (AB.ring_of builder.old) x }
+{
+    builder.assert_zero(x)
+}
+
+fn assert_one<AB: AirBuilder>(builder: &mut AB, x: AB::Expr) -> Result<(), AirError>
+    requires ready { AB.ready builder.old }
+    requires all_in { (x : AB.Expr) → AB.Ring.has (AB.ring_of builder.old) x }
+{
+    builder.assert_one(x)
+}
+
+fn assert_equal<AB: AirBuilder>(builder: &mut AB, x: AB::Expr, y: AB::Expr) -> Result<(), AirError>
+    requires ready { AB.ready builder.old }
+    requires all_in { (x : AB.Expr) → AB.Ring.has (AB.ring_of builder.old) x }
+{
+    builder.assert_eq(x, y)
+}
+
+fn assert_bool<AB: AirBuilder>(builder: &mut AB, x: AB::Expr) -> Result<(), AirError>
+    requires ready { AB.ready builder.old }
+    requires all_in { (x : AB.Expr) → AB.Ring.has (AB.ring_of builder.old) x }
+{
+    builder.assert_bool(x)
+}
+
+fn assert_zeros<AB: AirBuilder>(builder: &mut AB, all: [AB::Expr; 2]) -> Result<(), AirError>
+    requires ready { AB.ready builder.old }
+    requires all_in { (x : AB.Expr) → AB.Ring.has (AB.ring_of builder.old) x }
+{
+    builder.assert_zeros(all)
+}
+
+fn assert_bools<AB: AirBuilder>(builder: &mut AB, all: [AB::Expr; 2]) -> Result<(), AirError>
+    requires ready { AB.ready builder.old }
+    requires all_in { (x : AB.Expr) → AB.Ring.has (AB.ring_of builder.old) x }
+{
+    builder.assert_bools(all)
+}
+
+fn assert_equal_arrays<AB: AirBuilder>(
     builder: &mut AB,
-    x: AB::Expr,
-    y: AB::Expr,
-    z: AB::Expr,
-) -> Result<(), AirError>
-    requires ready { AB.ready builder.old }
-    requires x_in { AB.Ring.has (AB.ring_of builder.old) x }
-    requires y_in { AB.Ring.has (AB.ring_of builder.old) y }
-    requires z_in { AB.Ring.has (AB.ring_of builder.old) z }
-    ensures { OnOk result (AB.kept builder.old builder.new) }
-{
-    let mut filter = builder.when_ne(x, y)?;
-    filter.assert_zero(z)?;
-    Ok(())
-}
-
-fn assert_in_window<AB: AirBuilder>(builder: &mut AB, x: AB::Expr) -> Result<(), AirError>
-    requires ready { AB.ready builder.old }
-    requires x_in { AB.Ring.has (AB.ring_of builder.old) x }
-    ensures { AB.kept builder.old builder.new }
-{
-    let mut filter = builder.when_transition_window(2)?;
-    filter.assert_zero(x)?;
-    Ok(())
-}
-
-fn assert_on_first<AB: AirBuilder>(builder: &mut AB, x: AB::Expr) -> Result<(), AirError>
-    requires ready { AB.ready builder.old }
-    requires x_in { AB.Ring.has (AB.ring_of builder.old) x }
-    ensures { OnOk result (AB.kept builder.old builder.new) }
-{
-    let mut filter = builder.when_first_row()?;
-    filter.assert_zero(x)?;
-    Ok(())
-}
-
-fn assert_on_last<AB: AirBuilder>(builder: &mut AB, x: AB::Expr) -> Result<(), AirError>
-    requires ready { AB.ready builder.old }
-    requires x_in { AB.Ring.has (AB.ring_of builder.old) x }
-    ensures { OnOk result (AB.kept builder.old builder.new) }
-{
-    let mut filter = builder.when_last_row()?;
-    filter.assert_zero(x)?;
-    Ok(())
-}
-
-fn assert_on_others<AB: AirBuilder>(builder: &mut AB, x: AB::Expr) -> Result<(), AirError>
-    requires ready { AB.ready builder.old }
-    requires x_in { AB.Ring.has (AB.ring_of builder.old) x }
-    ensures { OnOk result (AB.kept builder.old builder.new) }
-{
-    let mut filter = builder.when_transition()?;
-    filter.assert_zero(x)?;
-    Ok(())
-}
-
-// An assertion over the extension under a name, where a condition holds.
-fn assert_named_under<AB: NamedExtensionBuilder, N: Name>(
-    builder: &mut AB,
-    condition: AB::Expr,
-    x: AB::ExprEF,
-    name: N,
-) -> Result<(), AirError>
-    requires ready { AB.ready builder.old }
-    requires condition_in { AB.Ring.has (AB.ring_of builder.old) condition }
-    requires x_in { AB.ExtRing.has (AB.ext_ring_of builder.old) x }
-    requires can_evaluate { N.can_evaluate name }
-    ensures { OnOk result (AB.kept builder.old builder.new) }
-{
-    let mut filter = builder.when(condition)?;
-    filter.assert_zero_ext_named(x, name)?;
-    Ok(())
-}
-
-/// Makes the assertion.
-pub fn assert_row<AB: AirBuilder>(
-    builder: &mut AB,
-    row: Assertion<AB::Expr>,
+    left: [AB::Expr; 2],
+    right: [AB::Expr; 2],
 ) -> Result<(), AirError>
     requires ready { AB.ready builder.old }
     requires all_in { (x : AB.Expr) → AB.Ring.has (AB.ring_of builder.old) x }
 {
-    match row {
-        Assertion::Zero(x) => builder.assert_zero(x),
-        Assertion::One(x) => builder.assert_one(x),
-        Assertion::Equal(x, y) => builder.assert_eq(x, y),
-        Assertion::Bool(x) => builder.assert_bool(x),
-        Assertion::ZeroUnder(condition, x) => assert_zero_under(builder, condition, x),
-        Assertion::ZeroUnderBoth(outer, inner, x) => {
-            assert_zero_under_both(builder, outer, inner, x)
-        }
-        Assertion::ZeroWhereDifferent(x, y, z) => assert_filtered(builder, x, y, z),
-        Assertion::ZeroInWindow(x) => assert_in_window(builder, x),
-        Assertion::ZeroOn(Rows::First, x) => assert_on_first(builder, x),
-        Assertion::ZeroOn(Rows::Last, x) => assert_on_last(builder, x),
-        Assertion::ZeroOn(Rows::Others, x) => assert_on_others(builder, x),
-        Assertion::BatchUnderBoth(outer, inner, batch) => {
-            assert_batch_under_both(builder, outer, inner, batch)
-        }
+    builder.assert_eq_arrays(left, right)
+}
+
+/// Makes the assertion.
+pub fn assert_this<AB: AirBuilder>(
+    builder: &mut AB,
+    assertion: Assertion<AB::Expr>,
+) -> Result<(), AirError>
+    requires ready { AB.ready builder.old }
+    requires all_in { (x : AB.Expr) → AB.Ring.has (AB.ring_of builder.old) x }
+{
+    match assertion {
+        Assertion::Zero(x) => assert_zero(builder, x),
+        Assertion::One(x) => assert_one(builder, x),
+        Assertion::Equal(x, y) => assert_equal(builder, x, y),
+        Assertion::Bool(x) => assert_bool(builder, x),
+        Assertion::Zeros(all) => assert_zeros(builder, all),
+        Assertion::Bools(all) => assert_bools(builder, all),
+        Assertion::EqualArrays(left, right) => assert_equal_arrays(builder, left, right),
+    }
+}
+
+fn assert_zero_named<AB: NamedAirBuilder, M: NamespaceExt>(
+    builder: &mut AB,
+    x: AB::Expr,
+    name: M,
+) -> Result<(), AirError>
+    requires ready { AB.ready builder.old }
+    requires all_in { (x : AB.Expr) → AB.Ring.has (AB.ring_of builder.old) x }
+    requires can_evaluate { (name : M) → M.can_evaluate name }
+{
+    builder.assert_zero_named(x, name)
+}
+
+fn assert_one_named<AB: NamedAirBuilder, M: NamespaceExt>(
+    builder: &mut AB,
+    x: AB::Expr,
+    name: M,
+) -> Result<(), AirError>
+    requires ready { AB.ready builder.old }
+    requires all_in { (x : AB.Expr) → AB.Ring.has (AB.ring_of builder.old) x }
+    requires can_evaluate { (name : M) → M.can_evaluate name }
+{
+    builder.assert_one_named(x, name)
+}
+
+fn assert_equal_named<AB: NamedAirBuilder, M: NamespaceExt>(
+    builder: &mut AB,
+    x: AB::Expr,
+    y: AB::Expr,
+    name: M,
+) -> Result<(), AirError>
+    requires ready { AB.ready builder.old }
+    requires all_in { (x : AB.Expr) → AB.Ring.has (AB.ring_of builder.old) x }
+    requires can_evaluate { (name : M) → M.can_evaluate name }
+{
+    builder.assert_eq_named(x, y, name)
+}
+
+fn assert_bool_named<AB: NamedAirBuilder, M: NamespaceExt>(
+    builder: &mut AB,
+    x: AB::Expr,
+    name: M,
+) -> Result<(), AirError>
+    requires ready { AB.ready builder.old }
+    requires all_in { (x : AB.Expr) → AB.Ring.has (AB.ring_of builder.old) x }
+    requires can_evaluate { (name : M) → M.can_evaluate name }
+{
+    builder.assert_bool_named(x, name)
+}
+
+fn assert_zeros_named<AB: NamedAirBuilder, M: NamespaceExt>(
+    builder: &mut AB,
+    all: [AB::Expr; 2],
+    name: M,
+) -> Result<(), AirError>
+    requires ready { AB.ready builder.old }
+    requires all_in { (x : AB.Expr) → AB.Ring.has (AB.ring_of builder.old) x }
+    requires can_evaluate { (name : M) → M.can_evaluate name }
+{
+    builder.assert_zeros_named(all, name)
+}
+
+fn assert_zero_in_space<AB: NamedAirBuilder, M: NamespaceExt>(
+    builder: &mut AB,
+    x: AB::Expr,
+    outer: M,
+    leaf: M,
+) -> Result<(), AirError>
+    requires ready { AB.ready builder.old }
+    requires all_in { (x : AB.Expr) → AB.Ring.has (AB.ring_of builder.old) x }
+    requires can_evaluate { (name : M) → M.can_evaluate name }
+{
+    builder.assert_zero_named(x, outer.name(leaf))
+}
+
+fn assert_zero_in_spaces<AB: NamedAirBuilder, M: NamespaceExt>(
+    builder: &mut AB,
+    x: AB::Expr,
+    parts: (M, M, M),
+) -> Result<(), AirError>
+    requires ready { AB.ready builder.old }
+    requires all_in { (x : AB.Expr) → AB.Ring.has (AB.ring_of builder.old) x }
+    requires can_evaluate { (name : M) → M.can_evaluate name }
+{
+    let (outer, inner, leaf) = parts;
+    builder.assert_zero_named(x, outer.join(inner).name(leaf))
+}
+
+fn assert_zeros_in_space<AB: NamedAirBuilder, M: NamespaceExt>(
+    builder: &mut AB,
+    all: [AB::Expr; 2],
+    outer: M,
+    inner: M,
+) -> Result<(), AirError>
+    requires ready { AB.ready builder.old }
+    requires all_in { (x : AB.Expr) → AB.Ring.has (AB.ring_of builder.old) x }
+    requires can_evaluate { (name : M) → M.can_evaluate name }
+{
+    builder.assert_zeros_named(all, outer.join(inner))
+}
+
+fn assert_bools_in_space<AB: NamedAirBuilder, M: NamespaceExt>(
+    builder: &mut AB,
+    all: [AB::Expr; 2],
+    outer: M,
+    inner: M,
+) -> Result<(), AirError>
+    requires ready { AB.ready builder.old }
+    requires all_in { (x : AB.Expr) → AB.Ring.has (AB.ring_of builder.old) x }
+    requires can_evaluate { (name : M) → M.can_evaluate name }
+{
+    builder.assert_bools_named(all, outer.join(inner))
+}
+
+fn assert_three_bools_in_space<AB: NamedAirBuilder, M: NamespaceExt>(
+    builder: &mut AB,
+    all: [AB::Expr; 3],
+    outer: M,
+    inner: M,
+) -> Result<(), AirError>
+    requires ready { AB.ready builder.old }
+    requires all_in { (x : AB.Expr) → AB.Ring.has (AB.ring_of builder.old) x }
+    requires can_evaluate { (name : M) → M.can_evaluate name }
+{
+    builder.assert_bools_named(all, outer.join(inner))
+}
+
+// Makes an assertion of several parts.
+fn assert_in_space<AB: NamedAirBuilder, M: NamespaceExt>(
+    builder: &mut AB,
+    assertion: NamedAssertion<AB::Expr>,
+    parts: (M, M, M),
+) -> Result<(), AirError>
+    requires ready { AB.ready builder.old }
+    requires all_in { (x : AB.Expr) → AB.Ring.has (AB.ring_of builder.old) x }
+    requires can_evaluate { (name : M) → M.can_evaluate name }
+{
+    let (a, b, _) = parts;
+    match assertion {
+        NamedAssertion::ZeroInSpace(x) => assert_zero_in_space(builder, x, a, b),
+        NamedAssertion::ZerosInSpace(all) => assert_zeros_in_space(builder, all, a, b),
+        NamedAssertion::BoolsInSpace(all) => assert_bools_in_space(builder, all, a, b),
+        NamedAssertion::ThreeBoolsInSpace(all) => assert_three_bools_in_space(builder, all, a, b),
+        NamedAssertion::ZeroInSpaces(x) => assert_zero_in_spaces(builder, x, parts),
+        _ => Err(AirError::Memory),
     }
 }
 
 /// Makes the assertion under the name of these parts.
-pub fn assert_named_row<AB: NamedAirBuilder>(
+pub fn assert_named<AB: NamedAirBuilder, M: NamespaceExt>(
     builder: &mut AB,
-    row: NamedAssertion<AB::Expr>,
-    parts: [&'static str; 3],
+    assertion: NamedAssertion<AB::Expr>,
+    parts: (M, M, M),
 ) -> Result<(), AirError>
     requires ready { AB.ready builder.old }
     requires all_in { (x : AB.Expr) → AB.Ring.has (AB.ring_of builder.old) x }
+    requires can_evaluate { (name : M) → M.can_evaluate name }
 {
-    let [a, b, c] = parts;
-    match row {
-        NamedAssertion::Zero(x) => builder.assert_zero_named(x, a),
-        NamedAssertion::One(x) => builder.assert_one_named(x, a),
-        NamedAssertion::Equal(x, y) => builder.assert_eq_named(x, y, a),
-        NamedAssertion::Bool(x) => builder.assert_bool_named(x, a),
-        NamedAssertion::ZeroInSpace(x) => builder.assert_zero_named(x, a.name(b)),
-        NamedAssertion::ZeroUnderBoth(outer, inner, x) => {
-            assert_zero_named_under_both(builder, outer, inner, x, a.join(b).name(c))
-        }
-        NamedAssertion::BatchUnderBoth(outer, inner, batch) => {
-            assert_named_batch_under_both(builder, outer, inner, batch, a.join(b))
-        }
+    let (name, _, _) = parts;
+    match assertion {
+        NamedAssertion::Zero(x) => assert_zero_named(builder, x, name),
+        NamedAssertion::One(x) => assert_one_named(builder, x, name),
+        NamedAssertion::Equal(x, y) => assert_equal_named(builder, x, y, name),
+        NamedAssertion::Bool(x) => assert_bool_named(builder, x, name),
+        NamedAssertion::Zeros(all) => assert_zeros_named(builder, all, name),
+        _ => assert_in_space(builder, assertion, parts),
     }
 }
 
@@ -224,43 +329,108 @@ pub fn assert_lazily<AB: NamedAirBuilder>(
     builder.assert_zero_named(x, lazy)
 }
 
-/// Makes the assertion.
-pub fn assert_ext_row<AB: ExtensionBuilder>(
-    builder: &mut AB,
-    row: ExtAssertion<AB::Expr, AB::ExprEF>,
-) -> Result<(), AirError>
+fn assert_zero_ext<AB: ExtensionBuilder>(builder: &mut AB, x: AB::ExprEF) -> Result<(), AirError>
     requires ready { AB.ready builder.old }
-    requires all_in { (x : AB.Expr) → AB.Ring.has (AB.ring_of builder.old) x }
     requires all_ext_in { (x : AB.ExprEF) → AB.ExtRing.has (AB.ext_ring_of builder.old) x }
 {
-    match row {
-        ExtAssertion::Zero(x) => builder.assert_zero_ext(x),
-        ExtAssertion::One(x) => builder.assert_one_ext(x),
-        ExtAssertion::Equal(x, y) => builder.assert_eq_ext(x, y),
-        ExtAssertion::ZeroUnder(condition, x) => assert_zero_ext_under(builder, condition, x),
-        ExtAssertion::ZeroUnderBoth(outer, inner, x) => {
-            assert_zero_ext_under_both(builder, outer, inner, x)
-        }
-        ExtAssertion::ZerosUnder(condition, all) => assert_zeros_ext_under(builder, condition, all),
+    builder.assert_zero_ext(x)
+}
+
+fn assert_one_ext<AB: ExtensionBuilder>(builder: &mut AB, x: AB::ExprEF) -> Result<(), AirError>
+    requires ready { AB.ready builder.old }
+    requires all_ext_in { (x : AB.ExprEF) → AB.ExtRing.has (AB.ext_ring_of builder.old) x }
+{
+    builder.assert_one_ext(x)
+}
+
+fn assert_equal_ext<AB: ExtensionBuilder>(
+    builder: &mut AB,
+    x: AB::ExprEF,
+    y: AB::ExprEF,
+) -> Result<(), AirError>
+    requires ready { AB.ready builder.old }
+    requires all_ext_in { (x : AB.ExprEF) → AB.ExtRing.has (AB.ext_ring_of builder.old) x }
+{
+    builder.assert_eq_ext(x, y)
+}
+
+fn assert_zeros_ext<AB: ExtensionBuilder>(
+    builder: &mut AB,
+    all: [AB::ExprEF; 2],
+) -> Result<(), AirError>
+    requires ready { AB.ready builder.old }
+    requires all_ext_in { (x : AB.ExprEF) → AB.ExtRing.has (AB.ext_ring_of builder.old) x }
+{
+    builder.assert_zeros_ext(all)
+}
+
+/// Makes the assertion.
+pub fn assert_ext<AB: ExtensionBuilder>(
+    builder: &mut AB,
+    assertion: ExtAssertion<AB::ExprEF>,
+) -> Result<(), AirError>
+    requires ready { AB.ready builder.old }
+    requires all_ext_in { (x : AB.ExprEF) → AB.ExtRing.has (AB.ext_ring_of builder.old) x }
+{
+    match assertion {
+        ExtAssertion::Zero(x) => assert_zero_ext(builder, x),
+        ExtAssertion::One(x) => assert_one_ext(builder, x),
+        ExtAssertion::Equal(x, y) => assert_equal_ext(builder, x, y),
+        ExtAssertion::Zeros(all) => assert_zeros_ext(builder, all),
     }
 }
 
-/// Makes the assertion under a name.
-pub fn assert_named_ext_row<AB: NamedExtensionBuilder>(
+fn assert_zero_ext_named<AB: NamedExtensionBuilder, N: Name>(
     builder: &mut AB,
-    row: NamedExtAssertion<AB::Expr, AB::ExprEF>,
-    name: &'static str,
+    x: AB::ExprEF,
+    name: N,
 ) -> Result<(), AirError>
     requires ready { AB.ready builder.old }
-    requires all_in { (x : AB.Expr) → AB.Ring.has (AB.ring_of builder.old) x }
     requires all_ext_in { (x : AB.ExprEF) → AB.ExtRing.has (AB.ext_ring_of builder.old) x }
+    requires can_evaluate { N.can_evaluate name }
 {
-    match row {
-        NamedExtAssertion::Zero(x) => builder.assert_zero_ext_named(x, name),
-        NamedExtAssertion::One(x) => builder.assert_one_ext_named(x, name),
-        NamedExtAssertion::Equal(x, y) => builder.assert_eq_ext_named(x, y, name),
-        NamedExtAssertion::ZeroUnder(condition, x) => {
-            assert_named_under(builder, condition, x, name)
-        }
+    builder.assert_zero_ext_named(x, name)
+}
+
+fn assert_one_ext_named<AB: NamedExtensionBuilder, N: Name>(
+    builder: &mut AB,
+    x: AB::ExprEF,
+    name: N,
+) -> Result<(), AirError>
+    requires ready { AB.ready builder.old }
+    requires all_ext_in { (x : AB.ExprEF) → AB.ExtRing.has (AB.ext_ring_of builder.old) x }
+    requires can_evaluate { N.can_evaluate name }
+{
+    builder.assert_one_ext_named(x, name)
+}
+
+fn assert_equal_ext_named<AB: NamedExtensionBuilder, N: Name>(
+    builder: &mut AB,
+    x: AB::ExprEF,
+    y: AB::ExprEF,
+    name: N,
+) -> Result<(), AirError>
+    requires ready { AB.ready builder.old }
+    requires all_ext_in { (x : AB.ExprEF) → AB.ExtRing.has (AB.ext_ring_of builder.old) x }
+    requires can_evaluate { N.can_evaluate name }
+{
+    builder.assert_eq_ext_named(x, y, name)
+}
+
+/// Makes the assertion under a name; arrays have none.
+pub fn assert_ext_named<AB: NamedExtensionBuilder, N: Name>(
+    builder: &mut AB,
+    assertion: ExtAssertion<AB::ExprEF>,
+    name: N,
+) -> Result<(), AirError>
+    requires ready { AB.ready builder.old }
+    requires all_ext_in { (x : AB.ExprEF) → AB.ExtRing.has (AB.ext_ring_of builder.old) x }
+    requires can_evaluate { N.can_evaluate name }
+{
+    match assertion {
+        ExtAssertion::Zero(x) => assert_zero_ext_named(builder, x, name),
+        ExtAssertion::One(x) => assert_one_ext_named(builder, x, name),
+        ExtAssertion::Equal(x, y) => assert_equal_ext_named(builder, x, y, name),
+        ExtAssertion::Zeros(_) => Err(AirError::Memory),
     }
 }

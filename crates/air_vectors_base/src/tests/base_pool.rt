@@ -39,19 +39,32 @@ pub fn check_rows(rt: &impl Abort, alloc: Global, rows: &[Row<'_>]) -> Result<()
     bench.check_all(rt, rows)
 }
 
-#[test]
-fn repeated_squaring(rt: HostRuntime) -> Result<(), Fail> {
-    let mut rows = Vec::new(rt.alloc());
-    rows.push(Row::Make(Step::Column(0)))?;
+// Takes a new pool through a table that squares its first expression 63 times, and then has these rows.
+pub fn check_squared(
+    rt: &impl Abort,
+    alloc: Global,
+    first: Step<'_>,
+    seen: &[Row<'_>],
+) -> Result<(), RingError> {
+    let mut rows = Vec::new(alloc);
+    rows.push(Row::Make(first))?;
     for power in 0..63 {
         rows.push(Row::Make(Step::Mul(power, power)))?;
     }
-    rows.push(Row::Count(64))?;
-    rows.push(Row::Degree(63, 1 << 63))?;
-    rows.push(Row::Overflows(Step::Mul(63, 63)))?;
-    rows.push(Row::Overflows(Step::InsertMul(63, 63)))?;
-    rows.push(Row::Count(64))?;
-    check_rows(&rt, rt.alloc(), rows.as_slice())?;
+    rows.extend_from_slice(seen)?;
+    check_rows(rt, alloc, rows.as_slice())
+}
+
+#[test]
+fn repeated_squaring(rt: HostRuntime) -> Result<(), Fail> {
+    let seen = [
+        Row::Count(64),
+        Row::Degree(63, 1 << 63),
+        Row::Overflows(Step::Mul(63, 63)),
+        Row::Overflows(Step::InsertMul(63, 63)),
+        Row::Count(64),
+    ];
+    check_squared(&rt, rt.alloc(), Step::Column(0), &seen)?;
     Ok(())
 }
 

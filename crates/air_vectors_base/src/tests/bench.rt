@@ -6,6 +6,7 @@ use crate::tests::table::{LeafKind, RingStep, Row, Shape, Step};
 use air_field::{Algebra, Field, RingError};
 use air_symbolic::{Degrees, ExprId, ExprPool, LeafWeight, SymLeaf, SymbolicExpr};
 use std::alloc::Global;
+use std::fmt::Debug;
 use std::marker::Model;
 use std::process::Abort;
 
@@ -53,6 +54,11 @@ pub fn place_of<A: SymLeaf>(made: &[ExprId<A>], x: ExprId<A>) -> usize {
         }
     }
     NOWHERE
+}
+
+/// What a row finds is what it wants.
+pub fn assert_at<T: Copy + PartialEq + Debug>(rt: &impl Abort, number: usize, found: T, wanted: T) {
+    assert_eq!(rt; found, wanted, "at row {number}");
 }
 
 /// A node by places.
@@ -198,30 +204,40 @@ impl<A: SymLeaf> Bench<A> {
         }
     }
 
+    fn double(&mut self, x: usize) -> Result<ExprId<A>, RingError> {
+        let x = self.at(x)?;
+        self.pool.double(x)
+    }
+
+    fn bool_check(&mut self, x: usize) -> Result<ExprId<A>, RingError> {
+        let x = self.at(x)?;
+        self.pool.bool_check(x)
+    }
+
+    fn xor(&mut self, x: usize, y: usize) -> Result<ExprId<A>, RingError> {
+        let x = self.at(x)?;
+        let y = self.at(y)?;
+        self.pool.xor(x, y)
+    }
+
+    fn and_not(&mut self, x: usize, y: usize) -> Result<ExprId<A>, RingError> {
+        let x = self.at(x)?;
+        let y = self.at(y)?;
+        self.pool.andn(x, y)
+    }
+
+    fn scaled(&mut self, x: usize, power: u64) -> Result<ExprId<A>, RingError> {
+        let x = self.at(x)?;
+        self.pool.mul_2exp_u64(x, power)
+    }
+
     fn in_ring(&mut self, step: RingStep) -> Result<ExprId<A>, RingError> {
         match step {
-            RingStep::Double(x) => {
-                let x = self.at(x)?;
-                self.pool.double(x)
-            }
-            RingStep::BoolCheck(x) => {
-                let x = self.at(x)?;
-                self.pool.bool_check(x)
-            }
-            RingStep::Xor(x, y) => {
-                let x = self.at(x)?;
-                let y = self.at(y)?;
-                self.pool.xor(x, y)
-            }
-            RingStep::AndNot(x, y) => {
-                let x = self.at(x)?;
-                let y = self.at(y)?;
-                self.pool.andn(x, y)
-            }
-            RingStep::Scaled(x, power) => {
-                let x = self.at(x)?;
-                self.pool.mul_2exp_u64(x, power)
-            }
+            RingStep::Double(x) => self.double(x),
+            RingStep::BoolCheck(x) => self.bool_check(x),
+            RingStep::Xor(x, y) => self.xor(x, y),
+            RingStep::AndNot(x, y) => self.and_not(x, y),
+            RingStep::Scaled(x, power) => self.scaled(x, power),
         }
     }
 
@@ -304,56 +320,74 @@ impl<A: TableLeaf> Bench<A> {
             }
             Row::Same(step, place) => {
                 let x = self.make(step)?;
-                assert_eq!(rt; place_of(self.made.as_slice(), x), place, "at row {number}");
+                assert_at(rt, number, place_of(self.made.as_slice(), x), place);
                 Ok(())
             }
             Row::Overflows(step) => {
                 let refused = self.make(step).err();
-                assert_eq!(rt; refused, Some(RingError::DegreeOverflow), "at row {number}");
+                assert_at(rt, number, refused, Some(RingError::DegreeOverflow));
                 Ok(())
             }
-            _ => self.check_seen(rt, number, row),
+            Row::Degrees(places, weight, wanted) => {
+                self.check_degrees(rt, number, places, weight, wanted)
+            }
+            Row::TurnsAtMost(places, weight, most) => {
+                self.check_turns(rt, number, places, weight, most)
+            }
+            _ => {
+                self.check_node(rt, number, row);
+                Ok(())
+            }
         }
     }
 
-    fn check_seen(&self, rt: &impl Abort, number: usize, row: Row<'_>) -> Result<(), RingError> {
+    fn check_degrees(
+        &self,
+        rt: &impl Abort,
+        number: usize,
+        places: &[usize],
+        weight: LeafWeight<'_>,
+        wanted: &[usize],
+    ) -> Result<(), RingError> {
+        let degrees = self.degrees_at(places, weight)?;
+        assert_at(rt, number, degrees.values.as_slice(), wanted);
+        Ok(())
+    }
+
+    fn check_turns(
+        &self,
+        rt: &impl Abort,
+        number: usize,
+        places: &[usize],
+        weight: LeafWeight<'_>,
+        most: u128,
+    ) -> Result<(), RingError> {
+        let degrees = self.degrees_at(places, weight)?;
+        assert_at(rt, number, degrees.turns <= most, true);
+        Ok(())
+    }
+
+    // Where an answer is refused though none is wanted to be, it differs from the wanted one.
+    fn check_node(&self, rt: &impl Abort, number: usize, row: Row<'_>) {
         match row {
-            Row::Count(count) => assert_eq!(rt; self.pool.len(), count, "at row {number}"),
-            Row::Node(x, shape) => assert_eq!(rt; self.shape_at(x)?, shape, "at row {number}"),
+            Row::Count(count) => assert_at(rt, number, self.pool.len(), count),
+            Row::Node(x, shape) => assert_at(rt, number, self.shape_at(x), Ok(shape)),
             Row::Constant(x, wanted) => {
-                let wanted = match wanted {
-                    Some(c) => Some(A::F::from_u64(c)),
-                    None => None,
-                };
-                assert_eq!(rt; self.constant_at(x)?, wanted, "at row {number}");
+                let wanted = wanted.map(|c| A::F::from_u64(c));
+                assert_at(rt, number, self.constant_at(x), Ok(wanted));
             }
-            Row::Degree(x, degree) => {
-                assert_eq!(rt; self.degree_at(x)?, degree, "at row {number}")
-            }
+            Row::Degree(x, degree) => assert_at(rt, number, self.degree_at(x), Ok(degree)),
             Row::PolyDegree(x, trace_len, wanted) => {
-                assert_eq!(rt;
-                    self.poly_degree_at(x, trace_len),
-                    wanted,
-                    "at row {number}"
-                )
+                assert_at(rt, number, self.poly_degree_at(x, trace_len), wanted);
             }
             Row::Weighted(x, weight, wanted) => {
-                assert_eq!(rt; self.weighted_at(x, weight), wanted, "at row {number}")
-            }
-            Row::Degrees(places, weight, wanted) => {
-                let degrees = self.degrees_at(places, weight)?;
-                assert_eq!(rt; degrees.values.as_slice(), wanted, "at row {number}");
-            }
-            Row::TurnsAtMost(places, weight, most) => {
-                let degrees = self.degrees_at(places, weight)?;
-                assert!(rt; degrees.turns <= most, "at row {number}");
+                assert_at(rt, number, self.weighted_at(x, weight), wanted);
             }
             Row::NoDegrees(places, weight) => {
                 let refused = self.degrees_at(places, weight).err();
-                assert_eq!(rt; refused, Some(RingError::DegreeOverflow), "at row {number}");
+                assert_at(rt, number, refused, Some(RingError::DegreeOverflow));
             }
-            _ => assert!(rt; false, "at row {number}"),
+            _ => assert_at(rt, number, false, true),
         }
-        Ok(())
     }
 }

@@ -1,15 +1,11 @@
 //! Assertions, filters and labels on a builder that keeps values.
 ghost use Rattle.std.specs.Prelude.{◌≡◌, IfOk};
 
-use crate::tests::assertion::{
-    Assertion, NamedAssertion, Rows, assert_lazily, assert_named_row, assert_row,
-};
-use crate::tests::filters::{Batch, NamedBatch};
+use crate::tests::assertion::{Assertion, NamedAssertion, assert_lazily};
+use crate::tests::filters::{NamedRow, Row, Rows, assert_named_row, assert_row};
 use crate::tests::numbers::number;
 use crate::tests::value_log::{Asserted, ValueLog, assert_failures};
-use air_builder::{
-    AirBuilder, AirBuilderWithContext, AirError, AssertAll, AssertAllNamed, NamespaceExt,
-};
+use air_builder::{AirBuilder, AirBuilderWithContext, AirError};
 use air_field::BabyBear;
 use std::cell::Cell;
 use std::process::Abort;
@@ -23,16 +19,17 @@ fn assert_values(rt: &impl Abort, log: &ValueLog, wanted: &[u32]) {
     }
 }
 
-pub fn assert_on_log(log: &mut ValueLog, row: Assertion<BabyBear>) -> Result<(), AirError> {
+pub fn assert_on_log(log: &mut ValueLog, row: Row<BabyBear>) -> Result<(), AirError> {
     assert_row(log, row)
 }
 
 fn assert_named_on_log(
     log: &mut ValueLog,
-    row: NamedAssertion<BabyBear>,
+    row: NamedRow<BabyBear>,
     parts: [&'static str; 3],
 ) -> Result<(), AirError> {
-    assert_named_row(log, row, parts)
+    let [a, b, c] = parts;
+    assert_named_row(log, row, (a, b, c))
 }
 
 fn assert_lazily_on_log(
@@ -48,14 +45,14 @@ fn assert_lazily_on_log(
 #[test]
 fn each_assertion_is_its_term(rt: HostRuntime) -> Result<(), Fail> {
     let mut log = ValueLog::new(rt.alloc(), 0);
-    let rows = [
+    let assertions = [
         Assertion::Zero(number(5)),
         Assertion::One(number(5)),
         Assertion::Equal(number(9), number(4)),
         Assertion::Bool(number(5)),
     ];
-    for row in rows {
-        assert_on_log(&mut log, row)?;
+    for assertion in assertions {
+        assert_on_log(&mut log, Row::Always(assertion))?;
     }
     assert_values(&rt, &log, &[5, 4, 5, 20]);
     Ok(())
@@ -64,9 +61,14 @@ fn each_assertion_is_its_term(rt: HostRuntime) -> Result<(), Fail> {
 #[test]
 fn arrays_are_asserted_in_order(rt: HostRuntime) -> Result<(), Fail> {
     let mut log = ValueLog::new(rt.alloc(), 0);
-    log.assert_zeros([number(1), number(2)])?;
-    log.assert_bools([number(3), number(1)])?;
-    log.assert_eq_arrays([number(9), number(8)], [number(4), number(8)])?;
+    let assertions = [
+        Assertion::Zeros(pair(1, 2)),
+        Assertion::Bools(pair(3, 1)),
+        Assertion::EqualArrays(pair(9, 8), pair(4, 8)),
+    ];
+    for assertion in assertions {
+        assert_on_log(&mut log, Row::Always(assertion))?;
+    }
     assert_values(&rt, &log, &[1, 2, 6, 0, 5, 0]);
     Ok(())
 }
@@ -74,12 +76,13 @@ fn arrays_are_asserted_in_order(rt: HostRuntime) -> Result<(), Fail> {
 #[test]
 fn filters_multiply(rt: HostRuntime) -> Result<(), Fail> {
     let mut log = ValueLog::new(rt.alloc(), 0);
+    let five = Assertion::Zero(number(5));
     let rows = [
-        Assertion::ZeroUnder(number(0), number(5)),
-        Assertion::Zero(number(1)),
-        Assertion::ZeroUnderBoth(number(2), number(3), number(5)),
-        Assertion::ZeroWhereDifferent(number(9), number(5), number(2)),
-        Assertion::ZeroInWindow(number(6)),
+        Row::Under(number(0), five),
+        Row::Always(Assertion::Zero(number(1))),
+        Row::UnderBoth(number(2), number(3), five),
+        Row::ZeroWhereDifferent(number(9), number(5), number(2)),
+        Row::ZeroInWindow(number(6)),
     ];
     for row in rows {
         assert_on_log(&mut log, row)?;
@@ -94,7 +97,7 @@ fn filters_multiply(rt: HostRuntime) -> Result<(), Fail> {
 fn selectors_name_rows(rt: HostRuntime) -> Result<(), Fail> {
     let mut log = ValueLog::new(rt.alloc(), 0);
     for (rows, n) in [(Rows::First, 3), (Rows::Last, 4), (Rows::Others, 5)] {
-        assert_on_log(&mut log, Assertion::ZeroOn(rows, number(n)))?;
+        assert_on_log(&mut log, Row::ZeroOn(rows, number(n)))?;
     }
     assert_values(&rt, &log, &[3, 4, 5]);
     Ok(())
@@ -109,17 +112,16 @@ fn pair(x: u32, y: u32) -> [BabyBear; 2] {
 #[test]
 fn filters_multiply_each_element(rt: HostRuntime) -> Result<(), Fail> {
     let mut log = ValueLog::new(rt.alloc(), 0);
-    let batches = [
-        Batch::Zeros(pair(5, 0)),
-        Batch::Bools(pair(3, 1)),
-        Batch::Equal(pair(9, 8), pair(4, 8)),
+    let [two, three, none] = [2, 3, 0].map(number);
+    let rows = [
+        Row::UnderBoth(two, three, Assertion::Zeros(pair(5, 0))),
+        Row::UnderBoth(two, three, Assertion::Bools(pair(3, 1))),
+        Row::UnderBoth(two, three, Assertion::EqualArrays(pair(9, 8), pair(4, 8))),
+        Row::UnderBoth(two, none, Assertion::Zeros(pair(5, 7))),
     ];
-    for batch in batches {
-        let row = Assertion::BatchUnderBoth(number(2), number(3), batch);
+    for row in rows {
         assert_on_log(&mut log, row)?;
     }
-    let hidden = Assertion::BatchUnderBoth(number(2), number(0), Batch::Zeros(pair(5, 7)));
-    assert_on_log(&mut log, hidden)?;
     assert_values(&rt, &log, &[30, 0, 36, 0, 30, 0, 0, 0]);
     assert_failures(&rt, &log, &[(0, None), (2, None), (4, None)]);
     Ok(())
@@ -128,27 +130,20 @@ fn filters_multiply_each_element(rt: HostRuntime) -> Result<(), Fail> {
 #[test]
 fn failures_keep_their_labels(rt: HostRuntime) -> Result<(), Fail> {
     let mut log = ValueLog::new(rt.alloc(), 0);
-    assert_on_log(&mut log, Assertion::Zero(number(3)))?;
+    assert_on_log(&mut log, Row::Always(Assertion::Zero(number(3))))?;
+    let [one, two, three, five, seven] = [1, 2, 3, 5, 7].map(number);
     let rows = [
-        (
-            NamedAssertion::Zero(number(5)),
-            ["col_1_must_be_zero", "", ""],
-        ),
-        (NamedAssertion::One(number(1)), ["passes", "", ""]),
-        (
-            NamedAssertion::Equal(number(7), number(7)),
-            ["passes", "", ""],
-        ),
-        (NamedAssertion::Bool(number(2)), ["", "", ""]),
-        (NamedAssertion::ZeroInSpace(number(1)), ["", "", ""]),
-        (
-            NamedAssertion::ZeroUnderBoth(number(3), number(1), number(1)),
-            ["outer", "mid", "leaf"],
-        ),
+        (NamedAssertion::Zero(five), ["col_1_must_be_zero", "", ""]),
+        (NamedAssertion::One(one), ["passes", "", ""]),
+        (NamedAssertion::Equal(seven, seven), ["passes", "", ""]),
+        (NamedAssertion::Bool(two), ["", "", ""]),
+        (NamedAssertion::ZeroInSpace(one), ["", "", ""]),
     ];
-    for (row, parts) in rows {
-        assert_named_on_log(&mut log, row, parts)?;
+    for (assertion, parts) in rows {
+        assert_named_on_log(&mut log, NamedRow::Always(assertion), parts)?;
     }
+    let both = NamedRow::UnderBoth(three, one, NamedAssertion::ZeroInSpaces(one));
+    assert_named_on_log(&mut log, both, ["outer", "mid", "leaf"])?;
     assert_values(&rt, &log, &[3, 5, 0, 0, 2, 1, 3]);
     let failures = [
         (0, None),
@@ -164,12 +159,24 @@ fn failures_keep_their_labels(rt: HostRuntime) -> Result<(), Fail> {
 #[test]
 fn elements_of_a_batch_are_labelled_by_place(rt: HostRuntime) -> Result<(), Fail> {
     let mut log = ValueLog::new(rt.alloc(), 0);
-    log.assert_zeros_named([number(0), number(1)], "z")?;
-    log.assert_bools_named([number(1), number(0), number(4)], "a".join("b"))?;
-    let batches = [NamedBatch::Zeros(pair(0, 5)), NamedBatch::Bools(pair(3, 2))];
-    for batch in batches {
-        let row = NamedAssertion::BatchUnderBoth(number(2), number(3), batch);
-        assert_named_on_log(&mut log, row, ["outer", "mid", ""])?;
+    let [two, three] = pair(2, 3);
+    let bits = [1, 0, 4].map(number);
+    let zeros = NamedAssertion::ZerosInSpace(pair(0, 5));
+    let bools = NamedAssertion::BoolsInSpace(pair(3, 2));
+    let rows = [
+        (
+            NamedRow::Always(NamedAssertion::Zeros(pair(0, 1))),
+            ["z", ""],
+        ),
+        (
+            NamedRow::Always(NamedAssertion::ThreeBoolsInSpace(bits)),
+            ["a", "b"],
+        ),
+        (NamedRow::UnderBoth(two, three, zeros), ["outer", "mid"]),
+        (NamedRow::UnderBoth(two, three, bools), ["outer", "mid"]),
+    ];
+    for (row, [outer, inner]) in rows {
+        assert_named_on_log(&mut log, row, [outer, inner, ""])?;
     }
     assert_values(&rt, &log, &[0, 1, 0, 0, 12, 0, 30, 36, 12]);
     let failures = [

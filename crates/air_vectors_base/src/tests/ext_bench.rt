@@ -1,7 +1,7 @@
 //! A well-formed extension pool, with its base pool under it: both go by the places of the steps.
 ghost use Rattle.std.specs.Prelude.{◌<◌, length, IfOk};
 
-use crate::tests::bench::{Bench, MISSING, TableLeaf, place_of, shape_of};
+use crate::tests::bench::{Bench, MISSING, TableLeaf, assert_at, place_of, shape_of};
 use crate::tests::table::{ExtRow, LeafKind, Shape};
 use air_field::{ExtensionField, Field, RingError};
 use air_symbolic::{BaseLeaf, ExprId, ExtLeaf, SymbolicExpression};
@@ -217,22 +217,26 @@ impl<F: Field, EF: ExtensionField<F>> ExtBench<F, EF> {
                 let made = self.base_add(x, y);
                 self.keep_base(made)
             }
-            ExtRow::ToBase(x, wanted) => {
-                assert_eq!(rt; self.lowered_place(x)?, wanted, "at row {number}");
+            _ => {
+                self.check_lowered(rt, number, row);
                 Ok(())
+            }
+        }
+    }
+
+    // Where an answer is refused, it differs from the wanted one.
+    fn check_lowered(&mut self, rt: &impl Abort, number: usize, row: ExtRow<'_>) {
+        match row {
+            ExtRow::ToBase(x, wanted) => {
+                assert_at(rt, number, self.lowered_place(x), Ok(wanted));
             }
             ExtRow::Lowered(x, wanted) => {
-                assert_eq!(rt; self.lowered_shape(x)?, Some(wanted), "at row {number}");
-                Ok(())
+                assert_at(rt, number, self.lowered_shape(x), Ok(Some(wanted)));
             }
             ExtRow::BaseCount(count) => {
-                assert_eq!(rt; self.own.pool.base().len(), count, "at row {number}");
-                Ok(())
+                assert_at(rt, number, self.own.pool.base().len(), count);
             }
-            _ => {
-                assert!(rt; false, "at row {number}");
-                Ok(())
-            }
+            _ => assert_at(rt, number, false, true),
         }
     }
 

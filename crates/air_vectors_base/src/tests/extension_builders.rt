@@ -1,26 +1,23 @@
 //! Assertions over an extension, their filters and labels, on a builder that keeps values.
-use crate::tests::assertion::{
-    Assertion, ExtAssertion, NamedExtAssertion, assert_ext_row, assert_named_ext_row,
-};
+use crate::tests::assertion::{Assertion, ExtAssertion};
 use crate::tests::builders;
+use crate::tests::filters::{ExtRow, NamedExtRow, Row, assert_ext_row, assert_named_ext_row};
 use crate::tests::numbers::{element, number};
 use crate::tests::value_log::{Asserted, ValueLog, assert_failures};
-use air_builder::{AirError, AssertAllExt};
+use air_builder::AirError;
 use air_field::{BabyBear, BinomialExtensionField};
 use std::process::Abort;
 use std::test::Fail;
 
-type Row = ExtAssertion<BabyBear, BinomialExtensionField>;
+type Element = BinomialExtensionField;
 
-type NamedRow = NamedExtAssertion<BabyBear, BinomialExtensionField>;
-
-fn assert_on_log(log: &mut ValueLog, row: Row) -> Result<(), AirError> {
+fn assert_on_log(log: &mut ValueLog, row: ExtRow<BabyBear, Element>) -> Result<(), AirError> {
     assert_ext_row(log, row)
 }
 
 fn assert_named_on_log(
     log: &mut ValueLog,
-    row: NamedRow,
+    row: NamedExtRow<BabyBear, Element>,
     name: &'static str,
 ) -> Result<(), AirError> {
     assert_named_ext_row(log, row, name)
@@ -34,15 +31,15 @@ fn assert_values(rt: &impl Abort, log: &ValueLog, wanted: &[Asserted]) {
 #[test]
 fn each_extension_assertion_is_its_term(rt: HostRuntime) -> Result<(), Fail> {
     let mut log = ValueLog::new(rt.alloc(), 0);
-    let rows = [
-        Row::Zero(element([0, 1, 0, 0])),
-        Row::One(element([5, 0, 0, 1])),
-        Row::Equal(element([9, 8, 7, 6]), element([4, 8, 2, 1])),
+    let assertions = [
+        ExtAssertion::Zero(element([0, 1, 0, 0])),
+        ExtAssertion::One(element([5, 0, 0, 1])),
+        ExtAssertion::Equal(element([9, 8, 7, 6]), element([4, 8, 2, 1])),
+        ExtAssertion::Zeros([element([1, 0, 0, 0]), element([0, 0, 2, 0])]),
     ];
-    for row in rows {
-        assert_on_log(&mut log, row)?;
+    for assertion in assertions {
+        assert_on_log(&mut log, ExtRow::Always(assertion))?;
     }
-    log.assert_zeros_ext([element([1, 0, 0, 0]), element([0, 0, 2, 0])])?;
     let wanted = [
         Asserted::Extension(element([0, 1, 0, 0])),
         Asserted::Extension(element([4, 0, 0, 1])),
@@ -57,9 +54,10 @@ fn each_extension_assertion_is_its_term(rt: HostRuntime) -> Result<(), Fail> {
 #[test]
 fn kinds_keep_their_places(rt: HostRuntime) -> Result<(), Fail> {
     let mut log = ValueLog::new(rt.alloc(), 0);
-    builders::assert_on_log(&mut log, Assertion::Zero(number(7)))?;
-    assert_on_log(&mut log, Row::Zero(element([7, 0, 0, 0])))?;
-    builders::assert_on_log(&mut log, Assertion::One(number(1)))?;
+    builders::assert_on_log(&mut log, Row::Always(Assertion::Zero(number(7))))?;
+    let seven = ExtAssertion::Zero(element([7, 0, 0, 0]));
+    assert_on_log(&mut log, ExtRow::Always(seven))?;
+    builders::assert_on_log(&mut log, Row::Always(Assertion::One(number(1))))?;
     let wanted = [
         Asserted::Base(number(7)),
         Asserted::Extension(element([7, 0, 0, 0])),
@@ -72,10 +70,11 @@ fn kinds_keep_their_places(rt: HostRuntime) -> Result<(), Fail> {
 #[test]
 fn filters_multiply_by_the_lifted_condition(rt: HostRuntime) -> Result<(), Fail> {
     let mut log = ValueLog::new(rt.alloc(), 0);
-    assert_on_log(&mut log, Row::ZeroUnder(number(3), element([0, 1, 0, 0])))?;
-    assert_on_log(&mut log, Row::ZeroUnder(number(0), element([0, 1, 0, 0])))?;
-    let both = [element([0, 0, 1, 5]), element([4, 0, 0, 0])];
-    assert_on_log(&mut log, Row::ZerosUnder(number(2), both))?;
+    let root = ExtAssertion::Zero(element([0, 1, 0, 0]));
+    let both = ExtAssertion::Zeros([element([0, 0, 1, 5]), element([4, 0, 0, 0])]);
+    for (condition, assertion) in [(3, root), (0, root), (2, both)] {
+        assert_on_log(&mut log, ExtRow::Under(number(condition), assertion))?;
+    }
     let wanted = [
         Asserted::Extension(element([0, 3, 0, 0])),
         Asserted::Extension(element([0, 0, 0, 0])),
@@ -89,13 +88,16 @@ fn filters_multiply_by_the_lifted_condition(rt: HostRuntime) -> Result<(), Fail>
 #[test]
 fn nested_filters_multiply_once_each(rt: HostRuntime) -> Result<(), Fail> {
     let mut log = ValueLog::new(rt.alloc(), 0);
-    builders::assert_on_log(&mut log, Assertion::ZeroUnder(number(0), number(5)))?;
-    builders::assert_on_log(
-        &mut log,
-        Assertion::ZeroUnderBoth(number(2), number(3), number(5)),
-    )?;
-    let both = Row::ZeroUnderBoth(number(2), number(3), element([0, 0, 1, 5]));
-    assert_on_log(&mut log, both)?;
+    let five = Assertion::Zero(number(5));
+    let rows = [
+        Row::Under(number(0), five),
+        Row::UnderBoth(number(2), number(3), five),
+    ];
+    for row in rows {
+        builders::assert_on_log(&mut log, row)?;
+    }
+    let x = ExtAssertion::Zero(element([0, 0, 1, 5]));
+    assert_on_log(&mut log, ExtRow::UnderBoth(number(2), number(3), x))?;
     let wanted = [
         Asserted::Base(number(0)),
         Asserted::Base(number(30)),
@@ -108,21 +110,16 @@ fn nested_filters_multiply_once_each(rt: HostRuntime) -> Result<(), Fail> {
 #[test]
 fn failures_over_the_extension_keep_their_labels(rt: HostRuntime) -> Result<(), Fail> {
     let mut log = ValueLog::new(rt.alloc(), 0);
+    let x = element([1, 0, 0, 1]);
     let rows = [
-        (NamedRow::Zero(element([0, 0, 0, 0])), "passes"),
-        (NamedRow::Zero(element([0, 0, 0, 1])), "zero"),
-        (NamedRow::One(element([1, 0, 0, 1])), "one"),
-        (
-            NamedRow::Equal(element([1, 0, 0, 1]), element([1, 0, 0, 1])),
-            "passes",
-        ),
-        (
-            NamedRow::Equal(element([1, 0, 0, 1]), element([1, 0, 0, 0])),
-            "equal",
-        ),
+        (ExtAssertion::Zero(element([0, 0, 0, 0])), "passes"),
+        (ExtAssertion::Zero(element([0, 0, 0, 1])), "zero"),
+        (ExtAssertion::One(x), "one"),
+        (ExtAssertion::Equal(x, x), "passes"),
+        (ExtAssertion::Equal(x, element([1, 0, 0, 0])), "equal"),
     ];
-    for (row, name) in rows {
-        assert_named_on_log(&mut log, row, name)?;
+    for (assertion, name) in rows {
+        assert_named_on_log(&mut log, NamedExtRow::Always(assertion), name)?;
     }
     let failures = [(1, Some("zero")), (2, Some("one")), (4, Some("equal"))];
     assert_failures(&rt, &log, &failures);
@@ -132,18 +129,9 @@ fn failures_over_the_extension_keep_their_labels(rt: HostRuntime) -> Result<(), 
 #[test]
 fn filters_keep_labels(rt: HostRuntime) -> Result<(), Fail> {
     let mut log = ValueLog::new(rt.alloc(), 0);
-    let rows = [
-        (
-            NamedRow::ZeroUnder(number(0), element([0, 0, 0, 1])),
-            "passes",
-        ),
-        (
-            NamedRow::ZeroUnder(number(2), element([0, 0, 0, 1])),
-            "filtered",
-        ),
-    ];
-    for (row, name) in rows {
-        assert_named_on_log(&mut log, row, name)?;
+    let x = ExtAssertion::Zero(element([0, 0, 0, 1]));
+    for (condition, name) in [(0, "passes"), (2, "filtered")] {
+        assert_named_on_log(&mut log, NamedExtRow::Under(number(condition), x), name)?;
     }
     let wanted = [
         Asserted::Extension(element([0, 0, 0, 0])),

@@ -1,205 +1,300 @@
 //! Assertions under filters, and under filters over filters: a filter is itself a builder.
-use air_builder::{
-    AirBuilder, AirError, AssertAll, AssertAllExt, AssertAllNamed, ExtensionBuilder, Name,
-    NamedAirBuilder, Namespace,
+use crate::tests::assertion::{
+    Assertion, ExtAssertion, NamedAssertion, assert_ext, assert_ext_named, assert_named,
+    assert_this,
 };
-use air_field::Algebra;
+use air_builder::{
+    AirBuilder, AirError, ExtensionBuilder, Name, NamedAirBuilder, NamedExtensionBuilder,
+    NamespaceExt,
+};
+use std::alloc::AllocError;
 
-/// Two elements that are asserted at once.
+/// The rows that a selector names.
 #[derive(Clone, Copy)]
-pub enum Batch<E> {
-    Zeros([E; 2]),
-    Bools([E; 2]),
-    Equal([E; 2], [E; 2]),
+pub enum Rows {
+    First,
+    Last,
+    /// All but the last.
+    Others,
 }
+
+/// An assertion where something holds.
+pub enum Row<E> {
+    Always(Assertion<E>),
+    /// Where this is not zero.
+    Under(E, Assertion<E>),
+    /// Where neither of these is zero.
+    UnderBoth(E, E, Assertion<E>),
+    /// The last is zero where the first two differ.
+    ZeroWhereDifferent(E, E, E),
+    /// It is zero in each window of two rows.
+    ZeroInWindow(E),
+    /// It is zero on some rows.
+    ZeroOn(Rows, E),
+}
+
+impl<E: Copy> Clone for Row<E> {
+    fn clone(&self) -> Result<Self, AllocError> {
+        Ok(*self)
+    }
+}
+
+impl<E: Copy> Copy for Row<E> {}
 
 /// The same under a name.
-#[derive(Clone, Copy)]
-pub enum NamedBatch<E> {
-    Zeros([E; 2]),
-    Bools([E; 2]),
+pub enum NamedRow<E> {
+    Always(NamedAssertion<E>),
+    UnderBoth(E, E, NamedAssertion<E>),
 }
 
-/// Asserts where a condition holds that `x` is zero.
-pub fn assert_zero_under<AB: AirBuilder>(
+impl<E: Copy> Clone for NamedRow<E> {
+    fn clone(&self) -> Result<Self, AllocError> {
+        Ok(*self)
+    }
+}
+
+impl<E: Copy> Copy for NamedRow<E> {}
+
+/// The same over an extension.
+pub enum ExtRow<E, X> {
+    Always(ExtAssertion<X>),
+    Under(E, ExtAssertion<X>),
+    UnderBoth(E, E, ExtAssertion<X>),
+}
+
+impl<E: Copy, X: Copy> Clone for ExtRow<E, X> {
+    fn clone(&self) -> Result<Self, AllocError> {
+        Ok(*self)
+    }
+}
+
+impl<E: Copy, X: Copy> Copy for ExtRow<E, X> {}
+
+/// The same over an extension under a name.
+pub enum NamedExtRow<E, X> {
+    Always(ExtAssertion<X>),
+    Under(E, ExtAssertion<X>),
+}
+
+impl<E: Copy, X: Copy> Clone for NamedExtRow<E, X> {
+    fn clone(&self) -> Result<Self, AllocError> {
+        Ok(*self)
+    }
+}
+
+impl<E: Copy, X: Copy> Copy for NamedExtRow<E, X> {}
+
+fn assert_under<AB: AirBuilder>(
     builder: &mut AB,
     condition: AB::Expr,
-    x: AB::Expr,
+    assertion: Assertion<AB::Expr>,
 ) -> Result<(), AirError>
     requires ready { AB.ready builder.old }
-    requires condition_in { AB.Ring.has (AB.ring_of builder.old) condition }
-    requires x_in { AB.Ring.has (AB.ring_of builder.old) x }
+    requires all_in { (x : AB.Expr) → AB.Ring.has (AB.ring_of builder.old) x }
 {
     let mut filter = builder.when(condition)?;
-    filter.assert_zero(x)?;
-    Ok(())
+    assert_this(&mut filter, assertion)
 }
 
-/// Asserts where two conditions hold that `x` is zero.
-pub fn assert_zero_under_both<AB: AirBuilder>(
+fn assert_under_both<AB: AirBuilder>(
     builder: &mut AB,
     outer: AB::Expr,
     inner: AB::Expr,
-    x: AB::Expr,
+    assertion: Assertion<AB::Expr>,
 ) -> Result<(), AirError>
     requires ready { AB.ready builder.old }
-    requires outer_in { AB.Ring.has (AB.ring_of builder.old) outer }
-    requires inner_in { AB.Ring.has (AB.ring_of builder.old) inner }
-    requires x_in { AB.Ring.has (AB.ring_of builder.old) x }
+    requires all_in { (x : AB.Expr) → AB.Ring.has (AB.ring_of builder.old) x }
 {
     let mut filter = builder.when(outer)?;
-    assert_zero_under(&mut filter, inner, x)?;
-    Ok(())
+    assert_under(&mut filter, inner, assertion)
 }
 
-/// Asserts under a name, where two conditions hold, that `x` is zero.
-pub fn assert_zero_named_under_both<AB: NamedAirBuilder, N: Name>(
+fn assert_where_different<AB: AirBuilder>(
+    builder: &mut AB,
+    x: AB::Expr,
+    y: AB::Expr,
+    z: AB::Expr,
+) -> Result<(), AirError>
+    requires ready { AB.ready builder.old }
+    requires all_in { (x : AB.Expr) → AB.Ring.has (AB.ring_of builder.old) x }
+{
+    let mut filter = builder.when_ne(x, y)?;
+    filter.assert_zero(z)
+}
+
+fn assert_in_window<AB: AirBuilder>(builder: &mut AB, x: AB::Expr) -> Result<(), AirError>
+    requires ready { AB.ready builder.old }
+    requires all_in { (x : AB.Expr) → AB.Ring.has (AB.ring_of builder.old) x }
+{
+    let mut filter = builder.when_transition_window(2)?;
+    filter.assert_zero(x)
+}
+
+fn assert_on_first<AB: AirBuilder>(builder: &mut AB, x: AB::Expr) -> Result<(), AirError>
+    requires ready { AB.ready builder.old }
+    requires all_in { (x : AB.Expr) → AB.Ring.has (AB.ring_of builder.old) x }
+{
+    let mut filter = builder.when_first_row()?;
+    filter.assert_zero(x)
+}
+
+fn assert_on_last<AB: AirBuilder>(builder: &mut AB, x: AB::Expr) -> Result<(), AirError>
+    requires ready { AB.ready builder.old }
+    requires all_in { (x : AB.Expr) → AB.Ring.has (AB.ring_of builder.old) x }
+{
+    let mut filter = builder.when_last_row()?;
+    filter.assert_zero(x)
+}
+
+fn assert_on_others<AB: AirBuilder>(builder: &mut AB, x: AB::Expr) -> Result<(), AirError>
+    requires ready { AB.ready builder.old }
+    requires all_in { (x : AB.Expr) → AB.Ring.has (AB.ring_of builder.old) x }
+{
+    let mut filter = builder.when_transition()?;
+    filter.assert_zero(x)
+}
+
+/// Makes the assertion.
+pub fn assert_row<AB: AirBuilder>(builder: &mut AB, row: Row<AB::Expr>) -> Result<(), AirError>
+    requires ready { AB.ready builder.old }
+    requires all_in { (x : AB.Expr) → AB.Ring.has (AB.ring_of builder.old) x }
+{
+    match row {
+        Row::Always(assertion) => assert_this(builder, assertion),
+        Row::Under(condition, assertion) => assert_under(builder, condition, assertion),
+        Row::UnderBoth(outer, inner, assertion) => {
+            assert_under_both(builder, outer, inner, assertion)
+        }
+        Row::ZeroWhereDifferent(x, y, z) => assert_where_different(builder, x, y, z),
+        Row::ZeroInWindow(x) => assert_in_window(builder, x),
+        Row::ZeroOn(Rows::First, x) => assert_on_first(builder, x),
+        Row::ZeroOn(Rows::Last, x) => assert_on_last(builder, x),
+        Row::ZeroOn(Rows::Others, x) => assert_on_others(builder, x),
+    }
+}
+
+fn assert_named_under<AB: NamedAirBuilder, M: NamespaceExt>(
+    builder: &mut AB,
+    condition: AB::Expr,
+    assertion: NamedAssertion<AB::Expr>,
+    parts: (M, M, M),
+) -> Result<(), AirError>
+    requires ready { AB.ready builder.old }
+    requires all_in { (x : AB.Expr) → AB.Ring.has (AB.ring_of builder.old) x }
+    requires can_evaluate { (name : M) → M.can_evaluate name }
+{
+    let mut filter = builder.when(condition)?;
+    assert_named(&mut filter, assertion, parts)
+}
+
+fn assert_named_under_both<AB: NamedAirBuilder, M: NamespaceExt>(
     builder: &mut AB,
     outer: AB::Expr,
     inner: AB::Expr,
-    x: AB::Expr,
+    assertion: NamedAssertion<AB::Expr>,
+    parts: (M, M, M),
+) -> Result<(), AirError>
+    requires ready { AB.ready builder.old }
+    requires all_in { (x : AB.Expr) → AB.Ring.has (AB.ring_of builder.old) x }
+    requires can_evaluate { (name : M) → M.can_evaluate name }
+{
+    let mut filter = builder.when(outer)?;
+    assert_named_under(&mut filter, inner, assertion, parts)
+}
+
+/// Makes the assertion under the name of these parts.
+pub fn assert_named_row<AB: NamedAirBuilder, M: NamespaceExt>(
+    builder: &mut AB,
+    row: NamedRow<AB::Expr>,
+    parts: (M, M, M),
+) -> Result<(), AirError>
+    requires ready { AB.ready builder.old }
+    requires all_in { (x : AB.Expr) → AB.Ring.has (AB.ring_of builder.old) x }
+    requires can_evaluate { (name : M) → M.can_evaluate name }
+{
+    match row {
+        NamedRow::Always(assertion) => assert_named(builder, assertion, parts),
+        NamedRow::UnderBoth(outer, inner, assertion) => {
+            assert_named_under_both(builder, outer, inner, assertion, parts)
+        }
+    }
+}
+
+fn assert_ext_under<AB: ExtensionBuilder>(
+    builder: &mut AB,
+    condition: AB::Expr,
+    assertion: ExtAssertion<AB::ExprEF>,
+) -> Result<(), AirError>
+    requires ready { AB.ready builder.old }
+    requires all_in { (x : AB.Expr) → AB.Ring.has (AB.ring_of builder.old) x }
+    requires all_ext_in { (x : AB.ExprEF) → AB.ExtRing.has (AB.ext_ring_of builder.old) x }
+{
+    let mut filter = builder.when(condition)?;
+    assert_ext(&mut filter, assertion)
+}
+
+fn assert_ext_under_both<AB: ExtensionBuilder>(
+    builder: &mut AB,
+    outer: AB::Expr,
+    inner: AB::Expr,
+    assertion: ExtAssertion<AB::ExprEF>,
+) -> Result<(), AirError>
+    requires ready { AB.ready builder.old }
+    requires all_in { (x : AB.Expr) → AB.Ring.has (AB.ring_of builder.old) x }
+    requires all_ext_in { (x : AB.ExprEF) → AB.ExtRing.has (AB.ext_ring_of builder.old) x }
+{
+    let mut filter = builder.when(outer)?;
+    assert_ext_under(&mut filter, inner, assertion)
+}
+
+/// Makes the assertion.
+pub fn assert_ext_row<AB: ExtensionBuilder>(
+    builder: &mut AB,
+    row: ExtRow<AB::Expr, AB::ExprEF>,
+) -> Result<(), AirError>
+    requires ready { AB.ready builder.old }
+    requires all_in { (x : AB.Expr) → AB.Ring.has (AB.ring_of builder.old) x }
+    requires all_ext_in { (x : AB.ExprEF) → AB.ExtRing.has (AB.ext_ring_of builder.old) x }
+{
+    match row {
+        ExtRow::Always(assertion) => assert_ext(builder, assertion),
+        ExtRow::Under(condition, assertion) => assert_ext_under(builder, condition, assertion),
+        ExtRow::UnderBoth(outer, inner, assertion) => {
+            assert_ext_under_both(builder, outer, inner, assertion)
+        }
+    }
+}
+
+fn assert_ext_named_under<AB: NamedExtensionBuilder, N: Name>(
+    builder: &mut AB,
+    condition: AB::Expr,
+    assertion: ExtAssertion<AB::ExprEF>,
     name: N,
 ) -> Result<(), AirError>
     requires ready { AB.ready builder.old }
-    requires outer_in { AB.Ring.has (AB.ring_of builder.old) outer }
-    requires inner_in { AB.Ring.has (AB.ring_of builder.old) inner }
-    requires x_in { AB.Ring.has (AB.ring_of builder.old) x }
+    requires all_in { (x : AB.Expr) → AB.Ring.has (AB.ring_of builder.old) x }
+    requires all_ext_in { (x : AB.ExprEF) → AB.ExtRing.has (AB.ext_ring_of builder.old) x }
     requires can_evaluate { N.can_evaluate name }
 {
-    let mut filter = builder.when(outer)?;
-    assert_zero_named_under(&mut filter, inner, x, name)?;
-    Ok(())
+    let mut filter = builder.when(condition)?;
+    assert_ext_named(&mut filter, assertion, name)
 }
 
-/// Asserts under a name, where a condition holds, that `x` is zero.
-pub fn assert_zero_named_under<AB: NamedAirBuilder, N: Name>(
+/// Makes the assertion under a name.
+pub fn assert_named_ext_row<AB: NamedExtensionBuilder, N: Name>(
     builder: &mut AB,
-    condition: AB::Expr,
-    x: AB::Expr,
+    row: NamedExtRow<AB::Expr, AB::ExprEF>,
     name: N,
 ) -> Result<(), AirError>
     requires ready { AB.ready builder.old }
-    requires condition_in { AB.Ring.has (AB.ring_of builder.old) condition }
-    requires x_in { AB.Ring.has (AB.ring_of builder.old) x }
+    requires all_in { (x : AB.Expr) → AB.Ring.has (AB.ring_of builder.old) x }
+    requires all_ext_in { (x : AB.ExprEF) → AB.ExtRing.has (AB.ext_ring_of builder.old) x }
     requires can_evaluate { N.can_evaluate name }
 {
-    let mut filter = builder.when(condition)?;
-    filter.assert_zero_named(x, name)?;
-    Ok(())
-}
-
-/// Asserts where a condition holds that `x` over the extension is zero.
-pub fn assert_zero_ext_under<AB: ExtensionBuilder>(
-    builder: &mut AB,
-    condition: AB::Expr,
-    x: AB::ExprEF,
-) -> Result<(), AirError>
-    requires ready { AB.ready builder.old }
-    requires condition_in { AB.Ring.has (AB.ring_of builder.old) condition }
-    requires x_in { AB.ExtRing.has (AB.ext_ring_of builder.old) x }
-{
-    let mut filter = builder.when(condition)?;
-    filter.assert_zero_ext(x)?;
-    Ok(())
-}
-
-/// Asserts where two conditions hold that `x` over the extension is zero.
-pub fn assert_zero_ext_under_both<AB: ExtensionBuilder>(
-    builder: &mut AB,
-    outer: AB::Expr,
-    inner: AB::Expr,
-    x: AB::ExprEF,
-) -> Result<(), AirError>
-    requires ready { AB.ready builder.old }
-    requires outer_in { AB.Ring.has (AB.ring_of builder.old) outer }
-    requires inner_in { AB.Ring.has (AB.ring_of builder.old) inner }
-    requires x_in { AB.ExtRing.has (AB.ext_ring_of builder.old) x }
-{
-    let mut filter = builder.when(outer)?;
-    assert_zero_ext_under(&mut filter, inner, x)?;
-    Ok(())
-}
-
-/// Asserts the batch where a condition holds.
-pub fn assert_batch_under<AB: AirBuilder>(
-    builder: &mut AB,
-    condition: AB::Expr,
-    batch: Batch<AB::Expr>,
-) -> Result<(), AirError>
-    requires ready { AB.ready builder.old }
-    requires all_in { (x : AB.Expr) → AB.Ring.has (AB.ring_of builder.old) x }
-{
-    let mut filter = builder.when(condition)?;
-    match batch {
-        Batch::Zeros(all) => filter.assert_zeros(all)?,
-        Batch::Bools(all) => filter.assert_bools(all)?,
-        Batch::Equal(left, right) => filter.assert_eq_arrays(left, right)?,
+    match row {
+        NamedExtRow::Always(assertion) => assert_ext_named(builder, assertion, name),
+        NamedExtRow::Under(condition, assertion) => {
+            assert_ext_named_under(builder, condition, assertion, name)
+        }
     }
-    Ok(())
-}
-
-/// Asserts the batch where two conditions hold.
-pub fn assert_batch_under_both<AB: AirBuilder>(
-    builder: &mut AB,
-    outer: AB::Expr,
-    inner: AB::Expr,
-    batch: Batch<AB::Expr>,
-) -> Result<(), AirError>
-    requires ready { AB.ready builder.old }
-    requires all_in { (x : AB.Expr) → AB.Ring.has (AB.ring_of builder.old) x }
-{
-    let mut filter = builder.when(outer)?;
-    assert_batch_under(&mut filter, inner, batch)?;
-    Ok(())
-}
-
-/// Asserts the batch under a name where a condition holds.
-pub fn assert_named_batch_under<AB: NamedAirBuilder, M: Namespace>(
-    builder: &mut AB,
-    condition: AB::Expr,
-    batch: NamedBatch<AB::Expr>,
-    name: M,
-) -> Result<(), AirError>
-    requires ready { AB.ready builder.old }
-    requires all_in { (x : AB.Expr) → AB.Ring.has (AB.ring_of builder.old) x }
-    requires can_evaluate { M.can_evaluate name }
-{
-    let mut filter = builder.when(condition)?;
-    match batch {
-        NamedBatch::Zeros(all) => filter.assert_zeros_named(all, name)?,
-        NamedBatch::Bools(all) => filter.assert_bools_named(all, name)?,
-    }
-    Ok(())
-}
-
-/// Asserts the batch under a name where two conditions hold.
-pub fn assert_named_batch_under_both<AB: NamedAirBuilder, M: Namespace>(
-    builder: &mut AB,
-    outer: AB::Expr,
-    inner: AB::Expr,
-    batch: NamedBatch<AB::Expr>,
-    name: M,
-) -> Result<(), AirError>
-    requires ready { AB.ready builder.old }
-    requires all_in { (x : AB.Expr) → AB.Ring.has (AB.ring_of builder.old) x }
-    requires can_evaluate { M.can_evaluate name }
-{
-    let mut filter = builder.when(outer)?;
-    assert_named_batch_under(&mut filter, inner, batch, name)?;
-    Ok(())
-}
-
-/// Asserts where a condition holds that both over the extension are zero.
-pub fn assert_zeros_ext_under<AB: ExtensionBuilder>(
-    builder: &mut AB,
-    condition: AB::Expr,
-    all: [AB::ExprEF; 2],
-) -> Result<(), AirError>
-    requires ready { AB.ready builder.old }
-    requires condition_in { AB.Ring.has (AB.ring_of builder.old) condition }
-    requires all_in { (x : AB.ExprEF) → AB.ExtRing.has (AB.ext_ring_of builder.old) x }
-{
-    let mut filter = builder.when(condition)?;
-    filter.assert_zeros_ext(all)?;
-    Ok(())
 }

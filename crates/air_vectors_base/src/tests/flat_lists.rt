@@ -37,89 +37,104 @@ fn count(alloc: Global, text: &str) -> Result<usize, Fail> {
 
 #[test]
 fn faults_of_operands_and_degrees(rt: HostRuntime) -> Result<(), Fail> {
-    let alloc = rt.alloc();
-    let doubled =
-        r#"[{"Leaf":{"Variable":{"entry":{"Main":{"offset":0}},"index":0}}},{"Add":{"degree_multiple":2,"x":0,"y":0}}]"#;
     let wrong = FlatError::WrongDegree {
         at: 1,
         stated: 2,
         found: 1,
     };
-    assert_eq!(rt; fault(alloc, doubled)?, Some(wrong));
-    assert_eq!(rt; fault(alloc, "[]")?, Some(FlatError::EmptyList));
-    let first = r#"[{"Add":{"x":0,"y":2,"degree_multiple":1}}]"#;
-    assert_eq!(rt;
-        fault(alloc, first)?,
-        Some(FlatError::Operand { at: 0, operand: 0 })
-    );
-    let itself = r#"[{"Leaf":"IsFirstRow"},{"Neg":{"degree_multiple":1,"x":1}}]"#;
-    assert_eq!(rt;
-        fault(alloc, itself)?,
-        Some(FlatError::Operand { at: 1, operand: 1 })
-    );
-    let later = r#"[{"Leaf":"IsFirstRow"},{"Add":{"degree_multiple":9,"x":0,"y":7}}]"#;
-    assert_eq!(rt;
-        fault(alloc, later)?,
-        Some(FlatError::Operand { at: 1, operand: 7 })
-    );
+    let rows = [
+        (
+            r#"[{"Leaf":{"Variable":{"entry":{"Main":{"offset":0}},"index":0}}},{"Add":{"degree_multiple":2,"x":0,"y":0}}]"#,
+            wrong,
+        ),
+        ("[]", FlatError::EmptyList),
+        (
+            r#"[{"Add":{"x":0,"y":2,"degree_multiple":1}}]"#,
+            FlatError::Operand { at: 0, operand: 0 },
+        ),
+        (
+            r#"[{"Leaf":"IsFirstRow"},{"Neg":{"degree_multiple":1,"x":1}}]"#,
+            FlatError::Operand { at: 1, operand: 1 },
+        ),
+        (
+            r#"[{"Leaf":"IsFirstRow"},{"Add":{"degree_multiple":9,"x":0,"y":7}}]"#,
+            FlatError::Operand { at: 1, operand: 7 },
+        ),
+    ];
+    for (text, wanted) in rows {
+        assert_eq!(rt; fault(rt.alloc(), text)?, Some(wanted), "{text}");
+    }
     Ok(())
 }
 
 #[test]
 fn faults_of_shapes_and_numbers(rt: HostRuntime) -> Result<(), Fail> {
-    let alloc = rt.alloc();
-    let shape = Some(FlatError::Shape { at: 0 });
-    let two = r#"[{"Leaf":"IsFirstRow","Neg":{"degree_multiple":1,"x":0}}]"#;
-    assert_eq!(rt; fault(alloc, two)?, shape);
-    assert_eq!(rt; fault(alloc, r#"[{"Leaf":{"IsFirstRow":null}}]"#)?, shape);
-    assert_eq!(rt; fault(alloc, r#"[{"Leaf":{"Constant":-1}}]"#)?, shape);
-    assert_eq!(rt; fault(alloc, "[{}]")?, shape);
-    assert_eq!(rt; fault(alloc, COLUMN)?, shape);
-    let modulus = Some(FlatError::NotCanonical { at: 0 });
-    assert_eq!(rt;
-        fault(alloc, r#"[{"Leaf":{"Constant":2013265921}}]"#)?,
-        modulus
-    );
-    assert_eq!(rt;
-        fault(alloc, r#"[{"Leaf":{"Constant":2013265921}},5]"#)?,
-        modulus
-    );
-    let unreached = r#"[{"Leaf":{"Constant":2013265921}},{"Leaf":{"Constant":1}}]"#;
-    assert_eq!(rt; fault(alloc, unreached)?, modulus);
+    let shape = FlatError::Shape { at: 0 };
+    let modulus = FlatError::NotCanonical { at: 0 };
+    let rows = [
+        (
+            r#"[{"Leaf":"IsFirstRow","Neg":{"degree_multiple":1,"x":0}}]"#,
+            shape,
+        ),
+        (r#"[{"Leaf":{"IsFirstRow":null}}]"#, shape),
+        (r#"[{"Leaf":{"Constant":-1}}]"#, shape),
+        ("[{}]", shape),
+        (COLUMN, shape),
+        (r#"[{"Leaf":{"Constant":2013265921}}]"#, modulus),
+        (r#"[{"Leaf":{"Constant":2013265921}},5]"#, modulus),
+        (
+            r#"[{"Leaf":{"Constant":2013265921}},{"Leaf":{"Constant":1}}]"#,
+            modulus,
+        ),
+    ];
+    for (text, wanted) in rows {
+        assert_eq!(rt; fault(rt.alloc(), text)?, Some(wanted), "{text}");
+    }
     Ok(())
 }
 
 #[test]
 fn lists_that_are_read(rt: HostRuntime) -> Result<(), Fail> {
-    let alloc = rt.alloc();
-    let noted = r#"[{"Leaf":"IsFirstRow"},{"Neg":{"degree_multiple":1,"note":true,"x":0}}]"#;
-    assert_eq!(rt; count(alloc, noted)?, 2);
-    let unfolded =
-        r#"[{"Leaf":{"Constant":1}},{"Leaf":{"Constant":2}},{"Add":{"degree_multiple":0,"x":0,"y":1}}]"#;
-    assert_eq!(rt; count(alloc, unfolded)?, 3);
-    let twice =
-        r#"[{"Leaf":"IsFirstRow"},{"Leaf":"IsFirstRow"},{"Mul":{"degree_multiple":2,"x":0,"y":1}}]"#;
-    assert_eq!(rt; count(alloc, twice)?, 2);
+    let rows = [
+        (
+            r#"[{"Leaf":"IsFirstRow"},{"Neg":{"degree_multiple":1,"note":true,"x":0}}]"#,
+            2,
+        ),
+        (
+            r#"[{"Leaf":{"Constant":1}},{"Leaf":{"Constant":2}},{"Add":{"degree_multiple":0,"x":0,"y":1}}]"#,
+            3,
+        ),
+        (
+            r#"[{"Leaf":"IsFirstRow"},{"Leaf":"IsFirstRow"},{"Mul":{"degree_multiple":2,"x":0,"y":1}}]"#,
+            2,
+        ),
+    ];
+    for (text, wanted) in rows {
+        assert_eq!(rt; count(rt.alloc(), text)?, wanted, "{text}");
+    }
     Ok(())
 }
 
 #[test]
 fn faults_of_extension_lists(rt: HostRuntime) -> Result<(), Fail> {
-    let alloc = rt.alloc();
-    let short = r#"[{"Leaf":{"ExtConstant":[1,0,0]}}]"#;
-    assert_eq!(rt; ext_fault(alloc, short)?, Some(FlatError::Shape { at: 0 }));
-    assert_eq!(rt;
-        ext_fault(alloc, r#"[{"Leaf":{"Base":[]}}]"#)?,
-        Some(FlatError::EmptyList)
-    );
-    let inner = r#"[{"Leaf":{"Base":[{"Neg":{"degree_multiple":0,"x":0}}]}}]"#;
-    assert_eq!(rt;
-        ext_fault(alloc, inner)?,
-        Some(FlatError::Operand { at: 0, operand: 0 })
-    );
-    let example =
-        r#"[{"Leaf":{"ExtVariable":{"entry":{"Permutation":{"offset":0}},"index":0}}},{"Leaf":{"ExtConstant":[0,1,0,0]}},{"Sub":{"degree_multiple":1,"x":0,"y":1}},{"Leaf":{"Base":[{"Leaf":{"Constant":7}}]}},{"Add":{"degree_multiple":1,"x":2,"y":3}}]"#;
-    assert_eq!(rt; ext_fault(alloc, example)?, None);
+    let rows = [
+        (
+            r#"[{"Leaf":{"ExtConstant":[1,0,0]}}]"#,
+            Some(FlatError::Shape { at: 0 }),
+        ),
+        (r#"[{"Leaf":{"Base":[]}}]"#, Some(FlatError::EmptyList)),
+        (
+            r#"[{"Leaf":{"Base":[{"Neg":{"degree_multiple":0,"x":0}}]}}]"#,
+            Some(FlatError::Operand { at: 0, operand: 0 }),
+        ),
+        (
+            r#"[{"Leaf":{"ExtVariable":{"entry":{"Permutation":{"offset":0}},"index":0}}},{"Leaf":{"ExtConstant":[0,1,0,0]}},{"Sub":{"degree_multiple":1,"x":0,"y":1}},{"Leaf":{"Base":[{"Leaf":{"Constant":7}}]}},{"Add":{"degree_multiple":1,"x":2,"y":3}}]"#,
+            None,
+        ),
+    ];
+    for (text, wanted) in rows {
+        assert_eq!(rt; ext_fault(rt.alloc(), text)?, wanted, "{text}");
+    }
     Ok(())
 }
 

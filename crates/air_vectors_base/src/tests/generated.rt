@@ -115,39 +115,76 @@ fn assert_tree(
     Ok(())
 }
 
+// The tree of an operation on two places; of one whose operands are inserted, it is not folded.
+fn tree_of_both(
+    alloc: Global,
+    kept: &Kept,
+    step: Step<'_>,
+    x: usize,
+    y: usize,
+) -> Result<Vec<Part>, RingError> {
+    let (x, y) = (kept.tree(x)?, kept.tree(y)?);
+    let tree = match step {
+        Step::Add(_, _) => sum(alloc, x, y),
+        Step::Sub(_, _) => difference(alloc, x, y),
+        Step::Mul(_, _) => product(alloc, x, y),
+        Step::InsertAdd(_, _) => joined(alloc, x, y, Part::Add),
+        Step::InsertSub(_, _) => joined(alloc, x, y, Part::Sub),
+        _ => joined(alloc, x, y, Part::Mul),
+    };
+    Ok(tree?)
+}
+
+// The tree of a sum of places.
+fn tree_of_sum(alloc: Global, kept: &Kept, xs: &[usize]) -> Result<Vec<Part>, RingError> {
+    let mut tree = leaf(alloc, Part::Constant(0))?;
+    for x in xs {
+        tree = sum(alloc, tree.as_slice(), kept.tree(*x)?)?;
+    }
+    Ok(tree)
+}
+
+// The tree of a product of places.
+fn tree_of_product(alloc: Global, kept: &Kept, xs: &[usize]) -> Result<Vec<Part>, RingError> {
+    let mut tree = leaf(alloc, Part::Constant(1))?;
+    for x in xs {
+        tree = product(alloc, tree.as_slice(), kept.tree(*x)?)?;
+    }
+    Ok(tree)
+}
+
+fn tree_of_leaf(alloc: Global, part: Part) -> Result<Vec<Part>, RingError> {
+    Ok(leaf(alloc, part)?)
+}
+
+fn tree_of_negative(alloc: Global, kept: &Kept, x: usize) -> Result<Vec<Part>, RingError> {
+    Ok(negative(alloc, kept.tree(x)?)?)
+}
+
+fn tree_of_inserted(alloc: Global, kept: &Kept, x: usize) -> Result<Vec<Part>, RingError> {
+    Ok(joined(alloc, kept.tree(x)?, &[], Part::Neg)?)
+}
+
 // The tree of a step whose operands have these trees.
 fn tree_of_step(alloc: Global, step: Step<'_>, kept: &Kept) -> Result<Vec<Part>, RingError> {
-    let tree = match step {
-        Step::Zero => leaf(alloc, Part::Constant(0))?,
-        Step::Constant(c) => leaf(alloc, Part::Constant(c % MODULUS))?,
-        Step::Column(i) => leaf(alloc, Part::Variable(BaseEntry::Main { offset: 0 }, i))?,
-        Step::FirstRow => leaf(alloc, Part::FirstRow)?,
-        Step::Transition => leaf(alloc, Part::Transition)?,
-        Step::Neg(x) => negative(alloc, kept.tree(x)?)?,
-        Step::InsertNeg(x) => joined(alloc, kept.tree(x)?, &[], Part::Neg)?,
-        Step::Add(x, y) => sum(alloc, kept.tree(x)?, kept.tree(y)?)?,
-        Step::Sub(x, y) => difference(alloc, kept.tree(x)?, kept.tree(y)?)?,
-        Step::Mul(x, y) => product(alloc, kept.tree(x)?, kept.tree(y)?)?,
-        Step::InsertAdd(x, y) => joined(alloc, kept.tree(x)?, kept.tree(y)?, Part::Add)?,
-        Step::InsertSub(x, y) => joined(alloc, kept.tree(x)?, kept.tree(y)?, Part::Sub)?,
-        Step::InsertMul(x, y) => joined(alloc, kept.tree(x)?, kept.tree(y)?, Part::Mul)?,
-        Step::Sum(xs) => {
-            let mut tree = leaf(alloc, Part::Constant(0))?;
-            for x in xs {
-                tree = sum(alloc, tree.as_slice(), kept.tree(*x)?)?;
-            }
-            tree
-        }
-        Step::Product(xs) => {
-            let mut tree = leaf(alloc, Part::Constant(1))?;
-            for x in xs {
-                tree = product(alloc, tree.as_slice(), kept.tree(*x)?)?;
-            }
-            tree
-        }
-        Step::Ring(_) => return Err(NO_TREE),
-    };
-    Ok(tree)
+    match step {
+        Step::Zero => tree_of_leaf(alloc, Part::Constant(0)),
+        Step::Constant(c) => tree_of_leaf(alloc, Part::Constant(c % MODULUS)),
+        Step::Column(i) => tree_of_leaf(alloc, Part::Variable(BaseEntry::Main { offset: 0 }, i)),
+        Step::FirstRow => tree_of_leaf(alloc, Part::FirstRow),
+        Step::Transition => tree_of_leaf(alloc, Part::Transition),
+        Step::Neg(x) => tree_of_negative(alloc, kept, x),
+        Step::InsertNeg(x) => tree_of_inserted(alloc, kept, x),
+        Step::Sum(xs) => tree_of_sum(alloc, kept, xs),
+        Step::Product(xs) => tree_of_product(alloc, kept, xs),
+        Step::Ring(_) => Err(NO_TREE),
+        Step::Add(x, y)
+        | Step::Sub(x, y)
+        | Step::Mul(x, y)
+        | Step::InsertAdd(x, y)
+        | Step::InsertSub(x, y)
+        | Step::InsertMul(x, y) => tree_of_both(alloc, kept, step, x, y),
+    }
 }
 
 // A step over so many expressions; leaves until there are some.

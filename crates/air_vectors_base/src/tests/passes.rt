@@ -7,6 +7,7 @@ use air_field::{BabyBear, RingError};
 use air_symbolic::{BaseLeaf, LeafWeight};
 use air_wire::to_flat_value;
 use std::alloc::Global;
+use std::process::Abort;
 use std::test::Fail;
 
 /// Three rows, and no periodic columns.
@@ -35,11 +36,6 @@ fn written_nodes(alloc: Global) -> Result<Option<usize>, Fail> {
 
 #[test]
 fn a_column_squared_63_times(rt: HostRuntime) -> Result<(), Fail> {
-    let mut rows = Vec::new(rt.alloc());
-    rows.push(Row::Make(Step::Column(0)))?;
-    for power in 0..63 {
-        rows.push(Row::Make(Step::Mul(power, power)))?;
-    }
     let seen = [
         Row::Degrees(&[63], LeafWeight::Cached, &[1 << 63]),
         Row::TurnsAtMost(&[63], LeafWeight::Cached, 64),
@@ -51,38 +47,44 @@ fn a_column_squared_63_times(rt: HostRuntime) -> Result<(), Fail> {
         Row::PolyDegree(62, 3, Ok(1 << 63)),
         Row::PolyDegree(63, 3, Err(RingError::DegreeOverflow)),
     ];
-    for row in seen {
-        rows.push(row)?;
-    }
-    base_pool::check_rows(&rt, rt.alloc(), rows.as_slice())?;
+    base_pool::check_squared(&rt, rt.alloc(), Step::Column(0), &seen)?;
     Ok(())
 }
 
 #[test]
 fn the_transition_squared_63_times(rt: HostRuntime) -> Result<(), Fail> {
-    let mut rows = Vec::new(rt.alloc());
-    rows.push(Row::Make(Step::Transition))?;
-    for power in 0..63 {
-        rows.push(Row::Make(Step::Mul(power, power)))?;
-    }
-    rows.push(Row::Weighted(63, 1, Ok(1 << 63)))?;
-    rows.push(Row::Weighted(63, 2, Err(RingError::DegreeOverflow)))?;
-    base_pool::check_rows(&rt, rt.alloc(), rows.as_slice())?;
+    let seen = [
+        Row::Weighted(63, 1, Ok(1 << 63)),
+        Row::Weighted(63, 2, Err(RingError::DegreeOverflow)),
+    ];
+    base_pool::check_squared(&rt, rt.alloc(), Step::Transition, &seen)?;
     Ok(())
 }
 
-#[test]
-fn a_lifted_column_squared_63_times(rt: HostRuntime) -> Result<(), Fail> {
-    let mut rows = Vec::new(rt.alloc());
+// A table that squares a lifted column 63 times, and then has these rows.
+fn check_lifted_squared(
+    rt: &impl Abort,
+    alloc: Global,
+    seen: &[ExtRow<'_>],
+) -> Result<(), RingError> {
+    let mut rows = Vec::new(alloc);
     rows.push(ExtRow::Own(Row::Make(Step::Column(0))))?;
     for power in 0..63 {
         rows.push(ExtRow::Own(Row::Make(Step::Mul(power, power))))?;
     }
-    rows.push(ExtRow::BaseCount(1))?;
-    rows.push(ExtRow::Own(Row::TurnsAtMost(&[62], THREE_ROWS, 65)))?;
-    rows.push(ExtRow::ToBase(63, Some(NOWHERE)))?;
-    rows.push(ExtRow::BaseCount(64))?;
-    ext_pool::check_rows(&rt, rt.alloc(), rows.as_slice())?;
+    rows.extend_from_slice(seen)?;
+    ext_pool::check_rows(rt, alloc, rows.as_slice())
+}
+
+#[test]
+fn a_lifted_column_squared_63_times(rt: HostRuntime) -> Result<(), Fail> {
+    let seen = [
+        ExtRow::BaseCount(1),
+        ExtRow::Own(Row::TurnsAtMost(&[62], THREE_ROWS, 65)),
+        ExtRow::ToBase(63, Some(NOWHERE)),
+        ExtRow::BaseCount(64),
+    ];
+    check_lifted_squared(&rt, rt.alloc(), &seen)?;
     Ok(())
 }
 

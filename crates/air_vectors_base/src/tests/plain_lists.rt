@@ -7,13 +7,22 @@ use std::alloc::{AllocError, Global};
 use std::test::Fail;
 
 /// A node by the places of its operands, and the degree that it states; those of a leaf say nothing.
-#[derive(Clone, Copy, Debug)]
+#[derive(Debug)]
 pub struct PlainNode {
     pub part: Part,
     pub x: usize,
     pub y: usize,
     pub degree: usize,
 }
+
+// A derived clone goes through the cases, which takes long to prove.
+impl Clone for PlainNode {
+    fn clone(&self) -> Result<Self, AllocError> {
+        Ok(*self)
+    }
+}
+
+impl Copy for PlainNode {}
 
 fn entry_text(alloc: Global, entry: BaseEntry) -> Result<String, AllocError> {
     match entry {
@@ -126,12 +135,19 @@ pub fn tree_of_list(
 }
 
 // A piece of a tree's parts, and its place in the list that is written.
-#[derive(Clone, Copy)]
 struct Subtree {
     start: usize,
     end: usize,
     place: usize,
 }
+
+impl Clone for Subtree {
+    fn clone(&self) -> Result<Self, AllocError> {
+        Ok(*self)
+    }
+}
+
+impl Copy for Subtree {}
 
 // The place of an equal subtree, or the next one.
 fn place_of(tree: &[Part], known: &[Subtree], start: usize, end: usize) -> usize {

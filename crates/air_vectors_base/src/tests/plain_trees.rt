@@ -8,7 +8,7 @@ use std::alloc::{AllocError, Global};
 /// The modulus of `BabyBear`, whose constants are numbers below it.
 pub const MODULUS: u64 = 2013265921;
 
-#[derive(Clone, Copy, Debug, PartialEq, Eq)]
+#[derive(Debug, PartialEq, Eq)]
 pub enum Part {
     Constant(u64),
     Variable(BaseEntry, usize),
@@ -20,6 +20,15 @@ pub enum Part {
     Sub,
     Mul,
 }
+
+// A derived clone goes through the cases, which takes long to prove.
+impl Clone for Part {
+    fn clone(&self) -> Result<Self, AllocError> {
+        Ok(*self)
+    }
+}
+
+impl Copy for Part {}
 
 impl Part {
     /// How many operands it has.

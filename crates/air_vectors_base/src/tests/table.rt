@@ -2,9 +2,9 @@
 use air_field::RingError;
 use air_symbolic::LeafWeight;
 use air_variables::{BaseEntry, ExtEntry};
+use std::alloc::AllocError;
 
 /// A step that makes an expression; its operands are the places of those made before, from 0.
-#[derive(Clone, Copy, Debug)]
 pub enum Step<'a> {
     Zero,
     Constant(u64),
@@ -26,8 +26,16 @@ pub enum Step<'a> {
     Ring(RingStep),
 }
 
+// A derived clone goes through the cases, which takes long to prove.
+impl Clone for Step<'_> {
+    fn clone(&self) -> Result<Self, AllocError> {
+        Ok(*self)
+    }
+}
+
+impl Copy for Step<'_> {}
+
 /// The operations that every ring makes of its other ones.
-#[derive(Clone, Copy, Debug)]
 pub enum RingStep {
     Double(usize),
     BoolCheck(usize),
@@ -37,8 +45,16 @@ pub enum RingStep {
     Scaled(usize, u64),
 }
 
+impl Clone for RingStep {
+    fn clone(&self) -> Result<Self, AllocError> {
+        Ok(*self)
+    }
+}
+
+impl Copy for RingStep {}
+
 /// What a leaf is.
-#[derive(Clone, Copy, Debug, PartialEq, Eq)]
+#[derive(Debug, PartialEq, Eq)]
 pub enum LeafKind {
     Variable(BaseEntry, usize),
     FirstRow,
@@ -50,8 +66,16 @@ pub enum LeafKind {
     ExtConstant,
 }
 
+impl Clone for LeafKind {
+    fn clone(&self) -> Result<Self, AllocError> {
+        Ok(*self)
+    }
+}
+
+impl Copy for LeafKind {}
+
 /// A node by the places of its operands, and the degree that it states.
-#[derive(Clone, Copy, Debug, PartialEq, Eq)]
+#[derive(Debug, PartialEq, Eq)]
 pub enum Shape {
     Leaf(LeafKind),
     Add(usize, usize, usize),
@@ -60,8 +84,15 @@ pub enum Shape {
     Mul(usize, usize, usize),
 }
 
+impl Clone for Shape {
+    fn clone(&self) -> Result<Self, AllocError> {
+        Ok(*self)
+    }
+}
+
+impl Copy for Shape {}
+
 /// A row of a table: a step, or something that is so of the pool after the steps above.
-#[derive(Clone, Copy, Debug)]
 pub enum Row<'a> {
     /// The step makes the expression of the next place.
     Make(Step<'a>),
@@ -89,8 +120,15 @@ pub enum Row<'a> {
     NoDegrees(&'a [usize], LeafWeight<'a>),
 }
 
+impl Clone for Row<'_> {
+    fn clone(&self) -> Result<Self, AllocError> {
+        Ok(*self)
+    }
+}
+
+impl Copy for Row<'_> {}
+
 /// A row of a table of an extension pool.
-#[derive(Clone, Copy, Debug)]
 pub enum ExtRow<'a> {
     /// A row of the extension pool itself; its constants and columns are lifted from the base pool.
     Own(Row<'a>),
@@ -111,3 +149,11 @@ pub enum ExtRow<'a> {
     /// The base pool has so many nodes.
     BaseCount(usize),
 }
+
+impl Clone for ExtRow<'_> {
+    fn clone(&self) -> Result<Self, AllocError> {
+        Ok(*self)
+    }
+}
+
+impl Copy for ExtRow<'_> {}

@@ -9,16 +9,25 @@ use air_builder::{
     NamedExtensionBuilder, TwoRows,
 };
 use air_field::{BabyBear, BinomialExtensionField, ExtFieldRing, ExtensionField, Field, FieldRing};
-use std::alloc::Global;
+use std::alloc::{AllocError, Global};
 use std::process::Abort;
 use std::string::ToString;
 
 /// A value that was asserted to be zero.
-#[derive(Clone, Copy, Debug, PartialEq, Eq)]
+#[derive(Debug, PartialEq, Eq)]
 pub enum Asserted {
     Base(BabyBear),
     Extension(BinomialExtensionField),
 }
+
+// A derived clone goes through the cases, which takes long to prove.
+impl Clone for Asserted {
+    fn clone(&self) -> Result<Self, AllocError> {
+        Ok(*self)
+    }
+}
+
+impl Copy for Asserted {}
 
 /// An assertion that failed.
 #[derive(Debug, Drop)]
@@ -55,6 +64,14 @@ pub struct ValueLog {
     pub failures: Vec<LoggedFailure>,
 }
 
+// The text of a name, unless it is empty.
+fn label_of<N: Name>(alloc: Global, name: N) -> Result<Option<String>, AirError>
+    requires { N.can_evaluate name }
+{
+    let text = name.evaluate()?.to_string(alloc)?;
+    Ok(if text.is_empty() { None } else { Some(text) })
+}
+
 impl ValueLog {
     pub fn new(alloc: Global, context: u32) -> Self {
         ValueLog {
@@ -74,8 +91,7 @@ impl ValueLog {
         ensures ok { OnOk result (self.new.context ≡ self.old.context) }
     {
         if !zero {
-            let text = name.evaluate()?.to_string(self.alloc)?;
-            let label = if text.is_empty() { None } else { Some(text) };
+            let label = label_of(self.alloc, name)?;
             self.failures
                 .push(LoggedFailure {
                     place: self.asserted.len(),
@@ -261,15 +277,18 @@ impl NamedExtensionBuilder for ValueLog {
     }
 }
 
+fn assert_failure(rt: &impl Abort, failure: &LoggedFailure, place: usize, label: Option<&str>) {
+    assert_eq!(rt; failure.place, place);
+    match &failure.label {
+        Some(kept) => assert_eq!(rt; Some(kept.as_str()), label, "at {place}"),
+        None => assert!(rt; label.is_none(), "at {place}"),
+    }
+}
+
 /// The log has these failures, in order: the place of each, and its label.
 pub fn assert_failures(rt: &impl Abort, log: &ValueLog, wanted: &[(usize, Option<&str>)]) {
     assert_eq!(rt; log.failures.len(), wanted.len());
     for (failure, (place, label)) in log.failures.iter().zip(wanted) {
-        assert_eq!(rt; failure.place, *place);
-        match (&failure.label, *label) {
-            (None, None) => {}
-            (Some(kept), Some(text)) => assert_eq!(rt; kept.as_str(), text),
-            _ => assert!(rt; false, "at {place}"),
-        }
+        assert_failure(rt, failure, *place, *label);
     }
 }

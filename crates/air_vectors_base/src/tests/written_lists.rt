@@ -7,6 +7,7 @@ use air_variables::ExtEntry;
 use air_wire::{WireLeaf, from_flat_value, to_flat_value};
 use serde_json::Value;
 use std::alloc::Global;
+use std::process::Abort;
 use std::test::*;
 
 type ExtensionLeaf = ExtLeaf<BabyBear, BinomialExtensionField>;
@@ -47,59 +48,107 @@ fn step<A: TableLeaf>(bench: &mut Bench<A>, step: Step<'_>) -> Result<(), Fail> 
     Ok(())
 }
 
+// Makes expressions at the next places.
+fn all_steps<A: TableLeaf>(bench: &mut Bench<A>, steps: &[Step<'_>]) -> Result<(), Fail> {
+    for each in steps {
+        step(bench, *each)?;
+    }
+    Ok(())
+}
+
+// The expression at a place is written so.
+fn assert_written<A: TableLeaf + WireLeaf>(
+    rt: &impl Abort,
+    bench: &mut Bench<A>,
+    place: usize,
+    wanted: &str,
+) -> Result<(), Fail> {
+    let text = written(bench, place)?.to_string(bench.alloc())?;
+    assert_eq!(rt; text.as_str(), wanted);
+    Ok(())
+}
+
+// After these steps the expression at a place of a new pool is written so.
+fn assert_base_written(
+    rt: &impl Abort,
+    alloc: Global,
+    steps: &[Step<'_>],
+    place: usize,
+    wanted: &str,
+) -> Result<(), Fail> {
+    let mut bench: Bench<BaseLeaf<BabyBear>> = Bench::new(alloc);
+    all_steps(&mut bench, steps)?;
+    assert_written(rt, &mut bench, place, wanted)
+}
+
 #[test]
 fn sums_and_products_of_columns(rt: HostRuntime) -> Result<(), Fail> {
-    let alloc = rt.alloc();
-    let mut bench: Bench<BaseLeaf<BabyBear>> = Bench::new(alloc);
-    step(&mut bench, Step::Column(0))?;
-    step(&mut bench, Step::InsertAdd(0, 0))?;
-    let text = written(&mut bench, 1)?.to_string(alloc)?;
-    let doubled =
-        r#"[{"Leaf":{"Variable":{"entry":{"Main":{"offset":0}},"index":0}}},{"Add":{"degree_multiple":1,"x":0,"y":0}}]"#;
-    assert_eq!(rt; text.as_str(), doubled);
-    step(&mut bench, Step::Column(1))?;
-    step(&mut bench, Step::Mul(0, 2))?;
-    step(&mut bench, Step::Sub(3, 0))?;
-    step(&mut bench, Step::Constant(7))?;
-    step(&mut bench, Step::Add(4, 5))?;
-    let text = written(&mut bench, 6)?.to_string(alloc)?;
-    let six =
-        r#"[{"Leaf":{"Variable":{"entry":{"Main":{"offset":0}},"index":0}}},{"Leaf":{"Variable":{"entry":{"Main":{"offset":0}},"index":1}}},{"Mul":{"degree_multiple":2,"x":0,"y":1}},{"Sub":{"degree_multiple":2,"x":2,"y":0}},{"Leaf":{"Constant":7}},{"Add":{"degree_multiple":2,"x":3,"y":4}}]"#;
-    assert_eq!(rt; text.as_str(), six);
+    let steps = [
+        Step::Column(0),
+        Step::InsertAdd(0, 0),
+        Step::Column(1),
+        Step::Mul(0, 2),
+        Step::Sub(3, 0),
+        Step::Constant(7),
+        Step::Add(4, 5),
+    ];
+    let rows = [
+        (
+            1,
+            r#"[{"Leaf":{"Variable":{"entry":{"Main":{"offset":0}},"index":0}}},{"Add":{"degree_multiple":1,"x":0,"y":0}}]"#,
+        ),
+        (
+            6,
+            r#"[{"Leaf":{"Variable":{"entry":{"Main":{"offset":0}},"index":0}}},{"Leaf":{"Variable":{"entry":{"Main":{"offset":0}},"index":1}}},{"Mul":{"degree_multiple":2,"x":0,"y":1}},{"Sub":{"degree_multiple":2,"x":2,"y":0}},{"Leaf":{"Constant":7}},{"Add":{"degree_multiple":2,"x":3,"y":4}}]"#,
+        ),
+    ];
+    for (place, wanted) in rows {
+        assert_base_written(&rt, rt.alloc(), &steps, place, wanted)?;
+    }
+    Ok(())
+}
+
+// What is written for a list that is read.
+fn assert_rewritten(rt: &impl Abort, alloc: Global, text: &str, wanted: &str) -> Result<(), Fail> {
+    let text = rewritten::<BaseLeaf<BabyBear>>(alloc, text)?;
+    assert_eq!(rt; text.as_str(), wanted);
     Ok(())
 }
 
 #[test]
 fn lists_read_and_written_again(rt: HostRuntime) -> Result<(), Fail> {
-    let alloc = rt.alloc();
-    let unreached = r#"[{"Leaf":{"Constant":1}},{"Leaf":{"Constant":2}}]"#;
-    let text = rewritten::<BaseLeaf<BabyBear>>(alloc, unreached)?;
-    assert_eq!(rt; text.as_str(), r#"[{"Leaf":{"Constant":2}}]"#);
     let unfolded =
         r#"[{"Leaf":{"Constant":1}},{"Leaf":{"Constant":2}},{"Add":{"degree_multiple":0,"x":0,"y":1}}]"#;
-    let text = rewritten::<BaseLeaf<BabyBear>>(alloc, unfolded)?;
-    assert_eq!(rt; text.as_str(), unfolded);
-    let twice =
-        r#"[{"Leaf":"IsFirstRow"},{"Leaf":"IsLastRow"},{"Leaf":"IsFirstRow"},{"Leaf":"IsTransition"},{"Mul":{"degree_multiple":2,"x":1,"y":2}},{"Neg":{"degree_multiple":2,"x":4}}]"#;
-    let text = rewritten::<BaseLeaf<BabyBear>>(alloc, twice)?;
-    let once =
-        r#"[{"Leaf":"IsLastRow"},{"Leaf":"IsFirstRow"},{"Mul":{"degree_multiple":2,"x":0,"y":1}},{"Neg":{"degree_multiple":2,"x":2}}]"#;
-    assert_eq!(rt; text.as_str(), once);
+    let rows = [
+        (
+            r#"[{"Leaf":{"Constant":1}},{"Leaf":{"Constant":2}}]"#,
+            r#"[{"Leaf":{"Constant":2}}]"#,
+        ),
+        (unfolded, unfolded),
+        (
+            r#"[{"Leaf":"IsFirstRow"},{"Leaf":"IsLastRow"},{"Leaf":"IsFirstRow"},{"Leaf":"IsTransition"},{"Mul":{"degree_multiple":2,"x":1,"y":2}},{"Neg":{"degree_multiple":2,"x":4}}]"#,
+            r#"[{"Leaf":"IsLastRow"},{"Leaf":"IsFirstRow"},{"Mul":{"degree_multiple":2,"x":0,"y":1}},{"Neg":{"degree_multiple":2,"x":2}}]"#,
+        ),
+    ];
+    for (text, wanted) in rows {
+        assert_rewritten(&rt, rt.alloc(), text, wanted)?;
+    }
+    Ok(())
+}
+
+#[test]
+fn an_extension_list_read_and_written_again(rt: HostRuntime) -> Result<(), Fail> {
     let example =
         r#"[{"Leaf":{"ExtVariable":{"entry":{"Permutation":{"offset":0}},"index":0}}},{"Leaf":{"ExtConstant":[0,1,0,0]}},{"Sub":{"degree_multiple":1,"x":0,"y":1}},{"Leaf":{"Base":[{"Leaf":{"Constant":7}}]}},{"Add":{"degree_multiple":1,"x":2,"y":3}}]"#;
-    let text = rewritten::<ExtensionLeaf>(alloc, example)?;
+    let text = rewritten::<ExtensionLeaf>(rt.alloc(), example)?;
     assert_eq!(rt; text.as_str(), example);
     Ok(())
 }
 
 #[test]
 fn constants_written_and_read(rt: HostRuntime) -> Result<(), Fail> {
-    let alloc = rt.alloc();
-    let mut bench: Bench<BaseLeaf<BabyBear>> = Bench::new(alloc);
-    step(&mut bench, Step::Constant(42))?;
-    let text = written(&mut bench, 0)?.to_string(alloc)?;
-    assert_eq!(rt; text.as_str(), r#"[{"Leaf":{"Constant":42}}]"#);
-    Ok(())
+    let wanted = r#"[{"Leaf":{"Constant":42}}]"#;
+    assert_base_written(&rt, rt.alloc(), &[Step::Constant(42)], 0, wanted)
 }
 
 // p0 times the challenge, minus the extension's root.
@@ -116,16 +165,12 @@ fn extension_parts(bench: &mut Bench<ExtensionLeaf>) -> Result<(), Fail> {
 
 #[test]
 fn extension_trees_written_and_read(rt: HostRuntime) -> Result<(), Fail> {
-    let alloc = rt.alloc();
-    let mut bench: Bench<ExtensionLeaf> = Bench::new(alloc);
+    let mut bench: Bench<ExtensionLeaf> = Bench::new(rt.alloc());
     extension_parts(&mut bench)?;
-    step(&mut bench, Step::Column(0))?;
-    step(&mut bench, Step::Add(4, 5))?;
-    let text = written(&mut bench, 6)?.to_string(alloc)?;
+    all_steps(&mut bench, &[Step::Column(0), Step::Add(4, 5)])?;
     let seven =
         r#"[{"Leaf":{"ExtVariable":{"entry":{"Permutation":{"offset":0}},"index":0}}},{"Leaf":{"ExtVariable":{"entry":"Challenge","index":0}}},{"Mul":{"degree_multiple":1,"x":0,"y":1}},{"Leaf":{"ExtConstant":[0,1,0,0]}},{"Sub":{"degree_multiple":1,"x":2,"y":3}},{"Leaf":{"Base":[{"Leaf":{"Variable":{"entry":{"Main":{"offset":0}},"index":0}}}]}},{"Add":{"degree_multiple":1,"x":4,"y":5}}]"#;
-    assert_eq!(rt; text.as_str(), seven);
-    Ok(())
+    assert_written(&rt, &mut bench, 6, seven)
 }
 
 #[test]
