@@ -1,6 +1,6 @@
 //! Assertions as rows of tables, and the calls that they are. Each call stands in a function of its own, which knows the
-//! builder by its traits alone, and all ask for the same of it: a function with several calls takes long to prove, and
-//! so does one that has to find what each of several others asks for.
+//! builder by its traits alone. What is generic in the expressions is handed on by reference: a call that is given it by
+//! value owes a proof that it fits into memory.
 use air_builder::{
     AirBuilder, AirError, AssertAll, AssertAllExt, AssertAllNamed, ExtensionBuilder, Lazy, Name,
     NamedAirBuilder, NamedExtensionBuilder, NamespaceExt,
@@ -99,44 +99,44 @@ fn assert_bool<AB: AirBuilder>(builder: &mut AB, x: AB::Expr) -> Result<(), AirE
     builder.assert_bool(x)
 }
 
-fn assert_zeros<AB: AirBuilder>(builder: &mut AB, all: [AB::Expr; 2]) -> Result<(), AirError>
+fn assert_zeros<AB: AirBuilder>(builder: &mut AB, all: &[AB::Expr; 2]) -> Result<(), AirError>
     requires ready { AB.ready builder.old }
     requires all_in { (x : AB.Expr) → AB.Ring.has (AB.ring_of builder.old) x }
 {
-    builder.assert_zeros(all)
+    builder.assert_zeros(*all)
 }
 
-fn assert_bools<AB: AirBuilder>(builder: &mut AB, all: [AB::Expr; 2]) -> Result<(), AirError>
+fn assert_bools<AB: AirBuilder>(builder: &mut AB, all: &[AB::Expr; 2]) -> Result<(), AirError>
     requires ready { AB.ready builder.old }
     requires all_in { (x : AB.Expr) → AB.Ring.has (AB.ring_of builder.old) x }
 {
-    builder.assert_bools(all)
+    builder.assert_bools(*all)
 }
 
 fn assert_equal_arrays<AB: AirBuilder>(
     builder: &mut AB,
-    left: [AB::Expr; 2],
-    right: [AB::Expr; 2],
+    left: &[AB::Expr; 2],
+    right: &[AB::Expr; 2],
 ) -> Result<(), AirError>
     requires ready { AB.ready builder.old }
     requires all_in { (x : AB.Expr) → AB.Ring.has (AB.ring_of builder.old) x }
 {
-    builder.assert_eq_arrays(left, right)
+    builder.assert_eq_arrays(*left, *right)
 }
 
 /// Makes the assertion.
 pub fn assert_this<AB: AirBuilder>(
     builder: &mut AB,
-    assertion: Assertion<AB::Expr>,
+    assertion: &Assertion<AB::Expr>,
 ) -> Result<(), AirError>
     requires ready { AB.ready builder.old }
     requires all_in { (x : AB.Expr) → AB.Ring.has (AB.ring_of builder.old) x }
 {
     match assertion {
-        Assertion::Zero(x) => assert_zero(builder, x),
-        Assertion::One(x) => assert_one(builder, x),
-        Assertion::Equal(x, y) => assert_equal(builder, x, y),
-        Assertion::Bool(x) => assert_bool(builder, x),
+        Assertion::Zero(x) => assert_zero(builder, *x),
+        Assertion::One(x) => assert_one(builder, *x),
+        Assertion::Equal(x, y) => assert_equal(builder, *x, *y),
+        Assertion::Bool(x) => assert_bool(builder, *x),
         Assertion::Zeros(all) => assert_zeros(builder, all),
         Assertion::Bools(all) => assert_bools(builder, all),
         Assertion::EqualArrays(left, right) => assert_equal_arrays(builder, left, right),
@@ -194,14 +194,14 @@ fn assert_bool_named<AB: NamedAirBuilder, M: NamespaceExt>(
 
 fn assert_zeros_named<AB: NamedAirBuilder, M: NamespaceExt>(
     builder: &mut AB,
-    all: [AB::Expr; 2],
+    all: &[AB::Expr; 2],
     name: M,
 ) -> Result<(), AirError>
     requires ready { AB.ready builder.old }
     requires all_in { (x : AB.Expr) → AB.Ring.has (AB.ring_of builder.old) x }
     requires can_evaluate { (name : M) → M.can_evaluate name }
 {
-    builder.assert_zeros_named(all, name)
+    builder.assert_zeros_named(*all, name)
 }
 
 fn assert_zero_in_space<AB: NamedAirBuilder, M: NamespaceExt>(
@@ -220,19 +220,20 @@ fn assert_zero_in_space<AB: NamedAirBuilder, M: NamespaceExt>(
 fn assert_zero_in_spaces<AB: NamedAirBuilder, M: NamespaceExt>(
     builder: &mut AB,
     x: AB::Expr,
-    parts: (M, M, M),
+    outer: M,
+    inner: M,
+    leaf: M,
 ) -> Result<(), AirError>
     requires ready { AB.ready builder.old }
     requires all_in { (x : AB.Expr) → AB.Ring.has (AB.ring_of builder.old) x }
     requires can_evaluate { (name : M) → M.can_evaluate name }
 {
-    let (outer, inner, leaf) = parts;
     builder.assert_zero_named(x, outer.join(inner).name(leaf))
 }
 
 fn assert_zeros_in_space<AB: NamedAirBuilder, M: NamespaceExt>(
     builder: &mut AB,
-    all: [AB::Expr; 2],
+    all: &[AB::Expr; 2],
     outer: M,
     inner: M,
 ) -> Result<(), AirError>
@@ -240,12 +241,12 @@ fn assert_zeros_in_space<AB: NamedAirBuilder, M: NamespaceExt>(
     requires all_in { (x : AB.Expr) → AB.Ring.has (AB.ring_of builder.old) x }
     requires can_evaluate { (name : M) → M.can_evaluate name }
 {
-    builder.assert_zeros_named(all, outer.join(inner))
+    builder.assert_zeros_named(*all, outer.join(inner))
 }
 
 fn assert_bools_in_space<AB: NamedAirBuilder, M: NamespaceExt>(
     builder: &mut AB,
-    all: [AB::Expr; 2],
+    all: &[AB::Expr; 2],
     outer: M,
     inner: M,
 ) -> Result<(), AirError>
@@ -253,12 +254,12 @@ fn assert_bools_in_space<AB: NamedAirBuilder, M: NamespaceExt>(
     requires all_in { (x : AB.Expr) → AB.Ring.has (AB.ring_of builder.old) x }
     requires can_evaluate { (name : M) → M.can_evaluate name }
 {
-    builder.assert_bools_named(all, outer.join(inner))
+    builder.assert_bools_named(*all, outer.join(inner))
 }
 
 fn assert_three_bools_in_space<AB: NamedAirBuilder, M: NamespaceExt>(
     builder: &mut AB,
-    all: [AB::Expr; 3],
+    all: &[AB::Expr; 3],
     outer: M,
     inner: M,
 ) -> Result<(), AirError>
@@ -266,26 +267,27 @@ fn assert_three_bools_in_space<AB: NamedAirBuilder, M: NamespaceExt>(
     requires all_in { (x : AB.Expr) → AB.Ring.has (AB.ring_of builder.old) x }
     requires can_evaluate { (name : M) → M.can_evaluate name }
 {
-    builder.assert_bools_named(all, outer.join(inner))
+    builder.assert_bools_named(*all, outer.join(inner))
 }
 
 // Makes an assertion of several parts.
 fn assert_in_space<AB: NamedAirBuilder, M: NamespaceExt>(
     builder: &mut AB,
-    assertion: NamedAssertion<AB::Expr>,
-    parts: (M, M, M),
+    assertion: &NamedAssertion<AB::Expr>,
+    a: M,
+    b: M,
+    c: M,
 ) -> Result<(), AirError>
     requires ready { AB.ready builder.old }
     requires all_in { (x : AB.Expr) → AB.Ring.has (AB.ring_of builder.old) x }
     requires can_evaluate { (name : M) → M.can_evaluate name }
 {
-    let (a, b, _) = parts;
     match assertion {
-        NamedAssertion::ZeroInSpace(x) => assert_zero_in_space(builder, x, a, b),
+        NamedAssertion::ZeroInSpace(x) => assert_zero_in_space(builder, *x, a, b),
         NamedAssertion::ZerosInSpace(all) => assert_zeros_in_space(builder, all, a, b),
         NamedAssertion::BoolsInSpace(all) => assert_bools_in_space(builder, all, a, b),
         NamedAssertion::ThreeBoolsInSpace(all) => assert_three_bools_in_space(builder, all, a, b),
-        NamedAssertion::ZeroInSpaces(x) => assert_zero_in_spaces(builder, x, parts),
+        NamedAssertion::ZeroInSpaces(x) => assert_zero_in_spaces(builder, *x, a, b, c),
         _ => Err(AirError::Memory),
     }
 }
@@ -293,21 +295,22 @@ fn assert_in_space<AB: NamedAirBuilder, M: NamespaceExt>(
 /// Makes the assertion under the name of these parts.
 pub fn assert_named<AB: NamedAirBuilder, M: NamespaceExt>(
     builder: &mut AB,
-    assertion: NamedAssertion<AB::Expr>,
-    parts: (M, M, M),
+    assertion: &NamedAssertion<AB::Expr>,
+    a: M,
+    b: M,
+    c: M,
 ) -> Result<(), AirError>
     requires ready { AB.ready builder.old }
     requires all_in { (x : AB.Expr) → AB.Ring.has (AB.ring_of builder.old) x }
     requires can_evaluate { (name : M) → M.can_evaluate name }
 {
-    let (name, _, _) = parts;
     match assertion {
-        NamedAssertion::Zero(x) => assert_zero_named(builder, x, name),
-        NamedAssertion::One(x) => assert_one_named(builder, x, name),
-        NamedAssertion::Equal(x, y) => assert_equal_named(builder, x, y, name),
-        NamedAssertion::Bool(x) => assert_bool_named(builder, x, name),
-        NamedAssertion::Zeros(all) => assert_zeros_named(builder, all, name),
-        _ => assert_in_space(builder, assertion, parts),
+        NamedAssertion::Zero(x) => assert_zero_named(builder, *x, a),
+        NamedAssertion::One(x) => assert_one_named(builder, *x, a),
+        NamedAssertion::Equal(x, y) => assert_equal_named(builder, *x, *y, a),
+        NamedAssertion::Bool(x) => assert_bool_named(builder, *x, a),
+        NamedAssertion::Zeros(all) => assert_zeros_named(builder, all, a),
+        _ => assert_in_space(builder, assertion, a, b, c),
     }
 }
 
@@ -356,26 +359,26 @@ fn assert_equal_ext<AB: ExtensionBuilder>(
 
 fn assert_zeros_ext<AB: ExtensionBuilder>(
     builder: &mut AB,
-    all: [AB::ExprEF; 2],
+    all: &[AB::ExprEF; 2],
 ) -> Result<(), AirError>
     requires ready { AB.ready builder.old }
     requires all_ext_in { (x : AB.ExprEF) → AB.ExtRing.has (AB.ext_ring_of builder.old) x }
 {
-    builder.assert_zeros_ext(all)
+    builder.assert_zeros_ext(*all)
 }
 
 /// Makes the assertion.
 pub fn assert_ext<AB: ExtensionBuilder>(
     builder: &mut AB,
-    assertion: ExtAssertion<AB::ExprEF>,
+    assertion: &ExtAssertion<AB::ExprEF>,
 ) -> Result<(), AirError>
     requires ready { AB.ready builder.old }
     requires all_ext_in { (x : AB.ExprEF) → AB.ExtRing.has (AB.ext_ring_of builder.old) x }
 {
     match assertion {
-        ExtAssertion::Zero(x) => assert_zero_ext(builder, x),
-        ExtAssertion::One(x) => assert_one_ext(builder, x),
-        ExtAssertion::Equal(x, y) => assert_equal_ext(builder, x, y),
+        ExtAssertion::Zero(x) => assert_zero_ext(builder, *x),
+        ExtAssertion::One(x) => assert_one_ext(builder, *x),
+        ExtAssertion::Equal(x, y) => assert_equal_ext(builder, *x, *y),
         ExtAssertion::Zeros(all) => assert_zeros_ext(builder, all),
     }
 }
@@ -420,7 +423,7 @@ fn assert_equal_ext_named<AB: NamedExtensionBuilder, N: Name>(
 /// Makes the assertion under a name; arrays have none.
 pub fn assert_ext_named<AB: NamedExtensionBuilder, N: Name>(
     builder: &mut AB,
-    assertion: ExtAssertion<AB::ExprEF>,
+    assertion: &ExtAssertion<AB::ExprEF>,
     name: N,
 ) -> Result<(), AirError>
     requires ready { AB.ready builder.old }
@@ -428,9 +431,9 @@ pub fn assert_ext_named<AB: NamedExtensionBuilder, N: Name>(
     requires can_evaluate { N.can_evaluate name }
 {
     match assertion {
-        ExtAssertion::Zero(x) => assert_zero_ext_named(builder, x, name),
-        ExtAssertion::One(x) => assert_one_ext_named(builder, x, name),
-        ExtAssertion::Equal(x, y) => assert_equal_ext_named(builder, x, y, name),
+        ExtAssertion::Zero(x) => assert_zero_ext_named(builder, *x, name),
+        ExtAssertion::One(x) => assert_one_ext_named(builder, *x, name),
+        ExtAssertion::Equal(x, y) => assert_equal_ext_named(builder, *x, *y, name),
         ExtAssertion::Zeros(_) => Err(AirError::Memory),
     }
 }

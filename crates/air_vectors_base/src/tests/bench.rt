@@ -5,7 +5,7 @@ ghost use Rattle.std.specs.Prelude.{◌<◌, length, IsTrue, All, IfOk};
 use crate::tests::table::{LeafKind, RingStep, Row, Shape, Step};
 use air_field::{Algebra, Field, RingError};
 use air_symbolic::{Degrees, ExprId, ExprPool, LeafWeight, SymLeaf, SymbolicExpr};
-use std::alloc::Global;
+use std::alloc::{AllocError, Global};
 use std::fmt::Debug;
 use std::marker::Model;
 use std::process::Abort;
@@ -27,6 +27,44 @@ pub trait TableLeaf: SymLeaf {
 
     fn kind(&self) -> LeafKind;
 }
+
+/// The operations of a pool on one expression. The test that an expression is of the pool is proved once for all.
+enum OnOne {
+    Neg,
+    InsertNeg,
+    Double,
+    BoolCheck,
+    /// Times this power of two.
+    Scaled(u64),
+}
+
+impl Clone for OnOne {
+    fn clone(&self) -> Result<Self, AllocError> {
+        Ok(*self)
+    }
+}
+
+impl Copy for OnOne {}
+
+/// The operations on two.
+enum OnTwo {
+    Add,
+    Sub,
+    Mul,
+    InsertAdd,
+    InsertSub,
+    InsertMul,
+    Xor,
+    AndNot,
+}
+
+impl Clone for OnTwo {
+    fn clone(&self) -> Result<Self, AllocError> {
+        Ok(*self)
+    }
+}
+
+impl Copy for OnTwo {}
 
 #[derive(Drop)]
 pub struct Bench<A: SymLeaf> {
@@ -138,50 +176,32 @@ impl<A: SymLeaf> Bench<A> {
         self.pool.constant(A::F::from_u64(c))
     }
 
-    fn add(&mut self, x: usize, y: usize) -> Result<ExprId<A>, RingError> {
+    // An operation on one expression.
+    fn on_one(&mut self, operation: OnOne, x: usize) -> Result<ExprId<A>, RingError> {
+        let x = self.at(x)?;
+        match operation {
+            OnOne::Neg => self.pool.neg(x),
+            OnOne::InsertNeg => self.pool.insert_neg(x),
+            OnOne::Double => self.pool.double(x),
+            OnOne::BoolCheck => self.pool.bool_check(x),
+            OnOne::Scaled(power) => self.pool.mul_2exp_u64(x, power),
+        }
+    }
+
+    // An operation on two expressions.
+    fn on_two(&mut self, operation: OnTwo, x: usize, y: usize) -> Result<ExprId<A>, RingError> {
         let x = self.at(x)?;
         let y = self.at(y)?;
-        self.pool.add(x, y)
-    }
-
-    fn sub(&mut self, x: usize, y: usize) -> Result<ExprId<A>, RingError> {
-        let x = self.at(x)?;
-        let y = self.at(y)?;
-        self.pool.sub(x, y)
-    }
-
-    fn neg(&mut self, x: usize) -> Result<ExprId<A>, RingError> {
-        let x = self.at(x)?;
-        self.pool.neg(x)
-    }
-
-    fn mul(&mut self, x: usize, y: usize) -> Result<ExprId<A>, RingError> {
-        let x = self.at(x)?;
-        let y = self.at(y)?;
-        self.pool.mul(x, y)
-    }
-
-    fn insert_add(&mut self, x: usize, y: usize) -> Result<ExprId<A>, RingError> {
-        let x = self.at(x)?;
-        let y = self.at(y)?;
-        self.pool.insert_add(x, y)
-    }
-
-    fn insert_sub(&mut self, x: usize, y: usize) -> Result<ExprId<A>, RingError> {
-        let x = self.at(x)?;
-        let y = self.at(y)?;
-        self.pool.insert_sub(x, y)
-    }
-
-    fn insert_neg(&mut self, x: usize) -> Result<ExprId<A>, RingError> {
-        let x = self.at(x)?;
-        self.pool.insert_neg(x)
-    }
-
-    fn insert_mul(&mut self, x: usize, y: usize) -> Result<ExprId<A>, RingError> {
-        let x = self.at(x)?;
-        let y = self.at(y)?;
-        self.pool.insert_mul(x, y)
+        match operation {
+            OnTwo::Add => self.pool.add(x, y),
+            OnTwo::Sub => self.pool.sub(x, y),
+            OnTwo::Mul => self.pool.mul(x, y),
+            OnTwo::InsertAdd => self.pool.insert_add(x, y),
+            OnTwo::InsertSub => self.pool.insert_sub(x, y),
+            OnTwo::InsertMul => self.pool.insert_mul(x, y),
+            OnTwo::Xor => self.pool.xor(x, y),
+            OnTwo::AndNot => self.pool.andn(x, y),
+        }
     }
 
     fn sum(&mut self, places: &[usize]) -> Result<ExprId<A>, RingError> {
@@ -204,40 +224,13 @@ impl<A: SymLeaf> Bench<A> {
         }
     }
 
-    fn double(&mut self, x: usize) -> Result<ExprId<A>, RingError> {
-        let x = self.at(x)?;
-        self.pool.double(x)
-    }
-
-    fn bool_check(&mut self, x: usize) -> Result<ExprId<A>, RingError> {
-        let x = self.at(x)?;
-        self.pool.bool_check(x)
-    }
-
-    fn xor(&mut self, x: usize, y: usize) -> Result<ExprId<A>, RingError> {
-        let x = self.at(x)?;
-        let y = self.at(y)?;
-        self.pool.xor(x, y)
-    }
-
-    fn and_not(&mut self, x: usize, y: usize) -> Result<ExprId<A>, RingError> {
-        let x = self.at(x)?;
-        let y = self.at(y)?;
-        self.pool.andn(x, y)
-    }
-
-    fn scaled(&mut self, x: usize, power: u64) -> Result<ExprId<A>, RingError> {
-        let x = self.at(x)?;
-        self.pool.mul_2exp_u64(x, power)
-    }
-
     fn in_ring(&mut self, step: RingStep) -> Result<ExprId<A>, RingError> {
         match step {
-            RingStep::Double(x) => self.double(x),
-            RingStep::BoolCheck(x) => self.bool_check(x),
-            RingStep::Xor(x, y) => self.xor(x, y),
-            RingStep::AndNot(x, y) => self.and_not(x, y),
-            RingStep::Scaled(x, power) => self.scaled(x, power),
+            RingStep::Double(x) => self.on_one(OnOne::Double, x),
+            RingStep::BoolCheck(x) => self.on_one(OnOne::BoolCheck, x),
+            RingStep::Xor(x, y) => self.on_two(OnTwo::Xor, x, y),
+            RingStep::AndNot(x, y) => self.on_two(OnTwo::AndNot, x, y),
+            RingStep::Scaled(x, power) => self.on_one(OnOne::Scaled(power), x),
         }
     }
 
@@ -284,14 +277,14 @@ impl<A: TableLeaf> Bench<A> {
             Step::Column(index) => A::column(self, index),
             Step::FirstRow => A::first_row(self),
             Step::Transition => A::transition(self),
-            Step::Add(x, y) => self.add(x, y),
-            Step::Sub(x, y) => self.sub(x, y),
-            Step::Neg(x) => self.neg(x),
-            Step::Mul(x, y) => self.mul(x, y),
-            Step::InsertAdd(x, y) => self.insert_add(x, y),
-            Step::InsertSub(x, y) => self.insert_sub(x, y),
-            Step::InsertNeg(x) => self.insert_neg(x),
-            Step::InsertMul(x, y) => self.insert_mul(x, y),
+            Step::Add(x, y) => self.on_two(OnTwo::Add, x, y),
+            Step::Sub(x, y) => self.on_two(OnTwo::Sub, x, y),
+            Step::Neg(x) => self.on_one(OnOne::Neg, x),
+            Step::Mul(x, y) => self.on_two(OnTwo::Mul, x, y),
+            Step::InsertAdd(x, y) => self.on_two(OnTwo::InsertAdd, x, y),
+            Step::InsertSub(x, y) => self.on_two(OnTwo::InsertSub, x, y),
+            Step::InsertNeg(x) => self.on_one(OnOne::InsertNeg, x),
+            Step::InsertMul(x, y) => self.on_two(OnTwo::InsertMul, x, y),
             Step::Sum(places) => self.sum(places),
             Step::Product(places) => self.product(places),
             Step::Ring(step) => self.in_ring(step),

@@ -20,7 +20,7 @@ fn assert_values(rt: &impl Abort, log: &ValueLog, wanted: &[u32]) {
 }
 
 pub fn assert_on_log(log: &mut ValueLog, row: Row<BabyBear>) -> Result<(), AirError> {
-    assert_row(log, row)
+    assert_row(log, &row)
 }
 
 fn assert_named_on_log(
@@ -29,7 +29,7 @@ fn assert_named_on_log(
     parts: [&'static str; 3],
 ) -> Result<(), AirError> {
     let [a, b, c] = parts;
-    assert_named_row(log, row, (a, b, c))
+    assert_named_row(log, &row, a, b, c)
 }
 
 fn assert_lazily_on_log(

@@ -12,7 +12,7 @@ use std::test::Fail;
 type Element = BinomialExtensionField;
 
 fn assert_on_log(log: &mut ValueLog, row: ExtRow<BabyBear, Element>) -> Result<(), AirError> {
-    assert_ext_row(log, row)
+    assert_ext_row(log, &row)
 }
 
 fn assert_named_on_log(
@@ -20,7 +20,7 @@ fn assert_named_on_log(
     row: NamedExtRow<BabyBear, Element>,
     name: &'static str,
 ) -> Result<(), AirError> {
-    assert_named_ext_row(log, row, name)
+    assert_named_ext_row(log, &row, name)
 }
 
 // The log has these values, in order.

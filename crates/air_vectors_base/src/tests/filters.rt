@@ -87,7 +87,7 @@ impl<E: Copy, X: Copy> Copy for NamedExtRow<E, X> {}
 fn assert_under<AB: AirBuilder>(
     builder: &mut AB,
     condition: AB::Expr,
-    assertion: Assertion<AB::Expr>,
+    assertion: &Assertion<AB::Expr>,
 ) -> Result<(), AirError>
     requires ready { AB.ready builder.old }
     requires all_in { (x : AB.Expr) → AB.Ring.has (AB.ring_of builder.old) x }
@@ -100,7 +100,7 @@ fn assert_under_both<AB: AirBuilder>(
     builder: &mut AB,
     outer: AB::Expr,
     inner: AB::Expr,
-    assertion: Assertion<AB::Expr>,
+    assertion: &Assertion<AB::Expr>,
 ) -> Result<(), AirError>
     requires ready { AB.ready builder.old }
     requires all_in { (x : AB.Expr) → AB.Ring.has (AB.ring_of builder.old) x }
@@ -155,67 +155,73 @@ fn assert_on_others<AB: AirBuilder>(builder: &mut AB, x: AB::Expr) -> Result<(),
 }
 
 /// Makes the assertion.
-pub fn assert_row<AB: AirBuilder>(builder: &mut AB, row: Row<AB::Expr>) -> Result<(), AirError>
+pub fn assert_row<AB: AirBuilder>(builder: &mut AB, row: &Row<AB::Expr>) -> Result<(), AirError>
     requires ready { AB.ready builder.old }
     requires all_in { (x : AB.Expr) → AB.Ring.has (AB.ring_of builder.old) x }
 {
     match row {
         Row::Always(assertion) => assert_this(builder, assertion),
-        Row::Under(condition, assertion) => assert_under(builder, condition, assertion),
+        Row::Under(condition, assertion) => assert_under(builder, *condition, assertion),
         Row::UnderBoth(outer, inner, assertion) => {
-            assert_under_both(builder, outer, inner, assertion)
+            assert_under_both(builder, *outer, *inner, assertion)
         }
-        Row::ZeroWhereDifferent(x, y, z) => assert_where_different(builder, x, y, z),
-        Row::ZeroInWindow(x) => assert_in_window(builder, x),
-        Row::ZeroOn(Rows::First, x) => assert_on_first(builder, x),
-        Row::ZeroOn(Rows::Last, x) => assert_on_last(builder, x),
-        Row::ZeroOn(Rows::Others, x) => assert_on_others(builder, x),
+        Row::ZeroWhereDifferent(x, y, z) => assert_where_different(builder, *x, *y, *z),
+        Row::ZeroInWindow(x) => assert_in_window(builder, *x),
+        Row::ZeroOn(Rows::First, x) => assert_on_first(builder, *x),
+        Row::ZeroOn(Rows::Last, x) => assert_on_last(builder, *x),
+        Row::ZeroOn(Rows::Others, x) => assert_on_others(builder, *x),
     }
 }
 
 fn assert_named_under<AB: NamedAirBuilder, M: NamespaceExt>(
     builder: &mut AB,
     condition: AB::Expr,
-    assertion: NamedAssertion<AB::Expr>,
-    parts: (M, M, M),
+    assertion: &NamedAssertion<AB::Expr>,
+    a: M,
+    b: M,
+    c: M,
 ) -> Result<(), AirError>
     requires ready { AB.ready builder.old }
     requires all_in { (x : AB.Expr) → AB.Ring.has (AB.ring_of builder.old) x }
     requires can_evaluate { (name : M) → M.can_evaluate name }
 {
     let mut filter = builder.when(condition)?;
-    assert_named(&mut filter, assertion, parts)
+    assert_named(&mut filter, assertion, a, b, c)
 }
 
 fn assert_named_under_both<AB: NamedAirBuilder, M: NamespaceExt>(
     builder: &mut AB,
     outer: AB::Expr,
     inner: AB::Expr,
-    assertion: NamedAssertion<AB::Expr>,
-    parts: (M, M, M),
+    assertion: &NamedAssertion<AB::Expr>,
+    a: M,
+    b: M,
+    c: M,
 ) -> Result<(), AirError>
     requires ready { AB.ready builder.old }
     requires all_in { (x : AB.Expr) → AB.Ring.has (AB.ring_of builder.old) x }
     requires can_evaluate { (name : M) → M.can_evaluate name }
 {
     let mut filter = builder.when(outer)?;
-    assert_named_under(&mut filter, inner, assertion, parts)
+    assert_named_under(&mut filter, inner, assertion, a, b, c)
 }
 
 /// Makes the assertion under the name of these parts.
 pub fn assert_named_row<AB: NamedAirBuilder, M: NamespaceExt>(
     builder: &mut AB,
-    row: NamedRow<AB::Expr>,
-    parts: (M, M, M),
+    row: &NamedRow<AB::Expr>,
+    a: M,
+    b: M,
+    c: M,
 ) -> Result<(), AirError>
     requires ready { AB.ready builder.old }
     requires all_in { (x : AB.Expr) → AB.Ring.has (AB.ring_of builder.old) x }
     requires can_evaluate { (name : M) → M.can_evaluate name }
 {
     match row {
-        NamedRow::Always(assertion) => assert_named(builder, assertion, parts),
+        NamedRow::Always(assertion) => assert_named(builder, assertion, a, b, c),
         NamedRow::UnderBoth(outer, inner, assertion) => {
-            assert_named_under_both(builder, outer, inner, assertion, parts)
+            assert_named_under_both(builder, *outer, *inner, assertion, a, b, c)
         }
     }
 }
@@ -223,7 +229,7 @@ pub fn assert_named_row<AB: NamedAirBuilder, M: NamespaceExt>(
 fn assert_ext_under<AB: ExtensionBuilder>(
     builder: &mut AB,
     condition: AB::Expr,
-    assertion: ExtAssertion<AB::ExprEF>,
+    assertion: &ExtAssertion<AB::ExprEF>,
 ) -> Result<(), AirError>
     requires ready { AB.ready builder.old }
     requires all_in { (x : AB.Expr) → AB.Ring.has (AB.ring_of builder.old) x }
@@ -237,7 +243,7 @@ fn assert_ext_under_both<AB: ExtensionBuilder>(
     builder: &mut AB,
     outer: AB::Expr,
     inner: AB::Expr,
-    assertion: ExtAssertion<AB::ExprEF>,
+    assertion: &ExtAssertion<AB::ExprEF>,
 ) -> Result<(), AirError>
     requires ready { AB.ready builder.old }
     requires all_in { (x : AB.Expr) → AB.Ring.has (AB.ring_of builder.old) x }
@@ -250,7 +256,7 @@ fn assert_ext_under_both<AB: ExtensionBuilder>(
 /// Makes the assertion.
 pub fn assert_ext_row<AB: ExtensionBuilder>(
     builder: &mut AB,
-    row: ExtRow<AB::Expr, AB::ExprEF>,
+    row: &ExtRow<AB::Expr, AB::ExprEF>,
 ) -> Result<(), AirError>
     requires ready { AB.ready builder.old }
     requires all_in { (x : AB.Expr) → AB.Ring.has (AB.ring_of builder.old) x }
@@ -258,9 +264,9 @@ pub fn assert_ext_row<AB: ExtensionBuilder>(
 {
     match row {
         ExtRow::Always(assertion) => assert_ext(builder, assertion),
-        ExtRow::Under(condition, assertion) => assert_ext_under(builder, condition, assertion),
+        ExtRow::Under(condition, assertion) => assert_ext_under(builder, *condition, assertion),
         ExtRow::UnderBoth(outer, inner, assertion) => {
-            assert_ext_under_both(builder, outer, inner, assertion)
+            assert_ext_under_both(builder, *outer, *inner, assertion)
         }
     }
 }
@@ -268,7 +274,7 @@ pub fn assert_ext_row<AB: ExtensionBuilder>(
 fn assert_ext_named_under<AB: NamedExtensionBuilder, N: Name>(
     builder: &mut AB,
     condition: AB::Expr,
-    assertion: ExtAssertion<AB::ExprEF>,
+    assertion: &ExtAssertion<AB::ExprEF>,
     name: N,
 ) -> Result<(), AirError>
     requires ready { AB.ready builder.old }
@@ -283,7 +289,7 @@ fn assert_ext_named_under<AB: NamedExtensionBuilder, N: Name>(
 /// Makes the assertion under a name.
 pub fn assert_named_ext_row<AB: NamedExtensionBuilder, N: Name>(
     builder: &mut AB,
-    row: NamedExtRow<AB::Expr, AB::ExprEF>,
+    row: &NamedExtRow<AB::Expr, AB::ExprEF>,
     name: N,
 ) -> Result<(), AirError>
     requires ready { AB.ready builder.old }
@@ -294,7 +300,7 @@ pub fn assert_named_ext_row<AB: NamedExtensionBuilder, N: Name>(
     match row {
         NamedExtRow::Always(assertion) => assert_ext_named(builder, assertion, name),
         NamedExtRow::Under(condition, assertion) => {
-            assert_ext_named_under(builder, condition, assertion, name)
+            assert_ext_named_under(builder, *condition, assertion, name)
         }
     }
 }
