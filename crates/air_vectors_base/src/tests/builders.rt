@@ -2,7 +2,7 @@
 ghost use Rattle.std.specs.Prelude.{◌≡◌, IfOk};
 
 use crate::tests::assertion::{Assertion, NamedAssertion, assert_lazily};
-use crate::tests::filters::{NamedRow, Row, Rows, assert_named_row, assert_row};
+use crate::tests::filters::{Place, Rows, ZeroRow, assert_named_row, assert_row, assert_zero_row};
 use crate::tests::numbers::number;
 use crate::tests::value_log::{Asserted, ValueLog, assert_failures};
 use air_builder::{AirBuilder, AirBuilderWithContext, AirError};
@@ -19,17 +19,26 @@ fn assert_values(rt: &impl Abort, log: &ValueLog, wanted: &[u32]) {
     }
 }
 
-pub fn assert_on_log(log: &mut ValueLog, row: Row<BabyBear>) -> Result<(), AirError> {
-    assert_row(log, &row)
+pub fn assert_on_log(
+    log: &mut ValueLog,
+    place: Place<BabyBear>,
+    assertion: Assertion<BabyBear>,
+) -> Result<(), AirError> {
+    assert_row(log, place, &assertion)
+}
+
+fn assert_zero_on_log(log: &mut ValueLog, row: ZeroRow<BabyBear>) -> Result<(), AirError> {
+    assert_zero_row(log, row)
 }
 
 fn assert_named_on_log(
     log: &mut ValueLog,
-    row: NamedRow<BabyBear>,
+    place: Place<BabyBear>,
+    assertion: NamedAssertion<BabyBear>,
     parts: [&'static str; 3],
 ) -> Result<(), AirError> {
     let [a, b, c] = parts;
-    assert_named_row(log, &row, a, b, c)
+    assert_named_row(log, place, &assertion, a, b, c)
 }
 
 fn assert_lazily_on_log(
@@ -52,7 +61,7 @@ fn each_assertion_is_its_term(rt: HostRuntime) -> Result<(), Fail> {
         Assertion::Bool(number(5)),
     ];
     for assertion in assertions {
-        assert_on_log(&mut log, Row::Always(assertion))?;
+        assert_on_log(&mut log, Place::Always, assertion)?;
     }
     assert_values(&rt, &log, &[5, 4, 5, 20]);
     Ok(())
@@ -67,7 +76,7 @@ fn arrays_are_asserted_in_order(rt: HostRuntime) -> Result<(), Fail> {
         Assertion::EqualArrays(pair(9, 8), pair(4, 8)),
     ];
     for assertion in assertions {
-        assert_on_log(&mut log, Row::Always(assertion))?;
+        assert_on_log(&mut log, Place::Always, assertion)?;
     }
     assert_values(&rt, &log, &[1, 2, 6, 0, 5, 0]);
     Ok(())
@@ -76,16 +85,20 @@ fn arrays_are_asserted_in_order(rt: HostRuntime) -> Result<(), Fail> {
 #[test]
 fn filters_multiply(rt: HostRuntime) -> Result<(), Fail> {
     let mut log = ValueLog::new(rt.alloc(), 0);
-    let five = Assertion::Zero(number(5));
     let rows = [
-        Row::Under(number(0), five),
-        Row::Always(Assertion::Zero(number(1))),
-        Row::UnderBoth(number(2), number(3), five),
-        Row::ZeroWhereDifferent(number(9), number(5), number(2)),
-        Row::ZeroInWindow(number(6)),
+        (Place::Under(number(0)), 5),
+        (Place::Always, 1),
+        (Place::UnderBoth(number(2), number(3)), 5),
+    ];
+    for (place, n) in rows {
+        assert_on_log(&mut log, place, Assertion::Zero(number(n)))?;
+    }
+    let rows = [
+        ZeroRow::WhereDifferent(number(9), number(5), number(2)),
+        ZeroRow::InWindow(number(6)),
     ];
     for row in rows {
-        assert_on_log(&mut log, row)?;
+        assert_zero_on_log(&mut log, row)?;
     }
     assert_values(&rt, &log, &[0, 1, 30, 8, 6]);
     assert_failures(&rt, &log, &[(1, None), (2, None), (3, None), (4, None)]);
@@ -97,7 +110,7 @@ fn filters_multiply(rt: HostRuntime) -> Result<(), Fail> {
 fn selectors_name_rows(rt: HostRuntime) -> Result<(), Fail> {
     let mut log = ValueLog::new(rt.alloc(), 0);
     for (rows, n) in [(Rows::First, 3), (Rows::Last, 4), (Rows::Others, 5)] {
-        assert_on_log(&mut log, Row::ZeroOn(rows, number(n)))?;
+        assert_zero_on_log(&mut log, ZeroRow::On(rows, number(n)))?;
     }
     assert_values(&rt, &log, &[3, 4, 5]);
     Ok(())
@@ -112,15 +125,15 @@ fn pair(x: u32, y: u32) -> [BabyBear; 2] {
 #[test]
 fn filters_multiply_each_element(rt: HostRuntime) -> Result<(), Fail> {
     let mut log = ValueLog::new(rt.alloc(), 0);
-    let [two, three, none] = [2, 3, 0].map(number);
     let rows = [
-        Row::UnderBoth(two, three, Assertion::Zeros(pair(5, 0))),
-        Row::UnderBoth(two, three, Assertion::Bools(pair(3, 1))),
-        Row::UnderBoth(two, three, Assertion::EqualArrays(pair(9, 8), pair(4, 8))),
-        Row::UnderBoth(two, none, Assertion::Zeros(pair(5, 7))),
+        (3, Assertion::Zeros(pair(5, 0))),
+        (3, Assertion::Bools(pair(3, 1))),
+        (3, Assertion::EqualArrays(pair(9, 8), pair(4, 8))),
+        (0, Assertion::Zeros(pair(5, 7))),
     ];
-    for row in rows {
-        assert_on_log(&mut log, row)?;
+    for (inner, assertion) in rows {
+        let place = Place::UnderBoth(number(2), number(inner));
+        assert_on_log(&mut log, place, assertion)?;
     }
     assert_values(&rt, &log, &[30, 0, 36, 0, 30, 0, 0, 0]);
     assert_failures(&rt, &log, &[(0, None), (2, None), (4, None)]);
@@ -130,7 +143,7 @@ fn filters_multiply_each_element(rt: HostRuntime) -> Result<(), Fail> {
 #[test]
 fn failures_keep_their_labels(rt: HostRuntime) -> Result<(), Fail> {
     let mut log = ValueLog::new(rt.alloc(), 0);
-    assert_on_log(&mut log, Row::Always(Assertion::Zero(number(3))))?;
+    assert_on_log(&mut log, Place::Always, Assertion::Zero(number(3)))?;
     let [one, two, three, five, seven] = [1, 2, 3, 5, 7].map(number);
     let rows = [
         (NamedAssertion::Zero(five), ["col_1_must_be_zero", "", ""]),
@@ -140,10 +153,11 @@ fn failures_keep_their_labels(rt: HostRuntime) -> Result<(), Fail> {
         (NamedAssertion::ZeroInSpace(one), ["", "", ""]),
     ];
     for (assertion, parts) in rows {
-        assert_named_on_log(&mut log, NamedRow::Always(assertion), parts)?;
+        assert_named_on_log(&mut log, Place::Always, assertion, parts)?;
     }
-    let both = NamedRow::UnderBoth(three, one, NamedAssertion::ZeroInSpaces(one));
-    assert_named_on_log(&mut log, both, ["outer", "mid", "leaf"])?;
+    let both = Place::UnderBoth(three, one);
+    let parts = ["outer", "mid", "leaf"];
+    assert_named_on_log(&mut log, both, NamedAssertion::ZeroInSpaces(one), parts)?;
     assert_values(&rt, &log, &[3, 5, 0, 0, 2, 1, 3]);
     let failures = [
         (0, None),
@@ -159,24 +173,28 @@ fn failures_keep_their_labels(rt: HostRuntime) -> Result<(), Fail> {
 #[test]
 fn elements_of_a_batch_are_labelled_by_place(rt: HostRuntime) -> Result<(), Fail> {
     let mut log = ValueLog::new(rt.alloc(), 0);
-    let [two, three] = pair(2, 3);
+    let both = Place::UnderBoth(number(2), number(3));
     let bits = [1, 0, 4].map(number);
-    let zeros = NamedAssertion::ZerosInSpace(pair(0, 5));
-    let bools = NamedAssertion::BoolsInSpace(pair(3, 2));
     let rows = [
+        (Place::Always, NamedAssertion::Zeros(pair(0, 1)), ["z", ""]),
         (
-            NamedRow::Always(NamedAssertion::Zeros(pair(0, 1))),
-            ["z", ""],
-        ),
-        (
-            NamedRow::Always(NamedAssertion::ThreeBoolsInSpace(bits)),
+            Place::Always,
+            NamedAssertion::ThreeBoolsInSpace(bits),
             ["a", "b"],
         ),
-        (NamedRow::UnderBoth(two, three, zeros), ["outer", "mid"]),
-        (NamedRow::UnderBoth(two, three, bools), ["outer", "mid"]),
+        (
+            both,
+            NamedAssertion::ZerosInSpace(pair(0, 5)),
+            ["outer", "mid"],
+        ),
+        (
+            both,
+            NamedAssertion::BoolsInSpace(pair(3, 2)),
+            ["outer", "mid"],
+        ),
     ];
-    for (row, [outer, inner]) in rows {
-        assert_named_on_log(&mut log, row, [outer, inner, ""])?;
+    for (place, assertion, [outer, inner]) in rows {
+        assert_named_on_log(&mut log, place, assertion, [outer, inner, ""])?;
     }
     assert_values(&rt, &log, &[0, 1, 0, 0, 12, 0, 30, 36, 12]);
     let failures = [

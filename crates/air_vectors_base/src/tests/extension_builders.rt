@@ -1,7 +1,7 @@
 //! Assertions over an extension, their filters and labels, on a builder that keeps values.
 use crate::tests::assertion::{Assertion, ExtAssertion};
 use crate::tests::builders;
-use crate::tests::filters::{ExtRow, NamedExtRow, Row, assert_ext_row, assert_named_ext_row};
+use crate::tests::filters::{ExtRow, NamedExtRow, Place, assert_ext_row, assert_named_ext_row};
 use crate::tests::numbers::{element, number};
 use crate::tests::value_log::{Asserted, ValueLog, assert_failures};
 use air_builder::AirError;
@@ -54,10 +54,10 @@ fn each_extension_assertion_is_its_term(rt: HostRuntime) -> Result<(), Fail> {
 #[test]
 fn kinds_keep_their_places(rt: HostRuntime) -> Result<(), Fail> {
     let mut log = ValueLog::new(rt.alloc(), 0);
-    builders::assert_on_log(&mut log, Row::Always(Assertion::Zero(number(7))))?;
+    builders::assert_on_log(&mut log, Place::Always, Assertion::Zero(number(7)))?;
     let seven = ExtAssertion::Zero(element([7, 0, 0, 0]));
     assert_on_log(&mut log, ExtRow::Always(seven))?;
-    builders::assert_on_log(&mut log, Row::Always(Assertion::One(number(1))))?;
+    builders::assert_on_log(&mut log, Place::Always, Assertion::One(number(1)))?;
     let wanted = [
         Asserted::Base(number(7)),
         Asserted::Extension(element([7, 0, 0, 0])),
@@ -88,13 +88,12 @@ fn filters_multiply_by_the_lifted_condition(rt: HostRuntime) -> Result<(), Fail>
 #[test]
 fn nested_filters_multiply_once_each(rt: HostRuntime) -> Result<(), Fail> {
     let mut log = ValueLog::new(rt.alloc(), 0);
-    let five = Assertion::Zero(number(5));
-    let rows = [
-        Row::Under(number(0), five),
-        Row::UnderBoth(number(2), number(3), five),
+    let places = [
+        Place::Under(number(0)),
+        Place::UnderBoth(number(2), number(3)),
     ];
-    for row in rows {
-        builders::assert_on_log(&mut log, row)?;
+    for place in places {
+        builders::assert_on_log(&mut log, place, Assertion::Zero(number(5)))?;
     }
     let x = ExtAssertion::Zero(element([0, 0, 1, 5]));
     assert_on_log(&mut log, ExtRow::UnderBoth(number(2), number(3), x))?;

@@ -18,44 +18,43 @@ pub enum Rows {
     Others,
 }
 
-/// An assertion where something holds.
-pub enum Row<E> {
-    Always(Assertion<E>),
+/// Where an assertion holds. It stands beside the assertion, not round it: whoever handed on a part of a generic enum
+/// would owe a proof that the part fits into memory.
+pub enum Place<E> {
+    Always,
     /// Where this is not zero.
-    Under(E, Assertion<E>),
+    Under(E),
     /// Where neither of these is zero.
-    UnderBoth(E, E, Assertion<E>),
+    UnderBoth(E, E),
+}
+
+impl<E: Copy> Clone for Place<E> {
+    fn clone(&self) -> Result<Self, AllocError> {
+        Ok(*self)
+    }
+}
+
+impl<E: Copy> Copy for Place<E> {}
+
+/// A value that is zero somewhere.
+pub enum ZeroRow<E> {
     /// The last is zero where the first two differ.
-    ZeroWhereDifferent(E, E, E),
+    WhereDifferent(E, E, E),
     /// It is zero in each window of two rows.
-    ZeroInWindow(E),
+    InWindow(E),
     /// It is zero on some rows.
-    ZeroOn(Rows, E),
+    On(Rows, E),
 }
 
-impl<E: Copy> Clone for Row<E> {
+impl<E: Copy> Clone for ZeroRow<E> {
     fn clone(&self) -> Result<Self, AllocError> {
         Ok(*self)
     }
 }
 
-impl<E: Copy> Copy for Row<E> {}
+impl<E: Copy> Copy for ZeroRow<E> {}
 
-/// The same under a name.
-pub enum NamedRow<E> {
-    Always(NamedAssertion<E>),
-    UnderBoth(E, E, NamedAssertion<E>),
-}
-
-impl<E: Copy> Clone for NamedRow<E> {
-    fn clone(&self) -> Result<Self, AllocError> {
-        Ok(*self)
-    }
-}
-
-impl<E: Copy> Copy for NamedRow<E> {}
-
-/// The same over an extension.
+/// An assertion over an extension where something holds.
 pub enum ExtRow<E, X> {
     Always(ExtAssertion<X>),
     Under(E, ExtAssertion<X>),
@@ -154,22 +153,36 @@ fn assert_on_others<AB: AirBuilder>(builder: &mut AB, x: AB::Expr) -> Result<(),
     filter.assert_zero(x)
 }
 
+/// Makes the assertion there.
+pub fn assert_row<AB: AirBuilder>(
+    builder: &mut AB,
+    place: Place<AB::Expr>,
+    assertion: &Assertion<AB::Expr>,
+) -> Result<(), AirError>
+    requires ready { AB.ready builder.old }
+    requires all_in { (x : AB.Expr) → AB.Ring.has (AB.ring_of builder.old) x }
+{
+    match place {
+        Place::Always => assert_this(builder, assertion),
+        Place::Under(condition) => assert_under(builder, condition, assertion),
+        Place::UnderBoth(outer, inner) => assert_under_both(builder, outer, inner, assertion),
+    }
+}
+
 /// Makes the assertion.
-pub fn assert_row<AB: AirBuilder>(builder: &mut AB, row: &Row<AB::Expr>) -> Result<(), AirError>
+pub fn assert_zero_row<AB: AirBuilder>(
+    builder: &mut AB,
+    row: ZeroRow<AB::Expr>,
+) -> Result<(), AirError>
     requires ready { AB.ready builder.old }
     requires all_in { (x : AB.Expr) → AB.Ring.has (AB.ring_of builder.old) x }
 {
     match row {
-        Row::Always(assertion) => assert_this(builder, assertion),
-        Row::Under(condition, assertion) => assert_under(builder, *condition, assertion),
-        Row::UnderBoth(outer, inner, assertion) => {
-            assert_under_both(builder, *outer, *inner, assertion)
-        }
-        Row::ZeroWhereDifferent(x, y, z) => assert_where_different(builder, *x, *y, *z),
-        Row::ZeroInWindow(x) => assert_in_window(builder, *x),
-        Row::ZeroOn(Rows::First, x) => assert_on_first(builder, *x),
-        Row::ZeroOn(Rows::Last, x) => assert_on_last(builder, *x),
-        Row::ZeroOn(Rows::Others, x) => assert_on_others(builder, *x),
+        ZeroRow::WhereDifferent(x, y, z) => assert_where_different(builder, x, y, z),
+        ZeroRow::InWindow(x) => assert_in_window(builder, x),
+        ZeroRow::On(Rows::First, x) => assert_on_first(builder, x),
+        ZeroRow::On(Rows::Last, x) => assert_on_last(builder, x),
+        ZeroRow::On(Rows::Others, x) => assert_on_others(builder, x),
     }
 }
 
@@ -206,10 +219,11 @@ fn assert_named_under_both<AB: NamedAirBuilder, M: NamespaceExt>(
     assert_named_under(&mut filter, inner, assertion, a, b, c)
 }
 
-/// Makes the assertion under the name of these parts.
+/// Makes the assertion there under the name of these parts.
 pub fn assert_named_row<AB: NamedAirBuilder, M: NamespaceExt>(
     builder: &mut AB,
-    row: &NamedRow<AB::Expr>,
+    place: Place<AB::Expr>,
+    assertion: &NamedAssertion<AB::Expr>,
     a: M,
     b: M,
     c: M,
@@ -218,10 +232,11 @@ pub fn assert_named_row<AB: NamedAirBuilder, M: NamespaceExt>(
     requires all_in { (x : AB.Expr) → AB.Ring.has (AB.ring_of builder.old) x }
     requires can_evaluate { (name : M) → M.can_evaluate name }
 {
-    match row {
-        NamedRow::Always(assertion) => assert_named(builder, assertion, a, b, c),
-        NamedRow::UnderBoth(outer, inner, assertion) => {
-            assert_named_under_both(builder, *outer, *inner, assertion, a, b, c)
+    match place {
+        Place::Always => assert_named(builder, assertion, a, b, c),
+        Place::Under(condition) => assert_named_under(builder, condition, assertion, a, b, c),
+        Place::UnderBoth(outer, inner) => {
+            assert_named_under_both(builder, outer, inner, assertion, a, b, c)
         }
     }
 }
