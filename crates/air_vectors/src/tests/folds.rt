@@ -86,7 +86,8 @@ fn folder_at<'a>(
     alpha: Element,
 ) -> Folder<'a>
     requires { length row.now ≡ length next.now }
-    ensures { result.accumulator ≡ ⟦<BinomialExtensionField as ExtensionField<BabyBear>>⟧.over.ring.nil }
+    ensures { result.accumulator
+        ≡ ⟦<BinomialExtensionField as ExtensionField<BabyBear>>⟧.over.ring.nil }
 {
     let none = RowMajorMatrixView::new_row(&[]);
     ConstraintFolder::new(
@@ -114,7 +115,8 @@ fn permuted_folder<'a>(
     values: &'a [Element],
     alpha: Element,
 ) -> Folder<'a>
-    ensures { result.accumulator ≡ ⟦<BinomialExtensionField as ExtensionField<BabyBear>>⟧.over.ring.nil }
+    ensures { result.accumulator
+        ≡ ⟦<BinomialExtensionField as ExtensionField<BabyBear>>⟧.over.ring.nil }
 {
     let none = RowMajorMatrixView::new_row(&[]);
     let row = RowMajorMatrixView::new_row(permutation);
@@ -140,7 +142,8 @@ fn fold<'a, A: BaseAir<BabyBear> + Air<SymbolicAirBuilder<BabyBear, Element>> + 
     layout: AirLayout,
     folder: &mut Folder<'a>,
 ) -> Result<Folded<BabyBear, Element>, AirError>
-    requires { folder.old.accumulator ≡ ⟦<BinomialExtensionField as ExtensionField<BabyBear>>⟧.over.ring.nil }
+    requires { folder.old.accumulator
+        ≡ ⟦<BinomialExtensionField as ExtensionField<BabyBear>>⟧.over.ring.nil }
 {
     fold_air(alloc, air, layout, folder)
 }
@@ -181,7 +184,8 @@ fn fold_fibonacci<'a>(
     alloc: Global,
     folder: &mut Folder<'a>,
 ) -> Result<Folded<BabyBear, Element>, AirError>
-    requires { folder.old.accumulator ≡ ⟦<BinomialExtensionField as ExtensionField<BabyBear>>⟧.over.ring.nil }
+    requires { folder.old.accumulator
+        ≡ ⟦<BinomialExtensionField as ExtensionField<BabyBear>>⟧.over.ring.nil }
 {
     let layout = AirLayout {
         main_width: 2,

@@ -190,7 +190,8 @@ fn ext_builder(
     alloc: Global,
     layout: AirLayout,
 ) -> Result<SymbolicAirBuilder<BabyBear, BinomialExtensionField>, AirError>
-    ensures ready { IfOk result ⟦<SymbolicAirBuilder<BabyBear, BinomialExtensionField> as AirBuilder>⟧.ready }
+    ensures ready { IfOk result
+        ⟦<SymbolicAirBuilder<BabyBear, BinomialExtensionField> as AirBuilder>⟧.ready }
 {
     SymbolicAirBuilder::new(alloc, layout)
 }

@@ -120,7 +120,8 @@ fn sum_builder(
     ),
     AirError,
 >
-    ensures ready { IfOk result (λ made. ⟦<SymbolicAirBuilder<BabyBear, BabyBear> as AirBuilder>⟧.ready made.0) }
+    ensures ready { IfOk result
+        (λ made. ⟦<SymbolicAirBuilder<BabyBear, BabyBear> as AirBuilder>⟧.ready made.0) }
     ensures of_ring { IfOk result (λ made. All
         (⟦<ExprPool<BaseLeaf<BabyBear>> as Algebra<BabyBear>>⟧.has
         (⟦<SymbolicAirBuilder<BabyBear, BabyBear> as AirBuilder>⟧.ring_of made.0)) made.1) }
