@@ -370,23 +370,22 @@ fn periodic_columns_leave_out_the_cached_degree(rt: HostRuntime) -> Result<(), F
 type RowBuilder<'a> = DebugConstraintBuilder<'a, BabyBear, BabyBear>;
 
 /// What stands at a row and at the next one, in two columns and in one preprocessed column, and a public value.
-#[derive(Drop)]
 struct TwoRowsOfValues {
-    top: Vec<BabyBear>,
-    bottom: Vec<BabyBear>,
-    before: Vec<BabyBear>,
-    after: Vec<BabyBear>,
-    public: Vec<BabyBear>,
+    top: [BabyBear; 2],
+    bottom: [BabyBear; 2],
+    before: [BabyBear; 1],
+    after: [BabyBear; 1],
+    public: [BabyBear; 1],
 }
 
-fn two_rows(alloc: Global) -> Result<TwoRowsOfValues, Fail> {
-    Ok(TwoRowsOfValues {
-        top: column(alloc, &[1, 2])?,
-        bottom: column(alloc, &[3, 4])?,
-        before: column(alloc, &[8])?,
-        after: column(alloc, &[9])?,
-        public: column(alloc, &[7])?,
-    })
+fn two_rows() -> TwoRowsOfValues {
+    TwoRowsOfValues {
+        top: [BabyBear::new(1), BabyBear::new(2)],
+        bottom: [BabyBear::new(3), BabyBear::new(4)],
+        before: [BabyBear::new(8)],
+        after: [BabyBear::new(9)],
+        public: [BabyBear::new(7)],
+    }
 }
 
 /// A builder at row 9, where these values stand, with this periodic column's.
@@ -431,7 +430,7 @@ fn assert_beside(rt: &impl Abort, builder: &RowBuilder<'_>) {
 
 #[test]
 fn a_row_lends_its_values(rt: HostRuntime) -> Result<(), Fail> {
-    let rows = two_rows(rt.alloc())?;
+    let rows = two_rows();
     let periodic = column(rt.alloc(), &[6])?;
     let builder = builder_at(rt.alloc(), &rows, periodic);
     assert_beside(&rt, &builder);
@@ -447,7 +446,7 @@ fn selectors(builder: &mut RowBuilder<'_>) -> Result<[BabyBear; 3], AirError> {
 
 #[test]
 fn a_row_has_its_selectors(rt: HostRuntime) -> Result<(), Fail> {
-    let rows = two_rows(rt.alloc())?;
+    let rows = two_rows();
     let mut builder = builder_at(rt.alloc(), &rows, Vec::new(rt.alloc()));
     let wanted = [BabyBear::ONE, BabyBear::ZERO, BabyBear::TWO];
     assert_eq!(rt; selectors(&mut builder)?, wanted);
@@ -464,7 +463,7 @@ fn assert_two(builder: &mut RowBuilder<'_>) -> Result<(bool, bool), AirError> {
 
 #[test]
 fn evaluates_one_row(rt: HostRuntime) -> Result<(), Fail> {
-    let rows = two_rows(rt.alloc())?;
+    let rows = two_rows();
     let mut builder = builder_at(rt.alloc(), &rows, Vec::new(rt.alloc()));
     assert_eq!(rt; assert_two(&mut builder)?, (false, true));
     assert_eq!(rt; builder.failures().len(), 1);
