@@ -370,6 +370,7 @@ fn periodic_columns_leave_out_the_cached_degree(rt: HostRuntime) -> Result<(), F
 type RowBuilder<'a> = DebugConstraintBuilder<'a, BabyBear, BabyBear>;
 
 /// What stands at a row and at the next one, in two columns and in one preprocessed column, and a public value.
+#[derive(Drop)]
 struct TwoRowsOfValues {
     top: [BabyBear; 2],
     bottom: [BabyBear; 2],
