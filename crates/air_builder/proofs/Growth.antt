@@ -1,11 +1,13 @@
 -- Growth after a ring was lent.
-use Rattle.std.proofs.Common.{◌≡◌, List, [], ◌∷◌, subst, sym, inl}
-use Rattle.air_field.specs.Part.{whole}
+use Rattle.std.proofs.Common.{◌≡◌, List, [], ◌∷◌, Result, Ok, Err, subst, sym}
 use Rattle.air_field.specs.Term.{Term, with_leaves}
 use Rattle.air_field.specs.declared.errors.RingError.{RingError}
 use Rattle.air_windows.specs.declared.errors.AirError.{AirError}
-use Rattle.air_builder.specs.Assertion.{Assertion, Base}
-use Rattle.air_builder.specs.Builders.{MeansIn, BuilderView, RingLaws, BuilderLaws, GrewOf, RefusesOf}
+use Rattle.air_builder.specs.Assertion.{Assertion}
+use Rattle.air_builder.specs.Batches.{AssertsOf, AssertsOfBoth, AssertedEach}
+use Rattle.air_builder.specs.Builders.{MeansIn, BuilderView, RingLaws, BuilderLaws}
+use Rattle.air_builder.specs.Refusals.{PartOf}
+use Rattle.air_builder.specs.laws.Batches.{asserted_one, grew_one, grew_none, refused_one}
 use Rattle.air_windows.specs.Errors.{air_error}
 use Rattle.air_builder.specs.laws.Filters.{means_lent}
 
@@ -46,25 +48,71 @@ module _ {S R E F : Type 0} {view : BuilderView S R E F} (ring : RingLaws view) 
       → means r x (with_leaves (stands a) t) → MeansIn view (with_ring a r) x t
   lent_means a q r x t p e m = means_lent ring laws a r x t (subst (λ s. extends s r) p e) m
 
-  -- The lent ring made z of x by an operation, and then z was asserted: growth by the operation of what x means.
-  pub lent_grew : (a b : S) (q r : R) (x z : E) (op : Term F → Term F) → q ≡ ring_of a → extends q r
-      → ((t : Term F) → means q x (with_leaves (stands a) t) → means r z (with_leaves (stands a) (op t)))
-      → GrewOf (MeansIn view) grew (λ t. t) (with_ring a r) b z → GrewOf (MeansIn view) grew op a b x
-  lent_grew a b q r x z op p e m g t k =
-      lent_then laws a b q r (Base (op t) ∷ []) p e
-      (g (op t) (lent_means a q r z (op t) p e (m t (means_in means x (with_leaves (stands a) t) p k))))
+  module _ (kind : Term F → Assertion F) {a : S} {q r : R} (p : q ≡ ring_of a) (e : extends q r) where
+    -- what an element asserts, the one that the lent ring made of it asserts as it is
+    pub made_of : (op : Term F → Term F) {x z : E}
+        → ((t : Term F) → means q x (with_leaves (stands a) t) → means r z (with_leaves (stands a) (op t)))
+        → (s : Assertion F) → AssertsOf kind (MeansIn view) op a x s
+        → AssertsOf kind (MeansIn view) (λ t. t) (with_ring a r) z s
+    made_of op {x} {z} m s h = (
+      op h.0,
+      lent_means a q r z (op h.0) p e (m h.0 (means_in means x (with_leaves (stands a) h.0) p h.1)),
+      h.2,
+    )
 
-  -- the same, where the assertion was refused
-  pub lent_refuses : (a : S) (q r : R) (x z : E) (f : AirError) (op : Term F → Term F) → q ≡ ring_of a → extends q r
-      → ((t : Term F) → means q x (with_leaves (stands a) t) → means r z (with_leaves (stands a) (op t)))
-      → RefusesOf (MeansIn view) refuses (λ t. t) (with_ring a r) z f → RefusesOf (MeansIn view) refuses op a x f
-  lent_refuses a q r x z f op p e m h t k =
-      lent_refused laws a q r f (Base (op t) ∷ []) p e
-      (h (op t) (lent_means a q r z (op t) p e (m t (means_in means x (with_leaves (stands a) t) p k))))
+    -- the same, of two
+    pub made_of_both : (op : Term F → Term F → Term F) {x y z : E}
+        → ((t u : Term F) → means q x (with_leaves (stands a) t) → means q y (with_leaves (stands a) u)
+        → means r z (with_leaves (stands a) (op t u)))
+        → (s : Assertion F) → AssertsOfBoth kind (MeansIn view) op a (x, y) s
+        → AssertsOf kind (MeansIn view) (λ t. t) (with_ring a r) z s
+    made_of_both op {x} {y} {z} m s h = (
+      op h.0 h.1,
+      lent_means a q r z (op h.0 h.1) p e
+          (m h.0 h.1 (means_in means x (with_leaves (stands a) h.0) p h.2) (means_in means y (with_leaves (stands a) h.1) p h.3)),
+      h.4,
+    )
 
-  -- the lent ring refused the operation
-  pub ring_refuses_of : (a : S) (q : R) (x : E) (f : RingError) (op : Term F → Term F) → q ≡ ring_of a
-      → ((t : Term F) → means q x (with_leaves (stands a) t) → ring_refuses f (with_leaves (stands a) (op t)))
-      → RefusesOf (MeansIn view) refuses op a x (air_error f)
-  ring_refuses_of a q x f op p h t k =
-      laws.refuses_in_ring a f (op t) (Base (op t) ∷ []) (h t (means_in means x (with_leaves (stands a) t) p k)) (inl whole)
+  module _ (kind : Term F → Assertion F) (inside : (t : Term F) → PartOf t (kind t ∷ [])) {a : S} {q : R}
+      (p : q ≡ ring_of a) where
+    -- the lent ring refused the operation
+    refuses_part : (f : RingError) (t : Term F) (s : Assertion F) → s ≡ kind t → ring_refuses f (with_leaves (stands a) t)
+        → refuses a (air_error f) (s ∷ [])
+    refuses_part f t s is h =
+        subst (λ v. refuses a (air_error f) (v ∷ [])) (sym is) (laws.refuses_in_ring a f t (kind t ∷ []) h (inside t))
+
+    pub refused_of : (op : Term F → Term F) (f : RingError) {x : E}
+        → ((t : Term F) → means q x (with_leaves (stands a) t) → ring_refuses f (with_leaves (stands a) (op t)))
+        → (s : Assertion F) → AssertsOf kind (MeansIn view) op a x s → refuses a (air_error f) (s ∷ [])
+    refused_of op f {x} m s h = refuses_part f (op h.0) s h.2 (m h.0 (means_in means x (with_leaves (stands a) h.0) p h.1))
+
+    pub refused_of_both : (op : Term F → Term F → Term F) (f : RingError) {x y : E}
+        → ((t u : Term F) → means q x (with_leaves (stands a) t) → means q y (with_leaves (stands a) u)
+        → ring_refuses f (with_leaves (stands a) (op t u)))
+        → (s : Assertion F) → AssertsOfBoth kind (MeansIn view) op a (x, y) s → refuses a (air_error f) (s ∷ [])
+    refused_of_both op f {x} {y} m s h =
+        refuses_part f (op h.0 h.1) s h.4
+        (m h.0 h.1 (means_in means x (with_leaves (stands a) h.0) p h.2) (means_in means y (with_leaves (stands a) h.1) p h.3))
+
+module _ {S R E F : Type 0} {view : BuilderView S R E F} (laws : BuilderLaws view) where
+  open view use {extends, ring_of, with_ring, kept, grew, refuses}
+
+  module _ {I : Type 0} {asserts : S → I → Assertion F → Type 0} {a : S} {q r : R} {x : I} (p : q ≡ ring_of a) (e : extends q r) where
+    -- The lent ring made z of x, which asserts what x does, and then z was asserted: so was x.
+    pub lent_asserted : {J : Type 0} {made : S → J → Assertion F → Type 0} {b : S} {z : J} (result : Result (Unit {0}) AirError)
+        → ((s : Assertion F) → asserts a x s → made (with_ring a r) z s)
+        → AssertedEach made kept grew refuses (with_ring a r) b (z ∷ []) result
+        → AssertedEach asserts kept grew refuses a b (x ∷ []) result
+    lent_asserted {b = b} (Ok u) m h =
+        asserted_one (Ok u) (lent_kept laws a b q r p e h.keeps)
+        (λ s k. lent_then laws a b q r (s ∷ []) p e (grew_one h s (m s k))) tt tt
+    lent_asserted {b = b} (Err f) m h =
+        asserted_one (Err f) (lent_kept laws a b q r p e h.keeps) tt (lent_then laws a b q r [] p e (grew_none h))
+        (λ s k. lent_refused laws a q r f (s ∷ []) p e (refused_one h s (m s k)))
+
+    -- the lent ring refused to make it
+    pub making_refused : (f : AirError) → ((s : Assertion F) → asserts a x s → refuses a f (s ∷ []))
+        → AssertedEach asserts kept grew refuses a (with_ring a r) (x ∷ []) (Err f)
+    making_refused f h =
+        let none = lent laws a q r p e in
+        asserted_one (Err f) (laws.by_growth a (with_ring a r) [] none) tt none h

@@ -1,15 +1,31 @@
 -- Growth under labels.
-use Rattle.std.proofs.Common.{◌≡◌, ◌<◌, ◌≤◌, ℕ, ◌+◌, List, [], ◌∷◌, ◌++◌, length, take, get_or, Option, refl, ap, subst, sym, ◌∙◌, arith, length-append, append-nil}
+use Rattle.std.proofs.Common.{◌≡◌, ◌<◌, ◌≤◌, ℕ, ◌+◌, List, [], ◌∷◌, ◌++◌, length, take, get_or, Option, Result, Ok, Err, refl, ap, subst, sym, ◌∙◌, arith, length-append, append-nil}
 use Rattle.std.proofs.lemmas.List.{take_more, take_all, length-take-le}
 use Rattle.std.specs.List.{AllZip, zip}
-use Rattle.air_field.specs.Term.{Term, with_leaves}
-use Rattle.air_builder.specs.Assertion.{Assertion, Base}
-use Rattle.air_builder.specs.Batches.{AssertsOf, GrewByEach, GrewByBeginning}
-use Rattle.air_builder.specs.Builders.{MeansIn, BuilderView, RingLaws, BuilderLaws, GrewOf, GrewOfBoth}
-use Rattle.air_builder.specs.Labels.{Label, Labelled, IsSaid, AreSaidFrom, without_labels, LabelledOf, LabelledOfBoth, LabelledByEach, LabelledByBeginning, NamedLaws}
-use Rattle.air_builder.proofs.Growth.{lent, lent_means, means_in}
+use Rattle.air_windows.specs.declared.errors.AirError.{AirError}
+use Rattle.air_builder.specs.Assertion.{Assertion}
+use Rattle.air_builder.specs.Batches.{AssertedEach}
+use Rattle.air_builder.specs.Builders.{BuilderView, BuilderLaws}
+use Rattle.air_builder.specs.Labels.{Label, Unasked, Shown, Labelled, IsSaid, AreSaidFrom, discarding, LabelledByEach, LabelledByBeginning, LabelledEach, NamedLaws}
+use Rattle.air_builder.specs.laws.Batches.{grew_one, grew_none}
+use Rattle.air_builder.specs.laws.Labels.{one_label, labelled_one, no_label}
+use Rattle.air_builder.proofs.Growth.{lent}
 use Rattle.std.proofs.lemmas.Slice.Zip.{AllZip-long}
 use Rattle.air_builder.specs.laws.Zips.{AllZip-parts, AllZip-nil}
+
+IsSaid-weaker : {says others : Option (List ℕ) → Type 0} → ((text : Option (List ℕ)) → others text → says text)
+    → (l : Label) → IsSaid others l → IsSaid says l
+IsSaid-weaker w Unasked h = tt
+IsSaid-weaker w (Shown text) h = w text h
+
+-- a builder that discards labels asks for none
+pub discarded : {S I F : Type 0} {asserts : S → I → Assertion F → Type 0} {kept : S → S → Type 0}
+    {grew : S → S → List (Assertion F) → Type 0} {refuses : S → AirError → List (Assertion F) → Type 0}
+    {says : Option (List ℕ) → Type 0} {a b : S} {x : I} (result : Result (Unit {0}) AirError)
+    → AssertedEach asserts kept grew refuses a b (x ∷ []) result
+    → LabelledEach asserts (discarding grew) (λ i. says) a b (x ∷ []) result
+discarded (Ok u) h = labelled_one (Ok u) (record { label = Unasked; said = tt; grown = λ s k. grew_one h s k }) tt
+discarded (Err e) h = labelled_one (Err e) tt (grew_none h)
 
 AreSaidFrom-more : (says : ℕ → Option (List ℕ) → Type 0) (i j : ℕ) (ls : List Label) (l : Label) → j ≡ i + length ls
     → AreSaidFrom says i ls → IsSaid (says j) l → AreSaidFrom says i (ls ++ (l ∷ []))
@@ -23,53 +39,17 @@ zip-more [] (w ∷ ys) x y e = absurd (omega arith)
 zip-more (v ∷ xs) [] x y e = absurd (omega arith)
 zip-more (v ∷ xs) (w ∷ ys) x y e = ap (λ zs. (v, w) ∷ zs) (zip-more xs ys x y (omega arith))
 
-without_labels-zip : {F : Type 0} (ss : List (Assertion F)) (ls : List Label) → length ls ≡ length ss → without_labels (zip ss ls) ≡ ss
-without_labels-zip [] ls e = refl
-without_labels-zip (s ∷ ss) [] e = absurd (omega arith)
-without_labels-zip (s ∷ ss) (l ∷ ls) e = ap (λ zs. s ∷ zs) (without_labels-zip ss ls (omega arith))
-
--- growth under labels is growth
-module _ {S F : Type 0} {grew : S → S → List (Assertion F) → Type 0} {labelled : S → S → List (Labelled F) → Type 0} (named : NamedLaws grew labelled) where
-  pub label_grew : {E : Type 0} {means : S → E → Term F → Type 0} {says : Option (List ℕ) → Type 0} {op : Term F
-      → Term F} {a b : S} {x : E}
-      → LabelledOf means labelled says op a b x → GrewOf means grew op a b x
-  label_grew {op = op} {a = a} {b = b} h t m = named.labelled_grew a b ((Base (op t), h.label) ∷ []) (h.grown t m)
-
-  pub label_grew_both : {E : Type 0} {means : S → E → Term F → Type 0} {says : Option (List ℕ)
-      → Type 0} {op : Term F → Term F → Term F} {a b : S} {x y : E}
-      → LabelledOfBoth means labelled says op a b x y → GrewOfBoth means grew op a b x y
-  label_grew_both {op = op} {a = a} {b = b} h t u m n = named.labelled_grew a b ((Base (op t u), h.label) ∷ []) (h.grown t u m n)
-
-  pub labels_grew : {I : Type 0} {asserts : S → I → Assertion F → Type 0} {says : ℕ → Option (List ℕ)
-      → Type 0} {a b : S} {xs : List I}
-      → LabelledByEach asserts labelled says a b xs → GrewByEach asserts grew a b xs
-  labels_grew {asserts = asserts} {a = a} {b = b} {xs = xs} h ss e =
-      subst (λ zs. grew a b zs) (without_labels-zip ss h.labels (h.as_many ∙ sym (AllZip-long (asserts a) xs ss e))) (named.labelled_grew a b (zip ss h.labels) (h.grown ss e))
-
-  -- the same where the loop is at its end
-  pub labels_grew_whole : {I : Type 0} {asserts : S → I → Assertion F → Type 0} {says : ℕ → Option (List ℕ)
-      → Type 0} {a b : S}
-      (xs : List I) (i : ℕ)
-      → length xs ≤ i → LabelledByEach asserts labelled says a b (take i xs) → GrewByEach asserts grew a b xs
-  labels_grew_whole {asserts = asserts} {a = a} {b = b} xs i end h =
-      subst (λ v. GrewByEach asserts grew a b v) (take_all i xs end) (labels_grew h)
-
-  pub beginning_grew : {I : Type 0} {asserts : S → I → Assertion F → Type 0} {says : ℕ → Option (List ℕ)
-      → Type 0} {a b : S} {xs : List I}
-      → LabelledByBeginning asserts labelled says a b xs → GrewByBeginning asserts grew a b xs
-  beginning_grew h = record { count = h.count; within = h.within; beginning = labels_grew h.beginning }
-
 module _ {S R E F : Type 0} {view : BuilderView S R E F} {labelled : S → S → List (Labelled F) → Type 0}
     (laws : BuilderLaws view) (named : NamedLaws view.grew labelled) where
   open view use {extends, ring_of, with_ring, kept, grew}
 
   -- the ring was lent, and then the builder grew
-  pub lent_labels : (a b : S) (q r : R) (ls : List (Labelled F)) → q ≡ ring_of a → extends q r → labelled (with_ring a r) b ls → labelled a b ls
+  lent_labels : (a b : S) (q r : R) (ls : List (Labelled F)) → q ≡ ring_of a → extends q r → labelled (with_ring a r) b ls → labelled a b ls
   lent_labels a b q r ls p e g = named.labelled_joined a (with_ring a r) b [] ls (named.labelled_nothing a (with_ring a r) (lent laws a q r p e)) g
 
   module _ {I : Type 0} (asserts : S → I → Assertion F → Type 0) (asserts_kept : (a b : S) → kept a b → (x : I) (s : Assertion F) → asserts a x s → asserts b x s) (says : ℕ → Option (List ℕ) → Type 0) where
     -- no element yet
-    pub no_label_yet : (a : S) → LabelledByEach asserts labelled says a a []
+    no_label_yet : (a : S) → LabelledByEach asserts labelled says a a []
     no_label_yet a = record {
       labels = [];
       as_many = refl;
@@ -78,7 +58,7 @@ module _ {S R E F : Type 0} {view : BuilderView S R E F} {labelled : S → S →
     }
 
     -- one element more
-    pub label_more : (a b c : S) (xs : List I) (i : ℕ) (x : I) (l : Label) → i < length xs → x ≡ get_or xs i x
+    label_more : (a b c : S) (xs : List I) (i : ℕ) (x : I) (l : Label) → i < length xs → x ≡ get_or xs i x
         → kept a b → LabelledByEach asserts labelled says a b (take i xs) → IsSaid (says i) l
         → ((s : Assertion F) → asserts b x s → labelled b c ((s, l) ∷ []))
         → LabelledByEach asserts labelled says a c (take (i + 1) xs)
@@ -100,8 +80,8 @@ module _ {S R E F : Type 0} {view : BuilderView S R E F} {labelled : S → S →
         }
 
     -- a refused element leaves the builder as it was, so some of the first elements stand
-    pub label_beginning : (a b c : S) (xs : List I) (i : ℕ) → i < length xs
-        → LabelledByEach asserts labelled says a b (take i xs) → grew b c []
+    label_beginning : (a b c : S) (xs : List I) (i : ℕ) → i < length xs
+        → LabelledByEach asserts labelled says a b (take i xs) → labelled b c []
         → LabelledByBeginning asserts labelled says a c xs
     label_beginning a b c xs i lt g none = record {
       count = i;
@@ -110,45 +90,53 @@ module _ {S R E F : Type 0} {view : BuilderView S R E F} {labelled : S → S →
         labels = g.labels;
         as_many = g.as_many;
         said = g.said;
-        grown = λ ss h. subst (λ zs. labelled a c zs) (append-nil (zip ss g.labels)) (named.labelled_joined a b c (zip ss g.labels) [] (g.grown ss h) (named.labelled_nothing b c none));
+        grown = λ ss h. subst (λ zs. labelled a c zs) (append-nil (zip ss g.labels)) (named.labelled_joined a b c (zip ss g.labels) [] (g.grown ss h) none);
       };
     }
 
-module _ {S R E F : Type 0} {view : BuilderView S R E F} {labelled : S → S → List (Labelled F) → Type 0}
-    (ring : RingLaws view) (laws : BuilderLaws view) (named : NamedLaws view.grew labelled) where
-  open view use {means, extends, ring_of, with_ring, stands}
+    -- a call that asserts each under labels, from no element on
+    pub labels_nothing : (a : S) → LabelledEach asserts labelled says a a [] (Ok tt)
+    labels_nothing a = record { ok = no_label_yet a; err = tt }
 
-  -- the lent ring made z of x by an operation, and then z was asserted under a label
-  pub lent_label : (a b : S) (q r : R) (x z : E) (says : Option (List ℕ) → Type 0) (op : Term F → Term F)
-      → q ≡ ring_of a → extends q r
-      → ((t : Term F) → means q x (with_leaves (stands a) t) → means r z (with_leaves (stands a) (op t)))
-      → LabelledOf (MeansIn view) labelled says (λ t. t) (with_ring a r) b z
-      → LabelledOf (MeansIn view) labelled says op a b x
-  lent_label a b q r x z says op p e m g = record {
-    label = g.label;
-    said = g.said;
-    grown = λ t k. lent_labels laws named a b q r ((Base (op t), g.label) ∷ []) p e
-        (g.grown (op t) (lent_means ring laws a q r z (op t) p e (m t (means_in means x (with_leaves (stands a) t) p k))));
-  }
+    module _ {a b c : S} (xs : List I) (i : ℕ) where
+      -- one element more
+      pub labelled_more : {u v : Unit {0}} {others : Option (List ℕ) → Type 0} (x : I) → i < length xs
+          → x ≡ get_or xs i x → kept a b → LabelledEach asserts labelled says a b (take i xs) (Ok u)
+          → ((text : Option (List ℕ)) → others text → says i text)
+          → LabelledEach asserts labelled (λ j. others) b c (x ∷ []) (Ok v)
+          → LabelledEach asserts labelled says a c (take (i + 1) xs) (Ok tt)
+      labelled_more x lt is k h w l =
+          let one = one_label l in
+          record { ok = label_more a b c xs i x one.label lt is k h.ok (IsSaid-weaker w one.label one.said) one.grown; err = tt }
 
-  -- the same, of x and y
-  pub lent_label_both : (a b : S) (q r : R) (x y z : E) (says : Option (List ℕ) → Type 0)
-      (op : Term F → Term F → Term F)
-      → q ≡ ring_of a → extends q r
-      → ((t u : Term F) → means q x (with_leaves (stands a) t) → means q y (with_leaves (stands a) u)
-      → means r z (with_leaves (stands a) (op t u)))
-      → LabelledOf (MeansIn view) labelled says (λ t. t) (with_ring a r) b z
-      → LabelledOfBoth (MeansIn view) labelled says op a b x y
-  lent_label_both a b q r x y z says op p e m g = record {
-    label = g.label;
-    said = g.said;
-    grown = λ t u k l. lent_labels laws named a b q r ((Base (op t u), g.label) ∷ []) p e
-        (g.grown (op t u) (lent_means ring laws a q r z (op t u) p e (m t u (means_in means x (with_leaves (stands a) t) p k) (means_in means y (with_leaves (stands a) u) p l))));
-  }
+      -- one element was refused
+      pub labelled_refused : {u : Unit {0}} {e : AirError} {x : I} {others : ℕ → Option (List ℕ) → Type 0}
+          → i < length xs → LabelledEach asserts labelled says a b (take i xs) (Ok u)
+          → LabelledEach asserts labelled others b c (x ∷ []) (Err e)
+          → LabelledEach asserts labelled says a c xs (Err e)
+      labelled_refused lt h k = record { ok = tt; err = label_beginning a b c xs i lt h.ok (no_label k) }
 
--- what one labelled assertion says of the one assertion that its element gives
-pub labelled_of_one : {S E F : Type 0} {means : S → E → Term F → Type 0} {labelled : S → S → List (Labelled F)
-    → Type 0} {says : Option (List ℕ) → Type 0} {op : Term F → Term F} {a b : S} {x : E}
-    (g : LabelledOf means labelled says op a b x) (s : Assertion F)
-    → AssertsOf means op a x s → labelled a b ((s, g.label) ∷ [])
-labelled_of_one {labelled = labelled} {a = a} {b = b} g s h = subst (λ v. labelled a b ((v, g.label) ∷ [])) (sym h.2) (g.grown h.0 h.1)
+    -- all elements
+    pub labelled_all : {a b : S} {u v : Unit {0}} (xs : List I) (i : ℕ) → length xs ≤ i
+        → LabelledEach asserts labelled says a b (take i xs) (Ok u) → LabelledEach asserts labelled says a b xs (Ok v)
+    labelled_all {a} {b} xs i end h = record {
+      ok = subst (λ v. LabelledByEach asserts labelled says a b v) (take_all i xs end) h.ok;
+      err = tt;
+    }
+
+  module _ {I : Type 0} {asserts : S → I → Assertion F → Type 0} {says : Option (List ℕ) → Type 0} {a : S} {q r : R} {x : I} (p : q ≡ ring_of a) (e : extends q r) where
+    -- The lent ring made z of x, which asserts what x does, and then z was asserted under a label: so was x.
+    pub lent_labelled : {J : Type 0} {made : S → J → Assertion F → Type 0} {b : S} {z : J} (result : Result (Unit {0}) AirError)
+        → ((s : Assertion F) → asserts a x s → made (with_ring a r) z s)
+        → LabelledEach made labelled (λ i. says) (with_ring a r) b (z ∷ []) result
+        → LabelledEach asserts labelled (λ i. says) a b (x ∷ []) result
+    lent_labelled {b = b} (Ok u) m h =
+        let one = one_label h in
+        labelled_one (Ok u)
+        (record { label = one.label; said = one.said; grown = λ s k. lent_labels a b q r ((s, one.label) ∷ []) p e (one.grown s (m s k)) })
+        tt
+    lent_labelled {b = b} (Err f) m h = labelled_one (Err f) tt (lent_labels a b q r [] p e (no_label h))
+
+    -- the lent ring refused to make it
+    pub making_unlabelled : (f : AirError) → LabelledEach asserts labelled (λ i. says) a (with_ring a r) (x ∷ []) (Err f)
+    making_unlabelled f = labelled_one (Err f) tt (named.labelled_nothing a (with_ring a r) (lent laws a q r p e))

@@ -1,4 +1,4 @@
 pub mod Growth
 pub mod ExtensionGrowth
 pub mod LabelGrowth
-pub mod ExtensionLabelGrowth
+pub mod FilterGrowth

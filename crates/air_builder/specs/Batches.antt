@@ -1,16 +1,16 @@
--- Growth by a list of elements, one after another.
+-- What a call that asserts does: growth by what each of its elements asserts, in order, or a refusal.
 use Rattle.std.specs.List.{AllZip}
-use Rattle.std.specs.Prelude.{◌≡◌, ℕ, ◌<◌, List, [], ◌∷◌, length, take}
+use Rattle.std.specs.Prelude.{◌≡◌, ℕ, ◌<◌, List, length, take, Result, OnOk, OnErr, IfErr}
 use Rattle.air_field.specs.Term.{Term}
-use Rattle.air_builder.specs.Assertion.{Assertion, Base}
+use Rattle.air_builder.specs.Assertion.{Assertion}
 
--- the assertion is that of the operation of a term that x means
-abbrev pub AssertsOf : {S E F : Type 0} → (S → E → Term F → Type 0) → (Term F → Term F) → S → E → Assertion F → Type 0
-AssertsOf {F = F} means op a x s = (t : Term F) × means a x t × (s ≡ Base (op t))
+-- the assertion, of a kind, is that of the operation of a term that x means
+abbrev pub AssertsOf : {S E F : Type 0} → (Term F → Assertion F) → (S → E → Term F → Type 0) → (Term F → Term F) → S → E → Assertion F → Type 0
+AssertsOf {F = F} kind means op a x s = (t : Term F) × means a x t × (s ≡ kind (op t))
 
 -- the same, of terms that both elements of a pair mean
-abbrev pub AssertsOfBoth : {S E F : Type 0} → (S → E → Term F → Type 0) → (Term F → Term F → Term F) → S → E × E → Assertion F → Type 0
-AssertsOfBoth {F = F} means op a p s = (t : Term F) × (u : Term F) × means a p.0 t × means a p.1 u × (s ≡ Base (op t u))
+abbrev pub AssertsOfBoth : {S E F : Type 0} → (Term F → Assertion F) → (S → E → Term F → Type 0) → (Term F → Term F → Term F) → S → E × E → Assertion F → Type 0
+AssertsOfBoth {F = F} kind means op a p s = (t : Term F) × (u : Term F) × means a p.0 t × means a p.1 u × (s ≡ kind (op t u))
 
 -- the builder grew by what each element asserts, in order
 abbrev pub GrewByEach : {S I F : Type 0} → (S → I → Assertion F → Type 0) → (S → S → List (Assertion F) → Type 0) → S → S → List I → Type 0
@@ -31,3 +31,13 @@ pub record GrewByFirst {S F : Type 0} (grew : S → S → List (Assertion F) →
 -- growing by what each element asserts may be refused with e
 abbrev pub RefusesByEach : {S I F X : Type 0} → (S → I → Assertion F → Type 0) → (S → X → List (Assertion F) → Type 0) → S → List I → X → Type 0
 RefusesByEach {F = F} asserts refuses a xs e = (ss : List (Assertion F)) → AllZip (asserts a) xs ss → refuses a e ss
+
+-- What a call that asserts each of xs does to a builder: it keeps it, and grew it by all of them; or it grew it by some,
+-- the first ones and not all, and refuses as growing by all may be refused.
+pub record AssertedEach {S I F X : Type 0} (asserts : S → I → Assertion F → Type 0) (kept : S → S → Type 0)
+    (grew : S → S → List (Assertion F) → Type 0) (refuses : S → X → List (Assertion F) → Type 0)
+    (a b : S) (xs : List I) (result : Result (Unit {0}) X) : Type 0 where
+  pub keeps : kept a b
+  pub ok : OnOk result (GrewByEach asserts grew a b xs)
+  pub err : OnErr result (GrewByBeginning asserts grew a b xs)
+  pub refused : IfErr result (RefusesByEach asserts refuses a xs)

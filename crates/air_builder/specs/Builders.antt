@@ -1,12 +1,12 @@
 -- What a builder keeps.
-use Rattle.std.specs.Prelude.{◌≡◌, ℕ, List, [], ◌∷◌, ◌++◌, Some, slice_get}
+use Rattle.std.specs.Prelude.{◌≡◌, ℕ, List, [], ◌++◌, Some, slice_get}
 use Rattle.air_field.specs.Algebra.{AlgebraLaws}
 use Rattle.air_field.specs.Term.{Leaf, first_row, last_row, transition, Term, leaf_term, const_term, sub_term, with_leaves}
 use Rattle.air_field.specs.declared.errors.RingError.{RingError}
 use Rattle.air_windows.specs.declared.errors.AirError.{AirError}
 use Rattle.air_windows.specs.Errors.{air_error}
 use Rattle.air_builder.specs.Refusals.{IsPastWindow, NamesLeaf, PartOf}
-use Rattle.air_builder.specs.Assertion.{Assertion, Base}
+use Rattle.air_builder.specs.Assertion.{Assertion}
 
 -- an element means a term in a builder: it does in the builder's ring, with what stands at the leaves
 abbrev pub Means : {S R E F : Type 0} → (R → E → Term F → Type 0) → (S → R) → (S → Leaf → Term F) → S → E → Term F → Type 0
@@ -27,22 +27,6 @@ less_one_term one t = sub_term t (const_term one)
 -- z means in the new builder the operation of what x and y meant
 abbrev pub MeansOfBoth : {S E F : Type 0} → (S → E → Term F → Type 0) → (Term F → Term F → Term F) → S → S → E → E → E → Type 0
 MeansOfBoth {F = F} means op a b x y z = (t u : Term F) → means a x t → means a y u → means b z (op t u)
-
--- the builder grew by the one term that the operation makes of what x means
-abbrev pub GrewOf : {S E F : Type 0} → (S → E → Term F → Type 0) → (S → S → List (Assertion F) → Type 0) → (Term F → Term F) → S → S → E → Type 0
-GrewOf {F = F} means grew op a b x = (t : Term F) → means a x t → grew a b (Base (op t) ∷ [])
-
--- the same, of what x and y mean
-abbrev pub GrewOfBoth : {S E F : Type 0} → (S → E → Term F → Type 0) → (S → S → List (Assertion F) → Type 0) → (Term F → Term F → Term F) → S → S → E → E → Type 0
-GrewOfBoth {F = F} means grew op a b x y = (t u : Term F) → means a x t → means a y u → grew a b (Base (op t u) ∷ [])
-
--- growing by the one term that the operation makes of what x means may be refused with e
-abbrev pub RefusesOf : {S E F X : Type 0} → (S → E → Term F → Type 0) → (S → X → List (Assertion F) → Type 0) → (Term F → Term F) → S → E → X → Type 0
-RefusesOf {F = F} means refuses op a x e = (t : Term F) → means a x t → refuses a e (Base (op t) ∷ [])
-
--- the same, of what x and y mean
-abbrev pub RefusesOfBoth : {S E F X : Type 0} → (S → E → Term F → Type 0) → (S → X → List (Assertion F) → Type 0) → (Term F → Term F → Term F) → S → E → E → X → Type 0
-RefusesOfBoth {F = F} means refuses op a x y e = (t u : Term F) → means a x t → means a y u → refuses a e (Base (op t u) ∷ [])
 
 -- A builder as its laws see it: the ghost members of its ring, whose refusals are `ring_refuses`, and its own.
 pub record BuilderView (S R E F : Type 0) : Type 1 where

@@ -1,33 +1,13 @@
--- Assertions of extension terms, and what a builder keeps of its ring over the extension.
-use Rattle.std.specs.Prelude.{◌≡◌, ◌⊎◌, ℕ, List, [], ◌∷◌}
+-- What a builder keeps of its ring over the extension.
+use Rattle.std.specs.Prelude.{◌≡◌, ◌⊎◌, ℕ, List, []}
 use Rattle.air_field.specs.Term.{Leaf, Term, permutation, with_leaves}
 use Rattle.air_field.specs.declared.errors.RingError.{RingError}
 use Rattle.air_windows.specs.declared.errors.AirError.{AirError}
 use Rattle.air_windows.specs.declared.errors.AirError.TheVariants.{NoPermutation}
-use Rattle.air_builder.specs.Assertion.{Assertion, Extension}
+use Rattle.air_builder.specs.Assertion.{Assertion}
 use Rattle.air_builder.specs.Builders.{BuilderView}
 use Rattle.air_windows.specs.Errors.{air_error}
 use Rattle.air_builder.specs.Refusals.{PartOf}
-
--- the builder grew by the one extension term that the operation makes of what x means
-abbrev pub GrewExtOf : {S E F : Type 0} → (S → E → Term F → Type 0) → (S → S → List (Assertion F) → Type 0) → (Term F → Term F) → S → S → E → Type 0
-GrewExtOf {F = F} means grew op a b x = (t : Term F) → means a x t → grew a b (Extension (op t) ∷ [])
-
--- the same, of what x and y mean
-abbrev pub GrewExtOfBoth : {S E F : Type 0} → (S → E → Term F → Type 0) → (S → S → List (Assertion F) → Type 0) → (Term F → Term F → Term F) → S → S → E → E → Type 0
-GrewExtOfBoth {F = F} means grew op a b x y = (t u : Term F) → means a x t → means a y u → grew a b (Extension (op t u) ∷ [])
-
--- growing by the one extension term that the operation makes of what x means may be refused with e
-abbrev pub RefusesExtOf : {S E F X : Type 0} → (S → E → Term F → Type 0) → (S → X → List (Assertion F) → Type 0) → (Term F → Term F) → S → E → X → Type 0
-RefusesExtOf {F = F} means refuses op a x e = (t : Term F) → means a x t → refuses a e (Extension (op t) ∷ [])
-
--- the same, of what x and y mean
-abbrev pub RefusesExtOfBoth : {S E F X : Type 0} → (S → E → Term F → Type 0) → (S → X → List (Assertion F) → Type 0) → (Term F → Term F → Term F) → S → E → E → X → Type 0
-RefusesExtOfBoth {F = F} means refuses op a x y e = (t u : Term F) → means a x t → means a y u → refuses a e (Extension (op t u) ∷ [])
-
--- the assertion is that of the operation of an extension term that x means
-abbrev pub AssertsExtOf : {S E F : Type 0} → (S → E → Term F → Type 0) → (Term F → Term F) → S → E → Assertion F → Type 0
-AssertsExtOf {F = F} means op a x s = (t : Term F) × means a x t × (s ≡ Extension (op t))
 
 -- why there is no window of the permutation trace: the builder may refuse before any assertion, or it has no permutation
 -- column

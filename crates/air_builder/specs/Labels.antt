@@ -1,8 +1,8 @@
 -- Growth by assertions that have labels.
-use Rattle.std.specs.Prelude.{◌≡◌, ℕ, ◌+◌, ◌<◌, List, [], ◌∷◌, ◌++◌, length, take, map, Option}
+use Rattle.std.specs.Prelude.{◌≡◌, ℕ, ◌+◌, ◌<◌, List, [], ◌∷◌, ◌++◌, length, take, map, Option, Result, OnOk, OnErr}
 use Rattle.std.specs.List.{AllZip, zip}
-use Rattle.air_field.specs.Term.{Term}
-use Rattle.air_builder.specs.Assertion.{Assertion, Base}
+use Rattle.air_windows.specs.declared.errors.AirError.{AirError}
+use Rattle.air_builder.specs.Assertion.{Assertion}
 
 -- what became of an assertion's name: nothing asked for it, or it was evaluated and displays this text
 pub data Label : Type 0 where
@@ -31,22 +31,6 @@ without_labels ls = map (λ l. l.0) ls
 abbrev pub discarding : {S F : Type 0} → (S → S → List (Assertion F) → Type 0) → S → S → List (Labelled F) → Type 0
 discarding grew a b ls = grew a b (without_labels ls)
 
--- the builder grew by the one term that the operation makes of what x means, under a label that the name may display
-pub record LabelledOf {S E F : Type 0} (means : S → E → Term F → Type 0)
-    (labelled : S → S → List (Labelled F) → Type 0) (says : Option (List ℕ) → Type 0) (op : Term F → Term F)
-    (a b : S) (x : E) : Type 0 where
-  pub label : Label
-  pub said : IsSaid says label
-  pub grown : (t : Term F) → means a x t → labelled a b ((Base (op t), label) ∷ [])
-
--- the same, of what x and y mean
-pub record LabelledOfBoth {S E F : Type 0} (means : S → E → Term F → Type 0)
-    (labelled : S → S → List (Labelled F) → Type 0) (says : Option (List ℕ) → Type 0)
-    (op : Term F → Term F → Term F) (a b : S) (x y : E) : Type 0 where
-  pub label : Label
-  pub said : IsSaid says label
-  pub grown : (t u : Term F) → means a x t → means a y u → labelled a b ((Base (op t u), label) ∷ [])
-
 -- the builder grew by what each element asserts, in order, the i-th under a label that the name at i may display
 pub record LabelledByEach {S I F : Type 0} (asserts : S → I → Assertion F → Type 0)
     (labelled : S → S → List (Labelled F) → Type 0) (says : ℕ → Option (List ℕ) → Type 0) (a b : S)
@@ -63,6 +47,14 @@ pub record LabelledByBeginning {S I F : Type 0} (asserts : S → I → Assertion
   pub count : ℕ
   pub within : count < length xs
   pub beginning : LabelledByEach asserts labelled says a b (take count xs)
+
+-- what a call that asserts each of xs under labels does to them: all of xs have theirs, or, where it refuses, the first
+-- ones that the builder grew by
+pub record LabelledEach {S I F : Type 0} (asserts : S → I → Assertion F → Type 0)
+    (labelled : S → S → List (Labelled F) → Type 0) (says : ℕ → Option (List ℕ) → Type 0) (a b : S)
+    (xs : List I) (result : Result (Unit {0}) AirError) : Type 0 where
+  pub ok : OnOk result (LabelledByEach asserts labelled says a b xs)
+  pub err : OnErr result (LabelledByBeginning asserts labelled says a b xs)
 
 -- What every named builder keeps. Growth under labels is growth; growth by nothing leaves the labels.
 pub record NamedLaws {S F : Type 0} (grew : S → S → List (Assertion F) → Type 0) (labelled : S → S → List (Labelled F) → Type 0) : Type 0 where

@@ -19,5 +19,4 @@ pub mod Labels
 pub mod NamedFilters
 pub mod Extensions
 pub mod ExtensionFilters
-pub mod ExtensionLabels
 pub mod laws

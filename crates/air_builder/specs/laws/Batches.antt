@@ -1,18 +1,68 @@
--- Growth by one more element of a list.
-use Rattle.std.proofs.Common.{◌≡◌, ◌<◌, ℕ, ◌+◌, List, [], ◌∷◌, ◌++◌, length, take, drop, get_or, ap, subst, sym, ◌∙◌, ap₂, append-nil}
-use Rattle.std.proofs.lemmas.List.{take_more, drop_more, take-append-drop}
+-- What follows of a call that asserts each of several elements.
+use Rattle.std.proofs.Common.{◌≡◌, ◌<◌, ◌≤◌, ℕ, zero, suc, ◌+◌, List, [], ◌∷◌, ◌++◌, length, take, drop, get_or, Result, Ok, Err, OnOk, OnErr, IfErr, ap, subst, sym, ◌∙◌, ap₂, append-nil, arith}
+use Rattle.std.proofs.lemmas.List.{take_more, take_all, drop_more, take-append-drop}
 use Rattle.std.proofs.lemmas.Slice.Zip.{get_or-zip}
 use Rattle.std.specs.List.{AllZip, zip}
 use Rattle.air_field.specs.Term.{Term}
 use Rattle.air_windows.specs.declared.errors.AirError.{AirError}
 use Rattle.air_builder.specs.Assertion.{Assertion}
-use Rattle.air_builder.specs.Batches.{AssertsOf, AssertsOfBoth, GrewByEach, GrewByBeginning, RefusesByEach}
-use Rattle.air_builder.specs.Builders.{MeansIn, BuilderView, RingLaws, BuilderLaws, GrewOf, GrewOfBoth, RefusesOf, RefusesOfBoth}
+use Rattle.air_builder.specs.Batches.{AssertsOf, AssertsOfBoth, GrewByEach, GrewByBeginning, RefusesByEach, AssertedEach}
+use Rattle.air_builder.specs.Builders.{MeansIn, BuilderView, RingLaws, BuilderLaws}
 use Rattle.air_builder.specs.laws.Filters.{means_kept}
 use Rattle.air_builder.specs.laws.Zips.{AllZip-parts, AllZip-nil}
 
+-- what is said of one element, of the list of it alone
+module _ {S I F : Type 0} (asserts : S → I → Assertion F → Type 0) (a b : S) (x : I) where
+  module _ (grew : S → S → List (Assertion F) → Type 0) where
+    one_grew : ((s : Assertion F) → asserts a x s → grew a b (s ∷ [])) → GrewByEach asserts grew a b (x ∷ [])
+    one_grew g [] h = absurd h
+    one_grew g (s ∷ []) h = g s h.0
+    one_grew g (s ∷ t ∷ ss) h = absurd h.1
+
+    -- a beginning of it that isn't the whole is nothing
+    first_of_one : (n : ℕ) → n < 1 → GrewByEach asserts grew a b (take n (x ∷ [])) → grew a b []
+    first_of_one zero lt g = g [] tt
+    first_of_one (suc n) lt g = absurd (omega (arith, lt))
+
+  one_refused : {X : Type 0} (refuses : S → X → List (Assertion F) → Type 0) (e : X)
+      → ((s : Assertion F) → asserts a x s → refuses a e (s ∷ [])) → RefusesByEach asserts refuses a (x ∷ []) e
+  one_refused refuses e r [] h = absurd h
+  one_refused refuses e r (s ∷ []) h = r s h.0
+  one_refused refuses e r (s ∷ t ∷ ss) h = absurd h.1
+
+module _ {S I F X : Type 0} {asserts : S → I → Assertion F → Type 0} {kept : S → S → Type 0}
+    {grew : S → S → List (Assertion F) → Type 0} {refuses : S → X → List (Assertion F) → Type 0} {a b : S} {x : I} where
+  -- one element was asserted, or refused
+  pub asserted_one : (result : Result (Unit {0}) X) → kept a b
+      → OnOk result ((s : Assertion F) → asserts a x s → grew a b (s ∷ [])) → OnErr result (grew a b [])
+      → IfErr result (λ e. (s : Assertion F) → asserts a x s → refuses a e (s ∷ []))
+      → AssertedEach asserts kept grew refuses a b (x ∷ []) result
+  asserted_one (Ok u) k g n r = record { keeps = k; ok = one_grew asserts a b x grew g; err = tt; refused = tt }
+  asserted_one (Err e) k g n r = record {
+    keeps = k;
+    ok = tt;
+    err = record {
+      count = 0;
+      within = omega arith;
+      beginning = λ ss h. subst (λ v. grew a b v) (sym (AllZip-nil (asserts a) ss h)) n;
+    };
+    refused = one_refused asserts a b x refuses e r;
+  }
+
+  -- and what that says
+  pub grew_one : {u : Unit {0}} → AssertedEach asserts kept grew refuses a b (x ∷ []) (Ok u)
+      → (s : Assertion F) → asserts a x s → grew a b (s ∷ [])
+  grew_one h s k = h.ok (s ∷ []) (k, tt)
+
+  pub grew_none : {e : X} → AssertedEach asserts kept grew refuses a b (x ∷ []) (Err e) → grew a b []
+  grew_none h = first_of_one asserts a b x grew h.err.count h.err.within h.err.beginning
+
+  pub refused_one : {e : X} → AssertedEach asserts kept grew refuses a b (x ∷ []) (Err e)
+      → (s : Assertion F) → asserts a x s → refuses a e (s ∷ [])
+  refused_one h s k = h.refused (s ∷ []) (k, tt)
+
 -- the first elements, one more, and the others
-pub in_parts : {X : Type 0} (xs : List X) (i : ℕ) (d : X) → i < length xs → xs ≡ take i xs ++ (get_or xs i d ∷ drop (i + 1) xs)
+in_parts : {X : Type 0} (xs : List X) (i : ℕ) (d : X) → i < length xs → xs ≡ take i xs ++ (get_or xs i d ∷ drop (i + 1) xs)
 in_parts xs i d lt = sym (take-append-drop i xs) ∙ ap (λ v. take i xs ++ v) (drop_more xs i d lt)
 
 module _ {S R E F : Type 0} {view : BuilderView S R E F} (laws : BuilderLaws view) {I : Type 0} (asserts : S → I → Assertion F → Type 0)
@@ -20,12 +70,12 @@ module _ {S R E F : Type 0} {view : BuilderView S R E F} (laws : BuilderLaws vie
   open view use {kept, grew, refuses}
 
   -- no element yet
-  pub none_yet : (a : S) → GrewByEach asserts grew a a []
+  none_yet : (a : S) → GrewByEach asserts grew a a []
   none_yet a [] h = laws.same a
   none_yet a (s ∷ ss) h = absurd h
 
   -- one element more
-  pub each_more : (a b c : S) (xs : List I) (i : ℕ) (x : I) → i < length xs → x ≡ get_or xs i x → kept a b
+  each_more : (a b c : S) (xs : List I) (i : ℕ) (x : I) → i < length xs → x ≡ get_or xs i x → kept a b
       → GrewByEach asserts grew a b (take i xs) → ((s : Assertion F) → asserts b x s → grew b c (s ∷ []))
       → GrewByEach asserts grew a c (take (i + 1) xs)
   each_more a b c xs i x lt is k g one ss h =
@@ -36,11 +86,11 @@ module _ {S R E F : Type 0} {view : BuilderView S R E F} (laws : BuilderLaws vie
       (laws.joined a b c parts.0 (parts.1 ∷ []) (g parts.0 parts.4) (one parts.1 (asserts_kept a b k x parts.1 parts.5)))
 
   -- a refused element leaves the builder as it was
-  pub each_then : (a b c : S) (xs : List I) → GrewByEach asserts grew a b xs → grew b c [] → GrewByEach asserts grew a c xs
+  each_then : (a b c : S) (xs : List I) → GrewByEach asserts grew a b xs → grew b c [] → GrewByEach asserts grew a c xs
   each_then a b c xs g none ss h = subst (λ v. grew a c v) (append-nil ss) (laws.joined a b c ss [] (g ss h) none)
 
   -- so some of the first elements stand
-  pub beginning : (a b c : S) (xs : List I) (i : ℕ) → i < length xs → GrewByEach asserts grew a b (take i xs)
+  beginning : (a b c : S) (xs : List I) (i : ℕ) → i < length xs → GrewByEach asserts grew a b (take i xs)
       → grew b c [] → GrewByBeginning asserts grew a c xs
   beginning a b c xs i lt g none = record { count = i; within = lt; beginning = each_then a b c (take i xs) g none }
 
@@ -52,7 +102,7 @@ module _ {S R E F : Type 0} {view : BuilderView S R E F} (laws : BuilderLaws vie
       (laws.refuses_then a b e before (s ∷ after) g (laws.refuses_first b e (s ∷ []) after r))
 
   -- one element was refused
-  pub each_refused : (a b : S) (e : AirError) (xs : List I) (i : ℕ) (x : I) → i < length xs → x ≡ get_or xs i x
+  each_refused : (a b : S) (e : AirError) (xs : List I) (i : ℕ) (x : I) → i < length xs → x ≡ get_or xs i x
       → kept a b → GrewByEach asserts grew a b (take i xs)
       → ((s : Assertion F) → asserts b x s → refuses b e (s ∷ []))
       → RefusesByEach asserts refuses a xs e
@@ -60,6 +110,46 @@ module _ {S R E F : Type 0} {view : BuilderView S R E F} (laws : BuilderLaws vie
       let here : xs ≡ take i xs ++ (x ∷ drop (i + 1) xs) = in_parts xs i x lt ∙ ap (λ v. take i xs ++ (v ∷ drop (i + 1) xs)) (sym is) in
       let parts = AllZip-parts (asserts a) (take i xs) x (drop (i + 1) xs) ss (subst (λ v. AllZip (asserts a) v ss) here h) in
       refused_at a b e ss parts.0 parts.2 parts.1 parts.3 (g parts.0 parts.4) (one parts.1 (asserts_kept a b k x parts.1 parts.5))
+
+  -- a call that asserts each, from no element on
+  pub nothing_asserted : (a : S) → AssertedEach asserts kept grew refuses a a [] (Ok tt)
+  nothing_asserted a = record { keeps = laws.by_growth a a [] (laws.same a); ok = none_yet a; err = tt; refused = tt }
+
+  module _ {a b c : S} (xs : List I) (i : ℕ) where
+    -- one element more
+    pub asserted_more : {u v : Unit {0}} (x : I) → i < length xs → x ≡ get_or xs i x
+        → AssertedEach asserts kept grew refuses a b (take i xs) (Ok u)
+        → AssertedEach asserts kept grew refuses b c (x ∷ []) (Ok v)
+        → AssertedEach asserts kept grew refuses a c (take (i + 1) xs) (Ok tt)
+    asserted_more x lt is h k = record {
+      keeps = laws.kept_joined a b c h.keeps k.keeps;
+      ok = each_more a b c xs i x lt is h.keeps h.ok (grew_one k);
+      err = tt;
+      refused = tt;
+    }
+
+    -- one element was refused
+    pub asserted_refused : {u : Unit {0}} {e : AirError} (x : I) → i < length xs → x ≡ get_or xs i x
+        → AssertedEach asserts kept grew refuses a b (take i xs) (Ok u)
+        → AssertedEach asserts kept grew refuses b c (x ∷ []) (Err e)
+        → AssertedEach asserts kept grew refuses a c xs (Err e)
+    asserted_refused {e = e} x lt is h k = record {
+      keeps = laws.kept_joined a b c h.keeps k.keeps;
+      ok = tt;
+      err = beginning a b c xs i lt h.ok (grew_none k);
+      refused = each_refused a b e xs i x lt is h.keeps h.ok (refused_one k);
+    }
+
+  -- all elements
+  pub asserted_all : {a b : S} {u v : Unit {0}} (xs : List I) (i : ℕ) → length xs ≤ i
+      → AssertedEach asserts kept grew refuses a b (take i xs) (Ok u)
+      → AssertedEach asserts kept grew refuses a b xs (Ok v)
+  asserted_all {a} {b} xs i end h = record {
+    keeps = h.keeps;
+    ok = subst (λ v. GrewByEach asserts grew a b v) (take_all i xs end) h.ok;
+    err = tt;
+    refused = tt;
+  }
 
 -- the pair at a place of two lists
 pub get_pair : {A B : Type 0} (xs : List A) (ys : List B) (i : ℕ) (x : A) (y : B) → i < length xs → i < length ys
@@ -69,32 +159,12 @@ get_pair xs ys i x y p q e f = ap₂ (λ v w. (v, w)) e f ∙ sym (get_or-zip xs
 module _ {S R E F : Type 0} {view : BuilderView S R E F} (ring : RingLaws view) (laws : BuilderLaws view) where
   open view use {kept}
 
-  pub asserts_kept : (op : Term F → Term F) (a b : S) → kept a b → (x : E) (s : Assertion F)
-      → AssertsOf (MeansIn view) op a x s → AssertsOf (MeansIn view) op b x s
-  asserts_kept op a b k x s h = (h.0, means_kept ring laws a b x h.0 k h.1, h.2)
+  pub asserts_kept : (kind : Term F → Assertion F) (op : Term F → Term F) (a b : S) → kept a b → (x : E)
+      (s : Assertion F)
+      → AssertsOf kind (MeansIn view) op a x s → AssertsOf kind (MeansIn view) op b x s
+  asserts_kept kind op a b k x s h = (h.0, means_kept ring laws a b x h.0 k h.1, h.2)
 
-  pub both_kept : (op : Term F → Term F → Term F) (a b : S) → kept a b → (p : E × E) (s : Assertion F)
-      → AssertsOfBoth (MeansIn view) op a p s → AssertsOfBoth (MeansIn view) op b p s
-  both_kept op a b k p s h = (h.0, h.1, means_kept ring laws a b p.0 h.0 k h.2, means_kept ring laws a b p.1 h.1 k h.3, h.4)
-
--- what one assertion says of the one assertion that its element gives
-module _ {S E F : Type 0} (means : S → E → Term F → Type 0) where
-  pub grew_of_one : (grew : S → S → List (Assertion F) → Type 0) (op : Term F → Term F) (a b : S) (x : E)
-      → GrewOf means grew op a b x → (s : Assertion F) → AssertsOf means op a x s → grew a b (s ∷ [])
-  grew_of_one grew op a b x g s h = subst (λ v. grew a b (v ∷ [])) (sym h.2) (g h.0 h.1)
-
-  pub grew_of_both : (grew : S → S → List (Assertion F) → Type 0) (op : Term F → Term F → Term F) (a b : S)
-      (x y : E)
-      → GrewOfBoth means grew op a b x y → (s : Assertion F) → AssertsOfBoth means op a (x, y) s → grew a b (s ∷ [])
-  grew_of_both grew op a b x y g s h = subst (λ v. grew a b (v ∷ [])) (sym h.4) (g h.0 h.1 h.2 h.3)
-
-  pub refuses_of_one : {X : Type 0} (refuses : S → X → List (Assertion F) → Type 0) (op : Term F → Term F) (a : S)
-      (x : E) (e : X)
-      → RefusesOf means refuses op a x e → (s : Assertion F) → AssertsOf means op a x s → refuses a e (s ∷ [])
-  refuses_of_one refuses op a x e g s h = subst (λ v. refuses a e (v ∷ [])) (sym h.2) (g h.0 h.1)
-
-  pub refuses_of_both : {X : Type 0} (refuses : S → X → List (Assertion F) → Type 0) (op : Term F → Term F → Term F)
-      (a : S) (x y : E) (e : X)
-      → RefusesOfBoth means refuses op a x y e → (s : Assertion F) → AssertsOfBoth means op a (x, y) s
-      → refuses a e (s ∷ [])
-  refuses_of_both refuses op a x y e g s h = subst (λ v. refuses a e (v ∷ [])) (sym h.4) (g h.0 h.1 h.2 h.3)
+  pub both_kept : (kind : Term F → Assertion F) (op : Term F → Term F → Term F) (a b : S) → kept a b
+      → (p : E × E) (s : Assertion F)
+      → AssertsOfBoth kind (MeansIn view) op a p s → AssertsOfBoth kind (MeansIn view) op b p s
+  both_kept kind op a b k p s h = (h.0, h.1, means_kept ring laws a b p.0 h.0 k h.2, means_kept ring laws a b p.1 h.1 k h.3, h.4)

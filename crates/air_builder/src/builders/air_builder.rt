@@ -1,12 +1,12 @@
 //! The interface of builders.
-ghost use Rattle.std.specs.Prelude.{◌≡◌, ◌↔◌, ◌≤◌, List, [], ◌∷◌, None, length, All, OnOk, OnErr, IfOk, IfErr, IfSome, IsOk};
+ghost use Rattle.std.specs.Prelude.{◌≡◌, ◌↔◌, ◌≤◌, List, [], ◌∷◌, None, length, All, IfOk, IfErr, IfSome, IsOk};
 ghost use Rattle.std.specs.List.{zip};
 ghost use Rattle.std.specs.Borrow.{sem, Lends};
 ghost use Rattle.air_field.specs.Algebra.{MadeOf, RefusedOf, bool_check_term};
 ghost use Rattle.air_field.specs.Term.{Leaf, preprocessed, main, periodic, public, first_row, last_row, transition, Term, leaf_term, const_term, sub_term};
-ghost use Rattle.air_builder.specs.Assertion.{Assertion};
-ghost use Rattle.air_builder.specs.Builders.{Means, MeansOfBoth, RowStands, VariableStands, BuilderLaws, GrewOf, GrewOfBoth, RefusesOf, RefusesOfBoth, less_one_term};
-ghost use Rattle.air_builder.specs.Batches.{AssertsOf, AssertsOfBoth, GrewByEach, GrewByBeginning, RefusesByEach};
+ghost use Rattle.air_builder.specs.Assertion.{Assertion, Base};
+ghost use Rattle.air_builder.specs.Builders.{Means, MeansOfBoth, RowStands, VariableStands, BuilderLaws, less_one_term};
+ghost use Rattle.air_builder.specs.Batches.{AssertsOf, AssertsOfBoth, AssertedEach};
 ghost use Rattle.air_builder.specs.Refusals.{RowEnds, RefusesPartOfBoth};
 ghost use Rattle.air_windows.specs.declared.errors.AirError.{AirError};
 
@@ -214,24 +214,16 @@ pub trait AirBuilder {
     fn assert_zero(&mut self, x: Self::Expr) -> Result<(), AirError>
         requires ready { ready self.old }
         requires of_ring { Self.Ring.has (ring_of self.old) x }
-        ensures keeps { kept self.old self.new }
-        ensures ok { OnOk result (GrewOf (Means Self.Ring.means ring_of stands) grew (λ t. t)
-            self.old self.new x) }
-        ensures err { OnErr result (grew self.old self.new []) }
-        ensures refused { IfErr result (RefusesOf (Means Self.Ring.means ring_of stands) refuses
-            (λ t. t) self.old x) };
+        ensures { AssertedEach (AssertsOf Base (Means Self.Ring.means ring_of stands) (λ t. t)) kept
+            grew refuses self.old self.new (x ∷ []) result };
 
     /// Asserts that `x` is one: growth by x - 1.
     #[inline(always)]
     final fn assert_one(&mut self, x: Self::Expr) -> Result<(), AirError>
         requires ready { ready self.old }
         requires of_ring { Self.Ring.has (ring_of self.old) x }
-        ensures keeps { kept self.old self.new }
-        ensures ok { OnOk result (GrewOf (Means Self.Ring.means ring_of stands) grew
-            (less_one_term Self.F.ONE) self.old self.new x) }
-        ensures err { OnErr result (grew self.old self.new []) }
-        ensures refused { IfErr result (RefusesOf (Means Self.Ring.means ring_of stands) refuses
-            (less_one_term Self.F.ONE) self.old x) }
+        ensures { AssertedEach (AssertsOf Base (Means Self.Ring.means ring_of stands) (less_one_term
+            Self.F.ONE)) kept grew refuses self.old self.new (x ∷ []) result }
     {
         let less = less_one(self.ring(), x)?;
         self.assert_zero(less)
@@ -243,12 +235,8 @@ pub trait AirBuilder {
         requires ready { ready self.old }
         requires x_in { Self.Ring.has (ring_of self.old) x }
         requires y_in { Self.Ring.has (ring_of self.old) y }
-        ensures keeps { kept self.old self.new }
-        ensures ok { OnOk result (GrewOfBoth (Means Self.Ring.means ring_of stands) grew sub_term
-            self.old self.new x y) }
-        ensures err { OnErr result (grew self.old self.new []) }
-        ensures refused { IfErr result (RefusesOfBoth (Means Self.Ring.means ring_of stands) refuses
-            sub_term self.old x y) }
+        ensures { AssertedEach (AssertsOfBoth Base (Means Self.Ring.means ring_of stands) sub_term)
+            kept grew refuses self.old self.new ((x, y) ∷ []) result }
     {
         let z = self.ring().sub(x, y)?;
         self.assert_zero(z)
@@ -259,12 +247,8 @@ pub trait AirBuilder {
     final fn assert_bool(&mut self, x: Self::Expr) -> Result<(), AirError>
         requires ready { ready self.old }
         requires of_ring { Self.Ring.has (ring_of self.old) x }
-        ensures keeps { kept self.old self.new }
-        ensures ok { OnOk result (GrewOf (Means Self.Ring.means ring_of stands) grew
-            (bool_check_term Self.F.ONE) self.old self.new x) }
-        ensures err { OnErr result (grew self.old self.new []) }
-        ensures refused { IfErr result (RefusesOf (Means Self.Ring.means ring_of stands) refuses
-            (bool_check_term Self.F.ONE) self.old x) }
+        ensures { AssertedEach (AssertsOf Base (Means Self.Ring.means ring_of stands)
+            (bool_check_term Self.F.ONE)) kept grew refuses self.old self.new (x ∷ []) result }
     {
         let check = self.ring().bool_check(x)?;
         self.assert_zero(check)
@@ -274,15 +258,8 @@ pub trait AirBuilder {
     final fn assert_zeros_slice(&mut self, elements: &[Self::Expr]) -> Result<(), AirError>
         requires ready { ready self.old }
         requires of_ring { All (Self.Ring.has (ring_of self.old)) elements.now }
-        ensures keeps { kept self.old self.new }
-        ensures ok { OnOk result (GrewByEach (AssertsOf (Means Self.Ring.means ring_of stands)
-            (λ t. t)) grew self.old self.new elements.now) }
-        ensures err { OnErr result (GrewByBeginning
-            (AssertsOf (Means Self.Ring.means ring_of stands) (λ t. t)) grew self.old self.new
-            elements.now) }
-        ensures refused { IfErr result (RefusesByEach
-            (AssertsOf (Means Self.Ring.means ring_of stands) (λ t. t)) refuses self.old
-            elements.now) }
+        ensures { AssertedEach (AssertsOf Base (Means Self.Ring.means ring_of stands) (λ t. t)) kept
+            grew refuses self.old self.new elements.now result }
     {
         for element in elements {
             self.assert_zero(*element)?;
@@ -294,15 +271,8 @@ pub trait AirBuilder {
     final fn assert_bools_slice(&mut self, elements: &[Self::Expr]) -> Result<(), AirError>
         requires ready { ready self.old }
         requires of_ring { All (Self.Ring.has (ring_of self.old)) elements.now }
-        ensures keeps { kept self.old self.new }
-        ensures ok { OnOk result (GrewByEach (AssertsOf (Means Self.Ring.means ring_of stands)
-            (bool_check_term Self.F.ONE)) grew self.old self.new elements.now) }
-        ensures err { OnErr result (GrewByBeginning
-            (AssertsOf (Means Self.Ring.means ring_of stands) (bool_check_term Self.F.ONE)) grew
-            self.old self.new elements.now) }
-        ensures refused { IfErr result (RefusesByEach
-            (AssertsOf (Means Self.Ring.means ring_of stands) (bool_check_term Self.F.ONE)) refuses
-            self.old elements.now) }
+        ensures { AssertedEach (AssertsOf Base (Means Self.Ring.means ring_of stands)
+            (bool_check_term Self.F.ONE)) kept grew refuses self.old self.new elements.now result }
     {
         for element in elements {
             self.assert_bool(*element)?;
@@ -320,15 +290,8 @@ pub trait AirBuilder {
         requires same_length { length left.now ≡ length right.now }
         requires left_in { All (Self.Ring.has (ring_of self.old)) left.now }
         requires right_in { All (Self.Ring.has (ring_of self.old)) right.now }
-        ensures keeps { kept self.old self.new }
-        ensures ok { OnOk result (GrewByEach (AssertsOfBoth (Means Self.Ring.means ring_of stands)
-            sub_term) grew self.old self.new (zip left.now right.now)) }
-        ensures err { OnErr result (GrewByBeginning
-            (AssertsOfBoth (Means Self.Ring.means ring_of stands) sub_term) grew self.old self.new
-            (zip left.now right.now)) }
-        ensures refused { IfErr result (RefusesByEach
-            (AssertsOfBoth (Means Self.Ring.means ring_of stands) sub_term) refuses self.old
-            (zip left.now right.now)) }
+        ensures { AssertedEach (AssertsOfBoth Base (Means Self.Ring.means ring_of stands) sub_term)
+            kept grew refuses self.old self.new (zip left.now right.now) result }
     {
         for (i, x) in left.iter().enumerate() {
             self.assert_eq(*x, right[i])?;

@@ -1,8 +1,8 @@
 //! Assertions of arrays over an extension.
-ghost use Rattle.std.specs.Prelude.{All, OnOk, OnErr, IfErr};
-ghost use Rattle.air_builder.specs.Batches.{GrewByEach, GrewByBeginning, RefusesByEach};
+ghost use Rattle.std.specs.Prelude.{All};
+ghost use Rattle.air_builder.specs.Assertion.{Extension};
+ghost use Rattle.air_builder.specs.Batches.{AssertsOf, AssertedEach};
 ghost use Rattle.air_builder.specs.Builders.{Means};
-ghost use Rattle.air_builder.specs.Extensions.{AssertsExtOf};
 
 use crate::builders::extension::ExtensionBuilder;
 use air_windows::errors::AirError;
@@ -13,16 +13,9 @@ pub trait AssertAllExt<const N: usize>: ExtensionBuilder {
     fn assert_zeros_ext(&mut self, elements: [Self::ExprEF; N]) -> Result<(), AirError>
         requires ready { Self.ready self.old }
         requires of_ring { All (Self.ExtRing.has (Self.ext_ring_of self.old)) elements }
-        ensures keeps { Self.kept self.old self.new }
-        ensures ok { OnOk result (GrewByEach (AssertsExtOf
-            (Means Self.ExtRing.means Self.ext_ring_of Self.stands) (λ t. t)) Self.grew self.old
-            self.new elements) }
-        ensures err { OnErr result (GrewByBeginning
-            (AssertsExtOf (Means Self.ExtRing.means Self.ext_ring_of Self.stands) (λ t. t))
-            Self.grew self.old self.new elements) }
-        ensures refused { IfErr result (RefusesByEach
-            (AssertsExtOf (Means Self.ExtRing.means Self.ext_ring_of Self.stands) (λ t. t))
-            Self.refuses self.old elements) };
+        ensures { AssertedEach (AssertsOf Extension (Means Self.ExtRing.means Self.ext_ring_of
+            Self.stands) (λ t. t)) Self.kept Self.grew Self.refuses self.old self.new elements
+            result };
 }
 
 impl<const N: usize, AB: ExtensionBuilder> AssertAllExt<N> for AB {
@@ -30,16 +23,9 @@ impl<const N: usize, AB: ExtensionBuilder> AssertAllExt<N> for AB {
     fn assert_zeros_ext(&mut self, elements: [AB::ExprEF; N]) -> Result<(), AirError>
         requires ready { AB.ready self.old }
         requires of_ring { All (AB.ExtRing.has (AB.ext_ring_of self.old)) elements }
-        ensures keeps { AB.kept self.old self.new }
-        ensures ok { OnOk result (GrewByEach (AssertsExtOf
-            (Means AB.ExtRing.means AB.ext_ring_of AB.stands) (λ t. t)) AB.grew self.old self.new
-            elements) }
-        ensures err { OnErr result (GrewByBeginning
-            (AssertsExtOf (Means AB.ExtRing.means AB.ext_ring_of AB.stands) (λ t. t)) AB.grew
-            self.old self.new elements) }
-        ensures refused { IfErr result (RefusesByEach
-            (AssertsExtOf (Means AB.ExtRing.means AB.ext_ring_of AB.stands) (λ t. t)) AB.refuses
-            self.old elements) }
+        ensures { AssertedEach (AssertsOf Extension (Means AB.ExtRing.means AB.ext_ring_of
+            AB.stands) (λ t. t)) AB.kept AB.grew AB.refuses self.old self.new elements
+            result }
     {
         self.assert_zeros_ext_slice(&elements)
     }

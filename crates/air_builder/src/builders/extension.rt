@@ -1,10 +1,11 @@
 //! Builders that also receive constraints over an extension.
-ghost use Rattle.std.specs.Prelude.{◌≡◌, [], All, OnOk, OnErr, IfErr};
+ghost use Rattle.std.specs.Prelude.{◌≡◌, [], ◌∷◌, All};
 ghost use Rattle.std.specs.Borrow.{sem, Lends};
 ghost use Rattle.air_field.specs.Term.{sub_term};
-ghost use Rattle.air_builder.specs.Batches.{GrewByEach, GrewByBeginning, RefusesByEach};
+ghost use Rattle.air_builder.specs.Assertion.{Extension};
+ghost use Rattle.air_builder.specs.Batches.{AssertsOf, AssertsOfBoth, AssertedEach};
 ghost use Rattle.air_builder.specs.Builders.{Means, less_one_term};
-ghost use Rattle.air_builder.specs.Extensions.{GrewExtOf, GrewExtOfBoth, RefusesExtOf, RefusesExtOfBoth, AssertsExtOf, ExtensionLaws};
+ghost use Rattle.air_builder.specs.Extensions.{ExtensionLaws};
 
 use crate::builders::air_builder::{AirBuilder, less_one};
 use air_field::{Algebra, ExtAlgebra, ExtensionField, FromVar};
@@ -41,25 +42,18 @@ pub trait ExtensionBuilder: AirBuilder {
     fn assert_zero_ext(&mut self, x: Self::ExprEF) -> Result<(), AirError>
         requires ready { Self.ready self.old }
         requires of_ring { Self.ExtRing.has (ext_ring_of self.old) x }
-        ensures keeps { Self.kept self.old self.new }
-        ensures ok { OnOk result (GrewExtOf (Means Self.ExtRing.means ext_ring_of Self.stands)
-            Self.grew (λ t. t) self.old self.new x) }
-        ensures err { OnErr result (Self.grew self.old self.new []) }
-        ensures refused { IfErr result (RefusesExtOf
-            (Means Self.ExtRing.means ext_ring_of Self.stands) Self.refuses (λ t. t) self.old x) };
+        ensures { AssertedEach (AssertsOf Extension (Means Self.ExtRing.means ext_ring_of
+            Self.stands) (λ t. t)) Self.kept Self.grew Self.refuses self.old self.new (x ∷ [])
+            result };
 
     /// Asserts that `x` is one: growth by x - 1.
     #[inline(always)]
     final fn assert_one_ext(&mut self, x: Self::ExprEF) -> Result<(), AirError>
         requires ready { Self.ready self.old }
         requires of_ring { Self.ExtRing.has (ext_ring_of self.old) x }
-        ensures keeps { Self.kept self.old self.new }
-        ensures ok { OnOk result (GrewExtOf (Means Self.ExtRing.means ext_ring_of Self.stands)
-            Self.grew (less_one_term Self.F.ONE) self.old self.new x) }
-        ensures err { OnErr result (Self.grew self.old self.new []) }
-        ensures refused { IfErr result (RefusesExtOf
-            (Means Self.ExtRing.means ext_ring_of Self.stands) Self.refuses
-            (less_one_term Self.F.ONE) self.old x) }
+        ensures { AssertedEach (AssertsOf Extension (Means Self.ExtRing.means ext_ring_of
+            Self.stands) (less_one_term Self.F.ONE)) Self.kept Self.grew Self.refuses self.old
+            self.new (x ∷ []) result }
     {
         let less = less_one(self.ext_ring(), x)?;
         self.assert_zero_ext(less)
@@ -71,12 +65,9 @@ pub trait ExtensionBuilder: AirBuilder {
         requires ready { Self.ready self.old }
         requires x_in { Self.ExtRing.has (ext_ring_of self.old) x }
         requires y_in { Self.ExtRing.has (ext_ring_of self.old) y }
-        ensures keeps { Self.kept self.old self.new }
-        ensures ok { OnOk result (GrewExtOfBoth (Means Self.ExtRing.means ext_ring_of Self.stands)
-            Self.grew sub_term self.old self.new x y) }
-        ensures err { OnErr result (Self.grew self.old self.new []) }
-        ensures refused { IfErr result (RefusesExtOfBoth
-            (Means Self.ExtRing.means ext_ring_of Self.stands) Self.refuses sub_term self.old x y) }
+        ensures { AssertedEach (AssertsOfBoth Extension (Means Self.ExtRing.means ext_ring_of
+            Self.stands) sub_term) Self.kept Self.grew Self.refuses self.old self.new ((x, y) ∷ [])
+            result }
     {
         let z = self.ext_ring().sub(x, y)?;
         self.assert_zero_ext(z)
@@ -86,16 +77,9 @@ pub trait ExtensionBuilder: AirBuilder {
     final fn assert_zeros_ext_slice(&mut self, elements: &[Self::ExprEF]) -> Result<(), AirError>
         requires ready { Self.ready self.old }
         requires of_ring { All (Self.ExtRing.has (ext_ring_of self.old)) elements.now }
-        ensures keeps { Self.kept self.old self.new }
-        ensures ok { OnOk result (GrewByEach (AssertsExtOf
-            (Means Self.ExtRing.means ext_ring_of Self.stands) (λ t. t)) Self.grew self.old self.new
-            elements.now) }
-        ensures err { OnErr result (GrewByBeginning
-            (AssertsExtOf (Means Self.ExtRing.means ext_ring_of Self.stands) (λ t. t)) Self.grew
-            self.old self.new elements.now) }
-        ensures refused { IfErr result (RefusesByEach
-            (AssertsExtOf (Means Self.ExtRing.means ext_ring_of Self.stands) (λ t. t)) Self.refuses
-            self.old elements.now) }
+        ensures { AssertedEach (AssertsOf Extension (Means Self.ExtRing.means ext_ring_of
+            Self.stands) (λ t. t)) Self.kept Self.grew Self.refuses self.old self.new elements.now
+            result }
     {
         for element in elements {
             self.assert_zero_ext(*element)?;

@@ -1,10 +1,11 @@
 //! Builders that take names for their assertions.
-ghost use Rattle.std.specs.Prelude.{List, [], All, OnOk, OnErr, IfErr};
+ghost use Rattle.std.specs.Prelude.{List, [], ◌∷◌, All};
 ghost use Rattle.air_field.specs.Algebra.{bool_check_term};
 ghost use Rattle.air_field.specs.Term.{sub_term};
-ghost use Rattle.air_builder.specs.Batches.{AssertsOf, GrewByEach, GrewByBeginning, RefusesByEach};
-ghost use Rattle.air_builder.specs.Builders.{Means, GrewOf, GrewOfBoth, RefusesOf, RefusesOfBoth, less_one_term};
-ghost use Rattle.air_builder.specs.Labels.{Labelled, LabelledOf, LabelledOfBoth, LabelledByEach, LabelledByBeginning, NamedLaws};
+ghost use Rattle.air_builder.specs.Assertion.{Base};
+ghost use Rattle.air_builder.specs.Batches.{AssertsOf, AssertsOfBoth, AssertedEach};
+ghost use Rattle.air_builder.specs.Builders.{Means, less_one_term};
+ghost use Rattle.air_builder.specs.Labels.{Labelled, LabelledEach, NamedLaws};
 ghost use Rattle.air_windows.specs.Texts.{ElementSays};
 
 use crate::builders::air_builder::{AirBuilder, less_one};
@@ -28,14 +29,11 @@ pub trait NamedAirBuilder: AirBuilder {
         requires ready { Self.ready self.old }
         requires of_ring { Self.Ring.has (Self.ring_of self.old) x }
         requires can_evaluate { N.can_evaluate name }
-        ensures keeps { Self.kept self.old self.new }
-        ensures ok { OnOk result (GrewOf (Means Self.Ring.means Self.ring_of Self.stands) Self.grew
-            (λ t. t) self.old self.new x) }
-        ensures label { OnOk result (LabelledOf (Means Self.Ring.means Self.ring_of Self.stands)
-            labelled (N.displays name) (λ t. t) self.old self.new x) }
-        ensures err { OnErr result (Self.grew self.old self.new []) }
-        ensures refused { IfErr result (RefusesOf (Means Self.Ring.means Self.ring_of Self.stands)
-            Self.refuses (λ t. t) self.old x) };
+        ensures asserted { AssertedEach (AssertsOf Base (Means Self.Ring.means Self.ring_of
+            Self.stands) (λ t. t)) Self.kept Self.grew Self.refuses self.old self.new (x ∷ [])
+            result }
+        ensures label { LabelledEach (AssertsOf Base (Means Self.Ring.means Self.ring_of
+            Self.stands) (λ t. t)) labelled (λ i. N.displays name) self.old self.new (x ∷ []) result };
 
     /// Asserts that `x` is one.
     #[inline(always)]
@@ -43,14 +41,12 @@ pub trait NamedAirBuilder: AirBuilder {
         requires ready { Self.ready self.old }
         requires of_ring { Self.Ring.has (Self.ring_of self.old) x }
         requires can_evaluate { N.can_evaluate name }
-        ensures keeps { Self.kept self.old self.new }
-        ensures ok { OnOk result (GrewOf (Means Self.Ring.means Self.ring_of Self.stands) Self.grew
-            (less_one_term Self.F.ONE) self.old self.new x) }
-        ensures label { OnOk result (LabelledOf (Means Self.Ring.means Self.ring_of Self.stands)
-            labelled (N.displays name) (less_one_term Self.F.ONE) self.old self.new x) }
-        ensures err { OnErr result (Self.grew self.old self.new []) }
-        ensures refused { IfErr result (RefusesOf (Means Self.Ring.means Self.ring_of Self.stands)
-            Self.refuses (less_one_term Self.F.ONE) self.old x) }
+        ensures asserted { AssertedEach (AssertsOf Base (Means Self.Ring.means Self.ring_of
+            Self.stands) (less_one_term Self.F.ONE)) Self.kept Self.grew Self.refuses self.old
+            self.new (x ∷ []) result }
+        ensures label { LabelledEach (AssertsOf Base (Means Self.Ring.means Self.ring_of
+            Self.stands) (less_one_term Self.F.ONE)) labelled (λ i. N.displays name) self.old
+            self.new (x ∷ []) result }
     {
         let less = less_one(self.ring(), x)?;
         self.assert_zero_named(less, name)
@@ -68,14 +64,12 @@ pub trait NamedAirBuilder: AirBuilder {
         requires x_in { Self.Ring.has (Self.ring_of self.old) x }
         requires y_in { Self.Ring.has (Self.ring_of self.old) y }
         requires can_evaluate { N.can_evaluate name }
-        ensures keeps { Self.kept self.old self.new }
-        ensures ok { OnOk result (GrewOfBoth (Means Self.Ring.means Self.ring_of Self.stands)
-            Self.grew sub_term self.old self.new x y) }
-        ensures label { OnOk result (LabelledOfBoth (Means Self.Ring.means Self.ring_of Self.stands)
-            labelled (N.displays name) sub_term self.old self.new x y) }
-        ensures err { OnErr result (Self.grew self.old self.new []) }
-        ensures refused { IfErr result (RefusesOfBoth
-            (Means Self.Ring.means Self.ring_of Self.stands) Self.refuses sub_term self.old x y) }
+        ensures asserted { AssertedEach (AssertsOfBoth Base (Means Self.Ring.means Self.ring_of
+            Self.stands) sub_term) Self.kept Self.grew Self.refuses self.old self.new ((x, y) ∷ [])
+            result }
+        ensures label { LabelledEach (AssertsOfBoth Base (Means Self.Ring.means Self.ring_of
+            Self.stands) sub_term) labelled (λ i. N.displays name) self.old self.new ((x, y) ∷ [])
+            result }
     {
         let z = self.ring().sub(x, y)?;
         self.assert_zero_named(z, name)
@@ -87,14 +81,12 @@ pub trait NamedAirBuilder: AirBuilder {
         requires ready { Self.ready self.old }
         requires of_ring { Self.Ring.has (Self.ring_of self.old) x }
         requires can_evaluate { N.can_evaluate name }
-        ensures keeps { Self.kept self.old self.new }
-        ensures ok { OnOk result (GrewOf (Means Self.Ring.means Self.ring_of Self.stands) Self.grew
-            (bool_check_term Self.F.ONE) self.old self.new x) }
-        ensures label { OnOk result (LabelledOf (Means Self.Ring.means Self.ring_of Self.stands)
-            labelled (N.displays name) (bool_check_term Self.F.ONE) self.old self.new x) }
-        ensures err { OnErr result (Self.grew self.old self.new []) }
-        ensures refused { IfErr result (RefusesOf (Means Self.Ring.means Self.ring_of Self.stands)
-            Self.refuses (bool_check_term Self.F.ONE) self.old x) }
+        ensures asserted { AssertedEach (AssertsOf Base (Means Self.Ring.means Self.ring_of
+            Self.stands) (bool_check_term Self.F.ONE)) Self.kept Self.grew Self.refuses self.old
+            self.new (x ∷ []) result }
+        ensures label { LabelledEach (AssertsOf Base (Means Self.Ring.means Self.ring_of
+            Self.stands) (bool_check_term Self.F.ONE)) labelled (λ i. N.displays name) self.old
+            self.new (x ∷ []) result }
     {
         let check = self.ring().bool_check(x)?;
         self.assert_zero_named(check, name)
@@ -109,22 +101,12 @@ pub trait NamedAirBuilder: AirBuilder {
         requires ready { Self.ready self.old }
         requires of_ring { All (Self.Ring.has (Self.ring_of self.old)) elements.now }
         requires can_evaluate { N.can_evaluate name }
-        ensures keeps { Self.kept self.old self.new }
-        ensures ok { OnOk result (GrewByEach (AssertsOf
-            (Means Self.Ring.means Self.ring_of Self.stands) (λ t. t)) Self.grew self.old self.new
-            elements.now) }
-        ensures label { OnOk result (LabelledByEach
-            (AssertsOf (Means Self.Ring.means Self.ring_of Self.stands) (λ t. t)) labelled
-            (ElementSays (N.displays name)) self.old self.new elements.now) }
-        ensures err { OnErr result (GrewByBeginning
-            (AssertsOf (Means Self.Ring.means Self.ring_of Self.stands) (λ t. t)) Self.grew self.old
-            self.new elements.now) }
-        ensures err_label { OnErr result (LabelledByBeginning
-            (AssertsOf (Means Self.Ring.means Self.ring_of Self.stands) (λ t. t)) labelled
-            (ElementSays (N.displays name)) self.old self.new elements.now) }
-        ensures refused { IfErr result (RefusesByEach
-            (AssertsOf (Means Self.Ring.means Self.ring_of Self.stands) (λ t. t)) Self.refuses
-            self.old elements.now) }
+        ensures asserted { AssertedEach (AssertsOf Base (Means Self.Ring.means Self.ring_of
+            Self.stands) (λ t. t)) Self.kept Self.grew Self.refuses self.old self.new elements.now
+            result }
+        ensures label { LabelledEach (AssertsOf Base (Means Self.Ring.means Self.ring_of
+            Self.stands) (λ t. t)) labelled (ElementSays (N.displays name)) self.old self.new
+            elements.now result }
     {
         for (i, element) in elements.iter().enumerate() {
             self.assert_zero_named(*element, Joined::new(name, Element(i)))?;
@@ -141,24 +123,12 @@ pub trait NamedAirBuilder: AirBuilder {
         requires ready { Self.ready self.old }
         requires of_ring { All (Self.Ring.has (Self.ring_of self.old)) elements.now }
         requires can_evaluate { N.can_evaluate name }
-        ensures keeps { Self.kept self.old self.new }
-        ensures ok { OnOk result (GrewByEach (AssertsOf
-            (Means Self.Ring.means Self.ring_of Self.stands) (bool_check_term Self.F.ONE)) Self.grew
-            self.old self.new elements.now) }
-        ensures label { OnOk result (LabelledByEach
-            (AssertsOf (Means Self.Ring.means Self.ring_of Self.stands)
-            (bool_check_term Self.F.ONE)) labelled (ElementSays (N.displays name)) self.old self.new
-            elements.now) }
-        ensures err { OnErr result (GrewByBeginning
-            (AssertsOf (Means Self.Ring.means Self.ring_of Self.stands)
-            (bool_check_term Self.F.ONE)) Self.grew self.old self.new elements.now) }
-        ensures err_label { OnErr result (LabelledByBeginning
-            (AssertsOf (Means Self.Ring.means Self.ring_of Self.stands)
-            (bool_check_term Self.F.ONE)) labelled (ElementSays (N.displays name)) self.old self.new
-            elements.now) }
-        ensures refused { IfErr result (RefusesByEach
-            (AssertsOf (Means Self.Ring.means Self.ring_of Self.stands)
-            (bool_check_term Self.F.ONE)) Self.refuses self.old elements.now) }
+        ensures asserted { AssertedEach (AssertsOf Base (Means Self.Ring.means Self.ring_of
+            Self.stands) (bool_check_term Self.F.ONE)) Self.kept Self.grew Self.refuses self.old
+            self.new elements.now result }
+        ensures label { LabelledEach (AssertsOf Base (Means Self.Ring.means Self.ring_of
+            Self.stands) (bool_check_term Self.F.ONE)) labelled (ElementSays (N.displays name))
+            self.old self.new elements.now result }
     {
         for (i, element) in elements.iter().enumerate() {
             self.assert_bool_named(*element, Joined::new(name, Element(i)))?;

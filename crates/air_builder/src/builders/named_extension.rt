@@ -1,9 +1,10 @@
 //! Builders that take names for their assertions over an extension.
-ghost use Rattle.std.specs.Prelude.{[], OnOk, OnErr, IfErr};
+ghost use Rattle.std.specs.Prelude.{[], ◌∷◌};
 ghost use Rattle.air_field.specs.Term.{sub_term};
 ghost use Rattle.air_builder.specs.Builders.{Means, less_one_term};
-ghost use Rattle.air_builder.specs.Extensions.{GrewExtOf, GrewExtOfBoth, RefusesExtOf, RefusesExtOfBoth};
-ghost use Rattle.air_builder.specs.ExtensionLabels.{LabelledExtOf, LabelledExtOfBoth};
+ghost use Rattle.air_builder.specs.Assertion.{Extension};
+ghost use Rattle.air_builder.specs.Batches.{AssertsOf, AssertsOfBoth, AssertedEach};
+ghost use Rattle.air_builder.specs.Labels.{LabelledEach};
 
 use crate::builders::air_builder::{AirBuilder, less_one};
 use crate::builders::extension::ExtensionBuilder;
@@ -21,16 +22,12 @@ pub trait NamedExtensionBuilder: ExtensionBuilder + NamedAirBuilder {
         requires ready { Self.ready self.old }
         requires of_ring { Self.ExtRing.has (Self.ext_ring_of self.old) x }
         requires can_evaluate { N.can_evaluate name }
-        ensures keeps { Self.kept self.old self.new }
-        ensures ok { OnOk result (GrewExtOf (Means Self.ExtRing.means Self.ext_ring_of Self.stands)
-            Self.grew (λ t. t) self.old self.new x) }
-        ensures label { OnOk result (LabelledExtOf
-            (Means Self.ExtRing.means Self.ext_ring_of Self.stands) Self.labelled (N.displays name)
-            (λ t. t) self.old self.new x) }
-        ensures err { OnErr result (Self.grew self.old self.new []) }
-        ensures refused { IfErr result (RefusesExtOf
-            (Means Self.ExtRing.means Self.ext_ring_of Self.stands) Self.refuses (λ t. t) self.old
-            x) };
+        ensures asserted { AssertedEach (AssertsOf Extension (Means Self.ExtRing.means
+            Self.ext_ring_of Self.stands) (λ t. t)) Self.kept Self.grew Self.refuses self.old
+            self.new (x ∷ []) result }
+        ensures label { LabelledEach (AssertsOf Extension (Means Self.ExtRing.means Self.ext_ring_of
+            Self.stands) (λ t. t)) Self.labelled (λ i. N.displays name) self.old self.new (x ∷ [])
+            result };
 
     /// Asserts that `x` is one.
     #[inline(always)]
@@ -42,16 +39,12 @@ pub trait NamedExtensionBuilder: ExtensionBuilder + NamedAirBuilder {
         requires ready { Self.ready self.old }
         requires of_ring { Self.ExtRing.has (Self.ext_ring_of self.old) x }
         requires can_evaluate { N.can_evaluate name }
-        ensures keeps { Self.kept self.old self.new }
-        ensures ok { OnOk result (GrewExtOf (Means Self.ExtRing.means Self.ext_ring_of Self.stands)
-            Self.grew (less_one_term Self.F.ONE) self.old self.new x) }
-        ensures label { OnOk result (LabelledExtOf
-            (Means Self.ExtRing.means Self.ext_ring_of Self.stands) Self.labelled (N.displays name)
-            (less_one_term Self.F.ONE) self.old self.new x) }
-        ensures err { OnErr result (Self.grew self.old self.new []) }
-        ensures refused { IfErr result (RefusesExtOf
-            (Means Self.ExtRing.means Self.ext_ring_of Self.stands) Self.refuses
-            (less_one_term Self.F.ONE) self.old x) }
+        ensures asserted { AssertedEach (AssertsOf Extension (Means Self.ExtRing.means
+            Self.ext_ring_of Self.stands) (less_one_term Self.F.ONE)) Self.kept Self.grew
+            Self.refuses self.old self.new (x ∷ []) result }
+        ensures label { LabelledEach (AssertsOf Extension (Means Self.ExtRing.means Self.ext_ring_of
+            Self.stands) (less_one_term Self.F.ONE)) Self.labelled (λ i. N.displays name) self.old
+            self.new (x ∷ []) result }
     {
         let less = less_one(self.ext_ring(), x)?;
         self.assert_zero_ext_named(less, name)
@@ -69,16 +62,12 @@ pub trait NamedExtensionBuilder: ExtensionBuilder + NamedAirBuilder {
         requires x_in { Self.ExtRing.has (Self.ext_ring_of self.old) x }
         requires y_in { Self.ExtRing.has (Self.ext_ring_of self.old) y }
         requires can_evaluate { N.can_evaluate name }
-        ensures keeps { Self.kept self.old self.new }
-        ensures ok { OnOk result (GrewExtOfBoth (Means Self.ExtRing.means Self.ext_ring_of
-            Self.stands) Self.grew sub_term self.old self.new x y) }
-        ensures label { OnOk result (LabelledExtOfBoth
-            (Means Self.ExtRing.means Self.ext_ring_of Self.stands) Self.labelled (N.displays name)
-            sub_term self.old self.new x y) }
-        ensures err { OnErr result (Self.grew self.old self.new []) }
-        ensures refused { IfErr result (RefusesExtOfBoth
-            (Means Self.ExtRing.means Self.ext_ring_of Self.stands) Self.refuses sub_term self.old x
-            y) }
+        ensures asserted { AssertedEach (AssertsOfBoth Extension (Means Self.ExtRing.means
+            Self.ext_ring_of Self.stands) sub_term) Self.kept Self.grew Self.refuses self.old
+            self.new ((x, y) ∷ []) result }
+        ensures label { LabelledEach (AssertsOfBoth Extension (Means Self.ExtRing.means
+            Self.ext_ring_of Self.stands) sub_term) Self.labelled (λ i. N.displays name) self.old
+            self.new ((x, y) ∷ []) result }
     {
         let z = self.ext_ring().sub(x, y)?;
         self.assert_zero_ext_named(z, name)

@@ -1,7 +1,9 @@
 //! Named builders that discard labels.
-ghost use Rattle.std.specs.Prelude.{[], OnOk, OnErr, IfErr};
-ghost use Rattle.air_builder.specs.Builders.{Means, GrewOf, RefusesOf};
-ghost use Rattle.air_builder.specs.Labels.{LabelledOf, discarding};
+ghost use Rattle.std.specs.Prelude.{[], ◌∷◌};
+ghost use Rattle.air_builder.specs.Assertion.{Base};
+ghost use Rattle.air_builder.specs.Batches.{AssertsOf, AssertedEach};
+ghost use Rattle.air_builder.specs.Builders.{Means};
+ghost use Rattle.air_builder.specs.Labels.{LabelledEach, discarding};
 
 use crate::builders::air_builder::AirBuilder;
 use air_windows::errors::AirError;
@@ -21,14 +23,12 @@ pub trait PassthroughNamedAirBuilder: AirBuilder {
     ) -> Result<(), AirError>
         requires ready { Self.ready self.old }
         requires of_ring { Self.Ring.has (Self.ring_of self.old) x }
-        ensures keeps { Self.kept self.old self.new }
-        ensures ok { OnOk result (GrewOf (Means Self.Ring.means Self.ring_of Self.stands) Self.grew
-            (λ t. t) self.old self.new x) }
-        ensures label { OnOk result (LabelledOf (Means Self.Ring.means Self.ring_of Self.stands)
-            (discarding Self.grew) (N.displays _name) (λ t. t) self.old self.new x) }
-        ensures err { OnErr result (Self.grew self.old self.new []) }
-        ensures refused { IfErr result (RefusesOf (Means Self.Ring.means Self.ring_of Self.stands)
-            Self.refuses (λ t. t) self.old x) }
+        ensures asserted { AssertedEach (AssertsOf Base (Means Self.Ring.means Self.ring_of
+            Self.stands) (λ t. t)) Self.kept Self.grew Self.refuses self.old self.new (x ∷ [])
+            result }
+        ensures label { LabelledEach (AssertsOf Base (Means Self.Ring.means Self.ring_of
+            Self.stands) (λ t. t)) (discarding Self.grew) (λ i. N.displays _name) self.old self.new
+            (x ∷ []) result }
     {
         self.assert_zero(x)
     }

@@ -1,11 +1,9 @@
-use Rattle.std.proofs.Common.{take}
+use Rattle.std.proofs.Common.{take, Ok}
 use Rattle.air_field.specs.Algebra.{bool_check_term}
-use Rattle.air_builder.specs.Batches.{AssertsOf, GrewByEach}
+use Rattle.air_builder.specs.Assertion.{Base}
+use Rattle.air_builder.specs.Batches.{AssertsOf, AssertedEach}
 use Rattle.air_builder.specs.Builders.{Means}
 use Rattle.air_builder.proofs.builders.air_builder.AirBuilder.assert_bools_slice.Given as goal
 
 abbrev pub invariant-loop-element : goal.invariant-loop-element
-invariant-loop-element g l = record {
-  keeps : g.Self.AirBuilder.kept l.initial.self l.self;
-  grown : GrewByEach (AssertsOf (Means g.Self.Ring.Algebra.means g.Self.AirBuilder.ring_of g.Self.AirBuilder.stands) (bool_check_term g.Self.F.Field.ONE)) g.Self.AirBuilder.grew l.initial.self l.self (take l.element-index l.elements);
-}
+invariant-loop-element g l = AssertedEach (AssertsOf Base (Means g.Self.Ring.Algebra.means g.Self.AirBuilder.ring_of g.Self.AirBuilder.stands) (bool_check_term g.Self.F.Field.ONE)) g.Self.AirBuilder.kept g.Self.AirBuilder.grew g.Self.AirBuilder.refuses l.initial.self l.self (take l.element-index l.elements) (Ok tt)

@@ -1,41 +1,23 @@
-use Rattle.std.proofs.Common.{[]}
-use Rattle.std.proofs.lemmas.Result.{on_ok_weaker, on_err_weaker, IfErr-weaker, err_from_is_err_and}
+use Rattle.std.proofs.Common.{inl}
+use Rattle.std.proofs.lemmas.Result.{err_from_is_err_and}
+use Rattle.air_field.specs.Part.{whole}
 use Rattle.air_field.specs.Term.{with_leaves, sub_term}
+use Rattle.air_builder.specs.Assertion.{Extension}
 use Rattle.air_builder.specs.laws.Extensions.{over_extension}
-use Rattle.air_builder.proofs.Growth.{lent_then, lent_kept, means_in}
-use Rattle.air_builder.proofs.ExtensionGrowth.{lent_grew_ext, lent_refuses_ext, ring_refuses_ext}
+use Rattle.air_builder.proofs.Growth.{made_of_both, refused_of_both, lent_asserted, making_refused}
 use Rattle.air_builder.proofs.builders.extension.ExtensionBuilder.assert_eq_ext.Goals as goal
 
-pub returns-clause-keeps : goal.returns-clause-keeps
-returns-clause-keeps g c =
+pub returns : goal.returns
+returns g c =
     let laws = over_extension g.met.Self.AirBuilder.laws g.met.Self.ExtensionBuilder.ext_laws in
-    lent_kept laws _ _ _ _ c.ext_ring.ensures.value c.sub.ensures.extended c.assert_zero_ext.ensures.keeps
+    lent_asserted laws c.ext_ring.ensures.value c.sub.ensures.extended c.assert_zero_ext.result
+    (made_of_both g.met.Self.ExtRing.Algebra.laws laws Extension c.ext_ring.ensures.value c.sub.ensures.extended sub_term (λ t u m n. c.in_ok-z.ensures.made.1 (with_leaves (g.Self.AirBuilder.stands c.args.self.now) t) (with_leaves (g.Self.AirBuilder.stands c.args.self.now) u) m n))
+    c.assert_zero_ext.ensures
 
-pub returns-clause-err : goal.returns-clause-err
-returns-clause-err g c =
-    let laws = over_extension g.met.Self.AirBuilder.laws g.met.Self.ExtensionBuilder.ext_laws in
-    on_err_weaker c.assert_zero_ext.result (lent_then laws _ _ _ _ [] c.ext_ring.ensures.value c.sub.ensures.extended) c.assert_zero_ext.ensures.err
-
-pub returns-clause-ok : goal.returns-clause-ok
-returns-clause-ok g c =
-    let laws = over_extension g.met.Self.AirBuilder.laws g.met.Self.ExtensionBuilder.ext_laws in
-    on_ok_weaker c.assert_zero_ext.result
-    (λ h s t k l. lent_grew_ext g.met.Self.ExtRing.Algebra.laws laws _ _ _ _ c.args.x _ (λ v. sub_term v t) c.ext_ring.ensures.value c.in_ok-z.ensures.extended
-    (λ v m. c.in_ok-z.ensures.made.1 (with_leaves (g.Self.AirBuilder.stands c.args.self.now) v) (with_leaves (g.Self.AirBuilder.stands c.args.self.now) t) m (means_in g.Self.ExtRing.Algebra.means _ _ c.ext_ring.ensures.value l)) h s k)
-    c.assert_zero_ext.ensures.ok
-
-pub returns-in_err-z-clause-refused : goal.returns-in_err-z-clause-refused
-returns-in_err-z-clause-refused g c =
-    let laws = over_extension g.met.Self.AirBuilder.laws g.met.Self.ExtensionBuilder.ext_laws in
+pub returns-in_err-z : goal.returns-in_err-z
+returns-in_err-z g c =
     let p = err_from_is_err_and c.from_residual.result c.from_residual.ensures.1 in
-    rw (p.1, p.2)
-    (λ s t k l. ring_refuses_ext g.met.Self.ExtRing.Algebra.laws laws c.args.self.now _ c.args.x c.in_err-z.field-0.0 (λ v. sub_term v t) c.ext_ring.ensures.value
-    (λ v m. c.in_err-z.ensures.refused (with_leaves (g.Self.AirBuilder.stands c.args.self.now) v) (with_leaves (g.Self.AirBuilder.stands c.args.self.now) t) m (means_in g.Self.ExtRing.Algebra.means _ _ c.ext_ring.ensures.value l)) s k)
-
-pub returns-clause-refused : goal.returns-clause-refused
-returns-clause-refused g c =
     let laws = over_extension g.met.Self.AirBuilder.laws g.met.Self.ExtensionBuilder.ext_laws in
-    IfErr-weaker c.assert_zero_ext.result _ _
-    (λ e h s t k l. lent_refuses_ext g.met.Self.ExtRing.Algebra.laws laws _ _ _ c.args.x _ e (λ v. sub_term v t) c.ext_ring.ensures.value c.in_ok-z.ensures.extended
-    (λ v m. c.in_ok-z.ensures.made.1 (with_leaves (g.Self.AirBuilder.stands c.args.self.now) v) (with_leaves (g.Self.AirBuilder.stands c.args.self.now) t) m (means_in g.Self.ExtRing.Algebra.means _ _ c.ext_ring.ensures.value l)) h s k)
-    c.assert_zero_ext.ensures.refused
+    rw (p.1, p.2)
+    (making_refused laws c.ext_ring.ensures.value c.sub.ensures.extended _
+    (refused_of_both g.met.Self.ExtRing.Algebra.laws laws Extension (λ t. inl whole) c.ext_ring.ensures.value sub_term c.in_err-z.field-0.0 (λ t u m n. c.in_err-z.ensures.refused (with_leaves (g.Self.AirBuilder.stands c.args.self.now) t) (with_leaves (g.Self.AirBuilder.stands c.args.self.now) u) m n)))

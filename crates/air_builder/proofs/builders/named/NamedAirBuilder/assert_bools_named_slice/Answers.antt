@@ -1,54 +1,38 @@
 use Rattle.std.proofs.Common.{arith}
 use Rattle.std.proofs.lemmas.Result.{err_from_is_err_and}
 use Rattle.air_field.specs.Algebra.{bool_check_term}
-use Rattle.air_builder.specs.Batches.{AssertsOf}
-use Rattle.air_builder.specs.Builders.{Means}
+use Rattle.air_builder.specs.Assertion.{Base}
+use Rattle.air_builder.specs.laws.Batches.{nothing_asserted, asserted_more, asserted_refused, asserted_all, asserts_kept}
 use Rattle.air_windows.specs.Texts.{ElementSays}
-use Rattle.air_builder.specs.laws.Batches.{each_refused, asserts_kept, refuses_of_one}
-use Rattle.air_builder.proofs.LabelGrowth.{no_label_yet, label_more, label_beginning, labels_grew, labels_grew_whole, beginning_grew, labelled_of_one}
+use Rattle.air_builder.proofs.LabelGrowth.{labels_nothing, labelled_more, labelled_refused, labelled_all}
 use Rattle.air_builder.proofs.builders.named.NamedAirBuilder.assert_bools_named_slice.Goals as goal
 
 pub loop-i-init : goal.loop-i-init
-loop-i-init g c =
-    let laws = g.met.Self.AirBuilder.laws in
-    record {
-      keeps = laws.by_growth c.args.self.now c.args.self.now _ (laws.same c.args.self.now);
-      grown = no_label_yet laws g.met.Self.NamedAirBuilder.named_laws _ (asserts_kept g.met.Self.Ring.Algebra.laws laws (bool_check_term g.Self.F.Field.ONE)) (ElementSays (g.N.Name.displays c.args.name)) c.args.self.now;
-    }
+loop-i-init g c = record {
+  asserted = nothing_asserted g.met.Self.AirBuilder.laws _ (asserts_kept g.met.Self.Ring.Algebra.laws g.met.Self.AirBuilder.laws Base (bool_check_term g.Self.F.Field.ONE)) c.args.self.now;
+  labels = labels_nothing g.met.Self.AirBuilder.laws g.met.Self.NamedAirBuilder.named_laws _ (asserts_kept g.met.Self.Ring.Algebra.laws g.met.Self.AirBuilder.laws Base (bool_check_term g.Self.F.Field.ONE)) (ElementSays (g.N.Name.displays c.args.name)) c.args.self.now;
+}
 
 pub loop-i-preserved : goal.loop-i-preserved
-loop-i-preserved g c =
-    let laws = g.met.Self.AirBuilder.laws in
-    let label = c.in_ok-assert_bool_named.ensures.label in
-    record {
-      keeps = laws.kept_joined c.args.self.now c.loop-i.self c.assert_bool_named.new.self c.loop-i.invariant.keeps c.in_ok-assert_bool_named.ensures.keeps;
-      grown = label_more laws g.met.Self.NamedAirBuilder.named_laws _ (asserts_kept g.met.Self.Ring.Algebra.laws laws (bool_check_term g.Self.F.Field.ONE)) (ElementSays (g.N.Name.displays c.args.name)) c.args.self.now c.loop-i.self c.assert_bool_named.new.self c.args.elements.now c.loop-i.i c.index-elements-i.result label.label (omega arith) c.index-elements-i.is c.loop-i.invariant.keeps c.loop-i.invariant.grown
-          (rw c.new.ensures at label.said) (labelled_of_one {b = c.assert_bool_named.new.self} label);
-    }
+loop-i-preserved g c = record {
+  asserted = asserted_more g.met.Self.AirBuilder.laws _ (asserts_kept g.met.Self.Ring.Algebra.laws g.met.Self.AirBuilder.laws Base (bool_check_term g.Self.F.Field.ONE)) c.args.elements.now c.loop-i.i c.index-elements-i.result (omega arith) c.index-elements-i.is c.loop-i.invariant.asserted c.in_ok-assert_bool_named.ensures.asserted;
+  labels = labelled_more g.met.Self.AirBuilder.laws g.met.Self.NamedAirBuilder.named_laws _ (asserts_kept g.met.Self.Ring.Algebra.laws g.met.Self.AirBuilder.laws Base (bool_check_term g.Self.F.Field.ONE)) (ElementSays (g.N.Name.displays c.args.name)) c.args.elements.now c.loop-i.i c.index-elements-i.result (omega arith) c.index-elements-i.is c.loop-i.invariant.asserted.keeps c.loop-i.invariant.labels (λ text h. rw c.new.ensures at h) c.in_ok-assert_bool_named.ensures.label;
+}
 
-pub returns-in_err-assert_bool_named-clause-err_label : goal.returns-in_err-assert_bool_named-clause-err_label
-returns-in_err-assert_bool_named-clause-err_label g c =
+pub returns-in_err-assert_bool_named-clause-asserted : goal.returns-in_err-assert_bool_named-clause-asserted
+returns-in_err-assert_bool_named-clause-asserted g c =
     let p = err_from_is_err_and c.from_residual.result c.from_residual.ensures.1 in
-    let laws = g.met.Self.AirBuilder.laws in
-    rw (p.1)
-    (label_beginning laws g.met.Self.NamedAirBuilder.named_laws _ (asserts_kept g.met.Self.Ring.Algebra.laws laws (bool_check_term g.Self.F.Field.ONE)) (ElementSays (g.N.Name.displays c.args.name)) c.args.self.now c.loop-i.self c.assert_bool_named.new.self c.args.elements.now c.loop-i.i (omega arith) c.loop-i.invariant.grown c.in_err-assert_bool_named.ensures.err)
-
-pub returns-in_err-assert_bool_named-clause-err : goal.returns-in_err-assert_bool_named-clause-err
-returns-in_err-assert_bool_named-clause-err g c =
-    let p = err_from_is_err_and c.from_residual.result c.from_residual.ensures.1 in
-    let laws = g.met.Self.AirBuilder.laws in
-    rw (p.1)
-    (beginning_grew g.met.Self.NamedAirBuilder.named_laws
-    (label_beginning laws g.met.Self.NamedAirBuilder.named_laws _ (asserts_kept g.met.Self.Ring.Algebra.laws laws (bool_check_term g.Self.F.Field.ONE)) (ElementSays (g.N.Name.displays c.args.name)) c.args.self.now c.loop-i.self c.assert_bool_named.new.self c.args.elements.now c.loop-i.i (omega arith) c.loop-i.invariant.grown c.in_err-assert_bool_named.ensures.err))
-
-pub returns-in_err-assert_bool_named-clause-refused : goal.returns-in_err-assert_bool_named-clause-refused
-returns-in_err-assert_bool_named-clause-refused g c =
-    let p = err_from_is_err_and c.from_residual.result c.from_residual.ensures.1 in
-    let laws = g.met.Self.AirBuilder.laws in
-    let means = Means g.Self.Ring.Algebra.means g.Self.AirBuilder.ring_of g.Self.AirBuilder.stands in
     rw (p.1, p.2)
-    (each_refused laws _ (asserts_kept g.met.Self.Ring.Algebra.laws laws (bool_check_term g.Self.F.Field.ONE)) c.args.self.now c.loop-i.self c.in_err-assert_bool_named.field-0.0 c.args.elements.now c.loop-i.i c.index-elements-i.result (omega arith) c.index-elements-i.is c.loop-i.invariant.keeps (labels_grew g.met.Self.NamedAirBuilder.named_laws {asserts = AssertsOf means (bool_check_term g.Self.F.Field.ONE)} c.loop-i.invariant.grown)
-    (refuses_of_one means g.Self.AirBuilder.refuses (bool_check_term g.Self.F.Field.ONE) c.loop-i.self c.index-elements-i.result c.in_err-assert_bool_named.field-0.0 c.in_err-assert_bool_named.ensures.refused))
+    (asserted_refused g.met.Self.AirBuilder.laws _ (asserts_kept g.met.Self.Ring.Algebra.laws g.met.Self.AirBuilder.laws Base (bool_check_term g.Self.F.Field.ONE)) c.args.elements.now c.loop-i.i c.index-elements-i.result (omega arith) c.index-elements-i.is c.loop-i.invariant.asserted c.in_err-assert_bool_named.ensures.asserted)
 
-pub returns-clause-ok : goal.returns-clause-ok
-returns-clause-ok g c = labels_grew_whole g.met.Self.NamedAirBuilder.named_laws c.args.elements.now c.loop-i.i (omega arith) c.loop-i.invariant.grown
+pub returns-in_err-assert_bool_named-clause-label : goal.returns-in_err-assert_bool_named-clause-label
+returns-in_err-assert_bool_named-clause-label g c =
+    let p = err_from_is_err_and c.from_residual.result c.from_residual.ensures.1 in
+    rw (p.1, p.2) (labelled_refused g.met.Self.AirBuilder.laws g.met.Self.NamedAirBuilder.named_laws _ (asserts_kept g.met.Self.Ring.Algebra.laws g.met.Self.AirBuilder.laws Base (bool_check_term g.Self.F.Field.ONE)) (ElementSays (g.N.Name.displays c.args.name)) c.args.elements.now c.loop-i.i (omega arith) c.loop-i.invariant.labels c.in_err-assert_bool_named.ensures.label)
+
+pub returns-clause-asserted : goal.returns-clause-asserted
+returns-clause-asserted g c =
+    asserted_all g.met.Self.AirBuilder.laws _ (asserts_kept g.met.Self.Ring.Algebra.laws g.met.Self.AirBuilder.laws Base (bool_check_term g.Self.F.Field.ONE)) c.args.elements.now c.loop-i.i (omega arith) c.loop-i.invariant.asserted
+
+pub returns-clause-label : goal.returns-clause-label
+returns-clause-label g c = labelled_all g.met.Self.AirBuilder.laws g.met.Self.NamedAirBuilder.named_laws _ (asserts_kept g.met.Self.Ring.Algebra.laws g.met.Self.AirBuilder.laws Base (bool_check_term g.Self.F.Field.ONE)) (ElementSays (g.N.Name.displays c.args.name)) c.args.elements.now c.loop-i.i (omega arith) c.loop-i.invariant.labels

@@ -1,40 +1,32 @@
-use Rattle.std.proofs.Common.{[]}
-use Rattle.std.proofs.lemmas.Result.{on_ok_weaker, on_err_weaker, IfErr-weaker, err_from_is_err_and}
+use Rattle.std.proofs.Common.{inl}
+use Rattle.std.proofs.lemmas.Result.{err_from_is_err_and}
+use Rattle.air_field.specs.Part.{whole}
 use Rattle.air_field.specs.Term.{with_leaves, sub_term}
-use Rattle.air_builder.proofs.Growth.{lent_then, lent_kept, lent_grew, lent_refuses, ring_refuses_of, means_in}
-use Rattle.air_builder.proofs.LabelGrowth.{lent_label_both}
+use Rattle.air_builder.specs.Assertion.{Base}
+use Rattle.air_builder.proofs.Growth.{made_of_both, refused_of_both, lent_asserted, making_refused}
+use Rattle.air_builder.proofs.LabelGrowth.{lent_labelled, making_unlabelled}
 use Rattle.air_builder.proofs.builders.named.NamedAirBuilder.assert_eq_named.Goals as goal
 
-pub returns-clause-keeps : goal.returns-clause-keeps
-returns-clause-keeps g c = lent_kept g.met.Self.AirBuilder.laws _ _ _ _ c.ring.ensures.value c.sub.ensures.extended c.assert_zero_named.ensures.keeps
+pub returns-clause-asserted : goal.returns-clause-asserted
+returns-clause-asserted g c =
+    lent_asserted g.met.Self.AirBuilder.laws c.ring.ensures.value c.sub.ensures.extended c.assert_zero_named.result
+    (made_of_both g.met.Self.Ring.Algebra.laws g.met.Self.AirBuilder.laws Base c.ring.ensures.value c.sub.ensures.extended sub_term (λ t u m n. c.in_ok-z.ensures.made.1 (with_leaves (g.Self.AirBuilder.stands c.args.self.now) t) (with_leaves (g.Self.AirBuilder.stands c.args.self.now) u) m n))
+    c.assert_zero_named.ensures.asserted
 
-pub returns-clause-err : goal.returns-clause-err
-returns-clause-err g c = on_err_weaker c.assert_zero_named.result (lent_then g.met.Self.AirBuilder.laws _ _ _ _ [] c.ring.ensures.value c.sub.ensures.extended) c.assert_zero_named.ensures.err
-
-pub returns-clause-ok : goal.returns-clause-ok
-returns-clause-ok g c =
-    on_ok_weaker c.assert_zero_named.result
-    (λ h s t k l. lent_grew g.met.Self.Ring.Algebra.laws g.met.Self.AirBuilder.laws _ _ _ _ c.args.x _ (λ v. sub_term v t) c.ring.ensures.value c.in_ok-z.ensures.extended
-    (λ v m. c.in_ok-z.ensures.made.1 (with_leaves (g.Self.AirBuilder.stands c.args.self.now) v) (with_leaves (g.Self.AirBuilder.stands c.args.self.now) t) m (means_in g.Self.Ring.Algebra.means _ _ c.ring.ensures.value l)) h s k)
-    c.assert_zero_named.ensures.ok
-
-pub returns-in_err-z-clause-refused : goal.returns-in_err-z-clause-refused
-returns-in_err-z-clause-refused g c =
+pub returns-in_err-z-clause-asserted : goal.returns-in_err-z-clause-asserted
+returns-in_err-z-clause-asserted g c =
     let p = err_from_is_err_and c.from_residual.result c.from_residual.ensures.1 in
     rw (p.1, p.2)
-    (λ s t k l. ring_refuses_of g.met.Self.Ring.Algebra.laws g.met.Self.AirBuilder.laws c.args.self.now _ c.args.x c.in_err-z.field-0.0 (λ v. sub_term v t) c.ring.ensures.value
-    (λ v m. c.in_err-z.ensures.refused (with_leaves (g.Self.AirBuilder.stands c.args.self.now) v) (with_leaves (g.Self.AirBuilder.stands c.args.self.now) t) m (means_in g.Self.Ring.Algebra.means _ _ c.ring.ensures.value l)) s k)
-
-pub returns-clause-refused : goal.returns-clause-refused
-returns-clause-refused g c =
-    IfErr-weaker c.assert_zero_named.result _ _
-    (λ e h s t k l. lent_refuses g.met.Self.Ring.Algebra.laws g.met.Self.AirBuilder.laws _ _ _ c.args.x _ e (λ v. sub_term v t) c.ring.ensures.value c.in_ok-z.ensures.extended
-    (λ v m. c.in_ok-z.ensures.made.1 (with_leaves (g.Self.AirBuilder.stands c.args.self.now) v) (with_leaves (g.Self.AirBuilder.stands c.args.self.now) t) m (means_in g.Self.Ring.Algebra.means _ _ c.ring.ensures.value l)) h s k)
-    c.assert_zero_named.ensures.refused
+    (making_refused g.met.Self.AirBuilder.laws c.ring.ensures.value c.sub.ensures.extended _
+    (refused_of_both g.met.Self.Ring.Algebra.laws g.met.Self.AirBuilder.laws Base (λ t. inl whole) c.ring.ensures.value sub_term c.in_err-z.field-0.0 (λ t u m n. c.in_err-z.ensures.refused (with_leaves (g.Self.AirBuilder.stands c.args.self.now) t) (with_leaves (g.Self.AirBuilder.stands c.args.self.now) u) m n)))
 
 pub returns-clause-label : goal.returns-clause-label
 returns-clause-label g c =
-    on_ok_weaker c.assert_zero_named.result
-    (lent_label_both g.met.Self.Ring.Algebra.laws g.met.Self.AirBuilder.laws g.met.Self.NamedAirBuilder.named_laws _ _ _ _ c.args.x c.args.y _ _ (λ t u. sub_term t u) c.ring.ensures.value c.in_ok-z.ensures.extended
-    (λ t u m n. c.in_ok-z.ensures.made.1 (with_leaves (g.Self.AirBuilder.stands c.args.self.now) t) (with_leaves (g.Self.AirBuilder.stands c.args.self.now) u) m n))
+    lent_labelled g.met.Self.AirBuilder.laws g.met.Self.NamedAirBuilder.named_laws c.ring.ensures.value c.sub.ensures.extended c.assert_zero_named.result
+    (made_of_both g.met.Self.Ring.Algebra.laws g.met.Self.AirBuilder.laws Base c.ring.ensures.value c.sub.ensures.extended sub_term (λ t u m n. c.in_ok-z.ensures.made.1 (with_leaves (g.Self.AirBuilder.stands c.args.self.now) t) (with_leaves (g.Self.AirBuilder.stands c.args.self.now) u) m n))
     c.assert_zero_named.ensures.label
+
+pub returns-in_err-z-clause-label : goal.returns-in_err-z-clause-label
+returns-in_err-z-clause-label g c =
+    let p = err_from_is_err_and c.from_residual.result c.from_residual.ensures.1 in
+    rw (p.1, p.2) (making_unlabelled g.met.Self.AirBuilder.laws g.met.Self.NamedAirBuilder.named_laws c.ring.ensures.value c.sub.ensures.extended _)
