@@ -113,9 +113,6 @@ pub(crate) fn check_row<'a, F: SelfExtension + 'static, A: Air<DebugConstraintBu
         selector(row + 1 == height),
         selector(row + 1 != height),
         periodic_row,
-        None,
-        &[],
-        &[],
         failures,
     );
     air.eval(&mut builder)?;

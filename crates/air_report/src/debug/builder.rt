@@ -46,7 +46,7 @@ impl<'a, F: Field + ExtensionField<F>> DebugConstraintBuilder<'a, F, F> {
         ensures { IsAtRow row_index main.entry preprocessed.entry public_values.now is_first_row
             is_last_row is_transition periodic_row None [] [] [] result }
     {
-        DebugConstraintBuilder::at_row(
+        Self::at_row(
             row_index,
             main,
             preprocessed,
@@ -55,16 +55,14 @@ impl<'a, F: Field + ExtensionField<F>> DebugConstraintBuilder<'a, F, F> {
             is_last_row,
             is_transition,
             periodic_row,
-            None,
-            &[],
-            &[],
             Vec::new(alloc),
         )
     }
 }
 
 impl<'a, F: Field, EF: ExtensionField<F>> DebugConstraintBuilder<'a, F, EF> {
-    /// A builder at the row of this index that has counted nothing yet, and adds to the failures before it.
+    /// A builder at the row of this index, without permutation data, that has counted nothing and goes on with these
+    /// failures.
     #[inline(always)]
     pub(crate) fn at_row(
         row_index: usize,
@@ -75,14 +73,10 @@ impl<'a, F: Field, EF: ExtensionField<F>> DebugConstraintBuilder<'a, F, EF> {
         is_last_row: F,
         is_transition: F,
         periodic_row: Vec<F>,
-        permutation: Option<ViewPair<'a, EF>>,
-        permutation_challenges: &'a [EF],
-        permutation_values: &'a [EF],
         failures: Vec<ConstraintFailure>,
     ) -> Self
         ensures { IsAtRow row_index main.entry preprocessed.entry public_values.now is_first_row
-            is_last_row is_transition periodic_row permutation.entry permutation_challenges.now
-            permutation_values.now failures.items result }
+            is_last_row is_transition periodic_row None [] [] failures.items result }
     {
         DebugConstraintBuilder {
             row_index,
@@ -96,9 +90,9 @@ impl<'a, F: Field, EF: ExtensionField<F>> DebugConstraintBuilder<'a, F, EF> {
             is_last_row,
             is_transition,
             periodic_row,
-            permutation,
-            permutation_challenges,
-            permutation_values,
+            permutation: None,
+            permutation_challenges: &[],
+            permutation_values: &[],
             ring: FieldRing::new(),
             ext_ring: ExtFieldRing::new(),
             constraint_index: 0,
@@ -126,20 +120,22 @@ impl<'a, F: Field, EF: ExtensionField<F>> DebugConstraintBuilder<'a, F, EF> {
             is_last_row is_transition periodic_row (Some permutation.entry)
             permutation_challenges.now permutation_values.now [] result }
     {
-        DebugConstraintBuilder::at_row(
-            row_index,
-            main,
-            preprocessed,
-            public_values,
-            is_first_row,
-            is_last_row,
-            is_transition,
-            periodic_row,
-            Some(permutation),
+        DebugConstraintBuilder {
+            permutation: Some(permutation),
             permutation_challenges,
             permutation_values,
-            Vec::new(alloc),
-        )
+            ..Self::at_row(
+                row_index,
+                main,
+                preprocessed,
+                public_values,
+                is_first_row,
+                is_last_row,
+                is_transition,
+                periodic_row,
+                Vec::new(alloc),
+            )
+        }
     }
 
     /// The builder with its counter at a number, as one that goes on where another stopped.
