@@ -12,10 +12,8 @@ use crate::checks::report::ConstraintReport;
 use crate::checks::shapes::{check_shapes, table_height};
 use crate::debug::builder::DebugConstraintBuilder;
 use crate::debug::failure::ConstraintFailure;
-use air_builder::{Air, AirError, RowWindow};
-use air_field::{
-    ExtFieldRing, Field, FieldRing, RowMajorMatrix, RowMajorMatrixView, SelfExtension, ViewPair,
-};
+use air_builder::{Air, AirError};
+use air_field::{Field, RowMajorMatrix, RowMajorMatrixView, SelfExtension, ViewPair};
 use std::alloc::Global;
 
 /// One where it holds, else zero.
@@ -56,23 +54,23 @@ fn row_pair<'a, F: Field>(main: &'a RowMajorMatrix<F>, row: usize) -> ViewPair<'
     )
 }
 
-/// The window of a table's row and of the one after it around the end; without a table it has no columns.
+/// The views of a table's row and of the one after it around the end; without a table they have no columns.
 #[inline(always)]
-fn table_window<'a, F: Field>(table: Option<&'a RowMajorMatrix<F>>, row: usize) -> RowWindow<'a, F>
+fn table_pair<'a, F: Field>(table: Option<&'a RowMajorMatrix<F>>, row: usize) -> ViewPair<'a, F>
     requires { IfSome table (λ t. row < length t.now.rows) }
-    ensures current { result.current.now ≡ row_or_none
+    ensures top { result.top.values.now ≡ row_or_none
         (slice_get (table_grid (option_copied table.entry)).rows row) }
-    ensures next { result.next.now ≡ row_or_none
+    ensures bottom { result.bottom.values.now ≡ row_or_none
         (slice_get (table_grid (option_copied table.entry)).rows
         ((row + 1) % length (table_grid (option_copied table.entry)).rows)) }
-    ensures width { length result.current.now ≡ (table_grid (option_copied table.entry)).width }
+    ensures width { length result.top.values.now ≡ (table_grid (option_copied table.entry)).width }
 {
     match table {
-        Some(table) => {
-            let pair = row_pair(table, row);
-            RowWindow::from_two_rows(pair.top.values, pair.bottom.values)
+        Some(table) => row_pair(table, row),
+        None => {
+            let none = RowMajorMatrixView::new_row(&[]);
+            ViewPair::new(none, none)
         }
-        None => RowWindow::from_two_rows(&[], &[]),
     }
 }
 
@@ -106,23 +104,17 @@ pub(crate) fn check_row<'a, F: SelfExtension + 'static, A: Air<DebugConstraintBu
 {
     let height = main.height();
     let periodic_row = air.periodic_values(alloc, row)?;
-    let mut builder = DebugConstraintBuilder {
-        row_index: row,
-        main: row_pair(main, row),
-        preprocessed: table_window(air.preprocessed_trace(), row),
+    let mut builder = DebugConstraintBuilder::at_row(
+        row,
+        row_pair(main, row),
+        table_pair(air.preprocessed_trace(), row),
         public_values,
-        is_first_row: selector(row == 0),
-        is_last_row: selector(row + 1 == height),
-        is_transition: selector(row + 1 != height),
+        selector(row == 0),
+        selector(row + 1 == height),
+        selector(row + 1 != height),
         periodic_row,
-        permutation: None,
-        permutation_challenges: &[],
-        permutation_values: &[],
-        ring: FieldRing::new(),
-        ext_ring: ExtFieldRing::new(),
-        constraint_index: 0,
         failures,
-    };
+    );
     air.eval(&mut builder)?;
     let constraints = builder.constraint_index;
     Ok(RowOutcome {

@@ -1,5 +1,6 @@
 //! The debug builder: it holds the values at one row, and evaluates what is asserted there.
 ghost use Rattle.std.specs.Prelude.{◌≡◌, ◌≢◌, ◌↔◌, IsTrue, [], None, Some, IfOk, IfErr, IfSome, string_bytes};
+ghost use Rattle.air_report.specs.DebugRow.{IsAtRow};
 ghost use Rattle.air_report.specs.FailureTexts.{failures_text};
 
 use crate::debug::failure::{ConstraintFailure, failures_text};
@@ -42,24 +43,10 @@ impl<'a, F: Field + ExtensionField<F>> DebugConstraintBuilder<'a, F, F> {
         is_transition: F,
         periodic_row: Vec<F>,
     ) -> Self
-        ensures row_index { result.row_index ≡ row_index }
-        ensures main { result.main ≡ main.entry }
-        ensures preprocessed { result.preprocessed.current.now ≡ preprocessed.entry.top.values.now }
-        ensures preprocessed_next { result.preprocessed.next.now
-            ≡ preprocessed.entry.bottom.values.now }
-        ensures public_values { result.public_values.now ≡ public_values.now }
-        ensures is_first_row { result.is_first_row ≡ is_first_row }
-        ensures is_last_row { result.is_last_row ≡ is_last_row }
-        ensures is_transition { result.is_transition ≡ is_transition }
-        ensures permutation { result.permutation ≡ None }
-        ensures permutation_challenges { result.permutation_challenges.now ≡ [] }
-        ensures permutation_values { result.permutation_values.now ≡ [] }
-        ensures periodic_row { result.periodic_row ≡ periodic_row }
-        ensures counter { result.constraint_index ≡ 0 }
-        ensures failures { result.failures.items ≡ [] }
+        ensures { IsAtRow row_index main.entry preprocessed.entry public_values.now is_first_row
+            is_last_row is_transition periodic_row None [] [] [] result }
     {
-        DebugConstraintBuilder::at_row(
-            alloc,
+        Self::at_row(
             row_index,
             main,
             preprocessed,
@@ -67,46 +54,29 @@ impl<'a, F: Field + ExtensionField<F>> DebugConstraintBuilder<'a, F, F> {
             is_first_row,
             is_last_row,
             is_transition,
-            None,
-            &[],
-            &[],
             periodic_row,
+            Vec::new(alloc),
         )
     }
 }
 
 impl<'a, F: Field, EF: ExtensionField<F>> DebugConstraintBuilder<'a, F, EF> {
-    /// A builder at the row of this index that has counted nothing yet; both constructors are this.
-    fn at_row(
-        alloc: Global,
+    /// A builder at the row of this index, without permutation data, that has counted nothing and goes on with these
+    /// failures.
+    #[inline(always)]
+    pub(crate) fn at_row(
         row_index: usize,
         main: ViewPair<'a, F>,
         preprocessed: ViewPair<'a, F>,
         public_values: &'a [F],
-        on_first_row: F,
-        on_last_row: F,
-        on_transition: F,
-        permutation: Option<ViewPair<'a, EF>>,
-        permutation_challenges: &'a [EF],
-        permutation_values: &'a [EF],
+        is_first_row: F,
+        is_last_row: F,
+        is_transition: F,
         periodic_row: Vec<F>,
+        failures: Vec<ConstraintFailure>,
     ) -> Self
-        ensures row_index { result.row_index ≡ row_index }
-        ensures main { result.main ≡ main.entry }
-        ensures preprocessed { result.preprocessed.current.now ≡ preprocessed.entry.top.values.now }
-        ensures preprocessed_next { result.preprocessed.next.now
-            ≡ preprocessed.entry.bottom.values.now }
-        ensures public_values { result.public_values.now ≡ public_values.now }
-        ensures is_first_row { result.is_first_row ≡ on_first_row }
-        ensures is_last_row { result.is_last_row ≡ on_last_row }
-        ensures is_transition { result.is_transition ≡ on_transition }
-        ensures permutation { result.permutation ≡ permutation.entry }
-        ensures permutation_challenges { result.permutation_challenges.now
-            ≡ permutation_challenges.now }
-        ensures permutation_values { result.permutation_values.now ≡ permutation_values.now }
-        ensures periodic_row { result.periodic_row ≡ periodic_row }
-        ensures counter { result.constraint_index ≡ 0 }
-        ensures failures { result.failures.items ≡ [] }
+        ensures { IsAtRow row_index main.entry preprocessed.entry public_values.now is_first_row
+            is_last_row is_transition periodic_row None [] [] failures.items result }
     {
         DebugConstraintBuilder {
             row_index,
@@ -116,17 +86,17 @@ impl<'a, F: Field, EF: ExtensionField<F>> DebugConstraintBuilder<'a, F, EF> {
                 preprocessed.bottom.values,
             ),
             public_values,
-            is_first_row: on_first_row,
-            is_last_row: on_last_row,
-            is_transition: on_transition,
+            is_first_row,
+            is_last_row,
+            is_transition,
             periodic_row,
-            permutation,
-            permutation_challenges,
-            permutation_values,
+            permutation: None,
+            permutation_challenges: &[],
+            permutation_values: &[],
             ring: FieldRing::new(),
             ext_ring: ExtFieldRing::new(),
             constraint_index: 0,
-            failures: Vec::new(alloc),
+            failures,
         }
     }
 
@@ -146,37 +116,26 @@ impl<'a, F: Field, EF: ExtensionField<F>> DebugConstraintBuilder<'a, F, EF> {
         permutation_values: &'a [EF],
         periodic_row: Vec<F>,
     ) -> Self
-        ensures row_index { result.row_index ≡ row_index }
-        ensures main { result.main ≡ main.entry }
-        ensures preprocessed { result.preprocessed.current.now ≡ preprocessed.entry.top.values.now }
-        ensures preprocessed_next { result.preprocessed.next.now
-            ≡ preprocessed.entry.bottom.values.now }
-        ensures public_values { result.public_values.now ≡ public_values.now }
-        ensures is_first_row { result.is_first_row ≡ is_first_row }
-        ensures is_last_row { result.is_last_row ≡ is_last_row }
-        ensures is_transition { result.is_transition ≡ is_transition }
-        ensures permutation { result.permutation ≡ Some permutation.entry }
-        ensures permutation_challenges { result.permutation_challenges.now
-            ≡ permutation_challenges.now }
-        ensures permutation_values { result.permutation_values.now ≡ permutation_values.now }
-        ensures periodic_row { result.periodic_row ≡ periodic_row }
-        ensures counter { result.constraint_index ≡ 0 }
-        ensures failures { result.failures.items ≡ [] }
+        ensures { IsAtRow row_index main.entry preprocessed.entry public_values.now is_first_row
+            is_last_row is_transition periodic_row (Some permutation.entry)
+            permutation_challenges.now permutation_values.now [] result }
     {
-        DebugConstraintBuilder::at_row(
-            alloc,
-            row_index,
-            main,
-            preprocessed,
-            public_values,
-            is_first_row,
-            is_last_row,
-            is_transition,
-            Some(permutation),
+        DebugConstraintBuilder {
+            permutation: Some(permutation),
             permutation_challenges,
             permutation_values,
-            periodic_row,
-        )
+            ..Self::at_row(
+                row_index,
+                main,
+                preprocessed,
+                public_values,
+                is_first_row,
+                is_last_row,
+                is_transition,
+                periodic_row,
+                Vec::new(alloc),
+            )
+        }
     }
 
     /// The builder with its counter at a number, as one that goes on where another stopped.

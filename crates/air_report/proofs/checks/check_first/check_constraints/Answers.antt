@@ -1,7 +1,5 @@
-use Rattle.std.proofs.Common.{rules, ◌≡◌, ◌+◌, [], length, map, ap, sym, subst, ◌∙◌, arith, ◌<◌}
+use Rattle.std.proofs.Common.{rules, ◌≡◌, ◌+◌, [], map, ap, sym, subst, ◌∙◌, arith, ◌<◌}
 use Rattle.std.proofs.lemmas.Grind.{common_steps}
-use Rattle.air_report.specs.Cells.{CellsFit, AgreeBelow}
-use Rattle.air_report.specs.Checks.{Fits}
 use Rattle.air_report.specs.Given.{given, given_trace, height}
 use Rattle.air_report.specs.Report.{failure_place, report_of}
 use Rattle.air_report.proofs.Reports.{checked_more}
@@ -12,12 +10,9 @@ returns-then-not-is_empty-clause-error g c =
     let r = g.F.Field.ring in
     let eq = g.F.PartialEq.eq in
     let all = given (g.A.BaseAir.declared c.args.air.now) (g.A.BaseAir.beside c.args.air.now) c.args.main.now c.args.public_values.now in
-    let shapes : Fits all = search rules in
-    let fit : CellsFit all.main all.public all.beside.cells = search rules in
-    let agree : AgreeBelow r eq all.main all.public all.beside.cells (length all.beside.cells) = search rules in
     record {
-      shapes = shapes;
-      cells = record { fit = fit; agree = agree };
+      shapes = search rules;
+      cells = record { fit = search rules; agree = search rules };
       within = search rules;
       before = c.rows.invariant.none;
       places = checked_more r eq (given_trace all) all.terms c.rows.row _ _ _ c.in_ok-outcome.ensures.checked (ap (map failure_place) c.new.ensures.items ∙ sym c.rows.invariant.none);
@@ -42,13 +37,10 @@ returns-clause-kept g c =
     let r = g.F.Field.ring in
     let eq = g.F.PartialEq.eq in
     let all = given (g.A.BaseAir.declared c.args.air.now) (g.A.BaseAir.beside c.args.air.now) c.args.main.now c.args.public_values.now in
-    let shapes : Fits all = search rules in
-    let fit : CellsFit all.main all.public all.beside.cells = search rules in
-    let agree : AgreeBelow r eq all.main all.public all.beside.cells (length all.beside.cells) = search rules in
     let done : c.rows.row ≡ height all = search rules in
     record {
-      shapes = shapes;
-      cells = record { fit = fit; agree = agree };
+      shapes = search rules;
+      cells = record { fit = search rules; agree = search rules };
       none = ap (λ n. report_of r eq (given_trace all) all.terms n) (sym done) ∙ c.rows.invariant.none;
       there = λ h. c.rows.invariant.there (subst (λ n. 0 < n) (sym done) h);
     }
