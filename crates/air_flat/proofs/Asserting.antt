@@ -1,6 +1,6 @@
 -- The assertion of roots.
 use Rattle.std.specs.List.{AllZip}
-use Rattle.std.proofs.Common.{◌≡◌, ℕ, zero, suc, ◌<◌, List, [], ◌∷◌, length, map, take, All, Result, Ok, Err, OnOk, OnErr, IfErr, inl, inr, refl, sym, arith}
+use Rattle.std.proofs.Common.{◌≡◌, ℕ, zero, suc, ◌<◌, List, [], ◌∷◌, length, map, take, All, Result, Ok, Err, inl, inr, refl, sym, arith}
 use Rattle.std.proofs.lemmas.List.{length-map}
 use Rattle.air_field.specs.Part.{whole}
 use Rattle.air_field.specs.Term.{Leaf, Term, with_leaves}
@@ -8,7 +8,7 @@ use Rattle.air_windows.specs.declared.errors.AirError.{AirError}
 use Rattle.air_builder.specs.Assertion.{Assertion, Base}
 use Rattle.air_builder.specs.laws.Zips.{AllZip-take}
 use Rattle.std.proofs.lemmas.Slice.Zip.{AllZip-long}
-use Rattle.air_builder.specs.Batches.{AssertsOf, GrewByEach, GrewByBeginning, RefusesByEach}
+use Rattle.air_builder.specs.Batches.{AssertsOf, AssertedEach}
 use Rattle.air_builder.specs.Builders.{MeansIn, BuilderView, RingLaws, BuilderLaws}
 use Rattle.air_builder.specs.Refusals.{PartOf, EachLeaf, EachLeafOf}
 use Rattle.air_builder.specs.laws.Refusals.{none_missing}
@@ -33,7 +33,7 @@ leaves_of P (t ∷ ts) h = (h 0 t (omega arith), leaves_of P ts (all_rest (λ u.
 
 -- what each expression asserts
 each_asserts : {S E F : Type 0} (means : S → E → Term F → Type 0) (b : S) (xs : List E) (ts : List (Term F))
-    → AllZip (λ x t. means b x t) xs ts → AllZip (AssertsOf means (λ t. t) b) xs (map (λ t. Base t) ts)
+    → AllZip (λ x t. means b x t) xs ts → AllZip (AssertsOf Base means (λ t. t) b) xs (map (λ t. Base t) ts)
 each_asserts means b [] [] h = tt
 each_asserts means b [] (t ∷ ts) h = absurd h
 each_asserts means b (x ∷ xs) [] h = absurd h
@@ -51,33 +51,31 @@ module _ {S R E F : Type 0} {view : BuilderView S R E F} (ring : RingLaws view) 
 
   -- each root's expression was made, and asserted to be zero
   pub roots_asserted : (a b d : S) (xs : List E) (ts : List (Term F)) (r : Result (Unit {0}) AirError) → grew a b []
-      → AllZip (λ x t. MeansIn view b x t) xs ts → All (λ t. EachLeaf (λ l. missing a l → ⊥) t) ts → kept b d
-      → OnOk r (GrewByEach (AssertsOf (MeansIn view) (λ t. t)) grew b d xs)
-      → OnErr r (GrewByBeginning (AssertsOf (MeansIn view) (λ t. t)) grew b d xs)
-      → IfErr r (λ e. RefusesByEach (AssertsOf (MeansIn view) (λ t. t)) refuses b xs e)
+      → AllZip (λ x t. MeansIn view b x t) xs ts → All (λ t. EachLeaf (λ l. missing a l → ⊥) t) ts
+      → AssertedEach (AssertsOf Base (MeansIn view) (λ t. t)) kept grew refuses b d xs r
       → Asserted kept grew missing (OrMemory refuses) a d r (map (λ t. Base t) ts)
-  roots_asserted a b d xs ts (Ok u) g made there k ok none f = record {
-    keeps = laws.kept_joined a b d (laws.by_growth a b [] g) k;
-    ok = laws.joined a b d [] (map (λ t. Base t) ts) g (ok (map (λ t. Base t) ts) (each_asserts (MeansIn view) b xs ts made));
+  roots_asserted a b d xs ts (Ok u) g made there h = record {
+    keeps = laws.kept_joined a b d (laws.by_growth a b [] g) h.keeps;
+    ok = laws.joined a b d [] (map (λ t. Base t) ts) g (h.ok (map (λ t. Base t) ts) (each_asserts (MeansIn view) b xs ts made));
     there = none_missing (missing a) (map (λ t. Base t) ts) (leaves_of (λ l. missing a l → ⊥) ts there);
     err = tt;
     refused = tt;
   }
-  roots_asserted a b d xs ts (Err e) g made there k ok none f =
+  roots_asserted a b d xs ts (Err e) g made there h =
       let ss : List (Assertion F) = map (λ t. Base t) ts in
       let each = each_asserts (MeansIn view) b xs ts made in
       let len = sym (AllZip-long _ xs ss each) in
-      let within = none.within in
+      let within = h.err.within in
       record {
-        keeps = laws.kept_joined a b d (laws.by_growth a b [] g) k;
+        keeps = laws.kept_joined a b d (laws.by_growth a b [] g) h.keeps;
         ok = tt;
         there = tt;
         err = record {
-          count = none.count;
+          count = h.err.count;
           within = omega (arith, len, within);
-          beginning = laws.joined a b d [] (take none.count ss) g (none.beginning (take none.count ss) (AllZip-take _ none.count xs ss each));
+          beginning = laws.joined a b d [] (take h.err.count ss) g (h.err.beginning (take h.err.count ss) (AllZip-take _ h.err.count xs ss each));
         };
-        refused = inr (laws.refuses_then a b e [] ss g (f ss each));
+        refused = inr (laws.refuses_then a b e [] ss g (h.refused ss each));
       }
 
   -- the making of the expressions was refused

@@ -68,10 +68,10 @@ module _ {R Q E X F : Type 0}
   }
 
   -- one base assertion was recorded
-  pub recorded_base : (p : Q) (s : Fixed E) (a b : Lists E X) (x : E) (t : Term F) → b ≡ with_base a x
+  recorded_base_term : (p : Q) (s : Fixed E) (a b : Lists E X) (x : E) (t : Term F) → b ≡ with_base a x
       → means (base_of p) x (with_leaves (λ l. leaf_term l) t)
       → GrewRecording (λ v y u. means (base_of v) y u) ext_means ext_extends p p s s a b (Base t ∷ [])
-  recorded_base p s a b x t e m = record {
+  recorded_base_term p s a b x t e m = record {
     keeps = record { pool = ext.same p; fixed = refl };
     more_base = x ∷ [];
     more_ext = [];
@@ -83,10 +83,10 @@ module _ {R Q E X F : Type 0}
   }
 
   -- one extension assertion was recorded
-  pub recorded_ext : (p : Q) (s : Fixed E) (a b : Lists E X) (x : X) (t : Term F) → b ≡ with_ext a x
+  recorded_ext_term : (p : Q) (s : Fixed E) (a b : Lists E X) (x : X) (t : Term F) → b ≡ with_ext a x
       → ext_means p x (with_leaves (λ l. leaf_term l) t)
       → GrewRecording (λ v y u. means (base_of v) y u) ext_means ext_extends p p s s a b (Extension t ∷ [])
-  recorded_ext p s a b x t e m = record {
+  recorded_ext_term p s a b x t e m = record {
     keeps = record { pool = ext.same p; fixed = refl };
     more_base = [];
     more_ext = x ∷ [];
@@ -96,6 +96,20 @@ module _ {R Q E X F : Type 0}
     each_base = tt;
     each_ext = (subst (λ v. ext_means p x v) (with_leaves-same t) m, tt);
   }
+
+  pub recorded_base : (p : Q) (s : Fixed E) (a b : Lists E X) (x : E) (k : Assertion F) (t : Term F) → b ≡ with_base a x
+      → k ≡ Base t → means (base_of p) x (with_leaves (λ l. leaf_term l) t)
+      → GrewRecording (λ v y u. means (base_of v) y u) ext_means ext_extends p p s s a b (k ∷ [])
+  recorded_base p s a b x k t e is m =
+      subst (λ v. GrewRecording (λ v y u. means (base_of v) y u) ext_means ext_extends p p s s a b (v ∷ [])) (sym is)
+      (recorded_base_term p s a b x t e m)
+
+  pub recorded_ext : (p : Q) (s : Fixed E) (a b : Lists E X) (x : X) (k : Assertion F) (t : Term F) → b ≡ with_ext a x
+      → k ≡ Extension t → ext_means p x (with_leaves (λ l. leaf_term l) t)
+      → GrewRecording (λ v y u. means (base_of v) y u) ext_means ext_extends p p s s a b (k ∷ [])
+  recorded_ext p s a b x k t e is m =
+      subst (λ v. GrewRecording (λ v y u. means (base_of v) y u) ext_means ext_extends p p s s a b (v ∷ [])) (sym is)
+      (recorded_ext_term p s a b x t e m)
 
   recorded_joined : (p q r : Q) (s u v : Fixed E) (a b c : Lists E X) (ts us : List (Assertion F))
       → GrewRecording (λ w x t. means (base_of w) x t) ext_means ext_extends p q s u a b ts

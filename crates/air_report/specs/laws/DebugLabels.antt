@@ -1,13 +1,15 @@
 -- The debug builder keeps the laws of named builders.
-use Rattle.std.specs.Prelude.{◌≡◌, Result, Ok, Err, IfErr, ℕ, List, [], ◌∷◌, ◌++◌, map, Bool, true, false, not, cond, refl, All, Option}
+use Rattle.std.specs.Prelude.{◌≡◌, Result, Ok, Err, OnOk, OnErr, IfErr, ℕ, List, [], ◌∷◌, ◌++◌, map, Bool, true, false, not, cond, refl, All, Option}
 use Rattle.std.specs.List.{AllZip, filter}
 use Rattle.std.proofs.Common.{inl, sym, ◌∙◌, ap, subst, arith, append_assoc}
 use Rattle.std.proofs.lemmas.List.{map-append, append-nil}
 use Rattle.std.proofs.lemmas.List.Elements.{filter-append, All-append, All-nil, All-cons}
 use Rattle.air_builder.specs.Assertion.{Assertion}
-use Rattle.air_builder.specs.laws.Labels.{without_labels-append}
+use Rattle.air_builder.specs.Batches.{AssertedEach}
+use Rattle.air_builder.specs.laws.Batches.{asserted_one}
+use Rattle.air_builder.specs.laws.Labels.{without_labels-append, labelled_one}
 use Rattle.air_builder.specs.laws.Zips.{AllZip-joined}
-use Rattle.air_builder.specs.Labels.{Label, Unasked, Shown, Labelled, IsSaid, without_labels, NamedLaws}
+use Rattle.air_builder.specs.Labels.{Label, Unasked, Shown, Labelled, LabelledEach, IsSaid, without_labels, NamedLaws}
 use Rattle.air_report.specs.Report.{failure_place}
 use Rattle.air_report.specs.Debug.{RowData, GrewAtRow}
 use Rattle.air_windows.specs.declared.errors.AirError.{AirError}
@@ -30,11 +32,6 @@ none_placed (f ∷ fs) e = cc
 labels_where-append : {F : Type 0} (test : Labelled F → Bool) (xs ys : List (Labelled F)) → map (λ l. l.1) (filter test (xs ++ ys)) ≡ map (λ l. l.1) (filter test xs) ++ map (λ l. l.1) (filter test ys)
 labels_where-append test xs ys = ap (λ ls. map (λ l. l.1) ls) (filter-append test xs ys) ∙ map-append (λ l. l.1) (filter test xs) (filter test ys)
 
--- what holds of an error holds of it in weaker words
-pub if_err_weaker : {T X : Type 0} {P Q : X → Type 0} (r : Result T X) → ((e : X) → P e → Q e) → IfErr r P → IfErr r Q
-if_err_weaker (Ok x) w h = tt
-if_err_weaker (Err e) w h = w e h
-
 count_is_not_memory : CountOverflow ≡ Memory → ⊥
 count_is_not_memory m = cc
 
@@ -44,21 +41,14 @@ module _ {F E : Type 0} (zero : RowData F E → Assertion F → Bool) where
   refused_of_log d k holds s z CountOverflow h = record { refused = omega (arith, h); memory = λ m. absurd (count_is_not_memory m) }
   refused_of_log d k holds s z _ h = absurd h
 
-  -- what the log refuses of an assertion, the builder may refuse
-  pub logged_refused : (d : RowData F E) (k : ℕ) (holds : Bool) (r : Result (Unit {0}) AirError)
-      → IfErr r (LogRefuses k holds)
-      → IfErr r (λ e. (s : Assertion F) → zero d s ≡ holds → RefusedAtRow zero d k e (s ∷ []))
-  logged_refused d k holds (Ok u) h = tt
-  logged_refused d k holds (Err e) h = λ s z. refused_of_log d k holds s z e h
-
   module _ (d f : RowData F E) (m n : ℕ) (fs gs : List ConstraintFailure) (says : Option (List ℕ) → Type 0) (same : f ≡ d) where
     -- what was logged of one assertion is growth by it
-    pub logged_grew : (holds : Bool) → LogsOne d.row m n says holds fs gs → (s : Assertion F) → zero d s ≡ holds → GrewAtRow zero d f m n fs gs (s ∷ [])
+    logged_grew : (holds : Bool) → LogsOne d.row m n says holds fs gs → (s : Assertion F) → zero d s ≡ holds → GrewAtRow zero d f m n fs gs (s ∷ [])
     logged_grew true h s z = asserted_zero zero d f m n fs gs s same h.0 z h.1
     logged_grew false h s z = asserted_other zero d f m n fs gs s same h.0 h.1.failure z h.1.pushed h.1.at
 
     -- and growth under a label that the name may display
-    pub logged_label : (holds : Bool) → LogsOne d.row m n says holds fs gs
+    logged_label : (holds : Bool) → LogsOne d.row m n says holds fs gs
         → (label : Label)
         × (IsSaid says label
         × ((s : Assertion F) → zero d s ≡ holds → LabelledAtRow zero d f m n fs gs ((s, label) ∷ [])))
@@ -91,6 +81,50 @@ module _ {F E : Type 0} (zero : RowData F E → Assertion F → Bool) where
 
   nothing_labelled : (d e : RowData F E) (m n : ℕ) (fs gs : List ConstraintFailure) → GrewAtRow zero d e m n fs gs [] → LabelledAtRow zero d e m n fs gs []
   nothing_labelled d e m n fs gs g = record { grew = g; more = g.more; failures = g.failures; kept = none_placed g.more g.places; unasked = none_unasked }
+
+  nothing_at_row : (d e : RowData F E) (m n : ℕ) (fs gs : List ConstraintFailure) → e ≡ d → n ≡ m → gs ≡ fs → GrewAtRow zero d e m n fs gs []
+  nothing_at_row d e m n fs gs same k f = record {
+    same_row = same;
+    count = omega (arith, k);
+    more = [];
+    failures = f ∙ sym (append-nil fs);
+    places = refl;
+  }
+
+  -- what was logged of an assertion says what became of it, and of its label
+  module _ {S I : Type 0} (data_of : S → RowData F E) (count : S → ℕ) (failures : S → List ConstraintFailure)
+      {asserts : S → I → Assertion F → Type 0} {a b : S} {x : I} (says : Option (List ℕ) → Type 0) (holds : Bool)
+      (same : data_of b ≡ data_of a) where
+    pub logged_asserted : (r : Result (Unit {0}) AirError)
+        → OnOk r (LogsOne (data_of a).row (count a) (count b) says holds (failures a) (failures b))
+        → OnErr r (count b ≡ count a) → OnErr r (failures b ≡ failures a) → IfErr r (LogRefuses (count a) holds)
+        → ((s : Assertion F) → asserts a x s → zero (data_of a) s ≡ holds)
+        → AssertedEach asserts (λ c d. data_of d ≡ data_of c)
+        (λ c d ts. GrewAtRow zero (data_of c) (data_of d) (count c) (count d) (failures c) (failures d) ts)
+        (λ c e ts. RefusedAtRow zero (data_of c) (count c) e ts) a b (x ∷ []) r
+    logged_asserted (Ok u) l n f e is =
+        asserted_one (Ok u) same
+        (λ s k. logged_grew (data_of a) (data_of b) (count a) (count b) (failures a) (failures b) says same holds l s (is s k))
+        tt tt
+    logged_asserted (Err y) l n f e is =
+        asserted_one (Err y) same tt
+        (nothing_at_row (data_of a) (data_of b) (count a) (count b) (failures a) (failures b) same n f)
+        (λ s k. refused_of_log (data_of a) (count a) holds s (is s k) y e)
+
+    pub logged_labelled : (r : Result (Unit {0}) AirError)
+        → OnOk r (LogsOne (data_of a).row (count a) (count b) says holds (failures a) (failures b))
+        → OnErr r (count b ≡ count a) → OnErr r (failures b ≡ failures a)
+        → ((s : Assertion F) → asserts a x s → zero (data_of a) s ≡ holds)
+        → LabelledEach asserts
+        (λ c d ls. LabelledAtRow zero (data_of c) (data_of d) (count c) (count d) (failures c) (failures d) ls)
+        (λ i. says) a b (x ∷ []) r
+    logged_labelled (Ok u) l n f is =
+        let one = logged_label (data_of a) (data_of b) (count a) (count b) (failures a) (failures b) says same holds l in
+        labelled_one (Ok u) (record { label = one.0; said = one.1.0; grown = λ s k. one.1.1 s (is s k) }) tt
+    logged_labelled (Err y) l n f is =
+        labelled_one (Err y) tt
+        (nothing_labelled (data_of a) (data_of b) (count a) (count b) (failures a) (failures b)
+        (nothing_at_row (data_of a) (data_of b) (count a) (count b) (failures a) (failures b) same n f))
 
   labelled_joined : (d e f : RowData F E) (m n k : ℕ) (fs gs hs : List ConstraintFailure)
       (xs ys : List (Labelled F))

@@ -4,8 +4,6 @@ ghost use Rattle.air_field.specs.Algebra.{closed_value, closed_value_in};
 ghost use Rattle.air_field.specs.Term.{IsBase, permutation};
 ghost use Rattle.air_builder.specs.Builders.{Means, RowStands};
 ghost use Rattle.air_builder.specs.Refusals.{RowEnds};
-ghost use Rattle.air_builder.specs.Extensions.{GrewExtOf, RefusesExtOf};
-ghost use Rattle.air_builder.specs.ExtensionLabels.{LabelledExtOf};
 ghost use Rattle.air_report.specs.Debug.{is_zero_at, row_stands};
 ghost use Rattle.air_report.specs.DebugLabels.{LabelledAtRow, LogRefuses};
 ghost use Rattle.air_report.specs.laws.Debug.{debug_extension_laws};

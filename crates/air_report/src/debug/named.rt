@@ -1,7 +1,9 @@
 //! The debug builder keeps the labels of what fails, and has no context.
-ghost use Rattle.std.specs.Prelude.{◌≡◌, false, [], OnOk, OnErr, IfErr, refl};
-ghost use Rattle.air_builder.specs.Builders.{Means, GrewOf, RefusesOf};
-ghost use Rattle.air_builder.specs.Labels.{LabelledOf};
+ghost use Rattle.std.specs.Prelude.{◌≡◌, false, [], ◌∷◌, IfErr, refl};
+ghost use Rattle.air_builder.specs.Assertion.{Base};
+ghost use Rattle.air_builder.specs.Batches.{AssertsOf, AssertedEach};
+ghost use Rattle.air_builder.specs.Builders.{Means};
+ghost use Rattle.air_builder.specs.Labels.{LabelledEach};
 ghost use Rattle.air_report.specs.Debug.{is_zero_at};
 ghost use Rattle.air_report.specs.DebugLabels.{LabelledAtRow, LogRefuses};
 ghost use Rattle.air_report.specs.laws.DebugLabels.{debug_named_laws};
@@ -22,24 +24,19 @@ impl<'a, F: Field, EF: ExtensionField<F> + 'static> NamedAirBuilder
     #[inline(always)]
     fn assert_zero_named<N: Name>(&mut self, x: F, name: N) -> Result<(), AirError>
         requires can_evaluate { F.eq x F.ring.nil ≡ false → N.can_evaluate name }
-        ensures keeps { debug_row self.new ≡ debug_row self.old }
-        ensures ok { OnOk result (GrewOf (Means ⟦<FieldRing<F> as Algebra<F>>⟧.means
+        ensures asserted { AssertedEach (AssertsOf Base (Means ⟦<FieldRing<F> as Algebra<F>>⟧.means
             ⟦<DebugConstraintBuilder<'a, F, EF> as AirBuilder>⟧.ring_of
-            ⟦<DebugConstraintBuilder<'a, F, EF> as AirBuilder>⟧.stands)
-            ⟦<DebugConstraintBuilder<'a, F, EF> as AirBuilder>⟧.grew (λ t. t) self.old self.new x) }
-        ensures label { OnOk result (LabelledOf (Means ⟦<FieldRing<F> as Algebra<F>>⟧.means
+            ⟦<DebugConstraintBuilder<'a, F, EF> as AirBuilder>⟧.stands) (λ t. t))
+            ⟦<DebugConstraintBuilder<'a, F, EF> as AirBuilder>⟧.kept
+            ⟦<DebugConstraintBuilder<'a, F, EF> as AirBuilder>⟧.grew
+            ⟦<DebugConstraintBuilder<'a, F, EF> as AirBuilder>⟧.refuses self.old self.new (x ∷ [])
+            result }
+        ensures label { LabelledEach (AssertsOf Base (Means ⟦<FieldRing<F> as Algebra<F>>⟧.means
             ⟦<DebugConstraintBuilder<'a, F, EF> as AirBuilder>⟧.ring_of
-            ⟦<DebugConstraintBuilder<'a, F, EF> as AirBuilder>⟧.stands)
+            ⟦<DebugConstraintBuilder<'a, F, EF> as AirBuilder>⟧.stands) (λ t. t))
             (λ a b ls. LabelledAtRow (is_zero_at F.ring EF.over F.eq EF.eq) (debug_row a) (debug_row b)
             a.constraint_index b.constraint_index a.failures.items b.failures.items ls)
-            (N.displays name) (λ t. t) self.old self.new x) }
-        ensures err { OnErr result (⟦<DebugConstraintBuilder<'a, F, EF> as AirBuilder>⟧.grew
-            self.old self.new []) }
-        ensures refused { IfErr result (RefusesOf
-            (Means ⟦<FieldRing<F> as Algebra<F>>⟧.means
-            ⟦<DebugConstraintBuilder<'a, F, EF> as AirBuilder>⟧.ring_of
-            ⟦<DebugConstraintBuilder<'a, F, EF> as AirBuilder>⟧.stands)
-            ⟦<DebugConstraintBuilder<'a, F, EF> as AirBuilder>⟧.refuses (λ t. t) self.old x) }
+            (λ i. N.displays name) self.old self.new (x ∷ []) result }
         ensures passes { IfErr result (LogRefuses self.old.constraint_index (F.eq x F.ring.nil)) }
     {
         self.log(x == F::ZERO, name)

@@ -38,5 +38,5 @@ returns g c =
     let ts = map term c.deref.result.now in
     let means = Means g.AB.Ring.Algebra.means A.ring_of A.stands in
     let made = subst (λ xs. AllZip (λ x t. means c.resolve_all.new.builder x t) xs ts) (sym c.deref-2.ensures.value) c.in_ok-expressions.ensures.made in
-    let h = roots_asserted g.met.AB.Ring.Algebra.laws g.met.AB.AirBuilder.laws _ _ _ c.deref-2.result.now ts c.assert_zeros_slice.result c.resolve_all.ensures.keeps made c.in_ok-expressions.ensures.there c.assert_zeros_slice.ensures.keeps c.assert_zeros_slice.ensures.ok c.assert_zeros_slice.ensures.err c.assert_zeros_slice.ensures.refused in
+    let h = roots_asserted g.met.AB.Ring.Algebra.laws g.met.AB.AirBuilder.laws _ _ _ c.deref-2.result.now ts c.assert_zeros_slice.result c.resolve_all.ensures.keeps made c.in_ok-expressions.ensures.there c.assert_zeros_slice.ensures in
     rw (← c.deref.ensures.value) record { ok = h.ok; there = h.there; keeps = h.keeps; err = h.err; refused = h.refused }

@@ -1,25 +1,14 @@
 use Rattle.std.proofs.Common.{sym, ◌∙◌, ap}
-use Rattle.std.proofs.lemmas.Result.{on_ok_weaker}
 use Rattle.air_field.specs.laws.Extension.{extend-coefficients}
-use Rattle.air_builder.specs.Assertion.{Extension}
 use Rattle.air_report.specs.Debug.{is_zero_at}
-use Rattle.air_report.specs.laws.DebugLabels.{if_err_weaker, logged_grew, logged_refused}
+use Rattle.air_report.specs.laws.DebugLabels.{logged_asserted}
 use Rattle.air_report.specs.DebugRow.{debug_row}
 use Rattle.air_report.specs.laws.DebugValues.{ext_is_zero}
 use Rattle.air_report.proofs.debug.extension.DebugConstraintBuilderExtensionBuilder.assert_zero_ext.Goals as goal
 
-pub returns-clause-ok : goal.returns-clause-ok
-returns-clause-ok g c =
+pub returns : goal.returns
+returns g c =
     let over = g.EF.ExtensionField.over in
     let zero = is_zero_at g.F.Field.ring over g.F.PartialEq.eq g.EF.PartialEq.eq in
-    on_ok_weaker c.log.result
-    (λ h t m. logged_grew zero (debug_row c.args.self.now) _ _ _ _ _ _ c.log.ensures.keeps c.eq.result h (Extension t) (ext_is_zero g.F.Field.ring over g.EF.ExtensionField.coefficients g.F.PartialEq.eq g.EF.PartialEq.eq (extend-coefficients g.F.Field.ring over g.EF.ExtensionField.coefficients g.EF.ExtensionField.DIMENSION g.met.EF.ExtensionField.laws) (debug_row c.args.self.now) c.args.x t m ∙ (ap (λ w. g.EF.PartialEq.eq c.args.x w) (sym c.zero.ensures) ∙ sym c.eq.ensures)))
-    c.log.ensures.ok
-
-pub returns-clause-refused : goal.returns-clause-refused
-returns-clause-refused g c =
-    let over = g.EF.ExtensionField.over in
-    let zero = is_zero_at g.F.Field.ring over g.F.PartialEq.eq g.EF.PartialEq.eq in
-    if_err_weaker c.log.result
-    (λ e h t m. h (Extension t) (ext_is_zero g.F.Field.ring over g.EF.ExtensionField.coefficients g.F.PartialEq.eq g.EF.PartialEq.eq (extend-coefficients g.F.Field.ring over g.EF.ExtensionField.coefficients g.EF.ExtensionField.DIMENSION g.met.EF.ExtensionField.laws) (debug_row c.args.self.now) c.args.x t m ∙ (ap (λ w. g.EF.PartialEq.eq c.args.x w) (sym c.zero.ensures) ∙ sym c.eq.ensures)))
-    (logged_refused zero (debug_row c.args.self.now) c.args.self.now.constraint_index c.eq.result c.log.result c.log.ensures.refused)
+    logged_asserted zero debug_row (λ d. d.constraint_index) (λ d. d.failures.items) _ c.eq.result c.log.ensures.keeps c.log.result c.log.ensures.ok c.log.ensures.err_count c.log.ensures.err c.log.ensures.refused
+    (λ s k. ap (λ v. zero (debug_row c.args.self.now) v) k.2 ∙ (ext_is_zero g.F.Field.ring over g.EF.ExtensionField.coefficients g.F.PartialEq.eq g.EF.PartialEq.eq (extend-coefficients g.F.Field.ring over g.EF.ExtensionField.coefficients g.EF.ExtensionField.DIMENSION g.met.EF.ExtensionField.laws) (debug_row c.args.self.now) c.args.x k.0 k.1 ∙ (ap (λ w. g.EF.PartialEq.eq c.args.x w) (sym c.zero.ensures) ∙ sym c.eq.ensures)))
