@@ -85,6 +85,14 @@ module _ {S R B F : Type 0} {view : BuilderView S R B F} (laws : BuilderLaws vie
     refused = laws.refuses_first a e ts us h.refused;
   }
 
+  -- a `?` gives up at a beginning
+  pub beginning_gives_up : {a b : S} {e : AirError} {r : Result (Unit {0}) AirError} {ts : List (Assertion F)}
+      (us : List (Assertion F)) → IsErrAnd r (λ x. x ≡ e) → Asserted kept grew missing refuses a b (Err e) ts
+      → Asserted kept grew missing refuses a b r (ts ++ us)
+  beginning_gives_up {a} {b} {e} {r} {ts} us p h =
+      let q = err_from_is_err_and r p in
+      rw (q.1, q.2) (refused_first a b e ts us h)
+
   module _ {E : Type 0} {means : S → E → Term F → Type 0} where
     -- the making of an expression was refused
     pub making_refused : (a b : S) (e : AirError) (t : Term F) → Made means grew missing refuses a b (Err e) t
@@ -150,22 +158,6 @@ module _ {S R B F : Type 0} {view : BuilderView S R B F} (laws : BuilderLaws vie
 
 module _ {S R E F : Type 0} {view : BuilderView S R E F} (laws : BuilderLaws view) where
   open view use {kept, grew, missing, refuses}
-
-  -- one assertion, and then others
-  pub then_more : {a b d : S} {u : Unit {0}} {r : Result (Unit {0}) AirError} {t : Assertion F} {us : List
-      (Assertion F)}
-      → Asserted kept grew missing refuses a b (Ok u) (t ∷ []) → Asserted kept grew missing refuses b d r us
-      → Asserted kept grew missing refuses a d r (t ∷ us)
-  then_more {a} {b} {d} {u} {r} {t} {us} h k = asserted_then laws a b d u r (t ∷ []) us h k
-
-  -- a `?` gives up at one of several
-  pub gives_up : {a b : S} {e : AirError} {r : Result (Unit {0}) AirError} {t : Assertion F} {us : List
-      (Assertion F)}
-      → IsErrAnd r (λ x. x ≡ e) → Asserted kept grew missing refuses a b (Err e) (t ∷ [])
-      → Asserted kept grew missing refuses a b r (t ∷ us)
-  gives_up {a} {b} {e} {r} {t} {us} p h =
-      let q = err_from_is_err_and r p in
-      rw (q.1, q.2) (refused_first laws a b e (t ∷ []) us h)
 
   -- one element more of a list
   pub each_more : {C : Type 0} (f : C → List (Assertion F)) (a b d : S) (u : Unit {0}) (xs : List C) (i : ℕ) (x : C)
