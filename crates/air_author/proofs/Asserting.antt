@@ -4,16 +4,15 @@ use Rattle.std.specs.Result.{IsErrAnd}
 use Rattle.std.proofs.Common.{◌≡◌, ℕ, zero, suc, arith, ◌+◌, ◌-◌, ◌<◌, ◌≤◌, List, [], ◌∷◌, ◌++◌, length, take, drop, get_or, Result, Ok, Err, OnOk, OnErr, IfErr, inl, inr, refl, sym, ap, subst, ◌∙◌, append_assoc, append-nil}
 use Rattle.std.proofs.lemmas.List.{take_more, drop_more, take-append-drop, take-append-le, length-append}
 use Rattle.std.proofs.Math.Seq.{take-append-add}
-use Rattle.air_field.specs.Part.{whole}
 use Rattle.air_field.specs.Term.{Leaf, Term}
 use Rattle.air_windows.specs.declared.errors.AirError.{AirError}
-use Rattle.air_builder.specs.Assertion.{Assertion, Base, Extension}
-use Rattle.air_builder.specs.Builders.{BuilderView, BuilderLaws, GrewOf, RefusesOf}
-use Rattle.air_builder.specs.Extensions.{GrewExtOf, RefusesExtOf}
-use Rattle.air_builder.specs.Refusals.{NoneMissing}
+use Rattle.air_builder.specs.Assertion.{Assertion}
+use Rattle.air_builder.specs.Builders.{BuilderView, BuilderLaws}
+use Rattle.air_builder.specs.Refusals.{NoneMissing, PartOf, EachLeaf, EachLeafOf}
 use Rattle.air_builder.specs.laws.Refusals.{none_missing}
 use Rattle.air_author.specs.Constraints.{Asserted, asserts_of_each, asserts_of_first}
 use Rattle.air_author.specs.Expressions.{Made}
+use Rattle.air_author.specs.Handing.{making_refused}
 
 none_missing_both : {F : Type 0} (missing : Leaf → Type 0) (ts us : List (Assertion F)) → NoneMissing missing ts
     → NoneMissing missing us → NoneMissing missing (ts ++ us)
@@ -85,87 +84,47 @@ module _ {S R B F : Type 0} {view : BuilderView S R B F} (laws : BuilderLaws vie
     refused = laws.refuses_first a e ts us h.refused;
   }
 
+  -- a `?` gives up at a beginning
+  pub beginning_gives_up : {a b : S} {e : AirError} {r : Result (Unit {0}) AirError} {ts : List (Assertion F)}
+      (us : List (Assertion F)) → IsErrAnd r (λ x. x ≡ e) → Asserted kept grew missing refuses a b (Err e) ts
+      → Asserted kept grew missing refuses a b r (ts ++ us)
+  beginning_gives_up {a} {b} {e} {r} {ts} us p h =
+      let q = err_from_is_err_and r p in
+      rw (q.1, q.2) (refused_first a b e ts us h)
+
   module _ {E : Type 0} {means : S → E → Term F → Type 0} where
-    -- the making of an expression was refused
-    pub making_refused : (a b : S) (e : AirError) (t : Term F) → Made means grew missing refuses a b (Err e) t
-        → Asserted kept grew missing refuses a b (Err e) (Base t ∷ [])
-    making_refused a b e t h = record {
-      keeps = laws.by_growth a b [] h.keeps;
-      ok = tt;
-      there = tt;
-      err = record { count = 0; within = omega arith; beginning = h.keeps };
-      refused = h.refused (Base t ∷ []) (inl whole);
-    }
+    -- a `?` gives up at what was to be asserted
+    pub making_gives_up : {a b : S} {e : AirError} {r : Result (Unit {0}) AirError} {t : Term F} (s : Assertion F)
+        → PartOf t (s ∷ []) → IsErrAnd r (λ x. x ≡ e) → Made means grew missing refuses a b (Err e) t
+        → Asserted kept grew missing refuses a b r (s ∷ [])
+    making_gives_up {a} {b} {e} {r} {t} s p i h =
+        let q = err_from_is_err_and r i in
+        rw (q.1, q.2) (making_refused laws a b e t (s ∷ []) (omega arith) p h)
 
     -- an expression was made, and asserted to be zero
-    pub made_then_zero : (a b d : S) (x : E) (r : Result (Unit {0}) AirError) (t : Term F)
-        → Made means grew missing refuses a b (Ok x) t → kept b d → OnOk r (GrewOf means grew (λ t. t) b d x)
-        → OnErr r (grew b d []) → IfErr r (RefusesOf means refuses (λ t. t) b x)
-        → Asserted kept grew missing refuses a d r (Base t ∷ [])
-    made_then_zero a b d x (Ok u) t h k g n f = record {
+    pub made_then_zero : (one : Term F → Assertion F) (a b d : S) (x : E) (r : Result (Unit {0}) AirError) (t : Term F)
+        → Made means grew missing refuses a b (Ok x) t → kept b d
+        → OnOk r ((u : Term F) → means b x u → grew b d (one u ∷ [])) → OnErr r (grew b d [])
+        → IfErr r (λ e. (u : Term F) → means b x u → refuses b e (one u ∷ []))
+        → (EachLeaf (λ l. missing a l → ⊥) t → EachLeafOf (λ l. missing a l → ⊥) (one t ∷ []))
+        → Asserted kept grew missing refuses a d r (one t ∷ [])
+    made_then_zero one a b d x (Ok u) t h k g n f j = record {
       keeps = laws.kept_joined a b d (laws.by_growth a b [] h.keeps) k;
-      ok = laws.joined a b d [] (Base t ∷ []) h.keeps (g t h.made);
-      there = none_missing (missing a) (Base t ∷ []) (h.there, tt);
+      ok = laws.joined a b d [] (one t ∷ []) h.keeps (g t h.made);
+      there = none_missing (missing a) (one t ∷ []) (j h.there);
       err = tt;
       refused = tt;
     }
-    made_then_zero a b d x (Err e) t h k g n f = record {
+    made_then_zero one a b d x (Err e) t h k g n f j = record {
       keeps = laws.kept_joined a b d (laws.by_growth a b [] h.keeps) k;
       ok = tt;
       there = tt;
       err = record { count = 0; within = omega arith; beginning = laws.joined a b d [] [] h.keeps n };
-      refused = laws.refuses_then a b e [] (Base t ∷ []) h.keeps (f t h.made);
-    }
-
-    -- the making of an expression was refused
-    pub making_refused_ext : (a b : S) (e : AirError) (t : Term F) → Made means grew missing refuses a b (Err e) t
-        → Asserted kept grew missing refuses a b (Err e) (Extension t ∷ [])
-    making_refused_ext a b e t h = record {
-      keeps = laws.by_growth a b [] h.keeps;
-      ok = tt;
-      there = tt;
-      err = record { count = 0; within = omega arith; beginning = h.keeps };
-      refused = h.refused (Extension t ∷ []) (inl whole);
-    }
-
-    -- an expression was made, and asserted to be zero
-    pub made_then_zero_ext : (a b d : S) (x : E) (r : Result (Unit {0}) AirError) (t : Term F)
-        → Made means grew missing refuses a b (Ok x) t → kept b d → OnOk r (GrewExtOf means grew (λ t. t) b d x)
-        → OnErr r (grew b d []) → IfErr r (RefusesExtOf means refuses (λ t. t) b x)
-        → Asserted kept grew missing refuses a d r (Extension t ∷ [])
-    made_then_zero_ext a b d x (Ok u) t h k g n f = record {
-      keeps = laws.kept_joined a b d (laws.by_growth a b [] h.keeps) k;
-      ok = laws.joined a b d [] (Extension t ∷ []) h.keeps (g t h.made);
-      there = none_missing (missing a) (Extension t ∷ []) (h.there, tt);
-      err = tt;
-      refused = tt;
-    }
-    made_then_zero_ext a b d x (Err e) t h k g n f = record {
-      keeps = laws.kept_joined a b d (laws.by_growth a b [] h.keeps) k;
-      ok = tt;
-      there = tt;
-      err = record { count = 0; within = omega arith; beginning = laws.joined a b d [] [] h.keeps n };
-      refused = laws.refuses_then a b e [] (Extension t ∷ []) h.keeps (f t h.made);
+      refused = laws.refuses_then a b e [] (one t ∷ []) h.keeps (f t h.made);
     }
 
 module _ {S R E F : Type 0} {view : BuilderView S R E F} (laws : BuilderLaws view) where
   open view use {kept, grew, missing, refuses}
-
-  -- one assertion, and then others
-  pub then_more : {a b d : S} {u : Unit {0}} {r : Result (Unit {0}) AirError} {t : Assertion F} {us : List
-      (Assertion F)}
-      → Asserted kept grew missing refuses a b (Ok u) (t ∷ []) → Asserted kept grew missing refuses b d r us
-      → Asserted kept grew missing refuses a d r (t ∷ us)
-  then_more {a} {b} {d} {u} {r} {t} {us} h k = asserted_then laws a b d u r (t ∷ []) us h k
-
-  -- a `?` gives up at one of several
-  pub gives_up : {a b : S} {e : AirError} {r : Result (Unit {0}) AirError} {t : Assertion F} {us : List
-      (Assertion F)}
-      → IsErrAnd r (λ x. x ≡ e) → Asserted kept grew missing refuses a b (Err e) (t ∷ [])
-      → Asserted kept grew missing refuses a b r (t ∷ us)
-  gives_up {a} {b} {e} {r} {t} {us} p h =
-      let q = err_from_is_err_and r p in
-      rw (q.1, q.2) (refused_first laws a b e (t ∷ []) us h)
 
   -- one element more of a list
   pub each_more : {C : Type 0} (f : C → List (Assertion F)) (a b d : S) (u : Unit {0}) (xs : List C) (i : ℕ) (x : C)

@@ -1,6 +1,9 @@
 -- What the making of an expression does.
-use Rattle.std.specs.Prelude.{ℕ, zero, suc, List, [], Result, OnOk, IfOk, IfErr}
+use Rattle.std.specs.Prelude.{ℕ, zero, suc, List, [], Result, Ok, Err, OnOk, IfOk, IfErr}
 use Rattle.air_field.specs.Term.{Leaf, Term, const_term, mul_term}
+use Rattle.air_field.specs.declared.errors.RingError.{RingError}
+use Rattle.air_windows.specs.declared.errors.AirError.{AirError}
+use Rattle.air_windows.specs.Errors.{air_error}
 use Rattle.air_builder.specs.Assertion.{Assertion}
 use Rattle.air_builder.specs.Refusals.{PartOf, EachLeaf}
 
@@ -17,6 +20,20 @@ pub record Made {S E F X : Type 0} (means : S → E → Term F → Type 0) (grew
   pub made : IfOk r (λ x. means b x t)
   pub there : OnOk r (EachLeaf (λ l. missing a l → ⊥) t)
   pub refused : IfErr r (λ e. (ts : List (Assertion F)) → PartOf t ts → refuses a e ts)
+
+-- Elements of both terms were made, as `Made` says of one.
+pub record MadeBoth {S E F X : Type 0} (means : S → E → Term F → Type 0) (grew : S → S → List (Assertion F) → Type 0)
+    (missing : S → Leaf → Type 0) (refuses : S → X → List (Assertion F) → Type 0) (a b : S) (r : Result (E × E) X)
+    (t u : Term F) : Type 0 where
+  pub keeps : grew a b []
+  pub made : IfOk r (λ both. means b both.0 t × means b both.1 u)
+  pub there : OnOk r (EachLeaf (λ l. missing a l → ⊥) t × EachLeaf (λ l. missing a l → ⊥) u)
+  pub refused : IfErr r (λ e. (ts : List (Assertion F)) → PartOf t ts × PartOf u ts → refuses a e ts)
+
+-- what a ring answered, as its builder answers it
+abbrev pub air_result : {E : Type 0} → Result E RingError → Result E AirError
+air_result (Ok x) = Ok x
+air_result (Err e) = Err (air_error e)
 
 -- the product of so many of the term, from the left; of none, one
 abbrev pub power_term : {F : Type 0} → F → Term F → ℕ → Term F

@@ -1,11 +1,11 @@
 //! Expressions as values, each of a small type of its own that knows its term.
-ghost use Rattle.std.specs.Prelude.{⊤};
+ghost use Rattle.std.specs.Prelude.{◌≡◌, ⊤};
 ghost use Rattle.air_field.specs.Term.{Term};
 ghost use Rattle.air_builder.specs.Builders.{Means};
-ghost use Rattle.air_author.specs.Expressions.{Made, Lasts};
+ghost use Rattle.air_author.specs.Expressions.{Made, Lasts, air_result};
 
 use air_builder::{AirBuilder, AirError, ExtensionBuilder};
-use air_field::Algebra;
+use air_field::{Algebra, RingError};
 
 pub mod already;
 pub mod arithmetic;
@@ -67,5 +67,16 @@ impl<'a, AB: ExtensionBuilder, X: ExtExpression<AB>> ExtExpression<AB> for &'a X
     #[inline(always)]
     fn make_ext(&self, builder: &mut AB) -> Result<AB::ExprEF, AirError> {
         (**self).make_ext(builder)
+    }
+}
+
+/// What a ring answered, as its builder answers it.
+#[inline(always)]
+pub(crate) fn answered<E: Copy>(answer: Result<E, RingError>) -> Result<E, AirError>
+    ensures { result ≡ air_result answer }
+{
+    match answer {
+        Ok(x) => Ok(x),
+        Err(e) => Err(AirError::from(e)),
     }
 }

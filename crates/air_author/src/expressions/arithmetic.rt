@@ -1,10 +1,29 @@
 //! Operations on expressions.
 ghost use Rattle.air_field.specs.Algebra.{double_term, bool_check_term};
 ghost use Rattle.air_field.specs.Term.{add_term, sub_term, neg_term, mul_term};
+ghost use Rattle.air_builder.specs.Builders.{Means};
+ghost use Rattle.air_author.specs.Expressions.{Lasts, MadeBoth};
 
-use crate::expressions::Expression;
+use crate::expressions::{Expression, answered};
 use air_builder::{AirBuilder, AirError};
 use air_field::Algebra;
+
+/// Makes both, in order.
+#[inline(always)]
+fn make_both<AB: AirBuilder, X: Expression<AB>, Y: Expression<AB>>(
+    builder: &mut AB,
+    x: &X,
+    y: &Y,
+) -> Result<(AB::Expr, AB::Expr), AirError>
+    requires ready { AB.ready builder.old }
+    requires held { Lasts AB.kept (λ b. X.holds x.now b × Y.holds y.now b) builder.old }
+    ensures { MadeBoth (Means AB.Ring.means AB.ring_of AB.stands) AB.grew AB.missing AB.refuses
+        builder.old builder.new result (X.term x.now) (Y.term y.now) }
+{
+    let first = x.make(builder)?;
+    let second = y.make(builder)?;
+    Ok((first, second))
+}
 
 /// x + y
 #[derive(Clone, Copy, Drop)]
@@ -17,10 +36,8 @@ impl<AB: AirBuilder, X: Expression<AB>, Y: Expression<AB>> Expression<AB> for Su
 
     #[inline(always)]
     fn make(&self, builder: &mut AB) -> Result<AB::Expr, AirError> {
-        let x = self.0.make(builder)?;
-        let y = self.1.make(builder)?;
-        let z = builder.ring().add(x, y)?;
-        Ok(z)
+        let (x, y) = make_both(builder, &self.0, &self.1)?;
+        answered(builder.ring().add(x, y))
     }
 }
 
@@ -35,10 +52,8 @@ impl<AB: AirBuilder, X: Expression<AB>, Y: Expression<AB>> Expression<AB> for Di
 
     #[inline(always)]
     fn make(&self, builder: &mut AB) -> Result<AB::Expr, AirError> {
-        let x = self.0.make(builder)?;
-        let y = self.1.make(builder)?;
-        let z = builder.ring().sub(x, y)?;
-        Ok(z)
+        let (x, y) = make_both(builder, &self.0, &self.1)?;
+        answered(builder.ring().sub(x, y))
     }
 }
 
@@ -53,10 +68,8 @@ impl<AB: AirBuilder, X: Expression<AB>, Y: Expression<AB>> Expression<AB> for Pr
 
     #[inline(always)]
     fn make(&self, builder: &mut AB) -> Result<AB::Expr, AirError> {
-        let x = self.0.make(builder)?;
-        let y = self.1.make(builder)?;
-        let z = builder.ring().mul(x, y)?;
-        Ok(z)
+        let (x, y) = make_both(builder, &self.0, &self.1)?;
+        answered(builder.ring().mul(x, y))
     }
 }
 
@@ -72,8 +85,7 @@ impl<AB: AirBuilder, X: Expression<AB>> Expression<AB> for Negative<X> {
     #[inline(always)]
     fn make(&self, builder: &mut AB) -> Result<AB::Expr, AirError> {
         let x = self.0.make(builder)?;
-        let y = builder.ring().neg(x)?;
-        Ok(y)
+        answered(builder.ring().neg(x))
     }
 }
 
@@ -89,8 +101,7 @@ impl<AB: AirBuilder, X: Expression<AB>> Expression<AB> for Double<X> {
     #[inline(always)]
     fn make(&self, builder: &mut AB) -> Result<AB::Expr, AirError> {
         let x = self.0.make(builder)?;
-        let y = builder.ring().double(x)?;
-        Ok(y)
+        answered(builder.ring().double(x))
     }
 }
 
@@ -106,8 +117,7 @@ impl<AB: AirBuilder, X: Expression<AB>> Expression<AB> for Square<X> {
     #[inline(always)]
     fn make(&self, builder: &mut AB) -> Result<AB::Expr, AirError> {
         let x = self.0.make(builder)?;
-        let y = builder.ring().mul(x, x)?;
-        Ok(y)
+        answered(builder.ring().mul(x, x))
     }
 }
 
@@ -123,7 +133,6 @@ impl<AB: AirBuilder, X: Expression<AB>> Expression<AB> for BoolCheck<X> {
     #[inline(always)]
     fn make(&self, builder: &mut AB) -> Result<AB::Expr, AirError> {
         let x = self.0.make(builder)?;
-        let y = builder.ring().bool_check(x)?;
-        Ok(y)
+        answered(builder.ring().bool_check(x))
     }
 }

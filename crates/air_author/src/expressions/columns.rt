@@ -5,7 +5,7 @@ ghost use Rattle.air_variables.specs.Entries.{entry_leaf};
 ghost use Rattle.air_builder.specs.Builders.{Means, VariableStands};
 ghost use Rattle.air_author.specs.Expressions.{Made};
 
-use crate::expressions::Expression;
+use crate::expressions::{Expression, answered};
 use air_builder::{AirBuilder, AirError};
 use air_field::{Algebra, FromVar};
 use air_variables::BaseEntry;
@@ -46,8 +46,7 @@ fn make_found<AB: AirBuilder>(
         builder.old builder.new result (leaf_term (entry_leaf entry index)) }
 {
     let v = present(found, entry, index)?;
-    let x = builder.ring().from_var(v)?;
-    Ok(x)
+    answered(builder.ring().from_var(v))
 }
 
 /// A column of the current row.
@@ -130,8 +129,7 @@ impl<AB: AirBuilder> Expression<AB> for Public {
             BaseEntry::Public,
             self.0,
         )?;
-        let x = builder.ring().from_var(v)?;
-        Ok(x)
+        answered(builder.ring().from_var(v))
     }
 }
 
@@ -149,7 +147,6 @@ impl<AB: AirBuilder> Expression<AB> for Periodic {
             BaseEntry::Periodic,
             self.0,
         )?;
-        let x = builder.ring().from_var(v)?;
-        Ok(x)
+        answered(builder.ring().from_var(v))
     }
 }

@@ -2,7 +2,7 @@
 ghost use Rattle.air_field.specs.Ring.{image};
 ghost use Rattle.air_field.specs.Term.{const_term};
 
-use crate::expressions::Expression;
+use crate::expressions::{Expression, answered};
 use air_builder::{AirBuilder, AirError};
 use air_field::{Algebra, Field};
 
@@ -15,8 +15,7 @@ impl<AB: AirBuilder> Expression<AB> for Constant<AB::F> {
 
     #[inline(always)]
     fn make(&self, builder: &mut AB) -> Result<AB::Expr, AirError> {
-        let x = builder.ring().constant(self.0)?;
-        Ok(x)
+        answered(builder.ring().constant(self.0))
     }
 }
 

@@ -1,8 +1,10 @@
 //! Expressions over the extension. Sums, differences, negatives and products are those of base expressions.
 ghost use Rattle.air_field.specs.Term.{ext_const_term, add_term, sub_term, neg_term, mul_term};
+ghost use Rattle.air_builder.specs.Builders.{Means};
+ghost use Rattle.air_author.specs.Expressions.{Lasts, MadeBoth};
 
 use crate::expressions::arithmetic::{Difference, Negative, Product, Sum};
-use crate::expressions::{Expression, ExtExpression};
+use crate::expressions::{Expression, ExtExpression, answered};
 use air_builder::{AirError, ExtensionBuilder};
 use air_field::{Algebra, ExtAlgebra, ExtensionField};
 
@@ -18,8 +20,7 @@ impl<AB: ExtensionBuilder, X: Expression<AB>> ExtExpression<AB> for Lifted<X> {
     #[inline(always)]
     fn make_ext(&self, builder: &mut AB) -> Result<AB::ExprEF, AirError> {
         let x = self.0.make(builder)?;
-        let y = builder.ext_ring().lift(x)?;
-        Ok(y)
+        answered(builder.ext_ring().lift(x))
     }
 }
 
@@ -32,9 +33,25 @@ impl<AB: ExtensionBuilder> ExtExpression<AB> for ExtConstant<AB::EF> {
 
     #[inline(always)]
     fn make_ext(&self, builder: &mut AB) -> Result<AB::ExprEF, AirError> {
-        let x = builder.ext_ring().ext_constant(self.0)?;
-        Ok(x)
+        answered(builder.ext_ring().ext_constant(self.0))
     }
+}
+
+/// Makes both, in order.
+#[inline(always)]
+fn make_both_ext<AB: ExtensionBuilder, X: ExtExpression<AB>, Y: ExtExpression<AB>>(
+    builder: &mut AB,
+    x: &X,
+    y: &Y,
+) -> Result<(AB::ExprEF, AB::ExprEF), AirError>
+    requires ready { AB.ready builder.old }
+    requires held { Lasts AB.kept (λ b. X.ext_holds x.now b × Y.ext_holds y.now b) builder.old }
+    ensures { MadeBoth (Means AB.ExtRing.means AB.ext_ring_of AB.stands) AB.grew AB.missing
+        AB.refuses builder.old builder.new result (X.ext_term x.now) (Y.ext_term y.now) }
+{
+    let first = x.make_ext(builder)?;
+    let second = y.make_ext(builder)?;
+    Ok((first, second))
 }
 
 impl<AB: ExtensionBuilder, X: ExtExpression<AB>, Y: ExtExpression<AB>> ExtExpression<AB>
@@ -45,10 +62,8 @@ impl<AB: ExtensionBuilder, X: ExtExpression<AB>, Y: ExtExpression<AB>> ExtExpres
 
     #[inline(always)]
     fn make_ext(&self, builder: &mut AB) -> Result<AB::ExprEF, AirError> {
-        let x = self.0.make_ext(builder)?;
-        let y = self.1.make_ext(builder)?;
-        let z = builder.ext_ring().add(x, y)?;
-        Ok(z)
+        let (x, y) = make_both_ext(builder, &self.0, &self.1)?;
+        answered(builder.ext_ring().add(x, y))
     }
 }
 
@@ -60,10 +75,8 @@ impl<AB: ExtensionBuilder, X: ExtExpression<AB>, Y: ExtExpression<AB>> ExtExpres
 
     #[inline(always)]
     fn make_ext(&self, builder: &mut AB) -> Result<AB::ExprEF, AirError> {
-        let x = self.0.make_ext(builder)?;
-        let y = self.1.make_ext(builder)?;
-        let z = builder.ext_ring().sub(x, y)?;
-        Ok(z)
+        let (x, y) = make_both_ext(builder, &self.0, &self.1)?;
+        answered(builder.ext_ring().sub(x, y))
     }
 }
 
@@ -75,10 +88,8 @@ impl<AB: ExtensionBuilder, X: ExtExpression<AB>, Y: ExtExpression<AB>> ExtExpres
 
     #[inline(always)]
     fn make_ext(&self, builder: &mut AB) -> Result<AB::ExprEF, AirError> {
-        let x = self.0.make_ext(builder)?;
-        let y = self.1.make_ext(builder)?;
-        let z = builder.ext_ring().mul(x, y)?;
-        Ok(z)
+        let (x, y) = make_both_ext(builder, &self.0, &self.1)?;
+        answered(builder.ext_ring().mul(x, y))
     }
 }
 
@@ -90,7 +101,6 @@ impl<AB: ExtensionBuilder, X: ExtExpression<AB>> ExtExpression<AB> for Negative<
     #[inline(always)]
     fn make_ext(&self, builder: &mut AB) -> Result<AB::ExprEF, AirError> {
         let x = self.0.make_ext(builder)?;
-        let y = builder.ext_ring().neg(x)?;
-        Ok(y)
+        answered(builder.ext_ring().neg(x))
     }
 }

@@ -3,7 +3,7 @@
 ghost use Rattle.std.specs.Prelude.{◌≡◌, Some, None, IfOk, IfErr, slice_get};
 ghost use Rattle.air_field.specs.Term.{permutation, challenge, permutation_value, leaf_term};
 
-use crate::expressions::ExtExpression;
+use crate::expressions::{ExtExpression, answered};
 use air_builder::{AirError, PermutationAirBuilder, WindowAccess};
 use air_field::{Algebra, FromVar};
 use air_variables::ExtEntry;
@@ -46,8 +46,7 @@ where
             ExtEntry::Permutation { offset: 0 },
             self.0,
         )?;
-        let x = builder.ext_ring().from_var(v)?;
-        Ok(x)
+        answered(builder.ext_ring().from_var(v))
     }
 }
 
@@ -69,8 +68,7 @@ where
             ExtEntry::Permutation { offset: 1 },
             self.0,
         )?;
-        let x = builder.ext_ring().from_var(v)?;
-        Ok(x)
+        answered(builder.ext_ring().from_var(v))
     }
 }
 
@@ -91,8 +89,7 @@ where
             ExtEntry::Challenge,
             self.0,
         )?;
-        let x = builder.ext_ring().from_var(v)?;
-        Ok(x)
+        answered(builder.ext_ring().from_var(v))
     }
 }
 
@@ -113,7 +110,6 @@ where
             ExtEntry::PermutationValue,
             self.0,
         )?;
-        let x = builder.ext_ring().from_var(v)?;
-        Ok(x)
+        answered(builder.ext_ring().from_var(v))
     }
 }

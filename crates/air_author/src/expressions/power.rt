@@ -3,8 +3,8 @@ ghost use Rattle.std.specs.Prelude.{suc, IfOk, IfErr};
 ghost use Rattle.air_field.specs.Algebra.{MadeOf, RefusedOf};
 ghost use Rattle.air_author.specs.Expressions.{power_term};
 
-use crate::expressions::Expression;
 use crate::expressions::constants::One;
+use crate::expressions::{Expression, answered};
 use air_builder::{AirBuilder, AirError};
 use air_field::{Algebra, Field, RingError};
 
@@ -43,7 +43,6 @@ impl<AB: AirBuilder, X: Expression<AB>> Expression<AB> for Power<X> {
             return One.make(builder);
         }
         let x = self.0.make(builder)?;
-        let y = multiplied(builder.ring(), x, self.1 - 1)?;
-        Ok(y)
+        answered(multiplied(builder.ring(), x, self.1 - 1))
     }
 }

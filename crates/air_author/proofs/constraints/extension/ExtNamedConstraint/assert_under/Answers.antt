@@ -1,11 +1,11 @@
-use Rattle.std.proofs.lemmas.Result.{err_from_is_err_and}
-use Rattle.air_author.proofs.Asserting.{making_refused_ext, made_then_zero_ext}
+use Rattle.std.proofs.Common.{inl}
+use Rattle.air_field.specs.Part.{whole}
+use Rattle.air_builder.specs.Assertion.{Extension}
+use Rattle.air_author.proofs.Asserting.{making_gives_up, made_then_zero}
 use Rattle.air_author.proofs.constraints.extension.ExtNamedConstraint.assert_under.Goals as goal
 
 pub returns-in_err-x : goal.returns-in_err-x
-returns-in_err-x g c =
-    let p = err_from_is_err_and c.from_residual.result c.from_residual.ensures.1 in
-    rw (p.1, p.2) (making_refused_ext g.met.AB.AirBuilder.laws _ _ _ _ c.in_err-x.ensures)
+returns-in_err-x g c = making_gives_up g.met.AB.AirBuilder.laws _ (inl whole) c.from_residual.ensures.1 c.in_err-x.ensures
 
 pub returns : goal.returns
-returns g c = made_then_zero_ext g.met.AB.AirBuilder.laws _ _ _ _ c.assert_zero_ext_named.result _ c.in_ok-x.ensures c.assert_zero_ext_named.ensures.keeps c.assert_zero_ext_named.ensures.ok c.assert_zero_ext_named.ensures.err c.assert_zero_ext_named.ensures.refused
+returns g c = made_then_zero g.met.AB.AirBuilder.laws Extension _ _ _ _ c.assert_zero_ext_named.result _ c.in_ok-x.ensures c.assert_zero_ext_named.ensures.keeps c.assert_zero_ext_named.ensures.ok c.assert_zero_ext_named.ensures.err c.assert_zero_ext_named.ensures.refused (λ h. (h, tt))

@@ -1,18 +1,11 @@
-use Rattle.std.proofs.lemmas.Result.{err_from_is_err_and}
+use Rattle.std.proofs.Common.{refl}
+use Rattle.air_field.specs.Algebra.{bool_check_term}
 use Rattle.air_field.specs.Part.{whole, in_mul_left}
-use Rattle.air_author.proofs.Making.{part_refused, one_refused, one_made}
+use Rattle.air_author.proofs.Making.{part_gives_up, one_answered}
 use Rattle.air_author.proofs.expressions.arithmetic.BoolCheckExpression.make.Goals as goal
 
 pub returns-in_err-x : goal.returns-in_err-x
-returns-in_err-x g c =
-    let p = err_from_is_err_and c.from_residual.result c.from_residual.ensures.1 in
-    rw (p.1, p.2) (part_refused g.met.AB.Ring.Algebra.laws g.met.AB.AirBuilder.laws _ _ _ _ _ (in_mul_left whole) c.in_err-x.ensures)
-
-pub returns-in_err-y : goal.returns-in_err-y
-returns-in_err-y g c =
-    let p = err_from_is_err_and c.from_residual-in_err-y.result c.from_residual-in_err-y.ensures.1 in
-    rw (p.1, p.2) (one_refused g.met.AB.Ring.Algebra.laws g.met.AB.AirBuilder.laws _ _ _ _ _ _ _ _ c.in_ok-x.ensures c.ring.ensures.value c.bool_check.ensures.extended (c.in_err-y.ensures.refused _))
+returns-in_err-x g c = part_gives_up (in_mul_left whole) c.from_residual.ensures.1 c.in_err-x.ensures
 
 pub returns : goal.returns
-returns g c =
-    one_made g.met.AB.Ring.Algebra.laws g.met.AB.AirBuilder.laws _ _ _ _ _ _ _ _ c.in_ok-x.ensures c.ring.ensures.value c.bool_check.ensures.extended (c.in_ok-y.ensures.made.1 _) (λ h. (h, (h, tt)))
+returns g c = one_answered g.met.AB.Ring.Algebra.laws g.met.AB.AirBuilder.laws (bool_check_term g.AB.F.Field.ONE) _ _ _ _ _ _ _ _ _ c.in_ok-x.ensures c.answered.ensures c.ring.ensures.value c.bool_check.ensures.extended c.bool_check.ensures.made c.bool_check.ensures.refused refl (λ h. (h, (h, tt)))

@@ -1,9 +1,8 @@
-use Rattle.std.proofs.lemmas.Result.{err_from_is_err_and}
+use Rattle.std.proofs.Common.{refl}
+use Rattle.air_field.specs.Term.{ext_const_term}
 use Rattle.air_builder.specs.laws.Extensions.{over_extension}
-use Rattle.air_author.proofs.Making.{ring_refused}
+use Rattle.air_author.proofs.Making.{ring_answered}
 use Rattle.air_author.proofs.expressions.extension.ExtConstantEFExtExpression.make_ext.Goals as goal
 
-pub returns-in_err-x : goal.returns-in_err-x
-returns-in_err-x g c =
-    let p = err_from_is_err_and c.from_residual.result c.from_residual.ensures.1 in
-    rw (p.1, p.2) (ring_refused g.met.AB.ExtRing.Algebra.laws (over_extension g.met.AB.AirBuilder.laws g.met.AB.ExtensionBuilder.ext_laws) _ _ _ _ _ _ (g.met.AB.AirBuilder.laws.same _) c.ext_ring.ensures.value c.ext_constant.ensures.extended c.in_err-x.ensures.refused)
+pub returns : goal.returns
+returns g c = ring_answered g.met.AB.ExtRing.Algebra.laws (over_extension g.met.AB.AirBuilder.laws g.met.AB.ExtensionBuilder.ext_laws) _ _ _ _ _ (ext_const_term (g.AB.EF.ExtensionField.coefficients c.args.self.now.0)) _ _ c.answered.ensures (g.met.AB.AirBuilder.laws.same _) c.ext_ring.ensures.value c.ext_constant.ensures.extended c.ext_constant.ensures.made c.ext_constant.ensures.refused refl tt

@@ -1,28 +1,12 @@
-use Rattle.std.proofs.lemmas.Result.{err_from_is_err_and}
+use Rattle.std.proofs.Common.{refl}
+use Rattle.air_field.specs.Term.{mul_term}
 use Rattle.air_field.specs.Part.{whole, in_mul_left, in_mul_right}
 use Rattle.air_builder.specs.laws.Extensions.{over_extension}
-use Rattle.air_author.proofs.Making.{part_refused, then_refused, both_refused, both_made, still_has}
+use Rattle.air_author.proofs.Making.{operand_gives_up, both_answered}
 use Rattle.air_author.proofs.expressions.extension.ProductExtExpression.make_ext.Goals as goal
 
 pub returns-in_err-x : goal.returns-in_err-x
-returns-in_err-x g c =
-    let p = err_from_is_err_and c.from_residual.result c.from_residual.ensures.1 in
-    rw (p.1, p.2) (part_refused g.met.AB.ExtRing.Algebra.laws (over_extension g.met.AB.AirBuilder.laws g.met.AB.ExtensionBuilder.ext_laws) _ _ _ _ _ (in_mul_left whole) c.in_err-x.ensures)
-
-pub returns-in_err-y : goal.returns-in_err-y
-returns-in_err-y g c =
-    let p = err_from_is_err_and c.from_residual-in_err-y.result c.from_residual-in_err-y.ensures.1 in
-    rw (p.1, p.2) (then_refused g.met.AB.ExtRing.Algebra.laws (over_extension g.met.AB.AirBuilder.laws g.met.AB.ExtensionBuilder.ext_laws) _ _ _ _ _ _ c.in_ok-x.ensures.keeps (in_mul_right whole) c.in_err-y.ensures)
-
-pub returns-in_err-z : goal.returns-in_err-z
-returns-in_err-z g c =
-    let p = err_from_is_err_and c.from_residual-in_err-z.result c.from_residual-in_err-z.ensures.1 in
-    rw (p.1, p.2) (both_refused g.met.AB.ExtRing.Algebra.laws (over_extension g.met.AB.AirBuilder.laws g.met.AB.ExtensionBuilder.ext_laws) _ _ _ _ _ _ _ _ _ _ _ c.in_ok-x.ensures c.in_ok-y.ensures c.ext_ring.ensures.value c.mul.ensures.extended (c.in_err-z.ensures.refused _ _))
+returns-in_err-x g c = operand_gives_up (in_mul_left whole) (in_mul_right whole) c.from_residual.ensures.1 c.in_err-x.ensures
 
 pub returns : goal.returns
-returns g c =
-    both_made g.met.AB.ExtRing.Algebra.laws (over_extension g.met.AB.AirBuilder.laws g.met.AB.ExtensionBuilder.ext_laws) _ _ _ _ _ _ _ _ _ _ _ c.in_ok-x.ensures c.in_ok-y.ensures c.ext_ring.ensures.value c.mul.ensures.extended (c.in_ok-z.ensures.made.1 _ _) (λ h k. (h, k))
-
-pub mul-requires-clause-x_in : goal.mul-requires-clause-x_in
-mul-requires-clause-x_in g c =
-    still_has g.met.AB.ExtRing.Algebra.laws (over_extension g.met.AB.AirBuilder.laws g.met.AB.ExtensionBuilder.ext_laws) _ _ _ _ _ _ _ _ c.in_ok-x.ensures c.in_ok-y.ensures c.ext_ring.ensures.value
+returns g c = both_answered g.met.AB.ExtRing.Algebra.laws (over_extension g.met.AB.AirBuilder.laws g.met.AB.ExtensionBuilder.ext_laws) mul_term _ _ _ _ _ _ _ _ _ _ _ c.in_ok-x.ensures c.answered.ensures c.ext_ring.ensures.value c.mul.ensures.extended c.mul.ensures.made c.mul.ensures.refused refl (λ h. h)

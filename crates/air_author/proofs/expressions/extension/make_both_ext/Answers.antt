@@ -1,0 +1,12 @@
+use Rattle.air_builder.specs.laws.Extensions.{over_extension}
+use Rattle.air_author.proofs.Making.{first_gives_up, second_gives_up, one_by_one}
+use Rattle.air_author.proofs.expressions.extension.make_both_ext.Goals as goal
+
+pub returns-in_err-first : goal.returns-in_err-first
+returns-in_err-first g c = first_gives_up c.from_residual.ensures.1 c.in_err-first.ensures
+
+pub returns-in_err-second : goal.returns-in_err-second
+returns-in_err-second g c = second_gives_up g.met.AB.ExtRing.Algebra.laws (over_extension g.met.AB.AirBuilder.laws g.met.AB.ExtensionBuilder.ext_laws) _ _ _ _ _ _ _ _ c.in_ok-first.ensures c.from_residual-in_err-second.ensures.1 c.in_err-second.ensures
+
+pub returns : goal.returns
+returns g c = one_by_one g.met.AB.ExtRing.Algebra.laws (over_extension g.met.AB.AirBuilder.laws g.met.AB.ExtensionBuilder.ext_laws) _ _ _ _ _ _ _ c.in_ok-first.ensures c.in_ok-second.ensures
