@@ -7,6 +7,8 @@ use Rattle.std.proofs.Math.Seq.{take-append-add}
 use Rattle.air_field.specs.Term.{Leaf, Term}
 use Rattle.air_windows.specs.declared.errors.AirError.{AirError}
 use Rattle.air_builder.specs.Assertion.{Assertion}
+use Rattle.air_builder.specs.Batches.{AssertsOf, AssertedEach}
+use Rattle.air_builder.specs.laws.Batches.{grew_one, grew_none, refused_one}
 use Rattle.air_builder.specs.Builders.{BuilderView, BuilderLaws}
 use Rattle.air_builder.specs.Refusals.{NoneMissing, PartOf, EachLeaf, EachLeafOf}
 use Rattle.air_builder.specs.laws.Refusals.{none_missing}
@@ -103,24 +105,23 @@ module _ {S R B F : Type 0} {view : BuilderView S R B F} (laws : BuilderLaws vie
 
     -- an expression was made, and asserted to be zero
     pub made_then_zero : (one : Term F → Assertion F) (a b d : S) (x : E) (r : Result (Unit {0}) AirError) (t : Term F)
-        → Made means grew missing refuses a b (Ok x) t → kept b d
-        → OnOk r ((u : Term F) → means b x u → grew b d (one u ∷ [])) → OnErr r (grew b d [])
-        → IfErr r (λ e. (u : Term F) → means b x u → refuses b e (one u ∷ []))
+        → Made means grew missing refuses a b (Ok x) t
+        → AssertedEach (AssertsOf one means (λ t. t)) kept grew refuses b d (x ∷ []) r
         → (EachLeaf (λ l. missing a l → ⊥) t → EachLeafOf (λ l. missing a l → ⊥) (one t ∷ []))
         → Asserted kept grew missing refuses a d r (one t ∷ [])
-    made_then_zero one a b d x (Ok u) t h k g n f j = record {
-      keeps = laws.kept_joined a b d (laws.by_growth a b [] h.keeps) k;
-      ok = laws.joined a b d [] (one t ∷ []) h.keeps (g t h.made);
+    made_then_zero one a b d x (Ok u) t h k j = record {
+      keeps = laws.kept_joined a b d (laws.by_growth a b [] h.keeps) k.keeps;
+      ok = laws.joined a b d [] (one t ∷ []) h.keeps (grew_one k (one t) (t, h.made, refl));
       there = none_missing (missing a) (one t ∷ []) (j h.there);
       err = tt;
       refused = tt;
     }
-    made_then_zero one a b d x (Err e) t h k g n f j = record {
-      keeps = laws.kept_joined a b d (laws.by_growth a b [] h.keeps) k;
+    made_then_zero one a b d x (Err e) t h k j = record {
+      keeps = laws.kept_joined a b d (laws.by_growth a b [] h.keeps) k.keeps;
       ok = tt;
       there = tt;
-      err = record { count = 0; within = omega arith; beginning = laws.joined a b d [] [] h.keeps n };
-      refused = laws.refuses_then a b e [] (one t ∷ []) h.keeps (f t h.made);
+      err = record { count = 0; within = omega arith; beginning = laws.joined a b d [] [] h.keeps (grew_none k) };
+      refused = laws.refuses_then a b e [] (one t ∷ []) h.keeps (refused_one k (one t) (t, h.made, refl));
     }
 
 module _ {S R E F : Type 0} {view : BuilderView S R E F} (laws : BuilderLaws view) where

@@ -1,5 +1,5 @@
 use Rattle.std.specs.List.{AllZip}
-use Rattle.std.proofs.Common.{◌≡◌, ◌++◌, inl, inr, ⊎_elim, map, sym, subst, ◌∙◌, ap}
+use Rattle.std.proofs.Common.{◌≡◌, ◌++◌, inr, ⊎_elim, map, sym, subst, ◌∙◌, ap}
 use Rattle.std.proofs.lemmas.Result.{err_from_is_err_and}
 use Rattle.air_field.specs.Ring.{itself, itself_laws}
 use Rattle.air_field.specs.Assignment.{IsMissing}

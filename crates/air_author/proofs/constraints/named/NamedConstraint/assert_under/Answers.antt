@@ -8,4 +8,4 @@ pub returns-in_err-x : goal.returns-in_err-x
 returns-in_err-x g c = making_gives_up g.met.AB.AirBuilder.laws _ (inl whole) c.from_residual.ensures.1 c.in_err-x.ensures
 
 pub returns : goal.returns
-returns g c = made_then_zero g.met.AB.AirBuilder.laws Base _ _ _ _ c.assert_zero_named.result _ c.in_ok-x.ensures c.assert_zero_named.ensures.keeps c.assert_zero_named.ensures.ok c.assert_zero_named.ensures.err c.assert_zero_named.ensures.refused (λ h. (h, tt))
+returns g c = made_then_zero g.met.AB.AirBuilder.laws Base _ _ _ _ c.assert_zero_named.result _ c.in_ok-x.ensures c.assert_zero_named.ensures.asserted (λ h. (h, tt))
