@@ -40,40 +40,56 @@ periodic_is z i (p ∷ ps) (c ∷ cs) e =
     ∙ ap (λ l. slice_index_or c.items (i % length c.items) z ∷ l) (periodic_is z i ps cs rest)
 
 -- a table that fits goes round as the trace does
-around_table : {F : Type 0} (t : Option (Grid F)) (h i : ℕ) → FitsHeight (table_height t) h → row_or_none (slice_get (table_grid t).rows ((i + 1) % length (table_grid t).rows)) ≡ row_or_none (slice_get (table_grid t).rows ((i + 1) % h))
+around_table : {F : Type 0} (t : Option (Grid F)) (h i : ℕ) → FitsHeight (table_height t) h
+    → row_or_none (slice_get (table_grid t).rows ((i + 1) % length (table_grid t).rows)) ≡ row_or_none (slice_get (table_grid t).rows ((i + 1) % h))
 around_table None h i f = refl
 around_table (Some table) h i f = ap (λ n. row_or_none (slice_get table.rows ((i + 1) % n))) f
 
 -- a builder at a row of a trace that is checked
-module _ {F : Type 0} (g : Given F) {i : ℕ} {pair table : ViewPair F} {periodic : Vec F Global} {first last other : F} {fs : List ConstraintFailure} {b : DebugConstraintBuilder F F} (at : IsAtRow i pair table g.public first last other periodic None [] [] fs b) where
+module _ {F : Type 0} (g : Given F) {i : ℕ} {pair table : ViewPair F} {periodic : Vec F Global} {first last other : F}
+    {fs : List ConstraintFailure} {b : DebugConstraintBuilder F F}
+    (at : IsAtRow i pair table g.public first last other periodic None [] [] fs b) where
   -- where it holds what stands at its row of the trace, it grows by what the check of the row adds
-  pub checked_row : {r : CommRing F} {eq : F → F → Bool} {over : Over F F} {e : RowData F F} {n : ℕ} {gs hs : List ConstraintFailure} → over ≡ itself r → debug_row b ≡ record { row = i; values = row_at r (given_trace g) i; permutation = no_permutation } → hs ≡ gs → GrewAtRow (is_zero_at r over eq eq) (debug_row b) e b.constraint_index n b.failures.items gs g.terms → CheckedRow r eq (given_trace g) g.terms i fs hs n
+  pub checked_row : {r : CommRing F} {eq : F → F → Bool} {over : Over F F} {e : RowData F F} {n : ℕ} {gs hs : List ConstraintFailure}
+      → over ≡ itself r → debug_row b ≡ record { row = i; values = row_at r (given_trace g) i; permutation = no_permutation } → hs ≡ gs
+      → GrewAtRow (is_zero_at r over eq eq) (debug_row b) e b.constraint_index n b.failures.items gs g.terms
+      → CheckedRow r eq (given_trace g) g.terms i fs hs n
   checked_row {r} {eq} {over} own there handed grew =
       let places_of : RowData F F → ℕ → List (ℕ × ℕ) = λ d n. map (λ k. (d.row, k)) (nonzero_by (is_zero_at r over eq eq d) n g.terms) in
       record {
         more = grew.more;
         failures = handed ∙ (grew.failures ∙ ap (λ l. l ++ grew.more) at.failures);
-        places = grew.places ∙ (ap₂ places_of there at.counter ∙ ap (map (λ k. (i, k))) (own_nonzero r eq over own i (row_at r (given_trace g) i) 0 g.terms));
+        places = grew.places
+            ∙ (ap₂ places_of there at.counter ∙ ap (map (λ k. (i, k))) (own_nonzero r eq over own i (row_at r (given_trace g) i) 0 g.terms));
         constraints = omega (arith, grew.count, at.counter);
       }
 
   -- the table that its preprocessed rows are of, and its periodic row
   module _ {t : Option (Grid F)} (same : t ≡ g.beside.preprocessed) (p : map Some periodic.items ≡ map (column_at i) g.beside.periodic) where
-    holds : debug_row b ≡ row_data i pair.top.values.now pair.bottom.values.now table.top.values.now table.bottom.values.now periodic.items g.public first last other no_permutation
+    holds : debug_row b ≡ row_data i pair.top.values.now pair.bottom.values.now
+        table.top.values.now table.bottom.values.now periodic.items g.public first last other no_permutation
     holds = rw (at.row_index, at.main, at.preprocessed, at.preprocessed_next, at.periodic_row, at.public_values, at.is_first_row, at.is_last_row, at.is_transition, at.permutation, at.permutation_challenges, at.permutation_values)
 
     -- it holds what stands at its row of the trace
-    pub row_at-given : (r : CommRing F) → Fits g → slice_get g.main.rows i ≡ Some pair.top.values.now → slice_get g.main.rows ((i + 1) % length g.main.rows) ≡ Some pair.bottom.values.now → table.top.values.now ≡ row_or_none (slice_get (table_grid t).rows i) → table.bottom.values.now ≡ row_or_none (slice_get (table_grid t).rows ((i + 1) % length (table_grid t).rows)) → first ≡ selector r (i == 0) → last ≡ selector r (i + 1 == length g.main.rows) → other ≡ selector r (not (i + 1 == length g.main.rows)) → debug_row b ≡ record { row = i; values = row_at r (given_trace g) i; permutation = no_permutation }
+    pub row_at-given : (r : CommRing F) → Fits g → slice_get g.main.rows i ≡ Some pair.top.values.now
+        → slice_get g.main.rows ((i + 1) % length g.main.rows) ≡ Some pair.bottom.values.now
+        → table.top.values.now ≡ row_or_none (slice_get (table_grid t).rows i)
+        → table.bottom.values.now ≡ row_or_none (slice_get (table_grid t).rows ((i + 1) % length (table_grid t).rows))
+        → first ≡ selector r (i == 0) → last ≡ selector r (i + 1 == length g.main.rows) → other ≡ selector r (not (i + 1 == length g.main.rows))
+        → debug_row b ≡ record { row = i; values = row_at r (given_trace g) i; permutation = no_permutation }
     row_at-given r fits c n before after f l o =
-        let u : table.top.values.now ≡ row_or_none (slice_get (table_grid g.beside.preprocessed).rows i) = before ∙ ap (λ x. row_or_none (slice_get (table_grid x).rows i)) same in
+        let u : table.top.values.now ≡ row_or_none (slice_get (table_grid g.beside.preprocessed).rows i) =
+        before ∙ ap (λ x. row_or_none (slice_get (table_grid x).rows i)) same in
         let v : table.bottom.values.now ≡ row_or_none (slice_get (table_grid g.beside.preprocessed).rows ((i + 1) % length g.main.rows)) =
-        after ∙ (ap (λ x. row_or_none (slice_get (table_grid x).rows ((i + 1) % length (table_grid x).rows))) same ∙ around_table g.beside.preprocessed (length g.main.rows) i fits.table_fits) in
+        after ∙ (ap (λ x. row_or_none (slice_get (table_grid x).rows ((i + 1) % length (table_grid x).rows))) same
+        ∙ around_table g.beside.preprocessed (length g.main.rows) i fits.table_fits) in
         let q = periodic_is r.nil i periodic.items g.beside.periodic p in
         let k : other ≡ (if i + 1 == length g.main.rows then r.nil else r.one) = o ∙ not_selector r (i + 1 == length g.main.rows) in
         holds ∙ rw (c, n, u, v, q, f, l, k)
 
     -- it has what the trace has
-    pub shape-given : length pair.top.values.now ≡ g.main.width → length table.top.values.now ≡ (table_grid t).width → one_row_shape (debug_row b).values (debug_row b).permutation ≡ trace_shape (given_trace g)
+    pub shape-given : length pair.top.values.now ≡ g.main.width → length table.top.values.now ≡ (table_grid t).width
+        → one_row_shape (debug_row b).values (debug_row b).permutation ≡ trace_shape (given_trace g)
     shape-given c w =
         let u : length table.top.values.now ≡ (table_grid g.beside.preprocessed).width = w ∙ ap (λ x. (table_grid x).width) same in
         let n : length periodic.items ≡ length (map (λ column. column.items) g.beside.periodic) =
@@ -81,7 +97,9 @@ module _ {F : Type 0} (g : Given F) {i : ℕ} {pair table : ViewPair F} {periodi
         ap (λ d. one_row_shape d.values d.permutation) holds ∙ rw (c, u, n)
 
     -- so it refuses what the check of the row does
-    pub row_refusal : length pair.top.values.now ≡ g.main.width → length table.top.values.now ≡ (table_grid t).width → {zero : RowData F F → Assertion F → Bool} (e : AirError) → (e ≡ Memory) ⊎ RefusedAtRow zero (debug_row b) b.constraint_index e g.terms → RowRefuses g e
+    pub row_refusal : length pair.top.values.now ≡ g.main.width → length table.top.values.now ≡ (table_grid t).width
+        → {zero : RowData F F → Assertion F → Bool} (e : AirError)
+        → (e ≡ Memory) ⊎ RefusedAtRow zero (debug_row b) b.constraint_index e g.terms → RowRefuses g e
     row_refusal c w e h =
         subst (λ n. Refused (IsMissing (trace_shape (given_trace g))) (λ _. ⊥) (IsFull n) e g.terms) at.counter
         (subst (λ s. Refused (IsMissing s) (λ _. ⊥) (IsFull b.constraint_index) e g.terms) (shape-given c w) (refused_anyway e h))

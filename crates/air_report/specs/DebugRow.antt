@@ -28,12 +28,12 @@ debug_row b = row_data b.row_index b.main.top.values.now b.main.bottom.values.no
 
 -- The builder is at the row of this index, and holds the pairs of rows, the values and the permutation data that it was given. It
 -- has counted nothing, and has the failures of the rows before.
-pub record IsAtRow {F E : Type 0} (row : ℕ) (pair table : ViewPair F) (public : List F) (first last transition : F) (periodic : Vec F Global)
+pub record IsAtRow {F E : Type 0} (row : ℕ) (main_rows table_rows : ViewPair F) (public : List F) (first last transition : F) (periodic : Vec F Global)
     (others : Option (ViewPair E)) (challenges exposed : List E) (before : List ConstraintFailure) (b : DebugConstraintBuilder F E) : Type 0 where
   pub row_index : b.row_index ≡ row
-  pub main : b.main ≡ pair
-  pub preprocessed : b.preprocessed.current.now ≡ table.top.values.now
-  pub preprocessed_next : b.preprocessed.next.now ≡ table.bottom.values.now
+  pub main : b.main ≡ main_rows
+  pub preprocessed : b.preprocessed.current.now ≡ table_rows.top.values.now
+  pub preprocessed_next : b.preprocessed.next.now ≡ table_rows.bottom.values.now
   pub public_values : b.public_values.now ≡ public
   pub is_first_row : b.is_first_row ≡ first
   pub is_last_row : b.is_last_row ≡ last
