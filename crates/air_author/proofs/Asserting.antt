@@ -2,7 +2,7 @@
 use Rattle.std.proofs.lemmas.Result.{err_from_is_err_and}
 use Rattle.std.specs.Result.{IsErrAnd}
 use Rattle.std.proofs.Common.{◌≡◌, ℕ, zero, suc, arith, ◌+◌, ◌-◌, ◌<◌, ◌≤◌, List, [], ◌∷◌, ◌++◌, length, take, drop, get_or, Result, Ok, Err, OnOk, OnErr, IfErr, inl, inr, refl, sym, ap, subst, ◌∙◌, append_assoc, append-nil}
-use Rattle.std.proofs.lemmas.List.{take_more, drop_more, take-append-drop, take-append-le, length-append}
+use Rattle.std.proofs.lemmas.List.{take_more, take-append-le, length-append}
 use Rattle.std.proofs.Math.Seq.{take-append-add}
 use Rattle.air_field.specs.Term.{Leaf, Term}
 use Rattle.air_windows.specs.declared.errors.AirError.{AirError}
@@ -11,6 +11,7 @@ use Rattle.air_builder.specs.Batches.{AssertsOf, AssertedEach}
 use Rattle.air_builder.specs.laws.Batches.{grew_one, grew_none, refused_one}
 use Rattle.air_builder.specs.Builders.{BuilderView, BuilderLaws}
 use Rattle.air_builder.specs.Refusals.{NoneMissing, PartOf, EachLeaf, EachLeafOf}
+use Rattle.air_builder.specs.laws.Batches.{in_parts}
 use Rattle.air_builder.specs.laws.Refusals.{none_missing}
 use Rattle.air_author.specs.Constraints.{Asserted, asserts_of_each, asserts_of_first}
 use Rattle.air_author.specs.Expressions.{Made}
@@ -21,24 +22,6 @@ none_missing_both : {F : Type 0} (missing : Leaf → Type 0) (ts us : List (Asse
 none_missing_both missing [] us h k l m p = k l m p
 none_missing_both missing (t ∷ ts) us h k l m (inl p) = h l m (inl p)
 none_missing_both missing (t ∷ ts) us h k l m (inr p) = none_missing_both missing ts us (λ x n q. h x n (inr q)) k l m p
-
--- the first elements, one more, and the others
-in_parts : {X : Type 0} (xs : List X) (i : ℕ) (d : X) → i < length xs → xs ≡ take i xs ++ (get_or xs i d ∷ drop (i + 1) xs)
-in_parts xs i d lt = sym (take-append-drop i xs) ∙ ap (λ v. take i xs ++ v) (drop_more xs i d lt)
-
--- a list whole, and a beginning of another
-beginning_then : {A : Type 0} (P : List A → Type 0) (xs ys : List A) (n : ℕ) → P (xs ++ take n ys) → P (take (length xs + n) (xs ++ ys))
-beginning_then P xs ys n h = subst P (sym (take-append-add xs ys n)) h
-
-within_then : {A : Type 0} (xs ys : List A) (n : ℕ) → n < length ys → length xs + n < length (xs ++ ys)
-within_then xs ys n lt = let e = length-append xs ys in omega (arith, lt, e)
-
--- a beginning of the first of two
-within_first : {A : Type 0} (xs ys : List A) (n : ℕ) → n < length xs → n < length (xs ++ ys)
-within_first xs ys n lt = let e = length-append xs ys in omega (arith, lt, e)
-
-beginning_first : {A : Type 0} (P : List A → Type 0) (xs ys : List A) (n : ℕ) → n < length xs → P (take n xs) → P (take n (xs ++ ys))
-beginning_first P xs ys n lt h = let le : n ≤ length xs = omega (arith, lt) in subst P (sym (take-append-le n xs ys le)) h
 
 each-append : {C A : Type 0} (f : C → List A) (xs ys : List C) → asserts_of_each f (xs ++ ys) ≡ asserts_of_each f xs ++ asserts_of_each f ys
 each-append f [] ys = refl
@@ -58,33 +41,40 @@ module _ {S R B F : Type 0} {view : BuilderView S R B F} (laws : BuilderLaws vie
     err = tt;
     refused = tt;
   }
-  asserted_then a b d u (Err e) ts us h k = record {
-    keeps = laws.kept_joined a b d h.keeps k.keeps;
-    ok = tt;
-    there = tt;
-    err = record {
-      count = length ts + k.err.count;
-      within = within_then ts us k.err.count k.err.within;
-      beginning = beginning_then (grew a d) ts us k.err.count (laws.joined a b d ts (take k.err.count us) h.ok k.err.beginning);
-    };
-    refused = laws.refuses_then a b e ts us h.ok k.refused;
-  }
+  asserted_then a b d u (Err e) ts us h k =
+      let more = k.err.within in
+      let long = length-append ts us in
+      record {
+        keeps = laws.kept_joined a b d h.keeps k.keeps;
+        ok = tt;
+        there = tt;
+        err = record {
+          count = length ts + k.err.count;
+          within = omega (arith, more, long);
+          beginning = subst (grew a d) (sym (take-append-add ts us k.err.count)) (laws.joined a b d ts (take k.err.count us) h.ok k.err.beginning);
+        };
+        refused = laws.refuses_then a b e ts us h.ok k.refused;
+      }
 
   -- a beginning was refused
   pub refused_first : (a b : S) (e : AirError) (ts us : List (Assertion F))
       → Asserted kept grew missing refuses a b (Err e) ts
       → Asserted kept grew missing refuses a b (Err e) (ts ++ us)
-  refused_first a b e ts us h = record {
-    keeps = h.keeps;
-    ok = tt;
-    there = tt;
-    err = record {
-      count = h.err.count;
-      within = within_first ts us h.err.count h.err.within;
-      beginning = beginning_first (grew a b) ts us h.err.count h.err.within h.err.beginning;
-    };
-    refused = laws.refuses_first a e ts us h.refused;
-  }
+  refused_first a b e ts us h =
+      let some = h.err.within in
+      let long = length-append ts us in
+      let within : h.err.count ≤ length ts = omega (arith, some) in
+      record {
+        keeps = h.keeps;
+        ok = tt;
+        there = tt;
+        err = record {
+          count = h.err.count;
+          within = omega (arith, some, long);
+          beginning = subst (grew a b) (sym (take-append-le h.err.count ts us within)) h.err.beginning;
+        };
+        refused = laws.refuses_first a e ts us h.refused;
+      }
 
   -- a `?` gives up at a beginning
   pub beginning_gives_up : {a b : S} {e : AirError} {r : Result (Unit {0}) AirError} {ts : List (Assertion F)}

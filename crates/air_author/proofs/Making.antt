@@ -36,80 +36,46 @@ part_of_in t u (a ∷ ts) p (inr q) = inr (part_of_in t u ts p q)
 pub some_none : {A : Type 0} {x : A} → Some x ≡ None → ⊥
 some_none e = cc
 
--- a `?` gives up at a part
-pub part_gives_up : {S E F X : Type 0} {means : S → E → Term F → Type 0} {grew : S → S → List (Assertion F) → Type 0}
-    {missing : S → Leaf → Type 0} {refuses : S → X → List (Assertion F) → Type 0} {a b : S} {e : X} {r : Result E X}
-    {t u : Term F} → Part t u → IsErrAnd r (λ x. x ≡ e) → Made means grew missing refuses a b (Err e) t
-    → Made means grew missing refuses a b r u
-part_gives_up {r = r} {t = t} {u = u} p i h =
-    let q = err_from_is_err_and r i in
-    rw (q.1, q.2) (record {
-      keeps = h.keeps;
-      made = tt;
-      there = tt;
-      refused = λ ts k. h.refused ts (part_of_in t u ts p k);
-    })
+module _ {S E F X : Type 0} {means : S → E → Term F → Type 0} {grew : S → S → List (Assertion F) → Type 0}
+    {missing : S → Leaf → Type 0} {refuses : S → X → List (Assertion F) → Type 0} {a b : S} where
+  -- a `?` gives up at a part
+  pub part_gives_up : {e : X} {r : Result E X} {t u : Term F} → Part t u → IsErrAnd r (λ x. x ≡ e)
+      → Made means grew missing refuses a b (Err e) t → Made means grew missing refuses a b r u
+  part_gives_up {r = r} {t = t} {u = u} p i h =
+      let f = err_from_is_err_and r i in
+      rw (f.1, f.2) (record {
+        keeps = h.keeps;
+        made = tt;
+        there = tt;
+        refused = λ ts k. h.refused ts (part_of_in t u ts p k);
+      })
 
--- the same at both of an operation's operands
-pub operand_gives_up : {S E F X : Type 0} {means : S → E → Term F → Type 0}
-    {grew : S → S → List (Assertion F) → Type 0} {missing : S → Leaf → Type 0}
-    {refuses : S → X → List (Assertion F) → Type 0} {a b : S} {e : X} {r : Result E X} {t u v : Term F} → Part t v
-    → Part u v → IsErrAnd r (λ x. x ≡ e) → MadeBoth {E = E} means grew missing refuses a b (Err e) t u
-    → Made means grew missing refuses a b r v
-operand_gives_up {r = r} {t = t} {u = u} {v = v} p q i h =
-    let f = err_from_is_err_and r i in
-    rw (f.1, f.2) (record {
-      keeps = h.keeps;
-      made = tt;
-      there = tt;
-      refused = λ ts k. h.refused ts (part_of_in t v ts p k, part_of_in u v ts q k);
-    })
+  -- the same at both of an operation's operands
+  pub operand_gives_up : {e : X} {r : Result E X} {t u v : Term F} → Part t v → Part u v → IsErrAnd r (λ x. x ≡ e)
+      → MadeBoth means grew missing refuses a b (Err e) t u → Made means grew missing refuses a b r v
+  operand_gives_up {r = r} {t = t} {u = u} {v = v} p q i h =
+      let f = err_from_is_err_and r i in
+      rw (f.1, f.2) (record {
+        keeps = h.keeps;
+        made = tt;
+        there = tt;
+        refused = λ ts k. h.refused ts (part_of_in t v ts p k, part_of_in u v ts q k);
+      })
 
--- one element is both
-pub twice : {S E F X : Type 0} {means : S → E → Term F → Type 0} {grew : S → S → List (Assertion F) → Type 0}
-    {missing : S → Leaf → Type 0} {refuses : S → X → List (Assertion F) → Type 0} {a b : S} {x : E} {t : Term F}
-    → Made {E = E} means grew missing refuses a b (Ok x) t → MadeBoth means grew missing refuses a b (Ok (x, x)) t t
-twice h = record { keeps = h.keeps; made = (h.made, h.made); there = (h.there, h.there); refused = tt }
+  -- a `?` gives up at the first of both
+  pub first_gives_up : {e : X} {r : Result (E × E) X} {t u : Term F} → IsErrAnd r (λ x. x ≡ e)
+      → Made means grew missing refuses a b (Err e) t → MadeBoth means grew missing refuses a b r t u
+  first_gives_up {r = r} i h =
+      let f = err_from_is_err_and r i in
+      rw (f.1, f.2) (record { keeps = h.keeps; made = tt; there = tt; refused = λ ts k. h.refused ts k.0 })
 
--- a `?` gives up at the first of both
-pub first_gives_up : {S E F X : Type 0} {means : S → E → Term F → Type 0}
-    {grew : S → S → List (Assertion F) → Type 0} {missing : S → Leaf → Type 0}
-    {refuses : S → X → List (Assertion F) → Type 0} {a b : S} {e : X} {r : Result (E × E) X} {t u : Term F}
-    → IsErrAnd r (λ x. x ≡ e) → Made {E = E} means grew missing refuses a b (Err e) t
-    → MadeBoth means grew missing refuses a b r t u
-first_gives_up {refuses = refuses} {a = a} {e = e} {r = r} {t = t} {u = u} i h =
-    let f = err_from_is_err_and r i in
-    rw (f.1, f.2) (record {
-      keeps = h.keeps;
-      made = tt;
-      there = tt;
-      refused = λ ts k. h.refused ts k.0;
-    })
+  -- one element is both
+  pub twice : {x : E} {t : Term F} → Made means grew missing refuses a b (Ok x) t
+      → MadeBoth means grew missing refuses a b (Ok (x, x)) t t
+  twice h = record { keeps = h.keeps; made = (h.made, h.made); there = (h.there, h.there); refused = tt }
 
 module _ {S R E F : Type 0} {view : BuilderView S R E F} (ring : RingLaws view) (laws : BuilderLaws view) where
   open view use {has, means, extends, ring_refuses, ring_of, with_ring, stands, grew, missing, refuses}
-
-  -- the lent ring refuses
-  ring_refused : (a b : S) (q r : R) (e : RingError) (t : Term F) → grew a b [] → q ≡ ring_of b → extends q r
-      → ring_refuses e (with_leaves (stands b) t)
-      → Made {E = E} (MeansIn view) grew missing refuses a (with_ring b r) (Err (air_error e)) t
-  ring_refused a b q r e t g p x h = record {
-    keeps = laws.joined a b (with_ring b r) [] [] g (laws.ring_lent b r (subst (λ s. extends s r) p x));
-    made = tt;
-    there = tt;
-    refused = λ ts k. laws.refuses_then a b (air_error e) [] ts g (laws.refuses_in_ring b e t ts h k);
-  }
-
-  -- the lent ring makes it
-  ring_made : (a b : S) (q r : R) (z : E) (t : Term F) → grew a b [] → q ≡ ring_of b → extends q r
-      → means r z (with_leaves (stands b) t) → EachLeaf (λ l. missing a l → ⊥) t
-      → Made (MeansIn view) grew missing refuses a (with_ring b r) (Ok z) t
-  ring_made a b q r z t g p x m h = record {
-    keeps = laws.joined a b (with_ring b r) [] [] g (laws.ring_lent b r (subst (λ s. extends s r) p x));
-    made = means_lent ring laws b r z t (subst (λ s. extends s r) p x) m;
-    there = h;
-    refused = tt;
-  }
 
   -- the lent ring answers after a step
   pub ring_answered : (a b : S) (q r : R) (done : Result E RingError) (s t : Term F) (z : Result E AirError)
@@ -117,8 +83,22 @@ module _ {S R E F : Type 0} {view : BuilderView S R E F} (ring : RingLaws view) 
       → IfOk done (λ x. has r x × means r x s) → IfErr done (λ e. ring_refuses e s)
       → s ≡ with_leaves (stands b) t → EachLeaf (λ l. missing a l → ⊥) t
       → Made (MeansIn view) grew missing refuses a (with_ring b r) z t
-  ring_answered a b q r (Ok x) s t z o g p w m f c h = rw o (ring_made a b q r x t g p w (subst (λ u. means r x u) c m.1) h)
-  ring_answered a b q r (Err e) s t z o g p w m f c h = rw o (ring_refused a b q r e t g p w (subst (λ u. ring_refuses e u) c f))
+  ring_answered a b q r (Ok x) s t z o g p w m f c h =
+      let longer = subst (λ k. extends k r) p w in
+      rw o (record {
+        keeps = laws.joined a b (with_ring b r) [] [] g (laws.ring_lent b r longer);
+        made = means_lent ring laws b r x t longer (subst (λ u. means r x u) c m.1);
+        there = h;
+        refused = tt;
+      })
+  ring_answered a b q r (Err e) s t z o g p w m f c h =
+      let refused_there = subst (λ u. ring_refuses e u) c f in
+      rw o (record {
+        keeps = laws.joined a b (with_ring b r) [] [] g (laws.ring_lent b r (subst (λ k. extends k r) p w));
+        made = tt;
+        there = tt;
+        refused = λ ts k. laws.refuses_then a b (air_error e) [] ts g (laws.refuses_in_ring b e t ts refused_there k);
+      })
 
   -- the same, where it was asked for an operation on what its argument means
   pub operation_answered : (argument : Term F → Type 0) (op : Term F → Term F) (a b : S) (q r : R)

@@ -1,5 +1,5 @@
 //! Expressions as values, each of a small type of its own that knows its term.
-ghost use Rattle.std.specs.Prelude.{◌≡◌, ⊤};
+ghost use Rattle.std.specs.Prelude.{◌≡◌, ⊤, Some, None, IfOk, IfErr, slice_get};
 ghost use Rattle.air_field.specs.Term.{Term};
 ghost use Rattle.air_builder.specs.Builders.{Means};
 ghost use Rattle.air_author.specs.Expressions.{Made, Lasts, air_result};
@@ -79,4 +79,24 @@ pub(crate) fn answered<E: Copy>(answer: Result<E, RingError>) -> Result<E, AirEr
         Ok(x) => Ok(x),
         Err(e) => Err(AirError::from(e)),
     }
+}
+
+/// The entry, or the refusal that names it.
+#[inline(always)]
+pub(crate) fn present<T: Copy>(found: Option<T>, missing: AirError) -> Result<T, AirError>
+    ensures ok { IfOk result (λ x. found ≡ Some x) }
+    ensures err { IfErr result (λ e. (found ≡ None) × (e ≡ missing)) }
+{
+    match found {
+        Some(x) => Ok(x),
+        None => Err(missing),
+    }
+}
+
+/// The element of this index, if there is one.
+#[inline(always)]
+pub(crate) fn element<T: Copy>(row: &[T], index: usize) -> Option<T>
+    ensures { result ≡ slice_get row.now index }
+{
+    row.get(index).copied()
 }

@@ -1,34 +1,14 @@
 //! Entries of the row: columns, periodic columns and public values. A missing one is refused by name.
-ghost use Rattle.std.specs.Prelude.{◌≡◌, ◌↔◌, Some, None, IfOk, IfErr, IfSome, slice_get};
+ghost use Rattle.std.specs.Prelude.{◌≡◌, ◌↔◌, None, IfSome};
 ghost use Rattle.air_field.specs.Term.{preprocessed, main, periodic, public, leaf_term};
 ghost use Rattle.air_variables.specs.Entries.{entry_leaf};
 ghost use Rattle.air_builder.specs.Builders.{Means, VariableStands};
 ghost use Rattle.air_author.specs.Expressions.{Made};
 
-use crate::expressions::{Expression, answered};
+use crate::expressions::{Expression, answered, element, present};
 use air_builder::{AirBuilder, AirError};
 use air_field::{Algebra, FromVar};
 use air_variables::BaseEntry;
-
-/// The entry, or the refusal that names it.
-#[inline(always)]
-fn present<T: Copy>(found: Option<T>, entry: BaseEntry, index: usize) -> Result<T, AirError>
-    ensures ok { IfOk result (λ x. found ≡ Some x) }
-    ensures err { IfErr result (λ e. (found ≡ None) × (e ≡ AirError.MissingEntry entry index)) }
-{
-    match found {
-        Some(x) => Ok(x),
-        None => Err(AirError::MissingEntry { entry, index }),
-    }
-}
-
-/// The element of this index, if there is one.
-#[inline(always)]
-fn element<T: Copy>(row: &[T], index: usize) -> Option<T>
-    ensures { result ≡ slice_get row.now index }
-{
-    row.get(index).copied()
-}
 
 /// The expression of the variable that was found at a place of the entry.
 #[inline(always)]
@@ -45,7 +25,7 @@ fn make_found<AB: AirBuilder>(
     ensures { Made (Means AB.Ring.means AB.ring_of AB.stands) AB.grew AB.missing AB.refuses
         builder.old builder.new result (leaf_term (entry_leaf entry index)) }
 {
-    let v = present(found, entry, index)?;
+    let v = present(found, AirError::MissingEntry { entry, index })?;
     answered(builder.ring().from_var(v))
 }
 
@@ -124,11 +104,10 @@ impl<AB: AirBuilder> Expression<AB> for Public {
 
     #[inline(always)]
     fn make(&self, builder: &mut AB) -> Result<AB::Expr, AirError> {
-        let v = present(
-            element(builder.public_values(), self.0),
-            BaseEntry::Public,
-            self.0,
-        )?;
+        let entry = BaseEntry::Public;
+        let index = self.0;
+        let missing = AirError::MissingEntry { entry, index };
+        let v = present(element(builder.public_values(), index), missing)?;
         answered(builder.ring().from_var(v))
     }
 }
@@ -142,11 +121,10 @@ impl<AB: AirBuilder> Expression<AB> for Periodic {
 
     #[inline(always)]
     fn make(&self, builder: &mut AB) -> Result<AB::Expr, AirError> {
-        let v = present(
-            element(builder.periodic_values(), self.0),
-            BaseEntry::Periodic,
-            self.0,
-        )?;
+        let entry = BaseEntry::Periodic;
+        let index = self.0;
+        let missing = AirError::MissingEntry { entry, index };
+        let v = present(element(builder.periodic_values(), index), missing)?;
         answered(builder.ring().from_var(v))
     }
 }

@@ -1,32 +1,11 @@
 //! Entries of the permutation trace, its challenges and its values. A missing one is refused by name, and each column
 //! of a builder without a permutation trace with `NoPermutation`.
-ghost use Rattle.std.specs.Prelude.{◌≡◌, Some, None, IfOk, IfErr, slice_get};
 ghost use Rattle.air_field.specs.Term.{permutation, challenge, permutation_value, leaf_term};
 
-use crate::expressions::{ExtExpression, answered};
+use crate::expressions::{ExtExpression, answered, element, present};
 use air_builder::{AirError, PermutationAirBuilder, WindowAccess};
 use air_field::{Algebra, FromVar};
 use air_variables::ExtEntry;
-
-/// The entry, or the refusal that names it.
-#[inline(always)]
-fn present_ext<T: Copy>(found: Option<T>, entry: ExtEntry, index: usize) -> Result<T, AirError>
-    ensures ok { IfOk result (λ x. found ≡ Some x) }
-    ensures err { IfErr result (λ e. (found ≡ None) × (e ≡ AirError.MissingExtEntry entry index)) }
-{
-    match found {
-        Some(x) => Ok(x),
-        None => Err(AirError::MissingExtEntry { entry, index }),
-    }
-}
-
-/// The element of this index, if there is one.
-#[inline(always)]
-fn ext_element<T: Copy>(row: &[T], index: usize) -> Option<T>
-    ensures { result ≡ slice_get row.now index }
-{
-    row.get(index).copied()
-}
 
 /// A column of the permutation trace's current row.
 #[derive(Clone, Copy, Drop)]
@@ -41,11 +20,10 @@ where
     #[inline(always)]
     fn make_ext(&self, builder: &mut AB) -> Result<AB::ExprEF, AirError> {
         let window = builder.permutation()?;
-        let v = present_ext(
-            window.current(self.0),
-            ExtEntry::Permutation { offset: 0 },
-            self.0,
-        )?;
+        let entry = ExtEntry::Permutation { offset: 0 };
+        let index = self.0;
+        let missing = AirError::MissingExtEntry { entry, index };
+        let v = present(window.current(index), missing)?;
         answered(builder.ext_ring().from_var(v))
     }
 }
@@ -63,11 +41,10 @@ where
     #[inline(always)]
     fn make_ext(&self, builder: &mut AB) -> Result<AB::ExprEF, AirError> {
         let window = builder.permutation()?;
-        let v = present_ext(
-            window.next(self.0),
-            ExtEntry::Permutation { offset: 1 },
-            self.0,
-        )?;
+        let entry = ExtEntry::Permutation { offset: 1 };
+        let index = self.0;
+        let missing = AirError::MissingExtEntry { entry, index };
+        let v = present(window.next(index), missing)?;
         answered(builder.ext_ring().from_var(v))
     }
 }
@@ -84,11 +61,10 @@ where
 
     #[inline(always)]
     fn make_ext(&self, builder: &mut AB) -> Result<AB::ExprEF, AirError> {
-        let v = present_ext(
-            ext_element(builder.permutation_randomness(), self.0),
-            ExtEntry::Challenge,
-            self.0,
-        )?;
+        let entry = ExtEntry::Challenge;
+        let index = self.0;
+        let missing = AirError::MissingExtEntry { entry, index };
+        let v = present(element(builder.permutation_randomness(), index), missing)?;
         answered(builder.ext_ring().from_var(v))
     }
 }
@@ -105,11 +81,10 @@ where
 
     #[inline(always)]
     fn make_ext(&self, builder: &mut AB) -> Result<AB::ExprEF, AirError> {
-        let v = present_ext(
-            ext_element(builder.permutation_values(), self.0),
-            ExtEntry::PermutationValue,
-            self.0,
-        )?;
+        let entry = ExtEntry::PermutationValue;
+        let index = self.0;
+        let missing = AirError::MissingExtEntry { entry, index };
+        let v = present(element(builder.permutation_values(), index), missing)?;
         answered(builder.ext_ring().from_var(v))
     }
 }
