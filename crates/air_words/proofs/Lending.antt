@@ -1,20 +1,20 @@
--- Growth by what a lent ring made.
+-- What a lent ring made was asserted, or it refused to make it.
 use Rattle.std.specs.List.{AllZip}
-use Rattle.std.proofs.Common.{◌≡◌, ℕ, zero, suc, ◌<◌, List, [], ◌∷◌, map, length, take, subst, sym, refl, ap, inl, inr}
+use Rattle.std.proofs.Common.{◌≡◌, ◌<◌, List, [], ◌∷◌, length, map, Result, Err, subst, sym, refl, inl, inr, arith}
 use Rattle.air_field.specs.Part.{whole}
+use Rattle.air_field.specs.Ring.{CommRing}
 use Rattle.air_field.specs.Term.{Leaf, Term, with_leaves}
 use Rattle.air_field.specs.declared.errors.RingError.{RingError}
 use Rattle.air_windows.specs.declared.errors.AirError.{AirError}
 use Rattle.air_windows.specs.Errors.{air_error}
-use Rattle.air_builder.specs.Assertion.{Base}
-use Rattle.air_builder.specs.laws.Zips.{AllZip-take}
-use Rattle.std.proofs.lemmas.Slice.Zip.{AllZip-long}
-use Rattle.air_builder.specs.Batches.{AssertsOf, GrewByEach, GrewByBeginning, GrewByFirst, RefusesByEach}
+use Rattle.air_builder.specs.Assertion.{Assertion, Base}
+use Rattle.air_builder.specs.Batches.{AssertsOf, AssertedEach}
 use Rattle.air_builder.specs.Builders.{MeansIn, BuilderView, RingLaws, BuilderLaws}
-use Rattle.air_builder.specs.laws.Filters.{means_lent}
 use Rattle.air_builder.specs.Refusals.{PartOf}
+use Rattle.air_builder.proofs.Growth.{lent, lent_means}
 use Rattle.air_words.specs.Words.{Limbs}
-use Rattle.air_words.specs.Gadgets.{LimbsMean, VariableMeans, RefusesOne}
+use Rattle.air_words.specs.Gadgets.{LimbsMean, VariableMeans, RefusesOne, Adds2, Adds3, AssertedList, add2_terms, add3_terms}
+use Rattle.air_words.proofs.Asserting.{list_of, list_of_each, list_after}
 
 -- ---- lists beside one another
 pub zip_mapped : {X Y : Type 0} (P : X → Y → Type 0) (f : Y → Y) (xs : List X) (ys : List Y)
@@ -24,76 +24,100 @@ zip_mapped P f [] (y ∷ ys) h = absurd h
 zip_mapped P f (x ∷ xs) [] h = absurd h
 zip_mapped P f (x ∷ xs) (y ∷ ys) h = (h.0, zip_mapped P f xs ys h.1)
 
+-- what is said of terms with what stands at their leaves is said of a list's
+abbrev Made : {F : Type 0} → (Leaf → Term F) → (List (Term F) → Type 0) → List (Assertion F) → Type 0
+Made {F = F} s P ss = (ts : List (Term F)) × P (map (with_leaves s) ts) × (ss ≡ map Base ts)
+
 -- the limbs with what stands at their leaves
-abbrev pub leaves_of : {F : Type 0} → (Leaf → Term F) → Limbs (Term F) → Limbs (Term F)
+abbrev leaves_of : {F : Type 0} → (Leaf → Term F) → Limbs (Term F) → Limbs (Term F)
 leaves_of s t = record { low = with_leaves s t.low; high = with_leaves s t.high }
 
-pub variables_lent : {S V F : Type 0} (means : V → Term F → Type 0) (stands : S → Leaf → Term F) (a : S)
-    (xs : List V) (t : Limbs (Term F))
-    → LimbsMean (VariableMeans means stands a) xs t → LimbsMean means xs (leaves_of (stands a) t)
-variables_lent means stands a xs t h = zip_mapped means (with_leaves (stands a)) xs (t.low ∷ t.high ∷ []) h
+some_refused : {X F : Type 0} (refuses : X → Term F → Type 0) (s : Leaf → Term F) (e : X) (ts : List (Term F))
+    → RefusesOne refuses e (map (with_leaves s) ts) → 0 < length (map Base ts)
+some_refused refuses s e [] h = absurd h
+some_refused refuses s e (t ∷ ts) h = omega arith
 
 -- a part that is refused
-record RefusedPart {X F : Type 0} (refuses : X → Term F → Type 0) (s : Leaf → Term F) (e : X) (ts : List (Term F)) : Type 0 where
-  term : Term F
-  refused : refuses e (with_leaves s term)
-  part : PartOf term (map Base ts)
-
-refused_part : {X F : Type 0} (refuses : X → Term F → Type 0) (s : Leaf → Term F) (e : X) (ts : List (Term F))
-    → RefusesOne refuses e (map (with_leaves s) ts) → RefusedPart refuses s e ts
-refused_part refuses s e [] h = absurd h
-refused_part refuses s e (t ∷ ts) (inl h) = record { term = t; refused = h; part = inl whole }
-refused_part refuses s e (t ∷ ts) (inr h) =
-    let rest = refused_part refuses s e ts h in record { term = rest.term; refused = rest.refused; part = inr rest.part }
+refused_part : {S R E F : Type 0} {view : BuilderView S R E F} (laws : BuilderLaws view) (a : S) (e : RingError) (all ts : List (Term F))
+    → ((t : Term F) → PartOf t (map Base ts) → PartOf t (map Base all))
+    → RefusesOne view.ring_refuses e (map (with_leaves (view.stands a)) ts) → view.refuses a (air_error e) (map Base all)
+refused_part laws a e all [] part h = absurd h
+refused_part laws a e all (t ∷ ts) part (inl h) = laws.refuses_in_ring a e t (map Base all) h (part t (inl whole))
+refused_part laws a e all (t ∷ ts) part (inr h) = refused_part laws a e all ts (λ u q. part u (inr q)) h
 
 module _ {S R E F : Type 0} {view : BuilderView S R E F} (ring : RingLaws view) (laws : BuilderLaws view)
-    (a : S) (q r : R) (p : q ≡ view.ring_of a) (e : view.extends q r) where
-  open view use {means, extends, ring_refuses, ring_of, with_ring, stands, kept, grew, refuses}
-
-  pub lent : grew a (with_ring a r) []
-  lent = laws.ring_lent a r (subst (λ s. extends s r) p e)
-
-  pub lent_kept : kept a (with_ring a r)
-  lent_kept = laws.by_growth a (with_ring a r) [] lent
-
-  pub elements_lent : (xs : List E) (t : Limbs (Term F)) → LimbsMean (MeansIn view a) xs t → LimbsMean (means q) xs (leaves_of (stands a) t)
-  elements_lent xs t h =
-      subst (λ s. LimbsMean (means s) xs (leaves_of (stands a) t)) (sym p) (zip_mapped (means (ring_of a)) (with_leaves (stands a)) xs (t.low ∷ t.high ∷ []) h)
-
-  pub lent_means : (x : E) (t : Term F) → means r x (with_leaves (stands a) t) → MeansIn view (with_ring a r) x t
-  lent_means x t m = means_lent ring laws a r x t (subst (λ s. extends s r) p e) m
+    {a : S} {q r : R} (p : q ≡ view.ring_of a) (e : view.extends q r) where
+  open view use {means, ring_refuses, ring_of, with_ring, stands, kept, grew, refuses}
 
   -- what the elements assert
   lent_asserts : (xs : List E) (ts : List (Term F)) → AllZip (means r) xs (map (with_leaves (stands a)) ts)
-      → AllZip (AssertsOf (MeansIn view) (λ t. t) (with_ring a r)) xs (map Base ts)
+      → AllZip (AssertsOf Base (MeansIn view) (λ t. t) (with_ring a r)) xs (map Base ts)
   lent_asserts [] [] h = tt
   lent_asserts [] (t ∷ ts) h = absurd h
   lent_asserts (x ∷ xs) [] h = absurd h
-  lent_asserts (x ∷ xs) (t ∷ ts) h = ((t, means_lent ring laws a r x t (subst (λ s. extends s r) p e) h.0, refl), lent_asserts xs ts h.1)
+  lent_asserts (x ∷ xs) (t ∷ ts) h = ((t, lent_means ring laws a q r x t p e h.0, refl), lent_asserts xs ts h.1)
 
-  pub batch_grew : (b : S) (xs : List E) (ts : List (Term F))
-      → AllZip (means r) xs (map (with_leaves (stands a)) ts)
-      → GrewByEach (AssertsOf (MeansIn view) (λ t. t)) grew (with_ring a r) b xs → grew a b (map Base ts)
-  batch_grew b xs ts h g = laws.joined a (with_ring a r) b [] (map Base ts) lent (g (map Base ts) (lent_asserts xs ts h))
+  -- the lent ring made elements, and then each was asserted to be zero
+  pub made_asserted : {is : List (Assertion F) → Type 0} {b : S} {xs : List E} (result : Result (Unit {0}) AirError)
+      → ((ss : List (Assertion F)) → is ss → Made (stands a) (AllZip (means r) xs) ss)
+      → AssertedEach (AssertsOf Base (MeansIn view) (λ t. t)) kept grew refuses (with_ring a r) b xs result
+      → AssertedList is kept grew refuses a b result
+  made_asserted {xs = xs} result made h =
+      list_after laws result (lent laws a q r p e)
+      (list_of laws result
+      (λ ss i. let m = made ss i in subst (AllZip (AssertsOf Base (MeansIn view) (λ t. t) (with_ring a r)) xs) (sym m.2) (lent_asserts xs m.0 m.1))
+      (list_of_each laws result h))
 
-  pub batch_some : (b : S) (xs : List E) (ts : List (Term F))
-      → AllZip (means r) xs (map (with_leaves (stands a)) ts)
-      → GrewByBeginning (AssertsOf (MeansIn view) (λ t. t)) grew (with_ring a r) b xs
-      → GrewByFirst grew a b (map Base ts)
-  batch_some b xs ts h g =
-      let asserts = AssertsOf (MeansIn view) (λ t. t) (with_ring a r) in
-      let each = lent_asserts xs ts h in record {
-        count = g.count;
-        within = subst (λ n. g.count < n) (sym (AllZip-long asserts xs (map Base ts) each)) g.within;
-        beginning = laws.joined a (with_ring a r) b [] (take g.count (map Base ts)) lent (g.beginning (take g.count (map Base ts)) (AllZip-take asserts g.count xs (map Base ts) each));
+  -- the lent ring refused to make one
+  pub making_list_refused : {is : List (Assertion F) → Type 0} (f : RingError)
+      → ((ss : List (Assertion F)) → is ss → Made (stands a) (RefusesOne ring_refuses f) ss)
+      → AssertedList is kept grew refuses a (with_ring a r) (Err (air_error f))
+  making_list_refused f made =
+      let none = lent laws a q r p e in record {
+        keeps = laws.by_growth a (with_ring a r) [] none;
+        ok = tt;
+        err = λ ss i.
+            let m = made ss i in record {
+              count = 0;
+              within = subst (λ v. 0 < length v) (sym m.2) (some_refused ring_refuses (stands a) f m.0 m.1);
+              beginning = none;
+            };
+        refused = λ ss i.
+            let m = made ss i in
+            subst (refuses a (air_error f)) (sym m.2) (refused_part laws a f m.0 m.0 (λ t k. k) m.1);
       }
 
-  pub batch_refused : (xs : List E) (ts : List (Term F)) (f : AirError)
-      → AllZip (means r) xs (map (with_leaves (stands a)) ts)
-      → RefusesByEach (AssertsOf (MeansIn view) (λ t. t)) refuses (with_ring a r) xs f → refuses a f (map Base ts)
-  batch_refused xs ts f h g = laws.refuses_then a (with_ring a r) f [] (map Base ts) lent (g (map Base ts) (lent_asserts xs ts h))
+  limbs_in : (xs : List E) (t : Limbs (Term F)) → LimbsMean (MeansIn view a) xs t
+      → LimbsMean (means q) xs (leaves_of (stands a) t)
+  limbs_in xs t h =
+      subst (λ s. LimbsMean (means s) xs (leaves_of (stands a) t)) (sym p)
+      (zip_mapped (means (ring_of a)) (with_leaves (stands a)) xs (t.low ∷ t.high ∷ []) h)
 
-  pub making_refused : (ts : List (Term F)) (f : RingError)
-      → RefusesOne ring_refuses f (map (with_leaves (stands a)) ts) → refuses a (air_error f) (map Base ts)
-  making_refused ts f h =
-      let part = refused_part ring_refuses (stands a) f ts h in laws.refuses_in_ring a f part.term (map Base ts) part.refused part.part
+  module _ {V : Type 0} (vm : V → Term F → Type 0) where
+    limbs_of : (xs : List V) (t : Limbs (Term F)) → LimbsMean (VariableMeans vm stands a) xs t
+        → LimbsMean vm xs (leaves_of (stands a) t)
+    limbs_of xs t h = zip_mapped vm (with_leaves (stands a)) xs (t.low ∷ t.high ∷ []) h
+
+    -- what is said of the terms of a sum of two in the lent ring, of three
+    pub sum_made : (C : CommRing F) (P : List (Term F) → Type 0) (xs ys : List V) (zs : List E)
+        → ((t u v : Limbs (Term F)) → LimbsMean vm xs t → LimbsMean vm ys u → LimbsMean (means q) zs v → P (add2_terms C t u v))
+        → (ss : List (Assertion F)) → Adds2 C (VariableMeans vm stands a) (MeansIn view a) xs ys zs ss
+        → Made (stands a) P ss
+    sum_made C P xs ys zs h ss w = (
+      add2_terms C w.0 w.1 w.2,
+      h (leaves_of (stands a) w.0) (leaves_of (stands a) w.1) (leaves_of (stands a) w.2)
+          (limbs_of xs w.0 w.3) (limbs_of ys w.1 w.4) (limbs_in zs w.2 w.5),
+      w.6,
+    )
+
+    pub sum_of_three_made : (C : CommRing F) (P : List (Term F) → Type 0) (xs ys : List V) (zs vs : List E)
+        → ((t u v w : Limbs (Term F)) → LimbsMean vm xs t → LimbsMean vm ys u → LimbsMean (means q) zs v → LimbsMean (means q) vs w
+        → P (add3_terms C t u v w))
+        → (ss : List (Assertion F)) → Adds3 C (VariableMeans vm stands a) (MeansIn view a) xs ys zs vs ss
+        → Made (stands a) P ss
+    sum_of_three_made C P xs ys zs vs h ss w = (
+      add3_terms C w.0 w.1 w.2 w.3,
+      h (leaves_of (stands a) w.0) (leaves_of (stands a) w.1) (leaves_of (stands a) w.2) (leaves_of (stands a) w.3)
+          (limbs_of xs w.0 w.4) (limbs_of ys w.1 w.5) (limbs_in zs w.2 w.6) (limbs_in vs w.3 w.7),
+      w.8,
+    )

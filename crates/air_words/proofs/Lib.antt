@@ -5,8 +5,7 @@ mod LimbLaws
 mod Lending
 mod XorLaws
 mod ExactXors
-mod HalfLeaves
-mod Testing
-mod Variables
+mod Halves
+mod Asserting
 mod PackedXors
 mod ZipLaws

@@ -1,5 +1,5 @@
 -- What the gadgets of words assert.
-use Rattle.std.specs.Prelude.{◌≡◌, ℕ, ◌*◌, ◌^◌, ◌⊎◌, List, [], ◌∷◌, ◌++◌, map, take, drop}
+use Rattle.std.specs.Prelude.{◌≡◌, ℕ, ◌*◌, ◌^◌, ◌⊎◌, List, [], ◌∷◌, ◌++◌, map, take, drop, Result, OnOk, OnErr, IfErr}
 use Rattle.std.specs.List.{AllZip}
 use Rattle.air_field.specs.Ring.{CommRing, image}
 use Rattle.air_field.specs.Term.{Leaf, Term, with_leaves, const_term, add_term, sub_term, mul_term}
@@ -102,14 +102,20 @@ Xors {F = F} R stands a b c shift ts =
     (t : Limbs (Term F)) × (u : List (Term F)) × (v : List (Term F))
     × LimbsMean stands a t × AllZip stands b u × AllZip stands c v × (ts ≡ xor_asserts R t u v shift)
 
--- the builder grew by the list, whichever terms were handed
-abbrev pub GrewBy : {S F : Type 0} → (List (Assertion F) → Type 0) → (S → S → List (Assertion F) → Type 0) → S → S → Type 0
-GrewBy {F = F} is grew a b = (ts : List (Assertion F)) → is ts → grew a b ts
+-- the assertion is that a limb less the packed xor of two lists of bits is zero, of terms that the three mean
+abbrev pub HalfOf : {S V F : Type 0} → CommRing F → (S → V → Term F → Type 0) → S → V × List V × List V → Assertion F → Type 0
+HalfOf {F = F} R means a p s =
+    (t : Term F) × (us : List (Term F)) × (vs : List (Term F))
+    × means a p.0 t × AllZip (means a) p.1 us × AllZip (means a) p.2 vs
+    × (s ≡ Base (sub_term t (packed_term R.nil (xor_terms us vs))))
 
--- the builder grew by a beginning of the list, and not by all
-abbrev pub GrewBySome : {S F : Type 0} → (List (Assertion F) → Type 0) → (S → S → List (Assertion F) → Type 0) → S → S → Type 0
-GrewBySome {F = F} is grew a b = (ts : List (Assertion F)) → is ts → GrewByFirst grew a b ts
-
--- growing by the list may be refused with e
-abbrev pub RefusesList : {S F X : Type 0} → (List (Assertion F) → Type 0) → (S → X → List (Assertion F) → Type 0) → S → X → Type 0
-RefusesList {F = F} is refuses a e = (ts : List (Assertion F)) → is ts → refuses a e ts
+-- What a call that asserts a list does to a builder, whichever of the lists it is that the terms handed to it make: it
+-- keeps it, and grew it by the list; or it grew it by a beginning, and not by all, and refuses as growing by the list may
+-- be refused.
+pub record AssertedList {S X F : Type 0} (is : List (Assertion F) → Type 0) (kept : S → S → Type 0)
+    (grew : S → S → List (Assertion F) → Type 0) (refuses : S → X → List (Assertion F) → Type 0)
+    (a b : S) (result : Result (Unit {0}) X) : Type 0 where
+  pub keeps : kept a b
+  pub ok : OnOk result ((ts : List (Assertion F)) → is ts → grew a b ts)
+  pub err : OnErr result ((ts : List (Assertion F)) → is ts → GrewByFirst grew a b ts)
+  pub refused : IfErr result (λ e. (ts : List (Assertion F)) → is ts → refuses a e ts)

@@ -1,7 +1,7 @@
 //! Sums of words as assertions.
-ghost use Rattle.std.specs.Prelude.{All, OnOk, OnErr, IfErr};
+ghost use Rattle.std.specs.Prelude.{All};
 ghost use Rattle.air_builder.specs.Builders.{Means};
-ghost use Rattle.air_words.specs.Gadgets.{Adds2, Adds3, VariableMeans, GrewBy, GrewBySome, RefusesList};
+ghost use Rattle.air_words.specs.Gadgets.{Adds2, Adds3, VariableMeans, AssertedList};
 ghost use Rattle.air_words.specs.Exact.{Add2IsExact, Add3IsExact};
 
 use crate::sums::{sum_of_three, sum_of_two};
@@ -18,19 +18,10 @@ pub fn add2<AB: AirBuilder>(
 ) -> Result<(), AirError>
     requires ready { AB.ready builder.old }
     requires c_in { All (AB.Ring.has (AB.ring_of builder.old)) c.now }
-    ensures keeps { AB.kept builder.old builder.new }
-    ensures ok { OnOk result (GrewBy
-        (Adds2 AB.F.ring (VariableMeans AB.Ring.FromVar-1.var_means AB.stands builder.old)
+    ensures asserted { AssertedList (Adds2 AB.F.ring
+        (VariableMeans AB.Ring.FromVar-1.var_means AB.stands builder.old)
         (Means AB.Ring.means AB.ring_of AB.stands builder.old) a.now b.now c.now)
-        AB.grew builder.old builder.new) }
-    ensures err { OnErr result (GrewBySome
-        (Adds2 AB.F.ring (VariableMeans AB.Ring.FromVar-1.var_means AB.stands builder.old)
-        (Means AB.Ring.means AB.ring_of AB.stands builder.old) a.now b.now c.now)
-        AB.grew builder.old builder.new) }
-    ensures refused { IfErr result (RefusesList
-        (Adds2 AB.F.ring (VariableMeans AB.Ring.FromVar-1.var_means AB.stands builder.old)
-        (Means AB.Ring.means AB.ring_of AB.stands builder.old) a.now b.now c.now)
-        AB.refuses builder.old) }
+        AB.kept AB.grew AB.refuses builder.old builder.new result }
     ensures exact { Add2IsExact AB.F.ring AB.F.CHARACTERISTIC }
 {
     let elements = sum_of_two(builder.ring(), a, b, c)?;
@@ -50,19 +41,10 @@ pub fn add3<AB: AirBuilder>(
     requires ready { AB.ready builder.old }
     requires c_in { All (AB.Ring.has (AB.ring_of builder.old)) c.now }
     requires d_in { All (AB.Ring.has (AB.ring_of builder.old)) d.now }
-    ensures keeps { AB.kept builder.old builder.new }
-    ensures ok { OnOk result (GrewBy
-        (Adds3 AB.F.ring (VariableMeans AB.Ring.FromVar-1.var_means AB.stands builder.old)
+    ensures asserted { AssertedList (Adds3 AB.F.ring
+        (VariableMeans AB.Ring.FromVar-1.var_means AB.stands builder.old)
         (Means AB.Ring.means AB.ring_of AB.stands builder.old) a.now b.now c.now d.now)
-        AB.grew builder.old builder.new) }
-    ensures err { OnErr result (GrewBySome
-        (Adds3 AB.F.ring (VariableMeans AB.Ring.FromVar-1.var_means AB.stands builder.old)
-        (Means AB.Ring.means AB.ring_of AB.stands builder.old) a.now b.now c.now d.now)
-        AB.grew builder.old builder.new) }
-    ensures refused { IfErr result (RefusesList
-        (Adds3 AB.F.ring (VariableMeans AB.Ring.FromVar-1.var_means AB.stands builder.old)
-        (Means AB.Ring.means AB.ring_of AB.stands builder.old) a.now b.now c.now d.now)
-        AB.refuses builder.old) }
+        AB.kept AB.grew AB.refuses builder.old builder.new result }
     ensures exact { Add3IsExact AB.F.ring AB.F.CHARACTERISTIC }
 {
     let elements = sum_of_three(builder.ring(), a, b, c, d)?;

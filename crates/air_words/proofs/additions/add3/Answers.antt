@@ -1,25 +1,18 @@
-use Rattle.std.proofs.Common.{subst, sym}
-use Rattle.std.proofs.lemmas.Result.{err_from_is_err_and, on_ok_weaker, on_err_weaker, IfErr-weaker}
-use Rattle.air_builder.specs.Batches.{GrewByFirst}
-use Rattle.air_windows.specs.Errors.{air_error}
-use Rattle.air_words.specs.Gadgets.{add3_terms}
+use Rattle.std.specs.List.{AllZip}
+use Rattle.std.proofs.lemmas.Result.{err_from_is_err_and}
+use Rattle.air_words.specs.Gadgets.{RefusesOne}
 use Rattle.air_words.proofs.ExactSums.{add3_is_exact}
-use Rattle.air_words.proofs.Lending.{leaves_of, variables_lent, elements_lent, lent_kept, batch_grew, batch_some, batch_refused, making_refused}
+use Rattle.air_words.proofs.Lending.{made_asserted, making_list_refused, sum_of_three_made}
 use Rattle.air_words.proofs.additions.add3.Goals as goal
 
-pub returns-in_err-elements-clause-refused : goal.returns-in_err-elements-clause-refused
-returns-in_err-elements-clause-refused g c =
+pub returns-in_err-elements-clause-asserted : goal.returns-in_err-elements-clause-asserted
+returns-in_err-elements-clause-asserted g c =
     let p = err_from_is_err_and c.from_residual.result c.from_residual.ensures.1 in
     let laws = g.met.AB.AirBuilder.laws in
     let ring = g.met.AB.Ring.Algebra.laws in
-    let r = g.AB.F.Field.ring in
-    let a = c.args.builder.now in
-    let stands = g.AB.AirBuilder.stands a in
-    let e = c.in_err-elements.field-0.0 in
     rw (p.1, p.2)
-    (λ ts w. subst (g.AB.AirBuilder.refuses a (air_error e)) (sym w.8)
-    (making_refused ring laws a c.ring.result.now c.sum_of_three.new.ring c.ring.ensures.value c.sum_of_three.ensures.extended (add3_terms r w.0 w.1 w.2 w.3) e
-    (c.in_err-elements.ensures.refused (leaves_of stands w.0) (leaves_of stands w.1) (leaves_of stands w.2) (leaves_of stands w.3) (variables_lent _ g.AB.AirBuilder.stands a c.args.a.now w.0 w.4) (variables_lent _ g.AB.AirBuilder.stands a c.args.b.now w.1 w.5) (elements_lent ring laws a c.ring.result.now c.sum_of_three.new.ring c.ring.ensures.value c.sum_of_three.ensures.extended c.args.c.now w.2 w.6) (elements_lent ring laws a c.ring.result.now c.sum_of_three.new.ring c.ring.ensures.value c.sum_of_three.ensures.extended c.args.d.now w.3 w.7))))
+    (making_list_refused ring laws c.ring.ensures.value c.sum_of_three.ensures.extended c.in_err-elements.field-0.0
+    (sum_of_three_made ring laws c.ring.ensures.value c.sum_of_three.ensures.extended g.AB.Ring.FromVar-1.var_means g.AB.F.Field.ring (RefusesOne g.AB.Ring.Algebra.refuses c.in_err-elements.field-0.0) c.args.a.now c.args.b.now c.args.c.now c.args.d.now c.in_err-elements.ensures.refused))
 
 pub returns-in_err-elements-clause-exact : goal.returns-in_err-elements-clause-exact
 returns-in_err-elements-clause-exact g c = add3_is_exact g.AB.F.Field.ring g.AB.F.Field.CHARACTERISTIC g.met.AB.F.Field.image_is
@@ -27,48 +20,10 @@ returns-in_err-elements-clause-exact g c = add3_is_exact g.AB.F.Field.ring g.AB.
 pub returns-clause-exact : goal.returns-clause-exact
 returns-clause-exact g c = add3_is_exact g.AB.F.Field.ring g.AB.F.Field.CHARACTERISTIC g.met.AB.F.Field.image_is
 
-pub returns-clause-keeps : goal.returns-clause-keeps
-returns-clause-keeps g c =
-    let laws = g.met.AB.AirBuilder.laws in
-    laws.kept_joined c.args.builder.now _ c.assert_zeros_slice.new.self
-    (lent_kept g.met.AB.Ring.Algebra.laws laws c.args.builder.now c.ring.result.now c.sum_of_three.new.ring c.ring.ensures.value c.sum_of_three.ensures.extended)
-    c.assert_zeros_slice.ensures.keeps
-
-pub returns-clause-ok : goal.returns-clause-ok
-returns-clause-ok g c =
+pub returns-clause-asserted : goal.returns-clause-asserted
+returns-clause-asserted g c =
     let laws = g.met.AB.AirBuilder.laws in
     let ring = g.met.AB.Ring.Algebra.laws in
-    let r = g.AB.F.Field.ring in
-    let a = c.args.builder.now in
-    let stands = g.AB.AirBuilder.stands a in
-    on_ok_weaker c.assert_zeros_slice.result
-    (λ h ts w. subst (g.AB.AirBuilder.grew a c.assert_zeros_slice.new.self) (sym w.8)
-    (batch_grew ring laws a c.ring.result.now c.sum_of_three.new.ring c.ring.ensures.value c.sum_of_three.ensures.extended c.assert_zeros_slice.new.self c.in_ok-elements.elements (add3_terms r w.0 w.1 w.2 w.3)
-    (c.in_ok-elements.ensures.made.1 (leaves_of stands w.0) (leaves_of stands w.1) (leaves_of stands w.2) (leaves_of stands w.3) (variables_lent _ g.AB.AirBuilder.stands a c.args.a.now w.0 w.4) (variables_lent _ g.AB.AirBuilder.stands a c.args.b.now w.1 w.5) (elements_lent ring laws a c.ring.result.now c.sum_of_three.new.ring c.ring.ensures.value c.sum_of_three.ensures.extended c.args.c.now w.2 w.6) (elements_lent ring laws a c.ring.result.now c.sum_of_three.new.ring c.ring.ensures.value c.sum_of_three.ensures.extended c.args.d.now w.3 w.7)) h))
-    c.assert_zeros_slice.ensures.ok
-
-pub returns-clause-err : goal.returns-clause-err
-returns-clause-err g c =
-    let laws = g.met.AB.AirBuilder.laws in
-    let ring = g.met.AB.Ring.Algebra.laws in
-    let r = g.AB.F.Field.ring in
-    let a = c.args.builder.now in
-    let stands = g.AB.AirBuilder.stands a in
-    on_err_weaker c.assert_zeros_slice.result
-    (λ h ts w. subst (GrewByFirst g.AB.AirBuilder.grew a c.assert_zeros_slice.new.self) (sym w.8)
-    (batch_some ring laws a c.ring.result.now c.sum_of_three.new.ring c.ring.ensures.value c.sum_of_three.ensures.extended c.assert_zeros_slice.new.self c.in_ok-elements.elements (add3_terms r w.0 w.1 w.2 w.3)
-    (c.in_ok-elements.ensures.made.1 (leaves_of stands w.0) (leaves_of stands w.1) (leaves_of stands w.2) (leaves_of stands w.3) (variables_lent _ g.AB.AirBuilder.stands a c.args.a.now w.0 w.4) (variables_lent _ g.AB.AirBuilder.stands a c.args.b.now w.1 w.5) (elements_lent ring laws a c.ring.result.now c.sum_of_three.new.ring c.ring.ensures.value c.sum_of_three.ensures.extended c.args.c.now w.2 w.6) (elements_lent ring laws a c.ring.result.now c.sum_of_three.new.ring c.ring.ensures.value c.sum_of_three.ensures.extended c.args.d.now w.3 w.7)) h))
-    c.assert_zeros_slice.ensures.err
-
-pub returns-clause-refused : goal.returns-clause-refused
-returns-clause-refused g c =
-    let laws = g.met.AB.AirBuilder.laws in
-    let ring = g.met.AB.Ring.Algebra.laws in
-    let r = g.AB.F.Field.ring in
-    let a = c.args.builder.now in
-    let stands = g.AB.AirBuilder.stands a in
-    IfErr-weaker c.assert_zeros_slice.result _ _
-    (λ e h ts w. subst (g.AB.AirBuilder.refuses a e) (sym w.8)
-    (batch_refused ring laws a c.ring.result.now c.sum_of_three.new.ring c.ring.ensures.value c.sum_of_three.ensures.extended c.in_ok-elements.elements (add3_terms r w.0 w.1 w.2 w.3) e
-    (c.in_ok-elements.ensures.made.1 (leaves_of stands w.0) (leaves_of stands w.1) (leaves_of stands w.2) (leaves_of stands w.3) (variables_lent _ g.AB.AirBuilder.stands a c.args.a.now w.0 w.4) (variables_lent _ g.AB.AirBuilder.stands a c.args.b.now w.1 w.5) (elements_lent ring laws a c.ring.result.now c.sum_of_three.new.ring c.ring.ensures.value c.sum_of_three.ensures.extended c.args.c.now w.2 w.6) (elements_lent ring laws a c.ring.result.now c.sum_of_three.new.ring c.ring.ensures.value c.sum_of_three.ensures.extended c.args.d.now w.3 w.7)) h))
-    c.assert_zeros_slice.ensures.refused
+    made_asserted ring laws c.ring.ensures.value c.sum_of_three.ensures.extended c.assert_zeros_slice.result
+    (sum_of_three_made ring laws c.ring.ensures.value c.sum_of_three.ensures.extended g.AB.Ring.FromVar-1.var_means g.AB.F.Field.ring (AllZip (g.AB.Ring.Algebra.means c.sum_of_three.new.ring) c.in_ok-elements.elements) c.args.a.now c.args.b.now c.args.c.now c.args.d.now c.in_ok-elements.ensures.made.1)
+    c.assert_zeros_slice.ensures
