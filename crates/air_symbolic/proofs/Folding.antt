@@ -1,10 +1,8 @@
 -- A folded operation stands for its term.
 use Rattle.std.proofs.Common.{Decides, ℕ, ◌<◌, List, length, ◌≡◌, Bool, true, false, cond, refl, sym, ap, subst, ◌∙◌, arith}
 use Rattle.std.specs.Prelude.{Option, None, Some}
-use Rattle.std.proofs.Math.Nat.{le-max_left, le-max_right}
 use Rattle.air_field.specs.Ring.{CommRing}
 use Rattle.air_field.specs.Term.{Term, const_term, add_term, sub_term, neg_term, mul_term}
-use Rattle.air_field.specs.Degree.{degree_by}
 use Rattle.air_field.specs.Same.{Same, same_refl, same_trans, same_add, same_sub, same_neg, same_mul, const_add, const_sub, const_neg, const_mul, zero_add, add_zero, zero_sub, sub_zero, zero_mul, mul_zero, one_mul, mul_one, Stands}
 use Rattle.air_field.specs.laws.Degree.{Stands-refl}
 use Rattle.air_symbolic.specs.Leaves.{Leaves, Keeps, LeafLaws}
@@ -38,42 +36,34 @@ module _ {F : Type 0} (r : CommRing F) where
   negative_fold-stands None x h = tt
 
 module _ {F : Type 0} (r : CommRing F) (eq : F → F → Bool) (decides : (x y : F) → Decides (eq x y) (x ≡ y)) where
-  -- a constant that is tested is what it is tested for
-  tested : (a b : F) (x : Term F) → IsKnown r x (Some a) → eq a b ≡ true → Same r (const_term b) x
-  tested a b x h e = h b (ap (λ (c : F). Some c) ((decides a b).0 e))
+  -- the fold f where the operand u, the constant a, is b
+  tested-stands : (a b : F) (u x y z : Term F) (f g : Option (Fold F)) → IsKnown r u (Some a) → (Same r (const_term b) u → FoldStands r x y z f) → FoldStands r x y z g → FoldStands r x y z (cond (eq a b) f g)
+  tested-stands a b u x y z f g h k = cond-stands r (eq a b) x y z f g (λ e. k (h b (ap (λ (c : F). Some c) ((decides a b).0 e))))
 
   sum_fold-stands : (o p : Option F) (x y : Term F) → IsKnown r x o → IsKnown r y p → FoldStands r x y (add_term x y) (sum_fold r eq o p)
   sum_fold-stands (Some a) (Some b) x y h k = same_trans const_add (same_add (h a refl) (k b refl))
   sum_fold-stands (Some a) None x y h k =
-      cond-stands r (eq a r.nil) x y _ (Some Right) None
-      (λ e. record { same = same_trans zero_add (same_add (tested a r.nil x h e) same_refl); light = λ w. omega (arith, le-max_right (degree_by w x) (degree_by w y)) })
-      tt
+      tested-stands a r.nil x x y _ (Some Right) None h (λ c. record { same = same_trans zero_add (same_add c same_refl); light = λ w. omega arith }) tt
   sum_fold-stands None (Some b) x y h k =
-      cond-stands r (eq b r.nil) x y _ (Some Left) None
-      (λ e. record { same = same_trans add_zero (same_add same_refl (tested b r.nil y k e)); light = λ w. omega (arith, le-max_left (degree_by w x) (degree_by w y)) })
-      tt
+      tested-stands b r.nil y x y _ (Some Left) None k (λ c. record { same = same_trans add_zero (same_add same_refl c); light = λ w. omega arith }) tt
   sum_fold-stands None None x y h k = tt
 
   difference_fold-stands : (o p : Option F) (x y : Term F) → IsKnown r x o → IsKnown r y p → FoldStands r x y (sub_term x y) (difference_fold r eq o p)
   difference_fold-stands (Some a) (Some b) x y h k = same_trans const_sub (same_sub (h a refl) (k b refl))
   difference_fold-stands (Some a) None x y h k =
-      cond-stands r (eq a r.nil) x y _ (Some Negated) None
-      (λ e. record { same = same_trans zero_sub (same_sub (tested a r.nil x h e) same_refl); light = λ w. omega (arith, le-max_right (degree_by w x) (degree_by w y)) })
-      tt
+      tested-stands a r.nil x x y _ (Some Negated) None h (λ c. record { same = same_trans zero_sub (same_sub c same_refl); light = λ w. omega arith }) tt
   difference_fold-stands None (Some b) x y h k =
-      cond-stands r (eq b r.nil) x y _ (Some Left) None
-      (λ e. record { same = same_trans sub_zero (same_sub same_refl (tested b r.nil y k e)); light = λ w. omega (arith, le-max_left (degree_by w x) (degree_by w y)) })
-      tt
+      tested-stands b r.nil y x y _ (Some Left) None k (λ c. record { same = same_trans sub_zero (same_sub same_refl c); light = λ w. omega arith }) tt
   difference_fold-stands None None x y h k = tt
 
   product_fold-stands : (o p : Option F) (x y : Term F) → IsKnown r x o → IsKnown r y p → FoldStands r x y (mul_term x y) (product_fold r eq o p)
   product_fold-stands (Some a) (Some b) x y h k = same_trans const_mul (same_mul (h a refl) (k b refl))
   product_fold-stands (Some a) None x y h k =
-      cond-stands r (eq a r.nil) x y _ (Some (Constant r.nil)) _ (λ e. same_trans zero_mul (same_mul (tested a r.nil x h e) same_refl))
-      (cond-stands r (eq a r.one) x y _ (Some Right) None (λ e. record { same = same_trans one_mul (same_mul (tested a r.one x h e) same_refl); light = λ w. omega arith }) tt)
+      tested-stands a r.nil x x y _ (Some (Constant r.nil)) _ h (λ c. same_trans zero_mul (same_mul c same_refl))
+      (tested-stands a r.one x x y _ (Some Right) None h (λ c. record { same = same_trans one_mul (same_mul c same_refl); light = λ w. omega arith }) tt)
   product_fold-stands None (Some b) x y h k =
-      cond-stands r (eq b r.nil) x y _ (Some (Constant r.nil)) _ (λ e. same_trans mul_zero (same_mul same_refl (tested b r.nil y k e)))
-      (cond-stands r (eq b r.one) x y _ (Some Left) None (λ e. record { same = same_trans mul_one (same_mul same_refl (tested b r.one y k e)); light = λ w. omega arith }) tt)
+      tested-stands b r.nil y x y _ (Some (Constant r.nil)) _ k (λ c. same_trans mul_zero (same_mul same_refl c))
+      (tested-stands b r.one y x y _ (Some Left) None k (λ c. record { same = same_trans mul_one (same_mul same_refl c); light = λ w. omega arith }) tt)
   product_fold-stands None None x y h k = tt
 
 module _ {A F : Type 0} (r : CommRing F) (eq : F → F → Bool) (decides : (x y : F) → Decides (eq x y) (x ≡ y)) (l m : Leaves A F) (constant_is : (a : A) (c : F) → l.valid a → l.constant a ≡ Some c → Same r (const_term c) (l.term a)) (k : Keeps l m) where
