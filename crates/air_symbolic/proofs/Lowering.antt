@@ -1,22 +1,20 @@
 -- What a tree without extension-only leaves is as a base tree.
-use Rattle.std.proofs.Common.{◌≡◌, ℕ, ◌+◌, ◌<◌, Bool, Decides, List, length, refl, sym, ap, ap₂, ◌∙◌, inl, inr, ◌⊎◌, Option, Some, None, subst, Result, Ok, Err, IfErr}
-use Rattle.air_field.specs.declared.errors.RingError.{RingError}
-use Rattle.air_field.specs.declared.errors.RingError.TheVariants.{Memory, DegreeOverflow}
+use Rattle.std.proofs.Common.{◌≡◌, ℕ, ◌+◌, ◌<◌, max, Bool, List, length, get_or, refl, sym, ap, ap₂, ◌∙◌, inl, inr, ◌⊎◌, Option, Some, None, subst}
 use Rattle.air_field.specs.Degree.{degree_by, cached_weight}
 use Rattle.air_field.specs.Ring.{CommRing}
 use Rattle.air_symbolic.specs.Trees.{Tree, nothing, leaf_tree, add_tree, sub_tree, neg_tree, mul_tree, term_of, IsWhole}
-use Rattle.air_symbolic.specs.Pools.{Grown, HasTree, tree_at, term_at, IsPool}
-use Rattle.air_symbolic.specs.BaseLeaves.{base_term, base_reads, base_grows}
+use Rattle.air_symbolic.specs.Pools.{HasTree, tree_at, IsPool}
+use Rattle.air_symbolic.specs.BaseLeaves.{base_term, base_leaves, base_reads, base_grows}
 use Rattle.air_symbolic.specs.laws.BaseLeaves.{base_leaf_laws}
 use Rattle.air_symbolic.specs.laws.Pools.{tree-kept, here-kept}
-use Rattle.air_symbolic.specs.Nodes.{node_at, cached_degree}
+use Rattle.air_symbolic.specs.Nodes.{unfold_node, tree_of, cached_degree, OperandsBelow, IsNode}
 use Rattle.air_symbolic.specs.laws.Numbers.{tree_of-whole}
 use Rattle.air_symbolic.specs.ExtLeaves.{BaseNodes, ext_valid, ext_grows, ext_term, ext_reads}
 use Rattle.air_symbolic.specs.ExtPool.{ExtNodes}
-use Rattle.air_symbolic.specs.laws.ExtPool.{base_lent_from}
 use Rattle.air_symbolic.specs.Reach.{EachOperand}
-use Rattle.air_symbolic.specs.Lowered.{IsLoweredIn, LoweredAt, CanLower}
+use Rattle.air_symbolic.specs.Lowered.{IsLoweredIn, LoweredAt, IsLoweredNode, CanLower}
 use Rattle.air_symbolic.specs.declared.pools.expr.SymbolicExpr.{SymbolicExpr}
+use Rattle.air_symbolic.specs.declared.pools.expr.SymbolicExpr.TheVariants.{Leaf, Add, Sub, Neg, Mul}
 use Rattle.air_symbolic.specs.ExtTrees.{HasExtOnly, lowered, HasTermOf}
 use Rattle.air_symbolic.specs.declared.leaves.base_leaf.BaseLeaf.{BaseLeaf}
 use Rattle.air_symbolic.specs.declared.leaves.ext_leaf.ExtLeaf.{ExtLeaf}
@@ -69,41 +67,55 @@ module _ {F EF : Type 0} (p q : ExtNodes F EF) (i : ℕ) (o : Option ℕ) where
       let same : h.0 ≡ b = cc in
       subst (λ k. HasTree q.0 (lowered p.0 (tree_at p i)) k) same h.2
 
--- The operands of a number that can be lowered.
-module _ {F EF : Type 0} (p : ExtNodes F EF) (table : List (Option ℕ)) (i : ℕ) (n m : SymbolicExpr (ExtLeaf F EF)) (h : CanLower p table i) (at : node_at p.1 i ≡ Some n) (is : n ≡ m) where
-  pub operands-lowered : EachOperand (LoweredAt p table) m
-  operands-lowered = subst (λ k. EachOperand (LoweredAt p table) k) is (h.operands n at)
+-- operands below k
+pub each_below : {A : Type 0} (P Q : ℕ → Type 0) (k : ℕ) (n : SymbolicExpr A) → ((i : ℕ) → i < k → P i → Q i) → OperandsBelow k n → EachOperand P n → EachOperand Q n
+each_below P Q k (Leaf a) f b h = tt
+each_below P Q k (Add x y d) f b h = (f x b.0 h.0, f y b.1 h.1)
+each_below P Q k (Sub x y d) f b h = (f x b.0 h.0, f y b.1 h.1)
+each_below P Q k (Neg x d) f b h = f x b h
+each_below P Q k (Mul x y d) f b h = (f x b.0 h.0, f y b.1 h.1)
 
--- A node is made of its lowered operands a and b in the base pool that is lent.
-module _ {F EF : Type 0} (r : CommRing F) (eq : F → F → Bool) (coefficients : EF → List F) (decides : (x y : F) → Decides (eq x y) (x ≡ y)) (p : ExtNodes F EF) (pool : IsPool (ext_reads r eq coefficients) p) (lent : BaseNodes F) (is : lent ≡ p.0) where
-  pub base-pool : IsPool base_reads lent
-  base-pool = subst (λ (u : BaseNodes F). IsPool base_reads u) (sym is) pool.under
+-- Number i, which can be lowered, is a node in the base pool over what its operands are lowered to.
+module _ {F EF : Type 0} (r : CommRing F) (eq : F → F → Bool) (coefficients : EF → List F) (p : ExtNodes F EF) (pool : IsPool (ext_reads r eq coefficients) p) (table : List (Option ℕ)) (i : ℕ) (ready : CanLower p table i) where
+  module _ (n : SymbolicExpr (ExtLeaf F EF)) (is : IsNode (ext_reads r eq coefficients p.0) p.1 i n) where
+    pub operands-there : EachOperand (λ x. get_or table x None ≡ None → ⊥) n
+    operands-there =
+        each_below (LoweredAt p table) (λ x. get_or table x None ≡ None → ⊥) i n (λ x _ h. lowered-there p p x (get_or table x None) h) is.below (ready.operands n is.node)
 
-  pub lent-here : (t : Tree (BaseLeaf F)) (a : ℕ) → HasTree p.0 t a → a < length lent.1
-  lent-here t a h = subst (λ (u : BaseNodes F). a < length u.1) (sym is) h.here
+    only : HasExtOnly (unfold_node (tree_of p.1) n) → ⊥
+    only = subst (λ t. HasExtOnly t → ⊥) is.tree ready.base_only
 
-  -- the whole has grown, where the base pool has
-  pub Grown-lowered : (w : BaseNodes F) → ext_grows lent w → Grown ext_grows (ext_reads r eq coefficients) p (w, p.1)
-  Grown-lowered w k = base_lent_from r eq coefficients decides p lent w is k
+  -- b stands for the operand x
+  record IsFor (x b : ℕ) : Type 0 where
+    here : b < length p.0.1
+    degree : cached_degree (ext_reads r eq coefficients p.0) p.1 x ≡ cached_degree base_leaves p.0.1 b
+    tree : tree_at p.0 b ≡ lowered p.0 (tree_at p x)
 
-  -- the node made of the lowered operands is the lowered node
-  pub lowered-node : (node : Tree (BaseLeaf F) → Tree (BaseLeaf F) → Tree (BaseLeaf F)) (t : Tree (ExtLeaf F EF)) (x y a b z : ℕ) (w : BaseNodes F) → lowered p.0 t ≡ node (lowered p.0 (tree_at p x)) (lowered p.0 (tree_at p y)) → HasTree p.0 (lowered p.0 (tree_at p x)) a → HasTree p.0 (lowered p.0 (tree_at p y)) b → HasTree w (node (tree_at lent a) (tree_at lent b)) z → HasTree w (lowered p.0 t) z
-  lowered-node node t x y a b z w e ha hb hz =
-      record { here = hz.here; tree = hz.tree ∙ ap (λ (l : BaseNodes F). node (tree_at l a) (tree_at l b)) is ∙ ap₂ node ha.tree hb.tree ∙ sym e }
+  operand : (x b : ℕ) → x < length p.1 → (HasExtOnly (tree_at p x) → ⊥) → LoweredAt p table x → get_or table x None ≡ Some b → IsFor x b
+  operand x b here base at e =
+      let h = lowered-read p p x (get_or table x None) at b e in
+      record {
+        here = h.here;
+        degree = ap (degree_by cached_weight) (sym (lowered-has-term r eq coefficients p x p.0 b pool here base h));
+        tree = h.tree;
+      }
 
-  -- its degree is that of the operands as they were
-  lowered-degree : (i a : ℕ) → i < length p.1 → (HasExtOnly (tree_at p i) → ⊥) → HasTree p.0 (lowered p.0 (tree_at p i)) a → degree_by cached_weight (term_at base_reads p.0 a) ≡ cached_degree (ext_reads r eq coefficients p.0) p.1 i
-  lowered-degree i a b n t =
-      ap (λ (k : Tree (BaseLeaf F)). degree_by cached_weight (term_of base_term k)) t.tree
-      ∙ ap (degree_by cached_weight) (lowered-term r coefficients p.0 (tree_at p i) (tree_of-whole (ext_reads r eq coefficients p.0) p.1 pool.nodes i b) n)
+  both : (join : ℕ → ℕ → ℕ) (node : Tree (BaseLeaf F) → Tree (BaseLeaf F) → Tree (BaseLeaf F)) (x y d a b : ℕ) → (x < length p.1) × (y < length p.1) × (d ≡ join (cached_degree (ext_reads r eq coefficients p.0) p.1 x) (cached_degree (ext_reads r eq coefficients p.0) p.1 y)) → (HasExtOnly (tree_at p x) ⊎ HasExtOnly (tree_at p y) → ⊥) → LoweredAt p table x × LoweredAt p table y → lowered p.0 (tree_at p i) ≡ node (lowered p.0 (tree_at p x)) (lowered p.0 (tree_at p y)) → get_or table x None ≡ Some a → get_or table y None ≡ Some b → ((a < length p.0.1) × (b < length p.0.1) × (d ≡ join (cached_degree base_leaves p.0.1 a) (cached_degree base_leaves p.0.1 b))) × (node (tree_at p.0 a) (tree_at p.0 b) ≡ lowered p.0 (tree_at p i))
+  both join node x y d a b fits base at tree ea eb =
+      let ha = operand x a fits.0 (λ e. base (inl e)) at.0 ea in
+      let hb = operand y b fits.1 (λ e. base (inr e)) at.1 eb in
+      ((ha.here, hb.here, fits.2 ∙ ap₂ join ha.degree hb.degree), ap₂ node ha.tree hb.tree ∙ sym tree)
 
-  pub lowered-degrees : (x y a b : ℕ) → x < length p.1 → y < length p.1 → (HasExtOnly (tree_at p x) ⊎ HasExtOnly (tree_at p y) → ⊥) → HasTree p.0 (lowered p.0 (tree_at p x)) a → HasTree p.0 (lowered p.0 (tree_at p y)) b → degree_by cached_weight (term_at base_reads lent a) + degree_by cached_weight (term_at base_reads lent b) ≡ cached_degree (ext_reads r eq coefficients p.0) p.1 x + cached_degree (ext_reads r eq coefficients p.0) p.1 y
-  lowered-degrees x y a b cx cy n ha hb =
-      ap (λ (l : BaseNodes F). degree_by cached_weight (term_at base_reads l a) + degree_by cached_weight (term_at base_reads l b)) is
-      ∙ ap₂ (λ k l. k + l) (lowered-degree x a cx (λ e. n (inl e)) ha) (lowered-degree y b cy (λ e. n (inr e)) hb)
+  pub added : (x y d a b : ℕ) → IsNode (ext_reads r eq coefficients p.0) p.1 i (Add x y d) → get_or table x None ≡ Some a → get_or table y None ≡ Some b → IsLoweredNode p i (Add a b d)
+  added x y d a b is = both max (λ t u. add_tree t u) x y d a b is.fits (only _ is) (ready.operands _ is.node) (ap (lowered p.0) is.tree)
 
--- what is refused for no degree is refused for memory
-pub only-memory : {X : Type 0} (answer : Result X RingError) → (answer ≡ Err DegreeOverflow → ⊥) → IfErr answer (λ e. e ≡ Memory)
-only-memory (Ok x) h = tt
-only-memory (Err Memory) h = refl
-only-memory (Err DegreeOverflow) h = absurd (h refl)
+  pub subtracted : (x y d a b : ℕ) → IsNode (ext_reads r eq coefficients p.0) p.1 i (Sub x y d) → get_or table x None ≡ Some a → get_or table y None ≡ Some b → IsLoweredNode p i (Sub a b d)
+  subtracted x y d a b is = both max (λ t u. sub_tree t u) x y d a b is.fits (only _ is) (ready.operands _ is.node) (ap (lowered p.0) is.tree)
+
+  pub multiplied : (x y d a b : ℕ) → IsNode (ext_reads r eq coefficients p.0) p.1 i (Mul x y d) → get_or table x None ≡ Some a → get_or table y None ≡ Some b → IsLoweredNode p i (Mul a b d)
+  multiplied x y d a b is = both (λ k l. k + l) (λ t u. mul_tree t u) x y d a b is.fits (only _ is) (ready.operands _ is.node) (ap (lowered p.0) is.tree)
+
+  pub negated : (x d a : ℕ) → IsNode (ext_reads r eq coefficients p.0) p.1 i (Neg x d) → get_or table x None ≡ Some a → IsLoweredNode p i (Neg a d)
+  negated x d a is e =
+      let h = operand x a is.fits.0 (only _ is) (ready.operands _ is.node) e in
+      ((h.here, is.fits.1 ∙ h.degree), ap (λ t. neg_tree t) h.tree ∙ sym (ap (lowered p.0) is.tree))

@@ -4,7 +4,7 @@ use Rattle.std.proofs.lemmas.List.{get_or_default, get_or_append_left, get_or_pu
 use Rattle.air_field.specs.Ring.{CommRing}
 use Rattle.air_symbolic.specs.Leaves.{Leaves}
 use Rattle.air_symbolic.specs.Trees.{Tree, nothing, leaf_tree, add_tree, sub_tree, neg_tree, mul_tree}
-use Rattle.air_symbolic.specs.Nodes.{unfold_node, tree_of, node_at, WellFormed, OperandsBelow, IsNode}
+use Rattle.air_symbolic.specs.Nodes.{unfold_node, tree_of, node_at, WellFormed, IsNode}
 use Rattle.air_symbolic.specs.laws.Numbers.{tree_of-whole}
 use Rattle.air_symbolic.specs.laws.Sharing.{found, node_at-is}
 use Rattle.air_symbolic.specs.Pools.{IsPool, Grown, HasTree, tree_at}
@@ -16,15 +16,7 @@ use Rattle.air_symbolic.specs.Lowered.{IsExtOnlyLeaf, IsMarkedExtOnly, IsLowered
 use Rattle.air_symbolic.specs.declared.pools.expr.SymbolicExpr.{SymbolicExpr}
 use Rattle.air_symbolic.specs.declared.pools.expr.SymbolicExpr.TheVariants as node
 use Rattle.air_symbolic.specs.declared.leaves.ext_leaf.ExtLeaf.{ExtLeaf}
-use Rattle.air_symbolic.proofs.Lowering.{HasTree-kept, lowered-kept, lowered-read}
-
--- operands below k
-each_below : {A : Type 0} (P Q : ℕ → Type 0) (k : ℕ) (n : SymbolicExpr A) → ((i : ℕ) → i < k → P i → Q i) → OperandsBelow k n → EachOperand P n → EachOperand Q n
-each_below P Q k (node.Leaf a) f b h = tt
-each_below P Q k (node.Add x y d) f b h = (f x b.0 h.0, f y b.1 h.1)
-each_below P Q k (node.Sub x y d) f b h = (f x b.0 h.0, f y b.1 h.1)
-each_below P Q k (node.Neg x d) f b h = f x b h
-each_below P Q k (node.Mul x y d) f b h = (f x b.0 h.0, f y b.1 h.1)
+use Rattle.air_symbolic.proofs.Lowering.{each_below, HasTree-kept, lowered-kept, lowered-read}
 
 -- an extension-only leaf in an operand is one in the node
 operand-ext-only : {F EF : Type 0} (at : ℕ → Tree (ExtLeaf F EF)) (i : ℕ) (n : SymbolicExpr (ExtLeaf F EF)) → IsOperand i n → HasExtOnly (at i) → HasExtOnly (unfold_node at n)

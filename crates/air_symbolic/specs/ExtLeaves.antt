@@ -5,7 +5,6 @@ use Rattle.air_field.specs.Term.{Term, leaf_term, ext_const_term}
 use Rattle.air_variables.specs.ExtEntries.{ext_entry_leaf}
 use Rattle.air_symbolic.specs.BaseParts.{base_part}
 use Rattle.air_symbolic.specs.Leaves.{Leaves}
-use Rattle.air_symbolic.specs.Trees.{nothing}
 use Rattle.air_symbolic.specs.Pools.{IsPool, Grown, PoolHas, term_at, constant_at}
 use Rattle.air_symbolic.specs.BaseLeaves.{base_reads, base_grows}
 use Rattle.air_symbolic.specs.declared.pools.expr.SymbolicExpr.{SymbolicExpr}

@@ -1,12 +1,14 @@
 -- Base numbers in place of the numbers of an extension pool.
 use Rattle.std.specs.Prelude.{◌≡◌, ℕ, ◌<◌, List, length, get_or, Option, None, Some}
 use Rattle.air_symbolic.specs.Trees.{Tree, nothing, leaf_tree, add_tree, sub_tree, neg_tree, mul_tree}
-use Rattle.air_symbolic.specs.Nodes.{node_at}
+use Rattle.air_symbolic.specs.Nodes.{node_at, unfold_node, tree_of, NodeFits}
 use Rattle.air_symbolic.specs.Pools.{tree_at, HasTree}
+use Rattle.air_symbolic.specs.BaseLeaves.{base_leaves}
 use Rattle.air_symbolic.specs.ExtPool.{ExtNodes}
 use Rattle.air_symbolic.specs.ExtTrees.{IsExtOnly, HasExtOnly, lowered}
 use Rattle.air_symbolic.specs.Reach.{EachOperand}
 use Rattle.air_symbolic.specs.declared.pools.expr.SymbolicExpr.{SymbolicExpr}
+use Rattle.air_symbolic.specs.declared.leaves.base_leaf.BaseLeaf.{BaseLeaf}
 use Rattle.air_symbolic.specs.declared.leaves.ext_leaf.ExtLeaf.{ExtLeaf}
 
 -- the tree is a leaf of the extension alone
@@ -30,6 +32,10 @@ IsLoweredIn p q i o = (b : ℕ) × (o ≡ Some b) × HasTree q.0 (lowered p.0 (t
 -- the table has at number i the base number that is i lowered
 abbrev pub LoweredAt : {F EF : Type 0} → ExtNodes F EF → List (Option ℕ) → ℕ → Type 0
 LoweredAt p table i = IsLoweredIn p p i (get_or table i None)
+
+-- the node n fits the base pool of p, and there is number i of p lowered
+abbrev pub IsLoweredNode : {F EF : Type 0} → ExtNodes F EF → ℕ → SymbolicExpr (BaseLeaf F) → Type 0
+IsLoweredNode p i n = NodeFits base_leaves p.0.1 n × (unfold_node (tree_of p.0.1) n ≡ lowered p.0 (tree_at p i))
 
 -- Number i can be lowered: no extension-only leaf occurs in its tree, and the table has its operands lowered.
 pub record CanLower {F EF : Type 0} (p : ExtNodes F EF) (table : List (Option ℕ)) (i : ℕ) : Type 0 where

@@ -25,36 +25,30 @@ pub(crate) fn known<A: Copy>(
 }
 
 // The degree of a sum or a difference.
-fn greater_degree<A: Copy>(
-    table: &[Result<usize, RingError>],
-    x: ExprId<A>,
-    y: ExprId<A>,
+fn greater_degree(
+    left: Result<usize, RingError>,
+    right: Result<usize, RingError>,
 ) -> Result<usize, RingError>
-    requires x_in { x < length table.now }
-    requires y_in { y < length table.now }
-    ensures { (a b : ℕ) → AnswersDegree a (answer_at table.now x) →
-        AnswersDegree b (answer_at table.now y) → AnswersDegree (max a b) result }
+    ensures { (a b : ℕ) → AnswersDegree a left → AnswersDegree b right →
+        AnswersDegree (max a b) result }
 {
-    let left = known(table, x)?;
-    match known(table, y) {
+    let left = left?;
+    match right {
         Ok(right) => Ok(left.max(right)),
         Err(e) => Err(e),
     }
 }
 
 // The degree of a product.
-fn added_degree<A: Copy>(
-    table: &[Result<usize, RingError>],
-    x: ExprId<A>,
-    y: ExprId<A>,
+fn added_degree(
+    left: Result<usize, RingError>,
+    right: Result<usize, RingError>,
 ) -> Result<usize, RingError>
-    requires x_in { x < length table.now }
-    requires y_in { y < length table.now }
-    ensures { (a b : ℕ) → AnswersDegree a (answer_at table.now x) →
-        AnswersDegree b (answer_at table.now y) → AnswersDegree (a + b) result }
+    ensures { (a b : ℕ) → AnswersDegree a left → AnswersDegree b right →
+        AnswersDegree (a + b) result }
 {
-    let left = known(table, x)?;
-    match known(table, y) {
+    let left = left?;
+    match right {
         Ok(right) => left.checked_add(right).ok_or(RingError::DegreeOverflow),
         Err(e) => Err(e),
     }
@@ -77,10 +71,10 @@ fn degree_of_node<A: SymLeaf>(
 {
     match node {
         SymbolicExpr::Leaf(a) => a.degree_in(weight, under, known_under),
-        SymbolicExpr::Add { x, y, .. } => greater_degree(table, x, y),
-        SymbolicExpr::Sub { x, y, .. } => greater_degree(table, x, y),
+        SymbolicExpr::Add { x, y, .. } => greater_degree(known(table, x), known(table, y)),
+        SymbolicExpr::Sub { x, y, .. } => greater_degree(known(table, x), known(table, y)),
         SymbolicExpr::Neg { x, .. } => known(table, x),
-        SymbolicExpr::Mul { x, y, .. } => added_degree(table, x, y),
+        SymbolicExpr::Mul { x, y, .. } => added_degree(known(table, x), known(table, y)),
     }
 }
 

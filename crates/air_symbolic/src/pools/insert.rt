@@ -51,7 +51,7 @@ fn number_of<A: SymLeaf>(
 
 impl<A: SymLeaf> ExprPool<A> {
     // The number of an equal node, or of one more.
-    fn insert(&mut self, node: SymbolicExpr<A>) -> Result<ExprId<A>, RingError>
+    pub(crate) fn insert(&mut self, node: SymbolicExpr<A>) -> Result<ExprId<A>, RingError>
         requires pool { IsPool A.reads self.old }
         requires fits { NodeFits (A.reads self.old.0) self.old.1 node }
         ensures same_under { self.new.0 ≡ self.old.0 }

@@ -3,7 +3,7 @@ ghost use Rattle.std.specs.Prelude.{◌≡◌, ◌≢◌, ◌<◌, [], ◌∷◌
 ghost use Rattle.std.specs.Option.{IfSome};
 ghost use Rattle.air_symbolic.specs.ExtLeaves.{ext_reads, ext_grows};
 ghost use Rattle.air_symbolic.specs.ExtTrees.{HasExtOnly, lowered, IsLowered, HasTermOf};
-ghost use Rattle.air_symbolic.specs.Lowered.{IsMarkedExtOnly, IsLoweredIn, CanLower};
+ghost use Rattle.air_symbolic.specs.Lowered.{IsMarkedExtOnly, IsLoweredIn, IsLoweredNode, CanLower};
 ghost use Rattle.air_symbolic.specs.Pools.{IsPool, Grown, HasTree, tree_at};
 ghost use Rattle.air_symbolic.specs.Reach.{Reached};
 
@@ -65,6 +65,55 @@ impl<F: Field, EF: ExtensionField<F>> ExprPool<ExtLeaf<F, EF>> {
         false
     }
 
+    // What stands for a number in the base pool, out of the base numbers of its operands: a node to insert, with the
+    // same degree, or of a leaf the number that is there.
+    fn over_base(
+        &self,
+        id: ExprId<ExtLeaf<F, EF>>,
+        table: &[Option<ExprId<BaseLeaf<F>>>],
+    ) -> Result<SymbolicExpr<BaseLeaf<F>>, ExprId<BaseLeaf<F>>>
+        requires pool { IsPool (ext_reads F.ring F.eq EF.coefficients) self.now }
+        requires ready { CanLower self.now table.now id }
+        ensures node { IfOk result (IsLoweredNode self.now id) }
+        ensures there { IfErr result (HasTree self.now.0 (lowered self.now.0 (tree_at self.now id))) }
+    {
+        match *self.node(id) {
+            SymbolicExpr::Leaf(ExtLeaf::Base(b)) => Err(b),
+            SymbolicExpr::Leaf(_) => unreachable!(),
+            SymbolicExpr::Add {
+                x,
+                y,
+                degree_multiple,
+            } => Ok(SymbolicExpr::Add {
+                x: lowered_at(table, x),
+                y: lowered_at(table, y),
+                degree_multiple,
+            }),
+            SymbolicExpr::Sub {
+                x,
+                y,
+                degree_multiple,
+            } => Ok(SymbolicExpr::Sub {
+                x: lowered_at(table, x),
+                y: lowered_at(table, y),
+                degree_multiple,
+            }),
+            SymbolicExpr::Neg { x, degree_multiple } => Ok(SymbolicExpr::Neg {
+                x: lowered_at(table, x),
+                degree_multiple,
+            }),
+            SymbolicExpr::Mul {
+                x,
+                y,
+                degree_multiple,
+            } => Ok(SymbolicExpr::Mul {
+                x: lowered_at(table, x),
+                y: lowered_at(table, y),
+                degree_multiple,
+            }),
+        }
+    }
+
     // The base expression of a number, out of those of its operands.
     fn lower_node(
         &mut self,
@@ -78,33 +127,9 @@ impl<F: Field, EF: ExtensionField<F>> ExprPool<ExtLeaf<F, EF>> {
         ensures made { IfOk result (HasTree self.new.0 (lowered self.old.0 (tree_at self.old id))) }
         ensures refused { IfErr result (λ e. e ≡ RingError.Memory) }
     {
-        match *self.node(id) {
-            SymbolicExpr::Leaf(ExtLeaf::Base(b)) => Ok(b),
-            SymbolicExpr::Leaf(_) => unreachable!(),
-            SymbolicExpr::Add { x, y, .. } => {
-                let left = lowered_at(table, x);
-                let right = lowered_at(table, y);
-                self.base_mut().insert_add(left, right)
-            }
-            SymbolicExpr::Sub { x, y, .. } => {
-                let left = lowered_at(table, x);
-                let right = lowered_at(table, y);
-                self.base_mut().insert_sub(left, right)
-            }
-            SymbolicExpr::Neg { x, .. } => {
-                let inner = lowered_at(table, x);
-                self.base_mut().insert_neg(inner)
-            }
-            SymbolicExpr::Mul {
-                x,
-                y,
-                // what is read fits `usize`
-                degree_multiple: _fits,
-            } => {
-                let left = lowered_at(table, x);
-                let right = lowered_at(table, y);
-                self.base_mut().insert_mul(left, right)
-            }
+        match self.over_base(id, table) {
+            Ok(node) => self.base_mut().insert(node),
+            Err(b) => Ok(b),
         }
     }
 

@@ -3,14 +3,8 @@ use Rattle.air_symbolic.specs.ExtLeaves.{ext_reads}
 use Rattle.air_symbolic.proofs.Making.{made-leaf}
 use Rattle.air_symbolic.proofs.pools.ext_pool.ExprPool+ExtLeaf+F+EF.ext_constant.Goals as goal
 
-pub returns : goal.returns
-returns g c =
-    let e = c.leaf.ensures in
+pub returns-clause-made : goal.returns-clause-made
+returns-clause-made g c =
     let reads = ext_reads g.F.Field.ring g.F.PartialEq.eq g.EF.ExtensionField.coefficients in
-    record {
-      same_base = e.same_under;
-      grown = e.grown;
-      tree = e.made;
-      made = IfOk-weaker _ _ _ (λ z m. made-leaf g.F.Field.ring reads c.leaf.new.self _ z (e.grown.pool c.requires) m) e.made;
-      refused = e.refused;
-    }
+    let e = c.leaf.ensures in
+    IfOk-weaker _ _ _ (λ z m. made-leaf g.F.Field.ring reads c.leaf.new.self _ z (e.grown.pool c.requires) m) e.made
