@@ -62,7 +62,7 @@ module _ {S I F X : Type 0} {asserts : S → I → Assertion F → Type 0} {kept
   refused_one h s k = h.refused (s ∷ []) (k, tt)
 
 -- the first elements, one more, and the others
-in_parts : {X : Type 0} (xs : List X) (i : ℕ) (d : X) → i < length xs → xs ≡ take i xs ++ (get_or xs i d ∷ drop (i + 1) xs)
+pub in_parts : {X : Type 0} (xs : List X) (i : ℕ) (d : X) → i < length xs → xs ≡ take i xs ++ (get_or xs i d ∷ drop (i + 1) xs)
 in_parts xs i d lt = sym (take-append-drop i xs) ∙ ap (λ v. take i xs ++ v) (drop_more xs i d lt)
 
 module _ {S R E F : Type 0} {view : BuilderView S R E F} (laws : BuilderLaws view) {I : Type 0} (asserts : S → I → Assertion F → Type 0)

@@ -8,7 +8,7 @@ use Rattle.air_builder.proofs.builders.air_builder.AirBuilder.assert_eq.Goals as
 
 pub returns : goal.returns
 returns g c =
-    lent_asserted g.met.Self.AirBuilder.laws c.ring.ensures.value c.sub.ensures.extended c.assert_zero.result
+    lent_asserted g.met.Self.AirBuilder.laws {a = c.args.self.now} c.ring.ensures.value c.sub.ensures.extended {b = c.assert_zero.new.self} c.assert_zero.result
     (made_of_both g.met.Self.Ring.Algebra.laws g.met.Self.AirBuilder.laws Base c.ring.ensures.value c.sub.ensures.extended sub_term (λ t u m n. c.in_ok-z.ensures.made.1 (with_leaves (g.Self.AirBuilder.stands c.args.self.now) t) (with_leaves (g.Self.AirBuilder.stands c.args.self.now) u) m n))
     c.assert_zero.ensures
 
@@ -16,5 +16,5 @@ pub returns-in_err-z : goal.returns-in_err-z
 returns-in_err-z g c =
     let p = err_from_is_err_and c.from_residual.result c.from_residual.ensures.1 in
     rw (p.1, p.2)
-    (making_refused g.met.Self.AirBuilder.laws c.ring.ensures.value c.sub.ensures.extended _
+    (making_refused g.met.Self.AirBuilder.laws {a = c.args.self.now} c.ring.ensures.value c.sub.ensures.extended _
     (refused_of_both g.met.Self.Ring.Algebra.laws g.met.Self.AirBuilder.laws Base (λ t. inl whole) c.ring.ensures.value sub_term c.in_err-z.field-0.0 (λ t u m n. c.in_err-z.ensures.refused (with_leaves (g.Self.AirBuilder.stands c.args.self.now) t) (with_leaves (g.Self.AirBuilder.stands c.args.self.now) u) m n)))

@@ -10,14 +10,14 @@ loop-element-init g c =
 
 pub loop-element-preserved : goal.loop-element-preserved
 loop-element-preserved g c =
-    asserted_more g.met.Self.AirBuilder.laws _ (asserts_kept g.met.Self.Ring.Algebra.laws g.met.Self.AirBuilder.laws Base (λ t. t)) c.args.elements.now c.loop-element.element-index c.element-item.result (omega arith) c.element-item.is c.loop-element.invariant c.in_ok-assert_zero.ensures
+    asserted_more g.met.Self.AirBuilder.laws _ (asserts_kept g.met.Self.Ring.Algebra.laws g.met.Self.AirBuilder.laws Base (λ t. t)) {a = c.args.self.now} {b = c.loop-element.self} {c = c.assert_zero.new.self} c.args.elements.now c.loop-element.element-index c.element-item.result (omega arith) c.element-item.is c.loop-element.invariant c.in_ok-assert_zero.ensures
 
 pub returns-in_err-assert_zero : goal.returns-in_err-assert_zero
 returns-in_err-assert_zero g c =
     let p = err_from_is_err_and c.from_residual.result c.from_residual.ensures.1 in
     rw (p.1, p.2)
-    (asserted_refused g.met.Self.AirBuilder.laws _ (asserts_kept g.met.Self.Ring.Algebra.laws g.met.Self.AirBuilder.laws Base (λ t. t)) c.args.elements.now c.loop-element.element-index c.element-item.result (omega arith) c.element-item.is c.loop-element.invariant c.in_err-assert_zero.ensures)
+    (asserted_refused g.met.Self.AirBuilder.laws _ (asserts_kept g.met.Self.Ring.Algebra.laws g.met.Self.AirBuilder.laws Base (λ t. t)) {a = c.args.self.now} {b = c.loop-element.self} {c = c.assert_zero.new.self} c.args.elements.now c.loop-element.element-index c.element-item.result (omega arith) c.element-item.is c.loop-element.invariant c.in_err-assert_zero.ensures)
 
 pub returns : goal.returns
 returns g c =
-    asserted_all g.met.Self.AirBuilder.laws _ (asserts_kept g.met.Self.Ring.Algebra.laws g.met.Self.AirBuilder.laws Base (λ t. t)) c.args.elements.now c.loop-element.element-index (omega arith) c.loop-element.invariant
+    asserted_all g.met.Self.AirBuilder.laws _ (asserts_kept g.met.Self.Ring.Algebra.laws g.met.Self.AirBuilder.laws Base (λ t. t)) {a = c.args.self.now} {b = c.loop-element.self} c.args.elements.now c.loop-element.element-index (omega arith) c.loop-element.invariant

@@ -11,7 +11,7 @@ use Rattle.air_builder.proofs.builders.extension.ExtensionBuilder.assert_one_ext
 pub returns : goal.returns
 returns g c =
     let laws = over_extension g.met.Self.AirBuilder.laws g.met.Self.ExtensionBuilder.ext_laws in
-    lent_asserted laws c.ext_ring.ensures.value c.less_one.ensures.extended c.assert_zero_ext.result
+    lent_asserted laws {a = c.args.self.now} c.ext_ring.ensures.value c.less_one.ensures.extended {b = c.assert_zero_ext.new.self} c.assert_zero_ext.result
     (made_of g.met.Self.ExtRing.Algebra.laws laws Extension c.ext_ring.ensures.value c.less_one.ensures.extended (less_one_term g.Self.F.Field.ONE) (λ t m. c.in_ok-less.ensures.made.1 (with_leaves (g.Self.AirBuilder.stands c.args.self.now) t) m))
     c.assert_zero_ext.ensures
 
@@ -20,5 +20,5 @@ returns-in_err-less g c =
     let p = err_from_is_err_and c.from_residual.result c.from_residual.ensures.1 in
     let laws = over_extension g.met.Self.AirBuilder.laws g.met.Self.ExtensionBuilder.ext_laws in
     rw (p.1, p.2)
-    (making_refused laws c.ext_ring.ensures.value c.less_one.ensures.extended _
+    (making_refused laws {a = c.args.self.now} c.ext_ring.ensures.value c.less_one.ensures.extended _
     (refused_of g.met.Self.ExtRing.Algebra.laws laws Extension (λ t. inl whole) c.ext_ring.ensures.value (less_one_term g.Self.F.Field.ONE) c.in_err-less.field-0.0 (λ t m. c.in_err-less.ensures.refused (with_leaves (g.Self.AirBuilder.stands c.args.self.now) t) m)))

@@ -13,16 +13,16 @@ loop-element-init g c =
 pub loop-element-preserved : goal.loop-element-preserved
 loop-element-preserved g c =
     let laws = over_extension g.met.Self.AirBuilder.laws g.met.Self.ExtensionBuilder.ext_laws in
-    asserted_more laws _ (asserts_kept g.met.Self.ExtRing.Algebra.laws laws Extension (λ t. t)) c.args.elements.now c.loop-element.element-index c.element-item.result (omega arith) c.element-item.is c.loop-element.invariant c.in_ok-assert_zero_ext.ensures
+    asserted_more laws _ (asserts_kept g.met.Self.ExtRing.Algebra.laws laws Extension (λ t. t)) {a = c.args.self.now} {b = c.loop-element.self} {c = c.assert_zero_ext.new.self} c.args.elements.now c.loop-element.element-index c.element-item.result (omega arith) c.element-item.is c.loop-element.invariant c.in_ok-assert_zero_ext.ensures
 
 pub returns-in_err-assert_zero_ext : goal.returns-in_err-assert_zero_ext
 returns-in_err-assert_zero_ext g c =
     let p = err_from_is_err_and c.from_residual.result c.from_residual.ensures.1 in
     let laws = over_extension g.met.Self.AirBuilder.laws g.met.Self.ExtensionBuilder.ext_laws in
     rw (p.1, p.2)
-    (asserted_refused laws _ (asserts_kept g.met.Self.ExtRing.Algebra.laws laws Extension (λ t. t)) c.args.elements.now c.loop-element.element-index c.element-item.result (omega arith) c.element-item.is c.loop-element.invariant c.in_err-assert_zero_ext.ensures)
+    (asserted_refused laws _ (asserts_kept g.met.Self.ExtRing.Algebra.laws laws Extension (λ t. t)) {a = c.args.self.now} {b = c.loop-element.self} {c = c.assert_zero_ext.new.self} c.args.elements.now c.loop-element.element-index c.element-item.result (omega arith) c.element-item.is c.loop-element.invariant c.in_err-assert_zero_ext.ensures)
 
 pub returns : goal.returns
 returns g c =
     let laws = over_extension g.met.Self.AirBuilder.laws g.met.Self.ExtensionBuilder.ext_laws in
-    asserted_all laws _ (asserts_kept g.met.Self.ExtRing.Algebra.laws laws Extension (λ t. t)) c.args.elements.now c.loop-element.element-index (omega arith) c.loop-element.invariant
+    asserted_all laws _ (asserts_kept g.met.Self.ExtRing.Algebra.laws laws Extension (λ t. t)) {a = c.args.self.now} {b = c.loop-element.self} c.args.elements.now c.loop-element.element-index (omega arith) c.loop-element.invariant

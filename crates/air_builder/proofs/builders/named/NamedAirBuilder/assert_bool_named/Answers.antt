@@ -10,7 +10,7 @@ use Rattle.air_builder.proofs.builders.named.NamedAirBuilder.assert_bool_named.G
 
 pub returns-clause-asserted : goal.returns-clause-asserted
 returns-clause-asserted g c =
-    lent_asserted g.met.Self.AirBuilder.laws c.ring.ensures.value c.bool_check.ensures.extended c.assert_zero_named.result
+    lent_asserted g.met.Self.AirBuilder.laws {a = c.args.self.now} c.ring.ensures.value c.bool_check.ensures.extended {b = c.assert_zero_named.new.self} c.assert_zero_named.result
     (made_of g.met.Self.Ring.Algebra.laws g.met.Self.AirBuilder.laws Base c.ring.ensures.value c.bool_check.ensures.extended (bool_check_term g.Self.F.Field.ONE) (λ t m. c.in_ok-check.ensures.made.1 (with_leaves (g.Self.AirBuilder.stands c.args.self.now) t) m))
     c.assert_zero_named.ensures.asserted
 
@@ -18,16 +18,16 @@ pub returns-in_err-check-clause-asserted : goal.returns-in_err-check-clause-asse
 returns-in_err-check-clause-asserted g c =
     let p = err_from_is_err_and c.from_residual.result c.from_residual.ensures.1 in
     rw (p.1, p.2)
-    (making_refused g.met.Self.AirBuilder.laws c.ring.ensures.value c.bool_check.ensures.extended _
+    (making_refused g.met.Self.AirBuilder.laws {a = c.args.self.now} c.ring.ensures.value c.bool_check.ensures.extended _
     (refused_of g.met.Self.Ring.Algebra.laws g.met.Self.AirBuilder.laws Base (λ t. inl whole) c.ring.ensures.value (bool_check_term g.Self.F.Field.ONE) c.in_err-check.field-0.0 (λ t m. c.in_err-check.ensures.refused (with_leaves (g.Self.AirBuilder.stands c.args.self.now) t) m)))
 
 pub returns-clause-label : goal.returns-clause-label
 returns-clause-label g c =
-    lent_labelled g.met.Self.AirBuilder.laws g.met.Self.NamedAirBuilder.named_laws c.ring.ensures.value c.bool_check.ensures.extended c.assert_zero_named.result
+    lent_labelled g.met.Self.AirBuilder.laws g.met.Self.NamedAirBuilder.named_laws {a = c.args.self.now} c.ring.ensures.value c.bool_check.ensures.extended {b = c.assert_zero_named.new.self} c.assert_zero_named.result
     (made_of g.met.Self.Ring.Algebra.laws g.met.Self.AirBuilder.laws Base c.ring.ensures.value c.bool_check.ensures.extended (bool_check_term g.Self.F.Field.ONE) (λ t m. c.in_ok-check.ensures.made.1 (with_leaves (g.Self.AirBuilder.stands c.args.self.now) t) m))
     c.assert_zero_named.ensures.label
 
 pub returns-in_err-check-clause-label : goal.returns-in_err-check-clause-label
 returns-in_err-check-clause-label g c =
     let p = err_from_is_err_and c.from_residual.result c.from_residual.ensures.1 in
-    rw (p.1, p.2) (making_unlabelled g.met.Self.AirBuilder.laws g.met.Self.NamedAirBuilder.named_laws c.ring.ensures.value c.bool_check.ensures.extended _)
+    rw (p.1, p.2) (making_unlabelled g.met.Self.AirBuilder.laws g.met.Self.NamedAirBuilder.named_laws {a = c.args.self.now} c.ring.ensures.value c.bool_check.ensures.extended _)

@@ -10,7 +10,7 @@ use Rattle.air_builder.proofs.builders.named.NamedAirBuilder.assert_one_named.Go
 
 pub returns-clause-asserted : goal.returns-clause-asserted
 returns-clause-asserted g c =
-    lent_asserted g.met.Self.AirBuilder.laws c.ring.ensures.value c.less_one.ensures.extended c.assert_zero_named.result
+    lent_asserted g.met.Self.AirBuilder.laws {a = c.args.self.now} c.ring.ensures.value c.less_one.ensures.extended {b = c.assert_zero_named.new.self} c.assert_zero_named.result
     (made_of g.met.Self.Ring.Algebra.laws g.met.Self.AirBuilder.laws Base c.ring.ensures.value c.less_one.ensures.extended (less_one_term g.Self.F.Field.ONE) (λ t m. c.in_ok-less.ensures.made.1 (with_leaves (g.Self.AirBuilder.stands c.args.self.now) t) m))
     c.assert_zero_named.ensures.asserted
 
@@ -18,16 +18,16 @@ pub returns-in_err-less-clause-asserted : goal.returns-in_err-less-clause-assert
 returns-in_err-less-clause-asserted g c =
     let p = err_from_is_err_and c.from_residual.result c.from_residual.ensures.1 in
     rw (p.1, p.2)
-    (making_refused g.met.Self.AirBuilder.laws c.ring.ensures.value c.less_one.ensures.extended _
+    (making_refused g.met.Self.AirBuilder.laws {a = c.args.self.now} c.ring.ensures.value c.less_one.ensures.extended _
     (refused_of g.met.Self.Ring.Algebra.laws g.met.Self.AirBuilder.laws Base (λ t. inl whole) c.ring.ensures.value (less_one_term g.Self.F.Field.ONE) c.in_err-less.field-0.0 (λ t m. c.in_err-less.ensures.refused (with_leaves (g.Self.AirBuilder.stands c.args.self.now) t) m)))
 
 pub returns-clause-label : goal.returns-clause-label
 returns-clause-label g c =
-    lent_labelled g.met.Self.AirBuilder.laws g.met.Self.NamedAirBuilder.named_laws c.ring.ensures.value c.less_one.ensures.extended c.assert_zero_named.result
+    lent_labelled g.met.Self.AirBuilder.laws g.met.Self.NamedAirBuilder.named_laws {a = c.args.self.now} c.ring.ensures.value c.less_one.ensures.extended {b = c.assert_zero_named.new.self} c.assert_zero_named.result
     (made_of g.met.Self.Ring.Algebra.laws g.met.Self.AirBuilder.laws Base c.ring.ensures.value c.less_one.ensures.extended (less_one_term g.Self.F.Field.ONE) (λ t m. c.in_ok-less.ensures.made.1 (with_leaves (g.Self.AirBuilder.stands c.args.self.now) t) m))
     c.assert_zero_named.ensures.label
 
 pub returns-in_err-less-clause-label : goal.returns-in_err-less-clause-label
 returns-in_err-less-clause-label g c =
     let p = err_from_is_err_and c.from_residual.result c.from_residual.ensures.1 in
-    rw (p.1, p.2) (making_unlabelled g.met.Self.AirBuilder.laws g.met.Self.NamedAirBuilder.named_laws c.ring.ensures.value c.less_one.ensures.extended _)
+    rw (p.1, p.2) (making_unlabelled g.met.Self.AirBuilder.laws g.met.Self.NamedAirBuilder.named_laws {a = c.args.self.now} c.ring.ensures.value c.less_one.ensures.extended _)

@@ -17,7 +17,7 @@ returns-clause-asserted g c =
     let laws = over_extension g.met.AB.AirBuilder.laws g.met.AB.ExtensionBuilder.ext_laws in
     let asserts = AssertsOf Extension (Means g.AB.ExtRing.Algebra.means g.AB.ExtensionBuilder.ext_ring_of g.AB.AirBuilder.stands) (λ t. t) in
     asserted_inside {asserts = asserts} (λ p. p.inner.now) (λ p. p.inner.ghost_name) (λ p. p.condition) refl refl c.assert_zero_ext_named.result
-    (lent_asserted laws c.ext_ring.ensures.value c.under_condition.ensures.extended c.assert_zero_ext_named.result
+    (lent_asserted laws {a = c.args.self.now.inner.now} c.ext_ring.ensures.value c.under_condition.ensures.extended {b = c.assert_zero_ext_named.new.self} c.assert_zero_ext_named.result
     (λ s k. made_of g.met.AB.ExtRing.Algebra.laws laws Extension c.ext_ring.ensures.value c.under_condition.ensures.extended (λ t. mul_term t k.condition) (λ t m. c.in_ok-y.ensures.made.1 (with_leaves (g.AB.AirBuilder.stands c.args.self.now.inner.now) k.condition) (with_leaves (g.AB.AirBuilder.stands c.args.self.now.inner.now) t) (base_means_in g.met.AB.ExtensionBuilder.ext_laws c.args.self.now.inner.now _ c.args.self.now.condition k.condition c.ext_ring.ensures.value c.requires.ready.0 k.holds) m) s (k.asserted.0, k.asserted.1, k.is ∙ ap (λ u. filtered k.condition u) k.asserted.2))
     c.assert_zero_ext_named.ensures.asserted)
 
@@ -28,7 +28,7 @@ returns-in_err-y-clause-asserted g c =
     let asserts = AssertsOf Extension (Means g.AB.ExtRing.Algebra.means g.AB.ExtensionBuilder.ext_ring_of g.AB.AirBuilder.stands) (λ t. t) in
     rw (p.1, p.2)
     (asserted_inside {asserts = asserts} (λ p. p.inner.now) (λ p. p.inner.ghost_name) (λ p. p.condition) refl refl (Err _)
-    (making_refused laws c.ext_ring.ensures.value c.under_condition.ensures.extended _
+    (making_refused laws {a = c.args.self.now.inner.now} c.ext_ring.ensures.value c.under_condition.ensures.extended _
     (λ s k. refused_of g.met.AB.ExtRing.Algebra.laws laws Extension (λ t. inl whole) c.ext_ring.ensures.value (λ t. mul_term t k.condition) c.in_err-y.field-0.0 (λ t m. c.in_err-y.ensures.refused (with_leaves (g.AB.AirBuilder.stands c.args.self.now.inner.now) k.condition) (with_leaves (g.AB.AirBuilder.stands c.args.self.now.inner.now) t) (base_means_in g.met.AB.ExtensionBuilder.ext_laws c.args.self.now.inner.now _ c.args.self.now.condition k.condition c.ext_ring.ensures.value c.requires.ready.0 k.holds) m) s (k.asserted.0, k.asserted.1, k.is ∙ ap (λ u. filtered k.condition u) k.asserted.2))))
 
 pub returns-clause-label : goal.returns-clause-label
@@ -36,7 +36,7 @@ returns-clause-label g c =
     let laws = over_extension g.met.AB.AirBuilder.laws g.met.AB.ExtensionBuilder.ext_laws in
     let asserts = AssertsOf Extension (Means g.AB.ExtRing.Algebra.means g.AB.ExtensionBuilder.ext_ring_of g.AB.AirBuilder.stands) (λ t. t) in
     labelled_inside {asserts = asserts} (λ p. p.inner.now) (λ p. p.inner.ghost_name) (λ p. p.condition) (returns-clause-asserted g c).keeps c.assert_zero_ext_named.result
-    (lent_labelled laws g.met.AB.NamedAirBuilder.named_laws c.ext_ring.ensures.value c.under_condition.ensures.extended c.assert_zero_ext_named.result
+    (lent_labelled laws g.met.AB.NamedAirBuilder.named_laws {a = c.args.self.now.inner.now} c.ext_ring.ensures.value c.under_condition.ensures.extended {b = c.assert_zero_ext_named.new.self} c.assert_zero_ext_named.result
     (λ s k. made_of g.met.AB.ExtRing.Algebra.laws laws Extension c.ext_ring.ensures.value c.under_condition.ensures.extended (λ t. mul_term t k.condition) (λ t m. c.in_ok-y.ensures.made.1 (with_leaves (g.AB.AirBuilder.stands c.args.self.now.inner.now) k.condition) (with_leaves (g.AB.AirBuilder.stands c.args.self.now.inner.now) t) (base_means_in g.met.AB.ExtensionBuilder.ext_laws c.args.self.now.inner.now _ c.args.self.now.condition k.condition c.ext_ring.ensures.value c.requires.ready.0 k.holds) m) s (k.asserted.0, k.asserted.1, k.is ∙ ap (λ u. filtered k.condition u) k.asserted.2))
     c.assert_zero_ext_named.ensures.label)
 
@@ -46,4 +46,4 @@ returns-in_err-y-clause-label g c =
     let laws = over_extension g.met.AB.AirBuilder.laws g.met.AB.ExtensionBuilder.ext_laws in
     let asserts = AssertsOf Extension (Means g.AB.ExtRing.Algebra.means g.AB.ExtensionBuilder.ext_ring_of g.AB.AirBuilder.stands) (λ t. t) in
     rw (p.1, p.2)
-    (labelled_inside {asserts = asserts} (λ p. p.inner.now) (λ p. p.inner.ghost_name) (λ p. p.condition) (returns-in_err-y-clause-asserted g c).keeps (Err _) (making_unlabelled laws g.met.AB.NamedAirBuilder.named_laws c.ext_ring.ensures.value c.under_condition.ensures.extended _))
+    (labelled_inside {asserts = asserts} (λ p. p.inner.now) (λ p. p.inner.ghost_name) (λ p. p.condition) (returns-in_err-y-clause-asserted g c).keeps (Err _) (making_unlabelled laws g.met.AB.NamedAirBuilder.named_laws {a = c.args.self.now.inner.now} c.ext_ring.ensures.value c.under_condition.ensures.extended _))

@@ -11,7 +11,7 @@ use Rattle.air_builder.proofs.builders.named_extension.NamedExtensionBuilder.ass
 pub returns-clause-asserted : goal.returns-clause-asserted
 returns-clause-asserted g c =
     let laws = over_extension g.met.Self.AirBuilder.laws g.met.Self.ExtensionBuilder.ext_laws in
-    lent_asserted laws c.ext_ring.ensures.value c.sub.ensures.extended c.assert_zero_ext_named.result
+    lent_asserted laws {a = c.args.self.now} c.ext_ring.ensures.value c.sub.ensures.extended {b = c.assert_zero_ext_named.new.self} c.assert_zero_ext_named.result
     (made_of_both g.met.Self.ExtRing.Algebra.laws laws Extension c.ext_ring.ensures.value c.sub.ensures.extended sub_term (λ t u m n. c.in_ok-z.ensures.made.1 (with_leaves (g.Self.AirBuilder.stands c.args.self.now) t) (with_leaves (g.Self.AirBuilder.stands c.args.self.now) u) m n))
     c.assert_zero_ext_named.ensures.asserted
 
@@ -20,13 +20,13 @@ returns-in_err-z-clause-asserted g c =
     let p = err_from_is_err_and c.from_residual.result c.from_residual.ensures.1 in
     let laws = over_extension g.met.Self.AirBuilder.laws g.met.Self.ExtensionBuilder.ext_laws in
     rw (p.1, p.2)
-    (making_refused laws c.ext_ring.ensures.value c.sub.ensures.extended _
+    (making_refused laws {a = c.args.self.now} c.ext_ring.ensures.value c.sub.ensures.extended _
     (refused_of_both g.met.Self.ExtRing.Algebra.laws laws Extension (λ t. inl whole) c.ext_ring.ensures.value sub_term c.in_err-z.field-0.0 (λ t u m n. c.in_err-z.ensures.refused (with_leaves (g.Self.AirBuilder.stands c.args.self.now) t) (with_leaves (g.Self.AirBuilder.stands c.args.self.now) u) m n)))
 
 pub returns-clause-label : goal.returns-clause-label
 returns-clause-label g c =
     let laws = over_extension g.met.Self.AirBuilder.laws g.met.Self.ExtensionBuilder.ext_laws in
-    lent_labelled laws g.met.Self.NamedAirBuilder.named_laws c.ext_ring.ensures.value c.sub.ensures.extended c.assert_zero_ext_named.result
+    lent_labelled laws g.met.Self.NamedAirBuilder.named_laws {a = c.args.self.now} c.ext_ring.ensures.value c.sub.ensures.extended {b = c.assert_zero_ext_named.new.self} c.assert_zero_ext_named.result
     (made_of_both g.met.Self.ExtRing.Algebra.laws laws Extension c.ext_ring.ensures.value c.sub.ensures.extended sub_term (λ t u m n. c.in_ok-z.ensures.made.1 (with_leaves (g.Self.AirBuilder.stands c.args.self.now) t) (with_leaves (g.Self.AirBuilder.stands c.args.self.now) u) m n))
     c.assert_zero_ext_named.ensures.label
 
@@ -34,4 +34,4 @@ pub returns-in_err-z-clause-label : goal.returns-in_err-z-clause-label
 returns-in_err-z-clause-label g c =
     let p = err_from_is_err_and c.from_residual.result c.from_residual.ensures.1 in
     let laws = over_extension g.met.Self.AirBuilder.laws g.met.Self.ExtensionBuilder.ext_laws in
-    rw (p.1, p.2) (making_unlabelled laws g.met.Self.NamedAirBuilder.named_laws c.ext_ring.ensures.value c.sub.ensures.extended _)
+    rw (p.1, p.2) (making_unlabelled laws g.met.Self.NamedAirBuilder.named_laws {a = c.args.self.now} c.ext_ring.ensures.value c.sub.ensures.extended _)
