@@ -30,6 +30,11 @@ abbrev pub is_extension : ConstraintKind → Bool
 is_extension kind.Base = false
 is_extension kind.Extension = true
 
+-- the same of either kind
+abbrev pub is_of : ConstraintKind → ConstraintKind → Bool
+is_of kind.Base = is_base
+is_of kind.Extension = is_extension
+
 -- the places, counted from n on, at which the kind is one of those
 abbrev pub places_from : (ConstraintKind → Bool) → ℕ → List ConstraintKind → List ℕ
 places_from is n ks = map (λ p. p.0) (filter (λ p. is p.1) (enumerate_from n ks))

@@ -1,7 +1,7 @@
 //! What a symbolic builder has recorded.
 ghost use Rattle.std.specs.Prelude.{◌≡◌, [], IfOk, OnOk, OnErr, IfErr};
 ghost use Rattle.air_recording.specs.Folds.{ArePlacesOf};
-ghost use Rattle.air_recording.specs.Kinds.{is_base, is_extension, places_where};
+ghost use Rattle.air_recording.specs.Kinds.{is_of, places_where};
 ghost use Rattle.air_recording.specs.Recording.{with_base, with_ext};
 ghost use Rattle.air_recording.specs.RecordedLists.{lists_of};
 
@@ -64,8 +64,8 @@ impl<F: Field, EF: ExtensionField<F>> Constraints<F, EF> {
             l.ext_indices.items) }
         ensures refused { IfErr result (λ e. e ≡ AirError.Memory) }
     {
-        let base_indices = base_places(alloc, &self.kinds)?;
-        let ext_indices = ext_places(alloc, &self.kinds)?;
+        let base_indices = places_of(alloc, &self.kinds, ConstraintKind::Base)?;
+        let ext_indices = places_of(alloc, &self.kinds, ConstraintKind::Extension)?;
         Ok(ConstraintLayout {
             base_indices,
             ext_indices,
@@ -73,31 +73,19 @@ impl<F: Field, EF: ExtensionField<F>> Constraints<F, EF> {
     }
 }
 
-/// The places of the base kinds.
-fn base_places(alloc: Global, kinds: &[ConstraintKind]) -> Result<Vec<usize>, AirError>
-    ensures places { IfOk result (λ places. places.items ≡ places_where is_base kinds.now) }
+/// The places of one kind.
+fn places_of(
+    alloc: Global,
+    kinds: &[ConstraintKind],
+    kind: ConstraintKind,
+) -> Result<Vec<usize>, AirError>
+    ensures places { IfOk result (λ places. places.items ≡ places_where (is_of kind) kinds.now) }
     ensures refused { IfErr result (λ e. e ≡ AirError.Memory) }
 {
     let mut places = Vec::new(alloc);
-    for (place, kind) in kinds.iter().enumerate() {
-        match kind {
-            ConstraintKind::Base => places.push(place)?,
-            ConstraintKind::Extension => {}
-        }
-    }
-    Ok(places)
-}
-
-/// The places of the extension kinds.
-fn ext_places(alloc: Global, kinds: &[ConstraintKind]) -> Result<Vec<usize>, AirError>
-    ensures places { IfOk result (λ places. places.items ≡ places_where is_extension kinds.now) }
-    ensures refused { IfErr result (λ e. e ≡ AirError.Memory) }
-{
-    let mut places = Vec::new(alloc);
-    for (place, kind) in kinds.iter().enumerate() {
-        match kind {
-            ConstraintKind::Base => {}
-            ConstraintKind::Extension => places.push(place)?,
+    for (place, other) in kinds.iter().enumerate() {
+        if *other == kind {
+            places.push(place)?;
         }
     }
     Ok(places)
