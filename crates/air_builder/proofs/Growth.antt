@@ -1,5 +1,7 @@
 -- Growth after a ring was lent.
 use Rattle.std.proofs.Common.{◌≡◌, List, [], ◌∷◌, Result, Ok, Err, subst, sym}
+use Rattle.std.proofs.lemmas.Result.{err_from_is_err_and}
+use Rattle.std.specs.Result.{IsErrAnd}
 use Rattle.air_field.specs.Term.{Term, with_leaves}
 use Rattle.air_field.specs.declared.errors.RingError.{RingError}
 use Rattle.air_windows.specs.declared.errors.AirError.{AirError}
@@ -116,3 +118,39 @@ module _ {S R E F : Type 0} {view : BuilderView S R E F} (laws : BuilderLaws vie
     making_refused f h =
         let none = lent laws a q r p e in
         asserted_one (Err f) (laws.by_growth a (with_ring a r) [] none) tt none h
+
+-- An operation of the lent ring made an element of one, or of two, and that was asserted; or a `?` gives up with the
+-- ring's refusal.
+module _ {S R E F : Type 0} {view : BuilderView S R E F} (ring : RingLaws view) (laws : BuilderLaws view)
+    (kind : Term F → Assertion F) {a : S} {q r : R} (p : q ≡ view.ring_of a) (e : view.extends q r) where
+  open view use {means, ring_refuses, with_ring, stands, kept, grew, refuses}
+
+  pub one_asserted : (op : Term F → Term F) {b : S} {x z : E} (result : Result (Unit {0}) AirError)
+      → ((t : Term F) → means q x (with_leaves (stands a) t) → means r z (with_leaves (stands a) (op t)))
+      → AssertedEach (AssertsOf kind (MeansIn view) (λ t. t)) kept grew refuses (with_ring a r) b (z ∷ []) result
+      → AssertedEach (AssertsOf kind (MeansIn view) op) kept grew refuses a b (x ∷ []) result
+  one_asserted op result m h = lent_asserted laws p e result (made_of ring laws kind p e op m) h
+
+  pub both_asserted : (op : Term F → Term F → Term F) {b : S} {x y z : E} (result : Result (Unit {0}) AirError)
+      → ((t u : Term F) → means q x (with_leaves (stands a) t) → means q y (with_leaves (stands a) u)
+      → means r z (with_leaves (stands a) (op t u)))
+      → AssertedEach (AssertsOf kind (MeansIn view) (λ t. t)) kept grew refuses (with_ring a r) b (z ∷ []) result
+      → AssertedEach (AssertsOfBoth kind (MeansIn view) op) kept grew refuses a b ((x, y) ∷ []) result
+  both_asserted op result m h = lent_asserted laws p e result (made_of_both ring laws kind p e op m) h
+
+  module _ (inside : (t : Term F) → PartOf t (kind t ∷ [])) (f : RingError) {result : Result (Unit {0}) AirError}
+      (is : IsErrAnd result (λ x. x ≡ air_error f)) where
+    pub one_gives_up : (op : Term F → Term F) {x : E}
+        → ((t : Term F) → means q x (with_leaves (stands a) t) → ring_refuses f (with_leaves (stands a) (op t)))
+        → AssertedEach (AssertsOf kind (MeansIn view) op) kept grew refuses a (with_ring a r) (x ∷ []) result
+    one_gives_up op m =
+        let i = err_from_is_err_and result is in
+        rw (i.1, i.2) (making_refused laws p e (air_error f) (refused_of ring laws kind inside p op f m))
+
+    pub both_gives_up : (op : Term F → Term F → Term F) {x y : E}
+        → ((t u : Term F) → means q x (with_leaves (stands a) t) → means q y (with_leaves (stands a) u)
+        → ring_refuses f (with_leaves (stands a) (op t u)))
+        → AssertedEach (AssertsOfBoth kind (MeansIn view) op) kept grew refuses a (with_ring a r) ((x, y) ∷ []) result
+    both_gives_up op m =
+        let i = err_from_is_err_and result is in
+        rw (i.1, i.2) (making_refused laws p e (air_error f) (refused_of_both ring laws kind inside p op f m))

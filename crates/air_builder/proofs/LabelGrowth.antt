@@ -1,6 +1,8 @@
 -- Growth under labels.
 use Rattle.std.proofs.Common.{◌≡◌, ◌<◌, ◌≤◌, ℕ, ◌+◌, List, [], ◌∷◌, ◌++◌, length, take, get_or, Option, Result, Ok, Err, refl, ap, subst, sym, ◌∙◌, arith, length-append, append-nil}
 use Rattle.std.proofs.lemmas.List.{take_more, take_all, length-take-le}
+use Rattle.std.proofs.lemmas.Result.{err_from_is_err_and}
+use Rattle.std.specs.Result.{IsErrAnd}
 use Rattle.std.specs.List.{AllZip, zip}
 use Rattle.air_windows.specs.declared.errors.AirError.{AirError}
 use Rattle.air_builder.specs.Assertion.{Assertion}
@@ -140,3 +142,8 @@ module _ {S R E F : Type 0} {view : BuilderView S R E F} {labelled : S → S →
     -- the lent ring refused to make it
     pub making_unlabelled : (f : AirError) → LabelledEach asserts labelled (λ i. says) a (with_ring a r) (x ∷ []) (Err f)
     making_unlabelled f = labelled_one (Err f) tt (named.labelled_nothing a (with_ring a r) (lent laws a q r p e))
+
+    -- a `?` gives up with its refusal
+    pub unlabelled_gives_up : (f : AirError) {result : Result (Unit {0}) AirError} → IsErrAnd result (λ y. y ≡ f)
+        → LabelledEach asserts labelled (λ i. says) a (with_ring a r) (x ∷ []) result
+    unlabelled_gives_up f {result} is = let i = err_from_is_err_and result is in rw (i.1, i.2) (making_unlabelled f)

@@ -1,20 +1,16 @@
 use Rattle.std.proofs.Common.{inl}
-use Rattle.std.proofs.lemmas.Result.{err_from_is_err_and}
 use Rattle.air_field.specs.Part.{whole}
 use Rattle.air_field.specs.Term.{with_leaves, sub_term}
 use Rattle.air_builder.specs.Assertion.{Base}
-use Rattle.air_builder.proofs.Growth.{made_of_both, refused_of_both, lent_asserted, making_refused}
+use Rattle.air_builder.proofs.Growth.{both_asserted, both_gives_up}
 use Rattle.air_builder.proofs.builders.air_builder.AirBuilder.assert_eq.Goals as goal
 
 pub returns : goal.returns
 returns g c =
-    lent_asserted g.met.Self.AirBuilder.laws {a = c.args.self.now} c.ring.ensures.value c.sub.ensures.extended {b = c.assert_zero.new.self} c.assert_zero.result
-    (made_of_both g.met.Self.Ring.Algebra.laws g.met.Self.AirBuilder.laws Base c.ring.ensures.value c.sub.ensures.extended sub_term (λ t u m n. c.in_ok-z.ensures.made.1 (with_leaves (g.Self.AirBuilder.stands c.args.self.now) t) (with_leaves (g.Self.AirBuilder.stands c.args.self.now) u) m n))
-    c.assert_zero.ensures
+    both_asserted g.met.Self.Ring.Algebra.laws g.met.Self.AirBuilder.laws Base {a = c.args.self.now} c.ring.ensures.value c.sub.ensures.extended sub_term {b = c.assert_zero.new.self} c.assert_zero.result
+    (λ t u m n. c.in_ok-z.ensures.made.1 (with_leaves (g.Self.AirBuilder.stands c.args.self.now) t) (with_leaves (g.Self.AirBuilder.stands c.args.self.now) u) m n) c.assert_zero.ensures
 
 pub returns-in_err-z : goal.returns-in_err-z
 returns-in_err-z g c =
-    let p = err_from_is_err_and c.from_residual.result c.from_residual.ensures.1 in
-    rw (p.1, p.2)
-    (making_refused g.met.Self.AirBuilder.laws {a = c.args.self.now} c.ring.ensures.value c.sub.ensures.extended _
-    (refused_of_both g.met.Self.Ring.Algebra.laws g.met.Self.AirBuilder.laws Base (λ t. inl whole) c.ring.ensures.value sub_term c.in_err-z.field-0.0 (λ t u m n. c.in_err-z.ensures.refused (with_leaves (g.Self.AirBuilder.stands c.args.self.now) t) (with_leaves (g.Self.AirBuilder.stands c.args.self.now) u) m n)))
+    both_gives_up g.met.Self.Ring.Algebra.laws g.met.Self.AirBuilder.laws Base {a = c.args.self.now} c.ring.ensures.value c.sub.ensures.extended (λ t. inl whole) c.in_err-z.field-0.0 c.from_residual.ensures.1 sub_term
+    (λ t u m n. c.in_err-z.ensures.refused (with_leaves (g.Self.AirBuilder.stands c.args.self.now) t) (with_leaves (g.Self.AirBuilder.stands c.args.self.now) u) m n)
