@@ -44,9 +44,8 @@ impl<F: Field, EF: ExtensionField<F>> ExprPool<ExtLeaf<F, EF>> {
             (term_at (ext_reads F.ring F.eq EF.coefficients) self.now x))
             roots.now)) }
     {
-        let under = self.base();
-        let base_table = under.degree_table(under.len(), weight)?;
-        let base = under.degrees_from(&base_table, base_roots)?;
+        let base_table = self.base().degree_table(self.base().len(), weight)?;
+        let base = self.base().degrees_from(&base_table, base_roots)?;
         let table = self.table_over(self.len(), weight, &base_table)?;
         let degrees = self.degrees_from(&table, roots)?;
         Ok((base, degrees))
