@@ -8,7 +8,7 @@ use Rattle.air_gadgets.specs.Packing.{packed_from, packed_term}
 use Rattle.air_builder.specs.Assertion.{Assertion, Base}
 use Rattle.air_builder.specs.Batches.{AssertsOf, AssertedEach}
 use Rattle.air_words.specs.Words.{rotated_left}
-use Rattle.air_words.specs.Gadgets.{VariableMeans, HalfOf, Xors, xor_terms, test_asserts}
+use Rattle.air_words.specs.Gadgets.{FromThree, VariableMeans, HalfOf, Xors, xor_terms, half_term, test_asserts}
 use Rattle.air_words.proofs.Asserting.{Then}
 use Rattle.air_words.proofs.Lending.{zip_mapped}
 use Rattle.air_words.proofs.LimbLaws.{low_means, high_means}
@@ -31,13 +31,9 @@ module _ {F : Type 0} (s : Leaf → Term F) where
   leaves-packed_xors : (none : F) (us vs : List (Term F)) → packed_term none (xor_terms (map (with_leaves s) us) (map (with_leaves s) vs)) ≡ with_leaves s (packed_term none (xor_terms us vs))
   leaves-packed_xors none us vs = ap (packed_term none) (leaves-xors us vs) ∙ leaves-packed_term none (xor_terms us vs)
 
--- a limb less a packed xor
-abbrev pub half_term : {F : Type 0} → CommRing F → Term F → List (Term F) → List (Term F) → Term F
-half_term C t us vs = sub_term t (packed_term C.nil (xor_terms us vs))
-
--- what is said of that term in a ring, of the one with what stands at its leaves
+-- what is said of a limb less a packed xor, of the one with what stands at its leaves
 pub half_made : {V F : Type 0} (C : CommRing F) (means : V → Term F → Type 0) (s : Leaf → Term F) (P : Term F → Type 0) (p : V × List V × List V)
-    → ((t : Term F) (us vs : List (Term F)) → means p.0 t → AllZip means p.1 us → AllZip means p.2 vs → P (half_term C t us vs))
+    → FromThree (half_term C) (means p.0) (AllZip means p.1) (AllZip means p.2) P
     → (x : Assertion F) (h : HalfOf C (VariableMeans means (λ l. l)) s p x) → P (with_leaves s (half_term C h.0 h.1 h.2))
 half_made C means s P p m x h =
     subst (λ w. P (sub_term (with_leaves s h.0) w)) (leaves-packed_xors s C.nil h.1 h.2)

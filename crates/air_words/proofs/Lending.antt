@@ -13,7 +13,7 @@ use Rattle.air_builder.specs.Builders.{MeansIn, BuilderView, RingLaws, BuilderLa
 use Rattle.air_builder.specs.Refusals.{PartOf}
 use Rattle.air_builder.proofs.Growth.{lent, lent_means}
 use Rattle.air_words.specs.Words.{Limbs}
-use Rattle.air_words.specs.Gadgets.{LimbsMean, VariableMeans, RefusesOne, Adds2, Adds3, AssertedList, add2_terms, add3_terms}
+use Rattle.air_words.specs.Gadgets.{FromThree, FromFour, LimbsMean, VariableMeans, RefusesOne, Adds2, Adds3, AssertedList, add2_terms, add3_terms}
 use Rattle.air_words.proofs.Asserting.{list_of, list_of_each, list_after}
 
 -- ---- lists beside one another
@@ -100,7 +100,7 @@ module _ {S R E F : Type 0} {view : BuilderView S R E F} (ring : RingLaws view) 
 
     -- what is said of the terms of a sum of two in the lent ring, of three
     pub sum_made : (C : CommRing F) (P : List (Term F) → Type 0) (xs ys : List V) (zs : List E)
-        → ((t u v : Limbs (Term F)) → LimbsMean vm xs t → LimbsMean vm ys u → LimbsMean (means q) zs v → P (add2_terms C t u v))
+        → FromThree (add2_terms C) (LimbsMean vm xs) (LimbsMean vm ys) (LimbsMean (means q) zs) P
         → (ss : List (Assertion F)) → Adds2 C (VariableMeans vm stands a) (MeansIn view a) xs ys zs ss
         → Made (stands a) P ss
     sum_made C P xs ys zs h ss w = (
@@ -111,8 +111,7 @@ module _ {S R E F : Type 0} {view : BuilderView S R E F} (ring : RingLaws view) 
     )
 
     pub sum_of_three_made : (C : CommRing F) (P : List (Term F) → Type 0) (xs ys : List V) (zs vs : List E)
-        → ((t u v w : Limbs (Term F)) → LimbsMean vm xs t → LimbsMean vm ys u → LimbsMean (means q) zs v → LimbsMean (means q) vs w
-        → P (add3_terms C t u v w))
+        → FromFour (add3_terms C) (LimbsMean vm xs) (LimbsMean vm ys) (LimbsMean (means q) zs) (LimbsMean (means q) vs) P
         → (ss : List (Assertion F)) → Adds3 C (VariableMeans vm stands a) (MeansIn view a) xs ys zs vs ss
         → Made (stands a) P ss
     sum_of_three_made C P xs ys zs vs h ss w = (
