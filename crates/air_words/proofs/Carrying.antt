@@ -1,6 +1,6 @@
 -- The addition of words of two limbs, by two terms of a field: both are zero exactly if the sum is right.
 use Rattle.std.specs.Prelude.{◌≡◌, ℕ, zero, suc, refl, ◌+◌, ◌*◌, ◌/◌, ◌%◌, ◌<◌, ◌⊎◌, ◌↔◌, [], ◌∷◌}
-use Rattle.std.proofs.Common.{sym, ◌∙◌, ap, ap₂, inl, inr, arith}
+use Rattle.std.proofs.Common.{sym, ◌∙◌, ap, ap₂, subst, inl, inr, arith}
 use Rattle.std.proofs.lemmas.Bool.{cases_lt}
 use Rattle.air_field.specs.Ring.{CommRing, image, minus}
 use Rattle.air_field.specs.laws.Ring.{mul_nil, nil_add, nil_mul}
@@ -31,6 +31,43 @@ difference_zero R p a s n has ha hs = (
 product_zero : {A : Type 0} (R : CommRing A) → IsDomain R → (x y : A) → (R.mul x y ≡ R.nil) ↔ ((x ≡ R.nil) ⊎ (y ≡ R.nil))
 product_zero R domain x y =
     (domain x y, elim [ inl h ↦ ap (λ z. R.mul z y) h ∙ nil_mul R y | inr h ↦ ap (R.mul x) h ∙ mul_nil R x ])
+
+then_so : {P Q S : Type 0} → P ↔ Q → Q ↔ S → P ↔ S
+then_so f g = ((λ h. g.0 (f.0 h)), (λ h. f.1 (g.1 h)))
+
+-- the same of each below a number
+each_so : {n : ℕ} {P Q : ℕ → Type 0} → ((k : ℕ) → k < n → P k ↔ Q k) → ((k : ℕ) × (k < n) × P k) ↔ ((k : ℕ) × (k < n) × Q k)
+each_so f = ((λ h. (h.0, h.1, (f h.0 h.1).0 h.2)), (λ h. (h.0, h.1, (f h.0 h.1).1 h.2)))
+
+-- ---- a product with so many carries: x (x + q) (x + 2 q) ..
+abbrev carried : {A : Type 0} → CommRing A → A → ℕ → ℕ → A
+carried R x q zero = x
+carried R x q (suc n) = R.mul (carried R x q n) (R.add x (image R (q * suc n)))
+
+-- with nothing added
+plain : {A : Type 0} (R : CommRing A) (x : A) (q : ℕ) → R.add x (image R (q * 0)) ≡ x
+plain R x q =
+    let none : q * 0 ≡ 0 = omega arith in
+    ap (λ n. R.add x (image R n)) none ∙ (ap (R.add x) (image-zero R) ∙ R.add_nil x)
+
+lone : {A : Type 0} (R : CommRing A) (x : A) (q k : ℕ) → k < 1 → R.add x (image R (q * k)) ≡ R.nil → x ≡ R.nil
+lone R x q zero lt h = sym (plain R x q) ∙ h
+lone R x q (suc k) lt h = absurd (omega (arith, lt))
+
+-- it is zero exactly if one of the factors is
+carried_zero : {A : Type 0} (R : CommRing A) → IsDomain R → (x : A) (q n : ℕ)
+    → (carried R x q n ≡ R.nil) ↔ ((k : ℕ) × (k < suc n) × (R.add x (image R (q * k)) ≡ R.nil))
+carried_zero R domain x q zero = ((λ h. (0, omega arith, plain R x q ∙ h)), (λ r. lone R x q r.0 r.1 r.2))
+carried_zero R domain x q (suc n) =
+    let before = carried_zero R domain x q n in
+    then_so (product_zero R domain (carried R x q n) (R.add x (image R (q * suc n)))) (
+      elim [ inl h ↦ (let r = before.0 h in (r.0, omega (arith, r.1), r.2)) | inr h ↦ (suc n, omega arith, h) ],
+      (λ r.
+          elim (cases_lt r.0 (suc n)) [
+            | inl l ↦ inl (before.1 (r.0, l, r.2))
+            | inr l ↦ (let last : r.0 ≡ suc n = omega (arith, l, r.1) in inr (subst (λ k. R.add x (image R (q * k)) ≡ R.nil) last r.2))
+          ]),
+    )
 
 -- ---- the two differences, for a first number of limbs a and b, and a sum of limbs s and t
 
@@ -92,10 +129,6 @@ low_term-is R a b c = regroup R (image R a) (image R b) (image R c) ∙ ap (minu
 whole_term-is : {A : Type 0} (R : CommRing A) (a0 a1 b0 b1 c0 c1 : ℕ) → whole_term R a0 a1 b0 b1 c0 c1 ≡ whole R 65536 a0 (b0 + c0) a1 (b1 + c1)
 whole_term-is R a0 a1 b0 b1 c0 c1 = ap₂ (λ x y. R.add x (R.mul (image R 65536) y)) (low_term-is R a0 b0 c0) (low_term-is R a1 b1 c1)
 
--- with nothing added
-plain : {A : Type 0} (R : CommRing A) (x : A) → R.add x (image R 0) ≡ x
-plain R x = ap (R.add x) (image-zero R) ∙ R.add_nil x
-
 -- ---- whole numbers: the carries of the low and of the high limbs
 sum_of_carries : (a0 a1 s0 s1 k m : ℕ) → a0 < 65536 → a1 < 65536 → a0 + 65536 * k ≡ s0 → a1 + 65536 * m ≡ s1 + k
     → a0 + 65536 * a1 ≡ (s0 + 65536 * s1) % 4294967296
@@ -107,72 +140,40 @@ low_carry a0 a1 s0 s1 h0 h1 e = omega arith
 high_carry : (a0 a1 s0 s1 k : ℕ) → a0 < 65536 → a1 < 65536 → a0 + 65536 * a1 ≡ (s0 + 65536 * s1) % 4294967296 → a0 + 65536 * k ≡ s0 → a1 + 65536 * ((s1 + k) / 65536) ≡ s1 + k
 high_carry a0 a1 s0 s1 k h0 h1 e e0 = omega arith
 
-zero_or_one : (k : ℕ) → k < 2 → (k ≡ 0) ⊎ (k ≡ 1)
-zero_or_one zero h = inl refl
-zero_or_one (suc zero) h = inr refl
-zero_or_one (suc (suc k)) h = absurd (omega arith)
+-- ---- the two products, zero exactly if a carry is right
+low_tells : {A : Type 0} (R : CommRing A) (p n a s : ℕ) → IsDomain R → HasCharacteristic R p → 65536 * suc n < p → a < 65536 → s < p
+    → (carried R (low R a s) 65536 n ≡ R.nil) ↔ ((k : ℕ) × (k < suc n) × (a + 65536 * k ≡ s))
+low_tells R p n a s domain has big ha hs =
+    then_so (carried_zero R domain (low R a s) 65536 n) (each_so (λ k lt. difference_zero R p a s (65536 * k) has (omega (arith, lt, ha, big)) hs))
 
-one_of_two : {P Q P' Q' : Type 0} → P ↔ P' → Q ↔ Q' → (P ⊎ Q) ↔ (P' ⊎ Q')
-one_of_two f g = (elim [ inl h ↦ inl (f.0 h) | inr h ↦ inr (g.0 h) ], elim [ inl h ↦ inl (f.1 h) | inr h ↦ inr (g.1 h) ])
+-- with the carry k of the low limbs
+whole_tells : {A : Type 0} (R : CommRing A) (p n a s b t k : ℕ) → IsDomain R → HasCharacteristic R p → 65536 * suc n < p → a + 65536 * k ≡ s → b < 65536 → t + k < p
+    → (carried R (whole R 65536 a s b t) 4294967296 n ≡ R.nil) ↔ ((m : ℕ) × (m < suc n) × (b + 65536 * m ≡ t + k))
+whole_tells R p n a s b t k domain has big e hb ht =
+    then_so (carried_zero R domain (whole R 65536 a s b t) 4294967296 n)
+    (each_so (λ m lt.
+    let square : 65536 * (65536 * m) ≡ 4294967296 * m = omega arith in
+    subst (λ v. (R.add (whole R 65536 a s b t) (image R v) ≡ R.nil) ↔ (b + 65536 * m ≡ t + k)) square
+    (whole_zero R p 65536 a s b t k (65536 * m) domain has (omega arith) (omega (arith, big)) e (omega (arith, lt, hb, big)) ht)))
 
-then_so : {P Q S : Type 0} → P ↔ Q → Q ↔ S → P ↔ S
-then_so f g = ((λ h. g.0 (f.0 h)), (λ h. f.1 (g.1 h)))
-
-same_so : {A : Type 0} (R : CommRing A) (x y : A) → x ≡ y → (x ≡ R.nil) ↔ (y ≡ R.nil)
-same_so R x y e = ((λ h. sym e ∙ h), (λ h. e ∙ h))
-
-drop_zero : (m n : ℕ) → (m + 0 ≡ n) ↔ (m ≡ n)
-drop_zero m n = ((λ h. omega arith), (λ h. omega arith))
-
-low_tells : {A : Type 0} (R : CommRing A) (p a s : ℕ) → IsDomain R → HasCharacteristic R p → 131072 < p → a < 65536 → s < p
-    → (R.mul (low R a s) (R.add (low R a s) (image R 65536)) ≡ R.nil) ↔ ((a ≡ s) ⊎ (a + 65536 ≡ s))
-low_tells R p a s domain has big ha hs =
-    then_so (product_zero R domain (low R a s) (R.add (low R a s) (image R 65536)))
-    (one_of_two
-    (then_so (same_so R (low R a s) (R.add (low R a s) (image R 0)) (sym (plain R (low R a s)))) (then_so (difference_zero R p a s 0 has (omega arith) hs) (drop_zero a s)))
-    (difference_zero R p a s 65536 has (omega arith) hs))
-
-whole_tells : {A : Type 0} (R : CommRing A) (p a s b t k : ℕ) → IsDomain R → HasCharacteristic R p → 131072 < p → a + 65536 * k ≡ s → b < 65536 → t + k < p
-    → (R.mul (whole R 65536 a s b t) (R.add (whole R 65536 a s b t) (image R 4294967296)) ≡ R.nil) ↔ ((b ≡ t + k) ⊎ (b + 65536 ≡ t + k))
-whole_tells R p a s b t k domain has big e hb ht =
-    then_so (product_zero R domain (whole R 65536 a s b t) (R.add (whole R 65536 a s b t) (image R 4294967296)))
-    (one_of_two
-    (then_so (same_so R (whole R 65536 a s b t) (R.add (whole R 65536 a s b t) (image R 0)) (sym (plain R (whole R 65536 a s b t)))) (then_so (whole_zero R p 65536 a s b t k 0 domain has (omega arith) (omega arith) e (omega arith) ht) (drop_zero b (t + k))))
-    (whole_zero R p 65536 a s b t k 65536 domain has (omega arith) (omega arith) e (omega arith) ht))
-
-sum_given_carry : {A : Type 0} (R : CommRing A) (p a0 a1 s0 s1 k : ℕ) → IsDomain R → HasCharacteristic R p → 131072 < p → a0 < 65536 → a1 < 65536 → k < 2 → s1 + k < p → a0 + 65536 * k ≡ s0
-    → R.mul (whole R 65536 a0 s0 a1 s1) (R.add (whole R 65536 a0 s0 a1 s1) (image R 4294967296)) ≡ R.nil
-    → a0 + 65536 * a1 ≡ (s0 + 65536 * s1) % 4294967296
-sum_given_carry R p a0 a1 s0 s1 k domain has big h0 h1 hk hs e0 h =
-    elim ((whole_tells R p a0 s0 a1 s1 k domain has big e0 h1 hs).0 h) [
-      | inl e ↦ sum_of_carries a0 a1 s0 s1 k 0 h0 h1 e0 (omega arith)
-      | inr e ↦ sum_of_carries a0 a1 s0 s1 k 1 h0 h1 e0 (omega arith)
-    ]
-
-low_of_carry : (a s k : ℕ) → k < 2 → a + 65536 * k ≡ s → (a ≡ s) ⊎ (a + 65536 ≡ s)
-low_of_carry a s k hk e = elim (zero_or_one k hk) [ inl z ↦ inl (omega arith) | inr o ↦ inr (omega arith) ]
-
-carry_small : (s : ℕ) → s < 131072 → s / 65536 < 2
-carry_small s h = omega arith
-
--- both terms of a sum are zero exactly if the sum of the words is right
-add2_of_sums : {A : Type 0} (R : CommRing A) (p a0 a1 s0 s1 : ℕ) → IsDomain R → HasCharacteristic R p → 131072 < p → a0 < 65536 → a1 < 65536 → s0 < 131071 → s1 < 131071
-    → ((R.mul (whole R 65536 a0 s0 a1 s1) (R.add (whole R 65536 a0 s0 a1 s1) (image R 4294967296)) ≡ R.nil) × (R.mul (low R a0 s0) (R.add (low R a0 s0) (image R 65536)) ≡ R.nil))
+-- both are zero exactly if the sum of the words is right
+sum_tells : {A : Type 0} (R : CommRing A) (p n a0 a1 s0 s1 : ℕ) → IsDomain R → HasCharacteristic R p → 65536 * suc n < p → a0 < 65536 → a1 < 65536 → s0 < 65536 * suc n → s1 + n < 65536 * suc n
+    → ((carried R (whole R 65536 a0 s0 a1 s1) 4294967296 n ≡ R.nil) × (carried R (low R a0 s0) 65536 n ≡ R.nil))
     ↔ (a0 + 65536 * a1 ≡ (s0 + 65536 * s1) % 4294967296)
-add2_of_sums R p a0 a1 s0 s1 domain has big h0 h1 k0 k1 = (
-  (λ h.
-      elim ((low_tells R p a0 s0 domain has big h0 (omega arith)).0 h.1) [
-        | inl e ↦ sum_given_carry R p a0 a1 s0 s1 0 domain has big h0 h1 (omega arith) (omega arith) (omega arith) h.0
-        | inr e ↦ sum_given_carry R p a0 a1 s0 s1 1 domain has big h0 h1 (omega arith) (omega arith) (omega arith) h.0
-      ]),
-  (λ e.
-      let carry : a0 + 65536 * (s0 / 65536) ≡ s0 = low_carry a0 a1 s0 s1 h0 h1 e in
-      let small : s0 / 65536 < 2 = carry_small s0 (omega arith) in
-      let next : a1 + 65536 * ((s1 + s0 / 65536) / 65536) ≡ s1 + s0 / 65536 = high_carry a0 a1 s0 s1 (s0 / 65536) h0 h1 e carry in (
-        (whole_tells R p a0 s0 a1 s1 (s0 / 65536) domain has big carry h1 (omega arith)).1 (low_of_carry a1 (s1 + s0 / 65536) ((s1 + s0 / 65536) / 65536) (carry_small (s1 + s0 / 65536) (omega arith)) next),
-        (low_tells R p a0 s0 domain has big h0 (omega arith)).1 (low_of_carry a0 s0 (s0 / 65536) small carry),
-      )),
-)
+sum_tells R p n a0 a1 s0 s1 domain has big h0 h1 k0 k1 =
+    let low_so = low_tells R p n a0 s0 domain has big h0 (omega (arith, k0, big)) in (
+      (λ h.
+          let k = low_so.0 h.1 in
+          let m = (whole_tells R p n a0 s0 a1 s1 k.0 domain has big k.2 h1 (omega (arith, k.1, k1, big))).0 h.0 in
+          sum_of_carries a0 a1 s0 s1 k.0 m.0 h0 h1 k.2 m.2),
+      (λ e.
+          let carry : a0 + 65536 * (s0 / 65536) ≡ s0 = low_carry a0 a1 s0 s1 h0 h1 e in
+          let small : s0 / 65536 < suc n = omega (arith, k0) in
+          let next : a1 + 65536 * ((s1 + s0 / 65536) / 65536) ≡ s1 + s0 / 65536 = high_carry a0 a1 s0 s1 (s0 / 65536) h0 h1 e carry in (
+            (whole_tells R p n a0 s0 a1 s1 (s0 / 65536) domain has big carry h1 (omega (arith, small, k1, big))).1 ((s1 + s0 / 65536) / 65536, omega (arith, small, k1), next),
+            low_so.1 (s0 / 65536, small, carry),
+          )),
+    )
 
 regrouped : (b0 b1 c0 c1 : ℕ) → (b0 + 65536 * b1) + (c0 + 65536 * c1) ≡ (b0 + c0) + 65536 * (b1 + c1)
 regrouped b0 b1 c0 c1 = omega arith
@@ -185,62 +186,9 @@ pub add2_exact : {A : Type 0} (R : CommRing A) (p a0 a1 b0 b1 c0 c1 : ℕ) → I
     ↔ (a0 + 65536 * a1 ≡ ((b0 + 65536 * b1) + (c0 + 65536 * c1)) % 4294967296)
 add2_exact R p a0 a1 b0 b1 c0 c1 domain has big ha0 ha1 hb0 hb1 hc0 hc1 =
     simp (whole_term-is R a0 a1 b0 b1 c0 c1, low_term-is R a0 b0 c0, regrouped b0 b1 c0 c1)
-    (add2_of_sums R p a0 a1 (b0 + c0) (b1 + c1) domain has big ha0 ha1 (omega arith) (omega arith))
+    (sum_tells R p 1 a0 a1 (b0 + c0) (b1 + c1) domain has big ha0 ha1 (omega arith) (omega arith))
 
 -- ---- three summands
-
-low_tells_3 : {A : Type 0} (R : CommRing A) (p a s : ℕ) → IsDomain R → HasCharacteristic R p → 196608 < p → a < 65536 → s < p
-    → (R.mul (R.mul (low R a s) (R.add (low R a s) (image R 65536))) (R.add (low R a s) (image R 131072)) ≡ R.nil) ↔ (((a ≡ s) ⊎ (a + 65536 ≡ s)) ⊎ (a + 131072 ≡ s))
-low_tells_3 R p a s domain has big ha hs =
-    then_so (product_zero R domain (R.mul (low R a s) (R.add (low R a s) (image R 65536))) (R.add (low R a s) (image R 131072)))
-    (one_of_two (low_tells R p a s domain has (omega arith) ha hs) (difference_zero R p a s 131072 has (omega arith) hs))
-
-whole_tells_3 : {A : Type 0} (R : CommRing A) (p a s b t k : ℕ) → IsDomain R → HasCharacteristic R p → 196608 < p → a + 65536 * k ≡ s → b < 65536 → t + k < p
-    → (R.mul (R.mul (whole R 65536 a s b t) (R.add (whole R 65536 a s b t) (image R 4294967296))) (R.add (whole R 65536 a s b t) (image R 8589934592)) ≡ R.nil) ↔ (((b ≡ t + k) ⊎ (b + 65536 ≡ t + k)) ⊎ (b + 131072 ≡ t + k))
-whole_tells_3 R p a s b t k domain has big e hb ht =
-    then_so (product_zero R domain (R.mul (whole R 65536 a s b t) (R.add (whole R 65536 a s b t) (image R 4294967296))) (R.add (whole R 65536 a s b t) (image R 8589934592)))
-    (one_of_two
-    (whole_tells R p a s b t k domain has (omega arith) e hb ht)
-    (whole_zero R p 65536 a s b t k 131072 domain has (omega arith) (omega arith) e (omega arith) ht))
-
-sum_given_carry_3 : {A : Type 0} (R : CommRing A) (p a0 a1 s0 s1 k : ℕ) → IsDomain R → HasCharacteristic R p → 196608 < p → a0 < 65536 → a1 < 65536 → s1 + k < p → a0 + 65536 * k ≡ s0
-    → R.mul (R.mul (whole R 65536 a0 s0 a1 s1) (R.add (whole R 65536 a0 s0 a1 s1) (image R 4294967296))) (R.add (whole R 65536 a0 s0 a1 s1) (image R 8589934592)) ≡ R.nil
-    → a0 + 65536 * a1 ≡ (s0 + 65536 * s1) % 4294967296
-sum_given_carry_3 R p a0 a1 s0 s1 k domain has big h0 h1 hs e0 h =
-    elim ((whole_tells_3 R p a0 s0 a1 s1 k domain has big e0 h1 hs).0 h) [
-      | inl (inl e) ↦ sum_of_carries a0 a1 s0 s1 k 0 h0 h1 e0 (omega arith)
-      | inl (inr e) ↦ sum_of_carries a0 a1 s0 s1 k 1 h0 h1 e0 (omega arith)
-      | inr e ↦ sum_of_carries a0 a1 s0 s1 k 2 h0 h1 e0 (omega arith)
-    ]
-
-up_to_two : (k : ℕ) → k < 3 → ((k ≡ 0) ⊎ (k ≡ 1)) ⊎ (k ≡ 2)
-up_to_two k h = elim (cases_lt k 2) [ inl l ↦ inl (zero_or_one k l) | inr l ↦ inr (omega arith) ]
-
-low_of_carry_3 : (a s k : ℕ) → k < 3 → a + 65536 * k ≡ s → ((a ≡ s) ⊎ (a + 65536 ≡ s)) ⊎ (a + 131072 ≡ s)
-low_of_carry_3 a s k hk e = elim (up_to_two k hk) [ inl (inl z) ↦ inl (inl (omega arith)) | inl (inr o) ↦ inl (inr (omega arith)) | inr t ↦ inr (omega arith) ]
-
-carry_small_3 : (s : ℕ) → s < 196608 → s / 65536 < 3
-carry_small_3 s h = omega arith
-
-add3_of_sums : {A : Type 0} (R : CommRing A) (p a0 a1 s0 s1 : ℕ) → IsDomain R → HasCharacteristic R p → 196608 < p → a0 < 65536 → a1 < 65536 → s0 < 196606 → s1 < 196606
-    → ((R.mul (R.mul (whole R 65536 a0 s0 a1 s1) (R.add (whole R 65536 a0 s0 a1 s1) (image R 4294967296))) (R.add (whole R 65536 a0 s0 a1 s1) (image R 8589934592)) ≡ R.nil)
-    × (R.mul (R.mul (low R a0 s0) (R.add (low R a0 s0) (image R 65536))) (R.add (low R a0 s0) (image R 131072)) ≡ R.nil))
-    ↔ (a0 + 65536 * a1 ≡ (s0 + 65536 * s1) % 4294967296)
-add3_of_sums R p a0 a1 s0 s1 domain has big h0 h1 k0 k1 = (
-  (λ h.
-      elim ((low_tells_3 R p a0 s0 domain has big h0 (omega arith)).0 h.1) [
-        | inl (inl e) ↦ sum_given_carry_3 R p a0 a1 s0 s1 0 domain has big h0 h1 (omega arith) (omega arith) h.0
-        | inl (inr e) ↦ sum_given_carry_3 R p a0 a1 s0 s1 1 domain has big h0 h1 (omega arith) (omega arith) h.0
-        | inr e ↦ sum_given_carry_3 R p a0 a1 s0 s1 2 domain has big h0 h1 (omega arith) (omega arith) h.0
-      ]),
-  (λ e.
-      let carry : a0 + 65536 * (s0 / 65536) ≡ s0 = low_carry a0 a1 s0 s1 h0 h1 e in
-      let small : s0 / 65536 < 3 = carry_small_3 s0 (omega arith) in
-      let next : a1 + 65536 * ((s1 + s0 / 65536) / 65536) ≡ s1 + s0 / 65536 = high_carry a0 a1 s0 s1 (s0 / 65536) h0 h1 e carry in (
-        (whole_tells_3 R p a0 s0 a1 s1 (s0 / 65536) domain has big carry h1 (omega arith)).1 (low_of_carry_3 a1 (s1 + s0 / 65536) ((s1 + s0 / 65536) / 65536) (carry_small_3 (s1 + s0 / 65536) (omega arith)) next),
-        (low_tells_3 R p a0 s0 domain has big h0 (omega arith)).1 (low_of_carry_3 a0 s0 (s0 / 65536) small carry),
-      )),
-)
 
 abbrev pub low_term_3 : {A : Type 0} → CommRing A → ℕ → ℕ → ℕ → ℕ → A
 low_term_3 R a b c d = minus R (low_term R a b c) (image R d)
@@ -267,4 +215,4 @@ pub add3_exact : {A : Type 0} (R : CommRing A) (p a0 a1 b0 b1 c0 c1 d0 d1 : ℕ)
     ↔ (a0 + 65536 * a1 ≡ ((b0 + 65536 * b1) + (c0 + 65536 * c1) + (d0 + 65536 * d1)) % 4294967296)
 add3_exact R p a0 a1 b0 b1 c0 c1 d0 d1 domain has big ha0 ha1 hb0 hb1 hc0 hc1 hd0 hd1 =
     simp (whole_term_3-is R a0 a1 b0 b1 c0 c1 d0 d1, low_term_3-is R a0 b0 c0 d0, regrouped_3 b0 b1 c0 c1 d0 d1)
-    (add3_of_sums R p a0 a1 (b0 + c0 + d0) (b1 + c1 + d1) domain has big ha0 ha1 (omega arith) (omega arith))
+    (sum_tells R p 2 a0 a1 (b0 + c0 + d0) (b1 + c1 + d1) domain has big ha0 ha1 (omega arith) (omega arith))
