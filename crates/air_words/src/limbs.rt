@@ -1,21 +1,8 @@
 //! Differences of limbs and their products with carries, made in a ring.
 ghost use Rattle.std.specs.Prelude.{◌≤◌, ◌^◌};
-ghost use Rattle.air_field.specs.Term.{sub_term};
 ghost use Rattle.air_words.specs.Gadgets.{FromOne, FromTwo, FromThree, FromFour, Makes, less_two_term, less_three_term, raised_term, carry_term, carries_term, whole_term};
 
 use air_field::{Algebra, Field, FromVar, RingError};
-
-/// x - y, of variables.
-fn less<F: Field, V: Copy, R: FromVar<F, V>>(ring: &mut R, x: V, y: V) -> Result<R::Elem, RingError>
-    requires { R.valid ring.old }
-    ensures extended { R.extends ring.old ring.new }
-    ensures makes { Makes (R.has ring.new) (R.means ring.new) R.refuses
-        (FromTwo sub_term (R.var_means x) (R.var_means y)) result }
-{
-    let minuend = ring.from_var(x)?;
-    let subtrahend = ring.from_var(y)?;
-    ring.sub(minuend, subtrahend)
-}
 
 /// x - y - z, of variables and an element.
 pub(crate) fn less_two<F: Field, V: Copy, R: FromVar<F, V>>(
@@ -30,7 +17,9 @@ pub(crate) fn less_two<F: Field, V: Copy, R: FromVar<F, V>>(
     ensures makes { Makes (R.has ring.new) (R.means ring.new) R.refuses
         (FromThree less_two_term (R.var_means x) (R.var_means y) (R.means ring.old z)) result }
 {
-    let difference = less(ring, x, y)?;
+    let minuend = ring.from_var(x)?;
+    let subtrahend = ring.from_var(y)?;
+    let difference = ring.sub(minuend, subtrahend)?;
     ring.sub(difference, z)
 }
 
