@@ -1,5 +1,6 @@
 -- The asserted terms of a xor, and the xor of the words.
 use Rattle.std.specs.Prelude.{◌≡◌, ℕ, refl, List, [], ◌∷◌, ◌++◌, map, take, drop}
+use Rattle.std.proofs.lemmas.List.{take-map, drop-map}
 use Rattle.std.proofs.Common.{sym, ◌∙◌, ap, subst}
 use Rattle.air_field.specs.Ring.{CommRing, minus, itself}
 use Rattle.air_field.specs.laws.RingSolver.{var, nought, unit, plus, times, ring}
@@ -12,7 +13,7 @@ use Rattle.air_builder.specs.Assertion.{Assertion, Base}
 use Rattle.air_words.specs.Words.{rotated_left}
 use Rattle.air_words.specs.Gadgets.{xor_terms, half_terms}
 use Rattle.air_words.specs.Exact.{AllVanish, XorIsExact}
-use Rattle.air_words.proofs.XorLaws.{AllChecked, TermsAreZero, ring_xors, map-take, map-drop, map-rotated, xor_exact}
+use Rattle.air_words.proofs.XorLaws.{AllChecked, TermsAreZero, ring_xors, map-rotated, xor_exact}
 
 module _ {F : Type 0} (R : CommRing F) (s : Leaf → F) where
   last_bit : (x : F) → x ≡ R.add x (R.mul (R.add R.one R.one) R.nil)
@@ -47,23 +48,20 @@ module _ {F : Type 0} (R : CommRing F) (s : Leaf → F) where
   values_of : (u v : List (Term F)) (shift : ℕ) → map (value (itself R) s) (xor_terms u (rotated_left shift v)) ≡ ring_xors R (map (value (itself R) s) u) (rotated_left shift (map (value (itself R) s) v))
   values_of u v shift = value-xors u (rotated_left shift v) ∙ ap (ring_xors R (map (value (itself R) s) u)) (sym (map-rotated (value (itself R) s) shift v))
 
-  low_value : (u v : List (Term F)) (shift : ℕ) → value (itself R) s (packed_term R.nil (take 16 (xor_terms u (rotated_left shift v)))) ≡ packed R (take 16 (ring_xors R (map (value (itself R) s) u) (rotated_left shift (map (value (itself R) s) v))))
-  low_value u v shift =
+  -- of a half, cut alike
+  half_value : (f : List (Term F) → List (Term F)) (g : List F → List F) → ((ts : List (Term F)) → g (map (value (itself R) s) ts) ≡ map (value (itself R) s) (f ts))
+      → (u v : List (Term F)) (shift : ℕ) → value (itself R) s (packed_term R.nil (f (xor_terms u (rotated_left shift v)))) ≡ packed R (g (ring_xors R (map (value (itself R) s) u) (rotated_left shift (map (value (itself R) s) v))))
+  half_value f g alike u v shift =
       let bits = xor_terms u (rotated_left shift v) in
-      value-packed_term (take 16 bits) ∙ (ap (packed R) (sym (map-take (value (itself R) s) 16 bits)) ∙ ap (λ xs. packed R (take 16 xs)) (values_of u v shift))
-
-  high_value : (u v : List (Term F)) (shift : ℕ) → value (itself R) s (packed_term R.nil (drop 16 (xor_terms u (rotated_left shift v)))) ≡ packed R (drop 16 (ring_xors R (map (value (itself R) s) u) (rotated_left shift (map (value (itself R) s) v))))
-  high_value u v shift =
-      let bits = xor_terms u (rotated_left shift v) in
-      value-packed_term (drop 16 bits) ∙ (ap (packed R) (sym (map-drop (value (itself R) s) 16 bits)) ∙ ap (λ xs. packed R (drop 16 xs)) (values_of u v shift))
+      value-packed_term (f bits) ∙ (ap (packed R) (sym (alike bits)) ∙ ap (λ xs. packed R (g xs)) (values_of u v shift))
 
 pub xor_is_exact : {F : Type 0} (R : CommRing F) → XorIsExact R
 xor_is_exact R t u v shift s b domain hb eu =
     let a0 = value (itself R) s t.low in
     let a1 = value (itself R) s t.high in
     let cs = map (value (itself R) s) v in
-    let low = ap (minus R a0) (low_value R s u v shift) in
-    let high = ap (minus R a1) (high_value R s u v shift) in
+    let low = ap (minus R a0) (half_value R s (take 16) (take 16) (take-map (value (itself R) s) 16) u v shift) in
+    let high = ap (minus R a1) (half_value R s (drop 16) (drop 16) (drop-map (value (itself R) s) 16) u v shift) in
     let exact = xor_exact R domain a0 a1 b cs shift hb in (
       (λ h.
           let parts = tests_then R s v (map Base (half_terms R t u v shift)) h in

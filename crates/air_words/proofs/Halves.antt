@@ -7,12 +7,13 @@ use Rattle.air_field.specs.Algebra.{bool_check_term, double_term, xor_term}
 use Rattle.air_gadgets.specs.Packing.{packed_from, packed_term}
 use Rattle.air_builder.specs.Assertion.{Assertion, Base}
 use Rattle.air_builder.specs.Batches.{AssertsOf, AssertedEach}
+use Rattle.air_builder.specs.laws.Zips.{AllZip-take}
 use Rattle.air_words.specs.Words.{rotated_left}
-use Rattle.air_words.specs.Gadgets.{VariableMeans, HalfOf, Xors, xor_terms, test_asserts}
+use Rattle.air_words.specs.Gadgets.{FromThree, VariableMeans, HalfOf, Xors, xor_terms, half_term, test_asserts}
 use Rattle.air_words.proofs.Asserting.{Then}
-use Rattle.air_words.proofs.Lending.{zip_mapped}
+use Rattle.air_words.proofs.Lending.{MadeOne, zip_mapped}
 use Rattle.air_words.proofs.LimbLaws.{low_means, high_means}
-use Rattle.air_words.proofs.ZipLaws.{zip_take, zip_drop, zip_rotated, take-xors, drop-xors, upper_half}
+use Rattle.air_words.proofs.ZipLaws.{zip_drop, zip_rotated, take-xors, drop-xors, upper_half}
 
 module _ {F : Type 0} (s : Leaf → Term F) where
   leaves-packed_from : (t : Term F) (ts : List (Term F)) → packed_from (with_leaves s t) (map (with_leaves s) ts) ≡ with_leaves s (packed_from t ts)
@@ -31,18 +32,17 @@ module _ {F : Type 0} (s : Leaf → Term F) where
   leaves-packed_xors : (none : F) (us vs : List (Term F)) → packed_term none (xor_terms (map (with_leaves s) us) (map (with_leaves s) vs)) ≡ with_leaves s (packed_term none (xor_terms us vs))
   leaves-packed_xors none us vs = ap (packed_term none) (leaves-xors us vs) ∙ leaves-packed_term none (xor_terms us vs)
 
--- a limb less a packed xor
-abbrev pub half_term : {F : Type 0} → CommRing F → Term F → List (Term F) → List (Term F) → Term F
-half_term C t us vs = sub_term t (packed_term C.nil (xor_terms us vs))
-
--- what is said of that term in a ring, of the one with what stands at its leaves
+-- what is said of a limb less a packed xor, of the one with what stands at its leaves
 pub half_made : {V F : Type 0} (C : CommRing F) (means : V → Term F → Type 0) (s : Leaf → Term F) (P : Term F → Type 0) (p : V × List V × List V)
-    → ((t : Term F) (us vs : List (Term F)) → means p.0 t → AllZip means p.1 us → AllZip means p.2 vs → P (half_term C t us vs))
-    → (x : Assertion F) (h : HalfOf C (VariableMeans means (λ l. l)) s p x) → P (with_leaves s (half_term C h.0 h.1 h.2))
-half_made C means s P p m x h =
-    subst (λ w. P (sub_term (with_leaves s h.0) w)) (leaves-packed_xors s C.nil h.1 h.2)
-    (m (with_leaves s h.0) (map (with_leaves s) h.1) (map (with_leaves s) h.2) h.3
-    (zip_mapped means (with_leaves s) p.1 h.1 h.4) (zip_mapped means (with_leaves s) p.2 h.2 h.5))
+    → FromThree (half_term C) (means p.0) (AllZip means p.1) (AllZip means p.2) P
+    → (x : Assertion F) → HalfOf C (VariableMeans means (λ l. l)) s p x → MadeOne (λ t. t) s P x
+half_made C means s P p m x h = (
+  half_term C h.0 h.1 h.2,
+  subst (λ w. P (sub_term (with_leaves s h.0) w)) (leaves-packed_xors s C.nil h.1 h.2)
+      (m (with_leaves s h.0) (map (with_leaves s) h.1) (map (with_leaves s) h.2) h.3
+      (zip_mapped means (with_leaves s) p.1 h.1 h.4) (zip_mapped means (with_leaves s) p.2 h.2 h.5)),
+  h.6,
+)
 
 module _ {S V F : Type 0} (C : CommRing F) (one : F) (is : one ≡ C.one) (means : S → V → Term F → Type 0) (a : S) where
   -- the tests of variables
@@ -71,7 +71,7 @@ module _ {S V F : Type 0} (C : CommRing F) (one : F) (is : one ≡ C.one) (means
           test_asserts C w.2,
           low ∷ [],
           tests_of c w.2 w.5,
-          ((w.0.low, take 16 w.1, take 16 turned, low_means (means a) limbs w.0 d w.3, zip_take (means a) 16 b w.1 w.4, zip_take (means a) 16 (rotated_left shift c) turned rotated, ap (half w.0.low) (sym (take-xors 16 w.1 turned))), tt),
+          ((w.0.low, take 16 w.1, take 16 turned, low_means (means a) limbs w.0 d w.3, AllZip-take (means a) 16 b w.1 w.4, AllZip-take (means a) 16 (rotated_left shift c) turned rotated, ap (half w.0.low) (sym (take-xors 16 w.1 turned))), tt),
           refl,
         ),
         ((w.0.high, drop 16 w.1, drop 16 turned, high_means (means a) limbs w.0 e w.3, zip_drop (means a) 16 b w.1 w.4, zip_drop (means a) 16 (rotated_left shift c) turned rotated, ap (half w.0.high) (sym (drop-xors 16 w.1 turned))), tt),

@@ -11,9 +11,9 @@ use Rattle.air_builder.specs.Assertion.{Assertion, Base}
 use Rattle.air_builder.specs.Batches.{AssertsOf, AssertedEach}
 use Rattle.air_builder.specs.Builders.{MeansIn, BuilderView, RingLaws, BuilderLaws}
 use Rattle.air_builder.specs.Refusals.{PartOf}
-use Rattle.air_builder.proofs.Growth.{lent, lent_means}
+use Rattle.air_builder.proofs.Growth.{lent, lent_means, lent_asserted, making_refused}
 use Rattle.air_words.specs.Words.{Limbs}
-use Rattle.air_words.specs.Gadgets.{LimbsMean, VariableMeans, RefusesOne, Adds2, Adds3, AssertedList, add2_terms, add3_terms}
+use Rattle.air_words.specs.Gadgets.{FromThree, FromFour, LimbsMean, VariableMeans, RefusesOne, Adds2, Adds3, AssertedList, add2_terms, add3_terms}
 use Rattle.air_words.proofs.Asserting.{list_of, list_of_each, list_after}
 
 -- ---- lists beside one another
@@ -27,6 +27,10 @@ zip_mapped P f (x ∷ xs) (y ∷ ys) h = (h.0, zip_mapped P f xs ys h.1)
 -- what is said of terms with what stands at their leaves is said of a list's
 abbrev Made : {F : Type 0} → (Leaf → Term F) → (List (Term F) → Type 0) → List (Assertion F) → Type 0
 Made {F = F} s P ss = (ts : List (Term F)) × P (map (with_leaves s) ts) × (ss ≡ map Base ts)
+
+-- the same of one term, that an operation is asserted of
+abbrev pub MadeOne : {F : Type 0} → (Term F → Term F) → (Leaf → Term F) → (Term F → Type 0) → Assertion F → Type 0
+MadeOne {F = F} op s P x = (t : Term F) × P (with_leaves s t) × (x ≡ Base (op t))
 
 -- the limbs with what stands at their leaves
 abbrev leaves_of : {F : Type 0} → (Leaf → Term F) → Limbs (Term F) → Limbs (Term F)
@@ -87,6 +91,25 @@ module _ {S R E F : Type 0} {view : BuilderView S R E F} (ring : RingLaws view) 
             subst (refuses a (air_error f)) (sym m.2) (refused_part laws a f m.0 m.0 (λ t k. k) m.1);
       }
 
+  module _ {I : Type 0} {asserts : S → I → Assertion F → Type 0} {x : I} (op : Term F → Term F) where
+    -- the lent ring made an element, and then that was asserted
+    pub one_asserted : {b : S} {z : E} (result : Result (Unit {0}) AirError)
+        → ((s : Assertion F) → asserts a x s → MadeOne op (stands a) (means r z) s)
+        → AssertedEach (AssertsOf Base (MeansIn view) op) kept grew refuses (with_ring a r) b (z ∷ []) result
+        → AssertedEach asserts kept grew refuses a b (x ∷ []) result
+    one_asserted {z = z} result made h =
+        lent_asserted laws p e result (λ s k. let m = made s k in (m.0, lent_means ring laws a q r z m.0 p e m.1, m.2)) h
+
+    -- the lent ring refused to make it
+    pub making_one_refused : (f : RingError) → ((t : Term F) → PartOf t (Base (op t) ∷ []))
+        → ((s : Assertion F) → asserts a x s → MadeOne op (stands a) (ring_refuses f) s)
+        → AssertedEach asserts kept grew refuses a (with_ring a r) (x ∷ []) (Err (air_error f))
+    making_one_refused f inside made =
+        making_refused laws p e (air_error f)
+        (λ s k.
+        let m = made s k in
+        subst (λ v. refuses a (air_error f) (v ∷ [])) (sym m.2) (laws.refuses_in_ring a f m.0 (Base (op m.0) ∷ []) m.1 (inside m.0)))
+
   limbs_in : (xs : List E) (t : Limbs (Term F)) → LimbsMean (MeansIn view a) xs t
       → LimbsMean (means q) xs (leaves_of (stands a) t)
   limbs_in xs t h =
@@ -100,7 +123,7 @@ module _ {S R E F : Type 0} {view : BuilderView S R E F} (ring : RingLaws view) 
 
     -- what is said of the terms of a sum of two in the lent ring, of three
     pub sum_made : (C : CommRing F) (P : List (Term F) → Type 0) (xs ys : List V) (zs : List E)
-        → ((t u v : Limbs (Term F)) → LimbsMean vm xs t → LimbsMean vm ys u → LimbsMean (means q) zs v → P (add2_terms C t u v))
+        → FromThree (add2_terms C) (LimbsMean vm xs) (LimbsMean vm ys) (LimbsMean (means q) zs) P
         → (ss : List (Assertion F)) → Adds2 C (VariableMeans vm stands a) (MeansIn view a) xs ys zs ss
         → Made (stands a) P ss
     sum_made C P xs ys zs h ss w = (
@@ -111,8 +134,7 @@ module _ {S R E F : Type 0} {view : BuilderView S R E F} (ring : RingLaws view) 
     )
 
     pub sum_of_three_made : (C : CommRing F) (P : List (Term F) → Type 0) (xs ys : List V) (zs vs : List E)
-        → ((t u v w : Limbs (Term F)) → LimbsMean vm xs t → LimbsMean vm ys u → LimbsMean (means q) zs v → LimbsMean (means q) vs w
-        → P (add3_terms C t u v w))
+        → FromFour (add3_terms C) (LimbsMean vm xs) (LimbsMean vm ys) (LimbsMean (means q) zs) (LimbsMean (means q) vs) P
         → (ss : List (Assertion F)) → Adds3 C (VariableMeans vm stands a) (MeansIn view a) xs ys zs vs ss
         → Made (stands a) P ss
     sum_of_three_made C P xs ys zs vs h ss w = (

@@ -3,6 +3,7 @@ mod Carrying
 mod ExactSums
 mod LimbLaws
 mod Lending
+mod Making
 mod XorLaws
 mod ExactXors
 mod Halves

@@ -1,5 +1,6 @@
 -- Bits in a ring, their xor and their packing, and a word's list rotated.
 use Rattle.std.specs.Prelude.{◌≡◌, ℕ, zero, suc, refl, ◌+◌, ◌-◌, ◌*◌, ◌%◌, ◌<◌, ◌↔◌, List, [], ◌∷◌, ◌++◌, map, take, drop}
+use Rattle.std.proofs.lemmas.List.{take-map, drop-map, map-append}
 use Rattle.std.proofs.Common.{sym, ◌∙◌, ap, ap₂, subst, inl, inr, arith}
 use Rattle.air_field.specs.Ring.{CommRing, image, minus}
 use Rattle.air_field.specs.laws.Ring.{nil_add, ring_rules}
@@ -93,22 +94,8 @@ packed-images R (b ∷ bs) =
     ap₂ (λ x y. R.add (image R b) (R.mul x y)) (sym (image-two R)) (packed-images R bs)
     ∙ (ap (R.add (image R b)) (sym (image-mul R 2 (number_of bs))) ∙ sym (image-add R b (2 * number_of bs)))
 
-pub map-take : {X Y : Type 0} (f : X → Y) (n : ℕ) (xs : List X) → take n (map f xs) ≡ map f (take n xs)
-map-take f zero xs = refl
-map-take f (suc n) [] = refl
-map-take f (suc n) (x ∷ xs) = ap (λ ys. f x ∷ ys) (map-take f n xs)
-
-pub map-drop : {X Y : Type 0} (f : X → Y) (n : ℕ) (xs : List X) → drop n (map f xs) ≡ map f (drop n xs)
-map-drop f zero xs = refl
-map-drop f (suc n) [] = refl
-map-drop f (suc n) (x ∷ xs) = map-drop f n xs
-
-map-append : {X Y : Type 0} (f : X → Y) (xs ys : List X) → map f xs ++ map f ys ≡ map f (xs ++ ys)
-map-append f [] ys = refl
-map-append f (x ∷ xs) ys = ap (λ zs. f x ∷ zs) (map-append f xs ys)
-
 pub map-rotated : {X Y : Type 0} (f : X → Y) (s : ℕ) (xs : List X) → rotated_left s (map f xs) ≡ map f (rotated_left s xs)
-map-rotated f s xs = ap₂ (λ ys zs. ys ++ zs) (map-drop f (32 - s) xs) (map-take f (32 - s) xs) ∙ map-append f (drop (32 - s) xs) (take (32 - s) xs)
+map-rotated f s xs = ap₂ (λ ys zs. ys ++ zs) (drop-map f (32 - s) xs) (take-map f (32 - s) xs) ∙ sym (map-append f (drop (32 - s) xs) (take (32 - s) xs))
 
 bits-take : (n : ℕ) (bs : List ℕ) → AreBits bs → AreBits (take n bs)
 bits-take zero bs h = tt
@@ -147,27 +134,25 @@ half-image : {A : Type 0} (R : CommRing A) (s : ℕ) (bs ns : List ℕ) → AreB
 half-image R s bs ns hb hn =
     ap (ring_xors R (map (image R) bs)) (map-rotated (image R) s ns) ∙ xors-images R bs (rotated_left s ns) hb (bits-rotated s ns hn)
 
-low_half : {A : Type 0} (R : CommRing A) (s : ℕ) (bs ns : List ℕ) → AreBits bs → AreBits ns
-    → packed R (take 16 (ring_xors R (map (image R) bs) (rotated_left s (map (image R) ns)))) ≡ image R (number_of (take 16 (xor_bits bs (rotated_left s ns))))
-low_half R s bs ns hb hn =
-    ap (λ xs. packed R (take 16 xs)) (half-image R s bs ns hb hn)
-    ∙ (ap (packed R) (map-take (image R) 16 (xor_bits bs (rotated_left s ns))) ∙ packed-images R (take 16 (xor_bits bs (rotated_left s ns))))
-
-high_half : {A : Type 0} (R : CommRing A) (s : ℕ) (bs ns : List ℕ) → AreBits bs → AreBits ns
-    → packed R (drop 16 (ring_xors R (map (image R) bs) (rotated_left s (map (image R) ns)))) ≡ image R (number_of (drop 16 (xor_bits bs (rotated_left s ns))))
-high_half R s bs ns hb hn =
-    ap (λ xs. packed R (drop 16 xs)) (half-image R s bs ns hb hn)
-    ∙ (ap (packed R) (map-drop (image R) 16 (xor_bits bs (rotated_left s ns))) ∙ packed-images R (drop 16 (xor_bits bs (rotated_left s ns))))
+-- a half of both lists, cut alike
+cut_half : {A : Type 0} (R : CommRing A) (f : List A → List A) (g : List ℕ → List ℕ) → ((ns : List ℕ) → f (map (image R) ns) ≡ map (image R) (g ns))
+    → (s : ℕ) (bs ns : List ℕ) → AreBits bs → AreBits ns
+    → packed R (f (ring_xors R (map (image R) bs) (rotated_left s (map (image R) ns)))) ≡ image R (number_of (g (xor_bits bs (rotated_left s ns))))
+cut_half R f g alike s bs ns hb hn =
+    ap (λ xs. packed R (f xs)) (half-image R s bs ns hb hn)
+    ∙ (ap (packed R) (alike (xor_bits bs (rotated_left s ns))) ∙ packed-images R (g (xor_bits bs (rotated_left s ns))))
 
 minus_own : {A : Type 0} (R : CommRing A) (x y : A) → x ≡ y → minus R x y ≡ R.nil
 minus_own R x y e = ap (λ z. minus R z y) e ∙ R.add_neg y
 
 given_bits : {A : Type 0} (R : CommRing A) (a0 a1 : A) (bs ns : List ℕ) (s : ℕ) → AreBits bs → AreBits ns
     → TermsAreZero R a0 a1 (map (image R) bs) (map (image R) ns) s ↔ IsXor R a0 a1 bs ns s
-given_bits R a0 a1 bs ns s hb hn = (
-  (λ h. (same_of_minus R a0 _ h.1 ∙ low_half R s bs ns hb hn, same_of_minus R a1 _ h.2 ∙ high_half R s bs ns hb hn)),
-  (λ h. (checks_of_bits R ns hn, minus_own R a0 _ (h.0 ∙ sym (low_half R s bs ns hb hn)), minus_own R a1 _ (h.1 ∙ sym (high_half R s bs ns hb hn)))),
-)
+given_bits R a0 a1 bs ns s hb hn =
+    let low = cut_half R (take 16) (take 16) (take-map (image R) 16) s bs ns hb hn in
+    let high = cut_half R (drop 16) (drop 16) (drop-map (image R) 16) s bs ns hb hn in (
+      (λ h. (same_of_minus R a0 _ h.1 ∙ low, same_of_minus R a1 _ h.2 ∙ high)),
+      (λ h. (checks_of_bits R ns hn, minus_own R a0 _ (h.0 ∙ sym low), minus_own R a1 _ (h.1 ∙ sym high))),
+    )
 
 -- in a domain the terms are zero exactly if c is made of bits, and the halves of a are right
 pub xor_exact : {A : Type 0} (R : CommRing A) → IsDomain R → (a0 a1 : A) (bs : List ℕ) (cs : List A) (s : ℕ) → AreBits bs

@@ -1,5 +1,5 @@
 -- What the gadgets of words assert.
-use Rattle.std.specs.Prelude.{◌≡◌, ℕ, ◌*◌, ◌^◌, ◌⊎◌, List, [], ◌∷◌, ◌++◌, map, take, drop, Result, OnOk, OnErr, IfErr}
+use Rattle.std.specs.Prelude.{◌≡◌, ℕ, ◌*◌, ◌^◌, ◌⊎◌, List, [], ◌∷◌, ◌++◌, map, take, drop, Bool, true, false, Result, OnOk, OnErr, IfOk, IfErr}
 use Rattle.std.specs.List.{AllZip}
 use Rattle.air_field.specs.Ring.{CommRing, image}
 use Rattle.air_field.specs.Term.{Leaf, Term, with_leaves, const_term, add_term, sub_term, mul_term}
@@ -31,22 +31,25 @@ two_carries_term R n t = mul_term (carry_term R n t) (raised_term R (2 * n) t)
 abbrev pub whole_term : {F : Type 0} → CommRing F → Term F → Term F → Term F
 whole_term R low high = add_term low (scaled_term (image R (2 ^ 16)) high)
 
+-- one carry, or two
+abbrev pub carries_term : {F : Type 0} → CommRing F → Bool → ℕ → Term F → Term F
+carries_term R true n t = two_carries_term R n t
+carries_term R false n t = carry_term R n t
+
+-- the whole difference and the low one, each times itself and the carries
+abbrev pub carried_terms : {F : Type 0} → CommRing F → Bool → Term F → Term F → List (Term F)
+carried_terms R two low high = carries_term R two (2 ^ 32) (whole_term R low high) ∷ carries_term R two (2 ^ 16) low ∷ []
+
 -- a - b - c of the words and of their low limbs, each times itself and a carry
 abbrev pub add2_terms : {F : Type 0} → CommRing F → Limbs (Term F) → Limbs (Term F) → Limbs (Term F) → List (Term F)
-add2_terms R a b c =
-    let low = less_two_term a.low b.low c.low in
-    let high = less_two_term a.high b.high c.high in
-    carry_term R (2 ^ 32) (whole_term R low high) ∷ carry_term R (2 ^ 16) low ∷ []
+add2_terms R a b c = carried_terms R false (less_two_term a.low b.low c.low) (less_two_term a.high b.high c.high)
 
 abbrev pub add2_asserts : {F : Type 0} → CommRing F → Limbs (Term F) → Limbs (Term F) → Limbs (Term F) → List (Assertion F)
 add2_asserts R a b c = map Base (add2_terms R a b c)
 
 -- a - b - c - d of the words and of their low limbs, each times itself and two carries
 abbrev pub add3_terms : {F : Type 0} → CommRing F → Limbs (Term F) → Limbs (Term F) → Limbs (Term F) → Limbs (Term F) → List (Term F)
-add3_terms R a b c d =
-    let low = less_three_term a.low b.low c.low d.low in
-    let high = less_three_term a.high b.high c.high d.high in
-    two_carries_term R (2 ^ 32) (whole_term R low high) ∷ two_carries_term R (2 ^ 16) low ∷ []
+add3_terms R a b c d = carried_terms R true (less_three_term a.low b.low c.low d.low) (less_three_term a.high b.high c.high d.high)
 
 abbrev pub add3_asserts : {F : Type 0} → CommRing F → Limbs (Term F) → Limbs (Term F) → Limbs (Term F) → Limbs (Term F) → List (Assertion F)
 add3_asserts R a b c d = map Base (add3_terms R a b c d)
@@ -56,6 +59,13 @@ abbrev pub xor_terms : {F : Type 0} → List (Term F) → List (Term F) → List
 xor_terms [] us = []
 xor_terms (t ∷ ts) [] = []
 xor_terms (t ∷ ts) (u ∷ us) = xor_term t u ∷ xor_terms ts us
+
+-- the packed xor of two lists of bits, and a limb less that
+abbrev pub packed_xor_term : {F : Type 0} → CommRing F → List (Term F) → List (Term F) → Term F
+packed_xor_term R ts us = packed_term R.nil (xor_terms ts us)
+
+abbrev pub half_term : {F : Type 0} → CommRing F → Term F → List (Term F) → List (Term F) → Term F
+half_term R t us vs = sub_term t (packed_xor_term R us vs)
 
 -- the halves of a less those of b xor c rotated
 abbrev pub half_terms : {F : Type 0} → CommRing F → Limbs (Term F) → List (Term F) → List (Term F) → ℕ → List (Term F)
@@ -70,6 +80,26 @@ test_asserts R ts = map (λ t. Base (bool_check_term R.one t)) ts
 -- c is made of bits, and a is b xor c rotated to the left
 abbrev pub xor_asserts : {F : Type 0} → CommRing F → Limbs (Term F) → List (Term F) → List (Term F) → ℕ → List (Assertion F)
 xor_asserts R a b c shift = test_asserts R c ++ map Base (half_terms R a b c shift)
+
+-- what is said of the operation, of whatever its operands are
+abbrev pub FromOne : {A B : Type 0} → (A → B) → (A → Type 0) → (B → Type 0) → Type 0
+FromOne {A} op P M = (t : A) → P t → M (op t)
+
+abbrev pub FromTwo : {A B C : Type 0} → (A → B → C) → (A → Type 0) → (B → Type 0) → (C → Type 0) → Type 0
+FromTwo {A} {B} op P Q M = (t : A) (u : B) → P t → Q u → M (op t u)
+
+abbrev pub FromThree : {A B C D : Type 0} → (A → B → C → D) → (A → Type 0) → (B → Type 0) → (C → Type 0) → (D → Type 0) → Type 0
+FromThree {A} {B} {C} op P Q S M = (t : A) (u : B) (v : C) → P t → Q u → S v → M (op t u v)
+
+abbrev pub FromFour : {A B C D G : Type 0} → (A → B → C → D → G) → (A → Type 0) → (B → Type 0) → (C → Type 0) → (D → Type 0) → (G → Type 0) → Type 0
+FromFour {A} {B} {C} {D} op P Q S T M = (t : A) (u : B) (v : C) (w : D) → P t → Q u → S v → T w → M (op t u v w)
+
+-- What a call that makes something in a ring answers: what it made means the terms, or the making of them may be refused.
+-- The terms are those `from` operands.
+pub record Makes {E X A : Type 0} (has : E → Type 0) (means : E → A → Type 0) (refuses : X → A → Type 0)
+    (from : (A → Type 0) → Type 0) (result : Result E X) : Type 0 where
+  pub made : IfOk result (λ z. has z × from (means z))
+  pub refused : IfErr result (λ e. from (refuses e))
 
 -- the making of one of the terms may answer e
 abbrev pub RefusesOne : {X F : Type 0} → (X → Term F → Type 0) → X → List (Term F) → Type 0
@@ -107,7 +137,7 @@ abbrev pub HalfOf : {S V F : Type 0} → CommRing F → (S → V → Term F → 
 HalfOf {F = F} R means a p s =
     (t : Term F) × (us : List (Term F)) × (vs : List (Term F))
     × means a p.0 t × AllZip (means a) p.1 us × AllZip (means a) p.2 vs
-    × (s ≡ Base (sub_term t (packed_term R.nil (xor_terms us vs))))
+    × (s ≡ Base (half_term R t us vs))
 
 -- What a call that asserts a list does to a builder, whichever of the lists it is that the terms handed to it make: it
 -- keeps it, and grew it by the list; or it grew it by a beginning, and not by all, and refuses as growing by the list may

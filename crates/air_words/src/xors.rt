@@ -1,11 +1,9 @@
 //! The xor of bits and its packing, made in a ring.
-ghost use Rattle.std.specs.Prelude.{◌≡◌, ◌<◌, ◌≤◌, IfOk, IfErr, List, length};
+ghost use Rattle.std.specs.Prelude.{◌≡◌, ◌<◌, ◌≤◌, length};
 ghost use Rattle.std.specs.List.{AllZip};
-ghost use Rattle.air_field.specs.Term.{Term, sub_term};
 ghost use Rattle.air_field.specs.Algebra.{xor_term};
-ghost use Rattle.air_gadgets.specs.Packing.{packed_term};
 ghost use Rattle.air_words.specs.Words.{rotated_left};
-ghost use Rattle.air_words.specs.Gadgets.{xor_terms};
+ghost use Rattle.air_words.specs.Gadgets.{FromTwo, FromThree, Makes, packed_xor_term, half_term};
 
 use air_field::{Algebra, Field, FromVar, RingError};
 
@@ -13,11 +11,8 @@ use air_field::{Algebra, Field, FromVar, RingError};
 fn bit<F: Field, V: Copy, R: FromVar<F, V>>(ring: &mut R, x: V, y: V) -> Result<R::Elem, RingError>
     requires { R.valid ring.old }
     ensures extended { R.extends ring.old ring.new }
-    ensures made { IfOk result (λ r. R.has ring.new r × ((t u : Term F) → R.var_means x t
-        → R.var_means y u
-        → R.means ring.new r (xor_term t u))) }
-    ensures refused { IfErr result (λ e. (t u : Term F) → R.var_means x t → R.var_means y u
-        → R.refuses e (xor_term t u)) }
+    ensures makes { Makes (R.has ring.new) (R.means ring.new) R.refuses
+        (FromTwo xor_term (R.var_means x) (R.var_means y)) result }
 {
     let first = ring.from_var(x)?;
     let second = ring.from_var(y)?;
@@ -34,12 +29,9 @@ fn packed<F: Field, V: Copy, R: FromVar<F, V>>(
     requires some { 0 < length b.now }
     requires same { length b.now ≡ length c.now }
     ensures extended { R.extends ring.old ring.new }
-    ensures made { IfOk result (λ r. R.has ring.new r × ((ts us : List (Term F))
-        → AllZip R.var_means b.now ts
-        → AllZip R.var_means c.now us → R.means ring.new r (packed_term F.ring.nil
-        (xor_terms ts us)))) }
-    ensures refused { IfErr result (λ e. (ts us : List (Term F)) → AllZip R.var_means b.now ts
-        → AllZip R.var_means c.now us → R.refuses e (packed_term F.ring.nil (xor_terms ts us))) }
+    ensures makes { Makes (R.has ring.new) (R.means ring.new) R.refuses
+        (FromTwo (packed_xor_term F.ring) (AllZip R.var_means b.now) (AllZip R.var_means c.now))
+        result }
 {
     let lowest = bit(ring, b[0], c[0])?;
     if b.len() == 1 {
@@ -61,13 +53,9 @@ pub(crate) fn less_packed<F: Field, V: Copy, R: FromVar<F, V>>(
     requires some { 0 < length b.now }
     requires same { length b.now ≡ length c.now }
     ensures extended { R.extends ring.old ring.new }
-    ensures made { IfOk result (λ r. R.has ring.new r × ((t : Term F) (us vs : List (Term F))
-        → R.var_means x t
-        → AllZip R.var_means b.now us → AllZip R.var_means c.now vs
-        → R.means ring.new r (sub_term t (packed_term F.ring.nil (xor_terms us vs))))) }
-    ensures refused { IfErr result (λ e. (t : Term F) (us vs : List (Term F)) → R.var_means x t
-        → AllZip R.var_means b.now us → AllZip R.var_means c.now vs
-        → R.refuses e (sub_term t (packed_term F.ring.nil (xor_terms us vs)))) }
+    ensures makes { Makes (R.has ring.new) (R.means ring.new) R.refuses
+        (FromThree (half_term F.ring) (R.var_means x) (AllZip R.var_means b.now)
+        (AllZip R.var_means c.now)) result }
 {
     let half = packed(ring, b, c)?;
     let limb = ring.from_var(x)?;

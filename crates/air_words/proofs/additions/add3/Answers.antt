@@ -12,7 +12,7 @@ returns-in_err-elements-clause-asserted g c =
     let ring = g.met.AB.Ring.Algebra.laws in
     rw (p.1, p.2)
     (making_list_refused ring laws c.ring.ensures.value c.sum_of_three.ensures.extended c.in_err-elements.field-0.0
-    (sum_of_three_made ring laws c.ring.ensures.value c.sum_of_three.ensures.extended g.AB.Ring.FromVar-1.var_means g.AB.F.Field.ring (RefusesOne g.AB.Ring.Algebra.refuses c.in_err-elements.field-0.0) c.args.a.now c.args.b.now c.args.c.now c.args.d.now c.in_err-elements.ensures.refused))
+    (sum_of_three_made ring laws c.ring.ensures.value c.sum_of_three.ensures.extended _ _ (RefusesOne g.AB.Ring.Algebra.refuses c.in_err-elements.field-0.0) _ _ _ _ c.in_err-elements.ensures.makes.refused))
 
 pub returns-in_err-elements-clause-exact : goal.returns-in_err-elements-clause-exact
 returns-in_err-elements-clause-exact g c = add3_is_exact g.AB.F.Field.ring g.AB.F.Field.CHARACTERISTIC g.met.AB.F.Field.image_is
@@ -25,5 +25,5 @@ returns-clause-asserted g c =
     let laws = g.met.AB.AirBuilder.laws in
     let ring = g.met.AB.Ring.Algebra.laws in
     made_asserted ring laws c.ring.ensures.value c.sum_of_three.ensures.extended c.assert_zeros_slice.result
-    (sum_of_three_made ring laws c.ring.ensures.value c.sum_of_three.ensures.extended g.AB.Ring.FromVar-1.var_means g.AB.F.Field.ring (AllZip (g.AB.Ring.Algebra.means c.sum_of_three.new.ring) c.in_ok-elements.elements) c.args.a.now c.args.b.now c.args.c.now c.args.d.now c.in_ok-elements.ensures.made.1)
+    (sum_of_three_made ring laws c.ring.ensures.value c.sum_of_three.ensures.extended _ _ (AllZip (g.AB.Ring.Algebra.means c.sum_of_three.new.ring) c.in_ok-elements.elements) _ _ _ _ c.in_ok-elements.ensures.makes.made.1)
     c.assert_zeros_slice.ensures

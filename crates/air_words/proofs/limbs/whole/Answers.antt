@@ -1,54 +1,34 @@
 use Rattle.std.proofs.Common.{subst}
-use Rattle.std.proofs.lemmas.Result.{err_from_is_err_and, IfOk-weaker, IfErr-weaker}
 use Rattle.air_field.specs.Ring.{image}
 use Rattle.air_field.specs.Term.{const_term, mul_term}
 use Rattle.air_field.specs.Part.{whole, in_add_right, in_mul_right}
 use Rattle.air_words.specs.Gadgets.{whole_term}
+use Rattle.air_words.proofs.Making.{gives_up, makes_by}
 use Rattle.air_words.proofs.limbs.whole.Goals as goal
 
-pub returns-in_err-scale-clause-refused : goal.returns-in_err-scale-clause-refused
-returns-in_err-scale-clause-refused g c =
-    let p = err_from_is_err_and c.from_residual.result c.from_residual.ensures.1 in
+pub returns-in_err-scale-clause-makes : goal.returns-in_err-scale-clause-makes
+returns-in_err-scale-clause-makes g c =
     let e = c.in_err-scale.field-0.0 in
-    let q = const_term (image g.F.Field.ring 65536) in
-    rw (p.1, p.2)
-    (λ t u m n. g.met.R.Algebra.laws.refuses_whole e q (whole_term g.F.Field.ring t u) (in_add_right (in_mul_right whole))
+    gives_up c.in_err-scale.field-0.0 c.from_residual.ensures.1
+    (λ t u m n. g.met.R.Algebra.laws.refuses_whole e (const_term (image g.F.Field.ring 65536)) (whole_term g.F.Field.ring t u) (in_add_right (in_mul_right whole))
     (subst (λ v. g.R.Algebra.refuses e (const_term v)) c.from_u64.ensures c.in_err-scale.ensures.refused))
 
-pub returns-in_err-raised-clause-refused : goal.returns-in_err-raised-clause-refused
-returns-in_err-raised-clause-refused g c =
-    let p = err_from_is_err_and c.from_residual-in_err-raised.result c.from_residual-in_err-raised.ensures.1 in
-    let e = c.in_err-raised.field-0.0 in
+pub returns-in_err-raised-clause-makes : goal.returns-in_err-raised-clause-makes
+returns-in_err-raised-clause-makes g c =
     let q = const_term (image g.F.Field.ring 65536) in
     let laws = g.met.R.Algebra.laws in
     let is = subst (λ v. g.R.Algebra.means c.constant.new.self c.in_ok-scale.scale (const_term v)) c.from_u64.ensures c.in_ok-scale.ensures.made.1 in
-    rw (p.1, p.2)
-    (λ t u m n. laws.refuses_whole e (mul_term u q) (whole_term g.F.Field.ring t u) (in_add_right whole)
+    gives_up c.in_err-raised.field-0.0 c.from_residual-in_err-raised.ensures.1
+    (λ t u m n. laws.refuses_whole c.in_err-raised.field-0.0 (mul_term u q) (whole_term g.F.Field.ring t u) (in_add_right whole)
     (c.in_err-raised.ensures.refused u q (laws.means_stays c.args.ring.now c.constant.new.self c.args.high u c.constant.ensures.extended n) is))
 
-pub returns-clause-made : goal.returns-clause-made
-returns-clause-made g c =
+pub returns-clause-makes : goal.returns-clause-makes
+returns-clause-makes g c =
     let q = const_term (image g.F.Field.ring 65536) in
     let laws = g.met.R.Algebra.laws in
     let is = subst (λ v. g.R.Algebra.means c.constant.new.self c.in_ok-scale.scale (const_term v)) c.from_u64.ensures c.in_ok-scale.ensures.made.1 in
     let stays = laws.joined c.args.ring.now c.constant.new.self c.mul.new.self c.constant.ensures.extended c.mul.ensures.extended in
-    IfOk-weaker c.add.result _ _
-    (λ z h. (
-      h.0,
-      λ t u m n. h.1 t (mul_term u q)
-          (laws.means_stays c.args.ring.now c.mul.new.self c.args.low t stays m)
-          (c.in_ok-raised.ensures.made.1 u q (laws.means_stays c.args.ring.now c.constant.new.self c.args.high u c.constant.ensures.extended n) is),
-    ))
-    c.add.ensures.made
-
-pub returns-clause-refused : goal.returns-clause-refused
-returns-clause-refused g c =
-    let q = const_term (image g.F.Field.ring 65536) in
-    let laws = g.met.R.Algebra.laws in
-    let is = subst (λ v. g.R.Algebra.means c.constant.new.self c.in_ok-scale.scale (const_term v)) c.from_u64.ensures c.in_ok-scale.ensures.made.1 in
-    let stays = laws.joined c.args.ring.now c.constant.new.self c.mul.new.self c.constant.ensures.extended c.mul.ensures.extended in
-    IfErr-weaker c.add.result _ _
-    (λ e h t u m n. h t (mul_term u q)
+    makes_by laws c.add.result c.add.ensures.made c.add.ensures.refused
+    (λ M h t u m n. h t (mul_term u q)
     (laws.means_stays c.args.ring.now c.mul.new.self c.args.low t stays m)
     (c.in_ok-raised.ensures.made.1 u q (laws.means_stays c.args.ring.now c.constant.new.self c.args.high u c.constant.ensures.extended n) is))
-    c.add.ensures.refused

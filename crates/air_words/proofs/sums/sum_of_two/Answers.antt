@@ -1,53 +1,30 @@
-use Rattle.std.proofs.Common.{inl}
-use Rattle.std.proofs.lemmas.Result.{err_from_is_err_and, IfOk-weaker, IfErr-weaker}
+use Rattle.std.proofs.Common.{false}
 use Rattle.air_field.specs.Part.{whole, in_add_left, in_add_right, in_mul_left}
-use Rattle.air_words.specs.Gadgets.{less_two_term, carry_term, whole_term}
-use Rattle.air_words.proofs.LimbLaws.{low_means, high_means}
+use Rattle.air_words.specs.Gadgets.{less_two_term}
+use Rattle.air_words.proofs.LimbLaws.{carried_refused, low_of_three, high_of_three}
+use Rattle.air_words.proofs.Making.{gives_up, makes_from}
 use Rattle.air_words.proofs.sums.sum_of_two.Goals as goal
 
-pub returns-in_err-low-clause-refused : goal.returns-in_err-low-clause-refused
-returns-in_err-low-clause-refused g c =
-    let p = err_from_is_err_and c.from_residual.result c.from_residual.ensures.1 in
-    let r = g.F.Field.ring in
+pub returns-in_err-low-clause-makes : goal.returns-in_err-low-clause-makes
+returns-in_err-low-clause-makes g c =
     let laws = g.met.R.Algebra.laws in
-    rw (p.1, p.2)
-    (λ t u v hm hn hk. inl (laws.refuses_whole c.in_err-low.field-0.0 (less_two_term t.low u.low v.low) (carry_term r 4294967296 (whole_term r (less_two_term t.low u.low v.low) (less_two_term t.high u.high v.high))) (in_mul_left (in_add_left whole))
-    (c.in_err-low.ensures.refused t.low u.low v.low (low_means g.R.FromVar.var_means c.args.a.now t c.index-a-0.result hm) (low_means g.R.FromVar.var_means c.args.b.now u c.index-b-0.result hn)
-    (low_means (g.R.Algebra.means c.args.ring.now) c.args.c.now v c.index-c-0.result hk))))
+    gives_up c.in_err-low.field-0.0 c.from_residual.ensures.1
+    (λ t u v i j k. carried_refused laws g.F.Field.ring false _ _ _ _ (in_add_left whole)
+    (low_of_three laws g.R.FromVar.var_means c.less_two.ensures.extended c.args.a.now c.args.b.now c.args.c.now _ _ _ c.in_err-low.ensures.makes.refused t u v i j k))
 
-pub returns-in_err-high-clause-refused : goal.returns-in_err-high-clause-refused
-returns-in_err-high-clause-refused g c =
-    let p = err_from_is_err_and c.from_residual-in_err-high.result c.from_residual-in_err-high.ensures.1 in
-    let r = g.F.Field.ring in
+pub returns-in_err-high-clause-makes : goal.returns-in_err-high-clause-makes
+returns-in_err-high-clause-makes g c =
     let laws = g.met.R.Algebra.laws in
-    rw (p.1, p.2)
-    (λ t u v hm hn hk. inl (laws.refuses_whole c.in_err-high.field-0.0 (less_two_term t.high u.high v.high) (carry_term r 4294967296 (whole_term r (less_two_term t.low u.low v.low) (less_two_term t.high u.high v.high))) (in_mul_left (in_add_right (in_mul_left whole)))
-    (c.in_err-high.ensures.refused t.high u.high v.high (high_means g.R.FromVar.var_means c.args.a.now t c.index-a-1.result hm) (high_means g.R.FromVar.var_means c.args.b.now u c.index-b-1.result hn)
-    (laws.means_stays c.args.ring.now c.less_two.new.ring _ v.high c.less_two.ensures.extended (high_means (g.R.Algebra.means c.args.ring.now) c.args.c.now v c.index-c-1.result hk)))))
+    gives_up c.in_err-high.field-0.0 c.from_residual-in_err-high.ensures.1
+    (λ t u v i j k. carried_refused laws g.F.Field.ring false _ _ _ _ (in_add_right (in_mul_left whole))
+    (high_of_three laws g.R.FromVar.var_means c.less_two.ensures.extended c.args.a.now c.args.b.now c.args.c.now _ _ _ c.in_err-high.ensures.makes.refused t u v i j k))
 
-pub returns-clause-made : goal.returns-clause-made
-returns-clause-made g c =
+pub returns-clause-makes : goal.returns-clause-makes
+returns-clause-makes g c =
     let laws = g.met.R.Algebra.laws in
-    IfOk-weaker c.with_carry.result _ _
-    (λ z h. (
-      h.0,
-      λ t u v hm hn hk. h.1 (less_two_term t.low u.low v.low) (less_two_term t.high u.high v.high)
-          (laws.means_stays c.less_two.new.ring c.less_two-2.new.ring c.in_ok-low.low (less_two_term t.low u.low v.low) c.less_two-2.ensures.extended
-          (c.in_ok-low.ensures.made.1 t.low u.low v.low (low_means g.R.FromVar.var_means c.args.a.now t c.index-a-0.result hm) (low_means g.R.FromVar.var_means c.args.b.now u c.index-b-0.result hn)
-          (low_means (g.R.Algebra.means c.args.ring.now) c.args.c.now v c.index-c-0.result hk)))
-          (c.in_ok-high.ensures.made.1 t.high u.high v.high (high_means g.R.FromVar.var_means c.args.a.now t c.index-a-1.result hm) (high_means g.R.FromVar.var_means c.args.b.now u c.index-b-1.result hn)
-          (laws.means_stays c.args.ring.now c.less_two.new.ring _ v.high c.less_two.ensures.extended (high_means (g.R.Algebra.means c.args.ring.now) c.args.c.now v c.index-c-1.result hk))),
-    ))
-    c.with_carry.ensures.made
-
-pub returns-clause-refused : goal.returns-clause-refused
-returns-clause-refused g c =
-    let laws = g.met.R.Algebra.laws in
-    IfErr-weaker c.with_carry.result _ _
-    (λ e h t u v hm hn hk. h (less_two_term t.low u.low v.low) (less_two_term t.high u.high v.high)
+    makes_from c.with_carries.result
+    (λ M h t u v i j k. h (less_two_term t.low u.low v.low) (less_two_term t.high u.high v.high)
     (laws.means_stays c.less_two.new.ring c.less_two-2.new.ring c.in_ok-low.low (less_two_term t.low u.low v.low) c.less_two-2.ensures.extended
-    (c.in_ok-low.ensures.made.1 t.low u.low v.low (low_means g.R.FromVar.var_means c.args.a.now t c.index-a-0.result hm) (low_means g.R.FromVar.var_means c.args.b.now u c.index-b-0.result hn)
-    (low_means (g.R.Algebra.means c.args.ring.now) c.args.c.now v c.index-c-0.result hk)))
-    (c.in_ok-high.ensures.made.1 t.high u.high v.high (high_means g.R.FromVar.var_means c.args.a.now t c.index-a-1.result hm) (high_means g.R.FromVar.var_means c.args.b.now u c.index-b-1.result hn)
-    (laws.means_stays c.args.ring.now c.less_two.new.ring _ v.high c.less_two.ensures.extended (high_means (g.R.Algebra.means c.args.ring.now) c.args.c.now v c.index-c-1.result hk))))
-    c.with_carry.ensures.refused
+    (low_of_three laws g.R.FromVar.var_means c.less_two.ensures.extended c.args.a.now c.args.b.now c.args.c.now _ _ _ c.in_ok-low.ensures.makes.made.1 t u v i j k))
+    (high_of_three laws g.R.FromVar.var_means c.less_two.ensures.extended c.args.a.now c.args.b.now c.args.c.now _ _ _ c.in_ok-high.ensures.makes.made.1 t u v i j k))
+    c.with_carries.ensures.makes
