@@ -75,7 +75,8 @@ impl<F: Field, EF: ExtensionField<F>> ExprPool<ExtLeaf<F, EF>> {
         requires pool { IsPool (ext_reads F.ring F.eq EF.coefficients) self.now }
         requires ready { CanLower self.now table.now id }
         ensures node { IfOk result (IsLoweredNode self.now id) }
-        ensures there { IfErr result (HasTree self.now.0 (lowered self.now.0 (tree_at self.now id))) }
+        ensures there { IfErr result (HasTree self.now.0
+            (lowered self.now.0 (tree_at self.now id))) }
     {
         match *self.node(id) {
             SymbolicExpr::Leaf(ExtLeaf::Base(b)) => Err(b),
