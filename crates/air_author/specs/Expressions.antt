@@ -5,6 +5,7 @@ use Rattle.air_field.specs.declared.errors.RingError.{RingError}
 use Rattle.air_windows.specs.declared.errors.AirError.{AirError}
 use Rattle.air_windows.specs.Errors.{air_error}
 use Rattle.air_builder.specs.Assertion.{Assertion}
+use Rattle.air_builder.specs.Builders.{BuilderView, MeansIn}
 use Rattle.air_builder.specs.Refusals.{PartOf, EachLeaf}
 
 -- the fact holds of a builder, and of what becomes of it
@@ -29,6 +30,13 @@ pub record MadeBoth {S E F X : Type 0} (means : S → E → Term F → Type 0) (
   pub made : IfOk r (λ both. means b both.0 t × means b both.1 u)
   pub there : OnOk r (EachLeaf (λ l. missing a l → ⊥) t × EachLeaf (λ l. missing a l → ⊥) u)
   pub refused : IfErr r (λ e. (ts : List (Assertion F)) → PartOf t ts × PartOf u ts → refuses a e ts)
+
+-- the same of a builder as its laws see it
+abbrev pub MadeIn : {S R E F : Type 0} → BuilderView S R E F → S → S → Result E AirError → Term F → Type 0
+MadeIn view a b r t = Made (MeansIn view) view.grew view.missing view.refuses a b r t
+
+abbrev pub MadeBothIn : {S R E F : Type 0} → BuilderView S R E F → S → S → Result (E × E) AirError → Term F → Term F → Type 0
+MadeBothIn view a b r t u = MadeBoth (MeansIn view) view.grew view.missing view.refuses a b r t u
 
 -- what a ring answered, as its builder answers it
 abbrev pub air_result : {E : Type 0} → Result E RingError → Result E AirError

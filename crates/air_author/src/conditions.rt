@@ -1,13 +1,13 @@
 //! Where constraints hold. An author writes `When`; these are what it hands to the constraints inside.
 ghost use Rattle.std.specs.Prelude.{⊤};
 ghost use Rattle.air_field.specs.Term.{Term, mul_term};
-ghost use Rattle.air_builder.specs.Builders.{Means};
-ghost use Rattle.air_author.specs.Expressions.{Made, Lasts};
+ghost use Rattle.air_author.specs.Expressions.{MadeIn, Lasts};
 
+use crate::AirResult;
 use crate::expressions::arithmetic::Product;
 use crate::expressions::extension::Lifted;
 use crate::expressions::{Expression, ExtExpression};
-use air_builder::{AirBuilder, AirError, ExtensionBuilder};
+use air_builder::{AirBuilder, ExtensionBuilder, Seen, SeenOver};
 use air_field::Algebra;
 
 /// Where an expression is to be zero.
@@ -22,25 +22,21 @@ pub trait Condition<AB: AirBuilder> {
     ghost where_holds: { Self → AB → Type 0 } = { λ _ _. ⊤ };
 
     /// Makes what is to be zero everywhere where `x` is to be zero here.
-    fn make_under<X: Expression<AB>>(&self, builder: &mut AB, x: &X) -> Result<AB::Expr, AirError>
+    fn make_under<X: Expression<AB>>(&self, builder: &mut AB, x: &X) -> AirResult<AB::Expr>
         requires ready { AB.ready builder.old }
         requires held { Lasts AB.kept (λ b. where_holds self.now b × X.holds x.now b) builder.old }
-        ensures { Made (Means AB.Ring.means AB.ring_of AB.stands) AB.grew AB.missing AB.refuses
-            builder.old builder.new result (under self.now (X.term x.now)) };
+        ensures { MadeIn ⟦<AB as Seen>⟧.view builder.old builder.new result
+            (under self.now (X.term x.now)) };
 
     /// The same over the extension.
-    fn make_ext_under<X: ExtExpression<AB>>(
-        &self,
-        builder: &mut AB,
-        x: &X,
-    ) -> Result<AB::ExprEF, AirError>
+    fn make_ext_under<X: ExtExpression<AB>>(&self, builder: &mut AB, x: &X) -> AirResult<AB::ExprEF>
     where
         AB: ExtensionBuilder,
         requires ready { AB.ready builder.old }
         requires held { Lasts AB.kept (λ b. where_holds self.now b × X.ext_holds x.now b)
             builder.old }
-        ensures { Made (Means AB.ExtRing.means AB.ext_ring_of AB.stands) AB.grew AB.missing
-            AB.refuses builder.old builder.new result (ext_under self.now (X.ext_term x.now)) };
+        ensures { MadeIn ⟦<AB as SeenOver>⟧.view builder.old builder.new result
+            (ext_under self.now (X.ext_term x.now)) };
 }
 
 /// Everywhere.
@@ -53,16 +49,12 @@ impl<AB: AirBuilder> Condition<AB> for Everywhere {
     ghost ext_under = { λ _ t. t };
 
     #[inline(always)]
-    fn make_under<X: Expression<AB>>(&self, builder: &mut AB, x: &X) -> Result<AB::Expr, AirError> {
+    fn make_under<X: Expression<AB>>(&self, builder: &mut AB, x: &X) -> AirResult<AB::Expr> {
         x.make(builder)
     }
 
     #[inline(always)]
-    fn make_ext_under<X: ExtExpression<AB>>(
-        &self,
-        builder: &mut AB,
-        x: &X,
-    ) -> Result<AB::ExprEF, AirError>
+    fn make_ext_under<X: ExtExpression<AB>>(&self, builder: &mut AB, x: &X) -> AirResult<AB::ExprEF>
     where
         AB: ExtensionBuilder,
     {
@@ -82,16 +74,12 @@ impl<'a, AB: AirBuilder, K: Condition<AB>, S: Expression<AB>> Condition<AB> for 
     ghost where_holds = { λ s b. K.where_holds s.0.now b × S.holds s.1 b };
 
     #[inline(always)]
-    fn make_under<X: Expression<AB>>(&self, builder: &mut AB, x: &X) -> Result<AB::Expr, AirError> {
+    fn make_under<X: Expression<AB>>(&self, builder: &mut AB, x: &X) -> AirResult<AB::Expr> {
         self.0.make_under(builder, &Product(&self.1, x))
     }
 
     #[inline(always)]
-    fn make_ext_under<X: ExtExpression<AB>>(
-        &self,
-        builder: &mut AB,
-        x: &X,
-    ) -> Result<AB::ExprEF, AirError>
+    fn make_ext_under<X: ExtExpression<AB>>(&self, builder: &mut AB, x: &X) -> AirResult<AB::ExprEF>
     where
         AB: ExtensionBuilder,
     {

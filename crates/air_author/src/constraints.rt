@@ -5,17 +5,18 @@ ghost use Rattle.air_builder.specs.Assertion.{Assertion};
 ghost use Rattle.air_builder.specs.Batches.{GrewByFirst};
 ghost use Rattle.air_builder.specs.Refusals.{NoneMissing};
 ghost use Rattle.air_windows.specs.declared.errors.AirError.{AirError};
-ghost use Rattle.air_author.specs.Constraints.{Asserted};
+ghost use Rattle.air_author.specs.Constraints.{AssertedIn};
 ghost use Rattle.air_author.specs.Expressions.{Lasts};
 
+use crate::AirResult;
 use crate::conditions::{Condition, Everywhere};
-use air_builder::{AirBuilder, AirError};
+use air_builder::{AirBuilder, AirError, Seen};
 
 pub mod claims;
 pub mod extension;
 pub mod families;
 pub mod named;
-pub mod tuples;
+mod tuples;
 pub mod when;
 
 /// Constraints, in order.
@@ -28,15 +29,11 @@ pub trait Constraint<AB: AirBuilder> {
     ghost all_hold: { Self → AB → Type 0 } = { λ _ _. ⊤ };
 
     /// Asserts them where the condition holds.
-    fn assert_under<K: Condition<AB>>(
-        &self,
-        builder: &mut AB,
-        condition: &K,
-    ) -> Result<(), AirError>
+    fn assert_under<K: Condition<AB>>(&self, builder: &mut AB, condition: &K) -> AirResult
         requires ready { AB.ready builder.old }
         requires held { Lasts AB.kept (λ b. all_hold self.now b × K.where_holds condition.now b)
             builder.old }
-        ensures { Asserted AB.kept AB.grew AB.missing AB.refuses builder.old builder.new result
+        ensures { AssertedIn ⟦<AB as Seen>⟧.view builder.old builder.new result
             (asserts self.now (K.under condition.now) (K.ext_under condition.now)) };
 }
 
@@ -46,11 +43,7 @@ impl<'a, AB: AirBuilder, C: Constraint<AB>> Constraint<AB> for &'a C {
     ghost all_hold = { λ s b. C.all_hold s.now b };
 
     #[inline(always)]
-    fn assert_under<K: Condition<AB>>(
-        &self,
-        builder: &mut AB,
-        condition: &K,
-    ) -> Result<(), AirError> {
+    fn assert_under<K: Condition<AB>>(&self, builder: &mut AB, condition: &K) -> AirResult {
         (**self).assert_under(builder, condition)
     }
 }
@@ -60,10 +53,10 @@ impl<'a, AB: AirBuilder, C: Constraint<AB>> Constraint<AB> for &'a C {
 pub fn assert_these<AB: AirBuilder, C: Constraint<AB>>(
     builder: &mut AB,
     constraints: &C,
-) -> Result<(), AirError>
+) -> AirResult
     requires ready { AB.ready builder.old }
     requires held { Lasts AB.kept (C.all_hold constraints.now) builder.old }
-    ensures { Asserted AB.kept AB.grew AB.missing AB.refuses builder.old builder.new result
+    ensures { AssertedIn ⟦<AB as Seen>⟧.view builder.old builder.new result
         (C.asserts constraints.now (λ t. t) (λ t. t)) }
 {
     constraints.assert_under(builder, &Everywhere)
@@ -71,10 +64,7 @@ pub fn assert_these<AB: AirBuilder, C: Constraint<AB>>(
 
 /// Asserts the constraints, as an AIR's `eval` is to.
 #[inline(always)]
-pub fn assert_all<AB: AirBuilder, C: Constraint<AB>>(
-    builder: &mut AB,
-    constraints: &C,
-) -> Result<(), AirError>
+pub fn assert_all<AB: AirBuilder, C: Constraint<AB>>(builder: &mut AB, constraints: &C) -> AirResult
     requires ready { AB.ready builder.old }
     requires held { Lasts AB.kept (C.all_hold constraints.now) builder.old }
     ensures ok { OnOk result (AB.grew builder.old builder.new

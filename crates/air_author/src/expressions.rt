@@ -1,10 +1,10 @@
 //! Expressions as values, each of a small type of its own that knows its term.
 ghost use Rattle.std.specs.Prelude.{◌≡◌, ⊤, Some, None, IfOk, IfErr, slice_get};
 ghost use Rattle.air_field.specs.Term.{Term};
-ghost use Rattle.air_builder.specs.Builders.{Means};
-ghost use Rattle.air_author.specs.Expressions.{Made, Lasts, air_result};
+ghost use Rattle.air_author.specs.Expressions.{MadeIn, Lasts, air_result};
 
-use air_builder::{AirBuilder, AirError, ExtensionBuilder};
+use crate::AirResult;
+use air_builder::{AirBuilder, AirError, ExtensionBuilder, Seen, SeenOver};
 use air_field::{Algebra, RingError};
 
 pub mod already;
@@ -25,11 +25,10 @@ pub trait Expression<AB: AirBuilder> {
     ghost holds: { Self → AB → Type 0 } = { λ _ _. ⊤ };
 
     /// Makes it in the builder's ring. Nothing is asserted.
-    fn make(&self, builder: &mut AB) -> Result<AB::Expr, AirError>
+    fn make(&self, builder: &mut AB) -> AirResult<AB::Expr>
         requires ready { AB.ready builder.old }
         requires held { Lasts AB.kept (holds self.now) builder.old }
-        ensures { Made (Means AB.Ring.means AB.ring_of AB.stands) AB.grew AB.missing AB.refuses
-            builder.old builder.new result (term self.now) };
+        ensures { MadeIn ⟦<AB as Seen>⟧.view builder.old builder.new result (term self.now) };
 }
 
 /// An expression of constraints over the extension.
@@ -41,11 +40,11 @@ pub trait ExtExpression<AB: ExtensionBuilder> {
     ghost ext_holds: { Self → AB → Type 0 } = { λ _ _. ⊤ };
 
     /// Makes it in the builder's ring over the extension. Nothing is asserted.
-    fn make_ext(&self, builder: &mut AB) -> Result<AB::ExprEF, AirError>
+    fn make_ext(&self, builder: &mut AB) -> AirResult<AB::ExprEF>
         requires ready { AB.ready builder.old }
         requires held { Lasts AB.kept (ext_holds self.now) builder.old }
-        ensures { Made (Means AB.ExtRing.means AB.ext_ring_of AB.stands) AB.grew AB.missing
-            AB.refuses builder.old builder.new result (ext_term self.now) };
+        ensures { MadeIn ⟦<AB as SeenOver>⟧.view builder.old builder.new result
+            (ext_term self.now) };
 }
 
 impl<'a, AB: AirBuilder, X: Expression<AB>> Expression<AB> for &'a X {
@@ -54,7 +53,7 @@ impl<'a, AB: AirBuilder, X: Expression<AB>> Expression<AB> for &'a X {
     ghost holds = { λ s b. X.holds s.now b };
 
     #[inline(always)]
-    fn make(&self, builder: &mut AB) -> Result<AB::Expr, AirError> {
+    fn make(&self, builder: &mut AB) -> AirResult<AB::Expr> {
         (**self).make(builder)
     }
 }
@@ -65,14 +64,14 @@ impl<'a, AB: ExtensionBuilder, X: ExtExpression<AB>> ExtExpression<AB> for &'a X
     ghost ext_holds = { λ s b. X.ext_holds s.now b };
 
     #[inline(always)]
-    fn make_ext(&self, builder: &mut AB) -> Result<AB::ExprEF, AirError> {
+    fn make_ext(&self, builder: &mut AB) -> AirResult<AB::ExprEF> {
         (**self).make_ext(builder)
     }
 }
 
 /// What a ring answered, as its builder answers it.
 #[inline(always)]
-pub(crate) fn answered<E: Copy>(answer: Result<E, RingError>) -> Result<E, AirError>
+pub(crate) fn answered<E: Copy>(answer: Result<E, RingError>) -> AirResult<E>
     ensures { result ≡ air_result answer }
 {
     match answer {
@@ -83,7 +82,7 @@ pub(crate) fn answered<E: Copy>(answer: Result<E, RingError>) -> Result<E, AirEr
 
 /// The entry, or the refusal that names it.
 #[inline(always)]
-pub(crate) fn present<T: Copy>(found: Option<T>, missing: AirError) -> Result<T, AirError>
+pub(crate) fn present<T: Copy>(found: Option<T>, missing: AirError) -> AirResult<T>
     ensures ok { IfOk result (λ x. found ≡ Some x) }
     ensures err { IfErr result (λ e. (found ≡ None) × (e ≡ missing)) }
 {

@@ -24,6 +24,7 @@ pub mod conditions;
 pub mod constraints;
 pub mod expressions;
 
+use air_builder::AirError;
 pub use conditions::{Condition, Everywhere};
 pub use constraints::claims::{Boolean, Claim, Equal, IsOne, Zero};
 pub use constraints::extension::{ExtClaim, ExtEqual, ExtIsOne, ExtNamed, ExtZero};
@@ -44,3 +45,6 @@ pub use expressions::permutation::{
 pub use expressions::power::Power;
 pub use expressions::selectors::{FirstRow, LastRow, Transition};
 pub use expressions::{Expression, ExtExpression};
+
+/// What making an expression or asserting constraints answers.
+pub type AirResult<T = ()> = Result<T, AirError>;

@@ -52,49 +52,52 @@ module _ {S R E F : Type 0} {view : BuilderView S R E F} (ring : RingLaws view) 
 
   module _ (kind : Term F → Assertion F) {a : S} {q r : R} (p : q ≡ ring_of a) (e : extends q r) where
     -- what an element asserts, the one that the lent ring made of it asserts as it is
-    pub made_of : (op : Term F → Term F) {x z : E}
-        → ((t : Term F) → means q x (with_leaves (stands a) t) → means r z (with_leaves (stands a) (op t)))
+    pub made_of : (op : Term F → Term F) {x z : E} → ((t : Term F) → op (with_leaves (stands a) t) ≡ with_leaves (stands a) (op t))
+        → ((t : Term F) → means q x t → means r z (op t))
         → (s : Assertion F) → AssertsOf kind (MeansIn view) op a x s
         → AssertsOf kind (MeansIn view) (λ t. t) (with_ring a r) z s
-    made_of op {x} {z} m s h = (
-      op h.0,
-      lent_means a q r z (op h.0) p e (m h.0 (means_in means x (with_leaves (stands a) h.0) p h.1)),
-      h.2,
-    )
+    made_of op {x} {z} through m s h =
+        let below = with_leaves (stands a) h.0 in
+        let made = subst (λ v. means r z v) (through h.0) (m below (means_in means x below p h.1)) in
+        (op h.0, lent_means a q r z (op h.0) p e made, h.2)
 
     -- the same, of two
     pub made_of_both : (op : Term F → Term F → Term F) {x y z : E}
-        → ((t u : Term F) → means q x (with_leaves (stands a) t) → means q y (with_leaves (stands a) u)
-        → means r z (with_leaves (stands a) (op t u)))
+        → ((t u : Term F) → op (with_leaves (stands a) t) (with_leaves (stands a) u) ≡ with_leaves (stands a) (op t u))
+        → ((t u : Term F) → means q x t → means q y u → means r z (op t u))
         → (s : Assertion F) → AssertsOfBoth kind (MeansIn view) op a (x, y) s
         → AssertsOf kind (MeansIn view) (λ t. t) (with_ring a r) z s
-    made_of_both op {x} {y} {z} m s h = (
-      op h.0 h.1,
-      lent_means a q r z (op h.0 h.1) p e
-          (m h.0 h.1 (means_in means x (with_leaves (stands a) h.0) p h.2) (means_in means y (with_leaves (stands a) h.1) p h.3)),
-      h.4,
-    )
+    made_of_both op {x} {y} {z} through m s h =
+        let first = with_leaves (stands a) h.0 in
+        let second = with_leaves (stands a) h.1 in
+        let made = m first second (means_in means x first p h.2) (means_in means y second p h.3) in
+        (op h.0 h.1, lent_means a q r z (op h.0 h.1) p e (subst (λ v. means r z v) (through h.0 h.1) made), h.4)
 
   module _ (kind : Term F → Assertion F) (inside : (t : Term F) → PartOf t (kind t ∷ [])) {a : S} {q : R}
       (p : q ≡ ring_of a) where
     -- the lent ring refused the operation
-    refuses_part : (f : RingError) (t : Term F) (s : Assertion F) → s ≡ kind t → ring_refuses f (with_leaves (stands a) t)
+    pub refuses_part : (f : RingError) (t : Term F) (s : Assertion F) → s ≡ kind t → ring_refuses f (with_leaves (stands a) t)
         → refuses a (air_error f) (s ∷ [])
     refuses_part f t s is h =
         subst (λ v. refuses a (air_error f) (v ∷ [])) (sym is) (laws.refuses_in_ring a f t (kind t ∷ []) h (inside t))
 
     pub refused_of : (op : Term F → Term F) (f : RingError) {x : E}
-        → ((t : Term F) → means q x (with_leaves (stands a) t) → ring_refuses f (with_leaves (stands a) (op t)))
+        → ((t : Term F) → op (with_leaves (stands a) t) ≡ with_leaves (stands a) (op t))
+        → ((t : Term F) → means q x t → ring_refuses f (op t))
         → (s : Assertion F) → AssertsOf kind (MeansIn view) op a x s → refuses a (air_error f) (s ∷ [])
-    refused_of op f {x} m s h = refuses_part f (op h.0) s h.2 (m h.0 (means_in means x (with_leaves (stands a) h.0) p h.1))
+    refused_of op f {x} through m s h =
+        let below = with_leaves (stands a) h.0 in
+        refuses_part f (op h.0) s h.2 (subst (λ v. ring_refuses f v) (through h.0) (m below (means_in means x below p h.1)))
 
     pub refused_of_both : (op : Term F → Term F → Term F) (f : RingError) {x y : E}
-        → ((t u : Term F) → means q x (with_leaves (stands a) t) → means q y (with_leaves (stands a) u)
-        → ring_refuses f (with_leaves (stands a) (op t u)))
+        → ((t u : Term F) → op (with_leaves (stands a) t) (with_leaves (stands a) u) ≡ with_leaves (stands a) (op t u))
+        → ((t u : Term F) → means q x t → means q y u → ring_refuses f (op t u))
         → (s : Assertion F) → AssertsOfBoth kind (MeansIn view) op a (x, y) s → refuses a (air_error f) (s ∷ [])
-    refused_of_both op f {x} {y} m s h =
-        refuses_part f (op h.0 h.1) s h.4
-        (m h.0 h.1 (means_in means x (with_leaves (stands a) h.0) p h.2) (means_in means y (with_leaves (stands a) h.1) p h.3))
+    refused_of_both op f {x} {y} through m s h =
+        let first = with_leaves (stands a) h.0 in
+        let second = with_leaves (stands a) h.1 in
+        let refused = m first second (means_in means x first p h.2) (means_in means y second p h.3) in
+        refuses_part f (op h.0 h.1) s h.4 (subst (λ v. ring_refuses f v) (through h.0 h.1) refused)
 
 module _ {S R E F : Type 0} {view : BuilderView S R E F} (laws : BuilderLaws view) where
   open view use {extends, ring_of, with_ring, kept, grew, refuses}
@@ -125,32 +128,33 @@ module _ {S R E F : Type 0} {view : BuilderView S R E F} (ring : RingLaws view) 
     (kind : Term F → Assertion F) {a : S} {q r : R} (p : q ≡ view.ring_of a) (e : view.extends q r) where
   open view use {means, ring_refuses, with_ring, stands, kept, grew, refuses}
 
-  pub one_asserted : (op : Term F → Term F) {b : S} {x z : E} (result : Result (Unit {0}) AirError)
-      → ((t : Term F) → means q x (with_leaves (stands a) t) → means r z (with_leaves (stands a) (op t)))
-      → AssertedEach (AssertsOf kind (MeansIn view) (λ t. t)) kept grew refuses (with_ring a r) b (z ∷ []) result
-      → AssertedEach (AssertsOf kind (MeansIn view) op) kept grew refuses a b (x ∷ []) result
-  one_asserted op result m h = lent_asserted laws p e result (made_of ring laws kind p e op m) h
+  module _ (op : Term F → Term F) (through : (t : Term F) → op (with_leaves (stands a) t) ≡ with_leaves (stands a) (op t)) where
+    pub one_asserted : {b : S} {x z : E} {result : Result (Unit {0}) AirError}
+        → ((t : Term F) → means q x t → means r z (op t))
+        → AssertedEach (AssertsOf kind (MeansIn view) (λ t. t)) kept grew refuses (with_ring a r) b (z ∷ []) result
+        → AssertedEach (AssertsOf kind (MeansIn view) op) kept grew refuses a b (x ∷ []) result
+    one_asserted {result = result} m h = lent_asserted laws p e result (made_of ring laws kind p e op through m) h
 
-  pub both_asserted : (op : Term F → Term F → Term F) {b : S} {x y z : E} (result : Result (Unit {0}) AirError)
-      → ((t u : Term F) → means q x (with_leaves (stands a) t) → means q y (with_leaves (stands a) u)
-      → means r z (with_leaves (stands a) (op t u)))
-      → AssertedEach (AssertsOf kind (MeansIn view) (λ t. t)) kept grew refuses (with_ring a r) b (z ∷ []) result
-      → AssertedEach (AssertsOfBoth kind (MeansIn view) op) kept grew refuses a b ((x, y) ∷ []) result
-  both_asserted op result m h = lent_asserted laws p e result (made_of_both ring laws kind p e op m) h
-
-  module _ (inside : (t : Term F) → PartOf t (kind t ∷ [])) (f : RingError) {result : Result (Unit {0}) AirError}
-      (is : IsErrAnd result (λ x. x ≡ air_error f)) where
-    pub one_gives_up : (op : Term F → Term F) {x : E}
-        → ((t : Term F) → means q x (with_leaves (stands a) t) → ring_refuses f (with_leaves (stands a) (op t)))
+    pub one_gives_up : {x : E} {f : RingError} {result : Result (Unit {0}) AirError}
+        → ((t : Term F) → PartOf t (kind t ∷ [])) → ((t : Term F) → means q x t → ring_refuses f (op t))
+        → IsErrAnd result (λ y. y ≡ air_error f)
         → AssertedEach (AssertsOf kind (MeansIn view) op) kept grew refuses a (with_ring a r) (x ∷ []) result
-    one_gives_up op m =
+    one_gives_up {f = f} {result = result} inside m is =
         let i = err_from_is_err_and result is in
-        rw (i.1, i.2) (making_refused laws p e (air_error f) (refused_of ring laws kind inside p op f m))
+        rw (i.1, i.2) (making_refused laws p e (air_error f) (refused_of ring laws kind inside p op f through m))
 
-    pub both_gives_up : (op : Term F → Term F → Term F) {x y : E}
-        → ((t u : Term F) → means q x (with_leaves (stands a) t) → means q y (with_leaves (stands a) u)
-        → ring_refuses f (with_leaves (stands a) (op t u)))
+  module _ (op : Term F → Term F → Term F)
+      (through : (t u : Term F) → op (with_leaves (stands a) t) (with_leaves (stands a) u) ≡ with_leaves (stands a) (op t u)) where
+    pub both_asserted : {b : S} {x y z : E} {result : Result (Unit {0}) AirError}
+        → ((t u : Term F) → means q x t → means q y u → means r z (op t u))
+        → AssertedEach (AssertsOf kind (MeansIn view) (λ t. t)) kept grew refuses (with_ring a r) b (z ∷ []) result
+        → AssertedEach (AssertsOfBoth kind (MeansIn view) op) kept grew refuses a b ((x, y) ∷ []) result
+    both_asserted {result = result} m h = lent_asserted laws p e result (made_of_both ring laws kind p e op through m) h
+
+    pub both_gives_up : {x y : E} {f : RingError} {result : Result (Unit {0}) AirError}
+        → ((t : Term F) → PartOf t (kind t ∷ [])) → ((t u : Term F) → means q x t → means q y u → ring_refuses f (op t u))
+        → IsErrAnd result (λ y. y ≡ air_error f)
         → AssertedEach (AssertsOfBoth kind (MeansIn view) op) kept grew refuses a (with_ring a r) ((x, y) ∷ []) result
-    both_gives_up op m =
+    both_gives_up {f = f} {result = result} inside m is =
         let i = err_from_is_err_and result is in
-        rw (i.1, i.2) (making_refused laws p e (air_error f) (refused_of_both ring laws kind inside p op f m))
+        rw (i.1, i.2) (making_refused laws p e (air_error f) (refused_of_both ring laws kind inside p op f through m))

@@ -2,7 +2,9 @@
 use Rattle.std.specs.List.{AllZip}
 use Rattle.std.specs.Prelude.{◌≡◌, ℕ, ◌<◌, List, length, take, Result, OnOk, OnErr, IfErr}
 use Rattle.air_field.specs.Term.{Term}
+use Rattle.air_windows.specs.declared.errors.AirError.{AirError}
 use Rattle.air_builder.specs.Assertion.{Assertion}
+use Rattle.air_builder.specs.Builders.{BuilderView, MeansIn}
 
 -- the assertion, of a kind, is that of the operation of a term that x means
 abbrev pub AssertsOf : {S E F : Type 0} → (Term F → Assertion F) → (S → E → Term F → Type 0) → (Term F → Term F) → S → E → Assertion F → Type 0
@@ -41,3 +43,15 @@ pub record AssertedEach {S I F X : Type 0} (asserts : S → I → Assertion F �
   pub ok : OnOk result (GrewByEach asserts grew a b xs)
   pub err : OnErr result (GrewByBeginning asserts grew a b xs)
   pub refused : IfErr result (RefusesByEach asserts refuses a xs)
+
+-- What a call does to a builder that asserts of each of xs, in order, that the operation of what it means is zero: by an
+-- assertion of this kind.
+abbrev pub Asserts : {S R E F : Type 0} → BuilderView S R E F → (Term F → Assertion F) → (Term F → Term F) → S → S → List E
+    → Result (Unit {0}) AirError → Type 0
+Asserts view kind op a b xs result = AssertedEach (AssertsOf kind (MeansIn view) op) view.kept view.grew view.refuses a b xs result
+
+-- the same of pairs
+abbrev pub AssertsBoth : {S R E F : Type 0} → BuilderView S R E F → (Term F → Assertion F) → (Term F → Term F → Term F) → S → S
+    → List (E × E) → Result (Unit {0}) AirError → Type 0
+AssertsBoth view kind op a b ps result =
+    AssertedEach (AssertsOfBoth kind (MeansIn view) op) view.kept view.grew view.refuses a b ps result

@@ -1,6 +1,8 @@
 -- Growth through a filter.
-use Rattle.std.specs.Prelude.{◌≡◌, List, map}
-use Rattle.air_field.specs.Term.{Term}
+use Rattle.std.specs.Prelude.{◌≡◌, ℕ, List, [], map, Result, IsOk, IfOk}
+use Rattle.air_field.specs.Term.{Leaf, Term, leaf_term}
+use Rattle.air_windows.specs.declared.errors.AirError.{AirError}
+use Rattle.air_builder.specs.declared.builders.filtered.FilteredAirBuilder.{FilteredAirBuilder}
 use Rattle.air_builder.specs.Assertion.{Assertion, filtered}
 use Rattle.air_builder.specs.Builders.{MeansIn, BuilderView}
 
@@ -10,15 +12,29 @@ pub record KeptInside {S E N : Type 0} (kept : S → S → Type 0) (n m : N) (x 
   pub same_condition : y ≡ x
   pub inside : kept a b
 
--- the builder inside grew by the condition times each term
-pub record GrewInside {S E F N : Type 0} (kept : S → S → Type 0) (grew : S → S → List (Assertion F) → Type 0)
-    (means : S → E → Term F → Type 0) (n m : N) (x y : E) (a b : S) (ts : List (Assertion F)) : Type 0 where
+-- the builder inside grew by what the condition makes of each of a list
+pub record GrewUnder {S E F A N : Type 0} (under : Term F → A → A) (kept : S → S → Type 0) (grew : S → S → List A → Type 0)
+    (means : S → E → Term F → Type 0) (n m : N) (x y : E) (a b : S) (xs : List A) : Type 0 where
   pub keeps : KeptInside kept n m x y a b
-  pub by : (c : Term F) → means a x c → grew a b (map (filtered c) ts)
+  pub by : (c : Term F) → means a x c → grew a b (map (under c) xs)
+
+-- the builder inside grew by the condition times each term
+abbrev pub GrewInside : {S E F N : Type 0} → (S → S → Type 0) → (S → S → List (Assertion F) → Type 0) → (S → E → Term F → Type 0)
+    → N → N → E → E → S → S → List (Assertion F) → Type 0
+GrewInside kept grew means n m x y a b ts = GrewUnder filtered kept grew means n m x y a b ts
 
 -- the builder inside may refuse the condition times each term
 abbrev pub RefusesInside : {S E F X : Type 0} → (S → X → List (Assertion F) → Type 0) → (S → E → Term F → Type 0) → E → S → X → List (Assertion F) → Type 0
 RefusesInside {F = F} refuses means x a e ts = (c : Term F) → means a x c → refuses a e (map (filtered c) ts)
+
+-- What a call answers that filters by a selector: always a filter on the builder that is lent, which grew by nothing, and
+-- whose condition means the selector's leaf.
+pub record FiltersBy {S R E F V P Q W M : Type 0} (view : BuilderView S R E F) (l : Leaf) (a : S) (name : ℕ)
+    (result : Result (FilteredAirBuilder S F E V P Q W M R) AirError) : Type 0 where
+  pub always : IsOk result
+  pub same_reference : IfOk result (λ f. f.inner.ghost_name ≡ name)
+  pub inner : IfOk result (λ f. view.grew a f.inner.now [])
+  pub condition : IfOk result (λ f. MeansIn view f.inner.now f.condition (leaf_term l))
 
 -- a filter, as the laws see it, of a builder that they see so
 abbrev pub filter_view : {S R E F N P : Type 0} → BuilderView S R E F → (P → S) → (P → N) → (P → E) → (P → S → P)

@@ -2,7 +2,10 @@
 use Rattle.std.specs.Prelude.{◌≡◌, ℕ, ◌+◌, ◌<◌, List, [], ◌∷◌, ◌++◌, length, take, map, Option, Result, OnOk, OnErr}
 use Rattle.std.specs.List.{AllZip, zip}
 use Rattle.air_windows.specs.declared.errors.AirError.{AirError}
+use Rattle.air_field.specs.Term.{Term}
 use Rattle.air_builder.specs.Assertion.{Assertion}
+use Rattle.air_builder.specs.Batches.{AssertsOf, AssertsOfBoth}
+use Rattle.air_builder.specs.Builders.{BuilderView, MeansIn}
 
 -- what became of an assertion's name: nothing asked for it, or it was evaluated and displays this text
 pub data Label : Type 0 where
@@ -55,6 +58,16 @@ pub record LabelledEach {S I F : Type 0} (asserts : S → I → Assertion F → 
     (xs : List I) (result : Result (Unit {0}) AirError) : Type 0 where
   pub ok : OnOk result (LabelledByEach asserts labelled says a b xs)
   pub err : OnErr result (LabelledByBeginning asserts labelled says a b xs)
+
+-- what a call that does what `Asserts` says does to the labels, in a builder that grows under labels as `labelled` says
+abbrev pub Labels : {S R E F : Type 0} → BuilderView S R E F → (S → S → List (Labelled F) → Type 0) → (Term F → Assertion F)
+    → (Term F → Term F) → (ℕ → Option (List ℕ) → Type 0) → S → S → List E → Result (Unit {0}) AirError → Type 0
+Labels view labelled kind op says a b xs result = LabelledEach (AssertsOf kind (MeansIn view) op) labelled says a b xs result
+
+-- the same of pairs
+abbrev pub LabelsBoth : {S R E F : Type 0} → BuilderView S R E F → (S → S → List (Labelled F) → Type 0) → (Term F → Assertion F)
+    → (Term F → Term F → Term F) → (ℕ → Option (List ℕ) → Type 0) → S → S → List (E × E) → Result (Unit {0}) AirError → Type 0
+LabelsBoth view labelled kind op says a b ps result = LabelledEach (AssertsOfBoth kind (MeansIn view) op) labelled says a b ps result
 
 -- What every named builder keeps. Growth under labels is growth; growth by nothing leaves the labels.
 pub record NamedLaws {S F : Type 0} (grew : S → S → List (Assertion F) → Type 0) (labelled : S → S → List (Labelled F) → Type 0) : Type 0 where

@@ -8,8 +8,8 @@ pub use Rattle.air_windows.specs.Boundary
 pub use Rattle.air_windows.specs.Periodic
 pub use Rattle.air_windows.specs.Texts
 pub use Rattle.air_windows.specs.Errors
-pub mod Beside
 pub mod Assertion
+pub mod Declaration
 pub mod Refusals
 pub mod Refused
 pub mod Builders
@@ -19,4 +19,5 @@ pub mod Labels
 pub mod NamedFilters
 pub mod Extensions
 pub mod ExtensionFilters
+pub mod PermutationRows
 pub mod laws

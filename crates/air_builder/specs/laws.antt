@@ -8,3 +8,6 @@ pub mod ExtensionFilters
 pub mod Extensions
 pub mod Batches
 pub mod Zips
+pub mod ShownRows
+pub mod RowBuilders
+pub mod Parts

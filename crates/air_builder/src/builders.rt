@@ -10,6 +10,7 @@ pub mod extension_filter;
 pub mod filtered;
 pub mod named;
 pub mod named_extension;
-pub mod named_filter;
+mod named_filter;
 pub mod passthrough;
 pub mod permutation;
+pub mod seen;

@@ -1,5 +1,5 @@
 //! A counter: column 0 is a bit, and column 1 counts how many of the bits above were one.
-ghost use Rattle.air_builder.specs.Beside.{nothing_beside};
+ghost use Rattle.air_builder.specs.Declaration.{plain_declaration};
 ghost use Rattle.air_counter.specs.Counter.{counter};
 
 use p3_air::author::{
@@ -11,13 +11,7 @@ use p3_air::{Air, AirBuilder, AirError, BaseAir, BoundaryPublic, Field, RowMajor
 pub struct Counter {}
 
 impl<F: Field> BaseAir<F> for Counter {
-    ghost declared = { λ _. counter F.ONE };
-
-    ghost width = { λ _. 2 };
-
-    ghost num_public_values = { λ _. 0 };
-
-    ghost beside = { λ _. nothing_beside };
+    ghost declaration = { λ _. plain_declaration (counter F.ONE) 2 0 };
 
     fn width(&self) -> usize {
         2

@@ -1,6 +1,8 @@
 -- joining elements from the left, one by one
 use Rattle.std.specs.List.{AllZip}
-use Rattle.std.proofs.Common.{◌≡◌, ◌∙◌, ℕ, suc, ◌+◌, ◌<◌, List, [], ◌∷◌, All, length, drop, get_or, refl, sym, ap, subst, arith, drop-cons, add-one}
+use Rattle.std.specs.Result.{IsErrAnd}
+use Rattle.std.proofs.lemmas.Result.{err_from_is_err_and}
+use Rattle.std.proofs.Common.{Result, IfErr, ◌≡◌, ◌∙◌, ℕ, suc, ◌+◌, ◌<◌, List, [], ◌∷◌, All, length, drop, get_or, refl, sym, ap, subst, arith, drop-cons, add-one}
 use Rattle.air_field.specs.Term.{Term, const_term, add_term, mul_term}
 use Rattle.air_field.specs.Part.{Part, whole, in_add_left, in_mul_left}
 use Rattle.air_field.specs.Algebra.{AlgebraLaws, Made, MadeOfBoth, RefusedOfBoth}
@@ -39,6 +41,10 @@ part-add_left s t u h = in_add_left h
 pub part-mul_left : {F : Type 0} (s t u : Term F) → Part s t → Part s (mul_term t u)
 part-mul_left s t u h = in_mul_left h
 
+-- what is left from an item on begins with it
+drop_item : {X : Type 0} (l : List X) (i : ℕ) (x : X) → i < length l → x ≡ get_or l i x → drop i l ≡ x ∷ drop (i + 1) l
+drop_item l i x h is = drop-cons l i x h ∙ (ap (λ y. y ∷ drop (suc i) l) (sym is) ∙ ap (λ n. x ∷ drop n l) (sym (add-one i)))
+
 module _ {R E F X : Type 0} {valid : R → Type 0} {has : R → E → Type 0} {means : R → E → Term F → Type 0} {extends : R → R → Type 0} {refuses : X → Term F → Type 0} (laws : AlgebraLaws valid has means extends refuses) (op : Term F → Term F → Term F) (none : F) where
   begin_leads : (p : R) (x : E) (xs : List E) (ts : List (Term F)) → AllZip (means p) (x ∷ xs) ts → Leads (means p) op x xs (join_terms op none ts)
   begin_leads p x xs [] h = absurd h
@@ -65,9 +71,12 @@ module _ {R E F X : Type 0} {valid : R → Type 0} {has : R → E → Type 0} {m
   take_leads p q total x z left goal g made t (u ∷ us) m h e =
       record { t = op t u; us = us; total_means = made.1 t u m h.0; left_means = all_mean_still p q left us g h.1; joined = e }
 
-  pub take_one : (first p q : R) (xs : List E) (total x z : E) (left : List E) → extends p q → MadeOfBoth has means op p q total x z
-      → IsJoining has means extends op none first p xs total (x ∷ left) → IsJoining has means extends op none first q xs z left
-  take_one first p q xs total x z left g made h =
+  -- what is left begins with the item at place i, which is taken
+  pub take_one : {first p q : R} {xs : List E} {total x z : E} (rest : List E) (i : ℕ) → i < length rest → x ≡ get_or rest i x → extends p q → MadeOfBoth has means op p q total x z
+      → IsJoining has means extends op none first p xs total (drop i rest) → IsJoining has means extends op none first q xs z (drop (i + 1) rest)
+  take_one {first = first} {p = p} {q = q} {xs = xs} {total = total} {x = x} {z = z} rest i b is g made before =
+      let left = drop (i + 1) rest in
+      let h = subst (IsJoining has means extends op none first p xs total) (drop_item rest i x b is) before in
       record {
         extended = laws.joined first p q h.extended g;
         total_in = made.0;
@@ -95,11 +104,16 @@ module _ {R E F X : Type 0} {valid : R → Type 0} {has : R → E → Type 0} {m
   refused_leads p e total x left goal inside refused t (u ∷ us) m h same =
       laws.refuses_whole e (op t u) goal (subst (Part (op t u)) same (part-join_from op inside (op t u) (op t u) us whole)) (refused t u m h.0)
 
-  pub join_refused : (first p : R) (xs : List E) (e : X) (total x : E) (left : List E) → ((s t u : Term F) → Part s t → Part s (op t u)) → RefusedOfBoth means refuses op p total x e
-      → IsJoining has means extends op none first p xs total (x ∷ left) → RefusedOfAll means refuses op none first xs e
-  join_refused first p xs e total x left inside refused h ts m =
+  -- what an exit answers where joining that item is refused
+  pub join_refused : {first p : R} {xs : List E} {e : X} {total x : E} (rest : List E) (i : ℕ) → i < length rest → x ≡ get_or rest i x → ((s t u : Term F) → Part s t → Part s (op t u)) → RefusedOfBoth means refuses op p total x e
+      → IsJoining has means extends op none first p xs total (drop i rest) → (r : Result E X) → IsErrAnd r (λ o. o ≡ e) → IfErr r (RefusedOfAll means refuses op none first xs)
+  join_refused {first = first} {p = p} {xs = xs} {e = e} {total = total} {x = x} rest i b is inside refused before r exit =
+      let h = subst (IsJoining has means extends op none first p xs total) (drop_item rest i x b is) before in
+      let o = err_from_is_err_and r exit in
+      rw (o.1, o.2)
+      (λ ts m.
       let l = h.leads ts m in
-      refused_leads p e total x left (join_terms op none ts) inside refused l.t l.us l.total_means l.left_means l.joined
+      refused_leads p e total x (drop (i + 1) rest) (join_terms op none ts) inside refused l.t l.us l.total_means l.left_means l.joined)
 
   -- the join of no elements is the constant
   none_means : (p q : R) (z : E) (ts : List (Term F)) → means q z (const_term none) → AllZip (means p) [] ts → means q z (join_terms op none ts)
@@ -112,6 +126,3 @@ module _ {R E F X : Type 0} {valid : R → Type 0} {has : R → E → Type 0} {m
   pub none_refused : (p : R) (e : X) → refuses e (const_term none) → RefusedOfAll means refuses op none p [] e
   none_refused p e h [] n = h
   none_refused p e h (t ∷ ts) n = absurd n
-
-pub drop_item : {X : Type 0} (l : List X) (i : ℕ) (x : X) → i < length l → x ≡ get_or l i x → drop i l ≡ x ∷ drop (i + 1) l
-drop_item l i x h is = drop-cons l i x h ∙ (ap (λ y. y ∷ drop (suc i) l) (sym is) ∙ ap (λ n. x ∷ drop n l) (sym (add-one i)))

@@ -1,5 +1,5 @@
 -- Powers in a commutative ring.
-use Rattle.std.specs.Prelude.{ℕ, zero, suc, ◌+◌, List, [], ◌∷◌, ◌++◌}
+use Rattle.std.specs.Prelude.{ℕ, zero, suc, List, [], ◌∷◌, ◌++◌}
 use Rattle.air_field.specs.Ring.{CommRing}
 
 abbrev pub power : {A : Type 0} (R : CommRing A) → A → ℕ → A

@@ -20,3 +20,4 @@ pub mod Modulo
 pub mod SamePolynomial
 pub mod Binomial
 pub mod Rows
+pub mod Part

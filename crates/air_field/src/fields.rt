@@ -1,10 +1,10 @@
 //! Fields: the interface and its laws, the field of 2013265921 elements, extensions, and one of dimension 4.
 
 pub mod baby_bear;
-pub mod baby_bear_extension;
-pub mod baby_bear_field;
+mod baby_bear_extension;
+mod baby_bear_field;
 pub mod binomial;
-pub mod binomial_field;
+mod binomial_field;
 pub mod extension;
 pub mod field;
 pub mod order;

@@ -3,12 +3,13 @@ use Rattle.std.proofs.Common.{◌≡◌, ◌⊎◌, ℕ, ◌+◌, ◌<◌, List,
 use Rattle.std.proofs.lemmas.List.{get_or_default, get_or_append_left, get_or_push}
 use Rattle.air_field.specs.Term.{Term}
 use Rattle.air_field.specs.Part.{Part, whole, in_add_left, in_add_right, in_sub_left, in_sub_right, in_neg, in_mul_left, in_mul_right}
+use Rattle.air_builder.specs.laws.Parts.{part_of_in}
 use Rattle.air_symbolic.specs.Leaves.{Leaves}
 use Rattle.air_symbolic.specs.Trees.{Tree, term_of}
 use Rattle.air_symbolic.specs.Nodes.{unfold_node, tree_of, OperandsBelow}
 use Rattle.air_symbolic.specs.declared.pools.expr.SymbolicExpr.{SymbolicExpr}
 use Rattle.air_symbolic.specs.declared.pools.expr.SymbolicExpr.TheVariants as node
-use Rattle.air_builder.specs.Assertion.{Assertion, Base, Extension}
+use Rattle.air_builder.specs.Assertion.{Assertion}
 use Rattle.air_builder.specs.Refusals.{PartOf}
 use Rattle.air_symbolic.specs.Reach.{EachOperand, IsOperand, Marked, Reached, ReachedFrom, root, operand}
 use Rattle.air_flat.specs.Tables.{HasOne, HasAt, OperandsMade}
@@ -24,22 +25,6 @@ each_below P Q k (node.Add x y d) f b h = (f x b.0 h.0, f y b.1 h.1)
 each_below P Q k (node.Sub x y d) f b h = (f x b.0 h.0, f y b.1 h.1)
 each_below P Q k (node.Neg x d) f b h = f x b h
 each_below P Q k (node.Mul x y d) f b h = (f x b.0 h.0, f y b.1 h.1)
-
-part_in : {F : Type 0} {t u v : Term F} → Part t u → Part u v → Part t v
-part_in p whole = p
-part_in p (in_add_left q) = in_add_left (part_in p q)
-part_in p (in_add_right q) = in_add_right (part_in p q)
-part_in p (in_sub_left q) = in_sub_left (part_in p q)
-part_in p (in_sub_right q) = in_sub_right (part_in p q)
-part_in p (in_neg q) = in_neg (part_in p q)
-part_in p (in_mul_left q) = in_mul_left (part_in p q)
-part_in p (in_mul_right q) = in_mul_right (part_in p q)
-
-part_of_in : {F : Type 0} (t u : Term F) (ts : List (Assertion F)) → Part t u → PartOf u ts → PartOf t ts
-part_of_in t u [] p h = h
-part_of_in t u (Base v ∷ ts) p (inl q) = inl (part_in p q)
-part_of_in t u (Extension v ∷ ts) p (inl q) = inl (part_in p q)
-part_of_in t u (a ∷ ts) p (inr q) = inr (part_of_in t u ts p q)
 
 -- an operand's term is a part of the node's
 module _ {A F : Type 0} (f : A → Term F) (at : ℕ → Tree A) where

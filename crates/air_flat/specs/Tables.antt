@@ -11,7 +11,7 @@ use Rattle.air_windows.specs.declared.errors.AirError.{AirError}
 use Rattle.air_windows.specs.declared.errors.AirError.TheVariants.{Memory}
 use Rattle.air_builder.specs.Assertion.{Assertion}
 use Rattle.air_builder.specs.Refusals.{PartOf, EachLeaf}
-use Rattle.air_author.specs.Expressions.{Made, Holds}
+use Rattle.air_author.specs.Expressions.{Holds}
 use Rattle.air_symbolic.specs.Reach.{EachOperand}
 
 -- in the builder the term has this expression
@@ -37,18 +37,6 @@ RefusedAt {F} refuses mark = (i : ℕ) × (mark ≡ Some i) × ((ss : List (Asse
 -- Besides what the builder refuses, memory may be wanting.
 abbrev pub OrMemory : {S F : Type 0} → (S → AirError → List (Assertion F) → Type 0) → S → AirError → List (Assertion F) → Type 0
 OrMemory refuses a e ts = (e ≡ Memory) ⊎ refuses a e ts
-
--- the operation of what x means in the builder
-abbrev pub MadeFrom : {S E F X : Type 0} → (S → E → Term F → Type 0) → (S → S → List (Assertion F) → Type 0)
-    → (S → Leaf → Type 0) → (S → X → List (Assertion F) → Type 0) → (Term F → Term F) → S → S → Result E X
-    → E → Type 0
-MadeFrom {F = F} means grew missing refuses op a b r x = (t : Term F) → IsMade means missing a t x → Made means grew missing refuses a b r (op t)
-
--- the operation of what x and y mean in it
-abbrev pub MadeFromBoth : {S E F X : Type 0} → (S → E → Term F → Type 0) → (S → S → List (Assertion F) → Type 0)
-    → (S → Leaf → Type 0) → (S → X → List (Assertion F) → Type 0) → (Term F → Term F → Term F) → S → S → Result E X
-    → E → E → Type 0
-MadeFromBoth {F = F} means grew missing refuses op a b r x y = (t u : Term F) → IsMade means missing a t x → IsMade means missing a u y → Made means grew missing refuses a b r (op t u)
 
 -- The expression of each term was made, in order: nothing was asserted, and each leaf of the terms is there. A refusal
 -- may be one of any list that has each of the terms as a part.

@@ -60,14 +60,14 @@ impl<F: Field> FlatAir<F> {
 }
 
 impl<F: Field> BaseAir<F> for FlatAir<F> {
-    ghost declared = { λ a. zero_at_roots a.pool a.roots.items };
-
-    ghost width = { λ a. a.width };
-
-    ghost num_public_values = { λ a. a.num_public_values };
-
-    ghost beside = { λ a.
-        record { preprocessed = None; periodic = a.periodic.items; cells = a.cells.items } };
+    ghost declaration = { λ a. record {
+      declared = zero_at_roots a.pool a.roots.items;
+      width = a.width;
+      num_public_values = a.num_public_values;
+      preprocessed = None;
+      periodic = a.periodic.items;
+      cells = a.cells.items;
+    } };
 
     fn width(&self) -> usize {
         self.width

@@ -1,5 +1,5 @@
 //! The expressions of leaves.
-ghost use Rattle.air_field.specs.Term.{preprocessed, main, leaf_term};
+ghost use Rattle.air_field.specs.Term.{leaf_term};
 ghost use Rattle.air_variables.specs.Entries.{entry_leaf};
 ghost use Rattle.air_symbolic.specs.BaseLeaves.{base_term};
 ghost use Rattle.air_builder.specs.Builders.{Means};
@@ -13,41 +13,7 @@ use air_builder::{AirBuilder, AirError};
 use air_field::Algebra;
 use air_symbolic::{BaseEntry, BaseLeaf, SymbolicVariable};
 
-// A column of the main trace; a window has the rows 0 and 1 alone.
-fn make_main<AB: AirBuilder>(
-    builder: &mut AB,
-    offset: usize,
-    index: usize,
-) -> Result<AB::Expr, AirError>
-    requires { AB.ready builder.old }
-    ensures { Made (Means AB.Ring.means AB.ring_of AB.stands) AB.grew AB.missing AB.refuses
-        builder.old builder.new result (leaf_term (main offset index)) }
-{
-    match offset {
-        0 => Current(index).make(builder),
-        1 => Next(index).make(builder),
-        _ => Err(AirError::RowOffset { offset }),
-    }
-}
-
-// A column of the preprocessed trace.
-fn make_preprocessed<AB: AirBuilder>(
-    builder: &mut AB,
-    offset: usize,
-    index: usize,
-) -> Result<AB::Expr, AirError>
-    requires { AB.ready builder.old }
-    ensures { Made (Means AB.Ring.means AB.ring_of AB.stands) AB.grew AB.missing AB.refuses
-        builder.old builder.new result (leaf_term (preprocessed offset index)) }
-{
-    match offset {
-        0 => PreprocessedCurrent(index).make(builder),
-        1 => PreprocessedNext(index).make(builder),
-        _ => Err(AirError::RowOffset { offset }),
-    }
-}
-
-// A variable.
+// A variable; a window has the rows 0 and 1 alone.
 fn make_variable<AB: AirBuilder>(
     builder: &mut AB,
     variable: SymbolicVariable<AB::F>,
@@ -58,8 +24,16 @@ fn make_variable<AB: AirBuilder>(
 {
     let index = variable.index;
     match variable.entry {
-        BaseEntry::Preprocessed { offset } => make_preprocessed(builder, offset, index),
-        BaseEntry::Main { offset } => make_main(builder, offset, index),
+        BaseEntry::Preprocessed { offset } => match offset {
+            0 => PreprocessedCurrent(index).make(builder),
+            1 => PreprocessedNext(index).make(builder),
+            _ => Err(AirError::RowOffset { offset }),
+        },
+        BaseEntry::Main { offset } => match offset {
+            0 => Current(index).make(builder),
+            1 => Next(index).make(builder),
+            _ => Err(AirError::RowOffset { offset }),
+        },
         BaseEntry::Periodic => Periodic(index).make(builder),
         BaseEntry::Public => Public(index).make(builder),
     }

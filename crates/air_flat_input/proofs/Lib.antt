@@ -1,6 +1,5 @@
 pub mod Loop
 pub mod Trees
-pub mod OneCell
 pub mod Agreement
 pub mod MemberLaws
 pub mod InputLaws

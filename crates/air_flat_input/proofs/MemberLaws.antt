@@ -7,7 +7,7 @@ use Rattle.air_field.specs.Modulo.{class}
 use Rattle.air_wire.specs.BaseLeaves.{element_or, element_at, base_kind}
 use Rattle.air_wire.specs.laws.BaseLeaves.{element_found, element_again, base_kind_laws}
 use Rattle.air_wire.specs.Boundaries.{SpellsCell, cell_of}
-use Rattle.air_wire.specs.laws.Boundaries.{cell_found, cell_again}
+use Rattle.air_wire.specs.laws.Boundaries.{cell_laws}
 use Rattle.air_wire.specs.laws.Lists.{root_found, root_again, root_fault, root_fault_read}
 use Rattle.air_wire.specs.Parts.{whole}
 use Rattle.air_wire.specs.Results.{◌>>=◌}
@@ -79,7 +79,7 @@ trees_agree = list_agrees constraint tree tree_agrees
 -- ---- boundary cells
 
 cell_agrees : Agrees cell cell_read
-cell_agrees = by_form_agrees SpellsCell cell_of cell_found cell_again
+cell_agrees = by_form_agrees SpellsCell cell_of cell_laws.found cell_laws.again
 
 cells_agree : Agrees (list_of cell) cells
 unfolding cells

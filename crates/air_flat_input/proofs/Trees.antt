@@ -8,15 +8,14 @@ use Rattle.air_symbolic.specs.BaseLeaves.{base_reads, base_grows}
 use Rattle.air_symbolic.specs.laws.BaseLeaves.{base_leaf_laws}
 use Rattle.air_symbolic.specs.Pools.{Grown, tree_at}
 use Rattle.air_symbolic.specs.laws.Pools.{Grown-trans, here-kept, tree-kept}
-use Rattle.air_symbolic.specs.Trees.{Tree, nothing, leaf_tree, add_tree, sub_tree, neg_tree, mul_tree}
 use Rattle.air_symbolic.specs.declared.leaves.base_leaf.BaseLeaf.{BaseLeaf}
 use Rattle.air_symbolic.specs.declared.pools.expr.SymbolicExpr.{SymbolicExpr}
 use Rattle.air_wire.specs.BaseLeaves.{base_kind, base_seen}
-use Rattle.air_wire.specs.laws.BaseLeaves.{base_kind_laws}
+use Rattle.air_wire.specs.laws.BaseLeaves.{base_kind_laws, over_same}
 use Rattle.air_wire.specs.Good.{IsList, HasFault}
 use Rattle.air_wire.specs.laws.Lists.{root_again, root_fault_read}
 use Rattle.air_wire.specs.Results.{Gives}
-use Rattle.air_wire.specs.Seen.{over, seen_at}
+use Rattle.air_wire.specs.Seen.{seen_at}
 use Rattle.air_wire.specs.declared.errors.FlatError.{FlatError}
 use Rattle.air_wire.specs.declared.errors.FlatError.TheVariants as faults
 use Rattle.air_flat_input.specs.Readers.{tree}
@@ -48,14 +47,6 @@ trees_kept p q (i ∷ is) g h =
     cc (tree-kept baby_bear_ring base_reads base_grows tt (base_leaf_laws baby_bear_ring) p q i g first, trees_kept p q is g (λ k d lt. h (suc k) d (omega (arith, lt))))
 
 -- ---- what the reader of lists promises
-
-over_same : (t : Tree (BaseLeaf BabyBear)) → over (base_seen tt) t ≡ t
-over_same nothing = refl
-over_same (leaf_tree a) = refl
-over_same (add_tree t u) = cc (over_same t, over_same u)
-over_same (sub_tree t u) = cc (over_same t, over_same u)
-over_same (neg_tree t) = cc (over_same t)
-over_same (mul_tree t u) = cc (over_same t, over_same u)
 
 pub tree_given : (p : Pool) (d : Data) (r : Result ℕ FlatError) → IfOk r (λ i. IsList base_kind d (seen_at base_seen p i)) → IfErr r (λ e. e ≢ faults.Memory → HasFault base_kind d e) → Gives (tree_at p) r (tree d)
 tree_given p d (Ok i) h n = root_again base_kind base_kind_laws d (seen_at base_seen p i) h ∙ ap (λ t. Ok t) (over_same (tree_at p i))

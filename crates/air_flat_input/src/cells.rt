@@ -1,18 +1,18 @@
 //! Boundary cells.
-ghost use Rattle.std.specs.Prelude.{[]};
+ghost use Rattle.std.specs.Prelude.{◌≡◌, []};
 ghost use Rattle.serde_json.specs.View.{view, items_view};
 ghost use Rattle.air_wire.specs.Results.{Gives};
 ghost use Rattle.air_flat_input.specs.Readers.{each_from, cell_read, cells};
 
 use air_windows::BoundaryPublic;
-use air_wire::{FlatError, Spelled};
+use air_wire::{FlatError, Plain};
 use serde_json::Value;
 use std::alloc::Global;
 
-fn cell_from(alloc: Global, value: &Value) -> Result<BoundaryPublic, FlatError>
-    ensures { Gives (λ b. b) result (cell_read (view value.now)) }
+fn cell_from(value: &Value) -> Result<BoundaryPublic, FlatError>
+    ensures { result ≡ cell_read (view value.now) }
 {
-    BoundaryPublic::from_value(alloc, value)
+    BoundaryPublic::read(value).ok_or(FlatError::Shape { at: 0 })
 }
 
 fn cells_of(alloc: Global, items: &[Value]) -> Result<Vec<BoundaryPublic>, FlatError>
@@ -20,7 +20,7 @@ fn cells_of(alloc: Global, items: &[Value]) -> Result<Vec<BoundaryPublic>, FlatE
 {
     let mut cells = Vec::new(alloc);
     for item in items {
-        let cell = cell_from(alloc, item)?;
+        let cell = cell_from(item)?;
         cells.push(cell)?;
     }
     Ok(cells)

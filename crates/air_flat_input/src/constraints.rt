@@ -1,9 +1,9 @@
 //! Constraints, each a list of base nodes, in one pool.
-ghost use Rattle.std.specs.Prelude.{◌≡◌, ◌<◌, [], length, map, All, IfOk};
+ghost use Rattle.std.specs.Prelude.{[]};
 ghost use Rattle.serde_json.specs.View.{view, items_view};
 ghost use Rattle.air_symbolic.specs.BaseLeaves.{base_reads, base_grows};
-ghost use Rattle.air_symbolic.specs.Pools.{IsPool, Grown, tree_at};
-ghost use Rattle.air_wire.specs.Results.{Gives};
+ghost use Rattle.air_symbolic.specs.Pools.{IsPool, tree_at};
+ghost use Rattle.air_wire.specs.Reads.{Reads, ReadsAll};
 ghost use Rattle.air_flat_input.specs.Readers.{each_from, tree, trees};
 
 use air_field::BabyBear;
@@ -12,28 +12,24 @@ use air_wire::{FlatError, from_flat_value};
 use serde_json::Value;
 use std::alloc::Global;
 
-fn root_from(
-    alloc: Global,
-    pool: &mut ExprPool<BaseLeaf<BabyBear>>,
-    value: &Value,
-) -> Result<ExprId<BaseLeaf<BabyBear>>, FlatError>
+/// The pool of the constraints, one of its expressions, and the roots of all.
+pub(crate) type BasePool = ExprPool<BaseLeaf<BabyBear>>;
+
+pub(crate) type BaseId = ExprId<BaseLeaf<BabyBear>>;
+
+pub(crate) type Roots = Vec<BaseId>;
+
+fn root_from(alloc: Global, pool: &mut BasePool, value: &Value) -> Result<BaseId, FlatError>
     requires { IsPool base_reads pool.old }
-    ensures grown { Grown base_grows base_reads pool.old pool.new }
-    ensures here { IfOk result (λ i. i < length pool.new.1) }
-    ensures read { Gives (tree_at pool.new) result (tree (view value.now)) }
+    ensures { Reads base_grows base_reads tree_at pool.old pool.new result
+        (tree (view value.now)) }
 {
     from_flat_value(alloc, pool, value)
 }
 
-fn roots_of(
-    alloc: Global,
-    pool: &mut ExprPool<BaseLeaf<BabyBear>>,
-    items: &[Value],
-) -> Result<Vec<ExprId<BaseLeaf<BabyBear>>>, FlatError>
+fn roots_of(alloc: Global, pool: &mut BasePool, items: &[Value]) -> Result<Roots, FlatError>
     requires { IsPool base_reads pool.old }
-    ensures grown { Grown base_grows base_reads pool.old pool.new }
-    ensures here { IfOk result (λ v. All (λ i. i < length pool.new.1) v.items) }
-    ensures read { Gives (λ v. map (tree_at pool.new) v.items) result
+    ensures { ReadsAll base_grows base_reads tree_at (λ v. v.items) pool.old pool.new result
         (each_from tree [] (items_view items.now)) }
 {
     let mut roots = Vec::new(alloc);
@@ -48,13 +44,12 @@ fn roots_of(
 #[tactic(auto, unfolding(crate::specs::Readers::trees))]
 pub(crate) fn roots_from(
     alloc: Global,
-    pool: &mut ExprPool<BaseLeaf<BabyBear>>,
+    pool: &mut BasePool,
     value: &Value,
-) -> Result<Vec<ExprId<BaseLeaf<BabyBear>>>, FlatError>
+) -> Result<Roots, FlatError>
     requires { IsPool base_reads pool.old }
-    ensures grown { Grown base_grows base_reads pool.old pool.new }
-    ensures here { IfOk result (λ v. All (λ i. i < length pool.new.1) v.items) }
-    ensures read { Gives (λ v. map (tree_at pool.new) v.items) result (trees (view value.now)) }
+    ensures { ReadsAll base_grows base_reads tree_at (λ v. v.items) pool.old pool.new result
+        (trees (view value.now)) }
 {
     let items = value.as_array().ok_or(FlatError::Shape { at: 0 })?;
     roots_of(alloc, pool, items)

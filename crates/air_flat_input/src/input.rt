@@ -5,7 +5,7 @@ ghost use Rattle.air_symbolic.specs.BaseLeaves.{base_reads};
 ghost use Rattle.air_symbolic.specs.Pools.{IsPool};
 ghost use Rattle.air_flat_input.specs.Input.{SpellsInput, HasInputFault};
 
-use crate::members::{Members, members_from};
+use crate::members::members_from;
 use air_field::{BabyBear, RowMajorMatrix};
 use air_symbolic::{BaseLeaf, ExprId, ExprPool};
 use air_windows::{AirError, BoundaryPublic};
@@ -44,26 +44,15 @@ pub fn flat_input_from(alloc: Global, value: &Value) -> Result<FlatInput, AirErr
     ensures refused { IfErr result (λ e. e ≢ AirError.Memory → HasInputFault (view value.now) e) }
 {
     let members = members_from(alloc, value)?;
-    let Members {
-        main_width,
-        main,
-        public_values,
-        pool,
-        roots,
-        periodic,
-        cells,
-        cap,
-        transition_weight,
-    } = members;
-    let main = RowMajorMatrix::new(main, main_width)?;
+    let main = RowMajorMatrix::new(members.main, members.main_width)?;
     Ok(FlatInput {
-        pool,
-        roots,
+        pool: members.pool,
+        roots: members.roots,
         main,
-        public_values,
-        periodic,
-        cells,
-        cap,
-        transition_weight,
+        public_values: members.public_values,
+        periodic: members.periodic,
+        cells: members.cells,
+        cap: members.cap,
+        transition_weight: members.transition_weight,
     })
 }

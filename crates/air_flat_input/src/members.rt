@@ -3,17 +3,18 @@ ghost use Rattle.std.specs.Prelude.{◌≡◌, ◌<◌, length, map, All, IfOk, 
 ghost use Rattle.serde_json.specs.Find.{get};
 ghost use Rattle.serde_json.specs.View.{view};
 ghost use Rattle.air_symbolic.specs.BaseLeaves.{base_reads, base_grows};
-ghost use Rattle.air_symbolic.specs.Pools.{IsPool, Grown, tree_at};
+ghost use Rattle.air_symbolic.specs.Pools.{IsPool, tree_at};
+ghost use Rattle.air_wire.specs.Reads.{ReadsAll};
 ghost use Rattle.air_wire.specs.Results.{Gives};
 ghost use Rattle.air_wire.specs.declared.errors.FlatError.TheVariants.{Shape};
 ghost use Rattle.air_flat_input.specs.Readers.{width_member, elements_member, constraints_member, periodic_member, boundary_member, cap_of, cap_member, weight_member, members_read};
 ghost use Rattle.air_flat_input.specs.Seen.{seen_members};
 
 use crate::cells::cells_from;
-use crate::constraints::roots_from;
+use crate::constraints::{BasePool, Roots, roots_from};
 use crate::elements::{columns_from, elements_from};
 use air_field::BabyBear;
-use air_symbolic::{BaseLeaf, ExprId, ExprPool};
+use air_symbolic::ExprPool;
 use air_windows::BoundaryPublic;
 use air_wire::{FlatError, whole};
 use serde_json::Value;
@@ -25,8 +26,8 @@ pub(crate) struct Members {
     pub main_width: usize,
     pub main: Vec<BabyBear>,
     pub public_values: Vec<BabyBear>,
-    pub pool: ExprPool<BaseLeaf<BabyBear>>,
-    pub roots: Vec<ExprId<BaseLeaf<BabyBear>>>,
+    pub pool: BasePool,
+    pub roots: Roots,
     pub periodic: Vec<Vec<BabyBear>>,
     pub cells: Vec<BoundaryPublic>,
     pub cap: Option<usize>,
@@ -55,15 +56,9 @@ fn elements_at(alloc: Global, value: &Value, name: &str) -> Result<Vec<BabyBear>
 }
 
 #[tactic(auto, unfolding(crate::specs::Readers::constraints_member))]
-fn constraints_from(
-    alloc: Global,
-    pool: &mut ExprPool<BaseLeaf<BabyBear>>,
-    value: &Value,
-) -> Result<Vec<ExprId<BaseLeaf<BabyBear>>>, FlatError>
+fn constraints_from(alloc: Global, pool: &mut BasePool, value: &Value) -> Result<Roots, FlatError>
     requires { IsPool base_reads pool.old }
-    ensures grown { Grown base_grows base_reads pool.old pool.new }
-    ensures here { IfOk result (λ v. All (λ i. i < length pool.new.1) v.items) }
-    ensures read { Gives (λ v. map (tree_at pool.new) v.items) result
+    ensures { ReadsAll base_grows base_reads tree_at (λ v. v.items) pool.old pool.new result
         (constraints_member (view value.now)) }
 {
     roots_from(alloc, pool, needed(value, "constraints")?)

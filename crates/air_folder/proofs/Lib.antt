@@ -1,4 +1,3 @@
 pub mod Roots
 pub mod FewHide
-pub mod Rows
 pub mod FoldedAirs

@@ -1,23 +1,10 @@
 -- The row that a folder stands at, and its growth.
-use Rattle.std.specs.Prelude.{◌≡◌, List, [], Option, None, Some}
+use Rattle.std.specs.Prelude.{◌≡◌, List}
 use Rattle.air_field.specs.Ring.{Over}
-use Rattle.air_field.specs.OneRow.{PermutationData}
-use Rattle.air_field.specs.declared.matrices.view.ViewPair.{ViewPair}
 use Rattle.air_builder.specs.Assertion.{Assertion}
+use Rattle.air_builder.specs.PermutationRows.{permutation_data}
 use Rattle.air_folder.specs.Folder.{FolderRow, GrewFolder}
 use Rattle.air_folder.specs.declared.folder.builder.ConstraintFolder.{ConstraintFolder}
-
--- the rows of the permutation trace; without one they have no columns
-abbrev pub permutation_row : {E : Type 0} → Option (ViewPair E) → List E
-permutation_row None = []
-permutation_row (Some p) = p.top.values.now
-
-abbrev pub next_permutation_row : {E : Type 0} → Option (ViewPair E) → List E
-next_permutation_row None = []
-next_permutation_row (Some p) = p.bottom.values.now
-
-abbrev pub permutation_data : {E : Type 0} → Option (ViewPair E) → List E → List E → PermutationData E
-permutation_data p challenges exposed = record { current = permutation_row p; next = next_permutation_row p; challenges = challenges; exposed = exposed }
 
 abbrev pub folder_row : {F E : Type 0} → ConstraintFolder F E → FolderRow E
 folder_row b = record {

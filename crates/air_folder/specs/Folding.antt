@@ -3,16 +3,15 @@ use Rattle.std.specs.Prelude.{◌≡◌, ◌⊎◌, ◌≤◌, ℕ, List, Bool, 
 use Rattle.air_field.specs.Ring.{CommRing, Over}
 use Rattle.air_field.specs.Term.{Leaf}
 use Rattle.air_field.specs.Value.{value}
-use Rattle.air_field.specs.Assignment.{IsMissing}
 use Rattle.air_symbolic.specs.BaseLeaves.{base_reads}
 use Rattle.air_symbolic.specs.ExtLeaves.{ext_reads}
 use Rattle.air_builder.specs.Assertion.{Assertion}
-use Rattle.air_builder.specs.Refusals.{NoneMissing}
+use Rattle.air_builder.specs.Declaration.{Declaration}
 use Rattle.air_windows.specs.declared.errors.AirError.{AirError}
 use Rattle.air_windows.specs.declared.errors.AirError.TheVariants.{Memory}
 use Rattle.air_recording.specs.Folds.{horner, recombination, ArePlacesOf, Recombines, values_at}
 use Rattle.air_recording.specs.Kinds.{kind_of}
-use Rattle.air_recording.specs.Layouts.{layout_shape}
+use Rattle.air_recording.specs.Layouts.{LayoutSuits}
 use Rattle.air_recording.specs.Recorded.{RecordsBase, RecordsExt, RecordRefuses, terms_of}
 use Rattle.air_recording.specs.declared.layouts.air_layout.AirLayout.{AirLayout}
 use Rattle.air_recording.specs.declared.symbolic.record.Recorded.{Recorded}
@@ -52,7 +51,6 @@ pub record GrewByBeginningOf {F E : Type 0} (a : Over F E) (b c : ConstraintFold
   pub beginning : FolderGrew a b c (take count ts)
 
 -- It refuses what the recording refuses; and then want of memory to the AIR itself, or an entry that the folder hasn't.
-abbrev pub FoldingRefuses : {F E : Type 0} → AirLayout → ℕ → ℕ → ℕ → FolderRow E → List (Assertion F) → AirError → Type 0
-FoldingRefuses layout width public periodic d ts e =
-    RecordRefuses layout width public periodic ts e
-    ⊎ (NoneMissing (IsMissing (layout_shape layout)) ts × ((e ≡ Memory) ⊎ FolderRefuses d e ts))
+abbrev pub FoldingRefuses : {F E : Type 0} → AirLayout → Declaration F → FolderRow E → AirError → Type 0
+FoldingRefuses layout d row e =
+    RecordRefuses layout d e ⊎ (LayoutSuits layout d × ((e ≡ Memory) ⊎ FolderRefuses row e d.declared))

@@ -1,8 +1,7 @@
 //! An AIR folded beside its recording.
-ghost use Rattle.std.specs.Prelude.{◌≡◌, length, IfOk, IfErr, OnOk, OnErr};
-ghost use Rattle.air_field.specs.Assignment.{IsMissing};
+ghost use Rattle.std.specs.Prelude.{◌≡◌, IfOk, IfErr, OnOk, OnErr};
 ghost use Rattle.air_builder.specs.Refusals.{NoneMissing};
-ghost use Rattle.air_recording.specs.Layouts.{layout_shape, FitsAir};
+ghost use Rattle.air_recording.specs.Layouts.{LayoutSuits};
 ghost use Rattle.air_folder.specs.Folder.{FolderMissing};
 ghost use Rattle.air_folder.specs.FolderRow.{folder_row};
 ghost use Rattle.air_folder.specs.Folding.{IsFolded, GrewByBeginningOf, FoldingRefuses};
@@ -47,20 +46,16 @@ pub fn fold_air<
 ) -> Result<Folded<F, EF>, AirError>
     requires from_zero { folder.old.accumulator ≡ EF.over.ring.nil }
     ensures folded { IfOk result (IsFolded F.ring F.eq EF.over EF.coefficients
-        (folder_row folder.old) (A.declared air.now)) }
+        (folder_row folder.old) (A.declaration air.now).declared) }
     ensures accumulator { IfOk result (λ f. folder.new.accumulator ≡ f.accumulator) }
     ensures row { folder_row folder.new ≡ folder_row folder.old }
-    ensures fits { OnOk result (FitsAir layout
-        (A.width air.now) (A.num_public_values air.now) (length (A.beside air.now).periodic)) }
-    ensures recorded { OnOk result
-        (NoneMissing (IsMissing (layout_shape layout)) (A.declared air.now)) }
-    ensures there { OnOk result
-        (NoneMissing (FolderMissing (folder_row folder.old)) (A.declared air.now)) }
-    ensures beginning { OnErr result (GrewByBeginningOf EF.over
-        folder.old folder.new (A.declared air.now)) }
-    ensures refused { IfErr result (FoldingRefuses layout
-        (A.width air.now) (A.num_public_values air.now) (length (A.beside air.now).periodic)
-        (folder_row folder.old) (A.declared air.now)) }
+    ensures layout { OnOk result (LayoutSuits layout (A.declaration air.now)) }
+    ensures there { OnOk result (NoneMissing (FolderMissing (folder_row folder.old))
+        (A.declaration air.now).declared) }
+    ensures beginning { OnErr result (GrewByBeginningOf EF.over folder.old folder.new
+        (A.declaration air.now).declared) }
+    ensures refused { IfErr result (FoldingRefuses layout (A.declaration air.now)
+        (folder_row folder.old)) }
 {
     let places = get_constraint_layout::<F, EF, A>(alloc, air, layout)?;
     let recorded = get_all_symbolic_constraints(alloc, air, layout)?;

@@ -1,14 +1,12 @@
--- lists that are made of other lists, element by element
-use Rattle.std.proofs.Common.{◌≡◌, ◌∙◌, ℕ, ◌+◌, ◌<◌, ◌≤◌, List, [], ◌∷◌, ◌++◌, length, map, take, get_or, sym, ap, ap₂}
-use Rattle.std.proofs.lemmas.List.{map_more, take_all}
+-- a sum of columns, listed each with the weight one
+use Rattle.std.proofs.Common.{◌≡◌, ◌∙◌, ℕ, List, map, Result, IfOk, ap, ap₂}
+use Rattle.std.proofs.lemmas.Result.{IfOk-weaker}
+use Rattle.std.proofs.lemmas.Simd.{map-map}
+use Rattle.air_gadgets.specs.declared.columns.pair_col.PairCol.{PairCol}
+use Rattle.air_gadgets.specs.Columns.{Combination, combination, sum_of}
 
-module _ {X Y : Type 0} (f : X → Y) (xs : List X) (i : ℕ) where
-  -- one more
-  pub one_more : (d : X) (y : Y) (made more : List Y) → i < length xs → y ≡ f (get_or xs i d)
-      → made ≡ map f (take i xs) → more ≡ made ++ y ∷ [] → more ≡ map f (take (i + 1) xs)
-  one_more d y made more h is before after =
-      after ∙ (ap₂ (λ l x. l ++ x ∷ []) before is ∙ sym (map_more f xs i d h))
-
-  -- all of them
-  pub all_made : (made : List Y) → length xs ≤ i → made ≡ map f (take i xs) → made ≡ map f xs
-  all_made made h before = before ∙ ap (map f) (take_all i xs h)
+pub summed : {F E : Type 0} {zero z : F} {items : List ℕ} (column : ℕ → PairCol) (one : F) (indices : List ℕ) (weights : List (ℕ × F)) → indices ≡ items → weights ≡ map (λ i. (i, one)) indices → z ≡ zero
+    → (r : Result (Combination F) E) → IfOk r (λ v. v ≡ combination (map (λ w. (column w.0, w.1)) weights) z) → IfOk r (λ v. v ≡ sum_of one zero column items)
+summed column one indices weights same listed none r made =
+    let all = ap (map (λ w. (column w.0, w.1))) listed ∙ (map-map (λ w. (column w.0, w.1)) (λ i. (i, one)) indices ∙ ap (map (λ i. (column i, one))) same) in
+    IfOk-weaker r _ _ (λ v e. e ∙ ap₂ combination all none) made

@@ -2,19 +2,10 @@
 use Rattle.std.specs.List.{AllZip}
 use Rattle.std.proofs.Common.{◌≡◌, ◌∙◌, ℕ, zero, suc, ◌-◌, ◌<◌, List, [], ◌∷◌, length, drop, get_or, refl, sym, ap, subst, arith}
 use Rattle.air_field.specs.Term.{Term, add_term}
-use Rattle.air_field.specs.Part.{Part, whole, in_add_left, in_add_right, in_sub_left, in_sub_right, in_neg, in_mul_left, in_mul_right}
+use Rattle.air_field.specs.Part.{Part, whole, in_add_left}
+use Rattle.air_field.specs.laws.Part.{part_in}
 use Rattle.air_field.specs.Algebra.{AlgebraLaws, MadeOf, MadeOfBoth, RefusedOf, RefusedOfBoth, double_term}
 use Rattle.air_gadgets.specs.Packing.{packed_from, packed_term, MadeOfPacked, RefusedOfPacked}
-
-joined_part : {F : Type 0} {s t u : Term F} → Part s t → Part t u → Part s u
-joined_part p whole = p
-joined_part p (in_add_left q) = in_add_left (joined_part p q)
-joined_part p (in_add_right q) = in_add_right (joined_part p q)
-joined_part p (in_sub_left q) = in_sub_left (joined_part p q)
-joined_part p (in_sub_right q) = in_sub_right (joined_part p q)
-joined_part p (in_neg q) = in_neg (joined_part p q)
-joined_part p (in_mul_left q) = in_mul_left (joined_part p q)
-joined_part p (in_mul_right q) = in_mul_right (joined_part p q)
 
 -- total means the terms from the i-th on, packed
 pub record Holds {E F : Type 0} (means : E → Term F → Type 0) (i : ℕ) (total : E) (ts : List (Term F)) : Type 0 where
@@ -113,7 +104,7 @@ module _ {R E F X : Type 0} {valid : R → Type 0} {has : R → E → Type 0} {m
       let at = placed (means first) j x xs ts m inside is in
       let l = h.holds ts m in
       laws.refuses_whole e (double_term (packed_from l.u l.us)) (packed_term none ts)
-      (joined_part (in_add_left whole) (part-packed none j ts at.t (l.u ∷ l.us) (at.place ∙ ap (λ r. at.t ∷ r) l.left)))
+      (part_in (in_add_left whole) (part-packed none j ts at.t (l.u ∷ l.us) (at.place ∙ ap (λ r. at.t ∷ r) l.left)))
       (refused (packed_from l.u l.us) l.total_means)
 
   pub adding_bit_refused : (first p q : R) (e : X) (j : ℕ) (total twice x : E) → j < length xs → x ≡ get_or xs j x → extends p q

@@ -3,11 +3,10 @@ use Rattle.std.specs.Prelude.{◌≡◌, ◌⊎◌, ◌<◌, ℕ, List, [], ◌�
 use Rattle.air_field.specs.Grid.{Grid, grid_of}
 use Rattle.air_field.specs.Modulo.{baby_bear_ring}
 use Rattle.air_field.specs.declared.fields.baby_bear.BabyBear.{BabyBear}
-use Rattle.air_builder.specs.Beside.{nothing_beside}
 use Rattle.air_report.specs.Given.{Given, given}
 use Rattle.p3_air.specs.Audits.{IsAuditUnder, IsDegreePast}
 use Rattle.p3_air.specs.declared.audit.Audit.{Audit}
-use Rattle.air_program.specs.Fibonacci.{fibonacci}
+use Rattle.air_program.specs.Fibonacci.{fibonacci_declaration}
 use Rattle.air_program.specs.Parsing.{residues}
 use Rattle.air_program.specs.Texts.{Found, found, IsFindingsText, findings_status}
 use Rattle.air_program.specs.Refusals.{IsRefusal}
@@ -20,16 +19,16 @@ own_coefficients x = x ∷ []
 abbrev pub found_by : Audit BabyBear → Found
 found_by audit = found (record { degree = audit.degree; report = audit.report })
 
--- What an audit under a cap, in a domain of weight w, finds of what is given: an AIR's declared
--- list, what it has beside the trace, and the trace.
+-- What an audit under a cap, in a domain of weight w, finds of what is given: what an AIR says of
+-- itself, and a trace.
 pub record AuditFinds (eq : BabyBear → BabyBear → Bool) (g : Given BabyBear) (cap : Option ℕ) (w : ℕ) (f : Found) : Type 0 where
   pub audit : Audit BabyBear
   pub is_audit : IsAuditUnder baby_bear_ring eq own_coefficients g cap w audit
   pub found_is : f ≡ found_by audit
 
--- Fibonacci on public values and a trace, with nothing beside it
+-- Fibonacci on public values and a trace
 abbrev pub given_fibonacci : Grid BabyBear → List BabyBear → Given BabyBear
-given_fibonacci main public = given fibonacci nothing_beside main public
+given_fibonacci main public = given fibonacci_declaration main public
 
 -- the text and the status of what an audit finds
 abbrev pub TellsFound : (BabyBear → BabyBear → Bool)

@@ -4,14 +4,13 @@ use Rattle.serde_json.specs.Data.{Data}
 use Rattle.serde_json.specs.Read.{read}
 use Rattle.air_field.specs.Modulo.{baby_bear_ring}
 use Rattle.air_field.specs.declared.fields.baby_bear.BabyBear.{BabyBear}
-use Rattle.air_builder.specs.Beside.{Beside}
+use Rattle.air_builder.specs.Declaration.{Declaration}
 use Rattle.air_flat.specs.FlatAirs.{zero_at_roots}
 use Rattle.air_flat_input.specs.Input.{SpellsInput, HasInputFault}
 use Rattle.air_flat_input.specs.declared.input.FlatInput.{FlatInput}
-use Rattle.air_recording.specs.declared.layouts.air_layout.AirLayout.{AirLayout}
 use Rattle.air_report.specs.Given.{Given, given}
 use Rattle.air_windows.specs.declared.errors.AirError.{AirError}
-use Rattle.p3_air.specs.Audits.{AuditRefusesUnder, own_layout}
+use Rattle.p3_air.specs.Audits.{AuditRefusesUnder}
 use Rattle.air_program.specs.Answer.{TellsFound}
 use Rattle.air_program.specs.Refusals.{IsRefusal, air_name}
 
@@ -31,21 +30,21 @@ Spells bytes input = (d : Data) × StandsFor bytes d × SpellsInput d input
 
 -- ---- from a value to what is found
 
--- periodic columns and cells, and no table
-abbrev pub flat_beside : FlatInput → Beside BabyBear
-flat_beside input =
-    record { preprocessed = None; periodic = input.periodic.items; cells = input.cells.items }
+-- that the roots are zero, as wide as the trace and with so many public values; periodic columns
+-- and cells, and no table
+abbrev pub flat_declaration : FlatInput → Declaration BabyBear
+flat_declaration input = record {
+  declared = zero_at_roots input.pool input.roots.items;
+  width = input.main.width;
+  num_public_values = length input.public_values.items;
+  preprocessed = None;
+  periodic = input.periodic.items;
+  cells = input.cells.items;
+}
 
--- that the roots are zero, on the input's trace
+-- that, on the input's trace
 abbrev pub given_flat : FlatInput → Given BabyBear
-given_flat input =
-    given (zero_at_roots input.pool input.roots.items) (flat_beside input)
-    input.main input.public_values.items
-
--- the layout of an AIR that is as wide as the trace, and has so many public values
-abbrev pub flat_layout : FlatInput → AirLayout
-flat_layout input =
-    own_layout (flat_beside input) input.main.width (length input.public_values.items)
+given_flat input = given (flat_declaration input) input.main input.public_values.items
 
 -- the text and the status of what its audit finds, under its cap and in a domain of its weight
 abbrev pub TellsInput : (BabyBear → BabyBear → Bool) → FlatInput → ℕ → List ℕ → Type 0
@@ -55,8 +54,7 @@ TellsInput eq input status text =
 -- what its audit refuses
 abbrev pub AuditRefusesInput : (BabyBear → BabyBear → Bool) → FlatInput → AirError → Type 0
 AuditRefusesInput eq input e =
-    AuditRefusesUnder baby_bear_ring eq (flat_layout input) (given_flat input)
-    input.cap input.transition_weight e
+    AuditRefusesUnder baby_bear_ring eq (given_flat input) input.cap input.transition_weight e
 
 -- the first refusal: of the reading and then of the matrix, where the value spells no input,
 -- else of the audit

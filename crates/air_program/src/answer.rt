@@ -4,7 +4,7 @@ ghost use Rattle.std.specs.Prelude.{◌≡◌, ◌⊎◌, ◌%◌, ◌<◌, ◌^
 ghost use Rattle.air_field.specs.Grid.{grid_of};
 ghost use Rattle.air_field.specs.Modulo.{baby_bear_ring};
 ghost use Rattle.air_report.specs.Given.{given};
-ghost use Rattle.p3_air.specs.Audits.{AuditRefusesUnder, own_layout};
+ghost use Rattle.p3_air.specs.Audits.{AuditRefusesUnder};
 ghost use Rattle.air_program.specs.Texts.{found, findings_status, IsFindingsText};
 ghost use Rattle.air_program.specs.Commands.{has_labels, trace};
 ghost use Rattle.air_program.specs.Grammar.{parse};
@@ -59,12 +59,10 @@ pub(crate) fn findings_of<
     transition_weight: usize,
 ) -> Result<Findings, AirError>
     ensures found { IfOk result (λ findings. AuditFinds ⟦<BabyBear as PartialEq>⟧.eq
-        (given (A.declared air.now) (A.beside air.now) main.now public_values.now)
+        (given (A.declaration air.now) main.now public_values.now)
         cap transition_weight (found findings)) }
     ensures refused { IfErr result (AuditRefusesUnder baby_bear_ring ⟦<BabyBear as PartialEq>⟧.eq
-        (own_layout (A.beside air.now) (A.width air.now) (A.num_public_values air.now))
-        (given (A.declared air.now) (A.beside air.now) main.now public_values.now)
-        cap transition_weight) }
+        (given (A.declaration air.now) main.now public_values.now) cap transition_weight) }
 {
     match audit_air_with_cap(alloc, air, main, public_values, cap, transition_weight) {
         Ok(audit) => Ok(Findings {

@@ -1,7 +1,6 @@
 //! Fibonacci: columns a and b, in which each row leads to the next.
 ghost use Rattle.std.specs.Prelude.{◌≡◌, true, false, if◌then◌else◌, []};
-ghost use Rattle.air_builder.specs.Beside.{nothing_beside};
-ghost use Rattle.air_program.specs.Fibonacci.{fibonacci};
+ghost use Rattle.air_program.specs.Fibonacci.{fibonacci_declaration};
 
 use p3_air::author::{
     Current, Equal, FirstRow, LastRow, Named, Next, Public, Sum, Transition, When, assert_all,
@@ -41,13 +40,7 @@ impl Fibonacci {
 }
 
 impl<F: Copy> BaseAir<F> for Fibonacci {
-    ghost declared = { λ _. fibonacci };
-
-    ghost width = { λ _. 2 };
-
-    ghost num_public_values = { λ _. 3 };
-
-    ghost beside = { λ _. nothing_beside };
+    ghost declaration = { λ _. fibonacci_declaration };
 
     fn width(&self) -> usize {
         2

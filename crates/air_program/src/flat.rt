@@ -52,25 +52,22 @@ fn audit_input(alloc: Global, input: FlatInput) -> Result<Findings, AirError>
         (given_flat input) input.cap input.transition_weight (found findings)) }
     ensures refused { IfErr result (AuditRefusesInput ⟦<BabyBear as PartialEq>⟧.eq input) }
 {
-    let FlatInput {
-        pool,
-        roots,
-        main,
-        public_values,
-        periodic,
-        cells,
-        cap,
-        transition_weight,
-    } = input;
     let air = FlatAir::new(
-        pool,
-        roots,
-        main.width(),
-        public_values.len(),
-        periodic,
-        cells,
+        input.pool,
+        input.roots,
+        input.main.width(),
+        input.public_values.len(),
+        input.periodic,
+        input.cells,
     );
-    findings_of(alloc, &air, &main, &public_values, cap, transition_weight)
+    findings_of(
+        alloc,
+        &air,
+        &input.main,
+        &input.public_values,
+        input.cap,
+        input.transition_weight,
+    )
 }
 
 /// The status and the text that answer a JSON object.

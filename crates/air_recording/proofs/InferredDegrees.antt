@@ -1,5 +1,6 @@
 -- The inferred degree of two lists of terms, worked out of their greatest degrees.
-use Rattle.std.proofs.Common.{◌≡◌, ◌≢◌, ℕ, ◌≤◌, ◌^◌, max, List, [], ◌∷◌, ◌++◌, refl, sym, ap, ◌∙◌, arith, Result, Ok, Err, OnOk, length, zero, suc, ◌<◌, ◌-◌, map, inl, inr, ◌⊎◌, ⊎_elim}
+use Rattle.std.proofs.Common.{◌≡◌, ◌≢◌, ◌==◌, true, false, ℕ, ◌≤◌, ◌^◌, max, List, [], ◌∷◌, ◌++◌, refl, sym, ap, ◌∙◌, arith, Result, Ok, Err, OnOk, length, zero, suc, ◌<◌, ◌-◌, map, inl, inr, ◌⊎◌, ⊎_elim}
+use Rattle.std.proofs.lemmas.Bool.{false≢true}
 use Rattle.std.proofs.Math.Nat.{max-eq_right, max-le, le-max_left, le-max_right}
 use Rattle.air_field.specs.Term.{Leaf, Term}
 use Rattle.air_field.specs.declared.errors.RingError.{RingError}
@@ -10,15 +11,15 @@ use Rattle.air_symbolic.specs.Leaves.{Leaves}
 use Rattle.air_symbolic.specs.Pools.{term_at}
 use Rattle.air_symbolic.specs.declared.pools.expr.SymbolicExpr.{SymbolicExpr}
 use Rattle.air_field.specs.Ring.{CommRing, Over, itself}
-use Rattle.air_builder.specs.Assertion.{Assertion}
+use Rattle.air_builder.specs.Declaration.{Declaration}
 use Rattle.air_windows.specs.Errors.{air_error}
-use Rattle.air_recording.specs.Inferred.{greatest_in, AnswersInferred, DegreeRefuses}
+use Rattle.air_recording.specs.Inferred.{periods_of, greatest_in, AnswersInferred, DegreeRefuses}
 use Rattle.air_recording.specs.Kinds.{base_terms, ext_terms}
 use Rattle.air_recording.specs.Layouts.{FitsAir}
 use Rattle.air_recording.specs.Recorded.{EachRecords, terms_of}
 use Rattle.air_recording.specs.declared.layouts.air_layout.AirLayout.{AirLayout}
 use Rattle.air_recording.specs.Bounds.{DegreesWithin}
-use Rattle.air_recording.proofs.Least.{each_within, greatest_within_all, greatest_for}
+use Rattle.air_recording.proofs.Least.{each_within, greatest_within_all, degree_for, greatest_for}
 use Rattle.air_field.specs.Degree.{degree_by, cached_weight, transition_weight, trace_weight, greatest_degree, quotient_degree, inferred_degree}
 
 max_assoc : (a b c : ℕ) → max a (max b c) ≡ max (max a b) c
@@ -32,15 +33,29 @@ greatest-append w [] vs = sym (max-eq_right (omega arith))
 greatest-append w (u ∷ us) vs = ap (λ x. max (degree_by w u) x) (greatest-append w us vs) ∙ max_assoc (degree_by w u) (greatest_degree w us) (greatest_degree w vs)
 
 -- where columns are periodic
-pub inferred_periodic : {F : Type 0} (n : ℕ) (periods : List ℕ) (us : List (Term F)) → periods ≢ [] → quotient_degree (greatest_degree (trace_weight n periods) us) n ≡ inferred_degree n periods us
+inferred_periodic : {F : Type 0} (n : ℕ) (periods : List ℕ) (us : List (Term F)) → periods ≢ [] → quotient_degree (greatest_degree (trace_weight n periods) us) n ≡ inferred_degree n periods us
 inferred_periodic n [] us h = absurd (h refl)
 inferred_periodic n (p ∷ periods) us h = refl
 
 -- where none is
-pub inferred_plain : {F : Type 0} (n : ℕ) (periods : List ℕ) (us vs : List (Term F)) → periods ≡ [] → max (quotient_degree (greatest_degree (trace_weight n periods) (us ++ vs)) n) (max (greatest_degree cached_weight us) (greatest_degree cached_weight vs)) ≡ inferred_degree n periods (us ++ vs)
+inferred_plain : {F : Type 0} (n : ℕ) (periods : List ℕ) (us vs : List (Term F)) → periods ≡ [] → max (quotient_degree (greatest_degree (trace_weight n periods) (us ++ vs)) n) (max (greatest_degree cached_weight us) (greatest_degree cached_weight vs)) ≡ inferred_degree n periods (us ++ vs)
 inferred_plain n [] us vs h =
     ap (max (quotient_degree (greatest_degree (trace_weight n []) (us ++ vs)) n)) (sym (greatest-append cached_weight us vs))
 inferred_plain n (p ∷ periods) us vs h = cc
+
+-- so it is answered, where there are periods
+pub answered_periodic : {F : Type 0} (n : ℕ) (periods : List ℕ) (us : List (Term F)) (greatest d : ℕ) → greatest ≡ greatest_degree (trace_weight n periods) us → greatest_degree (trace_weight n periods) us < 2 ^ 64 → d ≡ quotient_degree greatest n → false ≡ (length periods == 0) → AnswersInferred 0 n periods us (Ok d)
+answered_periodic n periods us greatest d is fits e some =
+    degree_for n periods us d (e ∙ (ap (λ m. quotient_degree m n) is ∙ inferred_periodic n periods us (λ none. false≢true (some ∙ ap (λ k. length k == 0) none)))) fits
+
+-- and where there are none
+pub answered_plain : {F : Type 0} (n : ℕ) (periods : List ℕ) (us vs : List (Term F)) (greatest d answer : ℕ) → greatest ≡ greatest_degree (trace_weight n periods) (us ++ vs) → greatest_degree (trace_weight n periods) (us ++ vs) < 2 ^ 64 → d ≡ quotient_degree greatest n → true ≡ (length periods == 0) → answer ≡ max d (max (greatest_degree cached_weight us) (greatest_degree cached_weight vs)) → AnswersInferred 0 n periods (us ++ vs) (Ok answer)
+answered_plain n periods us vs greatest d answer is fits e none h =
+    degree_for n periods (us ++ vs) answer (h ∙ (ap (λ k. max k (max (greatest_degree cached_weight us) (greatest_degree cached_weight vs))) (e ∙ ap (λ m. quotient_degree m n) is) ∙ inferred_plain n periods us vs (no_periods periods none))) fits
+  where
+    no_periods : (l : List ℕ) → true ≡ (length l == 0) → l ≡ []
+    no_periods [] h = refl
+    no_periods (x ∷ xs) h = Prim.grind arith
 
 -- what is answered of both sides is answered of the whole
 pub refused_left : {F : Type 0} (w : Leaf → ℕ) (us vs : List (Term F)) (e : RingError) → AnswersDegree (greatest_degree w us) (Err e) → AnswersDegree (greatest_degree w (us ++ vs)) (Err e)
@@ -71,9 +86,11 @@ weighted_answer (suc w) n periods us (Err Memory) some h fits = h
 weighted_answer (suc w) n periods us (Err DegreeOverflow) some h fits = h
 
 -- a refusal of the degree of what is recorded
-pub inferred_refused : {F E : Type 0} (r : CommRing F) (over : Over F E) (w n : ℕ) (periods : List ℕ) (layout : AirLayout) (width public : ℕ) (us vs : List (Term F)) (ts : List (Assertion F)) (e : RingError) → EachRecords (itself r) us (base_terms ts) → EachRecords over vs (ext_terms ts) → FitsAir layout width public (length periods) → AnswersInferred w n periods (us ++ vs) (Err e) → DegreeRefuses r over w n periods layout width public ts (air_error e)
-inferred_refused r over w n periods layout width public us vs ts Memory b x f h = inl (inr (f, tt))
-inferred_refused r over w n periods layout width public us vs ts DegreeOverflow b x f h =
+pub inferred_refused : {F E : Type 0} (r : CommRing F) (over : Over F E) (w n : ℕ) (layout : AirLayout) (d : Declaration F) (us vs : List (Term F)) (e : RingError)
+    → EachRecords (itself r) us (base_terms d.declared) → EachRecords over vs (ext_terms d.declared) → FitsAir layout d
+    → AnswersInferred w n (periods_of d.periodic) (us ++ vs) (Err e) → DegreeRefuses r over w n layout d (air_error e)
+inferred_refused r over w n layout d us vs Memory b x f h = inl (inr (f, tt))
+inferred_refused r over w n layout d us vs DegreeOverflow b x f h =
     inr (f, (refl, record { base = us; ext = vs; base_recorded = b; ext_recorded = x; past = h }))
 
 -- Where a degree bounds what is recorded, it bounds the base part too.

@@ -1,11 +1,9 @@
--- Weights by index in a list of powers, and indices below a total.
-use Rattle.std.proofs.Common.{◌≡◌, ℕ, zero, suc, ◌+◌, ◌-◌, ◌<◌, true, false, cond, leb, List, [], ◌∷◌, ◌++◌, length, map, get_or, All, Some, None, refl, sym, ap, ap₂, ◌∙◌, subst, arith, length-append}
+-- Weights by index in a list of powers.
+use Rattle.std.proofs.Common.{◌≡◌, ℕ, suc, ◌+◌, ◌-◌, ◌<◌, List, [], ◌∷◌, ◌++◌, length, map, get_or, All, refl, sym, ap, ap₂, ◌∙◌, subst, arith, length-append}
 use Rattle.std.proofs.lemmas.List.{get_or_append_left, get_or-append-add}
-use borrow.Author.Tests.{leb-false}
 use Rattle.air_field.specs.Ring.{CommRing}
 use Rattle.air_field.specs.Powers.{power, powers_of}
 use Rattle.air_recording.specs.Weights.{weights_of}
-use Rattle.air_recording.specs.Layouts.{first_past}
 use Rattle.air_recording.proofs.Tabulations.{IsTabulation, length-tabulation, get_or-tabulation}
 
 module _ {E : Type 0} (r : CommRing E) (alpha : E) where
@@ -33,18 +31,6 @@ module _ {E : Type 0} (r : CommRing E) (alpha : E) where
       ∙ (ap₂ (λ l is. map (λ i. get_or l (length l - 1 - i) r.nil) is) (lent ∙ are) same
       ∙ (ap (λ m. map (λ i. get_or (powers_of r alpha k) (m - 1 - i) r.nil) below) (length-powers k)
       ∙ (weights-by_index k r.nil below h ∙ ap (λ m. weights_of r alpha m below) counted)))
-
--- where none is at or past the total, all are below it
-pub below-none_past : (total : ℕ) (indices : List ℕ) → None ≡ first_past total indices → All (λ i. i < total) indices
-below-none_past total [] h = λ k d b. absurd (omega arith)
-below-none_past total (i ∷ indices) h = elim (leb total i) as (λ t. leb total i ≡ t → None ≡ cond t (Some i) (first_past total indices) → All (λ j. j < total) (i ∷ indices)) [
-  | true ↦ λ e n. absurd (cc)
-  | false ↦ λ e n. both (leb-false total i e) (below-none_past total indices n)
-] refl h
-  where
-    both : i < total → All (λ j. j < total) indices → All (λ j. j < total) (i ∷ indices)
-    both here rest zero d b = here
-    both here rest (suc k) d b = rest k d (omega arith)
 
 -- what holds of all of a joined list holds of all of each part
 pub All-left : (P : ℕ → Type 0) (xs ys : List ℕ) → All P (xs ++ ys) → All P xs

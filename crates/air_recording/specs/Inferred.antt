@@ -6,6 +6,7 @@ use Rattle.air_field.specs.Degree.{greatest_degree}
 use Rattle.air_field.specs.declared.errors.RingError.{RingError}
 use Rattle.air_field.specs.declared.errors.RingError.TheVariants.{Memory, DegreeOverflow}
 use Rattle.air_builder.specs.Assertion.{Assertion}
+use Rattle.air_builder.specs.Declaration.{Declaration}
 use Rattle.air_windows.specs.declared.errors.AirError.{AirError}
 use Rattle.air_windows.specs.declared.errors.AirError.TheVariants as air
 use Rattle.air_symbolic.specs.BaseLeaves.{base_reads}
@@ -31,18 +32,18 @@ abbrev pub recorded_terms : {F E : Type 0} → CommRing F → (F → F → Bool)
 recorded_terms r eq coefficients recorded =
     terms_of base_reads recorded.pool.0 recorded.base.items ++ terms_of (ext_reads r eq coefficients) recorded.pool recorded.ext.items
 
--- d is the degree inferred for n rows, in a domain of weight w, from terms that record what is declared: base terms over
--- the base field and over the extension, extension terms over the extension. For two rows and more it bounds the degrees
--- of their polynomials wherever the leaves' are within theirs.
-pub record IsInferred {F E : Type 0} (r : CommRing F) (over : Over F E) (w n : ℕ) (periods : List ℕ) (ts : List (Assertion F)) (d : ℕ) : Type 0 where
+-- The degree inferred for n rows, in a domain of weight w, from terms that record what an AIR declares: base terms over the
+-- base field and over the extension, extension terms over the extension. For two rows and more it bounds the degrees of
+-- their polynomials wherever the leaves' are within theirs.
+pub record IsInferred {F E : Type 0} (r : CommRing F) (over : Over F E) (w n : ℕ) (d : Declaration F) (degree : ℕ) : Type 0 where
   pub base : List (Term F)
   pub ext : List (Term F)
-  pub base_recorded : EachRecords (itself r) base (base_terms ts)
-  pub base_in_extension : EachRecords over base (base_terms ts)
-  pub ext_recorded : EachRecords over ext (ext_terms ts)
-  pub degree : IsDegreeFor w n periods (base ++ ext) d
-  pub base_bounded : 2 ≤ n → PolynomialsWithin (itself r) (leaf_degree w n periods) (polynomial_bound w d n) base
-  pub bounded : 2 ≤ n → PolynomialsWithin over (leaf_degree w n periods) (polynomial_bound w d n) (base ++ ext)
+  pub base_recorded : EachRecords (itself r) base (base_terms d.declared)
+  pub base_in_extension : EachRecords over base (base_terms d.declared)
+  pub ext_recorded : EachRecords over ext (ext_terms d.declared)
+  pub is_degree : IsDegreeFor w n (periods_of d.periodic) (base ++ ext) degree
+  pub base_bounded : 2 ≤ n → PolynomialsWithin (itself r) (leaf_degree w n (periods_of d.periodic)) (polynomial_bound w degree n) base
+  pub bounded : 2 ≤ n → PolynomialsWithin over (leaf_degree w n (periods_of d.periodic)) (polynomial_bound w degree n) (base ++ ext)
 
 -- the answer is the degree for n rows of these terms, in a domain of weight w; it is refused where their greatest degree,
 -- as the domain counts, passes `usize`, and for want of memory
@@ -61,8 +62,8 @@ pub record IsDegreeOver {F E : Type 0} (r : CommRing F) (over : Over F E) (weigh
 
 -- It refuses what the recording refuses, and, where the recording answers, a recorded degree past `usize`, as a domain of
 -- weight w counts degrees over n rows.
-abbrev pub DegreeRefuses : {F E : Type 0} → CommRing F → Over F E → ℕ → ℕ → List ℕ → AirLayout → ℕ → ℕ → List (Assertion F) → AirError → Type 0
-DegreeRefuses r over w n periods layout width public ts e =
-    RecordRefuses layout width public (length periods) ts e
-    ⊎ (FitsAir layout width public (length periods)
-    × ((e ≡ air.DegreeOverflow) × IsDegreeOver r over (domain_weight w n periods) ts))
+abbrev pub DegreeRefuses : {F E : Type 0} → CommRing F → Over F E → ℕ → ℕ → AirLayout → Declaration F → AirError → Type 0
+DegreeRefuses r over w n layout d e =
+    RecordRefuses layout d e
+    ⊎ (FitsAir layout d
+    × ((e ≡ air.DegreeOverflow) × IsDegreeOver r over (domain_weight w n (periods_of d.periodic)) d.declared))

@@ -1,7 +1,9 @@
 -- Layouts: as shapes, against what an AIR says it has, and of constraints.
-use Rattle.std.specs.Prelude.{◌≡◌, ◌≢◌, ℕ, ◌+◌, ◌<◌, ◌≤◌, ◌^◌, List, ◌++◌, All, Option, Some, vec_len, nat_le}
+use Rattle.std.specs.Prelude.{◌≡◌, ◌≢◌, ℕ, ◌+◌, ◌<◌, ◌≤◌, ◌^◌, List, length, ◌++◌, All, Option, Some, vec_len, nat_le}
 use Rattle.std.specs.List.{find}
-use Rattle.air_field.specs.Assignment.{Shape}
+use Rattle.air_field.specs.Assignment.{Shape, IsMissing}
+use Rattle.air_builder.specs.Declaration.{Declaration, table_width}
+use Rattle.air_builder.specs.Refusals.{NoneMissing}
 use Rattle.air_windows.specs.declared.errors.AirError.{AirError}
 use Rattle.air_windows.specs.declared.errors.AirError.TheVariants.{Memory, CountOverflow, LayoutMainWidth, LayoutPublicValues, LayoutPeriodicColumns, IndexPastTotal}
 use Rattle.air_recording.specs.declared.layouts.air_layout.AirLayout.{AirLayout}
@@ -19,36 +21,38 @@ layout_shape l = record {
   permutation_values = l.num_permutation_values;
 }
 
--- a preprocessed and a main trace of these widths, so many public values and periodic columns, and no permutation data
-abbrev pub air_layout : ℕ → ℕ → ℕ → ℕ → AirLayout
-air_layout preprocessed width public periodic = record {
-  preprocessed_width = preprocessed;
-  main_width = width;
-  num_public_values = public;
+-- the counts that an AIR says it has, and no permutation data
+abbrev pub air_layout : {F : Type 0} → Declaration F → AirLayout
+air_layout d = record {
+  preprocessed_width = table_width d.preprocessed;
+  main_width = d.width;
+  num_public_values = d.num_public_values;
   permutation_width = 0;
   num_permutation_challenges = 0;
   num_permutation_values = 0;
-  num_periodic_columns = periodic;
+  num_periodic_columns = length d.periodic;
 }
 
--- a main trace of this width and so many public values, and nothing else
-abbrev pub plain_layout : ℕ → ℕ → AirLayout
-plain_layout width public = air_layout 0 width public 0
-
--- the layout's counts are those that an AIR has
-pub record FitsAir (l : AirLayout) (width public periodic : ℕ) : Type 0 where
-  pub width_is : l.main_width ≡ width
-  pub public_is : l.num_public_values ≡ public
-  pub periodic_is : l.num_periodic_columns ≡ periodic
+-- the layout's counts are those that an AIR says it has; the preprocessed table itself decides how wide it is
+pub record FitsAir {F : Type 0} (l : AirLayout) (d : Declaration F) : Type 0 where
+  pub width_is : l.main_width ≡ d.width
+  pub public_is : l.num_public_values ≡ d.num_public_values
+  pub periodic_is : l.num_periodic_columns ≡ length d.periodic
 
 -- the first count, in this order, that isn't the AIR's
-abbrev pub LayoutRefuses : AirLayout → ℕ → ℕ → ℕ → AirError → Type 0
-LayoutRefuses l width public periodic (LayoutMainWidth layout air) = (layout ≡ l.main_width) × (air ≡ width) × (layout ≢ air)
-LayoutRefuses l width public periodic (LayoutPublicValues layout air) =
-    (l.main_width ≡ width) × (layout ≡ l.num_public_values) × (air ≡ public) × (layout ≢ air)
-LayoutRefuses l width public periodic (LayoutPeriodicColumns layout air) =
-    (l.main_width ≡ width) × (l.num_public_values ≡ public) × (layout ≡ l.num_periodic_columns) × (air ≡ periodic) × (layout ≢ air)
-LayoutRefuses l width public periodic _ = ⊥
+abbrev pub LayoutRefuses : {F : Type 0} → AirLayout → Declaration F → AirError → Type 0
+LayoutRefuses l d (LayoutMainWidth layout air) = (layout ≡ l.main_width) × (air ≡ d.width) × (layout ≢ air)
+LayoutRefuses l d (LayoutPublicValues layout air) =
+    (l.main_width ≡ d.width) × (layout ≡ l.num_public_values) × (air ≡ d.num_public_values) × (layout ≢ air)
+LayoutRefuses l d (LayoutPeriodicColumns layout air) =
+    (l.main_width ≡ d.width) × (l.num_public_values ≡ d.num_public_values)
+    × (layout ≡ l.num_periodic_columns) × (air ≡ length d.periodic) × (layout ≢ air)
+LayoutRefuses l d _ = ⊥
+
+-- The layout has the AIR's counts, and each entry that a declared term names.
+pub record LayoutSuits {F : Type 0} (l : AirLayout) (d : Declaration F) : Type 0 where
+  pub fits : FitsAir l d
+  pub there : NoneMissing (IsMissing (layout_shape l)) d.declared
 
 -- how many constraints there are
 abbrev pub constraint_count : ConstraintLayout → ℕ

@@ -11,6 +11,7 @@ use Rattle.air_symbolic.specs.Leaves.{Leaves}
 use Rattle.air_symbolic.specs.Pools.{IsPool, PoolMeans, term_at}
 use Rattle.air_symbolic.specs.declared.pools.expr.SymbolicExpr.{SymbolicExpr}
 use Rattle.air_builder.specs.Assertion.{Assertion}
+use Rattle.air_builder.specs.Declaration.{Declaration}
 use Rattle.air_windows.specs.declared.errors.AirError.{AirError}
 use Rattle.air_recording.specs.Kinds.{base_terms, ext_terms}
 use Rattle.air_recording.specs.Layouts.{layout_shape, FitsAir, LayoutRefuses}
@@ -50,7 +51,7 @@ pub record RecordsExt {U A F E : Type 0} (r : CommRing F) (over : Over F E) (rea
 
 -- A recording refuses the first count of the layout that isn't the AIR's; then want of memory, a declared term that names a
 -- missing entry, or one whose degree passes `usize`.
-abbrev pub RecordRefuses : {F : Type 0} → AirLayout → ℕ → ℕ → ℕ → List (Assertion F) → AirError → Type 0
-RecordRefuses layout width public periodic ts e =
-    LayoutRefuses layout width public periodic e
-    ⊎ (FitsAir layout width public periodic × Refused (IsMissing (layout_shape layout)) (IsOver cached_weight) (λ _. ⊥) e ts)
+abbrev pub RecordRefuses : {F : Type 0} → AirLayout → Declaration F → AirError → Type 0
+RecordRefuses layout d e =
+    LayoutRefuses layout d e
+    ⊎ (FitsAir layout d × Refused (IsMissing (layout_shape layout)) (IsOver cached_weight) (λ _. ⊥) e d.declared)

@@ -2,3 +2,4 @@
 pub mod Recording
 pub mod Spellings
 pub mod Bounds
+pub mod Layouts

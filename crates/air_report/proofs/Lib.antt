@@ -4,6 +4,4 @@ pub mod Reports
 pub mod CellsListed
 pub mod FailureLists
 pub mod OwnExtension
-pub mod ExtensionRows
-pub mod BaseRows
 pub mod EmptyLists

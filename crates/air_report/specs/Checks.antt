@@ -1,8 +1,7 @@
 -- What a check of a trace answers and refuses.
 use Rattle.std.specs.Prelude.{◌≡◌, ◌≢◌, ◌⊎◌, ℕ, ◌+◌, ◌<◌, List, [], ◌++◌, length, map, Bool, Option, None, slice_index_or}
 use Rattle.air_field.specs.Ring.{CommRing}
-use Rattle.air_field.specs.Assignment.{Trace, trace_shape, row_assignment, IsMissing}
-use Rattle.air_builder.specs.Assertion.{Assertion}
+use Rattle.air_field.specs.Assignment.{trace_shape, row_assignment, IsMissing}
 use Rattle.air_windows.specs.Boundary.{row_of}
 use Rattle.air_builder.specs.Refusals.{NoneMissing}
 use Rattle.air_windows.specs.declared.boundary.BoundaryPublic.{BoundaryPublic}
@@ -20,32 +19,36 @@ use Rattle.air_report.specs.declared.checks.check_first.CheckError.TheVariants.{
 use Rattle.air_report.specs.declared.debug.failure.ConstraintFailure.{ConstraintFailure}
 use Rattle.air_report.specs.declared.checks.report.ConstraintReport.{ConstraintReport}
 
+-- the trace has each entry that a declared term names
+abbrev pub HasEntries : {F : Type 0} → Given F → Type 0
+HasEntries g = NoneMissing (IsMissing (trace_shape (given_trace g))) g.declaration.declared
+
 -- The failures got the places of one row at which a term isn't zero, in order; the row has so many constraints.
-pub record CheckedRow {F : Type 0} (r : CommRing F) (eq : F → F → Bool) (trace : Trace F) (ts : List (Assertion F)) (row : ℕ) (fs gs : List ConstraintFailure) (count : ℕ) : Type 0 where
+pub record CheckedRow {F : Type 0} (r : CommRing F) (eq : F → F → Bool) (g : Given F) (row : ℕ) (fs gs : List ConstraintFailure) (count : ℕ) : Type 0 where
   pub more : List ConstraintFailure
   pub failures : gs ≡ fs ++ more
-  pub places : map failure_place more ≡ map (λ k. (row, k)) (nonzero_from r eq (row_assignment r trace row) 0 ts)
-  pub constraints : count ≡ length ts
+  pub places : map failure_place more ≡ map (λ k. (row, k)) (nonzero_from r eq (row_assignment r (given_trace g) row) 0 g.declaration.declared)
+  pub constraints : count ≡ length g.declaration.declared
 
--- The rows that a cap shows, and that they have what the terms name.
+-- The rows that a cap shows; where there is one, the trace has the entries.
 pub record RowsRan {F : Type 0} (r : CommRing F) (eq : F → F → Bool) (g : Given F) (cap : Option ℕ) (shown : ℕ) : Type 0 where
-  pub rows : IsRowsShown r eq (given_trace g) g.terms cap (height g) shown
-  pub there : 0 < shown → NoneMissing (IsMissing (trace_shape (given_trace g))) g.terms
+  pub rows : IsRowsShown r eq (given_trace g) g.declaration.declared cap (height g) shown
+  pub there : 0 < shown → HasEntries g
 
 -- The failures are the nonzero pairs of the rows that the cap shows.
 pub record CheckedRows {F : Type 0} (r : CommRing F) (eq : F → F → Bool) (g : Given F) (cap : Option ℕ) (fs : List ConstraintFailure) (count : ℕ) : Type 0 where
   pub shown : ℕ
   pub ran : RowsRan r eq g cap shown
-  pub places : map failure_place fs ≡ report_of r eq (given_trace g) g.terms shown
-  pub counted : count ≡ count_shown g.terms shown
+  pub places : map failure_place fs ≡ report_of r eq (given_trace g) g.declaration.declared shown
+  pub counted : count ≡ count_shown g.declaration.declared shown
 
 -- the shapes of what the check is given fit
 abbrev pub Fits : {F : Type 0} → Given F → Type 0
-Fits g = ShapesFit g.beside.periodic (height g) (table_height g.beside.preprocessed)
+Fits g = ShapesFit g.declaration.periodic (height g) (table_height g.declaration.preprocessed)
 
 -- the differing cells that a cap lists after the first n rows
 abbrev pub listed : {F : Type 0} → CommRing F → (F → F → Bool) → Given F → Option ℕ → ℕ → List (ℕ × BoundaryPublic)
-listed r eq g cap n = left_of cap (length (report_of r eq (given_trace g) g.terms n)) (differing r eq g.main g.public g.beside.cells)
+listed r eq g cap n = left_of cap (length (report_of r eq (given_trace g) g.declaration.declared n)) (differing r eq g.main g.public g.declaration.cells)
 
 -- The report of a check under a cap: the nonzero pairs of the rows that the cap shows, and then the differing cells, as
 -- many as the cap leaves. The shapes and the cells fit.
@@ -53,16 +56,16 @@ pub record IsReport {F : Type 0} (r : CommRing F) (eq : F → F → Bool) (g : G
   pub shapes : Fits g
   pub shown : ℕ
   pub ran : RowsRan r eq g cap shown
-  pub cells : CellsFit g.main g.public g.beside.cells
+  pub cells : CellsFit g.main g.public g.declaration.cells
   pub of_rows : List ConstraintFailure
-  pub places : map failure_place of_rows ≡ report_of r eq (given_trace g) g.terms shown
-  pub lists : ListsCells (height g) (count_shown g.terms shown) (listed r eq g cap shown) of_rows report.failures.items
+  pub places : map failure_place of_rows ≡ report_of r eq (given_trace g) g.declaration.declared shown
+  pub lists : ListsCells (height g) (count_shown g.declaration.declared shown) (listed r eq g cap shown) of_rows report.failures.items
   pub rows : report.total_rows ≡ height g
-  pub count : report.total_constraints_per_row ≡ count_shown g.terms shown
+  pub count : report.total_constraints_per_row ≡ count_shown g.declaration.declared shown
 
 -- a row refuses for want of memory, a term that names a missing entry, or a count that passes `usize`
 abbrev pub RowRefuses : {F : Type 0} → Given F → AirError → Type 0
-RowRefuses g e = Refused (IsMissing (trace_shape (given_trace g))) (λ _. ⊥) (IsFull 0) e g.terms
+RowRefuses g e = Refused (IsMissing (trace_shape (given_trace g))) (λ _. ⊥) (IsFull 0) e g.declaration.declared
 
 -- a row runs: the trace has rows, and the cap isn't reached before the first
 abbrev pub RowRuns : Option ℕ → ℕ → Type 0
@@ -76,51 +79,51 @@ RowsRefuse cap g e = (e ≡ Memory) ⊎ (RowRuns cap (height g) × RowRefuses g 
 pub record IsCellPastCount {F : Type 0} (r : CommRing F) (eq : F → F → Bool) (g : Given F) (cap : Option ℕ) : Type 0 where
   pub shown : ℕ
   pub ran : RowsRan r eq g cap shown
-  pub cells : CellsFit g.main g.public g.beside.cells
-  pub past : IsListedPast (count_shown g.terms shown) (listed r eq g cap shown)
+  pub cells : CellsFit g.main g.public g.declaration.cells
+  pub past : IsListedPast (count_shown g.declaration.declared shown) (listed r eq g cap shown)
 
 -- the rows ran, and then the cells had this fault
 abbrev pub RefusesCells : {F : Type 0} → CommRing F → (F → F → Bool) → Given F → Option ℕ → AirError → Type 0
-RefusesCells r eq g cap e = (shown : ℕ) × RowsRan r eq g cap shown × IsCellFault g.main g.public g.beside.cells e
+RefusesCells r eq g cap e = (shown : ℕ) × RowsRan r eq g cap shown × IsCellFault g.main g.public g.declaration.cells e
 
 -- A check of a whole trace refuses the first shape that doesn't fit; then what its rows refuse, where one runs; then the first cell that
 -- doesn't fit; then a listed cell whose place passes `usize`. Want of memory comes after the shapes.
 abbrev pub CheckRefuses : {F : Type 0} → CommRing F → (F → F → Bool) → Given F → Option ℕ → AirError → Type 0
-CheckRefuses r eq g cap e = IsShapeFault g.beside.periodic (height g) (table_height g.beside.preprocessed) e
+CheckRefuses r eq g cap e = IsShapeFault g.declaration.periodic (height g) (table_height g.declaration.preprocessed) e
     ⊎ (Fits g × (RowsRefuse cap g e ⊎ (RefusesCells r eq g cap e ⊎ ((e ≡ CountOverflow) × IsCellPastCount r eq g cap))))
 
 -- each cell fits and holds its public value
 pub record CellsAgree {F : Type 0} (r : CommRing F) (eq : F → F → Bool) (g : Given F) : Type 0 where
-  pub fit : CellsFit g.main g.public g.beside.cells
-  pub agree : AgreeBelow r eq g.main g.public g.beside.cells (length g.beside.cells)
+  pub fit : CellsFit g.main g.public g.declaration.cells
+  pub agree : AgreeBelow r eq g.main g.public g.declaration.cells (length g.declaration.cells)
 
 -- The trace keeps the constraints: no cell differs, and no pair of row and place is nonzero.
 pub record IsKept {F : Type 0} (r : CommRing F) (eq : F → F → Bool) (g : Given F) : Type 0 where
   pub shapes : Fits g
   pub cells : CellsAgree r eq g
-  pub none : report_of r eq (given_trace g) g.terms (height g) ≡ []
-  pub there : 0 < height g → NoneMissing (IsMissing (trace_shape (given_trace g))) g.terms
+  pub none : report_of r eq (given_trace g) g.declaration.declared (height g) ≡ []
+  pub there : 0 < height g → HasEntries g
 
 -- The first differing cell, and its row.
 pub record IsMismatch {F : Type 0} (r : CommRing F) (eq : F → F → Bool) (g : Given F) (row index : ℕ) : Type 0 where
   pub shapes : Fits g
-  pub cells : CellsFit g.main g.public g.beside.cells
-  pub first : IsFirstDiffering r eq g.main g.public g.beside.cells index
-  pub row_is : (d : BoundaryPublic) → row ≡ row_of (slice_index_or g.beside.cells index d).end (height g)
+  pub cells : CellsFit g.main g.public g.declaration.cells
+  pub first : IsFirstDiffering r eq g.main g.public g.declaration.cells index
+  pub row_is : (d : BoundaryPublic) → row ≡ row_of (slice_index_or g.declaration.cells index d).end (height g)
 
 -- No cell differs; this is the least row with a nonzero pair, and these are all of its pairs.
 pub record IsFailedRow {F : Type 0} (r : CommRing F) (eq : F → F → Bool) (g : Given F) (row : ℕ) (fs : List ConstraintFailure) : Type 0 where
   pub shapes : Fits g
   pub cells : CellsAgree r eq g
   pub within : row < height g
-  pub before : report_of r eq (given_trace g) g.terms row ≡ []
-  pub places : map failure_place fs ≡ report_of r eq (given_trace g) g.terms (row + 1)
+  pub before : report_of r eq (given_trace g) g.declaration.declared row ≡ []
+  pub places : map failure_place fs ≡ report_of r eq (given_trace g) g.declaration.declared (row + 1)
   pub some : fs ≢ []
 
 -- The shapes are looked at first, then the cells are validated and compared, and then rows run.
 abbrev pub FirstCheckRefuses : {F : Type 0} → CommRing F → (F → F → Bool) → Given F → AirError → Type 0
-FirstCheckRefuses r eq g e = IsShapeFault g.beside.periodic (height g) (table_height g.beside.preprocessed) e
-    ⊎ (Fits g × (IsCellFault g.main g.public g.beside.cells e ⊎ (CellsAgree r eq g × RowsRefuse None g e)))
+FirstCheckRefuses r eq g e = IsShapeFault g.declaration.periodic (height g) (table_height g.declaration.preprocessed) e
+    ⊎ (Fits g × (IsCellFault g.main g.public g.declaration.cells e ⊎ (CellsAgree r eq g × RowsRefuse None g e)))
 
 -- what a check up to the first fault answers where it isn't Ok
 abbrev pub IsFirstError : {F : Type 0} → CommRing F → (F → F → Bool) → Given F → CheckError → Type 0

@@ -2,17 +2,15 @@
 use Rattle.std.specs.Prelude.{ℕ, List, [], length, map, Option, None, Some}
 use Rattle.air_field.specs.Grid.{Grid}
 use Rattle.air_field.specs.Assignment.{Trace}
-use Rattle.air_builder.specs.Assertion.{Assertion}
-use Rattle.air_builder.specs.Beside.{Beside}
+use Rattle.air_builder.specs.Declaration.{Declaration}
 
 pub record Given (F : Type 0) : Type 0 where
-  pub terms : List (Assertion F)
-  pub beside : Beside F
+  pub declaration : Declaration F
   pub main : Grid F
   pub public : List F
 
-abbrev pub given : {F : Type 0} → List (Assertion F) → Beside F → Grid F → List F → Given F
-given terms beside main public = record { terms = terms; beside = beside; main = main; public = public }
+abbrev pub given : {F : Type 0} → Declaration F → Grid F → List F → Given F
+given d main public = record { declaration = d; main = main; public = public }
 
 -- the table's rows; without a table there are no columns and no rows
 abbrev pub table_grid : {F : Type 0} → Option (Grid F) → Grid F
@@ -26,7 +24,7 @@ height g = length g.main.rows
 abbrev pub given_trace : {F : Type 0} → Given F → Trace F
 given_trace g = record {
   main_trace = g.main;
-  preprocessed_trace = table_grid g.beside.preprocessed;
-  periodic_columns = map (λ column. column.items) g.beside.periodic;
+  preprocessed_trace = table_grid g.declaration.preprocessed;
+  periodic_columns = map (λ column. column.items) g.declaration.periodic;
   public_values = g.public;
 }

@@ -1,8 +1,8 @@
 //! Evaluation of an AIR on one concrete row.
 
 pub mod builder;
-pub mod builder_impl;
-pub mod extension;
+mod builder_impl;
+mod extension;
 pub mod failure;
 mod logging;
-pub mod named;
+mod named;

@@ -179,3 +179,10 @@ module _ {U A F : Type 0} (r : CommRing F) (eq : F → F → Bool) (reads : U �
 
 pub drop_item : {X : Type 0} (l : List X) (i : ℕ) (x : X) → i < length l → x ≡ get_or l i x → drop i l ≡ x ∷ drop (i + 1) l
 drop_item l i x h is = drop-cons l i x h ∙ (ap (λ y. y ∷ drop (suc i) l) (sym is) ∙ ap (λ n. x ∷ drop n l) (sym (add-one i)))
+
+-- The item at place i begins what is left from there on, and is of the pool.
+module _ {U A F W : Type 0} {r : CommRing F} {reads : U → Leaves A F} {grows : U → U → Type 0} {empty : U} (laws : LeafLaws r reads grows empty) {Rest : W → U → Tree A → List (Tree A) → Type 0} {Goal : W → U → Type 0} {p s : U × List (SymbolicExpr A)} {total x : ℕ} (rest : List ℕ) (i : ℕ) where
+  pub next_in : i < length rest → x ≡ get_or rest i x → IsJoining reads grows Rest Goal p s total (drop i rest) → x < length s.1
+  next_in b is h =
+      let k = left-is _ _ (drop_item rest i x b is) h in
+      here-kept r reads grows empty laws p s x k.grown (k.left_in 0 x (omega arith))

@@ -13,7 +13,7 @@ use Rattle.air_symbolic.specs.laws.Pools.{here-kept, tree-kept}
 use Rattle.air_symbolic.specs.laws.Numbers.{tree_of-whole, term_of-kept}
 use Rattle.air_symbolic.specs.Folds.{IsFolded}
 use Rattle.air_symbolic.specs.FoldedLists.{JoinedFrom, IsJoined, SumStep, ProductStep, IsSumOfAll, IsProductOfAll}
-use Rattle.air_symbolic.proofs.Folding.{sum-stands, product-stands}
+use Rattle.air_symbolic.proofs.Folding.{operation-stands, sum, product}
 use Rattle.air_symbolic.specs.declared.pools.expr.SymbolicExpr.{SymbolicExpr}
 use Rattle.air_symbolic.specs.declared.pools.fold.Fold.{Fold}
 use Rattle.air_symbolic.specs.declared.pools.fold.Fold.TheVariants.{Constant, Left, Right, Negated}
@@ -72,7 +72,7 @@ module _ {U A F : Type 0} (r : CommRing F) (eq : F → F → Bool) (decides : (x
   IsSumOfAll-stands xs h z m =
       subst (λ ts. Stands r (term_at reads q z) (join_terms add_term r.nil ts)) (terms-kept xs h)
       (joined-stands r (reads q.0) add_term (SumStep r eq (reads q.0)) (Stands-add r)
-      (λ t u v ht hu s. sum-stands r eq decides (reads q.0) (reads q.0) (laws.constant_is q.0) (laws.keeps q.0 q.0 (laws.same q.0)) t u ht hu v s)
+      (λ t u v ht hu s. operation-stands r (reads q.0) (reads q.0) (laws.constant_is q.0) (laws.keeps q.0 q.0 (laws.same q.0)) (sum decides (reads q.0)) t u ht hu v s)
       (λ t u v ht hu s. IsFolded-whole (reads q.0) t u (add_tree t u) v _ ht hu (ht, hu) s)
       r.nil (map (tree_at p) xs) (tree_at q z) (trees-whole xs h) m.tree)
 
@@ -80,6 +80,6 @@ module _ {U A F : Type 0} (r : CommRing F) (eq : F → F → Bool) (decides : (x
   IsProductOfAll-stands xs h z m =
       subst (λ ts. Stands r (term_at reads q z) (join_terms mul_term r.one ts)) (terms-kept xs h)
       (joined-stands r (reads q.0) mul_term (ProductStep r eq (reads q.0)) (Stands-mul r)
-      (λ t u v ht hu s. product-stands r eq decides (reads q.0) (reads q.0) (laws.constant_is q.0) (laws.keeps q.0 q.0 (laws.same q.0)) t u ht hu v s.1)
+      (λ t u v ht hu s. operation-stands r (reads q.0) (reads q.0) (laws.constant_is q.0) (laws.keeps q.0 q.0 (laws.same q.0)) (product decides (reads q.0)) t u ht hu v s.1)
       (λ t u v ht hu s. IsFolded-whole (reads q.0) t u (mul_tree t u) v _ ht hu (ht, hu) s.1)
       r.one (map (tree_at p) xs) (tree_at q z) (trees-whole xs h) m.tree)

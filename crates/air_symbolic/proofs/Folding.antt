@@ -1,15 +1,16 @@
 -- A folded operation stands for its term.
-use Rattle.std.proofs.Common.{Decides, ℕ, ◌<◌, List, length, ◌≡◌, Bool, true, false, cond, refl, sym, ap, subst, ◌∙◌, arith}
+use Rattle.std.proofs.Common.{Result, IfOk, Decides, ℕ, ◌<◌, List, length, ◌≡◌, Bool, true, false, cond, refl, sym, ap, ap₂, subst, ◌∙◌, arith}
+use Rattle.std.proofs.lemmas.Result.{IfOk-weaker}
 use Rattle.std.specs.Prelude.{Option, None, Some}
-use Rattle.air_field.specs.Ring.{CommRing}
+use Rattle.air_field.specs.Ring.{CommRing, minus}
 use Rattle.air_field.specs.Term.{Term, const_term, add_term, sub_term, neg_term, mul_term}
 use Rattle.air_field.specs.Same.{Same, same_refl, same_trans, same_add, same_sub, same_neg, same_mul, const_add, const_sub, const_neg, const_mul, zero_add, add_zero, zero_sub, sub_zero, zero_mul, mul_zero, one_mul, mul_one, Stands}
 use Rattle.air_field.specs.laws.Degree.{Stands-refl}
 use Rattle.air_symbolic.specs.Leaves.{Leaves, Keeps, LeafLaws}
 use Rattle.air_symbolic.specs.Trees.{Tree, nothing, leaf_tree, add_tree, sub_tree, neg_tree, mul_tree, term_of, IsWhole, tree_constant}
 use Rattle.air_symbolic.specs.laws.Numbers.{term_of-kept, tree_of-whole}
-use Rattle.air_symbolic.specs.Pools.{IsPool, tree_at, term_at, IsConst}
-use Rattle.air_symbolic.specs.Folds.{sum_fold, difference_fold, product_fold, negative_fold, IsFolded, IsSum, IsDifference, IsProduct, IsNegative}
+use Rattle.air_symbolic.specs.Pools.{IsPool, Grown, tree_at, term_at, constant_at, IsConst, HasTree, HasConst}
+use Rattle.air_symbolic.specs.Folds.{zero_fold, sum_fold, difference_fold, product_fold, negative_fold, IsFolded, HasFold, IsOperation}
 use Rattle.air_symbolic.specs.declared.pools.expr.SymbolicExpr.{SymbolicExpr}
 use Rattle.air_symbolic.specs.declared.pools.fold.Fold.{Fold}
 use Rattle.air_symbolic.specs.declared.pools.fold.Fold.TheVariants.{Constant, Left, Right, Negated}
@@ -31,30 +32,14 @@ module _ {F : Type 0} (r : CommRing F) where
   cond-stands true x y z f g h k = h refl
   cond-stands false x y z f g h k = k
 
-  negative_fold-stands : (o : Option F) (x : Term F) → IsKnown r x o → FoldStands r x x (neg_term x) (negative_fold r o)
-  negative_fold-stands (Some a) x h = same_trans const_neg (same_neg (h a refl))
-  negative_fold-stands None x h = tt
+  negative_fold-stands : (o : Option F) (x y : Term F) → IsKnown r x o → FoldStands r x y (neg_term x) (negative_fold r o)
+  negative_fold-stands (Some a) x y h = same_trans const_neg (same_neg (h a refl))
+  negative_fold-stands None x y h = tt
 
 module _ {F : Type 0} (r : CommRing F) (eq : F → F → Bool) (decides : (x y : F) → Decides (eq x y) (x ≡ y)) where
   -- the fold f where the operand u, the constant a, is b
   tested-stands : (a b : F) (u x y z : Term F) (f g : Option (Fold F)) → IsKnown r u (Some a) → (Same r (const_term b) u → FoldStands r x y z f) → FoldStands r x y z g → FoldStands r x y z (cond (eq a b) f g)
   tested-stands a b u x y z f g h k = cond-stands r (eq a b) x y z f g (λ e. k (h b (ap (λ (c : F). Some c) ((decides a b).0 e))))
-
-  sum_fold-stands : (o p : Option F) (x y : Term F) → IsKnown r x o → IsKnown r y p → FoldStands r x y (add_term x y) (sum_fold r eq o p)
-  sum_fold-stands (Some a) (Some b) x y h k = same_trans const_add (same_add (h a refl) (k b refl))
-  sum_fold-stands (Some a) None x y h k =
-      tested-stands a r.nil x x y _ (Some Right) None h (λ c. record { same = same_trans zero_add (same_add c same_refl); light = λ w. omega arith }) tt
-  sum_fold-stands None (Some b) x y h k =
-      tested-stands b r.nil y x y _ (Some Left) None k (λ c. record { same = same_trans add_zero (same_add same_refl c); light = λ w. omega arith }) tt
-  sum_fold-stands None None x y h k = tt
-
-  difference_fold-stands : (o p : Option F) (x y : Term F) → IsKnown r x o → IsKnown r y p → FoldStands r x y (sub_term x y) (difference_fold r eq o p)
-  difference_fold-stands (Some a) (Some b) x y h k = same_trans const_sub (same_sub (h a refl) (k b refl))
-  difference_fold-stands (Some a) None x y h k =
-      tested-stands a r.nil x x y _ (Some Negated) None h (λ c. record { same = same_trans zero_sub (same_sub c same_refl); light = λ w. omega arith }) tt
-  difference_fold-stands None (Some b) x y h k =
-      tested-stands b r.nil y x y _ (Some Left) None k (λ c. record { same = same_trans sub_zero (same_sub same_refl c); light = λ w. omega arith }) tt
-  difference_fold-stands None None x y h k = tt
 
   product_fold-stands : (o p : Option F) (x y : Term F) → IsKnown r x o → IsKnown r y p → FoldStands r x y (mul_term x y) (product_fold r eq o p)
   product_fold-stands (Some a) (Some b) x y h k = same_trans const_mul (same_mul (h a refl) (k b refl))
@@ -66,7 +51,48 @@ module _ {F : Type 0} (r : CommRing F) (eq : F → F → Bool) (decides : (x y :
       (tested-stands b r.one y x y _ (Some Left) None k (λ c. record { same = same_trans mul_one (same_mul same_refl c); light = λ w. omega arith }) tt)
   product_fold-stands None None x y h k = tt
 
-module _ {A F : Type 0} (r : CommRing F) (eq : F → F → Bool) (decides : (x y : F) → Decides (eq x y) (x ≡ y)) (l m : Leaves A F) (constant_is : (a : A) (c : F) → l.valid a → l.constant a ≡ Some c → Same r (const_term c) (l.term a)) (k : Keeps l m) where
+  zero_fold-stands : (op : F → F → F) (from_zero : Fold F) (term : Term F → Term F → Term F)
+      → ((a b : F) (x y : Term F) → Same r (const_term a) x → Same r (const_term b) y → Same r (const_term (op a b)) (term x y))
+      → ((x y : Term F) → Same r (const_term r.nil) x → FoldStands r x y (term x y) (Some from_zero))
+      → ((x y : Term F) → Same r (const_term r.nil) y → Stands r x (term x y))
+      → (o p : Option F) (x y : Term F) → IsKnown r x o → IsKnown r y p → FoldStands r x y (term x y) (zero_fold r eq op from_zero o p)
+  zero_fold-stands op from_zero term known left_zero right_zero (Some a) (Some b) x y h k = known a b x y (h a refl) (k b refl)
+  zero_fold-stands op from_zero term known left_zero right_zero (Some a) None x y h k = tested-stands a r.nil x x y _ (Some from_zero) None h (left_zero x y) tt
+  zero_fold-stands op from_zero term known left_zero right_zero None (Some b) x y h k = tested-stands b r.nil y x y _ (Some Left) None k (right_zero x y) tt
+  zero_fold-stands op from_zero term known left_zero right_zero None None x y h k = tt
+
+  sum_fold-stands : (o p : Option F) (x y : Term F) → IsKnown r x o → IsKnown r y p → FoldStands r x y (add_term x y) (sum_fold r eq o p)
+  sum_fold-stands =
+      zero_fold-stands r.add Right add_term (λ a b x y h k. same_trans const_add (same_add h k))
+      (λ x y c. record { same = same_trans zero_add (same_add c same_refl); light = λ w. omega arith })
+      (λ x y c. record { same = same_trans add_zero (same_add same_refl c); light = λ w. omega arith })
+
+  difference_fold-stands : (o p : Option F) (x y : Term F) → IsKnown r x o → IsKnown r y p → FoldStands r x y (sub_term x y) (difference_fold r eq o p)
+  difference_fold-stands =
+      zero_fold-stands (minus r) Negated sub_term (λ a b x y h k. same_trans const_sub (same_sub h k))
+      (λ x y c. record { same = same_trans zero_sub (same_sub c same_refl); light = λ w. omega arith })
+      (λ x y c. record { same = same_trans sub_zero (same_sub same_refl c); light = λ w. omega arith })
+
+-- What an operation is: a node over its operands, what it folds to, and its term.
+pub record Operates {A F : Type 0} (r : CommRing F) (l : Leaves A F) (node : Tree A → Tree A → Tree A) (fold : Option F → Option F → Option (Fold F)) (term : Term F → Term F → Term F) : Type 0 where
+  pub whole : (t u : Tree A) → IsWhole l.valid t → IsWhole l.valid u → IsWhole l.valid (node t u)
+  pub means : (t u : Tree A) → term_of l.term (node t u) ≡ term (term_of l.term t) (term_of l.term u)
+  pub stands : (o p : Option F) (x y : Term F) → IsKnown r x o → IsKnown r y p → FoldStands r x y (term x y) (fold o p)
+
+module _ {A F : Type 0} {r : CommRing F} {eq : F → F → Bool} (decides : (x y : F) → Decides (eq x y) (x ≡ y)) (l : Leaves A F) where
+  pub sum : Operates r l add_tree (sum_fold r eq) add_term
+  sum = record { whole = λ t u h k. (h, k); means = λ t u. refl; stands = sum_fold-stands r eq decides }
+
+  pub difference : Operates r l sub_tree (difference_fold r eq) sub_term
+  difference = record { whole = λ t u h k. (h, k); means = λ t u. refl; stands = difference_fold-stands r eq decides }
+
+  pub product : Operates r l mul_tree (product_fold r eq) mul_term
+  product = record { whole = λ t u h k. (h, k); means = λ t u. refl; stands = product_fold-stands r eq decides }
+
+pub negative : {A F : Type 0} (r : CommRing F) (l : Leaves A F) → Operates r l (λ t _. neg_tree t) (λ o _. negative_fold r o) (λ x _. neg_term x)
+negative r l = record { whole = λ t u h k. h; means = λ t u. refl; stands = λ o p x y h k. negative_fold-stands r o x y h }
+
+module _ {A F : Type 0} (r : CommRing F) (l m : Leaves A F) (constant_is : (a : A) (c : F) → l.valid a → l.constant a ≡ Some c → Same r (const_term c) (l.term a)) (k : Keeps l m) where
   const-is : (t : Tree A) → IsWhole l.valid t → (a : F) → tree_constant l.constant t ≡ Some a → Same r (const_term a) (term_of l.term t)
   const-is nothing h a e = absurd h
   const-is (leaf_tree x) h a e = constant_is x a h e
@@ -92,36 +118,47 @@ module _ {A F : Type 0} (r : CommRing F) (eq : F → F → Bool) (decides : (x y
   folded-stands t u node v (Some Right) ht hu hn s h = by_tree v u (term_of l.term node) h hu s
   folded-stands t u node v (Some Negated) ht hu hn s h = by_tree v (neg_tree u) (term_of l.term node) h hu s
 
-  module _ (t u : Tree A) (ht : IsWhole l.valid t) (hu : IsWhole l.valid u) (v : Tree A) where
-    pub sum-stands : IsFolded m t u (add_tree t u) (sum_fold r eq (tree_constant l.constant t) (tree_constant l.constant u)) v → Stands r (term_of m.term v) (add_term (term_of l.term t) (term_of l.term u))
-    sum-stands = folded-stands t u (add_tree t u) v _ ht hu (ht, hu) (sum_fold-stands r eq decides _ _ _ _ (const-is t ht) (const-is u hu))
-
-    pub difference-stands : IsFolded m t u (sub_tree t u) (difference_fold r eq (tree_constant l.constant t) (tree_constant l.constant u)) v → Stands r (term_of m.term v) (sub_term (term_of l.term t) (term_of l.term u))
-    difference-stands = folded-stands t u (sub_tree t u) v _ ht hu (ht, hu) (difference_fold-stands r eq decides _ _ _ _ (const-is t ht) (const-is u hu))
-
-    pub product-stands : IsFolded m t u (mul_tree t u) (product_fold r eq (tree_constant l.constant t) (tree_constant l.constant u)) v → Stands r (term_of m.term v) (mul_term (term_of l.term t) (term_of l.term u))
-    product-stands = folded-stands t u (mul_tree t u) v _ ht hu (ht, hu) (product_fold-stands r eq decides _ _ _ _ (const-is t ht) (const-is u hu))
-
-  pub negative-stands : (t : Tree A) (ht : IsWhole l.valid t) (v : Tree A) → IsFolded m t t (neg_tree t) (negative_fold r (tree_constant l.constant t)) v → Stands r (term_of m.term v) (neg_term (term_of l.term t))
-  negative-stands t ht v = folded-stands t t (neg_tree t) v _ ht ht ht (negative_fold-stands r _ _ (const-is t ht))
+  -- an operation, folded, stands for its term
+  pub operation-stands : {node : Tree A → Tree A → Tree A} {fold : Option F → Option F → Option (Fold F)} {term : Term F → Term F → Term F} → Operates r l node fold term
+      → (t u : Tree A) → IsWhole l.valid t → IsWhole l.valid u → (v : Tree A) → IsFolded m t u (node t u) (fold (tree_constant l.constant t) (tree_constant l.constant u)) v
+      → Stands r (term_of m.term v) (term (term_of l.term t) (term_of l.term u))
+  operation-stands {node = node} {fold = fold} o t u ht hu v h =
+      let x = term_of l.term t in
+      let y = term_of l.term u in
+      let f = fold (tree_constant l.constant t) (tree_constant l.constant u) in
+      let folds = subst (λ z. FoldStands r x y z f) (sym (o.means t u)) (o.stands _ _ x y (const-is t ht) (const-is u hu)) in
+      subst (Stands r (term_of m.term v)) (o.means t u) (folded-stands t u (node t u) v f ht hu (o.whole t u ht hu) folds h)
 
 -- So do the numbers that a pool's folded calls answer.
-module _ {U A F : Type 0} (r : CommRing F) (eq : F → F → Bool) (decides : (x y : F) → Decides (eq x y) (x ≡ y)) (reads : U → Leaves A F) (grows : U → U → Type 0) (empty : U) (laws : LeafLaws r reads grows empty) (p q : U × List (SymbolicExpr A)) (pool : IsPool reads p) (grown : grows p.0 q.0) where
-  whole-at : (x : ℕ) → x < length p.1 → IsWhole (reads p.0).valid (tree_at p x)
-  whole-at x b = tree_of-whole (reads p.0) p.1 pool.nodes x b
+module _ {U A F E : Type 0} {r : CommRing F} {reads : U → Leaves A F} {grows : U → U → Type 0} {empty : U} (laws : LeafLaws r reads grows empty) {p q : U × List (SymbolicExpr A)} (pool : IsPool reads p) (grown : Grown grows reads p q)
+    {node : Tree A → Tree A → Tree A} {fold : Option F → Option F → Option (Fold F)} {term : Term F → Term F → Term F} (o : Operates r (reads p.0) node fold term)
+    {x y : ℕ} (x_in : x < length p.1) (y_in : y < length p.1) (answer : Result ℕ E) where
+  -- what is answered is the operation, and stands for its term
+  abbrev pub Answers : Type 0
+  Answers = IfOk answer (IsOperation reads p q node fold x y) × IfOk answer (λ z. Stands r (term_at reads q z) (term (term_at reads p x) (term_at reads p y)))
 
-  pub IsSum-stands : (x y : ℕ) → x < length p.1 → y < length p.1 → (z : ℕ) → IsSum reads r eq p q x y z → Stands r (term_at reads q z) (add_term (term_at reads p x) (term_at reads p y))
-  IsSum-stands x y b c z h =
-      sum-stands r eq decides (reads p.0) (reads q.0) (laws.constant_is p.0) (laws.keeps p.0 q.0 grown) (tree_at p x) (tree_at p y) (whole-at x b) (whole-at y c) (tree_at q z) h.tree
+  whole_at : (i : ℕ) → i < length p.1 → IsWhole (reads p.0).valid (tree_at p i)
+  whole_at i b = tree_of-whole (reads p.0) p.1 pool.nodes i b
 
-  pub IsDifference-stands : (x y : ℕ) → x < length p.1 → y < length p.1 → (z : ℕ) → IsDifference reads r eq p q x y z → Stands r (term_at reads q z) (sub_term (term_at reads p x) (term_at reads p y))
-  IsDifference-stands x y b c z h =
-      difference-stands r eq decides (reads p.0) (reads q.0) (laws.constant_is p.0) (laws.keeps p.0 q.0 grown) (tree_at p x) (tree_at p y) (whole-at x b) (whole-at y c) (tree_at q z) h.tree
+  answers : (f : Option (Fold F)) → fold (constant_at reads p x) (constant_at reads p y) ≡ f → IfOk answer (λ z. (z < length q.1) × IsFolded (reads q.0) (tree_at p x) (tree_at p y) (node (tree_at p x) (tree_at p y)) f (tree_at q z)) → Answers
+  answers f is h =
+      let made = IfOk-weaker answer _ (IsOperation reads p q node fold x y)
+      (λ z m. record { here = m.0; tree = subst (λ g. IsFolded (reads q.0) (tree_at p x) (tree_at p y) (node (tree_at p x) (tree_at p y)) g (tree_at q z)) (sym is) m.1 }) h in (
+        made,
+        IfOk-weaker answer _ _
+            (λ z m. operation-stands r (reads p.0) (reads q.0) (laws.constant_is p.0) (laws.keeps p.0 q.0 grown.under) o (tree_at p x) (tree_at p y) (whole_at x x_in) (whole_at y y_in) (tree_at q z) m.tree)
+            made,
+      )
 
-  pub IsProduct-stands : (x y : ℕ) → x < length p.1 → y < length p.1 → (z : ℕ) → IsProduct reads r eq p q x y z → Stands r (term_at reads q z) (mul_term (term_at reads p x) (term_at reads p y))
-  IsProduct-stands x y b c z h =
-      product-stands r eq decides (reads p.0) (reads q.0) (laws.constant_is p.0) (laws.keeps p.0 q.0 grown) (tree_at p x) (tree_at p y) (whole-at x b) (whole-at y c) (tree_at q z) h.tree
+  pub folds : {a b : Option F} {g : Option (Fold F)} {f : Fold F} → a ≡ constant_at reads p x → b ≡ constant_at reads p y → g ≡ fold a b → g ≡ Some f → IfOk answer (HasFold reads q (tree_at p x) (tree_at p y) f) → Answers
+  folds {f = f} left right found is made =
+      answers (Some f) (sym (ap₂ fold left right) ∙ sym found ∙ is) (IfOk-weaker answer _ _ (λ z h. (h.here, h.tree)) made)
 
-  pub IsNegative-stands : (x : ℕ) → x < length p.1 → (z : ℕ) → IsNegative reads r eq p q x z → Stands r (term_at reads q z) (neg_term (term_at reads p x))
-  IsNegative-stands x b z h =
-      negative-stands r eq decides (reads p.0) (reads q.0) (laws.constant_is p.0) (laws.keeps p.0 q.0 grown) (tree_at p x) (whole-at x b) (tree_at q z) h.tree
+  pub needs_node : {a b : Option F} {g : Option (Fold F)} → a ≡ constant_at reads p x → b ≡ constant_at reads p y → g ≡ fold a b → g ≡ None → IfOk answer (HasTree q (node (tree_at p x) (tree_at p y))) → Answers
+  needs_node left right found is made =
+      answers None (sym (ap₂ fold left right) ∙ sym found ∙ is) (IfOk-weaker answer _ _ (λ z h. (h.here, h.tree)) made)
+
+  pub is_constant : {a b : F} → fold (constant_at reads p x) (constant_at reads p y) ≡ Some (Constant a) → b ≡ a → IfOk answer (HasConst reads q b) → Answers
+  is_constant {a = a} found is made =
+      answers (Some (Constant a)) found
+      (IfOk-weaker answer _ _ (λ z h. (h.here, subst (λ d. IsConst (reads q.0) d (tree_at q z)) is h.constant)) made)

@@ -11,4 +11,3 @@ pub mod Lowering
 pub mod Marking
 pub mod ReachedTrees
 pub mod LeafCases
-pub mod FoldCases

@@ -76,8 +76,8 @@ each_below P Q k (Neg x d) f b h = f x b h
 each_below P Q k (Mul x y d) f b h = (f x b.0 h.0, f y b.1 h.1)
 
 -- Number i, which can be lowered, is a node in the base pool over what its operands are lowered to.
-module _ {F EF : Type 0} (r : CommRing F) (eq : F → F → Bool) (coefficients : EF → List F) (p : ExtNodes F EF) (pool : IsPool (ext_reads r eq coefficients) p) (table : List (Option ℕ)) (i : ℕ) (ready : CanLower p table i) where
-  module _ (n : SymbolicExpr (ExtLeaf F EF)) (is : IsNode (ext_reads r eq coefficients p.0) p.1 i n) where
+module _ {F EF : Type 0} (r : CommRing F) (eq : F → F → Bool) {coefficients : EF → List F} {p : ExtNodes F EF} (pool : IsPool (ext_reads r eq coefficients) p) {table : List (Option ℕ)} {i : ℕ} (ready : CanLower p table i) where
+  module _ {n : SymbolicExpr (ExtLeaf F EF)} (is : IsNode (ext_reads r eq coefficients p.0) p.1 i n) where
     pub operands-there : EachOperand (λ x. get_or table x None ≡ None → ⊥) n
     operands-there =
         each_below (LoweredAt p table) (λ x. get_or table x None ≡ None → ⊥) i n (λ x _ h. lowered-there p p x (get_or table x None) h) is.below (ready.operands n is.node)
@@ -106,16 +106,16 @@ module _ {F EF : Type 0} (r : CommRing F) (eq : F → F → Bool) (coefficients 
       let hb = operand y b fits.1 (λ e. base (inr e)) at.1 eb in
       ((ha.here, hb.here, fits.2 ∙ ap₂ join ha.degree hb.degree), ap₂ node ha.tree hb.tree ∙ sym tree)
 
-  pub added : (x y d a b : ℕ) → IsNode (ext_reads r eq coefficients p.0) p.1 i (Add x y d) → get_or table x None ≡ Some a → get_or table y None ≡ Some b → IsLoweredNode p i (Add a b d)
-  added x y d a b is = both max (λ t u. add_tree t u) x y d a b is.fits (only _ is) (ready.operands _ is.node) (ap (lowered p.0) is.tree)
+  pub added : {x y d a b : ℕ} → IsNode (ext_reads r eq coefficients p.0) p.1 i (Add x y d) → get_or table x None ≡ Some a → get_or table y None ≡ Some b → IsLoweredNode p i (Add a b d)
+  added is = both max (λ t u. add_tree t u) _ _ _ _ _ is.fits (only is) (ready.operands _ is.node) (ap (lowered p.0) is.tree)
 
-  pub subtracted : (x y d a b : ℕ) → IsNode (ext_reads r eq coefficients p.0) p.1 i (Sub x y d) → get_or table x None ≡ Some a → get_or table y None ≡ Some b → IsLoweredNode p i (Sub a b d)
-  subtracted x y d a b is = both max (λ t u. sub_tree t u) x y d a b is.fits (only _ is) (ready.operands _ is.node) (ap (lowered p.0) is.tree)
+  pub subtracted : {x y d a b : ℕ} → IsNode (ext_reads r eq coefficients p.0) p.1 i (Sub x y d) → get_or table x None ≡ Some a → get_or table y None ≡ Some b → IsLoweredNode p i (Sub a b d)
+  subtracted is = both max (λ t u. sub_tree t u) _ _ _ _ _ is.fits (only is) (ready.operands _ is.node) (ap (lowered p.0) is.tree)
 
-  pub multiplied : (x y d a b : ℕ) → IsNode (ext_reads r eq coefficients p.0) p.1 i (Mul x y d) → get_or table x None ≡ Some a → get_or table y None ≡ Some b → IsLoweredNode p i (Mul a b d)
-  multiplied x y d a b is = both (λ k l. k + l) (λ t u. mul_tree t u) x y d a b is.fits (only _ is) (ready.operands _ is.node) (ap (lowered p.0) is.tree)
+  pub multiplied : {x y d a b : ℕ} → IsNode (ext_reads r eq coefficients p.0) p.1 i (Mul x y d) → get_or table x None ≡ Some a → get_or table y None ≡ Some b → IsLoweredNode p i (Mul a b d)
+  multiplied is = both (λ k l. k + l) (λ t u. mul_tree t u) _ _ _ _ _ is.fits (only is) (ready.operands _ is.node) (ap (lowered p.0) is.tree)
 
-  pub negated : (x d a : ℕ) → IsNode (ext_reads r eq coefficients p.0) p.1 i (Neg x d) → get_or table x None ≡ Some a → IsLoweredNode p i (Neg a d)
-  negated x d a is e =
-      let h = operand x a is.fits.0 (only _ is) (ready.operands _ is.node) e in
+  pub negated : {x d a : ℕ} → IsNode (ext_reads r eq coefficients p.0) p.1 i (Neg x d) → get_or table x None ≡ Some a → IsLoweredNode p i (Neg a d)
+  negated is e =
+      let h = operand _ _ is.fits.0 (only is) (ready.operands _ is.node) e in
       ((h.here, is.fits.1 ∙ h.degree), ap (λ t. neg_tree t) h.tree ∙ sym (ap (lowered p.0) is.tree))

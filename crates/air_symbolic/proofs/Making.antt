@@ -1,48 +1,50 @@
 -- What a folded operation makes, in the words of rings that make their elements.
-use Rattle.std.proofs.Common.{Result, Ok, Err, IfOk, IfErr, ◌≡◌, Bool, ℕ, ◌<◌, ◌≤◌, ◌+◌, ◌^◌, List, length, refl, sym, ap, subst, ◌∙◌, arith}
+use Rattle.std.proofs.Common.{Result, Ok, Err, IfOk, IfErr, ◌≡◌, Bool, ℕ, ◌≤◌, ◌+◌, ◌^◌, List, refl, sym, ap, subst, ◌∙◌, arith}
 use Rattle.air_field.specs.declared.errors.RingError.{RingError}
 use Rattle.air_field.specs.declared.errors.RingError.TheVariants.{Memory, DegreeOverflow}
 use Rattle.air_field.specs.Ring.{CommRing}
-use Rattle.air_field.specs.Term.{Term, const_term, add_term, sub_term, neg_term, mul_term}
+use Rattle.air_field.specs.Term.{Term, const_term, mul_term}
 use Rattle.air_field.specs.Degree.{degree_by, cached_weight}
 use Rattle.air_field.specs.Same.{Stands}
-use Rattle.air_field.specs.laws.Degree.{Stands-refl, Stands-trans, Stands-add, Stands-sub, Stands-neg, Stands-mul}
+use Rattle.air_field.specs.laws.Degree.{Stands-refl, Stands-trans}
 use Rattle.air_field.specs.Algebra.{Made, MadeOf, MadeOfBoth, RefusedOfBoth}
 use Rattle.air_field.specs.ExtAlgebra.{Lifted}
 use Rattle.air_symbolic.specs.Leaves.{Leaves}
-use Rattle.air_symbolic.specs.Trees.{leaf_tree, term_of}
+use Rattle.air_symbolic.specs.Trees.{Tree, leaf_tree, term_of}
 use Rattle.air_symbolic.specs.Pools.{IsPool, term_at, PoolHas, PoolMeans, HasTree, HasConst}
+use Rattle.air_symbolic.specs.Folds.{IsOperation}
 use Rattle.air_symbolic.specs.PoolRefusals.{PoolRefuses}
 use Rattle.air_symbolic.specs.BaseLeaves.{base_reads}
 use Rattle.air_symbolic.specs.ExtLeaves.{ext_reads}
 use Rattle.air_symbolic.specs.ExtPool.{ExtNodes, BaseMeans}
 use Rattle.air_symbolic.specs.declared.pools.expr.SymbolicExpr.{SymbolicExpr}
+use Rattle.std.specs.Prelude.{Option}
+use Rattle.air_symbolic.specs.declared.pools.fold.Fold.{Fold}
 use Rattle.air_symbolic.specs.declared.leaves.ext_leaf.ExtLeaf.TheVariants.{Base}
 
-module _ {U A F : Type 0} (r : CommRing F) (reads : U → Leaves A F) (p q : U × List (SymbolicExpr A)) (pool : IsPool reads q) (z : ℕ) (here : z < length q.1) where
-  pub made-sum : (x y : ℕ) → Stands r (term_at reads q z) (add_term (term_at reads p x) (term_at reads p y)) → MadeOfBoth (PoolHas reads) (PoolMeans reads r) add_term p q x y z
-  made-sum x y s = (
-    record { pool = pool; here = here },
-    λ t u h k. record { pool = pool; here = here; stands = Stands-trans r _ _ _ s (Stands-add r _ _ t u h.stands k.stands) },
-  )
+IfOk-both : {X E : Type 0} (r : Result X E) (P Q R : X → Type 0) → ((x : X) → P x → Q x → R x) → IfOk r P → IfOk r Q → IfOk r R
+IfOk-both (Ok x) P Q R f p q = f x p q
+IfOk-both (Err e) P Q R f p q = tt
 
-  pub made-difference : (x y : ℕ) → Stands r (term_at reads q z) (sub_term (term_at reads p x) (term_at reads p y)) → MadeOfBoth (PoolHas reads) (PoolMeans reads r) sub_term p q x y z
-  made-difference x y s = (
-    record { pool = pool; here = here },
-    λ t u h k. record { pool = pool; here = here; stands = Stands-trans r _ _ _ s (Stands-sub r _ _ t u h.stands k.stands) },
-  )
+-- An operation, answered, means its term.
+module _ {U A F E : Type 0} {r : CommRing F} {reads : U → Leaves A F} {q : U × List (SymbolicExpr A)} (pool : IsPool reads q) (p : U × List (SymbolicExpr A)) (node : Tree A → Tree A → Tree A) (fold : Option F → Option F → Option (Fold F)) (answer : Result ℕ E) where
+  pub made-both : (x y : ℕ) (term : Term F → Term F → Term F) → ((t u v w : Term F) → Stands r t v → Stands r u w → Stands r (term t u) (term v w))
+      → IfOk answer (IsOperation reads p q node fold x y) → IfOk answer (λ z. Stands r (term_at reads q z) (term (term_at reads p x) (term_at reads p y)))
+      → IfOk answer (MadeOfBoth (PoolHas reads) (PoolMeans reads r) term p q x y)
+  made-both x y term congruent =
+      IfOk-both answer _ _ _ (λ z m s. (
+        record { pool = pool; here = m.here },
+        λ t u h k. record { pool = pool; here = m.here; stands = Stands-trans r _ _ _ s (congruent _ _ t u h.stands k.stands) },
+      ))
 
-  pub made-product : (x y : ℕ) → Stands r (term_at reads q z) (mul_term (term_at reads p x) (term_at reads p y)) → MadeOfBoth (PoolHas reads) (PoolMeans reads r) mul_term p q x y z
-  made-product x y s = (
-    record { pool = pool; here = here },
-    λ t u h k. record { pool = pool; here = here; stands = Stands-trans r _ _ _ s (Stands-mul r _ _ t u h.stands k.stands) },
-  )
-
-  pub made-negative : (x : ℕ) → Stands r (term_at reads q z) (neg_term (term_at reads p x)) → MadeOf (PoolHas reads) (PoolMeans reads r) neg_term p q x z
-  made-negative x s = (
-    record { pool = pool; here = here },
-    λ t h. record { pool = pool; here = here; stands = Stands-trans r _ _ _ s (Stands-neg r _ t h.stands) },
-  )
+  pub made-one : (x : ℕ) (term : Term F → Term F) → ((t v : Term F) → Stands r t v → Stands r (term t) (term v))
+      → IfOk answer (IsOperation reads p q node fold x x) → IfOk answer (λ z. Stands r (term_at reads q z) (term (term_at reads p x)))
+      → IfOk answer (MadeOf (PoolHas reads) (PoolMeans reads r) term p q x)
+  made-one x term congruent =
+      IfOk-both answer _ _ _ (λ z m s. (
+        record { pool = pool; here = m.here },
+        λ t h. record { pool = pool; here = m.here; stands = Stands-trans r _ _ _ s (congruent _ t h.stands) },
+      ))
 
 -- A leaf means its term.
 pub made-leaf : {U A F : Type 0} (r : CommRing F) (reads : U → Leaves A F) (q : U × List (SymbolicExpr A)) (a : A) (z : ℕ) → IsPool reads q → HasTree q (leaf_tree a) z → Made (PoolHas reads) (PoolMeans reads r) ((reads q.0).term a) q z
@@ -64,10 +66,6 @@ pub refused-product : {X U A F : Type 0} (r : CommRing F) (reads : U → Leaves 
 refused-product r reads p x y (Ok i) h = tt
 refused-product r reads p x y (Err Memory) h = λ t u k m. tt
 refused-product r reads p x y (Err DegreeOverflow) h = λ t u k m. omega (arith, h refl, k.stands.light cached_weight, m.stands.light cached_weight)
-
-pub IfOk-both : {X E : Type 0} (r : Result X E) (P Q R : X → Type 0) → ((x : X) → P x → Q x → R x) → IfOk r P → IfOk r Q → IfOk r R
-IfOk-both (Ok x) P Q R f p q = f x p q
-IfOk-both (Err e) P Q R f p q = tt
 
 -- The leaf of a base expression means what that means.
 pub made-lifted : {F EF : Type 0} (r : CommRing F) (eq : F → F → Bool) (coefficients : EF → List F) (p q : ExtNodes F EF) (x : ℕ) → q.0 ≡ p.0 → IsPool (ext_reads r eq coefficients) q → (z : ℕ) → HasTree q (leaf_tree (Base x)) z → Lifted (PoolHas (ext_reads r eq coefficients)) (PoolMeans (ext_reads r eq coefficients) r) (BaseMeans r eq coefficients) p q x z

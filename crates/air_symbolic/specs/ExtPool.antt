@@ -2,6 +2,7 @@
 use Rattle.std.specs.Prelude.{ℕ, Bool, List}
 use Rattle.air_field.specs.Ring.{CommRing}
 use Rattle.air_field.specs.Term.{Term}
+use Rattle.air_field.specs.Algebra.{Made}
 use Rattle.air_symbolic.specs.Pools.{IsPool, PoolHas, PoolMeans, Grown}
 use Rattle.air_symbolic.specs.BaseLeaves.{base_reads}
 use Rattle.air_symbolic.specs.ExtLeaves.{BaseNodes, ext_grows, ext_reads}
@@ -20,6 +21,10 @@ module _ {F EF : Type 0} (r : CommRing F) (eq : F → F → Bool) (coefficients 
   -- the extension pool has grown wherever its base pool alone has
   abbrev pub GrowsWithBase : ExtNodes F EF → Type 0
   GrowsWithBase p = (u : BaseNodes F) → ext_grows p.0 u → ExtGrown p (u, p.1)
+
+  -- number z of the extension pool means t
+  abbrev pub ExtMade : Term F → ExtNodes F EF → ℕ → Type 0
+  ExtMade = Made (PoolHas (ext_reads r eq coefficients)) (PoolMeans (ext_reads r eq coefficients) r)
 
   -- number i is of the base pool
   pub record BaseHas (p : ExtNodes F EF) (i : ℕ) : Type 0 where

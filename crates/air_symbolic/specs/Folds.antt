@@ -9,17 +9,18 @@ use Rattle.air_symbolic.specs.declared.pools.fold.Fold.{Fold}
 use Rattle.air_symbolic.specs.declared.pools.fold.Fold.TheVariants.{Constant, Left, Right, Negated}
 
 -- By the operands' constants, where they have one; None where a node is needed.
+-- Of an operation that gives its left operand where the right one is zero; `from_zero` stands where the left one is.
+abbrev pub zero_fold : {F : Type 0} → CommRing F → (F → F → Bool) → (F → F → F) → Fold F → Option F → Option F → Option (Fold F)
+zero_fold r eq op from_zero (Some a) (Some b) = Some (Constant (op a b))
+zero_fold r eq op from_zero (Some a) None = cond (eq a r.nil) (Some from_zero) None
+zero_fold r eq op from_zero None (Some b) = cond (eq b r.nil) (Some Left) None
+zero_fold r eq op from_zero None None = None
+
 abbrev pub sum_fold : {F : Type 0} → CommRing F → (F → F → Bool) → Option F → Option F → Option (Fold F)
-sum_fold r eq (Some a) (Some b) = Some (Constant (r.add a b))
-sum_fold r eq (Some a) None = cond (eq a r.nil) (Some Right) None
-sum_fold r eq None (Some b) = cond (eq b r.nil) (Some Left) None
-sum_fold r eq None None = None
+sum_fold r eq = zero_fold r eq r.add Right
 
 abbrev pub difference_fold : {F : Type 0} → CommRing F → (F → F → Bool) → Option F → Option F → Option (Fold F)
-difference_fold r eq (Some a) (Some b) = Some (Constant (minus r a b))
-difference_fold r eq (Some a) None = cond (eq a r.nil) (Some Negated) None
-difference_fold r eq None (Some b) = cond (eq b r.nil) (Some Left) None
-difference_fold r eq None None = None
+difference_fold r eq = zero_fold r eq (minus r) Negated
 
 abbrev pub product_fold : {F : Type 0} → CommRing F → (F → F → Bool) → Option F → Option F → Option (Fold F)
 product_fold r eq (Some a) (Some b) = Some (Constant (r.mul a b))
@@ -48,23 +49,25 @@ pub record HasFold {U A F : Type 0} (reads : U → Leaves A F) (q : U × List (S
   pub here : i < length q.1
   pub tree : IsFold (reads q.0) t u fold (tree_at q i)
 
--- Number i of the pool q is the folded operation of x and y, which were of the pool p.
+-- number i of the pool q is an operation of x and y, which were of the pool p: what it folds to, or else its node
+pub record IsOperation {U A F : Type 0} (reads : U → Leaves A F) (p q : U × List (SymbolicExpr A))
+    (node : Tree A → Tree A → Tree A) (fold : Option F → Option F → Option (Fold F)) (x y i : ℕ) : Type 0 where
+  pub here : i < length q.1
+  pub tree : IsFolded (reads q.0) (tree_at p x) (tree_at p y) (node (tree_at p x) (tree_at p y)) (fold (constant_at reads p x) (constant_at reads p y)) (tree_at q i)
+
 module _ {U A F : Type 0} (reads : U → Leaves A F) (r : CommRing F) (eq : F → F → Bool) (p q : U × List (SymbolicExpr A)) where
-  pub record IsSum (x y i : ℕ) : Type 0 where
-    pub here : i < length q.1
-    pub tree : IsFolded (reads q.0) (tree_at p x) (tree_at p y) (add_tree (tree_at p x) (tree_at p y)) (sum_fold r eq (constant_at reads p x) (constant_at reads p y)) (tree_at q i)
+  abbrev pub IsSum : ℕ → ℕ → ℕ → Type 0
+  IsSum x y = IsOperation reads p q add_tree (sum_fold r eq) x y
 
-  pub record IsDifference (x y i : ℕ) : Type 0 where
-    pub here : i < length q.1
-    pub tree : IsFolded (reads q.0) (tree_at p x) (tree_at p y) (sub_tree (tree_at p x) (tree_at p y)) (difference_fold r eq (constant_at reads p x) (constant_at reads p y)) (tree_at q i)
+  abbrev pub IsDifference : ℕ → ℕ → ℕ → Type 0
+  IsDifference x y = IsOperation reads p q sub_tree (difference_fold r eq) x y
 
-  pub record IsProduct (x y i : ℕ) : Type 0 where
-    pub here : i < length q.1
-    pub tree : IsFolded (reads q.0) (tree_at p x) (tree_at p y) (mul_tree (tree_at p x) (tree_at p y)) (product_fold r eq (constant_at reads p x) (constant_at reads p y)) (tree_at q i)
+  abbrev pub IsProduct : ℕ → ℕ → ℕ → Type 0
+  IsProduct x y = IsOperation reads p q mul_tree (product_fold r eq) x y
 
-  pub record IsNegative (x i : ℕ) : Type 0 where
-    pub here : i < length q.1
-    pub tree : IsFolded (reads q.0) (tree_at p x) (tree_at p x) (neg_tree (tree_at p x)) (negative_fold r (constant_at reads p x)) (tree_at q i)
+  -- an operation of x alone
+  abbrev pub IsNegative : ℕ → ℕ → Type 0
+  IsNegative x = IsOperation reads p q (λ t _. neg_tree t) (λ o _. negative_fold r o) x x
 
 -- the product of x and y needs a node
 abbrev pub NeedsNode : {U A F : Type 0} → (U → Leaves A F) → CommRing F → (F → F → Bool) → U × List (SymbolicExpr A) → ℕ → ℕ → Type 0

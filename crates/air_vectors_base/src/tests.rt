@@ -17,6 +17,7 @@ mod gadgets;
 mod generated;
 mod generator;
 mod leaves;
+mod logs;
 mod matrices;
 mod names;
 mod numbers;

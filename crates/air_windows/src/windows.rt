@@ -1,6 +1,6 @@
 //! Windows: a row and the one after it.
 
 pub mod access;
-pub mod matrix_window;
+mod matrix_window;
 pub mod row_window;
 pub mod two_rows;

@@ -1,58 +1,64 @@
 -- A node that isn't read has a first fault.
-use Rattle.std.proofs.Common.{◌≡◌, ◌≢◌, ℕ, zero, suc, ◌+◌, ◌≤◌, ◌<◌, ◌^◌, max, Bool, true, false, ltb, eqb, bytes_eq, if◌then◌else◌, List, [], ◌∷◌, length, Option, Some, None, option_map, Result, Ok, Err, codes, refl, sym, ap, subst, ◌∙◌, arith, ◌⊎◌, inl, inr, ⊎_elim, rules, tests}
+use Rattle.std.proofs.Common.{◌≡◌, ◌≢◌, ℕ, zero, suc, ◌+◌, ◌≤◌, ◌<◌, ◌^◌, max, Bool, true, false, ltb, eqb, bytes_eq, if◌then◌else◌, List, [], ◌∷◌, length, Option, Some, None, option_map, option_and_then, Result, Ok, Err, codes, refl, sym, ap, subst, ◌∙◌, arith, ◌⊎◌, inl, inr, ⊎_elim, rules, tests}
 use Rattle.std.specs.Option.{ok_or}
 use Rattle.std.specs.List.{slice_get}
 use Rattle.std.proofs.lemmas.Bool.{ltb-true, lt-ltb, cases_lt}
 use Rattle.serde_json.specs.Data.{Data}
-use Rattle.air_symbolic.specs.Trees.{Tree, leaf_tree, add_tree, sub_tree, neg_tree, mul_tree}
+use Rattle.air_symbolic.specs.Trees.{Tree, leaf_tree}
+use Rattle.air_wire.specs.declared.operations.Operation.{Operation}
+use Rattle.air_wire.specs.declared.operations.Operation.TheVariants.{Add, Sub, Mul, Neg}
 use Rattle.air_wire.specs.declared.errors.FlatError.{FlatError}
 use Rattle.air_wire.specs.declared.errors.FlatError.TheVariants as faults
-use Rattle.air_wire.specs.Parts.{only_member}
+use Rattle.air_wire.specs.Parts.{only_member, find_name, case_or}
 use Rattle.air_wire.specs.Results.{◌>>=◌}
 use Rattle.air_wire.specs.Spelling.{case_data}
-use Rattle.air_wire.specs.laws.Readings.{done, by_name, none_found, named, mapped, only_found}
+use Rattle.air_wire.specs.laws.Readings.{done, by_name, none_found, named, mapped, then_found, field_found, field_read, case_read}
 use Rattle.air_wire.specs.Seen.{degree}
-use Rattle.air_wire.specs.Nodes.{Kind, operand_of, operand, stated, product_degree, two_of, one_of, sum_at, product_at, negated_at, leaf_node_at, node_with, case_node, node_at}
-use Rattle.air_wire.specs.laws.Nodes.{two_found, two_read, one_found, one_read}
+use Rattle.air_wire.specs.Nodes.{Kind, operand_of, operand, stated, operations, places_of, joined_degree, joined_tree, operands_at, operation_or, leaf_node_at, node_with, node_at}
+use Rattle.air_wire.specs.laws.Nodes.{operation_name, named_operation, places_found, places_read}
 use Rattle.air_wire.specs.Forms.{Form, leaf_form, add_form, sub_form, mul_form, neg_form, SpellsForm, IsLate, IsAt, IsMisstated, OperandsFault, SumFault, ProductFault, FormFault, NodeFault}
 
 -- ---- the form of a value
 
-abbrev form_with : List ℕ → Data → Option Form
-form_with name c = if bytes_eq name (codes "Leaf") then Some (leaf_form c) else (if bytes_eq name (codes "Add") then option_map (λ p. add_form p.0 p.1 p.2) (two_of c) else (if bytes_eq name (codes "Sub") then option_map (λ p. sub_form p.0 p.1 p.2) (two_of c) else (if bytes_eq name (codes "Mul") then option_map (λ p. mul_form p.0 p.1 p.2) (two_of c) else (if bytes_eq name (codes "Neg") then option_map (λ p. neg_form p.0 p.1) (one_of c) else None))))
+-- a form as it is read, where a negative's operand stands for both
+data Raw : Type 0 where
+  raw_leaf : Data → Raw
+  raw : Operation → ℕ × ℕ × ℕ → Raw
 
-abbrev case_form : Option (List ℕ × Data) → Option Form
-case_form None = None
-case_form (Some c) = form_with c.0 c.1
+abbrev raw_with : List ℕ → Data → Option Raw
+raw_with name c = if bytes_eq name (codes "Leaf") then Some (raw_leaf c) else option_and_then (λ op. option_map (λ p. raw op p) (places_of op c)) (find_name operations name)
 
-abbrev form_of : Data → Option Form
-form_of d = case_form (only_member d)
+abbrev raw_of : Data → Option Raw
+raw_of d = case_or None raw_with (only_member d)
 
-form_again : (d : Data) (m : Form) → SpellsForm d m → form_of d ≡ Some m
-form_again d (leaf_form c) h = ap form_of h.1 ∙ ap (λ e. Some (leaf_form e)) h.2
-form_again d (add_form n x y) h = ap form_of h.1 ∙ ap (option_map (λ p. add_form p.0 p.1 p.2)) (two_read h.0 n x y h.2.0 h.2.1 h.2.2)
-form_again d (sub_form n x y) h = ap form_of h.1 ∙ ap (option_map (λ p. sub_form p.0 p.1 p.2)) (two_read h.0 n x y h.2.0 h.2.1 h.2.2)
-form_again d (mul_form n x y) h = ap form_of h.1 ∙ ap (option_map (λ p. mul_form p.0 p.1 p.2)) (two_read h.0 n x y h.2.0 h.2.1 h.2.2)
-form_again d (neg_form n x) h = ap form_of h.1 ∙ ap (option_map (λ p. neg_form p.0 p.1)) (one_read h.0 n x h.2.0 h.2.1)
+abbrev raw_form : Form → Raw
+raw_form (leaf_form c) = raw_leaf c
+raw_form (add_form n x y) = raw Add (n, x, y)
+raw_form (sub_form n x y) = raw Sub (n, x, y)
+raw_form (mul_form n x y) = raw Mul (n, x, y)
+raw_form (neg_form n x) = raw Neg (n, x, x)
 
-with_found : (name : List ℕ) (c : Data) (m : Form) → form_with name c ≡ Some m → SpellsForm (case_data name c) m
-with_found name c m e =
-    let P : Form → Type 0 = SpellsForm (case_data name c) in
+raw_again : (d : Data) (m : Form) → SpellsForm d m → raw_of d ≡ Some (raw_form m)
+raw_again d (leaf_form c) h = ap raw_of h.1 ∙ ap (λ e. Some (raw_leaf e)) h.2
+raw_again d (add_form n x y) h = ap raw_of h.1 ∙ ap (option_map (λ p. raw Add p)) (places_read Add h.0 n x y h.2.0 h.2.1 (field_read (codes "y") h.0 y h.2.2))
+raw_again d (sub_form n x y) h = ap raw_of h.1 ∙ ap (option_map (λ p. raw Sub p)) (places_read Sub h.0 n x y h.2.0 h.2.1 (field_read (codes "y") h.0 y h.2.2))
+raw_again d (mul_form n x y) h = ap raw_of h.1 ∙ ap (option_map (λ p. raw Mul p)) (places_read Mul h.0 n x y h.2.0 h.2.1 (field_read (codes "y") h.0 y h.2.2))
+raw_again d (neg_form n x) h = ap raw_of h.1 ∙ ap (option_map (λ p. raw Neg p)) (places_read Neg h.0 n x x h.2.0 h.2.1 (field_read (codes "x") h.0 x h.2.1))
+
+-- what the value spells whose form is read so
+abbrev SpellsRaw : Data → Raw → Type 0
+SpellsRaw d (raw_leaf c) = d ≡ case_data (codes "Leaf") c
+SpellsRaw d (raw op p) = (c : Data) × (d ≡ case_data (operation_name op) c) × (places_of op c ≡ Some p)
+
+raw_found : (d : Data) (m : Raw) → raw_of d ≡ Some m → SpellsRaw d m
+raw_found d m e =
+    case_read (λ x. SpellsRaw x m) (λ o. o ≡ Some m) None raw_with d e (none_found (SpellsRaw d) m)
+    (λ name c e.
+    let P : Raw → Type 0 = SpellsRaw (case_data name c) in
     by_name P name (codes "Leaf") _ _ m e
-    (λ same. named P (leaf_form c) m (c, ap (λ n. case_data n c) same, refl))
-    (λ e. by_name P name (codes "Add") _ _ m e
-    (λ same e. mapped P (λ p. add_form p.0 p.1 p.2) (two_of c) m e (λ p at. (c, ap (λ n. case_data n c) same, two_found c p at)))
-    (λ e. by_name P name (codes "Sub") _ _ m e
-    (λ same e. mapped P (λ p. sub_form p.0 p.1 p.2) (two_of c) m e (λ p at. (c, ap (λ n. case_data n c) same, two_found c p at)))
-    (λ e. by_name P name (codes "Mul") _ _ m e
-    (λ same e. mapped P (λ p. mul_form p.0 p.1 p.2) (two_of c) m e (λ p at. (c, ap (λ n. case_data n c) same, two_found c p at)))
-    (λ e. by_name P name (codes "Neg") _ _ m e
-    (λ same e. mapped P (λ p. neg_form p.0 p.1) (one_of c) m e (λ p at. (c, ap (λ n. case_data n c) same, one_found c p at)))
-    (none_found P m)))))
-
-case_found : (d : Data) (o : Option (List ℕ × Data)) (m : Form) → only_member d ≡ o → case_form o ≡ Some m → SpellsForm d m
-case_found d None m is e = none_found (SpellsForm d) m e
-case_found d (Some c) m is e = subst (λ x. SpellsForm x m) (sym (only_found d c is)) (with_found c.0 c.1 m e)
+    (λ same. named P (raw_leaf c) m (ap (λ n. case_data n c) same))
+    (λ e. then_found (P m) (λ op. option_map (λ p. raw op p) (places_of op c)) (find_name operations name) m e
+    (λ op is e. mapped P (λ p. raw op p) (places_of op c) m e (λ p at. (c, ap (λ n. case_data n c) (named_operation name op is), at)))))
 
 -- ---- the fault of a form
 
@@ -81,64 +87,39 @@ unlike m n e same = absurd (cc (sym e ∙ (ap (eqb m) (sym same) ∙ itself m)))
     itself m = search (rules, tests)
 
 module _ {S F : Type 0} (kind : Kind S F) (before : List (Tree S)) where
-  abbrev sum_step : ℕ → Tree S → Tree S → Result (Tree S × Tree S) FlatError
-  sum_step n t u = stated (length before) n (max (degree kind.term t) (degree kind.term u)) (t, u)
-
   abbrev both : Tree S → Tree S → Tree S × Tree S
   both t u = (t, u)
 
-  abbrev product_step : ℕ → Tree S → Tree S → Result (Tree S × Tree S) FlatError
-  product_step n t u = product_degree (degree kind.term t) (degree kind.term u) >>= λ s. stated (length before) n s (both t u)
+  abbrev step : Operation → ℕ → Tree S → Tree S → Result (Tree S × Tree S) FlatError
+  step op n t u = joined_degree op (degree kind.term t) (degree kind.term u) >>= λ s. stated (length before) n s (both t u)
 
-  abbrev sums : ℕ → ℕ → ℕ → Result (Tree S × Tree S) FlatError
-  sums n x y = operand before x >>= λ t. operand before y >>= λ u. sum_step n t u
+  abbrev operands : Operation → ℕ × ℕ × ℕ → Result (Tree S × Tree S) FlatError
+  operands op p = operand before p.1 >>= λ t. operand before p.2 >>= λ u. step op p.0 t u
 
-  abbrev products : ℕ → ℕ → ℕ → Result (Tree S × Tree S) FlatError
-  products n x y = operand before x >>= λ t. operand before y >>= λ u. product_step n t u
+  abbrev raw_at : Raw → Result (Tree S) FlatError
+  raw_at (raw_leaf c) = leaf_node_at kind (length before) c
+  raw_at (raw op p) = operands op p >>= λ q. done (joined_tree op q.0 q.1)
 
-  abbrev form_at : Form → Result (Tree S) FlatError
-  form_at (leaf_form c) = leaf_node_at kind before c
-  form_at (add_form n x y) = (sums n x y) >>= λ q. done (add_tree q.0 q.1)
-  form_at (sub_form n x y) = (sums n x y) >>= λ q. done (sub_tree q.0 q.1)
-  form_at (mul_form n x y) = (products n x y) >>= λ q. done (mul_tree q.0 q.1)
-  form_at (neg_form n x) = (operand before x >>= λ t. stated (length before) n (degree kind.term t) t) >>= λ t. done (neg_tree t)
+  abbrev by_raw : Option Raw → Result (Tree S) FlatError
+  by_raw None = Err (faults.Shape (length before))
+  by_raw (Some m) = raw_at m
 
-  abbrev by_form : Option Form → Result (Tree S) FlatError
-  by_form None = Err (faults.Shape (length before))
-  by_form (Some m) = form_at m
-
-  either : (b : Bool) (x y : Result (Tree S) FlatError) (o p : Option Form) → x ≡ by_form o → y ≡ by_form p → if b then x else y ≡ by_form (if b then o else p)
+  either : (b : Bool) (x y : Result (Tree S) FlatError) (o p : Option Raw) → x ≡ by_raw o → y ≡ by_raw p → if b then x else y ≡ by_raw (if b then o else p)
   either true x y o p h k = h
   either false x y o p h k = k
 
-  add_by : (o : Option (ℕ × ℕ × ℕ)) → ((ok_or o (faults.Shape (length before)) >>= λ p. sums p.0 p.1 p.2) >>= λ q. done (add_tree q.0 q.1)) ≡ by_form (option_map (λ p. add_form p.0 p.1 p.2) o)
-  add_by None = refl
-  add_by (Some p) = refl
+  places_by : (op : Operation) (o : Option (ℕ × ℕ × ℕ)) → ((ok_or o (faults.Shape (length before)) >>= λ p. operands op p) >>= λ q. done (joined_tree op q.0 q.1)) ≡ by_raw (option_map (λ p. raw op p) o)
+  places_by op None = refl
+  places_by op (Some p) = refl
 
-  sub_by : (o : Option (ℕ × ℕ × ℕ)) → ((ok_or o (faults.Shape (length before)) >>= λ p. sums p.0 p.1 p.2) >>= λ q. done (sub_tree q.0 q.1)) ≡ by_form (option_map (λ p. sub_form p.0 p.1 p.2) o)
-  sub_by None = refl
-  sub_by (Some p) = refl
+  operation_by : (o : Option Operation) (c : Data) → operation_or kind before o c ≡ by_raw (option_and_then (λ op. option_map (λ p. raw op p) (places_of op c)) o)
+  unfolding operands_at
+  operation_by None c = refl
+  operation_by (Some op) c = places_by op (places_of op c)
 
-  mul_by : (o : Option (ℕ × ℕ × ℕ)) → ((ok_or o (faults.Shape (length before)) >>= λ p. products p.0 p.1 p.2) >>= λ q. done (mul_tree q.0 q.1)) ≡ by_form (option_map (λ p. mul_form p.0 p.1 p.2) o)
-  mul_by None = refl
-  mul_by (Some p) = refl
-
-  neg_by : (o : Option (ℕ × ℕ)) → ((ok_or o (faults.Shape (length before)) >>= λ p. operand before p.1 >>= λ t. stated (length before) p.0 (degree kind.term t) t) >>= λ t. done (neg_tree t)) ≡ by_form (option_map (λ p. neg_form p.0 p.1) o)
-  neg_by None = refl
-  neg_by (Some p) = refl
-
-  with_by : (name : List ℕ) (c : Data) → node_with kind before name c ≡ by_form (form_with name c)
-  unfolding sum_at product_at negated_at
-  with_by name c =
-      either (bytes_eq name (codes "Leaf")) _ _ _ _ refl
-      (either (bytes_eq name (codes "Add")) _ _ _ _ (add_by (two_of c))
-      (either (bytes_eq name (codes "Sub")) _ _ _ _ (sub_by (two_of c))
-      (either (bytes_eq name (codes "Mul")) _ _ _ _ (mul_by (two_of c))
-      (either (bytes_eq name (codes "Neg")) _ _ _ _ (neg_by (one_of c)) refl))))
-
-  case_by : (o : Option (List ℕ × Data)) → case_node kind before o ≡ by_form (case_form o)
+  case_by : (o : Option (List ℕ × Data)) → case_or (Err (faults.Shape (length before))) (node_with kind before) o ≡ by_raw (case_or None raw_with o)
   case_by None = refl
-  case_by (Some c) = with_by c.0 c.1
+  case_by (Some c) = either (bytes_eq c.0 (codes "Leaf")) _ _ _ _ refl (operation_by (find_name operations c.0) c.1)
 
   -- ---- faults
 
@@ -169,34 +150,51 @@ module _ {S F : Type 0} (kind : Kind S F) (before : List (Tree S)) where
       at_x (inl late) = inl late
       at_x (inr p) = inr (p.0, p.1, at_y p.0 (one_operand y (λ u. k p.0 u) f p.2))
 
-  product_fault : (n : ℕ) (t u : Tree S) (f : FlatError) → product_step n t u ≡ Err f → ProductFault kind before n t u f
+  product_fault : (n : ℕ) (t u : Tree S) (f : FlatError) → step Mul n t u ≡ Err f → ProductFault kind before n t u f
   product_fault n t u f e = go (ltb (degree kind.term t + degree kind.term u) (2 ^ 64)) refl e
     where
       go : (b : Bool) → ltb (degree kind.term t + degree kind.term u) (2 ^ 64) ≡ b → ((if b then Ok (degree kind.term t + degree kind.term u) else Err faults.DegreeOverflow) >>= λ s. stated (length before) n s (both t u)) ≡ Err f → ProductFault kind before n t u f
       go true is e = inr (ltb-true (degree kind.term t + degree kind.term u) (2 ^ 64) is, not_stated n (degree kind.term t + degree kind.term u) (both t u) f e)
       go false is e = inl (not_below (degree kind.term t + degree kind.term u) (2 ^ 64) is, sym (err_is faults.DegreeOverflow f e))
 
-  form_fault : (m : Form) (f : FlatError) → form_at m ≡ Err f → FormFault kind before m f
-  form_fault (leaf_form c) f e = before_done (kind.leaf_at (length before) c) (λ a. leaf_tree a) f e
-  form_fault (add_form n x y) f e =
-      two_operands x y (sum_step n) (SumFault kind before n) (λ t u g. not_stated n (max (degree kind.term t) (degree kind.term u)) (both t u) g) f
-      (before_done (sums n x y) (λ q. add_tree q.0 q.1) f e)
-  form_fault (sub_form n x y) f e =
-      two_operands x y (sum_step n) (SumFault kind before n) (λ t u g. not_stated n (max (degree kind.term t) (degree kind.term u)) (both t u) g) f
-      (before_done (sums n x y) (λ q. sub_tree q.0 q.1) f e)
-  form_fault (mul_form n x y) f e =
-      two_operands x y (product_step n) (ProductFault kind before n) (product_fault n) f
-      (before_done (products n x y) (λ q. mul_tree q.0 q.1) f e)
-  form_fault (neg_form n x) f e = at_x (one_operand x (λ t. stated (length before) n (degree kind.term t) t) f (before_done (operand before x >>= λ t. stated (length before) n (degree kind.term t) t) (λ t. neg_tree t) f e))
+  -- the operand of a negative
+  negated_fault : (n x y : ℕ) (f : FlatError) → x ≡ y → operands Neg (n, x, y) ≡ Err f → FormFault kind before (neg_form n x) f
+  negated_fault n x y f same e = at_x (one_operand x (λ t. operand before y >>= λ u. step Neg n t u) f e)
     where
-      at_x : IsLate before x f ⊎ ((t : Tree S) × IsAt before x t × (stated (length before) n (degree kind.term t) t ≡ Err f)) → FormFault kind before (neg_form n x) f
+      at_y : (t : Tree S) → IsAt before x t → IsLate before y f ⊎ ((u : Tree S) × IsAt before y u × (step Neg n t u ≡ Err f)) → FormFault kind before (neg_form n x) f
+      at_y t at (inl late) = inl (subst (λ i. IsLate before i f) (sym same) late)
+      at_y t at (inr q) = inr (t, at, not_stated n (degree kind.term t) (both t q.0) f q.2)
+
+      at_x : IsLate before x f ⊎ ((t : Tree S) × IsAt before x t × ((operand before y >>= λ u. step Neg n t u) ≡ Err f)) → FormFault kind before (neg_form n x) f
       at_x (inl late) = inl late
-      at_x (inr p) = inr (p.0, p.1, not_stated n (degree kind.term p.0) p.0 f p.2)
+      at_x (inr p) = at_y p.0 p.1 (one_operand y (λ u. step Neg n p.0 u) f p.2)
+
+  operation_fault : (op : Operation) (d c : Data) (p : ℕ × ℕ × ℕ) (f : FlatError) → d ≡ case_data (operation_name op) c → places_of op c ≡ Some p → operands op p ≡ Err f → (m : Form) × SpellsForm d m × FormFault kind before m f
+  unfolding operation_name
+  operation_fault Add d c p f is at e =
+      let h = places_found Add c p at in
+      (add_form p.0 p.1 p.2, (c, is, (h.0, h.1, field_found (codes "y") c p.2 h.2)), two_operands p.1 p.2 (step Add p.0) (SumFault kind before p.0) (λ t u g. not_stated p.0 (max (degree kind.term t) (degree kind.term u)) (both t u) g) f e)
+  operation_fault Sub d c p f is at e =
+      let h = places_found Sub c p at in
+      (sub_form p.0 p.1 p.2, (c, is, (h.0, h.1, field_found (codes "y") c p.2 h.2)), two_operands p.1 p.2 (step Sub p.0) (SumFault kind before p.0) (λ t u g. not_stated p.0 (max (degree kind.term t) (degree kind.term u)) (both t u) g) f e)
+  operation_fault Mul d c p f is at e =
+      let h = places_found Mul c p at in
+      (mul_form p.0 p.1 p.2, (c, is, (h.0, h.1, field_found (codes "y") c p.2 h.2)), two_operands p.1 p.2 (step Mul p.0) (ProductFault kind before p.0) (product_fault p.0) f e)
+  operation_fault Neg d c p f is at e =
+      let h = places_found Neg c p at in
+      (neg_form p.0 p.1, (c, is, (h.0, h.1)), negated_fault p.0 p.1 p.2 f (some_number p.1 p.2 (sym (field_read (codes "x") c p.1 h.1) ∙ h.2)) e)
+    where
+      some_number : (m n : ℕ) → Some m ≡ Some n → m ≡ n
+      some_number m n e = cc
+
+  raw_fault : (d : Data) (m : Raw) (f : FlatError) → SpellsRaw d m → raw_at m ≡ Err f → (m : Form) × SpellsForm d m × FormFault kind before m f
+  raw_fault d (raw_leaf c) f is e = (leaf_form c, (c, is, refl), before_done (kind.leaf_at (length before) c) (λ a. leaf_tree a) f e)
+  raw_fault d (raw op p) f h e = operation_fault op d h.0 p f h.1 h.2 (before_done (operands op p) (λ q. joined_tree op q.0 q.1) f e)
 
   pub node_fault : (d : Data) (f : FlatError) → node_at kind before d ≡ Err f → NodeFault kind before d f
   unfolding node_at
-  node_fault d f e = go (form_of d) refl (sym (case_by (only_member d)) ∙ e)
+  node_fault d f e = go (raw_of d) refl (sym (case_by (only_member d)) ∙ e)
     where
-      go : (o : Option Form) → form_of d ≡ o → by_form o ≡ Err f → NodeFault kind before d f
-      go None is e = inl ((λ m s. none_found (λ _. ⊥) m (sym is ∙ form_again d m s)), sym (err_is (faults.Shape (length before)) f e))
-      go (Some m) is e = inr (m, case_found d (only_member d) m refl is, form_fault m f e)
+      go : (o : Option Raw) → raw_of d ≡ o → by_raw o ≡ Err f → NodeFault kind before d f
+      go None is e = inl ((λ m s. none_found (λ _. ⊥) (raw_form m) (sym is ∙ raw_again d m s)), sym (err_is (faults.Shape (length before)) f e))
+      go (Some m) is e = inr (raw_fault d m f (raw_found d m is) e)

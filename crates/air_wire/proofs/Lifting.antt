@@ -1,10 +1,10 @@
 -- The base expression of a list inside a leaf.
-use Rattle.std.proofs.Common.{◌≡◌, ℕ, List, length, Result, Ok, refl, sym, ap, subst, ◌∙◌}
+use Rattle.std.proofs.Common.{◌≡◌, ℕ, List, length, Result, Ok, sym, ap, subst, ◌∙◌}
 use Rattle.air_field.specs.declared.fields.baby_bear.BabyBear.{BabyBear}
 use Rattle.serde_json.specs.Data.{Data}
 use Rattle.air_field.specs.Ring.{CommRing, Over}
 use Rattle.air_field.specs.Extension.{ExtensionLaws}
-use Rattle.air_symbolic.specs.Trees.{Tree, nothing, leaf_tree, add_tree, sub_tree, neg_tree, mul_tree}
+use Rattle.air_symbolic.specs.Trees.{Tree}
 use Rattle.air_symbolic.specs.declared.leaves.base_leaf.BaseLeaf.{BaseLeaf}
 use Rattle.air_wire.specs.Results.{◌>>=◌, Fails}
 use Rattle.air_wire.specs.laws.Readings.{done}
@@ -14,17 +14,10 @@ use Rattle.air_wire.specs.laws.ExtLeaves.{made_of}
 use Rattle.air_wire.specs.Seen.{over}
 use Rattle.air_wire.specs.Written.{IsWritten}
 use Rattle.air_wire.specs.BaseLeaves.{base_kind, base_seen}
+use Rattle.air_wire.specs.laws.BaseLeaves.{over_same}
 use Rattle.air_wire.specs.ExtLeaves.{at_place, moved, ext_constant_at}
 use Rattle.air_wire.specs.declared.errors.FlatError.{FlatError}
 use Rattle.air_wire.specs.declared.errors.FlatError.TheVariants as faults
-
-pub over_same : (t : Tree (BaseLeaf BabyBear)) → over (base_seen tt) t ≡ t
-over_same nothing = refl
-over_same (leaf_tree a) = refl
-over_same (add_tree t u) = cc (over_same t, over_same u)
-over_same (sub_tree t u) = cc (over_same t, over_same u)
-over_same (neg_tree t) = cc (over_same t)
-over_same (mul_tree t u) = cc (over_same t, over_same u)
 
 -- a list that is written for what is seen of a tree is the tree's own
 pub written_tree : (d : Data) (t : Tree (BaseLeaf BabyBear)) → IsWritten base_kind d (over (base_seen tt) t) → IsWritten base_kind d t

@@ -23,7 +23,7 @@ pub goes_on : {S F : Type 0} (kind : Kind S F) (done : List (Tree S)) (xs : List
 goes_on {S} kind done xs i x t total lt is ok so_far =
     sym (ap (λ (r : Result (Tree S) FlatError). r >>= λ u. nodes_from kind (done ++ u ∷ []) (items_view (drop (i + 1) xs))) ok) ∙ step kind done xs i x total lt is so_far
 
-carry : {A B : Type 0} (f : FlatError) (r : Result A FlatError) (g : A → Result B FlatError) (total : Result B FlatError) → (r >>= g) ≡ total → Fails f r → Fails f total
+pub carry : {A B : Type 0} (f : FlatError) (r : Result A FlatError) (g : A → Result B FlatError) (total : Result B FlatError) → (r >>= g) ≡ total → Fails f r → Fails f total
 carry faults.Memory r g total e h = tt
 carry {A} f r g total e h = sym e ∙ ap (λ (q : Result A FlatError). q >>= g) h
 

@@ -1,5 +1,5 @@
 -- What is seen of an expression, and that it stays.
-use Rattle.std.proofs.Common.{◌≡◌, ℕ, ◌<◌, List, length, refl, sym, ap, ◌∙◌}
+use Rattle.std.proofs.Common.{◌≡◌, ℕ, ◌<◌, List, length, Result, Ok, refl, sym, ap, ◌∙◌}
 use Rattle.air_field.specs.Term.{Term}
 use Rattle.air_field.specs.Degree.{degree_by, cached_weight}
 use Rattle.air_symbolic.specs.Leaves.{Leaves}
@@ -8,6 +8,8 @@ use Rattle.air_symbolic.specs.Nodes.{tree_of}
 use Rattle.air_symbolic.specs.laws.Numbers.{tree_of-kept, tree_of-whole}
 use Rattle.air_symbolic.specs.Pools.{IsPool, Grown, tree_at, term_at}
 use Rattle.air_symbolic.specs.declared.pools.expr.SymbolicExpr.{SymbolicExpr}
+use Rattle.air_wire.specs.declared.errors.FlatError.{FlatError}
+use Rattle.air_wire.specs.Results.{◌>>=◌}
 use Rattle.air_wire.specs.Seen.{over, seen_at, degree, WireLaws}
 
 module _ {U A S F : Type 0} (reads : U → Leaves A F) (grows : U → U → Type 0) (seen : U → A → S) (term : S → Term F) (laws : WireLaws reads grows seen term) where
@@ -37,3 +39,7 @@ module _ {U A S F : Type 0} (reads : U → Leaves A F) (grows : U → U → Type
   seen_kept p q w g i h =
       ap (over (seen q.0)) (ap (λ l. tree_of l i) g.nodes.1 ∙ tree_of-kept g.nodes.0 p.1 i h)
       ∙ over_kept p.0 q.0 g.under (tree_at p i) (tree_of-whole (reads p.0) p.1 w.nodes i h)
+
+-- a leaf that is read, and then put into the pool
+pub leaf_seen : {U A S : Type 0} (seen : U → A → S) (u v : U) (a : A) (t : Tree A) (read : Result S FlatError) → v ≡ u → t ≡ leaf_tree a → read ≡ Ok (seen u a) → (read >>= λ s. Ok (leaf_tree s)) ≡ Ok (over (seen v) t)
+leaf_seen seen u v a t read same tree is = rw (is, tree, same) refl

@@ -1,5 +1,5 @@
 -- Base leaves: how they are spelt, and how they are read in a node.
-use Rattle.std.specs.Prelude.{◌≡◌, ℕ, List, Option, Some, None, Result, Ok, Err, option_map, codes, if◌then◌else◌, nat_lt, bytes_eq, ok_or, refl}
+use Rattle.std.specs.Prelude.{◌≡◌, ℕ, List, [], ◌∷◌, Option, Some, None, Result, Ok, Err, option_map, codes, if◌then◌else◌, nat_lt, bytes_eq, ok_or, refl}
 use Rattle.serde_json.specs.Data.{Data, string}
 use Rattle.serde_json.specs.Find.{as_str}
 use Rattle.air_field.specs.Modulo.{class}
@@ -7,9 +7,9 @@ use Rattle.air_field.specs.declared.fields.baby_bear.BabyBear.{BabyBear}
 use Rattle.air_symbolic.specs.BaseLeaves.{base_term, base_reads, base_grows}
 use Rattle.air_symbolic.specs.declared.leaves.base_leaf.BaseLeaf.{BaseLeaf}
 use Rattle.air_symbolic.specs.declared.leaves.base_leaf.BaseLeaf.TheVariants as leaves
-use Rattle.air_wire.specs.Parts.{only_member, whole}
+use Rattle.air_wire.specs.Parts.{whole, find_name, text_or}
 use Rattle.air_wire.specs.Results.{◌>>=◌}
-use Rattle.air_wire.specs.Entries.{SpellsVariable, variable_data, variable_of}
+use Rattle.air_wire.specs.Entries.{SpellsVariable, variable_plain}
 use Rattle.air_wire.specs.Spelling.{number_data, case_data, IsCase, IsWhole}
 use Rattle.air_wire.specs.Nodes.{Kind}
 use Rattle.air_wire.specs.Seen.{WireLaws}
@@ -26,7 +26,7 @@ SpellsLeaf d (leaves.Constant x) = IsCase (codes "Constant") (IsWhole x.residue)
 -- ---- what is written
 
 abbrev pub leaf_data : BaseLeaf BabyBear → Data
-leaf_data (leaves.Variable v) = case_data (codes "Variable") (variable_data v)
+leaf_data (leaves.Variable v) = case_data (codes "Variable") (variable_plain.written v)
 leaf_data leaves.IsFirstRow = string (codes "IsFirstRow")
 leaf_data leaves.IsLastRow = string (codes "IsLastRow")
 leaf_data leaves.IsTransition = string (codes "IsTransition")
@@ -46,31 +46,22 @@ unfoldable pub element_at : ℕ → Data → Result BabyBear FlatError
 element_at place d = element_or place (whole d)
 
 -- a leaf without contents, by its name
-abbrev pub bare_leaf : List ℕ → Option (BaseLeaf BabyBear)
-bare_leaf name =
-    if bytes_eq name (codes "IsFirstRow") then Some leaves.IsFirstRow
-    else (if bytes_eq name (codes "IsLastRow") then Some leaves.IsLastRow
-    else (if bytes_eq name (codes "IsTransition") then Some leaves.IsTransition
-    else None))
+abbrev pub bare_leaves : List (List ℕ × BaseLeaf BabyBear)
+bare_leaves = (codes "IsFirstRow", leaves.IsFirstRow) ∷ (codes "IsLastRow", leaves.IsLastRow) ∷ (codes "IsTransition", leaves.IsTransition) ∷ []
+
+abbrev pub bare_leaf : ℕ → List ℕ → Result (BaseLeaf BabyBear) FlatError
+bare_leaf place name = ok_or (find_name bare_leaves name) (faults.Shape place)
 
 -- a leaf with contents, by its name
 abbrev pub leaf_with : ℕ → List ℕ → Data → Result (BaseLeaf BabyBear) FlatError
 leaf_with place name d =
-    if bytes_eq name (codes "Variable") then ok_or (option_map (λ v. leaves.Variable v) (variable_of d)) (faults.Shape place)
+    if bytes_eq name (codes "Variable") then ok_or (option_map (λ v. leaves.Variable v) (variable_plain.read d)) (faults.Shape place)
     else (if bytes_eq name (codes "Constant") then (element_at place d >>= λ c. Ok (leaves.Constant c))
     else Err (faults.Shape place))
 
-abbrev pub case_leaf : ℕ → Option (List ℕ × Data) → Result (BaseLeaf BabyBear) FlatError
-case_leaf place None = Err (faults.Shape place)
-case_leaf place (Some c) = leaf_with place c.0 c.1
-
-abbrev pub leaf_named : ℕ → Option (List ℕ) → Data → Result (BaseLeaf BabyBear) FlatError
-leaf_named place None d = case_leaf place (only_member d)
-leaf_named place (Some name) d = ok_or (bare_leaf name) (faults.Shape place)
-
 -- the leaf that is spelt by a value in the node at a place, or its fault
 unfoldable pub leaf_at : ℕ → Data → Result (BaseLeaf BabyBear) FlatError
-leaf_at place d = leaf_named place (as_str d) d
+leaf_at place d = text_or (Err (faults.Shape place)) (bare_leaf place) (leaf_with place) (as_str d) d
 
 abbrev pub base_kind : Kind (BaseLeaf BabyBear) BabyBear
 base_kind = record { spells = SpellsLeaf; writes = WritesLeaf; leaf_at = leaf_at; term = base_term }

@@ -1,8 +1,9 @@
 -- Boundary cells: how they are spelt, and how they are read.
-use Rattle.std.specs.Prelude.{◌≡◌, ℕ, List, Option, Some, None, option_and_then, codes, if◌then◌else◌, bytes_eq}
+use Rattle.std.specs.Prelude.{◌≡◌, ℕ, List, [], ◌∷◌, Option, option_and_then, codes}
 use Rattle.serde_json.specs.Data.{Data, string, object, member, no_members}
 use Rattle.serde_json.specs.Find.{as_str, get}
-use Rattle.air_wire.specs.Parts.{whole_at}
+use Rattle.air_wire.specs.Parts.{whole_at, all_three, find_name}
+use Rattle.air_wire.specs.Plain.{Plain}
 use Rattle.air_wire.specs.Spelling.{number_data, HasField, HasWhole}
 use Rattle.air_windows.specs.declared.boundary.BoundaryEnd.{BoundaryEnd}
 use Rattle.air_windows.specs.declared.boundary.BoundaryEnd.TheVariants as ends
@@ -30,20 +31,20 @@ SpellsCell d p =
 
 -- ---- how a reader finds them
 
-abbrev pub end_named : List ℕ → Option BoundaryEnd
-end_named name = if bytes_eq name (codes "First") then Some ends.First else (if bytes_eq name (codes "Last") then Some ends.Last else None)
+abbrev pub bare_ends : List (List ℕ × BoundaryEnd)
+bare_ends = (codes "First", ends.First) ∷ (codes "Last", ends.Last) ∷ []
 
 unfoldable pub end_of : Data → Option BoundaryEnd
-end_of d = option_and_then end_named (as_str d)
+end_of d = option_and_then (find_name bare_ends) (as_str d)
+
+abbrev pub end_plain : Plain BoundaryEnd
+end_plain = record { written = end_data; spells = SpellsEnd; read = end_of }
 
 abbrev pub cell_at : ℕ → BoundaryEnd → ℕ → BoundaryPublic
 cell_at c e p = record { column = c; end = e; public_value = p }
 
-abbrev pub cell_with : Option ℕ → Option BoundaryEnd → Option ℕ → Option BoundaryPublic
-cell_with None e p = None
-cell_with (Some c) None p = None
-cell_with (Some c) (Some e) None = None
-cell_with (Some c) (Some e) (Some p) = Some (cell_at c e p)
-
 unfoldable pub cell_of : Data → Option BoundaryPublic
-cell_of d = cell_with (whole_at (codes "column") d) (option_and_then end_of (get (codes "end") d)) (whole_at (codes "public_value") d)
+cell_of d = all_three cell_at (whole_at (codes "column") d) (option_and_then end_of (get (codes "end") d)) (whole_at (codes "public_value") d)
+
+abbrev pub cell_plain : Plain BoundaryPublic
+cell_plain = record { written = cell_data; spells = SpellsCell; read = cell_of }

@@ -1,5 +1,5 @@
 -- Extension leaves: how they are spelt, and how they are read in a node.
-use Rattle.std.specs.Prelude.{◌≡◌, ℕ, List, Option, Some, None, Result, Ok, Err, option_map, codes, if◌then◌else◌, bytes_eq, ok_or}
+use Rattle.std.specs.Prelude.{◌≡◌, ℕ, List, Result, Ok, Err, option_map, codes, if◌then◌else◌, bytes_eq, ok_or}
 use Rattle.serde_json.specs.Data.{Data, array}
 use Rattle.air_field.specs.Ring.{Over}
 use Rattle.air_field.specs.Term.{Term, leaf_term, ext_const_term}
@@ -8,10 +8,10 @@ use Rattle.air_variables.specs.ExtEntries.{ext_entry_leaf}
 use Rattle.air_symbolic.specs.Trees.{term_of}
 use Rattle.air_symbolic.specs.BaseLeaves.{base_term}
 use Rattle.air_symbolic.specs.ExtTrees.{WholeLeaf, whole_base, whole_variable, whole_constant}
-use Rattle.air_wire.specs.Parts.{only_member}
+use Rattle.air_wire.specs.Parts.{only_member, case_or}
 use Rattle.air_wire.specs.Results.{◌>>=◌}
 use Rattle.air_wire.specs.Spelling.{case_data, IsCase}
-use Rattle.air_wire.specs.ExtEntries.{SpellsExtVariable, ext_variable_data, ext_variable_of}
+use Rattle.air_wire.specs.ExtEntries.{SpellsExtVariable, ext_variable_plain}
 use Rattle.air_wire.specs.Coefficients.{number_items, elements_at}
 use Rattle.air_wire.specs.Nodes.{Kind, root_of}
 use Rattle.air_wire.specs.Good.{IsList}
@@ -29,7 +29,7 @@ SpellsWhole coefficients d (whole_constant e) = IsCase (codes "ExtConstant") (λ
 -- what is written: a Base leaf's list begun anew
 abbrev pub WritesWhole : {EF : Type 0} → (EF → List BabyBear) → Data → WholeLeaf BabyBear EF → Type 0
 WritesWhole coefficients d (whole_base t) = IsCase (codes "Base") (λ c. IsWritten base_kind c t) d
-WritesWhole coefficients d (whole_variable v) = d ≡ case_data (codes "ExtVariable") (ext_variable_data v)
+WritesWhole coefficients d (whole_variable v) = d ≡ case_data (codes "ExtVariable") (ext_variable_plain.written v)
 WritesWhole coefficients d (whole_constant e) = d ≡ case_data (codes "ExtConstant") (array (number_items (coefficients e)))
 
 abbrev pub whole_term : {EF : Type 0} → (EF → List BabyBear) → WholeLeaf BabyBear EF → Term BabyBear
@@ -62,17 +62,13 @@ ext_constant_at a count place c = elements_at count place c >>= λ cs. Ok (a.ext
 abbrev pub ext_leaf_with : {EF : Type 0} → Over BabyBear EF → ℕ → ℕ → List ℕ → Data → Result (WholeLeaf BabyBear EF) FlatError
 ext_leaf_with a count place name c =
     if bytes_eq name (codes "Base") then lifted_at place c
-    else (if bytes_eq name (codes "ExtVariable") then ok_or (option_map (λ v. whole_variable v) (ext_variable_of c)) (faults.Shape place)
+    else (if bytes_eq name (codes "ExtVariable") then ok_or (option_map (λ v. whole_variable v) (ext_variable_plain.read c)) (faults.Shape place)
     else (if bytes_eq name (codes "ExtConstant") then (ext_constant_at a count place c >>= λ e. Ok (whole_constant e))
     else Err (faults.Shape place)))
 
-abbrev pub case_ext_leaf : {EF : Type 0} → Over BabyBear EF → ℕ → ℕ → Option (List ℕ × Data) → Result (WholeLeaf BabyBear EF) FlatError
-case_ext_leaf a count place None = Err (faults.Shape place)
-case_ext_leaf a count place (Some c) = ext_leaf_with a count place c.0 c.1
-
 -- the leaf that is spelt by a value in the node at a place, or its fault
 unfoldable pub ext_leaf_at : {EF : Type 0} → Over BabyBear EF → ℕ → ℕ → Data → Result (WholeLeaf BabyBear EF) FlatError
-ext_leaf_at a count place d = case_ext_leaf a count place (only_member d)
+ext_leaf_at a count place d = case_or (Err (faults.Shape place)) (ext_leaf_with a count place) (only_member d)
 
 -- extension leaves, with so many coefficients
 abbrev pub ext_kind : {EF : Type 0} → Over BabyBear EF → (EF → List BabyBear) → ℕ → Kind (WholeLeaf BabyBear EF) BabyBear

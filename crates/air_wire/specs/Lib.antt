@@ -4,11 +4,14 @@ pub mod Faults
 pub mod Parts
 pub mod Results
 pub mod Spelling
+pub mod Plain
+pub mod EntryForms
 pub mod Entries
 pub mod ExtEntries
 pub mod Boundaries
 pub mod Seen
 pub mod Nodes
+pub mod Reads
 pub mod Written
 pub mod BaseLeaves
 pub mod Good

@@ -5,9 +5,11 @@ use Rattle.serde_json.specs.Data.{Data, Items, no_items, item}
 use Rattle.serde_json.specs.Find.{as_array}
 use Rattle.air_field.specs.Term.{Term}
 use Rattle.air_symbolic.specs.Trees.{Tree, leaf_tree, add_tree, sub_tree, neg_tree, mul_tree}
-use Rattle.air_wire.specs.Parts.{only_member, whole_at}
+use Rattle.air_wire.specs.Parts.{only_member, whole_at, all_three, find_name, case_or}
 use Rattle.air_wire.specs.Results.{◌>>=◌}
 use Rattle.air_wire.specs.Seen.{degree}
+use Rattle.air_wire.specs.declared.operations.Operation.{Operation}
+use Rattle.air_wire.specs.declared.operations.Operation.TheVariants.{Add, Sub, Mul, Neg}
 use Rattle.air_wire.specs.declared.errors.FlatError.{FlatError}
 use Rattle.air_wire.specs.declared.errors.FlatError.TheVariants as faults
 
@@ -39,83 +41,64 @@ operand done i = operand_of (length done) i (slice_get done i)
 abbrev pub stated : {X : Type 0} → ℕ → ℕ → ℕ → X → Result X FlatError
 stated place d found t = if d == found then Ok t else Err (faults.WrongDegree place d found)
 
--- a product's degree
-abbrev pub product_degree : ℕ → ℕ → Result ℕ FlatError
-product_degree a b = if nat_lt (a + b) (2 ^ 64) then Ok (a + b) else Err faults.DegreeOverflow
+-- ---- operations: a negative has one operand, which stands for both
 
--- the stated degree and the operands of a node of two
-abbrev pub two_with : Option ℕ → Option ℕ → Option ℕ → Option (ℕ × ℕ × ℕ)
-two_with None x y = None
-two_with (Some d) None y = None
-two_with (Some d) (Some x) None = None
-two_with (Some d) (Some x) (Some y) = Some (d, x, y)
+abbrev pub operations : List (List ℕ × Operation)
+operations = (codes "Add", Add) ∷ (codes "Sub", Sub) ∷ (codes "Mul", Mul) ∷ (codes "Neg", Neg) ∷ []
 
-unfoldable pub two_of : Data → Option (ℕ × ℕ × ℕ)
-two_of c = two_with (whole_at (codes "degree_multiple") c) (whole_at (codes "x") c) (whole_at (codes "y") c)
+-- the place of the second operand
+abbrev pub second_of : Operation → Data → Option ℕ
+second_of Add c = whole_at (codes "y") c
+second_of Sub c = whole_at (codes "y") c
+second_of Mul c = whole_at (codes "y") c
+second_of Neg c = whole_at (codes "x") c
 
-abbrev pub one_with : Option ℕ → Option ℕ → Option (ℕ × ℕ)
-one_with None x = None
-one_with (Some d) None = None
-one_with (Some d) (Some x) = Some (d, x)
+-- the stated degree and the operands' places
+unfoldable pub places_of : Operation → Data → Option (ℕ × ℕ × ℕ)
+places_of op c = all_three (λ d x y. (d, x, y)) (whole_at (codes "degree_multiple") c) (whole_at (codes "x") c) (second_of op c)
 
-unfoldable pub one_of : Data → Option (ℕ × ℕ)
-one_of c = one_with (whole_at (codes "degree_multiple") c) (whole_at (codes "x") c)
+-- the degree, where it fits `usize`
+abbrev pub joined_degree : Operation → ℕ → ℕ → Result ℕ FlatError
+joined_degree Add a b = Ok (max a b)
+joined_degree Sub a b = Ok (max a b)
+joined_degree Mul a b = if nat_lt (a + b) (2 ^ 64) then Ok (a + b) else Err faults.DegreeOverflow
+joined_degree Neg a b = Ok a
 
--- the operands of a sum or a difference, whose degree is stated right
-unfoldable pub sum_at : {S F : Type 0} → Kind S F → List (Tree S) → Data → Result (Tree S × Tree S) FlatError
-sum_at kind done c = do
-  p ← ok_or (two_of c) (faults.Shape (length done))
+-- the tree
+abbrev pub joined_tree : {S : Type 0} → Operation → Tree S → Tree S → Tree S
+joined_tree Add t u = add_tree t u
+joined_tree Sub t u = sub_tree t u
+joined_tree Mul t u = mul_tree t u
+joined_tree Neg t u = neg_tree t
+
+-- the operands, where the degree is stated right
+unfoldable pub operands_at : {S F : Type 0} → Kind S F → List (Tree S) → Operation → Data → Result (Tree S × Tree S) FlatError
+operands_at kind done op c = do
+  p ← ok_or (places_of op c) (faults.Shape (length done))
   t ← operand done p.1
   u ← operand done p.2
-  stated (length done) p.0 (max (degree kind.term t) (degree kind.term u)) (t, u)
-
--- the operands of a product
-unfoldable pub product_at : {S F : Type 0} → Kind S F → List (Tree S) → Data → Result (Tree S × Tree S) FlatError
-product_at kind done c = do
-  p ← ok_or (two_of c) (faults.Shape (length done))
-  t ← operand done p.1
-  u ← operand done p.2
-  found ← product_degree (degree kind.term t) (degree kind.term u)
+  found ← joined_degree op (degree kind.term t) (degree kind.term u)
   stated (length done) p.0 found (t, u)
 
--- the operand of a negative
-unfoldable pub negated_at : {S F : Type 0} → Kind S F → List (Tree S) → Data → Result (Tree S) FlatError
-negated_at kind done c = do
-  p ← ok_or (one_of c) (faults.Shape (length done))
-  t ← operand done p.1
-  stated (length done) p.0 (degree kind.term t) t
+-- a node of an operation, of one that may be none
+abbrev pub operation_at : {S F : Type 0} → Kind S F → List (Tree S) → Operation → Data → Result (Tree S) FlatError
+operation_at kind done op c = operands_at kind done op c >>= λ p. Ok (joined_tree op p.0 p.1)
 
-abbrev pub add_at : {S F : Type 0} → Kind S F → List (Tree S) → Data → Result (Tree S) FlatError
-add_at kind done c = sum_at kind done c >>= λ p. Ok (add_tree p.0 p.1)
+abbrev pub operation_or : {S F : Type 0} → Kind S F → List (Tree S) → Option Operation → Data → Result (Tree S) FlatError
+operation_or kind done None c = Err (faults.Shape (length done))
+operation_or kind done (Some op) c = operation_at kind done op c
 
-abbrev pub sub_at : {S F : Type 0} → Kind S F → List (Tree S) → Data → Result (Tree S) FlatError
-sub_at kind done c = sum_at kind done c >>= λ p. Ok (sub_tree p.0 p.1)
-
-abbrev pub mul_at : {S F : Type 0} → Kind S F → List (Tree S) → Data → Result (Tree S) FlatError
-mul_at kind done c = product_at kind done c >>= λ p. Ok (mul_tree p.0 p.1)
-
-abbrev pub neg_at : {S F : Type 0} → Kind S F → List (Tree S) → Data → Result (Tree S) FlatError
-neg_at kind done c = negated_at kind done c >>= λ t. Ok (neg_tree t)
-
-abbrev pub leaf_node_at : {S F : Type 0} → Kind S F → List (Tree S) → Data → Result (Tree S) FlatError
-leaf_node_at kind done c = kind.leaf_at (length done) c >>= λ a. Ok (leaf_tree a)
+abbrev pub leaf_node_at : {S F : Type 0} → Kind S F → ℕ → Data → Result (Tree S) FlatError
+leaf_node_at kind place c = kind.leaf_at place c >>= λ a. Ok (leaf_tree a)
 
 abbrev pub node_with : {S F : Type 0} → Kind S F → List (Tree S) → List ℕ → Data → Result (Tree S) FlatError
 node_with kind done name c =
-    if bytes_eq name (codes "Leaf") then leaf_node_at kind done c
-    else (if bytes_eq name (codes "Add") then add_at kind done c
-    else (if bytes_eq name (codes "Sub") then sub_at kind done c
-    else (if bytes_eq name (codes "Mul") then mul_at kind done c
-    else (if bytes_eq name (codes "Neg") then neg_at kind done c
-    else Err (faults.Shape (length done))))))
-
-abbrev pub case_node : {S F : Type 0} → Kind S F → List (Tree S) → Option (List ℕ × Data) → Result (Tree S) FlatError
-case_node kind done None = Err (faults.Shape (length done))
-case_node kind done (Some c) = node_with kind done c.0 c.1
+    if bytes_eq name (codes "Leaf") then leaf_node_at kind (length done) c
+    else operation_or kind done (find_name operations name) c
 
 -- the tree of the node that is spelt by a value, behind the trees of done, or its first fault
 unfoldable pub node_at : {S F : Type 0} → Kind S F → List (Tree S) → Data → Result (Tree S) FlatError
-node_at kind done d = case_node kind done (only_member d)
+node_at kind done d = case_or (Err (faults.Shape (length done))) (node_with kind done) (only_member d)
 
 -- the trees of done and of the further nodes, or the first fault
 unfoldable pub nodes_from : {S F : Type 0} → Kind S F → List (Tree S) → Items → Result (List (Tree S)) FlatError

@@ -1,9 +1,8 @@
 -- Lists of whole numbers: how they are spelt, and how they are found.
 use Rattle.std.specs.Prelude.{◌≡◌, ℕ, List, map, Option, Some, option_and_then}
-use Rattle.serde_json.specs.Data.{Data, array, object, Items}
+use Rattle.serde_json.specs.Data.{Data, array, Items}
 use Rattle.serde_json.specs.Find.{get, as_array}
 use Rattle.serde_json.specs.View.{items_of}
-use Rattle.air_wire.specs.Parts.{whole}
 use Rattle.air_wire.specs.Spelling.{number_data}
 use Rattle.air_wire.specs.Coefficients.{wholes}
 

@@ -3,10 +3,13 @@ pub mod Readings
 pub mod Answering
 pub mod BaseLeaves
 pub mod Boundaries
+pub mod Plain
+pub mod EntryForms
 pub mod Entries
 pub mod ExtEntries
 pub mod ExtLeaves
 pub mod Nodes
+pub mod Reads
 pub mod Lists
 pub mod Written
 pub mod Coefficients

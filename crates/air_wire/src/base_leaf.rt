@@ -2,15 +2,17 @@
 ghost use Rattle.std.specs.Prelude.{◌≡◌, ◌<◌, IfOk};
 ghost use Rattle.serde_json.specs.View.{view};
 ghost use Rattle.air_field.specs.Modulo.{class};
-ghost use Rattle.air_wire.specs.BaseLeaves.{element_at, leaf_at, leaf_data};
+ghost use Rattle.air_wire.specs.BaseLeaves.{element_at, leaf_with, leaf_at, leaf_data};
 ghost use Rattle.air_wire.specs.Spelling.{number_data};
 
-use crate::entries::{variable_from, variable_value};
+use crate::cases::case_value;
 use crate::errors::FlatError;
 use crate::parts::{only_member, whole};
+use crate::plain::Plain;
 use crate::wire_leaf::WireLeaf;
 use air_field::BabyBear;
 use air_symbolic::BaseLeaf;
+use air_variables::SymbolicVariable;
 use serde_json::{Value, json};
 use std::alloc::{AllocError, Global};
 
@@ -34,6 +36,21 @@ pub fn element_from(at: usize, value: &Value) -> Result<BabyBear, FlatError>
     }
 }
 
+// The leaf of this name with contents.
+fn leaf_with(at: usize, name: &str, contents: &Value) -> Result<BaseLeaf<BabyBear>, FlatError>
+    ensures { result ≡ leaf_with at name.now (view contents.now) }
+{
+    if name == "Variable" {
+        let variable = SymbolicVariable::read(contents).ok_or(FlatError::Shape { at })?;
+        Ok(BaseLeaf::Variable(variable))
+    } else if name == "Constant" {
+        let element = element_from(at, contents)?;
+        Ok(BaseLeaf::Constant(element))
+    } else {
+        Err(FlatError::Shape { at })
+    }
+}
+
 #[tactic(auto, unfolding(crate::specs::BaseLeaves::leaf_at))]
 fn base_leaf_from(at: usize, value: &Value) -> Result<BaseLeaf<BabyBear>, FlatError>
     ensures { result ≡ leaf_at at (view value.now) }
@@ -51,15 +68,7 @@ fn base_leaf_from(at: usize, value: &Value) -> Result<BaseLeaf<BabyBear>, FlatEr
         };
     }
     let (name, contents) = only_member(value).ok_or(shape)?;
-    if name == "Variable" {
-        let variable = variable_from(contents).ok_or(shape)?;
-        Ok(BaseLeaf::Variable(variable))
-    } else if name == "Constant" {
-        let element = element_from(at, contents)?;
-        Ok(BaseLeaf::Constant(element))
-    } else {
-        Err(shape)
-    }
+    leaf_with(at, name, contents)
 }
 
 pub(crate) fn element_value(element: BabyBear) -> Value
@@ -73,15 +82,15 @@ fn base_leaf_value(alloc: Global, leaf: &BaseLeaf<BabyBear>) -> Result<Value, Al
 {
     match leaf {
         BaseLeaf::Variable(variable) => {
-            let contents = variable_value(alloc, variable)?;
-            json!(in alloc; {"Variable": contents})
+            let contents = variable.written(alloc)?;
+            case_value(alloc, "Variable", contents)
         }
         BaseLeaf::IsFirstRow => json!(in alloc; "IsFirstRow"),
         BaseLeaf::IsLastRow => json!(in alloc; "IsLastRow"),
         BaseLeaf::IsTransition => json!(in alloc; "IsTransition"),
         BaseLeaf::Constant(element) => {
             let contents = element_value(*element);
-            json!(in alloc; {"Constant": contents})
+            case_value(alloc, "Constant", contents)
         }
     }
 }

@@ -6,25 +6,27 @@ ghost use Rattle.air_symbolic.specs.Pools.{IsPool, Grown, tree_at};
 ghost use Rattle.air_symbolic.specs.BaseLeaves.{base_reads, base_grows};
 ghost use Rattle.air_symbolic.specs.ExtLeaves.{ext_valid};
 ghost use Rattle.air_symbolic.specs.ExtTrees.{whole_leaf};
+ghost use Rattle.air_wire.specs.Reads.{Reads};
 ghost use Rattle.air_wire.specs.Results.{Gives};
 ghost use Rattle.air_wire.specs.Spelling.{case_data};
 ghost use Rattle.air_wire.specs.Coefficients.{number_items, wholes, if_canonical, elements_at};
 ghost use Rattle.air_wire.specs.BaseLeaves.{base_kind};
 ghost use Rattle.air_wire.specs.Nodes.{root_of};
-ghost use Rattle.air_wire.specs.ExtEntries.{ext_variable_data};
+ghost use Rattle.air_wire.specs.ExtEntries.{ext_variable_plain};
 ghost use Rattle.air_wire.specs.ExtLeaves.{WritesWhole, at_place, moved, ext_constant_at, ext_leaf_at};
 
 use crate::base_leaf::{class_of, element_value};
+use crate::cases::case_value;
 use crate::errors::FlatError;
-use crate::ext_entries::{ext_variable_from, ext_variable_value};
 use crate::lists::list_from;
 use crate::parts::{only_member, whole};
+use crate::plain::Plain;
 use crate::wire_leaf::WireLeaf;
 use crate::written_lists::to_flat_value;
 use air_field::{BabyBear, ExtensionField};
 use air_symbolic::{BaseLeaf, ExprId, ExprPool, ExtLeaf};
 use air_variables::SymbolicVariableExt;
-use serde_json::{Value, json};
+use serde_json::Value;
 use std::alloc::{AllocError, Global};
 
 // The whole numbers of a list.
@@ -113,9 +115,7 @@ fn base_from(
     contents: &Value,
 ) -> Result<ExprId<BaseLeaf<BabyBear>>, FlatError>
     requires { IsPool base_reads under.old }
-    ensures grown { Grown base_grows base_reads under.old under.new }
-    ensures here { IfOk result (λ i. i < length under.new.1) }
-    ensures read { Gives (tree_at under.new) result
+    ensures { Reads base_grows base_reads tree_at under.old under.new result
         (moved at (root_of base_kind (view contents.now))) }
 {
     match list_from(alloc, under, contents) {
@@ -142,7 +142,7 @@ fn ext_leaf_from<EF: ExtensionField<BabyBear>>(
     if name == "Base" {
         Ok(ExtLeaf::Base(base_from(alloc, at, under, contents)?))
     } else if name == "ExtVariable" {
-        let variable = ext_variable_from(contents).ok_or(shape)?;
+        let variable = SymbolicVariableExt::read(contents).ok_or(shape)?;
         Ok(ExtLeaf::ExtVariable(variable))
     } else if name == "ExtConstant" {
         Ok(ExtLeaf::ExtConstant(constant_from(alloc, at, contents)?))
@@ -162,12 +162,6 @@ fn elements_value(alloc: Global, elements: &[BabyBear]) -> Result<Value, AllocEr
     Ok(Value::from(items))
 }
 
-fn base_value(alloc: Global, list: Value) -> Result<Value, AllocError>
-    ensures { IfOk result (λ v. view v ≡ case_data (codes "Base") (view list)) }
-{
-    json!(in alloc; {"Base": list})
-}
-
 fn constant_value<EF: ExtensionField<BabyBear>>(
     alloc: Global,
     element: &EF,
@@ -176,7 +170,7 @@ fn constant_value<EF: ExtensionField<BabyBear>>(
         (array (number_items (EF.coefficients element.now)))) }
 {
     let contents = elements_value(alloc, element.as_basis_coefficients_slice())?;
-    json!(in alloc; {"ExtConstant": contents})
+    case_value(alloc, "ExtConstant", contents)
 }
 
 fn variable_value<EF: ExtensionField<BabyBear>>(
@@ -184,10 +178,10 @@ fn variable_value<EF: ExtensionField<BabyBear>>(
     variable: &SymbolicVariableExt<BabyBear, EF>,
 ) -> Result<Value, AllocError>
     ensures { IfOk result (λ v. view v ≡ case_data (codes "ExtVariable")
-        (ext_variable_data variable.now)) }
+        (ext_variable_plain.written variable.now)) }
 {
-    let contents = ext_variable_value(alloc, variable)?;
-    json!(in alloc; {"ExtVariable": contents})
+    let contents = variable.written(alloc)?;
+    case_value(alloc, "ExtVariable", contents)
 }
 
 fn ext_leaf_value<EF: ExtensionField<BabyBear>>(
@@ -204,7 +198,7 @@ fn ext_leaf_value<EF: ExtensionField<BabyBear>>(
     match leaf {
         ExtLeaf::Base(id) => {
             let list = to_flat_value(alloc, under, *id)?;
-            Ok(base_value(alloc, list)?)
+            Ok(case_value(alloc, "Base", list)?)
         }
         ExtLeaf::ExtVariable(variable) => Ok(variable_value(alloc, variable)?),
         ExtLeaf::ExtConstant(element) => Ok(constant_value(alloc, element)?),

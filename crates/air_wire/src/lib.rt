@@ -3,6 +3,7 @@
 
 mod base_leaf;
 mod boundary;
+mod cases;
 mod entries;
 mod errors;
 mod ext_entries;
@@ -10,7 +11,9 @@ mod ext_leaf;
 pub mod laws;
 mod lists;
 mod nodes;
+mod operations;
 pub mod parts;
+mod plain;
 mod spelled;
 pub mod whole_lists;
 mod wire_leaf;
@@ -21,6 +24,7 @@ pub use base_leaf::element_from;
 pub use errors::FlatError;
 pub use lists::from_flat_value;
 pub use parts::{whole, whole_at};
+pub use plain::Plain;
 pub use spelled::Spelled;
 pub use wire_leaf::WireLeaf;
 pub use written_lists::to_flat_value;

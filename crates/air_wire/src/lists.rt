@@ -2,6 +2,7 @@
 ghost use Rattle.std.specs.Prelude.{◌≢◌, ◌<◌, [], length, map, All, IfOk, IfErr};
 ghost use Rattle.serde_json.specs.View.{view, items_view};
 ghost use Rattle.air_symbolic.specs.Pools.{IsPool, Grown};
+ghost use Rattle.air_wire.specs.Reads.{Reads, ReadsAll};
 ghost use Rattle.air_wire.specs.Results.{Gives};
 ghost use Rattle.air_wire.specs.Seen.{seen_at};
 ghost use Rattle.air_wire.specs.Good.{IsList, HasFault};
@@ -21,9 +22,7 @@ fn ids_from<A: WireLeaf>(
     items: &[Value],
 ) -> Result<Vec<ExprId<A>>, FlatError>
     requires { IsPool A.reads pool.old }
-    ensures grown { Grown A.grows A.reads pool.old pool.new }
-    ensures here { IfOk result (λ ids. All (λ i. i < length pool.new.1) ids.items) }
-    ensures read { Gives (λ ids. map (seen_at A.seen pool.new) ids.items) result
+    ensures { ReadsAll A.grows A.reads (seen_at A.seen) (λ v. v.items) pool.old pool.new result
         (nodes_from A.kind [] (items_view items.now)) }
 {
     let mut ids = Vec::new(alloc);
@@ -55,9 +54,8 @@ pub(crate) fn list_from<A: WireLeaf>(
     value: &Value,
 ) -> Result<ExprId<A>, FlatError>
     requires { IsPool A.reads pool.old }
-    ensures grown { Grown A.grows A.reads pool.old pool.new }
-    ensures here { IfOk result (λ i. i < length pool.new.1) }
-    ensures read { Gives (seen_at A.seen pool.new) result (root_of A.kind (view value.now)) }
+    ensures { Reads A.grows A.reads (seen_at A.seen) pool.old pool.new result
+        (root_of A.kind (view value.now)) }
 {
     let items = value.as_array().ok_or(FlatError::Shape { at: 0 })?;
     let ids = ids_from(alloc, pool, items)?;

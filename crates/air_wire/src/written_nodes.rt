@@ -1,11 +1,12 @@
 //! One node of a list that is written.
-ghost use Rattle.std.specs.Prelude.{◌≡◌, ◌<◌, length, Some, IfOk, IfErr, codes};
+ghost use Rattle.std.specs.Prelude.{◌≡◌, ◌<◌, length, Some, IfOk, IfErr};
 ghost use Rattle.std.specs.List.{slice_get};
 ghost use Rattle.serde_json.specs.View.{view};
 ghost use Rattle.air_wire.specs.Spelling.{case_data};
 ghost use Rattle.air_wire.specs.Written.{two_data, one_data};
 ghost use Rattle.air_wire.specs.Writing.{Placed, IsReady, IsNodeValue};
 
+use crate::cases::case_value;
 use crate::errors::FlatError;
 use crate::wire_leaf::WireLeaf;
 use air_symbolic::{ExprId, SymbolicExpr};
@@ -31,28 +32,24 @@ fn place<A: WireLeaf>(places: &[Option<usize>], id: ExprId<A>) -> usize
     }
 }
 
-fn add_value(alloc: Global, degree: usize, x: usize, y: usize) -> Result<Value, AllocError>
-    ensures { IfOk result (λ v. view v ≡ case_data (codes "Add") (two_data degree x y)) }
+fn two_value(
+    alloc: Global,
+    name: &str,
+    degree: usize,
+    x: usize,
+    y: usize,
+) -> Result<Value, AllocError>
+    ensures { IfOk result (λ v. view v ≡ case_data name.now (two_data degree x y)) }
 {
-    json!(in alloc; {"Add": {"degree_multiple": degree, "x": x, "y": y}})
+    let contents = json!(in alloc; {"degree_multiple": degree, "x": x, "y": y})?;
+    case_value(alloc, name, contents)
 }
 
-fn sub_value(alloc: Global, degree: usize, x: usize, y: usize) -> Result<Value, AllocError>
-    ensures { IfOk result (λ v. view v ≡ case_data (codes "Sub") (two_data degree x y)) }
+fn one_value(alloc: Global, name: &str, degree: usize, x: usize) -> Result<Value, AllocError>
+    ensures { IfOk result (λ v. view v ≡ case_data name.now (one_data degree x)) }
 {
-    json!(in alloc; {"Sub": {"degree_multiple": degree, "x": x, "y": y}})
-}
-
-fn mul_value(alloc: Global, degree: usize, x: usize, y: usize) -> Result<Value, AllocError>
-    ensures { IfOk result (λ v. view v ≡ case_data (codes "Mul") (two_data degree x y)) }
-{
-    json!(in alloc; {"Mul": {"degree_multiple": degree, "x": x, "y": y}})
-}
-
-fn neg_value(alloc: Global, degree: usize, x: usize) -> Result<Value, AllocError>
-    ensures { IfOk result (λ v. view v ≡ case_data (codes "Neg") (one_data degree x)) }
-{
-    json!(in alloc; {"Neg": {"degree_multiple": degree, "x": x}})
+    let contents = json!(in alloc; {"degree_multiple": degree, "x": x})?;
+    case_value(alloc, name, contents)
 }
 
 /// What is written for a node whose operands are written.
@@ -71,7 +68,7 @@ pub(crate) fn node_value<A: WireLeaf>(
     match *node {
         SymbolicExpr::Leaf(leaf) => {
             let contents = leaf.leaf_value(alloc, under)?;
-            Ok(json!(in alloc; {"Leaf": contents})?)
+            Ok(case_value(alloc, "Leaf", contents)?)
         }
         SymbolicExpr::Add {
             x,
@@ -79,7 +76,7 @@ pub(crate) fn node_value<A: WireLeaf>(
             degree_multiple,
         } => {
             let (i, j) = (place(places, x), place(places, y));
-            Ok(add_value(alloc, degree_multiple, i, j)?)
+            Ok(two_value(alloc, "Add", degree_multiple, i, j)?)
         }
         SymbolicExpr::Sub {
             x,
@@ -87,10 +84,10 @@ pub(crate) fn node_value<A: WireLeaf>(
             degree_multiple,
         } => {
             let (i, j) = (place(places, x), place(places, y));
-            Ok(sub_value(alloc, degree_multiple, i, j)?)
+            Ok(two_value(alloc, "Sub", degree_multiple, i, j)?)
         }
         SymbolicExpr::Neg { x, degree_multiple } => {
-            Ok(neg_value(alloc, degree_multiple, place(places, x))?)
+            Ok(one_value(alloc, "Neg", degree_multiple, place(places, x))?)
         }
         SymbolicExpr::Mul {
             x,
@@ -98,7 +95,7 @@ pub(crate) fn node_value<A: WireLeaf>(
             degree_multiple,
         } => {
             let (i, j) = (place(places, x), place(places, y));
-            Ok(mul_value(alloc, degree_multiple, i, j)?)
+            Ok(two_value(alloc, "Mul", degree_multiple, i, j)?)
         }
     }
 }

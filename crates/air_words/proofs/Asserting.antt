@@ -1,41 +1,19 @@
 -- Lists of assertions, one call after another.
 use Rattle.std.specs.List.{AllZip}
-use Rattle.std.proofs.Common.{◌≡◌, ℕ, ◌+◌, ◌<◌, ◌≤◌, List, [], ◌++◌, length, take, Result, Ok, Err, refl, subst, sym, arith}
-use Rattle.std.proofs.lemmas.List.{take-append-le, length-append}
+use Rattle.std.proofs.Common.{◌≡◌, ◌<◌, List, [], ◌++◌, take, Result, Ok, Err, refl, subst, sym}
 use Rattle.std.proofs.lemmas.Slice.Zip.{AllZip-long}
-use Rattle.std.proofs.Math.Seq.{take-append-add}
 use Rattle.air_field.specs.Term.{Leaf, Term}
 use Rattle.air_windows.specs.declared.errors.AirError.{AirError}
 use Rattle.air_builder.specs.Assertion.{Assertion}
 use Rattle.air_builder.specs.Batches.{GrewByFirst, AssertedEach}
 use Rattle.air_builder.specs.Builders.{BuilderView, BuilderLaws}
+use Rattle.air_builder.specs.laws.Batches.{first_of_two, first_whole}
 use Rattle.air_builder.specs.laws.Zips.{AllZip-take}
 use Rattle.air_words.specs.Gadgets.{AssertedList}
 
 -- one list, and then another
 abbrev pub Then : {F : Type 0} → (List (Assertion F) → Type 0) → (List (Assertion F) → Type 0) → List (Assertion F) → Type 0
 Then {F = F} is more ss = (xs : List (Assertion F)) × (ys : List (Assertion F)) × is xs × more ys × (ss ≡ xs ++ ys)
-
-module _ {S F : Type 0} (grew : S → S → List (Assertion F) → Type 0) (a b : S) (xs ys : List (Assertion F)) where
-  -- a beginning of the first of two lists
-  first_of_two : GrewByFirst grew a b xs → GrewByFirst grew a b (xs ++ ys)
-  first_of_two h =
-      let e = length-append xs ys in
-      let lt = h.within in
-      let le : h.count ≤ length xs = omega (arith, lt) in record {
-        count = h.count;
-        within = omega (arith, lt, e);
-        beginning = subst (grew a b) (sym (take-append-le h.count xs ys le)) h.beginning;
-      }
-
-  -- the first of two lists whole, and a beginning of the other
-  first_whole : (n : ℕ) → n < length ys → grew a b (xs ++ take n ys) → GrewByFirst grew a b (xs ++ ys)
-  first_whole n lt h =
-      let e = length-append xs ys in record {
-        count = length xs + n;
-        within = omega (arith, lt, e);
-        beginning = subst (grew a b) (sym (take-append-add xs ys n)) h;
-      }
 
 module _ {S R E F : Type 0} {view : BuilderView S R E F} (laws : BuilderLaws view) where
   open view use {stands, kept, grew, refuses}

@@ -7,13 +7,13 @@ use Rattle.air_field.specs.Algebra.{bool_check_term, double_term, xor_term}
 use Rattle.air_gadgets.specs.Packing.{packed_from, packed_term}
 use Rattle.air_builder.specs.Assertion.{Assertion, Base}
 use Rattle.air_builder.specs.Batches.{AssertsOf, AssertedEach}
-use Rattle.air_builder.specs.laws.Zips.{AllZip-take}
+use Rattle.air_builder.specs.laws.Zips.{AllZip-take, AllZip-drop}
 use Rattle.air_words.specs.Words.{rotated_left}
 use Rattle.air_words.specs.Gadgets.{FromThree, VariableMeans, HalfOf, Xors, xor_terms, half_term, test_asserts}
 use Rattle.air_words.proofs.Asserting.{Then}
 use Rattle.air_words.proofs.Lending.{MadeOne, zip_mapped}
 use Rattle.air_words.proofs.LimbLaws.{low_means, high_means}
-use Rattle.air_words.proofs.ZipLaws.{zip_drop, zip_rotated, take-xors, drop-xors, upper_half}
+use Rattle.air_words.proofs.ZipLaws.{zip_rotated, take-xors, drop-xors, upper_half}
 
 module _ {F : Type 0} (s : Leaf → Term F) where
   leaves-packed_from : (t : Term F) (ts : List (Term F)) → packed_from (with_leaves s t) (map (with_leaves s) ts) ≡ with_leaves s (packed_from t ts)
@@ -74,7 +74,7 @@ module _ {S V F : Type 0} (C : CommRing F) (one : F) (is : one ≡ C.one) (means
           ((w.0.low, take 16 w.1, take 16 turned, low_means (means a) limbs w.0 d w.3, AllZip-take (means a) 16 b w.1 w.4, AllZip-take (means a) 16 (rotated_left shift c) turned rotated, ap (half w.0.low) (sym (take-xors 16 w.1 turned))), tt),
           refl,
         ),
-        ((w.0.high, drop 16 w.1, drop 16 turned, high_means (means a) limbs w.0 e w.3, zip_drop (means a) 16 b w.1 w.4, zip_drop (means a) 16 (rotated_left shift c) turned rotated, ap (half w.0.high) (sym (drop-xors 16 w.1 turned))), tt),
+        ((w.0.high, drop 16 w.1, drop 16 turned, high_means (means a) limbs w.0 e w.3, AllZip-drop (means a) 16 b w.1 w.4, AllZip-drop (means a) 16 (rotated_left shift c) turned rotated, ap (half w.0.high) (sym (drop-xors 16 w.1 turned))), tt),
         w.6 ∙ sym (append_assoc (test_asserts C w.2) (low ∷ []) (high ∷ [])),
       )
 

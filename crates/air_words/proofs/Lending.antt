@@ -1,6 +1,8 @@
 -- What a lent ring made was asserted, or it refused to make it.
 use Rattle.std.specs.List.{AllZip}
+use Rattle.std.specs.Result.{IsErrAnd}
 use Rattle.std.proofs.Common.{◌≡◌, ◌<◌, List, [], ◌∷◌, length, map, Result, Err, subst, sym, refl, inl, inr, arith}
+use Rattle.std.proofs.lemmas.Result.{err_from_is_err_and}
 use Rattle.air_field.specs.Part.{whole}
 use Rattle.air_field.specs.Ring.{CommRing}
 use Rattle.air_field.specs.Term.{Leaf, Term, with_leaves}
@@ -72,8 +74,7 @@ module _ {S R E F : Type 0} {view : BuilderView S R E F} (ring : RingLaws view) 
       (λ ss i. let m = made ss i in subst (AllZip (AssertsOf Base (MeansIn view) (λ t. t) (with_ring a r)) xs) (sym m.2) (lent_asserts xs m.0 m.1))
       (list_of_each laws result h))
 
-  -- the lent ring refused to make one
-  pub making_list_refused : {is : List (Assertion F) → Type 0} (f : RingError)
+  making_list_refused : {is : List (Assertion F) → Type 0} (f : RingError)
       → ((ss : List (Assertion F)) → is ss → Made (stands a) (RefusesOne ring_refuses f) ss)
       → AssertedList is kept grew refuses a (with_ring a r) (Err (air_error f))
   making_list_refused f made =
@@ -91,6 +92,14 @@ module _ {S R E F : Type 0} {view : BuilderView S R E F} (ring : RingLaws view) 
             subst (refuses a (air_error f)) (sym m.2) (refused_part laws a f m.0 m.0 (λ t k. k) m.1);
       }
 
+  -- a `?` gives up where the lent ring refused to make one
+  pub list_gives_up : {is : List (Assertion F) → Type 0} {f : RingError} {result : Result (Unit {0}) AirError}
+      → IsErrAnd result (λ y. y ≡ air_error f) → ((ss : List (Assertion F)) → is ss → Made (stands a) (RefusesOne ring_refuses f) ss)
+      → AssertedList is kept grew refuses a (with_ring a r) result
+  list_gives_up {f = f} {result = result} given made =
+      let i = err_from_is_err_and result given in
+      rw (i.1, i.2) (making_list_refused f made)
+
   module _ {I : Type 0} {asserts : S → I → Assertion F → Type 0} {x : I} (op : Term F → Term F) where
     -- the lent ring made an element, and then that was asserted
     pub one_asserted : {b : S} {z : E} (result : Result (Unit {0}) AirError)
@@ -100,15 +109,17 @@ module _ {S R E F : Type 0} {view : BuilderView S R E F} (ring : RingLaws view) 
     one_asserted {z = z} result made h =
         lent_asserted laws p e result (λ s k. let m = made s k in (m.0, lent_means ring laws a q r z m.0 p e m.1, m.2)) h
 
-    -- the lent ring refused to make it
-    pub making_one_refused : (f : RingError) → ((t : Term F) → PartOf t (Base (op t) ∷ []))
-        → ((s : Assertion F) → asserts a x s → MadeOne op (stands a) (ring_refuses f) s)
-        → AssertedEach asserts kept grew refuses a (with_ring a r) (x ∷ []) (Err (air_error f))
-    making_one_refused f inside made =
-        making_refused laws p e (air_error f)
+    -- a `?` gives up where the lent ring refused to make it
+    pub one_gives_up : {f : RingError} {result : Result (Unit {0}) AirError} → IsErrAnd result (λ y. y ≡ air_error f)
+        → ((t : Term F) → PartOf t (Base (op t) ∷ [])) → ((s : Assertion F) → asserts a x s → MadeOne op (stands a) (ring_refuses f) s)
+        → AssertedEach asserts kept grew refuses a (with_ring a r) (x ∷ []) result
+    one_gives_up {f = f} {result = result} given inside made =
+        let i = err_from_is_err_and result given in
+        rw (i.1, i.2)
+        (making_refused laws p e (air_error f)
         (λ s k.
         let m = made s k in
-        subst (λ v. refuses a (air_error f) (v ∷ [])) (sym m.2) (laws.refuses_in_ring a f m.0 (Base (op m.0) ∷ []) m.1 (inside m.0)))
+        subst (λ v. refuses a (air_error f) (v ∷ [])) (sym m.2) (laws.refuses_in_ring a f m.0 (Base (op m.0) ∷ []) m.1 (inside m.0))))
 
   limbs_in : (xs : List E) (t : Limbs (Term F)) → LimbsMean (MeansIn view a) xs t
       → LimbsMean (means q) xs (leaves_of (stands a) t)

@@ -4,21 +4,14 @@ use Rattle.std.proofs.Common.{◌≡◌, ℕ, zero, suc, ◌-◌, ◌≤◌, Lis
 use Rattle.std.proofs.lemmas.List.{take_all, length-take}
 use Rattle.air_field.specs.Term.{Term}
 use Rattle.air_field.specs.Algebra.{xor_term}
-use Rattle.air_builder.specs.laws.Zips.{AllZip-joined, AllZip-take}
+use Rattle.air_builder.specs.laws.Zips.{AllZip-joined, AllZip-take, AllZip-drop}
 use Rattle.air_words.specs.Words.{rotated_left}
 use Rattle.air_words.specs.Gadgets.{xor_terms}
-
-pub zip_drop : {X Y : Type 0} (P : X → Y → Type 0) (n : ℕ) (xs : List X) (ys : List Y) → AllZip P xs ys → AllZip P (drop n xs) (drop n ys)
-zip_drop P zero xs ys h = h
-zip_drop P (suc n) [] [] h = tt
-zip_drop P (suc n) [] (y ∷ ys) h = absurd h
-zip_drop P (suc n) (x ∷ xs) [] h = absurd h
-zip_drop P (suc n) (x ∷ xs) (y ∷ ys) h = zip_drop P n xs ys h.1
 
 -- rotated alike
 pub zip_rotated : {X Y : Type 0} (P : X → Y → Type 0) (shift : ℕ) (xs : List X) (ys : List Y) → AllZip P xs ys → AllZip P (rotated_left shift xs) (rotated_left shift ys)
 zip_rotated P shift xs ys h =
-    AllZip-joined P (drop (32 - shift) xs) (take (32 - shift) xs) (drop (32 - shift) ys) (take (32 - shift) ys) (zip_drop P (32 - shift) xs ys h) (AllZip-take P (32 - shift) xs ys h)
+    AllZip-joined P (drop (32 - shift) xs) (take (32 - shift) xs) (drop (32 - shift) ys) (take (32 - shift) ys) (AllZip-drop P (32 - shift) xs ys h) (AllZip-take P (32 - shift) xs ys h)
 
 -- the upper half
 pub upper_half : {X : Type 0} (xs : List X) → take (length xs - 16) (drop 16 xs) ≡ drop 16 xs

@@ -20,12 +20,16 @@ less_three_term t u v w = sub_term (less_two_term t u v) w
 abbrev pub raised_term : {F : Type 0} → CommRing F → ℕ → Term F → Term F
 raised_term R n t = add_term t (const_term (image R n))
 
+-- u (t + n)
+abbrev pub times_raised_term : {F : Type 0} → CommRing F → ℕ → Term F → Term F → Term F
+times_raised_term R n t u = mul_term u (raised_term R n t)
+
 -- t (t + n), and t (t + n) (t + 2n)
 abbrev pub carry_term : {F : Type 0} → CommRing F → ℕ → Term F → Term F
-carry_term R n t = mul_term t (raised_term R n t)
+carry_term R n t = times_raised_term R n t t
 
 abbrev pub two_carries_term : {F : Type 0} → CommRing F → ℕ → Term F → Term F
-two_carries_term R n t = mul_term (carry_term R n t) (raised_term R (2 * n) t)
+two_carries_term R n t = times_raised_term R (2 * n) t (carry_term R n t)
 
 -- low + 2^16 high
 abbrev pub whole_term : {F : Type 0} → CommRing F → Term F → Term F → Term F

@@ -1,6 +1,6 @@
 //! Differences of limbs and their products with carries, made in a ring.
 ghost use Rattle.std.specs.Prelude.{◌≤◌, ◌^◌};
-ghost use Rattle.air_words.specs.Gadgets.{FromOne, FromTwo, FromThree, FromFour, Makes, less_two_term, less_three_term, raised_term, carry_term, carries_term, whole_term};
+ghost use Rattle.air_words.specs.Gadgets.{FromOne, FromTwo, FromThree, FromFour, Makes, less_two_term, less_three_term, times_raised_term, carries_term, whole_term};
 
 use air_field::{Algebra, Field, FromVar, RingError};
 
@@ -60,26 +60,22 @@ pub(crate) fn whole<F: Field, R: Algebra<F>>(
     ring.add(low, raised)
 }
 
-/// x + n
-fn raised<F: Field, R: Algebra<F>>(ring: &mut R, n: u64, x: R::Elem) -> Result<R::Elem, RingError>
-    requires { R.has ring.old x }
+/// y (x + n)
+fn times_raised<F: Field, R: Algebra<F>>(
+    ring: &mut R,
+    n: u64,
+    x: R::Elem,
+    y: R::Elem,
+) -> Result<R::Elem, RingError>
+    requires x_in { R.has ring.old x }
+    requires y_in { R.has ring.old y }
     ensures extended { R.extends ring.old ring.new }
     ensures makes { Makes (R.has ring.new) (R.means ring.new) R.refuses
-        (FromOne (raised_term F.ring n) (R.means ring.old x)) result }
+        (FromTwo (times_raised_term F.ring n) (R.means ring.old x) (R.means ring.old y)) result }
 {
     let constant = ring.constant(F::from_u64(n))?;
-    ring.add(x, constant)
-}
-
-/// x (x + n)
-fn carry<F: Field, R: Algebra<F>>(ring: &mut R, n: u64, x: R::Elem) -> Result<R::Elem, RingError>
-    requires { R.has ring.old x }
-    ensures extended { R.extends ring.old ring.new }
-    ensures makes { Makes (R.has ring.new) (R.means ring.new) R.refuses
-        (FromOne (carry_term F.ring n) (R.means ring.old x)) result }
-{
-    let higher = raised(ring, n, x)?;
-    ring.mul(x, higher)
+    let raised = ring.add(x, constant)?;
+    ring.mul(y, raised)
 }
 
 /// x (x + n), and with `two` carries x (x + n) (x + 2n)
@@ -95,10 +91,9 @@ pub(crate) fn carries<F: Field, R: Algebra<F>>(
     ensures makes { Makes (R.has ring.new) (R.means ring.new) R.refuses
         (FromOne (carries_term F.ring two n) (R.means ring.old x)) result }
 {
-    let product = carry(ring, n, x)?;
+    let product = times_raised(ring, n, x, x)?;
     if !two {
         return Ok(product);
     }
-    let higher = raised(ring, 2 * n, x)?;
-    ring.mul(product, higher)
+    times_raised(ring, 2 * n, x, product)
 }

@@ -1,7 +1,7 @@
 -- The numbers of a recording as roots of an AIR.
 use Rattle.std.specs.List.{AllZip}
-use Rattle.std.proofs.Common.{◌≡◌, ℕ, zero, suc, ◌<◌, true, false, cond, leb, List, [], ◌∷◌, length, map, All, None, Some, refl, ap, ap₂, ◌∙◌, subst, sym, arith}
-use borrow.Author.Tests.{leb-false, leb-true}
+use Rattle.std.proofs.Common.{◌≡◌, ℕ, true, false, cond, leb, List, [], ◌∷◌, length, map, None, Some, refl, ap, ap₂, ◌∙◌, subst, sym, arith}
+use borrow.Author.Tests.{leb-true}
 use Rattle.air_field.specs.Ring.{CommRing, itself}
 use Rattle.air_field.specs.Term.{Term}
 use Rattle.air_symbolic.specs.BaseLeaves.{base_reads}
@@ -15,18 +15,6 @@ use Rattle.air_recording.specs.Kinds.{base_terms}
 use Rattle.air_recording.specs.Layouts.{first_past}
 use Rattle.air_recording.specs.Recorded.{EachRecords, terms_of}
 use Rattle.p3_air.specs.RecordedAirs.{RecordsBaseTerms}
-
--- where none is at or past the total, all are below it
-pub below-none_past : (total : ℕ) (numbers : List ℕ) → None ≡ first_past total numbers → All (λ i. i < total) numbers
-below-none_past total [] h = λ k d b. absurd (omega arith)
-below-none_past total (i ∷ numbers) h = elim (leb total i) as (λ t. leb total i ≡ t → None ≡ cond t (Some i) (first_past total numbers) → All (λ j. j < total) (i ∷ numbers)) [
-  | true ↦ λ e n. absurd (cc)
-  | false ↦ λ e n. both (leb-false total i e) (below-none_past total numbers n)
-] refl h
-  where
-    both : i < total → All (λ j. j < total) numbers → All (λ j. j < total) (i ∷ numbers)
-    both here rest zero d b = here
-    both here rest (suc k) d b = rest k d (omega arith)
 
 -- where each is a number of the pool, none is past its nodes
 pub none_past : {U A F : Type 0} (r : CommRing F) (reads : U → Leaves A F) (pool : U × List (SymbolicExpr A)) (numbers : List ℕ) (ts : List (Term F)) → AllZip (PoolMeans reads r pool) numbers ts → None ≡ first_past (length pool.1) numbers

@@ -11,7 +11,7 @@ use Rattle.air_symbolic.specs.Leaves.{Leaves}
 use Rattle.air_symbolic.specs.Pools.{term_at}
 use Rattle.air_symbolic.specs.declared.pools.expr.SymbolicExpr.{SymbolicExpr}
 use Rattle.air_builder.specs.Assertion.{Assertion, Base, Extension}
-use Rattle.air_builder.specs.Beside.{Beside, table_width}
+use Rattle.air_builder.specs.Declaration.{Declaration}
 use Rattle.air_builder.specs.Refusals.{NoneMissing}
 use Rattle.air_windows.specs.declared.errors.AirError.{AirError}
 use Rattle.air_windows.specs.declared.errors.AirError.TheVariants.{DegreeOverflow}
@@ -28,7 +28,6 @@ use Rattle.air_recording.specs.Recording.{IsOver}
 use Rattle.air_builder.specs.Refused.{Refused}
 use Rattle.air_report.specs.Report.{assertion_value, report_of, failure_place, IsRowsShown, count_shown}
 use Rattle.p3_air.specs.declared.audit.Audit.{Audit}
-use Rattle.air_recording.specs.declared.layouts.air_layout.AirLayout.{AirLayout}
 use Rattle.air_report.specs.declared.checks.report.ConstraintReport.{ConstraintReport}
 
 -- a recorded assertion for one that is declared: of the same kind, and its term records the declared one
@@ -66,7 +65,7 @@ values_at_row r g row ts = map (assertion_value r (row_assignment r (given_trace
 abbrev pub failures_within : {F : Type 0} → CommRing F → (F → F → Bool) → Given F → Option ℕ → List (Assertion F) → ℕ → List (ℕ × ℕ)
 failures_within r eq g cap ts n =
     report_of r eq (given_trace g) ts n
-    ++ map (cell_place (height g) (count_shown ts n)) (left_of cap (length (report_of r eq (given_trace g) ts n)) (differing r eq g.main g.public g.beside.cells))
+    ++ map (cell_place (height g) (count_shown ts n)) (left_of cap (length (report_of r eq (given_trace g) ts n)) (differing r eq g.main g.public g.declaration.cells))
 
 -- The report lists these failures of the rows that the cap shows; without a cap these are all rows, and all differing cells.
 pub record ListsFailures {F : Type 0} (r : CommRing F) (eq : F → F → Bool) (g : Given F) (cap : Option ℕ) (ts : List (Assertion F)) (report : ConstraintReport) : Type 0 where
@@ -76,7 +75,7 @@ pub record ListsFailures {F : Type 0} (r : CommRing F) (eq : F → F → Bool) (
 
 -- the greatest degrees of the leaves' polynomials over the trace's rows, in a domain of weight w
 abbrev pub leaves_over : {F : Type 0} → Given F → ℕ → Leaf → ℕ
-leaves_over g w = leaf_degree w (height g) (periods_of g.beside.periodic)
+leaves_over g w = leaf_degree w (height g) (periods_of g.declaration.periodic)
 
 -- The audit theorem, under a cap and in a domain of weight w. What is recorded at each place has at each row the value
 -- tested there; the report lists exactly the nonzero pairs of row and place, in order, of the rows that the cap shows, and
@@ -85,11 +84,11 @@ leaves_over g w = leaf_degree w (height g) (periods_of g.beside.periodic)
 -- weight from 1, d being the least that they allow.
 pub record IsAuditUnder {F : Type 0} (r : CommRing F) (eq : F → F → Bool) (coefficients : F → List F) (g : Given F) (cap : Option ℕ) (w : ℕ) (audit : Audit F) : Type 0 where
   pub recorded : List (Assertion F)
-  pub recording : IsRecording r eq coefficients g.terms recorded audit
-  pub values : (row : ℕ) → values_at_row r g row recorded ≡ values_at_row r g row g.terms
+  pub recording : IsRecording r eq coefficients g.declaration.declared recorded audit
+  pub values : (row : ℕ) → values_at_row r g row recorded ≡ values_at_row r g row g.declaration.declared
   pub report : IsReport r eq g cap audit.report
   pub lists : ListsFailures r eq g cap recorded audit.report
-  pub degree : IsDegreeFor w (height g) (periods_of g.beside.periodic) (recorded_terms r eq coefficients audit.recorded) audit.degree
+  pub degree : IsDegreeFor w (height g) (periods_of g.declaration.periodic) (recorded_terms r eq coefficients audit.recorded) audit.degree
   pub bounded : 2 ≤ height g → PolynomialsWithin (itself r) (leaves_over g w) (polynomial_bound w audit.degree (height g)) (recorded_terms r eq coefficients audit.recorded)
 
 -- without a cap
@@ -103,23 +102,23 @@ pub record IsDegreePast {F : Type 0} (r : CommRing F) (eq : F → F → Bool) (g
   pub checked : IsReport r eq g cap report
   pub base : List (Term F)
   pub ext : List (Term F)
-  pub base_recorded : EachRecords (itself r) base (base_terms g.terms)
-  pub ext_recorded : EachRecords (itself r) ext (ext_terms g.terms)
-  pub past : 2 ^ 64 ≤ greatest_degree (domain_weight w (height g) (periods_of g.beside.periodic)) (base ++ ext)
+  pub base_recorded : EachRecords (itself r) base (base_terms g.declaration.declared)
+  pub ext_recorded : EachRecords (itself r) ext (ext_terms g.declaration.declared)
+  pub past : 2 ^ 64 ≤ greatest_degree (domain_weight w (height g) (periods_of g.declaration.periodic)) (base ++ ext)
 
--- the layout of an AIR that has this beside its main trace, of this width and so many public values
-abbrev pub own_layout : {F : Type 0} → Beside F → ℕ → ℕ → AirLayout
-own_layout beside width public = air_layout (table_width beside.preprocessed) width public (length beside.periodic)
+-- each entry that a declared term names is in the AIR's own layout
+abbrev pub LayoutHasEntries : {F : Type 0} → Declaration F → Type 0
+LayoutHasEntries d = NoneMissing (IsMissing (layout_shape (air_layout d))) d.declared
 
 -- An audit under a cap refuses what the recording refuses: want of memory, a declared term that names an entry missing in
 -- the AIR's own layout, or one whose cached degree passes `usize`. Where no entry is missing there it refuses what the
 -- check under the cap refuses, and, where the check answers, a recorded degree past `usize`, as a domain of weight w counts
 -- degrees for the trace.
-abbrev pub AuditRefusesUnder : {F : Type 0} → CommRing F → (F → F → Bool) → AirLayout → Given F → Option ℕ → ℕ → AirError → Type 0
-AuditRefusesUnder r eq layout g cap w e =
-    Refused (IsMissing (layout_shape layout)) (IsOver cached_weight) (λ _. ⊥) e g.terms
-    ⊎ (NoneMissing (IsMissing (layout_shape layout)) g.terms × (CheckRefuses r eq g cap e ⊎ ((e ≡ DegreeOverflow) × IsDegreePast r eq g cap w)))
+abbrev pub AuditRefusesUnder : {F : Type 0} → CommRing F → (F → F → Bool) → Given F → Option ℕ → ℕ → AirError → Type 0
+AuditRefusesUnder r eq g cap w e =
+    Refused (IsMissing (layout_shape (air_layout g.declaration))) (IsOver cached_weight) (λ _. ⊥) e g.declaration.declared
+    ⊎ (LayoutHasEntries g.declaration × (CheckRefuses r eq g cap e ⊎ ((e ≡ DegreeOverflow) × IsDegreePast r eq g cap w)))
 
 -- without a cap
-abbrev pub AuditRefuses : {F : Type 0} → CommRing F → (F → F → Bool) → AirLayout → Given F → ℕ → AirError → Type 0
-AuditRefuses r eq layout g w e = AuditRefusesUnder r eq layout g None w e
+abbrev pub AuditRefuses : {F : Type 0} → CommRing F → (F → F → Bool) → Given F → ℕ → AirError → Type 0
+AuditRefuses r eq g w e = AuditRefusesUnder r eq g None w e

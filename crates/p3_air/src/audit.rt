@@ -1,6 +1,6 @@
 //! The audit: an AIR is recorded and checked at once, so that what is recorded is what is tested.
 ghost use Rattle.std.specs.Prelude.{IfOk, IfErr};
-ghost use Rattle.p3_air.specs.Audits.{IsAudit, IsAuditUnder, AuditRefuses, AuditRefusesUnder, own_layout};
+ghost use Rattle.p3_air.specs.Audits.{IsAudit, IsAuditUnder, AuditRefuses, AuditRefusesUnder};
 ghost use Rattle.air_report.specs.Given.{given};
 
 use air_builder::{Air, AirError, BaseAir};
@@ -52,12 +52,9 @@ pub fn audit_air<
     transition_weight: usize,
 ) -> Result<Audit<F>, AirError>
     ensures audited { IfOk result (IsAudit F.ring F.eq F.coefficients
-        (given (A.declared air.now) (A.beside air.now) main.now public_values.now)
-        transition_weight) }
+        (given (A.declaration air.now) main.now public_values.now) transition_weight) }
     ensures refused { IfErr result (AuditRefuses F.ring F.eq
-        (own_layout (A.beside air.now) (A.width air.now) (A.num_public_values air.now))
-        (given (A.declared air.now) (A.beside air.now) main.now public_values.now)
-        transition_weight) }
+        (given (A.declaration air.now) main.now public_values.now) transition_weight) }
 {
     audit_air_with_cap(alloc, air, main, public_values, None, transition_weight)
 }
@@ -77,11 +74,10 @@ pub fn audit_air_with_cap<
     transition_weight: usize,
 ) -> Result<Audit<F>, AirError>
     ensures audited { IfOk result (IsAuditUnder F.ring F.eq F.coefficients
-        (given (A.declared air.now) (A.beside air.now) main.now public_values.now)
+        (given (A.declaration air.now) main.now public_values.now)
         max_failures transition_weight) }
     ensures refused { IfErr result (AuditRefusesUnder F.ring F.eq
-        (own_layout (A.beside air.now) (A.width air.now) (A.num_public_values air.now))
-        (given (A.declared air.now) (A.beside air.now) main.now public_values.now)
+        (given (A.declaration air.now) main.now public_values.now)
         max_failures transition_weight) }
 {
     let builder: SymbolicAirBuilder<F, F> = record(alloc, air, AirLayout::from_air::<F, A>(air))?;

@@ -69,7 +69,7 @@ pub fn recorded_air<F: Field, EF: ExtensionField<F>>(
 ) -> Result<FlatAir<F>, AirError>
     requires { IsPool base_reads recorded.pool.0 }
     ensures declared { IfOk result (λ a.
-        ⟦<FlatAir<F> as BaseAir<F>>⟧.declared a ≡ zero_at_recorded recorded) }
+        (⟦<FlatAir<F> as BaseAir<F>>⟧.declaration a).declared ≡ zero_at_recorded recorded) }
     ensures width { IfOk result (λ a. a.width ≡ width) }
     ensures num_public_values { IfOk result (λ a. a.num_public_values ≡ num_public_values) }
     ensures periodic { IfOk result (λ a. a.periodic ≡ periodic) }
@@ -77,7 +77,7 @@ pub fn recorded_air<F: Field, EF: ExtensionField<F>>(
     ensures of_an_air { (declared : List (Assertion F)) →
         RecordsBase F.ring EF.over base_reads recorded.pool.0 recorded.base.items declared →
         IsOkAnd result (λ a.
-        RecordsBaseTerms F.ring (⟦<FlatAir<F> as BaseAir<F>>⟧.declared a) declared) }
+        RecordsBaseTerms F.ring (⟦<FlatAir<F> as BaseAir<F>>⟧.declaration a).declared declared) }
     ensures refused { IfErr result (RecordedAirRefuses recorded) }
 {
     let Recorded { pool, base, .. } = recorded;

@@ -3,16 +3,17 @@ ghost use Rattle.std.specs.Prelude.{⊤, [], ◌∷◌};
 ghost use Rattle.air_field.specs.Algebra.{bool_check_term};
 ghost use Rattle.air_field.specs.Term.{Term, sub_term};
 ghost use Rattle.air_builder.specs.Assertion.{Base};
-ghost use Rattle.air_builder.specs.Builders.{Means, less_one_term};
-ghost use Rattle.air_author.specs.Constraints.{Asserted};
-ghost use Rattle.air_author.specs.Expressions.{Made, Lasts};
+ghost use Rattle.air_builder.specs.Builders.{less_one_term};
+ghost use Rattle.air_author.specs.Constraints.{AssertedIn};
+ghost use Rattle.air_author.specs.Expressions.{MadeIn, Lasts};
 
+use crate::AirResult;
 use crate::conditions::Condition;
 use crate::constraints::Constraint;
 use crate::expressions::Expression;
 use crate::expressions::arithmetic::{BoolCheck, Difference};
 use crate::expressions::constants::One;
-use air_builder::{AirBuilder, AirError};
+use air_builder::{AirBuilder, Seen};
 use air_field::Algebra;
 
 /// What is claimed by one assertion: that an expression is zero.
@@ -24,16 +25,12 @@ pub trait Claim<AB: AirBuilder> {
     ghost claim_holds: { Self → AB → Type 0 } = { λ _ _. ⊤ };
 
     /// Makes what is zero if the claim holds where the condition does.
-    fn make_claim<K: Condition<AB>>(
-        &self,
-        builder: &mut AB,
-        condition: &K,
-    ) -> Result<AB::Expr, AirError>
+    fn make_claim<K: Condition<AB>>(&self, builder: &mut AB, condition: &K) -> AirResult<AB::Expr>
         requires ready { AB.ready builder.old }
         requires held { Lasts AB.kept (λ b. claim_holds self.now b × K.where_holds condition.now b)
             builder.old }
-        ensures { Made (Means AB.Ring.means AB.ring_of AB.stands) AB.grew AB.missing AB.refuses
-            builder.old builder.new result (K.under condition.now (claims self.now)) };
+        ensures { MadeIn ⟦<AB as Seen>⟧.view builder.old builder.new result
+            (K.under condition.now (claims self.now)) };
 }
 
 /// Asserts what is claimed.
@@ -42,11 +39,11 @@ fn assert_claim<AB: AirBuilder, C: Claim<AB>, K: Condition<AB>>(
     builder: &mut AB,
     condition: &K,
     claim: &C,
-) -> Result<(), AirError>
+) -> AirResult
     requires ready { AB.ready builder.old }
     requires held { Lasts AB.kept (λ b. C.claim_holds claim.now b × K.where_holds condition.now b)
         builder.old }
-    ensures { Asserted AB.kept AB.grew AB.missing AB.refuses builder.old builder.new result
+    ensures { AssertedIn ⟦<AB as Seen>⟧.view builder.old builder.new result
         (Base (K.under condition.now (C.claims claim.now)) ∷ []) }
 {
     let x = claim.make_claim(builder, condition)?;
@@ -63,11 +60,7 @@ impl<AB: AirBuilder, X: Expression<AB>> Claim<AB> for Zero<X> {
     ghost claim_holds = { λ s b. X.holds s.0 b };
 
     #[inline(always)]
-    fn make_claim<K: Condition<AB>>(
-        &self,
-        builder: &mut AB,
-        condition: &K,
-    ) -> Result<AB::Expr, AirError> {
+    fn make_claim<K: Condition<AB>>(&self, builder: &mut AB, condition: &K) -> AirResult<AB::Expr> {
         condition.make_under(builder, &self.0)
     }
 }
@@ -78,11 +71,7 @@ impl<AB: AirBuilder, X: Expression<AB>> Constraint<AB> for Zero<X> {
     ghost all_hold = { λ s b. X.holds s.0 b };
 
     #[inline(always)]
-    fn assert_under<K: Condition<AB>>(
-        &self,
-        builder: &mut AB,
-        condition: &K,
-    ) -> Result<(), AirError> {
+    fn assert_under<K: Condition<AB>>(&self, builder: &mut AB, condition: &K) -> AirResult {
         assert_claim(builder, condition, self)
     }
 }
@@ -97,11 +86,7 @@ impl<AB: AirBuilder, X: Expression<AB>> Claim<AB> for IsOne<X> {
     ghost claim_holds = { λ s b. X.holds s.0 b };
 
     #[inline(always)]
-    fn make_claim<K: Condition<AB>>(
-        &self,
-        builder: &mut AB,
-        condition: &K,
-    ) -> Result<AB::Expr, AirError> {
+    fn make_claim<K: Condition<AB>>(&self, builder: &mut AB, condition: &K) -> AirResult<AB::Expr> {
         condition.make_under(builder, &Difference(&self.0, One))
     }
 }
@@ -112,11 +97,7 @@ impl<AB: AirBuilder, X: Expression<AB>> Constraint<AB> for IsOne<X> {
     ghost all_hold = { λ s b. X.holds s.0 b };
 
     #[inline(always)]
-    fn assert_under<K: Condition<AB>>(
-        &self,
-        builder: &mut AB,
-        condition: &K,
-    ) -> Result<(), AirError> {
+    fn assert_under<K: Condition<AB>>(&self, builder: &mut AB, condition: &K) -> AirResult {
         assert_claim(builder, condition, self)
     }
 }
@@ -131,11 +112,7 @@ impl<AB: AirBuilder, X: Expression<AB>, Y: Expression<AB>> Claim<AB> for Equal<X
     ghost claim_holds = { λ s b. X.holds s.0 b × Y.holds s.1 b };
 
     #[inline(always)]
-    fn make_claim<K: Condition<AB>>(
-        &self,
-        builder: &mut AB,
-        condition: &K,
-    ) -> Result<AB::Expr, AirError> {
+    fn make_claim<K: Condition<AB>>(&self, builder: &mut AB, condition: &K) -> AirResult<AB::Expr> {
         condition.make_under(builder, &Difference(&self.0, &self.1))
     }
 }
@@ -146,11 +123,7 @@ impl<AB: AirBuilder, X: Expression<AB>, Y: Expression<AB>> Constraint<AB> for Eq
     ghost all_hold = { λ s b. X.holds s.0 b × Y.holds s.1 b };
 
     #[inline(always)]
-    fn assert_under<K: Condition<AB>>(
-        &self,
-        builder: &mut AB,
-        condition: &K,
-    ) -> Result<(), AirError> {
+    fn assert_under<K: Condition<AB>>(&self, builder: &mut AB, condition: &K) -> AirResult {
         assert_claim(builder, condition, self)
     }
 }
@@ -165,11 +138,7 @@ impl<AB: AirBuilder, X: Expression<AB>> Claim<AB> for Boolean<X> {
     ghost claim_holds = { λ s b. X.holds s.0 b };
 
     #[inline(always)]
-    fn make_claim<K: Condition<AB>>(
-        &self,
-        builder: &mut AB,
-        condition: &K,
-    ) -> Result<AB::Expr, AirError> {
+    fn make_claim<K: Condition<AB>>(&self, builder: &mut AB, condition: &K) -> AirResult<AB::Expr> {
         condition.make_under(builder, &BoolCheck(&self.0))
     }
 }
@@ -180,11 +149,7 @@ impl<AB: AirBuilder, X: Expression<AB>> Constraint<AB> for Boolean<X> {
     ghost all_hold = { λ s b. X.holds s.0 b };
 
     #[inline(always)]
-    fn assert_under<K: Condition<AB>>(
-        &self,
-        builder: &mut AB,
-        condition: &K,
-    ) -> Result<(), AirError> {
+    fn assert_under<K: Condition<AB>>(&self, builder: &mut AB, condition: &K) -> AirResult {
         assert_claim(builder, condition, self)
     }
 }

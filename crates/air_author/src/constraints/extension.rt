@@ -2,10 +2,11 @@
 ghost use Rattle.std.specs.Prelude.{⊤, [], ◌∷◌};
 ghost use Rattle.air_field.specs.Term.{Term, sub_term};
 ghost use Rattle.air_builder.specs.Assertion.{Extension};
-ghost use Rattle.air_builder.specs.Builders.{Means, less_one_term};
-ghost use Rattle.air_author.specs.Constraints.{Asserted};
-ghost use Rattle.air_author.specs.Expressions.{Made, Lasts};
+ghost use Rattle.air_builder.specs.Builders.{less_one_term};
+ghost use Rattle.air_author.specs.Constraints.{AssertedIn};
+ghost use Rattle.air_author.specs.Expressions.{MadeIn, Lasts};
 
+use crate::AirResult;
 use crate::conditions::Condition;
 use crate::constraints::Constraint;
 use crate::constraints::named::Label;
@@ -13,7 +14,7 @@ use crate::expressions::ExtExpression;
 use crate::expressions::arithmetic::Difference;
 use crate::expressions::constants::One;
 use crate::expressions::extension::Lifted;
-use air_builder::{AirError, ExtensionBuilder, NamedExtensionBuilder};
+use air_builder::{ExtensionBuilder, NamedExtensionBuilder, Seen, SeenOver};
 use air_field::Algebra;
 
 /// What is claimed by one assertion over the extension: that an expression is zero.
@@ -29,13 +30,12 @@ pub trait ExtClaim<AB: ExtensionBuilder> {
         &self,
         builder: &mut AB,
         condition: &K,
-    ) -> Result<AB::ExprEF, AirError>
+    ) -> AirResult<AB::ExprEF>
         requires ready { AB.ready builder.old }
         requires held { Lasts AB.kept (λ b. ext_claim_holds self.now b × K.where_holds condition.now
             b)
             builder.old }
-        ensures { Made (Means AB.ExtRing.means AB.ext_ring_of AB.stands) AB.grew AB.missing
-            AB.refuses builder.old builder.new result
+        ensures { MadeIn ⟦<AB as SeenOver>⟧.view builder.old builder.new result
             (K.ext_under condition.now (ext_claims self.now)) };
 }
 
@@ -45,12 +45,12 @@ fn assert_ext_claim<AB: ExtensionBuilder, C: ExtClaim<AB>, K: Condition<AB>>(
     builder: &mut AB,
     condition: &K,
     claim: &C,
-) -> Result<(), AirError>
+) -> AirResult
     requires ready { AB.ready builder.old }
     requires held { Lasts AB.kept (λ b. C.ext_claim_holds claim.now b × K.where_holds condition.now
         b)
         builder.old }
-    ensures { Asserted AB.kept AB.grew AB.missing AB.refuses builder.old builder.new result
+    ensures { AssertedIn ⟦<AB as Seen>⟧.view builder.old builder.new result
         (Extension (K.ext_under condition.now (C.ext_claims claim.now)) ∷ []) }
 {
     let x = claim.make_ext_claim(builder, condition)?;
@@ -71,7 +71,7 @@ impl<AB: ExtensionBuilder, X: ExtExpression<AB>> ExtClaim<AB> for ExtZero<X> {
         &self,
         builder: &mut AB,
         condition: &K,
-    ) -> Result<AB::ExprEF, AirError> {
+    ) -> AirResult<AB::ExprEF> {
         condition.make_ext_under(builder, &self.0)
     }
 }
@@ -82,11 +82,7 @@ impl<AB: ExtensionBuilder, X: ExtExpression<AB>> Constraint<AB> for ExtZero<X> {
     ghost all_hold = { λ s b. X.ext_holds s.0 b };
 
     #[inline(always)]
-    fn assert_under<K: Condition<AB>>(
-        &self,
-        builder: &mut AB,
-        condition: &K,
-    ) -> Result<(), AirError> {
+    fn assert_under<K: Condition<AB>>(&self, builder: &mut AB, condition: &K) -> AirResult {
         assert_ext_claim(builder, condition, self)
     }
 }
@@ -105,7 +101,7 @@ impl<AB: ExtensionBuilder, X: ExtExpression<AB>> ExtClaim<AB> for ExtIsOne<X> {
         &self,
         builder: &mut AB,
         condition: &K,
-    ) -> Result<AB::ExprEF, AirError> {
+    ) -> AirResult<AB::ExprEF> {
         condition.make_ext_under(builder, &Difference(&self.0, Lifted(One)))
     }
 }
@@ -116,11 +112,7 @@ impl<AB: ExtensionBuilder, X: ExtExpression<AB>> Constraint<AB> for ExtIsOne<X> 
     ghost all_hold = { λ s b. X.ext_holds s.0 b };
 
     #[inline(always)]
-    fn assert_under<K: Condition<AB>>(
-        &self,
-        builder: &mut AB,
-        condition: &K,
-    ) -> Result<(), AirError> {
+    fn assert_under<K: Condition<AB>>(&self, builder: &mut AB, condition: &K) -> AirResult {
         assert_ext_claim(builder, condition, self)
     }
 }
@@ -140,7 +132,7 @@ impl<AB: ExtensionBuilder, X: ExtExpression<AB>, Y: ExtExpression<AB>> ExtClaim<
         &self,
         builder: &mut AB,
         condition: &K,
-    ) -> Result<AB::ExprEF, AirError> {
+    ) -> AirResult<AB::ExprEF> {
         condition.make_ext_under(builder, &Difference(&self.0, &self.1))
     }
 }
@@ -152,11 +144,7 @@ impl<AB: ExtensionBuilder, X: ExtExpression<AB>, Y: ExtExpression<AB>> Constrain
     ghost all_hold = { λ s b. X.ext_holds s.0 b × Y.ext_holds s.1 b };
 
     #[inline(always)]
-    fn assert_under<K: Condition<AB>>(
-        &self,
-        builder: &mut AB,
-        condition: &K,
-    ) -> Result<(), AirError> {
+    fn assert_under<K: Condition<AB>>(&self, builder: &mut AB, condition: &K) -> AirResult {
         assert_ext_claim(builder, condition, self)
     }
 }
@@ -171,11 +159,7 @@ impl<AB: NamedExtensionBuilder, N: Label, C: ExtClaim<AB>> Constraint<AB> for Ex
     ghost all_hold = { λ s b. C.ext_claim_holds s.1 b };
 
     #[inline(always)]
-    fn assert_under<K: Condition<AB>>(
-        &self,
-        builder: &mut AB,
-        condition: &K,
-    ) -> Result<(), AirError> {
+    fn assert_under<K: Condition<AB>>(&self, builder: &mut AB, condition: &K) -> AirResult {
         let x = self.1.make_ext_claim(builder, condition)?;
         builder.assert_zero_ext_named(x, self.0)
     }

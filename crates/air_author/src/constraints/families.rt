@@ -3,12 +3,13 @@ ghost use Rattle.std.specs.Prelude.{◌≡◌, ℕ, ◌<◌, ⊤, List};
 ghost use Rattle.std.specs.Prelude.{All as EachOf};
 ghost use Rattle.air_field.specs.Term.{Term};
 ghost use Rattle.air_builder.specs.Assertion.{Assertion};
-ghost use Rattle.air_author.specs.Constraints.{Asserted, asserts_of_each, asserts_of_first};
+ghost use Rattle.air_author.specs.Constraints.{AssertedIn, asserts_of_each, asserts_of_first};
 ghost use Rattle.air_author.specs.Expressions.{Lasts};
 
+use crate::AirResult;
 use crate::conditions::Condition;
 use crate::constraints::Constraint;
-use air_builder::{AirBuilder, AirError};
+use air_builder::{AirBuilder, Seen};
 
 /// Each constraint of a slice, in order.
 #[derive(Clone, Copy, Drop)]
@@ -19,11 +20,7 @@ impl<'a, AB: AirBuilder, C: Constraint<AB>> Constraint<AB> for Each<'a, C> {
 
     ghost all_hold = { λ s b. EachOf (λ c. C.all_hold c b) s.0.now };
 
-    fn assert_under<K: Condition<AB>>(
-        &self,
-        builder: &mut AB,
-        condition: &K,
-    ) -> Result<(), AirError> {
+    fn assert_under<K: Condition<AB>>(&self, builder: &mut AB, condition: &K) -> AirResult {
         let constraints = self.0;
         for constraint in constraints {
             constraint.assert_under(builder, condition)?;
@@ -54,12 +51,12 @@ pub trait Family<AB: AirBuilder> {
         index: usize,
         builder: &mut AB,
         condition: &K,
-    ) -> Result<(), AirError>
+    ) -> AirResult
         requires ready { AB.ready builder.old }
         requires within { index < size self.now }
         requires held { Lasts AB.kept (λ b. family_holds self.now b × K.where_holds condition.now b)
             builder.old }
-        ensures { Asserted AB.kept AB.grew AB.missing AB.refuses builder.old builder.new result
+        ensures { AssertedIn ⟦<AB as Seen>⟧.view builder.old builder.new result
             (asserts_at self.now index (K.under condition.now) (K.ext_under condition.now)) };
 }
 
@@ -72,11 +69,7 @@ impl<AB: AirBuilder, C: Family<AB>> Constraint<AB> for All<C> {
 
     ghost all_hold = { λ s b. C.family_holds s.0 b };
 
-    fn assert_under<K: Condition<AB>>(
-        &self,
-        builder: &mut AB,
-        condition: &K,
-    ) -> Result<(), AirError> {
+    fn assert_under<K: Condition<AB>>(&self, builder: &mut AB, condition: &K) -> AirResult {
         let size = self.0.size();
         for index in 0..size {
             self.0.assert_at(index, builder, condition)?;

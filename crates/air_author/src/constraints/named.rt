@@ -2,10 +2,11 @@
 ghost use Rattle.std.specs.Prelude.{[], ◌∷◌};
 ghost use Rattle.air_builder.specs.Assertion.{Base};
 
+use crate::AirResult;
 use crate::conditions::Condition;
 use crate::constraints::Constraint;
 use crate::constraints::claims::Claim;
-use air_builder::{AirError, Element, Joined, Name, NamedAirBuilder};
+use air_builder::{Element, Joined, Name, NamedAirBuilder};
 
 /// A name that a constraint can have: it may be evaluated at any time.
 pub trait Label: Name + Copy {
@@ -35,11 +36,7 @@ impl<AB: NamedAirBuilder, N: Label, C: Claim<AB>> Constraint<AB> for Named<N, C>
     ghost all_hold = { λ s b. C.claim_holds s.1 b };
 
     #[inline(always)]
-    fn assert_under<K: Condition<AB>>(
-        &self,
-        builder: &mut AB,
-        condition: &K,
-    ) -> Result<(), AirError> {
+    fn assert_under<K: Condition<AB>>(&self, builder: &mut AB, condition: &K) -> AirResult {
         let x = self.1.make_claim(builder, condition)?;
         builder.assert_zero_named(x, self.0)
     }

@@ -1,11 +1,12 @@
 //! Constraints one after another.
 ghost use Rattle.std.specs.Prelude.{◌++◌};
-ghost use Rattle.air_author.specs.Constraints.{Asserted};
+ghost use Rattle.air_author.specs.Constraints.{AssertedIn};
 ghost use Rattle.air_author.specs.Expressions.{Lasts};
 
+use crate::AirResult;
 use crate::conditions::Condition;
 use crate::constraints::Constraint;
-use air_builder::{AirBuilder, AirError};
+use air_builder::{AirBuilder, Seen};
 
 // Each length takes its first constraint and hands on the others one by one: as a tuple of references they would make a
 // type of all of theirs, which is dear to prove.
@@ -17,13 +18,13 @@ fn assert_two<AB: AirBuilder, C: Constraint<AB>, D: Constraint<AB>, K: Condition
     condition: &K,
     c: &C,
     d: &D,
-) -> Result<(), AirError>
+) -> AirResult
     requires ready { AB.ready builder.old }
     requires held { Lasts AB.kept
         (λ b. (C.all_hold c.now b × D.all_hold d.now b) × K.where_holds condition.now b)
         builder.old }
     ensures { let under = K.under condition.now in let ext_under = K.ext_under condition.now in
-        Asserted AB.kept AB.grew AB.missing AB.refuses builder.old builder.new result
+        AssertedIn ⟦<AB as Seen>⟧.view builder.old builder.new result
         (C.asserts c.now under ext_under ++ D.asserts d.now under ext_under) }
 {
     c.assert_under(builder, condition)?;
@@ -37,13 +38,13 @@ fn assert_three<
     D: Constraint<AB>,
     E: Constraint<AB>,
     K: Condition<AB>,
->(builder: &mut AB, condition: &K, c: &C, d: &D, e: &E) -> Result<(), AirError>
+>(builder: &mut AB, condition: &K, c: &C, d: &D, e: &E) -> AirResult
     requires ready { AB.ready builder.old }
     requires held { Lasts AB.kept
         (λ b. (C.all_hold c.now b × (D.all_hold d.now b × E.all_hold e.now b))
         × K.where_holds condition.now b) builder.old }
     ensures { let under = K.under condition.now in let ext_under = K.ext_under condition.now in
-        Asserted AB.kept AB.grew AB.missing AB.refuses builder.old builder.new result
+        AssertedIn ⟦<AB as Seen>⟧.view builder.old builder.new result
         (C.asserts c.now under ext_under ++ (D.asserts d.now under ext_under
         ++ E.asserts e.now under ext_under)) }
 {
@@ -59,13 +60,13 @@ fn assert_four<
     E: Constraint<AB>,
     G: Constraint<AB>,
     K: Condition<AB>,
->(builder: &mut AB, condition: &K, c: &C, d: &D, e: &E, g: &G) -> Result<(), AirError>
+>(builder: &mut AB, condition: &K, c: &C, d: &D, e: &E, g: &G) -> AirResult
     requires ready { AB.ready builder.old }
     requires held { Lasts AB.kept
         (λ b. (C.all_hold c.now b × (D.all_hold d.now b × (E.all_hold e.now b
         × G.all_hold g.now b))) × K.where_holds condition.now b) builder.old }
     ensures { let under = K.under condition.now in let ext_under = K.ext_under condition.now in
-        Asserted AB.kept AB.grew AB.missing AB.refuses builder.old builder.new result
+        AssertedIn ⟦<AB as Seen>⟧.view builder.old builder.new result
         (C.asserts c.now under ext_under ++ (D.asserts d.now under ext_under
         ++ (E.asserts e.now under ext_under ++ G.asserts g.now under ext_under))) }
 {
@@ -80,11 +81,7 @@ impl<AB: AirBuilder, C: Constraint<AB>, D: Constraint<AB>> Constraint<AB> for (C
     ghost all_hold = { λ s b. C.all_hold s.0 b × D.all_hold s.1 b };
 
     #[inline(always)]
-    fn assert_under<K: Condition<AB>>(
-        &self,
-        builder: &mut AB,
-        condition: &K,
-    ) -> Result<(), AirError> {
+    fn assert_under<K: Condition<AB>>(&self, builder: &mut AB, condition: &K) -> AirResult {
         assert_two(builder, condition, &self.0, &self.1)
     }
 }
@@ -97,11 +94,7 @@ impl<AB: AirBuilder, C: Constraint<AB>, D: Constraint<AB>, E: Constraint<AB>> Co
     ghost all_hold = { λ s b. C.all_hold s.0 b × (D.all_hold s.1 b × E.all_hold s.2 b) };
 
     #[inline(always)]
-    fn assert_under<K: Condition<AB>>(
-        &self,
-        builder: &mut AB,
-        condition: &K,
-    ) -> Result<(), AirError> {
+    fn assert_under<K: Condition<AB>>(&self, builder: &mut AB, condition: &K) -> AirResult {
         assert_three(builder, condition, &self.0, &self.1, &self.2)
     }
 }
@@ -121,11 +114,7 @@ impl<
         × (E.all_hold s.2 b × G.all_hold s.3 b)) };
 
     #[inline(always)]
-    fn assert_under<K: Condition<AB>>(
-        &self,
-        builder: &mut AB,
-        condition: &K,
-    ) -> Result<(), AirError> {
+    fn assert_under<K: Condition<AB>>(&self, builder: &mut AB, condition: &K) -> AirResult {
         assert_four(builder, condition, &self.0, &self.1, &self.2, &self.3)
     }
 }
@@ -146,11 +135,7 @@ impl<
         × (E.all_hold s.2 b × (G.all_hold s.3 b × H.all_hold s.4 b))) };
 
     #[inline(always)]
-    fn assert_under<K: Condition<AB>>(
-        &self,
-        builder: &mut AB,
-        condition: &K,
-    ) -> Result<(), AirError> {
+    fn assert_under<K: Condition<AB>>(&self, builder: &mut AB, condition: &K) -> AirResult {
         self.0.assert_under(builder, condition)?;
         assert_four(builder, condition, &self.1, &self.2, &self.3, &self.4)
     }

@@ -1,10 +1,11 @@
 //! Constraints where a selector isn't zero.
 ghost use Rattle.air_field.specs.Term.{mul_term};
 
+use crate::AirResult;
 use crate::conditions::{Condition, Where};
 use crate::constraints::Constraint;
 use crate::expressions::Expression;
-use air_builder::{AirBuilder, AirError};
+use air_builder::AirBuilder;
 
 /// The constraints where the selector isn't zero: each is multiplied by it, a base term from the left and an extension
 /// term from the right. One inside another multiplies first.
@@ -18,11 +19,7 @@ impl<AB: AirBuilder, S: Expression<AB>, C: Constraint<AB>> Constraint<AB> for Wh
     ghost all_hold = { λ s b. S.holds s.0 b × C.all_hold s.1 b };
 
     #[inline(always)]
-    fn assert_under<K: Condition<AB>>(
-        &self,
-        builder: &mut AB,
-        condition: &K,
-    ) -> Result<(), AirError> {
+    fn assert_under<K: Condition<AB>>(&self, builder: &mut AB, condition: &K) -> AirResult {
         self.1.assert_under(builder, &Where(condition, &self.0))
     }
 }

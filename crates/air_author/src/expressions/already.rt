@@ -2,8 +2,9 @@
 ghost use Rattle.air_builder.specs.Builders.{Means};
 ghost use Rattle.air_author.specs.Expressions.{Holds};
 
+use crate::AirResult;
 use crate::expressions::{Expression, ExtExpression};
-use air_builder::{AirBuilder, AirError, ExtensionBuilder};
+use air_builder::{AirBuilder, ExtensionBuilder};
 use air_field::Algebra;
 
 /// An expression that is made already, as one that a filter or a gadget was handed, and the value that it was made of:
@@ -18,7 +19,7 @@ impl<AB: AirBuilder, X: Expression<AB>> Expression<AB> for Already<AB::Expr, X> 
         s.0 (X.term s.1) b };
 
     #[inline(always)]
-    fn make(&self, _builder: &mut AB) -> Result<AB::Expr, AirError> {
+    fn make(&self, _builder: &mut AB) -> AirResult<AB::Expr> {
         Ok(self.0)
     }
 }
@@ -30,7 +31,7 @@ impl<AB: ExtensionBuilder, X: ExtExpression<AB>> ExtExpression<AB> for Already<A
         s.0 (X.ext_term s.1) b };
 
     #[inline(always)]
-    fn make_ext(&self, _builder: &mut AB) -> Result<AB::ExprEF, AirError> {
+    fn make_ext(&self, _builder: &mut AB) -> AirResult<AB::ExprEF> {
         Ok(self.0)
     }
 }

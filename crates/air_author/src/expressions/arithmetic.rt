@@ -1,11 +1,11 @@
 //! Operations on expressions.
 ghost use Rattle.air_field.specs.Algebra.{double_term, bool_check_term};
 ghost use Rattle.air_field.specs.Term.{add_term, sub_term, neg_term, mul_term};
-ghost use Rattle.air_builder.specs.Builders.{Means};
-ghost use Rattle.air_author.specs.Expressions.{Lasts, MadeBoth};
+ghost use Rattle.air_author.specs.Expressions.{Lasts, MadeBothIn};
 
+use crate::AirResult;
 use crate::expressions::{Expression, answered};
-use air_builder::{AirBuilder, AirError};
+use air_builder::{AirBuilder, Seen};
 use air_field::Algebra;
 
 /// Makes both, in order.
@@ -14,11 +14,11 @@ fn make_both<AB: AirBuilder, X: Expression<AB>, Y: Expression<AB>>(
     builder: &mut AB,
     x: &X,
     y: &Y,
-) -> Result<(AB::Expr, AB::Expr), AirError>
+) -> AirResult<(AB::Expr, AB::Expr)>
     requires ready { AB.ready builder.old }
     requires held { Lasts AB.kept (λ b. X.holds x.now b × Y.holds y.now b) builder.old }
-    ensures { MadeBoth (Means AB.Ring.means AB.ring_of AB.stands) AB.grew AB.missing AB.refuses
-        builder.old builder.new result (X.term x.now) (Y.term y.now) }
+    ensures { MadeBothIn ⟦<AB as Seen>⟧.view builder.old builder.new result (X.term x.now)
+        (Y.term y.now) }
 {
     let first = x.make(builder)?;
     let second = y.make(builder)?;
@@ -35,7 +35,7 @@ impl<AB: AirBuilder, X: Expression<AB>, Y: Expression<AB>> Expression<AB> for Su
     ghost holds = { λ s b. X.holds s.0 b × Y.holds s.1 b };
 
     #[inline(always)]
-    fn make(&self, builder: &mut AB) -> Result<AB::Expr, AirError> {
+    fn make(&self, builder: &mut AB) -> AirResult<AB::Expr> {
         let (x, y) = make_both(builder, &self.0, &self.1)?;
         answered(builder.ring().add(x, y))
     }
@@ -51,7 +51,7 @@ impl<AB: AirBuilder, X: Expression<AB>, Y: Expression<AB>> Expression<AB> for Di
     ghost holds = { λ s b. X.holds s.0 b × Y.holds s.1 b };
 
     #[inline(always)]
-    fn make(&self, builder: &mut AB) -> Result<AB::Expr, AirError> {
+    fn make(&self, builder: &mut AB) -> AirResult<AB::Expr> {
         let (x, y) = make_both(builder, &self.0, &self.1)?;
         answered(builder.ring().sub(x, y))
     }
@@ -67,7 +67,7 @@ impl<AB: AirBuilder, X: Expression<AB>, Y: Expression<AB>> Expression<AB> for Pr
     ghost holds = { λ s b. X.holds s.0 b × Y.holds s.1 b };
 
     #[inline(always)]
-    fn make(&self, builder: &mut AB) -> Result<AB::Expr, AirError> {
+    fn make(&self, builder: &mut AB) -> AirResult<AB::Expr> {
         let (x, y) = make_both(builder, &self.0, &self.1)?;
         answered(builder.ring().mul(x, y))
     }
@@ -83,7 +83,7 @@ impl<AB: AirBuilder, X: Expression<AB>> Expression<AB> for Negative<X> {
     ghost holds = { λ s b. X.holds s.0 b };
 
     #[inline(always)]
-    fn make(&self, builder: &mut AB) -> Result<AB::Expr, AirError> {
+    fn make(&self, builder: &mut AB) -> AirResult<AB::Expr> {
         let x = self.0.make(builder)?;
         answered(builder.ring().neg(x))
     }
@@ -99,7 +99,7 @@ impl<AB: AirBuilder, X: Expression<AB>> Expression<AB> for Double<X> {
     ghost holds = { λ s b. X.holds s.0 b };
 
     #[inline(always)]
-    fn make(&self, builder: &mut AB) -> Result<AB::Expr, AirError> {
+    fn make(&self, builder: &mut AB) -> AirResult<AB::Expr> {
         let x = self.0.make(builder)?;
         answered(builder.ring().double(x))
     }
@@ -115,7 +115,7 @@ impl<AB: AirBuilder, X: Expression<AB>> Expression<AB> for Square<X> {
     ghost holds = { λ s b. X.holds s.0 b };
 
     #[inline(always)]
-    fn make(&self, builder: &mut AB) -> Result<AB::Expr, AirError> {
+    fn make(&self, builder: &mut AB) -> AirResult<AB::Expr> {
         let x = self.0.make(builder)?;
         answered(builder.ring().mul(x, x))
     }
@@ -131,7 +131,7 @@ impl<AB: AirBuilder, X: Expression<AB>> Expression<AB> for BoolCheck<X> {
     ghost holds = { λ s b. X.holds s.0 b };
 
     #[inline(always)]
-    fn make(&self, builder: &mut AB) -> Result<AB::Expr, AirError> {
+    fn make(&self, builder: &mut AB) -> AirResult<AB::Expr> {
         let x = self.0.make(builder)?;
         answered(builder.ring().bool_check(x))
     }

@@ -2,11 +2,12 @@
 ghost use Rattle.std.specs.Prelude.{◌≡◌, ◌↔◌, None, IfSome};
 ghost use Rattle.air_field.specs.Term.{preprocessed, main, periodic, public, leaf_term};
 ghost use Rattle.air_variables.specs.Entries.{entry_leaf};
-ghost use Rattle.air_builder.specs.Builders.{Means, VariableStands};
-ghost use Rattle.air_author.specs.Expressions.{Made};
+ghost use Rattle.air_builder.specs.Builders.{VariableStands};
+ghost use Rattle.air_author.specs.Expressions.{MadeIn};
 
+use crate::AirResult;
 use crate::expressions::{Expression, answered, element, present};
-use air_builder::{AirBuilder, AirError};
+use air_builder::{AirBuilder, AirError, Seen};
 use air_field::{Algebra, FromVar};
 use air_variables::BaseEntry;
 
@@ -17,13 +18,13 @@ fn make_found<AB: AirBuilder>(
     found: Option<AB::Var>,
     entry: BaseEntry,
     index: usize,
-) -> Result<AB::Expr, AirError>
+) -> AirResult<AB::Expr>
     requires ready { AB.ready builder.old }
     requires found { IfSome found (VariableStands AB.Ring.FromVar-1.var_means
         (AB.stands builder.old) (entry_leaf entry index)) }
     requires none { (found ≡ None) ↔ AB.missing builder.old (entry_leaf entry index) }
-    ensures { Made (Means AB.Ring.means AB.ring_of AB.stands) AB.grew AB.missing AB.refuses
-        builder.old builder.new result (leaf_term (entry_leaf entry index)) }
+    ensures { MadeIn ⟦<AB as Seen>⟧.view builder.old builder.new result
+        (leaf_term (entry_leaf entry index)) }
 {
     let v = present(found, AirError::MissingEntry { entry, index })?;
     answered(builder.ring().from_var(v))
@@ -37,7 +38,7 @@ impl<AB: AirBuilder> Expression<AB> for Current {
     ghost term = { λ s. leaf_term (main 0 s.0) };
 
     #[inline(always)]
-    fn make(&self, builder: &mut AB) -> Result<AB::Expr, AirError> {
+    fn make(&self, builder: &mut AB) -> AirResult<AB::Expr> {
         let found = builder.main_variable(0, self.0);
         make_found(builder, found, BaseEntry::Main { offset: 0 }, self.0)
     }
@@ -51,7 +52,7 @@ impl<AB: AirBuilder> Expression<AB> for Next {
     ghost term = { λ s. leaf_term (main 1 s.0) };
 
     #[inline(always)]
-    fn make(&self, builder: &mut AB) -> Result<AB::Expr, AirError> {
+    fn make(&self, builder: &mut AB) -> AirResult<AB::Expr> {
         let found = builder.main_variable(1, self.0);
         make_found(builder, found, BaseEntry::Main { offset: 1 }, self.0)
     }
@@ -65,7 +66,7 @@ impl<AB: AirBuilder> Expression<AB> for PreprocessedCurrent {
     ghost term = { λ s. leaf_term (preprocessed 0 s.0) };
 
     #[inline(always)]
-    fn make(&self, builder: &mut AB) -> Result<AB::Expr, AirError> {
+    fn make(&self, builder: &mut AB) -> AirResult<AB::Expr> {
         let found = builder.preprocessed_variable(0, self.0);
         make_found(
             builder,
@@ -84,7 +85,7 @@ impl<AB: AirBuilder> Expression<AB> for PreprocessedNext {
     ghost term = { λ s. leaf_term (preprocessed 1 s.0) };
 
     #[inline(always)]
-    fn make(&self, builder: &mut AB) -> Result<AB::Expr, AirError> {
+    fn make(&self, builder: &mut AB) -> AirResult<AB::Expr> {
         let found = builder.preprocessed_variable(1, self.0);
         make_found(
             builder,
@@ -103,7 +104,7 @@ impl<AB: AirBuilder> Expression<AB> for Public {
     ghost term = { λ s. leaf_term (public s.0) };
 
     #[inline(always)]
-    fn make(&self, builder: &mut AB) -> Result<AB::Expr, AirError> {
+    fn make(&self, builder: &mut AB) -> AirResult<AB::Expr> {
         let entry = BaseEntry::Public;
         let index = self.0;
         let missing = AirError::MissingEntry { entry, index };
@@ -120,7 +121,7 @@ impl<AB: AirBuilder> Expression<AB> for Periodic {
     ghost term = { λ s. leaf_term (periodic s.0) };
 
     #[inline(always)]
-    fn make(&self, builder: &mut AB) -> Result<AB::Expr, AirError> {
+    fn make(&self, builder: &mut AB) -> AirResult<AB::Expr> {
         let entry = BaseEntry::Periodic;
         let index = self.0;
         let missing = AirError::MissingEntry { entry, index };

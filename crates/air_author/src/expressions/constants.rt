@@ -2,8 +2,9 @@
 ghost use Rattle.air_field.specs.Ring.{image};
 ghost use Rattle.air_field.specs.Term.{const_term};
 
+use crate::AirResult;
 use crate::expressions::{Expression, answered};
-use air_builder::{AirBuilder, AirError};
+use air_builder::AirBuilder;
 use air_field::{Algebra, Field};
 
 /// A constant.
@@ -14,7 +15,7 @@ impl<AB: AirBuilder> Expression<AB> for Constant<AB::F> {
     ghost term = { λ s. const_term s.0 };
 
     #[inline(always)]
-    fn make(&self, builder: &mut AB) -> Result<AB::Expr, AirError> {
+    fn make(&self, builder: &mut AB) -> AirResult<AB::Expr> {
         answered(builder.ring().constant(self.0))
     }
 }
@@ -27,7 +28,7 @@ impl<AB: AirBuilder> Expression<AB> for One {
     ghost term = { λ _. const_term AB.F.ONE };
 
     #[inline(always)]
-    fn make(&self, builder: &mut AB) -> Result<AB::Expr, AirError> {
+    fn make(&self, builder: &mut AB) -> AirResult<AB::Expr> {
         Constant(AB::F::ONE).make(builder)
     }
 }
@@ -40,7 +41,7 @@ impl<AB: AirBuilder> Expression<AB> for Number {
     ghost term = { λ s. const_term (image AB.F.ring s.0) };
 
     #[inline(always)]
-    fn make(&self, builder: &mut AB) -> Result<AB::Expr, AirError> {
+    fn make(&self, builder: &mut AB) -> AirResult<AB::Expr> {
         Constant(AB::F::from_u64(self.0)).make(builder)
     }
 }

@@ -1,11 +1,11 @@
 //! Expressions over the extension. Sums, differences, negatives and products are those of base expressions.
 ghost use Rattle.air_field.specs.Term.{ext_const_term, add_term, sub_term, neg_term, mul_term};
-ghost use Rattle.air_builder.specs.Builders.{Means};
-ghost use Rattle.air_author.specs.Expressions.{Lasts, MadeBoth};
+ghost use Rattle.air_author.specs.Expressions.{Lasts, MadeBothIn};
 
+use crate::AirResult;
 use crate::expressions::arithmetic::{Difference, Negative, Product, Sum};
 use crate::expressions::{Expression, ExtExpression, answered};
-use air_builder::{AirError, ExtensionBuilder};
+use air_builder::{ExtensionBuilder, SeenOver};
 use air_field::{Algebra, ExtAlgebra, ExtensionField};
 
 /// A base expression, over the extension.
@@ -18,7 +18,7 @@ impl<AB: ExtensionBuilder, X: Expression<AB>> ExtExpression<AB> for Lifted<X> {
     ghost ext_holds = { λ s b. X.holds s.0 b };
 
     #[inline(always)]
-    fn make_ext(&self, builder: &mut AB) -> Result<AB::ExprEF, AirError> {
+    fn make_ext(&self, builder: &mut AB) -> AirResult<AB::ExprEF> {
         let x = self.0.make(builder)?;
         answered(builder.ext_ring().lift(x))
     }
@@ -32,7 +32,7 @@ impl<AB: ExtensionBuilder> ExtExpression<AB> for ExtConstant<AB::EF> {
     ghost ext_term = { λ s. ext_const_term (AB.EF.coefficients s.0) };
 
     #[inline(always)]
-    fn make_ext(&self, builder: &mut AB) -> Result<AB::ExprEF, AirError> {
+    fn make_ext(&self, builder: &mut AB) -> AirResult<AB::ExprEF> {
         answered(builder.ext_ring().ext_constant(self.0))
     }
 }
@@ -43,11 +43,11 @@ fn make_both_ext<AB: ExtensionBuilder, X: ExtExpression<AB>, Y: ExtExpression<AB
     builder: &mut AB,
     x: &X,
     y: &Y,
-) -> Result<(AB::ExprEF, AB::ExprEF), AirError>
+) -> AirResult<(AB::ExprEF, AB::ExprEF)>
     requires ready { AB.ready builder.old }
     requires held { Lasts AB.kept (λ b. X.ext_holds x.now b × Y.ext_holds y.now b) builder.old }
-    ensures { MadeBoth (Means AB.ExtRing.means AB.ext_ring_of AB.stands) AB.grew AB.missing
-        AB.refuses builder.old builder.new result (X.ext_term x.now) (Y.ext_term y.now) }
+    ensures { MadeBothIn ⟦<AB as SeenOver>⟧.view builder.old builder.new result (X.ext_term x.now)
+        (Y.ext_term y.now) }
 {
     let first = x.make_ext(builder)?;
     let second = y.make_ext(builder)?;
@@ -61,7 +61,7 @@ impl<AB: ExtensionBuilder, X: ExtExpression<AB>, Y: ExtExpression<AB>> ExtExpres
     ghost ext_holds = { λ s b. X.ext_holds s.0 b × Y.ext_holds s.1 b };
 
     #[inline(always)]
-    fn make_ext(&self, builder: &mut AB) -> Result<AB::ExprEF, AirError> {
+    fn make_ext(&self, builder: &mut AB) -> AirResult<AB::ExprEF> {
         let (x, y) = make_both_ext(builder, &self.0, &self.1)?;
         answered(builder.ext_ring().add(x, y))
     }
@@ -74,7 +74,7 @@ impl<AB: ExtensionBuilder, X: ExtExpression<AB>, Y: ExtExpression<AB>> ExtExpres
     ghost ext_holds = { λ s b. X.ext_holds s.0 b × Y.ext_holds s.1 b };
 
     #[inline(always)]
-    fn make_ext(&self, builder: &mut AB) -> Result<AB::ExprEF, AirError> {
+    fn make_ext(&self, builder: &mut AB) -> AirResult<AB::ExprEF> {
         let (x, y) = make_both_ext(builder, &self.0, &self.1)?;
         answered(builder.ext_ring().sub(x, y))
     }
@@ -87,7 +87,7 @@ impl<AB: ExtensionBuilder, X: ExtExpression<AB>, Y: ExtExpression<AB>> ExtExpres
     ghost ext_holds = { λ s b. X.ext_holds s.0 b × Y.ext_holds s.1 b };
 
     #[inline(always)]
-    fn make_ext(&self, builder: &mut AB) -> Result<AB::ExprEF, AirError> {
+    fn make_ext(&self, builder: &mut AB) -> AirResult<AB::ExprEF> {
         let (x, y) = make_both_ext(builder, &self.0, &self.1)?;
         answered(builder.ext_ring().mul(x, y))
     }
@@ -99,7 +99,7 @@ impl<AB: ExtensionBuilder, X: ExtExpression<AB>> ExtExpression<AB> for Negative<
     ghost ext_holds = { λ s b. X.ext_holds s.0 b };
 
     #[inline(always)]
-    fn make_ext(&self, builder: &mut AB) -> Result<AB::ExprEF, AirError> {
+    fn make_ext(&self, builder: &mut AB) -> AirResult<AB::ExprEF> {
         let x = self.0.make_ext(builder)?;
         answered(builder.ext_ring().neg(x))
     }

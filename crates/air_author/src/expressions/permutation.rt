@@ -2,6 +2,7 @@
 //! of a builder without a permutation trace with `NoPermutation`.
 ghost use Rattle.air_field.specs.Term.{permutation, challenge, permutation_value, leaf_term};
 
+use crate::AirResult;
 use crate::expressions::{ExtExpression, answered, element, present};
 use air_builder::{AirError, PermutationAirBuilder, WindowAccess};
 use air_field::{Algebra, FromVar};
@@ -18,7 +19,7 @@ where
     ghost ext_term = { λ s. leaf_term (permutation 0 s.0) };
 
     #[inline(always)]
-    fn make_ext(&self, builder: &mut AB) -> Result<AB::ExprEF, AirError> {
+    fn make_ext(&self, builder: &mut AB) -> AirResult<AB::ExprEF> {
         let window = builder.permutation()?;
         let entry = ExtEntry::Permutation { offset: 0 };
         let index = self.0;
@@ -39,7 +40,7 @@ where
     ghost ext_term = { λ s. leaf_term (permutation 1 s.0) };
 
     #[inline(always)]
-    fn make_ext(&self, builder: &mut AB) -> Result<AB::ExprEF, AirError> {
+    fn make_ext(&self, builder: &mut AB) -> AirResult<AB::ExprEF> {
         let window = builder.permutation()?;
         let entry = ExtEntry::Permutation { offset: 1 };
         let index = self.0;
@@ -60,7 +61,7 @@ where
     ghost ext_term = { λ s. leaf_term (challenge s.0) };
 
     #[inline(always)]
-    fn make_ext(&self, builder: &mut AB) -> Result<AB::ExprEF, AirError> {
+    fn make_ext(&self, builder: &mut AB) -> AirResult<AB::ExprEF> {
         let entry = ExtEntry::Challenge;
         let index = self.0;
         let missing = AirError::MissingExtEntry { entry, index };
@@ -80,7 +81,7 @@ where
     ghost ext_term = { λ s. leaf_term (permutation_value s.0) };
 
     #[inline(always)]
-    fn make_ext(&self, builder: &mut AB) -> Result<AB::ExprEF, AirError> {
+    fn make_ext(&self, builder: &mut AB) -> AirResult<AB::ExprEF> {
         let entry = ExtEntry::PermutationValue;
         let index = self.0;
         let missing = AirError::MissingExtEntry { entry, index };

@@ -3,9 +3,10 @@ ghost use Rattle.std.specs.Prelude.{suc, IfOk, IfErr};
 ghost use Rattle.air_field.specs.Algebra.{MadeOf, RefusedOf};
 ghost use Rattle.air_author.specs.Expressions.{power_term};
 
+use crate::AirResult;
 use crate::expressions::constants::One;
 use crate::expressions::{Expression, answered};
-use air_builder::{AirBuilder, AirError};
+use air_builder::AirBuilder;
 use air_field::{Algebra, Field, RingError};
 
 /// x, times x so many times more, from the left
@@ -38,7 +39,7 @@ impl<AB: AirBuilder, X: Expression<AB>> Expression<AB> for Power<X> {
     ghost holds = { λ s b. X.holds s.0 b };
 
     #[inline(always)]
-    fn make(&self, builder: &mut AB) -> Result<AB::Expr, AirError> {
+    fn make(&self, builder: &mut AB) -> AirResult<AB::Expr> {
         if self.1 == 0 {
             return One.make(builder);
         }

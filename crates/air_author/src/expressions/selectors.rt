@@ -1,8 +1,9 @@
 //! Selectors of rows.
 ghost use Rattle.air_field.specs.Term.{first_row, last_row, transition, leaf_term};
 
+use crate::AirResult;
 use crate::expressions::Expression;
-use air_builder::{AirBuilder, AirError};
+use air_builder::AirBuilder;
 
 /// One on the first row, else zero.
 #[derive(Clone, Copy, Drop)]
@@ -12,9 +13,8 @@ impl<AB: AirBuilder> Expression<AB> for FirstRow {
     ghost term = { λ _. leaf_term first_row };
 
     #[inline(always)]
-    fn make(&self, builder: &mut AB) -> Result<AB::Expr, AirError> {
-        let x = builder.is_first_row()?;
-        Ok(x)
+    fn make(&self, builder: &mut AB) -> AirResult<AB::Expr> {
+        builder.is_first_row()
     }
 }
 
@@ -26,9 +26,8 @@ impl<AB: AirBuilder> Expression<AB> for LastRow {
     ghost term = { λ _. leaf_term last_row };
 
     #[inline(always)]
-    fn make(&self, builder: &mut AB) -> Result<AB::Expr, AirError> {
-        let x = builder.is_last_row()?;
-        Ok(x)
+    fn make(&self, builder: &mut AB) -> AirResult<AB::Expr> {
+        builder.is_last_row()
     }
 }
 
@@ -40,8 +39,7 @@ impl<AB: AirBuilder> Expression<AB> for Transition {
     ghost term = { λ _. leaf_term transition };
 
     #[inline(always)]
-    fn make(&self, builder: &mut AB) -> Result<AB::Expr, AirError> {
-        let x = builder.is_transition()?;
-        Ok(x)
+    fn make(&self, builder: &mut AB) -> AirResult<AB::Expr> {
+        builder.is_transition()
     }
 }

@@ -1,12 +1,15 @@
 -- What follows of a call that asserts each of several elements.
 use Rattle.std.proofs.Common.{◌≡◌, ◌<◌, ◌≤◌, ℕ, zero, suc, ◌+◌, List, [], ◌∷◌, ◌++◌, length, take, drop, get_or, Result, Ok, Err, OnOk, OnErr, IfErr, ap, subst, sym, ◌∙◌, ap₂, append-nil, arith}
-use Rattle.std.proofs.lemmas.List.{take_more, take_all, drop_more, take-append-drop}
+use Rattle.std.proofs.lemmas.List.{take_more, take_all, drop_more, take-append-drop, take-append-le, length-append}
+use Rattle.std.proofs.lemmas.Result.{err_from_is_err_and}
 use Rattle.std.proofs.lemmas.Slice.Zip.{get_or-zip}
+use Rattle.std.proofs.Math.Seq.{take-append-add}
 use Rattle.std.specs.List.{AllZip, zip}
+use Rattle.std.specs.Result.{IsErrAnd}
 use Rattle.air_field.specs.Term.{Term}
 use Rattle.air_windows.specs.declared.errors.AirError.{AirError}
 use Rattle.air_builder.specs.Assertion.{Assertion}
-use Rattle.air_builder.specs.Batches.{AssertsOf, AssertsOfBoth, GrewByEach, GrewByBeginning, RefusesByEach, AssertedEach}
+use Rattle.air_builder.specs.Batches.{AssertsOf, AssertsOfBoth, GrewByEach, GrewByBeginning, GrewByFirst, RefusesByEach, AssertedEach}
 use Rattle.air_builder.specs.Builders.{MeansIn, BuilderView, RingLaws, BuilderLaws}
 use Rattle.air_builder.specs.laws.Filters.{means_kept}
 use Rattle.air_builder.specs.laws.Zips.{AllZip-parts, AllZip-nil}
@@ -60,6 +63,27 @@ module _ {S I F X : Type 0} {asserts : S → I → Assertion F → Type 0} {kept
   pub refused_one : {e : X} → AssertedEach asserts kept grew refuses a b (x ∷ []) (Err e)
       → (s : Assertion F) → asserts a x s → refuses a e (s ∷ [])
   refused_one h s k = h.refused (s ∷ []) (k, tt)
+
+module _ {S F : Type 0} (grew : S → S → List (Assertion F) → Type 0) (a b : S) (xs ys : List (Assertion F)) where
+  -- a beginning of the first of two lists
+  pub first_of_two : GrewByFirst grew a b xs → GrewByFirst grew a b (xs ++ ys)
+  first_of_two h =
+      let e = length-append xs ys in
+      let lt = h.within in
+      let le : h.count ≤ length xs = omega (arith, lt) in record {
+        count = h.count;
+        within = omega (arith, lt, e);
+        beginning = subst (grew a b) (sym (take-append-le h.count xs ys le)) h.beginning;
+      }
+
+  -- the first of two lists whole, and a beginning of the other
+  pub first_whole : (n : ℕ) → n < length ys → grew a b (xs ++ take n ys) → GrewByFirst grew a b (xs ++ ys)
+  first_whole n lt h =
+      let e = length-append xs ys in record {
+        count = length xs + n;
+        within = omega (arith, lt, e);
+        beginning = subst (grew a b) (sym (take-append-add xs ys n)) h;
+      }
 
 -- the first elements, one more, and the others
 pub in_parts : {X : Type 0} (xs : List X) (i : ℕ) (d : X) → i < length xs → xs ≡ take i xs ++ (get_or xs i d ∷ drop (i + 1) xs)
@@ -128,17 +152,19 @@ module _ {S R E F : Type 0} {view : BuilderView S R E F} (laws : BuilderLaws vie
       refused = tt;
     }
 
-    -- one element was refused
-    pub asserted_refused : {u : Unit {0}} {e : AirError} (x : I) → i < length xs → x ≡ get_or xs i x
-        → AssertedEach asserts kept grew refuses a b (take i xs) (Ok u)
-        → AssertedEach asserts kept grew refuses b c (x ∷ []) (Err e)
-        → AssertedEach asserts kept grew refuses a c xs (Err e)
-    asserted_refused {e = e} x lt is h k = record {
-      keeps = laws.kept_joined a b c h.keeps k.keeps;
-      ok = tt;
-      err = beginning a b c xs i lt h.ok (grew_none k);
-      refused = each_refused a b e xs i x lt is h.keeps h.ok (refused_one k);
-    }
+    -- one element was refused, and a `?` gives up
+    pub asserted_refused : {u : Unit {0}} {e : AirError} {result : Result (Unit {0}) AirError} (x : I) → i < length xs
+        → x ≡ get_or xs i x → AssertedEach asserts kept grew refuses a b (take i xs) (Ok u)
+        → AssertedEach asserts kept grew refuses b c (x ∷ []) (Err e) → IsErrAnd result (λ y. y ≡ e)
+        → AssertedEach asserts kept grew refuses a c xs result
+    asserted_refused {e = e} {result = result} x lt is h k given =
+        let q = err_from_is_err_and result given in
+        rw (q.1, q.2) (record {
+          keeps = laws.kept_joined a b c h.keeps k.keeps;
+          ok = tt;
+          err = beginning a b c xs i lt h.ok (grew_none k);
+          refused = each_refused a b e xs i x lt is h.keeps h.ok (refused_one k);
+        })
 
   -- all elements
   pub asserted_all : {a b : S} {u v : Unit {0}} (xs : List I) (i : ℕ) → length xs ≤ i

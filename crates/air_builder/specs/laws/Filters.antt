@@ -7,7 +7,7 @@ use Rattle.air_windows.specs.declared.errors.AirError.{AirError}
 use Rattle.air_builder.specs.Assertion.{Assertion, filtered}
 use Rattle.air_builder.specs.Builders.{MeansIn, BuilderView, RingLaws, BuilderLaws}
 use Rattle.air_builder.specs.laws.Refusals.{PartOf-filtered}
-use Rattle.air_builder.specs.Filters.{GrewInside, RefusesInside, filter_view}
+use Rattle.air_builder.specs.Filters.{GrewUnder, GrewInside, RefusesInside, filter_view}
 
 module _ {S R E F : Type 0} {view : BuilderView S R E F} (ring : RingLaws view) (laws : BuilderLaws view) where
   open view use {has, means, extends, ring_of, with_ring, stands, kept, grew, refuses}
@@ -35,21 +35,36 @@ module _ {S R E F : Type 0} {view : BuilderView S R E F} (ring : RingLaws view) 
       → MeansIn view i x t → RefusesInside refuses (MeansIn view) x i e ts → refuses a e (us ++ map (filtered t) ts)
   refused_filter x a i e us ts t u p h = laws.refuses_then a i e us (map (filtered t) ts) u (h t p)
 
-  module _ {N : Type 0} where
+  -- of a list of any kind, assertions or labelled ones
+  module _ {A N : Type 0} (under : Term F → A → A) {grown : S → S → List A → Type 0}
+      (joined : (a b c : S) (xs ys : List A) → grown a b xs → grown b c ys → grown a c (xs ++ ys)) where
     -- growth in a filter by one list and then by another
-    pub inside_joined : (n m k : N) (x y z : E) (a b c : S) (xs ys : List (Assertion F))
-        → GrewInside kept grew (MeansIn view) n m x y a b xs → GrewInside kept grew (MeansIn view) m k y z b c ys
-        → GrewInside kept grew (MeansIn view) n k x z a c (xs ++ ys)
-    inside_joined n m k x y z a b c xs ys g h = record {
+    pub under_joined : (n m k : N) (x y z : E) (a b c : S) (xs ys : List A)
+        → GrewUnder under kept grown (MeansIn view) n m x y a b xs → GrewUnder under kept grown (MeansIn view) m k y z b c ys
+        → GrewUnder under kept grown (MeansIn view) n k x z a c (xs ++ ys)
+    under_joined n m k x y z a b c xs ys g h = record {
       keeps = record {
         same_reference = h.keeps.same_reference ∙ g.keeps.same_reference;
         same_condition = h.keeps.same_condition ∙ g.keeps.same_condition;
         inside = laws.kept_joined a b c g.keeps.inside h.keeps.inside;
       };
-      by = λ t m. subst (λ zs. grew a c zs) (sym (map-append (filtered t) xs ys))
-          (laws.joined a b c (map (filtered t) xs) (map (filtered t) ys) (g.by t m)
+      by = λ t m. subst (λ zs. grown a c zs) (sym (map-append (under t) xs ys))
+          (joined a b c (map (under t) xs) (map (under t) ys) (g.by t m)
           (h.by t (subst (λ e. MeansIn view b e t) (sym g.keeps.same_condition) (means_kept a b x t g.keeps.inside m))));
     }
+
+    -- a builder after a filter on it is done
+    pub after_under : (n m : N) (x y : E) (a b i j : S) (us xs : List A) (t : Term F) → grown a i us → MeansIn view i x t
+        → GrewUnder under kept grown (MeansIn view) n m x y i j xs → b ≡ j → grown a b (us ++ map (under t) xs)
+    after_under n m x y a b i j us xs t u p g e =
+        subst (λ s. grown a s (us ++ map (under t) xs)) (sym e) (joined a i j us (map (under t) xs) u (g.by t p))
+
+  module _ {N : Type 0} where
+    -- the same of assertions
+    pub inside_joined : (n m k : N) (x y z : E) (a b c : S) (xs ys : List (Assertion F))
+        → GrewInside kept grew (MeansIn view) n m x y a b xs → GrewInside kept grew (MeansIn view) m k y z b c ys
+        → GrewInside kept grew (MeansIn view) n k x z a c (xs ++ ys)
+    inside_joined = under_joined filtered laws.joined
 
     -- what a filter may refuse after growth it may refuse before
     pub inside_refused : (n m : N) (x y : E) (a b : S) (e : AirError) (xs ys : List (Assertion F))
@@ -64,7 +79,7 @@ module _ {S R E F : Type 0} {view : BuilderView S R E F} (ring : RingLaws view) 
     pub after_filter : (n m : N) (x y : E) (a b i j : S) (us ts : List (Assertion F)) (t : Term F) → grew a i us
         → MeansIn view i x t → GrewInside kept grew (MeansIn view) n m x y i j ts → b ≡ j
         → grew a b (us ++ map (filtered t) ts)
-    after_filter n m x y a b i j us ts t u p g e = subst (λ s. grew a s (us ++ map (filtered t) ts)) (sym e) (laws.joined a i j us (map (filtered t) ts) u (g.by t p))
+    after_filter = after_under filtered laws.joined
 
   module _ {N P : Type 0} (inner : P → S) (name : P → N) (condition : P → E) (with_inner : P → S → P)
       (inner_is : (p : P) (s : S) → inner (with_inner p s) ≡ s)

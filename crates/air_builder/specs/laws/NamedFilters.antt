@@ -1,12 +1,11 @@
 -- What a named builder keeps that discards labels, and one under a filter.
 use Rattle.std.specs.Prelude.{◌≡◌, List, [], ◌∷◌, ◌++◌, map, refl}
-use Rattle.std.proofs.Common.{sym, ◌∙◌, ap, subst}
+use Rattle.std.proofs.Common.{sym, ap, subst}
 use Rattle.air_field.specs.Term.{Term}
 use Rattle.air_builder.specs.Assertion.{filtered}
 use Rattle.air_builder.specs.Builders.{MeansIn, BuilderView, RingLaws, BuilderLaws}
-use Rattle.std.proofs.lemmas.List.{map-append}
 use Rattle.air_builder.specs.Filters.{GrewInside}
-use Rattle.air_builder.specs.laws.Filters.{means_kept}
+use Rattle.air_builder.specs.laws.Filters.{under_joined, after_under}
 use Rattle.air_builder.specs.laws.Labels.{without_labels-append}
 use Rattle.air_builder.specs.Labels.{Labelled, without_labels, discarding, NamedLaws}
 use Rattle.air_builder.specs.NamedFilters.{filtered_label, LabelledInside}
@@ -31,21 +30,6 @@ module _ {S R E F : Type 0} {view : BuilderView S R E F} {labelled : S → S →
   open view use {kept, grew}
 
   module _ {N : Type 0} where
-    inside_joined : (n m k : N) (x y z : E) (a b c : S) (xs ys : List (Labelled F))
-        → LabelledInside kept labelled (MeansIn view) n m x y a b xs
-        → LabelledInside kept labelled (MeansIn view) m k y z b c ys
-        → LabelledInside kept labelled (MeansIn view) n k x z a c (xs ++ ys)
-    inside_joined n m k x y z a b c xs ys g h = record {
-      keeps = record {
-        same_reference = h.keeps.same_reference ∙ g.keeps.same_reference;
-        same_condition = h.keeps.same_condition ∙ g.keeps.same_condition;
-        inside = laws.kept_joined a b c g.keeps.inside h.keeps.inside;
-      };
-      by = λ t m. subst (λ zs. labelled a c zs) (sym (map-append (filtered_label t) xs ys))
-          (named.labelled_joined a b c (map (filtered_label t) xs) (map (filtered_label t) ys) (g.by t m)
-          (h.by t (subst (λ e. MeansIn view b e t) (sym g.keeps.same_condition) (means_kept ring laws a b x t g.keeps.inside m))));
-    }
-
     inside_grew : (n m : N) (x y : E) (a b : S) (ls : List (Labelled F))
         → LabelledInside kept labelled (MeansIn view) n m x y a b ls
         → GrewInside kept grew (MeansIn view) n m x y a b (without_labels ls)
@@ -58,7 +42,7 @@ module _ {S R E F : Type 0} {view : BuilderView S R E F} {labelled : S → S →
     pub after_named_filter : (n m : N) (x y : E) (a b i j : S) (us ls : List (Labelled F)) (t : Term F)
         → labelled a i us → MeansIn view i x t → LabelledInside kept labelled (MeansIn view) n m x y i j ls → b ≡ j
         → labelled a b (us ++ map (filtered_label t) ls)
-    after_named_filter n m x y a b i j us ls t u p g e = subst (λ s. labelled a s (us ++ map (filtered_label t) ls)) (sym e) (named.labelled_joined a i j us (map (filtered_label t) ls) u (g.by t p))
+    after_named_filter = after_under ring laws filtered_label named.labelled_joined
 
   module _ {N P : Type 0} (inner : P → S) (name : P → N) (condition : P → E) where
     -- a filter keeps the laws of the named builder inside
@@ -69,6 +53,7 @@ module _ {S R E F : Type 0} {view : BuilderView S R E F} {labelled : S → S →
         (inner p) (inner q) ls)
     named_filter_laws = record {
       labelled_nothing = λ p q g. record { keeps = g.keeps; by = λ c m. named.labelled_nothing (inner p) (inner q) (g.by c m) };
-      labelled_joined = λ p q s xs ys g h. inside_joined (name p) (name q) (name s) (condition p) (condition q) (condition s) (inner p) (inner q) (inner s) xs ys g h;
+      labelled_joined = λ p q s xs ys g h. under_joined ring laws filtered_label named.labelled_joined
+          (name p) (name q) (name s) (condition p) (condition q) (condition s) (inner p) (inner q) (inner s) xs ys g h;
       labelled_grew = λ p q ls g. inside_grew (name p) (name q) (condition p) (condition q) (inner p) (inner q) ls g;
     }

@@ -1,5 +1,5 @@
 -- Two lists whose elements are related place by place.
-use Rattle.std.specs.Prelude.{◌≡◌, ℕ, zero, suc, List, [], ◌∷◌, ◌++◌, take, refl}
+use Rattle.std.specs.Prelude.{◌≡◌, ℕ, zero, suc, List, [], ◌∷◌, ◌++◌, take, drop, refl}
 use Rattle.std.specs.List.{AllZip}
 use Rattle.std.proofs.Common.{ap}
 
@@ -36,11 +36,20 @@ AllZip-joined R [] us (y ∷ ys) vs h k = absurd h
 AllZip-joined R (x ∷ xs) us [] vs h k = absurd h
 AllZip-joined R (x ∷ xs) us (y ∷ ys) vs h k = (h.0, AllZip-joined R xs us ys vs h.1 k)
 
--- the first n of both
+-- both cut at n
+AllZip-cut : {A B : Type 0} (R : A → B → Type 0) (n : ℕ) (xs : List A) (ys : List B) → AllZip R xs ys
+    → AllZip R (take n xs) (take n ys) × AllZip R (drop n xs) (drop n ys)
+AllZip-cut R zero xs ys h = (tt, h)
+AllZip-cut R (suc n) [] [] h = (tt, tt)
+AllZip-cut R (suc n) [] (y ∷ ys) h = absurd h
+AllZip-cut R (suc n) (x ∷ xs) [] h = absurd h
+AllZip-cut R (suc n) (x ∷ xs) (y ∷ ys) h = let more = AllZip-cut R n xs ys h.1 in ((h.0, more.0), more.1)
+
+-- the first n of both, and the others
 pub AllZip-take : {A B : Type 0} (R : A → B → Type 0) (n : ℕ) (xs : List A) (ys : List B) → AllZip R xs ys
     → AllZip R (take n xs) (take n ys)
-AllZip-take R zero xs ys h = tt
-AllZip-take R (suc n) [] [] h = tt
-AllZip-take R (suc n) [] (y ∷ ys) h = absurd h
-AllZip-take R (suc n) (x ∷ xs) [] h = absurd h
-AllZip-take R (suc n) (x ∷ xs) (y ∷ ys) h = (h.0, AllZip-take R n xs ys h.1)
+AllZip-take R n xs ys h = (AllZip-cut R n xs ys h).0
+
+pub AllZip-drop : {A B : Type 0} (R : A → B → Type 0) (n : ℕ) (xs : List A) (ys : List B) → AllZip R xs ys
+    → AllZip R (drop n xs) (drop n ys)
+AllZip-drop R n xs ys h = (AllZip-cut R n xs ys h).1

@@ -1,10 +1,9 @@
 //! AIRs.
-ghost use Rattle.std.specs.Prelude.{◌≡◌, ◌⊎◌, ℕ, List, None, false, length, IfOk, IfErr, OnOk, OnErr};
+ghost use Rattle.std.specs.Prelude.{◌≡◌, ◌⊎◌, None, false, length, IfOk, IfErr, OnOk, OnErr};
 ghost use Rattle.std.specs.List.{range_with_len};
 ghost use Rattle.std.specs.Option.{option_copied};
-ghost use Rattle.air_builder.specs.Assertion.{Assertion};
 ghost use Rattle.air_builder.specs.Batches.{GrewByFirst};
-ghost use Rattle.air_builder.specs.Beside.{Beside, table_width};
+ghost use Rattle.air_builder.specs.Declaration.{Declaration, table_width};
 ghost use Rattle.air_windows.specs.Periodic.{MatchPeriodicMatrix, MatchPeriodicValues};
 ghost use Rattle.air_builder.specs.Refusals.{NoneMissing};
 
@@ -19,15 +18,9 @@ use std::alloc::Global;
 /// What an AIR says of itself. Every answer is a function of the AIR's value, want of memory apart; of hints of its own
 /// only what an implementation states at its methods.
 pub trait BaseAir<F: Copy> {
-    /// The constraints, in order: base or extension terms, the same for all builders.
-    ghost declared: { Self → List (Assertion F) };
-
-    ghost width: { Self → ℕ };
-
-    ghost num_public_values: { Self → ℕ };
-
-    /// The preprocessed table, the periodic columns and the boundary cells.
-    ghost beside: { Self → Beside F };
+    /// Its constraints, in order: base or extension terms, the same for all builders; the numbers of columns and of
+    /// public values; and the preprocessed table, the periodic columns and the boundary cells.
+    ghost declaration: { Self → Declaration F };
 
     /// An implementation with bodies of its own for the lists of next-row columns or the three hints says so, and
     /// states its answers at its methods.
@@ -35,19 +28,19 @@ pub trait BaseAir<F: Copy> {
 
     /// The number of columns of the main trace.
     fn width(&self) -> usize
-        ensures { result ≡ width self.now };
+        ensures { result ≡ (declaration self.now).width };
 
     /// The number of public values.
     fn num_public_values(&self) -> usize
-        ensures { result ≡ num_public_values self.now };
+        ensures { result ≡ (declaration self.now).num_public_values };
 
     /// The preprocessed table, if there is one. A check compares its height with that of the main trace.
     fn preprocessed_trace(&self) -> Option<&RowMajorMatrix<F>>
-        ensures { option_copied result ≡ (beside self.now).preprocessed };
+        ensures { option_copied result ≡ (declaration self.now).preprocessed };
 
     /// The number of columns of the preprocessed table, 0 without one.
     fn preprocessed_width(&self) -> usize
-        ensures { result ≡ table_width (beside self.now).preprocessed }
+        ensures { result ≡ table_width (declaration self.now).preprocessed }
     {
         match self.preprocessed_trace() {
             Some(table) => table.width(),
@@ -57,11 +50,11 @@ pub trait BaseAir<F: Copy> {
 
     /// The periodic columns, each the values of one period.
     fn periodic_columns(&self) -> &[Vec<F>]
-        ensures { result.now ≡ (beside self.now).periodic };
+        ensures { result.now ≡ (declaration self.now).periodic };
 
     /// The number of periodic columns.
     fn num_periodic_columns(&self) -> usize
-        ensures { result ≡ length (beside self.now).periodic }
+        ensures { result ≡ length (declaration self.now).periodic }
     {
         self.periodic_columns().len()
     }
@@ -69,7 +62,7 @@ pub trait BaseAir<F: Copy> {
     /// Each periodic column's value at the row: the column at the row modulo its length. The first empty column is
     /// refused, and want of memory.
     fn periodic_values(&self, alloc: Global, row_index: usize) -> Result<Vec<F>, AirError>
-        ensures { MatchPeriodicValues (beside self.now).periodic row_index result }
+        ensures { MatchPeriodicValues (declaration self.now).periodic row_index result }
     {
         periodic_row(alloc, self.periodic_columns(), row_index)
     }
@@ -77,7 +70,7 @@ pub trait BaseAir<F: Copy> {
     /// The periodic columns as a matrix that has as many rows as the greatest period; None without columns. The first
     /// empty column is refused where another isn't empty, and want of memory.
     fn periodic_columns_matrix(&self, alloc: Global) -> Result<Option<RowMajorMatrix<F>>, AirError>
-        ensures { MatchPeriodicMatrix (beside self.now).periodic result }
+        ensures { MatchPeriodicMatrix (declaration self.now).periodic result }
     {
         periodic_matrix(alloc, self.periodic_columns())
     }
@@ -86,7 +79,7 @@ pub trait BaseAir<F: Copy> {
     /// own. It refuses for want of memory alone.
     fn main_next_row_columns(&self, alloc: Global) -> Result<Vec<usize>, AirError>
         ensures all { (has_own_hints self.now → ⊥) → IfOk result
-            (λ columns. columns.items ≡ range_with_len 0 (width self.now)) }
+            (λ columns. columns.items ≡ range_with_len 0 (declaration self.now).width) }
         ensures refused { IfErr result (λ e. e ≡ AirError.Memory) }
     {
         columns_below(alloc, self.width())
@@ -97,7 +90,7 @@ pub trait BaseAir<F: Copy> {
     fn preprocessed_next_row_columns(&self, alloc: Global) -> Result<Vec<usize>, AirError>
         ensures all { (has_own_hints self.now → ⊥) → IfOk result
             (λ columns. columns.items ≡ range_with_len 0
-            (table_width (beside self.now).preprocessed)) }
+            (table_width (declaration self.now).preprocessed)) }
         ensures refused { IfErr result (λ e. e ≡ AirError.Memory) }
     {
         columns_below(alloc, self.preprocessed_width())
@@ -119,7 +112,7 @@ pub trait BaseAir<F: Copy> {
 
     /// The cells of the main trace that hold public values.
     fn public_boundary_io(&self) -> &[BoundaryPublic]
-        ensures { result.now ≡ (beside self.now).cells };
+        ensures { result.now ≡ (declaration self.now).cells };
 
     /// Whether the AIR is sound only where each cell of the main trace is a bit, which its constraints don't enforce.
     fn assumes_boolean_trace(&self) -> bool
@@ -139,12 +132,13 @@ pub trait Air<AB: AirBuilder>: BaseAir<AB::F> {
     /// Asserts the constraints on the builder, in the order of the declared list.
     fn eval(&self, builder: &mut AB) -> Result<(), AirError>
         requires { AB.ready builder.old }
-        ensures ok { OnOk result (AB.grew builder.old builder.new (Self.declared self.now)) }
+        ensures ok { OnOk result (AB.grew builder.old builder.new
+            (Self.declaration self.now).declared) }
         ensures there { OnOk result (NoneMissing (AB.missing builder.old)
-            (Self.declared self.now)) }
+            (Self.declaration self.now).declared) }
         ensures keeps { AB.kept builder.old builder.new }
         ensures err { OnErr result (GrewByFirst AB.grew builder.old builder.new
-            (Self.declared self.now)) }
+            (Self.declaration self.now).declared) }
         ensures refused { IfErr result (λ e. (e ≡ AirError.Memory) ⊎ AB.refuses builder.old e
-            (Self.declared self.now)) };
+            (Self.declaration self.now).declared) };
 }

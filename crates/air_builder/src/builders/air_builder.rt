@@ -5,12 +5,14 @@ ghost use Rattle.std.specs.Borrow.{sem, Lends};
 ghost use Rattle.air_field.specs.Algebra.{MadeOf, RefusedOf, bool_check_term};
 ghost use Rattle.air_field.specs.Term.{Leaf, preprocessed, main, periodic, public, first_row, last_row, transition, Term, leaf_term, const_term, sub_term};
 ghost use Rattle.air_builder.specs.Assertion.{Assertion, Base};
-ghost use Rattle.air_builder.specs.Builders.{Means, MeansOfBoth, RowStands, VariableStands, BuilderLaws, less_one_term};
-ghost use Rattle.air_builder.specs.Batches.{AssertsOf, AssertsOfBoth, AssertedEach};
+ghost use Rattle.air_builder.specs.Builders.{MeansIn, MeansOfBoth, RowStands, VariableStands, BuilderLaws, less_one_term};
+ghost use Rattle.air_builder.specs.Batches.{Asserts, AssertsBoth};
+ghost use Rattle.air_builder.specs.Filters.{FiltersBy};
 ghost use Rattle.air_builder.specs.Refusals.{RowEnds, RefusesPartOfBoth};
 ghost use Rattle.air_windows.specs.declared.errors.AirError.{AirError};
 
 use crate::builders::filtered::FilteredAirBuilder;
+use crate::builders::seen::Seen;
 use air_field::{Algebra, Field, FromVar, RingError};
 use air_windows::errors::AirError;
 use air_windows::windows::access::WindowAccess;
@@ -158,7 +160,7 @@ pub trait AirBuilder {
         requires { ready self.old }
         ensures always { IsOk result }
         ensures keeps { grew self.old self.new [] }
-        ensures ok { IfOk result (λ x. Means Self.Ring.means ring_of stands self.new x
+        ensures ok { IfOk result (λ x. MeansIn ⟦<Self as Seen>⟧.view self.new x
             (leaf_term first_row)) };
 
     /// One on the last row, else zero.
@@ -166,7 +168,7 @@ pub trait AirBuilder {
         requires { ready self.old }
         ensures always { IsOk result }
         ensures keeps { grew self.old self.new [] }
-        ensures ok { IfOk result (λ x. Means Self.Ring.means ring_of stands self.new x
+        ensures ok { IfOk result (λ x. MeansIn ⟦<Self as Seen>⟧.view self.new x
             (leaf_term last_row)) };
 
     /// Zero on the last row, else one.
@@ -174,7 +176,7 @@ pub trait AirBuilder {
         requires { ready self.old }
         ensures always { IsOk result }
         ensures keeps { grew self.old self.new [] }
-        ensures ok { IfOk result (λ x. Means Self.Ring.means ring_of stands self.new x
+        ensures ok { IfOk result (λ x. MeansIn ⟦<Self as Seen>⟧.view self.new x
             (leaf_term transition)) };
 
     /// The transition selector of windows of `size` rows, which must be at most 2: zero on the last row, else one.
@@ -184,7 +186,7 @@ pub trait AirBuilder {
         requires within { size ≤ 2 }
         ensures always { IsOk result }
         ensures keeps { grew self.old self.new [] }
-        ensures ok { IfOk result (λ x. Means Self.Ring.means ring_of stands self.new x
+        ensures ok { IfOk result (λ x. MeansIn ⟦<Self as Seen>⟧.view self.new x
             (leaf_term transition)) }
     {
         prove!(size <= 2);
@@ -201,10 +203,10 @@ pub trait AirBuilder {
         requires y_in { Self.Ring.has (ring_of self.old) y }
         ensures keeps { grew self.old self.new [] }
         ensures of_ring { IfOk result (λ z. Self.Ring.has (ring_of self.new) z) }
-        ensures made { IfOk result (λ z. MeansOfBoth (Means Self.Ring.means ring_of stands) sub_term
+        ensures made { IfOk result (λ z. MeansOfBoth (MeansIn ⟦<Self as Seen>⟧.view) sub_term
             self.old self.new x y z) }
-        ensures refused { IfErr result (RefusesPartOfBoth (Means Self.Ring.means ring_of stands)
-            refuses sub_term self.old x y) }
+        ensures refused { IfErr result (RefusesPartOfBoth (MeansIn ⟦<Self as Seen>⟧.view) refuses
+            sub_term self.old x y) }
     {
         let difference = self.ring().sub(x, y)?;
         Ok(difference)
@@ -214,16 +216,15 @@ pub trait AirBuilder {
     fn assert_zero(&mut self, x: Self::Expr) -> Result<(), AirError>
         requires ready { ready self.old }
         requires of_ring { Self.Ring.has (ring_of self.old) x }
-        ensures { AssertedEach (AssertsOf Base (Means Self.Ring.means ring_of stands) (λ t. t)) kept
-            grew refuses self.old self.new (x ∷ []) result };
+        ensures { Asserts ⟦<Self as Seen>⟧.view Base (λ t. t) self.old self.new (x ∷ []) result };
 
     /// Asserts that `x` is one: growth by x - 1.
     #[inline(always)]
     final fn assert_one(&mut self, x: Self::Expr) -> Result<(), AirError>
         requires ready { ready self.old }
         requires of_ring { Self.Ring.has (ring_of self.old) x }
-        ensures { AssertedEach (AssertsOf Base (Means Self.Ring.means ring_of stands) (less_one_term
-            Self.F.ONE)) kept grew refuses self.old self.new (x ∷ []) result }
+        ensures { Asserts ⟦<Self as Seen>⟧.view Base (less_one_term Self.F.ONE) self.old self.new
+            (x ∷ []) result }
     {
         let less = less_one(self.ring(), x)?;
         self.assert_zero(less)
@@ -235,8 +236,8 @@ pub trait AirBuilder {
         requires ready { ready self.old }
         requires x_in { Self.Ring.has (ring_of self.old) x }
         requires y_in { Self.Ring.has (ring_of self.old) y }
-        ensures { AssertedEach (AssertsOfBoth Base (Means Self.Ring.means ring_of stands) sub_term)
-            kept grew refuses self.old self.new ((x, y) ∷ []) result }
+        ensures { AssertsBoth ⟦<Self as Seen>⟧.view Base sub_term self.old self.new ((x, y) ∷ [])
+            result }
     {
         let z = self.ring().sub(x, y)?;
         self.assert_zero(z)
@@ -247,8 +248,8 @@ pub trait AirBuilder {
     final fn assert_bool(&mut self, x: Self::Expr) -> Result<(), AirError>
         requires ready { ready self.old }
         requires of_ring { Self.Ring.has (ring_of self.old) x }
-        ensures { AssertedEach (AssertsOf Base (Means Self.Ring.means ring_of stands)
-            (bool_check_term Self.F.ONE)) kept grew refuses self.old self.new (x ∷ []) result }
+        ensures { Asserts ⟦<Self as Seen>⟧.view Base (bool_check_term Self.F.ONE) self.old
+            self.new (x ∷ []) result }
     {
         let check = self.ring().bool_check(x)?;
         self.assert_zero(check)
@@ -258,8 +259,8 @@ pub trait AirBuilder {
     final fn assert_zeros_slice(&mut self, elements: &[Self::Expr]) -> Result<(), AirError>
         requires ready { ready self.old }
         requires of_ring { All (Self.Ring.has (ring_of self.old)) elements.now }
-        ensures { AssertedEach (AssertsOf Base (Means Self.Ring.means ring_of stands) (λ t. t)) kept
-            grew refuses self.old self.new elements.now result }
+        ensures { Asserts ⟦<Self as Seen>⟧.view Base (λ t. t) self.old self.new elements.now
+            result }
     {
         for element in elements {
             self.assert_zero(*element)?;
@@ -271,8 +272,8 @@ pub trait AirBuilder {
     final fn assert_bools_slice(&mut self, elements: &[Self::Expr]) -> Result<(), AirError>
         requires ready { ready self.old }
         requires of_ring { All (Self.Ring.has (ring_of self.old)) elements.now }
-        ensures { AssertedEach (AssertsOf Base (Means Self.Ring.means ring_of stands)
-            (bool_check_term Self.F.ONE)) kept grew refuses self.old self.new elements.now result }
+        ensures { Asserts ⟦<Self as Seen>⟧.view Base (bool_check_term Self.F.ONE) self.old
+            self.new elements.now result }
     {
         for element in elements {
             self.assert_bool(*element)?;
@@ -290,8 +291,8 @@ pub trait AirBuilder {
         requires same_length { length left.now ≡ length right.now }
         requires left_in { All (Self.Ring.has (ring_of self.old)) left.now }
         requires right_in { All (Self.Ring.has (ring_of self.old)) right.now }
-        ensures { AssertedEach (AssertsOfBoth Base (Means Self.Ring.means ring_of stands) sub_term)
-            kept grew refuses self.old self.new (zip left.now right.now) result }
+        ensures { AssertsBoth ⟦<Self as Seen>⟧.view Base sub_term self.old self.new
+            (zip left.now right.now) result }
     {
         for (i, x) in left.iter().enumerate() {
             self.assert_eq(*x, right[i])?;
@@ -321,11 +322,7 @@ pub trait AirBuilder {
     where
         Self: Sized,
         requires { ready self.old }
-        ensures always { IsOk result }
-        ensures same_reference { IfOk result (λ f. f.inner.ghost_name ≡ self.entry.ghost_name) }
-        ensures inner { IfOk result (λ f. grew self.old f.inner.now []) }
-        ensures condition { IfOk result (λ f. Means Self.Ring.means ring_of stands f.inner.now
-            f.condition (leaf_term first_row)) }
+        ensures { FiltersBy ⟦<Self as Seen>⟧.view first_row self.old self.entry.ghost_name result }
     {
         let condition = self.is_first_row()?;
         self.when(condition)
@@ -337,11 +334,7 @@ pub trait AirBuilder {
     where
         Self: Sized,
         requires { ready self.old }
-        ensures always { IsOk result }
-        ensures same_reference { IfOk result (λ f. f.inner.ghost_name ≡ self.entry.ghost_name) }
-        ensures inner { IfOk result (λ f. grew self.old f.inner.now []) }
-        ensures condition { IfOk result (λ f. Means Self.Ring.means ring_of stands f.inner.now
-            f.condition (leaf_term last_row)) }
+        ensures { FiltersBy ⟦<Self as Seen>⟧.view last_row self.old self.entry.ghost_name result }
     {
         let condition = self.is_last_row()?;
         self.when(condition)
@@ -353,11 +346,7 @@ pub trait AirBuilder {
     where
         Self: Sized,
         requires { ready self.old }
-        ensures always { IsOk result }
-        ensures same_reference { IfOk result (λ f. f.inner.ghost_name ≡ self.entry.ghost_name) }
-        ensures inner { IfOk result (λ f. grew self.old f.inner.now []) }
-        ensures condition { IfOk result (λ f. Means Self.Ring.means ring_of stands f.inner.now
-            f.condition (leaf_term transition)) }
+        ensures { FiltersBy ⟦<Self as Seen>⟧.view transition self.old self.entry.ghost_name result }
     {
         let condition = self.is_transition()?;
         self.when(condition)
@@ -379,12 +368,12 @@ pub trait AirBuilder {
         ensures same_reference { IfOk result (λ f. f.inner.ghost_name ≡ self.entry.ghost_name) }
         ensures inner { IfOk result (λ f. grew self.old f.inner.now []) }
         ensures of_ring { IfOk result (λ f. Self.Ring.has (ring_of f.inner.now) f.condition) }
-        ensures condition { IfOk result (λ f. MeansOfBoth (Means Self.Ring.means ring_of stands)
-            sub_term self.old f.inner.now x y f.condition) }
-        ensures refused { IfErr result (RefusesPartOfBoth (Means Self.Ring.means ring_of stands)
-            refuses sub_term self.old x y) }
+        ensures condition { IfOk result (λ f. MeansOfBoth (MeansIn ⟦<Self as Seen>⟧.view) sub_term
+            self.old f.inner.now x y f.condition) }
+        ensures refused { IfErr result (RefusesPartOfBoth (MeansIn ⟦<Self as Seen>⟧.view) refuses
+            sub_term self.old x y) }
     {
-        let condition = self.ring().sub(x, y)?;
+        let condition = self.difference(x, y)?;
         self.when(condition)
     }
 
@@ -398,29 +387,11 @@ pub trait AirBuilder {
         Self: Sized,
         requires ready { ready self.old }
         requires within { size ≤ 2 }
-        ensures always { IsOk result }
-        ensures same_reference { IfOk result (λ f. f.inner.ghost_name ≡ self.entry.ghost_name) }
-        ensures inner { IfOk result (λ f. grew self.old f.inner.now []) }
-        ensures condition { IfOk result (λ f. Means Self.Ring.means ring_of stands f.inner.now
-            f.condition (leaf_term transition)) }
+        ensures { FiltersBy ⟦<Self as Seen>⟧.view transition self.old self.entry.ghost_name result }
     {
         let condition = self.is_transition_window(size)?;
         self.when(condition)
     }
 
-    ghost laws: { BuilderLaws (record {
-      valid = Self.Ring.valid;
-      has = Self.Ring.has;
-      means = Self.Ring.means;
-      extends = Self.Ring.extends;
-      ring_refuses = Self.Ring.refuses;
-      ring_of = ring_of;
-      with_ring = with_ring;
-      stands = stands;
-      ready = ready;
-      kept = kept;
-      grew = grew;
-      missing = missing;
-      refuses = refuses;
-    }) };
+    ghost laws: { BuilderLaws ⟦<Self as Seen>⟧.view };
 }

@@ -3,11 +3,12 @@ ghost use Rattle.std.specs.Prelude.{◌≡◌, [], ◌∷◌, All};
 ghost use Rattle.std.specs.Borrow.{sem, Lends};
 ghost use Rattle.air_field.specs.Term.{sub_term};
 ghost use Rattle.air_builder.specs.Assertion.{Extension};
-ghost use Rattle.air_builder.specs.Batches.{AssertsOf, AssertsOfBoth, AssertedEach};
-ghost use Rattle.air_builder.specs.Builders.{Means, less_one_term};
+ghost use Rattle.air_builder.specs.Batches.{Asserts, AssertsBoth};
+ghost use Rattle.air_builder.specs.Builders.{less_one_term};
 ghost use Rattle.air_builder.specs.Extensions.{ExtensionLaws};
 
 use crate::builders::air_builder::{AirBuilder, less_one};
+use crate::builders::seen::{Seen, SeenExt, SeenOver};
 use air_field::{Algebra, ExtAlgebra, ExtensionField, FromVar};
 use air_windows::errors::AirError;
 
@@ -42,8 +43,7 @@ pub trait ExtensionBuilder: AirBuilder {
     fn assert_zero_ext(&mut self, x: Self::ExprEF) -> Result<(), AirError>
         requires ready { Self.ready self.old }
         requires of_ring { Self.ExtRing.has (ext_ring_of self.old) x }
-        ensures { AssertedEach (AssertsOf Extension (Means Self.ExtRing.means ext_ring_of
-            Self.stands) (λ t. t)) Self.kept Self.grew Self.refuses self.old self.new (x ∷ [])
+        ensures { Asserts ⟦<Self as SeenOver>⟧.view Extension (λ t. t) self.old self.new (x ∷ [])
             result };
 
     /// Asserts that `x` is one: growth by x - 1.
@@ -51,8 +51,7 @@ pub trait ExtensionBuilder: AirBuilder {
     final fn assert_one_ext(&mut self, x: Self::ExprEF) -> Result<(), AirError>
         requires ready { Self.ready self.old }
         requires of_ring { Self.ExtRing.has (ext_ring_of self.old) x }
-        ensures { AssertedEach (AssertsOf Extension (Means Self.ExtRing.means ext_ring_of
-            Self.stands) (less_one_term Self.F.ONE)) Self.kept Self.grew Self.refuses self.old
+        ensures { Asserts ⟦<Self as SeenOver>⟧.view Extension (less_one_term Self.F.ONE) self.old
             self.new (x ∷ []) result }
     {
         let less = less_one(self.ext_ring(), x)?;
@@ -65,9 +64,8 @@ pub trait ExtensionBuilder: AirBuilder {
         requires ready { Self.ready self.old }
         requires x_in { Self.ExtRing.has (ext_ring_of self.old) x }
         requires y_in { Self.ExtRing.has (ext_ring_of self.old) y }
-        ensures { AssertedEach (AssertsOfBoth Extension (Means Self.ExtRing.means ext_ring_of
-            Self.stands) sub_term) Self.kept Self.grew Self.refuses self.old self.new ((x, y) ∷ [])
-            result }
+        ensures { AssertsBoth ⟦<Self as SeenOver>⟧.view Extension sub_term self.old self.new
+            ((x, y) ∷ []) result }
     {
         let z = self.ext_ring().sub(x, y)?;
         self.assert_zero_ext(z)
@@ -77,9 +75,8 @@ pub trait ExtensionBuilder: AirBuilder {
     final fn assert_zeros_ext_slice(&mut self, elements: &[Self::ExprEF]) -> Result<(), AirError>
         requires ready { Self.ready self.old }
         requires of_ring { All (Self.ExtRing.has (ext_ring_of self.old)) elements.now }
-        ensures { AssertedEach (AssertsOf Extension (Means Self.ExtRing.means ext_ring_of
-            Self.stands) (λ t. t)) Self.kept Self.grew Self.refuses self.old self.new elements.now
-            result }
+        ensures { Asserts ⟦<Self as SeenOver>⟧.view Extension (λ t. t) self.old self.new
+            elements.now result }
     {
         for element in elements {
             self.assert_zero_ext(*element)?;
@@ -87,29 +84,5 @@ pub trait ExtensionBuilder: AirBuilder {
         Ok(())
     }
 
-    ghost ext_laws: { ExtensionLaws (record {
-      valid = Self.Ring.valid;
-      has = Self.Ring.has;
-      means = Self.Ring.means;
-      extends = Self.Ring.extends;
-      ring_refuses = Self.Ring.refuses;
-      ring_of = Self.ring_of;
-      with_ring = Self.with_ring;
-      stands = Self.stands;
-      ready = Self.ready;
-      kept = Self.kept;
-      grew = Self.grew;
-      missing = Self.missing;
-      refuses = Self.refuses;
-    }) (record {
-      valid = Self.ExtRing.valid;
-      has = Self.ExtRing.has;
-      means = Self.ExtRing.means;
-      extends = Self.ExtRing.extends;
-      ring_refuses = Self.ExtRing.refuses;
-      base_has = Self.ExtRing.base_has;
-      base_means = Self.ExtRing.base_means;
-      ring_of = ext_ring_of;
-      with_ring = with_ext_ring;
-    }) };
+    ghost ext_laws: { ExtensionLaws ⟦<Self as Seen>⟧.view ⟦<Self as SeenExt>⟧.over };
 }

@@ -3,12 +3,13 @@ ghost use Rattle.std.specs.Prelude.{List, [], ◌∷◌, All};
 ghost use Rattle.air_field.specs.Algebra.{bool_check_term};
 ghost use Rattle.air_field.specs.Term.{sub_term};
 ghost use Rattle.air_builder.specs.Assertion.{Base};
-ghost use Rattle.air_builder.specs.Batches.{AssertsOf, AssertsOfBoth, AssertedEach};
-ghost use Rattle.air_builder.specs.Builders.{Means, less_one_term};
-ghost use Rattle.air_builder.specs.Labels.{Labelled, LabelledEach, NamedLaws};
+ghost use Rattle.air_builder.specs.Batches.{Asserts, AssertsBoth};
+ghost use Rattle.air_builder.specs.Builders.{less_one_term};
+ghost use Rattle.air_builder.specs.Labels.{Labelled, Labels, LabelsBoth, NamedLaws};
 ghost use Rattle.air_windows.specs.Texts.{ElementSays};
 
 use crate::builders::air_builder::{AirBuilder, less_one};
+use crate::builders::seen::Seen;
 use air_field::Algebra;
 use air_windows::errors::AirError;
 use air_windows::names::element::Element;
@@ -29,11 +30,10 @@ pub trait NamedAirBuilder: AirBuilder {
         requires ready { Self.ready self.old }
         requires of_ring { Self.Ring.has (Self.ring_of self.old) x }
         requires can_evaluate { N.can_evaluate name }
-        ensures asserted { AssertedEach (AssertsOf Base (Means Self.Ring.means Self.ring_of
-            Self.stands) (λ t. t)) Self.kept Self.grew Self.refuses self.old self.new (x ∷ [])
+        ensures asserted { Asserts ⟦<Self as Seen>⟧.view Base (λ t. t) self.old self.new (x ∷ [])
             result }
-        ensures label { LabelledEach (AssertsOf Base (Means Self.Ring.means Self.ring_of
-            Self.stands) (λ t. t)) labelled (λ i. N.displays name) self.old self.new (x ∷ []) result };
+        ensures label { Labels ⟦<Self as Seen>⟧.view labelled Base (λ t. t) (λ i. N.displays name)
+            self.old self.new (x ∷ []) result };
 
     /// Asserts that `x` is one.
     #[inline(always)]
@@ -41,12 +41,10 @@ pub trait NamedAirBuilder: AirBuilder {
         requires ready { Self.ready self.old }
         requires of_ring { Self.Ring.has (Self.ring_of self.old) x }
         requires can_evaluate { N.can_evaluate name }
-        ensures asserted { AssertedEach (AssertsOf Base (Means Self.Ring.means Self.ring_of
-            Self.stands) (less_one_term Self.F.ONE)) Self.kept Self.grew Self.refuses self.old
+        ensures asserted { Asserts ⟦<Self as Seen>⟧.view Base (less_one_term Self.F.ONE) self.old
             self.new (x ∷ []) result }
-        ensures label { LabelledEach (AssertsOf Base (Means Self.Ring.means Self.ring_of
-            Self.stands) (less_one_term Self.F.ONE)) labelled (λ i. N.displays name) self.old
-            self.new (x ∷ []) result }
+        ensures label { Labels ⟦<Self as Seen>⟧.view labelled Base (less_one_term Self.F.ONE)
+            (λ i. N.displays name) self.old self.new (x ∷ []) result }
     {
         let less = less_one(self.ring(), x)?;
         self.assert_zero_named(less, name)
@@ -64,12 +62,10 @@ pub trait NamedAirBuilder: AirBuilder {
         requires x_in { Self.Ring.has (Self.ring_of self.old) x }
         requires y_in { Self.Ring.has (Self.ring_of self.old) y }
         requires can_evaluate { N.can_evaluate name }
-        ensures asserted { AssertedEach (AssertsOfBoth Base (Means Self.Ring.means Self.ring_of
-            Self.stands) sub_term) Self.kept Self.grew Self.refuses self.old self.new ((x, y) ∷ [])
-            result }
-        ensures label { LabelledEach (AssertsOfBoth Base (Means Self.Ring.means Self.ring_of
-            Self.stands) sub_term) labelled (λ i. N.displays name) self.old self.new ((x, y) ∷ [])
-            result }
+        ensures asserted { AssertsBoth ⟦<Self as Seen>⟧.view Base sub_term self.old self.new
+            ((x, y) ∷ []) result }
+        ensures label { LabelsBoth ⟦<Self as Seen>⟧.view labelled Base sub_term
+            (λ i. N.displays name) self.old self.new ((x, y) ∷ []) result }
     {
         let z = self.ring().sub(x, y)?;
         self.assert_zero_named(z, name)
@@ -81,12 +77,10 @@ pub trait NamedAirBuilder: AirBuilder {
         requires ready { Self.ready self.old }
         requires of_ring { Self.Ring.has (Self.ring_of self.old) x }
         requires can_evaluate { N.can_evaluate name }
-        ensures asserted { AssertedEach (AssertsOf Base (Means Self.Ring.means Self.ring_of
-            Self.stands) (bool_check_term Self.F.ONE)) Self.kept Self.grew Self.refuses self.old
-            self.new (x ∷ []) result }
-        ensures label { LabelledEach (AssertsOf Base (Means Self.Ring.means Self.ring_of
-            Self.stands) (bool_check_term Self.F.ONE)) labelled (λ i. N.displays name) self.old
-            self.new (x ∷ []) result }
+        ensures asserted { Asserts ⟦<Self as Seen>⟧.view Base (bool_check_term Self.F.ONE)
+            self.old self.new (x ∷ []) result }
+        ensures label { Labels ⟦<Self as Seen>⟧.view labelled Base (bool_check_term Self.F.ONE)
+            (λ i. N.displays name) self.old self.new (x ∷ []) result }
     {
         let check = self.ring().bool_check(x)?;
         self.assert_zero_named(check, name)
@@ -101,12 +95,10 @@ pub trait NamedAirBuilder: AirBuilder {
         requires ready { Self.ready self.old }
         requires of_ring { All (Self.Ring.has (Self.ring_of self.old)) elements.now }
         requires can_evaluate { N.can_evaluate name }
-        ensures asserted { AssertedEach (AssertsOf Base (Means Self.Ring.means Self.ring_of
-            Self.stands) (λ t. t)) Self.kept Self.grew Self.refuses self.old self.new elements.now
-            result }
-        ensures label { LabelledEach (AssertsOf Base (Means Self.Ring.means Self.ring_of
-            Self.stands) (λ t. t)) labelled (ElementSays (N.displays name)) self.old self.new
+        ensures asserted { Asserts ⟦<Self as Seen>⟧.view Base (λ t. t) self.old self.new
             elements.now result }
+        ensures label { Labels ⟦<Self as Seen>⟧.view labelled Base (λ t. t)
+            (ElementSays (N.displays name)) self.old self.new elements.now result }
     {
         for (i, element) in elements.iter().enumerate() {
             self.assert_zero_named(*element, Joined::new(name, Element(i)))?;
@@ -123,12 +115,10 @@ pub trait NamedAirBuilder: AirBuilder {
         requires ready { Self.ready self.old }
         requires of_ring { All (Self.Ring.has (Self.ring_of self.old)) elements.now }
         requires can_evaluate { N.can_evaluate name }
-        ensures asserted { AssertedEach (AssertsOf Base (Means Self.Ring.means Self.ring_of
-            Self.stands) (bool_check_term Self.F.ONE)) Self.kept Self.grew Self.refuses self.old
-            self.new elements.now result }
-        ensures label { LabelledEach (AssertsOf Base (Means Self.Ring.means Self.ring_of
-            Self.stands) (bool_check_term Self.F.ONE)) labelled (ElementSays (N.displays name))
+        ensures asserted { Asserts ⟦<Self as Seen>⟧.view Base (bool_check_term Self.F.ONE)
             self.old self.new elements.now result }
+        ensures label { Labels ⟦<Self as Seen>⟧.view labelled Base (bool_check_term Self.F.ONE)
+            (ElementSays (N.displays name)) self.old self.new elements.now result }
     {
         for (i, element) in elements.iter().enumerate() {
             self.assert_bool_named(*element, Joined::new(name, Element(i)))?;

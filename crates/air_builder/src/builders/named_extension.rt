@@ -1,16 +1,17 @@
 //! Builders that take names for their assertions over an extension.
 ghost use Rattle.std.specs.Prelude.{[], ◌∷◌};
 ghost use Rattle.air_field.specs.Term.{sub_term};
-ghost use Rattle.air_builder.specs.Builders.{Means, less_one_term};
+ghost use Rattle.air_builder.specs.Builders.{less_one_term};
 ghost use Rattle.air_builder.specs.Assertion.{Extension};
-ghost use Rattle.air_builder.specs.Batches.{AssertsOf, AssertsOfBoth, AssertedEach};
-ghost use Rattle.air_builder.specs.Labels.{LabelledEach};
+ghost use Rattle.air_builder.specs.Batches.{Asserts, AssertsBoth};
+ghost use Rattle.air_builder.specs.Labels.{Labels, LabelsBoth};
 
 use crate::builders::air_builder::{AirBuilder, less_one};
 use crate::builders::extension::ExtensionBuilder;
 use crate::builders::extension_filter::under_condition;
 use crate::builders::filtered::FilteredAirBuilder;
 use crate::builders::named::NamedAirBuilder;
+use crate::builders::seen::SeenOver;
 use air_field::Algebra;
 use air_windows::errors::AirError;
 use air_windows::names::name::Name;
@@ -22,12 +23,10 @@ pub trait NamedExtensionBuilder: ExtensionBuilder + NamedAirBuilder {
         requires ready { Self.ready self.old }
         requires of_ring { Self.ExtRing.has (Self.ext_ring_of self.old) x }
         requires can_evaluate { N.can_evaluate name }
-        ensures asserted { AssertedEach (AssertsOf Extension (Means Self.ExtRing.means
-            Self.ext_ring_of Self.stands) (λ t. t)) Self.kept Self.grew Self.refuses self.old
-            self.new (x ∷ []) result }
-        ensures label { LabelledEach (AssertsOf Extension (Means Self.ExtRing.means Self.ext_ring_of
-            Self.stands) (λ t. t)) Self.labelled (λ i. N.displays name) self.old self.new (x ∷ [])
-            result };
+        ensures asserted { Asserts ⟦<Self as SeenOver>⟧.view Extension (λ t. t) self.old self.new
+            (x ∷ []) result }
+        ensures label { Labels ⟦<Self as SeenOver>⟧.view Self.labelled Extension (λ t. t)
+            (λ i. N.displays name) self.old self.new (x ∷ []) result };
 
     /// Asserts that `x` is one.
     #[inline(always)]
@@ -39,12 +38,10 @@ pub trait NamedExtensionBuilder: ExtensionBuilder + NamedAirBuilder {
         requires ready { Self.ready self.old }
         requires of_ring { Self.ExtRing.has (Self.ext_ring_of self.old) x }
         requires can_evaluate { N.can_evaluate name }
-        ensures asserted { AssertedEach (AssertsOf Extension (Means Self.ExtRing.means
-            Self.ext_ring_of Self.stands) (less_one_term Self.F.ONE)) Self.kept Self.grew
-            Self.refuses self.old self.new (x ∷ []) result }
-        ensures label { LabelledEach (AssertsOf Extension (Means Self.ExtRing.means Self.ext_ring_of
-            Self.stands) (less_one_term Self.F.ONE)) Self.labelled (λ i. N.displays name) self.old
-            self.new (x ∷ []) result }
+        ensures asserted { Asserts ⟦<Self as SeenOver>⟧.view Extension (less_one_term Self.F.ONE)
+            self.old self.new (x ∷ []) result }
+        ensures label { Labels ⟦<Self as SeenOver>⟧.view Self.labelled Extension
+            (less_one_term Self.F.ONE) (λ i. N.displays name) self.old self.new (x ∷ []) result }
     {
         let less = less_one(self.ext_ring(), x)?;
         self.assert_zero_ext_named(less, name)
@@ -62,12 +59,10 @@ pub trait NamedExtensionBuilder: ExtensionBuilder + NamedAirBuilder {
         requires x_in { Self.ExtRing.has (Self.ext_ring_of self.old) x }
         requires y_in { Self.ExtRing.has (Self.ext_ring_of self.old) y }
         requires can_evaluate { N.can_evaluate name }
-        ensures asserted { AssertedEach (AssertsOfBoth Extension (Means Self.ExtRing.means
-            Self.ext_ring_of Self.stands) sub_term) Self.kept Self.grew Self.refuses self.old
+        ensures asserted { AssertsBoth ⟦<Self as SeenOver>⟧.view Extension sub_term self.old
             self.new ((x, y) ∷ []) result }
-        ensures label { LabelledEach (AssertsOfBoth Extension (Means Self.ExtRing.means
-            Self.ext_ring_of Self.stands) sub_term) Self.labelled (λ i. N.displays name) self.old
-            self.new ((x, y) ∷ []) result }
+        ensures label { LabelsBoth ⟦<Self as SeenOver>⟧.view Self.labelled Extension sub_term
+            (λ i. N.displays name) self.old self.new ((x, y) ∷ []) result }
     {
         let z = self.ext_ring().sub(x, y)?;
         self.assert_zero_ext_named(z, name)

@@ -1,11 +1,11 @@
 //! Named builders that discard labels.
 ghost use Rattle.std.specs.Prelude.{[], ◌∷◌};
 ghost use Rattle.air_builder.specs.Assertion.{Base};
-ghost use Rattle.air_builder.specs.Batches.{AssertsOf, AssertedEach};
-ghost use Rattle.air_builder.specs.Builders.{Means};
-ghost use Rattle.air_builder.specs.Labels.{LabelledEach, discarding};
+ghost use Rattle.air_builder.specs.Batches.{Asserts};
+ghost use Rattle.air_builder.specs.Labels.{Labels, discarding};
 
 use crate::builders::air_builder::AirBuilder;
+use crate::builders::seen::Seen;
 use air_windows::errors::AirError;
 use air_windows::names::name::Name;
 
@@ -23,12 +23,10 @@ pub trait PassthroughNamedAirBuilder: AirBuilder {
     ) -> Result<(), AirError>
         requires ready { Self.ready self.old }
         requires of_ring { Self.Ring.has (Self.ring_of self.old) x }
-        ensures asserted { AssertedEach (AssertsOf Base (Means Self.Ring.means Self.ring_of
-            Self.stands) (λ t. t)) Self.kept Self.grew Self.refuses self.old self.new (x ∷ [])
+        ensures asserted { Asserts ⟦<Self as Seen>⟧.view Base (λ t. t) self.old self.new (x ∷ [])
             result }
-        ensures label { LabelledEach (AssertsOf Base (Means Self.Ring.means Self.ring_of
-            Self.stands) (λ t. t)) (discarding Self.grew) (λ i. N.displays _name) self.old self.new
-            (x ∷ []) result }
+        ensures label { Labels ⟦<Self as Seen>⟧.view (discarding Self.grew) Base (λ t. t)
+            (λ i. N.displays _name) self.old self.new (x ∷ []) result }
     {
         self.assert_zero(x)
     }

@@ -37,6 +37,13 @@ pub fn answers_word(
 
 const FOUR_ROWS: &str = "degree 2\nrows 4\nconstraints 5\n";
 
+// A trace that breaks three assertions.
+const BROKEN: &[u8] = b"0 1 3\n0 1\n1 1\n1 5\n2 3\n";
+
+const ONE_FAILURE: &str = "degree 2\nrows 4\nconstraints 5\nrow 1: #3\n";
+
+const ALL_FAILURES: &str = "degree 2\nrows 4\nconstraints 5\nrow 1: #3\nrow 2: #2\nrow 2: #3\n";
+
 #[test]
 fn checks_traces(rt: HostRuntime) -> Result<(), Fail> {
     answers(&rt, b"0 1 3\n0 1\n1 1\n1 2\n2 3\n", FOUR_ROWS, 0)?;
@@ -46,12 +53,7 @@ fn checks_traces(rt: HostRuntime) -> Result<(), Fail> {
 
 #[test]
 fn reports_each_failure(rt: HostRuntime) -> Result<(), Fail> {
-    answers(
-        &rt,
-        b"0 1 3\n0 1\n1 1\n1 5\n2 3\n",
-        "degree 2\nrows 4\nconstraints 5\nrow 1: #3\nrow 2: #2\nrow 2: #3\n",
-        1,
-    )
+    answers(&rt, BROKEN, ALL_FAILURES, 1)
 }
 
 #[test]
@@ -60,7 +62,7 @@ fn names_each_failure(rt: HostRuntime) -> Result<(), Fail> {
     answers_word(
         &rt,
         "named",
-        b"0 1 3\n0 1\n1 1\n1 5\n2 3\n",
+        BROKEN,
         "degree 2\nrows 4\nconstraints 5\nrow 1: #3 \"fib::step_b\"\nrow 2: #2 \"fib::step_a\"\nrow 2: #3 \"fib::step_b\"\n",
         1,
     )?;
@@ -75,38 +77,44 @@ fn names_each_failure(rt: HostRuntime) -> Result<(), Fail> {
 }
 
 #[test]
-fn stops_at_the_cap(rt: HostRuntime) -> Result<(), Fail> {
-    let broken = b"0 1 3\n0 1\n1 1\n1 5\n2 3\n";
-    let one = "degree 2\nrows 4\nconstraints 5\nrow 1: #3\n";
-    let all = "degree 2\nrows 4\nconstraints 5\nrow 1: #3\nrow 2: #2\nrow 2: #3\n";
-    let none = "degree 2\nrows 4\nconstraints 0\n";
-    answers_word(&rt, "fibonacci 0", broken, none, 0)?;
-    answers_word(&rt, "fibonacci 1", broken, one, 1)?;
-    answers_word(&rt, "fibonacci 2", broken, all, 1)?;
-    answers_word(&rt, "fibonacci 00000000000000000000001", broken, one, 1)?;
-    answers_word(&rt, "fibonacci 18446744073709551615", broken, all, 1)?;
-    let named = "degree 2\nrows 4\nconstraints 5\nrow 1: #3 \"fib::step_b\"\n";
-    answers_word(&rt, "named 1", broken, named, 1)
-}
-
-#[test]
-fn weighs_the_transition(rt: HostRuntime) -> Result<(), Fail> {
-    let broken = b"0 1 3\n0 1\n1 1\n1 5\n2 3\n";
-    let one = "degree 3\nrows 4\nconstraints 5\nrow 1: #3\n";
-    let all = "degree 3\nrows 4\nconstraints 5\nrow 1: #3\nrow 2: #2\nrow 2: #3\n";
-    let linear = "degree 2\nrows 4\nconstraints 5\nrow 1: #3\n";
-    answers_word(&rt, "fibonacci 1 w=2", broken, one, 1)?;
-    answers_word(&rt, "fibonacci w=2", broken, all, 1)?;
-    answers_word(&rt, "fibonacci 1 w=0", broken, linear, 1)?;
-    answers_word(
-        &rt,
-        "fibonacci w=18446744073709551615",
-        broken,
-        "refused: DegreeOverflow\n",
-        2,
-    )?;
-    let named = "degree 3\nrows 4\nconstraints 5\nrow 1: #3 \"fib::step_b\"\n";
-    answers_word(&rt, "named 1 w=02", broken, named, 1)
+fn stops_at_the_cap_and_weighs_the_transition(rt: HostRuntime) -> Result<(), Fail> {
+    let rows = [
+        ("fibonacci 0", "degree 2\nrows 4\nconstraints 0\n", 0),
+        ("fibonacci 1", ONE_FAILURE, 1),
+        ("fibonacci 2", ALL_FAILURES, 1),
+        ("fibonacci 00000000000000000000001", ONE_FAILURE, 1),
+        ("fibonacci 18446744073709551615", ALL_FAILURES, 1),
+        (
+            "named 1",
+            "degree 2\nrows 4\nconstraints 5\nrow 1: #3 \"fib::step_b\"\n",
+            1,
+        ),
+        (
+            "fibonacci 1 w=2",
+            "degree 3\nrows 4\nconstraints 5\nrow 1: #3\n",
+            1,
+        ),
+        (
+            "fibonacci w=2",
+            "degree 3\nrows 4\nconstraints 5\nrow 1: #3\nrow 2: #2\nrow 2: #3\n",
+            1,
+        ),
+        ("fibonacci 1 w=0", ONE_FAILURE, 1),
+        (
+            "fibonacci w=18446744073709551615",
+            "refused: DegreeOverflow\n",
+            2,
+        ),
+        (
+            "named 1 w=02",
+            "degree 3\nrows 4\nconstraints 5\nrow 1: #3 \"fib::step_b\"\n",
+            1,
+        ),
+    ];
+    for (word, text, status) in rows {
+        answers_word(&rt, word, BROKEN, text, status)?;
+    }
+    Ok(())
 }
 
 #[test]

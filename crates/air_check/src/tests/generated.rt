@@ -1,7 +1,7 @@
 //! Small AIRs with their traces from a fixed seed: what is answered for their objects, and the report of their checks,
 //! are those that the definitions say.
 use crate::tests::generator::Generator;
-use crate::tests::plain_airs::{Part, PlainAir, PlainCell, PlainNode};
+use crate::tests::plain_airs::{Operation, Part, PlainAir, PlainCell, PlainNode};
 use crate::tests::streams::{Kept, Pieces};
 use crate::tests::{MANY, run_on, words};
 use air_builder::AirError;
@@ -33,10 +33,13 @@ fn node_from(from: &mut Generator, leaf: Part, degrees: &[usize]) -> PlainNode {
     let second: usize = degrees.get(y).copied().unwrap_or(0);
     let kind = if count == 0 { 9 } else { from.below(10) };
     let (part, degree) = match kind {
-        0 => (Part::Neg, first),
-        1..=2 => (Part::Add, first.max(second)),
-        3..=4 => (Part::Sub, first.max(second)),
-        5..=6 => (Part::Mul, first.saturating_add(second)),
+        0 => (Part::Operation(Operation::Neg), first),
+        1..=2 => (Part::Operation(Operation::Add), first.max(second)),
+        3..=4 => (Part::Operation(Operation::Sub), first.max(second)),
+        5..=6 => (
+            Part::Operation(Operation::Mul),
+            first.saturating_add(second),
+        ),
         _ => match leaf {
             Part::Constant(_) | Part::Public(_) | Part::Transition => (leaf, 0),
             _ => (leaf, 1),

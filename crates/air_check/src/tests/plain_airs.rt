@@ -15,6 +15,12 @@ pub enum Part {
     FirstRow,
     LastRow,
     Transition,
+    Operation(Operation),
+}
+
+/// What a node does with its operands; a negative has the first alone.
+#[derive(Clone, Copy, Debug, PartialEq, Eq)]
+pub enum Operation {
     Neg,
     Add,
     Sub,
@@ -113,26 +119,26 @@ impl Degrees {
 }
 
 /// The value of an operation, of values below the modulus; products of such are below 2 ^ 62.
-fn value_of(operation: Part, x: u64, y: u64) -> u64 {
+fn value_of(operation: Operation, x: u64, y: u64) -> u64 {
     let value = match operation {
-        Part::Neg => MODULUS.wrapping_sub(x),
-        Part::Add => x.wrapping_add(y),
-        Part::Sub => x.wrapping_add(MODULUS).wrapping_sub(y),
-        _ => x.wrapping_mul(y),
+        Operation::Neg => MODULUS.wrapping_sub(x),
+        Operation::Add => x.wrapping_add(y),
+        Operation::Sub => x.wrapping_add(MODULUS).wrapping_sub(y),
+        Operation::Mul => x.wrapping_mul(y),
     };
     value % MODULUS
 }
 
 /// The degrees of an operation, folded by the table of the pool.
-fn folded(operation: Part, x: Degrees, y: Degrees) -> Degrees {
+fn folded(operation: Operation, x: Degrees, y: Degrees) -> Degrees {
     match (operation, x.constant, y.constant) {
-        (Part::Neg, Some(a), _) => Degrees::constant(value_of(Part::Neg, a, 0)),
-        (Part::Neg, None, _) => x,
+        (Operation::Neg, Some(a), _) => Degrees::constant(value_of(Operation::Neg, a, 0)),
+        (Operation::Neg, None, _) => x,
         (_, Some(a), Some(b)) => Degrees::constant(value_of(operation, a, b)),
-        (Part::Mul, Some(0), _) | (Part::Mul, _, Some(0)) => Degrees::constant(0),
-        (Part::Add | Part::Sub, Some(0), _) | (Part::Mul, Some(1), _) => y,
-        (Part::Add | Part::Sub, _, Some(0)) | (Part::Mul, _, Some(1)) => x,
-        (Part::Mul, _, _) => x.both(y).unfolded(),
+        (Operation::Mul, Some(0), _) | (Operation::Mul, _, Some(0)) => Degrees::constant(0),
+        (Operation::Add | Operation::Sub, Some(0), _) | (Operation::Mul, Some(1), _) => y,
+        (Operation::Add | Operation::Sub, _, Some(0)) | (Operation::Mul, _, Some(1)) => x,
+        (Operation::Mul, _, _) => x.both(y).unfolded(),
         _ => x.greater(y).unfolded(),
     }
 }
@@ -168,7 +174,7 @@ impl PlainAir {
             let x = values.get(node.x).copied().unwrap_or(0);
             let y = values.get(node.y).copied().unwrap_or(0);
             let value = match node.part {
-                Part::Neg | Part::Add | Part::Sub | Part::Mul => value_of(node.part, x, y),
+                Part::Operation(operation) => value_of(operation, x, y),
                 leaf => self.leaf_value(row, leaf),
             };
             values.push(value)?;
@@ -239,7 +245,7 @@ impl PlainAir {
             let x = all.get(node.x).copied().unwrap_or(Degrees::constant(0));
             let y = all.get(node.y).copied().unwrap_or(Degrees::constant(0));
             let degrees = match node.part {
-                Part::Neg | Part::Add | Part::Sub | Part::Mul => folded(node.part, x, y),
+                Part::Operation(operation) => folded(operation, x, y),
                 leaf => self.leaf_degrees(leaf),
             };
             all.push(degrees)?;

@@ -1,5 +1,5 @@
 //! The JSON object of a small AIR with its trace, and what is answered for it.
-use crate::tests::plain_airs::{Part, PlainAir, PlainCell, PlainFailure, PlainNode};
+use crate::tests::plain_airs::{Operation, Part, PlainAir, PlainCell, PlainFailure, PlainNode};
 use std::alloc::{AllocError, Global};
 
 /// The texts, with commas between.
@@ -39,12 +39,12 @@ fn node_text(alloc: Global, node: PlainNode) -> Result<String, AllocError> {
         Part::FirstRow => return String::from_str(alloc, "{\"Leaf\":\"IsFirstRow\"}"),
         Part::LastRow => return String::from_str(alloc, "{\"Leaf\":\"IsLastRow\"}"),
         Part::Transition => return String::from_str(alloc, "{\"Leaf\":\"IsTransition\"}"),
-        Part::Neg => {
+        Part::Operation(Operation::Neg) => {
             return format!(in alloc; "{{\"Neg\":{{\"degree_multiple\":{degree},\"x\":{x}}}}}");
         }
-        Part::Add => "Add",
-        Part::Sub => "Sub",
-        Part::Mul => "Mul",
+        Part::Operation(Operation::Add) => "Add",
+        Part::Operation(Operation::Sub) => "Sub",
+        Part::Operation(Operation::Mul) => "Mul",
     };
     format!(in alloc; "{{\"{case}\":{{\"degree_multiple\":{degree},\"x\":{x},\"y\":{y}}}}}")
 }

@@ -22,13 +22,14 @@ struct Bounded {
 }
 
 impl BaseAir<BabyBear> for Bounded {
-    ghost declared = { λ _. fibonacci };
-
-    ghost width = { λ _. 2 };
-
-    ghost num_public_values = { λ _. 3 };
-
-    ghost beside = { λ a. record { preprocessed = None; periodic = []; cells = a.cells.items } };
+    ghost declaration = { λ a. record {
+      declared = fibonacci;
+      width = 2;
+      num_public_values = 3;
+      preprocessed = None;
+      periodic = [];
+      cells = a.cells.items;
+    } };
 
     fn width(&self) -> usize {
         2

@@ -1,5 +1,5 @@
 -- Classes of whole numbers: how they add, which are zero, and when two are the same.
-use Rattle.std.specs.Prelude.{◌≡◌, ℕ, zero, suc, refl, ◌+◌, ◌-◌, ◌%◌, ◌<◌, ◌↔◌, ◌⊎◌, eqb}
+use Rattle.std.specs.Prelude.{◌≡◌, ℕ, zero, suc, refl, ◌+◌, ◌%◌, ◌<◌, ◌↔◌, ◌⊎◌, eqb}
 use Rattle.std.specs.Int.{◌∣◌}
 use Rattle.std.proofs.Common.{sym, ◌∙◌, ap, inl, inr, arith, mod-eq_of_lt, eqb-true, eq-eqb}
 use Rattle.std.proofs.Math.Nat.{mod-add-mod, add-mod-mod, dvd_of_mod-eq-zero, mod-eq-zero_of_dvd}

@@ -163,6 +163,13 @@ times_step : {A : Type 0} (R : CommRing A) (a b n m p q : A) → R.add a n ≡ p
 times_step R a b n m p q h k =
     rw (← h, ← k) (simp (add_mul R, R.mul_add, R.add_assoc, add_left_comm R))
 
+-- the sum of two products of sums
+sum-times_both : {A : Type 0} (R : CommRing A) (env : List A) (a b c d : List (List ℕ))
+    → sum_of R env (times_all a b ++ times_all c d) ≡ R.add (R.mul (sum_of R env a) (sum_of R env b)) (R.mul (sum_of R env c) (sum_of R env d))
+sum-times_both R env a b c d =
+    fold-append (sums R) (product_of R env) (times_all a b) (times_all c d)
+    ∙ ap₂ R.add (sum-times_all R env a b) (sum-times_all R env c d)
+
 means : {A : Type 0} (R : CommRing A) (env : List A) (e : Expr) → Means R env (value R env e) (parts e)
 means R env (var i) =
     R.add_nil (look R.nil env i) ∙ (sym (R.mul_one (look R.nil env i)) ∙ sym (R.add_nil (R.mul (look R.nil env i) R.one)))
@@ -174,18 +181,8 @@ means R env (plus a b) =
     (sum_of R env (parts a).above) (sum_of R env (parts b).above) (means R env a) (means R env b)
     ∙ sym (fold-append (sums R) (product_of R env) (parts a).above (parts b).above))
 means R env (times a b) =
-    let lower : sum_of R env
-    (times_all (parts a).above (parts b).below ++ times_all (parts a).below (parts b).above)
-    ≡ R.add (R.mul (sum_of R env (parts a).above) (sum_of R env (parts b).below))
-    (R.mul (sum_of R env (parts a).below) (sum_of R env (parts b).above)) =
-    fold-append (sums R) (product_of R env) (times_all (parts a).above (parts b).below) (times_all (parts a).below (parts b).above)
-    ∙ ap₂ R.add (sum-times_all R env (parts a).above (parts b).below) (sum-times_all R env (parts a).below (parts b).above) in
-    let upper : sum_of R env
-    (times_all (parts a).above (parts b).above ++ times_all (parts a).below (parts b).below)
-    ≡ R.add (R.mul (sum_of R env (parts a).above) (sum_of R env (parts b).above))
-    (R.mul (sum_of R env (parts a).below) (sum_of R env (parts b).below)) =
-    fold-append (sums R) (product_of R env) (times_all (parts a).above (parts b).above) (times_all (parts a).below (parts b).below)
-    ∙ ap₂ R.add (sum-times_all R env (parts a).above (parts b).above) (sum-times_all R env (parts a).below (parts b).below) in
+    let lower = sum-times_both R env (parts a).above (parts b).below (parts a).below (parts b).above in
+    let upper = sum-times_both R env (parts a).above (parts b).above (parts a).below (parts b).below in
     ap (R.add (R.mul (value R env a) (value R env b))) lower
     ∙ (times_step R (value R env a) (value R env b) (sum_of R env (parts a).below) (sum_of R env (parts b).below)
     (sum_of R env (parts a).above) (sum_of R env (parts b).above) (means R env a) (means R env b)

@@ -1,23 +1,27 @@
 -- A folder keeps the laws of builders.
-use Rattle.std.specs.Prelude.{◌≡◌, List, [], ◌∷◌, ◌++◌, refl, ⊤}
+use Rattle.std.specs.Prelude.{◌≡◌, List, [], ◌∷◌, ◌++◌, Ok, refl}
 use Rattle.std.proofs.Common.{sym, ◌∙◌, ap, ap₂, subst}
 use Rattle.std.proofs.lemmas.List.{map-append}
 use Rattle.air_field.specs.Ring.{Over}
-use Rattle.air_field.specs.Term.{Term, with_leaves}
+use Rattle.air_field.specs.Term.{Leaf, Term, with_leaves}
 use Rattle.air_field.specs.Value.{value}
 use Rattle.air_field.specs.laws.Value.{value-leaves}
+use Rattle.air_field.specs.Assignment.{Shape}
 use Rattle.air_field.specs.OneRow.{one_row_shape}
+use Rattle.air_windows.specs.declared.errors.AirError.{AirError}
 use Rattle.air_builder.specs.Assertion.{Assertion}
-use Rattle.air_builder.specs.Builders.{BuilderView, BuilderLaws}
+use Rattle.air_builder.specs.Builders.{BuilderLaws}
 use Rattle.air_builder.specs.Refusals.{NamesLeaf}
-use Rattle.air_builder.specs.laws.Refusals.{past_window_missing}
+use Rattle.air_builder.specs.Batches.{AssertsOf, AssertedEach}
+use Rattle.air_builder.specs.laws.Batches.{asserted_one}
+use Rattle.air_builder.specs.laws.RowBuilders.{row_view, row_over, GrowsAtRow, row_laws, row_extension_laws}
 use Rattle.air_builder.specs.Refused.{Refused}
 use Rattle.air_builder.specs.laws.Refused.{Refused-first, Refused-then, Refused-missing}
-use Rattle.air_builder.specs.Extensions.{ExtensionView, ExtensionLaws}
+use Rattle.air_builder.specs.Extensions.{ExtensionLaws}
 use Rattle.air_folder.specs.Fold.{folded_on}
 use Rattle.air_folder.specs.laws.Fold.{folded_on-none, folded_on-one, folded_on-append}
 use Rattle.air_folder.specs.Folder.{FolderRow, HasValue, folder_leaves, folder_stands, FolderMissing, value_in, values_in, GrewFolder, FolderRefuses}
-use Rattle.air_folder.specs.FolderRow.{folder_row, FolderGrew}
+use Rattle.air_folder.specs.FolderRow.{folder_row, StepsBy, FolderGrew}
 use Rattle.air_folder.specs.declared.folder.builder.ConstraintFolder.{ConstraintFolder}
 use Rattle.air_folder.specs.declared.folder.ring.FolderRing.{FolderRing}
 
@@ -50,57 +54,30 @@ module _ {F E : Type 0} (a : Over F E) where
       ap (λ s. value a s t) (λ i l. sym (named (folder_leaves a d l)) i)
       ∙ (sym (value-leaves a (λ _. a.ring.nil) (folder_stands a coefficients d) t) ∙ means)
 
-  -- a folder as the laws see it, where each element means a term
-  abbrev pub folder_view : (E → List F) → BuilderView (ConstraintFolder F E) (FolderRing F E) E F
-  folder_view coefficients = record {
-    valid = λ _. ⊤;
-    has = λ _ _. ⊤;
-    means = λ _ x t. HasValue a x t;
-    extends = λ _ _. ⊤;
-    ring_refuses = λ _ _. ⊥;
-    ring_of = λ b. b.ring;
-    with_ring = λ b q. record b { ring = q };
-    stands = λ b. folder_stands a coefficients (folder_row b);
-    ready = λ _. ⊤;
-    kept = λ b c. folder_row c ≡ folder_row b;
-    grew = FolderGrew a;
-    missing = λ b l. FolderMissing (folder_row b) l;
-    refuses = λ b e ts. FolderRefuses (folder_row b) e ts;
-  }
+  abbrev shape : FolderRow E → Shape
+  shape d = one_row_shape d.values d.others
 
-  -- and its ring over the extension, which is the same
-  abbrev pub folder_over : ExtensionView (ConstraintFolder F E) (FolderRing F E) E E F
-  folder_over = record {
-    valid = λ _. ⊤;
-    has = λ _ _. ⊤;
-    means = λ _ x t. HasValue a x t;
-    extends = λ _ _. ⊤;
-    ring_refuses = λ _ _. ⊥;
-    base_has = λ _ _. ⊤;
-    base_means = λ _ x t. HasValue a x t;
-    ring_of = λ b. b.ring;
-    with_ring = λ b q. record b { ring = q };
-  }
+  abbrev refuses : ConstraintFolder F E → AirError → List (Assertion F) → Type 0
+  refuses b e ts = FolderRefuses (folder_row b) e ts
 
-  -- it keeps them for its ring
-  pub folder_laws : (coefficients : E → List F) → BuilderLaws (folder_view coefficients)
-  folder_laws coefficients = record {
+  -- what was folded in is asserted, base terms and extension terms alike
+  pub folded_asserted : (coefficients : E → List F) → ((x : E) → a.extend (coefficients x) ≡ x)
+      → {kind : Term F → Assertion F} (b c : ConstraintFolder F E) (x : E) → folder_row c ≡ folder_row b → StepsBy a x b c
+      → ((s : Leaf → E) (t : Term F) → value_in a s (kind t) ≡ value a s t)
+      → AssertedEach (AssertsOf kind (λ d y t. HasValue a y (with_leaves (folder_stands a coefficients (folder_row d)) t)) (λ t. t))
+      (λ d e. folder_row e ≡ folder_row d) (FolderGrew a) refuses b c (x ∷ []) (Ok tt)
+  folded_asserted coefficients named b c x keeps folded is =
+      let at = folder_leaves a (folder_row b) in
+      asserted_one (Ok tt) keeps
+      (λ s k. grew_one (folder_row b) (folder_row c) b.accumulator c.accumulator x s keeps folded
+      (ap (value_in a at) k.2 ∙ (is at k.0 ∙ folder_value coefficients named (folder_row b) k.0 x k.1)))
+      tt tt
+
+  grows : (stands : FolderRow E → Leaf → Term F) → GrowsAtRow folder_row shape stands (FolderGrew a) refuses
+  grows stands = record {
     same = λ b. unchanged (folder_row b) (folder_row b) b.accumulator b.accumulator refl refl;
     joined = λ b c d ts us g h. grew_joined (folder_row b) (folder_row c) (folder_row d) b.accumulator c.accumulator d.accumulator ts us g h;
-    ring_lent = λ b q e. unchanged (folder_row b) (folder_row b) b.accumulator b.accumulator refl refl;
-    ring_with = λ b q. refl;
-    ring_valid = λ b h. tt;
-    by_growth = λ b c ts g. g.same_row;
-    kept_joined = λ b c d g h. h ∙ g;
-    ring_kept = λ b c k. tt;
-    stands_kept = λ b c k. ap (folder_stands a coefficients) k;
-    ready_kept = λ b c k h. tt;
-    missing_kept = λ b c l k h. subst (λ d. FolderMissing d l) k h;
-    missing_stays = λ b c l k h. subst (λ d. FolderMissing d l) (sym k) h;
-    past_window = λ b o l h. past_window_missing (one_row_shape (folder_row b).values (folder_row b).others) o l h;
-    has_first_row = λ b h. h;
-    has_last_row = λ b h. h;
-    has_transition = λ b h. h;
+    same_row = λ b c ts g. g.same_row;
     refuses_first = λ b e ts us h. record {
       refused = Refused-first (FolderMissing (folder_row b)) (λ _. ⊥) (λ _. ⊥) e ts us (λ f. f) h.refused;
       not_memory = h.not_memory;
@@ -110,21 +87,24 @@ module _ {F E : Type 0} (a : Over F E) where
           (Refused-then (FolderMissing (folder_row c)) (λ _. ⊥) (λ _. ⊥) (λ _. ⊥) e ts us (λ f. f) h.refused);
       not_memory = h.not_memory;
     };
-    refuses_in_ring = λ b e t ts h p. absurd h;
     refuses_missing = λ b e l ts m n p. record {
       refused = Refused-missing (FolderMissing (folder_row b)) (λ _. ⊥) (λ _. ⊥) e l ts m n p;
       not_memory = λ q. absurd (subst (λ x. NamesLeaf x l) q n);
     };
   }
 
-  -- and for its ring over the extension, which is the same
-  pub folder_extension_laws : (coefficients : E → List F) → ExtensionLaws (folder_view coefficients) folder_over
-  folder_extension_laws coefficients = record {
-    ext_ring_lent = λ b q e. unchanged (folder_row b) (folder_row b) b.accumulator b.accumulator refl refl;
-    ext_ring_with = λ b q. refl;
-    ext_ring_valid = λ b h. tt;
-    ext_ring_kept = λ b c k. tt;
-    has_base = λ b x r h. tt;
-    means_base = λ b x t r h. h;
-    refuses_in_ext_ring = λ b e t ts h p. absurd h;
-  }
+  abbrev with_ring : ConstraintFolder F E → FolderRing F E → ConstraintFolder F E
+  with_ring b q = record b { ring = q }
+
+  lent : (b : ConstraintFolder F E) (q : FolderRing F E) → FolderGrew a b (with_ring b q) []
+  lent b q = unchanged (folder_row b) (folder_row b) b.accumulator b.accumulator refl refl
+
+  module _ (coefficients : E → List F) where
+    -- a folder keeps them for its ring, where each element means a term
+    pub folder_laws : BuilderLaws (row_view folder_row shape (folder_stands a coefficients) (FolderGrew a) refuses (λ b. b.ring) with_ring (HasValue a))
+    folder_laws = row_laws folder_row shape (folder_stands a coefficients) (FolderGrew a) refuses (λ b. b.ring) with_ring lent (λ b q. refl) (grows (folder_stands a coefficients))
+
+    -- and for its ring over the extension, which is the same
+    pub folder_extension_laws : ExtensionLaws (row_view folder_row shape (folder_stands a coefficients) (FolderGrew a) refuses (λ b. b.ring) with_ring (HasValue a))
+        (row_over folder_row shape (folder_stands a coefficients) (FolderGrew a) refuses (λ b. b.ring) with_ring (HasValue a) (HasValue a))
+    folder_extension_laws = row_extension_laws folder_row shape (folder_stands a coefficients) (FolderGrew a) refuses (λ b. b.ring) with_ring lent (λ b q. refl) (λ b. b.ring) (HasValue a)

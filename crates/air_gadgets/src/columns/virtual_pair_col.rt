@@ -1,5 +1,5 @@
 //! A column that no trace has: a weighted sum of columns.
-ghost use Rattle.std.specs.Prelude.{◌≡◌, ◌↔◌, IsTrue, IfOk, IfErr, [], All, length};
+ghost use Rattle.std.specs.Prelude.{◌≡◌, ◌↔◌, IsTrue, IfOk, IfErr, [], All, length, map};
 ghost use Rattle.air_field.specs.Algebra.{MadeOf, RefusedOf, scaled_term};
 ghost use Rattle.air_gadgets.specs.declared.columns.pair_col.PairCol.TheVariants.{Preprocessed, Main};
 ghost use Rattle.air_gadgets.specs.Columns.{FitsWithin, combination, on_preprocessed, on_main, single_of, sum_of, difference_of};
@@ -40,6 +40,42 @@ fn weighted<F: Field, R: Algebra<F>>(
     ring.mul(x, scale)
 }
 
+/// Preprocessed columns with their weights.
+fn preprocessed_columns<F: Field>(
+    alloc: Global,
+    column_weights: &[(usize, F)],
+) -> Result<Vec<(PairCol, F)>, AllocError>
+    ensures { IfOk result (λ v. v.items ≡ map (λ w. (Preprocessed w.0, w.1)) column_weights.now) }
+{
+    column_weights
+        .iter()
+        .map(|(column, weight)| (PairCol::Preprocessed(*column), *weight))
+        .collect(alloc)
+}
+
+/// Main columns with their weights.
+fn main_columns<F: Field>(
+    alloc: Global,
+    column_weights: &[(usize, F)],
+) -> Result<Vec<(PairCol, F)>, AllocError>
+    ensures { IfOk result (λ v. v.items ≡ map (λ w. (Main w.0, w.1)) column_weights.now) }
+{
+    column_weights
+        .iter()
+        .map(|(column, weight)| (PairCol::Main(*column), *weight))
+        .collect(alloc)
+}
+
+/// Each with the weight 1.
+fn each_once<F: Field>(alloc: Global, columns: &[usize]) -> Result<Vec<(usize, F)>, AllocError>
+    ensures { IfOk result (λ v. v.items ≡ map (λ i. (i, F.ONE)) columns.now) }
+{
+    columns
+        .iter()
+        .map(|column| (*column, F::ONE))
+        .collect(alloc)
+}
+
 impl<F: Field> VirtualPairCol<F> {
     /// The constant plus each weight times its column.
     pub fn new(column_weights: Vec<(PairCol, F)>, constant: F) -> Self
@@ -59,10 +95,7 @@ impl<F: Field> VirtualPairCol<F> {
     ) -> Result<Self, AllocError>
         ensures { IfOk result (λ v. v ≡ on_preprocessed column_weights.items constant) }
     {
-        let mut columns = Vec::new(alloc);
-        for (column, weight) in &column_weights {
-            columns.push((PairCol::Preprocessed(*column), *weight))?;
-        }
+        let columns = preprocessed_columns(alloc, &column_weights)?;
         Ok(Self::new(columns, constant))
     }
 
@@ -74,10 +107,7 @@ impl<F: Field> VirtualPairCol<F> {
     ) -> Result<Self, AllocError>
         ensures { IfOk result (λ v. v ≡ on_main column_weights.items constant) }
     {
-        let mut columns = Vec::new(alloc);
-        for (column, weight) in &column_weights {
-            columns.push((PairCol::Main(*column), *weight))?;
-        }
+        let columns = main_columns(alloc, &column_weights)?;
         Ok(Self::new(columns, constant))
     }
 
@@ -122,21 +152,25 @@ impl<F: Field> VirtualPairCol<F> {
     pub fn sum_preprocessed(alloc: Global, columns: Vec<usize>) -> Result<Self, AllocError>
         ensures { IfOk result (λ v. v ≡ sum_of F.ONE F.ZERO Preprocessed columns.items) }
     {
-        let mut column_weights = Vec::new(alloc);
-        for column in &columns {
-            column_weights.push((PairCol::Preprocessed(*column), F::ONE))?;
-        }
-        Ok(Self::new(column_weights, F::ZERO))
+        let column_weights = each_once(alloc, &columns)?;
+        Self::new_preprocessed(alloc, column_weights, F::ZERO)
     }
 
     /// The sum of main columns.
     pub fn sum_main(alloc: Global, columns: Vec<usize>) -> Result<Self, AllocError>
         ensures { IfOk result (λ v. v ≡ sum_of F.ONE F.ZERO Main columns.items) }
     {
+        let column_weights = each_once(alloc, &columns)?;
+        Self::new_main(alloc, column_weights, F::ZERO)
+    }
+
+    // One column less another.
+    fn diff(alloc: Global, a: PairCol, b: PairCol) -> Result<Self, AllocError>
+        ensures { IfOk result (λ v. v ≡ difference_of F.ONE F.NEG_ONE F.ZERO a b) }
+    {
         let mut column_weights = Vec::new(alloc);
-        for column in &columns {
-            column_weights.push((PairCol::Main(*column), F::ONE))?;
-        }
+        column_weights.push((a, F::ONE))?;
+        column_weights.push((b, F::NEG_ONE))?;
         Ok(Self::new(column_weights, F::ZERO))
     }
 
@@ -144,20 +178,18 @@ impl<F: Field> VirtualPairCol<F> {
     pub fn diff_preprocessed(alloc: Global, a_col: usize, b_col: usize) -> Result<Self, AllocError>
         ensures { IfOk result (λ v. v ≡ difference_of F.ONE F.NEG_ONE F.ZERO (Preprocessed a_col) (Preprocessed b_col)) }
     {
-        let mut column_weights = Vec::new(alloc);
-        column_weights.push((PairCol::Preprocessed(a_col), F::ONE))?;
-        column_weights.push((PairCol::Preprocessed(b_col), F::NEG_ONE))?;
-        Ok(Self::new(column_weights, F::ZERO))
+        Self::diff(
+            alloc,
+            PairCol::Preprocessed(a_col),
+            PairCol::Preprocessed(b_col),
+        )
     }
 
     /// One main column less another.
     pub fn diff_main(alloc: Global, a_col: usize, b_col: usize) -> Result<Self, AllocError>
         ensures { IfOk result (λ v. v ≡ difference_of F.ONE F.NEG_ONE F.ZERO (Main a_col) (Main b_col)) }
     {
-        let mut column_weights = Vec::new(alloc);
-        column_weights.push((PairCol::Main(a_col), F::ONE))?;
-        column_weights.push((PairCol::Main(b_col), F::NEG_ONE))?;
-        Ok(Self::new(column_weights, F::ZERO))
+        Self::diff(alloc, PairCol::Main(a_col), PairCol::Main(b_col))
     }
 
     /// Whether every column named is below the width of its trace.

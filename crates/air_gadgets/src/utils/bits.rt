@@ -1,5 +1,5 @@
 //! Bits of numbers, as elements of a field.
-ghost use Rattle.std.specs.Prelude.{◌≡◌, ℕ, ◌-◌, ◌*◌, ◌<◌, List, map};
+ghost use Rattle.std.specs.Prelude.{◌≡◌, ℕ, ◌-◌, ◌*◌, ◌^◌, ◌<◌, List, map};
 ghost use Rattle.air_field.specs.Ring.{image};
 ghost use Rattle.air_gadgets.specs.Bits.{AreBits, digits_of, packed, ring_xor, xored};
 
@@ -7,7 +7,8 @@ use air_field::Field;
 
 /// The `N` lowest bits, lowest first.
 fn bits_le<F: Field, const N: usize>(val: u64) -> [F; N]
-    ensures { result ≡ map (image F.ring) (digits_of 2 N val) }
+    ensures bits { result ≡ map (image F.ring) (digits_of 2 N val) }
+    ensures packed { val < 2 ^ N → packed F.ring result ≡ image F.ring val }
 {
     let mut bits = [F::ZERO; N];
     let mut left = val;

@@ -1,6 +1,5 @@
 //! Layouts of AIRs.
-ghost use Rattle.std.specs.Prelude.{◌≡◌, length, OnOk, IfErr};
-ghost use Rattle.air_builder.specs.Beside.{table_width};
+ghost use Rattle.std.specs.Prelude.{◌≡◌, OnOk, IfErr};
 ghost use Rattle.air_recording.specs.Layouts.{air_layout, FitsAir, LayoutRefuses};
 
 use air_builder::{AirError, BaseAir};
@@ -20,8 +19,7 @@ pub struct AirLayout {
 impl AirLayout {
     /// The layout that the AIR says it has; the three permutation counts are 0.
     pub fn from_air<F: Copy, A: BaseAir<F>>(air: &A) -> Self
-        ensures { result ≡ air_layout (table_width (A.beside air.now).preprocessed)
-            (A.width air.now) (A.num_public_values air.now) (length (A.beside air.now).periodic) }
+        ensures { result ≡ air_layout (A.declaration air.now) }
     {
         AirLayout {
             preprocessed_width: air.preprocessed_width(),
@@ -38,10 +36,8 @@ impl AirLayout {
     /// columns. The preprocessed width is not compared, since the preprocessed trace itself decides it. It takes no
     /// memory.
     pub fn validate_against_air<F: Copy, A: BaseAir<F>>(&self, air: &A) -> Result<(), AirError>
-        ensures fits { OnOk result (FitsAir self.now (A.width air.now) (A.num_public_values air.now)
-            (length (A.beside air.now).periodic)) }
-        ensures refused { IfErr result (LayoutRefuses self.now (A.width air.now)
-            (A.num_public_values air.now) (length (A.beside air.now).periodic)) }
+        ensures fits { OnOk result (FitsAir self.now (A.declaration air.now)) }
+        ensures refused { IfErr result (LayoutRefuses self.now (A.declaration air.now)) }
     {
         let width = air.width();
         if self.main_width != width {

@@ -1,13 +1,11 @@
 //! The degree inferred for the constraints of an AIR.
 ghost use Rattle.std.specs.Prelude.{◌≡◌, ◌<◌, ◌^◌, length, IfOk, IfErr, OnOk, All};
 ghost use Rattle.air_field.specs.Degree.{cached_weight, greatest_degree, quotient_degree};
-ghost use Rattle.air_field.specs.Assignment.{IsMissing};
-ghost use Rattle.air_builder.specs.Refusals.{NoneMissing};
 ghost use Rattle.air_symbolic.specs.ExtLeaves.{ext_reads};
 ghost use Rattle.air_symbolic.specs.Pools.{IsPool};
 ghost use Rattle.air_symbolic.specs.PoolRefusals.{AnswersDegree};
 ghost use Rattle.air_symbolic.specs.Weights.{leaf_weight};
-ghost use Rattle.air_recording.specs.Layouts.{layout_shape, FitsAir};
+ghost use Rattle.air_recording.specs.Layouts.{LayoutSuits};
 ghost use Rattle.air_recording.specs.Recorded.{terms_of};
 ghost use Rattle.air_recording.specs.Inferred.{periods_of, greatest_in, recorded_terms, IsInferred, AnswersInferred, DegreeRefuses};
 
@@ -164,14 +162,10 @@ pub fn get_max_constraint_degree_extension<
     transition_weight: usize,
 ) -> Result<usize, AirError>
     ensures inferred { IfOk result (IsInferred F.ring EF.over transition_weight trace_len
-        (periods_of (A.beside air.now).periodic) (A.declared air.now)) }
-    ensures fits { OnOk result (FitsAir layout (A.width air.now) (A.num_public_values air.now)
-        (length (A.beside air.now).periodic)) }
-    ensures there { OnOk result (NoneMissing (IsMissing (layout_shape layout))
-        (A.declared air.now)) }
-    ensures refused { IfErr result (DegreeRefuses F.ring EF.over transition_weight trace_len
-        (periods_of (A.beside air.now).periodic) layout (A.width air.now)
-        (A.num_public_values air.now) (A.declared air.now)) }
+        (A.declaration air.now)) }
+    ensures layout { OnOk result (LayoutSuits layout (A.declaration air.now)) }
+    ensures refused { IfErr result (DegreeRefuses F.ring EF.over transition_weight trace_len layout
+        (A.declaration air.now)) }
 {
     let recorded = get_all_symbolic_constraints(alloc, air, layout)?;
     let periods = lengths_of(alloc, air.periodic_columns())?;
@@ -188,14 +182,10 @@ pub fn get_max_constraint_degree<F: SelfExtension, A: Air<SymbolicAirBuilder<F, 
     transition_weight: usize,
 ) -> Result<usize, AirError>
     ensures inferred { IfOk result (IsInferred F.ring F.over transition_weight trace_len
-        (periods_of (A.beside air.now).periodic) (A.declared air.now)) }
-    ensures fits { OnOk result (FitsAir layout (A.width air.now) (A.num_public_values air.now)
-        (length (A.beside air.now).periodic)) }
-    ensures there { OnOk result (NoneMissing (IsMissing (layout_shape layout))
-        (A.declared air.now)) }
-    ensures refused { IfErr result (DegreeRefuses F.ring F.over transition_weight trace_len
-        (periods_of (A.beside air.now).periodic) layout (A.width air.now)
-        (A.num_public_values air.now) (A.declared air.now)) }
+        (A.declaration air.now)) }
+    ensures layout { OnOk result (LayoutSuits layout (A.declaration air.now)) }
+    ensures refused { IfErr result (DegreeRefuses F.ring F.over transition_weight trace_len layout
+        (A.declaration air.now)) }
 {
     get_max_constraint_degree_extension(alloc, air, layout, trace_len, transition_weight)
 }

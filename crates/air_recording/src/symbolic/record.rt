@@ -1,10 +1,8 @@
 //! The constraints of an AIR as expressions.
 ghost use Rattle.std.specs.Prelude.{◌≡◌, ◌<◌, [], length, map, All, IfOk, IfErr, OnOk};
-ghost use Rattle.air_field.specs.Assignment.{IsMissing};
-ghost use Rattle.air_builder.specs.Refusals.{NoneMissing};
 ghost use Rattle.air_symbolic.specs.BaseLeaves.{base_reads};
 ghost use Rattle.air_symbolic.specs.ExtLeaves.{ext_reads};
-ghost use Rattle.air_recording.specs.Layouts.{layout_shape, FitsAir};
+ghost use Rattle.air_recording.specs.Layouts.{LayoutSuits};
 ghost use Rattle.air_recording.specs.Folds.{ArePlacesOf};
 ghost use Rattle.air_recording.specs.Kinds.{kind_of, RecordsKinds};
 ghost use Rattle.air_recording.specs.Recorded.{RecordsBase, RecordsExt, RecordRefuses};
@@ -52,20 +50,17 @@ pub fn record<F: Field, EF: ExtensionField<F>, A: Air<SymbolicAirBuilder<F, EF>>
     layout: AirLayout,
 ) -> Result<SymbolicAirBuilder<F, EF>, AirError>
     ensures base { IfOk result (λ b. RecordsBase F.ring EF.over base_reads b.pool.0
-        b.constraints.base.items (A.declared air.now)) }
+        b.constraints.base.items (A.declaration air.now).declared) }
     ensures ext { IfOk result (λ b. RecordsExt F.ring EF.over
         (ext_reads F.ring F.eq EF.coefficients) b.pool b.constraints.ext.items
-        (A.declared air.now)) }
+        (A.declaration air.now).declared) }
     ensures base_here { IfOk result (λ b. All (λ i. i < length b.pool.0.1)
         b.constraints.base.items) }
     ensures ext_here { IfOk result (λ b. All (λ i. i < length b.pool.1) b.constraints.ext.items) }
-    ensures kinds { IfOk result (λ b. RecordsKinds b.constraints.kinds.items (A.declared air.now)) }
-    ensures fits { OnOk result (FitsAir layout (A.width air.now) (A.num_public_values air.now)
-        (length (A.beside air.now).periodic)) }
-    ensures there { OnOk result (NoneMissing (IsMissing (layout_shape layout))
-        (A.declared air.now)) }
-    ensures refused { IfErr result (RecordRefuses layout (A.width air.now)
-        (A.num_public_values air.now) (length (A.beside air.now).periodic) (A.declared air.now)) }
+    ensures kinds { IfOk result (λ b. RecordsKinds b.constraints.kinds.items
+        (A.declaration air.now).declared) }
+    ensures layout { OnOk result (LayoutSuits layout (A.declaration air.now)) }
+    ensures refused { IfErr result (RecordRefuses layout (A.declaration air.now)) }
 {
     layout.validate_against_air(air)?;
     let mut builder = SymbolicAirBuilder::new(alloc, layout)?;
@@ -84,15 +79,12 @@ pub fn get_all_symbolic_constraints<
     A: Air<SymbolicAirBuilder<F, EF>>,
 >(alloc: Global, air: &A, layout: AirLayout) -> Result<Recorded<F, EF>, AirError>
     ensures base { IfOk result (λ r. RecordsBase F.ring EF.over base_reads r.pool.0 r.base.items
-        (A.declared air.now)) }
+        (A.declaration air.now).declared) }
     ensures ext { IfOk result (λ r. RecordsExt F.ring EF.over
-        (ext_reads F.ring F.eq EF.coefficients) r.pool r.ext.items (A.declared air.now)) }
-    ensures fits { OnOk result (FitsAir layout (A.width air.now) (A.num_public_values air.now)
-        (length (A.beside air.now).periodic)) }
-    ensures there { OnOk result (NoneMissing (IsMissing (layout_shape layout))
-        (A.declared air.now)) }
-    ensures refused { IfErr result (RecordRefuses layout (A.width air.now)
-        (A.num_public_values air.now) (length (A.beside air.now).periodic) (A.declared air.now)) }
+        (ext_reads F.ring F.eq EF.coefficients) r.pool r.ext.items
+        (A.declaration air.now).declared) }
+    ensures layout { OnOk result (LayoutSuits layout (A.declaration air.now)) }
+    ensures refused { IfErr result (RecordRefuses layout (A.declaration air.now)) }
 {
     let builder = record(alloc, air, layout)?;
     Ok(builder.into_recorded())
@@ -105,14 +97,10 @@ pub fn get_symbolic_constraints<F: SelfExtension, A: Air<SymbolicAirBuilder<F, F
     layout: AirLayout,
 ) -> Result<Recorded<F, F>, AirError>
     ensures base { IfOk result (λ r. RecordsBase F.ring F.over base_reads r.pool.0 r.base.items
-        (A.declared air.now)) }
+        (A.declaration air.now).declared) }
     ensures ext { IfOk result (λ r. r.ext.items ≡ []) }
-    ensures fits { OnOk result (FitsAir layout (A.width air.now) (A.num_public_values air.now)
-        (length (A.beside air.now).periodic)) }
-    ensures there { OnOk result (NoneMissing (IsMissing (layout_shape layout))
-        (A.declared air.now)) }
-    ensures refused { IfErr result (RecordRefuses layout (A.width air.now)
-        (A.num_public_values air.now) (length (A.beside air.now).periodic) (A.declared air.now)) }
+    ensures layout { OnOk result (LayoutSuits layout (A.declaration air.now)) }
+    ensures refused { IfErr result (RecordRefuses layout (A.declaration air.now)) }
 {
     let Recorded { pool, base, .. } = get_all_symbolic_constraints(alloc, air, layout)?;
     let ext = Vec::new(alloc);
@@ -127,13 +115,10 @@ pub fn get_symbolic_constraints_extension<
 >(alloc: Global, air: &A, layout: AirLayout) -> Result<Recorded<F, EF>, AirError>
     ensures base { IfOk result (λ r. r.base.items ≡ []) }
     ensures ext { IfOk result (λ r. RecordsExt F.ring EF.over
-        (ext_reads F.ring F.eq EF.coefficients) r.pool r.ext.items (A.declared air.now)) }
-    ensures fits { OnOk result (FitsAir layout (A.width air.now) (A.num_public_values air.now)
-        (length (A.beside air.now).periodic)) }
-    ensures there { OnOk result (NoneMissing (IsMissing (layout_shape layout))
-        (A.declared air.now)) }
-    ensures refused { IfErr result (RecordRefuses layout (A.width air.now)
-        (A.num_public_values air.now) (length (A.beside air.now).periodic) (A.declared air.now)) }
+        (ext_reads F.ring F.eq EF.coefficients) r.pool r.ext.items
+        (A.declaration air.now).declared) }
+    ensures layout { OnOk result (LayoutSuits layout (A.declaration air.now)) }
+    ensures refused { IfErr result (RecordRefuses layout (A.declaration air.now)) }
 {
     let Recorded { pool, ext, .. } = get_all_symbolic_constraints(alloc, air, layout)?;
     let base = Vec::new(alloc);
@@ -146,14 +131,10 @@ pub fn get_constraint_layout<F: Field, EF: ExtensionField<F>, A: Air<SymbolicAir
     air: &A,
     layout: AirLayout,
 ) -> Result<ConstraintLayout, AirError>
-    ensures places { IfOk result (λ l. ArePlacesOf (map kind_of (A.declared air.now))
+    ensures places { IfOk result (λ l. ArePlacesOf (map kind_of (A.declaration air.now).declared)
         l.base_indices.items l.ext_indices.items) }
-    ensures fits { OnOk result (FitsAir layout (A.width air.now) (A.num_public_values air.now)
-        (length (A.beside air.now).periodic)) }
-    ensures there { OnOk result (NoneMissing (IsMissing (layout_shape layout))
-        (A.declared air.now)) }
-    ensures refused { IfErr result (RecordRefuses layout (A.width air.now)
-        (A.num_public_values air.now) (length (A.beside air.now).periodic) (A.declared air.now)) }
+    ensures layout { OnOk result (LayoutSuits layout (A.declaration air.now)) }
+    ensures refused { IfErr result (RecordRefuses layout (A.declaration air.now)) }
 {
     let builder: SymbolicAirBuilder<F, EF> = record(alloc, air, layout)?;
     builder.constraint_layout()

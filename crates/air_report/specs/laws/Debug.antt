@@ -1,16 +1,17 @@
 -- The debug builder keeps the laws of builders.
-use Rattle.std.specs.Prelude.{◌≡◌, ◌⊎◌, ℕ, List, [], ◌∷◌, ◌++◌, length, map, Bool, true, false, not, cond, refl, ⊤}
+use Rattle.std.specs.Prelude.{◌≡◌, ◌⊎◌, ℕ, List, [], ◌∷◌, ◌++◌, length, map, Bool, true, false, not, cond, refl}
 use Rattle.std.specs.List.{filter, enumerate_from}
 use Rattle.std.proofs.Common.{inl, inr, sym, ◌∙◌, ap, subst, arith, append_assoc, length-append, ◌+◌}
 use Rattle.std.proofs.lemmas.List.{map-append, append-nil}
 use Rattle.std.proofs.lemmas.List.Elements.{filter-append}
 use Rattle.air_field.specs.Term.{Leaf, Term}
+use Rattle.air_field.specs.Assignment.{Shape}
 use Rattle.air_field.specs.OneRow.{one_row_shape}
 use Rattle.air_builder.specs.Assertion.{Assertion}
-use Rattle.air_builder.specs.Builders.{BuilderView, BuilderLaws}
+use Rattle.air_builder.specs.Builders.{BuilderLaws}
 use Rattle.air_builder.specs.Refusals.{NamesLeaf}
-use Rattle.air_builder.specs.laws.Refusals.{past_window_missing}
-use Rattle.air_builder.specs.Extensions.{ExtensionView, ExtensionLaws}
+use Rattle.air_builder.specs.laws.RowBuilders.{row_view, row_over, GrowsAtRow, row_laws, row_extension_laws}
+use Rattle.air_builder.specs.Extensions.{ExtensionLaws}
 use Rattle.air_builder.specs.Refused.{Refused}
 use Rattle.air_builder.specs.laws.Refused.{Refused-first, Refused-then, Refused-missing}
 use Rattle.air_windows.specs.declared.errors.AirError.{AirError}
@@ -100,38 +101,33 @@ module _ {F E : Type 0} (zero : RowData F E → Assertion F → Bool) where
         let s = same_at_row (data_of a) (count a) (failures a) in
         record { same_row = d; count = c ∙ s.count; more = []; failures = f ∙ sym (append-nil (failures a)); places = refl }
 
-    -- a builder over the values of a row as its laws see it; its ring keeps and refuses nothing
-    abbrev pub debug_view : {R V : Type 0} → (RowData F E → Leaf → Term F) → (S → R) → (S → R → S)
-        → (V → Term F → Type 0) → BuilderView S R V F
-    debug_view stands ring_of with_ring means = record {
-      valid = λ _. ⊤;
-      has = λ _ _. ⊤;
-      means = λ _ x t. means x t;
-      extends = λ _ _. ⊤;
-      ring_refuses = λ _ _. ⊥;
-      ring_of = ring_of;
-      with_ring = with_ring;
-      stands = λ b. stands (data_of b);
-      ready = λ _. ⊤;
-      kept = λ a b. data_of b ≡ data_of a;
-      grew = λ a b ts. GrewAtRow zero (data_of a) (data_of b) (count a) (count b) (failures a) (failures b) ts;
-      missing = λ b l. RowMissing (data_of b) l;
-      refuses = λ b e ts. RefusedAtRow zero (data_of b) (count b) e ts;
-    }
+    abbrev shape : RowData F E → Shape
+    shape d = one_row_shape d.values d.permutation
 
-    -- and its ring over the extension
-    abbrev pub debug_over : {R V W : Type 0} → (S → R) → (S → R → S) → (V → Term F → Type 0) → (W → Term F → Type 0)
-        → ExtensionView S R V W F
-    debug_over ring_of with_ring base_means means = record {
-      valid = λ _. ⊤;
-      has = λ _ _. ⊤;
-      means = λ _ x t. means x t;
-      extends = λ _ _. ⊤;
-      ring_refuses = λ _ _. ⊥;
-      base_has = λ _ _. ⊤;
-      base_means = λ _ x t. base_means x t;
-      ring_of = ring_of;
-      with_ring = with_ring;
+    abbrev grew : S → S → List (Assertion F) → Type 0
+    grew a b ts = GrewAtRow zero (data_of a) (data_of b) (count a) (count b) (failures a) (failures b) ts
+
+    abbrev refuses : S → AirError → List (Assertion F) → Type 0
+    refuses b e ts = RefusedAtRow zero (data_of b) (count b) e ts
+
+    grows : (stands : RowData F E → Leaf → Term F) → GrowsAtRow data_of shape stands grew refuses
+    grows stands = record {
+      same = λ a. same_at_row (data_of a) (count a) (failures a);
+      joined = λ a b c xs ys g h. joined_at_row (data_of a) (data_of b) (data_of c) (count a) (count b) (count c) (failures a) (failures b) (failures c) xs ys g h;
+      same_row = λ a b xs g. g.same_row;
+      refuses_first = λ a e xs ys h. record {
+        refused = Refused-first (RowMissing (data_of a)) (λ _. ⊥) (IsFull (count a)) e xs ys (λ f. omega (arith, f, length-append xs ys)) h.refused;
+        memory = λ m. SomeNonzero-first (zero (data_of a)) xs ys (h.memory m);
+      };
+      refuses_then = λ a b e xs ys g h. record {
+        refused = subst (λ d. Refused (RowMissing d) (λ _. ⊥) (IsFull (count a)) e (xs ++ ys)) g.same_row
+            (Refused-then (RowMissing (data_of b)) (λ _. ⊥) (IsFull (count b)) (IsFull (count a)) e xs ys (λ f. omega (arith, f, g.count, length-append xs ys)) h.refused);
+        memory = λ m. SomeNonzero-then (zero (data_of a)) xs ys (subst (λ d. SomeNonzero (zero d) ys) g.same_row (h.memory m));
+      };
+      refuses_missing = λ a e l ts m n p. record {
+        refused = Refused-missing (RowMissing (data_of a)) (λ _. ⊥) (IsFull (count a)) e l ts m n p;
+        memory = λ q. absurd (subst (λ x. NamesLeaf x l) q n);
+      };
     }
 
     module _ (stands : RowData F E → Leaf → Term F) {R V : Type 0} (ring_of : S → R) (with_ring : S → R → S)
@@ -141,50 +137,11 @@ module _ {F E : Type 0} (zero : RowData F E → Assertion F → Bool) where
         (ring_is : (a : S) (q : R) → ring_of (with_ring a q) ≡ q)
         {means : V → Term F → Type 0} where
       -- it keeps the laws
-      pub debug_laws : BuilderLaws (debug_view stands ring_of with_ring means)
-      debug_laws = record {
-        same = λ a. same_at_row (data_of a) (count a) (failures a);
-        joined = λ a b c xs ys g h. joined_at_row (data_of a) (data_of b) (data_of c) (count a) (count b) (count c) (failures a) (failures b) (failures c) xs ys g h;
-        ring_lent = λ a q e. unchanged a (with_ring a q) (data_is a q) (count_is a q) (failures_is a q);
-        ring_with = ring_is;
-        ring_valid = λ a h. tt;
-        by_growth = λ a b xs g. g.same_row;
-        kept_joined = λ a b c g h. h ∙ g;
-        ring_kept = λ a b k. tt;
-        stands_kept = λ a b k. ap stands k;
-        ready_kept = λ a b k h. tt;
-        missing_kept = λ a b l k h. subst (λ d. RowMissing d l) k h;
-        missing_stays = λ a b l k h. subst (λ d. RowMissing d l) (sym k) h;
-        past_window = λ a o l h. past_window_missing (one_row_shape (data_of a).values (data_of a).permutation) o l h;
-        has_first_row = λ a h. h;
-        has_last_row = λ a h. h;
-        has_transition = λ a h. h;
-        refuses_first = λ a e xs ys h. record {
-          refused = Refused-first (RowMissing (data_of a)) (λ _. ⊥) (IsFull (count a)) e xs ys (λ f. omega (arith, f, length-append xs ys)) h.refused;
-          memory = λ m. SomeNonzero-first (zero (data_of a)) xs ys (h.memory m);
-        };
-        refuses_then = λ a b e xs ys g h. record {
-          refused = subst (λ d. Refused (RowMissing d) (λ _. ⊥) (IsFull (count a)) e (xs ++ ys)) g.same_row
-              (Refused-then (RowMissing (data_of b)) (λ _. ⊥) (IsFull (count b)) (IsFull (count a)) e xs ys (λ f. omega (arith, f, g.count, length-append xs ys)) h.refused);
-          memory = λ m. SomeNonzero-then (zero (data_of a)) xs ys (subst (λ d. SomeNonzero (zero d) ys) g.same_row (h.memory m));
-        };
-        refuses_in_ring = λ a e t ts h p. absurd h;
-        refuses_missing = λ a e l ts m n p. record {
-          refused = Refused-missing (RowMissing (data_of a)) (λ _. ⊥) (IsFull (count a)) e l ts m n p;
-          memory = λ q. absurd (subst (λ x. NamesLeaf x l) q n);
-        };
-      }
+      pub debug_laws : BuilderLaws (row_view data_of shape stands grew refuses ring_of with_ring means)
+      debug_laws = row_laws data_of shape stands grew refuses ring_of with_ring (λ a q. unchanged a (with_ring a q) (data_is a q) (count_is a q) (failures_is a q)) ring_is (grows stands)
 
-      module _ {B U : Type 0} (base_of : S → B) (base_means : U → Term F → Type 0) {with_base : S → B → S} where
-        -- and those of builders over an extension, for its ring over the extension
-        pub debug_extension_laws : ExtensionLaws (debug_view stands base_of with_base base_means)
-            (debug_over ring_of with_ring base_means means)
-        debug_extension_laws = record {
-          ext_ring_lent = λ a q e. unchanged a (with_ring a q) (data_is a q) (count_is a q) (failures_is a q);
-          ext_ring_with = ring_is;
-          ext_ring_valid = λ a h. tt;
-          ext_ring_kept = λ a b k. tt;
-          has_base = λ a x r h. tt;
-          means_base = λ a x t r h. h;
-          refuses_in_ext_ring = λ a e t ts h p. absurd h;
-        }
+      -- and those of builders over an extension, for its ring over the extension
+      pub debug_extension_laws : {B U : Type 0} (base_of : S → B) (base_means : U → Term F → Type 0) {with_base : S → B → S}
+          → ExtensionLaws (row_view data_of shape stands grew refuses base_of with_base base_means)
+          (row_over data_of shape stands grew refuses ring_of with_ring base_means means)
+      debug_extension_laws = row_extension_laws data_of shape stands grew refuses ring_of with_ring (λ a q. unchanged a (with_ring a q) (data_is a q) (count_is a q) (failures_is a q)) ring_is

@@ -8,7 +8,8 @@ use Rattle.air_field.specs.Term.{ext_const_term, add_term, sub_term, neg_term, m
 use Rattle.air_field.specs.Value.{value}
 use Rattle.air_field.specs.laws.Value.{value-leaves}
 use Rattle.air_field.specs.Algebra.{closed_value, closed_value_in}
-use Rattle.air_builder.specs.Assertion.{Base, Extension}
+use Rattle.air_builder.specs.Assertion.{Assertion, Base, Extension}
+use Rattle.air_builder.specs.Batches.{AssertsOf}
 use Rattle.air_report.specs.Debug.{RowData, row_leaves, ext_row_leaves, row_stands, is_zero_at}
 
 module _ {F E : Type 0} (r : CommRing F) (a : Over F E) (coefficients : E → List F) where
@@ -62,3 +63,15 @@ module _ {F E : Type 0} (r : CommRing F) (a : Over F E) (coefficients : E → Li
         → closed_value_in a (with_leaves (row_stands r a coefficients d) t) ≡ v
         → is_zero_at r a eq ext_eq d (Extension t) ≡ ext_eq v a.ring.nil
     ext_is_zero k d v t m = ap (λ x. ext_eq x a.ring.nil) (ext_value k (λ _. a.ring.nil) d t ∙ m)
+
+    -- So the test of an expression for zero is that of the assertion that it is zero.
+    pub base_tested : (d : RowData F E) (v : F) (holds : Bool) → holds ≡ eq v r.nil → (s : Assertion F)
+        → AssertsOf Base (λ e x t. IsBase (with_leaves (row_stands r a coefficients e) t) × (closed_value r (with_leaves (row_stands r a coefficients e) t) ≡ x)) (λ t. t) d v s
+        → is_zero_at r a eq ext_eq d s ≡ holds
+    base_tested d v holds e s (t, m, is) = ap (λ u. is_zero_at r a eq ext_eq d u) is ∙ (base_is_zero d v t m ∙ sym e)
+
+    pub ext_tested : ((x : E) → a.extend (coefficients x) ≡ x) → (d : RowData F E) (v : E) (holds : Bool)
+        → holds ≡ ext_eq v a.ring.nil → (s : Assertion F)
+        → AssertsOf Extension (λ e x t. closed_value_in a (with_leaves (row_stands r a coefficients e) t) ≡ x) (λ t. t) d v s
+        → is_zero_at r a eq ext_eq d s ≡ holds
+    ext_tested k d v holds e s (t, m, is) = ap (λ u. is_zero_at r a eq ext_eq d u) is ∙ (ext_is_zero k d v t m ∙ sym e)

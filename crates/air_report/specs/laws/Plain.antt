@@ -1,31 +1,26 @@
 -- Checks of an AIR that has nothing beside its main trace.
-use Rattle.std.specs.Prelude.{◌≡◌, ℕ, ◌-◌, ◌<◌, List, [], ◌∷◌, ◌++◌, length, map, Bool, Option, None, Some, slice_get, refl}
+use Rattle.std.specs.Prelude.{◌≡◌, ℕ, ◌-◌, ◌<◌, List, [], length, Bool, Option, None, Some, slice_get, refl}
 use Rattle.std.specs.Global.{Global}
 use Rattle.std.proofs.Common.{inl, inr, subst, sym, ap, ◌∙◌, arith}
-use Rattle.std.proofs.lemmas.List.{take_all, append-nil}
+use Rattle.std.proofs.lemmas.List.{take_all}
 use Rattle.air_field.specs.Ring.{CommRing}
 use Rattle.air_field.specs.Assignment.{trace_shape, IsMissing}
 use Rattle.air_field.specs.Grid.{Grid}
 use Rattle.air_builder.specs.Assertion.{Assertion}
-use Rattle.air_builder.specs.Beside.{nothing_beside}
+use Rattle.air_builder.specs.Declaration.{plain_declaration}
 use Rattle.air_windows.specs.declared.errors.AirError.{AirError}
 use Rattle.air_windows.specs.declared.errors.AirError.TheVariants.{PreprocessedHeight, PeriodNotPowerOfTwo, PeriodDoesNotDivide, Boundary, EmptyTrace}
 use Rattle.air_report.specs.Cells.{left_of, IsCellFault}
-use Rattle.air_report.specs.Checks.{CheckRefuses, IsReport}
+use Rattle.air_report.specs.Checks.{CheckRefuses}
 use Rattle.air_report.specs.Given.{given}
 use Rattle.air_report.specs.RowRefusals.{IsFull}
 use Rattle.air_builder.specs.Refused.{Refused}
-use Rattle.air_report.specs.Report.{failure_place, report_of, plain_trace}
+use Rattle.air_report.specs.Report.{plain_trace}
 use Rattle.air_report.specs.Shapes.{IsShapeFault}
-use Rattle.air_report.specs.declared.checks.report.ConstraintReport.{ConstraintReport}
 
 left_of-none : {X : Type 0} (cap : Option ℕ) (n : ℕ) → left_of {X = X} cap n [] ≡ []
 left_of-none None n = refl
 left_of-none (Some cap) n = take_all (cap - n) [] (omega arith)
-
-map_none : {X Y : Type 0} (f : X → Y) (xs : List X) → map f xs ≡ [] → xs ≡ []
-map_none f [] e = refl
-map_none f (x ∷ xs) e = cc
 
 -- no periodic column and no table is at fault
 fits_shapes : (T A : Type 0) (h : ℕ) (e : AirError) → IsShapeFault {T = T} {A = A} [] h None e → ⊥
@@ -45,9 +40,10 @@ none_listed cap n at x e =
     let none : None ≡ Some x = sym (ap (λ l. slice_get l at) (left_of-none cap n)) ∙ e in
     cc
 
-module _ {F : Type 0} (r : CommRing F) (eq : F → F → Bool) (ts : List (Assertion F)) (main : Grid F) (public : List F) (cap : Option ℕ) where
+module _ {F : Type 0} (r : CommRing F) (eq : F → F → Bool) (ts : List (Assertion F)) (width count : ℕ) (main : Grid F) (public : List F) (cap : Option ℕ) where
   -- it is refused as its rows are
-  pub plain_refusal : (e : AirError) → CheckRefuses r eq (given ts nothing_beside main public) cap e → Refused (IsMissing (trace_shape (plain_trace main public))) (λ _. ⊥) (IsFull 0) e ts
+  pub plain_refusal : (e : AirError) → CheckRefuses r eq (given (plain_declaration ts width count) main public) cap e
+      → Refused (IsMissing (trace_shape (plain_trace main public))) (λ _. ⊥) (IsFull 0) e ts
   plain_refusal e (inl h) = absurd (fits_shapes F Global (length main.rows) e h)
   plain_refusal e (inr h) = elim h.1 [
     | inl rows ↦ elim rows [
@@ -59,12 +55,3 @@ module _ {F : Type 0} (r : CommRing F) (eq : F → F → Bool) (ts : List (Asser
       | inr count ↦ absurd (none_listed cap _ count.1.past.at count.1.past.cell count.1.past.is_listed)
     ]
   ]
-
-  -- its report is that of its rows
-  pub plain_report : (report : ConstraintReport)
-      (h : IsReport r eq (given ts nothing_beside main public) cap report)
-      → map failure_place report.failures.items ≡ report_of r eq (plain_trace main public) ts h.shown
-  plain_report report h =
-      let cells = h.lists.places ∙ ap (map _) (left_of-none cap (length (report_of r eq (plain_trace main public) ts h.shown))) in
-      let none : h.lists.more ≡ [] = map_none failure_place h.lists.more cells in
-      ap (map failure_place) (h.lists.failures ∙ (ap (λ fs. h.of_rows ++ fs) none ∙ append-nil h.of_rows)) ∙ h.places

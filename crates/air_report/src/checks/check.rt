@@ -1,11 +1,10 @@
 //! A check of a whole trace.
 ghost use Rattle.std.specs.Prelude.{IsTrue, ◌↔◌, ◌≡◌, ◌+◌, ◌%◌, Some, slice_get, ◌<◌, length, IfOk, IfErr, IfSome, OnOk};
 ghost use Rattle.std.specs.Option.{option_copied};
-ghost use Rattle.air_field.specs.Assignment.{selector, trace_shape, IsMissing, row_or_none};
-ghost use Rattle.air_builder.specs.Refusals.{NoneMissing};
+ghost use Rattle.air_field.specs.Assignment.{selector, row_or_none};
 ghost use Rattle.air_report.specs.Report.{IsReached};
-ghost use Rattle.air_report.specs.Given.{given, given_trace, table_grid};
-ghost use Rattle.air_report.specs.Checks.{CheckRefuses, CheckedRow, CheckedRows, Fits, IsReport, RowRefuses, RowsRefuse};
+ghost use Rattle.air_report.specs.Given.{given, table_grid};
+ghost use Rattle.air_report.specs.Checks.{CheckRefuses, CheckedRow, CheckedRows, Fits, HasEntries, IsReport, RowRefuses, RowsRefuse};
 
 use crate::checks::cells::{check_cells, list_cells};
 use crate::checks::report::ConstraintReport;
@@ -91,16 +90,14 @@ pub(crate) fn check_row<'a, F: SelfExtension + 'static, A: Air<DebugConstraintBu
     failures: Vec<ConstraintFailure>,
 ) -> Result<RowOutcome, AirError>
     requires within { row < length main.now.rows }
-    requires fits { Fits (given (A.declared air.now) (A.beside air.now) main.now
-        public_values.now) }
+    requires fits { Fits (given (A.declaration air.now) main.now public_values.now) }
     ensures checked { IfOk result (λ c. CheckedRow F.ring F.eq
-        (given_trace (given (A.declared air.now) (A.beside air.now) main.now public_values.now))
-        (A.declared air.now) row failures.items c.failures.items c.constraints) }
-    ensures there { OnOk result (NoneMissing
-        (IsMissing (trace_shape (given_trace (given (A.declared air.now) (A.beside air.now) main.now
-        public_values.now)))) (A.declared air.now)) }
+        (given (A.declaration air.now) main.now public_values.now)
+        row failures.items c.failures.items c.constraints) }
+    ensures there { OnOk result (HasEntries
+        (given (A.declaration air.now) main.now public_values.now)) }
     ensures refused { IfErr result (RowRefuses
-        (given (A.declared air.now) (A.beside air.now) main.now public_values.now)) }
+        (given (A.declaration air.now) main.now public_values.now)) }
 {
     let height = main.height();
     let periodic_row = air.periodic_values(alloc, row)?;
@@ -142,12 +139,12 @@ fn check_rows<'a, F: SelfExtension + 'static, A: Air<DebugConstraintBuilder<'a, 
     public_values: &'a [F],
     max_failures: Option<usize>,
 ) -> Result<RowOutcome, AirError>
-    requires { Fits (given (A.declared air.now) (A.beside air.now) main.now public_values.now) }
+    requires { Fits (given (A.declaration air.now) main.now public_values.now) }
     ensures checked { IfOk result (λ c. CheckedRows F.ring F.eq
-        (given (A.declared air.now) (A.beside air.now) main.now public_values.now) max_failures
+        (given (A.declaration air.now) main.now public_values.now) max_failures
         c.failures.items c.constraints) }
     ensures refused { IfErr result (RowsRefuse max_failures
-        (given (A.declared air.now) (A.beside air.now) main.now public_values.now)) }
+        (given (A.declaration air.now) main.now public_values.now)) }
 {
     let mut failures = Vec::new(alloc);
     let mut total_constraints_per_row = 0;
@@ -189,9 +186,9 @@ pub fn check_all_constraints<
     max_failures: Option<usize>,
 ) -> Result<ConstraintReport, AirError>
     ensures report { IfOk result (IsReport F.ring F.eq
-        (given (A.declared air.now) (A.beside air.now) main.now public_values.now) max_failures) }
+        (given (A.declaration air.now) main.now public_values.now) max_failures) }
     ensures refused { IfErr result (CheckRefuses F.ring F.eq
-        (given (A.declared air.now) (A.beside air.now) main.now public_values.now) max_failures) }
+        (given (A.declaration air.now) main.now public_values.now) max_failures) }
 {
     let total_rows = main.height();
     check_shapes(

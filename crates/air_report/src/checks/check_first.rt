@@ -59,9 +59,9 @@ pub fn check_constraints<'a, F: SelfExtension + 'static, A: Air<DebugConstraintB
     public_values: &'a [F],
 ) -> Result<(), CheckError>
     ensures kept { OnOk result (IsKept F.ring F.eq
-        (given (A.declared air.now) (A.beside air.now) main.now public_values.now)) }
+        (given (A.declaration air.now) main.now public_values.now)) }
     ensures error { IfErr result (IsFirstError F.ring F.eq
-        (given (A.declared air.now) (A.beside air.now) main.now public_values.now)) }
+        (given (A.declaration air.now) main.now public_values.now)) }
 {
     let height = main.height();
     check_shapes(

@@ -94,16 +94,19 @@ impl<'a, F: Field, EF: ExtensionField<F> + 'static> AirBuilder
     }
 
     #[inline(always)]
+    #[tactic(auto, using(crate::specs::laws::Debug::same_at_row))]
     fn is_first_row(&mut self) -> Result<F, AirError> {
         Ok(self.is_first_row)
     }
 
     #[inline(always)]
+    #[tactic(auto, using(crate::specs::laws::Debug::same_at_row))]
     fn is_last_row(&mut self) -> Result<F, AirError> {
         Ok(self.is_last_row)
     }
 
     #[inline(always)]
+    #[tactic(auto, using(crate::specs::laws::Debug::same_at_row))]
     fn is_transition(&mut self) -> Result<F, AirError> {
         Ok(self.is_transition)
     }

@@ -1,12 +1,11 @@
 //! Pools of extension expressions.
 ghost use Rattle.std.specs.Prelude.{◌≡◌, ◌<◌, length, IfOk, IfErr};
-ghost use Rattle.air_field.specs.Algebra.{Made};
 ghost use Rattle.air_field.specs.ExtAlgebra.{Lifted};
 ghost use Rattle.air_field.specs.Term.{leaf_term, ext_const_term};
 ghost use Rattle.air_variables.specs.ExtEntries.{ext_entry_leaf};
 ghost use Rattle.air_symbolic.specs.BaseLeaves.{base_reads};
 ghost use Rattle.air_symbolic.specs.ExtLeaves.{ext_reads, ext_grows};
-ghost use Rattle.air_symbolic.specs.ExtPool.{BaseMeans};
+ghost use Rattle.air_symbolic.specs.ExtPool.{BaseMeans, ExtMade};
 ghost use Rattle.air_symbolic.specs.Trees.{leaf_tree};
 ghost use Rattle.air_symbolic.specs.Pools.{IsPool, PoolHas, PoolMeans, Grown, HasTree};
 
@@ -27,8 +26,7 @@ impl<F: Field, EF: ExtensionField<F>> ExprPool<ExtLeaf<F, EF>> {
         ensures same_base { self.new.0 ≡ self.old.0 }
         ensures grown { Grown ext_grows (ext_reads F.ring F.eq EF.coefficients) self.old self.new }
         ensures tree { IfOk result (HasTree self.new (leaf_tree (ExtLeaf.ExtVariable v))) }
-        ensures made { IfOk result (Made (PoolHas (ext_reads F.ring F.eq EF.coefficients))
-            (PoolMeans (ext_reads F.ring F.eq EF.coefficients) F.ring)
+        ensures made { IfOk result (ExtMade F.ring F.eq EF.coefficients
             (leaf_term (ext_entry_leaf v.entry v.index)) self.new) }
         ensures refused { IfErr result (λ e. e ≡ RingError.Memory) }
     {
@@ -41,8 +39,7 @@ impl<F: Field, EF: ExtensionField<F>> ExprPool<ExtLeaf<F, EF>> {
         ensures same_base { self.new.0 ≡ self.old.0 }
         ensures grown { Grown ext_grows (ext_reads F.ring F.eq EF.coefficients) self.old self.new }
         ensures tree { IfOk result (HasTree self.new (leaf_tree (ExtLeaf.ExtConstant c))) }
-        ensures made { IfOk result (Made (PoolHas (ext_reads F.ring F.eq EF.coefficients))
-            (PoolMeans (ext_reads F.ring F.eq EF.coefficients) F.ring)
+        ensures made { IfOk result (ExtMade F.ring F.eq EF.coefficients
             (ext_const_term (EF.coefficients c)) self.new) }
         ensures refused { IfErr result (λ e. e ≡ RingError.Memory) }
     {

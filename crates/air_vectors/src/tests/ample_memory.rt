@@ -21,12 +21,12 @@
 //! | `to_base` | base: ext_bench |
 //! | **values** | |
 //! | `to_flat_value`, `from_flat_value` | base: written_lists, flat_lists, generated |
-//! | `to_value`, `from_value` of entries and variables; of cells and layouts | base: flat_lists; spellings |
+//! | `to_value`, `from_value` of entries, variables and cells; of layouts | base: flat_lists; spellings |
 //! | `flat_input_from` | base: flat_inputs |
 //! | **AIRs** | |
 //! | `periodic_values`, `periodic_columns_matrix` | base: airs |
 //! | `main_next_row_columns`, `preprocessed_next_row_columns` | base: airs |
-//! | `eval` | checks, recordings, folds: one for each builder |
+//! | `eval` | fixtures, recordings, folds: one for each builder |
 //! | **builders** | |
 //! | `main` of the symbolic builder; `permutation` | tests (`lent_variables`); recordings |
 //! | `is_first_row`, `is_last_row`, `is_transition` | tests, labels; of the symbolic builder through folds |
@@ -41,20 +41,20 @@
 //! | `assert_zero_ext_named`, `assert_one_ext_named`, `assert_eq_ext_named` | base: assertion; extension |
 //! | `assert_zero_unlabelled` | labels |
 //! | `evaluate` of a text, a `Lazy` and a `Joined` | base: names |
-//! | an author's expressions and constraints, by `assert_all` | tests, checks, folds |
+//! | an author's expressions and constraints, by `assert_all` | airs |
 //! | **bits and words** | |
 //! | `pack_bits_le`; each maker of a virtual column, `apply`, `clone` | base: gadgets |
 //! | `add2`, `add3`, `xor_32_shift` | base: words; words |
 //! | **recordings** | |
-//! | `SymbolicAirBuilder::new`, `constraint_layout` | tests (`recording_builder`); recordings |
-//! | `get_symbolic_constraints`, `get_symbolic_constraints_extension` | tests, recordings |
+//! | `SymbolicAirBuilder::new`, `constraint_layout` | fixtures (`recording_builder`); recordings |
+//! | `get_symbolic_constraints`, `get_symbolic_constraints_extension` | fixtures, recordings |
 //! | `get_all_symbolic_constraints` | recordings |
-//! | `get_constraint_layout`, `get_max_constraint_degree`, `get_max_constraint_degree_extension` | tests, recordings |
+//! | `get_constraint_layout`, `get_max_constraint_degree`, `get_max_constraint_degree_extension` | fixtures, recordings |
 //! | `decompose_alpha` | layouts |
 //! | `resolve`; `resolve_all`, through `FlatAir` | flat_airs |
 //! | `recorded_air` | recorded_airs |
 //! | **checks** | |
-//! | `check_constraints`, `check_all_constraints` | checks, traces, and check: generated |
+//! | `check_constraints`, `check_all_constraints` | fixtures, for checks and traces; check: generated |
 //! | `formatted_failures`, `clone` of a failure and of a report | labels |
 //! | `audit_air`, `audit_air_with_cap` | audits |
 //! | `fold_air` | folds |

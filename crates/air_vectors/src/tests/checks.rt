@@ -1,108 +1,14 @@
 //! Checks of a whole trace: shapes, boundary cells and the cap, on an AIR without constraints.
-ghost use Rattle.std.specs.Prelude.{[]};
-
-use crate::tests::{columns, matrix};
-use air_builder::{
-    Air, AirBuilder, AirError, BaseAir, BoundaryEnd, BoundaryIoError, BoundaryPublic,
+use crate::tests::airs::{Constraints, PlainAir, plain_air};
+use crate::tests::fixtures::{
+    SHORT_TABLE, assert_fault_refused, assert_labels, assert_places, columns, first_fault,
+    long_period, matrix, number, odd_period, report_of, zeros,
 };
-use air_field::{BabyBear, RowMajorMatrix};
-use p3_air::{CheckError, ConstraintReport, check_all_constraints, check_constraints};
+use p3_air::boundary::{BoundaryEnd, BoundaryIoError, BoundaryPublic};
+use p3_air::{AirError, BabyBear, CheckError, ConstraintReport};
 use std::alloc::Global;
 use std::process::Abort;
 use std::test::Fail;
-
-/// No constraints; a preprocessed table, periodic columns and cells.
-#[derive(Drop)]
-pub struct Tables<F> {
-    width: usize,
-    num_public_values: usize,
-    table: Option<RowMajorMatrix<F>>,
-    periodic: Vec<Vec<F>>,
-    cells: Vec<BoundaryPublic>,
-}
-
-impl<F: Copy> BaseAir<F> for Tables<F> {
-    ghost declared = { λ _. [] };
-
-    ghost width = { λ a. a.width };
-
-    ghost num_public_values = { λ a. a.num_public_values };
-
-    ghost beside = { λ a. record {
-      preprocessed = a.table;
-      periodic = a.periodic.items;
-      cells =
-          a.cells.items;
-    } };
-
-    fn width(&self) -> usize {
-        self.width
-    }
-
-    fn num_public_values(&self) -> usize {
-        self.num_public_values
-    }
-
-    fn preprocessed_trace(&self) -> Option<&RowMajorMatrix<F>> {
-        self.table.as_ref()
-    }
-
-    fn periodic_columns(&self) -> &[Vec<F>] {
-        self.periodic.as_slice()
-    }
-
-    fn public_boundary_io(&self) -> &[BoundaryPublic] {
-        self.cells.as_slice()
-    }
-}
-
-impl<AB: AirBuilder> Air<AB> for Tables<AB::F> {
-    fn eval(&self, _builder: &mut AB) -> Result<(), AirError> {
-        Ok(())
-    }
-}
-
-/// The AIR of so many columns and public values, with nothing beside them.
-pub fn no_tables(alloc: Global, width: usize, num_public_values: usize) -> Tables<BabyBear> {
-    Tables {
-        width,
-        num_public_values,
-        table: None,
-        periodic: Vec::new(alloc),
-        cells: Vec::new(alloc),
-    }
-}
-
-/// The report on a trace.
-fn report_of<'a>(
-    alloc: Global,
-    air: &'a Tables<BabyBear>,
-    main: &'a RowMajorMatrix<BabyBear>,
-    public: &'a [BabyBear],
-    cap: Option<usize>,
-) -> Result<ConstraintReport, AirError> {
-    check_all_constraints(alloc, air, main, public, cap)
-}
-
-/// The first fault of a trace.
-fn first_fault<'a>(
-    alloc: Global,
-    air: &'a Tables<BabyBear>,
-    main: &'a RowMajorMatrix<BabyBear>,
-    public: &'a [BabyBear],
-) -> Result<(), CheckError> {
-    check_constraints(alloc, air, main, public)
-}
-
-/// Zeros, so many rows of two.
-fn zeros(alloc: Global, rows: usize) -> Result<RowMajorMatrix<BabyBear>, Fail> {
-    let mut values = Vec::new(alloc);
-    for _ in 0..rows {
-        values.push(BabyBear::new(0))?;
-        values.push(BabyBear::new(0))?;
-    }
-    Ok(RowMajorMatrix::new(values, 2)?)
-}
 
 /// Periodic columns of these lengths, a preprocessed table of so many rows, if any, and these cells.
 fn make_tables(
@@ -110,34 +16,17 @@ fn make_tables(
     table: Option<usize>,
     lengths: &[usize],
     cells: &[(usize, BoundaryEnd, usize)],
-) -> Result<Tables<BabyBear>, Fail> {
-    let mut listed = Vec::new(alloc);
+) -> Result<PlainAir, Fail> {
+    let mut air = plain_air(alloc, Constraints::Nothing, 2, 2);
     for (column, end, public_value) in cells {
-        listed.push(BoundaryPublic::new(*column, *end, *public_value))?;
+        air.cells
+            .push(BoundaryPublic::new(*column, *end, *public_value))?;
     }
-    let table = match table {
-        None => None,
-        Some(rows) => Some(zeros(alloc, rows)?),
-    };
-    Ok(Tables {
-        width: 2,
-        num_public_values: 2,
-        table,
-        periodic: columns(alloc, lengths)?,
-        cells: listed,
-    })
-}
-
-/// The report has these rows and places, each with the label of its cell.
-fn assert_cells(rt: &impl Abort, report: &ConstraintReport, wanted: &[(usize, usize, &str)]) {
-    assert_eq!(rt; report.failures.len(), wanted.len());
-    for (failure, (row, constraint, label)) in report.failures.iter().zip(wanted) {
-        assert_eq!(rt; (failure.row, failure.constraint), (*row, *constraint));
-        match &failure.label {
-            None => assert!(rt; false),
-            Some(text) => assert_eq!(rt; text.as_str(), *label),
-        }
+    if let Some(rows) = table {
+        air.table = Some(zeros(alloc, rows, 2)?);
     }
+    air.periodic = columns(alloc, lengths)?;
+    Ok(air)
 }
 
 const FIRST: &str = "boundary-IO cell in column 0 does not hold public value 0";
@@ -151,14 +40,6 @@ fn assert_report_refused(
     refused: AirError,
 ) {
     assert_eq!(rt; report.err(), Some(refused));
-}
-
-/// The check up to the first fault answered this error.
-fn assert_fault_refused(rt: &impl Abort, fault: Result<(), CheckError>, refused: AirError) {
-    match fault {
-        Err(CheckError::Refused(e)) => assert_eq!(rt; e, refused),
-        _ => assert!(rt; false),
-    }
 }
 
 /// The first fault is the cell of this index, at this row.
@@ -179,7 +60,7 @@ fn assert_shape_refused(
     refused: AirError,
 ) -> Result<(), Fail> {
     let air = make_tables(alloc, table, lengths, &[(5, BoundaryEnd::First, 0)])?;
-    let main = zeros(alloc, rows)?;
+    let main = zeros(alloc, rows, 2)?;
     assert_report_refused(rt, report_of(alloc, &air, &main, &[], None), refused);
     assert_fault_refused(rt, first_fault(alloc, &air, &main, &[]), refused);
     Ok(())
@@ -187,29 +68,12 @@ fn assert_shape_refused(
 
 #[test]
 fn shapes_are_refused_in_order(rt: HostRuntime) -> Result<(), Fail> {
-    let three = AirError::PeriodNotPowerOfTwo {
-        index: 0,
-        length: 3,
-    };
-    let none = AirError::PeriodNotPowerOfTwo {
-        index: 0,
-        length: 0,
-    };
-    let eight = AirError::PeriodDoesNotDivide {
-        index: 1,
-        length: 8,
-        height: 12,
-    };
-    let table = AirError::PreprocessedHeight {
-        preprocessed: 3,
-        main: 4,
-    };
     let cases: [(Option<usize>, &[usize], usize, AirError); 5] = [
-        (None, &[3], 6, three),
-        (None, &[3, 0], 6, three),
-        (None, &[0], 6, none),
-        (None, &[2, 8], 12, eight),
-        (Some(3), &[3], 4, table),
+        (None, &[3], 6, odd_period(3)),
+        (None, &[3, 0], 6, odd_period(3)),
+        (None, &[0], 6, odd_period(0)),
+        (None, &[2, 8], 12, long_period(1)),
+        (Some(3), &[3], 4, SHORT_TABLE),
     ];
     for (table, lengths, rows, refused) in cases {
         assert_shape_refused(&rt, rt.alloc(), table, lengths, rows, refused)?;
@@ -226,9 +90,9 @@ fn assert_shape_fits(
     rows: usize,
 ) -> Result<(), Fail> {
     let air = make_tables(alloc, table, lengths, &[])?;
-    let main = zeros(alloc, rows)?;
+    let main = zeros(alloc, rows, 2)?;
     let report = report_of(alloc, &air, &main, &[], None)?;
-    assert_cells(rt, &report, &[]);
+    assert_places(rt, &report.failures, &[]);
     assert_eq!(rt; report.total_rows, rows);
     assert_eq!(rt; report.total_constraints_per_row, 0);
     assert!(rt; first_fault(alloc, &air, &main, &[]).is_ok());
@@ -252,23 +116,29 @@ fn cells_that_differ_are_listed(rt: HostRuntime) -> Result<(), Fail> {
         &[(0, BoundaryEnd::First, 0), (1, BoundaryEnd::Last, 1)],
     )?;
     let main = matrix(alloc, &[0, 1, 1, 1, 1, 2, 2, 3], 2)?;
-    let first = [BabyBear::new(7), BabyBear::new(3)];
-    let both = [BabyBear::new(7), BabyBear::new(4)];
-    let cases: [(&[BabyBear], Option<usize>, &[(usize, usize, &str)]); 4] = [
-        (&first, None, &[(0, 0, FIRST)]),
-        (&both, None, &[(0, 0, FIRST), (3, 1, LAST)]),
-        (&both, Some(1), &[(0, 0, FIRST)]),
-        (&both, Some(0), &[]),
+    let first = [number(7), number(3)];
+    let both = [number(7), number(4)];
+    let cases: [(
+        &[BabyBear],
+        Option<usize>,
+        &[(usize, usize)],
+        &[Option<&str>],
+    ); 4] = [
+        (&first, None, &[(0, 0)], &[Some(FIRST)]),
+        (&both, None, &[(0, 0), (3, 1)], &[Some(FIRST), Some(LAST)]),
+        (&both, Some(1), &[(0, 0)], &[Some(FIRST)]),
+        (&both, Some(0), &[], &[]),
     ];
-    for (public, cap, wanted) in cases {
+    for (public, cap, places, labels) in cases {
         let report = report_of(alloc, &air, &main, public, cap)?;
-        assert_cells(&rt, &report, wanted);
+        assert_places(&rt, &report.failures, places);
+        assert_labels(&rt, &report.failures, labels);
     }
     assert_mismatch(&rt, first_fault(alloc, &air, &main, &first), (0, 0));
     assert_mismatch(&rt, first_fault(alloc, &air, &main, &both), (0, 0));
-    let last = [BabyBear::new(0), BabyBear::new(4)];
+    let last = [number(0), number(4)];
     assert_mismatch(&rt, first_fault(alloc, &air, &main, &last), (3, 1));
-    let none = [BabyBear::new(0), BabyBear::new(3)];
+    let none = [number(0), number(3)];
     assert!(rt; first_fault(alloc, &air, &main, &none).is_ok());
     Ok(())
 }
@@ -276,9 +146,9 @@ fn cells_that_differ_are_listed(rt: HostRuntime) -> Result<(), Fail> {
 #[test]
 fn cells_that_do_not_fit_are_refused(rt: HostRuntime) -> Result<(), Fail> {
     let alloc = rt.alloc();
-    let one = [BabyBear::new(0)];
-    let empty = zeros(alloc, 0)?;
-    let main = zeros(alloc, 2)?;
+    let one = [number(0)];
+    let empty = zeros(alloc, 0, 2)?;
+    let main = zeros(alloc, 2, 2)?;
     let in_range = make_tables(alloc, None, &[], &[(0, BoundaryEnd::First, 0)])?;
     let report = report_of(alloc, &in_range, &empty, &one, None);
     assert_report_refused(&rt, report, AirError::EmptyTrace);

@@ -1,53 +1,17 @@
 //! An AIR whose `eval` is written against the calls of the builder, under a condition that is a difference.
-ghost use Rattle.std.specs.Prelude.{OnOk, OnErr, IfOk, IfErr, []};
+ghost use Rattle.std.specs.Prelude.{◌≡◌, ◌⊎◌, OnOk, OnErr, IfOk, IfErr, []};
 ghost use Rattle.air_field.specs.Term.{main, leaf_term};
 ghost use Rattle.air_builder.specs.Batches.{GrewByFirst};
-ghost use Rattle.air_builder.specs.Beside.{nothing_beside};
 ghost use Rattle.air_builder.specs.Builders.{Means};
 ghost use Rattle.air_builder.specs.Refusals.{NoneMissing};
 ghost use Rattle.air_vectors.specs.Differing.{differing, RowMeans, RefusesPart};
 
-use crate::tests::{Listed, assert_listed, matrix, recorded_list};
-use air_builder::{Air, AirBuilder, AirError, BaseAir, BoundaryPublic};
-use air_field::{Algebra, BabyBear, Field, FromVar, RowMajorMatrix};
-use air_symbolic::BaseEntry;
-use p3_air::{AirLayout, ConstraintReport, check_all_constraints};
-use std::alloc::Global;
-use std::process::Abort;
+use crate::tests::airs::{Constraints, plain_air};
+use crate::tests::fixtures::{
+    assert_listed, assert_places, main_layout, matrix, missing_column, recorded_list, report_of,
+};
+use p3_air::{AirBuilder, AirError, Algebra, BaseEntry, FromVar};
 use std::test::Fail;
-
-/// Columns x, y and z: where y and z differ, x is a bit, and it is y.
-pub struct Differing {}
-
-impl<F: Field> BaseAir<F> for Differing {
-    ghost declared = { λ _. differing F.ONE };
-
-    ghost width = { λ _. 3 };
-
-    ghost num_public_values = { λ _. 0 };
-
-    ghost beside = { λ _. nothing_beside };
-
-    fn width(&self) -> usize {
-        3
-    }
-
-    fn num_public_values(&self) -> usize {
-        0
-    }
-
-    fn preprocessed_trace(&self) -> Option<&RowMajorMatrix<F>> {
-        None
-    }
-
-    fn periodic_columns(&self) -> &[Vec<F>] {
-        &[]
-    }
-
-    fn public_boundary_io(&self) -> &[BoundaryPublic] {
-        &[]
-    }
-}
 
 /// The cells of a row.
 #[derive(Clone, Copy)]
@@ -107,34 +71,18 @@ fn assert_row<AB: AirBuilder>(builder: &mut AB, row: Row<AB::Expr>) -> Result<()
     Ok(())
 }
 
-impl<AB: AirBuilder> Air<AB> for Differing {
-    fn eval(&self, builder: &mut AB) -> Result<(), AirError> {
-        let row = read_row(builder)?;
-        assert_row(builder, row)
-    }
-}
-
-/// The report on a trace of three columns.
-fn report_of(alloc: Global, main: &RowMajorMatrix<BabyBear>) -> Result<ConstraintReport, AirError> {
-    check_all_constraints(alloc, &Differing {}, main, &[], None)
-}
-
-/// What is recorded by a layout of so many columns.
-fn record_differing(alloc: Global, main_width: usize) -> Result<Listed, AirError> {
-    let layout = AirLayout {
-        main_width,
-        ..AirLayout::default()
-    };
-    recorded_list(alloc, &Differing {}, layout)
-}
-
-/// The report has these rows and places, of two constraints a row.
-fn assert_report(rt: &impl Abort, report: &ConstraintReport, wanted: &[(usize, usize)]) {
-    assert_eq!(rt; report.total_constraints_per_row, 2);
-    assert_eq!(rt; report.failures.len(), wanted.len());
-    for (failure, place) in report.failures.iter().zip(wanted) {
-        assert_eq!(rt; (failure.row, failure.constraint), *place);
-    }
+/// Columns x, y and z: where y and z differ, x is a bit, and it is y.
+pub fn assert_differing<AB: AirBuilder>(builder: &mut AB) -> Result<(), AirError>
+    requires { AB.ready builder.old }
+    ensures ok { OnOk result (AB.grew builder.old builder.new (differing AB.F.ONE)) }
+    ensures there { OnOk result (NoneMissing (AB.missing builder.old) (differing AB.F.ONE)) }
+    ensures keeps { AB.kept builder.old builder.new }
+    ensures err { OnErr result (GrewByFirst AB.grew builder.old builder.new (differing AB.F.ONE)) }
+    ensures refused { IfErr result (λ e. (e ≡ AirError.Memory) ⊎ AB.refuses builder.old e
+        (differing AB.F.ONE)) }
+{
+    let row = read_row(builder)?;
+    assert_row(builder, row)
 }
 
 // In the first two rows y and z are the same. In the third x is a bit, and it is y; in the fourth it is y and no bit; in
@@ -147,20 +95,21 @@ fn a_difference_is_a_condition(rt: HostRuntime) -> Result<(), Fail> {
         &[2, 3, 3, 1, 0, 0, 1, 1, 0, 2, 2, 0, 1, 2, 0, 5, 2, 0],
         3,
     )?;
-    let report = report_of(alloc, &main)?;
-    assert_report(&rt, &report, &[(3, 0), (4, 1), (5, 0), (5, 1)]);
+    let air = plain_air(alloc, Constraints::Differing, 3, 0);
+    let report = report_of(alloc, &air, &main, &[], None)?;
+    assert_eq!(rt; report.total_constraints_per_row, 2);
+    assert_places(&rt, &report.failures, &[(3, 0), (4, 1), (5, 0), (5, 1)]);
     let trees = [
         "((main0[1] - main0[2]) * (main0[0] * (main0[0] - 1)))",
         "((main0[1] - main0[2]) * (main0[0] - main0[1]))",
     ];
-    assert_listed(&rt, &record_differing(alloc, 3)?, &trees, &[3, 2]);
+    let listed = recorded_list(alloc, &air, main_layout(3))?;
+    assert_listed(&rt, &listed, &trees, &[3, 2]);
     let narrow = matrix(alloc, &[0, 0], 2)?;
-    let missing = AirError::MissingEntry {
-        entry: BaseEntry::Main { offset: 0 },
-        index: 2,
-    };
-    assert_eq!(rt; report_of(alloc, &narrow).err(), Some(missing));
+    let refused = report_of(alloc, &air, &narrow, &[], None);
+    assert_eq!(rt; refused.err(), Some(missing_column(2)));
     let width = AirError::LayoutMainWidth { layout: 2, air: 3 };
-    assert_eq!(rt; record_differing(alloc, 2).err(), Some(width));
+    let refused = recorded_list(alloc, &air, main_layout(2));
+    assert_eq!(rt; refused.err(), Some(width));
     Ok(())
 }

@@ -3,12 +3,13 @@ ghost use Rattle.std.specs.Prelude.{◌<◌, length, IfOk};
 ghost use Rattle.air_symbolic.specs.BaseLeaves.{base_reads};
 ghost use Rattle.air_symbolic.specs.Pools.{IsPool};
 
-use crate::tests::{column, matrix};
+use crate::tests::fixtures::{
+    assert_places, matrix, missing_column, number, odd_period, row_builder, value_columns,
+};
 use p3_air::boundary::{BoundaryEnd, BoundaryPublic};
 use p3_air::{
-    AirError, Audit, BabyBear, BaseEntry, BaseLeaf, DebugConstraintBuilder, ExprId, ExprPool,
-    Field, FlatAir, RowMajorMatrix, RowMajorMatrixView, SymbolicVariable, ViewPair, audit_air,
-    resolve,
+    AirError, Audit, BabyBear, BaseEntry, BaseLeaf, ExprId, ExprPool, FlatAir, RowMajorMatrix,
+    SymbolicVariable, audit_air, resolve,
 };
 use std::alloc::Global;
 use std::process::Abort;
@@ -46,8 +47,7 @@ fn make_periodic(
     values: &[u32],
     num_public_values: usize,
 ) -> Result<FlatAir<BabyBear>, Fail> {
-    let mut periodic = Vec::new(alloc);
-    periodic.push(column(alloc, values)?)?;
+    let periodic = value_columns(alloc, &[values])?;
     let mut cells = Vec::new(alloc);
     if num_public_values > 0 {
         cells.push(BoundaryPublic::new(0, BoundaryEnd::Last, 0))?;
@@ -85,10 +85,7 @@ fn column_refusal(
 fn assert_audit(rt: &impl Abort, audit: &Audit<BabyBear>, wanted: &[(usize, usize)]) {
     assert_eq!(rt; audit.degree, 1);
     assert_eq!(rt; audit.report.total_constraints_per_row, 1);
-    assert_eq!(rt; audit.report.failures.len(), wanted.len());
-    for (failure, place) in audit.report.failures.iter().zip(wanted) {
-        assert_eq!(rt; (failure.row, failure.constraint), *place);
-    }
+    assert_places(rt, &audit.report.failures, wanted);
 }
 
 #[test]
@@ -119,7 +116,7 @@ fn assert_periodic_audit(
 #[test]
 fn audits_a_periodic_column_and_a_cell_from_outside(rt: HostRuntime) -> Result<(), Fail> {
     assert_periodic_audit(&rt, rt.alloc(), &[], &[])?;
-    assert_periodic_audit(&rt, rt.alloc(), &[BabyBear::new(5)], &[(3, 1)])
+    assert_periodic_audit(&rt, rt.alloc(), &[number(5)], &[(3, 1)])
 }
 
 #[test]
@@ -127,12 +124,8 @@ fn an_audit_from_outside_refuses_what_is_not_there(rt: HostRuntime) -> Result<()
     let narrow = matrix(rt.alloc(), &[0], 1)?;
     let far = column_refusal(rt.alloc(), 2, 0, &narrow)?;
     assert_eq!(rt; far, Some(AirError::RowOffset { offset: 2 }));
-    let missing = AirError::MissingEntry {
-        entry: BaseEntry::Main { offset: 0 },
-        index: 1,
-    };
     let wide = column_refusal(rt.alloc(), 0, 1, &narrow)?;
-    assert_eq!(rt; wide, Some(missing));
+    assert_eq!(rt; wide, Some(missing_column(1)));
     Ok(())
 }
 
@@ -141,34 +134,8 @@ fn an_audit_from_outside_refuses_a_period(rt: HostRuntime) -> Result<(), Fail> {
     let air = make_periodic(rt.alloc(), &[0, 1, 0], 0)?;
     let main = matrix(rt.alloc(), &[0, 1, 0, 1], 1)?;
     let audit = flat_audit(rt.alloc(), &air, &main, &[]);
-    let odd = AirError::PeriodNotPowerOfTwo {
-        index: 0,
-        length: 3,
-    };
-    assert_eq!(rt; audit.err(), Some(odd));
+    assert_eq!(rt; audit.err(), Some(odd_period(3)));
     Ok(())
-}
-
-/// A builder at the first of two rows that hold these numbers.
-fn row_of<'a>(
-    alloc: Global,
-    current: &'a [BabyBear; 1],
-    next: &'a [BabyBear; 1],
-) -> DebugConstraintBuilder<'a, BabyBear, BabyBear> {
-    let none = RowMajorMatrixView::new_row(&[]);
-    let current = RowMajorMatrixView::new_row(current);
-    let next = RowMajorMatrixView::new_row(next);
-    DebugConstraintBuilder::new(
-        alloc,
-        0,
-        ViewPair::new(current, next),
-        ViewPair::new(none, none),
-        &[],
-        BabyBear::ONE,
-        BabyBear::ZERO,
-        BabyBear::ONE,
-        Vec::new(alloc),
-    )
 }
 
 #[test]
@@ -178,9 +145,9 @@ fn an_expression_from_outside_has_its_value_on_a_row(rt: HostRuntime) -> Result<
     let current = pool.leaf(variable(BaseEntry::Main { offset: 0 }, 0))?;
     let next = pool.leaf(variable(BaseEntry::Main { offset: 1 }, 0))?;
     let product = pool.mul(current, next)?;
-    let (three, five) = ([BabyBear::new(3)], [BabyBear::new(5)]);
-    let mut builder = row_of(alloc, &three, &five);
+    let (three, five) = ([number(3)], [number(5)]);
+    let mut builder = row_builder(alloc, 0, &three, &five, [1, 0, 1]);
     let value = resolve(alloc, &pool, product, &mut builder)?;
-    assert_eq!(rt; value, BabyBear::new(15));
+    assert_eq!(rt; value, number(15));
     Ok(())
 }

@@ -1,73 +1,18 @@
 //! Folds of an AIR's values at one row, beside its recording, and how few elements hide a value.
 ghost use Rattle.std.specs.Prelude.{◌≡◌, length};
 ghost use Rattle.air_folder.specs.Hiding.{IsIncreasing};
-ghost use Rattle.air_builder.specs.Beside.{nothing_beside};
-ghost use Rattle.air_vectors.specs.TestAirs.{fibonacci};
 
-use crate::tests::checks::no_tables;
-use crate::tests::extension::{Permuted, extension};
+use crate::tests::airs::{Constraints, ExtConstraints, PlainAir, ext_air, plain_air};
+use crate::tests::extension::{extension, permuted_layout};
 use crate::tests::filters::{assert_constant_ext_under, assert_zero_under};
 use air_folder::{ConstraintFolder, Folded, fold_air, hiding_alphas};
-use p3_air::author::{
-    Current, Equal, FirstRow, LastRow, Next, Public, Sum, Transition, When, assert_all,
-};
 use p3_air::{
-    Air, AirBuilder, AirError, AirLayout, BabyBear, BaseAir, BinomialExtensionField,
-    BoundaryPublic, ExtensionField, Lazy, NamedAirBuilder, NamedExtensionBuilder, RowMajorMatrix,
-    RowMajorMatrixView, SymbolicAirBuilder, ViewPair,
+    Air, AirError, AirLayout, BabyBear, BinomialExtensionField, ExtensionField, Lazy,
+    NamedAirBuilder, NamedExtensionBuilder, RowMajorMatrixView, ViewPair,
 };
 use std::alloc::Global;
 use std::cell::Cell;
 use std::test::Fail;
-
-/// The first row holds public values 0 and 1, each further row the second number of the one before it and the sum of
-/// both, and the last row's second number is public value 2.
-pub struct Fibonacci {}
-
-impl<F: Copy> BaseAir<F> for Fibonacci {
-    ghost declared = { λ _. fibonacci };
-
-    ghost width = { λ _. 2 };
-
-    ghost num_public_values = { λ _. 3 };
-
-    ghost beside = { λ _. nothing_beside };
-
-    fn width(&self) -> usize {
-        2
-    }
-
-    fn num_public_values(&self) -> usize {
-        3
-    }
-
-    fn preprocessed_trace(&self) -> Option<&RowMajorMatrix<F>> {
-        None
-    }
-
-    fn periodic_columns(&self) -> &[Vec<F>] {
-        &[]
-    }
-
-    fn public_boundary_io(&self) -> &[BoundaryPublic] {
-        &[]
-    }
-}
-
-impl<AB: AirBuilder> Air<AB> for Fibonacci {
-    fn eval(&self, builder: &mut AB) -> Result<(), AirError> {
-        let first = (Equal(Current(0), Public(0)), Equal(Current(1), Public(1)));
-        let sum = Sum(Current(0), Current(1));
-        let step = (Equal(Next(0), Current(1)), Equal(Next(1), sum));
-        let last = Equal(Current(1), Public(2));
-        let constraints = (
-            When(FirstRow, first),
-            When(Transition, step),
-            When(LastRow, last),
-        );
-        assert_all(builder, &constraints)
-    }
-}
 
 type Element = BinomialExtensionField;
 
@@ -78,39 +23,11 @@ fn element(n: u32) -> Element {
     extension(n, 0, 0, 0)
 }
 
-/// A folder between the first row and the last, without permutation data.
-fn folder_at<'a>(
-    row: &'a [Element],
-    next: &'a [Element],
+/// A folder between the first row and the last.
+fn folder_of<'a>(
+    main: ViewPair<'a, Element>,
+    permutation: Option<ViewPair<'a, Element>>,
     public: &'a [Element],
-    alpha: Element,
-) -> Folder<'a>
-    requires { length row.now ≡ length next.now }
-    ensures { result.accumulator
-        ≡ ⟦<BinomialExtensionField as ExtensionField<BabyBear>>⟧.over.ring.nil }
-{
-    let none = RowMajorMatrixView::new_row(&[]);
-    ConstraintFolder::new(
-        ViewPair::new(
-            RowMajorMatrixView::new_row(row),
-            RowMajorMatrixView::new_row(next),
-        ),
-        ViewPair::new(none, none),
-        None,
-        public,
-        &[],
-        &[],
-        &[],
-        element(0),
-        element(0),
-        element(1),
-        alpha,
-    )
-}
-
-/// The same without columns, with permutation data: both rows of the permutation trace are this one.
-fn permuted_folder<'a>(
-    permutation: &'a [Element],
     challenges: &'a [Element],
     values: &'a [Element],
     alpha: Element,
@@ -119,12 +36,11 @@ fn permuted_folder<'a>(
         ≡ ⟦<BinomialExtensionField as ExtensionField<BabyBear>>⟧.over.ring.nil }
 {
     let none = RowMajorMatrixView::new_row(&[]);
-    let row = RowMajorMatrixView::new_row(permutation);
     ConstraintFolder::new(
+        main,
         ViewPair::new(none, none),
-        ViewPair::new(none, none),
-        Some(ViewPair::new(row, row)),
-        &[],
+        permutation,
+        public,
         &[],
         challenges,
         values,
@@ -135,32 +51,25 @@ fn permuted_folder<'a>(
     )
 }
 
-/// What is folded of an AIR.
-fn fold<'a, A: BaseAir<BabyBear> + Air<SymbolicAirBuilder<BabyBear, Element>> + Air<Folder<'a>>>(
-    alloc: Global,
-    air: &A,
-    layout: AirLayout,
-    folder: &mut Folder<'a>,
-) -> Result<Folded<BabyBear, Element>, AirError>
-    requires { folder.old.accumulator
+/// The same without permutation data.
+fn folder_at<'a>(
+    row: &'a [Element],
+    next: &'a [Element],
+    public: &'a [Element],
+    alpha: Element,
+) -> Folder<'a>
+    requires { length row.now ≡ length next.now }
+    ensures { result.accumulator
         ≡ ⟦<BinomialExtensionField as ExtensionField<BabyBear>>⟧.over.ring.nil }
 {
-    fold_air(alloc, air, layout, folder)
+    let row = RowMajorMatrixView::new_row(row);
+    let next = RowMajorMatrixView::new_row(next);
+    folder_of(ViewPair::new(row, next), None, public, &[], &[], alpha)
 }
 
-/// The layout of `Permuted`.
-fn permuted_layout() -> AirLayout {
-    AirLayout {
-        permutation_width: 1,
-        num_permutation_challenges: 1,
-        num_permutation_values: 1,
-        ..AirLayout::default()
-    }
-}
-
-/// Folds the values of Fibonacci. Nothing here is handed an allocator, so this takes no memory.
-fn fold_row<'a>(folder: &mut Folder<'a>) -> Result<(), AirError> {
-    Fibonacci {}.eval(folder)
+/// Folds the values of an AIR. Nothing here is handed an allocator, so this takes no memory.
+fn fold_row<'a>(air: &PlainAir, folder: &mut Folder<'a>) -> Result<(), AirError> {
+    air.eval(folder)
 }
 
 // Rows 2 and 3 of (0, 1), (1, 1), (1, 5), (2, 3): the values are 0, 0, -3, -3 and 0.
@@ -173,26 +82,26 @@ fn folds_the_values_at_a_row(rt: HostRuntime) -> Result<(), Fail> {
     let wanted = extension(0, 2013265918, 2013265918, 0);
     for (alpha, wanted) in [(element(5), element(2013265831)), (alpha, wanted)] {
         let mut folder = folder_at(&row, &next, &public, alpha);
-        fold_row(&mut folder)?;
+        fold_row(
+            &plain_air(rt.alloc(), Constraints::Fibonacci, 2, 3),
+            &mut folder,
+        )?;
         assert_eq!(rt; folder.accumulator(), wanted);
     }
     Ok(())
 }
 
-/// What is folded of Fibonacci.
-fn fold_fibonacci<'a>(
+/// What is folded of an AIR.
+fn fold<'a>(
     alloc: Global,
+    air: &PlainAir,
+    layout: AirLayout,
     folder: &mut Folder<'a>,
 ) -> Result<Folded<BabyBear, Element>, AirError>
     requires { folder.old.accumulator
         ≡ ⟦<BinomialExtensionField as ExtensionField<BabyBear>>⟧.over.ring.nil }
 {
-    let layout = AirLayout {
-        main_width: 2,
-        num_public_values: 3,
-        ..AirLayout::default()
-    };
-    fold(alloc, &Fibonacci {}, layout, folder)
+    fold_air(alloc, air, layout, folder)
 }
 
 // The same rows.
@@ -202,7 +111,13 @@ fn folds_beside_a_recording(rt: HostRuntime) -> Result<(), Fail> {
     let next = [element(2), element(3)];
     let public = [element(0), element(1), element(3)];
     let mut folder = folder_at(&row, &next, &public, extension(0, 1, 0, 0));
-    let folded = fold_fibonacci(rt.alloc(), &mut folder)?;
+    let air = plain_air(rt.alloc(), Constraints::Fibonacci, 2, 3);
+    let layout = AirLayout {
+        main_width: 2,
+        num_public_values: 3,
+        ..AirLayout::default()
+    };
+    let folded = fold(rt.alloc(), &air, layout, &mut folder)?;
     assert_eq!(rt; folded.accumulator, extension(0, 2013265918, 2013265918, 0));
     assert_eq!(rt; folded.recorded.base.len(), 5);
     assert!(rt; folded.recorded.ext.is_empty());
@@ -212,7 +127,7 @@ fn folds_beside_a_recording(rt: HostRuntime) -> Result<(), Fail> {
 #[test]
 fn folds_no_constraints_to_zero(rt: HostRuntime) -> Result<(), Fail> {
     let mut folder = folder_at(&[], &[], &[], element(5));
-    let air = no_tables(rt.alloc(), 0, 0);
+    let air = plain_air(rt.alloc(), Constraints::Nothing, 0, 0);
     let folded = fold(rt.alloc(), &air, AirLayout::default(), &mut folder)?;
     assert_eq!(rt; folded.accumulator, element(0));
     assert_eq!(rt; folded.layout.total_constraints(), 0);
@@ -225,8 +140,12 @@ fn folds_over_the_extension(rt: HostRuntime) -> Result<(), Fail> {
     let challenges = [extension(0, 0, 0, 1)];
     let values = [element(12)];
     let alpha = extension(0, 1, 0, 0);
-    let mut folder = permuted_folder(&row, &challenges, &values, alpha);
-    let folded = fold(rt.alloc(), &Permuted {}, permuted_layout(), &mut folder)?;
+    let none = RowMajorMatrixView::new_row(&[]);
+    let row = RowMajorMatrixView::new_row(&row);
+    let (main, permutation) = (ViewPair::new(none, none), ViewPair::new(row, row));
+    let mut folder = folder_of(main, Some(permutation), &[], &challenges, &values, alpha);
+    let air = ext_air(rt.alloc(), ExtConstraints::Permuted, 0);
+    let folded = fold_air(rt.alloc(), &air, permuted_layout(0), &mut folder)?;
     assert_eq!(rt; folded.accumulator, element(2013265920));
     assert_eq!(rt; folded.layout.ext_indices.as_slice(), [0].as_slice());
     Ok(())

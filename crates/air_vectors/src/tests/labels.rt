@@ -3,12 +3,10 @@ use crate::tests::filters::{
     assert_zero_named_under, assert_zero_named_under_both, assert_zero_under,
     assert_zero_under_both,
 };
-use crate::tests::recording_builder;
-use air_field::{BabyBear, Field, RowMajorMatrixView, ViewPair};
+use crate::tests::fixtures::{RowBuilder, number, recording_builder, row_builder};
 use p3_air::{
     AirBuilder, AirBuilderWithContext, AirError, AirLayout, AssertAllNamed, ConstraintFailure,
-    ConstraintReport, DebugConstraintBuilder, Lazy, Name, NamedAirBuilder, NamespaceExt,
-    PassthroughNamedAirBuilder,
+    ConstraintReport, Lazy, Name, NamedAirBuilder, NamespaceExt, PassthroughNamedAirBuilder,
 };
 use std::alloc::Global;
 use std::cell::Cell;
@@ -18,45 +16,23 @@ use std::string::ToString;
 use std::test::Fail;
 
 /// A builder at row 7 of a trace without columns.
-fn row<'a>(alloc: Global) -> DebugConstraintBuilder<'a, BabyBear, BabyBear> {
-    let none = RowMajorMatrixView::new_row(&[]);
-    DebugConstraintBuilder::new(
-        alloc,
-        7,
-        ViewPair::new(none, none),
-        ViewPair::new(none, none),
-        &[],
-        BabyBear::ZERO,
-        BabyBear::ZERO,
-        BabyBear::ONE,
-        Vec::new(alloc),
-    )
-}
-
-fn number(n: u32) -> BabyBear {
-    BabyBear::new(n)
+fn row<'a>(alloc: Global) -> RowBuilder<'a> {
+    row_builder(alloc, 7, &[], &[], [0, 0, 1])
 }
 
 /// Asserts without a name that a number is zero.
-fn zero(
-    builder: &mut DebugConstraintBuilder<'_, BabyBear, BabyBear>,
-    x: u32,
-) -> Result<(), AirError> {
+fn zero(builder: &mut RowBuilder<'_>, x: u32) -> Result<(), AirError> {
     builder.assert_zero(number(x))
 }
 
 /// Asserts under a name that a number is zero.
-fn zero_named(
-    builder: &mut DebugConstraintBuilder<'_, BabyBear, BabyBear>,
-    x: u32,
-    name: &'static str,
-) -> Result<(), AirError> {
+fn zero_named(builder: &mut RowBuilder<'_>, x: u32, name: &'static str) -> Result<(), AirError> {
     builder.assert_zero_named(number(x), name)
 }
 
 /// Asserts that a number is zero, under a name that sets a counter when it is asked for.
 fn zero_asking(
-    builder: &mut DebugConstraintBuilder<'_, BabyBear, BabyBear>,
+    builder: &mut RowBuilder<'_>,
     x: u32,
     asked: &Cell<u32>,
     count: u32,
@@ -71,11 +47,7 @@ fn zero_asking(
     )
 }
 
-fn assert_formatted(
-    rt: &impl Abort,
-    builder: &DebugConstraintBuilder<'_, BabyBear, BabyBear>,
-    wanted: &str,
-) -> Result<(), Fail> {
+fn assert_formatted(rt: &impl Abort, builder: &RowBuilder<'_>, wanted: &str) -> Result<(), Fail> {
     assert_eq!(rt; builder.formatted_failures()?.as_str(), wanted);
     Ok(())
 }
@@ -90,7 +62,7 @@ enum Labelled {
 }
 
 fn equal_named(
-    builder: &mut DebugConstraintBuilder<'_, BabyBear, BabyBear>,
+    builder: &mut RowBuilder<'_>,
     x: u32,
     y: u32,
     name: &'static str,
@@ -98,25 +70,17 @@ fn equal_named(
     builder.assert_eq_named(number(x), number(y), name)
 }
 
-fn one_named(
-    builder: &mut DebugConstraintBuilder<'_, BabyBear, BabyBear>,
-    x: u32,
-    name: &'static str,
-) -> Result<(), AirError> {
+fn one_named(builder: &mut RowBuilder<'_>, x: u32, name: &'static str) -> Result<(), AirError> {
     builder.assert_one_named(number(x), name)
 }
 
-fn bool_named(
-    builder: &mut DebugConstraintBuilder<'_, BabyBear, BabyBear>,
-    x: u32,
-    name: &'static str,
-) -> Result<(), AirError> {
+fn bool_named(builder: &mut RowBuilder<'_>, x: u32, name: &'static str) -> Result<(), AirError> {
     builder.assert_bool_named(number(x), name)
 }
 
 /// Makes the assertion.
 fn assert_labelled(
-    builder: &mut DebugConstraintBuilder<'_, BabyBear, BabyBear>,
+    builder: &mut RowBuilder<'_>,
     assertion: Labelled,
     name: &'static str,
 ) -> Result<(), AirError> {
@@ -150,7 +114,7 @@ fn labels_stand_behind_places(rt: HostRuntime) -> Result<(), Fail> {
 }
 
 fn zeros_named(
-    builder: &mut DebugConstraintBuilder<'_, BabyBear, BabyBear>,
+    builder: &mut RowBuilder<'_>,
     all: [u32; 2],
     name: &'static str,
 ) -> Result<(), AirError> {
@@ -159,7 +123,7 @@ fn zeros_named(
 
 /// Asserts that each number is zero or one, under a name of two parts.
 fn bools_named(
-    builder: &mut DebugConstraintBuilder<'_, BabyBear, BabyBear>,
+    builder: &mut RowBuilder<'_>,
     all: [u32; 2],
     outer: &'static str,
     inner: &'static str,
@@ -178,7 +142,7 @@ fn elements_are_labelled_by_place(rt: HostRuntime) -> Result<(), Fail> {
 
 /// Asserts that a number is zero, under a name of two parts.
 fn zero_in_space(
-    builder: &mut DebugConstraintBuilder<'_, BabyBear, BabyBear>,
+    builder: &mut RowBuilder<'_>,
     x: u32,
     parts: [&'static str; 2],
 ) -> Result<(), AirError> {
@@ -188,7 +152,7 @@ fn zero_in_space(
 
 /// Asserts that a number is zero, under a name of three parts.
 fn zero_in_spaces(
-    builder: &mut DebugConstraintBuilder<'_, BabyBear, BabyBear>,
+    builder: &mut RowBuilder<'_>,
     x: u32,
     parts: [&'static str; 3],
 ) -> Result<(), AirError> {
@@ -246,7 +210,7 @@ fn a_failure_is_written_as_the_list_has_it(rt: HostRuntime) -> Result<(), Fail> 
 
 /// Asserts under one filter or two, and under a name if there is one, that a number is zero.
 fn zero_under(
-    builder: &mut DebugConstraintBuilder<'_, BabyBear, BabyBear>,
+    builder: &mut RowBuilder<'_>,
     outer: u32,
     inner: Option<u32>,
     x: u32,

@@ -1,8 +1,10 @@
 //! Layouts of AIRs and of constraints.
-ghost use Rattle.std.specs.Prelude.{◌≡◌};
+ghost use Rattle.std.specs.Prelude.{◌≡◌, ℕ, []};
+ghost use Rattle.air_builder.specs.Declaration.{plain_declaration};
 ghost use Rattle.air_recording.specs.Layouts.{air_layout};
 
-use crate::tests::checks::{Tables, no_tables};
+use crate::tests::airs::{Constraints, PlainAir, plain_air};
+use crate::tests::fixtures::own_layout;
 use air_builder::AirError;
 use air_field::{BabyBear, BinomialExtensionField, ExtensionField, Field};
 use p3_air::{AirLayout, ConstraintLayout};
@@ -10,7 +12,7 @@ use std::alloc::Global;
 use std::test::Fail;
 
 fn default_layout() -> AirLayout
-    ensures { result ≡ air_layout 0 0 0 0 }
+    ensures { result ≡ air_layout (plain_declaration {ℕ} [] 0 0) }
 {
     AirLayout::default()
 }
@@ -34,16 +36,16 @@ fn the_default_layout_is_zeros(rt: HostRuntime) -> Result<(), Fail> {
 
 /// What a layout is refused for by an AIR of two columns and three public values.
 fn validated(alloc: Global, layout: AirLayout) -> Option<AirError> {
-    let counts = no_tables(alloc, 2, 3);
+    let counts = plain_air(alloc, Constraints::Nothing, 2, 3);
     layout
-        .validate_against_air::<BabyBear, Tables<BabyBear>>(&counts)
+        .validate_against_air::<BabyBear, PlainAir>(&counts)
         .err()
 }
 
 #[test]
 fn names_the_first_count_that_differs(rt: HostRuntime) -> Result<(), Fail> {
-    let counts = no_tables(rt.alloc(), 2, 3);
-    let layout = AirLayout::from_air::<BabyBear, Tables<BabyBear>>(&counts);
+    let counts = plain_air(rt.alloc(), Constraints::Nothing, 2, 3);
+    let layout = own_layout(&counts);
     let preprocessed = AirLayout {
         preprocessed_width: 9,
         ..layout
@@ -86,15 +88,6 @@ fn base_powers(
     alpha: BabyBear,
 ) -> Result<(Vec<Vec<BabyBear>>, Vec<BabyBear>), AirError> {
     layout.decompose_alpha::<BabyBear, BabyBear>(alloc, alpha)
-}
-
-/// The powers of an element of the extension.
-fn extension_powers(
-    layout: &ConstraintLayout,
-    alloc: Global,
-    alpha: BinomialExtensionField,
-) -> Result<(Vec<Vec<BabyBear>>, Vec<BinomialExtensionField>), AirError> {
-    layout.decompose_alpha::<BabyBear, BinomialExtensionField>(alloc, alpha)
 }
 
 /// The sum of weight times value.
@@ -172,7 +165,7 @@ fn root_powers(
 ) -> Result<(Vec<Vec<BabyBear>>, Vec<BinomialExtensionField>), Fail> {
     let root = BinomialExtensionField::from_basis_coefficients(&[0, 1, 0, 0].map(BabyBear::new));
     let layout = constraints(alloc, base, ext)?;
-    Ok(extension_powers(&layout, alloc, root)?)
+    Ok(layout.decompose_alpha::<BabyBear, BinomialExtensionField>(alloc, root)?)
 }
 
 #[test]

@@ -3,12 +3,12 @@ ghost use Rattle.std.specs.Prelude.{IfOk};
 ghost use Rattle.air_symbolic.specs.BaseLeaves.{base_reads};
 ghost use Rattle.air_symbolic.specs.Pools.{IsPool};
 
+use crate::tests::fixtures::{assert_places, main_layout, matrix, recording_builder};
 use crate::tests::flat_airs::flat_audit;
-use crate::tests::{matrix, recording_builder};
 use p3_air::author::{Boolean, Current, Equal, Next, Sum, Transition, When};
 use p3_air::{
-    AirBuilder, AirError, AirLayout, BabyBear, ExprPool, FlatAir, Recorded, finish_recording,
-    record_these, recorded_air,
+    AirBuilder, AirError, BabyBear, ExprPool, FlatAir, Recorded, finish_recording, record_these,
+    recorded_air,
 };
 use std::alloc::Global;
 use std::test::Fail;
@@ -27,11 +27,7 @@ fn assert_counter<AB: AirBuilder>(builder: &mut AB) -> Result<(), AirError>
 fn record_counter(alloc: Global) -> Result<Recorded<BabyBear, BabyBear>, AirError>
     ensures { IfOk result (λ r. IsPool base_reads r.pool.0) }
 {
-    let layout = AirLayout {
-        main_width: 2,
-        ..AirLayout::default()
-    };
-    let mut builder = recording_builder(alloc, layout)?;
+    let mut builder = recording_builder(alloc, main_layout(2))?;
     assert_counter(&mut builder)?;
     Ok(finish_recording(builder))
 }
@@ -57,11 +53,7 @@ fn audits_what_was_recorded_by_hand(rt: HostRuntime) -> Result<(), Fail> {
     let audit = flat_audit(alloc, &air, &main, &[])?;
     assert_eq!(rt; audit.degree, 2);
     assert_eq!(rt; audit.report.total_constraints_per_row, 2);
-    let wanted: [(usize, usize); 2] = [(1, 0), (2, 1)];
-    assert_eq!(rt; audit.report.failures.len(), wanted.len());
-    for (failure, place) in audit.report.failures.iter().zip(wanted) {
-        assert_eq!(rt; (failure.row, failure.constraint), place);
-    }
+    assert_places(&rt, &audit.report.failures, &[(1, 0), (2, 1)]);
     Ok(())
 }
 

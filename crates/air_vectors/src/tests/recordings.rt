@@ -1,10 +1,11 @@
 //! Recordings, the places of constraints, and the variables that the symbolic builder lends over an extension.
 ghost use Rattle.std.specs.Prelude.{IfOk};
 
-use crate::tests::extension::{Mixed, Permuted, extension};
+use crate::tests::airs::{ExtAir, ExtConstraints, PlainAir, ext_air};
+use crate::tests::extension::{extension, permuted_layout};
 use crate::tests::filters::{assert_constant_ext_under, constant_after_both};
+use crate::tests::fixtures::{make_products, own_layout, recorded_list, recording_builder};
 use crate::tests::trees::product_of;
-use crate::tests::{Products, make_products, products_layout, record_products, recording_builder};
 use air_symbolic::{ExprId, ExtLeaf};
 use p3_air::{
     Air, AirBuilder, AirError, AirLayout, BabyBear, BinomialExtensionField, ConstraintLayout,
@@ -66,19 +67,6 @@ fn degree_for_eight<EF: ExtensionField<BabyBear>, A: Air<SymbolicAirBuilder<Baby
     get_max_constraint_degree_extension(alloc, air, layout, 8, 0)
 }
 
-/// A main trace of this width, with one permutation column, one challenge and one permutation value.
-fn permuted_layout(main_width: usize) -> AirLayout {
-    AirLayout {
-        preprocessed_width: 0,
-        main_width,
-        num_public_values: 0,
-        permutation_width: 1,
-        num_permutation_challenges: 1,
-        num_permutation_values: 1,
-        num_periodic_columns: 0,
-    }
-}
-
 /// What is recorded of an AIR, by each of the calls above.
 #[derive(Drop)]
 struct Recording {
@@ -114,15 +102,11 @@ fn recording_of<EF: ExtensionField<BabyBear>, A: Air<SymbolicAirBuilder<BabyBear
 
 fn products_recording(alloc: Global) -> Result<Recording, AirError> {
     let air = make_products(alloc);
-    recording_of::<BinomialExtensionField, Products<BabyBear>>(alloc, &air, products_layout(alloc))
+    recording_of::<BinomialExtensionField, PlainAir>(alloc, &air, own_layout(&air))
 }
 
-fn permuted_recording(alloc: Global) -> Result<Recording, AirError> {
-    recording_of::<BinomialExtensionField, Permuted>(alloc, &Permuted {}, permuted_layout(0))
-}
-
-fn mixed_recording(alloc: Global, layout: AirLayout) -> Result<Recording, AirError> {
-    recording_of::<BinomialExtensionField, Mixed>(alloc, &Mixed {}, layout)
+fn ext_recording(alloc: Global, air: &ExtAir, layout: AirLayout) -> Result<Recording, AirError> {
+    recording_of::<BinomialExtensionField, ExtAir>(alloc, air, layout)
 }
 
 /// Compares all that was recorded.
@@ -148,19 +132,23 @@ fn assert_recorded(
 fn records_each_kind_at_its_place(rt: HostRuntime) -> Result<(), Fail> {
     let alloc = rt.alloc();
     assert_recorded(&rt, products_recording(alloc), &[0, 1], &[], &[], 2)?;
-    assert_recorded(&rt, permuted_recording(alloc), &[], &[0], &[1], 1)?;
-    let mixed = mixed_recording(alloc, permuted_layout(2));
+    let air = ext_air(alloc, ExtConstraints::Permuted, 0);
+    let permuted = ext_recording(alloc, &air, permuted_layout(0));
+    assert_recorded(&rt, permuted, &[], &[0], &[1], 1)?;
+    let air = ext_air(alloc, ExtConstraints::Mixed, 2);
+    let mixed = ext_recording(alloc, &air, permuted_layout(2));
     assert_recorded(&rt, mixed, &[0, 2], &[1], &[1], 1)
 }
 
 #[test]
 fn compares_the_layout_first(rt: HostRuntime) -> Result<(), Fail> {
+    let air = make_products(rt.alloc());
     let layout = AirLayout {
         main_width: 3,
         num_public_values: 2,
-        ..products_layout(rt.alloc())
+        ..own_layout(&air)
     };
-    let recorded = record_products(rt.alloc(), layout);
+    let recorded = recorded_list(rt.alloc(), &air, layout);
     assert_eq!(rt;
         recorded.err(),
         Some(AirError::LayoutMainWidth { layout: 3, air: 2 })
@@ -174,7 +162,8 @@ fn names_the_extension_entry_that_is_missing(rt: HostRuntime) -> Result<(), Fail
         permutation_width: 0,
         ..permuted_layout(2)
     };
-    let recorded = mixed_recording(rt.alloc(), layout);
+    let air = ext_air(rt.alloc(), ExtConstraints::Mixed, 2);
+    let recorded = ext_recording(rt.alloc(), &air, layout);
     assert_eq!(rt;
         recorded.err(),
         Some(AirError::MissingExtEntry {
@@ -277,12 +266,12 @@ fn lends_extension_variables(rt: HostRuntime) -> Result<(), Fail> {
     assert_permutation_lent(&rt, &builder)
 }
 
-/// The builder after `Mixed` was recorded in it.
+/// The builder after the constraints of both kinds were recorded in it.
 fn mixed_builder(
     alloc: Global,
 ) -> Result<SymbolicAirBuilder<BabyBear, BinomialExtensionField>, AirError> {
     let mut builder = ext_builder(alloc, permuted_layout(2))?;
-    Mixed {}.eval(&mut builder)?;
+    ext_air(alloc, ExtConstraints::Mixed, 2).eval(&mut builder)?;
     Ok(builder)
 }
 

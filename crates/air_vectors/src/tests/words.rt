@@ -2,12 +2,12 @@
 ghost use Rattle.std.specs.Prelude.{All, IfOk};
 ghost use Rattle.air_symbolic.specs.Pools.{IsPool};
 
-use crate::tests::recording_builder;
+use crate::tests::fixtures::{main_layout, recording_builder};
 use air_builder::{AirBuilder, AirError};
 use air_field::{Algebra, BabyBear, FromVar};
 use air_symbolic::{BaseEntry, BaseLeaf, ExprId, ExprPool, SymLeaf, SymbolicVariable};
+use p3_air::SymbolicAirBuilder;
 use p3_air::utils::{add2, add3, xor_32_shift};
-use p3_air::{AirLayout, SymbolicAirBuilder};
 use std::alloc::Global;
 use std::test::Fail;
 
@@ -126,11 +126,7 @@ fn sum_builder(
         (⟦<ExprPool<BaseLeaf<BabyBear>> as Algebra<BabyBear>>⟧.has
         (⟦<SymbolicAirBuilder<BabyBear, BabyBear> as AirBuilder>⟧.ring_of made.0)) made.1) }
 {
-    let layout = AirLayout {
-        main_width: 6,
-        ..AirLayout::default()
-    };
-    let mut builder = recording_builder(alloc, layout)?;
+    let mut builder = recording_builder(alloc, main_layout(6))?;
     let [low, high]: [Column; 2] = columns(4);
     let low = element_of(&mut builder, low)?;
     let high = element_of(&mut builder, high)?;
@@ -153,11 +149,7 @@ fn degrees_of_three(alloc: Global) -> Result<Vec<usize>, AirError> {
 
 /// The degrees that are recorded of the xor of a word with a rotated one.
 fn degrees_of_xor(alloc: Global) -> Result<Vec<usize>, AirError> {
-    let layout = AirLayout {
-        main_width: 66,
-        ..AirLayout::default()
-    };
-    let mut builder = recording_builder(alloc, layout)?;
+    let mut builder = recording_builder(alloc, main_layout(66))?;
     xor_rotated(&mut builder, columns(0), columns(2), columns(34))?;
     recorded_degrees(alloc, &mut builder)
 }

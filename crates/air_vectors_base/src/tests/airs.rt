@@ -17,13 +17,14 @@ struct Tables {
 }
 
 impl BaseAir<BabyBear> for Tables {
-    ghost declared = { λ _. [] };
-
-    ghost width = { λ _. 3 };
-
-    ghost num_public_values = { λ _. 2 };
-
-    ghost beside = { λ a. record { preprocessed = a.table; periodic = a.periodic.items; cells = a.cells.items } };
+    ghost declaration = { λ a. record {
+      declared = [];
+      width = 3;
+      num_public_values = 2;
+      preprocessed = a.table;
+      periodic = a.periodic.items;
+      cells = a.cells.items;
+    } };
 
     fn width(&self) -> usize {
         3

@@ -66,6 +66,13 @@ impl Clone for OnTwo {
 
 impl Copy for OnTwo {}
 
+/// The operations on a list.
+#[derive(Drop)]
+enum OnAll {
+    Sum,
+    Product,
+}
+
 #[derive(Drop)]
 pub struct Bench<A: SymLeaf> {
     pub pool: ExprPool<A>,
@@ -204,23 +211,16 @@ impl<A: SymLeaf> Bench<A> {
         }
     }
 
-    fn sum(&mut self, places: &[usize]) -> Result<ExprId<A>, RingError> {
+    // An operation on a list of expressions.
+    fn on_all(&mut self, operation: OnAll, places: &[usize]) -> Result<ExprId<A>, RingError> {
         let all = self.all_at(places)?;
         let xs = all.as_slice();
-        if self.contains_all(xs) {
-            self.pool.sum(xs)
-        } else {
-            Err(MISSING)
+        if !self.contains_all(xs) {
+            return Err(MISSING);
         }
-    }
-
-    fn product(&mut self, places: &[usize]) -> Result<ExprId<A>, RingError> {
-        let all = self.all_at(places)?;
-        let xs = all.as_slice();
-        if self.contains_all(xs) {
-            self.pool.product(xs)
-        } else {
-            Err(MISSING)
+        match operation {
+            OnAll::Sum => self.pool.sum(xs),
+            OnAll::Product => self.pool.product(xs),
         }
     }
 
@@ -285,8 +285,8 @@ impl<A: TableLeaf> Bench<A> {
             Step::InsertSub(x, y) => self.on_two(OnTwo::InsertSub, x, y),
             Step::InsertNeg(x) => self.on_one(OnOne::InsertNeg, x),
             Step::InsertMul(x, y) => self.on_two(OnTwo::InsertMul, x, y),
-            Step::Sum(places) => self.sum(places),
-            Step::Product(places) => self.product(places),
+            Step::Sum(places) => self.on_all(OnAll::Sum, places),
+            Step::Product(places) => self.on_all(OnAll::Product, places),
             Step::Ring(step) => self.in_ring(step),
         }
     }

@@ -5,6 +5,21 @@ use std::alloc::{AllocError, Global};
 use std::string::ToString;
 use std::test::Fail;
 
+const COLUMN: BoundaryIoError = BoundaryIoError::ColumnOutOfRange {
+    column: 2,
+    width: 2,
+};
+
+const VALUE: BoundaryIoError = BoundaryIoError::PublicValueOutOfRange {
+    index: 3,
+    num_public_values: 1,
+};
+
+const TWICE: BoundaryIoError = BoundaryIoError::DuplicateCell {
+    column: 0,
+    end: BoundaryEnd::First,
+};
+
 fn cell(column: usize, end: BoundaryEnd, public_value: usize) -> BoundaryPublic {
     BoundaryPublic::new(column, end, public_value)
 }
@@ -34,24 +49,12 @@ fn cells_are_validated(rt: HostRuntime) {
         cell(0, BoundaryEnd::First, 0),
         cell(0, BoundaryEnd::First, 1),
     ];
-    let column = BoundaryIoError::ColumnOutOfRange {
-        column: 2,
-        width: 2,
-    };
-    let value = BoundaryIoError::PublicValueOutOfRange {
-        index: 3,
-        num_public_values: 1,
-    };
-    let duplicate = BoundaryIoError::DuplicateCell {
-        column: 0,
-        end: BoundaryEnd::First,
-    };
     let rows = [
         (apart.as_slice(), 2, 2, Ok(())),
         (&[], 0, 0, Ok(())),
-        (past_the_width.as_slice(), 2, 1, Err(column)),
-        (past_the_count.as_slice(), 2, 1, Err(value)),
-        (twice.as_slice(), 2, 2, Err(duplicate)),
+        (past_the_width.as_slice(), 2, 1, Err(COLUMN)),
+        (past_the_count.as_slice(), 2, 1, Err(VALUE)),
+        (twice.as_slice(), 2, 2, Err(TWICE)),
     ];
     for (cells, width, count, wanted) in rows {
         assert_eq!(rt; validate(cells, width, count), wanted);
@@ -66,24 +69,15 @@ fn text_of(alloc: Global, error: BoundaryIoError) -> Result<String, AllocError> 
 fn prints_each_fault(rt: HostRuntime) -> Result<(), Fail> {
     let rows = [
         (
-            BoundaryIoError::ColumnOutOfRange {
-                column: 2,
-                width: 2,
-            },
+            COLUMN,
             "boundary-IO column 2 is out of range for main width 2",
         ),
         (
-            BoundaryIoError::PublicValueOutOfRange {
-                index: 3,
-                num_public_values: 1,
-            },
+            VALUE,
             "boundary-IO public value 3 is out of range for 1 public values",
         ),
         (
-            BoundaryIoError::DuplicateCell {
-                column: 0,
-                end: BoundaryEnd::First,
-            },
+            TWICE,
             "boundary-IO declares column 0 twice on the First row",
         ),
     ];

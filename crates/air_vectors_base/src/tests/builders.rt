@@ -2,43 +2,51 @@
 ghost use Rattle.std.specs.Prelude.{◌≡◌, IfOk};
 
 use crate::tests::assertion::{Assertion, NamedAssertion, assert_lazily};
-use crate::tests::filters::{Place, Rows, ZeroRow, assert_named_row, assert_row, assert_zero_row};
+use crate::tests::filters::{Place, ZeroRow};
+use crate::tests::logs::{
+    Claim, Row, assert_logged, assert_values, assert_zero_on_log, base, logged, under_both, unnamed,
+};
 use crate::tests::numbers::number;
-use crate::tests::value_log::{Asserted, ValueLog, assert_failures};
+use crate::tests::value_log::{ValueLog, assert_failures};
 use air_builder::{AirBuilder, AirBuilderWithContext, AirError};
 use air_field::BabyBear;
 use std::cell::Cell;
-use std::process::Abort;
 use std::test::Fail;
 
-// The log keeps these numbers, in order.
-fn assert_values(rt: &impl Abort, log: &ValueLog, wanted: &[u32]) {
-    assert_eq!(rt; log.asserted.len(), wanted.len());
-    for (value, n) in log.asserted.iter().zip(wanted) {
-        assert_eq!(rt; *value, Asserted::Base(number(*n)));
+/// Two numbers.
+fn pair(x: u32, y: u32) -> [BabyBear; 2] {
+    [number(x), number(y)]
+}
+
+fn always(assertion: Assertion<BabyBear>) -> Row {
+    unnamed(Place::Always, Claim::Plain(assertion))
+}
+
+fn named(assertion: NamedAssertion<BabyBear>, parts: [&'static str; 3]) -> Row {
+    Row {
+        place: Place::Always,
+        claim: Claim::Named(assertion),
+        parts,
     }
 }
 
-pub fn assert_on_log(
-    log: &mut ValueLog,
-    place: Place<BabyBear>,
-    assertion: Assertion<BabyBear>,
-) -> Result<(), AirError> {
-    assert_row(log, place, &assertion)
+/// This where neither of the numbers is zero.
+fn filtered(outer: u32, inner: u32, assertion: Assertion<BabyBear>) -> Row {
+    unnamed(under_both(outer, inner), Claim::Plain(assertion))
 }
 
-fn assert_zero_on_log(log: &mut ValueLog, row: ZeroRow<BabyBear>) -> Result<(), AirError> {
-    assert_zero_row(log, row)
-}
-
-fn assert_named_on_log(
-    log: &mut ValueLog,
-    place: Place<BabyBear>,
+/// This, named, where neither of the numbers is zero.
+fn filtered_named(
+    outer: u32,
+    inner: u32,
     assertion: NamedAssertion<BabyBear>,
     parts: [&'static str; 3],
-) -> Result<(), AirError> {
-    let [a, b, c] = parts;
-    assert_named_row(log, place, &assertion, a, b, c)
+) -> Row {
+    Row {
+        place: under_both(outer, inner),
+        claim: Claim::Named(assertion),
+        parts,
+    }
 }
 
 fn assert_lazily_on_log(
@@ -53,54 +61,35 @@ fn assert_lazily_on_log(
 
 #[test]
 fn each_assertion_is_its_term(rt: HostRuntime) -> Result<(), Fail> {
-    let mut log = ValueLog::new(rt.alloc(), 0);
-    let assertions = [
-        Assertion::Zero(number(5)),
-        Assertion::One(number(5)),
-        Assertion::Equal(number(9), number(4)),
-        Assertion::Bool(number(5)),
+    let rows = [
+        always(Assertion::Zero(number(5))),
+        always(Assertion::One(number(5))),
+        always(Assertion::Equal(number(9), number(4))),
+        always(Assertion::Bool(number(5))),
+        always(Assertion::Zeros(pair(1, 2))),
+        always(Assertion::Bools(pair(3, 1))),
+        always(Assertion::EqualArrays(pair(9, 8), pair(4, 8))),
     ];
-    for assertion in assertions {
-        assert_on_log(&mut log, Place::Always, assertion)?;
-    }
-    assert_values(&rt, &log, &[5, 4, 5, 20]);
-    Ok(())
-}
-
-#[test]
-fn arrays_are_asserted_in_order(rt: HostRuntime) -> Result<(), Fail> {
-    let mut log = ValueLog::new(rt.alloc(), 0);
-    let assertions = [
-        Assertion::Zeros(pair(1, 2)),
-        Assertion::Bools(pair(3, 1)),
-        Assertion::EqualArrays(pair(9, 8), pair(4, 8)),
-    ];
-    for assertion in assertions {
-        assert_on_log(&mut log, Place::Always, assertion)?;
-    }
-    assert_values(&rt, &log, &[1, 2, 6, 0, 5, 0]);
+    let log = logged(rt.alloc(), &rows)?;
+    assert_values(&rt, &log, &[5, 4, 5, 20, 1, 2, 6, 0, 5, 0].map(base));
     Ok(())
 }
 
 #[test]
 fn filters_multiply(rt: HostRuntime) -> Result<(), Fail> {
-    let mut log = ValueLog::new(rt.alloc(), 0);
+    let [one, five] = [1, 5].map(number);
     let rows = [
-        (Place::Under(number(0)), 5),
-        (Place::Always, 1),
-        (Place::UnderBoth(number(2), number(3)), 5),
+        unnamed(Place::Under(number(0)), Claim::Plain(Assertion::Zero(five))),
+        always(Assertion::Zero(one)),
+        filtered(2, 3, Assertion::Zero(five)),
     ];
-    for (place, n) in rows {
-        assert_on_log(&mut log, place, Assertion::Zero(number(n)))?;
-    }
-    let rows = [
-        ZeroRow::WhereDifferent(number(9), number(5), number(2)),
-        ZeroRow::InWindow(number(6)),
-    ];
-    for row in rows {
-        assert_zero_on_log(&mut log, row)?;
-    }
-    assert_values(&rt, &log, &[0, 1, 30, 8, 6]);
+    let mut log = logged(rt.alloc(), &rows)?;
+    assert_zero_on_log(
+        &mut log,
+        &ZeroRow::WhereDifferent(number(9), five, number(2)),
+    )?;
+    assert_zero_on_log(&mut log, &ZeroRow::InWindow(number(6)))?;
+    assert_values(&rt, &log, &[0, 1, 30, 8, 6].map(base));
     assert_failures(&rt, &log, &[(1, None), (2, None), (3, None), (4, None)]);
     Ok(())
 }
@@ -108,57 +97,49 @@ fn filters_multiply(rt: HostRuntime) -> Result<(), Fail> {
 // The log's rows are first and last rows, and have a next row too.
 #[test]
 fn selectors_name_rows(rt: HostRuntime) -> Result<(), Fail> {
+    let [three, four, five] = [3, 4, 5].map(number);
+    let rows = [
+        ZeroRow::OnFirst(three),
+        ZeroRow::OnLast(four),
+        ZeroRow::OnOthers(five),
+    ];
     let mut log = ValueLog::new(rt.alloc(), 0);
-    for (rows, n) in [(Rows::First, 3), (Rows::Last, 4), (Rows::Others, 5)] {
-        assert_zero_on_log(&mut log, ZeroRow::On(rows, number(n)))?;
+    for row in &rows {
+        assert_zero_on_log(&mut log, row)?;
     }
-    assert_values(&rt, &log, &[3, 4, 5]);
+    assert_values(&rt, &log, &[3, 4, 5].map(base));
     Ok(())
-}
-
-/// Two numbers.
-fn pair(x: u32, y: u32) -> [BabyBear; 2] {
-    [number(x), number(y)]
 }
 
 // 2 times 3 times what the batch asserts of each element.
 #[test]
 fn filters_multiply_each_element(rt: HostRuntime) -> Result<(), Fail> {
-    let mut log = ValueLog::new(rt.alloc(), 0);
     let rows = [
-        (3, Assertion::Zeros(pair(5, 0))),
-        (3, Assertion::Bools(pair(3, 1))),
-        (3, Assertion::EqualArrays(pair(9, 8), pair(4, 8))),
-        (0, Assertion::Zeros(pair(5, 7))),
+        filtered(2, 3, Assertion::Zeros(pair(5, 0))),
+        filtered(2, 3, Assertion::Bools(pair(3, 1))),
+        filtered(2, 3, Assertion::EqualArrays(pair(9, 8), pair(4, 8))),
+        filtered(2, 0, Assertion::Zeros(pair(5, 7))),
     ];
-    for (inner, assertion) in rows {
-        let place = Place::UnderBoth(number(2), number(inner));
-        assert_on_log(&mut log, place, assertion)?;
-    }
-    assert_values(&rt, &log, &[30, 0, 36, 0, 30, 0, 0, 0]);
-    assert_failures(&rt, &log, &[(0, None), (2, None), (4, None)]);
+    let values = [30, 0, 36, 0, 30, 0, 0, 0].map(base);
+    let failures = [(0, None), (2, None), (4, None)];
+    assert_logged(&rt, rt.alloc(), &rows, &values, &failures)?;
     Ok(())
 }
 
 #[test]
 fn failures_keep_their_labels(rt: HostRuntime) -> Result<(), Fail> {
-    let mut log = ValueLog::new(rt.alloc(), 0);
-    assert_on_log(&mut log, Place::Always, Assertion::Zero(number(3)))?;
     let [one, two, three, five, seven] = [1, 2, 3, 5, 7].map(number);
+    let spaces = ["outer", "mid", "leaf"];
     let rows = [
-        (NamedAssertion::Zero(five), ["col_1_must_be_zero", "", ""]),
-        (NamedAssertion::One(one), ["passes", "", ""]),
-        (NamedAssertion::Equal(seven, seven), ["passes", "", ""]),
-        (NamedAssertion::Bool(two), ["", "", ""]),
-        (NamedAssertion::ZeroInSpace(one), ["", "", ""]),
+        always(Assertion::Zero(three)),
+        named(NamedAssertion::Zero(five), ["col_1_must_be_zero", "", ""]),
+        named(NamedAssertion::One(one), ["passes", "", ""]),
+        named(NamedAssertion::Equal(seven, seven), ["passes", "", ""]),
+        named(NamedAssertion::Bool(two), ["", "", ""]),
+        named(NamedAssertion::ZeroInSpace(one), ["", "", ""]),
+        filtered_named(3, 1, NamedAssertion::ZeroInSpaces(one), spaces),
     ];
-    for (assertion, parts) in rows {
-        assert_named_on_log(&mut log, Place::Always, assertion, parts)?;
-    }
-    let both = Place::UnderBoth(three, one);
-    let parts = ["outer", "mid", "leaf"];
-    assert_named_on_log(&mut log, both, NamedAssertion::ZeroInSpaces(one), parts)?;
-    assert_values(&rt, &log, &[3, 5, 0, 0, 2, 1, 3]);
+    let values = [3, 5, 0, 0, 2, 1, 3].map(base);
     let failures = [
         (0, None),
         (1, Some("col_1_must_be_zero")),
@@ -166,37 +147,21 @@ fn failures_keep_their_labels(rt: HostRuntime) -> Result<(), Fail> {
         (5, Some("::")),
         (6, Some("outer::mid::leaf")),
     ];
-    assert_failures(&rt, &log, &failures);
+    assert_logged(&rt, rt.alloc(), &rows, &values, &failures)?;
     Ok(())
 }
 
 #[test]
 fn elements_of_a_batch_are_labelled_by_place(rt: HostRuntime) -> Result<(), Fail> {
-    let mut log = ValueLog::new(rt.alloc(), 0);
-    let both = Place::UnderBoth(number(2), number(3));
     let bits = [1, 0, 4].map(number);
+    let spaces = ["outer", "mid", ""];
     let rows = [
-        (Place::Always, NamedAssertion::Zeros(pair(0, 1)), ["z", ""]),
-        (
-            Place::Always,
-            NamedAssertion::ThreeBoolsInSpace(bits),
-            ["a", "b"],
-        ),
-        (
-            both,
-            NamedAssertion::ZerosInSpace(pair(0, 5)),
-            ["outer", "mid"],
-        ),
-        (
-            both,
-            NamedAssertion::BoolsInSpace(pair(3, 2)),
-            ["outer", "mid"],
-        ),
+        named(NamedAssertion::Zeros(pair(0, 1)), ["z", "", ""]),
+        named(NamedAssertion::ThreeBoolsInSpace(bits), ["a", "b", ""]),
+        filtered_named(2, 3, NamedAssertion::ZerosInSpace(pair(0, 5)), spaces),
+        filtered_named(2, 3, NamedAssertion::BoolsInSpace(pair(3, 2)), spaces),
     ];
-    for (place, assertion, [outer, inner]) in rows {
-        assert_named_on_log(&mut log, place, assertion, [outer, inner, ""])?;
-    }
-    assert_values(&rt, &log, &[0, 1, 0, 0, 12, 0, 30, 36, 12]);
+    let values = [0, 1, 0, 0, 12, 0, 30, 36, 12].map(base);
     let failures = [
         (1, Some("z::[1]")),
         (4, Some("a::b::[2]")),
@@ -204,7 +169,7 @@ fn elements_of_a_batch_are_labelled_by_place(rt: HostRuntime) -> Result<(), Fail
         (7, Some("outer::mid::[0]")),
         (8, Some("outer::mid::[1]")),
     ];
-    assert_failures(&rt, &log, &failures);
+    assert_logged(&rt, rt.alloc(), &rows, &values, &failures)?;
     Ok(())
 }
 

@@ -4,6 +4,7 @@ use air_flat_input::{FlatInput, flat_input_from};
 use air_windows::{AirError, BoundaryEnd, BoundaryPublic};
 use serde_json::Value;
 use std::alloc::Global;
+use std::process::Abort;
 use std::test::*;
 
 // What the object spells, or why it is refused.
@@ -12,134 +13,93 @@ fn read(alloc: Global, text: &str) -> Result<Result<FlatInput, AirError>, Fail> 
     Ok(flat_input_from(alloc, &value))
 }
 
-// Why the object is refused, if it is.
-fn fault(alloc: Global, text: &str) -> Result<Option<AirError>, Fail> {
-    Ok(read(alloc, text)?.err())
+// An object of what has to be there, and of further members.
+fn object(alloc: Global, more: &str) -> Result<String, Fail> {
+    Ok(format!(in alloc;
+        "{{\"main_width\":1,\"main\":[0],\"public_values\":[],\"constraints\":[]{more}}}"
+    )?)
 }
 
-#[test]
-fn members_that_are_needed(rt: HostRuntime) -> Result<(), Fail> {
-    let alloc = rt.alloc();
-    let shape = AirError::Shape { at: 0 };
-    let modulus = AirError::NotCanonical { at: 0 };
-    let rows = [
-        ("[]", shape),
-        ("{}", shape),
-        (r#"{"main_width":1}"#, shape),
-        (r#"{"main_width":-1,"main":[2013265921]}"#, shape),
-        (r#"{"main_width":1,"main":[2013265921]}"#, modulus),
-        (r#"{"main_width":1,"main":[0,"x",2013265921]}"#, shape),
-        (r#"{"main_width":1,"main":[0,2013265921,"x"]}"#, modulus),
-        (r#"{"main_width":1,"main":0}"#, shape),
-        (r#"{"main_width":1,"main":[0]}"#, shape),
-        (
-            r#"{"main_width":1,"main":[0],"public_values":[0,2013265921],"constraints":0}"#,
-            modulus,
-        ),
-        (
-            r#"{"main_width":1,"main":[0],"public_values":[1.5],"constraints":[[]]}"#,
-            shape,
-        ),
-        (r#"{"main_width":1,"main":[0],"public_values":[]}"#, shape),
-        (
-            r#"{"main_width":1,"main":[0],"public_values":[],"constraints":{}}"#,
-            shape,
-        ),
-    ];
+const SHAPE: Option<AirError> = Some(AirError::Shape { at: 0 });
+
+const MODULUS: Option<AirError> = Some(AirError::NotCanonical { at: 0 });
+
+// Each object is refused so, or not at all.
+fn assert_faults(
+    rt: &impl Abort,
+    alloc: Global,
+    rows: &[(&str, Option<AirError>)],
+) -> Result<(), Fail> {
     for (text, wanted) in rows {
-        assert_eq!(rt; fault(alloc, text)?, Some(wanted), "{text}");
+        assert_eq!(rt; read(alloc, text)?.err(), *wanted, "{text}");
     }
     Ok(())
 }
 
 #[test]
+fn members_that_are_needed(rt: HostRuntime) -> Result<(), Fail> {
+    let rows = [
+        ("[]", SHAPE),
+        ("{}", SHAPE),
+        (r#"{"main_width":1}"#, SHAPE),
+        (r#"{"main_width":-1,"main":[2013265921]}"#, SHAPE),
+        (r#"{"main_width":1,"main":[2013265921]}"#, MODULUS),
+        (r#"{"main_width":1,"main":[0,"x",2013265921]}"#, SHAPE),
+        (r#"{"main_width":1,"main":[0,2013265921,"x"]}"#, MODULUS),
+        (r#"{"main_width":1,"main":0}"#, SHAPE),
+        (r#"{"main_width":1,"main":[0]}"#, SHAPE),
+        (
+            r#"{"main_width":1,"main":[0],"public_values":[0,2013265921],"constraints":0}"#,
+            MODULUS,
+        ),
+        (
+            r#"{"main_width":1,"main":[0],"public_values":[1.5],"constraints":[[]]}"#,
+            SHAPE,
+        ),
+        (r#"{"main_width":1,"main":[0],"public_values":[]}"#, SHAPE),
+        (
+            r#"{"main_width":1,"main":[0],"public_values":[],"constraints":{}}"#,
+            SHAPE,
+        ),
+    ];
+    assert_faults(&rt, rt.alloc(), &rows)
+}
+
+#[test]
 fn faults_of_constraints(rt: HostRuntime) -> Result<(), Fail> {
-    let alloc = rt.alloc();
     let wrong = AirError::WrongDegree {
         at: 1,
         stated: 2,
         found: 1,
     };
+    let operand = AirError::Operand { at: 0, operand: 3 };
     let rows = [
         (
             r#"{"main_width":1,"main":[0],"public_values":[],"constraints":[[]],"periodic":null}"#,
-            AirError::EmptyList,
+            Some(AirError::EmptyList),
         ),
         (
             r#"{"main_width":1,"main":[0],"public_values":[],"constraints":[[{"Leaf":"IsFirstRow"}],[{"Leaf":"IsFirstRow"},{"Neg":{"degree_multiple":2,"x":0}}],[]]}"#,
-            wrong,
+            Some(wrong),
         ),
         (
             r#"{"main_width":1,"main":[0],"public_values":[],"constraints":[[{"Neg":{"degree_multiple":0,"x":3}}]]}"#,
-            AirError::Operand { at: 0, operand: 3 },
+            Some(operand),
         ),
         (
             r#"{"main_width":1,"main":[0],"public_values":[],"constraints":[[{"Leaf":"IsFirstRow"},5],[]]}"#,
-            AirError::Shape { at: 1 },
+            Some(AirError::Shape { at: 1 }),
         ),
         (
             r#"{"main_width":1,"main":[2013265921],"public_values":[],"constraints":[[]]}"#,
-            AirError::NotCanonical { at: 0 },
+            MODULUS,
         ),
     ];
-    for (text, wanted) in rows {
-        assert_eq!(rt; fault(alloc, text)?, Some(wanted), "{text}");
-    }
-    Ok(())
-}
-
-#[test]
-fn members_that_may_be_absent(rt: HostRuntime) -> Result<(), Fail> {
-    let alloc = rt.alloc();
-    let shape = Some(AirError::Shape { at: 0 });
-    let modulus = Some(AirError::NotCanonical { at: 0 });
-    let rows = [
-        (
-            r#"{"main_width":1,"main":[0],"public_values":[],"constraints":[],"periodic":null}"#,
-            shape,
-        ),
-        (
-            r#"{"main_width":1,"main":[0],"public_values":[],"constraints":[],"periodic":[[1],[2013265921],0]}"#,
-            modulus,
-        ),
-        (
-            r#"{"main_width":1,"main":[0],"public_values":[],"constraints":[],"boundary":null}"#,
-            shape,
-        ),
-        (
-            r#"{"main_width":1,"main":[0],"public_values":[],"constraints":[],"boundary":[{"column":0,"end":"Middle","public_value":0}]}"#,
-            shape,
-        ),
-        (
-            r#"{"main_width":1,"main":[0],"public_values":[],"constraints":[],"boundary":[{"column":0,"end":"First"}]}"#,
-            shape,
-        ),
-        (
-            r#"{"main_width":1,"main":[0],"public_values":[],"constraints":[],"cap":-1}"#,
-            shape,
-        ),
-        (
-            r#"{"main_width":1,"main":[0],"public_values":[],"constraints":[],"cap":"1"}"#,
-            shape,
-        ),
-        (
-            r#"{"main_width":1,"main":[0],"public_values":[],"constraints":[],"transition_weight":null}"#,
-            shape,
-        ),
-        (
-            r#"{"main_width":1,"main":[0],"public_values":[],"constraints":[],"other":null,"boundary":[{"column":0,"end":"First","public_value":0,"note":[]}]}"#,
-            None,
-        ),
-    ];
-    for (text, wanted) in rows {
-        assert_eq!(rt; fault(alloc, text)?, wanted, "{text}");
-    }
-    Ok(())
+    assert_faults(&rt, rt.alloc(), &rows)
 }
 
 #[test]
 fn values_that_fill_no_rows(rt: HostRuntime) -> Result<(), Fail> {
-    let alloc = rt.alloc();
     let half = Some(AirError::Ragged { len: 3, width: 2 });
     let unplaced = Some(AirError::Ragged { len: 1, width: 0 });
     let rows = [
@@ -149,11 +109,11 @@ fn values_that_fill_no_rows(rt: HostRuntime) -> Result<(), Fail> {
         ),
         (
             r#"{"main_width":2,"main":[0,1,2013265921],"public_values":[],"constraints":[]}"#,
-            Some(AirError::NotCanonical { at: 0 }),
+            MODULUS,
         ),
         (
             r#"{"main_width":2,"main":[0,1,2],"public_values":[],"constraints":[],"cap":[]}"#,
-            Some(AirError::Shape { at: 0 }),
+            SHAPE,
         ),
         (
             r#"{"main_width":0,"main":[0],"public_values":[],"constraints":[]}"#,
@@ -164,54 +124,51 @@ fn values_that_fill_no_rows(rt: HostRuntime) -> Result<(), Fail> {
             None,
         ),
     ];
-    for (text, wanted) in rows {
-        assert_eq!(rt; fault(alloc, text)?, wanted, "{text}");
+    assert_faults(&rt, rt.alloc(), &rows)
+}
+
+// In an object of what has to be there.
+#[test]
+fn members_that_may_be_absent(rt: HostRuntime) -> Result<(), Fail> {
+    for (more, wanted) in [
+        (r#","periodic":null"#, SHAPE),
+        (r#","periodic":[[1],[2013265921],0]"#, MODULUS),
+        (r#","boundary":null"#, SHAPE),
+        (
+            r#","boundary":[{"column":0,"end":"Middle","public_value":0}]"#,
+            SHAPE,
+        ),
+        (r#","boundary":[{"column":0,"end":"First"}]"#, SHAPE),
+        (r#","cap":-1"#, SHAPE),
+        (r#","cap":"1""#, SHAPE),
+        (r#","transition_weight":null"#, SHAPE),
+        (
+            r#","other":null,"boundary":[{"column":0,"end":"First","public_value":0,"note":[]}]"#,
+            None,
+        ),
+    ] {
+        let text = object(rt.alloc(), more)?;
+        assert_eq!(rt; read(rt.alloc(), &text)?.err(), wanted, "{text}");
     }
     Ok(())
 }
 
 // Of an object without other members than these.
 #[test]
-fn weights_that_are_read(rt: HostRuntime) -> Result<(), Fail> {
-    let alloc = rt.alloc();
-    let rows = [
-        (
-            r#"{"main_width":1,"main":[0],"public_values":[],"constraints":[]}"#,
-            0,
-        ),
-        (
-            r#"{"main_width":1,"main":[0],"public_values":[],"constraints":[],"transition_weight":2}"#,
-            2,
-        ),
-    ];
-    for (text, wanted) in rows {
-        let input = read(alloc, text)?.ok().ok_or("refused")?;
-        assert_eq!(rt; input.transition_weight, wanted, "{text}");
-        assert_eq!(rt; input.cap, None);
-    }
-    Ok(())
-}
-
-#[test]
-fn caps_that_are_read(rt: HostRuntime) -> Result<(), Fail> {
-    let alloc = rt.alloc();
-    let rows = [
-        (
-            r#"{"main_width":1,"main":[0],"public_values":[],"constraints":[]}"#,
-            None,
-        ),
-        (
-            r#"{"main_width":1,"main":[0],"public_values":[],"constraints":[],"cap":null}"#,
-            None,
-        ),
-        (
-            r#"{"main_width":1,"main":[0],"public_values":[],"constraints":[],"cap":3}"#,
-            Some(3),
-        ),
-    ];
-    for (text, wanted) in rows {
-        let input = read(alloc, text)?.ok().ok_or("refused")?;
-        assert_eq!(rt; input.cap, wanted, "{text}");
+fn caps_and_weights_that_are_read(rt: HostRuntime) -> Result<(), Fail> {
+    for (more, cap, transition_weight) in [
+        ("", None, 0),
+        (r#","transition_weight":2"#, None, 2),
+        (r#","cap":null"#, None, 0),
+        (r#","cap":3"#, Some(3), 0),
+    ] {
+        let text = object(rt.alloc(), more)?;
+        let input = read(rt.alloc(), &text)?.ok().ok_or("refused")?;
+        assert_eq!(rt;
+            (input.cap, input.transition_weight),
+            (cap, transition_weight),
+            "{text}"
+        );
         assert!(rt; input.periodic.is_empty() && input.cells.is_empty() && input.roots.is_empty());
     }
     Ok(())

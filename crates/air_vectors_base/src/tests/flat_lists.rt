@@ -2,9 +2,12 @@
 use air_field::{BabyBear, BinomialExtensionField};
 use air_symbolic::{BaseLeaf, ExprPool, ExtLeaf};
 use air_variables::{BaseEntry, ExtEntry, SymbolicVariable, SymbolicVariableExt};
+use air_windows::{BoundaryEnd, BoundaryPublic};
 use air_wire::{FlatError, Spelled, from_flat_value};
 use serde_json::{Value, json};
 use std::alloc::Global;
+use std::fmt::Debug;
+use std::process::Abort;
 use std::test::*;
 
 type ExtensionLeaf = ExtLeaf<BabyBear, BinomialExtensionField>;
@@ -36,12 +39,14 @@ fn count(alloc: Global, text: &str) -> Result<usize, Fail> {
 }
 
 #[test]
-fn faults_of_operands_and_degrees(rt: HostRuntime) -> Result<(), Fail> {
+fn faults_of_lists(rt: HostRuntime) -> Result<(), Fail> {
     let wrong = FlatError::WrongDegree {
         at: 1,
         stated: 2,
         found: 1,
     };
+    let shape = FlatError::Shape { at: 0 };
+    let modulus = FlatError::NotCanonical { at: 0 };
     let rows = [
         (
             r#"[{"Leaf":{"Variable":{"entry":{"Main":{"offset":0}},"index":0}}},{"Add":{"degree_multiple":2,"x":0,"y":0}}]"#,
@@ -60,18 +65,6 @@ fn faults_of_operands_and_degrees(rt: HostRuntime) -> Result<(), Fail> {
             r#"[{"Leaf":"IsFirstRow"},{"Add":{"degree_multiple":9,"x":0,"y":7}}]"#,
             FlatError::Operand { at: 1, operand: 7 },
         ),
-    ];
-    for (text, wanted) in rows {
-        assert_eq!(rt; fault(rt.alloc(), text)?, Some(wanted), "{text}");
-    }
-    Ok(())
-}
-
-#[test]
-fn faults_of_shapes_and_numbers(rt: HostRuntime) -> Result<(), Fail> {
-    let shape = FlatError::Shape { at: 0 };
-    let modulus = FlatError::NotCanonical { at: 0 };
-    let rows = [
         (
             r#"[{"Leaf":"IsFirstRow","Neg":{"degree_multiple":1,"x":0}}]"#,
             shape,
@@ -155,66 +148,67 @@ fn squarings_past_the_greatest_degree(rt: HostRuntime) -> Result<(), Fail> {
     Ok(())
 }
 
-// The text of a spelling, and the value that it spells.
-fn there_and_back<S: Spelled>(alloc: Global, x: &S) -> Result<(String, S), Fail> {
-    let value = x.to_value(alloc).ok().ok_or("no memory")?;
-    let text = value.to_string(alloc)?;
-    let back = S::from_value(alloc, &value).ok().ok_or("refused")?;
-    Ok((text, back))
+// Each value is spelt so, and read back.
+fn assert_spelt<S: Spelled + PartialEq + Debug + Drop>(
+    rt: &impl Abort,
+    alloc: Global,
+    rows: &[(S, &str)],
+) -> Result<(), Fail> {
+    for (x, wanted) in rows {
+        let value = x.to_value(alloc).ok().ok_or("no memory")?;
+        assert_eq!(rt; value.to_string(alloc)?.as_str(), *wanted);
+        let back = S::from_value(alloc, &value).ok().ok_or("refused")?;
+        assert_eq!(rt; &back, x);
+    }
+    Ok(())
 }
 
 #[test]
 fn spellings_of_entries(rt: HostRuntime) -> Result<(), Fail> {
-    let alloc = rt.alloc();
-    let entries = [
-        (BaseEntry::Main { offset: 1 }, r#"{"Main":{"offset":1}}"#),
-        (
-            BaseEntry::Preprocessed { offset: 0 },
-            r#"{"Preprocessed":{"offset":0}}"#,
-        ),
+    let next = BaseEntry::Main { offset: 1 };
+    let table = BaseEntry::Preprocessed { offset: 0 };
+    let rows = [
+        (next, r#"{"Main":{"offset":1}}"#),
+        (table, r#"{"Preprocessed":{"offset":0}}"#),
         (BaseEntry::Periodic, r#""Periodic""#),
         (BaseEntry::Public, r#""Public""#),
     ];
-    for (entry, wanted) in entries {
-        let (text, back) = there_and_back(alloc, &entry)?;
-        assert_eq!(rt; text.as_str(), wanted);
-        assert_eq!(rt; back, entry);
-    }
-    Ok(())
+    assert_spelt(&rt, rt.alloc(), &rows)
 }
 
 #[test]
 fn spellings_of_extension_entries(rt: HostRuntime) -> Result<(), Fail> {
-    let alloc = rt.alloc();
-    let entries = [
-        (
-            ExtEntry::Permutation { offset: 0 },
-            r#"{"Permutation":{"offset":0}}"#,
-        ),
+    let column = ExtEntry::Permutation { offset: 0 };
+    let rows = [
+        (column, r#"{"Permutation":{"offset":0}}"#),
         (ExtEntry::Challenge, r#""Challenge""#),
         (ExtEntry::PermutationValue, r#""PermutationValue""#),
     ];
-    for (entry, wanted) in entries {
-        let (text, back) = there_and_back(alloc, &entry)?;
-        assert_eq!(rt; text.as_str(), wanted);
-        assert_eq!(rt; back, entry);
-    }
-    Ok(())
+    assert_spelt(&rt, rt.alloc(), &rows)
 }
 
 #[test]
 fn spellings_of_variables(rt: HostRuntime) -> Result<(), Fail> {
-    let alloc = rt.alloc();
     let base: SymbolicVariable<BabyBear> = SymbolicVariable::new(BaseEntry::Public, 2);
-    let (text, back) = there_and_back(alloc, &base)?;
-    assert_eq!(rt; text.as_str(), r#"{"entry":"Public","index":2}"#);
-    assert_eq!(rt; back, base);
-    let ext: SymbolicVariableExt<BabyBear, BabyBear> = SymbolicVariableExt::new(
-        ExtEntry::PermutationValue,
-        3,
-    );
-    let (text, back) = there_and_back(alloc, &ext)?;
-    assert_eq!(rt; text.as_str(), r#"{"entry":"PermutationValue","index":3}"#);
-    assert_eq!(rt; back, ext);
-    Ok(())
+    assert_spelt(
+        &rt,
+        rt.alloc(),
+        &[(base, r#"{"entry":"Public","index":2}"#)],
+    )?;
+    let entry = ExtEntry::PermutationValue;
+    let ext: SymbolicVariableExt<BabyBear, BabyBear> = SymbolicVariableExt::new(entry, 3);
+    let spelling = r#"{"entry":"PermutationValue","index":3}"#;
+    assert_spelt(&rt, rt.alloc(), &[(ext, spelling)])
+}
+
+#[test]
+fn spellings_of_boundary_cells(rt: HostRuntime) -> Result<(), Fail> {
+    let ends = [
+        (BoundaryEnd::First, r#""First""#),
+        (BoundaryEnd::Last, r#""Last""#),
+    ];
+    assert_spelt(&rt, rt.alloc(), &ends)?;
+    let cell = BoundaryPublic::new(1, BoundaryEnd::Last, 0);
+    let spelling = r#"{"column":1,"end":"Last","public_value":0}"#;
+    assert_spelt(&rt, rt.alloc(), &[(cell, spelling)])
 }

@@ -55,43 +55,6 @@ fn assert_applied(
     Ok(())
 }
 
-/// Weights of main columns, weights of preprocessed ones, and a constant.
-type Weights<'a> = (&'a [(usize, u32)], &'a [(usize, u32)], u32);
-
-/// The virtual column of these weights at these rows.
-fn assert_weighted(
-    rt: &impl Abort,
-    alloc: Global,
-    weights: Weights<'_>,
-    preprocessed: &[u32],
-    main: &[u32],
-    wanted: u32,
-) -> Result<(), Fail> {
-    let (of_main, of_preprocessed, constant) = weights;
-    let column = weighted(alloc, of_main, of_preprocessed, constant)?;
-    assert_applied(rt, alloc, &column, preprocessed, main, wanted)
-}
-
-#[test]
-fn virtual_columns(rt: HostRuntime) -> Result<(), Fail> {
-    let first: Weights<'_> = (&[(0, 1), (1, 2)], &[(0, 1)], 7);
-    let second: Weights<'_> = (&[(1, 3)], &[(0, 2)], 5);
-    let third: Weights<'_> = (&[(0, 1), (1, 2013265920)], &[(0, 1)], 3);
-    let packed: Weights<'_> = (&[(0, 1), (1, 16)], &[(0, 64)], 0);
-    let rows = [
-        (first, 5, [11, 13], 49),
-        (second, 6, [0, 4], 29),
-        (third, 10, [8, 2], 19),
-        (third, 7, [4, 9], 5),
-        (packed, 1, [3, 2], 99),
-        (packed, 1, [5, 1], 85),
-    ];
-    for (weights, preprocessed, main, wanted) in rows {
-        assert_weighted(&rt, rt.alloc(), weights, &[preprocessed], &main, wanted)?;
-    }
-    Ok(())
-}
-
 #[test]
 fn a_copy_of_a_virtual_column(rt: HostRuntime) -> Result<(), Fail> {
     let column = weighted(rt.alloc(), &[(0, 1), (1, 2)], &[(0, 1)], 7)?;
@@ -113,79 +76,55 @@ fn single_columns(rt: HostRuntime) {
     assert!(rt; !PairCol::Main(2).in_range(3, 2));
 }
 
-/// How a virtual column of one trace is made: the trace is the main one, or else the preprocessed one.
+/// How a virtual column is made.
 #[derive(Drop)]
 enum Maker<'a> {
+    /// Weights of main columns, weights of preprocessed ones, and a constant.
+    Weighted(&'a [(usize, u32)], &'a [(usize, u32)], u32),
     Constant(u32),
     One,
-    Single(bool, usize),
-    Sum(bool, &'a [usize]),
-    Difference(bool, usize, usize),
+    Single(Trace, usize),
+    Sum(Trace, &'a [usize]),
+    Difference(Trace, usize, usize),
     /// A weight of column 0, and a constant.
-    New(bool, u32, u32),
+    New(Trace, u32, u32),
 }
 
-fn make_single(
-    alloc: Global,
-    of_main: bool,
-    column: usize,
-) -> Result<VirtualPairCol<BabyBear>, Fail> {
-    Ok(if of_main {
-        VirtualPairCol::single_main(alloc, column)?
-    } else {
-        VirtualPairCol::single_preprocessed(alloc, column)?
-    })
+/// The trace whose columns are taken.
+#[derive(Drop)]
+enum Trace {
+    Main,
+    Preprocessed,
 }
 
-fn make_sum(
-    alloc: Global,
-    of_main: bool,
-    columns: &[usize],
-) -> Result<VirtualPairCol<BabyBear>, Fail> {
-    let columns = Vec::from_slice(alloc, columns)?;
-    Ok(if of_main {
-        VirtualPairCol::sum_main(alloc, columns)?
-    } else {
-        VirtualPairCol::sum_preprocessed(alloc, columns)?
-    })
-}
-
-fn make_difference(
-    alloc: Global,
-    of_main: bool,
-    x: usize,
-    y: usize,
-) -> Result<VirtualPairCol<BabyBear>, Fail> {
-    Ok(if of_main {
-        VirtualPairCol::diff_main(alloc, x, y)?
-    } else {
-        VirtualPairCol::diff_preprocessed(alloc, x, y)?
-    })
-}
-
-fn make_new(
-    alloc: Global,
-    of_main: bool,
-    weight: u32,
-    constant: u32,
-) -> Result<VirtualPairCol<BabyBear>, Fail> {
-    let weights = Vec::from_slice(alloc, &[(0, number(weight))])?;
-    Ok(if of_main {
-        VirtualPairCol::new_main(alloc, weights, number(constant))?
-    } else {
-        VirtualPairCol::new_preprocessed(alloc, weights, number(constant))?
-    })
+fn weight_of_first(alloc: Global, weight: u32) -> Result<Vec<(usize, BabyBear)>, Fail> {
+    Ok(Vec::from_slice(alloc, &[(0, number(weight))])?)
 }
 
 fn make(alloc: Global, maker: Maker<'_>) -> Result<VirtualPairCol<BabyBear>, Fail> {
-    match maker {
-        Maker::Constant(n) => Ok(VirtualPairCol::constant(alloc, number(n))),
-        Maker::One => Ok(VirtualPairCol::one(alloc)),
-        Maker::Single(of_main, column) => make_single(alloc, of_main, column),
-        Maker::Sum(of_main, columns) => make_sum(alloc, of_main, columns),
-        Maker::Difference(of_main, x, y) => make_difference(alloc, of_main, x, y),
-        Maker::New(of_main, weight, constant) => make_new(alloc, of_main, weight, constant),
-    }
+    Ok(match maker {
+        Maker::Weighted(main, preprocessed, c) => weighted(alloc, main, preprocessed, c)?,
+        Maker::Constant(n) => VirtualPairCol::constant(alloc, number(n)),
+        Maker::One => VirtualPairCol::one(alloc),
+        Maker::Single(Trace::Main, x) => VirtualPairCol::single_main(alloc, x)?,
+        Maker::Single(Trace::Preprocessed, x) => VirtualPairCol::single_preprocessed(alloc, x)?,
+        Maker::Sum(Trace::Main, all) => {
+            VirtualPairCol::sum_main(alloc, Vec::from_slice(alloc, all)?)?
+        }
+        Maker::Sum(Trace::Preprocessed, all) => {
+            VirtualPairCol::sum_preprocessed(alloc, Vec::from_slice(alloc, all)?)?
+        }
+        Maker::Difference(Trace::Main, x, y) => VirtualPairCol::diff_main(alloc, x, y)?,
+        Maker::Difference(Trace::Preprocessed, x, y) => {
+            VirtualPairCol::diff_preprocessed(alloc, x, y)?
+        }
+        Maker::New(Trace::Main, weight, c) => {
+            VirtualPairCol::new_main(alloc, weight_of_first(alloc, weight)?, number(c))?
+        }
+        Maker::New(Trace::Preprocessed, weight, c) => {
+            VirtualPairCol::new_preprocessed(alloc, weight_of_first(alloc, weight)?, number(c))?
+        }
+    })
 }
 
 /// The virtual column that is made so, at these rows.
@@ -202,18 +141,59 @@ fn assert_made(
 }
 
 #[test]
-fn virtual_columns_of_one_trace(rt: HostRuntime) -> Result<(), Fail> {
-    let rows: [(Maker<'_>, &[u32], &[u32], u32); 10] = [
+fn virtual_columns(rt: HostRuntime) -> Result<(), Fail> {
+    let rows: [(Maker<'_>, &[u32], &[u32], u32); 16] = [
+        (
+            Maker::Weighted(&[(0, 1), (1, 2)], &[(0, 1)], 7),
+            &[5],
+            &[11, 13],
+            49,
+        ),
+        (Maker::Weighted(&[(1, 3)], &[(0, 2)], 5), &[6], &[0, 4], 29),
+        (
+            Maker::Weighted(&[(0, 1), (1, 2013265920)], &[(0, 1)], 3),
+            &[10],
+            &[8, 2],
+            19,
+        ),
+        (
+            Maker::Weighted(&[(0, 1), (1, 2013265920)], &[(0, 1)], 3),
+            &[7],
+            &[4, 9],
+            5,
+        ),
+        (
+            Maker::Weighted(&[(0, 1), (1, 16)], &[(0, 64)], 0),
+            &[1],
+            &[3, 2],
+            99,
+        ),
+        (
+            Maker::Weighted(&[(0, 1), (1, 16)], &[(0, 64)], 0),
+            &[1],
+            &[5, 1],
+            85,
+        ),
         (Maker::Constant(7), &[], &[], 7),
         (Maker::One, &[], &[], 1),
-        (Maker::Single(true, 1), &[], &[9, 5], 5),
-        (Maker::Single(false, 0), &[4], &[], 4),
-        (Maker::Sum(true, &[0, 2]), &[], &[2, 99, 5], 7),
-        (Maker::Sum(false, &[1, 2]), &[3, 4, 6], &[], 10),
-        (Maker::Difference(true, 2, 0), &[], &[7, 0, 10], 3),
-        (Maker::Difference(false, 1, 0), &[4, 15], &[], 11),
-        (Maker::New(true, 3, 1), &[], &[2], 7),
-        (Maker::New(false, 3, 1), &[2], &[], 7),
+        (Maker::Single(Trace::Main, 1), &[], &[9, 5], 5),
+        (Maker::Single(Trace::Preprocessed, 0), &[4], &[], 4),
+        (Maker::Sum(Trace::Main, &[0, 2]), &[], &[2, 99, 5], 7),
+        (
+            Maker::Sum(Trace::Preprocessed, &[1, 2]),
+            &[3, 4, 6],
+            &[],
+            10,
+        ),
+        (Maker::Difference(Trace::Main, 2, 0), &[], &[7, 0, 10], 3),
+        (
+            Maker::Difference(Trace::Preprocessed, 1, 0),
+            &[4, 15],
+            &[],
+            11,
+        ),
+        (Maker::New(Trace::Main, 3, 1), &[], &[2], 7),
+        (Maker::New(Trace::Preprocessed, 3, 1), &[2], &[], 7),
     ];
     for (maker, preprocessed, main, wanted) in rows {
         assert_made(&rt, rt.alloc(), maker, preprocessed, main, wanted)?;

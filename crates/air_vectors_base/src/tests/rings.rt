@@ -11,32 +11,41 @@ fn numbers(values: [u32; 3]) -> [BabyBear; 3] {
 }
 
 #[test]
-fn sums_and_products(rt: HostRuntime) {
+fn results_in_a_field(rt: HostRuntime) {
     let mut ring = FieldRing::<BabyBear>::new();
     let all = numbers([2, 3, 7]);
+    let [three, five, _] = numbers([3, 5, 0]);
     let results = [
         ring.sum(&[]),
         ring.product(&[]),
         ring.sum(&all),
         ring.product(&all),
-    ];
-    let expected = [0, 1, 12, 42].map(|n| Ok(BabyBear::new(n)));
-    assert_eq!(rt; results, expected);
-}
-
-#[test]
-fn bodies_of_rings(rt: HostRuntime) {
-    let mut ring = FieldRing::<BabyBear>::new();
-    let [three, five, _] = numbers([3, 5, 0]);
-    let results = [
+        ring.from_var(three),
+        ring.constant(five),
+        ring.sub(five, three),
+        ring.neg(three),
         ring.double(three),
         ring.bool_check(three),
         ring.xor(three, five),
         ring.andn(three, five),
         ring.mul_2exp_u64(three, 10),
     ];
-    let expected = [6, 6, 2013265921 - 22, 2013265921 - 10, 3072].map(|n| Ok(BabyBear::new(n)));
-    assert_eq!(rt; results, expected);
+    let expected = [
+        0,
+        1,
+        12,
+        42,
+        3,
+        5,
+        2,
+        2013265918,
+        6,
+        6,
+        2013265921 - 22,
+        2013265921 - 10,
+        3072,
+    ];
+    assert_eq!(rt; results, expected.map(|n| Ok(BabyBear::new(n))));
 }
 
 #[test]
@@ -47,20 +56,6 @@ fn bits(rt: HostRuntime) {
         let results = [ring.xor(left, right), ring.andn(left, right)];
         assert_eq!(rt; results, [Ok(BabyBear::new(xor)), Ok(BabyBear::new(andn))]);
     }
-}
-
-#[test]
-fn operations_of_rings(rt: HostRuntime) {
-    let mut ring = FieldRing::<BabyBear>::new();
-    let [three, five, _] = numbers([3, 5, 0]);
-    let results = [
-        ring.from_var(three),
-        ring.constant(five),
-        ring.sub(five, three),
-        ring.neg(three),
-    ];
-    let expected = [3, 5, 2, 2013265918].map(|n| Ok(BabyBear::new(n)));
-    assert_eq!(rt; results, expected);
 }
 
 #[test]

@@ -1,23 +1,24 @@
 -- Base leaves: what is read is what is spelt.
 use Rattle.std.specs.Prelude.{◌≡◌, ℕ, List, Option, Some, None, Ok, Err, option_map, codes, if◌then◌else◌, nat_lt, ok_or, refl, true}
-use Rattle.std.proofs.Common.{sym, ap, subst, ◌∙◌}
+use Rattle.std.proofs.Common.{sym, ap, ◌∙◌}
 use Rattle.std.proofs.lemmas.Bool.{ltb-true, lt-ltb}
 use Rattle.serde_json.specs.Data.{Data, string}
-use Rattle.serde_json.specs.Find.{as_str}
 use Rattle.air_field.specs.Modulo.{class}
 use Rattle.air_field.specs.laws.Modulo.{class_of}
 use Rattle.std.proofs.Math.Nat.{mod-eq_of_lt}
 use Rattle.air_field.specs.declared.fields.baby_bear.BabyBear.{BabyBear}
+use Rattle.air_symbolic.specs.Trees.{Tree, nothing, leaf_tree, add_tree, sub_tree, neg_tree, mul_tree}
 use Rattle.air_symbolic.specs.declared.leaves.base_leaf.BaseLeaf.{BaseLeaf}
 use Rattle.air_symbolic.specs.declared.leaves.base_leaf.BaseLeaf.TheVariants as leaves
-use Rattle.air_wire.specs.Parts.{only_member, whole}
+use Rattle.air_wire.specs.Parts.{whole}
 use Rattle.air_wire.specs.Results.{◌>>=◌}
 use Rattle.air_wire.specs.Spelling.{number_data, case_data, IsWhole}
-use Rattle.air_wire.specs.laws.Readings.{by_name, none_found, named, mapped, done, done_is, not_done, bind_ok, ok_or_found, test_ok, name_ok, only_found, text_found, number_found}
-use Rattle.air_wire.specs.Entries.{variable_data, variable_of}
-use Rattle.air_wire.specs.laws.Entries.{variable_is_spelt, variable_again, variable_found}
+use Rattle.air_wire.specs.laws.Readings.{mapped, done, done_is, not_done, bind_ok, ok_or_found, test_ok, name_ok, name_found, text_read, number_found}
+use Rattle.air_wire.specs.Entries.{variable_plain}
+use Rattle.air_wire.specs.laws.Entries.{variable_laws}
 use Rattle.air_wire.specs.Nodes.{KindLaws}
-use Rattle.air_wire.specs.BaseLeaves.{SpellsLeaf, WritesLeaf, element_or, element_at, bare_leaf, leaf_with, case_leaf, leaf_named, leaf_at, base_kind}
+use Rattle.air_wire.specs.Seen.{over}
+use Rattle.air_wire.specs.BaseLeaves.{SpellsLeaf, WritesLeaf, element_or, element_at, bare_leaves, bare_leaf, leaf_with, leaf_at, base_kind, base_seen}
 use Rattle.air_wire.specs.declared.errors.FlatError.TheVariants as faults
 
 -- an element and its canonical number
@@ -46,50 +47,34 @@ element_again place d x h =
 leaf_again : (place : ℕ) (d : Data) (a : BaseLeaf BabyBear) → SpellsLeaf d a → leaf_at place d ≡ Ok a
 unfolding leaf_at
 leaf_again place d (leaves.Variable v) h =
-    ap (λ x. leaf_named place (as_str x) x) h.1 ∙ ap (λ o. ok_or (option_map (λ w. leaves.Variable w) o) (faults.Shape place)) (variable_again h.0 v h.2)
-leaf_again place d leaves.IsFirstRow h = ap (λ x. leaf_named place (as_str x) x) h
-leaf_again place d leaves.IsLastRow h = ap (λ x. leaf_named place (as_str x) x) h
-leaf_again place d leaves.IsTransition h = ap (λ x. leaf_named place (as_str x) x) h
+    ap (leaf_at place) h.1 ∙ ap (λ o. ok_or (option_map (λ w. leaves.Variable w) o) (faults.Shape place)) (variable_laws.again h.0 v h.2)
+leaf_again place d leaves.IsFirstRow h = ap (leaf_at place) h
+leaf_again place d leaves.IsLastRow h = ap (leaf_at place) h
+leaf_again place d leaves.IsTransition h = ap (leaf_at place) h
 leaf_again place d (leaves.Constant x) h =
-    ap (λ y. leaf_named place (as_str y) y) h.1 ∙ ap (λ r. r >>= λ c. done (leaves.Constant c)) (element_again place h.0 x h.2)
-
-bare_found : (s : List ℕ) (a : BaseLeaf BabyBear) → bare_leaf s ≡ Some a → SpellsLeaf (string s) a
-bare_found s a h =
-    let P : BaseLeaf BabyBear → Type 0 = SpellsLeaf (string s) in
-    by_name P s (codes "IsFirstRow") _ _ a h
-    (λ same. named P leaves.IsFirstRow a (ap (λ t. string t) same))
-    (λ h. by_name P s (codes "IsLastRow") _ _ a h
-    (λ same. named P leaves.IsLastRow a (ap (λ t. string t) same))
-    (λ h. by_name P s (codes "IsTransition") _ _ a h
-    (λ same. named P leaves.IsTransition a (ap (λ t. string t) same))
-    (none_found P a)))
+    ap (leaf_at place) h.1 ∙ ap (λ r. r >>= λ c. done (leaves.Constant c)) (element_again place h.0 x h.2)
 
 with_found : (place : ℕ) (name : List ℕ) (c : Data) (a : BaseLeaf BabyBear) → leaf_with place name c ≡ Ok a → SpellsLeaf (case_data name c) a
 with_found place name c a h =
     let P : BaseLeaf BabyBear → Type 0 = SpellsLeaf (case_data name c) in
     name_ok P name (codes "Variable") _ _ a h
-    (λ same h. mapped P (λ v. leaves.Variable v) (variable_of c) a (ok_or_found _ _ a h)
-    (λ v at. (c, ap (λ t. case_data t c) same, variable_found c v at)))
+    (λ same h. mapped P (λ v. leaves.Variable v) (variable_plain.read c) a (ok_or_found _ _ a h)
+    (λ v at. (c, ap (λ t. case_data t c) same, variable_laws.found c v at)))
     (λ h. name_ok P name (codes "Constant") _ _ a h
     (λ same h.
     let x = bind_ok (element_at place c) (λ x. done (leaves.Constant x)) a h in
     done_is P (leaves.Constant x.0) a x.2 (c, ap (λ t. case_data t c) same, element_found place c x.0 x.1))
     (not_done P (faults.Shape place) a))
 
-case_found : (place : ℕ) (d : Data) (o : Option (List ℕ × Data)) (a : BaseLeaf BabyBear) → only_member d ≡ o → case_leaf place o ≡ Ok a → SpellsLeaf d a
-case_found place d None a is h = not_done (SpellsLeaf d) (faults.Shape place) a h
-case_found place d (Some c) a is h = subst (λ x. SpellsLeaf x a) (sym (only_found d c is)) (with_found place c.0 c.1 a h)
-
-named_found : (place : ℕ) (d : Data) (o : Option (List ℕ)) (a : BaseLeaf BabyBear) → as_str d ≡ o → leaf_named place o d ≡ Ok a → SpellsLeaf d a
-named_found place d None a is h = case_found place d (only_member d) a refl h
-named_found place d (Some s) a is h = subst (λ x. SpellsLeaf x a) (sym (text_found d s is)) (bare_found s a (ok_or_found _ _ a h))
-
 leaf_found : (place : ℕ) (d : Data) (a : BaseLeaf BabyBear) → leaf_at place d ≡ Ok a → SpellsLeaf d a
 unfolding leaf_at
-leaf_found place d a h = named_found place d (as_str d) a refl h
+leaf_found place d a h =
+    text_read (λ x. SpellsLeaf x a) (λ r. r ≡ Ok a) (Err (faults.Shape place)) (bare_leaf place) (leaf_with place) d h
+    (λ s e. name_found (λ s a. SpellsLeaf (string s) a) bare_leaves s a (ok_or_found _ _ a e) (refl, (refl, (refl, tt))))
+    (not_done (SpellsLeaf d) (faults.Shape place) a) (λ name c. with_found place name c a)
 
 leaf_written : (d : Data) (a : BaseLeaf BabyBear) → WritesLeaf d a → SpellsLeaf d a
-leaf_written d (leaves.Variable v) h = (variable_data v, h, variable_is_spelt v)
+leaf_written d (leaves.Variable v) h = (variable_plain.written v, h, variable_laws.is_spelt v)
 leaf_written d leaves.IsFirstRow h = h
 leaf_written d leaves.IsLastRow h = h
 leaf_written d leaves.IsTransition h = h
@@ -97,3 +82,12 @@ leaf_written d (leaves.Constant x) h = (number_data x.residue, h, refl)
 
 pub base_kind_laws : KindLaws base_kind
 base_kind_laws = record { found = leaf_found; again = leaf_again; written = leaf_written; once = λ d e a h k. h ∙ sym k }
+
+-- what is seen of a tree of base leaves is the tree
+pub over_same : (t : Tree (BaseLeaf BabyBear)) → over (base_seen tt) t ≡ t
+over_same nothing = refl
+over_same (leaf_tree a) = refl
+over_same (add_tree t u) = cc (over_same t, over_same u)
+over_same (sub_tree t u) = cc (over_same t, over_same u)
+over_same (neg_tree t) = cc (over_same t)
+over_same (mul_tree t u) = cc (over_same t, over_same u)

@@ -1,6 +1,6 @@
 -- Extension leaves: what is read is what is spelt, and what is seen of a leaf stays.
-use Rattle.std.specs.Prelude.{◌≡◌, ℕ, Bool, List, Option, Some, None, Result, Ok, Err, option_map, codes, ok_or, length, refl}
-use Rattle.std.proofs.Common.{sym, ap, subst, ◌∙◌}
+use Rattle.std.specs.Prelude.{◌≡◌, ℕ, Bool, List, Result, Ok, Err, option_map, codes, ok_or, length, refl}
+use Rattle.std.proofs.Common.{sym, ap, ◌∙◌}
 use Rattle.serde_json.specs.Data.{Data, array}
 use Rattle.air_field.specs.Ring.{CommRing, Over}
 use Rattle.air_field.specs.Extension.{ExtensionLaws}
@@ -14,12 +14,11 @@ use Rattle.air_symbolic.specs.ExtLeaves.{BaseNodes, ext_grows, ext_reads, ext_va
 use Rattle.air_symbolic.specs.ExtTrees.{WholeLeaf, whole_base, whole_variable, whole_constant, whole_leaf}
 use Rattle.air_symbolic.specs.declared.leaves.ext_leaf.ExtLeaf.{ExtLeaf}
 use Rattle.air_symbolic.specs.declared.leaves.ext_leaf.ExtLeaf.TheVariants.{Base, ExtVariable, ExtConstant}
-use Rattle.air_wire.specs.Parts.{only_member}
 use Rattle.air_wire.specs.Results.{◌>>=◌}
 use Rattle.air_wire.specs.Spelling.{case_data}
-use Rattle.air_wire.specs.laws.Readings.{mapped, done, done_is, not_done, bind_ok, ok_or_found, name_ok, only_found}
-use Rattle.air_wire.specs.ExtEntries.{ext_variable_data, ext_variable_of}
-use Rattle.air_wire.specs.laws.ExtEntries.{ext_variable_is_spelt, ext_variable_again, ext_variable_found}
+use Rattle.air_wire.specs.laws.Readings.{mapped, done, done_is, not_done, bind_ok, ok_or_found, name_ok, case_read}
+use Rattle.air_wire.specs.ExtEntries.{ext_variable_plain}
+use Rattle.air_wire.specs.laws.ExtEntries.{ext_variable_laws}
 use Rattle.air_wire.specs.Coefficients.{number_items, elements_at}
 use Rattle.air_wire.specs.laws.Coefficients.{elements_found, elements_again}
 use Rattle.air_wire.specs.Seen.{WireLaws}
@@ -28,7 +27,7 @@ use Rattle.air_wire.specs.laws.Lists.{root_found, root_again}
 use Rattle.air_wire.specs.laws.Written.{written_list, one_list}
 use Rattle.air_wire.specs.BaseLeaves.{base_kind}
 use Rattle.air_wire.specs.laws.BaseLeaves.{base_kind_laws}
-use Rattle.air_wire.specs.ExtLeaves.{SpellsWhole, WritesWhole, whole_term, moved, ext_constant_at, ext_leaf_with, case_ext_leaf, ext_leaf_at, ext_kind}
+use Rattle.air_wire.specs.ExtLeaves.{SpellsWhole, WritesWhole, whole_term, moved, ext_constant_at, ext_leaf_with, ext_leaf_at, ext_kind}
 use Rattle.air_wire.specs.declared.errors.FlatError.{FlatError}
 use Rattle.air_wire.specs.declared.errors.FlatError.TheVariants as faults
 
@@ -73,11 +72,11 @@ module _ {EF : Type 0} (r : CommRing BabyBear) (a : Over BabyBear EF) (coefficie
   ext_leaf_again : (place : ℕ) (d : Data) (l : WholeLeaf BabyBear EF) → SpellsWhole coefficients d l → ext_leaf_at a count place d ≡ Ok l
   unfolding ext_leaf_at
   ext_leaf_again place d (whole_base t) h =
-      ap (λ x. case_ext_leaf a count place (only_member x)) h.1 ∙ ap (λ q. moved place q >>= λ t. done (whole_base t)) (root_again base_kind base_kind_laws h.0 t h.2)
+      ap (ext_leaf_at a count place) h.1 ∙ ap (λ q. moved place q >>= λ t. done (whole_base t)) (root_again base_kind base_kind_laws h.0 t h.2)
   ext_leaf_again place d (whole_variable v) h =
-      ap (λ x. case_ext_leaf a count place (only_member x)) h.1 ∙ ap (λ o. ok_or (option_map (λ w. whole_variable w) o) (faults.Shape place)) (ext_variable_again h.0 v h.2)
+      ap (ext_leaf_at a count place) h.1 ∙ ap (λ o. ok_or (option_map (λ w. whole_variable w) o) (faults.Shape place)) (ext_variable_laws.again h.0 v h.2)
   ext_leaf_again place d (whole_constant e) h =
-      ap (λ x. case_ext_leaf a count place (only_member x)) h.1 ∙ ap (λ q. q >>= λ e. done (whole_constant e)) (constant_again place h.0 e h.2)
+      ap (ext_leaf_at a count place) h.1 ∙ ap (λ q. q >>= λ e. done (whole_constant e)) (constant_again place h.0 e h.2)
 
   with_found : (place : ℕ) (name : List ℕ) (c : Data) (l : WholeLeaf BabyBear EF) → ext_leaf_with a count place name c ≡ Ok l → SpellsWhole coefficients (case_data name c) l
   with_found place name c l h =
@@ -87,25 +86,23 @@ module _ {EF : Type 0} (r : CommRing BabyBear) (a : Over BabyBear EF) (coefficie
       let t = bind_ok (moved place (root_of base_kind c)) (λ t. done (whole_base t)) l h in
       done_is P (whole_base t.0) l t.2 (c, ap (λ n. case_data n c) same, root_found base_kind base_kind_laws c t.0 (moved_ok place (root_of base_kind c) t.0 t.1)))
       (λ h. name_ok P name (codes "ExtVariable") _ _ l h
-      (λ same h. mapped P (λ v. whole_variable v) (ext_variable_of c) l (ok_or_found _ _ l h)
-      (λ v at. (c, ap (λ n. case_data n c) same, ext_variable_found c v at)))
+      (λ same h. mapped P (λ v. whole_variable v) (ext_variable_plain.read c) l (ok_or_found _ _ l h)
+      (λ v at. (c, ap (λ n. case_data n c) same, ext_variable_laws.found c v at)))
       (λ h. name_ok P name (codes "ExtConstant") _ _ l h
       (λ same h.
       let e = bind_ok (ext_constant_at a count place c) (λ e. done (whole_constant e)) l h in
       done_is P (whole_constant e.0) l e.2 (c, ap (λ n. case_data n c) same, constant_found place c e.0 e.1))
       (not_done P (faults.Shape place) l)))
 
-  case_found : (place : ℕ) (d : Data) (o : Option (List ℕ × Data)) (l : WholeLeaf BabyBear EF) → only_member d ≡ o → case_ext_leaf a count place o ≡ Ok l → SpellsWhole coefficients d l
-  case_found place d None l is h = not_done (SpellsWhole coefficients d) (faults.Shape place) l h
-  case_found place d (Some c) l is h = subst (λ x. SpellsWhole coefficients x l) (sym (only_found d c is)) (with_found place c.0 c.1 l h)
-
   ext_leaf_found : (place : ℕ) (d : Data) (l : WholeLeaf BabyBear EF) → ext_leaf_at a count place d ≡ Ok l → SpellsWhole coefficients d l
   unfolding ext_leaf_at
-  ext_leaf_found place d l h = case_found place d (only_member d) l refl h
+  ext_leaf_found place d l h =
+      case_read (λ x. SpellsWhole coefficients x l) (λ r. r ≡ Ok l) (Err (faults.Shape place)) (ext_leaf_with a count place) d h
+      (not_done (SpellsWhole coefficients d) (faults.Shape place) l) (λ name c. with_found place name c l)
 
   ext_leaf_written : (d : Data) (l : WholeLeaf BabyBear EF) → WritesWhole coefficients d l → SpellsWhole coefficients d l
   ext_leaf_written d (whole_base t) h = (h.0, h.1, written_list base_kind base_kind_laws h.0 t h.2)
-  ext_leaf_written d (whole_variable v) h = (ext_variable_data v, h, ext_variable_is_spelt v)
+  ext_leaf_written d (whole_variable v) h = (ext_variable_plain.written v, h, ext_variable_laws.is_spelt v)
   ext_leaf_written d (whole_constant e) h = (array (number_items (coefficients e)), h, refl)
 
   ext_leaf_once : (d e : Data) (l : WholeLeaf BabyBear EF) → WritesWhole coefficients d l → WritesWhole coefficients e l → d ≡ e

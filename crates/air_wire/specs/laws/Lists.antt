@@ -166,7 +166,7 @@ pub gives_ok : {X Y : Type 0} (P : Y → Type 0) (view : X → Y) (r : Result X 
 gives_ok P view (Ok x) read g h = h (view x) g
 gives_ok P view (Err f) read g h = tt
 
-fails_is : {Y : Type 0} (f : FlatError) (read : Result Y FlatError) → Fails f read → f ≢ faults.Memory → read ≡ Err f
+pub fails_is : {Y : Type 0} (f : FlatError) (read : Result Y FlatError) → Fails f read → f ≢ faults.Memory → read ≡ Err f
 fails_is faults.Memory read g n = absurd (n refl)
 fails_is faults.DegreeOverflow read g n = g
 fails_is (faults.Shape at) read g n = g

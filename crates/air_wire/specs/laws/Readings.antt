@@ -1,13 +1,13 @@
 -- What is found by reading a value is what the value spells.
 use Rattle.air_wire.specs.declared.errors.FlatError.{FlatError}
 use Rattle.air_wire.specs.Results.{◌>>=◌}
-use Rattle.std.specs.Prelude.{◌≡◌, ℕ, List, Bool, true, false, Option, Some, None, Result, Ok, Err, ok_or, option_map, option_and_then, if◌then◌else◌, bytes_eq, refl}
-use Rattle.std.proofs.Common.{ap, subst}
+use Rattle.std.specs.Prelude.{◌≡◌, ℕ, List, [], ◌∷◌, Bool, true, false, Option, Some, None, Result, Ok, Err, ok_or, option_map, option_and_then, if◌then◌else◌, bytes_eq, refl}
+use Rattle.std.proofs.Common.{sym, ap, subst, ◌∙◌}
 use Rattle.std.proofs.lemmas.Slice.Eq.{bytes_eq-Decides}
 use Rattle.serde_json.specs.Data.{Data, null, boolean, number, string, array, object, unsigned, negative, float, no_members, member}
 use Rattle.serde_json.specs.Find.{get, as_str}
-use Rattle.air_wire.specs.Parts.{only_member, whole, whole_at}
-use Rattle.air_wire.specs.Spelling.{number_data, case_data, HasWhole}
+use Rattle.air_wire.specs.Parts.{only_member, whole, whole_at, both, all_three, find_name, case_or, text_or}
+use Rattle.air_wire.specs.Spelling.{number_data, case_data, HasField, HasWhole}
 
 some_is : {A : Type 0} (x y : A) → Some x ≡ Some y → x ≡ y
 some_is x y e = cc
@@ -48,20 +48,44 @@ field_found name d n e = whole_found (get name d) n e
 pub field_read : (name : List ℕ) (d : Data) (n : ℕ) → HasWhole name n d → whole_at name d ≡ Some n
 field_read name d n h = ap (option_and_then whole) h
 
--- what is read, by the name where the value is a text, and else by the only member
-pub text_or_case : {A : Type 0} (P : Data → A → Type 0) (read : Option (List ℕ) → Data → Option A) (d : Data) (z : A)
-    → ((s : List ℕ) → read (Some s) (string s) ≡ Some z → P (string s) z)
-    → ((name : List ℕ) (c : Data) → read None (case_data name c) ≡ Some z → P (case_data name c) z)
-    → ((d : Data) → only_member d ≡ None → read None d ≡ Some z → P d z)
-    → read (as_str d) d ≡ Some z → P d z
-text_or_case P read null z b c n e = n null refl e
-text_or_case P read (boolean x) z b c n e = n (boolean x) refl e
-text_or_case P read (number x) z b c n e = n (number x) refl e
-text_or_case P read (string s) z b c n e = b s e
-text_or_case P read (array ds) z b c n e = n (array ds) refl e
-text_or_case P read (object no_members) z b c n e = n (object no_members) refl e
-text_or_case P read (object (member k v no_members)) z b c n e = c k v e
-text_or_case P read (object (member k v (member l w ms))) z b c n e = n (object (member k v (member l w ms))) refl e
+-- ---- what was made of parts that were found
+
+pub both_found : {A B C : Type 0} (P : C → Type 0) (make : A → B → C) (x : Option A) (y : Option B) (z : C) → both make x y ≡ Some z → ((a : A) (b : B) → x ≡ Some a → y ≡ Some b → P (make a b)) → P z
+both_found P make None y z e h = none_found P z e
+both_found P make (Some a) None z e h = none_found P z e
+both_found P make (Some a) (Some b) z e h = named P (make a b) z (h a b refl refl) e
+
+pub three_found : {A B C D : Type 0} (P : D → Type 0) (make : A → B → C → D) (x : Option A) (y : Option B) (o : Option C) (z : D)
+    → all_three make x y o ≡ Some z → ((a : A) (b : B) (c : C) → x ≡ Some a → y ≡ Some b → o ≡ Some c → P (make a b c)) → P z
+three_found P make None y o z e h = none_found P z e
+three_found P make (Some a) None o z e h = none_found P z e
+three_found P make (Some a) (Some b) None z e h = none_found P z e
+three_found P make (Some a) (Some b) (Some c) z e h = named P (make a b c) z (h a b c refl refl refl) e
+
+pub then_found : {A B : Type 0} (P : Type 0) (f : A → Option B) (o : Option A) (z : B) → option_and_then f o ≡ Some z → ((a : A) → o ≡ Some a → f a ≡ Some z → P) → P
+then_found P f None z e h = none_found (λ _. P) z e
+then_found P f (Some a) z e h = h a refl e
+
+-- a field that is read, and found
+pub field_again : {A : Type 0} (spells : Data → A → Type 0) (read : Data → Option A) → ((d : Data) (x : A) → spells d x → read d ≡ Some x)
+    → (name : List ℕ) (d : Data) (x : A) → HasField name (λ c. spells c x) d → option_and_then read (get name d) ≡ Some x
+field_again spells read again name d x h = ap (option_and_then read) h.1 ∙ again h.0 x h.2
+
+pub field_with : {A : Type 0} (spells : Data → A → Type 0) (read : Data → Option A) → ((d : Data) (x : A) → read d ≡ Some x → spells d x)
+    → (name : List ℕ) (d : Data) (x : A) → option_and_then read (get name d) ≡ Some x → HasField name (λ c. spells c x) d
+field_with spells read found name d x e =
+    then_found (HasField name (λ c. spells c x) d) read (get name d) x e (λ c is e. (c, is, found c x e))
+
+-- P of each row
+abbrev pub Rows : {A : Type 0} → (List ℕ → A → Type 0) → List (List ℕ × A) → Type 0
+Rows P [] = Unit {0}
+Rows P (row ∷ rows) = P row.0 row.1 × Rows P rows
+
+pub name_found : {A : Type 0} (P : List ℕ → A → Type 0) (rows : List (List ℕ × A)) (s : List ℕ) (z : A) → find_name rows s ≡ Some z → Rows P rows → P s z
+name_found P [] s z e h = none_found (P s) z e
+name_found P (row ∷ rows) s z e h =
+    by_name (P s) s row.0 (Some row.1) (find_name rows s) z e
+    (λ same e. subst (λ t. P t z) (sym same) (named (P row.0) row.1 z h.0 e)) (λ e. name_found P rows s z e h.1)
 
 -- ---- results
 
@@ -80,6 +104,10 @@ not_done P f z e = absurd cc
 pub bind_ok : {A B : Type 0} (r : Result A FlatError) (f : A → Result B FlatError) (y : B) → (r >>= f) ≡ Ok y → (x : A) × (r ≡ Ok x) × (f x ≡ Ok y)
 bind_ok (Ok x) f y e = (x, refl, e)
 bind_ok (Err d) f y e = absurd cc
+
+pub bind_then : {A B : Type 0} (P : Type 0) (r : Result A FlatError) (f : A → Result B FlatError) (y : B) → (r >>= f) ≡ Ok y → ((x : A) → r ≡ Ok x → f x ≡ Ok y → P) → P
+bind_then P (Ok x) f y e h = h x refl e
+bind_then P (Err d) f y e h = absurd cc
 
 pub ok_or_found : {A : Type 0} (o : Option A) (f : FlatError) (x : A) → ok_or o f ≡ Ok x → o ≡ Some x
 ok_or_found None f x e = absurd cc
@@ -110,6 +138,23 @@ text_found (number n) s e = absurd cc
 text_found (string t) s e = ap (λ x. string x) (some_is t s e)
 text_found (array ds) s e = absurd cc
 text_found (object ms) s e = absurd cc
+
+-- what is said of a value for which a case was read, a text
+pub case_read : {B : Type 0} (P : Data → Type 0) (Is : B → Type 0) (other : B) (read : List ℕ → Data → B) (d : Data) → Is (case_or other read (only_member d)) → (Is other → P d)
+    → ((name : List ℕ) (c : Data) → Is (read name c) → P (case_data name c)) → P d
+case_read P Is other read d h none case = go (only_member d) refl h
+  where
+    go : (o : Option (List ℕ × Data)) → only_member d ≡ o → Is (case_or other read o) → P d
+    go None is h = none h
+    go (Some c) is h = subst P (sym (only_found d c is)) (case c.0 c.1 h)
+
+pub text_read : {B : Type 0} (P : Data → Type 0) (Is : B → Type 0) (other : B) (bare : List ℕ → B) (read : List ℕ → Data → B) (d : Data) → Is (text_or other bare read (as_str d) d)
+    → ((name : List ℕ) → Is (bare name) → P (string name)) → (Is other → P d) → ((name : List ℕ) (c : Data) → Is (read name c) → P (case_data name c)) → P d
+text_read P Is other bare read d h text none case = go (as_str d) refl h
+  where
+    go : (o : Option (List ℕ)) → as_str d ≡ o → Is (text_or other bare read o d) → P d
+    go None is h = case_read P Is other read d h none case
+    go (Some s) is h = subst P (sym (text_found d s is)) (text s h)
 
 pub number_found : (d : Data) (n : ℕ) → whole d ≡ Some n → d ≡ number_data n
 number_found null n e = absurd cc

@@ -2,5 +2,9 @@ use Rattle.serde_json.specs.View.{view}
 use Rattle.air_flat_input.proofs.Trees.{tree_given}
 use Rattle.air_flat_input.proofs.constraints.root_from.Goals as goal
 
-pub returns-clause-read : goal.returns-clause-read
-returns-clause-read c = tree_given c.from_flat_value.new.pool (view c.args.value.now) c.from_flat_value.result c.from_flat_value.ensures.root c.from_flat_value.ensures.fault
+pub returns : goal.returns
+returns c = record {
+  grown = c.from_flat_value.ensures.grown;
+  here = c.from_flat_value.ensures.here;
+  read = tree_given c.from_flat_value.new.pool (view c.args.value.now) c.from_flat_value.result c.from_flat_value.ensures.root c.from_flat_value.ensures.fault;
+}

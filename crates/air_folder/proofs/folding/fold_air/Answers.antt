@@ -5,13 +5,13 @@ use Rattle.air_folder.proofs.folding.fold_air.Goals as goal
 
 pub returns-in_err-recorded-clause-beginning : goal.returns-in_err-recorded-clause-beginning
 returns-in_err-recorded-clause-beginning g c =
-    refused_before g.EF.ExtensionField.over c.args.folder.now (g.A.BaseAir.declared c.args.air.now) c.from_residual-in_err-recorded.result
+    refused_before g.EF.ExtensionField.over c.args.folder.now (g.A.BaseAir.declaration c.args.air.now).declared c.from_residual-in_err-recorded.result
 
 pub returns-clause-folded : goal.returns-clause-folded
 returns-clause-folded g c =
     let over = g.EF.ExtensionField.over in
     let d = folder_row c.args.folder.now in
-    let ts = g.A.BaseAir.declared c.args.air.now in
+    let ts = (g.A.BaseAir.declaration c.args.air.now).declared in
     let values = values_in over (folder_leaves over d) ts in
     folded_air g.F.Field.ring g.F.PartialEq.eq over g.EF.ExtensionField.coefficients d ts
     record { recorded = c.in_ok-recorded.recorded; layout = c.in_ok-places.places; accumulator = c.accumulator.result }

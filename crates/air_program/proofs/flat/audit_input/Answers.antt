@@ -8,4 +8,4 @@ returns-clause-refused c =
 pub returns-clause-found : goal.returns-clause-found
 returns-clause-found c =
     let made = c.new-air.ensures in
-    rw (made.pool, made.roots, made.periodic, made.cells, c.deref.ensures.value) at c.findings_of.ensures.found
+    rw (made.pool, made.roots, made.width, made.num_public_values, made.periodic, made.cells, c.width.ensures, c.len.ensures, ← c.deref.ensures.len, c.deref.ensures.value) at c.findings_of.ensures.found

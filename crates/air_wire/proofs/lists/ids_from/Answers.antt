@@ -1,29 +1,30 @@
 use Rattle.std.proofs.Common.{[], map}
-use Rattle.std.proofs.lemmas.Result.{err_from_is_err_and}
 use Rattle.std.proofs.lemmas.List.{map_push}
 use Rattle.serde_json.specs.View.{items_view}
 use Rattle.air_symbolic.specs.laws.Pools.{Grown-trans}
 use Rattle.air_wire.specs.Seen.{seen_at}
 use Rattle.air_wire.specs.Nodes.{nodes_from}
+use Rattle.air_wire.specs.declared.errors.FlatError.TheVariants.{Memory}
+use Rattle.air_wire.specs.laws.Reads.{gives_up_all}
 use Rattle.air_wire.proofs.Growing.{longer, below_push, map_kept}
 use Rattle.air_wire.proofs.SeenTrees.{seen_kept}
 use Rattle.air_wire.proofs.Loop.{goes_on, ends, is_done}
 use Rattle.air_wire.proofs.lists.ids_from.Goals as goal
 
-pub returns-in_err-id-clause-grown : goal.returns-in_err-id-clause-grown
-returns-in_err-id-clause-grown g c =
-    Grown-trans _ g.A.SymLeaf.reads g.A.SymLeaf.grows _ g.met.A.SymLeaf.leaf_laws c.args.pool.now c.loop-item.pool c.node_from.new.pool c.loop-item.invariant.grown c.node_from.ensures.grown
-
-pub returns-in_err-id-clause-read : goal.returns-in_err-id-clause-read
-returns-in_err-id-clause-read g c =
+pub returns-in_err-id : goal.returns-in_err-id
+returns-in_err-id g c =
     let A = g.A.WireLeaf in
-    let p = err_from_is_err_and c.from_residual.result c.from_residual.ensures.1 in
     let bad = rw c.deref.ensures.value at c.in_err-id.ensures.read in
-    rw (p.1, p.2) (ends A.kind (map (seen_at A.seen c.loop-item.pool) c.loop-item.ids.items) c.args.items.now c.loop-item.item-index c.item-item.result c.in_err-id.field-0.0 _ c.loop-item-test.true c.item-item.is bad c.loop-item.invariant.read)
+    gives_up_all c.in_err-id.field-0.0
+    (Grown-trans _ g.A.SymLeaf.reads g.A.SymLeaf.grows _ g.met.A.SymLeaf.leaf_laws c.args.pool.now c.loop-item.pool c.node_from.new.pool c.loop-item.invariant.grown c.node_from.ensures.grown)
+    c.from_residual.ensures.1
+    (ends A.kind (map (seen_at A.seen c.loop-item.pool) c.loop-item.ids.items) c.args.items.now c.loop-item.item-index c.item-item.result c.in_err-id.field-0.0 _ c.loop-item-test.true c.item-item.is bad c.loop-item.invariant.read)
 
-pub returns-in_err-push-clause-grown : goal.returns-in_err-push-clause-grown
-returns-in_err-push-clause-grown g c =
-    Grown-trans _ g.A.SymLeaf.reads g.A.SymLeaf.grows _ g.met.A.SymLeaf.leaf_laws c.args.pool.now c.loop-item.pool c.node_from.new.pool c.loop-item.invariant.grown c.node_from.ensures.grown
+pub returns-in_err-push : goal.returns-in_err-push
+returns-in_err-push g c =
+    gives_up_all Memory
+    (Grown-trans _ g.A.SymLeaf.reads g.A.SymLeaf.grows _ g.met.A.SymLeaf.leaf_laws c.args.pool.now c.loop-item.pool c.node_from.new.pool c.loop-item.invariant.grown c.node_from.ensures.grown)
+    c.from_residual-in_err-push.ensures.1 tt
 
 pub loop-item-preserved : goal.loop-item-preserved
 loop-item-preserved g c =
@@ -40,7 +41,11 @@ loop-item-preserved g c =
       read = rw (c.in_ok-push.ensures.items, map_push, kept) (goes_on A.kind (map (seen_at A.seen old) ids) c.args.items.now c.loop-item.item-index c.item-item.result (seen_at A.seen new id) _ c.loop-item-test.true c.item-item.is good c.loop-item.invariant.read);
     }
 
-pub returns-clause-read : goal.returns-clause-read
-returns-clause-read g c =
+pub returns : goal.returns
+returns g c =
     let A = g.A.WireLeaf in
-    is_done A.kind (map (seen_at A.seen c.loop-item.pool) c.loop-item.ids.items) c.args.items.now c.loop-item.item-index (nodes_from A.kind [] (items_view c.args.items.now)) c.loop-item-test.false c.loop-item.invariant.read
+    record {
+      grown = c.loop-item.invariant.grown;
+      here = c.loop-item.invariant.here;
+      read = is_done A.kind (map (seen_at A.seen c.loop-item.pool) c.loop-item.ids.items) c.args.items.now c.loop-item.item-index (nodes_from A.kind [] (items_view c.args.items.now)) c.loop-item-test.false c.loop-item.invariant.read;
+    }

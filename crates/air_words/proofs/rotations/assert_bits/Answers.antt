@@ -1,5 +1,4 @@
 use Rattle.std.proofs.Common.{arith}
-use Rattle.std.proofs.lemmas.Result.{err_from_is_err_and}
 use Rattle.air_field.specs.Algebra.{bool_check_term}
 use Rattle.air_builder.specs.Assertion.{Base}
 use Rattle.air_builder.specs.Batches.{AssertsOf}
@@ -21,9 +20,7 @@ loop-variable-preserved g c =
 
 pub returns-in_err-assert_bit : goal.returns-in_err-assert_bit
 returns-in_err-assert_bit g c =
-    let p = err_from_is_err_and c.from_residual.result c.from_residual.ensures.1 in
-    rw (p.1, p.2)
-    (asserted_refused g.met.AB.AirBuilder.laws _ (over_kept g.met.AB.AirBuilder.laws (AssertsOf Base (VariableMeans g.AB.Ring.FromVar-1.var_means (λ l. l)) (bool_check_term g.AB.F.Field.ONE))) c.args.variables.now c.loop-variable.variable-index c.variable-item.result (omega arith) c.variable-item.is c.loop-variable.invariant c.in_err-assert_bit.ensures)
+    asserted_refused g.met.AB.AirBuilder.laws _ (over_kept g.met.AB.AirBuilder.laws (AssertsOf Base (VariableMeans g.AB.Ring.FromVar-1.var_means (λ l. l)) (bool_check_term g.AB.F.Field.ONE))) c.args.variables.now c.loop-variable.variable-index c.variable-item.result (omega arith) c.variable-item.is c.loop-variable.invariant c.in_err-assert_bit.ensures c.from_residual.ensures.1
 
 pub returns : goal.returns
 returns g c =

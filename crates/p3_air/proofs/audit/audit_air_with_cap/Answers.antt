@@ -1,10 +1,9 @@
-use Rattle.std.proofs.Common.{ℕ, List, ◌++◌, length, ap, ◌∙◌, subst, inl, inr, Err}
+use Rattle.std.proofs.Common.{ℕ, List, ◌++◌, ap, ◌∙◌, subst, inl, inr, Err}
 use Rattle.std.proofs.lemmas.Result.{err_from_is_err_and}
 use Rattle.air_field.specs.Ring.{itself}
 use Rattle.air_recording.specs.Bounds.{IsDegreeFor}
 use Rattle.air_symbolic.specs.BaseLeaves.{base_reads}
 use Rattle.air_symbolic.specs.ExtLeaves.{ext_reads}
-use Rattle.air_builder.specs.Beside.{table_width}
 use Rattle.air_recording.specs.Folds.{ArePlacesOf}
 use Rattle.air_report.specs.Given.{given}
 use Rattle.air_recording.specs.Inferred.{AnswersInferred, periods_of}
@@ -15,15 +14,13 @@ use Rattle.p3_air.proofs.audit.audit_air_with_cap.Goals as goal
 pub returns-in_err-builder-clause-refused : goal.returns-in_err-builder-clause-refused
 returns-in_err-builder-clause-refused g c =
     let p = err_from_is_err_and c.from_residual.result c.from_residual.ensures.1 in
-    let air = c.args.air.now in
-    let beside = g.A.BaseAir.beside air in
     rw (p.1, p.2)
-    (recording_refused g.F.Field.ring g.F.PartialEq.eq (given (g.A.BaseAir.declared air) beside c.args.main.now c.args.public_values.now) c.args.max_failures c.args.transition_weight (table_width beside.preprocessed) (g.A.BaseAir.width air) (g.A.BaseAir.num_public_values air) (length beside.periodic) c.from_air.result _ c.from_air.ensures c.in_err-builder.ensures.refused)
+    (recording_refused g.F.Field.ring g.F.PartialEq.eq (given (g.A.BaseAir.declaration c.args.air.now) c.args.main.now c.args.public_values.now) c.args.max_failures c.args.transition_weight c.from_air.result _ c.from_air.ensures c.in_err-builder.ensures.refused)
 
 pub returns-in_err-report-clause-refused : goal.returns-in_err-report-clause-refused
 returns-in_err-report-clause-refused g c =
     let p = err_from_is_err_and c.from_residual-in_err-report.result c.from_residual-in_err-report.ensures.1 in
-    rw (p.1, p.2) (inr (rw c.from_air.ensures at c.in_ok-builder.ensures.there, inl c.in_err-report.ensures.refused))
+    rw (p.1, p.2) (inr (rw c.from_air.ensures at c.in_ok-builder.ensures.layout.there, inl c.in_err-report.ensures.refused))
 
 pub degree_of-requires-clause-pool : goal.degree_of-requires-clause-pool
 degree_of-requires-clause-pool g c = rw c.into_recorded-recorded.ensures.pool c.in_ok-builder.ensures.ext.well_formed
@@ -37,11 +34,10 @@ degree_of-requires-clause-ext_here g c = rw (c.into_recorded-recorded.ensures.po
 pub returns-in_err-degree-clause-refused : goal.returns-in_err-degree-clause-refused
 returns-in_err-degree-clause-refused g c =
     let p = err_from_is_err_and c.from_residual-in_err-degree.result c.from_residual-in_err-degree.ensures.1 in
-    let air = c.args.air.now in
     let r = g.F.Field.ring in
     let reads = ext_reads r g.F.PartialEq.eq g.F.ExtensionField.coefficients in
-    let ts = g.A.BaseAir.declared air in
-    let beside = g.A.BaseAir.beside air in
+    let d = g.A.BaseAir.declaration c.args.air.now in
+    let ts = d.declared in
     let b = c.in_ok-builder.builder in
     let recorded = c.into_recorded-recorded.result in
     let us = terms_of base_reads recorded.pool.0 recorded.base.items in
@@ -50,19 +46,18 @@ returns-in_err-degree-clause-refused g c =
     let base : RecordsBase r g.F.ExtensionField.over base_reads recorded.pool.0 recorded.base.items ts = rw (c.into_recorded-recorded.ensures.pool, c.into_recorded-recorded.ensures.base) c.in_ok-builder.ensures.base in
     let e = c.in_err-degree.field-0.0 in
     let q = c.deref.ensures.value ∙ (c.in_ok-periods.ensures.lengths ∙ ap periods_of c.periodic_columns.ensures) in
-    let past = subst (λ (n : ℕ). AnswersInferred c.args.transition_weight n (periods_of beside.periodic) (us ++ vs) (Err e)) c.height.ensures (subst (λ (l : List ℕ). AnswersInferred c.args.transition_weight c.height.result l (us ++ vs) (Err e)) q c.in_err-degree.ensures) in
+    let past = subst (λ (n : ℕ). AnswersInferred c.args.transition_weight n (periods_of d.periodic) (us ++ vs) (Err e)) c.height.ensures (subst (λ (l : List ℕ). AnswersInferred c.args.transition_weight c.height.result l (us ++ vs) (Err e)) q c.in_err-degree.ensures) in
     rw (p.1, p.2)
-    (degree_refused r g.F.PartialEq.eq (given ts beside c.args.main.now c.args.public_values.now) c.args.max_failures c.args.transition_weight (table_width beside.preprocessed) (g.A.BaseAir.width air) (g.A.BaseAir.num_public_values air) (length beside.periodic) c.in_ok-report.report us vs e c.in_ok-report.ensures.report (rw c.from_air.ensures at c.in_ok-builder.ensures.there) base.terms ext.terms past)
+    (degree_refused r g.F.PartialEq.eq (given d c.args.main.now c.args.public_values.now) c.args.max_failures c.args.transition_weight c.in_ok-report.report us vs e c.in_ok-report.ensures.report (rw c.from_air.ensures at c.in_ok-builder.ensures.layout.there) base.terms ext.terms past)
 
 pub returns-clause-audited : goal.returns-clause-audited
 returns-clause-audited g c =
-    let air = c.args.air.now in
     let r = g.F.Field.ring in
     let eq = g.F.PartialEq.eq in
     let coefficients = g.F.ExtensionField.coefficients in
     let reads = ext_reads r eq coefficients in
-    let ts = g.A.BaseAir.declared air in
-    let beside = g.A.BaseAir.beside air in
+    let d = g.A.BaseAir.declaration c.args.air.now in
+    let ts = d.declared in
     let b = c.in_ok-builder.builder in
     let recorded = c.into_recorded-recorded.result in
     let own = g.met.F.SelfExtension.over_itself in
@@ -72,7 +67,7 @@ returns-clause-audited g c =
     let q = c.deref.ensures.value ∙ (c.in_ok-periods.ensures.lengths ∙ ap periods_of c.periodic_columns.ensures) in
     let us = terms_of base_reads recorded.pool.0 recorded.base.items in
     let vs = terms_of reads recorded.pool recorded.ext.items in
-    audited r eq coefficients (given ts beside c.args.main.now c.args.public_values.now) c.args.max_failures c.args.transition_weight
+    audited r eq coefficients (given d c.args.main.now c.args.public_values.now) c.args.max_failures c.args.transition_weight
     record { recorded = recorded; layout = c.in_ok-layout.layout; report = c.in_ok-report.report; degree = c.in_ok-degree.degree }
     base ext places c.in_ok-report.ensures.report
-    (subst (λ n. IsDegreeFor c.args.transition_weight n (periods_of beside.periodic) (us ++ vs) c.in_ok-degree.degree) c.height.ensures (subst (λ l. IsDegreeFor c.args.transition_weight c.height.result l (us ++ vs) c.in_ok-degree.degree) q c.in_ok-degree.ensures))
+    (subst (λ n. IsDegreeFor c.args.transition_weight n (periods_of d.periodic) (us ++ vs) c.in_ok-degree.degree) c.height.ensures (subst (λ l. IsDegreeFor c.args.transition_weight c.height.result l (us ++ vs) c.in_ok-degree.degree) q c.in_ok-degree.ensures))

@@ -2,7 +2,8 @@ use Rattle.std.proofs.Common.{◌≡◌, ◌∙◌, length, None, Some, ap, sym}
 use Rattle.air_symbolic.specs.BaseLeaves.{base_reads}
 use Rattle.air_recording.specs.Kinds.{base_terms}
 use Rattle.air_recording.specs.Layouts.{first_past}
-use Rattle.p3_air.proofs.RecordedRoots.{below-none_past, none_past, records_zero_at}
+use Rattle.air_recording.specs.laws.Layouts.{below-none_past}
+use Rattle.p3_air.proofs.RecordedRoots.{none_past, records_zero_at}
 use Rattle.p3_air.proofs.recorded_airs.recorded_air.Goals as goal
 
 pub returns-in-Some-clause-of_an_air : goal.returns-in-Some-clause-of_an_air

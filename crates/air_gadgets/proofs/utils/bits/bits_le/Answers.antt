@@ -2,8 +2,8 @@ use Rattle.std.proofs.Common.{◌≡◌, ◌∙◌, ◌-◌, ◌<◌, ◌≤◌,
 use Rattle.std.proofs.Math.Seq.{take-suc-set}
 use Rattle.std.proofs.lemmas.List.{take_all}
 use Rattle.air_field.specs.Ring.{image}
-use Rattle.air_gadgets.specs.Bits.{digits_of}
-use Rattle.air_gadgets.proofs.BitLaws.{digit_taken}
+use Rattle.air_gadgets.specs.Bits.{digits_of, packed}
+use Rattle.air_gadgets.proofs.BitLaws.{digit_taken, packed-digits}
 use Rattle.air_gadgets.proofs.utils.bits.bits_le.Goals as goal
 
 pub loop-i-preserved : goal.loop-i-preserved
@@ -17,10 +17,14 @@ loop-i-preserved g c =
           ∙ ap (λ l. l ++ map (image g.F.Field.ring) (digits_of 2 (g.row.N - suc c.loop-i.i) (c.loop-i.left / 2))) (sym (take-suc-set c.loop-i.bits c.loop-i.i c.from_u64.result inside))),
     )
 
-pub returns : goal.returns
-returns g c =
+pub returns-clause-bits : goal.returns-clause-bits
+returns-clause-bits g c =
     let none : g.row.N - c.loop-i.i ≡ 0 = omega (arith, c.loop-i-test.false) in
     let all : length c.loop-i.bits ≤ c.loop-i.i = omega (arith, c.loop-i.invariant.0, c.loop-i-test.false) in
     sym (c.loop-i.invariant.1
     ∙ (ap (λ k. take c.loop-i.i c.loop-i.bits ++ map (image g.F.Field.ring) (digits_of 2 k c.loop-i.left)) none
     ∙ (append-nil (take c.loop-i.i c.loop-i.bits) ∙ take_all c.loop-i.i c.loop-i.bits all)))
+
+pub returns-clause-packed : goal.returns-clause-packed
+returns-clause-packed g c =
+    λ below. ap (packed g.F.Field.ring) (returns-clause-bits g c) ∙ packed-digits g.F.Field.ring g.row.N c.args.val below

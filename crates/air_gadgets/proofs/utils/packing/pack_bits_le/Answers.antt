@@ -3,7 +3,7 @@ use Rattle.std.proofs.lemmas.List.Elements.{All-get_or}
 use Rattle.std.proofs.lemmas.Result.{err_from_is_err_and}
 use Rattle.std.specs.Prelude.{Result, Ok, Err, OnOk}
 use Rattle.air_gadgets.proofs.PowerSums.{packs_values}
-use Rattle.air_gadgets.proofs.PackingLaws.{begin_packing, pack_one, doubling_refused, adding_bit_refused, one_below}
+use Rattle.air_gadgets.proofs.PackingLaws.{IsPacking, begin_packing, pack_one, end_packing, doubling_refused, adding_bit_refused, one_below}
 use Rattle.air_gadgets.proofs.utils.packing.pack_bits_le.Goals as goal
 
 pub loop-left-init : goal.loop-left-init
@@ -60,3 +60,21 @@ returns-then-is_empty-clause-sum g c = what_holds c.constant.result (packs_value
 
 pub returns-clause-sum : goal.returns-clause-sum
 returns-clause-sum g c = packs_values g.F.Field.ring g.F.Field.ZERO g.met.F.Field.zero_is
+
+pub double-requires : goal.double-requires
+double-requires g c = c.loop-left.invariant.1.total_in
+
+pub add-requires-clause-x_in : goal.add-requires-clause-x_in
+add-requires-clause-x_in g c = c.in_ok-twice.ensures.made.0
+
+pub returns-in_err-twice-clause-extended : goal.returns-in_err-twice-clause-extended
+returns-in_err-twice-clause-extended g c = g.met.R.Algebra.laws.joined _ _ _ c.loop-left.invariant.1.extended c.double.ensures.extended
+
+pub returns-clause-extended : goal.returns-clause-extended
+returns-clause-extended g c = c.loop-left.invariant.1.extended
+
+pub returns-clause-made : goal.returns-clause-made
+returns-clause-made g c =
+    let none : c.loop-left.left ≡ 0 = omega (arith, c.loop-left-test.false) in
+    end_packing g.met.R.Algebra.laws g.F.Field.ZERO c.args.bits.now c.args.ring.now c.loop-left.ring c.loop-left.total
+    (subst (λ i. IsPacking g.R.Algebra.has g.R.Algebra.means g.R.Algebra.extends c.args.ring.now c.loop-left.ring c.args.bits.now i c.loop-left.total) none c.loop-left.invariant.1)

@@ -1,9 +1,7 @@
-use Rattle.std.proofs.Common.{ℕ, List, ◌++◌, Err, length, sym, subst, ◌∙◌, ap}
+use Rattle.std.proofs.Common.{ℕ, List, ◌++◌, Err, subst, ◌∙◌, ap}
 use Rattle.air_field.specs.Ring.{itself}
 use Rattle.air_recording.specs.Bounds.{leaf_degree, polynomial_bound, IsDegreeFor}
 use Rattle.air_recording.specs.laws.Bounds.{degrees_within, polynomials_within}
-use Rattle.air_recording.specs.Layouts.{FitsAir}
-use Rattle.std.proofs.lemmas.List.{length-map}
 use Rattle.std.proofs.lemmas.Result.{err_from_is_err_and}
 use Rattle.air_symbolic.specs.BaseLeaves.{base_reads}
 use Rattle.air_symbolic.specs.ExtLeaves.{ext_reads}
@@ -17,12 +15,12 @@ use Rattle.air_recording.proofs.symbolic.degree.get_max_constraint_degree_extens
 pub degree_of-requires-clause-base_here : goal.degree_of-requires-clause-base_here
 degree_of-requires-clause-base_here g c =
     let r = c.in_ok-recorded.recorded in
-    numbers_here g.F.Field.ring base_reads r.pool.0 r.base.items (base_terms (g.A.BaseAir.declared c.args.air.now)) c.in_ok-recorded.ensures.base.means
+    numbers_here g.F.Field.ring base_reads r.pool.0 r.base.items (base_terms (g.A.BaseAir.declaration c.args.air.now).declared) c.in_ok-recorded.ensures.base.means
 
 pub degree_of-requires-clause-ext_here : goal.degree_of-requires-clause-ext_here
 degree_of-requires-clause-ext_here g c =
     let r = c.in_ok-recorded.recorded in
-    numbers_here g.F.Field.ring (ext_reads g.F.Field.ring g.F.PartialEq.eq g.EF.ExtensionField.coefficients) r.pool r.ext.items (ext_terms (g.A.BaseAir.declared c.args.air.now)) c.in_ok-recorded.ensures.ext.means
+    numbers_here g.F.Field.ring (ext_reads g.F.Field.ring g.F.PartialEq.eq g.EF.ExtensionField.coefficients) r.pool r.ext.items (ext_terms (g.A.BaseAir.declaration c.args.air.now).declared) c.in_ok-recorded.ensures.ext.means
 
 pub returns-in_err-degree-clause-refused : goal.returns-in_err-degree-clause-refused
 returns-in_err-degree-clause-refused g c =
@@ -32,11 +30,9 @@ returns-in_err-degree-clause-refused g c =
     let e = c.in_err-degree.field-0.0 in
     let q = c.deref.ensures.value ∙ (c.in_ok-periods.ensures.lengths ∙ ap periods_of c.periodic_columns.ensures) in
     let h = subst (λ (l : List ℕ). AnswersInferred c.args.transition_weight c.args.trace_len l (us ++ vs) (Err e)) q c.in_err-degree.ensures in
-    let periodic = (g.A.BaseAir.beside c.args.air.now).periodic in
-    let fits = subst (λ k. FitsAir c.args.layout (g.A.BaseAir.width c.args.air.now) (g.A.BaseAir.num_public_values c.args.air.now) k) (sym (length-map periodic (λ v. length v.items))) c.in_ok-recorded.ensures.fits in
     let p = err_from_is_err_and c.from_residual-in_err-degree.result c.from_residual-in_err-degree.ensures.1 in
     rw (p.1, p.2)
-    (inferred_refused g.F.Field.ring g.EF.ExtensionField.over c.args.transition_weight c.args.trace_len (periods_of (g.A.BaseAir.beside c.args.air.now).periodic) c.args.layout (g.A.BaseAir.width c.args.air.now) (g.A.BaseAir.num_public_values c.args.air.now) us vs (g.A.BaseAir.declared c.args.air.now) e c.in_ok-recorded.ensures.base.terms c.in_ok-recorded.ensures.ext.terms fits h)
+    (inferred_refused g.F.Field.ring g.EF.ExtensionField.over c.args.transition_weight c.args.trace_len c.args.layout (g.A.BaseAir.declaration c.args.air.now) us vs e c.in_ok-recorded.ensures.base.terms c.in_ok-recorded.ensures.ext.terms c.in_ok-recorded.ensures.layout.fits h)
 
 pub returns-clause-inferred : goal.returns-clause-inferred
 returns-clause-inferred g c =
@@ -47,7 +43,7 @@ returns-clause-inferred g c =
     let vs = terms_of (ext_reads field g.F.PartialEq.eq g.EF.ExtensionField.coefficients) r.pool r.ext.items in
     let v = c.args.transition_weight in
     let n = c.args.trace_len in
-    let periods = periods_of (g.A.BaseAir.beside c.args.air.now).periodic in
+    let periods = periods_of (g.A.BaseAir.declaration c.args.air.now).periodic in
     let d = c.in_ok-degree.degree in
     let w = leaf_degree v n periods in
     let bound = polynomial_bound v d n in
@@ -59,7 +55,7 @@ returns-clause-inferred g c =
       base_recorded = c.in_ok-recorded.ensures.base.terms;
       base_in_extension = c.in_ok-recorded.ensures.base.in_extension;
       ext_recorded = c.in_ok-recorded.ensures.ext.terms;
-      degree = degree;
+      is_degree = degree;
       base_bounded = λ h. polynomials_within (itself field) w bound us (base_within w bound us vs (degrees_within v n periods (us ++ vs) d degree h));
       bounded = λ h. polynomials_within over w bound (us ++ vs) (degrees_within v n periods (us ++ vs) d degree h);
     }

@@ -43,20 +43,14 @@ pub returns-in_err-last_row-clause-grown : goal.returns-in_err-last_row-clause-g
 returns-in_err-last_row-clause-grown g c =
     (base_pool_laws g.F.Field.ring).joined c.args.pool.now c.leaf_expr.new.self c.leaf_expr-2.new.self c.leaf_expr.ensures.grown c.leaf_expr-2.ensures.grown
 
+-- three growths, one after another
+thrice : {F : Type 0} (r : CommRing F) (o p q s : Unit {0} × List (SymbolicExpr (BaseLeaf F))) → Grown base_grows base_reads o p → Grown base_grows base_reads p q → Grown base_grows base_reads q s → Grown base_grows base_reads o s
+thrice r o p q s f g h =
+    let laws = base_pool_laws r in
+    laws.joined o q s (laws.joined o p q f g) h
+
 pub returns-in_err-transition-clause-grown : goal.returns-in_err-transition-clause-grown
-returns-in_err-transition-clause-grown g c =
-    let laws = base_pool_laws g.F.Field.ring in
-    let old = c.args.pool.now in
-    let p = c.leaf_expr.new.self in
-    let q = c.leaf_expr-2.new.self in
-    let r = c.leaf_expr-3.new.self in
-    laws.joined old q r (laws.joined old p q c.leaf_expr.ensures.grown c.leaf_expr-2.ensures.grown) c.leaf_expr-3.ensures.grown
+returns-in_err-transition-clause-grown g c = thrice g.F.Field.ring _ _ _ _ c.leaf_expr.ensures.grown c.leaf_expr-2.ensures.grown c.leaf_expr-3.ensures.grown
 
 pub returns-clause-grown : goal.returns-clause-grown
-returns-clause-grown g c =
-    let laws = base_pool_laws g.F.Field.ring in
-    let old = c.args.pool.now in
-    let p = c.leaf_expr.new.self in
-    let q = c.leaf_expr-2.new.self in
-    let r = c.leaf_expr-3.new.self in
-    laws.joined old q r (laws.joined old p q c.leaf_expr.ensures.grown c.leaf_expr-2.ensures.grown) c.leaf_expr-3.ensures.grown
+returns-clause-grown g c = thrice g.F.Field.ring _ _ _ _ c.leaf_expr.ensures.grown c.leaf_expr-2.ensures.grown c.leaf_expr-3.ensures.grown

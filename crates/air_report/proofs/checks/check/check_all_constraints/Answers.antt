@@ -7,11 +7,11 @@ use Rattle.air_report.proofs.checks.check.check_all_constraints.Goals as goal
 
 pub returns-clause-report : goal.returns-clause-report
 returns-clause-report g c =
-    let all = given (g.A.BaseAir.declared c.args.air.now) (g.A.BaseAir.beside c.args.air.now) c.args.main.now c.args.public_values.now in
+    let all = given (g.A.BaseAir.declaration c.args.air.now) c.args.main.now c.args.public_values.now in
     let checked = c.in_ok-checked.ensures.checked in
     record {
-      shapes = subst (λ cs. ShapesFit cs (height all) (table_height all.beside.preprocessed)) c.periodic_columns.ensures
-          (subst (λ h. ShapesFit c.periodic_columns.result.now h (table_height all.beside.preprocessed)) c.height-total_rows.ensures
+      shapes = subst (λ cs. ShapesFit cs (height all) (table_height all.declaration.preprocessed)) c.periodic_columns.ensures
+          (subst (λ h. ShapesFit c.periodic_columns.result.now h (table_height all.declaration.preprocessed)) c.height-total_rows.ensures
           (subst (λ t. ShapesFit c.periodic_columns.result.now c.height-total_rows.result t) (c.table_height.ensures ∙ ap table_height c.preprocessed_trace.ensures) c.in_ok-check_shapes.ensures));
       shown = checked.shown;
       ran = checked.ran;

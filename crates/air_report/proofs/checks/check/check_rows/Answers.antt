@@ -10,8 +10,9 @@ pub rows-preserved : goal.rows-preserved
 rows-preserved g c =
     let r = g.F.Field.ring in
     let eq = g.F.PartialEq.eq in
-    let ts = g.A.BaseAir.declared c.args.air.now in
-    let trace = given_trace (given ts (g.A.BaseAir.beside c.args.air.now) c.args.main.now c.args.public_values.now) in
+    let all = given (g.A.BaseAir.declaration c.args.air.now) c.args.main.now c.args.public_values.now in
+    let ts = all.declaration.declared in
+    let trace = given_trace all in
     let row = c.rows.row in
     let cap = c.args.max_failures in
     let inv = c.rows.invariant in
@@ -20,7 +21,7 @@ rows-preserved g c =
     let len : length c.rows.failures.items ≡ length (report_of r eq trace ts row) = sym (length-map c.rows.failures.items failure_place) ∙ ap length inv.places in
     let here : IsReached cap (length (report_of r eq trace ts row)) → ⊥ = λ h. open_cap (subst (λ n. IsReached cap n) (sym len) h) in
     record {
-      places = checked_more r eq trace ts row _ _ _ checked inv.places;
+      places = checked_more r eq all row _ _ _ checked inv.places;
       count = checked.constraints ∙ count_shown-more ts row;
       least = below_more (λ k. IsReached cap (length (report_of r eq trace ts k)) → ⊥) row inv.least here;
       there = λ h. c.in_ok-outcome.ensures.there;

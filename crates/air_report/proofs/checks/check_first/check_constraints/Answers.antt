@@ -9,13 +9,13 @@ pub returns-then-not-is_empty-clause-error : goal.returns-then-not-is_empty-clau
 returns-then-not-is_empty-clause-error g c =
     let r = g.F.Field.ring in
     let eq = g.F.PartialEq.eq in
-    let all = given (g.A.BaseAir.declared c.args.air.now) (g.A.BaseAir.beside c.args.air.now) c.args.main.now c.args.public_values.now in
+    let all = given (g.A.BaseAir.declaration c.args.air.now) c.args.main.now c.args.public_values.now in
     record {
       shapes = search rules;
       cells = record { fit = search rules; agree = search rules };
       within = search rules;
       before = c.rows.invariant.none;
-      places = checked_more r eq (given_trace all) all.terms c.rows.row _ _ _ c.in_ok-outcome.ensures.checked (ap (map failure_place) c.new.ensures.items ∙ sym c.rows.invariant.none);
+      places = checked_more r eq all c.rows.row _ _ _ c.in_ok-outcome.ensures.checked (ap (map failure_place) c.new.ensures.items ∙ sym c.rows.invariant.none);
       some = search rules;
     }
 
@@ -23,9 +23,9 @@ pub rows-preserved : goal.rows-preserved
 rows-preserved g c =
     let r = g.F.Field.ring in
     let eq = g.F.PartialEq.eq in
-    let all = given (g.A.BaseAir.declared c.args.air.now) (g.A.BaseAir.beside c.args.air.now) c.args.main.now c.args.public_values.now in
-    let places : map failure_place c.in_ok-outcome.outcome.failures.items ≡ report_of r eq (given_trace all) all.terms (c.rows.row + 1) =
-    checked_more r eq (given_trace all) all.terms c.rows.row _ _ _ c.in_ok-outcome.ensures.checked (ap (map failure_place) c.new.ensures.items ∙ sym c.rows.invariant.none) in
+    let all = given (g.A.BaseAir.declaration c.args.air.now) c.args.main.now c.args.public_values.now in
+    let places : map failure_place c.in_ok-outcome.outcome.failures.items ≡ report_of r eq (given_trace all) all.declaration.declared (c.rows.row + 1) =
+    checked_more r eq all c.rows.row _ _ _ c.in_ok-outcome.ensures.checked (ap (map failure_place) c.new.ensures.items ∙ sym c.rows.invariant.none) in
     let empty : c.in_ok-outcome.outcome.failures.items ≡ [] = grind (arith, common_steps) in
     record {
       none = sym places ∙ ap (map failure_place) empty;
@@ -36,11 +36,11 @@ pub returns-clause-kept : goal.returns-clause-kept
 returns-clause-kept g c =
     let r = g.F.Field.ring in
     let eq = g.F.PartialEq.eq in
-    let all = given (g.A.BaseAir.declared c.args.air.now) (g.A.BaseAir.beside c.args.air.now) c.args.main.now c.args.public_values.now in
+    let all = given (g.A.BaseAir.declaration c.args.air.now) c.args.main.now c.args.public_values.now in
     let done : c.rows.row ≡ height all = search rules in
     record {
       shapes = search rules;
       cells = record { fit = search rules; agree = search rules };
-      none = ap (λ n. report_of r eq (given_trace all) all.terms n) (sym done) ∙ c.rows.invariant.none;
+      none = ap (λ n. report_of r eq (given_trace all) all.declaration.declared n) (sym done) ∙ c.rows.invariant.none;
       there = λ h. c.rows.invariant.there (subst (λ n. 0 < n) (sym done) h);
     }

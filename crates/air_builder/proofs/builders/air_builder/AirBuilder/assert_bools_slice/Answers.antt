@@ -1,5 +1,4 @@
 use Rattle.std.proofs.Common.{arith}
-use Rattle.std.proofs.lemmas.Result.{err_from_is_err_and}
 use Rattle.air_field.specs.Algebra.{bool_check_term}
 use Rattle.air_builder.specs.Assertion.{Base}
 use Rattle.air_builder.specs.laws.Batches.{nothing_asserted, asserted_more, asserted_refused, asserted_all, asserts_kept}
@@ -15,9 +14,7 @@ loop-element-preserved g c =
 
 pub returns-in_err-assert_bool : goal.returns-in_err-assert_bool
 returns-in_err-assert_bool g c =
-    let p = err_from_is_err_and c.from_residual.result c.from_residual.ensures.1 in
-    rw (p.1, p.2)
-    (asserted_refused g.met.Self.AirBuilder.laws _ (asserts_kept g.met.Self.Ring.Algebra.laws g.met.Self.AirBuilder.laws Base (bool_check_term g.Self.F.Field.ONE)) {a = c.args.self.now} {b = c.loop-element.self} {c = c.assert_bool.new.self} c.args.elements.now c.loop-element.element-index c.element-item.result (omega arith) c.element-item.is c.loop-element.invariant c.in_err-assert_bool.ensures)
+    asserted_refused g.met.Self.AirBuilder.laws _ (asserts_kept g.met.Self.Ring.Algebra.laws g.met.Self.AirBuilder.laws Base (bool_check_term g.Self.F.Field.ONE)) {a = c.args.self.now} {b = c.loop-element.self} {c = c.assert_bool.new.self} c.args.elements.now c.loop-element.element-index c.element-item.result (omega arith) c.element-item.is c.loop-element.invariant c.in_err-assert_bool.ensures c.from_residual.ensures.1
 
 pub returns : goal.returns
 returns g c =

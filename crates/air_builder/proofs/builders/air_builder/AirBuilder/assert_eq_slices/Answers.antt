@@ -1,5 +1,4 @@
 use Rattle.std.proofs.Common.{arith}
-use Rattle.std.proofs.lemmas.Result.{err_from_is_err_and}
 use Rattle.std.specs.List.{zip}
 use Rattle.std.proofs.lemmas.Slice.Zip.{length-zip}
 use Rattle.air_field.specs.Term.{sub_term}
@@ -17,9 +16,7 @@ loop-i-preserved g c =
 
 pub returns-in_err-assert_eq : goal.returns-in_err-assert_eq
 returns-in_err-assert_eq g c =
-    let p = err_from_is_err_and c.from_residual.result c.from_residual.ensures.1 in
-    rw (p.1, p.2)
-    (asserted_refused g.met.Self.AirBuilder.laws _ (both_kept g.met.Self.Ring.Algebra.laws g.met.Self.AirBuilder.laws Base sub_term) {a = c.args.self.now} {b = c.loop-i.self} {c = c.assert_eq.new.self} (zip c.args.left.now c.args.right.now) c.loop-i.i (c.index-left-i.result, c.index-right-i.result) (rw length-zip (omega arith)) (get_pair c.args.left.now c.args.right.now c.loop-i.i _ _ (omega arith) (omega arith) c.index-left-i.is c.index-right-i.is) c.loop-i.invariant c.in_err-assert_eq.ensures)
+    asserted_refused g.met.Self.AirBuilder.laws _ (both_kept g.met.Self.Ring.Algebra.laws g.met.Self.AirBuilder.laws Base sub_term) {a = c.args.self.now} {b = c.loop-i.self} {c = c.assert_eq.new.self} (zip c.args.left.now c.args.right.now) c.loop-i.i (c.index-left-i.result, c.index-right-i.result) (rw length-zip (omega arith)) (get_pair c.args.left.now c.args.right.now c.loop-i.i _ _ (omega arith) (omega arith) c.index-left-i.is c.index-right-i.is) c.loop-i.invariant c.in_err-assert_eq.ensures c.from_residual.ensures.1
 
 pub returns : goal.returns
 returns g c =

@@ -1,5 +1,4 @@
 use Rattle.std.proofs.Common.{arith}
-use Rattle.std.proofs.lemmas.Result.{err_from_is_err_and}
 use Rattle.air_builder.specs.Assertion.{Extension}
 use Rattle.air_builder.specs.laws.Extensions.{over_extension}
 use Rattle.air_builder.specs.laws.Batches.{nothing_asserted, asserted_more, asserted_refused, asserted_all, asserts_kept}
@@ -17,10 +16,8 @@ loop-element-preserved g c =
 
 pub returns-in_err-assert_zero_ext : goal.returns-in_err-assert_zero_ext
 returns-in_err-assert_zero_ext g c =
-    let p = err_from_is_err_and c.from_residual.result c.from_residual.ensures.1 in
     let laws = over_extension g.met.Self.AirBuilder.laws g.met.Self.ExtensionBuilder.ext_laws in
-    rw (p.1, p.2)
-    (asserted_refused laws _ (asserts_kept g.met.Self.ExtRing.Algebra.laws laws Extension (λ t. t)) {a = c.args.self.now} {b = c.loop-element.self} {c = c.assert_zero_ext.new.self} c.args.elements.now c.loop-element.element-index c.element-item.result (omega arith) c.element-item.is c.loop-element.invariant c.in_err-assert_zero_ext.ensures)
+    asserted_refused laws _ (asserts_kept g.met.Self.ExtRing.Algebra.laws laws Extension (λ t. t)) {a = c.args.self.now} {b = c.loop-element.self} {c = c.assert_zero_ext.new.self} c.args.elements.now c.loop-element.element-index c.element-item.result (omega arith) c.element-item.is c.loop-element.invariant c.in_err-assert_zero_ext.ensures c.from_residual.ensures.1
 
 pub returns : goal.returns
 returns g c =

@@ -1,31 +1,17 @@
-use Rattle.std.proofs.Common.{Err, refl, inl, ap, ◌∙◌}
-use Rattle.std.proofs.lemmas.Result.{err_from_is_err_and}
+use Rattle.std.proofs.Common.{inl, refl}
 use Rattle.air_field.specs.Part.{whole}
-use Rattle.air_field.specs.Term.{with_leaves, mul_term}
-use Rattle.air_builder.specs.Assertion.{Extension, filtered}
-use Rattle.air_builder.specs.Batches.{AssertsOf}
+use Rattle.air_field.specs.Term.{mul_term}
+use Rattle.air_builder.specs.Assertion.{Extension}
 use Rattle.air_builder.specs.Builders.{Means}
 use Rattle.air_builder.specs.laws.Extensions.{over_extension}
-use Rattle.air_builder.proofs.Growth.{made_of, refused_of, lent_asserted, making_refused}
 use Rattle.air_builder.proofs.ExtensionGrowth.{base_means_in}
-use Rattle.air_builder.proofs.FilterGrowth.{asserted_inside}
+use Rattle.air_builder.proofs.FilterGrowth.{filter_asserted, filter_gives_up}
 use Rattle.air_builder.proofs.builders.extension_filter.FilteredAirBuilderExtensionBuilder.assert_zero_ext.Goals as goal
 
 pub returns : goal.returns
 returns g c =
-    let laws = over_extension g.met.AB.AirBuilder.laws g.met.AB.ExtensionBuilder.ext_laws in
-    let asserts = AssertsOf Extension (Means g.AB.ExtRing.Algebra.means g.AB.ExtensionBuilder.ext_ring_of g.AB.AirBuilder.stands) (λ t. t) in
-    asserted_inside {asserts = asserts} (λ p. p.inner.now) (λ p. p.inner.ghost_name) (λ p. p.condition) refl refl c.assert_zero_ext.result
-    (lent_asserted laws {a = c.args.self.now.inner.now} c.ext_ring.ensures.value c.under_condition.ensures.extended {b = c.assert_zero_ext.new.self} c.assert_zero_ext.result
-    (λ s k. made_of g.met.AB.ExtRing.Algebra.laws laws Extension c.ext_ring.ensures.value c.under_condition.ensures.extended (λ t. mul_term t k.condition) (λ t m. c.in_ok-y.ensures.made.1 (with_leaves (g.AB.AirBuilder.stands c.args.self.now.inner.now) k.condition) (with_leaves (g.AB.AirBuilder.stands c.args.self.now.inner.now) t) (base_means_in g.met.AB.ExtensionBuilder.ext_laws c.args.self.now.inner.now _ c.args.self.now.condition k.condition c.ext_ring.ensures.value c.requires.ready.0 k.holds) m) s (k.asserted.0, k.asserted.1, k.is ∙ ap (λ u. filtered k.condition u) k.asserted.2))
-    c.assert_zero_ext.ensures)
+    filter_asserted g.met.AB.ExtRing.Algebra.laws (over_extension g.met.AB.AirBuilder.laws g.met.AB.ExtensionBuilder.ext_laws) Extension (λ s t. mul_term t s) (λ s t. refl) (λ p. p.inner.now) (λ p. p.inner.ghost_name) (λ p. p.condition) (Means g.AB.Ring.Algebra.means g.AB.AirBuilder.ring_of g.AB.AirBuilder.stands) (g.AB.ExtRing.ExtAlgebra.base_means c.ext_ring.result.now c.args.self.now.condition) c.ext_ring.ensures.value c.under_condition.ensures.extended (λ s k. base_means_in g.met.AB.ExtensionBuilder.ext_laws _ _ _ s c.ext_ring.ensures.value c.requires.ready.0 k) (λ s t. refl) refl refl c.in_ok-y.ensures.made.1 c.assert_zero_ext.ensures
 
 pub returns-in_err-y : goal.returns-in_err-y
 returns-in_err-y g c =
-    let p = err_from_is_err_and c.from_residual.result c.from_residual.ensures.1 in
-    let laws = over_extension g.met.AB.AirBuilder.laws g.met.AB.ExtensionBuilder.ext_laws in
-    let asserts = AssertsOf Extension (Means g.AB.ExtRing.Algebra.means g.AB.ExtensionBuilder.ext_ring_of g.AB.AirBuilder.stands) (λ t. t) in
-    rw (p.1, p.2)
-    (asserted_inside {asserts = asserts} (λ p. p.inner.now) (λ p. p.inner.ghost_name) (λ p. p.condition) refl refl (Err _)
-    (making_refused laws {a = c.args.self.now.inner.now} c.ext_ring.ensures.value c.under_condition.ensures.extended _
-    (λ s k. refused_of g.met.AB.ExtRing.Algebra.laws laws Extension (λ t. inl whole) c.ext_ring.ensures.value (λ t. mul_term t k.condition) c.in_err-y.field-0.0 (λ t m. c.in_err-y.ensures.refused (with_leaves (g.AB.AirBuilder.stands c.args.self.now.inner.now) k.condition) (with_leaves (g.AB.AirBuilder.stands c.args.self.now.inner.now) t) (base_means_in g.met.AB.ExtensionBuilder.ext_laws c.args.self.now.inner.now _ c.args.self.now.condition k.condition c.ext_ring.ensures.value c.requires.ready.0 k.holds) m) s (k.asserted.0, k.asserted.1, k.is ∙ ap (λ u. filtered k.condition u) k.asserted.2))))
+    filter_gives_up g.met.AB.ExtRing.Algebra.laws (over_extension g.met.AB.AirBuilder.laws g.met.AB.ExtensionBuilder.ext_laws) Extension (λ s t. mul_term t s) (λ s t. refl) (λ p. p.inner.now) (λ p. p.inner.ghost_name) (λ p. p.condition) (Means g.AB.Ring.Algebra.means g.AB.AirBuilder.ring_of g.AB.AirBuilder.stands) (g.AB.ExtRing.ExtAlgebra.base_means c.ext_ring.result.now c.args.self.now.condition) c.ext_ring.ensures.value c.under_condition.ensures.extended (λ s k. base_means_in g.met.AB.ExtensionBuilder.ext_laws _ _ _ s c.ext_ring.ensures.value c.requires.ready.0 k) (λ s t. refl) refl refl (λ t. inl whole) refl c.from_residual.ensures.1 c.in_err-y.ensures.refused

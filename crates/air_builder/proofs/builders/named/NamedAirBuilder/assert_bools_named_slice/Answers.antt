@@ -1,5 +1,4 @@
 use Rattle.std.proofs.Common.{arith}
-use Rattle.std.proofs.lemmas.Result.{err_from_is_err_and}
 use Rattle.air_field.specs.Algebra.{bool_check_term}
 use Rattle.air_builder.specs.Assertion.{Base}
 use Rattle.air_builder.specs.laws.Batches.{nothing_asserted, asserted_more, asserted_refused, asserted_all, asserts_kept}
@@ -21,14 +20,11 @@ loop-i-preserved g c = record {
 
 pub returns-in_err-assert_bool_named-clause-asserted : goal.returns-in_err-assert_bool_named-clause-asserted
 returns-in_err-assert_bool_named-clause-asserted g c =
-    let p = err_from_is_err_and c.from_residual.result c.from_residual.ensures.1 in
-    rw (p.1, p.2)
-    (asserted_refused g.met.Self.AirBuilder.laws _ (asserts_kept g.met.Self.Ring.Algebra.laws g.met.Self.AirBuilder.laws Base (bool_check_term g.Self.F.Field.ONE)) {a = c.args.self.now} {b = c.loop-i.self} {c = c.assert_bool_named.new.self} c.args.elements.now c.loop-i.i c.index-elements-i.result (omega arith) c.index-elements-i.is c.loop-i.invariant.asserted c.in_err-assert_bool_named.ensures.asserted)
+    asserted_refused g.met.Self.AirBuilder.laws _ (asserts_kept g.met.Self.Ring.Algebra.laws g.met.Self.AirBuilder.laws Base (bool_check_term g.Self.F.Field.ONE)) {a = c.args.self.now} {b = c.loop-i.self} {c = c.assert_bool_named.new.self} c.args.elements.now c.loop-i.i c.index-elements-i.result (omega arith) c.index-elements-i.is c.loop-i.invariant.asserted c.in_err-assert_bool_named.ensures.asserted c.from_residual.ensures.1
 
 pub returns-in_err-assert_bool_named-clause-label : goal.returns-in_err-assert_bool_named-clause-label
 returns-in_err-assert_bool_named-clause-label g c =
-    let p = err_from_is_err_and c.from_residual.result c.from_residual.ensures.1 in
-    rw (p.1, p.2) (labelled_refused g.met.Self.AirBuilder.laws g.met.Self.NamedAirBuilder.named_laws _ (asserts_kept g.met.Self.Ring.Algebra.laws g.met.Self.AirBuilder.laws Base (bool_check_term g.Self.F.Field.ONE)) (ElementSays (g.N.Name.displays c.args.name)) {a = c.args.self.now} {b = c.loop-i.self} {c = c.assert_bool_named.new.self} c.args.elements.now c.loop-i.i (omega arith) c.loop-i.invariant.labels c.in_err-assert_bool_named.ensures.label)
+    labelled_refused g.met.Self.AirBuilder.laws g.met.Self.NamedAirBuilder.named_laws _ (asserts_kept g.met.Self.Ring.Algebra.laws g.met.Self.AirBuilder.laws Base (bool_check_term g.Self.F.Field.ONE)) (ElementSays (g.N.Name.displays c.args.name)) {a = c.args.self.now} {b = c.loop-i.self} {c = c.assert_bool_named.new.self} c.args.elements.now c.loop-i.i (omega arith) c.loop-i.invariant.labels c.in_err-assert_bool_named.ensures.label c.from_residual.ensures.1
 
 pub returns-clause-asserted : goal.returns-clause-asserted
 returns-clause-asserted g c =

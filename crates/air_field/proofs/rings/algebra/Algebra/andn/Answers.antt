@@ -1,8 +1,8 @@
 use Rattle.std.proofs.Common.{subst}
-use Rattle.std.proofs.lemmas.Result.{err_from_is_err_and, IfOk-weaker}
+use Rattle.std.proofs.lemmas.Result.{err_from_is_err_and}
 use Rattle.air_field.specs.Term.{const_term}
 use Rattle.air_field.specs.Algebra.{Made}
-use Rattle.air_field.proofs.BodyLaws.{andn_made, andn_refused_one, andn_refused_rest}
+use Rattle.air_field.proofs.BodyLaws.{andn_answers, andn_refused_one, andn_refused_rest}
 use Rattle.air_field.proofs.rings.algebra.Algebra.andn.Goals as goal
 
 pub returns-in_err-one-clause-refused : goal.returns-in_err-one-clause-refused
@@ -20,10 +20,11 @@ returns-in_err-rest-clause-refused g c =
     (subst (λ o. Made g.Self.Algebra.has g.Self.Algebra.means (const_term o) c.constant.new.self c.in_ok-one.one) c.ONE.ensures c.in_ok-one.ensures.made)
     c.in_err-rest.field-0.0 c.in_err-rest.ensures.refused)
 
-pub returns-clause-made : goal.returns-clause-made
-returns-clause-made g c =
-    IfOk-weaker c.mul.result _ _
-    (λ z. andn_made g.met.Self.Algebra.laws g.F.Field.ONE c.args.self.now c.constant.new.self c.sub.new.self c.mul.new.self c.args.x c.args.y c.in_ok-one.one c.in_ok-rest.rest c.constant.ensures.extended
+pub returns : goal.returns
+returns g c =
+    let l = g.met.Self.Algebra.laws in
+    let answers =
+    andn_answers l g.F.Field.ONE c.args.self.now c.constant.new.self c.sub.new.self c.mul.new.self c.args.x c.args.y c.in_ok-one.one c.in_ok-rest.rest c.constant.ensures.extended
     (subst (λ o. Made g.Self.Algebra.has g.Self.Algebra.means (const_term o) c.constant.new.self c.in_ok-one.one) c.ONE.ensures c.in_ok-one.ensures.made)
-    z c.sub.ensures.extended c.in_ok-rest.ensures.made)
-    c.mul.ensures.made
+    c.mul.result c.sub.ensures.extended c.in_ok-rest.ensures.made c.mul.ensures.made c.mul.ensures.refused in
+    record { extended = l.joined _ _ _ c.constant.ensures.extended (l.joined _ _ _ c.sub.ensures.extended c.mul.ensures.extended); made = answers.0; refused = answers.1 }

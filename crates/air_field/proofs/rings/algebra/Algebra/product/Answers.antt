@@ -1,23 +1,9 @@
-use Rattle.std.proofs.Common.{take, drop, length, ◌-◌, subst}
-use Rattle.std.proofs.lemmas.Result.{err_from_is_err_and}
 use Rattle.air_field.specs.Term.{mul_term}
-use Rattle.air_field.proofs.JoinLaws.{IsJoining, take_one, join_refused, part-mul_left, drop_item}
+use Rattle.air_field.proofs.JoinLaws.{take_one, join_refused, part-mul_left}
 use Rattle.air_field.proofs.rings.algebra.Algebra.product.Goals as goal
 
 pub loop-x-preserved : goal.loop-x-preserved
-loop-x-preserved g c =
-    take_one g.met.Self.Algebra.laws mul_term g.F.Field.ONE c.args.self.now c.loop-x.self c.mul.new.self c.args.xs.now c.loop-x.total c.x-item.result c.in_ok-total.total _
-    c.mul.ensures.extended c.in_ok-total.ensures.made
-    (subst (IsJoining g.Self.Algebra.has g.Self.Algebra.means g.Self.Algebra.extends mul_term g.F.Field.ONE c.args.self.now c.loop-x.self c.args.xs.now c.loop-x.total)
-    (drop_item (take (length c.args.xs.now - 1) (drop 1 c.args.xs.now)) c.loop-x.x-index c.x-item.result c.loop-x-test.true c.x-item.is)
-    c.loop-x.invariant)
+loop-x-preserved g c = take_one g.met.Self.Algebra.laws mul_term g.F.Field.ONE _ _ c.loop-x-test.true c.x-item.is c.mul.ensures.extended c.in_ok-total.ensures.made c.loop-x.invariant
 
 pub returns-in_err-total-clause-refused : goal.returns-in_err-total-clause-refused
-returns-in_err-total-clause-refused g c =
-    let p = err_from_is_err_and c.from_residual.result c.from_residual.ensures.1 in
-    rw (p.1, p.2)
-    (join_refused g.met.Self.Algebra.laws mul_term g.F.Field.ONE c.args.self.now c.loop-x.self c.args.xs.now c.in_err-total.field-0.0 c.loop-x.total c.x-item.result _
-    part-mul_left c.in_err-total.ensures.refused
-    (subst (IsJoining g.Self.Algebra.has g.Self.Algebra.means g.Self.Algebra.extends mul_term g.F.Field.ONE c.args.self.now c.loop-x.self c.args.xs.now c.loop-x.total)
-    (drop_item (take (length c.args.xs.now - 1) (drop 1 c.args.xs.now)) c.loop-x.x-index c.x-item.result c.loop-x-test.true c.x-item.is)
-    c.loop-x.invariant))
+returns-in_err-total-clause-refused g c = join_refused g.met.Self.Algebra.laws mul_term g.F.Field.ONE _ _ c.loop-x-test.true c.x-item.is part-mul_left c.in_err-total.ensures.refused c.loop-x.invariant _ c.from_residual.ensures.1

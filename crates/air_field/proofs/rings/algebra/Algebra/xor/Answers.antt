@@ -1,5 +1,5 @@
-use Rattle.std.proofs.lemmas.Result.{err_from_is_err_and, IfOk-weaker, IfErr-weaker}
-use Rattle.air_field.proofs.BodyLaws.{xor_made, xor_refused, xor_refused_sum, xor_refused_product, xor_refused_twice}
+use Rattle.std.proofs.lemmas.Result.{err_from_is_err_and}
+use Rattle.air_field.proofs.BodyLaws.{xor_answers, xor_refused_sum, xor_refused_product, xor_refused_twice}
 use Rattle.air_field.proofs.rings.algebra.Algebra.xor.Goals as goal
 
 pub returns-in_err-sum-clause-refused : goal.returns-in_err-sum-clause-refused
@@ -23,18 +23,11 @@ returns-in_err-twice-clause-refused g c =
     c.add.ensures.extended c.mul.ensures.extended c.double.ensures.extended
     c.in_err-twice.field-0.0 c.in_ok-product.ensures.made c.in_err-twice.ensures.refused)
 
-pub returns-clause-made : goal.returns-clause-made
-returns-clause-made g c =
-    IfOk-weaker c.sub.result _ _
-    (λ z. xor_made g.met.Self.Algebra.laws c.args.self.now c.add.new.self c.mul.new.self c.double.new.self c.sub.new.self c.args.x c.args.y c.in_ok-sum.sum c.in_ok-product.product c.in_ok-twice.twice
+pub returns : goal.returns
+returns g c =
+    let l = g.met.Self.Algebra.laws in
+    let answers =
+    xor_answers l c.args.self.now c.add.new.self c.mul.new.self c.double.new.self c.sub.new.self c.args.x c.args.y c.in_ok-sum.sum c.in_ok-product.product c.in_ok-twice.twice
     c.add.ensures.extended c.mul.ensures.extended c.double.ensures.extended
-    z c.in_ok-sum.ensures.made c.in_ok-product.ensures.made c.in_ok-twice.ensures.made)
-    c.sub.ensures.made
-
-pub returns-clause-refused : goal.returns-clause-refused
-returns-clause-refused g c =
-    IfErr-weaker c.sub.result _ _
-    (λ e. xor_refused g.met.Self.Algebra.laws c.args.self.now c.add.new.self c.mul.new.self c.double.new.self c.sub.new.self c.args.x c.args.y c.in_ok-sum.sum c.in_ok-product.product c.in_ok-twice.twice
-    c.add.ensures.extended c.mul.ensures.extended c.double.ensures.extended
-    e c.in_ok-sum.ensures.made c.in_ok-product.ensures.made c.in_ok-twice.ensures.made)
-    c.sub.ensures.refused
+    c.sub.result c.in_ok-sum.ensures.made c.in_ok-product.ensures.made c.in_ok-twice.ensures.made c.sub.ensures.made c.sub.ensures.refused in
+    record { extended = l.joined _ _ _ c.add.ensures.extended (l.joined _ _ _ c.mul.ensures.extended (l.joined _ _ _ c.double.ensures.extended c.sub.ensures.extended)); made = answers.0; refused = answers.1 }

@@ -15,10 +15,4 @@ lift-tells g c =
 
 pub ext_constant-tells : goal.ext_constant-tells
 ext_constant-tells g c =
-    let extension = g.EF.ExtensionField in
-    rw c.ensures
-    (record {
-      extended = tt;
-      made = (tt, extend-coefficients g.F.Field.ring extension.over extension.coefficients extension.DIMENSION g.met.EF.ExtensionField.laws c.args.c);
-      refused = tt;
-    })
+    rw c.ensures (record { extended = tt; made = (tt, extend-coefficients _ _ _ _ g.met.EF.ExtensionField.laws c.args.c); refused = tt })

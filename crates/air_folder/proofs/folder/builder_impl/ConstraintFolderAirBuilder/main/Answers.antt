@@ -1,14 +1,9 @@
-use Rattle.air_folder.proofs.Rows.{element_stands, row_ends}
+use Rattle.std.proofs.Common.{refl}
+use Rattle.air_builder.specs.laws.ShownRows.{extension_window}
 use Rattle.air_folder.proofs.folder.builder_impl.ConstraintFolderAirBuilder.main.Goals as goal
 
-pub returns-clause-current : goal.returns-clause-current
-returns-clause-current g c = λ i v e. element_stands g.met.EF.ExtensionField.laws c.args.self.now.main.current.now i v e
-
-pub returns-clause-next : goal.returns-clause-next
-returns-clause-next g c = λ i v e. element_stands g.met.EF.ExtensionField.laws c.args.self.now.main.next.now i v e
-
-pub returns-clause-current_ends : goal.returns-clause-current_ends
-returns-clause-current_ends g c = λ i. row_ends c.args.self.now.main.current.now i
-
-pub returns-clause-next_ends : goal.returns-clause-next_ends
-returns-clause-next_ends g c = λ i. rw c.args.self.now.main.same_width (row_ends c.args.self.now.main.next.now i)
+pub returns : goal.returns
+returns g c =
+    let window = c.args.self.now.main in
+    let shows = extension_window g.met.EF.ExtensionField.laws window.current.now window.next.now _ _ window.same_width refl refl in
+    record { window = tt; current = shows.current; next = shows.next; current_ends = shows.current_ends; next_ends = shows.next_ends; refused = tt }

@@ -1,4 +1,4 @@
-use Rattle.air_folder.proofs.Rows.{found_stands}
+use Rattle.air_builder.specs.laws.ShownRows.{found_stands}
 use Rattle.air_folder.proofs.folder.builder_impl.ConstraintFolderAirBuilder.main_variable.Goals as goal
 
 pub returns-in-0-clause-found : goal.returns-in-0-clause-found

@@ -1,4 +1,4 @@
-use Rattle.air_folder.proofs.Rows.{element_stands, row_ends}
+use Rattle.air_builder.specs.laws.ShownRows.{element_stands, row_ends}
 use Rattle.air_folder.proofs.folder.extension.ConstraintFolderPermutationAirBuilder.permutation_randomness.Goals as goal
 
 pub returns-clause-stands : goal.returns-clause-stands

@@ -1,7 +1,8 @@
 use Rattle.std.proofs.Common.{◌+◌, drop, subst}
+use Rattle.std.proofs.lemmas.List.{drop_all}
 use Rattle.std.proofs.lemmas.Result.{err_from_is_err_and}
 use Rattle.air_field.specs.Term.{const_term}
-use Rattle.air_gadgets.proofs.Combining.{IsCombining, begin_combining, combine_one, beginning_refused, scaling_refused, adding_refused, entry_in, stays_in, drop_item}
+use Rattle.air_gadgets.proofs.Combining.{IsCombining, begin_combining, combine_one, end_combining, beginning_refused, scaling_refused, adding_refused, entry_in, stays_in, drop_item}
 use Rattle.air_gadgets.proofs.columns.virtual_pair_col.VirtualPairCol.apply.Goals as goal
 
 pub returns-in_err-total-clause-refused : goal.returns-in_err-total-clause-refused
@@ -57,4 +58,23 @@ loop-column-preserved g c =
     c.get-entry.ensures c.weighted.ensures.extended c.add.ensures.extended c.in_ok-scaled.ensures.made c.in_ok-total-2.ensures.made
     (subst (IsCombining g.R.Algebra.has g.R.Algebra.means g.R.Algebra.extends c.args.ring.now c.loop-column.ring c.args.self.now c.args.preprocessed.now c.args.main.now c.loop-column.total)
     (drop_item c.deref-column-items.result.now c.loop-column.column-index c.loop-column-item.result c.loop-column-test.true c.loop-column-item.is)
+    c.loop-column.invariant)
+
+pub add-requires : goal.add-requires
+add-requires g c = record {
+  x_in = g.met.R.Algebra.laws.has_stays _ _ _ c.weighted.ensures.extended c.loop-column.invariant.total_in;
+  y_in = c.in_ok-scaled.ensures.made.0;
+}
+
+pub returns-in_err-scaled-clause-extended : goal.returns-in_err-scaled-clause-extended
+returns-in_err-scaled-clause-extended g c = g.met.R.Algebra.laws.joined _ _ _ c.loop-column.invariant.extended c.weighted.ensures.extended
+
+pub returns-clause-extended : goal.returns-clause-extended
+returns-clause-extended g c = c.loop-column.invariant.extended
+
+pub returns-clause-made : goal.returns-clause-made
+returns-clause-made g c =
+    end_combining g.met.R.Algebra.laws c.args.self.now c.args.preprocessed.now c.args.main.now c.args.ring.now c.loop-column.ring c.loop-column.total
+    (subst (IsCombining g.R.Algebra.has g.R.Algebra.means g.R.Algebra.extends c.args.ring.now c.loop-column.ring c.args.self.now c.args.preprocessed.now c.args.main.now c.loop-column.total)
+    (drop_all c.loop-column.column-index c.deref-column-items.result.now c.loop-column-test.false)
     c.loop-column.invariant)

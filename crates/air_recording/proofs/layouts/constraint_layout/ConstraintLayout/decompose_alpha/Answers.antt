@@ -2,7 +2,8 @@ use Rattle.std.proofs.Common.{◌≡◌, ℕ, ◌<◌, All, map, ap, ◌∙◌, 
 use Rattle.air_recording.specs.Weights.{weights_of, all_coordinates_of}
 use Rattle.air_recording.specs.Layouts.{constraint_count, constraint_indices}
 use Rattle.air_recording.proofs.FoldLaws.{recombines}
-use Rattle.air_recording.proofs.WeightLaws.{below-powers, picked-weights, below-none_past, All-left, All-right}
+use Rattle.air_recording.specs.laws.Layouts.{below-none_past}
+use Rattle.air_recording.proofs.WeightLaws.{below-powers, picked-weights, All-left, All-right}
 use Rattle.air_recording.proofs.layouts.constraint_layout.ConstraintLayout.decompose_alpha.Goals as goal
 
 pub powers_at-requires : goal.powers_at-requires

@@ -1,5 +1,4 @@
-use Rattle.air_report.proofs.ExtensionRows.{row_ends}
-use Rattle.air_report.proofs.BaseRows.{element_is}
+use Rattle.air_builder.specs.laws.ShownRows.{row_ends, element_is}
 use Rattle.air_report.proofs.debug.builder_impl.DebugConstraintBuilderAirBuilder.periodic_values.Goals as goal
 
 pub returns-clause-stands : goal.returns-clause-stands

@@ -1,4 +1,4 @@
-use Rattle.air_report.proofs.BaseRows.{found_is, none_is_past}
+use Rattle.air_builder.specs.laws.ShownRows.{found_is, none_is_past}
 use Rattle.air_report.proofs.debug.builder_impl.DebugConstraintBuilderAirBuilder.preprocessed_variable.Goals as goal
 
 pub returns-in-0-clause-found : goal.returns-in-0-clause-found

@@ -1,4 +1,4 @@
-use Rattle.air_report.proofs.ExtensionRows.{element_stands, row_ends}
+use Rattle.air_builder.specs.laws.ShownRows.{element_stands, row_ends}
 use Rattle.air_report.proofs.debug.extension.DebugConstraintBuilderPermutationAirBuilder.permutation_randomness.Goals as goal
 
 pub returns-clause-stands : goal.returns-clause-stands

@@ -1,8 +1,8 @@
-use Rattle.std.proofs.Common.{sym, ◌∙◌, ap}
+use Rattle.std.proofs.Common.{◌∙◌, ap}
 use Rattle.air_report.specs.Debug.{is_zero_at}
 use Rattle.air_report.specs.laws.DebugLabels.{logged_asserted, logged_labelled}
 use Rattle.air_report.specs.DebugRow.{debug_row}
-use Rattle.air_report.specs.laws.DebugValues.{base_is_zero}
+use Rattle.air_report.specs.laws.DebugValues.{base_tested}
 use Rattle.air_report.proofs.debug.named.DebugConstraintBuilderNamedAirBuilder.assert_zero_named.Goals as goal
 
 pub returns-clause-asserted : goal.returns-clause-asserted
@@ -10,11 +10,11 @@ returns-clause-asserted g c =
     let over = g.EF.ExtensionField.over in
     let zero = is_zero_at g.F.Field.ring over g.F.PartialEq.eq g.EF.PartialEq.eq in
     logged_asserted zero debug_row (λ d. d.constraint_index) (λ d. d.failures.items) (g.N.Name.displays c.args.name) c.eq.result c.log.ensures.keeps c.log.result c.log.ensures.ok c.log.ensures.err_count c.log.ensures.err c.log.ensures.refused
-    (λ s k. ap (λ v. zero (debug_row c.args.self.now) v) k.2 ∙ (base_is_zero g.F.Field.ring over g.EF.ExtensionField.coefficients g.F.PartialEq.eq g.EF.PartialEq.eq (debug_row c.args.self.now) c.args.x k.0 k.1 ∙ (ap (λ w. g.F.PartialEq.eq c.args.x w) (sym (c.ZERO.ensures ∙ g.met.F.Field.zero_is)) ∙ sym c.eq.ensures)))
+    (base_tested g.F.Field.ring over g.EF.ExtensionField.coefficients g.F.PartialEq.eq g.EF.PartialEq.eq (debug_row c.args.self.now) c.args.x c.eq.result (c.eq.ensures ∙ ap (λ w. g.F.PartialEq.eq c.args.x w) (c.ZERO.ensures ∙ g.met.F.Field.zero_is)))
 
 pub returns-clause-label : goal.returns-clause-label
 returns-clause-label g c =
     let over = g.EF.ExtensionField.over in
     let zero = is_zero_at g.F.Field.ring over g.F.PartialEq.eq g.EF.PartialEq.eq in
     logged_labelled zero debug_row (λ d. d.constraint_index) (λ d. d.failures.items) (g.N.Name.displays c.args.name) c.eq.result c.log.ensures.keeps c.log.result c.log.ensures.ok c.log.ensures.err_count c.log.ensures.err
-    (λ s k. ap (λ v. zero (debug_row c.args.self.now) v) k.2 ∙ (base_is_zero g.F.Field.ring over g.EF.ExtensionField.coefficients g.F.PartialEq.eq g.EF.PartialEq.eq (debug_row c.args.self.now) c.args.x k.0 k.1 ∙ (ap (λ w. g.F.PartialEq.eq c.args.x w) (sym (c.ZERO.ensures ∙ g.met.F.Field.zero_is)) ∙ sym c.eq.ensures)))
+    (base_tested g.F.Field.ring over g.EF.ExtensionField.coefficients g.F.PartialEq.eq g.EF.PartialEq.eq (debug_row c.args.self.now) c.args.x c.eq.result (c.eq.ensures ∙ ap (λ w. g.F.PartialEq.eq c.args.x w) (c.ZERO.ensures ∙ g.met.F.Field.zero_is)))

@@ -1,9 +1,8 @@
-use Rattle.air_symbolic.proofs.Making.{IfOk-both, made-sum}
+use Rattle.air_field.specs.Term.{add_term}
+use Rattle.air_field.specs.laws.Degree.{Stands-add}
+use Rattle.air_symbolic.proofs.Making.{made-both}
 use Rattle.air_symbolic.proofs.pools.algebra.ExprPoolAlgebraF.add.Goals as goal
 
 pub returns-clause-made : goal.returns-clause-made
 returns-clause-made g c =
-    let e = c.add.ensures in
-    IfOk-both _ _ _ _
-    (λ z m s. made-sum g.A.F.Field.ring g.A.SymLeaf.reads c.args.self.now c.add.new.self (e.grown.pool c.requires.x_in.pool) z m.here c.args.x c.args.y s)
-    e.made e.stands
+    made-both (c.add.ensures.grown.pool c.requires.x_in.pool) _ _ _ _ _ _ add_term (Stands-add g.A.F.Field.ring) c.add.ensures.made c.add.ensures.stands

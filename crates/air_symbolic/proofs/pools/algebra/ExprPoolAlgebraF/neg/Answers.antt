@@ -1,4 +1,6 @@
-use Rattle.air_symbolic.proofs.Making.{IfOk-both, made-negative}
+use Rattle.air_field.specs.Term.{neg_term}
+use Rattle.air_field.specs.laws.Degree.{Stands-neg}
+use Rattle.air_symbolic.proofs.Making.{made-one}
 use Rattle.air_symbolic.proofs.pools.algebra.ExprPoolAlgebraF.neg.Goals as goal
 
 pub returns-clause-extended : goal.returns-clause-extended
@@ -6,7 +8,4 @@ returns-clause-extended g c = c.neg.ensures.grown
 
 pub returns-clause-made : goal.returns-clause-made
 returns-clause-made g c =
-    let e = c.neg.ensures in
-    IfOk-both _ _ _ _
-    (λ z m s. made-negative g.A.F.Field.ring g.A.SymLeaf.reads c.args.self.now c.neg.new.self (e.grown.pool c.requires.pool) z m.here c.args.x s)
-    e.made e.stands
+    made-one (c.neg.ensures.grown.pool c.requires.pool) _ _ _ _ _ neg_term (Stands-neg g.A.F.Field.ring) c.neg.ensures.made c.neg.ensures.stands

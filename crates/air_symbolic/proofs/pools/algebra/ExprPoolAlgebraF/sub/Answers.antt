@@ -1,9 +1,8 @@
-use Rattle.air_symbolic.proofs.Making.{IfOk-both, made-difference}
+use Rattle.air_field.specs.Term.{sub_term}
+use Rattle.air_field.specs.laws.Degree.{Stands-sub}
+use Rattle.air_symbolic.proofs.Making.{made-both}
 use Rattle.air_symbolic.proofs.pools.algebra.ExprPoolAlgebraF.sub.Goals as goal
 
 pub returns-clause-made : goal.returns-clause-made
 returns-clause-made g c =
-    let e = c.sub.ensures in
-    IfOk-both _ _ _ _
-    (λ z m s. made-difference g.A.F.Field.ring g.A.SymLeaf.reads c.args.self.now c.sub.new.self (e.grown.pool c.requires.x_in.pool) z m.here c.args.x c.args.y s)
-    e.made e.stands
+    made-both (c.sub.ensures.grown.pool c.requires.x_in.pool) _ _ _ _ _ _ sub_term (Stands-sub g.A.F.Field.ring) c.sub.ensures.made c.sub.ensures.stands

@@ -3,6 +3,7 @@ use Rattle.std.proofs.lemmas.List.{length-append}
 use Rattle.air_symbolic.specs.ExtLeaves.{ext_reads}
 use Rattle.air_symbolic.specs.laws.ExtPool.{ext_pool_laws}
 use Rattle.air_symbolic.specs.Lowered.{CanLower}
+use Rattle.air_symbolic.proofs.Lowering.{lowered-there}
 use Rattle.air_symbolic.proofs.ReachedTrees.{mark-can-lower, more-lowered, lowered-at-first}
 use Rattle.air_symbolic.proofs.pools.lower.ExprPool+ExtLeaf+F+EF.lower.Goals as goal
 
@@ -43,6 +44,20 @@ returns-in_err-made-clause-grown g c =
 pub returns-in_err-push-clause-grown : goal.returns-in_err-push-clause-grown
 returns-in_err-push-clause-grown g c =
     (ext_pool_laws g.F.Field.ring g.F.PartialEq.eq g.EF.ExtensionField.coefficients g.met.F.Field.eq_is).joined c.args.self.now c.loop-mark.self c.lower_mark.new.self c.loop-mark.invariant.grown c.lower_mark.ensures.grown
+
+pub lowered_at-requires : goal.lowered_at-requires
+lowered_at-requires g c =
+    let s = c.loop-mark.self in
+    let id = c.args.id in
+    let below : id < c.loop-mark.mark-index = omega (arith, c.requires.here, c.requires.marked.places, c.loop-mark-test.false) in
+    let at = c.loop-mark.invariant.made id below (c.requires.marked.roots_marked 0 id (omega arith)) in
+    subst (λ t. get_or t id None ≡ None → ⊥) (sym c.as_slice.ensures.value) (lowered-there s s id (get_or c.loop-mark.table.items id None) at)
+
+pub returns-clause-same_nodes : goal.returns-clause-same_nodes
+returns-clause-same_nodes g c = c.loop-mark.invariant.same_nodes
+
+pub returns-clause-grown : goal.returns-clause-grown
+returns-clause-grown g c = c.loop-mark.invariant.grown
 
 pub returns-clause-made : goal.returns-clause-made
 returns-clause-made g c =

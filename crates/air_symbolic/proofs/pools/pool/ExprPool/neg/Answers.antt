@@ -1,19 +1,10 @@
-use Rattle.std.proofs.Common.{rules, IfOk}
-use Rattle.std.proofs.lemmas.Result.{IfOk-weaker}
-use Rattle.air_symbolic.specs.Folds.{IsNegative}
-use Rattle.air_symbolic.proofs.Folding.{IsNegative-stands}
+use Rattle.std.proofs.Common.{refl, sym, ap, ◌∙◌}
+use Rattle.air_symbolic.specs.Folds.{negative_fold}
+use Rattle.air_symbolic.proofs.Folding.{negative, is_constant, needs_node}
 use Rattle.air_symbolic.proofs.pools.pool.ExprPool.neg.Goals as goal
 
 pub returns-in-Some-clause-stands : goal.returns-in-Some-clause-stands
-returns-in-Some-clause-stands g c =
-    let made : IfOk c.constant.result (IsNegative g.A.SymLeaf.reads g.A.F.Field.ring g.A.F.PartialEq.eq c.args.self.now c.constant.new.self c.args.x) = search rules in
-    IfOk-weaker _ _ _
-    (IsNegative-stands g.A.F.Field.ring g.A.F.PartialEq.eq g.met.A.F.Field.eq_is g.A.SymLeaf.reads g.A.SymLeaf.grows g.A.SymLeaf.no_under g.met.A.SymLeaf.leaf_laws c.args.self.now c.constant.new.self c.requires.pool c.constant.ensures.grown.under c.args.x c.requires.x_in)
-    made
+returns-in-Some-clause-stands g c = (is_constant g.met.A.SymLeaf.leaf_laws c.requires.pool c.constant.ensures.grown (negative g.A.F.Field.ring _) c.requires.x_in c.requires.x_in _ (ap (negative_fold g.A.F.Field.ring) (sym c.as_const.ensures ∙ c.in-Some.is)) c.neg.ensures c.constant.ensures.made).1
 
 pub returns-in-None-clause-stands : goal.returns-in-None-clause-stands
-returns-in-None-clause-stands g c =
-    let made : IfOk c.insert_neg.result (IsNegative g.A.SymLeaf.reads g.A.F.Field.ring g.A.F.PartialEq.eq c.args.self.now c.insert_neg.new.self c.args.x) = search rules in
-    IfOk-weaker _ _ _
-    (IsNegative-stands g.A.F.Field.ring g.A.F.PartialEq.eq g.met.A.F.Field.eq_is g.A.SymLeaf.reads g.A.SymLeaf.grows g.A.SymLeaf.no_under g.met.A.SymLeaf.leaf_laws c.args.self.now c.insert_neg.new.self c.requires.pool c.insert_neg.ensures.grown.under c.args.x c.requires.x_in)
-    made
+returns-in-None-clause-stands g c = (needs_node g.met.A.SymLeaf.leaf_laws c.requires.pool c.insert_neg.ensures.grown (negative g.A.F.Field.ring _) c.requires.x_in c.requires.x_in _ c.as_const.ensures c.as_const.ensures refl (ap (negative_fold g.A.F.Field.ring) c.in-None.is) c.insert_neg.ensures.made).1

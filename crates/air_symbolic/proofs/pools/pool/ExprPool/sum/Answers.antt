@@ -1,7 +1,7 @@
 use Rattle.std.proofs.Common.{length, ◌-◌, drop, take}
 use Rattle.std.proofs.lemmas.List.{drop_all}
 use Rattle.air_symbolic.specs.laws.Pools.{Grown-trans}
-use Rattle.air_symbolic.proofs.FoldedLists.{left-is, sum_taken, sum_ended, drop_item}
+use Rattle.air_symbolic.proofs.FoldedLists.{left-is, sum_taken, sum_ended, drop_item, next_in}
 use Rattle.air_symbolic.proofs.FoldedTerms.{IsSumOfAll-stands}
 use Rattle.air_symbolic.proofs.pools.pool.ExprPool.sum.Goals as goal
 
@@ -16,9 +16,23 @@ loop-x-preserved g c =
     c.requires.pool c.add.ensures.grown c.in_ok-total.ensures.made
     (left-is _ _ (drop_item (take (length c.args.xs.now - 1) (drop 1 c.args.xs.now)) c.loop-x.x-index c.x-item.result c.loop-x-test.true c.x-item.is) c.loop-x.invariant)
 
+pub add-requires : goal.add-requires
+add-requires g c = record {
+  pool = c.loop-x.invariant.grown.pool c.requires.pool;
+  x_in = c.loop-x.invariant.total_in;
+  y_in = next_in g.met.A.SymLeaf.leaf_laws (take (length c.args.xs.now - 1) (drop 1 c.args.xs.now)) c.loop-x.x-index c.loop-x-test.true c.x-item.is c.loop-x.invariant;
+}
+
+pub returns-clause-grown : goal.returns-clause-grown
+returns-clause-grown g c = c.loop-x.invariant.grown
+
+pub returns-clause-made : goal.returns-clause-made
+returns-clause-made g c =
+    sum_ended g.A.F.Field.ring g.A.F.PartialEq.eq g.A.SymLeaf.reads g.A.SymLeaf.grows g.A.SymLeaf.no_under g.met.A.SymLeaf.leaf_laws c.args.self.now c.loop-x.self c.args.xs.now c.loop-x.total
+    (left-is _ _ (drop_all c.loop-x.x-index (take (length c.args.xs.now - 1) (drop 1 c.args.xs.now)) c.loop-x-test.false) c.loop-x.invariant)
+
 pub returns-clause-stands : goal.returns-clause-stands
 returns-clause-stands g c =
     IsSumOfAll-stands g.A.F.Field.ring g.A.F.PartialEq.eq g.met.A.F.Field.eq_is g.A.SymLeaf.reads g.A.SymLeaf.grows g.A.SymLeaf.no_under g.met.A.SymLeaf.leaf_laws c.args.self.now c.loop-x.self c.requires.pool c.loop-x.invariant.grown
     c.args.xs.now c.requires.all_in c.loop-x.total
-    (sum_ended g.A.F.Field.ring g.A.F.PartialEq.eq g.A.SymLeaf.reads g.A.SymLeaf.grows g.A.SymLeaf.no_under g.met.A.SymLeaf.leaf_laws c.args.self.now c.loop-x.self c.args.xs.now c.loop-x.total
-    (left-is _ _ (drop_all c.loop-x.x-index (take (length c.args.xs.now - 1) (drop 1 c.args.xs.now)) c.loop-x-test.false) c.loop-x.invariant))
+    (returns-clause-made g c)

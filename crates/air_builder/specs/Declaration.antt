@@ -1,0 +1,33 @@
+-- What an AIR says of itself.
+use Rattle.std.specs.Prelude.{ℕ, List, [], Option, None, Some, Vec}
+use Rattle.std.specs.Global.{Global}
+use Rattle.air_field.specs.Grid.{Grid}
+use Rattle.air_builder.specs.Assertion.{Assertion}
+use Rattle.air_windows.specs.declared.boundary.BoundaryPublic.{BoundaryPublic}
+
+-- The declared constraints, in order; how many columns the main trace and how many public values there are; the
+-- preprocessed table, if there is one; the periodic columns, each the values of one period; and the cells of the main trace
+-- that hold public values.
+pub record Declaration (F : Type 0) : Type 0 where
+  pub declared : List (Assertion F)
+  pub width : ℕ
+  pub num_public_values : ℕ
+  pub preprocessed : Option (Grid F)
+  pub periodic : List (Vec F Global)
+  pub cells : List BoundaryPublic
+
+-- constraints on a main trace of this width and so many public values, and nothing beside
+abbrev pub plain_declaration : {F : Type 0} → List (Assertion F) → ℕ → ℕ → Declaration F
+plain_declaration ts width public = record {
+  declared = ts;
+  width = width;
+  num_public_values = public;
+  preprocessed = None;
+  periodic = [];
+  cells = [];
+}
+
+-- the number of columns of a table, 0 without one
+abbrev pub table_width : {F : Type 0} → Option (Grid F) → ℕ
+table_width None = 0
+table_width (Some table) = table.width

@@ -1,0 +1,58 @@
+//! What the clauses of builders speak of: any builder as its laws see it.
+ghost use Rattle.air_builder.specs.Builders.{BuilderView};
+ghost use Rattle.air_builder.specs.Extensions.{ExtensionView, over_view};
+
+use crate::builders::air_builder::AirBuilder;
+use crate::builders::extension::ExtensionBuilder;
+use air_field::{Algebra, ExtAlgebra};
+
+/// A builder as its laws see it.
+pub trait Seen: AirBuilder {
+    ghost view: { BuilderView Self Self.Ring Self.Expr Self.F };
+}
+
+impl<AB: AirBuilder> Seen for AB {
+    ghost view = { record {
+      valid = AB.Ring.valid;
+      has = AB.Ring.has;
+      means = AB.Ring.means;
+      extends = AB.Ring.extends;
+      ring_refuses = AB.Ring.refuses;
+      ring_of = AB.ring_of;
+      with_ring = AB.with_ring;
+      stands = AB.stands;
+      ready = AB.ready;
+      kept = AB.kept;
+      grew = AB.grew;
+      missing = AB.missing;
+      refuses = AB.refuses;
+    } };
+}
+
+/// A builder's ring over the extension as the laws see it.
+pub trait SeenExt: ExtensionBuilder {
+    ghost over: { ExtensionView Self Self.ExtRing Self.Expr Self.ExprEF Self.F };
+}
+
+impl<AB: ExtensionBuilder> SeenExt for AB {
+    ghost over = { record {
+      valid = AB.ExtRing.valid;
+      has = AB.ExtRing.has;
+      means = AB.ExtRing.means;
+      extends = AB.ExtRing.extends;
+      ring_refuses = AB.ExtRing.refuses;
+      base_has = AB.ExtRing.base_has;
+      base_means = AB.ExtRing.base_means;
+      ring_of = AB.ext_ring_of;
+      with_ring = AB.with_ext_ring;
+    } };
+}
+
+/// A builder with its ring over the extension in the place of its base ring, as its laws see it.
+pub trait SeenOver: ExtensionBuilder {
+    ghost view: { BuilderView Self Self.ExtRing Self.ExprEF Self.F };
+}
+
+impl<AB: ExtensionBuilder> SeenOver for AB {
+    ghost view = { over_view ⟦<AB as Seen>⟧.view ⟦<AB as SeenExt>⟧.over };
+}

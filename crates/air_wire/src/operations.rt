@@ -1,0 +1,65 @@
+//! The operations of a node: on two operands, or on one that stands for both.
+ghost use Rattle.std.specs.Prelude.{◌≡◌};
+ghost use Rattle.serde_json.specs.View.{view};
+ghost use Rattle.air_wire.specs.Parts.{find_name};
+ghost use Rattle.air_wire.specs.Nodes.{operations, second_of, places_of, joined_degree};
+
+use crate::errors::FlatError;
+use crate::parts::whole_at;
+use serde_json::Value;
+
+#[derive(Clone, Copy)]
+pub(crate) enum Operation {
+    Add,
+    Sub,
+    Mul,
+    Neg,
+}
+
+/// The operation of this name.
+pub(crate) fn operation_named(name: &str) -> Option<Operation>
+    ensures { result ≡ find_name operations name.now }
+{
+    if name == "Add" {
+        Some(Operation::Add)
+    } else if name == "Sub" {
+        Some(Operation::Sub)
+    } else if name == "Mul" {
+        Some(Operation::Mul)
+    } else if name == "Neg" {
+        Some(Operation::Neg)
+    } else {
+        None
+    }
+}
+
+fn second_of(operation: Operation, contents: &Value) -> Option<usize>
+    ensures { result ≡ second_of operation (view contents.now) }
+{
+    match operation {
+        Operation::Neg => whole_at(contents, "x"),
+        _ => whole_at(contents, "y"),
+    }
+}
+
+/// The stated degree and the operands' places.
+#[tactic(auto, unfolding(crate::specs::Nodes::places_of))]
+pub(crate) fn places_of(operation: Operation, contents: &Value) -> Option<(usize, usize, usize)>
+    ensures { result ≡ places_of operation (view contents.now) }
+{
+    let degree = whole_at(contents, "degree_multiple")?;
+    let x = whole_at(contents, "x")?;
+    let y = second_of(operation, contents)?;
+    Some((degree, x, y))
+}
+
+/// The degree of the whole, of the operands' degrees.
+pub(crate) fn joined_degree(operation: Operation, x: usize, y: usize) -> Result<usize, FlatError>
+    ensures { result ≡ joined_degree operation x y }
+{
+    match operation {
+        Operation::Add | Operation::Sub => Ok(x.max(y)),
+        Operation::Mul => x.checked_add(y).ok_or(FlatError::DegreeOverflow),
+        Operation::Neg => Ok(x),
+    }
+}
