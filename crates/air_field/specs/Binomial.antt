@@ -1,8 +1,10 @@
 -- The polynomials over `BabyBear` modulo X^4 - 11: a ring, and an extension of `BabyBear`.
-use Rattle.std.specs.Prelude.{◌≡◌, refl, List, length}
+use Rattle.std.specs.Prelude.{◌≡◌, refl, List, length, eqb}
 use Rattle.air_field.specs.Ring.{CommRing, Over}
 use Rattle.air_field.specs.RingOps.{ops}
 use Rattle.air_field.specs.Coefficients.{poly_add, poly_neg, binomial_mul, constant_four, padded}
+use Rattle.air_field.specs.Extension.{Basis}
+use Rattle.air_field.specs.BaseParts.{base_part}
 use Rattle.air_field.specs.laws.FourCoefficients.{mul_length, add_length, neg_length, four_mul_assoc, four_mul_add}
 use Rattle.air_field.specs.laws.FourCoefficients.{four_mul_comm, four_mul_one, four_add_assoc, four_add_comm}
 use Rattle.air_field.specs.laws.FourCoefficients.{four_add_nil, four_add_neg}
@@ -54,4 +56,12 @@ binomial_over =
       ring = binomial_ring;
       embed = constant_polynomial;
       extend = λ l. of_list (padded (class 0) 4 l) (length-padded (class 0) 4 l);
+    }
+
+-- a polynomial's coefficients, and the constant that it is
+abbrev pub binomial_basis : Basis BabyBear BinomialExtensionField
+binomial_basis =
+    record {
+      coefficients = λ a. a.value;
+      base_part = λ a. base_part baby_bear_ring (λ x y. eqb x.residue y.residue) a.value;
     }

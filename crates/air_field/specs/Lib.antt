@@ -3,6 +3,7 @@ pub mod RingOps
 pub mod Coefficients
 pub mod Powers
 pub mod Extension
+pub mod BaseParts
 pub mod Comparison
 pub mod Term
 pub mod Value

@@ -12,6 +12,7 @@ pub mod Value
 pub mod Algebra
 pub mod Comparison
 pub mod Extension
+pub mod BaseParts
 pub mod Grid
 pub mod Powers
 pub mod Coefficients

@@ -1,8 +1,9 @@
 -- What a fold beside a recording answers, from what the recording and the folder promise.
-use Rattle.std.proofs.Common.{◌≡◌, ℕ, suc, ◌+◌, List, [], ◌∷◌, map, length, get_or, Bool, refl, sym, ap, ap₂, ◌∙◌, arith}
+use Rattle.std.proofs.Common.{◌≡◌, ℕ, suc, ◌+◌, List, [], ◌∷◌, map, length, get_or, refl, sym, ap, ap₂, ◌∙◌, arith}
 use Rattle.std.specs.Prelude.{Result, Ok, Err, OnErr}
 use Rattle.std.proofs.lemmas.List.{length-map}
 use Rattle.air_field.specs.Ring.{CommRing, Over}
+use Rattle.air_field.specs.Extension.{Basis}
 use Rattle.air_field.specs.Term.{Leaf, Term}
 use Rattle.air_field.specs.Value.{value}
 use Rattle.air_symbolic.specs.BaseLeaves.{base_reads}
@@ -44,10 +45,10 @@ pub fold_from_zero : {E : Type 0} (r : CommRing E) (alpha : E) (values : List E)
 fold_from_zero r alpha values before from_zero after answer folded same =
     same ∙ (folded ∙ (ap (λ x. folded_on r alpha x values) from_zero ∙ folded_on-nil r alpha values))
 
-module _ {F E : Type 0} (r : CommRing F) (eq : F → F → Bool) (a : Over F E) (coefficients : E → List F) (d : FolderRow E) (ts : List (Assertion F)) where
+module _ {F E : Type 0} (r : CommRing F) (a : Over F E) (basis : Basis F E) (d : FolderRow E) (ts : List (Assertion F)) where
   -- where the accumulator is the fold of the declared terms' values
-  pub folded_air : (f : Folded F E) → RecordsBase r a base_reads f.recorded.pool.0 f.recorded.base.items ts → RecordsExt r a (ext_reads r eq coefficients) f.recorded.pool f.recorded.ext.items ts
-      → ArePlacesOf (map kind_of ts) f.layout.base_indices.items f.layout.ext_indices.items → f.accumulator ≡ horner a.ring d.alpha (values_in a (folder_leaves a d) ts) → IsFolded r eq a coefficients d ts f
+  pub folded_air : (f : Folded F E) → RecordsBase r a base_reads f.recorded.pool.0 f.recorded.base.items ts → RecordsExt r a (ext_reads basis) f.recorded.pool f.recorded.ext.items ts
+      → ArePlacesOf (map kind_of ts) f.layout.base_indices.items f.layout.ext_indices.items → f.accumulator ≡ horner a.ring d.alpha (values_in a (folder_leaves a d) ts) → IsFolded r a basis d ts f
   folded_air f base ext places fold = record {
     base = base;
     ext = ext;
@@ -74,7 +75,7 @@ module _ {F E : Type 0} (r : CommRing F) (eq : F → F → Bool) (a : Over F E) 
       base_is : map at f.layout.base_indices.items ≡ map (value a (folder_leaves a d)) (terms_of base_reads f.recorded.pool.0 f.recorded.base.items)
       base_is = ap (map at) places.base ∙ base_at a (folder_leaves a d) a.ring.nil at 0 ts _ base.in_extension (λ k. ap at (omega arith))
 
-      ext_is : map at f.layout.ext_indices.items ≡ map (value a (folder_leaves a d)) (terms_of (ext_reads r eq coefficients) f.recorded.pool f.recorded.ext.items)
+      ext_is : map at f.layout.ext_indices.items ≡ map (value a (folder_leaves a d)) (terms_of (ext_reads basis) f.recorded.pool f.recorded.ext.items)
       ext_is = ap (map at) places.extension ∙ ext_at a (folder_leaves a d) a.ring.nil at 0 ts _ ext.terms (λ k. ap at (omega arith))
 
 -- a folder beside which the recording was refused grew by none

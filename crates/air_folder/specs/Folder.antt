@@ -1,6 +1,7 @@
 -- What a folder holds of a row, and how it grows.
 use Rattle.std.specs.Prelude.{◌≡◌, ◌≢◌, ⊤, ℕ, List, map}
 use Rattle.air_field.specs.Ring.{Over, itself}
+use Rattle.air_field.specs.Extension.{Basis}
 use Rattle.air_field.specs.Term.{Leaf, permutation, Term, ext_const_term}
 use Rattle.air_field.specs.Value.{value}
 use Rattle.air_field.specs.Algebra.{closed_value_in}
@@ -39,8 +40,8 @@ abbrev pub folder_leaves : {F E : Type 0} → Over F E → FolderRow E → Leaf 
 folder_leaves a d l = one_row_value a.ring.nil (itself a.ring) d.values d.others l
 
 -- what stands at a leaf, as a constant of the extension
-abbrev pub folder_stands : {F E : Type 0} → Over F E → (E → List F) → FolderRow E → Leaf → Term F
-folder_stands a coefficients d l = ext_const_term (coefficients (folder_leaves a d l))
+abbrev pub folder_stands : {F E : Type 0} → Over F E → Basis F E → FolderRow E → Leaf → Term F
+folder_stands a basis d l = ext_const_term (basis.coefficients (folder_leaves a d l))
 
 -- what the row has not
 abbrev pub FolderMissing : {E : Type 0} → FolderRow E → Leaf → Type 0
@@ -48,8 +49,8 @@ FolderMissing d l = IsMissing (one_row_shape d.values d.others) l
 
 -- the element at each place of a row of the permutation trace stands at its leaf, and past the row's end its leaves are
 -- missing
-abbrev pub PermutationStands : {F E : Type 0} → Over F E → (E → List F) → FolderRow E → ℕ → List E → Type 0
-PermutationStands a coefficients d o row = RowStands (HasValue a) (λ i. folder_stands a coefficients d (permutation o i)) row
+abbrev pub PermutationStands : {F E : Type 0} → Over F E → Basis F E → FolderRow E → ℕ → List E → Type 0
+PermutationStands a basis d o row = RowStands (HasValue a) (λ i. folder_stands a basis d (permutation o i)) row
 
 abbrev pub PermutationEnds : {E : Type 0} → FolderRow E → ℕ → List E → Type 0
 PermutationEnds d o row = RowEnds (FolderMissing d) (λ i. permutation o i) row

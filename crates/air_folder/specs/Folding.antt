@@ -1,6 +1,7 @@
 -- What the fold of an AIR beside its recording answers and refuses.
-use Rattle.std.specs.Prelude.{◌≡◌, ◌⊎◌, ◌≤◌, ℕ, List, Bool, length, map, take}
+use Rattle.std.specs.Prelude.{◌≡◌, ◌⊎◌, ◌≤◌, ℕ, List, length, map, take}
 use Rattle.air_field.specs.Ring.{CommRing, Over}
+use Rattle.air_field.specs.Extension.{Basis}
 use Rattle.air_field.specs.Term.{Leaf}
 use Rattle.air_field.specs.Value.{value}
 use Rattle.air_symbolic.specs.BaseLeaves.{base_reads}
@@ -25,24 +26,24 @@ abbrev pub base_values : {F E : Type 0} → Over F E → (Leaf → E) → Record
 base_values a s recorded = map (value a s) (terms_of base_reads recorded.pool.0 recorded.base.items)
 
 -- and those of the recorded extension constraints
-abbrev pub ext_values : {F E : Type 0} → CommRing F → (F → F → Bool) → Over F E → (E → List F) → (Leaf → E) → Recorded F E → List E
-ext_values r eq a coefficients s recorded = map (value a s) (terms_of (ext_reads r eq coefficients) recorded.pool recorded.ext.items)
+abbrev pub ext_values : {F E : Type 0} → Over F E → Basis F E → (Leaf → E) → Recorded F E → List E
+ext_values a basis s recorded = map (value a s) (terms_of (ext_reads basis) recorded.pool recorded.ext.items)
 
 -- The recording records the declared terms, and the layout has the places of each kind. The values of the declared terms
 -- at the folder's leaves are at the base places those of the recorded base constraints, and at the extension places those
 -- of the recorded extension constraints. The accumulator is Horner's fold of these values by the folder's alpha; and it
 -- is their recombination from all coordinates and whole powers that recombine what stands at these places.
-pub record IsFolded {F E : Type 0} (r : CommRing F) (eq : F → F → Bool) (a : Over F E) (coefficients : E → List F) (d : FolderRow E) (declared : List (Assertion F)) (f : Folded F E) : Type 0 where
+pub record IsFolded {F E : Type 0} (r : CommRing F) (a : Over F E) (basis : Basis F E) (d : FolderRow E) (declared : List (Assertion F)) (f : Folded F E) : Type 0 where
   pub base : RecordsBase r a base_reads f.recorded.pool.0 f.recorded.base.items declared
-  pub ext : RecordsExt r a (ext_reads r eq coefficients) f.recorded.pool f.recorded.ext.items declared
+  pub ext : RecordsExt r a (ext_reads basis) f.recorded.pool f.recorded.ext.items declared
   pub places : ArePlacesOf (map kind_of declared) f.layout.base_indices.items f.layout.ext_indices.items
   pub values : List E
   pub of_declared : values ≡ values_in a (folder_leaves a d) declared
   pub at_base : values_at a.ring values f.layout.base_indices.items ≡ base_values a (folder_leaves a d) f.recorded
-  pub at_ext : values_at a.ring values f.layout.ext_indices.items ≡ ext_values r eq a coefficients (folder_leaves a d) f.recorded
+  pub at_ext : values_at a.ring values f.layout.ext_indices.items ≡ ext_values a basis (folder_leaves a d) f.recorded
   pub accumulator : f.accumulator ≡ horner a.ring d.alpha values
   pub recombined : (coordinates : List (List F)) (powers : List E) → Recombines r a d.alpha f.layout.base_indices.items f.layout.ext_indices.items coordinates powers
-      → recombination r a coordinates powers (base_values a (folder_leaves a d) f.recorded) (ext_values r eq a coefficients (folder_leaves a d) f.recorded) ≡ f.accumulator
+      → recombination r a coordinates powers (base_values a (folder_leaves a d) f.recorded) (ext_values a basis (folder_leaves a d) f.recorded) ≡ f.accumulator
 
 -- the folder grew by the first ones of the list, perhaps by none
 pub record GrewByBeginningOf {F E : Type 0} (a : Over F E) (b c : ConstraintFolder F E) (ts : List (Assertion F)) : Type 0 where

@@ -1,6 +1,7 @@
 -- What an audit finds, and what answers a whole input that is a trace of Fibonacci.
 use Rattle.std.specs.Prelude.{◌≡◌, ◌⊎◌, ◌<◌, ℕ, List, [], ◌∷◌, codes, Bool, Option, Some, None}
 use Rattle.air_field.specs.Grid.{Grid, grid_of}
+use Rattle.air_field.specs.Extension.{own_basis}
 use Rattle.air_field.specs.Modulo.{baby_bear_ring}
 use Rattle.air_field.specs.declared.fields.baby_bear.BabyBear.{BabyBear}
 use Rattle.air_report.specs.Given.{Given, given}
@@ -11,10 +12,6 @@ use Rattle.air_program.specs.Parsing.{residues}
 use Rattle.air_program.specs.Texts.{Found, found, IsFindingsText, findings_status}
 use Rattle.air_program.specs.Refusals.{IsRefusal}
 
--- the coefficients of an element over its own field
-abbrev pub own_coefficients : BabyBear → List BabyBear
-own_coefficients x = x ∷ []
-
 -- what an audit found
 abbrev pub found_by : Audit BabyBear → Found
 found_by audit = found (record { degree = audit.degree; report = audit.report })
@@ -23,7 +20,7 @@ found_by audit = found (record { degree = audit.degree; report = audit.report })
 -- itself, and a trace.
 pub record AuditFinds (eq : BabyBear → BabyBear → Bool) (g : Given BabyBear) (cap : Option ℕ) (w : ℕ) (f : Found) : Type 0 where
   pub audit : Audit BabyBear
-  pub is_audit : IsAuditUnder baby_bear_ring eq own_coefficients g cap w audit
+  pub is_audit : IsAuditUnder baby_bear_ring eq own_basis g cap w audit
   pub found_is : f ≡ found_by audit
 
 -- Fibonacci on public values and a trace

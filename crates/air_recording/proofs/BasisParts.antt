@@ -1,19 +1,19 @@
 -- An element of an extension is the sum of its coefficients times the basis elements.
-use Rattle.std.proofs.Common.{◌≡◌, ℕ, zero, suc, ◌-◌, ◌<◌, ◌≤◌, ⊎_elim, List, [], ◌∷◌, ◌++◌, length, replicate, refl, sym, ap, ap₂, ◌∙◌, subst, arith}
+use Rattle.std.proofs.Common.{◌≡◌, ℕ, zero, suc, ◌-◌, ◌<◌, ◌≤◌, ⊎_elim, [], ◌∷◌, ◌++◌, length, replicate, refl, sym, ap, ap₂, ◌∙◌, subst, arith}
 use Rattle.std.proofs.lemmas.Bool.{cases_lt}
 use Rattle.std.proofs.lemmas.List.{ext_get_or}
 use Rattle.air_field.specs.Ring.{CommRing, Over}
 use Rattle.air_field.specs.laws.Ring.{nil_add, mul_nil}
 use Rattle.air_field.specs.Coefficients.{coefficient, padded}
 use Rattle.air_field.specs.laws.Coefficients.{coefficient-add, coefficient-scale}
-use Rattle.air_field.specs.Extension.{ExtensionLaws}
+use Rattle.air_field.specs.Extension.{Basis, ExtensionLaws}
 use Rattle.air_field.specs.laws.Extension.{extension_over_laws}
 use Rattle.air_recording.specs.Folds.{sum_below, basis_element}
 use Rattle.air_recording.proofs.SumLaws.{sum_below-ext}
 
 -- coefficient d of x times the basis element
-abbrev pub part : {F E : Type 0} → CommRing F → Over F E → (E → List F) → E → ℕ → E
-part R a coefficients x d = a.ring.mul (a.embed (coefficient R.nil (coefficients x) d)) (basis_element R a d)
+abbrev pub part : {F E : Type 0} → CommRing F → Over F E → Basis F E → E → ℕ → E
+part R a basis x d = a.ring.mul (a.embed (coefficient R.nil (basis.coefficients x) d)) (basis_element R a d)
 
 -- the unit list's coefficients
 abbrev delta : {F : Type 0} → CommRing F → ℕ → ℕ → F
@@ -67,10 +67,10 @@ module _ {F : Type 0} (R : CommRing F) where
           ap₂ R.add (none-below c j n (omega arith)) (ap (λ i. R.mul (c i) (delta R i j)) (sym e) ∙ (ap (R.mul (c j)) (delta-same j) ∙ R.mul_one (c j)))
           ∙ nil_add R (c j)
 
-module _ {F E : Type 0} (R : CommRing F) (a : Over F E) (coefficients : E → List F) (n : ℕ) (laws : ExtensionLaws R a coefficients n) where
-  nil-coefficient : (j : ℕ) → coefficient R.nil (coefficients a.ring.nil) j ≡ R.nil
+module _ {F E : Type 0} (R : CommRing F) (a : Over F E) (basis : Basis F E) (n : ℕ) (laws : ExtensionLaws R a basis n) where
+  nil-coefficient : (j : ℕ) → coefficient R.nil (basis.coefficients a.ring.nil) j ≡ R.nil
   nil-coefficient j =
-      ap (λ x. coefficient R.nil (coefficients x) j) (sym (extension_over_laws R a coefficients n laws).embed_nil)
+      ap (λ x. coefficient R.nil (basis.coefficients x) j) (sym (extension_over_laws R a basis n laws).embed_nil)
       ∙ (ap (λ l. coefficient R.nil l j) (laws.embed_is R.nil) ∙ zeros (n - 1) j)
     where
       zeros : (m i : ℕ) → coefficient R.nil (R.nil ∷ replicate m R.nil) i ≡ R.nil
@@ -78,28 +78,28 @@ module _ {F E : Type 0} (R : CommRing F) (a : Over F E) (coefficients : E → Li
       zeros zero (suc i) = refl
       zeros (suc m) (suc i) = zeros m i
 
-  sum-coefficient : (f : ℕ → E) (m j : ℕ) → coefficient R.nil (coefficients (sum_below a.ring f m)) j ≡ sum_below R (λ d. coefficient R.nil (coefficients (f d)) j) m
+  sum-coefficient : (f : ℕ → E) (m j : ℕ) → coefficient R.nil (basis.coefficients (sum_below a.ring f m)) j ≡ sum_below R (λ d. coefficient R.nil (basis.coefficients (f d)) j) m
   sum-coefficient f zero j = nil-coefficient j
   sum-coefficient f (suc m) j =
       ap (λ l. coefficient R.nil l j) (laws.add_is (sum_below a.ring f m) (f m))
-      ∙ (coefficient-add R (coefficients (sum_below a.ring f m)) (coefficients (f m)) j
-      ∙ ap (λ x. R.add x (coefficient R.nil (coefficients (f m)) j)) (sum-coefficient f m j))
+      ∙ (coefficient-add R (basis.coefficients (sum_below a.ring f m)) (basis.coefficients (f m)) j
+      ∙ ap (λ x. R.add x (coefficient R.nil (basis.coefficients (f m)) j)) (sum-coefficient f m j))
 
-  part-coefficient : (c : F) (d j : ℕ) → j < n → coefficient R.nil (coefficients (a.ring.mul (a.embed c) (basis_element R a d))) j ≡ R.mul c (delta R d j)
+  part-coefficient : (c : F) (d j : ℕ) → j < n → coefficient R.nil (basis.coefficients (a.ring.mul (a.embed c) (basis_element R a d))) j ≡ R.mul c (delta R d j)
   part-coefficient c d j h =
       ap (λ l. coefficient R.nil l j) (laws.scale_is c (basis_element R a d))
-      ∙ (coefficient-scale R c (coefficients (basis_element R a d)) j
+      ∙ (coefficient-scale R c (basis.coefficients (basis_element R a d)) j
       ∙ ap (R.mul c) (ap (λ l. coefficient R.nil l j) (laws.extend_is (replicate d R.nil ++ R.one ∷ [])) ∙ unit-coefficient R n d j h))
 
   -- x is the sum of its parts
-  pub element-parts : (x : E) → sum_below a.ring (part R a coefficients x) n ≡ x
+  pub element-parts : (x : E) → sum_below a.ring (part R a basis x) n ≡ x
   element-parts x =
-      laws.same (sum_below a.ring (part R a coefficients x) n) x
-      (ext_get_or R.nil (coefficients (sum_below a.ring (part R a coefficients x) n)) (coefficients x) (laws.count (sum_below a.ring (part R a coefficients x) n) ∙ sym (laws.count x)) each)
+      laws.same (sum_below a.ring (part R a basis x) n) x
+      (ext_get_or R.nil (basis.coefficients (sum_below a.ring (part R a basis x) n)) (basis.coefficients x) (laws.count (sum_below a.ring (part R a basis x) n) ∙ sym (laws.count x)) each)
     where
-      each : (j : ℕ) → j < length (coefficients (sum_below a.ring (part R a coefficients x) n)) → coefficient R.nil (coefficients (sum_below a.ring (part R a coefficients x) n)) j ≡ coefficient R.nil (coefficients x) j
+      each : (j : ℕ) → j < length (basis.coefficients (sum_below a.ring (part R a basis x) n)) → coefficient R.nil (basis.coefficients (sum_below a.ring (part R a basis x) n)) j ≡ coefficient R.nil (basis.coefficients x) j
       each j b =
-          let lt : j < n = subst (λ (m : ℕ). j < m) (laws.count (sum_below a.ring (part R a coefficients x) n)) b in
-          sum-coefficient (part R a coefficients x) n j
-          ∙ (sum_below-ext R (λ d. coefficient R.nil (coefficients (part R a coefficients x d)) j) (λ d. R.mul (coefficient R.nil (coefficients x) d) (delta R d j)) n (λ d h. part-coefficient (coefficient R.nil (coefficients x) d) d j lt)
-          ∙ one-at R (coefficient R.nil (coefficients x)) j n lt)
+          let lt : j < n = subst (λ (m : ℕ). j < m) (laws.count (sum_below a.ring (part R a basis x) n)) b in
+          sum-coefficient (part R a basis x) n j
+          ∙ (sum_below-ext R (λ d. coefficient R.nil (basis.coefficients (part R a basis x d)) j) (λ d. R.mul (coefficient R.nil (basis.coefficients x) d) (delta R d j)) n (λ d h. part-coefficient (coefficient R.nil (basis.coefficients x) d) d j lt)
+          ∙ one-at R (coefficient R.nil (basis.coefficients x)) j n lt)

@@ -1,7 +1,7 @@
 -- Horner's fold is its recombination.
 use Rattle.std.proofs.Common.{◌≡◌, ℕ, ◌+◌, ◌<◌, List, [], ◌∷◌, length, map, get_or, refl, sym, ap, ap₂, ◌∙◌}
 use Rattle.air_field.specs.Ring.{CommRing, Over}
-use Rattle.air_field.specs.Extension.{ExtensionLaws}
+use Rattle.air_field.specs.Extension.{Basis, ExtensionLaws}
 use Rattle.air_recording.specs.Weights.{weight, weights_of, coordinates_of, all_coordinates_of}
 use Rattle.air_recording.specs.declared.symbolic.kind.ConstraintKind.{ConstraintKind}
 use Rattle.air_recording.specs.Folds.{sum_below, horner, basis_element, weighted_sum, recombination, ArePlacesOf, values_at, Recombines}
@@ -9,8 +9,8 @@ use Rattle.air_recording.proofs.Tabulations.{IsTabulation, length-tabulation, ge
 use Rattle.air_recording.proofs.SumLaws.{sum_below-ext, sum_below-mul, sum_over, sum_over-ext, sum_below-over, weighted_sum-map, sum_below-from, sum-places, length-places}
 use Rattle.air_recording.proofs.BasisParts.{part, element-parts}
 
-module _ {F E : Type 0} (R : CommRing F) (a : Over F E) (coefficients : E → List F) (n : ℕ) (laws : ExtensionLaws R a coefficients n) where
-  tabulated : (ws : List E) → IsTabulation (all_coordinates_of R coefficients ws) (coordinates_of R coefficients ws)
+module _ {F E : Type 0} (R : CommRing F) (a : Over F E) (basis : Basis F E) (n : ℕ) (laws : ExtensionLaws R a basis n) where
+  tabulated : (ws : List E) → IsTabulation (all_coordinates_of R basis ws) (coordinates_of R basis ws)
   tabulated ws = record { none = refl; more = λ m. refl }
 
   -- the summand of basis element d, from coordinates
@@ -20,39 +20,39 @@ module _ {F E : Type 0} (R : CommRing F) (a : Over F E) (coefficients : E → Li
 
   -- the same, from whole weights
   abbrev from_weights : (ℕ → E) → (ℕ → E) → List ℕ → ℕ → E
-  from_weights w v indices d = sum_over a.ring (λ i. a.ring.mul (part R a coefficients (w i) d) (v i)) indices
+  from_weights w v indices d = sum_over a.ring (λ i. a.ring.mul (part R a basis (w i) d) (v i)) indices
 
-  by_basis : (w v : ℕ → E) (b : List ℕ) (d : ℕ) → d < n → from_coordinates (all_coordinates_of R coefficients (map w b) n) (map v b) d ≡ from_weights w v b d
+  by_basis : (w v : ℕ → E) (b : List ℕ) (d : ℕ) → d < n → from_coordinates (all_coordinates_of R basis (map w b) n) (map v b) d ≡ from_weights w v b d
   by_basis w v b d h =
-      ap (λ l. weighted_sum a.ring (map (λ c. a.ring.mul (a.embed c) (basis_element R a d)) l) (map v b)) (get_or-tabulation (all_coordinates_of R coefficients (map w b)) (coordinates_of R coefficients (map w b)) (tabulated (map w b)) n d [] h)
+      ap (λ l. weighted_sum a.ring (map (λ c. a.ring.mul (a.embed c) (basis_element R a d)) l) (map v b)) (get_or-tabulation (all_coordinates_of R basis (map w b)) (coordinates_of R basis (map w b)) (tabulated (map w b)) n d [] h)
       ∙ products b
     where
-      products : (l : List ℕ) → weighted_sum a.ring (map (λ c. a.ring.mul (a.embed c) (basis_element R a d)) (coordinates_of R coefficients (map w l) d)) (map v l) ≡ from_weights w v l d
+      products : (l : List ℕ) → weighted_sum a.ring (map (λ c. a.ring.mul (a.embed c) (basis_element R a d)) (coordinates_of R basis (map w l) d)) (map v l) ≡ from_weights w v l d
       products [] = refl
-      products (i ∷ l) = ap (a.ring.add (a.ring.mul (part R a coefficients (w i) d) (v i))) (products l)
+      products (i ∷ l) = ap (a.ring.add (a.ring.mul (part R a basis (w i) d) (v i))) (products l)
 
-  whole_weight : (w v : ℕ → E) (i : ℕ) → sum_below a.ring (λ d. a.ring.mul (part R a coefficients (w i) d) (v i)) n ≡ a.ring.mul (w i) (v i)
+  whole_weight : (w v : ℕ → E) (i : ℕ) → sum_below a.ring (λ d. a.ring.mul (part R a basis (w i) d) (v i)) n ≡ a.ring.mul (w i) (v i)
   whole_weight w v i =
-      sum_below-mul a.ring (part R a coefficients (w i)) (v i) n ∙ ap (λ x. a.ring.mul x (v i)) (element-parts R a coefficients n laws (w i))
+      sum_below-mul a.ring (part R a basis (w i)) (v i) n ∙ ap (λ x. a.ring.mul x (v i)) (element-parts R a basis n laws (w i))
 
   by_coordinates : (w v : ℕ → E) (b : List ℕ) →
-      sum_below a.ring (from_coordinates (all_coordinates_of R coefficients (map w b) n) (map v b)) n ≡ sum_over a.ring (λ i. a.ring.mul (w i) (v i)) b
+      sum_below a.ring (from_coordinates (all_coordinates_of R basis (map w b) n) (map v b)) n ≡ sum_over a.ring (λ i. a.ring.mul (w i) (v i)) b
   by_coordinates w v b =
-      sum_below-ext a.ring (from_coordinates (all_coordinates_of R coefficients (map w b) n) (map v b)) (from_weights w v b) n (by_basis w v b)
-      ∙ (sum_below-over a.ring (λ d i. a.ring.mul (part R a coefficients (w i) d) (v i)) b n
-      ∙ sum_over-ext a.ring (λ i. sum_below a.ring (λ d. a.ring.mul (part R a coefficients (w i) d) (v i)) n) (λ i. a.ring.mul (w i) (v i)) b (whole_weight w v))
+      sum_below-ext a.ring (from_coordinates (all_coordinates_of R basis (map w b) n) (map v b)) (from_weights w v b) n (by_basis w v b)
+      ∙ (sum_below-over a.ring (λ d i. a.ring.mul (part R a basis (w i) d) (v i)) b n
+      ∙ sum_over-ext a.ring (λ i. sum_below a.ring (λ d. a.ring.mul (part R a basis (w i) d) (v i)) n) (λ i. a.ring.mul (w i) (v i)) b (whole_weight w v))
 
   recombined : (w v : ℕ → E) (b e : List ℕ) →
-      recombination R a (all_coordinates_of R coefficients (map w b) n) (map w e) (map v b) (map v e)
+      recombination R a (all_coordinates_of R basis (map w b) n) (map w e) (map v b) (map v e)
       ≡ a.ring.add (sum_over a.ring (λ i. a.ring.mul (w i) (v i)) b) (sum_over a.ring (λ i. a.ring.mul (w i) (v i)) e)
   recombined w v b e =
       ap₂ a.ring.add
-      (ap (sum_below a.ring (from_coordinates (all_coordinates_of R coefficients (map w b) n) (map v b))) (length-tabulation (all_coordinates_of R coefficients (map w b)) (coordinates_of R coefficients (map w b)) (tabulated (map w b)) n) ∙ by_coordinates w v b)
+      (ap (sum_below a.ring (from_coordinates (all_coordinates_of R basis (map w b) n) (map v b))) (length-tabulation (all_coordinates_of R basis (map w b)) (coordinates_of R basis (map w b)) (tabulated (map w b)) n) ∙ by_coordinates w v b)
       (weighted_sum-map a.ring w v e)
 
   -- The recombination, from coordinates and whole powers, of the values at the places of both kinds is Horner's fold of all.
   pub recombination-horner : (alpha : E) (kinds : List ConstraintKind) (values : List E) (b e : List ℕ) → ArePlacesOf kinds b e → length values ≡ length kinds →
-      recombination R a (all_coordinates_of R coefficients (weights_of a.ring alpha (length b + length e) b) n) (weights_of a.ring alpha (length b + length e) e) (values_at a.ring values b) (values_at a.ring values e)
+      recombination R a (all_coordinates_of R basis (weights_of a.ring alpha (length b + length e) b) n) (weights_of a.ring alpha (length b + length e) e) (values_at a.ring values b) (values_at a.ring values e)
       ≡ horner a.ring alpha values
   recombination-horner alpha kinds values b e are same_length =
       recombined (weight a.ring alpha (length b + length e)) at b e
@@ -68,9 +68,9 @@ module _ {F E : Type 0} (R : CommRing F) (a : Over F E) (coefficients : E → Li
       total = ap₂ (λ x y. length x + length y) are.base are.extension ∙ (length-places 0 kinds ∙ sym same_length)
 
   -- the same of lists that are said to be these coordinates and these whole powers, of k constraints
-  pub recombines : (alpha : E) (k : ℕ) (b e : List ℕ) (lists : List (List F)) (powers : List E) → k ≡ length b + length e → lists ≡ all_coordinates_of R coefficients (weights_of a.ring alpha k b) n → powers ≡ weights_of a.ring alpha k e → Recombines R a alpha b e lists powers
+  pub recombines : (alpha : E) (k : ℕ) (b e : List ℕ) (lists : List (List F)) (powers : List E) → k ≡ length b + length e → lists ≡ all_coordinates_of R basis (weights_of a.ring alpha k b) n → powers ≡ weights_of a.ring alpha k e → Recombines R a alpha b e lists powers
   recombines alpha k b e lists powers count lists_are powers_are kinds values are same_length =
       ap₂ (λ l p. recombination R a l p (values_at a.ring values b) (values_at a.ring values e))
-      (lists_are ∙ ap (λ m. all_coordinates_of R coefficients (weights_of a.ring alpha m b) n) count)
+      (lists_are ∙ ap (λ m. all_coordinates_of R basis (weights_of a.ring alpha m b) n) count)
       (powers_are ∙ ap (λ m. weights_of a.ring alpha m e) count)
       ∙ recombination-horner alpha kinds values b e are same_length

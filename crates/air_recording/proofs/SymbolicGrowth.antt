@@ -1,8 +1,8 @@
 -- How a symbolic builder grows: by nothing, and by one expression that was put on a list.
-use Rattle.std.proofs.Common.{◌≡◌, ℕ, Bool, List, [], ◌∷◌, Result, OnOk, OnErr, IfErr, refl, sym, subst}
-use Rattle.std.proofs.Common.{Decides}
+use Rattle.std.proofs.Common.{◌≡◌, ℕ, List, [], ◌∷◌, Result, OnOk, OnErr, IfErr, refl, sym, subst}
 use Rattle.std.proofs.lemmas.Result.{on_ok_weaker, on_err_weaker, IfErr-weaker}
-use Rattle.air_field.specs.Ring.{CommRing}
+use Rattle.air_field.specs.Ring.{CommRing, Over}
+use Rattle.air_field.specs.Extension.{Basis, ExtensionLaws}
 use Rattle.air_field.specs.Term.{leaf_term, with_leaves}
 use Rattle.air_symbolic.specs.Pools.{PoolMeans, Grown}
 use Rattle.air_symbolic.specs.BaseLeaves.{base_reads}
@@ -18,28 +18,28 @@ use Rattle.air_builder.specs.laws.Batches.{asserted_one}
 use Rattle.air_recording.specs.Recording.{Fixed, Lists, with_base, with_ext, KeptRecording, GrewRecording}
 use Rattle.air_recording.specs.laws.Recording.{recorded_none, recorded_base, recorded_ext}
 
-module _ {F EF : Type 0} (r : CommRing F) (eq : F → F → Bool) (coefficients : EF → List F)
-    (decides : (x y : F) → Decides (eq x y) (x ≡ y)) (p : ExtNodes F EF) (s : Fixed ℕ) (old : Lists ℕ ℕ) where
+module _ {F EF : Type 0} {r : CommRing F} {over : Over F EF} {basis : Basis F EF} {n : ℕ} (laws : ExtensionLaws r over basis n)
+    (p : ExtNodes F EF) (s : Fixed ℕ) (old : Lists ℕ ℕ) where
   -- the builder kept its pool
   abbrev Kept : Type 0
-  Kept = KeptRecording (Grown ext_grows (ext_reads r eq coefficients)) p p s s
+  Kept = KeptRecording (Grown ext_grows (ext_reads basis)) p p s s
 
   -- and its lists grew
   abbrev Grew : Lists ℕ ℕ → List (Assertion F) → Type 0
-  Grew new ts = GrewRecording (λ q. PoolMeans base_reads r q.0) (PoolMeans (ext_reads r eq coefficients) r) (Grown ext_grows (ext_reads r eq coefficients)) p p s s old new ts
+  Grew new ts = GrewRecording (λ q. PoolMeans base_reads r q.0) (PoolMeans (ext_reads basis) r) (Grown ext_grows (ext_reads basis)) p p s s old new ts
 
   pub nothing_recorded : (new : Lists ℕ ℕ) → new ≡ old → Grew new []
   nothing_recorded new e =
-      let ext = ext_pool_laws r eq coefficients decides in
-      recorded_none (base_pool_laws r) ext (λ q. q.0) (base_grown r eq coefficients) p p s s old new (ext.same p) refl e
+      let ext = ext_pool_laws laws in
+      recorded_none (base_pool_laws r) ext (λ q. q.0) (base_grown basis) p p s s old new (ext.same p) refl e
 
   -- a base expression that was put on its list is growth by what it asserts
   pub base_recorded : (x : ℕ) (k : Assertion F) → AssertsOf Base (λ q y t. PoolMeans base_reads r q.0 y (with_leaves (λ l. leaf_term l) t)) (λ t. t) p x k → Grew (with_base old x) (k ∷ [])
-  base_recorded x k h = recorded_base (base_pool_laws r) (ext_pool_laws r eq coefficients decides) (λ q. q.0) (base_grown r eq coefficients) p s old _ x k h.0 refl h.2 h.1
+  base_recorded x k h = recorded_base (base_pool_laws r) (ext_pool_laws laws) (λ q. q.0) (base_grown basis) p s old _ x k h.0 refl h.2 h.1
 
   -- and so is an extension expression
-  pub ext_recorded : (x : ℕ) (k : Assertion F) → AssertsOf Extension (λ q y t. PoolMeans (ext_reads r eq coefficients) r q y (with_leaves (λ l. leaf_term l) t)) (λ t. t) p x k → Grew (with_ext old x) (k ∷ [])
-  ext_recorded x k h = recorded_ext (base_pool_laws r) (ext_pool_laws r eq coefficients decides) (λ q. q.0) (base_grown r eq coefficients) p s old _ x k h.0 refl h.2 h.1
+  pub ext_recorded : (x : ℕ) (k : Assertion F) → AssertsOf Extension (λ q y t. PoolMeans (ext_reads basis) r q y (with_leaves (λ l. leaf_term l) t)) (λ t. t) p x k → Grew (with_ext old x) (k ∷ [])
+  ext_recorded x k h = recorded_ext (base_pool_laws r) (ext_pool_laws laws) (λ q. q.0) (base_grown basis) p s old _ x k h.0 refl h.2 h.1
 
   -- what was put on a list is asserted; where it is refused, for want of memory, the lists are as they were
   pub pushed_asserted : {S I : Type 0} {asserts : S → I → Assertion F → Type 0} {kept : S → S → Type 0}
@@ -50,7 +50,7 @@ module _ {F EF : Type 0} (r : CommRing F) (eq : F → F → Bool) (coefficients 
       → OnOk result (new ≡ more) → OnErr result (new ≡ old) → IfErr result (λ e. e ≡ Memory)
       → AssertedEach asserts kept grew refuses a b (x ∷ []) result
   pushed_asserted {refuses = refuses} {a = a} new more result keeps grown one memory ok err refused =
-      asserted_one result (keeps (record { pool = (ext_pool_laws r eq coefficients decides).same p; fixed = refl }))
+      asserted_one result (keeps (record { pool = (ext_pool_laws laws).same p; fixed = refl }))
       (on_ok_weaker result (λ e k h. grown (k ∷ []) (subst (λ l. Grew l (k ∷ [])) (sym e) (one k h))) ok)
       (on_err_weaker result (λ e. grown [] (nothing_recorded new e)) err)
       (IfErr-weaker result _ _ (λ e is k h. subst (λ f. refuses a f (k ∷ [])) (sym is) (memory k)) refused)

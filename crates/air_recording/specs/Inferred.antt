@@ -1,6 +1,7 @@
 -- The degree that is inferred, and where it is refused.
-use Rattle.std.specs.Prelude.{Result, Ok, Err, ◌≡◌, ◌⊎◌, ℕ, ◌≤◌, ◌^◌, max, Bool, List, [], ◌∷◌, ◌++◌, Vec, length, map}
+use Rattle.std.specs.Prelude.{Result, Ok, Err, ◌≡◌, ◌⊎◌, ℕ, ◌≤◌, ◌^◌, max, List, [], ◌∷◌, ◌++◌, Vec, length, map}
 use Rattle.air_field.specs.Ring.{CommRing, Over, itself}
+use Rattle.air_field.specs.Extension.{Basis}
 use Rattle.air_field.specs.Term.{Leaf, Term}
 use Rattle.air_field.specs.Degree.{greatest_degree}
 use Rattle.air_field.specs.declared.errors.RingError.{RingError}
@@ -28,9 +29,9 @@ greatest_in [] = 0
 greatest_in (n ∷ ns) = max n (greatest_in ns)
 
 -- all terms that were recorded: the base ones, and then the extension ones
-abbrev pub recorded_terms : {F E : Type 0} → CommRing F → (F → F → Bool) → (E → List F) → Recorded F E → List (Term F)
-recorded_terms r eq coefficients recorded =
-    terms_of base_reads recorded.pool.0 recorded.base.items ++ terms_of (ext_reads r eq coefficients) recorded.pool recorded.ext.items
+abbrev pub recorded_terms : {F E : Type 0} → Basis F E → Recorded F E → List (Term F)
+recorded_terms basis recorded =
+    terms_of base_reads recorded.pool.0 recorded.base.items ++ terms_of (ext_reads basis) recorded.pool recorded.ext.items
 
 -- The degree inferred for n rows, in a domain of weight w, from terms that record what an AIR declares: base terms over the
 -- base field and over the extension, extension terms over the extension. For two rows and more it bounds the degrees of

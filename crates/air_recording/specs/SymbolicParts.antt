@@ -1,6 +1,7 @@
 -- What a symbolic builder keeps beside its pool and its lists, and what its pool has from the start.
-use Rattle.std.specs.Prelude.{ℕ, Bool, List}
+use Rattle.std.specs.Prelude.{ℕ}
 use Rattle.air_field.specs.Ring.{CommRing}
+use Rattle.air_field.specs.Extension.{Basis}
 use Rattle.air_field.specs.Term.{first_row, last_row, transition, Term, leaf_term}
 use Rattle.air_symbolic.specs.Trees.{leaf_tree}
 use Rattle.air_symbolic.specs.Pools.{IsPool, PoolHas, PoolMeans, HasTree}
@@ -35,9 +36,9 @@ pub record SelectorsMeanLeaves {F : Type 0} (means : ℕ → Term F → Type 0) 
   pub step : means s.transition (leaf_term transition)
 
 -- what is of the base pool that lies under an extension pool, and means a term there, is and does in the extension pool
-module _ {F EF : Type 0} (r : CommRing F) (eq : F → F → Bool) (coefficients : EF → List F) where
-  pub base_has_it : (p : ExtNodes F EF) (x : ℕ) → IsPool (ext_reads r eq coefficients) p → PoolHas base_reads p.0 x → BaseHas r eq coefficients p x
+module _ {F EF : Type 0} (basis : Basis F EF) where
+  pub base_has_it : (p : ExtNodes F EF) (x : ℕ) → IsPool (ext_reads basis) p → PoolHas base_reads p.0 x → BaseHas basis p x
   base_has_it p x w h = record { pool = w; base = h }
 
-  pub base_means_it : (p : ExtNodes F EF) (x : ℕ) (t : Term F) → IsPool (ext_reads r eq coefficients) p → PoolMeans base_reads r p.0 x t → BaseMeans r eq coefficients p x t
-  base_means_it p x t w h = record { pool = w; base = h }
+  pub base_means_it : (r : CommRing F) (p : ExtNodes F EF) (x : ℕ) (t : Term F) → IsPool (ext_reads basis) p → PoolMeans base_reads r p.0 x t → BaseMeans r basis p x t
+  base_means_it r p x t w h = record { pool = w; base = h }

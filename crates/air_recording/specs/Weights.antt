@@ -1,6 +1,7 @@
 -- The weights of constraints in a fold by the powers of one element, whole and by coordinates.
 use Rattle.std.specs.Prelude.{ℕ, zero, suc, ◌-◌, List, [], ◌∷◌, ◌++◌, map}
 use Rattle.air_field.specs.Ring.{CommRing}
+use Rattle.air_field.specs.Extension.{Basis}
 use Rattle.air_field.specs.Coefficients.{coefficient}
 use Rattle.air_field.specs.Powers.{power}
 
@@ -13,10 +14,10 @@ abbrev pub weights_of : {E : Type 0} → CommRing E → E → ℕ → List ℕ �
 weights_of r alpha k indices = map (weight r alpha k) indices
 
 -- coefficient d of each of these weights
-abbrev pub coordinates_of : {F E : Type 0} → CommRing F → (E → List F) → List E → ℕ → List F
-coordinates_of R coefficients weights d = map (λ w. coefficient R.nil (coefficients w) d) weights
+abbrev pub coordinates_of : {F E : Type 0} → CommRing F → Basis F E → List E → ℕ → List F
+coordinates_of R basis weights d = map (λ w. coefficient R.nil (basis.coefficients w) d) weights
 
 -- coefficient d of each of these weights, for each d below n in order
-abbrev pub all_coordinates_of : {F E : Type 0} → CommRing F → (E → List F) → List E → ℕ → List (List F)
-all_coordinates_of R coefficients weights zero = []
-all_coordinates_of R coefficients weights (suc n) = all_coordinates_of R coefficients weights n ++ coordinates_of R coefficients weights n ∷ []
+abbrev pub all_coordinates_of : {F E : Type 0} → CommRing F → Basis F E → List E → ℕ → List (List F)
+all_coordinates_of R basis weights zero = []
+all_coordinates_of R basis weights (suc n) = all_coordinates_of R basis weights n ++ coordinates_of R basis weights n ∷ []

@@ -2,6 +2,7 @@
 use Rattle.std.specs.Prelude.{◌≡◌, ℕ, ◌+◌, List, ◌++◌, length, map, Bool, not}
 use Rattle.std.specs.List.{filter, enumerate_from}
 use Rattle.air_field.specs.Ring.{CommRing, Over, itself}
+use Rattle.air_field.specs.Extension.{Basis}
 use Rattle.air_field.specs.Term.{Leaf, permutation, challenge, permutation_value, Term, const_term, ext_const_term}
 use Rattle.air_field.specs.Value.{value}
 use Rattle.air_field.specs.Assignment.{RowValues, leaf_value}
@@ -42,11 +43,11 @@ abbrev pub ext_row_leaves : {F E : Type 0} → CommRing F → Over F E → RowDa
 ext_row_leaves r a d = one_row_value r.nil a d.values d.permutation
 
 -- what stands at a leaf, as a constant of F, or of the extension where it is of the permutation data
-abbrev pub row_stands : {F E : Type 0} → CommRing F → Over F E → (E → List F) → RowData F E → Leaf → Term F
-row_stands r a coefficients d (permutation o i) = ext_const_term (coefficients (ext_row_leaves r a d (permutation o i)))
-row_stands r a coefficients d (challenge i) = ext_const_term (coefficients (ext_row_leaves r a d (challenge i)))
-row_stands r a coefficients d (permutation_value i) = ext_const_term (coefficients (ext_row_leaves r a d (permutation_value i)))
-row_stands r a coefficients d l = const_term (row_leaves r d l)
+abbrev pub row_stands : {F E : Type 0} → CommRing F → Over F E → Basis F E → RowData F E → Leaf → Term F
+row_stands r a basis d (permutation o i) = ext_const_term (basis.coefficients (ext_row_leaves r a d (permutation o i)))
+row_stands r a basis d (challenge i) = ext_const_term (basis.coefficients (ext_row_leaves r a d (challenge i)))
+row_stands r a basis d (permutation_value i) = ext_const_term (basis.coefficients (ext_row_leaves r a d (permutation_value i)))
+row_stands r a basis d l = const_term (row_leaves r d l)
 
 -- whether an assertion is zero at the row: a base term by its value in F, an extension term by its value over the
 -- extension

@@ -1,7 +1,8 @@
 -- What a tree without extension-only leaves is as a base tree.
-use Rattle.std.proofs.Common.{◌≡◌, ℕ, ◌+◌, ◌<◌, max, Bool, List, length, get_or, refl, sym, ap, ap₂, ◌∙◌, inl, inr, ◌⊎◌, Option, Some, None, subst}
+use Rattle.std.proofs.Common.{◌≡◌, ℕ, ◌+◌, ◌<◌, max, List, length, get_or, refl, sym, ap, ap₂, ◌∙◌, inl, inr, ◌⊎◌, Option, Some, None, subst}
 use Rattle.air_field.specs.Degree.{degree_by, cached_weight}
 use Rattle.air_field.specs.Ring.{CommRing}
+use Rattle.air_field.specs.Extension.{Basis}
 use Rattle.air_symbolic.specs.Trees.{Tree, nothing, leaf_tree, add_tree, sub_tree, neg_tree, mul_tree, term_of, IsWhole}
 use Rattle.air_symbolic.specs.Pools.{HasTree, tree_at, IsPool}
 use Rattle.air_symbolic.specs.BaseLeaves.{base_term, base_leaves, base_reads, base_grows}
@@ -33,21 +34,21 @@ module _ {F EF : Type 0} (r : CommRing F) where
   lowered-kept u v g (mul_tree t x) h = cc (lowered-kept u v g t h.0, lowered-kept u v g x h.1)
 
   -- it has the tree's term
-  pub lowered-term : (coefficients : EF → List F) (u : BaseNodes F) (t : Tree (ExtLeaf F EF)) → IsWhole (ext_valid u) t → (HasExtOnly t → ⊥) → term_of base_term (lowered u t) ≡ term_of (ext_term coefficients u) t
-  lowered-term co u nothing h n = absurd h
-  lowered-term co u (leaf_tree (Base i)) h n = refl
-  lowered-term co u (leaf_tree (ExtVariable x)) h n = absurd (n tt)
-  lowered-term co u (leaf_tree (ExtConstant c)) h n = absurd (n tt)
-  lowered-term co u (add_tree t x) h n = cc (lowered-term co u t h.0 (λ e. n (inl e)), lowered-term co u x h.1 (λ e. n (inr e)))
-  lowered-term co u (sub_tree t x) h n = cc (lowered-term co u t h.0 (λ e. n (inl e)), lowered-term co u x h.1 (λ e. n (inr e)))
-  lowered-term co u (neg_tree t) h n = cc (lowered-term co u t h n)
-  lowered-term co u (mul_tree t x) h n = cc (lowered-term co u t h.0 (λ e. n (inl e)), lowered-term co u x h.1 (λ e. n (inr e)))
+  pub lowered-term : (basis : Basis F EF) (u : BaseNodes F) (t : Tree (ExtLeaf F EF)) → IsWhole (ext_valid u) t → (HasExtOnly t → ⊥) → term_of base_term (lowered u t) ≡ term_of (ext_term basis u) t
+  lowered-term basis u nothing h n = absurd h
+  lowered-term basis u (leaf_tree (Base i)) h n = refl
+  lowered-term basis u (leaf_tree (ExtVariable x)) h n = absurd (n tt)
+  lowered-term basis u (leaf_tree (ExtConstant c)) h n = absurd (n tt)
+  lowered-term basis u (add_tree t x) h n = cc (lowered-term basis u t h.0 (λ e. n (inl e)), lowered-term basis u x h.1 (λ e. n (inr e)))
+  lowered-term basis u (sub_tree t x) h n = cc (lowered-term basis u t h.0 (λ e. n (inl e)), lowered-term basis u x h.1 (λ e. n (inr e)))
+  lowered-term basis u (neg_tree t) h n = cc (lowered-term basis u t h n)
+  lowered-term basis u (mul_tree t x) h n = cc (lowered-term basis u t h.0 (λ e. n (inl e)), lowered-term basis u x h.1 (λ e. n (inr e)))
 
 -- the lowered tree of a number has the number's term
-pub lowered-has-term : {F EF : Type 0} (r : CommRing F) (eq : F → F → Bool) (coefficients : EF → List F) (p : ExtNodes F EF) (i : ℕ) (u : BaseNodes F) (b : ℕ) → IsPool (ext_reads r eq coefficients) p → i < length p.1 → (HasExtOnly (tree_at p i) → ⊥) → HasTree u (lowered p.0 (tree_at p i)) b → HasTermOf coefficients p i u b
-lowered-has-term r eq coefficients p i u b pool here n h =
+pub lowered-has-term : {F EF : Type 0} (r : CommRing F) (basis : Basis F EF) (p : ExtNodes F EF) (i : ℕ) (u : BaseNodes F) (b : ℕ) → IsPool (ext_reads basis) p → i < length p.1 → (HasExtOnly (tree_at p i) → ⊥) → HasTree u (lowered p.0 (tree_at p i)) b → HasTermOf basis p i u b
+lowered-has-term r basis p i u b pool here n h =
     ap (term_of base_term) h.tree
-    ∙ lowered-term r coefficients p.0 (tree_at p i) (tree_of-whole (ext_reads r eq coefficients p.0) p.1 pool.nodes i here) n
+    ∙ lowered-term r basis p.0 (tree_at p i) (tree_of-whole (ext_reads basis p.0) p.1 pool.nodes i here) n
 
 -- A number of the base pool keeps its tree.
 pub HasTree-kept : {F : Type 0} (r : CommRing F) (u v : BaseNodes F) (i : ℕ) (t : Tree (BaseLeaf F)) → ext_grows u v → HasTree u t i → HasTree v t i
@@ -76,8 +77,8 @@ each_below P Q k (Neg x d) f b h = f x b h
 each_below P Q k (Mul x y d) f b h = (f x b.0 h.0, f y b.1 h.1)
 
 -- Number i, which can be lowered, is a node in the base pool over what its operands are lowered to.
-module _ {F EF : Type 0} (r : CommRing F) (eq : F → F → Bool) {coefficients : EF → List F} {p : ExtNodes F EF} (pool : IsPool (ext_reads r eq coefficients) p) {table : List (Option ℕ)} {i : ℕ} (ready : CanLower p table i) where
-  module _ {n : SymbolicExpr (ExtLeaf F EF)} (is : IsNode (ext_reads r eq coefficients p.0) p.1 i n) where
+module _ {F EF : Type 0} (r : CommRing F) {basis : Basis F EF} {p : ExtNodes F EF} (pool : IsPool (ext_reads basis) p) {table : List (Option ℕ)} {i : ℕ} (ready : CanLower p table i) where
+  module _ {n : SymbolicExpr (ExtLeaf F EF)} (is : IsNode (ext_reads basis p.0) p.1 i n) where
     pub operands-there : EachOperand (λ x. get_or table x None ≡ None → ⊥) n
     operands-there =
         each_below (LoweredAt p table) (λ x. get_or table x None ≡ None → ⊥) i n (λ x _ h. lowered-there p p x (get_or table x None) h) is.below (ready.operands n is.node)
@@ -88,7 +89,7 @@ module _ {F EF : Type 0} (r : CommRing F) (eq : F → F → Bool) {coefficients 
   -- b stands for the operand x
   record IsFor (x b : ℕ) : Type 0 where
     here : b < length p.0.1
-    degree : cached_degree (ext_reads r eq coefficients p.0) p.1 x ≡ cached_degree base_leaves p.0.1 b
+    degree : cached_degree (ext_reads basis p.0) p.1 x ≡ cached_degree base_leaves p.0.1 b
     tree : tree_at p.0 b ≡ lowered p.0 (tree_at p x)
 
   operand : (x b : ℕ) → x < length p.1 → (HasExtOnly (tree_at p x) → ⊥) → LoweredAt p table x → get_or table x None ≡ Some b → IsFor x b
@@ -96,26 +97,26 @@ module _ {F EF : Type 0} (r : CommRing F) (eq : F → F → Bool) {coefficients 
       let h = lowered-read p p x (get_or table x None) at b e in
       record {
         here = h.here;
-        degree = ap (degree_by cached_weight) (sym (lowered-has-term r eq coefficients p x p.0 b pool here base h));
+        degree = ap (degree_by cached_weight) (sym (lowered-has-term r basis p x p.0 b pool here base h));
         tree = h.tree;
       }
 
-  both : (join : ℕ → ℕ → ℕ) (node : Tree (BaseLeaf F) → Tree (BaseLeaf F) → Tree (BaseLeaf F)) (x y d a b : ℕ) → (x < length p.1) × (y < length p.1) × (d ≡ join (cached_degree (ext_reads r eq coefficients p.0) p.1 x) (cached_degree (ext_reads r eq coefficients p.0) p.1 y)) → (HasExtOnly (tree_at p x) ⊎ HasExtOnly (tree_at p y) → ⊥) → LoweredAt p table x × LoweredAt p table y → lowered p.0 (tree_at p i) ≡ node (lowered p.0 (tree_at p x)) (lowered p.0 (tree_at p y)) → get_or table x None ≡ Some a → get_or table y None ≡ Some b → ((a < length p.0.1) × (b < length p.0.1) × (d ≡ join (cached_degree base_leaves p.0.1 a) (cached_degree base_leaves p.0.1 b))) × (node (tree_at p.0 a) (tree_at p.0 b) ≡ lowered p.0 (tree_at p i))
+  both : (join : ℕ → ℕ → ℕ) (node : Tree (BaseLeaf F) → Tree (BaseLeaf F) → Tree (BaseLeaf F)) (x y d a b : ℕ) → (x < length p.1) × (y < length p.1) × (d ≡ join (cached_degree (ext_reads basis p.0) p.1 x) (cached_degree (ext_reads basis p.0) p.1 y)) → (HasExtOnly (tree_at p x) ⊎ HasExtOnly (tree_at p y) → ⊥) → LoweredAt p table x × LoweredAt p table y → lowered p.0 (tree_at p i) ≡ node (lowered p.0 (tree_at p x)) (lowered p.0 (tree_at p y)) → get_or table x None ≡ Some a → get_or table y None ≡ Some b → ((a < length p.0.1) × (b < length p.0.1) × (d ≡ join (cached_degree base_leaves p.0.1 a) (cached_degree base_leaves p.0.1 b))) × (node (tree_at p.0 a) (tree_at p.0 b) ≡ lowered p.0 (tree_at p i))
   both join node x y d a b fits base at tree ea eb =
       let ha = operand x a fits.0 (λ e. base (inl e)) at.0 ea in
       let hb = operand y b fits.1 (λ e. base (inr e)) at.1 eb in
       ((ha.here, hb.here, fits.2 ∙ ap₂ join ha.degree hb.degree), ap₂ node ha.tree hb.tree ∙ sym tree)
 
-  pub added : {x y d a b : ℕ} → IsNode (ext_reads r eq coefficients p.0) p.1 i (Add x y d) → get_or table x None ≡ Some a → get_or table y None ≡ Some b → IsLoweredNode p i (Add a b d)
+  pub added : {x y d a b : ℕ} → IsNode (ext_reads basis p.0) p.1 i (Add x y d) → get_or table x None ≡ Some a → get_or table y None ≡ Some b → IsLoweredNode p i (Add a b d)
   added is = both max (λ t u. add_tree t u) _ _ _ _ _ is.fits (only is) (ready.operands _ is.node) (ap (lowered p.0) is.tree)
 
-  pub subtracted : {x y d a b : ℕ} → IsNode (ext_reads r eq coefficients p.0) p.1 i (Sub x y d) → get_or table x None ≡ Some a → get_or table y None ≡ Some b → IsLoweredNode p i (Sub a b d)
+  pub subtracted : {x y d a b : ℕ} → IsNode (ext_reads basis p.0) p.1 i (Sub x y d) → get_or table x None ≡ Some a → get_or table y None ≡ Some b → IsLoweredNode p i (Sub a b d)
   subtracted is = both max (λ t u. sub_tree t u) _ _ _ _ _ is.fits (only is) (ready.operands _ is.node) (ap (lowered p.0) is.tree)
 
-  pub multiplied : {x y d a b : ℕ} → IsNode (ext_reads r eq coefficients p.0) p.1 i (Mul x y d) → get_or table x None ≡ Some a → get_or table y None ≡ Some b → IsLoweredNode p i (Mul a b d)
+  pub multiplied : {x y d a b : ℕ} → IsNode (ext_reads basis p.0) p.1 i (Mul x y d) → get_or table x None ≡ Some a → get_or table y None ≡ Some b → IsLoweredNode p i (Mul a b d)
   multiplied is = both (λ k l. k + l) (λ t u. mul_tree t u) _ _ _ _ _ is.fits (only is) (ready.operands _ is.node) (ap (lowered p.0) is.tree)
 
-  pub negated : {x d a : ℕ} → IsNode (ext_reads r eq coefficients p.0) p.1 i (Neg x d) → get_or table x None ≡ Some a → IsLoweredNode p i (Neg a d)
+  pub negated : {x d a : ℕ} → IsNode (ext_reads basis p.0) p.1 i (Neg x d) → get_or table x None ≡ Some a → IsLoweredNode p i (Neg a d)
   negated is e =
       let h = operand _ _ is.fits.0 (only is) (ready.operands _ is.node) e in
       ((h.here, is.fits.1 ∙ h.degree), ap (λ t. neg_tree t) h.tree ∙ sym (ap (lowered p.0) is.tree))

@@ -1,8 +1,9 @@
 -- What a folded operation makes, in the words of rings that make their elements.
-use Rattle.std.proofs.Common.{Result, Ok, Err, IfOk, IfErr, ◌≡◌, Bool, ℕ, ◌≤◌, ◌+◌, ◌^◌, List, refl, sym, ap, subst, ◌∙◌, arith}
+use Rattle.std.proofs.Common.{Result, Ok, Err, IfOk, IfErr, ◌≡◌, ℕ, ◌≤◌, ◌+◌, ◌^◌, List, refl, sym, ap, subst, ◌∙◌, arith}
 use Rattle.air_field.specs.declared.errors.RingError.{RingError}
 use Rattle.air_field.specs.declared.errors.RingError.TheVariants.{Memory, DegreeOverflow}
 use Rattle.air_field.specs.Ring.{CommRing}
+use Rattle.air_field.specs.Extension.{Basis}
 use Rattle.air_field.specs.Term.{Term, const_term, mul_term}
 use Rattle.air_field.specs.Degree.{degree_by, cached_weight}
 use Rattle.air_field.specs.Same.{Stands}
@@ -68,9 +69,9 @@ refused-product r reads p x y (Err Memory) h = λ t u k m. tt
 refused-product r reads p x y (Err DegreeOverflow) h = λ t u k m. omega (arith, h refl, k.stands.light cached_weight, m.stands.light cached_weight)
 
 -- The leaf of a base expression means what that means.
-pub made-lifted : {F EF : Type 0} (r : CommRing F) (eq : F → F → Bool) (coefficients : EF → List F) (p q : ExtNodes F EF) (x : ℕ) → q.0 ≡ p.0 → IsPool (ext_reads r eq coefficients) q → (z : ℕ) → HasTree q (leaf_tree (Base x)) z → Lifted (PoolHas (ext_reads r eq coefficients)) (PoolMeans (ext_reads r eq coefficients) r) (BaseMeans r eq coefficients) p q x z
-made-lifted r eq coefficients p q x same pool z m =
-    let reads = ext_reads r eq coefficients in
+pub made-lifted : {F EF : Type 0} (r : CommRing F) (basis : Basis F EF) (p q : ExtNodes F EF) (x : ℕ) → q.0 ≡ p.0 → IsPool (ext_reads basis) q → (z : ℕ) → HasTree q (leaf_tree (Base x)) z → Lifted (PoolHas (ext_reads basis)) (PoolMeans (ext_reads basis) r) (BaseMeans r basis) p q x z
+made-lifted r basis p q x same pool z m =
+    let reads = ext_reads basis in
     let is : term_at reads q z ≡ term_at base_reads p.0 x = ap (term_of (reads q.0).term) m.tree ∙ ap (λ u. term_at base_reads u x) same in (
       record { pool = pool; here = m.here },
       λ t h. record { pool = pool; here = m.here; stands = subst (λ u. Stands r u t) (sym is) h.base.stands },

@@ -2,6 +2,7 @@
 use Rattle.std.proofs.Common.{◌≡◌, ◌⊎◌, ℕ, zero, suc, ◌+◌, ◌<◌, List, [], ◌∷◌, ◌++◌, length, get_or, All, Bool, true, false, Decides, Option, None, Some, IfSome, inl, inr, refl, sym, ap, subst, ◌∙◌, arith, ⊎_elim}
 use Rattle.std.proofs.lemmas.List.{get_or_default, get_or_append_left, get_or_push}
 use Rattle.air_field.specs.Ring.{CommRing}
+use Rattle.air_field.specs.Extension.{Basis}
 use Rattle.air_symbolic.specs.Leaves.{Leaves}
 use Rattle.air_symbolic.specs.Trees.{Tree, nothing, leaf_tree, add_tree, sub_tree, neg_tree, mul_tree}
 use Rattle.air_symbolic.specs.Nodes.{unfold_node, tree_of, node_at, WellFormed, IsNode}
@@ -127,13 +128,13 @@ module _ {F EF : Type 0} (l : Leaves (ExtLeaf F EF) F) (p : ExtNodes F EF) (r : 
         }
 
     -- the table gets one place more
-    pub more-lowered : (R : CommRing F) (eq : F → F → Bool) (co : EF → List F) (s t : ExtNodes F EF) (table new : List (Option ℕ)) (k : ℕ) (o y : Option ℕ) → IsPool (ext_reads R eq co) s → Grown ext_grows (ext_reads R eq co) s t → t.1 ≡ s.1 → s.1 ≡ p.1 → k < length marks → o ≡ get_or marks k o → length table ≡ k → new ≡ table ++ y ∷ [] → ((j : ℕ) → j < k → Marked marks j → LoweredAt s table j) → IfSome o (λ i. IsLoweredIn s t i y) → (j : ℕ) → j < k + 1 → Marked marks j → LoweredAt t new j
-    more-lowered R eq co s t table new k o y pool g same first lt e places is made now j below m =
+    pub more-lowered : (r : CommRing F) (basis : Basis F EF) (s t : ExtNodes F EF) (table new : List (Option ℕ)) (k : ℕ) (o y : Option ℕ) → IsPool (ext_reads basis) s → Grown ext_grows (ext_reads basis) s t → t.1 ≡ s.1 → s.1 ≡ p.1 → k < length marks → o ≡ get_or marks k o → length table ≡ k → new ≡ table ++ y ∷ [] → ((j : ℕ) → j < k → Marked marks j → LoweredAt s table j) → IfSome o (λ i. IsLoweredIn s t i y) → (j : ℕ) → j < k + 1 → Marked marks j → LoweredAt t new j
+    more-lowered r basis s t table new k o y pool g same first lt e places is made now j below m =
         subst (λ (v : List (Option ℕ)). LoweredAt t v j) (sym is)
         (⊎_elim
         (λ (b : j < k).
         let h : LoweredAt s table j = made j b m in
-        (h.0, get_or_append_left table (y ∷ []) None j (omega (arith, b, places)) ∙ h.1, moved j (omega (arith, b, lt, reach.places, ap length first)) h.0 (HasTree-kept R s.0 t.0 h.0 (lowered s.0 (tree_at s j)) g.under h.2)))
+        (h.0, get_or_append_left table (y ∷ []) None j (omega (arith, b, places)) ∙ h.1, moved j (omega (arith, b, lt, reach.places, ap length first)) h.0 (HasTree-kept r s.0 t.0 h.0 (lowered s.0 (tree_at s j)) g.under h.2)))
         (λ (b : j ≡ k).
         let at : o ≡ Some j = e ∙ get_or_default marks k o None lt ∙ subst (λ i. get_or marks i None ≡ Some j) b m in
         let h : IsLoweredIn s t j y = subst (λ w. IfSome w (λ i. IsLoweredIn s t i y)) at now in
@@ -147,17 +148,17 @@ module _ {F EF : Type 0} (l : Leaves (ExtLeaf F EF) F) (p : ExtNodes F EF) (r : 
         moved i here b h = record {
           here = h.here;
           tree = h.tree
-              ∙ sym (lowered-kept R s.0 t.0 g.under (tree_at s i) (tree_of-whole (ext_reads R eq co s.0) s.1 pool.nodes i here))
+              ∙ sym (lowered-kept r s.0 t.0 g.under (tree_at s i) (tree_of-whole (ext_reads basis s.0) s.1 pool.nodes i here))
               ∙ ap (λ (ns : List (SymbolicExpr (ExtLeaf F EF))). lowered t.0 (tree_of ns i)) (sym same);
         }
 
 -- what is lowered at the end is lowered as it was at first
-pub lowered-at-first : {F EF : Type 0} (R : CommRing F) (eq : F → F → Bool) (co : EF → List F) (p s : ExtNodes F EF) (table : List (Option ℕ)) (i b : ℕ) → IsPool (ext_reads R eq co) p → Grown ext_grows (ext_reads R eq co) p s → s.1 ≡ p.1 → i < length p.1 → LoweredAt s table i → get_or table i None ≡ Some b → HasTree s.0 (lowered p.0 (tree_at p i)) b
-lowered-at-first R eq co p s table i b pool g same here h e =
+pub lowered-at-first : {F EF : Type 0} (r : CommRing F) (basis : Basis F EF) (p s : ExtNodes F EF) (table : List (Option ℕ)) (i b : ℕ) → IsPool (ext_reads basis) p → Grown ext_grows (ext_reads basis) p s → s.1 ≡ p.1 → i < length p.1 → LoweredAt s table i → get_or table i None ≡ Some b → HasTree s.0 (lowered p.0 (tree_at p i)) b
+lowered-at-first r basis p s table i b pool g same here h e =
     let last : HasTree s.0 (lowered s.0 (tree_at s i)) b = lowered-read s s i (get_or table i None) h b e in
     record {
       here = last.here;
       tree = last.tree
           ∙ ap (λ (ns : List (SymbolicExpr (ExtLeaf _ _))). lowered s.0 (tree_of ns i)) same
-          ∙ lowered-kept R p.0 s.0 g.under (tree_at p i) (tree_of-whole (ext_reads R eq co p.0) p.1 pool.nodes i here);
+          ∙ lowered-kept r p.0 s.0 g.under (tree_at p i) (tree_of-whole (ext_reads basis p.0) p.1 pool.nodes i here);
     }

@@ -1,6 +1,6 @@
 -- The trees of extension expressions, in which a Base leaf holds a whole base tree.
-use Rattle.std.specs.Prelude.{◌≡◌, ℕ, ◌⊎◌, Bool, List}
-use Rattle.air_field.specs.Ring.{CommRing}
+use Rattle.std.specs.Prelude.{◌≡◌, ℕ, ◌⊎◌}
+use Rattle.air_field.specs.Extension.{Basis}
 use Rattle.air_symbolic.specs.Trees.{Tree, nothing, leaf_tree, add_tree, sub_tree, neg_tree, mul_tree, term_of}
 use Rattle.air_symbolic.specs.Pools.{tree_at, term_at, HasTree}
 use Rattle.air_symbolic.specs.BaseLeaves.{base_reads}
@@ -36,9 +36,9 @@ abbrev pub whole_tree_at : {F EF : Type 0} → ExtNodes F EF → ℕ → Tree (W
 whole_tree_at p i = whole_tree p.0 (tree_at p i)
 
 -- number i has its whole tree in every pool that p has grown to
-abbrev pub KeepsWholeTree : {F EF : Type 0} → CommRing F → (F → F → Bool) → (EF → List F) → ExtNodes F EF → ℕ → Type 0
-KeepsWholeTree {F = F} {EF = EF} r eq coefficients p i =
-    (q : ExtNodes F EF) → ExtGrown r eq coefficients p q → whole_tree_at q i ≡ whole_tree_at p i
+abbrev pub KeepsWholeTree : {F EF : Type 0} → Basis F EF → ExtNodes F EF → ℕ → Type 0
+KeepsWholeTree {F = F} {EF = EF} basis p i =
+    (q : ExtNodes F EF) → ExtGrown basis p q → whole_tree_at q i ≡ whole_tree_at p i
 
 -- the leaf is of the extension alone
 abbrev pub IsExtOnly : {F EF : Type 0} → ExtLeaf F EF → Type 0
@@ -76,5 +76,5 @@ pub record IsLowered {F EF : Type 0} (old u : BaseNodes F) (t : Tree (ExtLeaf F 
   pub tree : HasTree u (lowered old t) b
 
 -- number b of the base pool u has the term of number i of the extension pool p
-abbrev pub HasTermOf : {F EF : Type 0} → (EF → List F) → ExtNodes F EF → ℕ → BaseNodes F → ℕ → Type 0
-HasTermOf coefficients p i u b = term_at base_reads u b ≡ term_of (ext_term coefficients p.0) (tree_at p i)
+abbrev pub HasTermOf : {F EF : Type 0} → Basis F EF → ExtNodes F EF → ℕ → BaseNodes F → ℕ → Type 0
+HasTermOf basis p i u b = term_at base_reads u b ≡ term_of (ext_term basis p.0) (tree_at p i)

@@ -18,7 +18,6 @@ pub mod Weights
 pub mod DegreeTables
 pub mod Numbering
 pub mod BaseLeaves
-pub mod BaseParts
 pub mod ExtLeaves
 pub mod ExtPool
 pub mod ExtTrees

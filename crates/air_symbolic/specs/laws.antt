@@ -4,7 +4,6 @@ pub mod Pools
 pub mod Sharing
 pub mod WholeTrees
 pub mod BasePool
-pub mod BaseParts
 pub mod BaseLeaves
 pub mod PoolRefusals
 pub mod ExtLeaves

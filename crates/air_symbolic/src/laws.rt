@@ -34,7 +34,7 @@ pub fn is_same_whole_tree<F: Field, EF: ExtensionField<F>>(
     x: ExprId<ExtLeaf<F, EF>>,
     y: ExprId<ExtLeaf<F, EF>>,
 ) -> bool
-    requires pool { IsPool (ext_reads F.ring F.eq EF.coefficients) pool.now }
+    requires pool { IsPool (ext_reads EF.basis) pool.now }
     requires x_in { x < length pool.now.1 }
     requires y_in { y < length pool.now.1 }
     ensures { Decides result (whole_tree_at pool.now x ≡ whole_tree_at pool.now y) }
@@ -79,7 +79,7 @@ pub fn id_order<A: SymLeaf>(x: ExprId<A>, y: ExprId<A>) -> Ordering
 
 /// Where the base pool of an extension pool was lent and has grown, the extension pool has grown.
 pub fn pool_grows_with_base<F: Field, EF: ExtensionField<F>>(_pool: &ExprPool<ExtLeaf<F, EF>>)
-    ensures { GrowsWithBase F.ring F.eq EF.coefficients _pool.now }
+    ensures { GrowsWithBase EF.basis _pool.now }
 {}
 
 /// A number keeps its whole tree, the base trees of its Base leaves with it, while the pool grows.
@@ -87,7 +87,7 @@ pub fn whole_tree_is_kept<F: Field, EF: ExtensionField<F>>(
     _pool: &ExprPool<ExtLeaf<F, EF>>,
     _x: ExprId<ExtLeaf<F, EF>>,
 )
-    requires pool { IsPool (ext_reads F.ring F.eq EF.coefficients) _pool.now }
+    requires pool { IsPool (ext_reads EF.basis) _pool.now }
     requires here { _x < length _pool.now.1 }
-    ensures { KeepsWholeTree F.ring F.eq EF.coefficients _pool.now _x }
+    ensures { KeepsWholeTree EF.basis _pool.now _x }
 {}

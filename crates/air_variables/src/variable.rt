@@ -42,7 +42,8 @@ impl<F> SymbolicVariable<F> {
     /// the trace's variable, of degree at most N - N/p; for any other p up to N the answer is the same with N/p rounded
     /// down. One without a period, or with one past N, counts as a column of the trace.
     pub fn poly_degree(&self, trace_len: usize, periods: &[usize]) -> usize
-        ensures { result ≡ trace_weight trace_len periods.now (entry_leaf self.now.entry self.now.index) }
+        ensures { result ≡ trace_weight trace_len periods.now
+            (entry_leaf self.now.entry self.now.index) }
     {
         match self.entry {
             BaseEntry::Public => 0,

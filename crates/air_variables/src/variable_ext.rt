@@ -39,7 +39,8 @@ impl<F, EF> SymbolicVariableExt<F, EF> {
 
     /// The degree of the variable's polynomial over `trace_len` rows. No extension variable is periodic.
     pub fn poly_degree(&self, trace_len: usize) -> usize
-        ensures { result ≡ trace_weight trace_len [] (ext_entry_leaf self.now.entry self.now.index) }
+        ensures { result ≡ trace_weight trace_len []
+            (ext_entry_leaf self.now.entry self.now.index) }
     {
         match self.entry {
             ExtEntry::Permutation { .. } => trace_len.saturating_sub(1),

@@ -8,7 +8,8 @@ use std::alloc::{AllocError, Global};
 
 /// The first column without values.
 fn first_empty<T: Copy>(columns: &[Vec<T>]) -> Option<usize>
-    ensures { MatchOption result (All (λ column. 0 < length column.items) columns.now) (IsFirstEmpty columns.now) }
+    ensures { MatchOption result (All (λ column. 0 < length column.items) columns.now)
+        (IsFirstEmpty columns.now) }
 {
     for (index, column) in columns.iter().enumerate() {
         if column.is_empty() {

@@ -3,7 +3,7 @@ use Rattle.std.proofs.Common.{◌≡◌, ℕ, List, length, Result, Ok, sym, ap,
 use Rattle.air_field.specs.declared.fields.baby_bear.BabyBear.{BabyBear}
 use Rattle.serde_json.specs.Data.{Data}
 use Rattle.air_field.specs.Ring.{CommRing, Over}
-use Rattle.air_field.specs.Extension.{ExtensionLaws}
+use Rattle.air_field.specs.Extension.{Basis, ExtensionLaws}
 use Rattle.air_symbolic.specs.Trees.{Tree}
 use Rattle.air_symbolic.specs.declared.leaves.base_leaf.BaseLeaf.{BaseLeaf}
 use Rattle.air_wire.specs.Results.{◌>>=◌, Fails}
@@ -41,8 +41,8 @@ moved_fault place (faults.NotCanonical inner) read h = ap (moved place) h
 pub right_count : (m n place : ℕ) (d : Data) (cs list : List BabyBear) → m ≡ n → elements_at m place d ≡ Ok cs → list ≡ cs → length list ≡ n
 right_count m n place d cs list same read is = ap length is ∙ ((elements_found m place d cs read).1 ∙ same)
 
-pub made_constant : {EF : Type 0} (r : CommRing BabyBear) (a : Over BabyBear EF) (coefficients : EF → List BabyBear) (n : ℕ) → ExtensionLaws r a coefficients n → (m place : ℕ) (d : Data) (cs list : List BabyBear) (e : EF) → m ≡ n → elements_at m place d ≡ Ok cs → list ≡ cs → coefficients e ≡ list → ext_constant_at a n place d ≡ Ok e
-made_constant {EF} r a coefficients n laws m place d cs list e same read is of =
+pub made_constant : {EF : Type 0} (r : CommRing BabyBear) (a : Over BabyBear EF) (basis : Basis BabyBear EF) (n : ℕ) → ExtensionLaws r a basis n → (m place : ℕ) (d : Data) (cs list : List BabyBear) (e : EF) → m ≡ n → elements_at m place d ≡ Ok cs → list ≡ cs → basis.coefficients e ≡ list → ext_constant_at a n place d ≡ Ok e
+made_constant {EF} r a basis n laws m place d cs list e same read is of =
     let there : elements_at n place d ≡ Ok cs = subst (λ k. elements_at k place d ≡ Ok cs) same read in
     ap (λ (q : Result (List BabyBear) FlatError). q >>= λ xs. done (a.extend xs)) there
-    ∙ ap (λ x. done x) (sym (made_of r a coefficients n laws e cs (elements_found n place d cs there).1 (of ∙ is)))
+    ∙ ap (λ x. done x) (sym (made_of r a basis n laws e cs (elements_found n place d cs there).1 (of ∙ is)))

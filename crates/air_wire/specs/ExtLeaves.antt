@@ -2,6 +2,7 @@
 use Rattle.std.specs.Prelude.{◌≡◌, ℕ, List, Result, Ok, Err, option_map, codes, if◌then◌else◌, bytes_eq, ok_or}
 use Rattle.serde_json.specs.Data.{Data, array}
 use Rattle.air_field.specs.Ring.{Over}
+use Rattle.air_field.specs.Extension.{Basis}
 use Rattle.air_field.specs.Term.{Term, leaf_term, ext_const_term}
 use Rattle.air_field.specs.declared.fields.baby_bear.BabyBear.{BabyBear}
 use Rattle.air_variables.specs.ExtEntries.{ext_entry_leaf}
@@ -21,21 +22,21 @@ use Rattle.air_wire.specs.declared.errors.FlatError.{FlatError}
 use Rattle.air_wire.specs.declared.errors.FlatError.TheVariants as faults
 
 -- a Base leaf is spelt by a whole list of base nodes, a constant by its coefficients
-abbrev pub SpellsWhole : {EF : Type 0} → (EF → List BabyBear) → Data → WholeLeaf BabyBear EF → Type 0
-SpellsWhole coefficients d (whole_base t) = IsCase (codes "Base") (λ c. IsList base_kind c t) d
-SpellsWhole coefficients d (whole_variable v) = IsCase (codes "ExtVariable") (λ c. SpellsExtVariable c v) d
-SpellsWhole coefficients d (whole_constant e) = IsCase (codes "ExtConstant") (λ c. c ≡ array (number_items (coefficients e))) d
+abbrev pub SpellsWhole : {EF : Type 0} → Basis BabyBear EF → Data → WholeLeaf BabyBear EF → Type 0
+SpellsWhole basis d (whole_base t) = IsCase (codes "Base") (λ c. IsList base_kind c t) d
+SpellsWhole basis d (whole_variable v) = IsCase (codes "ExtVariable") (λ c. SpellsExtVariable c v) d
+SpellsWhole basis d (whole_constant e) = IsCase (codes "ExtConstant") (λ c. c ≡ array (number_items (basis.coefficients e))) d
 
 -- what is written: a Base leaf's list begun anew
-abbrev pub WritesWhole : {EF : Type 0} → (EF → List BabyBear) → Data → WholeLeaf BabyBear EF → Type 0
-WritesWhole coefficients d (whole_base t) = IsCase (codes "Base") (λ c. IsWritten base_kind c t) d
-WritesWhole coefficients d (whole_variable v) = d ≡ case_data (codes "ExtVariable") (ext_variable_plain.written v)
-WritesWhole coefficients d (whole_constant e) = d ≡ case_data (codes "ExtConstant") (array (number_items (coefficients e)))
+abbrev pub WritesWhole : {EF : Type 0} → Basis BabyBear EF → Data → WholeLeaf BabyBear EF → Type 0
+WritesWhole basis d (whole_base t) = IsCase (codes "Base") (λ c. IsWritten base_kind c t) d
+WritesWhole basis d (whole_variable v) = d ≡ case_data (codes "ExtVariable") (ext_variable_plain.written v)
+WritesWhole basis d (whole_constant e) = d ≡ case_data (codes "ExtConstant") (array (number_items (basis.coefficients e)))
 
-abbrev pub whole_term : {EF : Type 0} → (EF → List BabyBear) → WholeLeaf BabyBear EF → Term BabyBear
-whole_term coefficients (whole_base t) = term_of base_term t
-whole_term coefficients (whole_variable v) = leaf_term (ext_entry_leaf v.entry v.index)
-whole_term coefficients (whole_constant c) = ext_const_term (coefficients c)
+abbrev pub whole_term : {EF : Type 0} → Basis BabyBear EF → WholeLeaf BabyBear EF → Term BabyBear
+whole_term basis (whole_base t) = term_of base_term t
+whole_term basis (whole_variable v) = leaf_term (ext_entry_leaf v.entry v.index)
+whole_term basis (whole_constant c) = ext_const_term (basis.coefficients c)
 
 -- ---- how a reader finds it
 
@@ -71,5 +72,5 @@ unfoldable pub ext_leaf_at : {EF : Type 0} → Over BabyBear EF → ℕ → ℕ 
 ext_leaf_at a count place d = case_or (Err (faults.Shape place)) (ext_leaf_with a count place) (only_member d)
 
 -- extension leaves, with so many coefficients
-abbrev pub ext_kind : {EF : Type 0} → Over BabyBear EF → (EF → List BabyBear) → ℕ → Kind (WholeLeaf BabyBear EF) BabyBear
-ext_kind a coefficients count = record { spells = SpellsWhole coefficients; writes = WritesWhole coefficients; leaf_at = ext_leaf_at a count; term = whole_term coefficients }
+abbrev pub ext_kind : {EF : Type 0} → Over BabyBear EF → Basis BabyBear EF → ℕ → Kind (WholeLeaf BabyBear EF) BabyBear
+ext_kind a basis count = record { spells = SpellsWhole basis; writes = WritesWhole basis; leaf_at = ext_leaf_at a count; term = whole_term basis }

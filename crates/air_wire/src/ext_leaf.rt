@@ -167,7 +167,7 @@ fn constant_value<EF: ExtensionField<BabyBear>>(
     element: &EF,
 ) -> Result<Value, AllocError>
     ensures { IfOk result (λ v. view v ≡ case_data (codes "ExtConstant")
-        (array (number_items (EF.coefficients element.now)))) }
+        (array (number_items (EF.basis.coefficients element.now)))) }
 {
     let contents = elements_value(alloc, element.as_basis_coefficients_slice())?;
     case_value(alloc, "ExtConstant", contents)
@@ -191,7 +191,7 @@ fn ext_leaf_value<EF: ExtensionField<BabyBear>>(
 ) -> Result<Value, FlatError>
     requires pool { IsPool base_reads under.now }
     requires valid { ext_valid under.now leaf.now }
-    ensures written { IfOk result (λ v. WritesWhole EF.coefficients (view v)
+    ensures written { IfOk result (λ v. WritesWhole EF.basis (view v)
         (whole_leaf under.now leaf.now)) }
     ensures refused { IfErr result (λ e. e ≡ FlatError.Memory) }
 {
@@ -216,7 +216,7 @@ impl<EF: ExtensionField<BabyBear>> WireLeaf for ExtLeaf<BabyBear, EF> {
 
     ghost seen = { λ u a. whole u a };
 
-    ghost kind = { ext_kind EF.over EF.coefficients EF.DIMENSION };
+    ghost kind = { ext_kind EF.over EF.basis EF.DIMENSION };
 
     fn leaf_from_value(
         alloc: Global,
@@ -235,7 +235,7 @@ impl<EF: ExtensionField<BabyBear>> WireLeaf for ExtLeaf<BabyBear, EF> {
         ext_leaf_value(alloc, under, self)
     }
 
-    ghost wire_laws = { ext_wire_laws baby_bear_ring ⟦<BabyBear as PartialEq>⟧.eq EF.coefficients };
+    ghost wire_laws = { ext_wire_laws baby_bear_ring EF.basis };
 
-    ghost kind_laws = { ext_kind_laws baby_bear_ring EF.over EF.coefficients EF.DIMENSION EF.ExtensionField.laws };
+    ghost kind_laws = { ext_kind_laws baby_bear_ring EF.over EF.basis EF.DIMENSION EF.ExtensionField.laws };
 }

@@ -3,6 +3,7 @@ use Rattle.std.proofs.Common.{Err, ◌≡◌, ◌⊎◌, ℕ, List, ◌++◌, ma
 use Rattle.std.proofs.lemmas.List.{map-append}
 use Rattle.std.proofs.lemmas.Simd.{map-map}
 use Rattle.air_field.specs.Ring.{CommRing, itself}
+use Rattle.air_field.specs.Extension.{Basis}
 use Rattle.air_field.specs.Term.{Term}
 use Rattle.air_field.specs.Assignment.{row_assignment}
 use Rattle.air_field.specs.declared.errors.RingError.{RingError}
@@ -32,20 +33,20 @@ use Rattle.air_recording.specs.declared.layouts.air_layout.AirLayout.{AirLayout}
 use Rattle.air_report.specs.declared.checks.report.ConstraintReport.{ConstraintReport}
 use Rattle.p3_air.proofs.Audited.{placed, placed_records, at_base_places, at_ext_places, same_values, same_report, same_length}
 
-module _ {F : Type 0} (r : CommRing F) (eq : F → F → Bool) (coefficients : F → List F) (g : Given F) (cap : Option ℕ) (w : ℕ) (audit : Audit F) where
+module _ {F : Type 0} (r : CommRing F) (eq : F → F → Bool) (basis : Basis F F) (g : Given F) (cap : Option ℕ) (w : ℕ) (audit : Audit F) where
   abbrev base_terms_of : List (Term F)
   base_terms_of = terms_of base_reads audit.recorded.pool.0 audit.recorded.base.items
 
   abbrev ext_terms_of : List (Term F)
-  ext_terms_of = terms_of (ext_reads r eq coefficients) audit.recorded.pool audit.recorded.ext.items
+  ext_terms_of = terms_of (ext_reads basis) audit.recorded.pool audit.recorded.ext.items
 
   abbrev recorded_list : List (Assertion F)
   recorded_list = placed g.declaration.declared base_terms_of ext_terms_of
 
   recording_is : RecordsBase r (itself r) base_reads audit.recorded.pool.0 audit.recorded.base.items g.declaration.declared
-      → RecordsExt r (itself r) (ext_reads r eq coefficients) audit.recorded.pool audit.recorded.ext.items g.declaration.declared
+      → RecordsExt r (itself r) (ext_reads basis) audit.recorded.pool audit.recorded.ext.items g.declaration.declared
       → ArePlacesOf (map kind_of g.declaration.declared) audit.layout.base_indices.items audit.layout.ext_indices.items
-      → IsRecording r eq coefficients g.declaration.declared recorded_list audit
+      → IsRecording r basis g.declaration.declared recorded_list audit
   recording_is base ext places = record {
     base = base;
     ext = ext;
@@ -55,7 +56,7 @@ module _ {F : Type 0} (r : CommRing F) (eq : F → F → Bool) (coefficients : F
         ∙ map-map (λ u. Some (Base u)) (λ i. term_at base_reads audit.recorded.pool.0 i) audit.recorded.base.items);
     at_ext = ap (map (λ p. slice_get recorded_list p)) places.extension
         ∙ (at_ext_places (itself r) (λ p. slice_get recorded_list p) 0 g.declaration.declared base_terms_of ext_terms_of base.terms ext.terms (λ k. ap (slice_get recorded_list) (omega arith))
-        ∙ map-map (λ v. Some (Extension v)) (λ i. term_at (ext_reads r eq coefficients) audit.recorded.pool i) audit.recorded.ext.items);
+        ∙ map-map (λ v. Some (Extension v)) (λ i. term_at (ext_reads basis) audit.recorded.pool i) audit.recorded.ext.items);
     each = placed_records (itself r) g.declaration.declared base_terms_of ext_terms_of base.terms ext.terms;
   }
 
@@ -82,13 +83,13 @@ module _ {F : Type 0} (r : CommRing F) (eq : F → F → Bool) (coefficients : F
       same_count n = ap (λ k. if n == 0 then 0 else k) (same_length (itself r) recorded_list g.declaration.declared m)
 
   pub audited : RecordsBase r (itself r) base_reads audit.recorded.pool.0 audit.recorded.base.items g.declaration.declared
-      → RecordsExt r (itself r) (ext_reads r eq coefficients) audit.recorded.pool audit.recorded.ext.items g.declaration.declared
+      → RecordsExt r (itself r) (ext_reads basis) audit.recorded.pool audit.recorded.ext.items g.declaration.declared
       → ArePlacesOf (map kind_of g.declaration.declared) audit.layout.base_indices.items audit.layout.ext_indices.items
       → IsReport r eq g cap audit.report
-      → IsDegreeFor w (height g) (periods_of g.declaration.periodic) (recorded_terms r eq coefficients audit.recorded) audit.degree
-      → IsAuditUnder r eq coefficients g cap w audit
+      → IsDegreeFor w (height g) (periods_of g.declaration.periodic) (recorded_terms basis audit.recorded) audit.degree
+      → IsAuditUnder r eq basis g cap w audit
   audited base ext places report degree =
-      let us = recorded_terms r eq coefficients audit.recorded in
+      let us = recorded_terms basis audit.recorded in
       let recording = recording_is base ext places in
       record {
         recorded = recorded_list;

@@ -2,6 +2,7 @@
 use Rattle.std.specs.Prelude.{◌≡◌, ◌⊎◌, ℕ, ◌≤◌, ◌^◌, List, ◌++◌, Bool, Option, None, Some, length, map, slice_get}
 use Rattle.std.specs.List.{AllZip}
 use Rattle.air_field.specs.Ring.{CommRing, Over, itself}
+use Rattle.air_field.specs.Extension.{Basis}
 use Rattle.air_field.specs.Term.{Leaf, Term}
 use Rattle.air_field.specs.Degree.{cached_weight, greatest_degree}
 use Rattle.air_field.specs.Assignment.{IsMissing, row_assignment}
@@ -48,12 +49,12 @@ StandAt reads pool kind recorded places numbers =
 
 -- The recording: the numbers of both lists record the declared terms of their kind; the indices are the places of each
 -- kind; and the recorded assertion at each place is that of the number whose index it is, and records what is declared there.
-pub record IsRecording {F : Type 0} (r : CommRing F) (eq : F → F → Bool) (coefficients : F → List F) (declared recorded : List (Assertion F)) (audit : Audit F) : Type 0 where
+pub record IsRecording {F : Type 0} (r : CommRing F) (basis : Basis F F) (declared recorded : List (Assertion F)) (audit : Audit F) : Type 0 where
   pub base : RecordsBase r (itself r) base_reads audit.recorded.pool.0 audit.recorded.base.items declared
-  pub ext : RecordsExt r (itself r) (ext_reads r eq coefficients) audit.recorded.pool audit.recorded.ext.items declared
+  pub ext : RecordsExt r (itself r) (ext_reads basis) audit.recorded.pool audit.recorded.ext.items declared
   pub places : ArePlacesOf (map kind_of declared) audit.layout.base_indices.items audit.layout.ext_indices.items
   pub at_base : StandAt base_reads audit.recorded.pool.0 Base recorded audit.layout.base_indices.items audit.recorded.base.items
-  pub at_ext : StandAt (ext_reads r eq coefficients) audit.recorded.pool Extension recorded audit.layout.ext_indices.items audit.recorded.ext.items
+  pub at_ext : StandAt (ext_reads basis) audit.recorded.pool Extension recorded audit.layout.ext_indices.items audit.recorded.ext.items
   pub each : RecordsEach (itself r) recorded declared
 
 -- The values of the assertions at a row, in order.
@@ -82,18 +83,18 @@ leaves_over g w = leaf_degree w (height g) (periods_of g.declaration.periodic)
 -- then the differing cells, as many as it leaves; and for n rows, n at least 2, each recorded polynomial has degree at most
 -- d (n - 1) + 1 for weight 0, d being for n at least 3 the least that the recorded terms allow, and at most d (n - 1) for a
 -- weight from 1, d being the least that they allow.
-pub record IsAuditUnder {F : Type 0} (r : CommRing F) (eq : F → F → Bool) (coefficients : F → List F) (g : Given F) (cap : Option ℕ) (w : ℕ) (audit : Audit F) : Type 0 where
+pub record IsAuditUnder {F : Type 0} (r : CommRing F) (eq : F → F → Bool) (basis : Basis F F) (g : Given F) (cap : Option ℕ) (w : ℕ) (audit : Audit F) : Type 0 where
   pub recorded : List (Assertion F)
-  pub recording : IsRecording r eq coefficients g.declaration.declared recorded audit
+  pub recording : IsRecording r basis g.declaration.declared recorded audit
   pub values : (row : ℕ) → values_at_row r g row recorded ≡ values_at_row r g row g.declaration.declared
   pub report : IsReport r eq g cap audit.report
   pub lists : ListsFailures r eq g cap recorded audit.report
-  pub degree : IsDegreeFor w (height g) (periods_of g.declaration.periodic) (recorded_terms r eq coefficients audit.recorded) audit.degree
-  pub bounded : 2 ≤ height g → PolynomialsWithin (itself r) (leaves_over g w) (polynomial_bound w audit.degree (height g)) (recorded_terms r eq coefficients audit.recorded)
+  pub degree : IsDegreeFor w (height g) (periods_of g.declaration.periodic) (recorded_terms basis audit.recorded) audit.degree
+  pub bounded : 2 ≤ height g → PolynomialsWithin (itself r) (leaves_over g w) (polynomial_bound w audit.degree (height g)) (recorded_terms basis audit.recorded)
 
 -- without a cap
-abbrev pub IsAudit : {F : Type 0} → CommRing F → (F → F → Bool) → (F → List F) → Given F → ℕ → Audit F → Type 0
-IsAudit r eq coefficients g w audit = IsAuditUnder r eq coefficients g None w audit
+abbrev pub IsAudit : {F : Type 0} → CommRing F → (F → F → Bool) → Basis F F → Given F → ℕ → Audit F → Type 0
+IsAudit r eq basis g w audit = IsAuditUnder r eq basis g None w audit
 
 -- the check had answered, and of terms that record the declared list one has a degree past `usize`, as a domain of weight w
 -- counts degrees for the trace

@@ -51,7 +51,7 @@ pub fn audit_air<
     public_values: &'a [F],
     transition_weight: usize,
 ) -> Result<Audit<F>, AirError>
-    ensures audited { IfOk result (IsAudit F.ring F.eq F.coefficients
+    ensures audited { IfOk result (IsAudit F.ring F.eq F.basis
         (given (A.declaration air.now) main.now public_values.now) transition_weight) }
     ensures refused { IfErr result (AuditRefuses F.ring F.eq
         (given (A.declaration air.now) main.now public_values.now) transition_weight) }
@@ -73,7 +73,7 @@ pub fn audit_air_with_cap<
     max_failures: Option<usize>,
     transition_weight: usize,
 ) -> Result<Audit<F>, AirError>
-    ensures audited { IfOk result (IsAuditUnder F.ring F.eq F.coefficients
+    ensures audited { IfOk result (IsAuditUnder F.ring F.eq F.basis
         (given (A.declaration air.now) main.now public_values.now)
         max_failures transition_weight) }
     ensures refused { IfErr result (AuditRefusesUnder F.ring F.eq

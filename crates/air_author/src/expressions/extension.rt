@@ -29,7 +29,7 @@ impl<AB: ExtensionBuilder, X: Expression<AB>> ExtExpression<AB> for Lifted<X> {
 pub struct ExtConstant<EF>(pub EF);
 
 impl<AB: ExtensionBuilder> ExtExpression<AB> for ExtConstant<AB::EF> {
-    ghost ext_term = { λ s. ext_const_term (AB.EF.coefficients s.0) };
+    ghost ext_term = { λ s. ext_const_term (AB.EF.basis.coefficients s.0) };
 
     #[inline(always)]
     fn make_ext(&self, builder: &mut AB) -> AirResult<AB::ExprEF> {

@@ -4,7 +4,7 @@ use Rattle.std.proofs.Common.{inl, inr, sym, ◌∙◌, ap, subst, arith}
 use Rattle.std.proofs.lemmas.Option.{get_or_from_slice_get, slice_get_cases, slice_get_past}
 use Rattle.air_field.specs.Ring.{CommRing, Over}
 use Rattle.air_field.specs.Term.{permutation}
-use Rattle.air_field.specs.Extension.{ExtensionLaws}
+use Rattle.air_field.specs.Extension.{Basis, ExtensionLaws}
 use Rattle.air_field.specs.laws.Extension.{extend-coefficients}
 use Rattle.air_field.specs.Assignment.{RowValues, IsMissing}
 use Rattle.air_field.specs.OneRow.{one_row_shape}
@@ -69,19 +69,19 @@ module _ {F : Type 0} where
   base_window = window_shows is_base (λ x. (tt, refl))
 
 -- Rows over an extension: an element is what the coefficients of what is read there stand for.
-module _ {F E : Type 0} {r : CommRing F} {a : Over F E} {coefficients : E → List F} {n : ℕ}
-    (laws : ExtensionLaws r a coefficients n) where
+module _ {F E : Type 0} {r : CommRing F} {a : Over F E} {basis : Basis F E} {n : ℕ}
+    (laws : ExtensionLaws r a basis n) where
   abbrev stands_for : E → E → Type 0
-  stands_for x v = a.extend (coefficients x) ≡ v
+  stands_for x v = a.extend (basis.coefficients x) ≡ v
 
   pub element_stands : (row : List E) (i : ℕ) (v : E) → slice_get row i ≡ Some v → stands_for (slice_index_or row i a.ring.nil) v
-  element_stands = shown stands_for (extend-coefficients r a coefficients n laws) a.ring.nil
+  element_stands = shown stands_for (extend-coefficients r a basis n laws) a.ring.nil
 
   pub found_stands : (row : List E) (i : ℕ) (found : Option E) → found ≡ slice_get row i → IfSome found (stands_for (slice_index_or row i a.ring.nil))
-  found_stands = found_shown stands_for (extend-coefficients r a coefficients n laws) a.ring.nil
+  found_stands = found_shown stands_for (extend-coefficients r a basis n laws) a.ring.nil
 
   pub extension_window : (first second top bottom : List E) → length first ≡ length second → top ≡ first → bottom ≡ second → WindowShows stands_for a.ring.nil first second top bottom
-  extension_window = window_shows stands_for (extend-coefficients r a coefficients n laws) a.ring.nil
+  extension_window = window_shows stands_for (extend-coefficients r a basis n laws) a.ring.nil
 
   -- a window on the two rows of a permutation trace
   pub permutation_window : {p : Option (ViewPair E)} (pair : ViewPair E) (top bottom : List E) → p ≡ Some pair → top ≡ pair.top.values.now

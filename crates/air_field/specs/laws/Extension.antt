@@ -5,7 +5,7 @@ use Rattle.air_field.specs.Ring.{CommRing, AllZero, Over, OverLaws}
 use Rattle.air_field.specs.RingOps.{ops}
 use Rattle.air_field.specs.laws.Ring.{mul_nil, add_cancel}
 use Rattle.air_field.specs.Coefficients.{poly_add, poly_scale, padded}
-use Rattle.air_field.specs.Extension.{ExtensionLaws}
+use Rattle.air_field.specs.Extension.{Basis, ExtensionLaws}
 
 -- ---- lists of coefficients
 
@@ -52,7 +52,7 @@ module _ {F : Type 0} (R : CommRing F) where
       less_one k = omega arith
 
 -- An extension is an algebra over the base ring.
-module _ {F E : Type 0} (R : CommRing F) (a : Over F E) (coefficients : E → List F) (n : ℕ) (laws : ExtensionLaws R a coefficients n) where
+module _ {F E : Type 0} (R : CommRing F) (a : Over F E) (basis : Basis F E) (n : ℕ) (laws : ExtensionLaws R a basis n) where
   extension-add : (x y : F) → a.embed (R.add x y) ≡ a.ring.add (a.embed x) (a.embed y)
   extension-add x y =
       laws.same (a.embed (R.add x y)) (a.ring.add (a.embed x) (a.embed y))
@@ -88,6 +88,6 @@ module _ {F E : Type 0} (R : CommRing F) (a : Over F E) (coefficients : E → Li
       }
 
   -- the element of an element's own coefficients
-  pub extend-coefficients : (x : E) → a.extend (coefficients x) ≡ x
+  pub extend-coefficients : (x : E) → a.extend (basis.coefficients x) ≡ x
   extend-coefficients x =
-      laws.same (a.extend (coefficients x)) x (laws.extend_is (coefficients x) ∙ padded-whole R.nil n (coefficients x) (laws.count x))
+      laws.same (a.extend (basis.coefficients x)) x (laws.extend_is (basis.coefficients x) ∙ padded-whole R.nil n (basis.coefficients x) (laws.count x))

@@ -3,7 +3,7 @@ use Rattle.std.specs.Prelude.{◌≡◌, refl, List, [], ◌∷◌}
 use Rattle.std.proofs.Common.{lit<}
 use Rattle.air_field.specs.Ring.{CommRing, itself, first_or}
 use Rattle.air_field.specs.Coefficients.{padded}
-use Rattle.air_field.specs.Extension.{ExtensionLaws}
+use Rattle.air_field.specs.Extension.{own_basis, ExtensionLaws}
 
 module _ {F : Type 0} (R : CommRing F) where
   single-same : (a b : F) → a ∷ [] ≡ b ∷ [] → a ≡ b
@@ -13,7 +13,7 @@ module _ {F : Type 0} (R : CommRing F) where
   single-extend [] = refl
   single-extend (x ∷ l) = refl
 
-  pub single_laws : ExtensionLaws R (itself R) (λ a. a ∷ []) 1
+  pub single_laws : ExtensionLaws R (itself R) own_basis 1
   single_laws =
       record {
         positive = lit< tt;
@@ -24,4 +24,6 @@ module _ {F : Type 0} (R : CommRing F) where
         embed_one = refl;
         add_is = λ a b. refl;
         scale_is = λ c a. refl;
+        part_of = λ c. refl;
+        part_is = λ x c h. cc;
       }

@@ -1,6 +1,6 @@
 //! `BabyBear` is an extension of itself of dimension 1.
-ghost use Rattle.std.specs.Prelude.{[], ◌∷◌};
 ghost use Rattle.air_field.specs.Ring.{itself, itself_laws};
+ghost use Rattle.air_field.specs.Extension.{own_basis};
 ghost use Rattle.air_field.specs.laws.Single.{single_laws};
 ghost use Rattle.air_field.specs.Modulo.{baby_bear_ring};
 ghost use Rattle.air_field.specs.laws.Modulo.{equal_is};
@@ -13,7 +13,7 @@ use std::slice;
 impl ExtensionField<BabyBear> for BabyBear {
     ghost over = { itself baby_bear_ring };
 
-    ghost coefficients = { λ a. a ∷ [] };
+    ghost basis = { own_basis };
 
     ghost DIMENSION = { 1 };
 

@@ -2,7 +2,7 @@
 ghost use Rattle.std.specs.Prelude.{◌≡◌};
 ghost use Rattle.air_field.specs.Modulo.{baby_bear_ring, class};
 ghost use Rattle.air_field.specs.Coefficients.{IsProductModulo};
-ghost use Rattle.air_field.specs.Binomial.{binomial_product, binomial_over};
+ghost use Rattle.air_field.specs.Binomial.{binomial_product, binomial_over, binomial_basis};
 ghost use Rattle.air_field.specs.laws.Binomial.{binomial_laws, binomial_over_laws, same_polynomial};
 
 use crate::fields::baby_bear::BabyBear;
@@ -14,7 +14,7 @@ use crate::fields::product::dot_product;
 impl ExtensionField<BabyBear> for BinomialExtensionField {
     ghost over = { binomial_over };
 
-    ghost coefficients = { λ a. a.value };
+    ghost basis = { binomial_basis };
 
     ghost DIMENSION = { 4 };
 
@@ -78,7 +78,8 @@ impl ExtensionField<BabyBear> for BinomialExtensionField {
     // the product of the polynomials, reduced by X^4 = 11: w1, w2, w3 stand where a power passes X^3
     fn mul(self, other: Self) -> Self
         ensures product { result ≡ binomial_product self other }
-        ensures coefficients { IsProductModulo baby_bear_ring (class 11) self.value other.value result.value }
+        ensures coefficients { IsProductModulo baby_bear_ring (class 11) self.value other.value
+            result.value }
     {
         let a = self.value;
         let [b0, b1, b2, b3] = other.value;

@@ -1,8 +1,8 @@
 //! Extension fields.
-ghost use Rattle.std.specs.Prelude.{◌≡◌, ℕ, ◌↔◌, List, length, IsTrue, IfOk, IsOkUnless};
+ghost use Rattle.std.specs.Prelude.{◌≡◌, ℕ, ◌↔◌, length, IsTrue, IfOk, IsOkUnless};
 ghost use Rattle.std.specs.Bool.{Decides};
 ghost use Rattle.air_field.specs.Ring.{Over, OverLaws, minus};
-ghost use Rattle.air_field.specs.Extension.{ExtensionLaws, IsInBase};
+ghost use Rattle.air_field.specs.Extension.{Basis, ExtensionLaws, IsInBase};
 ghost use Rattle.air_field.specs.Powers.{powers_of};
 
 use crate::errors::RingError;
@@ -16,7 +16,8 @@ pub trait ExtensionField<F: Field>: Copy + Eq + Ord + Debug {
     /// at `DIMENSION`.
     ghost over: { Over F Self };
 
-    ghost coefficients: { Self → List F };
+    /// The coefficients of an element, lowest first, and the element of `F` that it is, where it is one.
+    ghost basis: { Basis F Self };
 
     ghost DIMENSION: { ℕ };
 
@@ -53,12 +54,12 @@ pub trait ExtensionField<F: Field>: Copy + Eq + Ord + Debug {
 
     /// The coefficients, lowest first.
     fn as_basis_coefficients_slice(&self) -> &[F]
-        ensures { result.now ≡ coefficients self.now };
+        ensures { result.now ≡ basis.coefficients self.now };
 
     /// The element with these coefficients, lowest first, which must be `DIMENSION`.
     fn from_basis_coefficients(c: &[F]) -> Self
         requires { length c.now ≡ DIMENSION }
-        ensures { coefficients result ≡ c.now };
+        ensures { basis.coefficients result ≡ c.now };
 
     /// Whether it is `from_base` of an element.
     fn is_in_basefield(&self) -> bool
@@ -78,7 +79,7 @@ pub trait ExtensionField<F: Field>: Copy + Eq + Ord + Debug {
         Ok(all)
     }
 
-    ghost laws: { ExtensionLaws F.ring over coefficients DIMENSION };
+    ghost laws: { ExtensionLaws F.ring over basis DIMENSION };
 
     ghost over_laws: { OverLaws F.ring over };
 

@@ -89,7 +89,8 @@ pub trait Algebra<F: Field> {
         requires { has self.old x }
         ensures extended { extends self.old self.new }
         ensures made { IfOk result (MadeOf has means (bool_check_term F.ONE) self.old self.new x) }
-        ensures refused { IfErr result (RefusedOf means refuses (bool_check_term F.ONE) self.old x) }
+        ensures refused { IfErr result (RefusedOf means refuses (bool_check_term F.ONE) self.old
+            x) }
     {
         let one = self.constant(F::ONE)?;
         let less = self.sub(x, one)?;
@@ -116,7 +117,8 @@ pub trait Algebra<F: Field> {
         requires y_in { has self.old y }
         ensures extended { extends self.old self.new }
         ensures made { IfOk result (MadeOfBoth has means (andn_term F.ONE) self.old self.new x y) }
-        ensures refused { IfErr result (RefusedOfBoth means refuses (andn_term F.ONE) self.old x y) }
+        ensures refused { IfErr result (RefusedOfBoth means refuses (andn_term F.ONE) self.old x
+            y) }
     {
         let one = self.constant(F::ONE)?;
         let rest = self.sub(one, x)?;
@@ -127,8 +129,10 @@ pub trait Algebra<F: Field> {
     fn mul_2exp_u64(&mut self, x: Self::Elem, k: u64) -> Result<Self::Elem, RingError>
         requires { has self.old x }
         ensures extended { extends self.old self.new }
-        ensures made { IfOk result (MadeOf has means (scaled_term (power F.ring F.TWO k)) self.old self.new x) }
-        ensures refused { IfErr result (RefusedOf means refuses (scaled_term (power F.ring F.TWO k)) self.old x) }
+        ensures made { IfOk result (MadeOf has means (scaled_term (power F.ring F.TWO k)) self.old
+            self.new x) }
+        ensures refused { IfErr result (RefusedOf means refuses
+            (scaled_term (power F.ring F.TWO k)) self.old x) }
     {
         let scale = self.constant(power_of(F::TWO, k))?;
         self.mul(x, scale)
@@ -140,7 +144,8 @@ pub trait Algebra<F: Field> {
         requires all_in { All (has self.old) xs.now }
         ensures extended { extends self.old self.new }
         ensures made { IfOk result (MadeOfAll has means add_term F.ZERO self.old self.new xs.now) }
-        ensures refused { IfErr result (RefusedOfAll means refuses add_term F.ZERO self.old xs.now) }
+        ensures refused { IfErr result (RefusedOfAll means refuses add_term F.ZERO self.old
+            xs.now) }
     {
         let [first, rest @ ..] = xs else {
             return self.constant(F::ZERO);
@@ -182,6 +187,7 @@ pub trait FromVar<F: Field, V>: Algebra<F> {
     fn from_var(&mut self, v: V) -> Result<Self::Elem, RingError>
         requires { Self.valid self.old }
         ensures extended { Self.extends self.old self.new }
-        ensures made { IfOk result (λ z. Self.has self.new z × ((t : Term F) → var_means v t → Self.means self.new z t)) }
+        ensures made { IfOk result (λ z. Self.has self.new z
+            × ((t : Term F) → var_means v t → Self.means self.new z t)) }
         ensures refused { IfErr result (λ e. (t : Term F) → var_means v t → Self.refuses e t) };
 }

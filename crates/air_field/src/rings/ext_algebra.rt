@@ -31,8 +31,10 @@ pub trait ExtAlgebra<F: Field, EF: ExtensionField<F>>: Algebra<F> {
     fn ext_constant(&mut self, c: EF) -> Result<Self::Elem, RingError>
         requires { Self.valid self.old }
         ensures extended { Self.extends self.old self.new }
-        ensures made { IfOk result (Made Self.has Self.means (ext_const_term (EF.coefficients c)) self.new) }
-        ensures refused { IfErr result (λ e. Self.refuses e (ext_const_term (EF.coefficients c))) };
+        ensures made { IfOk result (Made Self.has Self.means
+            (ext_const_term (EF.basis.coefficients c)) self.new) }
+        ensures refused { IfErr result (λ e. Self.refuses e
+            (ext_const_term (EF.basis.coefficients c))) };
 
     ghost base_laws: { ExtAlgebraLaws Self.valid base_has base_means Self.extends };
 }

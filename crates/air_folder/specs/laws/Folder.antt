@@ -3,6 +3,7 @@ use Rattle.std.specs.Prelude.{◌≡◌, List, [], ◌∷◌, ◌++◌, Ok, refl
 use Rattle.std.proofs.Common.{sym, ◌∙◌, ap, ap₂, subst}
 use Rattle.std.proofs.lemmas.List.{map-append}
 use Rattle.air_field.specs.Ring.{Over}
+use Rattle.air_field.specs.Extension.{Basis}
 use Rattle.air_field.specs.Term.{Leaf, Term, with_leaves}
 use Rattle.air_field.specs.Value.{value}
 use Rattle.air_field.specs.laws.Value.{value-leaves}
@@ -47,12 +48,12 @@ module _ {F E : Type 0} (a : Over F E) where
   }
 
   -- an expression that means a term is the term's value at the row
-  pub folder_value : (coefficients : E → List F) → ((x : E) → a.extend (coefficients x) ≡ x)
-      → (d : FolderRow E) (t : Term F) (v : E) → HasValue a v (with_leaves (folder_stands a coefficients d) t)
+  pub folder_value : (basis : Basis F E) → ((x : E) → a.extend (basis.coefficients x) ≡ x)
+      → (d : FolderRow E) (t : Term F) (v : E) → HasValue a v (with_leaves (folder_stands a basis d) t)
       → value a (folder_leaves a d) t ≡ v
-  folder_value coefficients named d t v means =
+  folder_value basis named d t v means =
       ap (λ s. value a s t) (λ i l. sym (named (folder_leaves a d l)) i)
-      ∙ (sym (value-leaves a (λ _. a.ring.nil) (folder_stands a coefficients d) t) ∙ means)
+      ∙ (sym (value-leaves a (λ _. a.ring.nil) (folder_stands a basis d) t) ∙ means)
 
   abbrev shape : FolderRow E → Shape
   shape d = one_row_shape d.values d.others
@@ -61,16 +62,16 @@ module _ {F E : Type 0} (a : Over F E) where
   refuses b e ts = FolderRefuses (folder_row b) e ts
 
   -- what was folded in is asserted, base terms and extension terms alike
-  pub folded_asserted : (coefficients : E → List F) → ((x : E) → a.extend (coefficients x) ≡ x)
+  pub folded_asserted : (basis : Basis F E) → ((x : E) → a.extend (basis.coefficients x) ≡ x)
       → {kind : Term F → Assertion F} (b c : ConstraintFolder F E) (x : E) → folder_row c ≡ folder_row b → StepsBy a x b c
       → ((s : Leaf → E) (t : Term F) → value_in a s (kind t) ≡ value a s t)
-      → AssertedEach (AssertsOf kind (λ d y t. HasValue a y (with_leaves (folder_stands a coefficients (folder_row d)) t)) (λ t. t))
+      → AssertedEach (AssertsOf kind (λ d y t. HasValue a y (with_leaves (folder_stands a basis (folder_row d)) t)) (λ t. t))
       (λ d e. folder_row e ≡ folder_row d) (FolderGrew a) refuses b c (x ∷ []) (Ok tt)
-  folded_asserted coefficients named b c x keeps folded is =
+  folded_asserted basis named b c x keeps folded is =
       let at = folder_leaves a (folder_row b) in
       asserted_one (Ok tt) keeps
       (λ s k. grew_one (folder_row b) (folder_row c) b.accumulator c.accumulator x s keeps folded
-      (ap (value_in a at) k.2 ∙ (is at k.0 ∙ folder_value coefficients named (folder_row b) k.0 x k.1)))
+      (ap (value_in a at) k.2 ∙ (is at k.0 ∙ folder_value basis named (folder_row b) k.0 x k.1)))
       tt tt
 
   grows : (stands : FolderRow E → Leaf → Term F) → GrowsAtRow folder_row shape stands (FolderGrew a) refuses
@@ -99,12 +100,12 @@ module _ {F E : Type 0} (a : Over F E) where
   lent : (b : ConstraintFolder F E) (q : FolderRing F E) → FolderGrew a b (with_ring b q) []
   lent b q = unchanged (folder_row b) (folder_row b) b.accumulator b.accumulator refl refl
 
-  module _ (coefficients : E → List F) where
+  module _ (basis : Basis F E) where
     -- a folder keeps them for its ring, where each element means a term
-    pub folder_laws : BuilderLaws (row_view folder_row shape (folder_stands a coefficients) (FolderGrew a) refuses (λ b. b.ring) with_ring (HasValue a))
-    folder_laws = row_laws folder_row shape (folder_stands a coefficients) (FolderGrew a) refuses (λ b. b.ring) with_ring lent (λ b q. refl) (grows (folder_stands a coefficients))
+    pub folder_laws : BuilderLaws (row_view folder_row shape (folder_stands a basis) (FolderGrew a) refuses (λ b. b.ring) with_ring (HasValue a))
+    folder_laws = row_laws folder_row shape (folder_stands a basis) (FolderGrew a) refuses (λ b. b.ring) with_ring lent (λ b q. refl) (grows (folder_stands a basis))
 
     -- and for its ring over the extension, which is the same
-    pub folder_extension_laws : ExtensionLaws (row_view folder_row shape (folder_stands a coefficients) (FolderGrew a) refuses (λ b. b.ring) with_ring (HasValue a))
-        (row_over folder_row shape (folder_stands a coefficients) (FolderGrew a) refuses (λ b. b.ring) with_ring (HasValue a) (HasValue a))
-    folder_extension_laws = row_extension_laws folder_row shape (folder_stands a coefficients) (FolderGrew a) refuses (λ b. b.ring) with_ring lent (λ b q. refl) (λ b. b.ring) (HasValue a)
+    pub folder_extension_laws : ExtensionLaws (row_view folder_row shape (folder_stands a basis) (FolderGrew a) refuses (λ b. b.ring) with_ring (HasValue a))
+        (row_over folder_row shape (folder_stands a basis) (FolderGrew a) refuses (λ b. b.ring) with_ring (HasValue a) (HasValue a))
+    folder_extension_laws = row_extension_laws folder_row shape (folder_stands a basis) (FolderGrew a) refuses (λ b. b.ring) with_ring lent (λ b q. refl) (λ b. b.ring) (HasValue a)

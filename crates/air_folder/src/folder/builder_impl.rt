@@ -29,7 +29,7 @@ impl<'a, F: Field, EF: ExtensionField<F>> AirBuilder for ConstraintFolder<'a, F,
 
     ghost with_ring = { λ b r. record b { ring = r } };
 
-    ghost stands = { λ b. folder_stands EF.over EF.coefficients (folder_row b) };
+    ghost stands = { λ b. folder_stands EF.over EF.basis (folder_row b) };
 
     ghost ready = { λ _. ⊤ };
 
@@ -41,7 +41,7 @@ impl<'a, F: Field, EF: ExtensionField<F>> AirBuilder for ConstraintFolder<'a, F,
 
     ghost refuses = { λ b e ts. FolderRefuses (folder_row b) e ts };
 
-    ghost laws = { folder_laws EF.over EF.coefficients };
+    ghost laws = { folder_laws EF.over EF.basis };
 
     fn ring(&mut self) -> &mut FolderRing<F, EF> {
         &mut self.ring

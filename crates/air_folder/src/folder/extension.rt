@@ -23,7 +23,7 @@ impl<'a, F: Field, EF: ExtensionField<F>> ExtensionBuilder for ConstraintFolder<
 
     ghost with_ext_ring = { λ b r. record b { ring = r } };
 
-    ghost ext_laws = { folder_extension_laws EF.over EF.coefficients };
+    ghost ext_laws = { folder_extension_laws EF.over EF.basis };
 
     fn ext_ring(&mut self) -> &mut FolderRing<F, EF> {
         &mut self.ring
@@ -45,9 +45,9 @@ impl<'a, F: Field, EF: ExtensionField<F>> PermutationAirBuilder for ConstraintFo
     /// The window of the permutation trace; a folder that was made without one, and it alone, refuses.
     fn permutation(&self) -> Result<RowWindow<'a, EF>, AirError>
         ensures current { IfOk result (λ w.
-            PermutationStands EF.over EF.coefficients (folder_row self.now) 0 w.current.now) }
+            PermutationStands EF.over EF.basis (folder_row self.now) 0 w.current.now) }
         ensures next { IfOk result (λ w.
-            PermutationStands EF.over EF.coefficients (folder_row self.now) 1 w.next.now) }
+            PermutationStands EF.over EF.basis (folder_row self.now) 1 w.next.now) }
         ensures current_ends { IfOk result (λ w.
             PermutationEnds (folder_row self.now) 0 w.current.now) }
         ensures next_ends { IfOk result (λ w. PermutationEnds (folder_row self.now) 1 w.next.now) }

@@ -16,7 +16,7 @@ impl<'a, F: Field, EF: ExtensionField<F>> PassthroughNamedAirBuilder
 impl<'a, F: Field, EF: ExtensionField<F>> NamedAirBuilder for ConstraintFolder<'a, F, EF> {
     ghost labelled = { discarding ⟦<ConstraintFolder<'a, F, EF> as AirBuilder>⟧.grew };
 
-    ghost named_laws = { discarding_laws (folder_laws EF.over EF.coefficients) };
+    ghost named_laws = { discarding_laws (folder_laws EF.over EF.basis) };
 
     fn assert_zero_named<N: Name>(&mut self, x: EF, name: N) -> Result<(), AirError> {
         self.assert_zero_unlabelled(x, name)

@@ -77,8 +77,8 @@ impl<F: Field, EF: ExtensionField<F>> Algebra<F> for FolderRing<F, EF> {
         Ok(x.mul(y))
     }
 
-    ghost laws = { value_in_laws EF.over EF.coefficients
-        (extend-coefficients F.ring EF.over EF.coefficients EF.DIMENSION EF.ExtensionField.laws) };
+    ghost laws = { value_in_laws EF.over EF.basis.coefficients
+        (extend-coefficients F.ring EF.over EF.basis EF.DIMENSION EF.ExtensionField.laws) };
 }
 
 impl<F: Field, EF: ExtensionField<F>> FromVar<F, EF> for FolderRing<F, EF> {

@@ -176,7 +176,8 @@ impl<F: Field> VirtualPairCol<F> {
 
     /// One preprocessed column less another.
     pub fn diff_preprocessed(alloc: Global, a_col: usize, b_col: usize) -> Result<Self, AllocError>
-        ensures { IfOk result (λ v. v ≡ difference_of F.ONE F.NEG_ONE F.ZERO (Preprocessed a_col) (Preprocessed b_col)) }
+        ensures { IfOk result (λ v. v ≡ difference_of F.ONE F.NEG_ONE F.ZERO (Preprocessed a_col)
+            (Preprocessed b_col)) }
     {
         Self::diff(
             alloc,
@@ -187,7 +188,8 @@ impl<F: Field> VirtualPairCol<F> {
 
     /// One main column less another.
     pub fn diff_main(alloc: Global, a_col: usize, b_col: usize) -> Result<Self, AllocError>
-        ensures { IfOk result (λ v. v ≡ difference_of F.ONE F.NEG_ONE F.ZERO (Main a_col) (Main b_col)) }
+        ensures { IfOk result (λ v. v ≡ difference_of F.ONE F.NEG_ONE F.ZERO (Main a_col)
+            (Main b_col)) }
     {
         Self::diff(alloc, PairCol::Main(a_col), PairCol::Main(b_col))
     }

@@ -51,7 +51,7 @@ impl ConstraintLayout {
         alpha: EF,
     ) -> Result<(Vec<Vec<F>>, Vec<EF>), AirError>
         ensures coordinates { IfOk result (λ r. map (λ v. v.items) r.0.items ≡ all_coordinates_of
-            F.ring EF.coefficients (weights_of EF.over.ring alpha (constraint_count self.now)
+            F.ring EF.basis (weights_of EF.over.ring alpha (constraint_count self.now)
             self.now.base_indices.items) EF.DIMENSION) }
         ensures powers { IfOk result (λ r. r.1.items ≡ weights_of EF.over.ring alpha
             (constraint_count self.now) self.now.ext_indices.items) }
@@ -100,7 +100,7 @@ fn coordinate<F: Field, EF: ExtensionField<F>>(
     d: usize,
 ) -> Result<Vec<F>, AllocError>
     requires { d < EF.DIMENSION }
-    ensures { IfOk result (λ v. v.items ≡ coordinates_of F.ring EF.coefficients elements.now d) }
+    ensures { IfOk result (λ v. v.items ≡ coordinates_of F.ring EF.basis elements.now d) }
 {
     let mut coefficients = Vec::new(alloc);
     for element in elements {
@@ -115,7 +115,7 @@ fn all_coordinates<F: Field, EF: ExtensionField<F>>(
     elements: &[EF],
 ) -> Result<Vec<Vec<F>>, AirError>
     ensures coordinates { IfOk result (λ v. map (λ w. w.items) v.items ≡ all_coordinates_of F.ring
-        EF.coefficients elements.now EF.DIMENSION) }
+        EF.basis elements.now EF.DIMENSION) }
     ensures refused { IfErr result (λ e. e ≡ AirError.Memory) }
 {
     let mut all = Vec::new(alloc);

@@ -43,16 +43,16 @@ impl<F: Field, EF: ExtensionField<F>> AirBuilder for SymbolicAirBuilder<F, EF> {
 
     ghost stands = { λ _ l. leaf_term l };
 
-    ghost ready = { λ b. IsReady (IsPool (ext_reads F.ring F.eq EF.coefficients) b.pool)
+    ghost ready = { λ b. IsReady (IsPool (ext_reads EF.basis) b.pool)
         (PoolMeans base_reads F.ring b.pool.0) (fixed_by b.selectors b.entries.base.layout) };
 
-    ghost kept = { λ a b. KeptRecording (Grown ext_grows (ext_reads F.ring F.eq EF.coefficients))
+    ghost kept = { λ a b. KeptRecording (Grown ext_grows (ext_reads EF.basis))
         a.pool b.pool (fixed_by a.selectors a.entries.base.layout)
         (fixed_by b.selectors b.entries.base.layout) };
 
     ghost grew = { λ a b ts. GrewRecording (λ p. PoolMeans base_reads F.ring p.0)
-        (PoolMeans (ext_reads F.ring F.eq EF.coefficients) F.ring)
-        (Grown ext_grows (ext_reads F.ring F.eq EF.coefficients)) a.pool b.pool
+        (PoolMeans (ext_reads EF.basis) F.ring)
+        (Grown ext_grows (ext_reads EF.basis)) a.pool b.pool
         (fixed_by a.selectors a.entries.base.layout) (fixed_by b.selectors b.entries.base.layout)
         (lists_of a.constraints) (lists_of b.constraints) ts };
 
@@ -62,10 +62,10 @@ impl<F: Field, EF: ExtensionField<F>> AirBuilder for SymbolicAirBuilder<F, EF> {
         (fixed_by b.selectors b.entries.base.layout).shape) (IsOver cached_weight) (λ _. ⊥) e ts };
 
     ghost laws = { recording_laws (base_pool_laws F.ring)
-        (ext_pool_laws F.ring F.eq EF.coefficients F.eq_is) (λ p. p.0)
-        (base_grown F.ring F.eq EF.coefficients) (λ b. b.pool)
+        (ext_pool_laws EF.ExtensionField.laws) (λ p. p.0)
+        (base_grown EF.basis) (λ b. b.pool)
         (λ b r. record b { pool = (r, b.pool.1) }) (λ b. fixed_by b.selectors b.entries.base.layout)
-        (λ b. lists_of b.constraints) (λ b r g. base_lent F.ring F.eq EF.coefficients F.eq_is b.pool
+        (λ b. lists_of b.constraints) (λ b r g. base_lent EF.ExtensionField.laws b.pool
         r g) (λ _ _. refl) (λ _ _. refl) (λ _ _. refl) };
 
     fn ring(&mut self) -> &mut ExprPool<BaseLeaf<F>> {

@@ -60,13 +60,13 @@ pub fn greatest_degree_of<F: Field, EF: ExtensionField<F>>(
     recorded: &Recorded<F, EF>,
     weight: LeafWeight<'_>,
 ) -> Result<usize, RingError>
-    requires pool { IsPool (ext_reads F.ring F.eq EF.coefficients) recorded.now.pool }
+    requires pool { IsPool (ext_reads EF.basis) recorded.now.pool }
     requires base_here { All (λ i. i < length recorded.now.pool.0.1) recorded.now.base.items }
     requires ext_here { All (λ i. i < length recorded.now.pool.1) recorded.now.ext.items }
     ensures answer { AnswersDegree (greatest_degree (leaf_weight weight.entry)
-        (recorded_terms F.ring F.eq EF.coefficients recorded.now)) result }
+        (recorded_terms EF.basis recorded.now)) result }
     ensures fits { OnOk result (greatest_degree (leaf_weight weight.entry)
-        (recorded_terms F.ring F.eq EF.coefficients recorded.now) < 2 ^ 64) }
+        (recorded_terms EF.basis recorded.now) < 2 ^ 64) }
 {
     let (base, ext) = recorded
         .pool
@@ -81,11 +81,11 @@ fn trace_degree_of<F: Field, EF: ExtensionField<F>>(
     trace_len: usize,
     periods: &[usize],
 ) -> Result<usize, RingError>
-    requires pool { IsPool (ext_reads F.ring F.eq EF.coefficients) recorded.now.pool }
+    requires pool { IsPool (ext_reads EF.basis) recorded.now.pool }
     requires base_here { All (λ i. i < length recorded.now.pool.0.1) recorded.now.base.items }
     requires ext_here { All (λ i. i < length recorded.now.pool.1) recorded.now.ext.items }
     ensures { AnswersInferred 0 trace_len periods.now
-        (recorded_terms F.ring F.eq EF.coefficients recorded.now) result }
+        (recorded_terms EF.basis recorded.now) result }
 {
     let weight = LeafWeight::Trace { trace_len, periods };
     let greatest = greatest_degree_of(recorded, weight)?;
@@ -111,11 +111,11 @@ pub fn degree_of<F: Field, EF: ExtensionField<F>>(
     periods: &[usize],
     transition_weight: usize,
 ) -> Result<usize, RingError>
-    requires pool { IsPool (ext_reads F.ring F.eq EF.coefficients) recorded.now.pool }
+    requires pool { IsPool (ext_reads EF.basis) recorded.now.pool }
     requires base_here { All (λ i. i < length recorded.now.pool.0.1) recorded.now.base.items }
     requires ext_here { All (λ i. i < length recorded.now.pool.1) recorded.now.ext.items }
     ensures { AnswersInferred transition_weight trace_len periods.now
-        (recorded_terms F.ring F.eq EF.coefficients recorded.now) result }
+        (recorded_terms EF.basis recorded.now) result }
 {
     if transition_weight == 0 {
         return trace_degree_of(recorded, trace_len, periods);

@@ -27,13 +27,13 @@ impl<F: Field, EF: ExtensionField<F>> ExtensionBuilder for SymbolicAirBuilder<F,
     ghost with_ext_ring = { λ b r. record b { pool = r } };
 
     ghost ext_laws = { recording_ext_laws (base_pool_laws F.ring)
-        (ext_pool_laws F.ring F.eq EF.coefficients F.eq_is) (λ p. p.0)
-        (base_grown F.ring F.eq EF.coefficients) (λ b. b.pool)
+        (ext_pool_laws EF.ExtensionField.laws) (λ p. p.0)
+        (base_grown EF.basis) (λ b. b.pool)
         (λ b r. record b { pool = (r, b.pool.1) }) (λ b. fixed_by b.selectors b.entries.base.layout)
-        (λ b. lists_of b.constraints) (λ b r g. base_lent F.ring F.eq EF.coefficients F.eq_is b.pool
+        (λ b. lists_of b.constraints) (λ b r g. base_lent EF.ExtensionField.laws b.pool
         r g) (λ _ _. refl) (λ _ _. refl) (λ _ _. refl) (λ b r. record b { pool = r }) (λ _ _. refl)
-        (λ _ _. refl) (λ _ _. refl) (base_has_it F.ring F.eq EF.coefficients)
-        (base_means_it F.ring F.eq EF.coefficients) };
+        (λ _ _. refl) (λ _ _. refl) (base_has_it EF.basis)
+        (base_means_it EF.basis F.ring) };
 
     fn ext_ring(&mut self) -> &mut ExprPool<ExtLeaf<F, EF>> {
         &mut self.pool

@@ -22,10 +22,10 @@ impl<F: Field, EF: ExtensionField<F>> NamedAirBuilder for SymbolicAirBuilder<F, 
     ghost labelled = { discarding ⟦<SymbolicAirBuilder<F, EF> as AirBuilder>⟧.grew };
 
     ghost named_laws = { discarding_laws (recording_laws (base_pool_laws F.ring)
-        (ext_pool_laws F.ring F.eq EF.coefficients F.eq_is) (λ p. p.0)
-        (base_grown F.ring F.eq EF.coefficients) (λ b. b.pool)
+        (ext_pool_laws EF.ExtensionField.laws) (λ p. p.0)
+        (base_grown EF.basis) (λ b. b.pool)
         (λ b r. record b { pool = (r, b.pool.1) }) (λ b. fixed_by b.selectors b.entries.base.layout)
-        (λ b. lists_of b.constraints) (λ b r g. base_lent F.ring F.eq EF.coefficients F.eq_is b.pool
+        (λ b. lists_of b.constraints) (λ b r g. base_lent EF.ExtensionField.laws b.pool
         r g) (λ _ _. refl) (λ _ _. refl) (λ _ _. refl)) };
 
     fn assert_zero_named<N: Name>(

@@ -52,7 +52,7 @@ pub fn record<F: Field, EF: ExtensionField<F>, A: Air<SymbolicAirBuilder<F, EF>>
     ensures base { IfOk result (λ b. RecordsBase F.ring EF.over base_reads b.pool.0
         b.constraints.base.items (A.declaration air.now).declared) }
     ensures ext { IfOk result (λ b. RecordsExt F.ring EF.over
-        (ext_reads F.ring F.eq EF.coefficients) b.pool b.constraints.ext.items
+        (ext_reads EF.basis) b.pool b.constraints.ext.items
         (A.declaration air.now).declared) }
     ensures base_here { IfOk result (λ b. All (λ i. i < length b.pool.0.1)
         b.constraints.base.items) }
@@ -81,7 +81,7 @@ pub fn get_all_symbolic_constraints<
     ensures base { IfOk result (λ r. RecordsBase F.ring EF.over base_reads r.pool.0 r.base.items
         (A.declaration air.now).declared) }
     ensures ext { IfOk result (λ r. RecordsExt F.ring EF.over
-        (ext_reads F.ring F.eq EF.coefficients) r.pool r.ext.items
+        (ext_reads EF.basis) r.pool r.ext.items
         (A.declaration air.now).declared) }
     ensures layout { OnOk result (LayoutSuits layout (A.declaration air.now)) }
     ensures refused { IfErr result (RecordRefuses layout (A.declaration air.now)) }
@@ -115,7 +115,7 @@ pub fn get_symbolic_constraints_extension<
 >(alloc: Global, air: &A, layout: AirLayout) -> Result<Recorded<F, EF>, AirError>
     ensures base { IfOk result (λ r. r.base.items ≡ []) }
     ensures ext { IfOk result (λ r. RecordsExt F.ring EF.over
-        (ext_reads F.ring F.eq EF.coefficients) r.pool r.ext.items
+        (ext_reads EF.basis) r.pool r.ext.items
         (A.declaration air.now).declared) }
     ensures layout { OnOk result (LayoutSuits layout (A.declaration air.now)) }
     ensures refused { IfErr result (RecordRefuses layout (A.declaration air.now)) }

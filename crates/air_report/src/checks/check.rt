@@ -80,20 +80,31 @@ pub(crate) struct RowOutcome {
     pub(crate) constraints: usize,
 }
 
-/// Evaluates an AIR on one row, and adds what is not zero to the failures.
+/// What the rows gave that a builder has been at.
+fn outcome_of<F: SelfExtension>(builder: DebugConstraintBuilder<'_, F, F>) -> RowOutcome
+    ensures failures { result.failures ≡ builder.entry.failures }
+    ensures constraints { result.constraints ≡ builder.entry.constraint_index }
+{
+    RowOutcome {
+        constraints: builder.constraint_index,
+        failures: builder.into_failures(),
+    }
+}
+
+/// Moves the builder to a row and evaluates an AIR there: what is not zero comes to its failures.
 pub(crate) fn check_row<'a, F: SelfExtension + 'static, A: Air<DebugConstraintBuilder<'a, F, F>>>(
     alloc: Global,
     air: &'a A,
     main: &'a RowMajorMatrix<F>,
     public_values: &'a [F],
     row: usize,
-    failures: Vec<ConstraintFailure>,
-) -> Result<RowOutcome, AirError>
+    builder: &mut DebugConstraintBuilder<'a, F, F>,
+) -> Result<(), AirError>
     requires within { row < length main.now.rows }
     requires fits { Fits (given (A.declaration air.now) main.now public_values.now) }
-    ensures checked { IfOk result (λ c. CheckedRow F.ring F.eq
-        (given (A.declaration air.now) main.now public_values.now)
-        row failures.items c.failures.items c.constraints) }
+    ensures checked { OnOk result (CheckedRow F.ring F.eq
+        (given (A.declaration air.now) main.now public_values.now) row
+        builder.old.failures.items builder.new.failures.items builder.new.constraint_index) }
     ensures there { OnOk result (HasEntries
         (given (A.declaration air.now) main.now public_values.now)) }
     ensures refused { IfErr result (RowRefuses
@@ -101,7 +112,7 @@ pub(crate) fn check_row<'a, F: SelfExtension + 'static, A: Air<DebugConstraintBu
 {
     let height = main.height();
     let periodic_row = air.periodic_values(alloc, row)?;
-    let mut builder = DebugConstraintBuilder::at_row(
+    builder.move_to(
         row,
         row_pair(main, row),
         table_pair(air.preprocessed_trace(), row),
@@ -110,14 +121,8 @@ pub(crate) fn check_row<'a, F: SelfExtension + 'static, A: Air<DebugConstraintBu
         selector(row + 1 == height),
         selector(row + 1 != height),
         periodic_row,
-        failures,
     );
-    air.eval(&mut builder)?;
-    let constraints = builder.constraint_index;
-    Ok(RowOutcome {
-        failures: builder.into_failures(),
-        constraints,
-    })
+    air.eval(builder)
 }
 
 /// Whether so many failures reach the cap.
@@ -131,7 +136,8 @@ pub(crate) fn is_reached(cap: Option<usize>, failures: usize) -> bool
     }
 }
 
-/// Evaluates an AIR on the rows of a trace while the failures so far are fewer than the cap.
+/// Evaluates an AIR on the rows of a trace while the failures so far are fewer than the cap: one builder goes from row
+/// to row, and keeps them.
 fn check_rows<'a, F: SelfExtension + 'static, A: Air<DebugConstraintBuilder<'a, F, F>>>(
     alloc: Global,
     air: &'a A,
@@ -146,23 +152,14 @@ fn check_rows<'a, F: SelfExtension + 'static, A: Air<DebugConstraintBuilder<'a, 
     ensures refused { IfErr result (RowsRefuse max_failures
         (given (A.declaration air.now) main.now public_values.now)) }
 {
-    let mut failures = Vec::new(alloc);
-    let mut total_constraints_per_row = 0;
+    let mut builder = DebugConstraintBuilder::at_no_row(alloc);
     'rows: for row in 0..main.height() {
-        if is_reached(max_failures, failures.len()) {
-            return Ok(RowOutcome {
-                failures,
-                constraints: total_constraints_per_row,
-            });
+        if is_reached(max_failures, builder.failures.len()) {
+            return Ok(outcome_of(builder));
         }
-        let outcome = check_row(alloc, air, main, public_values, row, failures)?;
-        failures = outcome.failures;
-        total_constraints_per_row = outcome.constraints;
+        check_row(alloc, air, main, public_values, row, &mut builder)?;
     }
-    Ok(RowOutcome {
-        failures,
-        constraints: total_constraints_per_row,
-    })
+    Ok(outcome_of(builder))
 }
 
 /// Checks the shapes of the preprocessed table and of the periodic columns; evaluates an AIR on the rows of a trace,

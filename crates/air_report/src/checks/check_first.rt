@@ -77,12 +77,13 @@ pub fn check_constraints<'a, F: SelfExtension + 'static, A: Air<DebugConstraintB
             index,
         });
     }
+    let mut builder = DebugConstraintBuilder::at_no_row(alloc);
     'rows: for row in 0..height {
-        let outcome = check_row(alloc, air, main, public_values, row, Vec::new(alloc))?;
-        if !outcome.failures.is_empty() {
+        check_row(alloc, air, main, public_values, row, &mut builder)?;
+        if builder.has_failures() {
             return Err(CheckError::RowFailed {
                 row,
-                failures: outcome.failures,
+                failures: builder.into_failures(),
             });
         }
     }

@@ -5,7 +5,7 @@ ghost use Rattle.air_report.specs.FailureTexts.{failures_text};
 
 use crate::debug::failure::{ConstraintFailure, failures_text};
 use air_builder::{AirError, RowWindow};
-use air_field::{ExtFieldRing, ExtensionField, Field, FieldRing, ViewPair};
+use air_field::{ExtFieldRing, ExtensionField, Field, FieldRing, RowMajorMatrixView, ViewPair};
 use std::alloc::Global;
 
 /// Evaluates constraints on one row: base constraints in `F`, the others in its extension `EF`. It borrows the rows and
@@ -47,6 +47,7 @@ impl<'a, F: Field + ExtensionField<F>> DebugConstraintBuilder<'a, F, F> {
             is_last_row is_transition periodic_row None [] [] [] result }
     {
         Self::at_row(
+            alloc,
             row_index,
             main,
             preprocessed,
@@ -55,16 +56,41 @@ impl<'a, F: Field + ExtensionField<F>> DebugConstraintBuilder<'a, F, F> {
             is_last_row,
             is_transition,
             periodic_row,
-            Vec::new(alloc),
         )
     }
 }
 
 impl<'a, F: Field, EF: ExtensionField<F>> DebugConstraintBuilder<'a, F, EF> {
-    /// A builder at the row of this index, without permutation data, that has counted nothing and goes on with these
-    /// failures.
+    /// A builder that stands at no row yet: it has no columns and no failures. It takes no memory.
     #[inline(always)]
-    pub(crate) fn at_row(
+    pub(crate) fn at_no_row(alloc: Global) -> Self
+        ensures counter { result.constraint_index ≡ 0 }
+        ensures failures { result.failures.items ≡ [] }
+    {
+        let none = RowMajorMatrixView::new_row(&[]);
+        DebugConstraintBuilder {
+            row_index: 0,
+            main: ViewPair::new(none, none),
+            preprocessed: RowWindow::from_two_rows(&[], &[]),
+            public_values: &[],
+            is_first_row: F::ZERO,
+            is_last_row: F::ZERO,
+            is_transition: F::ZERO,
+            periodic_row: Vec::new(alloc),
+            permutation: None,
+            permutation_challenges: &[],
+            permutation_values: &[],
+            ring: FieldRing::new(),
+            ext_ring: ExtFieldRing::new(),
+            constraint_index: 0,
+            failures: Vec::new(alloc),
+        }
+    }
+
+    /// Moves to the row of this index, where it has no permutation data and has counted nothing. The failures stay.
+    #[inline(always)]
+    pub(crate) fn move_to(
+        &mut self,
         row_index: usize,
         main: ViewPair<'a, F>,
         preprocessed: ViewPair<'a, F>,
@@ -73,31 +99,54 @@ impl<'a, F: Field, EF: ExtensionField<F>> DebugConstraintBuilder<'a, F, EF> {
         is_last_row: F,
         is_transition: F,
         periodic_row: Vec<F>,
-        failures: Vec<ConstraintFailure>,
+    )
+        ensures { IsAtRow row_index main.entry preprocessed.entry public_values.now is_first_row
+            is_last_row is_transition periodic_row None [] [] self.old.failures.items self.new }
+    {
+        self.row_index = row_index;
+        self.main = main;
+        self.preprocessed = RowWindow::from_two_rows(
+            preprocessed.top.values,
+            preprocessed.bottom.values,
+        );
+        self.public_values = public_values;
+        self.is_first_row = is_first_row;
+        self.is_last_row = is_last_row;
+        self.is_transition = is_transition;
+        self.periodic_row = periodic_row;
+        self.permutation = None;
+        self.permutation_challenges = &[];
+        self.permutation_values = &[];
+        self.constraint_index = 0;
+    }
+
+    /// A builder at the row of this index, without permutation data, and without failures.
+    fn at_row(
+        alloc: Global,
+        row_index: usize,
+        main: ViewPair<'a, F>,
+        preprocessed: ViewPair<'a, F>,
+        public_values: &'a [F],
+        is_first_row: F,
+        is_last_row: F,
+        is_transition: F,
+        periodic_row: Vec<F>,
     ) -> Self
         ensures { IsAtRow row_index main.entry preprocessed.entry public_values.now is_first_row
-            is_last_row is_transition periodic_row None [] [] failures.items result }
+            is_last_row is_transition periodic_row None [] [] [] result }
     {
-        DebugConstraintBuilder {
+        let mut builder = Self::at_no_row(alloc);
+        builder.move_to(
             row_index,
             main,
-            preprocessed: RowWindow::from_two_rows(
-                preprocessed.top.values,
-                preprocessed.bottom.values,
-            ),
+            preprocessed,
             public_values,
             is_first_row,
             is_last_row,
             is_transition,
             periodic_row,
-            permutation: None,
-            permutation_challenges: &[],
-            permutation_values: &[],
-            ring: FieldRing::new(),
-            ext_ring: ExtFieldRing::new(),
-            constraint_index: 0,
-            failures,
-        }
+        );
+        builder
     }
 
     /// A builder at the row of this index, with the two rows of the permutation trace, the challenges, and the values
@@ -125,6 +174,7 @@ impl<'a, F: Field, EF: ExtensionField<F>> DebugConstraintBuilder<'a, F, EF> {
             permutation_challenges,
             permutation_values,
             ..Self::at_row(
+                alloc,
                 row_index,
                 main,
                 preprocessed,
@@ -133,7 +183,6 @@ impl<'a, F: Field, EF: ExtensionField<F>> DebugConstraintBuilder<'a, F, EF> {
                 is_last_row,
                 is_transition,
                 periodic_row,
-                Vec::new(alloc),
             )
         }
     }

@@ -31,7 +31,7 @@ impl<'a, F: Field, EF: ExtensionField<F> + 'static> AirBuilder
 
     ghost with_ring = { λ b r. record b { ring = r } };
 
-    ghost stands = { λ b. row_stands F.ring EF.over EF.coefficients (debug_row b) };
+    ghost stands = { λ b. row_stands F.ring EF.over EF.basis (debug_row b) };
 
     ghost ready = { λ _. ⊤ };
 
@@ -47,7 +47,7 @@ impl<'a, F: Field, EF: ExtensionField<F> + 'static> AirBuilder
 
     ghost laws = { debug_laws (is_zero_at F.ring EF.over F.eq EF.eq) debug_row
         (λ b. b.constraint_index) (λ b. b.failures.items)
-        (row_stands F.ring EF.over EF.coefficients) (λ b. b.ring) (λ b r. record b { ring = r })
+        (row_stands F.ring EF.over EF.basis) (λ b. b.ring) (λ b r. record b { ring = r })
         (λ _ _. refl) (λ _ _. refl) (λ _ _. refl) (λ _ _. refl) };
 
     #[inline(always)]

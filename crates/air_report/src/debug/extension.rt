@@ -33,7 +33,7 @@ impl<'a, F: Field, EF: ExtensionField<F> + 'static> ExtensionBuilder
 
     ghost ext_laws = { debug_extension_laws (is_zero_at F.ring EF.over F.eq EF.eq) debug_row
         (λ b. b.constraint_index) (λ b. b.failures.items)
-        (row_stands F.ring EF.over EF.coefficients) (λ b. b.ext_ring)
+        (row_stands F.ring EF.over EF.basis) (λ b. b.ext_ring)
         (λ b r. record b { ext_ring = r }) (λ _ _. refl) (λ _ _. refl) (λ _ _. refl) (λ _ _. refl)
         (λ b. b.ring) (λ x t. IsBase t × (closed_value F.ring t ≡ x)) };
 
@@ -68,10 +68,10 @@ impl<'a, F: Field, EF: ExtensionField<F> + 'static> PermutationAirBuilder
     #[inline(always)]
     fn permutation(&self) -> Result<RowWindow<'a, EF>, AirError>
         ensures current { IfOk result (λ w. RowStands (λ v t. closed_value_in EF.over t ≡ v)
-            (λ i. row_stands F.ring EF.over EF.coefficients (debug_row self.now) (permutation 0 i))
+            (λ i. row_stands F.ring EF.over EF.basis (debug_row self.now) (permutation 0 i))
             w.current.now) }
         ensures next { IfOk result (λ w. RowStands (λ v t. closed_value_in EF.over t ≡ v)
-            (λ i. row_stands F.ring EF.over EF.coefficients (debug_row self.now) (permutation 1 i))
+            (λ i. row_stands F.ring EF.over EF.basis (debug_row self.now) (permutation 1 i))
             w.next.now) }
         ensures current_ends { IfOk result (λ w. RowEnds (RowMissing (debug_row self.now))
             (λ i. permutation 0 i) w.current.now) }

@@ -1,10 +1,11 @@
 -- What leaves over an extension keep as the base pool grows.
-use Rattle.std.specs.Prelude.{◌≡◌, Bool, List, Some, refl}
-use Rattle.std.proofs.Common.{Decides, ap}
-use Rattle.air_field.specs.Ring.{CommRing}
-use Rattle.air_field.specs.Term.{const_term}
-use Rattle.air_field.specs.Same.{Same}
-use Rattle.air_symbolic.specs.laws.BaseParts.{base_part-is}
+use Rattle.std.specs.Prelude.{◌≡◌, ℕ, ◌-◌, Some, refl}
+use Rattle.std.proofs.Common.{◌∙◌, sym, subst, ap}
+use Rattle.air_field.specs.Ring.{CommRing, Over}
+use Rattle.air_field.specs.Extension.{Basis, ExtensionLaws}
+use Rattle.air_field.specs.laws.Extension.{AllZero-replicate}
+use Rattle.air_field.specs.Term.{const_term, ext_const_term}
+use Rattle.air_field.specs.Same.{Same, ext_base}
 use Rattle.air_symbolic.specs.Leaves.{LeafLaws}
 use Rattle.air_symbolic.specs.Trees.{Tree, nothing, leaf_tree, add_tree, sub_tree, neg_tree, mul_tree, term_of, tree_constant}
 use Rattle.air_symbolic.specs.Pools.{tree_at}
@@ -16,7 +17,7 @@ use Rattle.air_symbolic.specs.declared.leaves.ext_leaf.ExtLeaf.{ExtLeaf}
 use Rattle.air_symbolic.specs.declared.leaves.ext_leaf.ExtLeaf.TheVariants.{Base, ExtVariable, ExtConstant}
 use Rattle.air_symbolic.specs.ExtLeaves.{BaseNodes, no_base_nodes, ext_grows, ext_valid, ext_term, ext_constant, ext_reads}
 
-module _ {F EF : Type 0} (r : CommRing F) (eq : F → F → Bool) (coefficients : EF → List F) where
+module _ {F EF : Type 0} {r : CommRing F} {over : Over F EF} {basis : Basis F EF} {n : ℕ} (laws : ExtensionLaws r over basis n) where
   -- a base tree that is a constant
   base_tree-constant : (t : Tree (BaseLeaf F)) (c : F) → tree_constant base_constant t ≡ Some c → Same r (const_term c) (term_of base_term t)
   base_tree-constant nothing c e = cc
@@ -26,30 +27,35 @@ module _ {F EF : Type 0} (r : CommRing F) (eq : F → F → Bool) (coefficients 
   base_tree-constant (neg_tree t) c e = cc
   base_tree-constant (mul_tree t u) c e = cc
 
-  ext_constant-is : ((x y : F) → Decides (eq x y) (x ≡ y)) → (u : BaseNodes F) (a : ExtLeaf F EF) (c : F)
-      → ext_constant r eq coefficients u a ≡ Some c → Same r (const_term c) (ext_term coefficients u a)
-  ext_constant-is decides u (Base i) c e = base_tree-constant (tree_at u i) c e
-  ext_constant-is decides u (ExtVariable v) c e = cc
-  ext_constant-is decides u (ExtConstant d) c e = base_part-is r eq decides (coefficients d) c e
+  -- an element of the base field is that element as an extension constant too
+  part-same : (x : EF) (c : F) → basis.base_part x ≡ Some c → Same r (const_term c) (ext_const_term (basis.coefficients x))
+  part-same x c e =
+      subst (λ xs. Same r (const_term c) (ext_const_term xs)) (sym (ap basis.coefficients (laws.part_is x c e) ∙ laws.embed_is c))
+      (ext_base (AllZero-replicate r (n - 1)))
+
+  ext_constant-is : (u : BaseNodes F) (a : ExtLeaf F EF) (c : F) → ext_constant basis u a ≡ Some c → Same r (const_term c) (ext_term basis u a)
+  ext_constant-is u (Base i) c e = base_tree-constant (tree_at u i) c e
+  ext_constant-is u (ExtVariable v) c e = cc
+  ext_constant-is u (ExtConstant d) c e = part-same d c e
 
   ext_valid-kept : (u v : BaseNodes F) → ext_grows u v → (a : ExtLeaf F EF) → ext_valid u a → ext_valid v a
   ext_valid-kept u v g (Base i) h = has-kept r base_reads base_grows tt (base_leaf_laws r) u v i g h
   ext_valid-kept u v g (ExtVariable x) h = tt
   ext_valid-kept u v g (ExtConstant c) h = tt
 
-  ext_term-kept : (u v : BaseNodes F) → ext_grows u v → (a : ExtLeaf F EF) → ext_valid u a → ext_term coefficients v a ≡ ext_term coefficients u a
+  ext_term-kept : (u v : BaseNodes F) → ext_grows u v → (a : ExtLeaf F EF) → ext_valid u a → ext_term basis v a ≡ ext_term basis u a
   ext_term-kept u v g (Base i) h = term-kept r base_reads base_grows tt (base_leaf_laws r) u v i g h
   ext_term-kept u v g (ExtVariable x) h = refl
   ext_term-kept u v g (ExtConstant c) h = refl
 
-  ext_constant-kept : (u v : BaseNodes F) → ext_grows u v → (a : ExtLeaf F EF) → ext_valid u a → ext_constant r eq coefficients v a ≡ ext_constant r eq coefficients u a
+  ext_constant-kept : (u v : BaseNodes F) → ext_grows u v → (a : ExtLeaf F EF) → ext_valid u a → ext_constant basis v a ≡ ext_constant basis u a
   ext_constant-kept u v g (Base i) h = ap (tree_constant base_constant) (tree-kept r base_reads base_grows tt (base_leaf_laws r) u v i g h.here)
   ext_constant-kept u v g (ExtVariable x) h = refl
   ext_constant-kept u v g (ExtConstant c) h = refl
 
-  pub ext_leaf_laws : ((x y : F) → Decides (eq x y) (x ≡ y)) → LeafLaws r (ext_reads r eq coefficients) ext_grows no_base_nodes
-  ext_leaf_laws decides = record {
-    constant_is = λ u a c _ e. ext_constant-is decides u a c e;
+  pub ext_leaf_laws : LeafLaws r (ext_reads basis) ext_grows no_base_nodes
+  ext_leaf_laws = record {
+    constant_is = λ u a c _ e. ext_constant-is u a c e;
     empty_sound = record { under = tt; nodes = tt };
     same = λ u. Grown-refl r base_reads base_grows tt (base_leaf_laws r) u;
     joined = λ u v w g h. Grown-trans r base_reads base_grows tt (base_leaf_laws r) u v w g h;

@@ -1,7 +1,8 @@
 -- What a pool over an extension keeps, as itself and of the base pool that it owns.
-use Rattle.std.specs.Prelude.{◌≡◌, Bool, List}
-use Rattle.std.proofs.Common.{Decides, subst}
-use Rattle.air_field.specs.Ring.{CommRing}
+use Rattle.std.specs.Prelude.{◌≡◌, ℕ}
+use Rattle.std.proofs.Common.{subst}
+use Rattle.air_field.specs.Ring.{CommRing, Over}
+use Rattle.air_field.specs.Extension.{Basis, ExtensionLaws}
 use Rattle.air_field.specs.Algebra.{AlgebraLaws}
 use Rattle.air_field.specs.ExtAlgebra.{ExtAlgebraLaws}
 use Rattle.air_symbolic.specs.Pools.{IsPool, PoolHas, PoolMeans, Grown}
@@ -13,28 +14,28 @@ use Rattle.air_symbolic.specs.PoolRefusals.{PoolRefuses}
 use Rattle.air_symbolic.specs.laws.Pools.{pool_laws, Grown-under, has-kept, means-kept}
 use Rattle.air_symbolic.specs.ExtPool.{ExtNodes, BaseHas, BaseMeans}
 
-module _ {F EF : Type 0} (r : CommRing F) (eq : F → F → Bool) (coefficients : EF → List F) where
-  module _ (decides : (x y : F) → Decides (eq x y) (x ≡ y)) where
-    -- what an extension pool keeps as a ring of expressions
-    pub ext_pool_laws : AlgebraLaws (IsPool (ext_reads r eq coefficients)) (PoolHas (ext_reads r eq coefficients))
-        (PoolMeans (ext_reads r eq coefficients) r) (Grown ext_grows (ext_reads r eq coefficients)) PoolRefuses
-    ext_pool_laws = pool_laws r (ext_reads r eq coefficients) ext_grows no_base_nodes (ext_leaf_laws r eq coefficients decides)
+module _ {F EF : Type 0} {r : CommRing F} {over : Over F EF} {basis : Basis F EF} {n : ℕ} (laws : ExtensionLaws r over basis n) where
+  -- what an extension pool keeps as a ring of expressions
+  pub ext_pool_laws : AlgebraLaws (IsPool (ext_reads basis)) (PoolHas (ext_reads basis))
+      (PoolMeans (ext_reads basis) r) (Grown ext_grows (ext_reads basis)) PoolRefuses
+  ext_pool_laws = pool_laws r (ext_reads basis) ext_grows no_base_nodes (ext_leaf_laws laws)
 
-    -- where the base pool was lent and has grown, the extension pool has grown
-    pub base_lent : (p : ExtNodes F EF) (u : BaseNodes F) → ext_grows p.0 u → Grown ext_grows (ext_reads r eq coefficients) p (u, p.1)
-    base_lent p u g = Grown-under r (ext_reads r eq coefficients) ext_grows no_base_nodes (ext_leaf_laws r eq coefficients decides) p.0 u p.1 g
+  -- where the base pool was lent and has grown, the extension pool has grown
+  pub base_lent : (p : ExtNodes F EF) (u : BaseNodes F) → ext_grows p.0 u → Grown ext_grows (ext_reads basis) p (u, p.1)
+  base_lent p u g = Grown-under r (ext_reads basis) ext_grows no_base_nodes (ext_leaf_laws laws) p.0 u p.1 g
 
-    -- the same of what was lent, which is the base pool
-    pub base_lent_from : (p : ExtNodes F EF) (lent u : BaseNodes F) → lent ≡ p.0 → ext_grows lent u → Grown ext_grows (ext_reads r eq coefficients) p (u, p.1)
-    base_lent_from p lent u e g = base_lent p u (subst (λ (l : BaseNodes F). ext_grows l u) e g)
+  -- the same of what was lent, which is the base pool
+  pub base_lent_from : (p : ExtNodes F EF) (lent u : BaseNodes F) → lent ≡ p.0 → ext_grows lent u → Grown ext_grows (ext_reads basis) p (u, p.1)
+  base_lent_from p lent u e g = base_lent p u (subst (λ (l : BaseNodes F). ext_grows l u) e g)
 
-  -- where the extension pool has grown, its base pool has
-  pub base_grown : (p q : ExtNodes F EF) → Grown ext_grows (ext_reads r eq coefficients) p q → Grown base_grows base_reads p.0 q.0
-  base_grown p q g = g.under
+-- where the extension pool has grown, its base pool has
+pub base_grown : {F EF : Type 0} (basis : Basis F EF) (p q : ExtNodes F EF) → Grown ext_grows (ext_reads basis) p q → Grown base_grows base_reads p.0 q.0
+base_grown basis p q g = g.under
 
+module _ {F EF : Type 0} (r : CommRing F) (basis : Basis F EF) where
   -- what was of the base pool still is, and means what it meant
-  pub ext_keeps_base : ExtAlgebraLaws (IsPool (ext_reads r eq coefficients)) (BaseHas r eq coefficients) (BaseMeans r eq coefficients)
-      (Grown ext_grows (ext_reads r eq coefficients))
+  pub ext_keeps_base : ExtAlgebraLaws (IsPool (ext_reads basis)) (BaseHas basis) (BaseMeans r basis)
+      (Grown ext_grows (ext_reads basis))
   ext_keeps_base = record {
     base_has_stays = λ p q x g h. record { pool = g.pool h.pool; base = has-kept r base_reads base_grows tt (base_leaf_laws r) p.0 q.0 x g.under h.base };
     base_means_stays = λ p q x t g h. record { pool = g.pool h.pool; base = means-kept r base_reads base_grows tt (base_leaf_laws r) p.0 q.0 x t g.under h.base };

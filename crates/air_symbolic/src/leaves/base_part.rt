@@ -1,12 +1,11 @@
 //! The elements of an extension that are in the base field.
 ghost use Rattle.std.specs.Prelude.{◌≡◌};
-ghost use Rattle.air_symbolic.specs.BaseParts.{base_part};
 
 use air_field::{ExtensionField, Field};
 
 /// The element of the base field that `c` is, if it is one: its first coefficient, where all others are zero.
 pub fn base_part<F: Field, EF: ExtensionField<F>>(c: &EF) -> Option<F>
-    ensures { result ≡ base_part F.ring F.eq (EF.coefficients c.now) }
+    ensures { result ≡ EF.basis.base_part c.now }
 {
     if !c.is_in_basefield() {
         return None;

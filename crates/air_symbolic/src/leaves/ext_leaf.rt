@@ -35,7 +35,7 @@ impl<F: Field, EF: ExtensionField<F>> SymLeaf for ExtLeaf<F, EF> {
     ghost use Rattle.air_symbolic.specs.ExtLeaves.{no_base_nodes, ext_reads, ext_grows};
     ghost use Rattle.air_symbolic.specs.laws.ExtLeaves.{ext_leaf_laws};
 
-    ghost reads = { λ u. ext_reads F.ring F.eq EF.coefficients u };
+    ghost reads = { λ u. ext_reads EF.basis u };
 
     ghost grows = { λ u v. ext_grows u v };
 
@@ -122,5 +122,5 @@ impl<F: Field, EF: ExtensionField<F>> SymLeaf for ExtLeaf<F, EF> {
 
     ghost eq_is = { λ x y. Prim.grind (arith, EF.eq_is) };
 
-    ghost leaf_laws = { ext_leaf_laws F.ring F.eq EF.coefficients F.eq_is };
+    ghost leaf_laws = { ext_leaf_laws EF.ExtensionField.laws };
 }

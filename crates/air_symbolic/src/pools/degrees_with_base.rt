@@ -23,7 +23,7 @@ impl<F: Field, EF: ExtensionField<F>> ExprPool<ExtLeaf<F, EF>> {
         roots: &[ExprId<ExtLeaf<F, EF>>],
         weight: LeafWeight<'_>,
     ) -> Result<(Degrees, Degrees), RingError>
-        requires pool { IsPool (ext_reads F.ring F.eq EF.coefficients) self.now }
+        requires pool { IsPool (ext_reads EF.basis) self.now }
         requires base_in { All (λ x. x < length self.now.0.1) base_roots.now }
         requires all_in { All (λ x. x < length self.now.1) roots.now }
         ensures base { IfOk result (λ d. d.0.values.items ≡ map
@@ -31,7 +31,7 @@ impl<F: Field, EF: ExtensionField<F>> ExprPool<ExtLeaf<F, EF>> {
             base_roots.now) }
         ensures values { IfOk result (λ d. d.1.values.items ≡ map
             (λ x. degree_by (leaf_weight weight.entry)
-            (term_at (ext_reads F.ring F.eq EF.coefficients) self.now x))
+            (term_at (ext_reads EF.basis) self.now x))
             roots.now) }
         ensures turns { IfOk result (λ d.
             d.0.turns + d.1.turns ≤ length self.now.0.1 + length self.now.1) }
@@ -41,7 +41,7 @@ impl<F: Field, EF: ExtensionField<F>> ExprPool<ExtLeaf<F, EF>> {
             base_roots.now)
             ⊎ SomeOverflows (map
             (λ x. degree_by (leaf_weight weight.entry)
-            (term_at (ext_reads F.ring F.eq EF.coefficients) self.now x))
+            (term_at (ext_reads EF.basis) self.now x))
             roots.now)) }
     {
         let base_table = self.base().degree_table(self.base().len(), weight)?;

@@ -22,11 +22,11 @@ impl<F: Field, EF: ExtensionField<F>> ExprPool<ExtLeaf<F, EF>> {
         &mut self,
         v: SymbolicVariableExt<F, EF>,
     ) -> Result<ExprId<ExtLeaf<F, EF>>, RingError>
-        requires { IsPool (ext_reads F.ring F.eq EF.coefficients) self.old }
+        requires { IsPool (ext_reads EF.basis) self.old }
         ensures same_base { self.new.0 ≡ self.old.0 }
-        ensures grown { Grown ext_grows (ext_reads F.ring F.eq EF.coefficients) self.old self.new }
+        ensures grown { Grown ext_grows (ext_reads EF.basis) self.old self.new }
         ensures tree { IfOk result (HasTree self.new (leaf_tree (ExtLeaf.ExtVariable v))) }
-        ensures made { IfOk result (ExtMade F.ring F.eq EF.coefficients
+        ensures made { IfOk result (ExtMade F.ring EF.basis
             (leaf_term (ext_entry_leaf v.entry v.index)) self.new) }
         ensures refused { IfErr result (λ e. e ≡ RingError.Memory) }
     {
@@ -35,12 +35,12 @@ impl<F: Field, EF: ExtensionField<F>> ExprPool<ExtLeaf<F, EF>> {
 
     /// The expression of a constant of the extension, as a leaf of its own.
     pub fn ext_constant(&mut self, c: EF) -> Result<ExprId<ExtLeaf<F, EF>>, RingError>
-        requires { IsPool (ext_reads F.ring F.eq EF.coefficients) self.old }
+        requires { IsPool (ext_reads EF.basis) self.old }
         ensures same_base { self.new.0 ≡ self.old.0 }
-        ensures grown { Grown ext_grows (ext_reads F.ring F.eq EF.coefficients) self.old self.new }
+        ensures grown { Grown ext_grows (ext_reads EF.basis) self.old self.new }
         ensures tree { IfOk result (HasTree self.new (leaf_tree (ExtLeaf.ExtConstant c))) }
-        ensures made { IfOk result (ExtMade F.ring F.eq EF.coefficients
-            (ext_const_term (EF.coefficients c)) self.new) }
+        ensures made { IfOk result (ExtMade F.ring EF.basis
+            (ext_const_term (EF.basis.coefficients c)) self.new) }
         ensures refused { IfErr result (λ e. e ≡ RingError.Memory) }
     {
         self.leaf(ExtLeaf::ExtConstant(c))
@@ -48,14 +48,14 @@ impl<F: Field, EF: ExtensionField<F>> ExprPool<ExtLeaf<F, EF>> {
 
     /// The expression of an expression of the base pool, as a leaf that holds the whole of it.
     pub fn lift(&mut self, x: ExprId<BaseLeaf<F>>) -> Result<ExprId<ExtLeaf<F, EF>>, RingError>
-        requires pool { IsPool (ext_reads F.ring F.eq EF.coefficients) self.old }
+        requires pool { IsPool (ext_reads EF.basis) self.old }
         requires here { x < length self.old.0.1 }
         ensures same_base { self.new.0 ≡ self.old.0 }
-        ensures grown { Grown ext_grows (ext_reads F.ring F.eq EF.coefficients) self.old self.new }
+        ensures grown { Grown ext_grows (ext_reads EF.basis) self.old self.new }
         ensures tree { IfOk result (HasTree self.new (leaf_tree (ExtLeaf.Base x))) }
-        ensures made { IfOk result (Lifted (PoolHas (ext_reads F.ring F.eq EF.coefficients))
-            (PoolMeans (ext_reads F.ring F.eq EF.coefficients) F.ring)
-            (BaseMeans F.ring F.eq EF.coefficients) self.old self.new x) }
+        ensures made { IfOk result (Lifted (PoolHas (ext_reads EF.basis))
+            (PoolMeans (ext_reads EF.basis) F.ring)
+            (BaseMeans F.ring EF.basis) self.old self.new x) }
         ensures refused { IfErr result (λ e. e ≡ RingError.Memory) }
     {
         self.leaf(ExtLeaf::Base(x))
@@ -64,7 +64,7 @@ impl<F: Field, EF: ExtensionField<F>> ExprPool<ExtLeaf<F, EF>> {
     /// The base pool, handed over as it is.
     pub fn into_base(self) -> ExprPool<BaseLeaf<F>>
         ensures base { result ≡ self.0 }
-        ensures pool { IsPool (ext_reads F.ring F.eq EF.coefficients) self → IsPool base_reads
+        ensures pool { IsPool (ext_reads EF.basis) self → IsPool base_reads
             result }
     {
         let ExprPool { under, .. } = self;
@@ -90,9 +90,9 @@ impl<F: Field, EF: ExtensionField<F>> ExtAlgebra<F, EF> for ExprPool<ExtLeaf<F, 
     ghost use Rattle.air_symbolic.specs.ExtPool.{BaseHas};
     ghost use Rattle.air_symbolic.specs.laws.ExtPool.{ext_keeps_base};
 
-    ghost base_has = { λ p x. BaseHas F.ring F.eq EF.coefficients p x };
+    ghost base_has = { λ p x. BaseHas EF.basis p x };
 
-    ghost base_means = { λ p x t. BaseMeans F.ring F.eq EF.coefficients p x t };
+    ghost base_means = { λ p x t. BaseMeans F.ring EF.basis p x t };
 
     fn lift(&mut self, x: ExprId<BaseLeaf<F>>) -> Result<ExprId<ExtLeaf<F, EF>>, RingError> {
         ExprPool::lift(self, x)
@@ -102,5 +102,5 @@ impl<F: Field, EF: ExtensionField<F>> ExtAlgebra<F, EF> for ExprPool<ExtLeaf<F, 
         ExprPool::ext_constant(self, c)
     }
 
-    ghost base_laws = { ext_keeps_base F.ring F.eq EF.coefficients };
+    ghost base_laws = { ext_keeps_base F.ring EF.basis };
 }

@@ -31,7 +31,7 @@ fn lowered_at<F: Field, EF: ExtensionField<F>>(
 impl<F: Field, EF: ExtensionField<F>> ExprPool<ExtLeaf<F, EF>> {
     // Whether what is marked is a leaf of the extension alone.
     fn is_ext_only(&self, mark: Option<ExprId<ExtLeaf<F, EF>>>) -> bool
-        requires pool { IsPool (ext_reads F.ring F.eq EF.coefficients) self.now }
+        requires pool { IsPool (ext_reads EF.basis) self.now }
         requires here { IfSome mark (λ i. i < length self.now.1) }
         ensures { Decides result (IsMarkedExtOnly self.now mark) }
     {
@@ -51,9 +51,9 @@ impl<F: Field, EF: ExtensionField<F>> ExprPool<ExtLeaf<F, EF>> {
         id: ExprId<ExtLeaf<F, EF>>,
         marks: &[Option<ExprId<ExtLeaf<F, EF>>>],
     ) -> bool
-        requires pool { IsPool (ext_reads F.ring F.eq EF.coefficients) self.now }
+        requires pool { IsPool (ext_reads EF.basis) self.now }
         requires here { id < length self.now.1 }
-        requires marked { Reached (ext_reads F.ring F.eq EF.coefficients self.now.0)
+        requires marked { Reached (ext_reads EF.basis self.now.0)
             self.now.1 (id ∷ []) marks.now }
         ensures { Decides result (HasExtOnly (tree_at self.now id)) }
     {
@@ -72,7 +72,7 @@ impl<F: Field, EF: ExtensionField<F>> ExprPool<ExtLeaf<F, EF>> {
         id: ExprId<ExtLeaf<F, EF>>,
         table: &[Option<ExprId<BaseLeaf<F>>>],
     ) -> Result<SymbolicExpr<BaseLeaf<F>>, ExprId<BaseLeaf<F>>>
-        requires pool { IsPool (ext_reads F.ring F.eq EF.coefficients) self.now }
+        requires pool { IsPool (ext_reads EF.basis) self.now }
         requires ready { CanLower self.now table.now id }
         ensures node { IfOk result (IsLoweredNode self.now id) }
         ensures there { IfErr result (HasTree self.now.0
@@ -121,10 +121,10 @@ impl<F: Field, EF: ExtensionField<F>> ExprPool<ExtLeaf<F, EF>> {
         id: ExprId<ExtLeaf<F, EF>>,
         table: &[Option<ExprId<BaseLeaf<F>>>],
     ) -> Result<ExprId<BaseLeaf<F>>, RingError>
-        requires pool { IsPool (ext_reads F.ring F.eq EF.coefficients) self.old }
+        requires pool { IsPool (ext_reads EF.basis) self.old }
         requires ready { CanLower self.old table.now id }
         ensures same_nodes { self.new.1 ≡ self.old.1 }
-        ensures grown { Grown ext_grows (ext_reads F.ring F.eq EF.coefficients) self.old self.new }
+        ensures grown { Grown ext_grows (ext_reads EF.basis) self.old self.new }
         ensures made { IfOk result (HasTree self.new.0 (lowered self.old.0 (tree_at self.old id))) }
         ensures refused { IfErr result (λ e. e ≡ RingError.Memory) }
     {
@@ -140,10 +140,10 @@ impl<F: Field, EF: ExtensionField<F>> ExprPool<ExtLeaf<F, EF>> {
         mark: Option<ExprId<ExtLeaf<F, EF>>>,
         table: &[Option<ExprId<BaseLeaf<F>>>],
     ) -> Result<Option<ExprId<BaseLeaf<F>>>, RingError>
-        requires pool { IsPool (ext_reads F.ring F.eq EF.coefficients) self.old }
+        requires pool { IsPool (ext_reads EF.basis) self.old }
         requires ready { IfSome mark (CanLower self.old table.now) }
         ensures same_nodes { self.new.1 ≡ self.old.1 }
-        ensures grown { Grown ext_grows (ext_reads F.ring F.eq EF.coefficients) self.old self.new }
+        ensures grown { Grown ext_grows (ext_reads EF.basis) self.old self.new }
         ensures made { IfOk result (λ b. IfSome mark (λ i. IsLoweredIn self.old self.new i b)) }
         ensures refused { IfErr result (λ e. e ≡ RingError.Memory) }
     {
@@ -163,13 +163,13 @@ impl<F: Field, EF: ExtensionField<F>> ExprPool<ExtLeaf<F, EF>> {
         id: ExprId<ExtLeaf<F, EF>>,
         marks: &[Option<ExprId<ExtLeaf<F, EF>>>],
     ) -> Result<ExprId<BaseLeaf<F>>, RingError>
-        requires pool { IsPool (ext_reads F.ring F.eq EF.coefficients) self.old }
+        requires pool { IsPool (ext_reads EF.basis) self.old }
         requires here { id < length self.old.1 }
-        requires marked { Reached (ext_reads F.ring F.eq EF.coefficients self.old.0)
+        requires marked { Reached (ext_reads EF.basis self.old.0)
             self.old.1 (id ∷ []) marks.now }
         requires base_only { HasExtOnly (tree_at self.old id) → ⊥ }
         ensures same_nodes { self.new.1 ≡ self.old.1 }
-        ensures grown { Grown ext_grows (ext_reads F.ring F.eq EF.coefficients) self.old self.new }
+        ensures grown { Grown ext_grows (ext_reads EF.basis) self.old self.new }
         ensures made { IfOk result (HasTree self.new.0 (lowered self.old.0 (tree_at self.old id))) }
         ensures refused { IfErr result (λ e. e ≡ RingError.Memory) }
     {
@@ -187,14 +187,14 @@ impl<F: Field, EF: ExtensionField<F>> ExprPool<ExtLeaf<F, EF>> {
         &mut self,
         id: ExprId<ExtLeaf<F, EF>>,
     ) -> Result<Option<ExprId<BaseLeaf<F>>>, RingError>
-        requires pool { IsPool (ext_reads F.ring F.eq EF.coefficients) self.old }
+        requires pool { IsPool (ext_reads EF.basis) self.old }
         requires here { id < length self.old.1 }
         ensures same_nodes { self.new.1 ≡ self.old.1 }
-        ensures grown { Grown ext_grows (ext_reads F.ring F.eq EF.coefficients) self.old self.new }
+        ensures grown { Grown ext_grows (ext_reads EF.basis) self.old self.new }
         ensures made { IfOk result (λ b. MatchOption b (HasExtOnly (tree_at self.old id))
             (IsLowered self.old.0 self.new.0 (tree_at self.old id))) }
         ensures term { IfOk result (λ b. IfSome b
-            (HasTermOf EF.coefficients self.old id self.new.0)) }
+            (HasTermOf EF.basis self.old id self.new.0)) }
         ensures refused { IfErr result (λ e. e ≡ RingError.Memory) }
     {
         let marks = reached(*self.nodes.allocator(), self, &[id])?;

@@ -33,7 +33,8 @@ impl<'a, T: Copy> RowWindow<'a, T> {
     /// The window of a view of two rows. A view of another shape is refused with `WindowShape`. It takes no memory.
     pub fn from_view(view: &RowMajorMatrixView<'a, T>) -> Result<Self, AirError>
         ensures shape { OnOk result (length view.now.values.now ≡ 2 * view.now.width) }
-        ensures current { IfOk result (λ w. w.current.now ≡ take view.now.width view.now.values.now) }
+        ensures current { IfOk result (λ w. w.current.now ≡ take view.now.width
+            view.now.values.now) }
         ensures next { IfOk result (λ w. w.next.now ≡ drop view.now.width view.now.values.now) }
         ensures refused { IfErr result (IsNoWindow (length view.now.values.now) view.now.width) }
     {

@@ -1,9 +1,9 @@
 -- Extension leaves: what is read is what is spelt, and what is seen of a leaf stays.
-use Rattle.std.specs.Prelude.{◌≡◌, ℕ, Bool, List, Result, Ok, Err, option_map, codes, ok_or, length, refl}
+use Rattle.std.specs.Prelude.{◌≡◌, ℕ, List, Result, Ok, Err, option_map, codes, ok_or, length, refl}
 use Rattle.std.proofs.Common.{sym, ap, ◌∙◌}
 use Rattle.serde_json.specs.Data.{Data, array}
 use Rattle.air_field.specs.Ring.{CommRing, Over}
-use Rattle.air_field.specs.Extension.{ExtensionLaws}
+use Rattle.air_field.specs.Extension.{Basis, ExtensionLaws}
 use Rattle.air_field.specs.laws.Extension.{padded-whole}
 use Rattle.air_field.specs.declared.fields.baby_bear.BabyBear.{BabyBear}
 use Rattle.air_symbolic.specs.laws.Pools.{tree-kept}
@@ -36,40 +36,40 @@ moved_ok place (Ok a) t e = e
 moved_ok place (Err f) t e = absurd cc
 
 -- what is seen of a leaf stays as the base pool grows
-module _ {EF : Type 0} (r : CommRing BabyBear) (eq : BabyBear → BabyBear → Bool) (coefficients : EF → List BabyBear) where
+module _ {EF : Type 0} (r : CommRing BabyBear) (basis : Basis BabyBear EF) where
   seen-kept : (u v : BaseNodes BabyBear) → ext_grows u v → (a : ExtLeaf BabyBear EF) → ext_valid u a → whole_leaf v a ≡ whole_leaf u a
   seen-kept u v g (Base i) h = ap (λ t. whole_base t) (tree-kept r base_reads base_grows tt (base_leaf_laws r) u v i g h.here)
   seen-kept u v g (ExtVariable x) h = refl
   seen-kept u v g (ExtConstant c) h = refl
 
-  seen-term : (u : BaseNodes BabyBear) (a : ExtLeaf BabyBear EF) → whole_term coefficients (whole_leaf u a) ≡ (ext_reads r eq coefficients u).term a
+  seen-term : (u : BaseNodes BabyBear) (a : ExtLeaf BabyBear EF) → whole_term basis (whole_leaf u a) ≡ (ext_reads basis u).term a
   seen-term u (Base i) = refl
   seen-term u (ExtVariable x) = refl
   seen-term u (ExtConstant c) = refl
 
-  pub ext_wire_laws : WireLaws (ext_reads r eq coefficients) (λ u v. ext_grows u v) (λ u a. whole_leaf u a) (whole_term coefficients)
+  pub ext_wire_laws : WireLaws (ext_reads basis) (λ u v. ext_grows u v) (λ u a. whole_leaf u a) (whole_term basis)
   ext_wire_laws = record { term_is = seen-term; kept = seen-kept; one = λ u. same_leaf u }
 
-module _ {EF : Type 0} (r : CommRing BabyBear) (a : Over BabyBear EF) (coefficients : EF → List BabyBear) (count : ℕ) (laws : ExtensionLaws r a coefficients count) where
+module _ {EF : Type 0} (r : CommRing BabyBear) (a : Over BabyBear EF) (basis : Basis BabyBear EF) (count : ℕ) (laws : ExtensionLaws r a basis count) where
   -- the element of a list of so many coefficients
-  extended : (cs : List BabyBear) → length cs ≡ count → coefficients (a.extend cs) ≡ cs
+  extended : (cs : List BabyBear) → length cs ≡ count → basis.coefficients (a.extend cs) ≡ cs
   extended cs h = laws.extend_is cs ∙ padded-whole r.nil count cs h
 
-  pub made_of : (e : EF) (cs : List BabyBear) → length cs ≡ count → coefficients e ≡ cs → e ≡ a.extend cs
+  pub made_of : (e : EF) (cs : List BabyBear) → length cs ≡ count → basis.coefficients e ≡ cs → e ≡ a.extend cs
   made_of e cs h is = laws.same e (a.extend cs) (is ∙ sym (extended cs h))
 
-  constant_found : (place : ℕ) (c : Data) (e : EF) → ext_constant_at a count place c ≡ Ok e → c ≡ array (number_items (coefficients e))
+  constant_found : (place : ℕ) (c : Data) (e : EF) → ext_constant_at a count place c ≡ Ok e → c ≡ array (number_items (basis.coefficients e))
   constant_found place c e h =
       let cs = bind_ok (elements_at count place c) (λ cs. done (a.extend cs)) e h in
       let found = elements_found count place c cs.0 cs.1 in
-      done_is (λ x. c ≡ array (number_items (coefficients x))) (a.extend cs.0) e cs.2 (found.0 ∙ ap (λ l. array (number_items l)) (sym (extended cs.0 found.1)))
+      done_is (λ x. c ≡ array (number_items (basis.coefficients x))) (a.extend cs.0) e cs.2 (found.0 ∙ ap (λ l. array (number_items l)) (sym (extended cs.0 found.1)))
 
-  constant_again : (place : ℕ) (c : Data) (e : EF) → c ≡ array (number_items (coefficients e)) → ext_constant_at a count place c ≡ Ok e
+  constant_again : (place : ℕ) (c : Data) (e : EF) → c ≡ array (number_items (basis.coefficients e)) → ext_constant_at a count place c ≡ Ok e
   constant_again place c e h =
-      ap (λ q. q >>= λ cs. done (a.extend cs)) (elements_again count place c (coefficients e) h (laws.count e))
-      ∙ ap (λ x. done x) (sym (made_of e (coefficients e) (laws.count e) refl))
+      ap (λ q. q >>= λ cs. done (a.extend cs)) (elements_again count place c (basis.coefficients e) h (laws.count e))
+      ∙ ap (λ x. done x) (sym (made_of e (basis.coefficients e) (laws.count e) refl))
 
-  ext_leaf_again : (place : ℕ) (d : Data) (l : WholeLeaf BabyBear EF) → SpellsWhole coefficients d l → ext_leaf_at a count place d ≡ Ok l
+  ext_leaf_again : (place : ℕ) (d : Data) (l : WholeLeaf BabyBear EF) → SpellsWhole basis d l → ext_leaf_at a count place d ≡ Ok l
   unfolding ext_leaf_at
   ext_leaf_again place d (whole_base t) h =
       ap (ext_leaf_at a count place) h.1 ∙ ap (λ q. moved place q >>= λ t. done (whole_base t)) (root_again base_kind base_kind_laws h.0 t h.2)
@@ -78,9 +78,9 @@ module _ {EF : Type 0} (r : CommRing BabyBear) (a : Over BabyBear EF) (coefficie
   ext_leaf_again place d (whole_constant e) h =
       ap (ext_leaf_at a count place) h.1 ∙ ap (λ q. q >>= λ e. done (whole_constant e)) (constant_again place h.0 e h.2)
 
-  with_found : (place : ℕ) (name : List ℕ) (c : Data) (l : WholeLeaf BabyBear EF) → ext_leaf_with a count place name c ≡ Ok l → SpellsWhole coefficients (case_data name c) l
+  with_found : (place : ℕ) (name : List ℕ) (c : Data) (l : WholeLeaf BabyBear EF) → ext_leaf_with a count place name c ≡ Ok l → SpellsWhole basis (case_data name c) l
   with_found place name c l h =
-      let P : WholeLeaf BabyBear EF → Type 0 = SpellsWhole coefficients (case_data name c) in
+      let P : WholeLeaf BabyBear EF → Type 0 = SpellsWhole basis (case_data name c) in
       name_ok P name (codes "Base") _ _ l h
       (λ same h.
       let t = bind_ok (moved place (root_of base_kind c)) (λ t. done (whole_base t)) l h in
@@ -94,21 +94,21 @@ module _ {EF : Type 0} (r : CommRing BabyBear) (a : Over BabyBear EF) (coefficie
       done_is P (whole_constant e.0) l e.2 (c, ap (λ n. case_data n c) same, constant_found place c e.0 e.1))
       (not_done P (faults.Shape place) l)))
 
-  ext_leaf_found : (place : ℕ) (d : Data) (l : WholeLeaf BabyBear EF) → ext_leaf_at a count place d ≡ Ok l → SpellsWhole coefficients d l
+  ext_leaf_found : (place : ℕ) (d : Data) (l : WholeLeaf BabyBear EF) → ext_leaf_at a count place d ≡ Ok l → SpellsWhole basis d l
   unfolding ext_leaf_at
   ext_leaf_found place d l h =
-      case_read (λ x. SpellsWhole coefficients x l) (λ r. r ≡ Ok l) (Err (faults.Shape place)) (ext_leaf_with a count place) d h
-      (not_done (SpellsWhole coefficients d) (faults.Shape place) l) (λ name c. with_found place name c l)
+      case_read (λ x. SpellsWhole basis x l) (λ r. r ≡ Ok l) (Err (faults.Shape place)) (ext_leaf_with a count place) d h
+      (not_done (SpellsWhole basis d) (faults.Shape place) l) (λ name c. with_found place name c l)
 
-  ext_leaf_written : (d : Data) (l : WholeLeaf BabyBear EF) → WritesWhole coefficients d l → SpellsWhole coefficients d l
+  ext_leaf_written : (d : Data) (l : WholeLeaf BabyBear EF) → WritesWhole basis d l → SpellsWhole basis d l
   ext_leaf_written d (whole_base t) h = (h.0, h.1, written_list base_kind base_kind_laws h.0 t h.2)
   ext_leaf_written d (whole_variable v) h = (ext_variable_plain.written v, h, ext_variable_laws.is_spelt v)
-  ext_leaf_written d (whole_constant e) h = (array (number_items (coefficients e)), h, refl)
+  ext_leaf_written d (whole_constant e) h = (array (number_items (basis.coefficients e)), h, refl)
 
-  ext_leaf_once : (d e : Data) (l : WholeLeaf BabyBear EF) → WritesWhole coefficients d l → WritesWhole coefficients e l → d ≡ e
+  ext_leaf_once : (d e : Data) (l : WholeLeaf BabyBear EF) → WritesWhole basis d l → WritesWhole basis e l → d ≡ e
   ext_leaf_once d e (whole_base t) h k = h.1 ∙ ap (case_data (codes "Base")) (one_list base_kind base_kind_laws h.0 k.0 t h.2 k.2) ∙ sym k.1
   ext_leaf_once d e (whole_variable v) h k = h ∙ sym k
   ext_leaf_once d e (whole_constant x) h k = h ∙ sym k
 
-  pub ext_kind_laws : KindLaws (ext_kind a coefficients count)
+  pub ext_kind_laws : KindLaws (ext_kind a basis count)
   ext_kind_laws = record { found = ext_leaf_found; again = ext_leaf_again; written = ext_leaf_written; once = ext_leaf_once }

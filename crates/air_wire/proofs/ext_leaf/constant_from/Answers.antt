@@ -9,4 +9,4 @@ from_basis_coefficients-requires g c = right_count c.DIMENSION.result g.EF.Exten
 pub returns : goal.returns
 returns g c =
     let EF = g.EF.ExtensionField in
-    made_constant baby_bear_ring EF.over EF.coefficients EF.DIMENSION g.met.EF.ExtensionField.laws c.DIMENSION.result c.args.at (view c.args.contents.now) c.in_ok-elements.elements.items c.deref.result.now c.from_basis_coefficients.result c.DIMENSION.ensures c.in_ok-elements.ensures c.deref.ensures.value c.from_basis_coefficients.ensures
+    made_constant baby_bear_ring EF.over EF.basis EF.DIMENSION g.met.EF.ExtensionField.laws c.DIMENSION.result c.args.at (view c.args.contents.now) c.in_ok-elements.elements.items c.deref.result.now c.from_basis_coefficients.result c.DIMENSION.ensures c.in_ok-elements.ensures c.deref.ensures.value c.from_basis_coefficients.ensures

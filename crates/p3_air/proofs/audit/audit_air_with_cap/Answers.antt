@@ -35,7 +35,7 @@ pub returns-in_err-degree-clause-refused : goal.returns-in_err-degree-clause-ref
 returns-in_err-degree-clause-refused g c =
     let p = err_from_is_err_and c.from_residual-in_err-degree.result c.from_residual-in_err-degree.ensures.1 in
     let r = g.F.Field.ring in
-    let reads = ext_reads r g.F.PartialEq.eq g.F.ExtensionField.coefficients in
+    let reads = ext_reads g.F.ExtensionField.basis in
     let d = g.A.BaseAir.declaration c.args.air.now in
     let ts = d.declared in
     let b = c.in_ok-builder.builder in
@@ -54,8 +54,8 @@ pub returns-clause-audited : goal.returns-clause-audited
 returns-clause-audited g c =
     let r = g.F.Field.ring in
     let eq = g.F.PartialEq.eq in
-    let coefficients = g.F.ExtensionField.coefficients in
-    let reads = ext_reads r eq coefficients in
+    let basis = g.F.ExtensionField.basis in
+    let reads = ext_reads basis in
     let d = g.A.BaseAir.declaration c.args.air.now in
     let ts = d.declared in
     let b = c.in_ok-builder.builder in
@@ -67,7 +67,7 @@ returns-clause-audited g c =
     let q = c.deref.ensures.value ∙ (c.in_ok-periods.ensures.lengths ∙ ap periods_of c.periodic_columns.ensures) in
     let us = terms_of base_reads recorded.pool.0 recorded.base.items in
     let vs = terms_of reads recorded.pool recorded.ext.items in
-    audited r eq coefficients (given d c.args.main.now c.args.public_values.now) c.args.max_failures c.args.transition_weight
+    audited r eq basis (given d c.args.main.now c.args.public_values.now) c.args.max_failures c.args.transition_weight
     record { recorded = recorded; layout = c.in_ok-layout.layout; report = c.in_ok-report.report; degree = c.in_ok-degree.degree }
     base ext places c.in_ok-report.ensures.report
     (subst (λ n. IsDegreeFor c.args.transition_weight n (periods_of d.periodic) (us ++ vs) c.in_ok-degree.degree) c.height.ensures (subst (λ l. IsDegreeFor c.args.transition_weight c.height.result l (us ++ vs) c.in_ok-degree.degree) q c.in_ok-degree.ensures))

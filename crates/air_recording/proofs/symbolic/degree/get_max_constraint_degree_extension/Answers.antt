@@ -20,13 +20,13 @@ degree_of-requires-clause-base_here g c =
 pub degree_of-requires-clause-ext_here : goal.degree_of-requires-clause-ext_here
 degree_of-requires-clause-ext_here g c =
     let r = c.in_ok-recorded.recorded in
-    numbers_here g.F.Field.ring (ext_reads g.F.Field.ring g.F.PartialEq.eq g.EF.ExtensionField.coefficients) r.pool r.ext.items (ext_terms (g.A.BaseAir.declaration c.args.air.now).declared) c.in_ok-recorded.ensures.ext.means
+    numbers_here g.F.Field.ring (ext_reads g.EF.ExtensionField.basis) r.pool r.ext.items (ext_terms (g.A.BaseAir.declaration c.args.air.now).declared) c.in_ok-recorded.ensures.ext.means
 
 pub returns-in_err-degree-clause-refused : goal.returns-in_err-degree-clause-refused
 returns-in_err-degree-clause-refused g c =
     let r = c.in_ok-recorded.recorded in
     let us = terms_of base_reads r.pool.0 r.base.items in
-    let vs = terms_of (ext_reads g.F.Field.ring g.F.PartialEq.eq g.EF.ExtensionField.coefficients) r.pool r.ext.items in
+    let vs = terms_of (ext_reads g.EF.ExtensionField.basis) r.pool r.ext.items in
     let e = c.in_err-degree.field-0.0 in
     let q = c.deref.ensures.value ∙ (c.in_ok-periods.ensures.lengths ∙ ap periods_of c.periodic_columns.ensures) in
     let h = subst (λ (l : List ℕ). AnswersInferred c.args.transition_weight c.args.trace_len l (us ++ vs) (Err e)) q c.in_err-degree.ensures in
@@ -40,7 +40,7 @@ returns-clause-inferred g c =
     let over = g.EF.ExtensionField.over in
     let r = c.in_ok-recorded.recorded in
     let us = terms_of base_reads r.pool.0 r.base.items in
-    let vs = terms_of (ext_reads field g.F.PartialEq.eq g.EF.ExtensionField.coefficients) r.pool r.ext.items in
+    let vs = terms_of (ext_reads g.EF.ExtensionField.basis) r.pool r.ext.items in
     let v = c.args.transition_weight in
     let n = c.args.trace_len in
     let periods = periods_of (g.A.BaseAir.declaration c.args.air.now).periodic in

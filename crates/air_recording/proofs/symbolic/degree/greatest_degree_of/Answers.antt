@@ -14,7 +14,7 @@ pub returns-in_err-base-clause-answer : goal.returns-in_err-base-clause-answer
 returns-in_err-base-clause-answer g c =
     let w = leaf_weight c.args.weight in
     let pool = c.args.recorded.now.pool in
-    let reads = ext_reads g.F.Field.ring g.F.PartialEq.eq g.EF.ExtensionField.coefficients in
+    let reads = ext_reads g.EF.ExtensionField.basis in
     let e = c.in_err-base.field-0.0 in
     let q = ap₂ (λ bs xs. terms_of base_reads pool.0 bs ++ terms_of reads pool xs) c.deref.ensures.value c.deref-2.ensures.value in
     let p = err_from_is_err_and c.from_residual.result c.from_residual.ensures.1 in
@@ -26,7 +26,7 @@ pub returns : goal.returns
 returns g c =
     let w = leaf_weight c.args.weight in
     let pool = c.args.recorded.now.pool in
-    let reads = ext_reads g.F.Field.ring g.F.PartialEq.eq g.EF.ExtensionField.coefficients in
+    let reads = ext_reads g.EF.ExtensionField.basis in
     let us = terms_of base_reads pool.0 c.args.recorded.now.base.items in
     let vs = terms_of reads pool c.args.recorded.now.ext.items in
     let x : c.greatest_of.result ≡ greatest_degree w us =

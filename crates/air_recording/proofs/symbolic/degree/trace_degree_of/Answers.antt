@@ -10,19 +10,19 @@ use Rattle.air_recording.proofs.symbolic.degree.trace_degree_of.Goals as goal
 
 pub returns-in_err-greatest : goal.returns-in_err-greatest
 returns-in_err-greatest g c =
-    let terms = recorded_terms g.F.Field.ring g.F.PartialEq.eq g.EF.ExtensionField.coefficients c.args.recorded.now in
+    let terms = recorded_terms g.EF.ExtensionField.basis c.args.recorded.now in
     let p = err_from_is_err_and c.from_residual.result c.from_residual.ensures.1 in
     rw (p.1, p.2) (trace_refused c.args.trace_len c.args.periods.now terms c.in_err-greatest.field-0.0 c.in_err-greatest.ensures.answer)
 
 pub returns-then-not-is_empty : goal.returns-then-not-is_empty
 returns-then-not-is_empty g c =
-    let terms = recorded_terms g.F.Field.ring g.F.PartialEq.eq g.EF.ExtensionField.coefficients c.args.recorded.now in
+    let terms = recorded_terms g.EF.ExtensionField.basis c.args.recorded.now in
     answered_periodic c.args.trace_len c.args.periods.now terms _ _ c.in_ok-greatest.ensures.answer c.in_ok-greatest.ensures.fits c.constraint_degree_from_poly_degree-degree.ensures c.if-not-is_empty.ensures
 
 pub returns : goal.returns
 returns g c =
     let pool = c.args.recorded.now.pool in
-    let reads = ext_reads g.F.Field.ring g.F.PartialEq.eq g.EF.ExtensionField.coefficients in
+    let reads = ext_reads g.EF.ExtensionField.basis in
     let base = c.greatest_cached-base.ensures ∙ ap (λ l. greatest_degree cached_weight l) (ap₂ (λ p l. terms_of base_reads p l) c.base.ensures c.deref.ensures.value) in
     let ext = c.greatest_cached-ext.ensures ∙ ap (λ l. greatest_degree cached_weight (terms_of reads pool l)) c.deref-2.ensures.value in
     let greatest = c.max-2.ensures ∙ ap (max c.constraint_degree_from_poly_degree-degree.result) (c.max.ensures ∙ ap₂ max base ext) in

@@ -37,7 +37,7 @@ returns-clause-base g c =
 pub returns-clause-ext : goal.returns-clause-ext
 returns-clause-ext g c =
     let r = g.F.Field.ring in
-    let reads = ext_reads r g.F.PartialEq.eq g.EF.ExtensionField.coefficients in
+    let reads = ext_reads g.EF.ExtensionField.basis in
     let ts = (g.A.BaseAir.declaration c.args.air.now).declared in
     let grew = c.in_ok-eval.ensures.ok in
     let pool = c.eval.new.builder.pool in
@@ -62,7 +62,7 @@ returns-clause-base_here g c =
 pub returns-clause-ext_here : goal.returns-clause-ext_here
 returns-clause-ext_here g c =
     let r = g.F.Field.ring in
-    let reads = ext_reads r g.F.PartialEq.eq g.EF.ExtensionField.coefficients in
+    let reads = ext_reads g.EF.ExtensionField.basis in
     let ts = ext_terms (g.A.BaseAir.declaration c.args.air.now).declared in
     let grew = c.in_ok-eval.ensures.ok in
     let pool = c.eval.new.builder.pool in

@@ -1,5 +1,5 @@
-use Rattle.std.proofs.Common.{ap, subst, rules}
-use Rattle.std.proofs.lemmas.Result.{err_from_is_err_and}
+use Rattle.std.proofs.Common.{OnOk, refl, subst, rules}
+use Rattle.std.proofs.lemmas.Result.{err_from_is_err_and, on_ok_weaker, IfErr-weaker}
 use Rattle.air_field.specs.Assignment.{IsMissing}
 use Rattle.air_builder.specs.Refusals.{NoneMissing}
 use Rattle.air_report.specs.Given.{given}
@@ -9,17 +9,17 @@ use Rattle.air_report.proofs.checks.check.check_row.Goals as goal
 pub returns-clause-checked : goal.returns-clause-checked
 returns-clause-checked g c =
     let all = given (g.A.BaseAir.declaration c.args.air.now) c.args.main.now c.args.public_values.now in
-    let at = c.at_row-builder.ensures in
+    let at = c.move_to.ensures in
     let same = row_at-given all at c.preprocessed_trace.ensures c.in_ok-periodic_row.ensures g.F.Field.ring c.requires.fits
     c.row_pair.ensures.top c.row_pair.ensures.bottom c.table_pair.ensures.top c.table_pair.ensures.bottom (search rules) (search rules) (search rules) in
-    checked_row all at g.met.F.SelfExtension.over_itself same (ap (λ v. v.items) c.into_failures.ensures) c.in_ok-eval.ensures.ok
+    on_ok_weaker c.eval.result (λ grew. checked_row all at g.met.F.SelfExtension.over_itself same refl grew) c.eval.ensures.ok
 
 pub returns-clause-there : goal.returns-clause-there
 returns-clause-there g c =
     let all = given (g.A.BaseAir.declaration c.args.air.now) c.args.main.now c.args.public_values.now in
-    let same = shape-given all c.at_row-builder.ensures c.preprocessed_trace.ensures c.in_ok-periodic_row.ensures
+    let same = shape-given all c.move_to.ensures c.preprocessed_trace.ensures c.in_ok-periodic_row.ensures
     c.row_pair.ensures.width c.table_pair.ensures.width in
-    subst (λ s. NoneMissing (IsMissing s) all.declaration.declared) same c.in_ok-eval.ensures.there
+    subst (λ s. OnOk c.eval.result (NoneMissing (IsMissing s) all.declaration.declared)) same c.eval.ensures.there
 
 pub returns-in_err-periodic_row-clause-refused : goal.returns-in_err-periodic_row-clause-refused
 returns-in_err-periodic_row-clause-refused g c =
@@ -27,9 +27,8 @@ returns-in_err-periodic_row-clause-refused g c =
     let all = given (g.A.BaseAir.declaration c.args.air.now) c.args.main.now c.args.public_values.now in
     rw (p.1, p.2) (periodic_refusal all c.in_err-periodic_row.field-0.0 c.requires.fits c.in_err-periodic_row.ensures)
 
-pub returns-in_err-eval-clause-refused : goal.returns-in_err-eval-clause-refused
-returns-in_err-eval-clause-refused g c =
-    let p = err_from_is_err_and c.from_residual-in_err-eval.result c.from_residual-in_err-eval.ensures.1 in
+pub returns-clause-refused : goal.returns-clause-refused
+returns-clause-refused g c =
     let all = given (g.A.BaseAir.declaration c.args.air.now) c.args.main.now c.args.public_values.now in
-    rw (p.1, p.2) (row_refusal all c.at_row-builder.ensures c.preprocessed_trace.ensures c.in_ok-periodic_row.ensures
-    c.row_pair.ensures.width c.table_pair.ensures.width c.in_err-eval.field-0.0 c.in_err-eval.ensures.refused)
+    IfErr-weaker c.eval.result _ _ (row_refusal all c.move_to.ensures c.preprocessed_trace.ensures c.in_ok-periodic_row.ensures
+    c.row_pair.ensures.width c.table_pair.ensures.width) c.eval.ensures.refused

@@ -16,13 +16,13 @@ rows-preserved g c =
     let row = c.rows.row in
     let cap = c.args.max_failures in
     let inv = c.rows.invariant in
-    let checked = c.in_ok-outcome.ensures.checked in
-    let open_cap : IsReached cap (length c.rows.failures.items) → ⊥ = search rules in
-    let len : length c.rows.failures.items ≡ length (report_of r eq trace ts row) = sym (length-map c.rows.failures.items failure_place) ∙ ap length inv.places in
+    let checked = c.in_ok-check_row.ensures.checked in
+    let open_cap : IsReached cap (length c.rows.builder.failures.items) → ⊥ = search rules in
+    let len : length c.rows.builder.failures.items ≡ length (report_of r eq trace ts row) = sym (length-map c.rows.builder.failures.items failure_place) ∙ ap length inv.places in
     let here : IsReached cap (length (report_of r eq trace ts row)) → ⊥ = λ h. open_cap (subst (λ n. IsReached cap n) (sym len) h) in
     record {
       places = checked_more r eq all row _ _ _ checked inv.places;
       count = checked.constraints ∙ count_shown-more ts row;
       least = below_more (λ k. IsReached cap (length (report_of r eq trace ts k)) → ⊥) row inv.least here;
-      there = λ h. c.in_ok-outcome.ensures.there;
+      there = λ h. c.in_ok-check_row.ensures.there;
     }

@@ -10,8 +10,8 @@ invariant-rows g l =
     let ts = all.declaration.declared in
     let trace = given_trace all in
     record {
-      places : map failure_place l.failures.items ≡ report_of g.F.Field.ring g.F.PartialEq.eq trace ts l.row;
-      count : l.total_constraints_per_row ≡ count_shown ts l.row;
+      places : map failure_place l.builder.failures.items ≡ report_of g.F.Field.ring g.F.PartialEq.eq trace ts l.row;
+      count : l.builder.constraint_index ≡ count_shown ts l.row;
       least : (k : ℕ) → k < l.row → IsReached l.max_failures (length (report_of g.F.Field.ring g.F.PartialEq.eq trace ts k)) → ⊥;
       there : 0 < l.row → HasEntries all;
     }

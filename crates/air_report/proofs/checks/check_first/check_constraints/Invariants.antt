@@ -8,6 +8,7 @@ abbrev pub invariant-rows : goal.invariant-rows
 invariant-rows g l =
     let all = given (g.A.BaseAir.declaration l.fn.air) l.fn.main l.fn.public_values in
     record {
+      empty : l.builder.failures.items ≡ [];
       none : report_of g.F.Field.ring g.F.PartialEq.eq (given_trace all) all.declaration.declared l.row ≡ [];
       there : 0 < l.row → HasEntries all;
     }

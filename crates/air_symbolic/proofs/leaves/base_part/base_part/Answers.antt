@@ -4,12 +4,10 @@ use Rattle.air_symbolic.proofs.leaves.base_part.base_part.Goals as goal
 
 pub returns-then-not-is_in_basefield : goal.returns-then-not-is_in_basefield
 returns-then-not-is_in_basefield g c =
-    let e = g.EF.ExtensionField in
-    part-out g.F.Field.ring g.F.PartialEq.eq g.met.F.Field.eq_is e.over e.coefficients e.DIMENSION g.met.EF.ExtensionField.laws
+    part-out g.met.EF.ExtensionField.laws
     c.args.c.now (λ h. let t = c.is_in_basefield.ensures.1 h in let f = c.if-not-is_in_basefield.true in search rules)
 
 pub returns-in-len1-up : goal.returns-in-len1-up
 returns-in-len1-up g c =
-    let e = g.EF.ExtensionField in
-    part-in g.F.Field.ring g.F.PartialEq.eq g.met.F.Field.eq_is e.over e.coefficients e.DIMENSION g.met.EF.ExtensionField.laws
+    part-in g.met.EF.ExtensionField.laws
     c.args.c.now c.as_basis_coefficients_slice.result.now c.first-item.result c.as_basis_coefficients_slice.ensures c.in-len1-up.len_at_least c.first-item.is (c.is_in_basefield.ensures.0 (let f = c.if-not-is_in_basefield.false in search rules))

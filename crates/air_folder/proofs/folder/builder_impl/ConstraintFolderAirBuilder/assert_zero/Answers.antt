@@ -6,4 +6,4 @@ use Rattle.air_folder.proofs.folder.builder_impl.ConstraintFolderAirBuilder.asse
 pub returns : goal.returns
 returns g c =
     let extension = g.EF.ExtensionField in
-    folded_asserted extension.over extension.coefficients (extend-coefficients g.F.Field.ring extension.over extension.coefficients extension.DIMENSION g.met.EF.ExtensionField.laws) _ _ c.args.x c.fold_in.ensures.keeps c.fold_in.ensures.folded (λ s t. refl)
+    folded_asserted extension.over extension.basis (extend-coefficients g.F.Field.ring extension.over extension.basis extension.DIMENSION g.met.EF.ExtensionField.laws) _ _ c.args.x c.fold_in.ensures.keeps c.fold_in.ensures.folded (λ s t. refl)

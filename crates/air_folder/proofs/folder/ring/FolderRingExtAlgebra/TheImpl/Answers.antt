@@ -7,6 +7,6 @@ ext_constant-tells g c =
     rw c.ensures
     (record {
       extended = tt;
-      made = (tt, extend-coefficients g.F.Field.ring extension.over extension.coefficients extension.DIMENSION g.met.EF.ExtensionField.laws c.args.c);
+      made = (tt, extend-coefficients g.F.Field.ring extension.over extension.basis extension.DIMENSION g.met.EF.ExtensionField.laws c.args.c);
       refused = tt;
     })

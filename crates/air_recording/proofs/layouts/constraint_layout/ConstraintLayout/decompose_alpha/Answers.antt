@@ -30,13 +30,13 @@ returns g c =
     picked-weights r c.args.alpha total (constraint_count l) c.deref.result.now c.in_ok-powers.powers.items c.deref-2.result.now l.base_indices.items c.in_ok-base.base.items c.deref.ensures.value c.in_ok-powers.ensures.powers c.deref-2.ensures.value c.total_constraints-total.ensures (All-left (λ i. i < total) l.base_indices.items l.ext_indices.items within) c.in_ok-base.ensures in
     let whole : c.in_ok-whole.whole.items ≡ weights_of r c.args.alpha (constraint_count l) l.ext_indices.items =
     picked-weights r c.args.alpha total (constraint_count l) c.deref-3.result.now c.in_ok-powers.powers.items c.deref-4.result.now l.ext_indices.items c.in_ok-whole.whole.items c.deref-3.ensures.value c.in_ok-powers.ensures.powers c.deref-4.ensures.value c.total_constraints-total.ensures (All-right (λ i. i < total) l.base_indices.items l.ext_indices.items within) c.in_ok-whole.ensures in
-    let lists : map (λ v. v.items) c.in_ok-coordinates.coordinates.items ≡ all_coordinates_of g.F.Field.ring g.EF.ExtensionField.coefficients (weights_of r c.args.alpha (constraint_count l) l.base_indices.items) g.EF.ExtensionField.DIMENSION =
+    let lists : map (λ v. v.items) c.in_ok-coordinates.coordinates.items ≡ all_coordinates_of g.F.Field.ring g.EF.ExtensionField.basis (weights_of r c.args.alpha (constraint_count l) l.base_indices.items) g.EF.ExtensionField.DIMENSION =
     c.in_ok-coordinates.ensures.coordinates
-    ∙ ap (λ ws. all_coordinates_of g.F.Field.ring g.EF.ExtensionField.coefficients ws g.EF.ExtensionField.DIMENSION) (c.deref-5.ensures.value ∙ base) in
+    ∙ ap (λ ws. all_coordinates_of g.F.Field.ring g.EF.ExtensionField.basis ws g.EF.ExtensionField.DIMENSION) (c.deref-5.ensures.value ∙ base) in
     record {
       coordinates = lists;
       powers = whole;
       within = record { fits = omega arith; below = subst (λ (m : ℕ). All (λ i. i < m) (constraint_indices l)) c.total_constraints-total.ensures within };
-      fold = recombines g.F.Field.ring g.EF.ExtensionField.over g.EF.ExtensionField.coefficients g.EF.ExtensionField.DIMENSION g.met.EF.ExtensionField.laws c.args.alpha (constraint_count l) l.base_indices.items l.ext_indices.items (map (λ v. v.items) c.in_ok-coordinates.coordinates.items) c.in_ok-whole.whole.items (omega arith) lists whole;
+      fold = recombines g.F.Field.ring g.EF.ExtensionField.over g.EF.ExtensionField.basis g.EF.ExtensionField.DIMENSION g.met.EF.ExtensionField.laws c.args.alpha (constraint_count l) l.base_indices.items l.ext_indices.items (map (λ v. v.items) c.in_ok-coordinates.coordinates.items) c.in_ok-whole.whole.items (omega arith) lists whole;
       refused = tt;
     }

@@ -7,4 +7,4 @@ pub returns : goal.returns
 returns g c =
     let a = c.args.self.now in
     let fixed = fixed_by a.selectors a.entries.base.layout in
-    pushed_asserted g.F.Field.ring g.F.PartialEq.eq g.EF.ExtensionField.coefficients g.met.F.Field.eq_is a.pool fixed (lists_of a.constraints) _ _ c.push_base.result (λ k. k) (λ ts h. h) (base_recorded g.F.Field.ring g.F.PartialEq.eq g.EF.ExtensionField.coefficients g.met.F.Field.eq_is a.pool fixed (lists_of a.constraints) c.args.x) (λ k. tt) c.push_base.ensures.ok c.push_base.ensures.err c.push_base.ensures.refused
+    pushed_asserted g.met.EF.ExtensionField.laws a.pool fixed (lists_of a.constraints) _ _ c.push_base.result (λ k. k) (λ ts h. h) (base_recorded g.met.EF.ExtensionField.laws a.pool fixed (lists_of a.constraints) c.args.x) (λ k. tt) c.push_base.ensures.ok c.push_base.ensures.err c.push_base.ensures.refused

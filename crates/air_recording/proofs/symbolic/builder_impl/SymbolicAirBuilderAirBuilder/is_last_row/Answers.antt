@@ -7,4 +7,4 @@ use Rattle.air_recording.proofs.symbolic.builder_impl.SymbolicAirBuilderAirBuild
 pub returns-clause-keeps : goal.returns-clause-keeps
 returns-clause-keeps g c =
     let b = c.args.self.now in
-    nothing_recorded g.F.Field.ring g.F.PartialEq.eq g.EF.ExtensionField.coefficients g.met.F.Field.eq_is b.pool (fixed_by b.selectors b.entries.base.layout) (lists_of b.constraints) (lists_of b.constraints) refl
+    nothing_recorded g.met.EF.ExtensionField.laws b.pool (fixed_by b.selectors b.entries.base.layout) (lists_of b.constraints) (lists_of b.constraints) refl

@@ -10,4 +10,4 @@ returns g c =
     let over = g.EF.ExtensionField.over in
     let zero = is_zero_at g.F.Field.ring over g.F.PartialEq.eq g.EF.PartialEq.eq in
     logged_asserted zero debug_row (λ d. d.constraint_index) (λ d. d.failures.items) _ c.eq.result c.log.ensures.keeps c.log.result c.log.ensures.ok c.log.ensures.err_count c.log.ensures.err c.log.ensures.refused
-    (base_tested g.F.Field.ring over g.EF.ExtensionField.coefficients g.F.PartialEq.eq g.EF.PartialEq.eq (debug_row c.args.self.now) c.args.x c.eq.result (c.eq.ensures ∙ ap (λ w. g.F.PartialEq.eq c.args.x w) (c.ZERO.ensures ∙ g.met.F.Field.zero_is)))
+    (base_tested g.F.Field.ring over g.EF.ExtensionField.basis g.F.PartialEq.eq g.EF.PartialEq.eq (debug_row c.args.self.now) c.args.x c.eq.result (c.eq.ensures ∙ ap (λ w. g.F.PartialEq.eq c.args.x w) (c.ZERO.ensures ∙ g.met.F.Field.zero_is)))

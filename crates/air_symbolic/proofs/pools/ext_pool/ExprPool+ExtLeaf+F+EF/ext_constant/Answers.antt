@@ -5,6 +5,6 @@ use Rattle.air_symbolic.proofs.pools.ext_pool.ExprPool+ExtLeaf+F+EF.ext_constant
 
 pub returns-clause-made : goal.returns-clause-made
 returns-clause-made g c =
-    let reads = ext_reads g.F.Field.ring g.F.PartialEq.eq g.EF.ExtensionField.coefficients in
+    let reads = ext_reads g.EF.ExtensionField.basis in
     let e = c.leaf.ensures in
     IfOk-weaker _ _ _ (λ z m. made-leaf g.F.Field.ring reads c.leaf.new.self _ z (e.grown.pool c.requires) m) e.made

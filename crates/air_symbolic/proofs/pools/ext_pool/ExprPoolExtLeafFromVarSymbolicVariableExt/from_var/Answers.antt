@@ -8,5 +8,5 @@ returns-clause-extended g c = c.variable.ensures.grown
 
 pub returns-clause-made : goal.returns-clause-made
 returns-clause-made g c =
-    let reads = ext_reads g.F.Field.ring g.F.PartialEq.eq g.EF.ExtensionField.coefficients in
+    let reads = ext_reads g.EF.ExtensionField.basis in
     IfOk-weaker _ _ _ (λ z. made-equal g.F.Field.ring reads c.variable.new.self _ z) c.variable.ensures.made

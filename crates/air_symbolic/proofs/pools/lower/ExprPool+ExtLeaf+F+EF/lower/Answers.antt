@@ -16,7 +16,7 @@ lower_mark-requires g c =
       pool = h.grown.pool c.requires.pool;
       ready =
           subst (λ t. IfSome c.mark-item.result (CanLower s t)) (sym c.deref.ensures.value)
-          (mark-can-lower (ext_reads g.F.Field.ring g.F.PartialEq.eq g.EF.ExtensionField.coefficients p.0) p c.args.id c.args.marks.now c.requires.marked s c.loop-mark.table.items c.loop-mark.mark-index c.mark-item.result
+          (mark-can-lower (ext_reads g.EF.ExtensionField.basis p.0) p c.args.id c.args.marks.now c.requires.marked s c.loop-mark.table.items c.loop-mark.mark-index c.mark-item.result
           c.requires.pool.nodes h.same_nodes c.requires.base_only h.made (omega (arith, c.loop-mark-test.true)) c.mark-item.is);
     }
 
@@ -28,22 +28,22 @@ loop-mark-preserved g c =
     let h = c.loop-mark.invariant in
     record {
       same_nodes = c.lower_mark.ensures.same_nodes ∙ h.same_nodes;
-      grown = (ext_pool_laws g.F.Field.ring g.F.PartialEq.eq g.EF.ExtensionField.coefficients g.met.F.Field.eq_is).joined p s t h.grown c.lower_mark.ensures.grown;
+      grown = (ext_pool_laws g.met.EF.ExtensionField.laws).joined p s t h.grown c.lower_mark.ensures.grown;
       places = let e = length-append c.loop-mark.table.items (c.in_ok-made.made ∷ []) in rw c.in_ok-push.ensures.items (omega (arith, e, h.places));
       made =
-          more-lowered (ext_reads g.F.Field.ring g.F.PartialEq.eq g.EF.ExtensionField.coefficients p.0) p c.args.id c.args.marks.now c.requires.marked
-          g.F.Field.ring g.F.PartialEq.eq g.EF.ExtensionField.coefficients s t c.loop-mark.table.items _ c.loop-mark.mark-index c.mark-item.result c.in_ok-made.made
+          more-lowered (ext_reads g.EF.ExtensionField.basis p.0) p c.args.id c.args.marks.now c.requires.marked
+          g.F.Field.ring g.EF.ExtensionField.basis s t c.loop-mark.table.items _ c.loop-mark.mark-index c.mark-item.result c.in_ok-made.made
           (h.grown.pool c.requires.pool) c.lower_mark.ensures.grown c.lower_mark.ensures.same_nodes h.same_nodes
           (omega (arith, c.loop-mark-test.true)) c.mark-item.is h.places c.in_ok-push.ensures.items h.made c.in_ok-made.ensures.made;
     }
 
 pub returns-in_err-made-clause-grown : goal.returns-in_err-made-clause-grown
 returns-in_err-made-clause-grown g c =
-    (ext_pool_laws g.F.Field.ring g.F.PartialEq.eq g.EF.ExtensionField.coefficients g.met.F.Field.eq_is).joined c.args.self.now c.loop-mark.self c.lower_mark.new.self c.loop-mark.invariant.grown c.lower_mark.ensures.grown
+    (ext_pool_laws g.met.EF.ExtensionField.laws).joined c.args.self.now c.loop-mark.self c.lower_mark.new.self c.loop-mark.invariant.grown c.lower_mark.ensures.grown
 
 pub returns-in_err-push-clause-grown : goal.returns-in_err-push-clause-grown
 returns-in_err-push-clause-grown g c =
-    (ext_pool_laws g.F.Field.ring g.F.PartialEq.eq g.EF.ExtensionField.coefficients g.met.F.Field.eq_is).joined c.args.self.now c.loop-mark.self c.lower_mark.new.self c.loop-mark.invariant.grown c.lower_mark.ensures.grown
+    (ext_pool_laws g.met.EF.ExtensionField.laws).joined c.args.self.now c.loop-mark.self c.lower_mark.new.self c.loop-mark.invariant.grown c.lower_mark.ensures.grown
 
 pub lowered_at-requires : goal.lowered_at-requires
 lowered_at-requires g c =
@@ -69,5 +69,5 @@ returns-clause-made g c =
     let below : id < c.loop-mark.mark-index = omega (arith, c.requires.here, reach.places, c.loop-mark-test.false) in
     let at : get_or c.loop-mark.table.items id None ≡ Some c.lowered_at.result =
     subst (λ t. get_or t id None ≡ Some c.lowered_at.result) c.as_slice.ensures.value c.lowered_at.ensures in
-    lowered-at-first g.F.Field.ring g.F.PartialEq.eq g.EF.ExtensionField.coefficients p s c.loop-mark.table.items id c.lowered_at.result c.requires.pool h.grown h.same_nodes c.requires.here
+    lowered-at-first g.F.Field.ring g.EF.ExtensionField.basis p s c.loop-mark.table.items id c.lowered_at.result c.requires.pool h.grown h.same_nodes c.requires.here
     (h.made id below (reach.roots_marked 0 id (omega arith))) at

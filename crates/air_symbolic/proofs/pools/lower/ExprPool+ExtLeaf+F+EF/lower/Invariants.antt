@@ -9,7 +9,7 @@ use Rattle.air_symbolic.proofs.pools.lower.ExprPool+ExtLeaf+F+EF.lower.Given as 
 abbrev pub invariant-loop-mark : goal.invariant-loop-mark
 invariant-loop-mark g l = record {
   same_nodes : l.self.1 ≡ l.initial.self.1;
-  grown : Grown ext_grows (ext_reads g.F.Field.ring g.F.PartialEq.eq g.EF.ExtensionField.coefficients) l.initial.self l.self;
+  grown : Grown ext_grows (ext_reads g.EF.ExtensionField.basis) l.initial.self l.self;
   places : length l.table.items ≡ l.mark-index;
   made : (i : ℕ) → i < l.mark-index → Marked l.marks i → LoweredAt l.self l.table.items i;
 }

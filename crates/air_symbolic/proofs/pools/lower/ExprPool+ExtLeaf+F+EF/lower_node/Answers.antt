@@ -16,7 +16,7 @@ insert-requires g c =
 
 pub returns-in-Ok-clause-grown : goal.returns-in-Ok-clause-grown
 returns-in-Ok-clause-grown g c =
-    base_lent_from g.F.Field.ring g.F.PartialEq.eq g.EF.ExtensionField.coefficients g.met.F.Field.eq_is c.args.self.now c.base_mut.result.now c.insert.new.self c.base_mut.ensures.value c.insert.ensures.grown
+    base_lent_from g.met.EF.ExtensionField.laws c.args.self.now c.base_mut.result.now c.insert.new.self c.base_mut.ensures.value c.insert.ensures.grown
 
 pub returns-in-Ok-clause-made : goal.returns-in-Ok-clause-made
 returns-in-Ok-clause-made g c =
@@ -25,4 +25,4 @@ returns-in-Ok-clause-made g c =
 
 pub returns-in-Err-clause-grown : goal.returns-in-Err-clause-grown
 returns-in-Err-clause-grown g c =
-    (ext_pool_laws g.F.Field.ring g.F.PartialEq.eq g.EF.ExtensionField.coefficients g.met.F.Field.eq_is).same c.args.self.now
+    (ext_pool_laws g.met.EF.ExtensionField.laws).same c.args.self.now
