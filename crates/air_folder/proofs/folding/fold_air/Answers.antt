@@ -13,7 +13,7 @@ returns-clause-folded g c =
     let d = folder_row c.args.folder.now in
     let ts = (g.A.BaseAir.declaration c.args.air.now).declared in
     let values = values_in over (folder_leaves over d) ts in
-    folded_air g.F.Field.ring g.F.PartialEq.eq over g.EF.ExtensionField.basis d ts
+    folded_air g.F.Field.ring over g.EF.ExtensionField.basis d ts
     record { recorded = c.in_ok-recorded.recorded; layout = c.in_ok-places.places; accumulator = c.accumulator.result }
     c.in_ok-recorded.ensures.base c.in_ok-recorded.ensures.ext c.in_ok-places.ensures.places
     (fold_from_zero over.ring d.alpha values c.args.folder.now.accumulator c.requires.from_zero c.eval.new.builder.accumulator c.accumulator.result c.in_ok-eval.ensures.ok.folded c.accumulator.ensures)
