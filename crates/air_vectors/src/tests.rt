@@ -1,55 +1,25 @@
-//! Each public function once, on an AIR of two columns.
-mod airs;
+//! Each public function of checks and reports once, on an AIR of two columns.
 mod ample_memory;
 mod audits;
 mod checks;
-mod degrees;
 mod differing;
 mod extension;
-mod filters;
-mod fixtures;
-mod flat_airs;
-mod folds;
 mod handed;
 mod labels;
-mod layouts;
-mod recorded_airs;
-mod recordings;
-mod spellings;
 mod traces;
-mod trees;
-mod weights;
-mod words;
 
-use crate::tests::filters::assert_zero_under;
-use crate::tests::fixtures::{
-    RowBuilder, assert_listed, assert_places, assert_unlabelled, column, columns, inferred,
-    main_layout, make_products, matrix, missing_column, number, own_layout, recorded_list,
-    recording_builder, report_of,
+use crate::filters::assert_zero_under;
+use crate::fixtures::{
+    RowBuilder, column, has_places, is_unlabelled, make_products, matrix, missing_column, number,
+    report_of,
 };
 use p3_air::{
-    AirBuilder, AirError, AirLayout, BabyBear, BaseEntry, DebugConstraintBuilder, Field,
-    RowMajorMatrixView, SymbolicAirBuilder, SymbolicVariable, ViewPair, WindowAccess,
-    constraint_degree_from_poly_degree,
+    AirBuilder, AirError, BabyBear, DebugConstraintBuilder, Field, RowMajorMatrixView, ViewPair,
+    WindowAccess,
 };
 use std::alloc::Global;
 use std::process::Abort;
 use std::test::Fail;
-
-/// The variables that a symbolic builder lends for columns of the main trace, at the current and at the next row.
-fn lent_variables(
-    builder: &SymbolicAirBuilder<BabyBear, BabyBear>,
-    column: usize,
-) -> Result<
-    (
-        Option<SymbolicVariable<BabyBear>>,
-        Option<SymbolicVariable<BabyBear>>,
-    ),
-    AirError,
-> {
-    let window = builder.main()?;
-    Ok((window.current(column), window.next(column)))
-}
 
 #[test]
 fn reports_rows_and_places_in_order(rt: HostRuntime) -> Result<(), Fail> {
@@ -66,8 +36,8 @@ fn reports_rows_and_places_in_order(rt: HostRuntime) -> Result<(), Fail> {
     ];
     for (cap, shown, constraints) in rows {
         let report = report_of(rt.alloc(), &make_products(rt.alloc()), &main, &public, cap)?;
-        assert_places(&rt, &report.failures, shown);
-        assert_unlabelled(&rt, &report.failures);
+        assert!(rt; has_places(&report.failures, shown));
+        assert!(rt; is_unlabelled(&report.failures));
         assert_eq!(rt; report.total_rows, 3);
         assert_eq!(rt;
             report.total_constraints_per_row,
@@ -95,67 +65,6 @@ fn names_the_entry_that_is_missing(rt: HostRuntime) -> Result<(), Fail> {
     let narrow = matrix(rt.alloc(), &[0, 0], 1)?;
     let checked = report_of(rt.alloc(), &make_products(rt.alloc()), &narrow, &[], None);
     assert_eq!(rt; checked.err(), Some(missing_column(1)));
-    Ok(())
-}
-
-#[test]
-fn records_one_expression_for_each_place(rt: HostRuntime) -> Result<(), Fail> {
-    let air = make_products(rt.alloc());
-    let layout = own_layout(&air);
-    assert_eq!(rt;
-        layout,
-        AirLayout {
-            preprocessed_width: 0,
-            main_width: 2,
-            num_public_values: 1,
-            permutation_width: 0,
-            num_permutation_challenges: 0,
-            num_permutation_values: 0,
-            num_periodic_columns: 0,
-        }
-    );
-    let listed = recorded_list(rt.alloc(), &air, layout)?;
-    let trees = ["(main0[0] * main0[1])", "main1[0]"];
-    assert_listed(&rt, &listed, &trees, &[2, 1]);
-    Ok(())
-}
-
-#[test]
-fn infers_the_degree(rt: HostRuntime) -> Result<(), Fail> {
-    for (poly_degree, trace_len, degree) in [
-        (0, 8, 0),
-        (7, 8, 1),
-        (8, 8, 1),
-        (14, 8, 2),
-        (15, 8, 2),
-        (16, 8, 3),
-        (2, 2, 1),
-        (2, 0, 1),
-    ] {
-        assert_eq!(rt;
-            constraint_degree_from_poly_degree(poly_degree, trace_len),
-            degree
-        );
-    }
-    Ok(())
-}
-
-#[test]
-fn periodic_columns_leave_out_the_cached_degree(rt: HostRuntime) -> Result<(), Fail> {
-    let cases: [(&[usize], usize, usize); 6] = [
-        (&[], 0, 2),
-        (&[], 1, 2),
-        (&[], 2, 2),
-        (&[], 8, 2),
-        (&[1], 1, 0),
-        (&[1], 2, 1),
-    ];
-    for (lengths, trace_len, degree) in cases {
-        let mut air = make_products(rt.alloc());
-        air.periodic = columns(rt.alloc(), lengths)?;
-        let inferred = inferred(rt.alloc(), &air, trace_len)?;
-        assert_eq!(rt; inferred, degree, "{trace_len} rows, periods {lengths:?}");
-    }
     Ok(())
 }
 
@@ -265,67 +174,5 @@ fn evaluates_one_row(rt: HostRuntime) -> Result<(), Fail> {
         text.as_str(),
         "ConstraintFailure { row: 9, constraint: 1, label: None }"
     );
-    Ok(())
-}
-
-/// The variable that was found is that of this place.
-fn assert_lent(
-    rt: &impl Abort,
-    found: Option<SymbolicVariable<BabyBear>>,
-    entry: BaseEntry,
-    index: usize,
-) {
-    assert_eq!(rt; found, Some(SymbolicVariable::new(entry, index)));
-}
-
-/// The builder lends the variables of column 1 at this row and of column 0 at the next one, and none of column 2.
-fn assert_main_lent(
-    rt: &impl Abort,
-    builder: &SymbolicAirBuilder<BabyBear, BabyBear>,
-) -> Result<(), Fail> {
-    let (current, _) = lent_variables(builder, 1)?;
-    assert_lent(rt, current, BaseEntry::Main { offset: 0 }, 1);
-    let (_, next) = lent_variables(builder, 0)?;
-    assert_lent(rt, next, BaseEntry::Main { offset: 1 }, 0);
-    let (current, _) = lent_variables(builder, 2)?;
-    assert!(rt; current.is_none());
-    Ok(())
-}
-
-/// The builder lends the variables of the first public value, preprocessed column and periodic column.
-fn assert_beside_lent(rt: &impl Abort, builder: &SymbolicAirBuilder<BabyBear, BabyBear>) {
-    let public = [SymbolicVariable::new(BaseEntry::Public, 0)];
-    assert_eq!(rt; builder.public_values(), public.as_slice());
-    let window = builder.preprocessed();
-    let before = BaseEntry::Preprocessed { offset: 0 };
-    let after = BaseEntry::Preprocessed { offset: 1 };
-    assert_lent(rt, window.current(0), before, 0);
-    assert_lent(rt, window.next(0), after, 0);
-    let periodic = [SymbolicVariable::new(BaseEntry::Periodic, 0)];
-    assert_eq!(rt; builder.periodic_values(), periodic.as_slice());
-}
-
-#[test]
-fn lends_variables(rt: HostRuntime) -> Result<(), Fail> {
-    let layout = AirLayout {
-        preprocessed_width: 1,
-        num_periodic_columns: 1,
-        ..own_layout(&make_products(rt.alloc()))
-    };
-    let builder = recording_builder(rt.alloc(), layout)?;
-    assert_beside_lent(&rt, &builder);
-    assert_main_lent(&rt, &builder)
-}
-
-#[test]
-fn the_window_has_each_column_at_both_rows(rt: HostRuntime) -> Result<(), Fail> {
-    let builder = recording_builder(rt.alloc(), main_layout(4))?;
-    for column in 0..4 {
-        let (current, next) = lent_variables(&builder, column)?;
-        assert_lent(&rt, current, BaseEntry::Main { offset: 0 }, column);
-        assert_lent(&rt, next, BaseEntry::Main { offset: 1 }, column);
-    }
-    let (current, _) = lent_variables(&builder, 4)?;
-    assert!(rt; current.is_none());
     Ok(())
 }

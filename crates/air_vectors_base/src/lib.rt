@@ -1,5 +1,5 @@
-//! Worked rows of fields, matrices, rings, variables, pools, builders, windows, names and boundary cells: the tests of
-//! what stands below the recording and the report, over public items alone.
+//! Worked rows of fields, matrices, rings, builders, filters, gadgets, words, windows, names and boundary cells: the
+//! tests of what stands below the recording and the report, over public items alone.
 #![tactic(auto)]
 
 #[cfg(test)]

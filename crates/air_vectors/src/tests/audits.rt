@@ -2,9 +2,9 @@
 ghost use Rattle.std.specs.Prelude.{IfOk};
 ghost use Rattle.air_symbolic.specs.Pools.{IsPool};
 
-use crate::tests::airs::{Constraints, PlainAir, plain_air};
-use crate::tests::fixtures::{
-    SHORT_TABLE, assert_labels, assert_listed, assert_places, listed_of, make_products, matrix,
+use crate::airs::{Constraints, PlainAir, plain_air};
+use crate::fixtures::{
+    SHORT_TABLE, has_labels, has_places, is_listed, listed_of, make_products, matrix,
     missing_column, number, odd_period, value_columns,
 };
 use p3_air::boundary::{BoundaryEnd, BoundaryIoError, BoundaryPublic};
@@ -51,11 +51,11 @@ fn audits_what_is_beside_a_trace(rt: HostRuntime) -> Result<(), Fail> {
     let audit = audit_of(alloc, &air, &main, &[number(7)], 0)?;
     let cell = "boundary-IO cell in column 0 does not hold public value 0";
     assert_eq!(rt; audit.report.total_constraints_per_row, 2);
-    assert_places(&rt, &audit.report.failures, &[(1, 1), (2, 0), (3, 2)]);
-    assert_labels(&rt, &audit.report.failures, &[None, None, Some(cell)]);
+    assert!(rt; has_places(&audit.report.failures, &[(1, 1), (2, 0), (3, 2)]));
+    assert!(rt; has_labels(&audit.report.failures, &[None, None, Some(cell)]));
     assert_eq!(rt; audit.report.total_rows, 4);
     let trees = ["(main0[0] - periodic[0])", "(main0[0] * table1[0])"];
-    assert_listed(&rt, &listed_of(alloc, &audit.recorded)?, &trees, &[1, 2]);
+    assert!(rt; is_listed(&listed_of(alloc, &audit.recorded)?, &trees, &[1, 2]));
     assert_eq!(rt; audit.layout.base_indices.as_slice(), [0, 1].as_slice());
     assert!(rt; audit.layout.ext_indices.is_empty());
     assert_eq!(rt; audit.degree, 2);
@@ -71,7 +71,7 @@ fn an_audit_counts_the_transition_selector(rt: HostRuntime) -> Result<(), Fail> 
     for (transition_weight, degree) in [(0, 1), (1, 2)] {
         let audit = audit_of(alloc, &air, &main, &public, transition_weight)?;
         assert_eq!(rt; audit.report.total_constraints_per_row, 2);
-        assert_places(&rt, &audit.report.failures, &[]);
+        assert!(rt; has_places(&audit.report.failures, &[]));
         assert_eq!(rt; audit.degree, degree);
     }
     Ok(())
@@ -110,11 +110,7 @@ fn audits_a_trace(rt: HostRuntime) -> Result<(), Fail> {
     assert_eq!(rt; audit.degree, 2);
     assert_eq!(rt; audit.report.total_rows, 3);
     assert_eq!(rt; audit.report.total_constraints_per_row, 2);
-    assert_places(
-        &rt,
-        &audit.report.failures,
-        &[(0, 0), (1, 1), (2, 0), (2, 1)],
-    );
+    assert!(rt; has_places(&audit.report.failures, &[(0, 0), (1, 1), (2, 0), (2, 1)]));
     Ok(())
 }
 
@@ -141,7 +137,7 @@ fn audits_a_trace_under_a_cap(rt: HostRuntime) -> Result<(), Fail> {
     ];
     for (cap, places, constraints) in rows {
         let audit = capped_audit_of(rt.alloc(), &main, &public, cap)?;
-        assert_places(&rt, &audit.report.failures, places);
+        assert!(rt; has_places(&audit.report.failures, places));
         assert_eq!(rt; audit.report.total_rows, 3);
         assert_eq!(rt;
             audit.report.total_constraints_per_row,

@@ -1,8 +1,8 @@
 //! Checks of a whole trace: shapes, boundary cells and the cap, on an AIR without constraints.
-use crate::tests::airs::{Constraints, PlainAir, plain_air};
-use crate::tests::fixtures::{
-    SHORT_TABLE, assert_fault_refused, assert_labels, assert_places, columns, first_fault,
-    long_period, matrix, number, odd_period, report_of, zeros,
+use crate::airs::{Constraints, PlainAir, plain_air};
+use crate::fixtures::{
+    SHORT_TABLE, columns, first_fault, has_labels, has_places, is_refused, long_period, matrix,
+    number, odd_period, report_of, zeros,
 };
 use p3_air::boundary::{BoundaryEnd, BoundaryIoError, BoundaryPublic};
 use p3_air::{AirError, BabyBear, CheckError, ConstraintReport};
@@ -62,7 +62,7 @@ fn assert_shape_refused(
     let air = make_tables(alloc, table, lengths, &[(5, BoundaryEnd::First, 0)])?;
     let main = zeros(alloc, rows, 2)?;
     assert_report_refused(rt, report_of(alloc, &air, &main, &[], None), refused);
-    assert_fault_refused(rt, first_fault(alloc, &air, &main, &[]), refused);
+    assert!(rt; is_refused(first_fault(alloc, &air, &main, &[]), refused));
     Ok(())
 }
 
@@ -92,7 +92,7 @@ fn assert_shape_fits(
     let air = make_tables(alloc, table, lengths, &[])?;
     let main = zeros(alloc, rows, 2)?;
     let report = report_of(alloc, &air, &main, &[], None)?;
-    assert_places(rt, &report.failures, &[]);
+    assert!(rt; has_places(&report.failures, &[]));
     assert_eq!(rt; report.total_rows, rows);
     assert_eq!(rt; report.total_constraints_per_row, 0);
     assert!(rt; first_fault(alloc, &air, &main, &[]).is_ok());
@@ -131,8 +131,8 @@ fn cells_that_differ_are_listed(rt: HostRuntime) -> Result<(), Fail> {
     ];
     for (public, cap, places, labels) in cases {
         let report = report_of(alloc, &air, &main, public, cap)?;
-        assert_places(&rt, &report.failures, places);
-        assert_labels(&rt, &report.failures, labels);
+        assert!(rt; has_places(&report.failures, places));
+        assert!(rt; has_labels(&report.failures, labels));
     }
     assert_mismatch(&rt, first_fault(alloc, &air, &main, &first), (0, 0));
     assert_mismatch(&rt, first_fault(alloc, &air, &main, &both), (0, 0));
@@ -160,7 +160,7 @@ fn cells_that_do_not_fit_are_refused(rt: HostRuntime) -> Result<(), Fail> {
     let refused = AirError::Boundary(error);
     let report = report_of(alloc, &past, &main, &one, Some(0));
     assert_report_refused(&rt, report, refused);
-    assert_fault_refused(&rt, first_fault(alloc, &past, &empty, &one), refused);
+    assert!(rt; is_refused(first_fault(alloc, &past, &empty, &one), refused));
     let text = format!(in alloc; "{}", CheckError::Refused(AirError::EmptyTrace))?;
     assert_eq!(rt;
         text.as_str(),

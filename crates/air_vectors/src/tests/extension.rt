@@ -1,7 +1,7 @@
 //! One row with permutation data, and AIRs with constraints over the extension.
-use crate::tests::airs::{ExtAir, ExtConstraints, ext_air};
-use crate::tests::filters::assert_constant_ext_under;
-use crate::tests::fixtures::{assert_places, matrix, number, row_builder};
+use crate::airs::{ExtAir, ExtConstraints, ext_air};
+use crate::filters::assert_constant_ext_under;
+use crate::fixtures::{extension, has_places, matrix, number, row_builder};
 use p3_air::{
     Air, AirBuilder, AirError, AirLayout, BabyBear, BinomialExtensionField, ConstraintFailure,
     ConstraintReport, DebugConstraintBuilder, ExtEntry, ExtensionField, Field,
@@ -11,22 +11,6 @@ use p3_air::{
 use std::alloc::Global;
 use std::process::Abort;
 use std::test::Fail;
-
-/// A main trace of this width, with one permutation column, one challenge and one permutation value.
-pub fn permuted_layout(main_width: usize) -> AirLayout {
-    AirLayout {
-        main_width,
-        permutation_width: 1,
-        num_permutation_challenges: 1,
-        num_permutation_values: 1,
-        ..AirLayout::default()
-    }
-}
-
-/// The element with these coefficients, lowest first.
-pub fn extension(a: u32, b: u32, c: u32, d: u32) -> BinomialExtensionField {
-    BinomialExtensionField::from_basis_coefficients(&[number(a), number(b), number(c), number(d)])
-}
 
 /// A builder at a row of a trace with permutation data.
 type ExtRowBuilder<'a> = DebugConstraintBuilder<'a, BabyBear, BinomialExtensionField>;
@@ -78,7 +62,7 @@ fn assert_permuted_row(
     let air = ext_air(alloc, ExtConstraints::Permuted, 0);
     assert_eq!(rt; eval_on(&air, &mut builder).err(), refused);
     assert_eq!(rt; builder.has_failures(), !places.is_empty());
-    assert_places(rt, builder.failures(), places);
+    assert!(rt; has_places(builder.failures(), places));
 }
 
 #[test]
@@ -114,7 +98,7 @@ fn kinds_fail_at_their_places(rt: HostRuntime) -> Result<(), Fail> {
     ] {
         let mut builder = row(rt.alloc(), &main, &column, &challenges, values);
         eval_on(&ext_air(rt.alloc(), ExtConstraints::Mixed, 2), &mut builder)?;
-        assert_places(&rt, builder.failures(), places);
+        assert!(rt; has_places(builder.failures(), places));
     }
     Ok(())
 }
@@ -138,7 +122,7 @@ fn failures_over_the_extension_are_labelled(rt: HostRuntime) -> Result<(), Fail>
         zero_ext_named(&mut builder, extension(0, 0, 0, last), name)?;
     }
     zero(&mut builder, 1)?;
-    assert_places(&rt, builder.failures(), &[(2, 1), (2, 2)]);
+    assert!(rt; has_places(builder.failures(), &[(2, 1), (2, 2)]));
     assert_eq!(rt;
         builder.formatted_failures()?.as_str(),
         "[#1 \"fails\", #2]"
@@ -161,7 +145,7 @@ fn a_filter_multiplies_over_the_extension(rt: HostRuntime) -> Result<(), Fail> {
         let x = extension(0, 1, 0, 0);
         assert_constant_under(&mut builder, condition, x)?;
     }
-    assert_places(&rt, builder.failures(), &[(2, 0), (2, 2)]);
+    assert!(rt; has_places(builder.failures(), &[(2, 0), (2, 2)]));
     Ok(())
 }
 

@@ -1,9 +1,9 @@
 //! Labels of failures, their texts, and filters over the debug builder.
-use crate::tests::filters::{
+use crate::filters::{
     assert_zero_named_under, assert_zero_named_under_both, assert_zero_under,
     assert_zero_under_both,
 };
-use crate::tests::fixtures::{RowBuilder, number, recording_builder, row_builder};
+use crate::fixtures::{RowBuilder, number, recording_builder, row_builder};
 use p3_air::{
     AirBuilder, AirBuilderWithContext, AirError, AirLayout, AssertAllNamed, ConstraintFailure,
     ConstraintReport, Lazy, Name, NamedAirBuilder, NamespaceExt, PassthroughNamedAirBuilder,
