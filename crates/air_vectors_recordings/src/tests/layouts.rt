@@ -12,7 +12,7 @@ use std::alloc::Global;
 use std::test::Fail;
 
 fn default_layout() -> AirLayout
-    ensures { result ≡ air_layout (plain_declaration {ℕ} [] 0 0) }
+    ensures { result ≡ air_layout (plain_declaration {F = ℕ} [] 0 0) }
 {
     AirLayout::default()
 }
