@@ -1,18 +1,18 @@
 //! Each public function of checks and reports once, on an AIR of two columns.
 mod ample_memory;
-mod audits;
 mod checks;
-mod differing;
 mod extension;
-mod handed;
+mod filters;
 mod labels;
+mod reports;
 mod traces;
 
-use crate::filters::assert_zero_under;
-use crate::fixtures::{
-    RowBuilder, column, has_places, is_unlabelled, make_products, matrix, missing_column, number,
-    report_of,
-};
+use crate::tests::filters::assert_zero_under;
+use crate::tests::reports::{is_unlabelled, report_of};
+use air_fixtures::airs::make_products;
+use air_fixtures::answers::{has_places, missing_column};
+use air_fixtures::builders::RowBuilder;
+use air_fixtures::values::{column, matrix, number};
 use p3_air::{
     AirBuilder, AirError, BabyBear, DebugConstraintBuilder, Field, RowMajorMatrixView, ViewPair,
     WindowAccess,

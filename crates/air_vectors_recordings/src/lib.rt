@@ -1,4 +1,4 @@
-//! The tests of recordings, layouts, degrees, folds and the AIRs of lists and recordings, on the AIRs of air_vectors.
+//! The tests of recordings, layouts, degrees, audits, folds and the AIRs of lists and recordings.
 #![tactic(auto)]
 
 #[cfg(test)]

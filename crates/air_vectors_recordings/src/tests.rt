@@ -1,18 +1,24 @@
 //! Each public function of recordings and degrees once, on an AIR of two columns.
+mod audits;
 mod degrees;
+mod differing;
+mod filters;
 mod flat_airs;
 mod folds;
+mod handed;
 mod layouts;
+mod recorded;
 mod recorded_airs;
 mod recordings;
 mod spellings;
+mod trees;
 mod weights;
 mod words;
 
-use air_vectors::fixtures::{
-    columns, inferred, is_listed, main_layout, make_products, own_layout, recorded_list,
-    recording_builder,
-};
+use crate::tests::recorded::{inferred, is_listed, own_layout, recorded_list};
+use air_fixtures::airs::{main_layout, make_products};
+use air_fixtures::builders::recording_builder;
+use air_fixtures::values::columns;
 use p3_air::{
     AirBuilder, AirError, AirLayout, BabyBear, BaseEntry, SymbolicAirBuilder, SymbolicVariable,
     WindowAccess, constraint_degree_from_poly_degree,

@@ -1,14 +1,14 @@
 //! Which test makes each public call that can answer `Memory`, with ample memory, and finds another answer. `base`,
 //! `pools` and `recordings` are the crates air_vectors_base, air_vectors_pools and air_vectors_recordings, `check` is
-//! air_check; other files stand in this crate.
+//! air_check, and `fixtures` air_fixtures; other files stand in this crate.
 //!
 //! | call | made in |
 //! |---|---|
 //! | **fields and rings** | |
 //! | `ExtensionField::powers` | base: fields |
-//! | `constant`, `add`, `sub`, `neg`, `mul` of a pool that is a builder's ring | recordings: words; differing, by assertions |
+//! | `constant`, `add`, `sub`, `neg`, `mul` of a pool that is a builder's ring | recordings: words, differing |
 //! | `double`, `bool_check`, `xor`, `andn`, `mul_2exp_u64` of a pool | pools: bench (`in_ring`) |
-//! | `from_var` of a pool | recordings: words; differing |
+//! | `from_var` of a pool | recordings: words, differing |
 //! | `lift`, `ext_constant` of an extension pool | pools: ext_bench |
 //! | the rings of values refuse nothing | base: rings |
 //! | **pools** | |
@@ -27,14 +27,14 @@
 //! | **AIRs** | |
 //! | `periodic_values`, `periodic_columns_matrix` | base: airs |
 //! | `main_next_row_columns`, `preprocessed_next_row_columns` | base: airs |
-//! | `eval` | fixtures; recordings: recordings, folds: one for each builder |
+//! | `eval` | reports; recordings: recorded, recordings, folds: one for each builder |
 //! | **builders** | |
 //! | `main` of the symbolic builder; `permutation` | recordings: tests (`lent_variables`), recordings |
 //! | `is_first_row`, `is_last_row`, `is_transition` | tests, labels; of the symbolic builder through recordings: folds |
 //! | `is_transition_window` | base: filters, through `when_transition_window` |
 //! | `when`, `when_ne`, `when_transition_window` | base: filters; filters |
 //! | `when_first_row`, `when_last_row`, `when_transition` | base: filters |
-//! | `assert_zero`, `assert_one`, `assert_eq`, `assert_bool` | base: assertion; recordings: words; labels, differing |
+//! | `assert_zero`, `assert_one`, `assert_eq`, `assert_bool` | base: assertion; labels; recordings: words, differing |
 //! | `assert_zeros`, `assert_bools`, `assert_eq_arrays`, and through them those of slices | base: assertion |
 //! | `assert_zero_ext`, `assert_one_ext`, `assert_eq_ext`, `assert_zeros_ext` | base: assertion |
 //! | `assert_zero_named`, `assert_one_named`, `assert_eq_named`, `assert_bool_named` | base: assertion; labels |
@@ -42,21 +42,21 @@
 //! | `assert_zero_ext_named`, `assert_one_ext_named`, `assert_eq_ext_named` | base: assertion; extension |
 //! | `assert_zero_unlabelled` | labels |
 //! | `evaluate` of a text, a `Lazy` and a `Joined` | base: names |
-//! | an author's expressions and constraints, by `assert_all` | airs |
+//! | an author's expressions and constraints, by `assert_all` | fixtures: airs |
 //! | **bits and words** | |
 //! | `pack_bits_le`; each maker of a virtual column, `apply`, `clone` | base: gadgets |
 //! | `add2`, `add3`, `xor_32_shift` | base: words; recordings: words |
 //! | **recordings** | |
-//! | `SymbolicAirBuilder::new`, `constraint_layout` | fixtures (`recording_builder`); recordings: recordings |
-//! | `get_symbolic_constraints`, `get_symbolic_constraints_extension` | fixtures; recordings: recordings |
+//! | `SymbolicAirBuilder::new`, `constraint_layout` | fixtures: builders (`recording_builder`); recordings: recordings |
+//! | `get_symbolic_constraints`, `get_symbolic_constraints_extension` | recordings: recorded, recordings |
 //! | `get_all_symbolic_constraints` | recordings: recordings |
-//! | `get_constraint_layout`, `get_max_constraint_degree`, `get_max_constraint_degree_extension` | fixtures; recordings: recordings |
+//! | `get_constraint_layout`, `get_max_constraint_degree`, `get_max_constraint_degree_extension` | recordings: recorded, recordings |
 //! | `decompose_alpha` | recordings: layouts |
 //! | `resolve`; `resolve_all`, through `FlatAir` | recordings: flat_airs |
 //! | `recorded_air` | recordings: recorded_airs |
 //! | **checks** | |
-//! | `check_constraints`, `check_all_constraints` | fixtures, for checks and traces; check: generated |
+//! | `check_constraints`, `check_all_constraints` | reports, for checks and traces; check: generated |
 //! | `formatted_failures`, `clone` of a failure and of a report | labels |
-//! | `audit_air`, `audit_air_with_cap` | audits |
+//! | `audit_air`, `audit_air_with_cap` | recordings: audits |
 //! | `fold_air` | recordings: folds |
 //! | `run` of the program | check: answers |

@@ -1,9 +1,8 @@
 //! Checks of a whole trace: shapes, boundary cells and the cap, on an AIR without constraints.
-use crate::airs::{Constraints, PlainAir, plain_air};
-use crate::fixtures::{
-    SHORT_TABLE, columns, first_fault, has_labels, has_places, is_refused, long_period, matrix,
-    number, odd_period, report_of, zeros,
-};
+use crate::tests::reports::{first_fault, has_labels, is_refused, long_period, report_of};
+use air_fixtures::airs::{Constraints, PlainAir, plain_air};
+use air_fixtures::answers::{SHORT_TABLE, has_places, odd_period};
+use air_fixtures::values::{columns, matrix, number, zeros};
 use p3_air::boundary::{BoundaryEnd, BoundaryIoError, BoundaryPublic};
 use p3_air::{AirError, BabyBear, CheckError, ConstraintReport};
 use std::alloc::Global;

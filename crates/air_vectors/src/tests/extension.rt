@@ -1,7 +1,9 @@
 //! One row with permutation data, and AIRs with constraints over the extension.
-use crate::airs::{ExtAir, ExtConstraints, ext_air};
-use crate::filters::assert_constant_ext_under;
-use crate::fixtures::{extension, has_places, matrix, number, row_builder};
+use crate::tests::filters::assert_zero_ext_under;
+use air_fixtures::airs::{ExtAir, ExtConstraints, ext_air};
+use air_fixtures::answers::has_places;
+use air_fixtures::builders::row_builder;
+use air_fixtures::values::{extension, matrix, number};
 use p3_air::{
     Air, AirBuilder, AirError, AirLayout, BabyBear, BinomialExtensionField, ConstraintFailure,
     ConstraintReport, DebugConstraintBuilder, ExtEntry, ExtensionField, Field,
@@ -135,7 +137,7 @@ fn assert_constant_under(
     condition: u32,
     x: BinomialExtensionField,
 ) -> Result<(), AirError> {
-    assert_constant_ext_under(builder, number(condition), x)
+    assert_zero_ext_under(builder, number(condition), x)
 }
 
 #[test]

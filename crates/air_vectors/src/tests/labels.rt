@@ -1,9 +1,10 @@
 //! Labels of failures, their texts, and filters over the debug builder.
-use crate::filters::{
+use crate::tests::filters::{
     assert_zero_named_under, assert_zero_named_under_both, assert_zero_under,
     assert_zero_under_both,
 };
-use crate::fixtures::{RowBuilder, number, recording_builder, row_builder};
+use air_fixtures::builders::{RowBuilder, recording_builder, row_builder};
+use air_fixtures::values::number;
 use p3_air::{
     AirBuilder, AirBuilderWithContext, AirError, AirLayout, AssertAllNamed, ConstraintFailure,
     ConstraintReport, Lazy, Name, NamedAirBuilder, NamespaceExt, PassthroughNamedAirBuilder,

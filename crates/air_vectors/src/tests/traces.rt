@@ -1,9 +1,8 @@
 //! Checks of AIRs whose constraints read a periodic column, or the next row of a preprocessed table.
-use crate::airs::{Constraints, PlainAir, plain_air};
-use crate::fixtures::{
-    SHORT_TABLE, first_fault, is_refused, long_period, matrix, missing, odd_period, report_of,
-    value_columns, zeros,
-};
+use crate::tests::reports::{first_fault, is_refused, long_period, missing, report_of};
+use air_fixtures::airs::{Constraints, PlainAir, plain_air};
+use air_fixtures::answers::{SHORT_TABLE, odd_period};
+use air_fixtures::values::{matrix, value_columns, zeros};
 use p3_air::{AirError, BaseEntry, CheckError, ConstraintFailure, ConstraintReport};
 use std::alloc::Global;
 use std::process::Abort;

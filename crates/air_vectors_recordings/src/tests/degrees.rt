@@ -1,8 +1,9 @@
 //! Inferred degrees: selectors, periodic columns and short traces.
 ghost use Rattle.air_symbolic.specs.Pools.{IsPool};
 
-use air_vectors::airs::{Constraints, PlainAir, plain_air};
-use air_vectors::fixtures::{columns, inferred, main_layout, own_layout, record_of, recorded_list};
+use crate::tests::recorded::{inferred, own_layout, record_of, recorded_list};
+use air_fixtures::airs::{Constraints, PlainAir, main_layout, plain_air};
+use air_fixtures::values::columns;
 use p3_air::{AirError, BabyBear, BaseLeaf, Recorded, SymLeaf};
 use std::alloc::Global;
 use std::test::Fail;

@@ -3,9 +3,9 @@ ghost use Rattle.std.specs.Prelude.{◌<◌, length, IfOk};
 ghost use Rattle.air_symbolic.specs.BaseLeaves.{base_reads};
 ghost use Rattle.air_symbolic.specs.Pools.{IsPool};
 
-use air_vectors::fixtures::{
-    has_places, matrix, missing_column, number, odd_period, row_builder, value_columns,
-};
+use air_fixtures::answers::{has_places, missing_column, odd_period};
+use air_fixtures::builders::row_builder;
+use air_fixtures::values::{matrix, number, value_columns};
 use p3_air::boundary::{BoundaryEnd, BoundaryPublic};
 use p3_air::{
     AirError, Audit, BabyBear, BaseEntry, BaseLeaf, ExprId, ExprPool, FlatAir, RowMajorMatrix,

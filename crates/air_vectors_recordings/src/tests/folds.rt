@@ -2,10 +2,11 @@
 ghost use Rattle.std.specs.Prelude.{◌≡◌, length};
 ghost use Rattle.air_folder.specs.Hiding.{IsIncreasing};
 
+use crate::tests::filters::{assert_constant_ext_under, assert_zero_under};
+use crate::tests::recorded::permuted_layout;
+use air_fixtures::airs::{Constraints, ExtConstraints, PlainAir, ext_air, plain_air};
+use air_fixtures::values::extension;
 use air_folder::{ConstraintFolder, Folded, fold_air, hiding_alphas};
-use air_vectors::airs::{Constraints, ExtConstraints, PlainAir, ext_air, plain_air};
-use air_vectors::filters::{assert_constant_ext_under, assert_zero_under};
-use air_vectors::fixtures::{extension, permuted_layout};
 use p3_air::{
     Air, AirError, AirLayout, BabyBear, BinomialExtensionField, ExtensionField, Lazy,
     NamedAirBuilder, NamedExtensionBuilder, RowMajorMatrixView, ViewPair,

@@ -3,10 +3,10 @@ ghost use Rattle.std.specs.Prelude.{◌≡◌, ℕ, []};
 ghost use Rattle.air_builder.specs.Declaration.{plain_declaration};
 ghost use Rattle.air_recording.specs.Layouts.{air_layout};
 
+use crate::tests::recorded::own_layout;
 use air_builder::AirError;
 use air_field::{BabyBear, BinomialExtensionField, ExtensionField, Field};
-use air_vectors::airs::{Constraints, PlainAir, plain_air};
-use air_vectors::fixtures::own_layout;
+use air_fixtures::airs::{Constraints, PlainAir, plain_air};
 use p3_air::{AirLayout, ConstraintLayout};
 use std::alloc::Global;
 use std::test::Fail;

@@ -4,7 +4,10 @@ ghost use Rattle.air_symbolic.specs.BaseLeaves.{base_reads};
 ghost use Rattle.air_symbolic.specs.Pools.{IsPool};
 
 use crate::tests::flat_airs::flat_audit;
-use air_vectors::fixtures::{has_places, main_layout, matrix, recording_builder};
+use air_fixtures::airs::main_layout;
+use air_fixtures::answers::has_places;
+use air_fixtures::builders::recording_builder;
+use air_fixtures::values::matrix;
 use p3_air::author::{Boolean, Current, Equal, Next, Sum, Transition, When};
 use p3_air::{
     AirBuilder, AirError, BabyBear, ExprPool, FlatAir, Recorded, finish_recording, record_these,

@@ -1,13 +1,13 @@
 //! Recordings, the places of constraints, and the variables that the symbolic builder lends over an extension.
 ghost use Rattle.std.specs.Prelude.{IfOk};
 
+use crate::tests::filters::assert_constant_ext_under;
+use crate::tests::recorded::{own_layout, permuted_layout, recorded_list};
+use crate::tests::trees::product_of;
+use air_fixtures::airs::{ExtAir, ExtConstraints, PlainAir, ext_air, make_products};
+use air_fixtures::builders::recording_builder;
+use air_fixtures::values::extension;
 use air_symbolic::{ExprId, ExtLeaf};
-use air_vectors::airs::{ExtAir, ExtConstraints, PlainAir, ext_air};
-use air_vectors::filters::{assert_constant_ext_under, constant_after_both};
-use air_vectors::fixtures::{
-    extension, make_products, own_layout, permuted_layout, recorded_list, recording_builder,
-};
-use air_vectors::trees::product_of;
 use p3_air::{
     Air, AirBuilder, AirError, AirLayout, BabyBear, BinomialExtensionField, ConstraintLayout,
     ExtEntry, ExtensionBuilder, ExtensionField, PermutationAirBuilder, SymbolicAirBuilder,
@@ -184,16 +184,6 @@ fn ext_builder(
         ⟦<SymbolicAirBuilder<BabyBear, BinomialExtensionField> as AirBuilder>⟧.ready }
 {
     SymbolicAirBuilder::new(alloc, layout)
-}
-
-// An equal expression has one number, so what is recorded is the constant 30 if it has that constant's number.
-#[test]
-fn nested_filters_are_recorded(rt: HostRuntime) -> Result<(), Fail> {
-    let mut builder = recording_builder(rt.alloc(), permuted_layout(0))?;
-    let [two, three, five, thirty] = [2, 3, 5, 30].map(BabyBear::new);
-    let thirty = constant_after_both(&mut builder, two, three, five, thirty)?;
-    assert_eq!(rt; builder.base_constraints(), [thirty].as_slice());
-    Ok(())
 }
 
 /// Asserts where a constant holds that one of the extension is zero, and leaves the builder ready.

@@ -1,6 +1,7 @@
 //! Inferred degrees in domains in which the transition selector has a weight.
-use air_vectors::airs::{Constraints, plain_air};
-use air_vectors::fixtures::{columns, weighted};
+use crate::tests::recorded::weighted;
+use air_fixtures::airs::{Constraints, plain_air};
+use air_fixtures::values::columns;
 use p3_air::AirError;
 use std::test::Fail;
 

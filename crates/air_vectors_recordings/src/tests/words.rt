@@ -4,8 +4,9 @@ ghost use Rattle.air_symbolic.specs.Pools.{IsPool};
 
 use air_builder::{AirBuilder, AirError};
 use air_field::{Algebra, BabyBear, FromVar};
+use air_fixtures::airs::main_layout;
+use air_fixtures::builders::recording_builder;
 use air_symbolic::{BaseEntry, BaseLeaf, ExprId, ExprPool, SymLeaf, SymbolicVariable};
-use air_vectors::fixtures::{main_layout, recording_builder};
 use p3_air::SymbolicAirBuilder;
 use p3_air::utils::{add2, add3, xor_32_shift};
 use std::alloc::Global;
