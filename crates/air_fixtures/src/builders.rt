@@ -16,6 +16,7 @@ pub fn recording_builder(
     layout: AirLayout,
 ) -> Result<SymbolicAirBuilder<BabyBear, BabyBear>, AirError>
     ensures ready { IfOk result ⟦<SymbolicAirBuilder<BabyBear, BabyBear> as AirBuilder>⟧.ready }
+    ensures layout { IfOk result (λ b. b.entries.base.layout ≡ layout) }
     ensures none { IfOk result (λ b. lists_of b.constraints ≡ no_lists) }
 {
     SymbolicAirBuilder::new(alloc, layout)
@@ -38,6 +39,12 @@ pub fn row_builder<'a>(
     ensures next { result.main.bottom.values.now ≡ next.now }
     ensures selectors { result.is_first_row ∷ result.is_last_row ∷ result.is_transition ∷ []
         ≡ classes selectors }
+    ensures public_values { result.public_values.now ≡ [] }
+    ensures preprocessed { result.preprocessed.current.now ≡ [] }
+    ensures preprocessed_next { result.preprocessed.next.now ≡ [] }
+    ensures periodic { result.periodic_row.items ≡ [] }
+    ensures counter { result.constraint_index ≡ 0 }
+    ensures failures { result.failures.items ≡ [] }
 {
     let [first, last, transition] = selectors.map(number);
     let none = RowMajorMatrixView::new_row(&[]);

@@ -3,7 +3,9 @@ mod ample_memory;
 mod checks;
 mod extension;
 mod filters;
+mod flat_airs;
 mod labels;
+mod recorded_airs;
 mod reports;
 mod traces;
 

@@ -1,4 +1,4 @@
-//! The tests of recordings, layouts, degrees, audits, folds and the AIRs of lists and recordings.
+//! The tests of recordings, layouts, degrees, audits and folds.
 #![tactic(auto)]
 
 #[cfg(test)]

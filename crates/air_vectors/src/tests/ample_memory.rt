@@ -52,8 +52,8 @@
 //! | `get_all_symbolic_constraints` | recordings: recordings |
 //! | `get_constraint_layout`, `get_max_constraint_degree`, `get_max_constraint_degree_extension` | recordings: recorded, recordings |
 //! | `decompose_alpha` | recordings: layouts |
-//! | `resolve`; `resolve_all`, through `FlatAir` | recordings: flat_airs |
-//! | `recorded_air` | recordings: recorded_airs |
+//! | `resolve`; `resolve_all`, through `FlatAir` | flat_airs |
+//! | `recorded_air` | recorded_airs |
 //! | **checks** | |
 //! | `check_constraints`, `check_all_constraints` | reports, for checks and traces; check: generated |
 //! | `formatted_failures`, `clone` of a failure and of a report | labels |
