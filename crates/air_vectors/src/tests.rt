@@ -1,7 +1,6 @@
 //! Each public function of checks and reports once, on an AIR of two columns.
 mod ample_memory;
 mod checks;
-mod extension;
 mod filters;
 mod flat_airs;
 mod labels;

@@ -2,12 +2,9 @@
 mod audits;
 mod degrees;
 mod differing;
-mod filters;
-mod folds;
 mod handed;
 mod layouts;
 mod recorded;
-mod recordings;
 mod spellings;
 mod trees;
 mod weights;
@@ -58,6 +55,22 @@ fn records_one_expression_for_each_place(rt: HostRuntime) -> Result<(), Fail> {
     let listed = recorded_list(rt.alloc(), &air, layout)?;
     let trees = ["(main0[0] * main0[1])", "main1[0]"];
     assert!(rt; is_listed(&listed, &trees, &[2, 1]));
+    Ok(())
+}
+
+#[test]
+fn compares_the_layout_first(rt: HostRuntime) -> Result<(), Fail> {
+    let air = make_products(rt.alloc());
+    let layout = AirLayout {
+        main_width: 3,
+        num_public_values: 2,
+        ..own_layout(&air)
+    };
+    let recorded = recorded_list(rt.alloc(), &air, layout);
+    assert_eq!(rt;
+        recorded.err(),
+        Some(AirError::LayoutMainWidth { layout: 3, air: 2 })
+    );
     Ok(())
 }
 

@@ -3,10 +3,7 @@ ghost use Rattle.std.specs.Prelude.{IfOk};
 
 use air_fixtures::airs::main_layout;
 use air_fixtures::builders::recording_builder;
-use p3_air::{
-    AirBuilder, AirError, Algebra, BabyBear, ExtensionBuilder, Field, Name, NamedAirBuilder,
-    RingError,
-};
+use p3_air::{AirBuilder, AirError, Algebra, BabyBear, Field, Name, NamedAirBuilder, RingError};
 use std::test::Fail;
 
 /// Asserts where a condition holds that `x` is zero.
@@ -73,20 +70,6 @@ pub(super) fn assert_zero_named_under<AB: NamedAirBuilder, N: Name>(
 {
     let mut filter = builder.when(condition)?;
     filter.assert_zero_named(x, name)
-}
-
-/// Asserts where a condition holds that `x` over the extension is zero.
-pub(super) fn assert_zero_ext_under<AB: ExtensionBuilder>(
-    builder: &mut AB,
-    condition: AB::Expr,
-    x: AB::ExprEF,
-) -> Result<(), AirError>
-    requires ready { AB.ready builder.old }
-    requires condition_in { AB.Ring.has (AB.ring_of builder.old) condition }
-    requires x_in { AB.ExtRing.has (AB.ext_ring_of builder.old) x }
-{
-    let mut filter = builder.when(condition)?;
-    filter.assert_zero_ext(x)
 }
 
 /// Three constants of a ring.

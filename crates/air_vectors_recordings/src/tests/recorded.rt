@@ -15,17 +15,6 @@ pub(super) fn own_layout(air: &PlainAir) -> AirLayout {
     AirLayout::from_air::<BabyBear, PlainAir>(air)
 }
 
-/// A main trace of this width, with one permutation column, one challenge and one permutation value.
-pub(super) fn permuted_layout(main_width: usize) -> AirLayout {
-    AirLayout {
-        main_width,
-        permutation_width: 1,
-        num_permutation_challenges: 1,
-        num_permutation_values: 1,
-        ..AirLayout::default()
-    }
-}
-
 /// What is recorded of an AIR's base constraints.
 #[derive(Drop)]
 pub(super) struct Listed {

@@ -1,17 +1,13 @@
 //! Recorded expressions read back: the text of a tree has its operands in brackets, with the operation between them.
 ghost use Rattle.air_symbolic.specs.Pools.{IsPool};
 
-use air_field::{BabyBear, BinomialExtensionField, ExtensionField};
+use air_field::BabyBear;
 use air_symbolic::{
-    BaseEntry, BaseLeaf, ExprId, ExprPool, ExtLeaf, SymLeaf, SymbolicExpr, SymbolicVariable,
+    BaseEntry, BaseLeaf, ExprId, ExprPool, SymLeaf, SymbolicExpr, SymbolicVariable,
 };
 use std::alloc::{AllocError, Global};
 
-type Element = BinomialExtensionField;
-
 type BaseId = ExprId<BaseLeaf<BabyBear>>;
-
-type ExtId = ExprId<ExtLeaf<BabyBear, Element>>;
 
 /// A column is named by its trace and its row's offset.
 fn variable_text(alloc: Global, v: SymbolicVariable<BabyBear>) -> Result<String, AllocError> {
@@ -59,31 +55,4 @@ pub(super) fn base_text(
     let left = base_text(alloc, pool, x, depth - 1)?;
     let right = base_text(alloc, pool, y, depth - 1)?;
     format!(in alloc; "({left} {operation} {right})")
-}
-
-/// The element that a leaf of an extension pool is.
-fn element_of(pool: &ExprPool<ExtLeaf<BabyBear, Element>>, id: ExtId) -> Option<Element>
-    requires { IsPool ⟦<ExtLeaf<BabyBear, Element> as SymLeaf>⟧.reads pool.now }
-{
-    if !pool.contains(id) {
-        return None;
-    }
-    match *pool.node(id) {
-        SymbolicExpr::Leaf(ExtLeaf::ExtConstant(c)) => Some(c),
-        SymbolicExpr::Leaf(ExtLeaf::Base(_)) => Some(Element::from_base(pool.as_const(id)?)),
-        _ => None,
-    }
-}
-
-/// The product that two elements are recorded as.
-pub(super) fn product_of(pool: &ExprPool<ExtLeaf<BabyBear, Element>>, id: ExtId) -> Option<Element>
-    requires { IsPool ⟦<ExtLeaf<BabyBear, Element> as SymLeaf>⟧.reads pool.now }
-{
-    if !pool.contains(id) {
-        return None;
-    }
-    match *pool.node(id) {
-        SymbolicExpr::Mul { x, y, .. } => Some(element_of(pool, x)?.mul(element_of(pool, y)?)),
-        _ => None,
-    }
 }

@@ -1,5 +1,5 @@
 use Rattle.std.proofs.Common.{[], subst, sym}
-use Rattle.air_vectors_recordings.proofs.tests.filters.assert_constant_ext_under.Goals as goal
+use Rattle.air_vectors_extensions.proofs.tests.filters.assert_constant_ext_under.Goals as goal
 
 pub assert_zero_ext_under-requires-clause-x_in : goal.assert_zero_ext_under-requires-clause-x_in
 assert_zero_ext_under-requires-clause-x_in g c =

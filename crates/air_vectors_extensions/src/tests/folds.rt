@@ -3,7 +3,7 @@ ghost use Rattle.std.specs.Prelude.{◌≡◌, length};
 ghost use Rattle.air_folder.specs.Hiding.{IsIncreasing};
 
 use crate::tests::filters::{assert_constant_ext_under, assert_zero_under};
-use crate::tests::recorded::permuted_layout;
+use crate::tests::permuted_layout;
 use air_fixtures::airs::{Constraints, ExtConstraints, PlainAir, ext_air, plain_air};
 use air_fixtures::values::extension;
 use air_folder::{ConstraintFolder, Folded, fold_air, hiding_alphas};

@@ -16,7 +16,7 @@ pub(super) fn assert_zero_under<AB: AirBuilder>(
 }
 
 /// Asserts where a condition holds that `x` over the extension is zero.
-fn assert_zero_ext_under<AB: ExtensionBuilder>(
+pub(super) fn assert_zero_ext_under<AB: ExtensionBuilder>(
     builder: &mut AB,
     condition: AB::Expr,
     x: AB::ExprEF,

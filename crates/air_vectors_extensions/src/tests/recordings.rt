@@ -1,9 +1,9 @@
-//! Recordings, the places of constraints, and the variables that the symbolic builder lends over an extension.
+//! Recordings, the places of constraints, and the variables that the symbolic builder lends.
 ghost use Rattle.std.specs.Prelude.{IfOk};
 
 use crate::tests::filters::assert_constant_ext_under;
-use crate::tests::recorded::{own_layout, permuted_layout, recorded_list};
-use crate::tests::trees::product_of;
+use crate::tests::permuted_layout;
+use crate::tests::products::product_of;
 use air_fixtures::airs::{ExtAir, ExtConstraints, PlainAir, ext_air, make_products};
 use air_fixtures::builders::recording_builder;
 use air_fixtures::values::extension;
@@ -103,7 +103,8 @@ fn recording_of<EF: ExtensionField<BabyBear>, A: Air<SymbolicAirBuilder<BabyBear
 
 fn products_recording(alloc: Global) -> Result<Recording, AirError> {
     let air = make_products(alloc);
-    recording_of::<BinomialExtensionField, PlainAir>(alloc, &air, own_layout(&air))
+    let layout = AirLayout::from_air::<BabyBear, PlainAir>(&air);
+    recording_of::<BinomialExtensionField, PlainAir>(alloc, &air, layout)
 }
 
 fn ext_recording(alloc: Global, air: &ExtAir, layout: AirLayout) -> Result<Recording, AirError> {
@@ -139,22 +140,6 @@ fn records_each_kind_at_its_place(rt: HostRuntime) -> Result<(), Fail> {
     let air = ext_air(alloc, ExtConstraints::Mixed, 2);
     let mixed = ext_recording(alloc, &air, permuted_layout(2));
     assert_recorded(&rt, mixed, &[0, 2], &[1], &[1], 1)
-}
-
-#[test]
-fn compares_the_layout_first(rt: HostRuntime) -> Result<(), Fail> {
-    let air = make_products(rt.alloc());
-    let layout = AirLayout {
-        main_width: 3,
-        num_public_values: 2,
-        ..own_layout(&air)
-    };
-    let recorded = recorded_list(rt.alloc(), &air, layout);
-    assert_eq!(rt;
-        recorded.err(),
-        Some(AirError::LayoutMainWidth { layout: 3, air: 2 })
-    );
-    Ok(())
 }
 
 #[test]
