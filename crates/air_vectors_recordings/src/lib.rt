@@ -1,4 +1,4 @@
-//! The tests of recordings, layouts, degrees, and audits.
+//! The tests of recordings, layouts, degrees and audits.
 #![tactic(auto)]
 
 #[cfg(test)]

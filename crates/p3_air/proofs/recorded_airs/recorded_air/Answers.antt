@@ -13,6 +13,12 @@ returns-in-Some-clause-of_an_air g c declared h =
     let clash : None ≡ Some c.in-Some.id = none ∙ sym found in
     cc
 
+pub returns-in-Some-clause-refused : goal.returns-in-Some-clause-refused
+returns-in-Some-clause-refused g c =
+    let total = c.len-total.ensures ∙ ap (λ p. length p.1) c.into_base-pool.ensures.base in
+    let first : Some c.in-Some.id ≡ first_past c.len-total.result c.args.recorded.base.items = rw c.deref.ensures.value at c.in-Some.ensures in
+    (total, sym first ∙ ap Some (sym c.number.ensures))
+
 pub new-requires-clause-here : goal.new-requires-clause-here
 new-requires-clause-here g c =
     let none : None ≡ first_past (length c.into_base-pool.result.1) c.args.recorded.base.items = rw (c.deref.ensures.value, c.len-total.ensures) at c.in_default.ensures in
@@ -20,3 +26,9 @@ new-requires-clause-here g c =
 
 pub returns-clause-of_an_air : goal.returns-clause-of_an_air
 returns-clause-of_an_air g c declared h = records_zero_at g.F.Field.ring _ _ _ _ declared (c.new.ensures.pool ∙ c.into_base-pool.ensures.base) (ap (λ v. v.items) c.new.ensures.roots) h.terms
+
+pub returns-clause-width : goal.returns-clause-width
+returns-clause-width g c = c.new.ensures.width
+
+pub returns-clause-num_public_values : goal.returns-clause-num_public_values
+returns-clause-num_public_values g c = c.new.ensures.num_public_values
