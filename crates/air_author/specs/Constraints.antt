@@ -1,7 +1,7 @@
 -- What the asserting of constraints does.
 use Rattle.std.specs.Prelude.{ℕ, zero, suc, List, [], ◌∷◌, ◌++◌, Result, OnOk, OnErr, IfErr}
 use Rattle.air_field.specs.Term.{Leaf}
-use Rattle.air_windows.specs.declared.errors.AirError.{AirError}
+use Rattle.air_core.specs.declared.errors.AirError.{AirError}
 use Rattle.air_builder.specs.Assertion.{Assertion}
 use Rattle.air_builder.specs.Batches.{GrewByFirst}
 use Rattle.air_builder.specs.Builders.{BuilderView}

@@ -2,8 +2,8 @@
 use Rattle.std.specs.Prelude.{ℕ, zero, suc, List, [], Result, Ok, Err, OnOk, IfOk, IfErr}
 use Rattle.air_field.specs.Term.{Leaf, Term, const_term, mul_term}
 use Rattle.air_field.specs.declared.errors.RingError.{RingError}
-use Rattle.air_windows.specs.declared.errors.AirError.{AirError}
-use Rattle.air_windows.specs.Errors.{air_error}
+use Rattle.air_core.specs.declared.errors.AirError.{AirError}
+use Rattle.air_core.specs.Errors.{air_error}
 use Rattle.air_builder.specs.Assertion.{Assertion}
 use Rattle.air_builder.specs.Builders.{BuilderView, MeansIn}
 use Rattle.air_builder.specs.Refusals.{PartOf, EachLeaf}

@@ -4,7 +4,7 @@ ghost use Rattle.air_field.specs.Term.{Term};
 ghost use Rattle.air_builder.specs.Assertion.{Assertion};
 ghost use Rattle.air_builder.specs.Batches.{GrewByFirst};
 ghost use Rattle.air_builder.specs.Refusals.{NoneMissing};
-ghost use Rattle.air_windows.specs.declared.errors.AirError.{AirError};
+ghost use Rattle.air_core.specs.declared.errors.AirError.{AirError};
 ghost use Rattle.air_author.specs.Constraints.{AssertedIn};
 ghost use Rattle.air_author.specs.Expressions.{Lasts};
 

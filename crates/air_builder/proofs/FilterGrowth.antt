@@ -4,8 +4,8 @@ use Rattle.std.proofs.lemmas.Result.{err_from_is_err_and}
 use Rattle.std.specs.Result.{IsErrAnd}
 use Rattle.air_field.specs.Term.{Term, with_leaves}
 use Rattle.air_field.specs.declared.errors.RingError.{RingError}
-use Rattle.air_windows.specs.declared.errors.AirError.{AirError}
-use Rattle.air_windows.specs.Errors.{air_error}
+use Rattle.air_core.specs.declared.errors.AirError.{AirError}
+use Rattle.air_core.specs.Errors.{air_error}
 use Rattle.air_builder.specs.Assertion.{Assertion, filtered}
 use Rattle.air_builder.specs.Batches.{AssertsOf, AssertedEach}
 use Rattle.air_builder.specs.Builders.{MeansIn, BuilderView, RingLaws, BuilderLaws}

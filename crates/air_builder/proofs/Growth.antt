@@ -4,13 +4,13 @@ use Rattle.std.proofs.lemmas.Result.{err_from_is_err_and}
 use Rattle.std.specs.Result.{IsErrAnd}
 use Rattle.air_field.specs.Term.{Term, with_leaves}
 use Rattle.air_field.specs.declared.errors.RingError.{RingError}
-use Rattle.air_windows.specs.declared.errors.AirError.{AirError}
+use Rattle.air_core.specs.declared.errors.AirError.{AirError}
 use Rattle.air_builder.specs.Assertion.{Assertion}
 use Rattle.air_builder.specs.Batches.{AssertsOf, AssertsOfBoth, AssertedEach}
 use Rattle.air_builder.specs.Builders.{MeansIn, BuilderView, RingLaws, BuilderLaws}
 use Rattle.air_builder.specs.Refusals.{PartOf}
 use Rattle.air_builder.specs.laws.Batches.{asserted_one, grew_one, grew_none, refused_one}
-use Rattle.air_windows.specs.Errors.{air_error}
+use Rattle.air_core.specs.Errors.{air_error}
 use Rattle.air_builder.specs.laws.Filters.{means_lent}
 
 -- what an element means in the builder's ring it means in the ring as it is lent

@@ -6,8 +6,8 @@ use Rattle.std.specs.Result.{IsErrAnd}
 use Rattle.std.specs.List.{AllZip, zip}
 use Rattle.air_field.specs.Term.{Term, with_leaves}
 use Rattle.air_field.specs.declared.errors.RingError.{RingError}
-use Rattle.air_windows.specs.declared.errors.AirError.{AirError}
-use Rattle.air_windows.specs.Errors.{air_error}
+use Rattle.air_core.specs.declared.errors.AirError.{AirError}
+use Rattle.air_core.specs.Errors.{air_error}
 use Rattle.air_builder.specs.Assertion.{Assertion}
 use Rattle.air_builder.specs.Batches.{AssertsOf, AssertsOfBoth, AssertedEach}
 use Rattle.air_builder.specs.Builders.{MeansIn, BuilderView, RingLaws, BuilderLaws}

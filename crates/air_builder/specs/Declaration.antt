@@ -3,7 +3,7 @@ use Rattle.std.specs.Prelude.{ℕ, List, [], Option, None, Some, Vec}
 use Rattle.std.specs.Global.{Global}
 use Rattle.air_field.specs.Grid.{Grid}
 use Rattle.air_builder.specs.Assertion.{Assertion}
-use Rattle.air_windows.specs.declared.boundary.BoundaryPublic.{BoundaryPublic}
+use Rattle.air_core.specs.declared.boundary.BoundaryPublic.{BoundaryPublic}
 
 -- The declared constraints, in order; how many columns the main trace and how many public values there are; the
 -- preprocessed table, if there is one; the periodic columns, each the values of one period; and the cells of the main trace

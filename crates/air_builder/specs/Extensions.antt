@@ -2,11 +2,11 @@
 use Rattle.std.specs.Prelude.{◌≡◌, ◌⊎◌, ℕ, List, []}
 use Rattle.air_field.specs.Term.{Leaf, Term, permutation, with_leaves}
 use Rattle.air_field.specs.declared.errors.RingError.{RingError}
-use Rattle.air_windows.specs.declared.errors.AirError.{AirError}
-use Rattle.air_windows.specs.declared.errors.AirError.TheVariants.{NoPermutation}
+use Rattle.air_core.specs.declared.errors.AirError.{AirError}
+use Rattle.air_core.specs.declared.errors.AirError.TheVariants.{NoPermutation}
 use Rattle.air_builder.specs.Assertion.{Assertion}
 use Rattle.air_builder.specs.Builders.{BuilderView}
-use Rattle.air_windows.specs.Errors.{air_error}
+use Rattle.air_core.specs.Errors.{air_error}
 use Rattle.air_builder.specs.Refusals.{PartOf}
 
 -- why there is no window of the permutation trace: the builder may refuse before any assertion, or it has no permutation

@@ -1,7 +1,7 @@
 -- Growth through a filter.
 use Rattle.std.specs.Prelude.{◌≡◌, ℕ, List, [], map, Result, IsOk, IfOk}
 use Rattle.air_field.specs.Term.{Leaf, Term, leaf_term}
-use Rattle.air_windows.specs.declared.errors.AirError.{AirError}
+use Rattle.air_core.specs.declared.errors.AirError.{AirError}
 use Rattle.air_builder.specs.declared.builders.filtered.FilteredAirBuilder.{FilteredAirBuilder}
 use Rattle.air_builder.specs.Assertion.{Assertion, filtered}
 use Rattle.air_builder.specs.Builders.{MeansIn, BuilderView}

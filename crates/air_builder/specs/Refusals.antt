@@ -2,11 +2,11 @@
 use Rattle.std.specs.Prelude.{◌≡◌, ◌<◌, ◌⊎◌, ◌↔◌, ℕ, List, [], ◌∷◌, None, slice_get}
 use Rattle.air_field.specs.Term.{Leaf, preprocessed, main, permutation, Term, leaf_term, const_term, ext_const_term, add_term, sub_term, neg_term, mul_term}
 use Rattle.air_field.specs.Part.{Part}
-use Rattle.air_variables.specs.Entries.{entry_leaf}
-use Rattle.air_variables.specs.ExtEntries.{ext_entry_leaf}
+use Rattle.air_core.specs.Entries.{entry_leaf}
+use Rattle.air_core.specs.ExtEntries.{ext_entry_leaf}
 use Rattle.air_builder.specs.Assertion.{Assertion, Base, Extension}
-use Rattle.air_windows.specs.declared.errors.AirError.{AirError}
-use Rattle.air_windows.specs.declared.errors.AirError.TheVariants.{MissingEntry, RowOffset, MissingExtEntry, NoPermutation}
+use Rattle.air_core.specs.declared.errors.AirError.{AirError}
+use Rattle.air_core.specs.declared.errors.AirError.TheVariants.{MissingEntry, RowOffset, MissingExtEntry, NoPermutation}
 
 -- a column of the permutation trace
 abbrev pub IsPermutation : Leaf → Type 0

@@ -1,12 +1,12 @@
 -- Where a builder refuses to grow.
 use Rattle.std.specs.Prelude.{ℕ, List}
 use Rattle.air_field.specs.Term.{Leaf, permutation, Term, leaf_term}
-use Rattle.air_variables.specs.Entries.{entry_leaf}
-use Rattle.air_variables.specs.ExtEntries.{ext_entry_leaf}
+use Rattle.air_core.specs.Entries.{entry_leaf}
+use Rattle.air_core.specs.ExtEntries.{ext_entry_leaf}
 use Rattle.air_builder.specs.Assertion.{Assertion}
 use Rattle.air_builder.specs.Refusals.{IsPastWindow, PartOf}
-use Rattle.air_windows.specs.declared.errors.AirError.{AirError}
-use Rattle.air_windows.specs.declared.errors.AirError.TheVariants.{Memory, DegreeOverflow, CountOverflow, MissingEntry, RowOffset, MissingExtEntry, NoPermutation}
+use Rattle.air_core.specs.declared.errors.AirError.{AirError}
+use Rattle.air_core.specs.declared.errors.AirError.TheVariants.{Memory, DegreeOverflow, CountOverflow, MissingEntry, RowOffset, MissingExtEntry, NoPermutation}
 
 -- memory always; a degree, where a part of the assertions has too great a one; a count that is full; a missing entry
 -- that a part names; an offset that no window has, where a part names a missing column of that row; the permutation

@@ -4,7 +4,7 @@
 pub mod airs;
 pub mod builders;
 
-pub use air_windows::{
+pub use air_core::{
     AirError, BoundaryEnd, BoundaryIoError, BoundaryPublic, Element, EvaluatedJoined, Joined, Lazy,
     Name, Namespace, NamespaceExt, RowWindow, TwoRows, WindowAccess,
 };

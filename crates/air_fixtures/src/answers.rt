@@ -1,7 +1,7 @@
 //! What checks and audits are expected to answer.
 ghost use Rattle.std.specs.Prelude.{◌≡◌, ◌↔◌, IsTrue, map};
-ghost use Rattle.air_windows.specs.declared.errors.AirError.TheVariants.{PeriodNotPowerOfTwo, MissingEntry};
-ghost use Rattle.air_variables.specs.declared.entry.BaseEntry.TheVariants.{Main};
+ghost use Rattle.air_core.specs.declared.errors.AirError.TheVariants.{PeriodNotPowerOfTwo, MissingEntry};
+ghost use Rattle.air_core.specs.declared.variables.entry.BaseEntry.TheVariants.{Main};
 
 use p3_air::{AirError, BaseEntry, ConstraintFailure};
 

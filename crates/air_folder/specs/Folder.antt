@@ -12,8 +12,8 @@ use Rattle.air_builder.specs.Assertion.{Assertion, Base, Extension}
 use Rattle.air_builder.specs.Builders.{RowStands}
 use Rattle.air_builder.specs.Refusals.{RowEnds}
 use Rattle.air_builder.specs.Refused.{Refused}
-use Rattle.air_windows.specs.declared.errors.AirError.{AirError}
-use Rattle.air_windows.specs.declared.errors.AirError.TheVariants.{Memory}
+use Rattle.air_core.specs.declared.errors.AirError.{AirError}
+use Rattle.air_core.specs.declared.errors.AirError.TheVariants.{Memory}
 use Rattle.air_folder.specs.Fold.{folded_on}
 
 -- an element means a term without leaves that has it as its value

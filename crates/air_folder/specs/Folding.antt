@@ -8,8 +8,8 @@ use Rattle.air_symbolic.specs.BaseLeaves.{base_reads}
 use Rattle.air_symbolic.specs.ExtLeaves.{ext_reads}
 use Rattle.air_builder.specs.Assertion.{Assertion}
 use Rattle.air_builder.specs.Declaration.{Declaration}
-use Rattle.air_windows.specs.declared.errors.AirError.{AirError}
-use Rattle.air_windows.specs.declared.errors.AirError.TheVariants.{Memory}
+use Rattle.air_core.specs.declared.errors.AirError.{AirError}
+use Rattle.air_core.specs.declared.errors.AirError.TheVariants.{Memory}
 use Rattle.air_recording.specs.Folds.{horner, recombination, ArePlacesOf, Recombines, values_at}
 use Rattle.air_recording.specs.Kinds.{kind_of}
 use Rattle.air_recording.specs.Layouts.{LayoutSuits}

@@ -2,3 +2,6 @@ pub mod Columns
 pub mod Bits
 pub mod Packing
 pub mod PowerSums
+pub mod Words
+pub mod Gadgets
+pub mod Exact

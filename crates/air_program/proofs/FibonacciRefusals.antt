@@ -11,10 +11,10 @@ use Rattle.air_field.specs.Assignment.{Shape, IsMissing, trace_shape}
 use Rattle.air_builder.specs.Assertion.{Assertion, Base, Extension}
 use Rattle.air_builder.specs.Refusals.{PartOf, NoneMissing}
 use Rattle.air_builder.specs.laws.Refusals.{none_missing}
-use Rattle.air_windows.specs.declared.errors.AirError.{AirError}
-use Rattle.air_windows.specs.declared.errors.AirError.TheVariants.{Memory, DegreeOverflow, CountOverflow, MissingEntry, RowOffset, MissingExtEntry, NoPermutation}
-use Rattle.air_variables.specs.Entries.{entry_leaf}
-use Rattle.air_variables.specs.ExtEntries.{ext_entry_leaf}
+use Rattle.air_core.specs.declared.errors.AirError.{AirError}
+use Rattle.air_core.specs.declared.errors.AirError.TheVariants.{Memory, DegreeOverflow, CountOverflow, MissingEntry, RowOffset, MissingExtEntry, NoPermutation}
+use Rattle.air_core.specs.Entries.{entry_leaf}
+use Rattle.air_core.specs.ExtEntries.{ext_entry_leaf}
 use Rattle.air_report.specs.Report.{plain_trace}
 use Rattle.air_report.specs.RowRefusals.{IsFull}
 use Rattle.air_report.specs.Given.{given}

@@ -3,9 +3,9 @@ use Rattle.std.proofs.Common.{◌≡◌, ◌≢◌, ◌⊎◌, ℕ, List, Bool, 
 use Rattle.std.specs.Global.{Global}
 use Rattle.serde_json.specs.Data.{Data}
 use Rattle.air_field.specs.declared.fields.baby_bear.BabyBear.{BabyBear}
-use Rattle.air_flat_input.specs.declared.input.FlatInput.{FlatInput}
-use Rattle.air_windows.specs.declared.errors.AirError.{AirError}
-use Rattle.air_windows.specs.declared.errors.AirError.TheVariants.{Memory}
+use Rattle.air_program.specs.declared.flat_input.input.FlatInput.{FlatInput}
+use Rattle.air_core.specs.declared.errors.AirError.{AirError}
+use Rattle.air_core.specs.declared.errors.AirError.TheVariants.{Memory}
 use Rattle.air_program.specs.Answer.{AuditFinds}
 use Rattle.air_program.specs.FlatAnswer.{StandsFor, Spells, given_flat, RefusesValue, IsFlatAnswer}
 use Rattle.air_program.specs.Refusals.{name_of, refusal_text, air_refusal}

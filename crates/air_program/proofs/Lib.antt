@@ -11,3 +11,8 @@ pub mod Caps
 pub mod Traces
 pub mod FlatAnswers
 pub mod Outcomes
+pub mod Loop
+pub mod Trees
+pub mod Agreement
+pub mod MemberLaws
+pub mod InputLaws

@@ -4,8 +4,8 @@ use Rattle.std.specs.Global.{Global}
 use Rattle.air_field.specs.Grid.{rows_of, grid_of}
 use Rattle.air_field.specs.declared.fields.baby_bear.BabyBear.{BabyBear}
 use Rattle.air_program.specs.Answer.{AuditFinds, given_fibonacci, PassesDegree, IsAnswerTo}
-use Rattle.air_windows.specs.declared.errors.AirError.{AirError}
-use Rattle.air_windows.specs.declared.errors.AirError.TheVariants as air
+use Rattle.air_core.specs.declared.errors.AirError.{AirError}
+use Rattle.air_core.specs.declared.errors.AirError.TheVariants as air
 use Rattle.air_program.specs.Commands.{trace}
 use Rattle.air_program.specs.Grammar.{parse}
 use Rattle.air_program.specs.Parsing.{residues}

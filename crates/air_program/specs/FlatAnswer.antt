@@ -5,11 +5,11 @@ use Rattle.serde_json.specs.Read.{read}
 use Rattle.air_field.specs.Modulo.{baby_bear_ring}
 use Rattle.air_field.specs.declared.fields.baby_bear.BabyBear.{BabyBear}
 use Rattle.air_builder.specs.Declaration.{Declaration}
-use Rattle.air_flat.specs.FlatAirs.{zero_at_roots}
-use Rattle.air_flat_input.specs.Input.{SpellsInput, HasInputFault}
-use Rattle.air_flat_input.specs.declared.input.FlatInput.{FlatInput}
+use Rattle.p3_air.specs.FlatAirs.{zero_at_roots}
+use Rattle.air_program.specs.Input.{SpellsInput, HasInputFault}
+use Rattle.air_program.specs.declared.flat_input.input.FlatInput.{FlatInput}
 use Rattle.air_report.specs.Given.{Given, given}
-use Rattle.air_windows.specs.declared.errors.AirError.{AirError}
+use Rattle.air_core.specs.declared.errors.AirError.{AirError}
 use Rattle.p3_air.specs.Audits.{AuditRefusesUnder}
 use Rattle.air_program.specs.Answer.{TellsFound}
 use Rattle.air_program.specs.Refusals.{IsRefusal, air_name}

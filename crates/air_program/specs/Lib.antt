@@ -9,3 +9,8 @@ pub mod FlatAnswer
 pub mod Commands
 pub mod Requests
 pub mod Outcome
+pub mod Objects
+pub mod Members
+pub mod Readers
+pub mod Input
+pub mod Seen

@@ -11,12 +11,12 @@ ghost use Rattle.air_program.specs.Texts.{found};
 
 use crate::answer::{findings_of, told};
 use crate::commands::Request;
+use crate::flat_input::input::{FlatInput, flat_input_from};
 use crate::refusals::Refusal;
 use crate::texts::Findings;
 use air_builder::AirError;
 use air_field::BabyBear;
-use air_flat::FlatAir;
-use air_flat_input::{FlatInput, flat_input_from};
+use p3_air::FlatAir;
 use serde_json::Value;
 use std::alloc::Global;
 

@@ -1,4 +1,5 @@
-//! What the program does: its words, its input, its answer, and the Fibonacci AIR that it audits.
+//! What the program does: its words, its input, its answer, the JSON object of an AIR and its trace, and the Fibonacci
+//! AIR that it audits.
 #![tactic(auto)]
 
 mod answer;
@@ -6,6 +7,7 @@ mod commands;
 mod engine;
 pub mod fibonacci;
 mod flat;
+pub mod flat_input;
 mod input;
 pub mod program;
 pub mod refusals;
@@ -13,6 +15,7 @@ pub mod streams;
 mod texts;
 
 pub use fibonacci::Fibonacci;
+pub use flat_input::input::{FlatInput, flat_input_from};
 pub use program::{refuse, run};
 pub use refusals::Refusal;
 pub use streams::{ReadSource, Sink, Source, StreamFault, WriteSink};

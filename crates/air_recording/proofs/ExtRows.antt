@@ -1,8 +1,8 @@
 -- Rows of extension variables, one variable longer.
 use Rattle.std.proofs.Common.{◌≡◌, ℕ, zero, suc, ◌+◌, List, [], ◌∷◌, ◌++◌, length, Some, slice_get, sym, subst, ap, ◌∙◌}
 use Rattle.std.proofs.Math.ListN.{length-append}
-use Rattle.air_variables.specs.declared.ext_entry.ExtEntry.{ExtEntry}
-use Rattle.air_variables.specs.declared.variable_ext.SymbolicVariableExt.{SymbolicVariableExt}
+use Rattle.air_core.specs.declared.variables.ext_entry.ExtEntry.{ExtEntry}
+use Rattle.air_core.specs.declared.variables.variable_ext.SymbolicVariableExt.{SymbolicVariableExt}
 use Rattle.air_recording.specs.Rows.{IsExtRowOf}
 
 each_more : {V : Type 0} (row : List V) (v : V) (P : ℕ → V → Type 0) → ((i : ℕ) (w : V) → slice_get row i ≡ Some w → P i w) → P (length row) v → (i : ℕ) (w : V) → slice_get (row ++ v ∷ []) i ≡ Some w → P i w

@@ -12,7 +12,7 @@ use Rattle.air_symbolic.specs.Pools.{term_at}
 use Rattle.air_symbolic.specs.declared.pools.expr.SymbolicExpr.{SymbolicExpr}
 use Rattle.air_field.specs.Ring.{CommRing, Over, itself}
 use Rattle.air_builder.specs.Declaration.{Declaration}
-use Rattle.air_windows.specs.Errors.{air_error}
+use Rattle.air_core.specs.Errors.{air_error}
 use Rattle.air_recording.specs.Inferred.{periods_of, greatest_in, AnswersInferred, DegreeRefuses}
 use Rattle.air_recording.specs.Kinds.{base_terms, ext_terms}
 use Rattle.air_recording.specs.Layouts.{FitsAir}

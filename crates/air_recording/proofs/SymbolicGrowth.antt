@@ -10,8 +10,8 @@ use Rattle.air_symbolic.specs.laws.BasePool.{base_pool_laws}
 use Rattle.air_symbolic.specs.ExtLeaves.{ext_reads, ext_grows}
 use Rattle.air_symbolic.specs.ExtPool.{ExtNodes}
 use Rattle.air_symbolic.specs.laws.ExtPool.{ext_pool_laws, base_grown}
-use Rattle.air_windows.specs.declared.errors.AirError.{AirError}
-use Rattle.air_windows.specs.declared.errors.AirError.TheVariants.{Memory}
+use Rattle.air_core.specs.declared.errors.AirError.{AirError}
+use Rattle.air_core.specs.declared.errors.AirError.TheVariants.{Memory}
 use Rattle.air_builder.specs.Assertion.{Assertion, Base, Extension}
 use Rattle.air_builder.specs.Batches.{AssertsOf, AssertedEach}
 use Rattle.air_builder.specs.laws.Batches.{asserted_one}

@@ -4,8 +4,8 @@ use Rattle.std.specs.List.{find}
 use Rattle.air_field.specs.Assignment.{Shape, IsMissing}
 use Rattle.air_builder.specs.Declaration.{Declaration, table_width}
 use Rattle.air_builder.specs.Refusals.{NoneMissing}
-use Rattle.air_windows.specs.declared.errors.AirError.{AirError}
-use Rattle.air_windows.specs.declared.errors.AirError.TheVariants.{Memory, CountOverflow, LayoutMainWidth, LayoutPublicValues, LayoutPeriodicColumns, IndexPastTotal}
+use Rattle.air_core.specs.declared.errors.AirError.{AirError}
+use Rattle.air_core.specs.declared.errors.AirError.TheVariants.{Memory, CountOverflow, LayoutMainWidth, LayoutPublicValues, LayoutPeriodicColumns, IndexPastTotal}
 use Rattle.air_recording.specs.declared.layouts.air_layout.AirLayout.{AirLayout}
 use Rattle.air_recording.specs.declared.layouts.constraint_layout.ConstraintLayout.{ConstraintLayout}
 

@@ -12,7 +12,7 @@ use Rattle.air_symbolic.specs.Pools.{IsPool, PoolMeans, term_at}
 use Rattle.air_symbolic.specs.declared.pools.expr.SymbolicExpr.{SymbolicExpr}
 use Rattle.air_builder.specs.Assertion.{Assertion}
 use Rattle.air_builder.specs.Declaration.{Declaration}
-use Rattle.air_windows.specs.declared.errors.AirError.{AirError}
+use Rattle.air_core.specs.declared.errors.AirError.{AirError}
 use Rattle.air_recording.specs.Kinds.{base_terms, ext_terms}
 use Rattle.air_recording.specs.Layouts.{layout_shape, FitsAir, LayoutRefuses}
 use Rattle.air_recording.specs.declared.layouts.air_layout.AirLayout.{AirLayout}

@@ -1,9 +1,9 @@
 -- Rows of variables.
 use Rattle.std.specs.Prelude.{◌≡◌, ℕ, List, length, Some, slice_get}
-use Rattle.air_variables.specs.declared.entry.BaseEntry.{BaseEntry}
-use Rattle.air_variables.specs.declared.ext_entry.ExtEntry.{ExtEntry}
-use Rattle.air_variables.specs.declared.variable.SymbolicVariable.{SymbolicVariable}
-use Rattle.air_variables.specs.declared.variable_ext.SymbolicVariableExt.{SymbolicVariableExt}
+use Rattle.air_core.specs.declared.variables.entry.BaseEntry.{BaseEntry}
+use Rattle.air_core.specs.declared.variables.ext_entry.ExtEntry.{ExtEntry}
+use Rattle.air_core.specs.declared.variables.variable.SymbolicVariable.{SymbolicVariable}
+use Rattle.air_core.specs.declared.variables.variable_ext.SymbolicVariableExt.{SymbolicVariableExt}
 
 -- the row has this width, and at each place that place's variable of the entry
 pub record IsRowOf {F : Type 0} (e : BaseEntry) (width : ℕ) (row : List (SymbolicVariable F)) : Type 0 where

@@ -6,7 +6,7 @@ use Rattle.std.proofs.lemmas.List.Elements.{filter-append}
 use Rattle.std.proofs.Math.Seq.{take-append-add}
 use Rattle.air_field.specs.Ring.{CommRing}
 use Rattle.air_field.specs.Grid.{Grid}
-use Rattle.air_windows.specs.declared.boundary.BoundaryPublic.{BoundaryPublic}
+use Rattle.air_core.specs.declared.boundary.BoundaryPublic.{BoundaryPublic}
 use Rattle.air_report.specs.Cells.{differs, differing, left_of, cell_place, cell_label, failure_text, ListsCells, IsListedPast}
 use Rattle.air_report.specs.Report.{failure_place, IsReached}
 use Rattle.air_report.specs.laws.Debug.{enumerate_from-append}

@@ -5,7 +5,7 @@ use Rattle.std.proofs.Math.Dec.{eqb-suc-zero}
 use Rattle.air_field.specs.Ring.{CommRing}
 use Rattle.air_builder.specs.Assertion.{Assertion}
 use Rattle.air_report.specs.laws.Report.{report_of-more}
-use Rattle.air_windows.specs.declared.boundary.BoundaryPublic.{BoundaryPublic}
+use Rattle.air_core.specs.declared.boundary.BoundaryPublic.{BoundaryPublic}
 use Rattle.air_report.specs.Cells.{differing, left_of, ListsCells}
 use Rattle.air_report.specs.Checks.{CheckedRow, listed}
 use Rattle.air_report.specs.Given.{Given, given_trace, height}

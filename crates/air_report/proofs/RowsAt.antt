@@ -11,9 +11,9 @@ use Rattle.air_field.specs.OneRow.{no_permutation, one_row_shape}
 use Rattle.air_field.specs.declared.matrices.view.ViewPair.{ViewPair}
 use Rattle.air_builder.specs.Assertion.{Assertion}
 use Rattle.air_builder.specs.Refused.{Refused}
-use Rattle.air_windows.specs.Periodic.{column_at, IsFirstEmpty, RefusesPeriodicRow}
-use Rattle.air_windows.specs.declared.errors.AirError.{AirError}
-use Rattle.air_windows.specs.declared.errors.AirError.TheVariants.{Memory, EmptyPeriodicColumn}
+use Rattle.air_core.specs.Periodic.{column_at, IsFirstEmpty, RefusesPeriodicRow}
+use Rattle.air_core.specs.declared.errors.AirError.{AirError}
+use Rattle.air_core.specs.declared.errors.AirError.TheVariants.{Memory, EmptyPeriodicColumn}
 use Rattle.air_report.specs.Checks.{CheckedRow, Fits, RowRefuses}
 use Rattle.air_report.specs.Given.{Given, given_trace, table_grid}
 use Rattle.air_report.specs.Debug.{RowData, row_data, is_zero_at, nonzero_by, GrewAtRow}

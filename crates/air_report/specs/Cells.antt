@@ -7,10 +7,10 @@ use Rattle.std.specs.List.{filter, enumerate_from}
 use Rattle.air_field.specs.Ring.{CommRing}
 use Rattle.air_field.specs.Grid.{Grid}
 use Rattle.air_field.specs.Assignment.{row_or_none}
-use Rattle.air_windows.specs.Boundary.{row_of, AreSound, IsFirstFault}
-use Rattle.air_windows.specs.declared.boundary.BoundaryPublic.{BoundaryPublic}
-use Rattle.air_windows.specs.declared.errors.AirError.{AirError}
-use Rattle.air_windows.specs.declared.errors.AirError.TheVariants.{Boundary, EmptyTrace}
+use Rattle.air_core.specs.Boundary.{row_of, AreSound, IsFirstFault}
+use Rattle.air_core.specs.declared.boundary.BoundaryPublic.{BoundaryPublic}
+use Rattle.air_core.specs.declared.errors.AirError.{AirError}
+use Rattle.air_core.specs.declared.errors.AirError.TheVariants.{Boundary, EmptyTrace}
 use Rattle.air_report.specs.Report.{failure_place}
 use Rattle.air_report.specs.declared.debug.failure.ConstraintFailure.{ConstraintFailure}
 

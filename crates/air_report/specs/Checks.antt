@@ -2,11 +2,11 @@
 use Rattle.std.specs.Prelude.{◌≡◌, ◌≢◌, ◌⊎◌, ℕ, ◌+◌, ◌<◌, List, [], ◌++◌, length, map, Bool, Option, None, slice_index_or}
 use Rattle.air_field.specs.Ring.{CommRing}
 use Rattle.air_field.specs.Assignment.{trace_shape, row_assignment, IsMissing}
-use Rattle.air_windows.specs.Boundary.{row_of}
+use Rattle.air_core.specs.Boundary.{row_of}
 use Rattle.air_builder.specs.Refusals.{NoneMissing}
-use Rattle.air_windows.specs.declared.boundary.BoundaryPublic.{BoundaryPublic}
-use Rattle.air_windows.specs.declared.errors.AirError.{AirError}
-use Rattle.air_windows.specs.declared.errors.AirError.TheVariants.{CountOverflow, Memory}
+use Rattle.air_core.specs.declared.boundary.BoundaryPublic.{BoundaryPublic}
+use Rattle.air_core.specs.declared.errors.AirError.{AirError}
+use Rattle.air_core.specs.declared.errors.AirError.TheVariants.{CountOverflow, Memory}
 use Rattle.air_report.specs.Cells.{differing, left_of, ListsCells, IsListedPast, CellsFit, IsCellFault, AgreeBelow, IsFirstDiffering}
 use Rattle.air_report.specs.Debug.{nonzero_from}
 use Rattle.air_report.specs.RowRefusals.{IsFull}

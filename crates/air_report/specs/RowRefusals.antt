@@ -5,8 +5,8 @@ use Rattle.air_field.specs.Assignment.{IsMissing}
 use Rattle.air_field.specs.OneRow.{one_row_shape}
 use Rattle.air_builder.specs.Assertion.{Assertion}
 use Rattle.air_builder.specs.Refused.{Refused}
-use Rattle.air_windows.specs.declared.errors.AirError.{AirError}
-use Rattle.air_windows.specs.declared.errors.AirError.TheVariants.{Memory}
+use Rattle.air_core.specs.declared.errors.AirError.{AirError}
+use Rattle.air_core.specs.declared.errors.AirError.TheVariants.{Memory}
 use Rattle.air_report.specs.Debug.{RowData}
 
 -- what the row has not

@@ -1,8 +1,8 @@
 -- Which preprocessed tables and periodic columns fit a trace.
 use Rattle.std.specs.Prelude.{◌≡◌, ◌≢◌, ℕ, ◌%◌, ◌^◌, ◌<◌, List, length, Option, Some, None, Result, Ok, Err, Vec, slice_index_or}
 use Rattle.air_field.specs.Grid.{Grid}
-use Rattle.air_windows.specs.declared.errors.AirError.{AirError}
-use Rattle.air_windows.specs.declared.errors.AirError.TheVariants.{PreprocessedHeight, PeriodNotPowerOfTwo, PeriodDoesNotDivide}
+use Rattle.air_core.specs.declared.errors.AirError.{AirError}
+use Rattle.air_core.specs.declared.errors.AirError.TheVariants.{PreprocessedHeight, PeriodNotPowerOfTwo, PeriodDoesNotDivide}
 
 -- the number of rows, if there is a table
 abbrev pub table_height : {F : Type 0} → Option (Grid F) → Option ℕ

@@ -1,9 +1,9 @@
 -- What leaves weigh and are, case by case.
 use Rattle.std.specs.Prelude.{◌≡◌, ℕ, List, [], None, refl}
 use Rattle.air_field.specs.Degree.{cached_weight, transition_weight, trace_weight}
-use Rattle.air_variables.specs.ExtEntries.{ext_entry_leaf}
-use Rattle.air_variables.specs.declared.ext_entry.ExtEntry.{ExtEntry}
-use Rattle.air_variables.specs.declared.ext_entry.ExtEntry.TheVariants.{Permutation, Challenge, PermutationValue}
+use Rattle.air_core.specs.ExtEntries.{ext_entry_leaf}
+use Rattle.air_core.specs.declared.variables.ext_entry.ExtEntry.{ExtEntry}
+use Rattle.air_core.specs.declared.variables.ext_entry.ExtEntry.TheVariants.{Permutation, Challenge, PermutationValue}
 use Rattle.air_symbolic.specs.BaseLeaves.{base_constant}
 use Rattle.air_symbolic.specs.declared.leaves.base_leaf.BaseLeaf.{BaseLeaf}
 use Rattle.air_symbolic.specs.declared.leaves.base_leaf.BaseLeaf.TheVariants.{Variable, IsFirstRow, IsLastRow, IsTransition, Constant}

@@ -1,7 +1,7 @@
 -- What the leaves of base expressions mean.
 use Rattle.std.specs.Prelude.{Option, None, Some}
 use Rattle.air_field.specs.Term.{first_row, last_row, transition, Term, leaf_term, const_term}
-use Rattle.air_variables.specs.Entries.{entry_leaf}
+use Rattle.air_core.specs.Entries.{entry_leaf}
 use Rattle.air_symbolic.specs.Leaves.{Leaves}
 use Rattle.air_symbolic.specs.declared.leaves.base_leaf.BaseLeaf.{BaseLeaf}
 use Rattle.air_symbolic.specs.declared.leaves.base_leaf.BaseLeaf.TheVariants.{Variable, IsFirstRow, IsLastRow, IsTransition, Constant}

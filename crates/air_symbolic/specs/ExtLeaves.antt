@@ -2,7 +2,7 @@
 use Rattle.std.specs.Prelude.{List, [], Option, None}
 use Rattle.air_field.specs.Extension.{Basis}
 use Rattle.air_field.specs.Term.{Term, leaf_term, ext_const_term}
-use Rattle.air_variables.specs.ExtEntries.{ext_entry_leaf}
+use Rattle.air_core.specs.ExtEntries.{ext_entry_leaf}
 use Rattle.air_symbolic.specs.Leaves.{Leaves}
 use Rattle.air_symbolic.specs.Pools.{IsPool, Grown, PoolHas, term_at, constant_at}
 use Rattle.air_symbolic.specs.BaseLeaves.{base_reads, base_grows}

@@ -5,8 +5,8 @@ pub use Rattle.air_field.specs.Polynomial
 pub use Rattle.air_field.specs.Degree
 pub use Rattle.air_field.specs.Same
 pub use Rattle.air_field.specs.Algebra
-pub use Rattle.air_variables.specs.Entries
-pub use Rattle.air_variables.specs.ExtEntries
+pub use Rattle.air_core.specs.Entries
+pub use Rattle.air_core.specs.ExtEntries
 pub mod Leaves
 pub mod Trees
 pub mod Nodes

@@ -5,7 +5,7 @@ pub mod laws;
 pub mod leaves;
 pub mod pools;
 
-pub use air_variables::{BaseEntry, ExtEntry, SymbolicVariable, SymbolicVariableExt};
+pub use air_core::{BaseEntry, ExtEntry, SymbolicVariable, SymbolicVariableExt};
 pub use leaves::base_leaf::BaseLeaf;
 pub use leaves::ext_leaf::ExtLeaf;
 pub use leaves::sym_leaf::SymLeaf;

@@ -5,9 +5,9 @@ use Rattle.serde_json.specs.Find.{as_str, get}
 use Rattle.air_wire.specs.Parts.{whole_at, all_three, find_name}
 use Rattle.air_wire.specs.Plain.{Plain}
 use Rattle.air_wire.specs.Spelling.{number_data, HasField, HasWhole}
-use Rattle.air_windows.specs.declared.boundary.BoundaryEnd.{BoundaryEnd}
-use Rattle.air_windows.specs.declared.boundary.BoundaryEnd.TheVariants as ends
-use Rattle.air_windows.specs.declared.boundary.BoundaryPublic.{BoundaryPublic}
+use Rattle.air_core.specs.declared.boundary.BoundaryEnd.{BoundaryEnd}
+use Rattle.air_core.specs.declared.boundary.BoundaryEnd.TheVariants as ends
+use Rattle.air_core.specs.declared.boundary.BoundaryPublic.{BoundaryPublic}
 
 -- ---- what is written
 

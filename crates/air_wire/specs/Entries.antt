@@ -3,9 +3,9 @@ use Rattle.std.specs.Prelude.{ℕ, [], ◌∷◌, codes}
 use Rattle.serde_json.specs.Data.{Data}
 use Rattle.air_wire.specs.Plain.{Plain}
 use Rattle.air_wire.specs.EntryForms.{EntryForm, bare, at_offset, EntryNames, named_plain, indexed_plain}
-use Rattle.air_variables.specs.declared.entry.BaseEntry.{BaseEntry}
-use Rattle.air_variables.specs.declared.entry.BaseEntry.TheVariants as entries
-use Rattle.air_variables.specs.declared.variable.SymbolicVariable.{SymbolicVariable}
+use Rattle.air_core.specs.declared.variables.entry.BaseEntry.{BaseEntry}
+use Rattle.air_core.specs.declared.variables.entry.BaseEntry.TheVariants as entries
+use Rattle.air_core.specs.declared.variables.variable.SymbolicVariable.{SymbolicVariable}
 
 -- how each is spelt
 abbrev pub entry_form : BaseEntry → EntryForm

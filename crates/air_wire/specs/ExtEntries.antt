@@ -3,9 +3,9 @@ use Rattle.std.specs.Prelude.{ℕ, [], ◌∷◌, codes}
 use Rattle.serde_json.specs.Data.{Data}
 use Rattle.air_wire.specs.Plain.{Plain}
 use Rattle.air_wire.specs.EntryForms.{EntryForm, bare, at_offset, EntryNames, named_plain, indexed_plain}
-use Rattle.air_variables.specs.declared.ext_entry.ExtEntry.{ExtEntry}
-use Rattle.air_variables.specs.declared.ext_entry.ExtEntry.TheVariants as entries
-use Rattle.air_variables.specs.declared.variable_ext.SymbolicVariableExt.{SymbolicVariableExt}
+use Rattle.air_core.specs.declared.variables.ext_entry.ExtEntry.{ExtEntry}
+use Rattle.air_core.specs.declared.variables.ext_entry.ExtEntry.TheVariants as entries
+use Rattle.air_core.specs.declared.variables.variable_ext.SymbolicVariableExt.{SymbolicVariableExt}
 
 -- how each is spelt
 abbrev pub ext_entry_form : ExtEntry → EntryForm

@@ -10,9 +10,9 @@ use crate::errors::FlatError;
 use crate::parts::{only_member, whole};
 use crate::plain::Plain;
 use crate::wire_leaf::WireLeaf;
+use air_core::SymbolicVariable;
 use air_field::BabyBear;
 use air_symbolic::BaseLeaf;
-use air_variables::SymbolicVariable;
 use serde_json::{Value, json};
 use std::alloc::{AllocError, Global};
 

@@ -4,7 +4,7 @@ ghost use Rattle.serde_json.specs.View.{view};
 
 use crate::parts::whole_at;
 use crate::plain::Plain;
-use air_windows::{BoundaryEnd, BoundaryPublic};
+use air_core::{BoundaryEnd, BoundaryPublic};
 use serde_json::{Value, json};
 use std::alloc::{AllocError, Global};
 

@@ -5,7 +5,7 @@ ghost use Rattle.serde_json.specs.View.{view};
 use crate::cases::{indexed_value, offset_value};
 use crate::parts::{only_member, whole_at};
 use crate::plain::Plain;
-use air_variables::{BaseEntry, SymbolicVariable};
+use air_core::{BaseEntry, SymbolicVariable};
 use serde_json::{Value, json};
 use std::alloc::{AllocError, Global};
 

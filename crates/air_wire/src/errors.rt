@@ -3,8 +3,8 @@ ghost use Rattle.std.specs.Prelude.{◌≡◌};
 ghost use Rattle.air_wire.specs.Faults.{ring_fault, air_fault};
 ghost use Rattle.air_wire.specs.declared.errors.FlatError.TheVariants.{Memory};
 
+use air_core::AirError;
 use air_field::RingError;
-use air_windows::AirError;
 use std::alloc::{AllocError, AllocFailed};
 use thiserror::Error;
 

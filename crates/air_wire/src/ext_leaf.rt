@@ -23,9 +23,9 @@ use crate::parts::{only_member, whole};
 use crate::plain::Plain;
 use crate::wire_leaf::WireLeaf;
 use crate::written_lists::to_flat_value;
+use air_core::SymbolicVariableExt;
 use air_field::{BabyBear, ExtensionField};
 use air_symbolic::{BaseLeaf, ExprId, ExprPool, ExtLeaf};
-use air_variables::SymbolicVariableExt;
 use serde_json::Value;
 use std::alloc::{AllocError, Global};
 

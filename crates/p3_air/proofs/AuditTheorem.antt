@@ -12,10 +12,10 @@ use Rattle.air_symbolic.specs.BaseLeaves.{base_reads}
 use Rattle.air_symbolic.specs.ExtLeaves.{ext_reads}
 use Rattle.air_symbolic.specs.Pools.{term_at}
 use Rattle.air_builder.specs.Assertion.{Assertion, Base, Extension}
-use Rattle.air_windows.specs.Errors.{air_error}
+use Rattle.air_core.specs.Errors.{air_error}
 use Rattle.air_builder.specs.Declaration.{Declaration}
-use Rattle.air_windows.specs.declared.errors.AirError.{AirError}
-use Rattle.air_windows.specs.declared.errors.AirError.TheVariants.{LayoutMainWidth, LayoutPublicValues, LayoutPeriodicColumns}
+use Rattle.air_core.specs.declared.errors.AirError.{AirError}
+use Rattle.air_core.specs.declared.errors.AirError.TheVariants.{LayoutMainWidth, LayoutPublicValues, LayoutPeriodicColumns}
 use Rattle.p3_air.specs.Audits.{RecordsEach, IsRecording, ListsFailures, IsAuditUnder, AuditRefusesUnder, LayoutHasEntries, failures_within, leaves_over}
 use Rattle.air_recording.specs.Bounds.{polynomial_bound, IsDegreeFor}
 use Rattle.air_report.specs.Cells.{cell_place, differing, left_of}

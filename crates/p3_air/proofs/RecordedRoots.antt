@@ -10,7 +10,7 @@ use Rattle.air_symbolic.specs.Pools.{PoolMeans}
 use Rattle.air_symbolic.specs.declared.leaves.base_leaf.BaseLeaf.{BaseLeaf}
 use Rattle.air_symbolic.specs.declared.pools.expr.SymbolicExpr.{SymbolicExpr}
 use Rattle.air_builder.specs.Assertion.{Assertion, Base}
-use Rattle.air_flat.specs.FlatAirs.{zero_at_roots}
+use Rattle.p3_air.specs.FlatAirs.{zero_at_roots}
 use Rattle.air_recording.specs.Kinds.{base_terms}
 use Rattle.air_recording.specs.Layouts.{first_past}
 use Rattle.air_recording.specs.Recorded.{EachRecords, terms_of}

@@ -14,8 +14,8 @@ use Rattle.air_symbolic.specs.declared.pools.expr.SymbolicExpr.{SymbolicExpr}
 use Rattle.air_builder.specs.Assertion.{Assertion, Base, Extension}
 use Rattle.air_builder.specs.Declaration.{Declaration}
 use Rattle.air_builder.specs.Refusals.{NoneMissing}
-use Rattle.air_windows.specs.declared.errors.AirError.{AirError}
-use Rattle.air_windows.specs.declared.errors.AirError.TheVariants.{DegreeOverflow}
+use Rattle.air_core.specs.declared.errors.AirError.{AirError}
+use Rattle.air_core.specs.declared.errors.AirError.TheVariants.{DegreeOverflow}
 use Rattle.air_report.specs.Cells.{cell_place, differing, left_of}
 use Rattle.air_report.specs.Checks.{IsReport, CheckRefuses}
 use Rattle.air_recording.specs.Bounds.{domain_weight, leaf_degree, polynomial_bound, PolynomialsWithin, IsDegreeFor}

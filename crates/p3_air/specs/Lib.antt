@@ -1,2 +1,6 @@
 pub mod Audits
 pub mod RecordedAirs
+pub use Rattle.air_builder.specs.Builders
+pub mod Tables
+pub mod FlatAirs
+pub mod laws

@@ -3,8 +3,8 @@ use Rattle.std.specs.Prelude.{◌≡◌, List, length, map, Some}
 use Rattle.air_field.specs.Ring.{CommRing, itself}
 use Rattle.air_symbolic.specs.BaseLeaves.{base_reads}
 use Rattle.air_builder.specs.Assertion.{Assertion, Base}
-use Rattle.air_windows.specs.declared.errors.AirError.{AirError}
-use Rattle.air_windows.specs.declared.errors.AirError.TheVariants.{IndexPastTotal}
+use Rattle.air_core.specs.declared.errors.AirError.{AirError}
+use Rattle.air_core.specs.declared.errors.AirError.TheVariants.{IndexPastTotal}
 use Rattle.air_recording.specs.Kinds.{base_terms}
 use Rattle.air_recording.specs.Layouts.{first_past}
 use Rattle.air_recording.specs.Recorded.{EachRecords, terms_of}

@@ -10,6 +10,7 @@
 
 pub mod audit;
 pub mod author;
+mod flat;
 pub mod recorded_airs;
 pub mod symbolic;
 pub mod utils;
@@ -21,12 +22,12 @@ pub use air_builder::{
     NamedExtensionBuilder, Namespace, NamespaceExt, PassthroughNamedAirBuilder,
     PermutationAirBuilder, RowWindow, TwoRows, WindowAccess,
 };
+pub use air_core::{BaseEntry, ExtEntry, SymbolicVariable, SymbolicVariableExt, boundary};
 pub use air_field::{
     Algebra, BabyBear, BinomialExtensionField, ExtAlgebra, ExtFieldRing, ExtensionField, Field,
     FieldRing, FromVar, MatrixError, PrimeField, RingError, RowMajorMatrix, RowMajorMatrixView,
     SelfExtension, ViewPair,
 };
-pub use air_flat::{FlatAir, resolve, resolve_all};
 pub use air_gadgets::{PairCol, VirtualPairCol};
 pub use air_recording::{
     AirLayout, ConstraintLayout, Recorded, SymbolicAirBuilder, constraint_degree_from_poly_degree,
@@ -42,8 +43,8 @@ pub use air_symbolic::{
     BaseLeaf, Degrees, ExprId, ExprPool, ExtLeaf, LeafWeight, SymLeaf, SymbolicExpr,
     SymbolicExpression, SymbolicExpressionExt,
 };
-pub use air_variables::{BaseEntry, ExtEntry, SymbolicVariable, SymbolicVariableExt};
-pub use air_windows::boundary;
 pub use air_wire::{FlatError, Spelled, WireLeaf, from_flat_value, to_flat_value};
 pub use audit::{Audit, audit_air, audit_air_with_cap};
+pub use flat::flat_air::FlatAir;
+pub use flat::resolving::{resolve, resolve_all};
 pub use recorded_airs::{finish_recording, record_these, recorded_air};

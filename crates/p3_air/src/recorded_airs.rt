@@ -9,10 +9,10 @@ ghost use Rattle.air_recording.specs.Layouts.{first_past};
 ghost use Rattle.air_recording.specs.Recorded.{RecordsBase};
 ghost use Rattle.p3_air.specs.RecordedAirs.{zero_at_recorded, RecordedAirRefuses, RecordsBaseTerms};
 
+use crate::flat::flat_air::FlatAir;
 use air_author::{Constraint, assert_these};
 use air_builder::{AirBuilder, AirError, BaseAir, BoundaryPublic};
 use air_field::{ExtensionField, Field};
-use air_flat::FlatAir;
 use air_recording::{Recorded, SymbolicAirBuilder};
 use air_symbolic::ExprId;
 

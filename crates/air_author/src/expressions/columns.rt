@@ -1,15 +1,15 @@
 //! Entries of the row: columns, periodic columns and public values. A missing one is refused by name.
 ghost use Rattle.std.specs.Prelude.{◌≡◌, ◌↔◌, None, IfSome};
 ghost use Rattle.air_field.specs.Term.{preprocessed, main, periodic, public, leaf_term};
-ghost use Rattle.air_variables.specs.Entries.{entry_leaf};
+ghost use Rattle.air_core.specs.Entries.{entry_leaf};
 ghost use Rattle.air_builder.specs.Builders.{VariableStands};
 ghost use Rattle.air_author.specs.Expressions.{MadeIn};
 
 use crate::AirResult;
 use crate::expressions::{Expression, answered, element, present};
 use air_builder::{AirBuilder, AirError, Seen};
+use air_core::BaseEntry;
 use air_field::{Algebra, FromVar};
-use air_variables::BaseEntry;
 
 /// The expression of the variable that was found at a place of the entry.
 #[inline(always)]

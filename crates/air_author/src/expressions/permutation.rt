@@ -5,8 +5,8 @@ ghost use Rattle.air_field.specs.Term.{permutation, challenge, permutation_value
 use crate::AirResult;
 use crate::expressions::{ExtExpression, answered, element, present};
 use air_builder::{AirError, PermutationAirBuilder, WindowAccess};
+use air_core::ExtEntry;
 use air_field::{Algebra, FromVar};
-use air_variables::ExtEntry;
 
 /// A column of the permutation trace's current row.
 #[derive(Clone, Copy, Drop)]

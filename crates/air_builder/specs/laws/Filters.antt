@@ -3,7 +3,7 @@ use Rattle.std.specs.Prelude.{◌≡◌, List, [], ◌++◌, map, refl}
 use Rattle.std.proofs.Common.{sym, ◌∙◌, ap, subst}
 use Rattle.std.proofs.lemmas.List.{map-append}
 use Rattle.air_field.specs.Term.{Term, leaf_term, with_leaves}
-use Rattle.air_windows.specs.declared.errors.AirError.{AirError}
+use Rattle.air_core.specs.declared.errors.AirError.{AirError}
 use Rattle.air_builder.specs.Assertion.{Assertion, filtered}
 use Rattle.air_builder.specs.Builders.{MeansIn, BuilderView, RingLaws, BuilderLaws}
 use Rattle.air_builder.specs.laws.Refusals.{PartOf-filtered}

@@ -4,13 +4,13 @@ use Rattle.std.proofs.Common.{inl, inr, subst}
 use Rattle.air_field.specs.Term.{Leaf, permutation, Term, leaf_term}
 use Rattle.air_field.specs.declared.errors.RingError.{RingError}
 use Rattle.air_field.specs.declared.errors.RingError.TheVariants as ring
-use Rattle.air_variables.specs.Entries.{entry_leaf}
-use Rattle.air_variables.specs.ExtEntries.{ext_entry_leaf}
+use Rattle.air_core.specs.Entries.{entry_leaf}
+use Rattle.air_core.specs.ExtEntries.{ext_entry_leaf}
 use Rattle.air_builder.specs.Assertion.{Assertion}
-use Rattle.air_windows.specs.Errors.{air_error}
+use Rattle.air_core.specs.Errors.{air_error}
 use Rattle.air_builder.specs.Refusals.{NamesLeaf, PartOf}
-use Rattle.air_windows.specs.declared.errors.AirError.{AirError}
-use Rattle.air_windows.specs.declared.errors.AirError.TheVariants.{Memory, DegreeOverflow, CountOverflow, MissingEntry, RowOffset, MissingExtEntry, NoPermutation}
+use Rattle.air_core.specs.declared.errors.AirError.{AirError}
+use Rattle.air_core.specs.declared.errors.AirError.TheVariants.{Memory, DegreeOverflow, CountOverflow, MissingEntry, RowOffset, MissingExtEntry, NoPermutation}
 use Rattle.air_builder.specs.Refused.{Refused}
 
 pub PartOf-first : {F : Type 0} (t : Term F) (xs ys : List (Assertion F)) → PartOf t xs → PartOf t (xs ++ ys)

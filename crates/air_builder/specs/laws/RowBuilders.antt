@@ -3,7 +3,7 @@ use Rattle.std.specs.Prelude.{◌≡◌, ⊤, List, [], ◌++◌}
 use Rattle.std.proofs.Common.{sym, ◌∙◌, ap, subst}
 use Rattle.air_field.specs.Term.{Leaf, Term, leaf_term}
 use Rattle.air_field.specs.Assignment.{Shape, IsMissing}
-use Rattle.air_windows.specs.declared.errors.AirError.{AirError}
+use Rattle.air_core.specs.declared.errors.AirError.{AirError}
 use Rattle.air_builder.specs.Assertion.{Assertion}
 use Rattle.air_builder.specs.Builders.{BuilderView, BuilderLaws}
 use Rattle.air_builder.specs.Extensions.{ExtensionView, ExtensionLaws}

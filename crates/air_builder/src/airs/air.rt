@@ -4,15 +4,15 @@ ghost use Rattle.std.specs.List.{range_with_len};
 ghost use Rattle.std.specs.Option.{option_copied};
 ghost use Rattle.air_builder.specs.Batches.{GrewByFirst};
 ghost use Rattle.air_builder.specs.Declaration.{Declaration, table_width};
-ghost use Rattle.air_windows.specs.Periodic.{MatchPeriodicMatrix, MatchPeriodicValues};
+ghost use Rattle.air_core.specs.Periodic.{MatchPeriodicMatrix, MatchPeriodicValues};
 ghost use Rattle.air_builder.specs.Refusals.{NoneMissing};
 
 use crate::airs::columns::columns_below;
 use crate::builders::air_builder::AirBuilder;
+use air_core::boundary::BoundaryPublic;
+use air_core::errors::AirError;
+use air_core::periodic::{periodic_matrix, periodic_row};
 use air_field::RowMajorMatrix;
-use air_windows::boundary::BoundaryPublic;
-use air_windows::errors::AirError;
-use air_windows::periodic::{periodic_matrix, periodic_row};
 use std::alloc::Global;
 
 /// What an AIR says of itself. Every answer is a function of the AIR's value, want of memory apart; of hints of its own

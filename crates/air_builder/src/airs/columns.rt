@@ -2,7 +2,7 @@
 ghost use Rattle.std.specs.Prelude.{◌≡◌, IfOk, IfErr};
 ghost use Rattle.std.specs.List.{range_with_len};
 
-use air_windows::errors::AirError;
+use air_core::errors::AirError;
 use std::alloc::Global;
 
 /// The columns 0 to `width` - 1.

@@ -9,13 +9,13 @@ ghost use Rattle.air_builder.specs.Builders.{MeansIn, MeansOfBoth, RowStands, Va
 ghost use Rattle.air_builder.specs.Batches.{Asserts, AssertsBoth};
 ghost use Rattle.air_builder.specs.Filters.{FiltersBy};
 ghost use Rattle.air_builder.specs.Refusals.{RowEnds, RefusesPartOfBoth};
-ghost use Rattle.air_windows.specs.declared.errors.AirError.{AirError};
+ghost use Rattle.air_core.specs.declared.errors.AirError.{AirError};
 
 use crate::builders::filtered::FilteredAirBuilder;
 use crate::builders::seen::Seen;
+use air_core::errors::AirError;
+use air_core::windows::access::WindowAccess;
 use air_field::{Algebra, Field, FromVar, RingError};
-use air_windows::errors::AirError;
-use air_windows::windows::access::WindowAccess;
 
 /// x - 1
 #[inline(always)]

@@ -8,7 +8,7 @@ ghost use Rattle.air_builder.specs.Batches.{Asserts, AssertsBoth};
 
 use crate::builders::air_builder::AirBuilder;
 use crate::builders::seen::Seen;
-use air_windows::errors::AirError;
+use air_core::errors::AirError;
 
 /// Asserts arrays of `N` elements, one after another: growth by a term an element.
 pub trait AssertAll<const N: usize>: AirBuilder {

@@ -5,7 +5,7 @@ ghost use Rattle.air_builder.specs.Batches.{Asserts};
 
 use crate::builders::extension::ExtensionBuilder;
 use crate::builders::seen::SeenOver;
-use air_windows::errors::AirError;
+use air_core::errors::AirError;
 
 /// Asserts arrays of `N` elements over the extension, one after another: growth by a term an element.
 pub trait AssertAllExt<const N: usize>: ExtensionBuilder {

@@ -4,12 +4,12 @@ ghost use Rattle.air_field.specs.Algebra.{bool_check_term};
 ghost use Rattle.air_builder.specs.Assertion.{Base};
 ghost use Rattle.air_builder.specs.Batches.{Asserts};
 ghost use Rattle.air_builder.specs.Labels.{Labels};
-ghost use Rattle.air_windows.specs.Texts.{ElementSays};
+ghost use Rattle.air_core.specs.Texts.{ElementSays};
 
 use crate::builders::named::NamedAirBuilder;
 use crate::builders::seen::Seen;
-use air_windows::errors::AirError;
-use air_windows::names::namespace::Namespace;
+use air_core::errors::AirError;
+use air_core::names::namespace::Namespace;
 
 /// Asserts arrays of `N` elements, one after another, the i-th under the name `name::[i]`.
 pub trait AssertAllNamed<const N: usize>: NamedAirBuilder {

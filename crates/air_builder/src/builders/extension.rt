@@ -9,8 +9,8 @@ ghost use Rattle.air_builder.specs.Extensions.{ExtensionLaws};
 
 use crate::builders::air_builder::{AirBuilder, less_one};
 use crate::builders::seen::{Seen, SeenExt, SeenOver};
+use air_core::errors::AirError;
 use air_field::{Algebra, ExtAlgebra, ExtensionField, FromVar};
-use air_windows::errors::AirError;
 
 /// Receives base and extension constraints. Both kinds stand in one order of places.
 pub trait ExtensionBuilder: AirBuilder {

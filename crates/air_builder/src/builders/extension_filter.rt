@@ -7,8 +7,8 @@ use crate::builders::air_builder::AirBuilder;
 use crate::builders::extension::ExtensionBuilder;
 use crate::builders::filtered::FilteredAirBuilder;
 use crate::builders::permutation::PermutationAirBuilder;
+use air_core::errors::AirError;
 use air_field::{Algebra, ExtAlgebra, ExtensionField, Field, FromVar, RingError};
-use air_windows::errors::AirError;
 
 /// x times the lifted condition
 #[inline(always)]

@@ -5,8 +5,8 @@ ghost use Rattle.air_builder.specs.Filters.{KeptInside, GrewInside, RefusesInsid
 ghost use Rattle.air_builder.specs.laws.Filters.{filter_laws};
 
 use crate::builders::air_builder::AirBuilder;
+use air_core::errors::AirError;
 use air_field::Algebra;
-use air_windows::errors::AirError;
 
 /// Asserts where a condition holds.
 pub struct FilteredAirBuilder<'a, AB: AirBuilder> {

@@ -6,16 +6,16 @@ ghost use Rattle.air_builder.specs.Assertion.{Base};
 ghost use Rattle.air_builder.specs.Batches.{Asserts, AssertsBoth};
 ghost use Rattle.air_builder.specs.Builders.{less_one_term};
 ghost use Rattle.air_builder.specs.Labels.{Labelled, Labels, LabelsBoth, NamedLaws};
-ghost use Rattle.air_windows.specs.Texts.{ElementSays};
+ghost use Rattle.air_core.specs.Texts.{ElementSays};
 
 use crate::builders::air_builder::{AirBuilder, less_one};
 use crate::builders::seen::Seen;
+use air_core::errors::AirError;
+use air_core::names::element::Element;
+use air_core::names::joined::Joined;
+use air_core::names::name::Name;
+use air_core::names::namespace::Namespace;
 use air_field::Algebra;
-use air_windows::errors::AirError;
-use air_windows::names::element::Element;
-use air_windows::names::joined::Joined;
-use air_windows::names::name::Name;
-use air_windows::names::namespace::Namespace;
 
 /// Receives constraints with names.
 ///

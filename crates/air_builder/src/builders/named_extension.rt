@@ -12,9 +12,9 @@ use crate::builders::extension_filter::under_condition;
 use crate::builders::filtered::FilteredAirBuilder;
 use crate::builders::named::NamedAirBuilder;
 use crate::builders::seen::SeenOver;
+use air_core::errors::AirError;
+use air_core::names::name::Name;
 use air_field::Algebra;
-use air_windows::errors::AirError;
-use air_windows::names::name::Name;
 
 /// Receives constraints over an extension with names, as `NamedAirBuilder` does base constraints.
 pub trait NamedExtensionBuilder: ExtensionBuilder + NamedAirBuilder {

@@ -6,9 +6,9 @@ ghost use Rattle.air_builder.specs.laws.NamedFilters.{named_filter_laws};
 use crate::builders::air_builder::AirBuilder;
 use crate::builders::filtered::FilteredAirBuilder;
 use crate::builders::named::NamedAirBuilder;
+use air_core::errors::AirError;
+use air_core::names::name::Name;
 use air_field::Algebra;
-use air_windows::errors::AirError;
-use air_windows::names::name::Name;
 
 impl<'a, AB: NamedAirBuilder> NamedAirBuilder for FilteredAirBuilder<'a, AB> {
     ghost labelled = { λ f g ls. LabelledInside AB.kept AB.labelled

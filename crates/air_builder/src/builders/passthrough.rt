@@ -6,8 +6,8 @@ ghost use Rattle.air_builder.specs.Labels.{Labels, discarding};
 
 use crate::builders::air_builder::AirBuilder;
 use crate::builders::seen::Seen;
-use air_windows::errors::AirError;
-use air_windows::names::name::Name;
+use air_core::errors::AirError;
+use air_core::names::name::Name;
 
 /// A builder whose named assertions are those without a name: no name is evaluated.
 ///

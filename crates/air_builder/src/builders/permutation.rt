@@ -7,9 +7,9 @@ ghost use Rattle.air_builder.specs.Extensions.{RefusesWindow};
 
 use crate::builders::air_builder::AirBuilder;
 use crate::builders::extension::ExtensionBuilder;
+use air_core::errors::AirError;
+use air_core::windows::access::WindowAccess;
 use air_field::{Algebra, FromVar};
-use air_windows::errors::AirError;
-use air_windows::windows::access::WindowAccess;
 
 /// A builder with a permutation trace over the extension, its challenges, and the values that it exposes.
 pub trait PermutationAirBuilder: ExtensionBuilder

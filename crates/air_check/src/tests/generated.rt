@@ -5,7 +5,7 @@ use crate::tests::plain_airs::{Operation, Part, PlainAir, PlainCell, PlainNode};
 use crate::tests::streams::{Kept, Pieces};
 use crate::tests::{MANY, run_on, words};
 use air_builder::AirError;
-use air_flat_input::{FlatInput, flat_input_from};
+use air_program::{FlatInput, flat_input_from};
 use p3_air::{ConstraintReport, FlatAir, check_all_constraints};
 use serde_json::Value;
 use std::alloc::{AllocError, Global};

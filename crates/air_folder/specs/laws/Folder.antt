@@ -9,7 +9,7 @@ use Rattle.air_field.specs.Value.{value}
 use Rattle.air_field.specs.laws.Value.{value-leaves}
 use Rattle.air_field.specs.Assignment.{Shape}
 use Rattle.air_field.specs.OneRow.{one_row_shape}
-use Rattle.air_windows.specs.declared.errors.AirError.{AirError}
+use Rattle.air_core.specs.declared.errors.AirError.{AirError}
 use Rattle.air_builder.specs.Assertion.{Assertion}
 use Rattle.air_builder.specs.Builders.{BuilderLaws}
 use Rattle.air_builder.specs.Refusals.{NamesLeaf}

@@ -1,7 +1,7 @@
 //! Rows of variables.
 ghost use Rattle.std.specs.Prelude.{◌≡◌, length, IfOk, IfErr};
-ghost use Rattle.air_variables.specs.declared.entry.BaseEntry.TheVariants.{Preprocessed, Periodic, Public};
-ghost use Rattle.air_variables.specs.declared.ext_entry.ExtEntry.TheVariants.{Challenge, PermutationValue};
+ghost use Rattle.air_core.specs.declared.variables.entry.BaseEntry.TheVariants.{Preprocessed, Periodic, Public};
+ghost use Rattle.air_core.specs.declared.variables.ext_entry.ExtEntry.TheVariants.{Challenge, PermutationValue};
 ghost use Rattle.air_recording.specs.Rows.{IsRowOf, IsExtRowOf};
 
 use crate::layouts::air_layout::AirLayout;

@@ -12,8 +12,8 @@ use Rattle.air_builder.specs.laws.Zips.{AllZip-joined}
 use Rattle.air_builder.specs.Labels.{Label, Unasked, Shown, Labelled, LabelledEach, IsSaid, without_labels, NamedLaws}
 use Rattle.air_report.specs.Report.{failure_place}
 use Rattle.air_report.specs.Debug.{RowData, GrewAtRow}
-use Rattle.air_windows.specs.declared.errors.AirError.{AirError}
-use Rattle.air_windows.specs.declared.errors.AirError.TheVariants.{Memory, CountOverflow}
+use Rattle.air_core.specs.declared.errors.AirError.{AirError}
+use Rattle.air_core.specs.declared.errors.AirError.TheVariants.{Memory, CountOverflow}
 use Rattle.air_report.specs.RowRefusals.{RefusedAtRow}
 use Rattle.air_report.specs.laws.Debug.{asserted_zero, asserted_other, joined_at_row}
 use Rattle.air_report.specs.DebugLabels.{KeepsLabel, LogsOne, LogRefuses, failing_labels, passing_labels, LabelledAtRow}

@@ -8,8 +8,8 @@ use Rattle.air_field.specs.Assignment.{trace_shape, IsMissing}
 use Rattle.air_field.specs.Grid.{Grid}
 use Rattle.air_builder.specs.Assertion.{Assertion}
 use Rattle.air_builder.specs.Declaration.{plain_declaration}
-use Rattle.air_windows.specs.declared.errors.AirError.{AirError}
-use Rattle.air_windows.specs.declared.errors.AirError.TheVariants.{PreprocessedHeight, PeriodNotPowerOfTwo, PeriodDoesNotDivide, Boundary, EmptyTrace}
+use Rattle.air_core.specs.declared.errors.AirError.{AirError}
+use Rattle.air_core.specs.declared.errors.AirError.TheVariants.{PreprocessedHeight, PeriodNotPowerOfTwo, PeriodDoesNotDivide, Boundary, EmptyTrace}
 use Rattle.air_report.specs.Cells.{left_of, IsCellFault}
 use Rattle.air_report.specs.Checks.{CheckRefuses}
 use Rattle.air_report.specs.Given.{given}

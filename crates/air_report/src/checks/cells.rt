@@ -1,14 +1,14 @@
 //! Boundary cells of a whole trace.
 ghost use Rattle.std.specs.Prelude.{◌≡◌, ◌+◌, ◌<◌, ◌≤◌, ◌^◌, ◌⊎◌, Some, IfOk, IfErr, OnOk, MatchOption, length, string_bytes};
-ghost use Rattle.air_windows.specs.Boundary.{row_of, AreSound};
+ghost use Rattle.air_core.specs.Boundary.{row_of, AreSound};
 ghost use Rattle.air_report.specs.Cells.{differs, differing, left_of, ListsCells, IsListedPast, cell_label, failure_text, CellsFit, IsCellFault, AgreeBelow, IsFirstDiffering};
 ghost use Rattle.air_report.specs.Report.{failure_place};
 
 use crate::checks::check::{is_reached, main_row};
 use crate::debug::failure::ConstraintFailure;
 use air_builder::{AirError, BoundaryPublic};
+use air_core::boundary::validate;
 use air_field::{Field, RowMajorMatrix};
-use air_windows::boundary::validate;
 use std::alloc::Global;
 
 /// Checks that the cells are cells of the trace, each once, and hold public values that are there.

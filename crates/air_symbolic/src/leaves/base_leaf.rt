@@ -2,8 +2,8 @@
 
 use crate::leaves::sym_leaf::SymLeaf;
 use crate::pools::weight::{DegreeTable, LeafWeight};
+use air_core::SymbolicVariable;
 use air_field::{Field, RingError};
-use air_variables::SymbolicVariable;
 use std::alloc::Global;
 
 /// A leaf of a base expression: a variable, a selector of rows, or a constant.

@@ -7,8 +7,8 @@ use crate::pools::degree_table::known;
 use crate::pools::expr::ExprId;
 use crate::pools::pool::ExprPool;
 use crate::pools::weight::{DegreeTable, LeafWeight};
+use air_core::SymbolicVariableExt;
 use air_field::{ExtensionField, Field, RingError};
-use air_variables::SymbolicVariableExt;
 use std::alloc::Global;
 
 /// A leaf of an extension expression: an expression of the base pool that lies under it, an extension variable, or a

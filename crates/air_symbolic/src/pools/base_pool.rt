@@ -2,7 +2,7 @@
 ghost use Rattle.std.specs.Prelude.{◌≡◌, IfOk, IfErr};
 ghost use Rattle.air_field.specs.Algebra.{Made};
 ghost use Rattle.air_field.specs.Term.{leaf_term};
-ghost use Rattle.air_variables.specs.Entries.{entry_leaf};
+ghost use Rattle.air_core.specs.Entries.{entry_leaf};
 ghost use Rattle.air_symbolic.specs.BaseLeaves.{base_term, base_reads, base_grows};
 ghost use Rattle.air_symbolic.specs.Trees.{leaf_tree};
 ghost use Rattle.air_symbolic.specs.Pools.{IsPool, PoolHas, PoolMeans, Grown, HasTree};
@@ -10,8 +10,8 @@ ghost use Rattle.air_symbolic.specs.Pools.{IsPool, PoolHas, PoolMeans, Grown, Ha
 use crate::leaves::base_leaf::BaseLeaf;
 use crate::pools::expr::ExprId;
 use crate::pools::pool::ExprPool;
+use air_core::{BaseEntry, SymbolicVariable};
 use air_field::{Field, FromVar, RingError};
-use air_variables::{BaseEntry, SymbolicVariable};
 
 // Where a leaf is looked for first: leaves that are used together have places of their own.
 fn place_of<F>(a: &BaseLeaf<F>) -> usize {

@@ -2,7 +2,7 @@
 ghost use Rattle.std.specs.Prelude.{◌≡◌, ◌<◌, length, IfOk, IfErr};
 ghost use Rattle.air_field.specs.ExtAlgebra.{Lifted};
 ghost use Rattle.air_field.specs.Term.{leaf_term, ext_const_term};
-ghost use Rattle.air_variables.specs.ExtEntries.{ext_entry_leaf};
+ghost use Rattle.air_core.specs.ExtEntries.{ext_entry_leaf};
 ghost use Rattle.air_symbolic.specs.BaseLeaves.{base_reads};
 ghost use Rattle.air_symbolic.specs.ExtLeaves.{ext_reads, ext_grows};
 ghost use Rattle.air_symbolic.specs.ExtPool.{BaseMeans, ExtMade};
@@ -13,8 +13,8 @@ use crate::leaves::base_leaf::BaseLeaf;
 use crate::leaves::ext_leaf::ExtLeaf;
 use crate::pools::expr::ExprId;
 use crate::pools::pool::ExprPool;
+use air_core::SymbolicVariableExt;
 use air_field::{ExtAlgebra, ExtensionField, Field, FromVar, RingError};
-use air_variables::SymbolicVariableExt;
 
 impl<F: Field, EF: ExtensionField<F>> ExprPool<ExtLeaf<F, EF>> {
     /// The expression of a variable.

@@ -1,6 +1,6 @@
 //! Boundary cells.
 use air_builder::{BoundaryEnd, BoundaryIoError, BoundaryPublic};
-use air_windows::boundary::validate;
+use air_core::boundary::validate;
 use std::alloc::{AllocError, Global};
 use std::string::ToString;
 use std::test::Fail;

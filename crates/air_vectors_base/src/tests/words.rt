@@ -3,7 +3,7 @@ use crate::tests::numbers::number;
 use crate::tests::value_log::ValueLog;
 use air_builder::AirError;
 use air_field::BabyBear;
-use air_words::{add2, add3, xor_32_shift};
+use air_gadgets::{add2, add3, xor_32_shift};
 use std::process::Abort;
 use std::test::Fail;
 

@@ -3,7 +3,7 @@ use crate::tests::bench::{Bench, TableLeaf};
 use crate::tests::table::{LeafKind, RingStep, Row, Shape, Step};
 use air_field::{BabyBear, Field, RingError};
 use air_symbolic::{BaseLeaf, ExprId};
-use air_variables::{BaseEntry, SymbolicVariable};
+use air_core::{BaseEntry, SymbolicVariable};
 use std::alloc::Global;
 use std::process::Abort;
 use std::test::Fail;

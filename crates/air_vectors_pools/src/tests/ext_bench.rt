@@ -5,7 +5,7 @@ use crate::tests::bench::{Bench, MISSING, TableLeaf, assert_at, place_of, shape_
 use crate::tests::table::{ExtRow, LeafKind, Shape};
 use air_field::{ExtensionField, Field, RingError};
 use air_symbolic::{BaseLeaf, ExprId, ExtLeaf, SymbolicExpression};
-use air_variables::{BaseEntry, ExtEntry, SymbolicVariable, SymbolicVariableExt};
+use air_core::{BaseEntry, ExtEntry, SymbolicVariable, SymbolicVariableExt};
 use std::alloc::Global;
 use std::process::Abort;
 

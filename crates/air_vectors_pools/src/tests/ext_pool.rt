@@ -3,7 +3,7 @@ use crate::tests::ext_bench::ExtBench;
 use crate::tests::table::{ExtRow, LeafKind, Row, Shape, Step};
 use air_field::{BabyBear, BinomialExtensionField, RingError};
 use air_symbolic::LeafWeight;
-use air_variables::ExtEntry;
+use air_core::ExtEntry;
 use std::alloc::Global;
 use std::process::Abort;
 use std::test::Fail;

@@ -1,7 +1,7 @@
 //! Worked rows of objects that an AIR and its trace are read from.
 use air_field::BabyBear;
-use air_flat_input::{FlatInput, flat_input_from};
-use air_windows::{AirError, BoundaryEnd, BoundaryPublic};
+use air_program::{FlatInput, flat_input_from};
+use air_core::{AirError, BoundaryEnd, BoundaryPublic};
 use serde_json::Value;
 use std::alloc::Global;
 use std::process::Abort;

@@ -1,8 +1,7 @@
 //! Worked rows of lists of nodes that are read, and of spellings.
 use air_field::{BabyBear, BinomialExtensionField};
 use air_symbolic::{BaseLeaf, ExprPool, ExtLeaf};
-use air_variables::{BaseEntry, ExtEntry, SymbolicVariable, SymbolicVariableExt};
-use air_windows::{BoundaryEnd, BoundaryPublic};
+use air_core::{BaseEntry, BoundaryEnd, BoundaryPublic, ExtEntry, SymbolicVariable, SymbolicVariableExt};
 use air_wire::{FlatError, Spelled, from_flat_value};
 use serde_json::{Value, json};
 use std::alloc::Global;

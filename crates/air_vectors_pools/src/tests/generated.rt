@@ -10,7 +10,7 @@ use crate::tests::table::Step;
 use crate::tests::written_lists::written;
 use air_field::{BabyBear, RingError};
 use air_symbolic::{BaseLeaf, ExprId, LeafWeight, SymbolicExpr};
-use air_variables::BaseEntry;
+use air_core::BaseEntry;
 use air_wire::{FlatError, from_flat_value};
 use serde_json::Value;
 use std::alloc::Global;

@@ -1,7 +1,7 @@
 //! Lists of nodes as texts, and what they say of trees without sharing: the plain reference of reading and writing.
 use crate::tests::plain_trees::{MODULUS, Part, degree_of, joined};
 use air_symbolic::LeafWeight;
-use air_variables::BaseEntry;
+use air_core::BaseEntry;
 use air_wire::FlatError;
 use std::alloc::{AllocError, Global};
 use std::test::Fail;

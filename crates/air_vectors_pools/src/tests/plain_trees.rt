@@ -2,7 +2,7 @@
 //! parts in post-order, so the tree under a part is a piece of the list.
 use air_field::RingError;
 use air_symbolic::LeafWeight;
-use air_variables::BaseEntry;
+use air_core::BaseEntry;
 use std::alloc::{AllocError, Global};
 
 /// The modulus of `BabyBear`, whose constants are numbers below it.

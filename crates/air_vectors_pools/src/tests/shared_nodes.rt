@@ -4,7 +4,7 @@ use crate::tests::bench::{Bench, TableLeaf};
 use crate::tests::table::{LeafKind, Row, Shape, Step};
 use air_field::{BabyBear, RingError};
 use air_symbolic::BaseLeaf;
-use air_variables::BaseEntry;
+use air_core::BaseEntry;
 use std::alloc::Global;
 use std::process::Abort;
 use std::test::Fail;

@@ -1,7 +1,7 @@
 //! The tables that pools are taken through: the steps that make expressions, and what is seen of them.
 use air_field::RingError;
 use air_symbolic::LeafWeight;
-use air_variables::{BaseEntry, ExtEntry};
+use air_core::{BaseEntry, ExtEntry};
 use std::alloc::AllocError;
 
 /// A step that makes an expression; its operands are the places of those made before, from 0.

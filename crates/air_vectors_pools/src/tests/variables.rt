@@ -1,6 +1,6 @@
 //! Degrees of variables.
 use air_field::{BabyBear, BinomialExtensionField};
-use air_variables::{BaseEntry, ExtEntry, SymbolicVariable, SymbolicVariableExt};
+use air_core::{BaseEntry, ExtEntry, SymbolicVariable, SymbolicVariableExt};
 
 fn base(entry: BaseEntry) -> SymbolicVariable<BabyBear> {
     SymbolicVariable::new(entry, 0)

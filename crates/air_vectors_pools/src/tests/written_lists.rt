@@ -3,7 +3,7 @@ use crate::tests::bench::{Bench, TableLeaf};
 use crate::tests::table::Step;
 use air_field::{BabyBear, BinomialExtensionField};
 use air_symbolic::{BaseLeaf, ExprPool, ExtLeaf};
-use air_variables::ExtEntry;
+use air_core::ExtEntry;
 use air_wire::{WireLeaf, from_flat_value, to_flat_value};
 use serde_json::Value;
 use std::alloc::Global;

@@ -7,9 +7,9 @@ use Rattle.air_wire.specs.Parts.{whole_at, find_name}
 use Rattle.air_wire.specs.Plain.{PlainLaws}
 use Rattle.air_wire.specs.laws.Readings.{three_found, then_found, field_again, field_with, field_found, field_read, name_found, text_found}
 use Rattle.air_wire.specs.Boundaries.{end_data, SpellsEnd, SpellsCell, bare_ends, end_of, end_plain, cell_at, cell_of, cell_plain}
-use Rattle.air_windows.specs.declared.boundary.BoundaryEnd.{BoundaryEnd}
-use Rattle.air_windows.specs.declared.boundary.BoundaryEnd.TheVariants as ends
-use Rattle.air_windows.specs.declared.boundary.BoundaryPublic.{BoundaryPublic}
+use Rattle.air_core.specs.declared.boundary.BoundaryEnd.{BoundaryEnd}
+use Rattle.air_core.specs.declared.boundary.BoundaryEnd.TheVariants as ends
+use Rattle.air_core.specs.declared.boundary.BoundaryPublic.{BoundaryPublic}
 
 end_read : (e : BoundaryEnd) → end_of (end_data e) ≡ Some e
 unfolding end_of

@@ -4,8 +4,8 @@ use Rattle.air_wire.specs.Plain.{PlainLaws}
 use Rattle.air_wire.specs.EntryForms.{entry_of_form}
 use Rattle.air_wire.specs.laws.EntryForms.{named_laws, indexed_laws}
 use Rattle.air_wire.specs.Entries.{entry_form, entry_names, entry_plain, variable_at, variable_plain}
-use Rattle.air_variables.specs.declared.entry.BaseEntry.{BaseEntry}
-use Rattle.air_variables.specs.declared.entry.BaseEntry.TheVariants as entries
+use Rattle.air_core.specs.declared.variables.entry.BaseEntry.{BaseEntry}
+use Rattle.air_core.specs.declared.variables.entry.BaseEntry.TheVariants as entries
 
 again : (e : BaseEntry) → entry_of_form entry_names (entry_form e) ≡ Some e
 unfolding entry_names

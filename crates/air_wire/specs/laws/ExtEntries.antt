@@ -4,8 +4,8 @@ use Rattle.air_wire.specs.Plain.{PlainLaws}
 use Rattle.air_wire.specs.EntryForms.{entry_of_form}
 use Rattle.air_wire.specs.laws.EntryForms.{named_laws, indexed_laws}
 use Rattle.air_wire.specs.ExtEntries.{ext_entry_form, ext_entry_names, ext_entry_plain, ext_variable_at, ext_variable_plain}
-use Rattle.air_variables.specs.declared.ext_entry.ExtEntry.{ExtEntry}
-use Rattle.air_variables.specs.declared.ext_entry.ExtEntry.TheVariants as entries
+use Rattle.air_core.specs.declared.variables.ext_entry.ExtEntry.{ExtEntry}
+use Rattle.air_core.specs.declared.variables.ext_entry.ExtEntry.TheVariants as entries
 
 again : (e : ExtEntry) → entry_of_form ext_entry_names (ext_entry_form e) ≡ Some e
 unfolding ext_entry_names

@@ -7,8 +7,8 @@ use Rattle.air_field.specs.Degree.{cached_weight}
 use Rattle.air_symbolic.specs.BaseLeaves.{base_reads}
 use Rattle.air_symbolic.specs.ExtLeaves.{ext_reads}
 use Rattle.air_symbolic.specs.Pools.{PoolMeans}
-use Rattle.air_windows.specs.declared.errors.AirError.{AirError}
-use Rattle.air_windows.specs.declared.errors.AirError.TheVariants.{Memory}
+use Rattle.air_core.specs.declared.errors.AirError.{AirError}
+use Rattle.air_core.specs.declared.errors.AirError.TheVariants.{Memory}
 use Rattle.air_builder.specs.Refusals.{NoneMissing}
 use Rattle.air_builder.specs.Refused.{Refused}
 use Rattle.air_recording.specs.Kinds.{kind_of, base_terms, ext_terms}

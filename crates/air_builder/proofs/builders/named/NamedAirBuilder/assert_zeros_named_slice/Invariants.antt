@@ -3,7 +3,7 @@ use Rattle.air_builder.specs.Assertion.{Base}
 use Rattle.air_builder.specs.Batches.{AssertsOf, AssertedEach}
 use Rattle.air_builder.specs.Builders.{Means}
 use Rattle.air_builder.specs.Labels.{LabelledEach}
-use Rattle.air_windows.specs.Texts.{ElementSays}
+use Rattle.air_core.specs.Texts.{ElementSays}
 use Rattle.air_builder.proofs.builders.named.NamedAirBuilder.assert_zeros_named_slice.Given as goal
 
 abbrev pub invariant-loop-i : goal.invariant-loop-i

@@ -1,0 +1,5 @@
+use Rattle.std.proofs.Common.{refl}
+use Rattle.air_core.proofs.errors.AirErrorFromAllocError.from.Goals as goal
+
+pub returns : goal.returns
+returns c = refl

@@ -1,0 +1,10 @@
+pub use Rattle.air_field.specs.Grid
+pub use Rattle.air_field.specs.Term
+pub use Rattle.air_field.specs.Degree
+pub mod Entries
+pub mod ExtEntries
+pub mod Boundary
+pub mod Periodic
+pub mod Texts
+pub mod Errors
+pub mod WindowShapes

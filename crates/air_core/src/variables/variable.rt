@@ -1,0 +1,60 @@
+//! Base variables.
+ghost use Rattle.std.specs.Prelude.{◌≡◌};
+ghost use Rattle.air_field.specs.Degree.{cached_weight, trace_weight};
+ghost use Rattle.air_core.specs.Entries.{entry_leaf};
+
+use crate::variables::entry::BaseEntry;
+use std::marker::PhantomData;
+
+/// A base variable: an entry, and the place in it.
+#[derive(Clone, Copy, Debug, PartialEq, Eq, PartialOrd, Ord)]
+pub struct SymbolicVariable<F> {
+    pub entry: BaseEntry,
+    pub index: usize,
+    of: PhantomData<F>,
+}
+
+impl<F> SymbolicVariable<F> {
+    /// The variable at place `index` of `entry`.
+    pub fn new(entry: BaseEntry, index: usize) -> Self
+        ensures entry { result.entry ≡ entry }
+        ensures index { result.index ≡ index }
+    {
+        SymbolicVariable {
+            entry,
+            index,
+            of: PhantomData,
+        }
+    }
+
+    /// The degree that nodes state: 1 for a column, 0 for a public value.
+    pub fn degree_multiple(&self) -> usize
+        ensures { result ≡ cached_weight (entry_leaf self.now.entry self.now.index) }
+    {
+        match self.entry {
+            BaseEntry::Public => 0,
+            _ => 1,
+        }
+    }
+
+    /// The degree of the variable's polynomial over `trace_len` rows; `periods` holds the lengths of the periodic
+    /// columns. A column that repeats with period p, a divisor of the rows N, has a polynomial in the (N/p)-th power of
+    /// the trace's variable, of degree at most N - N/p; for any other p up to N the answer is the same with N/p rounded
+    /// down. One without a period, or with one past N, counts as a column of the trace.
+    pub fn poly_degree(&self, trace_len: usize, periods: &[usize]) -> usize
+        ensures { result ≡ trace_weight trace_len periods.now
+            (entry_leaf self.now.entry self.now.index) }
+    {
+        match self.entry {
+            BaseEntry::Public => 0,
+            BaseEntry::Periodic => {
+                let period = periods.get(self.index).copied().unwrap_or(trace_len);
+                match period.min(trace_len) {
+                    0 => trace_len.saturating_sub(1),
+                    repeats_after => trace_len - trace_len / repeats_after,
+                }
+            }
+            _ => trace_len.saturating_sub(1),
+        }
+    }
+}

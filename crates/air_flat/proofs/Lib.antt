@@ -1,5 +1,0 @@
--- Lemmas on what is reached.
-mod Making
-mod Filling
-mod Roots
-mod Asserting

@@ -1,4 +1,0 @@
-pub use Rattle.air_builder.specs.Builders
-pub mod Tables
-pub mod FlatAirs
-pub mod laws

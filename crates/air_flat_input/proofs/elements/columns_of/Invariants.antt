@@ -1,7 +1,0 @@
-use Rattle.std.proofs.Common.{◌≡◌, [], drop, map}
-use Rattle.serde_json.specs.View.{items_view}
-use Rattle.air_flat_input.specs.Readers.{each_from, elements}
-use Rattle.air_flat_input.proofs.elements.columns_of.Given as goal
-
-abbrev pub invariant-loop-item : goal.invariant-loop-item
-invariant-loop-item l = each_from elements (map (λ c. c.items) l.columns.items) (items_view (drop l.item-index l.items)) ≡ each_from elements [] (items_view l.items)

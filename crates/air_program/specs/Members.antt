@@ -1,0 +1,56 @@
+-- The members of the object: what they spell, in the order in which they are read.
+use Rattle.std.specs.Prelude.{◌≡◌, ℕ, ◌≤◌, List, [], Option, Some, None, ◌⊎◌, codes}
+use Rattle.serde_json.specs.Data.{Data, null}
+use Rattle.air_field.specs.declared.fields.baby_bear.BabyBear.{BabyBear}
+use Rattle.air_symbolic.specs.Trees.{Tree}
+use Rattle.air_symbolic.specs.declared.leaves.base_leaf.BaseLeaf.{BaseLeaf}
+use Rattle.air_core.specs.declared.boundary.BoundaryPublic.{BoundaryPublic}
+use Rattle.air_wire.specs.BaseLeaves.{base_kind}
+use Rattle.air_wire.specs.Boundaries.{SpellsCell}
+use Rattle.air_wire.specs.Good.{IsList, HasFault}
+use Rattle.air_wire.specs.Spelling.{IsWhole}
+use Rattle.air_wire.specs.declared.errors.FlatError.{FlatError}
+use Rattle.air_wire.specs.declared.errors.FlatError.TheVariants as faults
+use Rattle.air_program.specs.Objects.{Grammar, by_form, list_of, needed, optional, both}
+
+abbrev pub whole_number : Grammar ℕ
+whole_number = by_form (λ d n. IsWhole n d)
+
+-- no whole number, or one at or past the modulus
+abbrev pub ElementFault : Data → FlatError → Type 0
+ElementFault d f = (((n : ℕ) → IsWhole n d → ⊥) × (f ≡ faults.Shape 0)) ⊎ ((n : ℕ) × IsWhole n d × (2013265921 ≤ n) × (f ≡ faults.NotCanonical 0))
+
+-- a field element, by its canonical number
+abbrev pub element : Grammar BabyBear
+element = record { spells = λ d x. IsWhole x.residue d; fault = ElementFault }
+
+-- a list of nodes, as the tree of its root
+abbrev pub constraint : Grammar (Tree (BaseLeaf BabyBear))
+constraint = record { spells = IsList base_kind; fault = HasFault base_kind }
+
+abbrev pub cell : Grammar BoundaryPublic
+cell = by_form SpellsCell
+
+-- null is no cap
+abbrev pub SpellsCap : Data → Option ℕ → Type 0
+SpellsCap d None = d ≡ null
+SpellsCap d (Some n) = IsWhole n d
+
+abbrev pub cap : Grammar (Option ℕ)
+cap = by_form SpellsCap
+
+-- the width, the trace's values, the public values, the constraints, the periodic columns, the boundary cells, the cap,
+-- the weight of the transition selector
+abbrev pub MemberValues : Type 0
+MemberValues = ℕ × (List BabyBear × (List BabyBear × (List (Tree (BaseLeaf BabyBear)) × (List (List BabyBear) × (List BoundaryPublic × (Option ℕ × ℕ))))))
+
+abbrev pub members : Grammar MemberValues
+members =
+    both (needed (codes "main_width") whole_number)
+    (both (needed (codes "main") (list_of element))
+    (both (needed (codes "public_values") (list_of element))
+    (both (needed (codes "constraints") (list_of constraint))
+    (both (optional (codes "periodic") [] (list_of (list_of element)))
+    (both (optional (codes "boundary") [] (list_of cell))
+    (both (optional (codes "cap") None cap)
+    (optional (codes "transition_weight") 0 whole_number)))))))

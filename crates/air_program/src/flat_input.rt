@@ -1,0 +1,8 @@
+//! The JSON object that an AIR and its trace are read from.
+
+mod cells;
+mod constraints;
+mod elements;
+pub mod input;
+pub mod laws;
+mod members;

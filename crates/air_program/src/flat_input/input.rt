@@ -1,0 +1,58 @@
+//! The whole object.
+ghost use Rattle.std.specs.Prelude.{◌≢◌, ◌<◌, length, All, IfOk, IfErr};
+ghost use Rattle.serde_json.specs.View.{view};
+ghost use Rattle.air_symbolic.specs.BaseLeaves.{base_reads};
+ghost use Rattle.air_symbolic.specs.Pools.{IsPool};
+ghost use Rattle.air_program.specs.Input.{SpellsInput, HasInputFault};
+
+use crate::flat_input::members::members_from;
+use air_core::{AirError, BoundaryPublic};
+use air_field::{BabyBear, RowMajorMatrix};
+use air_symbolic::{BaseLeaf, ExprId, ExprPool};
+use serde_json::Value;
+use std::alloc::Global;
+
+/// An AIR's constraints, public values, periodic columns and boundary cells, with a trace, a cap and a domain's weight.
+#[derive(Drop)]
+pub struct FlatInput {
+    /// The expressions of the constraints.
+    pub pool: ExprPool<BaseLeaf<BabyBear>>,
+    /// The constraints.
+    pub roots: Vec<ExprId<BaseLeaf<BabyBear>>>,
+    /// The trace.
+    pub main: RowMajorMatrix<BabyBear>,
+    pub public_values: Vec<BabyBear>,
+    /// The periodic columns, each of a length of its own.
+    pub periodic: Vec<Vec<BabyBear>>,
+    /// The boundary cells.
+    pub cells: Vec<BoundaryPublic>,
+    /// How many failures are wanted at most.
+    pub cap: Option<usize>,
+    /// What the transition selector weighs in the domain; 0 where it is linear.
+    pub transition_weight: usize,
+}
+
+/// Reads the object: its members in the order `main_width`, `main` (row after row), `public_values`, `constraints`
+/// (lists of nodes), `periodic`, `boundary`, `cap` and `transition_weight`, of which the last four may be absent, and
+/// `cap` may be null; no weight is the weight 0. Any other value is refused with the first fault in this order; values
+/// that aren't whole rows of the width are `Ragged` after all members. Other members are ignored. The place in a
+/// refusal is that of a node in its constraint's own list, and 0 in all other members.
+pub fn flat_input_from(alloc: Global, value: &Value) -> Result<FlatInput, AirError>
+    ensures pool { IfOk result (λ input. IsPool base_reads input.pool) }
+    ensures roots { IfOk result (λ input. All (λ i. i < length input.pool.1) input.roots.items) }
+    ensures read { IfOk result (SpellsInput (view value.now)) }
+    ensures refused { IfErr result (λ e. e ≢ AirError.Memory → HasInputFault (view value.now) e) }
+{
+    let members = members_from(alloc, value)?;
+    let main = RowMajorMatrix::new(members.main, members.main_width)?;
+    Ok(FlatInput {
+        pool: members.pool,
+        roots: members.roots,
+        main,
+        public_values: members.public_values,
+        periodic: members.periodic,
+        cells: members.cells,
+        cap: members.cap,
+        transition_weight: members.transition_weight,
+    })
+}

@@ -1,0 +1,17 @@
+//! What callers rely on, as the contract of a function.
+ghost use Rattle.std.specs.Prelude.{◌≡◌};
+ghost use Rattle.serde_json.specs.Data.{Data};
+ghost use Rattle.air_core.specs.declared.errors.AirError.{AirError};
+ghost use Rattle.air_program.specs.Members.{MemberValues, members};
+ghost use Rattle.air_program.specs.Input.{SpellsInput, HasInputFault};
+ghost use Rattle.air_program.specs.declared.flat_input.input.FlatInput.{FlatInput};
+
+/// A value spells the members of one input at most, has one first fault at most, and never both.
+pub fn inputs_are_read_one_way()
+    ensures one_value { (d : Data) (m n : MemberValues) → members.spells d m → members.spells d n →
+        m ≡ n }
+    ensures no_fault { (d : Data) (input : FlatInput) (e : AirError) → SpellsInput d input →
+        HasInputFault d e → ⊥ }
+    ensures one_fault { (d : Data) (e f : AirError) → HasInputFault d e → HasInputFault d f →
+        e ≡ f }
+{}

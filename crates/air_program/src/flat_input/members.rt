@@ -1,0 +1,145 @@
+//! The members of the object, in the order in which they are read.
+ghost use Rattle.std.specs.Prelude.{◌≡◌, ◌<◌, length, map, All, IfOk, ok_or};
+ghost use Rattle.serde_json.specs.Find.{get};
+ghost use Rattle.serde_json.specs.View.{view};
+ghost use Rattle.air_symbolic.specs.BaseLeaves.{base_reads, base_grows};
+ghost use Rattle.air_symbolic.specs.Pools.{IsPool, tree_at};
+ghost use Rattle.air_wire.specs.Reads.{ReadsAll};
+ghost use Rattle.air_wire.specs.Results.{Gives};
+ghost use Rattle.air_wire.specs.declared.errors.FlatError.TheVariants.{Shape};
+ghost use Rattle.air_program.specs.Readers.{width_member, elements_member, constraints_member, periodic_member, boundary_member, cap_of, cap_member, weight_member, members_read};
+ghost use Rattle.air_program.specs.Seen.{seen_members};
+
+use crate::flat_input::cells::cells_from;
+use crate::flat_input::constraints::{BasePool, Roots, roots_from};
+use crate::flat_input::elements::{columns_from, elements_from};
+use air_core::BoundaryPublic;
+use air_field::BabyBear;
+use air_symbolic::ExprPool;
+use air_wire::{FlatError, whole};
+use serde_json::Value;
+use std::alloc::Global;
+
+/// What the members spell, before the matrix is made.
+#[derive(Drop)]
+pub(crate) struct Members {
+    pub main_width: usize,
+    pub main: Vec<BabyBear>,
+    pub public_values: Vec<BabyBear>,
+    pub pool: BasePool,
+    pub roots: Roots,
+    pub periodic: Vec<Vec<BabyBear>>,
+    pub cells: Vec<BoundaryPublic>,
+    pub cap: Option<usize>,
+    pub transition_weight: usize,
+}
+
+fn needed<'a>(value: &'a Value, name: &str) -> Result<&'a Value, FlatError>
+    ensures { Gives (λ v. view v.now) result (ok_or (get name.now (view value.now)) (Shape 0)) }
+{
+    value.get(name).ok_or(FlatError::Shape { at: 0 })
+}
+
+#[tactic(auto, unfolding(crate::specs::Readers::width_member))]
+fn width_from(value: &Value) -> Result<usize, FlatError>
+    ensures { Gives (λ n. n) result (width_member (view value.now)) }
+{
+    let width = needed(value, "main_width")?;
+    whole(width).ok_or(FlatError::Shape { at: 0 })
+}
+
+#[tactic(auto, unfolding(crate::specs::Readers::elements_member))]
+fn elements_at(alloc: Global, value: &Value, name: &str) -> Result<Vec<BabyBear>, FlatError>
+    ensures { Gives (λ v. v.items) result (elements_member name.now (view value.now)) }
+{
+    elements_from(alloc, needed(value, name)?)
+}
+
+#[tactic(auto, unfolding(crate::specs::Readers::constraints_member))]
+fn constraints_from(alloc: Global, pool: &mut BasePool, value: &Value) -> Result<Roots, FlatError>
+    requires { IsPool base_reads pool.old }
+    ensures { ReadsAll base_grows base_reads tree_at (λ v. v.items) pool.old pool.new result
+        (constraints_member (view value.now)) }
+{
+    roots_from(alloc, pool, needed(value, "constraints")?)
+}
+
+#[tactic(auto, unfolding(crate::specs::Readers::periodic_member))]
+fn periodic_from(alloc: Global, value: &Value) -> Result<Vec<Vec<BabyBear>>, FlatError>
+    ensures { Gives (λ v. map (λ c. c.items) v.items) result (periodic_member (view value.now)) }
+{
+    match value.get("periodic") {
+        Some(columns) => columns_from(alloc, columns),
+        None => Ok(Vec::new(alloc)),
+    }
+}
+
+#[tactic(auto, unfolding(crate::specs::Readers::boundary_member))]
+fn boundary_from(alloc: Global, value: &Value) -> Result<Vec<BoundaryPublic>, FlatError>
+    ensures { Gives (λ v. v.items) result (boundary_member (view value.now)) }
+{
+    match value.get("boundary") {
+        Some(cells) => cells_from(alloc, cells),
+        None => Ok(Vec::new(alloc)),
+    }
+}
+
+#[tactic(auto, unfolding(crate::specs::Readers::cap_of))]
+fn cap_of(value: &Value) -> Option<Option<usize>>
+    ensures { result ≡ cap_of (view value.now) }
+{
+    if value.is_null() {
+        return Some(None);
+    }
+    let cap = whole(value)?;
+    Some(Some(cap))
+}
+
+#[tactic(auto, unfolding(crate::specs::Readers::cap_member))]
+fn cap_from(value: &Value) -> Result<Option<usize>, FlatError>
+    ensures { Gives (λ o. o) result (cap_member (view value.now)) }
+{
+    match value.get("cap") {
+        Some(cap) => cap_of(cap).ok_or(FlatError::Shape { at: 0 }),
+        None => Ok(None),
+    }
+}
+
+#[tactic(auto, unfolding(crate::specs::Readers::weight_member))]
+fn weight_from(value: &Value) -> Result<usize, FlatError>
+    ensures { Gives (λ n. n) result (weight_member (view value.now)) }
+{
+    match value.get("transition_weight") {
+        Some(weight) => whole(weight).ok_or(FlatError::Shape { at: 0 }),
+        None => Ok(0),
+    }
+}
+
+/// The members that the object spells, or the first fault among them.
+#[tactic(auto, unfolding(crate::specs::Readers::members_read))]
+pub(crate) fn members_from(alloc: Global, value: &Value) -> Result<Members, FlatError>
+    ensures pool { IfOk result (λ m. IsPool base_reads m.pool) }
+    ensures roots { IfOk result (λ m. All (λ i. i < length m.pool.1) m.roots.items) }
+    ensures read { Gives seen_members result (members_read (view value.now)) }
+{
+    let main_width = width_from(value)?;
+    let main = elements_at(alloc, value, "main")?;
+    let public_values = elements_at(alloc, value, "public_values")?;
+    let mut pool = ExprPool::new(alloc);
+    let roots = constraints_from(alloc, &mut pool, value)?;
+    let periodic = periodic_from(alloc, value)?;
+    let cells = boundary_from(alloc, value)?;
+    let cap = cap_from(value)?;
+    let transition_weight = weight_from(value)?;
+    Ok(Members {
+        main_width,
+        main,
+        public_values,
+        pool,
+        roots,
+        periodic,
+        cells,
+        cap,
+        transition_weight,
+    })
+}

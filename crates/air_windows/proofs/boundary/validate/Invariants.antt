@@ -1,5 +1,0 @@
-use Rattle.air_windows.specs.Boundary.{AreSoundBelow}
-use Rattle.air_windows.proofs.boundary.validate.Given as goal
-
-abbrev pub invariant-loop-place : goal.invariant-loop-place
-invariant-loop-place l = AreSoundBelow l.width l.num_public_values l.cells l.place

@@ -1,5 +1,0 @@
-use Rattle.std.proofs.Common.{refl}
-use Rattle.air_windows.proofs.errors.AirErrorFromAllocError.from.Goals as goal
-
-pub returns : goal.returns
-returns c = refl

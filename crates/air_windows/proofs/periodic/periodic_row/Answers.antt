@@ -1,6 +1,0 @@
-use Rattle.air_windows.proofs.PeriodicRows.{row_made}
-use Rattle.air_windows.specs.Periodic.{column_at}
-use Rattle.air_windows.proofs.periodic.periodic_row.Goals as goal
-
-pub returns : goal.returns
-returns g c = row_made _ _ c.args.columns.now (column_at c.args.row) c.new-values.ensures.items c.in_ok-push_row.ensures

@@ -1,5 +1,0 @@
-use Rattle.std.proofs.Common.{refl}
-use Rattle.air_windows.proofs.windows.row_window.RowWindowWindowAccess.current_slice.Goals as goal
-
-pub returns : goal.returns
-returns g c = refl

@@ -1,5 +1,0 @@
-use Rattle.std.proofs.Common.{refl}
-use Rattle.air_windows.proofs.windows.two_rows.TwoRows.new.Goals as goal
-
-pub returns : goal.returns
-returns g c = record { current = refl; next = refl }

@@ -1,4 +1,0 @@
-use Rattle.air_windows.proofs.windows.two_rows.TwoRowsWindowAccess.current_slice.Goals as goal
-
-pub returns : goal.returns
-returns g c = c.as_slice.ensures.value

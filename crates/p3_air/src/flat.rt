@@ -1,0 +1,8 @@
+//! Constraints from outside: expressions of a pool in any builder, and the AIR that such expressions are.
+
+pub mod flat_air;
+mod leaves;
+mod nodes;
+mod pushing;
+pub mod resolving;
+mod table;
