@@ -1,0 +1,74 @@
+//! A table's lines.
+
+use crate::faults::{Fault, Why};
+use crate::words::count_of;
+use std::alloc::Global;
+
+/// A call, the name that its answer gets, and the text that it has to have.
+#[derive(Drop)]
+pub struct Line<'a> {
+    pub name: Option<&'a str>,
+    /// How often the call is made, each time with the name for the last answer.
+    pub times: Option<usize>,
+    pub words: Vec<&'a str>,
+    pub wanted: Option<&'a str>,
+}
+
+// The words of a text, which single spaces separate.
+fn words_of<'a>(alloc: Global, text: &'a str) -> Result<Vec<&'a str>, Fault> {
+    let mut words = Vec::new(alloc);
+    for word in text.split(' ') {
+        words.push(word)?;
+    }
+    Ok(words)
+}
+
+// A count from 1.
+fn times_of(word: &str) -> Result<usize, Fault> {
+    match count_of(word)? {
+        0 => Err(Fault::Unreadable(Why::NoNumber)),
+        times => Ok(times),
+    }
+}
+
+// The count and the name of `repeat COUNT NAME`, or the name alone.
+fn name_of(text: &str) -> Result<(Option<usize>, &str), Fault> {
+    match text.split_once(' ') {
+        Some(("repeat", rest)) => match rest.split_once(' ') {
+            Some((times, name)) if !name.contains(' ') => Ok((Some(times_of(times)?), name)),
+            _ => Err(Fault::Unreadable(Why::NoName)),
+        },
+        Some(_) => Err(Fault::Unreadable(Why::NoName)),
+        None => Ok((None, text)),
+    }
+}
+
+/// The line of a text `CALL => WANTED`, `NAME = CALL`, `NAME = CALL => WANTED` or `repeat COUNT NAME = CALL`.
+pub fn line_of<'a>(alloc: Global, text: &'a str) -> Result<Line<'a>, Fault> {
+    let (made, wanted) = match text.split_once(" => ") {
+        Some((made, wanted)) => (made, Some(wanted)),
+        None => (text, None),
+    };
+    match made.split_once(" = ") {
+        Some((head, call)) => {
+            let (times, name) = name_of(head)?;
+            let words = words_of(alloc, call)?;
+            Ok(Line {
+                name: Some(name),
+                times,
+                words,
+                wanted,
+            })
+        }
+        None if wanted.is_some() => {
+            let words = words_of(alloc, made)?;
+            Ok(Line {
+                name: None,
+                times: None,
+                words,
+                wanted,
+            })
+        }
+        None => Err(Fault::Unreadable(Why::NeitherNameNorAnswer)),
+    }
+}

@@ -1,0 +1,44 @@
+//! What is found of the lines.
+
+use crate::faults::Fault;
+
+/// How many lines there are, and how many of them differ.
+#[derive(Drop)]
+pub struct Report {
+    pub lines: usize,
+    pub differ: usize,
+    /// The number of the line that is being tried, from 1.
+    pub at: usize,
+    /// Whether a call that is refused for want of memory is made again, after a look at what stands.
+    pub again: bool,
+}
+
+impl Report {
+    pub fn new(again: bool) -> Self {
+        Report {
+            lines: 0,
+            differ: 0,
+            at: 0,
+            again,
+        }
+    }
+
+    /// Counts a line, and prints one that differs.
+    pub fn count(
+        &mut self,
+        rt: &impl Print,
+        table: &str,
+        line: &str,
+        right: bool,
+        found: &str,
+    ) -> Result<(), Fault> {
+        self.lines = self.lines.saturating_add(1);
+        if !right {
+            self.differ = self.differ.saturating_add(1);
+            let at = self.at;
+            println!(rt; "{table}:{at}: {line}")?;
+            println!(rt; "    found: {found}")?;
+        }
+        Ok(())
+    }
+}

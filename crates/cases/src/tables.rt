@@ -1,0 +1,192 @@
+//! Tables, line by line.
+
+use crate::bench::{Bench, Tables};
+use crate::faults::{Fault, Why, show_refusal};
+use crate::lines::{Line, line_of};
+use crate::report::Report;
+use std::alloc::Global;
+use std::process::ExitCode;
+use std::{env, fs};
+
+/// A table's name and its text.
+#[derive(Drop)]
+pub struct Table<'a> {
+    pub name: &'a str,
+    pub text: &'a str,
+}
+
+// Adds what the line's call answers, the last time where there are several.
+fn answer_times<'a, B: Bench<'a>>(
+    bench: &mut B,
+    line: &Line<'a>,
+    text: &mut String,
+) -> Result<(), Fault> {
+    for _ in 0..line.times.unwrap_or(1) {
+        text.clear();
+        bench.answer(line, text)?;
+    }
+    Ok(())
+}
+
+// Makes a call once more that is refused for want of memory. What has to stand must stand as before it.
+fn answer_again<'a, B: Bench<'a>>(
+    alloc: Global,
+    bench: &mut B,
+    line: &Line<'a>,
+    text: &mut String,
+) -> Result<(), Fault> {
+    let mut before = String::new(alloc);
+    bench.standing(&mut before)?;
+    match answer_times(bench, line, text) {
+        Err(Fault::Memory) => {
+            let mut after = String::new(alloc);
+            bench.standing(&mut after)?;
+            if after.as_str() == before.as_str() {
+                answer_times(bench, line, text)
+            } else {
+                text.clear();
+                text.push_str("after a refusal: ")?;
+                text.push_str(after.as_str())?;
+                Ok(())
+            }
+        }
+        answer => answer,
+    }
+}
+
+// Whether a call's answer is the one that is wanted, if one is; `text` holds it, or gets the refusal.
+fn is_wanted(
+    wanted: Option<&str>,
+    answer: Result<(), Fault>,
+    text: &mut String,
+) -> Result<bool, Fault> {
+    let mut answers = true;
+    let mut refused = false;
+    if let Err(fault) = answer {
+        text.clear();
+        refused = true;
+        answers = show_refusal(fault, text)?;
+    }
+    match wanted {
+        Some(wanted) => Ok(answers && text.as_str() == wanted),
+        None => Ok(!refused),
+    }
+}
+
+// Whether the line's call answers what is wanted; `text` gets what it answers.
+fn is_right<'a, B: Bench<'a>>(
+    alloc: Global,
+    bench: &mut B,
+    line: &'a str,
+    again: bool,
+    text: &mut String,
+) -> Result<bool, Fault> {
+    match line_of(alloc, line) {
+        Ok(line) => {
+            let answer = if again && line.times.is_none() {
+                answer_again(alloc, bench, &line, text)
+            } else {
+                answer_times(bench, &line, text)
+            };
+            is_wanted(line.wanted, answer, text)
+        }
+        Err(fault) => is_wanted(None, Err(fault), text),
+    }
+}
+
+/// Checks each line of a table but the first one, comments and empty ones. At a line `new` the bench is made anew.
+pub fn check_lines<'a, B: Bench<'a>>(
+    rt: &HostRuntime,
+    table: &Table<'a>,
+    report: &mut Report,
+) -> Result<(), Fault> {
+    let mut bench = B::new(rt.alloc());
+    let mut text = String::new(rt.alloc());
+    let before = report.lines;
+    for (place, line) in table.text.lines().enumerate() {
+        report.at = place.saturating_add(1);
+        if place == 0 || line.is_empty() || line.starts_with('#') {
+            continue;
+        }
+        if line == "new" {
+            bench = B::new(rt.alloc());
+            continue;
+        }
+        text.clear();
+        let again = report.again;
+        let right = is_right(rt.alloc(), &mut bench, line, again, &mut text)?;
+        report.count(rt, table.name, line, right, text.as_str())?;
+    }
+    if report.lines == before {
+        return Err(Fault::Unreadable(Why::NoLines));
+    }
+    Ok(())
+}
+
+// Checks a table by its head.
+fn check_table<T: Tables>(
+    rt: &HostRuntime,
+    name: &str,
+    text: &str,
+    report: &mut Report,
+) -> Result<(), Fault> {
+    report.at = 1;
+    match text.split_once('\n') {
+        Some((first, _)) => match first.split_once(' ') {
+            Some(("#", head)) => T::check(rt, head, &Table { name, text }, report),
+            _ => Err(Fault::Unreadable(Why::NoSuchTable)),
+        },
+        None => Err(Fault::Unreadable(Why::NoSuchTable)),
+    }
+}
+
+// Checks the table in a file. Whether it could be gone through.
+fn check_file<T: Tables>(rt: &HostRuntime, name: &str, report: &mut Report) -> Result<bool, Fault> {
+    report.at = 0;
+    let checked = match fs::read_to_string(rt, name) {
+        Ok(text) => check_table::<T>(rt, name, text.as_str(), report),
+        Err(error) => Err(Fault::from(error)),
+    };
+    if let Err(fault) = checked {
+        let at = report.at;
+        println!(rt; "{name}:{at}: gave up: {fault:?}")?;
+        return Ok(false);
+    }
+    Ok(true)
+}
+
+// Checks the table of each word. Status 0 where there are lines and none differs, 1 where one does or there is none,
+// 2 where a table can't be gone through.
+fn check_all<T: Tables>(rt: &HostRuntime) -> Result<u8, Fault> {
+    let mut report = Report::new(false);
+    let mut all = true;
+    for word in env::args(rt)?.skip(1) {
+        if word.as_str() == "again" {
+            report.again = true;
+        } else if !check_file::<T>(rt, word.as_str(), &mut report)? {
+            all = false;
+        }
+    }
+    let lines = report.lines;
+    let differ = report.differ;
+    println!(rt; "{lines} lines, {differ} differ")?;
+    if !all {
+        Ok(2)
+    } else if lines == 0 || differ > 0 {
+        Ok(1)
+    } else {
+        Ok(0)
+    }
+}
+
+/// Checks the tables that the program's words name; behind a word `again` each call that is refused for want of memory
+/// is made once more. Prints each line that differs, and then how many lines there are and how many differ.
+pub fn run<T: Tables>(rt: &HostRuntime) -> ExitCode {
+    match check_all::<T>(rt) {
+        Ok(status) => ExitCode::from(status),
+        Err(fault) => {
+            let _ = eprintln!(rt; "gave up: {fault:?}");
+            ExitCode::from(2)
+        }
+    }
+}

@@ -1,0 +1,155 @@
+//! Words as numbers, elements, values and texts.
+
+use crate::faults::{Fault, Why};
+use air_field::{BabyBear, ExtensionField, Field};
+use serde_json::Value;
+use std::alloc::Global;
+
+/// A field whose elements are written as numbers.
+pub trait Number: Field {
+    /// The least number of the element.
+    fn number(self) -> u64;
+}
+
+impl Number for BabyBear {
+    fn number(self) -> u64 {
+        self.as_canonical_u64()
+    }
+}
+
+/// A count.
+pub fn count_of(word: &str) -> Result<usize, Fault> {
+    match word.parse::<usize>() {
+        Ok(n) => Ok(n),
+        Err(_) => Err(Fault::Unreadable(Why::NoNumber)),
+    }
+}
+
+/// A number.
+pub fn number_of(word: &str) -> Result<u64, Fault> {
+    match word.parse::<u64>() {
+        Ok(n) => Ok(n),
+        Err(_) => Err(Fault::Unreadable(Why::NoNumber)),
+    }
+}
+
+/// Counts, which commas separate; `-`: there is none.
+pub fn counts_of(alloc: Global, word: &str) -> Result<Vec<usize>, Fault> {
+    let mut all = Vec::new(alloc);
+    if word != "-" {
+        for part in word.split(',') {
+            all.push(count_of(part)?)?;
+        }
+    }
+    Ok(all)
+}
+
+/// The element of a number.
+pub fn element_of<F: Field>(word: &str) -> Result<F, Fault> {
+    Ok(F::from_u64(number_of(word)?))
+}
+
+/// Elements, a word each.
+pub fn elements_of<F: Field>(alloc: Global, words: &[&str]) -> Result<Vec<F>, Fault> {
+    let mut all = Vec::new(alloc);
+    for word in words {
+        all.push(element_of(*word)?)?;
+    }
+    Ok(all)
+}
+
+/// Elements of one word, which commas separate; `-`: there is none.
+pub fn listed_elements<F: Field>(alloc: Global, word: &str) -> Result<Vec<F>, Fault> {
+    let mut all = Vec::new(alloc);
+    if word != "-" {
+        for part in word.split(',') {
+            all.push(element_of(part)?)?;
+        }
+    }
+    Ok(all)
+}
+
+/// An element of an extension, by its coefficients.
+pub fn extension_of<F: Field, EF: ExtensionField<F>>(
+    alloc: Global,
+    words: &[&str],
+) -> Result<EF, Fault> {
+    let all: Vec<F> = elements_of(alloc, words)?;
+    if all.len() == EF::DIMENSION {
+        Ok(EF::from_basis_coefficients(all.as_slice()))
+    } else {
+        Err(Fault::Unreadable(Why::OtherDimension))
+    }
+}
+
+/// The JSON value of a word.
+pub fn value_of(alloc: Global, word: &str) -> Result<Value, Fault> {
+    match Value::from_str(alloc, word) {
+        Ok(value) => Ok(value),
+        Err(error) if error.is_memory() => Err(Fault::Memory),
+        Err(_) => Err(Fault::Unreadable(Why::NoJson)),
+    }
+}
+
+// The character that a letter behind a backslash stands for.
+fn escaped(letter: char) -> Result<char, Fault> {
+    match letter {
+        's' => Ok(' '),
+        'n' => Ok('\n'),
+        'r' => Ok('\r'),
+        't' => Ok('\t'),
+        'z' => Ok('\0'),
+        '\\' => Ok('\\'),
+        _ => Err(Fault::Unreadable(Why::NoText)),
+    }
+}
+
+/// The text of a word, in which `\s` is a space and `\n` ends a line (and `\r`, `\t`, `\z` for zero, `\\`); `-`: no text.
+pub fn text_of(alloc: Global, word: &str) -> Result<String, Fault> {
+    let mut text = String::new(alloc);
+    if word == "-" {
+        return Ok(text);
+    }
+    let mut behind = false;
+    for letter in word.chars() {
+        if behind {
+            text.push(escaped(letter)?)?;
+            behind = false;
+        } else if letter == '\\' {
+            behind = true;
+        } else {
+            text.push(letter)?;
+        }
+    }
+    if behind {
+        return Err(Fault::Unreadable(Why::NoText));
+    }
+    Ok(text)
+}
+
+/// Adds a text on one line: its ends of lines are `\n`, `\r`, a backslash is doubled.
+pub fn show_text(shown: &str, text: &mut String) -> Result<(), Fault> {
+    for letter in shown.chars() {
+        match letter {
+            '\n' => text.push_str("\\n")?,
+            '\r' => text.push_str("\\r")?,
+            '\\' => text.push_str("\\\\")?,
+            _ => text.push(letter)?,
+        }
+    }
+    Ok(())
+}
+
+/// Adds the numbers of elements, as `[1 2 3]`.
+pub fn show_elements<F: Number>(elements: &[F], text: &mut String) -> Result<(), Fault> {
+    text.push_str("[")?;
+    for (place, element) in elements.iter().enumerate() {
+        if place > 0 {
+            text.push_str(" ")?;
+        }
+        let number = element.number();
+        write!(text, "{number}")?;
+    }
+    text.push_str("]")?;
+    Ok(())
+}
