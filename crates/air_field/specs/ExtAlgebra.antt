@@ -1,15 +1,16 @@
 -- What a ring over an extension keeps of the base ring's elements.
-use Rattle.std.specs.Prelude.{◌≡◌, ⊤}
+use Rattle.std.specs.Prelude.{◌≡◌, ⊤, refl}
 use Rattle.air_field.specs.Ring.{CommRing}
-use Rattle.air_field.specs.Term.{Term, IsBase}
+use Rattle.air_field.specs.Term.{Term, const_term, IsBase}
 use Rattle.air_field.specs.Algebra.{closed_value}
 
--- What is an element of the base stays one, and what it means stays.
+-- What is an element of the base stays one, and what it means stays. It means some term.
 pub record ExtAlgebraLaws {R B F : Type 0} (valid : R → Type 0) (base_has : R → B → Type 0) (base_means : R → B → Term F → Type 0) (extends : R → R → Type 0) : Type 0 where
   pub base_has_stays : (p q : R) (x : B) → extends p q → base_has p x → base_has q x
   pub base_means_stays : (p q : R) (x : B) (t : Term F) → extends p q → base_means p x t → base_means q x t
   pub base_means_has : (p : R) (x : B) (t : Term F) → base_means p x t → base_has p x
   pub base_has_valid : (p : R) (x : B) → base_has p x → valid p
+  pub base_means_some : (p : R) (x : B) → base_has p x → (t : Term F) × base_means p x t
 
 -- z is an element that means what x meant in the base
 abbrev pub Lifted : {R E B F : Type 0} → (R → E → Type 0) → (R → E → Term F → Type 0) → (R → B → Term F → Type 0) → R → R → B → E → Type 0
@@ -26,4 +27,5 @@ values_are_base r = record {
   base_means_stays = λ p q x t g h. h;
   base_means_has = λ p x t h. tt;
   base_has_valid = λ p x h. tt;
+  base_means_some = λ p x h. (const_term x, (tt, refl));
 }

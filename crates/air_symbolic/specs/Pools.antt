@@ -31,6 +31,11 @@ pub record Grown {U A F : Type 0} (grows : U → U → Type 0) (reads : U → Le
   pub nodes : (more : List (SymbolicExpr A)) × (q.1 ≡ more ++ p.1)
   pub pool : IsPool reads p → IsPool reads q
 
+-- number i has its tree and its term in every pool that p has grown to
+pub record KeepsTree {U A F : Type 0} (grows : U → U → Type 0) (reads : U → Leaves A F) (p : U × List (SymbolicExpr A)) (i : ℕ) : Type 0 where
+  pub tree : (q : U × List (SymbolicExpr A)) → Grown grows reads p q → tree_at q i ≡ tree_at p i
+  pub term : (q : U × List (SymbolicExpr A)) → Grown grows reads p q → term_at reads q i ≡ term_at reads p i
+
 -- number i is of the pool
 pub record PoolHas {U A F : Type 0} (reads : U → Leaves A F) (p : U × List (SymbolicExpr A)) (i : ℕ) : Type 0 where
   pub pool : IsPool reads p

@@ -1,12 +1,12 @@
 //! What callers rely on, as the contracts of functions.
-ghost use Rattle.std.specs.Prelude.{◌≡◌, ℕ, ◌<◌, ◌≤◌, List, length, Decides, get_or};
+ghost use Rattle.std.specs.Prelude.{◌≡◌, ℕ, ◌<◌, ◌≤◌, ◌↔◌, List, length, IsTrue, get_or};
 ghost use Rattle.std.specs.Ordering.{nat_cmp};
 ghost use Rattle.air_field.specs.Ring.{Over, OverLaws};
 ghost use Rattle.air_field.specs.Term.{Leaf, Term};
 ghost use Rattle.air_field.specs.Polynomial.{polynomial, SamePolynomial, HasDegreeAtMost};
 ghost use Rattle.air_field.specs.Degree.{degree_by};
 ghost use Rattle.air_field.specs.Comparison.{IsExactOrder};
-ghost use Rattle.air_symbolic.specs.Pools.{IsPool, PoolMeans, tree_at, term_at};
+ghost use Rattle.air_symbolic.specs.Pools.{IsPool, PoolMeans, tree_at, term_at, KeepsTree};
 ghost use Rattle.air_symbolic.specs.ExtLeaves.{ext_reads};
 ghost use Rattle.air_symbolic.specs.ExtPool.{GrowsWithBase};
 ghost use Rattle.air_symbolic.specs.ExtTrees.{whole_tree_at, KeepsWholeTree};
@@ -18,12 +18,13 @@ use crate::pools::pool::ExprPool;
 use air_field::{ExtensionField, Field};
 use std::cmp::Ordering;
 
-/// Two numbers of a pool are equal exactly where their trees are.
+/// Two numbers of a pool are equal exactly where their trees are: a tree has one number.
 pub fn is_same_tree<A: SymLeaf>(pool: &ExprPool<A>, x: ExprId<A>, y: ExprId<A>) -> bool
     requires pool { IsPool A.reads pool.now }
     requires x_in { x < length pool.now.1 }
     requires y_in { y < length pool.now.1 }
-    ensures { Decides result (tree_at pool.now x ≡ tree_at pool.now y) }
+    ensures numbers { IsTrue result ↔ (x ≡ y) }
+    ensures trees { IsTrue result ↔ (tree_at pool.now x ≡ tree_at pool.now y) }
 {
     x == y
 }
@@ -37,7 +38,8 @@ pub fn is_same_whole_tree<F: Field, EF: ExtensionField<F>>(
     requires pool { IsPool (ext_reads EF.basis) pool.now }
     requires x_in { x < length pool.now.1 }
     requires y_in { y < length pool.now.1 }
-    ensures { Decides result (whole_tree_at pool.now x ≡ whole_tree_at pool.now y) }
+    ensures numbers { IsTrue result ↔ (x ≡ y) }
+    ensures trees { IsTrue result ↔ (whole_tree_at pool.now x ≡ whole_tree_at pool.now y) }
 {
     is_same_tree(pool, x, y)
 }
@@ -80,6 +82,13 @@ pub fn id_order<A: SymLeaf>(x: ExprId<A>, y: ExprId<A>) -> Ordering
 /// Where the base pool of an extension pool was lent and has grown, the extension pool has grown.
 pub fn pool_grows_with_base<F: Field, EF: ExtensionField<F>>(_pool: &ExprPool<ExtLeaf<F, EF>>)
     ensures { GrowsWithBase EF.basis _pool.now }
+{}
+
+/// A number keeps its tree and its term while the pool grows.
+pub fn tree_is_kept<A: SymLeaf>(_pool: &ExprPool<A>, _x: ExprId<A>)
+    requires pool { IsPool A.reads _pool.now }
+    requires here { _x < length _pool.now.1 }
+    ensures { KeepsTree A.grows A.reads _pool.now _x }
 {}
 
 /// A number keeps its whole tree, the base trees of its Base leaves with it, while the pool grows.

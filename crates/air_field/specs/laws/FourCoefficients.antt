@@ -1,6 +1,6 @@
 -- The lists of four coefficients are a commutative ring modulo X^4 - w.
 use Rattle.std.specs.Prelude.{◌≡◌, refl, List, [], ◌∷◌, length}
-use Rattle.std.proofs.Common.{get_or, ◌∙◌, ap, ap₂, arith}
+use Rattle.std.proofs.Common.{get_or, ◌∙◌, ap, arith}
 use Rattle.air_field.specs.Ring.{CommRing}
 use Rattle.air_field.specs.RingOps.{RingOps, ops}
 use Rattle.air_field.specs.laws.RingSolver.{Expr, var, unit, nought, expr_ops, vars, ring_list}
@@ -163,32 +163,12 @@ pub four_add_neg : {A : Type 0} (R : CommRing A) (p : List A) → length p ≡ 4
 four_add_neg R p hp = by_four (λ y. poly_add (ops R) y (poly_neg (ops R) y) ≡ constant_four (ops R) R.nil) (λ a b c d. add_neg_at R a b c d) p hp
 
 -- ---- the product as the code writes it
-abbrev pub four_terms : {A : Type 0} → RingOps A → A → A → A → A → A → A → A → A → A → List A
-four_terms R w a b c d e f g h =
-    R.add (R.mul a e) (R.mul w (R.add (R.add (R.mul b h) (R.mul c g)) (R.mul d f)))
-    ∷ R.add (R.add (R.mul a f) (R.mul b e)) (R.mul w (R.add (R.mul c h) (R.mul d g)))
-    ∷ R.add (R.add (R.add (R.mul a g) (R.mul b f)) (R.mul c e)) (R.mul w (R.mul d h))
-    ∷ R.add (R.add (R.add (R.mul a h) (R.mul b g)) (R.mul c f)) (R.mul d e)
-    ∷ []
 
-terms_at : {A : Type 0} (R : CommRing A) (w a b c d e f g h : A)
-    → four_terms (ops R) w a b c d e f g h ≡ binomial_mul (ops R) w (a ∷ b ∷ c ∷ d ∷ []) (e ∷ f ∷ g ∷ h ∷ [])
-terms_at R w a b c d e f g h =
-    ring_list R (a ∷ b ∷ c ∷ d ∷ e ∷ f ∷ g ∷ h ∷ R.nil ∷ R.nil ∷ R.nil ∷ R.nil ∷ w ∷ [])
-    (four_terms expr_ops (var 12) (var 0) (var 1) (var 2) (var 3) (var 4) (var 5) (var 6) (var 7))
-    (wide (vars 0 4) (vars 4 4)) refl
-
+-- four items, as they were read of a list
 from_reads : {A : Type 0} (p : List A) (a b c d : A) → length p ≡ 4 → a ≡ get_or p 0 a → b ≡ get_or p 1 b → c ≡ get_or p 2 c → d ≡ get_or p 3 d → a ∷ b ∷ c ∷ d ∷ [] ≡ p
 from_reads p a b c d h =
     by_four (λ l. a ≡ get_or l 0 a → b ≡ get_or l 1 b → c ≡ get_or l 2 c → d ≡ get_or l 3 d → a ∷ b ∷ c ∷ d ∷ [] ≡ l)
     (λ s t u v hs ht hu hv i. hs i ∷ ht i ∷ hu i ∷ hv i ∷ []) p h
-
-pub four_terms-is : {A : Type 0} (R : CommRing A) (w : A) (p q : List A) (a b c d e f g h : A) → length p ≡ 4 → length q ≡ 4
-    → a ≡ get_or p 0 a → b ≡ get_or p 1 b → c ≡ get_or p 2 c → d ≡ get_or p 3 d
-    → e ≡ get_or q 0 e → f ≡ get_or q 1 f → g ≡ get_or q 2 g → h ≡ get_or q 3 h
-    → four_terms (ops R) w a b c d e f g h ≡ binomial_mul (ops R) w p q
-four_terms-is R w p q a b c d e f g h hp hq ha hb hc hd he hf hg hh =
-    terms_at R w a b c d e f g h ∙ ap₂ (binomial_mul (ops R) w) (from_reads p a b c d hp ha hb hc hd) (from_reads q e f g h hq he hf hg hh)
 
 -- the product as sums of products with q's coefficients, w times those that X^4 has passed
 abbrev pub four_rows : {A : Type 0} → RingOps A → A → List A → A → A → A → A → List A

@@ -190,4 +190,6 @@ pub trait FromVar<F: Field, V>: Algebra<F> {
         ensures made { IfOk result (λ z. Self.has self.new z
             × ((t : Term F) → var_means v t → Self.means self.new z t)) }
         ensures refused { IfErr result (λ e. (t : Term F) → var_means v t → Self.refuses e t) };
+
+    ghost var_means_some: { (v : V) → (t : Term F) × var_means v t };
 }

@@ -1,7 +1,7 @@
 //! The ring whose elements are the values of an extension.
 ghost use Rattle.std.specs.Prelude.{◌≡◌, ⊤, IsTrue};
 ghost use Rattle.air_field.specs.Ring.{minus};
-ghost use Rattle.air_field.specs.Term.{IsBase};
+ghost use Rattle.air_field.specs.Term.{IsBase, ext_const_term};
 ghost use Rattle.air_field.specs.Algebra.{closed_value, closed_value_in};
 ghost use Rattle.air_field.specs.laws.Algebra.{value_in_laws};
 ghost use Rattle.air_field.specs.laws.Extension.{extend-coefficients};
@@ -94,6 +94,11 @@ impl<F: Field, EF: ExtensionField<F>> FromVar<F, EF> for ExtFieldRing<F, EF> {
     {
         Ok(v)
     }
+
+    ghost var_means_some = { λ v. (
+      ext_const_term (EF.basis.coefficients v),
+      extend-coefficients F.ring EF.over EF.basis EF.DIMENSION EF.ExtensionField.laws v,
+    ) };
 }
 
 impl<F: Field, EF: ExtensionField<F>> ExtAlgebra<F, EF> for ExtFieldRing<F, EF> {

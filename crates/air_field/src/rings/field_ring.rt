@@ -1,7 +1,7 @@
 //! The ring whose elements are the values themselves.
-ghost use Rattle.std.specs.Prelude.{◌≡◌, ⊤, IsTrue};
+ghost use Rattle.std.specs.Prelude.{◌≡◌, ⊤, IsTrue, refl};
 ghost use Rattle.air_field.specs.Ring.{minus};
-ghost use Rattle.air_field.specs.Term.{IsBase};
+ghost use Rattle.air_field.specs.Term.{IsBase, const_term};
 ghost use Rattle.air_field.specs.Algebra.{closed_value};
 ghost use Rattle.air_field.specs.laws.Algebra.{value_laws};
 
@@ -85,4 +85,6 @@ impl<F: Field> FromVar<F, F> for FieldRing<F> {
     {
         Ok(v)
     }
+
+    ghost var_means_some = { λ v. (const_term v, (tt, refl)) };
 }

@@ -72,7 +72,7 @@ pub trait SymLeaf: Copy + Eq + Ord + Debug {
         ensures { AnswersDegree (degree_by (trace_weight trace_len periods.now)
             ((reads under.now).term self.now)) result };
 
-    /// The degrees of what lies under the pool, each worked out once for all leaves that name it.
+    /// The degrees of what lies under the pool, each worked out once for all leaves that name it: one turn a node.
     fn degrees_under(
         under: &Self::Under,
         weight: LeafWeight<'_>,
@@ -80,7 +80,7 @@ pub trait SymLeaf: Copy + Eq + Ord + Debug {
     ) -> Result<DegreeTable, RingError>
         requires { (reads under.now).sound }
         ensures degrees { IfOk result (λ t. has_degrees under.now weight.entry t.degrees.items) }
-        ensures turns { IfOk result (λ t. t.turns ≤ nodes_under under.now) }
+        ensures turns { IfOk result (λ t. t.turns ≡ nodes_under under.now) }
         ensures few { IfOk result (λ t. t.turns < 2 ^ 64) }
         ensures refused { IfErr result (λ e. e ≡ RingError.Memory) };
 

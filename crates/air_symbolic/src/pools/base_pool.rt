@@ -1,5 +1,5 @@
 //! Pools of base expressions.
-ghost use Rattle.std.specs.Prelude.{◌≡◌, IfOk, IfErr};
+ghost use Rattle.std.specs.Prelude.{◌≡◌, refl, IfOk, IfErr, OnErr};
 ghost use Rattle.air_field.specs.Algebra.{Made};
 ghost use Rattle.air_field.specs.Term.{leaf_term};
 ghost use Rattle.air_core.specs.Entries.{entry_leaf};
@@ -37,6 +37,7 @@ impl<F: Field> ExprPool<BaseLeaf<F>> {
         ensures made { IfOk result (Made (PoolHas base_reads) (PoolMeans base_reads F.ring)
             (base_term a) self.new) }
         ensures refused { IfErr result (λ e. e ≡ RingError.Memory) }
+        ensures kept { OnErr result (self.new ≡ self.old) }
     {
         self.leaf_at(place_of(&a), a)
     }
@@ -49,6 +50,7 @@ impl<F: Field> ExprPool<BaseLeaf<F>> {
         ensures made { IfOk result (Made (PoolHas base_reads) (PoolMeans base_reads F.ring)
             (leaf_term (entry_leaf v.entry v.index)) self.new) }
         ensures refused { IfErr result (λ e. e ≡ RingError.Memory) }
+        ensures kept { OnErr result (self.new ≡ self.old) }
     {
         self.leaf_expr(BaseLeaf::Variable(v))
     }
@@ -60,4 +62,6 @@ impl<F: Field> FromVar<F, SymbolicVariable<F>> for ExprPool<BaseLeaf<F>> {
     fn from_var(&mut self, v: SymbolicVariable<F>) -> Result<ExprId<BaseLeaf<F>>, RingError> {
         self.variable(v)
     }
+
+    ghost var_means_some = { λ v. (leaf_term (entry_leaf v.entry v.index), refl) };
 }

@@ -121,7 +121,7 @@ impl<A: SymLeaf> ExprPool<A> {
         ensures degrees { IfOk result (λ t. AnswersDegrees
             (λ i. degree_by (leaf_weight weight.entry) (term_at A.reads self.now i))
             count t.degrees.items) }
-        ensures turns { IfOk result (λ t. t.turns ≤ count) }
+        ensures turns { IfOk result (λ t. t.turns ≡ count) }
         ensures refused { IfErr result (λ e. e ≡ RingError.Memory) }
     {
         let mut table = DegreeTable {
@@ -146,7 +146,7 @@ impl<A: SymLeaf> ExprPool<A> {
         ensures degrees { IfOk result (λ t. AnswersDegrees
             (λ i. degree_by (leaf_weight weight.entry) (term_at A.reads self.now i))
             count t.degrees.items) }
-        ensures turns { IfOk result (λ t. t.turns ≤ count + A.nodes_under self.now.0) }
+        ensures turns { IfOk result (λ t. t.turns ≡ count + A.nodes_under self.now.0) }
         ensures refused { IfErr result (λ e. e ≡ RingError.Memory) }
     {
         let under = A::degrees_under(self.base(), weight, *self.nodes.allocator())?;

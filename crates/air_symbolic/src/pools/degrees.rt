@@ -1,7 +1,7 @@
 //! Degrees by weights of the leaves, from a table by number.
 ghost use Rattle.std.specs.Prelude.{◌≡◌, ◌≢◌, ℕ, ◌<◌, ◌≤◌, ◌+◌, length, map, All, IfOk, IfErr};
 ghost use Rattle.air_field.specs.Degree.{degree_by, cached_weight, transition_weight, trace_weight};
-ghost use Rattle.air_symbolic.specs.Weights.{leaf_weight, SomeOverflows};
+ghost use Rattle.air_symbolic.specs.Weights.{leaf_weight, turns_by, SomeOverflows};
 ghost use Rattle.air_symbolic.specs.Pools.{IsPool, term_at};
 ghost use Rattle.air_symbolic.specs.PoolRefusals.{AnswersDegree};
 ghost use Rattle.air_symbolic.specs.DegreeTables.{AnswersDegrees};
@@ -81,7 +81,7 @@ impl<A: SymLeaf> ExprPool<A> {
         ensures values { IfOk result (λ d. d.values.items ≡
             map (λ x. degree_by (leaf_weight weight.entry) (term_at A.reads self.now x)) roots.now) }
         ensures turns { IfOk result (λ d.
-            d.turns ≤ length self.now.1 + A.nodes_under self.now.0) }
+            d.turns ≡ length self.now.1 + A.nodes_under self.now.0) }
         ensures refused { IfErr result (λ e. e ≢ RingError.Memory → SomeOverflows
             (map (λ x. degree_by (leaf_weight weight.entry) (term_at A.reads self.now x)) roots.now)) }
     {
@@ -121,16 +121,18 @@ impl<A: SymLeaf> ExprPool<A> {
         self.root_degree(id, LeafWeight::Trace { trace_len, periods })
     }
 
-    /// The degree of each root by the leaves' weights. Each node's degree is worked out at most once, so the turns are
-    /// at most as many as the pool has nodes, and what lies under it. It is refused with `DegreeOverflow` only where
-    /// the degree of some root passes `usize`, whatever nodes hold that no root reaches; and otherwise only for want of
-    /// memory.
+    /// The degree of each root by the leaves' weights. A cached degree is read and takes no turn; by another weight the
+    /// degree of each node of the pool, and of what lies under it, is worked out once, and these are the turns. It is
+    /// refused with `DegreeOverflow` only where the degree of some root passes `usize`, whatever nodes hold that no
+    /// root reaches; and otherwise only for want of memory.
     pub fn degrees(&self, roots: &[ExprId<A>], weight: LeafWeight<'_>) -> Result<Degrees, RingError>
         requires pool { IsPool A.reads self.now }
         requires all_in { All (λ x. x < length self.now.1) roots.now }
         ensures values { IfOk result (λ d. d.values.items ≡ map
             (λ x. degree_by (leaf_weight weight.entry) (term_at A.reads self.now x)) roots.now) }
-        ensures turns { IfOk result (λ d.
+        ensures turns { IfOk result (λ d. d.turns ≡
+            turns_by weight.entry (length self.now.1 + A.nodes_under self.now.0)) }
+        ensures at_most { IfOk result (λ d.
             d.turns ≤ length self.now.1 + A.nodes_under self.now.0) }
         ensures refused { IfErr result (λ e. e ≢ RingError.Memory → SomeOverflows
             (map (λ x. degree_by (leaf_weight weight.entry) (term_at A.reads self.now x))

@@ -1,5 +1,5 @@
 //! Degrees of expressions of both pools.
-ghost use Rattle.std.specs.Prelude.{◌≡◌, ◌≢◌, ◌<◌, ◌≤◌, ◌+◌, ◌⊎◌, length, map, All, IfOk, IfErr};
+ghost use Rattle.std.specs.Prelude.{◌≡◌, ◌≢◌, ◌<◌, ◌⊎◌, length, map, All, IfOk, IfErr};
 ghost use Rattle.air_field.specs.Degree.{degree_by};
 ghost use Rattle.air_symbolic.specs.BaseLeaves.{base_reads};
 ghost use Rattle.air_symbolic.specs.ExtLeaves.{ext_reads};
@@ -15,7 +15,7 @@ use air_field::{ExtensionField, Field, RingError};
 
 impl<F: Field, EF: ExtensionField<F>> ExprPool<ExtLeaf<F, EF>> {
     /// The degrees, by the leaves' weights, of expressions of the base pool and of expressions of this one. Each node
-    /// of either pool is worked out at most once for all of them. It is refused with `DegreeOverflow` only where the
+    /// of either pool is worked out once for all of them, and these are the turns. It is refused with `DegreeOverflow` only where the
     /// degree of some root passes `usize`, and otherwise only for want of memory.
     pub fn degrees_with_base(
         &self,
@@ -33,8 +33,8 @@ impl<F: Field, EF: ExtensionField<F>> ExprPool<ExtLeaf<F, EF>> {
             (λ x. degree_by (leaf_weight weight.entry)
             (term_at (ext_reads EF.basis) self.now x))
             roots.now) }
-        ensures turns { IfOk result (λ d.
-            d.0.turns + d.1.turns ≤ length self.now.0.1 + length self.now.1) }
+        ensures base_turns { IfOk result (λ d. d.0.turns ≡ length self.now.0.1) }
+        ensures turns { IfOk result (λ d. d.1.turns ≡ length self.now.1) }
         ensures refused { IfErr result (λ e. e ≢ RingError.Memory →
             SomeOverflows (map
             (λ x. degree_by (leaf_weight weight.entry) (term_at base_reads self.now.0 x))

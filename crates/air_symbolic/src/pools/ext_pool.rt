@@ -1,5 +1,5 @@
 //! Pools of extension expressions.
-ghost use Rattle.std.specs.Prelude.{◌≡◌, ◌<◌, length, IfOk, IfErr};
+ghost use Rattle.std.specs.Prelude.{◌≡◌, ◌<◌, length, refl, IfOk, IfErr, OnErr};
 ghost use Rattle.air_field.specs.ExtAlgebra.{Lifted};
 ghost use Rattle.air_field.specs.Term.{leaf_term, ext_const_term};
 ghost use Rattle.air_core.specs.ExtEntries.{ext_entry_leaf};
@@ -29,6 +29,7 @@ impl<F: Field, EF: ExtensionField<F>> ExprPool<ExtLeaf<F, EF>> {
         ensures made { IfOk result (ExtMade F.ring EF.basis
             (leaf_term (ext_entry_leaf v.entry v.index)) self.new) }
         ensures refused { IfErr result (λ e. e ≡ RingError.Memory) }
+        ensures kept { OnErr result (self.new ≡ self.old) }
     {
         self.leaf(ExtLeaf::ExtVariable(v))
     }
@@ -42,6 +43,7 @@ impl<F: Field, EF: ExtensionField<F>> ExprPool<ExtLeaf<F, EF>> {
         ensures made { IfOk result (ExtMade F.ring EF.basis
             (ext_const_term (EF.basis.coefficients c)) self.new) }
         ensures refused { IfErr result (λ e. e ≡ RingError.Memory) }
+        ensures kept { OnErr result (self.new ≡ self.old) }
     {
         self.leaf(ExtLeaf::ExtConstant(c))
     }
@@ -57,6 +59,7 @@ impl<F: Field, EF: ExtensionField<F>> ExprPool<ExtLeaf<F, EF>> {
             (PoolMeans (ext_reads EF.basis) F.ring)
             (BaseMeans F.ring EF.basis) self.old self.new x) }
         ensures refused { IfErr result (λ e. e ≡ RingError.Memory) }
+        ensures kept { OnErr result (self.new ≡ self.old) }
     {
         self.leaf(ExtLeaf::Base(x))
     }
@@ -82,6 +85,8 @@ impl<F: Field, EF: ExtensionField<F>> FromVar<F, SymbolicVariableExt<F, EF>>
     ) -> Result<ExprId<ExtLeaf<F, EF>>, RingError> {
         self.variable(v)
     }
+
+    ghost var_means_some = { λ v. (leaf_term (ext_entry_leaf v.entry v.index), refl) };
 }
 
 impl<F: Field, EF: ExtensionField<F>> ExtAlgebra<F, EF> for ExprPool<ExtLeaf<F, EF>> {

@@ -1,5 +1,5 @@
-//! The calls that make a node as it is, without folding.
-ghost use Rattle.std.specs.Prelude.{◌≡◌, ◌≢◌, ℕ, ◌<◌, ◌≤◌, ◌+◌, ◌^◌, ◌↔◌, true, length, Some, MatchOption, IfOk, IfErr};
+//! The calls that make a node as it is, without folding. Where one is refused the pool is as it was.
+ghost use Rattle.std.specs.Prelude.{◌≡◌, ◌≢◌, ℕ, ◌<◌, ◌≤◌, ◌+◌, ◌^◌, ◌↔◌, true, length, Some, MatchOption, IfOk, IfErr, OnErr};
 ghost use Rattle.std.specs.List.{slice_get};
 ghost use Rattle.air_field.specs.Degree.{degree_by, cached_weight};
 ghost use Rattle.air_symbolic.specs.Trees.{leaf_tree, add_tree, sub_tree, neg_tree, mul_tree};
@@ -58,6 +58,7 @@ impl<A: SymLeaf> ExprPool<A> {
         ensures grown { Grown A.grows A.reads self.old self.new }
         ensures made { IfOk result (HasTree self.new (unfold_node (tree_of self.old.1) node)) }
         ensures refused { IfErr result (λ e. e ≡ RingError.Memory) }
+        ensures kept { OnErr result (self.new ≡ self.old) }
     {
         match number_of(&self.nodes, &node) {
             Some(number) => Ok(ExprId::new(number)),
@@ -76,6 +77,7 @@ impl<A: SymLeaf> ExprPool<A> {
         ensures grown { Grown A.grows A.reads self.old self.new }
         ensures made { IfOk result (HasTree self.new (leaf_tree a)) }
         ensures refused { IfErr result (λ e. e ≡ RingError.Memory) }
+        ensures kept { OnErr result (self.new ≡ self.old) }
     {
         self.insert(SymbolicExpr::Leaf(a))
     }
@@ -88,6 +90,7 @@ impl<A: SymLeaf> ExprPool<A> {
         ensures grown { Grown A.grows A.reads self.old self.new }
         ensures made { IfOk result (HasTree self.new (leaf_tree a)) }
         ensures refused { IfErr result (λ e. e ≡ RingError.Memory) }
+        ensures kept { OnErr result (self.new ≡ self.old) }
     {
         if let Some(number) = self.nodes.recall(place, &SymbolicExpr::Leaf(a)) {
             return Ok(ExprId::new(number));
@@ -107,6 +110,7 @@ impl<A: SymLeaf> ExprPool<A> {
         ensures made { IfOk result (HasTree self.new
             (add_tree (tree_at self.old x) (tree_at self.old y))) }
         ensures refused { IfErr result (λ e. e ≡ RingError.Memory) }
+        ensures kept { OnErr result (self.new ≡ self.old) }
     {
         let degree_multiple = self.degree_multiple(x).max(self.degree_multiple(y));
         self.insert(SymbolicExpr::Add {
@@ -126,6 +130,7 @@ impl<A: SymLeaf> ExprPool<A> {
         ensures made { IfOk result (HasTree self.new
             (sub_tree (tree_at self.old x) (tree_at self.old y))) }
         ensures refused { IfErr result (λ e. e ≡ RingError.Memory) }
+        ensures kept { OnErr result (self.new ≡ self.old) }
     {
         let degree_multiple = self.degree_multiple(x).max(self.degree_multiple(y));
         self.insert(SymbolicExpr::Sub {
@@ -143,6 +148,7 @@ impl<A: SymLeaf> ExprPool<A> {
         ensures grown { Grown A.grows A.reads self.old self.new }
         ensures made { IfOk result (HasTree self.new (neg_tree (tree_at self.old x))) }
         ensures refused { IfErr result (λ e. e ≡ RingError.Memory) }
+        ensures kept { OnErr result (self.new ≡ self.old) }
     {
         let degree_multiple = self.degree_multiple(x);
         self.insert(SymbolicExpr::Neg { x, degree_multiple })
@@ -161,6 +167,7 @@ impl<A: SymLeaf> ExprPool<A> {
         ensures overflow { (result ≡ Err RingError.DegreeOverflow)
             ↔ (2 ^ 64 ≤ degree_by cached_weight (term_at A.reads self.old x) + degree_by
             cached_weight (term_at A.reads self.old y)) }
+        ensures kept { OnErr result (self.new ≡ self.old) }
     {
         match self.degree_multiple(x).checked_add(self.degree_multiple(y)) {
             Some(degree_multiple) => self.insert(SymbolicExpr::Mul {

@@ -1,5 +1,5 @@
 //! Extension expressions that are base expressions.
-ghost use Rattle.std.specs.Prelude.{◌≡◌, ◌≢◌, ◌<◌, [], ◌∷◌, length, get_or, None, IfOk, IfErr, MatchOption, Decides};
+ghost use Rattle.std.specs.Prelude.{◌≡◌, ◌≢◌, ◌<◌, [], ◌∷◌, length, get_or, None, IfOk, IfErr, IfNone, MatchOption, Decides};
 ghost use Rattle.std.specs.Option.{IfSome};
 ghost use Rattle.air_symbolic.specs.ExtLeaves.{ext_reads, ext_grows};
 ghost use Rattle.air_symbolic.specs.ExtTrees.{HasExtOnly, lowered, IsLowered, HasTermOf};
@@ -182,7 +182,7 @@ impl<F: Field, EF: ExtensionField<F>> ExprPool<ExtLeaf<F, EF>> {
     }
 
     /// The base expression with the same tree, not folded, and so with the same term; None exactly where a leaf of the
-    /// extension alone occurs. It refuses for want of memory alone.
+    /// extension alone occurs, and then the base pool is as it was. It refuses for want of memory alone.
     pub fn to_base(
         &mut self,
         id: ExprId<ExtLeaf<F, EF>>,
@@ -195,6 +195,7 @@ impl<F: Field, EF: ExtensionField<F>> ExprPool<ExtLeaf<F, EF>> {
             (IsLowered self.old.0 self.new.0 (tree_at self.old id))) }
         ensures term { IfOk result (λ b. IfSome b
             (HasTermOf EF.basis self.old id self.new.0)) }
+        ensures none { IfOk result (λ b. IfNone b (self.new ≡ self.old)) }
         ensures refused { IfErr result (λ e. e ≡ RingError.Memory) }
     {
         let marks = reached(*self.nodes.allocator(), self, &[id])?;

@@ -15,7 +15,11 @@ tells x y r e =
 pub returns : goal.returns
 returns g c =
     let p = c.args.pool.now in
-    let d = tells c.args.x c.args.y c.eq.result c.eq.ensures in (
-      λ q. ap (tree_at p) (d.0 q),
-      λ q. d.1 (shared (g.A.SymLeaf.reads p.0) p.1 c.requires.pool.nodes c.args.x c.args.y c.requires.x_in c.requires.y_in q),
-    )
+    let d = tells c.args.x c.args.y c.eq.result c.eq.ensures in
+    record {
+      numbers = d;
+      trees = (
+        λ q. ap (tree_at p) (d.0 q),
+        λ q. d.1 (shared (g.A.SymLeaf.reads p.0) p.1 c.requires.pool.nodes c.args.x c.args.y c.requires.x_in c.requires.y_in q),
+      );
+    }

@@ -11,4 +11,5 @@ returns g c =
       tree = e.made;
       made = IfOk-weaker _ _ _ (made-lifted g.F.Field.ring g.EF.ExtensionField.basis c.args.self.now c.leaf.new.self c.args.x e.same_under (e.grown.pool c.requires.pool)) e.made;
       refused = e.refused;
+      kept = e.kept;
     }

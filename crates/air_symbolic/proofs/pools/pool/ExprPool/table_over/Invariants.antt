@@ -1,4 +1,4 @@
-use Rattle.std.proofs.Common.{◌≤◌}
+use Rattle.std.proofs.Common.{◌≡◌}
 use Rattle.air_field.specs.Degree.{degree_by}
 use Rattle.air_symbolic.specs.Weights.{leaf_weight}
 use Rattle.air_symbolic.specs.Pools.{term_at}
@@ -9,5 +9,5 @@ use Rattle.air_symbolic.proofs.pools.pool.ExprPool.table_over.Given as goal
 abbrev pub invariant-loop-number : goal.invariant-loop-number
 invariant-loop-number g l = record {
   degrees : AnswersDegrees (λ i. degree_by (leaf_weight l.weight) (term_at g.A.SymLeaf.reads l.self i)) l.number l.table.degrees.items;
-  turns : l.table.turns ≤ l.number;
+  turns : l.table.turns ≡ l.number;
 }
