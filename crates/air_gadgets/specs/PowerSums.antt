@@ -14,7 +14,8 @@ power_sum R k (x ∷ xs) = R.add (R.mul (image R (2 ^ k)) x) (power_sum R (suc k
 -- what is packed of terms has the sum of 2^i v_i as its value in an algebra, v_i being theirs
 abbrev pub PacksValuesIn : {F E : Type 0} → Over F E → F → Type 0
 PacksValuesIn {F} {E} a none =
-    (s : Leaf → E) (ts : List (Term F)) → value a s (packed_term none ts) ≡ power_sum a.ring 0 (map (value a s) ts)
+    (s : Leaf → E) (ts : List (Term F))
+    → value a s (packed_term none ts) ≡ power_sum a.ring 0 (map (value a s) ts)
 
 -- the same in the field itself
 abbrev pub PacksValues : {F : Type 0} → CommRing F → F → Type 0
@@ -24,11 +25,12 @@ PacksValues R none = PacksValuesIn (itself R) none
 abbrev pub PacksByPowers : {A : Type 0} → CommRing A → Type 0
 PacksByPowers {A} R = (xs : List A) → packed R xs ≡ power_sum R 0 xs
 
--- what is packed of terms whose values in an algebra are the images of the n lowest bits of a number below 2^n has the
--- number's image as its value
+-- what is packed of terms whose values in an algebra are the images of the n lowest bits of a
+-- number below 2^n has the number's image as its value
 abbrev pub PacksNumbers : {F E : Type 0} → Over F E → F → Type 0
 PacksNumbers {F} {E} a none =
-    (s : Leaf → E) (ts : List (Term F)) (n v : ℕ) → v < 2 ^ n → map (value a s) ts ≡ map (image a.ring) (digits_of 2 n v)
+    (s : Leaf → E) (ts : List (Term F)) (n v : ℕ) → v < 2 ^ n
+    → map (value a s) ts ≡ map (image a.ring) (digits_of 2 n v)
     → value a s (packed_term none ts) ≡ image a.ring v
 
 -- an algebra's image of a number is that of the number's image in the field
