@@ -1,4 +1,5 @@
 -- Lemmas on making and asserting.
 mod Making
 mod Asserting
+mod Naming
 mod Powers

@@ -1,8 +1,10 @@
 -- Where a builder may refuse.
-use Rattle.std.specs.Prelude.{◌≡◌, ◌<◌, ◌⊎◌, ◌↔◌, ℕ, List, [], ◌∷◌, None, slice_get}
+use Rattle.std.specs.Prelude.{◌≡◌, ◌<◌, ◌≤◌, ◌⊎◌, ◌↔◌, ℕ, List, [], ◌∷◌, None, slice_get}
 use Rattle.air_field.specs.Term.{Leaf, preprocessed, main, permutation, Term, leaf_term, const_term, ext_const_term, add_term, sub_term, neg_term, mul_term}
 use Rattle.air_field.specs.Part.{Part}
 use Rattle.air_core.specs.Entries.{entry_leaf}
+use Rattle.air_core.specs.declared.variables.entry.BaseEntry.{BaseEntry}
+use Rattle.air_core.specs.declared.variables.entry.BaseEntry.TheVariants.{Preprocessed, Main, Periodic, Public}
 use Rattle.air_core.specs.ExtEntries.{ext_entry_leaf}
 use Rattle.air_builder.specs.Assertion.{Assertion, Base, Extension}
 use Rattle.air_core.specs.declared.errors.AirError.{AirError}
@@ -16,10 +18,18 @@ IsPermutation l = (o : ℕ) × (i : ℕ) × (l ≡ permutation o i)
 abbrev pub IsPastWindow : ℕ → Leaf → Type 0
 IsPastWindow o l = (1 < o) × (i : ℕ) × ((l ≡ preprocessed o i) ⊎ (l ≡ main o i))
 
--- the error names a leaf; an offset that no window has names each column of that row, and that there is no permutation
--- trace each of its columns
+-- a window has the entry: a column is that of row 0 or 1
+abbrev pub IsOfWindow : BaseEntry → Type 0
+IsOfWindow (Preprocessed o) = o ≤ 1
+IsOfWindow (Main o) = o ≤ 1
+IsOfWindow Periodic = Unit {0}
+IsOfWindow Public = Unit {0}
+
+-- the error names a leaf, a column by its entry where a window has its row; an offset that no
+-- window has names each column of that row, and that there is no permutation trace each of its
+-- columns
 abbrev pub NamesLeaf : AirError → Leaf → Type 0
-NamesLeaf (MissingEntry e i) l = l ≡ entry_leaf e i
+NamesLeaf (MissingEntry e i) l = (l ≡ entry_leaf e i) × IsOfWindow e
 NamesLeaf (RowOffset o) l = IsPastWindow o l
 NamesLeaf (MissingExtEntry e i) l = l ≡ ext_entry_leaf e i
 NamesLeaf NoPermutation l = IsPermutation l

@@ -6,6 +6,9 @@ use Rattle.air_field.specs.Term.{Term, const_term, add_term}
 use Rattle.air_field.specs.Part.{Part, whole, in_add_left, in_add_right}
 use Rattle.air_field.specs.Algebra.{AlgebraLaws, Made, MadeOf, MadeOfBoth, RefusedOf, RefusedOfBoth, scaled_term}
 use Rattle.air_field.specs.Joins.{join_from}
+use Rattle.air_core.specs.Errors.{air_error}
+use Rattle.air_field.specs.declared.errors.RingError.{RingError}
+use Rattle.air_gadgets.specs.Errors.{AsAir}
 use Rattle.air_gadgets.specs.declared.columns.pair_col.PairCol.{PairCol}
 use Rattle.air_gadgets.specs.declared.columns.pair_col.PairCol.TheVariants.{Preprocessed, Main}
 use Rattle.air_gadgets.specs.Columns.{entry_of, Combination, combined_term, ColumnsMean, MadeOfColumns, RefusedOfColumns}
@@ -102,3 +105,8 @@ module _ {R E F X : Type 0} {valid : R → Type 0} {has : R → E → Type 0} {m
 
   pub beginning_refused : (first : R) (e : X) → refuses e (const_term c.constant) → RefusedOfColumns means refuses first c preprocessed main e
   beginning_refused first e refused at m = laws.refuses_whole e (const_term c.constant) (combined_term at c) (part-join_first at) refused
+
+-- what the ring refuses, as the call answers it
+pub columns_as_air : {R E F : Type 0} (means : R → E → Term F → Type 0) (refuses : RingError → Term F → Type 0) (first : R) (c : Combination F) (preprocessed main : List E) (e : RingError)
+    → RefusedOfColumns means refuses first c preprocessed main e → RefusedOfColumns means (AsAir refuses) first c preprocessed main (air_error e)
+columns_as_air means refuses first c preprocessed main e h at m = (e, refl, h at m)

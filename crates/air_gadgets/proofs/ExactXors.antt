@@ -3,34 +3,19 @@ use Rattle.std.specs.Prelude.{◌≡◌, ℕ, refl, List, [], ◌∷◌, ◌++�
 use Rattle.std.proofs.lemmas.List.{take-map, drop-map}
 use Rattle.std.proofs.Common.{sym, ◌∙◌, ap, subst}
 use Rattle.air_field.specs.Ring.{CommRing, minus, itself}
-use Rattle.air_field.specs.laws.RingSolver.{var, nought, unit, plus, times, ring}
 use Rattle.air_field.specs.Term.{Leaf, Term}
 use Rattle.air_field.specs.Value.{value}
 use Rattle.air_field.specs.Algebra.{bool_check_term, xor_term}
 use Rattle.air_gadgets.specs.Bits.{packed}
-use Rattle.air_gadgets.specs.Packing.{packed_from, packed_term}
+use Rattle.air_gadgets.specs.Packing.{packed_term}
 use Rattle.air_builder.specs.Assertion.{Assertion, Base}
 use Rattle.air_gadgets.specs.Words.{rotated_left}
 use Rattle.air_gadgets.specs.Gadgets.{xor_terms, half_terms}
 use Rattle.air_gadgets.specs.Exact.{AllVanish, XorIsExact}
+use Rattle.air_gadgets.proofs.PackedBits.{value-packed_term}
 use Rattle.air_gadgets.proofs.XorLaws.{AllChecked, TermsAreZero, ring_xors, map-rotated, xor_exact}
 
 module _ {F : Type 0} (R : CommRing F) (s : Leaf → F) where
-  last_bit : (x : F) → x ≡ R.add x (R.mul (R.add R.one R.one) R.nil)
-  last_bit x = ring R (x ∷ []) (var 0) (plus (var 0) (times (plus unit unit) nought)) refl
-
-  next_bit : (x y z : F) → y ≡ z → R.add (R.add y y) x ≡ R.add x (R.mul (R.add R.one R.one) z)
-  next_bit x y z e = ring R (x ∷ y ∷ []) (plus (plus (var 1) (var 1)) (var 0)) (plus (var 0) (times (plus unit unit) (var 1))) refl ∙ ap (λ w. R.add x (R.mul (R.add R.one R.one) w)) e
-
-  value-packed_from : (t : Term F) (ts : List (Term F)) → value (itself R) s (packed_from t ts) ≡ packed R (map (value (itself R) s) (t ∷ ts))
-  value-packed_from t [] = last_bit (value (itself R) s t)
-  value-packed_from t (u ∷ us) = next_bit (value (itself R) s t) (value (itself R) s (packed_from u us)) (packed R (map (value (itself R) s) (u ∷ us))) (value-packed_from u us)
-
-  -- the value of packed bits is that of the bits' values, packed
-  pub value-packed_term : (ts : List (Term F)) → value (itself R) s (packed_term R.nil ts) ≡ packed R (map (value (itself R) s) ts)
-  value-packed_term [] = refl
-  value-packed_term (t ∷ ts) = value-packed_from t ts
-
   value-xors : (ts us : List (Term F)) → map (value (itself R) s) (xor_terms ts us) ≡ ring_xors R (map (value (itself R) s) ts) (map (value (itself R) s) us)
   value-xors [] us = refl
   value-xors (t ∷ ts) [] = refl
@@ -53,7 +38,7 @@ module _ {F : Type 0} (R : CommRing F) (s : Leaf → F) where
       → (u v : List (Term F)) (shift : ℕ) → value (itself R) s (packed_term R.nil (f (xor_terms u (rotated_left shift v)))) ≡ packed R (g (ring_xors R (map (value (itself R) s) u) (rotated_left shift (map (value (itself R) s) v))))
   half_value f g alike u v shift =
       let bits = xor_terms u (rotated_left shift v) in
-      value-packed_term (f bits) ∙ (ap (packed R) (sym (alike bits)) ∙ ap (λ xs. packed R (g xs)) (values_of u v shift))
+      value-packed_term (itself R) R.nil refl s (f bits) ∙ (ap (packed R) (sym (alike bits)) ∙ ap (λ xs. packed R (g xs)) (values_of u v shift))
 
 pub xor_is_exact : {F : Type 0} (R : CommRing F) → XorIsExact R
 xor_is_exact R t u v shift s b domain hb eu =

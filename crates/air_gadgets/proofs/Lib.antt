@@ -2,6 +2,7 @@ pub mod Combining
 pub mod BitLaws
 pub mod PackingLaws
 pub mod PowerSums
+pub mod PackedBits
 pub mod ListedColumns
 mod Carrying
 mod ExactSums

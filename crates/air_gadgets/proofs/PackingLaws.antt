@@ -5,6 +5,9 @@ use Rattle.air_field.specs.Term.{Term, add_term}
 use Rattle.air_field.specs.Part.{Part, whole, in_add_left}
 use Rattle.air_field.specs.laws.Part.{part_in}
 use Rattle.air_field.specs.Algebra.{AlgebraLaws, MadeOf, MadeOfBoth, RefusedOf, RefusedOfBoth, double_term}
+use Rattle.air_core.specs.Errors.{air_error}
+use Rattle.air_field.specs.declared.errors.RingError.{RingError}
+use Rattle.air_gadgets.specs.Errors.{AsAir}
 use Rattle.air_gadgets.specs.Packing.{packed_from, packed_term, MadeOfPacked, RefusedOfPacked}
 
 -- total means the terms from the i-th on, packed
@@ -116,3 +119,8 @@ module _ {R E F X : Type 0} {valid : R → Type 0} {has : R → E → Type 0} {m
       laws.refuses_whole e (packed_from at.t (l.u ∷ l.us)) (packed_term none ts)
       (part-packed none j ts at.t (l.u ∷ l.us) (at.place ∙ ap (λ r. at.t ∷ r) l.left))
       (refused (double_term (packed_from l.u l.us)) at.t (doubled.1 (packed_from l.u l.us) l.total_means) (laws.means_stays p q x at.t g (laws.means_stays first p x at.t h.extended at.x_means)))
+
+-- what the ring refuses, as the call answers it
+pub packed_as_air : {R E F : Type 0} (means : R → E → Term F → Type 0) (refuses : RingError → Term F → Type 0) (none : F) (first : R) (xs : List E) (e : RingError)
+    → RefusedOfPacked means refuses none first xs e → RefusedOfPacked means (AsAir refuses) none first xs (air_error e)
+packed_as_air means refuses none first xs e h ts m = (e, refl, h ts m)

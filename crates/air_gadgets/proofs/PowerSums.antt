@@ -6,8 +6,9 @@ use Rattle.air_field.specs.laws.RingSolver.{var, nought, unit, plus, times, ring
 use Rattle.air_field.specs.laws.Images.{image-one, image-add}
 use Rattle.air_field.specs.Term.{Leaf, Term}
 use Rattle.air_field.specs.Value.{value}
+use Rattle.air_gadgets.specs.Bits.{packed}
 use Rattle.air_gadgets.specs.Packing.{packed_from}
-use Rattle.air_gadgets.specs.PowerSums.{power_sum, PacksValues}
+use Rattle.air_gadgets.specs.PowerSums.{power_sum, PacksValues, PacksByPowers}
 
 module _ {A : Type 0} (R : CommRing A) where
   doubled_power : (k : ℕ) → image R (2 ^ suc k) ≡ R.add (image R (2 ^ k)) (image R (2 ^ k))
@@ -28,6 +29,16 @@ module _ {A : Type 0} (R : CommRing A) where
 
   none_after : (x : A) → R.add R.nil x ≡ x
   none_after x = ring R (x ∷ []) (plus nought (var 0)) (var 0) refl
+
+  twice_first : (x y : A) → R.add x (R.mul (R.add R.one R.one) y) ≡ R.add (R.add y y) x
+  twice_first x y = ring R (x ∷ y ∷ []) (plus (var 0) (times (plus unit unit) (var 1))) (plus (plus (var 1) (var 1)) (var 0)) refl
+
+  pub packs_by_powers : PacksByPowers R
+  packs_by_powers [] = refl
+  packs_by_powers (x ∷ xs) =
+      ap (λ w. R.add x (R.mul (R.add R.one R.one) w)) (packs_by_powers xs)
+      ∙ (twice_first x (power_sum R 0 xs)
+      ∙ (ap (λ w. R.add w x) (sym (twice_power_sum 0 xs)) ∙ sym (first_place x (power_sum R 1 xs))))
 
 module _ {F : Type 0} (R : CommRing F) (s : Leaf → F) where
   packed_from_value : (t : Term F) (us : List (Term F)) → value (itself R) s (packed_from t us) ≡ power_sum R 0 (map (value (itself R) s) (t ∷ us))

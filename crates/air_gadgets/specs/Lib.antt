@@ -1,3 +1,4 @@
+pub mod Errors
 pub mod Columns
 pub mod Bits
 pub mod Packing

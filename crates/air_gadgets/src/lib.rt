@@ -3,10 +3,12 @@
 #![tactic(auto)]
 
 pub mod columns;
+pub mod laws;
 pub mod utils;
 mod words;
 
 pub use columns::pair_col::PairCol;
 pub use columns::virtual_pair_col::VirtualPairCol;
+pub use laws::{packed_bits_are_numbers, words_are_exact};
 pub use words::additions::{add2, add3};
 pub use words::rotations::xor_32_shift;

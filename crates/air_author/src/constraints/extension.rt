@@ -1,9 +1,9 @@
 //! Constraints over the extension, each of one assertion.
-ghost use Rattle.std.specs.Prelude.{⊤, [], ◌∷◌};
+ghost use Rattle.std.specs.Prelude.{⊤, [], ◌∷◌, OnOk, OnErr};
 ghost use Rattle.air_field.specs.Term.{Term, sub_term};
 ghost use Rattle.air_builder.specs.Assertion.{Extension};
 ghost use Rattle.air_builder.specs.Builders.{less_one_term};
-ghost use Rattle.air_author.specs.Constraints.{AssertedIn};
+ghost use Rattle.air_author.specs.Constraints.{AssertedIn, IsLabelled};
 ghost use Rattle.air_author.specs.Expressions.{MadeIn, Lasts};
 
 use crate::AirResult;
@@ -159,7 +159,17 @@ impl<AB: NamedExtensionBuilder, N: Label, C: ExtClaim<AB>> Constraint<AB> for Ex
     ghost all_hold = { λ s b. C.ext_claim_holds s.1 b };
 
     #[inline(always)]
-    fn assert_under<K: Condition<AB>>(&self, builder: &mut AB, condition: &K) -> AirResult {
+    fn assert_under<K: Condition<AB>>(&self, builder: &mut AB, condition: &K) -> AirResult
+        requires ready { AB.ready builder.old }
+        requires held { Lasts AB.kept (λ b. C.ext_claim_holds self.now.1 b ×
+            K.where_holds condition.now b)
+            builder.old }
+        ensures asserted { AssertedIn ⟦<AB as Seen>⟧.view builder.old builder.new result
+            (Extension (K.ext_under condition.now (C.ext_claims self.now.1)) ∷ []) }
+        ensures label { OnOk result (IsLabelled AB.labelled (N.displays self.now.0) builder.old
+            builder.new (Extension (K.ext_under condition.now (C.ext_claims self.now.1)))) }
+        ensures no_label { OnErr result (AB.labelled builder.old builder.new []) }
+    {
         let x = self.1.make_ext_claim(builder, condition)?;
         builder.assert_zero_ext_named(x, self.0)
     }

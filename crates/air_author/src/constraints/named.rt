@@ -1,12 +1,14 @@
 //! Constraints under names.
-ghost use Rattle.std.specs.Prelude.{[], ◌∷◌};
+ghost use Rattle.std.specs.Prelude.{[], ◌∷◌, OnOk, OnErr};
 ghost use Rattle.air_builder.specs.Assertion.{Base};
+ghost use Rattle.air_author.specs.Constraints.{AssertedIn, IsLabelled};
+ghost use Rattle.air_author.specs.Expressions.{Lasts};
 
 use crate::AirResult;
 use crate::conditions::Condition;
 use crate::constraints::Constraint;
 use crate::constraints::claims::Claim;
-use air_builder::{Element, Joined, Name, NamedAirBuilder};
+use air_builder::{Element, Joined, Name, NamedAirBuilder, Seen};
 
 /// A name that a constraint can have: it may be evaluated at any time.
 pub trait Label: Name + Copy {
@@ -36,7 +38,17 @@ impl<AB: NamedAirBuilder, N: Label, C: Claim<AB>> Constraint<AB> for Named<N, C>
     ghost all_hold = { λ s b. C.claim_holds s.1 b };
 
     #[inline(always)]
-    fn assert_under<K: Condition<AB>>(&self, builder: &mut AB, condition: &K) -> AirResult {
+    fn assert_under<K: Condition<AB>>(&self, builder: &mut AB, condition: &K) -> AirResult
+        requires ready { AB.ready builder.old }
+        requires held { Lasts AB.kept (λ b. C.claim_holds self.now.1 b × K.where_holds condition.now
+            b)
+            builder.old }
+        ensures asserted { AssertedIn ⟦<AB as Seen>⟧.view builder.old builder.new result
+            (Base (K.under condition.now (C.claims self.now.1)) ∷ []) }
+        ensures label { OnOk result (IsLabelled AB.labelled (N.displays self.now.0) builder.old
+            builder.new (Base (K.under condition.now (C.claims self.now.1)))) }
+        ensures no_label { OnErr result (AB.labelled builder.old builder.new []) }
+    {
         let x = self.1.make_claim(builder, condition)?;
         builder.assert_zero_named(x, self.0)
     }

@@ -3,6 +3,7 @@ ghost use Rattle.std.specs.Prelude.{◌≡◌, ◌↔◌, None, IfSome};
 ghost use Rattle.air_field.specs.Term.{preprocessed, main, periodic, public, leaf_term};
 ghost use Rattle.air_core.specs.Entries.{entry_leaf};
 ghost use Rattle.air_builder.specs.Builders.{VariableStands};
+ghost use Rattle.air_builder.specs.Refusals.{IsOfWindow};
 ghost use Rattle.air_author.specs.Expressions.{MadeIn};
 
 use crate::AirResult;
@@ -22,6 +23,7 @@ fn make_found<AB: AirBuilder>(
     requires ready { AB.ready builder.old }
     requires found { IfSome found (VariableStands AB.Ring.FromVar-1.var_means
         (AB.stands builder.old) (entry_leaf entry index)) }
+    requires of_window { IsOfWindow entry }
     requires none { (found ≡ None) ↔ AB.missing builder.old (entry_leaf entry index) }
     ensures { MadeIn ⟦<AB as Seen>⟧.view builder.old builder.new result
         (leaf_term (entry_leaf entry index)) }

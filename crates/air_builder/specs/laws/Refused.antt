@@ -27,7 +27,7 @@ module _ {F : Type 0} (missing : Leaf → Type 0) (over : Term F → Type 0) (fu
   Refused-first Memory xs ys k h = tt
   Refused-first DegreeOverflow xs ys k h = (h.0, (h.1.0, PartOf-first h.0 xs ys h.1.1))
   Refused-first CountOverflow xs ys k h = k h
-  Refused-first (MissingEntry e i) xs ys k h = (h.0, PartOf-first (leaf_term (entry_leaf e i)) xs ys h.1)
+  Refused-first (MissingEntry e i) xs ys k h = (h.0, PartOf-first (leaf_term (entry_leaf e i)) xs ys h.1, h.2)
   Refused-first (RowOffset o) xs ys k h = (h.0, h.1, h.2, PartOf-first (leaf_term h.0) xs ys h.3)
   Refused-first (MissingExtEntry e i) xs ys k h = (h.0, PartOf-first (leaf_term (ext_entry_leaf e i)) xs ys h.1)
   Refused-first NoPermutation xs ys k h = (h.0, h.1, h.2, PartOf-first (leaf_term (permutation h.0 h.1)) xs ys h.3)
@@ -38,7 +38,7 @@ module _ {F : Type 0} (missing : Leaf → Type 0) (over : Term F → Type 0) (fu
   Refused-then before Memory xs ys k h = tt
   Refused-then before DegreeOverflow xs ys k h = (h.0, (h.1.0, PartOf-then h.0 xs ys h.1.1))
   Refused-then before CountOverflow xs ys k h = k h
-  Refused-then before (MissingEntry e i) xs ys k h = (h.0, PartOf-then (leaf_term (entry_leaf e i)) xs ys h.1)
+  Refused-then before (MissingEntry e i) xs ys k h = (h.0, PartOf-then (leaf_term (entry_leaf e i)) xs ys h.1, h.2)
   Refused-then before (RowOffset o) xs ys k h = (h.0, h.1, h.2, PartOf-then (leaf_term h.0) xs ys h.3)
   Refused-then before (MissingExtEntry e i) xs ys k h = (h.0, PartOf-then (leaf_term (ext_entry_leaf e i)) xs ys h.1)
   Refused-then before NoPermutation xs ys k h = (h.0, h.1, h.2, PartOf-then (leaf_term (permutation h.0 h.1)) xs ys h.3)
@@ -48,7 +48,7 @@ module _ {F : Type 0} (missing : Leaf → Type 0) (over : Term F → Type 0) (fu
   Refused-missing Memory l ts m n p = tt
   Refused-missing DegreeOverflow l ts m n p = absurd n
   Refused-missing CountOverflow l ts m n p = absurd n
-  Refused-missing (MissingEntry e i) l ts m n p = (subst missing n m, subst (λ k. PartOf (leaf_term k) ts) n p)
+  Refused-missing (MissingEntry e i) l ts m n p = (subst missing n.0 m, subst (λ k. PartOf (leaf_term k) ts) n.0 p, n.1)
   Refused-missing (RowOffset o) l ts m n p = (l, n, m, p)
   Refused-missing (MissingExtEntry e i) l ts m n p = (subst missing n m, subst (λ k. PartOf (leaf_term k) ts) n p)
   Refused-missing NoPermutation l ts m n p = (n.0, n.1, subst missing n.2 m, subst (λ k. PartOf (leaf_term k) ts) n.2 p)

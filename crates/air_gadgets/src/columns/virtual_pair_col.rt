@@ -3,9 +3,12 @@ ghost use Rattle.std.specs.Prelude.{◌≡◌, ◌↔◌, IsTrue, IfOk, IfErr, [
 ghost use Rattle.air_field.specs.Algebra.{MadeOf, RefusedOf, scaled_term};
 ghost use Rattle.air_gadgets.specs.declared.columns.pair_col.PairCol.TheVariants.{Preprocessed, Main};
 ghost use Rattle.air_gadgets.specs.Columns.{FitsWithin, combination, on_preprocessed, on_main, single_of, sum_of, difference_of};
+ghost use Rattle.air_core.specs.declared.errors.AirError.{AirError};
 ghost use Rattle.air_gadgets.specs.Columns.{MadeOfColumns, RefusedOfColumns};
+ghost use Rattle.air_gadgets.specs.Errors.{AsAir};
 
 use crate::columns::pair_col::PairCol;
+use air_builder::AirError;
 use air_field::{Algebra, Field, RingError};
 use std::alloc::{AllocError, Global};
 use std::marker::Model;
@@ -92,8 +95,9 @@ impl<F: Field> VirtualPairCol<F> {
         alloc: Global,
         column_weights: Vec<(usize, F)>,
         constant: F,
-    ) -> Result<Self, AllocError>
-        ensures { IfOk result (λ v. v ≡ on_preprocessed column_weights.items constant) }
+    ) -> Result<Self, AirError>
+        ensures made { IfOk result (λ v. v ≡ on_preprocessed column_weights.items constant) }
+        ensures refused { IfErr result (λ e. e ≡ AirError.Memory) }
     {
         let columns = preprocessed_columns(alloc, &column_weights)?;
         Ok(Self::new(columns, constant))
@@ -104,8 +108,9 @@ impl<F: Field> VirtualPairCol<F> {
         alloc: Global,
         column_weights: Vec<(usize, F)>,
         constant: F,
-    ) -> Result<Self, AllocError>
-        ensures { IfOk result (λ v. v ≡ on_main column_weights.items constant) }
+    ) -> Result<Self, AirError>
+        ensures made { IfOk result (λ v. v ≡ on_main column_weights.items constant) }
+        ensures refused { IfErr result (λ e. e ≡ AirError.Memory) }
     {
         let columns = main_columns(alloc, &column_weights)?;
         Ok(Self::new(columns, constant))
@@ -126,8 +131,9 @@ impl<F: Field> VirtualPairCol<F> {
     }
 
     /// The column itself.
-    pub fn single(alloc: Global, column: PairCol) -> Result<Self, AllocError>
-        ensures { IfOk result (λ v. v ≡ single_of F.ONE F.ZERO column) }
+    pub fn single(alloc: Global, column: PairCol) -> Result<Self, AirError>
+        ensures made { IfOk result (λ v. v ≡ single_of F.ONE F.ZERO column) }
+        ensures refused { IfErr result (λ e. e ≡ AirError.Memory) }
     {
         let mut column_weights = Vec::new(alloc);
         column_weights.push((column, F::ONE))?;
@@ -135,38 +141,43 @@ impl<F: Field> VirtualPairCol<F> {
     }
 
     /// A preprocessed column itself.
-    pub fn single_preprocessed(alloc: Global, column: usize) -> Result<Self, AllocError>
-        ensures { IfOk result (λ v. v ≡ single_of F.ONE F.ZERO (Preprocessed column)) }
+    pub fn single_preprocessed(alloc: Global, column: usize) -> Result<Self, AirError>
+        ensures made { IfOk result (λ v. v ≡ single_of F.ONE F.ZERO (Preprocessed column)) }
+        ensures refused { IfErr result (λ e. e ≡ AirError.Memory) }
     {
         Self::single(alloc, PairCol::Preprocessed(column))
     }
 
     /// A main column itself.
-    pub fn single_main(alloc: Global, column: usize) -> Result<Self, AllocError>
-        ensures { IfOk result (λ v. v ≡ single_of F.ONE F.ZERO (Main column)) }
+    pub fn single_main(alloc: Global, column: usize) -> Result<Self, AirError>
+        ensures made { IfOk result (λ v. v ≡ single_of F.ONE F.ZERO (Main column)) }
+        ensures refused { IfErr result (λ e. e ≡ AirError.Memory) }
     {
         Self::single(alloc, PairCol::Main(column))
     }
 
     /// The sum of preprocessed columns.
-    pub fn sum_preprocessed(alloc: Global, columns: Vec<usize>) -> Result<Self, AllocError>
-        ensures { IfOk result (λ v. v ≡ sum_of F.ONE F.ZERO Preprocessed columns.items) }
+    pub fn sum_preprocessed(alloc: Global, columns: Vec<usize>) -> Result<Self, AirError>
+        ensures made { IfOk result (λ v. v ≡ sum_of F.ONE F.ZERO Preprocessed columns.items) }
+        ensures refused { IfErr result (λ e. e ≡ AirError.Memory) }
     {
         let column_weights = each_once(alloc, &columns)?;
         Self::new_preprocessed(alloc, column_weights, F::ZERO)
     }
 
     /// The sum of main columns.
-    pub fn sum_main(alloc: Global, columns: Vec<usize>) -> Result<Self, AllocError>
-        ensures { IfOk result (λ v. v ≡ sum_of F.ONE F.ZERO Main columns.items) }
+    pub fn sum_main(alloc: Global, columns: Vec<usize>) -> Result<Self, AirError>
+        ensures made { IfOk result (λ v. v ≡ sum_of F.ONE F.ZERO Main columns.items) }
+        ensures refused { IfErr result (λ e. e ≡ AirError.Memory) }
     {
         let column_weights = each_once(alloc, &columns)?;
         Self::new_main(alloc, column_weights, F::ZERO)
     }
 
     // One column less another.
-    fn diff(alloc: Global, a: PairCol, b: PairCol) -> Result<Self, AllocError>
-        ensures { IfOk result (λ v. v ≡ difference_of F.ONE F.NEG_ONE F.ZERO a b) }
+    fn diff(alloc: Global, a: PairCol, b: PairCol) -> Result<Self, AirError>
+        ensures made { IfOk result (λ v. v ≡ difference_of F.ONE F.NEG_ONE F.ZERO a b) }
+        ensures refused { IfErr result (λ e. e ≡ AirError.Memory) }
     {
         let mut column_weights = Vec::new(alloc);
         column_weights.push((a, F::ONE))?;
@@ -175,9 +186,10 @@ impl<F: Field> VirtualPairCol<F> {
     }
 
     /// One preprocessed column less another.
-    pub fn diff_preprocessed(alloc: Global, a_col: usize, b_col: usize) -> Result<Self, AllocError>
-        ensures { IfOk result (λ v. v ≡ difference_of F.ONE F.NEG_ONE F.ZERO (Preprocessed a_col)
+    pub fn diff_preprocessed(alloc: Global, a_col: usize, b_col: usize) -> Result<Self, AirError>
+        ensures made { IfOk result (λ v. v ≡ difference_of F.ONE F.NEG_ONE F.ZERO (Preprocessed a_col)
             (Preprocessed b_col)) }
+        ensures refused { IfErr result (λ e. e ≡ AirError.Memory) }
     {
         Self::diff(
             alloc,
@@ -187,9 +199,10 @@ impl<F: Field> VirtualPairCol<F> {
     }
 
     /// One main column less another.
-    pub fn diff_main(alloc: Global, a_col: usize, b_col: usize) -> Result<Self, AllocError>
-        ensures { IfOk result (λ v. v ≡ difference_of F.ONE F.NEG_ONE F.ZERO (Main a_col)
+    pub fn diff_main(alloc: Global, a_col: usize, b_col: usize) -> Result<Self, AirError>
+        ensures made { IfOk result (λ v. v ≡ difference_of F.ONE F.NEG_ONE F.ZERO (Main a_col)
             (Main b_col)) }
+        ensures refused { IfErr result (λ e. e ≡ AirError.Memory) }
     {
         Self::diff(alloc, PairCol::Main(a_col), PairCol::Main(b_col))
     }
@@ -213,7 +226,7 @@ impl<F: Field> VirtualPairCol<F> {
         ring: &mut R,
         preprocessed: &[R::Elem],
         main: &[R::Elem],
-    ) -> Result<R::Elem, RingError>
+    ) -> Result<R::Elem, AirError>
         requires fits { FitsWithin (length preprocessed.now) (length main.now) self.now }
         requires valid { R.valid ring.old }
         requires preprocessed_in { All (R.has ring.old) preprocessed.now }
@@ -222,7 +235,7 @@ impl<F: Field> VirtualPairCol<F> {
         ensures made { IfOk result
             (MadeOfColumns R.has R.means ring.old ring.new self.now preprocessed.now main.now) }
         ensures refused { IfErr result
-            (RefusedOfColumns R.means R.refuses ring.old self.now preprocessed.now main.now) }
+            (RefusedOfColumns R.means (AsAir R.refuses) ring.old self.now preprocessed.now main.now) }
     {
         let mut total = ring.constant(self.constant)?;
         for (column, weight) in &self.column_weights {

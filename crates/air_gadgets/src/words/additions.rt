@@ -2,14 +2,14 @@
 ghost use Rattle.std.specs.Prelude.{All};
 ghost use Rattle.air_builder.specs.Builders.{Means};
 ghost use Rattle.air_gadgets.specs.Gadgets.{Adds2, Adds3, VariableMeans, AssertedList};
-ghost use Rattle.air_gadgets.specs.Exact.{Add2IsExact, Add3IsExact};
 
 use crate::words::sums::{sum_of_three, sum_of_two};
 use air_builder::{AirBuilder, AirError};
 use air_field::{Algebra, Field, FromVar};
 
 /// Asserts that the word `a` is the sum of `b` and `c` modulo 2^32, of limbs that are known to have 16 bits, the lower
-/// one first. So it is in a field of characteristic above 2^17, in which a product is zero only if a factor is.
+/// one first. So it is in a field of characteristic above 2^17, in which a product is zero only if a factor is
+/// ([`words_are_exact`](crate::laws::words_are_exact)).
 pub fn add2<AB: AirBuilder>(
     builder: &mut AB,
     a: &[AB::Var; 2],
@@ -18,11 +18,10 @@ pub fn add2<AB: AirBuilder>(
 ) -> Result<(), AirError>
     requires ready { AB.ready builder.old }
     requires c_in { All (AB.Ring.has (AB.ring_of builder.old)) c.now }
-    ensures asserted { AssertedList (Adds2 AB.F.ring
+    ensures { AssertedList (Adds2 AB.F.ring
         (VariableMeans AB.Ring.FromVar-1.var_means AB.stands builder.old)
         (Means AB.Ring.means AB.ring_of AB.stands builder.old) a.now b.now c.now)
         AB.kept AB.grew AB.refuses builder.old builder.new result }
-    ensures exact { Add2IsExact AB.F.ring AB.F.CHARACTERISTIC }
 {
     let elements = sum_of_two(builder.ring(), a, b, c)?;
     builder.assert_zeros_slice(&elements)
@@ -30,7 +29,7 @@ pub fn add2<AB: AirBuilder>(
 
 /// Asserts that the word `a` is the sum of `b`, `c` and `d` modulo 2^32, of limbs that are known to have 16 bits, the
 /// lower one first. So it is in a field of characteristic above 3 · 2^16, in which a product is zero only if a factor
-/// is.
+/// is ([`words_are_exact`](crate::laws::words_are_exact)).
 pub fn add3<AB: AirBuilder>(
     builder: &mut AB,
     a: &[AB::Var; 2],
@@ -41,11 +40,10 @@ pub fn add3<AB: AirBuilder>(
     requires ready { AB.ready builder.old }
     requires c_in { All (AB.Ring.has (AB.ring_of builder.old)) c.now }
     requires d_in { All (AB.Ring.has (AB.ring_of builder.old)) d.now }
-    ensures asserted { AssertedList (Adds3 AB.F.ring
+    ensures { AssertedList (Adds3 AB.F.ring
         (VariableMeans AB.Ring.FromVar-1.var_means AB.stands builder.old)
         (Means AB.Ring.means AB.ring_of AB.stands builder.old) a.now b.now c.now d.now)
         AB.kept AB.grew AB.refuses builder.old builder.new result }
-    ensures exact { Add3IsExact AB.F.ring AB.F.CHARACTERISTIC }
 {
     let elements = sum_of_three(builder.ring(), a, b, c, d)?;
     builder.assert_zeros_slice(&elements)

@@ -4,7 +4,6 @@ ghost use Rattle.air_field.specs.Algebra.{bool_check_term};
 ghost use Rattle.air_builder.specs.Assertion.{Base};
 ghost use Rattle.air_builder.specs.Batches.{AssertsOf, AssertedEach};
 ghost use Rattle.air_gadgets.specs.Gadgets.{VariableMeans, HalfOf, Xors, AssertedList};
-ghost use Rattle.air_gadgets.specs.Exact.{XorIsExact};
 
 use crate::words::xors::{less_packed, rotate_left};
 use air_builder::{AirBuilder, AirError};
@@ -56,8 +55,9 @@ fn assert_half<AB: AirBuilder>(
 
 /// Asserts that `c` is made of bits and that the word `a` is the xor of `b` and `c` rotated to the left by `shift`,
 /// which must be at most 32, where `b` is known to be made of bits; bits are listed lowest first, and the lower limb
-/// first. So it is in a field in which a product is zero only if a factor is. The limbs of `a` then are images of the
-/// word's halves, which tells the word itself only in a field of characteristic 2^16 and above.
+/// first. So it is in a field in which a product is zero only if a factor is
+/// ([`words_are_exact`](crate::laws::words_are_exact)). The limbs of `a` then are images of the word's halves, which
+/// tells the word itself only in a field of characteristic 2^16 and above.
 pub fn xor_32_shift<AB: AirBuilder>(
     builder: &mut AB,
     a: &[AB::Var; 2],
@@ -67,10 +67,9 @@ pub fn xor_32_shift<AB: AirBuilder>(
 ) -> Result<(), AirError>
     requires ready { AB.ready builder.old }
     requires within { shift ≤ 32 }
-    ensures asserted { AssertedList (Xors AB.F.ring
+    ensures { AssertedList (Xors AB.F.ring
         (VariableMeans AB.Ring.FromVar-1.var_means AB.stands builder.old) a.now b.now c.now shift)
         AB.kept AB.grew AB.refuses builder.old builder.new result }
-    ensures exact { XorIsExact AB.F.ring }
 {
     let [a0, a1] = *a;
     let rotated = rotate_left(c, shift);

@@ -1,9 +1,8 @@
 use Rattle.std.proofs.Common.{◌≡◌, ◌-◌, ◌<◌, suc, length, subst, sym, arith}
 use Rattle.std.proofs.lemmas.List.Elements.{All-get_or}
 use Rattle.std.proofs.lemmas.Result.{err_from_is_err_and}
-use Rattle.std.specs.Prelude.{Result, Ok, Err, OnOk}
 use Rattle.air_gadgets.proofs.PowerSums.{packs_values}
-use Rattle.air_gadgets.proofs.PackingLaws.{IsPacking, begin_packing, pack_one, end_packing, doubling_refused, adding_bit_refused, one_below}
+use Rattle.air_gadgets.proofs.PackingLaws.{IsPacking, begin_packing, pack_one, end_packing, doubling_refused, adding_bit_refused, one_below, packed_as_air}
 use Rattle.air_gadgets.proofs.utils.packing.pack_bits_le.Goals as goal
 
 pub loop-left-init : goal.loop-left-init
@@ -19,10 +18,11 @@ loop-left-init g c =
 pub returns-in_err-twice-clause-refused : goal.returns-in_err-twice-clause-refused
 returns-in_err-twice-clause-refused g c =
     let inside : c.loop-left.left - 1 < length c.args.bits.now = omega (arith, c.loop-left.invariant.0) in
-    let p = err_from_is_err_and c.from_residual.result c.from_residual.ensures.1 in
+    let p = err_from_is_err_and c.from_residual-in_err-twice.result c.from_residual-in_err-twice.ensures.1 in
     rw (p.1, p.2)
+    (packed_as_air g.R.Algebra.means g.R.Algebra.refuses g.F.Field.ZERO c.args.ring.now c.args.bits.now c.in_err-twice.field-0.0
     (doubling_refused g.met.R.Algebra.laws g.F.Field.ZERO c.args.bits.now c.args.ring.now c.loop-left.ring c.in_err-twice.field-0.0 (c.loop-left.left - 1) c.loop-left.total c.index-bits-left-in-loop-left.result
-    inside c.index-bits-left-in-loop-left.is c.in_err-twice.ensures.refused (one_below c.loop-left.left c.loop-left.total c.loop-left-test.true c.loop-left.invariant.1))
+    inside c.index-bits-left-in-loop-left.is c.in_err-twice.ensures.refused (one_below c.loop-left.left c.loop-left.total c.loop-left-test.true c.loop-left.invariant.1)))
 
 pub add-requires-clause-y_in : goal.add-requires-clause-y_in
 add-requires-clause-y_in g c =
@@ -40,8 +40,9 @@ returns-in_err-total-clause-refused g c =
     let inside : c.loop-left.left - 1 < length c.args.bits.now = omega (arith, c.loop-left.invariant.0) in
     let p = err_from_is_err_and c.from_residual-in_err-total.result c.from_residual-in_err-total.ensures.1 in
     rw (p.1, p.2)
+    (packed_as_air g.R.Algebra.means g.R.Algebra.refuses g.F.Field.ZERO c.args.ring.now c.args.bits.now c.in_err-total.field-0.0
     (adding_bit_refused g.met.R.Algebra.laws g.F.Field.ZERO c.args.bits.now c.args.ring.now c.loop-left.ring c.double.new.self c.in_err-total.field-0.0 (c.loop-left.left - 1) c.loop-left.total c.in_ok-twice.twice c.index-bits-left-in-loop-left.result
-    inside c.index-bits-left-in-loop-left.is c.double.ensures.extended c.in_ok-twice.ensures.made c.in_err-total.ensures.refused (one_below c.loop-left.left c.loop-left.total c.loop-left-test.true c.loop-left.invariant.1))
+    inside c.index-bits-left-in-loop-left.is c.double.ensures.extended c.in_ok-twice.ensures.made c.in_err-total.ensures.refused (one_below c.loop-left.left c.loop-left.total c.loop-left-test.true c.loop-left.invariant.1)))
 
 pub loop-left-preserved : goal.loop-left-preserved
 loop-left-preserved g c =
@@ -51,12 +52,8 @@ loop-left-preserved g c =
           inside c.index-bits-left-in-loop-left.is c.double.ensures.extended c.add.ensures.extended c.in_ok-twice.ensures.made c.in_ok-total.ensures.made (one_below c.loop-left.left c.loop-left.total c.loop-left-test.true c.loop-left.invariant.1),
     )
 
-what_holds : {T E P : Type 0} (r : Result T E) → P → OnOk r P
-what_holds (Ok x) p = p
-what_holds (Err e) p = tt
-
 pub returns-then-is_empty-clause-sum : goal.returns-then-is_empty-clause-sum
-returns-then-is_empty-clause-sum g c = what_holds c.constant.result (packs_values g.F.Field.ring g.F.Field.ZERO g.met.F.Field.zero_is)
+returns-then-is_empty-clause-sum g c = packs_values g.F.Field.ring g.F.Field.ZERO g.met.F.Field.zero_is
 
 pub returns-clause-sum : goal.returns-clause-sum
 returns-clause-sum g c = packs_values g.F.Field.ring g.F.Field.ZERO g.met.F.Field.zero_is

@@ -2,6 +2,6 @@ use Rattle.air_gadgets.specs.declared.columns.pair_col.PairCol.TheVariants.{Prep
 use Rattle.air_gadgets.proofs.ListedColumns.{summed}
 use Rattle.air_gadgets.proofs.columns.virtual_pair_col.VirtualPairCol.sum_preprocessed.Goals as goal
 
-pub returns : goal.returns
-returns g c =
-    summed Preprocessed g.F.Field.ONE _ _ c.deref.ensures.value c.in_ok-column_weights.ensures c.ZERO.ensures c.new_preprocessed.result c.new_preprocessed.ensures
+pub returns-clause-made : goal.returns-clause-made
+returns-clause-made g c =
+    summed Preprocessed g.F.Field.ONE _ _ c.deref.ensures.value c.in_ok-column_weights.ensures c.ZERO.ensures c.new_preprocessed.result c.new_preprocessed.ensures.made
