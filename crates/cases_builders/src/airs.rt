@@ -81,11 +81,7 @@ fn with_table<F: Field>(
 }
 
 // Adds the rows of the matrix of periodic columns.
-fn show_matrix<F: Number>(
-    alloc: Global,
-    air: &Said<F>,
-    text: &mut String,
-) -> Result<(), Fault> {
+fn show_matrix<F: Number>(alloc: Global, air: &Said<F>, text: &mut String) -> Result<(), Fault> {
     let Some(matrix) = air.periodic_columns_matrix(alloc)? else {
         text.push_str("None")?;
         return Ok(());

@@ -1,12 +1,14 @@
 //! Assertions over constants, by the words of their calls. A call knows the builder by its traits alone.
 
-use crate::constants::{constant, ext_constant, four_constants, two_constants, two_ext_constants};
+use crate::constants::{
+    constant, ext_constant, four_constants, three_constants, two_constants, two_ext_constants,
+};
 use crate::labels::Label;
 use air_builder::{
     AirBuilder, AssertAll, AssertAllExt, AssertAllNamed, ExtensionBuilder, NamedAirBuilder,
     NamedExtensionBuilder,
 };
-use air_core::{Name, Namespace, NamespaceExt};
+use air_core::{Namespace, NamespaceExt};
 use cases::{Fault, Why};
 use std::alloc::Global;
 
@@ -41,8 +43,11 @@ fn assert_base<AB: AirBuilder>(builder: &mut AB, call: &[&str]) -> Result<(), Fa
             builder.assert_bools(both)?;
         }
         ["assert_eq_arrays", x, y, z, w] => {
-            let (left, right) =
-                four_constants::<AB::F, AB::Ring>(builder.ring(), [*x, *y], [*z, *w])?;
+            let (left, right) = four_constants::<AB::F, AB::Ring>(
+                builder.ring(),
+                [*x, *y],
+                [*z, *w],
+            )?;
             builder.assert_eq_arrays(left, right)?;
         }
         _ => return Err(Fault::Unreadable(Why::NoSuchCall)),
@@ -118,6 +123,10 @@ fn assert_base_named<AB: NamedAirBuilder, N: Namespace>(
             let both = two_constants::<AB::F, AB::Ring>(builder.ring(), *x, *y)?;
             builder.assert_bools_named(both, name)?;
         }
+        ["assert_bools_named", x, y, z] => {
+            let all = three_constants::<AB::F, AB::Ring>(builder.ring(), [*x, *y, *z])?;
+            builder.assert_bools_named(all, name)?;
+        }
         _ => return Err(Fault::Unreadable(Why::NoSuchCall)),
     }
     Ok(())
@@ -165,9 +174,10 @@ fn assert_under_name<AB: NamedExtensionBuilder, N: Namespace>(
     ensures { AB.kept builder.old builder.new }
 {
     match call {
-        ["assert_zero_ext_named" | "assert_one_ext_named" | "assert_eq_ext_named", ..] => {
-            assert_ext_named(alloc, builder, call, name)
-        }
+        [
+            "assert_zero_ext_named" | "assert_one_ext_named" | "assert_eq_ext_named",
+            ..
+        ] => { assert_ext_named(alloc, builder, call, name) }
         _ => assert_base_named(builder, call, name),
     }
 }
@@ -190,9 +200,10 @@ pub fn assert_this<AB: NamedExtensionBuilder>(
             let space = Label::new(*a).join(Label::new(*b));
             assert_under_name(alloc, builder, call, space.name(Label::new(*c)))
         }
-        ["assert_zero_ext" | "assert_one_ext" | "assert_eq_ext" | "assert_zeros_ext", ..] => {
-            assert_ext(alloc, builder, call)
-        }
+        [
+            "assert_zero_ext" | "assert_one_ext" | "assert_eq_ext" | "assert_zeros_ext",
+            ..
+        ] => { assert_ext(alloc, builder, call) }
         _ => assert_base(builder, call),
     }
 }

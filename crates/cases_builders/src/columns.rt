@@ -29,7 +29,9 @@ pub fn pair_col<F: Number>(alloc: Global, call: &[&str], text: &mut String) -> R
             if !column.in_range(preprocessed.len(), main.len()) {
                 return Err(Fault::Unreadable(Why::OtherShape));
             }
-            let number = column.get(preprocessed.as_slice(), main.as_slice()).number();
+            let number = column
+                .get(preprocessed.as_slice(), main.as_slice())
+                .number();
             write!(text, "{number}")?;
         }
         _ => return Err(Fault::Unreadable(Why::NoSuchCall)),

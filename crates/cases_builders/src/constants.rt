@@ -34,6 +34,24 @@ pub fn two_constants<F: Field, R: Algebra<F>>(
     Ok([x, y])
 }
 
+/// The constants of three numbers.
+pub fn three_constants<F: Field, R: Algebra<F>>(
+    ring: &mut R,
+    words: [&str; 3],
+) -> Result<[R::Elem; 3], Fault>
+    requires { R.valid ring.old }
+    ensures extended { R.extends ring.old ring.new }
+    ensures of_ring { IfOk result (All (R.has ring.new)) }
+{
+    let [a, b, c] = words;
+    let (a, b) = (element_of::<F>(a)?, element_of::<F>(b)?);
+    let c = element_of::<F>(c)?;
+    let x = ring.constant(a)?;
+    let y = ring.constant(b)?;
+    let z = ring.constant(c)?;
+    Ok([x, y, z])
+}
+
 /// The constant of an element of the extension.
 pub fn ext_constant<F: Field, EF: ExtensionField<F>, R: ExtAlgebra<F, EF>>(
     alloc: Global,

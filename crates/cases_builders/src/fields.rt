@@ -2,9 +2,7 @@
 
 use air_field::fields::power::power_of;
 use air_field::{BabyBear, ExtensionField, Field};
-use cases::words::{
-    Number, count_of, element_of, listed_elements, number_of, show_elements,
-};
+use cases::words::{Number, count_of, element_of, listed_elements, number_of, show_elements};
 use cases::{Fault, Why};
 use std::alloc::Global;
 

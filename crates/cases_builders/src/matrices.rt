@@ -34,12 +34,7 @@ pub fn matrix(alloc: Global, call: &[&str], text: &mut String) -> Result<(), Fau
 }
 
 /// Adds the pair of two rows.
-pub fn view_pair(
-    alloc: Global,
-    top: &str,
-    bottom: &str,
-    text: &mut String,
-) -> Result<(), Fault> {
+pub fn view_pair(alloc: Global, top: &str, bottom: &str, text: &mut String) -> Result<(), Fault> {
     let top = counts_of(alloc, top)?;
     let bottom = counts_of(alloc, bottom)?;
     if top.len() != bottom.len() {

@@ -28,11 +28,7 @@ fn made<F: Field>(alloc: Global, call: &[&str]) -> Result<F, Fault> {
 }
 
 /// Adds the number that a call of the field's ring answers.
-pub fn field_ring<F: Number>(
-    alloc: Global,
-    call: &[&str],
-    text: &mut String,
-) -> Result<(), Fault> {
+pub fn field_ring<F: Number>(alloc: Global, call: &[&str], text: &mut String) -> Result<(), Fault> {
     let number = made::<F>(alloc, call)?.number();
     write!(text, "{number}")?;
     Ok(())

@@ -59,8 +59,11 @@ impl<'a> Bench<'a> for Rows {
     fn answer(&mut self, line: &Line<'a>, text: &mut String) -> Result<(), Fault> {
         let (selectors, words) = match line.words.as_slice() {
             ["WINDOW"] => {
-                let rows =
-                    DebugConstraintBuilder::<'static, BabyBear, BinomialExtensionField>::WINDOW;
+                let rows = DebugConstraintBuilder::<
+                    'static,
+                    BabyBear,
+                    BinomialExtensionField,
+                >::WINDOW;
                 write!(text, "{rows}")?;
                 return Ok(());
             }

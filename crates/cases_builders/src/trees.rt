@@ -1,7 +1,6 @@
 //! The texts of recorded expressions.
 ghost use Rattle.air_symbolic.specs.Pools.{IsPool};
 
-use air_core::BaseEntry;
 use air_field::{ExtensionField, Field};
 use air_symbolic::{BaseLeaf, ExprId, ExprPool, ExtLeaf, SymLeaf, SymbolicExpr};
 use cases::Fault;
