@@ -1,0 +1,50 @@
+//! Cases of fields, rings, matrices, windows, cells, names, columns, bits, word gadgets, assertions and filters, read from
+//! tables: each line makes public calls, and says what they answer.
+#![tactic(auto)]
+
+mod airs;
+mod assertions;
+mod bits;
+mod cells;
+mod columns;
+mod constants;
+mod fields;
+mod filters;
+mod labels;
+mod matrices;
+mod recordings;
+mod rings;
+mod rows;
+mod trees;
+mod values;
+mod windows;
+mod words;
+
+use crate::recordings::Recordings;
+use crate::rows::Rows;
+use crate::values::Values;
+use cases::{Fault, Report, Table, Tables, Why, check_lines};
+use std::process::ExitCode;
+
+struct Builders;
+
+impl Tables for Builders {
+    fn check(
+        rt: &HostRuntime,
+        head: &str,
+        table: &Table<'_>,
+        report: &mut Report,
+    ) -> Result<(), Fault> {
+        match head {
+            "values" => check_lines::<Values>(rt, table, report),
+            "recordings" => check_lines::<Recordings>(rt, table, report),
+            "rows" => check_lines::<Rows>(rt, table, report),
+            _ => Err(Fault::Unreadable(Why::NoSuchTable)),
+        }
+    }
+}
+
+/// Checks the tables that its words name.
+fn main(rt: HostRuntime) -> ExitCode {
+    cases::run::<Builders>(&rt)
+}

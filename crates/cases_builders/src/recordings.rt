@@ -1,0 +1,78 @@
+//! Assertions that are recorded: each line has a builder of its own.
+ghost use Rattle.std.specs.Prelude.{IfOk};
+ghost use Rattle.air_symbolic.specs.ExtLeaves.{ext_reads};
+ghost use Rattle.air_symbolic.specs.Pools.{IsPool};
+
+use crate::filters::assert_each;
+use crate::trees::{show_tree, show_value};
+use air_builder::AirBuilder;
+use air_field::{BabyBear, BinomialExtensionField, ExtensionField};
+use air_recording::{AirLayout, Recorded, SymbolicAirBuilder};
+use cases::words::Number;
+use cases::{Bench, Fault, Line};
+use std::alloc::Global;
+
+#[derive(Drop)]
+pub struct Recordings {
+    alloc: Global,
+}
+
+// What is recorded of the assertions.
+fn recorded<F: Number, EF: ExtensionField<F>>(
+    alloc: Global,
+    words: &[&str],
+) -> Result<Recorded<F, EF>, Fault>
+    ensures { IfOk result (λ r. IsPool (ext_reads EF.basis) r.pool) }
+{
+    let mut builder = SymbolicAirBuilder::<F, EF>::new(alloc, AirLayout::default())?;
+    assert_each(alloc, &mut builder, words)?;
+    Ok(builder.into_recorded())
+}
+
+// Adds the constraints over the extension, and then the base ones.
+fn show_recorded<F: Number, EF: ExtensionField<F>>(
+    recorded: Recorded<F, EF>,
+    text: &mut String,
+) -> Result<(), Fault>
+    requires { IsPool (ext_reads EF.basis) recorded.pool }
+{
+    let Recorded { pool, base, ext } = recorded;
+    for id in &ext {
+        if !text.is_empty() {
+            text.push_str(" ")?;
+        }
+        show_value(&pool, *id, text)?;
+    }
+    let pool = pool.into_base();
+    for id in &base {
+        if !text.is_empty() {
+            text.push_str(" ")?;
+        }
+        show_tree(&pool, *id, 9, text)?;
+    }
+    Ok(())
+}
+
+impl<'a> Bench<'a> for Recordings {
+    fn new(alloc: Global) -> Self {
+        Recordings { alloc }
+    }
+
+    fn answer(&mut self, line: &Line<'a>, text: &mut String) -> Result<(), Fault> {
+        match line.words.as_slice() {
+            ["WINDOW"] => {
+                let rows = SymbolicAirBuilder::<BabyBear, BinomialExtensionField>::WINDOW;
+                write!(text, "{rows}")?;
+                Ok(())
+            }
+            words => {
+                let recorded = recorded::<BabyBear, BinomialExtensionField>(self.alloc, words)?;
+                show_recorded(recorded, text)
+            }
+        }
+    }
+
+    fn standing(&self, _text: &mut String) -> Result<(), Fault> {
+        Ok(())
+    }
+}

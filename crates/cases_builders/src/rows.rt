@@ -1,0 +1,82 @@
+//! Assertions that are evaluated at one row without columns: each line has a builder of its own.
+
+use crate::filters::assert_each;
+use air_builder::AirBuilder;
+use air_field::{BabyBear, BinomialExtensionField, ExtensionField, RowMajorMatrixView, ViewPair};
+use air_report::DebugConstraintBuilder;
+use cases::words::{Number, element_of};
+use cases::{Bench, Fault, Line};
+use std::alloc::Global;
+
+#[derive(Drop)]
+pub struct Rows {
+    alloc: Global,
+}
+
+// A builder at the first row, with these selectors of the first, the last and the other rows.
+fn row_builder<'a, F: Number, EF: ExtensionField<F>>(
+    alloc: Global,
+    selectors: [F; 3],
+) -> DebugConstraintBuilder<'a, F, EF> {
+    let [first, last, transition] = selectors;
+    let none = RowMajorMatrixView::new_row(&[]);
+    let none_over = RowMajorMatrixView::new_row(&[]);
+    DebugConstraintBuilder::new_with_permutation(
+        alloc,
+        0,
+        ViewPair::new(none, none),
+        ViewPair::new(none, none),
+        &[],
+        first,
+        last,
+        transition,
+        ViewPair::new(none_over, none_over),
+        &[],
+        &[],
+        Vec::new(alloc),
+    )
+}
+
+// Adds the assertions that fail.
+fn show_failed<F: Number + 'static, EF: ExtensionField<F> + 'static>(
+    alloc: Global,
+    selectors: [F; 3],
+    words: &[&str],
+    text: &mut String,
+) -> Result<(), Fault> {
+    let mut builder = row_builder::<F, EF>(alloc, selectors);
+    assert_each(alloc, &mut builder, words)?;
+    let failures = builder.formatted_failures()?;
+    text.push_str(failures.as_str())?;
+    Ok(())
+}
+
+impl<'a> Bench<'a> for Rows {
+    fn new(alloc: Global) -> Self {
+        Rows { alloc }
+    }
+
+    fn answer(&mut self, line: &Line<'a>, text: &mut String) -> Result<(), Fault> {
+        let (selectors, words) = match line.words.as_slice() {
+            ["WINDOW"] => {
+                let rows = DebugConstraintBuilder::<
+                    'static,
+                    BabyBear,
+                    BinomialExtensionField,
+                >::WINDOW;
+                write!(text, "{rows}")?;
+                return Ok(());
+            }
+            ["at", first, last, transition, words @ ..] => {
+                let (first, last) = (element_of(*first)?, element_of(*last)?);
+                ([first, last, element_of(*transition)?], words)
+            }
+            words => ([BabyBear::new(1); 3], words),
+        };
+        show_failed::<BabyBear, BinomialExtensionField>(self.alloc, selectors, words, text)
+    }
+
+    fn standing(&self, _text: &mut String) -> Result<(), Fault> {
+        Ok(())
+    }
+}

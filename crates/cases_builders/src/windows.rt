@@ -1,0 +1,61 @@
+//! Calls of windows. The elements are counts, which commas separate.
+
+use crate::matrices::matrix_of;
+use air_core::{RowWindow, TwoRows, WindowAccess};
+use air_field::RowMajorMatrixView;
+use cases::words::{count_of, counts_of};
+use cases::{Fault, Why};
+use std::alloc::Global;
+
+// Adds both rows, and what stands in a column of each.
+fn show_window<W: WindowAccess<usize>>(
+    window: &W,
+    column: &str,
+    text: &mut String,
+) -> Result<(), Fault>
+    requires { W.is_window window.now }
+{
+    let column = count_of(column)?;
+    let (current, next) = (window.current_slice(), window.next_slice());
+    write!(text, "{current:?} {next:?}")?;
+    let (current, next) = (window.current(column), window.next(column));
+    write!(text, ", there {current:?} {next:?}")?;
+    Ok(())
+}
+
+/// Adds the window that a call makes, with what stands in a column.
+pub fn window(alloc: Global, call: &[&str], text: &mut String) -> Result<(), Fault> {
+    match call {
+        ["from_view", width, values, column] => {
+            let values = counts_of(alloc, *values)?;
+            let view = RowMajorMatrixView::new(values.as_slice(), count_of(*width)?);
+            let window = RowWindow::from_view(&view)?;
+            show_window(&window, *column, text)
+        }
+        ["from_two_rows", current, next, column] => {
+            let current = counts_of(alloc, *current)?;
+            let next = counts_of(alloc, *next)?;
+            if current.len() != next.len() {
+                return Err(Fault::Unreadable(Why::OtherShape));
+            }
+            let window = RowWindow::from_two_rows(current.as_slice(), next.as_slice());
+            show_window(&window, *column, text)
+        }
+        ["TwoRows", current, next, column] => {
+            let current = counts_of(alloc, *current)?;
+            let next = counts_of(alloc, *next)?;
+            if current.len() != next.len() {
+                return Err(Fault::Unreadable(Why::OtherShape));
+            }
+            show_window(&TwoRows::new(current, next), *column, text)
+        }
+        ["RowMajorMatrix", width, values, column] => {
+            let made = matrix_of(alloc, *width, *values)?;
+            if made.height() != 2 {
+                return Err(Fault::Unreadable(Why::OtherShape));
+            }
+            show_window(&made, *column, text)
+        }
+        _ => Err(Fault::Unreadable(Why::NoSuchCall)),
+    }
+}
