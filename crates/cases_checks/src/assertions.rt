@@ -4,13 +4,14 @@ use crate::filters::{
     assert_zero_ext_under, assert_zero_named_under, assert_zero_named_under_both,
     assert_zero_under, assert_zero_under_both,
 };
+use crate::reports::show_failures;
 use crate::rows::{ExtRow, element_of_extension, ext_row, is_call, row_of};
 use cases::words::{element_of, text_of};
 use cases::{Fault, Why};
 use cases_airs::{Airs, TableAir};
 use p3_air::{
-    Air, AirBuilder, AirError, AssertAllNamed, BabyBear, ExtensionBuilder, Lazy, NamedAirBuilder,
-    NamedExtensionBuilder, NamespaceExt,
+    Air, AirBuilder, AirError, AssertAllNamed, BabyBear, ConstraintFailure, ExtensionBuilder, Lazy,
+    NamedAirBuilder, NamedExtensionBuilder, NamespaceExt,
 };
 use std::alloc::Global;
 
@@ -18,8 +19,9 @@ use std::alloc::Global;
 #[derive(Drop)]
 pub enum Answer {
     Formatted,
-    Failures,
     Has,
+    Shown,
+    Copied,
 }
 
 // Asserts an AIR's constraints.
@@ -118,6 +120,18 @@ fn assert_word(
     }
 }
 
+// Adds the debug texts of copies of failures.
+fn show_copies(failures: &[ConstraintFailure], text: &mut String) -> Result<(), Fault> {
+    for (place, failure) in failures.iter().enumerate() {
+        if place > 0 {
+            text.push_str(", ")?;
+        }
+        let copy = failure.clone()?;
+        write!(text, "{copy:?}")?;
+    }
+    Ok(())
+}
+
 /// Adds what the builder answers at the row of these words, once the calls among them were made.
 pub fn answer_row(
     alloc: Global,
@@ -139,11 +153,12 @@ pub fn answer_row(
             let has = builder.has_failures();
             write!(text, "{has}")?;
         }
-        Answer::Failures => {
-            for failure in &builder.into_failures() {
-                write!(text, "{failure:?}")?;
-            }
+        Answer::Shown => {
+            let count = builder.failures().len();
+            write!(text, "{count} failed")?;
+            show_failures(builder.failures(), text)?;
         }
+        Answer::Copied => show_copies(builder.into_failures().as_slice(), text)?,
     }
     Ok(())
 }

@@ -63,11 +63,14 @@ impl<'a> Bench<'a> for Checks<'a> {
             ["formatted_failures", words @ ..] => {
                 answer_row(self.alloc, &self.airs, Answer::Formatted, words, text)
             }
-            ["into_failures", words @ ..] => {
-                answer_row(self.alloc, &self.airs, Answer::Failures, words, text)
-            }
             ["has_failures", words @ ..] => {
                 answer_row(self.alloc, &self.airs, Answer::Has, words, text)
+            }
+            ["failures", words @ ..] => {
+                answer_row(self.alloc, &self.airs, Answer::Shown, words, text)
+            }
+            ["into_failures", words @ ..] => {
+                answer_row(self.alloc, &self.airs, Answer::Copied, words, text)
             }
             ["lent", words @ ..] => lend(self.alloc, words, text),
             ["resolve", x, words @ ..] => resolved(self.alloc, &self.airs.pool, *x, words, text),

@@ -24,7 +24,16 @@ pub fn given_of(alloc: Global, main: &str, public: &str) -> Result<Given, Fault>
     Ok(Given { main, public })
 }
 
-// Adds the counts of a report and the rows and places of its failures with their labels.
+/// Adds the rows and places of failures, and their labels.
+pub fn show_failures(failures: &[ConstraintFailure], text: &mut String) -> Result<(), Fault> {
+    for failure in failures {
+        let row = failure.row;
+        write!(text, ", row {row} {failure}")?;
+    }
+    Ok(())
+}
+
+// Adds the counts of a report and its failures.
 fn show(report: &ConstraintReport, text: &mut String) -> Result<(), Fault> {
     let rows = report.total_rows;
     let constraints = report.total_constraints_per_row;
@@ -32,11 +41,7 @@ fn show(report: &ConstraintReport, text: &mut String) -> Result<(), Fault> {
     if report.is_ok() {
         text.push_str(", ok")?;
     }
-    for failure in &report.failures {
-        let row = failure.row;
-        write!(text, ", row {row} {failure}")?;
-    }
-    Ok(())
+    show_failures(report.failures.as_slice(), text)
 }
 
 // The report of a check.
@@ -72,15 +77,6 @@ pub fn show_clone(
 ) -> Result<(), Fault> {
     let copy = report_of(alloc, air, given, cap)?.clone()?;
     write!(text, "{copy:?}")?;
-    Ok(())
-}
-
-// Adds failures, each behind a space.
-fn show_failures(failures: &[ConstraintFailure], text: &mut String) -> Result<(), Fault> {
-    for failure in failures {
-        let row = failure.row;
-        write!(text, ", row {row} {failure}")?;
-    }
     Ok(())
 }
 
