@@ -7,21 +7,18 @@ use crate::reports::{given_of, show_audit};
 use cases::Fault;
 use cases::words::count_of;
 use cases_airs::{Constraints, TableAir};
-use p3_air::author::{Boolean, Current, Equal, Next, Sum, Transition, When, Zero};
+use p3_air::author::{Boolean, Current, Equal, Next, Sum, Transition, When};
 use p3_air::{
     AirBuilder, AirError, AirLayout, BabyBear, ExprPool, FlatAir, Recorded, SymbolicAirBuilder,
     finish_recording, record_these, recorded_air,
 };
 use std::alloc::Global;
 
-// Column 0 is a bit, and from each row to the next column 1 rises by it; or column 0 is zero, alone.
-fn assert_counter<AB: AirBuilder>(builder: &mut AB, alone: bool) -> Result<(), AirError>
+// Column 0 is a bit, and from each row to the next column 1 rises by it.
+fn assert_counter<AB: AirBuilder>(builder: &mut AB) -> Result<(), AirError>
     requires { AB.ready builder.old }
     ensures { AB.ready builder.new }
 {
-    if alone {
-        return record_these(builder, &Zero(Current(0)));
-    }
     record_these(builder, &Boolean(Current(0)))?;
     let count = Equal(Next(1), Sum(Current(1), Current(0)));
     record_these(builder, &When(Transition, count))
@@ -38,7 +35,7 @@ fn recording_builder(
 }
 
 // What is recorded of it.
-fn record_counter(alloc: Global, alone: bool) -> Result<Recorded<BabyBear, BabyBear>, AirError>
+fn record_counter(alloc: Global) -> Result<Recorded<BabyBear, BabyBear>, AirError>
     ensures { IfOk result (λ r. IsPool base_reads r.pool.0) }
 {
     let layout = AirLayout {
@@ -46,7 +43,7 @@ fn record_counter(alloc: Global, alone: bool) -> Result<Recorded<BabyBear, BabyB
         ..AirLayout::default()
     };
     let mut builder = recording_builder(alloc, layout)?;
-    assert_counter(&mut builder, alone)?;
+    assert_counter(&mut builder)?;
     Ok(finish_recording(builder))
 }
 
@@ -67,7 +64,7 @@ pub fn recorded_counter(
     weight: &str,
     text: &mut String,
 ) -> Result<(), Fault> {
-    let flat = air_of(alloc, record_counter(alloc, false)?)?;
+    let flat = air_of(alloc, record_counter(alloc)?)?;
     let air = TableAir {
         constraints: Constraints::Lines,
         flat,
@@ -82,12 +79,17 @@ pub fn recorded_counter(
     )
 }
 
-/// The numbers of a recording with a pool of none. Adds how many of them an AIR has, if there is one.
+/// Adds how the numbers of a recording are refused with the pool of none: by the first one.
 pub fn recorded_elsewhere(alloc: Global, text: &mut String) -> Result<(), Fault> {
-    let Recorded { base, ext, .. } = record_counter(alloc, true)?;
+    let Recorded { base, ext, .. } = record_counter(alloc)?;
+    let first = base.first().map(|x| x.number());
     let pool = ExprPool::new(alloc);
-    let air = air_of(alloc, Recorded { pool, base, ext })?;
-    let count = air.roots.len();
-    write!(text, "{count}")?;
+    match air_of(alloc, Recorded { pool, base, ext }) {
+        Ok(_) => text.push_str("an AIR")?,
+        Err(AirError::IndexPastTotal { index, total }) if Some(index) == first => {
+            write!(text, "the first number is past {total}")?;
+        }
+        Err(error) => return Err(Fault::from(error)),
+    }
     Ok(())
 }
