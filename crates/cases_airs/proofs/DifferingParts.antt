@@ -1,0 +1,63 @@
+-- The parts of the constraints under a difference.
+use Rattle.std.proofs.Common.{◌≡◌, List, [], Result, Ok, Err, OnOk, OnErr, IfErr, inl, sym, subst}
+use Rattle.air_field.specs.Part.{whole, in_sub_left, in_sub_right, in_mul_left, in_mul_right}
+use Rattle.air_field.specs.Term.{Term, sub_term}
+use Rattle.air_builder.specs.Assertion.{Assertion}
+use Rattle.air_builder.specs.Builders.{MeansIn, BuilderView, RingLaws, BuilderLaws}
+use Rattle.air_builder.specs.Refusals.{PartOf}
+use Rattle.air_builder.specs.laws.Filters.{means_kept}
+use Rattle.cases_airs.specs.Differing.{differing, RowMeans}
+use Rattle.cases_airs.specs.TableAirs.{this}
+
+pub part_x : {F : Type 0} (one : F) → PartOf (this 0) (differing one)
+part_x one = inl (in_mul_right (in_mul_left whole))
+
+pub part_y : {F : Type 0} (one : F) → PartOf (this 1) (differing one)
+part_y one = inl (in_mul_left (in_sub_left whole))
+
+pub part_z : {F : Type 0} (one : F) → PartOf (this 2) (differing one)
+part_z one = inl (in_mul_left (in_sub_right whole))
+
+pub part_condition : {F : Type 0} (one : F) → PartOf (sub_term (this 1) (this 2)) (differing one)
+part_condition one = inl (in_mul_left whole)
+
+pub on_ok : {T X P Q : Type 0} (r : Result T X) → (P → Q) → OnOk r P → OnOk r Q
+on_ok (Ok u) f h = f h
+on_ok (Err e) f h = tt
+
+pub on_err : {T X P Q : Type 0} (r : Result T X) → (P → Q) → OnErr r P → OnErr r Q
+on_err (Ok u) f h = tt
+on_err (Err e) f h = f h
+
+pub if_err : {T X : Type 0} {P Q : X → Type 0} (r : Result T X) → ((e : X) → P e → Q e) → IfErr r P → IfErr r Q
+if_err (Ok u) f h = tt
+if_err (Err e) f h = f e h
+
+-- what holds of a builder and an element holds of equal ones
+pub moved : {S E : Type 0} (P : S → E → Type 0) {a b : S} {x y : E} → b ≡ a → y ≡ x → P a x → P b y
+moved P {a = a} {y = y} p q h = subst (λ s. P s y) (sym p) (subst (λ z. P a z) (sym q) h)
+
+-- what is known inside the filter: the builder grew by nothing, its condition means the difference, and the cells that are
+-- asserted mean their columns
+pub record Inside {S E F : Type 0} (grew : S → S → List (Assertion F) → Type 0) (means : S → E → Term F → Type 0) (a b : S)
+    (condition x y : E) : Type 0 where
+  pub grown : grew a b []
+  pub differs : means b condition (sub_term (this 1) (this 2))
+  pub x_means : means b x (this 0)
+  pub y_means : means b y (this 1)
+
+module _ {S R E F : Type 0} {view : BuilderView S R E F} (ring : RingLaws view) (laws : BuilderLaws view) where
+  open view use {grew}
+
+  pub inside : {a i b : S} {made condition x y z : E} → b ≡ i → condition ≡ made → grew a i []
+      → MeansIn view i made (sub_term (this 1) (this 2)) → RowMeans (MeansIn view a) x y z
+      → Inside grew (MeansIn view) a b condition x y
+  inside {a = a} {b = b} {x = x} {y = y} p q g m row =
+      let grown = subst (λ s. grew a s []) (sym p) g in
+      let kept = laws.by_growth a b [] grown in
+      record {
+        grown = grown;
+        differs = moved (λ s e. MeansIn view s e (sub_term (this 1) (this 2))) p q m;
+        x_means = means_kept ring laws a b x (this 0) kept row.x_means;
+        y_means = means_kept ring laws a b y (this 1) kept row.y_means;
+      }

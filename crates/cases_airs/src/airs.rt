@@ -1,0 +1,102 @@
+//! The AIRs that lines make.
+
+use crate::air::TableAir;
+use crate::parts::Parts;
+use crate::pool::NamedPool;
+use cases::{Fault, Line, Names, Why};
+use p3_air::{BaseLeaf, ExprId, Field, FlatAir};
+use std::alloc::Global;
+use std::mem;
+
+/// The expressions that lines have made, and the AIRs.
+#[derive(Drop)]
+pub struct Airs<'a, F: Field> {
+    pub pool: NamedPool<'a, BaseLeaf<F>>,
+    airs: Vec<TableAir<F>>,
+    names: Names<'a, usize>,
+}
+
+impl<'a, F: Field> Airs<'a, F> {
+    pub fn new(alloc: Global) -> Self {
+        Airs {
+            pool: NamedPool::new(alloc),
+            airs: Vec::new(alloc),
+            names: Names::new(alloc),
+        }
+    }
+
+    /// The AIR of a name.
+    pub fn air(&self, name: &str) -> Result<&TableAir<F>, Fault> {
+        match self.airs.get(self.names.get(name)?) {
+            Some(air) => Ok(air),
+            None => Err(Fault::Unreadable(Why::NoSuchName)),
+        }
+    }
+
+    // Gives an AIR its name. It takes the pool, so that the names of expressions stand for nothing then.
+    fn keep(
+        &mut self,
+        name: &'a str,
+        parts: Parts<F>,
+        roots: Vec<ExprId<BaseLeaf<F>>>,
+    ) -> Result<(), Fault> {
+        if !self.pool.contains_all(roots.as_slice()) {
+            return Err(Fault::Unreadable(Why::OtherPool));
+        }
+        self.airs.reserve(1)?;
+        self.names.bind(name, self.airs.len(), false)?;
+        let none = NamedPool::new(self.names.alloc());
+        let NamedPool { pool, .. } = mem::replace(&mut self.pool, none);
+        let Parts {
+            constraints,
+            width,
+            num_public_values,
+            table,
+            periodic,
+            cells,
+        } = parts;
+        let flat = FlatAir::new(pool, roots, width, num_public_values, periodic, cells);
+        self.airs.push(TableAir {
+            constraints,
+            flat,
+            table,
+        })?;
+        Ok(())
+    }
+
+    // Makes the AIR of some words.
+    fn make(&mut self, name: &'a str, words: &[&str]) -> Result<(), Fault> {
+        let mut parts = Parts::new(self.names.alloc());
+        let mut roots = Vec::new(self.names.alloc());
+        for word in words {
+            match word.split_once(':') {
+                Some(("zero", x)) => roots.push(self.pool.at(x)?)?,
+                Some((key, value)) => parts.set(key, value)?,
+                None => parts.take(*word)?,
+            }
+        }
+        self.keep(name, parts, roots)
+    }
+
+    /// Makes the expression or the AIR of a line, if it makes one.
+    pub fn answer(&mut self, line: &Line<'a>) -> Result<bool, Fault> {
+        match (line.words.as_slice(), line.name) {
+            (["air", words @ ..], Some(name)) => {
+                self.make(name, words)?;
+                Ok(true)
+            }
+            _ => self.pool.answer(line),
+        }
+    }
+
+    /// Adds the numbers of the expressions that have names.
+    pub fn standing(&self, text: &mut String) -> Result<(), Fault> {
+        let total = self.pool.pool.len();
+        write!(text, "{total}:")?;
+        for (name, x) in self.pool.names.words().iter().zip(self.pool.names.values()) {
+            let number = x.number();
+            write!(text, " {name} {number}")?;
+        }
+        Ok(())
+    }
+}

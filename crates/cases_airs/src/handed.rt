@@ -1,0 +1,42 @@
+//! An AIR with a gadget that is handed an expression.
+ghost use Rattle.std.specs.Prelude.{[], ◌∷◌};
+ghost use Rattle.air_field.specs.Term.{main, transition, leaf_term, mul_term, sub_term};
+ghost use Rattle.air_builder.specs.Assertion.{Base};
+ghost use Rattle.air_builder.specs.Builders.{Means};
+ghost use Rattle.air_author.specs.Constraints.{Asserted};
+ghost use Rattle.air_author.specs.Expressions.{Lasts, Holds};
+ghost use Rattle.cases_airs.specs.Handed.{handed};
+
+use p3_air::author::{
+    Already, Current, Equal, Expression, Next, Sum, Transition, When, assert_these,
+};
+use p3_air::{AirBuilder, AirError};
+
+/// The gadget: column 1 of the next row is x, which was made of a value.
+fn next_is<AB: AirBuilder, X: Expression<AB>>(
+    builder: &mut AB,
+    x: AB::Expr,
+    value: &X,
+) -> Result<(), AirError>
+    requires ready { AB.ready builder.old }
+    requires held { Lasts AB.kept (Holds (Means AB.Ring.means AB.ring_of AB.stands) AB.missing
+        x (X.term value.now)) builder.old }
+    ensures { Asserted AB.kept AB.grew AB.missing AB.refuses builder.old builder.new result
+        (Base (mul_term (leaf_term transition)
+        (sub_term (leaf_term (main 1 1)) (X.term value.now))) ∷ []) }
+{
+    assert_these(
+        builder,
+        &When(Transition, Equal(Next(1), Already(x, value))),
+    )
+}
+
+/// Column 1 of the next row is the sum of this row's columns.
+pub fn assert_handed<AB: AirBuilder>(builder: &mut AB) -> Result<(), AirError>
+    requires { AB.ready builder.old }
+    ensures { Asserted AB.kept AB.grew AB.missing AB.refuses builder.old builder.new result handed }
+{
+    let sum = Sum(Current(0), Current(1));
+    let x = sum.make(builder)?;
+    next_is(builder, x, &sum)
+}

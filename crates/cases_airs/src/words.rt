@@ -1,0 +1,79 @@
+//! Words as leaves, traces, cells and caps.
+
+use cases::words::{count_of, listed_elements};
+use cases::{Fault, Why};
+use p3_air::{
+    BaseEntry, BaseLeaf, BoundaryEnd, BoundaryPublic, Field, RowMajorMatrix, SymbolicVariable,
+};
+use std::alloc::Global;
+
+// The variable of an entry.
+fn variable<F: Field>(entry: BaseEntry, index: &str) -> Result<BaseLeaf<F>, Fault> {
+    Ok(BaseLeaf::Variable(SymbolicVariable::new(entry, count_of(index)?)))
+}
+
+/// A selector, or the variable `Main OFFSET INDEX`, `Preprocessed OFFSET INDEX`, `Periodic INDEX` or `Public INDEX`.
+pub fn leaf_of<F: Field>(words: &[&str]) -> Result<BaseLeaf<F>, Fault> {
+    match words {
+        ["IsFirstRow"] => Ok(BaseLeaf::IsFirstRow),
+        ["IsLastRow"] => Ok(BaseLeaf::IsLastRow),
+        ["IsTransition"] => Ok(BaseLeaf::IsTransition),
+        ["Main", offset, index] => {
+            let offset = count_of(*offset)?;
+            variable(BaseEntry::Main { offset }, *index)
+        }
+        ["Preprocessed", offset, index] => {
+            let offset = count_of(*offset)?;
+            variable(BaseEntry::Preprocessed { offset }, *index)
+        }
+        ["Periodic", index] => variable(BaseEntry::Periodic, *index),
+        ["Public", index] => variable(BaseEntry::Public, *index),
+        _ => Err(Fault::Unreadable(Why::NoSuchWord)),
+    }
+}
+
+/// The trace of a word: rows, which `/` separates, each a list of elements, with `*` and a count behind it where it
+/// stands so often.
+pub fn trace_of<F: Field>(alloc: Global, word: &str) -> Result<RowMajorMatrix<F>, Fault> {
+    let mut values = Vec::new(alloc);
+    let mut width = None;
+    for part in word.split('/') {
+        let (row, times) = match part.split_once('*') {
+            Some((row, times)) => (row, count_of(times)?),
+            None => (part, 1),
+        };
+        let row: Vec<F> = listed_elements(alloc, row)?;
+        match width {
+            Some(known) if known != row.len() => return Err(Fault::Unreadable(Why::OtherShape)),
+            _ => width = Some(row.len()),
+        }
+        for _ in 0..times {
+            values.extend_from_slice(row.as_slice())?;
+        }
+    }
+    Ok(RowMajorMatrix::new(values, width.unwrap_or(0))?)
+}
+
+/// A cap; `-`: there is none.
+pub fn cap_of(word: &str) -> Result<Option<usize>, Fault> {
+    match word {
+        "-" => Ok(None),
+        _ => Ok(Some(count_of(word)?)),
+    }
+}
+
+/// The boundary cell `COLUMN,First,PUBLIC` or `COLUMN,Last,PUBLIC`.
+pub fn cell_of(word: &str) -> Result<BoundaryPublic, Fault> {
+    match word.split_once(',') {
+        Some((column, rest)) => {
+            let (end, public_value) = match rest.split_once(',') {
+                Some(("First", public_value)) => (BoundaryEnd::First, public_value),
+                Some(("Last", public_value)) => (BoundaryEnd::Last, public_value),
+                _ => return Err(Fault::Unreadable(Why::NoSuchWord)),
+            };
+            let column = count_of(column)?;
+            Ok(BoundaryPublic::new(column, end, count_of(public_value)?))
+        }
+        None => Err(Fault::Unreadable(Why::NoSuchWord)),
+    }
+}

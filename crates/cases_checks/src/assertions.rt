@@ -1,0 +1,164 @@
+//! Assertions on the builder at a row.
+
+use crate::filters::{
+    assert_zero_ext_under, assert_zero_named_under, assert_zero_named_under_both,
+    assert_zero_under, assert_zero_under_both,
+};
+use crate::reports::show_failures;
+use crate::rows::{ExtRow, element_of_extension, ext_row, is_call, row_of};
+use cases::words::{element_of, text_of};
+use cases::{Fault, Why};
+use cases_airs::{Airs, TableAir};
+use p3_air::{
+    Air, AirBuilder, AirError, AssertAllNamed, BabyBear, ConstraintFailure, ExtensionBuilder, Lazy,
+    NamedAirBuilder, NamedExtensionBuilder, NamespaceExt,
+};
+use std::alloc::Global;
+
+/// What is asked of the builder after the assertions.
+#[derive(Drop)]
+pub enum Answer {
+    Formatted,
+    Has,
+    Shown,
+    Copied,
+}
+
+// Asserts an AIR's constraints.
+fn eval_on(air: &TableAir<BabyBear>, builder: &mut ExtRow<'_>) -> Result<(), AirError> {
+    air.eval(builder)
+}
+
+fn number(word: &str) -> Result<BabyBear, Fault> {
+    element_of(word)
+}
+
+// An assertion that has no label.
+fn assert_plain(alloc: Global, builder: &mut ExtRow<'_>, words: &[&str]) -> Result<(), Fault> {
+    match words {
+        ["assert_zero", x] => builder.assert_zero(number(*x)?)?,
+        ["assert_zero_ext", x] => builder.assert_zero_ext(element_of_extension(alloc, *x)?)?,
+        ["when", c, "assert_zero", x] => assert_zero_under(builder, number(*c)?, number(*x)?)?,
+        ["when", c, "when", d, "assert_zero", x] => {
+            assert_zero_under_both(builder, number(*c)?, number(*d)?, number(*x)?)?
+        }
+        ["when", c, "assert_zero_ext", x] => {
+            let x = element_of_extension(alloc, *x)?;
+            assert_zero_ext_under(builder, number(*c)?, x)?
+        }
+        _ => return Err(Fault::Unreadable(Why::NoSuchWord)),
+    }
+    Ok(())
+}
+
+// An assertion with this label.
+fn assert_named(
+    alloc: Global,
+    builder: &mut ExtRow<'_>,
+    words: &[&str],
+    label: &str,
+) -> Result<(), Fault> {
+    let name = Lazy(|| Ok(label));
+    match words {
+        ["assert_zero_named", x] => builder.assert_zero_named(number(*x)?, name)?,
+        ["assert_one_named", x] => builder.assert_one_named(number(*x)?, name)?,
+        ["assert_bool_named", x] => builder.assert_bool_named(number(*x)?, name)?,
+        ["assert_eq_named", x, y] => builder.assert_eq_named(number(*x)?, number(*y)?, name)?,
+        ["assert_zero_ext_named", x] => {
+            builder.assert_zero_ext_named(element_of_extension(alloc, *x)?, name)?
+        }
+        ["when", c, "assert_zero_named", x] => {
+            assert_zero_named_under(builder, number(*c)?, number(*x)?, name)?
+        }
+        ["when", c, "when", d, "assert_zero_named", x] => {
+            assert_zero_named_under_both(builder, number(*c)?, number(*d)?, number(*x)?, name)?
+        }
+        _ => return Err(Fault::Unreadable(Why::NoSuchWord)),
+    }
+    Ok(())
+}
+
+// An assertion, or two, under a namespace.
+fn assert_in_space(builder: &mut ExtRow<'_>, words: &[&str]) -> Result<(), Fault> {
+    match words {
+        ["assert_zeros_named", x, y, "z"] => {
+            builder.assert_zeros_named([number(*x)?, number(*y)?], "z")?
+        }
+        ["assert_bools_named", x, y, "outer::mid"] => {
+            builder.assert_bools_named([number(*x)?, number(*y)?], "outer".join("mid"))?
+        }
+        ["assert_zero_named", x, "outer::mid::leaf"] => {
+            builder.assert_zero_named(number(*x)?, "outer".join("mid").name("leaf"))?
+        }
+        ["assert_zero_named", x, "::"] => builder.assert_zero_named(number(*x)?, "".name(""))?,
+        _ => return Err(Fault::Unreadable(Why::NoSuchWord)),
+    }
+    Ok(())
+}
+
+// Makes the call of a word: the call's own name and what it is handed, with commas between. A label stands last.
+fn assert_word(
+    alloc: Global,
+    airs: &Airs<'_, BabyBear>,
+    builder: &mut ExtRow<'_>,
+    word: &str,
+) -> Result<(), Fault> {
+    let mut words = Vec::new(alloc);
+    for part in word.split(',') {
+        words.push(part)?;
+    }
+    match words.as_slice() {
+        ["eval", air] => Ok(eval_on(airs.air(*air)?, builder)?),
+        [_, .., "z" | "outer::mid" | "outer::mid::leaf" | "::"] => {
+            assert_in_space(builder, words.as_slice())
+        }
+        [plain @ .., label] if word.contains("_named,") => {
+            let label = text_of(alloc, *label)?;
+            assert_named(alloc, builder, plain, label.as_str())
+        }
+        plain => assert_plain(alloc, builder, plain),
+    }
+}
+
+// Adds the debug texts of copies of failures.
+fn show_copies(failures: &[ConstraintFailure], text: &mut String) -> Result<(), Fault> {
+    for (place, failure) in failures.iter().enumerate() {
+        if place > 0 {
+            text.push_str(", ")?;
+        }
+        let copy = failure.clone()?;
+        write!(text, "{copy:?}")?;
+    }
+    Ok(())
+}
+
+/// Adds what the builder answers at the row of these words, once the calls among them were made.
+pub fn answer_row(
+    alloc: Global,
+    airs: &Airs<'_, BabyBear>,
+    answer: Answer,
+    words: &[&str],
+    text: &mut String,
+) -> Result<(), Fault> {
+    let row = row_of(alloc, words)?;
+    let mut builder = ext_row(alloc, &row)?;
+    for word in words {
+        if is_call(*word) {
+            assert_word(alloc, airs, &mut builder, *word)?;
+        }
+    }
+    match answer {
+        Answer::Formatted => text.push_str(builder.formatted_failures()?.as_str())?,
+        Answer::Has => {
+            let has = builder.has_failures();
+            write!(text, "{has}")?;
+        }
+        Answer::Shown => {
+            let count = builder.failures().len();
+            write!(text, "{count} failed")?;
+            show_failures(builder.failures(), text)?;
+        }
+        Answer::Copied => show_copies(builder.into_failures().as_slice(), text)?,
+    }
+    Ok(())
+}

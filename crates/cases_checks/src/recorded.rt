@@ -1,0 +1,95 @@
+//! Recordings made by hand, as AIRs.
+ghost use Rattle.std.specs.Prelude.{IfOk};
+ghost use Rattle.air_symbolic.specs.BaseLeaves.{base_reads};
+ghost use Rattle.air_symbolic.specs.Pools.{IsPool};
+
+use crate::reports::{given_of, show_audit};
+use cases::Fault;
+use cases::words::count_of;
+use cases_airs::{Constraints, TableAir};
+use p3_air::author::{Boolean, Current, Equal, Next, Sum, Transition, When};
+use p3_air::{
+    AirBuilder, AirError, AirLayout, BabyBear, ExprPool, FlatAir, Recorded, SymbolicAirBuilder,
+    finish_recording, record_these, recorded_air,
+};
+use std::alloc::Global;
+
+// Column 0 is a bit, and from each row to the next column 1 rises by it.
+fn assert_counter<AB: AirBuilder>(builder: &mut AB) -> Result<(), AirError>
+    requires { AB.ready builder.old }
+    ensures { AB.ready builder.new }
+{
+    record_these(builder, &Boolean(Current(0)))?;
+    let count = Equal(Next(1), Sum(Current(1), Current(0)));
+    record_these(builder, &When(Transition, count))
+}
+
+// A builder that has recorded nothing.
+fn recording_builder(
+    alloc: Global,
+    layout: AirLayout,
+) -> Result<SymbolicAirBuilder<BabyBear, BabyBear>, AirError>
+    ensures { IfOk result ⟦<SymbolicAirBuilder<BabyBear, BabyBear> as AirBuilder>⟧.ready }
+{
+    SymbolicAirBuilder::new(alloc, layout)
+}
+
+// What is recorded of it.
+fn record_counter(alloc: Global) -> Result<Recorded<BabyBear, BabyBear>, AirError>
+    ensures { IfOk result (λ r. IsPool base_reads r.pool.0) }
+{
+    let layout = AirLayout {
+        main_width: 2,
+        ..AirLayout::default()
+    };
+    let mut builder = recording_builder(alloc, layout)?;
+    assert_counter(&mut builder)?;
+    Ok(finish_recording(builder))
+}
+
+// The AIR of a recording on a trace of two columns.
+fn air_of(
+    alloc: Global,
+    recorded: Recorded<BabyBear, BabyBear>,
+) -> Result<FlatAir<BabyBear>, AirError>
+    requires { IsPool base_reads recorded.pool.0 }
+{
+    recorded_air(recorded, 2, 0, Vec::new(alloc), Vec::new(alloc))
+}
+
+/// Adds the audit of the counter's recording on a trace.
+pub fn recorded_counter(
+    alloc: Global,
+    main: &str,
+    weight: &str,
+    text: &mut String,
+) -> Result<(), Fault> {
+    let flat = air_of(alloc, record_counter(alloc)?)?;
+    let air = TableAir {
+        constraints: Constraints::Lines,
+        flat,
+        table: None,
+    };
+    show_audit(
+        alloc,
+        &air,
+        &given_of(alloc, main, "-")?,
+        count_of(weight)?,
+        text,
+    )
+}
+
+/// Adds how the numbers of a recording are refused with the pool of none: by the first one.
+pub fn recorded_elsewhere(alloc: Global, text: &mut String) -> Result<(), Fault> {
+    let Recorded { base, ext, .. } = record_counter(alloc)?;
+    let first = base.first().map(|x| x.number());
+    let pool = ExprPool::new(alloc);
+    match air_of(alloc, Recorded { pool, base, ext }) {
+        Ok(_) => text.push_str("an AIR")?,
+        Err(AirError::IndexPastTotal { index, total }) if Some(index) == first => {
+            write!(text, "the first number is past {total}")?;
+        }
+        Err(error) => return Err(Fault::from(error)),
+    }
+    Ok(())
+}

@@ -1,0 +1,116 @@
+//! Checks of a trace, and audits.
+
+use cases::Fault;
+use cases::words::listed_elements;
+use cases_airs::TableAir;
+use cases_airs::words::trace_of;
+use p3_air::{
+    BabyBear, CheckError, ConstraintFailure, ConstraintReport, RowMajorMatrix, audit_air,
+    check_all_constraints, check_constraints,
+};
+use std::alloc::Global;
+
+/// A trace and public values.
+#[derive(Drop)]
+pub struct Given {
+    pub main: RowMajorMatrix<BabyBear>,
+    pub public: Vec<BabyBear>,
+}
+
+/// The trace and the public values of two words.
+pub fn given_of(alloc: Global, main: &str, public: &str) -> Result<Given, Fault> {
+    let main = trace_of(alloc, main)?;
+    let public = listed_elements(alloc, public)?;
+    Ok(Given { main, public })
+}
+
+/// Adds the rows and places of failures, and their labels.
+pub fn show_failures(failures: &[ConstraintFailure], text: &mut String) -> Result<(), Fault> {
+    for failure in failures {
+        let row = failure.row;
+        write!(text, ", row {row} {failure}")?;
+    }
+    Ok(())
+}
+
+// Adds the counts of a report and its failures.
+fn show(report: &ConstraintReport, text: &mut String) -> Result<(), Fault> {
+    let rows = report.total_rows;
+    let constraints = report.total_constraints_per_row;
+    write!(text, "rows {rows}, constraints {constraints}")?;
+    if report.is_ok() {
+        text.push_str(", ok")?;
+    }
+    show_failures(report.failures.as_slice(), text)
+}
+
+// The report of a check.
+fn report_of(
+    alloc: Global,
+    air: &TableAir<BabyBear>,
+    given: &Given,
+    cap: Option<usize>,
+) -> Result<ConstraintReport, Fault> {
+    let report = check_all_constraints(alloc, air, &given.main, given.public.as_slice(), cap)?;
+    Ok(report)
+}
+
+/// Adds the report of a check.
+pub fn show_report(
+    alloc: Global,
+    air: &TableAir<BabyBear>,
+    given: &Given,
+    cap: Option<usize>,
+    text: &mut String,
+) -> Result<(), Fault> {
+    let report = report_of(alloc, air, given, cap)?;
+    show(&report, text)
+}
+
+/// Adds the debug text of a copy of the report.
+pub fn show_clone(
+    alloc: Global,
+    air: &TableAir<BabyBear>,
+    given: &Given,
+    cap: Option<usize>,
+    text: &mut String,
+) -> Result<(), Fault> {
+    let copy = report_of(alloc, air, given, cap)?.clone()?;
+    write!(text, "{copy:?}")?;
+    Ok(())
+}
+
+/// Adds the first fault of a check, or its refusal in words.
+pub fn check_first(
+    alloc: Global,
+    air: &TableAir<BabyBear>,
+    given: &Given,
+    in_words: bool,
+    text: &mut String,
+) -> Result<(), Fault> {
+    match check_constraints(alloc, air, &given.main, given.public.as_slice()) {
+        Ok(()) => text.push_str("ok")?,
+        Err(CheckError::Refused(error)) if !in_words => return Err(Fault::from(error)),
+        Err(error) => {
+            write!(text, "{error}")?;
+            if let CheckError::RowFailed { failures, .. } = &error {
+                show_failures(failures.as_slice(), text)?;
+            }
+        }
+    }
+    Ok(())
+}
+
+/// Adds the degree that an audit infers in a domain of this weight, and its report.
+pub fn show_audit(
+    alloc: Global,
+    air: &TableAir<BabyBear>,
+    given: &Given,
+    weight: usize,
+    text: &mut String,
+) -> Result<(), Fault> {
+    let audit = audit_air(alloc, air, &given.main, given.public.as_slice(), weight)?;
+    let degree = audit.degree;
+    write!(text, "degree {degree}, ")?;
+    show(&audit.report, text)
+}

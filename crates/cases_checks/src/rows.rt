@@ -1,0 +1,276 @@
+//! Single rows.
+ghost use Rattle.std.specs.Prelude.{◌≡◌, length, IfOk};
+
+use cases::words::{count_of, extension_of, listed_elements, show_elements};
+use cases::{Fault, Why};
+use cases_airs::pool::NamedPool;
+use p3_air::{
+    AirBuilder, BabyBear, BaseLeaf, BinomialExtensionField, DebugConstraintBuilder, Field,
+    PermutationAirBuilder, RowMajorMatrixView, RowWindow, ViewPair, WindowAccess, resolve,
+};
+use std::alloc::Global;
+
+pub type Element = BinomialExtensionField;
+
+/// A builder at a row without permutation data.
+pub type PlainRow<'a> = DebugConstraintBuilder<'a, BabyBear, BabyBear>;
+
+/// A builder at a row with permutation data.
+pub type ExtRow<'a> = DebugConstraintBuilder<'a, BabyBear, Element>;
+
+/// A row and the one after it.
+#[derive(Drop)]
+pub struct Two<T> {
+    pub current: Vec<T>,
+    pub next: Vec<T>,
+}
+
+/// What stands at a row.
+#[derive(Drop)]
+pub struct Row {
+    pub index: usize,
+    /// From where the builder counts.
+    pub from: usize,
+    pub main: Two<BabyBear>,
+    pub preprocessed: Two<BabyBear>,
+    pub public: Vec<BabyBear>,
+    pub selectors: Vec<BabyBear>,
+    pub periodic: Vec<BabyBear>,
+    pub permutation: Two<Element>,
+    pub challenges: Vec<Element>,
+    pub values: Vec<Element>,
+}
+
+fn nothing<T: Drop>(alloc: Global) -> Two<T> {
+    Two {
+        current: Vec::new(alloc),
+        next: Vec::new(alloc),
+    }
+}
+
+// The row `CURRENT/NEXT`, or one that stands twice.
+fn two_of(alloc: Global, word: &str) -> Result<Two<BabyBear>, Fault> {
+    let (current, next) = word.split_once('/').unwrap_or((word, word));
+    Ok(Two {
+        current: listed_elements(alloc, current)?,
+        next: listed_elements(alloc, next)?,
+    })
+}
+
+/// An element of the extension: its coefficients, which `.` separates.
+pub fn element_of_extension(alloc: Global, word: &str) -> Result<Element, Fault> {
+    let mut parts = Vec::new(alloc);
+    for part in word.split('.') {
+        parts.push(part)?;
+    }
+    extension_of::<BabyBear, Element>(alloc, parts.as_slice())
+}
+
+// Elements of the extension, which commas separate.
+fn listed_extension(alloc: Global, word: &str) -> Result<Vec<Element>, Fault> {
+    let mut all = Vec::new(alloc);
+    if word != "-" {
+        for part in word.split(',') {
+            all.push(element_of_extension(alloc, part)?)?;
+        }
+    }
+    Ok(all)
+}
+
+impl Row {
+    fn new(alloc: Global) -> Self {
+        Row {
+            index: 0,
+            from: 0,
+            main: nothing(alloc),
+            preprocessed: nothing(alloc),
+            public: Vec::new(alloc),
+            selectors: Vec::new(alloc),
+            periodic: Vec::new(alloc),
+            permutation: nothing(alloc),
+            challenges: Vec::new(alloc),
+            values: Vec::new(alloc),
+        }
+    }
+
+    // Sets what a word `KEY:VALUE` says.
+    fn set(&mut self, alloc: Global, key: &str, value: &str) -> Result<(), Fault> {
+        match key {
+            "row" => self.index = count_of(value)?,
+            "counting_from" => self.from = count_of(value)?,
+            "main" => self.main = two_of(alloc, value)?,
+            "preprocessed" => self.preprocessed = two_of(alloc, value)?,
+            "public" => self.public = listed_elements(alloc, value)?,
+            "selectors" => self.selectors = listed_elements(alloc, value)?,
+            "periodic" => self.periodic = listed_elements(alloc, value)?,
+            "permutation" => {
+                self.permutation = Two {
+                    current: listed_extension(alloc, value)?,
+                    next: listed_extension(alloc, value)?,
+                }
+            }
+            "challenges" => self.challenges = listed_extension(alloc, value)?,
+            "values" => self.values = listed_extension(alloc, value)?,
+            _ => return Err(Fault::Unreadable(Why::NoSuchWord)),
+        }
+        Ok(())
+    }
+
+    // The selectors of the first row, the last one and the others; without a word for them all are 0.
+    fn selectors(&self) -> Result<[BabyBear; 3], Fault> {
+        match self.selectors.as_slice() {
+            [] => Ok([BabyBear::ZERO, BabyBear::ZERO, BabyBear::ZERO]),
+            [first, last, transition] => Ok([*first, *last, *transition]),
+            _ => Err(Fault::Unreadable(Why::OtherShape)),
+        }
+    }
+}
+
+/// Whether a word is a call on the row's builder.
+pub fn is_call(word: &str) -> bool {
+    word.starts_with("assert") || word.starts_with("when") || word.starts_with("eval")
+}
+
+/// The row of the words `KEY:VALUE` among these.
+pub fn row_of(alloc: Global, words: &[&str]) -> Result<Row, Fault> {
+    let mut row = Row::new(alloc);
+    for word in words {
+        if !is_call(*word) {
+            match word.split_once(':') {
+                Some((key, value)) => row.set(alloc, key, value)?,
+                None => return Err(Fault::Unreadable(Why::NoSuchWord)),
+            }
+        }
+    }
+    Ok(row)
+}
+
+// The views of two rows of one length.
+fn pair<'a, T: Copy>(rows: &'a Two<T>) -> Result<ViewPair<'a, T>, Fault> {
+    let current = rows.current.as_slice();
+    let next = rows.next.as_slice();
+    if current.len() != next.len() {
+        return Err(Fault::Unreadable(Why::OtherShape));
+    }
+    Ok(ViewPair::new(
+        RowMajorMatrixView::new_row(current),
+        RowMajorMatrixView::new_row(next),
+    ))
+}
+
+// The builder at a row, without permutation data.
+fn plain_row<'a>(alloc: Global, row: &'a Row) -> Result<PlainRow<'a>, Fault> {
+    let [first, last, transition] = row.selectors()?;
+    let mut periodic = Vec::new(alloc);
+    periodic.extend_from_slice(row.periodic.as_slice())?;
+    let main = pair(&row.main)?;
+    let preprocessed = pair(&row.preprocessed)?;
+    Ok(DebugConstraintBuilder::new(
+        alloc,
+        row.index,
+        main,
+        preprocessed,
+        row.public.as_slice(),
+        first,
+        last,
+        transition,
+        periodic,
+    ))
+}
+
+/// The builder at a row, with permutation data.
+pub fn ext_row<'a>(alloc: Global, row: &'a Row) -> Result<ExtRow<'a>, Fault> {
+    let [first, last, transition] = row.selectors()?;
+    let mut periodic = Vec::new(alloc);
+    periodic.extend_from_slice(row.periodic.as_slice())?;
+    let main = pair(&row.main)?;
+    let preprocessed = pair(&row.preprocessed)?;
+    let permutation = pair(&row.permutation)?;
+    let builder = DebugConstraintBuilder::new_with_permutation(
+        alloc,
+        row.index,
+        main,
+        preprocessed,
+        row.public.as_slice(),
+        first,
+        last,
+        transition,
+        permutation,
+        row.challenges.as_slice(),
+        row.values.as_slice(),
+        periodic,
+    );
+    Ok(builder.counting_from(row.from))
+}
+
+// Adds a number, or `-` where there is none.
+fn show_found(found: Option<BabyBear>, text: &mut String) -> Result<(), Fault> {
+    match found {
+        Some(x) => {
+            let number = x.as_canonical_u64();
+            write!(text, " {number}")?;
+        }
+        None => text.push_str(" -")?,
+    }
+    Ok(())
+}
+
+// Adds both rows of a window, up to the first column that it hasn't.
+fn show_window(
+    window: &RowWindow<'_, BabyBear>,
+    width: usize,
+    text: &mut String,
+) -> Result<(), Fault> {
+    let past = width.saturating_add(1);
+    for column in 0..past {
+        show_found(window.current(column), text)?;
+    }
+    text.push_str(" /")?;
+    for column in 0..past {
+        show_found(window.next(column), text)?;
+    }
+    Ok(())
+}
+
+/// Adds what the builder at a row lends.
+pub fn lend(alloc: Global, words: &[&str], text: &mut String) -> Result<(), Fault> {
+    let row = row_of(alloc, words)?;
+    let mut builder = plain_row(alloc, &row)?;
+    text.push_str("main")?;
+    show_window(&builder.main()?, row.main.current.len(), text)?;
+    text.push_str(", preprocessed")?;
+    show_window(builder.preprocessed(), row.preprocessed.current.len(), text)?;
+    text.push_str(", public ")?;
+    show_elements(builder.public_values(), text)?;
+    text.push_str(", periodic ")?;
+    show_elements(builder.periodic_values(), text)?;
+    let first = builder.is_first_row()?;
+    let last = builder.is_last_row()?;
+    let transition = builder.is_transition()?;
+    text.push_str(", selectors ")?;
+    show_elements(&[first, last, transition], text)?;
+    let challenges = builder.permutation_randomness().len();
+    let values = builder.permutation_values().len();
+    write!(text, ", challenges {challenges}, values {values}, ")?;
+    match builder.permutation() {
+        Ok(_) => text.push_str("permutation")?,
+        Err(error) => write!(text, "{error:?}")?,
+    }
+    Ok(())
+}
+
+/// Adds the value of an expression at a row.
+pub fn resolved(
+    alloc: Global,
+    pool: &NamedPool<'_, BaseLeaf<BabyBear>>,
+    x: &str,
+    words: &[&str],
+    text: &mut String,
+) -> Result<(), Fault> {
+    let row = row_of(alloc, words)?;
+    let mut builder = plain_row(alloc, &row)?;
+    let x = pool.at(x)?;
+    let value = resolve(alloc, &pool.pool, x, &mut builder)?.as_canonical_u64();
+    write!(text, "{value}")?;
+    Ok(())
+}
