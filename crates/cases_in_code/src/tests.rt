@@ -1,1 +1,3 @@
+//! Tests, a file a layer.
 mod builders;
+mod recordings;
