@@ -4,9 +4,6 @@
 
 ghost use Rattle.std.specs.Prelude.{◌≡◌};
 
-#[cfg(test)]
-mod tests;
-
 use air_program::{ReadSource, Refusal, WriteSink, refuse, run};
 use std::io::ErrorKind;
 use std::process::ExitCode;

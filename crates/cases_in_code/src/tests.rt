@@ -1,3 +1,5 @@
 //! Tests, a file a layer.
 mod builders;
+mod checks;
 mod recordings;
+mod streams;

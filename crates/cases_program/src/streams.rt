@@ -1,29 +1,20 @@
-//! A reader and a writer in memory that move small pieces and can fail.
+//! A reader and a writer in memory that move small pieces.
 
 ghost use Rattle.std.specs.Prelude.{◌≡◌, false};
 
 use air_program::{Sink, Source, StreamFault};
 use std::alloc::Global;
 
-/// Gives bytes, at most so many at a call, and fails once it has answered so many calls.
+/// Gives bytes, at most so many at a call.
 #[derive(Drop)]
 pub struct Pieces<'a> {
     bytes: &'a [u8],
     most: usize,
-    calls_left: u64,
-    failed: bool,
 }
 
 impl Pieces<'_> {
-    pub fn new(bytes: &[u8], most: usize, calls_left: u64) -> Pieces<'_>
-        ensures { result.failed ≡ false }
-    {
-        Pieces {
-            bytes,
-            most,
-            calls_left,
-            failed: false,
-        }
+    pub fn new(bytes: &[u8], most: usize) -> Pieces<'_> {
+        Pieces { bytes, most }
     }
 
     pub fn left(&self) -> usize {
@@ -36,14 +27,9 @@ impl Source for Pieces<'_> {
 
     ghost remaining = { λ s. Some s.bytes.now };
 
-    ghost has_failed = { λ s. s.failed };
+    ghost has_failed = { λ _. false };
 
     fn pull(&mut self, buf: &mut [u8]) -> Result<usize, StreamFault> {
-        if self.calls_left == 0 {
-            self.failed = true;
-            return Err(StreamFault);
-        }
-        self.calls_left -= 1;
         let bytes = self.bytes;
         let count = bytes.len().min(buf.len()).min(self.most.max(1));
         let (front, rest) = bytes.split_at(count);
@@ -53,27 +39,25 @@ impl Source for Pieces<'_> {
     }
 
     fn failed(&self) -> bool {
-        self.failed
+        false
     }
 }
 
-/// Keeps bytes, at most so many of a call, and fails once it has answered so many calls.
+/// Keeps bytes, at most so many of a call; it fails for want of memory alone.
 #[derive(Drop)]
 pub struct Kept {
     bytes: Vec<u8>,
     most: usize,
-    calls_left: u64,
     failed: bool,
 }
 
 impl Kept {
-    pub fn new(alloc: Global, most: usize, calls_left: u64) -> Kept
+    pub fn new(alloc: Global, most: usize) -> Kept
         ensures { result.failed ≡ false }
     {
         Kept {
             bytes: Vec::new(alloc),
             most,
-            calls_left,
             failed: false,
         }
     }
@@ -92,11 +76,10 @@ impl Sink for Kept {
 
     fn push(&mut self, bytes: &[u8]) -> Result<usize, StreamFault> {
         let count = bytes.len().min(self.most.max(1));
-        if self.calls_left == 0 || self.bytes.extend_from_slice(&bytes[..count]).is_err() {
+        if self.bytes.extend_from_slice(&bytes[..count]).is_err() {
             self.failed = true;
             return Err(StreamFault);
         }
-        self.calls_left -= 1;
         Ok(count)
     }
 

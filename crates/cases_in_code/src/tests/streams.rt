@@ -1,0 +1,148 @@
+//! Readers and writers that fail in mid-stream.
+
+ghost use Rattle.std.specs.Prelude.{◌≡◌, false};
+
+use air_program::{Sink, Source, StreamFault, run};
+use std::alloc::Global;
+use std::test::*;
+
+/// Gives bytes, three at a call, and fails once it has answered so many calls.
+#[derive(Drop)]
+struct Pieces<'a> {
+    bytes: &'a [u8],
+    calls_left: u64,
+    failed: bool,
+}
+
+impl Source for Pieces<'_> {
+    ghost use Rattle.std.specs.Prelude.{Some};
+
+    ghost remaining = { λ s. Some s.bytes.now };
+
+    ghost has_failed = { λ s. s.failed };
+
+    fn pull(&mut self, buf: &mut [u8]) -> Result<usize, StreamFault> {
+        if self.calls_left == 0 {
+            self.failed = true;
+            return Err(StreamFault);
+        }
+        self.calls_left -= 1;
+        let bytes = self.bytes;
+        let count = bytes.len().min(buf.len()).min(3);
+        let (front, rest) = bytes.split_at(count);
+        buf[..count].copy_from_slice(front);
+        self.bytes = rest;
+        Ok(count)
+    }
+
+    fn failed(&self) -> bool {
+        self.failed
+    }
+}
+
+/// Keeps bytes, three of a call, and fails once it has answered so many calls.
+#[derive(Drop)]
+struct Kept {
+    bytes: Vec<u8>,
+    calls_left: u64,
+    failed: bool,
+}
+
+impl Sink for Kept {
+    ghost use Rattle.std.specs.Prelude.{Some};
+
+    ghost contents = { λ s. Some s.bytes.items };
+
+    ghost has_failed = { λ s. s.failed };
+
+    fn push(&mut self, bytes: &[u8]) -> Result<usize, StreamFault> {
+        let count = bytes.len().min(3);
+        if self.calls_left == 0 || self.bytes.extend_from_slice(&bytes[..count]).is_err() {
+            self.failed = true;
+            return Err(StreamFault);
+        }
+        self.calls_left -= 1;
+        Ok(count)
+    }
+
+    fn failed(&self) -> bool {
+        self.failed
+    }
+}
+
+const INPUT: &[u8] = b"0 1 3\n0 1\n1 1\n1 2\n2 3\n";
+
+const OBJECT: &[u8] = b"{\"main_width\":1,\"main\":[0],\"public_values\":[],\"constraints\":[]}";
+
+/// The status of a run whose reader and writer fail after so many calls, and what was written; no status where a write
+/// failed.
+fn run_cut(
+    alloc: Global,
+    text: &str,
+    bytes: &[u8],
+    reads: u64,
+    writes: u64,
+) -> Result<(Option<u8>, Vec<u8>), Fail> {
+    let mut words = Vec::new(alloc);
+    for word in text.split(' ') {
+        words.push(String::from_str(alloc, word)?)?;
+    }
+    let mut reader = Pieces {
+        bytes,
+        calls_left: reads,
+        failed: false,
+    };
+    let mut writer = Kept {
+        bytes: Vec::new(alloc),
+        calls_left: writes,
+        failed: false,
+    };
+    let status = run(alloc, &words, &mut reader, &mut writer).ok();
+    Ok((status, writer.bytes))
+}
+
+const MANY: u64 = 10_000;
+
+/// Each read fails in turn, up to the one that would have said that this is the end.
+#[test]
+fn tells_failed_reads(rt: HostRuntime) -> Result<(), Fail> {
+    for (text, input) in [
+        ("fibonacci", INPUT),
+        ("named 1 w=2", INPUT),
+        ("flat", OBJECT),
+    ] {
+        let reads = input.len().div_ceil(3) as u64;
+        for calls in 0..=reads {
+            let (status, written) = run_cut(rt.alloc(), text, input, calls, MANY)?;
+            assert_eq!(rt;
+                written.as_slice(),
+                b"refused: Read\n".as_slice(),
+                "{text} after {calls} reads"
+            );
+            assert_eq!(rt; status, Some(2), "{text} after {calls} reads");
+        }
+        let (status, _) = run_cut(rt.alloc(), text, input, reads.saturating_add(1), MANY)?;
+        assert_eq!(rt; status, Some(0), "{text}");
+    }
+    Ok(())
+}
+
+/// Each write of an answer and of a refusal fails in turn, until a run has as many as it needs.
+#[test]
+fn tells_failed_writes(rt: HostRuntime) -> Result<(), Fail> {
+    for (text, input, writes, status) in [
+        ("fibonacci", INPUT, 10, 0),
+        ("named 1 w=2", INPUT, 10, 0),
+        ("flat", OBJECT, 10, 0),
+        ("flat", INPUT, 6, 2),
+        ("other", INPUT, 6, 2),
+    ] {
+        for calls in 0..writes {
+            let (answered, _) = run_cut(rt.alloc(), text, input, MANY, calls)?;
+            assert_eq!(rt; answered, None, "{text} after {calls} writes");
+        }
+        let (answered, _) = run_cut(rt.alloc(), text, input, MANY, writes)?;
+        assert_eq!(rt; answered, Some(status), "{text}");
+    }
+    Ok(())
+}

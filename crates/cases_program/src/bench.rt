@@ -1,0 +1,69 @@
+//! What the lines of a table are tried on.
+
+use crate::checks::show_flat_check;
+use crate::fibonacci::{layout_of, show_recording, show_traced};
+use crate::flat_inputs::show_input;
+use crate::runs::show_run;
+use cases::{Bench, Fault, Line, Names, Why};
+use std::alloc::Global;
+
+/// The inputs that have names.
+#[derive(Drop)]
+pub struct Program<'a> {
+    inputs: Names<'a, &'a str>,
+}
+
+impl<'a> Program<'a> {
+    // Adds what a call answers that makes no input.
+    fn answer_call(&self, words: &[&'a str], text: &mut String) -> Result<(), Fault> {
+        let alloc = self.inputs.alloc();
+        match words {
+            ["run", said @ .., "<", name] => show_run(alloc, said, self.inputs.get(*name)?, text),
+            ["run", said @ .., "<<<", input] => show_run(alloc, said, *input, text),
+            ["flat_input_from", object] => show_input(alloc, *object, text),
+            [call, "<", name] => show_flat_check(alloc, *call, self.inputs.get(*name)?, text),
+            [call, "fibonacci", rest @ ..] => show_traced(alloc, *call, rest, text),
+            [
+                call,
+                "main_width",
+                width,
+                "public_values",
+                values,
+                "periodic_columns",
+                columns,
+                "preprocessed_width",
+                table,
+            ] => {
+                let layout = layout_of([*width, *values, *columns, *table])?;
+                show_recording(alloc, *call, layout, text)
+            }
+            _ => Err(Fault::Unreadable(Why::NoSuchCall)),
+        }
+    }
+}
+
+impl<'a> Bench<'a> for Program<'a> {
+    fn new(alloc: Global) -> Self {
+        Program {
+            inputs: Names::new(alloc),
+        }
+    }
+
+    fn answer(&mut self, line: &Line<'a>, text: &mut String) -> Result<(), Fault> {
+        match (line.words.as_slice(), line.name) {
+            (["input", input], Some(name)) => {
+                self.inputs.bind(name, *input, line.times.is_some())?;
+                Ok(text.push_str(*input)?)
+            }
+            (words, None) => self.answer_call(words, text),
+            (_, Some(_)) => Err(Fault::Unreadable(Why::MakesNothing)),
+        }
+    }
+
+    fn standing(&self, text: &mut String) -> Result<(), Fault> {
+        for (name, input) in self.inputs.words().iter().zip(self.inputs.values()) {
+            write!(text, "{name} = {input}\n")?;
+        }
+        Ok(())
+    }
+}

@@ -1,0 +1,95 @@
+//! Checks of whole traces.
+
+use air_field::{BabyBear, RowMajorMatrix};
+use air_program::flat_input_from;
+use cases::words::value_of;
+use cases::{Fault, Why};
+use p3_air::{
+    Air, CheckError, ConstraintFailure, ConstraintReport, DebugConstraintBuilder, FlatAir,
+    check_all_constraints, check_constraints,
+};
+use std::alloc::Global;
+
+// Adds each failure behind a space.
+fn show_failures(failures: &[ConstraintFailure], text: &mut String) -> Result<(), Fault> {
+    for failure in failures {
+        let row = failure.row;
+        write!(text, " row {row}: {failure}")?;
+    }
+    Ok(())
+}
+
+/// Adds a report.
+pub fn show_report(report: &ConstraintReport, text: &mut String) -> Result<(), Fault> {
+    let rows = report.total_rows;
+    let constraints = report.total_constraints_per_row;
+    write!(text, "rows {rows} constraints {constraints}")?;
+    show_failures(&report.failures, text)
+}
+
+// Adds why a trace doesn't keep the constraints.
+fn show_error(error: CheckError, text: &mut String) -> Result<(), Fault> {
+    match error {
+        CheckError::BoundaryMismatch { row, index } => {
+            write!(text, "BoundaryMismatch row {row} index {index}")?;
+            Ok(())
+        }
+        CheckError::RowFailed { row, failures } => {
+            write!(text, "RowFailed {row}:")?;
+            show_failures(&failures, text)
+        }
+        CheckError::Refused(error) => Err(Fault::from(error)),
+    }
+}
+
+/// Adds what a check of a trace answers.
+pub fn show_check<'a, A: Air<DebugConstraintBuilder<'a, BabyBear, BabyBear>>>(
+    alloc: Global,
+    call: &str,
+    air: &'a A,
+    main: &'a RowMajorMatrix<BabyBear>,
+    public_values: &'a [BabyBear],
+    cap: Option<usize>,
+    text: &mut String,
+) -> Result<(), Fault> {
+    match call {
+        "check_all_constraints" => {
+            let report = check_all_constraints(alloc, air, main, public_values, cap)?;
+            show_report(&report, text)
+        }
+        "check_constraints" => match check_constraints(alloc, air, main, public_values) {
+            Ok(()) => Ok(text.push_str("Ok")?),
+            Err(error) => show_error(error, text),
+        },
+        _ => Err(Fault::Unreadable(Why::NoSuchCall)),
+    }
+}
+
+/// Adds what a check of an object's trace answers.
+pub fn show_flat_check(
+    alloc: Global,
+    call: &str,
+    object: &str,
+    text: &mut String,
+) -> Result<(), Fault> {
+    let value = value_of(alloc, object)?;
+    let input = flat_input_from(alloc, &value)?;
+    let air = FlatAir::new(
+        input.pool,
+        input.roots,
+        input.main.width(),
+        input.public_values.len(),
+        input.periodic,
+        input.cells,
+    );
+    let public_values = input.public_values;
+    show_check(
+        alloc,
+        call,
+        &air,
+        &input.main,
+        &public_values,
+        input.cap,
+        text,
+    )
+}

@@ -1,0 +1,62 @@
+//! Objects that an AIR and its trace are read from.
+
+use air_field::{BabyBear, RowMajorMatrix};
+use air_program::{FlatInput, flat_input_from};
+use air_symbolic::{BaseLeaf, ExprId};
+use cases::Fault;
+use cases::words::{show_elements, value_of};
+use std::alloc::Global;
+
+// Adds the rows.
+fn show_rows(matrix: &RowMajorMatrix<BabyBear>, text: &mut String) -> Result<(), Fault> {
+    let width = matrix.width();
+    write!(text, "width {width} rows")?;
+    for row in 0..matrix.height() {
+        if let Some(values) = matrix.row_slice(row) {
+            text.push_str(" ")?;
+            show_elements(values, text)?;
+        }
+    }
+    Ok(())
+}
+
+// Adds the numbers of the roots.
+fn show_roots(roots: &[ExprId<BaseLeaf<BabyBear>>], text: &mut String) -> Result<(), Fault> {
+    text.push_str(" roots")?;
+    for root in roots {
+        let number = root.number();
+        write!(text, " {number}")?;
+    }
+    Ok(())
+}
+
+// Adds the columns, cells, the cap and the weight.
+fn show_rest(input: &FlatInput, text: &mut String) -> Result<(), Fault> {
+    text.push_str(" periodic")?;
+    for column in &input.periodic {
+        text.push_str(" ")?;
+        show_elements(column, text)?;
+    }
+    for cell in &input.cells {
+        write!(text, " {cell:?}")?;
+    }
+    if let Some(cap) = input.cap {
+        write!(text, " cap {cap}")?;
+    }
+    let weight = input.transition_weight;
+    write!(text, " weight {weight}")?;
+    Ok(())
+}
+
+/// Adds what the object spells, but for its expressions their number and those of the constraints.
+pub fn show_input(alloc: Global, object: &str, text: &mut String) -> Result<(), Fault> {
+    let value = value_of(alloc, object)?;
+    let input = flat_input_from(alloc, &value)?;
+    show_rows(&input.main, text)?;
+    text.push_str(" public ")?;
+    show_elements(&input.public_values, text)?;
+    let nodes = input.pool.len();
+    write!(text, " nodes {nodes}")?;
+    show_roots(&input.roots, text)?;
+    show_rest(&input, text)
+}

@@ -1,0 +1,74 @@
+//! Runs of the program over streams in memory.
+
+use crate::streams::{Kept, Pieces};
+use air_program::run;
+use cases::words::{show_text, text_of};
+use cases::{Fault, Why};
+use std::alloc::Global;
+use std::str;
+
+// The bytes of an input. A character is the byte of its number, so that an input can be no text.
+fn bytes_of(alloc: Global, input: &str) -> Result<Vec<u8>, Fault> {
+    let mut bytes = Vec::new(alloc);
+    for letter in text_of(alloc, input)?.chars() {
+        match u8::try_from(letter) {
+            Ok(byte) => bytes.push(byte)?,
+            Err(_) => return Err(Fault::Unreadable(Why::NoText)),
+        }
+    }
+    Ok(bytes)
+}
+
+// Adds what a run answers that moves so many bytes at a time: its status, how much it has not read, if any, and what it
+// wrote. A run that refuses for want of memory has no answer.
+fn run_by(
+    alloc: Global,
+    words: &[String],
+    input: &[u8],
+    most: usize,
+    text: &mut String,
+) -> Result<(), Fault> {
+    let mut reader = Pieces::new(input, most);
+    let mut writer = Kept::new(alloc, most);
+    // (The writer fails for want of memory alone.)
+    let Ok(status) = run(alloc, words, &mut reader, &mut writer) else {
+        return Err(Fault::Memory);
+    };
+    if writer.bytes() == b"refused: Memory\n".as_slice() {
+        return Err(Fault::Memory);
+    }
+    write!(text, "status {status} ")?;
+    let left = reader.left();
+    if left > 0 {
+        write!(text, "unread {left} ")?;
+    }
+    match str::from_utf8(writer.bytes()) {
+        Ok(written) => show_text(written, text),
+        Err(_) => Err(Fault::Unreadable(Why::NoText)),
+    }
+}
+
+/// Adds what the program answers to an input, called with these words. It is the same for an input and an output in
+/// pieces of any length; where it isn't, the answers in further pieces are added.
+pub fn show_run(
+    alloc: Global,
+    words: &[&str],
+    input: &str,
+    text: &mut String,
+) -> Result<(), Fault> {
+    let mut said = Vec::new(alloc);
+    for word in words {
+        said.push(text_of(alloc, *word)?)?;
+    }
+    let input = bytes_of(alloc, input)?;
+    run_by(alloc, said.as_slice(), input.as_slice(), 4096, text)?;
+    let whole = text.clone()?;
+    for most in [1, 2, 3, 7] {
+        let mut cut = String::new(alloc);
+        run_by(alloc, said.as_slice(), input.as_slice(), most, &mut cut)?;
+        if cut.as_str() != whole.as_str() {
+            write!(text, ", but in pieces of {most}: {cut}")?;
+        }
+    }
+    Ok(())
+}
