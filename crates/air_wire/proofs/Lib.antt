@@ -4,7 +4,6 @@ pub mod Growing
 pub mod Loop
 pub mod Numbers
 pub mod Lifting
-pub mod FormLaws
 pub mod Left
 pub mod Ordered
 pub mod Progress

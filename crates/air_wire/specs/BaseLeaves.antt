@@ -1,5 +1,5 @@
 -- Base leaves: how they are spelt, and how they are read in a node.
-use Rattle.std.specs.Prelude.{◌≡◌, ℕ, List, [], ◌∷◌, Option, Some, None, Result, Ok, Err, option_map, codes, if◌then◌else◌, nat_lt, bytes_eq, ok_or, refl}
+use Rattle.std.specs.Prelude.{◌≡◌, ℕ, ◌≤◌, List, [], ◌∷◌, Option, Some, None, Result, Ok, Err, option_map, codes, if◌then◌else◌, nat_lt, bytes_eq, ok_or, refl}
 use Rattle.serde_json.specs.Data.{Data, string}
 use Rattle.serde_json.specs.Find.{as_str}
 use Rattle.air_field.specs.Modulo.{class}
@@ -12,6 +12,7 @@ use Rattle.air_wire.specs.Results.{◌>>=◌}
 use Rattle.air_wire.specs.Entries.{SpellsVariable, variable_plain}
 use Rattle.air_wire.specs.Spelling.{number_data, case_data, IsCase, IsWhole}
 use Rattle.air_wire.specs.Nodes.{Kind}
+use Rattle.air_wire.specs.LeafFaults.{OwnFaultOr}
 use Rattle.air_wire.specs.Seen.{WireLaws}
 use Rattle.air_wire.specs.declared.errors.FlatError.{FlatError}
 use Rattle.air_wire.specs.declared.errors.FlatError.TheVariants as faults
@@ -22,6 +23,19 @@ SpellsLeaf d leaves.IsFirstRow = d ≡ string (codes "IsFirstRow")
 SpellsLeaf d leaves.IsLastRow = d ≡ string (codes "IsLastRow")
 SpellsLeaf d leaves.IsTransition = d ≡ string (codes "IsTransition")
 SpellsLeaf d (leaves.Constant x) = IsCase (codes "Constant") (IsWhole x.residue) d
+
+-- ---- which fault has a value that spells none
+
+-- a whole number at or past the modulus
+abbrev pub IsPast : Data → Type 0
+IsPast c = (n : ℕ) × IsWhole n c × (2013265921 ≤ n)
+
+-- a constant has a fault of its own where its number is whole, but not canonical
+abbrev pub OwnLeafFault : ℕ → Data → FlatError → Type 0
+OwnLeafFault place d f = IsCase (codes "Constant") IsPast d × (f ≡ faults.NotCanonical place)
+
+abbrev pub LeafFault : ℕ → Data → FlatError → Type 0
+LeafFault = OwnFaultOr SpellsLeaf OwnLeafFault
 
 -- ---- what is written
 
@@ -64,7 +78,7 @@ unfoldable pub leaf_at : ℕ → Data → Result (BaseLeaf BabyBear) FlatError
 leaf_at place d = text_or (Err (faults.Shape place)) (bare_leaf place) (leaf_with place) (as_str d) d
 
 abbrev pub base_kind : Kind (BaseLeaf BabyBear) BabyBear
-base_kind = record { spells = SpellsLeaf; writes = WritesLeaf; leaf_at = leaf_at; term = base_term }
+base_kind = record { spells = SpellsLeaf; writes = WritesLeaf; fault = LeafFault; leaf_at = leaf_at; term = base_term }
 
 -- a base leaf holds no number
 abbrev pub base_seen : Unit {0} → BaseLeaf BabyBear → BaseLeaf BabyBear

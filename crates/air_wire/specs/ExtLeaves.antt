@@ -1,5 +1,5 @@
 -- Extension leaves: how they are spelt, and how they are read in a node.
-use Rattle.std.specs.Prelude.{◌≡◌, ℕ, List, Result, Ok, Err, option_map, codes, if◌then◌else◌, bytes_eq, ok_or}
+use Rattle.std.specs.Prelude.{◌≡◌, ℕ, ◌⊎◌, List, Result, Ok, Err, option_map, codes, if◌then◌else◌, bytes_eq, ok_or}
 use Rattle.serde_json.specs.Data.{Data, array}
 use Rattle.air_field.specs.Ring.{Over}
 use Rattle.air_field.specs.Extension.{Basis}
@@ -14,8 +14,10 @@ use Rattle.air_wire.specs.Results.{◌>>=◌}
 use Rattle.air_wire.specs.Spelling.{case_data, IsCase}
 use Rattle.air_wire.specs.ExtEntries.{SpellsExtVariable, ext_variable_plain}
 use Rattle.air_wire.specs.Coefficients.{number_items, elements_at}
+use Rattle.air_wire.specs.Wholes.{HasPast}
+use Rattle.air_wire.specs.LeafFaults.{OwnFaultOr}
 use Rattle.air_wire.specs.Nodes.{Kind, root_of}
-use Rattle.air_wire.specs.Good.{IsList}
+use Rattle.air_wire.specs.Good.{IsList, HasFault}
 use Rattle.air_wire.specs.Written.{IsWritten}
 use Rattle.air_wire.specs.BaseLeaves.{base_kind}
 use Rattle.air_wire.specs.declared.errors.FlatError.{FlatError}
@@ -38,7 +40,7 @@ whole_term basis (whole_base t) = term_of base_term t
 whole_term basis (whole_variable v) = leaf_term (ext_entry_leaf v.entry v.index)
 whole_term basis (whole_constant c) = ext_const_term (basis.coefficients c)
 
--- ---- how a reader finds it
+-- ---- which fault has a value that spells none
 
 -- a fault inside the list of a leaf, told at the place of the leaf's node
 abbrev pub at_place : ℕ → FlatError → FlatError
@@ -49,6 +51,18 @@ at_place place faults.EmptyList = faults.EmptyList
 at_place place (faults.Operand inner i) = faults.Operand place i
 at_place place (faults.WrongDegree inner d found) = faults.WrongDegree place d found
 at_place place (faults.NotCanonical inner) = faults.NotCanonical place
+
+-- A Base leaf has the first fault of its list, told at the leaf's place; a constant of so many whole numbers, one of
+-- them past the canonical ones, isn't canonical.
+abbrev pub OwnWholeFault : ℕ → ℕ → Data → FlatError → Type 0
+OwnWholeFault count place d f =
+    IsCase (codes "Base") (λ c. (g : FlatError) × HasFault base_kind c g × (f ≡ at_place place g)) d
+    ⊎ (IsCase (codes "ExtConstant") (HasPast count) d × (f ≡ faults.NotCanonical place))
+
+abbrev pub WholeFault : {EF : Type 0} → Basis BabyBear EF → ℕ → ℕ → Data → FlatError → Type 0
+WholeFault basis count = OwnFaultOr (SpellsWhole basis) (OwnWholeFault count)
+
+-- ---- how a reader finds it
 
 abbrev pub moved : {A : Type 0} → ℕ → Result A FlatError → Result A FlatError
 moved place (Ok a) = Ok a
@@ -73,4 +87,4 @@ ext_leaf_at a count place d = case_or (Err (faults.Shape place)) (ext_leaf_with 
 
 -- extension leaves, with so many coefficients
 abbrev pub ext_kind : {EF : Type 0} → Over BabyBear EF → Basis BabyBear EF → ℕ → Kind (WholeLeaf BabyBear EF) BabyBear
-ext_kind a basis count = record { spells = SpellsWhole basis; writes = WritesWhole basis; leaf_at = ext_leaf_at a count; term = whole_term basis }
+ext_kind a basis count = record { spells = SpellsWhole basis; writes = WritesWhole basis; fault = WholeFault basis count; leaf_at = ext_leaf_at a count; term = whole_term basis }

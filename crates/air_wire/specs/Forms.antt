@@ -1,5 +1,5 @@
 -- Which fault of a node is its first.
-use Rattle.std.specs.Prelude.{◌≡◌, ◌≢◌, ℕ, ◌+◌, ◌≤◌, ◌<◌, ◌^◌, ◌⊎◌, max, List, length, Some, Err, codes}
+use Rattle.std.specs.Prelude.{◌≡◌, ◌≢◌, ℕ, ◌+◌, ◌≤◌, ◌<◌, ◌^◌, ◌⊎◌, max, List, length, Some, codes}
 use Rattle.std.specs.List.{slice_get}
 use Rattle.serde_json.specs.Data.{Data}
 use Rattle.air_symbolic.specs.Trees.{Tree}
@@ -56,7 +56,7 @@ ProductFault kind before n t u f =
 
 -- the first fault of a node of this form: a leaf's own, or those of the operands, x before y, and then the degree's
 abbrev pub FormFault : {S F : Type 0} → Kind S F → List (Tree S) → Form → FlatError → Type 0
-FormFault kind before (leaf_form c) f = kind.leaf_at (length before) c ≡ Err f
+FormFault kind before (leaf_form c) f = kind.fault (length before) c f
 FormFault kind before (add_form n x y) f = OperandsFault before x y (SumFault kind before n) f
 FormFault kind before (sub_form n x y) f = OperandsFault before x y (SumFault kind before n) f
 FormFault kind before (mul_form n x y) f = OperandsFault before x y (ProductFault kind before n) f

@@ -1,12 +1,13 @@
 -- Which values are lists of nodes, and which tree each is.
-use Rattle.std.specs.Prelude.{◌≡◌, ℕ, ◌+◌, ◌<◌, ◌^◌, ◌⊎◌, max, List, [], ◌∷◌, ◌++◌, Some, None, Err, codes}
+use Rattle.std.specs.Prelude.{◌≡◌, ℕ, ◌+◌, ◌<◌, ◌^◌, ◌⊎◌, max, List, [], ◌∷◌, ◌++◌, Some, None, codes}
 use Rattle.std.specs.List.{slice_get}
 use Rattle.serde_json.specs.Data.{Data, Items, no_items, item}
 use Rattle.serde_json.specs.Find.{as_array}
 use Rattle.air_symbolic.specs.Trees.{Tree, nothing, leaf_tree, add_tree, sub_tree, neg_tree, mul_tree}
 use Rattle.air_wire.specs.Spelling.{IsCase, HasWhole}
 use Rattle.air_wire.specs.Seen.{degree}
-use Rattle.air_wire.specs.Nodes.{Kind, node_at}
+use Rattle.air_wire.specs.Nodes.{Kind}
+use Rattle.air_wire.specs.Forms.{NodeFault}
 use Rattle.air_wire.specs.declared.errors.FlatError.{FlatError}
 use Rattle.air_wire.specs.declared.errors.FlatError.TheVariants as faults
 
@@ -48,7 +49,7 @@ pub record IsList {S F : Type 0} (kind : Kind S F) (d : Data) (t : Tree S) : Typ
 -- the first node that is none has this fault, and all before it are nodes
 abbrev pub FirstFault : {S F : Type 0} → Kind S F → List (Tree S) → Items → FlatError → Type 0
 FirstFault kind done no_items f = ⊥
-FirstFault {S} kind done (item d ds) f = (node_at kind done d ≡ Err f) ⊎ ((t : Tree S) × IsNode kind done d t × FirstFault kind (done ++ t ∷ []) ds f)
+FirstFault {S} kind done (item d ds) f = NodeFault kind done d f ⊎ ((t : Tree S) × IsNode kind done d t × FirstFault kind (done ++ t ∷ []) ds f)
 
 abbrev pub ItemsFault : {S F : Type 0} → Kind S F → Items → FlatError → Type 0
 ItemsFault kind no_items f = f ≡ faults.EmptyList

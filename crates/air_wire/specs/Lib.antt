@@ -20,4 +20,5 @@ pub mod Coefficients
 pub mod Wholes
 pub mod ExtLeaves
 pub mod Forms
+pub mod LeafFaults
 pub mod laws

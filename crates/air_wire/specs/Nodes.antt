@@ -13,17 +13,21 @@ use Rattle.air_wire.specs.declared.operations.Operation.TheVariants.{Add, Sub, M
 use Rattle.air_wire.specs.declared.errors.FlatError.{FlatError}
 use Rattle.air_wire.specs.declared.errors.FlatError.TheVariants as faults
 
--- Leaves of a kind: what spells one, which of these is written, how one is read in the node at a place, and its term.
+-- Leaves of a kind: what spells one, which of these is written, which fault has a value that spells none, in the node
+-- at a place; how one is read there, and its term.
 pub record Kind (S F : Type 0) : Type 1 where
   pub spells : Data → S → Type 0
   pub writes : Data → S → Type 0
+  pub fault : ℕ → Data → FlatError → Type 0
   pub leaf_at : ℕ → Data → Result S FlatError
   pub term : S → Term F
 
--- read is what is spelt, and written one spelling
+-- read is what is spelt, refused what has a fault, and written one spelling
 pub record KindLaws {S F : Type 0} (kind : Kind S F) : Type 0 where
   pub found : (place : ℕ) (d : Data) (a : S) → kind.leaf_at place d ≡ Ok a → kind.spells d a
   pub again : (place : ℕ) (d : Data) (a : S) → kind.spells d a → kind.leaf_at place d ≡ Ok a
+  pub fault_found : (place : ℕ) (d : Data) (f : FlatError) → kind.leaf_at place d ≡ Err f → kind.fault place d f
+  pub fault_again : (place : ℕ) (d : Data) (f : FlatError) → kind.fault place d f → kind.leaf_at place d ≡ Err f
   pub written : (d : Data) (a : S) → kind.writes d a → kind.spells d a
   pub once : (d e : Data) (a : S) → kind.writes d a → kind.writes e a → d ≡ e
 

@@ -1,5 +1,5 @@
 -- Lists of whole numbers: how they are spelt, and how they are found.
-use Rattle.std.specs.Prelude.{◌≡◌, ℕ, List, map, Option, Some, option_and_then}
+use Rattle.std.specs.Prelude.{◌≡◌, ℕ, ◌≤◌, ◌⊎◌, List, [], ◌∷◌, length, map, Option, Some, option_and_then}
 use Rattle.serde_json.specs.Data.{Data, array, Items}
 use Rattle.serde_json.specs.Find.{get, as_array}
 use Rattle.serde_json.specs.View.{items_of}
@@ -15,6 +15,15 @@ wholes_data ns = array (whole_items ns)
 -- the field of this name is the list of these whole numbers
 abbrev pub HasWholes : List ℕ → List ℕ → Data → Type 0
 HasWholes name ns d = get name d ≡ Some (wholes_data ns)
+
+-- one of the numbers is at or past the modulus
+abbrev pub SomePast : List ℕ → Type 0
+SomePast [] = ⊥
+SomePast (n ∷ ns) = (2013265921 ≤ n) ⊎ SomePast ns
+
+-- the value is a list of so many whole numbers, one of which is no canonical one
+abbrev pub HasPast : ℕ → Data → Type 0
+HasPast count d = (ns : List ℕ) × (d ≡ wholes_data ns) × (length ns ≡ count) × SomePast ns
 
 -- ---- how a reader finds them
 

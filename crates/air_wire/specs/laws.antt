@@ -10,6 +10,8 @@ pub mod ExtEntries
 pub mod ExtLeaves
 pub mod Nodes
 pub mod Reads
+pub mod Forms
+pub mod LeafFaults
 pub mod Lists
 pub mod Written
 pub mod Coefficients

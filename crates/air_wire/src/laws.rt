@@ -1,5 +1,5 @@
 //! What callers rely on, as the contracts of functions.
-ghost use Rattle.std.specs.Prelude.{◌≡◌, List, Err};
+ghost use Rattle.std.specs.Prelude.{◌≡◌, ◌↔◌, List, Err};
 ghost use Rattle.serde_json.specs.Data.{Data};
 ghost use Rattle.air_symbolic.specs.Trees.{Tree};
 ghost use Rattle.air_wire.specs.Good.{IsList, HasFault};
@@ -30,8 +30,9 @@ pub fn lists_are_written_one_way<A: WireLeaf>()
         IsWritten A.kind d u → t ≡ u }
 {}
 
-/// The fault of a node that isn't read: it has no form, or the first fault of its form.
+/// What is found of a node that isn't read is its fault, that it has no form or the first fault of its form; and each
+/// such fault is found.
 pub fn faults_of_nodes<A: WireLeaf>()
     ensures { (before : List (Tree A.Seen)) (d : Data) (f : FlatError) →
-        node_at A.kind before d ≡ Err f → NodeFault A.kind before d f }
+        (node_at A.kind before d ≡ Err f) ↔ NodeFault A.kind before d f }
 {}

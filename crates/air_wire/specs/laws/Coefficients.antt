@@ -1,8 +1,8 @@
 -- A list of field elements is found where it is spelt, and nowhere else.
 use Rattle.std.specs.Prelude.{◌≡◌, ℕ, ◌&&◌, Bool, true, false, List, [], ◌∷◌, map, length, Option, Some, None, Ok, Err, option_map, option_and_then, if◌then◌else◌, ok_or, refl}
 use Rattle.std.specs.List.{list_all}
-use Rattle.std.proofs.Common.{sym, ap, ap₂, ◌∙◌, arith, eqb, rules, tests}
-use Rattle.std.proofs.lemmas.Bool.{ltb-true, lt-ltb, eqb-true}
+use Rattle.std.proofs.Common.{sym, ap, ap₂, ◌∙◌, arith, eqb, rules, tests, ◌⊎◌, inl, inr}
+use Rattle.std.proofs.lemmas.Bool.{ltb-true, ltb-false, lt-ltb, le-ltb, eqb-true}
 use Rattle.std.proofs.Math.Nat.{mod-eq_of_lt}
 use Rattle.serde_json.specs.Data.{Data, null, boolean, number, string, object, array, Items, no_items, item}
 use Rattle.serde_json.specs.Find.{as_array}
@@ -12,7 +12,10 @@ use Rattle.air_field.specs.declared.fields.baby_bear.BabyBear.{BabyBear}
 use Rattle.air_wire.specs.Parts.{whole}
 use Rattle.air_wire.specs.Results.{◌>>=◌}
 use Rattle.air_wire.specs.Spelling.{number_data}
-use Rattle.air_wire.specs.laws.Readings.{done, done_is, not_done, bind_ok, ok_or_found, test_ok, number_found}
+use Rattle.air_wire.specs.laws.Readings.{done, done_is, not_done, bind_ok, ok_or_found, test_ok, number_found, err_is, not_failed, ok_or_failed, bind_failed, test_failed}
+use Rattle.air_wire.specs.Wholes.{wholes_data, SomePast, HasPast}
+use Rattle.air_wire.specs.laws.Wholes.{whole_items_found, whole_items_again}
+use Rattle.air_wire.specs.declared.errors.FlatError.{FlatError}
 use Rattle.air_wire.specs.declared.errors.FlatError.TheVariants as faults
 use Rattle.air_wire.specs.Coefficients.{number_items, wholes, is_canonical, if_count, if_canonical, elements_at}
 
@@ -68,7 +71,7 @@ class_length : (ns : List ℕ) → length (map class ns) ≡ length ns
 class_length [] = refl
 class_length (n ∷ ns) = omega (arith, class_length ns)
 
-as_array_is : (d : Data) (ds : Items) → as_array d ≡ Some ds → d ≡ array ds
+pub as_array_is : (d : Data) (ds : Items) → as_array d ≡ Some ds → d ≡ array ds
 as_array_is null ds e = absurd cc
 as_array_is (boolean b) ds e = absurd cc
 as_array_is (number n) ds e = absurd cc
@@ -105,3 +108,58 @@ elements_again count place d cs is len =
     ∙ ap (λ b. (if b then done (residues cs) else Err (faults.Shape place)) >>= λ all. if_canonical place all) (same_number (length (residues cs)) count (residues_length cs ∙ len))
     ∙ ap (λ b. if b then Ok (map class (residues cs)) else Err (faults.NotCanonical place)) (residues_canonical cs)
     ∙ ap (λ v. done v) (residues_again cs)
+
+-- ---- lists that aren't read
+
+some_past : (ns : List ℕ) → list_all is_canonical ns ≡ false → SomePast ns
+some_past [] e = absurd cc
+some_past (n ∷ ns) e = go (some_past ns) (is_canonical n) refl e
+  where
+    go : (list_all is_canonical ns ≡ false → SomePast ns) → (b : Bool) → is_canonical n ≡ b → b && list_all is_canonical ns ≡ false → SomePast (n ∷ ns)
+    go later true is e = inr (later e)
+    go later false is e = inl (ltb-false n 2013265921 is)
+
+not_both : (b : Bool) → b && false ≡ false
+not_both true = refl
+not_both false = refl
+
+past_some : (ns : List ℕ) → SomePast ns → list_all is_canonical ns ≡ false
+past_some [] h = absurd h
+past_some (n ∷ ns) (inl h) = ap (λ b. b && list_all is_canonical ns) (le-ltb n 2013265921 h)
+past_some (n ∷ ns) (inr h) = ap (λ b. is_canonical n && b) (past_some ns h) ∙ not_both (is_canonical n)
+
+pub elements_failed : (count place : ℕ) (d : Data) (f : FlatError) → elements_at count place d ≡ Err f → (HasPast count d × (f ≡ faults.NotCanonical place)) ⊎ (f ≡ faults.Shape place)
+unfolding elements_at
+elements_failed count place d f e =
+    let P : Type 0 = (HasPast count d × (f ≡ faults.NotCanonical place)) ⊎ (f ≡ faults.Shape place) in
+    bind_failed P (ok_or (as_array d) (faults.Shape place)) (λ ds. ok_or (wholes ds) (faults.Shape place) >>= λ ns. if_count count place ns >>= λ all. if_canonical place all) f e
+    (λ e. inr (ok_or_failed (as_array d) (faults.Shape place) f e))
+    (λ ds at e. bind_failed P (ok_or (wholes ds) (faults.Shape place)) (λ ns. if_count count place ns >>= λ all. if_canonical place all) f e
+    (λ e. inr (ok_or_failed (wholes ds) (faults.Shape place) f e))
+    (λ ns read e. bind_failed P (if_count count place ns) (λ all. if_canonical place all) f e
+    (λ e. test_failed P (eqb (length ns) count) (Ok ns) (Err (faults.Shape place)) f e
+    (λ _ e. not_failed P ns f e) (λ _ e. inr (sym (err_is {A = List ℕ} (faults.Shape place) f e))))
+    (λ all counted e. test_failed P (list_all is_canonical all) (Ok (map class all)) (Err (faults.NotCanonical place)) f e
+    (λ _ e. not_failed P (map class all) f e)
+    (λ bad e.
+    let same = test_ok (λ v. (ns ≡ v) × (length ns ≡ count)) (eqb (length ns) count) (Ok ns) (Err (faults.Shape place)) all counted
+    (λ same e. done_is (λ v. (ns ≡ v) × (length ns ≡ count)) ns all e (refl, eqb-true (length ns) count same))
+    (not_done (λ v. (ns ≡ v) × (length ns ≡ count)) (faults.Shape place) all) in
+    let items = whole_items_found ds ns (ok_or_found (wholes ds) (faults.Shape place) ns read) in
+    inl (
+      (
+        all,
+        as_array_is d ds (ok_or_found (as_array d) (faults.Shape place) ds at) ∙ ap (λ x. array x) items ∙ ap wholes_data same.0,
+        ap length (sym same.0) ∙ same.1,
+        some_past all bad,
+      ),
+      sym (err_is {A = List BabyBear} (faults.NotCanonical place) f e),
+    )))))
+
+pub elements_past : (count place : ℕ) (d : Data) → HasPast count d → elements_at count place d ≡ Err (faults.NotCanonical place)
+unfolding elements_at
+elements_past count place d (ns, is, len, some) =
+    ap (λ x. ok_or (as_array x) (faults.Shape place) >>= λ ds. ok_or (wholes ds) (faults.Shape place) >>= λ ns. if_count count place ns >>= λ all. if_canonical place all) is
+    ∙ ap (λ o. ok_or o (faults.Shape place) >>= λ ns. if_count count place ns >>= λ all. if_canonical place all) (whole_items_again ns)
+    ∙ ap (λ b. (if b then done ns else Err (faults.Shape place)) >>= λ all. if_canonical place all) (same_number (length ns) count len)
+    ∙ ap (λ b. if b then Ok (map class ns) else Err (faults.NotCanonical place)) (past_some ns some)

@@ -1,6 +1,6 @@
 -- Extension leaves: what is read is what is spelt, and what is seen of a leaf stays.
 use Rattle.std.specs.Prelude.{◌≡◌, ℕ, List, Result, Ok, Err, option_map, codes, ok_or, length, refl}
-use Rattle.std.proofs.Common.{sym, ap, ◌∙◌}
+use Rattle.std.proofs.Common.{sym, ap, ◌∙◌, ◌⊎◌, inl, inr, ⊎_elim}
 use Rattle.serde_json.specs.Data.{Data, array}
 use Rattle.air_field.specs.Ring.{CommRing, Over}
 use Rattle.air_field.specs.Extension.{Basis, ExtensionLaws}
@@ -16,24 +16,30 @@ use Rattle.air_symbolic.specs.declared.leaves.ext_leaf.ExtLeaf.{ExtLeaf}
 use Rattle.air_symbolic.specs.declared.leaves.ext_leaf.ExtLeaf.TheVariants.{Base, ExtVariable, ExtConstant}
 use Rattle.air_wire.specs.Results.{◌>>=◌}
 use Rattle.air_wire.specs.Spelling.{case_data}
-use Rattle.air_wire.specs.laws.Readings.{mapped, done, done_is, not_done, bind_ok, ok_or_found, name_ok, case_read}
+use Rattle.air_wire.specs.laws.Readings.{mapped, done, done_is, not_done, bind_ok, ok_or_found, name_ok, case_read, failed, err_is, ok_or_failed, before_done, name_failed}
 use Rattle.air_wire.specs.ExtEntries.{ext_variable_plain}
 use Rattle.air_wire.specs.laws.ExtEntries.{ext_variable_laws}
 use Rattle.air_wire.specs.Coefficients.{number_items, elements_at}
-use Rattle.air_wire.specs.laws.Coefficients.{elements_found, elements_again}
+use Rattle.air_wire.specs.laws.Coefficients.{elements_found, elements_again, elements_failed, elements_past}
+use Rattle.air_wire.specs.Wholes.{HasPast}
+use Rattle.air_wire.specs.laws.LeafFaults.{leaf_fault_found, leaf_fault_again}
 use Rattle.air_wire.specs.Seen.{WireLaws}
 use Rattle.air_wire.specs.Nodes.{KindLaws, root_of}
-use Rattle.air_wire.specs.laws.Lists.{root_found, root_again}
+use Rattle.air_wire.specs.laws.Lists.{root_found, root_again, root_fault, root_fault_read}
 use Rattle.air_wire.specs.laws.Written.{written_list, one_list}
 use Rattle.air_wire.specs.BaseLeaves.{base_kind}
 use Rattle.air_wire.specs.laws.BaseLeaves.{base_kind_laws}
-use Rattle.air_wire.specs.ExtLeaves.{SpellsWhole, WritesWhole, whole_term, moved, ext_constant_at, ext_leaf_with, ext_leaf_at, ext_kind}
+use Rattle.air_wire.specs.ExtLeaves.{SpellsWhole, WritesWhole, whole_term, at_place, OwnWholeFault, moved, ext_constant_at, ext_leaf_with, ext_leaf_at, ext_kind}
 use Rattle.air_wire.specs.declared.errors.FlatError.{FlatError}
 use Rattle.air_wire.specs.declared.errors.FlatError.TheVariants as faults
 
 moved_ok : {A : Type 0} (place : ℕ) (r : Result A FlatError) (t : A) → moved place r ≡ Ok t → r ≡ Ok t
 moved_ok place (Ok a) t e = e
 moved_ok place (Err f) t e = absurd cc
+
+moved_failed : {A : Type 0} (place : ℕ) (r : Result A FlatError) (f : FlatError) → moved place r ≡ Err f → (g : FlatError) × (r ≡ Err g) × (f ≡ at_place place g)
+moved_failed place (Ok a) f e = absurd cc
+moved_failed {A} place (Err g) f e = (g, refl, sym (err_is {A = A} (at_place place g) f e))
 
 -- what is seen of a leaf stays as the base pool grows
 module _ {EF : Type 0} (r : CommRing BabyBear) (basis : Basis BabyBear EF) where
@@ -100,6 +106,41 @@ module _ {EF : Type 0} (r : CommRing BabyBear) (a : Over BabyBear EF) (basis : B
       case_read (λ x. SpellsWhole basis x l) (λ r. r ≡ Ok l) (Err (faults.Shape place)) (ext_leaf_with a count place) d h
       (not_done (SpellsWhole basis d) (faults.Shape place) l) (λ name c. with_found place name c l)
 
+  -- ---- faults
+
+  with_failed : (place : ℕ) (name : List ℕ) (c : Data) (f : FlatError) → ext_leaf_with a count place name c ≡ Err f → OwnWholeFault count place (case_data name c) f ⊎ (f ≡ faults.Shape place)
+  with_failed place name c f e =
+      let P : Type 0 = OwnWholeFault count place (case_data name c) f ⊎ (f ≡ faults.Shape place) in
+      name_failed P name (codes "Base") _ _ f e
+      (λ same e.
+      let g = moved_failed place (root_of base_kind c) f (before_done (moved place (root_of base_kind c)) (λ t. whole_base t) f e) in
+      inl (inl (c, ap (λ n. case_data n c) same, (g.0, root_fault base_kind base_kind_laws c g.0 g.1, g.2))))
+      (λ e. name_failed P name (codes "ExtVariable") _ _ f e
+      (λ same e. inr (ok_or_failed _ (faults.Shape place) f e))
+      (λ e. name_failed P name (codes "ExtConstant") _ _ f e
+      (λ same e.
+      ⊎_elim
+      (λ (h : HasPast count c × (f ≡ faults.NotCanonical place)). inl (inr ((c, ap (λ n. case_data n c) same, h.0), h.1)))
+      (λ (h : f ≡ faults.Shape place). inr h)
+      (elements_failed count place c f (before_done (elements_at count place c) (λ cs. a.extend cs) f (before_done (ext_constant_at a count place c) (λ e. whole_constant e) f e))))
+      (λ e. inr (sym (err_is {A = WholeLeaf BabyBear EF} (faults.Shape place) f e)))))
+
+  own_found : (place : ℕ) (d : Data) (f : FlatError) → ext_leaf_at a count place d ≡ Err f → OwnWholeFault count place d f ⊎ (f ≡ faults.Shape place)
+  unfolding ext_leaf_at
+  own_found place d f e =
+      case_read (λ x. OwnWholeFault count place x f ⊎ (f ≡ faults.Shape place)) (λ r. r ≡ Err f) (Err (faults.Shape place)) (ext_leaf_with a count place) d e
+      (λ e. inr (sym (err_is {A = WholeLeaf BabyBear EF} (faults.Shape place) f e)))
+      (λ name c. with_failed place name c f)
+
+  own_again : (place : ℕ) (d : Data) (f : FlatError) → OwnWholeFault count place d f → ext_leaf_at a count place d ≡ Err f
+  unfolding ext_leaf_at
+  own_again place d f (inl (c, is, (g, bad, h))) =
+      ap (ext_leaf_at a count place) is ∙ ap (λ q. moved place q >>= λ t. done (whole_base t)) (root_fault_read base_kind base_kind_laws c g bad) ∙ ap (λ k. failed k) (sym h)
+  own_again place d f (inr ((c, is, past), h)) =
+      ap (ext_leaf_at a count place) is
+      ∙ ap (λ (q : Result (List BabyBear) FlatError). (q >>= λ cs. done (a.extend cs)) >>= λ e. done (whole_constant e)) (elements_past count place c past)
+      ∙ ap (λ k. failed k) (sym h)
+
   ext_leaf_written : (d : Data) (l : WholeLeaf BabyBear EF) → WritesWhole basis d l → SpellsWhole basis d l
   ext_leaf_written d (whole_base t) h = (h.0, h.1, written_list base_kind base_kind_laws h.0 t h.2)
   ext_leaf_written d (whole_variable v) h = (ext_variable_plain.written v, h, ext_variable_laws.is_spelt v)
@@ -111,4 +152,11 @@ module _ {EF : Type 0} (r : CommRing BabyBear) (a : Over BabyBear EF) (basis : B
   ext_leaf_once d e (whole_constant x) h k = h ∙ sym k
 
   pub ext_kind_laws : KindLaws (ext_kind a basis count)
-  ext_kind_laws = record { found = ext_leaf_found; again = ext_leaf_again; written = ext_leaf_written; once = ext_leaf_once }
+  ext_kind_laws = record {
+    found = ext_leaf_found;
+    again = ext_leaf_again;
+    fault_found = leaf_fault_found (SpellsWhole basis) (OwnWholeFault count) (ext_leaf_at a count) ext_leaf_found ext_leaf_again own_found own_again;
+    fault_again = leaf_fault_again (SpellsWhole basis) (OwnWholeFault count) (ext_leaf_at a count) ext_leaf_found ext_leaf_again own_found own_again;
+    written = ext_leaf_written;
+    once = ext_leaf_once;
+  }

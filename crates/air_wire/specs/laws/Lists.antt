@@ -10,16 +10,11 @@ use Rattle.air_symbolic.specs.Trees.{Tree}
 use Rattle.air_wire.specs.declared.errors.FlatError.{FlatError}
 use Rattle.air_wire.specs.declared.errors.FlatError.TheVariants as faults
 use Rattle.air_wire.specs.Results.{◌>>=◌, Fails, Gives}
-use Rattle.air_wire.specs.laws.Readings.{done, done_is, not_done, bind_ok, ok_or_found}
+use Rattle.air_wire.specs.laws.Readings.{done, done_is, not_done, bind_ok, ok_or_found, failed, err_is}
 use Rattle.air_wire.specs.Nodes.{Kind, KindLaws, node_at, nodes_from, last_tree, root_of}
 use Rattle.air_wire.specs.Good.{AreNodes, IsList, FirstFault, ItemsFault, HasFault}
 use Rattle.air_wire.specs.laws.Nodes.{node_found, node_again}
-
-abbrev failed : {A : Type 0} → FlatError → Result A FlatError
-failed f = Err f
-
-err_is : {A : Type 0} (f g : FlatError) → failed {A = A} f ≡ failed g → f ≡ g
-err_is f g e = cc
+use Rattle.air_wire.specs.laws.Forms.{node_fault, node_fails}
 
 -- ---- the last of a list
 
@@ -88,12 +83,12 @@ module _ {S F : Type 0} (kind : Kind S F) (laws : KindLaws kind) where
           → (r : Result (Tree S) FlatError) → node_at kind before d ≡ r
           → (r >>= λ t. nodes_from kind (before ++ t ∷ []) ds) ≡ Err f → FirstFault kind before (item d ds) f
       at_node later (Ok t) is e = inr (t, node_found kind laws before d t is, later t e)
-      at_node later (Err g) is e = inl (is ∙ ap (λ h. failed h) (err_is g f e))
+      at_node later (Err g) is e = inl (node_fault kind laws before d f (is ∙ ap (λ h. failed h) (err_is {A = List (Tree S)} g f e)))
 
   fault_read : (before : List (Tree S)) (ds : Items) (f : FlatError) → FirstFault kind before ds f → nodes_from kind before ds ≡ Err f
   unfolding nodes_from
   fault_read before no_items f h = absurd h
-  fault_read before (item d ds) f (inl is) = ap (λ r. r >>= λ t. nodes_from kind (before ++ t ∷ []) ds) is
+  fault_read before (item d ds) f (inl h) = ap (λ r. r >>= λ t. nodes_from kind (before ++ t ∷ []) ds) (node_fails kind laws before d f h)
   fault_read before (item d ds) f (inr h) =
       ap (λ r. r >>= λ t. nodes_from kind (before ++ t ∷ []) ds) (node_again kind laws before d h.0 h.1) ∙ fault_read (before ++ h.0 ∷ []) ds f h.2
 

@@ -120,6 +120,37 @@ test_ok P false x y z e p q = q e
 pub name_ok : {A : Type 0} (P : A → Type 0) (s t : List ℕ) (x y : Result A FlatError) (z : A) → if bytes_eq s t then x else y ≡ Ok z → (s ≡ t → x ≡ Ok z → P z) → (y ≡ Ok z → P z) → P z
 name_ok P s t x y z e p q = test_ok P (bytes_eq s t) x y z e (λ b. p ((bytes_eq-Decides s t).0 b)) q
 
+-- ---- faults
+
+abbrev pub failed : {A : Type 0} → FlatError → Result A FlatError
+failed f = Err f
+
+pub err_is : {A : Type 0} (f g : FlatError) → failed {A = A} f ≡ failed g → f ≡ g
+err_is f g e = cc
+
+pub not_failed : {A : Type 0} (P : Type 0) (a : A) (f : FlatError) → done a ≡ failed f → P
+not_failed P a f e = absurd cc
+
+pub ok_or_failed : {A : Type 0} (o : Option A) (g f : FlatError) → ok_or o g ≡ Err f → f ≡ g
+ok_or_failed {A} None g f e = sym (err_is {A = A} g f e)
+ok_or_failed (Some a) g f e = absurd cc
+
+pub before_done : {A B : Type 0} (r : Result A FlatError) (h : A → B) (f : FlatError) → (r >>= λ a. done (h a)) ≡ Err f → r ≡ Err f
+before_done (Ok a) h f e = absurd cc
+before_done {A} {B} (Err g) h f e = ap (λ k. failed k) (err_is {A = B} g f e)
+
+pub bind_failed : {A B : Type 0} (P : Type 0) (r : Result A FlatError) (k : A → Result B FlatError) (f : FlatError) → (r >>= k) ≡ Err f → (r ≡ Err f → P) → ((x : A) → r ≡ Ok x → k x ≡ Err f → P) → P
+bind_failed P (Ok x) k f e p q = q x refl e
+bind_failed {A} {B} P (Err g) k f e p q = p (ap (λ h. failed h) (err_is {A = B} g f e))
+
+-- one of the two ways of a test, or of a comparison of names, failed
+pub test_failed : {A : Type 0} (P : Type 0) (b : Bool) (x y : Result A FlatError) (f : FlatError) → if b then x else y ≡ Err f → (b ≡ true → x ≡ Err f → P) → (b ≡ false → y ≡ Err f → P) → P
+test_failed P true x y f e p q = p refl e
+test_failed P false x y f e p q = q refl e
+
+pub name_failed : {A : Type 0} (P : Type 0) (s t : List ℕ) (x y : Result A FlatError) (f : FlatError) → if bytes_eq s t then x else y ≡ Err f → (s ≡ t → x ≡ Err f → P) → (y ≡ Err f → P) → P
+name_failed P s t x y f e p q = test_failed P (bytes_eq s t) x y f e (λ b. p ((bytes_eq-Decides s t).0 b)) (λ _. q)
+
 -- a case is an object of one member
 pub only_found : (d : Data) (c : List ℕ × Data) → only_member d ≡ Some c → d ≡ case_data c.0 c.1
 only_found null c e = absurd cc

@@ -8,12 +8,12 @@ use Rattle.air_wire.specs.laws.Readings.{none_found, named, number_found}
 use Rattle.air_wire.specs.Coefficients.{wholes}
 use Rattle.air_wire.specs.Wholes.{whole_items, wholes_data, HasWholes, wholes_at}
 
-items_again : (ns : List ℕ) → wholes (whole_items ns) ≡ Some ns
+pub whole_items_again : (ns : List ℕ) → wholes (whole_items ns) ≡ Some ns
 unfolding wholes
-items_again [] = refl
-items_again (n ∷ ns) = ap (option_map (λ ms. n ∷ ms)) (items_again ns)
+whole_items_again [] = refl
+whole_items_again (n ∷ ns) = ap (option_map (λ ms. n ∷ ms)) (whole_items_again ns)
 
-abbrev ItemsAre : Items → List ℕ → Type 0
+abbrev pub ItemsAre : Items → List ℕ → Type 0
 ItemsAre ds ns = ds ≡ whole_items ns
 
 items_found_of : (d : Data) (ds : Items) (o : Option ℕ) (p : Option (List ℕ)) (ns : List ℕ) → ((ms : List ℕ) → p ≡ Some ms → ds ≡ whole_items ms) → whole d ≡ o
@@ -23,10 +23,10 @@ items_found_of d ds (Some n) None ns later is e = none_found (ItemsAre (item d d
 items_found_of d ds (Some n) (Some ms) ns later is e =
     named (ItemsAre (item d ds)) (n ∷ ms) ns (ap₂ (λ x xs. item x xs) (number_found d n is) (later ms refl)) e
 
-items_found : (ds : Items) (ns : List ℕ) → wholes ds ≡ Some ns → ItemsAre ds ns
+pub whole_items_found : (ds : Items) (ns : List ℕ) → wholes ds ≡ Some ns → ItemsAre ds ns
 unfolding wholes
-items_found no_items ns e = named (ItemsAre no_items) [] ns refl e
-items_found (item d ds) ns e = items_found_of d ds (whole d) (wholes ds) ns (items_found ds) refl e
+whole_items_found no_items ns e = named (ItemsAre no_items) [] ns refl e
+whole_items_found (item d ds) ns e = items_found_of d ds (whole d) (wholes ds) ns (whole_items_found ds) refl e
 
 abbrev Holds : Option Data → List ℕ → Type 0
 Holds o ns = o ≡ Some (wholes_data ns)
@@ -37,7 +37,7 @@ list_found (Some null) ns e = none_found (Holds (Some null)) ns e
 list_found (Some (boolean b)) ns e = none_found (Holds (Some (boolean b))) ns e
 list_found (Some (number n)) ns e = none_found (Holds (Some (number n))) ns e
 list_found (Some (string s)) ns e = none_found (Holds (Some (string s))) ns e
-list_found (Some (array ds)) ns e = ap (λ x. Some (array x)) (items_found ds ns e)
+list_found (Some (array ds)) ns e = ap (λ x. Some (array x)) (whole_items_found ds ns e)
 list_found (Some (object ms)) ns e = none_found (Holds (Some (object ms))) ns e
 
 pub wholes_found : (name : List ℕ) (d : Data) (ns : List ℕ) → wholes_at name d ≡ Some ns → HasWholes name ns d
@@ -46,4 +46,4 @@ wholes_found name d ns e = list_found (get name d) ns e
 
 pub wholes_read : (name : List ℕ) (d : Data) (ns : List ℕ) → HasWholes name ns d → wholes_at name d ≡ Some ns
 unfolding wholes_at
-wholes_read name d ns h = ap (option_and_then (λ e. option_and_then wholes (as_array e))) h ∙ items_again ns
+wholes_read name d ns h = ap (option_and_then (λ e. option_and_then wholes (as_array e))) h ∙ whole_items_again ns

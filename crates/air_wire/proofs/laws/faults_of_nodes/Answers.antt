@@ -1,5 +1,8 @@
-use Rattle.air_wire.proofs.FormLaws.{node_fault}
+use Rattle.air_wire.specs.laws.Forms.{node_fault, node_fails}
 use Rattle.air_wire.proofs.laws.faults_of_nodes.Goals as goal
 
 pub returns : goal.returns
-returns g c = node_fault g.A.WireLeaf.kind
+returns g c = λ before d f.
+    let kind = g.A.WireLeaf.kind in
+    let laws = g.met.A.WireLeaf.kind_laws in
+    (node_fault kind laws before d f, node_fails kind laws before d f)

@@ -1,8 +1,9 @@
--- A node that isn't read has a first fault.
+-- A node that isn't read has a first fault, and what has one isn't read.
 use Rattle.std.proofs.Common.{◌≡◌, ◌≢◌, ℕ, zero, suc, ◌+◌, ◌≤◌, ◌<◌, ◌^◌, max, Bool, true, false, ltb, eqb, bytes_eq, if◌then◌else◌, List, [], ◌∷◌, length, Option, Some, None, option_map, option_and_then, Result, Ok, Err, codes, refl, sym, ap, subst, ◌∙◌, arith, ◌⊎◌, inl, inr, ⊎_elim, rules, tests}
 use Rattle.std.specs.Option.{ok_or}
 use Rattle.std.specs.List.{slice_get}
-use Rattle.std.proofs.lemmas.Bool.{ltb-true, lt-ltb, cases_lt}
+use Rattle.std.proofs.lemmas.Bool.{ltb-true, lt-ltb, le-ltb, cases_lt}
+use Rattle.std.proofs.lemmas.Bool.Decides.{eqb_tells}
 use Rattle.serde_json.specs.Data.{Data}
 use Rattle.air_symbolic.specs.Trees.{Tree, leaf_tree}
 use Rattle.air_wire.specs.declared.operations.Operation.{Operation}
@@ -12,9 +13,9 @@ use Rattle.air_wire.specs.declared.errors.FlatError.TheVariants as faults
 use Rattle.air_wire.specs.Parts.{only_member, find_name, case_or}
 use Rattle.air_wire.specs.Results.{◌>>=◌}
 use Rattle.air_wire.specs.Spelling.{case_data}
-use Rattle.air_wire.specs.laws.Readings.{done, by_name, none_found, named, mapped, then_found, field_found, field_read, case_read}
+use Rattle.air_wire.specs.laws.Readings.{done, by_name, none_found, named, mapped, then_found, field_found, field_read, case_read, failed, err_is, before_done}
 use Rattle.air_wire.specs.Seen.{degree}
-use Rattle.air_wire.specs.Nodes.{Kind, operand_of, operand, stated, operations, places_of, joined_degree, joined_tree, operands_at, operation_or, leaf_node_at, node_with, node_at}
+use Rattle.air_wire.specs.Nodes.{Kind, KindLaws, operand_of, operand, stated, operations, places_of, joined_degree, joined_tree, operands_at, operation_or, leaf_node_at, node_with, node_at}
 use Rattle.air_wire.specs.laws.Nodes.{operation_name, named_operation, places_found, places_read}
 use Rattle.air_wire.specs.Forms.{Form, leaf_form, add_form, sub_form, mul_form, neg_form, SpellsForm, IsLate, IsAt, IsMisstated, OperandsFault, SumFault, ProductFault, FormFault, NodeFault}
 
@@ -60,22 +61,37 @@ raw_found d m e =
     (λ e. then_found (P m) (λ op. option_map (λ p. raw op p) (places_of op c)) (find_name operations name) m e
     (λ op is e. mapped P (λ p. raw op p) (places_of op c) m e (λ p at. (c, ap (λ n. case_data n c) (named_operation name op is), at)))))
 
+-- what is read so has a form
+operation_spelt : (op : Operation) (d c : Data) (p : ℕ × ℕ × ℕ) → d ≡ case_data (operation_name op) c → places_of op c ≡ Some p → (m : Form) × SpellsForm d m
+unfolding operation_name
+operation_spelt Add d c p is at =
+    let h = places_found Add c p at in (add_form p.0 p.1 p.2, (c, is, (h.0, h.1, field_found (codes "y") c p.2 h.2)))
+operation_spelt Sub d c p is at =
+    let h = places_found Sub c p at in (sub_form p.0 p.1 p.2, (c, is, (h.0, h.1, field_found (codes "y") c p.2 h.2)))
+operation_spelt Mul d c p is at =
+    let h = places_found Mul c p at in (mul_form p.0 p.1 p.2, (c, is, (h.0, h.1, field_found (codes "y") c p.2 h.2)))
+operation_spelt Neg d c p is at =
+    let h = places_found Neg c p at in (neg_form p.0 p.1, (c, is, (h.0, h.1)))
+
+raw_spelt : (d : Data) (m : Raw) → SpellsRaw d m → (w : Form) × SpellsForm d w
+raw_spelt d (raw_leaf c) is = (leaf_form c, (c, is, refl))
+raw_spelt d (raw op p) h = operation_spelt op d h.0 p h.1 h.2
+
 -- ---- the fault of a form
-
-abbrev failed : {A : Type 0} → FlatError → Result A FlatError
-failed f = Err f
-
-err_is : {A : Type 0} (f g : FlatError) → failed {A = A} f ≡ failed g → f ≡ g
-err_is f g e = cc
-
-before_done : {A B : Type 0} (r : Result A FlatError) (h : A → B) (f : FlatError) → (r >>= λ a. done (h a)) ≡ Err f → r ≡ Err f
-before_done (Ok a) h f e = absurd cc
-before_done (Err g) h f e = ap (λ k. failed k) (err_is g f e)
 
 late : {X : Type 0} (xs : List X) (i : ℕ) → slice_get xs i ≡ None → length xs ≤ i
 late [] i e = omega arith
 late (x ∷ xs) zero e = absurd cc
 late (x ∷ xs) (suc i) e = omega (arith, late xs i e)
+
+past : {X : Type 0} (xs : List X) (i : ℕ) → length xs ≤ i → slice_get xs i ≡ None
+past [] i h = refl
+past (x ∷ xs) zero h = absurd (omega arith)
+past (x ∷ xs) (suc i) h = past xs i (omega (arith, h))
+
+test_of_unlike : (m n : ℕ) → m ≢ n → eqb m n ≡ false
+test_of_unlike m n h =
+    ⊎_elim (λ (t : (eqb m n ≡ true) × (m ≡ n)). absurd (h t.1)) (λ (t : (eqb m n ≡ false) × (m ≢ n)). t.0) (eqb_tells m n)
 
 not_below : (a b : ℕ) → ltb a b ≡ false → b ≤ a
 not_below a b e = ⊎_elim (λ (h : a < b). absurd (cc (sym e ∙ lt-ltb a b h))) (λ (h : b ≤ a). h) (cases_lt a b)
@@ -86,7 +102,7 @@ unlike m n e same = absurd (cc (sym e ∙ (ap (eqb m) (sym same) ∙ itself m)))
     itself : (m : ℕ) → eqb m m ≡ true
     itself m = search (rules, tests)
 
-module _ {S F : Type 0} (kind : Kind S F) (before : List (Tree S)) where
+module _ {S F : Type 0} (kind : Kind S F) (laws : KindLaws kind) (before : List (Tree S)) where
   abbrev both : Tree S → Tree S → Tree S × Tree S
   both t u = (t, u)
 
@@ -188,7 +204,7 @@ module _ {S F : Type 0} (kind : Kind S F) (before : List (Tree S)) where
       some_number m n e = cc
 
   raw_fault : (d : Data) (m : Raw) (f : FlatError) → SpellsRaw d m → raw_at m ≡ Err f → (m : Form) × SpellsForm d m × FormFault kind before m f
-  raw_fault d (raw_leaf c) f is e = (leaf_form c, (c, is, refl), before_done (kind.leaf_at (length before) c) (λ a. leaf_tree a) f e)
+  raw_fault d (raw_leaf c) f is e = (leaf_form c, (c, is, refl), laws.fault_found (length before) c f (before_done (kind.leaf_at (length before) c) (λ a. leaf_tree a) f e))
   raw_fault d (raw op p) f h e = operation_fault op d h.0 p f h.1 h.2 (before_done (operands op p) (λ q. joined_tree op q.0 q.1) f e)
 
   pub node_fault : (d : Data) (f : FlatError) → node_at kind before d ≡ Err f → NodeFault kind before d f
@@ -198,3 +214,66 @@ module _ {S F : Type 0} (kind : Kind S F) (before : List (Tree S)) where
       go : (o : Option Raw) → raw_of d ≡ o → by_raw o ≡ Err f → NodeFault kind before d f
       go None is e = inl ((λ m s. none_found (λ _. ⊥) (raw_form m) (sym is ∙ raw_again d m s)), sym (err_is (faults.Shape (length before)) f e))
       go (Some m) is e = inr (raw_fault d m f (raw_found d m is) e)
+
+  -- ---- what has a fault isn't read
+
+  stated_wrong : {X : Type 0} (n found : ℕ) (t : X) (f : FlatError) → IsMisstated before n found f → stated (length before) n found t ≡ Err f
+  stated_wrong n found t f h =
+      ap (λ b. if b then Ok t else Err (faults.WrongDegree (length before) n found)) (test_of_unlike n found h.0) ∙ ap (λ g. failed g) (sym h.1)
+
+  operand_late : (i : ℕ) (f : FlatError) → IsLate before i f → operand before i ≡ Err f
+  unfolding operand
+  operand_late i f h = ap (operand_of (length before) i) (past before i h.0) ∙ ap (λ g. failed g) (sym h.1)
+
+  operand_there : (i : ℕ) (t : Tree S) → IsAt before i t → operand before i ≡ Ok t
+  unfolding operand
+  operand_there i t h = ap (operand_of (length before) i) h
+
+  operands_fail : {X : Type 0} (x y : ℕ) (k : Tree S → Tree S → Result X FlatError) (rest : Tree S → Tree S → FlatError → Type 0) → ((t u : Tree S) (f : FlatError) → rest t u f → k t u ≡ Err f) → (f : FlatError)
+      → OperandsFault before x y rest f → (operand before x >>= λ t. operand before y >>= λ u. k t u) ≡ Err f
+  operands_fail x y k rest h f (inl late) =
+      ap (λ (r : Result (Tree S) FlatError). r >>= λ t. operand before y >>= λ u. k t u) (operand_late x f late)
+  operands_fail x y k rest h f (inr (t, at, inl late)) =
+      ap (λ (r : Result (Tree S) FlatError). r >>= λ t. operand before y >>= λ u. k t u) (operand_there x t at)
+      ∙ ap (λ (r : Result (Tree S) FlatError). r >>= λ u. k t u) (operand_late y f late)
+  operands_fail x y k rest h f (inr (t, at, inr (u, there, bad))) =
+      ap (λ (r : Result (Tree S) FlatError). r >>= λ t. operand before y >>= λ u. k t u) (operand_there x t at)
+      ∙ ap (λ (r : Result (Tree S) FlatError). r >>= λ u. k t u) (operand_there y u there)
+      ∙ h t u f bad
+
+  product_fails : (n : ℕ) (t u : Tree S) (f : FlatError) → ProductFault kind before n t u f → step Mul n t u ≡ Err f
+  product_fails n t u f (inl (big, is)) =
+      ap (λ b. (if b then Ok (degree kind.term t + degree kind.term u) else Err faults.DegreeOverflow) >>= λ s. stated (length before) n s (both t u)) (le-ltb (degree kind.term t + degree kind.term u) (2 ^ 64) big)
+      ∙ ap (λ g. failed g) (sym is)
+  product_fails n t u f (inr (small, wrong)) =
+      ap (λ b. (if b then Ok (degree kind.term t + degree kind.term u) else Err faults.DegreeOverflow) >>= λ s. stated (length before) n s (both t u)) (lt-ltb (degree kind.term t + degree kind.term u) (2 ^ 64) small)
+      ∙ stated_wrong n (degree kind.term t + degree kind.term u) (both t u) f wrong
+
+  negative_fails : (n x : ℕ) (f : FlatError) → FormFault kind before (neg_form n x) f → operands Neg (n, x, x) ≡ Err f
+  negative_fails n x f (inl late) =
+      ap (λ (r : Result (Tree S) FlatError). r >>= λ t. operand before x >>= λ u. step Neg n t u) (operand_late x f late)
+  negative_fails n x f (inr (t, at, wrong)) =
+      ap (λ (r : Result (Tree S) FlatError). r >>= λ t. operand before x >>= λ u. step Neg n t u) (operand_there x t at)
+      ∙ ap (λ (r : Result (Tree S) FlatError). r >>= λ u. step Neg n t u) (operand_there x t at)
+      ∙ stated_wrong n (degree kind.term t) (both t t) f wrong
+
+  abbrev joins : Operation → Result (Tree S × Tree S) FlatError → Result (Tree S) FlatError
+  joins op r = r >>= λ q. done (joined_tree op q.0 q.1)
+
+  form_fails : (m : Form) (f : FlatError) → FormFault kind before m f → raw_at (raw_form m) ≡ Err f
+  form_fails (leaf_form c) f h = ap (λ (r : Result S FlatError). r >>= λ a. done (leaf_tree a)) (laws.fault_again (length before) c f h)
+  form_fails (add_form n x y) f h =
+      ap (joins Add) (operands_fail x y (step Add n) (SumFault kind before n) (λ t u g. stated_wrong n (max (degree kind.term t) (degree kind.term u)) (both t u) g) f h)
+  form_fails (sub_form n x y) f h =
+      ap (joins Sub) (operands_fail x y (step Sub n) (SumFault kind before n) (λ t u g. stated_wrong n (max (degree kind.term t) (degree kind.term u)) (both t u) g) f h)
+  form_fails (mul_form n x y) f h = ap (joins Mul) (operands_fail x y (step Mul n) (ProductFault kind before n) (product_fails n) f h)
+  form_fails (neg_form n x) f h = ap (joins Neg) (negative_fails n x f h)
+
+  pub node_fails : (d : Data) (f : FlatError) → NodeFault kind before d f → node_at kind before d ≡ Err f
+  unfolding node_at
+  node_fails d f (inl (nowhere, is)) = case_by (only_member d) ∙ go (raw_of d) refl
+    where
+      go : (o : Option Raw) → raw_of d ≡ o → by_raw o ≡ Err f
+      go None e = ap (λ g. failed g) (sym is)
+      go (Some m) e = absurd (let w = raw_spelt d m (raw_found d m e) in nowhere w.0 w.1)
+  node_fails d f (inr (m, spelt, bad)) = case_by (only_member d) ∙ ap by_raw (raw_again d m spelt) ∙ form_fails m f bad
