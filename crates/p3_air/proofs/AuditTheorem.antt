@@ -82,16 +82,18 @@ module _ {F : Type 0} (r : CommRing F) (eq : F → F → Bool) (basis : Basis F 
       same_count : (n : ℕ) → count_shown recorded_list n ≡ count_shown g.declaration.declared n
       same_count n = ap (λ k. if n == 0 then 0 else k) (same_length (itself r) recorded_list g.declaration.declared m)
 
-  pub audited : RecordsBase r (itself r) base_reads audit.recorded.pool.0 audit.recorded.base.items g.declaration.declared
+  pub audited : LayoutHasEntries g.declaration
+      → RecordsBase r (itself r) base_reads audit.recorded.pool.0 audit.recorded.base.items g.declaration.declared
       → RecordsExt r (itself r) (ext_reads basis) audit.recorded.pool audit.recorded.ext.items g.declaration.declared
       → ArePlacesOf (map kind_of g.declaration.declared) audit.layout.base_indices.items audit.layout.ext_indices.items
       → IsReport r eq g cap audit.report
       → IsDegreeFor w (height g) (periods_of g.declaration.periodic) (recorded_terms basis audit.recorded) audit.degree
       → IsAuditUnder r eq basis g cap w audit
-  audited base ext places report degree =
+  audited there base ext places report degree =
       let us = recorded_terms basis audit.recorded in
       let recording = recording_is base ext places in
       record {
+        there = there;
         recorded = recorded_list;
         recording = recording;
         values = λ row. same_values r (row_assignment r (given_trace g) row) recorded_list g.declaration.declared recording.each;
@@ -117,8 +119,9 @@ module _ {F : Type 0} (r : CommRing F) (eq : F → F → Bool) (g : Given F) (ca
       step (inl other) = absurd (own_layout_fits g.declaration e other)
       step (inr refused) = inl refused.1
 
-  pub degree_refused : (report : ConstraintReport) (us vs : List (Term F)) (e : RingError) → IsReport r eq g cap report → LayoutHasEntries g.declaration
+  pub degree_refused : (report : ConstraintReport) (us vs : List (Term F)) (e : RingError) → IsReport r eq g cap report
+      → LayoutHasEntries g.declaration
       → EachRecords (itself r) us (base_terms g.declaration.declared) → EachRecords (itself r) vs (ext_terms g.declaration.declared)
       → AnswersInferred w (height g) (periods_of g.declaration.periodic) (us ++ vs) (Err e) → AuditRefusesUnder r eq g cap w (air_error e)
-  degree_refused report us vs Memory checked there m n h = inl tt
-  degree_refused report us vs DegreeOverflow checked there m n h = inr (there, inr (refl, record { report = report; checked = checked; base = us; ext = vs; base_recorded = m; ext_recorded = n; past = h }))
+  degree_refused report us vs Memory checked answers m n h = inl tt
+  degree_refused report us vs DegreeOverflow checked answers m n h = inr (answers, inr (refl, record { report = report; checked = checked; base = us; ext = vs; base_recorded = m; ext_recorded = n; past = h }))

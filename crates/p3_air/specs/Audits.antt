@@ -78,12 +78,19 @@ pub record ListsFailures {F : Type 0} (r : CommRing F) (eq : F → F → Bool) (
 abbrev pub leaves_over : {F : Type 0} → Given F → ℕ → Leaf → ℕ
 leaves_over g w = leaf_degree w (height g) (periods_of g.declaration.periodic)
 
--- The audit theorem, under a cap and in a domain of weight w. What is recorded at each place has at each row the value
--- tested there; the report lists exactly the nonzero pairs of row and place, in order, of the rows that the cap shows, and
--- then the differing cells, as many as it leaves; and for n rows, n at least 2, each recorded polynomial has degree at most
--- d (n - 1) + 1 for weight 0, d being for n at least 3 the least that the recorded terms allow, and at most d (n - 1) for a
--- weight from 1, d being the least that they allow.
+-- each entry that a declared term names is in the AIR's own layout
+abbrev pub LayoutHasEntries : {F : Type 0} → Declaration F → Type 0
+LayoutHasEntries d = NoneMissing (IsMissing (layout_shape (air_layout d))) d.declared
+
+-- The audit theorem, under a cap and in a domain of weight w. The AIR's own layout has each entry
+-- that a declared term names. What is recorded at each place has at each row the value tested
+-- there; the report lists exactly the nonzero pairs of row and place, in order, of the rows that
+-- the cap shows, and then the differing cells, as many as it leaves; and for n rows, n at least 2,
+-- each recorded polynomial has degree at most d (n - 1) + 1 for weight 0, d being for n at least 3
+-- the least that the recorded terms allow, and at most d (n - 1) for a weight from 1, d being the
+-- least that they allow.
 pub record IsAuditUnder {F : Type 0} (r : CommRing F) (eq : F → F → Bool) (basis : Basis F F) (g : Given F) (cap : Option ℕ) (w : ℕ) (audit : Audit F) : Type 0 where
+  pub there : LayoutHasEntries g.declaration
   pub recorded : List (Assertion F)
   pub recording : IsRecording r basis g.declaration.declared recorded audit
   pub values : (row : ℕ) → values_at_row r g row recorded ≡ values_at_row r g row g.declaration.declared
@@ -107,18 +114,16 @@ pub record IsDegreePast {F : Type 0} (r : CommRing F) (eq : F → F → Bool) (g
   pub ext_recorded : EachRecords (itself r) ext (ext_terms g.declaration.declared)
   pub past : 2 ^ 64 ≤ greatest_degree (domain_weight w (height g) (periods_of g.declaration.periodic)) (base ++ ext)
 
--- each entry that a declared term names is in the AIR's own layout
-abbrev pub LayoutHasEntries : {F : Type 0} → Declaration F → Type 0
-LayoutHasEntries d = NoneMissing (IsMissing (layout_shape (air_layout d))) d.declared
-
--- An audit under a cap refuses what the recording refuses: want of memory, a declared term that names an entry missing in
--- the AIR's own layout, or one whose cached degree passes `usize`. Where no entry is missing there it refuses what the
--- check under the cap refuses, and, where the check answers, a recorded degree past `usize`, as a domain of weight w counts
--- degrees for the trace.
+-- An audit under a cap refuses what the recording refuses: want of memory, a declared term that
+-- names an entry missing in the AIR's own layout, or one whose cached degree passes `usize`. Where
+-- the recording answers it refuses what the check under the cap refuses, and, where the check
+-- answers too, a recorded degree past `usize`, as a domain of weight w counts degrees for the
+-- trace.
 abbrev pub AuditRefusesUnder : {F : Type 0} → CommRing F → (F → F → Bool) → Given F → Option ℕ → ℕ → AirError → Type 0
 AuditRefusesUnder r eq g cap w e =
     Refused (IsMissing (layout_shape (air_layout g.declaration))) (IsOver cached_weight) (λ _. ⊥) e g.declaration.declared
-    ⊎ (LayoutHasEntries g.declaration × (CheckRefuses r eq g cap e ⊎ ((e ≡ DegreeOverflow) × IsDegreePast r eq g cap w)))
+    ⊎ (LayoutHasEntries g.declaration
+    × (CheckRefuses r eq g cap e ⊎ ((e ≡ DegreeOverflow) × IsDegreePast r eq g cap w)))
 
 -- without a cap
 abbrev pub AuditRefuses : {F : Type 0} → CommRing F → (F → F → Bool) → Given F → ℕ → AirError → Type 0

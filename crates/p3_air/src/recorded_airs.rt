@@ -1,6 +1,7 @@
 //! A recording as an AIR.
 ghost use Rattle.std.specs.Prelude.{◌≡◌, List, IfOk, IfErr, IsOkAnd};
 ghost use Rattle.air_symbolic.specs.BaseLeaves.{base_reads};
+ghost use Rattle.air_symbolic.specs.ExtLeaves.{ext_reads};
 ghost use Rattle.air_symbolic.specs.Pools.{IsPool};
 ghost use Rattle.air_builder.specs.Assertion.{Assertion};
 ghost use Rattle.air_author.specs.Constraints.{Asserted};
@@ -32,12 +33,14 @@ pub fn record_these<AB: AirBuilder, C: Constraint<AB>>(
     assert_these(builder, constraints)
 }
 
-/// What was recorded on a builder that is ready, handed over with its pool.
+/// What was recorded on a builder that is ready, handed over with its pool, which is one over the base and over the
+/// extension.
 pub fn finish_recording<F: Field, EF: ExtensionField<F>>(
     builder: SymbolicAirBuilder<F, EF>,
 ) -> Recorded<F, EF>
     requires { ⟦<SymbolicAirBuilder<F, EF> as AirBuilder>⟧.ready builder }
     ensures well_formed { IsPool base_reads result.pool.0 }
+    ensures ext_well_formed { IsPool (ext_reads EF.basis) result.pool }
     ensures pool { result.pool ≡ builder.pool }
     ensures base { result.base ≡ builder.constraints.base }
     ensures ext { result.ext ≡ builder.constraints.ext }

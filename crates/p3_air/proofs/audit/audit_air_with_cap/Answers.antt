@@ -7,6 +7,7 @@ use Rattle.air_symbolic.specs.ExtLeaves.{ext_reads}
 use Rattle.air_recording.specs.Folds.{ArePlacesOf}
 use Rattle.air_report.specs.Given.{given}
 use Rattle.air_recording.specs.Inferred.{AnswersInferred, periods_of}
+use Rattle.air_recording.specs.Layouts.{air_layout}
 use Rattle.air_recording.specs.Recorded.{RecordsBase, RecordsExt, terms_of}
 use Rattle.p3_air.proofs.AuditTheorem.{audited, recording_refused, degree_refused}
 use Rattle.p3_air.proofs.audit.audit_air_with_cap.Goals as goal
@@ -20,7 +21,10 @@ returns-in_err-builder-clause-refused g c =
 pub returns-in_err-report-clause-refused : goal.returns-in_err-report-clause-refused
 returns-in_err-report-clause-refused g c =
     let p = err_from_is_err_and c.from_residual-in_err-report.result c.from_residual-in_err-report.ensures.1 in
-    rw (p.1, p.2) (inr (rw c.from_air.ensures at c.in_ok-builder.ensures.layout.there, inl c.in_err-report.ensures.refused))
+    let r = g.F.Field.ring in
+    let d = g.A.BaseAir.declaration c.args.air.now in
+    let answers = rw c.from_air.ensures at c.in_ok-builder.ensures.layout.there in
+    rw (p.1, p.2) (inr (answers, inl c.in_err-report.ensures.refused))
 
 pub degree_of-requires-clause-pool : goal.degree_of-requires-clause-pool
 degree_of-requires-clause-pool g c = rw c.into_recorded-recorded.ensures.pool c.in_ok-builder.ensures.ext.well_formed
@@ -47,8 +51,9 @@ returns-in_err-degree-clause-refused g c =
     let e = c.in_err-degree.field-0.0 in
     let q = c.deref.ensures.value ∙ (c.in_ok-periods.ensures.lengths ∙ ap periods_of c.periodic_columns.ensures) in
     let past = subst (λ (n : ℕ). AnswersInferred c.args.transition_weight n (periods_of d.periodic) (us ++ vs) (Err e)) c.height.ensures (subst (λ (l : List ℕ). AnswersInferred c.args.transition_weight c.height.result l (us ++ vs) (Err e)) q c.in_err-degree.ensures) in
+    let answers = rw c.from_air.ensures at c.in_ok-builder.ensures.layout.there in
     rw (p.1, p.2)
-    (degree_refused r g.F.PartialEq.eq (given d c.args.main.now c.args.public_values.now) c.args.max_failures c.args.transition_weight c.in_ok-report.report us vs e c.in_ok-report.ensures.report (rw c.from_air.ensures at c.in_ok-builder.ensures.layout.there) base.terms ext.terms past)
+    (degree_refused r g.F.PartialEq.eq (given d c.args.main.now c.args.public_values.now) c.args.max_failures c.args.transition_weight c.in_ok-report.report us vs e c.in_ok-report.ensures.report answers base.terms ext.terms past)
 
 pub returns-clause-audited : goal.returns-clause-audited
 returns-clause-audited g c =
@@ -69,5 +74,5 @@ returns-clause-audited g c =
     let vs = terms_of reads recorded.pool recorded.ext.items in
     audited r eq basis (given d c.args.main.now c.args.public_values.now) c.args.max_failures c.args.transition_weight
     record { recorded = recorded; layout = c.in_ok-layout.layout; report = c.in_ok-report.report; degree = c.in_ok-degree.degree }
-    base ext places c.in_ok-report.ensures.report
+    (rw c.from_air.ensures at c.in_ok-builder.ensures.layout.there) base ext places c.in_ok-report.ensures.report
     (subst (λ n. IsDegreeFor c.args.transition_weight n (periods_of d.periodic) (us ++ vs) c.in_ok-degree.degree) c.height.ensures (subst (λ l. IsDegreeFor c.args.transition_weight c.height.result l (us ++ vs) c.in_ok-degree.degree) q c.in_ok-degree.ensures))
