@@ -1,0 +1,192 @@
+//! Calls that extension pools alone have, and those of the base pool under one.
+ghost use Rattle.std.specs.Prelude.{◌<◌, length, IfOk};
+
+use crate::base_words::base_leaf;
+use crate::bench::{PoolBench, TableLeaf};
+use crate::shown::{Shown, show_all, show_expression, show_operand};
+use air_field::{ExtensionField, Field, RingError};
+use air_symbolic::{BaseLeaf, ExprId, ExtEntry, ExtLeaf, SymbolicVariableExt};
+use cases::words::{Number, count_of, extension_of, show_elements};
+use cases::{Fault, Line, Names, Why};
+
+/// An extension variable: `Permutation OFFSET INDEX`, `Challenge INDEX` or `PermutationValue INDEX`.
+pub fn ext_variable<F: Field, EF: ExtensionField<F>>(
+    words: &[&str],
+) -> Result<SymbolicVariableExt<F, EF>, Fault> {
+    match words {
+        ["Permutation", offset, index] => {
+            let offset = count_of(*offset)?;
+            let index = count_of(*index)?;
+            Ok(SymbolicVariableExt::new(ExtEntry::Permutation { offset }, index))
+        }
+        ["Challenge", index] => {
+            Ok(SymbolicVariableExt::new(ExtEntry::Challenge, count_of(*index)?))
+        }
+        ["PermutationValue", index] => {
+            Ok(SymbolicVariableExt::new(ExtEntry::PermutationValue, count_of(*index)?))
+        }
+        _ => Err(Fault::Unreadable(Why::NoSuchWord)),
+    }
+}
+
+// Adds an entry.
+fn show_entry(entry: ExtEntry, text: &mut String) -> Result<(), Fault> {
+    match entry {
+        ExtEntry::Permutation { offset } => write!(text, "Permutation {offset}")?,
+        ExtEntry::Challenge => text.push_str("Challenge")?,
+        ExtEntry::PermutationValue => text.push_str("PermutationValue")?,
+    }
+    Ok(())
+}
+
+impl<'a, F: Number, EF: ExtensionField<F>> PoolBench<'a, ExtLeaf<F, EF>> {
+    // The expression of a name of the base pool.
+    fn base_at(&self, name: &str) -> Result<ExprId<BaseLeaf<F>>, Fault>
+        ensures { IfOk result (λ x. x < length self.now.0.1) }
+    {
+        let x = self.base_names.get(name)?;
+        if self.pool.base().contains(x) {
+            Ok(x)
+        } else {
+            Err(Fault::Unreadable(Why::OtherPool))
+        }
+    }
+
+    fn push_base_leaf(&mut self, leaf: BaseLeaf<F>) -> Result<ExprId<BaseLeaf<F>>, RingError> {
+        self.pool.base_mut().leaf_expr(leaf)
+    }
+
+    fn push_base_sum(
+        &mut self,
+        x: ExprId<BaseLeaf<F>>,
+        y: ExprId<BaseLeaf<F>>,
+    ) -> Result<ExprId<BaseLeaf<F>>, RingError>
+        requires x_in { x < length self.old.0.1 }
+        requires y_in { y < length self.old.0.1 }
+    {
+        self.pool.base_mut().add(x, y)
+    }
+
+    // Adds what an expression of the base pool is that a line made, and gives it the line's name.
+    fn keep_base(
+        &mut self,
+        line: &Line<'a>,
+        x: ExprId<BaseLeaf<F>>,
+        text: &mut String,
+    ) -> Result<(), Fault> {
+        show_expression(
+            self.pool.base(),
+            &self.base_names,
+            &self.base_names,
+            x,
+            text,
+        )?;
+        if let Some(name) = line.name {
+            self.base_names.bind(name, x, line.times.is_some())?;
+        }
+        Ok(())
+    }
+
+    // Answers a call of the base pool.
+    fn answer_base(
+        &mut self,
+        line: &Line<'a>,
+        words: &[&str],
+        text: &mut String,
+    ) -> Result<(), Fault> {
+        let x = match words {
+            ["leaf_expr", leaf @ ..] => self.push_base_leaf(base_leaf(leaf)?)?,
+            ["add", x, y] => {
+                let x = self.base_at(*x)?;
+                let y = self.base_at(*y)?;
+                self.push_base_sum(x, y)?
+            }
+            ["len"] if line.name.is_none() => {
+                let count = self.pool.base().len();
+                write!(text, "{count}")?;
+                return Ok(());
+            }
+            _ => return Err(Fault::Unreadable(Why::NoSuchCall)),
+        };
+        self.keep_base(line, x, text)
+    }
+
+    fn answer_to_base(&mut self, line: &Line<'a>, x: &str, text: &mut String) -> Result<(), Fault> {
+        let x = self.at(x)?;
+        match self.pool.to_base(x)? {
+            Some(b) => self.keep_base(line, b, text),
+            None if line.name.is_none() => {
+                text.push_str("None")?;
+                Ok(())
+            }
+            None => Err(Fault::Unreadable(Why::MakesNothing)),
+        }
+    }
+
+    // Answers a call that makes no extension expression, if the line is one.
+    fn answer_in_base(&mut self, line: &Line<'a>, text: &mut String) -> Result<bool, Fault> {
+        match line.words.as_slice() {
+            ["base", words @ ..] => self.answer_base(line, words, text)?,
+            ["to_base", x] => self.answer_to_base(line, *x, text)?,
+            _ => return Ok(false),
+        }
+        Ok(true)
+    }
+}
+
+impl<F: Number, EF: ExtensionField<F>> Shown for ExtLeaf<F, EF> {
+    fn number(c: F) -> u64 {
+        c.number()
+    }
+
+    fn show(&self, base: &Names<'_, ExprId<BaseLeaf<F>>>, text: &mut String) -> Result<(), Fault> {
+        match self {
+            ExtLeaf::Base(x) => {
+                text.push_str("Base ")?;
+                show_operand(base, *x, text)
+            }
+            ExtLeaf::ExtVariable(v) => {
+                show_entry(v.entry, text)?;
+                let index = v.index;
+                write!(text, " {index}")?;
+                Ok(())
+            }
+            ExtLeaf::ExtConstant(c) => {
+                text.push_str("ExtConstant ")?;
+                show_elements(c.as_basis_coefficients_slice(), text)
+            }
+        }
+    }
+}
+
+impl<F: Number, EF: ExtensionField<F>> TableLeaf for ExtLeaf<F, EF> {
+    fn answer<'a>(
+        bench: &mut PoolBench<'a, Self>,
+        line: &Line<'a>,
+        text: &mut String,
+    ) -> Result<bool, Fault> {
+        let x = match line.words.as_slice() {
+            ["variable", variable @ ..] => bench.pool.variable(ext_variable(variable)?)?,
+            ["ext_constant", coefficients @ ..] => {
+                let c = extension_of(bench.names.alloc(), coefficients)?;
+                bench.pool.ext_constant(c)?
+            }
+            ["lift", x] => {
+                let x = bench.base_at(*x)?;
+                bench.pool.lift(x)?
+            }
+            _ => return bench.answer_in_base(line, text),
+        };
+        bench.keep(line, x, text)?;
+        Ok(true)
+    }
+
+    fn show_under(bench: &PoolBench<'_, Self>, text: &mut String) -> Result<(), Fault> {
+        show_all(
+            bench.pool.base(),
+            &bench.base_names,
+            &bench.base_names,
+            text,
+        )
+    }
+}

@@ -1,0 +1,82 @@
+//! Calls that need no pool.
+
+use crate::base_words::base_variable;
+use crate::ext_words::ext_variable;
+use air_core::{BoundaryEnd, BoundaryPublic};
+use air_field::{BabyBear, BinomialExtensionField};
+use air_symbolic::{BaseEntry, ExtEntry, SymbolicVariable, SymbolicVariableExt};
+use air_wire::Spelled;
+use cases::words::{count_of, counts_of, value_of};
+use cases::{Fault, Why};
+use std::alloc::Global;
+use std::fmt::Debug;
+
+// Adds what a word spells, if it is the spelling of that.
+fn show_spelt<S: Spelled + Debug + Drop>(
+    alloc: Global,
+    word: &str,
+    text: &mut String,
+) -> Result<(), Fault> {
+    let x = S::from_value(alloc, &value_of(alloc, word)?)?;
+    let written = x.to_value(alloc)?.to_string(alloc)?;
+    if written.as_str() == word {
+        write!(text, "{x:?}")?;
+    } else {
+        write!(text, "{x:?}, which is spelt {written}")?;
+    }
+    Ok(())
+}
+
+fn show_spelling(alloc: Global, kind: &str, word: &str, text: &mut String) -> Result<(), Fault> {
+    match kind {
+        "BaseEntry" => show_spelt::<BaseEntry>(alloc, word, text),
+        "ExtEntry" => show_spelt::<ExtEntry>(alloc, word, text),
+        "SymbolicVariable" => show_spelt::<SymbolicVariable<BabyBear>>(alloc, word, text),
+        "SymbolicVariableExt" => {
+            show_spelt::<SymbolicVariableExt<BabyBear, BinomialExtensionField>>(alloc, word, text)
+        }
+        "BoundaryEnd" => show_spelt::<BoundaryEnd>(alloc, word, text),
+        "BoundaryPublic" => show_spelt::<BoundaryPublic>(alloc, word, text),
+        _ => Err(Fault::Unreadable(Why::NoSuchWord)),
+    }
+}
+
+// Adds the degree that nodes state of a base variable, and that over some rows.
+fn show_base_degrees(
+    alloc: Global,
+    rows: &str,
+    periods: &str,
+    words: &[&str],
+    text: &mut String,
+) -> Result<(), Fault> {
+    let variable: SymbolicVariable<BabyBear> = base_variable(words)?;
+    let periods = counts_of(alloc, periods)?;
+    let rows = count_of(rows)?;
+    let stated = variable.degree_multiple();
+    let over_rows = variable.poly_degree(rows, periods.as_slice());
+    write!(text, "{stated}, over {rows} rows {over_rows}")?;
+    Ok(())
+}
+
+// The same of an extension variable.
+fn show_ext_degrees(rows: &str, words: &[&str], text: &mut String) -> Result<(), Fault> {
+    let variable: SymbolicVariableExt<BabyBear, BinomialExtensionField> = ext_variable(words)?;
+    let rows = count_of(rows)?;
+    let stated = variable.degree_multiple();
+    let over_rows = variable.poly_degree(rows);
+    write!(text, "{stated}, over {rows} rows {over_rows}")?;
+    Ok(())
+}
+
+/// Adds what a call answers that needs no pool, if the words are one.
+pub fn answer_alone(alloc: Global, words: &[&str], text: &mut String) -> Result<bool, Fault> {
+    match words {
+        ["spelling", kind, word] => show_spelling(alloc, *kind, *word, text)?,
+        ["variable_degrees", rows, periods, variable @ ..] => {
+            show_base_degrees(alloc, *rows, *periods, variable, text)?
+        }
+        ["ext_variable_degrees", rows, variable @ ..] => show_ext_degrees(*rows, variable, text)?,
+        _ => return Ok(false),
+    }
+    Ok(true)
+}
