@@ -1,0 +1,2 @@
+//! Tests, a file a layer.
+mod checks;
