@@ -82,13 +82,12 @@ pub fn show_flat_check(
         input.periodic,
         input.cells,
     );
-    let public_values = input.public_values;
     show_check(
         alloc,
         call,
         &air,
         &input.main,
-        &public_values,
+        &input.public_values,
         input.cap,
         text,
     )

@@ -1,0 +1,258 @@
+//! Checks of an AIR of expressions and of one with periodic columns, and recordings over an extension.
+ghost use Rattle.std.specs.Prelude.{◌≡◌, [], ◌∷◌, None};
+ghost use Rattle.air_field.specs.Term.{add_term, challenge, leaf_term, main, mul_term, periodic, permutation, sub_term};
+ghost use Rattle.air_builder.specs.Assertion.{Base, Extension};
+ghost use Rattle.air_builder.specs.Declaration.{plain_declaration};
+ghost use Rattle.air_bench.specs.More.{cycles, lookups, lookup_term};
+
+use crate::wide::Wide;
+use p3_air::author::{
+    All, Challenge, Condition, Constraint, Current, Difference, ExtZero, Family, Lifted, Periodic,
+    PermutationCurrent, PermutationNext, Product, Sum, Zero, assert_all,
+};
+use p3_air::{
+    Air, AirBuilder, AirError, AirLayout, BabyBear, BaseAir, BinomialExtensionField,
+    BoundaryPublic, Field, FlatAir, FromVar, PermutationAirBuilder, RowMajorMatrix,
+    check_all_constraints, get_all_symbolic_constraints, get_symbolic_constraints, recorded_air,
+};
+use std::alloc::Global;
+
+/// The product of each of eight columns and its periodic column is zero.
+#[derive(Drop)]
+pub struct Cycles<F> {
+    columns: Vec<Vec<F>>,
+}
+
+#[derive(Clone, Copy, Drop)]
+struct Products {}
+
+impl<AB: AirBuilder> Family<AB> for Products {
+    ghost size = { λ _. 8 };
+
+    ghost asserts_at = { λ _ i f _. Base (f (mul_term (leaf_term (periodic i)) (leaf_term (main 0 i)))) ∷ [] };
+
+    fn size(&self) -> usize {
+        8
+    }
+
+    fn assert_at<K: Condition<AB>>(
+        &self,
+        index: usize,
+        builder: &mut AB,
+        condition: &K,
+    ) -> Result<(), AirError> {
+        Zero(Product(Periodic(index), Current(index))).assert_under(builder, condition)
+    }
+}
+
+impl<F: Field> BaseAir<F> for Cycles<F> {
+    ghost declaration = { λ a. record {
+      declared = cycles;
+      width = 8;
+      num_public_values = 0;
+      preprocessed = None;
+      periodic = a.columns.items;
+      cells = [];
+    } };
+
+    fn width(&self) -> usize {
+        8
+    }
+
+    fn num_public_values(&self) -> usize {
+        0
+    }
+
+    fn preprocessed_trace(&self) -> Option<&RowMajorMatrix<F>> {
+        None
+    }
+
+    fn periodic_columns(&self) -> &[Vec<F>] {
+        &self.columns
+    }
+
+    fn public_boundary_io(&self) -> &[BoundaryPublic] {
+        &[]
+    }
+}
+
+impl<AB: AirBuilder> Air<AB> for Cycles<AB::F> {
+    fn eval(&self, builder: &mut AB) -> Result<(), AirError> {
+        assert_all(builder, &All(Products {}))
+    }
+}
+
+/// Over 32 permutation columns: the sum of each and a challenge, times the main column, is the next of it.
+#[derive(Clone, Copy, Drop)]
+pub struct Lookups {
+    count: usize,
+}
+
+#[derive(Clone, Copy, Drop)]
+struct Steps {
+    count: usize,
+}
+
+impl<AB: PermutationAirBuilder> Family<AB> for Steps
+where
+    AB::ExtRing: FromVar<AB::F, AB::RandomVar> + FromVar<AB::F, AB::PermutationVar>,
+{
+    ghost size = { λ s. s.count };
+
+    ghost asserts_at = { λ _ i _ g. Extension (g (lookup_term i)) ∷ [] };
+
+    fn size(&self) -> usize {
+        self.count
+    }
+
+    fn assert_at<K: Condition<AB>>(
+        &self,
+        index: usize,
+        builder: &mut AB,
+        condition: &K,
+    ) -> Result<(), AirError> {
+        let shifted = Sum(PermutationCurrent(index), Challenge(0));
+        let product = Product(shifted, Lifted(Current(index)));
+        ExtZero(Difference(product, PermutationNext(index))).assert_under(builder, condition)
+    }
+}
+
+impl<F: Copy> BaseAir<F> for Lookups {
+    ghost declaration = { λ s. plain_declaration (lookups s.count) 32 0 };
+
+    fn width(&self) -> usize {
+        32
+    }
+
+    fn num_public_values(&self) -> usize {
+        0
+    }
+
+    fn preprocessed_trace(&self) -> Option<&RowMajorMatrix<F>> {
+        None
+    }
+
+    fn periodic_columns(&self) -> &[Vec<F>] {
+        &[]
+    }
+
+    fn public_boundary_io(&self) -> &[BoundaryPublic] {
+        &[]
+    }
+}
+
+impl<AB: PermutationAirBuilder> Air<AB> for Lookups
+where
+    AB::ExtRing: FromVar<AB::F, AB::RandomVar> + FromVar<AB::F, AB::PermutationVar>,
+{
+    fn eval(&self, builder: &mut AB) -> Result<(), AirError> {
+        assert_all(builder, &All(Steps { count: self.count }))
+    }
+}
+
+/// A trace of so many columns and rows of zeros.
+fn zeros(alloc: Global, width: usize, rows: usize) -> Result<RowMajorMatrix<BabyBear>, AirError> {
+    let mut values = Vec::new(alloc);
+    for _ in 0..rows {
+        for _ in 0..width {
+            values.push(BabyBear::ZERO).map_err(|_| AirError::Memory)?;
+        }
+    }
+    Ok(RowMajorMatrix::new(values, width)?)
+}
+
+/// The failures that a check finds, and the constraints of a row.
+fn counted(
+    alloc: Global,
+    air: &FlatAir<BabyBear>,
+    main: &RowMajorMatrix<BabyBear>,
+) -> Result<usize, AirError> {
+    let report = check_all_constraints(alloc, air, main, &[], None)?;
+    Ok(
+        report
+            .failures
+            .len()
+            .wrapping_add(report.total_constraints_per_row),
+    )
+}
+
+/// The failures that a check finds, and the constraints of a row.
+fn counted_cycles(
+    alloc: Global,
+    air: &Cycles<BabyBear>,
+    main: &RowMajorMatrix<BabyBear>,
+) -> Result<usize, AirError> {
+    let report = check_all_constraints(alloc, air, main, &[], None)?;
+    Ok(
+        report
+            .failures
+            .len()
+            .wrapping_add(report.total_constraints_per_row),
+    )
+}
+
+/// The failures that so many checks of the recorded wide AIR find.
+pub fn check_flat(alloc: Global, rounds: usize, rows: usize) -> Result<usize, AirError> {
+    let wide = Wide { count: 64 };
+    let layout = AirLayout::from_air::<BabyBear, Wide>(&wide);
+    let recorded = get_symbolic_constraints::<BabyBear, Wide>(alloc, &wide, layout)?;
+    let air = recorded_air(recorded, 64, 0, Vec::new(alloc), Vec::new(alloc))?;
+    let main = zeros(alloc, 64, rows)?;
+    let mut count = 0usize;
+    for _ in 0..rounds {
+        count = count.wrapping_add(counted(alloc, &air, &main)?);
+    }
+    Ok(count)
+}
+
+/// The failures that so many checks of the AIR with periodic columns find.
+pub fn check_cycles(alloc: Global, rounds: usize, rows: usize) -> Result<usize, AirError> {
+    let mut columns = Vec::new(alloc);
+    for _ in 0..8 {
+        let column = vec![in alloc; BabyBear::ONE; 8].map_err(|_| AirError::Memory)?;
+        columns.push(column).map_err(|_| AirError::Memory)?;
+    }
+    let air = Cycles { columns };
+    let main = zeros(alloc, 8, rows)?;
+    let mut count = 0usize;
+    for _ in 0..rounds {
+        count = count.wrapping_add(counted_cycles(alloc, &air, &main)?);
+    }
+    Ok(count)
+}
+
+/// The constraints over the extension that so many recordings record.
+pub fn record_lookups(alloc: Global, rounds: usize) -> Result<usize, AirError> {
+    let air = Lookups { count: 32 };
+    let layout = AirLayout {
+        preprocessed_width: 0,
+        main_width: 32,
+        num_public_values: 0,
+        permutation_width: 32,
+        num_permutation_challenges: 1,
+        num_permutation_values: 0,
+        num_periodic_columns: 0,
+    };
+    let mut count = 0usize;
+    for _ in 0..rounds {
+        let recorded = get_all_symbolic_constraints::<BabyBear, BinomialExtensionField, Lookups>(
+            alloc, &air, layout,
+        )?;
+        count = count.wrapping_add(recorded.ext.len());
+    }
+    Ok(count)
+}
+
+/// The constraints that so many recordings of the wide AIR with the extension record.
+pub fn record_wide_ext(alloc: Global, rounds: usize) -> Result<usize, AirError> {
+    let air = Wide { count: 64 };
+    let mut count = 0usize;
+    for _ in 0..rounds {
+        let layout = AirLayout::from_air::<BabyBear, Wide>(&air);
+        let recorded = get_all_symbolic_constraints::<BabyBear, BinomialExtensionField, Wide>(
+            alloc, &air, layout,
+        )?;
+        count = count.wrapping_add(recorded.base.len());
+    }
+    Ok(count)
+}
