@@ -41,4 +41,7 @@ module _ {F EF : Type 0} (r : CommRing F) (basis : Basis F EF) where
     base_means_stays = λ p q x t g h. record { pool = g.pool h.pool; base = means-kept r base_reads base_grows tt (base_leaf_laws r) p.0 q.0 x t g.under h.base };
     base_means_has = λ p x t h. record { pool = h.pool; base = record { pool = h.base.pool; here = h.base.here } };
     base_has_valid = λ p x h. h.pool;
+    base_means_some = λ p x h.
+        let some = (pool_laws r base_reads base_grows tt (base_leaf_laws r)).means_some p.0 x h.base in
+        (some.0, record { pool = h.pool; base = some.1 });
   }

@@ -1,5 +1,5 @@
 //! Pools of base expressions.
-ghost use Rattle.std.specs.Prelude.{◌≡◌, IfOk, IfErr, OnErr};
+ghost use Rattle.std.specs.Prelude.{◌≡◌, refl, IfOk, IfErr, OnErr};
 ghost use Rattle.air_field.specs.Algebra.{Made};
 ghost use Rattle.air_field.specs.Term.{leaf_term};
 ghost use Rattle.air_core.specs.Entries.{entry_leaf};
@@ -62,4 +62,6 @@ impl<F: Field> FromVar<F, SymbolicVariable<F>> for ExprPool<BaseLeaf<F>> {
     fn from_var(&mut self, v: SymbolicVariable<F>) -> Result<ExprId<BaseLeaf<F>>, RingError> {
         self.variable(v)
     }
+
+    ghost var_means_some = { λ v. (leaf_term (entry_leaf v.entry v.index), refl) };
 }

@@ -1,5 +1,5 @@
 //! Pools of extension expressions.
-ghost use Rattle.std.specs.Prelude.{◌≡◌, ◌<◌, length, IfOk, IfErr, OnErr};
+ghost use Rattle.std.specs.Prelude.{◌≡◌, ◌<◌, length, refl, IfOk, IfErr, OnErr};
 ghost use Rattle.air_field.specs.ExtAlgebra.{Lifted};
 ghost use Rattle.air_field.specs.Term.{leaf_term, ext_const_term};
 ghost use Rattle.air_core.specs.ExtEntries.{ext_entry_leaf};
@@ -85,6 +85,8 @@ impl<F: Field, EF: ExtensionField<F>> FromVar<F, SymbolicVariableExt<F, EF>>
     ) -> Result<ExprId<ExtLeaf<F, EF>>, RingError> {
         self.variable(v)
     }
+
+    ghost var_means_some = { λ v. (leaf_term (ext_entry_leaf v.entry v.index), refl) };
 }
 
 impl<F: Field, EF: ExtensionField<F>> ExtAlgebra<F, EF> for ExprPool<ExtLeaf<F, EF>> {

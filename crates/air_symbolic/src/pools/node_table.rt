@@ -17,8 +17,9 @@ pub struct NodeTable<N: Copy + Ord> {
     nodes: Vec<N>,
     // the newest first: a search reads a block's keys from the first on, and new nodes mostly name new ones
     numbers: BTreeMap<Reverse<N>, usize>,
-    // by place, a number that a node of this place may have
-    remembered: [usize; PLACES],
+    // by place, a number that a node of this place may have; without places until one is remembered, so that a pool is
+    // small to move
+    remembered: Vec<usize>,
 }
 
 impl<N: Copy + Ord> Model for NodeTable<N> {
@@ -40,7 +41,7 @@ impl<N: Copy + Ord> NodeTable<N> {
         NodeTable {
             nodes: Vec::new(alloc),
             numbers: BTreeMap::new(alloc),
-            remembered: [0; PLACES],
+            remembered: Vec::new(alloc),
         }
     }
 
@@ -77,7 +78,7 @@ impl<N: Copy + Ord> NodeTable<N> {
         requires exact { (n : N) → N.eq node.now n ≡ true → node.now ≡ n }
         ensures { IfSome result (λ i. slice_get self.now i ≡ Some node.now) }
     {
-        let number = self.remembered[place % PLACES];
+        let number = *self.remembered.get(place % PLACES)?;
         if node == self.nodes.get(number)? {
             return Some(number);
         }
@@ -88,7 +89,16 @@ impl<N: Copy + Ord> NodeTable<N> {
     pub fn remember(&mut self, place: usize, number: usize)
         ensures { self.new ≡ self.old }
     {
-        self.remembered[place % PLACES] = number;
+        if self.remembered.is_empty() {
+            // What can't be remembered for want of memory is looked for.
+            let Ok(places) = vec![in *self.nodes.allocator(); 0; PLACES] else {
+                return;
+            };
+            self.remembered = places;
+        }
+        if let Some(at) = self.remembered.get_mut(place % PLACES) {
+            *at = number;
+        }
     }
 
     /// One more node, and its number. Where memory is refused, nothing has changed.
