@@ -11,6 +11,8 @@ pub mod fold;
 mod folded;
 mod insert;
 mod joined;
+mod keys;
+mod kind_table;
 mod lending;
 mod lower;
 mod node_table;

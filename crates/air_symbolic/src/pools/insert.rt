@@ -34,10 +34,7 @@ fn names_newest<A: SymLeaf>(node: &SymbolicExpr<A>, count: usize) -> bool
 }
 
 // The number of a node, if it is there; the map is not asked for one that names the newest.
-fn number_of<A: SymLeaf>(
-    nodes: &NodeTable<SymbolicExpr<A>>,
-    node: &SymbolicExpr<A>,
-) -> Option<usize>
+fn number_of<A: SymLeaf>(nodes: &NodeTable<A>, node: &SymbolicExpr<A>) -> Option<usize>
     requires older { (i : ℕ) (n : SymbolicExpr A) → slice_get nodes.now i ≡ Some n → OperandsBelow i
         n }
     ensures { MatchOption result ((i : ℕ) → slice_get nodes.now i ≢ Some node.now)

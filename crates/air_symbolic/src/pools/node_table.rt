@@ -1,46 +1,61 @@
-//! Nodes in the order of their numbers, and the number of each in an ordered map.
+//! Nodes in the order of their numbers, and the number of each in an ordered map of its kind.
 ghost use Rattle.std.specs.Prelude.{◌≡◌, ◌≢◌, ◌<◌, ◌++◌, [], ◌∷◌, ℕ, length, Some, MatchOption, IfOk, OnErr, IfSome, true};
 ghost use Rattle.std.specs.declared.cmp.Ordering.TheVariants.{Equal};
 ghost use Rattle.std.specs.List.{slice_get};
+ghost use Rattle.air_symbolic.specs.declared.pools.expr.SymbolicExpr.{SymbolicExpr};
 
+use crate::pools::expr::SymbolicExpr;
+use crate::pools::keys::{Operand, Operands};
+use crate::pools::kind_table::KindTable;
 use std::alloc::{AllocError, Global};
-use std::cmp::Reverse;
-use std::collections::BTreeMap;
 use std::marker::Model;
 
 // How many places remember a number.
 const PLACES: usize = 256;
 
-/// Nodes by their numbers, which are handed out in order. A map finds a node's number, so that no call walks the list.
+/// Nodes by their numbers, which are handed out in order. Maps find a node's number, so that no call walks the list.
 #[derive(Drop)]
-pub struct NodeTable<N: Copy + Ord> {
-    nodes: Vec<N>,
-    // the newest first: a search reads a block's keys from the first on, and new nodes mostly name new ones
-    numbers: BTreeMap<Reverse<N>, usize>,
-    // by place, a number that a node of this place may have
-    remembered: [usize; PLACES],
+pub struct NodeTable<A: Copy + Ord> {
+    nodes: Vec<SymbolicExpr<A>>,
+    leaves: KindTable<A>,
+    sums: KindTable<Operands>,
+    differences: KindTable<Operands>,
+    negatives: KindTable<Operand>,
+    products: KindTable<Operands>,
+    // by place, a number that a node of this place may have; without places until one is remembered, so that a pool is
+    // small to move
+    remembered: Vec<usize>,
 }
 
-impl<N: Copy + Ord> Model for NodeTable<N> {
+impl<A: Copy + Ord> Model for NodeTable<A> {
     ghost use Rattle.std.specs.Prelude.{List};
-    ghost use Rattle.air_symbolic.specs.Numbering.{MapsToNumbers};
+    ghost use Rattle.air_symbolic.specs.Numbering.{AreNumbered, numbers_by};
+    ghost use Rattle.air_symbolic.specs.declared.pools.expr.SymbolicExpr.{SymbolicExpr};
 
-    ghost Value = { List N };
+    ghost Value = { List (SymbolicExpr A) };
 
     ghost view = { λ t. t.nodes.items };
 
-    ghost invariant = { λ t. MapsToNumbers N.cmp t.nodes.items t.numbers };
+    ghost invariant = { λ t. AreNumbered t.nodes.items (numbers_by A.cmp t.leaves.numbers)
+        (numbers_by ⟦<Operands as Ord>⟧.cmp t.sums.numbers)
+        (numbers_by ⟦<Operands as Ord>⟧.cmp t.differences.numbers)
+        (numbers_by ⟦<Operand as Ord>⟧.cmp t.negatives.numbers)
+        (numbers_by ⟦<Operands as Ord>⟧.cmp t.products.numbers) };
 }
 
-impl<N: Copy + Ord> NodeTable<N> {
+impl<A: Copy + Ord> NodeTable<A> {
     /// A table without nodes. It takes no memory.
     pub fn new(alloc: Global) -> Self
         ensures { result ≡ [] }
     {
         NodeTable {
             nodes: Vec::new(alloc),
-            numbers: BTreeMap::new(alloc),
-            remembered: [0; PLACES],
+            leaves: KindTable::new(alloc),
+            sums: KindTable::new(alloc),
+            differences: KindTable::new(alloc),
+            negatives: KindTable::new(alloc),
+            products: KindTable::new(alloc),
+            remembered: Vec::new(alloc),
         }
     }
 
@@ -57,7 +72,7 @@ impl<N: Copy + Ord> NodeTable<N> {
     }
 
     /// The node of a number.
-    pub fn get(&self, number: usize) -> &N
+    pub fn get(&self, number: usize) -> &SymbolicExpr<A>
         requires { number < length self.now }
         ensures { slice_get self.now number ≡ Some result.now }
     {
@@ -65,20 +80,56 @@ impl<N: Copy + Ord> NodeTable<N> {
     }
 
     /// The number of a node, if it is there.
-    pub fn find(&self, node: &N) -> Option<usize>
+    pub fn find(&self, node: &SymbolicExpr<A>) -> Option<usize>
         ensures { MatchOption result ((i : ℕ) → slice_get self.now i ≢ Some node.now)
             (λ i. slice_get self.now i ≡ Some node.now) }
     {
-        self.numbers.get(&Reverse(*node)).copied()
+        match *node {
+            SymbolicExpr::Leaf(a) => self.leaves.find(a),
+            SymbolicExpr::Add {
+                x,
+                y,
+                degree_multiple,
+            } => self.sums.find(Operands {
+                x: x.number(),
+                y: y.number(),
+                degree_multiple,
+            }),
+            SymbolicExpr::Sub {
+                x,
+                y,
+                degree_multiple,
+            } => self.differences.find(Operands {
+                x: x.number(),
+                y: y.number(),
+                degree_multiple,
+            }),
+            SymbolicExpr::Neg { x, degree_multiple } => {
+                self.negatives.find(Operand {
+                    x: x.number(),
+                    degree_multiple,
+                })
+            }
+            SymbolicExpr::Mul {
+                x,
+                y,
+                degree_multiple,
+            } => self.products.find(Operands {
+                x: x.number(),
+                y: y.number(),
+                degree_multiple,
+            }),
+        }
     }
 
     /// The number that is remembered at a place, if it is the node's.
-    pub fn recall(&self, place: usize, node: &N) -> Option<usize>
-        requires exact { (n : N) → N.eq node.now n ≡ true → node.now ≡ n }
+    pub fn recall(&self, place: usize, node: &SymbolicExpr<A>) -> Option<usize>
+        requires exact { (n : SymbolicExpr A) → ⟦<SymbolicExpr<A> as PartialEq>⟧.eq node.now n ≡ true
+            → node.now ≡ n }
         ensures { IfSome result (λ i. slice_get self.now i ≡ Some node.now) }
     {
-        let number = self.remembered[place % PLACES];
-        if node == self.nodes.get(number)? {
+        let number = *self.remembered.get(place % PLACES)?;
+        if number < self.nodes.len() && node == self.get(number) {
             return Some(number);
         }
         None
@@ -88,12 +139,21 @@ impl<N: Copy + Ord> NodeTable<N> {
     pub fn remember(&mut self, place: usize, number: usize)
         ensures { self.new ≡ self.old }
     {
-        self.remembered[place % PLACES] = number;
+        if self.remembered.is_empty() {
+            // What can't be remembered for want of memory is looked for.
+            let Ok(places) = vec![in *self.nodes.allocator(); 0; PLACES] else {
+                return;
+            };
+            self.remembered = places;
+        }
+        if let Some(at) = self.remembered.get_mut(place % PLACES) {
+            *at = number;
+        }
     }
 
     /// One more node, and its number. Where memory is refused, nothing has changed.
-    pub fn push(&mut self, node: N) -> Result<usize, AllocError>
-        requires exact { (n : N) → N.cmp node n ≡ Equal → node ≡ n }
+    pub fn push(&mut self, node: SymbolicExpr<A>) -> Result<usize, AllocError>
+        requires exact { (a b : A) → A.cmp a b ≡ Equal → a ≡ b }
         requires absent { (i : ℕ) → slice_get self.old i ≢ Some node }
         ensures numbered { IfOk result (λ i. i ≡ length self.old) }
         ensures pushed { IfOk result (λ _. self.new ≡ self.old ++ node ∷ []) }
@@ -101,7 +161,54 @@ impl<N: Copy + Ord> NodeTable<N> {
     {
         let number = self.nodes.len();
         self.nodes.reserve(1)?;
-        self.numbers.insert(Reverse(node), number)?;
+        match &node {
+            SymbolicExpr::Leaf(a) => self.leaves.enter(*a, number)?,
+            SymbolicExpr::Add {
+                x,
+                y,
+                degree_multiple,
+            } => self.sums.enter(
+                Operands {
+                    x: x.number(),
+                    y: y.number(),
+                    degree_multiple: *degree_multiple,
+                },
+                number,
+            )?,
+            SymbolicExpr::Sub {
+                x,
+                y,
+                degree_multiple,
+            } => self.differences.enter(
+                Operands {
+                    x: x.number(),
+                    y: y.number(),
+                    degree_multiple: *degree_multiple,
+                },
+                number,
+            )?,
+            SymbolicExpr::Neg { x, degree_multiple } => {
+                self.negatives.enter(
+                    Operand {
+                        x: x.number(),
+                        degree_multiple: *degree_multiple,
+                    },
+                    number,
+                )?
+            }
+            SymbolicExpr::Mul {
+                x,
+                y,
+                degree_multiple,
+            } => self.products.enter(
+                Operands {
+                    x: x.number(),
+                    y: y.number(),
+                    degree_multiple: *degree_multiple,
+                },
+                number,
+            )?,
+        }
         self.nodes.push_reserved(node);
         Ok(number)
     }

@@ -13,7 +13,7 @@ use std::marker::Model;
 /// Expressions, each tree once, over what their leaves name.
 #[derive(Drop)]
 pub struct ExprPool<A: SymLeaf> {
-    pub(crate) nodes: NodeTable<SymbolicExpr<A>>,
+    pub(crate) nodes: NodeTable<A>,
     pub(crate) under: A::Under,
 }
 
