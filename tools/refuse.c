@@ -1,4 +1,4 @@
-/* Preloaded before a program by ./growths: counts its requests for memory, and refuses one of them.
+/* Preloaded before a program by tools/growths: counts its requests for memory, and refuses one of them.
    GROWTHS_REFUSED is the number of the one that is refused, from 1 (none where it is absent);
    GROWTHS_COUNT names a file of eight bytes that holds the count, also once the program has ended. */
 #include <errno.h>
