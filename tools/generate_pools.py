@@ -2,7 +2,7 @@
 """Writes the tables of crates/cases_pools/data that no hand writes: generate_pools.py FOLDER
 
 FOLDER/shared_nodes.txt: calls that make nodes again, and a shared node's list.
-FOLDER/generated.txt: calls of base pools and lists of nodes, good ones and damaged ones, by chance from the seed 19; ten
+FOLDER/generated.txt: calls of base pools and lists of nodes, good ones and damaged ones, by chance with seed 19; ten
 pools.
 
 The wanted answers come from the rules of folding, reading and degrees as they are written here, over a list of nodes that
