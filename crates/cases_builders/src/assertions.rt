@@ -1,4 +1,6 @@
-//! Assertions over constants, by the words of their calls. A call knows the builder by its traits alone.
+//! Assertions over constants, by the words of their calls. A call knows the builder by its traits alone. Calls on as many
+//! elements stand together: the elements are made first, by one loan of the ring, and then the call is one of them.
+ghost use Rattle.std.specs.Prelude.{OnOk};
 
 use crate::constants::{
     constant, ext_constant, four_constants, three_constants, two_constants, two_ext_constants,
@@ -12,157 +14,183 @@ use air_core::{Namespace, NamespaceExt};
 use cases::{Fault, Why};
 use std::alloc::Global;
 
-// Makes an assertion without a name.
-fn assert_base<AB: AirBuilder>(builder: &mut AB, call: &[&str]) -> Result<(), Fault>
+// Makes an assertion on one element.
+fn assert_one_of<AB: AirBuilder>(builder: &mut AB, word: &str, x: &str) -> Result<(), Fault>
     requires { AB.ready builder.old }
-    ensures { AB.kept builder.old builder.new }
+    ensures { OnOk result (AB.kept builder.old builder.new) }
 {
-    match call {
-        ["assert_zero", x] => {
-            let x = constant::<AB::F, AB::Ring>(builder.ring(), *x)?;
-            builder.assert_zero(x)?;
-        }
-        ["assert_one", x] => {
-            let x = constant::<AB::F, AB::Ring>(builder.ring(), *x)?;
-            builder.assert_one(x)?;
-        }
-        ["assert_bool", x] => {
-            let x = constant::<AB::F, AB::Ring>(builder.ring(), *x)?;
-            builder.assert_bool(x)?;
-        }
-        ["assert_eq", x, y] => {
-            let [x, y] = two_constants::<AB::F, AB::Ring>(builder.ring(), *x, *y)?;
-            builder.assert_eq(x, y)?;
-        }
-        ["assert_zeros", x, y] => {
-            let both = two_constants::<AB::F, AB::Ring>(builder.ring(), *x, *y)?;
-            builder.assert_zeros(both)?;
-        }
-        ["assert_bools", x, y] => {
-            let both = two_constants::<AB::F, AB::Ring>(builder.ring(), *x, *y)?;
-            builder.assert_bools(both)?;
-        }
-        ["assert_eq_arrays", x, y, z, w] => {
-            let (left, right) = four_constants::<AB::F, AB::Ring>(
-                builder.ring(),
-                [*x, *y],
-                [*z, *w],
-            )?;
-            builder.assert_eq_arrays(left, right)?;
-        }
-        _ => return Err(Fault::Unreadable(Why::NoSuchCall)),
+    let x = constant::<AB::F, AB::Ring>(builder.ring(), x)?;
+    match word {
+        "assert_zero" => Ok(builder.assert_zero(x)?),
+        "assert_one" => Ok(builder.assert_one(x)?),
+        "assert_bool" => Ok(builder.assert_bool(x)?),
+        _ => Err(Fault::Unreadable(Why::NoSuchCall)),
     }
-    Ok(())
 }
 
-// Makes an assertion over the extension without a name.
-fn assert_ext<AB: ExtensionBuilder>(
-    alloc: Global,
+// Makes an assertion on two elements.
+fn assert_two_of<AB: AirBuilder>(
     builder: &mut AB,
-    call: &[&str],
+    word: &str,
+    x: &str,
+    y: &str,
 ) -> Result<(), Fault>
     requires { AB.ready builder.old }
-    ensures { AB.kept builder.old builder.new }
+    ensures { OnOk result (AB.kept builder.old builder.new) }
 {
-    match call {
-        ["assert_zero_ext", x] => {
-            let x = ext_constant::<AB::F, AB::EF, AB::ExtRing>(alloc, builder.ext_ring(), *x)?;
-            builder.assert_zero_ext(x)?;
-        }
-        ["assert_one_ext", x] => {
-            let x = ext_constant::<AB::F, AB::EF, AB::ExtRing>(alloc, builder.ext_ring(), *x)?;
-            builder.assert_one_ext(x)?;
-        }
-        ["assert_eq_ext", x, y] => {
-            let ring = builder.ext_ring();
-            let [x, y] = two_ext_constants::<AB::F, AB::EF, AB::ExtRing>(alloc, ring, *x, *y)?;
-            builder.assert_eq_ext(x, y)?;
-        }
-        ["assert_zeros_ext", x, y] => {
-            let ring = builder.ext_ring();
-            let both = two_ext_constants::<AB::F, AB::EF, AB::ExtRing>(alloc, ring, *x, *y)?;
-            builder.assert_zeros_ext(both)?;
-        }
-        _ => return Err(Fault::Unreadable(Why::NoSuchCall)),
+    let (x, y) = two_constants::<AB::F, AB::Ring>(builder.ring(), x, y)?;
+    match word {
+        "assert_eq" => Ok(builder.assert_eq(x, y)?),
+        "assert_zeros" => Ok(builder.assert_zeros([x, y])?),
+        "assert_bools" => Ok(builder.assert_bools([x, y])?),
+        _ => Err(Fault::Unreadable(Why::NoSuchCall)),
     }
-    Ok(())
+}
+
+// Asserts that the elements of two arrays are equal.
+fn assert_arrays<AB: AirBuilder>(
+    builder: &mut AB,
+    left: [&str; 2],
+    right: [&str; 2],
+) -> Result<(), Fault>
+    requires { AB.ready builder.old }
+    ensures { OnOk result (AB.kept builder.old builder.new) }
+{
+    let ((w, x), (y, z)) = four_constants::<AB::F, AB::Ring>(builder.ring(), left, right)?;
+    Ok(builder.assert_eq_arrays([w, x], [y, z])?)
+}
+
+// Makes an assertion on one element of the extension.
+fn assert_one_ext_of<AB: ExtensionBuilder>(
+    alloc: Global,
+    builder: &mut AB,
+    word: &str,
+    x: &str,
+) -> Result<(), Fault>
+    requires { AB.ready builder.old }
+    ensures { OnOk result (AB.kept builder.old builder.new) }
+{
+    let x = ext_constant::<AB::F, AB::EF, AB::ExtRing>(alloc, builder.ext_ring(), x)?;
+    match word {
+        "assert_zero_ext" => Ok(builder.assert_zero_ext(x)?),
+        "assert_one_ext" => Ok(builder.assert_one_ext(x)?),
+        _ => Err(Fault::Unreadable(Why::NoSuchCall)),
+    }
+}
+
+// Makes an assertion on two elements of the extension.
+fn assert_two_ext_of<AB: ExtensionBuilder>(
+    alloc: Global,
+    builder: &mut AB,
+    word: &str,
+    x: &str,
+    y: &str,
+) -> Result<(), Fault>
+    requires { AB.ready builder.old }
+    ensures { OnOk result (AB.kept builder.old builder.new) }
+{
+    let ring = builder.ext_ring();
+    let (x, y) = two_ext_constants::<AB::F, AB::EF, AB::ExtRing>(alloc, ring, x, y)?;
+    match word {
+        "assert_eq_ext" => Ok(builder.assert_eq_ext(x, y)?),
+        "assert_zeros_ext" => Ok(builder.assert_zeros_ext([x, y])?),
+        _ => Err(Fault::Unreadable(Why::NoSuchCall)),
+    }
+}
+
+// Makes an assertion on one element under a name.
+fn assert_one_named_of<AB: NamedAirBuilder, N: Namespace>(
+    builder: &mut AB,
+    word: &str,
+    x: &str,
+    name: N,
+) -> Result<(), Fault>
+    requires ready { AB.ready builder.old }
+    requires can_evaluate { N.can_evaluate name }
+    ensures { OnOk result (AB.kept builder.old builder.new) }
+{
+    let x = constant::<AB::F, AB::Ring>(builder.ring(), x)?;
+    match word {
+        "assert_zero_named" => Ok(builder.assert_zero_named(x, name)?),
+        "assert_one_named" => Ok(builder.assert_one_named(x, name)?),
+        "assert_bool_named" => Ok(builder.assert_bool_named(x, name)?),
+        _ => Err(Fault::Unreadable(Why::NoSuchCall)),
+    }
+}
+
+// Makes an assertion on two elements under a name.
+fn assert_two_named_of<AB: NamedAirBuilder, N: Namespace>(
+    builder: &mut AB,
+    word: &str,
+    x: &str,
+    y: &str,
+    name: N,
+) -> Result<(), Fault>
+    requires ready { AB.ready builder.old }
+    requires can_evaluate { N.can_evaluate name }
+    ensures { OnOk result (AB.kept builder.old builder.new) }
+{
+    let (x, y) = two_constants::<AB::F, AB::Ring>(builder.ring(), x, y)?;
+    match word {
+        "assert_eq_named" => Ok(builder.assert_eq_named(x, y, name)?),
+        "assert_zeros_named" => Ok(builder.assert_zeros_named([x, y], name)?),
+        "assert_bools_named" => Ok(builder.assert_bools_named([x, y], name)?),
+        _ => Err(Fault::Unreadable(Why::NoSuchCall)),
+    }
+}
+
+// Asserts that each of three elements is zero or one, under a name.
+fn assert_three_bools<AB: NamedAirBuilder, N: Namespace>(
+    builder: &mut AB,
+    words: [&str; 3],
+    name: N,
+) -> Result<(), Fault>
+    requires ready { AB.ready builder.old }
+    requires can_evaluate { N.can_evaluate name }
+    ensures { OnOk result (AB.kept builder.old builder.new) }
+{
+    let (x, y, z) = three_constants::<AB::F, AB::Ring>(builder.ring(), words)?;
+    Ok(builder.assert_bools_named([x, y, z], name)?)
+}
+
+// Makes an assertion on one element of the extension under a name.
+fn assert_one_ext_named_of<AB: NamedExtensionBuilder, N: Namespace>(
+    alloc: Global,
+    builder: &mut AB,
+    word: &str,
+    x: &str,
+    name: N,
+) -> Result<(), Fault>
+    requires ready { AB.ready builder.old }
+    requires can_evaluate { N.can_evaluate name }
+    ensures { OnOk result (AB.kept builder.old builder.new) }
+{
+    let x = ext_constant::<AB::F, AB::EF, AB::ExtRing>(alloc, builder.ext_ring(), x)?;
+    match word {
+        "assert_zero_ext_named" => Ok(builder.assert_zero_ext_named(x, name)?),
+        "assert_one_ext_named" => Ok(builder.assert_one_ext_named(x, name)?),
+        _ => Err(Fault::Unreadable(Why::NoSuchCall)),
+    }
+}
+
+// Asserts that two elements of the extension are equal, under a name.
+fn assert_eq_ext_named_of<AB: NamedExtensionBuilder, N: Namespace>(
+    alloc: Global,
+    builder: &mut AB,
+    x: &str,
+    y: &str,
+    name: N,
+) -> Result<(), Fault>
+    requires ready { AB.ready builder.old }
+    requires can_evaluate { N.can_evaluate name }
+    ensures { OnOk result (AB.kept builder.old builder.new) }
+{
+    let ring = builder.ext_ring();
+    let (x, y) = two_ext_constants::<AB::F, AB::EF, AB::ExtRing>(alloc, ring, x, y)?;
+    Ok(builder.assert_eq_ext_named(x, y, name)?)
 }
 
 // Makes an assertion under a name.
-fn assert_base_named<AB: NamedAirBuilder, N: Namespace>(
-    builder: &mut AB,
-    call: &[&str],
-    name: N,
-) -> Result<(), Fault>
-    requires ready { AB.ready builder.old }
-    requires can_evaluate { N.can_evaluate name }
-    ensures { AB.kept builder.old builder.new }
-{
-    match call {
-        ["assert_zero_named", x] => {
-            let x = constant::<AB::F, AB::Ring>(builder.ring(), *x)?;
-            builder.assert_zero_named(x, name)?;
-        }
-        ["assert_one_named", x] => {
-            let x = constant::<AB::F, AB::Ring>(builder.ring(), *x)?;
-            builder.assert_one_named(x, name)?;
-        }
-        ["assert_bool_named", x] => {
-            let x = constant::<AB::F, AB::Ring>(builder.ring(), *x)?;
-            builder.assert_bool_named(x, name)?;
-        }
-        ["assert_eq_named", x, y] => {
-            let [x, y] = two_constants::<AB::F, AB::Ring>(builder.ring(), *x, *y)?;
-            builder.assert_eq_named(x, y, name)?;
-        }
-        ["assert_zeros_named", x, y] => {
-            let both = two_constants::<AB::F, AB::Ring>(builder.ring(), *x, *y)?;
-            builder.assert_zeros_named(both, name)?;
-        }
-        ["assert_bools_named", x, y] => {
-            let both = two_constants::<AB::F, AB::Ring>(builder.ring(), *x, *y)?;
-            builder.assert_bools_named(both, name)?;
-        }
-        ["assert_bools_named", x, y, z] => {
-            let all = three_constants::<AB::F, AB::Ring>(builder.ring(), [*x, *y, *z])?;
-            builder.assert_bools_named(all, name)?;
-        }
-        _ => return Err(Fault::Unreadable(Why::NoSuchCall)),
-    }
-    Ok(())
-}
-
-// Makes an assertion over the extension under a name.
-fn assert_ext_named<AB: NamedExtensionBuilder, N: Namespace>(
-    alloc: Global,
-    builder: &mut AB,
-    call: &[&str],
-    name: N,
-) -> Result<(), Fault>
-    requires ready { AB.ready builder.old }
-    requires can_evaluate { N.can_evaluate name }
-    ensures { AB.kept builder.old builder.new }
-{
-    match call {
-        ["assert_zero_ext_named", x] => {
-            let x = ext_constant::<AB::F, AB::EF, AB::ExtRing>(alloc, builder.ext_ring(), *x)?;
-            builder.assert_zero_ext_named(x, name)?;
-        }
-        ["assert_one_ext_named", x] => {
-            let x = ext_constant::<AB::F, AB::EF, AB::ExtRing>(alloc, builder.ext_ring(), *x)?;
-            builder.assert_one_ext_named(x, name)?;
-        }
-        ["assert_eq_ext_named", x, y] => {
-            let ring = builder.ext_ring();
-            let [x, y] = two_ext_constants::<AB::F, AB::EF, AB::ExtRing>(alloc, ring, *x, *y)?;
-            builder.assert_eq_ext_named(x, y, name)?;
-        }
-        _ => return Err(Fault::Unreadable(Why::NoSuchCall)),
-    }
-    Ok(())
-}
-
-// Makes an assertion of either kind under a name.
 fn assert_under_name<AB: NamedExtensionBuilder, N: Namespace>(
     alloc: Global,
     builder: &mut AB,
@@ -171,14 +199,17 @@ fn assert_under_name<AB: NamedExtensionBuilder, N: Namespace>(
 ) -> Result<(), Fault>
     requires ready { AB.ready builder.old }
     requires can_evaluate { N.can_evaluate name }
-    ensures { AB.kept builder.old builder.new }
+    ensures { OnOk result (AB.kept builder.old builder.new) }
 {
     match call {
-        [
-            "assert_zero_ext_named" | "assert_one_ext_named" | "assert_eq_ext_named",
-            ..
-        ] => { assert_ext_named(alloc, builder, call, name) }
-        _ => assert_base_named(builder, call, name),
+        ["assert_eq_ext_named", x, y] => assert_eq_ext_named_of(alloc, builder, *x, *y, name),
+        [word @ ("assert_zero_ext_named" | "assert_one_ext_named"), x] => {
+            assert_one_ext_named_of(alloc, builder, *word, *x, name)
+        }
+        ["assert_bools_named", x, y, z] => assert_three_bools(builder, [*x, *y, *z], name),
+        [word, x, y] => assert_two_named_of(builder, *word, *x, *y, name),
+        [word, x] => assert_one_named_of(builder, *word, *x, name),
+        _ => Err(Fault::Unreadable(Why::NoSuchCall)),
     }
 }
 
@@ -189,7 +220,7 @@ pub fn assert_this<AB: NamedExtensionBuilder>(
     call: &[&str],
 ) -> Result<(), Fault>
     requires { AB.ready builder.old }
-    ensures { AB.kept builder.old builder.new }
+    ensures { OnOk result (AB.kept builder.old builder.new) }
 {
     match call {
         [call @ .., "under", a] => assert_under_name(alloc, builder, call, Label::new(*a)),
@@ -200,10 +231,15 @@ pub fn assert_this<AB: NamedExtensionBuilder>(
             let space = Label::new(*a).join(Label::new(*b));
             assert_under_name(alloc, builder, call, space.name(Label::new(*c)))
         }
-        [
-            "assert_zero_ext" | "assert_one_ext" | "assert_eq_ext" | "assert_zeros_ext",
-            ..
-        ] => { assert_ext(alloc, builder, call) }
-        _ => assert_base(builder, call),
+        [word @ ("assert_eq_ext" | "assert_zeros_ext"), x, y] => {
+            assert_two_ext_of(alloc, builder, *word, *x, *y)
+        }
+        [word @ ("assert_zero_ext" | "assert_one_ext"), x] => {
+            assert_one_ext_of(alloc, builder, *word, *x)
+        }
+        ["assert_eq_arrays", x, y, z, w] => assert_arrays(builder, [*x, *y], [*z, *w]),
+        [word, x, y] => assert_two_of(builder, *word, *x, *y),
+        [word, x] => assert_one_of(builder, *word, *x),
+        _ => Err(Fault::Unreadable(Why::NoSuchCall)),
     }
 }

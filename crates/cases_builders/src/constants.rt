@@ -1,5 +1,5 @@
 //! Constants of a builder's rings.
-ghost use Rattle.std.specs.Prelude.{IfOk, All};
+ghost use Rattle.std.specs.Prelude.{IfOk};
 
 use crate::fields::listed_extension;
 use air_field::{Algebra, ExtAlgebra, ExtensionField, Field};
@@ -22,26 +22,29 @@ pub fn two_constants<F: Field, R: Algebra<F>>(
     ring: &mut R,
     first: &str,
     second: &str,
-) -> Result<[R::Elem; 2], Fault>
+) -> Result<(R::Elem, R::Elem), Fault>
     requires { R.valid ring.old }
     ensures extended { R.extends ring.old ring.new }
-    ensures of_ring { IfOk result (All (R.has ring.new)) }
+    ensures first { IfOk result (λ made. R.has ring.new made.0) }
+    ensures second { IfOk result (λ made. R.has ring.new made.1) }
 {
     let a = element_of::<F>(first)?;
     let b = element_of::<F>(second)?;
     let x = ring.constant(a)?;
     let y = ring.constant(b)?;
-    Ok([x, y])
+    Ok((x, y))
 }
 
 /// The constants of three numbers.
 pub fn three_constants<F: Field, R: Algebra<F>>(
     ring: &mut R,
     words: [&str; 3],
-) -> Result<[R::Elem; 3], Fault>
+) -> Result<(R::Elem, R::Elem, R::Elem), Fault>
     requires { R.valid ring.old }
     ensures extended { R.extends ring.old ring.new }
-    ensures of_ring { IfOk result (All (R.has ring.new)) }
+    ensures first { IfOk result (λ made. R.has ring.new made.0) }
+    ensures second { IfOk result (λ made. R.has ring.new made.1) }
+    ensures third { IfOk result (λ made. R.has ring.new made.2) }
 {
     let [a, b, c] = words;
     let (a, b) = (element_of::<F>(a)?, element_of::<F>(b)?);
@@ -49,7 +52,7 @@ pub fn three_constants<F: Field, R: Algebra<F>>(
     let x = ring.constant(a)?;
     let y = ring.constant(b)?;
     let z = ring.constant(c)?;
-    Ok([x, y, z])
+    Ok((x, y, z))
 }
 
 /// The constant of an element of the extension.
@@ -72,16 +75,17 @@ pub fn two_ext_constants<F: Field, EF: ExtensionField<F>, R: ExtAlgebra<F, EF>>(
     ring: &mut R,
     first: &str,
     second: &str,
-) -> Result<[R::Elem; 2], Fault>
+) -> Result<(R::Elem, R::Elem), Fault>
     requires { R.valid ring.old }
     ensures extended { R.extends ring.old ring.new }
-    ensures of_ring { IfOk result (All (R.has ring.new)) }
+    ensures first { IfOk result (λ made. R.has ring.new made.0) }
+    ensures second { IfOk result (λ made. R.has ring.new made.1) }
 {
     let a = listed_extension::<F, EF>(alloc, first)?;
     let b = listed_extension::<F, EF>(alloc, second)?;
     let x = ring.ext_constant(a)?;
     let y = ring.ext_constant(b)?;
-    Ok([x, y])
+    Ok((x, y))
 }
 
 /// The constants of two pairs of numbers.
@@ -89,11 +93,13 @@ pub fn four_constants<F: Field, R: Algebra<F>>(
     ring: &mut R,
     first: [&str; 2],
     second: [&str; 2],
-) -> Result<([R::Elem; 2], [R::Elem; 2]), Fault>
+) -> Result<((R::Elem, R::Elem), (R::Elem, R::Elem)), Fault>
     requires { R.valid ring.old }
     ensures extended { R.extends ring.old ring.new }
-    ensures first { IfOk result (λ made. All (R.has ring.new) made.0) }
-    ensures second { IfOk result (λ made. All (R.has ring.new) made.1) }
+    ensures first { IfOk result (λ made. R.has ring.new made.0.0) }
+    ensures second { IfOk result (λ made. R.has ring.new made.0.1) }
+    ensures third { IfOk result (λ made. R.has ring.new made.1.0) }
+    ensures fourth { IfOk result (λ made. R.has ring.new made.1.1) }
 {
     let [a, b] = first;
     let [c, d] = second;
@@ -103,5 +109,5 @@ pub fn four_constants<F: Field, R: Algebra<F>>(
     let x = ring.constant(b)?;
     let y = ring.constant(c)?;
     let z = ring.constant(d)?;
-    Ok(([w, x], [y, z]))
+    Ok(((w, x), (y, z)))
 }

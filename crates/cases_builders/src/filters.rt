@@ -1,4 +1,5 @@
 //! Assertions under filters, and under a filter over a filter: a filter is itself a builder.
+ghost use Rattle.std.specs.Prelude.{OnOk};
 
 use crate::assertions::assert_this;
 use crate::constants::{constant, two_constants};
@@ -13,7 +14,7 @@ fn assert_under<AB: NamedExtensionBuilder>(
     call: &[&str],
 ) -> Result<(), Fault>
     requires { AB.ready builder.old }
-    ensures { AB.kept builder.old builder.new }
+    ensures { OnOk result (AB.kept builder.old builder.new) }
 {
     match call {
         ["when", x, call @ ..] => {
@@ -22,7 +23,7 @@ fn assert_under<AB: NamedExtensionBuilder>(
             assert_this(alloc, &mut filter, call)
         }
         ["when_ne", x, y, call @ ..] => {
-            let [x, y] = two_constants::<AB::F, AB::Ring>(builder.ring(), *x, *y)?;
+            let (x, y) = two_constants::<AB::F, AB::Ring>(builder.ring(), *x, *y)?;
             let mut filter = builder.when_ne(x, y)?;
             assert_this(alloc, &mut filter, call)
         }
@@ -53,7 +54,7 @@ fn assert_under_both<AB: NamedExtensionBuilder>(
     call: &[&str],
 ) -> Result<(), Fault>
     requires { AB.ready builder.old }
-    ensures { AB.kept builder.old builder.new }
+    ensures { OnOk result (AB.kept builder.old builder.new) }
 {
     match call {
         ["when", x, call @ ..] => {
@@ -72,7 +73,7 @@ pub fn assert_each<AB: NamedExtensionBuilder>(
     words: &[&str],
 ) -> Result<(), Fault>
     requires { AB.ready builder.old }
-    ensures { AB.kept builder.old builder.new }
+    ensures { OnOk result (AB.kept builder.old builder.new) }
 {
     let mut call = Vec::new(alloc);
     for word in words {

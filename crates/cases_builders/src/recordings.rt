@@ -1,14 +1,13 @@
 //! Assertions that are recorded: each line has a builder of its own.
 ghost use Rattle.std.specs.Prelude.{IfOk};
-ghost use Rattle.air_symbolic.specs.ExtLeaves.{ext_reads};
 ghost use Rattle.air_symbolic.specs.Pools.{IsPool};
 
 use crate::filters::assert_each;
 use crate::trees::{show_tree, show_value};
 use air_builder::AirBuilder;
-use air_field::{BabyBear, BinomialExtensionField, ExtensionField};
+use air_field::{BabyBear, BinomialExtensionField};
 use air_recording::{AirLayout, Recorded, SymbolicAirBuilder};
-use cases::words::Number;
+use air_symbolic::{ExtLeaf, SymLeaf};
 use cases::{Bench, Fault, Line};
 use std::alloc::Global;
 
@@ -18,23 +17,25 @@ pub struct Recordings {
 }
 
 // What is recorded of the assertions.
-fn recorded<F: Number, EF: ExtensionField<F>>(
+fn recorded(
     alloc: Global,
     words: &[&str],
-) -> Result<Recorded<F, EF>, Fault>
-    ensures { IfOk result (λ r. IsPool (ext_reads EF.basis) r.pool) }
+) -> Result<Recorded<BabyBear, BinomialExtensionField>, Fault>
+    ensures { IfOk result
+        (λ r. IsPool ⟦<ExtLeaf<BabyBear, BinomialExtensionField> as SymLeaf>⟧.reads r.pool) }
 {
-    let mut builder = SymbolicAirBuilder::<F, EF>::new(alloc, AirLayout::default())?;
+    let mut builder = SymbolicAirBuilder::new(alloc, AirLayout::default())?;
     assert_each(alloc, &mut builder, words)?;
     Ok(builder.into_recorded())
 }
 
 // Adds the constraints over the extension, and then the base ones.
-fn show_recorded<F: Number, EF: ExtensionField<F>>(
-    recorded: Recorded<F, EF>,
+fn show_recorded(
+    recorded: Recorded<BabyBear, BinomialExtensionField>,
     text: &mut String,
 ) -> Result<(), Fault>
-    requires { IsPool (ext_reads EF.basis) recorded.pool }
+    requires { IsPool ⟦<ExtLeaf<BabyBear, BinomialExtensionField> as SymLeaf>⟧.reads
+        recorded.pool }
 {
     let Recorded { pool, base, ext } = recorded;
     for id in &ext {
@@ -65,10 +66,7 @@ impl<'a> Bench<'a> for Recordings {
                 write!(text, "{rows}")?;
                 Ok(())
             }
-            words => {
-                let recorded = recorded::<BabyBear, BinomialExtensionField>(self.alloc, words)?;
-                show_recorded(recorded, text)
-            }
+            words => { show_recorded(recorded(self.alloc, words)?, text) }
         }
     }
 

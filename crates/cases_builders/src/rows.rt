@@ -2,9 +2,9 @@
 
 use crate::filters::assert_each;
 use air_builder::AirBuilder;
-use air_field::{BabyBear, BinomialExtensionField, ExtensionField, RowMajorMatrixView, ViewPair};
+use air_field::{BabyBear, BinomialExtensionField, RowMajorMatrixView, ViewPair};
 use air_report::DebugConstraintBuilder;
-use cases::words::{Number, element_of};
+use cases::words::element_of;
 use cases::{Bench, Fault, Line};
 use std::alloc::Global;
 
@@ -13,11 +13,10 @@ pub struct Rows {
     alloc: Global,
 }
 
+type RowBuilder<'a> = DebugConstraintBuilder<'a, BabyBear, BinomialExtensionField>;
+
 // A builder at the first row, with these selectors of the first, the last and the other rows.
-fn row_builder<'a, F: Number, EF: ExtensionField<F>>(
-    alloc: Global,
-    selectors: [F; 3],
-) -> DebugConstraintBuilder<'a, F, EF> {
+fn row_builder<'a>(alloc: Global, selectors: [BabyBear; 3]) -> RowBuilder<'a> {
     let [first, last, transition] = selectors;
     let none = RowMajorMatrixView::new_row(&[]);
     let none_over = RowMajorMatrixView::new_row(&[]);
@@ -37,15 +36,11 @@ fn row_builder<'a, F: Number, EF: ExtensionField<F>>(
     )
 }
 
-// Adds the assertions that fail.
-fn show_failed<F: Number + 'static, EF: ExtensionField<F> + 'static>(
-    alloc: Global,
-    selectors: [F; 3],
-    words: &[&str],
-    text: &mut String,
-) -> Result<(), Fault> {
-    let mut builder = row_builder::<F, EF>(alloc, selectors);
-    assert_each(alloc, &mut builder, words)?;
+fn assert_at_row(alloc: Global, builder: &mut RowBuilder<'_>, words: &[&str]) -> Result<(), Fault> {
+    assert_each(alloc, builder, words)
+}
+
+fn show_failures(builder: &RowBuilder<'_>, text: &mut String) -> Result<(), Fault> {
     let failures = builder.formatted_failures()?;
     text.push_str(failures.as_str())?;
     Ok(())
@@ -73,7 +68,9 @@ impl<'a> Bench<'a> for Rows {
             }
             words => ([BabyBear::new(1); 3], words),
         };
-        show_failed::<BabyBear, BinomialExtensionField>(self.alloc, selectors, words, text)
+        let mut builder = row_builder(self.alloc, selectors);
+        assert_at_row(self.alloc, &mut builder, words)?;
+        show_failures(&builder, text)
     }
 
     fn standing(&self, _text: &mut String) -> Result<(), Fault> {

@@ -1,12 +1,14 @@
 //! The texts of recorded expressions.
 ghost use Rattle.air_symbolic.specs.Pools.{IsPool};
 
-use air_field::{ExtensionField, Field};
+use air_field::{BabyBear, BinomialExtensionField, ExtensionField};
 use air_symbolic::{BaseLeaf, ExprId, ExprPool, ExtLeaf, SymLeaf, SymbolicExpr};
 use cases::Fault;
 use cases::words::{Number, show_elements};
 
-fn show_leaf<F: Number>(leaf: BaseLeaf<F>, text: &mut String) -> Result<(), Fault> {
+type Leaf = ExtLeaf<BabyBear, BinomialExtensionField>;
+
+fn show_leaf(leaf: BaseLeaf<BabyBear>, text: &mut String) -> Result<(), Fault> {
     match leaf {
         BaseLeaf::Variable(v) => {
             let (entry, index) = (v.entry, v.index);
@@ -24,13 +26,13 @@ fn show_leaf<F: Number>(leaf: BaseLeaf<F>, text: &mut String) -> Result<(), Faul
 }
 
 /// Adds the tree of a base expression to this depth: a constant is its number, operands stand in brackets.
-pub fn show_tree<F: Number>(
-    pool: &ExprPool<BaseLeaf<F>>,
-    id: ExprId<BaseLeaf<F>>,
+pub fn show_tree(
+    pool: &ExprPool<BaseLeaf<BabyBear>>,
+    id: ExprId<BaseLeaf<BabyBear>>,
     depth: usize,
     text: &mut String,
 ) -> Result<(), Fault>
-    requires { IsPool ⟦<BaseLeaf<F> as SymLeaf>⟧.reads pool.now }
+    requires { IsPool ⟦<BaseLeaf<BabyBear> as SymLeaf>⟧.reads pool.now }
 {
     if depth == 0 || !pool.contains(id) {
         text.push_str("?")?;
@@ -57,18 +59,14 @@ pub fn show_tree<F: Number>(
 }
 
 // The value of an expression over constants alone, to this depth.
-fn value_of<F: Field, EF: ExtensionField<F>>(
-    pool: &ExprPool<ExtLeaf<F, EF>>,
-    id: ExprId<ExtLeaf<F, EF>>,
-    depth: usize,
-) -> Option<EF>
-    requires { IsPool ⟦<ExtLeaf<F, EF> as SymLeaf>⟧.reads pool.now }
+fn value_of(pool: &ExprPool<Leaf>, id: ExprId<Leaf>, depth: usize) -> Option<BinomialExtensionField>
+    requires { IsPool ⟦<ExtLeaf<BabyBear, BinomialExtensionField> as SymLeaf>⟧.reads pool.now }
 {
     if depth == 0 || !pool.contains(id) {
         return None;
     }
     if let Some(c) = pool.as_const(id) {
-        return Some(EF::from_base(c));
+        return Some(BinomialExtensionField::from_base(c));
     }
     match *pool.node(id) {
         SymbolicExpr::Leaf(ExtLeaf::ExtConstant(c)) => Some(c),
@@ -90,12 +88,8 @@ fn value_of<F: Field, EF: ExtensionField<F>>(
 }
 
 /// Adds the value of an expression over constants alone.
-pub fn show_value<F: Number, EF: ExtensionField<F>>(
-    pool: &ExprPool<ExtLeaf<F, EF>>,
-    id: ExprId<ExtLeaf<F, EF>>,
-    text: &mut String,
-) -> Result<(), Fault>
-    requires { IsPool ⟦<ExtLeaf<F, EF> as SymLeaf>⟧.reads pool.now }
+pub fn show_value(pool: &ExprPool<Leaf>, id: ExprId<Leaf>, text: &mut String) -> Result<(), Fault>
+    requires { IsPool ⟦<ExtLeaf<BabyBear, BinomialExtensionField> as SymLeaf>⟧.reads pool.now }
 {
     match value_of(pool, id, 9) {
         Some(value) => show_elements(value.as_basis_coefficients_slice(), text),
