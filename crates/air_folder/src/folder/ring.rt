@@ -1,6 +1,7 @@
 //! The ring in which a folder's expressions are made.
 ghost use Rattle.std.specs.Prelude.{◌≡◌, ⊤, IsTrue};
 ghost use Rattle.air_field.specs.Ring.{minus};
+ghost use Rattle.air_field.specs.Term.{ext_const_term};
 ghost use Rattle.air_field.specs.laws.Algebra.{value_in_laws};
 ghost use Rattle.air_field.specs.laws.Extension.{extend-coefficients};
 ghost use Rattle.air_folder.specs.Folder.{HasValue, values_are_their_base};
@@ -89,6 +90,11 @@ impl<F: Field, EF: ExtensionField<F>> FromVar<F, EF> for FolderRing<F, EF> {
     {
         Ok(v)
     }
+
+    ghost var_means_some = { λ v. (
+      ext_const_term (EF.basis.coefficients v),
+      extend-coefficients F.ring EF.over EF.basis EF.DIMENSION EF.ExtensionField.laws v,
+    ) };
 }
 
 impl<F: Field, EF: ExtensionField<F>> ExtAlgebra<F, EF> for FolderRing<F, EF> {
@@ -110,5 +116,6 @@ impl<F: Field, EF: ExtensionField<F>> ExtAlgebra<F, EF> for FolderRing<F, EF> {
         Ok(c)
     }
 
-    ghost base_laws = { values_are_their_base EF.over };
+    ghost base_laws = { values_are_their_base EF.over EF.basis.coefficients
+        (extend-coefficients F.ring EF.over EF.basis EF.DIMENSION EF.ExtensionField.laws) };
 }
