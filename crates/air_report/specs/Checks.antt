@@ -111,7 +111,7 @@ pub record IsMismatch {F : Type 0} (r : CommRing F) (eq : F → F → Bool) (g :
   pub first : IsFirstDiffering r eq g.main g.public g.declaration.cells index
   pub row_is : (d : BoundaryPublic) → row ≡ row_of (slice_index_or g.declaration.cells index d).end (height g)
 
--- No cell differs; this is the least row with a nonzero pair, and these are all of its pairs.
+-- No cell differs; this is the least row with a nonzero pair, and these are all of its pairs. The trace has the entries.
 pub record IsFailedRow {F : Type 0} (r : CommRing F) (eq : F → F → Bool) (g : Given F) (row : ℕ) (fs : List ConstraintFailure) : Type 0 where
   pub shapes : Fits g
   pub cells : CellsAgree r eq g
@@ -119,6 +119,7 @@ pub record IsFailedRow {F : Type 0} (r : CommRing F) (eq : F → F → Bool) (g 
   pub before : report_of r eq (given_trace g) g.declaration.declared row ≡ []
   pub places : map failure_place fs ≡ report_of r eq (given_trace g) g.declaration.declared (row + 1)
   pub some : fs ≢ []
+  pub there : HasEntries g
 
 -- The shapes are looked at first, then the cells are validated and compared, and then rows run.
 abbrev pub FirstCheckRefuses : {F : Type 0} → CommRing F → (F → F → Bool) → Given F → AirError → Type 0

@@ -34,6 +34,10 @@ abbrev pub LogsOne : ℕ → ℕ → ℕ → (Option (List ℕ) → Type 0) → 
 LogsOne row k n says true fs gs = (n ≡ k + 1) × (gs ≡ fs)
 LogsOne row k n says false fs gs = (n ≡ k + 1) × LogsFailure row k says fs gs
 
+-- the text of an assertion that was made without a name: the empty one, of which no label is kept
+abbrev pub IsNameless : Option (List ℕ) → Type 0
+IsNameless text = text ≡ Some []
+
 -- memory can be wanting only where the assertion doesn't hold; the count only where it is full
 abbrev pub LogRefuses : ℕ → Bool → AirError → Type 0
 LogRefuses k holds Memory = holds ≡ false

@@ -15,16 +15,28 @@ use air_core::periodic::{periodic_matrix, periodic_row};
 use air_field::RowMajorMatrix;
 use std::alloc::Global;
 
-/// What an AIR says of itself. Every answer is a function of the AIR's value, want of memory apart; of hints of its own
-/// only what an implementation states at its methods.
+/// What an AIR says of itself. Every answer is a function of the AIR's value, want of memory apart; of a list or hint of its
+/// own only what an implementation states at its method.
 pub trait BaseAir<F: Copy> {
     /// Its constraints, in order: base or extension terms, the same for all builders; the numbers of columns and of
     /// public values; and the preprocessed table, the periodic columns and the boundary cells.
     ghost declaration: { Self → Declaration F };
 
-    /// An implementation with bodies of its own for the lists of next-row columns or the three hints says so, and
-    /// states its answers at its methods.
-    ghost has_own_hints: { Self → Type 0 } = { λ _. ⊥ };
+    /// An implementation with a body of its own for the list of next-row columns says so, and states its answer at the
+    /// method; so for each of the following four. What it leaves alone keeps its promise.
+    ghost has_own_next_row_columns: { Self → Type 0 } = { λ _. ⊥ };
+
+    /// The same for the list of the preprocessed table.
+    ghost has_own_preprocessed_columns: { Self → Type 0 } = { λ _. ⊥ };
+
+    /// The same for the number of constraints.
+    ghost has_own_constraint_count: { Self → Type 0 } = { λ _. ⊥ };
+
+    /// The same for the bound on the constraints' degree.
+    ghost has_own_degree_bound: { Self → Type 0 } = { λ _. ⊥ };
+
+    /// The same for whether a boolean trace is assumed.
+    ghost has_own_boolean_trace: { Self → Type 0 } = { λ _. ⊥ };
 
     /// The number of columns of the main trace.
     fn width(&self) -> usize
@@ -78,7 +90,7 @@ pub trait BaseAir<F: Copy> {
     /// The columns of the main trace whose next row the constraints read: all of them, where the AIR has no list of its
     /// own. It refuses for want of memory alone.
     fn main_next_row_columns(&self, alloc: Global) -> Result<Vec<usize>, AirError>
-        ensures all { (has_own_hints self.now → ⊥) → IfOk result
+        ensures all { (has_own_next_row_columns self.now → ⊥) → IfOk result
             (λ columns. columns.items ≡ range_with_len 0 (declaration self.now).width) }
         ensures refused { IfErr result (λ e. e ≡ AirError.Memory) }
     {
@@ -88,7 +100,7 @@ pub trait BaseAir<F: Copy> {
     /// The columns of the preprocessed table whose next row the constraints read: all of them, where the AIR has no
     /// list of its own. It refuses for want of memory alone.
     fn preprocessed_next_row_columns(&self, alloc: Global) -> Result<Vec<usize>, AirError>
-        ensures all { (has_own_hints self.now → ⊥) → IfOk result
+        ensures all { (has_own_preprocessed_columns self.now → ⊥) → IfOk result
             (λ columns. columns.items ≡ range_with_len 0
             (table_width (declaration self.now).preprocessed)) }
         ensures refused { IfErr result (λ e. e ≡ AirError.Memory) }
@@ -98,14 +110,14 @@ pub trait BaseAir<F: Copy> {
 
     /// How many constraints the AIR has, where it says so.
     fn num_constraints(&self) -> Option<usize>
-        ensures { (has_own_hints self.now → ⊥) → result ≡ None }
+        ensures { (has_own_constraint_count self.now → ⊥) → result ≡ None }
     {
         None
     }
 
     /// A bound on the constraints' degree, where the AIR gives one.
     fn max_constraint_degree(&self) -> Option<usize>
-        ensures { (has_own_hints self.now → ⊥) → result ≡ None }
+        ensures { (has_own_degree_bound self.now → ⊥) → result ≡ None }
     {
         None
     }
@@ -116,7 +128,7 @@ pub trait BaseAir<F: Copy> {
 
     /// Whether the AIR is sound only where each cell of the main trace is a bit, which its constraints don't enforce.
     fn assumes_boolean_trace(&self) -> bool
-        ensures { (has_own_hints self.now → ⊥) → result ≡ false }
+        ensures { (has_own_boolean_trace self.now → ⊥) → result ≡ false }
     {
         false
     }

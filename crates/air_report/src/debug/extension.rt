@@ -1,7 +1,10 @@
 //! The debug builder over an extension.
-ghost use Rattle.std.specs.Prelude.{◌≡◌, ◌≢◌, false, [], OnOk, OnErr, IfOk, IfErr, IsOk, Err, None, refl};
+ghost use Rattle.std.specs.Prelude.{◌≡◌, ◌≢◌, false, [], ◌∷◌, OnOk, OnErr, IfOk, IfErr, IsOk, Err, None, refl};
 ghost use Rattle.air_field.specs.Algebra.{closed_value, closed_value_in};
 ghost use Rattle.air_field.specs.Term.{IsBase, permutation};
+ghost use Rattle.air_builder.specs.Assertion.{Extension};
+ghost use Rattle.air_builder.specs.Batches.{Asserts};
+ghost use Rattle.air_builder.specs.Labels.{Labels};
 ghost use Rattle.air_builder.specs.Builders.{Means, RowStands};
 ghost use Rattle.air_builder.specs.Refusals.{RowEnds};
 ghost use Rattle.air_report.specs.Debug.{is_zero_at, row_stands};
@@ -12,8 +15,8 @@ ghost use Rattle.air_report.specs.DebugRow.{debug_row};
 
 use crate::debug::builder::DebugConstraintBuilder;
 use air_builder::{
-    AirBuilder, AirError, ExtensionBuilder, Name, NamedExtensionBuilder, PermutationAirBuilder,
-    RowWindow, WindowAccess,
+    AirBuilder, AirError, ExtensionBuilder, Name, NamedAirBuilder, NamedExtensionBuilder,
+    PermutationAirBuilder, RowWindow, SeenOver, WindowAccess,
 };
 use air_field::{Algebra, ExtFieldRing, ExtensionField, Field};
 
@@ -51,7 +54,16 @@ impl<'a, F: Field, EF: ExtensionField<F> + 'static> ExtensionBuilder
 impl<'a, F: Field, EF: ExtensionField<F> + 'static> NamedExtensionBuilder
     for DebugConstraintBuilder<'a, F, EF> {
     #[inline(always)]
-    fn assert_zero_ext_named<N: Name>(&mut self, x: EF, name: N) -> Result<(), AirError> {
+    fn assert_zero_ext_named<N: Name>(&mut self, x: EF, name: N) -> Result<(), AirError>
+        requires can_evaluate { EF.eq x EF.over.ring.nil ≡ false → N.can_evaluate name }
+        ensures asserted { Asserts ⟦<DebugConstraintBuilder<'a, F, EF> as SeenOver>⟧.view Extension
+            (λ t. t) self.old self.new (x ∷ []) result }
+        ensures label { Labels ⟦<DebugConstraintBuilder<'a, F, EF> as SeenOver>⟧.view
+            ⟦<DebugConstraintBuilder<'a, F, EF> as NamedAirBuilder>⟧.labelled Extension (λ t. t)
+            (λ i. N.displays name) self.old self.new (x ∷ []) result }
+        ensures passes { IfErr result (LogRefuses self.old.constraint_index
+            (EF.eq x EF.over.ring.nil)) }
+    {
         self.log(x == EF::zero(), name)
     }
 }

@@ -19,6 +19,7 @@ returns-then-has_failures-clause-error g c =
       places = ap (λ v. map failure_place v.items) c.into_failures.ensures
           ∙ checked_more r eq all c.rows.row _ _ _ c.in_ok-check_row.ensures.checked (ap (map failure_place) c.rows.invariant.empty ∙ sym c.rows.invariant.none);
       some = search rules;
+      there = c.in_ok-check_row.ensures.there;
     }
 
 pub rows-preserved : goal.rows-preserved
