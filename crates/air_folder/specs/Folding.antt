@@ -12,8 +12,8 @@ use Rattle.air_core.specs.declared.errors.AirError.{AirError}
 use Rattle.air_core.specs.declared.errors.AirError.TheVariants.{Memory}
 use Rattle.air_recording.specs.Folds.{horner, recombination, ArePlacesOf, Recombines, values_at}
 use Rattle.air_recording.specs.Kinds.{kind_of}
-use Rattle.air_recording.specs.Layouts.{LayoutSuits}
-use Rattle.air_recording.specs.Recorded.{RecordsBase, RecordsExt, RecordRefuses, terms_of}
+use Rattle.air_recording.specs.Recorded.{RecordsBase, RecordsExt, terms_of}
+use Rattle.air_recording.specs.Recorded.{RecordRefuses, RecordingAnswers}
 use Rattle.air_recording.specs.declared.layouts.air_layout.AirLayout.{AirLayout}
 use Rattle.air_recording.specs.declared.symbolic.record.Recorded.{Recorded}
 use Rattle.air_folder.specs.Folder.{FolderRow, folder_leaves, values_in, FolderRefuses}
@@ -51,7 +51,10 @@ pub record GrewByBeginningOf {F E : Type 0} (a : Over F E) (b c : ConstraintFold
   pub within : count ≤ length ts
   pub beginning : FolderGrew a b c (take count ts)
 
--- It refuses what the recording refuses; and then want of memory to the AIR itself, or an entry that the folder hasn't.
-abbrev pub FoldingRefuses : {F E : Type 0} → AirLayout → Declaration F → FolderRow E → AirError → Type 0
-FoldingRefuses layout d row e =
-    RecordRefuses layout d e ⊎ (LayoutSuits layout d × ((e ≡ Memory) ⊎ FolderRefuses row e d.declared))
+-- It refuses what the recording refuses; and where that answers, want of memory to the AIR itself,
+-- or an entry that the folder hasn't.
+abbrev pub FoldingRefuses : {F E : Type 0} → CommRing F → Over F E → AirLayout → Declaration F
+    → FolderRow E → AirError → Type 0
+FoldingRefuses r a layout d row e =
+    RecordRefuses layout d e
+    ⊎ (RecordingAnswers r a layout d × ((e ≡ Memory) ⊎ FolderRefuses row e d.declared))

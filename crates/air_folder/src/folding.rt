@@ -54,7 +54,7 @@ pub fn fold_air<
         (A.declaration air.now).declared) }
     ensures beginning { OnErr result (GrewByBeginningOf EF.over folder.old folder.new
         (A.declaration air.now).declared) }
-    ensures refused { IfErr result (FoldingRefuses layout (A.declaration air.now)
+    ensures refused { IfErr result (FoldingRefuses F.ring EF.over layout (A.declaration air.now)
         (folder_row folder.old)) }
 {
     let places = get_constraint_layout::<F, EF, A>(alloc, air, layout)?;

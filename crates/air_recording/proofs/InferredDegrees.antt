@@ -15,8 +15,7 @@ use Rattle.air_builder.specs.Declaration.{Declaration}
 use Rattle.air_core.specs.Errors.{air_error}
 use Rattle.air_recording.specs.Inferred.{periods_of, greatest_in, AnswersInferred, DegreeRefuses}
 use Rattle.air_recording.specs.Kinds.{base_terms, ext_terms}
-use Rattle.air_recording.specs.Layouts.{FitsAir}
-use Rattle.air_recording.specs.Recorded.{EachRecords, terms_of}
+use Rattle.air_recording.specs.Recorded.{EachRecords, RecordingAnswers, terms_of}
 use Rattle.air_recording.specs.declared.layouts.air_layout.AirLayout.{AirLayout}
 use Rattle.air_recording.specs.Bounds.{DegreesWithin}
 use Rattle.air_recording.proofs.Least.{each_within, greatest_within_all, degree_for, greatest_for}
@@ -87,9 +86,9 @@ weighted_answer (suc w) n periods us (Err DegreeOverflow) some h fits = h
 
 -- a refusal of the degree of what is recorded
 pub inferred_refused : {F E : Type 0} (r : CommRing F) (over : Over F E) (w n : ℕ) (layout : AirLayout) (d : Declaration F) (us vs : List (Term F)) (e : RingError)
-    → EachRecords (itself r) us (base_terms d.declared) → EachRecords over vs (ext_terms d.declared) → FitsAir layout d
+    → EachRecords (itself r) us (base_terms d.declared) → EachRecords over vs (ext_terms d.declared) → RecordingAnswers r over layout d
     → AnswersInferred w n (periods_of d.periodic) (us ++ vs) (Err e) → DegreeRefuses r over w n layout d (air_error e)
-inferred_refused r over w n layout d us vs Memory b x f h = inl (inr (f, tt))
+inferred_refused r over w n layout d us vs Memory b x f h = inl (inr (f.suits.fits, tt))
 inferred_refused r over w n layout d us vs DegreeOverflow b x f h =
     inr (f, (refl, record { base = us; ext = vs; base_recorded = b; ext_recorded = x; past = h }))
 

@@ -14,9 +14,8 @@ use Rattle.air_symbolic.specs.BaseLeaves.{base_reads}
 use Rattle.air_symbolic.specs.ExtLeaves.{ext_reads}
 use Rattle.air_recording.specs.Bounds.{domain_weight, leaf_degree, polynomial_bound, PolynomialsWithin, IsDegreeFor}
 use Rattle.air_recording.specs.Kinds.{base_terms, ext_terms}
-use Rattle.air_recording.specs.Layouts.{FitsAir}
 use Rattle.air_recording.specs.declared.layouts.air_layout.AirLayout.{AirLayout}
-use Rattle.air_recording.specs.Recorded.{EachRecords, RecordRefuses, terms_of}
+use Rattle.air_recording.specs.Recorded.{EachRecords, RecordRefuses, RecordingAnswers, terms_of}
 use Rattle.air_recording.specs.declared.symbolic.record.Recorded.{Recorded}
 
 -- the lengths of periodic columns
@@ -66,5 +65,5 @@ pub record IsDegreeOver {F E : Type 0} (r : CommRing F) (over : Over F E) (weigh
 abbrev pub DegreeRefuses : {F E : Type 0} → CommRing F → Over F E → ℕ → ℕ → AirLayout → Declaration F → AirError → Type 0
 DegreeRefuses r over w n layout d e =
     RecordRefuses layout d e
-    ⊎ (FitsAir layout d
+    ⊎ (RecordingAnswers r over layout d
     × ((e ≡ air.DegreeOverflow) × IsDegreeOver r over (domain_weight w n (periods_of d.periodic)) d.declared))

@@ -1,11 +1,11 @@
 -- What a recording answers and refuses.
 use Rattle.std.specs.List.{AllZip}
-use Rattle.std.specs.Prelude.{◌≡◌, ◌⊎◌, ℕ, ◌≤◌, List, map}
+use Rattle.std.specs.Prelude.{◌≡◌, ◌⊎◌, ℕ, ◌≤◌, ◌<◌, ◌^◌, List, ◌++◌, map}
 use Rattle.air_field.specs.Ring.{CommRing, Over, itself}
 use Rattle.air_field.specs.Term.{Leaf, Term}
 use Rattle.air_field.specs.Value.{value}
 use Rattle.air_field.specs.Polynomial.{polynomial, SamePolynomial}
-use Rattle.air_field.specs.Degree.{degree_by, cached_weight}
+use Rattle.air_field.specs.Degree.{degree_by, cached_weight, greatest_degree}
 use Rattle.air_field.specs.Assignment.{IsMissing}
 use Rattle.air_symbolic.specs.Leaves.{Leaves}
 use Rattle.air_symbolic.specs.Pools.{IsPool, PoolMeans, term_at}
@@ -14,7 +14,7 @@ use Rattle.air_builder.specs.Assertion.{Assertion}
 use Rattle.air_builder.specs.Declaration.{Declaration}
 use Rattle.air_core.specs.declared.errors.AirError.{AirError}
 use Rattle.air_recording.specs.Kinds.{base_terms, ext_terms}
-use Rattle.air_recording.specs.Layouts.{layout_shape, FitsAir, LayoutRefuses}
+use Rattle.air_recording.specs.Layouts.{layout_shape, FitsAir, LayoutSuits, LayoutRefuses}
 use Rattle.air_recording.specs.declared.layouts.air_layout.AirLayout.{AirLayout}
 use Rattle.air_recording.specs.Recording.{IsOver}
 use Rattle.air_builder.specs.Refused.{Refused}
@@ -55,3 +55,13 @@ abbrev pub RecordRefuses : {F : Type 0} → AirLayout → Declaration F → AirE
 RecordRefuses layout d e =
     LayoutRefuses layout d e
     ⊎ (FitsAir layout d × Refused (IsMissing (layout_shape layout)) (IsOver cached_weight) (λ _. ⊥) e d.declared)
+
+-- The recording answers: the layout has the AIR's counts and each entry that a declared term names, and some terms which
+-- record what is declared have cached degrees within `usize`.
+pub record RecordingAnswers {F E : Type 0} (r : CommRing F) (over : Over F E) (layout : AirLayout) (d : Declaration F) : Type 0 where
+  pub suits : LayoutSuits layout d
+  pub base : List (Term F)
+  pub ext : List (Term F)
+  pub base_recorded : EachRecords (itself r) base (base_terms d.declared)
+  pub ext_recorded : EachRecords over ext (ext_terms d.declared)
+  pub within : greatest_degree cached_weight (base ++ ext) < 2 ^ 64

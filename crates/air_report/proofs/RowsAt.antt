@@ -51,7 +51,7 @@ module _ {F : Type 0} (g : Given F) {i : ℕ} {pair table : ViewPair F} {periodi
     (at : IsAtRow i pair table g.public first last other periodic None [] [] fs b) where
   -- where it holds what stands at its row of the trace, it grows by what the check of the row adds
   pub checked_row : {r : CommRing F} {eq : F → F → Bool} {over : Over F F} {e : RowData F F} {n : ℕ} {gs hs : List ConstraintFailure}
-      → over ≡ itself r → debug_row b ≡ record { row = i; values = row_at r (given_trace g) i; permutation = no_permutation } → hs ≡ gs
+      → over ≡ itself r → debug_row b ≡ record { row = i; values = row_at r (given_trace g) i; has_permutation = false; permutation = no_permutation } → hs ≡ gs
       → GrewAtRow (is_zero_at r over eq eq) (debug_row b) e b.constraint_index n b.failures.items gs g.declaration.declared
       → CheckedRow r eq g i fs hs n
   checked_row {r} {eq} {over} own there handed grew =
@@ -67,7 +67,7 @@ module _ {F : Type 0} (g : Given F) {i : ℕ} {pair table : ViewPair F} {periodi
   -- the table that its preprocessed rows are of, and its periodic row
   module _ {t : Option (Grid F)} (same : t ≡ g.declaration.preprocessed) (p : map Some periodic.items ≡ map (column_at i) g.declaration.periodic) where
     holds : debug_row b ≡ row_data i pair.top.values.now pair.bottom.values.now
-        table.top.values.now table.bottom.values.now periodic.items g.public first last other no_permutation
+        table.top.values.now table.bottom.values.now periodic.items g.public first last other false no_permutation
     holds = rw (at.row_index, at.main, at.preprocessed, at.preprocessed_next, at.periodic_row, at.public_values, at.is_first_row, at.is_last_row, at.is_transition, at.permutation, at.permutation_challenges, at.permutation_values)
 
     -- it holds what stands at its row of the trace
@@ -76,7 +76,7 @@ module _ {F : Type 0} (g : Given F) {i : ℕ} {pair table : ViewPair F} {periodi
         → table.top.values.now ≡ row_or_none (slice_get (table_grid t).rows i)
         → table.bottom.values.now ≡ row_or_none (slice_get (table_grid t).rows ((i + 1) % length (table_grid t).rows))
         → first ≡ selector r (i == 0) → last ≡ selector r (i + 1 == length g.main.rows) → other ≡ selector r (not (i + 1 == length g.main.rows))
-        → debug_row b ≡ record { row = i; values = row_at r (given_trace g) i; permutation = no_permutation }
+        → debug_row b ≡ record { row = i; values = row_at r (given_trace g) i; has_permutation = false; permutation = no_permutation }
     row_at-given r fits c n before after f l o =
         let u : table.top.values.now ≡ row_or_none (slice_get (table_grid g.declaration.preprocessed).rows i) =
         before ∙ ap (λ x. row_or_none (slice_get (table_grid x).rows i)) same in

@@ -11,14 +11,15 @@ use Rattle.air_builder.specs.Assertion.{Assertion, Base, Extension}
 use Rattle.air_report.specs.Report.{assertion_value, failure_place}
 use Rattle.air_report.specs.declared.debug.failure.ConstraintFailure.{ConstraintFailure}
 
--- the number of a row, and what stands there
+-- the number of a row, and what stands there; and whether there is a permutation trace, with columns or without
 pub record RowData (F E : Type 0) : Type 0 where
   pub row : ℕ
   pub values : RowValues F
+  pub has_permutation : Bool
   pub permutation : PermutationData E
 
-abbrev pub row_data : {F E : Type 0} → ℕ → List F → List F → List F → List F → List F → List F → F → F → F → PermutationData E → RowData F E
-row_data row current next preprocessed_current preprocessed_next periodic public first last transition others = record {
+abbrev pub row_data : {F E : Type 0} → ℕ → List F → List F → List F → List F → List F → List F → F → F → F → Bool → PermutationData E → RowData F E
+row_data row current next preprocessed_current preprocessed_next periodic public first last transition has others = record {
   row = row;
   values = record {
     current = current;
@@ -31,6 +32,7 @@ row_data row current next preprocessed_current preprocessed_next periodic public
     on_last_row = last;
     on_transition = transition;
   };
+  has_permutation = has;
   permutation = others;
 }
 

@@ -1,5 +1,5 @@
 -- The row that a debug builder stands at.
-use Rattle.std.specs.Prelude.{◌≡◌, ℕ, List, Option, Vec}
+use Rattle.std.specs.Prelude.{◌≡◌, ℕ, List, Option, is_some, Vec}
 use Rattle.std.specs.Global.{Global}
 use Rattle.air_field.specs.declared.matrices.view.ViewPair.{ViewPair}
 use Rattle.air_builder.specs.PermutationRows.{permutation_data}
@@ -10,7 +10,7 @@ use Rattle.air_report.specs.declared.debug.failure.ConstraintFailure.{Constraint
 abbrev pub debug_row : {F E : Type 0} → DebugConstraintBuilder F E → RowData F E
 debug_row b = row_data b.row_index b.main.top.values.now b.main.bottom.values.now
     b.preprocessed.current.now b.preprocessed.next.now b.periodic_row.items b.public_values.now
-    b.is_first_row b.is_last_row b.is_transition
+    b.is_first_row b.is_last_row b.is_transition (is_some b.permutation)
     (permutation_data b.permutation b.permutation_challenges.now b.permutation_values.now)
 
 -- The builder is at the row of this index, and holds the pairs of rows, the values and the permutation data that it was given. It

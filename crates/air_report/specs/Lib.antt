@@ -15,5 +15,6 @@ pub mod RowRefusals
 pub mod DebugRow
 pub mod FailureTexts
 pub mod DebugLabels
+pub mod DebugAsserts
 pub mod Checks
 pub mod laws

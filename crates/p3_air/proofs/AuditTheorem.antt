@@ -26,7 +26,7 @@ use Rattle.air_recording.specs.Inferred.{AnswersInferred, periods_of, recorded_t
 use Rattle.air_recording.specs.laws.Bounds.{degrees_within, polynomials_within}
 use Rattle.air_recording.specs.Kinds.{kind_of, base_terms, ext_terms}
 use Rattle.air_recording.specs.Layouts.{air_layout, LayoutRefuses}
-use Rattle.air_recording.specs.Recorded.{EachRecords, RecordRefuses, RecordsBase, RecordsExt, terms_of}
+use Rattle.air_recording.specs.Recorded.{EachRecords, RecordRefuses, RecordingAnswers, RecordsBase, RecordsExt, terms_of}
 use Rattle.air_report.specs.Report.{IsReached, failure_place, report_of, count_shown}
 use Rattle.p3_air.specs.declared.audit.Audit.{Audit}
 use Rattle.air_recording.specs.declared.layouts.air_layout.AirLayout.{AirLayout}
@@ -120,7 +120,7 @@ module _ {F : Type 0} (r : CommRing F) (eq : F → F → Bool) (g : Given F) (ca
       step (inr refused) = inl refused.1
 
   pub degree_refused : (report : ConstraintReport) (us vs : List (Term F)) (e : RingError) → IsReport r eq g cap report
-      → LayoutHasEntries g.declaration
+      → RecordingAnswers r (itself r) (air_layout g.declaration) g.declaration
       → EachRecords (itself r) us (base_terms g.declaration.declared) → EachRecords (itself r) vs (ext_terms g.declaration.declared)
       → AnswersInferred w (height g) (periods_of g.declaration.periodic) (us ++ vs) (Err e) → AuditRefusesUnder r eq g cap w (air_error e)
   degree_refused report us vs Memory checked answers m n h = inl tt

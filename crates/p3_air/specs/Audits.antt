@@ -24,7 +24,7 @@ use Rattle.air_report.specs.Given.{Given, given_trace, height}
 use Rattle.air_recording.specs.Inferred.{periods_of, recorded_terms}
 use Rattle.air_recording.specs.Kinds.{kind_of, base_terms, ext_terms}
 use Rattle.air_recording.specs.Layouts.{layout_shape, air_layout}
-use Rattle.air_recording.specs.Recorded.{RecordsTerm, EachRecords, RecordsBase, RecordsExt}
+use Rattle.air_recording.specs.Recorded.{RecordsTerm, EachRecords, RecordsBase, RecordsExt, RecordingAnswers}
 use Rattle.air_recording.specs.Recording.{IsOver}
 use Rattle.air_builder.specs.Refused.{Refused}
 use Rattle.air_report.specs.Report.{assertion_value, report_of, failure_place, IsRowsShown, count_shown}
@@ -122,7 +122,7 @@ pub record IsDegreePast {F : Type 0} (r : CommRing F) (eq : F → F → Bool) (g
 abbrev pub AuditRefusesUnder : {F : Type 0} → CommRing F → (F → F → Bool) → Given F → Option ℕ → ℕ → AirError → Type 0
 AuditRefusesUnder r eq g cap w e =
     Refused (IsMissing (layout_shape (air_layout g.declaration))) (IsOver cached_weight) (λ _. ⊥) e g.declaration.declared
-    ⊎ (LayoutHasEntries g.declaration
+    ⊎ (RecordingAnswers r (itself r) (air_layout g.declaration) g.declaration
     × (CheckRefuses r eq g cap e ⊎ ((e ≡ DegreeOverflow) × IsDegreePast r eq g cap w)))
 
 -- without a cap

@@ -1,6 +1,7 @@
 //! The degree inferred for the constraints of an AIR.
-ghost use Rattle.std.specs.Prelude.{◌≡◌, ◌<◌, ◌^◌, length, IfOk, IfErr, OnOk, All};
+ghost use Rattle.std.specs.Prelude.{◌≡◌, ◌<◌, ◌^◌, ◌++◌, length, IfOk, IfErr, OnOk, All};
 ghost use Rattle.air_field.specs.Degree.{cached_weight, greatest_degree, quotient_degree};
+ghost use Rattle.air_symbolic.specs.BaseLeaves.{base_reads};
 ghost use Rattle.air_symbolic.specs.ExtLeaves.{ext_reads};
 ghost use Rattle.air_symbolic.specs.Pools.{IsPool};
 ghost use Rattle.air_symbolic.specs.PoolRefusals.{AnswersDegree};
@@ -14,7 +15,7 @@ use crate::symbolic::builder::SymbolicAirBuilder;
 use crate::symbolic::record::{Recorded, get_all_symbolic_constraints};
 use air_builder::{Air, AirError};
 use air_field::{ExtensionField, Field, RingError, SelfExtension};
-use air_symbolic::{ExprId, ExprPool, LeafWeight, SymLeaf};
+use air_symbolic::{BaseLeaf, ExprId, ExprPool, ExtLeaf, LeafWeight, SymLeaf};
 use std::alloc::Global;
 
 /// The constraint degree of a polynomial of degree `poly_degree` over `trace_len` rows: 0 for degree 0, else
@@ -39,6 +40,24 @@ fn greatest_cached<A: SymLeaf>(pool: &ExprPool<A>, numbers: &[ExprId<A>]) -> usi
         greatest = pool.degree_multiple(*number).max(greatest);
     }
     greatest
+}
+
+/// The greatest cached degree of these base and extension expressions, 0 of none.
+pub(crate) fn greatest_recorded<F: Field, EF: ExtensionField<F>>(
+    pool: &ExprPool<ExtLeaf<F, EF>>,
+    base: &[ExprId<BaseLeaf<F>>],
+    ext: &[ExprId<ExtLeaf<F, EF>>],
+) -> usize
+    requires pool { IsPool (ext_reads EF.basis) pool.now }
+    requires base_here { All (λ i. i < length pool.now.0.1) base.now }
+    requires ext_here { All (λ i. i < length pool.now.1) ext.now }
+    ensures value { result ≡ greatest_degree cached_weight (terms_of base_reads pool.now.0 base.now
+        ++ terms_of (ext_reads EF.basis) pool.now ext.now) }
+    ensures fits { result < 2 ^ 64 }
+{
+    let base = greatest_cached(pool.base(), base);
+    let ext = greatest_cached(pool, ext);
+    base.max(ext)
 }
 
 /// The greatest of these numbers, 0 of none.

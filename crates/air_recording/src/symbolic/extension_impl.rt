@@ -1,8 +1,9 @@
 //! The symbolic builder over the extension, and with permutation data.
-ghost use Rattle.std.specs.Prelude.{◌≡◌, [], refl};
+ghost use Rattle.std.specs.Prelude.{◌≡◌, [], refl, IfOk, IfErr};
 ghost use Rattle.air_symbolic.specs.BaseLeaves.{base_reads};
 ghost use Rattle.air_symbolic.specs.laws.BasePool.{base_pool_laws};
 ghost use Rattle.air_symbolic.specs.laws.ExtPool.{ext_pool_laws, base_lent, base_grown};
+ghost use Rattle.air_recording.specs.Rows.{IsExtRowOf};
 ghost use Rattle.air_recording.specs.laws.Recording.{recording_ext_laws};
 ghost use Rattle.air_recording.specs.RecordedLists.{lists_of};
 ghost use Rattle.air_recording.specs.SymbolicParts.{fixed_by, base_has_it, base_means_it};
@@ -51,7 +52,15 @@ impl<F: Field, EF: ExtensionField<F>> PermutationAirBuilder for SymbolicAirBuild
 
     type PermutationVar = SymbolicVariableExt<F, EF>;
 
-    fn permutation(&self) -> Result<TwoRows<SymbolicVariableExt<F, EF>>, AirError> {
+    /// The window of the permutation trace; where the layout has none its rows have no columns. It refuses for want of
+    /// memory alone.
+    fn permutation(&self) -> Result<TwoRows<SymbolicVariableExt<F, EF>>, AirError>
+        ensures current { IfOk result (λ w. IsExtRowOf (ExtEntry.Permutation 0)
+            self.now.entries.base.layout.permutation_width w.current.items) }
+        ensures next { IfOk result (λ w. IsExtRowOf (ExtEntry.Permutation 1)
+            self.now.entries.base.layout.permutation_width w.next.items) }
+        ensures refused { IfErr result (λ e. e ≡ AirError.Memory) }
+    {
         let width = self.entries.ext.layout.permutation_width;
         let current = ext_variables_of(self.alloc, ExtEntry::Permutation { offset: 0 }, width)?;
         let next = ext_variables_of(self.alloc, ExtEntry::Permutation { offset: 1 }, width)?;

@@ -1,8 +1,13 @@
-//! The symbolic builder discards labels.
-ghost use Rattle.std.specs.Prelude.{refl};
+//! The symbolic builder discards labels: a name needs not be one that may be evaluated.
+ghost use Rattle.std.specs.Prelude.{refl, [], ◌∷◌};
+ghost use Rattle.air_symbolic.specs.BaseLeaves.{base_reads};
+ghost use Rattle.air_symbolic.specs.ExtLeaves.{ext_reads};
+ghost use Rattle.air_symbolic.specs.Pools.{PoolHas};
 ghost use Rattle.air_symbolic.specs.laws.BasePool.{base_pool_laws};
 ghost use Rattle.air_symbolic.specs.laws.ExtPool.{ext_pool_laws, base_lent, base_grown};
-ghost use Rattle.air_builder.specs.Labels.{discarding};
+ghost use Rattle.air_builder.specs.Assertion.{Base, Extension};
+ghost use Rattle.air_builder.specs.Batches.{Asserts};
+ghost use Rattle.air_builder.specs.Labels.{Labels, discarding};
 ghost use Rattle.air_builder.specs.laws.NamedFilters.{discarding_laws};
 ghost use Rattle.air_recording.specs.laws.Recording.{recording_laws};
 ghost use Rattle.air_recording.specs.RecordedLists.{lists_of};
@@ -11,7 +16,7 @@ ghost use Rattle.air_recording.specs.SymbolicParts.{fixed_by};
 use crate::symbolic::builder::SymbolicAirBuilder;
 use air_builder::{
     AirBuilder, AirError, ExtensionBuilder, Name, NamedAirBuilder, NamedExtensionBuilder,
-    PassthroughNamedAirBuilder,
+    PassthroughNamedAirBuilder, Seen, SeenOver,
 };
 use air_field::{ExtensionField, Field};
 use air_symbolic::{BaseLeaf, ExprId, ExtLeaf};
@@ -32,7 +37,15 @@ impl<F: Field, EF: ExtensionField<F>> NamedAirBuilder for SymbolicAirBuilder<F, 
         &mut self,
         x: ExprId<BaseLeaf<F>>,
         name: N,
-    ) -> Result<(), AirError> {
+    ) -> Result<(), AirError>
+        requires ready { ⟦<SymbolicAirBuilder<F, EF> as AirBuilder>⟧.ready self.old }
+        requires of_ring { PoolHas base_reads self.old.pool.0 x }
+        ensures asserted { Asserts ⟦<SymbolicAirBuilder<F, EF> as Seen>⟧.view Base (λ t. t) self.old
+            self.new (x ∷ []) result }
+        ensures label { Labels ⟦<SymbolicAirBuilder<F, EF> as Seen>⟧.view
+            (discarding ⟦<SymbolicAirBuilder<F, EF> as AirBuilder>⟧.grew) Base (λ t. t)
+            (λ i. N.displays name) self.old self.new (x ∷ []) result }
+    {
         self.assert_zero_unlabelled(x, name)
     }
 }
@@ -42,7 +55,15 @@ impl<F: Field, EF: ExtensionField<F>> NamedExtensionBuilder for SymbolicAirBuild
         &mut self,
         x: ExprId<ExtLeaf<F, EF>>,
         _name: N,
-    ) -> Result<(), AirError> {
+    ) -> Result<(), AirError>
+        requires ready { ⟦<SymbolicAirBuilder<F, EF> as AirBuilder>⟧.ready self.old }
+        requires of_ring { PoolHas (ext_reads EF.basis) self.old.pool x }
+        ensures asserted { Asserts ⟦<SymbolicAirBuilder<F, EF> as SeenOver>⟧.view Extension
+            (λ t. t) self.old self.new (x ∷ []) result }
+        ensures label { Labels ⟦<SymbolicAirBuilder<F, EF> as SeenOver>⟧.view
+            (discarding ⟦<SymbolicAirBuilder<F, EF> as AirBuilder>⟧.grew) Extension (λ t. t)
+            (λ i. N.displays _name) self.old self.new (x ∷ []) result }
+    {
         self.assert_zero_ext(x)
     }
 }

@@ -2,15 +2,17 @@
 ghost use Rattle.std.specs.Prelude.{◌≡◌, ◌<◌, [], length, map, All, IfOk, IfErr, OnOk};
 ghost use Rattle.air_symbolic.specs.BaseLeaves.{base_reads};
 ghost use Rattle.air_symbolic.specs.ExtLeaves.{ext_reads};
+ghost use Rattle.air_symbolic.specs.Pools.{IsPool};
 ghost use Rattle.air_recording.specs.Layouts.{LayoutSuits};
 ghost use Rattle.air_recording.specs.Folds.{ArePlacesOf};
 ghost use Rattle.air_recording.specs.Kinds.{kind_of, RecordsKinds};
-ghost use Rattle.air_recording.specs.Recorded.{RecordsBase, RecordsExt, RecordRefuses};
+ghost use Rattle.air_recording.specs.Recorded.{RecordsBase, RecordsExt, RecordRefuses, RecordingAnswers};
 
 use crate::layouts::air_layout::AirLayout;
 use crate::layouts::constraint_layout::ConstraintLayout;
 use crate::symbolic::builder::SymbolicAirBuilder;
 use crate::symbolic::constraints::Constraints;
+use crate::symbolic::degree::greatest_recorded;
 use air_builder::{Air, AirError};
 use air_field::{ExtensionField, Field, SelfExtension};
 use air_symbolic::{BaseLeaf, ExprId, ExprPool, ExtLeaf};
@@ -60,11 +62,18 @@ pub fn record<F: Field, EF: ExtensionField<F>, A: Air<SymbolicAirBuilder<F, EF>>
     ensures kinds { IfOk result (λ b. RecordsKinds b.constraints.kinds.items
         (A.declaration air.now).declared) }
     ensures layout { OnOk result (LayoutSuits layout (A.declaration air.now)) }
+    ensures answers { OnOk result (RecordingAnswers F.ring EF.over layout (A.declaration air.now)) }
     ensures refused { IfErr result (RecordRefuses layout (A.declaration air.now)) }
 {
     layout.validate_against_air(air)?;
     let mut builder = SymbolicAirBuilder::new(alloc, layout)?;
     air.eval(&mut builder)?;
+    // The pool holds these degrees as `usize`, which a proof sees where they are read.
+    let _greatest = greatest_recorded(
+        &builder.pool,
+        &builder.constraints.base,
+        &builder.constraints.ext,
+    );
     Ok(builder)
 }
 
@@ -84,13 +93,15 @@ pub fn get_all_symbolic_constraints<
         (ext_reads EF.basis) r.pool r.ext.items
         (A.declaration air.now).declared) }
     ensures layout { OnOk result (LayoutSuits layout (A.declaration air.now)) }
+    ensures answers { OnOk result (RecordingAnswers F.ring EF.over layout (A.declaration air.now)) }
     ensures refused { IfErr result (RecordRefuses layout (A.declaration air.now)) }
 {
     let builder = record(alloc, air, layout)?;
     Ok(builder.into_recorded())
 }
 
-/// Records the base constraints of an AIR, as [`get_all_symbolic_constraints`] does; `ext` is left empty.
+/// Records the base constraints of an AIR, as [`get_all_symbolic_constraints`] does; `ext` is left empty. The pool is one
+/// over the extension too.
 pub fn get_symbolic_constraints<F: SelfExtension, A: Air<SymbolicAirBuilder<F, F>>>(
     alloc: Global,
     air: &A,
@@ -98,8 +109,10 @@ pub fn get_symbolic_constraints<F: SelfExtension, A: Air<SymbolicAirBuilder<F, F
 ) -> Result<Recorded<F, F>, AirError>
     ensures base { IfOk result (λ r. RecordsBase F.ring F.over base_reads r.pool.0 r.base.items
         (A.declaration air.now).declared) }
+    ensures pool { IfOk result (λ r. IsPool (ext_reads F.basis) r.pool) }
     ensures ext { IfOk result (λ r. r.ext.items ≡ []) }
     ensures layout { OnOk result (LayoutSuits layout (A.declaration air.now)) }
+    ensures answers { OnOk result (RecordingAnswers F.ring F.over layout (A.declaration air.now)) }
     ensures refused { IfErr result (RecordRefuses layout (A.declaration air.now)) }
 {
     let Recorded { pool, base, .. } = get_all_symbolic_constraints(alloc, air, layout)?;
@@ -118,6 +131,7 @@ pub fn get_symbolic_constraints_extension<
         (ext_reads EF.basis) r.pool r.ext.items
         (A.declaration air.now).declared) }
     ensures layout { OnOk result (LayoutSuits layout (A.declaration air.now)) }
+    ensures answers { OnOk result (RecordingAnswers F.ring EF.over layout (A.declaration air.now)) }
     ensures refused { IfErr result (RecordRefuses layout (A.declaration air.now)) }
 {
     let Recorded { pool, ext, .. } = get_all_symbolic_constraints(alloc, air, layout)?;
@@ -134,6 +148,7 @@ pub fn get_constraint_layout<F: Field, EF: ExtensionField<F>, A: Air<SymbolicAir
     ensures places { IfOk result (λ l. ArePlacesOf (map kind_of (A.declaration air.now).declared)
         l.base_indices.items l.ext_indices.items) }
     ensures layout { OnOk result (LayoutSuits layout (A.declaration air.now)) }
+    ensures answers { OnOk result (RecordingAnswers F.ring EF.over layout (A.declaration air.now)) }
     ensures refused { IfErr result (RecordRefuses layout (A.declaration air.now)) }
 {
     let builder: SymbolicAirBuilder<F, EF> = record(alloc, air, layout)?;

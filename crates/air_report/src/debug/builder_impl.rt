@@ -1,6 +1,9 @@
 //! The debug builder keeps the laws of builders.
-ghost use Rattle.std.specs.Prelude.{◌≡◌, refl, ⊤};
+ghost use Rattle.std.specs.Prelude.{◌≡◌, refl, ⊤, OnOk};
+ghost use Rattle.air_builder.specs.Assertion.{Base};
+ghost use Rattle.air_builder.specs.Batches.{AssertsOf};
 ghost use Rattle.air_report.specs.Debug.{row_stands, is_zero_at, GrewAtRow};
+ghost use Rattle.air_report.specs.DebugAsserts.{AssertedAtRow, MeansAtRow, LogsNameless};
 ghost use Rattle.air_report.specs.laws.Debug.{debug_laws};
 ghost use Rattle.air_report.specs.RowRefusals.{RowMissing, RefusedAtRow};
 ghost use Rattle.air_report.specs.DebugRow.{debug_row};
@@ -111,8 +114,14 @@ impl<'a, F: Field, EF: ExtensionField<F> + 'static> AirBuilder
         Ok(self.is_transition)
     }
 
+    /// Asserts that `x` is zero; where it isn't, the failure has no label.
     #[inline(always)]
-    fn assert_zero(&mut self, x: F) -> Result<(), AirError> {
+    fn assert_zero(&mut self, x: F) -> Result<(), AirError>
+        ensures asserted { AssertedAtRow (is_zero_at F.ring EF.over F.eq EF.eq)
+            (AssertsOf Base (MeansAtRow F.ring EF.over EF.basis) (λ t. t)) self.old self.new x
+            result }
+        ensures nameless { OnOk result (LogsNameless (F.eq x F.ring.nil) self.old self.new) }
+    {
         self.log(x == F::ZERO, "")
     }
 }

@@ -3,12 +3,13 @@ ghost use Rattle.std.specs.Prelude.{◌≡◌, ◌≢◌, false, [], ◌∷◌, 
 ghost use Rattle.air_field.specs.Algebra.{closed_value, closed_value_in};
 ghost use Rattle.air_field.specs.Term.{IsBase, permutation};
 ghost use Rattle.air_builder.specs.Assertion.{Extension};
-ghost use Rattle.air_builder.specs.Batches.{Asserts};
+ghost use Rattle.air_builder.specs.Batches.{Asserts, AssertsOf};
 ghost use Rattle.air_builder.specs.Labels.{Labels};
 ghost use Rattle.air_builder.specs.Builders.{Means, RowStands};
 ghost use Rattle.air_builder.specs.Refusals.{RowEnds};
 ghost use Rattle.air_report.specs.Debug.{is_zero_at, row_stands};
 ghost use Rattle.air_report.specs.DebugLabels.{LabelledAtRow, LogRefuses};
+ghost use Rattle.air_report.specs.DebugAsserts.{AssertedAtRow, ExtMeansAtRow, LogsNameless};
 ghost use Rattle.air_report.specs.laws.Debug.{debug_extension_laws};
 ghost use Rattle.air_report.specs.RowRefusals.{RowMissing};
 ghost use Rattle.air_report.specs.DebugRow.{debug_row};
@@ -45,8 +46,14 @@ impl<'a, F: Field, EF: ExtensionField<F> + 'static> ExtensionBuilder
         &mut self.ext_ring
     }
 
+    /// Asserts that `x` is zero; where it isn't, the failure has no label.
     #[inline(always)]
-    fn assert_zero_ext(&mut self, x: EF) -> Result<(), AirError> {
+    fn assert_zero_ext(&mut self, x: EF) -> Result<(), AirError>
+        ensures asserted { AssertedAtRow (is_zero_at F.ring EF.over F.eq EF.eq)
+            (AssertsOf Extension (ExtMeansAtRow F.ring EF.over EF.basis) (λ t. t)) self.old self.new
+            x result }
+        ensures nameless { OnOk result (LogsNameless (EF.eq x EF.over.ring.nil) self.old self.new) }
+    {
         self.log(x == EF::zero(), "")
     }
 }

@@ -8,7 +8,7 @@ use Rattle.air_recording.specs.Folds.{ArePlacesOf}
 use Rattle.air_report.specs.Given.{given}
 use Rattle.air_recording.specs.Inferred.{AnswersInferred, periods_of}
 use Rattle.air_recording.specs.Layouts.{air_layout}
-use Rattle.air_recording.specs.Recorded.{RecordsBase, RecordsExt, terms_of}
+use Rattle.air_recording.specs.Recorded.{RecordingAnswers, RecordsBase, RecordsExt, terms_of}
 use Rattle.p3_air.proofs.AuditTheorem.{audited, recording_refused, degree_refused}
 use Rattle.p3_air.proofs.audit.audit_air_with_cap.Goals as goal
 
@@ -23,7 +23,7 @@ returns-in_err-report-clause-refused g c =
     let p = err_from_is_err_and c.from_residual-in_err-report.result c.from_residual-in_err-report.ensures.1 in
     let r = g.F.Field.ring in
     let d = g.A.BaseAir.declaration c.args.air.now in
-    let answers = rw c.from_air.ensures at c.in_ok-builder.ensures.layout.there in
+    let answers = subst (λ a. RecordingAnswers r a (air_layout d) d) g.met.F.SelfExtension.over_itself (rw c.from_air.ensures at c.in_ok-builder.ensures.answers) in
     rw (p.1, p.2) (inr (answers, inl c.in_err-report.ensures.refused))
 
 pub degree_of-requires-clause-pool : goal.degree_of-requires-clause-pool
@@ -51,7 +51,7 @@ returns-in_err-degree-clause-refused g c =
     let e = c.in_err-degree.field-0.0 in
     let q = c.deref.ensures.value ∙ (c.in_ok-periods.ensures.lengths ∙ ap periods_of c.periodic_columns.ensures) in
     let past = subst (λ (n : ℕ). AnswersInferred c.args.transition_weight n (periods_of d.periodic) (us ++ vs) (Err e)) c.height.ensures (subst (λ (l : List ℕ). AnswersInferred c.args.transition_weight c.height.result l (us ++ vs) (Err e)) q c.in_err-degree.ensures) in
-    let answers = rw c.from_air.ensures at c.in_ok-builder.ensures.layout.there in
+    let answers = subst (λ a. RecordingAnswers r a (air_layout d) d) g.met.F.SelfExtension.over_itself (rw c.from_air.ensures at c.in_ok-builder.ensures.answers) in
     rw (p.1, p.2)
     (degree_refused r g.F.PartialEq.eq (given d c.args.main.now c.args.public_values.now) c.args.max_failures c.args.transition_weight c.in_ok-report.report us vs e c.in_ok-report.ensures.report answers base.terms ext.terms past)
 

@@ -32,7 +32,7 @@ returns-in_err-degree-clause-refused g c =
     let h = subst (λ (l : List ℕ). AnswersInferred c.args.transition_weight c.args.trace_len l (us ++ vs) (Err e)) q c.in_err-degree.ensures in
     let p = err_from_is_err_and c.from_residual-in_err-degree.result c.from_residual-in_err-degree.ensures.1 in
     rw (p.1, p.2)
-    (inferred_refused g.F.Field.ring g.EF.ExtensionField.over c.args.transition_weight c.args.trace_len c.args.layout (g.A.BaseAir.declaration c.args.air.now) us vs e c.in_ok-recorded.ensures.base.terms c.in_ok-recorded.ensures.ext.terms c.in_ok-recorded.ensures.layout.fits h)
+    (inferred_refused g.F.Field.ring g.EF.ExtensionField.over c.args.transition_weight c.args.trace_len c.args.layout (g.A.BaseAir.declaration c.args.air.now) us vs e c.in_ok-recorded.ensures.base.terms c.in_ok-recorded.ensures.ext.terms c.in_ok-recorded.ensures.answers h)
 
 pub returns-clause-inferred : goal.returns-clause-inferred
 returns-clause-inferred g c =
