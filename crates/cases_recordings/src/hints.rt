@@ -14,7 +14,7 @@ struct OneHint;
 impl BaseAir<BabyBear> for OneHint {
     ghost declaration = { λ _. plain_declaration [] 3 0 };
 
-    ghost has_own_hints = { λ _. Unit {0} };
+    ghost has_own_next_row_columns = { λ _. Unit {0} };
 
     fn width(&self) -> usize {
         3
