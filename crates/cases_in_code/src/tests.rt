@@ -1,2 +1,3 @@
 //! Tests, a file a layer.
 mod checks;
+mod recordings;

@@ -1,0 +1,77 @@
+//! Audits: the recording, the report and the degree at once.
+ghost use Rattle.air_symbolic.specs.Pools.{IsPool};
+
+use crate::recordings::{BaseRecorder, show_bases};
+use air_builder::{Air, BaseAir};
+use air_field::{BabyBear, RowMajorMatrix};
+use air_report::{ConstraintFailure, DebugConstraintBuilder};
+use air_symbolic::{BaseLeaf, SymLeaf};
+use cases::Fault;
+use p3_air::{Audit, audit_air, audit_air_with_cap};
+use std::alloc::Global;
+
+/// A builder at a row of a trace.
+pub type RowBuilder<'a> = DebugConstraintBuilder<'a, BabyBear, BabyBear>;
+
+/// What is audited beside the AIR.
+#[derive(Drop)]
+pub struct Given {
+    pub main: RowMajorMatrix<BabyBear>,
+    pub public_values: Vec<BabyBear>,
+    pub transition_weight: usize,
+}
+
+// Adds each failure with its row, `none` of none.
+fn show_failures(failures: &[ConstraintFailure], text: &mut String) -> Result<(), Fault> {
+    for (place, failure) in failures.iter().enumerate() {
+        text.push_str(if place == 0 { "" } else { ", " })?;
+        let row = failure.row;
+        write!(text, "row {row} {failure}")?;
+    }
+    text.push_str(if failures.is_empty() { "none" } else { "" })?;
+    Ok(())
+}
+
+// Adds the degree, the counts and the places, then the failures, then what is recorded.
+fn show_audit(audit: &Audit<BabyBear>, text: &mut String) -> Result<(), Fault>
+    requires { IsPool ⟦<BaseLeaf<BabyBear> as SymLeaf>⟧.reads audit.now.recorded.pool.0 }
+{
+    let degree = audit.degree;
+    let rows = audit.report.total_rows;
+    let constraints = audit.report.total_constraints_per_row;
+    let base = &audit.layout.base_indices;
+    let ext = &audit.layout.ext_indices;
+    write!(
+        text,
+        "degree {degree}, rows {rows}, constraints {constraints}, base {base:?}, extension {ext:?} | failures: "
+    )?;
+    show_failures(&audit.report.failures, text)?;
+    text.push_str(" | recorded: ")?;
+    show_bases(audit.recorded.pool.base(), &audit.recorded.base, text)
+}
+
+/// Adds what an audit finds.
+pub fn answer_audit<'a, A: BaseAir<BabyBear> + Air<BaseRecorder> + Air<RowBuilder<'a>>>(
+    alloc: Global,
+    air: &'a A,
+    given: &'a Given,
+    text: &mut String,
+) -> Result<(), Fault> {
+    let public = given.public_values.as_slice();
+    let audit = audit_air(alloc, air, &given.main, public, given.transition_weight)?;
+    show_audit(&audit, text)
+}
+
+/// Adds what an audit under a cap finds.
+pub fn answer_capped_audit<'a, A: BaseAir<BabyBear> + Air<BaseRecorder> + Air<RowBuilder<'a>>>(
+    alloc: Global,
+    air: &'a A,
+    given: &'a Given,
+    cap: Option<usize>,
+    text: &mut String,
+) -> Result<(), Fault> {
+    let public = given.public_values.as_slice();
+    let weight = given.transition_weight;
+    let audit = audit_air_with_cap(alloc, air, &given.main, public, cap, weight)?;
+    show_audit(&audit, text)
+}

@@ -1,0 +1,121 @@
+//! What lines are tried on.
+
+use crate::audits::{Given, answer_audit, answer_capped_audit};
+use crate::folds::{answer_fold, answer_hiding, row_of};
+use crate::hints::answer_hints;
+use crate::layouts::{answer_layout, layout_of};
+use crate::lent::answer_lent;
+use crate::recordings::answer_recorded;
+use crate::words::answer_words;
+use air_field::BabyBear;
+use air_recording::AirLayout;
+use cases::words::{count_of, listed_elements};
+use cases::{Bench, Fault, Line, Why};
+use cases_airs::words::{cap_of, trace_of};
+use cases_airs::{Airs, TableAir};
+use std::alloc::Global;
+
+/// The AIRs that lines have made.
+#[derive(Drop)]
+pub struct AirBench<'a> {
+    alloc: Global,
+    airs: Airs<'a, BabyBear>,
+}
+
+/// Calls that need no AIR.
+#[derive(Drop)]
+pub struct Alone {
+    alloc: Global,
+}
+
+// What the words say of an audit, but the cap.
+fn given_of(alloc: Global, trace: &str, public: &str, weight: &str) -> Result<Given, Fault> {
+    Ok(Given {
+        main: trace_of(alloc, trace)?,
+        public_values: listed_elements(alloc, public)?,
+        transition_weight: count_of(weight)?,
+    })
+}
+
+// The AIR's own layout, changed as the word says.
+fn layout_by(air: &TableAir<BabyBear>, word: &str) -> Result<AirLayout, Fault> {
+    layout_of(
+        AirLayout::from_air::<BabyBear, TableAir<BabyBear>>(air),
+        word,
+    )
+}
+
+impl<'a> Bench<'a> for AirBench<'a> {
+    fn new(alloc: Global) -> Self {
+        AirBench {
+            alloc,
+            airs: Airs::new(alloc),
+        }
+    }
+
+    fn answer(&mut self, line: &Line<'a>, text: &mut String) -> Result<(), Fault> {
+        if self.airs.answer(line)? {
+            return Ok(());
+        }
+        let alloc = self.alloc;
+        match line.words.as_slice() {
+            ["audit_air", air, trace, public, weight] => {
+                let given = given_of(alloc, *trace, *public, *weight)?;
+                answer_audit(alloc, self.airs.air(*air)?, &given, text)
+            }
+            ["audit_air_with_cap", air, trace, public, cap, weight] => {
+                let given = given_of(alloc, *trace, *public, *weight)?;
+                answer_capped_audit(alloc, self.airs.air(*air)?, &given, cap_of(*cap)?, text)
+            }
+            ["fold_air", air, layout, words @ ..] => {
+                let row = row_of(alloc, words)?;
+                let air = self.airs.air(*air)?;
+                answer_fold(alloc, air, layout_by(air, *layout)?, &row, text)
+            }
+            ["validate_against_air", air, layout] => {
+                let air = self.airs.air(*air)?;
+                let layout = layout_by(air, *layout)?;
+                layout.validate_against_air::<BabyBear, TableAir<BabyBear>>(air)?;
+                text.push_str("accepted")?;
+                Ok(())
+            }
+            [call, air, layout, words @ ..] => {
+                let air = self.airs.air(*air)?;
+                let layout = layout_by(air, *layout)?;
+                answer_recorded(alloc, air, layout, *call, words, text)
+            }
+            _ => Err(Fault::Unreadable(Why::NoSuchCall)),
+        }
+    }
+
+    fn standing(&self, text: &mut String) -> Result<(), Fault> {
+        self.airs.standing(text)
+    }
+}
+
+impl<'a> Bench<'a> for Alone {
+    fn new(alloc: Global) -> Self {
+        Alone { alloc }
+    }
+
+    fn answer(&mut self, line: &Line<'a>, text: &mut String) -> Result<(), Fault> {
+        let words = line.words.as_slice();
+        let alloc = self.alloc;
+        if line.name.is_some() {
+            return Err(Fault::Unreadable(Why::MakesNothing));
+        }
+        if answer_layout(alloc, words, text)?
+            || answer_lent(alloc, words, text)?
+            || answer_words(alloc, words, text)?
+            || answer_hints(alloc, words, text)?
+            || answer_hiding(alloc, words, text)?
+        {
+            return Ok(());
+        }
+        Err(Fault::Unreadable(Why::NoSuchCall))
+    }
+
+    fn standing(&self, _text: &mut String) -> Result<(), Fault> {
+        Ok(())
+    }
+}

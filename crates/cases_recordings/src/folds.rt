@@ -1,0 +1,160 @@
+//! Folds of an AIR's values at one row, beside its recording, and how few elements hide a value.
+ghost use Rattle.std.specs.Prelude.{◌≡◌, IsTrue, IfOk};
+ghost use Rattle.air_folder.specs.Hiding.{IsBelowAll, IsIncreasing};
+
+use crate::expressions::Element;
+use crate::recordings::ExtRecorder;
+use air_builder::{Air, BaseAir};
+use air_field::{BabyBear, BinomialExtensionField, ExtensionField, RowMajorMatrixView, ViewPair};
+use air_folder::{ConstraintFolder, fold_air, hiding_alphas};
+use air_recording::AirLayout;
+use cases::words::{listed_elements, show_elements};
+use cases::{Fault, Why};
+use std::alloc::Global;
+use std::cmp::Ordering;
+
+pub type Folder<'a> = ConstraintFolder<'a, BabyBear, Element>;
+
+/// What a folder is made of.
+#[derive(Drop)]
+pub struct Row {
+    current: Vec<Element>,
+    next: Vec<Element>,
+    permutation: Vec<Element>,
+    public_values: Vec<Element>,
+    challenges: Vec<Element>,
+    values: Vec<Element>,
+    selectors: Vec<Element>,
+    alpha: Vec<Element>,
+}
+
+// The element of a word: a number, or the coefficients with commas between.
+fn extension_word(alloc: Global, word: &str) -> Result<Element, Fault> {
+    let all: Vec<BabyBear> = listed_elements(alloc, word)?;
+    match all.as_slice() {
+        [x] => Ok(Element::from_base(*x)),
+        [_, _, _, _] => Ok(Element::from_basis_coefficients(all.as_slice())),
+        _ => Err(Fault::Unreadable(Why::OtherDimension)),
+    }
+}
+
+// The elements, which `/` separates, of the word that begins with the key; where there is no such word, none.
+fn given(alloc: Global, words: &[&str], key: &str) -> Result<Vec<Element>, Fault> {
+    let mut all = Vec::new(alloc);
+    for word in words {
+        match word.split_once(':') {
+            Some((name, list)) if name == key => {
+                for part in list.split('/') {
+                    all.push(extension_word(alloc, part)?)?;
+                }
+            }
+            Some(_) => {}
+            None => return Err(Fault::Unreadable(Why::NoSuchWord)),
+        }
+    }
+    Ok(all)
+}
+
+/// What the words say of a folder.
+pub fn row_of(alloc: Global, words: &[&str]) -> Result<Row, Fault> {
+    Ok(Row {
+        current: given(alloc, words, "row")?,
+        next: given(alloc, words, "next")?,
+        permutation: given(alloc, words, "permutation")?,
+        public_values: given(alloc, words, "public")?,
+        challenges: given(alloc, words, "challenges")?,
+        values: given(alloc, words, "values")?,
+        selectors: given(alloc, words, "selectors")?,
+        alpha: given(alloc, words, "alpha")?,
+    })
+}
+
+// A folder at the row.
+fn folder_of<'a>(row: &'a Row) -> Result<Folder<'a>, Fault>
+    ensures { IfOk result (λ folder. folder.accumulator
+        ≡ ⟦<BinomialExtensionField as ExtensionField<BabyBear>>⟧.over.ring.nil) }
+{
+    if row.current.len() != row.next.len() {
+        return Err(Fault::Unreadable(Why::OtherShape));
+    }
+    let ([first, last, transition], [alpha]) = (row.selectors.as_slice(), row.alpha.as_slice())
+    else {
+        return Err(Fault::Unreadable(Why::OtherShape));
+    };
+    let none = RowMajorMatrixView::new_row(&[]);
+    let permutation = RowMajorMatrixView::new_row(row.permutation.as_slice());
+    let permutation = if row.permutation.is_empty() {
+        None
+    } else {
+        Some(ViewPair::new(permutation, permutation))
+    };
+    Ok(ConstraintFolder::new(
+        ViewPair::new(
+            RowMajorMatrixView::new_row(row.current.as_slice()),
+            RowMajorMatrixView::new_row(row.next.as_slice()),
+        ),
+        ViewPair::new(none, none),
+        permutation,
+        row.public_values.as_slice(),
+        &[],
+        row.challenges.as_slice(),
+        row.values.as_slice(),
+        *first,
+        *last,
+        *transition,
+        *alpha,
+    ))
+}
+
+/// Adds what is folded of an AIR at the row, and the places of its constraints.
+pub fn answer_fold<'a, A: BaseAir<BabyBear> + Air<ExtRecorder> + Air<Folder<'a>>>(
+    alloc: Global,
+    air: &A,
+    layout: AirLayout,
+    row: &'a Row,
+    text: &mut String,
+) -> Result<(), Fault> {
+    let mut folder = folder_of(row)?;
+    let folded = fold_air(alloc, air, layout, &mut folder)?;
+    show_elements(folded.accumulator.as_basis_coefficients_slice(), text)?;
+    let base = folded.recorded.base.len();
+    let ext = folded.recorded.ext.len();
+    let places = &folded.layout;
+    write!(text, ", {base} base, {ext} extension, {places:?}")?;
+    Ok(())
+}
+
+// Whether a number is below all these.
+fn is_below_all(x: BabyBear, all: &[BabyBear]) -> bool
+    ensures { IsTrue result → IsBelowAll ⟦<BabyBear as Ord>⟧.cmp x all.now }
+{
+    match all {
+        [] => true,
+        [y, rest @ ..] => x.cmp(y) == Ordering::Less && is_below_all(x, rest),
+    }
+}
+
+// Whether each number is below all that follow.
+fn is_increasing(all: &[BabyBear]) -> bool
+    ensures { IsTrue result → IsIncreasing ⟦<BabyBear as Ord>⟧.cmp all.now }
+{
+    match all {
+        [] => true,
+        [x, rest @ ..] => is_below_all(*x, rest) && is_increasing(rest),
+    }
+}
+
+/// Adds how many of the alphas fold the values to zero, if the line asks that.
+pub fn answer_hiding(alloc: Global, words: &[&str], text: &mut String) -> Result<bool, Fault> {
+    let ["hiding_alphas", values, alphas] = words else {
+        return Ok(false);
+    };
+    let values: Vec<BabyBear> = listed_elements(alloc, *values)?;
+    let alphas: Vec<BabyBear> = listed_elements(alloc, *alphas)?;
+    if !is_increasing(alphas.as_slice()) {
+        return Err(Fault::Unreadable(Why::OtherShape));
+    }
+    let count = hiding_alphas(values.as_slice(), alphas.as_slice());
+    write!(text, "{count}")?;
+    Ok(true)
+}

@@ -1,0 +1,178 @@
+//! Layouts of AIRs and of constraints, by themselves.
+
+use crate::expressions::Element;
+use air_field::{BabyBear, ExtensionField, Field};
+use air_recording::{AirLayout, ConstraintLayout, constraint_degree_from_poly_degree};
+use air_wire::Spelled;
+use cases::words::{count_of, counts_of, elements_of, extension_of, show_elements, value_of};
+use cases::{Fault, Why};
+use std::alloc::Global;
+use std::fmt::Debug;
+
+/// The layout of a word such as `main:2,public:1`, in which what isn't named is as in `start`; `own`: `start`.
+pub fn layout_of(start: AirLayout, word: &str) -> Result<AirLayout, Fault> {
+    let mut layout = start;
+    if word == "own" {
+        return Ok(layout);
+    }
+    for part in word.split(',') {
+        match part.split_once(':') {
+            Some(("preprocessed", n)) => layout.preprocessed_width = count_of(n)?,
+            Some(("main", n)) => layout.main_width = count_of(n)?,
+            Some(("public", n)) => layout.num_public_values = count_of(n)?,
+            Some(("periodic", n)) => layout.num_periodic_columns = count_of(n)?,
+            Some(("permutation", n)) => layout.permutation_width = count_of(n)?,
+            Some(("challenges", n)) => layout.num_permutation_challenges = count_of(n)?,
+            Some(("values", n)) => layout.num_permutation_values = count_of(n)?,
+            _ => return Err(Fault::Unreadable(Why::NoSuchWord)),
+        }
+    }
+    Ok(layout)
+}
+
+// The layout of the places of each kind.
+fn places_of(alloc: Global, base: &str, ext: &str) -> Result<ConstraintLayout, Fault> {
+    let base_indices = counts_of(alloc, base)?;
+    let ext_indices = counts_of(alloc, ext)?;
+    Ok(ConstraintLayout {
+        base_indices,
+        ext_indices,
+    })
+}
+
+/// Adds the coefficients of elements, as `[[1 0 0 0] [0 1 0 0]]`.
+pub fn show_extensions<EF: ExtensionField<BabyBear>>(
+    elements: &[EF],
+    text: &mut String,
+) -> Result<(), Fault> {
+    text.push_str("[")?;
+    for (place, element) in elements.iter().enumerate() {
+        if place > 0 {
+            text.push_str(" ")?;
+        }
+        show_elements(element.as_basis_coefficients_slice(), text)?;
+    }
+    text.push_str("]")?;
+    Ok(())
+}
+
+// Adds the coordinates of the base weights, a list for each element of the basis, and the whole weights.
+fn show_decomposed<EF: ExtensionField<BabyBear>>(
+    alloc: Global,
+    layout: &ConstraintLayout,
+    alpha: EF,
+    text: &mut String,
+) -> Result<(), Fault> {
+    let (coordinates, powers) = layout.decompose_alpha::<BabyBear, EF>(alloc, alpha)?;
+    text.push_str("[")?;
+    for (place, list) in coordinates.iter().enumerate() {
+        if place > 0 {
+            text.push_str(" ")?;
+        }
+        show_elements(list.as_slice(), text)?;
+    }
+    text.push_str("] and ")?;
+    show_extensions(powers.as_slice(), text)
+}
+
+fn decompose_alpha(
+    alloc: Global,
+    layout: &ConstraintLayout,
+    alpha: &[&str],
+    text: &mut String,
+) -> Result<(), Fault> {
+    match alpha {
+        [_] => {
+            let alpha: BabyBear = extension_of::<BabyBear, BabyBear>(alloc, alpha)?;
+            show_decomposed(alloc, layout, alpha, text)
+        }
+        _ => {
+            let alpha = extension_of::<BabyBear, Element>(alloc, alpha)?;
+            show_decomposed(alloc, layout, alpha, text)
+        }
+    }
+}
+
+// The sum of weight times value, each value of the constraint at the index beside the weight.
+fn weighted(
+    weights: &[BabyBear],
+    places: &[usize],
+    values: &[BabyBear],
+) -> Result<BabyBear, Fault> {
+    let mut sum = BabyBear::ZERO;
+    for (weight, place) in weights.iter().zip(places) {
+        match values.get(*place) {
+            Some(value) => sum = Field::add(sum, Field::mul(*weight, *value)),
+            None => return Err(Fault::Unreadable(Why::OtherShape)),
+        }
+    }
+    Ok(sum)
+}
+
+// Adds the recombination of values by what an alpha of the base field decomposes to.
+fn show_recombined(
+    alloc: Global,
+    layout: &ConstraintLayout,
+    alpha: &str,
+    values: &[&str],
+    text: &mut String,
+) -> Result<(), Fault> {
+    let values = elements_of(alloc, values)?;
+    let alpha = extension_of::<BabyBear, BabyBear>(alloc, &[alpha])?;
+    let (coordinates, powers) = layout.decompose_alpha::<BabyBear, BabyBear>(alloc, alpha)?;
+    let mut sum = weighted(powers.as_slice(), &layout.ext_indices, values.as_slice())?;
+    for list in &coordinates {
+        let more = weighted(list.as_slice(), &layout.base_indices, values.as_slice())?;
+        sum = Field::add(sum, more);
+    }
+    let number = sum.as_canonical_u64();
+    write!(text, "{number}")?;
+    Ok(())
+}
+
+// Adds what a word spells, and how that is spelt again where it is spelt otherwise.
+fn show_spelt<S: Spelled + Debug + Drop>(
+    alloc: Global,
+    word: &str,
+    text: &mut String,
+) -> Result<(), Fault> {
+    let x = S::from_value(alloc, &value_of(alloc, word)?)?;
+    let written = x.to_value(alloc)?.to_string(alloc)?;
+    if written.as_str() == word {
+        write!(text, "{x:?}")?;
+    } else {
+        write!(text, "{x:?}, which is spelt {written}")?;
+    }
+    Ok(())
+}
+
+/// Adds what a call on a layout answers, if the line is one.
+pub fn answer_layout(alloc: Global, words: &[&str], text: &mut String) -> Result<bool, Fault> {
+    match words {
+        ["default_layout"] => {
+            let layout = AirLayout::default();
+            write!(text, "{layout:?}")?;
+        }
+        ["spelling", "AirLayout", word] => show_spelt::<AirLayout>(alloc, *word, text)?,
+        ["spelling", "ConstraintLayout", word] => {
+            show_spelt::<ConstraintLayout>(alloc, *word, text)?
+        }
+        ["total_constraints", base, ext] => {
+            let count = places_of(alloc, *base, *ext)?.total_constraints();
+            write!(text, "{count}")?;
+        }
+        ["decompose_alpha", base, ext, alpha @ ..] => {
+            decompose_alpha(alloc, &places_of(alloc, *base, *ext)?, alpha, text)?
+        }
+        ["recombination", base, ext, alpha, values @ ..] => {
+            show_recombined(alloc, &places_of(alloc, *base, *ext)?, *alpha, values, text)?
+        }
+        ["constraint_degree_from_poly_degree", degree, rows] => {
+            let (degree, rows) = (count_of(*degree)?, count_of(*rows)?);
+            let degree = constraint_degree_from_poly_degree(degree, rows);
+            write!(text, "{degree}")?;
+        }
+        _ => return Ok(false),
+    }
+    Ok(true)
+}

@@ -1,0 +1,174 @@
+//! The variables and selectors that the symbolic builder lends, and what it records of assertions over the extension.
+ghost use Rattle.std.specs.Prelude.{IfOk};
+
+use crate::expressions::{Element, show_base, show_ext_variable, show_variable};
+use crate::layouts::layout_of;
+use crate::recordings::{ExtRecorder, show_exts};
+use air_builder::{
+    AirBuilder, AirError, ExtensionBuilder, NamedExtensionBuilder, PermutationAirBuilder,
+    WindowAccess,
+};
+use air_core::{SymbolicVariable, SymbolicVariableExt, TwoRows};
+use air_field::{Algebra, BabyBear, ExtAlgebra};
+use air_recording::{AirLayout, SymbolicAirBuilder};
+use cases::words::{count_of, element_of, extension_of};
+use cases::{Fault, Why};
+use std::alloc::Global;
+
+type Variable = SymbolicVariable<BabyBear>;
+
+type ExtVariable = SymbolicVariableExt<BabyBear, Element>;
+
+// A builder over the extension that has recorded nothing.
+fn builder_of(alloc: Global, layout: &str) -> Result<ExtRecorder, Fault>
+    ensures { IfOk result ⟦<ExtRecorder as AirBuilder>⟧.ready }
+{
+    let layout = layout_of(AirLayout::default(), layout)?;
+    Ok(SymbolicAirBuilder::new(alloc, layout)?)
+}
+
+// The element of a window's current or next row.
+fn at<T: Copy>(window: &TwoRows<T>, row: &str, column: &str) -> Result<Option<T>, Fault> {
+    let column = count_of(column)?;
+    match row {
+        "current" => Ok(window.current(column)),
+        "next" => Ok(window.next(column)),
+        _ => Err(Fault::Unreadable(Why::NoSuchWord)),
+    }
+}
+
+// Adds a variable, or that there is none.
+fn show_found(found: Option<Variable>, text: &mut String) -> Result<(), Fault> {
+    match found {
+        Some(v) => show_variable(v, text),
+        None => {
+            text.push_str("None")?;
+            Ok(())
+        }
+    }
+}
+
+fn show_ext_found(found: Option<ExtVariable>, text: &mut String) -> Result<(), Fault> {
+    match found {
+        Some(v) => show_ext_variable(v, text),
+        None => {
+            text.push_str("None")?;
+            Ok(())
+        }
+    }
+}
+
+fn show_variables(all: &[Variable], text: &mut String) -> Result<(), Fault> {
+    for (place, v) in all.iter().enumerate() {
+        text.push_str(if place == 0 { "" } else { " " })?;
+        show_variable(*v, text)?;
+    }
+    Ok(())
+}
+
+fn show_ext_variables(all: &[ExtVariable], text: &mut String) -> Result<(), Fault> {
+    for (place, v) in all.iter().enumerate() {
+        text.push_str(if place == 0 { "" } else { " " })?;
+        show_ext_variable(*v, text)?;
+    }
+    Ok(())
+}
+
+// Adds a selector that the builder lends.
+fn show_selector(builder: &mut ExtRecorder, words: &[&str], text: &mut String) -> Result<(), Fault>
+    requires { ⟦<ExtRecorder as AirBuilder>⟧.ready builder.old }
+{
+    let x = match words {
+        ["is_first_row"] => builder.is_first_row()?,
+        ["is_last_row"] => builder.is_last_row()?,
+        ["is_transition"] => builder.is_transition()?,
+        ["is_transition_window", "2"] => builder.is_transition_window(2)?,
+        _ => return Err(Fault::Unreadable(Why::NoSuchCall)),
+    };
+    show_base(builder.ring(), x, 1, false, text)
+}
+
+// Asserts that an element of the extension is zero, under a name.
+fn assert_named<AB: NamedExtensionBuilder>(builder: &mut AB, x: AB::EF) -> Result<(), AirError>
+    requires { AB.ready builder.old }
+    ensures { AB.ready builder.new }
+{
+    let x = builder.ext_ring().ext_constant(x)?;
+    builder.assert_zero_ext_named(x, "name")
+}
+
+// Asserts where a condition holds that `x` over the extension is zero.
+fn assert_zero_ext_under<AB: ExtensionBuilder>(
+    builder: &mut AB,
+    condition: AB::Expr,
+    x: AB::ExprEF,
+) -> Result<(), AirError>
+    requires ready { AB.ready builder.old }
+    requires condition_in { AB.Ring.has (AB.ring_of builder.old) condition }
+    requires x_in { AB.ExtRing.has (AB.ext_ring_of builder.old) x }
+    ensures { AB.kept builder.old builder.new }
+{
+    let mut filter = builder.when(condition)?;
+    filter.assert_zero_ext(x)
+}
+
+// Asserts where a constant holds that one of the extension is zero.
+fn assert_constant_ext_under<AB: ExtensionBuilder>(
+    builder: &mut AB,
+    condition: AB::F,
+    x: AB::EF,
+) -> Result<(), AirError>
+    requires { AB.ready builder.old }
+    ensures { AB.ready builder.new }
+{
+    let x = builder.ext_ring().ext_constant(x)?;
+    let condition = builder.ring().constant(condition)?;
+    assert_zero_ext_under(builder, condition, x)
+}
+
+// Adds what is recorded over the extension.
+fn show_recorded(alloc: Global, builder: &mut ExtRecorder, text: &mut String) -> Result<(), Fault>
+    requires { ⟦<ExtRecorder as AirBuilder>⟧.ready builder.old }
+{
+    let numbers = builder.extension_constraints().to_vec(alloc)?;
+    show_exts(builder.ext_ring(), numbers.as_slice(), text)
+}
+
+/// Adds what a call on a builder answers, if the line is one.
+pub fn answer_lent(alloc: Global, words: &[&str], text: &mut String) -> Result<bool, Fault> {
+    let ["builder", layout, words @ ..] = words else {
+        return Ok(false);
+    };
+    let mut builder = builder_of(alloc, *layout)?;
+    match words {
+        ["main", row, column] => show_found(at(&builder.main()?, *row, *column)?, text)?,
+        ["preprocessed", row, column] => {
+            show_found(at(builder.preprocessed(), *row, *column)?, text)?
+        }
+        ["main_variable", offset, column] => {
+            let found = builder.main_variable(count_of(*offset)?, count_of(*column)?);
+            show_found(found, text)?
+        }
+        ["permutation", row, column] => {
+            show_ext_found(at(&builder.permutation()?, *row, *column)?, text)?
+        }
+        ["public_values"] => show_variables(builder.public_values(), text)?,
+        ["periodic_values"] => show_variables(builder.periodic_values(), text)?,
+        ["permutation_randomness"] => show_ext_variables(builder.permutation_randomness(), text)?,
+        ["permutation_values"] => show_ext_variables(builder.permutation_values(), text)?,
+        ["assert_zero_ext_named", x @ ..] => {
+            assert_named(&mut builder, extension_of(alloc, x)?)?;
+            show_recorded(alloc, &mut builder, text)?
+        }
+        ["when", condition, "assert_zero_ext", x @ ..] => {
+            assert_under(
+                &mut builder,
+                element_of(*condition)?,
+                extension_of(alloc, x)?,
+            )?;
+            show_recorded(alloc, &mut builder, text)?
+        }
+        _ => show_selector(&mut builder, words, text)?,
+    }
+    Ok(true)
+}

@@ -1,0 +1,38 @@
+//! Cases of recordings, layouts, inferred degrees, audits and folds, read from tables: each line makes one public call,
+//! and says what it answers.
+#![tactic(auto)]
+
+mod audits;
+mod bench;
+mod expressions;
+mod folds;
+mod hints;
+mod layouts;
+mod lent;
+mod recordings;
+mod words;
+
+use crate::bench::{AirBench, Alone};
+use cases::{Fault, Report, Table, Tables, Why, check_lines};
+use std::process::ExitCode;
+
+struct RecordingTables;
+
+impl Tables for RecordingTables {
+    fn check(
+        rt: &HostRuntime,
+        head: &str,
+        table: &Table<'_>,
+        report: &mut Report,
+    ) -> Result<(), Fault> {
+        match head {
+            "airs" => check_lines::<AirBench<'_>>(rt, table, report),
+            "calls without an AIR" => check_lines::<Alone>(rt, table, report),
+            _ => Err(Fault::Unreadable(Why::NoSuchTable)),
+        }
+    }
+}
+
+fn main(rt: HostRuntime) -> ExitCode {
+    cases::run::<RecordingTables>(&rt)
+}

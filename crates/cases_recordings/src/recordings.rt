@@ -1,0 +1,211 @@
+//! Recordings of an AIR, and the degrees that are inferred of them.
+ghost use Rattle.std.specs.Prelude.{IfOk};
+ghost use Rattle.air_symbolic.specs.Pools.{IsPool};
+
+use crate::expressions::{BasePool, Element, ExtPool, show_base, show_ext};
+use crate::layouts::layout_of;
+use air_builder::{Air, AirBuilder, BaseAir};
+use air_field::BabyBear;
+use air_recording::{
+    AirLayout, Recorded, SymbolicAirBuilder, get_all_symbolic_constraints, get_constraint_layout,
+    get_max_constraint_degree, get_max_constraint_degree_extension, get_symbolic_constraints,
+    get_symbolic_constraints_extension,
+};
+use air_symbolic::{BaseLeaf, ExprId, ExtLeaf, SymLeaf};
+use cases::words::count_of;
+use cases::{Fault, Why};
+use std::alloc::Global;
+
+/// A builder whose extension is the base field.
+pub type BaseRecorder = SymbolicAirBuilder<BabyBear, BabyBear>;
+
+/// A builder over the extension.
+pub type ExtRecorder = SymbolicAirBuilder<BabyBear, Element>;
+
+/// How deep a tree is shown.
+const DEPTH: usize = 8;
+
+/// Adds base expressions with the degrees that their nodes state, `none` of none.
+pub fn show_bases(
+    pool: &BasePool,
+    numbers: &[ExprId<BaseLeaf<BabyBear>>],
+    text: &mut String,
+) -> Result<(), Fault>
+    requires { IsPool ⟦<BaseLeaf<BabyBear> as SymLeaf>⟧.reads pool.now }
+{
+    for (place, number) in numbers.iter().enumerate() {
+        text.push_str(if place == 0 { "" } else { "; " })?;
+        show_base(pool, *number, DEPTH, false, text)?;
+        if pool.contains(*number) {
+            let degree = pool.degree_multiple(*number);
+            write!(text, ", degree {degree}")?;
+        }
+    }
+    text.push_str(if numbers.is_empty() { "none" } else { "" })?;
+    Ok(())
+}
+
+/// The same of expressions over the extension.
+pub fn show_exts(
+    pool: &ExtPool,
+    numbers: &[ExprId<ExtLeaf<BabyBear, Element>>],
+    text: &mut String,
+) -> Result<(), Fault>
+    requires { IsPool ⟦<ExtLeaf<BabyBear, Element> as SymLeaf>⟧.reads pool.now }
+{
+    for (place, number) in numbers.iter().enumerate() {
+        text.push_str(if place == 0 { "" } else { "; " })?;
+        show_ext(pool, *number, DEPTH, false, text)?;
+        if pool.contains(*number) {
+            let degree = pool.degree_multiple(*number);
+            write!(text, ", degree {degree}")?;
+        }
+    }
+    text.push_str(if numbers.is_empty() { "none" } else { "" })?;
+    Ok(())
+}
+
+// Adds the base constraints of an AIR.
+fn show_symbolic<A: Air<BaseRecorder>>(
+    alloc: Global,
+    air: &A,
+    layout: AirLayout,
+    text: &mut String,
+) -> Result<(), Fault> {
+    let recorded = get_symbolic_constraints(alloc, air, layout)?;
+    show_bases(recorded.pool.base(), &recorded.base, text)
+}
+
+/// Adds the degrees that the nodes of base expressions state.
+pub fn show_degrees(
+    pool: &BasePool,
+    numbers: &[ExprId<BaseLeaf<BabyBear>>],
+    text: &mut String,
+) -> Result<(), Fault>
+    requires { IsPool ⟦<BaseLeaf<BabyBear> as SymLeaf>⟧.reads pool.now }
+{
+    for (place, number) in numbers.iter().enumerate() {
+        text.push_str(if place == 0 { "" } else { " " })?;
+        if pool.contains(*number) {
+            let degree = pool.degree_multiple(*number);
+            write!(text, "{degree}")?;
+        }
+    }
+    Ok(())
+}
+
+// Adds the degrees of the polynomials of an AIR's base constraints over so many rows.
+fn show_poly_degrees<A: Air<BaseRecorder>>(
+    alloc: Global,
+    air: &A,
+    layout: AirLayout,
+    rows: usize,
+    text: &mut String,
+) -> Result<(), Fault> {
+    let recorded = get_symbolic_constraints(alloc, air, layout)?;
+    let pool = recorded.pool.base();
+    let mut periods = Vec::new(alloc);
+    for column in air.periodic_columns() {
+        periods.push(column.len())?;
+    }
+    for (place, number) in recorded.base.iter().enumerate() {
+        text.push_str(if place == 0 { "" } else { " " })?;
+        if pool.contains(*number) {
+            let degree = pool.poly_degree(*number, rows, periods.as_slice())?;
+            write!(text, "{degree}")?;
+        }
+    }
+    Ok(())
+}
+
+// Adds the constraints of both kinds.
+fn show_both(recorded: &Recorded<BabyBear, Element>, text: &mut String) -> Result<(), Fault>
+    requires { IsPool ⟦<ExtLeaf<BabyBear, Element> as SymLeaf>⟧.reads recorded.now.pool }
+{
+    text.push_str("base: ")?;
+    show_bases(recorded.pool.base(), &recorded.base, text)?;
+    text.push_str(" | extension: ")?;
+    show_exts(&recorded.pool, &recorded.ext, text)
+}
+
+fn show_all<A: Air<ExtRecorder>>(
+    alloc: Global,
+    air: &A,
+    layout: AirLayout,
+    text: &mut String,
+) -> Result<(), Fault> {
+    let recorded = get_all_symbolic_constraints::<BabyBear, Element, A>(alloc, air, layout)?;
+    show_both(&recorded, text)
+}
+
+fn show_extension<A: Air<ExtRecorder>>(
+    alloc: Global,
+    air: &A,
+    layout: AirLayout,
+    text: &mut String,
+) -> Result<(), Fault> {
+    let recorded = get_symbolic_constraints_extension::<BabyBear, Element, A>(alloc, air, layout)?;
+    show_both(&recorded, text)
+}
+
+// Adds the places that a builder knows after the AIR was evaluated on it, and how many constraints of each kind.
+fn show_evaluated<A: Air<ExtRecorder>>(
+    alloc: Global,
+    air: &A,
+    layout: AirLayout,
+    text: &mut String,
+) -> Result<(), Fault> {
+    let mut builder: ExtRecorder = SymbolicAirBuilder::new(alloc, layout)?;
+    air.eval(&mut builder)?;
+    let base = builder.base_constraints().len();
+    let ext = builder.extension_constraints().len();
+    let places = builder.constraint_layout()?;
+    write!(text, "{base} base, {ext} extension, {places:?}")?;
+    Ok(())
+}
+
+/// Adds what a call answers of an AIR that is recorded by a layout.
+pub fn answer_recorded<A: Air<BaseRecorder> + Air<ExtRecorder>>(
+    alloc: Global,
+    air: &A,
+    layout: AirLayout,
+    call: &str,
+    words: &[&str],
+    text: &mut String,
+) -> Result<(), Fault> {
+    match (call, words) {
+        ("get_symbolic_constraints", []) => show_symbolic(alloc, air, layout, text),
+        ("get_all_symbolic_constraints", []) => show_all(alloc, air, layout, text),
+        ("get_symbolic_constraints_extension", []) => show_extension(alloc, air, layout, text),
+        ("layout", []) => {
+            write!(text, "{layout:?}")?;
+            Ok(())
+        }
+        ("poly_degrees", [rows]) => show_poly_degrees(alloc, air, layout, count_of(*rows)?, text),
+        ("degree_multiples", []) => {
+            let recorded = get_symbolic_constraints(alloc, air, layout)?;
+            show_degrees(recorded.pool.base(), &recorded.base, text)
+        }
+        ("eval", []) => show_evaluated(alloc, air, layout, text),
+        ("get_constraint_layout", []) => {
+            let places = get_constraint_layout::<BabyBear, Element, A>(alloc, air, layout)?;
+            write!(text, "{places:?}")?;
+            Ok(())
+        }
+        ("get_max_constraint_degree", [rows, weight]) => {
+            let (rows, weight) = (count_of(*rows)?, count_of(*weight)?);
+            let degree = get_max_constraint_degree(alloc, air, layout, rows, weight)?;
+            write!(text, "{degree}")?;
+            Ok(())
+        }
+        ("get_max_constraint_degree_extension", [rows, weight]) => {
+            let (rows, weight) = (count_of(*rows)?, count_of(*weight)?);
+            let degree = get_max_constraint_degree_extension::<BabyBear, Element, A>(
+                alloc, air, layout, rows, weight,
+            )?;
+            write!(text, "{degree}")?;
+            Ok(())
+        }
+        _ => Err(Fault::Unreadable(Why::NoSuchCall)),
+    }
+}
