@@ -1,5 +1,5 @@
 //! The variables and selectors that the symbolic builder lends, and what it records of assertions over the extension.
-ghost use Rattle.std.specs.Prelude.{IfOk};
+ghost use Rattle.std.specs.Prelude.{[], IfOk};
 
 use crate::expressions::{Element, show_base, show_ext_variable, show_variable};
 use crate::layouts::layout_of;
@@ -74,17 +74,51 @@ fn show_ext_variables(all: &[ExtVariable], text: &mut String) -> Result<(), Faul
     Ok(())
 }
 
+// The selectors, by the calls that lend them.
+#[derive(Drop)]
+enum Selector {
+    FirstRow,
+    LastRow,
+    Transition,
+    TransitionWindow,
+}
+
+fn selector_of(words: &[&str]) -> Result<Selector, Fault> {
+    match words {
+        ["is_first_row"] => Ok(Selector::FirstRow),
+        ["is_last_row"] => Ok(Selector::LastRow),
+        ["is_transition"] => Ok(Selector::Transition),
+        ["is_transition_window", "2"] => Ok(Selector::TransitionWindow),
+        _ => Err(Fault::Unreadable(Why::NoSuchCall)),
+    }
+}
+
+// The selector that a builder lends.
+fn selector_in<AB: AirBuilder>(builder: &mut AB, selector: Selector) -> Result<AB::Expr, AirError>
+    requires { AB.ready builder.old }
+    ensures { AB.grew builder.old builder.new [] }
+{
+    match selector {
+        Selector::FirstRow => builder.is_first_row(),
+        Selector::LastRow => builder.is_last_row(),
+        Selector::Transition => builder.is_transition(),
+        Selector::TransitionWindow => builder.is_transition_window(2),
+    }
+}
+
+// The same, and the builder is ready.
+fn lent_selector<AB: AirBuilder>(builder: &mut AB, selector: Selector) -> Result<AB::Expr, AirError>
+    requires { AB.ready builder.old }
+    ensures { AB.ready builder.new }
+{
+    selector_in(builder, selector)
+}
+
 // Adds a selector that the builder lends.
 fn show_selector(builder: &mut ExtRecorder, words: &[&str], text: &mut String) -> Result<(), Fault>
     requires { ⟦<ExtRecorder as AirBuilder>⟧.ready builder.old }
 {
-    let x = match words {
-        ["is_first_row"] => builder.is_first_row()?,
-        ["is_last_row"] => builder.is_last_row()?,
-        ["is_transition"] => builder.is_transition()?,
-        ["is_transition_window", "2"] => builder.is_transition_window(2)?,
-        _ => return Err(Fault::Unreadable(Why::NoSuchCall)),
-    };
+    let x = lent_selector(builder, selector_of(words)?)?;
     show_base(builder.ring(), x, 1, false, text)
 }
 
@@ -161,7 +195,7 @@ pub fn answer_lent(alloc: Global, words: &[&str], text: &mut String) -> Result<b
             show_recorded(alloc, &mut builder, text)?
         }
         ["when", condition, "assert_zero_ext", x @ ..] => {
-            assert_under(
+            assert_constant_ext_under(
                 &mut builder,
                 element_of(*condition)?,
                 extension_of(alloc, x)?,
