@@ -168,6 +168,67 @@ fn show_recorded(alloc: Global, builder: &mut ExtRecorder, text: &mut String) ->
     show_exts(builder.ext_ring(), numbers.as_slice(), text)
 }
 
+// Adds the variable of a window that a builder lends.
+fn show_in_window(
+    builder: &ExtRecorder,
+    window: &str,
+    row: &str,
+    column: &str,
+    text: &mut String,
+) -> Result<(), Fault> {
+    match window {
+        "main" => show_found(at(&builder.main()?, row, column)?, text),
+        "preprocessed" => show_found(at(builder.preprocessed(), row, column)?, text),
+        "permutation" => show_ext_found(at(&builder.permutation()?, row, column)?, text),
+        "main_variable" => {
+            show_found(
+                builder.main_variable(count_of(row)?, count_of(column)?),
+                text,
+            )
+        }
+        _ => Err(Fault::Unreadable(Why::NoSuchCall)),
+    }
+}
+
+// Adds the variables of a list that a builder lends, if the word names one.
+fn show_list(builder: &ExtRecorder, list: &str, text: &mut String) -> Result<bool, Fault> {
+    match list {
+        "public_values" => show_variables(builder.public_values(), text)?,
+        "periodic_values" => show_variables(builder.periodic_values(), text)?,
+        "permutation_randomness" => show_ext_variables(builder.permutation_randomness(), text)?,
+        "permutation_values" => show_ext_variables(builder.permutation_values(), text)?,
+        _ => return Ok(false),
+    }
+    Ok(true)
+}
+
+// Adds what is recorded of an assertion under a name.
+fn show_named(
+    alloc: Global,
+    builder: &mut ExtRecorder,
+    x: &[&str],
+    text: &mut String,
+) -> Result<(), Fault>
+    requires { ⟦<ExtRecorder as AirBuilder>⟧.ready builder.old }
+{
+    assert_named(builder, extension_of(alloc, x)?)?;
+    show_recorded(alloc, builder, text)
+}
+
+// Adds what is recorded of an assertion under a condition.
+fn show_filtered(
+    alloc: Global,
+    builder: &mut ExtRecorder,
+    condition: &str,
+    x: &[&str],
+    text: &mut String,
+) -> Result<(), Fault>
+    requires { ⟦<ExtRecorder as AirBuilder>⟧.ready builder.old }
+{
+    assert_constant_ext_under(builder, element_of(condition)?, extension_of(alloc, x)?)?;
+    show_recorded(alloc, builder, text)
+}
+
 /// Adds what a call on a builder answers, if the line is one.
 pub fn answer_lent(alloc: Global, words: &[&str], text: &mut String) -> Result<bool, Fault> {
     let ["builder", layout, words @ ..] = words else {
@@ -175,33 +236,12 @@ pub fn answer_lent(alloc: Global, words: &[&str], text: &mut String) -> Result<b
     };
     let mut builder = builder_of(alloc, *layout)?;
     match words {
-        ["main", row, column] => show_found(at(&builder.main()?, *row, *column)?, text)?,
-        ["preprocessed", row, column] => {
-            show_found(at(builder.preprocessed(), *row, *column)?, text)?
-        }
-        ["main_variable", offset, column] => {
-            let found = builder.main_variable(count_of(*offset)?, count_of(*column)?);
-            show_found(found, text)?
-        }
-        ["permutation", row, column] => {
-            show_ext_found(at(&builder.permutation()?, *row, *column)?, text)?
-        }
-        ["public_values"] => show_variables(builder.public_values(), text)?,
-        ["periodic_values"] => show_variables(builder.periodic_values(), text)?,
-        ["permutation_randomness"] => show_ext_variables(builder.permutation_randomness(), text)?,
-        ["permutation_values"] => show_ext_variables(builder.permutation_values(), text)?,
-        ["assert_zero_ext_named", x @ ..] => {
-            assert_named(&mut builder, extension_of(alloc, x)?)?;
-            show_recorded(alloc, &mut builder, text)?
-        }
+        ["assert_zero_ext_named", x @ ..] => show_named(alloc, &mut builder, x, text)?,
         ["when", condition, "assert_zero_ext", x @ ..] => {
-            assert_constant_ext_under(
-                &mut builder,
-                element_of(*condition)?,
-                extension_of(alloc, x)?,
-            )?;
-            show_recorded(alloc, &mut builder, text)?
+            show_filtered(alloc, &mut builder, *condition, x, text)?
         }
+        [window, row, column] => show_in_window(&builder, *window, *row, *column, text)?,
+        [list] if show_list(&builder, *list, text)? => {}
         _ => show_selector(&mut builder, words, text)?,
     }
     Ok(true)

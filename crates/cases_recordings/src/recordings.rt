@@ -4,7 +4,7 @@ ghost use Rattle.air_symbolic.specs.Pools.{IsPool};
 
 use crate::expressions::{BasePool, Element, ExtPool, show_base, show_ext};
 use crate::layouts::layout_of;
-use air_builder::{Air, AirBuilder, BaseAir};
+use air_builder::{Air, AirError};
 use air_field::BabyBear;
 use air_recording::{
     AirLayout, Recorded, SymbolicAirBuilder, get_all_symbolic_constraints, get_constraint_layout,
@@ -12,7 +12,7 @@ use air_recording::{
     get_symbolic_constraints_extension,
 };
 use air_symbolic::{BaseLeaf, ExprId, ExtLeaf, SymLeaf};
-use cases::words::count_of;
+use cases::words::{count_of, counts_of};
 use cases::{Fault, Why};
 use std::alloc::Global;
 
@@ -94,24 +94,20 @@ pub fn show_degrees(
     Ok(())
 }
 
-// Adds the degrees of the polynomials of an AIR's base constraints over so many rows.
-fn show_poly_degrees<A: Air<BaseRecorder>>(
-    alloc: Global,
-    air: &A,
-    layout: AirLayout,
+// Adds the degrees of the polynomials of base expressions over so many rows.
+fn show_poly_degrees(
+    pool: &BasePool,
+    numbers: &[ExprId<BaseLeaf<BabyBear>>],
     rows: usize,
+    periods: &[usize],
     text: &mut String,
-) -> Result<(), Fault> {
-    let recorded = get_symbolic_constraints(alloc, air, layout)?;
-    let pool = recorded.pool.base();
-    let mut periods = Vec::new(alloc);
-    for column in air.periodic_columns() {
-        periods.push(column.len())?;
-    }
-    for (place, number) in recorded.base.iter().enumerate() {
+) -> Result<(), Fault>
+    requires { IsPool ⟦<BaseLeaf<BabyBear> as SymLeaf>⟧.reads pool.now }
+{
+    for (place, number) in numbers.iter().enumerate() {
         text.push_str(if place == 0 { "" } else { " " })?;
         if pool.contains(*number) {
-            let degree = pool.poly_degree(*number, rows, periods.as_slice())?;
+            let degree = pool.poly_degree(*number, rows, periods)?;
             write!(text, "{degree}")?;
         }
     }
@@ -148,19 +144,108 @@ fn show_extension<A: Air<ExtRecorder>>(
     show_both(&recorded, text)
 }
 
-// Adds the places that a builder knows after the AIR was evaluated on it, and how many constraints of each kind.
-fn show_evaluated<A: Air<ExtRecorder>>(
+// The builder on which the AIR was evaluated.
+fn evaluated<A: Air<ExtRecorder>>(
+    alloc: Global,
+    air: &A,
+    layout: AirLayout,
+) -> Result<ExtRecorder, AirError> {
+    let mut builder: ExtRecorder = SymbolicAirBuilder::new(alloc, layout)?;
+    air.eval(&mut builder)?;
+    Ok(builder)
+}
+
+// Adds how many constraints of each kind a builder has recorded, and their places.
+fn show_places(builder: &ExtRecorder, text: &mut String) -> Result<(), Fault> {
+    let base = builder.base_constraints().len();
+    let ext = builder.extension_constraints().len();
+    let places = builder.constraint_layout()?;
+    write!(text, "{base} base, {ext} extension, {places:?}")?;
+    Ok(())
+}
+
+// Adds the degrees that the nodes of an AIR's base constraints state.
+fn show_stated<A: Air<BaseRecorder>>(
     alloc: Global,
     air: &A,
     layout: AirLayout,
     text: &mut String,
 ) -> Result<(), Fault> {
-    let mut builder: ExtRecorder = SymbolicAirBuilder::new(alloc, layout)?;
-    air.eval(&mut builder)?;
-    let base = builder.base_constraints().len();
-    let ext = builder.extension_constraints().len();
-    let places = builder.constraint_layout()?;
-    write!(text, "{base} base, {ext} extension, {places:?}")?;
+    let recorded = get_symbolic_constraints(alloc, air, layout)?;
+    show_degrees(recorded.pool.base(), &recorded.base, text)
+}
+
+// Adds the degrees of the polynomials of an AIR's base constraints, with these lengths of periodic columns.
+fn show_poly<A: Air<BaseRecorder>>(
+    alloc: Global,
+    air: &A,
+    layout: AirLayout,
+    rows: usize,
+    periods: &[usize],
+    text: &mut String,
+) -> Result<(), Fault> {
+    let recorded = get_symbolic_constraints(alloc, air, layout)?;
+    show_poly_degrees(recorded.pool.base(), &recorded.base, rows, periods, text)
+}
+
+// Adds the places of the constraints of each kind.
+fn show_layout<A: Air<ExtRecorder>>(
+    alloc: Global,
+    air: &A,
+    layout: AirLayout,
+    text: &mut String,
+) -> Result<(), Fault> {
+    let places = get_constraint_layout::<BabyBear, Element, A>(alloc, air, layout)?;
+    write!(text, "{places:?}")?;
+    Ok(())
+}
+
+// The degree that is inferred.
+fn inferred<A: Air<BaseRecorder>>(
+    alloc: Global,
+    air: &A,
+    layout: AirLayout,
+    rows: &str,
+    weight: &str,
+) -> Result<usize, Fault> {
+    let (rows, weight) = (count_of(rows)?, count_of(weight)?);
+    Ok(get_max_constraint_degree(alloc, air, layout, rows, weight)?)
+}
+
+// The same over the extension.
+fn inferred_extension<A: Air<ExtRecorder>>(
+    alloc: Global,
+    air: &A,
+    layout: AirLayout,
+    rows: &str,
+    weight: &str,
+) -> Result<usize, Fault> {
+    let (rows, weight) = (count_of(rows)?, count_of(weight)?);
+    let degree = get_max_constraint_degree_extension::<BabyBear, Element, A>(
+        alloc, air, layout, rows, weight,
+    )?;
+    Ok(degree)
+}
+
+// Adds the degree that is inferred.
+fn show_inferred<A: Air<BaseRecorder> + Air<ExtRecorder>>(
+    alloc: Global,
+    air: &A,
+    layout: AirLayout,
+    call: &str,
+    words: &[&str],
+    text: &mut String,
+) -> Result<(), Fault> {
+    let degree = match (call, words) {
+        ("get_max_constraint_degree", [rows, weight]) => {
+            inferred(alloc, air, layout, *rows, *weight)?
+        }
+        ("get_max_constraint_degree_extension", [rows, weight]) => {
+            inferred_extension(alloc, air, layout, *rows, *weight)?
+        }
+        _ => return Err(Fault::Unreadable(Why::NoSuchCall)),
+    };
+    write!(text, "{degree}")?;
     Ok(())
 }
 
@@ -177,35 +262,17 @@ pub fn answer_recorded<A: Air<BaseRecorder> + Air<ExtRecorder>>(
         ("get_symbolic_constraints", []) => show_symbolic(alloc, air, layout, text),
         ("get_all_symbolic_constraints", []) => show_all(alloc, air, layout, text),
         ("get_symbolic_constraints_extension", []) => show_extension(alloc, air, layout, text),
+        ("get_constraint_layout", []) => show_layout(alloc, air, layout, text),
+        ("degree_multiples", []) => show_stated(alloc, air, layout, text),
+        ("poly_degrees", [rows, periods]) => {
+            let periods = counts_of(alloc, *periods)?;
+            show_poly(alloc, air, layout, count_of(*rows)?, &periods, text)
+        }
+        ("eval", []) => show_places(&evaluated(alloc, air, layout)?, text),
         ("layout", []) => {
             write!(text, "{layout:?}")?;
             Ok(())
         }
-        ("poly_degrees", [rows]) => show_poly_degrees(alloc, air, layout, count_of(*rows)?, text),
-        ("degree_multiples", []) => {
-            let recorded = get_symbolic_constraints(alloc, air, layout)?;
-            show_degrees(recorded.pool.base(), &recorded.base, text)
-        }
-        ("eval", []) => show_evaluated(alloc, air, layout, text),
-        ("get_constraint_layout", []) => {
-            let places = get_constraint_layout::<BabyBear, Element, A>(alloc, air, layout)?;
-            write!(text, "{places:?}")?;
-            Ok(())
-        }
-        ("get_max_constraint_degree", [rows, weight]) => {
-            let (rows, weight) = (count_of(*rows)?, count_of(*weight)?);
-            let degree = get_max_constraint_degree(alloc, air, layout, rows, weight)?;
-            write!(text, "{degree}")?;
-            Ok(())
-        }
-        ("get_max_constraint_degree_extension", [rows, weight]) => {
-            let (rows, weight) = (count_of(*rows)?, count_of(*weight)?);
-            let degree = get_max_constraint_degree_extension::<BabyBear, Element, A>(
-                alloc, air, layout, rows, weight,
-            )?;
-            write!(text, "{degree}")?;
-            Ok(())
-        }
-        _ => Err(Fault::Unreadable(Why::NoSuchCall)),
+        _ => show_inferred(alloc, air, layout, call, words, text),
     }
 }
