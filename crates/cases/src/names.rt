@@ -52,7 +52,7 @@ impl<'a, T: Copy> Names<'a, T> {
         }
     }
 
-    /// Gives a name to a value, a name that has one only `again`.
+    /// Gives a name to a value, a name that has one only `again`. Where it is refused the names are as they were.
     pub fn bind(&mut self, name: &'a str, value: T, again: bool) -> Result<(), Fault> {
         match self.place(name) {
             Some(place) if again => match self.values.get_mut(place) {
@@ -64,8 +64,9 @@ impl<'a, T: Copy> Names<'a, T> {
             },
             Some(_) => Err(Fault::Unreadable(Why::NameIsTaken)),
             None => {
-                self.words.push(name)?;
+                self.words.reserve(1)?;
                 self.values.push(value)?;
+                self.words.push(name)?;
                 Ok(())
             }
         }
