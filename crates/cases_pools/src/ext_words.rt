@@ -87,6 +87,25 @@ impl<'a, F: Number, EF: ExtensionField<F>> PoolBench<'a, ExtLeaf<F, EF>> {
         Ok(())
     }
 
+    fn base_leaf_expr(&mut self, leaf: &[&str]) -> Result<ExprId<BaseLeaf<F>>, Fault> {
+        Ok(self.push_base_leaf(base_leaf(leaf)?)?)
+    }
+
+    fn base_sum(&mut self, x: &str, y: &str) -> Result<ExprId<BaseLeaf<F>>, Fault> {
+        let x = self.base_at(x)?;
+        let y = self.base_at(y)?;
+        Ok(self.push_base_sum(x, y)?)
+    }
+
+    // The expression of the base pool that a call makes, if it makes one.
+    fn made_base(&mut self, words: &[&str]) -> Result<Option<ExprId<BaseLeaf<F>>>, Fault> {
+        match words {
+            ["leaf_expr", leaf @ ..] => Ok(Some(self.base_leaf_expr(leaf)?)),
+            ["add", x, y] => Ok(Some(self.base_sum(*x, *y)?)),
+            _ => Ok(None),
+        }
+    }
+
     // Answers a call of the base pool.
     fn answer_base(
         &mut self,
@@ -94,21 +113,17 @@ impl<'a, F: Number, EF: ExtensionField<F>> PoolBench<'a, ExtLeaf<F, EF>> {
         words: &[&str],
         text: &mut String,
     ) -> Result<(), Fault> {
-        let x = match words {
-            ["leaf_expr", leaf @ ..] => self.push_base_leaf(base_leaf(leaf)?)?,
-            ["add", x, y] => {
-                let x = self.base_at(*x)?;
-                let y = self.base_at(*y)?;
-                self.push_base_sum(x, y)?
-            }
+        if let Some(x) = self.made_base(words)? {
+            return self.keep_base(line, x, text);
+        }
+        match words {
             ["len"] if line.name.is_none() => {
                 let count = self.pool.base().len();
                 write!(text, "{count}")?;
-                return Ok(());
+                Ok(())
             }
-            _ => return Err(Fault::Unreadable(Why::NoSuchCall)),
-        };
-        self.keep_base(line, x, text)
+            _ => Err(Fault::Unreadable(Why::NoSuchCall)),
+        }
     }
 
     fn answer_to_base(&mut self, line: &Line<'a>, x: &str, text: &mut String) -> Result<(), Fault> {
