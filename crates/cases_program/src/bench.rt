@@ -14,12 +14,25 @@ pub struct Program<'a> {
 }
 
 impl<'a> Program<'a> {
+    // Adds what a run answers: its words are said, the last two give its input, by name or itself.
+    fn answer_run(&self, words: &[&'a str], text: &mut String) -> Result<(), Fault> {
+        let alloc = self.inputs.alloc();
+        if words.len() < 2 {
+            return Err(Fault::Unreadable(Why::NoSuchCall));
+        }
+        let (said, given) = words.split_at(words.len() - 2);
+        match given {
+            ["<", name] => show_run(alloc, said, self.inputs.get(*name)?, text),
+            ["<<<", input] => show_run(alloc, said, *input, text),
+            _ => Err(Fault::Unreadable(Why::NoSuchCall)),
+        }
+    }
+
     // Adds what a call answers that makes no input.
     fn answer_call(&self, words: &[&'a str], text: &mut String) -> Result<(), Fault> {
         let alloc = self.inputs.alloc();
         match words {
-            ["run", said @ .., "<", name] => show_run(alloc, said, self.inputs.get(*name)?, text),
-            ["run", said @ .., "<<<", input] => show_run(alloc, said, *input, text),
+            ["run", rest @ ..] => self.answer_run(rest, text),
             ["flat_input_from", object] => show_input(alloc, *object, text),
             [call, "<", name] => show_flat_check(alloc, *call, self.inputs.get(*name)?, text),
             [call, "fibonacci", rest @ ..] => show_traced(alloc, *call, rest, text),
