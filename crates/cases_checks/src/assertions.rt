@@ -107,16 +107,19 @@ fn assert_word(
     for part in word.split(',') {
         words.push(part)?;
     }
-    match words.as_slice() {
-        ["eval", air] => Ok(eval_on(airs.air(*air)?, builder)?),
-        [_, .., "z" | "outer::mid" | "outer::mid::leaf" | "::"] => {
-            assert_in_space(builder, words.as_slice())
+    let all = words.as_slice();
+    if let ["eval", air] = all {
+        return Ok(eval_on(airs.air(*air)?, builder)?);
+    }
+    match all.split_last() {
+        Some((&("z" | "outer::mid" | "outer::mid::leaf" | "::"), _)) => {
+            assert_in_space(builder, all)
         }
-        [plain @ .., label] if word.contains("_named,") => {
+        Some((label, plain)) if word.contains("_named,") => {
             let label = text_of(alloc, *label)?;
             assert_named(alloc, builder, plain, label.as_str())
         }
-        plain => assert_plain(alloc, builder, plain),
+        _ => assert_plain(alloc, builder, all),
     }
 }
 

@@ -1,10 +1,10 @@
 //! Folds of assertions by themselves, with names that count how often they are asked for.
 
+use air_folder::ConstraintFolder;
 use p3_air::{
     AirBuilder, AirError, Algebra, BabyBear, BinomialExtensionField, ExtensionBuilder,
     ExtensionField, Lazy, NamedAirBuilder, NamedExtensionBuilder, RowMajorMatrixView, ViewPair,
 };
-use air_folder::ConstraintFolder;
 use std::cell::Cell;
 use std::test::Fail;
 
