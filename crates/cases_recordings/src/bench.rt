@@ -45,6 +45,90 @@ fn layout_by(air: &TableAir<BabyBear>, word: &str) -> Result<AirLayout, Fault> {
     )
 }
 
+// Adds what the AIR's values at a row are folded to.
+fn folded(
+    alloc: Global,
+    air: &TableAir<BabyBear>,
+    layout: AirLayout,
+    words: &[&str],
+    text: &mut String,
+) -> Result<(), Fault> {
+    let row = row_of(alloc, words)?;
+    answer_fold(alloc, air, layout, &row, text)
+}
+
+// Adds whether the layout suits the AIR.
+fn validated(air: &TableAir<BabyBear>, layout: AirLayout, text: &mut String) -> Result<(), Fault> {
+    layout.validate_against_air::<BabyBear, TableAir<BabyBear>>(air)?;
+    text.push_str("accepted")?;
+    Ok(())
+}
+
+// Adds what a call answers of an AIR by a layout.
+fn answer_by(
+    alloc: Global,
+    air: &TableAir<BabyBear>,
+    layout: AirLayout,
+    call: &str,
+    words: &[&str],
+    text: &mut String,
+) -> Result<(), Fault> {
+    match (call, words) {
+        ("fold_air", words) => folded(alloc, air, layout, words, text),
+        ("validate_against_air", []) => validated(air, layout, text),
+        _ => answer_recorded(alloc, air, layout, call, words, text),
+    }
+}
+
+// Adds what an audit of the AIR finds.
+fn audited(
+    alloc: Global,
+    air: &TableAir<BabyBear>,
+    given: &Given,
+    text: &mut String,
+) -> Result<(), Fault> {
+    answer_audit(alloc, air, given, text)
+}
+
+// The same under a cap.
+fn audited_under_cap(
+    alloc: Global,
+    air: &TableAir<BabyBear>,
+    given: &Given,
+    cap: Option<usize>,
+    text: &mut String,
+) -> Result<(), Fault> {
+    answer_capped_audit(alloc, air, given, cap, text)
+}
+
+// Adds what a call answers of an AIR.
+fn answer_of(
+    alloc: Global,
+    air: &TableAir<BabyBear>,
+    call: &str,
+    words: &[&str],
+    text: &mut String,
+) -> Result<(), Fault> {
+    match (call, words) {
+        ("audit_air", [trace, public, weight]) => {
+            audited(
+                alloc,
+                air,
+                &given_of(alloc, *trace, *public, *weight)?,
+                text,
+            )
+        }
+        ("audit_air_with_cap", [trace, public, cap, weight]) => {
+            let given = given_of(alloc, *trace, *public, *weight)?;
+            audited_under_cap(alloc, air, &given, cap_of(*cap)?, text)
+        }
+        (_, [layout, words @ ..]) => {
+            answer_by(alloc, air, layout_by(air, *layout)?, call, words, text)
+        }
+        _ => Err(Fault::Unreadable(Why::NoSuchCall)),
+    }
+}
+
 impl<'a> Bench<'a> for AirBench<'a> {
     fn new(alloc: Global) -> Self {
         AirBench {
@@ -57,32 +141,9 @@ impl<'a> Bench<'a> for AirBench<'a> {
         if self.airs.answer(line)? {
             return Ok(());
         }
-        let alloc = self.alloc;
         match line.words.as_slice() {
-            ["audit_air", air, trace, public, weight] => {
-                let given = given_of(alloc, *trace, *public, *weight)?;
-                answer_audit(alloc, self.airs.air(*air)?, &given, text)
-            }
-            ["audit_air_with_cap", air, trace, public, cap, weight] => {
-                let given = given_of(alloc, *trace, *public, *weight)?;
-                answer_capped_audit(alloc, self.airs.air(*air)?, &given, cap_of(*cap)?, text)
-            }
-            ["fold_air", air, layout, words @ ..] => {
-                let row = row_of(alloc, words)?;
-                let air = self.airs.air(*air)?;
-                answer_fold(alloc, air, layout_by(air, *layout)?, &row, text)
-            }
-            ["validate_against_air", air, layout] => {
-                let air = self.airs.air(*air)?;
-                let layout = layout_by(air, *layout)?;
-                layout.validate_against_air::<BabyBear, TableAir<BabyBear>>(air)?;
-                text.push_str("accepted")?;
-                Ok(())
-            }
-            [call, air, layout, words @ ..] => {
-                let air = self.airs.air(*air)?;
-                let layout = layout_by(air, *layout)?;
-                answer_recorded(alloc, air, layout, *call, words, text)
+            [call, air, words @ ..] => {
+                answer_of(self.alloc, self.airs.air(*air)?, *call, words, text)
             }
             _ => Err(Fault::Unreadable(Why::NoSuchCall)),
         }

@@ -94,15 +94,11 @@ fn decompose_alpha(
 }
 
 // The sum of weight times value, each value of the constraint at the index beside the weight.
-fn weighted(
-    weights: &[BabyBear],
-    places: &[usize],
-    values: &[BabyBear],
-) -> Result<BabyBear, Fault> {
-    let mut sum = BabyBear::ZERO;
+fn weighted<F: Field>(weights: &[F], places: &[usize], values: &[F]) -> Result<F, Fault> {
+    let mut sum = F::ZERO;
     for (weight, place) in weights.iter().zip(places) {
         match values.get(*place) {
-            Some(value) => sum = Field::add(sum, Field::mul(*weight, *value)),
+            Some(value) => sum = sum.add(weight.mul(*value)),
             None => return Err(Fault::Unreadable(Why::OtherShape)),
         }
     }
