@@ -21,13 +21,15 @@ abbrev pub HasValue : {F E : Type 0} → Over F E → E → Term F → Type 0
 HasValue a x t = closed_value_in a t ≡ x
 
 -- A ring of an extension's elements takes these as base elements too: in the base they mean what they mean in the ring.
-pub values_are_their_base : {R F E : Type 0} (a : Over F E) (coefficients : E → List F) → ((x : E) → a.extend (coefficients x) ≡ x) → ExtAlgebraLaws {R = R} {B = E} {F = F} (λ _. ⊤) (λ _ _. ⊤) (λ _ x t. HasValue a x t) (λ _ _. ⊤)
-values_are_their_base a coefficients named = record {
+pub values_are_their_base : {R F E : Type 0} (a : Over F E) (basis : Basis F E)
+    → ((x : E) → a.extend (basis.coefficients x) ≡ x)
+    → ExtAlgebraLaws {R = R} {B = E} {F = F} (λ _. ⊤) (λ _ _. ⊤) (λ _ x t. HasValue a x t) (λ _ _. ⊤)
+values_are_their_base a basis extended = record {
   base_has_stays = λ p q x g h. tt;
   base_means_stays = λ p q x t g h. h;
   base_means_has = λ p x t h. tt;
   base_has_valid = λ p x h. tt;
-  base_means_some = λ p x h. (ext_const_term (coefficients x), named x);
+  base_means_some = λ p x h. (ext_const_term (basis.coefficients x), extended x);
 }
 
 -- what stands at the leaves, all of it over the extension, and the element whose powers are the weights

@@ -1,10 +1,13 @@
-//! The folder discards labels, and has no context.
-ghost use Rattle.std.specs.Prelude.{refl};
-ghost use Rattle.air_builder.specs.Labels.{discarding};
+//! The folder discards labels, which it never evaluates, and has no context.
+ghost use Rattle.std.specs.Prelude.{[], ◌∷◌, refl};
+ghost use Rattle.air_builder.specs.Assertion.{Base, Extension};
+ghost use Rattle.air_builder.specs.Batches.{Asserts};
+ghost use Rattle.air_builder.specs.Labels.{Labels, discarding};
 ghost use Rattle.air_builder.specs.laws.NamedFilters.{discarding_laws};
 ghost use Rattle.air_folder.specs.laws.Folder.{folder_laws};
 
 use crate::folder::builder::ConstraintFolder;
+use air_builder::{Seen, SeenOver};
 use p3_air::{
     AirBuilder, AirBuilderWithContext, AirError, ExtensionBuilder, ExtensionField, Field, Name,
     NamedAirBuilder, NamedExtensionBuilder, PassthroughNamedAirBuilder,
@@ -18,13 +21,25 @@ impl<'a, F: Field, EF: ExtensionField<F>> NamedAirBuilder for ConstraintFolder<'
 
     ghost named_laws = { discarding_laws (folder_laws EF.over EF.basis) };
 
-    fn assert_zero_named<N: Name>(&mut self, x: EF, name: N) -> Result<(), AirError> {
+    fn assert_zero_named<N: Name>(&mut self, x: EF, name: N) -> Result<(), AirError>
+        ensures asserted { Asserts ⟦<ConstraintFolder<'a, F, EF> as Seen>⟧.view Base (λ t. t)
+            self.old self.new (x ∷ []) result }
+        ensures label { Labels ⟦<ConstraintFolder<'a, F, EF> as Seen>⟧.view
+            (discarding ⟦<ConstraintFolder<'a, F, EF> as AirBuilder>⟧.grew) Base (λ t. t)
+            (λ i. N.displays name) self.old self.new (x ∷ []) result }
+    {
         self.assert_zero_unlabelled(x, name)
     }
 }
 
 impl<'a, F: Field, EF: ExtensionField<F>> NamedExtensionBuilder for ConstraintFolder<'a, F, EF> {
-    fn assert_zero_ext_named<N: Name>(&mut self, x: EF, _name: N) -> Result<(), AirError> {
+    fn assert_zero_ext_named<N: Name>(&mut self, x: EF, _name: N) -> Result<(), AirError>
+        ensures asserted { Asserts ⟦<ConstraintFolder<'a, F, EF> as SeenOver>⟧.view Extension
+            (λ t. t) self.old self.new (x ∷ []) result }
+        ensures label { Labels ⟦<ConstraintFolder<'a, F, EF> as SeenOver>⟧.view
+            (discarding ⟦<ConstraintFolder<'a, F, EF> as AirBuilder>⟧.grew) Extension (λ t. t)
+            (λ i. N.displays _name) self.old self.new (x ∷ []) result }
+    {
         self.assert_zero_ext(x)
     }
 }

@@ -116,6 +116,6 @@ impl<F: Field, EF: ExtensionField<F>> ExtAlgebra<F, EF> for FolderRing<F, EF> {
         Ok(c)
     }
 
-    ghost base_laws = { values_are_their_base EF.over EF.basis.coefficients
+    ghost base_laws = { values_are_their_base EF.over EF.basis
         (extend-coefficients F.ring EF.over EF.basis EF.DIMENSION EF.ExtensionField.laws) };
 }

@@ -1,8 +1,9 @@
-use Rattle.std.proofs.Common.{◌≡◌, ◌∙◌, length, None, Some, ap, sym}
+use Rattle.std.proofs.Common.{◌≡◌, ◌∙◌, length, None, Some, ap, ap₂, sym}
 use Rattle.air_symbolic.specs.BaseLeaves.{base_reads}
 use Rattle.air_recording.specs.Kinds.{base_terms}
 use Rattle.air_recording.specs.Layouts.{first_past}
 use Rattle.air_recording.specs.laws.Layouts.{below-none_past}
+use Rattle.p3_air.specs.FlatAirs.{zero_at_roots}
 use Rattle.p3_air.proofs.RecordedRoots.{none_past, records_zero_at}
 use Rattle.p3_air.proofs.recorded_airs.recorded_air.Goals as goal
 
@@ -32,3 +33,6 @@ returns-clause-width g c = c.new.ensures.width
 
 pub returns-clause-num_public_values : goal.returns-clause-num_public_values
 returns-clause-num_public_values g c = c.new.ensures.num_public_values
+
+pub returns-clause-declared : goal.returns-clause-declared
+returns-clause-declared g c = ap₂ (λ p r. zero_at_roots p r) (c.new.ensures.pool ∙ c.into_base-pool.ensures.base) (ap (λ v. v.items) c.new.ensures.roots)
