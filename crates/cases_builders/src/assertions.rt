@@ -1,6 +1,6 @@
 //! Assertions over constants, by the words of their calls. A call knows the builder by its traits alone. Calls on as many
 //! elements stand together: the elements are made first, by one loan of the ring, and then the call is one of them.
-ghost use Rattle.std.specs.Prelude.{OnOk};
+ghost use Rattle.std.specs.Prelude.{IfOk, OnOk};
 
 use crate::constants::{
     constant, ext_constant, four_constants, three_constants, two_constants, two_ext_constants,
@@ -28,6 +28,26 @@ fn assert_one_of<AB: AirBuilder>(builder: &mut AB, word: &str, x: &str) -> Resul
     }
 }
 
+// Makes an assertion on these two elements.
+fn assert_pair<AB: AirBuilder>(
+    builder: &mut AB,
+    word: &str,
+    x: AB::Expr,
+    y: AB::Expr,
+) -> Result<(), Fault>
+    requires ready { AB.ready builder.old }
+    requires x_in { AB.Ring.has (AB.ring_of builder.old) x }
+    requires y_in { AB.Ring.has (AB.ring_of builder.old) y }
+    ensures { OnOk result (AB.kept builder.old builder.new) }
+{
+    match word {
+        "assert_eq" => Ok(builder.assert_eq(x, y)?),
+        "assert_zeros" => Ok(builder.assert_zeros([x, y])?),
+        "assert_bools" => Ok(builder.assert_bools([x, y])?),
+        _ => Err(Fault::Unreadable(Why::NoSuchCall)),
+    }
+}
+
 // Makes an assertion on two elements.
 fn assert_two_of<AB: AirBuilder>(
     builder: &mut AB,
@@ -39,12 +59,25 @@ fn assert_two_of<AB: AirBuilder>(
     ensures { OnOk result (AB.kept builder.old builder.new) }
 {
     let (x, y) = two_constants::<AB::F, AB::Ring>(builder.ring(), x, y)?;
-    match word {
-        "assert_eq" => Ok(builder.assert_eq(x, y)?),
-        "assert_zeros" => Ok(builder.assert_zeros([x, y])?),
-        "assert_bools" => Ok(builder.assert_bools([x, y])?),
-        _ => Err(Fault::Unreadable(Why::NoSuchCall)),
-    }
+    Ok(assert_pair(builder, word, x, y)?)
+}
+
+// Asserts that w is x, and that y is z, as arrays.
+fn assert_pairs<AB: AirBuilder>(
+    builder: &mut AB,
+    w: AB::Expr,
+    x: AB::Expr,
+    y: AB::Expr,
+    z: AB::Expr,
+) -> Result<(), Fault>
+    requires ready { AB.ready builder.old }
+    requires w_in { AB.Ring.has (AB.ring_of builder.old) w }
+    requires x_in { AB.Ring.has (AB.ring_of builder.old) x }
+    requires y_in { AB.Ring.has (AB.ring_of builder.old) y }
+    requires z_in { AB.Ring.has (AB.ring_of builder.old) z }
+    ensures { OnOk result (AB.kept builder.old builder.new) }
+{
+    Ok(builder.assert_eq_arrays([w, y], [x, z])?)
 }
 
 // Asserts that the elements of two arrays are equal.
@@ -57,7 +90,35 @@ fn assert_arrays<AB: AirBuilder>(
     ensures { OnOk result (AB.kept builder.old builder.new) }
 {
     let ((w, x), (y, z)) = four_constants::<AB::F, AB::Ring>(builder.ring(), left, right)?;
-    Ok(builder.assert_eq_arrays([w, x], [y, z])?)
+    Ok(assert_pairs(builder, w, y, x, z)?)
+}
+
+// The constant of an element of the extension.
+fn ext_element<AB: ExtensionBuilder>(
+    alloc: Global,
+    builder: &mut AB,
+    word: &str,
+) -> Result<AB::ExprEF, Fault>
+    requires { AB.ready builder.old }
+    ensures kept { AB.kept builder.old builder.new }
+    ensures of_ring { IfOk result (AB.ExtRing.has (AB.ext_ring_of builder.new)) }
+{
+    ext_constant::<AB::F, AB::EF, AB::ExtRing>(alloc, builder.ext_ring(), word)
+}
+
+// The constants of two elements of the extension.
+fn ext_elements<AB: ExtensionBuilder>(
+    alloc: Global,
+    builder: &mut AB,
+    first: &str,
+    second: &str,
+) -> Result<(AB::ExprEF, AB::ExprEF), Fault>
+    requires { AB.ready builder.old }
+    ensures kept { AB.kept builder.old builder.new }
+    ensures first { IfOk result (λ made. AB.ExtRing.has (AB.ext_ring_of builder.new) made.0) }
+    ensures second { IfOk result (λ made. AB.ExtRing.has (AB.ext_ring_of builder.new) made.1) }
+{
+    two_ext_constants::<AB::F, AB::EF, AB::ExtRing>(alloc, builder.ext_ring(), first, second)
 }
 
 // Makes an assertion on one element of the extension.
@@ -70,10 +131,29 @@ fn assert_one_ext_of<AB: ExtensionBuilder>(
     requires { AB.ready builder.old }
     ensures { OnOk result (AB.kept builder.old builder.new) }
 {
-    let x = ext_constant::<AB::F, AB::EF, AB::ExtRing>(alloc, builder.ext_ring(), x)?;
+    let x = ext_element(alloc, builder, x)?;
     match word {
         "assert_zero_ext" => Ok(builder.assert_zero_ext(x)?),
         "assert_one_ext" => Ok(builder.assert_one_ext(x)?),
+        _ => Err(Fault::Unreadable(Why::NoSuchCall)),
+    }
+}
+
+// Makes an assertion on these two elements of the extension.
+fn assert_ext_pair<AB: ExtensionBuilder>(
+    builder: &mut AB,
+    word: &str,
+    x: AB::ExprEF,
+    y: AB::ExprEF,
+) -> Result<(), Fault>
+    requires ready { AB.ready builder.old }
+    requires x_in { AB.ExtRing.has (AB.ext_ring_of builder.old) x }
+    requires y_in { AB.ExtRing.has (AB.ext_ring_of builder.old) y }
+    ensures { OnOk result (AB.kept builder.old builder.new) }
+{
+    match word {
+        "assert_eq_ext" => Ok(builder.assert_eq_ext(x, y)?),
+        "assert_zeros_ext" => Ok(builder.assert_zeros_ext([x, y])?),
         _ => Err(Fault::Unreadable(Why::NoSuchCall)),
     }
 }
@@ -89,13 +169,8 @@ fn assert_two_ext_of<AB: ExtensionBuilder>(
     requires { AB.ready builder.old }
     ensures { OnOk result (AB.kept builder.old builder.new) }
 {
-    let ring = builder.ext_ring();
-    let (x, y) = two_ext_constants::<AB::F, AB::EF, AB::ExtRing>(alloc, ring, x, y)?;
-    match word {
-        "assert_eq_ext" => Ok(builder.assert_eq_ext(x, y)?),
-        "assert_zeros_ext" => Ok(builder.assert_zeros_ext([x, y])?),
-        _ => Err(Fault::Unreadable(Why::NoSuchCall)),
-    }
+    let (x, y) = ext_elements(alloc, builder, x, y)?;
+    Ok(assert_ext_pair(builder, word, x, y)?)
 }
 
 // Makes an assertion on one element under a name.
@@ -118,6 +193,28 @@ fn assert_one_named_of<AB: NamedAirBuilder, N: Namespace>(
     }
 }
 
+// Makes an assertion on these two elements under a name.
+fn assert_pair_named<AB: NamedAirBuilder, N: Namespace>(
+    builder: &mut AB,
+    word: &str,
+    x: AB::Expr,
+    y: AB::Expr,
+    name: N,
+) -> Result<(), Fault>
+    requires ready { AB.ready builder.old }
+    requires x_in { AB.Ring.has (AB.ring_of builder.old) x }
+    requires y_in { AB.Ring.has (AB.ring_of builder.old) y }
+    requires can_evaluate { N.can_evaluate name }
+    ensures { OnOk result (AB.kept builder.old builder.new) }
+{
+    match word {
+        "assert_eq_named" => Ok(builder.assert_eq_named(x, y, name)?),
+        "assert_zeros_named" => Ok(builder.assert_zeros_named([x, y], name)?),
+        "assert_bools_named" => Ok(builder.assert_bools_named([x, y], name)?),
+        _ => Err(Fault::Unreadable(Why::NoSuchCall)),
+    }
+}
+
 // Makes an assertion on two elements under a name.
 fn assert_two_named_of<AB: NamedAirBuilder, N: Namespace>(
     builder: &mut AB,
@@ -131,12 +228,25 @@ fn assert_two_named_of<AB: NamedAirBuilder, N: Namespace>(
     ensures { OnOk result (AB.kept builder.old builder.new) }
 {
     let (x, y) = two_constants::<AB::F, AB::Ring>(builder.ring(), x, y)?;
-    match word {
-        "assert_eq_named" => Ok(builder.assert_eq_named(x, y, name)?),
-        "assert_zeros_named" => Ok(builder.assert_zeros_named([x, y], name)?),
-        "assert_bools_named" => Ok(builder.assert_bools_named([x, y], name)?),
-        _ => Err(Fault::Unreadable(Why::NoSuchCall)),
-    }
+    Ok(assert_pair_named(builder, word, x, y, name)?)
+}
+
+// Asserts that each of these three elements is zero or one, under a name.
+fn assert_these_bools<AB: NamedAirBuilder, N: Namespace>(
+    builder: &mut AB,
+    x: AB::Expr,
+    y: AB::Expr,
+    z: AB::Expr,
+    name: N,
+) -> Result<(), Fault>
+    requires ready { AB.ready builder.old }
+    requires x_in { AB.Ring.has (AB.ring_of builder.old) x }
+    requires y_in { AB.Ring.has (AB.ring_of builder.old) y }
+    requires z_in { AB.Ring.has (AB.ring_of builder.old) z }
+    requires can_evaluate { N.can_evaluate name }
+    ensures { OnOk result (AB.kept builder.old builder.new) }
+{
+    Ok(builder.assert_bools_named([x, y, z], name)?)
 }
 
 // Asserts that each of three elements is zero or one, under a name.
@@ -150,7 +260,7 @@ fn assert_three_bools<AB: NamedAirBuilder, N: Namespace>(
     ensures { OnOk result (AB.kept builder.old builder.new) }
 {
     let (x, y, z) = three_constants::<AB::F, AB::Ring>(builder.ring(), words)?;
-    Ok(builder.assert_bools_named([x, y, z], name)?)
+    Ok(assert_these_bools(builder, x, y, z, name)?)
 }
 
 // Makes an assertion on one element of the extension under a name.
@@ -165,7 +275,7 @@ fn assert_one_ext_named_of<AB: NamedExtensionBuilder, N: Namespace>(
     requires can_evaluate { N.can_evaluate name }
     ensures { OnOk result (AB.kept builder.old builder.new) }
 {
-    let x = ext_constant::<AB::F, AB::EF, AB::ExtRing>(alloc, builder.ext_ring(), x)?;
+    let x = ext_element(alloc, builder, x)?;
     match word {
         "assert_zero_ext_named" => Ok(builder.assert_zero_ext_named(x, name)?),
         "assert_one_ext_named" => Ok(builder.assert_one_ext_named(x, name)?),
@@ -185,8 +295,7 @@ fn assert_eq_ext_named_of<AB: NamedExtensionBuilder, N: Namespace>(
     requires can_evaluate { N.can_evaluate name }
     ensures { OnOk result (AB.kept builder.old builder.new) }
 {
-    let ring = builder.ext_ring();
-    let (x, y) = two_ext_constants::<AB::F, AB::EF, AB::ExtRing>(alloc, ring, x, y)?;
+    let (x, y) = ext_elements(alloc, builder, x, y)?;
     Ok(builder.assert_eq_ext_named(x, y, name)?)
 }
 

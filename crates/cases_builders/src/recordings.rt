@@ -2,13 +2,14 @@
 ghost use Rattle.std.specs.Prelude.{IfOk};
 ghost use Rattle.air_symbolic.specs.Pools.{IsPool};
 
-use crate::filters::assert_each;
+use crate::filters::assert_all;
 use crate::trees::{show_tree, show_value};
 use air_builder::AirBuilder;
 use air_field::{BabyBear, BinomialExtensionField};
 use air_recording::{AirLayout, Recorded, SymbolicAirBuilder};
 use air_symbolic::{ExtLeaf, SymLeaf};
 use cases::{Bench, Fault, Line};
+use p3_air::finish_recording;
 use std::alloc::Global;
 
 #[derive(Drop)]
@@ -25,8 +26,8 @@ fn recorded(
         (λ r. IsPool ⟦<ExtLeaf<BabyBear, BinomialExtensionField> as SymLeaf>⟧.reads r.pool) }
 {
     let mut builder = SymbolicAirBuilder::new(alloc, AirLayout::default())?;
-    assert_each(alloc, &mut builder, words)?;
-    Ok(builder.into_recorded())
+    assert_all(alloc, &mut builder, words)?;
+    Ok(finish_recording(builder))
 }
 
 // Adds the constraints over the extension, and then the base ones.

@@ -1,6 +1,6 @@
 //! Assertions that are evaluated at one row without columns: each line has a builder of its own.
 
-use crate::filters::assert_each;
+use crate::filters::assert_all;
 use air_builder::AirBuilder;
 use air_field::{BabyBear, BinomialExtensionField, RowMajorMatrixView, ViewPair};
 use air_report::DebugConstraintBuilder;
@@ -37,7 +37,7 @@ fn row_builder<'a>(alloc: Global, selectors: [BabyBear; 3]) -> RowBuilder<'a> {
 }
 
 fn assert_at_row(alloc: Global, builder: &mut RowBuilder<'_>, words: &[&str]) -> Result<(), Fault> {
-    assert_each(alloc, builder, words)
+    assert_all(alloc, builder, words)
 }
 
 fn show_failures(builder: &RowBuilder<'_>, text: &mut String) -> Result<(), Fault> {

@@ -1,8 +1,7 @@
 //! Calls of windows. The elements are counts, which commas separate.
 
-use crate::matrices::matrix_of;
 use air_core::{RowWindow, TwoRows, WindowAccess};
-use air_field::RowMajorMatrixView;
+use air_field::{RowMajorMatrix, RowMajorMatrixView};
 use cases::words::{count_of, counts_of};
 use cases::{Fault, Why};
 use std::alloc::Global;
@@ -49,11 +48,12 @@ pub fn window(alloc: Global, call: &[&str], text: &mut String) -> Result<(), Fau
             }
             show_window(&TwoRows::new(current, next), *column, text)
         }
-        ["RowMajorMatrix", width, values, column] => {
-            let made = matrix_of(alloc, *width, *values)?;
-            if made.height() != 2 {
+        ["RowMajorMatrix", "1", values, column] => {
+            let values = counts_of(alloc, *values)?;
+            let [x, y] = *values.as_slice() else {
                 return Err(Fault::Unreadable(Why::OtherShape));
-            }
+            };
+            let made = RowMajorMatrix::new(vec![in alloc; x, y]?, 1)?;
             show_window(&made, *column, text)
         }
         _ => Err(Fault::Unreadable(Why::NoSuchCall)),

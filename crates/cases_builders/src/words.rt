@@ -46,6 +46,20 @@ fn limbs_of<F: Field, V: Copy, R: FromVar<F, V>>(
     Ok(([low, high], [other_low, other_high]))
 }
 
+// Adds two words, of which the second is given by elements.
+fn add_two<AB: AirBuilder>(
+    builder: &mut AB,
+    a: [AB::Var; 2],
+    b: [AB::Var; 2],
+    c: [AB::Expr; 2],
+) -> Result<(), AirError>
+    requires ready { AB.ready builder.old }
+    requires of_ring { All (AB.Ring.has (AB.ring_of builder.old)) c }
+    ensures { AB.ready builder.new }
+{
+    add2(builder, &a, &b, &c)
+}
+
 // Asserts that word a is the sum of words b and c.
 fn assert_sum_of_two<AB: AirBuilder>(
     builder: &mut AB,
@@ -57,7 +71,23 @@ fn assert_sum_of_two<AB: AirBuilder>(
     ensures { OnOk result (AB.ready builder.new) }
 {
     let (c, _) = limbs_of::<AB::F, AB::Var, AB::Ring>(builder.ring(), c, c)?;
-    add2(builder, &a, &b, &c)
+    Ok(add_two(builder, a, b, c)?)
+}
+
+// Adds three words, of which the last two are given by elements.
+fn add_three<AB: AirBuilder>(
+    builder: &mut AB,
+    a: [AB::Var; 2],
+    b: [AB::Var; 2],
+    c: [AB::Expr; 2],
+    d: [AB::Expr; 2],
+) -> Result<(), AirError>
+    requires ready { AB.ready builder.old }
+    requires c_in { All (AB.Ring.has (AB.ring_of builder.old)) c }
+    requires d_in { All (AB.Ring.has (AB.ring_of builder.old)) d }
+    ensures { AB.ready builder.new }
+{
+    add3(builder, &a, &b, &c, &d)
 }
 
 // Asserts that word a is the sum of words b, c and d.
@@ -72,7 +102,7 @@ fn assert_sum_of_three<AB: AirBuilder>(
     ensures { OnOk result (AB.ready builder.new) }
 {
     let (c, d) = limbs_of::<AB::F, AB::Var, AB::Ring>(builder.ring(), c, d)?;
-    add3(builder, &a, &b, &c, &d)
+    Ok(add_three(builder, a, b, c, d)?)
 }
 
 // Asserts that word a is the xor of the bits b with the bits c, rotated.
@@ -85,7 +115,7 @@ fn assert_xor<AB: AirBuilder>(
 ) -> Result<(), AirError>
     requires ready { AB.ready builder.old }
     requires within { shift ≤ 32 }
-    ensures { OnOk result (AB.ready builder.new) }
+    ensures { AB.ready builder.new }
 {
     xor_32_shift(builder, &a, &b, &c, shift)
 }
