@@ -2,4 +2,4 @@ use Rattle.std.proofs.Common.{[]}
 use Rattle.cases_recordings.proofs.words.add_three.Goals as goal
 
 pub returns : goal.returns
-returns g c = g.met.AB.AirBuilder.laws.ready_kept _ _ c.add3.ensures.asserted.keeps c.requires.ready
+returns g c = g.met.AB.AirBuilder.laws.ready_kept _ _ c.add3.ensures.keeps c.requires.ready
