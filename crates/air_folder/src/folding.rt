@@ -7,9 +7,10 @@ ghost use Rattle.air_folder.specs.FolderRow.{folder_row};
 ghost use Rattle.air_folder.specs.Folding.{IsFolded, GrewByBeginningOf, FoldingRefuses};
 
 use crate::folder::builder::ConstraintFolder;
+use air_recording::symbolic::record::record;
 use p3_air::{
     Air, AirError, AirLayout, BaseAir, ConstraintLayout, ExtensionField, Field, Recorded,
-    SymbolicAirBuilder, get_all_symbolic_constraints, get_constraint_layout,
+    SymbolicAirBuilder,
 };
 use std::alloc::Global;
 
@@ -57,8 +58,9 @@ pub fn fold_air<
     ensures refused { IfErr result (FoldingRefuses F.ring EF.over layout (A.declaration air.now)
         (folder_row folder.old)) }
 {
-    let places = get_constraint_layout::<F, EF, A>(alloc, air, layout)?;
-    let recorded = get_all_symbolic_constraints(alloc, air, layout)?;
+    let builder: SymbolicAirBuilder<F, EF> = record(alloc, air, layout)?;
+    let places = builder.constraint_layout()?;
+    let recorded = builder.into_recorded();
     air.eval(folder)?;
     Ok(Folded {
         recorded,
