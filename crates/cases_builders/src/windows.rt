@@ -22,6 +22,21 @@ fn show_window<W: WindowAccess<usize>>(
     Ok(())
 }
 
+// Adds the window that a matrix of one column is.
+fn show_column_window(
+    alloc: Global,
+    x: usize,
+    y: usize,
+    column: &str,
+    text: &mut String,
+) -> Result<(), Fault> {
+    let values = vec![in alloc; x, y]?;
+    match RowMajorMatrix::new(values, 1) {
+        Ok(matrix) => show_window(&matrix, column, text),
+        Err(error) => Err(Fault::from(error)),
+    }
+}
+
 /// Adds the window that a call makes, with what stands in a column.
 pub fn window(alloc: Global, call: &[&str], text: &mut String) -> Result<(), Fault> {
     match call {
@@ -53,8 +68,7 @@ pub fn window(alloc: Global, call: &[&str], text: &mut String) -> Result<(), Fau
             let [x, y] = *values.as_slice() else {
                 return Err(Fault::Unreadable(Why::OtherShape));
             };
-            let made = RowMajorMatrix::new(vec![in alloc; x, y]?, 1)?;
-            show_window(&made, *column, text)
+            show_column_window(alloc, x, y, *column, text)
         }
         _ => Err(Fault::Unreadable(Why::NoSuchCall)),
     }
