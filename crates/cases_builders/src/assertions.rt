@@ -1,15 +1,12 @@
 //! Assertions over constants, by the words of their calls. A call knows the builder by its traits alone. Calls on as many
 //! elements stand together: the elements are made first, by one loan of the ring, and then the call is one of them.
-ghost use Rattle.std.specs.Prelude.{IfOk, OnOk};
+ghost use Rattle.std.specs.Prelude.{◌≡◌, [], ◌∷◌, IfOk, OnOk};
 
 use crate::constants::{
     constant, ext_constant, four_constants, three_constants, two_constants, two_ext_constants,
 };
 use crate::labels::Label;
-use air_builder::{
-    AirBuilder, AssertAll, AssertAllExt, AssertAllNamed, ExtensionBuilder, NamedAirBuilder,
-    NamedExtensionBuilder,
-};
+use air_builder::{AirBuilder, ExtensionBuilder, NamedAirBuilder, NamedExtensionBuilder};
 use air_core::{Namespace, NamespaceExt};
 use cases::{Fault, Why};
 use std::alloc::Global;
@@ -28,8 +25,19 @@ fn assert_one_of<AB: AirBuilder>(builder: &mut AB, word: &str, x: &str) -> Resul
     }
 }
 
+// A list of two elements. (An array of a builder's elements owes a bound on its size, which no clause can give.)
+fn both<E: Copy>(alloc: Global, x: E, y: E) -> Result<Vec<E>, Fault>
+    ensures { IfOk result (λ list. list.items ≡ x ∷ y ∷ []) }
+{
+    let mut list = Vec::with_capacity(alloc, 2)?;
+    list.push(x)?;
+    list.push(y)?;
+    Ok(list)
+}
+
 // Makes an assertion on these two elements.
 fn assert_pair<AB: AirBuilder>(
+    alloc: Global,
     builder: &mut AB,
     word: &str,
     x: AB::Expr,
@@ -42,14 +50,15 @@ fn assert_pair<AB: AirBuilder>(
 {
     match word {
         "assert_eq" => Ok(builder.assert_eq(x, y)?),
-        "assert_zeros" => Ok(builder.assert_zeros([x, y])?),
-        "assert_bools" => Ok(builder.assert_bools([x, y])?),
+        "assert_zeros_slice" => Ok(builder.assert_zeros_slice(&both(alloc, x, y)?)?),
+        "assert_bools_slice" => Ok(builder.assert_bools_slice(&both(alloc, x, y)?)?),
         _ => Err(Fault::Unreadable(Why::NoSuchCall)),
     }
 }
 
 // Makes an assertion on two elements.
 fn assert_two_of<AB: AirBuilder>(
+    alloc: Global,
     builder: &mut AB,
     word: &str,
     x: &str,
@@ -59,11 +68,12 @@ fn assert_two_of<AB: AirBuilder>(
     ensures { OnOk result (AB.kept builder.old builder.new) }
 {
     let (x, y) = two_constants::<AB::F, AB::Ring>(builder.ring(), x, y)?;
-    Ok(assert_pair(builder, word, x, y)?)
+    Ok(assert_pair(alloc, builder, word, x, y)?)
 }
 
-// Asserts that w is x, and that y is z, as arrays.
+// Asserts that w is x, and that y is z, as lists.
 fn assert_pairs<AB: AirBuilder>(
+    alloc: Global,
     builder: &mut AB,
     w: AB::Expr,
     x: AB::Expr,
@@ -77,11 +87,14 @@ fn assert_pairs<AB: AirBuilder>(
     requires z_in { AB.Ring.has (AB.ring_of builder.old) z }
     ensures { OnOk result (AB.kept builder.old builder.new) }
 {
-    Ok(builder.assert_eq_arrays([w, y], [x, z])?)
+    let left = both(alloc, w, y)?;
+    let right = both(alloc, x, z)?;
+    Ok(builder.assert_eq_slices(&left, &right)?)
 }
 
-// Asserts that the elements of two arrays are equal.
-fn assert_arrays<AB: AirBuilder>(
+// Asserts that the elements of two lists are equal.
+fn assert_lists<AB: AirBuilder>(
+    alloc: Global,
     builder: &mut AB,
     left: [&str; 2],
     right: [&str; 2],
@@ -90,7 +103,7 @@ fn assert_arrays<AB: AirBuilder>(
     ensures { OnOk result (AB.kept builder.old builder.new) }
 {
     let ((w, x), (y, z)) = four_constants::<AB::F, AB::Ring>(builder.ring(), left, right)?;
-    Ok(assert_pairs(builder, w, y, x, z)?)
+    Ok(assert_pairs(alloc, builder, w, y, x, z)?)
 }
 
 // The constant of an element of the extension.
@@ -141,6 +154,7 @@ fn assert_one_ext_of<AB: ExtensionBuilder>(
 
 // Makes an assertion on these two elements of the extension.
 fn assert_ext_pair<AB: ExtensionBuilder>(
+    alloc: Global,
     builder: &mut AB,
     word: &str,
     x: AB::ExprEF,
@@ -153,7 +167,7 @@ fn assert_ext_pair<AB: ExtensionBuilder>(
 {
     match word {
         "assert_eq_ext" => Ok(builder.assert_eq_ext(x, y)?),
-        "assert_zeros_ext" => Ok(builder.assert_zeros_ext([x, y])?),
+        "assert_zeros_ext_slice" => Ok(builder.assert_zeros_ext_slice(&both(alloc, x, y)?)?),
         _ => Err(Fault::Unreadable(Why::NoSuchCall)),
     }
 }
@@ -170,7 +184,7 @@ fn assert_two_ext_of<AB: ExtensionBuilder>(
     ensures { OnOk result (AB.kept builder.old builder.new) }
 {
     let (x, y) = ext_elements(alloc, builder, x, y)?;
-    Ok(assert_ext_pair(builder, word, x, y)?)
+    Ok(assert_ext_pair(alloc, builder, word, x, y)?)
 }
 
 // Makes an assertion on one element under a name.
@@ -195,6 +209,7 @@ fn assert_one_named_of<AB: NamedAirBuilder, N: Namespace>(
 
 // Makes an assertion on these two elements under a name.
 fn assert_pair_named<AB: NamedAirBuilder, N: Namespace>(
+    alloc: Global,
     builder: &mut AB,
     word: &str,
     x: AB::Expr,
@@ -209,14 +224,19 @@ fn assert_pair_named<AB: NamedAirBuilder, N: Namespace>(
 {
     match word {
         "assert_eq_named" => Ok(builder.assert_eq_named(x, y, name)?),
-        "assert_zeros_named" => Ok(builder.assert_zeros_named([x, y], name)?),
-        "assert_bools_named" => Ok(builder.assert_bools_named([x, y], name)?),
+        "assert_zeros_named_slice" => {
+            Ok(builder.assert_zeros_named_slice(&both(alloc, x, y)?, name)?)
+        }
+        "assert_bools_named_slice" => {
+            Ok(builder.assert_bools_named_slice(&both(alloc, x, y)?, name)?)
+        }
         _ => Err(Fault::Unreadable(Why::NoSuchCall)),
     }
 }
 
 // Makes an assertion on two elements under a name.
 fn assert_two_named_of<AB: NamedAirBuilder, N: Namespace>(
+    alloc: Global,
     builder: &mut AB,
     word: &str,
     x: &str,
@@ -228,11 +248,12 @@ fn assert_two_named_of<AB: NamedAirBuilder, N: Namespace>(
     ensures { OnOk result (AB.kept builder.old builder.new) }
 {
     let (x, y) = two_constants::<AB::F, AB::Ring>(builder.ring(), x, y)?;
-    Ok(assert_pair_named(builder, word, x, y, name)?)
+    Ok(assert_pair_named(alloc, builder, word, x, y, name)?)
 }
 
 // Asserts that each of these three elements is zero or one, under a name.
 fn assert_these_bools<AB: NamedAirBuilder, N: Namespace>(
+    alloc: Global,
     builder: &mut AB,
     x: AB::Expr,
     y: AB::Expr,
@@ -246,11 +267,14 @@ fn assert_these_bools<AB: NamedAirBuilder, N: Namespace>(
     requires can_evaluate { N.can_evaluate name }
     ensures { OnOk result (AB.kept builder.old builder.new) }
 {
-    Ok(builder.assert_bools_named([x, y, z], name)?)
+    let mut all = both(alloc, x, y)?;
+    all.push(z)?;
+    Ok(builder.assert_bools_named_slice(&all, name)?)
 }
 
 // Asserts that each of three elements is zero or one, under a name.
 fn assert_three_bools<AB: NamedAirBuilder, N: Namespace>(
+    alloc: Global,
     builder: &mut AB,
     words: [&str; 3],
     name: N,
@@ -260,7 +284,7 @@ fn assert_three_bools<AB: NamedAirBuilder, N: Namespace>(
     ensures { OnOk result (AB.kept builder.old builder.new) }
 {
     let (x, y, z) = three_constants::<AB::F, AB::Ring>(builder.ring(), words)?;
-    Ok(assert_these_bools(builder, x, y, z, name)?)
+    Ok(assert_these_bools(alloc, builder, x, y, z, name)?)
 }
 
 // Makes an assertion on one element of the extension under a name.
@@ -315,9 +339,46 @@ fn assert_under_name<AB: NamedExtensionBuilder, N: Namespace>(
         [word @ ("assert_zero_ext_named" | "assert_one_ext_named"), x] => {
             assert_one_ext_named_of(alloc, builder, *word, *x, name)
         }
-        ["assert_bools_named", x, y, z] => assert_three_bools(builder, [*x, *y, *z], name),
-        [word, x, y] => assert_two_named_of(builder, *word, *x, *y, name),
+        ["assert_bools_named_slice", x, y, z] => {
+            assert_three_bools(alloc, builder, [*x, *y, *z], name)
+        },
+        [word, x, y] => assert_two_named_of(alloc, builder, *word, *x, *y, name),
         [word, x] => assert_one_named_of(builder, *word, *x, name),
+        _ => Err(Fault::Unreadable(Why::NoSuchCall)),
+    }
+}
+
+// How many words stand before `under`.
+fn words_before_name(call: &[&str]) -> usize {
+    let mut count = 0usize;
+    for word in call {
+        if *word == "under" {
+            return count;
+        }
+        count = count.saturating_add(1);
+    }
+    count
+}
+
+// Makes an assertion that has no name.
+fn assert_bare<AB: NamedExtensionBuilder>(
+    alloc: Global,
+    builder: &mut AB,
+    call: &[&str],
+) -> Result<(), Fault>
+    requires { AB.ready builder.old }
+    ensures { OnOk result (AB.kept builder.old builder.new) }
+{
+    match call {
+        [word @ ("assert_eq_ext" | "assert_zeros_ext_slice"), x, y] => {
+            assert_two_ext_of(alloc, builder, *word, *x, *y)
+        }
+        [word @ ("assert_zero_ext" | "assert_one_ext"), x] => {
+            assert_one_ext_of(alloc, builder, *word, *x)
+        }
+        ["assert_eq_slices", x, y, z, w] => assert_lists(alloc, builder, [*x, *y], [*z, *w]),
+        [word, x, y] => assert_two_of(alloc, builder, *word, *x, *y),
+        [word, x] => assert_one_of(builder, *word, *x),
         _ => Err(Fault::Unreadable(Why::NoSuchCall)),
     }
 }
@@ -331,24 +392,17 @@ pub fn assert_this<AB: NamedExtensionBuilder>(
     requires { AB.ready builder.old }
     ensures { OnOk result (AB.kept builder.old builder.new) }
 {
-    match call {
-        [call @ .., "under", a] => assert_under_name(alloc, builder, call, Label::new(*a)),
-        [call @ .., "under", a, b] => {
-            assert_under_name(alloc, builder, call, Label::new(*a).join(Label::new(*b)))
+    let (said, names) = call.split_at(words_before_name(call).min(call.len()));
+    match names {
+        [] => assert_bare(alloc, builder, said),
+        [_, a] => assert_under_name(alloc, builder, said, Label::new(*a)),
+        [_, a, b] => {
+            assert_under_name(alloc, builder, said, Label::new(*a).join(Label::new(*b)))
         }
-        [call @ .., "under", a, b, c] => {
+        [_, a, b, c] => {
             let space = Label::new(*a).join(Label::new(*b));
-            assert_under_name(alloc, builder, call, space.name(Label::new(*c)))
+            assert_under_name(alloc, builder, said, space.name(Label::new(*c)))
         }
-        [word @ ("assert_eq_ext" | "assert_zeros_ext"), x, y] => {
-            assert_two_ext_of(alloc, builder, *word, *x, *y)
-        }
-        [word @ ("assert_zero_ext" | "assert_one_ext"), x] => {
-            assert_one_ext_of(alloc, builder, *word, *x)
-        }
-        ["assert_eq_arrays", x, y, z, w] => assert_arrays(builder, [*x, *y], [*z, *w]),
-        [word, x, y] => assert_two_of(builder, *word, *x, *y),
-        [word, x] => assert_one_of(builder, *word, *x),
         _ => Err(Fault::Unreadable(Why::NoSuchCall)),
     }
 }
