@@ -2,10 +2,10 @@
 ghost use Rattle.std.specs.Prelude.{IfOk};
 
 use p3_air::{
-    AirBuilder, AirBuilderWithContext, AirError, AirLayout, BabyBear, BinomialExtensionField,
-    DebugConstraintBuilder, ExtAlgebra, ExtensionBuilder, ExtensionField, Field, Lazy, Name,
-    NamedAirBuilder, NamedExtensionBuilder, PassthroughNamedAirBuilder, RowMajorMatrixView,
-    SymbolicAirBuilder, ViewPair,
+    AirBuilder, AirBuilderWithContext, AirError, AirLayout, AssertAll, AssertAllExt,
+    AssertAllNamed, BabyBear, BinomialExtensionField, DebugConstraintBuilder, ExtAlgebra,
+    ExtensionBuilder, ExtensionField, Field, Lazy, Name, NamedAirBuilder, NamedExtensionBuilder,
+    PassthroughNamedAirBuilder, RowMajorMatrixView, SymbolicAirBuilder, ViewPair,
 };
 use std::alloc::Global;
 use std::cell::Cell;
@@ -64,6 +64,35 @@ fn zero_ext_asking(builder: &mut Row<'_>, x: u32, asked: &Cell<u32>) -> Result<(
             Ok("extension")
         }),
     )
+}
+
+// Arrays of two elements, of which the second one's assertion fails.
+fn assert_arrays(builder: &mut Row<'_>) -> Result<(), AirError> {
+    let [zero, one, two] = [0, 1, 2].map(BabyBear::new);
+    builder.assert_zeros([zero, two])?;
+    builder.assert_bools([one, two])?;
+    builder.assert_eq_arrays([one, two], [one, one])
+}
+
+// The same under names, and over the extension.
+fn assert_named_arrays(builder: &mut Row<'_>) -> Result<(), AirError> {
+    let [zero, one, two] = [0, 1, 2].map(BabyBear::new);
+    builder.assert_zeros_named([zero, two], "zeros")?;
+    builder.assert_bools_named([one, two], "bits")?;
+    builder.assert_zeros_ext([root_times(0), root_times(1)])
+}
+
+// (A table's lines make lists: an array of a builder's elements can be made where the builder's type is known.)
+#[test]
+fn arrays_are_batches(rt: HostRuntime) -> Result<(), Fail> {
+    let mut builder = row(rt.alloc());
+    assert_arrays(&mut builder)?;
+    assert_named_arrays(&mut builder)?;
+    assert_eq!(rt;
+        builder.formatted_failures()?.as_str(),
+        "[#1, #3, #5, #7 \"zeros::[1]\", #9 \"bits::[1]\", #11]"
+    );
+    Ok(())
 }
 
 #[test]
