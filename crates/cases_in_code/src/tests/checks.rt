@@ -1,11 +1,8 @@
-//! Names that are asked for only where an assertion fails, and the context of a builder at a row.
-ghost use Rattle.std.specs.Prelude.{IfOk};
-
+//! Names that are asked for only where an assertion fails, batches as arrays, and the context of a builder at a row.
 use p3_air::{
-    AirBuilder, AirBuilderWithContext, AirError, AirLayout, AssertAll, AssertAllExt,
-    AssertAllNamed, BabyBear, BinomialExtensionField, DebugConstraintBuilder, ExtAlgebra,
-    ExtensionBuilder, ExtensionField, Field, Lazy, Name, NamedAirBuilder, NamedExtensionBuilder,
-    PassthroughNamedAirBuilder, RowMajorMatrixView, SymbolicAirBuilder, ViewPair,
+    AirBuilderWithContext, AirError, AssertAll, AssertAllExt, AssertAllNamed, BabyBear,
+    BinomialExtensionField, DebugConstraintBuilder, ExtensionField, Field, Lazy, NamedAirBuilder,
+    NamedExtensionBuilder, RowMajorMatrixView, ViewPair,
 };
 use std::alloc::Global;
 use std::cell::Cell;
@@ -15,8 +12,6 @@ use std::test::Fail;
 type Element = BinomialExtensionField;
 
 type Row<'a> = DebugConstraintBuilder<'a, BabyBear, Element>;
-
-type Recorder = SymbolicAirBuilder<BabyBear, Element>;
 
 // A builder at row 7 of a trace without columns.
 fn row<'a>(alloc: Global) -> Row<'a> {
@@ -110,79 +105,6 @@ fn a_passing_assertion_asks_for_no_label(rt: HostRuntime) -> Result<(), Fail> {
         builder.formatted_failures()?.as_str(),
         "[#2 \"base\", #3 \"extension\"]"
     );
-    Ok(())
-}
-
-// Asserts under a name that the first row is none.
-fn assert_named<AB: NamedAirBuilder, N: Name>(builder: &mut AB, name: N) -> Result<(), AirError>
-    requires ready { AB.ready builder.old }
-    requires can_evaluate { N.can_evaluate name }
-{
-    let x = builder.is_first_row()?;
-    builder.assert_zero_named(x, name)
-}
-
-// The same, where the name is discarded.
-fn assert_unlabelled<AB: PassthroughNamedAirBuilder, N: Name>(
-    builder: &mut AB,
-    name: N,
-) -> Result<(), AirError>
-    requires ready { AB.ready builder.old }
-{
-    let x = builder.is_first_row()?;
-    builder.assert_zero_unlabelled(x, name)
-}
-
-// Asserts under a name that an element of the extension is zero.
-fn assert_ext_named<AB: NamedExtensionBuilder, N: Name>(
-    builder: &mut AB,
-    x: AB::EF,
-    name: N,
-) -> Result<(), AirError>
-    requires ready { AB.ready builder.old }
-    requires can_evaluate { N.can_evaluate name }
-{
-    let x = builder.ext_ring().ext_constant(x)?;
-    builder.assert_zero_ext_named(x, name)
-}
-
-// A builder that has recorded nothing.
-fn recorder(alloc: Global) -> Result<Recorder, AirError>
-    ensures { IfOk result ⟦<Recorder as AirBuilder>⟧.ready }
-{
-    SymbolicAirBuilder::new(alloc, AirLayout::default())
-}
-
-// How many constraints of each kind are recorded of one under a name that sets the counter where it is asked for: with
-// the name, with the name discarded, or over the extension.
-fn recorded_lazily(
-    alloc: Global,
-    asked: &Cell<u32>,
-    kind: usize,
-) -> Result<(usize, usize), AirError> {
-    let mut builder = recorder(alloc)?;
-    let name = Lazy(|| {
-        asked.set(1);
-        Ok("never")
-    });
-    match kind {
-        0 => assert_named(&mut builder, name)?,
-        1 => assert_unlabelled(&mut builder, name)?,
-        _ => assert_ext_named(&mut builder, root_times(1), name)?,
-    }
-    Ok((
-        builder.base_constraints().len(),
-        builder.extension_constraints().len(),
-    ))
-}
-
-#[test]
-fn a_recording_asks_for_no_label(rt: HostRuntime) -> Result<(), Fail> {
-    let asked = Cell::new(0u32);
-    for (kind, counts) in [(0, (1, 0)), (1, (1, 0)), (2, (0, 1))] {
-        assert_eq!(rt; recorded_lazily(rt.alloc(), &asked, kind)?, counts);
-    }
-    assert_eq!(rt; asked.get(), 0);
     Ok(())
 }
 
