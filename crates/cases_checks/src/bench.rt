@@ -2,7 +2,7 @@
 
 use crate::assertions::{Answer, answer_row};
 use crate::recorded::{recorded_counter, recorded_elsewhere};
-use crate::reports::{Given, check_first, given_of, show_audit, show_clone, show_report};
+use crate::reports::{Given, check_first, given_of, show_base_audit, show_clone, show_report};
 use crate::rows::{lend, resolved};
 use cases::words::count_of;
 use cases::{Bench, Fault, Line, Why};
@@ -37,7 +37,7 @@ impl<'a> Checks<'a> {
                         check_first(self.alloc, air, &given, true, text)
                     }
                     ("audit_air", [weight]) => {
-                        show_audit(self.alloc, air, &given, count_of(*weight)?, text)
+                        show_base_audit(self.alloc, air, &given, count_of(*weight)?, text)
                     }
                     _ => Err(Fault::Unreadable(Why::NoSuchCall)),
                 }

@@ -6,7 +6,6 @@ ghost use Rattle.air_symbolic.specs.Pools.{IsPool};
 use crate::reports::{given_of, show_audit};
 use cases::Fault;
 use cases::words::count_of;
-use cases_airs::{Constraints, TableAir};
 use p3_air::author::{Boolean, Current, Equal, Next, Sum, Transition, When};
 use p3_air::{
     AirBuilder, AirError, AirLayout, BabyBear, ExprPool, FlatAir, Recorded, SymbolicAirBuilder,
@@ -64,12 +63,7 @@ pub fn recorded_counter(
     weight: &str,
     text: &mut String,
 ) -> Result<(), Fault> {
-    let flat = air_of(alloc, record_counter(alloc)?)?;
-    let air = TableAir {
-        constraints: Constraints::Lines,
-        flat,
-        table: None,
-    };
+    let air = air_of(alloc, record_counter(alloc)?)?;
     show_audit(
         alloc,
         &air,

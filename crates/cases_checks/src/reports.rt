@@ -1,14 +1,20 @@
 //! Checks of a trace, and audits.
 
-use cases::Fault;
 use cases::words::listed_elements;
-use cases_airs::TableAir;
+use cases::{Fault, Why};
 use cases_airs::words::trace_of;
+use cases_airs::{Constraints, TableAir};
 use p3_air::{
-    BabyBear, CheckError, ConstraintFailure, ConstraintReport, RowMajorMatrix, audit_air,
-    check_all_constraints, check_constraints,
+    Air, BabyBear, BaseAir, CheckError, ConstraintFailure, ConstraintReport,
+    DebugConstraintBuilder, RowMajorMatrix, SymbolicAirBuilder, audit_air, check_all_constraints,
+    check_constraints,
 };
 use std::alloc::Global;
+
+/// What records an AIR of the base.
+pub type BaseRecorder = SymbolicAirBuilder<BabyBear, BabyBear>;
+/// What a row is checked by.
+pub type RowBuilder<'a> = DebugConstraintBuilder<'a, BabyBear, BabyBear>;
 
 /// A trace and public values.
 #[derive(Drop)]
@@ -102,10 +108,10 @@ pub fn check_first(
 }
 
 /// Adds the degree that an audit infers in a domain of this weight, and its report.
-pub fn show_audit(
+pub fn show_audit<'a, A: BaseAir<BabyBear> + Air<BaseRecorder> + Air<RowBuilder<'a>>>(
     alloc: Global,
-    air: &TableAir<BabyBear>,
-    given: &Given,
+    air: &'a A,
+    given: &'a Given,
     weight: usize,
     text: &mut String,
 ) -> Result<(), Fault> {
@@ -113,4 +119,19 @@ pub fn show_audit(
     let degree = audit.degree;
     write!(text, "degree {degree}, ")?;
     show(&audit.report, text)
+}
+
+/// The same of a table's AIR, if it is one of lines: an AIR that may have extension constraints is of no
+/// type whose audit the checker gets through.
+pub fn show_base_audit(
+    alloc: Global,
+    air: &TableAir<BabyBear>,
+    given: &Given,
+    weight: usize,
+    text: &mut String,
+) -> Result<(), Fault> {
+    match air.constraints {
+        Constraints::Lines => show_audit(alloc, &air.flat, given, weight, text),
+        _ => Err(Fault::Unreadable(Why::NoSuchCall)),
+    }
 }
