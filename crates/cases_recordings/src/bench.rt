@@ -8,11 +8,12 @@ use crate::lent::answer_lent;
 use crate::recordings::answer_recorded;
 use crate::words::answer_words;
 use air_field::BabyBear;
+use air_program::Fibonacci;
 use air_recording::AirLayout;
 use cases::words::{count_of, listed_elements};
 use cases::{Bench, Fault, Line, Why};
 use cases_airs::words::{cap_of, trace_of};
-use cases_airs::{Airs, TableAir};
+use cases_airs::{Airs, Constraints, TableAir};
 use std::alloc::Global;
 
 /// The AIRs that lines have made.
@@ -45,7 +46,8 @@ fn layout_by(air: &TableAir<BabyBear>, word: &str) -> Result<AirLayout, Fault> {
     )
 }
 
-// Adds what the AIR's values at a row are folded to.
+// Adds what the AIR's values at a row are folded to. (Of an AIR that may have extension constraints the checker gets
+// through no call that takes two builders.)
 fn folded(
     alloc: Global,
     air: &TableAir<BabyBear>,
@@ -54,7 +56,13 @@ fn folded(
     text: &mut String,
 ) -> Result<(), Fault> {
     let row = row_of(alloc, words)?;
-    answer_fold(alloc, air, layout, &row, text)
+    match air.constraints {
+        Constraints::Lines if air.table.is_none() => answer_fold(
+            alloc, &air.flat, layout, &row, text,
+        ),
+        Constraints::Fibonacci => answer_fold(alloc, &Fibonacci::new(), layout, &row, text),
+        _ => Err(Fault::Unreadable(Why::NoSuchCall)),
+    }
 }
 
 // Adds whether the layout suits the AIR.
@@ -87,7 +95,11 @@ fn audited(
     given: &Given,
     text: &mut String,
 ) -> Result<(), Fault> {
-    answer_audit(alloc, air, given, text)
+    match air.constraints {
+        Constraints::Lines if air.table.is_none() => answer_audit(alloc, &air.flat, given, text),
+        Constraints::Fibonacci => answer_audit(alloc, &Fibonacci::new(), given, text),
+        _ => Err(Fault::Unreadable(Why::NoSuchCall)),
+    }
 }
 
 // The same under a cap.
@@ -98,7 +110,13 @@ fn audited_under_cap(
     cap: Option<usize>,
     text: &mut String,
 ) -> Result<(), Fault> {
-    answer_capped_audit(alloc, air, given, cap, text)
+    match air.constraints {
+        Constraints::Lines if air.table.is_none() => answer_capped_audit(
+            alloc, &air.flat, given, cap, text,
+        ),
+        Constraints::Fibonacci => answer_capped_audit(alloc, &Fibonacci::new(), given, cap, text),
+        _ => Err(Fault::Unreadable(Why::NoSuchCall)),
+    }
 }
 
 // Adds what a call answers of an AIR.
