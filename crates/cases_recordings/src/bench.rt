@@ -72,6 +72,26 @@ fn validated(air: &TableAir<BabyBear>, layout: AirLayout, text: &mut String) -> 
     Ok(())
 }
 
+// Adds what is recorded of an AIR of the base by a layout.
+fn recorded(
+    alloc: Global,
+    air: &TableAir<BabyBear>,
+    layout: AirLayout,
+    call: &str,
+    words: &[&str],
+    text: &mut String,
+) -> Result<(), Fault> {
+    match air.constraints {
+        Constraints::Lines if air.table.is_none() => {
+            answer_recorded(alloc, &air.flat, layout, call, words, text)
+        }
+        Constraints::Fibonacci => {
+            answer_recorded(alloc, &Fibonacci::new(), layout, call, words, text)
+        }
+        _ => Err(Fault::Unreadable(Why::NoSuchCall)),
+    }
+}
+
 // Adds what a call answers of an AIR by a layout.
 fn answer_by(
     alloc: Global,
@@ -84,7 +104,7 @@ fn answer_by(
     match (call, words) {
         ("fold_air", words) => folded(alloc, air, layout, words, text),
         ("validate_against_air", []) => validated(air, layout, text),
-        _ => answer_recorded(alloc, air, layout, call, words, text),
+        _ => recorded(alloc, air, layout, call, words, text),
     }
 }
 
