@@ -139,25 +139,16 @@ fn assert_under_both<AB: NamedExtensionBuilder>(
     }
 }
 
-// Makes the assertions between which `;` stands, in order.
-fn assert_each<AB: NamedExtensionBuilder>(
+// The same, after which the builder is ready for more.
+fn assert_next<AB: NamedExtensionBuilder>(
     alloc: Global,
     builder: &mut AB,
-    words: &[&str],
+    call: &[&str],
 ) -> Result<(), Fault>
     requires { AB.ready builder.old }
-    ensures { OnOk result (AB.kept builder.old builder.new) }
+    ensures { OnOk result (AB.ready builder.new) }
 {
-    let mut call = Vec::new(alloc);
-    for word in words {
-        if *word == ";" {
-            assert_under_both(alloc, builder, call.as_slice())?;
-            call.clear();
-        } else {
-            call.push(*word)?;
-        }
-    }
-    Ok(assert_under_both(alloc, builder, call.as_slice())?)
+    Ok(assert_under_both(alloc, builder, call)?)
 }
 
 /// Makes the assertions between which `;` stands, in order.
@@ -169,5 +160,14 @@ pub fn assert_all<AB: NamedExtensionBuilder>(
     requires { AB.ready builder.old }
     ensures { OnOk result (AB.ready builder.new) }
 {
-    Ok(assert_each(alloc, builder, words)?)
+    let mut call = Vec::new(alloc);
+    for word in words {
+        if *word == ";" {
+            assert_next(alloc, builder, call.as_slice())?;
+            call.clear();
+        } else {
+            call.push(*word)?;
+        }
+    }
+    assert_next(alloc, builder, call.as_slice())
 }

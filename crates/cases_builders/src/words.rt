@@ -1,14 +1,15 @@
 //! Sums and xors of words: recorded over columns of the main trace, made an AIR, and checked on a trace of one row.
-ghost use Rattle.std.specs.Prelude.{◌≤◌, All, IfOk, OnOk};
+ghost use Rattle.std.specs.Prelude.{ℕ, ◌≤◌, All, IfOk, OnOk};
 ghost use Rattle.air_symbolic.specs.BaseLeaves.{base_reads};
 ghost use Rattle.air_symbolic.specs.Pools.{IsPool};
 
 use air_builder::{AirBuilder, AirError};
 use air_core::{BaseEntry, SymbolicVariable};
-use air_field::{BabyBear, Field, FromVar, RingError, RowMajorMatrix};
+use air_field::{Algebra, BabyBear, FromVar, RowMajorMatrix};
 use air_gadgets::{add2, add3, xor_32_shift};
 use air_recording::{AirLayout, Recorded, SymbolicAirBuilder};
 use air_report::check_all_constraints;
+use air_symbolic::{BaseLeaf, ExprId, ExprPool};
 use cases::words::{count_of, element_of, listed_elements};
 use cases::{Fault, Why};
 use p3_air::{finish_recording, recorded_air};
@@ -26,24 +27,16 @@ fn columns<const N: usize>(first: usize) -> [Column; N] {
     columns
 }
 
-// The elements of the limbs of two words.
-fn limbs_of<F: Field, V: Copy, R: FromVar<F, V>>(
-    ring: &mut R,
-    c: [V; 2],
-    d: [V; 2],
-) -> Result<([R::Elem; 2], [R::Elem; 2]), RingError>
-    requires { R.valid ring.old }
-    ensures extended { R.extends ring.old ring.new }
-    ensures first { IfOk result (λ made. All (R.has ring.new) made.0) }
-    ensures second { IfOk result (λ made. All (R.has ring.new) made.1) }
+// The element of a variable. What was in the ring still is.
+fn made_of<AB: AirBuilder>(builder: &mut AB, v: AB::Var) -> Result<AB::Expr, AirError>
+    requires { AB.ready builder.old }
+    ensures ready { AB.ready builder.new }
+    ensures stays { (x : AB.Expr) → AB.Ring.has (AB.ring_of builder.old) x
+        → AB.Ring.has (AB.ring_of builder.new) x }
+    ensures of_ring { IfOk result (λ x. AB.Ring.has (AB.ring_of builder.new) x) }
 {
-    let [c0, c1] = c;
-    let [d0, d1] = d;
-    let low = ring.from_var(c0)?;
-    let high = ring.from_var(c1)?;
-    let other_low = ring.from_var(d0)?;
-    let other_high = ring.from_var(d1)?;
-    Ok(([low, high], [other_low, other_high]))
+    let element = builder.ring().from_var(v)?;
+    Ok(element)
 }
 
 // Adds two words, of which the second is given by elements.
@@ -60,20 +53,6 @@ fn add_two<AB: AirBuilder>(
     add2(builder, &a, &b, &c)
 }
 
-// Asserts that word a is the sum of words b and c.
-fn assert_sum_of_two<AB: AirBuilder>(
-    builder: &mut AB,
-    a: [AB::Var; 2],
-    b: [AB::Var; 2],
-    c: [AB::Var; 2],
-) -> Result<(), AirError>
-    requires { AB.ready builder.old }
-    ensures { OnOk result (AB.ready builder.new) }
-{
-    let (c, _) = limbs_of::<AB::F, AB::Var, AB::Ring>(builder.ring(), c, c)?;
-    Ok(add_two(builder, a, b, c)?)
-}
-
 // Adds three words, of which the last two are given by elements.
 fn add_three<AB: AirBuilder>(
     builder: &mut AB,
@@ -88,21 +67,6 @@ fn add_three<AB: AirBuilder>(
     ensures { AB.ready builder.new }
 {
     add3(builder, &a, &b, &c, &d)
-}
-
-// Asserts that word a is the sum of words b, c and d.
-fn assert_sum_of_three<AB: AirBuilder>(
-    builder: &mut AB,
-    a: [AB::Var; 2],
-    b: [AB::Var; 2],
-    c: [AB::Var; 2],
-    d: [AB::Var; 2],
-) -> Result<(), AirError>
-    requires { AB.ready builder.old }
-    ensures { OnOk result (AB.ready builder.new) }
-{
-    let (c, d) = limbs_of::<AB::F, AB::Var, AB::Ring>(builder.ring(), c, d)?;
-    Ok(add_three(builder, a, b, c, d)?)
 }
 
 // Asserts that word a is the xor of the bits b with the bits c, rotated.
@@ -128,6 +92,69 @@ enum Gadget {
     Xor(usize),
 }
 
+type Recorder = SymbolicAirBuilder<BabyBear, BabyBear>;
+
+// Records that the word of columns 0 and 1 is the sum of the next two words.
+fn record_sum_of_two(builder: &mut Recorder) -> Result<(), AirError>
+    requires { ⟦<SymbolicAirBuilder<BabyBear, BabyBear> as AirBuilder>⟧.ready builder.old }
+    ensures { OnOk result (⟦<SymbolicAirBuilder<BabyBear, BabyBear> as AirBuilder>⟧.ready
+        builder.new) }
+{
+    let [low, high]: [Column; 2] = columns(4);
+    let low = made_of(builder, low)?;
+    let high = made_of(builder, high)?;
+    add_two(builder, columns(0), columns(2), [low, high])
+}
+
+// The elements of two columns from one on. What was in the ring still is.
+fn two_made(
+    builder: &mut Recorder,
+    first: usize,
+) -> Result<[ExprId<BaseLeaf<BabyBear>>; 2], AirError>
+    requires { ⟦<SymbolicAirBuilder<BabyBear, BabyBear> as AirBuilder>⟧.ready builder.old }
+    ensures ready { OnOk result (⟦<SymbolicAirBuilder<BabyBear, BabyBear> as AirBuilder>⟧.ready
+        builder.new) }
+    ensures stays { (x : ℕ) → ⟦<ExprPool<BaseLeaf<BabyBear>> as Algebra<BabyBear>>⟧.has
+        (⟦<SymbolicAirBuilder<BabyBear, BabyBear> as AirBuilder>⟧.ring_of builder.old) x
+        → ⟦<ExprPool<BaseLeaf<BabyBear>> as Algebra<BabyBear>>⟧.has
+        (⟦<SymbolicAirBuilder<BabyBear, BabyBear> as AirBuilder>⟧.ring_of builder.new) x }
+    ensures of_ring { IfOk result (All
+        (⟦<ExprPool<BaseLeaf<BabyBear>> as Algebra<BabyBear>>⟧.has
+        (⟦<SymbolicAirBuilder<BabyBear, BabyBear> as AirBuilder>⟧.ring_of builder.new))) }
+{
+    let [low, high]: [Column; 2] = columns(first);
+    let low = made_of(builder, low)?;
+    let high = made_of(builder, high)?;
+    Ok([low, high])
+}
+
+// Records that the word of columns 0 and 1 is the sum of the next three words.
+fn record_sum_of_three(builder: &mut Recorder) -> Result<(), AirError>
+    requires { ⟦<SymbolicAirBuilder<BabyBear, BabyBear> as AirBuilder>⟧.ready builder.old }
+    ensures { OnOk result (⟦<SymbolicAirBuilder<BabyBear, BabyBear> as AirBuilder>⟧.ready
+        builder.new) }
+{
+    let c = two_made(builder, 4)?;
+    let d = two_made(builder, 6)?;
+    add_three(builder, columns(0), columns(2), c, d)
+}
+
+// Records a gadget.
+fn record_gadget(builder: &mut Recorder, gadget: Gadget) -> Result<(), Fault>
+    requires { ⟦<SymbolicAirBuilder<BabyBear, BabyBear> as AirBuilder>⟧.ready builder.old }
+    ensures { OnOk result (⟦<SymbolicAirBuilder<BabyBear, BabyBear> as AirBuilder>⟧.ready
+        builder.new) }
+{
+    match gadget {
+        Gadget::SumOfTwo => Ok(record_sum_of_two(builder)?),
+        Gadget::SumOfThree => Ok(record_sum_of_three(builder)?),
+        Gadget::Xor(shift) if shift <= 32 => {
+            Ok(assert_xor(builder, columns(0), columns(2), columns(34), shift)?)
+        }
+        Gadget::Xor(_) => Err(Fault::Unreadable(Why::OtherShape)),
+    }
+}
+
 // What is recorded of a gadget over the columns from 0 on: the limbs of a, then those of the other words, or their bits.
 fn recorded(
     alloc: Global,
@@ -141,18 +168,7 @@ fn recorded(
         ..AirLayout::default()
     };
     let mut builder = SymbolicAirBuilder::new(alloc, layout)?;
-    match gadget {
-        Gadget::SumOfTwo => {
-            assert_sum_of_two(&mut builder, columns(0), columns(2), columns(4))?;
-        }
-        Gadget::SumOfThree => {
-            assert_sum_of_three(&mut builder, columns(0), columns(2), columns(4), columns(6))?;
-        }
-        Gadget::Xor(shift) if shift <= 32 => {
-            assert_xor(&mut builder, columns(0), columns(2), columns(34), shift)?;
-        }
-        Gadget::Xor(_) => return Err(Fault::Unreadable(Why::OtherShape)),
-    }
+    record_gadget(&mut builder, gadget)?;
     Ok(finish_recording(builder))
 }
 
