@@ -1,12 +1,35 @@
 //! Entries of the permutation trace, its challenges and its values. A missing one is refused by name, and each column
 //! of a builder without a permutation trace with `NoPermutation`.
+ghost use Rattle.std.specs.Prelude.{◌≤◌};
 ghost use Rattle.air_field.specs.Term.{permutation, challenge, permutation_value, leaf_term};
+ghost use Rattle.air_author.specs.Expressions.{MadeIn};
 
 use crate::AirResult;
 use crate::expressions::{ExtExpression, answered, element, present};
-use air_builder::{AirError, PermutationAirBuilder, WindowAccess};
+use air_builder::{AirError, PermutationAirBuilder, SeenOver};
 use air_core::ExtEntry;
 use air_field::{Algebra, FromVar};
+
+/// The expression of a column of the permutation trace, at offset 0 of the current row and at 1 of the next one.
+#[inline(always)]
+fn make_column<AB: PermutationAirBuilder>(
+    builder: &mut AB,
+    offset: usize,
+    index: usize,
+) -> AirResult<AB::ExprEF>
+where
+    AB::ExtRing: FromVar<AB::F, AB::RandomVar> + FromVar<AB::F, AB::PermutationVar>,
+    requires ready { AB.ready builder.old }
+    requires within { offset ≤ 1 }
+    ensures { MadeIn ⟦<AB as SeenOver>⟧.view builder.old builder.new result
+        (leaf_term (permutation offset index)) }
+{
+    let found = builder.permutation_variable(offset, index)?;
+    let entry = ExtEntry::Permutation { offset };
+    let missing = AirError::MissingExtEntry { entry, index };
+    let v = present(found, missing)?;
+    answered(builder.ext_ring().from_var(v))
+}
 
 /// A column of the permutation trace's current row.
 #[derive(Clone, Copy, Drop)]
@@ -20,12 +43,7 @@ where
 
     #[inline(always)]
     fn make_ext(&self, builder: &mut AB) -> AirResult<AB::ExprEF> {
-        let window = builder.permutation()?;
-        let entry = ExtEntry::Permutation { offset: 0 };
-        let index = self.0;
-        let missing = AirError::MissingExtEntry { entry, index };
-        let v = present(window.current(index), missing)?;
-        answered(builder.ext_ring().from_var(v))
+        make_column(builder, 0, self.0)
     }
 }
 
@@ -41,12 +59,7 @@ where
 
     #[inline(always)]
     fn make_ext(&self, builder: &mut AB) -> AirResult<AB::ExprEF> {
-        let window = builder.permutation()?;
-        let entry = ExtEntry::Permutation { offset: 1 };
-        let index = self.0;
-        let missing = AirError::MissingExtEntry { entry, index };
-        let v = present(window.next(index), missing)?;
-        answered(builder.ext_ring().from_var(v))
+        make_column(builder, 1, self.0)
     }
 }
 
