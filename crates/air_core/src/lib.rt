@@ -15,7 +15,7 @@ pub use names::element::Element;
 pub use names::joined::{EvaluatedJoined, Joined};
 pub use names::name::{Lazy, Name};
 pub use names::namespace::{Namespace, NamespaceExt};
-pub use periodic::{periodic_matrix, periodic_row};
+pub use periodic::{fill_periodic_row, periodic_matrix, periodic_row};
 pub use variables::entry::BaseEntry;
 pub use variables::ext_entry::ExtEntry;
 pub use variables::variable::SymbolicVariable;

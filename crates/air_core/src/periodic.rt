@@ -1,32 +1,22 @@
 //! Periodic columns, row by row.
-ghost use Rattle.std.specs.Prelude.{◌≡◌, ◌<◌, All, length, MatchOption, OnOk, IfErr};
-ghost use Rattle.air_core.specs.Periodic.{column_at, HasRows, IsFirstEmpty, IsGreatestPeriod, MatchPeriodicMatrix, MatchPeriodicValues};
+ghost use Rattle.std.specs.Prelude.{◌≡◌, map, Some, OnOk, IfErr};
+ghost use Rattle.air_core.specs.Periodic.{column_at, HasRows, IsGreatestPeriod, MatchPeriodicMatrix, MatchPeriodicValues, RefusesPeriodicRow};
 
 use crate::errors::AirError;
 use air_field::RowMajorMatrix;
-use std::alloc::{AllocError, Global};
+use std::alloc::Global;
 
-/// The first column without values.
-fn first_empty<T: Copy>(columns: &[Vec<T>]) -> Option<usize>
-    ensures { MatchOption result (All (λ column. 0 < length column.items) columns.now)
-        (IsFirstEmpty columns.now) }
+/// Appends each column's value at the row. The first empty column is refused.
+fn push_row<T: Copy>(values: &mut Vec<T>, columns: &[Vec<T>], row: usize) -> Result<(), AirError>
+    ensures rows { OnOk result (HasRows values.old.items columns.now (column_at row)
+        values.new.items) }
+    ensures refused { IfErr result (RefusesPeriodicRow columns.now) }
 {
     for (index, column) in columns.iter().enumerate() {
         if column.is_empty() {
-            return Some(index);
+            return Err(AirError::EmptyPeriodicColumn { index });
         }
-    }
-    None
-}
-
-/// Appends each column's value at the row.
-fn push_row<T: Copy>(values: &mut Vec<T>, columns: &[Vec<T>], row: usize) -> Result<(), AllocError>
-    requires { All (λ column. 0 < length column.items) columns.now }
-    ensures { OnOk result (HasRows values.old.items columns.now (column_at row) values.new.items) }
-{
-    for column in columns {
-        let value = column[row % column.len()];
-        values.push(value)?;
+        values.push(column[row % column.len()])?;
     }
     Ok(())
 }
@@ -40,12 +30,24 @@ pub fn periodic_row<T: Copy>(
 ) -> Result<Vec<T>, AirError>
     ensures { MatchPeriodicValues columns.now row result }
 {
-    if let Some(index) = first_empty(columns) {
-        return Err(AirError::EmptyPeriodicColumn { index });
-    }
-    let mut values = Vec::new(alloc);
+    let mut values = Vec::with_capacity(alloc, columns.len())?;
     push_row(&mut values, columns, row)?;
     Ok(values)
+}
+
+/// Makes a list that of [`periodic_row`], whatever it held: it asks for memory only where the list has no room for the
+/// columns. The first empty column is refused with `EmptyPeriodicColumn`, and want of memory with `Memory`; the list
+/// then holds no row.
+pub fn fill_periodic_row<T: Copy>(
+    values: &mut Vec<T>,
+    columns: &[Vec<T>],
+    row: usize,
+) -> Result<(), AirError>
+    ensures filled { OnOk result (map Some values.new.items ≡ map (column_at row) columns.now) }
+    ensures refused { IfErr result (RefusesPeriodicRow columns.now) }
+{
+    values.clear();
+    push_row(values, columns, row)
 }
 
 /// The greatest period, 0 without columns.
@@ -73,11 +75,6 @@ pub fn periodic_matrix<T: Copy>(
         return Ok(None);
     }
     let height = greatest_period(columns);
-    if height > 0 {
-        if let Some(index) = first_empty(columns) {
-            return Err(AirError::EmptyPeriodicColumn { index });
-        }
-    }
     let mut values = Vec::new(alloc);
     for row in 0..height {
         push_row(&mut values, columns, row)?;

@@ -78,6 +78,15 @@ where
     }
 
     #[inline(always)]
+    fn permutation_variable(
+        &self,
+        offset: usize,
+        column: usize,
+    ) -> Result<Option<AB::VarEF>, AirError> {
+        self.inner.permutation_variable(offset, column)
+    }
+
+    #[inline(always)]
     fn permutation_randomness(&self) -> &[AB::RandomVar] {
         self.inner.permutation_randomness()
     }

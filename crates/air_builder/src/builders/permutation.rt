@@ -1,7 +1,7 @@
 //! Builders with a permutation trace.
-ghost use Rattle.std.specs.Prelude.{IfOk, IfErr};
+ghost use Rattle.std.specs.Prelude.{◌≡◌, ◌↔◌, ◌≤◌, ◌<◌, None, IfOk, IfErr, IfSome};
 ghost use Rattle.air_field.specs.Term.{permutation, challenge, permutation_value};
-ghost use Rattle.air_builder.specs.Builders.{RowStands};
+ghost use Rattle.air_builder.specs.Builders.{RowStands, VariableStands};
 ghost use Rattle.air_builder.specs.Refusals.{RowEnds};
 ghost use Rattle.air_builder.specs.Extensions.{RefusesWindow};
 
@@ -39,6 +39,30 @@ where
             (Self.MP.next_row w)) }
         ensures refused { IfErr result (RefusesWindow (Self.refuses self.now)
             (Self.missing self.now)) };
+
+    /// The variable in a column of the permutation trace, at offset 0 the current row's and at 1 the next one's, if
+    /// there is one. It may be refused where `permutation` is.
+    #[inline(always)]
+    fn permutation_variable(
+        &self,
+        offset: usize,
+        column: usize,
+    ) -> Result<Option<Self::VarEF>, AirError>
+        ensures found { IfOk result (λ o. IfSome o (VariableStands Self.ExtRing.FromVar-1.var_means
+            (Self.stands self.now) (permutation offset column))) }
+        ensures none { offset ≤ 1 → IfOk result (λ o. (o ≡ None) ↔ Self.missing self.now
+            (permutation offset column)) }
+        ensures past { 1 < offset → IfOk result (λ o. o ≡ None) }
+        ensures refused { IfErr result (RefusesWindow (Self.refuses self.now)
+            (Self.missing self.now)) }
+    {
+        let window = self.permutation()?;
+        match offset {
+            0 => Ok(window.current(column)),
+            1 => Ok(window.next(column)),
+            _ => Ok(None),
+        }
+    }
 
     /// The challenges.
     fn permutation_randomness(&self) -> &[Self::RandomVar]

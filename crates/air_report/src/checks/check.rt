@@ -12,6 +12,7 @@ use crate::checks::shapes::{check_shapes, table_height};
 use crate::debug::builder::DebugConstraintBuilder;
 use crate::debug::failure::ConstraintFailure;
 use air_builder::{Air, AirError};
+use air_core::periodic::fill_periodic_row;
 use air_field::{Field, RowMajorMatrix, RowMajorMatrixView, SelfExtension, ViewPair};
 use std::alloc::Global;
 
@@ -91,9 +92,9 @@ fn outcome_of<F: SelfExtension>(builder: DebugConstraintBuilder<'_, F, F>) -> Ro
     }
 }
 
-/// Moves the builder to a row and evaluates an AIR there: what is not zero comes to its failures.
+/// Moves the builder to a row and evaluates an AIR there: what is not zero comes to its failures. The builder's list of
+/// periodic values is filled again, so that a row of a whole trace takes no memory for it.
 pub(crate) fn check_row<'a, F: SelfExtension + 'static, A: Air<DebugConstraintBuilder<'a, F, F>>>(
-    alloc: Global,
     air: &'a A,
     main: &'a RowMajorMatrix<F>,
     public_values: &'a [F],
@@ -111,7 +112,7 @@ pub(crate) fn check_row<'a, F: SelfExtension + 'static, A: Air<DebugConstraintBu
         (given (A.declaration air.now) main.now public_values.now)) }
 {
     let height = main.height();
-    let periodic_row = air.periodic_values(alloc, row)?;
+    fill_periodic_row(&mut builder.periodic_row, air.periodic_columns(), row)?;
     builder.move_to(
         row,
         row_pair(main, row),
@@ -120,7 +121,6 @@ pub(crate) fn check_row<'a, F: SelfExtension + 'static, A: Air<DebugConstraintBu
         selector(row == 0),
         selector(row + 1 == height),
         selector(row + 1 != height),
-        periodic_row,
     );
     air.eval(builder)
 }
@@ -157,7 +157,7 @@ fn check_rows<'a, F: SelfExtension + 'static, A: Air<DebugConstraintBuilder<'a, 
         if is_reached(max_failures, builder.failures.len()) {
             return Ok(outcome_of(builder));
         }
-        check_row(alloc, air, main, public_values, row, &mut builder)?;
+        check_row(air, main, public_values, row, &mut builder)?;
     }
     Ok(outcome_of(builder))
 }

@@ -79,7 +79,7 @@ pub fn check_constraints<'a, F: SelfExtension + 'static, A: Air<DebugConstraintB
     }
     let mut builder = DebugConstraintBuilder::at_no_row(alloc);
     'rows: for row in 0..height {
-        check_row(alloc, air, main, public_values, row, &mut builder)?;
+        check_row(air, main, public_values, row, &mut builder)?;
         if builder.has_failures() {
             return Err(CheckError::RowFailed {
                 row,

@@ -32,7 +32,7 @@ impl ConstraintReport {
         ensures failures { IfOk result (λ copy. map seen_failure copy.failures.items ≡ map
             seen_failure self.now.failures.items) }
     {
-        let mut failures = Vec::new(*self.failures.allocator());
+        let mut failures = Vec::with_capacity(*self.failures.allocator(), self.failures.len())?;
         for failure in &self.failures {
             failures.push(failure.clone()?)?;
         }

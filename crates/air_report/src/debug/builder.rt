@@ -87,7 +87,8 @@ impl<'a, F: Field, EF: ExtensionField<F>> DebugConstraintBuilder<'a, F, EF> {
         }
     }
 
-    /// Moves to the row of this index, where it has no permutation data and has counted nothing. The failures stay.
+    /// Moves to the row of this index, where it has no permutation data and has counted nothing. The failures stay, and the
+    /// values of the periodic columns, which are those of this row already.
     #[inline(always)]
     pub(crate) fn move_to(
         &mut self,
@@ -98,10 +99,10 @@ impl<'a, F: Field, EF: ExtensionField<F>> DebugConstraintBuilder<'a, F, EF> {
         is_first_row: F,
         is_last_row: F,
         is_transition: F,
-        periodic_row: Vec<F>,
     )
         ensures { IsAtRow row_index main.entry preprocessed.entry public_values.now is_first_row
-            is_last_row is_transition periodic_row None [] [] self.old.failures.items self.new }
+            is_last_row is_transition self.old.periodic_row None [] [] self.old.failures.items
+            self.new }
     {
         self.row_index = row_index;
         self.main = main;
@@ -113,7 +114,6 @@ impl<'a, F: Field, EF: ExtensionField<F>> DebugConstraintBuilder<'a, F, EF> {
         self.is_first_row = is_first_row;
         self.is_last_row = is_last_row;
         self.is_transition = is_transition;
-        self.periodic_row = periodic_row;
         self.permutation = None;
         self.permutation_challenges = &[];
         self.permutation_values = &[];
@@ -136,6 +136,7 @@ impl<'a, F: Field, EF: ExtensionField<F>> DebugConstraintBuilder<'a, F, EF> {
             is_last_row is_transition periodic_row None [] [] [] result }
     {
         let mut builder = Self::at_no_row(alloc);
+        builder.periodic_row = periodic_row;
         builder.move_to(
             row_index,
             main,
@@ -144,7 +145,6 @@ impl<'a, F: Field, EF: ExtensionField<F>> DebugConstraintBuilder<'a, F, EF> {
             is_first_row,
             is_last_row,
             is_transition,
-            periodic_row,
         );
         builder
     }

@@ -5,7 +5,7 @@ use Rattle.air_core.proofs.periodic.periodic_matrix.Goals as goal
 
 pub loop-row-preserved : goal.loop-row-preserved
 loop-row-preserved g c =
-    HasGridRows-more _ _ c.loop-row.values.items _ c.loop-row.invariant c.in_ok-push_row.ensures
+    HasGridRows-more _ _ c.loop-row.values.items _ c.loop-row.invariant c.in_ok-push_row.ensures.rows
 
 pub unreachable-requires : goal.unreachable-requires
 unreachable-requires g c =

@@ -1,6 +1,7 @@
-use Rattle.std.proofs.Common.{OnOk, refl, subst, rules}
+use Rattle.std.proofs.Common.{◌≡◌, map, Some, OnOk, refl, subst, rules}
 use Rattle.std.proofs.lemmas.Result.{err_from_is_err_and, on_ok_weaker, IfErr-weaker}
 use Rattle.air_field.specs.Assignment.{IsMissing}
+use Rattle.air_core.specs.Periodic.{column_at, RefusesPeriodicRow}
 use Rattle.air_builder.specs.Refusals.{NoneMissing}
 use Rattle.air_report.specs.Given.{given}
 use Rattle.air_report.proofs.RowsAt.{row_at-given, checked_row, shape-given, row_refusal, periodic_refusal}
@@ -10,25 +11,36 @@ pub returns-clause-checked : goal.returns-clause-checked
 returns-clause-checked g c =
     let all = given (g.A.BaseAir.declaration c.args.air.now) c.args.main.now c.args.public_values.now in
     let at = c.move_to.ensures in
-    let same = row_at-given all at c.preprocessed_trace.ensures c.in_ok-periodic_row.ensures g.F.Field.ring c.requires.fits
+    let columns = all.declaration.periodic in
+    let periodic : map Some c.fill_periodic_row.new.values.items ≡ map (column_at c.args.row) columns =
+    rw (← c.periodic_columns.ensures) c.in_ok-fill_periodic_row.ensures.filled in
+    let same = row_at-given all at c.preprocessed_trace.ensures periodic g.F.Field.ring c.requires.fits
     c.row_pair.ensures.top c.row_pair.ensures.bottom c.table_pair.ensures.top c.table_pair.ensures.bottom (search rules) (search rules) (search rules) in
     on_ok_weaker c.eval.result (λ grew. checked_row all at g.met.F.SelfExtension.over_itself same refl grew) c.eval.ensures.ok
 
 pub returns-clause-there : goal.returns-clause-there
 returns-clause-there g c =
     let all = given (g.A.BaseAir.declaration c.args.air.now) c.args.main.now c.args.public_values.now in
-    let same = shape-given all c.move_to.ensures c.preprocessed_trace.ensures c.in_ok-periodic_row.ensures
+    let columns = all.declaration.periodic in
+    let periodic : map Some c.fill_periodic_row.new.values.items ≡ map (column_at c.args.row) columns =
+    rw (← c.periodic_columns.ensures) c.in_ok-fill_periodic_row.ensures.filled in
+    let same = shape-given all c.move_to.ensures c.preprocessed_trace.ensures periodic
     c.row_pair.ensures.width c.table_pair.ensures.width in
     subst (λ s. OnOk c.eval.result (NoneMissing (IsMissing s) all.declaration.declared)) same c.eval.ensures.there
 
-pub returns-in_err-periodic_row-clause-refused : goal.returns-in_err-periodic_row-clause-refused
-returns-in_err-periodic_row-clause-refused g c =
+pub returns-in_err-fill_periodic_row-clause-refused : goal.returns-in_err-fill_periodic_row-clause-refused
+returns-in_err-fill_periodic_row-clause-refused g c =
     let p = err_from_is_err_and c.from_residual.result c.from_residual.ensures.1 in
     let all = given (g.A.BaseAir.declaration c.args.air.now) c.args.main.now c.args.public_values.now in
-    rw (p.1, p.2) (periodic_refusal all c.in_err-periodic_row.field-0.0 c.requires.fits c.in_err-periodic_row.ensures)
+    let refused : RefusesPeriodicRow all.declaration.periodic c.in_err-fill_periodic_row.field-0.0 =
+    rw (← c.periodic_columns.ensures) c.in_err-fill_periodic_row.ensures.refused in
+    rw (p.1, p.2) (periodic_refusal all c.in_err-fill_periodic_row.field-0.0 c.requires.fits refused)
 
 pub returns-clause-refused : goal.returns-clause-refused
 returns-clause-refused g c =
     let all = given (g.A.BaseAir.declaration c.args.air.now) c.args.main.now c.args.public_values.now in
-    IfErr-weaker c.eval.result _ _ (row_refusal all c.move_to.ensures c.preprocessed_trace.ensures c.in_ok-periodic_row.ensures
+    let columns = all.declaration.periodic in
+    let periodic : map Some c.fill_periodic_row.new.values.items ≡ map (column_at c.args.row) columns =
+    rw (← c.periodic_columns.ensures) c.in_ok-fill_periodic_row.ensures.filled in
+    IfErr-weaker c.eval.result _ _ (row_refusal all c.move_to.ensures c.preprocessed_trace.ensures periodic
     c.row_pair.ensures.width c.table_pair.ensures.width) c.eval.ensures.refused
