@@ -5,6 +5,7 @@ ghost use Rattle.air_builder.specs.Assertion.{Base, Extension};
 ghost use Rattle.air_builder.specs.Declaration.{plain_declaration};
 ghost use Rattle.air_bench.specs.More.{cycles, lookups, lookup_term};
 
+use crate::traces::{constant_trace, wide_trace};
 use crate::wide::Wide;
 use p3_air::author::{
     All, Challenge, Condition, Constraint, Current, Difference, ExtZero, Family, Lifted, Periodic,
@@ -150,17 +151,6 @@ where
     }
 }
 
-/// A trace of so many columns and rows of zeros.
-fn zeros(alloc: Global, width: usize, rows: usize) -> Result<RowMajorMatrix<BabyBear>, AirError> {
-    let mut values = Vec::new(alloc);
-    for _ in 0..rows {
-        for _ in 0..width {
-            values.push(BabyBear::ZERO).map_err(|_| AirError::Memory)?;
-        }
-    }
-    Ok(RowMajorMatrix::new(values, width)?)
-}
-
 /// The failures that a check finds, and the constraints of a row.
 fn counted(
     alloc: Global,
@@ -197,7 +187,7 @@ pub fn check_flat(alloc: Global, rounds: usize, rows: usize) -> Result<usize, Ai
     let layout = AirLayout::from_air::<BabyBear, Wide>(&wide);
     let recorded = get_symbolic_constraints::<BabyBear, Wide>(alloc, &wide, layout)?;
     let air = recorded_air(recorded, 64, 0, Vec::new(alloc), Vec::new(alloc))?;
-    let main = zeros(alloc, 64, rows)?;
+    let main = wide_trace(alloc, rows)?;
     let mut count = 0usize;
     for _ in 0..rounds {
         count = count.wrapping_add(counted(alloc, &air, &main)?);
@@ -209,11 +199,11 @@ pub fn check_flat(alloc: Global, rounds: usize, rows: usize) -> Result<usize, Ai
 pub fn check_cycles(alloc: Global, rounds: usize, rows: usize) -> Result<usize, AirError> {
     let mut columns = Vec::new(alloc);
     for _ in 0..8 {
-        let column = vec![in alloc; BabyBear::ONE; 8].map_err(|_| AirError::Memory)?;
+        let column = vec![in alloc; BabyBear::ZERO; 8].map_err(|_| AirError::Memory)?;
         columns.push(column).map_err(|_| AirError::Memory)?;
     }
     let air = Cycles { columns };
-    let main = zeros(alloc, 8, rows)?;
+    let main = constant_trace(alloc, BabyBear::ONE, 8, rows)?;
     let mut count = 0usize;
     for _ in 0..rounds {
         count = count.wrapping_add(counted_cycles(alloc, &air, &main)?);

@@ -5,12 +5,13 @@
 //! recorded is what it tested. Constraints as values stand in [`author`], the recorded expressions and their JSON
 //! values in [`symbolic`], bits and words in [`utils`]. An AIR from outside, made of expressions of a pool, is a
 //! [`FlatAir`]; [`resolve`] works one such expression out in any builder, and [`recorded_air`] makes such an AIR of a
-//! recording. What users need of the crates below is passed on here.
+//! recording. What users need of the crates below is passed on here, their laws in [`laws`].
 #![tactic(auto)]
 
 pub mod audit;
 pub mod author;
 mod flat;
+pub mod laws;
 pub mod recorded_airs;
 pub mod symbolic;
 pub mod utils;

@@ -70,7 +70,7 @@ pub trait ExtensionField<F: Field>: Copy + Eq + Ord + Debug {
         ensures powers { IfOk result (λ v. v.items ≡ powers_of over.ring self k) }
         ensures only_memory { IsOkUnless result RingError.Memory }
     {
-        let mut all = Vec::new(alloc);
+        let mut all = Vec::with_capacity(alloc, k)?;
         let mut power = Self::one();
         for _ in 0..k {
             all.push(power)?;
