@@ -2,7 +2,7 @@
 
 use air_check_export::{ExportError, Options, export, export_with};
 use p3_air::symbolic::AirLayout;
-use p3_air::{Air, AirBuilder, BaseAir, ExtensionBuilder, PermutationAirBuilder, WindowAccess};
+use p3_air::{Air, AirBuilder, BaseAir, PermutationAirBuilder, WindowAccess};
 use p3_baby_bear::BabyBear;
 use p3_field::PrimeCharacteristicRing;
 use p3_field::extension::BinomialExtensionField;
@@ -124,7 +124,7 @@ impl BaseAir<BabyBear> for Mixed {
     }
 }
 
-impl<AB: PermutationAirBuilder<F = BabyBear> + ExtensionBuilder> Air<AB> for Mixed {
+impl<AB: PermutationAirBuilder<F = BabyBear>> Air<AB> for Mixed {
     fn eval(&self, builder: &mut AB) {
         let permutation: AB::ExprEF = builder.permutation().current(0).unwrap().into();
         let challenge: AB::ExprEF = builder.permutation_randomness()[0].into();
