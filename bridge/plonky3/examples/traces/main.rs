@@ -1,0 +1,145 @@
+//! Exports traces, and says what p3-air answers to them.
+//!
+//!     traces FOLDER     writes each trace: FOLDER/NAME, and FOLDER/NAME.stdout, what air_check is to print
+//!     traces --table    prints those that are good or turned by hand as a table of crates/cases_program
+
+mod airs;
+mod traces;
+
+use air_check_export::{Options, export_with};
+use p3_air::{
+    Air, AirLayout, ConstraintFailure, DebugConstraintBuilder, SymbolicAirBuilder,
+    check_all_constraints, get_max_constraint_degree, get_symbolic_constraints,
+};
+use p3_baby_bear::BabyBear;
+use p3_matrix::Matrix;
+use p3_matrix::dense::RowMajorMatrix;
+use serde_json::Value;
+use std::{env, fs, io, path::Path, process::ExitCode};
+
+/// The field of all AIRs here.
+pub type F = BabyBear;
+
+/// The element that a whole number stands for.
+pub fn number(n: u32) -> F {
+    F::new(n)
+}
+
+/// A trace of an AIR as an object, and what air_check is to say of it.
+pub struct Case {
+    name: String,
+    object: Value,
+    answer: String,
+    is_bad: bool,
+    by_hand: bool,
+}
+
+/// A trace with its public values, by their numbers.
+#[derive(Clone)]
+pub struct Given {
+    pub width: usize,
+    pub rows: Vec<u32>,
+    pub public_values: Vec<u32>,
+}
+
+/// The case of a trace: p3-air's degree, counts and failures as air_check writes them.
+pub fn case<A>(name: String, air: &A, given: &Given, options: &Options, by_hand: bool) -> Case
+where
+    A: Air<SymbolicAirBuilder<F>> + for<'a> Air<DebugConstraintBuilder<'a, F>>,
+{
+    let elements = |numbers: &[u32]| numbers.iter().copied().map(number).collect::<Vec<F>>();
+    let trace = RowMajorMatrix::new(elements(&given.rows), given.width);
+    let public_values = elements(&given.public_values);
+    let object = export_with::<F, A>(air, &trace, &public_values, options).expect("it is exported");
+    let degree = degree_of(air, trace.height(), options.transition_weight);
+    let report = check_all_constraints(air, &trace, &public_values, options.cap);
+    let mut answer = format!(
+        "degree {degree}\nrows {}\nconstraints {}\n",
+        report.total_rows, report.total_constraints_per_row
+    );
+    for failure in &report.failures {
+        answer += &failure_line(failure, report.total_constraints_per_row);
+    }
+    Case {
+        name,
+        object,
+        answer,
+        is_bad: !report.is_ok(),
+        by_hand,
+    }
+}
+
+/// The inferred degree: by p3-air's call where the transition selector is linear, else the greatest of its expressions.
+fn degree_of<A: Air<SymbolicAirBuilder<F>>>(air: &A, height: usize, weight: usize) -> usize {
+    let layout = AirLayout::from_air::<F>(air);
+    if weight == 0 {
+        return get_max_constraint_degree::<F, A>(air, layout, height);
+    }
+    let constraints = get_symbolic_constraints::<F, A>(air, layout);
+    constraints
+        .iter()
+        .map(|it| it.degree_multiple_with_transition(weight))
+        .max()
+        .unwrap_or(0)
+}
+
+/// A failure's line. The object has no labels of constraints; a cell's label is made of the cell.
+fn failure_line(failure: &ConstraintFailure, constraints: usize) -> String {
+    let ConstraintFailure {
+        row,
+        constraint,
+        label,
+    } = failure;
+    match label {
+        Some(label) if *constraint >= constraints => {
+            format!("row {row}: #{constraint} {label:?}\n")
+        }
+        _ => format!("row {row}: #{constraint}\n"),
+    }
+}
+
+/// Writes the input and the wanted output of each case.
+fn write_cases(folder: &Path, cases: &[Case]) -> io::Result<()> {
+    for case in cases {
+        fs::write(folder.join(&case.name), case.object.to_string())?;
+        fs::write(folder.join(format!("{}.stdout", case.name)), &case.answer)?;
+    }
+    Ok(())
+}
+
+/// Prints the cases of the table.
+fn print_table(cases: &[Case]) {
+    println!("# the program");
+    println!("# Written by bridge/plonky3/try FOLDER --table.");
+    println!(
+        "# Traces of AIRs that p3-air recorded, exported, and what p3-air's own check and degree say of them."
+    );
+    for case in cases.iter().filter(|case| case.by_hand) {
+        let answer = case.answer.replace('\\', "\\\\").replace('\n', "\\n");
+        println!("\n# {}", case.name.replace('_', " "));
+        println!(
+            "run flat <<< {} => status {} {answer}",
+            case.object,
+            u8::from(case.is_bad)
+        );
+    }
+}
+
+fn main() -> ExitCode {
+    let words: Vec<String> = env::args().skip(1).collect();
+    let cases = traces::all();
+    match words.as_slice() {
+        [word] if word == "--table" => print_table(&cases),
+        [folder] => {
+            if let Err(error) = write_cases(Path::new(folder), &cases) {
+                eprintln!("traces: {error}");
+                return ExitCode::FAILURE;
+            }
+        }
+        _ => {
+            eprintln!("usage: traces FOLDER | traces --table");
+            return ExitCode::FAILURE;
+        }
+    }
+    ExitCode::SUCCESS
+}
