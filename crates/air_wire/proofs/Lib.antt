@@ -9,3 +9,4 @@ pub mod Ordered
 pub mod Progress
 pub mod PoolNodes
 pub mod Elements
+mod Alone

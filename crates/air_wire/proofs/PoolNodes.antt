@@ -1,5 +1,5 @@
 -- The nodes of a pool, as they are written.
-use Rattle.std.proofs.Common.{◌≡◌, ℕ, suc, zero, ◌<◌, Bool, true, false, List, [], ◌∷◌, ◌++◌, length, Option, Some, None, codes, refl, sym, ap, subst, ◌∙◌, arith}
+use Rattle.std.proofs.Common.{◌≡◌, ℕ, suc, zero, ◌<◌, ◌≤◌, Bool, true, false, List, [], ◌∷◌, ◌++◌, length, Option, Some, None, codes, refl, sym, ap, subst, ◌∙◌, arith}
 use Rattle.std.specs.List.{slice_get}
 use Rattle.std.specs.Option.{is_some}
 use Rattle.std.proofs.Math.ListN.{set}
@@ -96,18 +96,18 @@ module _ {U A S F : Type 0} (reads : U → Leaves A F) (grows : U → U → Type
 
   -- ---- the loop, at its next step
 
-  module _ (p : U × List (SymbolicExpr A)) (root : Tree S) (places : List (Option ℕ)) (ds : List Data) where
+  module _ (p : U × List (SymbolicExpr A)) (size : ℕ) (root : Tree S) (places : List (Option ℕ)) (ds : List Data) where
     abbrev pub At : List (ℕ × Bool) → Type 0
-    At steps = Progress kind (seen_at seen p) (length p.1) root steps places ds
+    At steps = Progress kind (seen_at seen p) size root steps places ds
 
-    pub next_within : (steps rest : List (ℕ × Bool)) (s : ℕ × Bool) → steps ≡ rest ++ s ∷ [] → At steps → s.0 < length p.1
-    next_within steps rest s e h = within_last (length p.1) rest s (subst At e h).within
+    pub next_within : (steps rest : List (ℕ × Bool)) (s : ℕ × Bool) → steps ≡ rest ++ s ∷ [] → At steps → s.0 < size
+    next_within steps rest s e h = within_last size rest s (subst At e h).within
 
     pub next_smaller : (steps rest : List (ℕ × Bool)) (s : ℕ × Bool) → steps ≡ rest ++ s ∷ [] → work (seen_at seen p) rest < work (seen_at seen p) steps
     next_smaller steps rest s e = subst (λ (l : List (ℕ × Bool)). work (seen_at seen p) rest < work (seen_at seen p) l) (sym e) (work_pop (seen_at seen p) rest s)
 
     pub next_skips : (steps rest : List (ℕ × Bool)) (s : ℕ × Bool) (o : Option ℕ) → steps ≡ rest ++ s ∷ [] → At steps → slice_get places s.0 ≡ Some o → is_some o ≡ true → At rest
-    next_skips steps rest s (Some i) e h at b = skips kind (seen_at seen p) (length p.1) root rest places ds s.0 i s.1 (subst At e h) at
+    next_skips steps rest s (Some i) e h at b = skips kind (seen_at seen p) size root rest places ds s.0 i s.1 (subst At e h) at
     next_skips steps rest s None e h at b = absurd cc
 
     look_at : (rest : List (ℕ × Bool)) (n : ℕ) (b : Bool) → b ≡ false → At (rest ++ (n, b) ∷ []) → At (rest ++ (n, false) ∷ [])
@@ -119,7 +119,7 @@ module _ {U A S F : Type 0} (reads : U → Leaves A F) (grows : U → U → Type
     pub next_looks : (steps rest more : List (ℕ × Bool)) (s : ℕ × Bool) (node : SymbolicExpr A) → steps ≡ rest ++ s ∷ [] → s.1 ≡ false → IsNode (reads p.0) p.1 s.0 node → more ≡ rest ++ steps_of s.0 node → At steps → At more
     next_looks steps rest more s node e b is m h =
         subst At (sym m)
-        (looks kind (seen_at seen p) (length p.1) (seen p.0) root rest places ds s.0 node (node_seen p s.0 node is) is.below
+        (looks kind (seen_at seen p) size (seen p.0) root rest places ds s.0 node (node_seen p s.0 node is) is.below
         (look_at rest s.0 s.1 b (subst At e h)))
 
     pub looks_smaller : (steps rest more : List (ℕ × Bool)) (s : ℕ × Bool) (node : SymbolicExpr A) → steps ≡ rest ++ s ∷ [] → s.1 ≡ false → IsNode (reads p.0) p.1 s.0 node → more ≡ rest ++ steps_of s.0 node → work (seen_at seen p) more < work (seen_at seen p) steps
@@ -133,20 +133,24 @@ module _ {U A S F : Type 0} (reads : U → Leaves A F) (grows : U → U → Type
     pub next_ready : (steps rest : List (ℕ × Bool)) (s : ℕ × Bool) (node : SymbolicExpr A) → steps ≡ rest ++ s ∷ [] → s.1 ≡ true → IsNode (reads p.0) p.1 s.0 node → At steps → IsReady (reads p.0).valid places node
     next_ready steps rest s node e b is g =
         let h : At (rest ++ (s.0, true) ∷ []) = write_at rest s.0 s.1 b (subst At e g) in
-        ready_of kind (seen p.0) (seen_at seen p) (length p.1) h.done places h.table (reads p.0).valid s.0 node (within_last (length p.1) rest (s.0, true) h.within) is.below
+        ready_of kind (seen p.0) (seen_at seen p) size h.done places h.table (reads p.0).valid s.0 node (within_last size rest (s.0, true) h.within) is.below
         (λ a q. subst (λ (m : SymbolicExpr A). NodeFits (reads p.0) p.1 m) q is.fits)
-        (subst (HasOperands h.done) (node_seen p s.0 node is) (is_next kind (seen_at seen p) (length p.1) root rest places ds s.0 h).0)
+        (subst (HasOperands h.done) (node_seen p s.0 node is) (is_next kind (seen_at seen p) size root rest places ds s.0 h).0)
 
     node_written : (steps : List (ℕ × Bool)) (n : ℕ) (node : SymbolicExpr A) (d : Data) → IsNode (reads p.0) p.1 n node → (h : At steps) → IsNodeValue kind (seen p.0) places node d → IsWrittenNode kind h.done d (seen_at seen p n)
     node_written steps n node d is h v =
         let stated : stated_degree (reads p.0) node ≡ degree kind.term (node_tree (seen p.0) (seen_at seen p) node) =
         degree_is_seen reads grows seen kind.term laws p n (stated_degree (reads p.0) node) (sym is.degree) ∙ ap (degree kind.term) (node_seen p n node is) in
         subst (IsWrittenNode kind h.done d) (sym (node_seen p n node is))
-        (value_of kind (seen p.0) (seen_at seen p) (length p.1) h.done places h.table (reads p.0) node d stated v)
+        (value_of kind (seen p.0) (seen_at seen p) size h.done places h.table (reads p.0) node d stated v)
 
-    pub next_writes : (steps rest : List (ℕ × Bool)) (s : ℕ × Bool) (node : SymbolicExpr A) (o : Option ℕ) (d : Data) → IsPool reads p → steps ≡ rest ++ s ∷ [] → s.1 ≡ true → slice_get places s.0 ≡ Some o → is_some o ≡ false → IsNode (reads p.0) p.1 s.0 node → IsNodeValue kind (seen p.0) places node d → At steps
-        → Progress kind (seen_at seen p) (length p.1) root rest (set places s.0 (Some (length ds))) (ds ++ d ∷ [])
-    next_writes steps rest s node (Some i) d w e b at q is v g = absurd cc
-    next_writes steps rest s node None d w e b at q is v g =
+    -- of the first numbers too
+    first_ones : size ≤ length p.1 → IsOneToOne (seen_at seen p) (length p.1) → IsOneToOne (seen_at seen p) size
+    first_ones le h n m x y e = h n m (omega (arith, le, x)) (omega (arith, le, y)) e
+
+    pub next_writes : (steps rest : List (ℕ × Bool)) (s : ℕ × Bool) (node : SymbolicExpr A) (o : Option ℕ) (d : Data) → IsPool reads p → size ≤ length p.1 → steps ≡ rest ++ s ∷ [] → s.1 ≡ true → slice_get places s.0 ≡ Some o → is_some o ≡ false → IsNode (reads p.0) p.1 s.0 node → IsNodeValue kind (seen p.0) places node d → At steps
+        → Progress kind (seen_at seen p) size root rest (set places s.0 (Some (length ds))) (ds ++ d ∷ [])
+    next_writes steps rest s node (Some i) d w le e b at q is v g = absurd cc
+    next_writes steps rest s node None d w le e b at q is v g =
         let h : At (rest ++ (s.0, true) ∷ []) = write_at rest s.0 s.1 b (subst At e g) in
-        writes kind (seen_at seen p) (length p.1) root rest places ds s.0 d (seen_one p w) h at (node_written (rest ++ (s.0, true) ∷ []) s.0 node d is h v)
+        writes kind (seen_at seen p) size root rest places ds s.0 d (first_ones le (seen_one p w)) h at (node_written (rest ++ (s.0, true) ∷ []) s.0 node d is h v)

@@ -1,14 +1,15 @@
 //! Lists of nodes that are written.
-ghost use Rattle.std.specs.Prelude.{◌≡◌, ◌<◌, [], ◌∷◌, ◌++◌, true, false, length, map, replicate, IfOk, IfErr};
+ghost use Rattle.std.specs.Prelude.{◌≡◌, ◌<◌, ◌+◌, [], ◌∷◌, ◌++◌, true, false, length, map, replicate, IfOk, IfErr};
 ghost use Rattle.serde_json.specs.View.{view};
 ghost use Rattle.air_symbolic.specs.Pools.{IsPool};
+ghost use Rattle.air_symbolic.specs.Trees.{leaf_tree};
 ghost use Rattle.air_wire.specs.Seen.{seen_at};
 ghost use Rattle.air_wire.specs.Written.{AreNodesOf, IsWritten};
 ghost use Rattle.air_wire.specs.Writing.{steps_of};
 
 use crate::errors::FlatError;
 use crate::wire_leaf::WireLeaf;
-use crate::written_nodes::{node_value, place_of};
+use crate::written_nodes::{leaf_node_value, node_value, place_of};
 use air_symbolic::{ExprId, ExprPool, SymbolicExpr};
 use serde_json::Value;
 use std::alloc::{AllocError, Global};
@@ -18,6 +19,14 @@ fn no_places(alloc: Global, count: usize) -> Result<Vec<Option<usize>>, AllocErr
     ensures { IfOk result (λ v. v.items ≡ replicate count None) }
 {
     vec![in alloc; None; count]
+}
+
+// How many numbers there are up to this one, which is the greatest that its list may name.
+fn numbers_to<A: WireLeaf>(pool: &ExprPool<A>, id: ExprId<A>) -> usize
+    requires { id < length pool.now.1 }
+    ensures { result ≡ id + 1 }
+{
+    pool.len().min(id.number() + 1)
 }
 
 fn push_one<A: WireLeaf>(
@@ -82,7 +91,7 @@ fn nodes_of<A: WireLeaf>(
         (seen_at A.seen pool.now root)) }
     ensures refused { IfErr result (λ e. e ≡ FlatError.Memory) }
 {
-    let mut places = no_places(alloc, pool.len())?;
+    let mut places = no_places(alloc, numbers_to(pool, root))?;
     let mut items = Vec::new(alloc);
     let mut steps = Vec::new(alloc);
     steps.push((root, false))?;
@@ -103,6 +112,42 @@ fn nodes_of<A: WireLeaf>(
     Ok(items)
 }
 
+// The one node of a list whose root is a leaf.
+fn leaf_alone<A: WireLeaf>(
+    alloc: Global,
+    under: &A::Under,
+    leaf: &A,
+) -> Result<Vec<Value>, FlatError>
+    requires sound { (A.reads under.now).sound }
+    requires valid { (A.reads under.now).valid leaf.now }
+    ensures written { IfOk result (λ v. AreNodesOf A.kind (map view v.items)
+        (leaf_tree (A.seen under.now leaf.now))) }
+    ensures refused { IfErr result (λ e. e ≡ FlatError.Memory) }
+{
+    let node = leaf_node_value(alloc, under, leaf)?;
+    let mut items = Vec::with_capacity(alloc, 1)?;
+    items.push(node)?;
+    Ok(items)
+}
+
+// The nodes of the list; a leaf, as most Base leaves hold one, needs no table.
+fn items_of<A: WireLeaf>(
+    alloc: Global,
+    pool: &ExprPool<A>,
+    root: ExprId<A>,
+) -> Result<Vec<Value>, FlatError>
+    requires pool { IsPool A.reads pool.now }
+    requires here { root < length pool.now.1 }
+    ensures written { IfOk result (λ v. AreNodesOf A.kind (map view v.items)
+        (seen_at A.seen pool.now root)) }
+    ensures refused { IfErr result (λ e. e ≡ FlatError.Memory) }
+{
+    match pool.node(root) {
+        SymbolicExpr::Leaf(leaf) => leaf_alone(alloc, pool.base(), leaf),
+        _ => nodes_of(alloc, pool, root),
+    }
+}
+
 /// The list of the expression's nodes: the subtrees of its tree in post-order, each once, at its first place.
 pub fn to_flat_value<A: WireLeaf>(
     alloc: Global,
@@ -114,6 +159,6 @@ pub fn to_flat_value<A: WireLeaf>(
     ensures written { IfOk result (λ v. IsWritten A.kind (view v) (seen_at A.seen pool.now id)) }
     ensures refused { IfErr result (λ e. e ≡ FlatError.Memory) }
 {
-    let items = nodes_of(alloc, pool, id)?;
+    let items = items_of(alloc, pool, id)?;
     Ok(Value::from(items))
 }

@@ -1,8 +1,8 @@
 //! One node of a list that is written.
-ghost use Rattle.std.specs.Prelude.{◌≡◌, ◌<◌, length, Some, IfOk, IfErr};
+ghost use Rattle.std.specs.Prelude.{◌≡◌, ◌<◌, length, Some, IfOk, IfErr, codes};
 ghost use Rattle.std.specs.List.{slice_get};
 ghost use Rattle.serde_json.specs.View.{view};
-ghost use Rattle.air_wire.specs.Spelling.{case_data};
+ghost use Rattle.air_wire.specs.Spelling.{IsCase, case_data};
 ghost use Rattle.air_wire.specs.Written.{two_data, one_data};
 ghost use Rattle.air_wire.specs.Writing.{Placed, IsReady, IsNodeValue};
 
@@ -52,6 +52,22 @@ fn one_value(alloc: Global, name: &str, degree: usize, x: usize) -> Result<Value
     case_value(alloc, name, contents)
 }
 
+/// What is written for a leaf.
+pub(crate) fn leaf_node_value<A: WireLeaf>(
+    alloc: Global,
+    under: &A::Under,
+    leaf: &A,
+) -> Result<Value, FlatError>
+    requires sound { (A.reads under.now).sound }
+    requires valid { (A.reads under.now).valid leaf.now }
+    ensures written { IfOk result (λ v. IsCase (codes "Leaf")
+        (λ c. A.kind.writes c (A.seen under.now leaf.now)) (view v)) }
+    ensures refused { IfErr result (λ e. e ≡ FlatError.Memory) }
+{
+    let contents = leaf.leaf_value(alloc, under)?;
+    Ok(case_value(alloc, "Leaf", contents)?)
+}
+
 /// What is written for a node whose operands are written.
 pub(crate) fn node_value<A: WireLeaf>(
     alloc: Global,
@@ -66,10 +82,7 @@ pub(crate) fn node_value<A: WireLeaf>(
     ensures refused { IfErr result (λ e. e ≡ FlatError.Memory) }
 {
     match *node {
-        SymbolicExpr::Leaf(leaf) => {
-            let contents = leaf.leaf_value(alloc, under)?;
-            Ok(case_value(alloc, "Leaf", contents)?)
-        }
+        SymbolicExpr::Leaf(leaf) => leaf_node_value(alloc, under, &leaf),
         SymbolicExpr::Add {
             x,
             y,
