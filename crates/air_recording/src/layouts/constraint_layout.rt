@@ -85,7 +85,7 @@ fn powers_at<T: Copy>(alloc: Global, powers: &[T], indices: &[usize]) -> Result<
     ensures { IfOk result (λ v. (d : T) → v.items ≡ map
         (λ i. slice_index_or powers.now (length powers.now - 1 - i) d) indices.now) }
 {
-    let mut picked = Vec::new(alloc);
+    let mut picked = Vec::with_capacity(alloc, indices.len())?;
     for index in indices {
         let place = powers.len() - 1 - *index;
         picked.push(powers[place])?;
@@ -102,7 +102,7 @@ fn coordinate<F: Field, EF: ExtensionField<F>>(
     requires { d < EF.DIMENSION }
     ensures { IfOk result (λ v. v.items ≡ coordinates_of F.ring EF.basis elements.now d) }
 {
-    let mut coefficients = Vec::new(alloc);
+    let mut coefficients = Vec::with_capacity(alloc, elements.len())?;
     for element in elements {
         coefficients.push(element.as_basis_coefficients_slice()[d])?;
     }
@@ -118,7 +118,7 @@ fn all_coordinates<F: Field, EF: ExtensionField<F>>(
         EF.basis elements.now EF.DIMENSION) }
     ensures refused { IfErr result (λ e. e ≡ AirError.Memory) }
 {
-    let mut all = Vec::new(alloc);
+    let mut all = Vec::with_capacity(alloc, EF::DIMENSION)?;
     for d in 0..EF::DIMENSION {
         all.push(coordinate(alloc, elements, d)?)?;
     }

@@ -147,7 +147,7 @@ pub fn lengths_of<F>(alloc: Global, columns: &[Vec<F>]) -> Result<Vec<usize>, Ai
     ensures lengths { IfOk result (λ periods. periods.items ≡ periods_of columns.now) }
     ensures refused { IfErr result (λ e. e ≡ AirError.Memory) }
 {
-    let mut periods = Vec::new(alloc);
+    let mut periods = Vec::with_capacity(alloc, columns.len())?;
     for column in columns {
         periods.push(column.len())?;
     }

@@ -19,7 +19,7 @@ pub(crate) fn variables_of<F>(
     ensures row { IfOk result (λ row. IsRowOf entry width row.items) }
     ensures refused { IfErr result (λ e. e ≡ AirError.Memory) }
 {
-    let mut row = Vec::new(alloc);
+    let mut row = Vec::with_capacity(alloc, width)?;
     for i in 0..width {
         row.push(SymbolicVariable::new(entry, i))?;
     }
@@ -35,7 +35,7 @@ pub(crate) fn ext_variables_of<F, EF>(
     ensures row { IfOk result (λ row. IsExtRowOf entry width row.items) }
     ensures refused { IfErr result (λ e. e ≡ AirError.Memory) }
 {
-    let mut row = Vec::new(alloc);
+    let mut row = Vec::with_capacity(alloc, width)?;
     for i in 0..width {
         row.push(SymbolicVariableExt::new(entry, i))?;
     }
