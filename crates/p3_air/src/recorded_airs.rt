@@ -97,5 +97,6 @@ pub fn recorded_air<F: Field, EF: ExtensionField<F>>(
             total,
         });
     }
-    FlatAir::new(pool, base, width, num_public_values, periodic, cells)
+    let air = FlatAir::new(pool, base, width, num_public_values, periodic, cells)?;
+    Ok(air)
 }
