@@ -1,16 +1,18 @@
 -- The expressions of roots, read from the table.
 use Rattle.std.specs.List.{AllZip}
-use Rattle.std.proofs.Common.{◌≡◌, ℕ, suc, ◌+◌, ◌<◌, List, [], ◌∷◌, ◌++◌, length, get_or, slice_get, map, take, All, Some, Result, Ok, Err, IfOk, IfErr, Vec, inl, sym, ap, subst, ◌∙◌, arith}
+use Rattle.std.proofs.Common.{◌≡◌, ℕ, zero, suc, ◌+◌, ◌<◌, List, [], ◌∷◌, ◌++◌, length, get_or, slice_get, map, take, All, Some, Result, Ok, Err, IfOk, IfErr, Vec, inl, sym, ap, subst, ◌∙◌, arith}
 use Rattle.std.specs.Global.{Global}
 use Rattle.std.proofs.lemmas.List.{take_more, get_or-map, length-map}
 use Rattle.std.proofs.lemmas.Option.{slice_get_within}
 use Rattle.std.proofs.lemmas.List.Elements.{All-map}
-use Rattle.air_field.specs.Term.{Term}
+use Rattle.air_field.specs.Term.{Leaf, Term}
 use Rattle.air_core.specs.declared.errors.AirError.{AirError}
 use Rattle.air_core.specs.declared.errors.AirError.TheVariants.{Memory}
 use Rattle.air_builder.specs.laws.Zips.{AllZip-joined}
 use Rattle.air_builder.specs.Builders.{MeansIn, BuilderView, RingLaws, BuilderLaws}
-use Rattle.air_builder.specs.Refusals.{EachLeaf}
+use Rattle.air_builder.specs.Assertion.{Assertion}
+use Rattle.air_builder.specs.Refusals.{PartOf, EachLeaf}
+use Rattle.air_author.specs.Expressions.{Made}
 use Rattle.p3_air.specs.Tables.{IsMade, HasAt, MadeAll, OrMemory}
 use Rattle.p3_air.proofs.Making.{there_before}
 
@@ -68,4 +70,39 @@ module _ {S R E F : Type 0} {view : BuilderView S R E F} (ring : RingLaws view) 
     made = tt;
     there = tt;
     refused = λ ss all. inl memory;
+  }
+
+-- a list of one term has one expression
+pub has_first : {E F : Type 0} (P : E → Term F → Type 0) (xs : List E) (t : Term F) → AllZip P xs (t ∷ []) → 0 < length xs
+has_first P [] t z = absurd z
+has_first P (x ∷ xs) t z = omega arith
+
+first_has : {E F : Type 0} (P : E → Term F → Type 0) (xs : List E) (t : Term F) (x : E) → AllZip P xs (t ∷ []) → slice_get xs 0 ≡ Some x → P x t
+first_has P [] t x z at = absurd z
+first_has {E} P (y ∷ ys) t x z at = subst (λ v. P v t) (same at) z.0
+  where
+    same : Some y ≡ Some x → y ≡ x
+    same e = cc
+
+all_one : {A : Type 0} (P : A → Type 0) (x : A) → P x → All P (x ∷ [])
+all_one P x h zero d lt = h
+all_one P x h (suc k) d lt = absurd (omega (arith, lt))
+
+module _ {S E F X : Type 0} (means : S → E → Term F → Type 0) (grew : S → S → List (Assertion F) → Type 0)
+    (missing : S → Leaf → Type 0) (refuses : S → X → List (Assertion F) → Type 0) (a b : S) (t : Term F) where
+  -- what was made of a list of one term is made of the term
+  pub one_made : (xs : Vec E Global) (x : E) → MadeAll means grew missing refuses a b (Ok xs) (t ∷ []) → slice_get xs.items 0 ≡ Some x → Made means grew missing refuses a b (Ok x) t
+  one_made xs x h at = record {
+    keeps = h.keeps;
+    made = first_has (means b) xs.items t x h.made at;
+    there = h.there 0 t (omega arith);
+    refused = tt;
+  }
+
+  pub one_refused : (e : X) → MadeAll {E = E} means grew missing refuses a b (Err e) (t ∷ []) → Made {E = E} means grew missing refuses a b (Err e) t
+  one_refused e h = record {
+    keeps = h.keeps;
+    made = tt;
+    there = tt;
+    refused = λ ss p. h.refused ss (all_one (λ u. PartOf u ss) t p);
   }

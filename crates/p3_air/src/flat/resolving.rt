@@ -8,7 +8,7 @@ ghost use Rattle.p3_air.specs.Tables.{MadeAll, OrMemory};
 
 use crate::flat::nodes::known;
 use crate::flat::plan::plan_of;
-use crate::flat::table::{make_places, make_planned};
+use crate::flat::table::make_planned;
 use air_builder::{AirBuilder, AirError};
 use air_field::Algebra;
 use air_symbolic::{BaseLeaf, ExprId, ExprPool};
@@ -31,9 +31,8 @@ pub fn resolve<AB: AirBuilder>(
         AB.grew AB.missing (OrMemory AB.refuses) builder.old builder.new result
         (term_at base_reads pool.now id) }
 {
-    let plan = plan_of(alloc, pool, &[id])?;
-    let table = make_places(alloc, pool, &plan, builder)?;
-    Ok(known(&table, plan.places[0]))
+    let expressions = resolve_all(alloc, pool, &[id], builder)?;
+    Ok(known(&expressions, 0))
 }
 
 /// The same of several expressions, in order: what they have in common is made once.

@@ -14,6 +14,13 @@ returns-in-Some-clause-of_an_air g c declared h =
     let clash : None ≡ Some c.in-Some.id = none ∙ sym found in
     cc
 
+pub returns-in-Some-clause-only_memory : goal.returns-in-Some-clause-only_memory
+returns-in-Some-clause-only_memory g c declared h =
+    let none = none_past g.F.Field.ring base_reads c.args.recorded.pool.0 c.args.recorded.base.items (base_terms declared) h.means in
+    let found : Some c.in-Some.id ≡ first_past (length c.args.recorded.pool.0.1) c.args.recorded.base.items = rw (c.deref.ensures.value, c.len-total.ensures, c.into_base-pool.ensures.base) at c.in-Some.ensures in
+    let clash : None ≡ Some c.in-Some.id = none ∙ sym found in
+    cc
+
 pub returns-in-Some-clause-refused : goal.returns-in-Some-clause-refused
 returns-in-Some-clause-refused g c =
     let total = c.len-total.ensures ∙ ap (λ p. length p.1) c.into_base-pool.ensures.base in
