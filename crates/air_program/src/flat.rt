@@ -59,7 +59,7 @@ fn audit_input(alloc: Global, input: FlatInput) -> Result<Findings, AirError>
         input.public_values.len(),
         input.periodic,
         input.cells,
-    );
+    )?;
     findings_of(
         alloc,
         &air,

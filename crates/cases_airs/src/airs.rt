@@ -55,7 +55,7 @@ impl<'a, F: Field> Airs<'a, F> {
             periodic,
             cells,
         } = parts;
-        let flat = FlatAir::new(pool, roots, width, num_public_values, periodic, cells);
+        let flat = FlatAir::new(pool, roots, width, num_public_values, periodic, cells)?;
         self.airs.push(TableAir {
             constraints,
             flat,

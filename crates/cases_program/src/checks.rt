@@ -81,7 +81,7 @@ pub fn show_flat_check(
         input.public_values.len(),
         input.periodic,
         input.cells,
-    );
+    )?;
     show_check(
         alloc,
         call,

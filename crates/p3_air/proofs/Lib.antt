@@ -1,7 +1,9 @@
 pub mod Audited
 pub mod AuditTheorem
 pub mod RecordedRoots
+mod Numbering
+mod Planning
 mod Making
-mod Filling
+mod Needed
 mod Roots
 mod Asserting

@@ -1,10 +1,9 @@
 -- Making the expressions of numbers.
-use Rattle.std.proofs.Common.{◌≡◌, ℕ, List, [], get_or, Option, Some, None, Ok, Err, sym, subst, ◌∙◌}
-use Rattle.air_field.specs.Term.{Leaf, Term, leaf_term}
+use Rattle.std.proofs.Common.{◌≡◌, ◌<◌, ℕ, List, [], length, slice_get, Some, Ok, Err, sym, ap, ap₂, subst, ◌∙◌}
+use Rattle.air_field.specs.Term.{Leaf, Term, leaf_term, add_term, sub_term, neg_term, mul_term}
 use Rattle.air_core.specs.declared.errors.AirError.TheVariants.{RowOffset}
 use Rattle.air_symbolic.specs.Leaves.{Leaves}
-use Rattle.air_symbolic.specs.Nodes.{tree_of, IsNode}
-use Rattle.air_symbolic.specs.Reach.{EachOperand}
+use Rattle.air_symbolic.specs.Nodes.{tree_of, IsNode, WellFormed}
 use Rattle.air_symbolic.specs.Trees.{term_of}
 use Rattle.air_symbolic.specs.declared.pools.expr.SymbolicExpr.{SymbolicExpr}
 use Rattle.air_symbolic.specs.declared.pools.expr.SymbolicExpr.TheVariants as node
@@ -13,22 +12,80 @@ use Rattle.air_builder.specs.laws.Filters.{means_kept}
 use Rattle.air_builder.specs.Refusals.{IsPastWindow, EachLeaf}
 use Rattle.air_author.specs.Expressions.{Made, Lasts}
 use Rattle.air_author.specs.Handing.{each_weaker, made_lasts}
-use Rattle.p3_air.specs.Tables.{IsMade, HasAt, OperandsMade}
+use Rattle.air_symbolic.specs.laws.Sharing.{found}
+use Rattle.p3_air.specs.declared.flat.step.Step.{Step}
+use Rattle.p3_air.specs.Plans.{number_at, IsPlaceOf, MakesPlace, StepMakes, IsSum, IsDifference, IsNegative, IsProduct}
+use Rattle.p3_air.specs.Tables.{IsMade, HasAt}
 
 -- what a table has at a place is what is read there
-pub read_is : {E : Type 0} (P : E → Type 0) (table : List (Option E)) (i j : ℕ) (r : E) → HasAt P table i → j ≡ i → get_or table j None ≡ Some r → P r
-read_is {E} P table i j r (x, e, p) q at = subst P (same (sym e ∙ subst (λ k. get_or table k None ≡ Some r) q at)) p
+pub read_is : {E : Type 0} (P : E → Type 0) (table : List E) (p : ℕ) (r : E) → HasAt P table p → slice_get table p ≡ Some r → P r
+read_is {E} P table p r (x, e, h) at = subst P (same (sym e ∙ at)) h
   where
     same : Some x ≡ Some r → x ≡ r
     same e = cc
 
--- what holds of each operand
-each_operand : {A : Type 0} {P Q : ℕ → Type 0} (n : SymbolicExpr A) → ((i : ℕ) → P i → Q i) → EachOperand P n → EachOperand Q n
-each_operand (node.Leaf a) f h = tt
-each_operand (node.Add x y d) f h = (f x h.0, f y h.1)
-each_operand (node.Sub x y d) f h = (f x h.0, f y h.1)
-each_operand (node.Neg x d) f h = f x h
-each_operand (node.Mul x y d) f h = (f x h.0, f y h.1)
+-- the terms of nodes that steps make
+module _ {A F : Type 0} (l : Leaves A F) (ns : List (SymbolicExpr A)) (numbers : List ℕ) (k : ℕ) where
+  pub sum_term : (i p q : ℕ) (n : SymbolicExpr A) → IsNode l ns i n → IsSum (IsPlaceOf numbers k p) (IsPlaceOf numbers k q) n → add_term (term_of l.term (tree_of ns (number_at numbers p))) (term_of l.term (tree_of ns (number_at numbers q))) ≡ term_of l.term (tree_of ns i)
+  sum_term i p q (node.Leaf a) is h = absurd h
+  sum_term i p q (node.Add x y d) is h = sym (ap (term_of l.term) is.tree ∙ ap₂ (λ u v. add_term (term_of l.term (tree_of ns u)) (term_of l.term (tree_of ns v))) h.0.1 h.1.1)
+  sum_term i p q (node.Sub x y d) is h = absurd h
+  sum_term i p q (node.Neg x d) is h = absurd h
+  sum_term i p q (node.Mul x y d) is h = absurd h
+
+  pub difference_term : (i p q : ℕ) (n : SymbolicExpr A) → IsNode l ns i n → IsDifference (IsPlaceOf numbers k p) (IsPlaceOf numbers k q) n → sub_term (term_of l.term (tree_of ns (number_at numbers p))) (term_of l.term (tree_of ns (number_at numbers q))) ≡ term_of l.term (tree_of ns i)
+  difference_term i p q (node.Leaf a) is h = absurd h
+  difference_term i p q (node.Add x y d) is h = absurd h
+  difference_term i p q (node.Sub x y d) is h = sym (ap (term_of l.term) is.tree ∙ ap₂ (λ u v. sub_term (term_of l.term (tree_of ns u)) (term_of l.term (tree_of ns v))) h.0.1 h.1.1)
+  difference_term i p q (node.Neg x d) is h = absurd h
+  difference_term i p q (node.Mul x y d) is h = absurd h
+
+  pub negative_term : (i p : ℕ) (n : SymbolicExpr A) → IsNode l ns i n → IsNegative (IsPlaceOf numbers k p) n → neg_term (term_of l.term (tree_of ns (number_at numbers p))) ≡ term_of l.term (tree_of ns i)
+  negative_term i p (node.Leaf a) is h = absurd h
+  negative_term i p (node.Add x y d) is h = absurd h
+  negative_term i p (node.Sub x y d) is h = absurd h
+  negative_term i p (node.Neg x d) is h = sym (ap (term_of l.term) is.tree ∙ ap (λ u. neg_term (term_of l.term (tree_of ns u))) h.1)
+  negative_term i p (node.Mul x y d) is h = absurd h
+
+  pub product_term : (i p q : ℕ) (n : SymbolicExpr A) → IsNode l ns i n → IsProduct (IsPlaceOf numbers k p) (IsPlaceOf numbers k q) n → mul_term (term_of l.term (tree_of ns (number_at numbers p))) (term_of l.term (tree_of ns (number_at numbers q))) ≡ term_of l.term (tree_of ns i)
+  product_term i p q (node.Leaf a) is h = absurd h
+  product_term i p q (node.Add x y d) is h = absurd h
+  product_term i p q (node.Sub x y d) is h = absurd h
+  product_term i p q (node.Neg x d) is h = absurd h
+  product_term i p q (node.Mul x y d) is h = sym (ap (term_of l.term) is.tree ∙ ap₂ (λ u v. mul_term (term_of l.term (tree_of ns u)) (term_of l.term (tree_of ns v))) h.0.1 h.1.1)
+
+  -- the node that a step makes
+  pub place_made : WellFormed l ns → number_at numbers k < length ns → (s : Step) → MakesPlace l ns numbers k s → (n : SymbolicExpr A) × IsNode l ns (number_at numbers k) n × StepMakes (IsPlaceOf numbers k) s n
+  place_made wf here s makes = let f : (n : SymbolicExpr A) × IsNode l ns (number_at numbers k) n = found l ns wf (number_at numbers k) here in (f.0, f.1, makes f.0 f.1)
+
+  -- the places of a step's operands are before it
+  pub sum_before : (p q : ℕ) (n : SymbolicExpr A) → IsSum (IsPlaceOf numbers k p) (IsPlaceOf numbers k q) n → (p < k) × (q < k)
+  sum_before p q (node.Leaf a) h = absurd h
+  sum_before p q (node.Add x y d) h = (h.0.0, h.1.0)
+  sum_before p q (node.Sub x y d) h = absurd h
+  sum_before p q (node.Neg x d) h = absurd h
+  sum_before p q (node.Mul x y d) h = absurd h
+
+  pub difference_before : (p q : ℕ) (n : SymbolicExpr A) → IsDifference (IsPlaceOf numbers k p) (IsPlaceOf numbers k q) n → (p < k) × (q < k)
+  difference_before p q (node.Leaf a) h = absurd h
+  difference_before p q (node.Add x y d) h = absurd h
+  difference_before p q (node.Sub x y d) h = (h.0.0, h.1.0)
+  difference_before p q (node.Neg x d) h = absurd h
+  difference_before p q (node.Mul x y d) h = absurd h
+
+  pub negative_before : (p : ℕ) (n : SymbolicExpr A) → IsNegative (IsPlaceOf numbers k p) n → p < k
+  negative_before p (node.Leaf a) h = absurd h
+  negative_before p (node.Add x y d) h = absurd h
+  negative_before p (node.Sub x y d) h = absurd h
+  negative_before p (node.Neg x d) h = h.0
+  negative_before p (node.Mul x y d) h = absurd h
+
+  pub product_before : (p q : ℕ) (n : SymbolicExpr A) → IsProduct (IsPlaceOf numbers k p) (IsPlaceOf numbers k q) n → (p < k) × (q < k)
+  product_before p q (node.Leaf a) h = absurd h
+  product_before p q (node.Add x y d) h = absurd h
+  product_before p q (node.Sub x y d) h = absurd h
+  product_before p q (node.Neg x d) h = absurd h
+  product_before p q (node.Mul x y d) h = (h.0.0, h.1.0)
 
 module _ {S R B F : Type 0} {view : BuilderView S R B F} (laws : BuilderLaws view) where
   open view use {grew, missing, refuses}
@@ -65,10 +122,12 @@ module _ {S R E F : Type 0} {view : BuilderView S R E F} (ring : RingLaws view) 
   pub there_before : (a b : S) (t : Term F) (x : E) → kept a b → IsMade (MeansIn view) missing b t x → EachLeaf (λ l. missing a l → ⊥) t
   there_before a b t x k h = each_weaker t (λ l n m. n (laws.missing_stays a b l k m)) h.leaves
 
-  -- a table's expressions of a node's operands are there, and will be
-  pub operands_last : {A : Type 0} {l : Leaves A F} {ns : List (SymbolicExpr A)} (table : List (Option E)) {i : ℕ} {n m : SymbolicExpr A} (a : S)
-      → OperandsMade (IsMade (MeansIn view) missing a) l ns table i → IsNode l ns i n → n ≡ m
-      → Lasts kept (λ b. EachOperand (λ j. HasAt (IsMade (MeansIn view) missing b (term_of l.term (tree_of ns j))) table j) m) a
-  operands_last {l = l} {ns = ns} table {n = n} {m = m} a made is e b k =
-      each_operand m (λ j h. (h.0, h.1, made_stays a b (term_of l.term (tree_of ns j)) h.0 k h.2))
-      (subst (λ o. EachOperand (λ j. HasAt (IsMade (MeansIn view) missing a (term_of l.term (tree_of ns j))) table j) o) e (made n is))
+  -- what a table has, it will have
+  pub at_lasts : (table : List E) (p : ℕ) (t : Term F) (a : S) → HasAt (IsMade (MeansIn view) missing a t) table p
+      → Lasts kept (λ b. HasAt (IsMade (MeansIn view) missing b t) table p) a
+  at_lasts table p t a h b k = (h.0, h.1, made_stays a b t h.0 k h.2)
+
+  pub both_last : (table : List E) (p q : ℕ) (t u : Term F) (a : S) → HasAt (IsMade (MeansIn view) missing a t) table p
+      → HasAt (IsMade (MeansIn view) missing a u) table q
+      → Lasts kept (λ b. HasAt (IsMade (MeansIn view) missing b t) table p × HasAt (IsMade (MeansIn view) missing b u) table q) a
+  both_last table p q t u a h i b k = (at_lasts table p t a h b k, at_lasts table q u a i b k)

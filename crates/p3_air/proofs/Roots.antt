@@ -1,16 +1,19 @@
 -- The expressions of roots, read from the table.
 use Rattle.std.specs.List.{AllZip}
-use Rattle.std.proofs.Common.{◌≡◌, ◌≢◌, ℕ, suc, ◌+◌, ◌<◌, List, [], ◌∷◌, ◌++◌, length, get_or, map, take, All, Option, None, Some, Result, Ok, Err, IfOk, IfErr, Vec, inl, sym, ap, subst, ◌∙◌, arith}
+use Rattle.std.proofs.Common.{◌≡◌, ℕ, zero, suc, ◌+◌, ◌<◌, List, [], ◌∷◌, ◌++◌, length, get_or, slice_get, map, take, All, Some, Result, Ok, Err, IfOk, IfErr, Vec, inl, sym, ap, subst, ◌∙◌, arith}
 use Rattle.std.specs.Global.{Global}
 use Rattle.std.proofs.lemmas.List.{take_more, get_or-map, length-map}
+use Rattle.std.proofs.lemmas.Option.{slice_get_within}
 use Rattle.std.proofs.lemmas.List.Elements.{All-map}
-use Rattle.air_field.specs.Term.{Term}
+use Rattle.air_field.specs.Term.{Leaf, Term}
 use Rattle.air_core.specs.declared.errors.AirError.{AirError}
 use Rattle.air_core.specs.declared.errors.AirError.TheVariants.{Memory}
 use Rattle.air_builder.specs.laws.Zips.{AllZip-joined}
 use Rattle.air_builder.specs.Builders.{MeansIn, BuilderView, RingLaws, BuilderLaws}
-use Rattle.air_builder.specs.Refusals.{EachLeaf}
-use Rattle.p3_air.specs.Tables.{IsMade, HasOne, HasAt, MadeAll, OrMemory}
+use Rattle.air_builder.specs.Assertion.{Assertion}
+use Rattle.air_builder.specs.Refusals.{PartOf, EachLeaf}
+use Rattle.air_author.specs.Expressions.{Made}
+use Rattle.p3_air.specs.Tables.{IsMade, HasAt, MadeAll, OrMemory}
 use Rattle.p3_air.proofs.Making.{there_before}
 
 -- what holds of each image holds of each element's image
@@ -20,12 +23,9 @@ all_of_map P f xs h k d lt =
     let within : k < length (map f xs) = omega (arith, lt, len) in
     subst P (get_or-map f xs k d (f d) lt) (h k (f d) within)
 
--- a place that has something isn't empty
-pub has_some : {E : Type 0} (P : E → Type 0) (o : Option E) → HasOne P o → o ≢ None
-has_some P o (x, e, p) n = none (sym e ∙ n)
-  where
-    none : Some x ≡ None → ⊥
-    none e = cc
+-- a place that has something is of the table
+pub has_within : {E : Type 0} (P : E → Type 0) (table : List E) (p : ℕ) → HasAt P table p → p < length table
+has_within P table p (x, e, h) = slice_get_within table p x e
 
 -- one root more was read
 pub one_more_read : {A B : Type 0} (R : A → B → Type 0) (xs : List A) (ys : List B) (k : ℕ) (x : A) (y : B)
@@ -35,9 +35,9 @@ one_more_read R xs ys k x y lt is h r =
     subst (λ v. AllZip R (xs ++ x ∷ []) v) (sym here) (AllZip-joined R xs (x ∷ []) (take k ys) (y ∷ []) h (r, tt))
 
 -- what was read of a table means what the table's entries do
-each_read : {E F : Type 0} (means : E → Term F → Type 0) (term : ℕ → Term F) (table : List (Option E)) (xs : List E)
+each_read : {E F : Type 0} (means : E → Term F → Type 0) (term : ℕ → Term F) (table : List E) (xs : List E)
     (roots : List ℕ)
-    → All (λ i. HasAt (λ x. means x (term i)) table i) roots → AllZip (λ x i. get_or table i None ≡ Some x) xs roots
+    → All (λ i. HasAt (λ x. means x (term i)) table i) roots → AllZip (λ x i. slice_get table i ≡ Some x) xs roots
     → AllZip means xs (map term roots)
 each_read means term table [] [] h e = tt
 each_read means term table [] (i ∷ roots) h e = absurd e
@@ -47,17 +47,17 @@ each_read {E} means term table (x ∷ xs) (i ∷ roots) h e = (first (h 0 i (ome
     same : (y : E) → Some y ≡ Some x → y ≡ x
     same y p = cc
 
-    first : HasAt (λ y. means y (term i)) table i → get_or table i None ≡ Some x → means x (term i)
+    first : HasAt (λ y. means y (term i)) table i → slice_get table i ≡ Some x → means x (term i)
     first (y, p, m) q = subst (λ z. means z (term i)) (same y (sym p ∙ q)) m
 
 module _ {S R E F : Type 0} {view : BuilderView S R E F} (ring : RingLaws view) (laws : BuilderLaws view) where
   open view use {grew, missing, refuses}
 
   -- each root's expression was made
-  pub all_made : (a b : S) (term : ℕ → Term F) (table : List (Option E)) (roots : List ℕ)
+  pub all_made : (a b : S) (term : ℕ → Term F) (table : List E) (roots : List ℕ)
       (r : Result (Vec E Global) AirError)
       → grew a b [] → All (λ i. HasAt (IsMade (MeansIn view) missing b (term i)) table i) roots
-      → IfOk r (λ xs. AllZip (λ x i. get_or table i None ≡ Some x) xs.items roots) → IfErr r (λ e. e ≡ Memory)
+      → IfOk r (λ xs. AllZip (λ x i. slice_get table i ≡ Some x) xs.items roots) → IfErr r (λ e. e ≡ Memory)
       → MadeAll (MeansIn view) grew missing (OrMemory refuses) a b r (map term roots)
   all_made a b term table roots (Ok xs) g h read memory = record {
     keeps = g;
@@ -70,4 +70,39 @@ module _ {S R E F : Type 0} {view : BuilderView S R E F} (ring : RingLaws view) 
     made = tt;
     there = tt;
     refused = λ ss all. inl memory;
+  }
+
+-- a list of one term has one expression
+pub has_first : {E F : Type 0} (P : E → Term F → Type 0) (xs : List E) (t : Term F) → AllZip P xs (t ∷ []) → 0 < length xs
+has_first P [] t z = absurd z
+has_first P (x ∷ xs) t z = omega arith
+
+first_has : {E F : Type 0} (P : E → Term F → Type 0) (xs : List E) (t : Term F) (x : E) → AllZip P xs (t ∷ []) → slice_get xs 0 ≡ Some x → P x t
+first_has P [] t x z at = absurd z
+first_has {E} P (y ∷ ys) t x z at = subst (λ v. P v t) (same at) z.0
+  where
+    same : Some y ≡ Some x → y ≡ x
+    same e = cc
+
+all_one : {A : Type 0} (P : A → Type 0) (x : A) → P x → All P (x ∷ [])
+all_one P x h zero d lt = h
+all_one P x h (suc k) d lt = absurd (omega (arith, lt))
+
+module _ {S E F X : Type 0} (means : S → E → Term F → Type 0) (grew : S → S → List (Assertion F) → Type 0)
+    (missing : S → Leaf → Type 0) (refuses : S → X → List (Assertion F) → Type 0) (a b : S) (t : Term F) where
+  -- what was made of a list of one term is made of the term
+  pub one_made : (xs : Vec E Global) (x : E) → MadeAll means grew missing refuses a b (Ok xs) (t ∷ []) → slice_get xs.items 0 ≡ Some x → Made means grew missing refuses a b (Ok x) t
+  one_made xs x h at = record {
+    keeps = h.keeps;
+    made = first_has (means b) xs.items t x h.made at;
+    there = h.there 0 t (omega arith);
+    refused = tt;
+  }
+
+  pub one_refused : (e : X) → MadeAll {E = E} means grew missing refuses a b (Err e) (t ∷ []) → Made {E = E} means grew missing refuses a b (Err e) t
+  one_refused e h = record {
+    keeps = h.keeps;
+    made = tt;
+    there = tt;
+    refused = λ ss p. h.refused ss (all_one (λ u. PartOf u ss) t p);
   }

@@ -4,7 +4,7 @@ use Rattle.air_field.specs.Ring.{CommRing, itself}
 use Rattle.air_symbolic.specs.BaseLeaves.{base_reads}
 use Rattle.air_builder.specs.Assertion.{Assertion, Base}
 use Rattle.air_core.specs.declared.errors.AirError.{AirError}
-use Rattle.air_core.specs.declared.errors.AirError.TheVariants.{IndexPastTotal}
+use Rattle.air_core.specs.declared.errors.AirError.TheVariants.{IndexPastTotal, Memory}
 use Rattle.air_recording.specs.Kinds.{base_terms}
 use Rattle.air_recording.specs.Layouts.{first_past}
 use Rattle.air_recording.specs.Recorded.{EachRecords, terms_of}
@@ -15,10 +15,11 @@ abbrev pub zero_at_recorded : {F EF : Type 0} → Recorded F EF → List (Assert
 zero_at_recorded recorded =
     map (λ t. Base t) (terms_of base_reads recorded.pool.0 recorded.base.items)
 
--- the first recorded base number that isn't one of the base pool
+-- the first recorded base number that isn't one of the base pool, or want of memory
 abbrev pub RecordedAirRefuses : {F EF : Type 0} → Recorded F EF → AirError → Type 0
 RecordedAirRefuses recorded (IndexPastTotal index total) =
     (total ≡ length recorded.pool.0.1) × (first_past total recorded.base.items ≡ Some index)
+RecordedAirRefuses recorded Memory = Unit {0}
 RecordedAirRefuses recorded _ = ⊥
 
 -- each declared base term is recorded by the one that another list declares, in order

@@ -1,2 +1,3 @@
 -- Laws of what specs/ defines: implementations cite them, and the layers above build on them.
 pub mod FlatAirs
+pub mod Plans

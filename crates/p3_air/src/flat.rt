@@ -3,6 +3,8 @@
 pub mod flat_air;
 mod leaves;
 mod nodes;
+mod plan;
 mod pushing;
 pub mod resolving;
+mod step;
 mod table;

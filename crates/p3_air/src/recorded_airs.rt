@@ -1,8 +1,9 @@
 //! A recording as an AIR.
-ghost use Rattle.std.specs.Prelude.{◌≡◌, List, IfOk, IfErr, IsOkAnd};
+ghost use Rattle.std.specs.Prelude.{◌≡◌, List, IfOk, IfErr};
 ghost use Rattle.air_symbolic.specs.BaseLeaves.{base_reads};
 ghost use Rattle.air_symbolic.specs.ExtLeaves.{ext_reads};
 ghost use Rattle.air_symbolic.specs.Pools.{IsPool};
+ghost use Rattle.air_core.specs.declared.errors.AirError.{AirError};
 ghost use Rattle.air_builder.specs.Assertion.{Assertion};
 ghost use Rattle.air_author.specs.Constraints.{Asserted};
 ghost use Rattle.air_author.specs.Expressions.{Lasts};
@@ -61,8 +62,9 @@ fn first_past<A: Copy>(numbers: &[ExprId<A>], total: usize) -> Option<ExprId<A>>
 /// extension constraints are left out.
 ///
 /// The base pool must be as its calls left it; each call that records an AIR, and `finish_recording`, promise that.
-/// What was recorded of an AIR with its base constraints is never refused, and the declared list then records these.
-/// Of numbers that were put together otherwise the first that isn't in the base pool is refused (`IndexPastTotal`).
+/// Of what was recorded of an AIR with its base constraints nothing but memory can be wanting, and the declared list
+/// then records these. Of numbers that were put together otherwise the first that isn't in the base pool is refused
+/// (`IndexPastTotal`). What the numbers reach is looked up here, once, which takes memory (`Memory`).
 pub fn recorded_air<F: Field, EF: ExtensionField<F>>(
     recorded: Recorded<F, EF>,
     width: usize,
@@ -79,8 +81,11 @@ pub fn recorded_air<F: Field, EF: ExtensionField<F>>(
     ensures cells { IfOk result (λ a. a.cells ≡ cells) }
     ensures of_an_air { (declared : List (Assertion F)) →
         RecordsBase F.ring EF.over base_reads recorded.pool.0 recorded.base.items declared →
-        IsOkAnd result (λ a.
+        IfOk result (λ a.
         RecordsBaseTerms F.ring (⟦<FlatAir<F> as BaseAir<F>>⟧.declaration a).declared declared) }
+    ensures only_memory { (declared : List (Assertion F)) →
+        RecordsBase F.ring EF.over base_reads recorded.pool.0 recorded.base.items declared →
+        IfErr result (λ e. e ≡ AirError.Memory) }
     ensures refused { IfErr result (RecordedAirRefuses recorded) }
 {
     let Recorded { pool, base, .. } = recorded;
@@ -92,5 +97,6 @@ pub fn recorded_air<F: Field, EF: ExtensionField<F>>(
             total,
         });
     }
-    Ok(FlatAir::new(pool, base, width, num_public_values, periodic, cells))
+    let air = FlatAir::new(pool, base, width, num_public_values, periodic, cells)?;
+    Ok(air)
 }

@@ -1,11 +1,15 @@
 //! The AIR that expressions of a pool are.
-ghost use Rattle.std.specs.Prelude.{◌≡◌, ◌<◌, length, All, None};
-ghost use Rattle.air_symbolic.specs.BaseLeaves.{base_reads};
+ghost use Rattle.std.specs.Prelude.{◌≡◌, ◌<◌, length, All, None, IfOk, IfErr};
+ghost use Rattle.air_symbolic.specs.BaseLeaves.{base_leaves, base_reads};
 ghost use Rattle.air_symbolic.specs.Pools.{IsPool};
+ghost use Rattle.air_core.specs.declared.errors.AirError.{AirError};
 ghost use Rattle.p3_air.specs.FlatAirs.{RootsIn, zero_at_roots};
+ghost use Rattle.p3_air.specs.Plans.{IsPlan};
 ghost use Rattle.p3_air.specs.laws.FlatAirs.{RootsIn-prop};
+ghost use Rattle.p3_air.specs.laws.Plans.{IsPlan-prop};
 
-use crate::flat::resolving::resolve_all;
+use crate::flat::plan::{Plan, plan_of};
+use crate::flat::table::make_planned;
 use air_builder::{Air, AirBuilder, AirError, BaseAir, BoundaryPublic};
 use air_field::{Field, RowMajorMatrix};
 use air_symbolic::{BaseLeaf, ExprId, ExprPool};
@@ -24,13 +28,20 @@ pub struct FlatAir<F: Field> {
     pub periodic: Vec<Vec<F>>,
     /// The cells of the main trace that hold public values.
     pub cells: Vec<BoundaryPublic>,
+    /// How the roots' expressions are made at each row.
+    plan: Plan<F>,
     /// The pool is one, and the roots are in it.
     pub ghost roots_in: { RootsIn pool roots.items } by { RootsIn-prop pool roots.items },
+    /// The plan is that of the roots.
+    ghost planned: { IsPlan base_leaves pool.1 roots.items plan.numbers.items plan.steps.items
+        plan.places.items } by { IsPlan-prop base_leaves pool.1 roots.items plan.numbers.items
+        plan.steps.items plan.places.items },
 }
 
 impl<F: Field> FlatAir<F> {
     /// The AIR that asserts the roots in order; its main trace has `width` columns. The pool must be as its calls left
-    /// it, and each root a number of it.
+    /// it, and each root a number of it. What the roots reach is looked up here, once, and no longer at a row. It refuses
+    /// for want of memory alone (`Memory`).
     pub fn new(
         pool: ExprPool<BaseLeaf<F>>,
         roots: Vec<ExprId<BaseLeaf<F>>>,
@@ -38,24 +49,27 @@ impl<F: Field> FlatAir<F> {
         num_public_values: usize,
         periodic: Vec<Vec<F>>,
         cells: Vec<BoundaryPublic>,
-    ) -> Self
+    ) -> Result<Self, AirError>
         requires pool { IsPool base_reads pool }
         requires here { All (λ i. i < length pool.1) roots.items }
-        ensures pool { result.pool ≡ pool }
-        ensures roots { result.roots ≡ roots }
-        ensures width { result.width ≡ width }
-        ensures num_public_values { result.num_public_values ≡ num_public_values }
-        ensures periodic { result.periodic ≡ periodic }
-        ensures cells { result.cells ≡ cells }
+        ensures pool { IfOk result (λ a. a.pool ≡ pool) }
+        ensures roots { IfOk result (λ a. a.roots ≡ roots) }
+        ensures width { IfOk result (λ a. a.width ≡ width) }
+        ensures num_public_values { IfOk result (λ a. a.num_public_values ≡ num_public_values) }
+        ensures periodic { IfOk result (λ a. a.periodic ≡ periodic) }
+        ensures cells { IfOk result (λ a. a.cells ≡ cells) }
+        ensures refused { IfErr result (λ e. e ≡ AirError.Memory) }
     {
-        FlatAir {
+        let plan = plan_of(*roots.allocator(), &pool, &roots)?;
+        Ok(FlatAir {
             pool,
             roots,
             width,
             num_public_values,
             periodic,
             cells,
-        }
+            plan,
+        })
     }
 }
 
@@ -96,7 +110,7 @@ impl<AB: AirBuilder> Air<AB> for FlatAir<AB::F> {
             return Ok(());
         }
         let alloc = *self.roots.allocator();
-        let expressions = resolve_all(alloc, &self.pool, &self.roots, builder)?;
+        let expressions = make_planned(alloc, &self.pool, &self.plan, builder)?;
         builder.assert_zeros_slice(&expressions)
     }
 }

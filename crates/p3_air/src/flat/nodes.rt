@@ -1,77 +1,109 @@
-//! The expressions of nodes.
-ghost use Rattle.std.specs.Prelude.{◌≡◌, ◌≢◌, ◌<◌, length, get_or, Some, None};
+//! The expressions of places.
+ghost use Rattle.std.specs.Prelude.{◌≡◌, ◌<◌, ℕ, length, Some, slice_get};
 ghost use Rattle.air_symbolic.specs.BaseLeaves.{base_leaves, base_reads};
+ghost use Rattle.air_symbolic.specs.Nodes.{IsNode};
 ghost use Rattle.air_symbolic.specs.Pools.{IsPool, term_at};
+ghost use Rattle.air_symbolic.specs.declared.leaves.base_leaf.BaseLeaf.{BaseLeaf};
+ghost use Rattle.air_symbolic.specs.declared.pools.expr.SymbolicExpr.{SymbolicExpr};
 ghost use Rattle.air_builder.specs.Builders.{Means};
 ghost use Rattle.air_author.specs.Expressions.{Made};
-ghost use Rattle.p3_air.specs.Tables.{IsMade, HasAt, OperandsMade};
+ghost use Rattle.p3_air.specs.Plans.{number_at, IsLeaf, MakesPlace};
+ghost use Rattle.p3_air.specs.Tables.{IsMade, HasAt, TableMade};
 
 use crate::flat::leaves::make_leaf;
+use crate::flat::step::Step;
 use air_author::{Difference, Expression, Negative, Product, Sum};
 use air_builder::{AirBuilder, AirError};
 use air_field::{Algebra, Field};
 use air_symbolic::{BaseLeaf, ExprId, ExprPool, SymbolicExpr};
 
 /// The expression at a place of the table.
-pub(crate) fn known<E: Copy>(table: &[Option<E>], place: usize) -> E
-    requires { get_or table.now place None ≢ None }
-    ensures { get_or table.now place None ≡ Some result }
+#[inline(always)]
+pub(crate) fn known<E: Copy>(table: &[E], place: usize) -> E
+    requires { place < length table.now }
+    ensures { slice_get table.now place ≡ Some result }
 {
-    match table[place] {
-        Some(x) => x,
-        None => unreachable!(),
-    }
+    table[place]
 }
 
-/// The expression of a number of the pool, which the table has.
+/// The expression of a place's number, which the table has.
 #[derive(Drop)]
-struct AtNumber<'a, E, F: Field>(
+struct AtPlace<'a, E, F: Field>(
     &'a ExprPool<BaseLeaf<F>>,
-    &'a [Option<E>],
-    ExprId<BaseLeaf<F>>,
+    &'a [ExprId<BaseLeaf<F>>],
+    &'a [E],
+    usize,
 );
 
-impl<'a, AB: AirBuilder> Expression<AB> for AtNumber<'a, AB::Expr, AB::F> {
-    ghost term = { λ s. term_at base_reads s.0.now s.2 };
+impl<'a, AB: AirBuilder> Expression<AB> for AtPlace<'a, AB::Expr, AB::F> {
+    ghost term = { λ s. term_at base_reads s.0.now (number_at s.1.now s.3) };
 
     ghost holds = { λ s b. HasAt (IsMade (Means AB.Ring.means AB.ring_of AB.stands) AB.missing b
-        (term_at base_reads s.0.now s.2)) s.1.now s.2 };
+        (term_at base_reads s.0.now (number_at s.1.now s.3))) s.2.now s.3 };
 
+    #[inline(always)]
     fn make(&self, _builder: &mut AB) -> Result<AB::Expr, AirError> {
-        Ok(known(self.1, self.2.number()))
+        Ok(known(self.2, self.3))
     }
 }
 
-/// Makes the expression of a number out of those of its operands.
-pub(crate) fn make_node<AB: AirBuilder>(
+// Makes the expression of a number whose node is a leaf.
+#[inline(always)]
+fn make_number<AB: AirBuilder>(
     builder: &mut AB,
     pool: &ExprPool<BaseLeaf<AB::F>>,
     id: ExprId<BaseLeaf<AB::F>>,
-    table: &[Option<AB::Expr>],
 ) -> Result<AB::Expr, AirError>
     requires ready { AB.ready builder.old }
     requires pool { IsPool base_reads pool.now }
     requires here { id < length pool.now.1 }
-    requires operands { OperandsMade
-        (IsMade (Means AB.Ring.means AB.ring_of AB.stands) AB.missing builder.old)
-        base_leaves pool.now.1 table.now id }
+    requires leaf { (n : SymbolicExpr (BaseLeaf AB.F)) →
+        IsNode base_leaves pool.now.1 id n → IsLeaf n }
     ensures { Made (Means AB.Ring.means AB.ring_of AB.stands) AB.grew AB.missing AB.refuses
         builder.old builder.new result (term_at base_reads pool.now id) }
 {
     match *pool.node(id) {
         SymbolicExpr::Leaf(leaf) => make_leaf(builder, leaf),
-        SymbolicExpr::Add { x, y, .. } => Sum(
-            AtNumber(pool, table, x),
-            AtNumber(pool, table, y),
+        _ => unreachable!(),
+    }
+}
+
+/// Makes the expression of a place's number by its step, out of those at places before it.
+#[inline(always)]
+pub(crate) fn make_step<AB: AirBuilder>(
+    builder: &mut AB,
+    pool: &ExprPool<BaseLeaf<AB::F>>,
+    numbers: &[ExprId<BaseLeaf<AB::F>>],
+    place: usize,
+    step: Step,
+    table: &[AB::Expr],
+) -> Result<AB::Expr, AirError>
+    requires ready { AB.ready builder.old }
+    requires pool { IsPool base_reads pool.now }
+    requires within { place < length numbers.now }
+    requires here { number_at numbers.now place < length pool.now.1 }
+    requires makes { MakesPlace base_leaves pool.now.1 numbers.now place step }
+    requires table { TableMade
+        (IsMade (Means AB.Ring.means AB.ring_of AB.stands) AB.missing builder.old)
+        (term_at base_reads pool.now) numbers.now table.now place }
+    ensures { Made (Means AB.Ring.means AB.ring_of AB.stands) AB.grew AB.missing AB.refuses
+        builder.old builder.new result
+        (term_at base_reads pool.now (number_at numbers.now place)) }
+{
+    match step {
+        Step::Leaf => make_number(builder, pool, numbers[place]),
+        Step::Add(x, y) => Sum(
+            AtPlace(pool, numbers, table, x),
+            AtPlace(pool, numbers, table, y),
         ).make(builder),
-        SymbolicExpr::Sub { x, y, .. } => Difference(
-            AtNumber(pool, table, x),
-            AtNumber(pool, table, y),
+        Step::Sub(x, y) => Difference(
+            AtPlace(pool, numbers, table, x),
+            AtPlace(pool, numbers, table, y),
         ).make(builder),
-        SymbolicExpr::Neg { x, .. } => Negative(AtNumber(pool, table, x)).make(builder),
-        SymbolicExpr::Mul { x, y, .. } => Product(
-            AtNumber(pool, table, x),
-            AtNumber(pool, table, y),
+        Step::Neg(x) => Negative(AtPlace(pool, numbers, table, x)).make(builder),
+        Step::Mul(x, y) => Product(
+            AtPlace(pool, numbers, table, x),
+            AtPlace(pool, numbers, table, y),
         ).make(builder),
     }
 }

@@ -1,71 +1,83 @@
-//! The expressions of what roots reach, each made once.
-ghost use Rattle.std.specs.Prelude.{◌<◌, List, [], length, All, IfSome, IfOk, IfErr};
+//! The expressions that a plan makes, each once.
+ghost use Rattle.std.specs.List.{AllZip};
+ghost use Rattle.std.specs.Prelude.{◌≡◌, ◌<◌, List, [], length, map, All, Some, IfOk, IfErr, slice_get};
 ghost use Rattle.air_symbolic.specs.BaseLeaves.{base_leaves, base_reads};
 ghost use Rattle.air_symbolic.specs.Pools.{IsPool, term_at};
+ghost use Rattle.air_core.specs.declared.errors.AirError.{AirError};
 ghost use Rattle.air_builder.specs.Assertion.{Assertion};
 ghost use Rattle.air_builder.specs.Builders.{Means};
 ghost use Rattle.air_builder.specs.Refusals.{PartOf};
-ghost use Rattle.p3_air.specs.Tables.{IsMade, HasOne, HasAt, OperandsMade, RefusedAt, OrMemory};
+ghost use Rattle.p3_air.specs.Plans.{number_at, IsPlan};
+ghost use Rattle.p3_air.specs.Tables.{IsMade, TableMade, MadeAll, OrMemory};
 
-use crate::flat::nodes::make_node;
+use crate::flat::nodes::{known, make_step};
+use crate::flat::plan::Plan;
 use crate::flat::pushing::push;
 use air_builder::{AirBuilder, AirError};
 use air_field::Algebra;
-use air_symbolic::{BaseLeaf, ExprId, ExprPool, reached};
+use air_symbolic::{BaseLeaf, ExprPool};
 use std::alloc::Global;
 
-// The expression of what is marked at a place, out of those of smaller numbers.
-fn make_marked<AB: AirBuilder>(
-    builder: &mut AB,
-    pool: &ExprPool<BaseLeaf<AB::F>>,
-    mark: Option<ExprId<BaseLeaf<AB::F>>>,
-    table: &[Option<AB::Expr>],
-) -> Result<Option<AB::Expr>, AirError>
-    requires ready { AB.ready builder.old }
-    requires pool { IsPool base_reads pool.now }
-    requires here { IfSome mark (λ i. i < length pool.now.1) }
-    requires operands { IfSome mark (OperandsMade
-        (IsMade (Means AB.Ring.means AB.ring_of AB.stands) AB.missing builder.old)
-        base_leaves pool.now.1 table.now) }
-    ensures keeps { AB.grew builder.old builder.new [] }
-    ensures made { IfOk result (λ x. IfSome mark (λ i. HasOne
-        (IsMade (Means AB.Ring.means AB.ring_of AB.stands) AB.missing builder.new
-        (term_at base_reads pool.now i)) x)) }
-    ensures refused { IfErr result (λ e. RefusedAt (λ i ss.
-        PartOf (term_at base_reads pool.now i) ss → AB.refuses builder.old e ss) mark) }
-{
-    match mark {
-        Some(id) => {
-            let x = make_node(builder, pool, id, table)?;
-            Ok(Some(x))
-        }
-        None => Ok(None),
-    }
-}
-
-/// The expressions of what the roots reach, by number.
-pub(crate) fn make_reached<AB: AirBuilder>(
+/// The expressions of the plan's numbers, in order.
+pub(crate) fn make_places<AB: AirBuilder>(
     alloc: Global,
     pool: &ExprPool<BaseLeaf<AB::F>>,
-    roots: &[ExprId<BaseLeaf<AB::F>>],
+    plan: &Plan<AB::F>,
     builder: &mut AB,
-) -> Result<Vec<Option<AB::Expr>>, AirError>
+) -> Result<Vec<AB::Expr>, AirError>
     requires ready { AB.ready builder.old }
     requires pool { IsPool base_reads pool.now }
-    requires here { All (λ i. i < length pool.now.1) roots.now }
+    requires planned { IsPlan base_leaves pool.now.1
+        (map (number_at plan.now.numbers.items) plan.now.places.items)
+        plan.now.numbers.items plan.now.steps.items plan.now.places.items }
     ensures keeps { AB.grew builder.old builder.new [] }
-    ensures made { IfOk result (λ table. All (λ i. HasAt
-        (IsMade (Means AB.Ring.means AB.ring_of AB.stands) AB.missing builder.new
-        (term_at base_reads pool.now i)) table.items i) roots.now) }
+    ensures made { IfOk result (λ table. TableMade
+        (IsMade (Means AB.Ring.means AB.ring_of AB.stands) AB.missing builder.new)
+        (term_at base_reads pool.now) plan.now.numbers.items table.items
+        (length plan.now.numbers.items)) }
     ensures refused { IfErr result (λ e. (ss : List (Assertion AB.F)) →
-        All (λ i. PartOf (term_at base_reads pool.now i) ss) roots.now →
-        OrMemory AB.refuses builder.old e ss) }
+        All (λ p. PartOf (term_at base_reads pool.now (number_at plan.now.numbers.items p)) ss)
+        plan.now.places.items → OrMemory AB.refuses builder.old e ss) }
 {
-    let marks = reached(alloc, pool, roots)?;
-    let mut table = Vec::new(alloc);
-    for mark in &marks {
-        let made = make_marked(builder, pool, *mark, &table)?;
-        push(&mut table, made)?;
+    let mut table = Vec::with_capacity(alloc, plan.steps.len())?;
+    for step in &plan.steps {
+        let x = make_step(builder, pool, &plan.numbers, table.len(), *step, &table)?;
+        push(&mut table, x)?;
     }
     Ok(table)
+}
+
+// The expressions at the places, in order.
+fn read_places<E: Copy>(alloc: Global, table: &[E], places: &[usize]) -> Result<Vec<E>, AirError>
+    requires { All (λ p. p < length table.now) places.now }
+    ensures read { IfOk result (λ xs.
+        AllZip (λ x p. slice_get table.now p ≡ Some x) xs.items places.now) }
+    ensures refused { IfErr result (λ e. e ≡ AirError.Memory) }
+{
+    let mut expressions = Vec::with_capacity(alloc, places.len())?;
+    for place in places {
+        push(&mut expressions, known(table, *place))?;
+    }
+    Ok(expressions)
+}
+
+/// The expressions of the plan's roots, in order.
+pub(crate) fn make_planned<AB: AirBuilder>(
+    alloc: Global,
+    pool: &ExprPool<BaseLeaf<AB::F>>,
+    plan: &Plan<AB::F>,
+    builder: &mut AB,
+) -> Result<Vec<AB::Expr>, AirError>
+    requires ready { AB.ready builder.old }
+    requires pool { IsPool base_reads pool.now }
+    requires planned { IsPlan base_leaves pool.now.1
+        (map (number_at plan.now.numbers.items) plan.now.places.items)
+        plan.now.numbers.items plan.now.steps.items plan.now.places.items }
+    ensures { MadeAll (Means AB.Ring.means AB.ring_of AB.stands)
+        AB.grew AB.missing (OrMemory AB.refuses) builder.old builder.new result
+        (map (λ p. term_at base_reads pool.now (number_at plan.now.numbers.items p))
+        plan.now.places.items) }
+{
+    let table = make_places(alloc, pool, plan, builder)?;
+    read_places(alloc, &table, &plan.places)
 }

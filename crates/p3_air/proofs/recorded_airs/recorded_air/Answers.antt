@@ -14,6 +14,13 @@ returns-in-Some-clause-of_an_air g c declared h =
     let clash : None ≡ Some c.in-Some.id = none ∙ sym found in
     cc
 
+pub returns-in-Some-clause-only_memory : goal.returns-in-Some-clause-only_memory
+returns-in-Some-clause-only_memory g c declared h =
+    let none = none_past g.F.Field.ring base_reads c.args.recorded.pool.0 c.args.recorded.base.items (base_terms declared) h.means in
+    let found : Some c.in-Some.id ≡ first_past (length c.args.recorded.pool.0.1) c.args.recorded.base.items = rw (c.deref.ensures.value, c.len-total.ensures, c.into_base-pool.ensures.base) at c.in-Some.ensures in
+    let clash : None ≡ Some c.in-Some.id = none ∙ sym found in
+    cc
+
 pub returns-in-Some-clause-refused : goal.returns-in-Some-clause-refused
 returns-in-Some-clause-refused g c =
     let total = c.len-total.ensures ∙ ap (λ p. length p.1) c.into_base-pool.ensures.base in
@@ -26,13 +33,13 @@ new-requires-clause-here g c =
     below-none_past _ _ none
 
 pub returns-clause-of_an_air : goal.returns-clause-of_an_air
-returns-clause-of_an_air g c declared h = records_zero_at g.F.Field.ring _ _ _ _ declared (c.new.ensures.pool ∙ c.into_base-pool.ensures.base) (ap (λ v. v.items) c.new.ensures.roots) h.terms
+returns-clause-of_an_air g c declared h = records_zero_at g.F.Field.ring _ _ _ _ declared (c.in_ok-air.ensures.pool ∙ c.into_base-pool.ensures.base) (ap (λ v. v.items) c.in_ok-air.ensures.roots) h.terms
 
 pub returns-clause-width : goal.returns-clause-width
-returns-clause-width g c = c.new.ensures.width
+returns-clause-width g c = c.in_ok-air.ensures.width
 
 pub returns-clause-num_public_values : goal.returns-clause-num_public_values
-returns-clause-num_public_values g c = c.new.ensures.num_public_values
+returns-clause-num_public_values g c = c.in_ok-air.ensures.num_public_values
 
 pub returns-clause-declared : goal.returns-clause-declared
-returns-clause-declared g c = ap₂ (λ p r. zero_at_roots p r) (c.new.ensures.pool ∙ c.into_base-pool.ensures.base) (ap (λ v. v.items) c.new.ensures.roots)
+returns-clause-declared g c = ap₂ (λ p r. zero_at_roots p r) (c.in_ok-air.ensures.pool ∙ c.into_base-pool.ensures.base) (ap (λ v. v.items) c.in_ok-air.ensures.roots)

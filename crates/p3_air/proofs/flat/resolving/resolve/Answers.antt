@@ -1,32 +1,25 @@
-use Rattle.std.proofs.Common.{[], get_or, None, arith, subst, sym}
+use Rattle.std.proofs.Common.{◌<◌, length, subst, sym}
+use Rattle.std.proofs.lemmas.Result.{err_from_is_err_and}
 use Rattle.air_symbolic.specs.BaseLeaves.{base_reads}
 use Rattle.air_symbolic.specs.Pools.{term_at}
 use Rattle.air_builder.specs.Builders.{Means}
-use Rattle.p3_air.specs.Tables.{IsMade, HasAt}
-use Rattle.p3_air.proofs.Making.{read_is, there_before}
-use Rattle.p3_air.proofs.Roots.{has_some}
+use Rattle.p3_air.specs.Tables.{OrMemory}
+use Rattle.p3_air.proofs.Roots.{has_first, one_made, one_refused}
 use Rattle.p3_air.proofs.flat.resolving.resolve.Goals as goal
+
+pub returns-in_err-expressions : goal.returns-in_err-expressions
+returns-in_err-expressions g c =
+    let A = g.AB.AirBuilder in
+    let p = err_from_is_err_and c.from_residual.result c.from_residual.ensures.1 in
+    rw (p.1, p.2) (one_refused (Means g.AB.Ring.Algebra.means A.ring_of A.stands) A.grew A.missing (OrMemory A.refuses) c.args.builder.now c.resolve_all.new.builder (term_at base_reads c.args.pool.now c.args.id) c.in_err-expressions.field-0.0 c.in_err-expressions.ensures)
 
 pub known-requires : goal.known-requires
 known-requires g c =
     let A = g.AB.AirBuilder in
-    let made = IsMade (Means g.AB.Ring.Algebra.means A.ring_of A.stands) A.missing c.make_reached.new.builder (term_at base_reads c.args.pool.now c.args.id) in
-    let h = c.in_ok-table.ensures.made 0 c.args.id (omega arith) in
-    rw (c.number.ensures, c.deref.ensures.value) (has_some made (get_or c.in_ok-table.table.items c.args.id None) h)
+    subst (λ v. 0 < length v) (sym c.deref.ensures.value)
+    (has_first (Means g.AB.Ring.Algebra.means A.ring_of A.stands c.resolve_all.new.builder) c.in_ok-expressions.expressions.items (term_at base_reads c.args.pool.now c.args.id) c.in_ok-expressions.ensures.made)
 
 pub returns : goal.returns
 returns g c =
     let A = g.AB.AirBuilder in
-    let ring = g.met.AB.Ring.Algebra.laws in
-    let laws = g.met.AB.AirBuilder.laws in
-    let term = term_at base_reads c.args.pool.now c.args.id in
-    let made = IsMade (Means g.AB.Ring.Algebra.means A.ring_of A.stands) A.missing c.make_reached.new.builder term in
-    let h = c.in_ok-table.ensures.made 0 c.args.id (omega arith) in
-    let k = subst (λ t. HasAt made t c.args.id) (sym c.deref.ensures.value) h in
-    let m = read_is made c.deref.result.now c.args.id _ c.known.result k c.number.ensures c.known.ensures in
-    record {
-      keeps = c.make_reached.ensures.keeps;
-      made = m.meant;
-      there = there_before ring laws _ _ term c.known.result (laws.by_growth _ _ [] c.make_reached.ensures.keeps) m;
-      refused = tt;
-    }
+    one_made (Means g.AB.Ring.Algebra.means A.ring_of A.stands) A.grew A.missing (OrMemory A.refuses) c.args.builder.now c.resolve_all.new.builder (term_at base_reads c.args.pool.now c.args.id) c.in_ok-expressions.expressions c.known.result c.in_ok-expressions.ensures (rw c.deref.ensures.value at c.known.ensures)

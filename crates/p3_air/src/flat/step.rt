@@ -1,0 +1,11 @@
+//! The steps in which the expressions of roots are made.
+
+/// How the expression of a place is made: of its own node's leaf, or of the expressions at places before it.
+#[derive(Clone, Copy, Drop)]
+pub(crate) enum Step {
+    Leaf,
+    Add(usize, usize),
+    Sub(usize, usize),
+    Neg(usize),
+    Mul(usize, usize),
+}
