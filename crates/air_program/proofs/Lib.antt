@@ -16,3 +16,5 @@ pub mod Trees
 pub mod Agreement
 pub mod MemberLaws
 pub mod InputLaws
+pub mod TokenLemmas
+pub mod PartLemmas

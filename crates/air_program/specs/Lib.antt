@@ -14,3 +14,4 @@ pub mod Members
 pub mod Readers
 pub mod Input
 pub mod Seen
+pub mod Parts

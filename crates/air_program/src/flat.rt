@@ -1,35 +1,42 @@
 //! The answer to a JSON object: an AIR whose constraints are lists of nodes, and a trace of it.
 
 ghost use Rattle.std.specs.Prelude.{◌≡◌, ◌<◌, ◌⊎◌, length, All, IfOk, IfErr, string_bytes};
+ghost use Rattle.serde_json.specs.Data.{Data};
 ghost use Rattle.serde_json.specs.View.{view};
 ghost use Rattle.air_symbolic.specs.BaseLeaves.{base_reads};
 ghost use Rattle.air_symbolic.specs.Pools.{IsPool};
 ghost use Rattle.air_program.specs.Answer.{AuditFinds};
 ghost use Rattle.air_program.specs.FlatAnswer.{StandsFor, HasNoValue, Spells, given_flat, AuditRefusesInput, IsFlatAnswer};
+ghost use Rattle.air_program.specs.Parts.{ArePartsOf};
 ghost use Rattle.air_program.specs.Requests.{MayRefuse};
 ghost use Rattle.air_program.specs.Texts.{found};
 
 use crate::answer::{findings_of, told};
 use crate::commands::Request;
-use crate::flat_input::input::{FlatInput, flat_input_from};
+use crate::flat_input::input::{FlatInput, input_from};
+use crate::flat_input::parts::{Parts, parts_of};
+use crate::flat_input::text::TextFault;
 use crate::refusals::Refusal;
 use crate::texts::Findings;
 use air_builder::AirError;
 use air_field::BabyBear;
 use p3_air::FlatAir;
-use serde_json::Value;
 use std::alloc::Global;
 
-/// The JSON value that the bytes stand for.
-fn value_of(alloc: Global, bytes: &[u8]) -> Result<Value, Refusal>
-    ensures value { IfOk result (λ v. StandsFor bytes.now (view v)) }
+/// The parts of the JSON value that the bytes stand for.
+fn parts_from(alloc: Global, bytes: &[u8]) -> Result<Parts, Refusal>
+    ensures parts { IfOk result (λ p. (d : Data) × StandsFor bytes.now d
+        × ArePartsOf d (view p.rest) p.constraints) }
     ensures refused { IfErr result (λ why. (why ≡ Refusal.Memory)
         ⊎ ((why ≡ Refusal.Json) × HasNoValue bytes.now)) }
 {
-    match Value::from_slice(alloc, bytes) {
-        Ok(value) => Ok(value),
-        Err(error) if error.is_memory() => Err(Refusal::Memory),
-        Err(_) => Err(Refusal::Json),
+    let Ok(text) = str::from_utf8(bytes) else {
+        return Err(Refusal::Json);
+    };
+    match parts_of(alloc, text) {
+        Ok(parts) => Ok(parts),
+        Err(TextFault::Memory) => Err(Refusal::Memory),
+        Err(TextFault::Json) => Err(Refusal::Json),
     }
 }
 
@@ -40,8 +47,8 @@ fn input_of(alloc: Global, bytes: &[u8]) -> Result<FlatInput, Refusal>
     ensures read { IfOk result (Spells bytes.now) }
     ensures refused { IfErr result (MayRefuse ⟦<BabyBear as PartialEq>⟧.eq Request.Flat bytes.now) }
 {
-    let value = value_of(alloc, bytes)?;
-    Ok(flat_input_from(alloc, &value)?)
+    let Parts { rest, constraints } = parts_from(alloc, bytes)?;
+    Ok(input_from(alloc, &rest, constraints)?)
 }
 
 /// Audits that the roots are zero on the trace.

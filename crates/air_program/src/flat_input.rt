@@ -6,3 +6,6 @@ mod elements;
 pub mod input;
 pub mod laws;
 mod members;
+mod number;
+pub(crate) mod parts;
+pub(crate) mod text;

@@ -1,10 +1,12 @@
 //! Constraints, each a list of base nodes, in one pool.
-ghost use Rattle.std.specs.Prelude.{[]};
+ghost use Rattle.std.specs.Prelude.{◌<◌, [], length, map, All, Ok, Err};
 ghost use Rattle.serde_json.specs.View.{view, items_view};
 ghost use Rattle.air_symbolic.specs.BaseLeaves.{base_reads, base_grows};
 ghost use Rattle.air_symbolic.specs.Pools.{IsPool, tree_at};
 ghost use Rattle.air_wire.specs.Reads.{Reads, ReadsAll};
-ghost use Rattle.air_program.specs.Readers.{each_from, tree, trees};
+ghost use Rattle.air_wire.specs.declared.errors.FlatError.TheVariants.{Shape};
+ghost use Rattle.air_program.specs.Parts.{Given, InPool, AreGiven, one_more};
+ghost use Rattle.air_program.specs.Readers.{each_from, tree, trees, constraints_member};
 
 use air_field::BabyBear;
 use air_symbolic::{BaseLeaf, ExprId, ExprPool};
@@ -18,6 +20,13 @@ pub(crate) type BasePool = ExprPool<BaseLeaf<BabyBear>>;
 pub(crate) type BaseId = ExprId<BaseLeaf<BabyBear>>;
 
 pub(crate) type Roots = Vec<BaseId>;
+
+/// Constraints that are read before it is their turn: the pool of their lists, and their roots or the first fault.
+#[derive(Drop)]
+pub(crate) struct Constraints {
+    pub pool: BasePool,
+    pub roots: Result<Roots, FlatError>,
+}
 
 fn root_from(alloc: Global, pool: &mut BasePool, value: &Value) -> Result<BaseId, FlatError>
     requires { IsPool base_reads pool.old }
@@ -53,4 +62,75 @@ pub(crate) fn roots_from(
 {
     let items = value.as_array().ok_or(FlatError::Shape { at: 0 })?;
     roots_of(alloc, pool, items)
+}
+
+/// No list.
+pub(crate) fn no_constraints(alloc: Global) -> Constraints
+    ensures { AreGiven (Ok []) result }
+{
+    Constraints {
+        pool: ExprPool::new(alloc),
+        roots: Ok(Vec::new(alloc)),
+    }
+}
+
+/// What an object without the member has.
+pub(crate) fn missing_constraints(alloc: Global) -> Constraints
+    ensures { AreGiven (Err (Shape 0)) result }
+{
+    Constraints {
+        pool: ExprPool::new(alloc),
+        roots: Err(FlatError::Shape { at: 0 }),
+    }
+}
+
+// The roots, and that of the list, or the first fault.
+fn roots_with(
+    alloc: Global,
+    pool: &mut BasePool,
+    mut roots: Roots,
+    value: &Value,
+) -> Result<Roots, FlatError>
+    requires pool { IsPool base_reads pool.old }
+    requires here { All (λ i. i < length pool.old.1) roots.items }
+    ensures { ReadsAll base_grows base_reads tree_at (λ v. v.items) pool.old pool.new result
+        (one_more (Ok (map (tree_at pool.old) roots.items)) (view value.now)) }
+{
+    let root = root_from(alloc, pool, value)?;
+    roots.push(root)?;
+    Ok(roots)
+}
+
+/// The constraints, and the list that the value is; behind a fault no further list is read.
+pub(crate) fn with_list(alloc: Global, constraints: Constraints, value: &Value) -> Constraints
+    requires { InPool constraints }
+    ensures { (given : Given) → AreGiven given constraints
+        → AreGiven (one_more given (view value.now)) result }
+{
+    let Constraints { mut pool, roots } = constraints;
+    let roots = match roots {
+        Ok(roots) => roots_with(alloc, &mut pool, roots, value),
+        Err(fault) => Err(fault),
+    };
+    Constraints { pool, roots }
+}
+
+/// The constraints of the lists that the value lists.
+pub(crate) fn constraints_listed(alloc: Global, value: &Value) -> Constraints
+    ensures { AreGiven (trees (view value.now)) result }
+{
+    let mut pool = ExprPool::new(alloc);
+    let roots = roots_from(alloc, &mut pool, value);
+    Constraints { pool, roots }
+}
+
+/// The constraints of an object.
+#[tactic(auto, unfolding(crate::specs::Readers::constraints_member))]
+pub(crate) fn constraints_of(alloc: Global, value: &Value) -> Constraints
+    ensures { AreGiven (constraints_member (view value.now)) result }
+{
+    match value.get("constraints") {
+        Some(lists) => constraints_listed(alloc, lists),
+        None => missing_constraints(alloc),
+    }
 }

@@ -1,10 +1,13 @@
 //! The whole object.
 ghost use Rattle.std.specs.Prelude.{◌≢◌, ◌<◌, length, All, IfOk, IfErr};
+ghost use Rattle.serde_json.specs.Data.{Data};
 ghost use Rattle.serde_json.specs.View.{view};
 ghost use Rattle.air_symbolic.specs.BaseLeaves.{base_reads};
 ghost use Rattle.air_symbolic.specs.Pools.{IsPool};
 ghost use Rattle.air_program.specs.Input.{SpellsInput, HasInputFault};
+ghost use Rattle.air_program.specs.Parts.{InPool, ArePartsOf};
 
+use crate::flat_input::constraints::{Constraints, constraints_of};
 use crate::flat_input::members::members_from;
 use air_core::{AirError, BoundaryPublic};
 use air_field::{BabyBear, RowMajorMatrix};
@@ -32,18 +35,21 @@ pub struct FlatInput {
     pub transition_weight: usize,
 }
 
-/// Reads the object: its members in the order `main_width`, `main` (row after row), `public_values`, `constraints`
-/// (lists of nodes), `periodic`, `boundary`, `cap` and `transition_weight`, of which the last four may be absent, and
-/// `cap` may be null; no weight is the weight 0. Any other value is refused with the first fault in this order; values
-/// that aren't whole rows of the width are `Ragged` after all members. Other members are ignored. The place in a
-/// refusal is that of a node in its constraint's own list, and 0 in all other members.
-pub fn flat_input_from(alloc: Global, value: &Value) -> Result<FlatInput, AirError>
+/// The input of an object whose constraints are read already, and whose other members the value has.
+pub(crate) fn input_from(
+    alloc: Global,
+    value: &Value,
+    constraints: Constraints,
+) -> Result<FlatInput, AirError>
+    requires { InPool constraints }
     ensures pool { IfOk result (λ input. IsPool base_reads input.pool) }
     ensures roots { IfOk result (λ input. All (λ i. i < length input.pool.1) input.roots.items) }
-    ensures read { IfOk result (SpellsInput (view value.now)) }
-    ensures refused { IfErr result (λ e. e ≢ AirError.Memory → HasInputFault (view value.now) e) }
+    ensures read { IfOk result (λ input. (d : Data) → ArePartsOf d (view value.now) constraints
+        → SpellsInput d input) }
+    ensures refused { IfErr result (λ e. e ≢ AirError.Memory → (d : Data)
+        → ArePartsOf d (view value.now) constraints → HasInputFault d e) }
 {
-    let members = members_from(alloc, value)?;
+    let members = members_from(alloc, value, constraints)?;
     let main = RowMajorMatrix::new(members.main, members.main_width)?;
     Ok(FlatInput {
         pool: members.pool,
@@ -55,4 +61,19 @@ pub fn flat_input_from(alloc: Global, value: &Value) -> Result<FlatInput, AirErr
         cap: members.cap,
         transition_weight: members.transition_weight,
     })
+}
+
+/// Reads the object: its members in the order `main_width`, `main` (row after row), `public_values`, `constraints`
+/// (lists of nodes), `periodic`, `boundary`, `cap` and `transition_weight`, of which the last four may be absent, and
+/// `cap` may be null; no weight is the weight 0. Any other value is refused with the first fault in this order; values
+/// that aren't whole rows of the width are `Ragged` after all members. Other members are ignored. The place in a
+/// refusal is that of a node in its constraint's own list, and 0 in all other members.
+pub fn flat_input_from(alloc: Global, value: &Value) -> Result<FlatInput, AirError>
+    ensures pool { IfOk result (λ input. IsPool base_reads input.pool) }
+    ensures roots { IfOk result (λ input. All (λ i. i < length input.pool.1) input.roots.items) }
+    ensures read { IfOk result (SpellsInput (view value.now)) }
+    ensures refused { IfErr result (λ e. e ≢ AirError.Memory → HasInputFault (view value.now) e) }
+{
+    let constraints = constraints_of(alloc, value);
+    input_from(alloc, value, constraints)
 }

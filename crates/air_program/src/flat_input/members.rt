@@ -2,20 +2,19 @@
 ghost use Rattle.std.specs.Prelude.{◌≡◌, ◌<◌, length, map, All, IfOk, ok_or};
 ghost use Rattle.serde_json.specs.Find.{get};
 ghost use Rattle.serde_json.specs.View.{view};
-ghost use Rattle.air_symbolic.specs.BaseLeaves.{base_reads, base_grows};
-ghost use Rattle.air_symbolic.specs.Pools.{IsPool, tree_at};
-ghost use Rattle.air_wire.specs.Reads.{ReadsAll};
+ghost use Rattle.air_symbolic.specs.BaseLeaves.{base_reads};
+ghost use Rattle.air_symbolic.specs.Pools.{IsPool};
 ghost use Rattle.air_wire.specs.Results.{Gives};
 ghost use Rattle.air_wire.specs.declared.errors.FlatError.TheVariants.{Shape};
-ghost use Rattle.air_program.specs.Readers.{width_member, elements_member, constraints_member, periodic_member, boundary_member, cap_of, cap_member, weight_member, members_read};
+ghost use Rattle.air_program.specs.Parts.{InPool, given_by, members_with};
+ghost use Rattle.air_program.specs.Readers.{width_member, elements_member, periodic_member, boundary_member, cap_of, cap_member, weight_member};
 ghost use Rattle.air_program.specs.Seen.{seen_members};
 
 use crate::flat_input::cells::cells_from;
-use crate::flat_input::constraints::{BasePool, Roots, roots_from};
+use crate::flat_input::constraints::{BasePool, Constraints, Roots};
 use crate::flat_input::elements::{columns_from, elements_from};
 use air_core::BoundaryPublic;
 use air_field::BabyBear;
-use air_symbolic::ExprPool;
 use air_wire::{FlatError, whole};
 use serde_json::Value;
 use std::alloc::Global;
@@ -53,15 +52,6 @@ fn elements_at(alloc: Global, value: &Value, name: &str) -> Result<Vec<BabyBear>
     ensures { Gives (λ v. v.items) result (elements_member name.now (view value.now)) }
 {
     elements_from(alloc, needed(value, name)?)
-}
-
-#[tactic(auto, unfolding(crate::specs::Readers::constraints_member))]
-fn constraints_from(alloc: Global, pool: &mut BasePool, value: &Value) -> Result<Roots, FlatError>
-    requires { IsPool base_reads pool.old }
-    ensures { ReadsAll base_grows base_reads tree_at (λ v. v.items) pool.old pool.new result
-        (constraints_member (view value.now)) }
-{
-    roots_from(alloc, pool, needed(value, "constraints")?)
 }
 
 #[tactic(auto, unfolding(crate::specs::Readers::periodic_member))]
@@ -115,18 +105,25 @@ fn weight_from(value: &Value) -> Result<usize, FlatError>
     }
 }
 
-/// The members that the object spells, or the first fault among them.
-#[tactic(auto, unfolding(crate::specs::Readers::members_read))]
-pub(crate) fn members_from(alloc: Global, value: &Value) -> Result<Members, FlatError>
+/// The members that the object spells, or the first fault among them. Its constraints are read already, and it needn't
+/// hold them.
+#[tactic(auto, unfolding(crate::specs::Parts::members_with))]
+pub(crate) fn members_from(
+    alloc: Global,
+    value: &Value,
+    constraints: Constraints,
+) -> Result<Members, FlatError>
+    requires { InPool constraints }
     ensures pool { IfOk result (λ m. IsPool base_reads m.pool) }
     ensures roots { IfOk result (λ m. All (λ i. i < length m.pool.1) m.roots.items) }
-    ensures read { Gives seen_members result (members_read (view value.now)) }
+    ensures read { Gives seen_members result (members_with (given_by constraints)
+        (view value.now)) }
 {
     let main_width = width_from(value)?;
     let main = elements_at(alloc, value, "main")?;
     let public_values = elements_at(alloc, value, "public_values")?;
-    let mut pool = ExprPool::new(alloc);
-    let roots = constraints_from(alloc, &mut pool, value)?;
+    let Constraints { pool, roots } = constraints;
+    let roots = roots?;
     let periodic = periodic_from(alloc, value)?;
     let cells = boundary_from(alloc, value)?;
     let cap = cap_from(value)?;
