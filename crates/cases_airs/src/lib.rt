@@ -6,9 +6,11 @@ pub mod air;
 pub mod airs;
 mod differing;
 mod handed;
+pub mod lists;
 pub mod parts;
 pub mod pool;
 pub mod words;
 
-pub use air::{Constraints, TableAir};
+pub use air::{ListAir, TableAir};
 pub use airs::Airs;
+pub use lists::{BaseList, Constraints, LabelledList, PermutationList};

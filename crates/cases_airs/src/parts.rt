@@ -1,6 +1,6 @@
 //! What stands beside the expressions of an AIR.
 
-use crate::air::Constraints;
+use crate::lists::{BaseList, Constraints, PermutationList};
 use crate::words::{cell_of, trace_of};
 use cases::words::{count_of, listed_elements};
 use cases::{Fault, Why};
@@ -21,7 +21,7 @@ pub struct Parts<F: Field> {
 impl<F: Field> Parts<F> {
     pub fn new(alloc: Global) -> Self {
         Parts {
-            constraints: Constraints::Lines,
+            constraints: Constraints::Base(BaseList::Lines),
             width: 0,
             num_public_values: 0,
             table: None,
@@ -36,7 +36,7 @@ impl<F: Field> Parts<F> {
         match key {
             "width" => self.width = count_of(value)?,
             "public" => self.num_public_values = count_of(value)?,
-            "steep" => self.constraints = Constraints::Steep(count_of(value)?),
+            "steep" => self.constraints = Constraints::Base(BaseList::Steep(count_of(value)?)),
             "table" => self.table = Some(trace_of(alloc, value)?),
             "periodic" => self.periodic.push(listed_elements(alloc, value)?)?,
             "cell" => self.cells.push(cell_of(value)?)?,
@@ -48,12 +48,12 @@ impl<F: Field> Parts<F> {
     /// Takes the named list of constraints.
     pub fn take(&mut self, word: &str) -> Result<(), Fault> {
         self.constraints = match word {
-            "fibonacci" => Constraints::Fibonacci,
-            "fibonacci_named" => Constraints::FibonacciNamed,
-            "handed" => Constraints::Handed,
-            "differing" => Constraints::Differing,
-            "permuted" => Constraints::Permuted,
-            "mixed" => Constraints::Mixed,
+            "fibonacci" => Constraints::Base(BaseList::Fibonacci),
+            "fibonacci_named" => Constraints::Base(BaseList::FibonacciNamed),
+            "handed" => Constraints::Base(BaseList::Handed),
+            "differing" => Constraints::Base(BaseList::Differing),
+            "permuted" => Constraints::Permutation(PermutationList::Permuted),
+            "mixed" => Constraints::Permutation(PermutationList::Mixed),
             "labelled" => Constraints::Labelled,
             _ => return Err(Fault::Unreadable(Why::NoSuchWord)),
         };

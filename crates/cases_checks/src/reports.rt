@@ -3,7 +3,7 @@
 use cases::words::listed_elements;
 use cases::{Fault, Why};
 use cases_airs::words::trace_of;
-use cases_airs::{Constraints, TableAir};
+use cases_airs::{Constraints, ListAir, TableAir};
 use p3_air::{
     Air, BabyBear, BaseAir, CheckError, ConstraintFailure, ConstraintReport,
     DebugConstraintBuilder, RowMajorMatrix, SymbolicAirBuilder, audit_air, check_all_constraints,
@@ -121,8 +121,7 @@ pub fn show_audit<'a, A: BaseAir<BabyBear> + Air<BaseRecorder> + Air<RowBuilder<
     show(&audit.report, text)
 }
 
-/// The same of a table's AIR, if it is one of lines: an AIR that may have extension constraints is of no
-/// type whose audit the checker gets through.
+/// The same of a table's AIR, if its constraints are over the base field.
 pub fn show_base_audit(
     alloc: Global,
     air: &TableAir<BabyBear>,
@@ -131,7 +130,9 @@ pub fn show_base_audit(
     text: &mut String,
 ) -> Result<(), Fault> {
     match air.constraints {
-        Constraints::Lines => show_audit(alloc, &air.flat, given, weight, text),
+        Constraints::Base(list) => {
+            show_audit(alloc, &ListAir { list, air }, given, weight, text)
+        }
         _ => Err(Fault::Unreadable(Why::NoSuchCall)),
     }
 }

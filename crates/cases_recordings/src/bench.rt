@@ -6,14 +6,12 @@ use crate::hints::answer_hints;
 use crate::layouts::{answer_layout, layout_of};
 use crate::lent::answer_lent;
 use crate::recordings::answer_recorded;
-use crate::words::answer_words;
 use air_field::BabyBear;
-use air_program::Fibonacci;
 use air_recording::AirLayout;
 use cases::words::{count_of, listed_elements};
 use cases::{Bench, Fault, Line, Why};
 use cases_airs::words::{cap_of, trace_of};
-use cases_airs::{Airs, Constraints, TableAir};
+use cases_airs::{Airs, Constraints, LabelledList, ListAir, TableAir};
 use std::alloc::Global;
 
 /// The AIRs that lines have made.
@@ -46,8 +44,7 @@ fn layout_by(air: &TableAir<BabyBear>, word: &str) -> Result<AirLayout, Fault> {
     )
 }
 
-// Adds what the AIR's values at a row are folded to. (Of an AIR that may have extension constraints the checker gets
-// through no call that takes two builders.)
+// Adds what the AIR's values at a row are folded to.
 fn folded(
     alloc: Global,
     air: &TableAir<BabyBear>,
@@ -57,11 +54,13 @@ fn folded(
 ) -> Result<(), Fault> {
     let row = row_of(alloc, words)?;
     match air.constraints {
-        Constraints::Lines if air.table.is_none() => answer_fold(
-            alloc, &air.flat, layout, &row, text,
-        ),
-        Constraints::Fibonacci => answer_fold(alloc, &Fibonacci::new(), layout, &row, text),
-        _ => Err(Fault::Unreadable(Why::NoSuchCall)),
+        Constraints::Base(list) => {
+            answer_fold(alloc, &ListAir { list, air }, layout, &row, text)
+        }
+        Constraints::Permutation(list) => {
+            answer_fold(alloc, &ListAir { list, air }, layout, &row, text)
+        }
+        Constraints::Labelled => Err(Fault::Unreadable(Why::NoSuchCall)),
     }
 }
 
@@ -72,7 +71,7 @@ fn validated(air: &TableAir<BabyBear>, layout: AirLayout, text: &mut String) -> 
     Ok(())
 }
 
-// Adds what is recorded of an AIR of the base by a layout.
+// Adds what is recorded of an AIR by a layout.
 fn recorded(
     alloc: Global,
     air: &TableAir<BabyBear>,
@@ -82,13 +81,16 @@ fn recorded(
     text: &mut String,
 ) -> Result<(), Fault> {
     match air.constraints {
-        Constraints::Lines if air.table.is_none() => {
-            answer_recorded(alloc, &air.flat, layout, call, words, text)
+        Constraints::Base(list) => {
+            answer_recorded(alloc, &ListAir { list, air }, layout, call, words, text)
         }
-        Constraints::Fibonacci => {
-            answer_recorded(alloc, &Fibonacci::new(), layout, call, words, text)
+        Constraints::Permutation(list) => {
+            answer_recorded(alloc, &ListAir { list, air }, layout, call, words, text)
         }
-        _ => Err(Fault::Unreadable(Why::NoSuchCall)),
+        Constraints::Labelled => {
+            let list = LabelledList;
+            answer_recorded(alloc, &ListAir { list, air }, layout, call, words, text)
+        }
     }
 }
 
@@ -108,7 +110,7 @@ fn answer_by(
     }
 }
 
-// Adds what an audit of the AIR finds.
+// Adds what an audit of the AIR finds, if its constraints are over the base field: only those are audited.
 fn audited(
     alloc: Global,
     air: &TableAir<BabyBear>,
@@ -116,8 +118,7 @@ fn audited(
     text: &mut String,
 ) -> Result<(), Fault> {
     match air.constraints {
-        Constraints::Lines if air.table.is_none() => answer_audit(alloc, &air.flat, given, text),
-        Constraints::Fibonacci => answer_audit(alloc, &Fibonacci::new(), given, text),
+        Constraints::Base(list) => answer_audit(alloc, &ListAir { list, air }, given, text),
         _ => Err(Fault::Unreadable(Why::NoSuchCall)),
     }
 }
@@ -131,10 +132,9 @@ fn audited_under_cap(
     text: &mut String,
 ) -> Result<(), Fault> {
     match air.constraints {
-        Constraints::Lines if air.table.is_none() => answer_capped_audit(
-            alloc, &air.flat, given, cap, text,
-        ),
-        Constraints::Fibonacci => answer_capped_audit(alloc, &Fibonacci::new(), given, cap, text),
+        Constraints::Base(list) => {
+            answer_capped_audit(alloc, &ListAir { list, air }, given, cap, text)
+        }
         _ => Err(Fault::Unreadable(Why::NoSuchCall)),
     }
 }
@@ -149,12 +149,8 @@ fn answer_of(
 ) -> Result<(), Fault> {
     match (call, words) {
         ("audit_air", [trace, public, weight]) => {
-            audited(
-                alloc,
-                air,
-                &given_of(alloc, *trace, *public, *weight)?,
-                text,
-            )
+            let given = given_of(alloc, *trace, *public, *weight)?;
+            audited(alloc, air, &given, text)
         }
         ("audit_air_with_cap", [trace, public, cap, weight]) => {
             let given = given_of(alloc, *trace, *public, *weight)?;
@@ -205,7 +201,6 @@ impl<'a> Bench<'a> for Alone {
         }
         if answer_layout(alloc, words, text)?
             || answer_lent(alloc, words, text)?
-            || answer_words(alloc, words, text)?
             || answer_hints(alloc, words, text)?
             || answer_hiding(alloc, words, text)?
         {

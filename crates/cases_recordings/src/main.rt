@@ -10,7 +10,6 @@ mod hints;
 mod layouts;
 mod lent;
 mod recordings;
-mod words;
 
 use crate::bench::{AirBench, Alone};
 use cases::{Fault, Report, Table, Tables, Why, check_lines};

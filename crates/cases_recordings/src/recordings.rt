@@ -76,8 +76,8 @@ fn show_symbolic<A: Air<BaseRecorder>>(
     show_bases(recorded.pool.base(), &recorded.base, text)
 }
 
-/// Adds the degrees that the nodes of base expressions state.
-pub fn show_degrees(
+// Adds the degrees that the nodes of base expressions state.
+fn show_degrees(
     pool: &BasePool,
     numbers: &[ExprId<BaseLeaf<BabyBear>>],
     text: &mut String,

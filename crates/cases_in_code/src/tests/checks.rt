@@ -1,8 +1,12 @@
-//! Names that are asked for only where an assertion fails, batches as arrays, and the context of a builder at a row.
+//! Names that are asked for only where an assertion at a row fails, and never where one is recorded; batches as arrays, and
+//! the context of a builder at a row.
+ghost use Rattle.std.specs.Prelude.{IfOk};
+
 use p3_air::{
-    AirBuilderWithContext, AirError, AssertAll, AssertAllExt, AssertAllNamed, BabyBear,
-    BinomialExtensionField, DebugConstraintBuilder, ExtensionField, Field, Lazy, NamedAirBuilder,
-    NamedExtensionBuilder, RowMajorMatrixView, ViewPair,
+    AirBuilder, AirBuilderWithContext, AirError, AirLayout, AssertAll, AssertAllExt,
+    AssertAllNamed, BabyBear, BinomialExtensionField, DebugConstraintBuilder, ExtAlgebra,
+    ExtensionBuilder, ExtensionField, Field, Lazy, Name, NamedAirBuilder, NamedExtensionBuilder,
+    RowMajorMatrixView, SymbolicAirBuilder, ViewPair,
 };
 use std::alloc::Global;
 use std::cell::Cell;
@@ -12,6 +16,8 @@ use std::test::Fail;
 type Element = BinomialExtensionField;
 
 type Row<'a> = DebugConstraintBuilder<'a, BabyBear, Element>;
+
+type Recorder = SymbolicAirBuilder<BabyBear, Element>;
 
 // A builder at row 7 of a trace without columns.
 fn row<'a>(alloc: Global) -> Row<'a> {
@@ -105,6 +111,75 @@ fn a_passing_assertion_asks_for_no_label(rt: HostRuntime) -> Result<(), Fail> {
         builder.formatted_failures()?.as_str(),
         "[#2 \"base\", #3 \"extension\"]"
     );
+    Ok(())
+}
+
+// Asserts under a name that the first row is none.
+fn assert_named<AB: NamedAirBuilder, N: Name>(builder: &mut AB, name: N) -> Result<(), AirError>
+    requires ready { AB.ready builder.old }
+    requires can_evaluate { N.can_evaluate name }
+{
+    let x = builder.is_first_row()?;
+    builder.assert_zero_named(x, name)
+}
+
+// Asserts under a name that an element of the extension is zero.
+fn assert_ext_named<AB: NamedExtensionBuilder, N: Name>(
+    builder: &mut AB,
+    x: AB::EF,
+    name: N,
+) -> Result<(), AirError>
+    requires ready { AB.ready builder.old }
+    requires can_evaluate { N.can_evaluate name }
+{
+    let x = builder.ext_ring().ext_constant(x)?;
+    builder.assert_zero_ext_named(x, name)
+}
+
+// A builder that has recorded nothing.
+fn recorder(alloc: Global) -> Result<Recorder, AirError>
+    ensures { IfOk result ⟦<Recorder as AirBuilder>⟧.ready }
+{
+    SymbolicAirBuilder::new(alloc, AirLayout::default())
+}
+
+// Records an assertion under a name that sets a counter where it is asked for.
+fn record_asking(builder: &mut Recorder, asked: &Cell<u32>) -> Result<(), AirError>
+    requires { ⟦<Recorder as AirBuilder>⟧.ready builder.old }
+{
+    assert_named(
+        builder,
+        Lazy(|| {
+            asked.set(1);
+            Ok("never")
+        }),
+    )
+}
+
+// The same over the extension.
+fn record_ext_asking(builder: &mut Recorder, asked: &Cell<u32>) -> Result<(), AirError>
+    requires { ⟦<Recorder as AirBuilder>⟧.ready builder.old }
+{
+    assert_ext_named(
+        builder,
+        root_times(1),
+        Lazy(|| {
+            asked.set(2);
+            Ok("never")
+        }),
+    )
+}
+
+#[test]
+fn a_recording_asks_for_no_label(rt: HostRuntime) -> Result<(), Fail> {
+    let asked = Cell::new(0u32);
+    let mut builder = recorder(rt.alloc())?;
+    record_asking(&mut builder, &asked)?;
+    assert_eq!(rt; builder.base_constraints().len(), 1);
+    let mut builder = recorder(rt.alloc())?;
+    record_ext_asking(&mut builder, &asked)?;
+    assert_eq!(rt; builder.extension_constraints().len(), 1);
+    assert_eq!(rt; asked.get(), 0);
     Ok(())
 }
 
