@@ -1,5 +1,5 @@
 //! The symbolic builder over the extension, and with permutation data.
-ghost use Rattle.std.specs.Prelude.{◌≡◌, [], refl, IfOk, IfErr, IsOk};
+ghost use Rattle.std.specs.Prelude.{◌≡◌, [], refl, IfOk, IfErr};
 ghost use Rattle.air_symbolic.specs.BaseLeaves.{base_reads};
 ghost use Rattle.air_symbolic.specs.laws.BasePool.{base_pool_laws};
 ghost use Rattle.air_symbolic.specs.laws.ExtPool.{ext_pool_laws, base_lent, base_grown};
@@ -67,15 +67,12 @@ impl<F: Field, EF: ExtensionField<F>> PermutationAirBuilder for SymbolicAirBuild
         Ok(TwoRows::new(current, next))
     }
 
-    /// The variable in a column of the permutation trace, at offset 0 the current row's and at 1 the next one's, if
-    /// there is one. It takes no memory, and never refuses.
+    // No window is made, so that many columns cost no more than each by itself.
     fn permutation_variable(
         &self,
         offset: usize,
         column: usize,
-    ) -> Result<Option<SymbolicVariableExt<F, EF>>, AirError>
-        ensures always { IsOk result }
-    {
+    ) -> Result<Option<SymbolicVariableExt<F, EF>>, AirError> {
         if offset <= 1 && column < self.entries.ext.layout.permutation_width {
             let entry = ExtEntry::Permutation { offset };
             Ok(Some(SymbolicVariableExt::new(entry, column)))
