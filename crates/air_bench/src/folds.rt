@@ -10,6 +10,7 @@ use p3_air::{
 use std::alloc::Global;
 
 type Element = BinomialExtensionField;
+
 type Folder<'a> = ConstraintFolder<'a, BabyBear, Element>;
 
 // A folder at the first of these rows, whose next row it is too.

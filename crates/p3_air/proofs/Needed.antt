@@ -132,8 +132,8 @@ pub table_more : {E F : Type 0} (P Q : Term F → E → Type 0) (term : ℕ → 
 table_more {E} P Q term numbers table k x long f h new p below =
     ⊎_elim
     (λ (b : p < k).
-        let y = h p b in
-        (y.0, kept p y.0 (omega (arith, b, long)) ∙ y.1, f (term (number_at numbers p)) y.0 y.2))
+    let y = h p b in
+    (y.0, kept p y.0 (omega (arith, b, long)) ∙ y.1, f (term (number_at numbers p)) y.0 y.2))
     (λ (e : p ≡ k). (x, last p e, subst (λ v. Q (term (number_at numbers v)) x) (sym e) new))
     (before_or_at p k below)
   where

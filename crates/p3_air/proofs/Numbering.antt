@@ -68,22 +68,22 @@ module _ (marks : List (Option ℕ)) (numbers places : List ℕ) (m : ℕ) (lt :
         (before_or_at k (length numbers) (omega (arith, long, k_in)));
     placed = λ i below mi. ⊎_elim
         (λ (b : i < m). subst (λ p. IsPlaceOf (numbers ++ m ∷ []) (length (numbers ++ m ∷ [])) p i) (sym (old_place i b))
-            (place_later (numbers ++ m ∷ []) (length numbers) (length (numbers ++ m ∷ [])) (get_or places i 0) i (omega (arith, long))
-            (place_stays numbers (m ∷ []) (length numbers) (get_or places i 0) i (omega arith) (h.placed i b mi))))
+        (place_later (numbers ++ m ∷ []) (length numbers) (length (numbers ++ m ∷ [])) (get_or places i 0) i (omega (arith, long))
+        (place_stays numbers (m ∷ []) (length numbers) (get_or places i 0) i (omega arith) (h.placed i b mi))))
         (λ (e : i ≡ m). subst (λ p. IsPlaceOf (numbers ++ m ∷ []) (length (numbers ++ m ∷ [])) p i) (sym (new_place i e))
-            (omega (arith, long), e ∙ sym (new_number (length numbers) refl)))
+        (omega (arith, long), e ∙ sym (new_number (length numbers) refl)))
         (before_or_at i m below);
     before = λ k i k_in b mi. ⊎_elim
         (λ (lo : k < length numbers).
-            let below = subst (λ j. i < j) (old_number k lo) b in
-            let was = h.below k lo in
-            subst (λ p. IsPlaceOf (numbers ++ m ∷ []) k p i) (sym (old_place i (omega (arith, below, was))))
-            (place_stays numbers (m ∷ []) k (get_or places i 0) i (omega (arith, lo)) (h.before k i lo below mi)))
+        let below = subst (λ j. i < j) (old_number k lo) b in
+        let was = h.below k lo in
+        subst (λ p. IsPlaceOf (numbers ++ m ∷ []) k p i) (sym (old_place i (omega (arith, below, was))))
+        (place_stays numbers (m ∷ []) k (get_or places i 0) i (omega (arith, lo)) (h.before k i lo below mi)))
         (λ (e : k ≡ length numbers).
-            let below = subst (λ j. i < j) (new_number k e) b in
-            subst (λ p. IsPlaceOf (numbers ++ m ∷ []) k p i) (sym (old_place i below))
-            (place_later (numbers ++ m ∷ []) (length numbers) k (get_or places i 0) i (omega (arith, e))
-            (place_stays numbers (m ∷ []) (length numbers) (get_or places i 0) i (omega arith) (h.placed i below mi))))
+        let below = subst (λ j. i < j) (new_number k e) b in
+        subst (λ p. IsPlaceOf (numbers ++ m ∷ []) k p i) (sym (old_place i below))
+        (place_later (numbers ++ m ∷ []) (length numbers) k (get_or places i 0) i (omega (arith, e))
+        (place_stays numbers (m ∷ []) (length numbers) (get_or places i 0) i (omega arith) (h.placed i below mi))))
         (before_or_at k (length numbers) (omega (arith, long, k_in)));
   }
     where

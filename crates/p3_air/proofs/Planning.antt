@@ -101,9 +101,10 @@ roots_placed : (marks : List (Option ℕ)) (numbers table places roots : List �
 roots_placed marks numbers table [] [] h m z = tt
 roots_placed marks numbers table [] (i ∷ roots) h m z = absurd z
 roots_placed marks numbers table (p ∷ places) [] h m z = absurd z
-roots_placed marks numbers table (p ∷ places) (i ∷ roots) h m z =
-    ((h.placed i (m 0 i (omega arith))).1 ∙ ap (λ q. number_at numbers q) (sym z.0),
-    roots_placed marks numbers table places roots h (λ k d lt. m (suc k) d (omega (arith, lt))) z.1)
+roots_placed marks numbers table (p ∷ places) (i ∷ roots) h m z = (
+  (h.placed i (m 0 i (omega arith))).1 ∙ ap (λ q. number_at numbers q) (sym z.0),
+  roots_placed marks numbers table places roots h (λ k d lt. m (suc k) d (omega (arith, lt))) z.1,
+)
 
 module _ {A F : Type 0} (l : Leaves A F) (ns : List (SymbolicExpr A)) (roots : List ℕ) (marks : List (Option ℕ)) (r : Reached l ns roots marks) where
   pub own_place : (i j : ℕ) → get_or marks i None ≡ Some j → j ≡ i

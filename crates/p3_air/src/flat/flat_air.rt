@@ -35,7 +35,7 @@ pub struct FlatAir<F: Field> {
     /// The plan is that of the roots.
     ghost planned: { IsPlan base_leaves pool.1 roots.items plan.numbers.items plan.steps.items
         plan.places.items } by { IsPlan-prop base_leaves pool.1 roots.items plan.numbers.items
-        plan.steps.items plan.places.items },
+            plan.steps.items plan.places.items },
 }
 
 impl<F: Field> FlatAir<F> {

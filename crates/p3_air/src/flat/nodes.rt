@@ -95,15 +95,18 @@ pub(crate) fn make_step<AB: AirBuilder>(
         Step::Add(x, y) => Sum(
             AtPlace(pool, numbers, table, x),
             AtPlace(pool, numbers, table, y),
-        ).make(builder),
+        )
+        .make(builder),
         Step::Sub(x, y) => Difference(
             AtPlace(pool, numbers, table, x),
             AtPlace(pool, numbers, table, y),
-        ).make(builder),
+        )
+        .make(builder),
         Step::Neg(x) => Negative(AtPlace(pool, numbers, table, x)).make(builder),
         Step::Mul(x, y) => Product(
             AtPlace(pool, numbers, table, x),
             AtPlace(pool, numbers, table, y),
-        ).make(builder),
+        )
+        .make(builder),
     }
 }

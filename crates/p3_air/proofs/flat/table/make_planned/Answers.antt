@@ -36,6 +36,6 @@ returns g c =
     let term = λ (q : ℕ). term_at base_reads c.args.pool.now (number_at plan.numbers.items q) in
     let made = λ (q : ℕ). IsMade (Means g.AB.Ring.Algebra.means A.ring_of A.stands) A.missing c.make_places.new.builder (term q) in
     let table = subst (λ t. All (λ q. HasAt (made q) t q) plan.places.items) (sym c.deref.ensures.value)
-        (λ k d lt. c.in_ok-table.ensures.made (get_or plan.places.items k d) (c.requires.planned.within k d lt)) in
+    (λ k d lt. c.in_ok-table.ensures.made (get_or plan.places.items k d) (c.requires.planned.within k d lt)) in
     let read = rw c.deref-2.ensures.value at c.read_places.ensures.read in
     all_made g.met.AB.Ring.Algebra.laws g.met.AB.AirBuilder.laws _ _ term c.deref.result.now plan.places.items c.read_places.result c.make_places.ensures.keeps table read c.read_places.ensures.refused
