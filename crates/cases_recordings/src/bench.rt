@@ -3,15 +3,15 @@
 use crate::audits::{Given, answer_audit, answer_capped_audit};
 use crate::folds::{answer_fold, answer_hiding, row_of};
 use crate::hints::answer_hints;
+use crate::kinds::recorded;
 use crate::layouts::{answer_layout, layout_of};
 use crate::lent::answer_lent;
-use crate::recordings::answer_recorded;
 use air_field::BabyBear;
 use air_recording::AirLayout;
 use cases::words::{count_of, listed_elements};
 use cases::{Bench, Fault, Line, Why};
 use cases_airs::words::{cap_of, trace_of};
-use cases_airs::{Airs, Constraints, LabelledList, ListAir, TableAir};
+use cases_airs::{Airs, Constraints, ListAir, TableAir};
 use std::alloc::Global;
 
 /// The AIRs that lines have made.
@@ -54,13 +54,8 @@ fn folded(
 ) -> Result<(), Fault> {
     let row = row_of(alloc, words)?;
     match air.constraints {
-        Constraints::Base(list) => {
-            answer_fold(alloc, &ListAir { list, air }, layout, &row, text)
-        }
-        Constraints::Permutation(list) => {
-            answer_fold(alloc, &ListAir { list, air }, layout, &row, text)
-        }
-        Constraints::Labelled => Err(Fault::Unreadable(Why::NoSuchCall)),
+        Constraints::Base(list) => answer_fold(alloc, &ListAir { list, air }, layout, &row, text),
+        _ => Err(Fault::Unreadable(Why::NoSuchCall)),
     }
 }
 
@@ -69,29 +64,6 @@ fn validated(air: &TableAir<BabyBear>, layout: AirLayout, text: &mut String) -> 
     layout.validate_against_air::<BabyBear, TableAir<BabyBear>>(air)?;
     text.push_str("accepted")?;
     Ok(())
-}
-
-// Adds what is recorded of an AIR by a layout.
-fn recorded(
-    alloc: Global,
-    air: &TableAir<BabyBear>,
-    layout: AirLayout,
-    call: &str,
-    words: &[&str],
-    text: &mut String,
-) -> Result<(), Fault> {
-    match air.constraints {
-        Constraints::Base(list) => {
-            answer_recorded(alloc, &ListAir { list, air }, layout, call, words, text)
-        }
-        Constraints::Permutation(list) => {
-            answer_recorded(alloc, &ListAir { list, air }, layout, call, words, text)
-        }
-        Constraints::Labelled => {
-            let list = LabelledList;
-            answer_recorded(alloc, &ListAir { list, air }, layout, call, words, text)
-        }
-    }
 }
 
 // Adds what a call answers of an AIR by a layout.
@@ -106,6 +78,10 @@ fn answer_by(
     match (call, words) {
         ("fold_air", words) => folded(alloc, air, layout, words, text),
         ("validate_against_air", []) => validated(air, layout, text),
+        ("layout", []) => {
+            write!(text, "{layout:?}")?;
+            Ok(())
+        }
         _ => recorded(alloc, air, layout, call, words, text),
     }
 }

@@ -7,6 +7,7 @@ mod bench;
 mod expressions;
 mod folds;
 mod hints;
+mod kinds;
 mod layouts;
 mod lent;
 mod recordings;

@@ -227,30 +227,33 @@ fn inferred_extension<A: Air<ExtRecorder>>(
     Ok(degree)
 }
 
-// Adds the degree that is inferred.
-fn show_inferred<A: Air<BaseRecorder> + Air<ExtRecorder>>(
+/// Adds what a call answers of an AIR that is recorded over the base field, if it is one.
+pub fn answer_base<A: Air<BaseRecorder>>(
     alloc: Global,
     air: &A,
     layout: AirLayout,
     call: &str,
     words: &[&str],
     text: &mut String,
-) -> Result<(), Fault> {
-    let degree = match (call, words) {
+) -> Result<bool, Fault> {
+    match (call, words) {
+        ("get_symbolic_constraints", []) => show_symbolic(alloc, air, layout, text)?,
+        ("degree_multiples", []) => show_stated(alloc, air, layout, text)?,
+        ("poly_degrees", [rows, periods]) => {
+            let periods = counts_of(alloc, *periods)?;
+            show_poly(alloc, air, layout, count_of(*rows)?, &periods, text)?;
+        }
         ("get_max_constraint_degree", [rows, weight]) => {
-            inferred(alloc, air, layout, *rows, *weight)?
+            let degree = inferred(alloc, air, layout, *rows, *weight)?;
+            write!(text, "{degree}")?;
         }
-        ("get_max_constraint_degree_extension", [rows, weight]) => {
-            inferred_extension(alloc, air, layout, *rows, *weight)?
-        }
-        _ => return Err(Fault::Unreadable(Why::NoSuchCall)),
-    };
-    write!(text, "{degree}")?;
-    Ok(())
+        _ => return Ok(false),
+    }
+    Ok(true)
 }
 
-/// Adds what a call answers of an AIR that is recorded by a layout.
-pub fn answer_recorded<A: Air<BaseRecorder> + Air<ExtRecorder>>(
+/// Adds what a call answers of an AIR that is recorded with an extension.
+pub fn answer_extension<A: Air<ExtRecorder>>(
     alloc: Global,
     air: &A,
     layout: AirLayout,
@@ -259,20 +262,15 @@ pub fn answer_recorded<A: Air<BaseRecorder> + Air<ExtRecorder>>(
     text: &mut String,
 ) -> Result<(), Fault> {
     match (call, words) {
-        ("get_symbolic_constraints", []) => show_symbolic(alloc, air, layout, text),
         ("get_all_symbolic_constraints", []) => show_all(alloc, air, layout, text),
         ("get_symbolic_constraints_extension", []) => show_extension(alloc, air, layout, text),
         ("get_constraint_layout", []) => show_layout(alloc, air, layout, text),
-        ("degree_multiples", []) => show_stated(alloc, air, layout, text),
-        ("poly_degrees", [rows, periods]) => {
-            let periods = counts_of(alloc, *periods)?;
-            show_poly(alloc, air, layout, count_of(*rows)?, &periods, text)
-        }
         ("eval", []) => show_places(&evaluated(alloc, air, layout)?, text),
-        ("layout", []) => {
-            write!(text, "{layout:?}")?;
+        ("get_max_constraint_degree_extension", [rows, weight]) => {
+            let degree = inferred_extension(alloc, air, layout, *rows, *weight)?;
+            write!(text, "{degree}")?;
             Ok(())
         }
-        _ => show_inferred(alloc, air, layout, call, words, text),
+        _ => Err(Fault::Unreadable(Why::NoSuchCall)),
     }
 }
