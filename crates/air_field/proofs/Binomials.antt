@@ -11,7 +11,7 @@ use Rattle.air_field.specs.laws.Modulo.{class-add, equal_is}
 use Rattle.air_field.specs.laws.Residues.{same_value}
 use Rattle.air_field.specs.laws.SamePolynomial.{same_list}
 use Rattle.air_field.specs.Binomial.{constant_polynomial, binomial_over}
-use Rattle.air_field.specs.declared.fields.baby_bear.BabyBear.{BabyBear}
+use Rattle.air_field.specs.BabyBear.{BabyBear}
 use Rattle.air_field.specs.declared.fields.binomial.BinomialExtensionField.{BinomialExtensionField}
 use lib.Pointwise.{pointwise}
 

@@ -10,7 +10,7 @@ use Rattle.air_field.specs.laws.FourCoefficients.{four_mul_comm, four_mul_one, f
 use Rattle.air_field.specs.laws.FourCoefficients.{four_add_nil, four_add_neg}
 use Rattle.air_field.specs.laws.Extension.{length-padded}
 use Rattle.air_field.specs.Modulo.{class, baby_bear_ring}
-use Rattle.air_field.specs.declared.fields.baby_bear.BabyBear.{BabyBear}
+use Rattle.air_field.specs.BabyBear.{BabyBear}
 use Rattle.air_field.specs.declared.fields.binomial.BinomialExtensionField.{BinomialExtensionField}
 use Rattle.air_field.specs.laws.SamePolynomial.{same_list}
 

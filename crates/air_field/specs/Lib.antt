@@ -18,6 +18,11 @@ pub mod Grid
 pub mod Matrix
 pub mod Assignment
 pub mod OneRow
+pub mod Prime
+pub mod Modular
+pub mod Residue
+pub mod BabyBear
+pub mod Goldilocks
 pub mod Modulo
 pub mod Binomial
 pub mod laws

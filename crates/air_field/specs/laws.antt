@@ -5,7 +5,11 @@ pub mod Ring
 pub mod RingSolver
 pub mod FourCoefficients
 pub mod Images
+pub mod Prime
 pub mod Primality
+pub mod Trial
+pub mod Order
+pub mod Primes
 pub mod Single
 pub mod Sums
 pub mod Value
@@ -17,6 +21,8 @@ pub mod Grid
 pub mod Powers
 pub mod Coefficients
 pub mod Residues
+pub mod Modular
+pub mod Goldilocks
 pub mod Modulo
 pub mod SamePolynomial
 pub mod Binomial

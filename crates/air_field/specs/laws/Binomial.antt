@@ -10,7 +10,7 @@ use Rattle.air_field.specs.laws.BaseParts.{part-of, part-is}
 use Rattle.air_field.specs.laws.Extension.{extension_over_laws}
 use Rattle.air_field.specs.Modulo.{class, baby_bear_ring}
 use Rattle.air_field.specs.laws.Modulo.{equal_is}
-use Rattle.air_field.specs.declared.fields.baby_bear.BabyBear.{BabyBear}
+use Rattle.air_field.specs.BabyBear.{BabyBear}
 use Rattle.air_field.specs.declared.fields.binomial.BinomialExtensionField.{BinomialExtensionField}
 use lib.Pointwise.{pointwise}
 use Rattle.air_field.specs.laws.SamePolynomial.{same_list}

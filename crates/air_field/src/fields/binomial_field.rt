@@ -10,6 +10,7 @@ use crate::fields::binomial::BinomialExtensionField;
 use crate::fields::extension::ExtensionField;
 use crate::fields::field::Field;
 use crate::fields::product::dot_product;
+use std::marker::PhantomData;
 
 impl ExtensionField<BabyBear> for BinomialExtensionField {
     ghost over = { binomial_over };
@@ -83,7 +84,10 @@ impl ExtensionField<BabyBear> for BinomialExtensionField {
     {
         let a = self.value;
         let [b0, b1, b2, b3] = other.value;
-        let eleven = BabyBear { residue: 11 };
+        let eleven = BabyBear {
+            residue: 11,
+            modulus: PhantomData,
+        };
         let w1 = Field::mul(eleven, b1);
         let w2 = Field::mul(eleven, b2);
         let w3 = Field::mul(eleven, b3);

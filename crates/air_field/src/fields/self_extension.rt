@@ -2,9 +2,10 @@
 ghost use Rattle.std.specs.Prelude.{◌≡◌, refl};
 ghost use Rattle.air_field.specs.Ring.{itself};
 
-use crate::fields::baby_bear::BabyBear;
 use crate::fields::extension::ExtensionField;
 use crate::fields::field::Field;
+use crate::fields::modulus::Modulus;
+use crate::fields::residue::Residue;
 
 /// A field as an extension of itself: its elements and operations are those of the field.
 pub trait SelfExtension: Field + ExtensionField<Self> {
@@ -12,6 +13,6 @@ pub trait SelfExtension: Field + ExtensionField<Self> {
     ghost over_itself: { Self.over ≡ itself Self.ring };
 }
 
-impl SelfExtension for BabyBear {
+impl<M: Modulus> SelfExtension for Residue<M> {
     ghost over_itself = { refl };
 }

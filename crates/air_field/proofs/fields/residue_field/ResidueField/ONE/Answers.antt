@@ -1,0 +1,7 @@
+use Rattle.std.proofs.Common.{refl}
+use Rattle.air_field.specs.Residue.{residues}
+use Rattle.air_field.specs.laws.Modular.{same_small}
+use Rattle.air_field.proofs.fields.residue_field.ResidueField.ONE.Goals as goal
+
+pub returns : goal.returns
+returns g c = same_small (residues g.M.Modulus) _ 1 g.M.Modulus.is_prime.least refl

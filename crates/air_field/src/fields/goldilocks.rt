@@ -1,0 +1,55 @@
+//! The field of the whole numbers modulo 18446744069414584321.
+ghost use Rattle.std.specs.Prelude.{◌≡◌, ◌<◌, ◌%◌, ◌*◌, ◌+◌};
+
+/// A whole number modulo 2^64 - 2^32 + 1, kept below it.
+#[derive(Clone, Copy, PartialEq, Eq, PartialOrd, Ord, Debug)]
+pub struct Goldilocks {
+    pub(crate) residue: u64,
+    pub ghost reduced: { residue < 18446744069414584321 },
+}
+
+impl Goldilocks {
+    /// 2^64 - 2^32 + 1.
+    pub const MODULUS: u64 = 18446744069414584321;
+
+    /// The class of any number.
+    pub fn new(n: u64) -> Self
+        ensures { result.residue ≡ n % 18446744069414584321 }
+    {
+        let residue = if n < Self::MODULUS {
+            n
+        } else {
+            n - Self::MODULUS
+        };
+        Goldilocks { residue }
+    }
+
+    /// The class of `hi * 2^96 + mid * 2^64 + lo`: 2^64 is 2^32 - 1, and 2^96 is -1.
+    pub(crate) fn reduced(hi: u64, mid: u64, lo: u64) -> Self
+        requires high { hi < 4294967296 }
+        requires middle { mid < 4294967296 }
+        ensures { result.residue ≡ (hi * 79228162514264337593543950336 + mid * 18446744073709551616 + lo) % 18446744069414584321 }
+    {
+        let low = if lo < hi {
+            lo + (Self::MODULUS - hi)
+        } else {
+            lo - hi
+        };
+        let middle = mid * 4294967295;
+        let gap = Self::MODULUS - middle;
+        if low < gap {
+            Goldilocks {
+                residue: low + middle,
+            }
+        } else {
+            Goldilocks::new(low - gap)
+        }
+    }
+
+    /// The number below the modulus.
+    pub fn as_canonical_u64(self) -> u64
+        ensures { result ≡ self.residue }
+    {
+        self.residue
+    }
+}

@@ -1,0 +1,30 @@
+//! The field of the whole numbers modulo 2130706433.
+ghost use Rattle.std.proofs.Common.{lit<};
+ghost use Rattle.air_field.specs.laws.Primes.{koala_bear_prime};
+
+use crate::fields::modulus::Modulus;
+use crate::fields::residue::Residue;
+
+/// 2^31 - 2^24 + 1.
+#[derive(Clone, Copy)]
+pub struct KoalaBearModulus;
+
+impl Modulus for KoalaBearModulus {
+    ghost P = { 2130706433 };
+
+    const P: u32 = 2130706433;
+
+    const NAME: &'static str = "KoalaBear";
+
+    ghost is_prime = { koala_bear_prime };
+
+    ghost small = { lit< tt };
+}
+
+/// A whole number modulo 2130706433, kept below it.
+pub type KoalaBear = Residue<KoalaBearModulus>;
+
+impl KoalaBear {
+    /// 2^31 - 2^24 + 1.
+    pub const MODULUS: u32 = 2130706433;
+}

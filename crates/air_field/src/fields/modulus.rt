@@ -1,0 +1,27 @@
+//! Moduli of prime fields whose elements have 31 bits.
+ghost use Rattle.std.specs.Prelude.{◌≡◌, ℕ, ◌*◌, ◌%◌, ◌≤◌, ◌<◌};
+ghost use Rattle.air_field.specs.Prime.{IsPrime};
+
+/// A prime number below 2^31.
+pub trait Modulus: Copy {
+    ghost P: { ℕ };
+
+    ghost is_prime: { IsPrime P };
+
+    ghost small: { P < 2147483648 };
+
+    /// The number.
+    const P: u32;
+
+    /// The field's name.
+    const NAME: &'static str;
+
+    /// The remainder of a product. A modulus of a special shape needs no division.
+    fn product(a: u32, b: u32) -> u32
+        requires left { a < P }
+        requires right { b < P }
+        ensures { result ≡ (a * b) % P }
+    {
+        (a as u64 * b as u64 % Self::P as u64) as u32
+    }
+}
