@@ -1,5 +1,6 @@
 pub mod Ring
 pub mod RingOps
+pub mod Domain
 pub mod Coefficients
 pub mod Powers
 pub mod Extension
@@ -19,9 +20,11 @@ pub mod Matrix
 pub mod Assignment
 pub mod OneRow
 pub mod Prime
+pub mod NoSquare
 pub mod Modular
 pub mod Residue
 pub mod BabyBear
+pub mod KoalaBear
 pub mod Goldilocks
 pub mod Modulo
 pub mod Binomial

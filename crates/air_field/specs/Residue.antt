@@ -1,5 +1,5 @@
 -- The residues modulo a number of 31 bits.
-use Rattle.std.specs.Prelude.{◌≡◌, ℕ, ◌%◌, ◌<◌, ◌≤◌, refl}
+use Rattle.std.specs.Prelude.{ℕ, ◌%◌, refl}
 use Rattle.air_field.specs.Ring.{CommRing}
 use Rattle.air_field.specs.Modular.{Modular, modular_ring}
 use Rattle.air_field.specs.declared.fields.modulus.Modulus.{Ghosts}

@@ -10,6 +10,10 @@ pub mod Primality
 pub mod Trial
 pub mod Order
 pub mod Primes
+pub mod Fermat
+pub mod NoRatio
+pub mod NoSquare
+pub mod FourDomain
 pub mod Single
 pub mod Sums
 pub mod Value
@@ -26,5 +30,7 @@ pub mod Goldilocks
 pub mod Modulo
 pub mod SamePolynomial
 pub mod Binomial
+pub mod BinomialDomain
+pub mod Inverse
 pub mod Rows
 pub mod Part

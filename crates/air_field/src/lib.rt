@@ -9,11 +9,11 @@ pub mod rings;
 
 pub use errors::{MatrixError, RingError};
 pub use fields::baby_bear::BabyBear;
-pub use fields::binomial::BinomialExtensionField;
-pub use fields::extension::ExtensionField;
+pub use fields::binomial::{BinomialExtension, BinomialExtensionField, BinomialModulus};
+pub use fields::extension::{DomainExtension, ExtensionField};
 pub use fields::field::{Field, PrimeField};
 pub use fields::goldilocks::Goldilocks;
-pub use fields::koala_bear::KoalaBear;
+pub use fields::koala_bear::{KoalaBear, KoalaBearExtension};
 pub use fields::mersenne31::Mersenne31;
 pub use fields::modulus::Modulus;
 pub use fields::order::{extension_order, field_order};

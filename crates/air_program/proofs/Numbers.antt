@@ -1,7 +1,7 @@
 -- The numbers of a line, one after the other.
 use Rattle.std.proofs.Common.{◌≡◌, ℕ, ◌%◌, ◌≤◌, List, [], ◌∷◌, ◌++◌, append_assoc, Option, Some, None, option_map, refl, ap, arith}
 use Rattle.std.proofs.lemmas.List.{map-append}
-use Rattle.air_field.specs.declared.fields.baby_bear.BabyBear.{BabyBear}
+use Rattle.air_field.specs.BabyBear.{BabyBear}
 use Rattle.air_program.specs.Grammar.{number_of, numbers_in}
 use Rattle.air_program.specs.Parsing.{residues, onto}
 

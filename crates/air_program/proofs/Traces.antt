@@ -2,7 +2,7 @@
 use Rattle.std.proofs.Common.{◌≡◌, ◌⊎◌, ℕ, zero, suc, List, drop, length, Bool, Option, Some, Result, Ok, Err, IfOk, String, string_bytes, refl, ap, ◌∙◌, inl, inr}
 use Rattle.std.specs.Global.{Global}
 use Rattle.air_field.specs.Grid.{rows_of, grid_of}
-use Rattle.air_field.specs.declared.fields.baby_bear.BabyBear.{BabyBear}
+use Rattle.air_field.specs.BabyBear.{BabyBear}
 use Rattle.air_program.specs.Answer.{AuditFinds, given_fibonacci, PassesDegree, IsAnswerTo}
 use Rattle.air_core.specs.declared.errors.AirError.{AirError}
 use Rattle.air_core.specs.declared.errors.AirError.TheVariants as air

@@ -3,7 +3,7 @@ use Rattle.std.specs.Prelude.{◌≡◌, ◌⊎◌, ◌<◌, ℕ, List, [], ◌�
 use Rattle.air_field.specs.Grid.{Grid, grid_of}
 use Rattle.air_field.specs.Extension.{own_basis}
 use Rattle.air_field.specs.Modulo.{baby_bear_ring}
-use Rattle.air_field.specs.declared.fields.baby_bear.BabyBear.{BabyBear}
+use Rattle.air_field.specs.BabyBear.{BabyBear}
 use Rattle.air_report.specs.Given.{Given, given}
 use Rattle.p3_air.specs.Audits.{IsAuditUnder, IsDegreePast}
 use Rattle.p3_air.specs.declared.audit.Audit.{Audit}

@@ -3,7 +3,7 @@ use Rattle.std.specs.Prelude.{◌≡◌, ◌⊎◌, ℕ, List, length, codes, Bo
 use Rattle.serde_json.specs.Data.{Data}
 use Rattle.serde_json.specs.Read.{read}
 use Rattle.air_field.specs.Modulo.{baby_bear_ring}
-use Rattle.air_field.specs.declared.fields.baby_bear.BabyBear.{BabyBear}
+use Rattle.air_field.specs.BabyBear.{BabyBear}
 use Rattle.air_builder.specs.Declaration.{Declaration}
 use Rattle.p3_air.specs.FlatAirs.{zero_at_roots}
 use Rattle.air_program.specs.Input.{SpellsInput, HasInputFault}

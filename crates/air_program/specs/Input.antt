@@ -3,7 +3,7 @@ use Rattle.std.specs.Prelude.{◌≡◌, ℕ, List, map, Ok, Err, ◌⊎◌}
 use Rattle.serde_json.specs.Data.{Data}
 use Rattle.air_field.specs.Matrix.{matrix_of}
 use Rattle.air_field.specs.declared.errors.MatrixError.{MatrixError}
-use Rattle.air_field.specs.declared.fields.baby_bear.BabyBear.{BabyBear}
+use Rattle.air_field.specs.BabyBear.{BabyBear}
 use Rattle.air_symbolic.specs.Pools.{tree_at}
 use Rattle.air_core.specs.Errors.{matrix_air_error}
 use Rattle.air_core.specs.declared.errors.AirError.{AirError}

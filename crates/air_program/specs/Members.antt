@@ -1,7 +1,7 @@
 -- The members of the object: what they spell, in the order in which they are read.
 use Rattle.std.specs.Prelude.{◌≡◌, ℕ, ◌≤◌, List, [], Option, Some, None, ◌⊎◌, codes}
 use Rattle.serde_json.specs.Data.{Data, null}
-use Rattle.air_field.specs.declared.fields.baby_bear.BabyBear.{BabyBear}
+use Rattle.air_field.specs.BabyBear.{BabyBear}
 use Rattle.air_symbolic.specs.Trees.{Tree}
 use Rattle.air_symbolic.specs.declared.leaves.base_leaf.BaseLeaf.{BaseLeaf}
 use Rattle.air_core.specs.declared.boundary.BoundaryPublic.{BoundaryPublic}

@@ -1,6 +1,6 @@
 -- What the steps of the parser do.
 use Rattle.std.specs.Prelude.{◌≡◌, ℕ, Option, Some, option_map, List, [], ◌∷◌, ◌++◌, length, map}
-use Rattle.air_field.specs.declared.fields.baby_bear.BabyBear.{BabyBear}
+use Rattle.air_field.specs.BabyBear.{BabyBear}
 
 -- the numbers below the modulus
 abbrev pub residues : List BabyBear → List ℕ

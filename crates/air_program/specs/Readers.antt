@@ -2,7 +2,7 @@
 use Rattle.std.specs.Prelude.{ℕ, List, [], ◌∷◌, ◌++◌, Option, Some, None, Result, Ok, option_map, codes, if◌then◌else◌, is_some, ok_or}
 use Rattle.serde_json.specs.Data.{Data, Items, no_items, item}
 use Rattle.serde_json.specs.Find.{get, as_array, as_null}
-use Rattle.air_field.specs.declared.fields.baby_bear.BabyBear.{BabyBear}
+use Rattle.air_field.specs.BabyBear.{BabyBear}
 use Rattle.air_symbolic.specs.Trees.{Tree}
 use Rattle.air_symbolic.specs.declared.leaves.base_leaf.BaseLeaf.{BaseLeaf}
 use Rattle.air_core.specs.declared.boundary.BoundaryPublic.{BoundaryPublic}

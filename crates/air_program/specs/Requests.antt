@@ -1,6 +1,6 @@
 -- What answers a request.
 use Rattle.std.specs.Prelude.{◌≡◌, ◌⊎◌, ℕ, List, Bool}
-use Rattle.air_field.specs.declared.fields.baby_bear.BabyBear.{BabyBear}
+use Rattle.air_field.specs.BabyBear.{BabyBear}
 use Rattle.air_program.specs.Answer.{IsAnswerTo}
 use Rattle.air_program.specs.FlatAnswer.{IsFlatAnswer}
 use Rattle.air_program.specs.Grammar.{parse}

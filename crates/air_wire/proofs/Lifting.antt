@@ -1,6 +1,6 @@
 -- The base expression of a list inside a leaf.
 use Rattle.std.proofs.Common.{◌≡◌, ℕ, List, length, Result, Ok, sym, ap, subst, ◌∙◌}
-use Rattle.air_field.specs.declared.fields.baby_bear.BabyBear.{BabyBear}
+use Rattle.air_field.specs.BabyBear.{BabyBear}
 use Rattle.serde_json.specs.Data.{Data}
 use Rattle.air_field.specs.Ring.{CommRing, Over}
 use Rattle.air_field.specs.Extension.{Basis, ExtensionLaws}

@@ -4,7 +4,7 @@ use Rattle.std.specs.List.{list_all}
 use Rattle.serde_json.specs.Data.{Data, Items, no_items, item}
 use Rattle.serde_json.specs.Find.{as_array}
 use Rattle.air_field.specs.Modulo.{class}
-use Rattle.air_field.specs.declared.fields.baby_bear.BabyBear.{BabyBear}
+use Rattle.air_field.specs.BabyBear.{BabyBear}
 use Rattle.air_wire.specs.Parts.{whole}
 use Rattle.air_wire.specs.Results.{◌>>=◌}
 use Rattle.air_wire.specs.Spelling.{number_data}

@@ -4,7 +4,7 @@ use Rattle.serde_json.specs.Data.{Data, array}
 use Rattle.air_field.specs.Ring.{Over}
 use Rattle.air_field.specs.Extension.{Basis}
 use Rattle.air_field.specs.Term.{Term, leaf_term, ext_const_term}
-use Rattle.air_field.specs.declared.fields.baby_bear.BabyBear.{BabyBear}
+use Rattle.air_field.specs.BabyBear.{BabyBear}
 use Rattle.air_core.specs.ExtEntries.{ext_entry_leaf}
 use Rattle.air_symbolic.specs.Trees.{term_of}
 use Rattle.air_symbolic.specs.BaseLeaves.{base_term}

@@ -96,7 +96,7 @@ fn base_leaf_value(alloc: Global, leaf: &BaseLeaf<BabyBear>) -> Result<Value, Al
 }
 
 impl WireLeaf for BaseLeaf<BabyBear> {
-    ghost use Rattle.air_field.specs.declared.fields.baby_bear.BabyBear.{BabyBear};
+    ghost use Rattle.air_field.specs.BabyBear.{BabyBear};
     ghost use Rattle.air_symbolic.specs.declared.leaves.base_leaf.BaseLeaf.{BaseLeaf};
     ghost use Rattle.air_wire.specs.BaseLeaves.{base_kind, base_seen, base_wire_laws};
     ghost use Rattle.air_wire.specs.laws.BaseLeaves.{base_kind_laws};

@@ -207,7 +207,7 @@ fn ext_leaf_value<EF: ExtensionField<BabyBear>>(
 
 impl<EF: ExtensionField<BabyBear>> WireLeaf for ExtLeaf<BabyBear, EF> {
     ghost use Rattle.air_field.specs.Modulo.{baby_bear_ring};
-    ghost use Rattle.air_field.specs.declared.fields.baby_bear.BabyBear.{BabyBear};
+    ghost use Rattle.air_field.specs.BabyBear.{BabyBear};
     ghost use Rattle.air_symbolic.specs.ExtTrees.{WholeLeaf, whole_leaf as whole};
     ghost use Rattle.air_wire.specs.ExtLeaves.{ext_kind};
     ghost use Rattle.air_wire.specs.laws.ExtLeaves.{ext_wire_laws, ext_kind_laws};

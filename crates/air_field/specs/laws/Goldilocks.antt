@@ -1,5 +1,5 @@
 -- Equal values are the same element, and a class is below the modulus.
-use Rattle.std.specs.Prelude.{◌≡◌, ℕ, ◌%◌, ◌<◌, ◌≤◌}
+use Rattle.std.specs.Prelude.{◌≡◌, ℕ, ◌%◌, ◌<◌}
 use Rattle.std.specs.Coded.{le_prop}
 use Rattle.std.proofs.Common.{lit<, mod-lt}
 use Rattle.air_field.specs.declared.fields.goldilocks.Goldilocks.{Goldilocks}

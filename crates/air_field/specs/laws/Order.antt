@@ -1,6 +1,6 @@
 -- An odd number p is prime if some b has b ^ 2 ^ k + 1 as a multiple of p, where p is below 2 ^ (k + 1) squared: modulo a divisor
 -- of p the first 2 ^ (k + 1) powers of b are then different numbers, so that each divisor is at least that great.
-use Rattle.std.specs.Prelude.{◌≡◌, ℕ, zero, suc, refl, ◌+◌, ◌-◌, ◌*◌, ◌%◌, ◌/◌, ◌^◌, ◌<◌, ◌≤◌, ◌⊎◌, Bool, true, false, eqb, List, [], ◌∷◌, length, ⊤, ◌||◌}
+use Rattle.std.specs.Prelude.{◌≡◌, ℕ, zero, suc, refl, ◌+◌, ◌-◌, ◌*◌, ◌%◌, ◌/◌, ◌^◌, ◌<◌, ◌≤◌, ◌⊎◌, Bool, true, false, eqb, List, [], ◌∷◌, length, ◌||◌}
 use Rattle.std.specs.Int.{◌∣◌}
 use Rattle.std.specs.List.{IsDistinct, AllByRecursion, list_any}
 use Rattle.std.proofs.Common.{sym, ◌∙◌, ap, subst, inl, inr, arith, eqb-true, true≢false, mod-eq_of_lt, mod-lt}
@@ -8,7 +8,7 @@ use Rattle.std.proofs.lemmas.Bool.{cases_lt}
 use Rattle.std.proofs.lemmas.Nat.{mul-mod_first, mul-mod_second, pow-mod, pow-add, mul-pow}
 use Rattle.std.proofs.lemmas.Nat.Gcd.{dvd_trans, le_of_dvd}
 use Rattle.std.proofs.lemmas.Map.Steps.{length-le_from_distinct_below}
-use Rattle.std.proofs.Math.Nat.{pow-suc, pow-zero, two-pow-succ, zero-mul, zero-mod, mod-add-mod, add-mod-mod, mod-mod, dvd-mul_right, dvd_of_mod-eq-zero, mod-eq-zero_of_dvd, div-mul_cancel, mul-le-mul}
+use Rattle.std.proofs.Math.Nat.{pow-suc, pow-zero, two-pow-succ, zero-mul, zero-mod, mod-add-mod, add-mod-mod, dvd-mul_right, dvd_of_mod-eq-zero, mod-eq-zero_of_dvd, div-mul_cancel, mul-le-mul}
 use Rattle.air_field.specs.Prime.{IsPrime}
 use Rattle.air_field.specs.laws.Primality.{HasNoDivisor, euclid}
 use Rattle.air_field.specs.laws.Trial.{low_cofactor}
@@ -18,7 +18,7 @@ use Rattle.air_field.specs.laws.Trial.{low_cofactor}
 abbrev pub Same : ℕ → ℕ → ℕ → Type 0
 Same d x y = x % d ≡ y % d
 
-same_mul : (d x u y v : ℕ) → Same d x u → Same d y v → Same d (x * y) (u * v)
+pub same_mul : (d x u y v : ℕ) → Same d x u → Same d y v → Same d (x * y) (u * v)
 same_mul d x u y v p q =
     sym (mul-mod_first x y d)
     ∙ (ap (λ s. (s * y) % d) p
@@ -27,7 +27,7 @@ same_mul d x u y v p q =
     ∙ (ap (λ s. (u * s) % d) q
     ∙ mul-mod_second u v d))))
 
-same_add : (d x u y v : ℕ) → Same d x u → Same d y v → Same d (x + y) (u + v)
+pub same_add : (d x u y v : ℕ) → Same d x u → Same d y v → Same d (x + y) (u + v)
 same_add d x u y v p q =
     sym (mod-add-mod x d y)
     ∙ (ap (λ s. (s + y) % d) p
@@ -36,7 +36,7 @@ same_add d x u y v p q =
     ∙ (ap (λ s. (u + s) % d) q
     ∙ add-mod-mod u v d))))
 
-same_if : (d x y : ℕ) → x ≡ y → Same d x y
+pub same_if : (d x y : ℕ) → x ≡ y → Same d x y
 same_if d x y e = ap (λ s. s % d) e
 
 -- ---- powers of a number that is one below a multiple of d
@@ -73,7 +73,7 @@ turns d c (suc s) last =
       | inr w ↦ inl (then_even s w.0, same_if d (c ^ suc s) (c ^ s * c) (pow-suc c s) ∙ last_times d c (c ^ s) last w.1)
     ]
 
-two_is_not_zero : (d : ℕ) → 2 < d → Same d (1 + 1) 0 → ⊥
+pub two_is_not_zero : (d : ℕ) → 2 < d → Same d (1 + 1) 0 → ⊥
 two_is_not_zero d big e =
     let same : 2 ≡ 0 = sym (mod-eq_of_lt big) ∙ (e ∙ zero-mod d) in
     omega (arith, same)
@@ -87,7 +87,7 @@ even_if_one d c s big last one =
 
 -- ---- the order of b
 
-pow_times : (b m q : ℕ) → (b ^ m) ^ q ≡ b ^ (q * m)
+pub pow_times : (b m q : ℕ) → (b ^ m) ^ q ≡ b ^ (q * m)
 pow_times b m zero = pow-zero (b ^ m) ∙ (sym (pow-zero b) ∙ ap (λ e. b ^ e) (sym (zero-mul m)))
 pow_times b m (suc q) =
     pow-suc (b ^ m) q

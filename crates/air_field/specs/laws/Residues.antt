@@ -1,6 +1,6 @@
 -- Arithmetic of residues: equal ones are the same number of the field, and sums and products keep the laws of a ring.
 use Rattle.std.specs.Prelude.{◌≡◌, ℕ, ◌+◌, ◌*◌, ◌-◌, ◌%◌, ◌<◌, ◌≤◌}
-use Rattle.std.proofs.Common.{sym, ◌∙◌, ap, subst, arith, mod-lt, mod-eq_of_lt, lit<}
+use Rattle.std.proofs.Common.{sym, ◌∙◌, ap, subst, arith, mod-lt, mod-eq_of_lt}
 use Rattle.std.proofs.lemmas.Nat.{mul-mod_first, mul-mod_second}
 use Rattle.std.proofs.Math.Nat.{add_comm, add-zero, mul_comm, mul-one, mod-add-mod, add-mod-mod, mod_self, zero-mod, mod-eq-sub-mod}
 use Rattle.std.specs.Coded.{le_prop}

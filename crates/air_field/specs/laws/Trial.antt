@@ -1,5 +1,5 @@
 -- A number is prime if no number from 2 to its root divides it: the test, by trial.
-use Rattle.std.specs.Prelude.{◌≡◌, ℕ, zero, suc, refl, ◌+◌, ◌*◌, ◌%◌, ◌/◌, ◌<◌, ◌≤◌, ◌⊎◌, Bool, true, false, eqb}
+use Rattle.std.specs.Prelude.{◌≡◌, ℕ, zero, suc, refl, ◌+◌, ◌*◌, ◌%◌, ◌/◌, ◌<◌, ◌≤◌, Bool, true, false, eqb}
 use Rattle.std.specs.Int.{◌∣◌}
 use Rattle.std.proofs.Common.{sym, ◌∙◌, ap, subst, inl, inr, arith, eq-eqb, true≢false}
 use Rattle.std.proofs.lemmas.Bool.{cases_lt}

@@ -1,11 +1,57 @@
-//! The polynomials over `BabyBear` modulo X^4 - 11.
-ghost use Rattle.std.specs.Prelude.{◌≡◌, length};
+//! The polynomials over a field of residues modulo X^4 - w.
+ghost use Rattle.std.specs.Prelude.{◌≡◌, ℕ, length, refl, ⊤};
+ghost use Rattle.air_field.specs.NoSquare.{IsNoSquare};
 
-use crate::fields::baby_bear::BabyBear;
+use crate::fields::baby_bear::BabyBearModulus;
+use crate::fields::modulus::Modulus;
+use crate::fields::residue::Residue;
+use std::alloc::AllocError;
+use std::fmt;
 
-/// A polynomial of four coefficients, lowest first, modulo X^4 - 11.
-#[derive(Clone, Copy, PartialEq, Eq, PartialOrd, Ord, Debug)]
-pub struct BinomialExtensionField {
-    pub(crate) value: [BabyBear; 4],
+/// A modulus with the number w of X^4 - w, which is no square.
+pub trait BinomialModulus: Modulus {
+    ghost W: { ℕ };
+
+    ghost no_square: { IsNoSquare Self.P W };
+
+    /// The number.
+    const W: u32;
+}
+
+/// A polynomial of four coefficients, lowest first, modulo X^4 - w.
+#[derive_where(PartialEq, Eq, PartialOrd, Ord)]
+pub struct BinomialExtension<M: Modulus> {
+    pub(crate) value: [Residue<M>; 4],
     pub ghost four: { length value ≡ 4 },
 }
+
+impl<M: Modulus> Clone for BinomialExtension<M> {
+    ghost is_clone = { λ a b. a ≡ b };
+
+    ghost is_infallible = { λ _. ⊤ };
+
+    fn clone(&self) -> Result<Self, AllocError> {
+        Ok(*self)
+    }
+}
+
+impl<M: Modulus> Copy for BinomialExtension<M> {}
+
+impl<M: Modulus> fmt::Debug for BinomialExtension<M> {
+    fn fmt<W: fmt::Write>(&self, f: &mut fmt::Formatter<W>) -> fmt::Result {
+        f.debug_struct("BinomialExtensionField")
+            .field("value", &self.value)
+            .finish()
+    }
+}
+
+impl BinomialModulus for BabyBearModulus {
+    ghost W = { 11 };
+
+    ghost no_square = { record { rest = refl; last = refl } };
+
+    const W: u32 = 11;
+}
+
+/// A polynomial over `BabyBear` modulo X^4 - 11.
+pub type BinomialExtensionField = BinomialExtension<BabyBearModulus>;

@@ -1,39 +1,39 @@
-//! `BinomialExtensionField` is an extension of `BabyBear` of dimension 4.
+//! `BinomialExtension` is an extension of dimension 4.
 ghost use Rattle.std.specs.Prelude.{◌≡◌};
-ghost use Rattle.air_field.specs.Modulo.{baby_bear_ring, class};
+ghost use Rattle.air_field.specs.Residue.{residue_class, residue_ring};
 ghost use Rattle.air_field.specs.Coefficients.{IsProductModulo};
 ghost use Rattle.air_field.specs.Binomial.{binomial_product, binomial_over, binomial_basis};
+ghost use Rattle.air_field.specs.laws.BinomialDomain.{binomial_domain};
 ghost use Rattle.air_field.specs.laws.Binomial.{binomial_laws, binomial_over_laws, same_polynomial};
 
-use crate::fields::baby_bear::BabyBear;
-use crate::fields::binomial::BinomialExtensionField;
-use crate::fields::extension::ExtensionField;
+use crate::fields::binomial::{BinomialExtension, BinomialModulus};
+use crate::fields::extension::{DomainExtension, ExtensionField};
 use crate::fields::field::Field;
 use crate::fields::product::dot_product;
-use std::marker::PhantomData;
+use crate::fields::residue::Residue;
 
-impl ExtensionField<BabyBear> for BinomialExtensionField {
-    ghost over = { binomial_over };
+impl<M: BinomialModulus> ExtensionField<Residue<M>> for BinomialExtension<M> {
+    ghost over = { binomial_over M.Modulus M.W };
 
-    ghost basis = { binomial_basis };
+    ghost basis = { binomial_basis M.Modulus };
 
     ghost DIMENSION = { 4 };
 
     const DIMENSION: usize = 4;
 
     fn zero() -> Self {
-        BinomialExtensionField {
-            value: [BabyBear::ZERO; 4],
+        BinomialExtension {
+            value: [<Residue<M> as Field>::ZERO; 4],
         }
     }
 
     fn one() -> Self {
-        BinomialExtensionField {
+        BinomialExtension {
             value: [
-                BabyBear::ONE,
-                BabyBear::ZERO,
-                BabyBear::ZERO,
-                BabyBear::ZERO,
+                <Residue<M> as Field>::ONE,
+                <Residue<M> as Field>::ZERO,
+                <Residue<M> as Field>::ZERO,
+                <Residue<M> as Field>::ZERO,
             ],
         }
     }
@@ -41,7 +41,7 @@ impl ExtensionField<BabyBear> for BinomialExtensionField {
     fn add(self, other: Self) -> Self {
         let [a0, a1, a2, a3] = self.value;
         let [b0, b1, b2, b3] = other.value;
-        BinomialExtensionField {
+        BinomialExtension {
             value: [
                 Field::add(a0, b0),
                 Field::add(a1, b1),
@@ -54,7 +54,7 @@ impl ExtensionField<BabyBear> for BinomialExtensionField {
     fn sub(self, other: Self) -> Self {
         let [a0, a1, a2, a3] = self.value;
         let [b0, b1, b2, b3] = other.value;
-        BinomialExtensionField {
+        BinomialExtension {
             value: [
                 Field::sub(a0, b0),
                 Field::sub(a1, b1),
@@ -66,7 +66,7 @@ impl ExtensionField<BabyBear> for BinomialExtensionField {
 
     fn neg(self) -> Self {
         let [a0, a1, a2, a3] = self.value;
-        BinomialExtensionField {
+        BinomialExtension {
             value: [
                 Field::neg(a0),
                 Field::neg(a1),
@@ -76,22 +76,19 @@ impl ExtensionField<BabyBear> for BinomialExtensionField {
         }
     }
 
-    // the product of the polynomials, reduced by X^4 = 11: w1, w2, w3 stand where a power passes X^3
+    // the product of the polynomials, reduced by X^4 = w: w1, w2, w3 stand where a power passes X^3
     fn mul(self, other: Self) -> Self
-        ensures product { result ≡ binomial_product self other }
-        ensures coefficients { IsProductModulo baby_bear_ring (class 11) self.value other.value
+        ensures product { result ≡ binomial_product M.W self other }
+        ensures coefficients { IsProductModulo (residue_ring M.Modulus) (residue_class M.Modulus M.W) self.value other.value
             result.value }
     {
         let a = self.value;
         let [b0, b1, b2, b3] = other.value;
-        let eleven = BabyBear {
-            residue: 11,
-            modulus: PhantomData,
-        };
-        let w1 = Field::mul(eleven, b1);
-        let w2 = Field::mul(eleven, b2);
-        let w3 = Field::mul(eleven, b3);
-        BinomialExtensionField {
+        let w = Residue::new(M::W);
+        let w1 = Field::mul(w, b1);
+        let w2 = Field::mul(w, b2);
+        let w3 = Field::mul(w, b3);
+        BinomialExtension {
             value: [
                 dot_product(&a, &[b0, w3, w2, w1]),
                 dot_product(&a, &[b1, b0, w3, w2]),
@@ -101,29 +98,38 @@ impl ExtensionField<BabyBear> for BinomialExtensionField {
         }
     }
 
-    fn from_base(x: BabyBear) -> Self {
-        BinomialExtensionField {
-            value: [x, BabyBear::ZERO, BabyBear::ZERO, BabyBear::ZERO],
+    fn from_base(x: Residue<M>) -> Self {
+        BinomialExtension {
+            value: [
+                x,
+                <Residue<M> as Field>::ZERO,
+                <Residue<M> as Field>::ZERO,
+                <Residue<M> as Field>::ZERO,
+            ],
         }
     }
 
-    fn as_basis_coefficients_slice(&self) -> &[BabyBear] {
+    fn as_basis_coefficients_slice(&self) -> &[Residue<M>] {
         &self.value
     }
 
-    fn from_basis_coefficients(c: &[BabyBear]) -> Self {
-        BinomialExtensionField {
+    fn from_basis_coefficients(c: &[Residue<M>]) -> Self {
+        BinomialExtension {
             value: [c[0], c[1], c[2], c[3]],
         }
     }
 
     fn is_in_basefield(&self) -> bool {
-        self.value[1..] == [BabyBear::ZERO; 3]
+        self.value[1..] == [<Residue<M> as Field>::ZERO; 3]
     }
 
-    ghost laws = { binomial_laws };
+    ghost laws = { binomial_laws M.Modulus M.W };
 
-    ghost over_laws = { binomial_over_laws };
+    ghost over_laws = { binomial_over_laws M.Modulus M.W };
 
     ghost eq_is = { same_polynomial };
+}
+
+impl<M: BinomialModulus> DomainExtension<Residue<M>> for BinomialExtension<M> {
+    ghost domain = { binomial_domain M.Modulus M.W M.no_square };
 }

@@ -2,6 +2,7 @@
 ghost use Rattle.std.specs.Prelude.{◌≡◌, ℕ, ◌↔◌, length, IsTrue, IfOk, IsOkUnless};
 ghost use Rattle.std.specs.Bool.{Decides};
 ghost use Rattle.air_field.specs.Ring.{Over, OverLaws, minus};
+ghost use Rattle.air_field.specs.Domain.{IsDomain};
 ghost use Rattle.air_field.specs.Extension.{Basis, ExtensionLaws, IsInBase};
 ghost use Rattle.air_field.specs.Powers.{powers_of};
 
@@ -84,4 +85,9 @@ pub trait ExtensionField<F: Field>: Copy + Eq + Ord + Debug {
     ghost over_laws: { OverLaws F.ring over };
 
     ghost eq_is: { (a b : Self) → Decides (Self.eq a b) (a ≡ b) };
+}
+
+/// An extension in which a product is zero only if a factor is.
+pub trait DomainExtension<F: Field>: ExtensionField<F> {
+    ghost domain: { IsDomain Self.over.ring };
 }

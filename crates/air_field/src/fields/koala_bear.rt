@@ -1,7 +1,9 @@
 //! The field of the whole numbers modulo 2130706433.
+ghost use Rattle.std.specs.Prelude.{refl};
 ghost use Rattle.std.proofs.Common.{lit<};
 ghost use Rattle.air_field.specs.laws.Primes.{koala_bear_prime};
 
+use crate::fields::binomial::{BinomialExtension, BinomialModulus};
 use crate::fields::modulus::Modulus;
 use crate::fields::residue::Residue;
 
@@ -28,3 +30,14 @@ impl KoalaBear {
     /// 2^31 - 2^24 + 1.
     pub const MODULUS: u32 = 2130706433;
 }
+
+impl BinomialModulus for KoalaBearModulus {
+    ghost W = { 3 };
+
+    ghost no_square = { record { rest = refl; last = refl } };
+
+    const W: u32 = 3;
+}
+
+/// A polynomial over `KoalaBear` modulo X^4 - 3.
+pub type KoalaBearExtension = BinomialExtension<KoalaBearModulus>;

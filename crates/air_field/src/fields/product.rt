@@ -2,17 +2,18 @@
 ghost use Rattle.std.specs.Prelude.{◌≡◌};
 ghost use Rattle.air_field.specs.RingOps.{ops};
 ghost use Rattle.air_field.specs.Coefficients.{dot};
-ghost use Rattle.air_field.specs.Modulo.{baby_bear_ring};
+ghost use Rattle.air_field.specs.Residue.{residue_ring};
 
-use crate::fields::baby_bear::BabyBear;
+use crate::fields::modulus::Modulus;
+use crate::fields::residue::Residue;
 
 /// The sum of the products of what stands at one place of both, by one reduction.
-pub(crate) fn dot_product(a: &[BabyBear; 4], b: &[BabyBear; 4]) -> BabyBear
-    ensures { result ≡ dot (ops baby_bear_ring) a.now b.now }
+pub(crate) fn dot_product<M: Modulus>(a: &[Residue<M>; 4], b: &[Residue<M>; 4]) -> Residue<M>
+    ensures { result ≡ dot (ops (residue_ring M.Modulus)) a.now b.now }
 {
     let [a0, a1, a2, a3] = *a;
     let [b0, b1, b2, b3] = *b;
-    BabyBear::reduced(
+    Residue::reduced(
         a0.unreduced_product(b0)
             + a1.unreduced_product(b1)
             + a2.unreduced_product(b2)

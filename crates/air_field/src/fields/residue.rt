@@ -75,6 +75,7 @@ impl<M: Modulus> Residue<M> {
     pub(crate) fn unreduced_product(self, other: Self) -> u64
         ensures product { result ≡ self.residue * other.residue }
         ensures small { result < M.P * M.P }
+        ensures fits { result < 4611686018427387904 }
     {
         self.as_canonical_u64() * other.as_canonical_u64()
     }

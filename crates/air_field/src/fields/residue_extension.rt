@@ -3,9 +3,9 @@ ghost use Rattle.air_field.specs.Ring.{itself, itself_laws};
 ghost use Rattle.air_field.specs.Extension.{own_basis};
 ghost use Rattle.air_field.specs.laws.Single.{single_laws};
 ghost use Rattle.air_field.specs.Residue.{residue_ring, residues};
-ghost use Rattle.air_field.specs.laws.Modular.{equal_is};
+ghost use Rattle.air_field.specs.laws.Modular.{domain, equal_is};
 
-use crate::fields::extension::ExtensionField;
+use crate::fields::extension::{DomainExtension, ExtensionField};
 use crate::fields::field::Field;
 use crate::fields::modulus::Modulus;
 use crate::fields::residue::Residue;
@@ -65,4 +65,8 @@ impl<M: Modulus> ExtensionField<Residue<M>> for Residue<M> {
     ghost over_laws = { itself_laws (residue_ring M.Modulus) };
 
     ghost eq_is = { equal_is (residues M.Modulus) };
+}
+
+impl<M: Modulus> DomainExtension<Residue<M>> for Residue<M> {
+    ghost domain = { domain (residues M.Modulus) M.Modulus.is_prime };
 }

@@ -8,7 +8,7 @@ use Rattle.serde_json.specs.Data.{Data, null, boolean, number, string, object, a
 use Rattle.serde_json.specs.Find.{as_array}
 use Rattle.air_field.specs.Modulo.{class}
 use Rattle.air_field.specs.laws.Modulo.{class_of}
-use Rattle.air_field.specs.declared.fields.baby_bear.BabyBear.{BabyBear}
+use Rattle.air_field.specs.BabyBear.{BabyBear}
 use Rattle.air_wire.specs.Parts.{whole}
 use Rattle.air_wire.specs.Results.{◌>>=◌}
 use Rattle.air_wire.specs.Spelling.{number_data}

@@ -5,7 +5,7 @@ use Rattle.serde_json.specs.Data.{Data, array}
 use Rattle.air_field.specs.Ring.{CommRing, Over}
 use Rattle.air_field.specs.Extension.{Basis, ExtensionLaws}
 use Rattle.air_field.specs.laws.Extension.{padded-whole}
-use Rattle.air_field.specs.declared.fields.baby_bear.BabyBear.{BabyBear}
+use Rattle.air_field.specs.BabyBear.{BabyBear}
 use Rattle.air_symbolic.specs.laws.Pools.{tree-kept}
 use Rattle.air_symbolic.specs.laws.WholeTrees.{same_leaf}
 use Rattle.air_symbolic.specs.BaseLeaves.{base_reads, base_grows}

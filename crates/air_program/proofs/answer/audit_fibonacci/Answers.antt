@@ -1,4 +1,4 @@
-use Rattle.air_field.specs.declared.fields.baby_bear.BabyBear.{BabyBear}
+use Rattle.air_field.specs.BabyBear.{BabyBear}
 use Rattle.air_program.proofs.FibonacciRefusals.{audit_refuses}
 use Rattle.air_program.proofs.Traces.{told_as}
 use Rattle.air_program.proofs.answer.audit_fibonacci.Goals as goal

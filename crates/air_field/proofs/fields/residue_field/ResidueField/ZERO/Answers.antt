@@ -1,4 +1,4 @@
-use Rattle.std.proofs.Common.{refl, ◌≤◌, arith, ◌≡◌}
+use Rattle.std.proofs.Common.{refl}
 use Rattle.air_field.specs.laws.Prime.{zero_below}
 use Rattle.air_field.specs.Residue.{residues}
 use Rattle.air_field.specs.laws.Modular.{same_small}
