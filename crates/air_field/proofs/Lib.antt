@@ -1,3 +1,4 @@
 pub mod Binomials
+pub mod Adjugates
 pub mod JoinLaws
 pub mod BodyLaws

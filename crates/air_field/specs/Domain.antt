@@ -1,6 +1,6 @@
 -- Rings where a product is zero only if a factor is, squares, and inverses.
-use Rattle.std.specs.Prelude.{◌≡◌, ◌⊎◌}
-use Rattle.air_field.specs.Ring.{CommRing}
+use Rattle.std.specs.Prelude.{◌≡◌, ◌⊎◌, Option, None, Some}
+use Rattle.air_field.specs.Ring.{CommRing, Over}
 
 -- a product is zero only if a factor is
 abbrev pub IsDomain : {A : Type 0} → CommRing A → Type 0
@@ -12,3 +12,12 @@ IsNoRatio {A} R w = (x y : A) → R.mul x x ≡ R.mul w (R.mul y y) → y ≡ R.
 
 abbrev pub HasInverse : {A : Type 0} → CommRing A → A → Type 0
 HasInverse {A} R x = (y : A) × (R.mul x y ≡ R.one)
+
+-- what an inversion answers: nothing for zero alone, else what gives one with x
+abbrev pub IsInversion : {A : Type 0} → CommRing A → A → Option A → Type 0
+IsInversion R x None = x ≡ R.nil
+IsInversion R x (Some y) = R.mul x y ≡ R.one
+
+-- x times y is a number of the field below, which is zero only if x is
+abbrev pub IsAdjugate : {F A : Type 0} → Over F A → F → A → A → Type 0
+IsAdjugate {F} over nil x y = (n : F) × (over.ring.mul x y ≡ over.embed n) × (n ≡ nil → x ≡ over.ring.nil)

@@ -18,25 +18,25 @@ module _ {A : Type 0} (R : CommRing A) (w : A) where
   -- ---- the norm of a + b X + c X^2 + d X^3
 
   -- the product by a - b X + c X^2 - d X^3 is even + odd X^2
-  abbrev even : A → A → A → A → A
+  abbrev pub even : A → A → A → A → A
   even a b c d = minus R (R.add (R.mul a a) (R.mul w (R.mul c c))) (R.mul w (R.add (R.mul b d) (R.mul b d)))
 
-  abbrev odd : A → A → A → A → A
+  abbrev pub odd : A → A → A → A → A
   odd a b c d = minus R (R.add (R.mul a c) (R.mul a c)) (R.add (R.mul b b) (R.mul w (R.mul d d)))
 
   -- the norm of x + y X^2, where X^2 is a root of w
   abbrev norm_two : A → A → A
   norm_two x y = minus R (R.mul x x) (R.mul w (R.mul y y))
 
-  abbrev norm : A → A → A → A → A
+  abbrev pub norm : A → A → A → A → A
   norm a b c d = norm_two (even a b c d) (odd a b c d)
 
   -- what it is multiplied by to give its norm
-  abbrev adjugate : A → A → A → A → List A
+  abbrev pub adjugate : A → A → A → A → List A
   adjugate a b c d =
       binomial_mul (ops R) w (a ∷ R.neg b ∷ c ∷ R.neg d ∷ []) (even a b c d ∷ R.nil ∷ R.neg (odd a b c d) ∷ R.nil ∷ [])
 
-  first_product : (a b c d : A) → binomial_mul (ops R) w (a ∷ b ∷ c ∷ d ∷ []) (a ∷ R.neg b ∷ c ∷ R.neg d ∷ [])
+  pub first_product : (a b c d : A) → binomial_mul (ops R) w (a ∷ b ∷ c ∷ d ∷ []) (a ∷ R.neg b ∷ c ∷ R.neg d ∷ [])
       ≡ even a b c d ∷ R.nil ∷ odd a b c d ∷ R.nil ∷ []
   first_product a b c d =
       ring_list R (a ∷ b ∷ c ∷ d ∷ w ∷ [])
@@ -55,7 +55,7 @@ module _ {A : Type 0} (R : CommRing A) (w : A) where
       (constant_four expr_ops (less (times (var 0) (var 0)) (times (var 2) (times (var 1) (var 1)))))
       refl
 
-  times_adjugate : (a b c d : A) → binomial_mul (ops R) w (a ∷ b ∷ c ∷ d ∷ []) (adjugate a b c d) ≡ constant_four (ops R) (norm a b c d)
+  pub times_adjugate : (a b c d : A) → binomial_mul (ops R) w (a ∷ b ∷ c ∷ d ∷ []) (adjugate a b c d) ≡ constant_four (ops R) (norm a b c d)
   times_adjugate a b c d =
       let second = even a b c d ∷ R.nil ∷ R.neg (odd a b c d) ∷ R.nil ∷ [] in
       sym (four_mul_assoc R w (a ∷ b ∷ c ∷ d ∷ []) (a ∷ R.neg b ∷ c ∷ R.neg d ∷ []) second refl refl refl)
@@ -112,7 +112,7 @@ module _ {A : Type 0} (R : CommRing A) (w : A) where
         )
 
     -- (a + c X^2)^2 is then X^2 (b + d X^2)^2, and so are the norms of both sides
-    norm_nil : (a b c d : A) → norm a b c d ≡ R.nil → a ∷ b ∷ c ∷ d ∷ [] ≡ constant_four (ops R) R.nil
+    pub norm_nil : (a b c d : A) → norm a b c d ≡ R.nil → a ∷ b ∷ c ∷ d ∷ [] ≡ constant_four (ops R) R.nil
     norm_nil a b c d h =
         let parts : (even a b c d ≡ R.nil) × (odd a b c d ≡ R.nil) = norm_two-nil (even a b c d) (odd a b c d) h in
         let both : (norm_two a c ≡ R.nil) × (norm_two b d ≡ R.nil) =

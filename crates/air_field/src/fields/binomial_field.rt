@@ -2,6 +2,7 @@
 ghost use Rattle.std.specs.Prelude.{◌≡◌};
 ghost use Rattle.air_field.specs.Residue.{residue_class, residue_ring};
 ghost use Rattle.air_field.specs.Coefficients.{IsProductModulo};
+ghost use Rattle.air_field.specs.Domain.{IsAdjugate};
 ghost use Rattle.air_field.specs.Binomial.{binomial_product, binomial_over, binomial_basis};
 ghost use Rattle.air_field.specs.laws.BinomialDomain.{binomial_domain};
 ghost use Rattle.air_field.specs.laws.Binomial.{binomial_laws, binomial_over_laws, same_polynomial};
@@ -131,5 +132,32 @@ impl<M: BinomialModulus> ExtensionField<Residue<M>> for BinomialExtension<M> {
 }
 
 impl<M: BinomialModulus> DomainExtension<Residue<M>> for BinomialExtension<M> {
+    // a polynomial times its adjugate is its norm, which is a number
+    fn try_inverse(self) -> Option<Self> {
+        let adjugate = self.adjugate();
+        let [norm, _, _, _] = self.mul(adjugate).value;
+        match norm.try_inverse() {
+            None => None,
+            Some(inverse) => Some(adjugate.mul(Self::from_base(inverse))),
+        }
+    }
+
     ghost domain = { binomial_domain M.Modulus M.W M.no_square };
+}
+
+impl<M: BinomialModulus> BinomialExtension<M> {
+    // by (a + bX + cX^2 + dX^3)(a - bX + cX^2 - dX^3) = even + odd X^2, and once more (even - odd X^2)
+    fn adjugate(self) -> Self
+        ensures { IsAdjugate (binomial_over M.Modulus M.W) (residue_class M.Modulus 0) self result }
+    {
+        let [a, b, c, d] = self.value;
+        let conjugate = BinomialExtension {
+            value: [a, Field::neg(b), c, Field::neg(d)],
+        };
+        let [even, _, odd, _] = self.mul(conjugate).value;
+        let zero = <Residue<M> as Field>::ZERO;
+        conjugate.mul(BinomialExtension {
+            value: [even, zero, Field::neg(odd), zero],
+        })
+    }
 }

@@ -2,7 +2,7 @@
 ghost use Rattle.std.specs.Prelude.{◌≡◌, ℕ, ◌↔◌, length, IsTrue, IfOk, IsOkUnless};
 ghost use Rattle.std.specs.Bool.{Decides};
 ghost use Rattle.air_field.specs.Ring.{Over, OverLaws, minus};
-ghost use Rattle.air_field.specs.Domain.{IsDomain};
+ghost use Rattle.air_field.specs.Domain.{IsDomain, IsInversion};
 ghost use Rattle.air_field.specs.Extension.{Basis, ExtensionLaws, IsInBase};
 ghost use Rattle.air_field.specs.Powers.{powers_of};
 
@@ -87,7 +87,11 @@ pub trait ExtensionField<F: Field>: Copy + Eq + Ord + Debug {
     ghost eq_is: { (a b : Self) → Decides (Self.eq a b) (a ≡ b) };
 }
 
-/// An extension in which a product is zero only if a factor is.
+/// An extension that is a field: a product is zero only if a factor is, and what isn't zero has an inverse.
 pub trait DomainExtension<F: Field>: ExtensionField<F> {
+    /// The inverse, or nothing for zero.
+    fn try_inverse(self) -> Option<Self>
+        ensures { IsInversion Self.over.ring self result };
+
     ghost domain: { IsDomain Self.over.ring };
 }

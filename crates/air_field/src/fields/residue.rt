@@ -45,9 +45,7 @@ impl<M: Modulus> Residue<M> {
             modulus: PhantomData,
         }
     }
-}
 
-impl<M: Modulus> Residue<M> {
     /// The class of a number below twice the modulus, without a division.
     pub(crate) fn reduced_once(n: u32) -> Self
         requires { n < M.P + M.P }
