@@ -1,5 +1,5 @@
 -- The inverse of a polynomial modulo X^4 - w by its norm.
-use Rattle.std.specs.Prelude.{◌≡◌, ℕ, refl, [], ◌∷◌}
+use Rattle.std.specs.Prelude.{◌≡◌, ℕ, [], ◌∷◌}
 use Rattle.std.proofs.Common.{get_or, sym, ◌∙◌, ap, ap₂}
 use Rattle.air_field.specs.Ring.{CommRing, Over, OverLaws}
 use Rattle.air_field.specs.RingOps.{ops}
@@ -16,7 +16,6 @@ use Rattle.air_field.specs.laws.FourDomain.{even, odd, norm, adjugate, first_pro
 use Rattle.air_field.specs.laws.Modular.{domain}
 use Rattle.air_field.specs.laws.NoSquare.{ratio_is_no_square, root, root-square}
 use Rattle.air_field.specs.laws.SamePolynomial.{same_list}
-use Rattle.air_field.proofs.Binomials.{given_four}
 
 -- x times (y times the inverse of n) is one where x times y is n
 pub by_norm : {F A : Type 0} (R : CommRing F) (over : Over F A) → OverLaws R over → (n i : F) (x y : A)

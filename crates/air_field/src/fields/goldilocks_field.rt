@@ -1,11 +1,14 @@
 //! `Goldilocks` is a prime field.
+ghost use Rattle.std.proofs.Common.{lit<};
 ghost use Rattle.std.specs.Prelude.{refl};
 ghost use Rattle.air_field.specs.Goldilocks.{goldilocks, goldilocks_modular, goldilocks_ring};
 ghost use Rattle.air_field.specs.laws.Modular.{image-zero, equal_is, domain};
 ghost use Rattle.air_field.specs.laws.Primes.{goldilocks_prime};
 
+use crate::fields::extension::DomainExtension;
 use crate::fields::field::{Field, PrimeField};
 use crate::fields::goldilocks::Goldilocks;
+use crate::fields::power::power_of;
 
 impl Field for Goldilocks {
     ghost ring = { goldilocks_ring };
@@ -83,9 +86,23 @@ impl Field for Goldilocks {
 
     ghost eq_is = { equal_is goldilocks_modular };
 
+    ghost fits_in_memory = { lit< tt };
+
     ghost image_is = { image-zero goldilocks_modular };
 }
 
 impl PrimeField for Goldilocks {
+    ghost domain = { domain goldilocks_modular goldilocks_prime };
+}
+
+impl DomainExtension<Goldilocks> for Goldilocks {
+    // the power by p - 2, since the power by p is the element itself
+    fn try_inverse(self) -> Option<Self> {
+        if self == <Self as Field>::ZERO {
+            return None;
+        }
+        Some(power_of(self, Goldilocks::MODULUS - 2))
+    }
+
     ghost domain = { domain goldilocks_modular goldilocks_prime };
 }

@@ -1,4 +1,5 @@
 //! `Residue` is a prime field.
+ghost use Rattle.std.proofs.Common.{lit<};
 ghost use Rattle.std.specs.Prelude.{◌-◌, refl};
 ghost use Rattle.air_field.specs.Residue.{residue_class, residue_ring, residues};
 ghost use Rattle.air_field.specs.laws.Modular.{image-zero, equal_is, domain, two_is_sum, last_is_negative};
@@ -82,6 +83,8 @@ impl<M: Modulus> Field for Residue<M> {
     ghost neg_one_is = { last_is_negative (residues M.Modulus) M.Modulus.is_prime };
 
     ghost eq_is = { equal_is (residues M.Modulus) };
+
+    ghost fits_in_memory = { lit< tt };
 
     ghost image_is = { image-zero (residues M.Modulus) };
 }

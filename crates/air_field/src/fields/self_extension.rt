@@ -4,8 +4,6 @@ ghost use Rattle.air_field.specs.Ring.{itself};
 
 use crate::fields::extension::ExtensionField;
 use crate::fields::field::Field;
-use crate::fields::modulus::Modulus;
-use crate::fields::residue::Residue;
 
 /// A field as an extension of itself: its elements and operations are those of the field.
 pub trait SelfExtension: Field + ExtensionField<Self> {
@@ -13,6 +11,6 @@ pub trait SelfExtension: Field + ExtensionField<Self> {
     ghost over_itself: { Self.over ≡ itself Self.ring };
 }
 
-impl<M: Modulus> SelfExtension for Residue<M> {
+impl<F: Field> SelfExtension for F {
     ghost over_itself = { refl };
 }

@@ -1,5 +1,5 @@
-use Rattle.std.proofs.Common.{◌≡◌, ◌∙◌, get_or, subst, sym, ap}
-use Rattle.air_field.specs.Binomial.{binomial_over, binomial_product, constant_polynomial}
+use Rattle.std.proofs.Common.{◌∙◌, subst, sym, ap}
+use Rattle.air_field.specs.Binomial.{binomial_over, binomial_product}
 use Rattle.air_field.specs.Domain.{IsInversion}
 use Rattle.air_field.specs.Residue.{residue_ring}
 use Rattle.air_field.specs.laws.Binomial.{binomial_over_laws}

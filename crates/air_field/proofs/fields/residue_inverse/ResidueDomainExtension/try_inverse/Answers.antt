@@ -4,7 +4,7 @@ use Rattle.air_field.specs.Powers.{power}
 use Rattle.air_field.specs.Residue.{residue_ring, residues}
 use Rattle.air_field.specs.laws.Inverse.{modular_inverse}
 use Rattle.air_field.specs.laws.Modular.{equal_is}
-use Rattle.air_field.proofs.fields.residue_extension.ResidueDomainExtension.try_inverse.Goals as goal
+use Rattle.air_field.proofs.fields.residue_inverse.ResidueDomainExtension.try_inverse.Goals as goal
 
 pub returns-then-eq : goal.returns-then-eq
 returns-then-eq g c = (equal_is (residues g.M.Modulus) c.args.self c.ZERO.result).0 (sym c.eq.ensures ∙ c.if-eq.true) ∙ c.ZERO.ensures
