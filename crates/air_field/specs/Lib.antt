@@ -25,6 +25,8 @@ pub mod Modular
 pub mod Residue
 pub mod BabyBear
 pub mod KoalaBear
+pub mod Mersenne31
+pub mod Limbs
 pub mod Goldilocks
 pub mod Modulo
 pub mod Binomial

@@ -1,4 +1,4 @@
-//! Fields: the interface and its laws, the field of 2013265921 elements, extensions, and one of dimension 4.
+//! Fields: the interface and its laws, four prime fields, and extensions of dimension 1 and 4.
 
 pub mod baby_bear;
 pub mod binomial;

@@ -8,13 +8,13 @@ pub mod matrices;
 pub mod rings;
 
 pub use errors::{MatrixError, RingError};
-pub use fields::baby_bear::BabyBear;
-pub use fields::binomial::{BinomialExtension, BinomialExtensionField, BinomialModulus};
+pub use fields::baby_bear::{BabyBear, BabyBearModulus, BinomialExtensionField};
+pub use fields::binomial::{BinomialExtension, BinomialModulus};
 pub use fields::extension::{DomainExtension, ExtensionField};
-pub use fields::field::{Field, PrimeField};
+pub use fields::field::{Field, PrimeField, PrimeField64};
 pub use fields::goldilocks::Goldilocks;
-pub use fields::koala_bear::{KoalaBear, KoalaBearExtension};
-pub use fields::mersenne31::Mersenne31;
+pub use fields::koala_bear::{KoalaBear, KoalaBearExtension, KoalaBearModulus};
+pub use fields::mersenne31::{Mersenne31, Mersenne31Modulus};
 pub use fields::modulus::Modulus;
 pub use fields::order::{extension_order, field_order};
 pub use fields::residue::Residue;

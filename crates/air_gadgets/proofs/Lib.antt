@@ -5,12 +5,12 @@ pub mod PowerSums
 pub mod PackedBits
 pub mod ListedColumns
 mod Carrying
-mod ExactSums
+pub mod ExactSums
 mod LimbLaws
 mod Lending
 mod Making
-mod XorLaws
-mod ExactXors
+pub mod XorLaws
+pub mod ExactXors
 mod Halves
 mod Asserting
 mod PackedXors

@@ -1,7 +1,9 @@
 //! The field of the whole numbers modulo 2013265921.
+ghost use Rattle.std.specs.Prelude.{refl};
 ghost use Rattle.std.proofs.Common.{lit<};
 ghost use Rattle.air_field.specs.laws.Primes.{baby_bear_prime};
 
+use crate::fields::binomial::{BinomialExtension, BinomialModulus};
 use crate::fields::modulus::Modulus;
 use crate::fields::residue::Residue;
 
@@ -28,3 +30,14 @@ impl BabyBear {
     /// 2^31 - 2^27 + 1.
     pub const MODULUS: u32 = 2013265921;
 }
+
+impl BinomialModulus for BabyBearModulus {
+    ghost W = { 11 };
+
+    ghost no_square = { record { rest = refl; last = refl } };
+
+    const W: u32 = 11;
+}
+
+/// A polynomial over `BabyBear` modulo X^4 - 11.
+pub type BinomialExtensionField = BinomialExtension<BabyBearModulus>;

@@ -1,8 +1,7 @@
 //! The polynomials over a field of residues modulo X^4 - w.
-ghost use Rattle.std.specs.Prelude.{◌≡◌, ℕ, length, refl, ⊤};
+ghost use Rattle.std.specs.Prelude.{◌≡◌, ℕ, length, ⊤};
 ghost use Rattle.air_field.specs.NoSquare.{IsNoSquare};
 
-use crate::fields::baby_bear::BabyBearModulus;
 use crate::fields::modulus::Modulus;
 use crate::fields::residue::Residue;
 use std::alloc::AllocError;
@@ -44,14 +43,3 @@ impl<M: Modulus> fmt::Debug for BinomialExtension<M> {
             .finish()
     }
 }
-
-impl BinomialModulus for BabyBearModulus {
-    ghost W = { 11 };
-
-    ghost no_square = { record { rest = refl; last = refl } };
-
-    const W: u32 = 11;
-}
-
-/// A polynomial over `BabyBear` modulo X^4 - 11.
-pub type BinomialExtensionField = BinomialExtension<BabyBearModulus>;

@@ -1,5 +1,6 @@
 //! The field of the whole numbers modulo 18446744069414584321.
-ghost use Rattle.std.specs.Prelude.{◌≡◌, ◌<◌, ◌%◌, ◌*◌, ◌+◌};
+ghost use Rattle.std.specs.Prelude.{◌≡◌, ◌<◌, ◌%◌};
+ghost use Rattle.air_field.specs.Limbs.{from_limbs};
 
 /// A whole number modulo 2^64 - 2^32 + 1, kept below it.
 #[derive(Clone, Copy, PartialEq, Eq, PartialOrd, Ord, Debug)]
@@ -28,7 +29,7 @@ impl Goldilocks {
     pub(crate) fn reduced(hi: u64, mid: u64, lo: u64) -> Self
         requires high { hi < 4294967296 }
         requires middle { mid < 4294967296 }
-        ensures { result.residue ≡ (hi * 79228162514264337593543950336 + mid * 18446744073709551616 + lo) % 18446744069414584321 }
+        ensures { result.residue ≡ from_limbs hi mid lo % 18446744069414584321 }
     {
         let low = if lo < hi {
             lo + (Self::MODULUS - hi)

@@ -6,7 +6,7 @@ ghost use Rattle.air_field.specs.laws.Modular.{image-zero, equal_is, domain};
 ghost use Rattle.air_field.specs.laws.Primes.{goldilocks_prime};
 
 use crate::fields::extension::DomainExtension;
-use crate::fields::field::{Field, PrimeField};
+use crate::fields::field::{Field, PrimeField, PrimeField64};
 use crate::fields::goldilocks::Goldilocks;
 use crate::fields::power::power_of;
 
@@ -93,6 +93,22 @@ impl Field for Goldilocks {
 
 impl PrimeField for Goldilocks {
     ghost domain = { domain goldilocks_modular goldilocks_prime };
+}
+
+impl PrimeField64 for Goldilocks {
+    ghost ORDER_U64 = { 18446744069414584321 };
+
+    ghost residues = { goldilocks_modular };
+
+    const ORDER_U64: u64 = Goldilocks::MODULUS;
+
+    fn as_canonical_u64(self) -> u64 {
+        self.residue
+    }
+
+    ghost order_is = { refl };
+
+    ghost ring_is = { refl };
 }
 
 impl DomainExtension<Goldilocks> for Goldilocks {

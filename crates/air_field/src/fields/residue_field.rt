@@ -4,7 +4,7 @@ ghost use Rattle.std.specs.Prelude.{◌-◌, refl};
 ghost use Rattle.air_field.specs.Residue.{residue_class, residue_ring, residues};
 ghost use Rattle.air_field.specs.laws.Modular.{image-zero, equal_is, domain, two_is_sum, last_is_negative};
 
-use crate::fields::field::{Field, PrimeField};
+use crate::fields::field::{Field, PrimeField, PrimeField64};
 use crate::fields::modulus::Modulus;
 use crate::fields::residue::Residue;
 use std::marker::PhantomData;
@@ -91,4 +91,20 @@ impl<M: Modulus> Field for Residue<M> {
 
 impl<M: Modulus> PrimeField for Residue<M> {
     ghost domain = { domain (residues M.Modulus) M.Modulus.is_prime };
+}
+
+impl<M: Modulus> PrimeField64 for Residue<M> {
+    ghost ORDER_U64 = { M.P };
+
+    ghost residues = { residues M.Modulus };
+
+    const ORDER_U64: u64 = M::P as u64;
+
+    fn as_canonical_u64(self) -> u64 {
+        self.residue as u64
+    }
+
+    ghost order_is = { refl };
+
+    ghost ring_is = { refl };
 }

@@ -22,7 +22,8 @@ impl<T> Model for RowMajorMatrix<T> {
 
     ghost view = { λ m. record { width = m.width; rows = rows_of m.height m.width m.values.items } };
 
-    ghost invariant = { λ m. (length m.values.items ≡ m.height * m.width) × (m.width ≡ 0 → m.height ≡ 0) };
+    ghost invariant = { λ m.
+        (length m.values.items ≡ m.height * m.width) × (m.width ≡ 0 → m.height ≡ 0) };
 }
 
 impl<T: Copy> RowMajorMatrix<T> {

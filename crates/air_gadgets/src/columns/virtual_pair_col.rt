@@ -187,8 +187,8 @@ impl<F: Field> VirtualPairCol<F> {
 
     /// One preprocessed column less another.
     pub fn diff_preprocessed(alloc: Global, a_col: usize, b_col: usize) -> Result<Self, AirError>
-        ensures made { IfOk result (λ v. v ≡ difference_of F.ONE F.NEG_ONE F.ZERO (Preprocessed a_col)
-            (Preprocessed b_col)) }
+        ensures made { IfOk result
+            (λ v. v ≡ difference_of F.ONE F.NEG_ONE F.ZERO (Preprocessed a_col) (Preprocessed b_col)) }
         ensures refused { IfErr result (λ e. e ≡ AirError.Memory) }
     {
         Self::diff(

@@ -17,7 +17,8 @@ pub fn pack_bits_le<F: Field, R: Algebra<F>>(
     ensures sum { OnOk result (PacksValues F.ring F.ZERO) }
     ensures extended { R.extends ring.old ring.new }
     ensures made { IfOk result (MadeOfPacked R.has R.means F.ZERO ring.old ring.new bits.now) }
-    ensures refused { IfErr result (RefusedOfPacked R.means (AsAir R.refuses) F.ZERO ring.old bits.now) }
+    ensures refused { IfErr result
+        (RefusedOfPacked R.means (AsAir R.refuses) F.ZERO ring.old bits.now) }
 {
     if bits.is_empty() {
         let none = ring.constant(F::ZERO)?;

@@ -124,8 +124,8 @@ impl<A: Copy + Ord> NodeTable<A> {
 
     /// The number that is remembered at a place, if it is the node's.
     pub fn recall(&self, place: usize, node: &SymbolicExpr<A>) -> Option<usize>
-        requires exact { (n : SymbolicExpr A) → ⟦<SymbolicExpr<A> as PartialEq>⟧.eq node.now n ≡ true
-            → node.now ≡ n }
+        requires exact { (n : SymbolicExpr A)
+            → ⟦<SymbolicExpr<A> as PartialEq>⟧.eq node.now n ≡ true → node.now ≡ n }
         ensures { IfSome result (λ i. slice_get self.now i ≡ Some node.now) }
     {
         let number = *self.remembered.get(place % PLACES)?;
