@@ -7,6 +7,7 @@ use Rattle.std.specs.Cmp.{IsTotalOrder}
 use Rattle.std.proofs.Common.{sym, ◌∙◌, ap, ap₂, inl, inr, arith, length-append}
 use Rattle.std.proofs.lemmas.Bool.{cases_lt}
 use Rattle.std.proofs.lemmas.List.Sums.{length-filter}
+use Rattle.air_field.specs.Domain.{IsDomain}
 use Rattle.air_field.specs.Ring.{CommRing, AllZero}
 use Rattle.air_field.specs.Powers.{power}
 use Rattle.air_field.specs.laws.Ring.{nil_add, one_mul, ring_rules}
@@ -14,7 +15,7 @@ use Rattle.air_field.specs.laws.RingSolver.{var, plus, times, ring}
 use Rattle.air_recording.specs.Folds.{horner}
 use Rattle.air_folder.specs.laws.Fold.{horner-first}
 use Rattle.air_folder.specs.Hiding.{IsBelowAll, IsIncreasing}
-use Rattle.air_folder.proofs.Roots.{IsDomain, DiffersFromAll, Distinct, poly_value, AllRoots, nil_of_roots}
+use Rattle.air_folder.proofs.Roots.{DiffersFromAll, Distinct, poly_value, AllRoots, nil_of_roots}
 
 -- the values in the other order: the coefficients of their fold, lowest first
 abbrev backwards : {A : Type 0} → List A → List A

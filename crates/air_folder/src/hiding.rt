@@ -4,13 +4,13 @@ ghost use Rattle.air_field.specs.Ring.{AllZero};
 ghost use Rattle.air_recording.specs.Folds.{horner};
 ghost use Rattle.air_folder.specs.Hiding.{folds_to_zero, IsIncreasing};
 
-use p3_air::{Field, PrimeField};
+use p3_air::{DomainExtension, ExtensionField, Field};
 
 /// Horner's fold of the values.
-fn fold<F: Field>(values: &[F], alpha: F) -> F
-    ensures { result ≡ horner F.ring alpha values.now }
+fn fold<F: Field, EF: ExtensionField<F>>(values: &[EF], alpha: EF) -> EF
+    ensures { result ≡ horner EF.over.ring alpha values.now }
 {
-    let mut accumulator = F::ZERO;
+    let mut accumulator = EF::zero();
     for value in values {
         accumulator = accumulator.mul(alpha).add(*value);
     }
@@ -18,14 +18,15 @@ fn fold<F: Field>(values: &[F], alpha: F) -> F
 }
 
 /// How many of the alphas, which increase strictly, fold the values to zero: fewer than there are values, where one of
-/// them isn't zero. It takes no memory.
-pub fn hiding_alphas<F: PrimeField>(values: &[F], alphas: &[F]) -> usize
-    requires { IsIncreasing F.cmp alphas.now }
-    ensures count { result ≡ count_by (folds_to_zero F.ring F.eq values.now) alphas.now }
-    ensures fewer { (AllZero F.ring values.now → ⊥) → result < length values.now }
+/// them isn't zero. It takes no memory. Provers draw alpha from an extension that is a field; over a prime field, which
+/// is its own extension, alphas and values are its elements.
+pub fn hiding_alphas<F: Field, EF: DomainExtension<F>>(values: &[EF], alphas: &[EF]) -> usize
+    requires { IsIncreasing EF.cmp alphas.now }
+    ensures count { result ≡ count_by (folds_to_zero EF.over.ring EF.eq values.now) alphas.now }
+    ensures fewer { (AllZero EF.over.ring values.now → ⊥) → result < length values.now }
 {
     alphas
         .iter()
-        .filter(|alpha| fold(values, **alpha) == F::ZERO)
+        .filter(|alpha| fold(values, **alpha) == EF::zero())
         .count()
 }

@@ -16,36 +16,104 @@ pub mod recorded_airs;
 pub mod symbolic;
 pub mod utils;
 
-pub use air_builder::{
-    Air, AirBuilder, AirBuilderWithContext, AirError, AssertAll, AssertAllExt, AssertAllNamed,
-    BaseAir, BoundaryEnd, BoundaryIoError, BoundaryPublic, Element, EvaluatedJoined,
-    ExtensionBuilder, FilteredAirBuilder, Joined, Lazy, Name, NamedAirBuilder,
-    NamedExtensionBuilder, Namespace, NamespaceExt, PassthroughNamedAirBuilder,
-    PermutationAirBuilder, RowWindow, TwoRows, WindowAccess,
-};
-pub use air_core::{BaseEntry, ExtEntry, SymbolicVariable, SymbolicVariableExt, boundary};
-pub use air_field::{
-    Algebra, BabyBear, BinomialExtensionField, ExtAlgebra, ExtFieldRing, ExtensionField, Field,
-    FieldRing, FromVar, MatrixError, PrimeField, RingError, RowMajorMatrix, RowMajorMatrixView,
-    SelfExtension, ViewPair,
-};
-pub use air_gadgets::{PairCol, VirtualPairCol};
-pub use air_recording::{
-    AirLayout, ConstraintLayout, Recorded, SymbolicAirBuilder, constraint_degree_from_poly_degree,
-    get_all_symbolic_constraints, get_constraint_layout, get_max_constraint_degree,
-    get_max_constraint_degree_extension, get_symbolic_constraints,
-    get_symbolic_constraints_extension,
-};
-pub use air_report::{
-    CheckError, ConstraintFailure, ConstraintReport, DebugConstraintBuilder, check_all_constraints,
-    check_constraints,
-};
-pub use air_symbolic::{
-    BaseLeaf, Degrees, ExprId, ExprPool, ExtLeaf, LeafWeight, SymLeaf, SymbolicExpr,
-    SymbolicExpression, SymbolicExpressionExt,
-};
-pub use air_wire::{FlatError, Spelled, WireLeaf, from_flat_value, to_flat_value};
-pub use audit::{Audit, audit_air, audit_air_with_cap};
+pub use air_builder::Air;
+pub use air_builder::AirBuilder;
+pub use air_builder::AirBuilderWithContext;
+pub use air_builder::AirError;
+pub use air_builder::AssertAll;
+pub use air_builder::AssertAllExt;
+pub use air_builder::AssertAllNamed;
+pub use air_builder::BaseAir;
+pub use air_builder::BoundaryEnd;
+pub use air_builder::BoundaryIoError;
+pub use air_builder::BoundaryPublic;
+pub use air_builder::Element;
+pub use air_builder::EvaluatedJoined;
+pub use air_builder::ExtensionBuilder;
+pub use air_builder::FilteredAirBuilder;
+pub use air_builder::Joined;
+pub use air_builder::Lazy;
+pub use air_builder::Name;
+pub use air_builder::NamedAirBuilder;
+pub use air_builder::NamedExtensionBuilder;
+pub use air_builder::Namespace;
+pub use air_builder::NamespaceExt;
+pub use air_builder::PassthroughNamedAirBuilder;
+pub use air_builder::PermutationAirBuilder;
+pub use air_builder::RowWindow;
+pub use air_builder::TwoRows;
+pub use air_builder::WindowAccess;
+pub use air_core::BaseEntry;
+pub use air_core::ExtEntry;
+pub use air_core::SymbolicVariable;
+pub use air_core::SymbolicVariableExt;
+pub use air_core::boundary;
+pub use air_field::Algebra;
+pub use air_field::BabyBear;
+pub use air_field::BinomialExtension;
+pub use air_field::BinomialExtensionField;
+pub use air_field::BinomialModulus;
+pub use air_field::DomainExtension;
+pub use air_field::ExtAlgebra;
+pub use air_field::ExtFieldRing;
+pub use air_field::ExtensionField;
+pub use air_field::Field;
+pub use air_field::FieldRing;
+pub use air_field::FromVar;
+pub use air_field::Goldilocks;
+pub use air_field::KoalaBear;
+pub use air_field::KoalaBearExtension;
+pub use air_field::MatrixError;
+pub use air_field::Mersenne31;
+pub use air_field::Modulus;
+pub use air_field::PrimeField;
+pub use air_field::PrimeField64;
+pub use air_field::Residue;
+pub use air_field::RingError;
+pub use air_field::RowMajorMatrix;
+pub use air_field::RowMajorMatrixView;
+pub use air_field::SelfExtension;
+pub use air_field::ViewPair;
+pub use air_gadgets::PairCol;
+pub use air_gadgets::VirtualPairCol;
+pub use air_recording::AirLayout;
+pub use air_recording::ConstraintLayout;
+pub use air_recording::Recorded;
+pub use air_recording::SymbolicAirBuilder;
+pub use air_recording::constraint_degree_from_poly_degree;
+pub use air_recording::get_all_symbolic_constraints;
+pub use air_recording::get_constraint_layout;
+pub use air_recording::get_max_constraint_degree;
+pub use air_recording::get_max_constraint_degree_extension;
+pub use air_recording::get_symbolic_constraints;
+pub use air_recording::get_symbolic_constraints_extension;
+pub use air_report::CheckError;
+pub use air_report::ConstraintFailure;
+pub use air_report::ConstraintReport;
+pub use air_report::DebugConstraintBuilder;
+pub use air_report::check_all_constraints;
+pub use air_report::check_constraints;
+pub use air_symbolic::BaseLeaf;
+pub use air_symbolic::Degrees;
+pub use air_symbolic::ExprId;
+pub use air_symbolic::ExprPool;
+pub use air_symbolic::ExtLeaf;
+pub use air_symbolic::LeafWeight;
+pub use air_symbolic::SymLeaf;
+pub use air_symbolic::SymbolicExpr;
+pub use air_symbolic::SymbolicExpression;
+pub use air_symbolic::SymbolicExpressionExt;
+pub use air_wire::FlatError;
+pub use air_wire::Spelled;
+pub use air_wire::WireLeaf;
+pub use air_wire::from_flat_value;
+pub use air_wire::to_flat_value;
+pub use audit::Audit;
+pub use audit::audit_air;
+pub use audit::audit_air_with_cap;
 pub use flat::flat_air::FlatAir;
-pub use flat::resolving::{resolve, resolve_all};
-pub use recorded_airs::{finish_recording, record_these, recorded_air};
+pub use flat::resolving::resolve;
+pub use flat::resolving::resolve_all;
+pub use recorded_airs::finish_recording;
+pub use recorded_airs::record_these;
+pub use recorded_airs::recorded_air;

@@ -12,4 +12,4 @@ ran r alpha values folded n ended so_far =
     ap (running r alpha folded) (sym (drop_all n values ended)) ∙ (so_far ∙ (running-is r alpha r.nil values ∙ folded_on-nil r alpha values))
 
 pub returns : goal.returns
-returns g c = ran g.F.Field.ring c.args.alpha c.args.values.now c.loop-value.accumulator c.loop-value.value-index c.loop-value-test.false c.loop-value.invariant
+returns g c = ran g.EF.ExtensionField.over.ring c.args.alpha c.args.values.now c.loop-value.accumulator c.loop-value.value-index c.loop-value-test.false c.loop-value.invariant

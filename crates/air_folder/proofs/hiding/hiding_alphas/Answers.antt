@@ -6,10 +6,10 @@ use Rattle.air_folder.proofs.hiding.hiding_alphas.Goals as goal
 
 pub returns-clause-fewer : goal.returns-clause-fewer
 returns-clause-fewer g c some =
-    let hides = folds_to_zero g.F.Field.ring g.F.PartialEq.eq c.args.values.now in
+    let hides = folds_to_zero g.EF.ExtensionField.over.ring g.EF.PartialEq.eq c.args.values.now in
     let counted : c.count.result ≡ count_by hides c.args.alphas.now = search rules in
     rw counted
-    (few_hide g.F.Field.ring g.met.F.PrimeField.domain hides c.args.values.now c.args.alphas.now
-    (λ x h. (g.met.F.Field.eq_is (horner g.F.Field.ring x c.args.values.now) g.F.Field.ring.nil).0 h)
-    (increasing_distinct g.F.Ord.cmp g.met.F.Ord.total c.args.alphas.now c.requires)
+    (few_hide g.EF.ExtensionField.over.ring g.met.EF.DomainExtension.domain hides c.args.values.now c.args.alphas.now
+    (λ x h. (g.met.EF.ExtensionField.eq_is (horner g.EF.ExtensionField.over.ring x c.args.values.now) g.EF.ExtensionField.over.ring.nil).0 h)
+    (increasing_distinct g.EF.Ord.cmp g.met.EF.Ord.total c.args.alphas.now c.requires)
     some)
