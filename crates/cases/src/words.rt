@@ -1,7 +1,7 @@
 //! Words as numbers, elements, values and texts.
 
 use crate::faults::{Fault, Why};
-use air_field::{BabyBear, ExtensionField, Field};
+use air_field::{ExtensionField, Field, PrimeField64};
 use serde_json::Value;
 use std::alloc::Global;
 
@@ -11,7 +11,7 @@ pub trait Number: Field {
     fn number(self) -> u64;
 }
 
-impl Number for BabyBear {
+impl<F: PrimeField64> Number for F {
     fn number(self) -> u64 {
         self.as_canonical_u64()
     }
@@ -75,6 +75,19 @@ pub fn extension_of<F: Field, EF: ExtensionField<F>>(
     words: &[&str],
 ) -> Result<EF, Fault> {
     let all: Vec<F> = elements_of(alloc, words)?;
+    if all.len() == EF::DIMENSION {
+        Ok(EF::from_basis_coefficients(all.as_slice()))
+    } else {
+        Err(Fault::Unreadable(Why::OtherDimension))
+    }
+}
+
+/// An element of an extension, by its coefficients, which commas separate.
+pub fn listed_extension<F: Field, EF: ExtensionField<F>>(
+    alloc: Global,
+    word: &str,
+) -> Result<EF, Fault> {
+    let all: Vec<F> = listed_elements(alloc, word)?;
     if all.len() == EF::DIMENSION {
         Ok(EF::from_basis_coefficients(all.as_slice()))
     } else {

@@ -1,10 +1,9 @@
 //! Constants of a builder's rings.
 ghost use Rattle.std.specs.Prelude.{IfOk};
 
-use crate::fields::listed_extension;
 use air_field::{Algebra, ExtAlgebra, ExtensionField, Field};
 use cases::Fault;
-use cases::words::element_of;
+use cases::words::{element_of, listed_extension};
 use std::alloc::Global;
 
 /// The constant of a number.

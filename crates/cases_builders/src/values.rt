@@ -4,13 +4,11 @@ use crate::airs::air;
 use crate::bits::utils;
 use crate::cells::boundary;
 use crate::columns::{pair_col, virtual_pair_col};
-use crate::fields::{baby_bear, extension, field};
 use crate::labels::names;
 use crate::matrices::{matrix, view_pair};
-use crate::rings::{ext_field_ring, field_ring};
 use crate::windows::window;
 use crate::words::word_gadget;
-use air_field::{BabyBear, BinomialExtensionField};
+use air_field::BabyBear;
 use cases::{Bench, Fault, Line, Why};
 use std::alloc::Global;
 
@@ -28,16 +26,6 @@ impl<'a> Bench<'a> for Values {
     fn answer(&mut self, line: &Line<'a>, text: &mut String) -> Result<(), Fault> {
         let alloc = self.alloc;
         match line.words.as_slice() {
-            ["BabyBear", call @ ..] => baby_bear(call, text),
-            ["Field", call @ ..] => field::<BabyBear>(call, text),
-            ["Extension", call @ ..] => {
-                extension::<BabyBear, BinomialExtensionField>(alloc, call, text)
-            }
-            ["Itself", call @ ..] => extension::<BabyBear, BabyBear>(alloc, call, text),
-            ["FieldRing", call @ ..] => field_ring::<BabyBear>(alloc, call, text),
-            ["ExtFieldRing", call @ ..] => {
-                ext_field_ring::<BabyBear, BinomialExtensionField>(alloc, call, text)
-            }
             ["RowMajorMatrix", call @ ..] => matrix(alloc, call, text),
             ["ViewPair", top, bottom] => view_pair(alloc, *top, *bottom, text),
             ["window", call @ ..] => window(alloc, call, text),

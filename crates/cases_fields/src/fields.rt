@@ -1,28 +1,13 @@
 //! Calls of fields.
 
 use air_field::fields::power::power_of;
-use air_field::{BabyBear, ExtensionField, Field};
-use cases::words::{Number, count_of, element_of, listed_elements, number_of, show_elements};
+use air_field::{DomainExtension, PrimeField64};
+use cases::words::{count_of, element_of, listed_extension, number_of, show_elements};
 use cases::{Fault, Why};
 use std::alloc::Global;
 
-/// Adds the element of a number below 2^32.
-pub fn baby_bear(call: &[&str], text: &mut String) -> Result<(), Fault> {
-    match call {
-        ["new", n] => match (*n).parse::<u32>() {
-            Ok(n) => {
-                let number = BabyBear::new(n).number();
-                write!(text, "{number}")?;
-                Ok(())
-            }
-            Err(_) => Err(Fault::Unreadable(Why::NoNumber)),
-        },
-        _ => Err(Fault::Unreadable(Why::NoSuchCall)),
-    }
-}
-
 // The element that a call answers.
-fn field_element<F: Number>(call: &[&str]) -> Result<F, Fault> {
+fn field_element<F: PrimeField64>(call: &[&str]) -> Result<F, Fault> {
     match call {
         ["ZERO"] => Ok(F::ZERO),
         ["ONE"] => Ok(F::ONE),
@@ -41,30 +26,23 @@ fn field_element<F: Number>(call: &[&str]) -> Result<F, Fault> {
 }
 
 /// Adds the number that a call of a field answers.
-pub fn field<F: Number>(call: &[&str], text: &mut String) -> Result<(), Fault> {
+pub fn field<F: PrimeField64>(call: &[&str], text: &mut String) -> Result<(), Fault> {
     let number = match call {
         ["CHARACTERISTIC"] => F::CHARACTERISTIC,
-        _ => field_element::<F>(call)?.number(),
+        ["ORDER_U64"] => F::ORDER_U64,
+        ["debug", x] => {
+            let x: F = element_of(*x)?;
+            write!(text, "{x:?}")?;
+            return Ok(());
+        }
+        _ => field_element::<F>(call)?.as_canonical_u64(),
     };
     write!(text, "{number}")?;
     Ok(())
 }
 
-/// The element with the coefficients that commas separate.
-pub fn listed_extension<F: Field, EF: ExtensionField<F>>(
-    alloc: Global,
-    word: &str,
-) -> Result<EF, Fault> {
-    let all: Vec<F> = listed_elements(alloc, word)?;
-    if all.len() == EF::DIMENSION {
-        Ok(EF::from_basis_coefficients(all.as_slice()))
-    } else {
-        Err(Fault::Unreadable(Why::OtherDimension))
-    }
-}
-
 // The element that a call of an extension answers.
-fn extension_element<F: Number, EF: ExtensionField<F>>(
+fn extension_element<F: PrimeField64, EF: DomainExtension<F>>(
     alloc: Global,
     call: &[&str],
 ) -> Result<EF, Fault> {
@@ -88,7 +66,7 @@ fn extension_element<F: Number, EF: ExtensionField<F>>(
 }
 
 /// Adds the coefficients that a call of an extension answers.
-pub fn extension<F: Number, EF: ExtensionField<F>>(
+pub fn extension<F: PrimeField64, EF: DomainExtension<F>>(
     alloc: Global,
     call: &[&str],
     text: &mut String,
@@ -102,6 +80,10 @@ pub fn extension<F: Number, EF: ExtensionField<F>>(
             let inside = listed_extension::<F, EF>(alloc, *x)?.is_in_basefield();
             write!(text, "{inside}")?;
         }
+        ["try_inverse", x] => match listed_extension::<F, EF>(alloc, *x)?.try_inverse() {
+            Some(inverse) => show_elements(inverse.as_basis_coefficients_slice(), text)?,
+            None => text.push_str("None")?,
+        },
         ["powers", x, k] => {
             let x: EF = listed_extension(alloc, *x)?;
             for power in &x.powers(alloc, count_of(*k)?)? {

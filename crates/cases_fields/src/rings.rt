@@ -1,8 +1,9 @@
 //! Calls of the rings whose elements are values.
 
-use crate::fields::listed_extension;
-use air_field::{Algebra, ExtAlgebra, ExtFieldRing, ExtensionField, Field, FieldRing, FromVar};
-use cases::words::{Number, element_of, elements_of, number_of, show_elements};
+use air_field::{
+    Algebra, ExtAlgebra, ExtFieldRing, ExtensionField, Field, FieldRing, FromVar, PrimeField64,
+};
+use cases::words::{element_of, elements_of, listed_extension, number_of, show_elements};
 use cases::{Fault, Why};
 use std::alloc::Global;
 
@@ -28,8 +29,12 @@ fn made<F: Field>(alloc: Global, call: &[&str]) -> Result<F, Fault> {
 }
 
 /// Adds the number that a call of the field's ring answers.
-pub fn field_ring<F: Number>(alloc: Global, call: &[&str], text: &mut String) -> Result<(), Fault> {
-    let number = made::<F>(alloc, call)?.number();
+pub fn field_ring<F: PrimeField64>(
+    alloc: Global,
+    call: &[&str],
+    text: &mut String,
+) -> Result<(), Fault> {
+    let number = made::<F>(alloc, call)?.as_canonical_u64();
     write!(text, "{number}")?;
     Ok(())
 }
@@ -72,7 +77,7 @@ fn made_over<F: Field, EF: ExtensionField<F>>(alloc: Global, call: &[&str]) -> R
 }
 
 /// Adds the coefficients that a call of the extension's ring answers.
-pub fn ext_field_ring<F: Number, EF: ExtensionField<F>>(
+pub fn ext_field_ring<F: PrimeField64, EF: ExtensionField<F>>(
     alloc: Global,
     call: &[&str],
     text: &mut String,
