@@ -3,3 +3,4 @@ mod Making
 mod Asserting
 mod Naming
 mod Powers
+mod Packing

@@ -4,3 +4,7 @@ pub use Rattle.air_builder.specs.Extensions
 pub mod Expressions
 pub mod Constraints
 pub mod Handing
+pub mod Kinds
+pub mod BitTerms
+pub mod WordTerms
+pub mod XorTerms

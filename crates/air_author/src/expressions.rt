@@ -12,6 +12,7 @@ pub mod arithmetic;
 pub mod columns;
 pub mod constants;
 pub mod extension;
+mod lifted_leaves;
 pub mod permutation;
 pub mod power;
 pub mod selectors;

@@ -23,11 +23,14 @@
 pub mod conditions;
 pub mod constraints;
 pub mod expressions;
+pub mod operators;
+pub mod plain;
+pub mod words;
 
 use air_builder::AirError;
 pub use conditions::{Condition, Everywhere};
 pub use constraints::claims::{Boolean, Claim, Equal, IsOne, Zero};
-pub use constraints::extension::{ExtClaim, ExtEqual, ExtIsOne, ExtNamed, ExtZero};
+pub use constraints::extension::{ExtBoolean, ExtClaim, ExtEqual, ExtIsOne, ExtNamed, ExtZero};
 pub use constraints::families::{All, Each, Family};
 pub use constraints::named::{Label, Named};
 pub use constraints::when::When;
@@ -45,6 +48,17 @@ pub use expressions::permutation::{
 pub use expressions::power::Power;
 pub use expressions::selectors::{FirstRow, LastRow, Transition};
 pub use expressions::{Expression, ExtExpression};
+pub use operators::E;
+pub use operators::leaves::{
+    challenge, constant, current, ext_constant, next, number, periodic, permutation_current,
+    permutation_next, permutation_value, preprocessed_current, preprocessed_next, public,
+};
+pub use plain::{Plain, PlainAir, PlainConstraints, Shape};
+pub use words::bits::{Bits, Columns, HasBits, PackedBits};
+pub use words::packed::{Packed, Series};
+pub use words::sums::{Add2, Add3, Word};
+pub use words::word_of_bits::WordOfBits;
+pub use words::xors::{Rotated, Xor32Shift};
 
 /// What making an expression or asserting constraints answers.
 pub type AirResult<T = ()> = Result<T, AirError>;

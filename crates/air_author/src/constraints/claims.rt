@@ -66,9 +66,9 @@ impl<AB: AirBuilder, X: Expression<AB>> Claim<AB> for Zero<X> {
 }
 
 impl<AB: AirBuilder, X: Expression<AB>> Constraint<AB> for Zero<X> {
-    ghost asserts = { λ s f _. Base (f (X.term s.0)) ∷ [] };
+    ghost asserts = { λ s f _. Base (f (⟦<Zero<X> as Claim<AB>>⟧.claims s)) ∷ [] };
 
-    ghost all_hold = { λ s b. X.holds s.0 b };
+    ghost all_hold = { λ s b. ⟦<Zero<X> as Claim<AB>>⟧.claim_holds s b };
 
     #[inline(always)]
     fn assert_under<K: Condition<AB>>(&self, builder: &mut AB, condition: &K) -> AirResult {
@@ -81,7 +81,7 @@ impl<AB: AirBuilder, X: Expression<AB>> Constraint<AB> for Zero<X> {
 pub struct IsOne<X>(pub X);
 
 impl<AB: AirBuilder, X: Expression<AB>> Claim<AB> for IsOne<X> {
-    ghost claims = { λ s. less_one_term AB.F.ONE (X.term s.0) };
+    ghost claims = { λ s. less_one_term AB.F.ring.one (X.term s.0) };
 
     ghost claim_holds = { λ s b. X.holds s.0 b };
 
@@ -92,9 +92,9 @@ impl<AB: AirBuilder, X: Expression<AB>> Claim<AB> for IsOne<X> {
 }
 
 impl<AB: AirBuilder, X: Expression<AB>> Constraint<AB> for IsOne<X> {
-    ghost asserts = { λ s f _. Base (f (less_one_term AB.F.ONE (X.term s.0))) ∷ [] };
+    ghost asserts = { λ s f _. Base (f (⟦<IsOne<X> as Claim<AB>>⟧.claims s)) ∷ [] };
 
-    ghost all_hold = { λ s b. X.holds s.0 b };
+    ghost all_hold = { λ s b. ⟦<IsOne<X> as Claim<AB>>⟧.claim_holds s b };
 
     #[inline(always)]
     fn assert_under<K: Condition<AB>>(&self, builder: &mut AB, condition: &K) -> AirResult {
@@ -118,9 +118,9 @@ impl<AB: AirBuilder, X: Expression<AB>, Y: Expression<AB>> Claim<AB> for Equal<X
 }
 
 impl<AB: AirBuilder, X: Expression<AB>, Y: Expression<AB>> Constraint<AB> for Equal<X, Y> {
-    ghost asserts = { λ s f _. Base (f (sub_term (X.term s.0) (Y.term s.1))) ∷ [] };
+    ghost asserts = { λ s f _. Base (f (⟦<Equal<X, Y> as Claim<AB>>⟧.claims s)) ∷ [] };
 
-    ghost all_hold = { λ s b. X.holds s.0 b × Y.holds s.1 b };
+    ghost all_hold = { λ s b. ⟦<Equal<X, Y> as Claim<AB>>⟧.claim_holds s b };
 
     #[inline(always)]
     fn assert_under<K: Condition<AB>>(&self, builder: &mut AB, condition: &K) -> AirResult {
@@ -133,7 +133,7 @@ impl<AB: AirBuilder, X: Expression<AB>, Y: Expression<AB>> Constraint<AB> for Eq
 pub struct Boolean<X>(pub X);
 
 impl<AB: AirBuilder, X: Expression<AB>> Claim<AB> for Boolean<X> {
-    ghost claims = { λ s. bool_check_term AB.F.ONE (X.term s.0) };
+    ghost claims = { λ s. bool_check_term AB.F.ring.one (X.term s.0) };
 
     ghost claim_holds = { λ s b. X.holds s.0 b };
 
@@ -144,9 +144,9 @@ impl<AB: AirBuilder, X: Expression<AB>> Claim<AB> for Boolean<X> {
 }
 
 impl<AB: AirBuilder, X: Expression<AB>> Constraint<AB> for Boolean<X> {
-    ghost asserts = { λ s f _. Base (f (bool_check_term AB.F.ONE (X.term s.0))) ∷ [] };
+    ghost asserts = { λ s f _. Base (f (⟦<Boolean<X> as Claim<AB>>⟧.claims s)) ∷ [] };
 
-    ghost all_hold = { λ s b. X.holds s.0 b };
+    ghost all_hold = { λ s b. ⟦<Boolean<X> as Claim<AB>>⟧.claim_holds s b };
 
     #[inline(always)]
     fn assert_under<K: Condition<AB>>(&self, builder: &mut AB, condition: &K) -> AirResult {

@@ -1,5 +1,6 @@
 //! Constraints over the extension, each of one assertion.
 ghost use Rattle.std.specs.Prelude.{⊤, [], ◌∷◌, OnOk, OnErr};
+ghost use Rattle.air_field.specs.Algebra.{bool_check_term};
 ghost use Rattle.air_field.specs.Term.{Term, sub_term};
 ghost use Rattle.air_builder.specs.Assertion.{Extension};
 ghost use Rattle.air_builder.specs.Builders.{less_one_term};
@@ -11,9 +12,8 @@ use crate::conditions::Condition;
 use crate::constraints::Constraint;
 use crate::constraints::named::Label;
 use crate::expressions::ExtExpression;
-use crate::expressions::arithmetic::Difference;
+use crate::expressions::arithmetic::{BoolCheck, Difference};
 use crate::expressions::constants::One;
-use crate::expressions::extension::Lifted;
 use air_builder::{ExtensionBuilder, NamedExtensionBuilder, Seen, SeenOver};
 use air_field::Algebra;
 
@@ -77,9 +77,9 @@ impl<AB: ExtensionBuilder, X: ExtExpression<AB>> ExtClaim<AB> for ExtZero<X> {
 }
 
 impl<AB: ExtensionBuilder, X: ExtExpression<AB>> Constraint<AB> for ExtZero<X> {
-    ghost asserts = { λ s _ g. Extension (g (X.ext_term s.0)) ∷ [] };
+    ghost asserts = { λ s _ g. Extension (g (⟦<ExtZero<X> as ExtClaim<AB>>⟧.ext_claims s)) ∷ [] };
 
-    ghost all_hold = { λ s b. X.ext_holds s.0 b };
+    ghost all_hold = { λ s b. ⟦<ExtZero<X> as ExtClaim<AB>>⟧.ext_claim_holds s b };
 
     #[inline(always)]
     fn assert_under<K: Condition<AB>>(&self, builder: &mut AB, condition: &K) -> AirResult {
@@ -92,7 +92,7 @@ impl<AB: ExtensionBuilder, X: ExtExpression<AB>> Constraint<AB> for ExtZero<X> {
 pub struct ExtIsOne<X>(pub X);
 
 impl<AB: ExtensionBuilder, X: ExtExpression<AB>> ExtClaim<AB> for ExtIsOne<X> {
-    ghost ext_claims = { λ s. less_one_term AB.F.ONE (X.ext_term s.0) };
+    ghost ext_claims = { λ s. less_one_term AB.F.ring.one (X.ext_term s.0) };
 
     ghost ext_claim_holds = { λ s b. X.ext_holds s.0 b };
 
@@ -102,14 +102,14 @@ impl<AB: ExtensionBuilder, X: ExtExpression<AB>> ExtClaim<AB> for ExtIsOne<X> {
         builder: &mut AB,
         condition: &K,
     ) -> AirResult<AB::ExprEF> {
-        condition.make_ext_under(builder, &Difference(&self.0, Lifted(One)))
+        condition.make_ext_under(builder, &Difference(&self.0, One))
     }
 }
 
 impl<AB: ExtensionBuilder, X: ExtExpression<AB>> Constraint<AB> for ExtIsOne<X> {
-    ghost asserts = { λ s _ g. Extension (g (less_one_term AB.F.ONE (X.ext_term s.0))) ∷ [] };
+    ghost asserts = { λ s _ g. Extension (g (⟦<ExtIsOne<X> as ExtClaim<AB>>⟧.ext_claims s)) ∷ [] };
 
-    ghost all_hold = { λ s b. X.ext_holds s.0 b };
+    ghost all_hold = { λ s b. ⟦<ExtIsOne<X> as ExtClaim<AB>>⟧.ext_claim_holds s b };
 
     #[inline(always)]
     fn assert_under<K: Condition<AB>>(&self, builder: &mut AB, condition: &K) -> AirResult {
@@ -139,9 +139,39 @@ impl<AB: ExtensionBuilder, X: ExtExpression<AB>, Y: ExtExpression<AB>> ExtClaim<
 
 impl<AB: ExtensionBuilder, X: ExtExpression<AB>, Y: ExtExpression<AB>> Constraint<AB>
     for ExtEqual<X, Y> {
-    ghost asserts = { λ s _ g. Extension (g (sub_term (X.ext_term s.0) (Y.ext_term s.1))) ∷ [] };
+    ghost asserts = { λ s _ g. Extension (g (⟦<ExtEqual<X, Y> as ExtClaim<AB>>⟧.ext_claims s)) ∷ [] };
 
-    ghost all_hold = { λ s b. X.ext_holds s.0 b × Y.ext_holds s.1 b };
+    ghost all_hold = { λ s b. ⟦<ExtEqual<X, Y> as ExtClaim<AB>>⟧.ext_claim_holds s b };
+
+    #[inline(always)]
+    fn assert_under<K: Condition<AB>>(&self, builder: &mut AB, condition: &K) -> AirResult {
+        assert_ext_claim(builder, condition, self)
+    }
+}
+
+/// The expression over the extension is zero or one.
+#[derive(Clone, Copy, Drop)]
+pub struct ExtBoolean<X>(pub X);
+
+impl<AB: ExtensionBuilder, X: ExtExpression<AB>> ExtClaim<AB> for ExtBoolean<X> {
+    ghost ext_claims = { λ s. bool_check_term AB.F.ring.one (X.ext_term s.0) };
+
+    ghost ext_claim_holds = { λ s b. X.ext_holds s.0 b };
+
+    #[inline(always)]
+    fn make_ext_claim<K: Condition<AB>>(
+        &self,
+        builder: &mut AB,
+        condition: &K,
+    ) -> AirResult<AB::ExprEF> {
+        condition.make_ext_under(builder, &BoolCheck(&self.0))
+    }
+}
+
+impl<AB: ExtensionBuilder, X: ExtExpression<AB>> Constraint<AB> for ExtBoolean<X> {
+    ghost asserts = { λ s _ g. Extension (g (⟦<ExtBoolean<X> as ExtClaim<AB>>⟧.ext_claims s)) ∷ [] };
+
+    ghost all_hold = { λ s b. ⟦<ExtBoolean<X> as ExtClaim<AB>>⟧.ext_claim_holds s b };
 
     #[inline(always)]
     fn assert_under<K: Condition<AB>>(&self, builder: &mut AB, condition: &K) -> AirResult {

@@ -126,7 +126,7 @@ impl<AB: AirBuilder, X: Expression<AB>> Expression<AB> for Square<X> {
 pub struct BoolCheck<X>(pub X);
 
 impl<AB: AirBuilder, X: Expression<AB>> Expression<AB> for BoolCheck<X> {
-    ghost term = { λ s. bool_check_term AB.F.ONE (X.term s.0) };
+    ghost term = { λ s. bool_check_term AB.F.ring.one (X.term s.0) };
 
     ghost holds = { λ s b. X.holds s.0 b };
 

@@ -25,7 +25,7 @@ impl<AB: AirBuilder> Expression<AB> for Constant<AB::F> {
 pub struct One;
 
 impl<AB: AirBuilder> Expression<AB> for One {
-    ghost term = { λ _. const_term AB.F.ONE };
+    ghost term = { λ _. const_term AB.F.ring.one };
 
     #[inline(always)]
     fn make(&self, builder: &mut AB) -> AirResult<AB::Expr> {

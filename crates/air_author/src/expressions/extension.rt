@@ -1,9 +1,14 @@
-//! Expressions over the extension. Sums, differences, negatives and products are those of base expressions.
+//! Expressions over the extension. Operations are those on base expressions.
+ghost use Rattle.air_field.specs.Algebra.{double_term, bool_check_term};
 ghost use Rattle.air_field.specs.Term.{ext_const_term, add_term, sub_term, neg_term, mul_term};
-ghost use Rattle.air_author.specs.Expressions.{Lasts, MadeBothIn};
+ghost use Rattle.air_author.specs.Expressions.{Lasts, MadeBothIn, power_term};
 
 use crate::AirResult;
-use crate::expressions::arithmetic::{Difference, Negative, Product, Sum};
+use crate::expressions::arithmetic::{
+    BoolCheck, Difference, Double, Negative, Product, Square, Sum,
+};
+use crate::expressions::constants::One;
+use crate::expressions::power::{Power, multiplied};
 use crate::expressions::{Expression, ExtExpression, answered};
 use air_builder::{ExtensionBuilder, SeenOver};
 use air_field::{Algebra, ExtAlgebra, ExtensionField};
@@ -102,5 +107,56 @@ impl<AB: ExtensionBuilder, X: ExtExpression<AB>> ExtExpression<AB> for Negative<
     fn make_ext(&self, builder: &mut AB) -> AirResult<AB::ExprEF> {
         let x = self.0.make_ext(builder)?;
         answered(builder.ext_ring().neg(x))
+    }
+}
+
+impl<AB: ExtensionBuilder, X: ExtExpression<AB>> ExtExpression<AB> for Double<X> {
+    ghost ext_term = { λ s. double_term (X.ext_term s.0) };
+
+    ghost ext_holds = { λ s b. X.ext_holds s.0 b };
+
+    #[inline(always)]
+    fn make_ext(&self, builder: &mut AB) -> AirResult<AB::ExprEF> {
+        let x = self.0.make_ext(builder)?;
+        answered(builder.ext_ring().double(x))
+    }
+}
+
+impl<AB: ExtensionBuilder, X: ExtExpression<AB>> ExtExpression<AB> for Square<X> {
+    ghost ext_term = { λ s. mul_term (X.ext_term s.0) (X.ext_term s.0) };
+
+    ghost ext_holds = { λ s b. X.ext_holds s.0 b };
+
+    #[inline(always)]
+    fn make_ext(&self, builder: &mut AB) -> AirResult<AB::ExprEF> {
+        let x = self.0.make_ext(builder)?;
+        answered(builder.ext_ring().mul(x, x))
+    }
+}
+
+impl<AB: ExtensionBuilder, X: ExtExpression<AB>> ExtExpression<AB> for BoolCheck<X> {
+    ghost ext_term = { λ s. bool_check_term AB.F.ring.one (X.ext_term s.0) };
+
+    ghost ext_holds = { λ s b. X.ext_holds s.0 b };
+
+    #[inline(always)]
+    fn make_ext(&self, builder: &mut AB) -> AirResult<AB::ExprEF> {
+        let x = self.0.make_ext(builder)?;
+        answered(builder.ext_ring().bool_check(x))
+    }
+}
+
+impl<AB: ExtensionBuilder, X: ExtExpression<AB>> ExtExpression<AB> for Power<X> {
+    ghost ext_term = { λ s. power_term AB.F.ring.one (X.ext_term s.0) s.1 };
+
+    ghost ext_holds = { λ s b. X.ext_holds s.0 b };
+
+    #[inline(always)]
+    fn make_ext(&self, builder: &mut AB) -> AirResult<AB::ExprEF> {
+        if self.1 == 0 {
+            return One.make_ext(builder);
+        }
+        let x = self.0.make_ext(builder)?;
+        answered(multiplied(builder.ext_ring(), x, self.1 - 1))
     }
 }

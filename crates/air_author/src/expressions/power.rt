@@ -10,16 +10,16 @@ use air_builder::AirBuilder;
 use air_field::{Algebra, Field, RingError};
 
 /// x, times x so many times more, from the left
-fn multiplied<F: Field, R: Algebra<F>>(
+pub(crate) fn multiplied<F: Field, R: Algebra<F>>(
     ring: &mut R,
     x: R::Elem,
     more: usize,
 ) -> Result<R::Elem, RingError>
     requires { R.has ring.old x }
     ensures extended { R.extends ring.old ring.new }
-    ensures made { IfOk result (MadeOf R.has R.means (λ t. power_term F.ONE t (suc more)) ring.old
+    ensures made { IfOk result (MadeOf R.has R.means (λ t. power_term F.ring.one t (suc more)) ring.old
         ring.new x) }
-    ensures refused { IfErr result (RefusedOf R.means R.refuses (λ t. power_term F.ONE t (suc more))
+    ensures refused { IfErr result (RefusedOf R.means R.refuses (λ t. power_term F.ring.one t (suc more))
         ring.old x) }
 {
     let mut total = x;
@@ -34,7 +34,7 @@ fn multiplied<F: Field, R: Algebra<F>>(
 pub struct Power<X>(pub X, pub usize);
 
 impl<AB: AirBuilder, X: Expression<AB>> Expression<AB> for Power<X> {
-    ghost term = { λ s. power_term AB.F.ONE (X.term s.0) s.1 };
+    ghost term = { λ s. power_term AB.F.ring.one (X.term s.0) s.1 };
 
     ghost holds = { λ s b. X.holds s.0 b };
 

@@ -12,7 +12,7 @@ returns-in_err-x g c =
 
 pub returns : goal.returns
 returns g c =
-    let one = g.AB.F.Field.ONE in
+    let one = g.AB.F.Field.ring.one in
     let at = g.AB.AirBuilder.stands c.make-2.new.builder in
     let t = g.X.Expression.term c.args.self.now.0 in
     let n : suc (c.args.self.now.1 - 1) ≡ c.args.self.now.1 = omega arith in

@@ -1,0 +1,21 @@
+use Rattle.std.proofs.Common.{◌≡◌, ◌<◌, ◌-◌, ◌∙◌, suc, arith, ap}
+use Rattle.air_field.specs.Term.{with_leaves}
+use Rattle.air_builder.specs.laws.Extensions.{over_extension}
+use Rattle.air_author.specs.Expressions.{power_term}
+use Rattle.air_author.proofs.Making.{part_gives_up, one_answered}
+use Rattle.air_author.proofs.Powers.{in_power, each_power, power_with_leaves}
+use Rattle.air_author.proofs.expressions.extension.PowerExtExpression.make_ext.Goals as goal
+
+pub returns-in_err-x : goal.returns-in_err-x
+returns-in_err-x g c =
+    let lt : 0 < c.args.self.now.1 = omega arith in
+    part_gives_up (in_power _ _ 0 _ lt) c.from_residual.ensures.1 c.in_err-x.ensures
+
+pub returns : goal.returns
+returns g c =
+    let one = g.AB.F.Field.ring.one in
+    let at = g.AB.AirBuilder.stands c.make_ext-2.new.builder in
+    let t = g.X.ExtExpression.ext_term c.args.self.now.0 in
+    let n : suc (c.args.self.now.1 - 1) ≡ c.args.self.now.1 = omega arith in
+    one_answered g.met.AB.ExtRing.Algebra.laws (over_extension g.met.AB.AirBuilder.laws g.met.AB.ExtensionBuilder.ext_laws) (λ u. power_term one u (suc (c.args.self.now.1 - 1))) _ _ _ _ _ _ _ _ _ c.in_ok-x.ensures c.answered.ensures c.ext_ring.ensures.value c.multiplied.ensures.extended c.multiplied.ensures.made c.multiplied.ensures.refused
+    (ap (power_term one (with_leaves at t)) n ∙ power_with_leaves at one t c.args.self.now.1) (each_power _ one t c.args.self.now.1)
