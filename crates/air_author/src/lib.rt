@@ -1,19 +1,21 @@
 //! Constraints as values: an author of an AIR writes its declared list and one call, and no proof.
 //!
-//! An expression is a value of a small type that knows its term, as `Sum(Current(0), Current(1))`, and a constraint is
-//! one of a small type that knows what it asserts, as `Equal(Next(1), Sum(Current(0), Current(1)))`. In `eval` an
-//! author writes
+//! An expression is a value of a small type that knows its term, as `Sum(Current(0), Current(1))`, which
+//! `current(0) + current(1)` answers; a constraint is one of a small type that knows what it asserts, as
+//! `Equal(Next(1), x)`, which `next(1).equals(x)` answers. In `eval` an author writes
 //!
-//!     let first = When(FirstRow, (Equal(Current(0), Public(0)), Equal(Current(1), Public(1))));
-//!     let steps = When(Transition, (Equal(Next(0), Current(1)), Named("sum", Equal(Next(1), Sum(..)))));
+//!     let (a, b) = (current(0), current(1));
+//!     let first = When(FirstRow, (a.equals(public(0)), b.equals(public(1))));
+//!     let steps = When(Transition, (next(0).equals(b), Named("sum", next(1).equals(a + b))));
 //!     assert_all(builder, &(first, steps))
 //!
 //! and the prover finds that this is the declared list, by computation. Tuples are constraints one after another, up to
 //! five; `Each` is those of a slice, and `All` those of a `Family`, which an index numbers. A `When` inside another
-//! multiplies first. Over the extension, `ExtZero`, `ExtEqual` and `ExtIsOne` take `Sum`, `Difference`, `Product` and
-//! `Negative` of `PermutationCurrent`, `Challenge`, `Lifted(Current(0))` and so on.
+//! multiplies first. Over the extension, `ExtZero`, `ExtEqual`, `ExtIsOne` and `ExtBoolean` take the same expressions,
+//! of `permutation_current(i)`, `challenge(i)` and so on, and of base leaves.
 //!
-//! What a filter or a gadget was handed stands among them as `Already(x, value)`, with the value that it was made of.
+//! Bits, words and their sums are in [`words`]. An AIR with nothing beside its trace is a [`PlainAir`]. What a filter
+//! or a gadget was handed stands among values as `Already(x, value)`, with the value that it was made of.
 //!
 //! An entry that the builder hasn't is refused by its name, and an entry of the permutation trace with `NoPermutation`
 //! where the builder has no such trace. A function proves about five constraints quickly; further
@@ -53,7 +55,7 @@ pub use operators::leaves::{
     challenge, constant, current, ext_constant, next, number, periodic, permutation_current,
     permutation_next, permutation_value, preprocessed_current, preprocessed_next, public,
 };
-pub use plain::{Plain, PlainAir, PlainConstraints, Shape};
+pub use plain::{Plain, PlainAir, PlainConstraints};
 pub use words::bits::{Bits, Columns, HasBits, PackedBits};
 pub use words::packed::{Packed, Series};
 pub use words::sums::{Add2, Add3, Word};

@@ -7,18 +7,18 @@ use Rattle.air_builder.specs.Builders.{MeansIn, BuilderView, RingLaws, BuilderLa
 use Rattle.air_builder.specs.Refusals.{PartOf}
 use Rattle.air_builder.specs.laws.Filters.{means_kept}
 use Rattle.cases_airs.specs.Differing.{differing, RowMeans}
-use Rattle.cases_airs.specs.TableAirs.{this}
+use Rattle.air_builder.specs.Notation.{current}
 
-pub part_x : {F : Type 0} (one : F) → PartOf (this 0) (differing one)
+pub part_x : {F : Type 0} (one : F) → PartOf (current 0) (differing one)
 part_x one = inl (in_mul_right (in_mul_left whole))
 
-pub part_y : {F : Type 0} (one : F) → PartOf (this 1) (differing one)
+pub part_y : {F : Type 0} (one : F) → PartOf (current 1) (differing one)
 part_y one = inl (in_mul_left (in_sub_left whole))
 
-pub part_z : {F : Type 0} (one : F) → PartOf (this 2) (differing one)
+pub part_z : {F : Type 0} (one : F) → PartOf (current 2) (differing one)
 part_z one = inl (in_mul_left (in_sub_right whole))
 
-pub part_condition : {F : Type 0} (one : F) → PartOf (sub_term (this 1) (this 2)) (differing one)
+pub part_condition : {F : Type 0} (one : F) → PartOf (sub_term (current 1) (current 2)) (differing one)
 part_condition one = inl (in_mul_left whole)
 
 pub on_ok : {T X P Q : Type 0} (r : Result T X) → (P → Q) → OnOk r P → OnOk r Q
@@ -42,22 +42,22 @@ moved P {a = a} {y = y} p q h = subst (λ s. P s y) (sym p) (subst (λ z. P a z)
 pub record Inside {S E F : Type 0} (grew : S → S → List (Assertion F) → Type 0) (means : S → E → Term F → Type 0) (a b : S)
     (condition x y : E) : Type 0 where
   pub grown : grew a b []
-  pub differs : means b condition (sub_term (this 1) (this 2))
-  pub x_means : means b x (this 0)
-  pub y_means : means b y (this 1)
+  pub differs : means b condition (sub_term (current 1) (current 2))
+  pub x_means : means b x (current 0)
+  pub y_means : means b y (current 1)
 
 module _ {S R E F : Type 0} {view : BuilderView S R E F} (ring : RingLaws view) (laws : BuilderLaws view) where
   open view use {grew}
 
   pub inside : {a i b : S} {made condition x y z : E} → b ≡ i → condition ≡ made → grew a i []
-      → MeansIn view i made (sub_term (this 1) (this 2)) → RowMeans (MeansIn view a) x y z
+      → MeansIn view i made (sub_term (current 1) (current 2)) → RowMeans (MeansIn view a) x y z
       → Inside grew (MeansIn view) a b condition x y
   inside {a = a} {b = b} {x = x} {y = y} p q g m row =
       let grown = subst (λ s. grew a s []) (sym p) g in
       let kept = laws.by_growth a b [] grown in
       record {
         grown = grown;
-        differs = moved (λ s e. MeansIn view s e (sub_term (this 1) (this 2))) p q m;
-        x_means = means_kept ring laws a b x (this 0) kept row.x_means;
-        y_means = means_kept ring laws a b y (this 1) kept row.y_means;
+        differs = moved (λ s e. MeansIn view s e (sub_term (current 1) (current 2))) p q m;
+        x_means = means_kept ring laws a b x (current 0) kept row.x_means;
+        y_means = means_kept ring laws a b y (current 1) kept row.y_means;
       }

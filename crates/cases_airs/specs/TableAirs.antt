@@ -1,30 +1,21 @@
 -- The named lists of constraints.
-use Rattle.std.specs.Prelude.{ℕ, List, [], ◌∷◌}
-use Rattle.air_field.specs.Term.{main, permutation, challenge, permutation_value, Term, leaf_term, sub_term, mul_term}
-use Rattle.air_builder.specs.Assertion.{Assertion, Base, Extension}
+use Rattle.std.specs.Prelude.{ℕ, List, ◌++◌}
+use Rattle.air_field.specs.Term.{Term}
+use Rattle.air_builder.specs.Assertion.{Assertion}
+use Rattle.air_builder.specs.Notation.{current, permutation_current, challenge, permutation_value, ◌⊖◌, ◌⊙◌, is_zero, ext_is_zero}
 use Rattle.air_author.specs.Expressions.{power_term}
 
--- a column of the current row, and one of the next
-abbrev pub this : {F : Type 0} → ℕ → Term F
-this column = leaf_term (main 0 column)
-
-abbrev pub next : {F : Type 0} → ℕ → Term F
-next column = leaf_term (main 1 column)
-
--- permutation 0 times challenge 0, less permutation value 0
-abbrev pub permuted_term : {F : Type 0} → Term F
-permuted_term = sub_term (mul_term (leaf_term (permutation 0 0)) (leaf_term (challenge 0))) (leaf_term (permutation_value 0))
-
+-- permutation 0 times challenge 0 is permutation value 0
 abbrev pub permuted : {F : Type 0} → List (Assertion F)
-permuted = Extension permuted_term ∷ []
+permuted = ext_is_zero (permutation_current 0 ⊙ challenge 0 ⊖ permutation_value 0)
 
 -- column 0, the constraint over the extension, column 1
 abbrev pub mixed : {F : Type 0} → List (Assertion F)
-mixed = Base (this 0) ∷ Extension permuted_term ∷ Base (this 1) ∷ []
+mixed = is_zero (current 0) ++ permuted ++ is_zero (current 1)
 
 -- column 0, and columns 1 and 0 over the extension
 abbrev pub labelled : {F : Type 0} → List (Assertion F)
-labelled = Base (this 0) ∷ Extension (this 1) ∷ Extension (this 0) ∷ []
+labelled = is_zero (current 0) ++ ext_is_zero (current 1) ++ ext_is_zero (current 0)
 
 -- the product of so many, and of so many of these
 abbrev pub raised_twice : {F : Type 0} → F → ℕ → Term F → Term F
@@ -32,4 +23,4 @@ raised_twice one n t = power_term one (power_term one t n) n
 
 -- column 0, raised eight times
 abbrev pub steep : {F : Type 0} → F → ℕ → List (Assertion F)
-steep one n = Base (raised_twice one n (raised_twice one n (raised_twice one n (raised_twice one n (this 0))))) ∷ []
+steep one n = is_zero (raised_twice one n (raised_twice one n (raised_twice one n (raised_twice one n (current 0)))))

@@ -47,7 +47,7 @@ impl<F: Field> Declared<F> for BaseList {
       | Lines ↦ lines
       | Fibonacci ↦ fibonacci
       | FibonacciNamed ↦ fibonacci
-      | Steep n ↦ steep F.ONE n
+      | Steep n ↦ steep F.ring.one n
       | Handed ↦ handed
       | Differing ↦ differing F.ONE
     ] };
