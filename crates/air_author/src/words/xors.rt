@@ -6,7 +6,8 @@ use crate::conditions::Condition;
 use crate::constraints::Constraint;
 use crate::constraints::claims::Equal;
 use crate::expressions::Expression;
-use crate::operators::leaves::current;
+use crate::expressions::arithmetic::{Difference, Double, Product, Sum};
+use crate::expressions::columns::Current;
 use crate::words::bits::{Bits, Columns};
 use crate::words::packed::{Packed, Series};
 use crate::words::sums::Word;
@@ -44,9 +45,9 @@ impl<AB: AirBuilder> Series<AB> for XorHalf {
 
     fn make_at(&self, index: usize, builder: &mut AB) -> AirResult<AB::Expr> {
         let i = self.from + index;
-        let x = current(self.words.b + i);
-        let y = current(self.words.c + (i + 32 - self.words.shift) % 32);
-        (x + y - (x * y).double()).make(builder)
+        let x = Current(self.words.b + i);
+        let y = Current(self.words.c + (i + 32 - self.words.shift) % 32);
+        Difference(Sum(x, y), Double(Product(x, y))).make(builder)
     }
 }
 
