@@ -1,127 +1,144 @@
 -- The audit theorem, from what the recording, the check and the inferred degree answer.
-use Rattle.std.proofs.Common.{Err, ◌≡◌, ◌⊎◌, ℕ, List, ◌++◌, map, length, Bool, if◌then◌else◌, ◌==◌, Option, Some, slice_get, refl, sym, ap, ap₂, ◌∙◌, subst, arith, inl, inr}
-use Rattle.std.proofs.lemmas.List.{map-append}
-use Rattle.std.proofs.lemmas.Simd.{map-map}
+use Rattle.std.proofs.Common.{Err, ◌≡◌, ◌⊎◌, ℕ, zero, suc, ◌+◌, ◌-◌, ◌*◌, ◌≤◌, ◌<◌, ◌^◌, max, List, ◌++◌, map, Bool, Option, slice_index_or, refl, sym, ◌∙◌, subst, arith, inl, inr, add-mul}
+use Rattle.std.proofs.Math.Nat.{le-max_left, le-max_right, le_of_mul-le-mul_right}
 use Rattle.air_field.specs.Ring.{CommRing, itself}
 use Rattle.air_field.specs.Extension.{Basis}
-use Rattle.air_field.specs.Term.{Term}
-use Rattle.air_field.specs.Assignment.{row_assignment}
+use Rattle.air_field.specs.Term.{Leaf, Term, leaf_term, const_term, ext_const_term, add_term, sub_term, neg_term, mul_term}
+use Rattle.air_field.specs.Degree.{degree_by, transition_weight, greatest_degree}
 use Rattle.air_field.specs.declared.errors.RingError.{RingError}
 use Rattle.air_field.specs.declared.errors.RingError.TheVariants.{Memory, DegreeOverflow}
 use Rattle.air_symbolic.specs.BaseLeaves.{base_reads}
 use Rattle.air_symbolic.specs.ExtLeaves.{ext_reads}
-use Rattle.air_symbolic.specs.Pools.{term_at}
-use Rattle.air_builder.specs.Assertion.{Assertion, Base, Extension}
-use Rattle.air_core.specs.Errors.{air_error}
+use Rattle.air_symbolic.specs.Pools.{PoolMeans}
 use Rattle.air_builder.specs.Declaration.{Declaration}
+use Rattle.air_core.specs.Errors.{air_error}
 use Rattle.air_core.specs.declared.errors.AirError.{AirError}
 use Rattle.air_core.specs.declared.errors.AirError.TheVariants.{LayoutMainWidth, LayoutPublicValues, LayoutPeriodicColumns}
-use Rattle.p3_air.specs.Audits.{RecordsEach, IsRecording, ListsFailures, IsAuditUnder, AuditRefusesUnder, LayoutHasEntries, failures_within, leaves_over}
-use Rattle.air_recording.specs.Bounds.{polynomial_bound, IsDegreeFor}
-use Rattle.air_report.specs.Cells.{cell_place, differing, left_of}
-use Rattle.air_report.specs.Checks.{IsReport}
+use Rattle.air_recording.specs.Bounds.{IsDegreeFor, domain_weight}
 use Rattle.air_recording.specs.Folds.{ArePlacesOf}
-use Rattle.air_report.specs.Given.{Given, given_trace, height}
 use Rattle.air_recording.specs.Inferred.{AnswersInferred, periods_of, recorded_terms}
-use Rattle.air_recording.specs.laws.Bounds.{degrees_within, polynomials_within}
 use Rattle.air_recording.specs.Kinds.{kind_of, base_terms, ext_terms}
 use Rattle.air_recording.specs.Layouts.{air_layout, LayoutRefuses}
-use Rattle.air_recording.specs.Recorded.{EachRecords, RecordRefuses, RecordingAnswers, RecordsBase, RecordsExt, terms_of}
-use Rattle.air_report.specs.Report.{IsReached, failure_place, report_of, count_shown}
-use Rattle.p3_air.specs.declared.audit.Audit.{Audit}
+use Rattle.air_recording.specs.Recorded.{EachRecords, RecordsTerm, RecordsBase, RecordsExt, RecordRefuses, RecordingAnswers}
 use Rattle.air_recording.specs.declared.layouts.air_layout.AirLayout.{AirLayout}
+use Rattle.air_recording.specs.laws.Bounds.{degrees_within, polynomials_within}
+use Rattle.air_report.specs.Checks.{IsReport}
 use Rattle.air_report.specs.declared.checks.report.ConstraintReport.{ConstraintReport}
-use Rattle.p3_air.proofs.Audited.{placed, placed_records, at_base_places, at_ext_places, same_values, same_report, same_length}
+use Rattle.p3_air.specs.Theorem.{Instance, row_count, recorded_base, terms_in, RecordDeclared, domain, degree_in, BoundsDegrees, BoundsPolynomials, IsLeast, DegreeOverflows}
+use Rattle.p3_air.specs.Audits.{IsAuditUnder, AuditRefusesUnder, check_input}
+use Rattle.p3_air.specs.declared.audit.Audit.{Audit}
+use Rattle.p3_air.specs.laws.Theorem.{base_places_are, ext_places_are, each_base, each_ext, recordable, recorded_ext_are, recording_refuses, terms_in_are}
 
-module _ {F : Type 0} (r : CommRing F) (eq : F → F → Bool) (basis : Basis F F) (g : Given F) (cap : Option ℕ) (w : ℕ) (audit : Audit F) where
-  abbrev base_terms_of : List (Term F)
-  base_terms_of = terms_of base_reads audit.recorded.pool.0 audit.recorded.base.items
+-- ---- the degree
 
-  abbrev ext_terms_of : List (Term F)
-  ext_terms_of = terms_of (ext_reads basis) audit.recorded.pool audit.recorded.ext.items
+greater_less : {x y : ℕ} (a b k : ℕ) → a * k ≤ x → b * k ≤ y → max a b * k ≤ max x y
+greater_less {x = x} {y = y} a b k h i = grind (arith, h, i, le-max_left x y, le-max_right x y)
 
-  abbrev recorded_list : List (Assertion F)
-  recorded_list = placed g.declaration.declared base_terms_of ext_terms_of
+-- a degree so many times is no greater than the degree where each weight is taken so many times
+scaled_least : {F : Type 0} (w : Leaf → ℕ) (k : ℕ) (t : Term F) → degree_by w t * k ≤ degree_by (λ l. w l * k) t
+scaled_least w k (leaf_term l) = omega arith
+scaled_least w k (const_term c) = omega arith
+scaled_least w k (ext_const_term c) = omega arith
+scaled_least w k (add_term t u) = greater_less (degree_by w t) (degree_by w u) k (scaled_least w k t) (scaled_least w k u)
+scaled_least w k (sub_term t u) = greater_less (degree_by w t) (degree_by w u) k (scaled_least w k t) (scaled_least w k u)
+scaled_least w k (neg_term t) = scaled_least w k t
+scaled_least w k (mul_term t u) =
+    omega (arith, scaled_least w k t, scaled_least w k u, add-mul (degree_by w t) (degree_by w u) k)
 
-  recording_is : RecordsBase r (itself r) base_reads audit.recorded.pool.0 audit.recorded.base.items g.declaration.declared
-      → RecordsExt r (itself r) (ext_reads basis) audit.recorded.pool audit.recorded.ext.items g.declaration.declared
-      → ArePlacesOf (map kind_of g.declaration.declared) audit.layout.base_indices.items audit.layout.ext_indices.items
-      → IsRecording r basis g.declaration.declared recorded_list audit
-  recording_is base ext places = record {
-    base = base;
-    ext = ext;
-    places = places;
-    at_base = ap (map (λ p. slice_get recorded_list p)) places.base
-        ∙ (at_base_places (itself r) (λ p. slice_get recorded_list p) 0 g.declaration.declared base_terms_of ext_terms_of base.terms ext.terms (λ k. ap (slice_get recorded_list) (omega arith))
-        ∙ map-map (λ u. Some (Base u)) (λ i. term_at base_reads audit.recorded.pool.0 i) audit.recorded.base.items);
-    at_ext = ap (map (λ p. slice_get recorded_list p)) places.extension
-        ∙ (at_ext_places (itself r) (λ p. slice_get recorded_list p) 0 g.declaration.declared base_terms_of ext_terms_of base.terms ext.terms (λ k. ap (slice_get recorded_list) (omega arith))
-        ∙ map-map (λ v. Some (Extension v)) (λ i. term_at (ext_reads basis) audit.recorded.pool i) audit.recorded.ext.items);
-    each = placed_records (itself r) g.declaration.declared base_terms_of ext_terms_of base.terms ext.terms;
-  }
+-- the weights by which a domain counts
+pub weight_is : {F : Type 0} (x : Instance F) (w : ℕ) → domain_weight w (row_count x) (periods_of x.air.periodic) ≡ (domain w x).weight
+weight_is x zero = refl
+weight_is x (suc w) = refl
 
-  -- what the report lists of the declared terms
-  listed_declared : (p : IsReport r eq g cap audit.report) → map failure_place audit.report.failures.items ≡ failures_within r eq g cap g.declaration.declared p.shown
-  listed_declared p = ap (map failure_place) p.lists.failures ∙ (map-append failure_place p.of_rows p.lists.more ∙ ap₂ (λ xs ys. xs ++ ys) p.places p.lists.places)
+module _ {F : Type 0} (r : CommRing F) (x : Instance F) (ts : List (Term F)) (d : ℕ) where
+  abbrev IsInferredDegree : ℕ → Type 0
+  IsInferredDegree w = IsDegreeFor w (row_count x) (periods_of x.air.periodic) ts d
 
-  -- what records has as many failures in as many rows, so the cap shows the same rows
-  lists_recorded : RecordsEach (itself r) recorded_list g.declaration.declared → IsReport r eq g cap audit.report → ListsFailures r eq g cap recorded_list audit.report
-  lists_recorded m p = record {
-    shown = p.shown;
-    is_shown = record {
-      within = p.ran.rows.within;
-      enough = subst (λ l. (p.shown ≡ height g) ⊎ IsReached cap (length l)) (sym (same p.shown)) p.ran.rows.enough;
-      least = λ k lt reached. p.ran.rows.least k lt (subst (λ l. IsReached cap (length l)) (same k) reached);
-    };
-    places = listed_declared p ∙ sym (ap₂ (λ xs k. xs ++ map (cell_place (height g) k) (left_of cap (length xs) (differing r eq g.main g.public g.declaration.cells))) (same p.shown) (same_count p.shown));
-  }
-    where
-      same : (n : ℕ) → report_of r eq (given_trace g) recorded_list n ≡ report_of r eq (given_trace g) g.declaration.declared n
-      same n = same_report r eq (given_trace g) recorded_list g.declaration.declared m n
+  degree_is : (w : ℕ) → IsInferredDegree w → d ≡ degree_in w x ts
+  degree_is zero h = h.value
+  degree_is (suc w) h = h.value
 
-      same_count : (n : ℕ) → count_shown recorded_list n ≡ count_shown g.declaration.declared n
-      same_count n = ap (λ k. if n == 0 then 0 else k) (same_length (itself r) recorded_list g.declaration.declared m)
+  degree_in_range : (w : ℕ) → IsInferredDegree w → greatest_degree (domain w x).weight ts < 2 ^ 64
+  degree_in_range zero h = h.fits
+  degree_in_range (suc w) h = h.fits
 
-  pub audited : LayoutHasEntries g.declaration
-      → RecordsBase r (itself r) base_reads audit.recorded.pool.0 audit.recorded.base.items g.declaration.declared
-      → RecordsExt r (itself r) (ext_reads basis) audit.recorded.pool audit.recorded.ext.items g.declaration.declared
-      → ArePlacesOf (map kind_of g.declaration.declared) audit.layout.base_indices.items audit.layout.ext_indices.items
-      → IsReport r eq g cap audit.report
-      → IsDegreeFor w (height g) (periods_of g.declaration.periodic) (recorded_terms basis audit.recorded) audit.degree
-      → IsAuditUnder r eq basis g cap w audit
-  audited there base ext places report degree =
-      let us = recorded_terms basis audit.recorded in
-      let recording = recording_is base ext places in
+  degree_bounds : (w : ℕ) → IsInferredDegree w → 2 ≤ row_count x → BoundsDegrees (domain w x) ts d
+  degree_bounds zero h two = degrees_within 0 (row_count x) (periods_of x.air.periodic) ts d h two
+  degree_bounds (suc w) h two = degrees_within (suc w) (row_count x) (periods_of x.air.periodic) ts d h two
+
+  degree_least : (w : ℕ) → IsInferredDegree w → 3 ≤ row_count x → IsLeast (BoundsDegrees (domain w x) ts) d
+  degree_least zero h three = record { meets = degree_bounds zero h (omega (arith, three)); least = h.least three }
+  degree_least (suc w) h three =
+      let v = transition_weight (suc w) in
       record {
-        there = there;
-        recorded = recorded_list;
-        recording = recording;
-        values = λ row. same_values r (row_assignment r (given_trace g) row) recorded_list g.declaration.declared recording.each;
-        report = report;
-        lists = lists_recorded recording.each report;
-        degree = degree;
-        bounded = λ h. polynomials_within (itself r) (leaves_over g w) (polynomial_bound w audit.degree (height g)) us (degrees_within w (height g) (periods_of g.declaration.periodic) us audit.degree degree h);
+        meets = degree_bounds (suc w) h (omega (arith, three));
+        least = λ e within. h.least e (λ k t b.
+            let u = slice_index_or ts k t in
+            le_of_mul-le-mul_right {m = degree_by v u} {n = e} {k = row_count x - 1} (omega (arith, scaled_least v (row_count x - 1) u, within k t b)) (omega (arith, three)));
       }
 
+-- ---- the theorem under a cap
+
+module _ {F : Type 0} (r : CommRing F) (eq : F → F → Bool) (basis : Basis F F) (x : Instance F) (cap : Option ℕ) (w : ℕ) (audit : Audit F) where
+  pub audited : RecordingAnswers r (itself r) (air_layout x.air) x.air
+      → RecordsBase r (itself r) base_reads audit.recorded.pool.0 audit.recorded.base.items x.air.declared
+      → RecordsExt r (itself r) (ext_reads basis) audit.recorded.pool audit.recorded.ext.items x.air.declared
+      → ArePlacesOf (map kind_of x.air.declared) audit.layout.base_indices.items audit.layout.ext_indices.items
+      → IsReport r eq (check_input x) cap audit.report
+      → IsDegreeFor w (row_count x) (periods_of x.air.periodic) (recorded_terms basis audit.recorded) audit.degree
+      → IsAuditUnder r eq basis x cap w audit
+  audited answers base ext places report inferred =
+      let ts = x.air.declared in
+      let us = terms_in basis audit.recorded in
+      let degree = subst (λ vs. IsDegreeFor w (row_count x) (periods_of x.air.periodic) vs audit.degree) (sym (terms_in_are basis audit.recorded)) inferred in
+      record {
+        there = (recordable r x.air answers).there;
+        recorded = record {
+          base_places = places.base ∙ sym (base_places_are 0 ts);
+          ext_places = places.extension ∙ sym (ext_places_are 0 ts);
+          terms = record {
+            each_base = each_base (RecordsTerm (itself r)) (recorded_base audit.recorded) ts base.terms;
+            each_ext = each_ext (RecordsTerm (itself r)) _ ts (subst (λ vs. EachRecords (itself r) vs (ext_terms ts)) (sym (recorded_ext_are basis audit.recorded)) ext.terms);
+          };
+        };
+        pool = record {
+          pool = ext.well_formed;
+          base = each_base (PoolMeans base_reads r audit.recorded.pool.0) audit.recorded.base.items ts base.means;
+          ext = each_ext (PoolMeans (ext_reads basis) r audit.recorded.pool) audit.recorded.ext.items ts ext.means;
+        };
+        report = report;
+        degree = degree_is r x us audit.degree w degree;
+        in_range = degree_in_range r x us audit.degree w degree;
+        bounded = λ two. polynomials_within (itself r) _ _ us (degree_bounds r x us audit.degree w degree two);
+        least = degree_least r x us audit.degree w degree;
+      }
+
+-- ---- what is refused
+
 -- an AIR's own layout fits it
-pub own_layout_fits : {F : Type 0} (d : Declaration F) (e : AirError) → LayoutRefuses (air_layout d) d e → ⊥
-own_layout_fits d (LayoutMainWidth layout air) h = h.2 (h.0 ∙ sym h.1)
-own_layout_fits d (LayoutPublicValues layout air) h = h.3 (h.1 ∙ sym h.2)
-own_layout_fits d (LayoutPeriodicColumns layout air) h = h.4 (h.2 ∙ sym h.3)
-own_layout_fits d _ h = h
+own_layout_fits : {F : Type 0} (air : Declaration F) (e : AirError) → LayoutRefuses (air_layout air) air e → ⊥
+own_layout_fits air (LayoutMainWidth layout declared) h = h.2 (h.0 ∙ sym h.1)
+own_layout_fits air (LayoutPublicValues layout declared) h = h.3 (h.1 ∙ sym h.2)
+own_layout_fits air (LayoutPeriodicColumns layout declared) h = h.4 (h.2 ∙ sym h.3)
+own_layout_fits air _ h = h
 
--- Where an audit refuses.
-module _ {F : Type 0} (r : CommRing F) (eq : F → F → Bool) (g : Given F) (cap : Option ℕ) (w : ℕ) where
-  pub recording_refused : (l : AirLayout) (e : AirError) → l ≡ air_layout g.declaration → RecordRefuses l g.declaration e → AuditRefusesUnder r eq g cap w e
-  recording_refused l e q h = step (subst (λ m. RecordRefuses m g.declaration e) q h)
+module _ {F : Type 0} (r : CommRing F) (eq : F → F → Bool) (x : Instance F) (cap : Option ℕ) (w : ℕ) where
+  pub recording_refused : (l : AirLayout) (e : AirError) → l ≡ air_layout x.air → RecordRefuses l x.air e → AuditRefusesUnder r eq x cap w e
+  recording_refused l e q h = step (subst (λ m. RecordRefuses m x.air e) q h)
     where
-      step : RecordRefuses (air_layout g.declaration) g.declaration e → AuditRefusesUnder r eq g cap w e
-      step (inl other) = absurd (own_layout_fits g.declaration e other)
-      step (inr refused) = inl refused.1
+      step : RecordRefuses (air_layout x.air) x.air e → AuditRefusesUnder r eq x cap w e
+      step (inl other) = absurd (own_layout_fits x.air e other)
+      step (inr refused) = inl (recording_refuses x.air e refused.1)
 
-  pub degree_refused : (report : ConstraintReport) (us vs : List (Term F)) (e : RingError) → IsReport r eq g cap report
-      → RecordingAnswers r (itself r) (air_layout g.declaration) g.declaration
-      → EachRecords (itself r) us (base_terms g.declaration.declared) → EachRecords (itself r) vs (ext_terms g.declaration.declared)
-      → AnswersInferred w (height g) (periods_of g.declaration.periodic) (us ++ vs) (Err e) → AuditRefusesUnder r eq g cap w (air_error e)
+  pub degree_refused : (report : ConstraintReport) (us vs : List (Term F)) (e : RingError) → IsReport r eq (check_input x) cap report
+      → RecordingAnswers r (itself r) (air_layout x.air) x.air
+      → EachRecords (itself r) us (base_terms x.air.declared) → EachRecords (itself r) vs (ext_terms x.air.declared)
+      → AnswersInferred w (row_count x) (periods_of x.air.periodic) (us ++ vs) (Err e) → AuditRefusesUnder r eq x cap w (air_error e)
   degree_refused report us vs Memory checked answers m n h = inl tt
-  degree_refused report us vs DegreeOverflow checked answers m n h = inr (answers, inr (refl, record { report = report; checked = checked; base = us; ext = vs; base_recorded = m; ext_recorded = n; past = h }))
+  degree_refused report us vs DegreeOverflow checked answers m n h = inr (recordable r x.air answers, inr (refl, record { report = report; checked = checked; passes = passes }))
+    where
+      recorded : RecordDeclared r x.air us vs
+      recorded = record { each_base = each_base (RecordsTerm (itself r)) us x.air.declared m; each_ext = each_ext (RecordsTerm (itself r)) vs x.air.declared n }
+
+      passes : DegreeOverflows r w x
+      passes = record { base = us; ext = vs; recorded = recorded; past = subst (λ v. 2 ^ 64 ≤ greatest_degree v (us ++ vs)) (weight_is x w) h }

@@ -1,5 +1,5 @@
-pub mod Audited
 pub mod AuditTheorem
+pub mod Uncapped
 pub mod RecordedRoots
 mod Numbering
 mod Planning

@@ -15,6 +15,7 @@ pub use Rattle.air_author.specs.BitTerms
 pub use Rattle.air_author.specs.WordTerms
 pub use Rattle.air_author.specs.XorTerms
 pub mod Author
+pub mod Theorem
 pub mod Audits
 pub mod RecordedAirs
 pub use Rattle.air_builder.specs.Builders

@@ -1,3 +1,4 @@
 -- Laws of what specs/ defines: implementations cite them, and the layers above build on them.
 pub mod FlatAirs
 pub mod Plans
+pub mod Theorem

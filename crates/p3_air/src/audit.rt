@@ -1,7 +1,8 @@
 //! The audit: an AIR is recorded and checked at once, so that what is recorded is what is tested.
-ghost use Rattle.std.specs.Prelude.{IfOk, IfErr};
-ghost use Rattle.p3_air.specs.Audits.{IsAudit, IsAuditUnder, AuditRefuses, AuditRefusesUnder};
-ghost use Rattle.air_report.specs.Given.{given};
+ghost use Rattle.std.specs.Prelude.{◌≡◌, ◌≤◌, ◌<◌, ◌^◌, ◌++◌, length, IfOk, IfErr, OnOk};
+ghost use Rattle.air_field.specs.Degree.{greatest_degree};
+ghost use Rattle.p3_air.specs.Theorem.{instance, row_count, NamesOwnEntries, FitsDeclaration, RecordsEach, MeansEach, terms_in, failure_places, nonzero_places, violations, violated_cells, constraints_per_row, LabelsFrom, domain, degree_in, BoundsDegrees, BoundsPolynomials, IsLeast, AuditRefuses};
+ghost use Rattle.p3_air.specs.Audits.{IsAuditUnder, AuditRefusesUnder};
 
 use air_builder::{Air, AirError, BaseAir};
 use air_field::{RowMajorMatrix, SelfExtension};
@@ -25,21 +26,14 @@ pub struct Audit<F: SelfExtension> {
     pub degree: usize,
 }
 
-/// Records an AIR by its own layout, checks a trace of it without a cap, and infers the degree of its constraints for
-/// the trace's height N and the domain's weight for the transition selector.
+/// Records an AIR by its own layout, checks a trace of it without a cap, and infers the degree of its constraints.
 ///
-/// What is recorded at each place has at each row the value that is tested there. The report lists exactly the pairs of
-/// row and place where that value isn't zero, in order, and then the boundary cells that differ.
+/// What is recorded for a prover is what is tested here: at each place the recorded constraint has the declared one's
+/// polynomial, and so on every row the value that the report is about.
 ///
-/// `transition_weight` is what the transition selector weighs in the domain. Weight 0 stands for a linear selector:
-/// each recorded polynomial has degree at most `degree` (N - 1) + 1 for N at least 2, wherever the leaves' polynomials
-/// have the degrees of a trace of N rows; and for N at least 3 no smaller number bounds the recorded terms' degrees so.
-/// For a weight from 1, `degree` is the greatest degree of a recorded term by the cached weights with this one for the
-/// selector: each recorded polynomial has degree at most `degree` (N - 1) for N at least 2, wherever each leaf's
-/// polynomial has degree at most its weight times N - 1; and no smaller number bounds the recorded terms' degrees.
-///
-/// The first refusal is answered: of the recording, then of the check, then a recorded degree past `usize`, that of a
-/// polynomial for weight 0, and by these weights for a weight from 1.
+/// `transition_weight` is what the transition selector weighs in the prover's domain: 0 where it is a linear
+/// polynomial, otherwise the number of columns that it counts as. For N rows, and 0, each recorded polynomial has degree
+/// at most `degree` (N - 1) + 1; for a weight from 1, at most `degree` (N - 1).
 pub fn audit_air<
     'a,
     F: SelfExtension + 'static,
@@ -51,10 +45,43 @@ pub fn audit_air<
     public_values: &'a [F],
     transition_weight: usize,
 ) -> Result<Audit<F>, AirError>
-    ensures audited { IfOk result (IsAudit F.ring F.eq F.basis
-        (given (A.declaration air.now) main.now public_values.now) transition_weight) }
+    // Each entry that a declared constraint names is one of the AIR's, and the trace is as the AIR declares.
+    ensures there { OnOk result (NamesOwnEntries (A.declaration air.now)) }
+    ensures fits { OnOk result (FitsDeclaration
+        (instance (A.declaration air.now) main.now public_values.now)) }
+
+    // At the place of each declared constraint one of its kind is recorded: it has the declared one's polynomial, its
+    // value on every row, and no greater degree. It is an expression of a pool, and means the declared constraint there.
+    ensures recorded { IfOk result (RecordsEach F.ring F.basis (A.declaration air.now)) }
+    ensures pool { IfOk result (λ a. MeansEach F.ring F.basis (A.declaration air.now) a.recorded) }
+
+    // The failures are the rows and places at which the declared constraint isn't zero, then the violated cells.
+    ensures report { let x = instance (A.declaration air.now) main.now public_values.now in
+        IfOk result (λ a. failure_places a.report
+        ≡ nonzero_places F.ring F.eq x ++ violated_cells F.ring F.eq x) }
+    ensures labels { let x = instance (A.declaration air.now) main.now public_values.now in
+        IfOk result (λ a. LabelsFrom (length (nonzero_places F.ring F.eq x))
+        (violations F.ring F.eq x) a.report) }
+    ensures counts { let x = instance (A.declaration air.now) main.now public_values.now in
+        IfOk result (λ a. (a.report.total_rows ≡ row_count x)
+        × (a.report.total_constraints_per_row ≡ constraints_per_row x)) }
+
+    // The degree is that of the recorded terms in the domain. For two rows and more it bounds their polynomials wherever
+    // the leaves' are within theirs; for three and more it is the least that bounds the terms' degrees.
+    ensures degree { let x = instance (A.declaration air.now) main.now public_values.now in
+        IfOk result (λ a. (a.degree ≡ degree_in transition_weight x (terms_in F.basis a.recorded))
+        × (greatest_degree (domain transition_weight x).weight (terms_in F.basis a.recorded)
+        < 2 ^ 64)) }
+    ensures bounded { let x = instance (A.declaration air.now) main.now public_values.now in
+        IfOk result (λ a. 2 ≤ row_count x → BoundsPolynomials F.ring (domain transition_weight x)
+        (terms_in F.basis a.recorded) a.degree) }
+    ensures least { let x = instance (A.declaration air.now) main.now public_values.now in
+        IfOk result (λ a. 3 ≤ row_count x → IsLeast (BoundsDegrees (domain transition_weight x)
+        (terms_in F.basis a.recorded)) a.degree) }
+
+    // The first refusal: of the recording, the fixed columns, the rows, the cells, the report, the degree.
     ensures refused { IfErr result (AuditRefuses F.ring F.eq
-        (given (A.declaration air.now) main.now public_values.now) transition_weight) }
+        (instance (A.declaration air.now) main.now public_values.now) transition_weight) }
 {
     audit_air_with_cap(alloc, air, main, public_values, None, transition_weight)
 }
@@ -74,10 +101,10 @@ pub fn audit_air_with_cap<
     transition_weight: usize,
 ) -> Result<Audit<F>, AirError>
     ensures audited { IfOk result (IsAuditUnder F.ring F.eq F.basis
-        (given (A.declaration air.now) main.now public_values.now)
+        (instance (A.declaration air.now) main.now public_values.now)
         max_failures transition_weight) }
     ensures refused { IfErr result (AuditRefusesUnder F.ring F.eq
-        (given (A.declaration air.now) main.now public_values.now)
+        (instance (A.declaration air.now) main.now public_values.now)
         max_failures transition_weight) }
 {
     let builder: SymbolicAirBuilder<F, F> = record(alloc, air, AirLayout::from_air::<F, A>(air))?;

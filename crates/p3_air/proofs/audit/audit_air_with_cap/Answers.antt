@@ -5,18 +5,19 @@ use Rattle.air_recording.specs.Bounds.{IsDegreeFor}
 use Rattle.air_symbolic.specs.BaseLeaves.{base_reads}
 use Rattle.air_symbolic.specs.ExtLeaves.{ext_reads}
 use Rattle.air_recording.specs.Folds.{ArePlacesOf}
-use Rattle.air_report.specs.Given.{given}
 use Rattle.air_recording.specs.Inferred.{AnswersInferred, periods_of}
 use Rattle.air_recording.specs.Layouts.{air_layout}
 use Rattle.air_recording.specs.Recorded.{RecordingAnswers, RecordsBase, RecordsExt, terms_of}
+use Rattle.p3_air.specs.Theorem.{instance}
 use Rattle.p3_air.proofs.AuditTheorem.{audited, recording_refused, degree_refused}
+use Rattle.p3_air.specs.laws.Theorem.{recordable}
 use Rattle.p3_air.proofs.audit.audit_air_with_cap.Goals as goal
 
 pub returns-in_err-builder-clause-refused : goal.returns-in_err-builder-clause-refused
 returns-in_err-builder-clause-refused g c =
     let p = err_from_is_err_and c.from_residual.result c.from_residual.ensures.1 in
     rw (p.1, p.2)
-    (recording_refused g.F.Field.ring g.F.PartialEq.eq (given (g.A.BaseAir.declaration c.args.air.now) c.args.main.now c.args.public_values.now) c.args.max_failures c.args.transition_weight c.from_air.result _ c.from_air.ensures c.in_err-builder.ensures.refused)
+    (recording_refused g.F.Field.ring g.F.PartialEq.eq (instance (g.A.BaseAir.declaration c.args.air.now) c.args.main.now c.args.public_values.now) c.args.max_failures c.args.transition_weight c.from_air.result _ c.from_air.ensures c.in_err-builder.ensures.refused)
 
 pub returns-in_err-report-clause-refused : goal.returns-in_err-report-clause-refused
 returns-in_err-report-clause-refused g c =
@@ -24,7 +25,7 @@ returns-in_err-report-clause-refused g c =
     let r = g.F.Field.ring in
     let d = g.A.BaseAir.declaration c.args.air.now in
     let answers = subst (λ a. RecordingAnswers r a (air_layout d) d) g.met.F.SelfExtension.over_itself (rw c.from_air.ensures at c.in_ok-builder.ensures.answers) in
-    rw (p.1, p.2) (inr (answers, inl c.in_err-report.ensures.refused))
+    rw (p.1, p.2) (inr (recordable r d answers, inl c.in_err-report.ensures.refused))
 
 pub degree_of-requires-clause-pool : goal.degree_of-requires-clause-pool
 degree_of-requires-clause-pool g c = rw c.into_recorded-recorded.ensures.pool c.in_ok-builder.ensures.ext.well_formed
@@ -53,7 +54,7 @@ returns-in_err-degree-clause-refused g c =
     let past = subst (λ (n : ℕ). AnswersInferred c.args.transition_weight n (periods_of d.periodic) (us ++ vs) (Err e)) c.height.ensures (subst (λ (l : List ℕ). AnswersInferred c.args.transition_weight c.height.result l (us ++ vs) (Err e)) q c.in_err-degree.ensures) in
     let answers = subst (λ a. RecordingAnswers r a (air_layout d) d) g.met.F.SelfExtension.over_itself (rw c.from_air.ensures at c.in_ok-builder.ensures.answers) in
     rw (p.1, p.2)
-    (degree_refused r g.F.PartialEq.eq (given d c.args.main.now c.args.public_values.now) c.args.max_failures c.args.transition_weight c.in_ok-report.report us vs e c.in_ok-report.ensures.report answers base.terms ext.terms past)
+    (degree_refused r g.F.PartialEq.eq (instance d c.args.main.now c.args.public_values.now) c.args.max_failures c.args.transition_weight c.in_ok-report.report us vs e c.in_ok-report.ensures.report answers base.terms ext.terms past)
 
 pub returns-clause-audited : goal.returns-clause-audited
 returns-clause-audited g c =
@@ -72,7 +73,8 @@ returns-clause-audited g c =
     let q = c.deref.ensures.value ∙ (c.in_ok-periods.ensures.lengths ∙ ap periods_of c.periodic_columns.ensures) in
     let us = terms_of base_reads recorded.pool.0 recorded.base.items in
     let vs = terms_of reads recorded.pool recorded.ext.items in
-    audited r eq basis (given d c.args.main.now c.args.public_values.now) c.args.max_failures c.args.transition_weight
+    audited r eq basis (instance d c.args.main.now c.args.public_values.now) c.args.max_failures c.args.transition_weight
     record { recorded = recorded; layout = c.in_ok-layout.layout; report = c.in_ok-report.report; degree = c.in_ok-degree.degree }
-    (rw c.from_air.ensures at c.in_ok-builder.ensures.layout.there) base ext places c.in_ok-report.ensures.report
+    (subst (λ a. RecordingAnswers r a (air_layout d) d) own (rw c.from_air.ensures at c.in_ok-builder.ensures.answers))
+    base ext places c.in_ok-report.ensures.report
     (subst (λ n. IsDegreeFor c.args.transition_weight n (periods_of d.periodic) (us ++ vs) c.in_ok-degree.degree) c.height.ensures (subst (λ l. IsDegreeFor c.args.transition_weight c.height.result l (us ++ vs) c.in_ok-degree.degree) q c.in_ok-degree.ensures))
