@@ -17,14 +17,13 @@ use Rattle.air_core.specs.Entries.{entry_leaf}
 use Rattle.air_core.specs.ExtEntries.{ext_entry_leaf}
 use Rattle.air_report.specs.Report.{plain_trace}
 use Rattle.air_report.specs.RowRefusals.{IsFull}
-use Rattle.air_report.specs.Given.{given}
 use Rattle.air_report.specs.laws.Plain.{plain_refusal}
 use Rattle.air_builder.specs.Refused.{Refused}
 use Rattle.air_recording.specs.Kinds.{base_terms, ext_terms}
-use Rattle.air_recording.specs.Layouts.{layout_shape, air_layout}
-use Rattle.air_recording.specs.Recorded.{EachRecords}
-use Rattle.air_recording.specs.Recording.{IsOver}
+use Rattle.air_recording.specs.Recorded.{EachRecords, RecordsTerm}
+use Rattle.p3_air.specs.Theorem.{DegreeOverflows, RecordingRefuses, instance, shape_with}
 use Rattle.p3_air.specs.Audits.{AuditRefusesUnder, IsDegreePast}
+use Rattle.p3_air.specs.laws.Theorem.{each_base_back, each_ext_back}
 use Rattle.air_program.specs.Fibonacci.{fibonacci, fibonacci_declaration}
 
 part_degree : {F : Type 0} (w : Leaf → ℕ) {t u : Term F} → Part t u → degree_by w t ≤ degree_by w u
@@ -108,16 +107,16 @@ module _ (F : Type 0) where
 
   -- and so does the recording
   abbrev own_shape : Shape
-  own_shape = layout_shape (air_layout (fibonacci_declaration {F = F}))
+  own_shape = shape_with (fibonacci_declaration {F = F}) 2 3
 
-  recording_refuses : (e : AirError) → Refused {F = F} (IsMissing own_shape) (IsOver cached_weight) (λ _. ⊥) e fibonacci → e ≡ Memory
+  recording_refuses : (e : AirError) → RecordingRefuses (fibonacci_declaration {F = F}) e → e ≡ Memory
   recording_refuses Memory h = refl
   recording_refuses CountOverflow h = absurd h
   recording_refuses (MissingEntry e i) h = absurd (none_missing_in own_shape refl refl (entry_leaf e i) h.0 h.1)
   recording_refuses (RowOffset o) h = absurd (none_missing_in own_shape refl refl h.0 h.2 h.3)
   recording_refuses (MissingExtEntry e i) h = absurd (none_missing_in own_shape refl refl (ext_entry_leaf e i) h.0 h.1)
   recording_refuses NoPermutation h = absurd (none_missing_in own_shape refl refl (permutation h.0 h.1) h.2 h.3)
-  recording_refuses DegreeOverflow h = absurd (omega (arith, h.1.0, parts_below cached_weight 2 fibonacci cached_below h.0 h.1.1))
+  recording_refuses DegreeOverflow h = absurd (omega (arith, h.1, parts_below cached_weight 2 fibonacci cached_below h.0 h.2))
   recording_refuses _ h = absurd h
 
   -- no degree passes `usize`
@@ -127,14 +126,16 @@ module _ (F : Type 0) where
 
   -- the only degree that may pass `usize` is one of a domain whose weight isn't 0
   some_weight : (r : CommRing F) (eq : F → F → Bool) (main : Grid F) (public : List F) (cap : Option ℕ) (w : ℕ) → length main.rows < 2 ^ 63
-      → IsDegreePast r eq (given fibonacci_declaration main public) cap w → 0 < w
-  some_weight r eq main public cap zero b past = absurd (degree_fits r (length main.rows) past.base past.ext b past.base_recorded past.ext_recorded past.past)
+      → IsDegreePast r eq (instance fibonacci_declaration main public) cap w → 0 < w
+  some_weight r eq main public cap zero b past =
+      let p : DegreeOverflows r 0 (instance fibonacci_declaration main public) = past.passes in
+      absurd (degree_fits r (length main.rows) p.base p.ext b (each_base_back (RecordsTerm (itself r)) p.base fibonacci p.recorded.each_base) (each_ext_back (RecordsTerm (itself r)) p.ext fibonacci p.recorded.each_ext) p.past)
   some_weight r eq main public cap (suc w) b past = omega arith
 
   -- and so an audit refuses memory alone, or such a degree
   pub audit_refuses : (r : CommRing F) (eq : F → F → Bool) (main : Grid F) (public : List F) (cap : Option ℕ) (w : ℕ) (e : AirError) → main.width ≡ 2 → length public ≡ 3 → length main.rows < 2 ^ 63
-      → AuditRefusesUnder r eq (given fibonacci_declaration main public) cap w e
-      → (e ≡ Memory) ⊎ ((e ≡ DegreeOverflow) × ((0 < w) × IsDegreePast r eq (given fibonacci_declaration main public) cap w))
+      → AuditRefusesUnder r eq (instance fibonacci_declaration main public) cap w e
+      → (e ≡ Memory) ⊎ ((e ≡ DegreeOverflow) × ((0 < w) × IsDegreePast r eq (instance fibonacci_declaration main public) cap w))
   audit_refuses r eq main public cap w e wide three b (inl recording) = inl (recording_refuses e recording)
   audit_refuses r eq main public cap w e wide three b (inr (there, inl check)) = inl (check_refuses main public e wide three (plain_refusal r eq fibonacci 2 3 main public cap e check))
   audit_refuses r eq main public cap w e wide three b (inr (there, inr past)) =

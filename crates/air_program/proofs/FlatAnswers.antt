@@ -7,7 +7,7 @@ use Rattle.air_program.specs.declared.flat_input.input.FlatInput.{FlatInput}
 use Rattle.air_core.specs.declared.errors.AirError.{AirError}
 use Rattle.air_core.specs.declared.errors.AirError.TheVariants.{Memory}
 use Rattle.air_program.specs.Answer.{AuditFinds}
-use Rattle.air_program.specs.FlatAnswer.{StandsFor, Spells, given_flat, RefusesValue, IsFlatAnswer}
+use Rattle.air_program.specs.FlatAnswer.{StandsFor, Spells, flat_instance, RefusesValue, IsFlatAnswer}
 use Rattle.air_program.specs.Refusals.{name_of, refusal_text, air_refusal}
 use Rattle.air_program.specs.Requests.{MayRefuse}
 use Rattle.air_program.specs.Texts.{Found, IsFindingsText, findings_status}
@@ -31,6 +31,6 @@ module _ (eq : BabyBear → BabyBear → Bool) (bytes : List ℕ) where
   ]
 
   -- what an audit found is the answer
-  pub value_answered : {E : Type 0} (r : Result (ℕ × String Global) E) (input : FlatInput) (f : Found) → Spells bytes input → AuditFinds eq (given_flat input) input.cap input.transition_weight f → IfOk r (λ p. p.0 ≡ findings_status f) → IfOk r (λ p. IsFindingsText f (string_bytes p.1)) → IfOk r (λ p. IsFlatAnswer eq bytes p.0 (string_bytes p.1))
+  pub value_answered : {E : Type 0} (r : Result (ℕ × String Global) E) (input : FlatInput) (f : Found) → Spells bytes input → AuditFinds eq (flat_instance input) input.cap input.transition_weight f → IfOk r (λ p. p.0 ≡ findings_status f) → IfOk r (λ p. IsFindingsText f (string_bytes p.1)) → IfOk r (λ p. IsFlatAnswer eq bytes p.0 (string_bytes p.1))
   value_answered (Ok p) input f spelt finds s t = inr (spelt.0, spelt.1, inl (input, spelt.2, (f, finds, s, t)))
   value_answered (Err _) input f spelt finds s t = tt

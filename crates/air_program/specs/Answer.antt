@@ -4,7 +4,7 @@ use Rattle.air_field.specs.Grid.{Grid, grid_of}
 use Rattle.air_field.specs.Extension.{own_basis}
 use Rattle.air_field.specs.Modulo.{baby_bear_ring}
 use Rattle.air_field.specs.BabyBear.{BabyBear}
-use Rattle.air_report.specs.Given.{Given, given}
+use Rattle.p3_air.specs.Theorem.{Instance, instance}
 use Rattle.p3_air.specs.Audits.{IsAuditUnder, IsDegreePast}
 use Rattle.p3_air.specs.declared.audit.Audit.{Audit}
 use Rattle.air_program.specs.Fibonacci.{fibonacci_declaration}
@@ -16,33 +16,32 @@ use Rattle.air_program.specs.Refusals.{IsRefusal}
 abbrev pub found_by : Audit BabyBear → Found
 found_by audit = found (record { degree = audit.degree; report = audit.report })
 
--- What an audit under a cap, in a domain of weight w, finds of what is given: what an AIR says of
--- itself, and a trace.
-pub record AuditFinds (eq : BabyBear → BabyBear → Bool) (g : Given BabyBear) (cap : Option ℕ) (w : ℕ) (f : Found) : Type 0 where
+-- What an audit under a cap, in a domain of weight w, finds of an instance.
+pub record AuditFinds (eq : BabyBear → BabyBear → Bool) (x : Instance BabyBear) (cap : Option ℕ) (w : ℕ) (f : Found) : Type 0 where
   pub audit : Audit BabyBear
-  pub is_audit : IsAuditUnder baby_bear_ring eq own_basis g cap w audit
+  pub is_audit : IsAuditUnder baby_bear_ring eq own_basis x cap w audit
   pub found_is : f ≡ found_by audit
 
 -- Fibonacci on public values and a trace
-abbrev pub given_fibonacci : Grid BabyBear → List BabyBear → Given BabyBear
-given_fibonacci main public = given fibonacci_declaration main public
+abbrev pub fibonacci_instance : Grid BabyBear → List BabyBear → Instance BabyBear
+fibonacci_instance main public = instance fibonacci_declaration main public
 
 -- the text and the status of what an audit finds
 abbrev pub TellsFound : (BabyBear → BabyBear → Bool)
-    → Given BabyBear → Option ℕ → ℕ → ℕ → List ℕ → Type 0
-TellsFound eq g cap w status text =
-    (f : Found) × AuditFinds eq g cap w f × (status ≡ findings_status f) × IsFindingsText f text
+    → Instance BabyBear → Option ℕ → ℕ → ℕ → List ℕ → Type 0
+TellsFound eq x cap w status text =
+    (f : Found) × AuditFinds eq x cap w f × (status ≡ findings_status f) × IsFindingsText f text
 
 -- a recorded degree passes `usize`, in a domain whose weight isn't 0
-abbrev pub PassesDegree : (BabyBear → BabyBear → Bool) → Given BabyBear → Option ℕ → ℕ → Type 0
-PassesDegree eq g cap w = (0 < w) × IsDegreePast baby_bear_ring eq g cap w
+abbrev pub PassesDegree : (BabyBear → BabyBear → Bool) → Instance BabyBear → Option ℕ → ℕ → Type 0
+PassesDegree eq x cap w = (0 < w) × IsDegreePast baby_bear_ring eq x cap w
 
 -- what is found, or the name of a degree that passes `usize`
 abbrev pub AnswersGiven : (BabyBear → BabyBear → Bool)
-    → Given BabyBear → Option ℕ → ℕ → ℕ → List ℕ → Type 0
-AnswersGiven eq g cap w status text =
-    TellsFound eq g cap w status text
-    ⊎ (PassesDegree eq g cap w × IsRefusal (codes "DegreeOverflow") status text)
+    → Instance BabyBear → Option ℕ → ℕ → ℕ → List ℕ → Type 0
+AnswersGiven eq x cap w status text =
+    TellsFound eq x cap w status text
+    ⊎ (PassesDegree eq x cap w × IsRefusal (codes "DegreeOverflow") status text)
 
 -- `Syntax` where the input isn't in the grammar, else what answers Fibonacci on its trace
 abbrev pub IsAnswerTo : (BabyBear → BabyBear → Bool)
@@ -51,4 +50,4 @@ IsAnswerTo eq cap w None status text = IsRefusal (codes "Syntax") status text
 IsAnswerTo eq cap w (Some p) status text =
     (public : List BabyBear) × (values : List BabyBear)
     × (residues public ≡ p.0) × (residues values ≡ p.1)
-    × AnswersGiven eq (given_fibonacci (grid_of 2 values) public) cap w status text
+    × AnswersGiven eq (fibonacci_instance (grid_of 2 values) public) cap w status text

@@ -8,7 +8,7 @@ use Rattle.air_builder.specs.Declaration.{Declaration}
 use Rattle.p3_air.specs.FlatAirs.{zero_at_roots}
 use Rattle.air_program.specs.Input.{SpellsInput, HasInputFault}
 use Rattle.air_program.specs.declared.flat_input.input.FlatInput.{FlatInput}
-use Rattle.air_report.specs.Given.{Given, given}
+use Rattle.p3_air.specs.Theorem.{Instance, instance}
 use Rattle.air_core.specs.declared.errors.AirError.{AirError}
 use Rattle.p3_air.specs.Audits.{AuditRefusesUnder}
 use Rattle.air_program.specs.Answer.{TellsFound}
@@ -43,18 +43,18 @@ flat_declaration input = record {
 }
 
 -- that, on the input's trace
-abbrev pub given_flat : FlatInput → Given BabyBear
-given_flat input = given (flat_declaration input) input.main input.public_values.items
+abbrev pub flat_instance : FlatInput → Instance BabyBear
+flat_instance input = instance (flat_declaration input) input.main input.public_values.items
 
 -- the text and the status of what its audit finds, under its cap and in a domain of its weight
 abbrev pub TellsInput : (BabyBear → BabyBear → Bool) → FlatInput → ℕ → List ℕ → Type 0
 TellsInput eq input status text =
-    TellsFound eq (given_flat input) input.cap input.transition_weight status text
+    TellsFound eq (flat_instance input) input.cap input.transition_weight status text
 
 -- what its audit refuses
 abbrev pub AuditRefusesInput : (BabyBear → BabyBear → Bool) → FlatInput → AirError → Type 0
 AuditRefusesInput eq input e =
-    AuditRefusesUnder baby_bear_ring eq (given_flat input) input.cap input.transition_weight e
+    AuditRefusesUnder baby_bear_ring eq (flat_instance input) input.cap input.transition_weight e
 
 -- the first refusal: of the reading and then of the matrix, where the value spells no input,
 -- else of the audit

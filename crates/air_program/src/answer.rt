@@ -3,12 +3,12 @@
 ghost use Rattle.std.specs.Prelude.{◌≡◌, ◌⊎◌, ◌%◌, ◌<◌, ◌^◌, length, vec_len, IfOk, IfErr, string_bytes};
 ghost use Rattle.air_field.specs.Grid.{grid_of};
 ghost use Rattle.air_field.specs.Modulo.{baby_bear_ring};
-ghost use Rattle.air_report.specs.Given.{given};
+ghost use Rattle.p3_air.specs.Theorem.{instance};
 ghost use Rattle.p3_air.specs.Audits.{AuditRefusesUnder};
 ghost use Rattle.air_program.specs.Texts.{found, findings_status, IsFindingsText};
 ghost use Rattle.air_program.specs.Commands.{has_labels, trace};
 ghost use Rattle.air_program.specs.Grammar.{parse};
-ghost use Rattle.air_program.specs.Answer.{AuditFinds, given_fibonacci, PassesDegree, IsAnswerTo};
+ghost use Rattle.air_program.specs.Answer.{AuditFinds, fibonacci_instance, PassesDegree, IsAnswerTo};
 ghost use Rattle.air_program.specs.Requests.{Answers, MayRefuse};
 
 use crate::commands::{Command, Request};
@@ -59,10 +59,10 @@ pub(crate) fn findings_of<
     transition_weight: usize,
 ) -> Result<Findings, AirError>
     ensures found { IfOk result (λ findings. AuditFinds ⟦<BabyBear as PartialEq>⟧.eq
-        (given (A.declaration air.now) main.now public_values.now)
+        (instance (A.declaration air.now) main.now public_values.now)
         cap transition_weight (found findings)) }
     ensures refused { IfErr result (AuditRefusesUnder baby_bear_ring ⟦<BabyBear as PartialEq>⟧.eq
-        (given (A.declaration air.now) main.now public_values.now) cap transition_weight) }
+        (instance (A.declaration air.now) main.now public_values.now) cap transition_weight) }
 {
     match audit_air_with_cap(alloc, air, main, public_values, cap, transition_weight) {
         Ok(audit) => Ok(Findings {
@@ -87,11 +87,11 @@ fn audit_fibonacci(
     requires height { length main.now.rows < 2 ^ 63 }
     requires public { length public_values.now ≡ 3 }
     ensures found { IfOk result (λ findings. AuditFinds ⟦<BabyBear as PartialEq>⟧.eq
-        (given_fibonacci main.now public_values.now) cap transition_weight (found findings)) }
+        (fibonacci_instance main.now public_values.now) cap transition_weight (found findings)) }
     ensures refused { IfErr result (λ why. (why ≡ Refusal.Memory)
         ⊎ ((why ≡ Refusal.Air AirError.DegreeOverflow)
         × PassesDegree ⟦<BabyBear as PartialEq>⟧.eq
-        (given_fibonacci main.now public_values.now) cap transition_weight)) }
+        (fibonacci_instance main.now public_values.now) cap transition_weight)) }
 {
     match findings_of(
         alloc,

@@ -6,7 +6,7 @@ ghost use Rattle.serde_json.specs.View.{view};
 ghost use Rattle.air_symbolic.specs.BaseLeaves.{base_reads};
 ghost use Rattle.air_symbolic.specs.Pools.{IsPool};
 ghost use Rattle.air_program.specs.Answer.{AuditFinds};
-ghost use Rattle.air_program.specs.FlatAnswer.{StandsFor, HasNoValue, Spells, given_flat, AuditRefusesInput, IsFlatAnswer};
+ghost use Rattle.air_program.specs.FlatAnswer.{StandsFor, HasNoValue, Spells, flat_instance, AuditRefusesInput, IsFlatAnswer};
 ghost use Rattle.air_program.specs.Parts.{ArePartsOf};
 ghost use Rattle.air_program.specs.Requests.{MayRefuse};
 ghost use Rattle.air_program.specs.Texts.{found};
@@ -56,7 +56,7 @@ fn audit_input(alloc: Global, input: FlatInput) -> Result<Findings, AirError>
     requires pool { IsPool base_reads input.pool }
     requires roots { All (λ i. i < length input.pool.1) input.roots.items }
     ensures found { IfOk result (λ findings. AuditFinds ⟦<BabyBear as PartialEq>⟧.eq
-        (given_flat input) input.cap input.transition_weight (found findings)) }
+        (flat_instance input) input.cap input.transition_weight (found findings)) }
     ensures refused { IfErr result (AuditRefusesInput ⟦<BabyBear as PartialEq>⟧.eq input) }
 {
     let air = FlatAir::new(

@@ -24,7 +24,7 @@ use Rattle.air_recording.specs.declared.layouts.air_layout.AirLayout.{AirLayout}
 use Rattle.air_recording.specs.laws.Bounds.{degrees_within, polynomials_within}
 use Rattle.air_report.specs.Checks.{IsReport}
 use Rattle.air_report.specs.declared.checks.report.ConstraintReport.{ConstraintReport}
-use Rattle.p3_air.specs.Theorem.{Instance, row_count, recorded_base, terms_in, RecordDeclared, domain, degree_in, BoundsDegrees, BoundsPolynomials, IsLeast, DegreeOverflows}
+use Rattle.p3_air.specs.Theorem.{Instance, row_count, recorded_base, terms_in, RecordConstraints, domain, degree_in, BoundsDegrees, BoundsPolynomials, IsLeast, DegreeOverflows}
 use Rattle.p3_air.specs.Audits.{IsAuditUnder, AuditRefusesUnder, check_input}
 use Rattle.p3_air.specs.declared.audit.Audit.{Audit}
 use Rattle.p3_air.specs.laws.Theorem.{base_places_are, ext_places_are, each_base, each_ext, recordable, recorded_ext_are, recording_refuses, terms_in_are}
@@ -137,7 +137,7 @@ module _ {F : Type 0} (r : CommRing F) (eq : F → F → Bool) (x : Instance F) 
   degree_refused report us vs Memory checked answers m n h = inl tt
   degree_refused report us vs DegreeOverflow checked answers m n h = inr (recordable r x.air answers, inr (refl, record { report = report; checked = checked; passes = passes }))
     where
-      recorded : RecordDeclared r x.air us vs
+      recorded : RecordConstraints r x.air us vs
       recorded = record { each_base = each_base (RecordsTerm (itself r)) us x.air.declared m; each_ext = each_ext (RecordsTerm (itself r)) vs x.air.declared n }
 
       passes : DegreeOverflows r w x

@@ -173,7 +173,7 @@ ext_constraints k (Extension t ∷ ts) = (k, t) ∷ ext_constraints (k + 1) ts
 -- k-th extension term the k-th extension constraint, and there are as many of each. A term that
 -- records another one has the same polynomial, the same value and no greater degree, whatever
 -- coefficients, values and weights the leaves have.
-pub record RecordDeclared {F : Type 0} (r : CommRing F) (air : Declaration F) (base ext : List (Term F)) : Type 0 where
+pub record RecordConstraints {F : Type 0} (r : CommRing F) (air : Declaration F) (base ext : List (Term F)) : Type 0 where
   pub each_base : AllZip (λ u c. RecordsTerm (itself r) u c.1) base (base_constraints 0 air.declared)
   pub each_ext : AllZip (λ u c. RecordsTerm (itself r) u c.1) ext (ext_constraints 0 air.declared)
 
@@ -182,7 +182,7 @@ pub record RecordDeclared {F : Type 0} (r : CommRing F) (air : Declaration F) (b
 pub record RecordsEach {F : Type 0} (r : CommRing F) (basis : Basis F F) (air : Declaration F) (audit : Audit F) : Type 0 where
   pub base_places : audit.layout.base_indices.items ≡ map (λ c. c.0) (base_constraints 0 air.declared)
   pub ext_places : audit.layout.ext_indices.items ≡ map (λ c. c.0) (ext_constraints 0 air.declared)
-  pub terms : RecordDeclared r air (recorded_base audit.recorded) (recorded_ext basis audit.recorded)
+  pub terms : RecordConstraints r air (recorded_base audit.recorded) (recorded_ext basis audit.recorded)
 
 -- The recorded expressions are numbers of a pool, and mean there the declared constraints of their
 -- kind, in order.
@@ -287,7 +287,7 @@ pub record IsRecordable {F : Type 0} (r : CommRing F) (air : Declaration F) : Ty
   pub there : NamesOwnEntries air
   pub base : List (Term F)
   pub ext : List (Term F)
-  pub recorded : RecordDeclared r air base ext
+  pub recorded : RecordConstraints r air base ext
   pub within : greatest_degree cached_weight (base ++ ext) < 2 ^ 64
 
 -- The fixed columns: a table of another height; the first period that is no power of two or doesn't
@@ -309,12 +309,12 @@ EvaluationRefuses x CountOverflow = (0 < row_count x) × (2 ^ 64 ≤ length x.ai
 EvaluationRefuses x e = (0 < row_count x) × NamesMissing (shape_with x.air x.main.width (length x.public)) x.air e
 
 -- a cell's first fault
-abbrev pub IsCellsFault : {F : Type 0} → Instance F → List BoundaryPublic → BoundaryPublic → BoundaryIoError → Type 0
-IsCellsFault x earlier cell (ColumnOutOfRange column width) =
+abbrev pub IsFaultOfCell : {F : Type 0} → Instance F → List BoundaryPublic → BoundaryPublic → BoundaryIoError → Type 0
+IsFaultOfCell x earlier cell (ColumnOutOfRange column width) =
     (x.main.width ≤ cell.column) × (column ≡ cell.column) × (width ≡ x.main.width)
-IsCellsFault x earlier cell (PublicValueOutOfRange index n) =
+IsFaultOfCell x earlier cell (PublicValueOutOfRange index n) =
     (cell.column < x.main.width) × (length x.public ≤ cell.public_value) × (index ≡ cell.public_value) × (n ≡ length x.public)
-IsCellsFault x earlier cell (DuplicateCell column end) =
+IsFaultOfCell x earlier cell (DuplicateCell column end) =
     (cell.column < x.main.width) × (cell.public_value < length x.public)
     × ((k : ℕ) × (c : BoundaryPublic) × (slice_get earlier k ≡ Some c) × (c.column ≡ cell.column) × (c.end ≡ cell.end))
     × (column ≡ cell.column) × (end ≡ cell.end)
@@ -322,7 +322,7 @@ IsCellsFault x earlier cell (DuplicateCell column end) =
 -- The cells: the first that isn't proper; proper cells, and no row.
 abbrev pub CellsRefuse : {F : Type 0} → Instance F → AirError → Type 0
 CellsRefuse x (Boundary fault) =
-    (k : ℕ) × (cell : BoundaryPublic) × (slice_get x.air.cells k ≡ Some cell) × AreProperBelow x k × IsCellsFault x (take k x.air.cells) cell fault
+    (k : ℕ) × (cell : BoundaryPublic) × (slice_get x.air.cells k ≡ Some cell) × AreProperBelow x k × IsFaultOfCell x (take k x.air.cells) cell fault
 CellsRefuse x EmptyTrace = AreProperBelow x (length x.air.cells) × (x.air.cells ≢ []) × (row_count x ≡ 0)
 CellsRefuse x _ = ⊥
 
@@ -336,7 +336,7 @@ ReportRefuses r eq x _ = ⊥
 pub record DegreeOverflows {F : Type 0} (r : CommRing F) (w : ℕ) (x : Instance F) : Type 0 where
   pub base : List (Term F)
   pub ext : List (Term F)
-  pub recorded : RecordDeclared r x.air base ext
+  pub recorded : RecordConstraints r x.air base ext
   pub past : 2 ^ 64 ≤ greatest_degree (domain w x).weight (base ++ ext)
 
 -- The first refusal: of the recording, the fixed columns, the rows, the cells, the report, the

@@ -1,4 +1,6 @@
 -- Laws of what specs/ defines: implementations cite them, and the layers above build on them.
+pub mod Degrees
 pub mod FlatAirs
 pub mod Plans
+pub mod Recordings
 pub mod Theorem

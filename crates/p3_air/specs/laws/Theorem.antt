@@ -41,7 +41,7 @@ use Rattle.air_report.specs.Report.{all_places, assertion_value, place, report_o
 use Rattle.air_report.specs.RowRefusals.{IsFull}
 use Rattle.air_report.specs.Shapes.{FitsHeight, IsPowerOfTwo, IsShapeFault, PeriodsFitBelow, table_height}
 use Rattle.air_report.specs.declared.debug.failure.ConstraintFailure.{ConstraintFailure}
-use Rattle.p3_air.specs.Theorem.{Instance, row_count, entry_at, read_at, shape_with, IsPeriodOf, TableFits, FixedColumnsFit, IsProperCell, AreProperBelow, ext_leaf_term, recorded_base, recorded_ext, terms_in, base_constraints, ext_constraints, nonzero_places, violations, NamesMissing, RecordingRefuses, IsRecordable, FixedColumnsRefuse, EvaluationRefuses, IsCellsFault, CellsRefuse}
+use Rattle.p3_air.specs.Theorem.{Instance, row_count, entry_at, read_at, shape_with, IsPeriodOf, TableFits, FixedColumnsFit, IsProperCell, AreProperBelow, ext_leaf_term, recorded_base, recorded_ext, terms_in, base_constraints, ext_constraints, nonzero_places, violations, NamesMissing, RecordingRefuses, IsRecordable, FixedColumnsRefuse, EvaluationRefuses, IsFaultOfCell, CellsRefuse}
 use Rattle.p3_air.specs.Audits.{check_input}
 
 -- ---- what is read on a row
@@ -217,6 +217,12 @@ module _ {F : Type 0} where
     | inr past ↦ absurd (omega (arith, inside, past.0))
   ]
 
+  named_inside : (columns : List (Vec F Global)) (i n : ℕ) → slice_get (periods_of columns) i ≡ Some n → i < length columns
+  named_inside columns i n h = omega (arith, slice_get_within (periods_of columns) i n h, length-map columns period_of)
+
+  period_named : (columns : List (Vec F Global)) (i n : ℕ) → i < length columns → slice_get (periods_of columns) i ≡ Some n → (v : Vec F Global) → n ≡ length (slice_index_or columns i v).items
+  period_named columns i n inside h v = sym (get_or_from_slice_get (periods_of columns) i n (period_of v) h) ∙ get_or-map period_of columns i v (period_of v) inside
+
 module _ {F : Type 0} (x : Instance F) where
   pub fixed_columns_fit : Fits (check_input x) → FixedColumnsFit x
   fixed_columns_fit h = record {
@@ -252,6 +258,28 @@ module _ {F : Type 0} (x : Instance F) where
   )
   fixed_columns_refuse _ f = f
 
+  pub fixed_columns_refuse_back : (e : AirError) → FixedColumnsRefuse x e → IsShapeFault x.air.periodic (row_count x) (table_height x.air.preprocessed) e
+  fixed_columns_refuse_back (PreprocessedHeight n h) f = (ap table_height f.0.1 ∙ ap (λ k. Some k) (sym f.0.2), f.1, λ same. f.2 (same ∙ sym f.1))
+  fixed_columns_refuse_back (PeriodNotPowerOfTwo i n) f =
+      let inside : i < length x.air.periodic = named_inside x.air.periodic i n f.2 in (
+        table_fits_back x.air.preprocessed (row_count x) f.0,
+        inside,
+        periods_back x.air.periodic (row_count x) i (omega (arith, inside)) f.1,
+        period_named x.air.periodic i n inside f.2,
+        f.3,
+      )
+  fixed_columns_refuse_back (PeriodDoesNotDivide i n h) f =
+      let inside : i < length x.air.periodic = named_inside x.air.periodic i n f.2 in (
+        table_fits_back x.air.preprocessed (row_count x) f.0,
+        inside,
+        periods_back x.air.periodic (row_count x) i (omega (arith, inside)) f.1,
+        period_named x.air.periodic i n inside f.2,
+        f.3,
+        f.4,
+        λ divides. f.5 (ap (λ k. k % n) f.4 ∙ divides),
+      )
+  fixed_columns_refuse_back _ f = f
+
 -- ---- which cells fit
 
 module _ {F : Type 0} (x : Instance F) where
@@ -265,7 +293,7 @@ module _ {F : Type 0} (x : Instance F) where
       let s = h k (slice_index_or x.air.cells k d) below (slice_get-get_or x.air.cells k d (omega (arith, below, within))) in
       record { column_in = s.column_in; value_in = s.value_in; new_cell = s.is_new }
 
-  cells_fault : (earlier : List BoundaryPublic) (cell : BoundaryPublic) (fault : BoundaryIoError) → IsFaultOf x.main.width (length x.public) earlier cell fault → IsCellsFault x earlier cell fault
+  cells_fault : (earlier : List BoundaryPublic) (cell : BoundaryPublic) (fault : BoundaryIoError) → IsFaultOf x.main.width (length x.public) earlier cell fault → IsFaultOfCell x earlier cell fault
   cells_fault earlier cell (ColumnOutOfRange column width) h = h
   cells_fault earlier cell (PublicValueOutOfRange index n) h = h
   cells_fault earlier cell (DuplicateCell column end) h = (
@@ -292,6 +320,35 @@ module _ {F : Type 0} (x : Instance F) where
   cells_refuse (Boundary fault) h = first_fault fault h
   cells_refuse EmptyTrace h = (proper_below (length x.air.cells) h.0, h.1, h.2)
   cells_refuse _ h = h
+
+  fault_back : (earlier : List BoundaryPublic) (cell : BoundaryPublic) (fault : BoundaryIoError) → IsFaultOfCell x earlier cell fault → IsFaultOf x.main.width (length x.public) earlier cell fault
+  fault_back earlier cell (ColumnOutOfRange column width) h = h
+  fault_back earlier cell (PublicValueOutOfRange index n) h = h
+  fault_back earlier cell (DuplicateCell column end) h =
+      let is : (d : BoundaryPublic) → slice_index_or earlier h.2.0 d ≡ h.2.1 = λ d. get_or_from_slice_get earlier h.2.0 h.2.1 d h.2.2 in (
+        h.0,
+        h.1,
+        record {
+          place = h.2.0;
+          within = slice_get_within earlier h.2.0 h.2.1 h.2.2;
+          column_is = λ d. ap (λ c. c.column) (is d) ∙ h.2.3;
+          end_is = λ d. ap (λ c. c.end) (is d) ∙ h.2.4;
+        },
+        h.3,
+        h.4,
+      )
+
+  pub cells_refuse_back : (e : AirError) → CellsRefuse x e → IsCellFault x.main x.public x.air.cells e
+  cells_refuse_back (Boundary fault) h =
+      let within : h.0 < length x.air.cells = slice_get_within x.air.cells h.0 h.1 h.2 in
+      record {
+        place = h.0;
+        within = within;
+        before = proper_back h.0 (omega (arith, within)) h.3;
+        fault = λ d. subst (λ c. IsFaultOf x.main.width (length x.public) (take h.0 x.air.cells) c fault) (sym (get_or_from_slice_get x.air.cells h.0 h.1 d h.2)) (fault_back (take h.0 x.air.cells) h.1 fault h.4);
+      }
+  cells_refuse_back EmptyTrace h = (proper_back (length x.air.cells) (omega arith) h.0, h.1, h.2)
+  cells_refuse_back _ h = h
 
 -- ---- what is recorded
 
