@@ -1,5 +1,5 @@
 -- What an audit finds, and what answers a whole input that is a trace of Fibonacci.
-use Rattle.std.specs.Prelude.{◌≡◌, ◌⊎◌, ◌<◌, ℕ, List, [], ◌∷◌, codes, Bool, Option, Some, None}
+use Rattle.std.specs.Prelude.{◌≡◌, ◌⊎◌, ◌<◌, ℕ, List, codes, Bool, Option, Some, None}
 use Rattle.air_field.specs.Grid.{Grid, grid_of}
 use Rattle.air_field.specs.Extension.{own_basis}
 use Rattle.air_field.specs.Modulo.{baby_bear_ring}

@@ -1,5 +1,5 @@
 -- The audit theorem, from what the recording, the check and the inferred degree answer.
-use Rattle.std.proofs.Common.{Err, ◌≡◌, ◌⊎◌, ℕ, zero, suc, ◌+◌, ◌-◌, ◌*◌, ◌≤◌, ◌<◌, ◌^◌, max, List, ◌++◌, map, Bool, Option, slice_index_or, refl, sym, ◌∙◌, subst, arith, inl, inr, add-mul}
+use Rattle.std.proofs.Common.{Err, ◌≡◌, ℕ, zero, suc, ◌+◌, ◌-◌, ◌*◌, ◌≤◌, ◌<◌, ◌^◌, max, List, ◌++◌, map, Bool, Option, slice_index_or, refl, sym, ◌∙◌, subst, arith, inl, inr, add-mul}
 use Rattle.std.proofs.Math.Nat.{le-max_left, le-max_right, le_of_mul-le-mul_right}
 use Rattle.air_field.specs.Ring.{CommRing, itself}
 use Rattle.air_field.specs.Extension.{Basis}
@@ -24,7 +24,7 @@ use Rattle.air_recording.specs.declared.layouts.air_layout.AirLayout.{AirLayout}
 use Rattle.air_recording.specs.laws.Bounds.{degrees_within, polynomials_within}
 use Rattle.air_report.specs.Checks.{IsReport}
 use Rattle.air_report.specs.declared.checks.report.ConstraintReport.{ConstraintReport}
-use Rattle.p3_air.specs.Theorem.{Instance, row_count, recorded_base, terms_in, RecordConstraints, domain, degree_in, BoundsDegrees, BoundsPolynomials, IsLeast, DegreeOverflows}
+use Rattle.p3_air.specs.Theorem.{Instance, row_count, recorded_base, terms_in, RecordConstraints, domain, degree_in, BoundsDegrees, IsLeast, DegreeOverflows}
 use Rattle.p3_air.specs.Audits.{IsAuditUnder, AuditRefusesUnder, check_input}
 use Rattle.p3_air.specs.declared.audit.Audit.{Audit}
 use Rattle.p3_air.specs.laws.Theorem.{base_places_are, ext_places_are, each_base, each_ext, recordable, recorded_ext_are, recording_refuses, terms_in_are}

@@ -1,6 +1,6 @@
 -- What is recorded as one list, in the order of the declared constraints: its places, its values on each row, and its
 -- report.
-use Rattle.std.proofs.Common.{◌≡◌, ℕ, zero, suc, ◌+◌, List, [], ◌∷◌, ◌++◌, map, length, Bool, true, false, not, Option, Some, slice_get, refl, sym, ap, ap₂, ◌∙◌, arith, cond}
+use Rattle.std.proofs.Common.{◌≡◌, ℕ, zero, suc, ◌+◌, List, [], ◌∷◌, ◌++◌, map, Bool, true, false, not, Option, Some, slice_get, refl, sym, ap, ap₂, ◌∙◌, arith, cond}
 use Rattle.std.specs.List.{AllZip, filter, enumerate_from}
 use Rattle.air_field.specs.Ring.{CommRing, itself}
 use Rattle.air_field.specs.Extension.{Basis}

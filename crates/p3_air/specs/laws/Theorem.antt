@@ -1,5 +1,5 @@
 -- The words of the audit theorem are those of the crates below.
-use Rattle.std.proofs.Common.{◌≡◌, ◌⊎◌, ℕ, zero, suc, ◌+◌, ◌++◌, ◌%◌, ◌<◌, ◌≤◌, min, List, [], ◌∷◌, map, length, take, not, Bool, All, Option, Some, None, IfSome, unwrap_or, slice_get, slice_index_or, refl, sym, ap, ◌∙◌, subst, arith, inl, inr}
+use Rattle.std.proofs.Common.{◌≡◌, ◌⊎◌, ℕ, zero, suc, ◌+◌, ◌++◌, ◌%◌, ◌<◌, ◌≤◌, List, [], ◌∷◌, map, length, take, not, Bool, All, Option, Some, None, IfSome, unwrap_or, slice_get, slice_index_or, refl, sym, ap, ◌∙◌, subst, arith, inl, inr}
 use Rattle.std.specs.Prelude.{String, string_bytes, Vec}
 use Rattle.std.specs.Global.{Global}
 use Rattle.std.specs.Option.{option_map}
@@ -12,7 +12,7 @@ use Rattle.air_field.specs.Extension.{Basis}
 use Rattle.air_field.specs.Grid.{Grid}
 use Rattle.air_field.specs.Term.{Leaf, preprocessed, main, periodic, public, first_row, last_row, transition, permutation, challenge, permutation_value, Term}
 use Rattle.air_field.specs.Degree.{cached_weight}
-use Rattle.air_field.specs.Assignment.{Shape, IsMissing, row_or_none, row_assignment, trace_shape}
+use Rattle.air_field.specs.Assignment.{IsMissing, row_or_none, row_assignment, trace_shape}
 use Rattle.air_core.specs.Boundary.{row_of, AreSoundBelow, IsFaultOf, IsFirstFault, IsSoundCell}
 use Rattle.air_core.specs.declared.boundary.BoundaryPublic.{BoundaryPublic}
 use Rattle.air_core.specs.declared.boundary.BoundaryIoError.{BoundaryIoError}
@@ -39,9 +39,9 @@ use Rattle.air_report.specs.Checks.{Fits, RowRefuses}
 use Rattle.air_report.specs.Given.{given_trace, table_grid}
 use Rattle.air_report.specs.Report.{all_places, assertion_value, place, report_of}
 use Rattle.air_report.specs.RowRefusals.{IsFull}
-use Rattle.air_report.specs.Shapes.{FitsHeight, IsPowerOfTwo, IsShapeFault, PeriodsFitBelow, table_height}
+use Rattle.air_report.specs.Shapes.{FitsHeight, IsShapeFault, PeriodsFitBelow, table_height}
 use Rattle.air_report.specs.declared.debug.failure.ConstraintFailure.{ConstraintFailure}
-use Rattle.p3_air.specs.Theorem.{Instance, row_count, entry_at, read_at, shape_with, IsPeriodOf, TableFits, FixedColumnsFit, IsProperCell, AreProperBelow, ext_leaf_term, recorded_base, recorded_ext, terms_in, base_constraints, ext_constraints, nonzero_places, violations, NamesMissing, RecordingRefuses, IsRecordable, FixedColumnsRefuse, EvaluationRefuses, IsFaultOfCell, CellsRefuse}
+use Rattle.p3_air.specs.Theorem.{Instance, row_count, entry_at, read_at, shape_with, IsPeriodOf, FixedColumnsFit, AreProperBelow, ext_leaf_term, recorded_base, recorded_ext, terms_in, base_constraints, ext_constraints, nonzero_places, violations, RecordingRefuses, IsRecordable, FixedColumnsRefuse, EvaluationRefuses, IsFaultOfCell, CellsRefuse}
 use Rattle.p3_air.specs.Audits.{check_input}
 
 -- ---- what is read on a row
