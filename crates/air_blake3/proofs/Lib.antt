@@ -1,0 +1,7 @@
+-- Lemmas on words, and on what is asserted of them.
+mod WordNumbers
+mod MixSound
+mod RoundSound
+mod CompressSound
+mod MixComplete
+mod CompressComplete

@@ -1,0 +1,4 @@
+pub mod Words
+pub mod Mixing
+pub mod Row
+pub mod Holding

@@ -1,0 +1,68 @@
+-- Words as terms: some by their limbs of 16 bits, some by their 32 bits, the lowest first; and the columns of both.
+use Rattle.std.specs.Prelude.{ℕ, zero, suc, ◌+◌, List, [], ◌∷◌, take, drop}
+use Rattle.air_field.specs.Ring.{CommRing}
+use Rattle.air_field.specs.Term.{main, Term, leaf_term}
+use Rattle.air_builder.specs.Assertion.{Assertion, Base, Extension}
+use Rattle.air_gadgets.specs.Packing.{packed_term}
+use Rattle.air_gadgets.specs.Words.{Limbs}
+use Rattle.blake3.specs.declared.words.Quarter.{Quarter}
+use Rattle.blake3.specs.declared.words.State.{State}
+
+-- four words of a column of the state: a and c by their limbs, b and d by their bits
+pub record QuarterTerms (F : Type 0) : Type 0 where
+  pub a : Limbs (Term F)
+  pub b : List (Term F)
+  pub c : Limbs (Term F)
+  pub d : List (Term F)
+
+-- four words by their bits
+pub record BitTerms (F : Type 0) : Type 0 where
+  pub a : List (Term F)
+  pub b : List (Term F)
+  pub c : List (Term F)
+  pub d : List (Term F)
+
+-- the sixteen words of the state, in four columns
+pub record StateTerms (F : Type 0) : Type 0 where
+  pub q0 : QuarterTerms F
+  pub q1 : QuarterTerms F
+  pub q2 : QuarterTerms F
+  pub q3 : QuarterTerms F
+
+-- the limbs of a word's bits
+abbrev pub packed_limbs : {F : Type 0} → CommRing F → List (Term F) → Limbs (Term F)
+packed_limbs R ts = record { low = packed_term R.nil (take 16 ts); high = packed_term R.nil (drop 16 ts) }
+
+-- the assertions with another term in each one's place
+abbrev pub under : {F : Type 0} → (Term F → Term F) → List (Assertion F) → List (Assertion F)
+under f [] = []
+under f (Base t ∷ ts) = Base (f t) ∷ under f ts
+under f (Extension t ∷ ts) = Extension (f t) ∷ under f ts
+
+-- ---- columns of the row
+
+-- so many columns after the first
+abbrev pub column : {F : Type 0} → ℕ → ℕ → Term F
+column first i = leaf_term (main 0 (first + i))
+
+-- so many terms that an index numbers, from one on
+abbrev pub terms_from : {F : Type 0} → (ℕ → Term F) → ℕ → ℕ → List (Term F)
+terms_from f i zero = []
+terms_from f i (suc n) = f i ∷ terms_from f (suc i) n
+
+-- the columns of a word by its limbs, and of one by its bits
+unfoldable pub limbs_at : {F : Type 0} → ℕ → Limbs (Term F)
+limbs_at first = record { low = column first 0; high = column first 1 }
+
+unfoldable pub bits_at : {F : Type 0} → ℕ → List (Term F)
+bits_at first = terms_from (column first) 0 32
+
+-- the columns of four words that begin where the record says, and of the sixteen
+abbrev pub quarter_of : {F : Type 0} → Quarter → QuarterTerms F
+quarter_of q = record { a = limbs_at q.a; b = bits_at q.b; c = limbs_at q.c; d = bits_at q.d }
+
+abbrev pub bits_of : {F : Type 0} → Quarter → BitTerms F
+bits_of q = record { a = bits_at q.a; b = bits_at q.b; c = bits_at q.c; d = bits_at q.d }
+
+abbrev pub state_of : {F : Type 0} → State → StateTerms F
+state_of v = record { q0 = quarter_of v.q0; q1 = quarter_of v.q1; q2 = quarter_of v.q2; q3 = quarter_of v.q3 }

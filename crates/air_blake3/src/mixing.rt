@@ -1,0 +1,122 @@
+//! G, the mixing of four words. Each number is the column at which a word begins.
+ghost use Rattle.air_blake3.specs.Words.{bits_at, quarter_of, under};
+ghost use Rattle.air_blake3.specs.Mixing.{half_mix_asserts, mix_asserts};
+
+use crate::words::{bits_from, limbs_from};
+use air_author::{Add2, Add3, AirResult, Condition, Constraint, Rotated, Xor32Shift};
+use air_builder::AirBuilder;
+use blake3::Quarter;
+
+/// The words after are the first half of G of those before, with a word of the message.
+#[derive(Clone, Copy, Drop)]
+struct FirstHalf {
+    before: Quarter,
+    message: u32,
+    after: Quarter,
+}
+
+impl<AB: AirBuilder> Constraint<AB> for FirstHalf {
+    ghost asserts = { λ s f _. under f (half_mix_asserts AB.F.ring 16 12 (quarter_of s.before)
+        (bits_at s.message) (quarter_of s.after)) };
+
+    #[tactic(auto, unfolding(crate::specs::Words::bits_at, crate::specs::Words::limbs_at, air_author::specs::BitTerms::bits_asserts))]
+    fn assert_under<K: Condition<AB>>(&self, builder: &mut AB, condition: &K) -> AirResult {
+        let (before, after) = (self.before, self.after);
+        let sum = Add3 {
+            a: limbs_from(after.a),
+            b: limbs_from(before.a),
+            c: bits_from(before.b),
+            d: bits_from(self.message),
+        };
+        let words = Rotated {
+            b: before.d as usize,
+            c: after.d as usize,
+            shift: 16,
+        };
+        let next_sum = Add2 {
+            a: limbs_from(after.c),
+            b: limbs_from(before.c),
+            c: bits_from(after.d),
+        };
+        let next_words = Rotated {
+            b: before.b as usize,
+            c: after.b as usize,
+            shift: 12,
+        };
+        let xor = Xor32Shift(limbs_from(after.a), words);
+        let next_xor = Xor32Shift(limbs_from(after.c), next_words);
+        (sum, xor, next_sum, next_xor).assert_under(builder, condition)
+    }
+}
+
+/// The same of the second half.
+#[derive(Clone, Copy, Drop)]
+struct SecondHalf {
+    before: Quarter,
+    message: u32,
+    after: Quarter,
+}
+
+impl<AB: AirBuilder> Constraint<AB> for SecondHalf {
+    ghost asserts = { λ s f _. under f (half_mix_asserts AB.F.ring 8 7 (quarter_of s.before)
+        (bits_at s.message) (quarter_of s.after)) };
+
+    #[tactic(auto, unfolding(crate::specs::Words::bits_at, crate::specs::Words::limbs_at, air_author::specs::BitTerms::bits_asserts))]
+    fn assert_under<K: Condition<AB>>(&self, builder: &mut AB, condition: &K) -> AirResult {
+        let (before, after) = (self.before, self.after);
+        let sum = Add3 {
+            a: limbs_from(after.a),
+            b: limbs_from(before.a),
+            c: bits_from(before.b),
+            d: bits_from(self.message),
+        };
+        let words = Rotated {
+            b: before.d as usize,
+            c: after.d as usize,
+            shift: 8,
+        };
+        let next_sum = Add2 {
+            a: limbs_from(after.c),
+            b: limbs_from(before.c),
+            c: bits_from(after.d),
+        };
+        let next_words = Rotated {
+            b: before.b as usize,
+            c: after.b as usize,
+            shift: 7,
+        };
+        let xor = Xor32Shift(limbs_from(after.a), words);
+        let next_xor = Xor32Shift(limbs_from(after.c), next_words);
+        (sum, xor, next_sum, next_xor).assert_under(builder, condition)
+    }
+}
+
+/// The words after are G of those before, by way of those in the middle, with two words of the message.
+#[derive(Clone, Copy, Drop)]
+pub(crate) struct Mix {
+    pub(crate) before: Quarter,
+    pub(crate) first: u32,
+    pub(crate) second: u32,
+    pub(crate) middle: Quarter,
+    pub(crate) after: Quarter,
+}
+
+impl<AB: AirBuilder> Constraint<AB> for Mix {
+    ghost asserts = { λ s f _. mix_asserts AB.F.ring f (quarter_of s.before) (bits_at s.first)
+        (bits_at s.second) (quarter_of s.middle) (quarter_of s.after) };
+
+    #[tactic(auto, unfolding(crate::specs::Mixing::mix_asserts))]
+    fn assert_under<K: Condition<AB>>(&self, builder: &mut AB, condition: &K) -> AirResult {
+        let first = FirstHalf {
+            before: self.before,
+            message: self.first,
+            after: self.middle,
+        };
+        let second = SecondHalf {
+            before: self.middle,
+            message: self.second,
+            after: self.after,
+        };
+        (first, second).assert_under(builder, condition)
+    }
+}

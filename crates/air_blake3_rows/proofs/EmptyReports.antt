@@ -1,0 +1,76 @@
+-- Where a report is empty, all terms vanish at each row.
+use Rattle.std.proofs.Common.{◌≡◌, ◌<◌, ◌≤◌, ℕ, zero, suc, ◌+◌, List, [], ◌∷◌, ◌++◌, map, Bool, true, false, not, cond, refl, sym, ◌∙◌, ap, subst, inl, inr, arith}
+use Rattle.std.specs.List.{filter, flat_map, range_with_len, enumerate_from}
+use Rattle.std.specs.Bool.{Decides}
+use Rattle.std.proofs.lemmas.Bool.{cases_lt}
+use Rattle.air_field.specs.Ring.{CommRing, itself}
+use Rattle.air_field.specs.Term.{Leaf}
+use Rattle.air_field.specs.Value.{value}
+use Rattle.air_field.specs.Assignment.{Trace, row_assignment}
+use Rattle.air_builder.specs.Assertion.{Assertion, Base, Extension}
+use Rattle.air_report.specs.Report.{assertion_value, is_nonzero, place, all_places, report_of}
+use Rattle.air_gadgets.specs.Exact.{AllVanish}
+
+never_empty : {A : Type 0} (x : A) (xs : List A) → x ∷ xs ≡ [] → ⊥
+never_empty x xs e = cc
+
+pub nothing_first : {A : Type 0} (xs ys : List A) → xs ++ ys ≡ [] → (xs ≡ []) × (ys ≡ [])
+nothing_first [] ys e = (refl, e)
+nothing_first (x ∷ xs) ys e = absurd (never_empty x (xs ++ ys) e)
+
+unmapped : {A B : Type 0} (f : A → B) (xs : List A) → map f xs ≡ [] → xs ≡ []
+unmapped f [] e = refl
+unmapped f (x ∷ xs) e = absurd (never (f x) (map f xs) e)
+  where
+    never : {B : Type 0} (x : B) (xs : List B) → x ∷ xs ≡ [] → ⊥
+    never x xs e = cc
+
+-- none passes the test
+Fails : {A : Type 0} → (A → Bool) → List A → Type 0
+Fails f [] = Unit {0}
+Fails f (x ∷ xs) = (f x ≡ false) × Fails f xs
+
+fails_first : {A : Type 0} (f : A → Bool) (x : A) (xs : List A) (b : Bool) → f x ≡ b → cond b (x ∷ filter f xs) (filter f xs) ≡ []
+    → (filter f xs ≡ [] → Fails f xs) → Fails f (x ∷ xs)
+unfolding Fails
+fails_first f x xs true is e rest = absurd (never_empty x (filter f xs) e)
+fails_first f x xs false is e rest = (is, rest e)
+
+unfiltered : {A : Type 0} (f : A → Bool) (xs : List A) → filter f xs ≡ [] → Fails f xs
+unfolding Fails
+unfiltered f [] e = tt
+unfiltered f (x ∷ xs) e = fails_first f x xs (f x) refl e (unfiltered f xs)
+
+module _ {F : Type 0} (r : CommRing F) (eq : F → F → Bool) (decides : (a b : F) → Decides (eq a b) (a ≡ b)) (trace : Trace F) where
+  zero_of : (a : F) → not (eq a r.nil) ≡ false → a ≡ r.nil
+  zero_of a e = (decides a r.nil).0 (turned (eq a r.nil) e)
+    where
+      turned : (b : Bool) → not b ≡ false → b ≡ true
+      turned true e = refl
+      turned false e = sym e
+
+  row_vanishes : (row n : ℕ) (ts : List (Assertion F)) → Fails (is_nonzero r eq trace) (map (λ p. (row, p)) (enumerate_from n ts)) → AllVanish r (row_assignment r trace row) ts
+  unfolding Fails
+  row_vanishes row n [] h = tt
+  row_vanishes row n (Base t ∷ ts) h = (zero_of _ h.0, row_vanishes row (n + 1) ts h.1)
+  row_vanishes row n (Extension t ∷ ts) h = (zero_of _ h.0, row_vanishes row (n + 1) ts h.1)
+
+  fails-append : (ps qs : List (ℕ × (ℕ × Assertion F))) → Fails (is_nonzero r eq trace) (ps ++ qs) → Fails (is_nonzero r eq trace) ps × Fails (is_nonzero r eq trace) qs
+  unfolding Fails
+  fails-append [] qs h = (tt, h)
+  fails-append (p ∷ ps) qs h = let k = fails-append ps qs h.1 in ((h.0, k.0), k.1)
+
+  rows_vanish : (ts : List (Assertion F)) (a n : ℕ) → Fails (is_nonzero r eq trace) (flat_map (λ i. map (λ p. (i, p)) (enumerate_from 0 ts)) (range_with_len a n))
+      → (row : ℕ) → a ≤ row → row < a + n → AllVanish r (row_assignment r trace row) ts
+  rows_vanish ts a zero h row low high = absurd (omega arith)
+  rows_vanish ts a (suc n) h row low high =
+      let parts = fails-append (map (λ p. (a, p)) (enumerate_from 0 ts)) (flat_map (λ i. map (λ p. (i, p)) (enumerate_from 0 ts)) (range_with_len (a + 1) n)) h in
+      elim (cases_lt a row) [
+        | inl l ↦ rows_vanish ts (a + 1) n parts.1 row (omega arith) (omega arith)
+        | inr l ↦ let e : a ≡ row = omega arith in subst (λ i. AllVanish r (row_assignment r trace i) ts) e (row_vanishes a 0 ts parts.0)
+      ]
+
+  -- the report lists nothing, so that each term is zero at each row
+  pub all_vanish : (ts : List (Assertion F)) (h : ℕ) → report_of r eq trace ts h ≡ [] → (row : ℕ) → row < h → AllVanish r (row_assignment r trace row) ts
+  all_vanish ts h e row l =
+      rows_vanish ts 0 h (unfiltered (is_nonzero r eq trace) (all_places h ts) (unmapped place _ e)) row (omega arith) (omega arith)

@@ -1,0 +1,23 @@
+-- What a check of a trace of compressions says.
+use Rattle.std.specs.Prelude.{ℕ, ◌*◌, ◌^◌, ◌<◌, [], length}
+use Rattle.air_field.specs.Assignment.{row_assignment}
+use Rattle.air_field.specs.Grid.{Grid}
+use Rattle.air_field.specs.Ring.{CommRing}
+use Rattle.air_builder.specs.Declaration.{plain_declaration}
+use Rattle.air_report.specs.Given.{Given, given, given_trace}
+use Rattle.air_blake3.specs.Row.{compression}
+use Rattle.air_blake3.specs.Holding.{HoldsCompression}
+
+-- what a check of a trace of compressions is given
+abbrev pub given_compressions : {F : Type 0} → CommRing F → Grid F → Given F
+given_compressions R main = given (plain_declaration (compression R) 9168 0) main []
+
+-- at each row the columns named output are the BLAKE3 compression of the columns named input
+abbrev pub AreCompressions : {F : Type 0} → CommRing F → Grid F → Type 0
+AreCompressions R main =
+    (row : ℕ) → row < length main.rows
+    → HoldsCompression R (row_assignment R (given_trace (given_compressions R main)) row)
+
+-- the same over a field of a great enough characteristic
+abbrev pub HoldCompressions : {F : Type 0} → CommRing F → ℕ → Grid F → Type 0
+HoldCompressions R characteristic main = 3 * 2 ^ 16 < characteristic → AreCompressions R main

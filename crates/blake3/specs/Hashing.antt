@@ -1,0 +1,56 @@
+-- The hash of a message of one chunk, which has at most 1,024 bytes.
+use Rattle.std.specs.Prelude.{ℕ, zero, suc, ◌+◌, ◌-◌, ◌*◌, ◌/◌, ◌^◌, ◌==◌, List, [], ◌∷◌, length, slice_index_or, if◌then◌else◌}
+use Rattle.blake3.specs.Compression.{Block, compress}
+use Rattle.blake3.specs.Blocks.{block_of}
+use Rattle.blake3.specs.declared.words.State.{State}
+
+-- the chaining value of a first block
+abbrev pub start_words : List ℕ
+start_words =
+    0x6A09E667 ∷ 0xBB67AE85 ∷ 0x3C6EF372 ∷ 0xA54FF53A ∷
+    0x510E527F ∷ 0x9B05688C ∷ 0x1F83D9AB ∷ 0x5BE0CD19 ∷ []
+
+-- the first eight words of the output: the next chaining value, or the digest
+abbrev pub first_words : State → List ℕ
+first_words v = v.q0.a ∷ v.q1.a ∷ v.q2.a ∷ v.q3.a ∷ v.q0.b ∷ v.q1.b ∷ v.q2.b ∷ v.q3.b ∷ []
+
+-- the byte at a place, zero past the end; four as a word, the lowest first; and the sixteen words of a block
+abbrev pub byte_at : List ℕ → ℕ → ℕ
+byte_at bytes i = slice_index_or bytes i 0
+
+abbrev pub word_at : List ℕ → ℕ → ℕ
+word_at bytes i =
+    byte_at bytes i + 2 ^ 8 * byte_at bytes (i + 1) + 2 ^ 16 * byte_at bytes (i + 2) + 2 ^ 24 * byte_at bytes (i + 3)
+
+abbrev pub words_at : List ℕ → ℕ → List ℕ
+words_at bytes i =
+    word_at bytes (i + 0) ∷ word_at bytes (i + 4) ∷ word_at bytes (i + 8) ∷ word_at bytes (i + 12) ∷
+    word_at bytes (i + 16) ∷ word_at bytes (i + 20) ∷ word_at bytes (i + 24) ∷ word_at bytes (i + 28) ∷
+    word_at bytes (i + 32) ∷ word_at bytes (i + 36) ∷ word_at bytes (i + 40) ∷ word_at bytes (i + 44) ∷
+    word_at bytes (i + 48) ∷ word_at bytes (i + 52) ∷ word_at bytes (i + 56) ∷ word_at bytes (i + 60) ∷ []
+
+-- of so many bytes there are so many blocks of 64: one at least
+abbrev pub block_count : ℕ → ℕ
+block_count n = (n - 1) / 64 + 1
+
+-- how many bytes of n block k has: the last may have fewer than 64
+abbrev pub block_length : ℕ → ℕ → ℕ
+block_length n k = if suc k == block_count n then n - 64 * k else 64
+
+-- 1 on the first block, and on the last one 2 for the chunk's end and 8 for the root
+abbrev pub block_flags : ℕ → ℕ → ℕ
+block_flags n k = (if k == 0 then 1 else 0) + (if suc k == block_count n then 10 else 0)
+
+-- block k of a message, after a chaining value
+abbrev pub block_at : List ℕ → ℕ → List ℕ → Block
+block_at bytes k chaining =
+    block_of chaining (words_at bytes (64 * k)) (0 ∷ 0 ∷ block_length (length bytes) k ∷ block_flags (length bytes) k ∷ [])
+
+-- the chaining value after so many blocks
+unfoldable pub chained : List ℕ → ℕ → List ℕ
+chained bytes zero = start_words
+chained bytes (suc k) = first_words (compress (block_at bytes k (chained bytes k)))
+
+-- the digest: eight words
+abbrev pub hash : List ℕ → List ℕ
+hash bytes = chained bytes (block_count (length bytes))

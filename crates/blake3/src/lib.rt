@@ -1,0 +1,14 @@
+//! BLAKE3's compression function: its definition over words, and code that computes it.
+#![tactic(auto)]
+
+pub mod compression;
+pub mod hashing;
+pub mod messages;
+pub mod mixing;
+pub mod words;
+
+pub use compression::{compress, first_state, outputs, round};
+pub use hashing::hash;
+pub use messages::{eight_words, place_of};
+pub use mixing::{columns_half, columns_whole, half_mix};
+pub use words::{Quarter, State};
