@@ -4,8 +4,10 @@ ghost use Rattle.air_blake3.specs.Words.{bits_at, bits_of, quarter_of};
 ghost use Rattle.air_blake3.specs.Row.{chaining_column, first_asserts, first_at, last_column, message_at, output_asserts, output_at, output_columns};
 
 use crate::columns::{output_from, state_at};
-use crate::words::{AreBits, BitXors, LimbsOf, LimbsOfConstant, limbs_from};
-use air_author::{AirResult, All, Condition, Constraint, Family, Rotated, Xor32Shift};
+use crate::words::{AreBits, BitXors, LimbsOf, LimbsOfConstant};
+use air_author::{
+    AirResult, All, Condition, Constraint, Current, Family, Rotated, Word, Xor32Shift,
+};
 use air_builder::AirBuilder;
 use blake3::{Quarter, State};
 
@@ -106,6 +108,7 @@ impl<AB: AirBuilder> Constraint<AB> for OutputColumn {
     #[tactic(auto, unfolding(crate::specs::Row::output_asserts, crate::specs::Words::bits_at, crate::specs::Words::limbs_at, air_author::specs::BitTerms::bits_asserts))]
     fn assert_under<K: Condition<AB>>(&self, builder: &mut AB, condition: &K) -> AirResult {
         let (words, output) = (self.words, self.output);
+        let a = words.a as usize;
         let xor = Rotated {
             b: self.bits as usize,
             c: output.a as usize,
@@ -113,7 +116,7 @@ impl<AB: AirBuilder> Constraint<AB> for OutputColumn {
         };
         let constraints = (
             (AreBits(self.bits), LimbsOf(words.c, self.bits)),
-            Xor32Shift(limbs_from(words.a), xor),
+            Xor32Shift(Word(Current(a + 0), Current(a + 1)), xor),
             All(BitXors(words.b, words.d, output.b)),
             All(BitXors(self.bits, self.low, output.c)),
             All(BitXors(words.d, self.high, output.d)),

@@ -2,8 +2,8 @@
 ghost use Rattle.air_blake3.specs.Words.{bits_at, quarter_of, under};
 ghost use Rattle.air_blake3.specs.Mixing.{half_mix_asserts, mix_asserts};
 
-use crate::words::{bits_from, limbs_from};
-use air_author::{Add2, Add3, AirResult, Condition, Constraint, Rotated, Xor32Shift};
+use crate::words::{AddThree, AddTwo};
+use air_author::{AirResult, Condition, Constraint, Current, Rotated, Word, Xor32Shift};
 use air_builder::AirBuilder;
 use blake3::Quarter;
 
@@ -22,29 +22,30 @@ impl<AB: AirBuilder> Constraint<AB> for FirstHalf {
     #[tactic(auto, unfolding(crate::specs::Words::bits_at, crate::specs::Words::limbs_at, air_author::specs::BitTerms::bits_asserts))]
     fn assert_under<K: Condition<AB>>(&self, builder: &mut AB, condition: &K) -> AirResult {
         let (before, after) = (self.before, self.after);
-        let sum = Add3 {
-            a: limbs_from(after.a),
-            b: limbs_from(before.a),
-            c: bits_from(before.b),
-            d: bits_from(self.message),
+        let sum = AddThree {
+            sum: after.a,
+            limbs: before.a,
+            bits: before.b,
+            more: self.message,
         };
         let words = Rotated {
             b: before.d as usize,
             c: after.d as usize,
             shift: 16,
         };
-        let next_sum = Add2 {
-            a: limbs_from(after.c),
-            b: limbs_from(before.c),
-            c: bits_from(after.d),
+        let next_sum = AddTwo {
+            sum: after.c,
+            limbs: before.c,
+            bits: after.d,
         };
         let next_words = Rotated {
             b: before.b as usize,
             c: after.b as usize,
             shift: 12,
         };
-        let xor = Xor32Shift(limbs_from(after.a), words);
-        let next_xor = Xor32Shift(limbs_from(after.c), next_words);
+        let (a, c) = (after.a as usize, after.c as usize);
+        let xor = Xor32Shift(Word(Current(a + 0), Current(a + 1)), words);
+        let next_xor = Xor32Shift(Word(Current(c + 0), Current(c + 1)), next_words);
         (sum, xor, next_sum, next_xor).assert_under(builder, condition)
     }
 }
@@ -64,29 +65,30 @@ impl<AB: AirBuilder> Constraint<AB> for SecondHalf {
     #[tactic(auto, unfolding(crate::specs::Words::bits_at, crate::specs::Words::limbs_at, air_author::specs::BitTerms::bits_asserts))]
     fn assert_under<K: Condition<AB>>(&self, builder: &mut AB, condition: &K) -> AirResult {
         let (before, after) = (self.before, self.after);
-        let sum = Add3 {
-            a: limbs_from(after.a),
-            b: limbs_from(before.a),
-            c: bits_from(before.b),
-            d: bits_from(self.message),
+        let sum = AddThree {
+            sum: after.a,
+            limbs: before.a,
+            bits: before.b,
+            more: self.message,
         };
         let words = Rotated {
             b: before.d as usize,
             c: after.d as usize,
             shift: 8,
         };
-        let next_sum = Add2 {
-            a: limbs_from(after.c),
-            b: limbs_from(before.c),
-            c: bits_from(after.d),
+        let next_sum = AddTwo {
+            sum: after.c,
+            limbs: before.c,
+            bits: after.d,
         };
         let next_words = Rotated {
             b: before.b as usize,
             c: after.b as usize,
             shift: 7,
         };
-        let xor = Xor32Shift(limbs_from(after.a), words);
-        let next_xor = Xor32Shift(limbs_from(after.c), next_words);
+        let (a, c) = (after.a as usize, after.c as usize);
+        let xor = Xor32Shift(Word(Current(a + 0), Current(a + 1)), words);
+        let next_xor = Xor32Shift(Word(Current(c + 0), Current(c + 1)), next_words);
         (sum, xor, next_sum, next_xor).assert_under(builder, condition)
     }
 }

@@ -1,15 +1,15 @@
 //! Words of the row as expressions, by their limbs or their bits, and what is asserted of single words.
-ghost use Rattle.std.specs.Prelude.{◌≡◌, ◌+◌, ◌∷◌, []};
+ghost use Rattle.std.specs.Prelude.{◌+◌, ◌∷◌, []};
 ghost use Rattle.air_field.specs.Algebra.{xor_term};
 ghost use Rattle.air_field.specs.Term.{sub_term};
 ghost use Rattle.air_builder.specs.Assertion.{Base};
-ghost use Rattle.air_gadgets.specs.Gadgets.{test_asserts};
+ghost use Rattle.air_gadgets.specs.Gadgets.{add2_asserts, add3_asserts, test_asserts};
 ghost use Rattle.air_blake3.specs.Row.{constant_limbs, limbs_are};
 ghost use Rattle.air_blake3.specs.Words.{bits_at, column, limbs_at, packed_limbs, under};
 
 use air_author::{
-    AirResult, Bits, Columns, Condition, Constraint, Current, Difference, Double, Equal,
-    Expression, Family, Number, Packed, Product, Series, Sum, Word,
+    Add2, Add3, AirResult, Bits, Columns, Condition, Constraint, Current, Difference, Double,
+    Equal, Expression, Family, Number, Packed, Product, Series, Sum, Word,
 };
 use air_builder::AirBuilder;
 
@@ -34,26 +34,6 @@ impl<AB: AirBuilder> Series<AB> for Half {
     }
 }
 
-/// The limbs of a word that stands by its bits.
-pub(crate) fn bits_from(first: u32) -> Word<Packed<Half>>
-    ensures { result ≡ record {
-      0 = record { 0 = record { first = first; from = 0 } };
-      1 = record { 0 = record { first = first; from = 16 } };
-    } }
-{
-    Word(
-        Packed(Half { first, from: 0 }),
-        Packed(Half { first, from: 16 }),
-    )
-}
-
-/// The limbs of a word that stands by them.
-pub(crate) fn limbs_from(first: u32) -> Word<Current>
-    ensures { result ≡ record { 0 = record { 0 = first + 0 }; 1 = record { 0 = first + 1 } } }
-{
-    Word(Current(first as usize + 0), Current(first as usize + 1))
-}
-
 /// The 32 columns from one on are bits.
 #[derive(Clone, Copy, Drop)]
 pub(crate) struct AreBits(pub(crate) u32);
@@ -71,6 +51,81 @@ impl<AB: AirBuilder> Constraint<AB> for AreBits {
     }
 }
 
+/// The word of the first limbs is the sum of that of the second limbs, and of a word of bits.
+#[derive(Clone, Copy, Drop)]
+pub(crate) struct AddTwo {
+    pub(crate) sum: u32,
+    pub(crate) limbs: u32,
+    pub(crate) bits: u32,
+}
+
+impl<AB: AirBuilder> Constraint<AB> for AddTwo {
+    ghost asserts = { λ s f _. under f (add2_asserts AB.F.ring (limbs_at s.sum) (limbs_at s.limbs)
+        (packed_limbs AB.F.ring (bits_at s.bits))) };
+
+    #[tactic(auto, unfolding(crate::specs::Words::bits_at, crate::specs::Words::limbs_at))]
+    fn assert_under<K: Condition<AB>>(&self, builder: &mut AB, condition: &K) -> AirResult {
+        let (sum, limbs) = (self.sum as usize, self.limbs as usize);
+        let low = Half {
+            first: self.bits,
+            from: 0,
+        };
+        let high = Half {
+            first: self.bits,
+            from: 16,
+        };
+        let add = Add2 {
+            a: Word(Current(sum + 0), Current(sum + 1)),
+            b: Word(Current(limbs + 0), Current(limbs + 1)),
+            c: Word(Packed(low), Packed(high)),
+        };
+        add.assert_under(builder, condition)
+    }
+}
+
+/// The same with a further word of bits.
+#[derive(Clone, Copy, Drop)]
+pub(crate) struct AddThree {
+    pub(crate) sum: u32,
+    pub(crate) limbs: u32,
+    pub(crate) bits: u32,
+    pub(crate) more: u32,
+}
+
+impl<AB: AirBuilder> Constraint<AB> for AddThree {
+    ghost asserts = { λ s f _. under f (add3_asserts AB.F.ring (limbs_at s.sum) (limbs_at s.limbs)
+        (packed_limbs AB.F.ring (bits_at s.bits)) (packed_limbs AB.F.ring (bits_at s.more))) };
+
+    #[tactic(auto, unfolding(crate::specs::Words::bits_at, crate::specs::Words::limbs_at))]
+    fn assert_under<K: Condition<AB>>(&self, builder: &mut AB, condition: &K) -> AirResult {
+        let (sum, limbs) = (self.sum as usize, self.limbs as usize);
+        let (bits, more) = (self.bits, self.more);
+        let low = Packed(Half {
+            first: bits,
+            from: 0,
+        });
+        let high = Packed(Half {
+            first: bits,
+            from: 16,
+        });
+        let more_low = Packed(Half {
+            first: more,
+            from: 0,
+        });
+        let more_high = Packed(Half {
+            first: more,
+            from: 16,
+        });
+        let add = Add3 {
+            a: Word(Current(sum + 0), Current(sum + 1)),
+            b: Word(Current(limbs + 0), Current(limbs + 1)),
+            c: Word(low, high),
+            d: Word(more_low, more_high),
+        };
+        add.assert_under(builder, condition)
+    }
+}
+
 /// The limbs are those of a word of bits.
 #[derive(Clone, Copy, Drop)]
 pub(crate) struct LimbsOf(pub(crate) u32, pub(crate) u32);
@@ -81,9 +136,20 @@ impl<AB: AirBuilder> Constraint<AB> for LimbsOf {
 
     #[tactic(auto, unfolding(crate::specs::Words::bits_at, crate::specs::Words::limbs_at))]
     fn assert_under<K: Condition<AB>>(&self, builder: &mut AB, condition: &K) -> AirResult {
-        let limbs = limbs_from(self.0);
-        let packed = bits_from(self.1);
-        (Equal(limbs.0, packed.0), Equal(limbs.1, packed.1)).assert_under(builder, condition)
+        let low = Packed(Half {
+            first: self.1,
+            from: 0,
+        });
+        let high = Packed(Half {
+            first: self.1,
+            from: 16,
+        });
+        let first = self.0 as usize;
+        (
+            Equal(Current(first + 0), low),
+            Equal(Current(first + 1), high),
+        )
+            .assert_under(builder, condition)
     }
 }
 
@@ -97,9 +163,9 @@ impl<AB: AirBuilder> Constraint<AB> for LimbsOfConstant {
 
     #[tactic(auto, unfolding(crate::specs::Words::limbs_at))]
     fn assert_under<K: Condition<AB>>(&self, builder: &mut AB, condition: &K) -> AirResult {
-        let limbs = limbs_from(self.0);
-        let low = Equal(limbs.0, Number((self.1 % 65536) as u64));
-        let high = Equal(limbs.1, Number((self.1 / 65536) as u64));
+        let first = self.0 as usize;
+        let low = Equal(Current(first + 0), Number((self.1 % 65536) as u64));
+        let high = Equal(Current(first + 1), Number((self.1 / 65536) as u64));
         (low, high).assert_under(builder, condition)
     }
 }
