@@ -1,8 +1,21 @@
+use contract.BorrowLft.{⊑_static}
 use Rattle.air_blake3_rows.proofs.Checked.{compressions_hold}
 use Rattle.air_blake3_rows.proofs.checks.are_compressions.Goals as goal
 
 pub returns : goal.returns
 returns g c =
     λ yes.
-    compressions_hold g.F.Field.ring g.F.Field.eq g.met.F.Field.eq_is g.F.Field.CHARACTERISTIC g.met.F.PrimeField.domain
+    compressions_hold g.F.Field.ring g.F.PartialEq.eq g.met.F.Field.eq_is g.F.Field.CHARACTERISTIC g.met.F.PrimeField.domain
     c.compression_is_sound.ensures.compression c.args.trace.now c.in_ok-report.report c.in_ok-report.ensures.report (c.is_ok.ensures.0 yes)
+
+pub check_all_constraints-requires-lives-A-Air : goal.check_all_constraints-requires-lives-A-Air
+check_all_constraints-requires-lives-A-Air g c κs within = λ a m. ⊑_static _ a (c.type_bounds.static-F a m)
+
+pub check_all_constraints-requires-lives-A-Air-2 : goal.check_all_constraints-requires-lives-A-Air-2
+check_all_constraints-requires-lives-A-Air-2 g c κs within = λ a m. ⊑_static _ a (c.type_bounds.static-F a m)
+
+pub check_all_constraints-requires-lives-A-Air-3 : goal.check_all_constraints-requires-lives-A-Air-3
+check_all_constraints-requires-lives-A-Air-3 g c κs within = λ a m. ⊑_static _ a (c.type_bounds.static-F a m)
+
+pub check_all_constraints-requires-lives-A-Air-4 : goal.check_all_constraints-requires-lives-A-Air-4
+check_all_constraints-requires-lives-A-Air-4 g c κs within = λ a m. ⊑_static _ a (c.type_bounds.static-F a m)
