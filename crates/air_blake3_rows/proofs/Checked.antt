@@ -1,5 +1,5 @@
 -- A check that lists nothing.
-use Rattle.std.proofs.Common.{◌≡◌, ◌<◌, ◌*◌, ◌^◌, ℕ, List, [], ◌++◌, length, map, Bool, None, sym, ◌∙◌, ap, inl, inr}
+use Rattle.std.proofs.Common.{◌≡◌, ◌<◌, ℕ, [], map, Bool, None, sym, ◌∙◌, ap, inl, inr}
 use Rattle.std.specs.Bool.{Decides}
 use Rattle.air_field.specs.Ring.{CommRing}
 use Rattle.air_field.specs.Assignment.{row_assignment}

@@ -1,5 +1,5 @@
 -- The digits of a word.
-use Rattle.std.specs.Prelude.{◌≡◌, ℕ, zero, suc, refl, ◌*◌, ◌/◌, ◌%◌, ◌^◌, ◌<◌, List, [], ◌∷◌, length, map}
+use Rattle.std.specs.Prelude.{◌≡◌, ℕ, zero, suc, refl, ◌/◌, ◌%◌, ◌^◌, ◌<◌, List, length, map}
 use Rattle.std.proofs.Common.{ap, arith}
 use Rattle.std.proofs.Math.Nat.{pow-suc}
 use Rattle.air_field.specs.Ring.{CommRing, image, itself}

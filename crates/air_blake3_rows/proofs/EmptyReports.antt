@@ -1,14 +1,12 @@
 -- Where a report is empty, all terms vanish at each row.
-use Rattle.std.proofs.Common.{◌≡◌, ◌<◌, ◌≤◌, ℕ, zero, suc, ◌+◌, List, [], ◌∷◌, ◌++◌, map, Bool, true, false, not, cond, refl, sym, ◌∙◌, ap, subst, inl, inr, arith}
+use Rattle.std.proofs.Common.{◌≡◌, ◌<◌, ◌≤◌, ℕ, zero, suc, ◌+◌, List, [], ◌∷◌, ◌++◌, map, Bool, true, false, not, cond, refl, sym, subst, inl, inr, arith}
 use Rattle.std.specs.List.{filter, flat_map, range_with_len, enumerate_from}
 use Rattle.std.specs.Bool.{Decides}
 use Rattle.std.proofs.lemmas.Bool.{cases_lt}
-use Rattle.air_field.specs.Ring.{CommRing, itself}
-use Rattle.air_field.specs.Term.{Leaf}
-use Rattle.air_field.specs.Value.{value}
+use Rattle.air_field.specs.Ring.{CommRing}
 use Rattle.air_field.specs.Assignment.{Trace, row_assignment}
 use Rattle.air_builder.specs.Assertion.{Assertion, Base, Extension}
-use Rattle.air_report.specs.Report.{assertion_value, is_nonzero, place, all_places, report_of}
+use Rattle.air_report.specs.Report.{is_nonzero, place, all_places, report_of}
 use Rattle.air_gadgets.specs.Exact.{AllVanish}
 
 never_empty : {A : Type 0} (x : A) (xs : List A) → x ∷ xs ≡ [] → ⊥

@@ -1,5 +1,5 @@
 -- Lists pushed one after another.
-use Rattle.std.proofs.Common.{◌≡◌, ◌+◌, ◌-◌, ◌/◌, ◌%◌, ℕ, suc, List, [], ◌∷◌, ◌++◌, map, Result, Ok, Err, OnOk, sym, ◌∙◌, ap, append_assoc, arith}
+use Rattle.std.proofs.Common.{◌≡◌, ◌+◌, ◌/◌, ◌%◌, ℕ, suc, List, [], ◌∷◌, ◌++◌, map, Result, Ok, Err, OnOk, sym, ◌∙◌, ap, append_assoc, arith}
 use Rattle.std.proofs.lemmas.List.{append-nil}
 use Rattle.air_field.specs.Ring.{CommRing, image}
 use Rattle.air_author.specs.Constraints.{asserts_of_first}

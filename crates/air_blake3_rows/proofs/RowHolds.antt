@@ -1,11 +1,11 @@
 -- The row of a block holds its input, its states and its output, and so satisfies all constraints.
 use Rattle.std.specs.Prelude.{◌≡◌, ℕ, refl, ◌+◌, ◌*◌, ◌^◌, ◌<◌, List, ◌++◌, length}
-use Rattle.std.proofs.Common.{sym, ◌∙◌, ap, subst, arith}
+use Rattle.std.proofs.Common.{sym, subst, arith}
 use Rattle.air_field.specs.Assignment.{RowValues}
 use Rattle.air_field.specs.Ring.{CommRing}
 use Rattle.air_author.specs.Constraints.{asserts_of_first}
 use Rattle.air_gadgets.specs.Exact.{IsDomain}
-use Rattle.blake3.specs.Compression.{Block, columns_mixed, diagonals, from_diagonals, place_in, first_state, after_rounds, compress}
+use Rattle.blake3.specs.Compression.{Block, columns_mixed, diagonals, place_in, first_state, after_rounds, compress}
 use Rattle.blake3.specs.Blocks.{columns_half}
 use Rattle.blake3.specs.Sizes.{AreStateWords, AreBlockWords}
 use Rattle.blake3.specs.laws.Sizes.{mixed_state, diagonal_state, rounds_words, first_words, outputs_words}

@@ -1,19 +1,19 @@
 -- What stands at a place of a row.
-use Rattle.std.specs.Prelude.{◌≡◌, ℕ, zero, suc, refl, ◌+◌, ◌*◌, ◌/◌, ◌%◌, ◌^◌, ◌<◌, ◌≤◌, List, [], ◌∷◌, ◌++◌, length, map, slice_index_or}
-use Rattle.std.proofs.Common.{sym, ◌∙◌, ap, ap₂, subst, inl, inr, arith, length-append, append_assoc}
+use Rattle.std.specs.Prelude.{◌≡◌, ℕ, zero, suc, refl, ◌+◌, ◌*◌, ◌%◌, ◌^◌, ◌<◌, List, [], ◌∷◌, ◌++◌, length, map, slice_index_or}
+use Rattle.std.proofs.Common.{◌∙◌, ap₂, subst, inl, inr, arith, length-append, append_assoc}
 use Rattle.std.proofs.lemmas.Bool.{cases_lt}
 use Rattle.air_field.specs.Assignment.{RowValues, leaf_value}
 use Rattle.air_field.specs.Ring.{CommRing, image, itself}
-use Rattle.air_field.specs.Term.{Leaf, Term}
+use Rattle.air_field.specs.Term.{Leaf}
 use Rattle.air_field.specs.Value.{value}
 use Rattle.air_author.specs.Constraints.{asserts_of_first}
 use Rattle.blake3.specs.Compression.{columns_mixed, diagonals}
 use Rattle.blake3.specs.Blocks.{columns_half}
 use Rattle.blake3.specs.Sizes.{AreWords, AreStateWords}
-use Rattle.blake3.specs.laws.Sizes.{half_state, mixed_state, diagonal_state}
+use Rattle.blake3.specs.laws.Sizes.{half_state, mixed_state}
 use Rattle.blake3.specs.declared.words.Quarter.{Quarter}
 use Rattle.blake3.specs.declared.words.State.{State}
-use Rattle.air_blake3.specs.Words.{QuarterTerms, column, terms_from, quarter_of, state_of, bits_at, limbs_at}
+use Rattle.air_blake3.specs.Words.{column, terms_from, quarter_of, state_of, bits_at, limbs_at}
 use Rattle.air_blake3.specs.Row.{quarter_from, state_from}
 use Rattle.air_blake3.specs.Holding.{IsLimbsOf, IsBitsOf, IsQuarterOf, IsStateOf}
 use Rattle.air_blake3_rows.specs.Values.{bit_values, limb_values, quarter_values, state_values, columns_values, round_values, four_bits}

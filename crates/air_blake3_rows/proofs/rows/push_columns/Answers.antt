@@ -1,4 +1,4 @@
-use Rattle.std.proofs.Common.{◌≡◌, ◌++◌, ◌∙◌, ap, ap₂, append_assoc}
+use Rattle.std.proofs.Common.{◌++◌, ◌∙◌, ap, ap₂, append_assoc}
 use Rattle.std.specs.Prelude.{slice_index}
 use Rattle.blake3.specs.Compression.{columns_mixed, mix}
 use Rattle.blake3.specs.Blocks.{columns_half, columns_whole}

@@ -1,4 +1,4 @@
-use Rattle.std.proofs.Common.{arith, refl, ◌≡◌, ◌-◌, ◌+◌, ◌/◌, ◌%◌, [], ◌∷◌, ◌++◌, suc, sym, ◌∙◌, ap}
+use Rattle.std.proofs.Common.{arith, refl, ◌≡◌, ◌-◌, ◌+◌, ◌/◌, [], ◌∷◌, ◌++◌, suc, sym, ◌∙◌, ap}
 use Rattle.air_blake3_rows.proofs.Pushes.{bit_pushed, bits_done, with_bits}
 use Rattle.air_blake3_rows.proofs.values.push_bits.Goals as goal
 
