@@ -1,15 +1,15 @@
 //! The variables and selectors that the symbolic builder lends, and what it records of assertions over the extension.
 ghost use Rattle.std.specs.Prelude.{[], IfOk};
 
-use crate::expressions::{Element, show_base, show_ext_variable, show_variable};
+use crate::expressions::{show_base, show_ext_variable, show_variable};
 use crate::layouts::layout_of;
-use crate::recordings::{ExtRecorder, show_exts};
+use crate::recordings::{Recorder, show_exts};
 use air_builder::{
     AirBuilder, AirError, ExtensionBuilder, NamedExtensionBuilder, PermutationAirBuilder,
     WindowAccess,
 };
 use air_core::{SymbolicVariable, SymbolicVariableExt, TwoRows};
-use air_field::{Algebra, BabyBear, ExtAlgebra};
+use air_field::{Algebra, BabyBear, BinomialExtensionField, ExtAlgebra};
 use air_recording::{AirLayout, SymbolicAirBuilder};
 use cases::words::{count_of, element_of, extension_of};
 use cases::{Fault, Why};
@@ -17,7 +17,9 @@ use std::alloc::Global;
 
 type Variable = SymbolicVariable<BabyBear>;
 
-type ExtVariable = SymbolicVariableExt<BabyBear, Element>;
+type ExtVariable = SymbolicVariableExt<BabyBear, BinomialExtensionField>;
+
+type ExtRecorder = Recorder<BabyBear, BinomialExtensionField>;
 
 // A builder over the extension that has recorded nothing.
 fn builder_of(alloc: Global, layout: &str) -> Result<ExtRecorder, Fault>
