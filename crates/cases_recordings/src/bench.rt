@@ -1,6 +1,7 @@
 //! What lines are tried on.
 
 use crate::audits::Given;
+use crate::filters::show_when;
 use crate::folds::{Row, answer_hiding, row_of};
 use crate::hints::answer_hints;
 use crate::kinds::{audited, audited_under_cap, by_base, by_extension, folded};
@@ -71,6 +72,9 @@ fn answer_by(
         ("fold_air", words) => {
             let row: Row<Element> = row_of::<BabyBear, Element>(alloc, words)?;
             folded::<BabyBear, Element>(alloc, air, layout, &row, text)
+        }
+        ("eval_when", [condition]) => {
+            show_when::<BabyBear, Element>(alloc, air, layout, *condition, text)
         }
         ("validate_against_air", []) => validated(air, layout, text),
         ("layout", []) => {

@@ -20,6 +20,7 @@ pub struct Row<EF> {
     current: Vec<EF>,
     next: Vec<EF>,
     permutation: Vec<EF>,
+    next_permutation: Vec<EF>,
     public_values: Vec<EF>,
     challenges: Vec<EF>,
     values: Vec<EF>,
@@ -67,6 +68,7 @@ pub fn row_of<F: Field, EF: ExtensionField<F>>(
         current: given::<F, EF>(alloc, words, "row")?,
         next: given::<F, EF>(alloc, words, "next")?,
         permutation: given::<F, EF>(alloc, words, "permutation")?,
+        next_permutation: given::<F, EF>(alloc, words, "next_permutation")?,
         public_values: given::<F, EF>(alloc, words, "public")?,
         challenges: given::<F, EF>(alloc, words, "challenges")?,
         values: given::<F, EF>(alloc, words, "values")?,
@@ -81,7 +83,7 @@ fn folder_of<'a, F: Field, EF: ExtensionField<F>>(
 ) -> Result<Folder<'a, F, EF>, Fault>
     ensures { IfOk result (λ folder. folder.accumulator ≡ EF.over.ring.nil) }
 {
-    if row.current.len() != row.next.len() {
+    if row.current.len() != row.next.len() || row.permutation.len() != row.next_permutation.len() {
         return Err(Fault::Unreadable(Why::OtherShape));
     }
     let ([first, last, transition], [alpha]) = (row.selectors.as_slice(), row.alpha.as_slice())
@@ -89,11 +91,13 @@ fn folder_of<'a, F: Field, EF: ExtensionField<F>>(
         return Err(Fault::Unreadable(Why::OtherShape));
     };
     let none = RowMajorMatrixView::new_row(&[]);
-    let permutation = RowMajorMatrixView::new_row(row.permutation.as_slice());
     let permutation = if row.permutation.is_empty() {
         None
     } else {
-        Some(ViewPair::new(permutation, permutation))
+        Some(ViewPair::new(
+            RowMajorMatrixView::new_row(row.permutation.as_slice()),
+            RowMajorMatrixView::new_row(row.next_permutation.as_slice()),
+        ))
     };
     Ok(ConstraintFolder::new(
         ViewPair::new(

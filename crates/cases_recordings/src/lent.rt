@@ -82,6 +82,7 @@ enum Selector {
     FirstRow,
     LastRow,
     Transition,
+    NarrowWindow,
     TransitionWindow,
 }
 
@@ -90,6 +91,7 @@ fn selector_of(words: &[&str]) -> Result<Selector, Fault> {
         ["is_first_row"] => Ok(Selector::FirstRow),
         ["is_last_row"] => Ok(Selector::LastRow),
         ["is_transition"] => Ok(Selector::Transition),
+        ["is_transition_window", "1"] => Ok(Selector::NarrowWindow),
         ["is_transition_window", "2"] => Ok(Selector::TransitionWindow),
         _ => Err(Fault::Unreadable(Why::NoSuchCall)),
     }
@@ -104,6 +106,7 @@ fn selector_in<AB: AirBuilder>(builder: &mut AB, selector: Selector) -> Result<A
         Selector::FirstRow => builder.is_first_row(),
         Selector::LastRow => builder.is_last_row(),
         Selector::Transition => builder.is_transition(),
+        Selector::NarrowWindow => builder.is_transition_window(1),
         Selector::TransitionWindow => builder.is_transition_window(2),
     }
 }
@@ -187,6 +190,10 @@ fn show_in_window(
                 builder.main_variable(count_of(row)?, count_of(column)?),
                 text,
             )
+        }
+        "permutation_variable" => {
+            let (row, column) = (count_of(row)?, count_of(column)?);
+            show_ext_found(builder.permutation_variable(row, column)?, text)
         }
         _ => Err(Fault::Unreadable(Why::NoSuchCall)),
     }

@@ -60,7 +60,7 @@ pub fn show_exts<F: Number, EF: ExtensionField<F>>(
     Ok(())
 }
 
-// Adds the base constraints of an AIR.
+// Adds the base constraints of an AIR, and how many others there are, of which there are to be none.
 fn show_symbolic<F: Number + SelfExtension, A: Air<Recorder<F, F>>>(
     alloc: Global,
     air: &A,
@@ -68,7 +68,12 @@ fn show_symbolic<F: Number + SelfExtension, A: Air<Recorder<F, F>>>(
     text: &mut String,
 ) -> Result<(), Fault> {
     let recorded = get_symbolic_constraints::<F, A>(alloc, air, layout)?;
-    show_bases(recorded.pool.base(), &recorded.base, text)
+    show_bases(recorded.pool.base(), &recorded.base, text)?;
+    let ext = recorded.ext.len();
+    if ext > 0 {
+        write!(text, ", and {ext} over the extension")?;
+    }
+    Ok(())
 }
 
 // Adds the degrees that the nodes of base expressions state.
@@ -109,8 +114,8 @@ fn show_poly_degrees<F: Number>(
     Ok(())
 }
 
-// Adds the constraints of both kinds.
-fn show_both<F: Number, EF: ExtensionField<F>>(
+/// Adds the constraints of both kinds.
+pub fn show_both<F: Number, EF: ExtensionField<F>>(
     recorded: &Recorded<F, EF>,
     text: &mut String,
 ) -> Result<(), Fault>
