@@ -3,7 +3,7 @@ ghost use Rattle.air_symbolic.specs.Pools.{IsPool};
 
 use crate::recordings::{Recorder, show_bases};
 use air_builder::{Air, BaseAir};
-use air_field::{RowMajorMatrix, SelfExtension};
+use air_field::RowMajorMatrix;
 use air_report::{ConstraintFailure, DebugConstraintBuilder};
 use air_symbolic::{BaseLeaf, SymLeaf};
 use cases::Fault;
@@ -33,7 +33,7 @@ fn show_failures(failures: &[ConstraintFailure], text: &mut String) -> Result<()
 }
 
 // Adds the degree, the counts and the places, then the failures, then what is recorded.
-fn show_audit<F: Number + SelfExtension>(audit: &Audit<F>, text: &mut String) -> Result<(), Fault>
+fn show_audit<F: Number>(audit: &Audit<F>, text: &mut String) -> Result<(), Fault>
     requires { IsPool ⟦<BaseLeaf<F> as SymLeaf>⟧.reads audit.now.recorded.pool.0 }
 {
     let degree = audit.degree;
@@ -53,7 +53,7 @@ fn show_audit<F: Number + SelfExtension>(audit: &Audit<F>, text: &mut String) ->
 /// Adds what an audit finds.
 pub fn answer_audit<
     'a,
-    F: Number + SelfExtension + 'static,
+    F: Number + 'static,
     A: BaseAir<F> + Air<Recorder<F, F>> + Air<RowBuilder<'a, F>>,
 >(alloc: Global, air: &'a A, given: &'a Given<F>, text: &mut String) -> Result<(), Fault> {
     let public = given.public_values.as_slice();
@@ -64,7 +64,7 @@ pub fn answer_audit<
 /// Adds what an audit under a cap finds.
 pub fn answer_capped_audit<
     'a,
-    F: Number + SelfExtension + 'static,
+    F: Number + 'static,
     A: BaseAir<F> + Air<Recorder<F, F>> + Air<RowBuilder<'a, F>>,
 >(
     alloc: Global,

@@ -4,7 +4,7 @@
 use crate::audits::{Given, answer_audit, answer_capped_audit};
 use crate::folds::{Row, answer_fold};
 use crate::recordings::{answer_base, answer_extension};
-use air_field::{ExtensionField, SelfExtension};
+use air_field::ExtensionField;
 use air_recording::AirLayout;
 use cases::Fault;
 use cases::words::Number;
@@ -12,7 +12,7 @@ use cases_airs::TableAir;
 use std::alloc::Global;
 
 /// Adds what a call answers of an AIR that is recorded over the base field, if it is one.
-pub fn by_base<F: Number + SelfExtension>(
+pub fn by_base<F: Number>(
     alloc: Global,
     air: &TableAir<F>,
     layout: AirLayout,
@@ -47,7 +47,7 @@ pub fn folded<F: Number, EF: ExtensionField<F>>(
 }
 
 /// Adds what an audit of the AIR finds.
-pub fn audited<F: Number + SelfExtension + 'static>(
+pub fn audited<F: Number + 'static>(
     alloc: Global,
     air: &TableAir<F>,
     given: &Given<F>,
@@ -57,7 +57,7 @@ pub fn audited<F: Number + SelfExtension + 'static>(
 }
 
 /// Adds what an audit under a cap finds.
-pub fn audited_under_cap<F: Number + SelfExtension + 'static>(
+pub fn audited_under_cap<F: Number + 'static>(
     alloc: Global,
     air: &TableAir<F>,
     given: &Given<F>,

@@ -4,7 +4,7 @@ ghost use Rattle.air_symbolic.specs.Pools.{IsPool};
 
 use crate::expressions::{BasePool, ExtPool, show_base, show_ext};
 use air_builder::{Air, AirError};
-use air_field::{ExtensionField, SelfExtension};
+use air_field::ExtensionField;
 use air_recording::{
     AirLayout, Recorded, SymbolicAirBuilder, get_all_symbolic_constraints, get_constraint_layout,
     get_max_constraint_degree, get_max_constraint_degree_extension, get_symbolic_constraints,
@@ -61,7 +61,7 @@ pub fn show_exts<F: Number, EF: ExtensionField<F>>(
 }
 
 // Adds the base constraints of an AIR, and how many others there are, of which there are to be none.
-fn show_symbolic<F: Number + SelfExtension, A: Air<Recorder<F, F>>>(
+fn show_symbolic<F: Number, A: Air<Recorder<F, F>>>(
     alloc: Global,
     air: &A,
     layout: AirLayout,
@@ -171,7 +171,7 @@ fn show_places<F: Number, EF: ExtensionField<F>>(
 }
 
 // Adds the degrees that the nodes of an AIR's base constraints state.
-fn show_stated<F: Number + SelfExtension, A: Air<Recorder<F, F>>>(
+fn show_stated<F: Number, A: Air<Recorder<F, F>>>(
     alloc: Global,
     air: &A,
     layout: AirLayout,
@@ -182,7 +182,7 @@ fn show_stated<F: Number + SelfExtension, A: Air<Recorder<F, F>>>(
 }
 
 // Adds the degrees of the polynomials of an AIR's base constraints, with these lengths of periodic columns.
-fn show_poly<F: Number + SelfExtension, A: Air<Recorder<F, F>>>(
+fn show_poly<F: Number, A: Air<Recorder<F, F>>>(
     alloc: Global,
     air: &A,
     layout: AirLayout,
@@ -207,7 +207,7 @@ fn show_layout<F: Number, EF: ExtensionField<F>, A: Air<Recorder<F, EF>>>(
 }
 
 // The degree that is inferred.
-fn inferred<F: Number + SelfExtension, A: Air<Recorder<F, F>>>(
+fn inferred<F: Number, A: Air<Recorder<F, F>>>(
     alloc: Global,
     air: &A,
     layout: AirLayout,
@@ -232,7 +232,7 @@ fn inferred_extension<F: Number, EF: ExtensionField<F>, A: Air<Recorder<F, EF>>>
 }
 
 /// Adds what a call answers of an AIR that is recorded over the base field, if it is one.
-pub fn answer_base<F: Number + SelfExtension, A: Air<Recorder<F, F>>>(
+pub fn answer_base<F: Number, A: Air<Recorder<F, F>>>(
     alloc: Global,
     air: &A,
     layout: AirLayout,
