@@ -147,7 +147,7 @@ impl<'a> Bench<'a> for Alone {
             return Err(Fault::Unreadable(Why::MakesNothing));
         }
         if answer_layout(alloc, words, text)?
-            || answer_lent(alloc, words, text)?
+            || answer_lent::<BabyBear, Element>(alloc, words, text)?
             || answer_hints(alloc, words, text)?
             || answer_hiding(alloc, words, text)?
         {
