@@ -16,7 +16,7 @@ pub struct Rows {
 }
 
 // A builder at the first row, with these selectors of the first, the last and the other rows.
-fn row_builder<'a, F: Field, EF: ExtensionField<F>>(
+fn row_builder<'a, F: Field + 'static, EF: ExtensionField<F> + 'static>(
     alloc: Global,
     first: F,
     last: F,
@@ -41,7 +41,7 @@ fn row_builder<'a, F: Field, EF: ExtensionField<F>>(
 }
 
 // Adds which of the assertions fail. Over any fields: calls on a builder over given ones are dear to prove.
-fn answer_row<F: Field, EF: ExtensionField<F>>(
+fn answer_row<F: Field + 'static, EF: ExtensionField<F> + 'static>(
     alloc: Global,
     selectors: (F, F, F),
     words: &[&str],
