@@ -78,7 +78,7 @@ pub fn row_of<F: Field, EF: ExtensionField<F>>(
 }
 
 // A folder at the row.
-fn folder_of<'a, F: Field, EF: ExtensionField<F>>(
+fn folder_of<'a, F: Field + 'static, EF: ExtensionField<F> + 'static>(
     row: &'a Row<EF>,
 ) -> Result<Folder<'a, F, EF>, Fault>
     ensures { IfOk result (λ folder. folder.accumulator ≡ EF.over.ring.nil) }
@@ -120,8 +120,8 @@ fn folder_of<'a, F: Field, EF: ExtensionField<F>>(
 /// Adds what is folded of an AIR at the row, and the places of its constraints.
 pub fn answer_fold<
     'a,
-    F: Number,
-    EF: ExtensionField<F>,
+    F: Number + 'static,
+    EF: ExtensionField<F> + 'static,
     A: BaseAir<F> + Air<Recorder<F, EF>> + Air<Folder<'a, F, EF>>,
 >(
     alloc: Global,

@@ -36,7 +36,7 @@ pub fn by_extension<F: Number, EF: ExtensionField<F>>(
 }
 
 /// Adds what the AIR's values at a row are folded to.
-pub fn folded<F: Number, EF: ExtensionField<F>>(
+pub fn folded<F: Number + 'static, EF: ExtensionField<F> + 'static>(
     alloc: Global,
     air: &TableAir<F>,
     layout: AirLayout,
