@@ -16,12 +16,12 @@ pub struct Rows {
 }
 
 // A builder at the first row, with these selectors of the first, the last and the other rows.
-fn row_builder<'a, F: Field + 'static, EF: ExtensionField<F> + 'static>(
+fn row_builder<F: Field + 'static, EF: ExtensionField<F> + 'static>(
     alloc: Global,
     first: F,
     last: F,
     transition: F,
-) -> DebugConstraintBuilder<'a, F, EF> {
+) -> DebugConstraintBuilder<'static, F, EF> {
     let none = RowMajorMatrixView::new_row(&[]);
     let none_over = RowMajorMatrixView::new_row(&[]);
     DebugConstraintBuilder::new_with_permutation(
