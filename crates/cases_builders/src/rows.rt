@@ -2,9 +2,7 @@
 
 use crate::filters::assert_all;
 use air_builder::AirBuilder;
-use air_field::{
-    BabyBear, BinomialExtensionField, ExtensionField, Field, RowMajorMatrixView, ViewPair,
-};
+use air_field::{BabyBear, BinomialExtensionField, RowMajorMatrixView, ViewPair};
 use air_report::DebugConstraintBuilder;
 use cases::words::element_of;
 use cases::{Bench, Fault, Line};
@@ -15,13 +13,11 @@ pub struct Rows {
     alloc: Global,
 }
 
+type RowBuilder<'a> = DebugConstraintBuilder<'a, BabyBear, BinomialExtensionField>;
+
 // A builder at the first row, with these selectors of the first, the last and the other rows.
-fn row_builder<F: Field + 'static, EF: ExtensionField<F> + 'static>(
-    alloc: Global,
-    first: F,
-    last: F,
-    transition: F,
-) -> DebugConstraintBuilder<'static, F, EF> {
+fn row_builder<'a>(alloc: Global, selectors: [BabyBear; 3]) -> RowBuilder<'a> {
+    let [first, last, transition] = selectors;
     let none = RowMajorMatrixView::new_row(&[]);
     let none_over = RowMajorMatrixView::new_row(&[]);
     DebugConstraintBuilder::new_with_permutation(
@@ -40,17 +36,13 @@ fn row_builder<F: Field + 'static, EF: ExtensionField<F> + 'static>(
     )
 }
 
-// Adds which of the assertions fail. Over any fields: calls on a builder over given ones are dear to prove.
-fn answer_row<F: Field + 'static, EF: ExtensionField<F> + 'static>(
-    alloc: Global,
-    selectors: (F, F, F),
-    words: &[&str],
-    text: &mut String,
-) -> Result<(), Fault> {
-    let (first, last, transition) = selectors;
-    let mut builder = row_builder::<F, EF>(alloc, first, last, transition);
-    assert_all(alloc, &mut builder, words)?;
-    text.push_str(builder.formatted_failures()?.as_str())?;
+fn assert_at_row(alloc: Global, builder: &mut RowBuilder<'_>, words: &[&str]) -> Result<(), Fault> {
+    assert_all(alloc, builder, words)
+}
+
+fn show_failures(builder: &RowBuilder<'_>, text: &mut String) -> Result<(), Fault> {
+    let failures = builder.formatted_failures()?;
+    text.push_str(failures.as_str())?;
     Ok(())
 }
 
@@ -72,11 +64,13 @@ impl<'a> Bench<'a> for Rows {
             }
             ["at", first, last, transition, words @ ..] => {
                 let (first, last) = (element_of(*first)?, element_of(*last)?);
-                ((first, last, element_of(*transition)?), words)
+                ([first, last, element_of(*transition)?], words)
             }
-            words => ((BabyBear::ONE, BabyBear::ONE, BabyBear::ONE), words),
+            words => ([BabyBear::new(1); 3], words),
         };
-        answer_row::<BabyBear, BinomialExtensionField>(self.alloc, selectors, words, text)
+        let mut builder = row_builder(self.alloc, selectors);
+        assert_at_row(self.alloc, &mut builder, words)?;
+        show_failures(&builder, text)
     }
 
     fn standing(&self, _text: &mut String) -> Result<(), Fault> {
