@@ -3,7 +3,7 @@
 ghost use Rattle.std.specs.Prelude.{◌≡◌, [], ◌∷◌, IfOk, OnOk};
 
 use crate::constants::{
-    constant, ext_constant, four_constants, three_constants, two_constants, two_ext_constants,
+    constant, constant_lists, constants, ext_constant, two_constants, two_ext_constants,
 };
 use crate::labels::Label;
 use air_builder::{AirBuilder, ExtensionBuilder, NamedAirBuilder, NamedExtensionBuilder};
@@ -25,85 +25,48 @@ fn assert_one_of<AB: AirBuilder>(builder: &mut AB, word: &str, x: &str) -> Resul
     }
 }
 
-// A list of two elements. (An array of a builder's elements owes a bound on its size, which no clause can give.)
-fn both<E: Copy>(alloc: Global, x: E, y: E) -> Result<Vec<E>, Fault>
-    ensures { IfOk result (λ list. list.items ≡ x ∷ y ∷ []) }
-{
-    let mut list = Vec::with_capacity(alloc, 2)?;
-    list.push(x)?;
-    list.push(y)?;
-    Ok(list)
-}
-
-// Makes an assertion on these two elements.
-fn assert_pair<AB: AirBuilder>(
-    alloc: Global,
-    builder: &mut AB,
-    word: &str,
-    x: AB::Expr,
-    y: AB::Expr,
-) -> Result<(), Fault>
-    requires ready { AB.ready builder.old }
-    requires x_in { AB.Ring.has (AB.ring_of builder.old) x }
-    requires y_in { AB.Ring.has (AB.ring_of builder.old) y }
-    ensures { OnOk result (AB.kept builder.old builder.new) }
-{
-    match word {
-        "assert_eq" => Ok(builder.assert_eq(x, y)?),
-        "assert_zeros_slice" => Ok(builder.assert_zeros_slice(&both(alloc, x, y)?)?),
-        "assert_bools_slice" => Ok(builder.assert_bools_slice(&both(alloc, x, y)?)?),
-        _ => Err(Fault::Unreadable(Why::NoSuchCall)),
-    }
-}
-
-// Makes an assertion on two elements.
-fn assert_two_of<AB: AirBuilder>(
-    alloc: Global,
-    builder: &mut AB,
-    word: &str,
-    x: &str,
-    y: &str,
-) -> Result<(), Fault>
+// Asserts that two elements are equal.
+fn assert_equal<AB: AirBuilder>(builder: &mut AB, x: &str, y: &str) -> Result<(), Fault>
     requires { AB.ready builder.old }
     ensures { OnOk result (AB.kept builder.old builder.new) }
 {
     let (x, y) = two_constants::<AB::F, AB::Ring>(builder.ring(), x, y)?;
-    Ok(assert_pair(alloc, builder, word, x, y)?)
+    Ok(builder.assert_eq(x, y)?)
 }
 
-// Asserts that w is x, and that y is z, as lists.
-fn assert_pairs<AB: AirBuilder>(
+// Makes an assertion on each element of a list.
+fn assert_each<AB: AirBuilder>(
     alloc: Global,
     builder: &mut AB,
-    w: AB::Expr,
-    x: AB::Expr,
-    y: AB::Expr,
-    z: AB::Expr,
-) -> Result<(), Fault>
-    requires ready { AB.ready builder.old }
-    requires w_in { AB.Ring.has (AB.ring_of builder.old) w }
-    requires x_in { AB.Ring.has (AB.ring_of builder.old) x }
-    requires y_in { AB.Ring.has (AB.ring_of builder.old) y }
-    requires z_in { AB.Ring.has (AB.ring_of builder.old) z }
-    ensures { OnOk result (AB.kept builder.old builder.new) }
-{
-    let left = both(alloc, w, y)?;
-    let right = both(alloc, x, z)?;
-    Ok(builder.assert_eq_slices(&left, &right)?)
-}
-
-// Asserts that the elements of two lists are equal.
-fn assert_lists<AB: AirBuilder>(
-    alloc: Global,
-    builder: &mut AB,
-    left: [&str; 2],
-    right: [&str; 2],
+    word: &str,
+    list: &[&str],
 ) -> Result<(), Fault>
     requires { AB.ready builder.old }
     ensures { OnOk result (AB.kept builder.old builder.new) }
 {
-    let ((w, x), (y, z)) = four_constants::<AB::F, AB::Ring>(builder.ring(), left, right)?;
-    Ok(assert_pairs(alloc, builder, w, y, x, z)?)
+    let list = constants::<AB::F, AB::Ring>(alloc, builder.ring(), list)?;
+    match word {
+        "assert_zeros_slice" => Ok(builder.assert_zeros_slice(&list)?),
+        "assert_bools_slice" => Ok(builder.assert_bools_slice(&list)?),
+        _ => Err(Fault::Unreadable(Why::NoSuchCall)),
+    }
+}
+
+// Asserts that the elements of two lists are equal, of which the words are the first half and the second.
+fn assert_lists<AB: AirBuilder>(
+    alloc: Global,
+    builder: &mut AB,
+    lists: &[&str],
+) -> Result<(), Fault>
+    requires { AB.ready builder.old }
+    ensures { OnOk result (AB.kept builder.old builder.new) }
+{
+    let (left, right) = lists.split_at(lists.len() / 2);
+    let (left, right) = constant_lists::<AB::F, AB::Ring>(alloc, builder.ring(), left, right)?;
+    if left.len() != right.len() {
+        return Err(Fault::Unreadable(Why::OtherShape));
+    }
+    Ok(builder.assert_eq_slices(&left, &right)?)
 }
 
 // The constant of an element of the extension.
@@ -150,6 +113,16 @@ fn assert_one_ext_of<AB: ExtensionBuilder>(
         "assert_one_ext" => Ok(builder.assert_one_ext(x)?),
         _ => Err(Fault::Unreadable(Why::NoSuchCall)),
     }
+}
+
+// A list of two elements. (An array of a builder's elements owes a bound on its size, which no clause can give.)
+fn both<E: Copy>(alloc: Global, x: E, y: E) -> Result<Vec<E>, Fault>
+    ensures { IfOk result (λ list. list.items ≡ x ∷ y ∷ []) }
+{
+    let mut list = Vec::with_capacity(alloc, 2)?;
+    list.push(x)?;
+    list.push(y)?;
+    Ok(list)
 }
 
 // Makes an assertion on these two elements of the extension.
@@ -207,38 +180,9 @@ fn assert_one_named_of<AB: NamedAirBuilder, N: Namespace>(
     }
 }
 
-// Makes an assertion on these two elements under a name.
-fn assert_pair_named<AB: NamedAirBuilder, N: Namespace>(
-    alloc: Global,
+// Asserts that two elements are equal, under a name.
+fn assert_equal_named<AB: NamedAirBuilder, N: Namespace>(
     builder: &mut AB,
-    word: &str,
-    x: AB::Expr,
-    y: AB::Expr,
-    name: N,
-) -> Result<(), Fault>
-    requires ready { AB.ready builder.old }
-    requires x_in { AB.Ring.has (AB.ring_of builder.old) x }
-    requires y_in { AB.Ring.has (AB.ring_of builder.old) y }
-    requires can_evaluate { N.can_evaluate name }
-    ensures { OnOk result (AB.kept builder.old builder.new) }
-{
-    match word {
-        "assert_eq_named" => Ok(builder.assert_eq_named(x, y, name)?),
-        "assert_zeros_named_slice" => {
-            Ok(builder.assert_zeros_named_slice(&both(alloc, x, y)?, name)?)
-        }
-        "assert_bools_named_slice" => {
-            Ok(builder.assert_bools_named_slice(&both(alloc, x, y)?, name)?)
-        }
-        _ => Err(Fault::Unreadable(Why::NoSuchCall)),
-    }
-}
-
-// Makes an assertion on two elements under a name.
-fn assert_two_named_of<AB: NamedAirBuilder, N: Namespace>(
-    alloc: Global,
-    builder: &mut AB,
-    word: &str,
     x: &str,
     y: &str,
     name: N,
@@ -248,43 +192,27 @@ fn assert_two_named_of<AB: NamedAirBuilder, N: Namespace>(
     ensures { OnOk result (AB.kept builder.old builder.new) }
 {
     let (x, y) = two_constants::<AB::F, AB::Ring>(builder.ring(), x, y)?;
-    Ok(assert_pair_named(alloc, builder, word, x, y, name)?)
+    Ok(builder.assert_eq_named(x, y, name)?)
 }
 
-// Asserts that each of these three elements is zero or one, under a name.
-fn assert_these_bools<AB: NamedAirBuilder, N: Namespace>(
+// Makes an assertion on each element of a list, under a name.
+fn assert_each_named<AB: NamedAirBuilder, N: Namespace>(
     alloc: Global,
     builder: &mut AB,
-    x: AB::Expr,
-    y: AB::Expr,
-    z: AB::Expr,
-    name: N,
-) -> Result<(), Fault>
-    requires ready { AB.ready builder.old }
-    requires x_in { AB.Ring.has (AB.ring_of builder.old) x }
-    requires y_in { AB.Ring.has (AB.ring_of builder.old) y }
-    requires z_in { AB.Ring.has (AB.ring_of builder.old) z }
-    requires can_evaluate { N.can_evaluate name }
-    ensures { OnOk result (AB.kept builder.old builder.new) }
-{
-    let mut all = both(alloc, x, y)?;
-    all.push(z)?;
-    Ok(builder.assert_bools_named_slice(&all, name)?)
-}
-
-// Asserts that each of three elements is zero or one, under a name.
-fn assert_three_bools<AB: NamedAirBuilder, N: Namespace>(
-    alloc: Global,
-    builder: &mut AB,
-    words: [&str; 3],
+    word: &str,
+    list: &[&str],
     name: N,
 ) -> Result<(), Fault>
     requires ready { AB.ready builder.old }
     requires can_evaluate { N.can_evaluate name }
     ensures { OnOk result (AB.kept builder.old builder.new) }
 {
-    let (x, y, z) = three_constants::<AB::F, AB::Ring>(builder.ring(), words)?;
-    Ok(assert_these_bools(alloc, builder, x, y, z, name)?)
+    let list = constants::<AB::F, AB::Ring>(alloc, builder.ring(), list)?;
+    match word {
+        "assert_zeros_named_slice" => Ok(builder.assert_zeros_named_slice(&list, name)?),
+        "assert_bools_named_slice" => Ok(builder.assert_bools_named_slice(&list, name)?),
+        _ => Err(Fault::Unreadable(Why::NoSuchCall)),
+    }
 }
 
 // Makes an assertion on one element of the extension under a name.
@@ -339,10 +267,11 @@ fn assert_under_name<AB: NamedExtensionBuilder, N: Namespace>(
         [word @ ("assert_zero_ext_named" | "assert_one_ext_named"), x] => {
             assert_one_ext_named_of(alloc, builder, *word, *x, name)
         }
-        ["assert_bools_named_slice", x, y, z] => {
-            assert_three_bools(alloc, builder, [*x, *y, *z], name)
-        },
-        [word, x, y] => assert_two_named_of(alloc, builder, *word, *x, *y, name),
+        ["assert_eq_named", x, y] => assert_equal_named(builder, *x, *y, name),
+        [
+            word @ ("assert_zeros_named_slice" | "assert_bools_named_slice"),
+            list @ ..,
+        ] => assert_each_named(alloc, builder, *word, list, name),
         [word, x] => assert_one_named_of(builder, *word, *x, name),
         _ => Err(Fault::Unreadable(Why::NoSuchCall)),
     }
@@ -376,8 +305,12 @@ fn assert_bare<AB: NamedExtensionBuilder>(
         [word @ ("assert_zero_ext" | "assert_one_ext"), x] => {
             assert_one_ext_of(alloc, builder, *word, *x)
         }
-        ["assert_eq_slices", x, y, z, w] => assert_lists(alloc, builder, [*x, *y], [*z, *w]),
-        [word, x, y] => assert_two_of(alloc, builder, *word, *x, *y),
+        ["assert_eq", x, y] => assert_equal(builder, *x, *y),
+        ["assert_eq_slices", lists @ ..] => assert_lists(alloc, builder, lists),
+        [
+            word @ ("assert_zeros_slice" | "assert_bools_slice"),
+            list @ ..,
+        ] => assert_each(alloc, builder, *word, list),
         [word, x] => assert_one_of(builder, *word, *x),
         _ => Err(Fault::Unreadable(Why::NoSuchCall)),
     }

@@ -1,9 +1,9 @@
 //! Constants of a builder's rings.
-ghost use Rattle.std.specs.Prelude.{IfOk};
+ghost use Rattle.std.specs.Prelude.{All, IfOk, IsTrue};
 
 use air_field::{Algebra, ExtAlgebra, ExtensionField, Field};
-use cases::Fault;
 use cases::words::{element_of, listed_extension};
+use cases::{Fault, Why};
 use std::alloc::Global;
 
 /// The constant of a number.
@@ -34,24 +34,59 @@ pub fn two_constants<F: Field, R: Algebra<F>>(
     Ok((x, y))
 }
 
-/// The constants of three numbers.
-pub fn three_constants<F: Field, R: Algebra<F>>(
+// Whether all are of the ring.
+fn contains_all<F: Field, R: Algebra<F>>(ring: &R, all: &[R::Elem]) -> bool
+    requires { R.valid ring.now }
+    ensures { IsTrue result → All (R.has ring.now) all.now }
+{
+    for x in all {
+        if !ring.contains(*x) {
+            return false;
+        }
+    }
+    true
+}
+
+/// The constants of any count of numbers. That all are of the ring is tested at run time.
+pub fn constants<F: Field, R: Algebra<F>>(
+    alloc: Global,
     ring: &mut R,
-    words: [&str; 3],
-) -> Result<(R::Elem, R::Elem, R::Elem), Fault>
+    words: &[&str],
+) -> Result<Vec<R::Elem>, Fault>
     requires { R.valid ring.old }
     ensures extended { R.extends ring.old ring.new }
-    ensures first { IfOk result (λ made. R.has ring.new made.0) }
-    ensures second { IfOk result (λ made. R.has ring.new made.1) }
-    ensures third { IfOk result (λ made. R.has ring.new made.2) }
+    ensures of_ring { IfOk result (λ all. All (R.has ring.new) all.items) }
 {
-    let [a, b, c] = words;
-    let (a, b) = (element_of::<F>(a)?, element_of::<F>(b)?);
-    let c = element_of::<F>(c)?;
-    let x = ring.constant(a)?;
-    let y = ring.constant(b)?;
-    let z = ring.constant(c)?;
-    Ok((x, y, z))
+    let mut all = Vec::new(alloc);
+    for word in words {
+        all.push(constant::<F, R>(ring, *word)?)?;
+    }
+    if contains_all::<F, R>(ring, &all) {
+        Ok(all)
+    } else {
+        Err(Fault::Unreadable(Why::OtherPool))
+    }
+}
+
+/// The constants of two lists of numbers.
+pub fn constant_lists<F: Field, R: Algebra<F>>(
+    alloc: Global,
+    ring: &mut R,
+    left: &[&str],
+    right: &[&str],
+) -> Result<(Vec<R::Elem>, Vec<R::Elem>), Fault>
+    requires { R.valid ring.old }
+    ensures extended { R.extends ring.old ring.new }
+    ensures left { IfOk result (λ made. All (R.has ring.new) made.0.items) }
+    ensures right { IfOk result (λ made. All (R.has ring.new) made.1.items) }
+{
+    let left = constants::<F, R>(alloc, ring, left)?;
+    let right = constants::<F, R>(alloc, ring, right)?;
+    if contains_all::<F, R>(ring, &left) {
+        Ok((left, right))
+    } else {
+        Err(Fault::Unreadable(Why::OtherPool))
+    }
 }
 
 /// The constant of an element of the extension.
@@ -85,28 +120,4 @@ pub fn two_ext_constants<F: Field, EF: ExtensionField<F>, R: ExtAlgebra<F, EF>>(
     let x = ring.ext_constant(a)?;
     let y = ring.ext_constant(b)?;
     Ok((x, y))
-}
-
-/// The constants of two pairs of numbers.
-pub fn four_constants<F: Field, R: Algebra<F>>(
-    ring: &mut R,
-    first: [&str; 2],
-    second: [&str; 2],
-) -> Result<((R::Elem, R::Elem), (R::Elem, R::Elem)), Fault>
-    requires { R.valid ring.old }
-    ensures extended { R.extends ring.old ring.new }
-    ensures first { IfOk result (λ made. R.has ring.new made.0.0) }
-    ensures second { IfOk result (λ made. R.has ring.new made.0.1) }
-    ensures third { IfOk result (λ made. R.has ring.new made.1.0) }
-    ensures fourth { IfOk result (λ made. R.has ring.new made.1.1) }
-{
-    let [a, b] = first;
-    let [c, d] = second;
-    let (a, b) = (element_of::<F>(a)?, element_of::<F>(b)?);
-    let (c, d) = (element_of::<F>(c)?, element_of::<F>(d)?);
-    let w = ring.constant(a)?;
-    let x = ring.constant(b)?;
-    let y = ring.constant(c)?;
-    let z = ring.constant(d)?;
-    Ok(((w, x), (y, z)))
 }

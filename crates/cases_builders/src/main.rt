@@ -11,11 +11,14 @@ mod constants;
 mod filters;
 mod labels;
 mod matrices;
+mod recordings;
 mod rows;
+mod trees;
 mod values;
 mod windows;
 mod words;
 
+use crate::recordings::Recordings;
 use crate::rows::Rows;
 use crate::values::Values;
 use cases::{Fault, Report, Table, Tables, Why, check_lines};
@@ -32,6 +35,7 @@ impl Tables for Builders {
     ) -> Result<(), Fault> {
         match head {
             "values" => check_lines::<Values>(rt, table, report),
+            "recordings" => check_lines::<Recordings>(rt, table, report),
             "rows" => check_lines::<Rows>(rt, table, report),
             _ => Err(Fault::Unreadable(Why::NoSuchTable)),
         }

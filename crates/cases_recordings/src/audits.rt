@@ -1,23 +1,23 @@
 //! Audits: the recording, the report and the degree at once.
 ghost use Rattle.air_symbolic.specs.Pools.{IsPool};
 
-use crate::recordings::{BaseRecorder, show_bases};
+use crate::recordings::{Recorder, show_bases};
 use air_builder::{Air, BaseAir};
-use air_field::{BabyBear, RowMajorMatrix};
+use air_field::RowMajorMatrix;
 use air_report::{ConstraintFailure, DebugConstraintBuilder};
 use air_symbolic::{BaseLeaf, SymLeaf};
 use cases::Fault;
+use cases::words::Number;
 use p3_air::{Audit, audit_air, audit_air_with_cap};
 use std::alloc::Global;
 
-/// A builder at a row of a trace.
-pub type RowBuilder<'a> = DebugConstraintBuilder<'a, BabyBear, BabyBear>;
+type RowBuilder<'a, F> = DebugConstraintBuilder<'a, F, F>;
 
 /// What is audited beside the AIR.
 #[derive(Drop)]
-pub struct Given {
-    pub main: RowMajorMatrix<BabyBear>,
-    pub public_values: Vec<BabyBear>,
+pub struct Given<F> {
+    pub main: RowMajorMatrix<F>,
+    pub public_values: Vec<F>,
     pub transition_weight: usize,
 }
 
@@ -33,8 +33,8 @@ fn show_failures(failures: &[ConstraintFailure], text: &mut String) -> Result<()
 }
 
 // Adds the degree, the counts and the places, then the failures, then what is recorded.
-fn show_audit(audit: &Audit<BabyBear>, text: &mut String) -> Result<(), Fault>
-    requires { IsPool ⟦<BaseLeaf<BabyBear> as SymLeaf>⟧.reads audit.now.recorded.pool.0 }
+fn show_audit<F: Number>(audit: &Audit<F>, text: &mut String) -> Result<(), Fault>
+    requires { IsPool ⟦<BaseLeaf<F> as SymLeaf>⟧.reads audit.now.recorded.pool.0 }
 {
     let degree = audit.degree;
     let rows = audit.report.total_rows;
@@ -51,22 +51,25 @@ fn show_audit(audit: &Audit<BabyBear>, text: &mut String) -> Result<(), Fault>
 }
 
 /// Adds what an audit finds.
-pub fn answer_audit<'a, A: BaseAir<BabyBear> + Air<BaseRecorder> + Air<RowBuilder<'a>>>(
-    alloc: Global,
-    air: &'a A,
-    given: &'a Given,
-    text: &mut String,
-) -> Result<(), Fault> {
+pub fn answer_audit<
+    'a,
+    F: Number + 'static,
+    A: BaseAir<F> + Air<Recorder<F, F>> + Air<RowBuilder<'a, F>>,
+>(alloc: Global, air: &'a A, given: &'a Given<F>, text: &mut String) -> Result<(), Fault> {
     let public = given.public_values.as_slice();
     let audit = audit_air(alloc, air, &given.main, public, given.transition_weight)?;
     show_audit(&audit, text)
 }
 
 /// Adds what an audit under a cap finds.
-pub fn answer_capped_audit<'a, A: BaseAir<BabyBear> + Air<BaseRecorder> + Air<RowBuilder<'a>>>(
+pub fn answer_capped_audit<
+    'a,
+    F: Number + 'static,
+    A: BaseAir<F> + Air<Recorder<F, F>> + Air<RowBuilder<'a, F>>,
+>(
     alloc: Global,
     air: &'a A,
-    given: &'a Given,
+    given: &'a Given<F>,
     cap: Option<usize>,
     text: &mut String,
 ) -> Result<(), Fault> {

@@ -1,18 +1,21 @@
 //! What lines are tried on.
 
-use crate::audits::{Given, answer_audit, answer_capped_audit};
-use crate::folds::{answer_fold, answer_hiding, row_of};
+use crate::audits::Given;
+use crate::filters::show_when;
+use crate::folds::{Row, answer_hiding, row_of};
 use crate::hints::answer_hints;
-use crate::kinds::recorded;
+use crate::kinds::{audited, audited_under_cap, by_base, by_extension, folded};
 use crate::layouts::{answer_layout, layout_of};
 use crate::lent::answer_lent;
-use air_field::BabyBear;
+use air_field::{BabyBear, BinomialExtensionField};
 use air_recording::AirLayout;
 use cases::words::{count_of, listed_elements};
 use cases::{Bench, Fault, Line, Why};
 use cases_airs::words::{cap_of, trace_of};
-use cases_airs::{Airs, Constraints, ListAir, TableAir};
+use cases_airs::{Airs, TableAir};
 use std::alloc::Global;
+
+type Element = BinomialExtensionField;
 
 /// The AIRs that lines have made.
 #[derive(Drop)]
@@ -28,7 +31,12 @@ pub struct Alone {
 }
 
 // What the words say of an audit, but the cap.
-fn given_of(alloc: Global, trace: &str, public: &str, weight: &str) -> Result<Given, Fault> {
+fn given_of(
+    alloc: Global,
+    trace: &str,
+    public: &str,
+    weight: &str,
+) -> Result<Given<BabyBear>, Fault> {
     Ok(Given {
         main: trace_of(alloc, trace)?,
         public_values: listed_elements(alloc, public)?,
@@ -42,21 +50,6 @@ fn layout_by(air: &TableAir<BabyBear>, word: &str) -> Result<AirLayout, Fault> {
         AirLayout::from_air::<BabyBear, TableAir<BabyBear>>(air),
         word,
     )
-}
-
-// Adds what the AIR's values at a row are folded to.
-fn folded(
-    alloc: Global,
-    air: &TableAir<BabyBear>,
-    layout: AirLayout,
-    words: &[&str],
-    text: &mut String,
-) -> Result<(), Fault> {
-    let row = row_of(alloc, words)?;
-    match air.constraints {
-        Constraints::Base(list) => answer_fold(alloc, &ListAir { list, air }, layout, &row, text),
-        _ => Err(Fault::Unreadable(Why::NoSuchCall)),
-    }
 }
 
 // Adds whether the layout suits the AIR.
@@ -76,42 +69,20 @@ fn answer_by(
     text: &mut String,
 ) -> Result<(), Fault> {
     match (call, words) {
-        ("fold_air", words) => folded(alloc, air, layout, words, text),
+        ("fold_air", words) => {
+            let row: Row<Element> = row_of::<BabyBear, Element>(alloc, words)?;
+            folded::<BabyBear, Element>(alloc, air, layout, &row, text)
+        }
+        ("eval_when", [condition]) => {
+            show_when::<BabyBear, Element>(alloc, air, layout, *condition, text)
+        }
         ("validate_against_air", []) => validated(air, layout, text),
         ("layout", []) => {
             write!(text, "{layout:?}")?;
             Ok(())
         }
-        _ => recorded(alloc, air, layout, call, words, text),
-    }
-}
-
-// Adds what an audit of the AIR finds, if its constraints are over the base field: only those are audited.
-fn audited(
-    alloc: Global,
-    air: &TableAir<BabyBear>,
-    given: &Given,
-    text: &mut String,
-) -> Result<(), Fault> {
-    match air.constraints {
-        Constraints::Base(list) => answer_audit(alloc, &ListAir { list, air }, given, text),
-        _ => Err(Fault::Unreadable(Why::NoSuchCall)),
-    }
-}
-
-// The same under a cap.
-fn audited_under_cap(
-    alloc: Global,
-    air: &TableAir<BabyBear>,
-    given: &Given,
-    cap: Option<usize>,
-    text: &mut String,
-) -> Result<(), Fault> {
-    match air.constraints {
-        Constraints::Base(list) => {
-            answer_capped_audit(alloc, &ListAir { list, air }, given, cap, text)
-        }
-        _ => Err(Fault::Unreadable(Why::NoSuchCall)),
+        _ if by_base(alloc, air, layout, call, words, text)? => Ok(()),
+        _ => by_extension::<BabyBear, Element>(alloc, air, layout, call, words, text),
     }
 }
 
@@ -176,7 +147,7 @@ impl<'a> Bench<'a> for Alone {
             return Err(Fault::Unreadable(Why::MakesNothing));
         }
         if answer_layout(alloc, words, text)?
-            || answer_lent(alloc, words, text)?
+            || answer_lent::<BabyBear, Element>(alloc, words, text)?
             || answer_hints(alloc, words, text)?
             || answer_hiding(alloc, words, text)?
         {

@@ -3,22 +3,20 @@ ghost use Rattle.std.specs.Prelude.{IsTrue};
 ghost use Rattle.air_symbolic.specs.Pools.{IsPool};
 
 use air_core::{BaseEntry, ExtEntry};
-use air_field::{BabyBear, BinomialExtensionField, ExtensionField};
+use air_field::{ExtensionField, Field};
 use air_symbolic::{
     BaseLeaf, ExprId, ExprPool, ExtLeaf, SymLeaf, SymbolicExpr, SymbolicVariable,
     SymbolicVariableExt,
 };
 use cases::Fault;
-use cases::words::show_elements;
+use cases::words::{Number, show_elements};
 
-pub type Element = BinomialExtensionField;
+pub type BasePool<F> = ExprPool<BaseLeaf<F>>;
 
-pub type BasePool = ExprPool<BaseLeaf<BabyBear>>;
-
-pub type ExtPool = ExprPool<ExtLeaf<BabyBear, Element>>;
+pub type ExtPool<F, EF> = ExprPool<ExtLeaf<F, EF>>;
 
 /// Adds a variable, as `main[0]`; of the next row it is `next_main[0]`.
-pub fn show_variable(v: SymbolicVariable<BabyBear>, text: &mut String) -> Result<(), Fault> {
+pub fn show_variable<F: Field>(v: SymbolicVariable<F>, text: &mut String) -> Result<(), Fault> {
     let index = v.index;
     match v.entry {
         BaseEntry::Main { offset: 0 } => write!(text, "main[{index}]")?,
@@ -33,8 +31,8 @@ pub fn show_variable(v: SymbolicVariable<BabyBear>, text: &mut String) -> Result
 }
 
 /// Adds a variable over the extension.
-pub fn show_ext_variable(
-    v: SymbolicVariableExt<BabyBear, Element>,
+pub fn show_ext_variable<F: Field, EF: ExtensionField<F>>(
+    v: SymbolicVariableExt<F, EF>,
     text: &mut String,
 ) -> Result<(), Fault> {
     let index = v.index;
@@ -48,14 +46,14 @@ pub fn show_ext_variable(
     Ok(())
 }
 
-fn show_leaf(leaf: BaseLeaf<BabyBear>, text: &mut String) -> Result<(), Fault> {
+fn show_leaf<F: Number>(leaf: BaseLeaf<F>, text: &mut String) -> Result<(), Fault> {
     match leaf {
         BaseLeaf::Variable(v) => return show_variable(v, text),
         BaseLeaf::IsFirstRow => text.push_str("is_first_row")?,
         BaseLeaf::IsLastRow => text.push_str("is_last_row")?,
         BaseLeaf::IsTransition => text.push_str("is_transition")?,
         BaseLeaf::Constant(c) => {
-            let number = c.as_canonical_u64();
+            let number = c.number();
             write!(text, "{number}")?;
         }
     }
@@ -63,14 +61,14 @@ fn show_leaf(leaf: BaseLeaf<BabyBear>, text: &mut String) -> Result<(), Fault> {
 }
 
 /// Adds a base expression to this depth, operations among operands in brackets.
-pub fn show_base(
-    pool: &BasePool,
-    id: ExprId<BaseLeaf<BabyBear>>,
+pub fn show_base<F: Number>(
+    pool: &BasePool<F>,
+    id: ExprId<BaseLeaf<F>>,
     depth: usize,
     inside: bool,
     text: &mut String,
 ) -> Result<(), Fault>
-    requires { IsPool ⟦<BaseLeaf<BabyBear> as SymLeaf>⟧.reads pool.now }
+    requires { IsPool ⟦<BaseLeaf<F> as SymLeaf>⟧.reads pool.now }
 {
     if depth == 0 || !pool.contains(id) {
         text.push_str("..")?;
@@ -95,14 +93,14 @@ pub fn show_base(
 }
 
 /// The same of an expression over the extension.
-pub fn show_ext(
-    pool: &ExtPool,
-    id: ExprId<ExtLeaf<BabyBear, Element>>,
+pub fn show_ext<F: Number, EF: ExtensionField<F>>(
+    pool: &ExtPool<F, EF>,
+    id: ExprId<ExtLeaf<F, EF>>,
     depth: usize,
     inside: bool,
     text: &mut String,
 ) -> Result<(), Fault>
-    requires { IsPool ⟦<ExtLeaf<BabyBear, Element> as SymLeaf>⟧.reads pool.now }
+    requires { IsPool ⟦<ExtLeaf<F, EF> as SymLeaf>⟧.reads pool.now }
 {
     if depth == 0 || !pool.contains(id) {
         text.push_str("..")?;

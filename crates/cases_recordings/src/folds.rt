@@ -2,50 +2,54 @@
 ghost use Rattle.std.specs.Prelude.{◌≡◌, IsTrue, IfOk};
 ghost use Rattle.air_folder.specs.Hiding.{IsBelowAll, IsIncreasing};
 
-use crate::expressions::Element;
-use crate::recordings::ExtRecorder;
+use crate::recordings::Recorder;
 use air_builder::{Air, BaseAir};
-use air_field::{BabyBear, BinomialExtensionField, ExtensionField, RowMajorMatrixView, ViewPair};
+use air_field::{BabyBear, ExtensionField, Field, RowMajorMatrixView, ViewPair};
 use air_folder::{ConstraintFolder, fold_air, hiding_alphas};
 use air_recording::AirLayout;
-use cases::words::{listed_elements, show_elements};
+use cases::words::{Number, listed_elements, show_elements};
 use cases::{Fault, Why};
 use std::alloc::Global;
 use std::cmp::Ordering;
 
-pub type Folder<'a> = ConstraintFolder<'a, BabyBear, Element>;
+type Folder<'a, F, EF> = ConstraintFolder<'a, F, EF>;
 
 /// What a folder is made of.
 #[derive(Drop)]
-pub struct Row {
-    current: Vec<Element>,
-    next: Vec<Element>,
-    permutation: Vec<Element>,
-    public_values: Vec<Element>,
-    challenges: Vec<Element>,
-    values: Vec<Element>,
-    selectors: Vec<Element>,
-    alpha: Vec<Element>,
+pub struct Row<EF> {
+    current: Vec<EF>,
+    next: Vec<EF>,
+    permutation: Vec<EF>,
+    next_permutation: Vec<EF>,
+    public_values: Vec<EF>,
+    challenges: Vec<EF>,
+    values: Vec<EF>,
+    selectors: Vec<EF>,
+    alpha: Vec<EF>,
 }
 
 // The element of a word: a number, or the coefficients with commas between.
-fn extension_word(alloc: Global, word: &str) -> Result<Element, Fault> {
-    let all: Vec<BabyBear> = listed_elements(alloc, word)?;
+fn extension_word<F: Field, EF: ExtensionField<F>>(alloc: Global, word: &str) -> Result<EF, Fault> {
+    let all: Vec<F> = listed_elements(alloc, word)?;
     match all.as_slice() {
-        [x] => Ok(Element::from_base(*x)),
-        [_, _, _, _] => Ok(Element::from_basis_coefficients(all.as_slice())),
+        [x] => Ok(EF::from_base(*x)),
+        all if all.len() == EF::DIMENSION => Ok(EF::from_basis_coefficients(all)),
         _ => Err(Fault::Unreadable(Why::OtherDimension)),
     }
 }
 
 // The elements, which `/` separates, of the word that begins with the key; where there is no such word, none.
-fn given(alloc: Global, words: &[&str], key: &str) -> Result<Vec<Element>, Fault> {
+fn given<F: Field, EF: ExtensionField<F>>(
+    alloc: Global,
+    words: &[&str],
+    key: &str,
+) -> Result<Vec<EF>, Fault> {
     let mut all = Vec::new(alloc);
     for word in words {
         match word.split_once(':') {
             Some((name, list)) if name == key => {
                 for part in list.split('/') {
-                    all.push(extension_word(alloc, part)?)?;
+                    all.push(extension_word::<F, EF>(alloc, part)?)?;
                 }
             }
             Some(_) => {}
@@ -56,25 +60,30 @@ fn given(alloc: Global, words: &[&str], key: &str) -> Result<Vec<Element>, Fault
 }
 
 /// What the words say of a folder.
-pub fn row_of(alloc: Global, words: &[&str]) -> Result<Row, Fault> {
+pub fn row_of<F: Field, EF: ExtensionField<F>>(
+    alloc: Global,
+    words: &[&str],
+) -> Result<Row<EF>, Fault> {
     Ok(Row {
-        current: given(alloc, words, "row")?,
-        next: given(alloc, words, "next")?,
-        permutation: given(alloc, words, "permutation")?,
-        public_values: given(alloc, words, "public")?,
-        challenges: given(alloc, words, "challenges")?,
-        values: given(alloc, words, "values")?,
-        selectors: given(alloc, words, "selectors")?,
-        alpha: given(alloc, words, "alpha")?,
+        current: given::<F, EF>(alloc, words, "row")?,
+        next: given::<F, EF>(alloc, words, "next")?,
+        permutation: given::<F, EF>(alloc, words, "permutation")?,
+        next_permutation: given::<F, EF>(alloc, words, "next_permutation")?,
+        public_values: given::<F, EF>(alloc, words, "public")?,
+        challenges: given::<F, EF>(alloc, words, "challenges")?,
+        values: given::<F, EF>(alloc, words, "values")?,
+        selectors: given::<F, EF>(alloc, words, "selectors")?,
+        alpha: given::<F, EF>(alloc, words, "alpha")?,
     })
 }
 
 // A folder at the row.
-fn folder_of<'a>(row: &'a Row) -> Result<Folder<'a>, Fault>
-    ensures { IfOk result (λ folder. folder.accumulator
-        ≡ ⟦<BinomialExtensionField as ExtensionField<BabyBear>>⟧.over.ring.nil) }
+fn folder_of<'a, F: Field + 'static, EF: ExtensionField<F> + 'static>(
+    row: &'a Row<EF>,
+) -> Result<Folder<'a, F, EF>, Fault>
+    ensures { IfOk result (λ folder. folder.accumulator ≡ EF.over.ring.nil) }
 {
-    if row.current.len() != row.next.len() {
+    if row.current.len() != row.next.len() || row.permutation.len() != row.next_permutation.len() {
         return Err(Fault::Unreadable(Why::OtherShape));
     }
     let ([first, last, transition], [alpha]) = (row.selectors.as_slice(), row.alpha.as_slice())
@@ -82,11 +91,13 @@ fn folder_of<'a>(row: &'a Row) -> Result<Folder<'a>, Fault>
         return Err(Fault::Unreadable(Why::OtherShape));
     };
     let none = RowMajorMatrixView::new_row(&[]);
-    let permutation = RowMajorMatrixView::new_row(row.permutation.as_slice());
     let permutation = if row.permutation.is_empty() {
         None
     } else {
-        Some(ViewPair::new(permutation, permutation))
+        Some(ViewPair::new(
+            RowMajorMatrixView::new_row(row.permutation.as_slice()),
+            RowMajorMatrixView::new_row(row.next_permutation.as_slice()),
+        ))
     };
     Ok(ConstraintFolder::new(
         ViewPair::new(
@@ -107,14 +118,19 @@ fn folder_of<'a>(row: &'a Row) -> Result<Folder<'a>, Fault>
 }
 
 /// Adds what is folded of an AIR at the row, and the places of its constraints.
-pub fn answer_fold<'a, A: BaseAir<BabyBear> + Air<ExtRecorder> + Air<Folder<'a>>>(
+pub fn answer_fold<
+    'a,
+    F: Number + 'static,
+    EF: ExtensionField<F> + 'static,
+    A: BaseAir<F> + Air<Recorder<F, EF>> + Air<Folder<'a, F, EF>>,
+>(
     alloc: Global,
     air: &A,
     layout: AirLayout,
-    row: &'a Row,
+    row: &'a Row<EF>,
     text: &mut String,
 ) -> Result<(), Fault> {
-    let mut folder = folder_of(row)?;
+    let mut folder: Folder<'a, F, EF> = folder_of(row)?;
     let folded = fold_air(alloc, air, layout, &mut folder)?;
     show_elements(folded.accumulator.as_basis_coefficients_slice(), text)?;
     let base = folded.recorded.base.len();

@@ -1,53 +1,68 @@
-//! What is recorded of the AIRs of tables. A call that is handed a recording builder is a function of its own for each
-//! builder: two such calls in one function are more than the checker compares within its limit.
+//! Calls on the AIRs of tables. Each is a function over any fields, and is called at the fields of the tables: where a
+//! call itself names both fields, comparing what the builder's traits ask with what it has passes the checker's limit.
 
+use crate::audits::{Given, answer_audit, answer_capped_audit};
+use crate::folds::{Row, answer_fold};
 use crate::recordings::{answer_base, answer_extension};
-use air_field::BabyBear;
+use air_field::ExtensionField;
 use air_recording::AirLayout;
-use cases::{Fault, Why};
-use cases_airs::{BaseList, Constraints, ListAir, TableAir};
+use cases::Fault;
+use cases::words::Number;
+use cases_airs::TableAir;
 use std::alloc::Global;
 
-// Adds what a call answers of an AIR that is recorded over the base field, if it is one.
-fn by_base(
+/// Adds what a call answers of an AIR that is recorded over the base field, if it is one.
+pub fn by_base<F: Number>(
     alloc: Global,
-    air: &ListAir<'_, BabyBear, BaseList>,
+    air: &TableAir<F>,
     layout: AirLayout,
     call: &str,
     words: &[&str],
     text: &mut String,
 ) -> Result<bool, Fault> {
-    answer_base(alloc, air, layout, call, words, text)
+    answer_base::<F, TableAir<F>>(alloc, air, layout, call, words, text)
 }
 
-// The same with an extension.
-fn by_extension(
+/// Adds what a call answers of an AIR that is recorded with an extension.
+pub fn by_extension<F: Number, EF: ExtensionField<F>>(
     alloc: Global,
-    air: &ListAir<'_, BabyBear, BaseList>,
+    air: &TableAir<F>,
     layout: AirLayout,
     call: &str,
     words: &[&str],
     text: &mut String,
 ) -> Result<(), Fault> {
-    answer_extension(alloc, air, layout, call, words, text)
+    answer_extension::<F, EF, TableAir<F>>(alloc, air, layout, call, words, text)
 }
 
-/// Adds what is recorded of an AIR by a layout, if its constraints are over the base field: of others the checker gets
-/// through no call that is handed a recording builder.
-pub fn recorded(
+/// Adds what the AIR's values at a row are folded to.
+pub fn folded<F: Number + 'static, EF: ExtensionField<F> + 'static>(
     alloc: Global,
-    air: &TableAir<BabyBear>,
+    air: &TableAir<F>,
     layout: AirLayout,
-    call: &str,
-    words: &[&str],
+    row: &Row<EF>,
     text: &mut String,
 ) -> Result<(), Fault> {
-    let Constraints::Base(list) = air.constraints else {
-        return Err(Fault::Unreadable(Why::NoSuchCall));
-    };
-    let air = ListAir { list, air };
-    if by_base(alloc, &air, layout, call, words, text)? {
-        return Ok(());
-    }
-    by_extension(alloc, &air, layout, call, words, text)
+    answer_fold::<F, EF, TableAir<F>>(alloc, air, layout, row, text)
+}
+
+/// Adds what an audit of the AIR finds.
+pub fn audited<F: Number + 'static>(
+    alloc: Global,
+    air: &TableAir<F>,
+    given: &Given<F>,
+    text: &mut String,
+) -> Result<(), Fault> {
+    answer_audit::<F, TableAir<F>>(alloc, air, given, text)
+}
+
+/// Adds what an audit under a cap finds.
+pub fn audited_under_cap<F: Number + 'static>(
+    alloc: Global,
+    air: &TableAir<F>,
+    given: &Given<F>,
+    cap: Option<usize>,
+    text: &mut String,
+) -> Result<(), Fault> {
+    answer_capped_audit::<F, TableAir<F>>(alloc, air, given, cap, text)
 }

@@ -1,7 +1,6 @@
 //! Layouts of AIRs and of constraints, by themselves.
 
-use crate::expressions::Element;
-use air_field::{BabyBear, ExtensionField, Field};
+use air_field::{BabyBear, BinomialExtensionField, ExtensionField, Field};
 use air_recording::{AirLayout, ConstraintLayout, constraint_degree_from_poly_degree};
 use air_wire::Spelled;
 use cases::words::{count_of, counts_of, elements_of, extension_of, show_elements, value_of};
@@ -87,7 +86,7 @@ fn decompose_alpha(
             show_decomposed(alloc, layout, alpha, text)
         }
         _ => {
-            let alpha = extension_of::<BabyBear, Element>(alloc, alpha)?;
+            let alpha = extension_of::<BabyBear, BinomialExtensionField>(alloc, alpha)?;
             show_decomposed(alloc, layout, alpha, text)
         }
     }

@@ -1,27 +1,26 @@
 //! The variables and selectors that the symbolic builder lends, and what it records of assertions over the extension.
 ghost use Rattle.std.specs.Prelude.{[], IfOk};
 
-use crate::expressions::{Element, show_base, show_ext_variable, show_variable};
+use crate::expressions::{show_base, show_ext_variable, show_variable};
 use crate::layouts::layout_of;
-use crate::recordings::{ExtRecorder, show_exts};
+use crate::recordings::{Recorder, show_exts};
 use air_builder::{
     AirBuilder, AirError, ExtensionBuilder, NamedExtensionBuilder, PermutationAirBuilder,
     WindowAccess,
 };
 use air_core::{SymbolicVariable, SymbolicVariableExt, TwoRows};
-use air_field::{Algebra, BabyBear, ExtAlgebra};
+use air_field::{Algebra, ExtAlgebra, ExtensionField, Field};
 use air_recording::{AirLayout, SymbolicAirBuilder};
-use cases::words::{count_of, element_of, extension_of};
+use cases::words::{Number, count_of, element_of, extension_of};
 use cases::{Fault, Why};
 use std::alloc::Global;
 
-type Variable = SymbolicVariable<BabyBear>;
-
-type ExtVariable = SymbolicVariableExt<BabyBear, Element>;
-
-// A builder over the extension that has recorded nothing.
-fn builder_of(alloc: Global, layout: &str) -> Result<ExtRecorder, Fault>
-    ensures { IfOk result ⟦<ExtRecorder as AirBuilder>⟧.ready }
+// A builder that has recorded nothing.
+fn builder_of<F: Field, EF: ExtensionField<F>>(
+    alloc: Global,
+    layout: &str,
+) -> Result<Recorder<F, EF>, Fault>
+    ensures { IfOk result ⟦<SymbolicAirBuilder<F, EF> as AirBuilder>⟧.ready }
 {
     let layout = layout_of(AirLayout::default(), layout)?;
     Ok(SymbolicAirBuilder::new(alloc, layout)?)
@@ -38,7 +37,10 @@ fn at<T: Copy>(window: &TwoRows<T>, row: &str, column: &str) -> Result<Option<T>
 }
 
 // Adds a variable, or that there is none.
-fn show_found(found: Option<Variable>, text: &mut String) -> Result<(), Fault> {
+fn show_found<F: Field>(
+    found: Option<SymbolicVariable<F>>,
+    text: &mut String,
+) -> Result<(), Fault> {
     match found {
         Some(v) => show_variable(v, text),
         None => {
@@ -48,7 +50,10 @@ fn show_found(found: Option<Variable>, text: &mut String) -> Result<(), Fault> {
     }
 }
 
-fn show_ext_found(found: Option<ExtVariable>, text: &mut String) -> Result<(), Fault> {
+fn show_ext_found<F: Field, EF: ExtensionField<F>>(
+    found: Option<SymbolicVariableExt<F, EF>>,
+    text: &mut String,
+) -> Result<(), Fault> {
     match found {
         Some(v) => show_ext_variable(v, text),
         None => {
@@ -58,7 +63,7 @@ fn show_ext_found(found: Option<ExtVariable>, text: &mut String) -> Result<(), F
     }
 }
 
-fn show_variables(all: &[Variable], text: &mut String) -> Result<(), Fault> {
+fn show_variables<F: Field>(all: &[SymbolicVariable<F>], text: &mut String) -> Result<(), Fault> {
     for (place, v) in all.iter().enumerate() {
         text.push_str(if place == 0 { "" } else { " " })?;
         show_variable(*v, text)?;
@@ -66,7 +71,10 @@ fn show_variables(all: &[Variable], text: &mut String) -> Result<(), Fault> {
     Ok(())
 }
 
-fn show_ext_variables(all: &[ExtVariable], text: &mut String) -> Result<(), Fault> {
+fn show_ext_variables<F: Field, EF: ExtensionField<F>>(
+    all: &[SymbolicVariableExt<F, EF>],
+    text: &mut String,
+) -> Result<(), Fault> {
     for (place, v) in all.iter().enumerate() {
         text.push_str(if place == 0 { "" } else { " " })?;
         show_ext_variable(*v, text)?;
@@ -80,6 +88,7 @@ enum Selector {
     FirstRow,
     LastRow,
     Transition,
+    NarrowWindow,
     TransitionWindow,
 }
 
@@ -88,6 +97,7 @@ fn selector_of(words: &[&str]) -> Result<Selector, Fault> {
         ["is_first_row"] => Ok(Selector::FirstRow),
         ["is_last_row"] => Ok(Selector::LastRow),
         ["is_transition"] => Ok(Selector::Transition),
+        ["is_transition_window", "1"] => Ok(Selector::NarrowWindow),
         ["is_transition_window", "2"] => Ok(Selector::TransitionWindow),
         _ => Err(Fault::Unreadable(Why::NoSuchCall)),
     }
@@ -102,6 +112,7 @@ fn selector_in<AB: AirBuilder>(builder: &mut AB, selector: Selector) -> Result<A
         Selector::FirstRow => builder.is_first_row(),
         Selector::LastRow => builder.is_last_row(),
         Selector::Transition => builder.is_transition(),
+        Selector::NarrowWindow => builder.is_transition_window(1),
         Selector::TransitionWindow => builder.is_transition_window(2),
     }
 }
@@ -115,8 +126,12 @@ fn lent_selector<AB: AirBuilder>(builder: &mut AB, selector: Selector) -> Result
 }
 
 // Adds a selector that the builder lends.
-fn show_selector(builder: &mut ExtRecorder, words: &[&str], text: &mut String) -> Result<(), Fault>
-    requires { ⟦<ExtRecorder as AirBuilder>⟧.ready builder.old }
+fn show_selector<F: Number, EF: ExtensionField<F>>(
+    builder: &mut Recorder<F, EF>,
+    words: &[&str],
+    text: &mut String,
+) -> Result<(), Fault>
+    requires { ⟦<SymbolicAirBuilder<F, EF> as AirBuilder>⟧.ready builder.old }
 {
     let x = lent_selector(builder, selector_of(words)?)?;
     show_base(builder.ring(), x, 1, false, text)
@@ -161,16 +176,20 @@ fn assert_constant_ext_under<AB: ExtensionBuilder>(
 }
 
 // Adds what is recorded over the extension.
-fn show_recorded(alloc: Global, builder: &mut ExtRecorder, text: &mut String) -> Result<(), Fault>
-    requires { ⟦<ExtRecorder as AirBuilder>⟧.ready builder.old }
+fn show_recorded<F: Number, EF: ExtensionField<F>>(
+    alloc: Global,
+    builder: &mut Recorder<F, EF>,
+    text: &mut String,
+) -> Result<(), Fault>
+    requires { ⟦<SymbolicAirBuilder<F, EF> as AirBuilder>⟧.ready builder.old }
 {
     let numbers = builder.extension_constraints().to_vec(alloc)?;
     show_exts(builder.ext_ring(), numbers.as_slice(), text)
 }
 
 // Adds the variable of a window that a builder lends.
-fn show_in_window(
-    builder: &ExtRecorder,
+fn show_in_window<F: Number, EF: ExtensionField<F>>(
+    builder: &Recorder<F, EF>,
     window: &str,
     row: &str,
     column: &str,
@@ -186,12 +205,20 @@ fn show_in_window(
                 text,
             )
         }
+        "permutation_variable" => {
+            let (row, column) = (count_of(row)?, count_of(column)?);
+            show_ext_found(builder.permutation_variable(row, column)?, text)
+        }
         _ => Err(Fault::Unreadable(Why::NoSuchCall)),
     }
 }
 
 // Adds the variables of a list that a builder lends, if the word names one.
-fn show_list(builder: &ExtRecorder, list: &str, text: &mut String) -> Result<bool, Fault> {
+fn show_list<F: Number, EF: ExtensionField<F>>(
+    builder: &Recorder<F, EF>,
+    list: &str,
+    text: &mut String,
+) -> Result<bool, Fault> {
     match list {
         "public_values" => show_variables(builder.public_values(), text)?,
         "periodic_values" => show_variables(builder.periodic_values(), text)?,
@@ -203,38 +230,43 @@ fn show_list(builder: &ExtRecorder, list: &str, text: &mut String) -> Result<boo
 }
 
 // Adds what is recorded of an assertion under a name.
-fn show_named(
+fn show_named<F: Number, EF: ExtensionField<F>>(
     alloc: Global,
-    builder: &mut ExtRecorder,
+    builder: &mut Recorder<F, EF>,
     x: &[&str],
     text: &mut String,
 ) -> Result<(), Fault>
-    requires { ⟦<ExtRecorder as AirBuilder>⟧.ready builder.old }
+    requires { ⟦<SymbolicAirBuilder<F, EF> as AirBuilder>⟧.ready builder.old }
 {
-    assert_named(builder, extension_of(alloc, x)?)?;
+    assert_named(builder, extension_of::<F, EF>(alloc, x)?)?;
     show_recorded(alloc, builder, text)
 }
 
 // Adds what is recorded of an assertion under a condition.
-fn show_filtered(
+fn show_filtered<F: Number, EF: ExtensionField<F>>(
     alloc: Global,
-    builder: &mut ExtRecorder,
+    builder: &mut Recorder<F, EF>,
     condition: &str,
     x: &[&str],
     text: &mut String,
 ) -> Result<(), Fault>
-    requires { ⟦<ExtRecorder as AirBuilder>⟧.ready builder.old }
+    requires { ⟦<SymbolicAirBuilder<F, EF> as AirBuilder>⟧.ready builder.old }
 {
-    assert_constant_ext_under(builder, element_of(condition)?, extension_of(alloc, x)?)?;
+    let x = extension_of::<F, EF>(alloc, x)?;
+    assert_constant_ext_under(builder, element_of(condition)?, x)?;
     show_recorded(alloc, builder, text)
 }
 
 /// Adds what a call on a builder answers, if the line is one.
-pub fn answer_lent(alloc: Global, words: &[&str], text: &mut String) -> Result<bool, Fault> {
+pub fn answer_lent<F: Number, EF: ExtensionField<F>>(
+    alloc: Global,
+    words: &[&str],
+    text: &mut String,
+) -> Result<bool, Fault> {
     let ["builder", layout, words @ ..] = words else {
         return Ok(false);
     };
-    let mut builder = builder_of(alloc, *layout)?;
+    let mut builder = builder_of::<F, EF>(alloc, *layout)?;
     match words {
         ["assert_zero_ext_named", x @ ..] => show_named(alloc, &mut builder, x, text)?,
         ["when", condition, "assert_zero_ext", x @ ..] => {

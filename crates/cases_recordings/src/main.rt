@@ -5,6 +5,7 @@
 mod audits;
 mod bench;
 mod expressions;
+mod filters;
 mod folds;
 mod hints;
 mod kinds;

@@ -2,36 +2,31 @@
 ghost use Rattle.std.specs.Prelude.{IfOk};
 ghost use Rattle.air_symbolic.specs.Pools.{IsPool};
 
-use crate::expressions::{BasePool, Element, ExtPool, show_base, show_ext};
-use crate::layouts::layout_of;
+use crate::expressions::{BasePool, ExtPool, show_base, show_ext};
 use air_builder::{Air, AirError};
-use air_field::BabyBear;
+use air_field::ExtensionField;
 use air_recording::{
     AirLayout, Recorded, SymbolicAirBuilder, get_all_symbolic_constraints, get_constraint_layout,
     get_max_constraint_degree, get_max_constraint_degree_extension, get_symbolic_constraints,
     get_symbolic_constraints_extension,
 };
 use air_symbolic::{BaseLeaf, ExprId, ExtLeaf, SymLeaf};
-use cases::words::{count_of, counts_of};
+use cases::words::{Number, count_of, counts_of};
 use cases::{Fault, Why};
 use std::alloc::Global;
 
-/// A builder whose extension is the base field.
-pub type BaseRecorder = SymbolicAirBuilder<BabyBear, BabyBear>;
-
-/// A builder over the extension.
-pub type ExtRecorder = SymbolicAirBuilder<BabyBear, Element>;
+pub type Recorder<F, EF> = SymbolicAirBuilder<F, EF>;
 
 /// How deep a tree is shown.
 const DEPTH: usize = 8;
 
 /// Adds base expressions with the degrees that their nodes state, `none` of none.
-pub fn show_bases(
-    pool: &BasePool,
-    numbers: &[ExprId<BaseLeaf<BabyBear>>],
+pub fn show_bases<F: Number>(
+    pool: &BasePool<F>,
+    numbers: &[ExprId<BaseLeaf<F>>],
     text: &mut String,
 ) -> Result<(), Fault>
-    requires { IsPool ⟦<BaseLeaf<BabyBear> as SymLeaf>⟧.reads pool.now }
+    requires { IsPool ⟦<BaseLeaf<F> as SymLeaf>⟧.reads pool.now }
 {
     for (place, number) in numbers.iter().enumerate() {
         text.push_str(if place == 0 { "" } else { "; " })?;
@@ -46,12 +41,12 @@ pub fn show_bases(
 }
 
 /// The same of expressions over the extension.
-pub fn show_exts(
-    pool: &ExtPool,
-    numbers: &[ExprId<ExtLeaf<BabyBear, Element>>],
+pub fn show_exts<F: Number, EF: ExtensionField<F>>(
+    pool: &ExtPool<F, EF>,
+    numbers: &[ExprId<ExtLeaf<F, EF>>],
     text: &mut String,
 ) -> Result<(), Fault>
-    requires { IsPool ⟦<ExtLeaf<BabyBear, Element> as SymLeaf>⟧.reads pool.now }
+    requires { IsPool ⟦<ExtLeaf<F, EF> as SymLeaf>⟧.reads pool.now }
 {
     for (place, number) in numbers.iter().enumerate() {
         text.push_str(if place == 0 { "" } else { "; " })?;
@@ -65,24 +60,29 @@ pub fn show_exts(
     Ok(())
 }
 
-// Adds the base constraints of an AIR.
-fn show_symbolic<A: Air<BaseRecorder>>(
+// Adds the base constraints of an AIR, and how many others there are, of which there are to be none.
+fn show_symbolic<F: Number, A: Air<Recorder<F, F>>>(
     alloc: Global,
     air: &A,
     layout: AirLayout,
     text: &mut String,
 ) -> Result<(), Fault> {
-    let recorded = get_symbolic_constraints(alloc, air, layout)?;
-    show_bases(recorded.pool.base(), &recorded.base, text)
+    let recorded = get_symbolic_constraints::<F, A>(alloc, air, layout)?;
+    show_bases(recorded.pool.base(), &recorded.base, text)?;
+    let ext = recorded.ext.len();
+    if ext > 0 {
+        write!(text, ", and {ext} over the extension")?;
+    }
+    Ok(())
 }
 
 // Adds the degrees that the nodes of base expressions state.
-fn show_degrees(
-    pool: &BasePool,
-    numbers: &[ExprId<BaseLeaf<BabyBear>>],
+fn show_degrees<F: Number>(
+    pool: &BasePool<F>,
+    numbers: &[ExprId<BaseLeaf<F>>],
     text: &mut String,
 ) -> Result<(), Fault>
-    requires { IsPool ⟦<BaseLeaf<BabyBear> as SymLeaf>⟧.reads pool.now }
+    requires { IsPool ⟦<BaseLeaf<F> as SymLeaf>⟧.reads pool.now }
 {
     for (place, number) in numbers.iter().enumerate() {
         text.push_str(if place == 0 { "" } else { " " })?;
@@ -95,14 +95,14 @@ fn show_degrees(
 }
 
 // Adds the degrees of the polynomials of base expressions over so many rows.
-fn show_poly_degrees(
-    pool: &BasePool,
-    numbers: &[ExprId<BaseLeaf<BabyBear>>],
+fn show_poly_degrees<F: Number>(
+    pool: &BasePool<F>,
+    numbers: &[ExprId<BaseLeaf<F>>],
     rows: usize,
     periods: &[usize],
     text: &mut String,
 ) -> Result<(), Fault>
-    requires { IsPool ⟦<BaseLeaf<BabyBear> as SymLeaf>⟧.reads pool.now }
+    requires { IsPool ⟦<BaseLeaf<F> as SymLeaf>⟧.reads pool.now }
 {
     for (place, number) in numbers.iter().enumerate() {
         text.push_str(if place == 0 { "" } else { " " })?;
@@ -114,9 +114,12 @@ fn show_poly_degrees(
     Ok(())
 }
 
-// Adds the constraints of both kinds.
-fn show_both(recorded: &Recorded<BabyBear, Element>, text: &mut String) -> Result<(), Fault>
-    requires { IsPool ⟦<ExtLeaf<BabyBear, Element> as SymLeaf>⟧.reads recorded.now.pool }
+/// Adds the constraints of both kinds.
+pub fn show_both<F: Number, EF: ExtensionField<F>>(
+    recorded: &Recorded<F, EF>,
+    text: &mut String,
+) -> Result<(), Fault>
+    requires { IsPool ⟦<ExtLeaf<F, EF> as SymLeaf>⟧.reads recorded.now.pool }
 {
     text.push_str("base: ")?;
     show_bases(recorded.pool.base(), &recorded.base, text)?;
@@ -124,39 +127,42 @@ fn show_both(recorded: &Recorded<BabyBear, Element>, text: &mut String) -> Resul
     show_exts(&recorded.pool, &recorded.ext, text)
 }
 
-fn show_all<A: Air<ExtRecorder>>(
+fn show_all<F: Number, EF: ExtensionField<F>, A: Air<Recorder<F, EF>>>(
     alloc: Global,
     air: &A,
     layout: AirLayout,
     text: &mut String,
 ) -> Result<(), Fault> {
-    let recorded = get_all_symbolic_constraints::<BabyBear, Element, A>(alloc, air, layout)?;
+    let recorded = get_all_symbolic_constraints::<F, EF, A>(alloc, air, layout)?;
     show_both(&recorded, text)
 }
 
-fn show_extension<A: Air<ExtRecorder>>(
+fn show_extension<F: Number, EF: ExtensionField<F>, A: Air<Recorder<F, EF>>>(
     alloc: Global,
     air: &A,
     layout: AirLayout,
     text: &mut String,
 ) -> Result<(), Fault> {
-    let recorded = get_symbolic_constraints_extension::<BabyBear, Element, A>(alloc, air, layout)?;
+    let recorded = get_symbolic_constraints_extension::<F, EF, A>(alloc, air, layout)?;
     show_both(&recorded, text)
 }
 
 // The builder on which the AIR was evaluated.
-fn evaluated<A: Air<ExtRecorder>>(
+fn evaluated<F: Number, EF: ExtensionField<F>, A: Air<Recorder<F, EF>>>(
     alloc: Global,
     air: &A,
     layout: AirLayout,
-) -> Result<ExtRecorder, AirError> {
-    let mut builder: ExtRecorder = SymbolicAirBuilder::new(alloc, layout)?;
+) -> Result<Recorder<F, EF>, AirError> {
+    let mut builder: Recorder<F, EF> = SymbolicAirBuilder::new(alloc, layout)?;
     air.eval(&mut builder)?;
     Ok(builder)
 }
 
 // Adds how many constraints of each kind a builder has recorded, and their places.
-fn show_places(builder: &ExtRecorder, text: &mut String) -> Result<(), Fault> {
+fn show_places<F: Number, EF: ExtensionField<F>>(
+    builder: &Recorder<F, EF>,
+    text: &mut String,
+) -> Result<(), Fault> {
     let base = builder.base_constraints().len();
     let ext = builder.extension_constraints().len();
     let places = builder.constraint_layout()?;
@@ -165,18 +171,18 @@ fn show_places(builder: &ExtRecorder, text: &mut String) -> Result<(), Fault> {
 }
 
 // Adds the degrees that the nodes of an AIR's base constraints state.
-fn show_stated<A: Air<BaseRecorder>>(
+fn show_stated<F: Number, A: Air<Recorder<F, F>>>(
     alloc: Global,
     air: &A,
     layout: AirLayout,
     text: &mut String,
 ) -> Result<(), Fault> {
-    let recorded = get_symbolic_constraints(alloc, air, layout)?;
+    let recorded = get_symbolic_constraints::<F, A>(alloc, air, layout)?;
     show_degrees(recorded.pool.base(), &recorded.base, text)
 }
 
 // Adds the degrees of the polynomials of an AIR's base constraints, with these lengths of periodic columns.
-fn show_poly<A: Air<BaseRecorder>>(
+fn show_poly<F: Number, A: Air<Recorder<F, F>>>(
     alloc: Global,
     air: &A,
     layout: AirLayout,
@@ -184,24 +190,24 @@ fn show_poly<A: Air<BaseRecorder>>(
     periods: &[usize],
     text: &mut String,
 ) -> Result<(), Fault> {
-    let recorded = get_symbolic_constraints(alloc, air, layout)?;
+    let recorded = get_symbolic_constraints::<F, A>(alloc, air, layout)?;
     show_poly_degrees(recorded.pool.base(), &recorded.base, rows, periods, text)
 }
 
 // Adds the places of the constraints of each kind.
-fn show_layout<A: Air<ExtRecorder>>(
+fn show_layout<F: Number, EF: ExtensionField<F>, A: Air<Recorder<F, EF>>>(
     alloc: Global,
     air: &A,
     layout: AirLayout,
     text: &mut String,
 ) -> Result<(), Fault> {
-    let places = get_constraint_layout::<BabyBear, Element, A>(alloc, air, layout)?;
+    let places = get_constraint_layout::<F, EF, A>(alloc, air, layout)?;
     write!(text, "{places:?}")?;
     Ok(())
 }
 
 // The degree that is inferred.
-fn inferred<A: Air<BaseRecorder>>(
+fn inferred<F: Number, A: Air<Recorder<F, F>>>(
     alloc: Global,
     air: &A,
     layout: AirLayout,
@@ -209,11 +215,11 @@ fn inferred<A: Air<BaseRecorder>>(
     weight: &str,
 ) -> Result<usize, Fault> {
     let (rows, weight) = (count_of(rows)?, count_of(weight)?);
-    Ok(get_max_constraint_degree(alloc, air, layout, rows, weight)?)
+    Ok(get_max_constraint_degree::<F, A>(alloc, air, layout, rows, weight)?)
 }
 
 // The same over the extension.
-fn inferred_extension<A: Air<ExtRecorder>>(
+fn inferred_extension<F: Number, EF: ExtensionField<F>, A: Air<Recorder<F, EF>>>(
     alloc: Global,
     air: &A,
     layout: AirLayout,
@@ -221,14 +227,12 @@ fn inferred_extension<A: Air<ExtRecorder>>(
     weight: &str,
 ) -> Result<usize, Fault> {
     let (rows, weight) = (count_of(rows)?, count_of(weight)?);
-    let degree = get_max_constraint_degree_extension::<BabyBear, Element, A>(
-        alloc, air, layout, rows, weight,
-    )?;
+    let degree = get_max_constraint_degree_extension::<F, EF, A>(alloc, air, layout, rows, weight)?;
     Ok(degree)
 }
 
 /// Adds what a call answers of an AIR that is recorded over the base field, if it is one.
-pub fn answer_base<A: Air<BaseRecorder>>(
+pub fn answer_base<F: Number, A: Air<Recorder<F, F>>>(
     alloc: Global,
     air: &A,
     layout: AirLayout,
@@ -237,14 +241,14 @@ pub fn answer_base<A: Air<BaseRecorder>>(
     text: &mut String,
 ) -> Result<bool, Fault> {
     match (call, words) {
-        ("get_symbolic_constraints", []) => show_symbolic(alloc, air, layout, text)?,
-        ("degree_multiples", []) => show_stated(alloc, air, layout, text)?,
+        ("get_symbolic_constraints", []) => show_symbolic::<F, A>(alloc, air, layout, text)?,
+        ("degree_multiples", []) => show_stated::<F, A>(alloc, air, layout, text)?,
         ("poly_degrees", [rows, periods]) => {
             let periods = counts_of(alloc, *periods)?;
-            show_poly(alloc, air, layout, count_of(*rows)?, &periods, text)?;
+            show_poly::<F, A>(alloc, air, layout, count_of(*rows)?, &periods, text)?;
         }
         ("get_max_constraint_degree", [rows, weight]) => {
-            let degree = inferred(alloc, air, layout, *rows, *weight)?;
+            let degree = inferred::<F, A>(alloc, air, layout, *rows, *weight)?;
             write!(text, "{degree}")?;
         }
         _ => return Ok(false),
@@ -253,7 +257,7 @@ pub fn answer_base<A: Air<BaseRecorder>>(
 }
 
 /// Adds what a call answers of an AIR that is recorded with an extension.
-pub fn answer_extension<A: Air<ExtRecorder>>(
+pub fn answer_extension<F: Number, EF: ExtensionField<F>, A: Air<Recorder<F, EF>>>(
     alloc: Global,
     air: &A,
     layout: AirLayout,
@@ -262,12 +266,14 @@ pub fn answer_extension<A: Air<ExtRecorder>>(
     text: &mut String,
 ) -> Result<(), Fault> {
     match (call, words) {
-        ("get_all_symbolic_constraints", []) => show_all(alloc, air, layout, text),
-        ("get_symbolic_constraints_extension", []) => show_extension(alloc, air, layout, text),
-        ("get_constraint_layout", []) => show_layout(alloc, air, layout, text),
-        ("eval", []) => show_places(&evaluated(alloc, air, layout)?, text),
+        ("get_all_symbolic_constraints", []) => show_all::<F, EF, A>(alloc, air, layout, text),
+        ("get_symbolic_constraints_extension", []) => show_extension::<F, EF, A>(
+            alloc, air, layout, text,
+        ),
+        ("get_constraint_layout", []) => show_layout::<F, EF, A>(alloc, air, layout, text),
+        ("eval", []) => show_places(&evaluated::<F, EF, A>(alloc, air, layout)?, text),
         ("get_max_constraint_degree_extension", [rows, weight]) => {
-            let degree = inferred_extension(alloc, air, layout, *rows, *weight)?;
+            let degree = inferred_extension::<F, EF, A>(alloc, air, layout, *rows, *weight)?;
             write!(text, "{degree}")?;
             Ok(())
         }

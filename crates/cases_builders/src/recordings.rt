@@ -1,0 +1,83 @@
+//! Assertions that are recorded: each line has a builder of its own.
+ghost use Rattle.std.specs.Prelude.{IfOk};
+ghost use Rattle.air_symbolic.specs.ExtLeaves.{ext_reads};
+ghost use Rattle.air_symbolic.specs.Pools.{IsPool};
+
+use crate::filters::assert_all;
+use crate::trees::{show_tree, show_value};
+use air_builder::AirBuilder;
+use air_field::{BabyBear, BinomialExtensionField, ExtensionField, Field};
+use air_recording::{AirLayout, Recorded, SymbolicAirBuilder};
+use cases::words::Number;
+use cases::{Bench, Fault, Line};
+use p3_air::finish_recording;
+use std::alloc::Global;
+
+#[derive(Drop)]
+pub struct Recordings {
+    alloc: Global,
+}
+
+// What is recorded of the assertions. Over any fields: of the builder over two given ones the checker compares more than
+// its limit allows.
+fn recorded<F: Field, EF: ExtensionField<F>>(
+    alloc: Global,
+    words: &[&str],
+) -> Result<Recorded<F, EF>, Fault>
+    ensures { IfOk result (λ r. IsPool (ext_reads EF.basis) r.pool) }
+{
+    let mut builder: SymbolicAirBuilder<F, EF> = SymbolicAirBuilder::new(
+        alloc,
+        AirLayout::default(),
+    )?;
+    assert_all(alloc, &mut builder, words)?;
+    Ok(finish_recording(builder))
+}
+
+// Adds the constraints over the extension, and then the base ones.
+fn show_recorded<F: Number, EF: ExtensionField<F>>(
+    recorded: &Recorded<F, EF>,
+    text: &mut String,
+) -> Result<(), Fault>
+    requires { IsPool (ext_reads EF.basis) recorded.now.pool }
+{
+    for id in &recorded.ext {
+        text.push_str(if text.is_empty() { "" } else { " " })?;
+        show_value(&recorded.pool, *id, text)?;
+    }
+    for id in &recorded.base {
+        text.push_str(if text.is_empty() { "" } else { " " })?;
+        show_tree(recorded.pool.base(), *id, 9, text)?;
+    }
+    Ok(())
+}
+
+// Adds what is recorded of the assertions.
+fn answer_recorded<F: Number, EF: ExtensionField<F>>(
+    alloc: Global,
+    words: &[&str],
+    text: &mut String,
+) -> Result<(), Fault> {
+    show_recorded(&recorded::<F, EF>(alloc, words)?, text)
+}
+
+impl<'a> Bench<'a> for Recordings {
+    fn new(alloc: Global) -> Self {
+        Recordings { alloc }
+    }
+
+    fn answer(&mut self, line: &Line<'a>, text: &mut String) -> Result<(), Fault> {
+        match line.words.as_slice() {
+            ["WINDOW"] => {
+                let rows = SymbolicAirBuilder::<BabyBear, BinomialExtensionField>::WINDOW;
+                write!(text, "{rows}")?;
+                Ok(())
+            }
+            words => answer_recorded::<BabyBear, BinomialExtensionField>(self.alloc, words, text),
+        }
+    }
+
+    fn standing(&self, _text: &mut String) -> Result<(), Fault> {
+        Ok(())
+    }
+}
