@@ -156,13 +156,17 @@ fn record_asking(builder: &mut Recorder, asked: &Cell<u32>) -> Result<(), AirErr
     )
 }
 
-// The same over the extension.
-fn record_ext_asking(builder: &mut Recorder, asked: &Cell<u32>) -> Result<(), AirError>
-    requires { ⟦<Recorder as AirBuilder>⟧.ready builder.old }
+// The same over the extension. Over any fields: of the builder over two given ones the checker compares more than its
+// limit allows.
+fn record_ext_asking<F: Field, EF: ExtensionField<F>>(
+    builder: &mut SymbolicAirBuilder<F, EF>,
+    asked: &Cell<u32>,
+) -> Result<(), AirError>
+    requires { ⟦<SymbolicAirBuilder<F, EF> as AirBuilder>⟧.ready builder.old }
 {
     assert_ext_named(
         builder,
-        root_times(1),
+        EF::one(),
         Lazy(|| {
             asked.set(2);
             Ok("never")
