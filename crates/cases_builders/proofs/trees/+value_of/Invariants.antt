@@ -1,4 +1,4 @@
 use Rattle.cases_builders.proofs.trees.+value_of.Given as goal
 
 abbrev pub decreases-value_of : goal.decreases-value_of
-decreases-value_of l = l.depth
+decreases-value_of g l = l.depth
