@@ -37,7 +37,9 @@ impl<'a> Checks<'a> {
                         check_first(self.alloc, air, &given, true, text)
                     }
                     ("audit_air", [weight]) => {
-                        show_base_audit(self.alloc, air, &given, count_of(*weight)?, text)
+                        let weight = count_of(*weight)?;
+                        let public = given.public.as_slice();
+                        show_base_audit(self.alloc, air, &given.main, public, weight, text)
                     }
                     _ => Err(Fault::Unreadable(Why::NoSuchCall)),
                 }

@@ -6,8 +6,8 @@ use cases_airs::words::trace_of;
 use cases_airs::{Constraints, ListAir, TableAir};
 use p3_air::{
     Air, BabyBear, BaseAir, CheckError, ConstraintFailure, ConstraintReport,
-    DebugConstraintBuilder, RowMajorMatrix, SymbolicAirBuilder, audit_air, check_all_constraints,
-    check_constraints,
+    DebugConstraintBuilder, Field, RowMajorMatrix, SymbolicAirBuilder, audit_air,
+    check_all_constraints, check_constraints,
 };
 use std::alloc::Global;
 
@@ -121,17 +121,23 @@ pub fn show_audit<'a, A: BaseAir<BabyBear> + Air<BaseRecorder> + Air<RowBuilder<
     show(&audit.report, text)
 }
 
-/// The same of a table's AIR, if its constraints are over the base field.
-pub fn show_base_audit(
+/// The same of a table's AIR, if its constraints are over the base field. Over any field: at a given one the checker
+/// compares more than its limit allows.
+pub fn show_base_audit<F: Field + 'static>(
     alloc: Global,
-    air: &TableAir<BabyBear>,
-    given: &Given,
+    air: &TableAir<F>,
+    main: &RowMajorMatrix<F>,
+    public: &[F],
     weight: usize,
     text: &mut String,
 ) -> Result<(), Fault> {
     match air.constraints {
         Constraints::Base(list) => {
-            show_audit(alloc, &ListAir { list, air }, given, weight, text)
+            let air = ListAir { list, air };
+            let audit = audit_air(alloc, &air, main, public, weight)?;
+            let degree = audit.degree;
+            write!(text, "degree {degree}, ")?;
+            show(&audit.report, text)
         }
         _ => Err(Fault::Unreadable(Why::NoSuchCall)),
     }
