@@ -1,5 +1,5 @@
 -- The label of what is made and then asserted under a name.
-use Rattle.std.proofs.Common.{◌≡◌, ℕ, List, [], ◌∷◌, Option, Result, Ok, Err, OnOk, OnErr, refl}
+use Rattle.std.proofs.Common.{ℕ, List, [], ◌∷◌, Option, Result, Ok, Err, OnOk, OnErr, refl}
 use Rattle.air_field.specs.Term.{Leaf, Term}
 use Rattle.air_core.specs.declared.errors.AirError.{AirError}
 use Rattle.air_builder.specs.Assertion.{Assertion}

@@ -1,9 +1,9 @@
 -- Packing, one term more.
 use Rattle.std.specs.Result.{IsErrAnd}
-use Rattle.std.proofs.Common.{◌≡◌, ℕ, zero, suc, ◌+◌, ◌-◌, ◌<◌, Result, Ok, Err, IfOk, IfErr, refl, ap, subst, sym, arith}
+use Rattle.std.proofs.Common.{◌≡◌, ℕ, zero, suc, ◌+◌, ◌-◌, ◌<◌, Result, Ok, Err, IfOk, IfErr, refl, ap, subst, arith}
 use Rattle.air_field.specs.Algebra.{MadeOfBoth, RefusedOfBoth}
 use Rattle.air_field.specs.Part.{whole, in_add_left, in_add_right}
-use Rattle.air_field.specs.Term.{Leaf, Term}
+use Rattle.air_field.specs.Term.{Term}
 use Rattle.air_field.specs.declared.errors.RingError.{RingError}
 use Rattle.air_gadgets.specs.Packing.{packed_from}
 use Rattle.air_core.specs.declared.errors.AirError.{AirError}

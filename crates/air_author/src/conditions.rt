@@ -12,16 +12,17 @@ use air_field::Algebra;
 
 /// Where an expression is to be zero.
 pub trait Condition<AB: AirBuilder> {
-    /// What is to be zero everywhere where a base term is to be zero here.
+    /// A base term under the condition: their product, and everywhere the term itself.
     ghost under: { Self → Term AB.F → Term AB.F };
 
-    /// The same of an extension term.
+    /// An extension term under the condition.
     ghost ext_under: { Self → Term AB.F → Term AB.F };
 
-    /// What it holds ready-made is of the builder, and means what it should there.
+    /// Every expression inside that was made before was made by this builder, and still means its value's term there.
     ghost where_holds: { Self → AB → Type 0 } = { λ _ _. ⊤ };
 
-    /// Makes what is to be zero everywhere where `x` is to be zero here.
+    /// Makes the product of the condition and `x`: it vanishes on every row exactly if `x` vanishes wherever the
+    /// condition doesn't, in a field.
     fn make_under<X: Expression<AB>>(&self, builder: &mut AB, x: &X) -> AirResult<AB::Expr>
         requires ready { AB.ready builder.old }
         requires held { Lasts AB.kept (λ b. where_holds self.now b × X.holds x.now b) builder.old }

@@ -21,11 +21,13 @@ pub mod when;
 
 /// Constraints, in order.
 pub trait Constraint<AB: AirBuilder> {
-    /// What is asserted, where each base term becomes another, and each extension term.
+    /// The assertions, in order. The two functions put the conditions that stand around a base and an extension term;
+    /// at the top, both are the identity.
     ghost asserts: { Self → (Term AB.F → Term AB.F) → (Term AB.F → Term AB.F) → List
         (Assertion AB.F) };
 
-    /// What they hold ready-made is of the builder, and means what it should there.
+    /// Every expression inside that was made before was made by this builder, and still means its value's term there.
+    /// Constraints without one owe nothing.
     ghost all_hold: { Self → AB → Type 0 } = { λ _ _. ⊤ };
 
     /// Asserts them where the condition holds.

@@ -1,25 +1,23 @@
 -- Where a row holds a block, its states and its compression, all terms are zero.
-use Rattle.std.specs.Prelude.{◌≡◌, ℕ, zero, suc, refl, ◌+◌, ◌-◌, ◌*◌, ◌/◌, ◌%◌, ◌^◌, ◌<◌, ◌≤◌, List, [], ◌∷◌, ◌++◌, length, map, take, drop, bit_xor, slice_index}
-use Rattle.std.proofs.Common.{sym, ◌∙◌, ap, ap₂, subst, inl, inr, arith}
-use Rattle.std.proofs.lemmas.List.{length-map}
-use Rattle.std.specs.Int.Bits.{xor_self, xor_assoc, xor_zero_l}
+use Rattle.std.specs.Prelude.{◌≡◌, ℕ, zero, suc, refl, ◌+◌, ◌-◌, ◌*◌, ◌^◌, ◌<◌, ◌≤◌, List, [], ◌∷◌, ◌++◌, length, map, take, drop, bit_xor, slice_index}
+use Rattle.std.proofs.Common.{sym, ◌∙◌, ap, ap₂, subst, arith}
 use Rattle.air_field.specs.Ring.{CommRing, image, itself, minus}
 use Rattle.air_field.specs.laws.Images.{HasCharacteristic}
 use Rattle.air_field.specs.Term.{Leaf, Term}
 use Rattle.air_field.specs.Value.{value}
 use Rattle.air_gadgets.specs.Bits.{AreBits}
-use Rattle.air_builder.specs.Assertion.{Assertion, Base, Extension}
+use Rattle.air_builder.specs.Assertion.{Assertion}
 use Rattle.air_author.specs.Constraints.{asserts_of_first}
 use Rattle.air_gadgets.specs.Words.{Limbs, number_of, xor_bits, rotated_left}
-use Rattle.air_gadgets.specs.Exact.{IsDomain, AllVanish, IsXorOf}
+use Rattle.air_gadgets.specs.Exact.{IsDomain, AllVanish}
 use Rattle.air_gadgets.specs.Gadgets.{test_asserts, xor_asserts}
 use Rattle.air_gadgets.proofs.ExactXors.{xor_is_exact}
 use Rattle.air_gadgets.proofs.XorLaws.{AllChecked, checks_of_bits, ring_xors, xors-images}
-use Rattle.blake3.specs.Compression.{Block, half_mix, mix, columns_mixed, diagonals, from_diagonals, round, place_in, first_state, after_rounds, output_column, compress}
+use Rattle.blake3.specs.Compression.{Block, columns_mixed, diagonals, round, place_in, first_state, after_rounds, output_column}
 use Rattle.blake3.specs.Blocks.{columns_half}
 use Rattle.blake3.specs.declared.words.Quarter.{Quarter}
 use Rattle.blake3.specs.declared.words.State.{State}
-use Rattle.air_blake3.specs.Words.{QuarterTerms, BitTerms, StateTerms, packed_limbs, under, bits_at, bits_of, state_of}
+use Rattle.air_blake3.specs.Words.{QuarterTerms, BitTerms, StateTerms, packed_limbs, bits_at, bits_of, state_of}
 use Rattle.air_blake3.specs.Mixing.{mix_asserts}
 use Rattle.air_blake3.specs.Row.{columns_asserts, eight_columns, message_column, chaining_column, last_column, output_columns, state_from, round_column, before_round, round_at, limbs_are, constant_limbs, xors_are, first_asserts, output_asserts, first_at, output_at, message_at, compression}
 use Rattle.air_blake3.specs.Holding.{IsLimbsOf, IsBitsOf, IsQuarterOf, IsStateOf, IsOutputOf, HoldsStates, HoldsRow, CompressionIsComplete}

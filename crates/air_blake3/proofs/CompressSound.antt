@@ -7,20 +7,20 @@ use Rattle.air_field.specs.Ring.{CommRing, image, itself}
 use Rattle.air_field.specs.laws.Images.{HasCharacteristic, same_of_image}
 use Rattle.air_field.specs.Term.{Leaf, Term}
 use Rattle.air_field.specs.Value.{value}
-use Rattle.air_gadgets.specs.Bits.{AreBits, ring_xor}
-use Rattle.air_builder.specs.Assertion.{Assertion, Base}
+use Rattle.air_gadgets.specs.Bits.{AreBits}
+use Rattle.air_builder.specs.Assertion.{Assertion}
 use Rattle.air_author.specs.Constraints.{asserts_of_first}
-use Rattle.air_gadgets.specs.Words.{Limbs, AreLimbs, word, number_of, xor_bits, rotated_left}
+use Rattle.air_gadgets.specs.Words.{Limbs, number_of, xor_bits, rotated_left}
 use Rattle.air_gadgets.specs.Exact.{IsDomain, AllVanish, IsXorOf}
 use Rattle.air_gadgets.specs.Gadgets.{test_asserts, xor_asserts}
 use Rattle.air_gadgets.proofs.ExactXors.{xor_is_exact}
-use Rattle.air_gadgets.proofs.XorLaws.{bit_check, bits_of_checks, same_of_minus, AllChecked, ring_xors, xors-images}
-use Rattle.blake3.specs.Compression.{Block, place_in, first_state, after_rounds, output_column, outputs, compress}
+use Rattle.air_gadgets.proofs.XorLaws.{bits_of_checks, same_of_minus, AllChecked, ring_xors, xors-images}
+use Rattle.blake3.specs.Compression.{Block, first_state, after_rounds, output_column}
 use Rattle.blake3.specs.declared.words.Quarter.{Quarter}
 use Rattle.blake3.specs.declared.words.State.{State}
-use Rattle.air_blake3.specs.Words.{QuarterTerms, BitTerms, StateTerms, packed_limbs, bits_at, bits_of, limbs_at, state_of}
-use Rattle.air_blake3.specs.Row.{limbs_are, constant_limbs, xors_are, first_asserts, output_asserts, message_column, chaining_column, last_column, output_columns, before_round, round_at, first_at, output_at, message_at, compression}
-use Rattle.air_blake3.specs.Holding.{IsLimbsOf, IsBitsOf, IsQuarterOf, IsStateOf, IsInput, IsOutputOf, IsOutput, CompressionIsSound}
+use Rattle.air_blake3.specs.Words.{QuarterTerms, BitTerms, StateTerms, packed_limbs, bits_at, bits_of, state_of}
+use Rattle.air_blake3.specs.Row.{limbs_are, constant_limbs, xors_are, first_asserts, output_asserts, message_column, chaining_column, last_column, output_columns, before_round, round_at, first_at, output_at, message_at}
+use Rattle.air_blake3.specs.Holding.{IsLimbsOf, IsBitsOf, IsQuarterOf, IsStateOf, IsOutputOf, IsOutput, CompressionIsSound}
 use Rattle.air_blake3.proofs.WordNumbers.{xor_back, bits-xor, length-xor, number_of-xor, number_of-halves, low_half-lt, high_half-lt}
 use Rattle.air_blake3.proofs.MixSound.{vanish-append, under-same, vanish-same, same, packed_is}
 use Rattle.air_blake3.proofs.RoundSound.{vanish-first, rounds_are}

@@ -1,19 +1,18 @@
 -- Where words are mixed, the terms of G are zero.
-use Rattle.std.specs.Prelude.{◌≡◌, ℕ, zero, suc, refl, ◌+◌, ◌-◌, ◌*◌, ◌/◌, ◌%◌, ◌^◌, ◌<◌, List, [], ◌∷◌, ◌++◌, length, map, take, drop, bit_xor}
+use Rattle.std.specs.Prelude.{◌≡◌, ℕ, ◌+◌, ◌-◌, ◌*◌, ◌/◌, ◌%◌, ◌^◌, ◌<◌, List, [], ◌∷◌, ◌++◌, length, take, drop, bit_xor}
 use Rattle.std.specs.Int.{w32, rotate_right}
 use Rattle.std.specs.Int.Bits.{xor_lt}
 use Rattle.std.proofs.Common.{sym, ◌∙◌, ap, ap₂, subst, arith, length-take, length-drop}
-use Rattle.std.proofs.lemmas.Nat.{pow_pos, pow-add, same_from_place, shr_split, shr_below, mod_below}
+use Rattle.std.proofs.lemmas.Nat.{pow_pos, same_from_place, shr_split, shr_below, mod_below}
 use Rattle.std.proofs.lemmas.List.{take-append-drop}
-use Rattle.air_field.specs.Ring.{CommRing, image, itself}
+use Rattle.air_field.specs.Ring.{CommRing, image}
 use Rattle.air_field.specs.laws.Images.{HasCharacteristic}
 use Rattle.air_field.specs.Term.{Leaf, Term}
-use Rattle.air_field.specs.Value.{value}
 use Rattle.air_gadgets.specs.Bits.{AreBits}
 use Rattle.air_builder.specs.Assertion.{Assertion, Base, Extension}
-use Rattle.air_gadgets.specs.Words.{Limbs, AreLimbs, word, word_sum, word_sum_3, number_of, xor_bits, rotated_left}
+use Rattle.air_gadgets.specs.Words.{Limbs, word, word_sum, word_sum_3, number_of, xor_bits, rotated_left}
 use Rattle.air_gadgets.specs.Gadgets.{add2_asserts, add3_asserts, xor_asserts}
-use Rattle.air_gadgets.specs.Exact.{IsDomain, AllVanish, LimbsAre, IsXorOf}
+use Rattle.air_gadgets.specs.Exact.{IsDomain, AllVanish}
 use Rattle.air_gadgets.proofs.ExactSums.{add2_is_exact, add3_is_exact}
 use Rattle.air_gadgets.proofs.ExactXors.{xor_is_exact}
 use Rattle.blake3.specs.Compression.{half_mix, mix}
@@ -21,7 +20,7 @@ use Rattle.blake3.specs.declared.words.Quarter.{Quarter}
 use Rattle.air_blake3.specs.Words.{QuarterTerms, packed_limbs, under}
 use Rattle.air_blake3.specs.Mixing.{half_mix_asserts, mix_asserts}
 use Rattle.air_blake3.specs.Holding.{IsLimbsOf, IsBitsOf, IsQuarterOf, MixIsComplete}
-use Rattle.air_blake3.proofs.WordNumbers.{xor_back, bits-take, bits-drop, bits-xor, bits-rotated, length-xor, length-rotated, number_of-lt, number_of-append, number_of-xor, number_of-halves, low_half-lt, high_half-lt, rotated_back}
+use Rattle.air_blake3.proofs.WordNumbers.{xor_back, bits-take, bits-xor, bits-rotated, length-xor, length-rotated, number_of-lt, number_of-append, number_of-xor, number_of-halves, low_half-lt, rotated_back}
 use Rattle.air_blake3.proofs.MixSound.{packed_is, under-same}
 
 -- the rotation of a number by its low s bits and the others

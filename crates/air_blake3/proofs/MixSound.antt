@@ -10,9 +10,9 @@ use Rattle.air_field.specs.Value.{value}
 use Rattle.air_gadgets.specs.Bits.{AreBits, packed}
 use Rattle.air_gadgets.specs.Packing.{packed_term}
 use Rattle.air_builder.specs.Assertion.{Assertion, Base, Extension}
-use Rattle.air_gadgets.specs.Words.{Limbs, word, word_sum, word_sum_3, number_of, xor_bits, rotated_left}
+use Rattle.air_gadgets.specs.Words.{Limbs, word_sum, word_sum_3, number_of, xor_bits, rotated_left}
 use Rattle.air_gadgets.specs.Gadgets.{add2_asserts, add3_asserts, xor_asserts}
-use Rattle.air_gadgets.specs.Exact.{IsDomain, AllVanish, LimbsAre, IsXorOf}
+use Rattle.air_gadgets.specs.Exact.{IsDomain, AllVanish, IsXorOf}
 use Rattle.air_gadgets.proofs.ExactSums.{add2_is_exact, add3_is_exact}
 use Rattle.air_gadgets.proofs.ExactXors.{xor_is_exact}
 use Rattle.air_gadgets.proofs.PackedBits.{value-packed_term}

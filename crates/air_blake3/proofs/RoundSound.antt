@@ -1,20 +1,20 @@
 -- Where the terms of the rounds are zero.
-use Rattle.std.specs.Prelude.{◌≡◌, ℕ, zero, suc, refl, ◌+◌, ◌*◌, ◌^◌, ◌<◌, ◌≤◌, List, [], ◌∷◌, ◌++◌, slice_index}
-use Rattle.std.proofs.Common.{sym, ◌∙◌, ap, subst, inl, inr, arith}
+use Rattle.std.specs.Prelude.{◌≡◌, ℕ, zero, suc, refl, ◌+◌, ◌*◌, ◌^◌, ◌<◌, ◌≤◌, List, ◌++◌, slice_index}
+use Rattle.std.proofs.Common.{subst, inl, inr, arith}
 use Rattle.std.proofs.lemmas.Bool.{cases_lt}
 use Rattle.air_field.specs.Ring.{CommRing}
 use Rattle.air_field.specs.laws.Images.{HasCharacteristic}
-use Rattle.air_field.specs.Term.{Leaf, Term}
+use Rattle.air_field.specs.Term.{Leaf}
 use Rattle.air_builder.specs.Assertion.{Assertion}
 use Rattle.air_author.specs.Constraints.{asserts_of_first}
 use Rattle.air_gadgets.specs.Exact.{IsDomain, AllVanish}
 use Rattle.blake3.specs.Compression.{columns_mixed, diagonals, from_diagonals, round, place_in, after_rounds}
 use Rattle.blake3.specs.laws.Places.{place_in-below}
 use Rattle.blake3.specs.declared.words.State.{State}
-use Rattle.air_blake3.specs.Words.{QuarterTerms, StateTerms, bits_at, state_of}
+use Rattle.air_blake3.specs.Words.{StateTerms, bits_at, state_of}
 use Rattle.air_blake3.specs.Mixing.{mix_asserts}
 use Rattle.air_blake3.specs.Row.{columns_asserts, eight_columns, message_column, state_from, round_column, before_round, round_at}
-use Rattle.air_blake3.specs.Holding.{IsBitsOf, IsQuarterOf, IsStateOf, IsWhole}
+use Rattle.air_blake3.specs.Holding.{IsBitsOf, IsStateOf, IsWhole}
 use Rattle.air_blake3.proofs.MixSound.{vanish-append, mix_is_sound}
 
 pub record IsWholeState {F : Type 0} (t : StateTerms F) : Type 0 where

@@ -1,9 +1,9 @@
 -- Lists of bits and the numbers that they are: joined, xored and rotated.
-use Rattle.std.specs.Prelude.{◌≡◌, ℕ, zero, suc, refl, ◌+◌, ◌-◌, ◌*◌, ◌/◌, ◌%◌, ◌^◌, ◌<◌, ◌≤◌, List, [], ◌∷◌, ◌++◌, length, take, drop, bit_or, bit_xor}
+use Rattle.std.specs.Prelude.{◌≡◌, ℕ, zero, suc, refl, ◌+◌, ◌-◌, ◌*◌, ◌/◌, ◌%◌, ◌^◌, ◌<◌, List, [], ◌∷◌, ◌++◌, length, take, drop, bit_or, bit_xor}
 use Rattle.std.specs.Int.{w32, rotate_right}
 use Rattle.std.specs.Int.Bits.{xor_block, or_shifted_r, xor_self, xor_assoc, xor_zero_l}
 use Rattle.std.proofs.Common.{sym, ◌∙◌, ap, ap₂, subst, arith, length-take, length-drop, length-append}
-use Rattle.std.proofs.Math.Nat.{pow-suc, pow-zero}
+use Rattle.std.proofs.Math.Nat.{pow-suc}
 use Rattle.std.proofs.lemmas.Nat.{pow-add, mod_low, shr_high, shl_below}
 use Rattle.std.proofs.lemmas.List.{take-append-drop}
 use Rattle.air_gadgets.specs.Bits.{AreBits}

@@ -11,7 +11,7 @@ use Rattle.blake3.specs.Blocks.{columns_half}
 use Rattle.blake3.specs.declared.words.Quarter.{Quarter}
 use Rattle.blake3.specs.declared.words.State.{State}
 use Rattle.air_blake3.specs.Words.{QuarterTerms, BitTerms, StateTerms, bits_at, bits_of, state_of}
-use Rattle.air_blake3.specs.Mixing.{half_mix_asserts, mix_asserts}
+use Rattle.air_blake3.specs.Mixing.{mix_asserts}
 use Rattle.air_blake3.specs.Row.{message_column, chaining_column, state_from, round_column, before_round, last_column, output_columns, compression}
 
 -- the terms have the images of two limbs of 16 bits as their values, which are the word n

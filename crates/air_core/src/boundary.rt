@@ -24,7 +24,8 @@ impl Display for BoundaryEnd {
     }
 }
 
-/// A cell of the main trace that holds a public value.
+/// A cell of the main trace that is to hold a public value. That an AIR lists it asserts no constraint: a check and an
+/// audit compare the two, and a prover does so only where it says that it binds such cells.
 #[derive(Clone, Copy, Debug, PartialEq, Eq, Hash)]
 pub struct BoundaryPublic {
     pub column: usize,

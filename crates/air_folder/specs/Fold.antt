@@ -1,5 +1,5 @@
 -- Horner's fold that goes on from an accumulator.
-use Rattle.std.specs.Prelude.{◌-◌, List, [], ◌∷◌, length}
+use Rattle.std.specs.Prelude.{List, [], ◌∷◌, length}
 use Rattle.air_field.specs.Ring.{CommRing}
 use Rattle.air_field.specs.Powers.{power}
 use Rattle.air_recording.specs.Folds.{horner}

@@ -1,5 +1,5 @@
 -- The value of packed bits, and of packed bits of numbers.
-use Rattle.std.proofs.Common.{◌≡◌, ◌∙◌, ℕ, zero, suc, List, [], ◌∷◌, map, refl, sym, ap, ap₂}
+use Rattle.std.proofs.Common.{◌≡◌, ◌∙◌, zero, suc, List, [], ◌∷◌, map, refl, sym, ap, ap₂}
 use Rattle.air_field.specs.Ring.{CommRing, Over, OverLaws, image}
 use Rattle.air_field.specs.laws.RingSolver.{var, nought, unit, plus, times, ring}
 use Rattle.air_field.specs.laws.Images.{image-zero, image-suc}

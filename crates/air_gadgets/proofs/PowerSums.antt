@@ -6,7 +6,6 @@ use Rattle.air_field.specs.laws.RingSolver.{var, nought, unit, plus, times, ring
 use Rattle.air_field.specs.laws.Images.{image-one, image-add}
 use Rattle.air_field.specs.Term.{Leaf, Term}
 use Rattle.air_field.specs.Value.{value}
-use Rattle.air_gadgets.specs.Bits.{packed}
 use Rattle.air_gadgets.specs.Packing.{packed_from}
 use Rattle.air_gadgets.specs.PowerSums.{power_sum, PacksValues, PacksByPowers}
 

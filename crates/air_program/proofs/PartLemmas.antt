@@ -4,7 +4,7 @@ use Rattle.std.proofs.lemmas.Slice.Eq.{bytes_eq-Decides}
 use Rattle.std.specs.Result.{result_map_both}
 use Rattle.json.specs.Json.{Json, Parse, parse_map, after_end_array, items}
 use Rattle.json.specs.Token.{Token}
-use Rattle.serde_json.specs.Data.{Data, array, object, Items, no_items, item, Members, no_members, put}
+use Rattle.serde_json.specs.Data.{Data, array, object, Items, Members, no_members, put}
 use Rattle.serde_json.specs.Find.{get, get_member}
 use Rattle.serde_json.specs.Read.{of_json, of_items, converted}
 use Rattle.serde_json.specs.View.{view, items_of, members_view}
@@ -19,7 +19,7 @@ use Rattle.air_wire.specs.declared.errors.FlatError.{FlatError}
 use Rattle.air_wire.specs.declared.errors.FlatError.TheVariants as faults
 use Rattle.air_program.specs.Members.{MemberValues}
 use Rattle.air_program.specs.Parts.{Given, AreGiven, one_more, of_member, AreMembersOf, ArePartsOf, given_by, members_with}
-use Rattle.air_program.specs.Readers.{Reader, formed, each_from, tree, trees, width_member, elements_member, constraints_member, periodic_member, boundary_member, cap_member, weight_member, members_read}
+use Rattle.air_program.specs.Readers.{Reader, each_from, tree, trees, width_member, elements_member, constraints_member, periodic_member, boundary_member, cap_member, weight_member, members_read}
 use Rattle.air_program.proofs.TokenLemmas.{data_before, one_more_data, item_read}
 use Rattle.air_program.specs.declared.flat_input.constraints.Constraints.{Constraints}
 

@@ -1,5 +1,5 @@
 -- An object whose constraints are read apart from its other members.
-use Rattle.std.specs.Prelude.{◌≡◌, ◌≢◌, ℕ, ◌<◌, List, [], ◌∷◌, ◌++◌, length, map, All, Option, Result, Ok, Err, IfOk, codes}
+use Rattle.std.specs.Prelude.{◌≡◌, ◌≢◌, ℕ, ◌<◌, List, [], ◌∷◌, ◌++◌, length, map, All, Option, Result, Ok, IfOk, codes}
 use Rattle.std.specs.Result.{result_map_both}
 use Rattle.serde_json.specs.Data.{Data, Members}
 use Rattle.serde_json.specs.Find.{get, get_member}

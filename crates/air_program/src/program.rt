@@ -40,9 +40,11 @@ pub fn run<R: Source, W: Sink>(
 ) -> Result<u8, StreamFault>
     requires reader { R.has_failed reader.old ≡ false }
     requires writer { W.has_failed writer.old ≡ false }
-    ensures outcome { IfOk result (λ status. (text : List ℕ) × Appends (W.contents writer.old)
-        (W.contents writer.new) text
-        × IsOutcome (Answers ⟦<BabyBear as PartialEq>⟧.eq) (request_of (map string_bytes words.now)) (R.has_failed reader.new) (R.remaining reader.old) (R.remaining reader.new) status text) }
+    ensures outcome { IfOk result (λ status. (text : List ℕ)
+        × Appends (W.contents writer.old) (W.contents writer.new) text
+        × IsOutcome (Answers ⟦<BabyBear as PartialEq>⟧.eq)
+        (request_of (map string_bytes words.now)) (R.has_failed reader.new)
+        (R.remaining reader.old) (R.remaining reader.new) status text) }
     ensures failed { W.has_failed writer.new ≡ is_err result }
 {
     let Some(request) = request_of(words) else {

@@ -1,12 +1,11 @@
 -- What roots need, and the table of expressions, one place after another.
 use Rattle.std.specs.List.{AllZip, Any, list_any}
-use Rattle.std.proofs.Common.{◌≡◌, ◌⊎◌, ◌≤◌, ◌||◌, ℕ, zero, suc, ◌+◌, ◌<◌, List, [], ◌∷◌, ◌++◌, length, get_or, slice_get, map, All, Bool, true, false, eqb, Option, None, Some, inl, inr, refl, sym, subst, ap, ◌∙◌, arith, ⊎_elim}
+use Rattle.std.proofs.Common.{◌≡◌, ◌⊎◌, ◌≤◌, ◌||◌, ℕ, zero, suc, ◌+◌, ◌<◌, List, [], ◌∷◌, ◌++◌, length, get_or, slice_get, map, All, Bool, true, false, eqb, Some, inl, inr, refl, sym, subst, ap, ◌∙◌, arith, ⊎_elim}
 use Rattle.std.proofs.lemmas.List.{get_or_default, get_or_append_left, get_or_push, length_push}
-use Rattle.std.proofs.lemmas.List.Elements.{All-map}
 use Rattle.std.proofs.lemmas.List.Folds.{Any-from_list_any}
 use Rattle.std.proofs.lemmas.Slice.Zip.{AllZip-map}
 use Rattle.std.proofs.lemmas.Simd.{map-map}
-use Rattle.std.proofs.lemmas.Option.{slice_get-get_or, slice_get_within}
+use Rattle.std.proofs.lemmas.Option.{slice_get-get_or}
 use Rattle.air_field.specs.Term.{Term}
 use Rattle.air_field.specs.Part.{Part, whole, in_add_left, in_add_right, in_sub_left, in_sub_right, in_neg, in_mul_left, in_mul_right}
 use Rattle.air_builder.specs.laws.Parts.{part_of_in}
@@ -20,8 +19,8 @@ use Rattle.air_builder.specs.Assertion.{Assertion}
 use Rattle.air_builder.specs.Refusals.{PartOf}
 use Rattle.air_symbolic.specs.Reach.{IsOperand, ReachedFrom, root, operand}
 use Rattle.p3_air.specs.declared.flat.step.Step.{Step}
-use Rattle.p3_air.specs.Plans.{number_at, has_operand, some_has_operand, IsUsed, IsPlan}
-use Rattle.p3_air.specs.Tables.{HasAt, TableMade}
+use Rattle.p3_air.specs.Plans.{number_at, has_operand, some_has_operand, IsPlan}
+use Rattle.p3_air.specs.Tables.{TableMade}
 
 -- an operand's term is a part of the node's
 module _ {A F : Type 0} (f : A → Term F) (at : ℕ → Tree A) where

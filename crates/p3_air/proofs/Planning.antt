@@ -1,6 +1,6 @@
 -- The plan of roots.
 use Rattle.std.specs.List.{AllZip, list_any}
-use Rattle.std.proofs.Common.{◌≡◌, ◌⊎◌, ◌≤◌, ◌||◌, ℕ, zero, suc, ◌+◌, ◌<◌, List, [], ◌∷◌, length, get_or, All, Bool, true, false, eqb, Option, None, Some, inl, inr, refl, sym, subst, ap, ◌∙◌, arith, ⊎_elim}
+use Rattle.std.proofs.Common.{◌≡◌, ◌⊎◌, ◌≤◌, ◌||◌, ℕ, zero, suc, ◌<◌, List, [], ◌∷◌, length, get_or, All, Bool, true, false, eqb, Option, None, Some, inl, inr, refl, sym, subst, ap, ◌∙◌, arith, ⊎_elim}
 use Rattle.std.proofs.lemmas.List.Folds.{list_any_at}
 use Rattle.std.proofs.Math.ListN.{get_or-eq_default}
 use Rattle.std.proofs.lemmas.List.{get_or_default}
@@ -11,7 +11,7 @@ use Rattle.air_symbolic.specs.declared.pools.expr.SymbolicExpr.{SymbolicExpr}
 use Rattle.air_symbolic.specs.declared.pools.expr.SymbolicExpr.TheVariants as node
 use Rattle.p3_air.specs.declared.flat.step.Step.{Step}
 use Rattle.p3_air.specs.declared.flat.step.Step.TheVariants as step
-use Rattle.p3_air.specs.Plans.{number_at, IsPlaceOf, StepMakes, MakesPlace, AreSteps, has_operand, some_has_operand, IsUsed, IsPlan, AreNumbered}
+use Rattle.p3_air.specs.Plans.{number_at, IsPlaceOf, StepMakes, AreSteps, has_operand, some_has_operand, IsUsed, IsPlan, AreNumbered}
 
 -- operands below k
 pub each_below : {A : Type 0} (P Q : ℕ → Type 0) (k : ℕ) (n : SymbolicExpr A) → ((i : ℕ) → i < k → P i → Q i) → OperandsBelow k n → EachOperand P n → EachOperand Q n

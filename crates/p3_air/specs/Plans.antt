@@ -1,9 +1,9 @@
 -- How the expressions of roots are made, one after another.
 use Rattle.std.specs.List.{AllZip, list_any}
-use Rattle.std.specs.Prelude.{◌≡◌, ◌||◌, ℕ, ◌<◌, List, length, get_or, All, Bool, false, eqb, Option, None, Some, IsTrue, IsSome}
+use Rattle.std.specs.Prelude.{◌≡◌, ◌||◌, ℕ, ◌<◌, List, length, get_or, All, Bool, false, eqb, Option, None, Some}
 use Rattle.air_symbolic.specs.Leaves.{Leaves}
 use Rattle.air_symbolic.specs.Nodes.{node_at, IsNode}
-use Rattle.air_symbolic.specs.Reach.{Marked, EachOperand}
+use Rattle.air_symbolic.specs.Reach.{Marked}
 use Rattle.air_symbolic.specs.declared.pools.expr.SymbolicExpr.{SymbolicExpr}
 use Rattle.air_symbolic.specs.declared.pools.expr.SymbolicExpr.TheVariants as node
 use Rattle.p3_air.specs.declared.flat.step.Step.{Step}

@@ -38,7 +38,7 @@ pub trait Family<AB: AirBuilder> {
     ghost asserts_at: { Self → ℕ → (Term AB.F → Term AB.F) → (Term AB.F → Term AB.F) → List
         (Assertion AB.F) };
 
-    /// What they hold ready-made is of the builder, and means what it should there.
+    /// Every expression inside that was made before was made by this builder, and still means its value's term there.
     ghost family_holds: { Self → AB → Type 0 } = { λ _ _. ⊤ };
 
     /// How many there are.

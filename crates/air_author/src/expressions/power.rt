@@ -17,10 +17,10 @@ pub(crate) fn multiplied<F: Field, R: Algebra<F>>(
 ) -> Result<R::Elem, RingError>
     requires { R.has ring.old x }
     ensures extended { R.extends ring.old ring.new }
-    ensures made { IfOk result (MadeOf R.has R.means (λ t. power_term F.ring.one t (suc more)) ring.old
-        ring.new x) }
-    ensures refused { IfErr result (RefusedOf R.means R.refuses (λ t. power_term F.ring.one t (suc more))
-        ring.old x) }
+    ensures made { IfOk result (MadeOf R.has R.means
+        (λ t. power_term F.ring.one t (suc more)) ring.old ring.new x) }
+    ensures refused { IfErr result (RefusedOf R.means R.refuses
+        (λ t. power_term F.ring.one t (suc more)) ring.old x) }
 {
     let mut total = x;
     for done in 0..more {

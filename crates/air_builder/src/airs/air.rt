@@ -15,8 +15,8 @@ use air_core::periodic::{periodic_matrix, periodic_row};
 use air_field::RowMajorMatrix;
 use std::alloc::Global;
 
-/// What an AIR says of itself. Every answer is a function of the AIR's value, want of memory apart; of a list or hint of its
-/// own only what an implementation states at its method.
+/// What an AIR says of itself. Every answer is a function of the AIR's value, want of memory apart; of a list or hint
+/// of its own only what an implementation states at its method.
 pub trait BaseAir<F: Copy> {
     /// Its constraints, in order: base or extension terms, the same for all builders; the numbers of columns and of
     /// public values; and the preprocessed table, the periodic columns and the boundary cells.
@@ -89,6 +89,12 @@ pub trait BaseAir<F: Copy> {
 
     /// The columns of the main trace whose next row the constraints read: all of them, where the AIR has no list of its
     /// own. It refuses for want of memory alone.
+    ///
+    /// # Correctness
+    ///
+    /// A prover opens the next row of these columns alone. A column that a constraint reads there and that a list of
+    /// the AIR's own leaves out makes proofs fail, or is bound by nothing: proofs may then be accepted of traces that
+    /// break the constraint. No check here compares the list with the constraints.
     fn main_next_row_columns(&self, alloc: Global) -> Result<Vec<usize>, AirError>
         ensures all { (has_own_next_row_columns self.now → ⊥) → IfOk result
             (λ columns. columns.items ≡ range_with_len 0 (declaration self.now).width) }
@@ -99,6 +105,10 @@ pub trait BaseAir<F: Copy> {
 
     /// The columns of the preprocessed table whose next row the constraints read: all of them, where the AIR has no
     /// list of its own. It refuses for want of memory alone.
+    ///
+    /// # Correctness
+    ///
+    /// As for [`BaseAir::main_next_row_columns`].
     fn preprocessed_next_row_columns(&self, alloc: Global) -> Result<Vec<usize>, AirError>
         ensures all { (has_own_preprocessed_columns self.now → ⊥) → IfOk result
             (λ columns. columns.items ≡ range_with_len 0
@@ -108,25 +118,45 @@ pub trait BaseAir<F: Copy> {
         columns_below(alloc, self.preprocessed_width())
     }
 
-    /// How many constraints the AIR has, where it says so.
+    /// How many constraints the AIR has, where it says so, base and extension ones together. Who reads it needn't
+    /// record the AIR to count them.
+    ///
+    /// # Correctness
+    ///
+    /// It has to be the exact number of constraints that `eval` asserts. A prover that weighs the constraints by powers
+    /// of alpha takes the number on trust: with another one its proofs are invalid. No check here compares the two.
     fn num_constraints(&self) -> Option<usize>
         ensures { (has_own_constraint_count self.now → ⊥) → result ≡ None }
     {
         None
     }
 
-    /// A bound on the constraints' degree, where the AIR gives one.
+    /// A bound on the constraints' degree, where the AIR gives one. Nothing here reads it: degrees are inferred from
+    /// what is recorded. A prover that takes the greater of both does no harm with too small a bound, and more work
+    /// with too great a one.
     fn max_constraint_degree(&self) -> Option<usize>
         ensures { (has_own_degree_bound self.now → ⊥) → result ≡ None }
     {
         None
     }
 
-    /// The cells of the main trace that hold public values.
+    /// The cells of the main trace that are to hold public values.
+    ///
+    /// # Correctness
+    ///
+    /// To list a cell binds nothing by itself: no constraint is asserted for it. A check or an audit compares it with
+    /// its public value, and so may a prover; one that knows no such cells proves nothing of them. Where that matters
+    /// assert the equality, under the first or the last row. An AIR inside another lists its cells with its own
+    /// columns: who takes it in has to list them anew, with the columns that they then have.
     fn public_boundary_io(&self) -> &[BoundaryPublic]
         ensures { result.now ≡ (declaration self.now).cells };
 
     /// Whether the AIR is sound only where each cell of the main trace is a bit, which its constraints don't enforce.
+    ///
+    /// # Correctness
+    ///
+    /// It is advice: no prover, check or audit reads it. Who proves an AIR that says true has to see to the bits, by a
+    /// commitment that can hold nothing else, or else refuse it.
     fn assumes_boolean_trace(&self) -> bool
         ensures { (has_own_boolean_trace self.now → ⊥) → result ≡ false }
     {

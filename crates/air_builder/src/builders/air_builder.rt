@@ -32,7 +32,9 @@ pub(crate) fn less_one<F: Field, R: Algebra<F>>(
     ring.sub(x, one)
 }
 
-/// Receives the constraints of an AIR.
+/// Receives the constraints of an AIR, which is written once against this interface: a builder records them as
+/// expressions, evaluates them on a row, or folds their values. What it is at decides how it reads a leaf; that an
+/// assertion adds its term to the list, and nothing else, holds of each.
 pub trait AirBuilder {
     /// The field of the trace.
     type F: Field;
@@ -67,7 +69,7 @@ pub trait AirBuilder {
     /// The builder with another ring.
     ghost with_ring: { Self → Self.Ring → Self };
 
-    /// What stands at a leaf.
+    /// How this builder reads a leaf: as itself where constraints are recorded, as a constant where a row is evaluated.
     ghost stands: { Self → Leaf → Term Self.F };
 
     /// The builder's ring is as the builder left it, or extends it.

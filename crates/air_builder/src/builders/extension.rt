@@ -12,7 +12,8 @@ use crate::builders::seen::{Seen, SeenExt, SeenOver};
 use air_core::errors::AirError;
 use air_field::{Algebra, ExtAlgebra, ExtensionField, FromVar};
 
-/// Receives base and extension constraints. Both kinds stand in one order of places.
+/// Receives base and extension constraints. Both share one counter: the place of a failure, and the power of alpha that
+/// weighs a constraint, count both kinds.
 pub trait ExtensionBuilder: AirBuilder {
     /// The extension of the trace's field.
     type EF: ExtensionField<Self::F>;

@@ -19,8 +19,8 @@ use air_field::Algebra;
 
 /// Receives constraints with names.
 ///
-/// A named assertion is the growth of the one without a name, and a refused one leaves the builder as that does. A text
-/// that a builder keeps for an assertion is one that its name displays. The name must be one that may be evaluated.
+/// Labels are for people: they change no value, place or refusal. A builder that keeps labels evaluates a name only
+/// where its assertion fails, and keeps a text that the name displays. The name must be one that may be evaluated.
 pub trait NamedAirBuilder: AirBuilder {
     /// The builder grew by a list of assertions under labels.
     ghost labelled: { Self → Self → List (Labelled Self.F) → Type 0 };

@@ -80,8 +80,8 @@ impl<M: BinomialModulus> ExtensionField<Residue<M>> for BinomialExtension<M> {
     // the product of the polynomials, reduced by X^4 = w: w1, w2, w3 stand where a power passes X^3
     fn mul(self, other: Self) -> Self
         ensures product { result ≡ binomial_product M.W self other }
-        ensures coefficients { IsProductModulo (residue_ring M.Modulus) (residue_class M.Modulus M.W)
-            self.value other.value result.value }
+        ensures coefficients { IsProductModulo (residue_ring M.Modulus)
+            (residue_class M.Modulus M.W) self.value other.value result.value }
     {
         let a = self.value;
         let [b0, b1, b2, b3] = other.value;

@@ -10,8 +10,11 @@ use crate::errors::RingError;
 use crate::fields::field::Field;
 use crate::fields::power::power_of;
 
-/// A ring that makes its elements. What is an element stays one, and what it means stays. Its calls take only elements
-/// of this ring, as [`contains`](Algebra::contains) tells.
+/// A ring whose elements are made by calls, as in an arena: values of `Elem` are handles. A handle stays valid and
+/// keeps its meaning, whatever is made later. The calls take only handles of this ring, as
+/// [`contains`](Algebra::contains) tells.
+///
+/// They are calls and no operators, since to make an element may take memory.
 pub trait Algebra<F: Field> {
     /// The ring's elements.
     type Elem: Copy;

@@ -1,4 +1,4 @@
-//! The folder keeps the laws of builders.
+//! The folder as a builder: an expression is its value, and an assertion adds the value to the sum times alpha.
 ghost use Rattle.std.specs.Prelude.{◌≡◌, ⊤};
 ghost use Rattle.air_folder.specs.Folder.{folder_stands, FolderMissing, FolderRefuses};
 ghost use Rattle.air_folder.specs.laws.Folder.{folder_laws};

@@ -13,7 +13,8 @@ use air_field::{Algebra, Field, RingError};
 use std::alloc::{AllocError, Global};
 use std::marker::Model;
 
-/// A constant and columns with their weights.
+/// A constant and columns with their weights: a column that stands in no trace, as a key of a lookup or the packed
+/// input of a gadget.
 #[derive(Debug, Drop)]
 pub struct VirtualPairCol<F> {
     column_weights: Vec<(PairCol, F)>,
@@ -116,14 +117,14 @@ impl<F: Field> VirtualPairCol<F> {
         Ok(Self::new(columns, constant))
     }
 
-    /// One on every row.
+    /// The constant column 1.
     pub fn one(alloc: Global) -> Self
         ensures { result ≡ combination [] F.ONE }
     {
         Self::constant(alloc, F::ONE)
     }
 
-    /// The same on every row.
+    /// The constant column `x`.
     pub fn constant(alloc: Global, x: F) -> Self
         ensures { result ≡ combination [] x }
     {

@@ -7,12 +7,19 @@ use air_builder::{AirError, BaseAir};
 /// How many entries of each kind a symbolic builder has; by default none.
 #[derive(Clone, Copy, Debug, Default, PartialEq, Eq)]
 pub struct AirLayout {
+    /// Columns of the preprocessed table: [`BaseAir::preprocessed_width`].
     pub preprocessed_width: usize,
+    /// Columns of the main trace: [`BaseAir::width`].
     pub main_width: usize,
+    /// Public values: [`BaseAir::num_public_values`].
     pub num_public_values: usize,
+    /// Columns of the permutation trace, over the extension.
     pub permutation_width: usize,
+    /// Challenges that the permutation's constraints draw.
     pub num_permutation_challenges: usize,
+    /// Values that the permutation argument exposes, such as the ends of its sums.
     pub num_permutation_values: usize,
+    /// Periodic columns: [`BaseAir::num_periodic_columns`].
     pub num_periodic_columns: usize,
 }
 
@@ -33,8 +40,13 @@ impl AirLayout {
     }
 
     /// Compares the counts that the AIR determines with the layout's: main width, then public values, then periodic
-    /// columns. The preprocessed width is not compared, since the preprocessed trace itself decides it. It takes no
-    /// memory.
+    /// columns. It takes no memory.
+    ///
+    /// # Correctness
+    ///
+    /// The preprocessed width isn't compared: prover and verifier take it from the table that was committed to, which
+    /// may be wider than the AIR says, or absent. A recording by a layout that is narrower than the constraints'
+    /// columns is refused; one that is wider than the committed table is for the caller to notice.
     pub fn validate_against_air<F: Copy, A: BaseAir<F>>(&self, air: &A) -> Result<(), AirError>
         ensures fits { OnOk result (FitsAir self.now (A.declaration air.now)) }
         ensures refused { IfErr result (LayoutRefuses self.now (A.declaration air.now)) }

@@ -1,4 +1,4 @@
-//! The symbolic builder keeps the laws of builders.
+//! The symbolic builder as a builder: an expression is a number of the pool, and an assertion records it at its place.
 ghost use Rattle.std.specs.Prelude.{◌≡◌, [], refl};
 ghost use Rattle.air_field.specs.Term.{leaf_term};
 ghost use Rattle.air_field.specs.Degree.{cached_weight};

@@ -74,14 +74,14 @@ fn table_pair<'a, F: Field>(table: Option<&'a RowMajorMatrix<F>>, row: usize) ->
     }
 }
 
-/// What rows gave.
+/// The rows checked so far: every failure, and how many constraints one row asserts.
 #[derive(Drop)]
 pub(crate) struct RowOutcome {
     pub(crate) failures: Vec<ConstraintFailure>,
     pub(crate) constraints: usize,
 }
 
-/// What the rows gave that a builder has been at.
+/// Ends a check: takes the failures and the last row's counter out of the builder.
 fn outcome_of<F: SelfExtension>(builder: DebugConstraintBuilder<'_, F, F>) -> RowOutcome
     ensures failures { result.failures ≡ builder.entry.failures }
     ensures constraints { result.constraints ≡ builder.entry.constraint_index }

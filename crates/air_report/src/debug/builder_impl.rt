@@ -1,4 +1,5 @@
-//! The debug builder keeps the laws of builders.
+//! The debug builder as a builder: an expression is its value at the row; an assertion is counted, and is a failure if
+//! the value isn't zero.
 ghost use Rattle.std.specs.Prelude.{◌≡◌, refl, ⊤, OnOk};
 ghost use Rattle.air_builder.specs.Assertion.{Base};
 ghost use Rattle.air_builder.specs.Batches.{AssertsOf};

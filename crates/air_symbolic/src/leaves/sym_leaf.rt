@@ -29,7 +29,7 @@ pub trait SymLeaf: Copy + Eq + Ord + Debug {
     /// How many nodes lie under the pool.
     ghost nodes_under: { Self.Under → ℕ };
 
-    /// By this weight what lies under the pool has these degrees, by number.
+    /// The list holds, for each number of what lies under the pool, its degree by this weight.
     ghost has_degrees: { Self.Under → LeafWeight → List (Result ℕ RingError) → Type 0 };
 
     /// What lies under a new pool.

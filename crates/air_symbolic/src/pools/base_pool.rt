@@ -13,7 +13,8 @@ use crate::pools::pool::ExprPool;
 use air_core::{BaseEntry, SymbolicVariable};
 use air_field::{Field, FromVar, RingError};
 
-// Where a leaf is looked for first: leaves that are used together have places of their own.
+// The place of a leaf in the memory of `leaf_at`. Columns of both rows interleave, and the selectors have the last
+// three places; leaves that share one cost a search of the map and nothing else.
 fn place_of<F>(a: &BaseLeaf<F>) -> usize {
     match a {
         BaseLeaf::Variable(v) => match v.entry {

@@ -20,7 +20,8 @@ fn is_newest<A: Copy>(x: ExprId<A>, count: usize) -> bool
     count.checked_sub(1) == Some(x.number())
 }
 
-// Whether a node names the newest of so many, which none of these does: they name older ones than themselves.
+// Whether a node names the newest number. Then the pool can't have it yet, since operands are older than their node,
+// and the search is spared.
 fn names_newest<A: SymLeaf>(node: &SymbolicExpr<A>, count: usize) -> bool
     ensures { result ≡ true → (i : ℕ) → i < count → OperandsBelow i node.now → ⊥ }
 {
@@ -47,7 +48,7 @@ fn number_of<A: SymLeaf>(nodes: &NodeTable<A>, node: &SymbolicExpr<A>) -> Option
 }
 
 impl<A: SymLeaf> ExprPool<A> {
-    // The number of an equal node, or of one more.
+    // The number of the equal node if there is one, else of a new node: each expression is held once.
     pub(crate) fn insert(&mut self, node: SymbolicExpr<A>) -> Result<ExprId<A>, RingError>
         requires pool { IsPool A.reads self.old }
         requires fits { NodeFits (A.reads self.old.0) self.old.1 node }
@@ -79,7 +80,7 @@ impl<A: SymLeaf> ExprPool<A> {
         self.insert(SymbolicExpr::Leaf(a))
     }
 
-    // The same, looked for first where the last leaf of a place was.
+    // `leaf`, behind a memory of 256 places: columns are read in every constraint, and this spares the map's search.
     pub(crate) fn leaf_at(&mut self, place: usize, a: A) -> Result<ExprId<A>, RingError>
         requires pool { IsPool A.reads self.old }
         requires valid { (A.reads self.old.0).valid a }

@@ -65,8 +65,8 @@ impl<F: Field, EF: ExtensionField<F>> ExprPool<ExtLeaf<F, EF>> {
         false
     }
 
-    // What stands for a number in the base pool, out of the base numbers of its operands: a node to insert, with the
-    // same degree, or of a leaf the number that is there.
+    // The counterpart of a node in the base pool: a Base leaf has one already; any other node is made anew of its
+    // operands' counterparts, with the same degree.
     fn over_base(
         &self,
         id: ExprId<ExtLeaf<F, EF>>,

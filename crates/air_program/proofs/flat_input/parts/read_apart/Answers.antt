@@ -1,8 +1,7 @@
-use Rattle.std.proofs.Common.{◌≡◌, ◌≢◌, ◌-◌, ◌<◌, length, Some, None, codes, string_bytes, refl, sym, ap, subst, ◌∙◌, arith, rules}
+use Rattle.std.proofs.Common.{◌≡◌, ◌≢◌, ◌-◌, length, Some, codes, string_bytes, refl, sym, ap, subst, ◌∙◌, arith, rules}
 use Rattle.json.specs.Json.{read_key, members, value}
 use Rattle.json.proofs.Grammar.{read_key-shorter}
 use Rattle.serde_json.specs.Data.{put, no_members}
-use Rattle.serde_json.specs.Read.{of_members, converted}
 use Rattle.serde_json.specs.View.{view, members_view}
 use Rattle.serde_json.proofs.Views.{members_view-insert_entry}
 use Rattle.air_program.specs.Parts.{AreMembersOf}

@@ -2,8 +2,7 @@ use Rattle.std.proofs.Common.{◌≡◌, [], length, Some, None, ap, ◌∙◌, 
 use Rattle.json.specs.Json.{parse_map, after_end_array, items, value}
 use Rattle.serde_json.specs.Read.{of_items, converted}
 use Rattle.serde_json.specs.View.{view, items_of}
-use Rattle.air_program.specs.Parts.{AreGiven}
-use Rattle.air_program.specs.Readers.{each_from, tree}
+use Rattle.air_program.specs.Readers.{each_from}
 use Rattle.air_program.proofs.PartLemmas.{one_list_more}
 use Rattle.air_program.proofs.TokenLemmas.{data_before, data_before-no_items, item_refused, items_over, none_before}
 use Rattle.air_program.proofs.flat_input.parts.read_lists.Goals as goal

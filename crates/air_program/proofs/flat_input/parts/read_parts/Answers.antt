@@ -2,7 +2,7 @@ use Rattle.std.proofs.Common.{◌≡◌, ◌-◌, [], ◌∷◌, length, ap, ap�
 use Rattle.json.specs.Json.{parse_map, members, value}
 use Rattle.json.specs.Reads.{token_of}
 use Rattle.json.proofs.Grammar.{value_is, value-begin_object}
-use Rattle.serde_json.specs.Data.{object, no_members}
+use Rattle.serde_json.specs.Data.{object}
 use Rattle.serde_json.specs.Read.{of_json, converted}
 use Rattle.air_program.proofs.PartLemmas.{parts_of_members}
 use Rattle.air_program.proofs.TokenLemmas.{converted-object}

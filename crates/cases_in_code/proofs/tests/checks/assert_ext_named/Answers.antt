@@ -1,4 +1,4 @@
-use Rattle.std.proofs.Common.{[], subst, sym}
+use Rattle.std.proofs.Common.{subst, sym}
 use Rattle.cases_in_code.proofs.tests.checks.assert_ext_named.Goals as goal
 
 pub assert_zero_ext_named-requires-clause-of_ring : goal.assert_zero_ext_named-requires-clause-of_ring

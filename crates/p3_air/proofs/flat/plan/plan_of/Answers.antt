@@ -1,7 +1,6 @@
 use Rattle.std.specs.List.{AllZip}
 use Rattle.std.proofs.Common.{◌≡◌, ◌<◌, length, get_or, All, subst, sym}
 use Rattle.air_symbolic.specs.BaseLeaves.{base_leaves}
-use Rattle.air_symbolic.specs.Reach.{Reached}
 use Rattle.p3_air.specs.Plans.{AreSteps, AreNumbered}
 use Rattle.p3_air.proofs.Planning.{numbers_here, is_plan}
 use Rattle.p3_air.proofs.flat.plan.plan_of.Goals as goal

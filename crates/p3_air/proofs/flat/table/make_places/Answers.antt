@@ -1,4 +1,4 @@
-use Rattle.std.proofs.Common.{◌≡◌, ◌<◌, ℕ, [], ◌∷◌, length, get_or, map, inr, arith, sym, subst, ap}
+use Rattle.std.proofs.Common.{◌≡◌, ◌<◌, [], length, get_or, map, inr, arith, sym, subst, ap}
 use Rattle.std.proofs.lemmas.Result.{err_from_is_err_and}
 use Rattle.std.proofs.lemmas.List.{length_push}
 use Rattle.std.proofs.lemmas.List.Elements.{All-map}
@@ -6,7 +6,6 @@ use Rattle.air_symbolic.specs.BaseLeaves.{base_leaves, base_reads}
 use Rattle.air_symbolic.specs.Pools.{term_at}
 use Rattle.air_builder.specs.Builders.{Means}
 use Rattle.air_builder.specs.Refusals.{PartOf}
-use Rattle.air_author.specs.Expressions.{Made}
 use Rattle.p3_air.specs.Plans.{number_at, MakesPlace}
 use Rattle.p3_air.specs.declared.flat.step.Step.TheVariants as step
 use Rattle.p3_air.specs.Tables.{IsMade, TableMade}

@@ -1,4 +1,4 @@
-use Rattle.std.proofs.Common.{ℕ, ◌<◌, length, map, get_or, All, subst, sym, arith}
+use Rattle.std.proofs.Common.{ℕ, ◌<◌, length, get_or, All, subst, sym}
 use Rattle.std.proofs.lemmas.Result.{err_from_is_err_and}
 use Rattle.air_symbolic.specs.BaseLeaves.{base_reads}
 use Rattle.air_symbolic.specs.Pools.{term_at}

@@ -1,6 +1,5 @@
-use Rattle.std.proofs.Common.{◌≡◌, ◌≢◌, ◌++◌, ◌∷◌, [], ℕ, length, Some, sym, ap, subst, ◌∙◌}
+use Rattle.std.proofs.Common.{◌≡◌, ◌≢◌, ◌++◌, ◌∷◌, [], ℕ, length, Some, sym, ap, ◌∙◌}
 use Rattle.std.specs.List.{slice_get}
-use Rattle.air_symbolic.specs.Numbering.{AreNumbered, Entered}
 use Rattle.air_symbolic.proofs.Pushed.{numbered-leaf, numbered-sum, numbered-difference, numbered-negative, numbered-product}
 use Rattle.air_symbolic.proofs.pools.node_table.NodeTable.push.Goals.{in-Leaf+in_ok-enter-in-Leaf, in-Add+in_ok-enter-in-Add, in-Sub+in_ok-enter-in-Sub, in-Neg+in_ok-enter-in-Neg, in-Mul+in_ok-enter-in-Mul}
 use Rattle.air_symbolic.proofs.pools.node_table.NodeTable.push.Goals as goal
