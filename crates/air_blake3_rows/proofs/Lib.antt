@@ -6,3 +6,4 @@ mod Pushes
 mod EmptyReports
 mod Checked
 mod WholeTraces
+mod LastBlock
