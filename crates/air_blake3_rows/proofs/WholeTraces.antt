@@ -1,14 +1,11 @@
 -- The rows of a whole trace.
-use Rattle.std.proofs.Common.{◌≡◌, ◌+◌, ◌*◌, ◌^◌, ◌<◌, ◌++◌, ℕ, zero, suc, List, [], ◌∷◌, length, map, get_or, slice_get, Some, Ok, Result, refl, sym, ◌∙◌, ap, subst, arith}
+use Rattle.std.proofs.Common.{◌≡◌, ◌+◌, ◌*◌, ◌<◌, ◌++◌, ℕ, zero, suc, List, [], ◌∷◌, length, map, slice_get, Some, Ok, refl, sym, ◌∙◌, ap, subst, arith}
 use Rattle.std.proofs.Math.Nat.{mul_comm}
-use Rattle.std.proofs.lemmas.List.Elements.{All-map}
-use Rattle.std.proofs.lemmas.List.FromFn.{get_or-map-range_with_len, get_or-range_with_len, length-map-range_with_len, length-range_with_len, map-range_with_len_more}
+use Rattle.std.proofs.lemmas.List.FromFn.{get_or-map-range_with_len, length-map-range_with_len, map-range_with_len_more}
 use Rattle.std.proofs.lemmas.Option.{slice_get-get_or}
 use Rattle.std.specs.List.{All, range_with_len}
-use Rattle.air_field.specs.Grid.{Grid, rows_of}
+use Rattle.air_field.specs.Grid.{rows_of}
 use Rattle.air_field.specs.Matrix.{matrix_of}
-use Rattle.air_field.specs.Ring.{CommRing}
-use Rattle.air_field.specs.declared.errors.MatrixError.{MatrixError}
 use Rattle.air_field.specs.laws.Rows.{matrix_of_rows, rows_of-more}
 use Rattle.air_author.specs.Constraints.{asserts_of_first}
 use Rattle.air_blake3_rows.proofs.Standing.{length-first}

@@ -1,5 +1,5 @@
 -- A whole trace of blocks.
-use Rattle.std.specs.Prelude.{◌≡◌, ℕ, ◌-◌, ◌*◌, ◌^◌, ◌<◌, ◌≤◌, min, List, [], length, replicate, slice_get, slice_index, slice_index_or, Some}
+use Rattle.std.specs.Prelude.{◌≡◌, ℕ, ◌-◌, ◌*◌, ◌^◌, ◌<◌, ◌≤◌, min, List, length, replicate, slice_get, slice_index, slice_index_or, Some}
 use Rattle.std.specs.List.{All}
 use Rattle.std.specs.Int.{IsNextPowerOfTwo}
 use Rattle.air_field.specs.Grid.{Grid}

@@ -2,7 +2,7 @@ use Rattle.std.proofs.Common.{◌≡◌, ◌+◌, ◌++◌, ◌∷◌, [], ◌�
 use Rattle.std.proofs.lemmas.List.{map-append}
 use Rattle.std.proofs.lemmas.List.FromFn.{map-range_with_len_more}
 use Rattle.std.specs.List.{range_with_len}
-use Rattle.blake3.specs.Compression.{Block, compress}
+use Rattle.blake3.specs.Compression.{compress}
 use Rattle.blake3.specs.Hashing.{block_at, block_count, chained, first_words}
 use Rattle.air_blake3_rows.specs.Traces.{block_in}
 use Rattle.air_blake3_rows.proofs.LastBlock.{last_ends}

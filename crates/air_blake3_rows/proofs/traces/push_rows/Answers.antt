@@ -1,4 +1,4 @@
-use Rattle.std.proofs.Common.{◌++◌, ◌<◌, ◌∙◌, ℕ, ap, subst, below_more, arith}
+use Rattle.std.proofs.Common.{◌++◌, ◌∙◌, ap, subst, below_more, arith}
 use Rattle.blake3.specs.Sizes.{AreBlockWords}
 use Rattle.air_blake3_rows.specs.Traces.{block_for, block_in}
 use Rattle.air_blake3_rows.specs.Values.{block_row}

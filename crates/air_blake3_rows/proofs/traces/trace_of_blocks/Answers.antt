@@ -1,4 +1,4 @@
-use Rattle.std.proofs.Common.{◌≡◌, ◌<◌, ◌++◌, ◌∙◌, ℕ, List, [], length, map, Ok, Err, sym, ap, subst, lit<}
+use Rattle.std.proofs.Common.{◌≡◌, ◌++◌, ◌∙◌, ℕ, List, [], length, map, Ok, Err, sym, ap, subst, lit<}
 use Rattle.std.specs.List.{range_with_len}
 use Rattle.std.specs.Int.{IsNextPowerOfTwo}
 use Rattle.std.proofs.lemmas.List.FromFn.{length-map-range_with_len}
