@@ -1,17 +1,33 @@
--- A check that lists nothing.
-use Rattle.std.proofs.Common.{◌≡◌, ◌<◌, ℕ, [], map, Bool, None, sym, ◌∙◌, ap, inl, inr}
+-- Checks that list nothing.
+use Rattle.std.proofs.Common.{◌≡◌, ◌-◌, ◌<◌, ◌++◌, ℕ, zero, suc, List, [], ◌∷◌, map, take, get_or, slice_get, Bool, Option, Some, None, refl, sym, ◌∙◌, ap, ap₂, subst, inl, inr, arith}
 use Rattle.std.specs.Bool.{Decides}
 use Rattle.air_field.specs.Ring.{CommRing}
-use Rattle.air_field.specs.Assignment.{row_assignment}
+use Rattle.air_field.specs.Assignment.{leaf_value, row_assignment, row_at, row_or_none}
 use Rattle.air_field.specs.Grid.{Grid}
 use Rattle.air_gadgets.specs.Exact.{IsDomain, AllVanish}
 use Rattle.air_report.specs.Given.{Given, given_trace, height}
 use Rattle.air_report.specs.Report.{report_of, failure_place}
+use Rattle.air_report.specs.Cells.{cell_place, left_of}
 use Rattle.air_report.specs.Checks.{IsReport}
 use Rattle.air_report.specs.declared.checks.report.ConstraintReport.{ConstraintReport}
 use Rattle.air_blake3.specs.Holding.{CompressionIsSound}
-use Rattle.air_blake3_rows.specs.Checks.{given_compressions, HoldCompressions}
-use Rattle.air_blake3_rows.proofs.EmptyReports.{all_vanish, nothing_first}
+use Rattle.air_blake3.specs.Row.{compression}
+use Rattle.air_blake3_rows.specs.Checks.{given_compressions, HoldCompressions, ReportsListNothing}
+use Rattle.air_blake3_rows.specs.Traces.{AreCompressionRows}
+use Rattle.air_blake3_rows.proofs.EmptyReports.{all_vanish, none_reported, nothing_first, unmapped}
+
+none_left : {X : Type 0} (cap : Option ℕ) (n : ℕ) → left_of {X = X} cap n [] ≡ []
+none_left None n = refl
+none_left {X} (Some k) n = none_taken (k - n)
+  where
+    none_taken : (m : ℕ) → take m (let xs : List X = [] in xs) ≡ []
+    none_taken zero = refl
+    none_taken (suc m) = refl
+
+row_there : {F : Type 0} (rows : List (List F)) (row : ℕ) → row_or_none (slice_get rows row) ≡ get_or rows row []
+row_there [] row = refl
+row_there (x ∷ rows) zero = refl
+row_there (x ∷ rows) (suc row) = row_there rows row
 
 module _ {F : Type 0} (r : CommRing F) (eq : F → F → Bool) (decides : (a b : F) → Decides (eq a b) (a ≡ b)) where
   -- each term is zero at each row
@@ -30,3 +46,17 @@ module _ {F : Type 0} (r : CommRing F) (eq : F → F → Bool) (decides : (a b :
   compressions_hold p domain sound main report h none big row l =
       let g = given_compressions r main in
       sound (row_assignment r (given_trace g) row) domain big (nothing_failed g report h none row l)
+
+  -- A report on a trace whose rows satisfy all constraints lists nothing.
+  pub compression_rows_pass : (main : Grid F) → AreCompressionRows r r.nil main → ReportsListNothing r eq main
+  compression_rows_pass main rows cap report h =
+      let g = given_compressions r main in
+      let t = given_trace g in
+      let vanish : (row : ℕ) → row < height g → AllVanish r (row_assignment r t row) (compression r) =
+      λ row l. subst (λ x. AllVanish r (leaf_value r.nil (record (row_at r t row) { current = x })) (compression r)) (sym (row_there main.rows row)) (rows row [] l (row_at r t row)) in
+      let empty : report_of r eq t (compression r) h.shown ≡ [] =
+      none_reported r eq decides t (compression r) h.shown (λ row l. vanish row (omega (arith, h.ran.rows.within))) in
+      let own : h.of_rows ≡ [] = unmapped failure_place h.of_rows (h.places ∙ empty) in
+      let more : h.lists.more ≡ [] =
+      unmapped failure_place h.lists.more (h.lists.places ∙ ap (map (cell_place (height g) _)) (none_left cap _)) in
+      h.lists.failures ∙ ap₂ (λ xs ys. xs ++ ys) own more

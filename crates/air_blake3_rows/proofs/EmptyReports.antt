@@ -1,5 +1,5 @@
--- Where a report is empty, all terms vanish at each row.
-use Rattle.std.proofs.Common.{◌≡◌, ◌<◌, ◌≤◌, ℕ, zero, suc, ◌+◌, List, [], ◌∷◌, ◌++◌, map, Bool, true, false, not, cond, refl, sym, subst, inl, inr, arith}
+-- A report is empty exactly if all terms vanish at each row.
+use Rattle.std.proofs.Common.{◌≡◌, ◌<◌, ◌≤◌, ℕ, zero, suc, ◌+◌, List, [], ◌∷◌, ◌++◌, map, Bool, true, false, not, cond, refl, sym, ◌∙◌, ap, subst, inl, inr, arith}
 use Rattle.std.specs.List.{filter, flat_map, range_with_len, enumerate_from}
 use Rattle.std.specs.Bool.{Decides}
 use Rattle.std.proofs.lemmas.Bool.{cases_lt}
@@ -16,7 +16,7 @@ pub nothing_first : {A : Type 0} (xs ys : List A) → xs ++ ys ≡ [] → (xs �
 nothing_first [] ys e = (refl, e)
 nothing_first (x ∷ xs) ys e = absurd (never_empty x (xs ++ ys) e)
 
-unmapped : {A B : Type 0} (f : A → B) (xs : List A) → map f xs ≡ [] → xs ≡ []
+pub unmapped : {A B : Type 0} (f : A → B) (xs : List A) → map f xs ≡ [] → xs ≡ []
 unmapped f [] e = refl
 unmapped f (x ∷ xs) e = absurd (never (f x) (map f xs) e)
   where
@@ -38,6 +38,16 @@ unfiltered : {A : Type 0} (f : A → Bool) (xs : List A) → filter f xs ≡ [] 
 unfolding Fails
 unfiltered f [] e = tt
 unfiltered f (x ∷ xs) e = fails_first f x xs (f x) refl e (unfiltered f xs)
+
+filtered : {A : Type 0} (f : A → Bool) (xs : List A) → Fails f xs → filter f xs ≡ []
+unfolding Fails
+filtered f [] h = refl
+filtered f (x ∷ xs) h = ap (λ b. cond b (x ∷ filter f xs) (filter f xs)) h.0 ∙ filtered f xs h.1
+
+fails_both : {A : Type 0} (f : A → Bool) (xs ys : List A) → Fails f xs → Fails f ys → Fails f (xs ++ ys)
+unfolding Fails
+fails_both f [] ys h k = k
+fails_both f (x ∷ xs) ys h k = (h.0, fails_both f xs ys h.1 k)
 
 module _ {F : Type 0} (r : CommRing F) (eq : F → F → Bool) (decides : (a b : F) → Decides (eq a b) (a ≡ b)) (trace : Trace F) where
   zero_of : (a : F) → not (eq a r.nil) ≡ false → a ≡ r.nil
@@ -72,3 +82,26 @@ module _ {F : Type 0} (r : CommRing F) (eq : F → F → Bool) (decides : (a b :
   pub all_vanish : (ts : List (Assertion F)) (h : ℕ) → report_of r eq trace ts h ≡ [] → (row : ℕ) → row < h → AllVanish r (row_assignment r trace row) ts
   all_vanish ts h e row l =
       rows_vanish ts 0 h (unfiltered (is_nonzero r eq trace) (all_places h ts) (unmapped place _ e)) row (omega arith) (omega arith)
+
+  is_zero : (a : F) → a ≡ r.nil → not (eq a r.nil) ≡ false
+  is_zero a e = ap not ((decides a r.nil).1 e)
+
+  row_fails : (row n : ℕ) (ts : List (Assertion F)) → AllVanish r (row_assignment r trace row) ts → Fails (is_nonzero r eq trace) (map (λ p. (row, p)) (enumerate_from n ts))
+  unfolding Fails
+  row_fails row n [] h = tt
+  row_fails row n (Base t ∷ ts) h = (is_zero _ h.0, row_fails row (n + 1) ts h.1)
+  row_fails row n (Extension t ∷ ts) h = (is_zero _ h.0, row_fails row (n + 1) ts h.1)
+
+  rows_fail : (ts : List (Assertion F)) (a n : ℕ) → ((row : ℕ) → a ≤ row → row < a + n → AllVanish r (row_assignment r trace row) ts)
+      → Fails (is_nonzero r eq trace) (flat_map (λ i. map (λ p. (i, p)) (enumerate_from 0 ts)) (range_with_len a n))
+  unfolding Fails
+  rows_fail ts a zero h = tt
+  rows_fail ts a (suc n) h =
+      fails_both (is_nonzero r eq trace) (map (λ p. (a, p)) (enumerate_from 0 ts)) (flat_map (λ i. map (λ p. (i, p)) (enumerate_from 0 ts)) (range_with_len (a + 1) n))
+      (row_fails a 0 ts (h a (omega arith) (omega arith)))
+      (rows_fail ts (a + 1) n (λ row low high. h row (omega arith) (omega arith)))
+
+  -- each term is zero at each row, so that the report lists nothing
+  pub none_reported : (ts : List (Assertion F)) (h : ℕ) → ((row : ℕ) → row < h → AllVanish r (row_assignment r trace row) ts) → report_of r eq trace ts h ≡ []
+  none_reported ts h vanish =
+      ap (map place) (filtered (is_nonzero r eq trace) (all_places h ts) (rows_fail ts 0 h (λ row low high. vanish row (omega arith))))

@@ -1,7 +1,9 @@
--- Lemmas on rows of compressions, and on checks that list nothing.
+-- Lemmas on rows of compressions, on whole traces of them, and on checks that list nothing.
 mod Digits
 mod Standing
 mod RowHolds
 mod Pushes
 mod EmptyReports
 mod Checked
+mod WholeTraces
+mod LastBlock

@@ -21,6 +21,11 @@ pub on_ok : {A E : Type 0} (r : Result A E) {P Q : Type 0} → (P → Q) → OnO
 on_ok (Ok x) f h = f h
 on_ok (Err e) f h = tt
 
+-- what holds anyway
+pub on_any : {A E : Type 0} (r : Result A E) {P : Type 0} → P → OnOk r P
+on_any (Ok x) h = h
+on_any (Err e) h = tt
+
 module _ {A : Type 0} (xs a b c d : List A) where
   pub joined_3 : ((xs ++ a) ++ b) ++ c ≡ xs ++ ((a ++ b) ++ c)
   joined_3 = ap (λ l. l ++ c) (append_assoc xs a b) ∙ append_assoc xs (a ++ b) c

@@ -107,6 +107,25 @@ length-input R b =
     length-two (l0 ++ l1) _ 640 272 (length-two l0 l1 512 128 (length-first (λ i. bit_values R (b.message i)) 32 (λ i. refl) 16) (length-first (λ i. bit_values R (b.chaining i)) 32 (λ i. refl) 4))
     (length-state R (diagonals (first_state b)))
 
+length-output : {F : Type 0} (R : CommRing F) (o : State) → length (output_values R o) ≡ 512
+unfolding output_values
+length-output R o =
+    let n5 = length-four R o.q0.a o.q1.a o.q2.a o.q3.a in
+    let n6 = length-two _ _ 128 128 n5 (length-four R o.q0.b o.q1.b o.q2.b o.q3.b) in
+    let n7 = length-two _ _ 256 128 n6 (length-four R o.q0.c o.q1.c o.q2.c o.q3.c) in
+    length-two _ _ 384 128 n7 (length-four R o.q0.d o.q1.d o.q2.d o.q3.d)
+
+pub length-block_row : {F : Type 0} (R : CommRing F) (b : Block) → length (block_row R b) ≡ 9168
+unfolding block_row
+length-block_row R b =
+    let x = first_state b in
+    let v = after_rounds x b.message 7 in
+    let f = λ (r : ℕ). round_values R (after_rounds x b.message r) (λ i. b.message (place_in r i)) in
+    let lengths = λ (r : ℕ). length-round R (after_rounds x b.message r) (λ i. b.message (place_in r i)) in
+    let n1 = length-two _ _ 912 7616 (length-input R b) (length-first f 1088 lengths 7) in
+    let n2 = length-two _ _ 8528 128 n1 (length-four R v.q0.c v.q1.c v.q2.c v.q3.c) in
+    length-two _ _ 8656 512 n2 (length-output R (compress b))
+
 module _ {F : Type 0} (R : CommRing F) (beside : RowValues F) (b : Block) (words : AreBlockWords b) where
   row_holds : HoldsRow R (holder R (block_row R b) beside) b
   unfolding block_row

@@ -1,12 +1,15 @@
 -- What a check of a trace of compressions says.
-use Rattle.std.specs.Prelude.{ℕ, ◌*◌, ◌^◌, ◌<◌, [], length}
+use Rattle.std.specs.Prelude.{◌≡◌, ℕ, ◌*◌, ◌^◌, ◌<◌, [], length, Bool, Option}
 use Rattle.air_field.specs.Assignment.{row_assignment}
 use Rattle.air_field.specs.Grid.{Grid}
 use Rattle.air_field.specs.Ring.{CommRing}
 use Rattle.air_builder.specs.Declaration.{plain_declaration}
 use Rattle.air_report.specs.Given.{Given, given, given_trace}
+use Rattle.air_report.specs.Checks.{IsReport}
+use Rattle.air_report.specs.declared.checks.report.ConstraintReport.{ConstraintReport}
 use Rattle.air_blake3.specs.Row.{compression}
 use Rattle.air_blake3.specs.Holding.{HoldsCompression}
+use Rattle.air_blake3_rows.specs.Traces.{AreCompressionRows}
 
 -- what a check of a trace of compressions is given
 abbrev pub given_compressions : {F : Type 0} → CommRing F → Grid F → Given F
@@ -21,3 +24,17 @@ AreCompressions R main =
 -- the same over a field of a great enough characteristic
 abbrev pub HoldCompressions : {F : Type 0} → CommRing F → ℕ → Grid F → Type 0
 HoldCompressions R characteristic main = 3 * 2 ^ 16 < characteristic → AreCompressions R main
+
+-- every exact report on a trace, under whatever cap, lists nothing
+abbrev pub ReportsListNothing : {F : Type 0} → CommRing F → (F → F → Bool) → Grid F → Type 0
+ReportsListNothing R eq main =
+    (cap : Option ℕ) (report : ConstraintReport)
+    → IsReport R eq (given_compressions R main) cap report → report.failures.items ≡ []
+
+-- it does so where each row satisfies all constraints, whatever stands beside it
+abbrev pub ReportsAreEmpty : {F : Type 0} → CommRing F → (F → F → Bool) → F → Type 0
+ReportsAreEmpty {F} R eq none = (main : Grid F) → AreCompressionRows R none main → ReportsListNothing R eq main
+
+-- the reports on a trace list nothing, over a field of a great enough characteristic
+abbrev pub ListNothing : {F : Type 0} → CommRing F → (F → F → Bool) → ℕ → Grid F → Type 0
+ListNothing R eq characteristic main = 3 * 2 ^ 16 < characteristic → ReportsListNothing R eq main

@@ -1,2 +1,4 @@
 pub mod Values
+pub mod Traces
 pub mod Checks
+pub mod Messages

@@ -1,21 +1,30 @@
 //! Checks of compressions.
 ghost use Rattle.std.specs.Prelude.{◌≡◌, true, IfOk};
-ghost use Rattle.air_blake3_rows.specs.Checks.{HoldCompressions};
+ghost use Rattle.air_blake3_rows.specs.Checks.{HoldCompressions, ReportsAreEmpty};
+ghost use Rattle.air_blake3_rows.specs.Traces.{AreCompressionRows};
 
 use air_blake3::{Compression, compression_is_sound};
 use air_builder::AirError;
-use air_field::{PrimeField, RowMajorMatrix};
+use air_field::{Field, PrimeField, RowMajorMatrix};
 use air_report::check_all_constraints;
 use std::alloc::Global;
 
+/// Every exact report on a trace, under whatever cap, lists nothing, where each row satisfies all constraints whatever
+/// stands beside it: as each row of `trace_of_blocks` does. So a check of such a trace, and an audit, lists nothing.
+pub fn report_is_empty<F: Field>()
+    ensures { ReportsAreEmpty F.ring F.eq F.ZERO }
+{}
+
 /// Whether a check of the trace lists no failure. If it lists none, at each row the columns named output hold the BLAKE3
-/// compression of the columns named input, over a field whose characteristic is above 3 · 2^16.
+/// compression of the columns named input, over a field whose characteristic is above 3 · 2^16. Where each row satisfies
+/// all constraints, whatever stands beside it, the check lists none.
 pub fn are_compressions<F: PrimeField + 'static>(
     alloc: Global,
     trace: &RowMajorMatrix<F>,
 ) -> Result<bool, AirError>
-    ensures { IfOk result (λ ok. ok ≡ true
+    ensures sound { IfOk result (λ ok. ok ≡ true
         → HoldCompressions F.ring F.CHARACTERISTIC trace.now) }
+    ensures complete { IfOk result (λ ok. AreCompressionRows F.ring F.ZERO trace.now → ok ≡ true) }
 {
     compression_is_sound::<F>();
     let report = check_all_constraints(alloc, &Compression {}, trace, &[], None)?;

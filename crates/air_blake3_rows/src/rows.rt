@@ -3,6 +3,7 @@ ghost use Rattle.std.specs.Prelude.{◌≡◌, ◌++◌, OnOk, IfOk, slice_index
 ghost use Rattle.air_author.specs.Constraints.{asserts_of_first};
 ghost use Rattle.blake3.specs.Compression.{after_rounds, columns_mixed, round};
 ghost use Rattle.blake3.specs.Blocks.{block_of, taken};
+ghost use Rattle.blake3.specs.Sizes.{AreBlockWords};
 ghost use Rattle.air_blake3_rows.specs.Values.{SatisfiesAll, block_row, columns_values, input_values, round_values};
 
 use crate::values::{Pushed, push_four, push_output, push_state, push_words};
@@ -71,6 +72,23 @@ fn push_input<F: Field>(
     push_state(values, first_state(chaining, message, rest).diagonals())
 }
 
+/// The row of a block is pushed.
+pub(crate) fn push_row<F: Field>(
+    values: &mut Vec<F>,
+    chaining: &[u32; 8],
+    message: &[u32; 16],
+    rest: &[u32; 4],
+) -> Pushed
+    ensures pushed { OnOk result (values.new.items ≡ values.old.items
+        ++ block_row F.ring (block_of chaining.now message.now rest.now)) }
+    ensures words { OnOk result (AreBlockWords (block_of chaining.now message.now rest.now)) }
+{
+    push_input(values, chaining, message, rest)?;
+    let last = push_rounds(values, first_state(chaining, message, rest), message)?;
+    push_four(values, last.q0.c, last.q1.c, last.q2.c, last.q3.c)?;
+    push_output(values, outputs(last, chaining))
+}
+
 /// The row of a block, of its chaining value, its message, and the two halves of the counter, the length and the flags.
 /// Over a field whose characteristic is above 3 · 2^16 it satisfies all constraints of `Compression`.
 pub fn row_of_block<F: PrimeField>(
@@ -86,9 +104,6 @@ pub fn row_of_block<F: PrimeField>(
 {
     compression_is_complete::<F>();
     let mut values = Vec::new(alloc);
-    push_input(&mut values, chaining, message, rest)?;
-    let last = push_rounds(&mut values, first_state(chaining, message, rest), message)?;
-    push_four(&mut values, last.q0.c, last.q1.c, last.q2.c, last.q3.c)?;
-    push_output(&mut values, outputs(last, chaining))?;
+    push_row(&mut values, chaining, message, rest)?;
     Ok(values)
 }

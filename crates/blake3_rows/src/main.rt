@@ -1,0 +1,100 @@
+//! Reads a message of at most 1,024 bytes from standard input, makes the trace of its blocks, and shows the message's
+//! digest, the rows and what an audit finds; with a row and a column as words, what it finds once that cell is spoilt.
+#![tactic(auto)]
+
+ghost use Rattle.std.specs.Prelude.{◌≤◌, ◌^◌, IfOk, length};
+
+mod findings;
+mod refusals;
+mod words;
+
+use findings::{Findings, findings_of};
+use p3_air::BabyBear;
+use refusals::Refusal;
+use std::io::{ErrorKind, Read};
+use std::process::ExitCode;
+use std::{env, io};
+use words::{Cell, cell_of};
+
+/// The words after the program's name.
+fn given_words(rt: &HostRuntime) -> io::Result<Vec<String>> {
+    let mut words = Vec::new(rt.alloc());
+    for word in env::args(rt)?.skip(1) {
+        words.push(word)?;
+    }
+    Ok(words)
+}
+
+/// The cell that the words name, if there are some. A word that is no text is no number.
+fn cell_to_spoil(rt: &HostRuntime) -> Result<Option<Cell>, Refusal> {
+    match given_words(rt) {
+        Ok(words) => cell_of(&words),
+        Err(error) if error.kind() == ErrorKind::OutOfMemory => Err(Refusal::Memory),
+        Err(_) => Err(Refusal::NotANumber),
+    }
+}
+
+/// The whole input, if it is no longer than one chunk.
+fn read_message(rt: &HostRuntime) -> Result<Vec<u8>, Refusal>
+    ensures { IfOk result (λ message. length message.items ≤ 2 ^ 10) }
+{
+    let mut message = Vec::new(rt.alloc());
+    match rt.stdin().take(1025).read_to_end(&mut message) {
+        Ok(_) => {
+            if message.len() <= 1024 {
+                Ok(message)
+            } else {
+                Err(Refusal::TooLong)
+            }
+        }
+        Err(error) if error.kind() == ErrorKind::OutOfMemory => Err(Refusal::Memory),
+        Err(_) => Err(Refusal::Read),
+    }
+}
+
+/// What is found of the input.
+fn found(rt: &HostRuntime) -> Result<Findings, Refusal> {
+    let cell = cell_to_spoil(rt)?;
+    let message = read_message(rt)?;
+    findings_of::<BabyBear>(rt.alloc(), &message, cell)
+}
+
+/// Eight words after a name, the lowest byte of each first.
+fn show_words(rt: &HostRuntime, name: &str, words: [u32; 8]) -> io::Result<()> {
+    print!(rt; "{name} ")?;
+    for word in words {
+        print!(rt; "{:08x}", word.swap_bytes())?;
+    }
+    println!(rt; "")
+}
+
+/// What is found, in lines; the status is 0 where the audit lists nothing, and else 1.
+fn show(rt: &HostRuntime, found: &Findings) -> io::Result<u8> {
+    show_words(rt, "digest", found.digest)?;
+    show_words(rt, "output", found.output)?;
+    println!(rt; "blocks {}", found.blocks)?;
+    println!(rt; "rows {}", found.report.total_rows)?;
+    println!(rt; "constraints {}", found.report.total_constraints_per_row)?;
+    println!(rt; "degree {}", found.degree)?;
+    if found.report.is_ok() {
+        println!(rt; "the audit lists nothing")?;
+        return Ok(0);
+    }
+    println!(rt; "failures {}", found.report.failures.len())?;
+    for failure in &found.report.failures {
+        println!(rt; "row {}: {failure}", failure.row)?;
+    }
+    Ok(1)
+}
+
+/// Answers a status and never an `Err`, which would print to standard error.
+fn main(rt: HostRuntime) -> ExitCode {
+    let shown = match found(&rt) {
+        Ok(found) => show(&rt, &found),
+        Err(why) => println!(rt; "refused: {}", why.name()).map(|_| 2u8),
+    };
+    match shown {
+        Ok(status) => ExitCode::from(status),
+        Err(_) => ExitCode::from(2),
+    }
+}
