@@ -32,7 +32,11 @@ fn check_rows(alloc: Global, rows: &[[u32; 3]]) -> Result<(), CheckError> {
 }
 
 fn main(rt: HostRuntime) -> io::Result<()> {
-    let right = [[3, 1, 2], [0, 4294967295, 1], [4294967294, 4294967295, 4294967295]];
+    let right = [
+        [3, 1, 2],
+        [0, 4294967295, 1],
+        [4294967294, 4294967295, 4294967295],
+    ];
     let wrong = [[3, 1, 2], [65537, 65535, 1], [65536, 4294967295, 1]];
     for rows in [right, wrong] {
         match check_rows(rt.alloc(), &rows) {

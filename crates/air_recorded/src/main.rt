@@ -3,8 +3,8 @@
 
 use p3_air::author::{FirstRow, IsOne, LastRow, Transition, When, current, next, public};
 use p3_air::{
-    AirBuilder, AirError, AirLayout, Audit, BabyBear, FlatAir, RowMajorMatrix,
-    SymbolicAirBuilder, audit_air, finish_recording, record_these, recorded_air,
+    AirBuilder, AirError, AirLayout, Audit, BabyBear, FlatAir, RowMajorMatrix, SymbolicAirBuilder,
+    audit_air, finish_recording, record_these, recorded_air,
 };
 use std::alloc::Global;
 use std::io;
@@ -27,8 +27,9 @@ fn record_doubling(alloc: Global) -> Result<FlatAir<BabyBear>, AirError> {
         num_public_values: 1,
         ..AirLayout::default()
     };
-    let mut builder: SymbolicAirBuilder<BabyBear, BabyBear> =
-        SymbolicAirBuilder::new(alloc, layout)?;
+    let mut builder: SymbolicAirBuilder<BabyBear, BabyBear> = SymbolicAirBuilder::new(
+        alloc, layout,
+    )?;
     assert_doubling(&mut builder)?;
     let recorded = finish_recording(builder);
     recorded_air(recorded, 1, 1, Vec::new(alloc), Vec::new(alloc))
@@ -49,7 +50,11 @@ fn main(rt: HostRuntime) -> io::Result<()> {
     for last in [8, 9] {
         match audit_of(rt.alloc(), last) {
             Ok(audit) => {
-                println!(rt; "degree {}, constraints {}", audit.degree, audit.recorded.base.len())?;
+                println!(rt;
+                    "degree {}, constraints {}",
+                    audit.degree,
+                    audit.recorded.base.len()
+                )?;
                 for failure in &audit.report.failures {
                     println!(rt; "row {}: {failure}", failure.row)?;
                 }

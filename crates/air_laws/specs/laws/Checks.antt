@@ -1,5 +1,5 @@
 -- Where a check lists nothing, every declared term vanishes at each row.
-use Rattle.std.specs.Prelude.{◌≡◌, ℕ, zero, suc, ◌+◌, ◌≤◌, ◌<◌, List, [], ◌∷◌, ◌++◌, map, Bool, true, false, not, cond, refl}
+use Rattle.std.specs.Prelude.{◌≡◌, ℕ, zero, suc, ◌+◌, ◌≤◌, ◌<◌, List, [], ◌∷◌, ◌++◌, map, Bool, true, false, not, cond, length, refl}
 use Rattle.std.specs.Bool.{Decides}
 use Rattle.std.specs.List.{filter, flat_map, range_with_len, enumerate_from}
 use Rattle.std.proofs.Common.{sym, ◌∙◌, subst, inl, inr, arith}
@@ -7,11 +7,13 @@ use Rattle.std.proofs.lemmas.Bool.{cases_lt}
 use Rattle.std.proofs.lemmas.List.Elements.{filter-append}
 use Rattle.air_field.specs.Ring.{CommRing}
 use Rattle.air_field.specs.Assignment.{Trace, row_assignment}
+use Rattle.air_field.specs.Grid.{Grid}
 use Rattle.air_builder.specs.Assertion.{Assertion, Base, Extension}
+use Rattle.air_builder.specs.Declaration.{plain_declaration}
 use Rattle.air_gadgets.specs.Exact.{AllVanish}
 use Rattle.air_report.specs.Checks.{IsKept}
-use Rattle.air_report.specs.Given.{Given, given_trace, height}
-use Rattle.air_report.specs.Report.{assertion_value, all_places, is_nonzero, place, report_of}
+use Rattle.air_report.specs.Given.{Given, given, given_trace, height}
+use Rattle.air_report.specs.Report.{assertion_value, all_places, is_nonzero, place, plain_trace, report_of}
 
 none_left : {A : Type 0} (xs ys : List A) → xs ++ ys ≡ [] → (xs ≡ []) × (ys ≡ [])
 none_left [] ys e = (refl, e)
@@ -62,3 +64,9 @@ module _ {F : Type 0} (R : CommRing F) (eq : F → F → Bool) (decides : (x y :
   -- a trace that a check up to the first fault lets pass
   pub kept_vanish : (g : Given F) (row : ℕ) → IsKept R eq g → row < height g → AllVanish R (row_assignment R (given_trace g) row) g.declaration.declared
   kept_vanish g row kept lt = all_vanish (given_trace g) g.declaration.declared (height g) row kept.none lt
+
+  -- the same of an AIR with nothing beside its trace
+  pub plain_vanish : (ts : List (Assertion F)) (width values : ℕ) (main : Grid F) (public : List F) (row : ℕ)
+      → IsKept R eq (given (plain_declaration ts width values) main public) → row < length main.rows
+      → AllVanish R (row_assignment R (plain_trace main public) row) ts
+  plain_vanish ts width values main public row kept lt = kept_vanish (given (plain_declaration ts width values) main public) row kept lt
