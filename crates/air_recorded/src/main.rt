@@ -3,8 +3,8 @@
 
 use p3_air::author::{FirstRow, IsOne, LastRow, Transition, When, current, next, public};
 use p3_air::{
-    AirBuilder, AirError, AirLayout, Audit, BabyBear, FlatAir, RowMajorMatrix, SymbolicAirBuilder,
-    audit_air, finish_recording, record_these, recorded_air,
+    AirBuilder, AirError, AirLayout, Audit, BabyBear, Field, FlatAir, RowMajorMatrix,
+    SymbolicAirBuilder, audit_air, finish_recording, record_these, recorded_air,
 };
 use std::alloc::Global;
 use std::io;
@@ -20,16 +20,14 @@ fn assert_doubling<AB: AirBuilder>(builder: &mut AB) -> Result<(), AirError>
     record_these(builder, &When(LastRow, current(0).equals(public(0))))
 }
 
-/// The AIR of these constraints.
-fn record_doubling(alloc: Global) -> Result<FlatAir<BabyBear>, AirError> {
+/// The AIR of these constraints, over any field.
+fn record_doubling<F: Field>(alloc: Global) -> Result<FlatAir<F>, AirError> {
     let layout = AirLayout {
         main_width: 1,
         num_public_values: 1,
         ..AirLayout::default()
     };
-    let mut builder: SymbolicAirBuilder<BabyBear, BabyBear> = SymbolicAirBuilder::new(
-        alloc, layout,
-    )?;
+    let mut builder: SymbolicAirBuilder<F, F> = SymbolicAirBuilder::new(alloc, layout)?;
     assert_doubling(&mut builder)?;
     let recorded = finish_recording(builder);
     recorded_air(recorded, 1, 1, Vec::new(alloc), Vec::new(alloc))
@@ -37,7 +35,7 @@ fn record_doubling(alloc: Global) -> Result<FlatAir<BabyBear>, AirError> {
 
 /// The audit of four rows that end as this value.
 fn audit_of(alloc: Global, last: u32) -> Result<Audit<BabyBear>, AirError> {
-    let air = record_doubling(alloc)?;
+    let air: FlatAir<BabyBear> = record_doubling(alloc)?;
     let mut cells = Vec::new(alloc);
     for number in [1, 2, 4, last] {
         cells.push(BabyBear::new(number))?;

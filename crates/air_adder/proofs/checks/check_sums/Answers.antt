@@ -1,3 +1,4 @@
+use contract.BorrowLft.{⊑_static}
 use Rattle.std.specs.Prelude.{[]}
 use Rattle.std.proofs.lemmas.Result.{on_ok_weaker}
 use Rattle.p3_air.specs.Author.{add2_asserts, word_at, word_bits}
@@ -24,3 +25,28 @@ returns g c =
     let word = bits_of_word R domain s in
     adds_up R g.F.Field.CHARACTERISTIC c.words_are_exact.ensures.add2 domain big s (word_at 0) (word_at 34) (word_at 68) (word 0 a.0) (word 34 b.0) (word 68 sum.0) sum.1)
     c.check_constraints.ensures.kept
+
+-- the field lives for ever
+pub check_constraints-requires-lives-A-Air : goal.check_constraints-requires-lives-A-Air
+check_constraints-requires-lives-A-Air g c κs within a m = ⊑_static _ a (c.type_bounds.static-F a m)
+
+pub check_constraints-requires-lives-A-Air-2 : goal.check_constraints-requires-lives-A-Air-2
+check_constraints-requires-lives-A-Air-2 g c κs within a m = ⊑_static _ a (c.type_bounds.static-F a m)
+
+pub check_constraints-requires-lives-A-Air-3 : goal.check_constraints-requires-lives-A-Air-3
+check_constraints-requires-lives-A-Air-3 g c κs within a m = ⊑_static _ a (c.type_bounds.static-F a m)
+
+pub check_constraints-requires-lives-A-Air-4 : goal.check_constraints-requires-lives-A-Air-4
+check_constraints-requires-lives-A-Air-4 g c κs within a m = ⊑_static _ a (c.type_bounds.static-F a m)
+
+pub check_constraints-requires-lives-A-Air-5 : goal.check_constraints-requires-lives-A-Air-5
+check_constraints-requires-lives-A-Air-5 g c κs within a m = ⊑_static _ a (c.type_bounds.static-F a m)
+
+pub check_constraints-requires-lives-A-Air-6 : goal.check_constraints-requires-lives-A-Air-6
+check_constraints-requires-lives-A-Air-6 g c κs within a m = ⊑_static _ a (c.type_bounds.static-F a m)
+
+pub check_constraints-requires-lives-A-Air-7 : goal.check_constraints-requires-lives-A-Air-7
+check_constraints-requires-lives-A-Air-7 g c κs within a m = ⊑_static _ a (c.type_bounds.static-F a m)
+
+pub check_constraints-requires-lives-A-Air-8 : goal.check_constraints-requires-lives-A-Air-8
+check_constraints-requires-lives-A-Air-8 g c κs within a m = ⊑_static _ a (c.type_bounds.static-F a m)
