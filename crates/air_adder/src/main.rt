@@ -1,0 +1,48 @@
+//! Checks of right and of wrong sums of words.
+#![tactic(auto)]
+
+mod adder;
+mod checks;
+
+use checks::check_sums;
+use p3_air::utils::u32_to_bits_le;
+use p3_air::{AirError, BabyBear, CheckError, RowMajorMatrix};
+use std::alloc::Global;
+use std::io;
+
+/// A row for each three words: each word's lower limb and its bits, and then the upper one and its.
+fn trace_of(alloc: Global, rows: &[[u32; 3]]) -> Result<RowMajorMatrix<BabyBear>, AirError> {
+    let mut cells = Vec::new(alloc);
+    for words in rows {
+        for word in words {
+            for limb in [*word & 65535, *word >> 16u32] {
+                cells.push(BabyBear::new(limb))?;
+                let bits: [BabyBear; 32] = u32_to_bits_le(limb);
+                cells.extend_from_slice(&bits[..16])?;
+            }
+        }
+    }
+    let trace = RowMajorMatrix::new(cells, 102)?;
+    Ok(trace)
+}
+
+fn check_rows(alloc: Global, rows: &[[u32; 3]]) -> Result<(), CheckError> {
+    let trace = trace_of(alloc, rows)?;
+    check_sums(alloc, &trace)
+}
+
+fn main(rt: HostRuntime) -> io::Result<()> {
+    let right = [
+        [3, 1, 2],
+        [0, 4294967295, 1],
+        [4294967294, 4294967295, 4294967295],
+    ];
+    let wrong = [[3, 1, 2], [65537, 65535, 1], [65536, 4294967295, 1]];
+    for rows in [right, wrong] {
+        match check_rows(rt.alloc(), &rows) {
+            Ok(()) => println!(rt; "each sum is right")?,
+            Err(error) => println!(rt; "{error}")?,
+        }
+    }
+    Ok(())
+}

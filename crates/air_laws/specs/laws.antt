@@ -1,0 +1,4 @@
+pub mod Vanishing
+pub mod Bits
+pub mod Sums
+pub mod Checks
