@@ -3,7 +3,6 @@ mod Digits
 mod Standing
 mod RowHolds
 mod Pushes
-mod EmptyReports
 mod Checked
 mod WholeTraces
 mod LastBlock

@@ -1,4 +1,5 @@
 pub mod Vanishing
 pub mod Bits
 pub mod Sums
+pub mod Reports
 pub mod Checks

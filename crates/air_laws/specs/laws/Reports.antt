@@ -1,4 +1,4 @@
--- A report is empty exactly if all terms vanish at each row.
+-- A report lists nothing exactly where every term vanishes at each row.
 use Rattle.std.proofs.Common.{◌≡◌, ◌<◌, ◌≤◌, ℕ, zero, suc, ◌+◌, List, [], ◌∷◌, ◌++◌, map, Bool, true, false, not, cond, refl, sym, ◌∙◌, ap, subst, inl, inr, arith}
 use Rattle.std.specs.List.{filter, flat_map, range_with_len, enumerate_from}
 use Rattle.std.specs.Bool.{Decides}
@@ -12,10 +12,12 @@ use Rattle.air_gadgets.specs.Exact.{AllVanish}
 never_empty : {A : Type 0} (x : A) (xs : List A) → x ∷ xs ≡ [] → ⊥
 never_empty x xs e = cc
 
+-- of two lists that make an empty one, both are empty
 pub nothing_first : {A : Type 0} (xs ys : List A) → xs ++ ys ≡ [] → (xs ≡ []) × (ys ≡ [])
 nothing_first [] ys e = (refl, e)
 nothing_first (x ∷ xs) ys e = absurd (never_empty x (xs ++ ys) e)
 
+-- what an empty list is mapped from
 pub unmapped : {A B : Type 0} (f : A → B) (xs : List A) → map f xs ≡ [] → xs ≡ []
 unmapped f [] e = refl
 unmapped f (x ∷ xs) e = absurd (never (f x) (map f xs) e)
@@ -78,7 +80,7 @@ module _ {F : Type 0} (r : CommRing F) (eq : F → F → Bool) (decides : (a b :
         | inr l ↦ let e : a ≡ row = omega arith in subst (λ i. AllVanish r (row_assignment r trace i) ts) e (row_vanishes a 0 ts parts.0)
       ]
 
-  -- the report lists nothing, so that each term is zero at each row
+  -- the report on the first h rows lists nothing, so that each term vanishes at each of them
   pub all_vanish : (ts : List (Assertion F)) (h : ℕ) → report_of r eq trace ts h ≡ [] → (row : ℕ) → row < h → AllVanish r (row_assignment r trace row) ts
   all_vanish ts h e row l =
       rows_vanish ts 0 h (unfiltered (is_nonzero r eq trace) (all_places h ts) (unmapped place _ e)) row (omega arith) (omega arith)
@@ -101,7 +103,7 @@ module _ {F : Type 0} (r : CommRing F) (eq : F → F → Bool) (decides : (a b :
       (row_fails a 0 ts (h a (omega arith) (omega arith)))
       (rows_fail ts (a + 1) n (λ row low high. h row (omega arith) (omega arith)))
 
-  -- each term is zero at each row, so that the report lists nothing
+  -- each term vanishes at each row, so that the report lists nothing
   pub none_reported : (ts : List (Assertion F)) (h : ℕ) → ((row : ℕ) → row < h → AllVanish r (row_assignment r trace row) ts) → report_of r eq trace ts h ≡ []
   none_reported ts h vanish =
       ap (map place) (filtered (is_nonzero r eq trace) (all_places h ts) (rows_fail ts 0 h (λ row low high. vanish row (omega arith))))
