@@ -15,9 +15,9 @@ pub fn report_is_empty<F: Field>()
     ensures { ReportsAreEmpty F.ring F.eq F.ZERO }
 {}
 
-/// Whether a check of the trace lists no failure. If it lists none, at each row the columns named output hold the BLAKE3
-/// compression of the columns named input, over a field whose characteristic is above 3 · 2^16. Where each row satisfies
-/// all constraints, whatever stands beside it, the check lists none.
+/// Whether a check of the trace lists no failure. If it lists none, at each row the columns named output hold the
+/// BLAKE3 compression of the columns named input, over a field whose characteristic is above 3 · 2^16. Where each row
+/// satisfies all constraints, whatever stands beside it, the check lists none.
 pub fn are_compressions<F: PrimeField + 'static>(
     alloc: Global,
     trace: &RowMajorMatrix<F>,

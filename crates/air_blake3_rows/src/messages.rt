@@ -126,8 +126,8 @@ fn chaining_after(block: &InputBlock) -> [u32; 8]
     [q0.a, q1.a, q2.a, q3.a, q0.b, q1.b, q2.b, q3.b]
 }
 
-/// The blocks of a message of at most 1,024 bytes, in order, each with the chaining value that those before it leave. The
-/// first eight words of the last one's output are the message's digest.
+/// The blocks of a message of at most 1,024 bytes, in order, each with the chaining value that those before it leave.
+/// The first eight words of the last one's output are the message's digest.
 pub fn blocks_of_message(alloc: Global, message: &[u8]) -> Result<Vec<InputBlock>, AllocError>
     requires { length message.now ≤ 2 ^ 10 }
     ensures blocks { IfOk result (λ blocks. map block_in blocks.items ≡ blocks_of message.now) }

@@ -81,12 +81,13 @@ fn push_rows<F: Field>(values: &mut Vec<F>, blocks: &[InputBlock], rows: usize) 
     Ok(())
 }
 
-/// The trace of blocks: row i holds block i, and the rows past the last block hold that one again, up to a power of two.
-/// Without a block there is one row, of the block of zeros. Over a field whose characteristic is above 3 · 2^16 each row
-/// satisfies all constraints of `Compression`, whatever stands beside it, so that no check and no audit of the trace
-/// lists anything.
+/// The trace of blocks: row i holds block i, and the rows past the last block hold that one again, up to a power of
+/// two. Without a block there is one row, of the block of zeros. Over a field whose characteristic is above 3 · 2^16
+/// each row satisfies all constraints of `Compression`, whatever stands beside it, so that no check and no audit of the
+/// trace lists anything.
 ///
-/// It refuses with `TooManyRows`, before it takes memory, where the trace's values pass `usize`, and else want of memory.
+/// It refuses with `TooManyRows`, before it takes memory, where the trace's values pass `usize`, and else want of
+/// memory.
 pub fn trace_of_blocks<F: PrimeField>(
     alloc: Global,
     blocks: &[InputBlock],

@@ -21,7 +21,7 @@ pub enum Refusal {
     NoSuchColumn,
     /// A growth was refused.
     Memory,
-    /// The audit refuses something else than a growth, which it doesn't of this AIR.
+    /// Something else was refused than a growth; no case is known.
     Audit,
 }
 
