@@ -1,8 +1,8 @@
 -- Where a check lists nothing, every declared term vanishes at each row.
-use Rattle.std.specs.Prelude.{◌≡◌, ℕ, zero, suc, ◌+◌, ◌≤◌, ◌<◌, List, [], ◌∷◌, ◌++◌, map, Bool, true, false, not, cond, length, refl}
+use Rattle.std.specs.Prelude.{◌≡◌, ℕ, zero, suc, ◌+◌, ◌≤◌, ◌<◌, List, [], ◌∷◌, ◌++◌, map, Bool, true, false, not, cond, length, None, refl}
 use Rattle.std.specs.Bool.{Decides}
 use Rattle.std.specs.List.{filter, flat_map, range_with_len, enumerate_from}
-use Rattle.std.proofs.Common.{sym, ◌∙◌, subst, inl, inr, arith}
+use Rattle.std.proofs.Common.{sym, ◌∙◌, ap, subst, inl, inr, arith}
 use Rattle.std.proofs.lemmas.Bool.{cases_lt}
 use Rattle.std.proofs.lemmas.List.Elements.{filter-append}
 use Rattle.air_field.specs.Ring.{CommRing}
@@ -11,9 +11,10 @@ use Rattle.air_field.specs.Grid.{Grid}
 use Rattle.air_builder.specs.Assertion.{Assertion, Base, Extension}
 use Rattle.air_builder.specs.Declaration.{plain_declaration}
 use Rattle.air_gadgets.specs.Exact.{AllVanish}
-use Rattle.air_report.specs.Checks.{IsKept}
+use Rattle.air_report.specs.Checks.{IsKept, IsReport}
 use Rattle.air_report.specs.Given.{Given, given, given_trace, height}
-use Rattle.air_report.specs.Report.{assertion_value, all_places, is_nonzero, place, plain_trace, report_of}
+use Rattle.air_report.specs.Report.{assertion_value, all_places, is_nonzero, place, failure_place, plain_trace, report_of}
+use Rattle.air_report.specs.declared.checks.report.ConstraintReport.{ConstraintReport}
 
 none_left : {A : Type 0} (xs ys : List A) → xs ++ ys ≡ [] → (xs ≡ []) × (ys ≡ [])
 none_left [] ys e = (refl, e)
@@ -70,3 +71,13 @@ module _ {F : Type 0} (R : CommRing F) (eq : F → F → Bool) (decides : (x y :
       → IsKept R eq (given (plain_declaration ts width values) main public) → row < length main.rows
       → AllVanish R (row_assignment R (plain_trace main public) row) ts
   plain_vanish ts width values main public row kept lt = kept_vanish (given (plain_declaration ts width values) main public) row kept lt
+
+  -- a check without a cap that lists nothing
+  pub report_vanish : (g : Given F) (report : ConstraintReport) (row : ℕ) → IsReport R eq g None report → report.failures.items ≡ [] → row < height g
+      → AllVanish R (row_assignment R (given_trace g) row) g.declaration.declared
+  report_vanish g report row h none lt =
+      let own = none_left h.of_rows h.lists.more (sym h.lists.failures ∙ none) in
+      let shown : h.shown ≡ height g = elim h.ran.rows.enough [ inl e ↦ e | inr k ↦ absurd k ] in
+      let empty : report_of R eq (given_trace g) g.declaration.declared (height g) ≡ [] =
+      ap (report_of R eq (given_trace g) g.declaration.declared) (sym shown) ∙ sym h.places ∙ ap (map failure_place) own.0 in
+      all_vanish (given_trace g) g.declaration.declared (height g) row empty lt
