@@ -365,6 +365,21 @@ def constructor(name, count):
     return more(())
 
 
+class Later:
+    """What is worked out when it is asked for: a record may hold more than is understood here."""
+
+    def __init__(self, evaluator, tree, env):
+        self.evaluator, self.tree, self.env = evaluator, tree, env
+
+
+class Record(dict):
+    def __getitem__(self, name):
+        found = dict.__getitem__(self, name)
+        if isinstance(found, Later):
+            found = self[name] = found.evaluator.value(found.tree, found.env)
+        return found
+
+
 class Evaluator:
     def __init__(self, module):
         self.module = module
@@ -387,7 +402,7 @@ class Evaluator:
             return {str(i): self.value(it, env) for i, it in enumerate(tree[1])}
         if kind == "record":
             base = {} if tree[1] is None else self.value(tree[1], env)
-            return {**base, **{name: self.value(it, env) for name, it in tree[2].items()}}
+            return Record({**base, **{name: Later(self, it, env) for name, it in tree[2].items()}})
         if kind == "if":
             return self.value(tree[2] if self.value(tree[1], env) else tree[3], env)
         return self.field(tree, env)
