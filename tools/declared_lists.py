@@ -1,15 +1,17 @@
-"""Works out what definitions of specs/ say: lists, numbers, terms, records and functions of these, by cases and recursion.
+"""Works out what definitions of specs/ say: lists, numbers, terms, records and functions of these.
 
-It reads so much of antt as definitions that an AIR declares need, and says which word it can't work out. It proves nothing: a
-script compares with it what is declared and what is asserted.
+It reads so much of antt as the lists that AIRs declare need, and says which word it can't work out. It proves nothing:
+tools/first_difference compares with it what is declared and what is asserted.
 """
 import os
 import re
 
 ORDER = 2013265921
 RESERVED = {"λ", "let", "in", "if", "then", "else", "record", "elim", "="}
-FIXITIES = {"^": (75, "r"), "*": (70, "l"), "/": (70, "l"), "%": (70, "l"), "+": (65, "l"), "-": (65, "l"), "++": (66, "r"),
-            "∷": (67, "r"), "≡": (50, "n"), "==": (50, "n"), "<": (50, "n"), "≤": (50, "n")}
+FIXITIES = {
+    "^": (75, "r"), "*": (70, "l"), "/": (70, "l"), "%": (70, "l"), "+": (65, "l"), "-": (65, "l"), "++": (66, "r"),
+    "∷": (67, "r"), "≡": (50, "n"), "==": (50, "n"), "<": (50, "n"), "≤": (50, "n"),
+}
 
 
 class CantTell(Exception):
@@ -56,7 +58,8 @@ class Parser:
     def take(self, wanted=None):
         token = self.peek()
         if token is None or wanted not in (None, token):
-            raise CantTell(f"a definition has a form that isn't read here, near {' '.join(self.tokens[self.at - 3:self.at + 3])}")
+            near = " ".join(self.tokens[max(self.at - 3, 0):self.at + 3])
+            raise CantTell(f"a definition has a form that isn't read here, near {near}")
         self.at += 1
         return token
 
@@ -201,7 +204,8 @@ class Files:
             return open(place, encoding="utf-8").read()
         library = os.path.join(self.crates, parts[1], "specs", "Lib.antt")
         if os.path.isfile(library):
-            for other, name in re.findall(r"^pub use (Rattle\.[\w.]+)(?: as (\w+))?$", open(library, encoding="utf-8").read(), re.M):
+            lines = open(library, encoding="utf-8").read()
+            for other, name in re.findall(r"^pub use (Rattle\.[\w.]+)(?: as (\w+))?$", lines, re.M):
                 if (name or other.split(".")[-1]) == parts[-1]:
                     return self.text_of(other)
         return None
@@ -316,30 +320,42 @@ def items_of(text):
 # ---- Values
 
 
-def natural_difference(a, b):
-    return max(a - b, 0)
-
-
-def cut(values, at):
-    return values[at] if at < len(values) else None
-
-
 STD = {
-    "zero": 0, "[]": (), "true": True, "false": False, "None": None, "tt": (),
-    "suc": lambda n: n + 1, "not": lambda b: not b, "length": len,
-    "◌+◌": lambda a: lambda b: a + b, "◌-◌": lambda a: lambda b: natural_difference(a, b), "◌*◌": lambda a: lambda b: a * b,
-    "◌^◌": lambda a: lambda b: a ** b, "◌/◌": lambda a: lambda b: a // b if b else 0, "◌%◌": lambda a: lambda b: a % b if b else a,
-    "◌==◌": lambda a: lambda b: a == b, "◌++◌": lambda a: lambda b: a + b, "◌∷◌": lambda a: lambda b: (a, *b),
-    "map": lambda f: lambda xs: tuple(f(it) for it in xs), "take": lambda n: lambda xs: xs[:n], "drop": lambda n: lambda xs: xs[n:],
+    "zero": 0,
+    "suc": lambda n: n + 1,
+    "◌+◌": lambda a: lambda b: a + b,
+    "◌-◌": lambda a: lambda b: max(a - b, 0),
+    "◌*◌": lambda a: lambda b: a * b,
+    "◌^◌": lambda a: lambda b: a ** b,
+    "◌/◌": lambda a: lambda b: a // b if b else 0,
+    "◌%◌": lambda a: lambda b: a % b if b else a,
+    "max": lambda a: lambda b: max(a, b),
+    "min": lambda a: lambda b: min(a, b),
+    "◌==◌": lambda a: lambda b: a == b,
+    "true": True,
+    "false": False,
+    "not": lambda b: not b,
+    "None": None,
+    "tt": (),
+    "[]": (),
+    "◌∷◌": lambda x: lambda xs: (x, *xs),
+    "◌++◌": lambda xs: lambda ys: xs + ys,
+    "length": len,
+    "map": lambda f: lambda xs: tuple(f(it) for it in xs),
     "flat_map": lambda f: lambda xs: tuple(y for x in xs for y in f(x)),
+    "take": lambda n: lambda xs: xs[:n],
+    "drop": lambda n: lambda xs: xs[n:],
     "range_with_len": lambda a: lambda n: tuple(range(a, a + n)),
     "slice_index": lambda xs: lambda i: xs[i] if i < len(xs) else 0,
     "slice_index_or": lambda xs: lambda i: lambda d: xs[i] if i < len(xs) else d,
-    "max": lambda a: lambda b: max(a, b), "min": lambda a: lambda b: min(a, b),
     "image": lambda ring: lambda n: n,
 }
 RING = {
-    "one": 1, "nil": 0, "add": lambda a: lambda b: (a + b) % ORDER, "mul": lambda a: lambda b: a * b % ORDER, "neg": lambda a: -a % ORDER,
+    "one": 1,
+    "nil": 0,
+    "add": lambda a: lambda b: (a + b) % ORDER,
+    "mul": lambda a: lambda b: a * b % ORDER,
+    "neg": lambda a: -a % ORDER,
 }
 
 
@@ -347,6 +363,21 @@ def constructor(name, count):
     def more(parts):
         return make(name, *parts) if len(parts) == count else lambda x: more((*parts, x))
     return more(())
+
+
+class Later:
+    """What is worked out when it is asked for: a record may hold more than is understood here."""
+
+    def __init__(self, evaluator, tree, env):
+        self.evaluator, self.tree, self.env = evaluator, tree, env
+
+
+class Record(dict):
+    def __getitem__(self, name):
+        found = dict.__getitem__(self, name)
+        if isinstance(found, Later):
+            found = self[name] = found.evaluator.value(found.tree, found.env)
+        return found
 
 
 class Evaluator:
@@ -371,7 +402,7 @@ class Evaluator:
             return {str(i): self.value(it, env) for i, it in enumerate(tree[1])}
         if kind == "record":
             base = {} if tree[1] is None else self.value(tree[1], env)
-            return {**base, **{name: self.value(it, env) for name, it in tree[2].items()}}
+            return Record({**base, **{name: Later(self, it, env) for name, it in tree[2].items()}})
         if kind == "if":
             return self.value(tree[2] if self.value(tree[1], env) else tree[3], env)
         return self.field(tree, env)
@@ -412,7 +443,7 @@ class Evaluator:
                 return lambda x: more((*parts, x))
             for patterns, body in definition.read:
                 env = {}
-                if all(inside.fits(p, x, env) for p, x in zip(patterns, parts)):
+                if inside.all_fit(patterns, parts, env):
                     return inside.value(body, env)
             raise CantTell(f"no case of `{name}` fits")
         return more(())
@@ -428,12 +459,15 @@ class Evaluator:
             raise CantTell(f"a clause of `{name}` has a form that isn't read here")
         return patterns, Parser(right, module.fixities).expression()
 
+    def all_fit(self, patterns, values, env):
+        return all(self.fits(p, x, env) for p, x in zip(patterns, values))
+
     def fits(self, pattern, value, env):
         """Whether the value has the pattern's form; its names are bound."""
         if pattern == ("list",):
             return value == ()
         if pattern[0] == "tuple":
-            return all(self.fits(p, value[str(i)], env) for i, p in enumerate(pattern[1]))
+            return self.all_fit(pattern[1], value.values(), env)
         head, operands = pattern, []
         while head[0] == "app":
             operands.insert(0, head[2])
@@ -442,7 +476,7 @@ class Evaluator:
             raise CantTell("a pattern has a form that isn't read here")
         name = head[1]
         if name == "◌∷◌":
-            return value != () and self.fits(operands[0], value[0], env) and self.fits(operands[1], value[1:], env)
+            return value != () and self.all_fit(operands, (value[0], value[1:]), env)
         found = self.module.find(name) if name != "_" else None
         std = found[1] if isinstance(found, tuple) and found[0] == "std" else None
         if std == "suc":
@@ -450,14 +484,16 @@ class Evaluator:
         if std in ("zero", "true", "false", "None"):
             return value is STD[std] if std != "zero" else value == 0
         if isinstance(found, tuple) and found[0] == "constructor":
-            return isinstance(value, Made) and value.name == name and all(self.fits(p, x, env) for p, x in zip(operands, value.parts))
+            return isinstance(value, Made) and value.name == name and self.all_fit(operands, value.parts, env)
         if name != "_":
             env[name] = value
         return True
 
 
-LEAVES = {"preprocessed": 2, "main": 2, "periodic": 1, "public": 1, "first_row": 0, "last_row": 0, "transition": 0, "permutation": 2,
-          "challenge": 1, "permutation_value": 1}
+LEAVES = {
+    "preprocessed": 2, "main": 2, "periodic": 1, "public": 1, "first_row": 0, "last_row": 0, "transition": 0,
+    "permutation": 2, "challenge": 1, "permutation_value": 1,
+}
 
 
 def evaluate(crates, uses, text, values):

@@ -1,6 +1,6 @@
 //! What a checked trace says.
 ghost use Rattle.std.specs.Prelude.{◌^◌, ◌<◌, OnOk};
-ghost use Rattle.air_adder.specs.Adder.{RowsAddUp};
+ghost use Rattle.air_adder.specs.Checks.{RowsAddUp};
 
 use crate::adder::Adder;
 use p3_air::author::Plain;

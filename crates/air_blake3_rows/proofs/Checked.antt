@@ -10,7 +10,7 @@ use Rattle.air_report.specs.Report.{report_of, failure_place}
 use Rattle.air_report.specs.Cells.{cell_place, left_of}
 use Rattle.air_report.specs.Checks.{IsReport}
 use Rattle.air_report.specs.declared.checks.report.ConstraintReport.{ConstraintReport}
-use Rattle.air_laws.specs.laws.Checks.{reported_vanish}
+use Rattle.air_laws.specs.laws.Checks.{report_vanish}
 use Rattle.air_laws.specs.laws.Reports.{none_reported, unmapped}
 use Rattle.air_blake3.specs.Holding.{CompressionIsSound}
 use Rattle.air_blake3.specs.Row.{compression}
@@ -36,7 +36,7 @@ module _ {F : Type 0} (r : CommRing F) (eq : F → F → Bool) (decides : (a b :
       → IsReport r eq (given_compressions r main) None report → report.failures.items ≡ [] → HoldCompressions r p main
   compressions_hold p domain sound main report h none big row l =
       let g = given_compressions r main in
-      sound (row_assignment r (given_trace g) row) domain big (reported_vanish r eq decides g report row h none l)
+      sound (row_assignment r (given_trace g) row) domain big (report_vanish r eq decides g report row h none l)
 
   -- A report on a trace whose rows satisfy all constraints lists nothing.
   pub compression_rows_pass : (main : Grid F) → AreCompressionRows r r.nil main → ReportsListNothing r eq main

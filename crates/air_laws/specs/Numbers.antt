@@ -3,7 +3,7 @@ use Rattle.std.specs.Prelude.{◌≡◌, ℕ, ◌^◌, ◌<◌}
 use Rattle.air_field.specs.Ring.{CommRing, image, itself}
 use Rattle.air_field.specs.Term.{Leaf, Term}
 use Rattle.air_field.specs.Value.{value}
-use Rattle.air_gadgets.specs.Words.{Limbs, AreLimbs, word, word_sum}
+use Rattle.air_gadgets.specs.Words.{Limbs, AreLimbs, word, word_sum, word_sum_3}
 use Rattle.air_gadgets.specs.Exact.{LimbsAre}
 
 -- the term's value is the image of a number below a bound
@@ -24,3 +24,13 @@ pub record AddsUp {F : Type 0} (R : CommRing F) (s : Leaf → F) (t u v : Limbs 
   pub are_words : AreLimbs a × AreLimbs b × AreLimbs c
   pub stand : LimbsAre R s t a × LimbsAre R s u b × LimbsAre R s v c
   pub sum : word a ≡ word_sum (word b) (word c)
+
+-- The limbs are those of words a, b, c and d, and a is b + c + d modulo 2^32.
+pub record AddsUp3 {F : Type 0} (R : CommRing F) (s : Leaf → F) (t u v w : Limbs (Term F)) : Type 0 where
+  pub a : Limbs ℕ
+  pub b : Limbs ℕ
+  pub c : Limbs ℕ
+  pub d : Limbs ℕ
+  pub are_words : AreLimbs a × AreLimbs b × AreLimbs c × AreLimbs d
+  pub stand : LimbsAre R s t a × LimbsAre R s u b × LimbsAre R s v c × LimbsAre R s w d
+  pub sum : word a ≡ word_sum_3 (word b) (word c) (word d)

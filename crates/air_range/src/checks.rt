@@ -1,6 +1,6 @@
 //! What a checked trace says.
 ghost use Rattle.std.specs.Prelude.{OnOk};
-ghost use Rattle.air_range.specs.Range.{AllBelow};
+ghost use Rattle.air_range.specs.Checks.{AllBelow};
 
 use crate::range::Range;
 use p3_air::author::Plain;

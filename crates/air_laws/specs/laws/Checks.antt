@@ -1,13 +1,16 @@
 -- Where a check lists nothing, every declared term vanishes at each row.
-use Rattle.std.specs.Prelude.{◌≡◌, ℕ, ◌<◌, [], map, Bool, None}
+use Rattle.std.specs.Prelude.{◌≡◌, ℕ, ◌<◌, List, [], length, map, Bool, None}
 use Rattle.std.specs.Bool.{Decides}
 use Rattle.std.proofs.Common.{sym, ◌∙◌, ap, inl, inr}
 use Rattle.air_field.specs.Ring.{CommRing}
 use Rattle.air_field.specs.Assignment.{row_assignment}
+use Rattle.air_field.specs.Grid.{Grid}
+use Rattle.air_builder.specs.Assertion.{Assertion}
+use Rattle.air_builder.specs.Declaration.{plain_declaration}
 use Rattle.air_gadgets.specs.Exact.{AllVanish}
 use Rattle.air_report.specs.Checks.{IsKept, IsReport}
-use Rattle.air_report.specs.Given.{Given, given_trace, height}
-use Rattle.air_report.specs.Report.{report_of, failure_place}
+use Rattle.air_report.specs.Given.{Given, given, given_trace, height}
+use Rattle.air_report.specs.Report.{failure_place, plain_trace, report_of}
 use Rattle.air_report.specs.declared.checks.report.ConstraintReport.{ConstraintReport}
 use Rattle.air_laws.specs.laws.Reports.{all_vanish, nothing_first}
 
@@ -16,10 +19,16 @@ module _ {F : Type 0} (R : CommRing F) (eq : F → F → Bool) (decides : (x y :
   pub kept_vanish : (g : Given F) (row : ℕ) → IsKept R eq g → row < height g → AllVanish R (row_assignment R (given_trace g) row) g.declaration.declared
   kept_vanish g row kept lt = all_vanish R eq decides (given_trace g) g.declaration.declared (height g) kept.none row lt
 
-  -- a trace whose whole report lists no failure
-  pub reported_vanish : (g : Given F) (report : ConstraintReport) (row : ℕ) → IsReport R eq g None report → report.failures.items ≡ [] → row < height g
+  -- the same of an AIR with nothing beside its trace
+  pub plain_vanish : (ts : List (Assertion F)) (width values : ℕ) (main : Grid F) (public : List F) (row : ℕ)
+      → IsKept R eq (given (plain_declaration ts width values) main public) → row < length main.rows
+      → AllVanish R (row_assignment R (plain_trace main public) row) ts
+  plain_vanish ts width values main public row kept lt = kept_vanish (given (plain_declaration ts width values) main public) row kept lt
+
+  -- a check without a cap that lists nothing
+  pub report_vanish : (g : Given F) (report : ConstraintReport) (row : ℕ) → IsReport R eq g None report → report.failures.items ≡ [] → row < height g
       → AllVanish R (row_assignment R (given_trace g) row) g.declaration.declared
-  reported_vanish g report row h none lt =
+  report_vanish g report row h none lt =
       let own = nothing_first h.of_rows h.lists.more (sym h.lists.failures ∙ none) in
       let shown : h.shown ≡ height g = elim h.ran.rows.enough [ inl e ↦ e | inr k ↦ absurd k ] in
       let empty : report_of R eq (given_trace g) g.declaration.declared (height g) ≡ [] =

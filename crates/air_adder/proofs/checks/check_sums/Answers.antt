@@ -23,7 +23,7 @@ returns g c =
     let b = both_vanish R s (word_bits R 34 (λ t. t)) _ a.1 in
     let sum = both_vanish R s (word_bits R 68 (λ t. t)) (add2_asserts R (word_at 0) (word_at 34) (word_at 68)) b.1 in
     let word = bits_of_word R domain s in
-    adds_up R g.F.Field.CHARACTERISTIC c.words_are_exact.ensures.add2 domain big s (word_at 0) (word_at 34) (word_at 68) (word 0 a.0) (word 34 b.0) (word 68 sum.0) sum.1)
+    adds_up R g.F.Field.CHARACTERISTIC domain s c.words_are_exact.ensures.add2 big (word_at 0) (word_at 34) (word_at 68) (word 0 a.0) (word 34 b.0) (word 68 sum.0) sum.1)
     c.check_constraints.ensures.kept
 
 -- the field lives for ever
