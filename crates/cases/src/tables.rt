@@ -33,12 +33,14 @@ fn answer_again<'a, B: Bench<'a>>(
     alloc: Global,
     bench: &mut B,
     line: &Line<'a>,
+    refused: &mut bool,
     text: &mut String,
 ) -> Result<(), Fault> {
     let mut before = String::new(alloc);
     bench.standing(&mut before)?;
     match answer_times(bench, line, text) {
         Err(Fault::Memory) => {
+            *refused = true;
             let mut after = String::new(alloc);
             bench.standing(&mut after)?;
             if after.as_str() == before.as_str() {
@@ -78,13 +80,13 @@ fn is_right<'a, B: Bench<'a>>(
     alloc: Global,
     bench: &mut B,
     line: &'a str,
-    again: bool,
+    report: &mut Report,
     text: &mut String,
 ) -> Result<bool, Fault> {
     match line_of(alloc, line) {
         Ok(line) => {
-            let answer = if again && line.times.is_none() {
-                answer_again(alloc, bench, &line, text)
+            let answer = if report.again && line.times.is_none() {
+                answer_again(alloc, bench, &line, &mut report.refused, text)
             } else {
                 answer_times(bench, &line, text)
             };
@@ -113,8 +115,7 @@ pub fn check_lines<'a, B: Bench<'a>>(
             continue;
         }
         text.clear();
-        let again = report.again;
-        let right = is_right(rt.alloc(), &mut bench, line, again, &mut text)?;
+        let right = is_right(rt.alloc(), &mut bench, line, report, &mut text)?;
         report.count(rt, table.name, line, right, text.as_str())?;
     }
     if report.lines == before {
