@@ -10,8 +10,8 @@ use cases::words::{element_of, text_of};
 use cases::{Fault, Why};
 use cases_airs::{Airs, TableAir};
 use p3_air::{
-    Air, AirBuilder, AirError, AssertAllNamed, BabyBear, ConstraintFailure, ExtensionBuilder, Lazy,
-    NamedAirBuilder, NamedExtensionBuilder, NamespaceExt,
+    Air, AirBuilder, AirError, AssertAllNamed, ConstraintFailure, ExtensionBuilder, ExtensionField,
+    Field, Lazy, NamedAirBuilder, NamedExtensionBuilder, NamespaceExt,
 };
 use std::alloc::Global;
 
@@ -25,26 +25,35 @@ pub enum Answer {
 }
 
 // Asserts an AIR's constraints.
-fn eval_on(air: &TableAir<BabyBear>, builder: &mut ExtRow<'_>) -> Result<(), AirError> {
+fn eval_on<F: Field + 'static, EF: ExtensionField<F> + 'static>(
+    air: &TableAir<F>,
+    builder: &mut ExtRow<'_, F, EF>,
+) -> Result<(), AirError> {
     air.eval(builder)
 }
 
-fn number(word: &str) -> Result<BabyBear, Fault> {
-    element_of(word)
-}
-
 // An assertion that has no label.
-fn assert_plain(alloc: Global, builder: &mut ExtRow<'_>, words: &[&str]) -> Result<(), Fault> {
+fn assert_plain<F: Field + 'static, EF: ExtensionField<F> + 'static>(
+    alloc: Global,
+    builder: &mut ExtRow<'_, F, EF>,
+    words: &[&str],
+) -> Result<(), Fault> {
     match words {
-        ["assert_zero", x] => builder.assert_zero(number(*x)?)?,
-        ["assert_zero_ext", x] => builder.assert_zero_ext(element_of_extension(alloc, *x)?)?,
-        ["when", c, "assert_zero", x] => assert_zero_under(builder, number(*c)?, number(*x)?)?,
+        ["assert_zero", x] => builder.assert_zero(element_of(*x)?)?,
+        ["assert_zero_ext", x] => builder.assert_zero_ext(element_of_extension::<F, EF>(
+            alloc, *x,
+        )?)?,
+        ["when", c, "assert_zero", x] => assert_zero_under(
+            builder,
+            element_of(*c)?,
+            element_of(*x)?,
+        )?,
         ["when", c, "when", d, "assert_zero", x] => {
-            assert_zero_under_both(builder, number(*c)?, number(*d)?, number(*x)?)?
+            assert_zero_under_both(builder, element_of(*c)?, element_of(*d)?, element_of(*x)?)?
         }
         ["when", c, "assert_zero_ext", x] => {
-            let x = element_of_extension(alloc, *x)?;
-            assert_zero_ext_under(builder, number(*c)?, x)?
+            let x = element_of_extension::<F, EF>(alloc, *x)?;
+            assert_zero_ext_under(builder, element_of(*c)?, x)?
         }
         _ => return Err(Fault::Unreadable(Why::NoSuchWord)),
     }
@@ -52,26 +61,36 @@ fn assert_plain(alloc: Global, builder: &mut ExtRow<'_>, words: &[&str]) -> Resu
 }
 
 // An assertion with this label.
-fn assert_named(
+fn assert_named<F: Field + 'static, EF: ExtensionField<F> + 'static>(
     alloc: Global,
-    builder: &mut ExtRow<'_>,
+    builder: &mut ExtRow<'_, F, EF>,
     words: &[&str],
     label: &str,
 ) -> Result<(), Fault> {
     let name = Lazy(|| Ok(label));
     match words {
-        ["assert_zero_named", x] => builder.assert_zero_named(number(*x)?, name)?,
-        ["assert_one_named", x] => builder.assert_one_named(number(*x)?, name)?,
-        ["assert_bool_named", x] => builder.assert_bool_named(number(*x)?, name)?,
-        ["assert_eq_named", x, y] => builder.assert_eq_named(number(*x)?, number(*y)?, name)?,
+        ["assert_zero_named", x] => builder.assert_zero_named(element_of(*x)?, name)?,
+        ["assert_one_named", x] => builder.assert_one_named(element_of(*x)?, name)?,
+        ["assert_bool_named", x] => builder.assert_bool_named(element_of(*x)?, name)?,
+        ["assert_eq_named", x, y] => builder.assert_eq_named(
+            element_of(*x)?,
+            element_of(*y)?,
+            name,
+        )?,
         ["assert_zero_ext_named", x] => {
-            builder.assert_zero_ext_named(element_of_extension(alloc, *x)?, name)?
+            builder.assert_zero_ext_named(element_of_extension::<F, EF>(alloc, *x)?, name)?
         }
         ["when", c, "assert_zero_named", x] => {
-            assert_zero_named_under(builder, number(*c)?, number(*x)?, name)?
+            assert_zero_named_under(builder, element_of(*c)?, element_of(*x)?, name)?
         }
         ["when", c, "when", d, "assert_zero_named", x] => {
-            assert_zero_named_under_both(builder, number(*c)?, number(*d)?, number(*x)?, name)?
+            assert_zero_named_under_both(
+                builder,
+                element_of(*c)?,
+                element_of(*d)?,
+                element_of(*x)?,
+                name,
+            )?
         }
         _ => return Err(Fault::Unreadable(Why::NoSuchWord)),
     }
@@ -79,28 +98,31 @@ fn assert_named(
 }
 
 // An assertion, or two, under a namespace.
-fn assert_in_space(builder: &mut ExtRow<'_>, words: &[&str]) -> Result<(), Fault> {
+fn assert_in_space<F: Field + 'static, EF: ExtensionField<F> + 'static>(
+    builder: &mut ExtRow<'_, F, EF>,
+    words: &[&str],
+) -> Result<(), Fault> {
     match words {
         ["assert_zeros_named", x, y, "z"] => {
-            builder.assert_zeros_named([number(*x)?, number(*y)?], "z")?
+            builder.assert_zeros_named([element_of(*x)?, element_of(*y)?], "z")?
         }
         ["assert_bools_named", x, y, "outer::mid"] => {
-            builder.assert_bools_named([number(*x)?, number(*y)?], "outer".join("mid"))?
+            builder.assert_bools_named([element_of(*x)?, element_of(*y)?], "outer".join("mid"))?
         }
         ["assert_zero_named", x, "outer::mid::leaf"] => {
-            builder.assert_zero_named(number(*x)?, "outer".join("mid").name("leaf"))?
+            builder.assert_zero_named(element_of(*x)?, "outer".join("mid").name("leaf"))?
         }
-        ["assert_zero_named", x, "::"] => builder.assert_zero_named(number(*x)?, "".name(""))?,
+        ["assert_zero_named", x, "::"] => builder.assert_zero_named(element_of(*x)?, "".name(""))?,
         _ => return Err(Fault::Unreadable(Why::NoSuchWord)),
     }
     Ok(())
 }
 
 // Makes the call of a word: the call's own name and what it is handed, with commas between. A label stands last.
-fn assert_word(
+fn assert_word<F: Field + 'static, EF: ExtensionField<F> + 'static>(
     alloc: Global,
-    airs: &Airs<'_, BabyBear>,
-    builder: &mut ExtRow<'_>,
+    airs: &Airs<'_, F>,
+    builder: &mut ExtRow<'_, F, EF>,
     word: &str,
 ) -> Result<(), Fault> {
     let mut words = Vec::new(alloc);
@@ -136,14 +158,14 @@ fn show_copies(failures: &[ConstraintFailure], text: &mut String) -> Result<(), 
 }
 
 /// Adds what the builder answers at the row of these words, once the calls among them were made.
-pub fn answer_row(
+pub fn answer_row<F: Field + 'static, EF: ExtensionField<F> + 'static>(
     alloc: Global,
-    airs: &Airs<'_, BabyBear>,
+    airs: &Airs<'_, F>,
     answer: Answer,
     words: &[&str],
     text: &mut String,
 ) -> Result<(), Fault> {
-    let row = row_of(alloc, words)?;
+    let row = row_of::<F, EF>(alloc, words)?;
     let mut builder = ext_row(alloc, &row)?;
     for word in words {
         if is_call(*word) {
