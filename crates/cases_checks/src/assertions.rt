@@ -145,6 +145,27 @@ fn assert_word<F: Field + 'static, EF: ExtensionField<F> + 'static>(
     }
 }
 
+// Whether a word's call is one assertion: a refusal of it leaves nothing, one of many a beginning.
+fn is_single(word: &str) -> bool {
+    !word.starts_with("eval")
+        && !word.starts_with("assert_zeros")
+        && !word.starts_with("assert_bools")
+}
+
+// Makes the call of a word. One assertion that is refused for want of memory is made once more on the same builder, so
+// that the answer shows whether its refusal left something there.
+fn assert_again<F: Field + 'static, EF: ExtensionField<F> + 'static>(
+    alloc: Global,
+    airs: &Airs<'_, F>,
+    builder: &mut ExtRow<'_, F, EF>,
+    word: &str,
+) -> Result<(), Fault> {
+    match assert_word(alloc, airs, builder, word) {
+        Err(Fault::Memory) if is_single(word) => assert_word(alloc, airs, builder, word),
+        made => made,
+    }
+}
+
 // Adds the debug texts of copies of failures.
 fn show_copies(failures: &[ConstraintFailure], text: &mut String) -> Result<(), Fault> {
     for (place, failure) in failures.iter().enumerate() {
@@ -169,7 +190,7 @@ pub fn answer_row<F: Field + 'static, EF: ExtensionField<F> + 'static>(
     let mut builder = ext_row(alloc, &row)?;
     for word in words {
         if is_call(*word) {
-            assert_word(alloc, airs, &mut builder, *word)?;
+            assert_again(alloc, airs, &mut builder, *word)?;
         }
     }
     match answer {
