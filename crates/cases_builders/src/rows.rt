@@ -41,7 +41,7 @@ fn row_builder<'a, F: Field, EF: ExtensionField<F>>(
     )
 }
 
-fn assert_at_row<F: Field, EF: ExtensionField<F> + 'static>(
+fn assert_at_row<F: Field + 'static, EF: ExtensionField<F> + 'static>(
     alloc: Global,
     builder: &mut RowBuilder<'_, F, EF>,
     words: &[&str],
@@ -50,7 +50,7 @@ fn assert_at_row<F: Field, EF: ExtensionField<F> + 'static>(
 }
 
 // Adds which of the assertions fail at a row with these selectors.
-fn show_failures<F: Field, EF: ExtensionField<F> + 'static>(
+fn show_failures<F: Field + 'static, EF: ExtensionField<F> + 'static>(
     alloc: Global,
     selectors: (F, F, F),
     words: &[&str],
@@ -64,7 +64,7 @@ fn show_failures<F: Field, EF: ExtensionField<F> + 'static>(
 }
 
 // Adds what the words' call answers. Over any fields: a call on a builder over given ones is dear to prove.
-fn answer_row<F: Field, EF: ExtensionField<F> + 'static>(
+fn answer_row<F: Field + 'static, EF: ExtensionField<F> + 'static>(
     alloc: Global,
     words: &[&str],
     text: &mut String,
