@@ -10,8 +10,8 @@ use cases::words::{element_of, text_of};
 use cases::{Fault, Why};
 use cases_airs::{Airs, TableAir};
 use p3_air::{
-    Air, AirBuilder, AirError, AssertAllNamed, ConstraintFailure, ExtensionBuilder, ExtensionField,
-    Field, Lazy, NamedAirBuilder, NamedExtensionBuilder, NamespaceExt,
+    Air, AirBuilder, AirError, ConstraintFailure, ExtensionBuilder, ExtensionField, Field, Lazy,
+    NamedAirBuilder, NamedExtensionBuilder, NamespaceExt,
 };
 use std::alloc::Global;
 
@@ -32,6 +32,25 @@ fn eval_on<F: Field + 'static, EF: ExtensionField<F> + 'static>(
     air.eval(builder)
 }
 
+// An assertion over the extension that has no label.
+fn assert_plain_ext<F: Field + 'static, EF: ExtensionField<F> + 'static>(
+    alloc: Global,
+    builder: &mut ExtRow<'_, F, EF>,
+    words: &[&str],
+) -> Result<(), Fault> {
+    match words {
+        ["assert_zero_ext", x] => {
+            builder.assert_zero_ext(element_of_extension::<F, EF>(alloc, *x)?)?
+        }
+        ["when", c, "assert_zero_ext", x] => {
+            let x = element_of_extension::<F, EF>(alloc, *x)?;
+            assert_zero_ext_under(builder, element_of(*c)?, x)?
+        }
+        _ => return Err(Fault::Unreadable(Why::NoSuchWord)),
+    }
+    Ok(())
+}
+
 // An assertion that has no label.
 fn assert_plain<F: Field + 'static, EF: ExtensionField<F> + 'static>(
     alloc: Global,
@@ -40,20 +59,50 @@ fn assert_plain<F: Field + 'static, EF: ExtensionField<F> + 'static>(
 ) -> Result<(), Fault> {
     match words {
         ["assert_zero", x] => builder.assert_zero(element_of(*x)?)?,
-        ["assert_zero_ext", x] => builder.assert_zero_ext(element_of_extension::<F, EF>(
-            alloc, *x,
-        )?)?,
-        ["when", c, "assert_zero", x] => assert_zero_under(
-            builder,
-            element_of(*c)?,
-            element_of(*x)?,
-        )?,
+        ["when", c, "assert_zero", x] => {
+            assert_zero_under(builder, element_of(*c)?, element_of(*x)?)?
+        }
         ["when", c, "when", d, "assert_zero", x] => {
             assert_zero_under_both(builder, element_of(*c)?, element_of(*d)?, element_of(*x)?)?
         }
-        ["when", c, "assert_zero_ext", x] => {
-            let x = element_of_extension::<F, EF>(alloc, *x)?;
-            assert_zero_ext_under(builder, element_of(*c)?, x)?
+        _ => assert_plain_ext(alloc, builder, words)?,
+    }
+    Ok(())
+}
+
+// An assertion with this label under a filter, or two.
+fn assert_named_under<F: Field + 'static, EF: ExtensionField<F> + 'static>(
+    builder: &mut ExtRow<'_, F, EF>,
+    words: &[&str],
+    label: &str,
+) -> Result<(), Fault> {
+    let name = Lazy(|| Ok(label));
+    match words {
+        ["when", c, "assert_zero_named", x] => {
+            assert_zero_named_under(builder, element_of(*c)?, element_of(*x)?, name)?
+        }
+        ["when", c, "when", d, "assert_zero_named", x] => {
+            let (c, d) = (element_of(*c)?, element_of(*d)?);
+            assert_zero_named_under_both(builder, c, d, element_of(*x)?, name)?
+        }
+        _ => return Err(Fault::Unreadable(Why::NoSuchWord)),
+    }
+    Ok(())
+}
+
+// An assertion over the base field with this label.
+fn assert_base_named<F: Field + 'static, EF: ExtensionField<F> + 'static>(
+    builder: &mut ExtRow<'_, F, EF>,
+    words: &[&str],
+    label: &str,
+) -> Result<(), Fault> {
+    let name = Lazy(|| Ok(label));
+    match words {
+        ["assert_zero_named", x] => builder.assert_zero_named(element_of(*x)?, name)?,
+        ["assert_one_named", x] => builder.assert_one_named(element_of(*x)?, name)?,
+        ["assert_bool_named", x] => builder.assert_bool_named(element_of(*x)?, name)?,
+        ["assert_eq_named", x, y] => {
+            builder.assert_eq_named(element_of(*x)?, element_of(*y)?, name)?
         }
         _ => return Err(Fault::Unreadable(Why::NoSuchWord)),
     }
@@ -67,30 +116,37 @@ fn assert_named<F: Field + 'static, EF: ExtensionField<F> + 'static>(
     words: &[&str],
     label: &str,
 ) -> Result<(), Fault> {
-    let name = Lazy(|| Ok(label));
     match words {
-        ["assert_zero_named", x] => builder.assert_zero_named(element_of(*x)?, name)?,
-        ["assert_one_named", x] => builder.assert_one_named(element_of(*x)?, name)?,
-        ["assert_bool_named", x] => builder.assert_bool_named(element_of(*x)?, name)?,
-        ["assert_eq_named", x, y] => builder.assert_eq_named(
-            element_of(*x)?,
-            element_of(*y)?,
-            name,
-        )?,
+        ["when", ..] => assert_named_under(builder, words, label),
         ["assert_zero_ext_named", x] => {
-            builder.assert_zero_ext_named(element_of_extension::<F, EF>(alloc, *x)?, name)?
+            let x = element_of_extension::<F, EF>(alloc, *x)?;
+            Ok(builder.assert_zero_ext_named(x, Lazy(|| Ok(label)))?)
         }
-        ["when", c, "assert_zero_named", x] => {
-            assert_zero_named_under(builder, element_of(*c)?, element_of(*x)?, name)?
+        _ => assert_base_named(builder, words, label),
+    }
+}
+
+// Two elements. (An array of a type parameter's elements owes that it fits into memory.)
+fn both<F: Field>(alloc: Global, x: &str, y: &str) -> Result<Vec<F>, Fault> {
+    let mut elements = Vec::new(alloc);
+    elements.push(element_of(x)?)?;
+    elements.push(element_of(y)?)?;
+    Ok(elements)
+}
+
+// Two assertions under a namespace.
+fn assert_both_named<F: Field + 'static, EF: ExtensionField<F> + 'static>(
+    alloc: Global,
+    builder: &mut ExtRow<'_, F, EF>,
+    words: &[&str],
+) -> Result<(), Fault> {
+    match words {
+        ["assert_zeros_named_slice", x, y, "z"] => {
+            builder.assert_zeros_named_slice(both(alloc, *x, *y)?.as_slice(), "z")?
         }
-        ["when", c, "when", d, "assert_zero_named", x] => {
-            assert_zero_named_under_both(
-                builder,
-                element_of(*c)?,
-                element_of(*d)?,
-                element_of(*x)?,
-                name,
-            )?
+        ["assert_bools_named_slice", x, y, "outer::mid"] => {
+            let name = "outer".join("mid");
+            builder.assert_bools_named_slice(both(alloc, *x, *y)?.as_slice(), name)?
         }
         _ => return Err(Fault::Unreadable(Why::NoSuchWord)),
     }
@@ -99,21 +155,18 @@ fn assert_named<F: Field + 'static, EF: ExtensionField<F> + 'static>(
 
 // An assertion, or two, under a namespace.
 fn assert_in_space<F: Field + 'static, EF: ExtensionField<F> + 'static>(
+    alloc: Global,
     builder: &mut ExtRow<'_, F, EF>,
     words: &[&str],
 ) -> Result<(), Fault> {
     match words {
-        ["assert_zeros_named", x, y, "z"] => {
-            builder.assert_zeros_named([element_of(*x)?, element_of(*y)?], "z")?
-        }
-        ["assert_bools_named", x, y, "outer::mid"] => {
-            builder.assert_bools_named([element_of(*x)?, element_of(*y)?], "outer".join("mid"))?
-        }
         ["assert_zero_named", x, "outer::mid::leaf"] => {
             builder.assert_zero_named(element_of(*x)?, "outer".join("mid").name("leaf"))?
         }
-        ["assert_zero_named", x, "::"] => builder.assert_zero_named(element_of(*x)?, "".name(""))?,
-        _ => return Err(Fault::Unreadable(Why::NoSuchWord)),
+        ["assert_zero_named", x, "::"] => {
+            builder.assert_zero_named(element_of(*x)?, "".name(""))?
+        }
+        _ => assert_both_named(alloc, builder, words)?,
     }
     Ok(())
 }
@@ -135,7 +188,7 @@ fn assert_word<F: Field + 'static, EF: ExtensionField<F> + 'static>(
     }
     match all.split_last() {
         Some((&("z" | "outer::mid" | "outer::mid::leaf" | "::"), _)) => {
-            assert_in_space(builder, all)
+            assert_in_space(alloc, builder, all)
         }
         Some((label, plain)) if word.contains("_named,") => {
             let label = text_of(alloc, *label)?;
@@ -178,21 +231,27 @@ fn show_copies(failures: &[ConstraintFailure], text: &mut String) -> Result<(), 
     Ok(())
 }
 
-/// Adds what the builder answers at the row of these words, once the calls among them were made.
-pub fn answer_row<F: Field + 'static, EF: ExtensionField<F> + 'static>(
+// Makes the calls among the words.
+fn assert_words<F: Field + 'static, EF: ExtensionField<F> + 'static>(
     alloc: Global,
     airs: &Airs<'_, F>,
-    answer: Answer,
+    builder: &mut ExtRow<'_, F, EF>,
     words: &[&str],
-    text: &mut String,
 ) -> Result<(), Fault> {
-    let row = row_of::<F, EF>(alloc, words)?;
-    let mut builder = ext_row(alloc, &row)?;
     for word in words {
         if is_call(*word) {
-            assert_again(alloc, airs, &mut builder, *word)?;
+            assert_again(alloc, airs, builder, *word)?;
         }
     }
+    Ok(())
+}
+
+// Adds what the builder answers.
+fn show_answer<F: Field, EF: ExtensionField<F>>(
+    builder: ExtRow<'_, F, EF>,
+    answer: Answer,
+    text: &mut String,
+) -> Result<(), Fault> {
     match answer {
         Answer::Formatted => text.push_str(builder.formatted_failures()?.as_str())?,
         Answer::Has => {
@@ -207,4 +266,18 @@ pub fn answer_row<F: Field + 'static, EF: ExtensionField<F> + 'static>(
         Answer::Copied => show_copies(builder.into_failures().as_slice(), text)?,
     }
     Ok(())
+}
+
+/// Adds what the builder answers at the row of these words, once the calls among them were made.
+pub fn answer_row<F: Field + 'static, EF: ExtensionField<F> + 'static>(
+    alloc: Global,
+    airs: &Airs<'_, F>,
+    answer: Answer,
+    words: &[&str],
+    text: &mut String,
+) -> Result<(), Fault> {
+    let row = row_of::<F, EF>(alloc, words)?;
+    let mut builder = ext_row(alloc, &row)?;
+    assert_words(alloc, airs, &mut builder, words)?;
+    show_answer(builder, answer, text)
 }

@@ -242,27 +242,49 @@ fn show_window<F: Number>(
     Ok(())
 }
 
-/// Adds what the builder at a row lends.
-pub fn lend<F: Number + 'static>(
-    alloc: Global,
-    words: &[&str],
+// Adds both windows of these widths.
+fn show_windows<F: Number + 'static>(
+    builder: &PlainRow<'_, F>,
+    main: usize,
+    preprocessed: usize,
     text: &mut String,
 ) -> Result<(), Fault> {
-    let row = row_of::<F, F>(alloc, words)?;
-    let mut builder = plain_row(alloc, &row)?;
     text.push_str("main")?;
-    show_window(&builder.main()?, row.main.current.len(), text)?;
+    show_window(&builder.main()?, main, text)?;
     text.push_str(", preprocessed")?;
-    show_window(builder.preprocessed(), row.preprocessed.current.len(), text)?;
+    show_window(builder.preprocessed(), preprocessed, text)
+}
+
+// Adds the public and the periodic values.
+fn show_values<F: Number + 'static>(
+    builder: &PlainRow<'_, F>,
+    text: &mut String,
+) -> Result<(), Fault> {
     text.push_str(", public ")?;
     show_elements(builder.public_values(), text)?;
     text.push_str(", periodic ")?;
-    show_elements(builder.periodic_values(), text)?;
-    let first = builder.is_first_row()?;
-    let last = builder.is_last_row()?;
-    let transition = builder.is_transition()?;
+    show_elements(builder.periodic_values(), text)
+}
+
+// Adds the selectors.
+fn show_selectors<F: Number + 'static>(
+    alloc: Global,
+    builder: &mut PlainRow<'_, F>,
+    text: &mut String,
+) -> Result<(), Fault> {
+    let mut selectors = Vec::new(alloc);
+    selectors.push(builder.is_first_row()?)?;
+    selectors.push(builder.is_last_row()?)?;
+    selectors.push(builder.is_transition()?)?;
     text.push_str(", selectors ")?;
-    show_elements(vec![in alloc; first, last, transition]?.as_slice(), text)?;
+    show_elements(selectors.as_slice(), text)
+}
+
+// Adds what there is of permutation data.
+fn show_permutation<F: Number + 'static>(
+    builder: &PlainRow<'_, F>,
+    text: &mut String,
+) -> Result<(), Fault> {
     let challenges = builder.permutation_randomness().len();
     let values = builder.permutation_values().len();
     write!(text, ", challenges {challenges}, values {values}, ")?;
@@ -271,6 +293,21 @@ pub fn lend<F: Number + 'static>(
         Err(error) => write!(text, "{error:?}")?,
     }
     Ok(())
+}
+
+/// Adds what the builder at a row lends.
+pub fn lend<F: Number + 'static>(
+    alloc: Global,
+    words: &[&str],
+    text: &mut String,
+) -> Result<(), Fault> {
+    let row = row_of::<F, F>(alloc, words)?;
+    let (main, preprocessed) = (row.main.current.len(), row.preprocessed.current.len());
+    let mut builder = plain_row(alloc, &row)?;
+    show_windows(&builder, main, preprocessed, text)?;
+    show_values(&builder, text)?;
+    show_selectors(alloc, &mut builder, text)?;
+    show_permutation(&builder, text)
 }
 
 /// Adds the value of an expression at a row.
