@@ -56,8 +56,11 @@ impl<T: Drop> From<AllocFailed<T>> for Fault {
 }
 
 impl From<io::Error> for Fault {
-    fn from(_error: io::Error) -> Fault {
-        Fault::Stream
+    fn from(error: io::Error) -> Fault {
+        match error.kind() {
+            io::ErrorKind::OutOfMemory => Fault::Memory,
+            _ => Fault::Stream,
+        }
     }
 }
 

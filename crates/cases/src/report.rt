@@ -11,6 +11,8 @@ pub struct Report {
     pub at: usize,
     /// Whether a call that is refused for want of memory is made again, after a look at what stands.
     pub again: bool,
+    /// Whether the call of the line that is being tried was refused so, and made again.
+    pub refused: bool,
 }
 
 impl Report {
@@ -20,10 +22,11 @@ impl Report {
             differ: 0,
             at: 0,
             again,
+            refused: false,
         }
     }
 
-    /// Counts a line, and prints one that differs.
+    /// Counts a line, and prints one that differs, or whose call was made again.
     pub fn count(
         &mut self,
         rt: &impl Print,
@@ -33,9 +36,13 @@ impl Report {
         found: &str,
     ) -> Result<(), Fault> {
         self.lines = self.lines.saturating_add(1);
+        let at = self.at;
+        if self.refused {
+            self.refused = false;
+            println!(rt; "{table}:{at}: refused, and made again")?;
+        }
         if !right {
             self.differ = self.differ.saturating_add(1);
-            let at = self.at;
             println!(rt; "{table}:{at}: {line}")?;
             println!(rt; "    found: {found}")?;
         }

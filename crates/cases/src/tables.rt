@@ -28,30 +28,33 @@ fn answer_times<'a, B: Bench<'a>>(
     Ok(())
 }
 
-// Makes a call once more that is refused for want of memory. What has to stand must stand as before it.
+// Makes a call once more that is refused for want of memory. What has to stand must stand as before it; whether it does,
+// and else `text` holds what stands.
 fn answer_again<'a, B: Bench<'a>>(
     alloc: Global,
     bench: &mut B,
     line: &Line<'a>,
+    refused: &mut bool,
     text: &mut String,
-) -> Result<(), Fault> {
+) -> Result<bool, Fault> {
     let mut before = String::new(alloc);
     bench.standing(&mut before)?;
     match answer_times(bench, line, text) {
-        Err(Fault::Memory) => {
-            let mut after = String::new(alloc);
-            bench.standing(&mut after)?;
-            if after.as_str() == before.as_str() {
-                answer_times(bench, line, text)
-            } else {
-                text.clear();
-                text.push_str("after a refusal: ")?;
-                text.push_str(after.as_str())?;
-                Ok(())
-            }
-        }
-        answer => answer,
+        Err(Fault::Memory) => {}
+        Err(fault) => return Err(fault),
+        Ok(()) => return Ok(true),
     }
+    *refused = true;
+    let mut after = String::new(alloc);
+    bench.standing(&mut after)?;
+    if after.as_str() == before.as_str() {
+        answer_times(bench, line, text)?;
+        return Ok(true);
+    }
+    text.clear();
+    text.push_str("after a refusal: ")?;
+    text.push_str(after.as_str())?;
+    Ok(false)
 }
 
 // Whether a call's answer is the one that is wanted, if one is; `text` holds it, or gets the refusal.
@@ -78,18 +81,18 @@ fn is_right<'a, B: Bench<'a>>(
     alloc: Global,
     bench: &mut B,
     line: &'a str,
-    again: bool,
+    report: &mut Report,
     text: &mut String,
 ) -> Result<bool, Fault> {
     match line_of(alloc, line) {
-        Ok(line) => {
-            let answer = if again && line.times.is_none() {
-                answer_again(alloc, bench, &line, text)
-            } else {
-                answer_times(bench, &line, text)
-            };
-            is_wanted(line.wanted, answer, text)
+        Ok(line) if report.again && line.times.is_none() => {
+            match answer_again(alloc, bench, &line, &mut report.refused, text) {
+                Ok(true) => is_wanted(line.wanted, Ok(()), text),
+                Ok(false) => Ok(false),
+                Err(fault) => is_wanted(line.wanted, Err(fault), text),
+            }
         }
+        Ok(line) => is_wanted(line.wanted, answer_times(bench, &line, text), text),
         Err(fault) => is_wanted(None, Err(fault), text),
     }
 }
@@ -113,8 +116,7 @@ pub fn check_lines<'a, B: Bench<'a>>(
             continue;
         }
         text.clear();
-        let again = report.again;
-        let right = is_right(rt.alloc(), &mut bench, line, again, &mut text)?;
+        let right = is_right(rt.alloc(), &mut bench, line, report, &mut text)?;
         report.count(rt, table.name, line, right, text.as_str())?;
     }
     if report.lines == before {

@@ -14,6 +14,8 @@ pub struct Airs<'a, F: Field> {
     pub pool: NamedPool<'a, BaseLeaf<F>>,
     airs: Vec<TableAir<F>>,
     names: Names<'a, usize>,
+    /// Whether the pool is gone with an AIR that was refused.
+    lost: bool,
 }
 
 impl<'a, F: Field> Airs<'a, F> {
@@ -22,6 +24,7 @@ impl<'a, F: Field> Airs<'a, F> {
             pool: NamedPool::new(alloc),
             airs: Vec::new(alloc),
             names: Names::new(alloc),
+            lost: false,
         }
     }
 
@@ -46,6 +49,7 @@ impl<'a, F: Field> Airs<'a, F> {
         self.airs.reserve(1)?;
         self.names.bind(name, self.airs.len(), false)?;
         let none = NamedPool::new(self.names.alloc());
+        self.lost = true;
         let NamedPool { pool, .. } = mem::replace(&mut self.pool, none);
         let Parts {
             constraints,
@@ -61,6 +65,7 @@ impl<'a, F: Field> Airs<'a, F> {
             flat,
             table,
         })?;
+        self.lost = false;
         Ok(())
     }
 
@@ -89,8 +94,12 @@ impl<'a, F: Field> Airs<'a, F> {
         }
     }
 
-    /// Adds the numbers of the expressions that have names.
+    /// Adds the numbers of the expressions that have names. Where an AIR was refused that had taken the pool, no line can
+    /// be tried any more.
     pub fn standing(&self, text: &mut String) -> Result<(), Fault> {
+        if self.lost {
+            return Err(Fault::Memory);
+        }
         let total = self.pool.pool.len();
         write!(text, "{total}:")?;
         for (name, x) in self.pool.names.words().iter().zip(self.pool.names.values()) {

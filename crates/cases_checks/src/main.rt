@@ -10,6 +10,7 @@ mod rows;
 
 use crate::bench::Checks;
 use cases::{Fault, Report, Table, Tables, Why, check_lines};
+use p3_air::{BabyBear, BinomialExtensionField};
 use std::process::ExitCode;
 
 /// The tables of checks.
@@ -23,7 +24,9 @@ impl Tables for CheckTables {
         report: &mut Report,
     ) -> Result<(), Fault> {
         match head {
-            "checks" => check_lines::<Checks<'_>>(rt, table, report),
+            "checks" => {
+                check_lines::<Checks<'_, BabyBear, BinomialExtensionField>>(rt, table, report)
+            }
             _ => Err(Fault::Unreadable(Why::NoSuchTable)),
         }
     }

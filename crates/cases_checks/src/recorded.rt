@@ -8,7 +8,7 @@ use cases::Fault;
 use cases::words::count_of;
 use p3_air::author::{Boolean, Current, Equal, Next, Sum, Transition, When};
 use p3_air::{
-    AirBuilder, AirError, AirLayout, BabyBear, ExprPool, FlatAir, Recorded, SymbolicAirBuilder,
+    AirBuilder, AirError, AirLayout, ExprPool, Field, FlatAir, Recorded, SymbolicAirBuilder,
     finish_recording, record_these, recorded_air,
 };
 use std::alloc::Global;
@@ -24,46 +24,43 @@ fn assert_counter<AB: AirBuilder>(builder: &mut AB) -> Result<(), AirError>
 }
 
 // A builder that has recorded nothing.
-fn recording_builder(
+fn recording_builder<F: Field>(
     alloc: Global,
     layout: AirLayout,
-) -> Result<SymbolicAirBuilder<BabyBear, BabyBear>, AirError>
-    ensures { IfOk result ⟦<SymbolicAirBuilder<BabyBear, BabyBear> as AirBuilder>⟧.ready }
+) -> Result<SymbolicAirBuilder<F, F>, AirError>
+    ensures { IfOk result ⟦<SymbolicAirBuilder<F, F> as AirBuilder>⟧.ready }
 {
     SymbolicAirBuilder::new(alloc, layout)
 }
 
 // What is recorded of it.
-fn record_counter(alloc: Global) -> Result<Recorded<BabyBear, BabyBear>, AirError>
+fn record_counter<F: Field>(alloc: Global) -> Result<Recorded<F, F>, AirError>
     ensures { IfOk result (λ r. IsPool base_reads r.pool.0) }
 {
     let layout = AirLayout {
         main_width: 2,
         ..AirLayout::default()
     };
-    let mut builder = recording_builder(alloc, layout)?;
+    let mut builder = recording_builder::<F>(alloc, layout)?;
     assert_counter(&mut builder)?;
     Ok(finish_recording(builder))
 }
 
 // The AIR of a recording on a trace of two columns.
-fn air_of(
-    alloc: Global,
-    recorded: Recorded<BabyBear, BabyBear>,
-) -> Result<FlatAir<BabyBear>, AirError>
+fn air_of<F: Field>(alloc: Global, recorded: Recorded<F, F>) -> Result<FlatAir<F>, AirError>
     requires { IsPool base_reads recorded.pool.0 }
 {
     recorded_air(recorded, 2, 0, Vec::new(alloc), Vec::new(alloc))
 }
 
 /// Adds the audit of the counter's recording on a trace.
-pub fn recorded_counter(
+pub fn recorded_counter<F: Field + 'static>(
     alloc: Global,
     main: &str,
     weight: &str,
     text: &mut String,
 ) -> Result<(), Fault> {
-    let air = air_of(alloc, record_counter(alloc)?)?;
+    let air = air_of(alloc, record_counter::<F>(alloc)?)?;
     show_audit(
         alloc,
         &air,
@@ -74,8 +71,8 @@ pub fn recorded_counter(
 }
 
 /// Adds how the numbers of a recording are refused with the pool of none: by the first one.
-pub fn recorded_elsewhere(alloc: Global, text: &mut String) -> Result<(), Fault> {
-    let Recorded { base, ext, .. } = record_counter(alloc)?;
+pub fn recorded_elsewhere<F: Field>(alloc: Global, text: &mut String) -> Result<(), Fault> {
+    let Recorded { base, ext, .. } = record_counter::<F>(alloc)?;
     let first = base.first().map(|x| x.number());
     let pool = ExprPool::new(alloc);
     match air_of(alloc, Recorded { pool, base, ext }) {

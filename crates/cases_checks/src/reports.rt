@@ -5,26 +5,25 @@ use cases::{Fault, Why};
 use cases_airs::words::trace_of;
 use cases_airs::{Constraints, ListAir, TableAir};
 use p3_air::{
-    Air, BabyBear, BaseAir, CheckError, ConstraintFailure, ConstraintReport,
-    DebugConstraintBuilder, Field, RowMajorMatrix, SymbolicAirBuilder, audit_air,
-    check_all_constraints, check_constraints,
+    Air, BaseAir, CheckError, ConstraintFailure, ConstraintReport, DebugConstraintBuilder, Field,
+    RowMajorMatrix, SymbolicAirBuilder, audit_air, check_all_constraints, check_constraints,
 };
 use std::alloc::Global;
 
 /// What records an AIR of the base.
-pub type BaseRecorder = SymbolicAirBuilder<BabyBear, BabyBear>;
+pub type BaseRecorder<F> = SymbolicAirBuilder<F, F>;
 /// What a row is checked by.
-pub type RowBuilder<'a> = DebugConstraintBuilder<'a, BabyBear, BabyBear>;
+pub type RowBuilder<'a, F> = DebugConstraintBuilder<'a, F, F>;
 
 /// A trace and public values.
 #[derive(Drop)]
-pub struct Given {
-    pub main: RowMajorMatrix<BabyBear>,
-    pub public: Vec<BabyBear>,
+pub struct Given<F> {
+    pub main: RowMajorMatrix<F>,
+    pub public: Vec<F>,
 }
 
 /// The trace and the public values of two words.
-pub fn given_of(alloc: Global, main: &str, public: &str) -> Result<Given, Fault> {
+pub fn given_of<F: Field>(alloc: Global, main: &str, public: &str) -> Result<Given<F>, Fault> {
     let main = trace_of(alloc, main)?;
     let public = listed_elements(alloc, public)?;
     Ok(Given { main, public })
@@ -51,10 +50,10 @@ fn show(report: &ConstraintReport, text: &mut String) -> Result<(), Fault> {
 }
 
 // The report of a check.
-fn report_of(
+fn report_of<F: Field + 'static>(
     alloc: Global,
-    air: &TableAir<BabyBear>,
-    given: &Given,
+    air: &TableAir<F>,
+    given: &Given<F>,
     cap: Option<usize>,
 ) -> Result<ConstraintReport, Fault> {
     let report = check_all_constraints(alloc, air, &given.main, given.public.as_slice(), cap)?;
@@ -62,10 +61,10 @@ fn report_of(
 }
 
 /// Adds the report of a check.
-pub fn show_report(
+pub fn show_report<F: Field + 'static>(
     alloc: Global,
-    air: &TableAir<BabyBear>,
-    given: &Given,
+    air: &TableAir<F>,
+    given: &Given<F>,
     cap: Option<usize>,
     text: &mut String,
 ) -> Result<(), Fault> {
@@ -74,10 +73,10 @@ pub fn show_report(
 }
 
 /// Adds the debug text of a copy of the report.
-pub fn show_clone(
+pub fn show_clone<F: Field + 'static>(
     alloc: Global,
-    air: &TableAir<BabyBear>,
-    given: &Given,
+    air: &TableAir<F>,
+    given: &Given<F>,
     cap: Option<usize>,
     text: &mut String,
 ) -> Result<(), Fault> {
@@ -87,10 +86,10 @@ pub fn show_clone(
 }
 
 /// Adds the first fault of a check, or its refusal in words.
-pub fn check_first(
+pub fn check_first<F: Field + 'static>(
     alloc: Global,
-    air: &TableAir<BabyBear>,
-    given: &Given,
+    air: &TableAir<F>,
+    given: &Given<F>,
     in_words: bool,
     text: &mut String,
 ) -> Result<(), Fault> {
@@ -108,10 +107,14 @@ pub fn check_first(
 }
 
 /// Adds the degree that an audit infers in a domain of this weight, and its report.
-pub fn show_audit<'a, A: BaseAir<BabyBear> + Air<BaseRecorder> + Air<RowBuilder<'a>>>(
+pub fn show_audit<
+    'a,
+    F: Field + 'static,
+    A: BaseAir<F> + Air<BaseRecorder<F>> + Air<RowBuilder<'a, F>>,
+>(
     alloc: Global,
     air: &'a A,
-    given: &'a Given,
+    given: &'a Given<F>,
     weight: usize,
     text: &mut String,
 ) -> Result<(), Fault> {

@@ -1,22 +1,20 @@
 //! Single rows.
 ghost use Rattle.std.specs.Prelude.{◌≡◌, length, IfOk};
 
-use cases::words::{count_of, extension_of, listed_elements, show_elements};
+use cases::words::{Number, count_of, extension_of, listed_elements, show_elements};
 use cases::{Fault, Why};
 use cases_airs::pool::NamedPool;
 use p3_air::{
-    AirBuilder, BabyBear, BaseLeaf, BinomialExtensionField, DebugConstraintBuilder, Field,
-    PermutationAirBuilder, RowMajorMatrixView, RowWindow, ViewPair, WindowAccess, resolve,
+    AirBuilder, BaseLeaf, DebugConstraintBuilder, ExtensionField, Field, PermutationAirBuilder,
+    RowMajorMatrixView, RowWindow, ViewPair, WindowAccess, resolve,
 };
 use std::alloc::Global;
 
-pub type Element = BinomialExtensionField;
-
 /// A builder at a row without permutation data.
-pub type PlainRow<'a> = DebugConstraintBuilder<'a, BabyBear, BabyBear>;
+pub type PlainRow<'a, F> = DebugConstraintBuilder<'a, F, F>;
 
 /// A builder at a row with permutation data.
-pub type ExtRow<'a> = DebugConstraintBuilder<'a, BabyBear, Element>;
+pub type ExtRow<'a, F, EF> = DebugConstraintBuilder<'a, F, EF>;
 
 /// A row and the one after it.
 #[derive(Drop)]
@@ -27,18 +25,18 @@ pub struct Two<T> {
 
 /// What stands at a row.
 #[derive(Drop)]
-pub struct Row {
+pub struct Row<F, EF> {
     pub index: usize,
     /// From where the builder counts.
     pub from: usize,
-    pub main: Two<BabyBear>,
-    pub preprocessed: Two<BabyBear>,
-    pub public: Vec<BabyBear>,
-    pub selectors: Vec<BabyBear>,
-    pub periodic: Vec<BabyBear>,
-    pub permutation: Two<Element>,
-    pub challenges: Vec<Element>,
-    pub values: Vec<Element>,
+    pub main: Two<F>,
+    pub preprocessed: Two<F>,
+    pub public: Vec<F>,
+    pub selectors: Vec<F>,
+    pub periodic: Vec<F>,
+    pub permutation: Two<EF>,
+    pub challenges: Vec<EF>,
+    pub values: Vec<EF>,
 }
 
 fn nothing<T: Drop>(alloc: Global) -> Two<T> {
@@ -49,7 +47,7 @@ fn nothing<T: Drop>(alloc: Global) -> Two<T> {
 }
 
 // The row `CURRENT/NEXT`, or one that stands twice.
-fn two_of(alloc: Global, word: &str) -> Result<Two<BabyBear>, Fault> {
+fn two_of<F: Field>(alloc: Global, word: &str) -> Result<Two<F>, Fault> {
     let (current, next) = word.split_once('/').unwrap_or((word, word));
     Ok(Two {
         current: listed_elements(alloc, current)?,
@@ -58,26 +56,32 @@ fn two_of(alloc: Global, word: &str) -> Result<Two<BabyBear>, Fault> {
 }
 
 /// An element of the extension: its coefficients, which `.` separates.
-pub fn element_of_extension(alloc: Global, word: &str) -> Result<Element, Fault> {
+pub fn element_of_extension<F: Field, EF: ExtensionField<F>>(
+    alloc: Global,
+    word: &str,
+) -> Result<EF, Fault> {
     let mut parts = Vec::new(alloc);
     for part in word.split('.') {
         parts.push(part)?;
     }
-    extension_of::<BabyBear, Element>(alloc, parts.as_slice())
+    extension_of::<F, EF>(alloc, parts.as_slice())
 }
 
 // Elements of the extension, which commas separate.
-fn listed_extension(alloc: Global, word: &str) -> Result<Vec<Element>, Fault> {
+fn listed_extension<F: Field, EF: ExtensionField<F>>(
+    alloc: Global,
+    word: &str,
+) -> Result<Vec<EF>, Fault> {
     let mut all = Vec::new(alloc);
     if word != "-" {
         for part in word.split(',') {
-            all.push(element_of_extension(alloc, part)?)?;
+            all.push(element_of_extension::<F, EF>(alloc, part)?)?;
         }
     }
     Ok(all)
 }
 
-impl Row {
+impl<F: Field, EF: ExtensionField<F>> Row<F, EF> {
     fn new(alloc: Global) -> Self {
         Row {
             index: 0,
@@ -105,22 +109,22 @@ impl Row {
             "periodic" => self.periodic = listed_elements(alloc, value)?,
             "permutation" => {
                 self.permutation = Two {
-                    current: listed_extension(alloc, value)?,
-                    next: listed_extension(alloc, value)?,
+                    current: listed_extension::<F, EF>(alloc, value)?,
+                    next: listed_extension::<F, EF>(alloc, value)?,
                 }
             }
-            "challenges" => self.challenges = listed_extension(alloc, value)?,
-            "values" => self.values = listed_extension(alloc, value)?,
+            "challenges" => self.challenges = listed_extension::<F, EF>(alloc, value)?,
+            "values" => self.values = listed_extension::<F, EF>(alloc, value)?,
             _ => return Err(Fault::Unreadable(Why::NoSuchWord)),
         }
         Ok(())
     }
 
     // The selectors of the first row, the last one and the others; without a word for them all are 0.
-    fn selectors(&self) -> Result<[BabyBear; 3], Fault> {
+    fn selectors(&self) -> Result<(F, F, F), Fault> {
         match self.selectors.as_slice() {
-            [] => Ok([BabyBear::ZERO, BabyBear::ZERO, BabyBear::ZERO]),
-            [first, last, transition] => Ok([*first, *last, *transition]),
+            [] => Ok((F::ZERO, F::ZERO, F::ZERO)),
+            [first, last, transition] => Ok((*first, *last, *transition)),
             _ => Err(Fault::Unreadable(Why::OtherShape)),
         }
     }
@@ -132,7 +136,10 @@ pub fn is_call(word: &str) -> bool {
 }
 
 /// The row of the words `KEY:VALUE` among these.
-pub fn row_of(alloc: Global, words: &[&str]) -> Result<Row, Fault> {
+pub fn row_of<F: Field, EF: ExtensionField<F>>(
+    alloc: Global,
+    words: &[&str],
+) -> Result<Row<F, EF>, Fault> {
     let mut row = Row::new(alloc);
     for word in words {
         if !is_call(*word) {
@@ -159,8 +166,8 @@ fn pair<'a, T: Copy>(rows: &'a Two<T>) -> Result<ViewPair<'a, T>, Fault> {
 }
 
 // The builder at a row, without permutation data.
-fn plain_row<'a>(alloc: Global, row: &'a Row) -> Result<PlainRow<'a>, Fault> {
-    let [first, last, transition] = row.selectors()?;
+fn plain_row<'a, F: Field>(alloc: Global, row: &'a Row<F, F>) -> Result<PlainRow<'a, F>, Fault> {
+    let (first, last, transition) = row.selectors()?;
     let mut periodic = Vec::new(alloc);
     periodic.extend_from_slice(row.periodic.as_slice())?;
     let main = pair(&row.main)?;
@@ -179,8 +186,11 @@ fn plain_row<'a>(alloc: Global, row: &'a Row) -> Result<PlainRow<'a>, Fault> {
 }
 
 /// The builder at a row, with permutation data.
-pub fn ext_row<'a>(alloc: Global, row: &'a Row) -> Result<ExtRow<'a>, Fault> {
-    let [first, last, transition] = row.selectors()?;
+pub fn ext_row<'a, F: Field, EF: ExtensionField<F>>(
+    alloc: Global,
+    row: &'a Row<F, EF>,
+) -> Result<ExtRow<'a, F, EF>, Fault> {
+    let (first, last, transition) = row.selectors()?;
     let mut periodic = Vec::new(alloc);
     periodic.extend_from_slice(row.periodic.as_slice())?;
     let main = pair(&row.main)?;
@@ -204,10 +214,10 @@ pub fn ext_row<'a>(alloc: Global, row: &'a Row) -> Result<ExtRow<'a>, Fault> {
 }
 
 // Adds a number, or `-` where there is none.
-fn show_found(found: Option<BabyBear>, text: &mut String) -> Result<(), Fault> {
+fn show_found<F: Number>(found: Option<F>, text: &mut String) -> Result<(), Fault> {
     match found {
         Some(x) => {
-            let number = x.as_canonical_u64();
+            let number = x.number();
             write!(text, " {number}")?;
         }
         None => text.push_str(" -")?,
@@ -216,8 +226,8 @@ fn show_found(found: Option<BabyBear>, text: &mut String) -> Result<(), Fault> {
 }
 
 // Adds both rows of a window, up to the first column that it hasn't.
-fn show_window(
-    window: &RowWindow<'_, BabyBear>,
+fn show_window<F: Number>(
+    window: &RowWindow<'_, F>,
     width: usize,
     text: &mut String,
 ) -> Result<(), Fault> {
@@ -232,23 +242,49 @@ fn show_window(
     Ok(())
 }
 
-/// Adds what the builder at a row lends.
-pub fn lend(alloc: Global, words: &[&str], text: &mut String) -> Result<(), Fault> {
-    let row = row_of(alloc, words)?;
-    let mut builder = plain_row(alloc, &row)?;
+// Adds both windows of these widths.
+fn show_windows<F: Number + 'static>(
+    builder: &PlainRow<'_, F>,
+    main: usize,
+    preprocessed: usize,
+    text: &mut String,
+) -> Result<(), Fault> {
     text.push_str("main")?;
-    show_window(&builder.main()?, row.main.current.len(), text)?;
+    show_window(&builder.main()?, main, text)?;
     text.push_str(", preprocessed")?;
-    show_window(builder.preprocessed(), row.preprocessed.current.len(), text)?;
+    show_window(builder.preprocessed(), preprocessed, text)
+}
+
+// Adds the public and the periodic values.
+fn show_values<F: Number + 'static>(
+    builder: &PlainRow<'_, F>,
+    text: &mut String,
+) -> Result<(), Fault> {
     text.push_str(", public ")?;
     show_elements(builder.public_values(), text)?;
     text.push_str(", periodic ")?;
-    show_elements(builder.periodic_values(), text)?;
-    let first = builder.is_first_row()?;
-    let last = builder.is_last_row()?;
-    let transition = builder.is_transition()?;
+    show_elements(builder.periodic_values(), text)
+}
+
+// Adds the selectors.
+fn show_selectors<F: Number + 'static>(
+    alloc: Global,
+    builder: &mut PlainRow<'_, F>,
+    text: &mut String,
+) -> Result<(), Fault> {
+    let mut selectors = Vec::new(alloc);
+    selectors.push(builder.is_first_row()?)?;
+    selectors.push(builder.is_last_row()?)?;
+    selectors.push(builder.is_transition()?)?;
     text.push_str(", selectors ")?;
-    show_elements(&[first, last, transition], text)?;
+    show_elements(selectors.as_slice(), text)
+}
+
+// Adds what there is of permutation data.
+fn show_permutation<F: Number + 'static>(
+    builder: &PlainRow<'_, F>,
+    text: &mut String,
+) -> Result<(), Fault> {
     let challenges = builder.permutation_randomness().len();
     let values = builder.permutation_values().len();
     write!(text, ", challenges {challenges}, values {values}, ")?;
@@ -259,18 +295,33 @@ pub fn lend(alloc: Global, words: &[&str], text: &mut String) -> Result<(), Faul
     Ok(())
 }
 
-/// Adds the value of an expression at a row.
-pub fn resolved(
+/// Adds what the builder at a row lends.
+pub fn lend<F: Number + 'static>(
     alloc: Global,
-    pool: &NamedPool<'_, BaseLeaf<BabyBear>>,
+    words: &[&str],
+    text: &mut String,
+) -> Result<(), Fault> {
+    let row = row_of::<F, F>(alloc, words)?;
+    let (main, preprocessed) = (row.main.current.len(), row.preprocessed.current.len());
+    let mut builder = plain_row(alloc, &row)?;
+    show_windows(&builder, main, preprocessed, text)?;
+    show_values(&builder, text)?;
+    show_selectors(alloc, &mut builder, text)?;
+    show_permutation(&builder, text)
+}
+
+/// Adds the value of an expression at a row.
+pub fn resolved<F: Number + 'static>(
+    alloc: Global,
+    pool: &NamedPool<'_, BaseLeaf<F>>,
     x: &str,
     words: &[&str],
     text: &mut String,
 ) -> Result<(), Fault> {
-    let row = row_of(alloc, words)?;
+    let row = row_of::<F, F>(alloc, words)?;
     let mut builder = plain_row(alloc, &row)?;
     let x = pool.at(x)?;
-    let value = resolve(alloc, &pool.pool, x, &mut builder)?.as_canonical_u64();
+    let value = resolve(alloc, &pool.pool, x, &mut builder)?.number();
     write!(text, "{value}")?;
     Ok(())
 }

@@ -1,12 +1,13 @@
-//! Names that are asked for only where an assertion at a row fails, and never where one is recorded; batches as arrays, and
-//! the context of a builder at a row.
+//! Names that are asked for only where an assertion at a row fails, and never where one is recorded; batches as arrays,
+//! and what a builder at a row, or a filter on it, lends.
 ghost use Rattle.std.specs.Prelude.{IfOk};
 
 use p3_air::{
     AirBuilder, AirBuilderWithContext, AirError, AirLayout, AssertAll, AssertAllExt,
     AssertAllNamed, BabyBear, BinomialExtensionField, DebugConstraintBuilder, ExtAlgebra,
-    ExtensionBuilder, ExtensionField, Field, Lazy, Name, NamedAirBuilder, NamedExtensionBuilder,
-    RowMajorMatrixView, SymbolicAirBuilder, ViewPair,
+    ExtensionBuilder, ExtensionField, Field, FromVar, Lazy, Name, NamedAirBuilder,
+    NamedExtensionBuilder, PermutationAirBuilder, RowMajorMatrixView, SymbolicAirBuilder, ViewPair,
+    WindowAccess,
 };
 use std::alloc::Global;
 use std::cell::Cell;
@@ -19,11 +20,10 @@ type Row<'a> = DebugConstraintBuilder<'a, BabyBear, Element>;
 
 type Recorder = SymbolicAirBuilder<BabyBear, Element>;
 
-// A builder at row 7 of a trace without columns.
-fn row<'a>(alloc: Global) -> Row<'a> {
+// A builder at row 7 of a trace without columns, with these permutation data.
+fn row_with<'a>(alloc: Global, permutation: ViewPair<'a, Element>) -> Row<'a> {
     let none = RowMajorMatrixView::new_row(&[]);
     let rows = ViewPair::new(none, none);
-    let none = RowMajorMatrixView::new_row(&[]);
     DebugConstraintBuilder::new_with_permutation(
         alloc,
         7,
@@ -33,11 +33,17 @@ fn row<'a>(alloc: Global) -> Row<'a> {
         BabyBear::ZERO,
         BabyBear::ZERO,
         BabyBear::ONE,
-        ViewPair::new(none, none),
+        permutation,
         &[],
         &[],
         Vec::new(alloc),
     )
+}
+
+// The same without permutation data.
+fn row<'a>(alloc: Global) -> Row<'a> {
+    let none = RowMajorMatrixView::new_row(&[]);
+    row_with(alloc, ViewPair::new(none, none))
 }
 
 // So many times the root of the extension.
@@ -201,5 +207,36 @@ fn a_builder_at_a_row_has_the_empty_context(rt: HostRuntime) -> Result<(), Fail>
     let alloc = rt.alloc();
     let builder = row(alloc);
     assert_eq!(rt; context_text(alloc, &builder)?.as_str(), "()");
+    Ok(())
+}
+
+// What a filter lends of permutation data: column 1 of the window's current row, and the next row's variable in column 0.
+fn lent_by_filter<AB: PermutationAirBuilder>(
+    builder: &mut AB,
+    condition: AB::Expr,
+) -> Result<(Option<AB::VarEF>, Option<AB::VarEF>), AirError>
+where
+    AB::ExtRing: FromVar<AB::F, AB::RandomVar> + FromVar<AB::F, AB::PermutationVar>,
+    requires ready { AB.ready builder.old }
+    requires condition_in { AB.Ring.has (AB.ring_of builder.old) condition }
+{
+    let filter = builder.when(condition)?;
+    let current = filter.permutation()?.current(1);
+    let next = filter.permutation_variable(1, 0)?;
+    Ok((current, next))
+}
+
+#[test]
+fn a_filter_hands_on_the_permutation_data(rt: HostRuntime) -> Result<(), Fail> {
+    let current = [root_times(1), root_times(2)];
+    let next = [root_times(3), root_times(4)];
+    let rows = ViewPair::new(
+        RowMajorMatrixView::new_row(&current),
+        RowMajorMatrixView::new_row(&next),
+    );
+    let mut builder = row_with(rt.alloc(), rows);
+    let (here, after) = lent_by_filter(&mut builder, BabyBear::new(2))?;
+    assert_eq!(rt; here, Some(root_times(2)));
+    assert_eq!(rt; after, Some(root_times(3)));
     Ok(())
 }
