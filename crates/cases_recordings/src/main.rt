@@ -14,7 +14,6 @@ mod lent;
 mod recordings;
 
 use crate::bench::{AirBench, Alone};
-use air_field::{BabyBear, BinomialExtensionField};
 use cases::{Fault, Report, Table, Tables, Why, check_lines};
 use std::process::ExitCode;
 
@@ -28,12 +27,8 @@ impl Tables for RecordingTables {
         report: &mut Report,
     ) -> Result<(), Fault> {
         match head {
-            "airs" => {
-                check_lines::<AirBench<'_, BabyBear, BinomialExtensionField>>(rt, table, report)
-            }
-            "calls without an AIR" => {
-                check_lines::<Alone<BabyBear, BinomialExtensionField>>(rt, table, report)
-            }
+            "airs" => check_lines::<AirBench<'_>>(rt, table, report),
+            "calls without an AIR" => check_lines::<Alone>(rt, table, report),
             _ => Err(Fault::Unreadable(Why::NoSuchTable)),
         }
     }
