@@ -263,15 +263,16 @@ fn assert_under_name<AB: NamedExtensionBuilder, N: Namespace>(
     ensures { OnOk result (AB.kept builder.old builder.new) }
 {
     match call {
-        [word, list @ ..] if word.ends_with("s_named_slice") => {
-            assert_each_named(alloc, builder, *word, list, name)
-        }
-        [word, x] if word.ends_with("_ext_named") => {
+        ["assert_eq_ext_named", x, y] => assert_eq_ext_named_of(alloc, builder, *x, *y, name),
+        [word @ ("assert_zero_ext_named" | "assert_one_ext_named"), x] => {
             assert_one_ext_named_of(alloc, builder, *word, *x, name)
         }
-        [word, x] => assert_one_named_of(builder, *word, *x, name),
         ["assert_eq_named", x, y] => assert_equal_named(builder, *x, *y, name),
-        ["assert_eq_ext_named", x, y] => assert_eq_ext_named_of(alloc, builder, *x, *y, name),
+        [
+            word @ ("assert_zeros_named_slice" | "assert_bools_named_slice"),
+            list @ ..,
+        ] => assert_each_named(alloc, builder, *word, list, name),
+        [word, x] => assert_one_named_of(builder, *word, *x, name),
         _ => Err(Fault::Unreadable(Why::NoSuchCall)),
     }
 }
@@ -298,12 +299,19 @@ fn assert_bare<AB: NamedExtensionBuilder>(
     ensures { OnOk result (AB.kept builder.old builder.new) }
 {
     match call {
-        ["assert_eq_slices", lists @ ..] => assert_lists(alloc, builder, lists),
-        [word, list @ ..] if word.ends_with("s_slice") => assert_each(alloc, builder, *word, list),
-        [word, x] if word.ends_with("_ext") => assert_one_ext_of(alloc, builder, *word, *x),
-        [word, x] => assert_one_of(builder, *word, *x),
+        [word @ ("assert_eq_ext" | "assert_zeros_ext_slice"), x, y] => {
+            assert_two_ext_of(alloc, builder, *word, *x, *y)
+        }
+        [word @ ("assert_zero_ext" | "assert_one_ext"), x] => {
+            assert_one_ext_of(alloc, builder, *word, *x)
+        }
         ["assert_eq", x, y] => assert_equal(builder, *x, *y),
-        [word, x, y] => assert_two_ext_of(alloc, builder, *word, *x, *y),
+        ["assert_eq_slices", lists @ ..] => assert_lists(alloc, builder, lists),
+        [
+            word @ ("assert_zeros_slice" | "assert_bools_slice"),
+            list @ ..,
+        ] => assert_each(alloc, builder, *word, list),
+        [word, x] => assert_one_of(builder, *word, *x),
         _ => Err(Fault::Unreadable(Why::NoSuchCall)),
     }
 }

@@ -98,9 +98,10 @@ fn assert_under<AB: NamedExtensionBuilder>(
             Ok(assert_when_ne(alloc, builder, x, y, call)?)
         }
         ["when_transition_window", "2", call @ ..] => assert_in_window(alloc, builder, call),
-        [word, call @ ..] if word.starts_with("when_") => {
-            assert_on_rows(alloc, builder, *word, call)
-        }
+        [
+            word @ ("when_first_row" | "when_last_row" | "when_transition"),
+            call @ ..,
+        ] => { assert_on_rows(alloc, builder, *word, call) }
         _ => assert_this(alloc, builder, call),
     }
 }

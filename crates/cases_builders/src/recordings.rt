@@ -52,20 +52,13 @@ fn show_recorded<F: Number, EF: ExtensionField<F>>(
     Ok(())
 }
 
-// Adds what is recorded of the assertions, or how many rows a window has.
+// Adds what is recorded of the assertions.
 fn answer_recorded<F: Number, EF: ExtensionField<F>>(
     alloc: Global,
     words: &[&str],
     text: &mut String,
 ) -> Result<(), Fault> {
-    match words {
-        ["WINDOW"] => {
-            let rows = SymbolicAirBuilder::<F, EF>::WINDOW;
-            write!(text, "{rows}")?;
-            Ok(())
-        }
-        words => show_recorded(&recorded::<F, EF>(alloc, words)?, text),
-    }
+    show_recorded(&recorded::<F, EF>(alloc, words)?, text)
 }
 
 impl<'a> Bench<'a> for Recordings {
@@ -74,8 +67,14 @@ impl<'a> Bench<'a> for Recordings {
     }
 
     fn answer(&mut self, line: &Line<'a>, text: &mut String) -> Result<(), Fault> {
-        let words = line.words.as_slice();
-        answer_recorded::<BabyBear, BinomialExtensionField>(self.alloc, words, text)
+        match line.words.as_slice() {
+            ["WINDOW"] => {
+                let rows = SymbolicAirBuilder::<BabyBear, BinomialExtensionField>::WINDOW;
+                write!(text, "{rows}")?;
+                Ok(())
+            }
+            words => answer_recorded::<BabyBear, BinomialExtensionField>(self.alloc, words, text),
+        }
     }
 
     fn standing(&self, _text: &mut String) -> Result<(), Fault> {

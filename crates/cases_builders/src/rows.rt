@@ -2,9 +2,7 @@
 
 use crate::filters::assert_all;
 use air_builder::AirBuilder;
-use air_field::{
-    BabyBear, BinomialExtensionField, ExtensionField, Field, RowMajorMatrixView, ViewPair,
-};
+use air_field::{BabyBear, BinomialExtensionField, RowMajorMatrixView, ViewPair};
 use air_report::DebugConstraintBuilder;
 use cases::words::element_of;
 use cases::{Bench, Fault, Line};
@@ -15,14 +13,11 @@ pub struct Rows {
     alloc: Global,
 }
 
-type RowBuilder<'a, F, EF> = DebugConstraintBuilder<'a, F, EF>;
+type RowBuilder<'a> = DebugConstraintBuilder<'a, BabyBear, BinomialExtensionField>;
 
 // A builder at the first row, with these selectors of the first, the last and the other rows.
-fn row_builder<'a, F: Field, EF: ExtensionField<F>>(
-    alloc: Global,
-    selectors: (F, F, F),
-) -> RowBuilder<'a, F, EF> {
-    let (first, last, transition) = selectors;
+fn row_builder<'a>(alloc: Global, selectors: [BabyBear; 3]) -> RowBuilder<'a> {
+    let [first, last, transition] = selectors;
     let none = RowMajorMatrixView::new_row(&[]);
     let none_over = RowMajorMatrixView::new_row(&[]);
     DebugConstraintBuilder::new_with_permutation(
@@ -41,47 +36,14 @@ fn row_builder<'a, F: Field, EF: ExtensionField<F>>(
     )
 }
 
-fn assert_at_row<F: Field + 'static, EF: ExtensionField<F> + 'static>(
-    alloc: Global,
-    builder: &mut RowBuilder<'_, F, EF>,
-    words: &[&str],
-) -> Result<(), Fault> {
+fn assert_at_row(alloc: Global, builder: &mut RowBuilder<'_>, words: &[&str]) -> Result<(), Fault> {
     assert_all(alloc, builder, words)
 }
 
-// Adds which of the assertions fail at a row with these selectors.
-fn show_failures<F: Field + 'static, EF: ExtensionField<F> + 'static>(
-    alloc: Global,
-    selectors: (F, F, F),
-    words: &[&str],
-    text: &mut String,
-) -> Result<(), Fault> {
-    let mut builder = row_builder::<F, EF>(alloc, selectors);
-    assert_at_row(alloc, &mut builder, words)?;
+fn show_failures(builder: &RowBuilder<'_>, text: &mut String) -> Result<(), Fault> {
     let failures = builder.formatted_failures()?;
     text.push_str(failures.as_str())?;
     Ok(())
-}
-
-// Adds what the words' call answers. Over any fields: a call on a builder over given ones is dear to prove.
-fn answer_row<F: Field + 'static, EF: ExtensionField<F> + 'static>(
-    alloc: Global,
-    words: &[&str],
-    text: &mut String,
-) -> Result<(), Fault> {
-    match words {
-        ["WINDOW"] => {
-            let rows = DebugConstraintBuilder::<'static, F, EF>::WINDOW;
-            write!(text, "{rows}")?;
-            Ok(())
-        }
-        ["at", first, last, transition, words @ ..] => {
-            let (first, last) = (element_of(*first)?, element_of(*last)?);
-            let selectors = (first, last, element_of(*transition)?);
-            show_failures::<F, EF>(alloc, selectors, words, text)
-        }
-        words => show_failures::<F, EF>(alloc, (F::ONE, F::ONE, F::ONE), words, text),
-    }
 }
 
 impl<'a> Bench<'a> for Rows {
@@ -90,7 +52,25 @@ impl<'a> Bench<'a> for Rows {
     }
 
     fn answer(&mut self, line: &Line<'a>, text: &mut String) -> Result<(), Fault> {
-        answer_row::<BabyBear, BinomialExtensionField>(self.alloc, line.words.as_slice(), text)
+        let (selectors, words) = match line.words.as_slice() {
+            ["WINDOW"] => {
+                let rows = DebugConstraintBuilder::<
+                    'static,
+                    BabyBear,
+                    BinomialExtensionField,
+                >::WINDOW;
+                write!(text, "{rows}")?;
+                return Ok(());
+            }
+            ["at", first, last, transition, words @ ..] => {
+                let (first, last) = (element_of(*first)?, element_of(*last)?);
+                ([first, last, element_of(*transition)?], words)
+            }
+            words => ([BabyBear::new(1); 3], words),
+        };
+        let mut builder = row_builder(self.alloc, selectors);
+        assert_at_row(self.alloc, &mut builder, words)?;
+        show_failures(&builder, text)
     }
 
     fn standing(&self, _text: &mut String) -> Result<(), Fault> {

@@ -34,8 +34,8 @@ impl<'a> Bench<'a> for Values {
             ["air", call @ ..] => air::<BabyBear>(alloc, call, text),
             ["PairCol", call @ ..] => pair_col::<BabyBear>(alloc, call, text),
             ["VirtualPairCol", call @ ..] => virtual_pair_col::<BabyBear>(alloc, call, text),
-            ["utils", call @ ..] => utils::<BabyBear>(alloc, call, text),
-            ["gadget", call @ ..] => word_gadget::<BabyBear>(alloc, call, text),
+            ["utils", call @ ..] => utils(alloc, call, text),
+            ["gadget", call @ ..] => word_gadget(alloc, call, text),
             _ => Err(Fault::Unreadable(Why::NoSuchCall)),
         }
     }
