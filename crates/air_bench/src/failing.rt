@@ -8,7 +8,7 @@ ghost use Rattle.air_bench.specs.More.{zeros};
 use crate::traces::constant_trace;
 use p3_air::author::{All, Condition, Constraint, Current, Family, Zero, assert_all};
 use p3_air::{
-    Air, AirBuilder, AirError, BaseAir, BoundaryPublic, Field, RowMajorMatrix,
+    Air, AirBuilder, AirError, BabyBear, BaseAir, BoundaryPublic, Field, RowMajorMatrix,
     check_all_constraints,
 };
 use std::alloc::Global;
@@ -69,22 +69,18 @@ impl<AB: AirBuilder> Air<AB> for Zeros {
 }
 
 // The failures that one check finds.
-fn failures<F: Field + 'static>(
+fn failures(
     alloc: Global,
     air: &Zeros,
-    main: &RowMajorMatrix<F>,
+    main: &RowMajorMatrix<BabyBear>,
 ) -> Result<usize, AirError> {
     let report = check_all_constraints(alloc, air, main, &[], None)?;
     Ok(report.failures.len())
 }
 
 /// The failures that so many checks of 128 constraints find on so many rows that fail each.
-pub fn check_failing<F: Field + 'static>(
-    alloc: Global,
-    rounds: usize,
-    rows: usize,
-) -> Result<usize, AirError> {
-    let main = constant_trace(alloc, F::ONE, 1, rows)?;
+pub fn check_failing(alloc: Global, rounds: usize, rows: usize) -> Result<usize, AirError> {
+    let main = constant_trace(alloc, BabyBear::ONE, 1, rows)?;
     let air = Zeros { count: 128 };
     let mut count = 0usize;
     for _ in 0..rounds {

@@ -3,20 +3,22 @@ ghost use Rattle.std.specs.Prelude.{◌≡◌};
 
 use crate::wide::Wide;
 use air_folder::{ConstraintFolder, fold_air};
-use p3_air::{AirError, AirLayout, ExtensionField, Field, RowMajorMatrixView, ViewPair};
+use p3_air::{
+    AirError, AirLayout, BabyBear, BinomialExtensionField, ExtensionField, Field,
+    RowMajorMatrixView, ViewPair,
+};
 use std::alloc::Global;
 
-type Folder<'a, F, EF> = ConstraintFolder<'a, F, EF>;
+type Element = BinomialExtensionField;
+
+type Folder<'a> = ConstraintFolder<'a, BabyBear, Element>;
 
 // A folder at the first of these rows, whose next row it is too.
-fn folder_at<'a, F: Field + 'static, EF: ExtensionField<F> + 'static>(
-    row: &'a [EF],
-    alpha: EF,
-) -> Folder<'a, F, EF>
-    ensures { result.accumulator ≡ EF.over.ring.nil }
+fn folder_at<'a>(row: &'a [Element], alpha: Element) -> Folder<'a>
+    ensures { result.accumulator ≡ ⟦<BinomialExtensionField as ExtensionField<BabyBear>>⟧.over.ring.nil }
 {
-    let one = EF::from_base(F::ONE);
-    let zero = EF::from_base(F::ZERO);
+    let one = Element::from_base(BabyBear::ONE);
+    let zero = Element::from_base(BabyBear::ZERO);
     let view = RowMajorMatrixView::new_row(row);
     let none = RowMajorMatrixView::new_row(&[]);
     ConstraintFolder::new(
@@ -35,31 +37,24 @@ fn folder_at<'a, F: Field + 'static, EF: ExtensionField<F> + 'static>(
 }
 
 // The constraints that one fold folds.
-fn folded<F: Field + 'static, EF: ExtensionField<F> + 'static>(
-    alloc: Global,
-    row: &[EF],
-    alpha: EF,
-) -> Result<usize, AirError> {
+fn folded(alloc: Global, row: &[Element], alpha: Element) -> Result<usize, AirError> {
     let air = Wide { count: 64 };
-    let layout = AirLayout::from_air::<F, Wide>(&air);
-    let mut folder: Folder<'_, F, EF> = folder_at(row, alpha);
+    let layout = AirLayout::from_air::<BabyBear, Wide>(&air);
+    let mut folder = folder_at(row, alpha);
     let folded = fold_air(alloc, &air, layout, &mut folder)?;
     Ok(folded.recorded.base.len())
 }
 
 /// The constraints that so many folds of the wide AIR fold.
-pub fn fold_wide<F: Field + 'static, EF: ExtensionField<F> + 'static>(
-    alloc: Global,
-    rounds: usize,
-) -> Result<usize, AirError> {
-    let alpha = EF::from_base(F::from_u64(7));
+pub fn fold_wide(alloc: Global, rounds: usize) -> Result<usize, AirError> {
+    let alpha = Element::from_base(BabyBear::from_u64(7));
     let mut row = Vec::with_capacity(alloc, 64)?;
     for j in 1..=64u64 {
-        row.push(EF::from_base(F::from_u64(j)))?;
+        row.push(Element::from_base(BabyBear::from_u64(j)))?;
     }
     let mut count = 0usize;
     for _ in 0..rounds {
-        count = count.wrapping_add(folded::<F, EF>(alloc, &row, alpha)?);
+        count = count.wrapping_add(folded(alloc, &row, alpha)?);
     }
     Ok(count)
 }

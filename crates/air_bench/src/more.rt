@@ -12,9 +12,9 @@ use p3_air::author::{
     PermutationCurrent, PermutationNext, Product, Sum, Zero, assert_all,
 };
 use p3_air::{
-    Air, AirBuilder, AirError, AirLayout, BaseAir, BoundaryPublic, ExtensionField, Field, FlatAir,
-    FromVar, PermutationAirBuilder, RowMajorMatrix, check_all_constraints,
-    get_all_symbolic_constraints, get_symbolic_constraints, recorded_air,
+    Air, AirBuilder, AirError, AirLayout, BabyBear, BaseAir, BinomialExtensionField,
+    BoundaryPublic, ExtensionField, Field, FlatAir, FromVar, PermutationAirBuilder, RowMajorMatrix,
+    check_all_constraints, get_all_symbolic_constraints, get_symbolic_constraints, recorded_air,
 };
 use std::alloc::Global;
 
@@ -152,10 +152,10 @@ where
 }
 
 /// The failures that a check finds, and the constraints of a row.
-fn counted<F: Field + 'static>(
+fn counted(
     alloc: Global,
-    air: &FlatAir<F>,
-    main: &RowMajorMatrix<F>,
+    air: &FlatAir<BabyBear>,
+    main: &RowMajorMatrix<BabyBear>,
 ) -> Result<usize, AirError> {
     let report = check_all_constraints(alloc, air, main, &[], None)?;
     Ok(
@@ -167,10 +167,10 @@ fn counted<F: Field + 'static>(
 }
 
 /// The failures that a check finds, and the constraints of a row.
-fn counted_cycles<F: Field + 'static>(
+fn counted_cycles(
     alloc: Global,
-    air: &Cycles<F>,
-    main: &RowMajorMatrix<F>,
+    air: &Cycles<BabyBear>,
+    main: &RowMajorMatrix<BabyBear>,
 ) -> Result<usize, AirError> {
     let report = check_all_constraints(alloc, air, main, &[], None)?;
     Ok(
@@ -182,14 +182,10 @@ fn counted_cycles<F: Field + 'static>(
 }
 
 /// The failures that so many checks of the recorded wide AIR find.
-pub fn check_flat<F: Field + 'static>(
-    alloc: Global,
-    rounds: usize,
-    rows: usize,
-) -> Result<usize, AirError> {
+pub fn check_flat(alloc: Global, rounds: usize, rows: usize) -> Result<usize, AirError> {
     let wide = Wide { count: 64 };
-    let layout = AirLayout::from_air::<F, Wide>(&wide);
-    let recorded = get_symbolic_constraints::<F, Wide>(alloc, &wide, layout)?;
+    let layout = AirLayout::from_air::<BabyBear, Wide>(&wide);
+    let recorded = get_symbolic_constraints::<BabyBear, Wide>(alloc, &wide, layout)?;
     let air = recorded_air(recorded, 64, 0, Vec::new(alloc), Vec::new(alloc))?;
     let main = wide_trace(alloc, rows)?;
     let mut count = 0usize;
@@ -200,18 +196,14 @@ pub fn check_flat<F: Field + 'static>(
 }
 
 /// The failures that so many checks of the AIR with periodic columns find.
-pub fn check_cycles<F: Field + 'static>(
-    alloc: Global,
-    rounds: usize,
-    rows: usize,
-) -> Result<usize, AirError> {
+pub fn check_cycles(alloc: Global, rounds: usize, rows: usize) -> Result<usize, AirError> {
     let mut columns = Vec::new(alloc);
     for _ in 0..8 {
-        let column = vec![in alloc; F::ZERO; 8].map_err(|_| AirError::Memory)?;
+        let column = vec![in alloc; BabyBear::ZERO; 8].map_err(|_| AirError::Memory)?;
         columns.push(column).map_err(|_| AirError::Memory)?;
     }
     let air = Cycles { columns };
-    let main = constant_trace(alloc, F::ONE, 8, rows)?;
+    let main = constant_trace(alloc, BabyBear::ONE, 8, rows)?;
     let mut count = 0usize;
     for _ in 0..rounds {
         count = count.wrapping_add(counted_cycles(alloc, &air, &main)?);
@@ -219,7 +211,8 @@ pub fn check_cycles<F: Field + 'static>(
     Ok(count)
 }
 
-// How many constraints over the extension are recorded once.
+// How many constraints over the extension are recorded once. Over any fields: of the builder over two given ones the
+// checker compares more than its limit allows.
 fn recorded_lookups<F: Field, EF: ExtensionField<F>>(
     alloc: Global,
     air: &Lookups,
@@ -230,10 +223,7 @@ fn recorded_lookups<F: Field, EF: ExtensionField<F>>(
 }
 
 /// The constraints over the extension that so many recordings record.
-pub fn record_lookups<F: Field, EF: ExtensionField<F>>(
-    alloc: Global,
-    rounds: usize,
-) -> Result<usize, AirError> {
+pub fn record_lookups(alloc: Global, rounds: usize) -> Result<usize, AirError> {
     let air = Lookups { count: 32 };
     let layout = AirLayout {
         preprocessed_width: 0,
@@ -246,22 +236,21 @@ pub fn record_lookups<F: Field, EF: ExtensionField<F>>(
     };
     let mut count = 0usize;
     for _ in 0..rounds {
-        let recorded = recorded_lookups::<F, EF>(alloc, &air, layout)?;
+        let recorded = recorded_lookups::<BabyBear, BinomialExtensionField>(alloc, &air, layout)?;
         count = count.wrapping_add(recorded);
     }
     Ok(count)
 }
 
 /// The constraints that so many recordings of the wide AIR with the extension record.
-pub fn record_wide_ext<F: Field, EF: ExtensionField<F>>(
-    alloc: Global,
-    rounds: usize,
-) -> Result<usize, AirError> {
+pub fn record_wide_ext(alloc: Global, rounds: usize) -> Result<usize, AirError> {
     let air = Wide { count: 64 };
     let mut count = 0usize;
     for _ in 0..rounds {
-        let layout = AirLayout::from_air::<F, Wide>(&air);
-        let recorded = get_all_symbolic_constraints::<F, EF, Wide>(alloc, &air, layout)?;
+        let layout = AirLayout::from_air::<BabyBear, Wide>(&air);
+        let recorded = get_all_symbolic_constraints::<BabyBear, BinomialExtensionField, Wide>(
+            alloc, &air, layout,
+        )?;
         count = count.wrapping_add(recorded.base.len());
     }
     Ok(count)
