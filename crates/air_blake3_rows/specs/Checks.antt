@@ -1,5 +1,5 @@
 -- What a check of a trace of compressions says.
-use Rattle.std.specs.Prelude.{◌≡◌, ℕ, ◌*◌, ◌^◌, ◌<◌, [], length, Bool, Option}
+use Rattle.std.specs.Prelude.{◌≡◌, ℕ, ◌*◌, ◌^◌, ◌<◌, [], length, Bool, Option, None}
 use Rattle.air_field.specs.Assignment.{row_assignment}
 use Rattle.air_field.specs.Grid.{Grid}
 use Rattle.air_field.specs.Ring.{CommRing}
@@ -24,6 +24,13 @@ AreCompressions R main =
 -- the same over a field of a great enough characteristic
 abbrev pub HoldCompressions : {F : Type 0} → CommRing F → ℕ → Grid F → Type 0
 HoldCompressions R characteristic main = 3 * 2 ^ 16 < characteristic → AreCompressions R main
+
+-- an exact report without a cap that lists nothing says so of its trace
+abbrev pub EmptyReportsAreSound : {F : Type 0} → CommRing F → (F → F → Bool) → ℕ → Type 0
+EmptyReportsAreSound {F} R eq characteristic =
+    (main : Grid F) (report : ConstraintReport)
+    → IsReport R eq (given_compressions R main) None report → report.failures.items ≡ []
+    → HoldCompressions R characteristic main
 
 -- every exact report on a trace, under whatever cap, lists nothing
 abbrev pub ReportsListNothing : {F : Type 0} → CommRing F → (F → F → Bool) → Grid F → Type 0

@@ -1,6 +1,6 @@
 //! Checks of compressions.
 ghost use Rattle.std.specs.Prelude.{◌≡◌, true, IfOk};
-ghost use Rattle.air_blake3_rows.specs.Checks.{HoldCompressions, ReportsAreEmpty};
+ghost use Rattle.air_blake3_rows.specs.Checks.{EmptyReportsAreSound, HoldCompressions, ReportsAreEmpty};
 ghost use Rattle.air_blake3_rows.specs.Traces.{AreCompressionRows};
 
 use air_blake3::{Compression, compression_is_sound};
@@ -14,6 +14,15 @@ use std::alloc::Global;
 pub fn report_is_empty<F: Field>()
     ensures { ReportsAreEmpty F.ring F.eq F.ZERO }
 {}
+
+/// An exact report without a cap that lists nothing says that at each row the columns named output hold the BLAKE3
+/// compression of the columns named input, over a field whose characteristic is above 3 · 2^16: the report of a check,
+/// and that of an audit, which `audit_air_with_cap` promises is exact.
+pub fn empty_report_is_sound<F: PrimeField>()
+    ensures { EmptyReportsAreSound F.ring F.eq F.CHARACTERISTIC }
+{
+    compression_is_sound::<F>();
+}
 
 /// Whether a check of the trace lists no failure. If it lists none, at each row the columns named output hold the
 /// BLAKE3 compression of the columns named input, over a field whose characteristic is above 3 · 2^16. Where each row

@@ -9,7 +9,7 @@ pub mod traces;
 mod values;
 
 pub use blocks::{InputBlock, ZERO_BLOCK};
-pub use checks::{are_compressions, report_is_empty};
+pub use checks::{are_compressions, empty_report_is_sound, report_is_empty};
 pub use messages::blocks_of_message;
 pub use rows::row_of_block;
 pub use traces::{TraceError, trace_of_blocks};
