@@ -1,4 +1,6 @@
 //! Why the program refuses.
+ghost use Rattle.std.specs.Prelude.{◌≡◌};
+ghost use Rattle.blake3_rows.specs.Refusals.{name_of};
 
 use air_blake3_rows::TraceError;
 use p3_air::AirError;
@@ -27,7 +29,9 @@ pub enum Refusal {
 
 impl Refusal {
     /// The name in the line that is written.
-    pub fn name(self) -> &'static str {
+    pub fn name(self) -> &'static str
+        ensures { result.now ≡ name_of self }
+    {
         match self {
             Refusal::Usage => "Usage",
             Refusal::NotANumber => "NotANumber",

@@ -1,4 +1,5 @@
 //! The words that the program is called with.
+ghost use Rattle.std.specs.Prelude.{◌≡◌, ◌↔◌, ◌≢◌, None, IfOk, IfErr, length};
 
 use crate::refusals::Refusal;
 
@@ -10,7 +11,9 @@ pub struct Cell {
 }
 
 /// The number that a word writes in decimal digits.
-fn number_of(word: &str) -> Result<usize, Refusal> {
+fn number_of(word: &str) -> Result<usize, Refusal>
+    ensures { IfErr result (λ why. why ≡ Refusal.NotANumber) }
+{
     match word.parse::<usize>() {
         Ok(number) => Ok(number),
         Err(_) => Err(Refusal::NotANumber),
@@ -18,7 +21,12 @@ fn number_of(word: &str) -> Result<usize, Refusal> {
 }
 
 /// The cell that the words name, if there are some.
-pub fn cell_of(words: &[String]) -> Result<Option<Cell>, Refusal> {
+pub fn cell_of(words: &[String]) -> Result<Option<Cell>, Refusal>
+    ensures none { IfOk result (λ cell. (cell ≡ None) ↔ (length words.now ≡ 0)) }
+    ensures two { IfOk result (λ cell. cell ≢ None → length words.now ≡ 2) }
+    ensures usage { IfErr result (λ why. why ≡ Refusal.Usage → length words.now ≢ 2) }
+    ensures number { IfErr result (λ why. why ≢ Refusal.Usage → why ≡ Refusal.NotANumber) }
+{
     match words {
         [] => Ok(None),
         [row, column] => Ok(Some(Cell {
