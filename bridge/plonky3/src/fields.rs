@@ -1,7 +1,6 @@
 //! The fields that `air_check` knows, by their names.
 
-// `as_canonical_u64` is a method of one of its traits.
-#[allow(unused_imports)]
+// (All of it: `as_canonical_u64` is a method of one of its traits.)
 use p3_field::*;
 
 mod sealed {
