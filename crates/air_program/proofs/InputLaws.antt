@@ -1,16 +1,17 @@
 -- Whole objects: what the members' reader answers is what they spell, or their first fault.
-use Rattle.std.proofs.Common.{◌≡◌, ◌≢◌, refl, sym, ap, ◌∙◌, inl, inr}
+use Rattle.std.proofs.Common.{◌≡◌, ◌≢◌, refl, sym, ap, subst, ◌∙◌, inl, inr}
 use Rattle.serde_json.specs.Data.{Data}
 use Rattle.air_core.specs.declared.errors.AirError.{AirError}
 use Rattle.air_core.specs.declared.errors.AirError.TheVariants as air
 use Rattle.air_field.specs.Matrix.{matrix_of}
+use Rattle.air_field.specs.declared.errors.MatrixError.{MatrixError}
 use Rattle.air_core.specs.Errors.{matrix_air_error}
 use Rattle.air_wire.specs.Faults.{air_fault}
 use Rattle.air_wire.specs.laws.Readings.{done_is, not_done}
 use Rattle.air_wire.specs.Results.{Fails}
 use Rattle.air_wire.specs.declared.errors.FlatError.{FlatError}
 use Rattle.air_wire.specs.declared.errors.FlatError.TheVariants as faults
-use Rattle.air_program.specs.Input.{SpellsInput, HasInputFault}
+use Rattle.air_program.specs.Input.{table_of, HasMatrixFault, SpellsInput, HasInputFault}
 use Rattle.air_program.specs.declared.flat_input.input.FlatInput.{FlatInput}
 use Rattle.air_program.specs.Members.{MemberValues, members}
 use Rattle.air_program.specs.Readers.{members_read}
@@ -39,9 +40,20 @@ one_member_fault d f g h k = err_is f g (sym (members_agree.refused d f h) ∙ m
 
 pub no_fault : (d : Data) (input : FlatInput) (e : AirError) → SpellsInput d input → HasInputFault d e → ⊥
 no_fault d input e s (inl h) = not_both d _ h.0 s.members h.1
-no_fault d input e s (inr h) =
-    let same = one_value d h.0 _ h.1 s.members in
-    absurd (cc (sym s.main ∙ sym (ap (λ (m : MemberValues). matrix_of m.0 m.1.0) same) ∙ h.3))
+no_fault d input e s (inr h) = no_matrix_fault h.3
+  where
+    same : h.0 ≡ _
+    same = one_value d h.0 _ h.1 s.members
+
+    no_matrix_fault : HasMatrixFault h.0 h.2 → ⊥
+    no_matrix_fault (inl k) = absurd (cc (sym s.main ∙ sym (ap (λ (m : MemberValues). matrix_of m.0 m.1.0) same) ∙ k))
+    no_matrix_fault (inr k) = absurd (cc (sym s.preprocessed ∙ sym (ap (λ (m : MemberValues). table_of m.1.1.0) same) ∙ k.2))
+
+one_matrix_fault : (m : MemberValues) (f g : MatrixError) → HasMatrixFault m f → HasMatrixFault m g → f ≡ g
+one_matrix_fault m f g (inl h) (inl k) = cc (sym h ∙ k)
+one_matrix_fault m f g (inl h) (inr k) = absurd (cc (sym h ∙ k.1))
+one_matrix_fault m f g (inr h) (inl k) = absurd (cc (sym k ∙ h.1))
+one_matrix_fault m f g (inr h) (inr k) = cc (sym h.2 ∙ k.2)
 
 pub one_fault : (d : Data) (e f : AirError) → HasInputFault d e → HasInputFault d f → e ≡ f
 one_fault d e f (inl h) (inl k) = h.2 ∙ ap air_fault (one_member_fault d h.0 k.0 h.1 k.1) ∙ sym k.2
@@ -49,5 +61,5 @@ one_fault d e f (inl h) (inr k) = absurd (not_both d k.0 h.0 k.1 h.1)
 one_fault d e f (inr h) (inl k) = absurd (not_both d h.0 k.0 h.1 k.1)
 one_fault d e f (inr h) (inr k) =
     let same = one_value d h.0 k.0 h.1 k.1 in
-    let fault : h.2 ≡ k.2 = cc (sym h.3 ∙ ap (λ (m : MemberValues). matrix_of m.0 m.1.0) same ∙ k.3) in
+    let fault = one_matrix_fault k.0 h.2 k.2 (subst (λ (m : MemberValues). HasMatrixFault m h.2) same h.3) k.3 in
     h.4 ∙ ap matrix_air_error fault ∙ sym k.4

@@ -19,7 +19,7 @@ use Rattle.air_wire.specs.declared.errors.FlatError.{FlatError}
 use Rattle.air_wire.specs.declared.errors.FlatError.TheVariants as faults
 use Rattle.air_program.specs.Members.{MemberValues}
 use Rattle.air_program.specs.Parts.{Given, AreGiven, one_more, of_member, AreMembersOf, ArePartsOf, given_by, members_with}
-use Rattle.air_program.specs.Readers.{Reader, each_from, tree, trees, width_member, elements_member, constraints_member, periodic_member, boundary_member, cap_member, weight_member, members_read}
+use Rattle.air_program.specs.Readers.{Reader, each_from, tree, trees, width_member, elements_member, table_member, constraints_member, periodic_member, boundary_member, cap_member, weight_member, members_read}
 use Rattle.air_program.proofs.TokenLemmas.{data_before, one_more_data, item_read}
 use Rattle.air_program.specs.declared.flat_input.constraints.Constraints.{Constraints}
 
@@ -131,13 +131,14 @@ only_memory see (Err (faults.Operand place i)) other h = absurd cc
 only_memory see (Err (faults.WrongDegree place s k)) other h = absurd cc
 only_memory see (Err (faults.NotCanonical place)) other h = absurd cc
 
-module _ {P Q R T X Y : Type 0} (see : X → Y) (r : Result X FlatError) (given : Result T FlatError) (k : P → Q → R → T → Result Y FlatError) where
-  without_memory : (p : Result P FlatError) (q : Result Q FlatError) (s : Result R FlatError)
-      → Gives see r (p >>= λ x. q >>= λ y. s >>= λ z. Err faults.Memory >>= k x y z) → Gives see r (p >>= λ x. q >>= λ y. s >>= λ z. given >>= k x y z)
-  without_memory (Err f) q s h = h
-  without_memory (Ok x) (Err f) s h = h
-  without_memory (Ok x) (Ok y) (Err f) h = h
-  without_memory (Ok x) (Ok y) (Ok z) h = only_memory see r _ h
+module _ {P Q R S T X Y : Type 0} (see : X → Y) (r : Result X FlatError) (given : Result T FlatError) (k : P → Q → R → S → T → Result Y FlatError) where
+  without_memory : (p : Result P FlatError) (q : Result Q FlatError) (s : Result R FlatError) (t : Result S FlatError)
+      → Gives see r (p >>= λ x. q >>= λ y. s >>= λ z. t >>= λ a. Err faults.Memory >>= k x y z a) → Gives see r (p >>= λ x. q >>= λ y. s >>= λ z. t >>= λ a. given >>= k x y z a)
+  without_memory (Err f) q s t h = h
+  without_memory (Ok x) (Err f) s t h = h
+  without_memory (Ok x) (Ok y) (Err f) t h = h
+  without_memory (Ok x) (Ok y) (Ok z) (Err f) h = h
+  without_memory (Ok x) (Ok y) (Ok z) (Ok a) h = only_memory see r _ h
 
 -- where the constraints gave what they are given by, so do all members
 module _ {X : Type 0} (see : X → MemberValues) (r : Result X FlatError) (rest : Data) (given : Given) where
@@ -146,7 +147,7 @@ module _ {X : Type 0} (see : X → MemberValues) (r : Result X FlatError) (rest 
 
   memory_gives : GivesWith (Err faults.Memory) → GivesWith given
   unfolding members_with
-  memory_gives h = without_memory see r given _ (width_member rest) (elements_member (codes "main") rest) (elements_member (codes "public_values") rest) h
+  memory_gives h = without_memory see r given _ (width_member (codes "main_width") rest) (elements_member (codes "main") rest) (table_member rest) (elements_member (codes "public_values") rest) h
 
   fault_gives : (f : FlatError) → Fails f given → GivesWith (Err f) → GivesWith given
   fault_gives faults.Memory e h = memory_gives h
@@ -167,13 +168,20 @@ module _ (d rest : Data) (c : Constraints) (parts : ArePartsOf d rest c) where
   same : (name : List ℕ) → (length name ≡ 11 → ⊥) → get name d ≡ get name rest
   same name other = parts.others name (λ e. other (ap length e))
 
-  width_same : width_member d ≡ width_member rest
+  width_same : (name : List ℕ) → (length name ≡ 11 → ⊥) → width_member name d ≡ width_member name rest
   unfolding width_member
-  width_same = rw (same (codes "main_width") (λ e. absurd cc)) refl
+  width_same name other = rw (same name other) refl
 
   elements_same : (name : List ℕ) → (length name ≡ 11 → ⊥) → elements_member name d ≡ elements_member name rest
   unfolding elements_member
   elements_same name other = rw (same name other) refl
+
+  table_same : table_member d ≡ table_member rest
+  unfolding table_member
+  table_same =
+      let wide = λ (e : length (codes "preprocessed_width") ≡ 11). absurd cc in
+      let long = λ (e : length (codes "preprocessed") ≡ 11). absurd cc in
+      rw (same (codes "preprocessed_width") wide, same (codes "preprocessed") long, width_same (codes "preprocessed_width") wide, elements_same (codes "preprocessed") long) refl
 
   periodic_same : periodic_member d ≡ periodic_member rest
   unfolding periodic_member
@@ -193,7 +201,7 @@ module _ (d rest : Data) (c : Constraints) (parts : ArePartsOf d rest c) where
 
   members_same : members_read d ≡ members_with (constraints_member d) rest
   unfolding members_read members_with
-  members_same = rw (width_same, elements_same (codes "main") (λ e. absurd cc), elements_same (codes "public_values") (λ e. absurd cc), periodic_same, boundary_same, cap_same, weight_same) refl
+  members_same = rw (width_same (codes "main_width") (λ e. absurd cc), elements_same (codes "main") (λ e. absurd cc), table_same, elements_same (codes "public_values") (λ e. absurd cc), periodic_same, boundary_same, cap_same, weight_same) refl
 
   pub parts_give : {X : Type 0} (see : X → MemberValues) (r : Result X FlatError) → Gives see r (members_with (given_by c) rest) → Gives see r (members_read d)
   parts_give see r h = subst (λ v. Gives see r v) (sym members_same) (roots_give see r rest (constraints_member d) (λ roots. map (tree_at c.pool) roots.items) c.roots parts.constraints.read h)

@@ -1,5 +1,5 @@
 -- What answers a whole input that is a JSON object.
-use Rattle.std.specs.Prelude.{◌≡◌, ◌⊎◌, ℕ, List, length, codes, Bool, Some, None, IsUtf8}
+use Rattle.std.specs.Prelude.{◌≡◌, ◌⊎◌, ℕ, List, length, codes, Bool, Some, IsUtf8}
 use Rattle.serde_json.specs.Data.{Data}
 use Rattle.serde_json.specs.Read.{read}
 use Rattle.air_field.specs.Modulo.{baby_bear_ring}
@@ -30,14 +30,14 @@ Spells bytes input = (d : Data) × StandsFor bytes d × SpellsInput d input
 
 -- ---- from a value to what is found
 
--- that the roots are zero, as wide as the trace and with so many public values; periodic columns
--- and cells, and no table
+-- that the roots are zero, as wide as the trace and with so many public values; the preprocessed
+-- table, periodic columns and cells
 abbrev pub flat_declaration : FlatInput → Declaration BabyBear
 flat_declaration input = record {
   declared = zero_at_roots input.pool input.roots.items;
   width = input.main.width;
   num_public_values = length input.public_values.items;
-  preprocessed = None;
+  preprocessed = input.preprocessed;
   periodic = input.periodic.items;
   cells = input.cells.items;
 }

@@ -2,6 +2,7 @@
 use Rattle.std.specs.Prelude.{◌≡◌, ℕ, ◌≤◌, List, [], Option, Some, None, ◌⊎◌, codes}
 use Rattle.serde_json.specs.Data.{Data, null}
 use Rattle.air_field.specs.BabyBear.{BabyBear}
+use Rattle.air_field.specs.Modulo.{baby_bears}
 use Rattle.air_symbolic.specs.Trees.{Tree}
 use Rattle.air_symbolic.specs.declared.leaves.base_leaf.BaseLeaf.{BaseLeaf}
 use Rattle.air_core.specs.declared.boundary.BoundaryPublic.{BoundaryPublic}
@@ -11,7 +12,7 @@ use Rattle.air_wire.specs.Good.{IsList, HasFault}
 use Rattle.air_wire.specs.Spelling.{IsWhole}
 use Rattle.air_wire.specs.declared.errors.FlatError.{FlatError}
 use Rattle.air_wire.specs.declared.errors.FlatError.TheVariants as faults
-use Rattle.air_program.specs.Objects.{Grammar, by_form, list_of, needed, optional, both}
+use Rattle.air_program.specs.Objects.{Grammar, by_form, list_of, needed, optional, both, both_or_none}
 
 abbrev pub whole_number : Grammar ℕ
 whole_number = by_form (λ d n. IsWhole n d)
@@ -26,7 +27,7 @@ element = record { spells = λ d x. IsWhole x.residue d; fault = ElementFault }
 
 -- a list of nodes, as the tree of its root
 abbrev pub constraint : Grammar (Tree (BaseLeaf BabyBear))
-constraint = record { spells = IsList base_kind; fault = HasFault base_kind }
+constraint = record { spells = IsList (base_kind baby_bears); fault = HasFault (base_kind baby_bears) }
 
 abbrev pub cell : Grammar BoundaryPublic
 cell = by_form SpellsCell
@@ -39,18 +40,23 @@ SpellsCap d (Some n) = IsWhole n d
 abbrev pub cap : Grammar (Option ℕ)
 cap = by_form SpellsCap
 
--- the width, the trace's values, the public values, the constraints, the periodic columns, the boundary cells, the cap,
--- the weight of the transition selector
+-- a width, and values for rows of it
+abbrev pub TableValues : Type 0
+TableValues = ℕ × List BabyBear
+
+-- the width, the trace's values, the preprocessed table's width and values, the public values, the constraints, the
+-- periodic columns, the boundary cells, the cap, the weight of the transition selector
 abbrev pub MemberValues : Type 0
-MemberValues = ℕ × (List BabyBear × (List BabyBear × (List (Tree (BaseLeaf BabyBear)) × (List (List BabyBear) × (List BoundaryPublic × (Option ℕ × ℕ))))))
+MemberValues = ℕ × (List BabyBear × (Option TableValues × (List BabyBear × (List (Tree (BaseLeaf BabyBear)) × (List (List BabyBear) × (List BoundaryPublic × (Option ℕ × ℕ)))))))
 
 abbrev pub members : Grammar MemberValues
 members =
     both (needed (codes "main_width") whole_number)
     (both (needed (codes "main") (list_of element))
+    (both (both_or_none (codes "preprocessed_width") whole_number (codes "preprocessed") (list_of element))
     (both (needed (codes "public_values") (list_of element))
     (both (needed (codes "constraints") (list_of constraint))
     (both (optional (codes "periodic") [] (list_of (list_of element)))
     (both (optional (codes "boundary") [] (list_of cell))
     (both (optional (codes "cap") None cap)
-    (optional (codes "transition_weight") 0 whole_number)))))))
+    (optional (codes "transition_weight") 0 whole_number))))))))

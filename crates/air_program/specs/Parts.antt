@@ -11,7 +11,7 @@ use Rattle.air_symbolic.specs.declared.leaves.base_leaf.BaseLeaf.{BaseLeaf}
 use Rattle.air_wire.specs.Results.{◌>>=◌, Gives}
 use Rattle.air_wire.specs.declared.errors.FlatError.{FlatError}
 use Rattle.air_program.specs.Members.{MemberValues}
-use Rattle.air_program.specs.Readers.{Reader, formed, tree, trees, width_member, elements_member, constraints_member, periodic_member, boundary_member, cap_member, weight_member}
+use Rattle.air_program.specs.Readers.{Reader, formed, tree, trees, width_member, elements_member, table_member, constraints_member, periodic_member, boundary_member, cap_member, weight_member}
 use Rattle.air_program.specs.declared.flat_input.constraints.Constraints.{Constraints}
 
 -- the trees of the constraints, or the first fault
@@ -53,12 +53,13 @@ given_by c = result_map_both (λ roots. map (tree_at c.pool) roots.items) (λ f.
 
 unfoldable pub members_with : Given → Reader MemberValues
 members_with given d = do
-  width ← width_member d
+  width ← width_member (codes "main_width") d
   main ← elements_member (codes "main") d
+  table ← table_member d
   public_values ← elements_member (codes "public_values") d
   constraints ← given
   periodic ← periodic_member d
   boundary ← boundary_member d
   cap ← cap_member d
   weight ← weight_member d
-  Ok (width, (main, (public_values, (constraints, (periodic, (boundary, (cap, weight)))))))
+  Ok (width, (main, (table, (public_values, (constraints, (periodic, (boundary, (cap, weight))))))))

@@ -1,6 +1,6 @@
 //! The answer to a JSON object: an AIR whose constraints are lists of nodes, and a trace of it.
 
-ghost use Rattle.std.specs.Prelude.{◌≡◌, ◌<◌, ◌⊎◌, length, All, IfOk, IfErr, string_bytes};
+ghost use Rattle.std.specs.Prelude.{◌≡◌, ◌<◌, ◌⊎◌, length, All, None, IfOk, IfErr, string_bytes};
 ghost use Rattle.serde_json.specs.Data.{Data};
 ghost use Rattle.serde_json.specs.View.{view};
 ghost use Rattle.air_symbolic.specs.BaseLeaves.{base_reads};
@@ -19,7 +19,7 @@ use crate::flat_input::text::TextFault;
 use crate::refusals::Refusal;
 use crate::texts::Findings;
 use air_builder::AirError;
-use air_field::BabyBear;
+use air_field::{BabyBear, RowMajorMatrix};
 use p3_air::FlatAir;
 use std::alloc::Global;
 
@@ -51,6 +51,23 @@ fn input_of(alloc: Global, bytes: &[u8]) -> Result<FlatInput, Refusal>
     Ok(input_from(alloc, &rest, constraints)?)
 }
 
+// An AIR without a preprocessed table, and with this one, if there is one.
+fn with_table(air: FlatAir<BabyBear>, table: Option<RowMajorMatrix<BabyBear>>) -> FlatAir<BabyBear>
+    requires { air.preprocessed ≡ None }
+    ensures pool { result.pool ≡ air.pool }
+    ensures roots { result.roots ≡ air.roots }
+    ensures width { result.width ≡ air.width }
+    ensures num_public_values { result.num_public_values ≡ air.num_public_values }
+    ensures preprocessed { result.preprocessed ≡ table }
+    ensures periodic { result.periodic ≡ air.periodic }
+    ensures cells { result.cells ≡ air.cells }
+{
+    match table {
+        Some(table) => air.with_preprocessed(table),
+        None => air,
+    }
+}
+
 /// Audits that the roots are zero on the trace.
 fn audit_input(alloc: Global, input: FlatInput) -> Result<Findings, AirError>
     requires pool { IsPool base_reads input.pool }
@@ -67,6 +84,7 @@ fn audit_input(alloc: Global, input: FlatInput) -> Result<Findings, AirError>
         input.periodic,
         input.cells,
     )?;
+    let air = with_table(air, input.preprocessed);
     findings_of(
         alloc,
         &air,

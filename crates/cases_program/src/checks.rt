@@ -82,6 +82,10 @@ pub fn show_flat_check(
         input.periodic,
         input.cells,
     )?;
+    let air = match input.preprocessed {
+        Some(table) => air.with_preprocessed(table),
+        None => air,
+    };
     show_check(
         alloc,
         call,

@@ -53,6 +53,10 @@ pub fn show_input(alloc: Global, object: &str, text: &mut String) -> Result<(), 
     let value = value_of(alloc, object)?;
     let input = flat_input_from(alloc, &value)?;
     show_rows(&input.main, text)?;
+    if let Some(table) = &input.preprocessed {
+        text.push_str(" preprocessed ")?;
+        show_rows(table, text)?;
+    }
     text.push_str(" public ")?;
     show_elements(&input.public_values, text)?;
     let nodes = input.pool.len();

@@ -1,21 +1,23 @@
 //! The whole object.
-ghost use Rattle.std.specs.Prelude.{◌≢◌, ◌<◌, length, All, IfOk, IfErr};
+ghost use Rattle.std.specs.Prelude.{◌≡◌, ◌≢◌, ◌<◌, length, All, IfOk, IfErr, option_map};
 ghost use Rattle.serde_json.specs.Data.{Data};
 ghost use Rattle.serde_json.specs.View.{view};
 ghost use Rattle.air_symbolic.specs.BaseLeaves.{base_reads};
 ghost use Rattle.air_symbolic.specs.Pools.{IsPool};
-ghost use Rattle.air_program.specs.Input.{SpellsInput, HasInputFault};
+ghost use Rattle.air_program.specs.Input.{table_of, SpellsInput, HasInputFault};
 ghost use Rattle.air_program.specs.Parts.{InPool, ArePartsOf};
+ghost use Rattle.air_program.specs.Seen.{seen_rows};
 
 use crate::flat_input::constraints::{Constraints, constraints_of};
-use crate::flat_input::members::members_from;
+use crate::flat_input::members::{RowValues, members_from};
 use air_core::{AirError, BoundaryPublic};
-use air_field::{BabyBear, RowMajorMatrix};
+use air_field::{BabyBear, MatrixError, RowMajorMatrix};
 use air_symbolic::{BaseLeaf, ExprId, ExprPool};
 use serde_json::Value;
 use std::alloc::Global;
 
-/// An AIR's constraints, public values, periodic columns and boundary cells, with a trace, a cap and a domain's weight.
+/// An AIR's constraints, preprocessed table, public values, periodic columns and boundary cells, with a trace, a cap and
+/// a domain's weight.
 #[derive(Drop)]
 pub struct FlatInput {
     /// The expressions of the constraints.
@@ -24,6 +26,8 @@ pub struct FlatInput {
     pub roots: Vec<ExprId<BaseLeaf<BabyBear>>>,
     /// The trace.
     pub main: RowMajorMatrix<BabyBear>,
+    /// The preprocessed table, if there is one.
+    pub preprocessed: Option<RowMajorMatrix<BabyBear>>,
     pub public_values: Vec<BabyBear>,
     /// The periodic columns, each of a length of its own.
     pub periodic: Vec<Vec<BabyBear>>,
@@ -33,6 +37,16 @@ pub struct FlatInput {
     pub cap: Option<usize>,
     /// What the transition selector weighs in the domain; 0 where it is linear.
     pub transition_weight: usize,
+}
+
+// The preprocessed table of the values.
+fn table_of(values: Option<RowValues>) -> Result<Option<RowMajorMatrix<BabyBear>>, MatrixError>
+    ensures { result ≡ table_of (option_map seen_rows values) }
+{
+    match values {
+        Some(RowValues { width, values }) => Ok(Some(RowMajorMatrix::new(values, width)?)),
+        None => Ok(None),
+    }
 }
 
 /// The input of an object whose constraints are read already, and whose other members the value has.
@@ -51,10 +65,12 @@ pub(crate) fn input_from(
 {
     let members = members_from(alloc, value, constraints)?;
     let main = RowMajorMatrix::new(members.main, members.main_width)?;
+    let preprocessed = table_of(members.preprocessed)?;
     Ok(FlatInput {
         pool: members.pool,
         roots: members.roots,
         main,
+        preprocessed,
         public_values: members.public_values,
         periodic: members.periodic,
         cells: members.cells,
@@ -63,11 +79,13 @@ pub(crate) fn input_from(
     })
 }
 
-/// Reads the object: its members in the order `main_width`, `main` (row after row), `public_values`, `constraints`
-/// (lists of nodes), `periodic`, `boundary`, `cap` and `transition_weight`, of which the last four may be absent, and
-/// `cap` may be null; no weight is the weight 0. Any other value is refused with the first fault in this order; values
-/// that aren't whole rows of the width are `Ragged` after all members. Other members are ignored. The place in a
-/// refusal is that of a node in its constraint's own list, and 0 in all other members.
+/// Reads the object: its members in the order `main_width`, `main` (row after row), `preprocessed_width`,
+/// `preprocessed` (the table's values, row after row), `public_values`, `constraints` (lists of nodes), `periodic`,
+/// `boundary`, `cap` and `transition_weight`. The last four may be absent, and `cap` may be null; no weight is the
+/// weight 0. The two of the preprocessed table may be absent together, and there is then no table; where one of them is
+/// there, the other is needed. Any other value is refused with the first fault in this order; values that aren't whole
+/// rows of their width are `Ragged` after all members, those of the trace before those of the table. Other members are
+/// ignored. The place in a refusal is that of a node in its constraint's own list, and 0 in all other members.
 pub fn flat_input_from(alloc: Global, value: &Value) -> Result<FlatInput, AirError>
     ensures pool { IfOk result (λ input. IsPool base_reads input.pool) }
     ensures roots { IfOk result (λ input. All (λ i. i < length input.pool.1) input.roots.items) }
