@@ -1,6 +1,5 @@
 -- What is still to be written, piece after piece.
-use Rattle.std.specs.Prelude.{◌≡◌, ℕ, ◌+◌, ◌<◌, Bool, if◌then◌else◌, List, [], ◌∷◌, ◌++◌, All, codes}
-use Rattle.std.specs.List.{sum_by}
+use Rattle.std.specs.Prelude.{ℕ, ◌+◌, ◌<◌, Bool, if◌then◌else◌, List, [], ◌∷◌, ◌++◌, codes}
 use Rattle.air_field.specs.Modular.{Modular}
 use Rattle.air_symbolic.specs.declared.leaves.base_leaf.BaseLeaf.{BaseLeaf}
 use Rattle.air_symbolic.specs.declared.pools.expr.SymbolicExpr.{SymbolicExpr}
@@ -70,4 +69,5 @@ piece_size f Times = 1
 piece_size f Close = 1
 
 abbrev pub rest_size : {F : Type 0} → (ℕ → Shown (BaseLeaf F)) → List (Piece F) → ℕ
-rest_size f rest = sum_by (piece_size f) rest
+rest_size f [] = 0
+rest_size f (piece ∷ rest) = piece_size f piece + rest_size f rest

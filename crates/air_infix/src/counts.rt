@@ -71,19 +71,54 @@ fn count_roots<A: SymLeaf>(counts: &mut [Places], roots: &[ExprId<A>])
     }
 }
 
+// Counts the operands of the node at a number, if it is reached.
+fn count_node<A: SymLeaf>(
+    counts: &mut [Places],
+    pool: &ExprPool<A>,
+    marks: &[Option<ExprId<A>>],
+    number: usize,
+)
+    requires pool { IsPool A.reads pool.now }
+    requires places { length counts.old ≡ length pool.now.1 }
+    requires marks { AreMarks (length pool.now.1) marks.now }
+    requires here { number < length marks.now }
+    ensures { (f : ℕ → ℕ) → AreCounted f counts.old →
+        AreCounted (λ i. f i + places_at pool.now.1 marks.now i number) counts.new }
+{
+    if let Some(id) = marks[number] {
+        count_operands(counts, *pool.node(id));
+    }
+}
+
 // Counts the operands of the nodes that are reached.
 fn count_reached<A: SymLeaf>(counts: &mut [Places], pool: &ExprPool<A>, marks: &[Option<ExprId<A>>])
     requires pool { IsPool A.reads pool.now }
     requires places { length counts.old ≡ length pool.now.1 }
     requires marks { AreMarks (length pool.now.1) marks.now }
     ensures { (f : ℕ → ℕ) → AreCounted f counts.old → AreCounted
-        (λ i. f i + sum_below (places_at pool.now.1 marks.now i) (length marks.now)) counts.new }
+        (λ i. f i + sum_below (places_at pool.now.1 marks.now i) (length pool.now.1)) counts.new }
 {
-    for mark in marks {
-        if let Some(id) = mark {
-            count_operands(counts, *pool.node(*id));
-        }
+    for number in 0..marks.len() {
+        count_node(counts, pool, marks, number);
     }
+}
+
+// Counts all places, where none was counted.
+fn count_all<A: SymLeaf>(
+    counts: &mut [Places],
+    pool: &ExprPool<A>,
+    roots: &[ExprId<A>],
+    marks: &[Option<ExprId<A>>],
+)
+    requires pool { IsPool A.reads pool.now }
+    requires here { All (λ x. x < length pool.now.1) roots.now }
+    requires places { length counts.old ≡ length pool.now.1 }
+    requires marks { AreMarks (length pool.now.1) marks.now }
+    requires none { AreCounted (λ _. 0) counts.old }
+    ensures { AreCounted (places_of pool.now.1 roots.now marks.now) counts.new }
+{
+    count_roots(counts, roots);
+    count_reached(counts, pool, marks);
 }
 
 /// Counts the places that name each number: operands of nodes that the roots reach, and roots.
@@ -101,7 +136,6 @@ pub fn count_places<A: SymLeaf>(
         AreCounted (places_of pool.now.1 roots.now marks.now) counts.items) }
 {
     let mut counts = vec![in alloc; Places::Nowhere; pool.len()]?;
-    count_roots(&mut counts, roots);
-    count_reached(&mut counts, pool, marks);
+    count_all(&mut counts, pool, roots, marks);
     Ok(counts)
 }

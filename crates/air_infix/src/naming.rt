@@ -1,5 +1,6 @@
 //! Who gets a name.
-ghost use Rattle.std.specs.Prelude.{◌≡◌, ℕ, ◌<◌, length, get_or, Some, None, All, IfOk, if◌then◌else◌};
+ghost use Rattle.std.specs.Prelude.{◌≡◌, ℕ, ◌<◌, length, get_or, [], ◌∷◌, ◌++◌, Some, None, option_map, All, IfOk, OnOk, if◌then◌else◌};
+ghost use Rattle.std.specs.Option.{option_to_list};
 ghost use Rattle.air_symbolic.specs.Pools.{IsPool};
 ghost use Rattle.air_infix.specs.Names.{AreNames, passing_below, name_by, is_operation};
 ghost use Rattle.air_infix.specs.Counts.{passes, AreMarks};
@@ -32,12 +33,34 @@ fn named_at<A: SymLeaf>(
     requires here { number < length marks.now }
     ensures { result ≡ if passes pool.now.1 marks.now counts.now number then Some number else None }
 {
-    let id = marks[number]?;
+    let Some(id) = marks[number] else {
+        return None;
+    };
     if is_operation(*pool.node(id)) && counts[number] == Places::More {
         Some(id)
     } else {
         None
     }
+}
+
+// Gives an expression the next name, if it is to have one.
+fn give_name<A: SymLeaf>(
+    named: &mut Vec<ExprId<A>>,
+    names: &mut Vec<Option<usize>>,
+    id: Option<ExprId<A>>,
+) -> Result<(), AllocError>
+    ensures named { OnOk result (named.new.items ≡ named.old.items ++ option_to_list id) }
+    ensures names { OnOk result (names.new.items ≡
+        names.old.items ++ option_map (λ _. length named.old.items) id ∷ []) }
+{
+    match id {
+        Some(id) => {
+            names.push(Some(named.len()))?;
+            named.push(id)?;
+        }
+        None => names.push(None)?,
+    }
+    Ok(())
 }
 
 // Names the numbers in order.
@@ -58,13 +81,8 @@ fn give_names<A: SymLeaf>(
     let mut named = Vec::new(alloc);
     let mut names = Vec::with_capacity(alloc, marks.len())?;
     for number in 0..marks.len() {
-        match named_at(pool, marks, counts, number) {
-            Some(id) => {
-                names.push(Some(named.len()))?;
-                named.push(id)?;
-            }
-            None => names.push(None)?,
-        }
+        let id = named_at(pool, marks, counts, number);
+        give_name(&mut named, &mut names, id)?;
     }
     Ok(Names { named, names })
 }
