@@ -68,8 +68,8 @@ fn push_closing(text: &mut String, wrap: bool) -> Result<(), AllocError>
     Ok(())
 }
 
-// Adds a column, a public value or a periodic column.
-fn push_variable(text: &mut String, entry: BaseEntry, index: usize) -> Result<(), AllocError>
+/// Adds a column, a public value or a periodic column.
+pub fn push_variable(text: &mut String, entry: BaseEntry, index: usize) -> Result<(), AllocError>
     ensures { OnOk result (string_bytes text.new ≡ string_bytes text.old
         ++ (entry_text entry ++ (codes "[" ++ (decimal index ++ codes "]")))) }
 {

@@ -11,5 +11,6 @@ mod naming;
 mod pieces;
 
 pub use infix::push_infix;
-pub use lines::show;
+pub use leaves::{push_constant, push_variable};
+pub use lines::{push_definitions, show};
 pub use names::Names;
