@@ -1,8 +1,10 @@
 -- Whole objects: what the members' reader answers is what they spell, or their first fault.
-use Rattle.std.proofs.Common.{◌≡◌, ◌≢◌, refl, sym, ap, subst, ◌∙◌, inl, inr}
+use Rattle.std.proofs.Common.{◌≡◌, ◌≢◌, Option, Ok, refl, sym, ap, subst, ◌∙◌, inl, inr}
 use Rattle.serde_json.specs.Data.{Data}
 use Rattle.air_core.specs.declared.errors.AirError.{AirError}
 use Rattle.air_core.specs.declared.errors.AirError.TheVariants as air
+use Rattle.air_field.specs.BabyBear.{BabyBear}
+use Rattle.air_field.specs.Grid.{Grid}
 use Rattle.air_field.specs.Matrix.{matrix_of}
 use Rattle.air_field.specs.declared.errors.MatrixError.{MatrixError}
 use Rattle.air_core.specs.Errors.{matrix_air_error}
@@ -38,16 +40,16 @@ not_both d m f h k = not_done (λ _. ⊥) f m (sym (members_agree.refused d f k)
 one_member_fault : (d : Data) (f g : FlatError) → members.fault d f → members.fault d g → f ≡ g
 one_member_fault d f g h k = err_is f g (sym (members_agree.refused d f h) ∙ members_agree.refused d g k)
 
+-- two matrices have no fault
+no_matrix_fault : (m : MemberValues) (main : Grid BabyBear) (table : Option (Grid BabyBear)) (f : MatrixError) → matrix_of m.0 m.1.0 ≡ Ok main → table_of m.1.1.0 ≡ Ok table → HasMatrixFault m f → ⊥
+no_matrix_fault m main table f h k (inl e) = absurd (cc (sym h ∙ e))
+no_matrix_fault m main table f h k (inr e) = absurd (cc (sym k ∙ e.2))
+
 pub no_fault : (d : Data) (input : FlatInput) (e : AirError) → SpellsInput d input → HasInputFault d e → ⊥
 no_fault d input e s (inl h) = not_both d _ h.0 s.members h.1
-no_fault d input e s (inr h) = no_matrix_fault h.3
-  where
-    same : h.0 ≡ _
-    same = one_value d h.0 _ h.1 s.members
-
-    no_matrix_fault : HasMatrixFault h.0 h.2 → ⊥
-    no_matrix_fault (inl k) = absurd (cc (sym s.main ∙ sym (ap (λ (m : MemberValues). matrix_of m.0 m.1.0) same) ∙ k))
-    no_matrix_fault (inr k) = absurd (cc (sym s.preprocessed ∙ sym (ap (λ (m : MemberValues). table_of m.1.1.0) same) ∙ k.2))
+no_fault d input e s (inr h) =
+    let same = one_value d h.0 _ h.1 s.members in
+    no_matrix_fault h.0 input.main input.preprocessed h.2 (ap (λ (m : MemberValues). matrix_of m.0 m.1.0) same ∙ s.main) (ap (λ (m : MemberValues). table_of m.1.1.0) same ∙ s.preprocessed) h.3
 
 one_matrix_fault : (m : MemberValues) (f g : MatrixError) → HasMatrixFault m f → HasMatrixFault m g → f ≡ g
 one_matrix_fault m f g (inl h) (inl k) = cc (sym h ∙ k)

@@ -178,10 +178,7 @@ module _ (d rest : Data) (c : Constraints) (parts : ArePartsOf d rest c) where
 
   table_same : table_member d ≡ table_member rest
   unfolding table_member
-  table_same =
-      let wide = λ (e : length (codes "preprocessed_width") ≡ 11). absurd cc in
-      let long = λ (e : length (codes "preprocessed") ≡ 11). absurd cc in
-      rw (same (codes "preprocessed_width") wide, same (codes "preprocessed") long, width_same (codes "preprocessed_width") wide, elements_same (codes "preprocessed") long) refl
+  table_same = rw (same (codes "preprocessed_width") (λ e. absurd cc), same (codes "preprocessed") (λ e. absurd cc), width_same (codes "preprocessed_width") (λ e. absurd cc), elements_same (codes "preprocessed") (λ e. absurd cc)) refl
 
   periodic_same : periodic_member d ≡ periodic_member rest
   unfolding periodic_member
