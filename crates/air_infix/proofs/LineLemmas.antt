@@ -12,7 +12,7 @@ lines_from line i xs = lines_text (map (λ (x : ℕ × ℕ). line x.0 x.1) (enum
 pub line-more : (line : ℕ → ℕ → List ℕ) (xs : List ℕ) (i x : ℕ) (old new whole : List ℕ) → i < length xs → x ≡ get_or xs i x → old ++ lines_from line i xs ≡ whole → new ≡ old ++ (line i x ++ codes "\n") → new ++ lines_from line (i + 1) xs ≡ whole
 line-more line xs i x old new whole lt is h e =
     let first : lines_from line i xs ≡ (line i x ++ codes "\n") ++ lines_from line (i + 1) xs =
-        ap (λ ys. lines_text (map (λ (y : ℕ × ℕ). line y.0 y.1) (enumerate_from i ys))) (drop_more xs i x lt ∙ ap (λ y. y ∷ drop (i + 1) xs) (sym is)) in
+    ap (λ ys. lines_text (map (λ (y : ℕ × ℕ). line y.0 y.1) (enumerate_from i ys))) (drop_more xs i x lt ∙ ap (λ y. y ∷ drop (i + 1) xs) (sym is)) in
     ap (λ t. t ++ lines_from line (i + 1) xs) e
     ∙ append_assoc old (line i x ++ codes "\n") (lines_from line (i + 1) xs)
     ∙ ap (λ t. old ++ t) (sym first)

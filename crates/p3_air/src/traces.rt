@@ -6,10 +6,7 @@ use air_field::{Field, RowMajorMatrix};
 use std::alloc::{AllocError, Global};
 
 /// Adds the elements of a row's numbers.
-fn push_row<F: Field, const N: usize>(
-    values: &mut Vec<F>,
-    row: &[u64; N],
-) -> Result<(), AllocError>
+fn push_row<F: Field, const N: usize>(values: &mut Vec<F>, row: &[u64; N]) -> Result<(), AllocError>
     ensures whole { length row.now ≡ N }
     ensures pushed { OnOk result
         (values.new.items ≡ values.old.items ++ map (image F.ring) row.now) }
