@@ -225,8 +225,8 @@ fn push_limbs<F: PrimeField64>(alloc: Global, word: &str, row: &mut Vec<F>) -> R
 }
 
 // Adds 32 elements, zero but for those that stand as `PLACE:NUMBER`, with commas between.
-fn push_bits<F: PrimeField64>(word: &str, row: &mut Vec<F>) -> Result<(), Fault> {
-    let mut bits = [F::ZERO; 32];
+fn push_bits<F: PrimeField64>(alloc: Global, word: &str, row: &mut Vec<F>) -> Result<(), Fault> {
+    let mut bits = vec![in alloc; F::ZERO; 32]?;
     if word != "-" {
         for part in word.split(',') {
             let Some((place, number)) = part.split_once(':') else {
@@ -267,8 +267,8 @@ fn gadget_over<F: PrimeField64 + 'static>(
         }
         ["xor_32_shift", a, b, c, shift] => {
             push_limbs(alloc, *a, &mut row)?;
-            push_bits(*b, &mut row)?;
-            push_bits(*c, &mut row)?;
+            push_bits(alloc, *b, &mut row)?;
+            push_bits(alloc, *c, &mut row)?;
             show_checked(alloc, Gadget::Xor(count_of(*shift)?), row, text)
         }
         ["degrees", "add2"] => show_degrees::<F>(alloc, Gadget::SumOfTwo, 6, text),
