@@ -3,7 +3,7 @@ use Rattle.std.proofs.Common.{◌≡◌, ℕ, Bool, true, false, List, [], Optio
 use Rattle.std.proofs.lemmas.Bool.{ltb-false, le-ltb}
 use Rattle.std.specs.Prelude.{nat_lt}
 use Rattle.serde_json.specs.Data.{Data, null, boolean, number, unsigned, negative, float, string, array, object}
-use Rattle.air_field.specs.Modulo.{class}
+use Rattle.air_field.specs.Modulo.{class, baby_bears}
 use Rattle.air_wire.specs.BaseLeaves.{element_or, element_at, base_kind}
 use Rattle.air_wire.specs.laws.BaseLeaves.{element_found, element_again, base_kind_laws}
 use Rattle.air_wire.specs.Boundaries.{SpellsCell, cell_of}
@@ -28,7 +28,7 @@ whole_agrees = by_form_agrees (λ d n. IsWhole n d) whole number_found whole_aga
 
 -- ---- elements
 
-element_fault : (d : Data) (f : FlatError) (o : Option ℕ) → whole d ≡ o → element_or 0 o ≡ Err f → ElementFault d f
+element_fault : (d : Data) (f : FlatError) (o : Option ℕ) → whole d ≡ o → element_or baby_bears 0 o ≡ Err f → ElementFault d f
 element_fault d f None is e = inl ((λ n h. absurd (cc (sym is ∙ whole_again d n h))), sym (err_is (faults.Shape 0) f e))
 element_fault d f (Some n) is e = by_size (nat_lt n 2013265921) refl e
   where
@@ -36,27 +36,27 @@ element_fault d f (Some n) is e = by_size (nat_lt n 2013265921) refl e
     by_size true small e = absurd cc
     by_size false big e = inr (n, number_found d n is, ltb-false n 2013265921 big, sym (err_is (faults.NotCanonical 0) f e))
 
-element_refused : (d : Data) (f : FlatError) → ElementFault d f → element_at 0 d ≡ Err f
+element_refused : (d : Data) (f : FlatError) → ElementFault d f → element_at baby_bears 0 d ≡ Err f
 unfolding element_at
 element_refused d f (inl h) = none (whole d) refl
   where
-    none : (o : Option ℕ) → whole d ≡ o → element_or 0 o ≡ Err f
+    none : (o : Option ℕ) → whole d ≡ o → element_or baby_bears 0 o ≡ Err f
     none None is = ap (λ g. failed g) (sym h.1)
     none (Some n) is = absurd (h.0 n (number_found d n is))
 element_refused d f (inr h) =
-    ap (λ e. element_or 0 (whole e)) h.1
+    ap (λ e. element_or baby_bears 0 (whole e)) h.1
     ∙ ap (λ b. if b then Ok (class h.0) else Err (faults.NotCanonical 0)) (le-ltb h.0 2013265921 h.2) ∙ ap (λ g. failed g) (sym h.3)
 
-fault_of_element : (d : Data) (f : FlatError) → element_at 0 d ≡ Err f → ElementFault d f
+fault_of_element : (d : Data) (f : FlatError) → element_at baby_bears 0 d ≡ Err f → ElementFault d f
 unfolding element_at
 fault_of_element d f e = element_fault d f (whole d) refl e
 
-element_agrees : Agrees element (element_at 0)
-element_agrees = record { found = element_found 0; again = element_again 0; fault = fault_of_element; refused = element_refused }
+element_agrees : Agrees element (element_at baby_bears 0)
+element_agrees = record { found = element_found baby_bears 0; again = element_again baby_bears 0; fault = fault_of_element; refused = element_refused }
 
 elements_agree : Agrees (list_of element) elements
 unfolding elements
-elements_agree = list_agrees element (element_at 0) element_agrees
+elements_agree = list_agrees element (element_at baby_bears 0) element_agrees
 
 columns_agree : Agrees (list_of (list_of element)) columns
 unfolding columns
@@ -66,10 +66,10 @@ columns_agree = list_agrees (list_of element) elements elements_agree
 
 tree_agrees : Agrees constraint tree
 tree_agrees = record {
-  found = root_found base_kind base_kind_laws;
-  again = root_again base_kind base_kind_laws;
-  fault = root_fault base_kind base_kind_laws;
-  refused = root_fault_read base_kind base_kind_laws;
+  found = root_found (base_kind baby_bears) (base_kind_laws baby_bears);
+  again = root_again (base_kind baby_bears) (base_kind_laws baby_bears);
+  fault = root_fault (base_kind baby_bears) (base_kind_laws baby_bears);
+  refused = root_fault_read (base_kind baby_bears) (base_kind_laws baby_bears);
 }
 
 trees_agree : Agrees (list_of constraint) trees

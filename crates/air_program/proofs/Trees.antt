@@ -2,7 +2,7 @@
 use Rattle.std.proofs.Common.{◌≡◌, ◌≢◌, ℕ, suc, zero, ◌<◌, List, [], ◌∷◌, ◌++◌, length, map, All, Result, Ok, Err, refl, ap, ◌∙◌, arith}
 use Rattle.std.specs.Result.{IfOk, IfErr}
 use Rattle.serde_json.specs.Data.{Data}
-use Rattle.air_field.specs.Modulo.{baby_bear_ring}
+use Rattle.air_field.specs.Modulo.{baby_bear_ring, baby_bears}
 use Rattle.air_field.specs.BabyBear.{BabyBear}
 use Rattle.air_symbolic.specs.BaseLeaves.{base_reads, base_grows}
 use Rattle.air_symbolic.specs.laws.BaseLeaves.{base_leaf_laws}
@@ -48,12 +48,12 @@ trees_kept p q (i ∷ is) g h =
 
 -- ---- what the reader of lists promises
 
-pub tree_given : (p : Pool) (d : Data) (r : Result ℕ FlatError) → IfOk r (λ i. IsList base_kind d (seen_at base_seen p i)) → IfErr r (λ e. e ≢ faults.Memory → HasFault base_kind d e) → Gives (tree_at p) r (tree d)
-tree_given p d (Ok i) h n = root_again base_kind base_kind_laws d (seen_at base_seen p i) h ∙ ap (λ t. Ok t) (over_same (tree_at p i))
+pub tree_given : (p : Pool) (d : Data) (r : Result ℕ FlatError) → IfOk r (λ i. IsList (base_kind baby_bears) d (seen_at base_seen p i)) → IfErr r (λ e. e ≢ faults.Memory → HasFault (base_kind baby_bears) d e) → Gives (tree_at p) r (tree d)
+tree_given p d (Ok i) h n = root_again (base_kind baby_bears) (base_kind_laws baby_bears) d (seen_at base_seen p i) h ∙ ap (λ t. Ok t) (over_same (tree_at p i))
 tree_given p d (Err faults.Memory) h n = tt
-tree_given p d (Err faults.DegreeOverflow) h n = root_fault_read base_kind base_kind_laws d faults.DegreeOverflow (n (λ e. absurd cc))
-tree_given p d (Err (faults.Shape place)) h n = root_fault_read base_kind base_kind_laws d (faults.Shape place) (n (λ e. absurd cc))
-tree_given p d (Err faults.EmptyList) h n = root_fault_read base_kind base_kind_laws d faults.EmptyList (n (λ e. absurd cc))
-tree_given p d (Err (faults.Operand place i)) h n = root_fault_read base_kind base_kind_laws d (faults.Operand place i) (n (λ e. absurd cc))
-tree_given p d (Err (faults.WrongDegree place s k)) h n = root_fault_read base_kind base_kind_laws d (faults.WrongDegree place s k) (n (λ e. absurd cc))
-tree_given p d (Err (faults.NotCanonical place)) h n = root_fault_read base_kind base_kind_laws d (faults.NotCanonical place) (n (λ e. absurd cc))
+tree_given p d (Err faults.DegreeOverflow) h n = root_fault_read (base_kind baby_bears) (base_kind_laws baby_bears) d faults.DegreeOverflow (n (λ e. absurd cc))
+tree_given p d (Err (faults.Shape place)) h n = root_fault_read (base_kind baby_bears) (base_kind_laws baby_bears) d (faults.Shape place) (n (λ e. absurd cc))
+tree_given p d (Err faults.EmptyList) h n = root_fault_read (base_kind baby_bears) (base_kind_laws baby_bears) d faults.EmptyList (n (λ e. absurd cc))
+tree_given p d (Err (faults.Operand place i)) h n = root_fault_read (base_kind baby_bears) (base_kind_laws baby_bears) d (faults.Operand place i) (n (λ e. absurd cc))
+tree_given p d (Err (faults.WrongDegree place s k)) h n = root_fault_read (base_kind baby_bears) (base_kind_laws baby_bears) d (faults.WrongDegree place s k) (n (λ e. absurd cc))
+tree_given p d (Err (faults.NotCanonical place)) h n = root_fault_read (base_kind baby_bears) (base_kind_laws baby_bears) d (faults.NotCanonical place) (n (λ e. absurd cc))

@@ -2,6 +2,7 @@
 use Rattle.std.specs.Prelude.{◌≡◌, ℕ, ◌≤◌, List, [], Option, Some, None, ◌⊎◌, codes}
 use Rattle.serde_json.specs.Data.{Data, null}
 use Rattle.air_field.specs.BabyBear.{BabyBear}
+use Rattle.air_field.specs.Modulo.{baby_bears}
 use Rattle.air_symbolic.specs.Trees.{Tree}
 use Rattle.air_symbolic.specs.declared.leaves.base_leaf.BaseLeaf.{BaseLeaf}
 use Rattle.air_core.specs.declared.boundary.BoundaryPublic.{BoundaryPublic}
@@ -26,7 +27,7 @@ element = record { spells = λ d x. IsWhole x.residue d; fault = ElementFault }
 
 -- a list of nodes, as the tree of its root
 abbrev pub constraint : Grammar (Tree (BaseLeaf BabyBear))
-constraint = record { spells = IsList base_kind; fault = HasFault base_kind }
+constraint = record { spells = IsList (base_kind baby_bears); fault = HasFault (base_kind baby_bears) }
 
 abbrev pub cell : Grammar BoundaryPublic
 cell = by_form SpellsCell

@@ -3,6 +3,7 @@ use Rattle.std.specs.Prelude.{ℕ, List, [], ◌∷◌, ◌++◌, ◌||◌, Opti
 use Rattle.serde_json.specs.Data.{Data, Items, no_items, item}
 use Rattle.serde_json.specs.Find.{get, as_array, as_null}
 use Rattle.air_field.specs.BabyBear.{BabyBear}
+use Rattle.air_field.specs.Modulo.{baby_bears}
 use Rattle.air_symbolic.specs.Trees.{Tree}
 use Rattle.air_symbolic.specs.declared.leaves.base_leaf.BaseLeaf.{BaseLeaf}
 use Rattle.air_core.specs.declared.boundary.BoundaryPublic.{BoundaryPublic}
@@ -33,13 +34,13 @@ abbrev pub list_read : {X : Type 0} → Reader X → Reader (List X)
 list_read read d = formed (as_array d) >>= λ ds. each_from read [] ds
 
 unfoldable pub elements : Reader (List BabyBear)
-elements d = list_read (element_at 0) d
+elements d = list_read (element_at baby_bears 0) d
 
 unfoldable pub columns : Reader (List (List BabyBear))
 columns d = list_read elements d
 
 abbrev pub tree : Reader (Tree (BaseLeaf BabyBear))
-tree d = root_of base_kind d
+tree d = root_of (base_kind baby_bears) d
 
 unfoldable pub trees : Reader (List (Tree (BaseLeaf BabyBear)))
 trees d = list_read tree d

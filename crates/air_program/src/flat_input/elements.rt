@@ -1,6 +1,7 @@
 //! Lists of field elements.
 ghost use Rattle.std.specs.Prelude.{◌≡◌, [], map};
 ghost use Rattle.serde_json.specs.View.{view, items_view};
+ghost use Rattle.air_field.specs.Modulo.{baby_bears};
 ghost use Rattle.air_wire.specs.BaseLeaves.{element_at};
 ghost use Rattle.air_wire.specs.Results.{Gives};
 ghost use Rattle.air_program.specs.Readers.{each_from, elements, columns};
@@ -11,7 +12,7 @@ use serde_json::Value;
 use std::alloc::Global;
 
 fn elements_of(alloc: Global, items: &[Value]) -> Result<Vec<BabyBear>, FlatError>
-    ensures { Gives (λ v. v.items) result (each_from (element_at 0) [] (items_view items.now)) }
+    ensures { Gives (λ v. v.items) result (each_from (element_at baby_bears 0) [] (items_view items.now)) }
 {
     let mut elements = Vec::new(alloc);
     for item in items {
