@@ -1,5 +1,5 @@
 -- Readers that find exactly what is spelt, and refuse with exactly the first fault.
-use Rattle.std.proofs.Common.{◌≡◌, ℕ, List, [], ◌∷◌, ◌++◌, append_assoc, ◌||◌, Bool, is_some, if◌then◌else◌, Option, Some, None, Result, Ok, Err, refl, sym, ap, subst, ◌∙◌, inl, inr}
+use Rattle.std.proofs.Common.{◌≡◌, ℕ, List, [], ◌∷◌, ◌++◌, append_assoc, ◌||◌, is_some, if◌then◌else◌, Option, Some, None, Result, Ok, Err, refl, sym, ap, subst, ◌∙◌, inl, inr}
 use Rattle.std.proofs.lemmas.List.{append-nil}
 use Rattle.serde_json.specs.Data.{Data, Items, no_items, item}
 use Rattle.serde_json.specs.Find.{get, as_array}
@@ -7,7 +7,7 @@ use Rattle.air_wire.specs.declared.errors.FlatError.{FlatError}
 use Rattle.air_wire.specs.declared.errors.FlatError.TheVariants as faults
 use Rattle.air_wire.specs.Results.{◌>>=◌}
 use Rattle.air_wire.specs.laws.Readings.{done, done_is, bind_ok, ok_or_found}
-use Rattle.air_program.specs.Objects.{Grammar, by_form, AllSpell, FirstFault, list_of, needed, optional, both, HasEither, both_or_none}
+use Rattle.air_program.specs.Objects.{Grammar, by_form, AllSpell, FirstFault, list_of, needed, optional, both, both_or_none}
 use Rattle.air_program.specs.Readers.{Reader, formed, each_from, list_read, needed_read, or_absent, optional_read, both_read, if_either}
 
 pub record Agrees {X : Type 0} (g : Grammar X) (read : Reader X) : Type 0 where
