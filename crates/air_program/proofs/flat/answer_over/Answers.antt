@@ -1,0 +1,1 @@
+use Rattle.air_program.proofs.flat.answer_over.Goals as goal
