@@ -48,6 +48,11 @@ module _ {F : Type 0} {order : ℕ} (modular : Modular F order) where
   value_answered (Ok p) P input f spelt finds s t = λ d h. inl (input, spelt d h, (f, finds, s, t))
   value_answered (Err _) P input f spelt finds s t = tt
 
+  -- what refuses whatever has these parts refuses the value that the bytes stand for
+  pub still_refused : (bytes : List ℕ) (d : Data) (P : Data → Type 0) (why : Refusal) → StandsFor bytes d → P d → (why ≡ refusals.Memory) ⊎ ((e : Data) → P e → Refuses e why) → (why ≡ refusals.Memory) ⊎ (((why ≡ refusals.Json) × HasNoValue bytes) ⊎ ((e : Data) × StandsFor bytes e × Refuses e why))
+  still_refused bytes d P why stands has (inl memory) = inl memory
+  still_refused bytes d P why stands has (inr refuses) = inr (inr (d, stands, refuses d has))
+
 -- ---- over the field that is named
 
 -- what the member `field` names is told by the other members too
