@@ -1,0 +1,5 @@
+pub mod ShownLemmas
+pub mod PieceLemmas
+pub mod CountLemmas
+pub mod NameLemmas
+pub mod LineLemmas

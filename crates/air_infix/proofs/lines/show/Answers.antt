@@ -1,0 +1,27 @@
+use Rattle.std.proofs.Common.{◌≡◌, ℕ, ◌<◌, ◌≤◌, ◌++◌, List, length, All, codes, string_bytes, sym, ap, subst, ◌∙◌, arith}
+use Rattle.std.proofs.lemmas.Grind.{flat_map-append}
+use Rattle.air_infix.specs.Names.{is_named}
+use Rattle.air_infix.specs.Lines.{lines_text, numbered, definition_line, constraint_line}
+use Rattle.air_infix.proofs.NameLemmas.{passing-low}
+use Rattle.air_infix.proofs.lines.show.Goals as goal
+
+pub push_definitions-requires-clause-here : goal.push_definitions-requires-clause-here
+push_definitions-requires-clause-here g c =
+    let ns = c.args.pool.now.1 in
+    let are = c.in_ok-names.ensures in
+    subst (λ (xs : List ℕ). All (λ x. x < length ns) xs) (sym are.named)
+    (passing-low (is_named ns c.args.roots.now are.marks) (length ns) (length ns) (omega arith))
+
+pub returns : goal.returns
+returns g c =
+    let m = g.F.PrimeField64.residues in
+    let names = c.in_ok-names.names in
+    let definitions = numbered (definition_line m c.args.pool.now names.1) names.0 in
+    let constraints = numbered (constraint_line m c.args.pool.now names.1) c.args.roots.now in
+    record {
+      names = names;
+      are_names = c.in_ok-names.ensures;
+      text_is = c.in_ok-push_constraints.ensures
+          ∙ ap (λ t. t ++ lines_text constraints) (c.in_ok-push_definitions.ensures ∙ ap (λ t. t ++ lines_text definitions) c.new-text.ensures.bytes)
+          ∙ sym (flat_map-append (λ line. line ++ codes "\n") definitions constraints);
+    }

@@ -1,0 +1,5 @@
+pub mod Infix
+pub mod Pieces
+pub mod Names
+pub mod Counts
+pub mod Lines

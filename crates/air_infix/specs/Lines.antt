@@ -1,0 +1,40 @@
+-- The lines that show the constraints of a pool.
+use Rattle.std.specs.Prelude.{◌≡◌, ℕ, List, ◌++◌, map, get_or, Option, None, codes, decimal}
+use Rattle.std.specs.List.{enumerate_from, flat_map}
+use Rattle.air_field.specs.Degree.{degree_by, cached_weight}
+use Rattle.air_field.specs.Modular.{Modular}
+use Rattle.air_symbolic.specs.BaseLeaves.{base_leaves, base_reads}
+use Rattle.air_symbolic.specs.ExtLeaves.{BaseNodes}
+use Rattle.air_symbolic.specs.Pools.{term_at}
+use Rattle.air_infix.specs.declared.binding.Binding.TheVariants.{Loose}
+use Rattle.air_infix.specs.Infix.{shown, shown_at, text_of, name_text}
+use Rattle.air_infix.specs.Names.{AreNames}
+
+-- the names of a list, in which number i has its name at place i
+abbrev pub listed : List (Option ℕ) → ℕ → Option ℕ
+listed names i = get_or names i None
+
+-- each line ended by a byte 10
+abbrev pub lines_text : List (List ℕ) → List ℕ
+lines_text lines = flat_map (λ line. line ++ codes "\n") lines
+
+module _ {F : Type 0} {p : ℕ} (m : Modular F p) (pool : BaseNodes F) (names : List (Option ℕ)) where
+  -- `%k = TEXT`, for number i by its node
+  abbrev pub definition_line : ℕ → ℕ → List ℕ
+  definition_line k i = name_text k ++ (codes " = " ++ text_of m Loose (shown_at (listed names) pool.1 i))
+
+  -- `#j degree D: TEXT`, for number i
+  abbrev pub constraint_line : ℕ → ℕ → List ℕ
+  constraint_line j i =
+      codes "#" ++ (decimal j ++ (codes " degree " ++ (decimal (degree_by cached_weight (term_at base_reads pool i))
+      ++ (codes ": " ++ text_of m Loose (shown (listed names) pool.1 i)))))
+
+-- a line for each element, by its place and itself
+abbrev pub numbered : (ℕ → ℕ → List ℕ) → List ℕ → List (List ℕ)
+numbered line xs = map (λ x. line x.0 x.1) (enumerate_from 0 xs)
+
+-- The definitions of what has a name, in order, and then the roots.
+pub record ShowsRoots {F : Type 0} {p : ℕ} (m : Modular F p) (pool : BaseNodes F) (roots : List ℕ) (text : List ℕ) : Type 0 where
+  pub names : List ℕ × List (Option ℕ)
+  pub are_names : AreNames base_leaves pool.1 roots names
+  pub text_is : text ≡ lines_text (numbered (definition_line m pool names.1) names.0 ++ numbered (constraint_line m pool names.1) roots)

@@ -1,0 +1,79 @@
+-- Which nodes of a pool have a name, where some roots are shown, and which.
+use Rattle.std.specs.Prelude.{◌≡◌, ℕ, zero, suc, ◌+◌, Bool, true, false, ◌&&◌, is_some, nat_le, ◌==◌, if◌then◌else◌, List, [], ◌∷◌, ◌++◌, length, get_or, Option, None, Some}
+use Rattle.std.specs.List.{count_by}
+use Rattle.air_symbolic.specs.Leaves.{Leaves}
+use Rattle.air_symbolic.specs.Nodes.{node_at}
+use Rattle.air_symbolic.specs.Reach.{Reached}
+use Rattle.air_symbolic.specs.declared.pools.expr.SymbolicExpr.{SymbolicExpr}
+use Rattle.air_symbolic.specs.declared.pools.expr.SymbolicExpr.TheVariants.{Leaf, Add, Sub, Neg, Mul}
+
+-- ---- the numbers below a bound
+
+-- the sum of f over the numbers below a bound
+abbrev pub sum_below : (ℕ → ℕ) → ℕ → ℕ
+sum_below f zero = 0
+sum_below f (suc n) = sum_below f n + f n
+
+-- the numbers below a bound that pass a test, in order
+abbrev pub passing_below : (ℕ → Bool) → ℕ → List ℕ
+passing_below test zero = []
+passing_below test (suc n) = passing_below test n ++ (if test n then n ∷ [] else [])
+
+-- ---- the places that name a number
+
+-- 1 where x is i
+abbrev pub place : ℕ → ℕ → ℕ
+place i x = if x == i then 1 else 0
+
+-- how many operands of a node are number i
+abbrev pub operand_places : {A : Type 0} → ℕ → SymbolicExpr A → ℕ
+operand_places i (Leaf a) = 0
+operand_places i (Add x y d) = place i x + place i y
+operand_places i (Sub x y d) = place i x + place i y
+operand_places i (Neg x d) = place i x
+operand_places i (Mul x y d) = place i x + place i y
+
+abbrev pub node_places : {A : Type 0} → ℕ → Option (SymbolicExpr A) → ℕ
+node_places i None = 0
+node_places i (Some n) = operand_places i n
+
+-- Below, `marks` has at each place whether the roots reach the number.
+
+abbrev pub is_reached : List (Option ℕ) → ℕ → Bool
+is_reached marks i = is_some (get_or marks i None)
+
+-- how many operands of node j are number i, if j is reached
+abbrev pub places_at : {A : Type 0} → List (SymbolicExpr A) → List (Option ℕ) → ℕ → ℕ → ℕ
+places_at ns marks i j = if is_reached marks j then node_places i (node_at ns j) else 0
+
+-- how many operands of reached nodes and how many roots are number i
+abbrev pub places_of : {A : Type 0} → List (SymbolicExpr A) → List ℕ → List (Option ℕ) → ℕ → ℕ
+places_of ns roots marks i = count_by (λ root. root == i) roots + sum_below (places_at ns marks i) (length ns)
+
+-- ---- names
+
+abbrev pub is_operation : {A : Type 0} → SymbolicExpr A → Bool
+is_operation (Leaf a) = false
+is_operation (Add x y d) = true
+is_operation (Sub x y d) = true
+is_operation (Neg x d) = true
+is_operation (Mul x y d) = true
+
+abbrev pub has_operation : {A : Type 0} → Option (SymbolicExpr A) → Bool
+has_operation None = false
+has_operation (Some n) = is_operation n
+
+-- the roots reach the number, it is no leaf, and two places or more name it
+abbrev pub is_named : {A : Type 0} → List (SymbolicExpr A) → List ℕ → List (Option ℕ) → ℕ → Bool
+is_named ns roots marks i = is_reached marks i && (has_operation (node_at ns i) && nat_le 2 (places_of ns roots marks i))
+
+-- the name of a number: how many before it have one
+abbrev pub name_by : (ℕ → Bool) → ℕ → Option ℕ
+name_by test i = if test i then Some (length (passing_below test i)) else None
+
+-- The numbers that have a name, in order, and at each number's place its name.
+pub record AreNames {A F : Type 0} (l : Leaves A F) (ns : List (SymbolicExpr A)) (roots : List ℕ) (names : List ℕ × List (Option ℕ)) : Type 0 where
+  pub marks : List (Option ℕ)
+  pub reached : Reached l ns roots marks
+  pub named : names.0 ≡ passing_below (is_named ns roots marks) (length ns)
+  pub each : (i : ℕ) → get_or names.1 i None ≡ name_by (is_named ns roots marks) i

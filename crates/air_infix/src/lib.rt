@@ -1,0 +1,16 @@
+//! The text of expressions as people read them, in infix notation, with a name for what several places share.
+#![tactic(auto)]
+
+mod binding;
+mod counts;
+mod infix;
+mod leaves;
+mod lines;
+mod names;
+mod naming;
+mod pieces;
+
+pub use infix::push_infix;
+pub use leaves::{push_constant, push_variable};
+pub use lines::{push_definitions, show};
+pub use names::Names;
