@@ -10,7 +10,6 @@ use Rattle.p3_air.specs.Theorem.{Instance}
 use Rattle.p3_air.specs.Audits.{IsAuditUnder, AuditRefusesUnder}
 use Rattle.p3_air.specs.declared.audit.Audit.{Audit}
 use Rattle.air_core.specs.declared.errors.AirError.{AirError}
-
 use Rattle.air_program.specs.Answer.{equal, AuditRefuses}
 
 -- tests that agree on all elements are the same

@@ -16,7 +16,7 @@ members-init g c = (
   no_members,
   refl,
   omega arith,
-  subst (λ es. AreMembersOf g.F.PrimeField64.residues no_members (members_view es) c.missing_constraints-constraints.result) (sym c.new-rest.ensures.empty) (none_of_members c.missing_constraints-constraints.result c.missing_constraints-constraints.ensures),
+  subst (λ es. AreMembersOf g.F.PrimeField64.residues no_members (members_view es) c.missing_constraints-constraints.result) (sym c.new-rest.ensures.empty) (none_of_members g.F.PrimeField64.residues c.missing_constraints-constraints.result c.missing_constraints-constraints.ensures),
 )
 
 pub returns-in_err-name-clause-err : goal.returns-in_err-name-clause-err
