@@ -14,28 +14,28 @@ use crate::flat_input::cells::cells_from;
 use crate::flat_input::constraints::{BasePool, Constraints, Roots};
 use crate::flat_input::elements::{columns_from, elements_from};
 use air_core::BoundaryPublic;
-use air_field::BabyBear;
+use air_field::{Field, PrimeField64};
 use air_wire::{FlatError, whole};
 use serde_json::Value;
 use std::alloc::Global;
 
 /// Values for rows of a width.
 #[derive(Drop)]
-pub(crate) struct RowValues {
+pub(crate) struct RowValues<F: Field> {
     pub width: usize,
-    pub values: Vec<BabyBear>,
+    pub values: Vec<F>,
 }
 
 /// What the members spell, before the matrices are made.
 #[derive(Drop)]
-pub(crate) struct Members {
+pub(crate) struct Members<F: Field> {
     pub main_width: usize,
-    pub main: Vec<BabyBear>,
-    pub preprocessed: Option<RowValues>,
-    pub public_values: Vec<BabyBear>,
-    pub pool: BasePool,
-    pub roots: Roots,
-    pub periodic: Vec<Vec<BabyBear>>,
+    pub main: Vec<F>,
+    pub preprocessed: Option<RowValues<F>>,
+    pub public_values: Vec<F>,
+    pub pool: BasePool<F>,
+    pub roots: Roots<F>,
+    pub periodic: Vec<Vec<F>>,
     pub cells: Vec<BoundaryPublic>,
     pub cap: Option<usize>,
     pub transition_weight: usize,
@@ -56,15 +56,23 @@ fn width_at(value: &Value, name: &str) -> Result<usize, FlatError>
 }
 
 #[tactic(auto, unfolding(crate::specs::Readers::elements_member))]
-fn elements_at(alloc: Global, value: &Value, name: &str) -> Result<Vec<BabyBear>, FlatError>
-    ensures { Gives (λ v. v.items) result (elements_member name.now (view value.now)) }
+fn elements_at<F: PrimeField64>(
+    alloc: Global,
+    value: &Value,
+    name: &str,
+) -> Result<Vec<F>, FlatError>
+    ensures { Gives (λ v. v.items) result
+        (elements_member F.residues name.now (view value.now)) }
 {
     elements_from(alloc, needed(value, name)?)
 }
 
 #[tactic(auto, unfolding(crate::specs::Readers::table_member))]
-fn table_from(alloc: Global, value: &Value) -> Result<Option<RowValues>, FlatError>
-    ensures { Gives (option_map seen_rows) result (table_member (view value.now)) }
+fn table_from<F: PrimeField64>(
+    alloc: Global,
+    value: &Value,
+) -> Result<Option<RowValues<F>>, FlatError>
+    ensures { Gives (option_map seen_rows) result (table_member F.residues (view value.now)) }
 {
     if value.get("preprocessed_width").is_none() && value.get("preprocessed").is_none() {
         return Ok(None);
@@ -75,8 +83,9 @@ fn table_from(alloc: Global, value: &Value) -> Result<Option<RowValues>, FlatErr
 }
 
 #[tactic(auto, unfolding(crate::specs::Readers::periodic_member))]
-fn periodic_from(alloc: Global, value: &Value) -> Result<Vec<Vec<BabyBear>>, FlatError>
-    ensures { Gives (λ v. map (λ c. c.items) v.items) result (periodic_member (view value.now)) }
+fn periodic_from<F: PrimeField64>(alloc: Global, value: &Value) -> Result<Vec<Vec<F>>, FlatError>
+    ensures { Gives (λ v. map (λ c. c.items) v.items) result
+        (periodic_member F.residues (view value.now)) }
 {
     match value.get("periodic") {
         Some(columns) => columns_from(alloc, columns),
@@ -128,15 +137,15 @@ fn weight_from(value: &Value) -> Result<usize, FlatError>
 /// The members that the object spells, or the first fault among them. Its constraints are read already, and it needn't
 /// hold them.
 #[tactic(auto, unfolding(crate::specs::Parts::members_with))]
-pub(crate) fn members_from(
+pub(crate) fn members_from<F: PrimeField64>(
     alloc: Global,
     value: &Value,
-    constraints: Constraints,
-) -> Result<Members, FlatError>
+    constraints: Constraints<F>,
+) -> Result<Members<F>, FlatError>
     requires { InPool constraints }
     ensures pool { IfOk result (λ m. IsPool base_reads m.pool) }
     ensures roots { IfOk result (λ m. All (λ i. i < length m.pool.1) m.roots.items) }
-    ensures read { Gives seen_members result (members_with (given_by constraints)
+    ensures read { Gives seen_members result (members_with F.residues (given_by constraints)
         (view value.now)) }
 {
     let main_width = width_at(value, "main_width")?;
