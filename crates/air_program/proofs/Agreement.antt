@@ -1,5 +1,5 @@
 -- Readers that find exactly what is spelt, and refuse with exactly the first fault.
-use Rattle.std.proofs.Common.{◌≡◌, ℕ, List, [], ◌∷◌, ◌++◌, append_assoc, Option, Some, None, Result, Ok, Err, refl, sym, ap, subst, ◌∙◌, inl, inr}
+use Rattle.std.proofs.Common.{◌≡◌, ℕ, List, [], ◌∷◌, ◌++◌, append_assoc, ◌||◌, Bool, is_some, if◌then◌else◌, Option, Some, None, Result, Ok, Err, refl, sym, ap, subst, ◌∙◌, inl, inr}
 use Rattle.std.proofs.lemmas.List.{append-nil}
 use Rattle.serde_json.specs.Data.{Data, Items, no_items, item}
 use Rattle.serde_json.specs.Find.{get, as_array}
@@ -7,12 +7,8 @@ use Rattle.air_wire.specs.declared.errors.FlatError.{FlatError}
 use Rattle.air_wire.specs.declared.errors.FlatError.TheVariants as faults
 use Rattle.air_wire.specs.Results.{◌>>=◌}
 use Rattle.air_wire.specs.laws.Readings.{done, done_is, bind_ok, ok_or_found}
-use Rattle.air_program.specs.Objects.{Grammar, by_form, AllSpell, FirstFault, list_of, needed, optional, both}
-use Rattle.air_program.specs.Readers.{Reader, formed, each_from, list_read, needed_read, or_absent, optional_read}
-
--- one reader and then another
-abbrev pub both_read : {X Y : Type 0} → Reader X → Reader Y → Reader (X × Y)
-both_read read next d = read d >>= λ x. next d >>= λ y. Ok (x, y)
+use Rattle.air_program.specs.Objects.{Grammar, by_form, AllSpell, FirstFault, list_of, needed, optional, both, HasEither, both_or_none}
+use Rattle.air_program.specs.Readers.{Reader, formed, each_from, list_read, needed_read, or_absent, optional_read, both_read, if_either}
 
 pub record Agrees {X : Type 0} (g : Grammar X) (read : Reader X) : Type 0 where
   pub found : (d : Data) (x : X) → read d ≡ Ok x → g.spells d x
@@ -194,4 +190,58 @@ module _ {X Y : Type 0} (g : Grammar X) (read : Reader X) (agrees : Agrees g rea
     again = λ d p k. ap (then_next d) (agrees.again d p.0 k.0) ∙ ap (λ (r : Result Y FlatError). r >>= λ y. paired p.0 y) (agree.again d p.1 k.1);
     fault = λ d f e. both_fault d f (read d) refl e;
     refused = both_refused;
+  }
+
+-- ---- both members or none
+
+module _ {X Y : Type 0} (one other : List ℕ) (g : Grammar X) (h : Grammar Y) (read : Reader (X × Y)) (agrees : Agrees (both (needed one g) (needed other h)) read) where
+  abbrev either : Grammar (Option (X × Y))
+  either = both_or_none one g other h
+
+  abbrev some_of : Result (X × Y) FlatError → Result (Option (X × Y)) FlatError
+  some_of r = r >>= λ p. Ok (Some p)
+
+  abbrev of_either : Result (X × Y) FlatError → Option Data → Option Data → Result (Option (X × Y)) FlatError
+  of_either r a b = if is_some a || is_some b then some_of r else Ok None
+
+  some_found : (d : Data) (o : Option (X × Y)) (r : Result (X × Y) FlatError) → read d ≡ r → some_of r ≡ Ok o → either.spells d o
+  some_found d o (Ok p) is e = inr (p, agrees.found d p is, done_is (λ v. v ≡ Some p) (Some p) o e refl)
+  some_found d o (Err f) is e = absurd cc
+
+  either_found : (d : Data) (o : Option (X × Y)) (a b : Option Data) → get one d ≡ a → get other d ≡ b → of_either (read d) a b ≡ Ok o → either.spells d o
+  either_found d o None None at by e = inl (at, by, done_is (λ v. v ≡ None) None o e refl)
+  either_found d o (Some c) b at by e = some_found d o (read d) refl e
+  either_found d o None (Some c) at by e = some_found d o (read d) refl e
+
+  -- where the first is there
+  first_there : (d : Data) (c : Data) → get one d ≡ Some c → if_either one other read d ≡ some_of (read d)
+  first_there d c at = ap (λ a. of_either (read d) a (get other d)) at
+
+  either_again : (d : Data) (o : Option (X × Y)) → either.spells d o → if_either one other read d ≡ Ok o
+  either_again d o (inl k) = ap (λ a. of_either (read d) a (get other d)) k.0 ∙ ap (λ b. of_either (read d) None b) k.1 ∙ ap (λ v. done v) (sym k.2)
+  either_again d o (inr k) = first_there d k.1.0.0 k.1.0.1 ∙ ap some_of (agrees.again d k.0 k.1) ∙ ap (λ v. done v) (sym k.2)
+
+  some_fault : (f : FlatError) (r : Result (X × Y) FlatError) → some_of r ≡ Err f → r ≡ Err f
+  some_fault f (Ok p) e = absurd cc
+  some_fault f (Err k) e = ap (λ k. failed k) (err_is k f e)
+
+  either_fault : (d : Data) (f : FlatError) (a b : Option Data) → get one d ≡ a → get other d ≡ b → of_either (read d) a b ≡ Err f → either.fault d f
+  either_fault d f None None at by e = absurd cc
+  either_fault d f (Some c) b at by e = (inl (c, at, tt), agrees.fault d f (some_fault f (read d) e))
+  either_fault d f None (Some c) at by e = (inr (c, by, tt), agrees.fault d f (some_fault f (read d) e))
+
+  second_there : (d : Data) (c : Data) (a : Option Data) → get one d ≡ a → get other d ≡ Some c → if_either one other read d ≡ some_of (read d)
+  second_there d c None at by = ap (λ a. of_either (read d) a (get other d)) at ∙ ap (λ b. of_either (read d) None b) by
+  second_there d c (Some k) at by = first_there d k at
+
+  either_refused : (d : Data) (f : FlatError) → either.fault d f → if_either one other read d ≡ Err f
+  either_refused d f (inl k, e) = first_there d k.0 k.1 ∙ ap some_of (agrees.refused d f e)
+  either_refused d f (inr k, e) = second_there d k.0 (get one d) refl k.1 ∙ ap some_of (agrees.refused d f e)
+
+  pub both_or_none_agrees : Agrees (both_or_none one g other h) (if_either one other read)
+  both_or_none_agrees = record {
+    found = λ d o e. either_found d o (get one d) (get other d) refl refl e;
+    again = either_again;
+    fault = λ d f e. either_fault d f (get one d) (get other d) refl refl e;
+    refused = either_refused;
   }

@@ -9,6 +9,7 @@ pub mod LineEnds
 pub mod FibonacciRefusals
 pub mod Caps
 pub mod Traces
+pub mod Equality
 pub mod FlatAnswers
 pub mod Outcomes
 pub mod Loop

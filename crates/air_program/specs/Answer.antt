@@ -1,53 +1,62 @@
 -- What an audit finds, and what answers a whole input that is a trace of Fibonacci.
-use Rattle.std.specs.Prelude.{◌≡◌, ◌⊎◌, ◌<◌, ℕ, List, codes, Bool, Option, Some, None}
+use Rattle.std.specs.Prelude.{◌≡◌, ◌⊎◌, ◌<◌, ◌==◌, ℕ, List, codes, Bool, Option, Some, None}
 use Rattle.air_field.specs.Grid.{Grid, grid_of}
 use Rattle.air_field.specs.Extension.{own_basis}
-use Rattle.air_field.specs.Modulo.{baby_bear_ring}
+use Rattle.air_field.specs.Modular.{Modular, modular_ring}
+use Rattle.air_field.specs.Modulo.{baby_bears}
 use Rattle.air_field.specs.BabyBear.{BabyBear}
 use Rattle.p3_air.specs.Theorem.{Instance, instance}
-use Rattle.p3_air.specs.Audits.{IsAuditUnder, IsDegreePast}
+use Rattle.p3_air.specs.Audits.{IsAuditUnder, IsDegreePast, AuditRefusesUnder}
 use Rattle.p3_air.specs.declared.audit.Audit.{Audit}
+use Rattle.air_core.specs.declared.errors.AirError.{AirError}
 use Rattle.air_program.specs.Fibonacci.{fibonacci_declaration}
 use Rattle.air_program.specs.Parsing.{residues}
 use Rattle.air_program.specs.Texts.{Found, found, IsFindingsText, findings_status}
 use Rattle.air_program.specs.Refusals.{IsRefusal}
 
+-- the test whether two elements are equal: whether their numbers are
+abbrev pub equal : {F : Type 0} {p : ℕ} → Modular F p → F → F → Bool
+equal m a b = m.value a == m.value b
+
 -- what an audit found
-abbrev pub found_by : Audit BabyBear → Found
+abbrev pub found_by : {F : Type 0} → Audit F → Found
 found_by audit = found (record { degree = audit.degree; report = audit.report })
 
 -- What an audit under a cap, in a domain of weight w, finds of an instance.
-pub record AuditFinds (eq : BabyBear → BabyBear → Bool) (x : Instance BabyBear) (cap : Option ℕ) (w : ℕ) (f : Found) : Type 0 where
-  pub audit : Audit BabyBear
-  pub is_audit : IsAuditUnder baby_bear_ring eq own_basis x cap w audit
+pub record AuditFinds {F : Type 0} {p : ℕ} (m : Modular F p) (x : Instance F) (cap : Option ℕ) (w : ℕ) (f : Found) : Type 0 where
+  pub audit : Audit F
+  pub is_audit : IsAuditUnder (modular_ring m) (equal m) own_basis x cap w audit
   pub found_is : f ≡ found_by audit
+
+-- what such an audit refuses
+abbrev pub AuditRefuses : {F : Type 0} {p : ℕ} → Modular F p → Instance F → Option ℕ → ℕ → AirError → Type 0
+AuditRefuses m = AuditRefusesUnder (modular_ring m) (equal m)
+
+-- the text and the status of what an audit finds
+abbrev pub TellsFound : {F : Type 0} {p : ℕ} → Modular F p → Instance F → Option ℕ → ℕ → ℕ → List ℕ → Type 0
+TellsFound m x cap w status text =
+    (f : Found) × AuditFinds m x cap w f × (status ≡ findings_status f) × IsFindingsText f text
+
+-- ---- Fibonacci
 
 -- Fibonacci on public values and a trace
 abbrev pub fibonacci_instance : Grid BabyBear → List BabyBear → Instance BabyBear
 fibonacci_instance main public = instance fibonacci_declaration main public
 
--- the text and the status of what an audit finds
-abbrev pub TellsFound : (BabyBear → BabyBear → Bool)
-    → Instance BabyBear → Option ℕ → ℕ → ℕ → List ℕ → Type 0
-TellsFound eq x cap w status text =
-    (f : Found) × AuditFinds eq x cap w f × (status ≡ findings_status f) × IsFindingsText f text
-
 -- a recorded degree passes `usize`, in a domain whose weight isn't 0
-abbrev pub PassesDegree : (BabyBear → BabyBear → Bool) → Instance BabyBear → Option ℕ → ℕ → Type 0
-PassesDegree eq x cap w = (0 < w) × IsDegreePast baby_bear_ring eq x cap w
+abbrev pub PassesDegree : Instance BabyBear → Option ℕ → ℕ → Type 0
+PassesDegree x cap w = (0 < w) × IsDegreePast (modular_ring baby_bears) (equal baby_bears) x cap w
 
 -- what is found, or the name of a degree that passes `usize`
-abbrev pub AnswersGiven : (BabyBear → BabyBear → Bool)
-    → Instance BabyBear → Option ℕ → ℕ → ℕ → List ℕ → Type 0
-AnswersGiven eq x cap w status text =
-    TellsFound eq x cap w status text
-    ⊎ (PassesDegree eq x cap w × IsRefusal (codes "DegreeOverflow") status text)
+abbrev pub AnswersGiven : Instance BabyBear → Option ℕ → ℕ → ℕ → List ℕ → Type 0
+AnswersGiven x cap w status text =
+    TellsFound baby_bears x cap w status text
+    ⊎ (PassesDegree x cap w × IsRefusal (codes "DegreeOverflow") status text)
 
 -- `Syntax` where the input isn't in the grammar, else what answers Fibonacci on its trace
-abbrev pub IsAnswerTo : (BabyBear → BabyBear → Bool)
-    → Option ℕ → ℕ → Option (List ℕ × List ℕ) → ℕ → List ℕ → Type 0
-IsAnswerTo eq cap w None status text = IsRefusal (codes "Syntax") status text
-IsAnswerTo eq cap w (Some p) status text =
+abbrev pub IsAnswerTo : Option ℕ → ℕ → Option (List ℕ × List ℕ) → ℕ → List ℕ → Type 0
+IsAnswerTo cap w None status text = IsRefusal (codes "Syntax") status text
+IsAnswerTo cap w (Some p) status text =
     (public : List BabyBear) × (values : List BabyBear)
     × (residues public ≡ p.0) × (residues values ≡ p.1)
-    × AnswersGiven eq (fibonacci_instance (grid_of 2 values) public) cap w status text
+    × AnswersGiven (fibonacci_instance (grid_of 2 values) public) cap w status text

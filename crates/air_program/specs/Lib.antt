@@ -5,6 +5,7 @@ pub mod Texts
 pub mod Refusals
 pub mod Fibonacci
 pub mod Answer
+pub mod Fields
 pub mod FlatAnswer
 pub mod Commands
 pub mod Requests

@@ -1,5 +1,5 @@
 -- What data spell, and the first fault of data that spell nothing.
-use Rattle.std.specs.Prelude.{◌≡◌, ℕ, List, [], ◌∷◌, Some, None, ◌⊎◌}
+use Rattle.std.specs.Prelude.{◌≡◌, ℕ, List, [], ◌∷◌, Option, Some, None, ◌⊎◌}
 use Rattle.serde_json.specs.Data.{Data, Items, no_items, item}
 use Rattle.serde_json.specs.Find.{get, as_array}
 use Rattle.air_wire.specs.Spelling.{HasField}
@@ -54,4 +54,17 @@ abbrev pub both : {X Y : Type 0} → Grammar X → Grammar Y → Grammar (X × Y
 both {X} g h = record {
   spells = λ d p. g.spells d p.0 × h.spells d p.1;
   fault = λ d f. g.fault d f ⊎ ((x : X) × g.spells d x × h.fault d f);
+}
+
+-- there is a member of one of these names
+abbrev pub HasEither : List ℕ → List ℕ → Data → Type 0
+HasEither one other d = HasField one (λ _. Unit {0}) d ⊎ HasField other (λ _. Unit {0}) d
+
+-- both members or neither: where one of them is there, so must the other be
+abbrev pub both_or_none : {X Y : Type 0} → List ℕ → Grammar X → List ℕ → Grammar Y → Grammar (Option (X × Y))
+both_or_none {X} {Y} one g other h = record {
+  spells = λ d o.
+      ((get one d ≡ None) × (get other d ≡ None) × (o ≡ None))
+      ⊎ ((p : X × Y) × (both (needed one g) (needed other h)).spells d p × (o ≡ Some p));
+  fault = λ d f. HasEither one other d × (both (needed one g) (needed other h)).fault d f;
 }

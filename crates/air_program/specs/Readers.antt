@@ -1,8 +1,8 @@
 -- How the members of the object are found.
-use Rattle.std.specs.Prelude.{ℕ, List, [], ◌∷◌, ◌++◌, Option, Some, None, Result, Ok, option_map, codes, if◌then◌else◌, is_some, ok_or}
+use Rattle.std.specs.Prelude.{ℕ, List, [], ◌∷◌, ◌++◌, ◌||◌, Option, Some, None, Result, Ok, option_map, codes, if◌then◌else◌, is_some, ok_or}
 use Rattle.serde_json.specs.Data.{Data, Items, no_items, item}
 use Rattle.serde_json.specs.Find.{get, as_array, as_null}
-use Rattle.air_field.specs.BabyBear.{BabyBear}
+use Rattle.air_field.specs.Modular.{Modular}
 use Rattle.air_symbolic.specs.Trees.{Tree}
 use Rattle.air_symbolic.specs.declared.leaves.base_leaf.BaseLeaf.{BaseLeaf}
 use Rattle.air_core.specs.declared.boundary.BoundaryPublic.{BoundaryPublic}
@@ -13,7 +13,7 @@ use Rattle.air_wire.specs.Parts.{whole}
 use Rattle.air_wire.specs.Results.{◌>>=◌}
 use Rattle.air_wire.specs.declared.errors.FlatError.{FlatError}
 use Rattle.air_wire.specs.declared.errors.FlatError.TheVariants as faults
-use Rattle.air_program.specs.Members.{MemberValues}
+use Rattle.air_program.specs.Members.{TableValues, MemberValues}
 
 abbrev pub Reader : Type 0 → Type 0
 Reader X = Data → Result X FlatError
@@ -32,17 +32,17 @@ each_from read done (item d ds) = read d >>= λ x. each_from read (done ++ x ∷
 abbrev pub list_read : {X : Type 0} → Reader X → Reader (List X)
 list_read read d = formed (as_array d) >>= λ ds. each_from read [] ds
 
-unfoldable pub elements : Reader (List BabyBear)
-elements d = list_read (element_at 0) d
+unfoldable pub elements : {F : Type 0} {p : ℕ} → Modular F p → Reader (List F)
+elements m d = list_read (element_at m 0) d
 
-unfoldable pub columns : Reader (List (List BabyBear))
-columns d = list_read elements d
+unfoldable pub columns : {F : Type 0} {p : ℕ} → Modular F p → Reader (List (List F))
+columns m d = list_read (elements m) d
 
-abbrev pub tree : Reader (Tree (BaseLeaf BabyBear))
-tree d = root_of base_kind d
+abbrev pub tree : {F : Type 0} {p : ℕ} → Modular F p → Reader (Tree (BaseLeaf F))
+tree m d = root_of (base_kind m) d
 
-unfoldable pub trees : Reader (List (Tree (BaseLeaf BabyBear)))
-trees d = list_read tree d
+unfoldable pub trees : {F : Type 0} {p : ℕ} → Modular F p → Reader (List (Tree (BaseLeaf F)))
+trees m d = list_read (tree m) d
 
 -- ---- boundary cells
 
@@ -69,17 +69,29 @@ or_absent absent read (Some d) = read d
 abbrev pub optional_read : {X : Type 0} → List ℕ → X → Reader X → Reader X
 optional_read name absent read d = or_absent absent read (get name d)
 
-unfoldable pub width_member : Reader ℕ
-width_member d = needed_read (codes "main_width") (λ c. formed (whole c)) d
+-- one reader and then another
+abbrev pub both_read : {X Y : Type 0} → Reader X → Reader Y → Reader (X × Y)
+both_read read next d = read d >>= λ x. next d >>= λ y. Ok (x, y)
 
-unfoldable pub elements_member : List ℕ → Reader (List BabyBear)
-elements_member name d = needed_read name elements d
+abbrev pub if_either : {X : Type 0} → List ℕ → List ℕ → Reader X → Reader (Option X)
+if_either one other read d =
+    if is_some (get one d) || is_some (get other d) then (read d >>= λ x. Ok (Some x)) else Ok None
 
-unfoldable pub constraints_member : Reader (List (Tree (BaseLeaf BabyBear)))
-constraints_member d = needed_read (codes "constraints") trees d
+unfoldable pub width_member : List ℕ → Reader ℕ
+width_member name d = needed_read name (λ c. formed (whole c)) d
 
-unfoldable pub periodic_member : Reader (List (List BabyBear))
-periodic_member d = optional_read (codes "periodic") [] columns d
+unfoldable pub elements_member : {F : Type 0} {p : ℕ} → Modular F p → List ℕ → Reader (List F)
+elements_member m name d = needed_read name (elements m) d
+
+unfoldable pub table_member : {F : Type 0} {p : ℕ} → Modular F p → Reader (Option (TableValues F))
+table_member m d =
+    if_either (codes "preprocessed_width") (codes "preprocessed") (both_read (width_member (codes "preprocessed_width")) (elements_member m (codes "preprocessed"))) d
+
+unfoldable pub constraints_member : {F : Type 0} {p : ℕ} → Modular F p → Reader (List (Tree (BaseLeaf F)))
+constraints_member m d = needed_read (codes "constraints") (trees m) d
+
+unfoldable pub periodic_member : {F : Type 0} {p : ℕ} → Modular F p → Reader (List (List F))
+periodic_member m d = optional_read (codes "periodic") [] (columns m) d
 
 unfoldable pub boundary_member : Reader (List BoundaryPublic)
 boundary_member d = optional_read (codes "boundary") [] cells d
@@ -90,14 +102,15 @@ cap_member d = optional_read (codes "cap") None (λ c. formed (cap_of c)) d
 unfoldable pub weight_member : Reader ℕ
 weight_member d = optional_read (codes "transition_weight") 0 (λ c. formed (whole c)) d
 
-unfoldable pub members_read : Reader MemberValues
-members_read d = do
-  width ← width_member d
-  main ← elements_member (codes "main") d
-  public_values ← elements_member (codes "public_values") d
-  constraints ← constraints_member d
-  periodic ← periodic_member d
+unfoldable pub members_read : {F : Type 0} {p : ℕ} → Modular F p → Reader (MemberValues F)
+members_read m d = do
+  width ← width_member (codes "main_width") d
+  main ← elements_member m (codes "main") d
+  table ← table_member m d
+  public_values ← elements_member m (codes "public_values") d
+  constraints ← constraints_member m d
+  periodic ← periodic_member m d
   boundary ← boundary_member d
   cap ← cap_member d
   weight ← weight_member d
-  Ok (width, (main, (public_values, (constraints, (periodic, (boundary, (cap, weight)))))))
+  Ok (width, (main, (table, (public_values, (constraints, (periodic, (boundary, (cap, weight))))))))

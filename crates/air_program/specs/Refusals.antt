@@ -39,6 +39,7 @@ name_of refusals.Read = codes "Read"
 name_of refusals.Memory = codes "Memory"
 name_of refusals.Syntax = codes "Syntax"
 name_of refusals.Json = codes "Json"
+name_of refusals.Field = codes "Field"
 name_of (refusals.Air e) = air_name e
 
 -- what the program refuses for a refusal from below: want of memory is its own

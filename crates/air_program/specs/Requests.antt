@@ -1,6 +1,5 @@
 -- What answers a request.
-use Rattle.std.specs.Prelude.{◌≡◌, ◌⊎◌, ℕ, List, Bool}
-use Rattle.air_field.specs.BabyBear.{BabyBear}
+use Rattle.std.specs.Prelude.{◌≡◌, ◌⊎◌, ℕ, List}
 use Rattle.air_program.specs.Answer.{IsAnswerTo}
 use Rattle.air_program.specs.FlatAnswer.{IsFlatAnswer}
 use Rattle.air_program.specs.Grammar.{parse}
@@ -10,12 +9,12 @@ use Rattle.air_program.specs.declared.commands.Request.TheVariants.{Trace, Flat}
 use Rattle.air_program.specs.declared.refusals.Refusal.{Refusal}
 use Rattle.air_program.specs.declared.refusals.Refusal.TheVariants as refusals
 
--- the answer to an input, where eq tells equal elements
-abbrev pub Answers : (BabyBear → BabyBear → Bool) → Request → List ℕ → ℕ → List ℕ → Type 0
-Answers eq (Trace command cap w) input status text = IsAnswerTo eq cap w (parse input) status text
-Answers eq Flat input status text = IsFlatAnswer eq input status text
+-- the answer to an input
+abbrev pub Answers : Request → List ℕ → ℕ → List ℕ → Type 0
+Answers (Trace command cap w) input status text = IsAnswerTo cap w (parse input) status text
+Answers Flat input status text = IsFlatAnswer input status text
 
 -- a refusal is the answer, unless memory ran out
-abbrev pub MayRefuse : (BabyBear → BabyBear → Bool) → Request → List ℕ → Refusal → Type 0
-MayRefuse eq request input why =
-    (why ≡ refusals.Memory) ⊎ Answers eq request input 2 (refusal_text (name_of why))
+abbrev pub MayRefuse : Request → List ℕ → Refusal → Type 0
+MayRefuse request input why =
+    (why ≡ refusals.Memory) ⊎ Answers request input 2 (refusal_text (name_of why))

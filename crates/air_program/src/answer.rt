@@ -2,13 +2,12 @@
 
 ghost use Rattle.std.specs.Prelude.{◌≡◌, ◌⊎◌, ◌%◌, ◌<◌, ◌^◌, length, vec_len, IfOk, IfErr, string_bytes};
 ghost use Rattle.air_field.specs.Grid.{grid_of};
-ghost use Rattle.air_field.specs.Modulo.{baby_bear_ring};
+ghost use Rattle.air_field.specs.Modulo.{baby_bears};
 ghost use Rattle.p3_air.specs.Theorem.{instance};
-ghost use Rattle.p3_air.specs.Audits.{AuditRefusesUnder};
 ghost use Rattle.air_program.specs.Texts.{found, findings_status, IsFindingsText};
 ghost use Rattle.air_program.specs.Commands.{has_labels, trace};
 ghost use Rattle.air_program.specs.Grammar.{parse};
-ghost use Rattle.air_program.specs.Answer.{AuditFinds, fibonacci_instance, PassesDegree, IsAnswerTo};
+ghost use Rattle.air_program.specs.Answer.{AuditFinds, AuditRefuses, fibonacci_instance, PassesDegree, IsAnswerTo};
 ghost use Rattle.air_program.specs.Requests.{Answers, MayRefuse};
 
 use crate::commands::{Command, Request};
@@ -18,7 +17,7 @@ use crate::input::{Input, ParseFault, parse};
 use crate::refusals::Refusal;
 use crate::texts::{Findings, findings_text};
 use air_builder::AirError;
-use air_field::{BabyBear, RowMajorMatrix};
+use air_field::{BabyBear, PrimeField64, RowMajorMatrix};
 use p3_air::{Air, BaseAir, DebugConstraintBuilder, SymbolicAirBuilder, audit_air_with_cap};
 use std::alloc::Global;
 
@@ -47,21 +46,20 @@ fn air_of(command: Command) -> Fibonacci
 /// What the audit of an AIR on a trace finds.
 pub(crate) fn findings_of<
     'a,
-    A: BaseAir<BabyBear>
-        + Air<SymbolicAirBuilder<BabyBear, BabyBear>>
-        + Air<DebugConstraintBuilder<'a, BabyBear, BabyBear>>,
+    F: PrimeField64 + 'static,
+    A: BaseAir<F> + Air<SymbolicAirBuilder<F, F>> + Air<DebugConstraintBuilder<'a, F, F>>,
 >(
     alloc: Global,
     air: &'a A,
-    main: &'a RowMajorMatrix<BabyBear>,
-    public_values: &'a [BabyBear],
+    main: &'a RowMajorMatrix<F>,
+    public_values: &'a [F],
     cap: Option<usize>,
     transition_weight: usize,
 ) -> Result<Findings, AirError>
-    ensures found { IfOk result (λ findings. AuditFinds ⟦<BabyBear as PartialEq>⟧.eq
+    ensures found { IfOk result (λ findings. AuditFinds F.residues
         (instance (A.declaration air.now) main.now public_values.now)
         cap transition_weight (found findings)) }
-    ensures refused { IfErr result (AuditRefusesUnder baby_bear_ring ⟦<BabyBear as PartialEq>⟧.eq
+    ensures refused { IfErr result (AuditRefuses F.residues
         (instance (A.declaration air.now) main.now public_values.now) cap transition_weight) }
 {
     match audit_air_with_cap(alloc, air, main, public_values, cap, transition_weight) {
@@ -86,12 +84,11 @@ fn audit_fibonacci(
     requires width { main.now.width ≡ 2 }
     requires height { length main.now.rows < 2 ^ 63 }
     requires public { length public_values.now ≡ 3 }
-    ensures found { IfOk result (λ findings. AuditFinds ⟦<BabyBear as PartialEq>⟧.eq
+    ensures found { IfOk result (λ findings. AuditFinds baby_bears
         (fibonacci_instance main.now public_values.now) cap transition_weight (found findings)) }
     ensures refused { IfErr result (λ why. (why ≡ Refusal.Memory)
         ⊎ ((why ≡ Refusal.Air AirError.DegreeOverflow)
-        × PassesDegree ⟦<BabyBear as PartialEq>⟧.eq
-        (fibonacci_instance main.now public_values.now) cap transition_weight)) }
+        × PassesDegree (fibonacci_instance main.now public_values.now) cap transition_weight)) }
 {
     match findings_of(
         alloc,
@@ -137,10 +134,9 @@ fn answer_trace(
     transition_weight: usize,
     input: &[u8],
 ) -> Result<(u8, String), Refusal>
-    ensures ok { IfOk result (λ p. IsAnswerTo ⟦<BabyBear as PartialEq>⟧.eq cap transition_weight
-        (parse input.now) p.0 (string_bytes p.1)) }
-    ensures refused { IfErr result (MayRefuse ⟦<BabyBear as PartialEq>⟧.eq
-        (trace cap transition_weight command) input.now) }
+    ensures ok { IfOk result (λ p. IsAnswerTo cap transition_weight (parse input.now) p.0
+        (string_bytes p.1)) }
+    ensures refused { IfErr result (MayRefuse (trace cap transition_weight command) input.now) }
 {
     let input = match parse(alloc, input) {
         Ok(input) => input,
@@ -166,9 +162,8 @@ fn answer_trace(
 
 /// The status and the text that answer an input.
 pub fn answer(alloc: Global, request: Request, input: &[u8]) -> Result<(u8, String), Refusal>
-    ensures ok { IfOk result (λ p. Answers ⟦<BabyBear as PartialEq>⟧.eq request input.now p.0
-        (string_bytes p.1)) }
-    ensures refused { IfErr result (MayRefuse ⟦<BabyBear as PartialEq>⟧.eq request input.now) }
+    ensures ok { IfOk result (λ p. Answers request input.now p.0 (string_bytes p.1)) }
+    ensures refused { IfErr result (MayRefuse request input.now) }
 {
     match request {
         Request::Trace {

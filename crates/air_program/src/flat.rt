@@ -1,32 +1,34 @@
 //! The answer to a JSON object: an AIR whose constraints are lists of nodes, and a trace of it.
 
-ghost use Rattle.std.specs.Prelude.{◌≡◌, ◌<◌, ◌⊎◌, length, All, IfOk, IfErr, string_bytes};
+ghost use Rattle.std.specs.Prelude.{◌≡◌, ◌<◌, ◌⊎◌, length, All, None, IfOk, IfErr, string_bytes};
 ghost use Rattle.serde_json.specs.Data.{Data};
 ghost use Rattle.serde_json.specs.View.{view};
 ghost use Rattle.air_symbolic.specs.BaseLeaves.{base_reads};
 ghost use Rattle.air_symbolic.specs.Pools.{IsPool};
 ghost use Rattle.air_program.specs.Answer.{AuditFinds};
-ghost use Rattle.air_program.specs.FlatAnswer.{StandsFor, HasNoValue, Spells, flat_instance, AuditRefusesInput, IsFlatAnswer};
-ghost use Rattle.air_program.specs.Parts.{ArePartsOf};
+ghost use Rattle.air_program.specs.FlatAnswer.{StandsFor, HasNoValue, flat_instance, AuditRefusesInput, AnswersIn, IsFlatAnswer};
+ghost use Rattle.air_program.specs.Parts.{InPool, ArePartsOf};
+ghost use Rattle.air_program.specs.Refusals.{name_of, refusal_text};
 ghost use Rattle.air_program.specs.Requests.{MayRefuse};
 ghost use Rattle.air_program.specs.Texts.{found};
 
 use crate::answer::{findings_of, told};
 use crate::commands::Request;
+use crate::field_name::{FieldName, field_of};
 use crate::flat_input::input::{FlatInput, input_from};
 use crate::flat_input::parts::{Parts, parts_of};
 use crate::flat_input::text::TextFault;
 use crate::refusals::Refusal;
 use crate::texts::Findings;
 use air_builder::AirError;
-use air_field::BabyBear;
+use air_field::{BabyBear, Field, Goldilocks, KoalaBear, Mersenne31, PrimeField64, RowMajorMatrix};
 use p3_air::FlatAir;
 use std::alloc::Global;
 
-/// The parts of the JSON value that the bytes stand for.
-fn parts_from(alloc: Global, bytes: &[u8]) -> Result<Parts, Refusal>
+/// The parts of the JSON value that the bytes stand for, its constraints read as over F.
+fn parts_from<F: PrimeField64>(alloc: Global, bytes: &[u8]) -> Result<Parts<F>, Refusal>
     ensures parts { IfOk result (λ p. (d : Data) × StandsFor bytes.now d
-        × ArePartsOf d (view p.rest) p.constraints) }
+        × ArePartsOf F.residues d (view p.rest) p.constraints) }
     ensures refused { IfErr result (λ why. (why ≡ Refusal.Memory)
         ⊎ ((why ≡ Refusal.Json) × HasNoValue bytes.now)) }
 {
@@ -40,24 +42,33 @@ fn parts_from(alloc: Global, bytes: &[u8]) -> Result<Parts, Refusal>
     }
 }
 
-/// The input that the bytes spell.
-fn input_of(alloc: Global, bytes: &[u8]) -> Result<FlatInput, Refusal>
-    ensures pool { IfOk result (λ input. IsPool base_reads input.pool) }
-    ensures roots { IfOk result (λ input. All (λ i. i < length input.pool.1) input.roots.items) }
-    ensures read { IfOk result (Spells bytes.now) }
-    ensures refused { IfErr result (MayRefuse ⟦<BabyBear as PartialEq>⟧.eq Request.Flat bytes.now) }
+// An AIR without a preprocessed table, and with this one, if there is one.
+fn with_table<F: Field>(air: FlatAir<F>, table: Option<RowMajorMatrix<F>>) -> FlatAir<F>
+    requires { air.preprocessed ≡ None }
+    ensures pool { result.pool ≡ air.pool }
+    ensures roots { result.roots ≡ air.roots }
+    ensures width { result.width ≡ air.width }
+    ensures num_public_values { result.num_public_values ≡ air.num_public_values }
+    ensures preprocessed { result.preprocessed ≡ table }
+    ensures periodic { result.periodic ≡ air.periodic }
+    ensures cells { result.cells ≡ air.cells }
 {
-    let Parts { rest, constraints } = parts_from(alloc, bytes)?;
-    Ok(input_from(alloc, &rest, constraints)?)
+    match table {
+        Some(table) => air.with_preprocessed(table),
+        None => air,
+    }
 }
 
 /// Audits that the roots are zero on the trace.
-fn audit_input(alloc: Global, input: FlatInput) -> Result<Findings, AirError>
+fn audit_input<F: PrimeField64 + 'static>(
+    alloc: Global,
+    input: FlatInput<F>,
+) -> Result<Findings, AirError>
     requires pool { IsPool base_reads input.pool }
     requires roots { All (λ i. i < length input.pool.1) input.roots.items }
-    ensures found { IfOk result (λ findings. AuditFinds ⟦<BabyBear as PartialEq>⟧.eq
-        (flat_instance input) input.cap input.transition_weight (found findings)) }
-    ensures refused { IfErr result (AuditRefusesInput ⟦<BabyBear as PartialEq>⟧.eq input) }
+    ensures found { IfOk result (λ findings. AuditFinds F.residues (flat_instance input) input.cap
+        input.transition_weight (found findings)) }
+    ensures refused { IfErr result (AuditRefusesInput F.residues input) }
 {
     let air = FlatAir::new(
         input.pool,
@@ -67,6 +78,7 @@ fn audit_input(alloc: Global, input: FlatInput) -> Result<Findings, AirError>
         input.periodic,
         input.cells,
     )?;
+    let air = with_table(air, input.preprocessed);
     findings_of(
         alloc,
         &air,
@@ -77,13 +89,52 @@ fn audit_input(alloc: Global, input: FlatInput) -> Result<Findings, AirError>
     )
 }
 
-/// The status and the text that answer a JSON object.
-pub fn answer_flat(alloc: Global, bytes: &[u8]) -> Result<(u8, String), Refusal>
-    ensures ok { IfOk result (λ p. IsFlatAnswer ⟦<BabyBear as PartialEq>⟧.eq bytes.now p.0
-        (string_bytes p.1)) }
-    ensures refused { IfErr result (MayRefuse ⟦<BabyBear as PartialEq>⟧.eq Request.Flat bytes.now) }
+/// The status and the text that answer an object over F whose parts these are.
+fn answer_parts<F: PrimeField64 + 'static>(
+    alloc: Global,
+    parts: Parts<F>,
+) -> Result<(u8, String), Refusal>
+    requires { InPool parts.constraints }
+    ensures ok { IfOk result (λ p. (d : Data)
+        → ArePartsOf F.residues d (view parts.rest) parts.constraints
+        → AnswersIn F.residues d p.0 (string_bytes p.1)) }
+    ensures refused { IfErr result (λ why. (why ≡ Refusal.Memory) ⊎ ((d : Data)
+        → ArePartsOf F.residues d (view parts.rest) parts.constraints
+        → AnswersIn F.residues d 2 (refusal_text (name_of why)))) }
 {
-    let input = input_of(alloc, bytes)?;
+    let Parts { rest, constraints } = parts;
+    let input = input_from(alloc, &rest, constraints)?;
     let findings = audit_input(alloc, input)?;
     told(alloc, &findings)
+}
+
+/// The status and the text that answer an object over F, of which the bytes are the text.
+fn answer_over<F: PrimeField64 + 'static>(
+    alloc: Global,
+    bytes: &[u8],
+) -> Result<(u8, String), Refusal>
+    ensures ok { IfOk result (λ p. (d : Data) × StandsFor bytes.now d
+        × AnswersIn F.residues d p.0 (string_bytes p.1)) }
+    ensures refused { IfErr result (λ why. (why ≡ Refusal.Memory)
+        ⊎ (((why ≡ Refusal.Json) × HasNoValue bytes.now) ⊎ ((d : Data) × StandsFor bytes.now d
+        × AnswersIn F.residues d 2 (refusal_text (name_of why))))) }
+{
+    let parts: Parts<F> = parts_from(alloc, bytes)?;
+    answer_parts(alloc, parts)
+}
+
+/// The status and the text that answer a JSON object. It is read as over `BabyBear`, and once more over the field that
+/// its member `field` names, where that is another one.
+pub fn answer_flat(alloc: Global, bytes: &[u8]) -> Result<(u8, String), Refusal>
+    ensures ok { IfOk result (λ p. IsFlatAnswer bytes.now p.0 (string_bytes p.1)) }
+    ensures refused { IfErr result (MayRefuse Request.Flat bytes.now) }
+{
+    let parts: Parts<BabyBear> = parts_from(alloc, bytes)?;
+    match field_of(&parts.rest) {
+        Some(FieldName::BabyBear) => answer_parts(alloc, parts),
+        Some(FieldName::KoalaBear) => answer_over::<KoalaBear>(alloc, bytes),
+        Some(FieldName::Mersenne31) => answer_over::<Mersenne31>(alloc, bytes),
+        Some(FieldName::Goldilocks) => answer_over::<Goldilocks>(alloc, bytes),
+        None => Err(Refusal::Field),
+    }
 }

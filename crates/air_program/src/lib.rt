@@ -6,6 +6,7 @@ mod answer;
 mod commands;
 mod engine;
 pub mod fibonacci;
+pub mod field_name;
 mod flat;
 pub mod flat_input;
 mod input;
@@ -15,6 +16,7 @@ pub mod streams;
 mod texts;
 
 pub use fibonacci::Fibonacci;
+pub use field_name::{FieldName, field_of};
 pub use flat_input::input::{FlatInput, flat_input_from};
 pub use program::{refuse, run};
 pub use refusals::Refusal;

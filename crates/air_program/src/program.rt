@@ -12,7 +12,6 @@ use crate::commands::request_of;
 use crate::engine::{ReadFault, read_all, write_all};
 use crate::refusals::Refusal;
 use crate::streams::{Sink, Source, StreamFault};
-use air_field::BabyBear;
 use std::alloc::Global;
 
 /// Writes the line of a refusal, in pieces, since there may be no memory for it, and answers the status 2; an `Err`
@@ -42,7 +41,7 @@ pub fn run<R: Source, W: Sink>(
     requires writer { W.has_failed writer.old ≡ false }
     ensures outcome { IfOk result (λ status. (text : List ℕ)
         × Appends (W.contents writer.old) (W.contents writer.new) text
-        × IsOutcome (Answers ⟦<BabyBear as PartialEq>⟧.eq)
+        × IsOutcome Answers
         (request_of (map string_bytes words.now)) (R.has_failed reader.new)
         (R.remaining reader.old) (R.remaining reader.new) status text) }
     ensures failed { W.has_failed writer.new ≡ is_err result }

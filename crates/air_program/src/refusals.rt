@@ -14,6 +14,8 @@ pub enum Refusal {
     Syntax,
     /// The input is no JSON value.
     Json,
+    /// The object's member `field` names no field.
+    Field,
     /// What the reading of a JSON value refuses, or the audit; its name is that of this refusal.
     Air(AirError),
 }
@@ -29,6 +31,7 @@ impl Refusal {
             Refusal::Memory => "Memory",
             Refusal::Syntax => "Syntax",
             Refusal::Json => "Json",
+            Refusal::Field => "Field",
             Refusal::Air(error) => air_name(error),
         }
     }

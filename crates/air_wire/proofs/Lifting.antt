@@ -1,6 +1,6 @@
 -- The base expression of a list inside a leaf.
 use Rattle.std.proofs.Common.{◌≡◌, ℕ, List, length, Result, Ok, sym, ap, subst, ◌∙◌}
-use Rattle.air_field.specs.BabyBear.{BabyBear}
+use Rattle.air_field.specs.Modular.{Modular}
 use Rattle.serde_json.specs.Data.{Data}
 use Rattle.air_field.specs.Ring.{CommRing, Over}
 use Rattle.air_field.specs.Extension.{Basis, ExtensionLaws}
@@ -20,14 +20,14 @@ use Rattle.air_wire.specs.declared.errors.FlatError.{FlatError}
 use Rattle.air_wire.specs.declared.errors.FlatError.TheVariants as faults
 
 -- a list that is written for what is seen of a tree is the tree's own
-pub written_tree : (d : Data) (t : Tree (BaseLeaf BabyBear)) → IsWritten base_kind d (over (base_seen tt) t) → IsWritten base_kind d t
-written_tree d t h = subst (IsWritten base_kind d) (over_same t) h
+pub written_tree : {F : Type 0} {p : ℕ} (m : Modular F p) (d : Data) (t : Tree (BaseLeaf F)) → IsWritten (base_kind m) d (over (base_seen tt) t) → IsWritten (base_kind m) d t
+written_tree m d t h = subst (IsWritten (base_kind m) d) (over_same t) h
 
 -- a list that is read gives its tree
-pub moved_tree : (place : ℕ) (t : Tree (BaseLeaf BabyBear)) (read : Result (Tree (BaseLeaf BabyBear)) FlatError) → read ≡ Ok (over (base_seen tt) t) → moved place read ≡ Ok t
+pub moved_tree : {F : Type 0} (place : ℕ) (t : Tree (BaseLeaf F)) (read : Result (Tree (BaseLeaf F)) FlatError) → read ≡ Ok (over (base_seen tt) t) → moved place read ≡ Ok t
 moved_tree place t read e = ap (moved place) (e ∙ ap (λ u. Ok u) (over_same t))
 
-pub moved_fault : (place : ℕ) (f : FlatError) (read : Result (Tree (BaseLeaf BabyBear)) FlatError) → Fails f read → Fails (at_place place f) (moved place read)
+pub moved_fault : {F : Type 0} (place : ℕ) (f : FlatError) (read : Result (Tree (BaseLeaf F)) FlatError) → Fails f read → Fails (at_place place f) (moved place read)
 moved_fault place faults.Memory read h = tt
 moved_fault place faults.DegreeOverflow read h = ap (moved place) h
 moved_fault place (faults.Shape inner) read h = ap (moved place) h
@@ -38,11 +38,12 @@ moved_fault place (faults.NotCanonical inner) read h = ap (moved place) h
 
 -- ---- constants
 
-pub right_count : (m n place : ℕ) (d : Data) (cs list : List BabyBear) → m ≡ n → elements_at m place d ≡ Ok cs → list ≡ cs → length list ≡ n
-right_count m n place d cs list same read is = ap length is ∙ ((elements_found m place d cs read).1 ∙ same)
+module _ {F : Type 0} {p : ℕ} (m : Modular F p) where
+  pub right_count : (k n place : ℕ) (d : Data) (cs list : List F) → k ≡ n → elements_at m k place d ≡ Ok cs → list ≡ cs → length list ≡ n
+  right_count k n place d cs list same read is = ap length is ∙ ((elements_found m k place d cs read).1 ∙ same)
 
-pub made_constant : {EF : Type 0} (r : CommRing BabyBear) (a : Over BabyBear EF) (basis : Basis BabyBear EF) (n : ℕ) → ExtensionLaws r a basis n → (m place : ℕ) (d : Data) (cs list : List BabyBear) (e : EF) → m ≡ n → elements_at m place d ≡ Ok cs → list ≡ cs → basis.coefficients e ≡ list → ext_constant_at a n place d ≡ Ok e
-made_constant {EF} r a basis n laws m place d cs list e same read is of =
-    let there : elements_at n place d ≡ Ok cs = subst (λ k. elements_at k place d ≡ Ok cs) same read in
-    ap (λ (q : Result (List BabyBear) FlatError). q >>= λ xs. done (a.extend xs)) there
-    ∙ ap (λ x. done x) (sym (made_of r a basis n laws e cs (elements_found n place d cs there).1 (of ∙ is)))
+  pub made_constant : {EF : Type 0} (r : CommRing F) (a : Over F EF) (basis : Basis F EF) (n : ℕ) → ExtensionLaws r a basis n → (k place : ℕ) (d : Data) (cs list : List F) (e : EF) → k ≡ n → elements_at m k place d ≡ Ok cs → list ≡ cs → basis.coefficients e ≡ list → ext_constant_at m a n place d ≡ Ok e
+  made_constant {EF} r a basis n laws k place d cs list e same read is of =
+      let there : elements_at m n place d ≡ Ok cs = subst (λ j. elements_at m j place d ≡ Ok cs) same read in
+      ap (λ (q : Result (List F) FlatError). q >>= λ xs. done (a.extend xs)) there
+      ∙ ap (λ x. done x) (sym (made_of m r a basis n laws e cs (elements_found m n place d cs there).1 (of ∙ is)))

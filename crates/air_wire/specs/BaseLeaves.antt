@@ -2,8 +2,7 @@
 use Rattle.std.specs.Prelude.{◌≡◌, ℕ, ◌≤◌, List, [], ◌∷◌, Option, Some, None, Result, Ok, Err, option_map, codes, if◌then◌else◌, nat_lt, bytes_eq, ok_or, refl}
 use Rattle.serde_json.specs.Data.{Data, string}
 use Rattle.serde_json.specs.Find.{as_str}
-use Rattle.air_field.specs.Modulo.{class}
-use Rattle.air_field.specs.BabyBear.{BabyBear}
+use Rattle.air_field.specs.Modular.{Modular}
 use Rattle.air_symbolic.specs.BaseLeaves.{base_term, base_reads, base_grows}
 use Rattle.air_symbolic.specs.declared.leaves.base_leaf.BaseLeaf.{BaseLeaf}
 use Rattle.air_symbolic.specs.declared.leaves.base_leaf.BaseLeaf.TheVariants as leaves
@@ -17,72 +16,72 @@ use Rattle.air_wire.specs.Seen.{WireLaws}
 use Rattle.air_wire.specs.declared.errors.FlatError.{FlatError}
 use Rattle.air_wire.specs.declared.errors.FlatError.TheVariants as faults
 
-abbrev pub SpellsLeaf : Data → BaseLeaf BabyBear → Type 0
-SpellsLeaf d (leaves.Variable v) = IsCase (codes "Variable") (λ c. SpellsVariable c v) d
-SpellsLeaf d leaves.IsFirstRow = d ≡ string (codes "IsFirstRow")
-SpellsLeaf d leaves.IsLastRow = d ≡ string (codes "IsLastRow")
-SpellsLeaf d leaves.IsTransition = d ≡ string (codes "IsTransition")
-SpellsLeaf d (leaves.Constant x) = IsCase (codes "Constant") (IsWhole x.residue) d
+abbrev pub SpellsLeaf : {F : Type 0} {p : ℕ} → Modular F p → Data → BaseLeaf F → Type 0
+SpellsLeaf m d (leaves.Variable v) = IsCase (codes "Variable") (λ c. SpellsVariable c v) d
+SpellsLeaf m d leaves.IsFirstRow = d ≡ string (codes "IsFirstRow")
+SpellsLeaf m d leaves.IsLastRow = d ≡ string (codes "IsLastRow")
+SpellsLeaf m d leaves.IsTransition = d ≡ string (codes "IsTransition")
+SpellsLeaf m d (leaves.Constant x) = IsCase (codes "Constant") (IsWhole (m.value x)) d
 
 -- ---- which fault has a value that spells none
 
--- a whole number at or past the modulus
-abbrev pub IsPast : Data → Type 0
-IsPast c = (n : ℕ) × IsWhole n c × (2013265921 ≤ n)
+-- a whole number at or past the modulus p
+abbrev pub IsPast : ℕ → Data → Type 0
+IsPast p c = (n : ℕ) × IsWhole n c × (p ≤ n)
 
 -- a constant has a fault of its own where its number is whole, but not canonical
-abbrev pub OwnLeafFault : ℕ → Data → FlatError → Type 0
-OwnLeafFault place d f = IsCase (codes "Constant") IsPast d × (f ≡ faults.NotCanonical place)
+abbrev pub OwnLeafFault : ℕ → ℕ → Data → FlatError → Type 0
+OwnLeafFault p place d f = IsCase (codes "Constant") (IsPast p) d × (f ≡ faults.NotCanonical place)
 
-abbrev pub LeafFault : ℕ → Data → FlatError → Type 0
-LeafFault = OwnFaultOr SpellsLeaf OwnLeafFault
+abbrev pub LeafFault : {F : Type 0} {p : ℕ} → Modular F p → ℕ → Data → FlatError → Type 0
+LeafFault {p = p} m = OwnFaultOr (SpellsLeaf m) (OwnLeafFault p)
 
 -- ---- what is written
 
-abbrev pub leaf_data : BaseLeaf BabyBear → Data
-leaf_data (leaves.Variable v) = case_data (codes "Variable") (variable_plain.written v)
-leaf_data leaves.IsFirstRow = string (codes "IsFirstRow")
-leaf_data leaves.IsLastRow = string (codes "IsLastRow")
-leaf_data leaves.IsTransition = string (codes "IsTransition")
-leaf_data (leaves.Constant x) = case_data (codes "Constant") (number_data x.residue)
+abbrev pub leaf_data : {F : Type 0} {p : ℕ} → Modular F p → BaseLeaf F → Data
+leaf_data m (leaves.Variable v) = case_data (codes "Variable") (variable_plain.written v)
+leaf_data m leaves.IsFirstRow = string (codes "IsFirstRow")
+leaf_data m leaves.IsLastRow = string (codes "IsLastRow")
+leaf_data m leaves.IsTransition = string (codes "IsTransition")
+leaf_data m (leaves.Constant x) = case_data (codes "Constant") (number_data (m.value x))
 
-abbrev pub WritesLeaf : Data → BaseLeaf BabyBear → Type 0
-WritesLeaf d a = d ≡ leaf_data a
+abbrev pub WritesLeaf : {F : Type 0} {p : ℕ} → Modular F p → Data → BaseLeaf F → Type 0
+WritesLeaf m d a = d ≡ leaf_data m a
 
 -- ---- how a reader finds it
 
 -- a field element, by its canonical number
-abbrev pub element_or : ℕ → Option ℕ → Result BabyBear FlatError
-element_or place None = Err (faults.Shape place)
-element_or place (Some n) = if nat_lt n 2013265921 then Ok (class n) else Err (faults.NotCanonical place)
+abbrev pub element_or : {F : Type 0} {p : ℕ} → Modular F p → ℕ → Option ℕ → Result F FlatError
+element_or m place None = Err (faults.Shape place)
+element_or {p = p} m place (Some n) = if nat_lt n p then Ok (m.class n) else Err (faults.NotCanonical place)
 
-unfoldable pub element_at : ℕ → Data → Result BabyBear FlatError
-element_at place d = element_or place (whole d)
+unfoldable pub element_at : {F : Type 0} {p : ℕ} → Modular F p → ℕ → Data → Result F FlatError
+element_at m place d = element_or m place (whole d)
 
 -- a leaf without contents, by its name
-abbrev pub bare_leaves : List (List ℕ × BaseLeaf BabyBear)
+abbrev pub bare_leaves : {F : Type 0} → List (List ℕ × BaseLeaf F)
 bare_leaves = (codes "IsFirstRow", leaves.IsFirstRow) ∷ (codes "IsLastRow", leaves.IsLastRow) ∷ (codes "IsTransition", leaves.IsTransition) ∷ []
 
-abbrev pub bare_leaf : ℕ → List ℕ → Result (BaseLeaf BabyBear) FlatError
+abbrev pub bare_leaf : {F : Type 0} → ℕ → List ℕ → Result (BaseLeaf F) FlatError
 bare_leaf place name = ok_or (find_name bare_leaves name) (faults.Shape place)
 
 -- a leaf with contents, by its name
-abbrev pub leaf_with : ℕ → List ℕ → Data → Result (BaseLeaf BabyBear) FlatError
-leaf_with place name d =
+abbrev pub leaf_with : {F : Type 0} {p : ℕ} → Modular F p → ℕ → List ℕ → Data → Result (BaseLeaf F) FlatError
+leaf_with m place name d =
     if bytes_eq name (codes "Variable") then ok_or (option_map (λ v. leaves.Variable v) (variable_plain.read d)) (faults.Shape place)
-    else (if bytes_eq name (codes "Constant") then (element_at place d >>= λ c. Ok (leaves.Constant c))
+    else (if bytes_eq name (codes "Constant") then (element_at m place d >>= λ c. Ok (leaves.Constant c))
     else Err (faults.Shape place))
 
 -- the leaf that is spelt by a value in the node at a place, or its fault
-unfoldable pub leaf_at : ℕ → Data → Result (BaseLeaf BabyBear) FlatError
-leaf_at place d = text_or (Err (faults.Shape place)) (bare_leaf place) (leaf_with place) (as_str d) d
+unfoldable pub leaf_at : {F : Type 0} {p : ℕ} → Modular F p → ℕ → Data → Result (BaseLeaf F) FlatError
+leaf_at m place d = text_or (Err (faults.Shape place)) (bare_leaf place) (leaf_with m place) (as_str d) d
 
-abbrev pub base_kind : Kind (BaseLeaf BabyBear) BabyBear
-base_kind = record { spells = SpellsLeaf; writes = WritesLeaf; fault = LeafFault; leaf_at = leaf_at; term = base_term }
+abbrev pub base_kind : {F : Type 0} {p : ℕ} → Modular F p → Kind (BaseLeaf F) F
+base_kind m = record { spells = SpellsLeaf m; writes = WritesLeaf m; fault = LeafFault m; leaf_at = leaf_at m; term = base_term }
 
 -- a base leaf holds no number
-abbrev pub base_seen : Unit {0} → BaseLeaf BabyBear → BaseLeaf BabyBear
+abbrev pub base_seen : {F : Type 0} → Unit {0} → BaseLeaf F → BaseLeaf F
 base_seen u a = a
 
-pub base_wire_laws : WireLaws (base_reads {F = BabyBear}) base_grows base_seen base_term
+pub base_wire_laws : {F : Type 0} → WireLaws (base_reads {F = F}) base_grows base_seen base_term
 base_wire_laws = record { term_is = λ u a. refl; kept = λ u v g a h. refl; one = λ u a b h k e. e }

@@ -4,7 +4,7 @@ use Rattle.serde_json.specs.Data.{Data, array}
 use Rattle.air_field.specs.Ring.{Over}
 use Rattle.air_field.specs.Extension.{Basis}
 use Rattle.air_field.specs.Term.{Term, leaf_term, ext_const_term}
-use Rattle.air_field.specs.BabyBear.{BabyBear}
+use Rattle.air_field.specs.Modular.{Modular}
 use Rattle.air_core.specs.ExtEntries.{ext_entry_leaf}
 use Rattle.air_symbolic.specs.Trees.{term_of}
 use Rattle.air_symbolic.specs.BaseLeaves.{base_term}
@@ -24,18 +24,18 @@ use Rattle.air_wire.specs.declared.errors.FlatError.{FlatError}
 use Rattle.air_wire.specs.declared.errors.FlatError.TheVariants as faults
 
 -- a Base leaf is spelt by a whole list of base nodes, a constant by its coefficients
-abbrev pub SpellsWhole : {EF : Type 0} → Basis BabyBear EF → Data → WholeLeaf BabyBear EF → Type 0
-SpellsWhole basis d (whole_base t) = IsCase (codes "Base") (λ c. IsList base_kind c t) d
-SpellsWhole basis d (whole_variable v) = IsCase (codes "ExtVariable") (λ c. SpellsExtVariable c v) d
-SpellsWhole basis d (whole_constant e) = IsCase (codes "ExtConstant") (λ c. c ≡ array (number_items (basis.coefficients e))) d
+abbrev pub SpellsWhole : {F EF : Type 0} {p : ℕ} → Modular F p → Basis F EF → Data → WholeLeaf F EF → Type 0
+SpellsWhole m basis d (whole_base t) = IsCase (codes "Base") (λ c. IsList (base_kind m) c t) d
+SpellsWhole m basis d (whole_variable v) = IsCase (codes "ExtVariable") (λ c. SpellsExtVariable c v) d
+SpellsWhole m basis d (whole_constant e) = IsCase (codes "ExtConstant") (λ c. c ≡ array (number_items m (basis.coefficients e))) d
 
 -- what is written: a Base leaf's list begun anew
-abbrev pub WritesWhole : {EF : Type 0} → Basis BabyBear EF → Data → WholeLeaf BabyBear EF → Type 0
-WritesWhole basis d (whole_base t) = IsCase (codes "Base") (λ c. IsWritten base_kind c t) d
-WritesWhole basis d (whole_variable v) = d ≡ case_data (codes "ExtVariable") (ext_variable_plain.written v)
-WritesWhole basis d (whole_constant e) = d ≡ case_data (codes "ExtConstant") (array (number_items (basis.coefficients e)))
+abbrev pub WritesWhole : {F EF : Type 0} {p : ℕ} → Modular F p → Basis F EF → Data → WholeLeaf F EF → Type 0
+WritesWhole m basis d (whole_base t) = IsCase (codes "Base") (λ c. IsWritten (base_kind m) c t) d
+WritesWhole m basis d (whole_variable v) = d ≡ case_data (codes "ExtVariable") (ext_variable_plain.written v)
+WritesWhole m basis d (whole_constant e) = d ≡ case_data (codes "ExtConstant") (array (number_items m (basis.coefficients e)))
 
-abbrev pub whole_term : {EF : Type 0} → Basis BabyBear EF → WholeLeaf BabyBear EF → Term BabyBear
+abbrev pub whole_term : {F EF : Type 0} → Basis F EF → WholeLeaf F EF → Term F
 whole_term basis (whole_base t) = term_of base_term t
 whole_term basis (whole_variable v) = leaf_term (ext_entry_leaf v.entry v.index)
 whole_term basis (whole_constant c) = ext_const_term (basis.coefficients c)
@@ -54,13 +54,13 @@ at_place place (faults.NotCanonical inner) = faults.NotCanonical place
 
 -- A Base leaf has the first fault of its list, told at the leaf's place; a constant of so many whole numbers, one of
 -- them past the canonical ones, isn't canonical.
-abbrev pub OwnWholeFault : ℕ → ℕ → Data → FlatError → Type 0
-OwnWholeFault count place d f =
-    IsCase (codes "Base") (λ c. (g : FlatError) × HasFault base_kind c g × (f ≡ at_place place g)) d
-    ⊎ (IsCase (codes "ExtConstant") (HasPast count) d × (f ≡ faults.NotCanonical place))
+abbrev pub OwnWholeFault : {F : Type 0} {p : ℕ} → Modular F p → ℕ → ℕ → Data → FlatError → Type 0
+OwnWholeFault {p = p} m count place d f =
+    IsCase (codes "Base") (λ c. (g : FlatError) × HasFault (base_kind m) c g × (f ≡ at_place place g)) d
+    ⊎ (IsCase (codes "ExtConstant") (HasPast p count) d × (f ≡ faults.NotCanonical place))
 
-abbrev pub WholeFault : {EF : Type 0} → Basis BabyBear EF → ℕ → ℕ → Data → FlatError → Type 0
-WholeFault basis count = OwnFaultOr (SpellsWhole basis) (OwnWholeFault count)
+abbrev pub WholeFault : {F EF : Type 0} {p : ℕ} → Modular F p → Basis F EF → ℕ → ℕ → Data → FlatError → Type 0
+WholeFault m basis count = OwnFaultOr (SpellsWhole m basis) (OwnWholeFault m count)
 
 -- ---- how a reader finds it
 
@@ -68,23 +68,23 @@ abbrev pub moved : {A : Type 0} → ℕ → Result A FlatError → Result A Flat
 moved place (Ok a) = Ok a
 moved place (Err f) = Err (at_place place f)
 
-abbrev pub lifted_at : {EF : Type 0} → ℕ → Data → Result (WholeLeaf BabyBear EF) FlatError
-lifted_at place c = moved place (root_of base_kind c) >>= λ t. Ok (whole_base t)
+abbrev pub lifted_at : {F EF : Type 0} {p : ℕ} → Modular F p → ℕ → Data → Result (WholeLeaf F EF) FlatError
+lifted_at m place c = moved place (root_of (base_kind m) c) >>= λ t. Ok (whole_base t)
 
-abbrev pub ext_constant_at : {EF : Type 0} → Over BabyBear EF → ℕ → ℕ → Data → Result EF FlatError
-ext_constant_at a count place c = elements_at count place c >>= λ cs. Ok (a.extend cs)
+abbrev pub ext_constant_at : {F EF : Type 0} {p : ℕ} → Modular F p → Over F EF → ℕ → ℕ → Data → Result EF FlatError
+ext_constant_at m a count place c = elements_at m count place c >>= λ cs. Ok (a.extend cs)
 
-abbrev pub ext_leaf_with : {EF : Type 0} → Over BabyBear EF → ℕ → ℕ → List ℕ → Data → Result (WholeLeaf BabyBear EF) FlatError
-ext_leaf_with a count place name c =
-    if bytes_eq name (codes "Base") then lifted_at place c
+abbrev pub ext_leaf_with : {F EF : Type 0} {p : ℕ} → Modular F p → Over F EF → ℕ → ℕ → List ℕ → Data → Result (WholeLeaf F EF) FlatError
+ext_leaf_with m a count place name c =
+    if bytes_eq name (codes "Base") then lifted_at m place c
     else (if bytes_eq name (codes "ExtVariable") then ok_or (option_map (λ v. whole_variable v) (ext_variable_plain.read c)) (faults.Shape place)
-    else (if bytes_eq name (codes "ExtConstant") then (ext_constant_at a count place c >>= λ e. Ok (whole_constant e))
+    else (if bytes_eq name (codes "ExtConstant") then (ext_constant_at m a count place c >>= λ e. Ok (whole_constant e))
     else Err (faults.Shape place)))
 
 -- the leaf that is spelt by a value in the node at a place, or its fault
-unfoldable pub ext_leaf_at : {EF : Type 0} → Over BabyBear EF → ℕ → ℕ → Data → Result (WholeLeaf BabyBear EF) FlatError
-ext_leaf_at a count place d = case_or (Err (faults.Shape place)) (ext_leaf_with a count place) (only_member d)
+unfoldable pub ext_leaf_at : {F EF : Type 0} {p : ℕ} → Modular F p → Over F EF → ℕ → ℕ → Data → Result (WholeLeaf F EF) FlatError
+ext_leaf_at m a count place d = case_or (Err (faults.Shape place)) (ext_leaf_with m a count place) (only_member d)
 
 -- extension leaves, with so many coefficients
-abbrev pub ext_kind : {EF : Type 0} → Over BabyBear EF → Basis BabyBear EF → ℕ → Kind (WholeLeaf BabyBear EF) BabyBear
-ext_kind a basis count = record { spells = SpellsWhole basis; writes = WritesWhole basis; fault = WholeFault basis count; leaf_at = ext_leaf_at a count; term = whole_term basis }
+abbrev pub ext_kind : {F EF : Type 0} {p : ℕ} → Modular F p → Over F EF → Basis F EF → ℕ → Kind (WholeLeaf F EF) F
+ext_kind m a basis count = record { spells = SpellsWhole m basis; writes = WritesWhole m basis; fault = WholeFault m basis count; leaf_at = ext_leaf_at m a count; term = whole_term basis }

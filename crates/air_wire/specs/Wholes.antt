@@ -16,14 +16,14 @@ wholes_data ns = array (whole_items ns)
 abbrev pub HasWholes : List ℕ → List ℕ → Data → Type 0
 HasWholes name ns d = get name d ≡ Some (wholes_data ns)
 
--- one of the numbers is at or past the modulus
-abbrev pub SomePast : List ℕ → Type 0
-SomePast [] = ⊥
-SomePast (n ∷ ns) = (2013265921 ≤ n) ⊎ SomePast ns
+-- one of the numbers is at or past the modulus p
+abbrev pub SomePast : ℕ → List ℕ → Type 0
+SomePast p [] = ⊥
+SomePast p (n ∷ ns) = (p ≤ n) ⊎ SomePast p ns
 
 -- the value is a list of so many whole numbers, one of which is no canonical one
-abbrev pub HasPast : ℕ → Data → Type 0
-HasPast count d = (ns : List ℕ) × (d ≡ wholes_data ns) × (length ns ≡ count) × SomePast ns
+abbrev pub HasPast : ℕ → ℕ → Data → Type 0
+HasPast p count d = (ns : List ℕ) × (d ≡ wholes_data ns) × (length ns ≡ count) × SomePast p ns
 
 -- ---- how a reader finds them
 

@@ -1,9 +1,9 @@
 //! Base leaves in lists of nodes.
 ghost use Rattle.std.specs.Prelude.{◌≡◌, ◌<◌, IfOk};
 ghost use Rattle.serde_json.specs.View.{view};
-ghost use Rattle.air_field.specs.Modulo.{class};
 ghost use Rattle.air_wire.specs.BaseLeaves.{element_at, leaf_with, leaf_at, leaf_data};
 ghost use Rattle.air_wire.specs.Spelling.{number_data};
+ghost use Rattle.air_wire.specs.Coefficients.{is_canonical};
 
 use crate::cases::case_value;
 use crate::errors::FlatError;
@@ -11,34 +11,46 @@ use crate::parts::{only_member, whole};
 use crate::plain::Plain;
 use crate::wire_leaf::WireLeaf;
 use air_core::SymbolicVariable;
-use air_field::BabyBear;
+use air_field::PrimeField64;
 use air_symbolic::BaseLeaf;
 use serde_json::{Value, json};
 use std::alloc::{AllocError, Global};
 
-pub(crate) fn class_of(number: u32) -> BabyBear
-    ensures { result ≡ class number }
+/// The field element with this number.
+pub(crate) fn class_of<F: PrimeField64>(number: usize) -> F
+    ensures { result ≡ F.residues.class number }
 {
-    BabyBear::new(number)
+    F::from_u64(number as u64)
+}
+
+/// Whether the number is some element's canonical one.
+pub(crate) fn is_canonical<F: PrimeField64>(number: usize) -> bool
+    ensures { result ≡ is_canonical F.ORDER_U64 number }
+{
+    (number as u64) < F::ORDER_U64
 }
 
 /// The field element that the value spells by its canonical number: `Shape` where it is no whole number that fits 64
 /// bits, and `NotCanonical` where that is at or past the modulus, each with the place `at`.
 #[tactic(auto, unfolding(crate::specs::BaseLeaves::element_at))]
-pub fn element_from(at: usize, value: &Value) -> Result<BabyBear, FlatError>
-    ensures { result ≡ element_at at (view value.now) }
+pub fn element_from<F: PrimeField64>(at: usize, value: &Value) -> Result<F, FlatError>
+    ensures { result ≡ element_at F.residues at (view value.now) }
 {
     let number = whole(value).ok_or(FlatError::Shape { at })?;
-    if number < BabyBear::MODULUS as usize {
-        Ok(class_of(number as u32))
+    if is_canonical::<F>(number) {
+        Ok(class_of(number))
     } else {
         Err(FlatError::NotCanonical { at })
     }
 }
 
 // The leaf of this name with contents.
-fn leaf_with(at: usize, name: &str, contents: &Value) -> Result<BaseLeaf<BabyBear>, FlatError>
-    ensures { result ≡ leaf_with at name.now (view contents.now) }
+fn leaf_with<F: PrimeField64>(
+    at: usize,
+    name: &str,
+    contents: &Value,
+) -> Result<BaseLeaf<F>, FlatError>
+    ensures { result ≡ leaf_with F.residues at name.now (view contents.now) }
 {
     if name == "Variable" {
         let variable = SymbolicVariable::read(contents).ok_or(FlatError::Shape { at })?;
@@ -52,8 +64,8 @@ fn leaf_with(at: usize, name: &str, contents: &Value) -> Result<BaseLeaf<BabyBea
 }
 
 #[tactic(auto, unfolding(crate::specs::BaseLeaves::leaf_at))]
-fn base_leaf_from(at: usize, value: &Value) -> Result<BaseLeaf<BabyBear>, FlatError>
-    ensures { result ≡ leaf_at at (view value.now) }
+fn base_leaf_from<F: PrimeField64>(at: usize, value: &Value) -> Result<BaseLeaf<F>, FlatError>
+    ensures { result ≡ leaf_at F.residues at (view value.now) }
 {
     let shape = FlatError::Shape { at };
     if let Some(name) = value.as_str() {
@@ -71,14 +83,14 @@ fn base_leaf_from(at: usize, value: &Value) -> Result<BaseLeaf<BabyBear>, FlatEr
     leaf_with(at, name, contents)
 }
 
-pub(crate) fn element_value(element: BabyBear) -> Value
-    ensures { view result ≡ number_data element.residue }
+pub(crate) fn element_value<F: PrimeField64>(element: F) -> Value
+    ensures { view result ≡ number_data (F.residues.value element) }
 {
     Value::from(element.as_canonical_u64())
 }
 
-fn base_leaf_value(alloc: Global, leaf: &BaseLeaf<BabyBear>) -> Result<Value, AllocError>
-    ensures { IfOk result (λ v. view v ≡ leaf_data leaf.now) }
+fn base_leaf_value<F: PrimeField64>(alloc: Global, leaf: &BaseLeaf<F>) -> Result<Value, AllocError>
+    ensures { IfOk result (λ v. view v ≡ leaf_data F.residues leaf.now) }
 {
     match leaf {
         BaseLeaf::Variable(variable) => {
@@ -95,17 +107,16 @@ fn base_leaf_value(alloc: Global, leaf: &BaseLeaf<BabyBear>) -> Result<Value, Al
     }
 }
 
-impl WireLeaf for BaseLeaf<BabyBear> {
-    ghost use Rattle.air_field.specs.BabyBear.{BabyBear};
+impl<F: PrimeField64> WireLeaf for BaseLeaf<F> {
     ghost use Rattle.air_symbolic.specs.declared.leaves.base_leaf.BaseLeaf.{BaseLeaf};
     ghost use Rattle.air_wire.specs.BaseLeaves.{base_kind, base_seen, base_wire_laws};
     ghost use Rattle.air_wire.specs.laws.BaseLeaves.{base_kind_laws};
 
-    ghost Seen = { BaseLeaf BabyBear };
+    ghost Seen = { BaseLeaf F };
 
-    ghost seen = { base_seen };
+    ghost seen = { λ u a. base_seen u a };
 
-    ghost kind = { base_kind };
+    ghost kind = { base_kind F.residues };
 
     fn leaf_from_value(
         _alloc: Global,
@@ -122,5 +133,5 @@ impl WireLeaf for BaseLeaf<BabyBear> {
 
     ghost wire_laws = { base_wire_laws };
 
-    ghost kind_laws = { base_kind_laws };
+    ghost kind_laws = { base_kind_laws F.residues };
 }

@@ -15,7 +15,7 @@ ghost use Rattle.air_wire.specs.Nodes.{root_of};
 ghost use Rattle.air_wire.specs.ExtEntries.{ext_variable_plain};
 ghost use Rattle.air_wire.specs.ExtLeaves.{WritesWhole, at_place, moved, ext_constant_at, ext_leaf_at};
 
-use crate::base_leaf::{class_of, element_value};
+use crate::base_leaf::{class_of, element_value, is_canonical};
 use crate::cases::case_value;
 use crate::errors::FlatError;
 use crate::lists::list_from;
@@ -24,7 +24,7 @@ use crate::plain::Plain;
 use crate::wire_leaf::WireLeaf;
 use crate::written_lists::to_flat_value;
 use air_core::SymbolicVariableExt;
-use air_field::{BabyBear, ExtensionField};
+use air_field::{ExtensionField, PrimeField64};
 use air_symbolic::{BaseLeaf, ExprId, ExprPool, ExtLeaf};
 use serde_json::Value;
 use std::alloc::{AllocError, Global};
@@ -45,27 +45,31 @@ pub(crate) fn wholes(alloc: Global, at: usize, items: &[Value]) -> Result<Vec<us
 }
 
 // The elements with these numbers, each below the modulus.
-fn canonical(alloc: Global, at: usize, numbers: &[usize]) -> Result<Vec<BabyBear>, FlatError>
-    ensures { Gives (λ v. v.items) result (if_canonical at numbers.now) }
+fn canonical<F: PrimeField64>(
+    alloc: Global,
+    at: usize,
+    numbers: &[usize],
+) -> Result<Vec<F>, FlatError>
+    ensures { Gives (λ v. v.items) result (if_canonical F.residues at numbers.now) }
 {
     let mut elements = Vec::new(alloc);
     for number in numbers {
-        if *number >= BabyBear::MODULUS as usize {
+        if !is_canonical::<F>(*number) {
             return Err(FlatError::NotCanonical { at });
         }
-        elements.push(class_of(*number as u32))?;
+        elements.push(class_of(*number))?;
     }
     Ok(elements)
 }
 
 #[tactic(auto, unfolding(crate::specs::Coefficients::elements_at))]
-fn elements_from(
+fn elements_from<F: PrimeField64>(
     alloc: Global,
     at: usize,
     count: usize,
     contents: &Value,
-) -> Result<Vec<BabyBear>, FlatError>
-    ensures { Gives (λ v. v.items) result (elements_at count at (view contents.now)) }
+) -> Result<Vec<F>, FlatError>
+    ensures { Gives (λ v. v.items) result (elements_at F.residues count at (view contents.now)) }
 {
     let shape = FlatError::Shape { at };
     let items = contents.as_array().ok_or(shape)?;
@@ -77,14 +81,15 @@ fn elements_from(
 }
 
 // The element with these coefficients.
-fn constant_from<EF: ExtensionField<BabyBear>>(
+fn constant_from<F: PrimeField64, EF: ExtensionField<F>>(
     alloc: Global,
     at: usize,
     contents: &Value,
 ) -> Result<EF, FlatError>
-    ensures { Gives (λ e. e) result (ext_constant_at EF.over EF.DIMENSION at (view contents.now)) }
+    ensures { Gives (λ e. e) result
+        (ext_constant_at F.residues EF.over EF.DIMENSION at (view contents.now)) }
 {
-    let elements = elements_from(alloc, at, EF::DIMENSION, contents)?;
+    let elements = elements_from::<F>(alloc, at, EF::DIMENSION, contents)?;
     Ok(EF::from_basis_coefficients(&elements))
 }
 
@@ -108,15 +113,15 @@ fn at_place(at: usize, fault: FlatError) -> FlatError
 }
 
 // The base expression of the list inside a Base leaf.
-fn base_from(
+fn base_from<F: PrimeField64>(
     alloc: Global,
     at: usize,
-    under: &mut ExprPool<BaseLeaf<BabyBear>>,
+    under: &mut ExprPool<BaseLeaf<F>>,
     contents: &Value,
-) -> Result<ExprId<BaseLeaf<BabyBear>>, FlatError>
+) -> Result<ExprId<BaseLeaf<F>>, FlatError>
     requires { IsPool base_reads under.old }
     ensures { Reads base_grows base_reads tree_at under.old under.new result
-        (moved at (root_of base_kind (view contents.now))) }
+        (moved at (root_of (base_kind F.residues) (view contents.now))) }
 {
     match list_from(alloc, under, contents) {
         Ok(id) => Ok(id),
@@ -125,17 +130,17 @@ fn base_from(
 }
 
 #[tactic(auto, unfolding(crate::specs::ExtLeaves::ext_leaf_at))]
-fn ext_leaf_from<EF: ExtensionField<BabyBear>>(
+fn ext_leaf_from<F: PrimeField64, EF: ExtensionField<F>>(
     alloc: Global,
     at: usize,
-    under: &mut ExprPool<BaseLeaf<BabyBear>>,
+    under: &mut ExprPool<BaseLeaf<F>>,
     value: &Value,
-) -> Result<ExtLeaf<BabyBear, EF>, FlatError>
+) -> Result<ExtLeaf<F, EF>, FlatError>
     requires { IsPool base_reads under.old }
     ensures grown { Grown base_grows base_reads under.old under.new }
     ensures valid { IfOk result (λ a. ext_valid under.new a) }
     ensures read { Gives (λ a. whole_leaf under.new a) result
-        (ext_leaf_at EF.over EF.DIMENSION at (view value.now)) }
+        (ext_leaf_at F.residues EF.over EF.DIMENSION at (view value.now)) }
 {
     let shape = FlatError::Shape { at };
     let (name, contents) = only_member(value).ok_or(shape)?;
@@ -145,15 +150,15 @@ fn ext_leaf_from<EF: ExtensionField<BabyBear>>(
         let variable = SymbolicVariableExt::read(contents).ok_or(shape)?;
         Ok(ExtLeaf::ExtVariable(variable))
     } else if name == "ExtConstant" {
-        Ok(ExtLeaf::ExtConstant(constant_from(alloc, at, contents)?))
+        Ok(ExtLeaf::ExtConstant(constant_from::<F, EF>(alloc, at, contents)?))
     } else {
         Err(shape)
     }
 }
 
 // The list of the elements' canonical numbers.
-fn elements_value(alloc: Global, elements: &[BabyBear]) -> Result<Value, AllocError>
-    ensures { IfOk result (λ v. view v ≡ array (number_items elements.now)) }
+fn elements_value<F: PrimeField64>(alloc: Global, elements: &[F]) -> Result<Value, AllocError>
+    ensures { IfOk result (λ v. view v ≡ array (number_items F.residues elements.now)) }
 {
     let mut items = Vec::new(alloc);
     for element in elements {
@@ -162,20 +167,20 @@ fn elements_value(alloc: Global, elements: &[BabyBear]) -> Result<Value, AllocEr
     Ok(Value::from(items))
 }
 
-fn constant_value<EF: ExtensionField<BabyBear>>(
+fn constant_value<F: PrimeField64, EF: ExtensionField<F>>(
     alloc: Global,
     element: &EF,
 ) -> Result<Value, AllocError>
     ensures { IfOk result (λ v. view v ≡ case_data (codes "ExtConstant")
-        (array (number_items (EF.basis.coefficients element.now)))) }
+        (array (number_items F.residues (EF.basis.coefficients element.now)))) }
 {
     let contents = elements_value(alloc, element.as_basis_coefficients_slice())?;
     case_value(alloc, "ExtConstant", contents)
 }
 
-fn variable_value<EF: ExtensionField<BabyBear>>(
+fn variable_value<F: PrimeField64, EF: ExtensionField<F>>(
     alloc: Global,
-    variable: &SymbolicVariableExt<BabyBear, EF>,
+    variable: &SymbolicVariableExt<F, EF>,
 ) -> Result<Value, AllocError>
     ensures { IfOk result (λ v. view v ≡ case_data (codes "ExtVariable")
         (ext_variable_plain.written variable.now)) }
@@ -184,14 +189,14 @@ fn variable_value<EF: ExtensionField<BabyBear>>(
     case_value(alloc, "ExtVariable", contents)
 }
 
-fn ext_leaf_value<EF: ExtensionField<BabyBear>>(
+fn ext_leaf_value<F: PrimeField64, EF: ExtensionField<F>>(
     alloc: Global,
-    under: &ExprPool<BaseLeaf<BabyBear>>,
-    leaf: &ExtLeaf<BabyBear, EF>,
+    under: &ExprPool<BaseLeaf<F>>,
+    leaf: &ExtLeaf<F, EF>,
 ) -> Result<Value, FlatError>
     requires pool { IsPool base_reads under.now }
     requires valid { ext_valid under.now leaf.now }
-    ensures written { IfOk result (λ v. WritesWhole EF.basis (view v)
+    ensures written { IfOk result (λ v. WritesWhole F.residues EF.basis (view v)
         (whole_leaf under.now leaf.now)) }
     ensures refused { IfErr result (λ e. e ≡ FlatError.Memory) }
 {
@@ -200,42 +205,36 @@ fn ext_leaf_value<EF: ExtensionField<BabyBear>>(
             let list = to_flat_value(alloc, under, *id)?;
             Ok(case_value(alloc, "Base", list)?)
         }
-        ExtLeaf::ExtVariable(variable) => Ok(variable_value(alloc, variable)?),
-        ExtLeaf::ExtConstant(element) => Ok(constant_value(alloc, element)?),
+        ExtLeaf::ExtVariable(variable) => Ok(variable_value::<F, EF>(alloc, variable)?),
+        ExtLeaf::ExtConstant(element) => Ok(constant_value::<F, EF>(alloc, element)?),
     }
 }
 
-impl<EF: ExtensionField<BabyBear>> WireLeaf for ExtLeaf<BabyBear, EF> {
-    ghost use Rattle.air_field.specs.Modulo.{baby_bear_ring};
-    ghost use Rattle.air_field.specs.BabyBear.{BabyBear};
+impl<F: PrimeField64, EF: ExtensionField<F>> WireLeaf for ExtLeaf<F, EF> {
     ghost use Rattle.air_symbolic.specs.ExtTrees.{WholeLeaf, whole_leaf as whole};
     ghost use Rattle.air_wire.specs.ExtLeaves.{ext_kind};
     ghost use Rattle.air_wire.specs.laws.ExtLeaves.{ext_wire_laws, ext_kind_laws};
 
-    ghost Seen = { WholeLeaf BabyBear EF };
+    ghost Seen = { WholeLeaf F EF };
 
     ghost seen = { λ u a. whole u a };
 
-    ghost kind = { ext_kind EF.over EF.basis EF.DIMENSION };
+    ghost kind = { ext_kind F.residues EF.over EF.basis EF.DIMENSION };
 
     fn leaf_from_value(
         alloc: Global,
         at: usize,
-        under: &mut ExprPool<BaseLeaf<BabyBear>>,
+        under: &mut ExprPool<BaseLeaf<F>>,
         value: &Value,
     ) -> Result<Self, FlatError> {
         ext_leaf_from(alloc, at, under, value)
     }
 
-    fn leaf_value(
-        &self,
-        alloc: Global,
-        under: &ExprPool<BaseLeaf<BabyBear>>,
-    ) -> Result<Value, FlatError> {
+    fn leaf_value(&self, alloc: Global, under: &ExprPool<BaseLeaf<F>>) -> Result<Value, FlatError> {
         ext_leaf_value(alloc, under, self)
     }
 
-    ghost wire_laws = { ext_wire_laws baby_bear_ring EF.basis };
+    ghost wire_laws = { ext_wire_laws F.ring EF.basis };
 
-    ghost kind_laws = { ext_kind_laws baby_bear_ring EF.over EF.basis EF.DIMENSION EF.ExtensionField.laws };
+    ghost kind_laws = { ext_kind_laws F.residues F.ring EF.over EF.basis EF.DIMENSION EF.ExtensionField.laws };
 }

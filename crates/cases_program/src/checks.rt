@@ -73,7 +73,7 @@ pub fn show_flat_check(
     text: &mut String,
 ) -> Result<(), Fault> {
     let value = value_of(alloc, object)?;
-    let input = flat_input_from(alloc, &value)?;
+    let input = flat_input_from::<BabyBear>(alloc, &value)?;
     let air = FlatAir::new(
         input.pool,
         input.roots,
@@ -82,6 +82,10 @@ pub fn show_flat_check(
         input.periodic,
         input.cells,
     )?;
+    let air = match input.preprocessed {
+        Some(table) => air.with_preprocessed(table),
+        None => air,
+    };
     show_check(
         alloc,
         call,

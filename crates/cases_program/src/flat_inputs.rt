@@ -31,7 +31,7 @@ fn show_roots(roots: &[ExprId<BaseLeaf<BabyBear>>], text: &mut String) -> Result
 }
 
 // Adds the columns, cells, the cap and the weight.
-fn show_rest(input: &FlatInput, text: &mut String) -> Result<(), Fault> {
+fn show_rest(input: &FlatInput<BabyBear>, text: &mut String) -> Result<(), Fault> {
     text.push_str(" periodic")?;
     for column in &input.periodic {
         text.push_str(" ")?;
@@ -51,8 +51,12 @@ fn show_rest(input: &FlatInput, text: &mut String) -> Result<(), Fault> {
 /// Adds what the object spells, but for its expressions their number and those of the constraints.
 pub fn show_input(alloc: Global, object: &str, text: &mut String) -> Result<(), Fault> {
     let value = value_of(alloc, object)?;
-    let input = flat_input_from(alloc, &value)?;
+    let input = flat_input_from::<BabyBear>(alloc, &value)?;
     show_rows(&input.main, text)?;
+    if let Some(table) = &input.preprocessed {
+        text.push_str(" preprocessed ")?;
+        show_rows(table, text)?;
+    }
     text.push_str(" public ")?;
     show_elements(&input.public_values, text)?;
     let nodes = input.pool.len();

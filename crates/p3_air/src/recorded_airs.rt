@@ -1,5 +1,5 @@
 //! A recording as an AIR.
-ghost use Rattle.std.specs.Prelude.{◌≡◌, List, IfOk, IfErr};
+ghost use Rattle.std.specs.Prelude.{◌≡◌, List, None, IfOk, IfErr};
 ghost use Rattle.air_symbolic.specs.BaseLeaves.{base_reads};
 ghost use Rattle.air_symbolic.specs.ExtLeaves.{ext_reads};
 ghost use Rattle.air_symbolic.specs.Pools.{IsPool};
@@ -57,9 +57,9 @@ fn first_past<A: Copy>(numbers: &[ExprId<A>], total: usize) -> Option<ExprId<A>>
 }
 
 /// The AIR that declares the recorded base constraints, in order: that each recorded term is zero. Its main trace has
-/// `width` columns. It has no preprocessed table: a column of one that a recorded term names is refused by its name
-/// (`MissingEntry`), or at an offset past 1 with `RowOffset`, when the AIR is audited, or a row of it checked. Recorded
-/// extension constraints are left out.
+/// `width` columns. It has no preprocessed table until [`FlatAir::with_preprocessed`] gives it one: a column that a
+/// recorded term names and that no table has is refused by its name (`MissingEntry`), or at an offset past 1 with
+/// `RowOffset`, when the AIR is audited, or a row of it checked. Recorded extension constraints are left out.
 ///
 /// The base pool must be as its calls left it; each call that records an AIR, and `finish_recording`, promise that.
 /// Of what was recorded of an AIR with its base constraints nothing but memory can be wanting, and the declared list
@@ -77,6 +77,7 @@ pub fn recorded_air<F: Field, EF: ExtensionField<F>>(
         (⟦<FlatAir<F> as BaseAir<F>>⟧.declaration a).declared ≡ zero_at_recorded recorded) }
     ensures width { IfOk result (λ a. a.width ≡ width) }
     ensures num_public_values { IfOk result (λ a. a.num_public_values ≡ num_public_values) }
+    ensures preprocessed { IfOk result (λ a. a.preprocessed ≡ None) }
     ensures periodic { IfOk result (λ a. a.periodic ≡ periodic) }
     ensures cells { IfOk result (λ a. a.cells ≡ cells) }
     ensures of_an_air { (declared : List (Assertion F)) →

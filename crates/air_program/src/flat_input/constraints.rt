@@ -8,38 +8,46 @@ ghost use Rattle.air_wire.specs.declared.errors.FlatError.TheVariants.{Shape};
 ghost use Rattle.air_program.specs.Parts.{Given, InPool, AreGiven, one_more};
 ghost use Rattle.air_program.specs.Readers.{each_from, tree, trees, constraints_member};
 
-use air_field::BabyBear;
+use air_field::{Field, PrimeField64};
 use air_symbolic::{BaseLeaf, ExprId, ExprPool};
 use air_wire::{FlatError, from_flat_value};
 use serde_json::Value;
 use std::alloc::Global;
 
 /// The pool of the constraints, one of its expressions, and the roots of all.
-pub(crate) type BasePool = ExprPool<BaseLeaf<BabyBear>>;
+pub(crate) type BasePool<F> = ExprPool<BaseLeaf<F>>;
 
-pub(crate) type BaseId = ExprId<BaseLeaf<BabyBear>>;
+pub(crate) type BaseId<F> = ExprId<BaseLeaf<F>>;
 
-pub(crate) type Roots = Vec<BaseId>;
+pub(crate) type Roots<F> = Vec<BaseId<F>>;
 
 /// Constraints that are read before it is their turn: the pool of their lists, and their roots or the first fault.
 #[derive(Drop)]
-pub(crate) struct Constraints {
-    pub pool: BasePool,
-    pub roots: Result<Roots, FlatError>,
+pub(crate) struct Constraints<F: Field> {
+    pub pool: BasePool<F>,
+    pub roots: Result<Roots<F>, FlatError>,
 }
 
-fn root_from(alloc: Global, pool: &mut BasePool, value: &Value) -> Result<BaseId, FlatError>
+fn root_from<F: PrimeField64>(
+    alloc: Global,
+    pool: &mut BasePool<F>,
+    value: &Value,
+) -> Result<BaseId<F>, FlatError>
     requires { IsPool base_reads pool.old }
     ensures { Reads base_grows base_reads tree_at pool.old pool.new result
-        (tree (view value.now)) }
+        (tree F.residues (view value.now)) }
 {
     from_flat_value(alloc, pool, value)
 }
 
-fn roots_of(alloc: Global, pool: &mut BasePool, items: &[Value]) -> Result<Roots, FlatError>
+fn roots_of<F: PrimeField64>(
+    alloc: Global,
+    pool: &mut BasePool<F>,
+    items: &[Value],
+) -> Result<Roots<F>, FlatError>
     requires { IsPool base_reads pool.old }
     ensures { ReadsAll base_grows base_reads tree_at (λ v. v.items) pool.old pool.new result
-        (each_from tree [] (items_view items.now)) }
+        (each_from (tree F.residues) [] (items_view items.now)) }
 {
     let mut roots = Vec::new(alloc);
     for item in items {
@@ -51,21 +59,21 @@ fn roots_of(alloc: Global, pool: &mut BasePool, items: &[Value]) -> Result<Roots
 
 /// The roots of the lists that the value lists.
 #[tactic(auto, unfolding(crate::specs::Readers::trees))]
-pub(crate) fn roots_from(
+pub(crate) fn roots_from<F: PrimeField64>(
     alloc: Global,
-    pool: &mut BasePool,
+    pool: &mut BasePool<F>,
     value: &Value,
-) -> Result<Roots, FlatError>
+) -> Result<Roots<F>, FlatError>
     requires { IsPool base_reads pool.old }
     ensures { ReadsAll base_grows base_reads tree_at (λ v. v.items) pool.old pool.new result
-        (trees (view value.now)) }
+        (trees F.residues (view value.now)) }
 {
     let items = value.as_array().ok_or(FlatError::Shape { at: 0 })?;
     roots_of(alloc, pool, items)
 }
 
 /// No list.
-pub(crate) fn no_constraints(alloc: Global) -> Constraints
+pub(crate) fn no_constraints<F: PrimeField64>(alloc: Global) -> Constraints<F>
     ensures { AreGiven (Ok []) result }
 {
     Constraints {
@@ -75,7 +83,7 @@ pub(crate) fn no_constraints(alloc: Global) -> Constraints
 }
 
 /// What an object without the member has.
-pub(crate) fn missing_constraints(alloc: Global) -> Constraints
+pub(crate) fn missing_constraints<F: PrimeField64>(alloc: Global) -> Constraints<F>
     ensures { AreGiven (Err (Shape 0)) result }
 {
     Constraints {
@@ -85,16 +93,16 @@ pub(crate) fn missing_constraints(alloc: Global) -> Constraints
 }
 
 // The roots, and that of the list, or the first fault.
-fn roots_with(
+fn roots_with<F: PrimeField64>(
     alloc: Global,
-    pool: &mut BasePool,
-    mut roots: Roots,
+    pool: &mut BasePool<F>,
+    mut roots: Roots<F>,
     value: &Value,
-) -> Result<Roots, FlatError>
+) -> Result<Roots<F>, FlatError>
     requires pool { IsPool base_reads pool.old }
     requires here { All (λ i. i < length pool.old.1) roots.items }
     ensures { ReadsAll base_grows base_reads tree_at (λ v. v.items) pool.old pool.new result
-        (one_more (Ok (map (tree_at pool.old) roots.items)) (view value.now)) }
+        (one_more F.residues (Ok (map (tree_at pool.old) roots.items)) (view value.now)) }
 {
     let root = root_from(alloc, pool, value)?;
     roots.push(root)?;
@@ -102,10 +110,14 @@ fn roots_with(
 }
 
 /// The constraints, and the list that the value is; behind a fault no further list is read.
-pub(crate) fn with_list(alloc: Global, constraints: Constraints, value: &Value) -> Constraints
+pub(crate) fn with_list<F: PrimeField64>(
+    alloc: Global,
+    constraints: Constraints<F>,
+    value: &Value,
+) -> Constraints<F>
     requires { InPool constraints }
-    ensures { (given : Given) → AreGiven given constraints
-        → AreGiven (one_more given (view value.now)) result }
+    ensures { (given : Given F) → AreGiven given constraints
+        → AreGiven (one_more F.residues given (view value.now)) result }
 {
     let Constraints { mut pool, roots } = constraints;
     let roots = match roots {
@@ -116,8 +128,8 @@ pub(crate) fn with_list(alloc: Global, constraints: Constraints, value: &Value) 
 }
 
 /// The constraints of the lists that the value lists.
-pub(crate) fn constraints_listed(alloc: Global, value: &Value) -> Constraints
-    ensures { AreGiven (trees (view value.now)) result }
+pub(crate) fn constraints_listed<F: PrimeField64>(alloc: Global, value: &Value) -> Constraints<F>
+    ensures { AreGiven (trees F.residues (view value.now)) result }
 {
     let mut pool = ExprPool::new(alloc);
     let roots = roots_from(alloc, &mut pool, value);
@@ -126,8 +138,8 @@ pub(crate) fn constraints_listed(alloc: Global, value: &Value) -> Constraints
 
 /// The constraints of an object.
 #[tactic(auto, unfolding(crate::specs::Readers::constraints_member))]
-pub(crate) fn constraints_of(alloc: Global, value: &Value) -> Constraints
-    ensures { AreGiven (constraints_member (view value.now)) result }
+pub(crate) fn constraints_of<F: PrimeField64>(alloc: Global, value: &Value) -> Constraints<F>
+    ensures { AreGiven (constraints_member F.residues (view value.now)) result }
 {
     match value.get("constraints") {
         Some(lists) => constraints_listed(alloc, lists),

@@ -6,12 +6,14 @@ ghost use Rattle.air_program.specs.Members.{MemberValues, members};
 ghost use Rattle.air_program.specs.Input.{SpellsInput, HasInputFault};
 ghost use Rattle.air_program.specs.declared.flat_input.input.FlatInput.{FlatInput};
 
+use air_field::PrimeField64;
+
 /// A value spells the members of one input at most, has one first fault at most, and never both.
-pub fn inputs_are_read_one_way()
-    ensures one_value { (d : Data) (m n : MemberValues) → members.spells d m → members.spells d n →
-        m ≡ n }
-    ensures no_fault { (d : Data) (input : FlatInput) (e : AirError) → SpellsInput d input →
-        HasInputFault d e → ⊥ }
-    ensures one_fault { (d : Data) (e f : AirError) → HasInputFault d e → HasInputFault d f →
-        e ≡ f }
+pub fn inputs_are_read_one_way<F: PrimeField64>()
+    ensures one_value { (d : Data) (m n : MemberValues F) →
+        (members F.residues).spells d m → (members F.residues).spells d n → m ≡ n }
+    ensures no_fault { (d : Data) (input : FlatInput F) (e : AirError) →
+        SpellsInput F.residues d input → HasInputFault F.residues d e → ⊥ }
+    ensures one_fault { (d : Data) (e f : AirError) → HasInputFault F.residues d e →
+        HasInputFault F.residues d f → e ≡ f }
 {}

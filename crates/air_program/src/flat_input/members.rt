@@ -1,5 +1,5 @@
 //! The members of the object, in the order in which they are read.
-ghost use Rattle.std.specs.Prelude.{◌≡◌, ◌<◌, length, map, All, IfOk, ok_or};
+ghost use Rattle.std.specs.Prelude.{◌≡◌, ◌<◌, length, map, All, IfOk, option_map, ok_or};
 ghost use Rattle.serde_json.specs.Find.{get};
 ghost use Rattle.serde_json.specs.View.{view};
 ghost use Rattle.air_symbolic.specs.BaseLeaves.{base_reads};
@@ -7,27 +7,35 @@ ghost use Rattle.air_symbolic.specs.Pools.{IsPool};
 ghost use Rattle.air_wire.specs.Results.{Gives};
 ghost use Rattle.air_wire.specs.declared.errors.FlatError.TheVariants.{Shape};
 ghost use Rattle.air_program.specs.Parts.{InPool, given_by, members_with};
-ghost use Rattle.air_program.specs.Readers.{width_member, elements_member, periodic_member, boundary_member, cap_of, cap_member, weight_member};
-ghost use Rattle.air_program.specs.Seen.{seen_members};
+ghost use Rattle.air_program.specs.Readers.{width_member, elements_member, table_member, periodic_member, boundary_member, cap_of, cap_member, weight_member};
+ghost use Rattle.air_program.specs.Seen.{seen_rows, seen_members};
 
 use crate::flat_input::cells::cells_from;
 use crate::flat_input::constraints::{BasePool, Constraints, Roots};
 use crate::flat_input::elements::{columns_from, elements_from};
 use air_core::BoundaryPublic;
-use air_field::BabyBear;
+use air_field::{Field, PrimeField64};
 use air_wire::{FlatError, whole};
 use serde_json::Value;
 use std::alloc::Global;
 
-/// What the members spell, before the matrix is made.
+/// Values for rows of a width.
 #[derive(Drop)]
-pub(crate) struct Members {
+pub(crate) struct RowValues<F: Field> {
+    pub width: usize,
+    pub values: Vec<F>,
+}
+
+/// What the members spell, before the matrices are made.
+#[derive(Drop)]
+pub(crate) struct Members<F: Field> {
     pub main_width: usize,
-    pub main: Vec<BabyBear>,
-    pub public_values: Vec<BabyBear>,
-    pub pool: BasePool,
-    pub roots: Roots,
-    pub periodic: Vec<Vec<BabyBear>>,
+    pub main: Vec<F>,
+    pub preprocessed: Option<RowValues<F>>,
+    pub public_values: Vec<F>,
+    pub pool: BasePool<F>,
+    pub roots: Roots<F>,
+    pub periodic: Vec<Vec<F>>,
     pub cells: Vec<BoundaryPublic>,
     pub cap: Option<usize>,
     pub transition_weight: usize,
@@ -40,23 +48,44 @@ fn needed<'a>(value: &'a Value, name: &str) -> Result<&'a Value, FlatError>
 }
 
 #[tactic(auto, unfolding(crate::specs::Readers::width_member))]
-fn width_from(value: &Value) -> Result<usize, FlatError>
-    ensures { Gives (λ n. n) result (width_member (view value.now)) }
+fn width_at(value: &Value, name: &str) -> Result<usize, FlatError>
+    ensures { Gives (λ n. n) result (width_member name.now (view value.now)) }
 {
-    let width = needed(value, "main_width")?;
+    let width = needed(value, name)?;
     whole(width).ok_or(FlatError::Shape { at: 0 })
 }
 
 #[tactic(auto, unfolding(crate::specs::Readers::elements_member))]
-fn elements_at(alloc: Global, value: &Value, name: &str) -> Result<Vec<BabyBear>, FlatError>
-    ensures { Gives (λ v. v.items) result (elements_member name.now (view value.now)) }
+fn elements_at<F: PrimeField64>(
+    alloc: Global,
+    value: &Value,
+    name: &str,
+) -> Result<Vec<F>, FlatError>
+    ensures { Gives (λ v. v.items) result
+        (elements_member F.residues name.now (view value.now)) }
 {
     elements_from(alloc, needed(value, name)?)
 }
 
+#[tactic(auto, unfolding(crate::specs::Readers::table_member))]
+fn table_from<F: PrimeField64>(
+    alloc: Global,
+    value: &Value,
+) -> Result<Option<RowValues<F>>, FlatError>
+    ensures { Gives (option_map seen_rows) result (table_member F.residues (view value.now)) }
+{
+    if value.get("preprocessed_width").is_none() && value.get("preprocessed").is_none() {
+        return Ok(None);
+    }
+    let width = width_at(value, "preprocessed_width")?;
+    let values = elements_at(alloc, value, "preprocessed")?;
+    Ok(Some(RowValues { width, values }))
+}
+
 #[tactic(auto, unfolding(crate::specs::Readers::periodic_member))]
-fn periodic_from(alloc: Global, value: &Value) -> Result<Vec<Vec<BabyBear>>, FlatError>
-    ensures { Gives (λ v. map (λ c. c.items) v.items) result (periodic_member (view value.now)) }
+fn periodic_from<F: PrimeField64>(alloc: Global, value: &Value) -> Result<Vec<Vec<F>>, FlatError>
+    ensures { Gives (λ v. map (λ c. c.items) v.items) result
+        (periodic_member F.residues (view value.now)) }
 {
     match value.get("periodic") {
         Some(columns) => columns_from(alloc, columns),
@@ -108,19 +137,20 @@ fn weight_from(value: &Value) -> Result<usize, FlatError>
 /// The members that the object spells, or the first fault among them. Its constraints are read already, and it needn't
 /// hold them.
 #[tactic(auto, unfolding(crate::specs::Parts::members_with))]
-pub(crate) fn members_from(
+pub(crate) fn members_from<F: PrimeField64>(
     alloc: Global,
     value: &Value,
-    constraints: Constraints,
-) -> Result<Members, FlatError>
+    constraints: Constraints<F>,
+) -> Result<Members<F>, FlatError>
     requires { InPool constraints }
     ensures pool { IfOk result (λ m. IsPool base_reads m.pool) }
     ensures roots { IfOk result (λ m. All (λ i. i < length m.pool.1) m.roots.items) }
-    ensures read { Gives seen_members result (members_with (given_by constraints)
+    ensures read { Gives seen_members result (members_with F.residues (given_by constraints)
         (view value.now)) }
 {
-    let main_width = width_from(value)?;
+    let main_width = width_at(value, "main_width")?;
     let main = elements_at(alloc, value, "main")?;
+    let preprocessed = table_from(alloc, value)?;
     let public_values = elements_at(alloc, value, "public_values")?;
     let Constraints { pool, roots } = constraints;
     let roots = roots?;
@@ -131,6 +161,7 @@ pub(crate) fn members_from(
     Ok(Members {
         main_width,
         main,
+        preprocessed,
         public_values,
         pool,
         roots,

@@ -11,6 +11,7 @@ use crate::flat_input::constraints::{
     Constraints, constraints_listed, constraints_of, missing_constraints, no_constraints, with_list,
 };
 use crate::flat_input::text::{TextFault, read, read_from};
+use air_field::{Field, PrimeField64};
 use json::{Reader, Scratch, Token};
 use serde_json::{Map, Value};
 use std::alloc::Global;
@@ -19,20 +20,20 @@ const MAX_DEPTH: usize = 127;
 
 /// An object's constraints, and a value that has its other members.
 #[derive(Drop)]
-pub(crate) struct Parts {
+pub(crate) struct Parts<F: Field> {
     pub rest: Value,
-    pub constraints: Constraints,
+    pub constraints: Constraints<F>,
 }
 
 // The lists of the array in which the reader stands.
-fn read_lists(
+fn read_lists<F: PrimeField64>(
     alloc: Global,
     reader: &mut Reader<'_>,
     depth: usize,
-) -> Result<Constraints, TextFault>
+) -> Result<Constraints<F>, TextFault>
     ensures ok { IfOk result (λ c. (ds : Items)
         × (converted of_items (items (value depth) (length reader.old) reader.old)
-        ≡ Some (ds, reader.new)) × AreGiven (each_from tree [] ds) c) }
+        ≡ Some (ds, reader.new)) × AreGiven (each_from (tree F.residues) [] ds) c) }
     ensures shorter { OnOk result (length reader.new < length reader.old) }
     ensures err { result ≡ Err TextFault.Json
         → converted of_items (items (value depth) (length reader.old) reader.old) ≡ None }
@@ -46,14 +47,14 @@ fn read_lists(
 }
 
 // The constraints of the value that begins where the reader stands.
-fn read_constraints(
+fn read_constraints<F: PrimeField64>(
     alloc: Global,
     reader: &mut Reader<'_>,
     depth: usize,
-) -> Result<Constraints, TextFault>
+) -> Result<Constraints<F>, TextFault>
     ensures ok { IfOk result (λ c. (d : Data)
         × (converted of_json (value depth reader.old) ≡ Some (d, reader.new))
-        × AreGiven (trees d) c) }
+        × AreGiven (trees F.residues d) c) }
     ensures shorter { OnOk result (length reader.new < length reader.old) }
     ensures err { result ≡ Err TextFault.Json → converted of_json (value depth reader.old) ≡ None }
 {
@@ -69,15 +70,15 @@ fn read_constraints(
 }
 
 // The members of the object in which the reader stands.
-fn read_apart(
+fn read_apart<F: PrimeField64>(
     alloc: Global,
     reader: &mut Reader<'_>,
     depth: usize,
-) -> Result<(Map<String, Value>, Constraints), TextFault>
+) -> Result<(Map<String, Value>, Constraints<F>), TextFault>
     ensures ok { IfOk result (λ p. (ms : Members)
         × (converted (λ xs. of_members xs no_members)
         (members (value depth) (length reader.old) reader.old) ≡ Some (ms, reader.new))
-        × AreMembersOf ms (members_view p.0.entries) p.1) }
+        × AreMembersOf F.residues ms (members_view p.0.entries) p.1) }
     ensures err { result ≡ Err TextFault.Json → converted (λ xs. of_members xs no_members)
         (members (value depth) (length reader.old) reader.old) ≡ None }
 {
@@ -96,10 +97,14 @@ fn read_apart(
 }
 
 // The parts of the value that begins where the reader stands.
-fn read_parts(alloc: Global, reader: &mut Reader<'_>, depth: usize) -> Result<Parts, TextFault>
+fn read_parts<F: PrimeField64>(
+    alloc: Global,
+    reader: &mut Reader<'_>,
+    depth: usize,
+) -> Result<Parts<F>, TextFault>
     ensures ok { IfOk result (λ p. (d : Data)
         × (converted of_json (value depth reader.old) ≡ Some (d, reader.new))
-        × ArePartsOf d (view p.rest) p.constraints) }
+        × ArePartsOf F.residues d (view p.rest) p.constraints) }
     ensures err { result ≡ Err TextFault.Json → converted of_json (value depth reader.old) ≡ None }
 {
     let token = reader.next().ok_or(TextFault::Json)?;
@@ -119,9 +124,9 @@ fn read_parts(alloc: Global, reader: &mut Reader<'_>, depth: usize) -> Result<Pa
 }
 
 /// The parts of the value that the text is.
-pub(crate) fn parts_of(alloc: Global, text: &str) -> Result<Parts, TextFault>
+pub(crate) fn parts_of<F: PrimeField64>(alloc: Global, text: &str) -> Result<Parts<F>, TextFault>
     ensures ok { IfOk result (λ p. (d : Data) × (read text.now ≡ Some d)
-        × ArePartsOf d (view p.rest) p.constraints) }
+        × ArePartsOf F.residues d (view p.rest) p.constraints) }
     ensures err { result ≡ Err TextFault.Json → read text.now ≡ None }
 {
     let mut scratch = Scratch::new(alloc);

@@ -1,5 +1,5 @@
 //! The AIR that expressions of a pool are.
-ghost use Rattle.std.specs.Prelude.{◌≡◌, ◌<◌, length, All, None, IfOk, IfErr};
+ghost use Rattle.std.specs.Prelude.{◌≡◌, ◌<◌, length, All, Some, None, IfOk, IfErr};
 ghost use Rattle.air_symbolic.specs.BaseLeaves.{base_leaves, base_reads};
 ghost use Rattle.air_symbolic.specs.Pools.{IsPool};
 ghost use Rattle.air_core.specs.declared.errors.AirError.{AirError};
@@ -14,7 +14,7 @@ use air_builder::{Air, AirBuilder, AirError, BaseAir, BoundaryPublic};
 use air_field::{Field, RowMajorMatrix};
 use air_symbolic::{BaseLeaf, ExprId, ExprPool};
 
-/// An AIR from outside: its constraints are expressions of a pool. It has no preprocessed table.
+/// An AIR from outside: its constraints are expressions of a pool.
 #[derive(Drop)]
 pub struct FlatAir<F: Field> {
     /// The expressions.
@@ -24,6 +24,8 @@ pub struct FlatAir<F: Field> {
     /// The number of columns of the main trace.
     pub width: usize,
     pub num_public_values: usize,
+    /// The preprocessed table, if there is one.
+    pub preprocessed: Option<RowMajorMatrix<F>>,
     /// The periodic columns, each the values of one period.
     pub periodic: Vec<Vec<F>>,
     /// The cells of the main trace that hold public values.
@@ -39,9 +41,10 @@ pub struct FlatAir<F: Field> {
 }
 
 impl<F: Field> FlatAir<F> {
-    /// The AIR that asserts the roots in order; its main trace has `width` columns. The pool must be as its calls left
-    /// it, and each root a number of it. What the roots reach is looked up here, once, and no longer at a row. It refuses
-    /// for want of memory alone (`Memory`).
+    /// The AIR that asserts the roots in order; its main trace has `width` columns, and it has no preprocessed table
+    /// ([`FlatAir::with_preprocessed`] gives it one). The pool must be as its calls left it, and each root a number of it.
+    /// What the roots reach is looked up here, once, and no longer at a row. It refuses for want of memory alone
+    /// (`Memory`).
     pub fn new(
         pool: ExprPool<BaseLeaf<F>>,
         roots: Vec<ExprId<BaseLeaf<F>>>,
@@ -56,6 +59,7 @@ impl<F: Field> FlatAir<F> {
         ensures roots { IfOk result (λ a. a.roots ≡ roots) }
         ensures width { IfOk result (λ a. a.width ≡ width) }
         ensures num_public_values { IfOk result (λ a. a.num_public_values ≡ num_public_values) }
+        ensures preprocessed { IfOk result (λ a. a.preprocessed ≡ None) }
         ensures periodic { IfOk result (λ a. a.periodic ≡ periodic) }
         ensures cells { IfOk result (λ a. a.cells ≡ cells) }
         ensures refused { IfErr result (λ e. e ≡ AirError.Memory) }
@@ -66,10 +70,27 @@ impl<F: Field> FlatAir<F> {
             roots,
             width,
             num_public_values,
+            preprocessed: None,
             periodic,
             cells,
             plan,
         })
+    }
+
+    /// The same AIR with this preprocessed table, in place of the one that it had. A column of the table that a constraint
+    /// names is then there. The table's height isn't compared with anything here: where the AIR is audited or checked, a
+    /// table of another height than the trace is refused (`PreprocessedHeight`). It takes no memory.
+    pub fn with_preprocessed(mut self, table: RowMajorMatrix<F>) -> Self
+        ensures pool { result.pool ≡ self.pool }
+        ensures roots { result.roots ≡ self.roots }
+        ensures width { result.width ≡ self.width }
+        ensures num_public_values { result.num_public_values ≡ self.num_public_values }
+        ensures preprocessed { result.preprocessed ≡ Some table }
+        ensures periodic { result.periodic ≡ self.periodic }
+        ensures cells { result.cells ≡ self.cells }
+    {
+        self.preprocessed = Some(table);
+        self
     }
 }
 
@@ -78,7 +99,7 @@ impl<F: Field> BaseAir<F> for FlatAir<F> {
       declared = zero_at_roots a.pool a.roots.items;
       width = a.width;
       num_public_values = a.num_public_values;
-      preprocessed = None;
+      preprocessed = a.preprocessed;
       periodic = a.periodic.items;
       cells = a.cells.items;
     } };
@@ -92,7 +113,7 @@ impl<F: Field> BaseAir<F> for FlatAir<F> {
     }
 
     fn preprocessed_trace(&self) -> Option<&RowMajorMatrix<F>> {
-        None
+        self.preprocessed.as_ref()
     }
 
     fn periodic_columns(&self) -> &[Vec<F>] {

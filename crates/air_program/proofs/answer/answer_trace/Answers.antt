@@ -9,9 +9,9 @@ returns-in_err-findings-clause-refused c =
     let input = c.in-Ok.input in
     let out = c.from_residual in
     let p = err_from_is_err_and out.result out.ensures.1 in
-    rw (p.1, p.2) (refused _ c.args.cap c.args.transition_weight c.args.command c.args.input.now input.public_values.items input.values.items c.in_err-findings.field-0.0 c.in-Ok.ensures.ok (rw (sym c.trace_of-main.ensures.trace, sym c.deref.ensures.value) c.in_err-findings.ensures.refused))
+    rw (p.1, p.2) (refused c.args.cap c.args.transition_weight c.args.command c.args.input.now input.public_values.items input.values.items c.in_err-findings.field-0.0 c.in-Ok.ensures.ok (rw (sym c.trace_of-main.ensures.trace, sym c.deref.ensures.value) c.in_err-findings.ensures.refused))
 
 pub returns-clause-ok : goal.returns-clause-ok
 returns-clause-ok c =
     let input = c.in-Ok.input in
-    answered c.told.result _ c.args.cap c.args.transition_weight c.args.input.now input.public_values.items input.values.items (found c.in_ok-findings.findings) c.in-Ok.ensures.ok (rw (sym c.trace_of-main.ensures.trace, sym c.deref.ensures.value) c.in_ok-findings.ensures.found) c.told.ensures.status c.told.ensures.text
+    answered c.told.result c.args.cap c.args.transition_weight c.args.input.now input.public_values.items input.values.items (found c.in_ok-findings.findings) c.in-Ok.ensures.ok (rw (sym c.trace_of-main.ensures.trace, sym c.deref.ensures.value) c.in_ok-findings.ensures.found) c.told.ensures.status c.told.ensures.text

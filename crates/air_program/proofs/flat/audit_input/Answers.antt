@@ -3,16 +3,18 @@ use Rattle.std.proofs.lemmas.Result.{err_from_is_err_and}
 use Rattle.air_program.proofs.flat.audit_input.Goals as goal
 
 pub returns-clause-refused : goal.returns-clause-refused
-returns-clause-refused c =
+returns-clause-refused g c =
     let made = c.in_ok-air.ensures in
-    rw (made.pool, made.roots, made.width, made.num_public_values, made.periodic, made.cells, c.width.ensures, c.len.ensures, ← c.deref.ensures.len, c.deref.ensures.value) at c.findings_of.ensures.refused
+    let tabled = c.with_table.ensures in
+    rw (tabled.pool, tabled.roots, tabled.width, tabled.num_public_values, tabled.preprocessed, tabled.periodic, tabled.cells, made.pool, made.roots, made.width, made.num_public_values, made.periodic, made.cells, c.width.ensures, c.len.ensures, ← c.deref.ensures.len, c.deref.ensures.value) at c.findings_of.ensures.refused
 
 pub returns-clause-found : goal.returns-clause-found
-returns-clause-found c =
+returns-clause-found g c =
     let made = c.in_ok-air.ensures in
-    rw (made.pool, made.roots, made.width, made.num_public_values, made.periodic, made.cells, c.width.ensures, c.len.ensures, ← c.deref.ensures.len, c.deref.ensures.value) at c.findings_of.ensures.found
+    let tabled = c.with_table.ensures in
+    rw (tabled.pool, tabled.roots, tabled.width, tabled.num_public_values, tabled.preprocessed, tabled.periodic, tabled.cells, made.pool, made.roots, made.width, made.num_public_values, made.periodic, made.cells, c.width.ensures, c.len.ensures, ← c.deref.ensures.len, c.deref.ensures.value) at c.findings_of.ensures.found
 
 pub returns-in_err-air-clause-refused : goal.returns-in_err-air-clause-refused
-returns-in_err-air-clause-refused c =
+returns-in_err-air-clause-refused g c =
     let p = err_from_is_err_and c.from_residual.result c.from_residual.ensures.1 in
     rw (p.1, p.2, c.in_err-air.ensures.refused) (inl tt)

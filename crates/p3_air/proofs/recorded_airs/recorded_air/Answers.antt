@@ -43,3 +43,6 @@ returns-clause-num_public_values g c = c.in_ok-air.ensures.num_public_values
 
 pub returns-clause-declared : goal.returns-clause-declared
 returns-clause-declared g c = ap₂ (λ p r. zero_at_roots p r) (c.in_ok-air.ensures.pool ∙ c.into_base-pool.ensures.base) (ap (λ v. v.items) c.in_ok-air.ensures.roots)
+
+pub returns-clause-preprocessed : goal.returns-clause-preprocessed
+returns-clause-preprocessed g c = c.in_ok-air.ensures.preprocessed

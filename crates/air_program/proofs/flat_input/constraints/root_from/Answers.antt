@@ -3,8 +3,8 @@ use Rattle.air_program.proofs.Trees.{tree_given}
 use Rattle.air_program.proofs.flat_input.constraints.root_from.Goals as goal
 
 pub returns : goal.returns
-returns c = record {
+returns g c = record {
   grown = c.from_flat_value.ensures.grown;
   here = c.from_flat_value.ensures.here;
-  read = tree_given c.from_flat_value.new.pool (view c.args.value.now) c.from_flat_value.result c.from_flat_value.ensures.root c.from_flat_value.ensures.fault;
+  read = tree_given g.F.PrimeField64.residues c.from_flat_value.new.pool (view c.args.value.now) c.from_flat_value.result c.from_flat_value.ensures.root c.from_flat_value.ensures.fault;
 }

@@ -6,8 +6,8 @@ use Rattle.air_program.proofs.Trees.{GrownTo, AllIn}
 use Rattle.air_program.proofs.flat_input.constraints.roots_of.Given as goal
 
 abbrev pub invariant-loop-item : goal.invariant-loop-item
-invariant-loop-item l = record {
+invariant-loop-item g l = record {
   grown : GrownTo l.initial.pool l.pool;
   here : AllIn l.pool l.roots.items;
-  read : each_from tree (map (tree_at l.pool) l.roots.items) (items_view (drop l.item-index l.items)) ≡ each_from tree [] (items_view l.items);
+  read : each_from (tree g.F.PrimeField64.residues) (map (tree_at l.pool) l.roots.items) (items_view (drop l.item-index l.items)) ≡ each_from (tree g.F.PrimeField64.residues) [] (items_view l.items);
 }

@@ -6,4 +6,4 @@ use Rattle.air_program.proofs.flat_input.elements.elements_of.Given as goal
 
 -- what the elements so far and the items that are left give is what all items give
 abbrev pub invariant-loop-item : goal.invariant-loop-item
-invariant-loop-item l = each_from (element_at 0) l.elements.items (items_view (drop l.item-index l.items)) ≡ each_from (element_at 0) [] (items_view l.items)
+invariant-loop-item g l = each_from (element_at g.F.PrimeField64.residues 0) l.elements.items (items_view (drop l.item-index l.items)) ≡ each_from (element_at g.F.PrimeField64.residues 0) [] (items_view l.items)

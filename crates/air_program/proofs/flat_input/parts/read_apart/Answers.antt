@@ -10,36 +10,36 @@ use Rattle.air_program.proofs.TokenLemmas.{member_read, member_refused, key_refu
 use Rattle.air_program.proofs.flat_input.parts.read_apart.Goals as goal
 
 pub members-init : goal.members-init
-members-init c = (
+members-init g c = (
   length c.args.reader.now,
   omega arith,
   no_members,
   refl,
   omega arith,
-  subst (λ es. AreMembersOf no_members (members_view es) c.missing_constraints-constraints.result) (sym c.new-rest.ensures.empty) (none_of_members c.missing_constraints-constraints.result c.missing_constraints-constraints.ensures),
+  subst (λ es. AreMembersOf g.F.PrimeField64.residues no_members (members_view es) c.missing_constraints-constraints.result) (sym c.new-rest.ensures.empty) (none_of_members g.F.PrimeField64.residues c.missing_constraints-constraints.result c.missing_constraints-constraints.ensures),
 )
 
 pub returns-in_err-name-clause-err : goal.returns-in_err-name-clause-err
-returns-in_err-name-clause-err c refused =
+returns-in_err-name-clause-err g c refused =
     let l = c.members in
     l.invariant.3 ∙ key_refused (value c.args.depth) l.invariant.2 l.invariant.0 l.reader c.in_err-name.ensures.value
 
 pub returns-in_err-constraints-clause-err : goal.returns-in_err-constraints-clause-err
-returns-in_err-constraints-clause-err c refused =
+returns-in_err-constraints-clause-err g c refused =
     let l = c.members in
     let s = c.next_key.new.self in
     let named : read_key l.reader ≡ Some (Some c.in-Some.name.now, s) = grind arith in
     l.invariant.3 ∙ member_refused (value c.args.depth) l.invariant.2 l.invariant.0 c.in-Some.name.now l.reader s named (c.read_constraints.ensures.err (grind arith))
 
 pub returns-in_err-member-clause-err : goal.returns-in_err-member-clause-err
-returns-in_err-member-clause-err c refused =
+returns-in_err-member-clause-err g c refused =
     let l = c.members in
     let s = c.next_key.new.self in
     let named : read_key l.reader ≡ Some (Some c.in-Some.name.now, s) = grind arith in
     l.invariant.3 ∙ member_refused (value c.args.depth) l.invariant.2 l.invariant.0 c.in-Some.name.now l.reader s named (c.read.ensures.err (grind arith))
 
 pub members-preserved : goal.members-preserved
-members-preserved c =
+members-preserved g c =
     let p = value c.args.depth in
     let l = c.members in
     let n = l.invariant.0 in
@@ -61,11 +61,11 @@ members-preserved c =
       put k (view v) old,
       l.invariant.3 ∙ member_read p old n k l.reader s r (view v) (omega (arith, l.invariant.1)) named done.ok,
       omega (arith, l.invariant.4),
-      subst (λ ms. AreMembersOf (put k (view v) old) ms l.constraints) (sym inserted) (puts_other old (members_view l.rest.entries) l.constraints k (view v) other l.invariant.5),
+      subst (λ ms. AreMembersOf g.F.PrimeField64.residues (put k (view v) old) ms l.constraints) (sym inserted) (puts_other g.F.PrimeField64.residues old (members_view l.rest.entries) l.constraints k (view v) other l.invariant.5),
     )
 
 pub members-preserved-then-eq : goal.members-preserved-then-eq
-members-preserved-then-eq c =
+members-preserved-then-eq g c =
     let p = value c.args.depth in
     let l = c.members in
     let n = l.invariant.0 in
@@ -84,12 +84,12 @@ members-preserved-then-eq c =
       put k read.0 old,
       l.invariant.3 ∙ member_read p old n k l.reader s r read.0 (omega (arith, l.invariant.1)) named read.1,
       omega (arith, l.invariant.4),
-      subst (λ name. AreMembersOf (put name read.0 old) (members_view l.rest.entries) c.in_ok-constraints.constraints) (sym apart)
-          (puts_apart old (members_view l.rest.entries) l.constraints c.in_ok-constraints.constraints read.0 l.invariant.5 read.2),
+      subst (λ name. AreMembersOf g.F.PrimeField64.residues (put name read.0 old) (members_view l.rest.entries) c.in_ok-constraints.constraints) (sym apart)
+          (puts_apart g.F.PrimeField64.residues old (members_view l.rest.entries) l.constraints c.in_ok-constraints.constraints read.0 l.invariant.5 read.2),
     )
 
 pub returns-clause-ok : goal.returns-clause-ok
-returns-clause-ok c =
+returns-clause-ok g c =
     let l = c.members in (
       l.invariant.2,
       l.invariant.3 ∙ members_over (value c.args.depth) l.invariant.2 l.invariant.0 l.reader c.next_key.new.self l.invariant.1 (grind arith),

@@ -7,12 +7,12 @@ use Rattle.air_program.specs.Parts.{AreMembersOf}
 use Rattle.air_program.proofs.flat_input.parts.read_apart.Given as goal
 
 abbrev pub decreases-members : goal.decreases-members
-decreases-members l = length l.reader
+decreases-members g l = length l.reader
 
 -- the members that are read, and those that are left, are all
 abbrev pub invariant-members : goal.invariant-members
-invariant-members l =
+invariant-members g l =
     (n : ℕ) × (length l.reader ≤ n) × (ms : Members)
-    × (converted (λ xs. of_members xs no_members) (members (value l.depth) (length l.initial.reader) l.initial.reader) ≡ converted (λ xs. of_members xs ms) (members (value l.depth) n l.reader))
+    × (converted (λ xs. of_members xs no_members) (members g.F.PrimeField64.residues (value l.depth) (length l.initial.reader) l.initial.reader) ≡ converted (λ xs. of_members xs ms) (members g.F.PrimeField64.residues (value l.depth) n l.reader))
     × (length l.reader ≤ length l.initial.reader)
-    × AreMembersOf ms (members_view l.rest.entries) l.constraints
+    × AreMembersOf g.F.PrimeField64.residues ms (members_view l.rest.entries) l.constraints

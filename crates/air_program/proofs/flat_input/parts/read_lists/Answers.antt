@@ -9,12 +9,12 @@ use Rattle.air_program.proofs.flat_input.parts.read_lists.Goals as goal
 
 pub items-init : goal.items-init
 unfolding each_from
-items-init c =
+items-init g c =
     let all = converted of_items (items (value c.args.depth) (length c.args.reader.now) c.args.reader.now) in
     (length c.args.reader.now, omega arith, [], none_before all, omega arith, c.no_constraints-constraints.ensures)
 
 pub returns-in_err-item-clause-err : goal.returns-in_err-item-clause-err
-returns-in_err-item-clause-err c refused =
+returns-in_err-item-clause-err g c refused =
     let p = value c.args.depth in
     let l = c.items in
     let n = l.invariant.0 in
@@ -22,39 +22,39 @@ returns-in_err-item-clause-err c refused =
     l.invariant.3 ∙ ap (parse_map (data_before l.invariant.2)) (item_refused p n l.reader going.0 (rw (← going.1) (c.read.ensures.err (grind arith))))
 
 pub items-preserved : goal.items-preserved
-items-preserved c =
+items-preserved g c =
     let p = value c.args.depth in
     let l = c.items in
     let going : (after_end_array l.reader ≡ None) × (c.take_end_array.new.self ≡ l.reader) = grind arith in
     let done = c.in_ok-item.ensures in
-    one_list_more p _ (length c.args.reader.now) l.invariant.0 l.reader c.read.new.reader l.invariant.2 (view c.in_ok-item.item) l.constraints c.with_list-constraints.result l.invariant.1 l.invariant.3 l.invariant.4 l.invariant.5 going.0 (rw (← going.1) done.ok) (rw (← going.1) done.shorter) c.with_list-constraints.ensures
+    one_list_more g.F.PrimeField64.residues p _ (length c.args.reader.now) l.invariant.0 l.reader c.read.new.reader l.invariant.2 (view c.in_ok-item.item) l.constraints c.with_list-constraints.result l.invariant.1 l.invariant.3 l.invariant.4 l.invariant.5 going.0 (rw (← going.1) done.ok) (rw (← going.1) done.shorter) c.with_list-constraints.ensures
 
 pub items-preserved-in_ok-item : goal.items-preserved-in_ok-item
-items-preserved-in_ok-item c =
+items-preserved-in_ok-item g c =
     let p = value c.args.depth in
     let l = c.items in
     let going : (after_end_array l.reader ≡ None) × (c.take_end_array.new.self ≡ l.reader) = grind arith in
     let done = c.in_ok-item.ensures in
-    one_list_more p _ (length c.args.reader.now) l.invariant.0 l.reader c.read.new.reader l.invariant.2 (view c.in_ok-item.item) l.constraints c.with_list-constraints.result l.invariant.1 l.invariant.3 l.invariant.4 l.invariant.5 going.0 (rw (← going.1) done.ok) (rw (← going.1) done.shorter) c.with_list-constraints.ensures
+    one_list_more g.F.PrimeField64.residues p _ (length c.args.reader.now) l.invariant.0 l.reader c.read.new.reader l.invariant.2 (view c.in_ok-item.item) l.constraints c.with_list-constraints.result l.invariant.1 l.invariant.3 l.invariant.4 l.invariant.5 going.0 (rw (← going.1) done.ok) (rw (← going.1) done.shorter) c.with_list-constraints.ensures
 
 pub items-preserved-in_ok-item-2 : goal.items-preserved-in_ok-item-2
-items-preserved-in_ok-item-2 c =
+items-preserved-in_ok-item-2 g c =
     let p = value c.args.depth in
     let l = c.items in
     let going : (after_end_array l.reader ≡ None) × (c.take_end_array.new.self ≡ l.reader) = grind arith in
     let done = c.in_ok-item.ensures in
-    one_list_more p _ (length c.args.reader.now) l.invariant.0 l.reader c.read.new.reader l.invariant.2 (view c.in_ok-item.item) l.constraints c.with_list-constraints.result l.invariant.1 l.invariant.3 l.invariant.4 l.invariant.5 going.0 (rw (← going.1) done.ok) (rw (← going.1) done.shorter) c.with_list-constraints.ensures
+    one_list_more g.F.PrimeField64.residues p _ (length c.args.reader.now) l.invariant.0 l.reader c.read.new.reader l.invariant.2 (view c.in_ok-item.item) l.constraints c.with_list-constraints.result l.invariant.1 l.invariant.3 l.invariant.4 l.invariant.5 going.0 (rw (← going.1) done.ok) (rw (← going.1) done.shorter) c.with_list-constraints.ensures
 
 pub items-preserved-in_ok-item-3 : goal.items-preserved-in_ok-item-3
-items-preserved-in_ok-item-3 c =
+items-preserved-in_ok-item-3 g c =
     let p = value c.args.depth in
     let l = c.items in
     let going : (after_end_array l.reader ≡ None) × (c.take_end_array.new.self ≡ l.reader) = grind arith in
     let done = c.in_ok-item.ensures in
-    one_list_more p _ (length c.args.reader.now) l.invariant.0 l.reader c.read.new.reader l.invariant.2 (view c.in_ok-item.item) l.constraints c.with_list-constraints.result l.invariant.1 l.invariant.3 l.invariant.4 l.invariant.5 going.0 (rw (← going.1) done.ok) (rw (← going.1) done.shorter) c.with_list-constraints.ensures
+    one_list_more g.F.PrimeField64.residues p _ (length c.args.reader.now) l.invariant.0 l.reader c.read.new.reader l.invariant.2 (view c.in_ok-item.item) l.constraints c.with_list-constraints.result l.invariant.1 l.invariant.3 l.invariant.4 l.invariant.5 going.0 (rw (← going.1) done.ok) (rw (← going.1) done.shorter) c.with_list-constraints.ensures
 
 pub returns-clause-ok : goal.returns-clause-ok
-returns-clause-ok c =
+returns-clause-ok g c =
     let p = value c.args.depth in
     let l = c.items in
     let r = c.take_end_array.new.self in (

@@ -9,12 +9,12 @@ use Rattle.air_program.proofs.TokenLemmas.{data_before}
 use Rattle.air_program.proofs.flat_input.parts.read_lists.Given as goal
 
 abbrev pub decreases-items : goal.decreases-items
-decreases-items l = length l.reader
+decreases-items g l = length l.reader
 
 -- the lists that are read, and those that are left, are all
 abbrev pub invariant-items : goal.invariant-items
-invariant-items l =
+invariant-items g l =
     (n : ℕ) × (length l.reader ≤ n) × (ds : List Data)
     × (converted of_items (items (value l.depth) (length l.initial.reader) l.initial.reader) ≡ parse_map (data_before ds) (converted of_items (items (value l.depth) n l.reader)))
     × (length l.reader ≤ length l.initial.reader)
-    × AreGiven (each_from tree [] (items_of ds)) l.constraints
+    × AreGiven (each_from (tree g.F.PrimeField64.residues) [] (items_of ds)) l.constraints
