@@ -68,8 +68,11 @@ fn show_over<F: PrimeField64>(alloc: Global, bytes: &[u8]) -> Result<(u8, String
         ⊎ (((why ≡ Refusal.Json) × HasNoValue bytes.now) ⊎ ((d : Data) × StandsFor bytes.now d
         × ShownIn F F.ORDER_U64 F.residues d 2 (refusal_text (name_of why))))) }
 {
-    let parts: Parts<F> = parts_from(alloc, bytes)?;
-    show_constraints(alloc, parts.constraints)
+    let Parts {
+        rest: _,
+        constraints,
+    } = parts_from::<F>(alloc, bytes)?;
+    show_constraints(alloc, constraints)
 }
 
 /// The status and the text that answer `show`: of the object the members `field` and `constraints` are read alone. It is
@@ -78,9 +81,9 @@ pub fn answer_show(alloc: Global, bytes: &[u8]) -> Result<(u8, String), Refusal>
     ensures ok { IfOk result (λ p. IsShowAnswer bytes.now p.0 (string_bytes p.1)) }
     ensures refused { IfErr result (MayRefuse Request.Show bytes.now) }
 {
-    let parts: Parts<BabyBear> = parts_from(alloc, bytes)?;
-    match field_of(&parts.rest) {
-        Some(FieldName::BabyBear) => show_constraints(alloc, parts.constraints),
+    let Parts { rest, constraints } = parts_from::<BabyBear>(alloc, bytes)?;
+    match field_of(&rest) {
+        Some(FieldName::BabyBear) => show_constraints(alloc, constraints),
         Some(FieldName::KoalaBear) => show_over::<KoalaBear>(alloc, bytes),
         Some(FieldName::Mersenne31) => show_over::<Mersenne31>(alloc, bytes),
         Some(FieldName::Goldilocks) => show_over::<Goldilocks>(alloc, bytes),
