@@ -40,16 +40,13 @@ module _ {F : Type 0} {order : ℕ} (modular : Modular F order) where
   one_member_fault : (d : Data) (f g : FlatError) → (members modular).fault d f → (members modular).fault d g → f ≡ g
   one_member_fault d f g h k = err_is f g (sym ((members_agree modular).refused d f h) ∙ (members_agree modular).refused d g k)
 
+  no_matrix_fault : (d : Data) (v : MemberValues F) (f : MatrixError) (input : FlatInput F) → SpellsInput modular d input → (members modular).spells d v → HasMatrixFault v f → ⊥
+  no_matrix_fault d v f input s h (inl k) = absurd (cc (sym s.main ∙ sym (ap (λ (u : MemberValues F). matrix_of u.0 u.1.0) (one_value d v _ h s.members)) ∙ k))
+  no_matrix_fault d v f input s h (inr k) = absurd (cc (sym s.preprocessed ∙ sym (ap (λ (u : MemberValues F). table_of u.1.1.0) (one_value d v _ h s.members)) ∙ k.2))
+
   pub no_fault : (d : Data) (input : FlatInput F) (e : AirError) → SpellsInput modular d input → HasInputFault modular d e → ⊥
   no_fault d input e s (inl h) = not_both d _ h.0 s.members h.1
-  no_fault d input e s (inr h) = no_matrix_fault h.3
-    where
-      same : h.0 ≡ _
-      same = one_value d h.0 _ h.1 s.members
-
-      no_matrix_fault : HasMatrixFault h.0 h.2 → ⊥
-      no_matrix_fault (inl k) = absurd (cc (sym s.main ∙ sym (ap (λ (v : MemberValues F). matrix_of v.0 v.1.0) same) ∙ k))
-      no_matrix_fault (inr k) = absurd (cc (sym s.preprocessed ∙ sym (ap (λ (v : MemberValues F). table_of v.1.1.0) same) ∙ k.2))
+  no_fault d input e s (inr h) = no_matrix_fault d h.0 h.2 input s h.1 h.3
 
   one_matrix_fault : (v : MemberValues F) (f g : MatrixError) → HasMatrixFault v f → HasMatrixFault v g → f ≡ g
   one_matrix_fault m f g (inl h) (inl k) = cc (sym h ∙ k)

@@ -31,6 +31,13 @@ pub err_so : {X E : Type 0} (r : Result X E) (P Q : E → Type 0) → ((e : E) �
 err_so (Ok x) P Q f h = tt
 err_so (Err e) P Q f h = f e h
 
+-- what is seen of what a call gave is what is given
+pub gives_ok : {X Y : Type 0} (see : X → Y) (r : Result X FlatError) (x : X) (given : Result Y FlatError) → r ≡ Ok x → Gives see r given → given ≡ Ok (see x)
+gives_ok see r x given is h = subst (λ q. Gives see q given) is h
+
+pub gives_err : {X Y : Type 0} (see : X → Y) (r : Result X FlatError) (f : FlatError) (given : Result Y FlatError) → r ≡ Err f → Gives see r given → Fails f given
+gives_err see r f given is h = subst (λ q. Gives see q given) is h
+
 pub each_from_push : {X : Type 0} (read : Reader X) (done : List X) (ds : List Data) (d : Data)
     → each_from read done (items_of (ds ++ d ∷ [])) ≡ (each_from read done (items_of ds) >>= λ before. read d >>= λ x. Ok (before ++ x ∷ []))
 unfolding each_from

@@ -120,11 +120,16 @@ pub(crate) fn with_list<F: PrimeField64>(
         → AreGiven (one_more F.residues given (view value.now)) result }
 {
     let Constraints { mut pool, roots } = constraints;
-    let roots = match roots {
-        Ok(roots) => roots_with(alloc, &mut pool, roots, value),
-        Err(fault) => Err(fault),
-    };
-    Constraints { pool, roots }
+    match roots {
+        Ok(roots) => {
+            let roots = roots_with(alloc, &mut pool, roots, value);
+            Constraints { pool, roots }
+        }
+        Err(fault) => Constraints {
+            pool,
+            roots: Err(fault),
+        },
+    }
 }
 
 /// The constraints of the lists that the value lists.
