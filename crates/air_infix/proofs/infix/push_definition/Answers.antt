@@ -1,7 +1,7 @@
-use Rattle.std.proofs.Common.{◌≡◌, ℕ, ◌++◌, [], length, get_or, None, string_bytes, append-nil, sym, ap, ap₂, ◌∙◌}
+use Rattle.std.proofs.Common.{◌≡◌, ℕ, ◌++◌, [], get_or, None, string_bytes, append-nil, sym, ap, ap₂, ◌∙◌}
 use Rattle.std.proofs.lemmas.Result.{on_ok_weaker}
 use Rattle.air_infix.specs.Infix.{shown, shown_at, shown_node, text_of}
-use Rattle.air_infix.specs.Pieces.{rest_text, node_front, node_rest}
+use Rattle.air_infix.specs.Pieces.{rest_text, node_rest}
 use Rattle.air_infix.specs.declared.binding.Binding.TheVariants.{Loose}
 use Rattle.air_infix.proofs.PieceLemmas.{left-text}
 use Rattle.air_infix.proofs.ShownLemmas.{shown_at-node}
@@ -17,7 +17,7 @@ returns g c =
     let old = string_bytes c.args.text.now in
     let node : shown_at named ns c.args.id ≡ shown_node f n = shown_at-node named _ ns c.requires.pool.nodes c.args.id n c.requires.here c.node.ensures in
     let rest : c.leave_node.new.rest.items ≡ [] ++ node_rest Loose n =
-        c.in_ok-leave_node.ensures.rest ∙ ap (λ xs. xs ++ node_rest Loose n) c.new-rest.ensures.items in
+    c.in_ok-leave_node.ensures.rest ∙ ap (λ xs. xs ++ node_rest Loose n) c.new-rest.ensures.items in
     on_ok_weaker c.write_rest.result
     (λ h. h
     ∙ ap₂ (λ t r. t ++ rest_text m f r) c.in_ok-leave_node.ensures.front rest

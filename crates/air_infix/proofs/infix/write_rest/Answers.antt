@@ -1,4 +1,4 @@
-use Rattle.std.proofs.Common.{◌≡◌, ℕ, ◌+◌, ◌<◌, ◌++◌, length, get_or, Some, None, All, string_bytes, sym, ap, subst, ◌∙◌}
+use Rattle.std.proofs.Common.{◌≡◌, ℕ, ◌+◌, ◌<◌, ◌++◌, length, get_or, Some, None, string_bytes, sym, ap, subst, ◌∙◌}
 use Rattle.std.proofs.lemmas.List.Elements.{All-pop}
 use Rattle.air_infix.specs.Infix.{shown}
 use Rattle.air_infix.specs.Pieces.{piece_text, rest_text, IsPieceBelow, piece_size, rest_size}
@@ -10,7 +10,7 @@ loop-piece-smaller g c =
     let f = shown (λ (i : ℕ). get_or c.args.names.now.1 i None) c.args.pool.now.1 in
     let popped = c.pop.new.self.items in
     let size : rest_size f c.loop-piece.rest.items ≡ rest_size f popped + piece_size f c.in-Some.piece =
-        ap (rest_size f) c.in-Some.ensures.items ∙ rest_size-push f popped c.in-Some.piece in
+    ap (rest_size f) c.in-Some.ensures.items ∙ rest_size-push f popped c.in-Some.piece in
     subst (λ k. rest_size f c.write_piece.new.rest.items < k) (sym size) c.in_ok-write_piece.ensures.size
 
 pub loop-piece-preserved : goal.loop-piece-preserved
@@ -19,7 +19,7 @@ loop-piece-preserved g c =
     let f = shown (λ (i : ℕ). get_or c.args.names.now.1 i None) c.args.pool.now.1 in
     let popped = c.pop.new.self.items in
     let next : rest_text m f c.loop-piece.rest.items ≡ piece_text m f c.in-Some.piece ++ rest_text m f popped =
-        ap (rest_text m f) c.in-Some.ensures.items ∙ rest_text-push m f popped c.in-Some.piece in
+    ap (rest_text m f) c.in-Some.ensures.items ∙ rest_text-push m f popped c.in-Some.piece in
     record {
       text = c.in_ok-write_piece.ensures.text
           ∙ ap (λ t. string_bytes c.loop-piece.text ++ t) (sym next)

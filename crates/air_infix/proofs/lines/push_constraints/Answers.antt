@@ -1,9 +1,9 @@
-use Rattle.std.proofs.Common.{◌≡◌, ℕ, ◌++◌, List, get_or, None, codes, decimal, string_bytes, sym, ap, subst, ◌∙◌}
+use Rattle.std.proofs.Common.{◌≡◌, ◌++◌, get_or, None, codes, decimal, string_bytes, ap, ◌∙◌}
 use Rattle.air_field.specs.Degree.{degree_by, cached_weight}
 use Rattle.air_symbolic.specs.BaseLeaves.{base_reads}
 use Rattle.air_symbolic.specs.Pools.{term_at}
 use Rattle.air_infix.specs.Infix.{shown, text_of}
-use Rattle.air_infix.specs.Lines.{lines_text, numbered, constraint_line}
+use Rattle.air_infix.specs.Lines.{constraint_line}
 use Rattle.air_infix.specs.declared.binding.Binding.TheVariants.{Loose}
 use Rattle.air_infix.proofs.LineLemmas.{line-more, line-all, constraint-pieces}
 use Rattle.air_infix.proofs.lines.push_constraints.Goals as goal
@@ -18,10 +18,10 @@ loop-place-preserved g c =
     let text = text_of m Loose (shown (λ i. get_or c.args.names.now.1 i None) c.args.pool.now.1 root) in
     let degree = degree_by cached_weight (term_at base_reads c.args.pool.now root) in
     let written : string_bytes c.push_str.new.self ≡ old ++ (line k root ++ codes "\n") =
-        c.in_ok-push_str.ensures.bytes
-        ∙ ap (λ t. t ++ codes "\n") (c.in_ok-push_infix.ensures ∙ ap (λ t. t ++ text) (c.in_ok-write.ensures.bytes
-        ∙ ap (λ d. old ++ (codes "#" ++ (decimal k ++ (codes " degree " ++ (decimal d ++ codes ": "))))) c.degree_multiple-degree.ensures))
-        ∙ constraint-pieces old (codes "#") (decimal k) (codes " degree ") (decimal degree) (codes ": ") text (codes "\n") in
+    c.in_ok-push_str.ensures.bytes
+    ∙ ap (λ t. t ++ codes "\n") (c.in_ok-push_infix.ensures ∙ ap (λ t. t ++ text) (c.in_ok-write.ensures.bytes
+    ∙ ap (λ d. old ++ (codes "#" ++ (decimal k ++ (codes " degree " ++ (decimal d ++ codes ": "))))) c.degree_multiple-degree.ensures))
+    ∙ constraint-pieces old (codes "#") (decimal k) (codes " degree ") (decimal degree) (codes ": ") text (codes "\n") in
     line-more line c.args.roots.now k root old (string_bytes c.push_str.new.self) _ c.loop-place-test.true c.index-roots-place.is c.loop-place.invariant written
 
 pub returns : goal.returns

@@ -1,4 +1,4 @@
-use Rattle.std.proofs.Common.{◌≡◌, ℕ, ◌++◌, List, get_or, None, codes, decimal, string_bytes, sym, ap, subst, ◌∙◌}
+use Rattle.std.proofs.Common.{◌≡◌, ◌++◌, get_or, None, codes, decimal, string_bytes, ap, ◌∙◌}
 use Rattle.air_infix.specs.Infix.{shown_at, text_of}
 use Rattle.air_infix.specs.Lines.{lines_text, numbered, definition_line}
 use Rattle.air_infix.specs.declared.binding.Binding.TheVariants.{Loose}
@@ -13,9 +13,9 @@ loop-name-preserved g c =
     let old = string_bytes c.loop-name.text in
     let text = text_of m Loose (shown_at (λ i. get_or c.args.names.now.1 i None) c.args.pool.now.1 c.id-item.result) in
     let written : string_bytes c.push_str.new.self ≡ old ++ (line k c.id-item.result ++ codes "\n") =
-        c.in_ok-push_str.ensures.bytes
-        ∙ ap (λ t. t ++ codes "\n") (c.in_ok-push_definition.ensures ∙ ap (λ t. t ++ text) c.in_ok-write.ensures.bytes)
-        ∙ definition-pieces old (codes "%") (decimal k) (codes " = ") text (codes "\n") in
+    c.in_ok-push_str.ensures.bytes
+    ∙ ap (λ t. t ++ codes "\n") (c.in_ok-push_definition.ensures ∙ ap (λ t. t ++ text) c.in_ok-write.ensures.bytes)
+    ∙ definition-pieces old (codes "%") (decimal k) (codes " = ") text (codes "\n") in
     line-more line c.named-id-items.result.now k c.id-item.result old (string_bytes c.push_str.new.self) _ c.loop-name-test.true c.id-item.is c.loop-name.invariant written
 
 pub returns : goal.returns

@@ -14,13 +14,13 @@ returns g c =
     let marks = c.deref-2.result.now in
     let counts = c.deref-3.result.now in
     let reach : Reached l ns roots marks =
-        subst (λ (ms : List (Option ℕ)). Reached l ns roots ms) (sym c.deref-2.ensures.value) c.in-Ok.ensures.marked in
+    subst (λ (ms : List (Option ℕ)). Reached l ns roots ms) (sym c.deref-2.ensures.value) c.in-Ok.ensures.marked in
     let places : length counts ≡ length ns =
-        subst (λ (cs : List Places). length cs ≡ length ns) (sym c.deref-3.ensures.value) c.in_ok-counts.ensures.places in
+    subst (λ (cs : List Places). length cs ≡ length ns) (sym c.deref-3.ensures.value) c.in_ok-counts.ensures.places in
     let first : AreCounted (places_of ns roots marks) c.in_ok-counts.counts.items =
-        subst (λ (ms : List (Option ℕ)). AreCounted (places_of ns roots ms) c.in_ok-counts.counts.items) (c.deref.ensures.value ∙ sym c.deref-2.ensures.value) c.in_ok-counts.ensures.counted in
+    subst (λ (ms : List (Option ℕ)). AreCounted (places_of ns roots ms) c.in_ok-counts.counts.items) (c.deref.ensures.value ∙ sym c.deref-2.ensures.value) c.in_ok-counts.ensures.counted in
     let counted : AreCounted (places_of ns roots marks) counts =
-        subst (λ (cs : List Places). AreCounted (places_of ns roots marks) cs) (sym c.deref-3.ensures.value) first in
+    subst (λ (cs : List Places). AreCounted (places_of ns roots marks) cs) (sym c.deref-3.ensures.value) first in
     let same = passes-is ns marks counts roots reach.places places counted in
     if_both _ _ _ c.give_names.result
     (λ n p q. record {
