@@ -1,22 +1,25 @@
-//! Writes an AIR over BabyBear, as p3-air records it, and its trace as the JSON object that `air_check flat` reads.
+//! Writes an AIR, as p3-air records it, and its trace as the JSON object that `air_check flat` reads. The AIR is over
+//! BabyBear or, by a feature, over KoalaBear, Mersenne31 or Goldilocks.
 //!
 //! This crate is no part of what is proved: that an object says what the AIR says is tried on examples alone.
 #![forbid(unsafe_code)]
 
 mod error;
 mod expressions;
+mod fields;
 mod numbers;
 
 pub use error::ExportError;
+pub use fields::AuditedField;
 
 use expressions::list_of;
-use numbers::{number, numbers};
+use numbers::numbers;
 use p3_air::symbolic::{
     AirLayout, SymbolicAirBuilder, SymbolicExpression, get_all_symbolic_constraints,
 };
 use p3_air::{Air, BaseAir, BoundaryEnd, BoundaryPublic};
 use p3_baby_bear::BabyBear;
-use p3_field::ExtensionField;
+use p3_field::{ExtensionField, PrimeCharacteristicRing};
 use p3_matrix::Matrix;
 use p3_matrix::dense::RowMajorMatrix;
 use serde_json::{Map, Value, json};
@@ -36,44 +39,69 @@ pub struct Options {
 }
 
 /// Writes the object for an AIR without constraints over an extension: its constraints, recorded by its own layout,
-/// its periodic columns and boundary cells, and this trace with these public values.
+/// its preprocessed table, periodic columns and boundary cells, and this trace with these public values.
 ///
-/// The trace is written as it is: where it doesn't fit the AIR, `air_check` says so. Panics where p3-air does, which is
-/// where the AIR reads what its layout lacks.
+/// The trace and the table are written as they are: where they don't fit the AIR or each other, `air_check` says so.
+/// Panics where p3-air does, which is where the AIR reads what its layout lacks.
 ///
 /// # Errors
 ///
-/// `ExtensionConstraints` if the AIR asserts over an extension, `PreprocessedTable` if it has a preprocessed table.
-pub fn export<A>(
+/// `PreprocessedWidth` if the AIR's `preprocessed_width()` isn't the width of its table, or 0 where it has none: p3-air
+/// doesn't compare them, and by another width it records other constraints than hold of the table.
+/// `ExtensionConstraints` if the AIR asserts over an extension.
+pub fn export<F, A>(
     air: &A,
-    trace: &RowMajorMatrix<BabyBear>,
-    public_values: &[BabyBear],
+    trace: &RowMajorMatrix<F>,
+    public_values: &[F],
 ) -> Result<Value, ExportError>
 where
-    A: Air<SymbolicAirBuilder<BabyBear>>,
+    F: AuditedField,
+    A: Air<SymbolicAirBuilder<F>>,
 {
-    export_with::<BabyBear, A>(air, trace, public_values, &Options::default())
+    object_of::<F, F, A>(air, trace, public_values, &Options::default())
 }
 
-/// Does what `export` does, with options, for an AIR that is recorded with extension `EF`.
+/// Does what `export` does, with options, for an AIR that is recorded with extension `EF` (the field itself, where it
+/// has none). The AIR's field is the prime field below `EF`.
 ///
 /// # Errors
 ///
-/// As `export`; `ExtensionConstraints` doesn't come where those constraints are left out.
+/// As `export`, with these differences: the table's width is compared with the width in the layout, where the options
+/// have one; and `ExtensionConstraints` doesn't come where those constraints are left out.
 pub fn export_with<EF, A>(
     air: &A,
-    trace: &RowMajorMatrix<BabyBear>,
-    public_values: &[BabyBear],
+    trace: &RowMajorMatrix<EF::PrimeSubfield>,
+    public_values: &[EF::PrimeSubfield],
     options: &Options,
 ) -> Result<Value, ExportError>
 where
-    EF: ExtensionField<BabyBear>,
-    A: Air<SymbolicAirBuilder<BabyBear, EF>>,
+    EF: PrimeCharacteristicRing + ExtensionField<<EF as PrimeCharacteristicRing>::PrimeSubfield>,
+    EF::PrimeSubfield: AuditedField,
+    A: Air<SymbolicAirBuilder<EF::PrimeSubfield, EF>>,
 {
-    refuse_preprocessed(air)?;
-    let constraints = constraints_of::<EF, A>(air, options)?;
+    object_of::<EF::PrimeSubfield, EF, A>(air, trace, public_values, options)
+}
+
+/// The object for an AIR over `F` that is recorded with extension `EF`.
+fn object_of<F, EF, A>(
+    air: &A,
+    trace: &RowMajorMatrix<F>,
+    public_values: &[F],
+    options: &Options,
+) -> Result<Value, ExportError>
+where
+    F: AuditedField,
+    EF: ExtensionField<F>,
+    A: Air<SymbolicAirBuilder<F, EF>>,
+{
+    let table = air.preprocessed_trace();
+    let constraints = constraints_of::<F, EF, A>(air, table.as_ref(), options)?;
     let mut object = Map::new();
+    insert_field::<F>(&mut object);
     insert_matrix(&mut object, "main_width", "main", trace);
+    if let Some(table) = &table {
+        insert_matrix(&mut object, "preprocessed_width", "preprocessed", table);
+    }
     insert(&mut object, "public_values", numbers(public_values));
     insert(
         &mut object,
@@ -90,36 +118,44 @@ where
     Ok(Value::Object(object))
 }
 
-/// Refuses an AIR with a preprocessed table: the object has no members for one.
-fn refuse_preprocessed<A: BaseAir<BabyBear>>(air: &A) -> Result<(), ExportError> {
-    let width = air.preprocessed_trace().map_or(0, |table| table.width());
-    if air.preprocessed_width() > 0 || width > 0 {
-        return Err(ExportError::PreprocessedTable);
-    }
-    Ok(())
-}
-
-/// The recorded constraints over the base field.
-fn constraints_of<EF, A>(
+/// The recorded constraints over the base field of an AIR with this table.
+fn constraints_of<F, EF, A>(
     air: &A,
+    table: Option<&RowMajorMatrix<F>>,
     options: &Options,
-) -> Result<Vec<SymbolicExpression<BabyBear>>, ExportError>
+) -> Result<Vec<SymbolicExpression<F>>, ExportError>
 where
-    EF: ExtensionField<BabyBear>,
-    A: Air<SymbolicAirBuilder<BabyBear, EF>>,
+    F: AuditedField,
+    EF: ExtensionField<F>,
+    A: Air<SymbolicAirBuilder<F, EF>>,
 {
     let layout = options
         .layout
-        .unwrap_or_else(|| AirLayout::from_air::<BabyBear>(air));
-    let (base, extension) = get_all_symbolic_constraints::<BabyBear, EF, A>(air, layout);
+        .unwrap_or_else(|| AirLayout::from_air::<F>(air));
+    compare_widths(layout.preprocessed_width, table)?;
+    let (base, extension) = get_all_symbolic_constraints::<F, EF, A>(air, layout);
     if !extension.is_empty() && !options.leave_out_extension {
         return Err(ExportError::ExtensionConstraints(extension.len()));
     }
     Ok(base)
 }
 
+/// Refuses another width than the table's. The width says which columns the AIR sees while it is recorded, and the
+/// table which it sees while it is checked: an AIR that goes through the columns that it sees would have other
+/// constraints in the object than on its rows, and nothing would say so.
+fn compare_widths<F: AuditedField>(
+    recorded: usize,
+    table: Option<&RowMajorMatrix<F>>,
+) -> Result<(), ExportError> {
+    let table = table.map_or(0, |table| table.width());
+    if recorded != table {
+        return Err(ExportError::PreprocessedWidth { recorded, table });
+    }
+    Ok(())
+}
+
 /// The values of each periodic column.
-fn periodic_columns<A: BaseAir<BabyBear>>(air: &A) -> Value {
+fn periodic_columns<F: AuditedField, A: BaseAir<F>>(air: &A) -> Value {
     air.periodic_columns()
         .iter()
         .map(|column| numbers(column))
@@ -135,19 +171,22 @@ fn cell(cell: &BoundaryPublic) -> Value {
     json!({"column": cell.column, "end": end, "public_value": cell.public_value})
 }
 
+/// Adds the field's name, where it isn't what its absence means.
+fn insert_field<F: AuditedField>(object: &mut Map<String, Value>) {
+    if F::NAME != <BabyBear as AuditedField>::NAME {
+        insert(object, "field", json!(F::NAME));
+    }
+}
+
 /// Adds a matrix, row after row, and its width.
-fn insert_matrix(
+fn insert_matrix<F: AuditedField>(
     object: &mut Map<String, Value>,
     width: &str,
     values: &str,
-    matrix: &RowMajorMatrix<BabyBear>,
+    matrix: &RowMajorMatrix<F>,
 ) {
     insert(object, width, json!(matrix.width()));
-    insert(
-        object,
-        values,
-        matrix.values.iter().copied().map(number).collect(),
-    );
+    insert(object, values, numbers(&matrix.values));
 }
 
 /// Adds the cap and the weight, where they aren't what their absence means.

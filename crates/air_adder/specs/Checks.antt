@@ -1,10 +1,7 @@
 -- What a checked trace says.
 use Rattle.std.specs.Prelude.{ℕ, ◌<◌, [], length}
 use Rattle.p3_air.specs.Author.{CommRing, word_at}
-use Rattle.air_field.specs.Assignment.{row_assignment}
-use Rattle.air_field.specs.Grid.{Grid}
-use Rattle.air_report.specs.Report.{plain_trace}
-use Rattle.air_laws.specs.Numbers.{AddsUp}
+use Rattle.p3_air.specs.Claims.{row_assignment, Grid, plain_trace, AddsUp}
 
 -- at each row the first word is the sum of the others modulo 2^32
 abbrev pub RowsAddUp : {F : Type 0} → CommRing F → Grid F → Type 0

@@ -184,10 +184,7 @@ module _ {F : Type 0} {order : ℕ} (modular : Modular F order) where
 
     table_same : table_member modular d ≡ table_member modular rest
     unfolding table_member
-    table_same =
-        let wide = λ (e : length (codes "preprocessed_width") ≡ 11). absurd cc in
-        let long = λ (e : length (codes "preprocessed") ≡ 11). absurd cc in
-        rw (same (codes "preprocessed_width") wide, same (codes "preprocessed") long, width_same (codes "preprocessed_width") wide, elements_same (codes "preprocessed") long) refl
+    table_same = rw (same (codes "preprocessed_width") (λ e. absurd cc), same (codes "preprocessed") (λ e. absurd cc), width_same (codes "preprocessed_width") (λ e. absurd cc), elements_same (codes "preprocessed") (λ e. absurd cc)) refl
 
     periodic_same : periodic_member modular d ≡ periodic_member modular rest
     unfolding periodic_member

@@ -6,17 +6,12 @@ ghost use Rattle.std.specs.Prelude.{◌≤◌, ◌^◌};
 
 use air_blake3::Compression;
 use air_blake3_rows::row_of_block;
-use blake3::hash;
+use blake3::{hash, start_words};
 use p3_air::{
     AirError, BabyBear, ConstraintReport, Field, PrimeField64, RowMajorMatrix, audit_air,
 };
 use std::alloc::Global;
 use std::io;
-
-/// The chaining value of a first block.
-const START: [u32; 8] = [
-    0x6A09E667, 0xBB67AE85, 0x3C6EF372, 0xA54FF53A, 0x510E527F, 0x9B05688C, 0x1F83D9AB, 0x5BE0CD19,
-];
 
 /// The flags of a block that is the first and the last of a message of one chunk.
 const WHOLE: u32 = 11;
@@ -28,7 +23,8 @@ fn push_row(
     message: &[u32; 16],
     length: u32,
 ) -> Result<(), AirError> {
-    let row = row_of_block::<BabyBear>(alloc, &START, message, &[0, 0, length, WHOLE]).map_err(
+    let rest = [0, 0, length, WHOLE];
+    let row = row_of_block::<BabyBear>(alloc, &start_words(), message, &rest).map_err(
         |_| AirError::Memory,
     )?;
     for value in &row {

@@ -94,14 +94,12 @@ impl<'a, F: Field> Airs<'a, F> {
         }
     }
 
-    /// Adds the numbers of the expressions that have names. Where an AIR was refused that had taken the pool, no line can
-    /// be tried any more.
+    /// Adds the numbers of the expressions that have names: a refused call may leave nodes that nothing names. Where an
+    /// AIR was refused that had taken the pool, no line can be tried any more.
     pub fn standing(&self, text: &mut String) -> Result<(), Fault> {
         if self.lost {
             return Err(Fault::Memory);
         }
-        let total = self.pool.pool.len();
-        write!(text, "{total}:")?;
         for (name, x) in self.pool.names.words().iter().zip(self.pool.names.values()) {
             let number = x.number();
             write!(text, " {name} {number}")?;

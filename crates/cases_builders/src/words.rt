@@ -5,7 +5,10 @@ ghost use Rattle.air_symbolic.specs.Pools.{IsPool};
 
 use air_builder::{AirBuilder, AirError};
 use air_core::{BaseEntry, SymbolicVariable};
-use air_field::{Algebra, BabyBear, FromVar, RowMajorMatrix};
+use air_field::{
+    Algebra, BabyBear, Field, FromVar, Goldilocks, KoalaBear, Mersenne31, PrimeField64,
+    RowMajorMatrix,
+};
 use air_gadgets::{add2, add3, xor_32_shift};
 use air_recording::{AirLayout, Recorded, SymbolicAirBuilder};
 use air_report::check_all_constraints;
@@ -15,10 +18,10 @@ use cases::{Fault, Why};
 use p3_air::{finish_recording, recorded_air};
 use std::alloc::Global;
 
-type Column = SymbolicVariable<BabyBear>;
+type Column<F> = SymbolicVariable<F>;
 
 // So many columns of the current row from one on.
-fn columns<const N: usize>(first: usize) -> [Column; N] {
+fn columns<F: Field, const N: usize>(first: usize) -> [Column<F>; N] {
     let mut columns = [SymbolicVariable::new(BaseEntry::Main { offset: 0 }, first); N];
     for (i, column) in columns.iter_mut().enumerate() {
         let place = first.saturating_add(i);
@@ -92,46 +95,46 @@ enum Gadget {
     Xor(usize),
 }
 
-type Recorder = SymbolicAirBuilder<BabyBear, BabyBear>;
+type Recorder<F> = SymbolicAirBuilder<F, F>;
 
 // Records that the word of columns 0 and 1 is the sum of the next two words.
-fn record_sum_of_two(builder: &mut Recorder) -> Result<(), AirError>
-    requires { ⟦<SymbolicAirBuilder<BabyBear, BabyBear> as AirBuilder>⟧.ready builder.old }
-    ensures { OnOk result (⟦<SymbolicAirBuilder<BabyBear, BabyBear> as AirBuilder>⟧.ready
+fn record_sum_of_two<F: Field>(builder: &mut Recorder<F>) -> Result<(), AirError>
+    requires { ⟦<SymbolicAirBuilder<F, F> as AirBuilder>⟧.ready builder.old }
+    ensures { OnOk result (⟦<SymbolicAirBuilder<F, F> as AirBuilder>⟧.ready
         builder.new) }
 {
-    let [low, high]: [Column; 2] = columns(4);
+    let [low, high]: [Column<F>; 2] = columns(4);
     let low = made_of(builder, low)?;
     let high = made_of(builder, high)?;
     add_two(builder, columns(0), columns(2), [low, high])
 }
 
 // The elements of two columns from one on. What was in the ring still is.
-fn two_made(
-    builder: &mut Recorder,
+fn two_made<F: Field>(
+    builder: &mut Recorder<F>,
     first: usize,
-) -> Result<[ExprId<BaseLeaf<BabyBear>>; 2], AirError>
-    requires { ⟦<SymbolicAirBuilder<BabyBear, BabyBear> as AirBuilder>⟧.ready builder.old }
-    ensures ready { OnOk result (⟦<SymbolicAirBuilder<BabyBear, BabyBear> as AirBuilder>⟧.ready
+) -> Result<[ExprId<BaseLeaf<F>>; 2], AirError>
+    requires { ⟦<SymbolicAirBuilder<F, F> as AirBuilder>⟧.ready builder.old }
+    ensures ready { OnOk result (⟦<SymbolicAirBuilder<F, F> as AirBuilder>⟧.ready
         builder.new) }
-    ensures stays { (x : ℕ) → ⟦<ExprPool<BaseLeaf<BabyBear>> as Algebra<BabyBear>>⟧.has
-        (⟦<SymbolicAirBuilder<BabyBear, BabyBear> as AirBuilder>⟧.ring_of builder.old) x
-        → ⟦<ExprPool<BaseLeaf<BabyBear>> as Algebra<BabyBear>>⟧.has
-        (⟦<SymbolicAirBuilder<BabyBear, BabyBear> as AirBuilder>⟧.ring_of builder.new) x }
+    ensures stays { (x : ℕ) → ⟦<ExprPool<BaseLeaf<F>> as Algebra<F>>⟧.has
+        (⟦<SymbolicAirBuilder<F, F> as AirBuilder>⟧.ring_of builder.old) x
+        → ⟦<ExprPool<BaseLeaf<F>> as Algebra<F>>⟧.has
+        (⟦<SymbolicAirBuilder<F, F> as AirBuilder>⟧.ring_of builder.new) x }
     ensures of_ring { IfOk result (All
-        (⟦<ExprPool<BaseLeaf<BabyBear>> as Algebra<BabyBear>>⟧.has
-        (⟦<SymbolicAirBuilder<BabyBear, BabyBear> as AirBuilder>⟧.ring_of builder.new))) }
+        (⟦<ExprPool<BaseLeaf<F>> as Algebra<F>>⟧.has
+        (⟦<SymbolicAirBuilder<F, F> as AirBuilder>⟧.ring_of builder.new))) }
 {
-    let [low, high]: [Column; 2] = columns(first);
+    let [low, high]: [Column<F>; 2] = columns(first);
     let low = made_of(builder, low)?;
     let high = made_of(builder, high)?;
     Ok([low, high])
 }
 
 // Records that the word of columns 0 and 1 is the sum of the next three words.
-fn record_sum_of_three(builder: &mut Recorder) -> Result<(), AirError>
-    requires { ⟦<SymbolicAirBuilder<BabyBear, BabyBear> as AirBuilder>⟧.ready builder.old }
-    ensures { OnOk result (⟦<SymbolicAirBuilder<BabyBear, BabyBear> as AirBuilder>⟧.ready
+fn record_sum_of_three<F: Field>(builder: &mut Recorder<F>) -> Result<(), AirError>
+    requires { ⟦<SymbolicAirBuilder<F, F> as AirBuilder>⟧.ready builder.old }
+    ensures { OnOk result (⟦<SymbolicAirBuilder<F, F> as AirBuilder>⟧.ready
         builder.new) }
 {
     let c = two_made(builder, 4)?;
@@ -140,9 +143,9 @@ fn record_sum_of_three(builder: &mut Recorder) -> Result<(), AirError>
 }
 
 // Records a gadget.
-fn record_gadget(builder: &mut Recorder, gadget: Gadget) -> Result<(), Fault>
-    requires { ⟦<SymbolicAirBuilder<BabyBear, BabyBear> as AirBuilder>⟧.ready builder.old }
-    ensures { OnOk result (⟦<SymbolicAirBuilder<BabyBear, BabyBear> as AirBuilder>⟧.ready
+fn record_gadget<F: Field>(builder: &mut Recorder<F>, gadget: Gadget) -> Result<(), Fault>
+    requires { ⟦<SymbolicAirBuilder<F, F> as AirBuilder>⟧.ready builder.old }
+    ensures { OnOk result (⟦<SymbolicAirBuilder<F, F> as AirBuilder>⟧.ready
         builder.new) }
 {
     match gadget {
@@ -156,11 +159,7 @@ fn record_gadget(builder: &mut Recorder, gadget: Gadget) -> Result<(), Fault>
 }
 
 // What is recorded of a gadget over the columns from 0 on: the limbs of a, then those of the other words, or their bits.
-fn recorded(
-    alloc: Global,
-    gadget: Gadget,
-    width: usize,
-) -> Result<Recorded<BabyBear, BabyBear>, Fault>
+fn recorded<F: Field>(alloc: Global, gadget: Gadget, width: usize) -> Result<Recorded<F, F>, Fault>
     ensures { IfOk result (λ r. IsPool base_reads r.pool.0) }
 {
     let layout = AirLayout {
@@ -173,14 +172,14 @@ fn recorded(
 }
 
 // Adds how many constraints a gadget has, and which of them fail at a row.
-fn show_checked(
+fn show_checked<F: Field + 'static>(
     alloc: Global,
     gadget: Gadget,
-    row: Vec<BabyBear>,
+    row: Vec<F>,
     text: &mut String,
 ) -> Result<(), Fault> {
     let width = row.len();
-    let recorded = recorded(alloc, gadget, width)?;
+    let recorded = recorded::<F>(alloc, gadget, width)?;
     let air = recorded_air(recorded, width, 0, Vec::new(alloc), Vec::new(alloc))?;
     let main = RowMajorMatrix::new(row, width)?;
     let report = check_all_constraints(alloc, &air, &main, &[], None)?;
@@ -193,13 +192,13 @@ fn show_checked(
 }
 
 // Adds the degrees of what is recorded of a gadget.
-fn show_degrees(
+fn show_degrees<F: Field>(
     alloc: Global,
     gadget: Gadget,
     width: usize,
     text: &mut String,
 ) -> Result<(), Fault> {
-    let Recorded { pool, base, .. } = recorded(alloc, gadget, width)?;
+    let Recorded { pool, base, .. } = recorded::<F>(alloc, gadget, width)?;
     let pool = pool.into_base();
     for (place, id) in base.iter().enumerate() {
         if place > 0 {
@@ -214,8 +213,8 @@ fn show_degrees(
 }
 
 // Adds the limbs of a word.
-fn push_limbs(alloc: Global, word: &str, row: &mut Vec<BabyBear>) -> Result<(), Fault> {
-    let limbs: Vec<BabyBear> = listed_elements(alloc, word)?;
+fn push_limbs<F: PrimeField64>(alloc: Global, word: &str, row: &mut Vec<F>) -> Result<(), Fault> {
+    let limbs: Vec<F> = listed_elements(alloc, word)?;
     if limbs.len() != 2 {
         return Err(Fault::Unreadable(Why::OtherShape));
     }
@@ -226,8 +225,8 @@ fn push_limbs(alloc: Global, word: &str, row: &mut Vec<BabyBear>) -> Result<(), 
 }
 
 // Adds 32 elements, zero but for those that stand as `PLACE:NUMBER`, with commas between.
-fn push_bits(word: &str, row: &mut Vec<BabyBear>) -> Result<(), Fault> {
-    let mut bits = [BabyBear::new(0); 32];
+fn push_bits<F: PrimeField64>(word: &str, row: &mut Vec<F>) -> Result<(), Fault> {
+    let mut bits = [F::ZERO; 32];
     if word != "-" {
         for part in word.split(',') {
             let Some((place, number)) = part.split_once(':') else {
@@ -246,9 +245,13 @@ fn push_bits(word: &str, row: &mut Vec<BabyBear>) -> Result<(), Fault> {
     Ok(())
 }
 
-/// Adds what a gadget makes of the row of its words.
-pub fn word_gadget(alloc: Global, call: &[&str], text: &mut String) -> Result<(), Fault> {
-    let mut row = Vec::new(alloc);
+// Adds what a gadget makes of the row of its words, which are numbers of the field.
+fn gadget_over<F: PrimeField64 + 'static>(
+    alloc: Global,
+    call: &[&str],
+    text: &mut String,
+) -> Result<(), Fault> {
+    let mut row: Vec<F> = Vec::new(alloc);
     match call {
         ["add2", a, b, c] => {
             for word in [a, b, c] {
@@ -268,11 +271,21 @@ pub fn word_gadget(alloc: Global, call: &[&str], text: &mut String) -> Result<()
             push_bits(*c, &mut row)?;
             show_checked(alloc, Gadget::Xor(count_of(*shift)?), row, text)
         }
-        ["degrees", "add2"] => show_degrees(alloc, Gadget::SumOfTwo, 6, text),
-        ["degrees", "add3"] => show_degrees(alloc, Gadget::SumOfThree, 8, text),
+        ["degrees", "add2"] => show_degrees::<F>(alloc, Gadget::SumOfTwo, 6, text),
+        ["degrees", "add3"] => show_degrees::<F>(alloc, Gadget::SumOfThree, 8, text),
         ["degrees", "xor_32_shift", shift] => {
-            show_degrees(alloc, Gadget::Xor(count_of(*shift)?), 66, text)
+            show_degrees::<F>(alloc, Gadget::Xor(count_of(*shift)?), 66, text)
         }
         _ => Err(Fault::Unreadable(Why::NoSuchCall)),
+    }
+}
+
+/// Adds what a gadget makes of the row of its words: over BabyBear, or over the field that is named.
+pub fn word_gadget(alloc: Global, call: &[&str], text: &mut String) -> Result<(), Fault> {
+    match call {
+        ["over", "KoalaBear", call @ ..] => gadget_over::<KoalaBear>(alloc, call, text),
+        ["over", "Mersenne31", call @ ..] => gadget_over::<Mersenne31>(alloc, call, text),
+        ["over", "Goldilocks", call @ ..] => gadget_over::<Goldilocks>(alloc, call, text),
+        call => gadget_over::<BabyBear>(alloc, call, text),
     }
 }

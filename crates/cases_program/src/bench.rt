@@ -65,8 +65,8 @@ impl<'a> Bench<'a> for Program<'a> {
     fn answer(&mut self, line: &Line<'a>, text: &mut String) -> Result<(), Fault> {
         match (line.words.as_slice(), line.name) {
             (["input", input], Some(name)) => {
-                self.inputs.bind(name, *input, line.times.is_some())?;
-                Ok(text.push_str(*input)?)
+                text.push_str(*input)?;
+                self.inputs.bind(name, *input, line.times.is_some())
             }
             (words, None) => self.answer_call(words, text),
             (_, Some(_)) => Err(Fault::Unreadable(Why::MakesNothing)),

@@ -7,3 +7,4 @@ mod Making
 mod Needed
 mod Roots
 mod Asserting
+mod Rows

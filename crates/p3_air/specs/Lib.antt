@@ -1,6 +1,8 @@
 pub use Rattle.air_field.specs.Ring
 pub use Rattle.air_field.specs.Term
 pub use Rattle.air_field.specs.Algebra
+pub use Rattle.air_field.specs.Assignment
+pub use Rattle.air_field.specs.Grid
 pub use Rattle.air_builder.specs.Assertion
 pub use Rattle.air_builder.specs.Notation
 pub use Rattle.air_builder.specs.Declaration
@@ -14,7 +16,11 @@ pub use Rattle.air_author.specs.Kinds
 pub use Rattle.air_author.specs.BitTerms
 pub use Rattle.air_author.specs.WordTerms
 pub use Rattle.air_author.specs.XorTerms
+pub use Rattle.air_report.specs.Report
+pub use Rattle.air_laws.specs.Numbers
+pub use Rattle.air_laws.specs.laws
 pub mod Author
+pub mod Claims
 pub mod Theorem
 pub mod Audits
 pub mod RecordedAirs

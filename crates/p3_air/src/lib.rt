@@ -14,6 +14,7 @@ mod flat;
 pub mod laws;
 pub mod recorded_airs;
 pub mod symbolic;
+pub mod traces;
 pub mod utils;
 
 pub use air_builder::Air;
@@ -117,3 +118,4 @@ pub use flat::resolving::resolve_all;
 pub use recorded_airs::finish_recording;
 pub use recorded_airs::record_these;
 pub use recorded_airs::recorded_air;
+pub use traces::trace_of_rows;

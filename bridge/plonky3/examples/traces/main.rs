@@ -4,25 +4,38 @@
 //!     traces --table    prints those that are good or turned by hand as a table of crates/cases_program
 
 mod airs;
+#[cfg(any(
+    feature = "koala-bear",
+    feature = "mersenne-31",
+    feature = "goldilocks"
+))]
+mod fields;
 mod traces;
 
-use air_check_export::{Options, export_with};
+use air_check_export::{AuditedField, Options, export_with};
 use p3_air::{
     Air, AirLayout, ConstraintFailure, DebugConstraintBuilder, SymbolicAirBuilder,
     check_all_constraints, get_max_constraint_degree, get_symbolic_constraints,
 };
-use p3_baby_bear::BabyBear;
 use p3_matrix::Matrix;
 use p3_matrix::dense::RowMajorMatrix;
 use serde_json::Value;
 use std::{env, fs, io, path::Path, process::ExitCode};
 
-/// The field of all AIRs here.
-pub type F = BabyBear;
+/// The modulus of a field, written out: nothing of the crate that is tried has a part in it.
+pub fn modulus<F: AuditedField>() -> u64 {
+    match F::NAME {
+        "BabyBear" => 2_013_265_921,
+        "KoalaBear" => 2_130_706_433,
+        "Mersenne31" => 2_147_483_647,
+        "Goldilocks" => 18_446_744_069_414_584_321,
+        name => unreachable!("the field {name} has no modulus here"),
+    }
+}
 
-/// The element that a whole number stands for.
-pub fn number(n: u32) -> F {
-    F::new(n)
+/// The elements that whole numbers stand for.
+pub fn elements<F: AuditedField>(numbers: &[u64]) -> Vec<F> {
+    numbers.iter().copied().map(F::from_u64).collect()
 }
 
 /// A trace of an AIR as an object, and what air_check is to say of it.
@@ -38,20 +51,20 @@ pub struct Case {
 #[derive(Clone)]
 pub struct Given {
     pub width: usize,
-    pub rows: Vec<u32>,
-    pub public_values: Vec<u32>,
+    pub rows: Vec<u64>,
+    pub public_values: Vec<u64>,
 }
 
 /// The case of a trace: p3-air's degree, counts and failures as air_check writes them.
-pub fn case<A>(name: String, air: &A, given: &Given, options: &Options, by_hand: bool) -> Case
+pub fn case<F, A>(name: String, air: &A, given: &Given, options: &Options, by_hand: bool) -> Case
 where
+    F: AuditedField,
     A: Air<SymbolicAirBuilder<F>> + for<'a> Air<DebugConstraintBuilder<'a, F>>,
 {
-    let elements = |numbers: &[u32]| numbers.iter().copied().map(number).collect::<Vec<F>>();
     let trace = RowMajorMatrix::new(elements(&given.rows), given.width);
     let public_values = elements(&given.public_values);
     let object = export_with::<F, A>(air, &trace, &public_values, options).expect("it is exported");
-    let degree = degree_of(air, trace.height(), options.transition_weight);
+    let degree = degree_of::<F, A>(air, trace.height(), options.transition_weight);
     let report = check_all_constraints(air, &trace, &public_values, options.cap);
     let mut answer = format!(
         "degree {degree}\nrows {}\nconstraints {}\n",
@@ -70,7 +83,11 @@ where
 }
 
 /// The inferred degree: by p3-air's call where the transition selector is linear, else the greatest of its expressions.
-fn degree_of<A: Air<SymbolicAirBuilder<F>>>(air: &A, height: usize, weight: usize) -> usize {
+fn degree_of<F, A>(air: &A, height: usize, weight: usize) -> usize
+where
+    F: AuditedField,
+    A: Air<SymbolicAirBuilder<F>>,
+{
     let layout = AirLayout::from_air::<F>(air);
     if weight == 0 {
         return get_max_constraint_degree::<F, A>(air, layout, height);

@@ -2,12 +2,8 @@ use contract.BorrowLft.{⊑_static}
 use Rattle.std.specs.Prelude.{[]}
 use Rattle.std.proofs.lemmas.Result.{on_ok_weaker}
 use Rattle.p3_air.specs.Author.{add2_asserts, word_at, word_bits}
-use Rattle.air_field.specs.Assignment.{row_assignment}
-use Rattle.air_report.specs.Report.{plain_trace}
-use Rattle.air_laws.specs.laws.Bits.{bits_of_word}
-use Rattle.air_laws.specs.laws.Checks.{plain_vanish}
-use Rattle.air_laws.specs.laws.Sums.{adds_up}
-use Rattle.air_laws.specs.laws.Vanishing.{both_vanish}
+use Rattle.p3_air.specs.Claims.{row_assignment, plain_trace}
+use Rattle.p3_air.specs.laws.Claims.{bits_of_word, plain_vanish, adds_up, both_vanish}
 use Rattle.air_adder.specs.Adder.{adder}
 use Rattle.air_adder.proofs.checks.check_sums.Goals as goal
 

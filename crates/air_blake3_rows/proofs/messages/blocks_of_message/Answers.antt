@@ -1,4 +1,4 @@
-use Rattle.std.proofs.Common.{◌≡◌, ◌+◌, ◌++◌, ◌∷◌, [], ◌∙◌, suc, refl, sym, ap, ap₂, length, map, arith}
+use Rattle.std.proofs.Common.{◌≡◌, ◌+◌, ◌++◌, ◌∷◌, [], ◌∙◌, suc, sym, ap, ap₂, length, map, arith}
 use Rattle.std.proofs.lemmas.List.{map-append}
 use Rattle.std.proofs.lemmas.List.FromFn.{map-range_with_len_more}
 use Rattle.std.specs.List.{range_with_len}
@@ -10,7 +10,7 @@ use Rattle.air_blake3_rows.proofs.messages.blocks_of_message.Goals as goal
 
 pub loop-index-init : goal.loop-index-init
 unfolding chained
-loop-index-init c = record { chaining = refl; blocks = ap (map block_in) c.new-blocks.ensures.items }
+loop-index-init c = record { chaining = c.start_words-chaining.ensures; blocks = ap (map block_in) c.new-blocks.ensures.items }
 
 pub loop-index-preserved : goal.loop-index-preserved
 unfolding chained

@@ -2,8 +2,7 @@ use contract.BorrowLft.{⊑_static}
 use Rattle.std.specs.Prelude.{[]}
 use Rattle.std.proofs.lemmas.Result.{on_ok_weaker}
 use Rattle.p3_air.specs.Author.{current}
-use Rattle.air_laws.specs.laws.Bits.{bits_below}
-use Rattle.air_laws.specs.laws.Checks.{plain_vanish}
+use Rattle.p3_air.specs.laws.Claims.{bits_below, plain_vanish}
 use Rattle.air_range.specs.Range.{range}
 use Rattle.air_range.proofs.checks.check_range.Goals as goal
 

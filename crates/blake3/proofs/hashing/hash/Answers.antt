@@ -1,11 +1,11 @@
-use Rattle.std.proofs.Common.{◌≡◌, ◌+◌, ◌∙◌, suc, refl, ap, arith}
+use Rattle.std.proofs.Common.{◌≡◌, ◌+◌, ◌∙◌, suc, ap, arith}
 use Rattle.blake3.specs.Compression.{compress}
 use Rattle.blake3.specs.Hashing.{block_at, chained, first_words}
 use Rattle.blake3.proofs.hashing.hash.Goals as goal
 
 pub loop-block-init : goal.loop-block-init
 unfolding chained
-loop-block-init c = refl
+loop-block-init c = c.start_words-chaining.ensures
 
 pub loop-block-preserved : goal.loop-block-preserved
 unfolding chained

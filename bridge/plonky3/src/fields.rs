@@ -1,0 +1,44 @@
+//! The fields that `air_check` knows, by their names.
+
+// (All of it: `as_canonical_u64` is a method of one of its traits.)
+use p3_field::*;
+
+mod sealed {
+    pub trait Sealed {}
+}
+
+/// A field whose AIRs can be exported: BabyBear, and by features of this crate KoalaBear, Mersenne31 and Goldilocks.
+///
+/// Nothing else implements it: `air_check` knows these four, and takes each number as one of the field that is named.
+pub trait AuditedField:
+    Field + PrimeCharacteristicRing<PrimeSubfield = Self> + sealed::Sealed
+{
+    /// The name in the object.
+    const NAME: &'static str;
+
+    /// The whole number below the modulus that the element stands for. (serde may write another one: BabyBear's and
+    /// KoalaBear's own are in Montgomery form.)
+    fn canonical(self) -> u64;
+}
+
+macro_rules! audited_field {
+    ($field:ty, $name:literal) => {
+        impl sealed::Sealed for $field {}
+
+        impl AuditedField for $field {
+            const NAME: &'static str = $name;
+
+            fn canonical(self) -> u64 {
+                self.as_canonical_u64()
+            }
+        }
+    };
+}
+
+audited_field!(p3_baby_bear::BabyBear, "BabyBear");
+#[cfg(feature = "koala-bear")]
+audited_field!(p3_koala_bear::KoalaBear, "KoalaBear");
+#[cfg(feature = "mersenne-31")]
+audited_field!(p3_mersenne_31::Mersenne31, "Mersenne31");
+#[cfg(feature = "goldilocks")]
+audited_field!(p3_goldilocks::Goldilocks, "Goldilocks");

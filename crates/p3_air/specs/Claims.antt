@@ -1,0 +1,5 @@
+-- The words in which an author claims what a trace says that a check or an audit lets pass.
+pub use Rattle.air_field.specs.Assignment.{row_assignment}
+pub use Rattle.air_field.specs.Grid.{Grid}
+pub use Rattle.air_report.specs.Report.{plain_trace}
+pub use Rattle.air_laws.specs.Numbers.{IsBelow, IsWord, AddsUp, AddsUp3}
