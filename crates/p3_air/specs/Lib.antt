@@ -18,7 +18,6 @@ pub use Rattle.air_author.specs.WordTerms
 pub use Rattle.air_author.specs.XorTerms
 pub use Rattle.air_report.specs.Report
 pub use Rattle.air_laws.specs.Numbers
-pub use Rattle.air_laws.specs.laws
 pub mod Author
 pub mod Claims
 pub mod Theorem
