@@ -12,11 +12,11 @@ use air_symbolic::{BaseLeaf, ExprId, ExprPool, SymbolicExpr, SymbolicExpression}
 use std::alloc::{AllocError, Global};
 
 /// The value of a number that is known.
-pub fn known<F: Field>(values: &[F], id: ExprId<BaseLeaf<F>>) -> F
-    requires { id < length values.now }
-    ensures { result ≡ get_or values.now id F.ring.nil }
+pub fn known<F: Field>(values: &[F], number: usize) -> F
+    requires { number < length values.now }
+    ensures { result ≡ get_or values.now number F.ring.nil }
 {
-    values[id.number()]
+    values[number]
 }
 
 // The value of a node, from those of its operands.
@@ -31,10 +31,10 @@ fn node_value<F: Field, R: LeafValues<F>>(
 {
     match node {
         SymbolicExpr::Leaf(leaf) => leaves.leaf_value(&leaf),
-        SymbolicExpr::Add { x, y, .. } => known(values, x).add(known(values, y)),
-        SymbolicExpr::Sub { x, y, .. } => known(values, x).sub(known(values, y)),
-        SymbolicExpr::Neg { x, .. } => known(values, x).neg(),
-        SymbolicExpr::Mul { x, y, .. } => known(values, x).mul(known(values, y)),
+        SymbolicExpr::Add { x, y, .. } => known(values, x.number()).add(known(values, y.number())),
+        SymbolicExpr::Sub { x, y, .. } => known(values, x.number()).sub(known(values, y.number())),
+        SymbolicExpr::Neg { x, .. } => known(values, x.number()).neg(),
+        SymbolicExpr::Mul { x, y, .. } => known(values, x.number()).mul(known(values, y.number())),
     }
 }
 
