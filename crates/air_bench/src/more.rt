@@ -30,7 +30,8 @@ struct Products {}
 impl<AB: AirBuilder> Family<AB> for Products {
     ghost size = { λ _. 8 };
 
-    ghost asserts_at = { λ _ i f _. Base (f (mul_term (leaf_term (periodic i)) (leaf_term (main 0 i)))) ∷ [] };
+    ghost asserts_at = { λ _ i f _.
+        Base (f (mul_term (leaf_term (periodic i)) (leaf_term (main 0 i)))) ∷ [] };
 
     fn size(&self) -> usize {
         8
