@@ -16,6 +16,11 @@ pub if_both : {T E : Type 0} (P Q R : T → Type 0) (r : Result T E) → ((x : T
 if_both P Q R (Ok x) h p q = h x p q
 if_both P Q R (Err e) h p q = tt
 
+-- what refuses whatever has the property refuses a value that has it
+pub at_value : (A : Type 0) (P Q : Data → Type 0) (d : Data) → P d → A ⊎ ((e : Data) → P e → Q e) → A ⊎ Q d
+at_value A P Q d has (inl a) = inl a
+at_value A P Q d has (inr refuses) = inr (refuses d has)
+
 -- bytes stand for one value
 one_value : (bytes : List ℕ) (d e : Data) → StandsFor bytes d → StandsFor bytes e → d ≡ e
 one_value bytes d e h k = cc (sym h.1 ∙ k.1)
