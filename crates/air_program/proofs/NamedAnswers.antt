@@ -33,7 +33,7 @@ module _ (answers : (F : Type 0) (p : ℕ) → Modular F p → Data → ℕ → 
   -- where the bytes can't be read
   pub unread : (bytes : List ℕ) (why : Refusal) → (why ≡ refusals.Memory) ⊎ ((why ≡ refusals.Json) × HasNoValue bytes) → MayRefuseBytes bytes why
   unread bytes why (inl memory) = inl memory
-  unread bytes why (inr no) = inr (inl (no.1, (refl, ap (λ w. refusal_text (name_of w)) no.0)))
+  unread bytes why (inr none) = inr (inl (none.1, (refl, ap (λ w. refusal_text (name_of w)) none.0)))
 
   module _ (bytes : List ℕ) (d : Data) (stands : StandsFor bytes d) where
     -- what answers the value over the field of this name answers the bytes

@@ -60,6 +60,23 @@ fn show_constraints<F: PrimeField64>(
     }
 }
 
+/// The status and the text that show the constraints among these parts.
+fn show_parts<F: PrimeField64>(alloc: Global, parts: Parts<F>) -> Result<(u8, String), Refusal>
+    requires { InPool parts.constraints }
+    ensures ok { IfOk result (λ p. (d : Data)
+        → AreGiven (constraints_member F.residues d) parts.constraints
+        → ShownIn F F.ORDER_U64 F.residues d p.0 (string_bytes p.1)) }
+    ensures refused { IfErr result (λ why. (why ≡ Refusal.Memory) ⊎ ((d : Data)
+        → AreGiven (constraints_member F.residues d) parts.constraints
+        → ShownIn F F.ORDER_U64 F.residues d 2 (refusal_text (name_of why)))) }
+{
+    let Parts {
+        rest: _,
+        constraints,
+    } = parts;
+    show_constraints(alloc, constraints)
+}
+
 /// The status and the text that show the constraints of an object over F, of which the bytes are the text.
 fn show_over<F: PrimeField64>(alloc: Global, bytes: &[u8]) -> Result<(u8, String), Refusal>
     ensures ok { IfOk result (λ p. (d : Data) × StandsFor bytes.now d
@@ -68,11 +85,8 @@ fn show_over<F: PrimeField64>(alloc: Global, bytes: &[u8]) -> Result<(u8, String
         ⊎ (((why ≡ Refusal.Json) × HasNoValue bytes.now) ⊎ ((d : Data) × StandsFor bytes.now d
         × ShownIn F F.ORDER_U64 F.residues d 2 (refusal_text (name_of why))))) }
 {
-    let Parts {
-        rest: _,
-        constraints,
-    } = parts_from::<F>(alloc, bytes)?;
-    show_constraints(alloc, constraints)
+    let parts: Parts<F> = parts_from(alloc, bytes)?;
+    show_parts(alloc, parts)
 }
 
 /// The status and the text that answer `show`: of the object the members `field` and `constraints` are read alone. It is
@@ -81,9 +95,9 @@ pub fn answer_show(alloc: Global, bytes: &[u8]) -> Result<(u8, String), Refusal>
     ensures ok { IfOk result (λ p. IsShowAnswer bytes.now p.0 (string_bytes p.1)) }
     ensures refused { IfErr result (MayRefuse Request.Show bytes.now) }
 {
-    let Parts { rest, constraints } = parts_from::<BabyBear>(alloc, bytes)?;
-    match field_of(&rest) {
-        Some(FieldName::BabyBear) => show_constraints(alloc, constraints),
+    let parts: Parts<BabyBear> = parts_from(alloc, bytes)?;
+    match field_of(&parts.rest) {
+        Some(FieldName::BabyBear) => show_parts(alloc, parts),
         Some(FieldName::KoalaBear) => show_over::<KoalaBear>(alloc, bytes),
         Some(FieldName::Mersenne31) => show_over::<Mersenne31>(alloc, bytes),
         Some(FieldName::Goldilocks) => show_over::<Goldilocks>(alloc, bytes),

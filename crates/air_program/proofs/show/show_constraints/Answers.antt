@@ -11,8 +11,11 @@ returns-in-Ok-clause-ok g c =
     let m = g.F.PrimeField64.residues in
     let given = c.args.constraints in
     if_both _ _ _ c.show_roots.result
-    (λ p s t. λ d h. inl (s, shows_given m given c.in-Ok.roots c.in-Ok.is c.requires (string_bytes p.1)
-    (subst (λ (rs : List ℕ). ShowsRoots m given.pool rs (string_bytes p.1)) c.deref.ensures.value t) d h))
+    (λ p s t. λ d h. inl (
+      s,
+      shows_given m given c.in-Ok.roots c.in-Ok.is c.requires (string_bytes p.1)
+          (subst (λ (rs : List ℕ). ShowsRoots m given.pool rs (string_bytes p.1)) c.deref.ensures.value t) d h,
+    ))
     c.show_roots.ensures.status c.show_roots.ensures.shows
 
 pub returns-clause-refused : goal.returns-clause-refused
