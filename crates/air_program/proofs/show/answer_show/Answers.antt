@@ -75,7 +75,7 @@ returns-in-Some-Goldilocks-clause-refused c =
     err_named ShownIn c.args.bytes.now found.0 found.1 fields.Goldilocks c.show_over-in-Some-Goldilocks.result named
     (err_anew ShownIn c.args.bytes.now found.0 found.1 goldilocks_modular c.show_over-in-Some-Goldilocks.result c.show_over-in-Some-Goldilocks.ensures.refused)
 
-pub returns-in-None-clause-refused : goal.returns-clause-refused
+pub returns-in-None-clause-refused : goal.returns-in-None-clause-refused
 returns-in-None-clause-refused c =
     let found = c.in_ok-parts.ensures.parts in
     let same = same_field baby_bears found.0 (view c.in_ok-parts.parts.rest) c.in_ok-parts.parts.constraints found.2 in
