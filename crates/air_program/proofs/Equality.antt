@@ -1,5 +1,5 @@
 -- A field's own test of equality and its own ring are those of its residues.
-use Rattle.std.proofs.Common.{◌≡◌, ℕ, Bool, subst, ◌==◌}
+use Rattle.std.proofs.Common.{◌≡◌, ℕ, Bool, Option, subst, ◌==◌}
 use Rattle.std.specs.Bool.{Decides}
 use Rattle.std.proofs.lemmas.Bool.Decides.{same_from_decides}
 use Rattle.air_field.specs.Extension.{Basis}
@@ -10,7 +10,6 @@ use Rattle.p3_air.specs.Theorem.{Instance}
 use Rattle.p3_air.specs.Audits.{IsAuditUnder, AuditRefusesUnder}
 use Rattle.p3_air.specs.declared.audit.Audit.{Audit}
 use Rattle.air_core.specs.declared.errors.AirError.{AirError}
-use Rattle.std.specs.Option.{Option}
 use Rattle.air_program.specs.Answer.{equal, AuditRefuses}
 
 -- tests that agree on all elements are the same

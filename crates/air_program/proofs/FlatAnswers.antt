@@ -60,6 +60,11 @@ pub same_field : {F : Type 0} {order : ℕ} (modular : Modular F order) (d rest 
 unfolding field_of
 same_field modular d rest c parts = ap named_by (parts.others (codes "field") (λ e. absurd cc))
 
+-- what holds of all that has the parts holds of one
+pub at_parts : {A : Type 0} {P Q : Data → Type 0} (d : Data) → P d → A ⊎ ((e : Data) → P e → Q e) → A ⊎ Q d
+at_parts d has (inl a) = inl a
+at_parts d has (inr all) = inr (all d has)
+
 -- bytes stand for one value
 one_value : (bytes : List ℕ) (d e : Data) → StandsFor bytes d → StandsFor bytes e → d ≡ e
 one_value bytes d e h k = cc (sym h.1 ∙ k.1)

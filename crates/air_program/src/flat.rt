@@ -130,11 +130,13 @@ pub fn answer_flat(alloc: Global, bytes: &[u8]) -> Result<(u8, String), Refusal>
     ensures refused { IfErr result (MayRefuse Request.Flat bytes.now) }
 {
     let parts: Parts<BabyBear> = parts_from(alloc, bytes)?;
-    match field_of(&parts.rest) {
-        Some(FieldName::BabyBear) => answer_parts(alloc, parts),
-        Some(FieldName::KoalaBear) => answer_over::<KoalaBear>(alloc, bytes),
-        Some(FieldName::Mersenne31) => answer_over::<Mersenne31>(alloc, bytes),
-        Some(FieldName::Goldilocks) => answer_over::<Goldilocks>(alloc, bytes),
-        None => Err(Refusal::Field),
+    let Some(field) = field_of(&parts.rest) else {
+        return Err(Refusal::Field);
+    };
+    match field {
+        FieldName::BabyBear => answer_parts(alloc, parts),
+        FieldName::KoalaBear => answer_over::<KoalaBear>(alloc, bytes),
+        FieldName::Mersenne31 => answer_over::<Mersenne31>(alloc, bytes),
+        FieldName::Goldilocks => answer_over::<Goldilocks>(alloc, bytes),
     }
 }

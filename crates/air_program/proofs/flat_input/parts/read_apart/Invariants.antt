@@ -13,6 +13,6 @@ decreases-members g l = length l.reader
 abbrev pub invariant-members : goal.invariant-members
 invariant-members g l =
     (n : ℕ) × (length l.reader ≤ n) × (ms : Members)
-    × (converted (λ xs. of_members xs no_members) (members g.F.PrimeField64.residues (value l.depth) (length l.initial.reader) l.initial.reader) ≡ converted (λ xs. of_members xs ms) (members g.F.PrimeField64.residues (value l.depth) n l.reader))
+    × (converted (λ xs. of_members xs no_members) (members (value l.depth) (length l.initial.reader) l.initial.reader) ≡ converted (λ xs. of_members xs ms) (members (value l.depth) n l.reader))
     × (length l.reader ≤ length l.initial.reader)
     × AreMembersOf g.F.PrimeField64.residues ms (members_view l.rest.entries) l.constraints
