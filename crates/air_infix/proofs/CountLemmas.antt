@@ -1,14 +1,14 @@
 -- Counts, one place after another.
-use Rattle.std.proofs.Common.{◌≡◌, ◌≢◌, ◌⊎◌, ℕ, zero, suc, ◌+◌, ◌<◌, ◌≤◌, Bool, true, false, cond, eqb, leb, List, [], ◌∷◌, ◌++◌, length, get_or, set, replicate, Option, None, Some, is_some, refl, sym, ap, subst, ◌∙◌, arith, ⊎_elim, add-one, length-set}
-use Rattle.std.proofs.lemmas.Bool.{cases_eq, cases_lt, ne_eqb}
+use Rattle.std.proofs.Common.{◌≡◌, ◌≢◌, ℕ, zero, suc, ◌+◌, ◌<◌, true, false, cond, eqb, List, length, get_or, set, replicate, Option, None, Some, is_some, refl, sym, ap, subst, ◌∙◌, arith, ⊎_elim, add-one, length-set}
+use Rattle.std.proofs.lemmas.Bool.{cases_eq, ne_eqb}
 use Rattle.std.proofs.lemmas.Bool.Decides.{eqb_tells}
-use Rattle.std.proofs.lemmas.List.{get_or-set_same, get_or-set_other, get_or_default, get_or_past}
+use Rattle.std.proofs.lemmas.List.{get_or-set_same, get_or-set_other, get_or_default}
 use Rattle.air_symbolic.specs.Nodes.{node_at}
 use Rattle.air_symbolic.specs.declared.pools.expr.SymbolicExpr.{SymbolicExpr}
-use Rattle.air_infix.specs.Names.{place, sum_below, is_reached, node_places, operand_places, places_at, places_of, is_named}
-use Rattle.air_infix.specs.Counts.{AreMarks, places_for, AreCounted, is_more, passes}
+use Rattle.air_infix.specs.Names.{place, sum_below, node_places, operand_places, places_at}
+use Rattle.air_infix.specs.Counts.{AreMarks, places_for, AreCounted}
 use Rattle.air_infix.specs.declared.counts.Places.{Places}
-use Rattle.air_infix.specs.declared.counts.Places.TheVariants.{Nowhere, Once, More}
+use Rattle.air_infix.specs.declared.counts.Places.TheVariants.{Nowhere}
 
 -- counts by functions that agree
 pub AreCounted-same : (f g : ℕ → ℕ) (counts : List Places) → ((i : ℕ) → f i ≡ g i) → AreCounted f counts → AreCounted g counts

@@ -1,8 +1,8 @@
 -- Lines, one after another.
-use Rattle.std.proofs.Common.{◌≡◌, ℕ, suc, ◌+◌, ◌<◌, ◌≤◌, List, [], ◌∷◌, ◌++◌, append_assoc, append-nil, length, map, drop, get_or, codes, refl, sym, ap, subst, ◌∙◌, arith}
+use Rattle.std.proofs.Common.{◌≡◌, ℕ, ◌+◌, ◌<◌, ◌≤◌, List, [], ◌∷◌, ◌++◌, append_assoc, append-nil, length, map, drop, get_or, codes, sym, ap, ◌∙◌}
 use Rattle.std.specs.List.{enumerate_from}
-use Rattle.std.proofs.lemmas.List.{drop_more, drop_all, get_or_default}
-use Rattle.air_infix.specs.Lines.{lines_text, numbered}
+use Rattle.std.proofs.lemmas.List.{drop_more, drop_all}
+use Rattle.air_infix.specs.Lines.{lines_text}
 
 -- the lines of the elements from number i on
 abbrev pub lines_from : (ℕ → ℕ → List ℕ) → ℕ → List ℕ → List ℕ

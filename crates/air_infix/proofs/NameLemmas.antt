@@ -1,5 +1,5 @@
 -- Names, one number after another.
-use Rattle.std.proofs.Common.{◌≡◌, ◌⊎◌, ℕ, zero, suc, ◌+◌, ◌<◌, ◌≤◌, Bool, true, false, ◌&&◌, cond, leb, List, [], ◌∷◌, ◌++◌, length, get_or, map, All, Result, Ok, Err, IfOk, Option, None, Some, is_some, option_map, refl, sym, ap, ap₂, subst, ◌∙◌, arith, ⊎_elim, add-one}
+use Rattle.std.proofs.Common.{◌≡◌, ℕ, zero, suc, ◌+◌, ◌<◌, ◌≤◌, Bool, true, false, ◌&&◌, cond, leb, List, [], ◌∷◌, ◌++◌, length, get_or, map, All, Result, Ok, Err, IfOk, Option, None, Some, is_some, option_map, refl, sym, ap, ap₂, ◌∙◌, arith, ⊎_elim, add-one}
 use Rattle.std.specs.Option.{option_to_list}
 use Rattle.std.specs.List.{range_with_len}
 use Rattle.std.proofs.lemmas.Bool.{cases_lt, le-leb}
@@ -9,9 +9,9 @@ use Rattle.std.proofs.lemmas.List.FromFn.{map-range_with_len_more, get_or-map-ra
 use Rattle.air_symbolic.specs.Nodes.{node_at}
 use Rattle.air_symbolic.specs.declared.pools.expr.SymbolicExpr.{SymbolicExpr}
 use Rattle.air_infix.specs.Names.{passing_below, name_by, is_reached, has_operation, places_of, is_named}
-use Rattle.air_infix.specs.Counts.{AreMarks, places_for, AreCounted, is_more, passes}
+use Rattle.air_infix.specs.Counts.{places_for, AreCounted, is_more, passes}
 use Rattle.air_infix.specs.declared.counts.Places.{Places}
-use Rattle.air_infix.specs.declared.counts.Places.TheVariants.{Nowhere, Once, More}
+use Rattle.air_infix.specs.declared.counts.Places.TheVariants.{Nowhere}
 
 -- ---- one number more
 

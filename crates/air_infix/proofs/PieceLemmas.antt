@@ -1,5 +1,5 @@
 -- Pieces, one after another.
-use Rattle.std.proofs.Common.{◌≡◌, ℕ, suc, ◌+◌, ◌<◌, ◌≤◌, Bool, true, false, List, [], ◌∷◌, ◌++◌, All, Result, Ok, Err, OnOk, append_assoc, append-nil, refl, sym, ap, subst, ◌∙◌, arith}
+use Rattle.std.proofs.Common.{◌≡◌, ℕ, ◌+◌, ◌<◌, ◌≤◌, Bool, true, false, List, [], ◌∷◌, ◌++◌, All, Result, Ok, Err, OnOk, append_assoc, append-nil, refl, sym, ap, ◌∙◌, arith}
 use Rattle.std.proofs.lemmas.List.Elements.{All-nil, All-cons, All-append}
 use Rattle.air_field.specs.Modular.{Modular}
 use Rattle.air_symbolic.specs.Nodes.{OperandsBelow}
@@ -10,7 +10,7 @@ use Rattle.air_infix.specs.declared.binding.Binding.{Binding}
 use Rattle.air_infix.specs.declared.binding.Binding.TheVariants.{Loose, Summand, Factor, Negated}
 use Rattle.air_infix.specs.declared.pieces.Piece.{Piece}
 use Rattle.air_infix.specs.declared.pieces.Piece.TheVariants.{Operand, Plus, Minus, Times, Close}
-use Rattle.air_infix.specs.Infix.{Shown, shown_node, text_of, leaf_text, opening, closing, wrapped, wraps_sum, wraps_product}
+use Rattle.air_infix.specs.Infix.{Shown, shown_node, text_of, leaf_text, opening, wrapped, wraps_sum, wraps_product}
 use Rattle.air_infix.specs.Pieces.{piece_text, rest_text, pair_pieces, node_front, node_rest, IsPieceBelow, shown_size, piece_size, rest_size}
 
 -- what follows of two facts on one success

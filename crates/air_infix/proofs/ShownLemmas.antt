@@ -1,5 +1,5 @@
 -- What a number is shown as, by its node.
-use Rattle.std.proofs.Common.{◌≡◌, ◌⊎◌, ℕ, ◌+◌, ◌<◌, ◌≤◌, true, false, cond, eqb, List, [], ◌∷◌, length, Option, None, Some, refl, sym, ap, ap₂, subst, ◌∙◌, arith, ⊎_elim}
+use Rattle.std.proofs.Common.{◌≡◌, ℕ, ◌<◌, ◌≤◌, true, false, cond, eqb, List, [], ◌∷◌, length, Option, None, Some, refl, sym, ap, ap₂, subst, ◌∙◌, arith, ⊎_elim}
 use Rattle.std.proofs.lemmas.Bool.{ne_eqb}
 use Rattle.std.proofs.lemmas.Bool.Decides.{eqb_tells}
 use Rattle.air_symbolic.specs.Leaves.{Leaves}
@@ -7,7 +7,7 @@ use Rattle.air_symbolic.specs.Nodes.{node_at, WellFormed, OperandsBelow, IsNode}
 use Rattle.air_symbolic.specs.laws.Numbers.{at_end, node_at-newest, node_at-older}
 use Rattle.air_symbolic.specs.declared.pools.expr.SymbolicExpr.{SymbolicExpr}
 use Rattle.air_symbolic.specs.declared.pools.expr.SymbolicExpr.TheVariants.{Leaf, Add, Sub, Neg, Mul}
-use Rattle.air_infix.specs.Infix.{Shown, nothing, leaf, name, sum, difference, negative, product, shown_node, named_or, shown_at, shown}
+use Rattle.air_infix.specs.Infix.{sum, difference, negative, product, shown_node, named_or, shown_at, shown}
 
 -- operands below j are below what is no less
 pub below-more : {A : Type 0} (j k : ℕ) (n : SymbolicExpr A) → j ≤ k → OperandsBelow j n → OperandsBelow k n

@@ -32,7 +32,7 @@ fn write_piece<F: PrimeField64>(
         OnOk result (rest_size f rest.new.items < rest_size f rest.old.items + piece_size f piece) }
 {
     match piece {
-        Piece::Operand { id, within } => match names.name(id) {
+        Piece::Operand(id, within) => match names.name(id) {
             Some(name) => write!(text, "%{name}"),
             None => leave_node(text, rest, *pool.node(id), within),
         },
@@ -76,10 +76,7 @@ pub fn push_infix<F: PrimeField64>(
         text_of F.residues Binding.Loose (shown (λ i. get_or names.now.1 i None) pool.now.1 id)) }
 {
     let mut rest = Vec::new(alloc);
-    rest.push(Piece::Operand {
-        id,
-        within: Binding::Loose,
-    })?;
+    rest.push(Piece::Operand(id, Binding::Loose))?;
     write_rest(text, rest, pool, names)
 }
 

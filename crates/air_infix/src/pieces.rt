@@ -13,10 +13,7 @@ use std::alloc::AllocError;
 #[derive(Clone, Copy)]
 pub enum Piece<F> {
     /// An expression, which stands in such a place.
-    Operand {
-        id: ExprId<BaseLeaf<F>>,
-        within: Binding,
-    },
+    Operand(ExprId<BaseLeaf<F>>, Binding),
     Plus,
     Minus,
     Times,
@@ -64,51 +61,30 @@ pub fn leave_node<F: PrimeField64>(
             text,
             rest,
             within.wraps_sum(),
-            Piece::Operand {
-                id: x,
-                within: Binding::Loose,
-            },
+            Piece::Operand(x, Binding::Loose),
             Piece::Plus,
-            Piece::Operand {
-                id: y,
-                within: Binding::Summand,
-            },
+            Piece::Operand(y, Binding::Summand),
         ),
         SymbolicExpr::Sub { x, y, .. } => leave_pair(
             text,
             rest,
             within.wraps_sum(),
-            Piece::Operand {
-                id: x,
-                within: Binding::Loose,
-            },
+            Piece::Operand(x, Binding::Loose),
             Piece::Minus,
-            Piece::Operand {
-                id: y,
-                within: Binding::Summand,
-            },
+            Piece::Operand(y, Binding::Summand),
         ),
         SymbolicExpr::Neg { x, .. } => {
             text.push_str("-")?;
-            rest.push(Piece::Operand {
-                id: x,
-                within: Binding::Negated,
-            })?;
+            rest.push(Piece::Operand(x, Binding::Negated))?;
             Ok(())
         }
         SymbolicExpr::Mul { x, y, .. } => leave_pair(
             text,
             rest,
             within.wraps_product(),
-            Piece::Operand {
-                id: x,
-                within: Binding::Summand,
-            },
+            Piece::Operand(x, Binding::Summand),
             Piece::Times,
-            Piece::Operand {
-                id: y,
-                within: Binding::Factor,
-            },
+            Piece::Operand(y, Binding::Factor),
         ),
     }
 }

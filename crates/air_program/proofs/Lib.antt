@@ -19,3 +19,5 @@ pub mod MemberLaws
 pub mod InputLaws
 pub mod TokenLemmas
 pub mod PartLemmas
+pub mod NamedAnswers
+pub mod ShowAnswers

@@ -158,7 +158,7 @@ module _ {F : Type 0} {order : ℕ} (modular : Modular F order) where
       both_or_none_agrees (codes "preprocessed_width") (codes "preprocessed") whole_number (list_of (element modular)) _
       (both_agree _ (width_member (codes "preprocessed_width")) (width_agrees (codes "preprocessed_width")) _ (elements_member modular (codes "preprocessed")) (numbers_agree (codes "preprocessed")))
 
-  constraints_agree : Agrees (needed (codes "constraints") (list_of (constraint modular))) (constraints_member modular)
+  pub constraints_agree : Agrees (needed (codes "constraints") (list_of (constraint modular))) (constraints_member modular)
   unfolding constraints_member
   constraints_agree = needed_agrees (codes "constraints") (list_of (constraint modular)) (trees modular) trees_agree
 

@@ -7,6 +7,8 @@ pub mod Fibonacci
 pub mod Answer
 pub mod Fields
 pub mod FlatAnswer
+pub mod ByField
+pub mod Shown
 pub mod Commands
 pub mod Requests
 pub mod Outcome

@@ -15,6 +15,7 @@ use crate::fibonacci::Fibonacci;
 use crate::flat::answer_flat;
 use crate::input::{Input, ParseFault, parse};
 use crate::refusals::Refusal;
+use crate::show::answer_show;
 use crate::texts::{Findings, findings_text};
 use air_builder::AirError;
 use air_field::{BabyBear, PrimeField64, RowMajorMatrix};
@@ -172,5 +173,6 @@ pub fn answer(alloc: Global, request: Request, input: &[u8]) -> Result<(u8, Stri
             transition_weight,
         } => answer_trace(alloc, command, cap, transition_weight, input),
         Request::Flat => answer_flat(alloc, input),
+        Request::Show => answer_show(alloc, input),
     }
 }

@@ -24,6 +24,8 @@ pub enum Request {
     },
     /// An audit of the AIR and the trace of a JSON object.
     Flat,
+    /// The constraints of a JSON object, as people read them.
+    Show,
 }
 
 /// The command of this word, if it is one.
@@ -105,6 +107,9 @@ fn word_request(word: &str) -> Option<Request>
 {
     if word == "flat" {
         return Some(Request::Flat);
+    }
+    if word == "show" {
+        return Some(Request::Show);
     }
     let command = command_of(word)?;
     Some(Request::Trace {

@@ -26,7 +26,7 @@ use p3_air::FlatAir;
 use std::alloc::Global;
 
 /// The parts of the JSON value that the bytes stand for, its constraints read as over F.
-fn parts_from<F: PrimeField64>(alloc: Global, bytes: &[u8]) -> Result<Parts<F>, Refusal>
+pub(crate) fn parts_from<F: PrimeField64>(alloc: Global, bytes: &[u8]) -> Result<Parts<F>, Refusal>
     ensures parts { IfOk result (λ p. (d : Data) × StandsFor bytes.now d
         × ArePartsOf F.residues d (view p.rest) p.constraints) }
     ensures refused { IfErr result (λ why. (why ≡ Refusal.Memory)

@@ -1,7 +1,7 @@
 //! The JSON object that an AIR and its trace are read from.
 
 mod cells;
-mod constraints;
+pub(crate) mod constraints;
 mod elements;
 pub mod input;
 pub mod laws;

@@ -12,6 +12,7 @@ pub mod flat_input;
 mod input;
 pub mod program;
 pub mod refusals;
+mod show;
 pub mod streams;
 mod texts;
 

@@ -1,7 +1,7 @@
-use Rattle.std.proofs.Common.{◌≡◌, ℕ, ◌++◌, [], length, get_or, None, string_bytes, append-nil, sym, ap, ap₂, ◌∙◌}
+use Rattle.std.proofs.Common.{◌≡◌, ℕ, ◌++◌, [], get_or, None, string_bytes, append-nil, sym, ap, ap₂, ◌∙◌}
 use Rattle.std.proofs.lemmas.Result.{on_ok_weaker}
 use Rattle.air_infix.specs.Infix.{shown, shown_at, shown_node, text_of}
-use Rattle.air_infix.specs.Pieces.{rest_text, node_front, node_rest}
+use Rattle.air_infix.specs.Pieces.{rest_text, node_rest}
 use Rattle.air_infix.specs.declared.binding.Binding.TheVariants.{Loose}
 use Rattle.air_infix.proofs.PieceLemmas.{left-text}
 use Rattle.air_infix.proofs.ShownLemmas.{shown_at-node}

@@ -1,7 +1,6 @@
-use Rattle.std.proofs.Common.{◌≡◌, ℕ, ◌+◌, ◌<◌, ◌++◌, List, length, get_or, Option, None, All, string_bytes, sym, ap, ap₂, subst, ◌∙◌, arith}
-use Rattle.air_infix.specs.Infix.{Shown, shown, shown_node, text_of}
-use Rattle.air_infix.specs.Pieces.{rest_text, rest_size, piece_text, piece_size, node_front, node_rest, shown_size, IsPieceBelow}
-use Rattle.air_infix.specs.declared.pieces.Piece.TheVariants.{Operand}
+use Rattle.std.proofs.Common.{◌≡◌, ℕ, ◌+◌, ◌<◌, ◌++◌, length, get_or, None, All, string_bytes, sym, ap, ap₂, subst, ◌∙◌, arith}
+use Rattle.air_infix.specs.Infix.{shown, shown_node, text_of}
+use Rattle.air_infix.specs.Pieces.{rest_text, rest_size, piece_text, piece_size, shown_size, IsPieceBelow}
 use Rattle.air_infix.proofs.PieceLemmas.{on_both, left-text, left-size, left-below}
 use Rattle.air_infix.proofs.ShownLemmas.{unnamed, below-more}
 use Rattle.air_infix.proofs.infix.write_piece.Goals as goal

@@ -1,9 +1,9 @@
-use Rattle.std.proofs.Common.{◌≡◌, ℕ, ◌++◌, List, get_or, None, codes, decimal, string_bytes, sym, ap, subst, ◌∙◌}
+use Rattle.std.proofs.Common.{◌≡◌, ◌++◌, get_or, None, codes, decimal, string_bytes, ap, ◌∙◌}
 use Rattle.air_field.specs.Degree.{degree_by, cached_weight}
 use Rattle.air_symbolic.specs.BaseLeaves.{base_reads}
 use Rattle.air_symbolic.specs.Pools.{term_at}
 use Rattle.air_infix.specs.Infix.{shown, text_of}
-use Rattle.air_infix.specs.Lines.{lines_text, numbered, constraint_line}
+use Rattle.air_infix.specs.Lines.{constraint_line}
 use Rattle.air_infix.specs.declared.binding.Binding.TheVariants.{Loose}
 use Rattle.air_infix.proofs.LineLemmas.{line-more, line-all, constraint-pieces}
 use Rattle.air_infix.proofs.lines.push_constraints.Goals as goal

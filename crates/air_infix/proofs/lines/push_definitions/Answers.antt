@@ -1,4 +1,4 @@
-use Rattle.std.proofs.Common.{◌≡◌, ℕ, ◌++◌, List, get_or, None, codes, decimal, string_bytes, sym, ap, subst, ◌∙◌}
+use Rattle.std.proofs.Common.{◌≡◌, ◌++◌, get_or, None, codes, decimal, string_bytes, ap, ◌∙◌}
 use Rattle.air_infix.specs.Infix.{shown_at, text_of}
 use Rattle.air_infix.specs.Lines.{lines_text, numbered, definition_line}
 use Rattle.air_infix.specs.declared.binding.Binding.TheVariants.{Loose}

@@ -1,4 +1,3 @@
-use Rattle.std.proofs.Common.{◌+◌, ◌≤◌, length, arith}
 use Rattle.air_infix.specs.Counts.{passes}
 use Rattle.air_infix.proofs.NameLemmas.{named-more, names-more, names-all}
 use Rattle.air_infix.proofs.naming.give_names.Goals as goal

@@ -1,0 +1,10 @@
+use Rattle.std.proofs.Common.{◌≡◌, length}
+use Rattle.air_explain.specs.Values.{Known}
+use Rattle.air_explain.proofs.values.values_of.Given as goal
+
+-- the values so far
+abbrev pub invariant-loop-number : goal.invariant-loop-number
+invariant-loop-number g l = record {
+  places : length l.values.items ≡ l.number;
+  known : Known g.F.Field.ring (g.R.LeafValues.reads l.leaves) l.pool.1 l.marks l.number l.values.items;
+}

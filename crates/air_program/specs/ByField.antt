@@ -1,0 +1,21 @@
+-- Answers to a JSON value over the field that it names.
+use Rattle.std.specs.Prelude.{◌⊎◌, ℕ, List, codes, Option, Some, None}
+use Rattle.serde_json.specs.Data.{Data}
+use Rattle.air_field.specs.Modular.{Modular}
+use Rattle.air_program.specs.Fields.{field_of, OverField}
+use Rattle.air_program.specs.FlatAnswer.{StandsFor, HasNoValue}
+use Rattle.air_program.specs.Refusals.{IsRefusal}
+use Rattle.air_program.specs.declared.field_name.FieldName.{FieldName}
+
+-- Below, `answers` relates a value to a status and a text, over each field.
+
+-- over the field that is named, and `Field` where none is
+abbrev pub AnswersNamed : ((F : Type 0) (p : ℕ) → Modular F p → Data → ℕ → List ℕ → Type 0) → Option FieldName → Data → ℕ → List ℕ → Type 0
+AnswersNamed answers None d status text = IsRefusal (codes "Field") status text
+AnswersNamed answers (Some field) d status text = OverField (λ F p m. answers F p m d status text) field
+
+-- `Json` where the bytes stand for no value
+abbrev pub AnswersBytes : ((F : Type 0) (p : ℕ) → Modular F p → Data → ℕ → List ℕ → Type 0) → List ℕ → ℕ → List ℕ → Type 0
+AnswersBytes answers bytes status text =
+    (HasNoValue bytes × IsRefusal (codes "Json") status text)
+    ⊎ ((d : Data) × StandsFor bytes d × AnswersNamed answers (field_of d) d status text)

@@ -1,0 +1,106 @@
+//! The answer to the word `show`: the constraints of a JSON object, as people read them.
+
+ghost use Rattle.std.specs.Prelude.{◌≡◌, ◌⊎◌, ◌<◌, length, map, All, IfOk, IfErr, string_bytes};
+ghost use Rattle.serde_json.specs.Data.{Data};
+ghost use Rattle.air_symbolic.specs.BaseLeaves.{base_reads};
+ghost use Rattle.air_symbolic.specs.Pools.{IsPool};
+ghost use Rattle.air_infix.specs.Lines.{ShowsRoots};
+ghost use Rattle.air_program.specs.FlatAnswer.{StandsFor, HasNoValue};
+ghost use Rattle.air_program.specs.Parts.{InPool, AreGiven};
+ghost use Rattle.air_program.specs.Readers.{constraints_member};
+ghost use Rattle.air_program.specs.Refusals.{name_of, refusal_text};
+ghost use Rattle.air_program.specs.Requests.{MayRefuse};
+ghost use Rattle.air_program.specs.Shown.{ShownIn, IsShowAnswer};
+
+use crate::commands::Request;
+use crate::field_name::{FieldName, field_of};
+use crate::flat::parts_from;
+use crate::flat_input::constraints::{BaseId, BasePool, Constraints};
+use crate::flat_input::parts::Parts;
+use crate::refusals::Refusal;
+use air_builder::AirError;
+use air_field::{BabyBear, Goldilocks, KoalaBear, Mersenne31, PrimeField64};
+use air_infix::show;
+use std::alloc::Global;
+
+/// The status and the text that show the roots.
+fn show_roots<F: PrimeField64>(
+    alloc: Global,
+    pool: &BasePool<F>,
+    roots: &[BaseId<F>],
+) -> Result<(u8, String), Refusal>
+    requires pool { IsPool base_reads pool.now }
+    requires here { All (λ i. i < length pool.now.1) roots.now }
+    ensures status { IfOk result (λ p. p.0 ≡ 0) }
+    ensures shows { IfOk result (λ p. ShowsRoots F.residues pool.now roots.now (string_bytes p.1)) }
+    ensures refused { IfErr result (λ why. why ≡ Refusal.Memory) }
+{
+    match show(alloc, pool, roots) {
+        Ok(text) => Ok((0, text)),
+        Err(_) => Err(Refusal::Memory),
+    }
+}
+
+/// The status and the text that show these constraints, or the fault that was found in place of them.
+fn show_constraints<F: PrimeField64>(
+    alloc: Global,
+    constraints: Constraints<F>,
+) -> Result<(u8, String), Refusal>
+    requires { InPool constraints }
+    ensures ok { IfOk result (λ p. (d : Data) → AreGiven (constraints_member F.residues d) constraints
+        → ShownIn F F.ORDER_U64 F.residues d p.0 (string_bytes p.1)) }
+    ensures refused { IfErr result (λ why. (why ≡ Refusal.Memory) ⊎ ((d : Data)
+        → AreGiven (constraints_member F.residues d) constraints
+        → ShownIn F F.ORDER_U64 F.residues d 2 (refusal_text (name_of why)))) }
+{
+    let Constraints { pool, roots } = constraints;
+    match roots {
+        Ok(roots) => show_roots(alloc, &pool, &roots),
+        Err(fault) => Err(Refusal::from(AirError::from(fault))),
+    }
+}
+
+/// The status and the text that show the constraints among these parts.
+fn show_parts<F: PrimeField64>(alloc: Global, parts: Parts<F>) -> Result<(u8, String), Refusal>
+    requires { InPool parts.constraints }
+    ensures ok { IfOk result (λ p. (d : Data)
+        → AreGiven (constraints_member F.residues d) parts.constraints
+        → ShownIn F F.ORDER_U64 F.residues d p.0 (string_bytes p.1)) }
+    ensures refused { IfErr result (λ why. (why ≡ Refusal.Memory) ⊎ ((d : Data)
+        → AreGiven (constraints_member F.residues d) parts.constraints
+        → ShownIn F F.ORDER_U64 F.residues d 2 (refusal_text (name_of why)))) }
+{
+    let Parts {
+        rest: _,
+        constraints,
+    } = parts;
+    show_constraints(alloc, constraints)
+}
+
+/// The status and the text that show the constraints of an object over F, of which the bytes are the text.
+fn show_over<F: PrimeField64>(alloc: Global, bytes: &[u8]) -> Result<(u8, String), Refusal>
+    ensures ok { IfOk result (λ p. (d : Data) × StandsFor bytes.now d
+        × ShownIn F F.ORDER_U64 F.residues d p.0 (string_bytes p.1)) }
+    ensures refused { IfErr result (λ why. (why ≡ Refusal.Memory)
+        ⊎ (((why ≡ Refusal.Json) × HasNoValue bytes.now) ⊎ ((d : Data) × StandsFor bytes.now d
+        × ShownIn F F.ORDER_U64 F.residues d 2 (refusal_text (name_of why))))) }
+{
+    let parts: Parts<F> = parts_from(alloc, bytes)?;
+    show_parts(alloc, parts)
+}
+
+/// The status and the text that answer `show`: of the object the members `field` and `constraints` are read alone. It is
+/// read as over `BabyBear`, and once more over the field that it names, where that is another one.
+pub fn answer_show(alloc: Global, bytes: &[u8]) -> Result<(u8, String), Refusal>
+    ensures ok { IfOk result (λ p. IsShowAnswer bytes.now p.0 (string_bytes p.1)) }
+    ensures refused { IfErr result (MayRefuse Request.Show bytes.now) }
+{
+    let parts: Parts<BabyBear> = parts_from(alloc, bytes)?;
+    match field_of(&parts.rest) {
+        Some(FieldName::BabyBear) => show_parts(alloc, parts),
+        Some(FieldName::KoalaBear) => show_over::<KoalaBear>(alloc, bytes),
+        Some(FieldName::Mersenne31) => show_over::<Mersenne31>(alloc, bytes),
+        Some(FieldName::Goldilocks) => show_over::<Goldilocks>(alloc, bytes),
+        None => Err(Refusal::Field),
+    }
+}
