@@ -1,3 +1,0 @@
-pub mod Values
-pub mod Variables
-pub mod Explained
