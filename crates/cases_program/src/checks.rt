@@ -1,7 +1,7 @@
 //! Checks of whole traces.
 
 use air_field::{BabyBear, RowMajorMatrix};
-use air_program::flat_input_from;
+use air_program::{FlatInput, flat_input_from};
 use cases::words::value_of;
 use cases::{Fault, Why};
 use p3_air::{
@@ -65,6 +65,17 @@ pub fn show_check<'a, A: Air<DebugConstraintBuilder<'a, BabyBear, BabyBear>>>(
     }
 }
 
+// The AIR with this preprocessed table, if there is one.
+fn with_table(
+    air: FlatAir<BabyBear>,
+    table: Option<RowMajorMatrix<BabyBear>>,
+) -> FlatAir<BabyBear> {
+    match table {
+        Some(table) => air.with_preprocessed(table),
+        None => air,
+    }
+}
+
 /// Adds what a check of an object's trace answers.
 pub fn show_flat_check(
     alloc: Global,
@@ -73,26 +84,19 @@ pub fn show_flat_check(
     text: &mut String,
 ) -> Result<(), Fault> {
     let value = value_of(alloc, object)?;
-    let input = flat_input_from::<BabyBear>(alloc, &value)?;
-    let air = FlatAir::new(
-        input.pool,
-        input.roots,
-        input.main.width(),
-        input.public_values.len(),
-        input.periodic,
-        input.cells,
-    )?;
-    let air = match input.preprocessed {
-        Some(table) => air.with_preprocessed(table),
-        None => air,
-    };
-    show_check(
-        alloc,
-        call,
-        &air,
-        &input.main,
-        &input.public_values,
-        input.cap,
-        text,
-    )
+    let FlatInput {
+        pool,
+        roots,
+        main,
+        public_values,
+        periodic,
+        cells,
+        preprocessed,
+        cap,
+        ..
+    } = flat_input_from::<BabyBear>(alloc, &value)?;
+    let (width, count) = (main.width(), public_values.len());
+    let air = FlatAir::new(pool, roots, width, count, periodic, cells)?;
+    let air = with_table(air, preprocessed);
+    show_check(alloc, call, &air, &main, &public_values, cap, text)
 }
