@@ -69,8 +69,8 @@ pub fn read_from(
     reader: &mut Reader<'_>,
     depth: usize,
 ) -> Result<Value, TextFault>
-    ensures ok { IfOk result (λ v. converted of_json (value depth (token_of token.entry ∷ reader.old))
-        ≡ Some (view v, reader.new)) }
+    ensures ok { IfOk result (λ v. converted of_json
+        (value depth (token_of token.entry ∷ reader.old)) ≡ Some (view v, reader.new)) }
     ensures shorter { OnOk result (length reader.new ≤ length reader.old) }
     ensures err { result ≡ Err TextFault.Json → converted of_json
         (value depth (token_of token.entry ∷ reader.old)) ≡ None }

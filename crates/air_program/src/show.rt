@@ -45,7 +45,8 @@ fn show_constraints<F: PrimeField64>(
     constraints: Constraints<F>,
 ) -> Result<(u8, String), Refusal>
     requires { InPool constraints }
-    ensures ok { IfOk result (λ p. (d : Data) → AreGiven (constraints_member F.residues d) constraints
+    ensures ok { IfOk result (λ p. (d : Data)
+        → AreGiven (constraints_member F.residues d) constraints
         → ShownIn F F.ORDER_U64 F.residues d p.0 (string_bytes p.1)) }
     ensures refused { IfErr result (λ why. (why ≡ Refusal.Memory) ⊎ ((d : Data)
         → AreGiven (constraints_member F.residues d) constraints
