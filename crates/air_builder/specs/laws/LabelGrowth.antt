@@ -15,7 +15,7 @@ use Rattle.air_builder.specs.Refusals.{PartOf}
 use Rattle.air_builder.specs.Labels.{Label, Unasked, Shown, Labelled, IsSaid, AreSaidFrom, discarding, LabelledByEach, LabelledByBeginning, LabelledEach, NamedLaws}
 use Rattle.air_builder.specs.laws.Batches.{grew_one, grew_none}
 use Rattle.air_builder.specs.laws.Labels.{one_label, labelled_one, no_label}
-use Rattle.air_builder.proofs.Growth.{lent, lent_asserted, making_refused, made_of, made_of_both, refused_of, refused_of_both}
+use Rattle.air_builder.specs.laws.Growth.{lent, lent_asserted, making_refused, made_of, made_of_both, refused_of, refused_of_both}
 use Rattle.std.proofs.lemmas.Slice.Zip.{AllZip-long}
 use Rattle.air_builder.specs.laws.Zips.{AllZip-parts, AllZip-nil}
 

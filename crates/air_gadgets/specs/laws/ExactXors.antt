@@ -12,8 +12,8 @@ use Rattle.air_builder.specs.Assertion.{Assertion, Base}
 use Rattle.air_gadgets.specs.Words.{rotated_left}
 use Rattle.air_gadgets.specs.Gadgets.{xor_terms, half_terms}
 use Rattle.air_gadgets.specs.Exact.{AllVanish, XorIsExact}
-use Rattle.air_gadgets.proofs.PackedBits.{value-packed_term}
-use Rattle.air_gadgets.proofs.XorLaws.{AllChecked, TermsAreZero, ring_xors, map-rotated, xor_exact}
+use Rattle.air_gadgets.specs.laws.PackedBits.{value-packed_term}
+use Rattle.air_gadgets.specs.laws.Xors.{AllChecked, TermsAreZero, ring_xors, map-rotated, xor_exact}
 
 module _ {F : Type 0} (R : CommRing F) (s : Leaf → F) where
   value-xors : (ts us : List (Term F)) → map (value (itself R) s) (xor_terms ts us) ≡ ring_xors R (map (value (itself R) s) ts) (map (value (itself R) s) us)

@@ -8,8 +8,8 @@ use Rattle.air_field.specs.Value.{value}
 use Rattle.air_gadgets.specs.Bits.{packed}
 use Rattle.air_gadgets.specs.Packing.{packed_from, packed_term}
 use Rattle.air_gadgets.specs.PowerSums.{PacksValuesIn, PacksNumbers, EmbedsImages}
-use Rattle.air_gadgets.proofs.BitLaws.{packed-digits}
-use Rattle.air_gadgets.proofs.PowerSums.{packs_by_powers}
+use Rattle.air_gadgets.specs.laws.Bits.{packed-digits}
+use Rattle.air_gadgets.specs.laws.PowerSums.{packs_by_powers}
 
 module _ {A : Type 0} (R : CommRing A) where
   last_bit : (x : A) → x ≡ R.add x (R.mul (R.add R.one R.one) R.nil)

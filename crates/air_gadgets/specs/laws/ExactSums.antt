@@ -4,7 +4,7 @@ use Rattle.std.proofs.Common.{sym, ◌∙◌, ap, ap₂}
 use Rattle.air_field.specs.Ring.{CommRing, image, minus}
 use Rattle.air_field.specs.laws.Images.{HasCharacteristic}
 use Rattle.air_gadgets.specs.Exact.{Add2IsExact, Add3IsExact}
-use Rattle.air_gadgets.proofs.Carrying.{carried, add2_exact, add3_exact}
+use Rattle.air_gadgets.specs.laws.Carrying.{carried, add2_exact, add3_exact}
 
 less_two_same : {A : Type 0} (R : CommRing A) (x y z k l m : A) → x ≡ k → y ≡ l → z ≡ m → minus R (minus R x y) z ≡ minus R (minus R k l) m
 less_two_same R x y z k l m e f g = λ i. minus R (minus R (e i) (f i)) (g i)
