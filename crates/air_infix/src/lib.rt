@@ -10,7 +10,7 @@ mod names;
 mod naming;
 mod pieces;
 
-pub use infix::push_infix;
+pub use infix::{push_definition, push_infix};
 pub use leaves::{push_constant, push_variable};
 pub use lines::{push_definitions, show};
 pub use names::Names;

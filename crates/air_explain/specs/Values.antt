@@ -1,0 +1,35 @@
+-- The values of a pool's numbers.
+use Rattle.std.specs.Prelude.{◌≡◌, ℕ, ◌<◌, List, length, get_or, Option, None, Some}
+use Rattle.air_field.specs.Ring.{CommRing, minus, itself}
+use Rattle.air_field.specs.Term.{Leaf}
+use Rattle.air_field.specs.Value.{value}
+use Rattle.air_symbolic.specs.BaseLeaves.{base_term, base_leaves}
+use Rattle.air_symbolic.specs.Nodes.{tree_of, IsNode}
+use Rattle.air_symbolic.specs.Reach.{EachOperand, Marked}
+use Rattle.air_symbolic.specs.Trees.{term_of}
+use Rattle.air_symbolic.specs.declared.leaves.base_leaf.BaseLeaf.{BaseLeaf}
+use Rattle.air_symbolic.specs.declared.pools.expr.SymbolicExpr.{SymbolicExpr}
+use Rattle.air_symbolic.specs.declared.pools.expr.SymbolicExpr.TheVariants as node
+
+module _ {F : Type 0} (r : CommRing F) (s : Leaf → F) where
+  -- the value of the term of number i, the leaves having the values of s
+  abbrev pub value_at : List (SymbolicExpr (BaseLeaf F)) → ℕ → F
+  value_at ns i = value (itself r) s (term_of base_term (tree_of ns i))
+
+  -- the value of a node, the operands having those of at
+  abbrev pub node_value : (ℕ → F) → SymbolicExpr (BaseLeaf F) → F
+  node_value at (node.Leaf a) = value (itself r) s (base_term a)
+  node_value at (node.Add x y d) = r.add (at x) (at y)
+  node_value at (node.Sub x y d) = minus r (at x) (at y)
+  node_value at (node.Neg x d) = r.neg (at x)
+  node_value at (node.Mul x y d) = r.mul (at x) (at y)
+
+  -- the values of the marked numbers below k are known
+  abbrev pub Known : List (SymbolicExpr (BaseLeaf F)) → List (Option ℕ) → ℕ → List F → Type 0
+  Known ns marks k values = (i : ℕ) → i < k → Marked marks i → get_or values i r.nil ≡ value_at ns i
+
+-- Marks of all nodes: each stands at its own place, and with a node its operands are marked.
+pub record AreClosed {F : Type 0} (ns : List (SymbolicExpr (BaseLeaf F))) (marks : List (Option ℕ)) : Type 0 where
+  pub places : length marks ≡ length ns
+  pub own : (i j : ℕ) → get_or marks i None ≡ Some j → j ≡ i
+  pub operands : (i : ℕ) (n : SymbolicExpr (BaseLeaf F)) → Marked marks i → IsNode base_leaves ns i n → EachOperand (λ j. Marked marks j) n

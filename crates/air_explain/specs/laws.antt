@@ -1,0 +1,2 @@
+-- Laws of what specs/ defines, which the layers above cite.
+pub mod Values

@@ -1,0 +1,93 @@
+//! The values of a pool's expressions at a row.
+ghost use Rattle.std.specs.Prelude.{◌≡◌, ◌<◌, length, get_or, IfOk};
+ghost use Rattle.air_field.specs.Assignment.{row_assignment};
+ghost use Rattle.air_symbolic.specs.BaseLeaves.{base_reads};
+ghost use Rattle.air_symbolic.specs.Nodes.{OperandsBelow};
+ghost use Rattle.air_symbolic.specs.Pools.{IsPool};
+ghost use Rattle.air_symbolic.specs.Reach.{Marked};
+ghost use Rattle.air_explain.specs.Rows.{trace_of};
+ghost use Rattle.air_explain.specs.Values.{value_at, node_value, Known, AreClosed};
+
+use crate::rows::{TraceRows, leaf_value};
+use air_field::Field;
+use air_symbolic::{BaseLeaf, ExprId, ExprPool, SymbolicExpr, SymbolicExpression};
+use std::alloc::{AllocError, Global};
+
+/// The value of a number that is known.
+pub(crate) fn known<F: Field>(values: &[F], number: usize) -> F
+    requires { number < length values.now }
+    ensures { result ≡ get_or values.now number F.ring.nil }
+{
+    values[number]
+}
+
+// The value of a node at a row, from those of its operands.
+fn node_value<F: Field>(
+    values: &[F],
+    node: SymbolicExpression<F>,
+    trace: &TraceRows<'_, F>,
+    row: usize,
+) -> F
+    requires operands { OperandsBelow (length values.now) node }
+    requires row { row < length trace.now.main.now.rows }
+    ensures { result ≡ node_value F.ring (row_assignment F.ring (trace_of trace.now) row)
+        (λ i. get_or values.now i F.ring.nil) node }
+{
+    match node {
+        SymbolicExpr::Leaf(leaf) => leaf_value(trace, row, leaf),
+        SymbolicExpr::Add { x, y, .. } => known(values, x.number()).add(known(values, y.number())),
+        SymbolicExpr::Sub { x, y, .. } => known(values, x.number()).sub(known(values, y.number())),
+        SymbolicExpr::Neg { x, .. } => known(values, x.number()).neg(),
+        SymbolicExpr::Mul { x, y, .. } => known(values, x.number()).mul(known(values, y.number())),
+    }
+}
+
+// The value of a number at a row, if it is marked.
+fn marked_value<F: Field>(
+    pool: &ExprPool<BaseLeaf<F>>,
+    marks: &[Option<ExprId<BaseLeaf<F>>>],
+    values: &[F],
+    trace: &TraceRows<'_, F>,
+    row: usize,
+    number: usize,
+) -> F
+    requires pool { IsPool base_reads pool.now }
+    requires marks { AreClosed pool.now.1 marks.now }
+    requires row { row < length trace.now.main.now.rows }
+    requires here { number < length marks.now }
+    requires places { length values.now ≡ number }
+    requires before { Known F.ring (row_assignment F.ring (trace_of trace.now) row) pool.now.1
+        marks.now number values.now }
+    ensures { Marked marks.now number → result ≡ value_at F.ring
+        (row_assignment F.ring (trace_of trace.now) row) pool.now.1 number }
+{
+    match marks[number] {
+        Some(id) => node_value(values, *pool.node(id), trace, row),
+        None => F::ZERO,
+    }
+}
+
+/// The values of the marked numbers at a row, each at its place; at other places stands anything. It is refused for want
+/// of memory alone.
+pub fn values_at<F: Field>(
+    alloc: Global,
+    pool: &ExprPool<BaseLeaf<F>>,
+    marks: &[Option<ExprId<BaseLeaf<F>>>],
+    trace: &TraceRows<'_, F>,
+    row: usize,
+) -> Result<Vec<F>, AllocError>
+    requires pool { IsPool base_reads pool.now }
+    requires marks { AreClosed pool.now.1 marks.now }
+    requires row { row < length trace.now.main.now.rows }
+    ensures places { IfOk result (λ values. length values.items ≡ length pool.now.1) }
+    ensures known { IfOk result (λ values. Known F.ring
+        (row_assignment F.ring (trace_of trace.now) row) pool.now.1 marks.now
+        (length pool.now.1) values.items) }
+{
+    let mut values = Vec::with_capacity(alloc, marks.len())?;
+    for number in 0..marks.len() {
+        let value = marked_value(pool, marks, &values, trace, row, number);
+        values.push(value)?;
+    }
+    Ok(values)
+}
