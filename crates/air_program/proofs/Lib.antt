@@ -11,6 +11,8 @@ pub mod Caps
 pub mod Traces
 pub mod Equality
 pub mod FlatAnswers
+pub mod ExplainAnswers
+pub mod ExplainedLemmas
 pub mod Outcomes
 pub mod NamedAnswers
 pub mod ShowAnswers

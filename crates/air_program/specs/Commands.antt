@@ -47,6 +47,7 @@ abbrev pub word_request : List ℕ → Option Request
 word_request word =
     if bytes_eq word (codes "flat") then Some requests.Flat else
     if bytes_eq word (codes "show") then Some requests.Show else
+    if bytes_eq word (codes "explain") then Some requests.Explain else
     option_map (trace None 0) (command_of word)
 
 -- a word by itself, or a command and behind it a cap, a weight or both

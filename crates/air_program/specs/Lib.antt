@@ -7,6 +7,8 @@ pub mod Answer
 pub mod FlatAnswer
 pub mod ByField
 pub mod Shown
+pub mod Explained
+pub mod AtHand
 pub mod Commands
 pub mod Requests
 pub mod Outcome

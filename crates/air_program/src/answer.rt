@@ -11,6 +11,7 @@ ghost use Rattle.air_program.specs.Answer.{AuditFinds, AuditRefuses, fibonacci_i
 ghost use Rattle.air_program.specs.Requests.{Answers, MayRefuse};
 
 use crate::commands::{Command, Request};
+use crate::explain::answer_explain;
 use crate::fibonacci::Fibonacci;
 use crate::flat::answer_flat;
 use crate::input::{Input, ParseFault, parse};
@@ -105,7 +106,7 @@ fn audit_fibonacci(
 }
 
 /// 0 without failures, 1 with.
-fn status(findings: &Findings) -> u8
+pub(crate) fn status(findings: &Findings) -> u8
     ensures { result ≡ findings_status (found findings.now) }
 {
     if findings.report.failures.is_empty() {
@@ -174,5 +175,6 @@ pub fn answer(alloc: Global, request: Request, input: &[u8]) -> Result<(u8, Stri
         } => answer_trace(alloc, command, cap, transition_weight, input),
         Request::Flat => answer_flat(alloc, input),
         Request::Show => answer_show(alloc, input),
+        Request::Explain => answer_explain(alloc, input),
     }
 }

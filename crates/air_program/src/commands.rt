@@ -26,6 +26,8 @@ pub enum Request {
     Flat,
     /// The constraints of a JSON object, as people read them.
     Show,
+    /// An audit of the AIR and the trace of a JSON object, and what stands where it fails.
+    Explain,
 }
 
 /// The command of this word, if it is one.
@@ -110,6 +112,9 @@ fn word_request(word: &str) -> Option<Request>
     }
     if word == "show" {
         return Some(Request::Show);
+    }
+    if word == "explain" {
+        return Some(Request::Explain);
     }
     let command = command_of(word)?;
     Some(Request::Trace {

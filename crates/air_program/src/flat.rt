@@ -39,8 +39,8 @@ pub(crate) fn parts_from<F: PrimeField64>(alloc: Global, bytes: &[u8]) -> Result
     }
 }
 
-// An AIR without a preprocessed table, and with this one, if there is one.
-fn with_table<F: Field>(air: FlatAir<F>, table: Option<RowMajorMatrix<F>>) -> FlatAir<F>
+/// An AIR without a preprocessed table, and with this one, if there is one.
+pub(crate) fn with_table<F: Field>(air: FlatAir<F>, table: Option<RowMajorMatrix<F>>) -> FlatAir<F>
     requires { air.preprocessed ≡ None }
     ensures pool { result.pool ≡ air.pool }
     ensures roots { result.roots ≡ air.roots }

@@ -3,6 +3,7 @@
 
 mod answer;
 mod commands;
+mod explain;
 pub mod fibonacci;
 mod flat;
 mod input;

@@ -16,7 +16,7 @@ pub struct Findings {
 
 /// Adds the lines of the three counts.
 #[tactic(auto, unfolding(crate::specs::Texts::count_lines))]
-fn push_counts(text: &mut String, findings: &Findings) -> Result<(), AllocError>
+pub(crate) fn push_counts(text: &mut String, findings: &Findings) -> Result<(), AllocError>
     ensures { OnOk result (string_bytes text.new ≡ string_bytes text.old ++ lines_text
         (count_lines (found findings.now))) }
 {
@@ -49,7 +49,7 @@ fn shown_label(alloc: Global, label: &Option<String>) -> Result<String, AllocErr
 
 /// Adds the line of a failure.
 #[tactic(auto, unfolding(crate::specs::Texts::place_text))]
-fn push_failure(
+pub(crate) fn push_failure(
     alloc: Global,
     text: &mut String,
     failure: &ConstraintFailure,

@@ -1,0 +1,95 @@
+-- What answers the word `explain`.
+use Rattle.std.specs.Prelude.{◌≡◌, ◌⊎◌, ℕ, ◌-◌, ◌<◌, List, [], ◌∷◌, ◌++◌, length, Option, None, Some, slice_get}
+use Rattle.std.specs.Option.{option_to_list}
+use Rattle.std.specs.List.{AllZip, flat_map}
+use Rattle.serde_json.specs.Data.{Data}
+use Rattle.air_field.specs.Assignment.{Trace, row_assignment}
+use Rattle.air_field.specs.Modular.{Modular, modular_ring}
+use Rattle.air_field.specs.Term.{Leaf}
+use Rattle.air_core.specs.declared.boundary.BoundaryPublic.{BoundaryPublic}
+use Rattle.air_core.specs.declared.errors.AirError.{AirError}
+use Rattle.air_symbolic.specs.BaseLeaves.{base_leaves}
+use Rattle.air_symbolic.specs.ExtLeaves.{BaseNodes}
+use Rattle.air_symbolic.specs.Reach.{Reached}
+use Rattle.air_infix.specs.Names.{AreNames}
+use Rattle.air_explain.specs.Cells.{cell_line}
+use Rattle.air_explain.specs.Explained.{Explains, reached_definitions}
+use Rattle.air_report.specs.Given.{given_trace}
+use Rattle.p3_air.specs.Audits.{check_input}
+use Rattle.air_object.specs.Input.{SpellsInput}
+use Rattle.air_object.specs.declared.input.FlatInput.{FlatInput}
+use Rattle.air_program.specs.Answer.{AuditFinds}
+use Rattle.air_program.specs.ByField.{AnswersBytes}
+use Rattle.air_program.specs.FlatAnswer.{flat_instance, RefusesValue}
+use Rattle.air_program.specs.Refusals.{IsRefusal, air_name}
+use Rattle.air_program.specs.Texts.{Found, place_of, IsFailureLine, count_lines, findings_status, lines_text}
+
+-- a failure: its row, its constraint and the label's bytes
+abbrev pub Failure : Type 0
+Failure = ℕ × ℕ × Option (List ℕ)
+
+-- the constraints at the places of the failures
+abbrev pub failing_roots : List ℕ → List Failure → List ℕ
+failing_roots roots failures = flat_map (λ f. option_to_list (slice_get roots (place_of f).1)) failures
+
+-- a line for the cell, if there is one, the leaves having the values of s
+abbrev pub cell_lines : {F : Type 0} {p : ℕ} → Modular F p → (Leaf → F) → Option BoundaryPublic → List (List ℕ)
+cell_lines m s None = []
+cell_lines m s (Some cell) = cell_line m s cell.column cell.public_value ∷ []
+
+-- Below, constraints are roots of a pool, and `names` has at each number's place its name.
+
+module _ {F : Type 0} {p : ℕ} (m : Modular F p) (pool : BaseNodes F) (roots : List ℕ) (cells : List BoundaryPublic) (trace : Trace F) (names : List (Option ℕ)) where
+  -- what stands at the leaves in a row
+  abbrev pub at_row : ℕ → Leaf → F
+  at_row row = row_assignment (modular_ring m) trace row
+
+  -- What stands below a failure: the lines of the constraint at its place, in its row; where there is no such constraint, that
+  -- of the cell whose number in the list of cells follows those of the constraints.
+  abbrev pub IsBelow : ℕ × ℕ → Option ℕ → List (List ℕ) → Type 0
+  IsBelow place (Some root) lines =
+      place.0 < length trace.main_trace.rows → Explains m (modular_ring m) (at_row place.0) pool names root lines
+  IsBelow place None lines = lines ≡ cell_lines m (at_row place.0) (slice_get cells (place.1 - length roots))
+
+  -- the line that `flat` prints for the failure, and what stands below
+  pub record IsExplained (f : Failure) (lines : List (List ℕ)) : Type 0 where
+    pub line : List ℕ
+    pub below : List (List ℕ)
+    pub is_line : IsFailureLine f line
+    pub is_below : IsBelow (place_of f) (slice_get roots (place_of f).1) below
+    pub lines_are : lines ≡ line ∷ below
+
+  -- new is old and further lines, which explain these failures
+  pub record PushesExplained (failures : List Failure) (old new : List ℕ) : Type 0 where
+    pub blocks : List (List (List ℕ))
+    pub each : AllZip IsExplained failures blocks
+    pub pushed : new ≡ old ++ lines_text (flat_map (λ b. b) blocks)
+
+-- The lines of the counts; of the names that `show` gives those that failing constraints reach, in order.
+abbrev pub front_lines : {F : Type 0} {p : ℕ} → Modular F p → BaseNodes F → List ℕ × List (Option ℕ) → List (Option ℕ) → Found → List (List ℕ)
+front_lines m pool names marks f = count_lines f ++ reached_definitions m pool names marks
+
+-- These lines, and then each failure with what stands below it.
+pub record IsExplainedText {F : Type 0} {p : ℕ} (m : Modular F p) (pool : BaseNodes F) (roots : List ℕ) (cells : List BoundaryPublic) (trace : Trace F) (f : Found) (text : List ℕ) : Type 0 where
+  pub names : List ℕ × List (Option ℕ)
+  pub are_names : AreNames base_leaves pool.1 roots names
+  pub marks : List (Option ℕ)
+  pub failing : Reached base_leaves pool.1 (failing_roots roots f.failures) marks
+  pub explains : PushesExplained m pool roots cells trace names.1 f.failures (lines_text (front_lines m pool names marks f)) text
+
+module _ {F : Type 0} {p : ℕ} (m : Modular F p) where
+  -- the text and the status of what its audit finds, explained
+  abbrev pub TellsExplained : FlatInput F → ℕ → List ℕ → Type 0
+  TellsExplained input status text =
+      (f : Found) × AuditFinds m (flat_instance input) input.cap input.transition_weight f
+      × (status ≡ findings_status f)
+      × IsExplainedText m input.pool input.roots.items input.cells.items (given_trace (check_input (flat_instance input))) f text
+
+-- what is found of the input that the value spells over the field, explained, or the name of the first refusal of `flat`
+abbrev pub ExplainedIn : (F : Type 0) (p : ℕ) → Modular F p → Data → ℕ → List ℕ → Type 0
+ExplainedIn F p m d status text =
+    ((input : FlatInput F) × SpellsInput m d input × TellsExplained m input status text)
+    ⊎ ((e : AirError) × RefusesValue m d e × IsRefusal (air_name e) status text)
+
+abbrev pub IsExplainAnswer : List ℕ → ℕ → List ℕ → Type 0
+IsExplainAnswer = AnswersBytes ExplainedIn

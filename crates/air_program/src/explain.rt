@@ -1,0 +1,305 @@
+//! The answer to the word `explain`: what the audit of a JSON object finds, and below each failure what stands there.
+
+ghost use Rattle.std.specs.Prelude.{◌≡◌, ◌<◌, ◌≤◌, ◌-◌, ◌⊎◌, ◌++◌, ◌∷◌, [], length, map, All, IfOk, IfErr, IfSome, OnOk, slice_get, string_bytes};
+ghost use Rattle.serde_json.specs.Data.{Data};
+ghost use Rattle.serde_json.specs.View.{view};
+ghost use Rattle.air_field.specs.Assignment.{row_assignment};
+ghost use Rattle.air_field.specs.Modular.{modular_ring};
+ghost use Rattle.air_symbolic.specs.BaseLeaves.{base_leaves, base_reads};
+ghost use Rattle.air_symbolic.specs.Pools.{IsPool};
+ghost use Rattle.air_symbolic.specs.Reach.{Marked};
+ghost use Rattle.air_explain.specs.Rows.{trace_of};
+ghost use Rattle.air_explain.specs.Values.{AreClosed};
+ghost use Rattle.air_report.specs.FailureTexts.{seen_failure};
+ghost use Rattle.air_report.specs.Given.{given_trace};
+ghost use Rattle.p3_air.specs.Audits.{check_input};
+ghost use Rattle.p3_air.specs.Theorem.{instance};
+ghost use Rattle.air_object.specs.Parts.{InPool, ArePartsOf};
+ghost use Rattle.air_program.specs.AtHand.{KnownAt};
+ghost use Rattle.air_program.specs.Explained.{failing_roots, cell_lines, PushesExplained, IsExplainedText, TellsExplained, ExplainedIn, IsExplainAnswer};
+ghost use Rattle.air_program.specs.FlatAnswer.{StandsFor, HasNoValue, AuditRefusesInput};
+ghost use Rattle.air_program.specs.Refusals.{name_of, refusal_text, air_refusal};
+ghost use Rattle.air_program.specs.Requests.{MayRefuse};
+ghost use Rattle.air_program.specs.Texts.{found, findings_status, lines_text};
+ghost use Rattle.air_core.specs.declared.errors.AirError.{AirError};
+
+use crate::answer::{findings_of, status};
+use crate::commands::Request;
+use crate::flat::{parts_from, with_table};
+use crate::refusals::Refusal;
+use crate::texts::{Findings, push_counts, push_failure};
+use air_explain::{
+    TraceRows, push_cell, push_explained, push_reached_definitions, reads, values_at,
+};
+use air_field::{BabyBear, Goldilocks, KoalaBear, Mersenne31, PrimeField64, RowMajorMatrix};
+use air_infix::Names;
+use air_object::{BaseId, BasePool, FieldName, FlatInput, Parts, field_of, input_from};
+use air_symbolic::{BaseLeaf, reached};
+use p3_air::{ConstraintFailure, FlatAir};
+use std::alloc::{AllocError, Global};
+
+/// A row, and the values that the expressions have there.
+#[derive(Drop)]
+pub(crate) struct RowValues<F: PrimeField64> {
+    pub(crate) row: usize,
+    pub(crate) values: Vec<F>,
+}
+
+// The values at a row: those at hand, if they are of this row.
+fn at_row<F: PrimeField64>(
+    alloc: Global,
+    pool: &BasePool<F>,
+    marks: &[Option<BaseId<F>>],
+    trace: &TraceRows<'_, F>,
+    at_hand: Option<RowValues<F>>,
+    row: usize,
+) -> Result<RowValues<F>, AllocError>
+    requires pool { IsPool base_reads pool.now }
+    requires marks { AreClosed pool.now.1 marks.now }
+    requires row { row < length trace.now.main.now.rows }
+    requires known { IfSome at_hand (KnownAt F.ring (trace_of trace.now) pool.now.1 marks.now) }
+    ensures row { IfOk result (λ at. at.row ≡ row) }
+    ensures known { IfOk result (KnownAt F.ring (trace_of trace.now) pool.now.1 marks.now) }
+{
+    if let Some(at) = at_hand {
+        if at.row == row {
+            return Ok(at);
+        }
+    }
+    let values = values_at(alloc, pool, marks, trace, row)?;
+    Ok(RowValues { row, values })
+}
+
+// The constraints at the places of the failures.
+fn failing_roots<F: PrimeField64>(
+    alloc: Global,
+    roots: &[BaseId<F>],
+    failures: &[ConstraintFailure],
+) -> Result<Vec<BaseId<F>>, AllocError>
+    ensures { IfOk result (λ failing. failing.items ≡
+        failing_roots roots.now (map seen_failure failures.now)) }
+{
+    let mut failing = Vec::new(alloc);
+    for failure in failures {
+        if let Some(root) = roots.get(failure.constraint) {
+            failing.push(*root)?;
+        }
+    }
+    Ok(failing)
+}
+
+// Adds the line of the cell that the failure is of, if there is such a cell.
+fn push_cell_below<F: PrimeField64>(
+    text: &mut String,
+    air: &FlatAir<F>,
+    trace: &TraceRows<'_, F>,
+    failure: &ConstraintFailure,
+) -> Result<(), AllocError>
+    requires { length air.now.roots.items ≤ failure.now.constraint }
+    ensures { OnOk result (string_bytes text.new ≡ string_bytes text.old ++ lines_text
+        (cell_lines F.residues (row_assignment F.ring (trace_of trace.now) failure.now.row)
+        (slice_get air.now.cells.items (failure.now.constraint - length air.now.roots.items)))) }
+{
+    match air.cells.get(failure.constraint - air.roots.len()) {
+        Some(cell) => push_cell(text, trace, failure.row, cell.column, cell.public_value),
+        None => Ok(()),
+    }
+}
+
+// Adds a failure, and below it what stands there. Of the values at hand the last ones are answered.
+fn push_explained_failure<F: PrimeField64>(
+    alloc: Global,
+    text: &mut String,
+    air: &FlatAir<F>,
+    names: &Names<BaseLeaf<F>>,
+    marks: &[Option<BaseId<F>>],
+    trace: &TraceRows<'_, F>,
+    at_hand: Option<RowValues<F>>,
+    failure: &ConstraintFailure,
+) -> Result<Option<RowValues<F>>, AllocError>
+    requires marks { AreClosed air.now.pool.1 marks.now }
+    requires roots { All (λ i. Marked marks.now i) air.now.roots.items }
+    requires known { IfSome at_hand (KnownAt F.ring (trace_of trace.now) air.now.pool.1 marks.now) }
+    ensures pushes { OnOk result (PushesExplained F.residues air.now.pool air.now.roots.items
+        air.now.cells.items (trace_of trace.now) names.now.1 (seen_failure failure.now ∷ [])
+        (string_bytes text.old) (string_bytes text.new)) }
+    ensures known { IfOk result (λ at. IfSome at
+        (KnownAt F.ring (trace_of trace.now) air.now.pool.1 marks.now)) }
+{
+    push_failure(alloc, text, failure)?;
+    let Some(root) = air.roots.get(failure.constraint) else {
+        push_cell_below(text, air, trace, failure)?;
+        return Ok(at_hand);
+    };
+    if failure.row >= trace.main.height() {
+        return Ok(at_hand);
+    }
+    let at = at_row(alloc, &air.pool, marks, trace, at_hand, failure.row)?;
+    let read = reads(alloc, &air.pool, *root)?;
+    push_explained(alloc, text, &air.pool, names, &at.values, *root, &read)?;
+    Ok(Some(at))
+}
+
+// Adds each failure, and below it what stands there.
+fn push_failures<F: PrimeField64>(
+    alloc: Global,
+    text: &mut String,
+    air: &FlatAir<F>,
+    names: &Names<BaseLeaf<F>>,
+    trace: &TraceRows<'_, F>,
+    failures: &[ConstraintFailure],
+) -> Result<(), AllocError>
+    ensures { OnOk result (PushesExplained F.residues air.now.pool air.now.roots.items
+        air.now.cells.items (trace_of trace.now) names.now.1 (map seen_failure failures.now)
+        (string_bytes text.old) (string_bytes text.new)) }
+{
+    let Ok(marks) = reached(alloc, &air.pool, &air.roots) else {
+        return Err(AllocError);
+    };
+    let mut at_hand = None;
+    for failure in failures {
+        at_hand =
+            push_explained_failure(alloc, text, air, names, &marks, trace, at_hand, failure)?;
+    }
+    Ok(())
+}
+
+// Adds a line for each name that a failing constraint reaches.
+fn push_names<F: PrimeField64>(
+    alloc: Global,
+    text: &mut String,
+    air: &FlatAir<F>,
+    names: &Names<BaseLeaf<F>>,
+    failures: &[ConstraintFailure],
+) -> Result<(), AllocError> {
+    let failing = failing_roots(alloc, &air.roots, failures)?;
+    let Ok(marks) = reached(alloc, &air.pool, &failing) else {
+        return Err(AllocError);
+    };
+    push_reached_definitions(alloc, text, &air.pool, names, &marks)
+}
+
+// The lines of what was found, explained.
+fn explained_text<F: PrimeField64>(
+    alloc: Global,
+    air: &FlatAir<F>,
+    trace: &TraceRows<'_, F>,
+    findings: &Findings,
+) -> Result<String, AllocError>
+    ensures { IfOk result (λ text. IsExplainedText F.residues air.now.pool air.now.roots.items
+        air.now.cells.items (trace_of trace.now) (found findings.now) (string_bytes text)) }
+{
+    let failures = &findings.report.failures;
+    let names = Names::of(alloc, &air.pool, &air.roots)?;
+    let mut text = String::new(alloc);
+    push_counts(&mut text, findings)?;
+    push_names(alloc, &mut text, air, &names, failures)?;
+    push_failures(alloc, &mut text, air, &names, trace, failures)?;
+    Ok(text)
+}
+
+/// The status and the text of what was found, explained.
+fn explained<F: PrimeField64>(
+    alloc: Global,
+    air: &FlatAir<F>,
+    main: &RowMajorMatrix<F>,
+    public_values: &[F],
+    findings: &Findings,
+) -> Result<(u8, String), Refusal>
+    ensures status { IfOk result (λ p. p.0 ≡ findings_status (found findings.now)) }
+    ensures text { IfOk result (λ p. IsExplainedText F.residues air.now.pool air.now.roots.items
+        air.now.cells.items (given_trace (check_input (instance (FlatAir<F>.declaration air.now)
+        main.now public_values.now))) (found findings.now) (string_bytes p.1)) }
+    ensures refused { IfErr result (λ why. why ≡ Refusal.Memory) }
+{
+    let trace = TraceRows {
+        main,
+        preprocessed: &air.preprocessed,
+        periodic: &air.periodic,
+        public_values,
+    };
+    match explained_text(alloc, air, &trace, findings) {
+        Ok(text) => Ok((status(findings), text)),
+        Err(_) => Err(Refusal::Memory),
+    }
+}
+
+// Audits that the roots are zero on the trace, and explains where they aren't.
+fn explain_input<F: PrimeField64 + 'static>(
+    alloc: Global,
+    input: FlatInput<F>,
+) -> Result<(u8, String), Refusal>
+    requires pool { IsPool base_reads input.pool }
+    requires roots { All (λ i. i < length input.pool.1) input.roots.items }
+    ensures ok { IfOk result (λ p. TellsExplained F.residues input p.0 (string_bytes p.1)) }
+    ensures refused { IfErr result (λ why. (why ≡ Refusal.Memory) ⊎ ((e : AirError)
+        × AuditRefusesInput F.residues input e × (why ≡ air_refusal e))) }
+{
+    let air = FlatAir::new(
+        input.pool,
+        input.roots,
+        input.main.width(),
+        input.public_values.len(),
+        input.periodic,
+        input.cells,
+    )?;
+    let air = with_table(air, input.preprocessed);
+    let findings = findings_of(
+        alloc,
+        &air,
+        &input.main,
+        &input.public_values,
+        input.cap,
+        input.transition_weight,
+    )?;
+    explained(alloc, &air, &input.main, &input.public_values, &findings)
+}
+
+/// The status and the text that explain an object over F whose parts these are.
+fn explain_parts<F: PrimeField64 + 'static>(
+    alloc: Global,
+    parts: Parts<F>,
+) -> Result<(u8, String), Refusal>
+    requires { InPool parts.constraints }
+    ensures ok { IfOk result (λ p. (d : Data)
+        → ArePartsOf F.residues d (view parts.rest) parts.constraints
+        → ExplainedIn F F.ORDER_U64 F.residues d p.0 (string_bytes p.1)) }
+    ensures refused { IfErr result (λ why. (why ≡ Refusal.Memory) ⊎ ((d : Data)
+        → ArePartsOf F.residues d (view parts.rest) parts.constraints
+        → ExplainedIn F F.ORDER_U64 F.residues d 2 (refusal_text (name_of why)))) }
+{
+    let Parts { rest, constraints } = parts;
+    let input = input_from(alloc, &rest, constraints)?;
+    explain_input(alloc, input)
+}
+
+/// The status and the text that explain an object over F, of which the bytes are the text.
+fn explain_over<F: PrimeField64 + 'static>(
+    alloc: Global,
+    bytes: &[u8],
+) -> Result<(u8, String), Refusal>
+    ensures ok { IfOk result (λ p. (d : Data) × StandsFor bytes.now d
+        × ExplainedIn F F.ORDER_U64 F.residues d p.0 (string_bytes p.1)) }
+    ensures refused { IfErr result (λ why. (why ≡ Refusal.Memory)
+        ⊎ (((why ≡ Refusal.Json) × HasNoValue bytes.now) ⊎ ((d : Data) × StandsFor bytes.now d
+        × ExplainedIn F F.ORDER_U64 F.residues d 2 (refusal_text (name_of why))))) }
+{
+    let parts: Parts<F> = parts_from(alloc, bytes)?;
+    explain_parts(alloc, parts)
+}
+
+/// The status and the text that answer `explain`. The object is read as over `BabyBear`, and once more over the field that
+/// it names, where that is another one.
+pub fn answer_explain(alloc: Global, bytes: &[u8]) -> Result<(u8, String), Refusal>
+    ensures ok { IfOk result (λ p. IsExplainAnswer bytes.now p.0 (string_bytes p.1)) }
+    ensures refused { IfErr result (MayRefuse Request.Explain bytes.now) }
+{
+    let parts: Parts<BabyBear> = parts_from(alloc, bytes)?;
+    match field_of(&parts.rest) {
+        Some(FieldName::BabyBear) => explain_parts(alloc, parts),
+        Some(FieldName::KoalaBear) => explain_over::<KoalaBear>(alloc, bytes),
+        Some(FieldName::Mersenne31) => explain_over::<Mersenne31>(alloc, bytes),
+        Some(FieldName::Goldilocks) => explain_over::<Goldilocks>(alloc, bytes),
+        None => Err(Refusal::Field),
+    }
+}
