@@ -1,18 +1,35 @@
 -- Failures with what stands below them, one after another.
 use Rattle.std.specs.List.{AllZip, flat_map}
 use Rattle.std.specs.Option.{option_to_list}
-use Rattle.std.proofs.Common.{◌≡◌, ℕ, ◌+◌, ◌<◌, ◌≤◌, List, [], ◌∷◌, ◌++◌, append_assoc, append-nil, length, map, take, get_or, Option, codes, refl, sym, ap, subst, ◌∙◌}
+use Rattle.std.proofs.Common.{◌≡◌, ℕ, zero, suc, ◌+◌, ◌-◌, ◌<◌, ◌≤◌, Bool, true, false, cond, List, [], ◌∷◌, ◌++◌, append_assoc, append-nil, length, map, take, get_or, All, Option, Some, None, codes, refl, sym, ap, subst, ◌∙◌, arith, inl, inr}
 use Rattle.std.specs.Prelude.{slice_get}
 use Rattle.std.proofs.lemmas.Grind.{flat_map-append}
 use Rattle.std.proofs.lemmas.List.{map-append, take_more, take_all}
-use Rattle.air_field.specs.Assignment.{Trace}
-use Rattle.air_field.specs.Modular.{Modular}
+use Rattle.std.proofs.lemmas.List.Elements.{All-nil, All-cons, All-append}
+use Rattle.std.proofs.lemmas.Option.{slice_get_cases}
+use Rattle.air_field.specs.Assignment.{Trace, row_assignment}
+use Rattle.air_field.specs.Grid.{Grid}
+use Rattle.air_field.specs.Modular.{Modular, modular_ring}
+use Rattle.air_field.specs.Ring.{CommRing}
 use Rattle.air_core.specs.declared.boundary.BoundaryPublic.{BoundaryPublic}
+use Rattle.air_symbolic.specs.BaseLeaves.{base_leaves}
 use Rattle.air_symbolic.specs.ExtLeaves.{BaseNodes}
+use Rattle.air_symbolic.specs.Leaves.{Leaves}
+use Rattle.air_symbolic.specs.Reach.{Marked}
+use Rattle.air_symbolic.specs.declared.pools.expr.SymbolicExpr.{SymbolicExpr}
+use Rattle.air_infix.specs.Names.{AreNames, is_named, passing_below}
+use Rattle.air_explain.specs.Explained.{Explains, explained_lines, reached_definitions}
+use Rattle.air_explain.specs.Reading.{Reads}
+use Rattle.air_explain.specs.Rows.{table_rows}
+use Rattle.air_explain.specs.Values.{AreClosed}
+use Rattle.air_explain.specs.laws.Values.{explains_known}
 use Rattle.air_report.specs.FailureTexts.{seen_failure}
+use Rattle.air_report.specs.Given.{table_grid}
 use Rattle.air_report.specs.declared.debug.failure.ConstraintFailure.{ConstraintFailure}
-use Rattle.air_program.specs.Explained.{Failure, IsBelow, IsExplained, PushesExplained, failing_roots}
-use Rattle.air_program.specs.Texts.{lines_text, place_of, IsFailureLine}
+use Rattle.air_program.specs.AtHand.{KnownAt}
+use Rattle.air_program.specs.Explained.{Failure, IsBelow, IsExplained, IsExplainedText, PushesExplained, PushesNames, failing_roots, cell_lines}
+use Rattle.air_program.specs.Texts.{Found, count_lines, lines_text, place_of, IsFailureLine, PushesLine}
+use Rattle.air_program.specs.declared.explain.RowValues.{RowValues}
 
 AllZip-append : {A B : Type 0} (R : A → B → Type 0) (xs : List A) (ys : List B) (vs : List A) (ws : List B) → AllZip R xs ys → AllZip R vs ws → AllZip R (xs ++ vs) (ys ++ ws)
 AllZip-append R [] [] vs ws h k = k
@@ -70,3 +87,79 @@ one-explained m pool roots cells trace names f line below old mid new is_line is
       rest ∙ ap (λ t. t ++ lines_text below) one ∙ block-pieces old (line ++ codes "\n") (lines_text below)
       ∙ ap (λ ls. old ++ ((line ++ codes "\n") ++ lines_text ls)) (sym (append-nil below));
 }
+
+-- ---- one failure
+
+module _ {F : Type 0} {p : ℕ} (m : Modular F p) (r : CommRing F) (ring_is : r ≡ modular_ring m) (pool : BaseNodes F) (roots : List ℕ) (cells : List BoundaryPublic) (trace : Trace F) (names : List (Option ℕ)) (f : Failure) where
+  -- its constraint, by values that are known
+  pub root_explained : (root : ℕ) (marks : List (Option ℕ)) (at : RowValues F) (read old mid new : List ℕ) → slice_get roots (place_of f).1 ≡ Some root → AreClosed pool.1 marks → KnownAt r trace pool.1 marks at → at.row ≡ (place_of f).0 → root < length pool.1 → Marked marks root → Reads pool.1 root read → PushesLine f old mid → new ≡ mid ++ lines_text (explained_lines m pool names (λ i. get_or at.values.items i r.nil) root read) → PushesExplained m pool roots cells trace names (f ∷ []) old new
+  root_explained root marks at read old mid new is closed known row here marked reads line written =
+      let lines : List (List ℕ) = explained_lines m pool names (λ i. get_or at.values.items i r.nil) root read in
+      let there : Explains m r (row_assignment r trace at.row) pool names root lines =
+      explains_known m r (row_assignment r trace at.row) pool names marks at.values.items root read closed known.known here marked reads in
+      let below : Explains m (modular_ring m) (row_assignment (modular_ring m) trace (place_of f).0) pool names root lines =
+      subst (λ (q : CommRing F). Explains m q (row_assignment q trace (place_of f).0) pool names root lines) ring_is
+      (subst (λ (k : ℕ). Explains m r (row_assignment r trace k) pool names root lines) row there) in
+      one-explained m pool roots cells trace names f line.line lines old mid new line.is_line
+      (subst (λ (o : Option ℕ). IsBelow m pool roots cells trace names (place_of f) o lines) (sym is) (λ lt. below)) line.pushed written
+
+  -- past the trace there is nothing to say
+  pub past_explained : (root : ℕ) (old new : List ℕ) → slice_get roots (place_of f).1 ≡ Some root → length trace.main_trace.rows ≤ (place_of f).0 → PushesLine f old new → PushesExplained m pool roots cells trace names (f ∷ []) old new
+  past_explained root old new is past line =
+      one-explained m pool roots cells trace names f line.line [] old new new line.is_line
+      (subst (λ (o : Option ℕ). IsBelow m pool roots cells trace names (place_of f) o []) (sym is) (λ lt. absurd (omega (arith, lt, past)))) line.pushed (sym (append-nil new))
+
+  -- its cell
+  pub cell_explained : (old mid new : List ℕ) → slice_get roots (place_of f).1 ≡ None → PushesLine f old mid → new ≡ mid ++ lines_text (cell_lines m (row_assignment r trace (place_of f).0) (slice_get cells ((place_of f).1 - length roots))) → PushesExplained m pool roots cells trace names (f ∷ []) old new
+  cell_explained old mid new is line written =
+      let at : CommRing F → List (List ℕ) = λ q. cell_lines m (row_assignment q trace (place_of f).0) (slice_get cells ((place_of f).1 - length roots)) in
+      one-explained m pool roots cells trace names f line.line (at r) old mid new line.is_line
+      (subst (λ (o : Option ℕ). IsBelow m pool roots cells trace names (place_of f) o (at r)) (sym is) (ap at ring_is)) line.pushed written
+
+-- ---- names
+
+-- what passes below n is below k, if n isn't above it
+passing_low : (test : ℕ → Bool) (k n : ℕ) → n ≤ k → All (λ x. x < k) (passing_below test n)
+passing_low test k zero le = All-nil (λ x. x < k)
+passing_low test k (suc n) le =
+    All-append (λ x. x < k) (passing_below test n) (cond (test n) (n ∷ []) []) (passing_low test k n (omega (arith, le))) (either (test n))
+  where
+    either : (b : Bool) → All (λ x. x < k) (cond b (n ∷ []) [])
+    either true = All-cons (λ x. x < k) n [] (omega (arith, le)) (All-nil (λ x. x < k))
+    either false = All-nil (λ x. x < k)
+
+-- what has a name is in the pool
+pub names_here : {A F : Type 0} (l : Leaves A F) (ns : List (SymbolicExpr A)) (roots : List ℕ) (names : List ℕ × List (Option ℕ)) → AreNames l ns roots names → All (λ x. x < length ns) names.0
+names_here l ns roots names h = subst (λ xs. All (λ x. x < length ns) xs) (sym h.named) (passing_low (is_named ns roots h.marks) (length ns) (length ns) (omega arith))
+
+optional_here : (P : ℕ → Type 0) (roots : List ℕ) (k : ℕ) → All P roots → All P (option_to_list (slice_get roots k))
+optional_here P roots k h = elim (slice_get_cases roots k).1 [
+  | inl there ↦ subst (λ (o : Option ℕ). All P (option_to_list o)) (sym there.2) (All-cons P there.0 [] (subst P there.3 (h k there.0 there.1)) (All-nil P))
+  | inr past ↦ subst (λ (o : Option ℕ). All P (option_to_list o)) (sym past.1) (All-nil P)
+]
+
+-- what each root has, each failing one has
+pub failing_here : (P : ℕ → Type 0) (roots : List ℕ) (failures : List Failure) → All P roots → All P (failing_roots roots failures)
+failing_here P roots [] h = All-nil P
+failing_here P roots (f ∷ fs) h =
+    All-append P (option_to_list (slice_get roots (place_of f).1)) (failing_roots roots fs) (optional_here P roots (place_of f).1 h) (failing_here P roots fs h)
+
+-- ---- the whole text
+
+pub same_table : {F : Type 0} (table : Option (Grid F)) → table_rows table ≡ table_grid table
+same_table None = refl
+same_table (Some table) = refl
+
+-- counts, names, failures
+pub text_explained : {F : Type 0} {p : ℕ} (m : Modular F p) (pool : BaseNodes F) (roots : List ℕ) (cells : List BoundaryPublic) (trace : Trace F) (names : List ℕ × List (Option ℕ)) (f : Found) (counts front text : List ℕ) → AreNames base_leaves pool.1 roots names → counts ≡ lines_text (count_lines f) → PushesNames m pool roots names f.failures counts front → PushesExplained m pool roots cells trace names.1 f.failures front text → IsExplainedText m pool roots cells trace f text
+text_explained m pool roots cells trace names f counts front text are counted named rest =
+    let defined : List (List ℕ) = reached_definitions m pool names named.marks in
+    let pieces : front ≡ lines_text (count_lines f ++ defined) =
+    named.pushed ∙ ap (λ t. t ++ lines_text defined) counted ∙ sym (flat_map-append (λ line. line ++ codes "\n") (count_lines f) defined) in
+    record {
+      names = names;
+      are_names = are;
+      marks = named.marks;
+      failing = named.failing;
+      explains = subst (λ (t : List ℕ). PushesExplained m pool roots cells trace names.1 f.failures t text) pieces rest;
+    }

@@ -65,6 +65,12 @@ module _ {F : Type 0} {p : ℕ} (m : Modular F p) (pool : BaseNodes F) (roots : 
     pub each : AllZip IsExplained failures blocks
     pub pushed : new ≡ old ++ lines_text (flat_map (λ b. b) blocks)
 
+-- new is old and lines for those of the names that the failures' constraints reach, in order
+pub record PushesNames {F : Type 0} {p : ℕ} (m : Modular F p) (pool : BaseNodes F) (roots : List ℕ) (names : List ℕ × List (Option ℕ)) (failures : List Failure) (old new : List ℕ) : Type 0 where
+  pub marks : List (Option ℕ)
+  pub failing : Reached base_leaves pool.1 (failing_roots roots failures) marks
+  pub pushed : new ≡ old ++ lines_text (reached_definitions m pool names marks)
+
 -- The lines of the counts; of the names that `show` gives those that failing constraints reach, in order.
 abbrev pub front_lines : {F : Type 0} {p : ℕ} → Modular F p → BaseNodes F → List ℕ × List (Option ℕ) → List (Option ℕ) → Found → List (List ℕ)
 front_lines m pool names marks f = count_lines f ++ reached_definitions m pool names marks

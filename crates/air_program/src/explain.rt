@@ -8,6 +8,7 @@ ghost use Rattle.air_field.specs.Modular.{modular_ring};
 ghost use Rattle.air_symbolic.specs.BaseLeaves.{base_leaves, base_reads};
 ghost use Rattle.air_symbolic.specs.Pools.{IsPool};
 ghost use Rattle.air_symbolic.specs.Reach.{Marked};
+ghost use Rattle.air_infix.specs.Names.{AreNames};
 ghost use Rattle.air_explain.specs.Rows.{trace_of};
 ghost use Rattle.air_explain.specs.Values.{AreClosed};
 ghost use Rattle.air_report.specs.FailureTexts.{seen_failure};
@@ -16,7 +17,7 @@ ghost use Rattle.p3_air.specs.Audits.{check_input};
 ghost use Rattle.p3_air.specs.Theorem.{instance};
 ghost use Rattle.air_object.specs.Parts.{InPool, ArePartsOf};
 ghost use Rattle.air_program.specs.AtHand.{KnownAt};
-ghost use Rattle.air_program.specs.Explained.{failing_roots, cell_lines, PushesExplained, IsExplainedText, TellsExplained, ExplainedIn, IsExplainAnswer};
+ghost use Rattle.air_program.specs.Explained.{failing_roots, cell_lines, PushesNames, PushesExplained, IsExplainedText, TellsExplained, ExplainedIn, IsExplainAnswer};
 ghost use Rattle.air_program.specs.FlatAnswer.{StandsFor, HasNoValue, AuditRefusesInput};
 ghost use Rattle.air_program.specs.Refusals.{name_of, refusal_text, air_refusal};
 ghost use Rattle.air_program.specs.Requests.{MayRefuse};
@@ -171,7 +172,11 @@ fn push_names<F: PrimeField64>(
     air: &FlatAir<F>,
     names: &Names<BaseLeaf<F>>,
     failures: &[ConstraintFailure],
-) -> Result<(), AllocError> {
+) -> Result<(), AllocError>
+    requires { AreNames base_leaves air.now.pool.1 air.now.roots.items names.now }
+    ensures { OnOk result (PushesNames F.residues air.now.pool air.now.roots.items names.now
+        (map seen_failure failures.now) (string_bytes text.old) (string_bytes text.new)) }
+{
     let failing = failing_roots(alloc, &air.roots, failures)?;
     let Ok(marks) = reached(alloc, &air.pool, &failing) else {
         return Err(AllocError);
