@@ -1,7 +1,7 @@
 use Rattle.std.proofs.Common.{refl, sym}
 use Rattle.air_field.specs.Algebra.{bool_check_term}
 use Rattle.air_field.specs.Part.{whole, in_mul_left}
-use Rattle.air_author.proofs.Making.{part_gives_up, one_answered}
+use Rattle.air_author.specs.laws.Making.{part_gives_up, one_answered}
 use Rattle.air_author.proofs.expressions.arithmetic.BoolCheckExpression.make.Goals as goal
 
 pub returns-in_err-x : goal.returns-in_err-x

@@ -1,7 +1,7 @@
 use Rattle.std.proofs.Common.{refl}
 use Rattle.air_field.specs.Term.{sub_term}
 use Rattle.air_field.specs.Part.{whole, in_sub_left, in_sub_right}
-use Rattle.air_author.proofs.Making.{operand_gives_up, both_answered}
+use Rattle.air_author.specs.laws.Making.{operand_gives_up, both_answered}
 use Rattle.air_author.proofs.expressions.arithmetic.DifferenceExpression.make.Goals as goal
 
 pub returns-in_err-x : goal.returns-in_err-x

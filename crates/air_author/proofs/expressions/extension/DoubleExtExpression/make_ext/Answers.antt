@@ -2,7 +2,7 @@ use Rattle.std.proofs.Common.{refl}
 use Rattle.air_field.specs.Algebra.{double_term}
 use Rattle.air_field.specs.Part.{whole, in_add_left}
 use Rattle.air_builder.specs.laws.Extensions.{over_extension}
-use Rattle.air_author.proofs.Making.{part_gives_up, one_answered}
+use Rattle.air_author.specs.laws.Making.{part_gives_up, one_answered}
 use Rattle.air_author.proofs.expressions.extension.DoubleExtExpression.make_ext.Goals as goal
 
 pub returns-in_err-x : goal.returns-in_err-x

@@ -1,4 +1,4 @@
-use Rattle.air_author.proofs.Making.{lift_answered}
+use Rattle.air_author.specs.laws.Making.{lift_answered}
 use Rattle.air_author.proofs.expressions.extension.LiftedExtExpression.make_ext.Goals as goal
 
 pub returns : goal.returns

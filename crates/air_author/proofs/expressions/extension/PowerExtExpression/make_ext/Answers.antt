@@ -2,7 +2,7 @@ use Rattle.std.proofs.Common.{◌≡◌, ◌<◌, ◌-◌, ◌∙◌, suc, arith
 use Rattle.air_field.specs.Term.{with_leaves}
 use Rattle.air_builder.specs.laws.Extensions.{over_extension}
 use Rattle.air_author.specs.Expressions.{power_term}
-use Rattle.air_author.proofs.Making.{part_gives_up, one_answered}
+use Rattle.air_author.specs.laws.Making.{part_gives_up, one_answered}
 use Rattle.air_author.proofs.Powers.{in_power, each_power, power_with_leaves}
 use Rattle.air_author.proofs.expressions.extension.PowerExtExpression.make_ext.Goals as goal
 

@@ -2,7 +2,7 @@ use Rattle.std.proofs.Common.{refl}
 use Rattle.air_field.specs.Term.{add_term}
 use Rattle.air_field.specs.Part.{whole, in_add_left, in_add_right}
 use Rattle.air_builder.specs.laws.Extensions.{over_extension}
-use Rattle.air_author.proofs.Making.{operand_gives_up, both_answered}
+use Rattle.air_author.specs.laws.Making.{operand_gives_up, both_answered}
 use Rattle.air_author.proofs.expressions.extension.SumExtExpression.make_ext.Goals as goal
 
 pub returns-in_err-x : goal.returns-in_err-x

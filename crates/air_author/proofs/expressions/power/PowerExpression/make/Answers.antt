@@ -1,7 +1,7 @@
 use Rattle.std.proofs.Common.{◌≡◌, ◌<◌, ◌-◌, ◌∙◌, suc, arith, ap}
 use Rattle.air_field.specs.Term.{with_leaves}
 use Rattle.air_author.specs.Expressions.{power_term}
-use Rattle.air_author.proofs.Making.{part_gives_up, one_answered}
+use Rattle.air_author.specs.laws.Making.{part_gives_up, one_answered}
 use Rattle.air_author.proofs.Powers.{in_power, each_power, power_with_leaves}
 use Rattle.air_author.proofs.expressions.power.PowerExpression.make.Goals as goal
 

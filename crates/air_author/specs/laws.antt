@@ -1,0 +1,2 @@
+-- Lemmas on making, which the layers above cite too.
+pub mod Making
