@@ -1,4 +1,5 @@
--- Lemmas on making and asserting.
+-- Lemmas on asserting, names, powers and lifts.
 mod Asserting
+mod Lifting
 mod Naming
 mod Powers

@@ -1,7 +1,7 @@
 //! Expressions over the extension. Operations are those on base expressions.
 ghost use Rattle.air_field.specs.Algebra.{double_term, bool_check_term};
 ghost use Rattle.air_field.specs.Term.{ext_const_term, add_term, sub_term, neg_term, mul_term};
-ghost use Rattle.air_author.specs.Expressions.{Lasts, MadeBothIn, power_term};
+ghost use Rattle.air_author.specs.Expressions.{Lasts, MadeIn, MadeBothIn, power_term};
 
 use crate::AirResult;
 use crate::expressions::arithmetic::{
@@ -12,6 +12,20 @@ use crate::expressions::power::{Power, multiplied};
 use crate::expressions::{Expression, ExtExpression, answered};
 use air_builder::{ExtensionBuilder, SeenOver};
 use air_field::{Algebra, ExtAlgebra, ExtensionField};
+
+/// Makes a base expression, and lifts it.
+#[inline(always)]
+pub(crate) fn make_lifted<AB: ExtensionBuilder, X: Expression<AB>>(
+    builder: &mut AB,
+    x: &X,
+) -> AirResult<AB::ExprEF>
+    requires ready { AB.ready builder.old }
+    requires held { Lasts AB.kept (X.holds x.now) builder.old }
+    ensures { MadeIn ⟦<AB as SeenOver>⟧.view builder.old builder.new result (X.term x.now) }
+{
+    let x = x.make(builder)?;
+    answered(builder.ext_ring().lift(x))
+}
 
 /// A base expression, over the extension.
 #[derive(Clone, Copy, Drop)]
@@ -24,8 +38,7 @@ impl<AB: ExtensionBuilder, X: Expression<AB>> ExtExpression<AB> for Lifted<X> {
 
     #[inline(always)]
     fn make_ext(&self, builder: &mut AB) -> AirResult<AB::ExprEF> {
-        let x = self.0.make(builder)?;
-        answered(builder.ext_ring().lift(x))
+        make_lifted(builder, &self.0)
     }
 }
 

@@ -2,7 +2,7 @@ use Rattle.std.proofs.Common.{refl}
 use Rattle.air_field.specs.Term.{sub_term}
 use Rattle.air_field.specs.Part.{whole, in_sub_left, in_sub_right}
 use Rattle.air_author.specs.laws.Making.{operand_gives_up, both_answered}
-use Rattle.air_author.proofs.expressions.arithmetic.DifferenceExpression.make.Goals as goal
+use Rattle.air_author.proofs.expressions.arithmetic.make_difference.Goals as goal
 
 pub returns-in_err-x : goal.returns-in_err-x
 returns-in_err-x g c = operand_gives_up (in_sub_left whole) (in_sub_right whole) c.from_residual.ensures.1 c.in_err-x.ensures

@@ -2,7 +2,7 @@ use Rattle.std.proofs.Common.{refl}
 use Rattle.air_field.specs.Term.{add_term}
 use Rattle.air_field.specs.Part.{whole, in_add_left, in_add_right}
 use Rattle.air_author.specs.laws.Making.{operand_gives_up, both_answered}
-use Rattle.air_author.proofs.expressions.arithmetic.SumExpression.make.Goals as goal
+use Rattle.air_author.proofs.expressions.arithmetic.make_sum.Goals as goal
 
 pub returns-in_err-x : goal.returns-in_err-x
 returns-in_err-x g c = operand_gives_up (in_add_left whole) (in_add_right whole) c.from_residual.ensures.1 c.in_err-x.ensures

@@ -2,7 +2,7 @@ use Rattle.std.proofs.Common.{refl}
 use Rattle.air_field.specs.Term.{mul_term}
 use Rattle.air_field.specs.Part.{whole, in_mul_left, in_mul_right}
 use Rattle.air_author.specs.laws.Making.{operand_gives_up, both_answered}
-use Rattle.air_author.proofs.expressions.arithmetic.ProductExpression.make.Goals as goal
+use Rattle.air_author.proofs.expressions.arithmetic.make_product.Goals as goal
 
 pub returns-in_err-x : goal.returns-in_err-x
 returns-in_err-x g c = operand_gives_up (in_mul_left whole) (in_mul_right whole) c.from_residual.ensures.1 c.in_err-x.ensures
