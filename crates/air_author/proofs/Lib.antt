@@ -1,5 +1,4 @@
--- Lemmas on asserting, names, powers and lifts.
-mod Asserting
+-- Lemmas on lifts, names and powers.
 mod Lifting
 mod Naming
 mod Powers

@@ -1,2 +1,3 @@
--- Lemmas on making, which the layers above cite too.
+-- Lemmas on making and asserting, which the layers above cite too.
 pub mod Making
+pub mod Asserting

@@ -23,7 +23,7 @@ use air_builder::{AirBuilder, Seen};
 pub struct Word<X>(pub X, pub X);
 
 /// x - y
-#[derive(Clone, Copy, Drop)]
+#[derive(Drop)]
 struct Less<'a, X, Y>(&'a X, &'a Y);
 
 impl<'a, AB: AirBuilder, X: Expression<AB>, Y: Expression<AB>> Expression<AB> for Less<'a, X, Y> {
@@ -37,7 +37,7 @@ impl<'a, AB: AirBuilder, X: Expression<AB>, Y: Expression<AB>> Expression<AB> fo
 }
 
 /// x - y - z
-#[derive(Clone, Copy, Drop)]
+#[derive(Drop)]
 struct LessTwo<'a, X, Y, Z>(&'a X, &'a Y, &'a Z);
 
 impl<'a, AB: AirBuilder, X: Expression<AB>, Y: Expression<AB>, Z: Expression<AB>> Expression<AB>
@@ -52,7 +52,7 @@ impl<'a, AB: AirBuilder, X: Expression<AB>, Y: Expression<AB>, Z: Expression<AB>
 }
 
 /// 2^16 x
-#[derive(Clone, Copy, Drop)]
+#[derive(Drop)]
 struct Scaled<'a, X>(&'a X);
 
 impl<'a, AB: AirBuilder, X: Expression<AB>> Expression<AB> for Scaled<'a, X> {
@@ -66,7 +66,7 @@ impl<'a, AB: AirBuilder, X: Expression<AB>> Expression<AB> for Scaled<'a, X> {
 }
 
 /// low + 2^16 high
-#[derive(Clone, Copy, Drop)]
+#[derive(Drop)]
 struct Whole<'a, X, Y>(&'a X, &'a Y);
 
 impl<'a, AB: AirBuilder, X: Expression<AB>, Y: Expression<AB>> Expression<AB> for Whole<'a, X, Y> {
@@ -80,7 +80,7 @@ impl<'a, AB: AirBuilder, X: Expression<AB>, Y: Expression<AB>> Expression<AB> fo
 }
 
 /// x + n
-#[derive(Clone, Copy, Drop)]
+#[derive(Drop)]
 struct Raised<'a, X>(&'a X, u64);
 
 impl<'a, AB: AirBuilder, X: Expression<AB>> Expression<AB> for Raised<'a, X> {
@@ -94,7 +94,7 @@ impl<'a, AB: AirBuilder, X: Expression<AB>> Expression<AB> for Raised<'a, X> {
 }
 
 /// x (x + n)
-#[derive(Clone, Copy, Drop)]
+#[derive(Drop)]
 struct Carry<'a, X>(&'a X, u64);
 
 impl<'a, AB: AirBuilder, X: Expression<AB>> Expression<AB> for Carry<'a, X> {
@@ -105,6 +105,21 @@ impl<'a, AB: AirBuilder, X: Expression<AB>> Expression<AB> for Carry<'a, X> {
     fn make(&self, builder: &mut AB) -> AirResult<AB::Expr> {
         make_product(builder, self.0, &Raised(self.0, self.1))
     }
+}
+
+/// Asserts that it is zero.
+fn assert_zero<AB: AirBuilder, X: Expression<AB>, K: Condition<AB>>(
+    builder: &mut AB,
+    condition: &K,
+    x: &X,
+) -> AirResult
+    requires ready { AB.ready builder.old }
+    requires held { Lasts AB.kept (λ b. X.holds x.now b × K.where_holds condition.now b)
+        builder.old }
+    ensures { AssertedIn ⟦<AB as Seen>⟧.view builder.old builder.new result
+        (Base (K.under condition.now (X.term x.now)) ∷ []) }
+{
+    Zero(x).assert_under(builder, condition)
 }
 
 /// Asserts that both are zero, in order.
@@ -121,7 +136,8 @@ fn assert_both_zero<AB: AirBuilder, X: Expression<AB>, Y: Expression<AB>, K: Con
         (Base (K.under condition.now (X.term x.now)) ∷ Base (K.under condition.now (Y.term y.now))
         ∷ []) }
 {
-    (Zero(x), Zero(y)).assert_under(builder, condition)
+    assert_zero(builder, condition, x)?;
+    assert_zero(builder, condition, y)
 }
 
 /// Asserts that low + 2^16 high and low are zero but for a carry.
@@ -168,7 +184,7 @@ impl<AB: AirBuilder, X: Expression<AB>, Y: Expression<AB>, Z: Expression<AB>> Co
 }
 
 /// x - y - z - w
-#[derive(Clone, Copy, Drop)]
+#[derive(Drop)]
 struct LessThree<'a, X, Y, Z, W>(&'a X, &'a Y, &'a Z, &'a W);
 
 impl<
@@ -191,7 +207,7 @@ impl<
 }
 
 /// x (x + n) (x + 2n), of which 2n is handed too
-#[derive(Clone, Copy, Drop)]
+#[derive(Drop)]
 struct TwoCarries<'a, X>(&'a X, u64, u64);
 
 impl<'a, AB: AirBuilder, X: Expression<AB>> Expression<AB> for TwoCarries<'a, X> {

@@ -1,7 +1,7 @@
 use Rattle.std.proofs.Common.{inl}
 use Rattle.air_field.specs.Part.{whole}
 use Rattle.air_builder.specs.Assertion.{Base}
-use Rattle.air_author.proofs.Asserting.{making_gives_up, made_then_zero}
+use Rattle.air_author.specs.laws.Asserting.{making_gives_up, made_then_zero}
 use Rattle.air_author.proofs.constraints.claims.assert_claim.Goals as goal
 
 pub returns-in_err-x : goal.returns-in_err-x

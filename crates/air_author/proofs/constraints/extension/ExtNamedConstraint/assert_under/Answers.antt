@@ -2,7 +2,7 @@ use Rattle.std.proofs.Common.{inl}
 use Rattle.std.proofs.lemmas.Result.{err_from_is_err_and}
 use Rattle.air_field.specs.Part.{whole}
 use Rattle.air_builder.specs.Assertion.{Extension}
-use Rattle.air_author.proofs.Asserting.{making_gives_up, made_then_zero}
+use Rattle.air_author.specs.laws.Asserting.{making_gives_up, made_then_zero}
 use Rattle.air_author.proofs.Naming.{made_then_labelled, made_then_refused}
 use Rattle.air_author.proofs.constraints.extension.ExtNamedConstraint.assert_under.Goals as goal
 
