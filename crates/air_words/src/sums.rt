@@ -156,7 +156,12 @@ fn assert_zero_but_carry<AB: AirBuilder, X: Expression<AB>, Y: Expression<AB>, K
         (Y.term high.now))) }
 {
     let whole = Whole(low, high);
-    assert_both_zero(builder, condition, &Carry(&whole, 4294967296), &Carry(low, 65536))
+    assert_both_zero(
+        builder,
+        condition,
+        &Carry(&whole, 4294967296),
+        &Carry(low, 65536),
+    )
 }
 
 /// The word a is b + c modulo 2^32, where each limb is known to have 16 bits.
