@@ -13,8 +13,8 @@ use Rattle.air_author.specs.Constraints.{asserts_of_first}
 use Rattle.air_gadgets.specs.Words.{Limbs, number_of, xor_bits, rotated_left}
 use Rattle.air_gadgets.specs.Exact.{IsDomain, AllVanish, IsXorOf}
 use Rattle.air_gadgets.specs.Gadgets.{test_asserts, xor_asserts}
-use Rattle.air_gadgets.proofs.ExactXors.{xor_is_exact}
-use Rattle.air_gadgets.proofs.XorLaws.{bits_of_checks, same_of_minus, AllChecked, ring_xors, xors-images}
+use Rattle.air_gadgets.specs.laws.ExactXors.{xor_is_exact}
+use Rattle.air_gadgets.specs.laws.Xors.{bits_of_checks, same_of_minus, AllChecked, ring_xors, xors-images}
 use Rattle.blake3.specs.Compression.{Block, first_state, after_rounds, output_column}
 use Rattle.blake3.specs.declared.words.Quarter.{Quarter}
 use Rattle.blake3.specs.declared.words.State.{State}

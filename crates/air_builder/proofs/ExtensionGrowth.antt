@@ -3,7 +3,7 @@ use Rattle.std.proofs.Common.{◌≡◌}
 use Rattle.air_field.specs.Term.{Term, with_leaves}
 use Rattle.air_builder.specs.Builders.{MeansIn, BuilderView}
 use Rattle.air_builder.specs.Extensions.{ExtensionView, ExtensionLaws}
-use Rattle.air_builder.proofs.Growth.{means_in}
+use Rattle.air_builder.specs.laws.Growth.{means_in}
 
 -- what an element of the base means in the builder it means in the base of the ring over the extension, as it is lent
 pub base_means_in : {S R X B E F : Type 0} {view : BuilderView S R B F} {over : ExtensionView S X B E F}

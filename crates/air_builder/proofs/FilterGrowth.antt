@@ -15,8 +15,8 @@ use Rattle.air_builder.specs.NamedFilters.{LabelledInside}
 use Rattle.air_builder.specs.Refusals.{PartOf}
 use Rattle.air_builder.specs.laws.Batches.{asserted_one, grew_one, grew_none, refused_one}
 use Rattle.air_builder.specs.laws.Labels.{labelled_one, one_label, no_label}
-use Rattle.air_builder.proofs.Growth.{means_in, lent_means, refuses_part, lent_asserted, making_refused}
-use Rattle.air_builder.proofs.LabelGrowth.{NamedOne, lent_named, making_unnamed}
+use Rattle.air_builder.specs.laws.Growth.{means_in, lent_means, refuses_part, lent_asserted, making_refused}
+use Rattle.air_builder.specs.laws.LabelGrowth.{NamedOne, lent_named, making_unnamed}
 
 -- what an element asserts in the builder inside, under a condition that an element of it means
 pub record AssertsUnder {S B I F : Type 0} (means : S → B → Term F → Type 0) (asserts : S → I → Assertion F → Type 0)

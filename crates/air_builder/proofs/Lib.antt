@@ -1,4 +1,2 @@
-pub mod Growth
 pub mod ExtensionGrowth
-pub mod LabelGrowth
 pub mod FilterGrowth

@@ -11,3 +11,5 @@ pub mod Zips
 pub mod ShownRows
 pub mod RowBuilders
 pub mod Parts
+pub mod Growth
+pub mod LabelGrowth

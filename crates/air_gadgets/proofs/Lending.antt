@@ -13,7 +13,7 @@ use Rattle.air_builder.specs.Assertion.{Assertion, Base}
 use Rattle.air_builder.specs.Batches.{AssertsOf, AssertedEach}
 use Rattle.air_builder.specs.Builders.{MeansIn, BuilderView, RingLaws, BuilderLaws}
 use Rattle.air_builder.specs.Refusals.{PartOf}
-use Rattle.air_builder.proofs.Growth.{lent, lent_means, lent_asserted, making_refused}
+use Rattle.air_builder.specs.laws.Growth.{lent, lent_means, lent_asserted, making_refused}
 use Rattle.air_gadgets.specs.Words.{Limbs}
 use Rattle.air_gadgets.specs.Gadgets.{FromThree, FromFour, LimbsMean, VariableMeans, RefusesOne, Adds2, Adds3, AssertedList, add2_terms, add3_terms}
 use Rattle.air_gadgets.proofs.Asserting.{list_of, list_of_each, list_after}

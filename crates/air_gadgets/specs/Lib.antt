@@ -6,3 +6,4 @@ pub mod PowerSums
 pub mod Words
 pub mod Gadgets
 pub mod Exact
+pub mod laws

@@ -4,20 +4,20 @@ use Rattle.std.specs.Global.{Global}
 use Rattle.serde_json.specs.Data.{Data}
 use Rattle.serde_json.specs.Find.{get}
 use Rattle.air_field.specs.Modular.{Modular}
-use Rattle.air_program.specs.declared.flat_input.input.FlatInput.{FlatInput}
-use Rattle.air_program.specs.declared.flat_input.constraints.Constraints.{Constraints}
+use Rattle.air_object.specs.declared.input.FlatInput.{FlatInput}
+use Rattle.air_object.specs.declared.constraints.Constraints.{Constraints}
 use Rattle.air_core.specs.declared.errors.AirError.{AirError}
 use Rattle.air_core.specs.declared.errors.AirError.TheVariants.{Memory}
 use Rattle.air_program.specs.Answer.{AuditFinds}
-use Rattle.air_program.specs.Fields.{named_by, field_of, OverField}
-use Rattle.air_program.specs.Input.{SpellsInput}
-use Rattle.air_program.specs.Parts.{ArePartsOf}
+use Rattle.air_object.specs.Fields.{named_by, field_of, OverField}
+use Rattle.air_object.specs.Input.{SpellsInput}
+use Rattle.air_object.specs.Parts.{ArePartsOf}
 use Rattle.air_program.specs.FlatAnswer.{StandsFor, HasNoValue, flat_instance, RefusesValue, AnswersIn, AnswersOver, IsFlatAnswer}
 use Rattle.air_program.specs.Refusals.{name_of, refusal_text, air_refusal}
 use Rattle.air_program.specs.Requests.{MayRefuse}
 use Rattle.air_program.specs.Texts.{Found, IsFindingsText, findings_status}
 use Rattle.air_program.specs.declared.commands.Request.TheVariants.{Flat}
-use Rattle.air_program.specs.declared.field_name.FieldName.{FieldName}
+use Rattle.air_object.specs.declared.field_name.FieldName.{FieldName}
 use Rattle.air_program.specs.declared.refusals.Refusal.{Refusal}
 use Rattle.air_program.specs.declared.refusals.Refusal.TheVariants as refusals
 

@@ -12,12 +12,5 @@ pub mod Traces
 pub mod Equality
 pub mod FlatAnswers
 pub mod Outcomes
-pub mod Loop
-pub mod Trees
-pub mod Agreement
-pub mod MemberLaws
-pub mod InputLaws
-pub mod TokenLemmas
-pub mod PartLemmas
 pub mod NamedAnswers
 pub mod ShowAnswers

@@ -4,10 +4,10 @@ use Rattle.std.specs.Global.{Global}
 use Rattle.serde_json.specs.Data.{Data}
 use Rattle.air_field.specs.Modular.{Modular}
 use Rattle.air_program.specs.ByField.{AnswersNamed, AnswersBytes}
-use Rattle.air_program.specs.Fields.{field_of, OverField}
+use Rattle.air_object.specs.Fields.{field_of, OverField}
 use Rattle.air_program.specs.FlatAnswer.{StandsFor, HasNoValue}
 use Rattle.air_program.specs.Refusals.{name_of, refusal_text}
-use Rattle.air_program.specs.declared.field_name.FieldName.{FieldName}
+use Rattle.air_object.specs.declared.field_name.FieldName.{FieldName}
 use Rattle.air_program.specs.declared.refusals.Refusal.{Refusal}
 use Rattle.air_program.specs.declared.refusals.Refusal.TheVariants as refusals
 

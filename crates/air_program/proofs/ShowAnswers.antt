@@ -9,14 +9,14 @@ use Rattle.air_wire.specs.Results.{Gives, Fails}
 use Rattle.air_wire.specs.declared.errors.FlatError.{FlatError}
 use Rattle.air_wire.specs.declared.errors.FlatError.TheVariants as faults
 use Rattle.air_infix.specs.Lines.{ShowsRoots}
-use Rattle.air_program.specs.Parts.{InPool, AreGiven}
-use Rattle.air_program.specs.Readers.{constraints_member}
+use Rattle.air_object.specs.Parts.{InPool, AreGiven}
+use Rattle.air_object.specs.Readers.{constraints_member}
 use Rattle.air_program.specs.Refusals.{name_of, refusal_text, air_refusal}
 use Rattle.air_program.specs.Shown.{constraints, ShowsValue, ShownIn}
-use Rattle.air_program.specs.declared.flat_input.constraints.Constraints.{Constraints}
+use Rattle.air_object.specs.declared.constraints.Constraints.{Constraints}
 use Rattle.air_program.specs.declared.refusals.Refusal.{Refusal}
 use Rattle.air_program.specs.declared.refusals.Refusal.TheVariants as refusals
-use Rattle.air_program.proofs.MemberLaws.{constraints_agree}
+use Rattle.air_object.specs.laws.Members.{constraints_agree}
 
 module _ {F : Type 0} {p : ℕ} (m : Modular F p) (c : Constraints F) where
   abbrev pub Has : Data → Type 0

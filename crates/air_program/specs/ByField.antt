@@ -2,10 +2,10 @@
 use Rattle.std.specs.Prelude.{◌⊎◌, ℕ, List, codes, Option, Some, None}
 use Rattle.serde_json.specs.Data.{Data}
 use Rattle.air_field.specs.Modular.{Modular}
-use Rattle.air_program.specs.Fields.{field_of, OverField}
+use Rattle.air_object.specs.Fields.{field_of, OverField}
 use Rattle.air_program.specs.FlatAnswer.{StandsFor, HasNoValue}
 use Rattle.air_program.specs.Refusals.{IsRefusal}
-use Rattle.air_program.specs.declared.field_name.FieldName.{FieldName}
+use Rattle.air_object.specs.declared.field_name.FieldName.{FieldName}
 
 -- Below, `answers` relates a value to a status and a text, over each field.
 

@@ -5,13 +5,13 @@ use Rattle.serde_json.specs.Read.{read}
 use Rattle.air_field.specs.Modular.{Modular}
 use Rattle.air_builder.specs.Declaration.{Declaration}
 use Rattle.p3_air.specs.FlatAirs.{zero_at_roots}
-use Rattle.air_program.specs.Input.{SpellsInput, HasInputFault}
-use Rattle.air_program.specs.declared.flat_input.input.FlatInput.{FlatInput}
+use Rattle.air_object.specs.Input.{SpellsInput, HasInputFault}
+use Rattle.air_object.specs.declared.input.FlatInput.{FlatInput}
 use Rattle.p3_air.specs.Theorem.{Instance, instance}
 use Rattle.air_core.specs.declared.errors.AirError.{AirError}
 use Rattle.air_program.specs.Answer.{AuditRefuses, TellsFound}
-use Rattle.air_program.specs.Fields.{field_of, OverField}
-use Rattle.air_program.specs.declared.field_name.FieldName.{FieldName}
+use Rattle.air_object.specs.Fields.{field_of, OverField}
+use Rattle.air_object.specs.declared.field_name.FieldName.{FieldName}
 use Rattle.air_program.specs.Refusals.{IsRefusal, air_name}
 
 -- ---- from bytes to a value

@@ -12,8 +12,8 @@ use Rattle.air_wire.specs.Faults.{air_fault}
 use Rattle.air_wire.specs.declared.errors.FlatError.{FlatError}
 use Rattle.air_infix.specs.Lines.{ShowsRoots}
 use Rattle.air_program.specs.ByField.{AnswersBytes}
-use Rattle.air_program.specs.Members.{constraint}
-use Rattle.air_program.specs.Objects.{Grammar, list_of, needed}
+use Rattle.air_object.specs.Members.{constraint}
+use Rattle.air_object.specs.Objects.{Grammar, list_of, needed}
 use Rattle.air_program.specs.Refusals.{IsRefusal, air_name}
 
 -- the member `constraints`, alone

@@ -7,21 +7,18 @@ ghost use Rattle.air_symbolic.specs.BaseLeaves.{base_reads};
 ghost use Rattle.air_symbolic.specs.Pools.{IsPool};
 ghost use Rattle.air_program.specs.Answer.{AuditFinds};
 ghost use Rattle.air_program.specs.FlatAnswer.{StandsFor, HasNoValue, flat_instance, AuditRefusesInput, AnswersIn, IsFlatAnswer};
-ghost use Rattle.air_program.specs.Parts.{InPool, ArePartsOf};
+ghost use Rattle.air_object.specs.Parts.{InPool, ArePartsOf};
 ghost use Rattle.air_program.specs.Refusals.{name_of, refusal_text};
 ghost use Rattle.air_program.specs.Requests.{MayRefuse};
 ghost use Rattle.air_program.specs.Texts.{found};
 
 use crate::answer::{findings_of, told};
 use crate::commands::Request;
-use crate::field_name::{FieldName, field_of};
-use crate::flat_input::input::{FlatInput, input_from};
-use crate::flat_input::parts::{Parts, parts_of};
-use crate::flat_input::text::TextFault;
 use crate::refusals::Refusal;
 use crate::texts::Findings;
 use air_builder::AirError;
 use air_field::{BabyBear, Field, Goldilocks, KoalaBear, Mersenne31, PrimeField64, RowMajorMatrix};
+use air_object::{FieldName, FlatInput, Parts, TextFault, field_of, input_from, parts_of};
 use p3_air::FlatAir;
 use std::alloc::Global;
 

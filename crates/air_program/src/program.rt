@@ -9,9 +9,8 @@ ghost use Rattle.air_program.specs.Outcome.{IsOutcome};
 
 use crate::answer::answer;
 use crate::commands::request_of;
-use crate::engine::{ReadFault, read_all, write_all};
 use crate::refusals::Refusal;
-use crate::streams::{Sink, Source, StreamFault};
+use air_streams::{ReadFault, Sink, Source, StreamFault, read_all, write_all};
 use std::alloc::Global;
 
 /// Writes the line of a refusal, in pieces, since there may be no memory for it, and answers the status 2; an `Err`

@@ -6,21 +6,19 @@ ghost use Rattle.air_symbolic.specs.BaseLeaves.{base_reads};
 ghost use Rattle.air_symbolic.specs.Pools.{IsPool};
 ghost use Rattle.air_infix.specs.Lines.{ShowsRoots};
 ghost use Rattle.air_program.specs.FlatAnswer.{StandsFor, HasNoValue};
-ghost use Rattle.air_program.specs.Parts.{InPool, AreGiven};
-ghost use Rattle.air_program.specs.Readers.{constraints_member};
+ghost use Rattle.air_object.specs.Parts.{InPool, AreGiven};
+ghost use Rattle.air_object.specs.Readers.{constraints_member};
 ghost use Rattle.air_program.specs.Refusals.{name_of, refusal_text};
 ghost use Rattle.air_program.specs.Requests.{MayRefuse};
 ghost use Rattle.air_program.specs.Shown.{ShownIn, IsShowAnswer};
 
 use crate::commands::Request;
-use crate::field_name::{FieldName, field_of};
 use crate::flat::parts_from;
-use crate::flat_input::constraints::{BaseId, BasePool, Constraints};
-use crate::flat_input::parts::Parts;
 use crate::refusals::Refusal;
 use air_builder::AirError;
 use air_field::{BabyBear, Goldilocks, KoalaBear, Mersenne31, PrimeField64};
 use air_infix::show;
+use air_object::{BaseId, BasePool, Constraints, FieldName, Parts, field_of};
 use std::alloc::Global;
 
 /// The status and the text that show the roots.
@@ -47,7 +45,8 @@ fn show_constraints<F: PrimeField64>(
     constraints: Constraints<F>,
 ) -> Result<(u8, String), Refusal>
     requires { InPool constraints }
-    ensures ok { IfOk result (λ p. (d : Data) → AreGiven (constraints_member F.residues d) constraints
+    ensures ok { IfOk result (λ p. (d : Data)
+        → AreGiven (constraints_member F.residues d) constraints
         → ShownIn F F.ORDER_U64 F.residues d p.0 (string_bytes p.1)) }
     ensures refused { IfErr result (λ why. (why ≡ Refusal.Memory) ⊎ ((d : Data)
         → AreGiven (constraints_member F.residues d) constraints

@@ -9,3 +9,4 @@ pub mod WeightLaws
 pub mod SymbolicGrowth
 pub mod ExtRows
 pub mod ListFields
+pub mod ShownVariables

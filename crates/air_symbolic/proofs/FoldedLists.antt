@@ -1,5 +1,6 @@
 -- The folded sum or product of a list, step by step.
-use Rattle.std.proofs.Common.{◌≡◌, ℕ, suc, ◌+◌, ◌<◌, ◌≤◌, ◌^◌, Bool, List, [], ◌∷◌, All, length, map, refl, sym, ap, ap₂, subst, ◌∙◌, arith, inl, inr, drop, get_or, drop-cons, add-one}
+use Rattle.std.proofs.Common.{◌≡◌, ℕ, suc, ◌+◌, ◌<◌, ◌≤◌, ◌^◌, Bool, List, [], ◌∷◌, All, length, map, refl, sym, ap, ap₂, subst, ◌∙◌, arith, inl, inr, drop, get_or, drop-cons, add-one, ◌-◌, take}
+use Rattle.std.proofs.lemmas.List.{take_rest}
 use Rattle.std.specs.Prelude.{Option, Some, None}
 use Rattle.air_field.specs.Ring.{CommRing}
 use Rattle.air_field.specs.Degree.{degree_by, cached_weight}
@@ -118,6 +119,23 @@ module _ {U A F : Type 0} (r : CommRing F) (eq : F → F → Bool) (reads : U �
     left_in = λ k d lt. h (suc k) d (omega arith);
     leads = λ v u g rest. rest;
   }
+
+  -- of a list that a pattern takes apart
+  module _ (p : U × List (SymbolicExpr A)) where
+    pub sum_begun : (xs : List ℕ) (x : ℕ) → 0 < length xs → x ≡ get_or xs 0 x → All (λ i. i < length p.1) xs
+        → IsJoining reads grows (SumRest r eq reads) (λ v u. IsJoined (reads u) r.nil (SumStep r eq (reads u)) (map (tree_at p) xs) v) p p x (take (length xs - 1) (drop 1 xs))
+    sum_begun [] x some is h = absurd (omega (arith, some))
+    sum_begun (y ∷ ys) x some is h =
+        rw is (left-is ys _ (sym (take_rest (y ∷ ys) 1)) (begin_joining (SumRest r eq reads) p y ys h))
+
+    pub product_begun : (xs : List ℕ) (x : ℕ) → 0 < length xs → x ≡ get_or xs 0 x → All (λ i. i < length p.1) xs
+        → IsMultiplying r eq reads grows p p xs x (take (length xs - 1) (drop 1 xs))
+    product_begun [] x some is h = absurd (omega (arith, some))
+    product_begun (y ∷ ys) x some is h =
+        rw is record {
+          product = left-is ys _ (sym (take_rest (y ∷ ys) 1)) (begin_joining (ProductRest r eq reads) p y ys h);
+          overflow = left-is ys _ (sym (take_rest (y ∷ ys) 1)) (begin_joining (OverflowRest r eq reads) p y ys h);
+        }
 
   -- one more element
   pub take_one : {W : Type 0} (Rest : W → U → Tree A → List (Tree A) → Type 0) (Goal : W → U → Type 0) (p s q : U × List (SymbolicExpr A)) (total x z : ℕ) (left : List ℕ) → Grown grows reads s q → z < length q.1 → IsJoining reads grows Rest Goal p s total (x ∷ left)

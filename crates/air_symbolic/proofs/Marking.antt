@@ -31,6 +31,23 @@ one_node l ns i m n h k = some_inj (sym h.node ∙ k.node)
     some_inj : Some m ≡ Some n → m ≡ n
     some_inj e = cc
 
+-- one and then another was marked
+pub marked_both : (x y : ℕ) (a b d : List (Option ℕ)) → MarkedMore (λ i. i ≡ x) a b → MarkedMore (λ i. i ≡ y) b d
+    → MarkedMore (λ i. (i ≡ x) ⊎ (i ≡ y)) a d
+marked_both x y a b d h g = record {
+  places = g.places ∙ h.places;
+  stays = λ i m. g.stays i (h.stays i m);
+  only = λ i j e.
+      ⊎_elim
+      (λ (o : get_or b i None ≡ Some j).
+      ⊎_elim
+      (λ (p : get_or a i None ≡ Some j). inl p)
+      (λ (q : (j ≡ i) × (i ≡ x)). inr (q.0, inl q.1))
+      (h.only i j o))
+      (λ (q : (j ≡ i) × (i ≡ y)). inr (q.0, inr q.1))
+      (g.only i j e);
+}
+
 module _ {A F : Type 0} (l : Leaves A F) (ns : List (SymbolicExpr A)) (roots : List ℕ) where
   -- what is marked is named by its place, and reached
   abbrev pub OnlyReached : List (Option ℕ) → Type 0

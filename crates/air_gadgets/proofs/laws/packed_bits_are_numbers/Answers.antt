@@ -1,7 +1,7 @@
 use Rattle.std.proofs.Common.{◌∙◌, ap}
 use Rattle.air_field.specs.Ring.{itself}
-use Rattle.air_gadgets.proofs.PackedBits.{packs_values_in, packs_numbers, embeds_images}
-use Rattle.air_gadgets.proofs.PowerSums.{packs_by_powers}
+use Rattle.air_gadgets.specs.laws.PackedBits.{packs_values_in, packs_numbers, embeds_images}
+use Rattle.air_gadgets.specs.laws.PowerSums.{packs_by_powers}
 use Rattle.air_gadgets.proofs.laws.packed_bits_are_numbers.Goals as goal
 
 pub returns-clause-numbers : goal.returns-clause-numbers

@@ -1,5 +1,5 @@
-use Rattle.air_gadgets.proofs.ExactSums.{add2_is_exact, add3_is_exact}
-use Rattle.air_gadgets.proofs.ExactXors.{xor_is_exact}
+use Rattle.air_gadgets.specs.laws.ExactSums.{add2_is_exact, add3_is_exact}
+use Rattle.air_gadgets.specs.laws.ExactXors.{xor_is_exact}
 use Rattle.air_gadgets.proofs.laws.words_are_exact.Goals as goal
 
 pub returns-clause-add2 : goal.returns-clause-add2

@@ -2,10 +2,10 @@ use Rattle.std.proofs.Common.{Some, sym, ap, ◌∙◌}
 use Rattle.serde_json.specs.View.{view}
 use Rattle.air_field.specs.Modulo.{baby_bears}
 use Rattle.air_field.specs.Goldilocks.{goldilocks_modular}
-use Rattle.air_program.specs.Fields.{koala_bears, mersennes}
-use Rattle.air_program.specs.declared.field_name.FieldName.TheVariants as fields
+use Rattle.air_object.specs.Fields.{koala_bears, mersennes}
+use Rattle.air_object.specs.declared.field_name.FieldName.TheVariants as fields
 use Rattle.air_program.proofs.FlatAnswers.{same_field, at_parts, ok_named, err_named, none_named, ok_anew, err_anew}
-use Rattle.air_program.proofs.PartLemmas.{ok_so, err_so}
+use Rattle.std.proofs.lemmas.Result.{IfOk-weaker, IfErr-weaker}
 use Rattle.air_program.proofs.flat.answer_flat.Goals as goal
 
 pub returns-in-BabyBear-clause-ok : goal.returns-in-BabyBear-clause-ok
@@ -13,14 +13,14 @@ returns-in-BabyBear-clause-ok c =
     let found = c.in_ok-parts.ensures.parts in
     let parts = c.in_ok-parts.parts in
     let is = ap (λ k. Some k) (sym c.in-BabyBear.is) ∙ sym c.in-Some.is ∙ c.field_of.ensures ∙ sym (same_field baby_bears found.0 (view parts.rest) parts.constraints found.2) in
-    ok_named c.args.bytes.now found.0 found.1 fields.BabyBear c.answer_parts.result is (ok_so c.answer_parts.result _ _ (λ p h. h found.0 found.2) c.answer_parts.ensures.ok)
+    ok_named c.args.bytes.now found.0 found.1 fields.BabyBear c.answer_parts.result is (IfOk-weaker c.answer_parts.result _ _ (λ p h. h found.0 found.2) c.answer_parts.ensures.ok)
 
 pub returns-in-BabyBear-clause-refused : goal.returns-in-BabyBear-clause-refused
 returns-in-BabyBear-clause-refused c =
     let found = c.in_ok-parts.ensures.parts in
     let parts = c.in_ok-parts.parts in
     let is = ap (λ k. Some k) (sym c.in-BabyBear.is) ∙ sym c.in-Some.is ∙ c.field_of.ensures ∙ sym (same_field baby_bears found.0 (view parts.rest) parts.constraints found.2) in
-    err_named c.args.bytes.now found.0 found.1 fields.BabyBear c.answer_parts.result is (err_so c.answer_parts.result _ _ (λ why h. at_parts found.0 found.2 h) c.answer_parts.ensures.refused)
+    err_named c.args.bytes.now found.0 found.1 fields.BabyBear c.answer_parts.result is (IfErr-weaker c.answer_parts.result _ _ (λ why h. at_parts found.0 found.2 h) c.answer_parts.ensures.refused)
 
 pub returns-in-KoalaBear-clause-ok : goal.returns-in-KoalaBear-clause-ok
 returns-in-KoalaBear-clause-ok c =

@@ -1,7 +1,7 @@
 use Rattle.std.proofs.Common.{inl, inr}
 use Rattle.std.proofs.lemmas.Result.{err_from_is_err_and}
 use Rattle.serde_json.specs.View.{view}
-use Rattle.air_program.specs.Parts.{ArePartsOf}
+use Rattle.air_object.specs.Parts.{ArePartsOf}
 use Rattle.air_program.specs.Texts.{found}
 use Rattle.air_program.proofs.FlatAnswers.{parts_refused, value_answered}
 use Rattle.air_program.proofs.flat.answer_parts.Goals as goal

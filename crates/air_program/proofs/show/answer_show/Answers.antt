@@ -3,12 +3,12 @@ use Rattle.serde_json.specs.Data.{Data}
 use Rattle.serde_json.specs.View.{view}
 use Rattle.air_field.specs.Goldilocks.{goldilocks_modular}
 use Rattle.air_field.specs.Modulo.{baby_bears}
-use Rattle.air_program.specs.Fields.{field_of, koala_bears, mersennes}
+use Rattle.air_object.specs.Fields.{field_of, koala_bears, mersennes}
 use Rattle.air_program.specs.Shown.{ShownIn}
-use Rattle.air_program.specs.declared.field_name.FieldName.TheVariants as fields
+use Rattle.air_object.specs.declared.field_name.FieldName.TheVariants as fields
 use Rattle.air_program.proofs.FlatAnswers.{same_field}
 use Rattle.air_program.proofs.NamedAnswers.{at_value, none_named, ok_named, err_named, ok_anew, err_anew}
-use Rattle.air_program.proofs.PartLemmas.{ok_so, err_so}
+use Rattle.std.proofs.lemmas.Result.{IfOk-weaker, IfErr-weaker}
 use Rattle.air_program.proofs.show.answer_show.Goals as goal
 
 pub returns-in-Some-BabyBear-clause-ok : goal.returns-in-Some-BabyBear-clause-ok
@@ -17,7 +17,7 @@ returns-in-Some-BabyBear-clause-ok c =
     let same = same_field baby_bears found.0 (view c.in_ok-parts.parts.rest) c.in_ok-parts.parts.constraints found.2 in
     let named : Some fields.BabyBear ≡ field_of found.0 = cc (c.in-Some-BabyBear.is, c.in-Some-BabyBear.field-0-is, c.field_of.ensures, same) in
     ok_named ShownIn c.args.bytes.now found.0 found.1 fields.BabyBear c.show_parts.result named
-    (ok_so c.show_parts.result _ _ (λ p h. h found.0 found.2.constraints) c.show_parts.ensures.ok)
+    (IfOk-weaker c.show_parts.result _ _ (λ p h. h found.0 found.2.constraints) c.show_parts.ensures.ok)
 
 pub returns-in-Some-BabyBear-clause-refused : goal.returns-in-Some-BabyBear-clause-refused
 returns-in-Some-BabyBear-clause-refused c =
@@ -25,7 +25,7 @@ returns-in-Some-BabyBear-clause-refused c =
     let same = same_field baby_bears found.0 (view c.in_ok-parts.parts.rest) c.in_ok-parts.parts.constraints found.2 in
     let named : Some fields.BabyBear ≡ field_of found.0 = cc (c.in-Some-BabyBear.is, c.in-Some-BabyBear.field-0-is, c.field_of.ensures, same) in
     err_named ShownIn c.args.bytes.now found.0 found.1 fields.BabyBear c.show_parts.result named
-    (err_so c.show_parts.result _ _ (λ why h. at_value _ _ _ found.0 found.2.constraints h) c.show_parts.ensures.refused)
+    (IfErr-weaker c.show_parts.result _ _ (λ why h. at_value _ _ _ found.0 found.2.constraints h) c.show_parts.ensures.refused)
 
 pub returns-in-Some-KoalaBear-clause-ok : goal.returns-in-Some-KoalaBear-clause-ok
 returns-in-Some-KoalaBear-clause-ok c =

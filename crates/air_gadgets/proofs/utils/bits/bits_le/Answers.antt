@@ -3,7 +3,7 @@ use Rattle.std.proofs.Math.Seq.{take-suc-set}
 use Rattle.std.proofs.lemmas.List.{take_all}
 use Rattle.air_field.specs.Ring.{image}
 use Rattle.air_gadgets.specs.Bits.{digits_of, packed}
-use Rattle.air_gadgets.proofs.BitLaws.{digit_taken, packed-digits}
+use Rattle.air_gadgets.specs.laws.Bits.{digit_taken, packed-digits}
 use Rattle.air_gadgets.proofs.utils.bits.bits_le.Goals as goal
 
 pub loop-i-preserved : goal.loop-i-preserved

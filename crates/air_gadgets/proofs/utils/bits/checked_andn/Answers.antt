@@ -1,6 +1,6 @@
 use Rattle.std.proofs.Common.{◌∙◌, ap, ap₂}
 use Rattle.air_field.specs.Ring.{minus}
-use Rattle.air_gadgets.proofs.BitLaws.{andn-image}
+use Rattle.air_gadgets.specs.laws.Bits.{andn-image}
 use Rattle.air_gadgets.proofs.utils.bits.checked_andn.Goals as goal
 
 pub returns : goal.returns

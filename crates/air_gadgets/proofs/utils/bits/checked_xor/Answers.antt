@@ -1,6 +1,6 @@
 use Rattle.std.proofs.Common.{◌≡◌, ◌∙◌, ◌+◌, drop, sym, ap, subst}
 use Rattle.std.proofs.lemmas.List.{drop_all}
-use Rattle.air_gadgets.proofs.BitLaws.{xors_from, xors-image}
+use Rattle.air_gadgets.specs.laws.Bits.{xors_from, xors-image}
 use Rattle.air_gadgets.proofs.Combining.{drop_item}
 use Rattle.air_gadgets.proofs.utils.bits.checked_xor.Goals as goal
 

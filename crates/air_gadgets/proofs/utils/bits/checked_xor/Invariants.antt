@@ -1,5 +1,5 @@
 use Rattle.std.proofs.Common.{◌≡◌, drop}
-use Rattle.air_gadgets.proofs.BitLaws.{xors_from}
+use Rattle.air_gadgets.specs.laws.Bits.{xors_from}
 use Rattle.air_gadgets.proofs.utils.bits.checked_xor.Given as goal
 
 abbrev pub invariant-loop-x : goal.invariant-loop-x

@@ -1,7 +1,7 @@
 use Rattle.std.proofs.Common.{◌≡◌, ◌-◌, ◌<◌, suc, length, subst, sym, arith}
 use Rattle.std.proofs.lemmas.List.Elements.{All-get_or}
 use Rattle.std.proofs.lemmas.Result.{err_from_is_err_and}
-use Rattle.air_gadgets.proofs.PowerSums.{packs_values}
+use Rattle.air_gadgets.specs.laws.PowerSums.{packs_values}
 use Rattle.air_gadgets.proofs.PackingLaws.{IsPacking, begin_packing, pack_one, end_packing, doubling_refused, adding_bit_refused, one_below, packed_as_air}
 use Rattle.air_gadgets.proofs.utils.packing.pack_bits_le.Goals as goal
 

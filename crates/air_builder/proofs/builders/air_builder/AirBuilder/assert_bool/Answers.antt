@@ -2,7 +2,7 @@ use Rattle.std.proofs.Common.{inl, refl}
 use Rattle.air_field.specs.Part.{whole}
 use Rattle.air_field.specs.Algebra.{bool_check_term}
 use Rattle.air_builder.specs.Assertion.{Base}
-use Rattle.air_builder.proofs.Growth.{one_asserted, one_gives_up}
+use Rattle.air_builder.specs.laws.Growth.{one_asserted, one_gives_up}
 use Rattle.air_builder.proofs.builders.air_builder.AirBuilder.assert_bool.Goals as goal
 
 pub returns : goal.returns

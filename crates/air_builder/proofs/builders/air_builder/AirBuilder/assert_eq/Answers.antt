@@ -2,7 +2,7 @@ use Rattle.std.proofs.Common.{inl, refl}
 use Rattle.air_field.specs.Part.{whole}
 use Rattle.air_field.specs.Term.{sub_term}
 use Rattle.air_builder.specs.Assertion.{Base}
-use Rattle.air_builder.proofs.Growth.{both_asserted, both_gives_up}
+use Rattle.air_builder.specs.laws.Growth.{both_asserted, both_gives_up}
 use Rattle.air_builder.proofs.builders.air_builder.AirBuilder.assert_eq.Goals as goal
 
 pub returns : goal.returns

@@ -1,6 +1,6 @@
 use Rattle.std.proofs.lemmas.Result.{err_from_is_err_and}
 use Rattle.air_field.specs.Term.{with_leaves, sub_term}
-use Rattle.air_builder.proofs.Growth.{means_in}
+use Rattle.air_builder.specs.laws.Growth.{means_in}
 use Rattle.air_builder.proofs.builders.air_builder.AirBuilder.difference.Goals as goal
 
 pub returns-in_err-difference-clause-refused : goal.returns-in_err-difference-clause-refused

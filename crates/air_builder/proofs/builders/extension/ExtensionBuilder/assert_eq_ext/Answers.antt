@@ -3,7 +3,7 @@ use Rattle.air_field.specs.Part.{whole}
 use Rattle.air_field.specs.Term.{sub_term}
 use Rattle.air_builder.specs.Assertion.{Extension}
 use Rattle.air_builder.specs.laws.Extensions.{over_extension}
-use Rattle.air_builder.proofs.Growth.{both_asserted, both_gives_up}
+use Rattle.air_builder.specs.laws.Growth.{both_asserted, both_gives_up}
 use Rattle.air_builder.proofs.builders.extension.ExtensionBuilder.assert_eq_ext.Goals as goal
 
 pub returns : goal.returns

@@ -3,7 +3,7 @@ use Rattle.air_field.specs.Part.{whole}
 use Rattle.air_builder.specs.Assertion.{Extension}
 use Rattle.air_builder.specs.Builders.{less_one_term}
 use Rattle.air_builder.specs.laws.Extensions.{over_extension}
-use Rattle.air_builder.proofs.Growth.{one_asserted, one_gives_up}
+use Rattle.air_builder.specs.laws.Growth.{one_asserted, one_gives_up}
 use Rattle.air_builder.proofs.builders.extension.ExtensionBuilder.assert_one_ext.Goals as goal
 
 pub returns : goal.returns

@@ -3,7 +3,7 @@ use Rattle.air_field.specs.Part.{whole}
 use Rattle.air_field.specs.Term.{mul_term}
 use Rattle.air_builder.specs.Assertion.{Base}
 use Rattle.air_builder.specs.Builders.{Means}
-use Rattle.air_builder.proofs.Growth.{means_in}
+use Rattle.air_builder.specs.laws.Growth.{means_in}
 use Rattle.air_builder.proofs.FilterGrowth.{filter_asserted, filter_gives_up}
 use Rattle.air_builder.proofs.builders.filtered.FilteredAirBuilderAirBuilder.assert_zero.Goals as goal
 

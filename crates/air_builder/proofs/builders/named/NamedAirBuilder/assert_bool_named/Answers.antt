@@ -2,7 +2,7 @@ use Rattle.std.proofs.Common.{inl, refl}
 use Rattle.air_field.specs.Part.{whole}
 use Rattle.air_field.specs.Algebra.{bool_check_term}
 use Rattle.air_builder.specs.Assertion.{Base}
-use Rattle.air_builder.proofs.LabelGrowth.{one_named, one_unnamed}
+use Rattle.air_builder.specs.laws.LabelGrowth.{one_named, one_unnamed}
 use Rattle.air_builder.proofs.builders.named.NamedAirBuilder.assert_bool_named.Goals as goal
 
 pub returns : goal.returns

@@ -3,7 +3,7 @@ use Rattle.air_field.specs.Algebra.{bool_check_term}
 use Rattle.air_builder.specs.Assertion.{Base}
 use Rattle.air_builder.specs.laws.Batches.{nothing_asserted, asserted_more, asserted_refused, asserted_all, asserts_kept}
 use Rattle.air_core.specs.Texts.{ElementSays}
-use Rattle.air_builder.proofs.LabelGrowth.{labels_nothing, labelled_more, labelled_refused, labelled_all}
+use Rattle.air_builder.specs.laws.LabelGrowth.{labels_nothing, labelled_more, labelled_refused, labelled_all}
 use Rattle.air_builder.proofs.builders.named.NamedAirBuilder.assert_bools_named_slice.Goals as goal
 
 pub loop-i-init : goal.loop-i-init

@@ -2,7 +2,7 @@ use Rattle.std.proofs.Common.{inl, refl}
 use Rattle.air_field.specs.Part.{whole}
 use Rattle.air_field.specs.Term.{sub_term}
 use Rattle.air_builder.specs.Assertion.{Base}
-use Rattle.air_builder.proofs.LabelGrowth.{both_named, both_unnamed}
+use Rattle.air_builder.specs.laws.LabelGrowth.{both_named, both_unnamed}
 use Rattle.air_builder.proofs.builders.named.NamedAirBuilder.assert_eq_named.Goals as goal
 
 pub returns : goal.returns

@@ -2,7 +2,7 @@ use Rattle.std.proofs.Common.{inl, refl}
 use Rattle.air_field.specs.Part.{whole}
 use Rattle.air_builder.specs.Assertion.{Base}
 use Rattle.air_builder.specs.Builders.{less_one_term}
-use Rattle.air_builder.proofs.LabelGrowth.{one_named, one_unnamed}
+use Rattle.air_builder.specs.laws.LabelGrowth.{one_named, one_unnamed}
 use Rattle.air_builder.proofs.builders.named.NamedAirBuilder.assert_one_named.Goals as goal
 
 pub returns : goal.returns

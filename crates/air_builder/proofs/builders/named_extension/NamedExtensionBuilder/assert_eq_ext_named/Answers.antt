@@ -3,7 +3,7 @@ use Rattle.air_field.specs.Part.{whole}
 use Rattle.air_field.specs.Term.{sub_term}
 use Rattle.air_builder.specs.Assertion.{Extension}
 use Rattle.air_builder.specs.laws.Extensions.{over_extension}
-use Rattle.air_builder.proofs.LabelGrowth.{both_named, both_unnamed}
+use Rattle.air_builder.specs.laws.LabelGrowth.{both_named, both_unnamed}
 use Rattle.air_builder.proofs.builders.named_extension.NamedExtensionBuilder.assert_eq_ext_named.Goals as goal
 
 pub returns : goal.returns

@@ -1,4 +1,4 @@
-use Rattle.air_builder.proofs.LabelGrowth.{discarded}
+use Rattle.air_builder.specs.laws.LabelGrowth.{discarded}
 use Rattle.air_folder.proofs.folder.named.ConstraintFolderNamedExtensionBuilder.assert_zero_ext_named.Goals as goal
 
 pub returns-clause-label : goal.returns-clause-label

@@ -1,10 +1,14 @@
-use Rattle.std.proofs.Common.{length, ◌-◌, drop, take}
+use Rattle.std.proofs.Common.{length, ◌-◌, drop, take, arith}
 use Rattle.std.proofs.lemmas.List.{drop_all}
 use Rattle.std.proofs.lemmas.Result.{err_from_is_err_and}
 use Rattle.air_symbolic.specs.laws.Pools.{Grown-trans}
-use Rattle.air_symbolic.proofs.FoldedLists.{left-is, product_taken, overflow_taken, overflow_told, product_ended, drop_item, next_in}
+use Rattle.air_symbolic.proofs.FoldedLists.{left-is, product_begun, product_taken, overflow_taken, overflow_told, product_ended, drop_item, next_in}
 use Rattle.air_symbolic.proofs.FoldedTerms.{IsProductOfAll-stands}
 use Rattle.air_symbolic.proofs.pools.pool.ExprPool.product.Goals as goal
+
+pub loop-x-init : goal.loop-x-init
+loop-x-init g c =
+    product_begun g.A.F.Field.ring g.A.F.PartialEq.eq g.A.SymLeaf.reads g.A.SymLeaf.grows g.A.SymLeaf.no_under g.met.A.SymLeaf.leaf_laws c.args.self.now c.args.xs.now c.first-item.result (omega arith) c.first-item.is c.requires.all_in
 
 pub returns-in_err-total-clause-grown : goal.returns-in_err-total-clause-grown
 returns-in_err-total-clause-grown g c =

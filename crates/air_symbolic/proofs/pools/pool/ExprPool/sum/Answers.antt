@@ -1,9 +1,13 @@
-use Rattle.std.proofs.Common.{length, ◌-◌, drop, take}
+use Rattle.std.proofs.Common.{length, ◌-◌, drop, take, arith}
 use Rattle.std.proofs.lemmas.List.{drop_all}
 use Rattle.air_symbolic.specs.laws.Pools.{Grown-trans}
-use Rattle.air_symbolic.proofs.FoldedLists.{left-is, sum_taken, sum_ended, drop_item, next_in}
+use Rattle.air_symbolic.proofs.FoldedLists.{left-is, sum_begun, sum_taken, sum_ended, drop_item, next_in}
 use Rattle.air_symbolic.proofs.FoldedTerms.{IsSumOfAll-stands}
 use Rattle.air_symbolic.proofs.pools.pool.ExprPool.sum.Goals as goal
+
+pub loop-x-init : goal.loop-x-init
+loop-x-init g c =
+    sum_begun g.A.F.Field.ring g.A.F.PartialEq.eq g.A.SymLeaf.reads g.A.SymLeaf.grows g.A.SymLeaf.no_under g.met.A.SymLeaf.leaf_laws c.args.self.now c.args.xs.now c.first-item.result (omega arith) c.first-item.is c.requires.all_in
 
 pub returns-in_err-total-clause-grown : goal.returns-in_err-total-clause-grown
 returns-in_err-total-clause-grown g c =

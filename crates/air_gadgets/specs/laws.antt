@@ -1,0 +1,8 @@
+-- Laws of bits, packed bits, and of words' sums and xors: the layers above cite them.
+pub mod Bits
+pub mod PowerSums
+pub mod PackedBits
+pub mod Carrying
+pub mod ExactSums
+pub mod Xors
+pub mod ExactXors

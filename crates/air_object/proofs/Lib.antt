@@ -1,0 +1,5 @@
+pub mod Loop
+pub mod Trees
+pub mod InputLaws
+pub mod TokenLemmas
+pub mod PartLemmas

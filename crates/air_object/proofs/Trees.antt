@@ -1,0 +1,59 @@
+-- Trees of base expressions, and pools that grow while lists are read.
+use Rattle.std.proofs.Common.{◌≡◌, ◌≢◌, ℕ, suc, zero, ◌<◌, List, [], ◌∷◌, ◌++◌, length, map, All, Result, Ok, Err, refl, ap, ◌∙◌, arith}
+use Rattle.std.specs.Result.{IfOk, IfErr}
+use Rattle.serde_json.specs.Data.{Data}
+use Rattle.air_field.specs.Modular.{Modular, modular_ring}
+use Rattle.air_symbolic.specs.BaseLeaves.{base_reads, base_grows}
+use Rattle.air_symbolic.specs.laws.BaseLeaves.{base_leaf_laws}
+use Rattle.air_symbolic.specs.Pools.{Grown, tree_at}
+use Rattle.air_symbolic.specs.laws.Pools.{Grown-trans, here-kept, tree-kept}
+use Rattle.air_symbolic.specs.declared.leaves.base_leaf.BaseLeaf.{BaseLeaf}
+use Rattle.air_symbolic.specs.declared.pools.expr.SymbolicExpr.{SymbolicExpr}
+use Rattle.air_wire.specs.BaseLeaves.{base_kind, base_seen}
+use Rattle.air_wire.specs.laws.BaseLeaves.{base_kind_laws, over_same}
+use Rattle.air_wire.specs.Good.{IsList, HasFault}
+use Rattle.air_wire.specs.laws.Lists.{root_again, root_fault_read}
+use Rattle.air_wire.specs.Results.{Gives}
+use Rattle.air_wire.specs.Seen.{seen_at}
+use Rattle.air_wire.specs.declared.errors.FlatError.{FlatError}
+use Rattle.air_wire.specs.declared.errors.FlatError.TheVariants as faults
+use Rattle.air_object.specs.Readers.{tree}
+
+abbrev pub Pool : Type 0 → Type 0
+Pool F = Unit {0} × List (SymbolicExpr (BaseLeaf F))
+
+abbrev pub GrownTo : {F : Type 0} → Pool F → Pool F → Type 0
+GrownTo p q = Grown base_grows base_reads p q
+
+abbrev pub AllIn : {F : Type 0} → Pool F → List ℕ → Type 0
+AllIn p is = All (λ i. i < length p.1) is
+
+module _ {F : Type 0} {order : ℕ} (modular : Modular F order) where
+  pub grown_on : (p q s : Pool F) → GrownTo p q → GrownTo q s → GrownTo p s
+  grown_on = Grown-trans (modular_ring modular) base_reads base_grows tt (base_leaf_laws (modular_ring modular))
+
+  -- ---- numbers of a pool that grows
+
+  pub all_in_push : (p q : Pool F) (is : List ℕ) (i : ℕ) → GrownTo p q → AllIn p is → i < length q.1 → AllIn q (is ++ i ∷ [])
+  all_in_push p q [] i g h lt zero d b = lt
+  all_in_push p q [] i g h lt (suc k) d b = absurd (omega (arith, b))
+  all_in_push p q (j ∷ is) i g h lt zero d b = here-kept (modular_ring modular) base_reads base_grows tt (base_leaf_laws (modular_ring modular)) p q j g (h zero d (omega arith))
+  all_in_push p q (j ∷ is) i g h lt (suc k) d b = all_in_push p q is i g (λ l e c. h (suc l) e (omega (arith, c))) lt k d (omega (arith, b))
+
+  pub trees_kept : (p q : Pool F) (is : List ℕ) → GrownTo p q → AllIn p is → map (tree_at q) is ≡ map (tree_at p) is
+  trees_kept p q [] g h = refl
+  trees_kept p q (i ∷ is) g h =
+      let first : i < length p.1 = h zero zero (omega arith) in
+      cc (tree-kept (modular_ring modular) base_reads base_grows tt (base_leaf_laws (modular_ring modular)) p q i g first, trees_kept p q is g (λ k d lt. h (suc k) d (omega (arith, lt))))
+
+  -- ---- what the reader of lists promises
+
+  pub tree_given : (p : Pool F) (d : Data) (r : Result ℕ FlatError) → IfOk r (λ i. IsList (base_kind modular) d (seen_at base_seen p i)) → IfErr r (λ e. e ≢ faults.Memory → HasFault (base_kind modular) d e) → Gives (tree_at p) r (tree modular d)
+  tree_given p d (Ok i) h n = root_again (base_kind modular) (base_kind_laws modular) d (seen_at base_seen p i) h ∙ ap (λ t. Ok t) (over_same (tree_at p i))
+  tree_given p d (Err faults.Memory) h n = tt
+  tree_given p d (Err faults.DegreeOverflow) h n = root_fault_read (base_kind modular) (base_kind_laws modular) d faults.DegreeOverflow (n (λ e. absurd cc))
+  tree_given p d (Err (faults.Shape place)) h n = root_fault_read (base_kind modular) (base_kind_laws modular) d (faults.Shape place) (n (λ e. absurd cc))
+  tree_given p d (Err faults.EmptyList) h n = root_fault_read (base_kind modular) (base_kind_laws modular) d faults.EmptyList (n (λ e. absurd cc))
+  tree_given p d (Err (faults.Operand place i)) h n = root_fault_read (base_kind modular) (base_kind_laws modular) d (faults.Operand place i) (n (λ e. absurd cc))
+  tree_given p d (Err (faults.WrongDegree place s k)) h n = root_fault_read (base_kind modular) (base_kind_laws modular) d (faults.WrongDegree place s k) (n (λ e. absurd cc))
+  tree_given p d (Err (faults.NotCanonical place)) h n = root_fault_read (base_kind modular) (base_kind_laws modular) d (faults.NotCanonical place) (n (λ e. absurd cc))

@@ -1,0 +1,61 @@
+-- The members of the object: what they spell, in the order in which they are read.
+use Rattle.std.specs.Prelude.{◌≡◌, ℕ, ◌≤◌, List, [], Option, Some, None, ◌⊎◌, codes}
+use Rattle.serde_json.specs.Data.{Data, null}
+use Rattle.air_field.specs.Modular.{Modular}
+use Rattle.air_symbolic.specs.Trees.{Tree}
+use Rattle.air_symbolic.specs.declared.leaves.base_leaf.BaseLeaf.{BaseLeaf}
+use Rattle.air_core.specs.declared.boundary.BoundaryPublic.{BoundaryPublic}
+use Rattle.air_wire.specs.BaseLeaves.{base_kind}
+use Rattle.air_wire.specs.Boundaries.{SpellsCell}
+use Rattle.air_wire.specs.Good.{IsList, HasFault}
+use Rattle.air_wire.specs.Spelling.{IsWhole}
+use Rattle.air_wire.specs.declared.errors.FlatError.{FlatError}
+use Rattle.air_wire.specs.declared.errors.FlatError.TheVariants as faults
+use Rattle.air_object.specs.Objects.{Grammar, by_form, list_of, needed, optional, both, both_or_none}
+
+abbrev pub whole_number : Grammar ℕ
+whole_number = by_form (λ d n. IsWhole n d)
+
+-- no whole number, or one at or past the modulus p
+abbrev pub ElementFault : ℕ → Data → FlatError → Type 0
+ElementFault p d f = (((n : ℕ) → IsWhole n d → ⊥) × (f ≡ faults.Shape 0)) ⊎ ((n : ℕ) × IsWhole n d × (p ≤ n) × (f ≡ faults.NotCanonical 0))
+
+-- a field element, by its canonical number
+abbrev pub element : {F : Type 0} {p : ℕ} → Modular F p → Grammar F
+element {p = p} m = record { spells = λ d x. IsWhole (m.value x) d; fault = ElementFault p }
+
+-- a list of nodes, as the tree of its root
+abbrev pub constraint : {F : Type 0} {p : ℕ} → Modular F p → Grammar (Tree (BaseLeaf F))
+constraint m = record { spells = IsList (base_kind m); fault = HasFault (base_kind m) }
+
+abbrev pub cell : Grammar BoundaryPublic
+cell = by_form SpellsCell
+
+-- null is no cap
+abbrev pub SpellsCap : Data → Option ℕ → Type 0
+SpellsCap d None = d ≡ null
+SpellsCap d (Some n) = IsWhole n d
+
+abbrev pub cap : Grammar (Option ℕ)
+cap = by_form SpellsCap
+
+-- a width, and values for rows of it
+abbrev pub TableValues : Type 0 → Type 0
+TableValues F = ℕ × List F
+
+-- the width, the trace's values, the preprocessed table's width and values, the public values, the constraints, the
+-- periodic columns, the boundary cells, the cap, the weight of the transition selector
+abbrev pub MemberValues : Type 0 → Type 0
+MemberValues F = ℕ × (List F × (Option (TableValues F) × (List F × (List (Tree (BaseLeaf F)) × (List (List F) × (List BoundaryPublic × (Option ℕ × ℕ)))))))
+
+abbrev pub members : {F : Type 0} {p : ℕ} → Modular F p → Grammar (MemberValues F)
+members m =
+    both (needed (codes "main_width") whole_number)
+    (both (needed (codes "main") (list_of (element m)))
+    (both (both_or_none (codes "preprocessed_width") whole_number (codes "preprocessed") (list_of (element m)))
+    (both (needed (codes "public_values") (list_of (element m)))
+    (both (needed (codes "constraints") (list_of (constraint m)))
+    (both (optional (codes "periodic") [] (list_of (list_of (element m))))
+    (both (optional (codes "boundary") [] (list_of cell))
+    (both (optional (codes "cap") None cap)
+    (optional (codes "transition_weight") 0 whole_number))))))))

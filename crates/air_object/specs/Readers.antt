@@ -1,0 +1,116 @@
+-- How the members of the object are found.
+use Rattle.std.specs.Prelude.{ℕ, List, [], ◌∷◌, ◌++◌, ◌||◌, Option, Some, None, Result, Ok, option_map, codes, if◌then◌else◌, is_some, ok_or}
+use Rattle.serde_json.specs.Data.{Data, Items, no_items, item}
+use Rattle.serde_json.specs.Find.{get, as_array, as_null}
+use Rattle.air_field.specs.Modular.{Modular}
+use Rattle.air_symbolic.specs.Trees.{Tree}
+use Rattle.air_symbolic.specs.declared.leaves.base_leaf.BaseLeaf.{BaseLeaf}
+use Rattle.air_core.specs.declared.boundary.BoundaryPublic.{BoundaryPublic}
+use Rattle.air_wire.specs.BaseLeaves.{element_at, base_kind}
+use Rattle.air_wire.specs.Boundaries.{cell_of}
+use Rattle.air_wire.specs.Nodes.{root_of}
+use Rattle.air_wire.specs.Parts.{whole}
+use Rattle.air_wire.specs.Results.{◌>>=◌}
+use Rattle.air_wire.specs.declared.errors.FlatError.{FlatError}
+use Rattle.air_wire.specs.declared.errors.FlatError.TheVariants as faults
+use Rattle.air_object.specs.Members.{TableValues, MemberValues}
+
+abbrev pub Reader : Type 0 → Type 0
+Reader X = Data → Result X FlatError
+
+-- what is found, or the form is wrong
+abbrev pub formed : {X : Type 0} → Option X → Result X FlatError
+formed o = ok_or o (faults.Shape 0)
+
+-- ---- lists
+
+-- what is done and what the further items give, or the first fault
+unfoldable pub each_from : {X : Type 0} → Reader X → List X → Items → Result (List X) FlatError
+each_from read done no_items = Ok done
+each_from read done (item d ds) = read d >>= λ x. each_from read (done ++ x ∷ []) ds
+
+abbrev pub list_read : {X : Type 0} → Reader X → Reader (List X)
+list_read read d = formed (as_array d) >>= λ ds. each_from read [] ds
+
+unfoldable pub elements : {F : Type 0} {p : ℕ} → Modular F p → Reader (List F)
+elements m d = list_read (element_at m 0) d
+
+unfoldable pub columns : {F : Type 0} {p : ℕ} → Modular F p → Reader (List (List F))
+columns m d = list_read (elements m) d
+
+abbrev pub tree : {F : Type 0} {p : ℕ} → Modular F p → Reader (Tree (BaseLeaf F))
+tree m d = root_of (base_kind m) d
+
+unfoldable pub trees : {F : Type 0} {p : ℕ} → Modular F p → Reader (List (Tree (BaseLeaf F)))
+trees m d = list_read (tree m) d
+
+-- ---- boundary cells
+
+abbrev pub cell_read : Reader BoundaryPublic
+cell_read d = formed (cell_of d)
+
+unfoldable pub cells : Reader (List BoundaryPublic)
+cells d = list_read cell_read d
+
+-- ---- the cap
+
+unfoldable pub cap_of : Data → Option (Option ℕ)
+cap_of d = if is_some (as_null d) then Some None else option_map (λ n. Some n) (whole d)
+
+-- ---- members
+
+abbrev pub needed_read : {X : Type 0} → List ℕ → Reader X → Reader X
+needed_read name read d = formed (get name d) >>= read
+
+abbrev pub or_absent : {X : Type 0} → X → Reader X → Option Data → Result X FlatError
+or_absent absent read None = Ok absent
+or_absent absent read (Some d) = read d
+
+abbrev pub optional_read : {X : Type 0} → List ℕ → X → Reader X → Reader X
+optional_read name absent read d = or_absent absent read (get name d)
+
+-- one reader and then another
+abbrev pub both_read : {X Y : Type 0} → Reader X → Reader Y → Reader (X × Y)
+both_read read next d = read d >>= λ x. next d >>= λ y. Ok (x, y)
+
+abbrev pub if_either : {X : Type 0} → List ℕ → List ℕ → Reader X → Reader (Option X)
+if_either one other read d =
+    if is_some (get one d) || is_some (get other d) then (read d >>= λ x. Ok (Some x)) else Ok None
+
+unfoldable pub width_member : List ℕ → Reader ℕ
+width_member name d = needed_read name (λ c. formed (whole c)) d
+
+unfoldable pub elements_member : {F : Type 0} {p : ℕ} → Modular F p → List ℕ → Reader (List F)
+elements_member m name d = needed_read name (elements m) d
+
+unfoldable pub table_member : {F : Type 0} {p : ℕ} → Modular F p → Reader (Option (TableValues F))
+table_member m d =
+    if_either (codes "preprocessed_width") (codes "preprocessed") (both_read (width_member (codes "preprocessed_width")) (elements_member m (codes "preprocessed"))) d
+
+unfoldable pub constraints_member : {F : Type 0} {p : ℕ} → Modular F p → Reader (List (Tree (BaseLeaf F)))
+constraints_member m d = needed_read (codes "constraints") (trees m) d
+
+unfoldable pub periodic_member : {F : Type 0} {p : ℕ} → Modular F p → Reader (List (List F))
+periodic_member m d = optional_read (codes "periodic") [] (columns m) d
+
+unfoldable pub boundary_member : Reader (List BoundaryPublic)
+boundary_member d = optional_read (codes "boundary") [] cells d
+
+unfoldable pub cap_member : Reader (Option ℕ)
+cap_member d = optional_read (codes "cap") None (λ c. formed (cap_of c)) d
+
+unfoldable pub weight_member : Reader ℕ
+weight_member d = optional_read (codes "transition_weight") 0 (λ c. formed (whole c)) d
+
+unfoldable pub members_read : {F : Type 0} {p : ℕ} → Modular F p → Reader (MemberValues F)
+members_read m d = do
+  width ← width_member (codes "main_width") d
+  main ← elements_member m (codes "main") d
+  table ← table_member m d
+  public_values ← elements_member m (codes "public_values") d
+  constraints ← constraints_member m d
+  periodic ← periodic_member m d
+  boundary ← boundary_member d
+  cap ← cap_member d
+  weight ← weight_member d
+  Ok (width, (main, (table, (public_values, (constraints, (periodic, (boundary, (cap, weight))))))))

@@ -1,0 +1,189 @@
+-- The members are read as they are spelt.
+use Rattle.std.proofs.Common.{◌≡◌, ℕ, Bool, true, false, List, [], Option, Some, None, Result, Ok, Err, if◌then◌else◌, codes, refl, sym, ap, ◌∙◌, inl, inr}
+use Rattle.std.proofs.lemmas.Bool.{ltb-false, le-ltb}
+use Rattle.std.specs.Prelude.{nat_lt}
+use Rattle.serde_json.specs.Data.{Data, null, boolean, number, unsigned, negative, float, string, array, object}
+use Rattle.air_field.specs.Modular.{Modular}
+use Rattle.air_wire.specs.BaseLeaves.{element_or, element_at, base_kind}
+use Rattle.air_wire.specs.laws.BaseLeaves.{element_found, element_again, base_kind_laws}
+use Rattle.air_wire.specs.Boundaries.{SpellsCell, cell_of}
+use Rattle.air_wire.specs.laws.Boundaries.{cell_laws}
+use Rattle.air_wire.specs.laws.Lists.{root_found, root_again, root_fault, root_fault_read}
+use Rattle.air_wire.specs.Parts.{whole}
+use Rattle.air_wire.specs.Results.{◌>>=◌}
+use Rattle.air_wire.specs.laws.Readings.{named, number_found}
+use Rattle.air_wire.specs.Spelling.{IsWhole}
+use Rattle.air_wire.specs.declared.errors.FlatError.{FlatError}
+use Rattle.air_wire.specs.declared.errors.FlatError.TheVariants as faults
+use Rattle.air_object.specs.Objects.{list_of, needed, optional, both_or_none}
+use Rattle.air_object.specs.Members.{whole_number, ElementFault, element, constraint, cell, SpellsCap, cap, MemberValues, members}
+use Rattle.air_object.specs.Readers.{formed, tree, trees, elements, columns, cell_read, cells, cap_of, width_member, elements_member, table_member, constraints_member, periodic_member, boundary_member, cap_member, weight_member, members_read, Reader, both_read}
+use Rattle.air_object.specs.laws.Agreement.{Agrees, by_form_agrees, list_agrees, needed_agrees, optional_agrees, both_agree, both_or_none_agrees, agrees_as, failed, err_is}
+
+whole_again : (d : Data) (n : ℕ) → IsWhole n d → whole d ≡ Some n
+whole_again d n h = ap whole h
+
+whole_agrees : Agrees whole_number (λ d. formed (whole d))
+whole_agrees = by_form_agrees (λ d n. IsWhole n d) whole number_found whole_again
+
+cell_agrees : Agrees cell cell_read
+cell_agrees = by_form_agrees SpellsCell cell_of cell_laws.found cell_laws.again
+
+cells_agree : Agrees (list_of cell) cells
+unfolding cells
+cells_agree = list_agrees cell cell_read cell_agrees
+
+cap_found : (d : Data) (o : Option ℕ) → cap_of d ≡ Some o → SpellsCap d o
+unfolding cap_of
+cap_found null o e = named (SpellsCap null) None o refl e
+cap_found (boolean b) o e = absurd cc
+cap_found (number (unsigned n)) o e = named (SpellsCap (number (unsigned n))) (Some n) o refl e
+cap_found (number (negative z)) o e = absurd cc
+cap_found (number (float x)) o e = absurd cc
+cap_found (string s) o e = absurd cc
+cap_found (array ds) o e = absurd cc
+cap_found (object ms) o e = absurd cc
+
+cap_again : (d : Data) (o : Option ℕ) → SpellsCap d o → cap_of d ≡ Some o
+unfolding cap_of
+cap_again d None h = rw h refl
+cap_again d (Some n) h = rw h refl
+
+cap_agrees : Agrees cap (λ d. formed (cap_of d))
+cap_agrees = by_form_agrees SpellsCap cap_of cap_found cap_again
+
+width_agrees : (name : List ℕ) → Agrees (needed name whole_number) (width_member name)
+unfolding width_member
+width_agrees name = needed_agrees name whole_number (λ d. formed (whole d)) whole_agrees
+
+boundary_agrees : Agrees (optional (codes "boundary") [] (list_of cell)) boundary_member
+unfolding boundary_member
+boundary_agrees = optional_agrees (codes "boundary") (list_of cell) cells cells_agree []
+
+cap_member_agrees : Agrees (optional (codes "cap") None cap) cap_member
+unfolding cap_member
+cap_member_agrees = optional_agrees (codes "cap") cap (λ d. formed (cap_of d)) cap_agrees None
+
+weight_agrees : Agrees (optional (codes "transition_weight") 0 whole_number) weight_member
+unfolding weight_member
+weight_agrees = optional_agrees (codes "transition_weight") whole_number (λ d. formed (whole d)) whole_agrees 0
+
+module _ {O P Q R S T U V W : Type 0} where
+  abbrev in_a_row : Result O FlatError → Result P FlatError → Result Q FlatError → Result R FlatError → Result S FlatError → Result T FlatError → Result U FlatError → Result V FlatError → Result W FlatError → Result (O × (P × (Q × (R × (S × (T × (U × (V × W)))))))) FlatError
+  in_a_row o p q r s t u v w = do
+    h ← o
+    x ← p
+    y ← q
+    z ← r
+    a ← s
+    b ← t
+    c ← u
+    e ← v
+    g ← w
+    Ok (h, (x, (y, (z, (a, (b, (c, (e, g))))))))
+
+  same_row : (d : Data) (o : Result O FlatError) (p : Result P FlatError) (q : Result Q FlatError) (r : Result R FlatError) (s : Result S FlatError) (t : Result T FlatError) (u : Result U FlatError) (v : Result V FlatError) (w : Result W FlatError)
+      → in_a_row o p q r s t u v w ≡ both_read (λ _. o) (both_read (λ _. p) (both_read (λ _. q) (both_read (λ _. r) (both_read (λ _. s) (both_read (λ _. t) (both_read (λ _. u) (both_read (λ _. v) (λ _. w)))))))) d
+  same_row d (Err f) p q r s t u v w = refl
+  same_row d (Ok h) (Err f) q r s t u v w = refl
+  same_row d (Ok h) (Ok x) (Err f) r s t u v w = refl
+  same_row d (Ok h) (Ok x) (Ok y) (Err f) s t u v w = refl
+  same_row d (Ok h) (Ok x) (Ok y) (Ok z) (Err f) t u v w = refl
+  same_row d (Ok h) (Ok x) (Ok y) (Ok z) (Ok a) (Err f) u v w = refl
+  same_row d (Ok h) (Ok x) (Ok y) (Ok z) (Ok a) (Ok b) (Err f) v w = refl
+  same_row d (Ok h) (Ok x) (Ok y) (Ok z) (Ok a) (Ok b) (Ok c) (Err f) w = refl
+  same_row d (Ok h) (Ok x) (Ok y) (Ok z) (Ok a) (Ok b) (Ok c) (Ok e) (Err f) = refl
+  same_row d (Ok h) (Ok x) (Ok y) (Ok z) (Ok a) (Ok b) (Ok c) (Ok e) (Ok g) = refl
+
+module _ {F : Type 0} {order : ℕ} (modular : Modular F order) where
+  -- ---- elements
+
+  element_fault : (d : Data) (f : FlatError) (o : Option ℕ) → whole d ≡ o → element_or modular 0 o ≡ Err f → ElementFault order d f
+  element_fault d f None is e = inl ((λ n h. absurd (cc (sym is ∙ whole_again d n h))), sym (err_is (faults.Shape 0) f e))
+  element_fault d f (Some n) is e = by_size (nat_lt n order) refl e
+    where
+      by_size : (b : Bool) → nat_lt n order ≡ b → if b then Ok (modular.class n) else Err (faults.NotCanonical 0) ≡ Err f → ElementFault order d f
+      by_size true small e = absurd cc
+      by_size false big e = inr (n, number_found d n is, ltb-false n order big, sym (err_is (faults.NotCanonical 0) f e))
+
+  element_refused : (d : Data) (f : FlatError) → ElementFault order d f → element_at modular 0 d ≡ Err f
+  unfolding element_at
+  element_refused d f (inl h) = none (whole d) refl
+    where
+      none : (o : Option ℕ) → whole d ≡ o → element_or modular 0 o ≡ Err f
+      none None is = ap (λ g. failed g) (sym h.1)
+      none (Some n) is = absurd (h.0 n (number_found d n is))
+  element_refused d f (inr h) =
+      ap (λ e. element_or modular 0 (whole e)) h.1
+      ∙ ap (λ b. if b then Ok (modular.class h.0) else Err (faults.NotCanonical 0)) (le-ltb h.0 order h.2) ∙ ap (λ g. failed g) (sym h.3)
+
+  fault_of_element : (d : Data) (f : FlatError) → element_at modular 0 d ≡ Err f → ElementFault order d f
+  unfolding element_at
+  fault_of_element d f e = element_fault d f (whole d) refl e
+
+  element_agrees : Agrees (element modular) (element_at modular 0)
+  element_agrees = record { found = element_found modular 0; again = element_again modular 0; fault = fault_of_element; refused = element_refused }
+
+  elements_agree : Agrees (list_of (element modular)) (elements modular)
+  unfolding elements
+  elements_agree = list_agrees (element modular) (element_at modular 0) element_agrees
+
+  columns_agree : Agrees (list_of (list_of (element modular))) (columns modular)
+  unfolding columns
+  columns_agree = list_agrees (list_of (element modular)) (elements modular) elements_agree
+
+  -- ---- constraints
+
+  tree_agrees : Agrees (constraint modular) (tree modular)
+  tree_agrees = record {
+    found = root_found (base_kind modular) (base_kind_laws modular);
+    again = root_again (base_kind modular) (base_kind_laws modular);
+    fault = root_fault (base_kind modular) (base_kind_laws modular);
+    refused = root_fault_read (base_kind modular) (base_kind_laws modular);
+  }
+
+  trees_agree : Agrees (list_of (constraint modular)) (trees modular)
+  unfolding trees
+  trees_agree = list_agrees (constraint modular) (tree modular) tree_agrees
+
+  -- ---- members
+
+  numbers_agree : (name : List ℕ) → Agrees (needed name (list_of (element modular))) (elements_member modular name)
+  unfolding elements_member
+  numbers_agree name = needed_agrees name (list_of (element modular)) (elements modular) elements_agree
+
+  table_agrees : Agrees (both_or_none (codes "preprocessed_width") whole_number (codes "preprocessed") (list_of (element modular))) (table_member modular)
+  unfolding table_member
+  table_agrees =
+      both_or_none_agrees (codes "preprocessed_width") (codes "preprocessed") whole_number (list_of (element modular)) _
+      (both_agree _ (width_member (codes "preprocessed_width")) (width_agrees (codes "preprocessed_width")) _ (elements_member modular (codes "preprocessed")) (numbers_agree (codes "preprocessed")))
+
+  pub constraints_agree : Agrees (needed (codes "constraints") (list_of (constraint modular))) (constraints_member modular)
+  unfolding constraints_member
+  constraints_agree = needed_agrees (codes "constraints") (list_of (constraint modular)) (trees modular) trees_agree
+
+  periodic_agrees : Agrees (optional (codes "periodic") [] (list_of (list_of (element modular)))) (periodic_member modular)
+  unfolding periodic_member
+  periodic_agrees = optional_agrees (codes "periodic") (list_of (list_of (element modular))) (columns modular) columns_agree []
+
+  -- the readers in turn, each with all that follow it
+  abbrev in_turn : Reader (MemberValues F)
+  in_turn = both_read (width_member (codes "main_width")) (both_read (elements_member modular (codes "main")) (both_read (table_member modular) (both_read (elements_member modular (codes "public_values")) (both_read (constraints_member modular) (both_read (periodic_member modular) (both_read boundary_member (both_read cap_member weight_member)))))))
+
+  turns_agree : Agrees (members modular) in_turn
+  turns_agree =
+      both_agree _ (width_member (codes "main_width")) (width_agrees (codes "main_width")) _ _
+      (both_agree _ (elements_member modular (codes "main")) (numbers_agree (codes "main")) _ _
+      (both_agree _ (table_member modular) table_agrees _ _
+      (both_agree _ (elements_member modular (codes "public_values")) (numbers_agree (codes "public_values")) _ _
+      (both_agree _ (constraints_member modular) constraints_agree _ _
+      (both_agree _ (periodic_member modular) periodic_agrees _ _
+      (both_agree _ boundary_member boundary_agrees _ _
+      (both_agree _ cap_member cap_member_agrees _ weight_member weight_agrees)))))))
+
+  same_read : (d : Data) → members_read modular d ≡ in_turn d
+  unfolding members_read
+  same_read d = same_row d (width_member (codes "main_width") d) (elements_member modular (codes "main") d) (table_member modular d) (elements_member modular (codes "public_values") d) (constraints_member modular d) (periodic_member modular d) (boundary_member d) (cap_member d) (weight_member d)
+
+  pub members_agree : Agrees (members modular) (members_read modular)
+  members_agree = agrees_as (members modular) in_turn (members_read modular) same_read turns_agree

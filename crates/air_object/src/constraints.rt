@@ -1,0 +1,153 @@
+//! Constraints, each a list of base nodes, in one pool.
+ghost use Rattle.std.specs.Prelude.{◌<◌, [], length, map, All, Ok, Err};
+ghost use Rattle.serde_json.specs.View.{view, items_view};
+ghost use Rattle.air_symbolic.specs.BaseLeaves.{base_reads, base_grows};
+ghost use Rattle.air_symbolic.specs.Pools.{IsPool, tree_at};
+ghost use Rattle.air_wire.specs.Reads.{Reads, ReadsAll};
+ghost use Rattle.air_wire.specs.declared.errors.FlatError.TheVariants.{Shape};
+ghost use Rattle.air_object.specs.Parts.{Given, InPool, AreGiven, one_more};
+ghost use Rattle.air_object.specs.Readers.{each_from, tree, trees, constraints_member};
+
+use air_field::{Field, PrimeField64};
+use air_symbolic::{BaseLeaf, ExprId, ExprPool};
+use air_wire::{FlatError, from_flat_value};
+use serde_json::Value;
+use std::alloc::Global;
+
+/// The pool of the constraints, one of its expressions, and the roots of all.
+pub type BasePool<F> = ExprPool<BaseLeaf<F>>;
+
+pub type BaseId<F> = ExprId<BaseLeaf<F>>;
+
+pub type Roots<F> = Vec<BaseId<F>>;
+
+/// Constraints that are read before it is their turn: the pool of their lists, and their roots or the first fault.
+#[derive(Drop)]
+pub struct Constraints<F: Field> {
+    pub pool: BasePool<F>,
+    pub roots: Result<Roots<F>, FlatError>,
+}
+
+fn root_from<F: PrimeField64>(
+    alloc: Global,
+    pool: &mut BasePool<F>,
+    value: &Value,
+) -> Result<BaseId<F>, FlatError>
+    requires { IsPool base_reads pool.old }
+    ensures { Reads base_grows base_reads tree_at pool.old pool.new result
+        (tree F.residues (view value.now)) }
+{
+    from_flat_value(alloc, pool, value)
+}
+
+fn roots_of<F: PrimeField64>(
+    alloc: Global,
+    pool: &mut BasePool<F>,
+    items: &[Value],
+) -> Result<Roots<F>, FlatError>
+    requires { IsPool base_reads pool.old }
+    ensures { ReadsAll base_grows base_reads tree_at (λ v. v.items) pool.old pool.new result
+        (each_from (tree F.residues) [] (items_view items.now)) }
+{
+    let mut roots = Vec::new(alloc);
+    for item in items {
+        let root = root_from(alloc, pool, item)?;
+        roots.push(root)?;
+    }
+    Ok(roots)
+}
+
+/// The roots of the lists that the value lists.
+#[tactic(auto, unfolding(crate::specs::Readers::trees))]
+pub fn roots_from<F: PrimeField64>(
+    alloc: Global,
+    pool: &mut BasePool<F>,
+    value: &Value,
+) -> Result<Roots<F>, FlatError>
+    requires { IsPool base_reads pool.old }
+    ensures { ReadsAll base_grows base_reads tree_at (λ v. v.items) pool.old pool.new result
+        (trees F.residues (view value.now)) }
+{
+    let items = value.as_array().ok_or(FlatError::Shape { at: 0 })?;
+    roots_of(alloc, pool, items)
+}
+
+/// No list.
+pub fn no_constraints<F: PrimeField64>(alloc: Global) -> Constraints<F>
+    ensures { AreGiven (Ok []) result }
+{
+    Constraints {
+        pool: ExprPool::new(alloc),
+        roots: Ok(Vec::new(alloc)),
+    }
+}
+
+/// What an object without the member has.
+pub fn missing_constraints<F: PrimeField64>(alloc: Global) -> Constraints<F>
+    ensures { AreGiven (Err (Shape 0)) result }
+{
+    Constraints {
+        pool: ExprPool::new(alloc),
+        roots: Err(FlatError::Shape { at: 0 }),
+    }
+}
+
+// The roots, and that of the list, or the first fault.
+fn roots_with<F: PrimeField64>(
+    alloc: Global,
+    pool: &mut BasePool<F>,
+    mut roots: Roots<F>,
+    value: &Value,
+) -> Result<Roots<F>, FlatError>
+    requires pool { IsPool base_reads pool.old }
+    requires here { All (λ i. i < length pool.old.1) roots.items }
+    ensures { ReadsAll base_grows base_reads tree_at (λ v. v.items) pool.old pool.new result
+        (one_more F.residues (Ok (map (tree_at pool.old) roots.items)) (view value.now)) }
+{
+    let root = root_from(alloc, pool, value)?;
+    roots.push(root)?;
+    Ok(roots)
+}
+
+/// The constraints, and the list that the value is; behind a fault no further list is read.
+pub fn with_list<F: PrimeField64>(
+    alloc: Global,
+    constraints: Constraints<F>,
+    value: &Value,
+) -> Constraints<F>
+    requires { InPool constraints }
+    ensures { (given : Given F) → AreGiven given constraints
+        → AreGiven (one_more F.residues given (view value.now)) result }
+{
+    let Constraints { mut pool, roots } = constraints;
+    match roots {
+        Ok(roots) => {
+            let roots = roots_with(alloc, &mut pool, roots, value);
+            Constraints { pool, roots }
+        }
+        Err(fault) => Constraints {
+            pool,
+            roots: Err(fault),
+        },
+    }
+}
+
+/// The constraints of the lists that the value lists.
+pub fn constraints_listed<F: PrimeField64>(alloc: Global, value: &Value) -> Constraints<F>
+    ensures { AreGiven (trees F.residues (view value.now)) result }
+{
+    let mut pool = ExprPool::new(alloc);
+    let roots = roots_from(alloc, &mut pool, value);
+    Constraints { pool, roots }
+}
+
+/// The constraints of an object.
+#[tactic(auto, unfolding(crate::specs::Readers::constraints_member))]
+pub fn constraints_of<F: PrimeField64>(alloc: Global, value: &Value) -> Constraints<F>
+    ensures { AreGiven (constraints_member F.residues (view value.now)) result }
+{
+    match value.get("constraints") {
+        Some(lists) => constraints_listed(alloc, lists),
+        None => missing_constraints(alloc),
+    }
+}

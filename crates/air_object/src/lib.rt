@@ -1,0 +1,19 @@
+//! A JSON object that an AIR and its trace are read from: its members, its field, and the first fault of one that is none.
+#![tactic(auto)]
+
+mod cells;
+mod constraints;
+mod elements;
+mod field_name;
+mod input;
+pub mod laws;
+mod members;
+mod number;
+mod parts;
+mod text;
+
+pub use constraints::{BaseId, BasePool, Constraints, Roots};
+pub use field_name::{FieldName, field_of};
+pub use input::{FlatInput, flat_input_from, input_from};
+pub use parts::{Parts, parts_of};
+pub use text::TextFault;

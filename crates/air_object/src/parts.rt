@@ -1,0 +1,139 @@
+//! The JSON object as its text is read: the constraints list by list, so that no more than one is held as a value.
+ghost use Rattle.std.specs.Prelude.{◌≡◌, ◌≢◌, ◌<◌, [], length, Err, Some, None, IfOk, IfErr, OnOk};
+ghost use Rattle.json.specs.Json.{value, items, members};
+ghost use Rattle.serde_json.specs.Data.{Data, Items, Members, no_members};
+ghost use Rattle.serde_json.specs.Read.{of_json, of_items, of_members, converted, read};
+ghost use Rattle.serde_json.specs.View.{view, members_view};
+ghost use Rattle.air_object.specs.Parts.{AreGiven, AreMembersOf, ArePartsOf};
+ghost use Rattle.air_object.specs.Readers.{each_from, tree, trees};
+
+use crate::constraints::{
+    Constraints, constraints_listed, constraints_of, missing_constraints, no_constraints, with_list,
+};
+use crate::text::{TextFault, read, read_from};
+use air_field::{Field, PrimeField64};
+use json::{Reader, Scratch, Token};
+use serde_json::{Map, Value};
+use std::alloc::Global;
+
+const MAX_DEPTH: usize = 127;
+
+/// An object's constraints, and a value that has its other members.
+#[derive(Drop)]
+pub struct Parts<F: Field> {
+    pub rest: Value,
+    pub constraints: Constraints<F>,
+}
+
+// The lists of the array in which the reader stands.
+fn read_lists<F: PrimeField64>(
+    alloc: Global,
+    reader: &mut Reader<'_>,
+    depth: usize,
+) -> Result<Constraints<F>, TextFault>
+    ensures ok { IfOk result (λ c. (ds : Items)
+        × (converted of_items (items (value depth) (length reader.old) reader.old)
+        ≡ Some (ds, reader.new)) × AreGiven (each_from (tree F.residues) [] ds) c) }
+    ensures shorter { OnOk result (length reader.new < length reader.old) }
+    ensures err { result ≡ Err TextFault.Json
+        → converted of_items (items (value depth) (length reader.old) reader.old) ≡ None }
+{
+    let mut constraints = no_constraints(alloc);
+    'items: while !reader.take_end_array() {
+        let item = read(alloc, reader, depth)?;
+        constraints = with_list(alloc, constraints, &item);
+    }
+    Ok(constraints)
+}
+
+// The constraints of the value that begins where the reader stands.
+fn read_constraints<F: PrimeField64>(
+    alloc: Global,
+    reader: &mut Reader<'_>,
+    depth: usize,
+) -> Result<Constraints<F>, TextFault>
+    ensures ok { IfOk result (λ c. (d : Data)
+        × (converted of_json (value depth reader.old) ≡ Some (d, reader.new))
+        × AreGiven (trees F.residues d) c) }
+    ensures shorter { OnOk result (length reader.new < length reader.old) }
+    ensures err { result ≡ Err TextFault.Json → converted of_json (value depth reader.old) ≡ None }
+{
+    let token = reader.next().ok_or(TextFault::Json)?;
+    if let Token::BeginArray = token {
+        if depth == 0 {
+            return Err(TextFault::Json);
+        }
+        return read_lists(alloc, reader, depth - 1);
+    }
+    let other = read_from(alloc, token, reader, depth)?;
+    Ok(constraints_listed(alloc, &other))
+}
+
+// The members of the object in which the reader stands.
+fn read_apart<F: PrimeField64>(
+    alloc: Global,
+    reader: &mut Reader<'_>,
+    depth: usize,
+) -> Result<(Map<String, Value>, Constraints<F>), TextFault>
+    ensures ok { IfOk result (λ p. (ms : Members)
+        × (converted (λ xs. of_members xs no_members)
+        (members (value depth) (length reader.old) reader.old) ≡ Some (ms, reader.new))
+        × AreMembersOf F.residues ms (members_view p.0.entries) p.1) }
+    ensures err { result ≡ Err TextFault.Json → converted (λ xs. of_members xs no_members)
+        (members (value depth) (length reader.old) reader.old) ≡ None }
+{
+    let mut rest = Map::new(alloc);
+    let mut constraints = missing_constraints(alloc);
+    'members: while let Some(name) = reader.next_key()? {
+        if name == "constraints" {
+            constraints = read_constraints(alloc, reader, depth)?;
+        } else {
+            let key = String::from_str(alloc, name)?;
+            let member = read(alloc, reader, depth)?;
+            drop(rest.insert(key, member)?);
+        }
+    }
+    Ok((rest, constraints))
+}
+
+// The parts of the value that begins where the reader stands.
+fn read_parts<F: PrimeField64>(
+    alloc: Global,
+    reader: &mut Reader<'_>,
+    depth: usize,
+) -> Result<Parts<F>, TextFault>
+    ensures ok { IfOk result (λ p. (d : Data)
+        × (converted of_json (value depth reader.old) ≡ Some (d, reader.new))
+        × ArePartsOf F.residues d (view p.rest) p.constraints) }
+    ensures err { result ≡ Err TextFault.Json → converted of_json (value depth reader.old) ≡ None }
+{
+    let token = reader.next().ok_or(TextFault::Json)?;
+    if let Token::BeginObject = token {
+        if depth == 0 {
+            return Err(TextFault::Json);
+        }
+        let (rest, constraints) = read_apart(alloc, reader, depth - 1)?;
+        return Ok(Parts {
+            rest: Value::Object(rest),
+            constraints,
+        });
+    }
+    let rest = read_from(alloc, token, reader, depth)?;
+    let constraints = constraints_of(alloc, &rest);
+    Ok(Parts { rest, constraints })
+}
+
+/// The parts of the value that the text is.
+pub fn parts_of<F: PrimeField64>(alloc: Global, text: &str) -> Result<Parts<F>, TextFault>
+    ensures ok { IfOk result (λ p. (d : Data) × (read text.now ≡ Some d)
+        × ArePartsOf F.residues d (view p.rest) p.constraints) }
+    ensures err { result ≡ Err TextFault.Json → read text.now ≡ None }
+{
+    let mut scratch = Scratch::new(alloc);
+    let mut reader = Reader::new(text, &mut scratch)?;
+    let parts = read_parts(alloc, &mut reader, MAX_DEPTH)?;
+    if reader.next().is_some() {
+        return Err(TextFault::Json);
+    }
+    Ok(parts)
+}

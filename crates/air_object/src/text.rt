@@ -1,0 +1,141 @@
+//! The JSON values of a text, each read where a reader stands.
+ghost use Rattle.std.specs.Prelude.{◌≡◌, ◌<◌, ◌≤◌, ◌∷◌, length, Err, Some, None, IfOk, OnOk};
+ghost use Rattle.json.specs.Json.{value, items, members};
+ghost use Rattle.json.specs.Reads.{token_of};
+ghost use Rattle.serde_json.specs.Data.{no_members};
+ghost use Rattle.serde_json.specs.Read.{of_json, of_items, of_members, converted};
+ghost use Rattle.serde_json.specs.View.{view, items_view, members_view};
+
+use crate::number::number_of;
+use json::{Invalid, Reader, Token};
+use serde_json::{Map, Value};
+use std::alloc::{AllocError, AllocFailed, Global};
+
+/// Why a text isn't read.
+#[derive(Clone, Copy, Debug, PartialEq, Eq, Drop)]
+pub enum TextFault {
+    /// It is no JSON value.
+    Json,
+    Memory,
+}
+
+impl From<Invalid> for TextFault {
+    ghost use Rattle.air_object.specs.declared.text.TextFault.TheVariants.{Json};
+
+    ghost from_gives = { λ _ e. e ≡ Json };
+
+    fn from(_invalid: Invalid) -> TextFault {
+        TextFault::Json
+    }
+}
+
+impl From<AllocError> for TextFault {
+    ghost use Rattle.air_object.specs.declared.text.TextFault.TheVariants.{Memory};
+
+    ghost from_gives = { λ _ e. e ≡ Memory };
+
+    fn from(_refused: AllocError) -> TextFault {
+        TextFault::Memory
+    }
+}
+
+impl<T: Drop> From<AllocFailed<T>> for TextFault {
+    ghost use Rattle.air_object.specs.declared.text.TextFault.TheVariants.{Memory};
+
+    ghost from_gives = { λ _ e. e ≡ Memory };
+
+    fn from(_refused: AllocFailed<T>) -> TextFault {
+        TextFault::Memory
+    }
+}
+
+/// The value that begins where the reader stands.
+#[cycle(read)]
+pub fn read(alloc: Global, reader: &mut Reader<'_>, depth: usize) -> Result<Value, TextFault>
+    ensures ok { IfOk result
+        (λ v. converted of_json (value depth reader.old) ≡ Some (view v, reader.new)) }
+    ensures shorter { OnOk result (length reader.new < length reader.old) }
+    ensures err { result ≡ Err TextFault.Json → converted of_json (value depth reader.old) ≡ None }
+{
+    let token = reader.next().ok_or(TextFault::Json)?;
+    read_from(alloc, token, reader, depth)
+}
+
+/// The value that begins with the token, behind which the reader stands.
+#[cycle(read)]
+pub fn read_from(
+    alloc: Global,
+    token: Token<'_>,
+    reader: &mut Reader<'_>,
+    depth: usize,
+) -> Result<Value, TextFault>
+    ensures ok { IfOk result (λ v. converted of_json
+        (value depth (token_of token.entry ∷ reader.old)) ≡ Some (view v, reader.new)) }
+    ensures shorter { OnOk result (length reader.new ≤ length reader.old) }
+    ensures err { result ≡ Err TextFault.Json → converted of_json
+        (value depth (token_of token.entry ∷ reader.old)) ≡ None }
+{
+    match token {
+        Token::String(text) => Ok(Value::String(String::from_str(alloc, text)?)),
+        Token::Number(text) => match number_of(text) {
+            Some(number) => Ok(Value::Number(number)),
+            None => Err(TextFault::Json),
+        },
+        Token::Bool(b) => Ok(Value::Bool(b)),
+        Token::Null => Ok(Value::Null),
+        Token::EndObject | Token::EndArray | Token::Key(_) | Token::Bad => Err(TextFault::Json),
+        Token::BeginArray => {
+            if depth == 0 {
+                return Err(TextFault::Json);
+            }
+            Ok(Value::Array(read_items(alloc, reader, depth - 1)?))
+        }
+        Token::BeginObject => {
+            if depth == 0 {
+                return Err(TextFault::Json);
+            }
+            Ok(Value::Object(read_members(alloc, reader, depth - 1)?))
+        }
+    }
+}
+
+#[cycle(read)]
+fn read_items(alloc: Global, reader: &mut Reader<'_>, depth: usize) -> Result<Vec<Value>, TextFault>
+    ensures ok { IfOk result
+        (λ v. converted of_items (items (value depth) (length reader.old) reader.old)
+        ≡ Some (items_view v.items, reader.new)) }
+    ensures shorter { OnOk result (length reader.new < length reader.old) }
+    ensures err { result ≡ Err TextFault.Json
+        → converted of_items (items (value depth) (length reader.old) reader.old) ≡ None }
+{
+    let mut found = Vec::new(alloc);
+    'items: while !reader.take_end_array() {
+        let item = read(alloc, reader, depth)?;
+        found.push(item)?;
+    }
+    Ok(found)
+}
+
+#[cycle(read)]
+fn read_members(
+    alloc: Global,
+    reader: &mut Reader<'_>,
+    depth: usize,
+) -> Result<Map<String, Value>, TextFault>
+    ensures ok { IfOk result
+        (λ m. converted (λ ms. of_members ms no_members)
+        (members (value depth) (length reader.old) reader.old)
+        ≡ Some (members_view m.entries, reader.new)) }
+    ensures shorter { OnOk result (length reader.new < length reader.old) }
+    ensures err { result ≡ Err TextFault.Json
+        → converted (λ ms. of_members ms no_members)
+        (members (value depth) (length reader.old) reader.old) ≡ None }
+{
+    let mut found = Map::new(alloc);
+    'members: while let Some(name) = reader.next_key()? {
+        let key = String::from_str(alloc, name)?;
+        let member = read(alloc, reader, depth)?;
+        drop(found.insert(key, member)?);
+    }
+    Ok(found)
+}

@@ -1,9 +1,0 @@
-use Rattle.std.proofs.Common.{◌≡◌, [], drop}
-use Rattle.serde_json.specs.View.{items_view}
-use Rattle.air_wire.specs.BaseLeaves.{element_at}
-use Rattle.air_program.specs.Readers.{each_from}
-use Rattle.air_program.proofs.flat_input.elements.elements_of.Given as goal
-
--- what the elements so far and the items that are left give is what all items give
-abbrev pub invariant-loop-item : goal.invariant-loop-item
-invariant-loop-item g l = each_from (element_at g.F.PrimeField64.residues 0) l.elements.items (items_view (drop l.item-index l.items)) ≡ each_from (element_at g.F.PrimeField64.residues 0) [] (items_view l.items)

@@ -1,0 +1,87 @@
+//! Sources and sinks over std's readers and writers.
+
+ghost use Rattle.std.specs.Prelude.{◌≡◌, false};
+
+use crate::stream::{Sink, Source, StreamFault};
+use std::io::{ErrorKind, Read, Write};
+
+/// A reader as a source. A read that a signal interrupts is tried again.
+#[derive(Drop)]
+pub struct ReadSource<R> {
+    inner: R,
+    failed: bool,
+}
+
+impl<R: Read> ReadSource<R> {
+    /// A source that gives what the reader has left.
+    pub fn new(inner: R) -> ReadSource<R>
+        ensures remaining { ⟦<ReadSource<R> as Source>⟧.remaining result ≡ R.remaining inner }
+        ensures failed { ⟦<ReadSource<R> as Source>⟧.has_failed result ≡ false }
+    {
+        ReadSource {
+            inner,
+            failed: false,
+        }
+    }
+}
+
+impl<R: Read> Source for ReadSource<R> {
+    ghost remaining = { λ s. R.remaining s.inner };
+
+    ghost has_failed = { λ s. s.failed };
+
+    fn pull(&mut self, buf: &mut [u8]) -> Result<usize, StreamFault> {
+        for _ in 0..u64::MAX {
+            match self.inner.read(buf) {
+                Ok(count) => return Ok(count),
+                Err(e) if e.kind() == ErrorKind::Interrupted => {}
+                Err(_) => break,
+            }
+        }
+        self.failed = true;
+        Err(StreamFault)
+    }
+
+    fn failed(&self) -> bool {
+        self.failed
+    }
+}
+
+/// A writer as a sink, which takes a piece whole.
+#[derive(Drop)]
+pub struct WriteSink<W> {
+    inner: W,
+    failed: bool,
+}
+
+impl<W: Write> WriteSink<W> {
+    /// A sink that adds to what the writer holds.
+    pub fn new(inner: W) -> WriteSink<W>
+        ensures contents { ⟦<WriteSink<W> as Sink>⟧.contents result ≡ W.contents inner }
+        ensures failed { ⟦<WriteSink<W> as Sink>⟧.has_failed result ≡ false }
+    {
+        WriteSink {
+            inner,
+            failed: false,
+        }
+    }
+}
+
+impl<W: Write> Sink for WriteSink<W> {
+    ghost contents = { λ s. W.contents s.inner };
+
+    ghost has_failed = { λ s. s.failed };
+
+    fn push(&mut self, bytes: &[u8]) -> Result<usize, StreamFault> {
+        // What a buffering writer holds back is out only once it is flushed.
+        if self.inner.write_all(bytes).is_err() || self.inner.flush().is_err() {
+            self.failed = true;
+            return Err(StreamFault);
+        }
+        Ok(bytes.len())
+    }
+
+    fn failed(&self) -> bool {
+        self.failed
+    }
+}
