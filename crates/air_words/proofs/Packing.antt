@@ -1,16 +1,27 @@
 -- Packing, one term more.
 use Rattle.std.specs.Result.{IsErrAnd}
-use Rattle.std.proofs.Common.{◌≡◌, ℕ, zero, suc, ◌+◌, ◌-◌, ◌<◌, Result, Ok, Err, IfOk, IfErr, refl, ap, subst, arith}
+use Rattle.std.proofs.Common.{◌≡◌, ℕ, zero, suc, ◌+◌, ◌-◌, ◌<◌, [], Result, Ok, Err, IfOk, IfErr, refl, sym, ap, subst, arith}
 use Rattle.air_field.specs.Algebra.{MadeOfBoth, RefusedOfBoth}
 use Rattle.air_field.specs.Part.{whole, in_add_left, in_add_right}
-use Rattle.air_field.specs.Term.{Term}
+use Rattle.air_field.specs.Term.{Term, with_leaves}
 use Rattle.air_field.specs.declared.errors.RingError.{RingError}
 use Rattle.air_gadgets.specs.Packing.{packed_from}
 use Rattle.air_core.specs.declared.errors.AirError.{AirError}
 use Rattle.air_builder.specs.Builders.{MeansIn, BuilderView, RingLaws, BuilderLaws}
+use Rattle.air_builder.specs.laws.Filters.{means_kept}
 use Rattle.air_author.specs.Expressions.{Made, air_result}
 use Rattle.air_words.specs.BitTerms.{terms_from, twice_and_term}
 use Rattle.air_author.specs.laws.Making.{part_gives_up, operand_gives_up, second_gives_up, one_by_one, both_answered}
+
+module _ {S R E F : Type 0} {view : BuilderView S R E F} (ring : RingLaws view) (laws : BuilderLaws view) where
+  open view use {has, ring_of, stands, grew, missing, refuses}
+
+  -- what was made is in the lent ring after a further step too
+  pub stays_in_ring : (a b d : S) (q : R) (x y : E) (t u : Term F) → Made (MeansIn view) grew missing refuses a b (Ok x) t
+      → Made (MeansIn view) grew missing refuses b d (Ok y) u → q ≡ ring_of d → has q x
+  stays_in_ring a b d q x y t u h k p =
+      let later = means_kept ring laws b d x t (laws.by_growth b d [] k.keeps) h.made in
+      subst (λ s. has s x) (sym p) (ring.means_has (ring_of d) x (with_leaves (stands d) t) later)
 
 module _ {F : Type 0} (at : ℕ → Term F) where
   abbrev pub packed_at : ℕ → ℕ → Term F

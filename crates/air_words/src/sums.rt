@@ -2,7 +2,6 @@
 ghost use Rattle.std.specs.Prelude.{true, false, [], ◌∷◌};
 ghost use Rattle.air_field.specs.Algebra.{scaled_term};
 ghost use Rattle.air_field.specs.Ring.{image};
-ghost use Rattle.air_field.specs.Term.{sub_term};
 ghost use Rattle.air_builder.specs.Assertion.{Base};
 ghost use Rattle.air_gadgets.specs.Gadgets.{less_two_term, less_three_term, raised_term, carry_term, times_raised_term, whole_term, carried_terms, add2_terms, add3_terms};
 ghost use Rattle.air_author.specs.Constraints.{AssertedIn};
@@ -10,8 +9,8 @@ ghost use Rattle.air_author.specs.Expressions.{Lasts};
 ghost use Rattle.air_words.specs.WordTerms.{limbs, all_zero};
 
 use air_author::{
-    AirResult, Condition, Constraint, Expression, Number, Zero, make_difference, make_product,
-    make_sum,
+    AirResult, Condition, Constraint, Expression, Less, Number, Zero, make_difference,
+    make_product, make_sum,
 };
 use air_builder::{AirBuilder, Seen};
 
@@ -21,20 +20,6 @@ use air_builder::{AirBuilder, Seen};
 /// The lower and the upper 16 bits of a word.
 #[derive(Clone, Copy, Drop)]
 pub struct Word<X>(pub X, pub X);
-
-/// x - y
-#[derive(Drop)]
-struct Less<'a, X, Y>(&'a X, &'a Y);
-
-impl<'a, AB: AirBuilder, X: Expression<AB>, Y: Expression<AB>> Expression<AB> for Less<'a, X, Y> {
-    ghost term = { λ s. sub_term (X.term s.0.now) (Y.term s.1.now) };
-
-    ghost holds = { λ s b. X.holds s.0.now b × Y.holds s.1.now b };
-
-    fn make(&self, builder: &mut AB) -> AirResult<AB::Expr> {
-        make_difference(builder, self.0, self.1)
-    }
-}
 
 /// x - y - z
 #[derive(Drop)]

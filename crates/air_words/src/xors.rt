@@ -1,10 +1,5 @@
 //! The xor of a word with a rotated one.
-ghost use Rattle.std.specs.Prelude.{◌+◌, ◌^◌, ◌<◌, ◌≤◌, [], ◌∷◌};
-ghost use Rattle.air_field.specs.Term.{sub_term};
-ghost use Rattle.air_builder.specs.Assertion.{Base};
-ghost use Rattle.air_author.specs.Constraints.{AssertedIn};
-ghost use Rattle.air_author.specs.Expressions.{Lasts};
-ghost use Rattle.air_words.specs.XorTerms.{xor_half};
+ghost use Rattle.std.specs.Prelude.{◌+◌, ◌^◌, ◌<◌, ◌≤◌};
 
 use crate::bits::{Bits, Columns};
 use crate::packed::{Packed, Series};
@@ -12,7 +7,7 @@ use crate::sums::Word;
 use air_author::{
     AirResult, Condition, Constraint, Current, Difference, Double, Equal, Expression, Product, Sum,
 };
-use air_builder::{AirBuilder, Seen};
+use air_builder::AirBuilder;
 
 /// The word b and the word c rotated to the left, whose bits are 32 columns each, from these on.
 #[derive(Clone, Copy, Drop)]
@@ -52,23 +47,6 @@ impl<AB: AirBuilder> Series<AB> for XorHalf {
     }
 }
 
-/// Asserts that it is these bits, packed.
-fn assert_half<AB: AirBuilder, X: Expression<AB>, K: Condition<AB>>(
-    builder: &mut AB,
-    condition: &K,
-    x: &X,
-    half: XorHalf,
-) -> AirResult
-    requires ready { AB.ready builder.old }
-    requires held { Lasts AB.kept (λ b. X.holds x.now b × K.where_holds condition.now b)
-        builder.old }
-    ensures { AssertedIn ⟦<AB as Seen>⟧.view builder.old builder.new result
-        (Base (K.under condition.now (sub_term (X.term x.now) (xor_half AB.F.ring half.words.b
-        half.words.c half.words.shift half.from))) ∷ []) }
-{
-    Equal(x, Packed(half)).assert_under(builder, condition)
-}
-
 /// The columns of c are zero or one, and the word is the xor, where the columns of b are known to be zero or one.
 #[derive(Clone, Copy, Drop)]
 pub struct Xor32Shift<X>(pub Word<X>, pub Rotated);
@@ -88,10 +66,8 @@ impl<AB: AirBuilder, X: Expression<AB>> Constraint<AB> for Xor32Shift<X> {
             first: words.c,
             count: 32,
         });
-        let low = XorHalf { words, from: 0 };
-        let high = XorHalf { words, from: 16 };
-        bits.assert_under(builder, condition)?;
-        assert_half(builder, condition, &self.0.0, low)?;
-        assert_half(builder, condition, &self.0.1, high)
+        let low = Packed(XorHalf { words, from: 0 });
+        let high = Packed(XorHalf { words, from: 16 });
+        (bits, Equal(&self.0.0, low), Equal(&self.0.1, high)).assert_under(builder, condition)
     }
 }

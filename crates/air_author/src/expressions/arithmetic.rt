@@ -103,6 +103,22 @@ impl<AB: AirBuilder, X: Expression<AB>, Y: Expression<AB>> Expression<AB> for Di
     }
 }
 
+/// x - y, of expressions that stand elsewhere: of references as expressions of their own, as in `Difference<&X, &Y>`,
+/// each costs seconds of proof wherever it stands.
+#[derive(Drop)]
+pub struct Less<'a, X, Y>(pub &'a X, pub &'a Y);
+
+impl<'a, AB: AirBuilder, X: Expression<AB>, Y: Expression<AB>> Expression<AB> for Less<'a, X, Y> {
+    ghost term = { λ s. sub_term (X.term s.0.now) (Y.term s.1.now) };
+
+    ghost holds = { λ s b. X.holds s.0.now b × Y.holds s.1.now b };
+
+    #[inline(always)]
+    fn make(&self, builder: &mut AB) -> AirResult<AB::Expr> {
+        make_difference(builder, self.0, self.1)
+    }
+}
+
 /// x y
 #[derive(Clone, Copy, Drop)]
 pub struct Product<X, Y>(pub X, pub Y);

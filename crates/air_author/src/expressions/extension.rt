@@ -5,7 +5,7 @@ ghost use Rattle.air_author.specs.Expressions.{Lasts, MadeIn, MadeBothIn, power_
 
 use crate::AirResult;
 use crate::expressions::arithmetic::{
-    BoolCheck, Difference, Double, Negative, Product, Square, Sum,
+    BoolCheck, Difference, Double, Less, Negative, Product, Square, Sum,
 };
 use crate::expressions::constants::One;
 use crate::expressions::power::{Power, multiplied};
@@ -85,6 +85,19 @@ impl<AB: ExtensionBuilder, X: ExtExpression<AB>, Y: ExtExpression<AB>> ExtExpres
     }
 }
 
+impl<'a, AB: ExtensionBuilder, X: ExtExpression<AB>, Y: ExtExpression<AB>> ExtExpression<AB>
+    for Less<'a, X, Y> {
+    ghost ext_term = { λ s. sub_term (X.ext_term s.0.now) (Y.ext_term s.1.now) };
+
+    ghost ext_holds = { λ s b. X.ext_holds s.0.now b × Y.ext_holds s.1.now b };
+
+    #[inline(always)]
+    fn make_ext(&self, builder: &mut AB) -> AirResult<AB::ExprEF> {
+        let (x, y) = make_both_ext(builder, self.0, self.1)?;
+        answered(builder.ext_ring().sub(x, y))
+    }
+}
+
 impl<AB: ExtensionBuilder, X: ExtExpression<AB>, Y: ExtExpression<AB>> ExtExpression<AB>
     for Difference<X, Y> {
     ghost ext_term = { λ s. sub_term (X.ext_term s.0) (Y.ext_term s.1) };
@@ -93,8 +106,7 @@ impl<AB: ExtensionBuilder, X: ExtExpression<AB>, Y: ExtExpression<AB>> ExtExpres
 
     #[inline(always)]
     fn make_ext(&self, builder: &mut AB) -> AirResult<AB::ExprEF> {
-        let (x, y) = make_both_ext(builder, &self.0, &self.1)?;
-        answered(builder.ext_ring().sub(x, y))
+        Less(&self.0, &self.1).make_ext(builder)
     }
 }
 
