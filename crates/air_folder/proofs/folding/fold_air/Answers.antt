@@ -1,5 +1,6 @@
-use Rattle.std.proofs.Common.{◌≡◌, inr, subst, sym}
+use Rattle.std.proofs.Common.{◌≡◌, inl, inr, subst, sym}
 use Rattle.std.specs.Prelude.{Result, Ok, Err, IfErr, IsErrAnd}
+use Rattle.std.proofs.lemmas.Result.{err_from_is_err_and}
 use Rattle.air_symbolic.specs.BaseLeaves.{base_reads}
 use Rattle.air_symbolic.specs.ExtLeaves.{ext_reads}
 use Rattle.air_recording.specs.Folds.{ArePlacesOf}
@@ -40,3 +41,68 @@ pub returns-in_err-eval-clause-refused : goal.returns-in_err-eval-clause-refused
 returns-in_err-eval-clause-refused g c =
     handed_on c.from_residual-in_err-eval.result _ (FoldingRefuses g.F.Field.ring g.EF.ExtensionField.over c.args.layout (g.A.BaseAir.declaration c.args.air.now) (folder_row c.args.folder.now))
     c.from_residual-in_err-eval.ensures.1 (inr (c.in_ok-builder.ensures.answers, c.in_err-eval.ensures.refused))
+
+pub returns-in_err-builder-clause-folded : goal.returns-in_err-builder-clause-folded
+returns-in_err-builder-clause-folded g c =
+    let p = err_from_is_err_and c.from_residual.result c.from_residual.ensures.1 in
+    rw p.1 tt
+
+pub returns-in_err-builder-clause-accumulator : goal.returns-in_err-builder-clause-accumulator
+returns-in_err-builder-clause-accumulator g c =
+    let p = err_from_is_err_and c.from_residual.result c.from_residual.ensures.1 in
+    rw p.1 tt
+
+pub returns-in_err-builder-clause-layout : goal.returns-in_err-builder-clause-layout
+returns-in_err-builder-clause-layout g c =
+    let p = err_from_is_err_and c.from_residual.result c.from_residual.ensures.1 in
+    rw p.1 tt
+
+pub returns-in_err-builder-clause-there : goal.returns-in_err-builder-clause-there
+returns-in_err-builder-clause-there g c =
+    let p = err_from_is_err_and c.from_residual.result c.from_residual.ensures.1 in
+    rw p.1 tt
+
+pub returns-in_err-places-clause-folded : goal.returns-in_err-places-clause-folded
+returns-in_err-places-clause-folded g c =
+    let p = err_from_is_err_and c.from_residual-in_err-places.result c.from_residual-in_err-places.ensures.1 in
+    rw p.1 tt
+
+pub returns-in_err-places-clause-accumulator : goal.returns-in_err-places-clause-accumulator
+returns-in_err-places-clause-accumulator g c =
+    let p = err_from_is_err_and c.from_residual-in_err-places.result c.from_residual-in_err-places.ensures.1 in
+    rw p.1 tt
+
+pub returns-in_err-places-clause-layout : goal.returns-in_err-places-clause-layout
+returns-in_err-places-clause-layout g c =
+    let p = err_from_is_err_and c.from_residual-in_err-places.result c.from_residual-in_err-places.ensures.1 in
+    rw p.1 tt
+
+pub returns-in_err-places-clause-there : goal.returns-in_err-places-clause-there
+returns-in_err-places-clause-there g c =
+    let p = err_from_is_err_and c.from_residual-in_err-places.result c.from_residual-in_err-places.ensures.1 in
+    rw p.1 tt
+
+pub returns-in_err-eval-clause-folded : goal.returns-in_err-eval-clause-folded
+returns-in_err-eval-clause-folded g c =
+    let p = err_from_is_err_and c.from_residual-in_err-eval.result c.from_residual-in_err-eval.ensures.1 in
+    rw p.1 tt
+
+pub returns-in_err-eval-clause-accumulator : goal.returns-in_err-eval-clause-accumulator
+returns-in_err-eval-clause-accumulator g c =
+    let p = err_from_is_err_and c.from_residual-in_err-eval.result c.from_residual-in_err-eval.ensures.1 in
+    rw p.1 tt
+
+pub returns-in_err-eval-clause-layout : goal.returns-in_err-eval-clause-layout
+returns-in_err-eval-clause-layout g c =
+    let p = err_from_is_err_and c.from_residual-in_err-eval.result c.from_residual-in_err-eval.ensures.1 in
+    rw p.1 tt
+
+pub returns-in_err-eval-clause-there : goal.returns-in_err-eval-clause-there
+returns-in_err-eval-clause-there g c =
+    let p = err_from_is_err_and c.from_residual-in_err-eval.result c.from_residual-in_err-eval.ensures.1 in
+    rw p.1 tt
+
+pub returns-in_err-builder-clause-refused : goal.returns-in_err-builder-clause-refused
+returns-in_err-builder-clause-refused g c =
+    let p = err_from_is_err_and c.from_residual.result c.from_residual.ensures.1 in
+    rw (p.1, p.2) (inl c.in_err-builder.ensures.refused)

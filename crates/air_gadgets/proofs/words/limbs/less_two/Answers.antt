@@ -31,3 +31,40 @@ returns-clause-makes g c =
     (λ M h t u v m n k. h (sub_term t u) v
     (one_by_one laws c.from_var-2.ensures.extended c.in_ok-minuend.ensures.made.1 c.in_ok-subtrahend.ensures.made.1 (g.R.Algebra.means c.sub.new.self c.in_ok-difference.difference) c.in_ok-difference.ensures.made.1 t u m n)
     (laws.means_stays c.args.ring.now c.sub.new.self c.args.z v later k))
+
+pub from_var-requires : goal.from_var-requires
+from_var-requires g c = c.requires.valid
+
+pub returns-in_err-minuend-clause-extended : goal.returns-in_err-minuend-clause-extended
+returns-in_err-minuend-clause-extended g c = c.from_var.ensures.extended
+
+pub from_var-requires-2 : goal.from_var-requires-2
+from_var-requires-2 g c = g.met.R.Algebra.laws.valid_stays c.args.ring.now c.from_var.new.self c.from_var.ensures.extended c.requires.valid
+
+pub returns-in_err-subtrahend-clause-extended : goal.returns-in_err-subtrahend-clause-extended
+returns-in_err-subtrahend-clause-extended g c = g.met.R.Algebra.laws.joined c.args.ring.now c.from_var.new.self c.from_var-2.new.self c.from_var.ensures.extended c.from_var-2.ensures.extended
+
+pub sub-requires : goal.sub-requires
+sub-requires g c = record {
+  x_in = g.met.R.Algebra.laws.has_stays c.from_var.new.self c.from_var-2.new.self c.in_ok-minuend.minuend c.from_var-2.ensures.extended c.in_ok-minuend.ensures.made.0;
+  y_in = c.in_ok-subtrahend.ensures.made.0;
+}
+
+pub returns-in_err-difference-clause-extended : goal.returns-in_err-difference-clause-extended
+returns-in_err-difference-clause-extended g c =
+    let laws = g.met.R.Algebra.laws in
+    laws.joined c.args.ring.now c.from_var.new.self c.sub.new.self c.from_var.ensures.extended (laws.joined c.from_var.new.self c.from_var-2.new.self c.sub.new.self c.from_var-2.ensures.extended c.sub.ensures.extended)
+
+pub sub-requires-2 : goal.sub-requires-2
+sub-requires-2 g c =
+    let laws = g.met.R.Algebra.laws in
+    let read = laws.joined c.args.ring.now c.from_var.new.self c.from_var-2.new.self c.from_var.ensures.extended c.from_var-2.ensures.extended in record {
+      x_in = c.in_ok-difference.ensures.made.0;
+      y_in = laws.has_stays c.args.ring.now c.sub.new.self c.args.z (laws.joined c.args.ring.now c.from_var-2.new.self c.sub.new.self read c.sub.ensures.extended) c.requires.z_in;
+    }
+
+pub returns-clause-extended : goal.returns-clause-extended
+returns-clause-extended g c =
+    let laws = g.met.R.Algebra.laws in
+    laws.joined c.args.ring.now c.from_var.new.self c.sub-2.new.self c.from_var.ensures.extended
+    (laws.joined c.from_var.new.self c.from_var-2.new.self c.sub-2.new.self c.from_var-2.ensures.extended (laws.joined c.from_var-2.new.self c.sub.new.self c.sub-2.new.self c.sub.ensures.extended c.sub-2.ensures.extended))

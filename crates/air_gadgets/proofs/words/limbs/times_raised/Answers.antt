@@ -33,3 +33,29 @@ returns-clause-makes g c =
     (λ M h t u m k. h u (raised_term g.F.Field.ring c.args.n t)
     (laws.means_stays c.args.ring.now c.add.new.self c.args.y u stays k)
     (c.in_ok-raised.ensures.made.1 t n (laws.means_stays c.args.ring.now c.constant.new.self c.args.x t c.constant.ensures.extended m) is))
+
+pub constant-requires : goal.constant-requires
+constant-requires g c = g.met.R.Algebra.laws.has_valid c.args.ring.now c.args.x c.requires.x_in
+
+pub returns-in_err-constant-clause-extended : goal.returns-in_err-constant-clause-extended
+returns-in_err-constant-clause-extended g c = c.constant.ensures.extended
+
+pub add-requires : goal.add-requires
+add-requires g c = record {
+  x_in = g.met.R.Algebra.laws.has_stays c.args.ring.now c.constant.new.self c.args.x c.constant.ensures.extended c.requires.x_in;
+  y_in = c.in_ok-constant.ensures.made.0;
+}
+
+pub returns-in_err-raised-clause-extended : goal.returns-in_err-raised-clause-extended
+returns-in_err-raised-clause-extended g c = g.met.R.Algebra.laws.joined c.args.ring.now c.constant.new.self c.add.new.self c.constant.ensures.extended c.add.ensures.extended
+
+pub mul-requires : goal.mul-requires
+mul-requires g c = record {
+  x_in = g.met.R.Algebra.laws.has_stays c.args.ring.now c.add.new.self c.args.y (g.met.R.Algebra.laws.joined c.args.ring.now c.constant.new.self c.add.new.self c.constant.ensures.extended c.add.ensures.extended) c.requires.y_in;
+  y_in = c.in_ok-raised.ensures.made.0;
+}
+
+pub returns-clause-extended : goal.returns-clause-extended
+returns-clause-extended g c =
+    let laws = g.met.R.Algebra.laws in
+    laws.joined c.args.ring.now c.constant.new.self c.mul.new.self c.constant.ensures.extended (laws.joined c.constant.new.self c.add.new.self c.mul.new.self c.add.ensures.extended c.mul.ensures.extended)

@@ -32,3 +32,29 @@ returns-clause-makes g c =
     (λ M h t u m n. h t (mul_term u q)
     (laws.means_stays c.args.ring.now c.mul.new.self c.args.low t stays m)
     (c.in_ok-raised.ensures.made.1 u q (laws.means_stays c.args.ring.now c.constant.new.self c.args.high u c.constant.ensures.extended n) is))
+
+pub constant-requires : goal.constant-requires
+constant-requires g c = g.met.R.Algebra.laws.has_valid c.args.ring.now c.args.low c.requires.low_in
+
+pub returns-in_err-scale-clause-extended : goal.returns-in_err-scale-clause-extended
+returns-in_err-scale-clause-extended g c = c.constant.ensures.extended
+
+pub mul-requires : goal.mul-requires
+mul-requires g c = record {
+  x_in = g.met.R.Algebra.laws.has_stays c.args.ring.now c.constant.new.self c.args.high c.constant.ensures.extended c.requires.high_in;
+  y_in = c.in_ok-scale.ensures.made.0;
+}
+
+pub returns-in_err-raised-clause-extended : goal.returns-in_err-raised-clause-extended
+returns-in_err-raised-clause-extended g c = g.met.R.Algebra.laws.joined c.args.ring.now c.constant.new.self c.mul.new.self c.constant.ensures.extended c.mul.ensures.extended
+
+pub add-requires : goal.add-requires
+add-requires g c = record {
+  x_in = g.met.R.Algebra.laws.has_stays c.args.ring.now c.mul.new.self c.args.low (g.met.R.Algebra.laws.joined c.args.ring.now c.constant.new.self c.mul.new.self c.constant.ensures.extended c.mul.ensures.extended) c.requires.low_in;
+  y_in = c.in_ok-raised.ensures.made.0;
+}
+
+pub returns-clause-extended : goal.returns-clause-extended
+returns-clause-extended g c =
+    let laws = g.met.R.Algebra.laws in
+    laws.joined c.args.ring.now c.constant.new.self c.add.new.self c.constant.ensures.extended (laws.joined c.constant.new.self c.mul.new.self c.add.new.self c.mul.ensures.extended c.add.ensures.extended)
