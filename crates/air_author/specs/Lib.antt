@@ -8,3 +8,4 @@ pub mod Kinds
 pub mod BitTerms
 pub mod WordTerms
 pub mod XorTerms
+pub mod Moved
