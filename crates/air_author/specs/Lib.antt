@@ -5,4 +5,5 @@ pub mod Expressions
 pub mod Constraints
 pub mod Handing
 pub mod Kinds
+pub mod Moved
 pub mod laws

@@ -25,6 +25,7 @@
 pub mod conditions;
 pub mod constraints;
 pub mod expressions;
+pub mod moved;
 pub mod operators;
 pub mod plain;
 
@@ -52,6 +53,7 @@ pub use expressions::permutation::{
 pub use expressions::power::Power;
 pub use expressions::selectors::{FirstRow, LastRow, Transition};
 pub use expressions::{Expression, ExtExpression, answered};
+pub use moved::{MovableConstraints, Moved};
 pub use operators::E;
 pub use operators::leaves::{
     challenge, constant, current, ext_constant, next, number, periodic, permutation_current,

@@ -4,11 +4,11 @@ pub use air_author::{
     All, Already, BoolCheck, Boolean, Challenge, Claim, Condition, Constant, Constraint, Current,
     Difference, Double, E, Each, Equal, Everywhere, Expression, ExtBoolean, ExtClaim, ExtConstant,
     ExtEqual, ExtExpression, ExtIsOne, ExtNamed, ExtZero, Family, FirstRow, IsOne, Label, LastRow,
-    Lifted, Named, Negative, Next, Number, One, Periodic, PermutationCurrent, PermutationNext,
-    PermutationValue, Plain, PlainAir, PlainConstraints, Power, PreprocessedCurrent,
-    PreprocessedNext, Product, Public, Square, Sum, Transition, When, Zero, assert_all,
-    assert_these, challenge, constant, current, ext_constant, next, number, periodic,
-    permutation_current, permutation_next, permutation_value, preprocessed_current,
+    Lifted, MovableConstraints, Moved, Named, Negative, Next, Number, One, Periodic,
+    PermutationCurrent, PermutationNext, PermutationValue, Plain, PlainAir, PlainConstraints,
+    Power, PreprocessedCurrent, PreprocessedNext, Product, Public, Square, Sum, Transition, When,
+    Zero, assert_all, assert_these, challenge, constant, current, ext_constant, next, number,
+    periodic, permutation_current, permutation_next, permutation_value, preprocessed_current,
     preprocessed_next, public,
 };
 pub use air_words::{
