@@ -1,6 +1,4 @@
--- Lemmas on making and asserting.
-mod Making
-mod Asserting
+-- Lemmas on lifts, names and powers.
+mod Lifting
 mod Naming
 mod Powers
-mod Packing

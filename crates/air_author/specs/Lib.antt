@@ -5,6 +5,5 @@ pub mod Expressions
 pub mod Constraints
 pub mod Handing
 pub mod Kinds
-pub mod BitTerms
-pub mod WordTerms
-pub mod XorTerms
+pub mod Moved
+pub mod laws

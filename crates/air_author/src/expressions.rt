@@ -72,7 +72,7 @@ impl<'a, AB: ExtensionBuilder, X: ExtExpression<AB>> ExtExpression<AB> for &'a X
 
 /// What a ring answered, as its builder answers it.
 #[inline(always)]
-pub(crate) fn answered<E: Copy>(answer: Result<E, RingError>) -> AirResult<E>
+pub fn answered<E: Copy>(answer: Result<E, RingError>) -> AirResult<E>
     ensures { result ≡ air_result answer }
 {
     match answer {

@@ -14,7 +14,7 @@
 //! multiplies first. Over the extension, `ExtZero`, `ExtEqual`, `ExtIsOne` and `ExtBoolean` take the same expressions,
 //! of `permutation_current(i)`, `challenge(i)` and so on, and of base leaves.
 //!
-//! Bits, words and their sums are in [`words`]. An AIR with nothing beside its trace is a [`PlainAir`]. What a filter
+//! Bits, words and their sums are in air_words. An AIR with nothing beside its trace is a [`PlainAir`]. What a filter
 //! or a gadget was handed stands among values as `Already(x, value)`, with the value that it was made of.
 //!
 //! An entry that the builder hasn't is refused by its name, and an entry of the permutation trace with `NoPermutation`
@@ -25,9 +25,9 @@
 pub mod conditions;
 pub mod constraints;
 pub mod expressions;
+pub mod moved;
 pub mod operators;
 pub mod plain;
-pub mod words;
 
 use air_builder::AirError;
 pub use conditions::{Condition, Everywhere};
@@ -38,7 +38,10 @@ pub use constraints::named::{Label, Named};
 pub use constraints::when::When;
 pub use constraints::{Constraint, assert_all, assert_these};
 pub use expressions::already::Already;
-pub use expressions::arithmetic::{BoolCheck, Difference, Double, Negative, Product, Square, Sum};
+pub use expressions::arithmetic::{
+    BoolCheck, Difference, Double, Less, Negative, Product, Square, Sum, make_difference,
+    make_product, make_sum,
+};
 pub use expressions::columns::{
     Current, Next, Periodic, PreprocessedCurrent, PreprocessedNext, Public,
 };
@@ -49,18 +52,14 @@ pub use expressions::permutation::{
 };
 pub use expressions::power::Power;
 pub use expressions::selectors::{FirstRow, LastRow, Transition};
-pub use expressions::{Expression, ExtExpression};
+pub use expressions::{Expression, ExtExpression, answered};
+pub use moved::{MovableConstraints, Moved};
 pub use operators::E;
 pub use operators::leaves::{
     challenge, constant, current, ext_constant, next, number, periodic, permutation_current,
     permutation_next, permutation_value, preprocessed_current, preprocessed_next, public,
 };
 pub use plain::{Plain, PlainAir, PlainConstraints};
-pub use words::bits::{Bits, Columns, HasBits, PackedBits};
-pub use words::packed::{Packed, Series};
-pub use words::sums::{Add2, Add3, Word};
-pub use words::word_of_bits::WordOfBits;
-pub use words::xors::{Rotated, Xor32Shift};
 
 /// What making an expression or asserting constraints answers.
 pub type AirResult<T = ()> = Result<T, AirError>;

@@ -8,10 +8,11 @@ ghost use Rattle.air_blake3.specs.Row.{constant_limbs, limbs_are};
 ghost use Rattle.air_blake3.specs.Words.{bits_at, column, limbs_at, packed_limbs, under};
 
 use air_author::{
-    Add2, Add3, AirResult, Bits, Columns, Condition, Constraint, Current, Difference, Double,
-    Equal, Expression, Family, Number, Packed, Product, Series, Sum, Word,
+    AirResult, Condition, Constraint, Current, Difference, Double, Equal, Expression, Family,
+    Number, Product, Sum,
 };
 use air_builder::AirBuilder;
+use air_words::{Add2, Add3, Bits, Columns, Packed, Series, Word};
 
 /// Sixteen of the columns of a word of bits: those of its lower limb, or of its upper one.
 #[derive(Clone, Copy, Drop)]
@@ -41,7 +42,7 @@ pub(crate) struct AreBits(pub(crate) u32);
 impl<AB: AirBuilder> Constraint<AB> for AreBits {
     ghost asserts = { λ s f _. under f (test_asserts AB.F.ring (bits_at s.0)) };
 
-    #[tactic(auto, unfolding(crate::specs::Words::bits_at, air_author::specs::BitTerms::bits_asserts))]
+    #[tactic(auto, unfolding(crate::specs::Words::bits_at, air_words::specs::BitTerms::bits_asserts))]
     fn assert_under<K: Condition<AB>>(&self, builder: &mut AB, condition: &K) -> AirResult {
         let columns = Columns {
             first: self.0 as usize,

@@ -1,5 +1,5 @@
 -- The parts of an object, as they are read, beside the object.
-use Rattle.std.proofs.Common.{◌≡◌, ◌≢◌, ℕ, ◌-◌, ◌<◌, ◌≤◌, List, [], ◌∷◌, ◌++◌, length, map, Option, Some, None, Result, Ok, Err, Bool, true, false, IfOk, IfErr, codes, bytes_eq, true≢false, String, BTreeMap, Global, refl, sym, ap, subst, ◌∙◌, arith}
+use Rattle.std.proofs.Common.{◌≡◌, ◌≢◌, ℕ, ◌-◌, ◌<◌, ◌≤◌, List, [], ◌∷◌, ◌++◌, length, map, Option, Some, None, Result, Ok, Err, Bool, true, false, IfOk, IfErr, codes, bytes_eq, true≢false, String, BTreeMap, Vec, Global, refl, sym, ap, subst, ◌∙◌, arith}
 use Rattle.std.proofs.lemmas.Slice.Eq.{bytes_eq-Decides}
 use Rattle.std.specs.Result.{result_map_both}
 use Rattle.json.specs.Json.{Json, Parse, parse_map, after_end_array, items}
@@ -14,12 +14,13 @@ use Rattle.air_field.specs.Modular.{Modular}
 use Rattle.air_symbolic.specs.Pools.{tree_at}
 use Rattle.air_symbolic.specs.Trees.{Tree}
 use Rattle.air_symbolic.specs.declared.leaves.base_leaf.BaseLeaf.{BaseLeaf}
+use Rattle.air_wire.specs.BaseLeaves.{element_at}
 use Rattle.air_wire.specs.Results.{◌>>=◌, Fails, Gives}
 use Rattle.air_wire.specs.declared.errors.FlatError.{FlatError}
 use Rattle.air_wire.specs.declared.errors.FlatError.TheVariants as faults
 use Rattle.air_object.specs.Members.{MemberValues}
-use Rattle.air_object.specs.Parts.{Given, AreGiven, one_more, of_member, AreMembersOf, ArePartsOf, given_by, members_with}
-use Rattle.air_object.specs.Readers.{Reader, each_from, tree, trees, width_member, elements_member, table_member, constraints_member, periodic_member, boundary_member, cap_member, weight_member, members_read}
+use Rattle.air_object.specs.Parts.{GivenElements, AreElements, Given, AreGiven, one_more, of_member, AreMembersOf, ArePartsOf, given_elements, given_by, members_with}
+use Rattle.air_object.specs.Readers.{Reader, each_from, elements, tree, trees, width_member, elements_member, table_member, constraints_member, periodic_member, boundary_member, cap_member, weight_member, members_read}
 use Rattle.air_object.proofs.TokenLemmas.{data_before, one_more_data, item_read}
 use Rattle.air_object.specs.declared.constraints.Constraints.{Constraints}
 
@@ -42,6 +43,9 @@ each_from_push {X} read done (e ∷ ds) d = later (read e) (λ x. each_from_push
     later (Ok x) h = h x
     later (Err f) h = refl
 
+abbrev name_main : List ℕ
+name_main = codes "main"
+
 abbrev name_apart : List ℕ
 name_apart = codes "constraints"
 
@@ -55,39 +59,41 @@ only_memory see (Err (faults.Operand place i)) other h = absurd cc
 only_memory see (Err (faults.WrongDegree place s k)) other h = absurd cc
 only_memory see (Err (faults.NotCanonical place)) other h = absurd cc
 
-module _ {F : Type 0} {order : ℕ} (modular : Modular F order) where
-  -- ---- one list more
+-- ---- one item more
 
-  abbrev with_tree : List (Tree (BaseLeaf F)) → Tree (BaseLeaf F) → Given F
-  with_tree before t = Ok (before ++ t ∷ [])
+-- what is read of one value more
+pub more_read : {X : Type 0} (read : Reader X) (before : List X) (d : Data) (x : X) → read d ≡ Ok x → one_more read (Ok before) d ≡ Ok (before ++ x ∷ [])
+more_read {X} read before d x e = ap (λ (r : Result X FlatError). r >>= λ y. Ok (before ++ y ∷ [])) e
 
-  pub more_read : (before : List (Tree (BaseLeaf F))) (d : Data) (t : Tree (BaseLeaf F)) → tree modular d ≡ Ok t → one_more modular (Ok before) d ≡ Ok (before ++ t ∷ [])
-  more_read before d t e = ap (λ (r : Result (Tree (BaseLeaf F)) FlatError). r >>= λ u. with_tree before u) e
+-- a first fault stays the first
+module _ {X : Type 0} (read : Reader X) where
+  abbrev with_one : Data → Result (List X) FlatError → Result (List X) FlatError
+  with_one d g = one_more read g d
 
-  -- a first fault stays the first
-  pub still_fails : (f : FlatError) (given : Given F) (d : Data) → Fails f given → Fails f (one_more modular given d)
+  pub still_fails : (f : FlatError) (given : Result (List X) FlatError) (d : Data) → Fails f given → Fails f (one_more read given d)
   still_fails faults.Memory given d h = tt
-  still_fails faults.DegreeOverflow given d h = ap (λ (g : Given F). one_more modular g d) h
-  still_fails (faults.Shape place) given d h = ap (λ (g : Given F). one_more modular g d) h
-  still_fails faults.EmptyList given d h = ap (λ (g : Given F). one_more modular g d) h
-  still_fails (faults.Operand place i) given d h = ap (λ (g : Given F). one_more modular g d) h
-  still_fails (faults.WrongDegree place s k) given d h = ap (λ (g : Given F). one_more modular g d) h
-  still_fails (faults.NotCanonical place) given d h = ap (λ (g : Given F). one_more modular g d) h
+  still_fails faults.DegreeOverflow given d h = ap (with_one d) h
+  still_fails (faults.Shape place) given d h = ap (with_one d) h
+  still_fails faults.EmptyList given d h = ap (with_one d) h
+  still_fails (faults.Operand place i) given d h = ap (with_one d) h
+  still_fails (faults.WrongDegree place s k) given d h = ap (with_one d) h
+  still_fails (faults.NotCanonical place) given d h = ap (with_one d) h
 
-  -- a turn of the loop that reads the lists of an array
-  pub one_list_more : (p : Parse Json) (all : Option (Items × List Token)) (start n : ℕ) (ts r : List Token) (ds : List Data) (d : Data) (c e : Constraints F) → length ts ≤ n
-      → all ≡ parse_map (data_before ds) (converted of_items (items p n ts)) → length ts ≤ start → AreGiven (each_from (tree modular) [] (items_of ds)) c → after_end_array ts ≡ None
-      → converted of_json (p ts) ≡ Some (d, r) → length r < length ts → ((given : Given F) → AreGiven given c → AreGiven (one_more modular given d) e)
-      → (m : ℕ) × (length r ≤ m) × (es : List Data) × (all ≡ parse_map (data_before es) (converted of_items (items p m r))) × (length r ≤ start) × AreGiven (each_from (tree modular) [] (items_of es)) e
-  one_list_more p all start n ts r ds d c e enough so_far less given going read shorter more = (
+  -- a turn of the loop that reads the items of an array, of which so much is known
+  pub one_item_more : (Before After : Result (List X) FlatError → Type 0) (p : Parse Json) (all : Option (Items × List Token)) (start n : ℕ) (ts r : List Token) (ds : List Data) (d : Data) → length ts ≤ n
+      → all ≡ parse_map (data_before ds) (converted of_items (items p n ts)) → length ts ≤ start → Before (each_from read [] (items_of ds)) → after_end_array ts ≡ None
+      → converted of_json (p ts) ≡ Some (d, r) → length r < length ts → ((given : Result (List X) FlatError) → Before given → After (one_more read given d))
+      → (m : ℕ) × (length r ≤ m) × (es : List Data) × (all ≡ parse_map (data_before es) (converted of_items (items p m r))) × (length r ≤ start) × After (each_from read [] (items_of es))
+  one_item_more Before After p all start n ts r ds d enough so_far less given going taken shorter more = (
     n - 1,
     omega (arith, enough, shorter),
     ds ++ d ∷ [],
-    so_far ∙ ap (parse_map (data_before ds)) (item_read p n ts r d (omega (arith, enough, shorter)) going read) ∙ one_more_data ds d _,
+    so_far ∙ ap (parse_map (data_before ds)) (item_read p n ts r d (omega (arith, enough, shorter)) going taken) ∙ one_more_data ds d _,
     omega (arith, less, shorter),
-    subst (λ g. AreGiven g e) (sym (each_from_push (tree modular) [] ds d)) (more (each_from (tree modular) [] (items_of ds)) given),
+    subst After (sym (each_from_push read [] ds d)) (more (each_from read [] (items_of ds)) given),
   )
 
+module _ {F : Type 0} {order : ℕ} (modular : Modular F order) where
   -- the lists of an array are those of its value
   pub lists_of_array : {E : Type 0} (r : Result (Constraints F) E) (whole : Option (Data × List Token)) (inside : Option (Items × List Token)) (rest : List Token) → whole ≡ parse_map array inside
       → IfOk r (λ c. (ds : Items) × (inside ≡ Some (ds, rest)) × AreGiven (each_from (tree modular) [] ds) c) → IfOk r (λ c. (d : Data) × (whole ≡ Some (d, rest)) × AreGiven (trees modular d) c)
@@ -95,108 +101,144 @@ module _ {F : Type 0} {order : ℕ} (modular : Modular F order) where
   lists_of_array (Ok c) whole inside rest e h = (array h.0, e ∙ ap (parse_map array) h.1, h.2)
   lists_of_array (Err f) whole inside rest e h = tt
 
+  -- and so are its elements
+  pub elements_of_array : {E : Type 0} (r : Result (Result (Vec F Global) FlatError) E) (whole : Option (Data × List Token)) (inside : Option (Items × List Token)) (rest : List Token) → whole ≡ parse_map array inside
+      → IfOk r (λ es. (ds : Items) × (inside ≡ Some (ds, rest)) × AreElements (each_from (element_at modular 0) [] ds) es) → IfOk r (λ es. (d : Data) × (whole ≡ Some (d, rest)) × AreElements (elements modular d) es)
+  unfolding elements
+  elements_of_array (Ok es) whole inside rest e h = (array h.0, e ∙ ap (parse_map array) h.1, h.2)
+  elements_of_array (Err f) whole inside rest e h = tt
+
   -- ---- one member more
 
-  pub none_of_members : (c : Constraints F) → AreGiven (Err (faults.Shape 0)) c → AreMembersOf modular no_members no_members c
-  none_of_members c h = record { others = λ name n. refl; constraints = h }
+  pub none_of_members : (es : Result (Vec F Global) FlatError) (c : Constraints F) → AreElements (Err (faults.Shape 0)) es → AreGiven (Err (faults.Shape 0)) c → AreMembersOf modular no_members no_members es c
+  none_of_members es c g h = record { others = λ name n k. refl; main = g; constraints = h }
 
-  pub puts_apart : (ms rest : Members) (c e : Constraints F) (d : Data) → AreMembersOf modular ms rest c → AreGiven (trees modular d) e → AreMembersOf modular (put name_apart d ms) rest e
-  puts_apart ms rest c e d h given = record {
-    others = λ name n. get_member-put_other name name_apart d ms n ∙ h.others name n;
-    constraints = subst (λ o. AreGiven (of_member modular o) e) (sym (get_member-put name_apart d ms)) given;
+  pub puts_main : (ms rest : Members) (es fs : Result (Vec F Global) FlatError) (c : Constraints F) (d : Data) → AreMembersOf modular ms rest es c → AreElements (elements modular d) fs → AreMembersOf modular (put name_main d ms) rest fs c
+  puts_main ms rest es fs c d h given = record {
+    others = λ name n k. get_member-put_other name name_main d ms n ∙ h.others name n k;
+    main = subst (λ o. AreElements (of_member (elements modular) o) fs) (sym (get_member-put name_main d ms)) given;
+    constraints = subst (λ o. AreGiven (of_member (trees modular) o) c) (sym (get_member-put_other name_apart name_main d ms (λ e. absurd cc))) h.constraints;
   }
 
-  pub puts_other : (ms rest : Members) (c : Constraints F) (k : List ℕ) (d : Data) → k ≢ name_apart → AreMembersOf modular ms rest c → AreMembersOf modular (put k d ms) (put k d rest) c
-  puts_other ms rest c k d other h = record {
-    others = λ name n. by_name name n (bytes_eq name k) refl;
-    constraints = subst (λ o. AreGiven (of_member modular o) c) (sym (get_member-put_other name_apart k d ms (λ e. other (sym e)))) h.constraints;
+  pub puts_apart : (ms rest : Members) (es : Result (Vec F Global) FlatError) (c e : Constraints F) (d : Data) → AreMembersOf modular ms rest es c → AreGiven (trees modular d) e → AreMembersOf modular (put name_apart d ms) rest es e
+  puts_apart ms rest es c e d h given = record {
+    others = λ name n k. get_member-put_other name name_apart d ms k ∙ h.others name n k;
+    main = subst (λ o. AreElements (of_member (elements modular) o) es) (sym (get_member-put_other name_main name_apart d ms (λ e. absurd cc))) h.main;
+    constraints = subst (λ o. AreGiven (of_member (trees modular) o) e) (sym (get_member-put name_apart d ms)) given;
+  }
+
+  pub puts_other : (ms rest : Members) (es : Result (Vec F Global) FlatError) (c : Constraints F) (k : List ℕ) (d : Data) → k ≢ name_main → k ≢ name_apart → AreMembersOf modular ms rest es c → AreMembersOf modular (put k d ms) (put k d rest) es c
+  puts_other ms rest es c k d first other h = record {
+    others = λ name m n. by_name name m n (bytes_eq name k) refl;
+    main = subst (λ o. AreElements (of_member (elements modular) o) es) (sym (get_member-put_other name_main k d ms (λ e. first (sym e)))) h.main;
+    constraints = subst (λ o. AreGiven (of_member (trees modular) o) c) (sym (get_member-put_other name_apart k d ms (λ e. other (sym e)))) h.constraints;
   }
     where
-      by_name : (name : List ℕ) → name ≢ name_apart → (b : Bool) → bytes_eq name k ≡ b → get_member name (put k d ms) ≡ get_member name (put k d rest)
-      by_name name n true e =
+      by_name : (name : List ℕ) → name ≢ name_main → name ≢ name_apart → (b : Bool) → bytes_eq name k ≡ b → get_member name (put k d ms) ≡ get_member name (put k d rest)
+      by_name name m n true e =
           let same = (bytes_eq-Decides name k).0 e in
           rw same (get_member-put k d ms ∙ sym (get_member-put k d rest))
-      by_name name n false e =
+      by_name name m n false e =
           let differ = λ (s : name ≡ k). absurd (true≢false (sym ((bytes_eq-Decides name k).1 s) ∙ e)) in
-          get_member-put_other name k d ms differ ∙ h.others name n ∙ sym (get_member-put_other name k d rest differ)
+          get_member-put_other name k d ms differ ∙ h.others name m n ∙ sym (get_member-put_other name k d rest differ)
 
-  pub parts_of_members : (ms : Members) (rest : BTreeMap (String Global) Value) (c : Constraints F) → AreMembersOf modular ms (members_view rest.entries) c → ArePartsOf modular (object ms) (view (Object rest)) c
-  unfolding constraints_member
-  parts_of_members ms rest c h = record {
-    others = λ name n. h.others name n ∙ ap (get name) (sym (view-Object rest));
+  pub parts_of_members : (ms : Members) (rest : BTreeMap (String Global) Value) (es : Result (Vec F Global) FlatError) (c : Constraints F) → AreMembersOf modular ms (members_view rest.entries) es c → ArePartsOf modular (object ms) (view (Object rest)) es c
+  unfolding constraints_member elements_member
+  parts_of_members ms rest es c h = record {
+    others = λ name n k. h.others name n k ∙ ap (get name) (sym (view-Object rest));
+    main = h.main;
     constraints = h.constraints;
   }
 
   -- ---- the members of the parts
 
-  module _ {P Q R S T X Y : Type 0} (see : X → Y) (r : Result X FlatError) (given : Result T FlatError) (k : P → Q → R → S → T → Result Y FlatError) where
-    without_memory : (p : Result P FlatError) (q : Result Q FlatError) (s : Result R FlatError) (t : Result S FlatError)
+  -- a result that gives what a reading leads to, gives what the one that is read by it leads to
+  module _ {T X Y : Type 0} (see : X → Y) (r : Result X FlatError) (place : Result T FlatError → Result Y FlatError) (given : Result T FlatError) (memory : Gives see r (place (Err faults.Memory)) → Gives see r (place given)) where
+    fault_gives : (f : FlatError) → Fails f given → Gives see r (place (Err f)) → Gives see r (place given)
+    fault_gives faults.Memory e h = memory h
+    fault_gives faults.DegreeOverflow e h = subst (λ g. Gives see r (place g)) (sym e) h
+    fault_gives (faults.Shape at) e h = subst (λ g. Gives see r (place g)) (sym e) h
+    fault_gives faults.EmptyList e h = subst (λ g. Gives see r (place g)) (sym e) h
+    fault_gives (faults.Operand at i) e h = subst (λ g. Gives see r (place g)) (sym e) h
+    fault_gives (faults.WrongDegree at s k) e h = subst (λ g. Gives see r (place g)) (sym e) h
+    fault_gives (faults.NotCanonical at) e h = subst (λ g. Gives see r (place g)) (sym e) h
+
+    read_gives : {V : Type 0} (seen : V → T) (v : Result V FlatError) → Gives seen v given → Gives see r (place (result_map_both seen (λ f. f) v)) → Gives see r (place given)
+    read_gives seen (Ok v) e h = subst (λ g. Gives see r (place g)) (sym e) h
+    read_gives seen (Err f) e h = fault_gives f e h
+
+  module _ {P Q R S T X Y : Type 0} (see : X → Y) (r : Result X FlatError) (given : Result T FlatError) where
+    without_memory : (k : P → Q → R → S → T → Result Y FlatError) (p : Result P FlatError) (q : Result Q FlatError) (s : Result R FlatError) (t : Result S FlatError)
         → Gives see r (p >>= λ x. q >>= λ y. s >>= λ z. t >>= λ a. Err faults.Memory >>= k x y z a) → Gives see r (p >>= λ x. q >>= λ y. s >>= λ z. t >>= λ a. given >>= k x y z a)
-    without_memory (Err f) q s t h = h
-    without_memory (Ok x) (Err f) s t h = h
-    without_memory (Ok x) (Ok y) (Err f) t h = h
-    without_memory (Ok x) (Ok y) (Ok z) (Err f) h = h
-    without_memory (Ok x) (Ok y) (Ok z) (Ok a) h = only_memory see r _ h
+    without_memory k (Err f) q s t h = h
+    without_memory k (Ok x) (Err f) s t h = h
+    without_memory k (Ok x) (Ok y) (Err f) t h = h
+    without_memory k (Ok x) (Ok y) (Ok z) (Err f) h = h
+    without_memory k (Ok x) (Ok y) (Ok z) (Ok a) h = only_memory see r _ h
 
-  -- where the constraints gave what they are given by, so do all members
-  module _ {X : Type 0} (see : X → MemberValues F) (r : Result X FlatError) (rest : Data) (given : Given F) where
-    abbrev GivesWith : Given F → Type 0
-    GivesWith g = Gives see r (members_with modular g rest)
+  module _ {P T X Y : Type 0} (see : X → Y) (r : Result X FlatError) (given : Result T FlatError) where
+    width_memory : (k : P → T → Result Y FlatError) (p : Result P FlatError) → Gives see r (p >>= λ x. Err faults.Memory >>= k x) → Gives see r (p >>= λ x. given >>= k x)
+    width_memory k (Err f) h = h
+    width_memory k (Ok x) h = only_memory see r _ h
 
-    memory_gives : GivesWith (Err faults.Memory) → GivesWith given
+  -- where the trace and the constraints gave what they are given by, so do all members
+  module _ {X : Type 0} (see : X → MemberValues F) (r : Result X FlatError) (rest : Data) where
+    abbrev GivesWith : GivenElements F → Given F → Type 0
+    GivesWith trace g = Gives see r (members_with modular trace g rest)
+
+    constraints_memory : (trace : GivenElements F) (given : Given F) → GivesWith trace (Err faults.Memory) → GivesWith trace given
     unfolding members_with
-    memory_gives h = without_memory see r given _ (width_member (codes "main_width") rest) (elements_member modular (codes "main") rest) (table_member modular rest) (elements_member modular (codes "public_values") rest) h
+    constraints_memory trace given h = without_memory see r given _ (width_member (codes "main_width") rest) trace (table_member modular rest) (elements_member modular (codes "public_values") rest) h
 
-    fault_gives : (f : FlatError) → Fails f given → GivesWith (Err f) → GivesWith given
-    fault_gives faults.Memory e h = memory_gives h
-    fault_gives faults.DegreeOverflow e h = subst GivesWith (sym e) h
-    fault_gives (faults.Shape place) e h = subst GivesWith (sym e) h
-    fault_gives faults.EmptyList e h = subst GivesWith (sym e) h
-    fault_gives (faults.Operand place i) e h = subst GivesWith (sym e) h
-    fault_gives (faults.WrongDegree place s k) e h = subst GivesWith (sym e) h
-    fault_gives (faults.NotCanonical place) e h = subst GivesWith (sym e) h
+    trace_memory : (trace : GivenElements F) (given : Given F) → GivesWith (Err faults.Memory) given → GivesWith trace given
+    unfolding members_with
+    trace_memory trace given h = width_memory see r trace _ (width_member (codes "main_width") rest) h
 
-    roots_give : {V : Type 0} (seen : V → List (Tree (BaseLeaf F))) (roots : Result V FlatError) → Gives seen roots given
-        → GivesWith (result_map_both seen (λ f. f) roots) → GivesWith given
-    roots_give seen (Ok v) e h = subst GivesWith (sym e) h
-    roots_give seen (Err f) e h = fault_gives f e h
+    both_give : {U V : Type 0} (trace : GivenElements F) (given : Given F) (shown : U → List F) (seen : V → List (Tree (BaseLeaf F))) (es : Result U FlatError) (roots : Result V FlatError)
+        → Gives shown es trace → Gives seen roots given
+        → GivesWith (result_map_both shown (λ f. f) es) (result_map_both seen (λ f. f) roots) → GivesWith trace given
+    both_give trace given shown seen es roots first second h =
+        read_gives see r (λ g. members_with modular trace g rest) given (constraints_memory trace given) seen roots second
+        (read_gives see r (λ t. members_with modular t (result_map_both seen (λ f. f) roots) rest) trace (trace_memory trace (result_map_both seen (λ f. f) roots)) shown es first h)
 
   -- the other members are those of the object
-  module _ (d rest : Data) (c : Constraints F) (parts : ArePartsOf modular d rest c) where
-    same : (name : List ℕ) → (length name ≡ 11 → ⊥) → get name d ≡ get name rest
-    same name other = parts.others name (λ e. other (ap length e))
+  module _ (d rest : Data) (es : Result (Vec F Global) FlatError) (c : Constraints F) (parts : ArePartsOf modular d rest es c) where
+    same : (name : List ℕ) → (length name ≡ 4 → ⊥) → (length name ≡ 11 → ⊥) → get name d ≡ get name rest
+    same name first other = parts.others name (λ e. first (ap length e)) (λ e. other (ap length e))
 
-    width_same : (name : List ℕ) → (length name ≡ 11 → ⊥) → width_member name d ≡ width_member name rest
+    width_same : (name : List ℕ) → (length name ≡ 4 → ⊥) → (length name ≡ 11 → ⊥) → width_member name d ≡ width_member name rest
     unfolding width_member
-    width_same name other = rw (same name other) refl
+    width_same name first other = rw (same name first other) refl
 
-    elements_same : (name : List ℕ) → (length name ≡ 11 → ⊥) → elements_member modular name d ≡ elements_member modular name rest
+    elements_same : (name : List ℕ) → (length name ≡ 4 → ⊥) → (length name ≡ 11 → ⊥) → elements_member modular name d ≡ elements_member modular name rest
     unfolding elements_member
-    elements_same name other = rw (same name other) refl
+    elements_same name first other = rw (same name first other) refl
 
     table_same : table_member modular d ≡ table_member modular rest
     unfolding table_member
-    table_same = rw (same (codes "preprocessed_width") (λ e. absurd cc), same (codes "preprocessed") (λ e. absurd cc), width_same (codes "preprocessed_width") (λ e. absurd cc), elements_same (codes "preprocessed") (λ e. absurd cc)) refl
+    table_same = rw (same (codes "preprocessed_width") (λ e. absurd cc) (λ e. absurd cc), same (codes "preprocessed") (λ e. absurd cc) (λ e. absurd cc), width_same (codes "preprocessed_width") (λ e. absurd cc) (λ e. absurd cc), elements_same (codes "preprocessed") (λ e. absurd cc) (λ e. absurd cc)) refl
 
     periodic_same : periodic_member modular d ≡ periodic_member modular rest
     unfolding periodic_member
-    periodic_same = rw (same (codes "periodic") (λ e. absurd cc)) refl
+    periodic_same = rw (same (codes "periodic") (λ e. absurd cc) (λ e. absurd cc)) refl
 
     boundary_same : boundary_member d ≡ boundary_member rest
     unfolding boundary_member
-    boundary_same = rw (same (codes "boundary") (λ e. absurd cc)) refl
+    boundary_same = rw (same (codes "boundary") (λ e. absurd cc) (λ e. absurd cc)) refl
 
     cap_same : cap_member d ≡ cap_member rest
     unfolding cap_member
-    cap_same = rw (same (codes "cap") (λ e. absurd cc)) refl
+    cap_same = rw (same (codes "cap") (λ e. absurd cc) (λ e. absurd cc)) refl
 
     weight_same : weight_member d ≡ weight_member rest
     unfolding weight_member
-    weight_same = rw (same (codes "transition_weight") (λ e. absurd cc)) refl
+    weight_same = rw (same (codes "transition_weight") (λ e. absurd cc) (λ e. absurd cc)) refl
 
-    members_same : members_read modular d ≡ members_with modular (constraints_member modular d) rest
+    members_same : members_read modular d ≡ members_with modular (elements_member modular (codes "main") d) (constraints_member modular d) rest
     unfolding members_read members_with
-    members_same = rw (width_same (codes "main_width") (λ e. absurd cc), elements_same (codes "main") (λ e. absurd cc), table_same, elements_same (codes "public_values") (λ e. absurd cc), periodic_same, boundary_same, cap_same, weight_same) refl
+    members_same = rw (width_same (codes "main_width") (λ e. absurd cc) (λ e. absurd cc), table_same, elements_same (codes "public_values") (λ e. absurd cc) (λ e. absurd cc), periodic_same, boundary_same, cap_same, weight_same) refl
 
-    pub parts_give : {X : Type 0} (see : X → MemberValues F) (r : Result X FlatError) → Gives see r (members_with modular (given_by c) rest) → Gives see r (members_read modular d)
-    parts_give see r h = subst (λ v. Gives see r v) (sym members_same) (roots_give see r rest (constraints_member modular d) (λ roots. map (tree_at c.pool) roots.items) c.roots parts.constraints.read h)
+    pub parts_give : {X : Type 0} (see : X → MemberValues F) (r : Result X FlatError) → Gives see r (members_with modular (given_elements es) (given_by c) rest) → Gives see r (members_read modular d)
+    parts_give see r h =
+        subst (λ v. Gives see r v) (sym members_same)
+        (both_give see r rest (elements_member modular (codes "main") d) (constraints_member modular d) (λ v. v.items) (λ roots. map (tree_at c.pool) roots.items) es c.roots parts.main parts.constraints.read h)

@@ -1,5 +1,6 @@
--- An object whose constraints are read apart from its other members.
-use Rattle.std.specs.Prelude.{◌≡◌, ◌≢◌, ℕ, ◌<◌, List, [], ◌∷◌, ◌++◌, length, map, All, Option, Result, Ok, IfOk, codes}
+-- An object whose trace and constraints are read apart from its other members.
+use Rattle.std.specs.Prelude.{◌≡◌, ◌≢◌, ℕ, ◌<◌, List, [], ◌∷◌, ◌++◌, length, map, All, Option, Result, Ok, IfOk, codes, Vec}
+use Rattle.std.specs.Global.{Global}
 use Rattle.std.specs.Result.{result_map_both}
 use Rattle.serde_json.specs.Data.{Data, Members}
 use Rattle.serde_json.specs.Find.{get, get_member}
@@ -11,8 +12,16 @@ use Rattle.air_symbolic.specs.declared.leaves.base_leaf.BaseLeaf.{BaseLeaf}
 use Rattle.air_wire.specs.Results.{◌>>=◌, Gives}
 use Rattle.air_wire.specs.declared.errors.FlatError.{FlatError}
 use Rattle.air_object.specs.Members.{MemberValues}
-use Rattle.air_object.specs.Readers.{Reader, formed, tree, trees, width_member, elements_member, table_member, constraints_member, periodic_member, boundary_member, cap_member, weight_member}
+use Rattle.air_object.specs.Readers.{Reader, formed, elements, trees, width_member, elements_member, table_member, constraints_member, periodic_member, boundary_member, cap_member, weight_member}
 use Rattle.air_object.specs.declared.constraints.Constraints.{Constraints}
+
+-- the elements of the trace, or the first fault
+abbrev pub GivenElements : Type 0 → Type 0
+GivenElements F = Result (List F) FlatError
+
+-- these are read, or it is this fault
+abbrev pub AreElements : {F : Type 0} → GivenElements F → Result (Vec F Global) FlatError → Type 0
+AreElements given es = Gives (λ v. v.items) es given
 
 -- the trees of the constraints, or the first fault
 abbrev pub Given : Type 0 → Type 0
@@ -28,33 +37,38 @@ pub record AreGiven {F : Type 0} (given : Given F) (c : Constraints F) : Type 0 
   pub inside : InPool c
   pub read : Gives (λ roots. map (tree_at c.pool) roots.items) c.roots given
 
--- those, and that of one list more
-abbrev pub one_more : {F : Type 0} {p : ℕ} → Modular F p → Given F → Data → Given F
-one_more m given d = given >>= λ before. tree m d >>= λ t. Ok (before ++ t ∷ [])
+-- those, and what is read of one value more
+abbrev pub one_more : {X : Type 0} → Reader X → Result (List X) FlatError → Data → Result (List X) FlatError
+one_more read given d = given >>= λ before. read d >>= λ x. Ok (before ++ x ∷ [])
 
 -- what a member's value gives, if there is one
-abbrev pub of_member : {F : Type 0} {p : ℕ} → Modular F p → Option Data → Given F
-of_member m o = formed o >>= trees m
+abbrev pub of_member : {X : Type 0} → Reader X → Option Data → Result X FlatError
+of_member read o = formed o >>= read
 
--- rest are the members ms but for the constraints, which are apart
-pub record AreMembersOf {F : Type 0} {p : ℕ} (m : Modular F p) (ms rest : Members) (c : Constraints F) : Type 0 where
-  pub others : (name : List ℕ) → name ≢ codes "constraints" → get_member name ms ≡ get_member name rest
-  pub constraints : AreGiven (of_member m (get_member (codes "constraints") ms)) c
+-- rest are the members ms but for the trace and the constraints, which are apart
+pub record AreMembersOf {F : Type 0} {p : ℕ} (m : Modular F p) (ms rest : Members) (es : Result (Vec F Global) FlatError) (c : Constraints F) : Type 0 where
+  pub others : (name : List ℕ) → name ≢ codes "main" → name ≢ codes "constraints" → get_member name ms ≡ get_member name rest
+  pub main : AreElements (of_member (elements m) (get_member (codes "main") ms)) es
+  pub constraints : AreGiven (of_member (trees m) (get_member (codes "constraints") ms)) c
 
 -- the same of values: of one that is no object, none has a member
-pub record ArePartsOf {F : Type 0} {p : ℕ} (m : Modular F p) (d rest : Data) (c : Constraints F) : Type 0 where
-  pub others : (name : List ℕ) → name ≢ codes "constraints" → get name d ≡ get name rest
+pub record ArePartsOf {F : Type 0} {p : ℕ} (m : Modular F p) (d rest : Data) (es : Result (Vec F Global) FlatError) (c : Constraints F) : Type 0 where
+  pub others : (name : List ℕ) → name ≢ codes "main" → name ≢ codes "constraints" → get name d ≡ get name rest
+  pub main : AreElements (elements_member m (codes "main") d) es
   pub constraints : AreGiven (constraints_member m d) c
 
--- ---- the members, given what the constraints are
+-- ---- the members, given what the trace and the constraints are
+
+abbrev pub given_elements : {F : Type 0} → Result (Vec F Global) FlatError → GivenElements F
+given_elements es = result_map_both (λ v. v.items) (λ f. f) es
 
 abbrev pub given_by : {F : Type 0} → Constraints F → Given F
 given_by c = result_map_both (λ roots. map (tree_at c.pool) roots.items) (λ f. f) c.roots
 
-unfoldable pub members_with : {F : Type 0} {p : ℕ} → Modular F p → Given F → Reader (MemberValues F)
-members_with m given d = do
+unfoldable pub members_with : {F : Type 0} {p : ℕ} → Modular F p → GivenElements F → Given F → Reader (MemberValues F)
+members_with m trace given d = do
   width ← width_member (codes "main_width") d
-  main ← elements_member m (codes "main") d
+  main ← trace
   table ← table_member m d
   public_values ← elements_member m (codes "public_values") d
   constraints ← given

@@ -102,7 +102,7 @@ fn roots_with<F: PrimeField64>(
     requires pool { IsPool base_reads pool.old }
     requires here { All (λ i. i < length pool.old.1) roots.items }
     ensures { ReadsAll base_grows base_reads tree_at (λ v. v.items) pool.old pool.new result
-        (one_more F.residues (Ok (map (tree_at pool.old) roots.items)) (view value.now)) }
+        (one_more (tree F.residues) (Ok (map (tree_at pool.old) roots.items)) (view value.now)) }
 {
     let root = root_from(alloc, pool, value)?;
     roots.push(root)?;
@@ -117,7 +117,7 @@ pub fn with_list<F: PrimeField64>(
 ) -> Constraints<F>
     requires { InPool constraints }
     ensures { (given : Given F) → AreGiven given constraints
-        → AreGiven (one_more F.residues given (view value.now)) result }
+        → AreGiven (one_more (tree F.residues) given (view value.now)) result }
 {
     let Constraints { mut pool, roots } = constraints;
     match roots {

@@ -1,14 +1,19 @@
 //! Lists of field elements.
-ghost use Rattle.std.specs.Prelude.{◌≡◌, [], map};
+ghost use Rattle.std.specs.Prelude.{◌≡◌, [], map, Ok, Err};
 ghost use Rattle.serde_json.specs.View.{view, items_view};
 ghost use Rattle.air_wire.specs.BaseLeaves.{element_at};
 ghost use Rattle.air_wire.specs.Results.{Gives};
+ghost use Rattle.air_wire.specs.declared.errors.FlatError.TheVariants.{Shape};
+ghost use Rattle.air_object.specs.Parts.{GivenElements, AreElements, one_more};
 ghost use Rattle.air_object.specs.Readers.{each_from, elements, columns};
 
 use air_field::PrimeField64;
 use air_wire::{FlatError, element_from};
 use serde_json::Value;
 use std::alloc::Global;
+
+/// Field elements that are read before it is their turn, or their first fault.
+pub type Elements<F> = Result<Vec<F>, FlatError>;
 
 fn elements_of<F: PrimeField64>(alloc: Global, items: &[Value]) -> Result<Vec<F>, FlatError>
     ensures { Gives (λ v. v.items) result
@@ -29,6 +34,41 @@ pub fn elements_from<F: PrimeField64>(alloc: Global, value: &Value) -> Result<Ve
 {
     let items = value.as_array().ok_or(FlatError::Shape { at: 0 })?;
     elements_of(alloc, items)
+}
+
+/// No element.
+pub(crate) fn no_elements<F: PrimeField64>(alloc: Global) -> Elements<F>
+    ensures { AreElements (Ok []) result }
+{
+    Ok(Vec::new(alloc))
+}
+
+/// What an object without the member has.
+pub(crate) fn missing_elements<F: PrimeField64>() -> Elements<F>
+    ensures { AreElements (Err (Shape 0)) result }
+{
+    Err(FlatError::Shape { at: 0 })
+}
+
+// The elements, and that of the value, or its fault.
+fn pushed<F: PrimeField64>(mut before: Vec<F>, item: &Value) -> Elements<F>
+    ensures { AreElements (one_more (element_at F.residues 0) (Ok before.items) (view item.now))
+        result }
+{
+    let element = element_from(0, item)?;
+    before.push(element)?;
+    Ok(before)
+}
+
+/// The elements, and that of the value; behind a fault no further one is read.
+pub(crate) fn with_element<F: PrimeField64>(before: Elements<F>, item: &Value) -> Elements<F>
+    ensures { (given : GivenElements F) → AreElements given before
+        → AreElements (one_more (element_at F.residues 0) given (view item.now)) result }
+{
+    match before {
+        Ok(before) => pushed(before, item),
+        Err(fault) => Err(fault),
+    }
 }
 
 fn columns_of<F: PrimeField64>(alloc: Global, items: &[Value]) -> Result<Vec<Vec<F>>, FlatError>

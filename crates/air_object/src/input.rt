@@ -9,7 +9,8 @@ ghost use Rattle.air_object.specs.Parts.{InPool, ArePartsOf};
 ghost use Rattle.air_object.specs.Seen.{seen_rows};
 
 use crate::constraints::{Constraints, constraints_of};
-use crate::members::{RowValues, members_from};
+use crate::elements::Elements;
+use crate::members::{RowValues, elements_at, members_from};
 use air_core::{AirError, BoundaryPublic};
 use air_field::{Field, MatrixError, PrimeField64, RowMajorMatrix};
 use air_symbolic::{BaseLeaf, ExprId, ExprPool};
@@ -51,21 +52,22 @@ fn table_of<F: PrimeField64>(
     }
 }
 
-/// The input of an object whose constraints are read already, and whose other members the value has.
+/// The input of an object whose trace and constraints are read already, and whose other members the value has.
 pub fn input_from<F: PrimeField64>(
     alloc: Global,
     value: &Value,
+    main: Elements<F>,
     constraints: Constraints<F>,
 ) -> Result<FlatInput<F>, AirError>
     requires { InPool constraints }
     ensures pool { IfOk result (λ input. IsPool base_reads input.pool) }
     ensures roots { IfOk result (λ input. All (λ i. i < length input.pool.1) input.roots.items) }
     ensures read { IfOk result (λ input. (d : Data)
-        → ArePartsOf F.residues d (view value.now) constraints → SpellsInput F.residues d input) }
+        → ArePartsOf F.residues d (view value.now) main constraints → SpellsInput F.residues d input) }
     ensures refused { IfErr result (λ e. e ≢ AirError.Memory → (d : Data)
-        → ArePartsOf F.residues d (view value.now) constraints → HasInputFault F.residues d e) }
+        → ArePartsOf F.residues d (view value.now) main constraints → HasInputFault F.residues d e) }
 {
-    let members = members_from(alloc, value, constraints)?;
+    let members = members_from(alloc, value, main, constraints)?;
     let main = RowMajorMatrix::new(members.main, members.main_width)?;
     let preprocessed = table_of(members.preprocessed)?;
     Ok(FlatInput {
@@ -98,6 +100,7 @@ pub fn flat_input_from<F: PrimeField64>(
     ensures refused { IfErr result (λ e. e ≢ AirError.Memory
         → HasInputFault F.residues (view value.now) e) }
 {
+    let main = elements_at(alloc, value, "main");
     let constraints = constraints_of(alloc, value);
-    input_from(alloc, value, constraints)
+    input_from(alloc, value, main, constraints)
 }

@@ -6,13 +6,13 @@ ghost use Rattle.air_symbolic.specs.BaseLeaves.{base_reads};
 ghost use Rattle.air_symbolic.specs.Pools.{IsPool};
 ghost use Rattle.air_wire.specs.Results.{Gives};
 ghost use Rattle.air_wire.specs.declared.errors.FlatError.TheVariants.{Shape};
-ghost use Rattle.air_object.specs.Parts.{InPool, given_by, members_with};
+ghost use Rattle.air_object.specs.Parts.{InPool, given_elements, given_by, members_with};
 ghost use Rattle.air_object.specs.Readers.{width_member, elements_member, table_member, periodic_member, boundary_member, cap_of, cap_member, weight_member};
 ghost use Rattle.air_object.specs.Seen.{seen_rows, seen_members};
 
 use crate::cells::cells_from;
 use crate::constraints::{BasePool, Constraints, Roots};
-use crate::elements::{columns_from, elements_from};
+use crate::elements::{Elements, columns_from, elements_from};
 use air_core::BoundaryPublic;
 use air_field::{Field, PrimeField64};
 use air_wire::{FlatError, whole};
@@ -55,12 +55,9 @@ fn width_at(value: &Value, name: &str) -> Result<usize, FlatError>
     whole(width).ok_or(FlatError::Shape { at: 0 })
 }
 
+/// The elements of the member of this name.
 #[tactic(auto, unfolding(crate::specs::Readers::elements_member))]
-fn elements_at<F: PrimeField64>(
-    alloc: Global,
-    value: &Value,
-    name: &str,
-) -> Result<Vec<F>, FlatError>
+pub(crate) fn elements_at<F: PrimeField64>(alloc: Global, value: &Value, name: &str) -> Elements<F>
     ensures { Gives (λ v. v.items) result
         (elements_member F.residues name.now (view value.now)) }
 {
@@ -134,22 +131,23 @@ fn weight_from(value: &Value) -> Result<usize, FlatError>
     }
 }
 
-/// The members that the object spells, or the first fault among them. Its constraints are read already, and it needn't
-/// hold them.
+/// The members that the object spells, or the first fault among them. Its trace and its constraints are read already,
+/// and it needn't hold them.
 #[tactic(auto, unfolding(crate::specs::Parts::members_with))]
 pub fn members_from<F: PrimeField64>(
     alloc: Global,
     value: &Value,
+    main: Elements<F>,
     constraints: Constraints<F>,
 ) -> Result<Members<F>, FlatError>
     requires { InPool constraints }
     ensures pool { IfOk result (λ m. IsPool base_reads m.pool) }
     ensures roots { IfOk result (λ m. All (λ i. i < length m.pool.1) m.roots.items) }
-    ensures read { Gives seen_members result (members_with F.residues (given_by constraints)
-        (view value.now)) }
+    ensures read { Gives seen_members result (members_with F.residues (given_elements main)
+        (given_by constraints) (view value.now)) }
 {
     let main_width = width_at(value, "main_width")?;
-    let main = elements_at(alloc, value, "main")?;
+    let main = main?;
     let preprocessed = table_from(alloc, value)?;
     let public_values = elements_at(alloc, value, "public_values")?;
     let Constraints { pool, roots } = constraints;

@@ -1,15 +1,19 @@
-//! The JSON object as its text is read: the constraints list by list, so that no more than one is held as a value.
+//! The JSON object as its text is read: the trace number by number and the constraints list by list, so that no more
+//! than one of either is held as a value.
 ghost use Rattle.std.specs.Prelude.{◌≡◌, ◌≢◌, ◌<◌, [], length, Err, Some, None, IfOk, IfErr, OnOk};
 ghost use Rattle.json.specs.Json.{value, items, members};
 ghost use Rattle.serde_json.specs.Data.{Data, Items, Members, no_members};
 ghost use Rattle.serde_json.specs.Read.{of_json, of_items, of_members, converted, read};
 ghost use Rattle.serde_json.specs.View.{view, members_view};
-ghost use Rattle.air_object.specs.Parts.{AreGiven, AreMembersOf, ArePartsOf};
-ghost use Rattle.air_object.specs.Readers.{each_from, tree, trees};
+ghost use Rattle.air_wire.specs.BaseLeaves.{element_at};
+ghost use Rattle.air_object.specs.Parts.{AreElements, AreGiven, AreMembersOf, ArePartsOf};
+ghost use Rattle.air_object.specs.Readers.{each_from, elements, tree, trees};
 
 use crate::constraints::{
     Constraints, constraints_listed, constraints_of, missing_constraints, no_constraints, with_list,
 };
+use crate::elements::{Elements, elements_from, missing_elements, no_elements, with_element};
+use crate::members::elements_at;
 use crate::text::{TextFault, read, read_from};
 use air_field::{Field, PrimeField64};
 use json::{Reader, Scratch, Token};
@@ -18,11 +22,56 @@ use std::alloc::Global;
 
 const MAX_DEPTH: usize = 127;
 
-/// An object's constraints, and a value that has its other members.
+/// An object's trace, its constraints, and a value that has its other members.
 #[derive(Drop)]
 pub struct Parts<F: Field> {
     pub rest: Value,
+    pub main: Elements<F>,
     pub constraints: Constraints<F>,
+}
+
+// The elements of the array in which the reader stands.
+fn read_items<F: PrimeField64>(
+    alloc: Global,
+    reader: &mut Reader<'_>,
+    depth: usize,
+) -> Result<Elements<F>, TextFault>
+    ensures ok { IfOk result (λ es. (ds : Items)
+        × (converted of_items (items (value depth) (length reader.old) reader.old)
+        ≡ Some (ds, reader.new)) × AreElements (each_from (element_at F.residues 0) [] ds) es) }
+    ensures shorter { OnOk result (length reader.new < length reader.old) }
+    ensures err { result ≡ Err TextFault.Json
+        → converted of_items (items (value depth) (length reader.old) reader.old) ≡ None }
+{
+    let mut elements = no_elements(alloc);
+    'items: while !reader.take_end_array() {
+        let item = read(alloc, reader, depth)?;
+        elements = with_element(elements, &item);
+    }
+    Ok(elements)
+}
+
+// The elements of the value that begins where the reader stands.
+fn read_elements<F: PrimeField64>(
+    alloc: Global,
+    reader: &mut Reader<'_>,
+    depth: usize,
+) -> Result<Elements<F>, TextFault>
+    ensures ok { IfOk result (λ es. (d : Data)
+        × (converted of_json (value depth reader.old) ≡ Some (d, reader.new))
+        × AreElements (elements F.residues d) es) }
+    ensures shorter { OnOk result (length reader.new < length reader.old) }
+    ensures err { result ≡ Err TextFault.Json → converted of_json (value depth reader.old) ≡ None }
+{
+    let token = reader.next().ok_or(TextFault::Json)?;
+    if let Token::BeginArray = token {
+        if depth == 0 {
+            return Err(TextFault::Json);
+        }
+        return read_items(alloc, reader, depth - 1);
+    }
+    let other = read_from(alloc, token, reader, depth)?;
+    Ok(elements_from(alloc, &other))
 }
 
 // The lists of the array in which the reader stands.
@@ -74,18 +123,21 @@ fn read_apart<F: PrimeField64>(
     alloc: Global,
     reader: &mut Reader<'_>,
     depth: usize,
-) -> Result<(Map<String, Value>, Constraints<F>), TextFault>
+) -> Result<(Map<String, Value>, Elements<F>, Constraints<F>), TextFault>
     ensures ok { IfOk result (λ p. (ms : Members)
         × (converted (λ xs. of_members xs no_members)
         (members (value depth) (length reader.old) reader.old) ≡ Some (ms, reader.new))
-        × AreMembersOf F.residues ms (members_view p.0.entries) p.1) }
+        × AreMembersOf F.residues ms (members_view p.0.entries) p.1 p.2) }
     ensures err { result ≡ Err TextFault.Json → converted (λ xs. of_members xs no_members)
         (members (value depth) (length reader.old) reader.old) ≡ None }
 {
     let mut rest = Map::new(alloc);
+    let mut main = missing_elements();
     let mut constraints = missing_constraints(alloc);
     'members: while let Some(name) = reader.next_key()? {
-        if name == "constraints" {
+        if name == "main" {
+            main = read_elements(alloc, reader, depth)?;
+        } else if name == "constraints" {
             constraints = read_constraints(alloc, reader, depth)?;
         } else {
             let key = String::from_str(alloc, name)?;
@@ -93,7 +145,7 @@ fn read_apart<F: PrimeField64>(
             drop(rest.insert(key, member)?);
         }
     }
-    Ok((rest, constraints))
+    Ok((rest, main, constraints))
 }
 
 // The parts of the value that begins where the reader stands.
@@ -104,7 +156,7 @@ fn read_parts<F: PrimeField64>(
 ) -> Result<Parts<F>, TextFault>
     ensures ok { IfOk result (λ p. (d : Data)
         × (converted of_json (value depth reader.old) ≡ Some (d, reader.new))
-        × ArePartsOf F.residues d (view p.rest) p.constraints) }
+        × ArePartsOf F.residues d (view p.rest) p.main p.constraints) }
     ensures err { result ≡ Err TextFault.Json → converted of_json (value depth reader.old) ≡ None }
 {
     let token = reader.next().ok_or(TextFault::Json)?;
@@ -112,21 +164,27 @@ fn read_parts<F: PrimeField64>(
         if depth == 0 {
             return Err(TextFault::Json);
         }
-        let (rest, constraints) = read_apart(alloc, reader, depth - 1)?;
+        let (rest, main, constraints) = read_apart(alloc, reader, depth - 1)?;
         return Ok(Parts {
             rest: Value::Object(rest),
+            main,
             constraints,
         });
     }
     let rest = read_from(alloc, token, reader, depth)?;
+    let main = elements_at(alloc, &rest, "main");
     let constraints = constraints_of(alloc, &rest);
-    Ok(Parts { rest, constraints })
+    Ok(Parts {
+        rest,
+        main,
+        constraints,
+    })
 }
 
 /// The parts of the value that the text is.
 pub fn parts_of<F: PrimeField64>(alloc: Global, text: &str) -> Result<Parts<F>, TextFault>
     ensures ok { IfOk result (λ p. (d : Data) × (read text.now ≡ Some d)
-        × ArePartsOf F.residues d (view p.rest) p.constraints) }
+        × ArePartsOf F.residues d (view p.rest) p.main p.constraints) }
     ensures err { result ≡ Err TextFault.Json → read text.now ≡ None }
 {
     let mut scratch = Scratch::new(alloc);

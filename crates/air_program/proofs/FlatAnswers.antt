@@ -1,5 +1,5 @@
 -- What answers a JSON object, step by step.
-use Rattle.std.proofs.Common.{◌≡◌, ◌≢◌, ◌⊎◌, ℕ, List, Option, Some, None, Result, Ok, Err, IfOk, IfErr, String, string_bytes, codes, refl, sym, ap, subst, ◌∙◌, inl, inr}
+use Rattle.std.proofs.Common.{◌≡◌, ◌≢◌, ◌⊎◌, ℕ, List, Option, Some, None, Result, Ok, Err, IfOk, IfErr, String, Vec, string_bytes, codes, refl, sym, ap, subst, ◌∙◌, inl, inr}
 use Rattle.std.specs.Global.{Global}
 use Rattle.serde_json.specs.Data.{Data}
 use Rattle.serde_json.specs.Find.{get}
@@ -8,6 +8,7 @@ use Rattle.air_object.specs.declared.input.FlatInput.{FlatInput}
 use Rattle.air_object.specs.declared.constraints.Constraints.{Constraints}
 use Rattle.air_core.specs.declared.errors.AirError.{AirError}
 use Rattle.air_core.specs.declared.errors.AirError.TheVariants.{Memory}
+use Rattle.air_wire.specs.declared.errors.FlatError.{FlatError}
 use Rattle.air_program.specs.Answer.{AuditFinds}
 use Rattle.air_object.specs.Fields.{named_by, field_of, OverField}
 use Rattle.air_object.specs.Input.{SpellsInput}
@@ -56,9 +57,9 @@ module _ {F : Type 0} {order : ℕ} (modular : Modular F order) where
 -- ---- over the field that is named
 
 -- what the member `field` names is told by the other members too
-pub same_field : {F : Type 0} {order : ℕ} (modular : Modular F order) (d rest : Data) (c : Constraints F) → ArePartsOf modular d rest c → field_of d ≡ field_of rest
+pub same_field : {F : Type 0} {order : ℕ} (modular : Modular F order) (d rest : Data) {es : Result (Vec F Global) FlatError} (c : Constraints F) → ArePartsOf modular d rest es c → field_of d ≡ field_of rest
 unfolding field_of
-same_field modular d rest c parts = ap named_by (parts.others (codes "field") (λ e. absurd cc))
+same_field modular d rest c parts = ap named_by (parts.others (codes "field") (λ e. absurd cc) (λ e. absurd cc))
 
 -- what holds of all that has the parts holds of one
 pub at_parts : {A : Type 0} {P Q : Data → Type 0} (d : Data) → P d → A ⊎ ((e : Data) → P e → Q e) → A ⊎ Q d

@@ -22,10 +22,10 @@ use air_object::{FieldName, FlatInput, Parts, TextFault, field_of, input_from, p
 use p3_air::FlatAir;
 use std::alloc::Global;
 
-/// The parts of the JSON value that the bytes stand for, its constraints read as over F.
+/// The parts of the JSON value that the bytes stand for, its trace and its constraints read as over F.
 pub(crate) fn parts_from<F: PrimeField64>(alloc: Global, bytes: &[u8]) -> Result<Parts<F>, Refusal>
     ensures parts { IfOk result (λ p. (d : Data) × StandsFor bytes.now d
-        × ArePartsOf F.residues d (view p.rest) p.constraints) }
+        × ArePartsOf F.residues d (view p.rest) p.main p.constraints) }
     ensures refused { IfErr result (λ why. (why ≡ Refusal.Memory)
         ⊎ ((why ≡ Refusal.Json) × HasNoValue bytes.now)) }
 {
@@ -93,14 +93,18 @@ fn answer_parts<F: PrimeField64 + 'static>(
 ) -> Result<(u8, String), Refusal>
     requires { InPool parts.constraints }
     ensures ok { IfOk result (λ p. (d : Data)
-        → ArePartsOf F.residues d (view parts.rest) parts.constraints
+        → ArePartsOf F.residues d (view parts.rest) parts.main parts.constraints
         → AnswersIn F.residues d p.0 (string_bytes p.1)) }
     ensures refused { IfErr result (λ why. (why ≡ Refusal.Memory) ⊎ ((d : Data)
-        → ArePartsOf F.residues d (view parts.rest) parts.constraints
+        → ArePartsOf F.residues d (view parts.rest) parts.main parts.constraints
         → AnswersIn F.residues d 2 (refusal_text (name_of why)))) }
 {
-    let Parts { rest, constraints } = parts;
-    let input = input_from(alloc, &rest, constraints)?;
+    let Parts {
+        rest,
+        main,
+        constraints,
+    } = parts;
+    let input = input_from(alloc, &rest, main, constraints)?;
     let findings = audit_input(alloc, input)?;
     told(alloc, &findings)
 }

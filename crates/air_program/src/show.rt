@@ -71,6 +71,7 @@ fn show_parts<F: PrimeField64>(alloc: Global, parts: Parts<F>) -> Result<(u8, St
 {
     let Parts {
         rest: _,
+        main: _,
         constraints,
     } = parts;
     show_constraints(alloc, constraints)

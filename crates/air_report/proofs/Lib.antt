@@ -5,3 +5,4 @@ pub mod CellsListed
 pub mod FailureLists
 pub mod OwnExtension
 pub mod EmptyLists
+pub mod GivenUp

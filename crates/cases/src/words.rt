@@ -82,17 +82,16 @@ pub fn extension_of<F: Field, EF: ExtensionField<F>>(
     }
 }
 
-/// An element of an extension, by its coefficients, which commas separate.
+/// An element of an extension, by its coefficients, which commas separate, or dots.
 pub fn listed_extension<F: Field, EF: ExtensionField<F>>(
     alloc: Global,
     word: &str,
 ) -> Result<EF, Fault> {
-    let all: Vec<F> = listed_elements(alloc, word)?;
-    if all.len() == EF::DIMENSION {
-        Ok(EF::from_basis_coefficients(all.as_slice()))
-    } else {
-        Err(Fault::Unreadable(Why::OtherDimension))
+    let mut parts = Vec::new(alloc);
+    for part in word.split(if word.contains('.') { '.' } else { ',' }) {
+        parts.push(part)?;
     }
+    extension_of::<F, EF>(alloc, parts.as_slice())
 }
 
 /// The JSON value of a word.

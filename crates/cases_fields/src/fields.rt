@@ -6,22 +6,38 @@ use cases::words::{count_of, element_of, listed_extension, number_of, show_eleme
 use cases::{Fault, Why};
 use std::alloc::Global;
 
-// The element that a call answers.
-fn field_element<F: PrimeField64>(call: &[&str]) -> Result<F, Fault> {
+// The element that a call on two elements answers.
+fn field_of_two<F: PrimeField64>(word: &str, x: &str, y: &str) -> Result<F, Fault> {
+    let x: F = element_of(x)?;
+    let y: F = element_of(y)?;
+    match word {
+        "add" => Ok(x.add(y)),
+        "sub" => Ok(x.sub(y)),
+        _ => Ok(x.mul(y)),
+    }
+}
+
+// The element that a call without elements is.
+fn field_constant<F: PrimeField64>(call: &[&str]) -> Result<F, Fault> {
     match call {
         ["ZERO"] => Ok(F::ZERO),
         ["ONE"] => Ok(F::ONE),
         ["TWO"] => Ok(F::TWO),
         ["NEG_ONE"] => Ok(F::NEG_ONE),
-        ["from_u64", n] => Ok(F::from_u64(number_of(*n)?)),
         ["from_bool", "true"] => Ok(F::from_bool(true)),
         ["from_bool", "false"] => Ok(F::from_bool(false)),
-        ["add", x, y] => Ok(element_of::<F>(*x)?.add(element_of(*y)?)),
-        ["sub", x, y] => Ok(element_of::<F>(*x)?.sub(element_of(*y)?)),
-        ["mul", x, y] => Ok(element_of::<F>(*x)?.mul(element_of(*y)?)),
+        _ => Err(Fault::Unreadable(Why::NoSuchCall)),
+    }
+}
+
+// The element that a call answers.
+fn field_element<F: PrimeField64>(call: &[&str]) -> Result<F, Fault> {
+    match call {
+        ["from_u64", n] => element_of(*n),
+        [word @ ("add" | "sub" | "mul"), x, y] => field_of_two(*word, *x, *y),
         ["neg", x] => Ok(element_of::<F>(*x)?.neg()),
         ["power_of", x, k] => Ok(power_of(element_of(*x)?, number_of(*k)?)),
-        _ => Err(Fault::Unreadable(Why::NoSuchCall)),
+        _ => field_constant(call),
     }
 }
 
@@ -41,6 +57,22 @@ pub fn field<F: PrimeField64>(call: &[&str], text: &mut String) -> Result<(), Fa
     Ok(())
 }
 
+// The element that a call on two elements of an extension answers.
+fn extension_of_two<F: PrimeField64, EF: DomainExtension<F>>(
+    alloc: Global,
+    word: &str,
+    x: &str,
+    y: &str,
+) -> Result<EF, Fault> {
+    let x: EF = listed_extension::<F, EF>(alloc, x)?;
+    let y: EF = listed_extension::<F, EF>(alloc, y)?;
+    match word {
+        "add" => Ok(x.add(y)),
+        "sub" => Ok(x.sub(y)),
+        _ => Ok(x.mul(y)),
+    }
+}
+
 // The element that a call of an extension answers.
 fn extension_element<F: PrimeField64, EF: DomainExtension<F>>(
     alloc: Global,
@@ -51,18 +83,40 @@ fn extension_element<F: PrimeField64, EF: DomainExtension<F>>(
         ["one"] => Ok(EF::one()),
         ["from_base", x] => Ok(EF::from_base(element_of(*x)?)),
         ["neg", x] => Ok(listed_extension::<F, EF>(alloc, *x)?.neg()),
-        [operation, x, y] => {
-            let x: EF = listed_extension(alloc, *x)?;
-            let y: EF = listed_extension(alloc, *y)?;
-            match *operation {
-                "add" => Ok(x.add(y)),
-                "sub" => Ok(x.sub(y)),
-                "mul" => Ok(x.mul(y)),
-                _ => Err(Fault::Unreadable(Why::NoSuchCall)),
-            }
+        [word @ ("add" | "sub" | "mul"), x, y] => {
+            extension_of_two::<F, EF>(alloc, *word, *x, *y)
         }
         _ => Err(Fault::Unreadable(Why::NoSuchCall)),
     }
+}
+
+// Adds the inverse of an element, if it has one.
+fn show_inverse<F: PrimeField64, EF: DomainExtension<F>>(
+    alloc: Global,
+    x: &str,
+    text: &mut String,
+) -> Result<(), Fault> {
+    match listed_extension::<F, EF>(alloc, x)?.try_inverse() {
+        Some(inverse) => show_elements(inverse.as_basis_coefficients_slice(), text),
+        None => {
+            text.push_str("None")?;
+            Ok(())
+        }
+    }
+}
+
+// Adds the powers of an element from 0 on.
+fn show_powers<F: PrimeField64, EF: DomainExtension<F>>(
+    alloc: Global,
+    x: &str,
+    count: &str,
+    text: &mut String,
+) -> Result<(), Fault> {
+    let x: EF = listed_extension::<F, EF>(alloc, x)?;
+    for power in &x.powers(alloc, count_of(count)?)? {
+        show_elements(power.as_basis_coefficients_slice(), text)?;
+    }
+    Ok(())
 }
 
 /// Adds the coefficients that a call of an extension answers.
@@ -75,25 +129,18 @@ pub fn extension<F: PrimeField64, EF: DomainExtension<F>>(
         ["DIMENSION"] => {
             let dimension = EF::DIMENSION;
             write!(text, "{dimension}")?;
+            Ok(())
         }
         ["is_in_basefield", x] => {
             let inside = listed_extension::<F, EF>(alloc, *x)?.is_in_basefield();
             write!(text, "{inside}")?;
+            Ok(())
         }
-        ["try_inverse", x] => match listed_extension::<F, EF>(alloc, *x)?.try_inverse() {
-            Some(inverse) => show_elements(inverse.as_basis_coefficients_slice(), text)?,
-            None => text.push_str("None")?,
-        },
-        ["powers", x, k] => {
-            let x: EF = listed_extension(alloc, *x)?;
-            for power in &x.powers(alloc, count_of(*k)?)? {
-                show_elements(power.as_basis_coefficients_slice(), text)?;
-            }
-        }
+        ["try_inverse", x] => show_inverse::<F, EF>(alloc, *x, text),
+        ["powers", x, count] => show_powers::<F, EF>(alloc, *x, *count, text),
         _ => {
-            let x: EF = extension_element(alloc, call)?;
-            show_elements(x.as_basis_coefficients_slice(), text)?;
+            let x: EF = extension_element::<F, EF>(alloc, call)?;
+            show_elements(x.as_basis_coefficients_slice(), text)
         }
     }
-    Ok(())
 }

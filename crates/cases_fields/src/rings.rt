@@ -2,28 +2,70 @@
 
 use air_field::{
     Algebra, ExtAlgebra, ExtFieldRing, ExtensionField, Field, FieldRing, FromVar, PrimeField64,
+    RingError,
 };
 use cases::words::{element_of, elements_of, listed_extension, number_of, show_elements};
 use cases::{Fault, Why};
 use std::alloc::Global;
 
+// What the field's ring makes of one element. (Few calls a function, at the ends of arms: a long one is dear to prove.)
+fn of_one<F: Field>(word: &str, x: F) -> Result<F, RingError> {
+    let mut ring = FieldRing::<F>::new();
+    match word {
+        "constant" => ring.constant(x),
+        "from_var" => ring.from_var(x),
+        "neg" => ring.neg(x),
+        "double" => ring.double(x),
+        _ => ring.bool_check(x),
+    }
+}
+
+// What the field's ring makes of two elements.
+fn of_two<F: Field>(word: &str, x: F, y: F) -> Result<F, RingError> {
+    let mut ring = FieldRing::<F>::new();
+    match word {
+        "add" => ring.add(x, y),
+        "sub" => ring.sub(x, y),
+        "mul" => ring.mul(x, y),
+        "xor" => ring.xor(x, y),
+        _ => ring.andn(x, y),
+    }
+}
+
+fn made_of_one<F: Field>(word: &str, x: &str) -> Result<F, Fault> {
+    Ok(of_one(word, element_of::<F>(x)?)?)
+}
+
+fn made_of_two<F: Field>(word: &str, x: &str, y: &str) -> Result<F, Fault> {
+    let x: F = element_of(x)?;
+    Ok(of_two(word, x, element_of(y)?)?)
+}
+
+fn doubled<F: Field>(x: &str, power: &str) -> Result<F, Fault> {
+    let x: F = element_of(x)?;
+    Ok(FieldRing::<F>::new().mul_2exp_u64(x, number_of(power)?)?)
+}
+
+// The sum or the product of elements.
+fn joined<F: Field>(alloc: Global, word: &str, all: &[&str]) -> Result<F, Fault> {
+    let all: Vec<F> = elements_of(alloc, all)?;
+    let mut ring = FieldRing::<F>::new();
+    match word {
+        "sum" => Ok(ring.sum(all.as_slice())?),
+        _ => Ok(ring.product(all.as_slice())?),
+    }
+}
+
 // The element that a call of the field's ring answers.
 fn made<F: Field>(alloc: Global, call: &[&str]) -> Result<F, Fault> {
-    let mut ring = FieldRing::<F>::new();
     match call {
-        ["sum", all @ ..] => Ok(ring.sum(elements_of(alloc, all)?.as_slice())?),
-        ["product", all @ ..] => Ok(ring.product(elements_of(alloc, all)?.as_slice())?),
-        ["constant", x] => Ok(ring.constant(element_of(*x)?)?),
-        ["from_var", x] => Ok(ring.from_var(element_of::<F>(*x)?)?),
-        ["neg", x] => Ok(ring.neg(element_of(*x)?)?),
-        ["double", x] => Ok(ring.double(element_of(*x)?)?),
-        ["bool_check", x] => Ok(ring.bool_check(element_of(*x)?)?),
-        ["add", x, y] => Ok(ring.add(element_of(*x)?, element_of(*y)?)?),
-        ["sub", x, y] => Ok(ring.sub(element_of(*x)?, element_of(*y)?)?),
-        ["mul", x, y] => Ok(ring.mul(element_of(*x)?, element_of(*y)?)?),
-        ["xor", x, y] => Ok(ring.xor(element_of(*x)?, element_of(*y)?)?),
-        ["andn", x, y] => Ok(ring.andn(element_of(*x)?, element_of(*y)?)?),
-        ["mul_2exp_u64", x, k] => Ok(ring.mul_2exp_u64(element_of(*x)?, number_of(*k)?)?),
+        [word @ ("sum" | "product"), all @ ..] => joined(alloc, *word, all),
+        ["mul_2exp_u64", x, power] => doubled(*x, *power),
+        [
+            word @ ("constant" | "from_var" | "neg" | "double" | "bool_check"),
+            x,
+        ] => { made_of_one(*word, *x) }
+        [word @ ("add" | "sub" | "mul" | "xor" | "andn"), x, y] => made_of_two(*word, *x, *y),
         _ => Err(Fault::Unreadable(Why::NoSuchCall)),
     }
 }
@@ -46,32 +88,73 @@ fn all_of<F: Field, EF: ExtensionField<F>>(
 ) -> Result<Vec<EF>, Fault> {
     let mut all = Vec::new(alloc);
     for word in words {
-        all.push(listed_extension(alloc, *word)?)?;
+        all.push(listed_extension::<F, EF>(alloc, *word)?)?;
     }
     Ok(all)
 }
 
+// What the extension's ring makes of two elements.
+fn over_two<F: Field, EF: ExtensionField<F>>(word: &str, x: EF, y: EF) -> Result<EF, RingError> {
+    let mut ring = ExtFieldRing::<F, EF>::new();
+    match word {
+        "add" => ring.add(x, y),
+        "sub" => ring.sub(x, y),
+        _ => ring.mul(x, y),
+    }
+}
+
+// What the extension's ring makes of one element.
+fn over_one<F: Field, EF: ExtensionField<F>>(word: &str, x: EF) -> Result<EF, RingError> {
+    let mut ring = ExtFieldRing::<F, EF>::new();
+    match word {
+        "ext_constant" => ring.ext_constant(x),
+        "from_var" => ring.from_var(x),
+        _ => ring.neg(x),
+    }
+}
+
+// What it makes of one element of the field.
+fn over_base<F: Field, EF: ExtensionField<F>>(word: &str, x: F) -> Result<EF, RingError> {
+    let mut ring = ExtFieldRing::<F, EF>::new();
+    match word {
+        "constant" => ring.constant(x),
+        _ => ring.lift(x),
+    }
+}
+
+// The sum or the product of elements of the extension.
+fn joined_over<F: Field, EF: ExtensionField<F>>(
+    alloc: Global,
+    word: &str,
+    all: &[&str],
+) -> Result<EF, Fault> {
+    let all: Vec<EF> = all_of::<F, EF>(alloc, all)?;
+    let mut ring = ExtFieldRing::<F, EF>::new();
+    match word {
+        "sum" => Ok(ring.sum(all.as_slice())?),
+        _ => Ok(ring.product(all.as_slice())?),
+    }
+}
+
+fn made_over_two<F: Field, EF: ExtensionField<F>>(
+    alloc: Global,
+    word: &str,
+    x: &str,
+    y: &str,
+) -> Result<EF, Fault> {
+    let x: EF = listed_extension::<F, EF>(alloc, x)?;
+    Ok(over_two::<F, EF>(word, x, listed_extension::<F, EF>(alloc, y)?)?)
+}
+
 // The element that a call of the extension's ring answers.
 fn made_over<F: Field, EF: ExtensionField<F>>(alloc: Global, call: &[&str]) -> Result<EF, Fault> {
-    let mut ring = ExtFieldRing::<F, EF>::new();
     match call {
-        ["sum", all @ ..] => Ok(ring.sum(all_of(alloc, all)?.as_slice())?),
-        ["product", all @ ..] => Ok(ring.product(all_of(alloc, all)?.as_slice())?),
-        ["constant", x] => Ok(ring.constant(element_of(*x)?)?),
-        ["lift", x] => Ok(ring.lift(element_of(*x)?)?),
-        ["ext_constant", x] => Ok(ring.ext_constant(listed_extension(alloc, *x)?)?),
-        ["from_var", x] => Ok(ring.from_var(listed_extension(alloc, *x)?)?),
-        ["neg", x] => Ok(ring.neg(listed_extension(alloc, *x)?)?),
-        [operation, x, y] => {
-            let x = listed_extension(alloc, *x)?;
-            let y = listed_extension(alloc, *y)?;
-            match *operation {
-                "add" => Ok(ring.add(x, y)?),
-                "sub" => Ok(ring.sub(x, y)?),
-                "mul" => Ok(ring.mul(x, y)?),
-                _ => Err(Fault::Unreadable(Why::NoSuchCall)),
-            }
+        [word @ ("sum" | "product"), all @ ..] => joined_over::<F, EF>(alloc, *word, all),
+        [word @ ("constant" | "lift"), x] => Ok(over_base::<F, EF>(*word, element_of(*x)?)?),
+        [word @ ("ext_constant" | "from_var" | "neg"), x] => {
+            Ok(over_one::<F, EF>(*word, listed_extension::<F, EF>(alloc, *x)?)?)
         }
+        [word @ ("add" | "sub" | "mul"), x, y] => made_over_two::<F, EF>(alloc, *word, *x, *y),
         _ => Err(Fault::Unreadable(Why::NoSuchCall)),
     }
 }
@@ -82,6 +165,6 @@ pub fn ext_field_ring<F: PrimeField64, EF: ExtensionField<F>>(
     call: &[&str],
     text: &mut String,
 ) -> Result<(), Fault> {
-    let x: EF = made_over(alloc, call)?;
+    let x: EF = made_over::<F, EF>(alloc, call)?;
     show_elements(x.as_basis_coefficients_slice(), text)
 }

@@ -7,20 +7,31 @@ use air_symbolic::{BaseEntry, BaseLeaf, ExprId, SymbolicVariable};
 use cases::words::{Number, count_of, element_of};
 use cases::{Fault, Line, Names, Why};
 
-/// A base variable: `Main OFFSET INDEX`, `Preprocessed OFFSET INDEX`, `Periodic INDEX` or `Public INDEX`.
-pub fn base_variable<F: Field>(words: &[&str]) -> Result<SymbolicVariable<F>, Fault> {
+// A base entry: `Main OFFSET`, `Preprocessed OFFSET`, `Periodic` or `Public`.
+fn base_entry(words: &[&str]) -> Result<BaseEntry, Fault> {
     match words {
-        ["Main", offset, index] => {
+        ["Periodic"] => Ok(BaseEntry::Periodic),
+        ["Public"] => Ok(BaseEntry::Public),
+        [window, offset] => {
             let offset = count_of(*offset)?;
-            Ok(SymbolicVariable::new(BaseEntry::Main { offset }, count_of(*index)?))
+            match *window {
+                "Main" => Ok(BaseEntry::Main { offset }),
+                "Preprocessed" => Ok(BaseEntry::Preprocessed { offset }),
+                _ => Err(Fault::Unreadable(Why::NoSuchWord)),
+            }
         }
-        ["Preprocessed", offset, index] => {
-            let offset = count_of(*offset)?;
-            Ok(SymbolicVariable::new(BaseEntry::Preprocessed { offset }, count_of(*index)?))
-        }
-        ["Periodic", index] => { Ok(SymbolicVariable::new(BaseEntry::Periodic, count_of(*index)?)) }
-        ["Public", index] => Ok(SymbolicVariable::new(BaseEntry::Public, count_of(*index)?)),
         _ => Err(Fault::Unreadable(Why::NoSuchWord)),
+    }
+}
+
+/// A base variable: an entry and an index.
+pub fn base_variable<F: Field>(words: &[&str]) -> Result<SymbolicVariable<F>, Fault> {
+    match words.split_last() {
+        Some((index, entry)) => {
+            let entry = base_entry(entry)?;
+            Ok(SymbolicVariable::new(entry, count_of(*index)?))
+        }
+        None => Err(Fault::Unreadable(Why::NoSuchWord)),
     }
 }
 
@@ -70,6 +81,21 @@ impl<F: Number> Shown for BaseLeaf<F> {
     }
 }
 
+impl<'a, F: Number> PoolBench<'a, BaseLeaf<F>> {
+    fn push_variable(&mut self, variable: &[&str]) -> Result<ExprId<BaseLeaf<F>>, Fault> {
+        let variable = base_variable(variable)?;
+        Ok(self.pool.variable(variable)?)
+    }
+
+    fn push_leaf(&mut self, word: &str, leaf: &[&str]) -> Result<ExprId<BaseLeaf<F>>, Fault> {
+        let leaf = base_leaf(leaf)?;
+        match word {
+            "leaf" => Ok(self.pool.leaf(leaf)?),
+            _ => Ok(self.pool.leaf_expr(leaf)?),
+        }
+    }
+}
+
 impl<F: Number> TableLeaf for BaseLeaf<F> {
     fn answer<'a>(
         bench: &mut PoolBench<'a, Self>,
@@ -77,9 +103,8 @@ impl<F: Number> TableLeaf for BaseLeaf<F> {
         text: &mut String,
     ) -> Result<bool, Fault> {
         let x = match line.words.as_slice() {
-            ["leaf", leaf @ ..] => bench.pool.leaf(base_leaf(leaf)?)?,
-            ["leaf_expr", leaf @ ..] => bench.pool.leaf_expr(base_leaf(leaf)?)?,
-            ["variable", variable @ ..] => bench.pool.variable(base_variable(variable)?)?,
+            ["variable", variable @ ..] => bench.push_variable(variable)?,
+            [word @ ("leaf" | "leaf_expr"), leaf @ ..] => bench.push_leaf(*word, leaf)?,
             _ => return Ok(false),
         };
         bench.keep(line, x, text)?;

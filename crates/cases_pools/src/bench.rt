@@ -5,7 +5,7 @@ ghost use Rattle.std.specs.Prelude.{◌<◌, length, IsTrue, All, IfOk};
 use crate::known_leaves::show_known;
 use crate::shown::{Shown, show_all, show_expression};
 use crate::spellings::answer_alone;
-use air_field::{Algebra, Field};
+use air_field::{Algebra, Field, RingError};
 use air_symbolic::{BaseLeaf, ExprId, ExprPool, LeafWeight, SymLeaf};
 use air_wire::{WireLeaf, from_flat_value, to_flat_value};
 use cases::words::{count_of, counts_of, number_of, value_of};
@@ -88,92 +88,139 @@ impl<'a, A: SymLeaf> PoolBench<'a, A> {
         }
     }
 
-    // An operation on one expression.
-    fn operate(&mut self, word: &str, x: ExprId<A>) -> Result<ExprId<A>, Fault>
+    // An operation on one expression. (A call at the end of an arm costs the least proof: each `?` has three.)
+    fn operate(&mut self, word: &str, x: ExprId<A>) -> Result<ExprId<A>, RingError>
         requires { x < length self.old.1 }
     {
         match word {
-            "neg" => Ok(self.pool.neg(x)?),
-            "double" => Ok(self.pool.double(x)?),
-            "bool_check" => Ok(self.pool.bool_check(x)?),
-            "insert_neg" => Ok(self.pool.insert_neg(x)?),
-            _ => Err(Fault::Unreadable(Why::NoSuchCall)),
+            "neg" => self.pool.neg(x),
+            "double" => self.pool.double(x),
+            "bool_check" => self.pool.bool_check(x),
+            _ => self.pool.insert_neg(x),
         }
     }
 
-    // An operation on two.
-    fn operate_on_two(&mut self, word: &str, x: ExprId<A>, y: ExprId<A>) -> Result<ExprId<A>, Fault>
+    // An operation on two that folds.
+    fn fold_two(&mut self, word: &str, x: ExprId<A>, y: ExprId<A>) -> Result<ExprId<A>, RingError>
         requires x_in { x < length self.old.1 }
         requires y_in { y < length self.old.1 }
     {
         match word {
-            "add" => Ok(self.pool.add(x, y)?),
-            "sub" => Ok(self.pool.sub(x, y)?),
-            "mul" => Ok(self.pool.mul(x, y)?),
-            "xor" => Ok(self.pool.xor(x, y)?),
-            "andn" => Ok(self.pool.andn(x, y)?),
-            "insert_add" => Ok(self.pool.insert_add(x, y)?),
-            "insert_sub" => Ok(self.pool.insert_sub(x, y)?),
-            "insert_mul" => Ok(self.pool.insert_mul(x, y)?),
-            _ => Err(Fault::Unreadable(Why::NoSuchCall)),
+            "add" => self.pool.add(x, y),
+            "sub" => self.pool.sub(x, y),
+            "mul" => self.pool.mul(x, y),
+            "xor" => self.pool.xor(x, y),
+            _ => self.pool.andn(x, y),
         }
+    }
+
+    // An operation on two that doesn't.
+    fn insert_two(&mut self, word: &str, x: ExprId<A>, y: ExprId<A>) -> Result<ExprId<A>, RingError>
+        requires x_in { x < length self.old.1 }
+        requires y_in { y < length self.old.1 }
+    {
+        match word {
+            "insert_add" => self.pool.insert_add(x, y),
+            "insert_sub" => self.pool.insert_sub(x, y),
+            _ => self.pool.insert_mul(x, y),
+        }
+    }
+
+    // What an operation on one makes.
+    fn made_of_one(&mut self, word: &str, x: &str) -> Result<ExprId<A>, Fault> {
+        let x = self.at(x)?;
+        Ok(self.operate(word, x)?)
+    }
+
+    // What an operation on two makes.
+    fn made_of_two(&mut self, word: &str, x: &str, y: &str) -> Result<ExprId<A>, Fault> {
+        let x = self.at(x)?;
+        let y = self.at(y)?;
+        match word {
+            "add" | "sub" | "mul" | "xor" | "andn" => Ok(self.fold_two(word, x, y)?),
+            _ => Ok(self.insert_two(word, x, y)?),
+        }
+    }
+
+    // The sum or the product of some.
+    fn joined(&mut self, word: &str, names: &[&str]) -> Result<ExprId<A>, Fault> {
+        let all = self.all_at(names)?;
+        match word {
+            "sum" => Ok(self.pool.sum(all.as_slice())?),
+            _ => Ok(self.pool.product(all.as_slice())?),
+        }
+    }
+
+    fn constant(&mut self, c: &str) -> Result<ExprId<A>, Fault> {
+        let c = A::F::from_u64(number_of(c)?);
+        Ok(self.pool.constant(c)?)
+    }
+
+    fn doubled(&mut self, x: &str, power: &str) -> Result<ExprId<A>, Fault> {
+        let x = self.at(x)?;
+        Ok(self.pool.mul_2exp_u64(x, number_of(power)?)?)
     }
 
     // The expression that an operation makes.
     fn made(&mut self, words: &[&str]) -> Result<ExprId<A>, Fault> {
         match words {
             ["zero"] => Ok(self.pool.zero()?),
-            ["constant", c] => {
-                let c = A::F::from_u64(number_of(*c)?);
-                Ok(self.pool.constant(c)?)
+            ["constant", c] => self.constant(*c),
+            [word @ ("sum" | "product"), names @ ..] => self.joined(*word, names),
+            ["mul_2exp_u64", x, power] => self.doubled(*x, *power),
+            [word @ ("neg" | "double" | "bool_check" | "insert_neg"), x] => {
+                self.made_of_one(*word, *x)
             }
-            ["sum", names @ ..] => {
-                let all = self.all_at(names)?;
-                Ok(self.pool.sum(all.as_slice())?)
-            }
-            ["product", names @ ..] => {
-                let all = self.all_at(names)?;
-                Ok(self.pool.product(all.as_slice())?)
-            }
-            ["mul_2exp_u64", x, power] => {
-                let x = self.at(*x)?;
-                let power = number_of(*power)?;
-                Ok(self.pool.mul_2exp_u64(x, power)?)
-            }
-            [word, x] => {
-                let x = self.at(*x)?;
-                self.operate(*word, x)
-            }
-            [word, x, y] => {
-                let x = self.at(*x)?;
-                let y = self.at(*y)?;
-                self.operate_on_two(*word, x, y)
-            }
+            [
+                word @ ("add"
+                | "sub"
+                | "mul"
+                | "xor"
+                | "andn"
+                | "insert_add"
+                | "insert_sub"
+                | "insert_mul"),
+                x,
+                y,
+            ] => self.made_of_two(*word, *x, *y),
             _ => Err(Fault::Unreadable(Why::NoSuchCall)),
         }
     }
 
-    // The number that a call answers, if it answers one.
-    fn count(&self, words: &[&str]) -> Result<Option<usize>, Fault> {
+    // The degree of an expression by rows.
+    fn poly_degree(&self, x: &str, rows: &str, periods: &str) -> Result<usize, Fault> {
+        let x = self.at(x)?;
+        let rows = count_of(rows)?;
+        let periods = counts_of(self.names.alloc(), periods)?;
+        Ok(self.pool.poly_degree(x, rows, periods.as_slice())?)
+    }
+
+    // The degree of an expression by a weight of the transition selector.
+    fn weighted_degree(&self, x: &str, weight: &str) -> Result<usize, Fault> {
+        let x = self.at(x)?;
+        Ok(
+            self.pool
+                .degree_multiple_with_transition(x, count_of(weight)?)?,
+        )
+    }
+
+    // The number that a call on one expression answers.
+    fn count_of_one(&self, word: &str, x: &str) -> Result<usize, Fault> {
+        let x = self.at(x)?;
+        match word {
+            "number" => Ok(x.number()),
+            _ => Ok(self.pool.degree_multiple(x)),
+        }
+    }
+
+    // The number that a call answers.
+    fn count(&self, words: &[&str]) -> Result<usize, Fault> {
         match words {
-            ["len"] => Ok(Some(self.pool.len())),
-            ["number", x] => Ok(Some(self.at(*x)?.number())),
-            ["degree_multiple", x] => {
-                let x = self.at(*x)?;
-                Ok(Some(self.pool.degree_multiple(x)))
-            }
-            ["degree_multiple_with_transition", x, weight] => {
-                let x = self.at(*x)?;
-                let weight = count_of(*weight)?;
-                Ok(Some(self.pool.degree_multiple_with_transition(x, weight)?))
-            }
-            ["poly_degree", x, rows, periods] => {
-                let x = self.at(*x)?;
-                let rows = count_of(*rows)?;
-                let periods = counts_of(self.names.alloc(), *periods)?;
-                Ok(Some(self.pool.poly_degree(x, rows, periods.as_slice())?))
-            }
-            _ => Ok(None),
+            ["len"] => Ok(self.pool.len()),
+            [word @ ("number" | "degree_multiple"), x] => self.count_of_one(*word, *x),
+            ["degree_multiple_with_transition", x, weight] => self.weighted_degree(*x, *weight),
+            ["poly_degree", x, rows, periods] => self.poly_degree(*x, *rows, *periods),
+            _ => Err(Fault::Unreadable(Why::NoSuchCall)),
         }
     }
 
@@ -252,20 +299,55 @@ impl<'a, A: Shown + WireLeaf> PoolBench<'a, A> {
         Ok(())
     }
 
-    // Adds what a call sees of the pool, if the words are one that makes nothing.
-    fn seen(&self, words: &[&str], text: &mut String) -> Result<bool, Fault> {
-        if let Some(count) = self.count(words)? {
-            write!(text, "{count}")?;
-            return Ok(true);
-        }
+    // Adds the number that a call answers.
+    fn show_count(&self, words: &[&str], text: &mut String) -> Result<(), Fault> {
+        let count = self.count(words)?;
+        write!(text, "{count}")?;
+        Ok(())
+    }
+
+    // Adds what a call sees that makes nothing.
+    fn see(&self, words: &[&str], text: &mut String) -> Result<(), Fault> {
         match words {
-            ["as_const", x] => self.show_const(*x, text)?,
-            ["degrees", words @ ..] => self.weigh(words, text)?,
-            ["to_flat_value", x] => self.show_written(*x, text)?,
-            ["known_leaf", known] => show_known::<A>(self.names.alloc(), *known, text)?,
-            _ => return answer_alone(self.names.alloc(), words, text),
+            ["as_const", x] => self.show_const(*x, text),
+            ["degrees", words @ ..] => self.weigh(words, text),
+            ["to_flat_value", x] => self.show_written(*x, text),
+            ["known_leaf", known] => show_known::<A>(self.names.alloc(), *known, text),
+            ["spelling" | "variable_degrees" | "ext_variable_degrees", ..] => {
+                answer_alone(self.names.alloc(), words, text)
+            }
+            _ => self.show_count(words, text),
         }
-        Ok(true)
+    }
+}
+
+// Whether a call makes nothing.
+fn makes_nothing(call: &str) -> bool {
+    match call {
+        "len"
+        | "number"
+        | "degree_multiple"
+        | "degree_multiple_with_transition"
+        | "poly_degree"
+        | "as_const"
+        | "degrees"
+        | "to_flat_value"
+        | "known_leaf"
+        | "spelling"
+        | "variable_degrees"
+        | "ext_variable_degrees" => true,
+        _ => false,
+    }
+}
+
+impl<'a, A: TableLeaf + WireLeaf> PoolBench<'a, A> {
+    // Adds what a call makes, and gives it the line's name.
+    fn make(&mut self, line: &Line<'a>, text: &mut String) -> Result<(), Fault> {
+        let x = match line.words.as_slice() {
+            ["from_flat_value", list] => self.read(*list)?,
+            words => self.made(words)?,
+        };
+        self.keep(line, x, text)
     }
 }
 
@@ -282,18 +364,12 @@ impl<'a, A: TableLeaf + WireLeaf> Bench<'a> for PoolBench<'a, A> {
         if A::answer(self, line, text)? {
             return Ok(());
         }
-        let words = line.words.as_slice();
-        if self.seen(words, text)? {
-            return match line.name {
-                None => Ok(()),
-                Some(_) => Err(Fault::Unreadable(Why::MakesNothing)),
-            };
+        match line.words.as_slice() {
+            [call, ..] if line.name.is_none() && makes_nothing(*call) => {
+                self.see(line.words.as_slice(), text)
+            }
+            _ => self.make(line, text),
         }
-        let x = match words {
-            ["from_flat_value", list] => self.read(*list)?,
-            _ => self.made(words)?,
-        };
-        self.keep(line, x, text)
     }
 
     fn standing(&self, text: &mut String) -> Result<(), Fault> {

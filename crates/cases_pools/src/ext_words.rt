@@ -9,23 +9,29 @@ use air_symbolic::{BaseLeaf, ExprId, ExtEntry, ExtLeaf, SymbolicVariableExt};
 use cases::words::{Number, count_of, extension_of, show_elements};
 use cases::{Fault, Line, Names, Why};
 
-/// An extension variable: `Permutation OFFSET INDEX`, `Challenge INDEX` or `PermutationValue INDEX`.
+// An extension entry: `Permutation OFFSET`, `Challenge` or `PermutationValue`.
+fn ext_entry(words: &[&str]) -> Result<ExtEntry, Fault> {
+    match words {
+        ["Challenge"] => Ok(ExtEntry::Challenge),
+        ["PermutationValue"] => Ok(ExtEntry::PermutationValue),
+        ["Permutation", offset] => {
+            let offset = count_of(*offset)?;
+            Ok(ExtEntry::Permutation { offset })
+        }
+        _ => Err(Fault::Unreadable(Why::NoSuchWord)),
+    }
+}
+
+/// An extension variable: an entry and an index.
 pub fn ext_variable<F: Field, EF: ExtensionField<F>>(
     words: &[&str],
 ) -> Result<SymbolicVariableExt<F, EF>, Fault> {
-    match words {
-        ["Permutation", offset, index] => {
-            let offset = count_of(*offset)?;
-            let index = count_of(*index)?;
-            Ok(SymbolicVariableExt::new(ExtEntry::Permutation { offset }, index))
+    match words.split_last() {
+        Some((index, entry)) => {
+            let entry = ext_entry(entry)?;
+            Ok(SymbolicVariableExt::new(entry, count_of(*index)?))
         }
-        ["Challenge", index] => {
-            Ok(SymbolicVariableExt::new(ExtEntry::Challenge, count_of(*index)?))
-        }
-        ["PermutationValue", index] => {
-            Ok(SymbolicVariableExt::new(ExtEntry::PermutationValue, count_of(*index)?))
-        }
-        _ => Err(Fault::Unreadable(Why::NoSuchWord)),
+        None => Err(Fault::Unreadable(Why::NoSuchWord)),
     }
 }
 
@@ -138,6 +144,21 @@ impl<'a, F: Number, EF: ExtensionField<F>> PoolBench<'a, ExtLeaf<F, EF>> {
         }
     }
 
+    fn push_variable(&mut self, variable: &[&str]) -> Result<ExprId<ExtLeaf<F, EF>>, Fault> {
+        let variable = ext_variable(variable)?;
+        Ok(self.pool.variable(variable)?)
+    }
+
+    fn push_constant(&mut self, coefficients: &[&str]) -> Result<ExprId<ExtLeaf<F, EF>>, Fault> {
+        let c = extension_of(self.names.alloc(), coefficients)?;
+        Ok(self.pool.ext_constant(c)?)
+    }
+
+    fn lifted(&mut self, x: &str) -> Result<ExprId<ExtLeaf<F, EF>>, Fault> {
+        let x = self.base_at(x)?;
+        Ok(self.pool.lift(x)?)
+    }
+
     // Answers a call that makes no extension expression, if the line is one.
     fn answer_in_base(&mut self, line: &Line<'a>, text: &mut String) -> Result<bool, Fault> {
         match line.words.as_slice() {
@@ -181,15 +202,9 @@ impl<F: Number, EF: ExtensionField<F>> TableLeaf for ExtLeaf<F, EF> {
         text: &mut String,
     ) -> Result<bool, Fault> {
         let x = match line.words.as_slice() {
-            ["variable", variable @ ..] => bench.pool.variable(ext_variable(variable)?)?,
-            ["ext_constant", coefficients @ ..] => {
-                let c = extension_of(bench.names.alloc(), coefficients)?;
-                bench.pool.ext_constant(c)?
-            }
-            ["lift", x] => {
-                let x = bench.base_at(*x)?;
-                bench.pool.lift(x)?
-            }
+            ["variable", variable @ ..] => bench.push_variable(variable)?,
+            ["ext_constant", coefficients @ ..] => bench.push_constant(coefficients)?,
+            ["lift", x] => bench.lifted(*x)?,
             _ => return bench.answer_in_base(line, text),
         };
         bench.keep(line, x, text)?;

@@ -68,15 +68,14 @@ fn show_ext_degrees(rows: &str, words: &[&str], text: &mut String) -> Result<(),
     Ok(())
 }
 
-/// Adds what a call answers that needs no pool, if the words are one.
-pub fn answer_alone(alloc: Global, words: &[&str], text: &mut String) -> Result<bool, Fault> {
+/// Adds what a call answers that needs no pool.
+pub fn answer_alone(alloc: Global, words: &[&str], text: &mut String) -> Result<(), Fault> {
     match words {
-        ["spelling", kind, word] => show_spelling(alloc, *kind, *word, text)?,
+        ["spelling", kind, word] => show_spelling(alloc, *kind, *word, text),
         ["variable_degrees", rows, periods, variable @ ..] => {
-            show_base_degrees(alloc, *rows, *periods, variable, text)?
+            show_base_degrees(alloc, *rows, *periods, variable, text)
         }
-        ["ext_variable_degrees", rows, variable @ ..] => show_ext_degrees(*rows, variable, text)?,
-        _ => return Ok(false),
+        ["ext_variable_degrees", rows, variable @ ..] => show_ext_degrees(*rows, variable, text),
+        _ => Err(Fault::Unreadable(Why::NoSuchCall)),
     }
-    Ok(true)
 }

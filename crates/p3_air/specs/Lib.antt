@@ -13,9 +13,10 @@ pub use Rattle.air_gadgets.specs.Gadgets
 pub use Rattle.air_author.specs.Expressions
 pub use Rattle.air_author.specs.Constraints
 pub use Rattle.air_author.specs.Kinds
-pub use Rattle.air_author.specs.BitTerms
-pub use Rattle.air_author.specs.WordTerms
-pub use Rattle.air_author.specs.XorTerms
+pub use Rattle.air_author.specs.Moved
+pub use Rattle.air_words.specs.BitTerms
+pub use Rattle.air_words.specs.WordTerms
+pub use Rattle.air_words.specs.XorTerms
 pub use Rattle.air_report.specs.Report
 pub use Rattle.air_laws.specs.Numbers
 pub mod Author
@@ -27,4 +28,5 @@ pub use Rattle.air_builder.specs.Builders
 pub mod Plans
 pub mod Tables
 pub mod FlatAirs
+pub mod PermutationRows
 pub mod laws

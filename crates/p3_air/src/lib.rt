@@ -1,17 +1,42 @@
 //! The constraint crate: AIRs recorded as symbolic expressions, and evaluated on concrete rows.
 //!
-//! An AIR implements [`BaseAir`] and [`Air`]; [`get_all_symbolic_constraints`] records it, [`check_all_constraints`]
-//! checks a trace of it, and [`get_max_constraint_degree`] infers its degree. [`audit_air`] does all three: what it
-//! recorded is what it tested. Constraints as values stand in [`author`], the recorded expressions and their JSON
-//! values in [`symbolic`], bits and words in [`utils`]. An AIR from outside, made of expressions of a pool, is a
-//! [`FlatAir`]; [`resolve`] works one such expression out in any builder, and [`recorded_air`] makes such an AIR of a
-//! recording. What users need of the crates below is passed on here, their laws in [`laws`].
+//! An AIR is written once, as values that are its constraints, and audited on a trace:
+//!
+//!     impl<AB: AirBuilder> PlainConstraints<AB> for Counter {
+//!         fn eval(&self, builder: &mut AB) -> Result<(), AirError> {
+//!             let (bit, count) = (current(0), current(1));
+//!             let rises = When(Transition, next(1).equals(count + bit));
+//!             assert_all(builder, &(Boolean(bit), When(FirstRow, Zero(count)), rises))
+//!         }
+//!     }
+//!
+//!     let trace = trace_of_rows(alloc, &[[1, 0], [0, 1], [1, 1], [0, 2]])?;
+//!     let audit = audit_air(alloc, &Plain(Counter {}), &trace, &[], 0)?;
+//!
+//! Where that is Ok, and the report lists nothing, each constraint that `Counter` declares is zero at each row.
+//!
+//! To
+//! - write an AIR: [`author`], and [`utils`] for bits and words against the builder's calls; with tables beside the
+//!   trace, [`BaseAir`] and [`Air`];
+//! - make a trace: [`trace_of_rows`], [`with_bits`], [`RowMajorMatrix`];
+//! - check a trace: [`check_constraints`] up to the first fault, [`check_all_constraints`] to its end,
+//!   [`check_row_with_permutation`] a row with permutation data;
+//! - record an AIR: [`get_all_symbolic_constraints`], and [`recorded_air`] to make an AIR of a recording;
+//! - size the quotient: [`get_max_constraint_degree`], [`constraint_degree_from_poly_degree`];
+//! - do all three at once, so that what is recorded is what is tested: [`audit_air`];
+//! - take expressions from outside: [`symbolic`], [`to_flat_value`], [`from_flat_value`], [`FlatAir`], [`resolve`];
+//! - prove more of a trace that was checked: [`laws`].
+//!
+//! Folding with a challenge is air_folder's. What users need of the crates below is passed on here. What differs at a
+//! call from the Rust crate is in `CALLING.md`.
 #![tactic(auto)]
 
 pub mod audit;
 pub mod author;
+mod cells;
 mod flat;
 pub mod laws;
+mod permutation_rows;
 pub mod recorded_airs;
 pub mod symbolic;
 pub mod traces;
@@ -112,9 +137,12 @@ pub use air_wire::to_flat_value;
 pub use audit::Audit;
 pub use audit::audit_air;
 pub use audit::audit_air_with_cap;
+pub use cells::with_bits;
 pub use flat::flat_air::FlatAir;
 pub use flat::resolving::resolve;
 pub use flat::resolving::resolve_all;
+pub use permutation_rows::Permutation;
+pub use permutation_rows::check_row_with_permutation;
 pub use recorded_airs::finish_recording;
 pub use recorded_airs::record_these;
 pub use recorded_airs::recorded_air;

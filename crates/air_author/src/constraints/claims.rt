@@ -11,7 +11,7 @@ use crate::AirResult;
 use crate::conditions::Condition;
 use crate::constraints::Constraint;
 use crate::expressions::Expression;
-use crate::expressions::arithmetic::{BoolCheck, Difference};
+use crate::expressions::arithmetic::{BoolCheck, Less};
 use crate::expressions::constants::One;
 use air_builder::{AirBuilder, Seen};
 use air_field::Algebra;
@@ -87,7 +87,7 @@ impl<AB: AirBuilder, X: Expression<AB>> Claim<AB> for IsOne<X> {
 
     #[inline(always)]
     fn make_claim<K: Condition<AB>>(&self, builder: &mut AB, condition: &K) -> AirResult<AB::Expr> {
-        condition.make_under(builder, &Difference(&self.0, One))
+        condition.make_under(builder, &Less(&self.0, &One))
     }
 }
 
@@ -113,7 +113,7 @@ impl<AB: AirBuilder, X: Expression<AB>, Y: Expression<AB>> Claim<AB> for Equal<X
 
     #[inline(always)]
     fn make_claim<K: Condition<AB>>(&self, builder: &mut AB, condition: &K) -> AirResult<AB::Expr> {
-        condition.make_under(builder, &Difference(&self.0, &self.1))
+        condition.make_under(builder, &Less(&self.0, &self.1))
     }
 }
 

@@ -12,7 +12,7 @@ use crate::conditions::Condition;
 use crate::constraints::Constraint;
 use crate::constraints::named::Label;
 use crate::expressions::ExtExpression;
-use crate::expressions::arithmetic::{BoolCheck, Difference};
+use crate::expressions::arithmetic::{BoolCheck, Less};
 use crate::expressions::constants::One;
 use air_builder::{ExtensionBuilder, NamedExtensionBuilder, Seen, SeenOver};
 use air_field::Algebra;
@@ -102,7 +102,7 @@ impl<AB: ExtensionBuilder, X: ExtExpression<AB>> ExtClaim<AB> for ExtIsOne<X> {
         builder: &mut AB,
         condition: &K,
     ) -> AirResult<AB::ExprEF> {
-        condition.make_ext_under(builder, &Difference(&self.0, One))
+        condition.make_ext_under(builder, &Less(&self.0, &One))
     }
 }
 
@@ -133,7 +133,7 @@ impl<AB: ExtensionBuilder, X: ExtExpression<AB>, Y: ExtExpression<AB>> ExtClaim<
         builder: &mut AB,
         condition: &K,
     ) -> AirResult<AB::ExprEF> {
-        condition.make_ext_under(builder, &Difference(&self.0, &self.1))
+        condition.make_ext_under(builder, &Less(&self.0, &self.1))
     }
 }
 

@@ -1,7 +1,7 @@
 //! Operations on expressions.
 ghost use Rattle.air_field.specs.Algebra.{double_term, bool_check_term};
 ghost use Rattle.air_field.specs.Term.{add_term, sub_term, neg_term, mul_term};
-ghost use Rattle.air_author.specs.Expressions.{Lasts, MadeBothIn};
+ghost use Rattle.air_author.specs.Expressions.{Lasts, MadeIn, MadeBothIn};
 
 use crate::AirResult;
 use crate::expressions::{Expression, answered};
@@ -25,6 +25,54 @@ fn make_both<AB: AirBuilder, X: Expression<AB>, Y: Expression<AB>>(
     Ok((first, second))
 }
 
+/// Makes x + y, of expressions that stand elsewhere.
+#[inline(always)]
+pub fn make_sum<AB: AirBuilder, X: Expression<AB>, Y: Expression<AB>>(
+    builder: &mut AB,
+    x: &X,
+    y: &Y,
+) -> AirResult<AB::Expr>
+    requires ready { AB.ready builder.old }
+    requires held { Lasts AB.kept (λ b. X.holds x.now b × Y.holds y.now b) builder.old }
+    ensures { MadeIn ⟦<AB as Seen>⟧.view builder.old builder.new result
+        (add_term (X.term x.now) (Y.term y.now)) }
+{
+    let (x, y) = make_both(builder, x, y)?;
+    answered(builder.ring().add(x, y))
+}
+
+/// Makes x - y, of expressions that stand elsewhere.
+#[inline(always)]
+pub fn make_difference<AB: AirBuilder, X: Expression<AB>, Y: Expression<AB>>(
+    builder: &mut AB,
+    x: &X,
+    y: &Y,
+) -> AirResult<AB::Expr>
+    requires ready { AB.ready builder.old }
+    requires held { Lasts AB.kept (λ b. X.holds x.now b × Y.holds y.now b) builder.old }
+    ensures { MadeIn ⟦<AB as Seen>⟧.view builder.old builder.new result
+        (sub_term (X.term x.now) (Y.term y.now)) }
+{
+    let (x, y) = make_both(builder, x, y)?;
+    answered(builder.ring().sub(x, y))
+}
+
+/// Makes x y, of expressions that stand elsewhere.
+#[inline(always)]
+pub fn make_product<AB: AirBuilder, X: Expression<AB>, Y: Expression<AB>>(
+    builder: &mut AB,
+    x: &X,
+    y: &Y,
+) -> AirResult<AB::Expr>
+    requires ready { AB.ready builder.old }
+    requires held { Lasts AB.kept (λ b. X.holds x.now b × Y.holds y.now b) builder.old }
+    ensures { MadeIn ⟦<AB as Seen>⟧.view builder.old builder.new result
+        (mul_term (X.term x.now) (Y.term y.now)) }
+{
+    let (x, y) = make_both(builder, x, y)?;
+    answered(builder.ring().mul(x, y))
+}
+
 /// x + y
 #[derive(Clone, Copy, Drop)]
 pub struct Sum<X, Y>(pub X, pub Y);
@@ -36,8 +84,7 @@ impl<AB: AirBuilder, X: Expression<AB>, Y: Expression<AB>> Expression<AB> for Su
 
     #[inline(always)]
     fn make(&self, builder: &mut AB) -> AirResult<AB::Expr> {
-        let (x, y) = make_both(builder, &self.0, &self.1)?;
-        answered(builder.ring().add(x, y))
+        make_sum(builder, &self.0, &self.1)
     }
 }
 
@@ -52,8 +99,23 @@ impl<AB: AirBuilder, X: Expression<AB>, Y: Expression<AB>> Expression<AB> for Di
 
     #[inline(always)]
     fn make(&self, builder: &mut AB) -> AirResult<AB::Expr> {
-        let (x, y) = make_both(builder, &self.0, &self.1)?;
-        answered(builder.ring().sub(x, y))
+        make_difference(builder, &self.0, &self.1)
+    }
+}
+
+/// x - y, of expressions that stand elsewhere: of references as expressions of their own, as in `Difference<&X, &Y>`,
+/// each costs seconds of proof wherever it stands.
+#[derive(Drop)]
+pub struct Less<'a, X, Y>(pub &'a X, pub &'a Y);
+
+impl<'a, AB: AirBuilder, X: Expression<AB>, Y: Expression<AB>> Expression<AB> for Less<'a, X, Y> {
+    ghost term = { λ s. sub_term (X.term s.0.now) (Y.term s.1.now) };
+
+    ghost holds = { λ s b. X.holds s.0.now b × Y.holds s.1.now b };
+
+    #[inline(always)]
+    fn make(&self, builder: &mut AB) -> AirResult<AB::Expr> {
+        make_difference(builder, self.0, self.1)
     }
 }
 
@@ -68,8 +130,7 @@ impl<AB: AirBuilder, X: Expression<AB>, Y: Expression<AB>> Expression<AB> for Pr
 
     #[inline(always)]
     fn make(&self, builder: &mut AB) -> AirResult<AB::Expr> {
-        let (x, y) = make_both(builder, &self.0, &self.1)?;
-        answered(builder.ring().mul(x, y))
+        make_product(builder, &self.0, &self.1)
     }
 }
 

@@ -1,17 +1,31 @@
 //! Expressions over the extension. Operations are those on base expressions.
 ghost use Rattle.air_field.specs.Algebra.{double_term, bool_check_term};
 ghost use Rattle.air_field.specs.Term.{ext_const_term, add_term, sub_term, neg_term, mul_term};
-ghost use Rattle.air_author.specs.Expressions.{Lasts, MadeBothIn, power_term};
+ghost use Rattle.air_author.specs.Expressions.{Lasts, MadeIn, MadeBothIn, power_term};
 
 use crate::AirResult;
 use crate::expressions::arithmetic::{
-    BoolCheck, Difference, Double, Negative, Product, Square, Sum,
+    BoolCheck, Difference, Double, Less, Negative, Product, Square, Sum,
 };
 use crate::expressions::constants::One;
 use crate::expressions::power::{Power, multiplied};
 use crate::expressions::{Expression, ExtExpression, answered};
 use air_builder::{ExtensionBuilder, SeenOver};
 use air_field::{Algebra, ExtAlgebra, ExtensionField};
+
+/// Makes a base expression, and lifts it.
+#[inline(always)]
+pub(crate) fn make_lifted<AB: ExtensionBuilder, X: Expression<AB>>(
+    builder: &mut AB,
+    x: &X,
+) -> AirResult<AB::ExprEF>
+    requires ready { AB.ready builder.old }
+    requires held { Lasts AB.kept (X.holds x.now) builder.old }
+    ensures { MadeIn ⟦<AB as SeenOver>⟧.view builder.old builder.new result (X.term x.now) }
+{
+    let x = x.make(builder)?;
+    answered(builder.ext_ring().lift(x))
+}
 
 /// A base expression, over the extension.
 #[derive(Clone, Copy, Drop)]
@@ -24,8 +38,7 @@ impl<AB: ExtensionBuilder, X: Expression<AB>> ExtExpression<AB> for Lifted<X> {
 
     #[inline(always)]
     fn make_ext(&self, builder: &mut AB) -> AirResult<AB::ExprEF> {
-        let x = self.0.make(builder)?;
-        answered(builder.ext_ring().lift(x))
+        make_lifted(builder, &self.0)
     }
 }
 
@@ -72,6 +85,19 @@ impl<AB: ExtensionBuilder, X: ExtExpression<AB>, Y: ExtExpression<AB>> ExtExpres
     }
 }
 
+impl<'a, AB: ExtensionBuilder, X: ExtExpression<AB>, Y: ExtExpression<AB>> ExtExpression<AB>
+    for Less<'a, X, Y> {
+    ghost ext_term = { λ s. sub_term (X.ext_term s.0.now) (Y.ext_term s.1.now) };
+
+    ghost ext_holds = { λ s b. X.ext_holds s.0.now b × Y.ext_holds s.1.now b };
+
+    #[inline(always)]
+    fn make_ext(&self, builder: &mut AB) -> AirResult<AB::ExprEF> {
+        let (x, y) = make_both_ext(builder, self.0, self.1)?;
+        answered(builder.ext_ring().sub(x, y))
+    }
+}
+
 impl<AB: ExtensionBuilder, X: ExtExpression<AB>, Y: ExtExpression<AB>> ExtExpression<AB>
     for Difference<X, Y> {
     ghost ext_term = { λ s. sub_term (X.ext_term s.0) (Y.ext_term s.1) };
@@ -80,8 +106,7 @@ impl<AB: ExtensionBuilder, X: ExtExpression<AB>, Y: ExtExpression<AB>> ExtExpres
 
     #[inline(always)]
     fn make_ext(&self, builder: &mut AB) -> AirResult<AB::ExprEF> {
-        let (x, y) = make_both_ext(builder, &self.0, &self.1)?;
-        answered(builder.ext_ring().sub(x, y))
+        Less(&self.0, &self.1).make_ext(builder)
     }
 }
 

@@ -4,7 +4,7 @@ use crate::expressions::columns::{
     Current, Next, Periodic, PreprocessedCurrent, PreprocessedNext, Public,
 };
 use crate::expressions::constants::{Constant, Number, One};
-use crate::expressions::extension::Lifted;
+use crate::expressions::extension::make_lifted;
 use crate::expressions::selectors::{FirstRow, LastRow, Transition};
 use crate::expressions::{Expression, ExtExpression};
 use air_builder::ExtensionBuilder;
@@ -14,7 +14,7 @@ impl<AB: ExtensionBuilder> ExtExpression<AB> for Current {
 
     #[inline(always)]
     fn make_ext(&self, builder: &mut AB) -> AirResult<AB::ExprEF> {
-        Lifted(*self).make_ext(builder)
+        make_lifted(builder, self)
     }
 }
 
@@ -23,7 +23,7 @@ impl<AB: ExtensionBuilder> ExtExpression<AB> for Next {
 
     #[inline(always)]
     fn make_ext(&self, builder: &mut AB) -> AirResult<AB::ExprEF> {
-        Lifted(*self).make_ext(builder)
+        make_lifted(builder, self)
     }
 }
 
@@ -32,7 +32,7 @@ impl<AB: ExtensionBuilder> ExtExpression<AB> for PreprocessedCurrent {
 
     #[inline(always)]
     fn make_ext(&self, builder: &mut AB) -> AirResult<AB::ExprEF> {
-        Lifted(*self).make_ext(builder)
+        make_lifted(builder, self)
     }
 }
 
@@ -41,7 +41,7 @@ impl<AB: ExtensionBuilder> ExtExpression<AB> for PreprocessedNext {
 
     #[inline(always)]
     fn make_ext(&self, builder: &mut AB) -> AirResult<AB::ExprEF> {
-        Lifted(*self).make_ext(builder)
+        make_lifted(builder, self)
     }
 }
 
@@ -50,7 +50,7 @@ impl<AB: ExtensionBuilder> ExtExpression<AB> for Public {
 
     #[inline(always)]
     fn make_ext(&self, builder: &mut AB) -> AirResult<AB::ExprEF> {
-        Lifted(*self).make_ext(builder)
+        make_lifted(builder, self)
     }
 }
 
@@ -59,7 +59,7 @@ impl<AB: ExtensionBuilder> ExtExpression<AB> for Periodic {
 
     #[inline(always)]
     fn make_ext(&self, builder: &mut AB) -> AirResult<AB::ExprEF> {
-        Lifted(*self).make_ext(builder)
+        make_lifted(builder, self)
     }
 }
 
@@ -68,7 +68,7 @@ impl<AB: ExtensionBuilder> ExtExpression<AB> for FirstRow {
 
     #[inline(always)]
     fn make_ext(&self, builder: &mut AB) -> AirResult<AB::ExprEF> {
-        Lifted(*self).make_ext(builder)
+        make_lifted(builder, self)
     }
 }
 
@@ -77,7 +77,7 @@ impl<AB: ExtensionBuilder> ExtExpression<AB> for LastRow {
 
     #[inline(always)]
     fn make_ext(&self, builder: &mut AB) -> AirResult<AB::ExprEF> {
-        Lifted(*self).make_ext(builder)
+        make_lifted(builder, self)
     }
 }
 
@@ -86,7 +86,7 @@ impl<AB: ExtensionBuilder> ExtExpression<AB> for Transition {
 
     #[inline(always)]
     fn make_ext(&self, builder: &mut AB) -> AirResult<AB::ExprEF> {
-        Lifted(*self).make_ext(builder)
+        make_lifted(builder, self)
     }
 }
 
@@ -95,7 +95,7 @@ impl<AB: ExtensionBuilder> ExtExpression<AB> for One {
 
     #[inline(always)]
     fn make_ext(&self, builder: &mut AB) -> AirResult<AB::ExprEF> {
-        Lifted(*self).make_ext(builder)
+        make_lifted(builder, self)
     }
 }
 
@@ -104,7 +104,7 @@ impl<AB: ExtensionBuilder> ExtExpression<AB> for Number {
 
     #[inline(always)]
     fn make_ext(&self, builder: &mut AB) -> AirResult<AB::ExprEF> {
-        Lifted(*self).make_ext(builder)
+        make_lifted(builder, self)
     }
 }
 
@@ -113,6 +113,6 @@ impl<AB: ExtensionBuilder> ExtExpression<AB> for Constant<AB::F> {
 
     #[inline(always)]
     fn make_ext(&self, builder: &mut AB) -> AirResult<AB::ExprEF> {
-        Lifted(*self).make_ext(builder)
+        make_lifted(builder, self)
     }
 }

@@ -13,8 +13,8 @@ use Rattle.air_field.specs.laws.RingSolver.{var, unit, plus, times, less, ring}
 use Rattle.air_builder.specs.Assertion.{Base}
 use Rattle.air_gadgets.specs.Exact.{AllVanish}
 use Rattle.air_gadgets.specs.Packing.{packed_from}
-use Rattle.air_author.specs.BitTerms.{terms_from, columns_from, bits_asserts, has_bits, packed_bits}
-use Rattle.air_author.specs.WordTerms.{word_at, word_bits}
+use Rattle.air_words.specs.BitTerms.{terms_from, columns_from, bits_asserts, has_bits, packed_bits}
+use Rattle.air_words.specs.WordTerms.{word_at, word_bits}
 use Rattle.air_laws.specs.Numbers.{IsBelow, IsWord}
 use Rattle.air_laws.specs.laws.Vanishing.{both_vanish, one_vanishes}
 

@@ -6,10 +6,10 @@ use p3_air::{
     AirBuilder, AirBuilderWithContext, AirError, AirLayout, AssertAll, AssertAllExt,
     AssertAllNamed, BabyBear, BinomialExtensionField, DebugConstraintBuilder, ExtAlgebra,
     ExtensionBuilder, ExtensionField, Field, FromVar, Lazy, Name, NamedAirBuilder,
-    NamedExtensionBuilder, PermutationAirBuilder, RowMajorMatrixView, SymbolicAirBuilder, ViewPair,
-    WindowAccess,
+    NamedExtensionBuilder, Namespace, PermutationAirBuilder, RowMajorMatrixView,
+    SymbolicAirBuilder, ViewPair, WindowAccess,
 };
-use std::alloc::Global;
+use std::alloc::{AllocError, Global};
 use std::cell::Cell;
 use std::fmt::Debug;
 use std::test::Fail;
@@ -117,6 +117,55 @@ fn a_passing_assertion_asks_for_no_label(rt: HostRuntime) -> Result<(), Fail> {
         builder.formatted_failures()?.as_str(),
         "[#2 \"base\", #3 \"extension\"]"
     );
+    Ok(())
+}
+
+/// A name that sets a counter to 1 where it is asked for.
+#[derive(Clone, Copy, Drop)]
+struct Asking<'a>(&'a Cell<u32>);
+
+impl Name for Asking<'_> {
+    type Output = &'static str;
+
+    ghost can_evaluate = { λ _. Unit {0} };
+
+    ghost displays = { λ _ _. Unit {0} };
+
+    fn evaluate(self) -> Result<&'static str, AllocError> {
+        self.0.set(1);
+        Ok("asked")
+    }
+}
+
+impl Namespace for Asking<'_> {}
+
+// Asserts under names what holds of ones.
+fn ones_asking(builder: &mut Row<'_>, asked: &Cell<u32>) -> Result<(), AirError> {
+    let one = BabyBear::ONE;
+    builder.assert_one_named(one, Asking(asked))?;
+    builder.assert_eq_named(one, one, Asking(asked))?;
+    builder.assert_bool_named(one, Asking(asked))
+}
+
+// The same of batches, and over the extension.
+fn lists_asking(builder: &mut Row<'_>, asked: &Cell<u32>) -> Result<(), AirError> {
+    builder.assert_zeros_named_slice(&[BabyBear::ZERO], Asking(asked))?;
+    builder.assert_bools_named_slice(&[BabyBear::ONE], Asking(asked))?;
+    builder.assert_one_ext_named(Element::one(), Asking(asked))?;
+    builder.assert_eq_ext_named(root_times(5), root_times(5), Asking(asked))
+}
+
+#[test]
+fn what_holds_asks_for_no_label(rt: HostRuntime) -> Result<(), Fail> {
+    let asked = Cell::new(0u32);
+    let mut builder = row(rt.alloc());
+    ones_asking(&mut builder, &asked)?;
+    lists_asking(&mut builder, &asked)?;
+    assert_eq!(rt; builder.has_failures(), false);
+    assert_eq!(rt; asked.get(), 0);
+    builder.assert_one_named(BabyBear::ZERO, Asking(&asked))?;
+    assert_eq!(rt; asked.get(), 1);
+    assert_eq!(rt; builder.formatted_failures()?.as_str(), "[#7 \"asked\"]");
     Ok(())
 }
 

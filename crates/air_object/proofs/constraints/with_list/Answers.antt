@@ -1,4 +1,5 @@
 use Rattle.serde_json.specs.View.{view}
+use Rattle.air_object.specs.Readers.{tree}
 use Rattle.air_object.proofs.PartLemmas.{gives_ok, gives_err, still_fails}
 use Rattle.air_object.proofs.constraints.with_list.Goals as goal
 
@@ -11,5 +12,5 @@ returns-in-Ok g c given h =
 pub returns-in-Err : goal.returns-in-Err
 returns-in-Err g c given h = record {
   inside = record { pool = c.requires.pool; here = tt };
-  read = still_fails g.F.PrimeField64.residues c.in-Err.fault given (view c.args.value.now) (gives_err _ c.args.constraints.roots c.in-Err.fault given c.in-Err.is h.read);
+  read = still_fails (tree g.F.PrimeField64.residues) c.in-Err.fault given (view c.args.value.now) (gives_err _ c.args.constraints.roots c.in-Err.fault given c.in-Err.is h.read);
 }

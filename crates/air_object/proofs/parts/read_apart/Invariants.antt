@@ -15,4 +15,4 @@ invariant-members g l =
     (n : ℕ) × (length l.reader ≤ n) × (ms : Members)
     × (converted (λ xs. of_members xs no_members) (members (value l.depth) (length l.initial.reader) l.initial.reader) ≡ converted (λ xs. of_members xs ms) (members (value l.depth) n l.reader))
     × (length l.reader ≤ length l.initial.reader)
-    × AreMembersOf g.F.PrimeField64.residues ms (members_view l.rest.entries) l.constraints
+    × AreMembersOf g.F.PrimeField64.residues ms (members_view l.rest.entries) l.main l.constraints

@@ -2,8 +2,9 @@ use Rattle.std.proofs.Common.{◌≡◌, [], length, Some, None, ap, ◌∙◌, 
 use Rattle.json.specs.Json.{parse_map, after_end_array, items, value}
 use Rattle.serde_json.specs.Read.{of_items, converted}
 use Rattle.serde_json.specs.View.{view, items_of}
-use Rattle.air_object.specs.Readers.{each_from}
-use Rattle.air_object.proofs.PartLemmas.{one_list_more}
+use Rattle.air_object.specs.Parts.{AreGiven}
+use Rattle.air_object.specs.Readers.{each_from, tree}
+use Rattle.air_object.proofs.PartLemmas.{one_item_more}
 use Rattle.air_object.proofs.TokenLemmas.{data_before, data_before-no_items, item_refused, items_over, none_before}
 use Rattle.air_object.proofs.parts.read_lists.Goals as goal
 
@@ -27,7 +28,7 @@ items-preserved g c =
     let l = c.items in
     let going : (after_end_array l.reader ≡ None) × (c.take_end_array.new.self ≡ l.reader) = grind arith in
     let done = c.in_ok-item.ensures in
-    one_list_more g.F.PrimeField64.residues p _ (length c.args.reader.now) l.invariant.0 l.reader c.read.new.reader l.invariant.2 (view c.in_ok-item.item) l.constraints c.with_list-constraints.result l.invariant.1 l.invariant.3 l.invariant.4 l.invariant.5 going.0 (rw (← going.1) done.ok) (rw (← going.1) done.shorter) c.with_list-constraints.ensures
+    one_item_more (tree g.F.PrimeField64.residues) (λ given. AreGiven given l.constraints) (λ given. AreGiven given c.with_list-constraints.result) p _ (length c.args.reader.now) l.invariant.0 l.reader c.read.new.reader l.invariant.2 (view c.in_ok-item.item) l.invariant.1 l.invariant.3 l.invariant.4 l.invariant.5 going.0 (rw (← going.1) done.ok) (rw (← going.1) done.shorter) c.with_list-constraints.ensures
 
 pub items-preserved-in_ok-item : goal.items-preserved-in_ok-item
 items-preserved-in_ok-item g c =
@@ -35,7 +36,7 @@ items-preserved-in_ok-item g c =
     let l = c.items in
     let going : (after_end_array l.reader ≡ None) × (c.take_end_array.new.self ≡ l.reader) = grind arith in
     let done = c.in_ok-item.ensures in
-    one_list_more g.F.PrimeField64.residues p _ (length c.args.reader.now) l.invariant.0 l.reader c.read.new.reader l.invariant.2 (view c.in_ok-item.item) l.constraints c.with_list-constraints.result l.invariant.1 l.invariant.3 l.invariant.4 l.invariant.5 going.0 (rw (← going.1) done.ok) (rw (← going.1) done.shorter) c.with_list-constraints.ensures
+    one_item_more (tree g.F.PrimeField64.residues) (λ given. AreGiven given l.constraints) (λ given. AreGiven given c.with_list-constraints.result) p _ (length c.args.reader.now) l.invariant.0 l.reader c.read.new.reader l.invariant.2 (view c.in_ok-item.item) l.invariant.1 l.invariant.3 l.invariant.4 l.invariant.5 going.0 (rw (← going.1) done.ok) (rw (← going.1) done.shorter) c.with_list-constraints.ensures
 
 pub items-preserved-in_ok-item-2 : goal.items-preserved-in_ok-item-2
 items-preserved-in_ok-item-2 g c =
@@ -43,7 +44,7 @@ items-preserved-in_ok-item-2 g c =
     let l = c.items in
     let going : (after_end_array l.reader ≡ None) × (c.take_end_array.new.self ≡ l.reader) = grind arith in
     let done = c.in_ok-item.ensures in
-    one_list_more g.F.PrimeField64.residues p _ (length c.args.reader.now) l.invariant.0 l.reader c.read.new.reader l.invariant.2 (view c.in_ok-item.item) l.constraints c.with_list-constraints.result l.invariant.1 l.invariant.3 l.invariant.4 l.invariant.5 going.0 (rw (← going.1) done.ok) (rw (← going.1) done.shorter) c.with_list-constraints.ensures
+    one_item_more (tree g.F.PrimeField64.residues) (λ given. AreGiven given l.constraints) (λ given. AreGiven given c.with_list-constraints.result) p _ (length c.args.reader.now) l.invariant.0 l.reader c.read.new.reader l.invariant.2 (view c.in_ok-item.item) l.invariant.1 l.invariant.3 l.invariant.4 l.invariant.5 going.0 (rw (← going.1) done.ok) (rw (← going.1) done.shorter) c.with_list-constraints.ensures
 
 pub items-preserved-in_ok-item-3 : goal.items-preserved-in_ok-item-3
 items-preserved-in_ok-item-3 g c =
@@ -51,7 +52,7 @@ items-preserved-in_ok-item-3 g c =
     let l = c.items in
     let going : (after_end_array l.reader ≡ None) × (c.take_end_array.new.self ≡ l.reader) = grind arith in
     let done = c.in_ok-item.ensures in
-    one_list_more g.F.PrimeField64.residues p _ (length c.args.reader.now) l.invariant.0 l.reader c.read.new.reader l.invariant.2 (view c.in_ok-item.item) l.constraints c.with_list-constraints.result l.invariant.1 l.invariant.3 l.invariant.4 l.invariant.5 going.0 (rw (← going.1) done.ok) (rw (← going.1) done.shorter) c.with_list-constraints.ensures
+    one_item_more (tree g.F.PrimeField64.residues) (λ given. AreGiven given l.constraints) (λ given. AreGiven given c.with_list-constraints.result) p _ (length c.args.reader.now) l.invariant.0 l.reader c.read.new.reader l.invariant.2 (view c.in_ok-item.item) l.invariant.1 l.invariant.3 l.invariant.4 l.invariant.5 going.0 (rw (← going.1) done.ok) (rw (← going.1) done.shorter) c.with_list-constraints.ensures
 
 pub returns-clause-ok : goal.returns-clause-ok
 returns-clause-ok g c =

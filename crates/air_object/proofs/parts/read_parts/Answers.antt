@@ -31,4 +31,4 @@ returns-in-BeginObject-clause-ok g c =
     let first : c.args.reader.now ≡ token_of c.in_ok-token.token ∷ c.next.new.self = grind arith in
     let opened = ap (converted of_json) (ap (value c.args.depth) (first ∙ ap (λ k. token_of k ∷ c.next.new.self) c.in-BeginObject.is) ∙ value-begin_object c.args.depth c.next.new.self (omega arith)) ∙ converted-object (members (value (c.args.depth - 1)) (length c.next.new.self) c.next.new.self) in
     let found = c.in_ok-rest.ensures.ok in
-    (object found.0, opened ∙ ap (parse_map object) found.1, parts_of_members g.F.PrimeField64.residues found.0 c.in_ok-rest.rest c.in_ok-rest.constraints found.2)
+    (object found.0, opened ∙ ap (parse_map object) found.1, parts_of_members g.F.PrimeField64.residues found.0 c.in_ok-rest.rest c.in_ok-rest.main c.in_ok-rest.constraints found.2)

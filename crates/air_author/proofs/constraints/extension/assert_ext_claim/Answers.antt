@@ -1,7 +1,9 @@
-use Rattle.std.proofs.Common.{inl}
+use Rattle.std.proofs.Common.{inl, refl}
 use Rattle.air_field.specs.Part.{whole}
 use Rattle.air_builder.specs.Assertion.{Extension}
-use Rattle.air_author.proofs.Asserting.{making_gives_up, made_then_zero}
+use Rattle.air_author.specs.laws.Asserting.{making_gives_up, made_then_zero}
+use Rattle.air_builder.specs.laws.Extensions.{over_extension}
+use Rattle.air_author.specs.laws.Making.{made_in_ring}
 use Rattle.air_author.proofs.constraints.extension.assert_ext_claim.Goals as goal
 
 pub returns-in_err-x : goal.returns-in_err-x
@@ -9,3 +11,6 @@ returns-in_err-x g c = making_gives_up g.met.AB.AirBuilder.laws _ (inl whole) c.
 
 pub returns : goal.returns
 returns g c = made_then_zero g.met.AB.AirBuilder.laws Extension _ _ _ _ c.assert_zero_ext.result _ c.in_ok-x.ensures c.assert_zero_ext.ensures (λ h. (h, tt))
+
+pub assert_zero_ext-requires-clause-of_ring : goal.assert_zero_ext-requires-clause-of_ring
+assert_zero_ext-requires-clause-of_ring g c = made_in_ring g.met.AB.ExtRing.Algebra.laws (over_extension g.met.AB.AirBuilder.laws g.met.AB.ExtensionBuilder.ext_laws) _ _ _ _ _ c.in_ok-x.ensures refl

@@ -1,4 +1,4 @@
-use Rattle.air_author.proofs.Asserting.{asserted_then, beginning_gives_up}
+use Rattle.air_author.specs.laws.Asserting.{asserted_then, beginning_gives_up}
 use Rattle.air_author.proofs.constraints.tuples.assert_two.Goals as goal
 
 pub returns : goal.returns

@@ -1,4 +1,4 @@
-use Rattle.air_author.proofs.Making.{first_gives_up, second_gives_up, one_by_one}
+use Rattle.air_author.specs.laws.Making.{first_gives_up, second_gives_up, one_by_one}
 use Rattle.air_author.proofs.expressions.arithmetic.make_both.Goals as goal
 
 pub returns-in_err-first : goal.returns-in_err-first

@@ -2,7 +2,7 @@ use Rattle.std.proofs.Common.{sym, ◌∙◌, subst, refl, IfSome}
 use Rattle.air_field.specs.Term.{leaf_term}
 use Rattle.air_core.specs.Entries.{entry_leaf}
 use Rattle.air_builder.specs.Builders.{VariableStands}
-use Rattle.air_author.proofs.Making.{operation_answered, some_none}
+use Rattle.air_author.specs.laws.Making.{operation_answered, some_none}
 use Rattle.air_author.proofs.expressions.columns.make_found.Goals as goal
 
 pub returns : goal.returns

@@ -1,5 +1,5 @@
 use Rattle.air_builder.specs.laws.Extensions.{over_extension}
-use Rattle.air_author.proofs.Making.{first_gives_up, second_gives_up, one_by_one}
+use Rattle.air_author.specs.laws.Making.{first_gives_up, second_gives_up, one_by_one}
 use Rattle.air_author.proofs.expressions.extension.make_both_ext.Goals as goal
 
 pub returns-in_err-first : goal.returns-in_err-first

@@ -2,7 +2,7 @@ use Rattle.std.proofs.Common.{sym, ◌∙◌, subst, refl, IfSome}
 use Rattle.air_field.specs.Term.{permutation, leaf_term}
 use Rattle.air_builder.specs.Builders.{VariableStands}
 use Rattle.air_builder.specs.laws.Extensions.{over_extension}
-use Rattle.air_author.proofs.Making.{operation_answered, some_none, window_gives_up}
+use Rattle.air_author.specs.laws.Making.{operation_answered, some_none, window_gives_up}
 use Rattle.air_author.proofs.expressions.permutation.make_column.Goals as goal
 
 pub returns : goal.returns

@@ -1,18 +1,72 @@
-use Rattle.std.proofs.Common.{ap, subst, ◌∙◌}
-use Rattle.air_report.specs.Cells.{CellsFit}
-use Rattle.air_report.specs.Given.{given, height}
-use Rattle.air_report.specs.Shapes.{ShapesFit, table_height}
+use Rattle.std.proofs.Common.{ap, subst, inl, inr, ◌∙◌}
+use Rattle.std.proofs.lemmas.Result.{err_from_is_err_and}
+use Rattle.air_report.specs.Cells.{CellsFit, IsCellFault}
+use Rattle.air_report.specs.Checks.{CheckRefuses}
+use Rattle.air_report.specs.Given.{given}
+use Rattle.air_report.specs.Shapes.{table_height}
+use Rattle.air_report.proofs.GivenUp.{error_is, given_fits, given_fault, cells_refused}
 use Rattle.air_report.proofs.Reports.{listed_after}
 use Rattle.air_report.proofs.checks.check.check_all_constraints.Goals as goal
+
+pub returns-in_err-check_shapes-clause-report : goal.returns-in_err-check_shapes-clause-report
+returns-in_err-check_shapes-clause-report g c =
+    let p = err_from_is_err_and c.from_residual.result c.from_residual.ensures.1 in
+    rw p.1 tt
+
+pub returns-in_err-check_shapes-clause-refused : goal.returns-in_err-check_shapes-clause-refused
+returns-in_err-check_shapes-clause-refused g c =
+    let all = given (g.A.BaseAir.declaration c.args.air.now) c.args.main.now c.args.public_values.now in
+    error_is c.from_residual.result c.from_residual.ensures.1 (CheckRefuses g.F.Field.ring g.F.PartialEq.eq all c.args.max_failures)
+    (inl (given_fault all c.periodic_columns.ensures c.height-total_rows.ensures (c.table_height.ensures ∙ ap table_height c.preprocessed_trace.ensures) c.in_err-check_shapes.field-0.0 c.in_err-check_shapes.ensures))
+
+pub returns-in_err-checked-clause-report : goal.returns-in_err-checked-clause-report
+returns-in_err-checked-clause-report g c =
+    let p = err_from_is_err_and c.from_residual-in_err-checked.result c.from_residual-in_err-checked.ensures.1 in
+    rw p.1 tt
+
+pub returns-in_err-checked-clause-refused : goal.returns-in_err-checked-clause-refused
+returns-in_err-checked-clause-refused g c =
+    let all = given (g.A.BaseAir.declaration c.args.air.now) c.args.main.now c.args.public_values.now in
+    let fits = given_fits all c.periodic_columns.ensures c.height-total_rows.ensures (c.table_height.ensures ∙ ap table_height c.preprocessed_trace.ensures) c.in_ok-check_shapes.ensures in
+    error_is c.from_residual-in_err-checked.result c.from_residual-in_err-checked.ensures.1 (CheckRefuses g.F.Field.ring g.F.PartialEq.eq all c.args.max_failures)
+    (inr (fits, inl c.in_err-checked.ensures.refused))
+
+pub returns-in_err-check_cells-clause-report : goal.returns-in_err-check_cells-clause-report
+returns-in_err-check_cells-clause-report g c =
+    let p = err_from_is_err_and c.from_residual-in_err-check_cells.result c.from_residual-in_err-check_cells.ensures.1 in
+    rw p.1 tt
+
+pub returns-in_err-check_cells-clause-refused : goal.returns-in_err-check_cells-clause-refused
+returns-in_err-check_cells-clause-refused g c =
+    let all = given (g.A.BaseAir.declaration c.args.air.now) c.args.main.now c.args.public_values.now in
+    let fits = given_fits all c.periodic_columns.ensures c.height-total_rows.ensures (c.table_height.ensures ∙ ap table_height c.preprocessed_trace.ensures) c.in_ok-check_shapes.ensures in
+    let checked = c.in_ok-checked.ensures.checked in
+    error_is c.from_residual-in_err-check_cells.result c.from_residual-in_err-check_cells.ensures.1 (CheckRefuses g.F.Field.ring g.F.PartialEq.eq all c.args.max_failures)
+    (inr (fits, inr (inl (checked.shown, checked.ran, subst (λ cs. IsCellFault all.main all.public cs c.in_err-check_cells.field-0.0) c.public_boundary_io-cells.ensures c.in_err-check_cells.ensures.refused))))
+
+pub list_cells-requires : goal.list_cells-requires
+list_cells-requires g c = c.in_ok-check_cells.ensures.fit
+
+pub returns-in_err-list_cells-clause-report : goal.returns-in_err-list_cells-clause-report
+returns-in_err-list_cells-clause-report g c =
+    let p = err_from_is_err_and c.from_residual-in_err-list_cells.result c.from_residual-in_err-list_cells.ensures.1 in
+    rw p.1 tt
+
+pub returns-in_err-list_cells-clause-refused : goal.returns-in_err-list_cells-clause-refused
+returns-in_err-list_cells-clause-refused g c =
+    let all = given (g.A.BaseAir.declaration c.args.air.now) c.args.main.now c.args.public_values.now in
+    let fits = given_fits all c.periodic_columns.ensures c.height-total_rows.ensures (c.table_height.ensures ∙ ap table_height c.preprocessed_trace.ensures) c.in_ok-check_shapes.ensures in
+    let checked = c.in_ok-checked.ensures.checked in
+    let cells = subst (λ cs. CellsFit all.main all.public cs) c.public_boundary_io-cells.ensures c.in_ok-check_cells.ensures.fit in
+    error_is c.from_residual-in_err-list_cells.result c.from_residual-in_err-list_cells.ensures.1 (CheckRefuses g.F.Field.ring g.F.PartialEq.eq all c.args.max_failures)
+    (cells_refused g.F.Field.ring g.F.PartialEq.eq all c.args.max_failures checked.shown c.in_ok-checked.checked.failures.items c.in_ok-checked.checked.constraints _ c.in_err-list_cells.field-0.0 fits checked.ran cells checked.places checked.counted c.public_boundary_io-cells.ensures c.in_err-list_cells.ensures.refused)
 
 pub returns-clause-report : goal.returns-clause-report
 returns-clause-report g c =
     let all = given (g.A.BaseAir.declaration c.args.air.now) c.args.main.now c.args.public_values.now in
     let checked = c.in_ok-checked.ensures.checked in
     record {
-      shapes = subst (λ cs. ShapesFit cs (height all) (table_height all.declaration.preprocessed)) c.periodic_columns.ensures
-          (subst (λ h. ShapesFit c.periodic_columns.result.now h (table_height all.declaration.preprocessed)) c.height-total_rows.ensures
-          (subst (λ t. ShapesFit c.periodic_columns.result.now c.height-total_rows.result t) (c.table_height.ensures ∙ ap table_height c.preprocessed_trace.ensures) c.in_ok-check_shapes.ensures));
+      shapes = given_fits all c.periodic_columns.ensures c.height-total_rows.ensures (c.table_height.ensures ∙ ap table_height c.preprocessed_trace.ensures) c.in_ok-check_shapes.ensures;
       shown = checked.shown;
       ran = checked.ran;
       cells = subst (λ cs. CellsFit all.main all.public cs) c.public_boundary_io-cells.ensures c.in_ok-check_cells.ensures.fit;

@@ -1,10 +1,71 @@
-use Rattle.std.proofs.Common.{rules, ◌≡◌, length, ap, sym, subst, ◌∙◌}
+use Rattle.std.proofs.Common.{rules, arith, ◌≡◌, ◌<◌, inl, inr, length, map, ap, sym, subst, ◌∙◌}
 use Rattle.std.proofs.lemmas.List.{length-map}
-use borrow.Author.Count.{below_more}
-use Rattle.air_report.specs.Given.{given, given_trace}
+use borrow.Author.Count.{below_more, below_none}
+use Rattle.std.proofs.lemmas.Result.{err_from_is_err_and}
+use Rattle.air_report.specs.Checks.{RowsRefuse}
+use Rattle.air_report.specs.Given.{given, given_trace, height}
 use Rattle.air_report.specs.Report.{failure_place, report_of, IsReached}
-use Rattle.air_report.proofs.Reports.{checked_more, count_shown-more}
+use Rattle.air_report.proofs.GivenUp.{error_is}
+use Rattle.air_report.proofs.Reports.{checked_more, count_shown-more, reached_later}
 use Rattle.air_report.proofs.checks.check.check_rows.Goals as goal
+
+pub rows-init : goal.rows-init
+rows-init g c =
+    let all = given (g.A.BaseAir.declaration c.args.air.now) c.args.main.now c.args.public_values.now in
+    record {
+      places = ap (map failure_place) c.at_no_row-builder.ensures.failures;
+      count = c.at_no_row-builder.ensures.counter;
+      least = below_none (λ k. IsReached c.args.max_failures (length (report_of g.F.Field.ring g.F.PartialEq.eq (given_trace all) all.declaration.declared k)) → ⊥);
+      there = λ h. absurd (omega (arith, h));
+    }
+
+pub returns-then-is_reached-clause-checked : goal.returns-then-is_reached-clause-checked
+returns-then-is_reached-clause-checked g c =
+    let cap = c.args.max_failures in
+    let inv = c.rows.invariant in
+    let full : IsReached cap (length c.rows.builder.failures.items) = search rules in
+    record {
+      shown = c.rows.row;
+      ran = record {
+        rows = record {
+          within = omega arith;
+          enough = inr (subst (λ n. IsReached cap n) (sym (length-map c.rows.builder.failures.items failure_place) ∙ ap length inv.places) full);
+          least = inv.least;
+        };
+        there = inv.there;
+      };
+      places = ap (λ v. map failure_place v.items) c.outcome_of.ensures.failures ∙ inv.places;
+      counted = c.outcome_of.ensures.constraints ∙ inv.count;
+    }
+
+pub returns-in_err-check_row-clause-checked : goal.returns-in_err-check_row-clause-checked
+returns-in_err-check_row-clause-checked g c =
+    let p = err_from_is_err_and c.from_residual.result c.from_residual.ensures.1 in
+    rw p.1 tt
+
+pub returns-in_err-check_row-clause-refused : goal.returns-in_err-check_row-clause-refused
+returns-in_err-check_row-clause-refused g c =
+    let all = given (g.A.BaseAir.declaration c.args.air.now) c.args.main.now c.args.public_values.now in
+    let cap = c.args.max_failures in
+    let open_cap : IsReached cap (length c.rows.builder.failures.items) → ⊥ = search rules in
+    let some : 0 < height all = omega arith in
+    error_is c.from_residual.result c.from_residual.ensures.1 (RowsRefuse cap all)
+    (inr ((some, λ h. open_cap (reached_later cap (length c.rows.builder.failures.items) h)), c.in_err-check_row.ensures.refused))
+
+pub returns-clause-checked : goal.returns-clause-checked
+returns-clause-checked g c =
+    let all = given (g.A.BaseAir.declaration c.args.air.now) c.args.main.now c.args.public_values.now in
+    let inv = c.rows.invariant in
+    let done : c.rows.row ≡ height all = omega arith in
+    record {
+      shown = c.rows.row;
+      ran = record {
+        rows = record { within = omega (arith, done); enough = inl done; least = inv.least };
+        there = inv.there;
+      };
+      places = ap (λ v. map failure_place v.items) c.outcome_of-2.ensures.failures ∙ inv.places;
+      counted = c.outcome_of-2.ensures.constraints ∙ inv.count;
+    }
 
 pub rows-preserved : goal.rows-preserved
 rows-preserved g c =

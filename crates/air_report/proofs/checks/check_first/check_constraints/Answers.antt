@@ -1,8 +1,12 @@
-use Rattle.std.proofs.Common.{rules, ◌≡◌, ◌+◌, [], map, ap, sym, subst, ◌∙◌, arith, ◌<◌, inr}
+use Rattle.std.proofs.Common.{rules, refl, ◌≡◌, ◌+◌, [], map, ap, sym, subst, ◌∙◌, arith, ◌<◌, inl, inr}
 use Rattle.std.proofs.lemmas.Grind.{common_steps}
 use Rattle.std.proofs.lemmas.Result.{err_from_is_err_and}
+use Rattle.air_report.specs.Cells.{CellsFit, IsCellFault}
+use Rattle.air_report.specs.Checks.{IsFirstError}
 use Rattle.air_report.specs.Given.{given, given_trace, height}
 use Rattle.air_report.specs.Report.{failure_place, report_of}
+use Rattle.air_report.specs.Shapes.{table_height}
+use Rattle.air_report.proofs.GivenUp.{error_is, given_fits, given_fault}
 use Rattle.air_report.proofs.Reports.{checked_more}
 use Rattle.air_report.proofs.checks.check_first.check_constraints.Goals as goal
 
@@ -12,9 +16,9 @@ returns-then-has_failures-clause-error g c =
     let eq = g.F.PartialEq.eq in
     let all = given (g.A.BaseAir.declaration c.args.air.now) c.args.main.now c.args.public_values.now in
     record {
-      shapes = search rules;
-      cells = record { fit = search rules; agree = search rules };
-      within = search rules;
+      shapes = given_fits all c.periodic_columns.ensures c.height-height.ensures (c.table_height.ensures ∙ ap table_height c.preprocessed_trace.ensures) c.in_ok-check_shapes.ensures;
+      cells = record { fit = subst (λ cs. CellsFit all.main all.public cs) c.public_boundary_io-cells.ensures c.in_ok-check_cells.ensures.fit; agree = search rules };
+      within = omega arith;
       before = c.rows.invariant.none;
       places = ap (λ v. map failure_place v.items) c.into_failures.ensures
           ∙ checked_more r eq all c.rows.row _ _ _ c.in_ok-check_row.ensures.checked (ap (map failure_place) c.rows.invariant.empty ∙ sym c.rows.invariant.none);
@@ -41,16 +45,59 @@ returns-clause-kept g c =
     let r = g.F.Field.ring in
     let eq = g.F.PartialEq.eq in
     let all = given (g.A.BaseAir.declaration c.args.air.now) c.args.main.now c.args.public_values.now in
-    let done : c.rows.row ≡ height all = search rules in
+    let done : c.rows.row ≡ height all = omega arith in
     record {
-      shapes = search rules;
-      cells = record { fit = search rules; agree = search rules };
+      shapes = given_fits all c.periodic_columns.ensures c.height-height.ensures (c.table_height.ensures ∙ ap table_height c.preprocessed_trace.ensures) c.in_ok-check_shapes.ensures;
+      cells = record { fit = subst (λ cs. CellsFit all.main all.public cs) c.public_boundary_io-cells.ensures c.in_ok-check_cells.ensures.fit; agree = search rules };
       none = ap (λ n. report_of r eq (given_trace all) all.declaration.declared n) (sym done) ∙ c.rows.invariant.none;
       there = λ h. c.rows.invariant.there (subst (λ n. 0 < n) (sym done) h);
     }
 
 pub returns-in_err-check_row-clause-error : goal.returns-in_err-check_row-clause-error
 returns-in_err-check_row-clause-error g c =
+    let r = g.F.Field.ring in
+    let eq = g.F.PartialEq.eq in
+    let all = given (g.A.BaseAir.declaration c.args.air.now) c.args.main.now c.args.public_values.now in
+    let fits = given_fits all c.periodic_columns.ensures c.height-height.ensures (c.table_height.ensures ∙ ap table_height c.preprocessed_trace.ensures) c.in_ok-check_shapes.ensures in
+    let fit = subst (λ cs. CellsFit all.main all.public cs) c.public_boundary_io-cells.ensures c.in_ok-check_cells.ensures.fit in
+    let some : 0 < height all = omega arith in
+    error_is c.from_residual-in_err-check_row.result c.from_residual-in_err-check_row.ensures.1 (IsFirstError r eq all)
+    (inr (fits, inr (record { fit = fit; agree = search rules }, inr ((some, λ h. h), c.in_err-check_row.ensures.refused))))
+
+pub returns-in_err-check_row-clause-kept : goal.returns-in_err-check_row-clause-kept
+returns-in_err-check_row-clause-kept g c =
     let p = err_from_is_err_and c.from_residual-in_err-check_row.result c.from_residual-in_err-check_row.ensures.1 in
-    rw (p.1, p.2)
-    (inr (search rules, inr (record { fit = search rules; agree = search rules }, inr ((search rules, λ h. h), c.in_err-check_row.ensures.refused))))
+    rw p.1 tt
+
+pub returns-in_err-check_shapes-clause-kept : goal.returns-in_err-check_shapes-clause-kept
+returns-in_err-check_shapes-clause-kept g c =
+    let p = err_from_is_err_and c.from_residual.result c.from_residual.ensures.1 in
+    rw p.1 tt
+
+pub returns-in_err-check_shapes-clause-error : goal.returns-in_err-check_shapes-clause-error
+returns-in_err-check_shapes-clause-error g c =
+    let all = given (g.A.BaseAir.declaration c.args.air.now) c.args.main.now c.args.public_values.now in
+    error_is c.from_residual.result c.from_residual.ensures.1 (IsFirstError g.F.Field.ring g.F.PartialEq.eq all)
+    (inl (given_fault all c.periodic_columns.ensures c.height-height.ensures (c.table_height.ensures ∙ ap table_height c.preprocessed_trace.ensures) c.in_err-check_shapes.field-0.0 c.in_err-check_shapes.ensures))
+
+pub returns-in_err-check_cells-clause-kept : goal.returns-in_err-check_cells-clause-kept
+returns-in_err-check_cells-clause-kept g c =
+    let p = err_from_is_err_and c.from_residual-in_err-check_cells.result c.from_residual-in_err-check_cells.ensures.1 in
+    rw p.1 tt
+
+pub returns-in_err-check_cells-clause-error : goal.returns-in_err-check_cells-clause-error
+returns-in_err-check_cells-clause-error g c =
+    let all = given (g.A.BaseAir.declaration c.args.air.now) c.args.main.now c.args.public_values.now in
+    let fits = given_fits all c.periodic_columns.ensures c.height-height.ensures (c.table_height.ensures ∙ ap table_height c.preprocessed_trace.ensures) c.in_ok-check_shapes.ensures in
+    error_is c.from_residual-in_err-check_cells.result c.from_residual-in_err-check_cells.ensures.1 (IsFirstError g.F.Field.ring g.F.PartialEq.eq all)
+    (inr (fits, inl (subst (λ cs. IsCellFault all.main all.public cs c.in_err-check_cells.field-0.0) c.public_boundary_io-cells.ensures c.in_err-check_cells.ensures.refused)))
+
+pub first_mismatch-requires : goal.first_mismatch-requires
+first_mismatch-requires g c = c.in_ok-check_cells.ensures.fit
+
+pub rows-init : goal.rows-init
+rows-init g c = record {
+  empty = c.at_no_row-builder.ensures.failures;
+  none = refl;
+  there = λ h. absurd (omega (arith, h));
+}

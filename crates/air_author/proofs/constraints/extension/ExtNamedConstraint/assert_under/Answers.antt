@@ -1,9 +1,11 @@
-use Rattle.std.proofs.Common.{inl}
+use Rattle.std.proofs.Common.{inl, refl}
 use Rattle.std.proofs.lemmas.Result.{err_from_is_err_and}
 use Rattle.air_field.specs.Part.{whole}
 use Rattle.air_builder.specs.Assertion.{Extension}
-use Rattle.air_author.proofs.Asserting.{making_gives_up, made_then_zero}
+use Rattle.air_author.specs.laws.Asserting.{making_gives_up, made_then_zero}
 use Rattle.air_author.proofs.Naming.{made_then_labelled, made_then_refused}
+use Rattle.air_builder.specs.laws.Extensions.{over_extension}
+use Rattle.air_author.specs.laws.Making.{made_in_ring}
 use Rattle.air_author.proofs.constraints.extension.ExtNamedConstraint.assert_under.Goals as goal
 
 pub returns-in_err-x-clause-asserted : goal.returns-in_err-x-clause-asserted
@@ -27,3 +29,6 @@ returns-clause-label g c = made_then_labelled g.met.AB.NamedAirBuilder.named_law
 
 pub returns-clause-no_label : goal.returns-clause-no_label
 returns-clause-no_label g c = made_then_refused g.met.AB.NamedAirBuilder.named_laws Extension _ _ _ _ c.assert_zero_ext_named.result _ c.in_ok-x.ensures c.assert_zero_ext_named.ensures.label
+
+pub assert_zero_ext_named-requires-clause-of_ring : goal.assert_zero_ext_named-requires-clause-of_ring
+assert_zero_ext_named-requires-clause-of_ring g c = made_in_ring g.met.AB.ExtRing.Algebra.laws (over_extension g.met.AB.AirBuilder.laws g.met.AB.ExtensionBuilder.ext_laws) _ _ _ _ _ c.in_ok-x.ensures refl

@@ -1,6 +1,6 @@
 use Rattle.std.proofs.Common.{◌<◌, rules}
 use Rattle.std.proofs.lemmas.Result.{err_from_is_err_and}
-use Rattle.air_author.proofs.Asserting.{first_more, first_refused, nothing_asserted}
+use Rattle.air_author.specs.laws.Asserting.{first_more, first_refused, nothing_asserted}
 use Rattle.air_author.proofs.constraints.families.AllConstraint.assert_under.Goals as goal
 
 pub loop-index-init : goal.loop-index-init

@@ -1,7 +1,7 @@
 use Rattle.std.proofs.Common.{◌<◌, arith, length, sym, subst}
 use Rattle.std.proofs.lemmas.List.Elements.{All-get_or}
 use Rattle.std.proofs.lemmas.Result.{err_from_is_err_and}
-use Rattle.air_author.proofs.Asserting.{each_more, each_refused, nothing_asserted}
+use Rattle.air_author.specs.laws.Asserting.{each_more, each_refused, nothing_asserted}
 use Rattle.air_author.proofs.constraints.families.EachConstraint.assert_under.Goals as goal
 
 pub loop-constraint-init : goal.loop-constraint-init

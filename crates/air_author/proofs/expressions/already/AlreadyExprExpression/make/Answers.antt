@@ -1,4 +1,4 @@
-use Rattle.air_author.proofs.Making.{made_already}
+use Rattle.air_author.specs.laws.Making.{made_already}
 use Rattle.air_author.proofs.expressions.already.AlreadyExprExpression.make.Goals as goal
 
 pub returns : goal.returns

@@ -1,7 +1,7 @@
 use Rattle.std.proofs.Common.{refl}
 use Rattle.air_field.specs.Term.{neg_term}
 use Rattle.air_field.specs.Part.{whole, in_neg}
-use Rattle.air_author.proofs.Making.{part_gives_up, one_answered}
+use Rattle.air_author.specs.laws.Making.{made_in_ring, part_gives_up, one_answered}
 use Rattle.air_author.proofs.expressions.arithmetic.NegativeExpression.make.Goals as goal
 
 pub returns-in_err-x : goal.returns-in_err-x
@@ -9,3 +9,6 @@ returns-in_err-x g c = part_gives_up (in_neg whole) c.from_residual.ensures.1 c.
 
 pub returns : goal.returns
 returns g c = one_answered g.met.AB.Ring.Algebra.laws g.met.AB.AirBuilder.laws neg_term _ _ _ _ _ _ _ _ _ c.in_ok-x.ensures c.answered.ensures c.ring.ensures.value c.neg.ensures.extended c.neg.ensures.made c.neg.ensures.refused refl (λ h. h)
+
+pub neg-requires : goal.neg-requires
+neg-requires g c = made_in_ring g.met.AB.Ring.Algebra.laws g.met.AB.AirBuilder.laws _ _ _ _ _ c.in_ok-x.ensures c.ring.ensures.value

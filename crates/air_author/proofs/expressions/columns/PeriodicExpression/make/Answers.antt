@@ -1,6 +1,6 @@
 use Rattle.std.proofs.Common.{sym, ◌∙◌}
 use Rattle.air_field.specs.Term.{periodic}
-use Rattle.air_author.proofs.Making.{entry_answered}
+use Rattle.air_author.specs.laws.Making.{entry_answered}
 use Rattle.air_author.proofs.expressions.columns.PeriodicExpression.make.Goals as goal
 
 pub returns : goal.returns

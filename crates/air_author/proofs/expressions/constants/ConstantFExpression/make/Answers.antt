@@ -1,6 +1,6 @@
 use Rattle.std.proofs.Common.{refl}
 use Rattle.air_field.specs.Term.{const_term}
-use Rattle.air_author.proofs.Making.{ring_answered}
+use Rattle.air_author.specs.laws.Making.{ring_answered}
 use Rattle.air_author.proofs.expressions.constants.ConstantFExpression.make.Goals as goal
 
 pub returns : goal.returns

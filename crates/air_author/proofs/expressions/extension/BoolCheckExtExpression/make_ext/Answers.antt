@@ -2,7 +2,7 @@ use Rattle.std.proofs.Common.{refl, sym}
 use Rattle.air_field.specs.Algebra.{bool_check_term}
 use Rattle.air_field.specs.Part.{whole, in_mul_left}
 use Rattle.air_builder.specs.laws.Extensions.{over_extension}
-use Rattle.air_author.proofs.Making.{part_gives_up, one_answered}
+use Rattle.air_author.specs.laws.Making.{made_in_ring, part_gives_up, one_answered}
 use Rattle.air_author.proofs.expressions.extension.BoolCheckExtExpression.make_ext.Goals as goal
 
 pub returns-in_err-x : goal.returns-in_err-x
@@ -10,3 +10,6 @@ returns-in_err-x g c = part_gives_up (in_mul_left whole) c.from_residual.ensures
 
 pub returns : goal.returns
 returns g c = rw (sym g.met.AB.F.Field.one_is) (one_answered g.met.AB.ExtRing.Algebra.laws (over_extension g.met.AB.AirBuilder.laws g.met.AB.ExtensionBuilder.ext_laws) (bool_check_term g.AB.F.Field.ONE) _ _ _ _ _ _ _ _ _ c.in_ok-x.ensures c.answered.ensures c.ext_ring.ensures.value c.bool_check.ensures.extended c.bool_check.ensures.made c.bool_check.ensures.refused refl (λ h. (h, (h, tt))))
+
+pub bool_check-requires : goal.bool_check-requires
+bool_check-requires g c = made_in_ring g.met.AB.ExtRing.Algebra.laws (over_extension g.met.AB.AirBuilder.laws g.met.AB.ExtensionBuilder.ext_laws) _ _ _ _ _ c.in_ok-x.ensures c.ext_ring.ensures.value

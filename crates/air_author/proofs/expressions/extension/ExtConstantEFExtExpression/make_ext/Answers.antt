@@ -1,7 +1,7 @@
 use Rattle.std.proofs.Common.{refl}
 use Rattle.air_field.specs.Term.{ext_const_term}
 use Rattle.air_builder.specs.laws.Extensions.{over_extension}
-use Rattle.air_author.proofs.Making.{ring_answered}
+use Rattle.air_author.specs.laws.Making.{ring_answered}
 use Rattle.air_author.proofs.expressions.extension.ExtConstantEFExtExpression.make_ext.Goals as goal
 
 pub returns : goal.returns

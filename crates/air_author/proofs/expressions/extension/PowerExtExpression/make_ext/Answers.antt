@@ -2,7 +2,7 @@ use Rattle.std.proofs.Common.{◌≡◌, ◌<◌, ◌-◌, ◌∙◌, suc, arith
 use Rattle.air_field.specs.Term.{with_leaves}
 use Rattle.air_builder.specs.laws.Extensions.{over_extension}
 use Rattle.air_author.specs.Expressions.{power_term}
-use Rattle.air_author.proofs.Making.{part_gives_up, one_answered}
+use Rattle.air_author.specs.laws.Making.{made_in_ring, part_gives_up, one_answered}
 use Rattle.air_author.proofs.Powers.{in_power, each_power, power_with_leaves}
 use Rattle.air_author.proofs.expressions.extension.PowerExtExpression.make_ext.Goals as goal
 
@@ -19,3 +19,6 @@ returns g c =
     let n : suc (c.args.self.now.1 - 1) ≡ c.args.self.now.1 = omega arith in
     one_answered g.met.AB.ExtRing.Algebra.laws (over_extension g.met.AB.AirBuilder.laws g.met.AB.ExtensionBuilder.ext_laws) (λ u. power_term one u (suc (c.args.self.now.1 - 1))) _ _ _ _ _ _ _ _ _ c.in_ok-x.ensures c.answered.ensures c.ext_ring.ensures.value c.multiplied.ensures.extended c.multiplied.ensures.made c.multiplied.ensures.refused
     (ap (power_term one (with_leaves at t)) n ∙ power_with_leaves at one t c.args.self.now.1) (each_power _ one t c.args.self.now.1)
+
+pub multiplied-requires : goal.multiplied-requires
+multiplied-requires g c = made_in_ring g.met.AB.ExtRing.Algebra.laws (over_extension g.met.AB.AirBuilder.laws g.met.AB.ExtensionBuilder.ext_laws) _ _ _ _ _ c.in_ok-x.ensures c.ext_ring.ensures.value

@@ -2,7 +2,7 @@ use Rattle.std.proofs.Common.{refl}
 use Rattle.air_field.specs.Term.{mul_term}
 use Rattle.air_field.specs.Part.{whole, in_mul_left}
 use Rattle.air_builder.specs.laws.Extensions.{over_extension}
-use Rattle.air_author.proofs.Making.{part_gives_up, twice, both_answered}
+use Rattle.air_author.specs.laws.Making.{made_in_ring, part_gives_up, twice, both_answered}
 use Rattle.air_author.proofs.expressions.extension.SquareExtExpression.make_ext.Goals as goal
 
 pub returns-in_err-x : goal.returns-in_err-x
@@ -10,3 +10,9 @@ returns-in_err-x g c = part_gives_up (in_mul_left whole) c.from_residual.ensures
 
 pub returns : goal.returns
 returns g c = both_answered g.met.AB.ExtRing.Algebra.laws (over_extension g.met.AB.AirBuilder.laws g.met.AB.ExtensionBuilder.ext_laws) mul_term _ _ _ _ _ _ _ _ _ _ _ (twice c.in_ok-x.ensures) c.answered.ensures c.ext_ring.ensures.value c.mul.ensures.extended c.mul.ensures.made c.mul.ensures.refused refl (λ h. h)
+
+pub mul-requires-clause-x_in : goal.mul-requires-clause-x_in
+mul-requires-clause-x_in g c = made_in_ring g.met.AB.ExtRing.Algebra.laws (over_extension g.met.AB.AirBuilder.laws g.met.AB.ExtensionBuilder.ext_laws) _ _ _ _ _ c.in_ok-x.ensures c.ext_ring.ensures.value
+
+pub mul-requires-clause-y_in : goal.mul-requires-clause-y_in
+mul-requires-clause-y_in g c = made_in_ring g.met.AB.ExtRing.Algebra.laws (over_extension g.met.AB.AirBuilder.laws g.met.AB.ExtensionBuilder.ext_laws) _ _ _ _ _ c.in_ok-x.ensures c.ext_ring.ensures.value

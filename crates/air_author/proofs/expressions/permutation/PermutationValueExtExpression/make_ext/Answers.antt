@@ -1,7 +1,7 @@
 use Rattle.std.proofs.Common.{sym, ◌∙◌}
 use Rattle.air_field.specs.Term.{permutation_value}
 use Rattle.air_builder.specs.laws.Extensions.{over_extension}
-use Rattle.air_author.proofs.Making.{entry_answered}
+use Rattle.air_author.specs.laws.Making.{entry_answered}
 use Rattle.air_author.proofs.expressions.permutation.PermutationValueExtExpression.make_ext.Goals as goal
 
 pub returns : goal.returns

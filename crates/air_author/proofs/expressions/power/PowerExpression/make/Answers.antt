@@ -1,7 +1,7 @@
 use Rattle.std.proofs.Common.{◌≡◌, ◌<◌, ◌-◌, ◌∙◌, suc, arith, ap}
 use Rattle.air_field.specs.Term.{with_leaves}
 use Rattle.air_author.specs.Expressions.{power_term}
-use Rattle.air_author.proofs.Making.{part_gives_up, one_answered}
+use Rattle.air_author.specs.laws.Making.{made_in_ring, part_gives_up, one_answered}
 use Rattle.air_author.proofs.Powers.{in_power, each_power, power_with_leaves}
 use Rattle.air_author.proofs.expressions.power.PowerExpression.make.Goals as goal
 
@@ -18,3 +18,6 @@ returns g c =
     let n : suc (c.args.self.now.1 - 1) ≡ c.args.self.now.1 = omega arith in
     one_answered g.met.AB.Ring.Algebra.laws g.met.AB.AirBuilder.laws (λ u. power_term one u (suc (c.args.self.now.1 - 1))) _ _ _ _ _ _ _ _ _ c.in_ok-x.ensures c.answered.ensures c.ring.ensures.value c.multiplied.ensures.extended c.multiplied.ensures.made c.multiplied.ensures.refused
     (ap (power_term one (with_leaves at t)) n ∙ power_with_leaves at one t c.args.self.now.1) (each_power _ one t c.args.self.now.1)
+
+pub multiplied-requires : goal.multiplied-requires
+multiplied-requires g c = made_in_ring g.met.AB.Ring.Algebra.laws g.met.AB.AirBuilder.laws _ _ _ _ _ c.in_ok-x.ensures c.ring.ensures.value

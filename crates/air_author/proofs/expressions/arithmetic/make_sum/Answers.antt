@@ -1,0 +1,17 @@
+use Rattle.std.proofs.Common.{refl}
+use Rattle.air_field.specs.Term.{add_term}
+use Rattle.air_field.specs.Part.{whole, in_add_left, in_add_right}
+use Rattle.air_author.specs.laws.Making.{first_in_ring, second_in_ring, operand_gives_up, both_answered}
+use Rattle.air_author.proofs.expressions.arithmetic.make_sum.Goals as goal
+
+pub returns-in_err-x : goal.returns-in_err-x
+returns-in_err-x g c = operand_gives_up (in_add_left whole) (in_add_right whole) c.from_residual.ensures.1 c.in_err-x.ensures
+
+pub returns : goal.returns
+returns g c = both_answered g.met.AB.Ring.Algebra.laws g.met.AB.AirBuilder.laws add_term _ _ _ _ _ _ _ _ _ _ _ c.in_ok-x.ensures c.answered.ensures c.ring.ensures.value c.add.ensures.extended c.add.ensures.made c.add.ensures.refused refl (λ h. h)
+
+pub add-requires-clause-x_in : goal.add-requires-clause-x_in
+add-requires-clause-x_in g c = first_in_ring g.met.AB.Ring.Algebra.laws g.met.AB.AirBuilder.laws _ _ _ _ _ _ _ c.in_ok-x.ensures c.ring.ensures.value
+
+pub add-requires-clause-y_in : goal.add-requires-clause-y_in
+add-requires-clause-y_in g c = second_in_ring g.met.AB.Ring.Algebra.laws g.met.AB.AirBuilder.laws _ _ _ _ _ _ _ c.in_ok-x.ensures c.ring.ensures.value

@@ -1,0 +1,3 @@
+-- Lemmas on making and asserting, which the layers above cite too.
+pub mod Making
+pub mod Asserting

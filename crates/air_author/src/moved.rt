@@ -1,0 +1,48 @@
+//! An AIR's constraints as a value among another's, on columns further right.
+ghost use Rattle.std.specs.Prelude.{⊤, ◌^◌, ◌<◌};
+ghost use Rattle.air_author.specs.Constraints.{AssertedIn};
+ghost use Rattle.air_author.specs.Expressions.{Lasts};
+ghost use Rattle.air_author.specs.Moved.{moved_under};
+
+use crate::AirResult;
+use crate::conditions::Condition;
+use crate::constraints::Constraint;
+use crate::plain::PlainAir;
+use air_builder::{AirBuilder, Seen};
+
+/// A plain AIR whose constraints may stand among another's.
+///
+/// A builder names a missing column by the number that it was asked for. So an AIR that is to stand further right counts
+/// its columns from the first one that it is handed, and no builder has to be told that it moved.
+pub trait MovableConstraints<AB: AirBuilder>: PlainAir<AB::F> {
+    /// Asserts the AIR's own constraints on columns further right, column i of them being column `columns` + i, where the
+    /// condition holds. Public values and what else a constraint reads stay where they are.
+    fn assert_moved<K: Condition<AB>>(
+        &self,
+        columns: usize,
+        builder: &mut AB,
+        condition: &K,
+    ) -> AirResult
+        requires ready { AB.ready builder.old }
+        requires within { columns < 2 ^ 63 }
+        requires held { Lasts AB.kept (λ b. ⊤ × K.where_holds condition.now b) builder.old }
+        ensures { AssertedIn ⟦<AB as Seen>⟧.view builder.old builder.new result
+            (moved_under (K.under condition.now) (K.ext_under condition.now) columns
+            (Self.plain self.now).0) };
+}
+
+/// The constraints of an AIR on columns further right: column i of them is column `columns` + i.
+#[derive(Drop)]
+pub struct Moved<A> {
+    pub columns: usize,
+    pub air: A,
+    pub ghost fits: { columns < 2 ^ 63 },
+}
+
+impl<AB: AirBuilder, A: MovableConstraints<AB>> Constraint<AB> for Moved<A> {
+    ghost asserts = { λ s f g. moved_under f g s.columns (A.plain s.air).0 };
+
+    fn assert_under<K: Condition<AB>>(&self, builder: &mut AB, condition: &K) -> AirResult {
+        self.air.assert_moved(self.columns, builder, condition)
+    }
+}

@@ -1,0 +1,17 @@
+-- The constraints of a counter, and of two of them beside each other.
+use Rattle.std.specs.Prelude.{ℕ, List, ◌++◌}
+use Rattle.p3_air.specs.Author.{CommRing, Assertion, current, next, first_row, last_row, transition}
+use Rattle.p3_air.specs.Author.{◌⊕◌, ◌≐◌, is_zero, boolean, when, moved}
+
+-- the bit is a bit; the count begins at zero, and rises by the bit
+unfoldable pub counter : {F : Type 0} → CommRing F → List (Assertion F)
+counter R =
+    let bit : ℕ = 0 in
+    let count : ℕ = 1 in
+    boolean R.one (current bit) ++
+    when first_row (is_zero (current count)) ++
+    when transition (next count ≐ current count ⊕ current bit)
+
+-- a counter in the columns 0 and 1, one in 2 and 3, and on the last row one count is the other
+abbrev pub counters : {F : Type 0} → CommRing F → List (Assertion F)
+counters R = moved 0 (counter R) ++ (moved 2 (counter R) ++ when last_row (current 1 ≐ current 3))

@@ -1,0 +1,58 @@
+-- What a check that gives up answers, and what it was given.
+use Rattle.std.specs.Global.{Global}
+use Rattle.std.specs.Result.{IsErrAnd}
+use Rattle.std.proofs.Common.{◌≡◌, ℕ, ◌⊎◌, inl, inr, List, map, length, Bool, Option, Result, Vec, IfErr, sym, ap, ◌∙◌, subst}
+use Rattle.std.proofs.lemmas.List.{length-map}
+use Rattle.std.proofs.lemmas.Result.{err_from_is_err_and}
+use Rattle.air_field.specs.Ring.{CommRing}
+use Rattle.air_core.specs.declared.boundary.BoundaryPublic.{BoundaryPublic}
+use Rattle.air_core.specs.declared.errors.AirError.{AirError}
+use Rattle.air_core.specs.declared.errors.AirError.TheVariants.{CountOverflow, Memory}
+use Rattle.air_report.specs.Cells.{differing, left_of, IsListedPast, CellsFit}
+use Rattle.air_report.specs.Checks.{CheckRefuses, Fits, RowsRan}
+use Rattle.air_report.specs.Given.{Given, given_trace, height}
+use Rattle.air_report.specs.Report.{failure_place, report_of, count_shown}
+use Rattle.air_report.specs.Shapes.{ShapesFit, IsShapeFault, table_height}
+use Rattle.air_report.specs.declared.debug.failure.ConstraintFailure.{ConstraintFailure}
+
+-- a `?` gave up with this error
+pub error_is : {X E : Type 0} (result : Result X E) {e : E} → IsErrAnd result (λ x. x ≡ e) → (Q : E → Type 0) → Q e → IfErr result Q
+error_is result p Q h =
+    let q = err_from_is_err_and result p in
+    rw (q.1, q.2) h
+
+-- the shapes that were looked at are the given ones
+module _ {F : Type 0} (g : Given F) {columns : List (Vec F Global)} {h : ℕ} {t : Option ℕ}
+    (same : columns ≡ g.declaration.periodic) (high : h ≡ height g) (table : t ≡ table_height g.declaration.preprocessed) where
+  pub given_fits : ShapesFit columns h t → Fits g
+  given_fits fits =
+      subst (λ cs. ShapesFit cs (height g) (table_height g.declaration.preprocessed)) same
+      (subst (λ n. ShapesFit columns n (table_height g.declaration.preprocessed)) high
+      (subst (λ o. ShapesFit columns h o) table fits))
+
+  pub given_fault : (e : AirError) → IsShapeFault columns h t e
+      → IsShapeFault g.declaration.periodic (height g) (table_height g.declaration.preprocessed) e
+  given_fault e fault =
+      subst (λ cs. IsShapeFault cs (height g) (table_height g.declaration.preprocessed) e) same
+      (subst (λ n. IsShapeFault columns n (table_height g.declaration.preprocessed) e) high
+      (subst (λ o. IsShapeFault columns h o e) table fault))
+
+-- a list of cells that gave up
+pub cells_refused : {F : Type 0} (r : CommRing F) (eq : F → F → Bool) (g : Given F) (cap : Option ℕ) (shown : ℕ)
+    (fs : List ConstraintFailure) (count : ℕ) (cells : List BoundaryPublic) (e : AirError)
+    → Fits g → RowsRan r eq g cap shown → CellsFit g.main g.public g.declaration.cells
+    → map failure_place fs ≡ report_of r eq (given_trace g) g.declaration.declared shown
+    → count ≡ count_shown g.declaration.declared shown → cells ≡ g.declaration.cells
+    → (e ≡ Memory) ⊎ ((e ≡ CountOverflow) × IsListedPast count (left_of cap (length fs) (differing r eq g.main g.public cells)))
+    → CheckRefuses r eq g cap e
+cells_refused r eq g cap shown fs count cells e fits ran fit places counted same (inl m) = inr (fits, inl (inl m))
+cells_refused r eq g cap shown fs count cells e fits ran fit places counted same (inr o) =
+    let len : length fs ≡ length (report_of r eq (given_trace g) g.declaration.declared shown) = sym (length-map fs failure_place) ∙ ap length places in
+    inr (fits, inr (inr (o.0, record {
+      shown = shown;
+      ran = ran;
+      cells = fit;
+      past = subst (λ n. IsListedPast n (left_of cap (length (report_of r eq (given_trace g) g.declaration.declared shown)) (differing r eq g.main g.public g.declaration.cells))) counted
+          (subst (λ n. IsListedPast count (left_of cap n (differing r eq g.main g.public g.declaration.cells))) len
+          (subst (λ cs. IsListedPast count (left_of cap (length fs) (differing r eq g.main g.public cs))) same o.1));
+    })))
