@@ -1,16 +1,18 @@
 -- Failures with what stands below them, one after another.
 use Rattle.std.specs.List.{AllZip, flat_map}
 use Rattle.std.specs.Option.{option_to_list}
-use Rattle.std.proofs.Common.{◌≡◌, ℕ, zero, suc, ◌+◌, ◌-◌, ◌<◌, ◌≤◌, Bool, true, false, cond, List, [], ◌∷◌, ◌++◌, append_assoc, append-nil, length, map, take, get_or, All, Option, Some, None, codes, refl, sym, ap, subst, ◌∙◌, arith, inl, inr}
+use Rattle.std.proofs.Common.{◌≡◌, ℕ, zero, suc, ◌+◌, ◌-◌, ◌<◌, ◌≤◌, Bool, true, false, cond, List, [], ◌∷◌, ◌++◌, append_assoc, append-nil, length, map, take, get_or, All, Option, Some, None, Bor, codes, refl, sym, ap, subst, ◌∙◌, arith, inl, inr}
 use Rattle.std.specs.Prelude.{slice_get}
+use Rattle.std.specs.Slice.{IsItemAt}
 use Rattle.std.proofs.lemmas.Grind.{flat_map-append}
 use Rattle.std.proofs.lemmas.List.{map-append, take_more, take_all}
 use Rattle.std.proofs.lemmas.List.Elements.{All-nil, All-cons, All-append}
-use Rattle.std.proofs.lemmas.Option.{slice_get_cases}
+use Rattle.std.proofs.lemmas.Option.{slice_get_cases, slice_get_read, slice_get_past}
 use Rattle.air_field.specs.Assignment.{Trace, row_assignment}
 use Rattle.air_field.specs.Grid.{Grid}
 use Rattle.air_field.specs.Modular.{Modular, modular_ring}
 use Rattle.air_field.specs.Ring.{CommRing}
+use Rattle.air_field.specs.Term.{Leaf}
 use Rattle.air_core.specs.declared.boundary.BoundaryPublic.{BoundaryPublic}
 use Rattle.air_symbolic.specs.BaseLeaves.{base_leaves}
 use Rattle.air_symbolic.specs.ExtLeaves.{BaseNodes}
@@ -74,6 +76,31 @@ failing-more roots failures i f lt is =
     ap (failing_roots roots) (seen-more failures i f lt is)
     ∙ flat_map-append (λ (g : Failure). option_to_list (slice_get roots (place_of g).1)) (map seen_failure (take i failures)) (seen_failure f ∷ [])
     ∙ ap (λ t. failing_roots roots (map seen_failure (take i failures)) ++ t) (append-nil (option_to_list (slice_get roots f.constraint)))
+
+-- where there is such a constraint, and where there is none
+pub failing-one : (roots : List ℕ) (failures : List ConstraintFailure) (i : ℕ) (f : ConstraintFailure) (root : ℕ) → i < length failures → f ≡ get_or failures i f → slice_get roots f.constraint ≡ Some root → failing_roots roots (map seen_failure (take (i + 1) failures)) ≡ failing_roots roots (map seen_failure (take i failures)) ++ root ∷ []
+failing-one roots failures i f root lt is there =
+    failing-more roots failures i f lt is ∙ ap (λ (o : Option ℕ). failing_roots roots (map seen_failure (take i failures)) ++ option_to_list o) there
+
+pub failing-none : (roots : List ℕ) (failures : List ConstraintFailure) (i : ℕ) (f : ConstraintFailure) → i < length failures → f ≡ get_or failures i f → slice_get roots f.constraint ≡ None → failing_roots roots (map seen_failure (take (i + 1) failures)) ≡ failing_roots roots (map seen_failure (take i failures))
+failing-none roots failures i f lt is past =
+    failing-more roots failures i f lt is
+    ∙ ap (λ (o : Option ℕ). failing_roots roots (map seen_failure (take i failures)) ++ option_to_list o) past
+    ∙ append-nil (failing_roots roots (map seen_failure (take i failures)))
+
+-- what `get` lends
+pub item_there : {X : Type 0} (xs : List X) (i : ℕ) (b : Bor X) → IsItemAt xs i (Some b) → slice_get xs i ≡ Some b.now
+item_there xs i b h = slice_get_read xs (length xs) i b.now refl h.3.0 h.1
+
+pub item_past : {X : Type 0} (xs : List X) (i : ℕ) → IsItemAt xs i None → slice_get xs i ≡ None
+item_past xs i h = slice_get_past xs i h.3
+
+pub item_has : {X : Type 0} (P : X → Type 0) (xs : List X) (i : ℕ) (b : Bor X) → IsItemAt xs i (Some b) → All P xs → P b.now
+item_has P xs i b h all = subst P (sym h.1) (all i b.now h.3.0)
+
+-- no cell, no line
+pub no_cell : {F : Type 0} {p : ℕ} (m : Modular F p) (s : Leaf → F) (cell : Option BoundaryPublic) (text : List ℕ) → cell ≡ None → text ≡ text ++ lines_text (cell_lines m s cell)
+no_cell m s cell text none = sym (ap (λ (o : Option BoundaryPublic). text ++ lines_text (cell_lines m s o)) none ∙ append-nil text)
 
 block-pieces : (old first rest : List ℕ) → (old ++ (first ++ [])) ++ rest ≡ old ++ (first ++ rest)
 block-pieces old first rest = simp (append_assoc, append-nil)

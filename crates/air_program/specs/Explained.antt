@@ -1,9 +1,11 @@
 -- What answers the word `explain`.
-use Rattle.std.specs.Prelude.{◌≡◌, ◌⊎◌, ℕ, ◌-◌, ◌<◌, List, [], ◌∷◌, ◌++◌, length, Option, None, Some, slice_get}
+use Rattle.std.specs.Prelude.{◌≡◌, ◌⊎◌, ℕ, ◌-◌, ◌<◌, List, [], ◌∷◌, ◌++◌, length, map, Option, None, Some, Vec, slice_get}
+use Rattle.std.specs.Global.{Global}
 use Rattle.std.specs.Option.{option_to_list}
 use Rattle.std.specs.List.{AllZip, flat_map}
 use Rattle.serde_json.specs.Data.{Data}
 use Rattle.air_field.specs.Assignment.{Trace, row_assignment}
+use Rattle.air_field.specs.Grid.{Grid}
 use Rattle.air_field.specs.Modular.{Modular, modular_ring}
 use Rattle.air_field.specs.Term.{Leaf}
 use Rattle.air_core.specs.declared.boundary.BoundaryPublic.{BoundaryPublic}
@@ -14,8 +16,7 @@ use Rattle.air_symbolic.specs.Reach.{Reached}
 use Rattle.air_infix.specs.Names.{AreNames}
 use Rattle.air_explain.specs.Cells.{cell_line}
 use Rattle.air_explain.specs.Explained.{Explains, reached_definitions}
-use Rattle.air_report.specs.Given.{given_trace}
-use Rattle.p3_air.specs.Audits.{check_input}
+use Rattle.air_report.specs.Given.{table_grid}
 use Rattle.air_object.specs.Input.{SpellsInput}
 use Rattle.air_object.specs.declared.input.FlatInput.{FlatInput}
 use Rattle.air_program.specs.Answer.{AuditFinds}
@@ -83,13 +84,22 @@ pub record IsExplainedText {F : Type 0} {p : ℕ} (m : Modular F p) (pool : Base
   pub failing : Reached base_leaves pool.1 (failing_roots roots f.failures) marks
   pub explains : PushesExplained m pool roots cells trace names.1 f.failures (lines_text (front_lines m pool names marks f)) text
 
+-- a main trace with what stands beside it
+abbrev pub trace_with : {F : Type 0} → Grid F → Option (Grid F) → List (Vec F Global) → List F → Trace F
+trace_with main table periodic public = record {
+  main_trace = main;
+  preprocessed_trace = table_grid table;
+  periodic_columns = map (λ column. column.items) periodic;
+  public_values = public;
+}
+
 module _ {F : Type 0} {p : ℕ} (m : Modular F p) where
   -- the text and the status of what its audit finds, explained
   abbrev pub TellsExplained : FlatInput F → ℕ → List ℕ → Type 0
   TellsExplained input status text =
       (f : Found) × AuditFinds m (flat_instance input) input.cap input.transition_weight f
       × (status ≡ findings_status f)
-      × IsExplainedText m input.pool input.roots.items input.cells.items (given_trace (check_input (flat_instance input))) f text
+      × IsExplainedText m input.pool input.roots.items input.cells.items (trace_with input.main input.preprocessed input.periodic.items input.public_values.items) f text
 
 -- what is found of the input that the value spells over the field, explained, or the name of the first refusal of `flat`
 abbrev pub ExplainedIn : (F : Type 0) (p : ℕ) → Modular F p → Data → ℕ → List ℕ → Type 0

@@ -12,12 +12,9 @@ ghost use Rattle.air_infix.specs.Names.{AreNames};
 ghost use Rattle.air_explain.specs.Rows.{trace_of};
 ghost use Rattle.air_explain.specs.Values.{AreClosed};
 ghost use Rattle.air_report.specs.FailureTexts.{seen_failure};
-ghost use Rattle.air_report.specs.Given.{given_trace};
-ghost use Rattle.p3_air.specs.Audits.{check_input};
-ghost use Rattle.p3_air.specs.Theorem.{instance};
 ghost use Rattle.air_object.specs.Parts.{InPool, ArePartsOf};
 ghost use Rattle.air_program.specs.AtHand.{KnownAt};
-ghost use Rattle.air_program.specs.Explained.{failing_roots, cell_lines, PushesNames, PushesExplained, IsExplainedText, TellsExplained, ExplainedIn, IsExplainAnswer};
+ghost use Rattle.air_program.specs.Explained.{failing_roots, cell_lines, PushesNames, PushesExplained, trace_with, IsExplainedText, TellsExplained, ExplainedIn, IsExplainAnswer};
 ghost use Rattle.air_program.specs.FlatAnswer.{StandsFor, HasNoValue, AuditRefusesInput};
 ghost use Rattle.air_program.specs.Refusals.{name_of, refusal_text, air_refusal};
 ghost use Rattle.air_program.specs.Requests.{MayRefuse};
@@ -213,8 +210,8 @@ fn explained<F: PrimeField64>(
 ) -> Result<(u8, String), Refusal>
     ensures status { IfOk result (λ p. p.0 ≡ findings_status (found findings.now)) }
     ensures text { IfOk result (λ p. IsExplainedText F.residues air.now.pool air.now.roots.items
-        air.now.cells.items (given_trace (check_input (instance (FlatAir<F>.declaration air.now)
-        main.now public_values.now))) (found findings.now) (string_bytes p.1)) }
+        air.now.cells.items (trace_with main.now air.now.preprocessed air.now.periodic.items
+        public_values.now) (found findings.now) (string_bytes p.1)) }
     ensures refused { IfErr result (λ why. why ≡ Refusal.Memory) }
 {
     let trace = TraceRows {
@@ -267,14 +264,18 @@ fn explain_parts<F: PrimeField64 + 'static>(
 ) -> Result<(u8, String), Refusal>
     requires { InPool parts.constraints }
     ensures ok { IfOk result (λ p. (d : Data)
-        → ArePartsOf F.residues d (view parts.rest) parts.constraints
+        → ArePartsOf F.residues d (view parts.rest) parts.main parts.constraints
         → ExplainedIn F F.ORDER_U64 F.residues d p.0 (string_bytes p.1)) }
     ensures refused { IfErr result (λ why. (why ≡ Refusal.Memory) ⊎ ((d : Data)
-        → ArePartsOf F.residues d (view parts.rest) parts.constraints
+        → ArePartsOf F.residues d (view parts.rest) parts.main parts.constraints
         → ExplainedIn F F.ORDER_U64 F.residues d 2 (refusal_text (name_of why)))) }
 {
-    let Parts { rest, constraints } = parts;
-    let input = input_from(alloc, &rest, constraints)?;
+    let Parts {
+        rest,
+        main,
+        constraints,
+    } = parts;
+    let input = input_from(alloc, &rest, main, constraints)?;
     explain_input(alloc, input)
 }
 

@@ -14,4 +14,4 @@ returns-clause-refused g c =
     let m = g.F.PrimeField64.residues in
     let found = c.in_ok-parts.ensures.parts in
     let parts = c.in_ok-parts.parts in
-    IfErr-weaker c.explain_parts.result _ _ (λ why h. still_refused m c.args.bytes.now found.0 (λ d. ArePartsOf m d (view parts.rest) parts.constraints) why found.1 found.2 h) c.explain_parts.ensures.refused
+    IfErr-weaker c.explain_parts.result _ _ (λ why h. still_refused m c.args.bytes.now found.0 (λ d. ArePartsOf m d (view parts.rest) parts.main parts.constraints) why found.1 found.2 h) c.explain_parts.ensures.refused
