@@ -1,7 +1,14 @@
 use contract.BorrowLft.{⊑_static}
-use Rattle.std.proofs.Common.{inl, inr, refl}
+use Rattle.std.proofs.Common.{inl, inr, refl, sym, ap, subst, ◌∙◌, ℕ, List, Vec, string_bytes}
+use Rattle.std.specs.Global.{Global}
 use Rattle.std.proofs.lemmas.Result.{err_from_is_err_and}
+use Rattle.air_core.specs.declared.boundary.BoundaryPublic.{BoundaryPublic}
+use Rattle.p3_air.specs.Theorem.{Instance}
+use Rattle.air_program.specs.Answer.{AuditFinds, AuditRefuses}
+use Rattle.air_program.specs.Explained.{IsExplainedText, trace_with}
+use Rattle.air_program.specs.FlatAnswer.{AuditRefusesInput, flat_instance}
 use Rattle.air_program.specs.Texts.{found}
+use Rattle.air_program.proofs.ExplainAnswers.{IsOf, same_instance, same_text}
 use Rattle.air_program.proofs.NamedAnswers.{if_both}
 use Rattle.air_program.proofs.explain.explain_input.Goals as goal
 
@@ -24,22 +31,58 @@ findings_of-requires-lives-A-Air-2-4 g c κs within = λ a m. ⊑_static _ a (c.
 
 pub returns-in_err-findings-clause-refused : goal.returns-in_err-findings-clause-refused
 returns-in_err-findings-clause-refused g c =
+    let m = g.F.PrimeField64.residues in
+    let air = c.with_table-air.result in
+    let input = c.args.input in
     let made = c.in_ok-air.ensures in
     let tabled = c.with_table-air.ensures in
+    let public = c.deref.result.now in
+    let of : IsOf input air.pool air.roots.items air.width air.num_public_values air.preprocessed air.periodic.items air.cells.items public = record {
+      pool_is = tabled.pool ∙ made.pool;
+      roots_are = ap (λ (v : Vec ℕ Global). v.items) (tabled.roots ∙ made.roots);
+      width_is = tabled.width ∙ made.width ∙ c.width.ensures;
+      count_is = tabled.num_public_values ∙ made.num_public_values ∙ c.len.ensures ∙ input.public_values.ok.0;
+      table_is = tabled.preprocessed;
+      periodic_are = ap (λ (v : Vec (Vec _ Global) Global). v.items) (tabled.periodic ∙ made.periodic);
+      cells_are = ap (λ (v : Vec BoundaryPublic Global). v.items) (tabled.cells ∙ made.cells);
+      public_are = c.deref.ensures.value;
+    } in
     let out = c.from_residual-in_err-findings in
     let p = err_from_is_err_and out.result out.ensures.1 in
     let no = c.in_err-findings in
-    rw (p.1, p.2) (inr (no.field-0.0, rw (tabled.pool, tabled.roots, tabled.width, tabled.num_public_values, tabled.preprocessed, tabled.periodic, tabled.cells, made.pool, made.roots, made.width, made.num_public_values, made.periodic, made.cells, c.width.ensures, c.len.ensures, ← c.deref.ensures.len, c.deref.ensures.value) at no.ensures.refused, refl))
+    let same = same_instance input air.pool air.roots.items air.width air.num_public_values air.preprocessed air.periodic.items air.cells.items public of in
+    let refuses : AuditRefusesInput m input no.field-0.0 =
+    subst (λ (x : Instance _). AuditRefuses m x input.cap input.transition_weight no.field-0.0) same no.ensures.refused in
+    rw (p.1, p.2) (inr (no.field-0.0, refuses, refl))
 
 pub returns-clause-ok : goal.returns-clause-ok
 returns-clause-ok g c =
+    let m = g.F.PrimeField64.residues in
+    let air = c.with_table-air.result in
+    let input = c.args.input in
     let made = c.in_ok-air.ensures in
     let tabled = c.with_table-air.ensures in
+    let public = c.deref.result.now in
+    let of : IsOf input air.pool air.roots.items air.width air.num_public_values air.preprocessed air.periodic.items air.cells.items public = record {
+      pool_is = tabled.pool ∙ made.pool;
+      roots_are = ap (λ (v : Vec ℕ Global). v.items) (tabled.roots ∙ made.roots);
+      width_is = tabled.width ∙ made.width ∙ c.width.ensures;
+      count_is = tabled.num_public_values ∙ made.num_public_values ∙ c.len.ensures ∙ input.public_values.ok.0;
+      table_is = tabled.preprocessed;
+      periodic_are = ap (λ (v : Vec (Vec _ Global) Global). v.items) (tabled.periodic ∙ made.periodic);
+      cells_are = ap (λ (v : Vec BoundaryPublic Global). v.items) (tabled.cells ∙ made.cells);
+      public_are = c.deref.ensures.value;
+    } in
+    let f = found c.in_ok-findings.findings in
+    let same = same_instance input air.pool air.roots.items air.width air.num_public_values air.preprocessed air.periodic.items air.cells.items public of in
+    let finds : AuditFinds m (flat_instance input) input.cap input.transition_weight f =
+    subst (λ (x : Instance _). AuditFinds m x input.cap input.transition_weight f) same c.in_ok-findings.ensures.found in
     if_both _ _ _ c.explained.result
     (λ p s t. (
-      found c.in_ok-findings.findings,
-      rw (tabled.pool, tabled.roots, tabled.width, tabled.num_public_values, tabled.preprocessed, tabled.periodic, tabled.cells, made.pool, made.roots, made.width, made.num_public_values, made.periodic, made.cells, c.width.ensures, c.len.ensures, ← c.deref.ensures.len, c.deref.ensures.value) at c.in_ok-findings.ensures.found,
+      f,
+      finds,
       s,
-      rw (tabled.pool, tabled.roots, tabled.preprocessed, tabled.periodic, tabled.cells, made.pool, made.roots, made.periodic, made.cells, c.deref-2.ensures.value) at t,
+      same_text input air.pool air.roots.items air.width air.num_public_values air.preprocessed air.periodic.items air.cells.items public of m f (string_bytes p.1)
+          (subst (λ (values : List _). IsExplainedText m air.pool air.roots.items air.cells.items (trace_with input.main air.preprocessed air.periodic.items values) f (string_bytes p.1)) (c.deref-2.ensures.value ∙ sym c.deref.ensures.value) t),
     ))
     c.explained.ensures.status c.explained.ensures.text
