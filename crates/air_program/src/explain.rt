@@ -156,8 +156,7 @@ fn push_failures<F: PrimeField64>(
     };
     let mut at_hand = None;
     for failure in failures {
-        at_hand =
-            push_explained_failure(alloc, text, air, names, &marks, trace, at_hand, failure)?;
+        at_hand = push_explained_failure(alloc, text, air, names, &marks, trace, at_hand, failure)?;
     }
     Ok(())
 }

@@ -30,7 +30,7 @@ returns g c =
     (λ h. record {
       marks = c.deref-3.result.now;
       failing = subst (λ (rs : List ℕ). Reached base_leaves ns rs c.deref-3.result.now) same
-      (subst (λ (ms : List (Option ℕ)). Reached base_leaves ns c.deref-2.result.now ms) (sym c.deref-3.ensures.value) c.in-Ok.ensures.marked);
+          (subst (λ (ms : List (Option ℕ)). Reached base_leaves ns c.deref-2.result.now ms) (sym c.deref-3.ensures.value) c.in-Ok.ensures.marked);
       pushed = h;
     })
     c.push_reached_definitions.ensures
