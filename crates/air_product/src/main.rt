@@ -12,7 +12,7 @@ use std::alloc::Global;
 use std::io;
 
 /// A line for each row, with the number of constraints that fail there.
-fn report_on<F: Field, EF: ExtensionField<F> + 'static>(
+fn report_on<F: Field + 'static, EF: ExtensionField<F> + 'static>(
     alloc: Global,
     numbers: [u64; 4],
     challenges: &[EF; 1],
