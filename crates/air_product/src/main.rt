@@ -11,7 +11,7 @@ use product::RunningProduct;
 use std::alloc::Global;
 use std::io;
 
-/// A line for each row, with the number of constraints that fail there.
+/// A line for each row, with the constraints that fail there.
 fn report_on<F: Field + 'static, EF: ExtensionField<F> + 'static>(
     alloc: Global,
     numbers: [u64; 4],
@@ -35,7 +35,7 @@ fn report_on<F: Field + 'static, EF: ExtensionField<F> + 'static>(
     for row in 0..column.height().min(trace.height()) {
         let air = &RunningProduct {};
         let failed = check_row_with_permutation(alloc, air, &column, &[], permutation, row)?;
-        write!(text, "row {row}: {} of 3 fail\n", failed.len())?;
+        write!(text, "row {row}: {failed:?}\n")?;
     }
     Ok(text)
 }
