@@ -4,19 +4,6 @@ ghost use Rattle.air_adder.specs.Adder.{adder};
 use p3_air::author::{Add2, PlainAir, PlainConstraints, WordOfBits, assert_all};
 use p3_air::{AirBuilder, AirError, Field};
 
-/// The words, by name.
-struct Columns {
-    a: WordOfBits,
-    b: WordOfBits,
-    c: WordOfBits,
-}
-
-const COLUMNS: Columns = Columns {
-    a: WordOfBits { first: 0 },
-    b: WordOfBits { first: 34 },
-    c: WordOfBits { first: 68 },
-};
-
 /// a, b and c have their bits, and a is b + c.
 pub struct Adder {}
 
@@ -30,7 +17,9 @@ impl<F: Field> PlainAir<F> for Adder {
 
 impl<AB: AirBuilder> PlainConstraints<AB> for Adder {
     fn eval(&self, builder: &mut AB) -> Result<(), AirError> {
-        let Columns { a, b, c } = COLUMNS;
+        let a = WordOfBits { first: 0 };
+        let b = WordOfBits { first: 34 };
+        let c = WordOfBits { first: 68 };
         let sum = Add2 {
             a: a.word(),
             b: b.word(),

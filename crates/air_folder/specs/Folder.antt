@@ -1,5 +1,5 @@
 -- What a folder holds of a row, and how it grows.
-use Rattle.std.specs.Prelude.{◌≡◌, ◌≢◌, ⊤, ℕ, List, map}
+use Rattle.std.specs.Prelude.{◌≡◌, ◌≢◌, ⊤, ℕ, Bool, List, map}
 use Rattle.air_field.specs.Ring.{Over, itself}
 use Rattle.air_field.specs.Extension.{Basis}
 use Rattle.air_field.specs.Term.{Leaf, permutation, Term, ext_const_term}
@@ -32,9 +32,11 @@ values_are_their_base a basis extended = record {
   base_means_some = λ p x h. (ext_const_term (basis.coefficients x), extended x);
 }
 
--- what stands at the leaves, all of it over the extension, and the element whose powers are the weights
+-- what stands at the leaves, all of it over the extension; whether there is a permutation trace, with columns or without;
+-- and the element whose powers are the weights
 pub record FolderRow (E : Type 0) : Type 0 where
   pub values : RowValues E
+  pub has_permutation : Bool
   pub others : PermutationData E
   pub alpha : E
 

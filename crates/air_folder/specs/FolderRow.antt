@@ -1,5 +1,5 @@
 -- The row that a folder stands at, and its growth.
-use Rattle.std.specs.Prelude.{◌≡◌, List}
+use Rattle.std.specs.Prelude.{◌≡◌, List, is_some}
 use Rattle.air_field.specs.Ring.{Over}
 use Rattle.air_builder.specs.Assertion.{Assertion}
 use Rattle.air_builder.specs.PermutationRows.{permutation_data}
@@ -19,6 +19,7 @@ folder_row b = record {
     on_last_row = b.is_last_row;
     on_transition = b.is_transition;
   };
+  has_permutation = is_some b.permutation;
   others = permutation_data b.permutation b.challenges.now b.permutation_values.now;
   alpha = b.alpha;
 }

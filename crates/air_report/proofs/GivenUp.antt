@@ -48,11 +48,17 @@ pub cells_refused : {F : Type 0} (r : CommRing F) (eq : F → F → Bool) (g : G
 cells_refused r eq g cap shown fs count cells e fits ran fit places counted same (inl m) = inr (fits, inl (inl m))
 cells_refused r eq g cap shown fs count cells e fits ran fit places counted same (inr o) =
     let len : length fs ≡ length (report_of r eq (given_trace g) g.declaration.declared shown) = sym (length-map fs failure_place) ∙ ap length places in
-    inr (fits, inr (inr (o.0, record {
-      shown = shown;
-      ran = ran;
-      cells = fit;
-      past = subst (λ n. IsListedPast n (left_of cap (length (report_of r eq (given_trace g) g.declaration.declared shown)) (differing r eq g.main g.public g.declaration.cells))) counted
-          (subst (λ n. IsListedPast count (left_of cap n (differing r eq g.main g.public g.declaration.cells))) len
-          (subst (λ cs. IsListedPast count (left_of cap (length fs) (differing r eq g.main g.public cs))) same o.1));
-    })))
+    inr (
+      fits,
+      inr (inr (
+        o.0,
+        record {
+          shown = shown;
+          ran = ran;
+          cells = fit;
+          past = subst (λ n. IsListedPast n (left_of cap (length (report_of r eq (given_trace g) g.declaration.declared shown)) (differing r eq g.main g.public g.declaration.cells))) counted
+              (subst (λ n. IsListedPast count (left_of cap n (differing r eq g.main g.public g.declaration.cells))) len
+              (subst (λ cs. IsListedPast count (left_of cap (length fs) (differing r eq g.main g.public cs))) same o.1));
+        },
+      )),
+    )

@@ -1,5 +1,5 @@
 -- The audit theorem, from what the recording, the check and the inferred degree answer.
-use Rattle.std.proofs.Common.{Err, ◌≡◌, ℕ, zero, suc, ◌+◌, ◌-◌, ◌*◌, ◌≤◌, ◌<◌, ◌^◌, max, List, ◌++◌, map, Bool, Option, slice_index_or, refl, sym, ◌∙◌, subst, arith, inl, inr, add-mul}
+use Rattle.std.proofs.Common.{Err, ◌≡◌, ℕ, zero, suc, ◌-◌, ◌*◌, ◌≤◌, ◌<◌, ◌^◌, max, List, ◌++◌, map, Bool, Option, slice_index_or, refl, sym, ◌∙◌, subst, arith, inl, inr, add-mul}
 use Rattle.std.proofs.Math.Nat.{le-max_left, le-max_right, le_of_mul-le-mul_right}
 use Rattle.air_field.specs.Ring.{CommRing, itself}
 use Rattle.air_field.specs.Extension.{Basis}
