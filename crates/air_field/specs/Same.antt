@@ -1,30 +1,22 @@
 -- Terms with one polynomial in every algebra, and terms that stand for others.
 use Rattle.std.specs.Prelude.{ℕ, ◌≤◌, List, ◌∷◌}
-use Rattle.air_field.specs.Ring.{CommRing, minus, AllZero}
+use Rattle.air_field.specs.Ring.{CommRing, AllZero}
 use Rattle.air_field.specs.Term.{Leaf, Term, const_term, ext_const_term, add_term, sub_term, neg_term, mul_term}
 use Rattle.air_field.specs.Degree.{degree_by}
 
 -- Two terms that the laws of a commutative algebra over F make equal: they are one element of the free one over
--- the leaves. So they have one polynomial under every assignment, in every such algebra.
+-- the leaves. So they have one polynomial under every assignment, in every such algebra. What else these laws make
+-- equal, as t and 0 + t, is in laws/Same.
 pub data Same {F : Type 0} (r : CommRing F) : Term F → Term F → Type 0 where
   same_refl : {t : Term F} → Same r t t
   same_sym : {t u : Term F} → Same r t u → Same r u t
   same_trans : {t u v : Term F} → Same r t u → Same r u v → Same r t v
   same_add : {t u v w : Term F} → Same r t v → Same r u w → Same r (add_term t u) (add_term v w)
-  same_sub : {t u v w : Term F} → Same r t v → Same r u w → Same r (sub_term t u) (sub_term v w)
   same_neg : {t v : Term F} → Same r t v → Same r (neg_term t) (neg_term v)
   same_mul : {t u v w : Term F} → Same r t v → Same r u w → Same r (mul_term t u) (mul_term v w)
   const_add : {x y : F} → Same r (const_term (r.add x y)) (add_term (const_term x) (const_term y))
-  const_sub : {x y : F} → Same r (const_term (minus r x y)) (sub_term (const_term x) (const_term y))
-  const_neg : {x : F} → Same r (const_term (r.neg x)) (neg_term (const_term x))
   const_mul : {x y : F} → Same r (const_term (r.mul x y)) (mul_term (const_term x) (const_term y))
-  zero_add : {t : Term F} → Same r t (add_term (const_term r.nil) t)
   add_zero : {t : Term F} → Same r t (add_term t (const_term r.nil))
-  zero_sub : {t : Term F} → Same r (neg_term t) (sub_term (const_term r.nil) t)
-  sub_zero : {t : Term F} → Same r t (sub_term t (const_term r.nil))
-  zero_mul : {t : Term F} → Same r (const_term r.nil) (mul_term (const_term r.nil) t)
-  mul_zero : {t : Term F} → Same r (const_term r.nil) (mul_term t (const_term r.nil))
-  one_mul : {t : Term F} → Same r t (mul_term (const_term r.one) t)
   mul_one : {t : Term F} → Same r t (mul_term t (const_term r.one))
   assoc_add : {t u v : Term F} → Same r (add_term (add_term t u) v) (add_term t (add_term u v))
   comm_add : {t u : Term F} → Same r (add_term t u) (add_term u t)

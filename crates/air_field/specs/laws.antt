@@ -1,4 +1,5 @@
 -- Laws of what specs/ defines: implementations cite them, and the layers above build on them.
+pub mod Same
 pub mod Degree
 pub mod Polynomial
 pub mod Ring

@@ -4,7 +4,8 @@ use Rattle.std.proofs.lemmas.Result.{IfOk-weaker}
 use Rattle.std.specs.Prelude.{Option, None, Some}
 use Rattle.air_field.specs.Ring.{CommRing, minus}
 use Rattle.air_field.specs.Term.{Term, const_term, add_term, sub_term, neg_term, mul_term}
-use Rattle.air_field.specs.Same.{Same, same_refl, same_trans, same_add, same_sub, same_neg, same_mul, const_add, const_sub, const_neg, const_mul, zero_add, add_zero, zero_sub, sub_zero, zero_mul, mul_zero, one_mul, mul_one, Stands}
+use Rattle.air_field.specs.Same.{Same, same_refl, same_trans, same_add, same_neg, same_mul, const_add, const_mul, add_zero, mul_one, Stands}
+use Rattle.air_field.specs.laws.Same.{same_sub, const_sub, const_neg, zero_add, zero_sub, sub_zero, zero_mul, mul_zero, one_mul}
 use Rattle.air_field.specs.laws.Degree.{Stands-refl}
 use Rattle.air_symbolic.specs.Leaves.{Leaves, Keeps, LeafLaws}
 use Rattle.air_symbolic.specs.Trees.{Tree, nothing, leaf_tree, add_tree, sub_tree, neg_tree, mul_tree, term_of, IsWhole, tree_constant}

@@ -7,7 +7,8 @@ use Rattle.air_field.specs.laws.Ring.{nil_mul, mul_nil, neg_nil}
 use Rattle.air_field.specs.Term.{Leaf, Term, leaf_term, const_term, ext_const_term, add_term, sub_term, neg_term, mul_term}
 use Rattle.air_field.specs.Polynomial.{convolve, only, polynomial, HasDegreeAtMost}
 use Rattle.air_field.specs.Degree.{degree_by}
-use Rattle.air_field.specs.Same.{same_refl, same_trans, same_add, same_sub, same_neg, same_mul, Stands}
+use Rattle.air_field.specs.Same.{same_refl, same_trans, same_add, same_neg, same_mul, Stands}
+use Rattle.air_field.specs.laws.Same.{same_sub}
 use Rattle.air_field.specs.laws.Sums as sums
 
 module _ {E : Type 0} (r : CommRing E) where

@@ -1,13 +1,12 @@
 -- Polynomials of terms.
 use Rattle.std.proofs.Common.{◌≡◌, ℕ, zero, suc, List, [], ◌∷◌, get_or, refl, sym, ap, ◌∙◌}
 use Rattle.air_field.specs.Ring.{CommRing, Over, OverLaws}
-use Rattle.air_field.specs.laws.Ring.{nil_add, nil_mul, mul_nil, neg_nil, one_mul as one_times}
+use Rattle.air_field.specs.laws.Ring.{mul_nil}
 use Rattle.air_field.specs.Term.{Leaf, Term, leaf_term, const_term, ext_const_term, add_term, sub_term, neg_term, mul_term}
 use Rattle.air_field.specs.Value.{value}
 use Rattle.air_field.specs.Polynomial.{only, polynomial}
-use Rattle.air_field.specs.Same.{Same, same_refl, same_sym, same_trans, same_add, same_sub, same_neg, same_mul}
-use Rattle.air_field.specs.Same.{const_add, const_sub, const_neg, const_mul, zero_add, add_zero, zero_sub, sub_zero}
-use Rattle.air_field.specs.Same.{zero_mul, mul_zero, one_mul, mul_one, assoc_add, comm_add, add_opposite, sub_is}
+use Rattle.air_field.specs.Same.{Same, same_refl, same_sym, same_trans, same_add, same_neg, same_mul}
+use Rattle.air_field.specs.Same.{const_add, const_mul, add_zero, mul_one, assoc_add, comm_add, add_opposite, sub_is}
 use Rattle.air_field.specs.Same.{assoc_mul, comm_mul, mul_sum, ext_base}
 use Rattle.air_field.specs.laws.Sums as sums
 
@@ -32,33 +31,16 @@ module _ {F E : Type 0} (r : CommRing F) (a : Over F E) (m : OverLaws r a) (s : 
   Same-poly (same_sym h) n = sym (Same-poly h n)
   Same-poly (same_trans h k) n = Same-poly h n ∙ Same-poly k n
   Same-poly (same_add h k) n = cc (Same-poly h n, Same-poly k n)
-  Same-poly (same_sub h k) n = cc (Same-poly h n, Same-poly k n)
   Same-poly (same_neg h) n = cc (Same-poly h n)
   Same-poly (same_mul {t = t} {u = u} {v = v} {w = w} h k) n =
       sums.convolve-ext a.ring (polynomial a s t) (polynomial a s u) (polynomial a s v) (polynomial a s w) n (Same-poly h) (Same-poly k)
   Same-poly (const_add {x = x} {y = y}) zero = m.embed_add x y
   Same-poly (const_add {x = x} {y = y}) (suc n) = sym (a.ring.add_nil a.ring.nil)
-  Same-poly (const_sub {x = x} {y = y}) zero = sums.embed_minus r a m x y
-  Same-poly (const_sub {x = x} {y = y}) (suc n) = sym (sums.minus_nil a.ring a.ring.nil)
-  Same-poly (const_neg {x = x}) zero = sums.embed_neg r a m x
-  Same-poly (const_neg {x = x}) (suc n) = sym (neg_nil a.ring)
   Same-poly (const_mul {x = x} {y = y}) zero = m.embed_mul x y
   Same-poly (const_mul {x = x} {y = y}) (suc n) =
       sym (sums.convolve-only_left a.ring (a.embed x) (only a.ring (a.embed y)) (suc n) ∙ mul_nil a.ring (a.embed x))
-  Same-poly (zero_add {t = t}) n =
-      cc (m.embed_nil, sums.only-nil a.ring n, nil_add a.ring (polynomial a s t n))
   Same-poly (add_zero {t = t}) n =
       cc (m.embed_nil, sums.only-nil a.ring n, a.ring.add_nil (polynomial a s t n))
-  Same-poly (zero_sub {t = t}) n =
-      cc (m.embed_nil, sums.only-nil a.ring n, sums.nil_minus a.ring (polynomial a s t n))
-  Same-poly (sub_zero {t = t}) n =
-      cc (m.embed_nil, sums.only-nil a.ring n, sums.minus_nil a.ring (polynomial a s t n))
-  Same-poly (zero_mul {t = t}) n =
-      cc (m.embed_nil, sums.only-nil a.ring n, sums.convolve-only_left a.ring (a.embed r.nil) (polynomial a s t) n, nil_mul a.ring (polynomial a s t n))
-  Same-poly (mul_zero {t = t}) n =
-      cc (m.embed_nil, sums.only-nil a.ring n, sums.convolve-only_right a.ring (polynomial a s t) (a.embed r.nil) n, mul_nil a.ring (polynomial a s t n))
-  Same-poly (one_mul {t = t}) n =
-      cc (m.embed_one, sums.convolve-only_left a.ring (a.embed r.one) (polynomial a s t) n, one_times a.ring (polynomial a s t n))
   Same-poly (mul_one {t = t}) n =
       cc (m.embed_one, sums.convolve-only_right a.ring (polynomial a s t) (a.embed r.one) n, a.ring.mul_one (polynomial a s t n))
   Same-poly (assoc_add {t = t} {u = u} {v = v}) n = a.ring.add_assoc (polynomial a s t n) (polynomial a s u n) (polynomial a s v n)
