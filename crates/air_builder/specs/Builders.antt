@@ -54,11 +54,14 @@ MeansIn view = Means view.means view.ring_of view.stands
 
 -- What every builder keeps. Growth joins; lending the ring grows nothing; what it kept, it still has.
 pub record BuilderLaws {S R E F : Type 0} (view : BuilderView S R E F) : Type 0 where
+  -- growth by nothing, and by one list after another
   pub same : (a : S) → view.grew a a []
   pub joined : (a b c : S) (xs ys : List (Assertion F)) → view.grew a b xs → view.grew b c ys → view.grew a c (xs ++ ys)
+  -- the ring that is lent: what comes back must extend it, and is then the builder's
   pub ring_lent : (a : S) (r : R) → view.extends (view.ring_of a) r → view.grew a (view.with_ring a r) []
   pub ring_with : (a : S) (r : R) → view.ring_of (view.with_ring a r) ≡ r
   pub ring_valid : (a : S) → view.ready a → view.valid (view.ring_of a)
+  -- what a builder keeps when it grows: its elements, what its leaves read as, which entries it lacks
   pub by_growth : (a b : S) (xs : List (Assertion F)) → view.grew a b xs → view.kept a b
   pub kept_joined : (a b c : S) → view.kept a b → view.kept b c → view.kept a c
   pub ring_kept : (a b : S) → view.kept a b → view.extends (view.ring_of a) (view.ring_of b)
@@ -66,10 +69,12 @@ pub record BuilderLaws {S R E F : Type 0} (view : BuilderView S R E F) : Type 0 
   pub ready_kept : (a b : S) → view.kept a b → view.ready a → view.ready b
   pub missing_kept : (a b : S) (l : Leaf) → view.kept a b → view.missing b l → view.missing a l
   pub missing_stays : (a b : S) (l : Leaf) → view.kept a b → view.missing a l → view.missing b l
+  -- the entries that every builder has, or lacks
   pub past_window : (a : S) (o : ℕ) (l : Leaf) → IsPastWindow o l → view.missing a l
   pub has_first_row : (a : S) → view.missing a first_row → ⊥
   pub has_last_row : (a : S) → view.missing a last_row → ⊥
   pub has_transition : (a : S) → view.missing a transition → ⊥
+  -- a longer list is refused where a part of it is, or where the ring or a missing entry refuses
   pub refuses_first : (a : S) (e : AirError) (xs ys : List (Assertion F))
       → view.refuses a e xs → view.refuses a e (xs ++ ys)
   pub refuses_then : (a b : S) (e : AirError) (xs ys : List (Assertion F))

@@ -28,6 +28,6 @@ pub data Same {F : Type 0} (r : CommRing F) : Term F → Term F → Type 0 where
   ext_base : {x : F} {xs : List F} → AllZero r xs → Same r (const_term x) (ext_const_term (x ∷ xs))
 
 -- u stands for t: the same polynomial everywhere, and a degree that is no greater by any weighting of the leaves
-pub record Stands {F : Type 0} (r : CommRing F) (u t : Term F) : Type 0 where
+pub record Simplifies {F : Type 0} (r : CommRing F) (u t : Term F) : Type 0 where
   pub same : Same r u t
-  pub light : (w : Leaf → ℕ) → degree_by w u ≤ degree_by w t
+  pub degree_le : (w : Leaf → ℕ) → degree_by w u ≤ degree_by w t

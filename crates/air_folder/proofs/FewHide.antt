@@ -12,8 +12,8 @@ use Rattle.air_field.specs.Ring.{CommRing, AllZero}
 use Rattle.air_field.specs.Powers.{power}
 use Rattle.air_field.specs.laws.Ring.{nil_add, one_mul, ring_rules}
 use Rattle.air_field.specs.laws.RingSolver.{var, plus, times, ring}
-use Rattle.air_recording.specs.Folds.{horner}
-use Rattle.air_folder.specs.laws.Fold.{horner-first}
+use Rattle.air_recording.specs.Folds.{sum_by_powers}
+use Rattle.air_folder.specs.laws.Fold.{sum_by_powers-first}
 use Rattle.air_folder.specs.Hiding.{IsBelowAll, IsIncreasing}
 use Rattle.air_folder.proofs.Roots.{DiffersFromAll, Distinct, poly_value, AllRoots, nil_of_roots}
 
@@ -43,12 +43,12 @@ module _ {A : Type 0} (r : CommRing A) where
   last_step : (w p v x : A) → r.add (r.mul p v) w ≡ r.add w (r.mul p (r.add v (r.mul x r.nil)))
   last_step w p v x = simp ring_rules
 
-  horner-backwards : (vs : List A) (x : A) → horner r x vs ≡ poly_value r (backwards vs) x
-  horner-backwards [] x = refl
-  horner-backwards (v ∷ vs) x =
-      horner-first r x v vs
-      ∙ (last_step (horner r x vs) (power r x (length vs)) v x
-      ∙ (ap₂ (λ w n. r.add w (r.mul (power r x n) (r.add v (r.mul x r.nil)))) (horner-backwards vs x) (sym (backwards-length vs))
+  sum_by_powers-backwards : (vs : List A) (x : A) → sum_by_powers r x vs ≡ poly_value r (backwards vs) x
+  sum_by_powers-backwards [] x = refl
+  sum_by_powers-backwards (v ∷ vs) x =
+      sum_by_powers-first r x v vs
+      ∙ (last_step (sum_by_powers r x vs) (power r x (length vs)) v x
+      ∙ (ap₂ (λ w n. r.add w (r.mul (power r x n) (r.add v (r.mul x r.nil)))) (sum_by_powers-backwards vs x) (sym (backwards-length vs))
       ∙ sym (value-append (backwards vs) (v ∷ []) x)))
 
   all_zero-append : (cs : List A) (v : A) → AllZero r (cs ++ v ∷ []) → AllZero r cs × (v ≡ r.nil)
@@ -83,14 +83,14 @@ module _ {A : Type 0} (r : CommRing A) where
   kept-roots cs p told (x ∷ xs) = kept-roots-step cs p x xs (p x) (told x) (kept-roots cs p told xs)
 
   -- fewer elements than values fold the values to zero, where not all values are
-  pub few_hide : IsDomain r → (p : A → Bool) (vs alphas : List A) → ((x : A) → p x ≡ true → horner r x vs ≡ r.nil) → Distinct alphas → (AllZero r vs → ⊥) → count_by p alphas < length vs
+  pub few_hide : IsDomain r → (p : A → Bool) (vs alphas : List A) → ((x : A) → p x ≡ true → sum_by_powers r x vs ≡ r.nil) → Distinct alphas → (AllZero r vs → ⊥) → count_by p alphas < length vs
   few_hide domain p vs alphas told distinct some =
       elim (cases_lt (count_by p alphas) (length vs)) [
         | inl less ↦ less
         | inr more ↦
             absurd (some (all_zero-backwards r vs
             (nil_of_roots r domain (backwards vs) (filter p alphas) (kept-distinct p alphas distinct)
-            (kept-roots (backwards vs) p (λ x h. sym (horner-backwards r vs x) ∙ told x h) alphas)
+            (kept-roots (backwards vs) p (λ x h. sym (sum_by_powers-backwards r vs x) ∙ told x h) alphas)
             (omega (arith, backwards-length vs, length-filter p alphas)))))
       ]
 

@@ -9,7 +9,7 @@ use Rattle.air_field.specs.Value.{value}
 use Rattle.air_symbolic.specs.BaseLeaves.{base_reads}
 use Rattle.air_symbolic.specs.ExtLeaves.{ext_reads}
 use Rattle.air_builder.specs.Assertion.{Assertion, Base, Extension}
-use Rattle.air_recording.specs.Folds.{horner, recombination, ArePlacesOf}
+use Rattle.air_recording.specs.Folds.{sum_by_powers, recombination, ArePlacesOf}
 use Rattle.air_recording.specs.Kinds.{kind_of, base_terms, ext_terms, is_base, is_extension, places_from}
 use Rattle.air_recording.specs.Recorded.{EachRecords, RecordsBase, RecordsExt, terms_of}
 use Rattle.air_folder.specs.Fold.{folded_on}
@@ -41,14 +41,14 @@ module _ {F E : Type 0} (a : Over F E) (s : Leaf → E) (z : E) where
       ap₂ (λ x xs. x ∷ xs) (ap at (omega arith) ∙ (h 0 ∙ sym (l.0.same_value s))) (ext_at at (n + 1) ts us l.1 (λ k. ap at (omega arith) ∙ h (suc k)))
 
 -- what was folded on zero is Horner's fold
-pub fold_from_zero : {E : Type 0} (r : CommRing E) (alpha : E) (values : List E) (before : E) → before ≡ r.nil → (after answer : E) → after ≡ folded_on r alpha before values → answer ≡ after → answer ≡ horner r alpha values
+pub fold_from_zero : {E : Type 0} (r : CommRing E) (alpha : E) (values : List E) (before : E) → before ≡ r.nil → (after answer : E) → after ≡ folded_on r alpha before values → answer ≡ after → answer ≡ sum_by_powers r alpha values
 fold_from_zero r alpha values before from_zero after answer folded same =
     same ∙ (folded ∙ (ap (λ x. folded_on r alpha x values) from_zero ∙ folded_on-nil r alpha values))
 
 module _ {F E : Type 0} (r : CommRing F) (a : Over F E) (basis : Basis F E) (d : FolderRow E) (ts : List (Assertion F)) where
   -- where the accumulator is the fold of the declared terms' values
   pub folded_air : (f : Folded F E) → RecordsBase r a base_reads f.recorded.pool.0 f.recorded.base.items ts → RecordsExt r a (ext_reads basis) f.recorded.pool f.recorded.ext.items ts
-      → ArePlacesOf (map kind_of ts) f.layout.base_indices.items f.layout.ext_indices.items → f.accumulator ≡ horner a.ring d.alpha (values_in a (folder_leaves a d) ts) → IsFolded r a basis d ts f
+      → ArePlacesOf (map kind_of ts) f.layout.base_indices.items f.layout.ext_indices.items → f.accumulator ≡ sum_by_powers a.ring d.alpha (values_in a (folder_leaves a d) ts) → IsFolded r a basis d ts f
   folded_air f base ext places fold = record {
     base = base;
     ext = ext;

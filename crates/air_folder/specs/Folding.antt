@@ -10,7 +10,7 @@ use Rattle.air_builder.specs.Assertion.{Assertion}
 use Rattle.air_builder.specs.Declaration.{Declaration}
 use Rattle.air_core.specs.declared.errors.AirError.{AirError}
 use Rattle.air_core.specs.declared.errors.AirError.TheVariants.{Memory}
-use Rattle.air_recording.specs.Folds.{horner, recombination, ArePlacesOf, Recombines, values_at}
+use Rattle.air_recording.specs.Folds.{sum_by_powers, recombination, ArePlacesOf, Recombines, values_at}
 use Rattle.air_recording.specs.Kinds.{kind_of}
 use Rattle.air_recording.specs.Recorded.{RecordsBase, RecordsExt, terms_of}
 use Rattle.air_recording.specs.Recorded.{RecordRefuses, RecordingAnswers}
@@ -41,7 +41,7 @@ pub record IsFolded {F E : Type 0} (r : CommRing F) (a : Over F E) (basis : Basi
   pub of_declared : values ≡ values_in a (folder_leaves a d) declared
   pub at_base : values_at a.ring values f.layout.base_indices.items ≡ base_values a (folder_leaves a d) f.recorded
   pub at_ext : values_at a.ring values f.layout.ext_indices.items ≡ ext_values a basis (folder_leaves a d) f.recorded
-  pub accumulator : f.accumulator ≡ horner a.ring d.alpha values
+  pub accumulator : f.accumulator ≡ sum_by_powers a.ring d.alpha values
   pub recombined : (coordinates : List (List F)) (powers : List E) → Recombines r a d.alpha f.layout.base_indices.items f.layout.ext_indices.items coordinates powers
       → recombination r a coordinates powers (base_values a (folder_leaves a d) f.recorded) (ext_values a basis (folder_leaves a d) f.recorded) ≡ f.accumulator
 

@@ -3,11 +3,11 @@ use Rattle.std.specs.Prelude.{◌≡◌, Bool, List, [], ◌∷◌}
 use Rattle.std.specs.declared.cmp.Ordering.{Ordering}
 use Rattle.std.specs.declared.cmp.Ordering.TheVariants.{Less}
 use Rattle.air_field.specs.Ring.{CommRing}
-use Rattle.air_recording.specs.Folds.{horner}
+use Rattle.air_recording.specs.Folds.{sum_by_powers}
 
 -- whether Horner's fold of the values by alpha is zero
 abbrev pub folds_to_zero : {A : Type 0} → CommRing A → (A → A → Bool) → List A → A → Bool
-folds_to_zero r eq values alpha = eq (horner r alpha values) r.nil
+folds_to_zero r eq values alpha = eq (sum_by_powers r alpha values) r.nil
 
 abbrev pub IsBelowAll : {A : Type 0} → (A → A → Ordering) → A → List A → Type 0
 IsBelowAll cmp x [] = Unit {0}

@@ -1,14 +1,14 @@
 //! How many elements hide values by folding them to zero.
 ghost use Rattle.std.specs.Prelude.{◌≡◌, ◌<◌, length, count_by};
 ghost use Rattle.air_field.specs.Ring.{AllZero};
-ghost use Rattle.air_recording.specs.Folds.{horner};
+ghost use Rattle.air_recording.specs.Folds.{sum_by_powers};
 ghost use Rattle.air_folder.specs.Hiding.{folds_to_zero, IsIncreasing};
 
 use p3_air::{DomainExtension, ExtensionField, Field};
 
 /// Horner's fold of the values.
 fn fold<F: Field, EF: ExtensionField<F>>(values: &[EF], alpha: EF) -> EF
-    ensures { result ≡ horner EF.over.ring alpha values.now }
+    ensures { result ≡ sum_by_powers EF.over.ring alpha values.now }
 {
     let mut accumulator = EF::zero();
     for value in values {

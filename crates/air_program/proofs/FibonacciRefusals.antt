@@ -61,14 +61,14 @@ unfolding TermsBelow
 recorded_below a w b [] [] m h = omega arith
 recorded_below a w b [] (t ∷ ts) m h = absurd m
 recorded_below a w b (u ∷ us) [] m h = absurd m
-recorded_below a w b (u ∷ us) (t ∷ ts) m h = max-le (omega (arith, m.0.light w, h.0)) (recorded_below a w b us ts m.1 h.1)
+recorded_below a w b (u ∷ us) (t ∷ ts) m h = max-le (omega (arith, m.0.degree_le w, h.0)) (recorded_below a w b us ts m.1 h.1)
 
 both_below : {F E : Type 0} (a : Over F E) (w : Leaf → ℕ) (b : ℕ) (us ts vs ss : List (Term F)) → EachRecords a us ts → EachRecords a vs ss → TermsBelow w b ts → TermsBelow w b ss → greatest_degree w (us ++ vs) ≤ b
 unfolding TermsBelow
 both_below a w b [] [] vs ss m n h k = recorded_below a w b vs ss n k
 both_below a w b [] (t ∷ ts) vs ss m n h k = absurd m
 both_below a w b (u ∷ us) [] vs ss m n h k = absurd m
-both_below a w b (u ∷ us) (t ∷ ts) vs ss m n h k = max-le (omega (arith, m.0.light w, h.0)) (both_below a w b us ts vs ss m.1 n h.1 k)
+both_below a w b (u ∷ us) (t ∷ ts) vs ss m n h k = max-le (omega (arith, m.0.degree_le w, h.0)) (both_below a w b us ts vs ss m.1 n h.1 k)
 
 module _ (F : Type 0) where
   -- two columns and three public values have all entries that the constraints name

@@ -4,7 +4,7 @@ use Rattle.air_field.specs.Ring.{CommRing, Over}
 use Rattle.air_field.specs.Extension.{Basis, ExtensionLaws}
 use Rattle.air_recording.specs.Weights.{weight, weights_of, coordinates_of, all_coordinates_of}
 use Rattle.air_recording.specs.declared.symbolic.kind.ConstraintKind.{ConstraintKind}
-use Rattle.air_recording.specs.Folds.{sum_below, horner, basis_element, weighted_sum, recombination, ArePlacesOf, values_at, Recombines}
+use Rattle.air_recording.specs.Folds.{sum_below, sum_by_powers, basis_element, weighted_sum, recombination, ArePlacesOf, values_at, Recombines}
 use Rattle.air_recording.proofs.Tabulations.{IsTabulation, length-tabulation, get_or-tabulation}
 use Rattle.air_recording.proofs.SumLaws.{sum_below-ext, sum_below-mul, sum_over, sum_over-ext, sum_below-over, weighted_sum-map, sum_below-from, sum-places, length-places}
 use Rattle.air_recording.proofs.BasisParts.{part, element-parts}
@@ -51,10 +51,10 @@ module _ {F E : Type 0} (R : CommRing F) (a : Over F E) (basis : Basis F E) (n :
       (weighted_sum-map a.ring w v e)
 
   -- The recombination, from coordinates and whole powers, of the values at the places of both kinds is Horner's fold of all.
-  pub recombination-horner : (alpha : E) (kinds : List ConstraintKind) (values : List E) (b e : List ℕ) → ArePlacesOf kinds b e → length values ≡ length kinds →
+  pub recombination-sum_by_powers : (alpha : E) (kinds : List ConstraintKind) (values : List E) (b e : List ℕ) → ArePlacesOf kinds b e → length values ≡ length kinds →
       recombination R a (all_coordinates_of R basis (weights_of a.ring alpha (length b + length e) b) n) (weights_of a.ring alpha (length b + length e) e) (values_at a.ring values b) (values_at a.ring values e)
-      ≡ horner a.ring alpha values
-  recombination-horner alpha kinds values b e are same_length =
+      ≡ sum_by_powers a.ring alpha values
+  recombination-sum_by_powers alpha kinds values b e are same_length =
       recombined (weight a.ring alpha (length b + length e)) at b e
       ∙ (ap₂ (λ x y. a.ring.add (sum_over a.ring (λ i. a.ring.mul (weight a.ring alpha (length b + length e) i) (at i)) x) (sum_over a.ring (λ i. a.ring.mul (weight a.ring alpha (length b + length e) i) (at i)) y)) are.base are.extension
       ∙ (sum-places a.ring (λ i. a.ring.mul (weight a.ring alpha (length b + length e) i) (at i)) 0 kinds
@@ -73,4 +73,4 @@ module _ {F E : Type 0} (R : CommRing F) (a : Over F E) (basis : Basis F E) (n :
       ap₂ (λ l p. recombination R a l p (values_at a.ring values b) (values_at a.ring values e))
       (lists_are ∙ ap (λ m. all_coordinates_of R basis (weights_of a.ring alpha m b) n) count)
       (powers_are ∙ ap (λ m. weights_of a.ring alpha m e) count)
-      ∙ recombination-horner alpha kinds values b e are same_length
+      ∙ recombination-sum_by_powers alpha kinds values b e are same_length

@@ -18,7 +18,7 @@ module _ {U A F : Type 0} (r : CommRing F) (reads : U → Leaves A F) (pool : U 
     record {
       same = λ s. Same-poly r a l s m.0.stands.same;
       same_value = λ s. sym (polynomial-lists_of_one a s (term_at reads pool i)) ∙ (Same-poly r a l (λ x. s x ∷ []) m.0.stands.same 0 ∙ polynomial-lists_of_one a s t);
-      light = m.0.stands.light;
+      degree_le = m.0.stands.degree_le;
     },
     each_records a l is ts m.1,
   )

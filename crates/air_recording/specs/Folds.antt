@@ -10,9 +10,9 @@ abbrev pub sum_below : {E : Type 0} → CommRing E → (ℕ → E) → ℕ → E
 sum_below r f zero = r.nil
 sum_below r f (suc n) = r.add (sum_below r f n) (f n)
 
--- Horner's fold of k values: the sum of alpha^(k-1-i) times value i
-abbrev pub horner : {E : Type 0} → CommRing E → E → List E → E
-horner r alpha values = sum_below r (λ i. r.mul (weight r alpha (length values) i) (get_or values i r.nil)) (length values)
+-- the sum of the k values by powers of alpha: value i times alpha^(k-1-i)
+abbrev pub sum_by_powers : {E : Type 0} → CommRing E → E → List E → E
+sum_by_powers r alpha values = sum_below r (λ i. r.mul (weight r alpha (length values) i) (get_or values i r.nil)) (length values)
 
 -- the element whose coefficient d is one, and whose others are zero
 abbrev pub basis_element : {F E : Type 0} → CommRing F → Over F E → ℕ → E
@@ -46,4 +46,4 @@ values_at r values indices = map (λ i. get_or values i r.nil) indices
 abbrev pub Recombines : {F E : Type 0} → CommRing F → Over F E → E → List ℕ → List ℕ → List (List F) → List E → Type 0
 Recombines {E = E} R a alpha base_indices ext_indices coordinates powers =
     (kinds : List ConstraintKind) (values : List E) → ArePlacesOf kinds base_indices ext_indices → length values ≡ length kinds
-    → recombination R a coordinates powers (values_at a.ring values base_indices) (values_at a.ring values ext_indices) ≡ horner a.ring alpha values
+    → recombination R a coordinates powers (values_at a.ring values base_indices) (values_at a.ring values ext_indices) ≡ sum_by_powers a.ring alpha values

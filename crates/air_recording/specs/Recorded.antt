@@ -24,7 +24,7 @@ use Rattle.air_builder.specs.Refused.{Refused}
 pub record RecordsTerm {F E : Type 0} (a : Over F E) (u t : Term F) : Type 0 where
   pub same : (s : Leaf → List E) → SamePolynomial (polynomial a s u) (polynomial a s t)
   pub same_value : (s : Leaf → E) → value a s u ≡ value a s t
-  pub light : (w : Leaf → ℕ) → degree_by w u ≤ degree_by w t
+  pub degree_le : (w : Leaf → ℕ) → degree_by w u ≤ degree_by w t
 
 -- one for each, in order
 abbrev pub EachRecords : {F E : Type 0} → Over F E → List (Term F) → List (Term F) → Type 0

@@ -97,8 +97,8 @@ pub record CellsAgree {F : Type 0} (r : CommRing F) (eq : F → F → Bool) (g :
   pub fit : CellsFit g.main g.public g.declaration.cells
   pub agree : AgreeBelow r eq g.main g.public g.declaration.cells (length g.declaration.cells)
 
--- The trace keeps the constraints: no cell differs, and no pair of row and place is nonzero.
-pub record IsKept {F : Type 0} (r : CommRing F) (eq : F → F → Bool) (g : Given F) : Type 0 where
+-- The trace satisfies the constraints: no cell differs, and no pair of row and place is nonzero.
+pub record IsSatisfied {F : Type 0} (r : CommRing F) (eq : F → F → Bool) (g : Given F) : Type 0 where
   pub shapes : Fits g
   pub cells : CellsAgree r eq g
   pub none : report_of r eq (given_trace g) g.declaration.declared (height g) ≡ []

@@ -3,8 +3,8 @@ use Rattle.std.proofs.Common.{◌≡◌, ℕ, suc, ◌<◌, Bool, Decides, List,
 use Rattle.std.specs.Prelude.{Option, Some, None}
 use Rattle.air_field.specs.Ring.{CommRing}
 use Rattle.air_field.specs.Term.{Term, const_term, add_term, mul_term}
-use Rattle.air_field.specs.Same.{Stands}
-use Rattle.air_field.specs.laws.Degree.{Stands-refl, Stands-trans, Stands-add, Stands-mul}
+use Rattle.air_field.specs.Same.{Simplifies}
+use Rattle.air_field.specs.laws.Degree.{Simplifies-refl, Simplifies-trans, Simplifies-add, Simplifies-mul}
 use Rattle.air_field.specs.Joins.{join_from, join_terms}
 use Rattle.air_symbolic.specs.Leaves.{Leaves, LeafLaws}
 use Rattle.air_symbolic.specs.Trees.{Tree, add_tree, mul_tree, term_of, IsWhole}
@@ -31,24 +31,24 @@ IsFolded-whole l t u node v (Some Negated) ht hu hn h = subst (IsWhole l.valid) 
 IsFolded-whole l t u node v None ht hu hn h = subst (IsWhole l.valid) (sym h) hn
 
 module _ {A F : Type 0} (r : CommRing F) (l : Leaves A F) (op : Term F → Term F → Term F) (step : Tree A → Tree A → Tree A → Type 0)
-    (congruent : (t u v w : Term F) → Stands r t v → Stands r u w → Stands r (op t u) (op v w))
-    (step_stands : (t u v : Tree A) → IsWhole l.valid t → IsWhole l.valid u → step t u v → Stands r (term_of l.term v) (op (term_of l.term t) (term_of l.term u)))
+    (congruent : (t u v w : Term F) → Simplifies r t v → Simplifies r u w → Simplifies r (op t u) (op v w))
+    (step_stands : (t u v : Tree A) → IsWhole l.valid t → IsWhole l.valid u → step t u v → Simplifies r (term_of l.term v) (op (term_of l.term t) (term_of l.term u)))
     (step_whole : (t u v : Tree A) → IsWhole l.valid t → IsWhole l.valid u → step t u v → IsWhole l.valid v) where
-  join_from-stands : (a b : Term F) (ts : List (Term F)) → Stands r a b → Stands r (join_from op a ts) (join_from op b ts)
+  join_from-stands : (a b : Term F) (ts : List (Term F)) → Simplifies r a b → Simplifies r (join_from op a ts) (join_from op b ts)
   join_from-stands a b [] h = h
-  join_from-stands a b (t ∷ ts) h = join_from-stands (op a t) (op b t) ts (congruent a t b t h (Stands-refl r t))
+  join_from-stands a b (t ∷ ts) h = join_from-stands (op a t) (op b t) ts (congruent a t b t h (Simplifies-refl r t))
 
-  from-stands : (t : Tree A) (ts : List (Tree A)) (v : Tree A) → IsWhole l.valid t → AllWhole l.valid ts → JoinedFrom step t ts v → Stands r (term_of l.term v) (join_from op (term_of l.term t) (map (term_of l.term) ts))
-  from-stands t [] v ht hs h = subst (λ x. Stands r (term_of l.term x) (term_of l.term t)) (sym h) (Stands-refl r (term_of l.term t))
+  from-stands : (t : Tree A) (ts : List (Tree A)) (v : Tree A) → IsWhole l.valid t → AllWhole l.valid ts → JoinedFrom step t ts v → Simplifies r (term_of l.term v) (join_from op (term_of l.term t) (map (term_of l.term) ts))
+  from-stands t [] v ht hs h = subst (λ x. Simplifies r (term_of l.term x) (term_of l.term t)) (sym h) (Simplifies-refl r (term_of l.term t))
   from-stands t (u ∷ us) v ht hs h =
       let w : Tree A = h.0 in
-      Stands-trans r _ _ _
+      Simplifies-trans r _ _ _
       (from-stands w us v (step_whole t u w ht hs.0 h.1) hs.1 h.2)
       (join_from-stands (term_of l.term w) (op (term_of l.term t) (term_of l.term u)) (map (term_of l.term) us) (step_stands t u w ht hs.0 h.1))
 
-  joined-stands : (none : F) (ts : List (Tree A)) (v : Tree A) → AllWhole l.valid ts → IsJoined l none step ts v → Stands r (term_of l.term v) (join_terms op none (map (term_of l.term) ts))
+  joined-stands : (none : F) (ts : List (Tree A)) (v : Tree A) → AllWhole l.valid ts → IsJoined l none step ts v → Simplifies r (term_of l.term v) (join_terms op none (map (term_of l.term) ts))
   joined-stands none [] v hs h =
-      subst (λ x. Stands r x (const_term none)) (sym (ap (term_of l.term) h.1 ∙ h.2.term)) (Stands-refl r (const_term none))
+      subst (λ x. Simplifies r x (const_term none)) (sym (ap (term_of l.term) h.1 ∙ h.2.term)) (Simplifies-refl r (const_term none))
   joined-stands none (t ∷ ts) v hs h = from-stands t ts v hs.0 hs.1 h
 
 module _ {U A F : Type 0} (r : CommRing F) (eq : F → F → Bool) (decides : (x y : F) → Decides (eq x y) (x ≡ y)) (reads : U → Leaves A F) (grows : U → U → Type 0) (empty : U) (laws : LeafLaws r reads grows empty) (p q : U × List (SymbolicExpr A)) (pool : IsPool reads p) (g : Grown grows reads p q) where
@@ -68,18 +68,18 @@ module _ {U A F : Type 0} (r : CommRing F) (eq : F → F → Bool) (decides : (x
       (term_of-kept (reads p.0) (reads q.0) (laws.keeps p.0 q.0 g.under) (tree_at p x) (tree_of-whole (reads p.0) p.1 pool.nodes x (h 0 x (omega arith))))
       (terms-kept xs (λ k d lt. h (suc k) d (omega arith)))
 
-  pub IsSumOfAll-stands : (xs : List ℕ) → All (λ i. i < length p.1) xs → (z : ℕ) → IsSumOfAll reads r eq p q xs z → Stands r (term_at reads q z) (join_terms add_term r.nil (map (term_at reads p) xs))
+  pub IsSumOfAll-stands : (xs : List ℕ) → All (λ i. i < length p.1) xs → (z : ℕ) → IsSumOfAll reads r eq p q xs z → Simplifies r (term_at reads q z) (join_terms add_term r.nil (map (term_at reads p) xs))
   IsSumOfAll-stands xs h z m =
-      subst (λ ts. Stands r (term_at reads q z) (join_terms add_term r.nil ts)) (terms-kept xs h)
-      (joined-stands r (reads q.0) add_term (SumStep r eq (reads q.0)) (Stands-add r)
+      subst (λ ts. Simplifies r (term_at reads q z) (join_terms add_term r.nil ts)) (terms-kept xs h)
+      (joined-stands r (reads q.0) add_term (SumStep r eq (reads q.0)) (Simplifies-add r)
       (λ t u v ht hu s. operation-stands r (reads q.0) (reads q.0) (laws.constant_is q.0) (laws.keeps q.0 q.0 (laws.same q.0)) (sum decides (reads q.0)) t u ht hu v s)
       (λ t u v ht hu s. IsFolded-whole (reads q.0) t u (add_tree t u) v _ ht hu (ht, hu) s)
       r.nil (map (tree_at p) xs) (tree_at q z) (trees-whole xs h) m.tree)
 
-  pub IsProductOfAll-stands : (xs : List ℕ) → All (λ i. i < length p.1) xs → (z : ℕ) → IsProductOfAll reads r eq p q xs z → Stands r (term_at reads q z) (join_terms mul_term r.one (map (term_at reads p) xs))
+  pub IsProductOfAll-stands : (xs : List ℕ) → All (λ i. i < length p.1) xs → (z : ℕ) → IsProductOfAll reads r eq p q xs z → Simplifies r (term_at reads q z) (join_terms mul_term r.one (map (term_at reads p) xs))
   IsProductOfAll-stands xs h z m =
-      subst (λ ts. Stands r (term_at reads q z) (join_terms mul_term r.one ts)) (terms-kept xs h)
-      (joined-stands r (reads q.0) mul_term (ProductStep r eq (reads q.0)) (Stands-mul r)
+      subst (λ ts. Simplifies r (term_at reads q z) (join_terms mul_term r.one ts)) (terms-kept xs h)
+      (joined-stands r (reads q.0) mul_term (ProductStep r eq (reads q.0)) (Simplifies-mul r)
       (λ t u v ht hu s. operation-stands r (reads q.0) (reads q.0) (laws.constant_is q.0) (laws.keeps q.0 q.0 (laws.same q.0)) (product decides (reads q.0)) t u ht hu v s.1)
       (λ t u v ht hu s. IsFolded-whole (reads q.0) t u (mul_tree t u) v _ ht hu (ht, hu) s.1)
       r.one (map (tree_at p) xs) (tree_at q z) (trees-whole xs h) m.tree)

@@ -4,9 +4,9 @@ use Rattle.std.proofs.lemmas.Result.{IfOk-weaker}
 use Rattle.std.specs.Prelude.{Option, None, Some}
 use Rattle.air_field.specs.Ring.{CommRing, minus}
 use Rattle.air_field.specs.Term.{Term, const_term, add_term, sub_term, neg_term, mul_term}
-use Rattle.air_field.specs.Same.{Same, same_refl, same_trans, same_add, same_neg, same_mul, const_add, const_mul, add_zero, mul_one, Stands}
+use Rattle.air_field.specs.Same.{Same, same_refl, same_trans, same_add, same_neg, same_mul, const_add, const_mul, add_zero, mul_one, Simplifies}
 use Rattle.air_field.specs.laws.Same.{same_sub, const_sub, const_neg, zero_add, zero_sub, sub_zero, zero_mul, mul_zero, one_mul}
-use Rattle.air_field.specs.laws.Degree.{Stands-refl}
+use Rattle.air_field.specs.laws.Degree.{Simplifies-refl}
 use Rattle.air_symbolic.specs.Leaves.{Leaves, Keeps, LeafLaws}
 use Rattle.air_symbolic.specs.Trees.{Tree, nothing, leaf_tree, add_tree, sub_tree, neg_tree, mul_tree, term_of, IsWhole, tree_constant}
 use Rattle.air_symbolic.specs.laws.Numbers.{term_of-kept, tree_of-whole}
@@ -21,64 +21,64 @@ abbrev IsKnown : {F : Type 0} → CommRing F → Term F → Option F → Type 0
 IsKnown {F = F} r x o = (a : F) → o ≡ Some a → Same r (const_term a) x
 
 -- what an operation on terms x and y folds to stands for the term z
-abbrev FoldStands : {F : Type 0} → CommRing F → Term F → Term F → Term F → Option (Fold F) → Type 0
-FoldStands r x y z None = Unit {0}
-FoldStands r x y z (Some (Constant c)) = Same r (const_term c) z
-FoldStands r x y z (Some Left) = Stands r x z
-FoldStands r x y z (Some Right) = Stands r y z
-FoldStands r x y z (Some Negated) = Stands r (neg_term y) z
+abbrev FoldSimplifies : {F : Type 0} → CommRing F → Term F → Term F → Term F → Option (Fold F) → Type 0
+FoldSimplifies r x y z None = Unit {0}
+FoldSimplifies r x y z (Some (Constant c)) = Same r (const_term c) z
+FoldSimplifies r x y z (Some Left) = Simplifies r x z
+FoldSimplifies r x y z (Some Right) = Simplifies r y z
+FoldSimplifies r x y z (Some Negated) = Simplifies r (neg_term y) z
 
 module _ {F : Type 0} (r : CommRing F) where
-  cond-stands : (b : Bool) (x y z : Term F) (f g : Option (Fold F)) → (b ≡ true → FoldStands r x y z f) → FoldStands r x y z g → FoldStands r x y z (cond b f g)
+  cond-stands : (b : Bool) (x y z : Term F) (f g : Option (Fold F)) → (b ≡ true → FoldSimplifies r x y z f) → FoldSimplifies r x y z g → FoldSimplifies r x y z (cond b f g)
   cond-stands true x y z f g h k = h refl
   cond-stands false x y z f g h k = k
 
-  negative_fold-stands : (o : Option F) (x y : Term F) → IsKnown r x o → FoldStands r x y (neg_term x) (negative_fold r o)
+  negative_fold-stands : (o : Option F) (x y : Term F) → IsKnown r x o → FoldSimplifies r x y (neg_term x) (negative_fold r o)
   negative_fold-stands (Some a) x y h = same_trans const_neg (same_neg (h a refl))
   negative_fold-stands None x y h = tt
 
 module _ {F : Type 0} (r : CommRing F) (eq : F → F → Bool) (decides : (x y : F) → Decides (eq x y) (x ≡ y)) where
   -- the fold f where the operand u, the constant a, is b
-  tested-stands : (a b : F) (u x y z : Term F) (f g : Option (Fold F)) → IsKnown r u (Some a) → (Same r (const_term b) u → FoldStands r x y z f) → FoldStands r x y z g → FoldStands r x y z (cond (eq a b) f g)
+  tested-stands : (a b : F) (u x y z : Term F) (f g : Option (Fold F)) → IsKnown r u (Some a) → (Same r (const_term b) u → FoldSimplifies r x y z f) → FoldSimplifies r x y z g → FoldSimplifies r x y z (cond (eq a b) f g)
   tested-stands a b u x y z f g h k = cond-stands r (eq a b) x y z f g (λ e. k (h b (ap (λ (c : F). Some c) ((decides a b).0 e))))
 
-  product_fold-stands : (o p : Option F) (x y : Term F) → IsKnown r x o → IsKnown r y p → FoldStands r x y (mul_term x y) (product_fold r eq o p)
+  product_fold-stands : (o p : Option F) (x y : Term F) → IsKnown r x o → IsKnown r y p → FoldSimplifies r x y (mul_term x y) (product_fold r eq o p)
   product_fold-stands (Some a) (Some b) x y h k = same_trans const_mul (same_mul (h a refl) (k b refl))
   product_fold-stands (Some a) None x y h k =
       tested-stands a r.nil x x y _ (Some (Constant r.nil)) _ h (λ c. same_trans zero_mul (same_mul c same_refl))
-      (tested-stands a r.one x x y _ (Some Right) None h (λ c. record { same = same_trans one_mul (same_mul c same_refl); light = λ w. omega arith }) tt)
+      (tested-stands a r.one x x y _ (Some Right) None h (λ c. record { same = same_trans one_mul (same_mul c same_refl); degree_le = λ w. omega arith }) tt)
   product_fold-stands None (Some b) x y h k =
       tested-stands b r.nil y x y _ (Some (Constant r.nil)) _ k (λ c. same_trans mul_zero (same_mul same_refl c))
-      (tested-stands b r.one y x y _ (Some Left) None k (λ c. record { same = same_trans mul_one (same_mul same_refl c); light = λ w. omega arith }) tt)
+      (tested-stands b r.one y x y _ (Some Left) None k (λ c. record { same = same_trans mul_one (same_mul same_refl c); degree_le = λ w. omega arith }) tt)
   product_fold-stands None None x y h k = tt
 
   zero_fold-stands : (op : F → F → F) (from_zero : Fold F) (term : Term F → Term F → Term F)
       → ((a b : F) (x y : Term F) → Same r (const_term a) x → Same r (const_term b) y → Same r (const_term (op a b)) (term x y))
-      → ((x y : Term F) → Same r (const_term r.nil) x → FoldStands r x y (term x y) (Some from_zero))
-      → ((x y : Term F) → Same r (const_term r.nil) y → Stands r x (term x y))
-      → (o p : Option F) (x y : Term F) → IsKnown r x o → IsKnown r y p → FoldStands r x y (term x y) (zero_fold r eq op from_zero o p)
+      → ((x y : Term F) → Same r (const_term r.nil) x → FoldSimplifies r x y (term x y) (Some from_zero))
+      → ((x y : Term F) → Same r (const_term r.nil) y → Simplifies r x (term x y))
+      → (o p : Option F) (x y : Term F) → IsKnown r x o → IsKnown r y p → FoldSimplifies r x y (term x y) (zero_fold r eq op from_zero o p)
   zero_fold-stands op from_zero term known left_zero right_zero (Some a) (Some b) x y h k = known a b x y (h a refl) (k b refl)
   zero_fold-stands op from_zero term known left_zero right_zero (Some a) None x y h k = tested-stands a r.nil x x y _ (Some from_zero) None h (left_zero x y) tt
   zero_fold-stands op from_zero term known left_zero right_zero None (Some b) x y h k = tested-stands b r.nil y x y _ (Some Left) None k (right_zero x y) tt
   zero_fold-stands op from_zero term known left_zero right_zero None None x y h k = tt
 
-  sum_fold-stands : (o p : Option F) (x y : Term F) → IsKnown r x o → IsKnown r y p → FoldStands r x y (add_term x y) (sum_fold r eq o p)
+  sum_fold-stands : (o p : Option F) (x y : Term F) → IsKnown r x o → IsKnown r y p → FoldSimplifies r x y (add_term x y) (sum_fold r eq o p)
   sum_fold-stands =
       zero_fold-stands r.add Right add_term (λ a b x y h k. same_trans const_add (same_add h k))
-      (λ x y c. record { same = same_trans zero_add (same_add c same_refl); light = λ w. omega arith })
-      (λ x y c. record { same = same_trans add_zero (same_add same_refl c); light = λ w. omega arith })
+      (λ x y c. record { same = same_trans zero_add (same_add c same_refl); degree_le = λ w. omega arith })
+      (λ x y c. record { same = same_trans add_zero (same_add same_refl c); degree_le = λ w. omega arith })
 
-  difference_fold-stands : (o p : Option F) (x y : Term F) → IsKnown r x o → IsKnown r y p → FoldStands r x y (sub_term x y) (difference_fold r eq o p)
+  difference_fold-stands : (o p : Option F) (x y : Term F) → IsKnown r x o → IsKnown r y p → FoldSimplifies r x y (sub_term x y) (difference_fold r eq o p)
   difference_fold-stands =
       zero_fold-stands (minus r) Negated sub_term (λ a b x y h k. same_trans const_sub (same_sub h k))
-      (λ x y c. record { same = same_trans zero_sub (same_sub c same_refl); light = λ w. omega arith })
-      (λ x y c. record { same = same_trans sub_zero (same_sub same_refl c); light = λ w. omega arith })
+      (λ x y c. record { same = same_trans zero_sub (same_sub c same_refl); degree_le = λ w. omega arith })
+      (λ x y c. record { same = same_trans sub_zero (same_sub same_refl c); degree_le = λ w. omega arith })
 
 -- What an operation is: a node over its operands, what it folds to, and its term.
 pub record Operates {A F : Type 0} (r : CommRing F) (l : Leaves A F) (node : Tree A → Tree A → Tree A) (fold : Option F → Option F → Option (Fold F)) (term : Term F → Term F → Term F) : Type 0 where
   pub whole : (t u : Tree A) → IsWhole l.valid t → IsWhole l.valid u → IsWhole l.valid (node t u)
   pub means : (t u : Tree A) → term_of l.term (node t u) ≡ term (term_of l.term t) (term_of l.term u)
-  pub stands : (o p : Option F) (x y : Term F) → IsKnown r x o → IsKnown r y p → FoldStands r x y (term x y) (fold o p)
+  pub stands : (o p : Option F) (x y : Term F) → IsKnown r x o → IsKnown r y p → FoldSimplifies r x y (term x y) (fold o p)
 
 module _ {A F : Type 0} {r : CommRing F} {eq : F → F → Bool} (decides : (x y : F) → Decides (eq x y) (x ≡ y)) (l : Leaves A F) where
   pub sum : Operates r l add_tree (sum_fold r eq) add_term
@@ -102,18 +102,18 @@ module _ {A F : Type 0} (r : CommRing F) (l m : Leaves A F) (constant_is : (a : 
   const-is (neg_tree t) h a e = cc
   const-is (mul_tree t u) h a e = cc
 
-  by_const : (c : F) (v : Tree A) (x : Term F) → IsConst m c v → Same r (const_term c) x → Stands r (term_of m.term v) x
+  by_const : (c : F) (v : Tree A) (x : Term F) → IsConst m c v → Same r (const_term c) x → Simplifies r (term_of m.term v) x
   by_const c v x h s =
-      subst (λ y. Stands r y x) (sym (ap (term_of m.term) h.1 ∙ h.2.term))
-      record { same = s; light = λ w. omega arith }
+      subst (λ y. Simplifies r y x) (sym (ap (term_of m.term) h.1 ∙ h.2.term))
+      record { same = s; degree_le = λ w. omega arith }
 
-  by_tree : (v s : Tree A) (x : Term F) → v ≡ s → IsWhole l.valid s → Stands r (term_of l.term s) x → Stands r (term_of m.term v) x
+  by_tree : (v s : Tree A) (x : Term F) → v ≡ s → IsWhole l.valid s → Simplifies r (term_of l.term s) x → Simplifies r (term_of m.term v) x
   by_tree v s x e h st =
-      subst (λ y. Stands r y x) (sym (ap (term_of m.term) e ∙ term_of-kept l m k s h)) st
+      subst (λ y. Simplifies r y x) (sym (ap (term_of m.term) e ∙ term_of-kept l m k s h)) st
 
   -- what is folded stands for the node's term, where the fold does
-  folded-stands : (t u node v : Tree A) (f : Option (Fold F)) → IsWhole l.valid t → IsWhole l.valid u → IsWhole l.valid node → FoldStands r (term_of l.term t) (term_of l.term u) (term_of l.term node) f → IsFolded m t u node f v → Stands r (term_of m.term v) (term_of l.term node)
-  folded-stands t u node v None ht hu hn s h = by_tree v node (term_of l.term node) h hn (Stands-refl r (term_of l.term node))
+  folded-stands : (t u node v : Tree A) (f : Option (Fold F)) → IsWhole l.valid t → IsWhole l.valid u → IsWhole l.valid node → FoldSimplifies r (term_of l.term t) (term_of l.term u) (term_of l.term node) f → IsFolded m t u node f v → Simplifies r (term_of m.term v) (term_of l.term node)
+  folded-stands t u node v None ht hu hn s h = by_tree v node (term_of l.term node) h hn (Simplifies-refl r (term_of l.term node))
   folded-stands t u node v (Some (Constant c)) ht hu hn s h = by_const c v (term_of l.term node) h s
   folded-stands t u node v (Some Left) ht hu hn s h = by_tree v t (term_of l.term node) h ht s
   folded-stands t u node v (Some Right) ht hu hn s h = by_tree v u (term_of l.term node) h hu s
@@ -122,13 +122,13 @@ module _ {A F : Type 0} (r : CommRing F) (l m : Leaves A F) (constant_is : (a : 
   -- an operation, folded, stands for its term
   pub operation-stands : {node : Tree A → Tree A → Tree A} {fold : Option F → Option F → Option (Fold F)} {term : Term F → Term F → Term F} → Operates r l node fold term
       → (t u : Tree A) → IsWhole l.valid t → IsWhole l.valid u → (v : Tree A) → IsFolded m t u (node t u) (fold (tree_constant l.constant t) (tree_constant l.constant u)) v
-      → Stands r (term_of m.term v) (term (term_of l.term t) (term_of l.term u))
+      → Simplifies r (term_of m.term v) (term (term_of l.term t) (term_of l.term u))
   operation-stands {node = node} {fold = fold} o t u ht hu v h =
       let x = term_of l.term t in
       let y = term_of l.term u in
       let f = fold (tree_constant l.constant t) (tree_constant l.constant u) in
-      let folds = subst (λ z. FoldStands r x y z f) (sym (o.means t u)) (o.stands _ _ x y (const-is t ht) (const-is u hu)) in
-      subst (Stands r (term_of m.term v)) (o.means t u) (folded-stands t u (node t u) v f ht hu (o.whole t u ht hu) folds h)
+      let folds = subst (λ z. FoldSimplifies r x y z f) (sym (o.means t u)) (o.stands _ _ x y (const-is t ht) (const-is u hu)) in
+      subst (Simplifies r (term_of m.term v)) (o.means t u) (folded-stands t u (node t u) v f ht hu (o.whole t u ht hu) folds h)
 
 -- So do the numbers that a pool's folded calls answer.
 module _ {U A F E : Type 0} {r : CommRing F} {reads : U → Leaves A F} {grows : U → U → Type 0} {empty : U} (laws : LeafLaws r reads grows empty) {p q : U × List (SymbolicExpr A)} (pool : IsPool reads p) (grown : Grown grows reads p q)
@@ -136,7 +136,7 @@ module _ {U A F E : Type 0} {r : CommRing F} {reads : U → Leaves A F} {grows :
     {x y : ℕ} (x_in : x < length p.1) (y_in : y < length p.1) (answer : Result ℕ E) where
   -- what is answered is the operation, and stands for its term
   abbrev pub Answers : Type 0
-  Answers = IfOk answer (IsOperation reads p q node fold x y) × IfOk answer (λ z. Stands r (term_at reads q z) (term (term_at reads p x) (term_at reads p y)))
+  Answers = IfOk answer (IsOperation reads p q node fold x y) × IfOk answer (λ z. Simplifies r (term_at reads q z) (term (term_at reads p x) (term_at reads p y)))
 
   whole_at : (i : ℕ) → i < length p.1 → IsWhole (reads p.0).valid (tree_at p i)
   whole_at i b = tree_of-whole (reads p.0) p.1 pool.nodes i b

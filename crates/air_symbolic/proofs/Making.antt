@@ -6,8 +6,8 @@ use Rattle.air_field.specs.Ring.{CommRing}
 use Rattle.air_field.specs.Extension.{Basis}
 use Rattle.air_field.specs.Term.{Term, const_term, mul_term}
 use Rattle.air_field.specs.Degree.{degree_by, cached_weight}
-use Rattle.air_field.specs.Same.{Stands}
-use Rattle.air_field.specs.laws.Degree.{Stands-refl, Stands-trans}
+use Rattle.air_field.specs.Same.{Simplifies}
+use Rattle.air_field.specs.laws.Degree.{Simplifies-refl, Simplifies-trans}
 use Rattle.air_field.specs.Algebra.{Made, MadeOf, MadeOfBoth, RefusedOfBoth}
 use Rattle.air_field.specs.ExtAlgebra.{Lifted}
 use Rattle.air_symbolic.specs.Leaves.{Leaves}
@@ -29,22 +29,22 @@ IfOk-both (Err e) P Q R f p q = tt
 
 -- An operation, answered, means its term.
 module _ {U A F E : Type 0} {r : CommRing F} {reads : U → Leaves A F} {q : U × List (SymbolicExpr A)} (pool : IsPool reads q) (p : U × List (SymbolicExpr A)) (node : Tree A → Tree A → Tree A) (fold : Option F → Option F → Option (Fold F)) (answer : Result ℕ E) where
-  pub made-both : (x y : ℕ) (term : Term F → Term F → Term F) → ((t u v w : Term F) → Stands r t v → Stands r u w → Stands r (term t u) (term v w))
-      → IfOk answer (IsOperation reads p q node fold x y) → IfOk answer (λ z. Stands r (term_at reads q z) (term (term_at reads p x) (term_at reads p y)))
+  pub made-both : (x y : ℕ) (term : Term F → Term F → Term F) → ((t u v w : Term F) → Simplifies r t v → Simplifies r u w → Simplifies r (term t u) (term v w))
+      → IfOk answer (IsOperation reads p q node fold x y) → IfOk answer (λ z. Simplifies r (term_at reads q z) (term (term_at reads p x) (term_at reads p y)))
       → IfOk answer (MadeOfBoth (PoolHas reads) (PoolMeans reads r) term p q x y)
   made-both x y term congruent =
       IfOk-both answer _ _ _ (λ z m s. (
         record { pool = pool; here = m.here },
-        λ t u h k. record { pool = pool; here = m.here; stands = Stands-trans r _ _ _ s (congruent _ _ t u h.stands k.stands) },
+        λ t u h k. record { pool = pool; here = m.here; stands = Simplifies-trans r _ _ _ s (congruent _ _ t u h.stands k.stands) },
       ))
 
-  pub made-one : (x : ℕ) (term : Term F → Term F) → ((t v : Term F) → Stands r t v → Stands r (term t) (term v))
-      → IfOk answer (IsOperation reads p q node fold x x) → IfOk answer (λ z. Stands r (term_at reads q z) (term (term_at reads p x)))
+  pub made-one : (x : ℕ) (term : Term F → Term F) → ((t v : Term F) → Simplifies r t v → Simplifies r (term t) (term v))
+      → IfOk answer (IsOperation reads p q node fold x x) → IfOk answer (λ z. Simplifies r (term_at reads q z) (term (term_at reads p x)))
       → IfOk answer (MadeOf (PoolHas reads) (PoolMeans reads r) term p q x)
   made-one x term congruent =
       IfOk-both answer _ _ _ (λ z m s. (
         record { pool = pool; here = m.here },
-        λ t h. record { pool = pool; here = m.here; stands = Stands-trans r _ _ _ s (congruent _ t h.stands) },
+        λ t h. record { pool = pool; here = m.here; stands = Simplifies-trans r _ _ _ s (congruent _ t h.stands) },
       ))
 
 -- A leaf means its term.
@@ -52,7 +52,7 @@ pub made-leaf : {U A F : Type 0} (r : CommRing F) (reads : U → Leaves A F) (q 
 made-leaf r reads q a z pool h =
     let t = (reads q.0).term a in (
       record { pool = pool; here = h.here },
-      record { pool = pool; here = h.here; stands = subst (λ x. Stands r x t) (sym (ap (term_of (reads q.0).term) h.tree)) (Stands-refl r t) },
+      record { pool = pool; here = h.here; stands = subst (λ x. Simplifies r x t) (sym (ap (term_of (reads q.0).term) h.tree)) (Simplifies-refl r t) },
     )
 
 -- A constant means its term.
@@ -66,7 +66,7 @@ made-constant r reads q c z pool h =
 pub refused-product : {X U A F : Type 0} (r : CommRing F) (reads : U → Leaves A F) (p : U × List (SymbolicExpr A)) (x y : ℕ) (q : Result X RingError) → (q ≡ Err DegreeOverflow → 2 ^ 64 ≤ degree_by cached_weight (term_at reads p x) + degree_by cached_weight (term_at reads p y)) → IfErr q (RefusedOfBoth (PoolMeans reads r) PoolRefuses mul_term p x y)
 refused-product r reads p x y (Ok i) h = tt
 refused-product r reads p x y (Err Memory) h = λ t u k m. tt
-refused-product r reads p x y (Err DegreeOverflow) h = λ t u k m. omega (arith, h refl, k.stands.light cached_weight, m.stands.light cached_weight)
+refused-product r reads p x y (Err DegreeOverflow) h = λ t u k m. omega (arith, h refl, k.stands.degree_le cached_weight, m.stands.degree_le cached_weight)
 
 -- The leaf of a base expression means what that means.
 pub made-lifted : {F EF : Type 0} (r : CommRing F) (basis : Basis F EF) (p q : ExtNodes F EF) (x : ℕ) → q.0 ≡ p.0 → IsPool (ext_reads basis) q → (z : ℕ) → HasTree q (leaf_tree (Base x)) z → Lifted (PoolHas (ext_reads basis)) (PoolMeans (ext_reads basis) r) (BaseMeans r basis) p q x z
@@ -74,7 +74,7 @@ made-lifted r basis p q x same pool z m =
     let reads = ext_reads basis in
     let is : term_at reads q z ≡ term_at base_reads p.0 x = ap (term_of (reads q.0).term) m.tree ∙ ap (λ u. term_at base_reads u x) same in (
       record { pool = pool; here = m.here },
-      λ t h. record { pool = pool; here = m.here; stands = subst (λ u. Stands r u t) (sym is) h.base.stands },
+      λ t h. record { pool = pool; here = m.here; stands = subst (λ u. Simplifies r u t) (sym is) h.base.stands },
     )
 
 -- What means a term means each term that is it.

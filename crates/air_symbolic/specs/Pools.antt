@@ -2,7 +2,7 @@
 use Rattle.std.specs.Prelude.{◌≡◌, ℕ, ◌<◌, List, ◌++◌, length, Option}
 use Rattle.air_field.specs.Ring.{CommRing}
 use Rattle.air_field.specs.Term.{Term}
-use Rattle.air_field.specs.Same.{Stands}
+use Rattle.air_field.specs.Same.{Simplifies}
 use Rattle.air_symbolic.specs.Leaves.{Leaves, IsConstLeaf}
 use Rattle.air_symbolic.specs.Trees.{Tree, leaf_tree, term_of, tree_constant}
 use Rattle.air_symbolic.specs.Nodes.{tree_of, WellFormed}
@@ -45,7 +45,7 @@ pub record PoolHas {U A F : Type 0} (reads : U → Leaves A F) (p : U × List (S
 pub record PoolMeans {U A F : Type 0} (reads : U → Leaves A F) (r : CommRing F) (p : U × List (SymbolicExpr A)) (i : ℕ) (t : Term F) : Type 0 where
   pub pool : IsPool reads p
   pub here : i < length p.1
-  pub stands : Stands r (term_at reads p i) t
+  pub stands : Simplifies r (term_at reads p i) t
 
 -- number i has the tree t
 pub record HasTree {U A : Type 0} (p : U × List (SymbolicExpr A)) (t : Tree A) (i : ℕ) : Type 0 where

@@ -7,7 +7,7 @@ use Rattle.air_field.specs.laws.Ring.{nil_mul, mul_nil, neg_nil}
 use Rattle.air_field.specs.Term.{Leaf, Term, leaf_term, const_term, ext_const_term, add_term, sub_term, neg_term, mul_term}
 use Rattle.air_field.specs.Polynomial.{convolve, only, polynomial, HasDegreeAtMost}
 use Rattle.air_field.specs.Degree.{degree_by}
-use Rattle.air_field.specs.Same.{same_refl, same_trans, same_add, same_neg, same_mul, Stands}
+use Rattle.air_field.specs.Same.{same_refl, same_trans, same_add, same_neg, same_mul, Simplifies}
 use Rattle.air_field.specs.laws.Same.{same_sub}
 use Rattle.air_field.specs.laws.Sums as sums
 
@@ -45,20 +45,20 @@ polynomial-degree a s w h (mul_term t u) k b =
 
 -- Standing for a term is kept by each operation.
 module _ {F : Type 0} (r : CommRing F) where
-  pub Stands-refl : (t : Term F) → Stands r t t
-  Stands-refl t = record { same = same_refl; light = λ w. omega arith }
+  pub Simplifies-refl : (t : Term F) → Simplifies r t t
+  Simplifies-refl t = record { same = same_refl; degree_le = λ w. omega arith }
 
-  pub Stands-trans : (t u v : Term F) → Stands r t u → Stands r u v → Stands r t v
-  Stands-trans t u v h k = record { same = same_trans h.same k.same; light = λ w. omega (arith, h.light w, k.light w) }
+  pub Simplifies-trans : (t u v : Term F) → Simplifies r t u → Simplifies r u v → Simplifies r t v
+  Simplifies-trans t u v h k = record { same = same_trans h.same k.same; degree_le = λ w. omega (arith, h.degree_le w, k.degree_le w) }
 
-  pub Stands-add : (t u v w : Term F) → Stands r t v → Stands r u w → Stands r (add_term t u) (add_term v w)
-  Stands-add t u v w h k = record { same = same_add h.same k.same; light = λ x. omega (arith, h.light x, k.light x) }
+  pub Simplifies-add : (t u v w : Term F) → Simplifies r t v → Simplifies r u w → Simplifies r (add_term t u) (add_term v w)
+  Simplifies-add t u v w h k = record { same = same_add h.same k.same; degree_le = λ x. omega (arith, h.degree_le x, k.degree_le x) }
 
-  pub Stands-sub : (t u v w : Term F) → Stands r t v → Stands r u w → Stands r (sub_term t u) (sub_term v w)
-  Stands-sub t u v w h k = record { same = same_sub h.same k.same; light = λ x. omega (arith, h.light x, k.light x) }
+  pub Simplifies-sub : (t u v w : Term F) → Simplifies r t v → Simplifies r u w → Simplifies r (sub_term t u) (sub_term v w)
+  Simplifies-sub t u v w h k = record { same = same_sub h.same k.same; degree_le = λ x. omega (arith, h.degree_le x, k.degree_le x) }
 
-  pub Stands-neg : (t v : Term F) → Stands r t v → Stands r (neg_term t) (neg_term v)
-  Stands-neg t v h = record { same = same_neg h.same; light = h.light }
+  pub Simplifies-neg : (t v : Term F) → Simplifies r t v → Simplifies r (neg_term t) (neg_term v)
+  Simplifies-neg t v h = record { same = same_neg h.same; degree_le = h.degree_le }
 
-  pub Stands-mul : (t u v w : Term F) → Stands r t v → Stands r u w → Stands r (mul_term t u) (mul_term v w)
-  Stands-mul t u v w h k = record { same = same_mul h.same k.same; light = λ x. omega (arith, h.light x, k.light x) }
+  pub Simplifies-mul : (t u v w : Term F) → Simplifies r t v → Simplifies r u w → Simplifies r (mul_term t u) (mul_term v w)
+  Simplifies-mul t u v w h k = record { same = same_mul h.same k.same; degree_le = λ x. omega (arith, h.degree_le x, k.degree_le x) }

@@ -6,7 +6,7 @@ use Rattle.air_field.specs.laws.Ring.{nil_add, nil_mul}
 use Rattle.air_field.specs.laws.RingSolver.{var, plus, times, ring}
 use Rattle.air_field.specs.Powers.{power}
 use Rattle.air_recording.specs.Weights.{weight}
-use Rattle.air_recording.specs.Folds.{sum_below, horner}
+use Rattle.air_recording.specs.Folds.{sum_below, sum_by_powers}
 use Rattle.air_folder.specs.Fold.{folded_on, running}
 
 module _ {E : Type 0} (r : CommRing E) where
@@ -18,8 +18,8 @@ module _ {E : Type 0} (r : CommRing E) where
 
   module _ (alpha : E) where
     -- the first value has the highest power
-    pub horner-first : (v : E) (values : List E) → horner r alpha (v ∷ values) ≡ r.add (r.mul (power r alpha (length values)) v) (horner r alpha values)
-    horner-first v values =
+    pub sum_by_powers-first : (v : E) (values : List E) → sum_by_powers r alpha (v ∷ values) ≡ r.add (r.mul (power r alpha (length values)) v) (sum_by_powers r alpha values)
+    sum_by_powers-first v values =
         sum_below-first (λ i. r.mul (weight r alpha (suc (length values)) i) (get_or (v ∷ values) i r.nil)) (length values)
         ∙ ap₂ (λ p s. r.add (r.mul (power r alpha p) v) s) (omega arith)
         (ap (λ w. sum_below r w (length values)) (λ j i. r.mul (power r alpha (later (length values) i j)) (get_or values i r.nil)))
@@ -38,8 +38,8 @@ module _ {E : Type 0} (r : CommRing E) where
     running-is acc [] = sym (r.add_nil (r.mul acc r.one) ∙ r.mul_one acc)
     running-is acc (v ∷ values) =
         running-is (r.add (r.mul acc alpha) v) values
-        ∙ (step acc v (power r alpha (length values)) (horner r alpha values)
-        ∙ ap (r.add (r.mul acc (power r alpha (suc (length values))))) (sym (horner-first v values)))
+        ∙ (step acc v (power r alpha (length values)) (sum_by_powers r alpha values)
+        ∙ ap (r.add (r.mul acc (power r alpha (suc (length values))))) (sym (sum_by_powers-first v values)))
 
     running-append : (acc : E) (xs ys : List E) → running r alpha acc (xs ++ ys) ≡ running r alpha (running r alpha acc xs) ys
     running-append acc [] ys = refl
@@ -61,6 +61,6 @@ module _ {E : Type 0} (r : CommRing E) where
     folded_on-none acc = running-is acc []
 
     -- from zero it is Horner's fold
-    pub folded_on-nil : (values : List E) → folded_on r alpha r.nil values ≡ horner r alpha values
+    pub folded_on-nil : (values : List E) → folded_on r alpha r.nil values ≡ sum_by_powers r alpha values
     folded_on-nil values =
-        ap (λ x. r.add x (horner r alpha values)) (nil_mul r (power r alpha (length values))) ∙ nil_add r (horner r alpha values)
+        ap (λ x. r.add x (sum_by_powers r alpha values)) (nil_mul r (power r alpha (length values))) ∙ nil_add r (sum_by_powers r alpha values)

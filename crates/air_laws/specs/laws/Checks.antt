@@ -8,7 +8,7 @@ use Rattle.air_field.specs.Grid.{Grid}
 use Rattle.air_builder.specs.Assertion.{Assertion}
 use Rattle.air_builder.specs.Declaration.{plain_declaration}
 use Rattle.air_gadgets.specs.Exact.{AllVanish}
-use Rattle.air_report.specs.Checks.{IsKept, IsReport}
+use Rattle.air_report.specs.Checks.{IsSatisfied, IsReport}
 use Rattle.air_report.specs.Given.{Given, given, given_trace, height}
 use Rattle.air_report.specs.Report.{failure_place, plain_trace, report_of}
 use Rattle.air_report.specs.declared.checks.report.ConstraintReport.{ConstraintReport}
@@ -16,12 +16,12 @@ use Rattle.air_laws.specs.laws.Reports.{all_vanish, nothing_first}
 
 module _ {F : Type 0} (R : CommRing F) (eq : F → F → Bool) (decides : (x y : F) → Decides (eq x y) (x ≡ y)) where
   -- a trace that a check up to the first fault lets pass
-  pub kept_vanish : (g : Given F) (row : ℕ) → IsKept R eq g → row < height g → AllVanish R (row_assignment R (given_trace g) row) g.declaration.declared
+  pub kept_vanish : (g : Given F) (row : ℕ) → IsSatisfied R eq g → row < height g → AllVanish R (row_assignment R (given_trace g) row) g.declaration.declared
   kept_vanish g row kept lt = all_vanish R eq decides (given_trace g) g.declaration.declared (height g) kept.none row lt
 
   -- the same of an AIR with nothing beside its trace
   pub plain_vanish : (ts : List (Assertion F)) (width values : ℕ) (main : Grid F) (public : List F) (row : ℕ)
-      → IsKept R eq (given (plain_declaration ts width values) main public) → row < length main.rows
+      → IsSatisfied R eq (given (plain_declaration ts width values) main public) → row < length main.rows
       → AllVanish R (row_assignment R (plain_trace main public) row) ts
   plain_vanish ts width values main public row kept lt = kept_vanish (given (plain_declaration ts width values) main public) row kept lt
 

@@ -1,6 +1,6 @@
 //! A check of a whole trace up to its first fault.
 ghost use Rattle.std.specs.Prelude.{◌≡◌, OnOk, IfErr};
-ghost use Rattle.air_report.specs.Checks.{IsKept, IsFirstError};
+ghost use Rattle.air_report.specs.Checks.{IsSatisfied, IsFirstError};
 ghost use Rattle.air_report.specs.Given.{given};
 ghost use Rattle.air_report.specs.declared.checks.check_first.CheckError.TheVariants.{Refused};
 
@@ -58,7 +58,7 @@ pub fn check_constraints<'a, F: SelfExtension + 'static, A: Air<DebugConstraintB
     main: &'a RowMajorMatrix<F>,
     public_values: &'a [F],
 ) -> Result<(), CheckError>
-    ensures kept { OnOk result (IsKept F.ring F.eq
+    ensures kept { OnOk result (IsSatisfied F.ring F.eq
         (given (A.declaration air.now) main.now public_values.now)) }
     ensures error { IfErr result (IsFirstError F.ring F.eq
         (given (A.declaration air.now) main.now public_values.now)) }

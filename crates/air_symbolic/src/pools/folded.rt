@@ -2,7 +2,7 @@
 ghost use Rattle.std.specs.Prelude.{◌≡◌, ◌<◌, ◌≤◌, ◌+◌, ◌^◌, ◌↔◌, length, IfOk, IfErr};
 ghost use Rattle.air_field.specs.Term.{add_term, sub_term, neg_term, mul_term};
 ghost use Rattle.air_field.specs.Degree.{degree_by, cached_weight};
-ghost use Rattle.air_field.specs.Same.{Stands};
+ghost use Rattle.air_field.specs.Same.{Simplifies};
 ghost use Rattle.air_symbolic.specs.Pools.{IsPool, tree_at, term_at, Grown, HasConst};
 ghost use Rattle.air_symbolic.specs.Folds.{HasFold, IsSum, IsDifference, IsNegative, IsProduct, NeedsNode};
 
@@ -64,7 +64,7 @@ impl<A: SymLeaf> ExprPool<A> {
         requires y_in { y < length self.old.1 }
         ensures grown { Grown A.grows A.reads self.old self.new }
         ensures made { IfOk result (IsSum A.reads A.F.ring A.F.eq self.old self.new x y) }
-        ensures stands { IfOk result (λ z. Stands A.F.ring (term_at A.reads self.new z)
+        ensures stands { IfOk result (λ z. Simplifies A.F.ring (term_at A.reads self.new z)
             (add_term (term_at A.reads self.old x) (term_at A.reads self.old y))) }
         ensures refused { IfErr result (λ e. e ≡ RingError.Memory) }
     {
@@ -81,7 +81,7 @@ impl<A: SymLeaf> ExprPool<A> {
         requires y_in { y < length self.old.1 }
         ensures grown { Grown A.grows A.reads self.old self.new }
         ensures made { IfOk result (IsDifference A.reads A.F.ring A.F.eq self.old self.new x y) }
-        ensures stands { IfOk result (λ z. Stands A.F.ring (term_at A.reads self.new z)
+        ensures stands { IfOk result (λ z. Simplifies A.F.ring (term_at A.reads self.new z)
             (sub_term (term_at A.reads self.old x) (term_at A.reads self.old y))) }
         ensures refused { IfErr result (λ e. e ≡ RingError.Memory) }
     {
@@ -97,7 +97,7 @@ impl<A: SymLeaf> ExprPool<A> {
         requires x_in { x < length self.old.1 }
         ensures grown { Grown A.grows A.reads self.old self.new }
         ensures made { IfOk result (IsNegative A.reads A.F.ring A.F.eq self.old self.new x) }
-        ensures stands { IfOk result (λ z. Stands A.F.ring (term_at A.reads self.new z)
+        ensures stands { IfOk result (λ z. Simplifies A.F.ring (term_at A.reads self.new z)
             (neg_term (term_at A.reads self.old x))) }
         ensures refused { IfErr result (λ e. e ≡ RingError.Memory) }
     {
@@ -115,7 +115,7 @@ impl<A: SymLeaf> ExprPool<A> {
         requires y_in { y < length self.old.1 }
         ensures grown { Grown A.grows A.reads self.old self.new }
         ensures made { IfOk result (IsProduct A.reads A.F.ring A.F.eq self.old self.new x y) }
-        ensures stands { IfOk result (λ z. Stands A.F.ring (term_at A.reads self.new z)
+        ensures stands { IfOk result (λ z. Simplifies A.F.ring (term_at A.reads self.new z)
             (mul_term (term_at A.reads self.old x) (term_at A.reads self.old y))) }
         ensures overflow { (result ≡ Err RingError.DegreeOverflow)
             ↔ (NeedsNode A.reads A.F.ring A.F.eq self.old x y

@@ -1,7 +1,7 @@
 //! Folded sums and products of lists, from the left.
 ghost use Rattle.std.specs.Prelude.{◌≡◌, ◌<◌, length, map, All, IfOk, IfErr};
 ghost use Rattle.air_field.specs.Term.{add_term, mul_term};
-ghost use Rattle.air_field.specs.Same.{Stands};
+ghost use Rattle.air_field.specs.Same.{Simplifies};
 ghost use Rattle.air_field.specs.Joins.{join_terms};
 ghost use Rattle.air_symbolic.specs.Pools.{IsPool, tree_at, term_at, Grown};
 ghost use Rattle.air_symbolic.specs.FoldedLists.{IsSumOfAll, IsProductOfAll, ProductOverflows};
@@ -18,7 +18,7 @@ impl<A: SymLeaf> ExprPool<A> {
         requires all_in { All (λ x. x < length self.old.1) xs.now }
         ensures grown { Grown A.grows A.reads self.old self.new }
         ensures made { IfOk result (IsSumOfAll A.reads A.F.ring A.F.eq self.old self.new xs.now) }
-        ensures stands { IfOk result (λ z. Stands A.F.ring (term_at A.reads self.new z)
+        ensures stands { IfOk result (λ z. Simplifies A.F.ring (term_at A.reads self.new z)
             (join_terms add_term A.F.ring.nil (map (term_at A.reads self.old) xs.now))) }
         ensures refused { IfErr result (λ e. e ≡ RingError.Memory) }
     {
@@ -40,7 +40,7 @@ impl<A: SymLeaf> ExprPool<A> {
         ensures grown { Grown A.grows A.reads self.old self.new }
         ensures made { IfOk result (IsProductOfAll A.reads A.F.ring A.F.eq self.old self.new
             xs.now) }
-        ensures stands { IfOk result (λ z. Stands A.F.ring (term_at A.reads self.new z)
+        ensures stands { IfOk result (λ z. Simplifies A.F.ring (term_at A.reads self.new z)
             (join_terms mul_term A.F.ring.one (map (term_at A.reads self.old) xs.now))) }
         ensures overflow { result ≡ Err RingError.DegreeOverflow → ProductOverflows A.F.ring A.F.eq
             (A.reads self.new.0) (map (tree_at self.old) xs.now) }

@@ -1,13 +1,13 @@
 use Rattle.std.proofs.Common.{◌≡◌, ◌≤◌, ℕ, List, length, drop, sym, ap, ◌∙◌}
 use Rattle.std.proofs.lemmas.List.{drop_all}
 use Rattle.air_field.specs.Ring.{CommRing}
-use Rattle.air_recording.specs.Folds.{horner}
+use Rattle.air_recording.specs.Folds.{sum_by_powers}
 use Rattle.air_folder.specs.Fold.{running}
 use Rattle.air_folder.specs.laws.Fold.{running-is, folded_on-nil}
 use Rattle.air_folder.proofs.hiding.fold.Goals as goal
 
 -- what is folded when no value is left
-ran : {A : Type 0} (r : CommRing A) (alpha : A) (values : List A) (folded : A) (n : ℕ) → length values ≤ n → running r alpha folded (drop n values) ≡ running r alpha r.nil values → folded ≡ horner r alpha values
+ran : {A : Type 0} (r : CommRing A) (alpha : A) (values : List A) (folded : A) (n : ℕ) → length values ≤ n → running r alpha folded (drop n values) ≡ running r alpha r.nil values → folded ≡ sum_by_powers r alpha values
 ran r alpha values folded n ended so_far =
     ap (running r alpha folded) (sym (drop_all n values ended)) ∙ (so_far ∙ (running-is r alpha r.nil values ∙ folded_on-nil r alpha values))
 
