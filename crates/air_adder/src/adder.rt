@@ -1,8 +1,7 @@
 //! An adder: three words of 34 columns each, their limbs with the bits behind them, of which a is b + c modulo 2^32.
 ghost use Rattle.air_adder.specs.Adder.{adder};
 
-use p3_air::author::{Add2, PlainAir, PlainConstraints, WordOfBits, assert_all};
-use p3_air::{AirBuilder, AirError, Field};
+use p3_air::author::*;
 
 /// a, b and c have their bits, and a is b + c.
 pub struct Adder {}

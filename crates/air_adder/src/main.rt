@@ -5,18 +5,15 @@ mod adder;
 mod checks;
 
 use checks::check_sums;
-use p3_air::{AirError, BabyBear, CheckError, Field, RowMajorMatrix, with_bits};
+use p3_air::{AirError, BabyBear, CheckError, Field, RowMajorMatrix, word_with_bits};
 use std::alloc::Global;
 use std::io;
 
-/// Checks a row for each three words: of each word its two limbs, the lower first, with their bits.
 fn check_rows(alloc: Global, rows: [[u32; 3]; 3]) -> Result<(), CheckError> {
     let mut cells = Vec::new(alloc);
     for word in rows.as_flattened() {
-        for value in [*word & 65535, *word >> 16u32] {
-            let limb = with_bits::<17>(value as u64).map(BabyBear::from_u64);
-            cells.extend_from_slice(&limb).map_err(AirError::from)?;
-        }
+        let word = word_with_bits(*word).map(BabyBear::from_u64);
+        cells.extend_from_slice(&word).map_err(AirError::from)?;
     }
     let trace = RowMajorMatrix::new(cells, 102).map_err(AirError::from)?;
     check_sums(alloc, &trace)
@@ -25,8 +22,7 @@ fn check_rows(alloc: Global, rows: [[u32; 3]; 3]) -> Result<(), CheckError> {
 fn main(rt: HostRuntime) -> io::Result<()> {
     let most = u32::MAX;
     let right = [[3, 1, 2], [0, most, 1], [most - 1, most, most]];
-    let wrong = [[3, 1, 2], [65537, 65535, 1], [65536, most, 1]];
-    for rows in [right, wrong] {
+    for rows in [right, [[3, 1, 2], [65537, 65535, 1], [65536, most, 1]]] {
         match check_rows(rt.alloc(), rows) {
             Ok(()) => println!(rt; "each sum is right")?,
             Err(error) => println!(rt; "{error}")?,

@@ -26,11 +26,7 @@ fn report_on<F: Field + 'static, EF: ExtensionField<F> + 'static>(
         product = product.mul(challenges[0].add(EF::from_base(F::from_u64(number))));
     }
     let trace = &RowMajorMatrix::new(products, 1)?;
-    let permutation = Permutation {
-        trace,
-        challenges,
-        values,
-    };
+    let permutation = Permutation::new(trace, challenges, values);
     let mut text = String::new(alloc);
     for row in 0..column.height().min(trace.height()) {
         let air = &RunningProduct {};

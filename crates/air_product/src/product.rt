@@ -1,14 +1,9 @@
-//! A running product over the extension: column 0 of the permutation trace is one on the first row, and each row
-//! multiplies it by a challenge plus its column 0; behind the last row it is the value that is exposed.
+//! A running product over the extension: behind the last row it is the value that is exposed.
 ghost use Rattle.air_product.specs.Product.{running_product};
 
-use p3_air::author::{
-    ExtIsOne, FirstRow, LastRow, PlainAir, PlainConstraints, Transition, When, assert_all,
-    challenge, current, permutation_current, permutation_next, permutation_value,
-};
-use p3_air::{AirError, Field, FromVar, PermutationAirBuilder};
+use p3_air::author::*;
 
-/// The product begins at one, takes each row's factor, and ends as the exposed value.
+/// Column 0 of the permutation trace is one on row 0, and each row multiplies it by the challenge plus its column 0.
 pub struct RunningProduct {}
 
 impl<F: Field> PlainAir<F> for RunningProduct {

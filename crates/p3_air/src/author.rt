@@ -1,4 +1,4 @@
-//! Constraints as values: what an author writes an AIR with.
+//! Constraints as values: what an author writes an AIR with. `use p3_air::author::*;` brings all that its file names.
 
 pub use air_author::{
     All, Already, BoolCheck, Boolean, Challenge, Claim, Condition, Constant, Constraint, Current,
@@ -11,6 +11,8 @@ pub use air_author::{
     periodic, permutation_current, permutation_next, permutation_value, preprocessed_current,
     preprocessed_next, public,
 };
+pub use air_builder::{AirBuilder, AirError, PermutationAirBuilder};
+pub use air_field::{Field, FromVar};
 pub use air_words::{
     Add2, Add3, Bits, Columns, HasBits, Packed, PackedBits, Rotated, Series, Word, WordOfBits,
     Xor32Shift,

@@ -1,5 +1,5 @@
 //! Cells of a row: numbers with their bits, as the values for bits and words read them.
-ghost use Rattle.std.specs.Prelude.{◌≡◌, ◌-◌, ◌<◌, ◌∷◌};
+ghost use Rattle.std.specs.Prelude.{◌≡◌, ◌-◌, ◌/◌, ◌%◌, ◌<◌, ◌∷◌, ◌++◌};
 ghost use Rattle.air_gadgets.specs.Bits.{digits_of};
 
 /// A number, and behind it as many of its bits as there are cells left, the lowest first.
@@ -13,5 +13,18 @@ pub fn with_bits<const N: usize>(number: u64) -> [u64; N]
         cells[i] = left % 2;
         left /= 2;
     }
+    cells
+}
+
+/// The cells of a word, as the value `WordOfBits` reads them: its lower half with the 16 bits of it, and then its upper
+/// half with those.
+pub fn word_with_bits(word: u32) -> [u64; 34]
+    ensures { result ≡ ((word % 65536 ∷ digits_of 2 16 (word % 65536)) ++
+        (word / 65536 ∷ digits_of 2 16 (word / 65536))) }
+{
+    let mut cells = [0; 34];
+    let (lower, upper) = cells.split_at_mut(17);
+    lower.copy_from_slice(&with_bits::<17>((word % 65536) as u64));
+    upper.copy_from_slice(&with_bits::<17>((word / 65536) as u64));
     cells
 }

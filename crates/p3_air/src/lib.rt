@@ -18,7 +18,7 @@
 //! To
 //! - write an AIR: [`author`], and [`utils`] for bits and words against the builder's calls; with tables beside the
 //!   trace, [`BaseAir`] and [`Air`];
-//! - make a trace: [`trace_of_rows`], [`with_bits`], [`RowMajorMatrix`];
+//! - make a trace: [`trace_of_rows`], [`with_bits`], [`word_with_bits`], [`RowMajorMatrix`];
 //! - check a trace: [`check_constraints`] up to the first fault, [`check_all_constraints`] to its end,
 //!   [`check_row_with_permutation`] a row with permutation data;
 //! - record an AIR: [`get_all_symbolic_constraints`], and [`recorded_air`] to make an AIR of a recording;
@@ -138,6 +138,7 @@ pub use audit::Audit;
 pub use audit::audit_air;
 pub use audit::audit_air_with_cap;
 pub use cells::with_bits;
+pub use cells::word_with_bits;
 pub use flat::flat_air::FlatAir;
 pub use flat::resolving::resolve;
 pub use flat::resolving::resolve_all;

@@ -19,6 +19,19 @@ pub struct Permutation<'a, EF> {
     pub values: &'a [EF],
 }
 
+impl<'a, EF> Permutation<'a, EF> {
+    /// These three, as they are.
+    pub fn new(trace: &'a RowMajorMatrix<EF>, challenges: &'a [EF], values: &'a [EF]) -> Self
+        ensures { result ≡ record { trace = trace; challenges = challenges; values = values } }
+    {
+        Permutation {
+            trace,
+            challenges,
+            values,
+        }
+    }
+}
+
 /// A row that is there.
 fn row_of<'a, T: Copy>(trace: &'a RowMajorMatrix<T>, row: usize) -> &'a [T]
     requires { row < length trace.now.rows }
