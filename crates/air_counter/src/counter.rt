@@ -8,12 +8,12 @@ use p3_air::author::{
 use p3_air::{AirBuilder, AirError, Field};
 
 /// The columns, by name.
-struct Columns {
+struct CounterColumns {
     bit: usize,
     count: usize,
 }
 
-const COLUMNS: Columns = Columns { bit: 0, count: 1 };
+const COLUMNS: CounterColumns = CounterColumns { bit: 0, count: 1 };
 
 /// The bit is a bit, the count begins at zero, and it rises by the bit.
 pub struct Counter {}
@@ -28,7 +28,7 @@ impl<F: Field> PlainAir<F> for Counter {
 
 impl<AB: AirBuilder> PlainConstraints<AB> for Counter {
     fn eval(&self, builder: &mut AB) -> Result<(), AirError> {
-        let Columns { bit, count } = COLUMNS;
+        let CounterColumns { bit, count } = COLUMNS;
         let rises = next(count).equals(current(count) + current(bit));
         let constraints = (
             Boolean(current(bit)),
