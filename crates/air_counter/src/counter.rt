@@ -1,4 +1,4 @@
-//! A counter: column 0 is a bit, and column 1 counts how many of the bits above were one.
+//! A counter: one column is a bit, and the other counts how many of the bits above were one.
 ghost use Rattle.air_counter.specs.Counter.{counter};
 
 use p3_air::author::{
@@ -6,6 +6,14 @@ use p3_air::author::{
     next,
 };
 use p3_air::{AirBuilder, AirError, Field};
+
+/// The columns, by name.
+struct CounterColumns {
+    bit: usize,
+    count: usize,
+}
+
+const COLUMNS: CounterColumns = CounterColumns { bit: 0, count: 1 };
 
 /// The bit is a bit, the count begins at zero, and it rises by the bit.
 pub struct Counter {}
@@ -20,12 +28,12 @@ impl<F: Field> PlainAir<F> for Counter {
 
 impl<AB: AirBuilder> PlainConstraints<AB> for Counter {
     fn eval(&self, builder: &mut AB) -> Result<(), AirError> {
-        let bit = current(0);
-        let count = current(1);
+        let CounterColumns { bit, count } = COLUMNS;
+        let rises = next(count).equals(current(count) + current(bit));
         let constraints = (
-            Boolean(bit),
-            When(FirstRow, Zero(count)),
-            When(Transition, next(1).equals(count + bit)),
+            Boolean(current(bit)),
+            When(FirstRow, Zero(current(count))),
+            When(Transition, rises),
         );
         assert_all(builder, &constraints)
     }
