@@ -1,11 +1,7 @@
 //! A counter: one column is a bit, and the other counts how many of the bits above were one.
 ghost use Rattle.air_counter.specs.Counter.{counter};
 
-use p3_air::author::{
-    Boolean, FirstRow, PlainAir, PlainConstraints, Transition, When, Zero, assert_all, current,
-    next,
-};
-use p3_air::{AirBuilder, AirError, Field};
+use p3_air::author::*;
 
 /// The columns, by name.
 struct CounterColumns {
