@@ -22,7 +22,9 @@ pub struct Permutation<'a, EF> {
 impl<'a, EF> Permutation<'a, EF> {
     /// These three, as they are.
     pub fn new(trace: &'a RowMajorMatrix<EF>, challenges: &'a [EF], values: &'a [EF]) -> Self
-        ensures { result ≡ record { trace = trace; challenges = challenges; values = values } }
+        ensures trace { result.trace ≡ trace.entry }
+        ensures challenges { result.challenges ≡ challenges.entry }
+        ensures values { result.values ≡ values.entry }
     {
         Permutation {
             trace,
