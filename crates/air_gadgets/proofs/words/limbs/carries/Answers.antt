@@ -19,3 +19,21 @@ returns-clause-makes g c =
     (g.met.R.Algebra.laws.means_stays c.args.ring.now c.times_raised.new.ring c.args.x t c.times_raised.ensures.extended m)
     (c.in_ok-product.ensures.makes.made.1 t t m m))
     c.times_raised-2.ensures.makes)
+
+pub times_raised-requires : goal.times_raised-requires
+times_raised-requires g c = record { x_in = c.requires.x_in; y_in = c.requires.x_in }
+
+pub times_raised-requires-2 : goal.times_raised-requires-2
+times_raised-requires-2 g c = record {
+  x_in = g.met.R.Algebra.laws.has_stays c.args.ring.now c.times_raised.new.ring c.args.x c.times_raised.ensures.extended c.requires.x_in;
+  y_in = c.in_ok-product.ensures.makes.made.0;
+}
+
+pub returns-in_err-product-clause-extended : goal.returns-in_err-product-clause-extended
+returns-in_err-product-clause-extended g c = c.times_raised.ensures.extended
+
+pub returns-then-not-two-clause-extended : goal.returns-then-not-two-clause-extended
+returns-then-not-two-clause-extended g c = c.times_raised.ensures.extended
+
+pub returns-clause-extended : goal.returns-clause-extended
+returns-clause-extended g c = g.met.R.Algebra.laws.joined c.args.ring.now c.times_raised.new.ring c.times_raised-2.new.ring c.times_raised.ensures.extended c.times_raised-2.ensures.extended

@@ -39,3 +39,33 @@ returns-clause-makes g c =
       );
       refused = tt;
     }
+
+pub whole-requires : goal.whole-requires
+whole-requires g c = record { low_in = c.requires.low_in; high_in = c.requires.high_in }
+
+pub carries-requires-clause-x_in : goal.carries-requires-clause-x_in
+carries-requires-clause-x_in g c = c.in_ok-both.ensures.makes.made.0
+
+pub carries-requires-2-clause-x_in : goal.carries-requires-2-clause-x_in
+carries-requires-2-clause-x_in g c =
+    let laws = g.met.R.Algebra.laws in
+    let stays = laws.joined c.args.ring.now c.whole.new.ring c.carries.new.ring c.whole.ensures.extended c.carries.ensures.extended in
+    laws.has_stays c.args.ring.now c.carries.new.ring c.args.low stays c.requires.low_in
+
+pub returns-in_err-both-clause-extended : goal.returns-in_err-both-clause-extended
+returns-in_err-both-clause-extended g c = c.whole.ensures.extended
+
+pub returns-in_err-first-clause-extended : goal.returns-in_err-first-clause-extended
+returns-in_err-first-clause-extended g c = g.met.R.Algebra.laws.joined c.args.ring.now c.whole.new.ring c.carries.new.ring c.whole.ensures.extended c.carries.ensures.extended
+
+pub returns-in_err-second-clause-extended : goal.returns-in_err-second-clause-extended
+returns-in_err-second-clause-extended g c =
+    let laws = g.met.R.Algebra.laws in
+    laws.joined c.args.ring.now c.whole.new.ring c.carries-2.new.ring c.whole.ensures.extended
+    (laws.joined c.whole.new.ring c.carries.new.ring c.carries-2.new.ring c.carries.ensures.extended c.carries-2.ensures.extended)
+
+pub returns-clause-extended : goal.returns-clause-extended
+returns-clause-extended g c =
+    let laws = g.met.R.Algebra.laws in
+    laws.joined c.args.ring.now c.whole.new.ring c.carries-2.new.ring c.whole.ensures.extended
+    (laws.joined c.whole.new.ring c.carries.new.ring c.carries-2.new.ring c.carries.ensures.extended c.carries-2.ensures.extended)

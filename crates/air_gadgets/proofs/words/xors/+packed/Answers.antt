@@ -44,3 +44,32 @@ returns-clause-makes g m c =
     makes_by laws c.add.result c.add.ensures.made c.add.ensures.refused
     (λ M h. from_all g.R.FromVar.var_means g.F.Field.ring c.args.b.now c.args.c.now c.index-b-0.is c.index-c-0.is c.requires.same (g.R.Algebra.means c.bit.new.ring c.in_ok-lowest.lowest) (g.R.Algebra.means c.packed.new.ring c.in_ok-rest.rest) M more c.in_ok-lowest.ensures.makes.made.1 c.in_ok-rest.ensures.makes.made.1
     (λ x y i j. h (double_term x) y (c.in_ok-twice.ensures.made.1 x i) (laws.means_stays c.bit.new.ring c.double.new.self c.in_ok-lowest.lowest y later j)))
+
+pub bit-requires : goal.bit-requires
+bit-requires g m c = c.requires.valid
+
+pub double-requires : goal.double-requires
+double-requires g m c = c.in_ok-rest.ensures.makes.made.0
+
+pub add-requires : goal.add-requires
+add-requires g m c =
+    let laws = g.met.R.Algebra.laws in
+    let later = laws.joined c.bit.new.ring c.packed.new.ring c.double.new.self c.packed.ensures.extended c.double.ensures.extended in record {
+      x_in = c.in_ok-twice.ensures.made.0;
+      y_in = laws.has_stays c.bit.new.ring c.double.new.self c.in_ok-lowest.lowest later c.in_ok-lowest.ensures.makes.made.0;
+    }
+
+pub returns-in_err-lowest-clause-extended : goal.returns-in_err-lowest-clause-extended
+returns-in_err-lowest-clause-extended g m c = c.bit.ensures.extended
+
+pub returns-then-b-eq1-clause-extended : goal.returns-then-b-eq1-clause-extended
+returns-then-b-eq1-clause-extended g m c = c.bit.ensures.extended
+
+pub returns-in_err-rest-clause-extended : goal.returns-in_err-rest-clause-extended
+returns-in_err-rest-clause-extended g m c = g.met.R.Algebra.laws.joined c.args.ring.now c.bit.new.ring c.packed.new.ring c.bit.ensures.extended c.packed.ensures.extended
+
+pub returns-in_err-twice-clause-extended : goal.returns-in_err-twice-clause-extended
+returns-in_err-twice-clause-extended g m c =
+    let laws = g.met.R.Algebra.laws in
+    laws.joined c.args.ring.now c.bit.new.ring c.double.new.self c.bit.ensures.extended
+    (laws.joined c.bit.new.ring c.packed.new.ring c.double.new.self c.packed.ensures.extended c.double.ensures.extended)
