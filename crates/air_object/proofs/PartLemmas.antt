@@ -1,5 +1,6 @@
 -- The parts of an object, as they are read, beside the object.
 use Rattle.std.proofs.Common.{◌≡◌, ◌≢◌, ℕ, ◌-◌, ◌<◌, ◌≤◌, List, [], ◌∷◌, ◌++◌, length, map, Option, Some, None, Result, Ok, Err, Bool, true, false, IfOk, IfErr, codes, bytes_eq, true≢false, String, BTreeMap, Vec, Global, refl, sym, ap, subst, ◌∙◌, arith}
+use Rattle.std.proofs.lemmas.List.{map_push}
 use Rattle.std.proofs.lemmas.Slice.Eq.{bytes_eq-Decides}
 use Rattle.std.specs.Result.{result_map_both}
 use Rattle.json.specs.Json.{Json, Parse, parse_map, after_end_array, items}
@@ -11,17 +12,21 @@ use Rattle.serde_json.specs.View.{view, items_of, members_view}
 use Rattle.serde_json.specs.declared.value.Value.{Value, Object}
 use Rattle.serde_json.proofs.Views.{view-Object, get_member-put, get_member-put_other}
 use Rattle.air_field.specs.Modular.{Modular}
+use Rattle.air_symbolic.specs.BaseLeaves.{base_reads, base_grows}
 use Rattle.air_symbolic.specs.Pools.{tree_at}
 use Rattle.air_symbolic.specs.Trees.{Tree}
 use Rattle.air_symbolic.specs.declared.leaves.base_leaf.BaseLeaf.{BaseLeaf}
 use Rattle.air_wire.specs.BaseLeaves.{element_at}
+use Rattle.air_wire.specs.Reads.{Reads}
+use Rattle.air_wire.specs.laws.Lists.{fails_is, fails_if}
 use Rattle.air_wire.specs.Results.{◌>>=◌, Fails, Gives}
 use Rattle.air_wire.specs.declared.errors.FlatError.{FlatError}
 use Rattle.air_wire.specs.declared.errors.FlatError.TheVariants as faults
 use Rattle.air_object.specs.Members.{MemberValues}
-use Rattle.air_object.specs.Parts.{GivenElements, AreElements, Given, AreGiven, one_more, of_member, AreMembersOf, ArePartsOf, given_elements, given_by, members_with}
+use Rattle.air_object.specs.Parts.{GivenElements, AreElements, Given, AreGiven, and_one, one_more, numbers_of, of_member, AreMembersOf, ArePartsOf, given_elements, given_by, members_with}
 use Rattle.air_object.specs.Readers.{Reader, each_from, elements, tree, trees, width_member, elements_member, table_member, constraints_member, periodic_member, boundary_member, cap_member, weight_member, members_read}
 use Rattle.air_object.proofs.TokenLemmas.{data_before, one_more_data, item_read}
+use Rattle.air_object.proofs.Trees.{Pool, GrownTo, AllIn, all_in_push, trees_kept}
 use Rattle.air_object.specs.declared.constraints.Constraints.{Constraints}
 
 -- what is seen of what a call gave is what is given
@@ -59,7 +64,21 @@ only_memory see (Err (faults.Operand place i)) other h = absurd cc
 only_memory see (Err (faults.WrongDegree place s k)) other h = absurd cc
 only_memory see (Err (faults.NotCanonical place)) other h = absurd cc
 
+next_fails : {X Y : Type 0} (f : FlatError) (r : Result X FlatError) (next : X → Result Y FlatError) → Fails f r → Fails f (r >>= next)
+next_fails {X} f r next h = fails_if f (r >>= next) (λ n. ap (λ (q : Result X FlatError). q >>= next) (fails_is f r h n))
+
 -- ---- one item more
+
+-- an item is taken of an array, of which so much is known
+pub item_taken : (p : Parse Json) (all : Option (Items × List Token)) (start n : ℕ) (ts r : List Token) (ds : List Data) (d : Data) → length ts ≤ n
+    → all ≡ parse_map (data_before ds) (converted of_items (items p n ts)) → length ts ≤ start → after_end_array ts ≡ None → converted of_json (p ts) ≡ Some (d, r) → length r < length ts
+    → (m : ℕ) × (length r ≤ m) × (all ≡ parse_map (data_before (ds ++ d ∷ [])) (converted of_items (items p m r))) × (length r ≤ start)
+item_taken p all start n ts r ds d enough so_far less going taken shorter = (
+  n - 1,
+  omega (arith, enough, shorter),
+  so_far ∙ ap (parse_map (data_before ds)) (item_read p n ts r d (omega (arith, enough, shorter)) going taken) ∙ one_more_data ds d _,
+  omega (arith, less, shorter),
+)
 
 -- what is read of one value more
 pub more_read : {X : Type 0} (read : Reader X) (before : List X) (d : Data) (x : X) → read d ≡ Ok x → one_more read (Ok before) d ≡ Ok (before ++ x ∷ [])
@@ -67,33 +86,25 @@ more_read {X} read before d x e = ap (λ (r : Result X FlatError). r >>= λ y. O
 
 -- a first fault stays the first
 module _ {X : Type 0} (read : Reader X) where
-  abbrev with_one : Data → Result (List X) FlatError → Result (List X) FlatError
-  with_one d g = one_more read g d
-
   pub still_fails : (f : FlatError) (given : Result (List X) FlatError) (d : Data) → Fails f given → Fails f (one_more read given d)
-  still_fails faults.Memory given d h = tt
-  still_fails faults.DegreeOverflow given d h = ap (with_one d) h
-  still_fails (faults.Shape place) given d h = ap (with_one d) h
-  still_fails faults.EmptyList given d h = ap (with_one d) h
-  still_fails (faults.Operand place i) given d h = ap (with_one d) h
-  still_fails (faults.WrongDegree place s k) given d h = ap (with_one d) h
-  still_fails (faults.NotCanonical place) given d h = ap (with_one d) h
+  still_fails f given d h = next_fails f given _ h
 
   -- a turn of the loop that reads the items of an array, of which so much is known
   pub one_item_more : (Before After : Result (List X) FlatError → Type 0) (p : Parse Json) (all : Option (Items × List Token)) (start n : ℕ) (ts r : List Token) (ds : List Data) (d : Data) → length ts ≤ n
       → all ≡ parse_map (data_before ds) (converted of_items (items p n ts)) → length ts ≤ start → Before (each_from read [] (items_of ds)) → after_end_array ts ≡ None
       → converted of_json (p ts) ≡ Some (d, r) → length r < length ts → ((given : Result (List X) FlatError) → Before given → After (one_more read given d))
       → (m : ℕ) × (length r ≤ m) × (es : List Data) × (all ≡ parse_map (data_before es) (converted of_items (items p m r))) × (length r ≤ start) × After (each_from read [] (items_of es))
-  one_item_more Before After p all start n ts r ds d enough so_far less given going taken shorter more = (
-    n - 1,
-    omega (arith, enough, shorter),
-    ds ++ d ∷ [],
-    so_far ∙ ap (parse_map (data_before ds)) (item_read p n ts r d (omega (arith, enough, shorter)) going taken) ∙ one_more_data ds d _,
-    omega (arith, less, shorter),
-    subst After (sym (each_from_push read [] ds d)) (more (each_from read [] (items_of ds)) given),
-  )
+  one_item_more Before After p all start n ts r ds d enough so_far less given going taken shorter more =
+      let turn = item_taken p all start n ts r ds d enough so_far less going taken shorter in
+      (turn.0, turn.1, ds ++ d ∷ [], turn.2, turn.3, subst After (sym (each_from_push read [] ds d)) (more (each_from read [] (items_of ds)) given))
 
 module _ {F : Type 0} {order : ℕ} (modular : Modular F order) where
+  -- what is read of the items of an array is read of its value
+  pub of_array : {E R : Type 0} (P : R → Data → Type 0) (r : Result R E) (whole : Option (Data × List Token)) (inside : Option (Items × List Token)) (rest : List Token) → whole ≡ parse_map array inside
+      → IfOk r (λ c. (ds : Items) × (inside ≡ Some (ds, rest)) × P c (array ds)) → IfOk r (λ c. (d : Data) × (whole ≡ Some (d, rest)) × P c d)
+  of_array P (Ok c) whole inside rest e h = (array h.0, e ∙ ap (parse_map array) h.1, h.2)
+  of_array P (Err f) whole inside rest e h = tt
+
   -- the lists of an array are those of its value
   pub lists_of_array : {E : Type 0} (r : Result (Constraints F) E) (whole : Option (Data × List Token)) (inside : Option (Items × List Token)) (rest : List Token) → whole ≡ parse_map array inside
       → IfOk r (λ c. (ds : Items) × (inside ≡ Some (ds, rest)) × AreGiven (each_from (tree modular) [] ds) c) → IfOk r (λ c. (d : Data) × (whole ≡ Some (d, rest)) × AreGiven (trees modular d) c)
@@ -107,6 +118,32 @@ module _ {F : Type 0} {order : ℕ} (modular : Modular F order) where
   unfolding elements
   elements_of_array (Ok es) whole inside rest e h = (array h.0, e ∙ ap (parse_map array) h.1, h.2)
   elements_of_array (Err f) whole inside rest e h = tt
+
+  -- ---- one root more, in a pool that has grown
+
+  module _ (p q : Pool F) (d : Data) (given : Given F) (grown : GrownTo p q) where
+    abbrev more : Given F
+    more = one_more (tree modular) given d
+
+    roots_more : (roots : Result (Vec ℕ Global) FlatError) (root : Result ℕ FlatError) → IfOk roots (λ v. AllIn p v.items) → IfOk root (λ i. i < length q.1)
+        → Gives (λ v. map (tree_at p) v.items) roots given → Gives (tree_at q) root (tree modular d)
+        → IfOk (and_one (numbers_of roots) root) (AllIn q) × Gives (map (tree_at q)) (and_one (numbers_of roots) root) more
+    roots_more (Ok v) (Ok i) here there first second =
+        (all_in_push modular p q v.items i grown here there, rw (first, second, map_push, trees_kept modular p q v.items grown here) refl)
+    roots_more (Ok v) (Err f) here there first second = (tt, rw first (next_fails f (tree modular d) (λ t. Ok (map (tree_at p) v.items ++ t ∷ [])) second))
+    roots_more (Err f) root here there first second = (tt, still_fails (tree modular) f given d first)
+
+    roots_seen : (all : Result (List ℕ) FlatError) (after : Result (Vec ℕ Global) FlatError) → Gives (λ v. v.items) after all → IfOk all (AllIn q) → Gives (map (tree_at q)) all more
+        → IfOk after (λ v. AllIn q v.items) × Gives (λ v. map (tree_at q) v.items) after more
+    roots_seen all (Ok v) one here g = (subst (λ r. IfOk r (AllIn q)) one here, subst (λ r. Gives (map (tree_at q)) r more) one g)
+    roots_seen all (Err f) one here g = (tt, fails_if f more (λ n. fails_is f more (subst (λ r. Gives (map (tree_at q)) r more) (fails_is f all one n) g) n))
+
+  pub root_more : (c e : Constraints F) (root : Result ℕ FlatError) (d : Data) (given : Given F) → Reads base_grows base_reads tree_at c.pool e.pool root (tree modular d)
+      → Gives (λ v. v.items) e.roots (and_one (numbers_of c.roots) root) → AreGiven given c → AreGiven (one_more (tree modular) given d) e
+  root_more c e root d given reads one h =
+      let both = roots_more c.pool e.pool d given reads.grown c.roots root h.inside.here reads.here h.read reads.read in
+      let seen = roots_seen c.pool e.pool d given reads.grown (and_one (numbers_of c.roots) root) e.roots one both.0 both.1 in
+      record { inside = record { pool = reads.grown.pool h.inside.pool; here = seen.0 }; read = seen.1 }
 
   -- ---- one member more
 

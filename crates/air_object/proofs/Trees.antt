@@ -12,7 +12,7 @@ use Rattle.air_symbolic.specs.declared.pools.expr.SymbolicExpr.{SymbolicExpr}
 use Rattle.air_wire.specs.BaseLeaves.{base_kind, base_seen}
 use Rattle.air_wire.specs.laws.BaseLeaves.{base_kind_laws, over_same}
 use Rattle.air_wire.specs.Good.{IsList, HasFault}
-use Rattle.air_wire.specs.laws.Lists.{root_again, root_fault_read}
+use Rattle.air_wire.specs.laws.Lists.{root_again, root_fault_read, fails_if}
 use Rattle.air_wire.specs.Results.{Gives}
 use Rattle.air_wire.specs.Seen.{seen_at}
 use Rattle.air_wire.specs.declared.errors.FlatError.{FlatError}
@@ -50,10 +50,4 @@ module _ {F : Type 0} {order : ℕ} (modular : Modular F order) where
 
   pub tree_given : (p : Pool F) (d : Data) (r : Result ℕ FlatError) → IfOk r (λ i. IsList (base_kind modular) d (seen_at base_seen p i)) → IfErr r (λ e. e ≢ faults.Memory → HasFault (base_kind modular) d e) → Gives (tree_at p) r (tree modular d)
   tree_given p d (Ok i) h n = root_again (base_kind modular) (base_kind_laws modular) d (seen_at base_seen p i) h ∙ ap (λ t. Ok t) (over_same (tree_at p i))
-  tree_given p d (Err faults.Memory) h n = tt
-  tree_given p d (Err faults.DegreeOverflow) h n = root_fault_read (base_kind modular) (base_kind_laws modular) d faults.DegreeOverflow (n (λ e. absurd cc))
-  tree_given p d (Err (faults.Shape place)) h n = root_fault_read (base_kind modular) (base_kind_laws modular) d (faults.Shape place) (n (λ e. absurd cc))
-  tree_given p d (Err faults.EmptyList) h n = root_fault_read (base_kind modular) (base_kind_laws modular) d faults.EmptyList (n (λ e. absurd cc))
-  tree_given p d (Err (faults.Operand place i)) h n = root_fault_read (base_kind modular) (base_kind_laws modular) d (faults.Operand place i) (n (λ e. absurd cc))
-  tree_given p d (Err (faults.WrongDegree place s k)) h n = root_fault_read (base_kind modular) (base_kind_laws modular) d (faults.WrongDegree place s k) (n (λ e. absurd cc))
-  tree_given p d (Err (faults.NotCanonical place)) h n = root_fault_read (base_kind modular) (base_kind_laws modular) d (faults.NotCanonical place) (n (λ e. absurd cc))
+  tree_given p d (Err f) h n = fails_if f (tree modular d) (λ m. root_fault_read (base_kind modular) (base_kind_laws modular) d f (n m))

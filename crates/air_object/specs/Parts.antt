@@ -27,6 +27,10 @@ AreElements given es = Gives (λ v. v.items) es given
 abbrev pub Given : Type 0 → Type 0
 Given F = Result (List (Tree (BaseLeaf F))) FlatError
 
+-- the numbers of the roots, or the first fault
+abbrev pub numbers_of : Result (Vec ℕ Global) FlatError → Result (List ℕ) FlatError
+numbers_of roots = result_map_both (λ v. v.items) (λ f. f) roots
+
 -- the roots are numbers of the pool
 pub record InPool {F : Type 0} (c : Constraints F) : Type 0 where
   pub pool : IsPool base_reads c.pool
@@ -37,9 +41,13 @@ pub record AreGiven {F : Type 0} (given : Given F) (c : Constraints F) : Type 0 
   pub inside : InPool c
   pub read : Gives (λ roots. map (tree_at c.pool) roots.items) c.roots given
 
+-- those, and one more
+abbrev pub and_one : {X : Type 0} → Result (List X) FlatError → Result X FlatError → Result (List X) FlatError
+and_one given one = given >>= λ before. one >>= λ x. Ok (before ++ x ∷ [])
+
 -- those, and what is read of one value more
 abbrev pub one_more : {X : Type 0} → Reader X → Result (List X) FlatError → Data → Result (List X) FlatError
-one_more read given d = given >>= λ before. read d >>= λ x. Ok (before ++ x ∷ [])
+one_more read given d = and_one given (read d)
 
 -- what a member's value gives, if there is one
 abbrev pub of_member : {X : Type 0} → Reader X → Option Data → Result X FlatError

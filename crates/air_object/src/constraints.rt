@@ -1,11 +1,12 @@
 //! Constraints, each a list of base nodes, in one pool.
-ghost use Rattle.std.specs.Prelude.{◌<◌, [], length, map, All, Ok, Err};
+ghost use Rattle.std.specs.Prelude.{[], Ok, Err};
 ghost use Rattle.serde_json.specs.View.{view, items_view};
 ghost use Rattle.air_symbolic.specs.BaseLeaves.{base_reads, base_grows};
 ghost use Rattle.air_symbolic.specs.Pools.{IsPool, tree_at};
 ghost use Rattle.air_wire.specs.Reads.{Reads, ReadsAll};
+ghost use Rattle.air_wire.specs.Results.{Gives};
 ghost use Rattle.air_wire.specs.declared.errors.FlatError.TheVariants.{Shape};
-ghost use Rattle.air_object.specs.Parts.{Given, InPool, AreGiven, one_more};
+ghost use Rattle.air_object.specs.Parts.{AreGiven, and_one, numbers_of};
 ghost use Rattle.air_object.specs.Readers.{each_from, tree, trees, constraints_member};
 
 use air_field::{Field, PrimeField64};
@@ -21,6 +22,9 @@ pub type BaseId<F> = ExprId<BaseLeaf<F>>;
 
 pub type Roots<F> = Vec<BaseId<F>>;
 
+/// A root, or the first fault of its list.
+pub(crate) type Root<F> = Result<BaseId<F>, FlatError>;
+
 /// Constraints that are read before it is their turn: the pool of their lists, and their roots or the first fault.
 #[derive(Drop)]
 pub struct Constraints<F: Field> {
@@ -28,11 +32,12 @@ pub struct Constraints<F: Field> {
     pub roots: Result<Roots<F>, FlatError>,
 }
 
-fn root_from<F: PrimeField64>(
+/// The root of the list that the value is.
+pub(crate) fn root_from<F: PrimeField64>(
     alloc: Global,
     pool: &mut BasePool<F>,
     value: &Value,
-) -> Result<BaseId<F>, FlatError>
+) -> Root<F>
     requires { IsPool base_reads pool.old }
     ensures { Reads base_grows base_reads tree_at pool.old pool.new result
         (tree F.residues (view value.now)) }
@@ -92,44 +97,16 @@ pub fn missing_constraints<F: PrimeField64>(alloc: Global) -> Constraints<F>
     }
 }
 
-// The roots, and that of the list, or the first fault.
-fn roots_with<F: PrimeField64>(
-    alloc: Global,
-    pool: &mut BasePool<F>,
-    mut roots: Roots<F>,
-    value: &Value,
+/// The roots, and one more, or the first fault.
+pub(crate) fn with_root<F: PrimeField64>(
+    roots: Result<Roots<F>, FlatError>,
+    root: Root<F>,
 ) -> Result<Roots<F>, FlatError>
-    requires pool { IsPool base_reads pool.old }
-    requires here { All (λ i. i < length pool.old.1) roots.items }
-    ensures { ReadsAll base_grows base_reads tree_at (λ v. v.items) pool.old pool.new result
-        (one_more (tree F.residues) (Ok (map (tree_at pool.old) roots.items)) (view value.now)) }
+    ensures { Gives (λ v. v.items) result (and_one (numbers_of roots) root) }
 {
-    let root = root_from(alloc, pool, value)?;
-    roots.push(root)?;
+    let mut roots = roots?;
+    roots.push(root?)?;
     Ok(roots)
-}
-
-/// The constraints, and the list that the value is; behind a fault no further list is read.
-pub fn with_list<F: PrimeField64>(
-    alloc: Global,
-    constraints: Constraints<F>,
-    value: &Value,
-) -> Constraints<F>
-    requires { InPool constraints }
-    ensures { (given : Given F) → AreGiven given constraints
-        → AreGiven (one_more (tree F.residues) given (view value.now)) result }
-{
-    let Constraints { mut pool, roots } = constraints;
-    match roots {
-        Ok(roots) => {
-            let roots = roots_with(alloc, &mut pool, roots, value);
-            Constraints { pool, roots }
-        }
-        Err(fault) => Constraints {
-            pool,
-            roots: Err(fault),
-        },
-    }
 }
 
 /// The constraints of the lists that the value lists.

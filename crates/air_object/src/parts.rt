@@ -1,21 +1,26 @@
-//! The JSON object as its text is read: the trace number by number and the constraints list by list, so that no more
+//! The JSON object as its text is read: the trace number by number and the constraints node by node, so that no more
 //! than one of either is held as a value.
 ghost use Rattle.std.specs.Prelude.{◌≡◌, ◌≢◌, ◌<◌, [], length, Err, Some, None, IfOk, IfErr, OnOk};
 ghost use Rattle.json.specs.Json.{value, items, members};
-ghost use Rattle.serde_json.specs.Data.{Data, Items, Members, no_members};
+ghost use Rattle.serde_json.specs.Data.{Data, array, Items, Members, no_members};
 ghost use Rattle.serde_json.specs.Read.{of_json, of_items, of_members, converted, read};
 ghost use Rattle.serde_json.specs.View.{view, members_view};
+ghost use Rattle.air_symbolic.specs.BaseLeaves.{base_reads, base_grows};
+ghost use Rattle.air_symbolic.specs.Pools.{IsPool, tree_at};
 ghost use Rattle.air_wire.specs.BaseLeaves.{element_at};
-ghost use Rattle.air_object.specs.Parts.{AreElements, AreGiven, AreMembersOf, ArePartsOf};
+ghost use Rattle.air_wire.specs.Reads.{Reads};
+ghost use Rattle.air_object.specs.Parts.{AreElements, Given, InPool, AreGiven, AreMembersOf, ArePartsOf, one_more};
 ghost use Rattle.air_object.specs.Readers.{each_from, elements, tree, trees};
 
 use crate::constraints::{
-    Constraints, constraints_listed, constraints_of, missing_constraints, no_constraints, with_list,
+    BasePool, Constraints, Root, constraints_listed, constraints_of, missing_constraints,
+    no_constraints, root_from, with_root,
 };
 use crate::elements::{Elements, elements_from, missing_elements, no_elements, with_element};
 use crate::members::elements_at;
 use crate::text::{TextFault, read, read_from};
 use air_field::{Field, PrimeField64};
+use air_wire::ListReader;
 use json::{Reader, Scratch, Token};
 use serde_json::{Map, Value};
 use std::alloc::Global;
@@ -74,6 +79,76 @@ fn read_elements<F: PrimeField64>(
     Ok(elements_from(alloc, &other))
 }
 
+// The root of the list of nodes in which the reader stands, node by node.
+fn read_nodes<F: PrimeField64>(
+    alloc: Global,
+    reader: &mut Reader<'_>,
+    depth: usize,
+    pool: &mut BasePool<F>,
+) -> Result<Root<F>, TextFault>
+    requires { IsPool base_reads pool.old }
+    ensures ok { IfOk result (λ root. (ds : Items)
+        × (converted of_items (items (value depth) (length reader.old) reader.old)
+        ≡ Some (ds, reader.new))
+        × Reads base_grows base_reads tree_at pool.old pool.new root (tree F.residues (array ds))) }
+    ensures shorter { OnOk result (length reader.new < length reader.old) }
+    ensures err { result ≡ Err TextFault.Json
+        → converted of_items (items (value depth) (length reader.old) reader.old) ≡ None }
+{
+    let mut list = ListReader::new(alloc);
+    'items: while !reader.take_end_array() {
+        let item = read(alloc, reader, depth)?;
+        list.read_node(alloc, pool, &item);
+    }
+    Ok(list.root())
+}
+
+// The root of the value that begins where the reader stands.
+fn read_root<F: PrimeField64>(
+    alloc: Global,
+    reader: &mut Reader<'_>,
+    depth: usize,
+    pool: &mut BasePool<F>,
+) -> Result<Root<F>, TextFault>
+    requires { IsPool base_reads pool.old }
+    ensures ok { IfOk result (λ root. (d : Data)
+        × (converted of_json (value depth reader.old) ≡ Some (d, reader.new))
+        × Reads base_grows base_reads tree_at pool.old pool.new root (tree F.residues d)) }
+    ensures shorter { OnOk result (length reader.new < length reader.old) }
+    ensures err { result ≡ Err TextFault.Json → converted of_json (value depth reader.old) ≡ None }
+{
+    let token = reader.next().ok_or(TextFault::Json)?;
+    if let Token::BeginArray = token {
+        if depth == 0 {
+            return Err(TextFault::Json);
+        }
+        return read_nodes(alloc, reader, depth - 1, pool);
+    }
+    let other = read_from(alloc, token, reader, depth)?;
+    Ok(root_from(alloc, pool, &other))
+}
+
+// The constraints, and the list that begins where the reader stands.
+fn read_list<F: PrimeField64>(
+    alloc: Global,
+    reader: &mut Reader<'_>,
+    depth: usize,
+    constraints: Constraints<F>,
+) -> Result<Constraints<F>, TextFault>
+    requires { InPool constraints }
+    ensures ok { IfOk result (λ c. (d : Data)
+        × (converted of_json (value depth reader.old) ≡ Some (d, reader.new))
+        × ((given : Given F) → AreGiven given constraints
+        → AreGiven (one_more (tree F.residues) given d) c)) }
+    ensures shorter { OnOk result (length reader.new < length reader.old) }
+    ensures err { result ≡ Err TextFault.Json → converted of_json (value depth reader.old) ≡ None }
+{
+    let Constraints { mut pool, roots } = constraints;
+    let root = read_root(alloc, reader, depth, &mut pool)?;
+    let roots = with_root(roots, root);
+    Ok(Constraints { pool, roots })
+}
+
 // The lists of the array in which the reader stands.
 fn read_lists<F: PrimeField64>(
     alloc: Global,
@@ -89,8 +164,7 @@ fn read_lists<F: PrimeField64>(
 {
     let mut constraints = no_constraints(alloc);
     'items: while !reader.take_end_array() {
-        let item = read(alloc, reader, depth)?;
-        constraints = with_list(alloc, constraints, &item);
+        constraints = read_list(alloc, reader, depth, constraints)?;
     }
     Ok(constraints)
 }

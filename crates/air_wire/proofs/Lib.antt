@@ -2,6 +2,7 @@ pub mod OnlyMember
 pub mod SeenTrees
 pub mod Growing
 pub mod Loop
+pub mod ListReading
 pub mod Numbers
 pub mod Lifting
 pub mod Left

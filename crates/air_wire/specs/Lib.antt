@@ -15,6 +15,7 @@ pub mod Reads
 pub mod Written
 pub mod BaseLeaves
 pub mod Good
+pub mod ListReaders
 pub mod Writing
 pub mod Coefficients
 pub mod Wholes

@@ -109,6 +109,10 @@ unfoldable pub nodes_from : {S F : Type 0} → Kind S F → List (Tree S) → It
 nodes_from kind done no_items = Ok done
 nodes_from kind done (item d ds) = node_at kind done d >>= λ t. nodes_from kind (done ++ t ∷ []) ds
 
+-- the trees of the nodes so far and of one more, or the first fault
+abbrev pub node_more : {S F : Type 0} → Kind S F → Result (List (Tree S)) FlatError → Data → Result (List (Tree S)) FlatError
+node_more kind so_far d = so_far >>= λ done. node_at kind done d >>= λ t. Ok (done ++ t ∷ [])
+
 -- the root of a list is its last node
 unfoldable pub last_tree : {S : Type 0} → List (Tree S) → Result (Tree S) FlatError
 last_tree ts = ok_or (slice_get ts (length ts - 1)) faults.EmptyList

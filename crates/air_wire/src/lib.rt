@@ -22,7 +22,7 @@ mod written_nodes;
 
 pub use base_leaf::element_from;
 pub use errors::FlatError;
-pub use lists::from_flat_value;
+pub use lists::{ListReader, from_flat_value};
 pub use parts::{whole, whole_at};
 pub use plain::Plain;
 pub use spelled::Spelled;

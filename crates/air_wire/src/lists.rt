@@ -1,50 +1,145 @@
 //! Lists of nodes.
-ghost use Rattle.std.specs.Prelude.{◌≢◌, ◌<◌, [], length, map, All, IfOk, IfErr};
-ghost use Rattle.serde_json.specs.View.{view, items_view};
+ghost use Rattle.std.specs.Prelude.{◌≡◌, ◌≢◌, ◌<◌, ◌∷◌, ◌++◌, [], List, length, map, All, Ok, IfOk, IfErr};
+ghost use Rattle.serde_json.specs.Data.{Data, array};
+ghost use Rattle.serde_json.specs.View.{view, items_of};
 ghost use Rattle.air_symbolic.specs.Pools.{IsPool, Grown};
-ghost use Rattle.air_wire.specs.Reads.{Reads, ReadsAll};
-ghost use Rattle.air_wire.specs.Results.{Gives};
+ghost use Rattle.air_symbolic.specs.declared.pools.expr.SymbolicExpr.{SymbolicExpr};
+ghost use Rattle.air_wire.specs.ListReaders.{numbers_or, last_number, HasRead};
+ghost use Rattle.air_wire.specs.Reads.{AreOf, Reads, ReadsAll};
 ghost use Rattle.air_wire.specs.Seen.{seen_at};
 ghost use Rattle.air_wire.specs.Good.{IsList, HasFault};
-ghost use Rattle.air_wire.specs.Nodes.{nodes_from, last_tree, root_of};
+ghost use Rattle.air_wire.specs.Nodes.{root_of, node_more};
 
 use crate::errors::FlatError;
 use crate::nodes::node_from;
 use crate::wire_leaf::WireLeaf;
-use air_symbolic::{ExprId, ExprPool};
+use air_symbolic::{ExprId, ExprPool, SymLeaf};
 use serde_json::Value;
 use std::alloc::Global;
+use std::marker::Model;
 
-// The expressions at the places of the list.
-fn ids_from<A: WireLeaf>(
-    alloc: Global,
-    pool: &mut ExprPool<A>,
-    items: &[Value],
-) -> Result<Vec<ExprId<A>>, FlatError>
-    requires { IsPool A.reads pool.old }
-    ensures { ReadsAll A.grows A.reads (seen_at A.seen) (λ v. v.items) pool.old pool.new result
-        (nodes_from A.kind [] (items_view items.now)) }
-{
-    let mut ids = Vec::new(alloc);
-    for item in items {
-        let id = node_from(alloc, pool, &ids, item)?;
-        ids.push(id)?;
-    }
-    Ok(ids)
+/// A list of nodes that is read into a pool node by node, so that no more than one need be there as a value: the
+/// expressions of the nodes so far, or the list's first fault.
+#[derive(Drop)]
+pub struct ListReader<A: SymLeaf> {
+    ids: Vec<ExprId<A>>,
+    fault: Option<FlatError>,
 }
 
-// The expression at the last place.
-#[tactic(auto, unfolding(crate::specs::Nodes::last_tree))]
-fn root_from<A: WireLeaf>(pool: &ExprPool<A>, ids: &[ExprId<A>]) -> Result<ExprId<A>, FlatError>
-    requires { All (λ i. i < length pool.now.1) ids.now }
-    ensures here { IfOk result (λ i. i < length pool.now.1) }
-    ensures read { Gives (seen_at A.seen pool.now) result
-        (last_tree (map (seen_at A.seen pool.now) ids.now)) }
+impl<A: SymLeaf> Model for ListReader<A> {
+    ghost use Rattle.std.specs.Prelude.{ℕ, List, Result};
+    ghost use Rattle.air_wire.specs.ListReaders.{numbers_or};
+    ghost use Rattle.air_wire.specs.declared.errors.FlatError.{FlatError};
+
+    ghost Value = { Result (List ℕ) FlatError };
+
+    ghost view = { λ l. numbers_or l.ids.items l.fault };
+}
+
+// The expressions, and that of the node that the value spells.
+fn push_node<A: WireLeaf>(
+    alloc: Global,
+    pool: &mut ExprPool<A>,
+    ids: &mut Vec<ExprId<A>>,
+    value: &Value,
+) -> Result<(), FlatError>
+    requires { AreOf A.reads pool.old ids.old.items }
+    ensures { ReadsAll A.grows A.reads (seen_at A.seen) (λ _. ids.new.items) pool.old pool.new
+        result (node_more A.kind (Ok (map (seen_at A.seen pool.old) ids.old.items))
+        (view value.now)) }
 {
-    match ids.last() {
-        Some(id) => Ok(*id),
-        None => Err(FlatError::EmptyList),
+    let id = node_from(alloc, pool, ids, value)?;
+    ids.push(id)?;
+    Ok(())
+}
+
+// The same, unless there is a fault already; then the fault.
+fn fault_after<A: WireLeaf>(
+    alloc: Global,
+    pool: &mut ExprPool<A>,
+    ids: &mut Vec<ExprId<A>>,
+    fault: Option<FlatError>,
+    value: &Value,
+) -> Option<FlatError>
+    requires pool { IsPool A.reads pool.old }
+    requires here { IfOk (numbers_or ids.old.items fault) (λ is. All (λ i. i < length pool.old.1) is) }
+    ensures grown { Grown A.grows A.reads pool.old pool.new }
+    ensures read { (ds : List Data)
+        → HasRead A.kind (seen_at A.seen) pool.old ds (numbers_or ids.old.items fault)
+        → HasRead A.kind (seen_at A.seen) pool.new (ds ++ view value.now ∷ [])
+        (numbers_or ids.new.items result) }
+{
+    match fault {
+        Some(fault) => Some(fault),
+        None => match push_node(alloc, pool, ids, value) {
+            Ok(()) => None,
+            Err(fault) => Some(fault),
+        },
     }
+}
+
+// The expression at the last place, unless there is a fault.
+fn last_or<A: WireLeaf>(ids: &[ExprId<A>], fault: Option<FlatError>) -> Result<ExprId<A>, FlatError>
+    ensures { result ≡ last_number (numbers_or ids.now fault) }
+{
+    match fault {
+        Some(fault) => Err(fault),
+        None => match ids.last() {
+            Some(id) => Ok(*id),
+            None => Err(FlatError::EmptyList),
+        },
+    }
+}
+
+impl<A: WireLeaf> ListReader<A> {
+    /// A reader before the list's first node.
+    pub fn new(alloc: Global) -> Self
+        ensures { (p : A.Under × List (SymbolicExpr A))
+            → HasRead A.kind (seen_at A.seen) p [] result }
+    {
+        ListReader {
+            ids: Vec::new(alloc),
+            fault: None,
+        }
+    }
+
+    /// Reads the list's next node, which is inserted unfolded; behind a fault no further node is read.
+    pub fn read_node(&mut self, alloc: Global, pool: &mut ExprPool<A>, value: &Value)
+        requires pool { IsPool A.reads pool.old }
+        requires here { IfOk self.old (λ ids. All (λ i. i < length pool.old.1) ids) }
+        ensures grown { Grown A.grows A.reads pool.old pool.new }
+        ensures read { (ds : List Data) → HasRead A.kind (seen_at A.seen) pool.old ds self.old
+            → HasRead A.kind (seen_at A.seen) pool.new (ds ++ view value.now ∷ []) self.new }
+    {
+        self.fault = fault_after(alloc, pool, &mut self.ids, self.fault, value);
+    }
+
+    /// The expression of the root of the list that is read, its last node, or the list's first fault.
+    pub fn root(self) -> Result<ExprId<A>, FlatError>
+        ensures here { (p : A.Under × List (SymbolicExpr A)) → (ds : List Data)
+            → HasRead A.kind (seen_at A.seen) p ds self → IfOk result (λ i. i < length p.1) }
+        ensures root { (p : A.Under × List (SymbolicExpr A)) → (ds : List Data)
+            → HasRead A.kind (seen_at A.seen) p ds self
+            → IfOk result (λ i. IsList A.kind (array (items_of ds)) (seen_at A.seen p i)) }
+        ensures fault { (p : A.Under × List (SymbolicExpr A)) → (ds : List Data)
+            → HasRead A.kind (seen_at A.seen) p ds self → IfErr result
+            (λ e. e ≢ FlatError.Memory → HasFault A.kind (array (items_of ds)) e) }
+    {
+        last_or(&self.ids, self.fault)
+    }
+}
+
+// The reader that has read the items.
+fn items_from<A: WireLeaf>(alloc: Global, pool: &mut ExprPool<A>, items: &[Value]) -> ListReader<A>
+    requires { IsPool A.reads pool.old }
+    ensures grown { Grown A.grows A.reads pool.old pool.new }
+    ensures read { HasRead A.kind (seen_at A.seen) pool.new (map view items.now) result }
+{
+    let mut list = ListReader::new(alloc);
+    for item in items {
+        list.read_node(alloc, pool, item);
+    }
+    list
 }
 
 #[tactic(auto, unfolding(crate::specs::Nodes::root_of))]
@@ -58,8 +153,8 @@ pub(crate) fn list_from<A: WireLeaf>(
         (root_of A.kind (view value.now)) }
 {
     let items = value.as_array().ok_or(FlatError::Shape { at: 0 })?;
-    let ids = ids_from(alloc, pool, items)?;
-    root_from(pool, &ids)
+    let list = items_from(alloc, pool, items);
+    list.root()
 }
 
 /// Reads a list of nodes, which are inserted unfolded, and answers the expression of its root, the last node. Any

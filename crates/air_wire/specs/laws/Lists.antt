@@ -4,7 +4,7 @@ use Rattle.std.specs.Option.{ok_or}
 use Rattle.std.specs.Result.{IfOk, IfErr}
 use Rattle.std.specs.List.{slice_get}
 use Rattle.std.proofs.lemmas.List.{append-nil, length_push}
-use Rattle.serde_json.specs.Data.{Data, Items, no_items, item}
+use Rattle.serde_json.specs.Data.{Data, array, Items, no_items, item}
 use Rattle.serde_json.specs.Find.{as_array}
 use Rattle.air_symbolic.specs.Trees.{Tree}
 use Rattle.air_wire.specs.declared.errors.FlatError.{FlatError}
@@ -56,7 +56,7 @@ last_there x us f e =
     not_done (λ _. ⊥) f t.0 (sym e ∙ ap (λ o. ok_or o faults.EmptyList) t.1)
 
 module _ {S F : Type 0} (kind : Kind S F) (laws : KindLaws kind) where
-  nodes_found : (before : List (Tree S)) (ds : Items) (ts : List (Tree S)) → nodes_from kind before ds ≡ Ok ts → (us : List (Tree S)) × (ts ≡ before ++ us) × AreNodes kind before ds us
+  pub nodes_found : (before : List (Tree S)) (ds : Items) (ts : List (Tree S)) → nodes_from kind before ds ≡ Ok ts → (us : List (Tree S)) × (ts ≡ before ++ us) × AreNodes kind before ds us
   unfolding nodes_from
   nodes_found before no_items ts e = ([], done_is (λ v. v ≡ before ++ []) before ts e (sym (append-nil before)), tt)
   nodes_found before (item d ds) ts e =
@@ -73,7 +73,7 @@ module _ {S F : Type 0} (kind : Kind S F) (laws : KindLaws kind) where
       ap (λ r. r >>= λ t. nodes_from kind (before ++ t ∷ []) ds) (node_again kind laws before d t h.0)
       ∙ nodes_again (before ++ t ∷ []) ds us h.1 ∙ ap (λ v. done v) (append_assoc before (t ∷ []) us)
 
-  fault_found : (before : List (Tree S)) (ds : Items) (f : FlatError) → nodes_from kind before ds ≡ Err f → FirstFault kind before ds f
+  pub fault_found : (before : List (Tree S)) (ds : Items) (f : FlatError) → nodes_from kind before ds ≡ Err f → FirstFault kind before ds f
   unfolding nodes_from
   fault_found before no_items f e = absurd cc
   fault_found before (item d ds) f e = at_node (λ t. fault_found (before ++ t ∷ []) ds f) (node_at kind before d) refl e
@@ -85,7 +85,7 @@ module _ {S F : Type 0} (kind : Kind S F) (laws : KindLaws kind) where
       at_node later (Ok t) is e = inr (t, node_found kind laws before d t is, later t e)
       at_node later (Err g) is e = inl (node_fault kind laws before d f (is ∙ ap (λ h. failed h) (err_is {A = List (Tree S)} g f e)))
 
-  fault_read : (before : List (Tree S)) (ds : Items) (f : FlatError) → FirstFault kind before ds f → nodes_from kind before ds ≡ Err f
+  pub fault_read : (before : List (Tree S)) (ds : Items) (f : FlatError) → FirstFault kind before ds f → nodes_from kind before ds ≡ Err f
   unfolding nodes_from
   fault_read before no_items f h = absurd h
   fault_read before (item d ds) f (inl h) = ap (λ r. r >>= λ t. nodes_from kind (before ++ t ∷ []) ds) (node_fails kind laws before d f h)
@@ -175,3 +175,23 @@ pub gives_err : {X Y : Type 0} (P : FlatError → Type 0) (view : X → Y) (r : 
     → Gives view r read → ((f : FlatError) → read ≡ Err f → P f) → IfErr r (λ f. f ≢ faults.Memory → P f)
 gives_err P view (Ok x) read g h = tt
 gives_err P view (Err f) read g h = λ n. h f (fails_is f read g n)
+
+pub fails_if : {Y : Type 0} (f : FlatError) (read : Result Y FlatError) → (f ≢ faults.Memory → read ≡ Err f) → Fails f read
+fails_if faults.Memory read h = tt
+fails_if faults.DegreeOverflow read h = h (λ e. absurd cc)
+fails_if (faults.Shape at) read h = h (λ e. absurd cc)
+fails_if faults.EmptyList read h = h (λ e. absurd cc)
+fails_if (faults.Operand at operand) read h = h (λ e. absurd cc)
+fails_if (faults.WrongDegree at stated found) read h = h (λ e. absurd cc)
+fails_if (faults.NotCanonical at) read h = h (λ e. absurd cc)
+
+-- a call that answers a list's root or its first fault gives what reading gives
+pub root_given : {X S F : Type 0} (kind : Kind S F) (laws : KindLaws kind) (tree : X → Tree S) (d : Data) (r : Result X FlatError)
+    → IfOk r (λ i. IsList kind d (tree i)) → IfErr r (λ f. f ≢ faults.Memory → HasFault kind d f) → Gives tree r (root_of kind d)
+root_given kind laws tree d (Ok i) h n = root_again kind laws d (tree i) h
+root_given kind laws tree d (Err f) h n = fails_if f (root_of kind d) (λ m. root_fault_read kind laws d f (n m))
+
+-- a value is read by its items
+pub same_root : {S F : Type 0} (kind : Kind S F) (d : Data) (ds : Items) → as_array d ≡ Some ds → root_of kind (array ds) ≡ root_of kind d
+unfolding root_of
+same_root kind d ds e = ap (λ o. ok_or o (faults.Shape 0) >>= λ es. nodes_from kind [] es >>= λ ts. last_tree ts) (sym e)

@@ -1,0 +1,22 @@
+use Rattle.std.proofs.Common.{◌≡◌, ℕ, ◌≤◌, List, length}
+use Rattle.json.specs.Json.{items, value, parse_map}
+use Rattle.serde_json.specs.Data.{Data}
+use Rattle.serde_json.specs.Read.{of_items, converted}
+use Rattle.air_wire.specs.BaseLeaves.{base_kind, base_seen}
+use Rattle.air_wire.specs.ListReaders.{HasRead}
+use Rattle.air_wire.specs.Seen.{seen_at}
+use Rattle.air_object.proofs.TokenLemmas.{data_before}
+use Rattle.air_object.proofs.Trees.{GrownTo}
+use Rattle.air_object.proofs.parts.read_nodes.Given as goal
+
+abbrev pub decreases-items : goal.decreases-items
+decreases-items g l = length l.reader
+
+-- the nodes that are read, and those that are left, are all
+abbrev pub invariant-items : goal.invariant-items
+invariant-items g l =
+    (n : ℕ) × (length l.reader ≤ n) × (ds : List Data)
+    × (converted of_items (items (value l.depth) (length l.initial.reader) l.initial.reader) ≡ parse_map (data_before ds) (converted of_items (items (value l.depth) n l.reader)))
+    × (length l.reader ≤ length l.initial.reader)
+    × GrownTo l.initial.pool l.pool
+    × HasRead (base_kind g.F.PrimeField64.residues) (seen_at base_seen) l.pool ds l.list

@@ -1,0 +1,100 @@
+-- What a reader of a list has read, beside what reading the list gives.
+use Rattle.std.proofs.Common.{◌≡◌, ℕ, zero, suc, ◌<◌, ◌-◌, List, [], ◌∷◌, ◌++◌, length, map, Option, Some, None, option_map, Result, Ok, Err, IfOk, IfErr, refl, sym, ap, subst, ◌∙◌, arith}
+use Rattle.std.proofs.lemmas.List.{length-map}
+use Rattle.std.proofs.lemmas.Option.{slice_get-map}
+use Rattle.std.specs.Option.{ok_or}
+use Rattle.std.specs.List.{slice_get}
+use Rattle.serde_json.specs.Data.{Data, array}
+use Rattle.serde_json.specs.View.{items_of}
+use Rattle.air_symbolic.specs.Trees.{Tree}
+use Rattle.air_symbolic.specs.declared.pools.expr.SymbolicExpr.{SymbolicExpr}
+use Rattle.air_wire.specs.declared.errors.FlatError.{FlatError}
+use Rattle.air_wire.specs.declared.errors.FlatError.TheVariants as faults
+use Rattle.air_wire.specs.Results.{◌>>=◌, Gives}
+use Rattle.air_wire.specs.Nodes.{Kind, KindLaws, node_at, node_more, nodes_from, last_tree, root_of}
+use Rattle.air_wire.specs.Good.{AreNodes, IsList, HasFault}
+use Rattle.air_wire.specs.ListReaders.{last_number, HasRead}
+use Rattle.air_wire.specs.laws.Lists.{nodes_found, nodes_again, fault_found, fault_read, root_found, root_fault, fails_is, fails_if, gives_ok, gives_err}
+use Rattle.air_wire.proofs.Growing.{AllBelow}
+use Rattle.air_wire.proofs.Loop.{carry}
+
+nodes_push : {S F : Type 0} (kind : Kind S F) (done : List (Tree S)) (ds : List Data) (d : Data) → nodes_from kind done (items_of (ds ++ d ∷ [])) ≡ node_more kind (nodes_from kind done (items_of ds)) d
+unfolding nodes_from
+nodes_push kind done [] d = refl
+nodes_push {S} kind done (e ∷ ds) d = later (node_at kind done e) (λ t. nodes_push kind (done ++ t ∷ []) ds d)
+  where
+    later : (r : Result (Tree S) FlatError) → ((t : Tree S) → nodes_from kind (done ++ t ∷ []) (items_of (ds ++ d ∷ [])) ≡ node_more kind (nodes_from kind (done ++ t ∷ []) (items_of ds)) d)
+        → (r >>= λ t. nodes_from kind (done ++ t ∷ []) (items_of (ds ++ d ∷ []))) ≡ node_more kind (r >>= λ t. nodes_from kind (done ++ t ∷ []) (items_of ds)) d
+    later (Ok t) h = h t
+    later (Err f) h = refl
+
+-- ---- the last number
+
+at_below : (n : ℕ) (ids : List ℕ) (k : ℕ) → AllBelow n ids → IfOk (ok_or (slice_get ids k) faults.EmptyList) (λ i. i < n)
+at_below n [] k h = tt
+at_below n (i ∷ ids) zero h = h zero zero (omega arith)
+at_below n (i ∷ ids) (suc k) h = at_below n ids k (λ l e c. h (suc l) e (omega (arith, c)))
+
+found_there : {X : Type 0} (g : ℕ → X) (o : Option ℕ) → Gives g (ok_or o faults.EmptyList) (ok_or (option_map g o) faults.EmptyList)
+found_there g None = refl
+found_there g (Some i) = refl
+
+last_seen : {S : Type 0} (g : ℕ → Tree S) (ids : List ℕ) → Gives g (last_number (Ok ids)) (last_tree (map g ids))
+unfolding last_tree
+last_seen g ids =
+    let same : length (map g ids) - 1 ≡ length ids - 1 = ap (λ n. n - 1) (length-map ids g) in
+    subst (λ o. Gives g (last_number (Ok ids)) (ok_or o faults.EmptyList)) (sym (ap (slice_get (map g ids)) same ∙ slice_get-map g ids (length ids - 1))) (found_there g (slice_get ids (length ids - 1)))
+
+-- ---- a reader
+
+module _ {U A S F : Type 0} (kind : Kind S F) (laws : KindLaws kind) (tree : U × List (SymbolicExpr A) → ℕ → Tree S) where
+  module _ (p : U × List (SymbolicExpr A)) (ds : List Data) where
+    abbrev given : Result (List (Tree S)) FlatError
+    given = nodes_from kind [] (items_of ds)
+
+    abbrev whole : Data
+    whole = array (items_of ds)
+
+    read_gives : (r : Result (List ℕ) FlatError) → HasRead kind tree p ds r → Gives (map (tree p)) r given
+    read_gives (Ok ids) h = nodes_again kind laws [] (items_of ds) (map (tree p) ids) h.nodes
+    read_gives (Err f) h = fails_if f given (λ n. fault_read kind laws [] (items_of ds) f (h.fault n))
+
+    gives_read : (r : Result (List ℕ) FlatError) → IfOk r (AllBelow (length p.1)) → Gives (map (tree p)) r given → HasRead kind tree p ds r
+    gives_read (Ok ids) here g =
+        let us = nodes_found kind laws [] (items_of ds) (map (tree p) ids) g in
+        record { here = here; nodes = subst (AreNodes kind [] (items_of ds)) (sym us.1) us.2; fault = tt }
+    gives_read (Err f) here g = record { here = tt; nodes = tt; fault = λ n. fault_found kind laws [] (items_of ds) f (fails_is f given g n) }
+
+    -- ---- the root
+
+    root_gives : (r : Result (List ℕ) FlatError) → HasRead kind tree p ds r → Gives (tree p) (last_number r) (root_of kind whole)
+    unfolding root_of
+    root_gives (Ok ids) h = subst (Gives (tree p) (last_number (Ok ids))) (sym (ap (λ (g : Result (List (Tree S)) FlatError). g >>= λ ts. last_tree ts) (read_gives (Ok ids) h))) (last_seen (tree p) ids)
+    root_gives (Err f) h = carry f given (λ ts. last_tree ts) _ refl (read_gives (Err f) h)
+
+    pub root_here : (r : Result (List ℕ) FlatError) → HasRead kind tree p ds r → IfOk (last_number r) (λ i. i < length p.1)
+    root_here (Ok ids) h = at_below (length p.1) ids (length ids - 1) h.here
+    root_here (Err f) h = tt
+
+    pub root_is : (r : Result (List ℕ) FlatError) → HasRead kind tree p ds r → IfOk (last_number r) (λ i. IsList kind whole (tree p i))
+    root_is r h = gives_ok (IsList kind whole) (tree p) (last_number r) (root_of kind whole) (root_gives r h) (root_found kind laws whole)
+
+    pub root_fails : (r : Result (List ℕ) FlatError) → HasRead kind tree p ds r → IfErr (last_number r) (λ f. (f ≡ faults.Memory → ⊥) → HasFault kind whole f)
+    root_fails r h = gives_err (HasFault kind whole) (tree p) (last_number r) (root_of kind whole) (root_gives r h) (root_fault kind laws whole)
+
+  -- ---- one node more
+
+  pub none_read : (p : U × List (SymbolicExpr A)) → HasRead kind tree p [] (Ok [])
+  none_read p = record { here = λ k d lt. absurd (omega (arith, lt)); nodes = tt; fault = tt }
+
+  module _ (p q : U × List (SymbolicExpr A)) (ds : List Data) (d : Data) where
+    pub still_read : (f : FlatError) → HasRead kind tree p ds (Err f) → HasRead kind tree q (ds ++ d ∷ []) (Err f)
+    still_read f h =
+        gives_read q (ds ++ d ∷ []) (Err f) tt
+        (carry f (nodes_from kind [] (items_of ds)) (λ done. node_at kind done d >>= λ t. Ok (done ++ t ∷ [])) _ (sym (nodes_push kind [] ds d)) (read_gives p ds (Err f) h))
+
+    pub read_on : (ids : List ℕ) (r : Result (List ℕ) FlatError) → IfOk r (AllBelow (length q.1)) → Gives (map (tree q)) r (node_more kind (Ok (map (tree p) ids)) d)
+        → HasRead kind tree p ds (Ok ids) → HasRead kind tree q (ds ++ d ∷ []) r
+    read_on ids r here g h =
+        let same = nodes_push kind [] ds d ∙ ap (λ so_far. node_more kind so_far d) (read_gives p ds (Ok ids) h) in
+        gives_read q (ds ++ d ∷ []) r here (subst (Gives (map (tree q)) r) (sym same) g)

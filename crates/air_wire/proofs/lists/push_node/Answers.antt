@@ -1,0 +1,41 @@
+use Rattle.std.proofs.Common.{[], ◌∷◌, ◌++◌, map, Result, Ok, refl, ap}
+use Rattle.std.proofs.lemmas.List.{map_push}
+use Rattle.serde_json.specs.View.{view}
+use Rattle.air_symbolic.specs.Trees.{Tree}
+use Rattle.air_wire.specs.Nodes.{node_at}
+use Rattle.air_wire.specs.Results.{◌>>=◌}
+use Rattle.air_wire.specs.Seen.{seen_at}
+use Rattle.air_wire.specs.declared.errors.FlatError.{FlatError}
+use Rattle.air_wire.specs.declared.errors.FlatError.TheVariants.{Memory}
+use Rattle.air_wire.specs.laws.Reads.{gives_up_all}
+use Rattle.air_wire.proofs.Growing.{longer, below_push, map_kept}
+use Rattle.air_wire.proofs.Loop.{carry}
+use Rattle.air_wire.proofs.SeenTrees.{seen_kept}
+use Rattle.air_wire.proofs.lists.push_node.Goals as goal
+
+pub returns-in_err-id : goal.returns-in_err-id
+returns-in_err-id g c =
+    let A = g.A.WireLeaf in
+    let before = map (seen_at A.seen c.args.pool.now) c.args.ids.now.items in
+    let bad = rw c.deref.ensures.value at c.in_err-id.ensures.read in
+    gives_up_all c.in_err-id.field-0.0 c.node_from.ensures.grown c.from_residual.ensures.1
+    (carry c.in_err-id.field-0.0 (node_at A.kind before (view c.args.value.now)) (λ t. Ok (before ++ t ∷ [])) _ refl bad)
+
+pub returns-in_err-push : goal.returns-in_err-push
+returns-in_err-push g c = gives_up_all Memory c.node_from.ensures.grown c.from_residual-in_err-push.ensures.1 tt
+
+pub returns : goal.returns
+returns g c =
+    let A = g.A.WireLeaf in
+    let old = c.args.pool.now in
+    let new = c.node_from.new.pool in
+    let ids = c.args.ids.now.items in
+    let id = c.in_ok-id.id in
+    let before = map (seen_at A.seen old) ids in
+    let good = rw c.deref.ensures.value at c.in_ok-id.ensures.read in
+    let kept = map_kept (seen_at A.seen old) (seen_at A.seen new) _ ids c.requires.ids_in (seen_kept g.A.SymLeaf.reads g.A.SymLeaf.grows A.seen A.kind.term g.met.A.WireLeaf.wire_laws old new c.requires.pool c.node_from.ensures.grown) in
+    record {
+      grown = c.node_from.ensures.grown;
+      here = rw c.in_ok-push.ensures.items (below_push _ _ ids id c.requires.ids_in (longer g.A.SymLeaf.reads g.A.SymLeaf.grows old new c.node_from.ensures.grown) c.in_ok-id.ensures.here);
+      read = rw (c.in_ok-push.ensures.items, map_push, kept) (ap (λ (r : Result (Tree _) FlatError). r >>= λ t. Ok (before ++ t ∷ [])) {x = node_at A.kind before (view c.args.value.now)} good);
+    }
