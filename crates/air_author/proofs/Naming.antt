@@ -7,14 +7,14 @@ use Rattle.air_builder.specs.Batches.{AssertsOf}
 use Rattle.air_builder.specs.Labels.{Labelled, LabelledEach, NamedLaws}
 use Rattle.air_builder.specs.laws.Labels.{one_label, no_label}
 use Rattle.air_author.specs.Constraints.{IsLabelled}
-use Rattle.air_author.specs.Expressions.{Made}
+use Rattle.air_author.specs.Expressions.{MakesTerm}
 
 module _ {S E F : Type 0} {grew : S → S → List (Assertion F) → Type 0} {labelled : S → S → List (Labelled F) → Type 0}
     (named : NamedLaws grew labelled) {means : S → E → Term F → Type 0} {missing : S → Leaf → Type 0}
     {refuses : S → AirError → List (Assertion F) → Type 0} {says : Option (List ℕ) → Type 0} where
   -- it has the label of its name
   pub made_then_labelled : (one : Term F → Assertion F) (a b d : S) (x : E) (r : Result (Unit {0}) AirError) (t : Term F)
-      → Made means grew missing refuses a b (Ok x) t
+      → MakesTerm means grew missing refuses a b (Ok x) t
       → LabelledEach (AssertsOf one means (λ t. t)) labelled (λ i. says) b d (x ∷ []) r
       → OnOk r (IsLabelled labelled says a d (one t))
   made_then_labelled one a b d x (Ok u) t h k =
@@ -28,7 +28,7 @@ module _ {S E F : Type 0} {grew : S → S → List (Assertion F) → Type 0} {la
 
   -- where it was refused, nothing has
   pub made_then_refused : (one : Term F → Assertion F) (a b d : S) (x : E) (r : Result (Unit {0}) AirError) (t : Term F)
-      → Made means grew missing refuses a b (Ok x) t
+      → MakesTerm means grew missing refuses a b (Ok x) t
       → LabelledEach (AssertsOf one means (λ t. t)) labelled (λ i. says) b d (x ∷ []) r
       → OnErr r (labelled a d [])
   made_then_refused one a b d x (Ok u) t h k = tt

@@ -14,7 +14,7 @@ Lasts {S} kept fact a = (b : S) → kept a b → fact b
 
 -- An element of the term was made: nothing was asserted, and each leaf of the term is there. A refusal may be one of any
 -- list that has the term as a part.
-pub record Made {S E F X : Type 0} (means : S → E → Term F → Type 0) (grew : S → S → List (Assertion F) → Type 0)
+pub record MakesTerm {S E F X : Type 0} (means : S → E → Term F → Type 0) (grew : S → S → List (Assertion F) → Type 0)
     (missing : S → Leaf → Type 0) (refuses : S → X → List (Assertion F) → Type 0) (a b : S) (r : Result E X)
     (t : Term F) : Type 0 where
   pub keeps : grew a b []
@@ -33,7 +33,7 @@ pub record MadeBoth {S E F X : Type 0} (means : S → E → Term F → Type 0) (
 
 -- the same of a builder as its laws see it
 abbrev pub MadeIn : {S R E F : Type 0} → BuilderView S R E F → S → S → Result E AirError → Term F → Type 0
-MadeIn view a b r t = Made (MeansIn view) view.grew view.missing view.refuses a b r t
+MadeIn view a b r t = MakesTerm (MeansIn view) view.grew view.missing view.refuses a b r t
 
 abbrev pub MadeBothIn : {S R E F : Type 0} → BuilderView S R E F → S → S → Result (E × E) AirError → Term F → Term F → Type 0
 MadeBothIn view a b r t u = MadeBoth (MeansIn view) view.grew view.missing view.refuses a b r t u

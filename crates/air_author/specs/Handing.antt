@@ -7,7 +7,7 @@ use Rattle.air_builder.specs.Builders.{MeansIn, BuilderView, RingLaws, BuilderLa
 use Rattle.air_builder.specs.laws.Filters.{means_kept}
 use Rattle.air_builder.specs.Refusals.{EachLeaf, PartOf}
 use Rattle.air_author.specs.Constraints.{Asserted}
-use Rattle.air_author.specs.Expressions.{Made, Lasts, Holds}
+use Rattle.air_author.specs.Expressions.{MakesTerm, Lasts, Holds}
 
 pub each_weaker : {F : Type 0} {P Q : Leaf → Type 0} (t : Term F) → ((l : Leaf) → P l → Q l) → EachLeaf P t → EachLeaf Q t
 each_weaker (leaf_term l) f h = f l h
@@ -22,7 +22,7 @@ module _ {S R E F : Type 0} {view : BuilderView S R E F} (ring : RingLaws view) 
   open view use {kept, grew, missing, refuses}
 
   -- what was made means its term, and will
-  pub made_lasts : (a b : S) (x : E) (t : Term F) → Made (MeansIn view) grew missing refuses a b (Ok x) t
+  pub made_lasts : (a b : S) (x : E) (t : Term F) → MakesTerm (MeansIn view) grew missing refuses a b (Ok x) t
       → Lasts kept (Holds (MeansIn view) missing x t) b
   made_lasts a b x t h d k =
       let before = laws.kept_joined a b d (laws.by_growth a b [] h.keeps) k in
@@ -37,7 +37,7 @@ module _ {S R B E F : Type 0} {view : BuilderView S R B F} {means : S → E → 
 
   -- it wasn't made, so that nothing was asserted of what it is a part of
   pub making_refused : (a b : S) (e : AirError) (t : Term F) (ts : List (Assertion F)) → 0 < length ts → PartOf t ts
-      → Made means grew missing refuses a b (Err e) t → Asserted kept grew missing refuses a b (Err e) ts
+      → MakesTerm means grew missing refuses a b (Err e) t → Asserted kept grew missing refuses a b (Err e) ts
   making_refused a b e t ts some part h = record {
     keeps = laws.by_growth a b [] h.keeps;
     ok = tt;
@@ -48,7 +48,7 @@ module _ {S R B E F : Type 0} {view : BuilderView S R B F} {means : S → E → 
 
   -- it was made, and then the list was asserted
   pub made_then : (a b d : S) (x : E) (r : Result (Unit {0}) AirError) (t : Term F) (ts : List (Assertion F))
-      → Made means grew missing refuses a b (Ok x) t → Asserted kept grew missing refuses b d r ts
+      → MakesTerm means grew missing refuses a b (Ok x) t → Asserted kept grew missing refuses b d r ts
       → Asserted kept grew missing refuses a d r ts
   made_then a b d x (Ok u) t ts h k = record {
     keeps = laws.kept_joined a b d (laws.by_growth a b [] h.keeps) k.keeps;

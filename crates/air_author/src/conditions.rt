@@ -7,7 +7,7 @@ use crate::AirResult;
 use crate::expressions::arithmetic::Product;
 use crate::expressions::extension::Lifted;
 use crate::expressions::{Expression, ExtExpression};
-use air_builder::{AirBuilder, ExtensionBuilder, Seen, SeenOver};
+use air_builder::{AirBuilder, ExtensionBuilder, View, ViewOver};
 use air_field::Algebra;
 
 /// Where an expression is to be zero.
@@ -26,7 +26,7 @@ pub trait Condition<AB: AirBuilder> {
     fn make_under<X: Expression<AB>>(&self, builder: &mut AB, x: &X) -> AirResult<AB::Expr>
         requires ready { AB.ready builder.old }
         requires held { Lasts AB.kept (λ b. where_holds self.now b × X.holds x.now b) builder.old }
-        ensures { MadeIn ⟦<AB as Seen>⟧.view builder.old builder.new result
+        ensures { MadeIn ⟦<AB as View>⟧.view builder.old builder.new result
             (under self.now (X.term x.now)) };
 
     /// The same over the extension.
@@ -36,7 +36,7 @@ pub trait Condition<AB: AirBuilder> {
         requires ready { AB.ready builder.old }
         requires held { Lasts AB.kept (λ b. where_holds self.now b × X.ext_holds x.now b)
             builder.old }
-        ensures { MadeIn ⟦<AB as SeenOver>⟧.view builder.old builder.new result
+        ensures { MadeIn ⟦<AB as ViewOver>⟧.view builder.old builder.new result
             (ext_under self.now (X.ext_term x.now)) };
 }
 

@@ -10,7 +10,7 @@ ghost use Rattle.air_author.specs.Expressions.{Lasts};
 
 use crate::AirResult;
 use crate::conditions::{Condition, Everywhere};
-use air_builder::{AirBuilder, AirError, Seen};
+use air_builder::{AirBuilder, AirError, View};
 
 pub mod claims;
 pub mod extension;
@@ -35,7 +35,7 @@ pub trait Constraint<AB: AirBuilder> {
         requires ready { AB.ready builder.old }
         requires held { Lasts AB.kept (λ b. all_hold self.now b × K.where_holds condition.now b)
             builder.old }
-        ensures { AssertedIn ⟦<AB as Seen>⟧.view builder.old builder.new result
+        ensures { AssertedIn ⟦<AB as View>⟧.view builder.old builder.new result
             (asserts self.now (K.under condition.now) (K.ext_under condition.now)) };
 }
 
@@ -58,7 +58,7 @@ pub fn assert_these<AB: AirBuilder, C: Constraint<AB>>(
 ) -> AirResult
     requires ready { AB.ready builder.old }
     requires held { Lasts AB.kept (C.all_hold constraints.now) builder.old }
-    ensures { AssertedIn ⟦<AB as Seen>⟧.view builder.old builder.new result
+    ensures { AssertedIn ⟦<AB as View>⟧.view builder.old builder.new result
         (C.asserts constraints.now (λ t. t) (λ t. t)) }
 {
     constraints.assert_under(builder, &Everywhere)

@@ -8,7 +8,7 @@ use crate::AirResult;
 use crate::conditions::Condition;
 use crate::constraints::Constraint;
 use crate::plain::PlainAir;
-use air_builder::{AirBuilder, Seen};
+use air_builder::{AirBuilder, View};
 
 /// A plain AIR whose constraints may stand among another's.
 ///
@@ -26,7 +26,7 @@ pub trait MovableConstraints<AB: AirBuilder>: PlainAir<AB::F> {
         requires ready { AB.ready builder.old }
         requires within { columns < 2 ^ 63 }
         requires held { Lasts AB.kept (λ b. ⊤ × K.where_holds condition.now b) builder.old }
-        ensures { AssertedIn ⟦<AB as Seen>⟧.view builder.old builder.new result
+        ensures { AssertedIn ⟦<AB as View>⟧.view builder.old builder.new result
             (moved_under (K.under condition.now) (K.ext_under condition.now) columns
             (Self.plain self.now).0) };
 }

@@ -16,7 +16,7 @@ type Folder<'a> = ConstraintFolder<'a, BabyBear, Element>;
 // A folder at the first of these rows, whose next row it is too.
 fn folder_at<'a>(row: &'a [Element], alpha: Element) -> Folder<'a>
     ensures { result.accumulator
-        ≡ ⟦<BinomialExtensionField as ExtensionField<BabyBear>>⟧.over.ring.nil }
+        ≡ ⟦<BinomialExtensionField as ExtensionField<BabyBear>>⟧.over.ring.zero }
 {
     let one = Element::from_base(BabyBear::ONE);
     let zero = Element::from_base(BabyBear::ZERO);

@@ -9,7 +9,8 @@ use Rattle.air_gadgets.specs.Bits.{AreBits}
 use Rattle.air_builder.specs.Assertion.{Assertion}
 use Rattle.air_author.specs.Constraints.{asserts_of_first}
 use Rattle.air_gadgets.specs.Words.{Limbs, number_of, xor_bits, rotated_left}
-use Rattle.air_gadgets.specs.Exact.{IsDomain, AllVanish}
+use Rattle.air_gadgets.specs.Exact.{AllVanish}
+use Rattle.air_field.specs.Domain.{IsDomain}
 use Rattle.air_gadgets.specs.Gadgets.{test_asserts, xor_asserts}
 use Rattle.air_gadgets.specs.laws.ExactXors.{xor_is_exact}
 use Rattle.air_gadgets.specs.laws.Xors.{AllChecked, checks_of_bits, ring_xors, xors-images}
@@ -42,7 +43,7 @@ module _ {F : Type 0} (R : CommRing F) (s : Leaf → F) where
   pub bits_vanish : (ts : List (Term F)) (n : ℕ) → IsBitsOf R s ts n → AllVanish R s (test_asserts R ts)
   bits_vanish ts n h = checks_vanish ts (subst (AllChecked R) (sym h.values) (checks_of_bits R h.bits h.are))
 
-  equal_vanish : (x y z : F) → x ≡ z → y ≡ z → minus R x y ≡ R.nil
+  equal_vanish : (x y z : F) → x ≡ z → y ≡ z → minus R x y ≡ R.zero
   equal_vanish x y z e k = ap (λ w. minus R w y) (e ∙ sym k) ∙ R.add_neg y
 
   limbs_vanish : (t u : Limbs (Term F)) (n : ℕ) → IsLimbsOf R s t n → IsLimbsOf R s u n → AllVanish R s (limbs_are t u)

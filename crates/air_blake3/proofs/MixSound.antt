@@ -12,7 +12,8 @@ use Rattle.air_gadgets.specs.Packing.{packed_term}
 use Rattle.air_builder.specs.Assertion.{Assertion, Base, Extension}
 use Rattle.air_gadgets.specs.Words.{Limbs, word_sum, word_sum_3, number_of, xor_bits, rotated_left}
 use Rattle.air_gadgets.specs.Gadgets.{add2_asserts, add3_asserts, xor_asserts}
-use Rattle.air_gadgets.specs.Exact.{IsDomain, AllVanish, IsXorOf}
+use Rattle.air_gadgets.specs.Exact.{AllVanish, IsXorOf}
+use Rattle.air_field.specs.Domain.{IsDomain}
 use Rattle.air_gadgets.specs.laws.ExactSums.{add2_is_exact, add3_is_exact}
 use Rattle.air_gadgets.specs.laws.ExactXors.{xor_is_exact}
 use Rattle.air_gadgets.specs.laws.PackedBits.{value-packed_term}
@@ -21,7 +22,7 @@ use Rattle.blake3.specs.Compression.{half_mix, mix}
 use Rattle.blake3.specs.declared.words.Quarter.{Quarter}
 use Rattle.air_blake3.specs.Words.{QuarterTerms, packed_limbs, under}
 use Rattle.air_blake3.specs.Mixing.{half_mix_asserts, mix_asserts}
-use Rattle.air_blake3.specs.Holding.{IsLimbsOf, IsBitsOf, IsQuarterOf, IsWhole, MixIsSound}
+use Rattle.air_blake3.specs.Holding.{IsLimbsOf, IsBitsOf, IsQuarterOf, HasAllBits, MixIsSound}
 use Rattle.air_blake3.proofs.WordNumbers.{bits-xor, length-xor, length-rotated, number_of-halves, low_half-lt, high_half-lt, rotated_xor}
 
 module _ {F : Type 0} (R : CommRing F) (s : Leaf → F) where
@@ -36,9 +37,9 @@ module _ {F : Type 0} (R : CommRing F) (s : Leaf → F) where
       → ((ts : List (Term F)) → g (map (value (itself R) s) ts) ≡ map (value (itself R) s) (f ts))
       → ((ns : List ℕ) → g (map (image R) ns) ≡ map (image R) (h ns))
       → (ts : List (Term F)) (bs : List ℕ) → map (value (itself R) s) ts ≡ map (image R) bs
-      → value (itself R) s (packed_term R.nil (f ts)) ≡ image R (number_of (h bs))
+      → value (itself R) s (packed_term R.zero (f ts)) ≡ image R (number_of (h bs))
   packed_value f g h alike alike_too ts bs e =
-      value-packed_term (itself R) R.nil refl s (f ts)
+      value-packed_term (itself R) R.zero refl s (f ts)
       ∙ ap (packed R) (sym (alike ts) ∙ ap g e ∙ alike_too bs)
       ∙ packed-images R (h bs)
 
@@ -96,7 +97,7 @@ module _ {F : Type 0} (R : CommRing F) (s : Leaf → F) where
         ∙ (λ i. word_sum_3 (b.number i) (c.number i) (d.number i))
 
     half_mixed : (j k : ℕ) (t : QuarterTerms F) (m : List (Term F)) (u : QuarterTerms F) (q : Quarter) (x : ℕ)
-        → 0 < j → j < 32 → 0 < k → k < 32 → IsWhole u
+        → 0 < j → j < 32 → 0 < k → k < 32 → HasAllBits u
         → IsQuarterOf R s t q → IsBitsOf R s m x → AllVanish R s (half_mix_asserts R j k t m u)
         → IsQuarterOf R s u (half_mix j k q x)
     half_mixed j k t m u q x j_some j_within k_some k_within whole h message vanish =

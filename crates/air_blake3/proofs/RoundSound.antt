@@ -7,21 +7,22 @@ use Rattle.air_field.specs.laws.Images.{HasCharacteristic}
 use Rattle.air_field.specs.Term.{Leaf}
 use Rattle.air_builder.specs.Assertion.{Assertion}
 use Rattle.air_author.specs.Constraints.{asserts_of_first}
-use Rattle.air_gadgets.specs.Exact.{IsDomain, AllVanish}
+use Rattle.air_gadgets.specs.Exact.{AllVanish}
+use Rattle.air_field.specs.Domain.{IsDomain}
 use Rattle.blake3.specs.Compression.{columns_mixed, diagonals, from_diagonals, round, place_in, after_rounds}
 use Rattle.blake3.specs.laws.Places.{place_in-below}
 use Rattle.blake3.specs.declared.words.State.{State}
 use Rattle.air_blake3.specs.Words.{StateTerms, bits_at, state_of}
 use Rattle.air_blake3.specs.Mixing.{mix_asserts}
 use Rattle.air_blake3.specs.Row.{columns_asserts, eight_columns, message_column, state_from, round_column, before_round, round_at}
-use Rattle.air_blake3.specs.Holding.{IsBitsOf, IsStateOf, IsWhole}
+use Rattle.air_blake3.specs.Holding.{IsBitsOf, IsStateOf, HasAllBits}
 use Rattle.air_blake3.proofs.MixSound.{vanish-append, mix_is_sound}
 
 pub record IsWholeState {F : Type 0} (t : StateTerms F) : Type 0 where
-  pub q0 : IsWhole t.q0
-  pub q1 : IsWhole t.q1
-  pub q2 : IsWhole t.q2
-  pub q3 : IsWhole t.q3
+  pub q0 : HasAllBits t.q0
+  pub q1 : HasAllBits t.q1
+  pub q2 : HasAllBits t.q2
+  pub q3 : HasAllBits t.q3
 
 whole_of : {F : Type 0} (v : State) → IsWholeState (state_of {F = F} v)
 unfolding bits_at

@@ -5,7 +5,8 @@ use Rattle.air_field.specs.Term.{Leaf, Term}
 use Rattle.air_field.specs.Value.{value}
 use Rattle.air_gadgets.specs.Bits.{AreBits}
 use Rattle.air_gadgets.specs.Words.{Limbs, AreLimbs, word, number_of}
-use Rattle.air_gadgets.specs.Exact.{IsDomain, AllVanish, LimbsAre}
+use Rattle.air_gadgets.specs.Exact.{AllVanish, LimbsAre}
+use Rattle.air_field.specs.Domain.{IsDomain}
 use Rattle.blake3.specs.Compression.{Block, half_mix, mix, columns_mixed, diagonals, place_in, first_state, after_rounds, compress}
 use Rattle.blake3.specs.Blocks.{columns_half}
 use Rattle.blake3.specs.declared.words.Quarter.{Quarter}
@@ -92,7 +93,7 @@ pub record HoldsRow {F : Type 0} (R : CommRing F) (s : Leaf → F) (b : Block) :
   pub output : IsOutput R s (compress b)
 
 -- there are 32 terms for the bits of each
-pub record IsWhole {F : Type 0} (t : QuarterTerms F) : Type 0 where
+pub record HasAllBits {F : Type 0} (t : QuarterTerms F) : Type 0 where
   pub b : length t.b ≡ 32
   pub d : length t.d ≡ 32
 
@@ -100,7 +101,7 @@ pub record IsWhole {F : Type 0} (t : QuarterTerms F) : Type 0 where
 abbrev pub MixIsSound : {F : Type 0} → CommRing F → ℕ → Type 0
 MixIsSound {F} R characteristic =
     (t : QuarterTerms F) (m n : List (Term F)) (u v : QuarterTerms F) (s : Leaf → F) (q : Quarter) (x y : ℕ)
-    → IsDomain R → 3 * 2 ^ 16 < characteristic → IsWhole u → IsWhole v
+    → IsDomain R → 3 * 2 ^ 16 < characteristic → HasAllBits u → HasAllBits v
     → IsQuarterOf R s t q → IsBitsOf R s m x → IsBitsOf R s n y → AllVanish R s (mix_asserts R (λ z. z) t m n u v)
     → IsQuarterOf R s v (mix q x y)
 

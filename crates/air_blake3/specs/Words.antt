@@ -31,7 +31,7 @@ pub record StateTerms (F : Type 0) : Type 0 where
 
 -- the limbs of a word's bits
 abbrev pub packed_limbs : {F : Type 0} → CommRing F → List (Term F) → Limbs (Term F)
-packed_limbs R ts = record { low = packed_term R.nil (take 16 ts); high = packed_term R.nil (drop 16 ts) }
+packed_limbs R ts = record { low = packed_term R.zero (take 16 ts); high = packed_term R.zero (drop 16 ts) }
 
 -- the assertions with another term in each one's place
 abbrev pub under : {F : Type 0} → (Term F → Term F) → List (Assertion F) → List (Assertion F)
@@ -46,16 +46,16 @@ abbrev pub column : {F : Type 0} → ℕ → ℕ → Term F
 column first i = leaf_term (main 0 (first + i))
 
 -- so many terms that an index numbers, from one on
-abbrev pub terms_from : {F : Type 0} → (ℕ → Term F) → ℕ → ℕ → List (Term F)
-terms_from f i zero = []
-terms_from f i (suc n) = f i ∷ terms_from f (suc i) n
+abbrev pub terms_numbered : {F : Type 0} → (ℕ → Term F) → ℕ → ℕ → List (Term F)
+terms_numbered f i zero = []
+terms_numbered f i (suc n) = f i ∷ terms_numbered f (suc i) n
 
 -- the columns of a word by its limbs, and of one by its bits
 unfoldable pub limbs_at : {F : Type 0} → ℕ → Limbs (Term F)
 limbs_at first = record { low = column first 0; high = column first 1 }
 
 unfoldable pub bits_at : {F : Type 0} → ℕ → List (Term F)
-bits_at first = terms_from (column first) 0 32
+bits_at first = terms_numbered (column first) 0 32
 
 -- the columns of four words that begin where the record says, and of the sixteen
 abbrev pub quarter_of : {F : Type 0} → Quarter → QuarterTerms F

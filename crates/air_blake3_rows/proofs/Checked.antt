@@ -4,7 +4,8 @@ use Rattle.std.specs.Bool.{Decides}
 use Rattle.air_field.specs.Ring.{CommRing}
 use Rattle.air_field.specs.Assignment.{leaf_value, row_assignment, row_at, row_or_none}
 use Rattle.air_field.specs.Grid.{Grid}
-use Rattle.air_gadgets.specs.Exact.{IsDomain, AllVanish}
+use Rattle.air_gadgets.specs.Exact.{AllVanish}
+use Rattle.air_field.specs.Domain.{IsDomain}
 use Rattle.air_report.specs.Given.{given_trace, height}
 use Rattle.air_report.specs.Report.{report_of, failure_place}
 use Rattle.air_report.specs.Cells.{cell_place, left_of}
@@ -39,12 +40,12 @@ module _ {F : Type 0} (r : CommRing F) (eq : F → F → Bool) (decides : (a b :
       sound (row_assignment r (given_trace g) row) domain big (report_vanish r eq decides g report row h none l)
 
   -- A report on a trace whose rows satisfy all constraints lists nothing.
-  pub compression_rows_pass : (main : Grid F) → AreCompressionRows r r.nil main → ReportsListNothing r eq main
+  pub compression_rows_pass : (main : Grid F) → AreCompressionRows r r.zero main → ReportsListNothing r eq main
   compression_rows_pass main rows cap report h =
       let g = given_compressions r main in
       let t = given_trace g in
       let vanish : (row : ℕ) → row < height g → AllVanish r (row_assignment r t row) (compression r) =
-      λ row l. subst (λ x. AllVanish r (leaf_value r.nil (record (row_at r t row) { current = x })) (compression r)) (sym (row_there main.rows row)) (rows row [] l (row_at r t row)) in
+      λ row l. subst (λ x. AllVanish r (leaf_value r.zero (record (row_at r t row) { current = x })) (compression r)) (sym (row_there main.rows row)) (rows row [] l (row_at r t row)) in
       let empty : report_of r eq t (compression r) h.shown ≡ [] =
       none_reported r eq decides t (compression r) h.shown (λ row l. vanish row (omega (arith, h.ran.rows.within))) in
       let own : h.of_rows ≡ [] = unmapped failure_place h.of_rows (h.places ∙ empty) in

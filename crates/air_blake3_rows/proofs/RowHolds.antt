@@ -4,7 +4,7 @@ use Rattle.std.proofs.Common.{sym, subst, arith}
 use Rattle.air_field.specs.Assignment.{RowValues}
 use Rattle.air_field.specs.Ring.{CommRing}
 use Rattle.air_author.specs.Constraints.{asserts_of_first}
-use Rattle.air_gadgets.specs.Exact.{IsDomain}
+use Rattle.air_field.specs.Domain.{IsDomain}
 use Rattle.blake3.specs.Compression.{Block, columns_mixed, diagonals, place_in, first_state, after_rounds, compress}
 use Rattle.blake3.specs.Blocks.{columns_half}
 use Rattle.blake3.specs.Sizes.{AreStateWords, AreBlockWords}
@@ -160,7 +160,7 @@ module _ {F : Type 0} (R : CommRing F) (beside : RowValues F) (b : Block) (words
       }
 
 -- the row of a block satisfies all constraints
-pub block_row_holds : {F : Type 0} (R : CommRing F) (none : F) (p : ℕ) → none ≡ R.nil → IsDomain R → CompressionIsComplete R p
+pub block_row_holds : {F : Type 0} (R : CommRing F) (none : F) (p : ℕ) → none ≡ R.zero → IsDomain R → CompressionIsComplete R p
     → (b : Block) → AreBlockWords b → 3 * 2 ^ 16 < p → IsCompressionRow R none (block_row R b)
 block_row_holds R none p is domain complete b words big =
     subst (λ z. IsCompressionRow R z (block_row R b)) (sym is)

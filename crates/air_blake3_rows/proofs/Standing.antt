@@ -13,7 +13,7 @@ use Rattle.blake3.specs.Sizes.{AreWords, AreStateWords}
 use Rattle.blake3.specs.laws.Sizes.{half_state, mixed_state}
 use Rattle.blake3.specs.declared.words.Quarter.{Quarter}
 use Rattle.blake3.specs.declared.words.State.{State}
-use Rattle.air_blake3.specs.Words.{column, terms_from, quarter_of, state_of, bits_at, limbs_at}
+use Rattle.air_blake3.specs.Words.{column, terms_numbered, quarter_of, state_of, bits_at, limbs_at}
 use Rattle.air_blake3.specs.Row.{quarter_from, state_from}
 use Rattle.air_blake3.specs.Holding.{IsLimbsOf, IsBitsOf, IsQuarterOf, IsStateOf}
 use Rattle.air_blake3_rows.specs.Values.{bit_values, limb_values, quarter_values, state_values, columns_values, round_values, four_bits}
@@ -54,7 +54,7 @@ module _ {F : Type 0} (R : CommRing F) (row : List F) where
   -- the list stands in the row from a place on
   unfoldable pub Stands : ℕ → List F → Type 0
   Stands n [] = Unit {0}
-  Stands n (x ∷ xs) = (slice_index_or row n R.nil ≡ x) × Stands (n + 1) xs
+  Stands n (x ∷ xs) = (slice_index_or row n R.zero ≡ x) × Stands (n + 1) xs
 
   stands-append : (n : ℕ) (xs ys : List F) → Stands n (xs ++ ys) → Stands n xs × Stands (n + length xs) ys
   unfolding Stands
@@ -79,9 +79,9 @@ module _ {F : Type 0} (R : CommRing F) (row : List F) where
 
   module _ (beside : RowValues F) where
     abbrev pub holder : Leaf → F
-    holder = leaf_value R.nil (record beside { current = row })
+    holder = leaf_value R.zero (record beside { current = row })
 
-    columns_stand : (n i : ℕ) (xs : List F) → Stands (n + i) xs → map (value (itself R) holder) (terms_from (column n) i (length xs)) ≡ xs
+    columns_stand : (n i : ℕ) (xs : List F) → Stands (n + i) xs → map (value (itself R) holder) (terms_numbered (column n) i (length xs)) ≡ xs
     unfolding Stands
     columns_stand n i [] h = refl
     columns_stand n i (x ∷ xs) h =
@@ -92,13 +92,13 @@ module _ {F : Type 0} (R : CommRing F) (row : List F) where
     unfolding bits_at
     bits_stand n w fits h =
         let e : n ≡ n + 0 = omega arith in
-        bits_hold R holder (terms_from (column n) 0 32) w fits (columns_stand n 0 (bit_values R w) (subst (λ k. Stands k (bit_values R w)) e h))
+        bits_hold R holder (terms_numbered (column n) 0 32) w fits (columns_stand n 0 (bit_values R w) (subst (λ k. Stands k (bit_values R w)) e h))
 
     limbs_stand : (n w : ℕ) → w < 2 ^ 32 → Stands n (limb_values R w) → IsLimbsOf R holder (limbs_at n) w
     unfolding limbs_at Stands
     limbs_stand n w fits h =
         let e : n ≡ n + 0 = omega arith in
-        limbs_hold R holder (limbs_at n) w fits (subst (λ k. slice_index_or row k R.nil ≡ image R (w % 2 ^ 16)) e h.0) h.1.0
+        limbs_hold R holder (limbs_at n) w fits (subst (λ k. slice_index_or row k R.zero ≡ image R (w % 2 ^ 16)) e h.0) h.1.0
 
     quarter_stands : (n : ℕ) (q : Quarter) → AreWords q → Stands n (quarter_values R q) → IsQuarterOf R holder (quarter_of (quarter_from n)) q
     unfolding quarter_values
@@ -154,7 +154,7 @@ module _ {F : Type 0} (R : CommRing F) (row : List F) where
         (bits_stand n a ha p2.0, bits_stand (n + 32) b hb p2.1, bits_stand (n + 64) c hc p1.1, bits_stand (n + 96) d hd p0.1)
 
 module _ {F : Type 0} (R : CommRing F) where
-  read_after : (ys xs : List F) (x : F) → slice_index_or (ys ++ x ∷ xs) (length ys) R.nil ≡ x
+  read_after : (ys xs : List F) (x : F) → slice_index_or (ys ++ x ∷ xs) (length ys) R.zero ≡ x
   read_after [] xs x = refl
   read_after (y ∷ ys) xs x = read_after ys xs x
 

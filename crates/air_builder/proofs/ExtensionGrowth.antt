@@ -2,12 +2,12 @@
 use Rattle.std.proofs.Common.{◌≡◌}
 use Rattle.air_field.specs.Term.{Term, with_leaves}
 use Rattle.air_builder.specs.Builders.{MeansIn, BuilderView}
-use Rattle.air_builder.specs.Extensions.{ExtensionView, ExtensionLaws}
+use Rattle.air_builder.specs.Extensions.{ExtensionView, ExtensionRingLaws}
 use Rattle.air_builder.specs.laws.Growth.{means_in}
 
 -- what an element of the base means in the builder it means in the base of the ring over the extension, as it is lent
 pub base_means_in : {S R X B E F : Type 0} {view : BuilderView S R B F} {over : ExtensionView S X B E F}
-    (extension : ExtensionLaws view over) (a : S) (q : X) (x : B) (t : Term F) → q ≡ over.ring_of a → view.ready a
-    → MeansIn view a x t → over.base_means q x (with_leaves (view.stands a) t)
+    (extension : ExtensionRingLaws view over) (a : S) (q : X) (x : B) (t : Term F) → q ≡ over.ring_of a → view.ready a
+    → MeansIn view a x t → over.base_means q x (with_leaves (view.reads_as a) t)
 base_means_in {view = view} {over = over} extension a q x t e r m =
-    means_in over.base_means x (with_leaves (view.stands a) t) e (extension.means_base a x (with_leaves (view.stands a) t) r m)
+    means_in over.base_means x (with_leaves (view.reads_as a) t) e (extension.means_base a x (with_leaves (view.reads_as a) t) r m)

@@ -70,7 +70,7 @@ module _ {S R B E F N P : Type 0} {view : BuilderView S R E F} (ring : RingLaws 
     (kind : Term F → Assertion F) (under : Term F → Term F → Term F)
     (is_under : (c t : Term F) → filtered c (kind t) ≡ kind (under c t))
     (inner : P → S) (name : P → N) (condition : P → B) (means : S → B → Term F → Type 0) where
-  open view use {ring_refuses, with_ring, stands, kept, grew, refuses}
+  open view use {ring_refuses, with_ring, reads_as, kept, grew, refuses}
 
   -- what x asserts inside under the condition
   abbrev Under : S → B × E → Assertion F → Type 0
@@ -94,9 +94,9 @@ module _ {S R B E F N P : Type 0} {view : BuilderView S R E F} (ring : RingLaws 
       LabelledInside kept labelled means (name f) (name g) (condition f) (condition g) (inner f) (inner g) ls
 
   module _ (held : Term F → Type 0) {p q : P} {o r : R} (value : o ≡ view.ring_of (inner p)) (extended : view.extends o r)
-      (holds : (c : Term F) → means (inner p) (condition p) c → held (with_leaves (stands (inner p)) c))
-      (through : (c t : Term F) → under (with_leaves (stands (inner p)) c) (with_leaves (stands (inner p)) t)
-      ≡ with_leaves (stands (inner p)) (under c t))
+      (holds : (c : Term F) → means (inner p) (condition p) c → held (with_leaves (reads_as (inner p)) c))
+      (through : (c t : Term F) → under (with_leaves (reads_as (inner p)) c) (with_leaves (reads_as (inner p)) t)
+      ≡ with_leaves (reads_as (inner p)) (under c t))
       (name_is : name q ≡ name p) (condition_is : condition q ≡ condition p) {x : E} where
     made_under : {z : E} → ((c t : Term F) → held c → view.means o x t → view.means r z (under c t))
         → (s : Assertion F) → Under (inner p) (condition p, x) s
@@ -104,8 +104,8 @@ module _ {S R B E F N P : Type 0} {view : BuilderView S R E F} (ring : RingLaws 
     made_under {z} m s k =
         let c = k.condition in
         let t = k.asserted.0 in
-        let below = with_leaves (stands (inner p)) t in
-        let made = m (with_leaves (stands (inner p)) c) below (holds c k.holds) (means_in view.means x below value k.asserted.1) in (
+        let below = with_leaves (reads_as (inner p)) t in
+        let made = m (with_leaves (reads_as (inner p)) c) below (holds c k.holds) (means_in view.means x below value k.asserted.1) in (
           under c t,
           lent_means ring laws (inner p) o r z (under c t) value extended (subst (λ v. view.means r z v) (through c t) made),
           k.is ∙ ap (λ u. filtered c u) k.asserted.2 ∙ is_under c t,
@@ -117,8 +117,8 @@ module _ {S R B E F N P : Type 0} {view : BuilderView S R E F} (ring : RingLaws 
     refused_under inside f m s k =
         let c = k.condition in
         let t = k.asserted.0 in
-        let below = with_leaves (stands (inner p)) t in
-        let refused = m (with_leaves (stands (inner p)) c) below (holds c k.holds) (means_in view.means x below value k.asserted.1) in
+        let below = with_leaves (reads_as (inner p)) t in
+        let refused = m (with_leaves (reads_as (inner p)) c) below (holds c k.holds) (means_in view.means x below value k.asserted.1) in
         refuses_part ring laws kind inside value f (under c t) s (k.is ∙ ap (λ u. filtered c u) k.asserted.2 ∙ is_under c t)
         (subst (λ v. ring_refuses f v) (through c t) refused)
 

@@ -10,15 +10,15 @@ use Rattle.air_builder.specs.Assertion.{Assertion}
 
 -- an element means a term in a builder: it does in the builder's ring, with what stands at the leaves
 abbrev pub Means : {S R E F : Type 0} → (R → E → Term F → Type 0) → (S → R) → (S → Leaf → Term F) → S → E → Term F → Type 0
-Means means ring_of stands b x t = means (ring_of b) x (with_leaves (stands b) t)
+Means means ring_of reads_as b x t = means (ring_of b) x (with_leaves (reads_as b) t)
 
 -- the variable at each place of a row means what stands there
-abbrev pub RowStands : {V F : Type 0} → (V → Term F → Type 0) → (ℕ → Term F) → List V → Type 0
-RowStands {V} means at row = (i : ℕ) (v : V) → slice_get row i ≡ Some v → means v (at i)
+abbrev pub RowReadsAs : {V F : Type 0} → (V → Term F → Type 0) → (ℕ → Term F) → List V → Type 0
+RowReadsAs {V} means at row = (i : ℕ) (v : V) → slice_get row i ≡ Some v → means v (at i)
 
 -- the variable means what stands at the leaf
-abbrev pub VariableStands : {V F : Type 0} → (V → Term F → Type 0) → (Leaf → Term F) → Leaf → V → Type 0
-VariableStands means stands l v = means v (stands l)
+abbrev pub VariableReadsAs : {V F : Type 0} → (V → Term F → Type 0) → (Leaf → Term F) → Leaf → V → Type 0
+VariableReadsAs means reads_as l v = means v (reads_as l)
 
 -- x - 1
 abbrev pub less_one_term : {F : Type 0} → F → Term F → Term F
@@ -37,7 +37,7 @@ pub record BuilderView (S R E F : Type 0) : Type 1 where
   pub ring_refuses : RingError → Term F → Type 0
   pub ring_of : S → R
   pub with_ring : S → R → S
-  pub stands : S → Leaf → Term F
+  pub reads_as : S → Leaf → Term F
   pub ready : S → Type 0
   pub kept : S → S → Type 0
   pub grew : S → S → List (Assertion F) → Type 0
@@ -50,7 +50,7 @@ RingLaws view = AlgebraLaws view.valid view.has view.means view.extends view.rin
 
 -- an element means a term in the builder
 abbrev pub MeansIn : {S R E F : Type 0} → BuilderView S R E F → S → E → Term F → Type 0
-MeansIn view = Means view.means view.ring_of view.stands
+MeansIn view = Means view.means view.ring_of view.reads_as
 
 -- What every builder keeps. Growth joins; lending the ring grows nothing; what it kept, it still has.
 pub record BuilderLaws {S R E F : Type 0} (view : BuilderView S R E F) : Type 0 where
@@ -65,7 +65,7 @@ pub record BuilderLaws {S R E F : Type 0} (view : BuilderView S R E F) : Type 0 
   pub by_growth : (a b : S) (xs : List (Assertion F)) → view.grew a b xs → view.kept a b
   pub kept_joined : (a b c : S) → view.kept a b → view.kept b c → view.kept a c
   pub ring_kept : (a b : S) → view.kept a b → view.extends (view.ring_of a) (view.ring_of b)
-  pub stands_kept : (a b : S) → view.kept a b → view.stands b ≡ view.stands a
+  pub stands_kept : (a b : S) → view.kept a b → view.reads_as b ≡ view.reads_as a
   pub ready_kept : (a b : S) → view.kept a b → view.ready a → view.ready b
   pub missing_kept : (a b : S) (l : Leaf) → view.kept a b → view.missing b l → view.missing a l
   pub missing_stays : (a b : S) (l : Leaf) → view.kept a b → view.missing a l → view.missing b l
@@ -80,6 +80,6 @@ pub record BuilderLaws {S R E F : Type 0} (view : BuilderView S R E F) : Type 0 
   pub refuses_then : (a b : S) (e : AirError) (xs ys : List (Assertion F))
       → view.grew a b xs → view.refuses b e ys → view.refuses a e (xs ++ ys)
   pub refuses_in_ring : (a : S) (e : RingError) (t : Term F) (ts : List (Assertion F))
-      → view.ring_refuses e (with_leaves (view.stands a) t) → PartOf t ts → view.refuses a (air_error e) ts
+      → view.ring_refuses e (with_leaves (view.reads_as a) t) → PartOf t ts → view.refuses a (air_error e) ts
   pub refuses_missing : (a : S) (e : AirError) (l : Leaf) (ts : List (Assertion F))
       → view.missing a l → NamesLeaf e l → PartOf (leaf_term l) ts → view.refuses a e ts

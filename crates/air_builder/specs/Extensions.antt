@@ -37,7 +37,7 @@ over_view view over = record {
   ring_refuses = over.ring_refuses;
   ring_of = over.ring_of;
   with_ring = over.with_ring;
-  stands = view.stands;
+  reads_as = view.reads_as;
   ready = view.ready;
   kept = view.kept;
   grew = view.grew;
@@ -47,7 +47,7 @@ over_view view over = record {
 
 -- What every builder keeps of its ring over the extension. Lending it grows nothing; what it kept, it still has; what
 -- is in the base ring is in the base of this one, and means there what it means.
-pub record ExtensionLaws {S R X B E F : Type 0} (view : BuilderView S R B F) (over : ExtensionView S X B E F)
+pub record ExtensionRingLaws {S R X B E F : Type 0} (view : BuilderView S R B F) (over : ExtensionView S X B E F)
     : Type 0 where
   pub ext_ring_lent : (a : S) (r : X) → over.extends (over.ring_of a) r → view.grew a (over.with_ring a r) []
   pub ext_ring_with : (a : S) (r : X) → over.ring_of (over.with_ring a r) ≡ r
@@ -57,4 +57,4 @@ pub record ExtensionLaws {S R X B E F : Type 0} (view : BuilderView S R B F) (ov
   pub means_base : (a : S) (x : B) (t : Term F) → view.ready a
       → view.means (view.ring_of a) x t → over.base_means (over.ring_of a) x t
   pub refuses_in_ext_ring : (a : S) (e : RingError) (t : Term F) (ts : List (Assertion F))
-      → over.ring_refuses e (with_leaves (view.stands a) t) → PartOf t ts → view.refuses a (air_error e) ts
+      → over.ring_refuses e (with_leaves (view.reads_as a) t) → PartOf t ts → view.refuses a (air_error e) ts

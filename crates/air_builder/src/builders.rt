@@ -13,4 +13,4 @@ pub mod named_extension;
 mod named_filter;
 pub mod passthrough;
 pub mod permutation;
-pub mod seen;
+pub mod view;

@@ -20,4 +20,4 @@ pub use builders::named::NamedAirBuilder;
 pub use builders::named_extension::NamedExtensionBuilder;
 pub use builders::passthrough::PassthroughNamedAirBuilder;
 pub use builders::permutation::PermutationAirBuilder;
-pub use builders::seen::{Seen, SeenExt, SeenOver};
+pub use builders::view::{View, ViewExt, ViewOver};

@@ -24,17 +24,17 @@ mark-own ns marks k d id h lt e =
 -- one value more is known
 pub Known-more : {F : Type 0} (r : CommRing F) (s : Leaf → F) (ns : List (SymbolicExpr (BaseLeaf F))) (marks : List (Option ℕ)) (k : ℕ) (old new : List F) (x : F) → length old ≡ k → new ≡ old ++ x ∷ [] → Known r s ns marks k old → (Marked marks k → x ≡ value_at r s ns k) → Known r s ns marks (k + 1) new
 Known-more r s ns marks k old new x places e h now i below m =
-    ap (λ (vs : List _). get_or vs i r.nil) e
+    ap (λ (vs : List _). get_or vs i r.zero) e
     ∙ ⊎_elim
-    (λ (lt : i < k). get_or_append_left old (x ∷ []) r.nil i (omega (arith, lt, places)) ∙ h i lt m)
-    (λ (at : i ≡ k). get_or_push old x r.nil i (places ∙ sym at) ∙ now (subst (λ j. Marked marks j) at m) ∙ ap (value_at r s ns) (sym at))
+    (λ (lt : i < k). get_or_append_left old (x ∷ []) r.zero i (omega (arith, lt, places)) ∙ h i lt m)
+    (λ (at : i ≡ k). get_or_push old x r.zero i (places ∙ sym at) ∙ now (subst (λ j. Marked marks j) at m) ∙ ap (value_at r s ns) (sym at))
     (before_or_at i k below)
   where
     before_or_at : (i k : ℕ) → i < k + 1 → (i < k) ⊎ (i ≡ k)
     before_or_at i k b = grind (arith, b)
 
 -- the value of a node whose operands' values are known
-pub node_value-is : {F : Type 0} (r : CommRing F) (s : Leaf → F) (ns : List (SymbolicExpr (BaseLeaf F))) (marks : List (Option ℕ)) (k : ℕ) (values : List F) (n : SymbolicExpr (BaseLeaf F)) → Known r s ns marks k values → OperandsBelow k n → EachOperand (λ j. Marked marks j) n → node_value r s (λ i. get_or values i r.nil) n ≡ value (itself r) s (term_of base_term (unfold_node (tree_of ns) n))
+pub node_value-is : {F : Type 0} (r : CommRing F) (s : Leaf → F) (ns : List (SymbolicExpr (BaseLeaf F))) (marks : List (Option ℕ)) (k : ℕ) (values : List F) (n : SymbolicExpr (BaseLeaf F)) → Known r s ns marks k values → OperandsBelow k n → EachOperand (λ j. Marked marks j) n → node_value r s (λ i. get_or values i r.zero) n ≡ value (itself r) s (term_of base_term (unfold_node (tree_of ns) n))
 node_value-is r s ns marks k values (node.Leaf a) h b m = refl
 node_value-is r s ns marks k values (node.Add x y d) h b m = ap₂ r.add (h x b.0 m.0) (h y b.1 m.1)
 node_value-is r s ns marks k values (node.Sub x y d) h b m = ap₂ (minus r) (h x b.0 m.0) (h y b.1 m.1)

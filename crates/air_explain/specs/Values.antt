@@ -26,7 +26,7 @@ module _ {F : Type 0} (r : CommRing F) (s : Leaf → F) where
 
   -- the values of the marked numbers below k are known
   abbrev pub Known : List (SymbolicExpr (BaseLeaf F)) → List (Option ℕ) → ℕ → List F → Type 0
-  Known ns marks k values = (i : ℕ) → i < k → Marked marks i → get_or values i r.nil ≡ value_at ns i
+  Known ns marks k values = (i : ℕ) → i < k → Marked marks i → get_or values i r.zero ≡ value_at ns i
 
 -- Marks of all nodes: each stands at its own place, and with a node its operands are marked.
 pub record AreClosed {F : Type 0} (ns : List (SymbolicExpr (BaseLeaf F))) (marks : List (Option ℕ)) : Type 0 where

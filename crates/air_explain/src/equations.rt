@@ -24,7 +24,7 @@ pub(crate) fn push_equation<F: PrimeField64>(
     requires here { id < length pool.now.1 }
     requires places { length values.now ≡ length pool.now.1 }
     ensures { OnOk result (string_bytes text.new ≡ string_bytes text.old ++
-        equation F.residues pool.now names.now.1 (λ i. get_or values.now i F.ring.nil) id) }
+        equation F.residues pool.now names.now.1 (λ i. get_or values.now i F.ring.zero) id) }
 {
     push_infix(alloc, text, pool, names, id)?;
     text.push_str(" = ")?;
@@ -57,7 +57,7 @@ pub(crate) fn push_equations<F: PrimeField64>(
     requires places { length values.now ≡ length pool.now.1 }
     ensures { OnOk result (string_bytes text.new ≡ string_bytes text.old ++ lines_text
         (equation_lines (map (equation F.residues pool.now names.now.1
-        (λ i. get_or values.now i F.ring.nil)) ids.now))) }
+        (λ i. get_or values.now i F.ring.zero)) ids.now))) }
 {
     let mut is_first = true;
     for id in ids {

@@ -85,7 +85,7 @@ pub fn push_explained<F: PrimeField64>(
     requires reads { All (λ i. i < length pool.now.1) reads.now }
     requires places { length values.now ≡ length pool.now.1 }
     ensures { OnOk result (string_bytes text.new ≡ string_bytes text.old ++ lines_text
-        (explained_lines F.residues pool.now names.now.1 (λ i. get_or values.now i F.ring.nil)
+        (explained_lines F.residues pool.now names.now.1 (λ i. get_or values.now i F.ring.zero)
         root reads.now)) }
 {
     text.push_str("  ")?;

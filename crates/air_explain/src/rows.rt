@@ -25,7 +25,7 @@ pub struct TraceRows<'a, F: Field> {
 /// The entry of a table at a row and a column.
 pub(crate) fn entry_of<F: Field>(table: &RowMajorMatrix<F>, row: usize, column: usize) -> F
     ensures { result ≡ slice_index_or (row_or_none (slice_get table.now.rows row)) column
-        F.ring.nil }
+        F.ring.zero }
 {
     match table.get(row, column) {
         Some(entry) => entry,
@@ -50,7 +50,7 @@ fn column_of<F: Field>(
     column: usize,
 ) -> F
     requires { row < height }
-    ensures { result ≡ column_value F.ring.nil (row_or_none (slice_get table.now.rows row))
+    ensures { result ≡ column_value F.ring.zero (row_or_none (slice_get table.now.rows row))
         (row_or_none (slice_get table.now.rows ((row + 1) % height))) offset column }
 {
     match offset {
@@ -69,7 +69,7 @@ fn table_column_of<F: Field>(
     column: usize,
 ) -> F
     requires { row < height }
-    ensures { result ≡ column_value F.ring.nil
+    ensures { result ≡ column_value F.ring.zero
         (row_or_none (slice_get (table_rows table.now).rows row))
         (row_or_none (slice_get (table_rows table.now).rows ((row + 1) % height))) offset column }
 {
@@ -81,7 +81,7 @@ fn table_column_of<F: Field>(
 
 // The value of one period at a row.
 fn period_of<F: Field>(column: &[F], row: usize) -> F
-    ensures { result ≡ slice_index_or column.now (row % length column.now) F.ring.nil }
+    ensures { result ≡ slice_index_or column.now (row % length column.now) F.ring.zero }
 {
     if column.is_empty() {
         F::ZERO
@@ -92,7 +92,7 @@ fn period_of<F: Field>(column: &[F], row: usize) -> F
 
 // The value of a periodic column at a row.
 fn periodic_of<F: Field>(columns: &[Vec<F>], row: usize, index: usize) -> F
-    ensures { result ≡ periodic_at F.ring.nil columns.now row index }
+    ensures { result ≡ periodic_at F.ring.zero columns.now row index }
 {
     if index < columns.len() {
         period_of(&columns[index], row)
@@ -103,7 +103,7 @@ fn periodic_of<F: Field>(columns: &[Vec<F>], row: usize, index: usize) -> F
 
 /// The public value of a number.
 pub(crate) fn public_of<F: Field>(public_values: &[F], index: usize) -> F
-    ensures { result ≡ slice_index_or public_values.now index F.ring.nil }
+    ensures { result ≡ slice_index_or public_values.now index F.ring.zero }
 {
     match public_values.get(index) {
         Some(public_value) => *public_value,
@@ -120,7 +120,7 @@ fn selector<F: Field>(on: bool) -> F
 
 // Zero where it holds, else one.
 fn other_selector<F: Field>(on: bool) -> F
-    ensures { result ≡ if on then F.ring.nil else F.ring.one }
+    ensures { result ≡ if on then F.ring.zero else F.ring.one }
 {
     if on { F::ZERO } else { F::ONE }
 }

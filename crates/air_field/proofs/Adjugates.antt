@@ -1,7 +1,7 @@
 -- The inverse of a polynomial modulo X^4 - w by its norm.
 use Rattle.std.specs.Prelude.{◌≡◌, ℕ, [], ◌∷◌}
 use Rattle.std.proofs.Common.{get_or, sym, ◌∙◌, ap, ap₂}
-use Rattle.air_field.specs.Ring.{CommRing, Over, OverLaws}
+use Rattle.air_field.specs.Ring.{CommRing, AlgebraOver, AlgebraOverLaws}
 use Rattle.air_field.specs.RingOps.{ops}
 use Rattle.air_field.specs.Binomial.{binomial_over, binomial_product, constant_polynomial}
 use Rattle.air_field.specs.Coefficients.{binomial_mul}
@@ -18,7 +18,7 @@ use Rattle.air_field.specs.laws.NoSquare.{ratio_is_no_square, root, root-square}
 use Rattle.air_field.specs.laws.SamePolynomial.{same_list}
 
 -- x times (y times the inverse of n) is one where x times y is n
-pub by_norm : {F A : Type 0} (R : CommRing F) (over : Over F A) → OverLaws R over → (n i : F) (x y : A)
+pub by_norm : {F A : Type 0} (R : CommRing F) (over : AlgebraOver F A) → AlgebraOverLaws R over → (n i : F) (x y : A)
     → over.ring.mul x y ≡ over.embed n → R.mul n i ≡ R.one → over.ring.mul x (over.ring.mul y (over.embed i)) ≡ over.ring.one
 by_norm R over laws n i x y h e =
     sym (over.ring.mul_assoc x y (over.embed i))
@@ -46,13 +46,13 @@ module _ {M : Type 0} (m : Ghosts M) (w : ℕ) (no_square : IsNoSquare m.P w) wh
   by_conjugate x conjugate first second y a b c d e o s t hx hc hf he ho hs hy =
       let R = residue_ring m in
       let v = residue_class m w in
-      let product : first.value ≡ even R v a b c d ∷ R.nil ∷ odd R v a b c d ∷ R.nil ∷ [] =
+      let product : first.value ≡ even R v a b c d ∷ R.zero ∷ odd R v a b c d ∷ R.zero ∷ [] =
       ap (λ z. z.value) hf ∙ (ap₂ (binomial_mul (ops R) v) (sym hx) hc ∙ first_product R v a b c d) in
       let is_even : e ≡ even R v a b c d = he ∙ ap (λ l. get_or l 0 s) product in
       let is_odd : o ≡ odd R v a b c d = ho ∙ ap (λ l. get_or l 2 t) product in
       at_four x y a b c d hx
       (ap (λ z. z.value) hy
-      ∙ ap₂ (binomial_mul (ops R) v) hc (hs ∙ ap₂ (λ f g. f ∷ R.nil ∷ R.neg g ∷ R.nil ∷ []) is_even is_odd))
+      ∙ ap₂ (binomial_mul (ops R) v) hc (hs ∙ ap₂ (λ f g. f ∷ R.zero ∷ R.neg g ∷ R.zero ∷ []) is_even is_odd))
 
 -- the first coefficient read of a constant is the number
 pub read_norm : {M : Type 0} {m : Ghosts M} (x : BinomialExtension M m) (first n : Residue M m)

@@ -1,5 +1,5 @@
 -- What a ring that makes its elements keeps.
-use Rattle.air_field.specs.Ring.{CommRing, Over, itself}
+use Rattle.air_field.specs.Ring.{CommRing, AlgebraOver, itself}
 use Rattle.air_field.specs.Term.{Term, const_term, add_term, sub_term, mul_term}
 use Rattle.air_field.specs.Value.{value}
 use Rattle.air_field.specs.Part.{Part}
@@ -58,9 +58,9 @@ abbrev pub scaled_term : {F : Type 0} → F → Term F → Term F
 scaled_term c t = mul_term t (const_term c)
 
 -- the value, in an algebra, of a term whose leaves are zero: that of a term without leaves
-abbrev pub closed_value_in : {F E : Type 0} → Over F E → Term F → E
-closed_value_in a t = value a (λ _. a.ring.nil) t
+abbrev pub closed_value_in : {F E : Type 0} → AlgebraOver F E → Term F → E
+closed_value_in a t = value a (λ _. a.ring.zero) t
 
 -- the same in the ring itself
 abbrev pub closed_value : {F : Type 0} → CommRing F → Term F → F
-closed_value r t = value (itself r) (λ _. r.nil) t
+closed_value r t = value (itself r) (λ _. r.zero) t

@@ -100,7 +100,7 @@ row_or_none (Some row) = row
 
 -- one where the test holds, else zero
 abbrev pub selector : {F : Type 0} → CommRing F → Bool → F
-selector r b = if b then r.one else r.nil
+selector r b = if b then r.one else r.zero
 
 -- What stands at row i of h: the row, the one after it around the end, each periodic column at i modulo its length,
 -- and the selectors.
@@ -112,13 +112,13 @@ row_at r t i =
       next = row_or_none (slice_get t.main_trace.rows ((i + 1) % h));
       preprocessed_current = row_or_none (slice_get t.preprocessed_trace.rows i);
       preprocessed_next = row_or_none (slice_get t.preprocessed_trace.rows ((i + 1) % h));
-      periodic_row = map (λ column. slice_index_or column (i % length column) r.nil) t.periodic_columns;
+      periodic_row = map (λ column. slice_index_or column (i % length column) r.zero) t.periodic_columns;
       public_row = t.public_values;
       on_first_row = selector r (i == 0);
       on_last_row = selector r (i + 1 == h);
-      on_transition = if i + 1 == h then r.nil else r.one;
+      on_transition = if i + 1 == h then r.zero else r.one;
     }
 
 -- the assignment of a row
 abbrev pub row_assignment : {F : Type 0} → CommRing F → Trace F → ℕ → Leaf → F
-row_assignment r t i = leaf_value r.nil (row_at r t i)
+row_assignment r t i = leaf_value r.zero (row_at r t i)

@@ -5,7 +5,7 @@ use Rattle.air_field.specs.Ring.{CommRing}
 -- whether each coefficient is zero
 abbrev pub all_zero : {F : Type 0} → CommRing F → (F → F → Bool) → List F → Bool
 all_zero r eq [] = true
-all_zero r eq (x ∷ xs) = eq x r.nil && all_zero r eq xs
+all_zero r eq (x ∷ xs) = eq x r.zero && all_zero r eq xs
 
 -- the first coefficient, where all others are zero
 abbrev pub base_part : {F : Type 0} → CommRing F → (F → F → Bool) → List F → Option F

@@ -1,6 +1,6 @@
 -- The polynomials over a field of residues modulo X^4 - w: a ring, and an extension of that field.
 use Rattle.std.specs.Prelude.{◌≡◌, ℕ, refl, List, length, eqb}
-use Rattle.air_field.specs.Ring.{CommRing, Over}
+use Rattle.air_field.specs.Ring.{CommRing, AlgebraOver}
 use Rattle.air_field.specs.RingOps.{ops}
 use Rattle.air_field.specs.Coefficients.{poly_add, poly_neg, binomial_mul, constant_four, padded}
 use Rattle.air_field.specs.Extension.{Basis}
@@ -35,14 +35,14 @@ constant_polynomial {m = m} x = of_list (constant_four (ops (residue_ring m)) x)
 abbrev pub binomial_ring : {M : Type 0} (m : Ghosts M) → ℕ → CommRing (BinomialExtension M m)
 binomial_ring m w =
     record {
-      nil = constant_polynomial (residue_class m 0);
+      zero = constant_polynomial (residue_class m 0);
       one = constant_polynomial (residue_class m 1);
       add = binomial_add;
       mul = binomial_product w;
       neg = binomial_neg;
       add_assoc = λ a b c. same_list _ _ (four_add_assoc (residue_ring m) a.value b.value c.value a.four b.four c.four);
       add_comm = λ a b. same_list _ _ (four_add_comm (residue_ring m) a.value b.value a.four b.four);
-      add_nil = λ a. same_list _ _ (four_add_nil (residue_ring m) a.value a.four);
+      add_zero = λ a. same_list _ _ (four_add_nil (residue_ring m) a.value a.four);
       add_neg = λ a. same_list _ _ (four_add_neg (residue_ring m) a.value a.four);
       mul_assoc = λ a b c. same_list _ _ (four_mul_assoc (residue_ring m) (residue_class m w) a.value b.value c.value a.four b.four c.four);
       mul_comm = λ a b. same_list _ _ (four_mul_comm (residue_ring m) (residue_class m w) a.value b.value a.four b.four);
@@ -51,7 +51,7 @@ binomial_ring m w =
     }
 
 -- the ring, the constant polynomials in it, and the polynomial of a coefficient list
-abbrev pub binomial_over : {M : Type 0} (m : Ghosts M) → ℕ → Over (Residue M m) (BinomialExtension M m)
+abbrev pub binomial_over : {M : Type 0} (m : Ghosts M) → ℕ → AlgebraOver (Residue M m) (BinomialExtension M m)
 binomial_over m w =
     record {
       ring = binomial_ring m w;

@@ -21,12 +21,12 @@ poly_neg R (x ∷ p) = R.neg x ∷ poly_neg R p
 -- the product
 abbrev pub poly_mul : {A : Type 0} → RingOps A → List A → List A → List A
 poly_mul R [] q = []
-poly_mul R (x ∷ p) q = poly_add R (poly_scale R x q) (R.nil ∷ poly_mul R p q)
+poly_mul R (x ∷ p) q = poly_add R (poly_scale R x q) (R.zero ∷ poly_mul R p q)
 
 -- the sum of the products of what stands at one place of both lists
 abbrev pub dot : {A : Type 0} → RingOps A → List A → List A → A
-dot R [] q = R.nil
-dot R (x ∷ p) [] = R.nil
+dot R [] q = R.zero
+dot R (x ∷ p) [] = R.zero
 dot R (x ∷ p) (y ∷ q) = R.add (R.mul x y) (dot R p q)
 
 -- the first four coefficients, with w times the further ones added from the front: X^4 is w
@@ -40,7 +40,7 @@ binomial_mul R w p q = fold_four R w (poly_mul R p q)
 
 -- x as a polynomial of four coefficients
 abbrev pub constant_four : {A : Type 0} → RingOps A → A → List A
-constant_four R x = x ∷ R.nil ∷ R.nil ∷ R.nil ∷ []
+constant_four R x = x ∷ R.zero ∷ R.zero ∷ R.zero ∷ []
 
 -- the first n coefficients, zero past the list's end
 abbrev pub padded : {A : Type 0} → A → ℕ → List A → List A
@@ -56,6 +56,6 @@ coefficient d p n = get_or p n d
 -- that stands four places on
 abbrev pub IsProductModulo : {A : Type 0} → CommRing A → A → List A → List A → List A → Type 0
 IsProductModulo R w p q r =
-    (k : ℕ) → k < 4 → coefficient R.nil r k
-    ≡ R.add (convolve R (coefficient R.nil p) (coefficient R.nil q) k)
-    (R.mul w (convolve R (coefficient R.nil p) (coefficient R.nil q) (4 + k)))
+    (k : ℕ) → k < 4 → coefficient R.zero r k
+    ≡ R.add (convolve R (coefficient R.zero p) (coefficient R.zero q) k)
+    (R.mul w (convolve R (coefficient R.zero p) (coefficient R.zero q) (4 + k)))

@@ -24,7 +24,7 @@ modular_neg {p = p} m a = m.class (p - m.value a)
 abbrev pub modular_ring : {A : Type 0} {p : ℕ} → Modular A p → CommRing A
 modular_ring {p = p} m =
     record {
-      nil = m.class 0;
+      zero = m.class 0;
       one = m.class 1;
       add = modular_add m;
       mul = modular_mul m;
@@ -34,7 +34,7 @@ modular_ring {p = p} m =
           ∙ (add_assoc_at p (m.value a) (m.value b) (m.value c)
           ∙ sym (m.value_class _ ∙ ap (λ s. (m.value a + s) % p) (m.value_class (m.value b + m.value c))))));
       add_comm = λ a b. m.same _ _ (m.value_class _ ∙ (add_comm_at p (m.value a) (m.value b) ∙ sym (m.value_class _)));
-      add_nil = λ a. m.same _ _ (m.value_class _ ∙ (ap (λ s. (m.value a + s) % p) (m.value_class 0) ∙ add_nil_at p (m.value a) (m.bound a)));
+      add_zero = λ a. m.same _ _ (m.value_class _ ∙ (ap (λ s. (m.value a + s) % p) (m.value_class 0) ∙ add_nil_at p (m.value a) (m.bound a)));
       add_neg = λ a. m.same _ _ (m.value_class _
           ∙ (ap (λ s. (m.value a + s) % p) (m.value_class (p - m.value a)) ∙ (add_neg_at p (m.value a) (m.bound a) ∙ sym (m.value_class 0))));
       mul_assoc = λ a b c. m.same _ _ (m.value_class _

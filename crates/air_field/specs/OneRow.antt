@@ -1,6 +1,6 @@
 -- What stands at the leaves of one row with permutation data, and which leaves have no entry there.
 use Rattle.std.specs.Prelude.{List, [], length, slice_index_or}
-use Rattle.air_field.specs.Ring.{Over}
+use Rattle.air_field.specs.Ring.{AlgebraOver}
 use Rattle.air_field.specs.Term.{Leaf, permutation, challenge, permutation_value}
 use Rattle.air_field.specs.Assignment.{Shape, RowValues, column_value, leaf_value}
 
@@ -29,8 +29,8 @@ one_row_shape v p = record {
 
 -- what stands at a leaf over the extension: the permutation data, or the image of what stands in F; a missing entry
 -- reads as zero
-abbrev pub one_row_value : {F E : Type 0} → F → Over F E → RowValues F → PermutationData E → Leaf → E
-one_row_value z a v p (permutation o i) = column_value a.ring.nil p.current p.next o i
-one_row_value z a v p (challenge i) = slice_index_or p.challenges i a.ring.nil
-one_row_value z a v p (permutation_value i) = slice_index_or p.exposed i a.ring.nil
+abbrev pub one_row_value : {F E : Type 0} → F → AlgebraOver F E → RowValues F → PermutationData E → Leaf → E
+one_row_value z a v p (permutation o i) = column_value a.ring.zero p.current p.next o i
+one_row_value z a v p (challenge i) = slice_index_or p.challenges i a.ring.zero
+one_row_value z a v p (permutation_value i) = slice_index_or p.exposed i a.ring.zero
 one_row_value z a v p l = a.embed (leaf_value z v l)

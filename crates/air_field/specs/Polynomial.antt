@@ -1,6 +1,6 @@
 -- The polynomial of a term: a coefficient for each number.
 use Rattle.std.specs.Prelude.{◌≡◌, ℕ, zero, suc, ◌-◌, ◌<◌, List, get_or}
-use Rattle.air_field.specs.Ring.{CommRing, minus, Over}
+use Rattle.air_field.specs.Ring.{CommRing, minus, AlgebraOver}
 use Rattle.air_field.specs.Term.{Leaf, Term, leaf_term, const_term, ext_const_term, add_term, sub_term, neg_term, mul_term}
 
 -- f 0 + .. + f n
@@ -15,11 +15,11 @@ convolve r f g n = sum_to r (λ i. r.mul (f i) (g (n - i))) n
 -- the coefficients of a constant
 abbrev pub only : {E : Type 0} → CommRing E → E → ℕ → E
 only r c zero = c
-only r c (suc n) = r.nil
+only r c (suc n) = r.zero
 
 -- coefficient n of the term's polynomial, the leaves having the coefficient lists of s, zero past their ends
-abbrev pub polynomial : {F E : Type 0} → Over F E → (Leaf → List E) → Term F → ℕ → E
-polynomial a s (leaf_term l) n = get_or (s l) n a.ring.nil
+abbrev pub polynomial : {F E : Type 0} → AlgebraOver F E → (Leaf → List E) → Term F → ℕ → E
+polynomial a s (leaf_term l) n = get_or (s l) n a.ring.zero
 polynomial a s (const_term c) n = only a.ring (a.embed c) n
 polynomial a s (ext_const_term c) n = only a.ring (a.extend c) n
 polynomial a s (add_term t u) n = a.ring.add (polynomial a s t n) (polynomial a s u n)
@@ -29,7 +29,7 @@ polynomial a s (mul_term t u) n = convolve a.ring (polynomial a s t) (polynomial
 
 -- every coefficient past n is zero
 abbrev pub HasDegreeAtMost : {E : Type 0} → CommRing E → (ℕ → E) → ℕ → Type 0
-HasDegreeAtMost r f n = (k : ℕ) → n < k → f k ≡ r.nil
+HasDegreeAtMost r f n = (k : ℕ) → n < k → f k ≡ r.zero
 
 -- all coefficients are equal
 abbrev pub SamePolynomial : {E : Type 0} → (ℕ → E) → (ℕ → E) → Type 0

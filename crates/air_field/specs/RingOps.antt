@@ -2,11 +2,11 @@
 use Rattle.air_field.specs.Ring.{CommRing}
 
 pub record RingOps (A : Type 0) : Type 0 where
-  pub nil : A
+  pub zero : A
   pub one : A
   pub add : A → A → A
   pub mul : A → A → A
   pub neg : A → A
 
 abbrev pub ops : {A : Type 0} → CommRing A → RingOps A
-ops R = record { nil = R.nil; one = R.one; add = R.add; mul = R.mul; neg = R.neg }
+ops R = record { zero = R.zero; one = R.one; add = R.add; mul = R.mul; neg = R.neg }

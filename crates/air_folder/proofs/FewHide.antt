@@ -10,7 +10,7 @@ use Rattle.std.proofs.lemmas.List.Sums.{length-filter}
 use Rattle.air_field.specs.Domain.{IsDomain}
 use Rattle.air_field.specs.Ring.{CommRing, AllZero}
 use Rattle.air_field.specs.Powers.{power}
-use Rattle.air_field.specs.laws.Ring.{nil_add, one_mul, ring_rules}
+use Rattle.air_field.specs.laws.Ring.{zero_add, one_mul, ring_rules}
 use Rattle.air_field.specs.laws.RingSolver.{var, plus, times, ring}
 use Rattle.air_recording.specs.Folds.{sum_by_powers}
 use Rattle.air_folder.specs.laws.Fold.{sum_by_powers-first}
@@ -35,12 +35,12 @@ module _ {A : Type 0} (r : CommRing A) where
       refl
 
   value-append : (cs ds : List A) (x : A) → poly_value r (cs ++ ds) x ≡ r.add (poly_value r cs x) (r.mul (power r x (length cs)) (poly_value r ds x))
-  value-append [] ds x = sym (nil_add r (r.mul r.one (poly_value r ds x)) ∙ one_mul r (poly_value r ds x))
+  value-append [] ds x = sym (zero_add r (r.mul r.one (poly_value r ds x)) ∙ one_mul r (poly_value r ds x))
   value-append (c ∷ cs) ds x =
       ap (λ y. r.add c (r.mul x y)) (value-append cs ds x)
       ∙ append_step c x (poly_value r cs x) (power r x (length cs)) (poly_value r ds x)
 
-  last_step : (w p v x : A) → r.add (r.mul p v) w ≡ r.add w (r.mul p (r.add v (r.mul x r.nil)))
+  last_step : (w p v x : A) → r.add (r.mul p v) w ≡ r.add w (r.mul p (r.add v (r.mul x r.zero)))
   last_step w p v x = simp ring_rules
 
   sum_by_powers-backwards : (vs : List A) (x : A) → sum_by_powers r x vs ≡ poly_value r (backwards vs) x
@@ -48,17 +48,17 @@ module _ {A : Type 0} (r : CommRing A) where
   sum_by_powers-backwards (v ∷ vs) x =
       sum_by_powers-first r x v vs
       ∙ (last_step (sum_by_powers r x vs) (power r x (length vs)) v x
-      ∙ (ap₂ (λ w n. r.add w (r.mul (power r x n) (r.add v (r.mul x r.nil)))) (sum_by_powers-backwards vs x) (sym (backwards-length vs))
+      ∙ (ap₂ (λ w n. r.add w (r.mul (power r x n) (r.add v (r.mul x r.zero)))) (sum_by_powers-backwards vs x) (sym (backwards-length vs))
       ∙ sym (value-append (backwards vs) (v ∷ []) x)))
 
-  all_zero-append : (cs : List A) (v : A) → AllZero r (cs ++ v ∷ []) → AllZero r cs × (v ≡ r.nil)
+  all_zero-append : (cs : List A) (v : A) → AllZero r (cs ++ v ∷ []) → AllZero r cs × (v ≡ r.zero)
   all_zero-append [] v h = (tt, h.0)
-  all_zero-append (c ∷ cs) v h = let rest : AllZero r cs × (v ≡ r.nil) = all_zero-append cs v h.1 in ((h.0, rest.0), rest.1)
+  all_zero-append (c ∷ cs) v h = let rest : AllZero r cs × (v ≡ r.zero) = all_zero-append cs v h.1 in ((h.0, rest.0), rest.1)
 
   all_zero-backwards : (vs : List A) → AllZero r (backwards vs) → AllZero r vs
   all_zero-backwards [] h = tt
   all_zero-backwards (v ∷ vs) h =
-      let rest : AllZero r (backwards vs) × (v ≡ r.nil) = all_zero-append (backwards vs) v h in (rest.1, all_zero-backwards vs rest.0)
+      let rest : AllZero r (backwards vs) × (v ≡ r.zero) = all_zero-append (backwards vs) v h in (rest.1, all_zero-backwards vs rest.0)
 
 -- what is kept of distinct elements is distinct
 kept-differs : {A : Type 0} (p : A → Bool) (y : A) (xs : List A) → DiffersFromAll y xs → DiffersFromAll y (filter p xs)
@@ -74,16 +74,16 @@ kept-distinct p (x ∷ xs) h =
     [ true ↦ (kept-differs p x xs h.0, kept-distinct p xs h.1) | false ↦ kept-distinct p xs h.1 ]
 
 module _ {A : Type 0} (r : CommRing A) where
-  kept-roots-step : (cs : List A) (p : A → Bool) (x : A) (xs : List A) (b : Bool) → (b ≡ true → poly_value r cs x ≡ r.nil) → AllRoots r cs (filter p xs) → AllRoots r cs (cond b (x ∷ filter p xs) (filter p xs))
+  kept-roots-step : (cs : List A) (p : A → Bool) (x : A) (xs : List A) (b : Bool) → (b ≡ true → poly_value r cs x ≡ r.zero) → AllRoots r cs (filter p xs) → AllRoots r cs (cond b (x ∷ filter p xs) (filter p xs))
   kept-roots-step cs p x xs true told rest = (told refl, rest)
   kept-roots-step cs p x xs false told rest = rest
 
-  kept-roots : (cs : List A) (p : A → Bool) → ((x : A) → p x ≡ true → poly_value r cs x ≡ r.nil) → (xs : List A) → AllRoots r cs (filter p xs)
+  kept-roots : (cs : List A) (p : A → Bool) → ((x : A) → p x ≡ true → poly_value r cs x ≡ r.zero) → (xs : List A) → AllRoots r cs (filter p xs)
   kept-roots cs p told [] = tt
   kept-roots cs p told (x ∷ xs) = kept-roots-step cs p x xs (p x) (told x) (kept-roots cs p told xs)
 
   -- fewer elements than values fold the values to zero, where not all values are
-  pub few_hide : IsDomain r → (p : A → Bool) (vs alphas : List A) → ((x : A) → p x ≡ true → sum_by_powers r x vs ≡ r.nil) → Distinct alphas → (AllZero r vs → ⊥) → count_by p alphas < length vs
+  pub few_hide : IsDomain r → (p : A → Bool) (vs alphas : List A) → ((x : A) → p x ≡ true → sum_by_powers r x vs ≡ r.zero) → Distinct alphas → (AllZero r vs → ⊥) → count_by p alphas < length vs
   few_hide domain p vs alphas told distinct some =
       elim (cases_lt (count_by p alphas) (length vs)) [
         | inl less ↦ less

@@ -2,7 +2,7 @@
 use Rattle.std.proofs.Common.{◌≡◌, ℕ, suc, ◌+◌, List, [], ◌∷◌, map, length, get_or, refl, sym, ap, ap₂, ◌∙◌, arith}
 use Rattle.std.specs.Prelude.{Result, Ok, Err, OnErr}
 use Rattle.std.proofs.lemmas.List.{length-map}
-use Rattle.air_field.specs.Ring.{CommRing, Over}
+use Rattle.air_field.specs.Ring.{CommRing, AlgebraOver}
 use Rattle.air_field.specs.Extension.{Basis}
 use Rattle.air_field.specs.Term.{Leaf, Term}
 use Rattle.air_field.specs.Value.{value}
@@ -21,7 +21,7 @@ use Rattle.air_folder.specs.Folding.{IsFolded, GrewByBeginningOf}
 use Rattle.air_folder.specs.declared.folder.builder.ConstraintFolder.{ConstraintFolder}
 use Rattle.air_folder.specs.declared.folding.Folded.{Folded}
 
-module _ {F E : Type 0} (a : Over F E) (s : Leaf → E) (z : E) where
+module _ {F E : Type 0} (a : AlgebraOver F E) (s : Leaf → E) (z : E) where
   -- at the places of the base kind are the values of the base terms' records, in order
   base_at : (at : ℕ → E) (n : ℕ) (ts : List (Assertion F)) (us : List (Term F)) → EachRecords a us (base_terms ts) → ((k : ℕ) → at (n + k) ≡ get_or (values_in a s ts) k z) → map at (places_from is_base n (map kind_of ts)) ≡ map (value a s) us
   base_at at n [] [] l h = refl
@@ -41,11 +41,11 @@ module _ {F E : Type 0} (a : Over F E) (s : Leaf → E) (z : E) where
       ap₂ (λ x xs. x ∷ xs) (ap at (omega arith) ∙ (h 0 ∙ sym (l.0.same_value s))) (ext_at at (n + 1) ts us l.1 (λ k. ap at (omega arith) ∙ h (suc k)))
 
 -- what was folded on zero is Horner's fold
-pub fold_from_zero : {E : Type 0} (r : CommRing E) (alpha : E) (values : List E) (before : E) → before ≡ r.nil → (after answer : E) → after ≡ folded_on r alpha before values → answer ≡ after → answer ≡ sum_by_powers r alpha values
+pub fold_from_zero : {E : Type 0} (r : CommRing E) (alpha : E) (values : List E) (before : E) → before ≡ r.zero → (after answer : E) → after ≡ folded_on r alpha before values → answer ≡ after → answer ≡ sum_by_powers r alpha values
 fold_from_zero r alpha values before from_zero after answer folded same =
     same ∙ (folded ∙ (ap (λ x. folded_on r alpha x values) from_zero ∙ folded_on-nil r alpha values))
 
-module _ {F E : Type 0} (r : CommRing F) (a : Over F E) (basis : Basis F E) (d : FolderRow E) (ts : List (Assertion F)) where
+module _ {F E : Type 0} (r : CommRing F) (a : AlgebraOver F E) (basis : Basis F E) (d : FolderRow E) (ts : List (Assertion F)) where
   -- where the accumulator is the fold of the declared terms' values
   pub folded_air : (f : Folded F E) → RecordsBase r a base_reads f.recorded.pool.0 f.recorded.base.items ts → RecordsExt r a (ext_reads basis) f.recorded.pool f.recorded.ext.items ts
       → ArePlacesOf (map kind_of ts) f.layout.base_indices.items f.layout.ext_indices.items → f.accumulator ≡ sum_by_powers a.ring d.alpha (values_in a (folder_leaves a d) ts) → IsFolded r a basis d ts f
@@ -67,18 +67,18 @@ module _ {F E : Type 0} (r : CommRing F) (a : Over F E) (basis : Basis F E) (d :
       values = values_in a (folder_leaves a d) ts
 
       at : ℕ → E
-      at i = get_or values i a.ring.nil
+      at i = get_or values i a.ring.zero
 
       many : length values ≡ length ts
       many = length-map ts _
 
       base_is : map at f.layout.base_indices.items ≡ map (value a (folder_leaves a d)) (terms_of base_reads f.recorded.pool.0 f.recorded.base.items)
-      base_is = ap (map at) places.base ∙ base_at a (folder_leaves a d) a.ring.nil at 0 ts _ base.in_extension (λ k. ap at (omega arith))
+      base_is = ap (map at) places.base ∙ base_at a (folder_leaves a d) a.ring.zero at 0 ts _ base.in_extension (λ k. ap at (omega arith))
 
       ext_is : map at f.layout.ext_indices.items ≡ map (value a (folder_leaves a d)) (terms_of (ext_reads basis) f.recorded.pool f.recorded.ext.items)
-      ext_is = ap (map at) places.extension ∙ ext_at a (folder_leaves a d) a.ring.nil at 0 ts _ ext.terms (λ k. ap at (omega arith))
+      ext_is = ap (map at) places.extension ∙ ext_at a (folder_leaves a d) a.ring.zero at 0 ts _ ext.terms (λ k. ap at (omega arith))
 
 -- a folder beside which the recording was refused grew by none
-pub refused_before : {F E T X : Type 0} (a : Over F E) (b : ConstraintFolder F E) (ts : List (Assertion F)) (result : Result T X) → OnErr result (GrewByBeginningOf a b b ts)
+pub refused_before : {F E T X : Type 0} (a : AlgebraOver F E) (b : ConstraintFolder F E) (ts : List (Assertion F)) (result : Result T X) → OnErr result (GrewByBeginningOf a b b ts)
 refused_before a b ts (Ok v) = tt
 refused_before a b ts (Err e) = record { count = 0; within = omega arith; beginning = unchanged a (folder_row b) (folder_row b) b.accumulator b.accumulator refl refl }

@@ -1,6 +1,6 @@
 -- What a folder holds of a row, and how it grows.
 use Rattle.std.specs.Prelude.{◌≡◌, ◌≢◌, ⊤, ℕ, Bool, List, map}
-use Rattle.air_field.specs.Ring.{Over, itself}
+use Rattle.air_field.specs.Ring.{AlgebraOver, itself}
 use Rattle.air_field.specs.Extension.{Basis}
 use Rattle.air_field.specs.Term.{Leaf, permutation, Term, ext_const_term}
 use Rattle.air_field.specs.Value.{value}
@@ -9,7 +9,7 @@ use Rattle.air_field.specs.ExtAlgebra.{ExtAlgebraLaws}
 use Rattle.air_field.specs.Assignment.{RowValues, IsMissing}
 use Rattle.air_field.specs.OneRow.{PermutationData, one_row_shape, one_row_value}
 use Rattle.air_builder.specs.Assertion.{Assertion, Base, Extension}
-use Rattle.air_builder.specs.Builders.{RowStands}
+use Rattle.air_builder.specs.Builders.{RowReadsAs}
 use Rattle.air_builder.specs.Refusals.{RowEnds}
 use Rattle.air_builder.specs.Refused.{Refused}
 use Rattle.air_core.specs.declared.errors.AirError.{AirError}
@@ -17,11 +17,11 @@ use Rattle.air_core.specs.declared.errors.AirError.TheVariants.{Memory}
 use Rattle.air_folder.specs.Fold.{folded_on}
 
 -- an element means a term without leaves that has it as its value
-abbrev pub HasValue : {F E : Type 0} → Over F E → E → Term F → Type 0
+abbrev pub HasValue : {F E : Type 0} → AlgebraOver F E → E → Term F → Type 0
 HasValue a x t = closed_value_in a t ≡ x
 
 -- A ring of an extension's elements takes these as base elements too: in the base they mean what they mean in the ring.
-pub values_are_their_base : {R F E : Type 0} (a : Over F E) (basis : Basis F E)
+pub values_are_their_base : {R F E : Type 0} (a : AlgebraOver F E) (basis : Basis F E)
     → ((x : E) → a.extend (basis.coefficients x) ≡ x)
     → ExtAlgebraLaws {R = R} {B = E} {F = F} (λ _. ⊤) (λ _ _. ⊤) (λ _ x t. HasValue a x t) (λ _ _. ⊤)
 values_are_their_base a basis extended = record {
@@ -41,12 +41,12 @@ pub record FolderRow (E : Type 0) : Type 0 where
   pub alpha : E
 
 -- the assignment of the row; a missing entry reads as zero
-abbrev pub folder_leaves : {F E : Type 0} → Over F E → FolderRow E → Leaf → E
-folder_leaves a d l = one_row_value a.ring.nil (itself a.ring) d.values d.others l
+abbrev pub folder_leaves : {F E : Type 0} → AlgebraOver F E → FolderRow E → Leaf → E
+folder_leaves a d l = one_row_value a.ring.zero (itself a.ring) d.values d.others l
 
 -- what stands at a leaf, as a constant of the extension
-abbrev pub folder_stands : {F E : Type 0} → Over F E → Basis F E → FolderRow E → Leaf → Term F
-folder_stands a basis d l = ext_const_term (basis.coefficients (folder_leaves a d l))
+abbrev pub folder_reads_as : {F E : Type 0} → AlgebraOver F E → Basis F E → FolderRow E → Leaf → Term F
+folder_reads_as a basis d l = ext_const_term (basis.coefficients (folder_leaves a d l))
 
 -- what the row has not
 abbrev pub FolderMissing : {E : Type 0} → FolderRow E → Leaf → Type 0
@@ -54,23 +54,23 @@ FolderMissing d l = IsMissing (one_row_shape d.values d.others) l
 
 -- the element at each place of a row of the permutation trace stands at its leaf, and past the row's end its leaves are
 -- missing
-abbrev pub PermutationStands : {F E : Type 0} → Over F E → Basis F E → FolderRow E → ℕ → List E → Type 0
-PermutationStands a basis d o row = RowStands (HasValue a) (λ i. folder_stands a basis d (permutation o i)) row
+abbrev pub PermutationReadsAs : {F E : Type 0} → AlgebraOver F E → Basis F E → FolderRow E → ℕ → List E → Type 0
+PermutationReadsAs a basis d o row = RowReadsAs (HasValue a) (λ i. folder_reads_as a basis d (permutation o i)) row
 
 abbrev pub PermutationEnds : {E : Type 0} → FolderRow E → ℕ → List E → Type 0
 PermutationEnds d o row = RowEnds (FolderMissing d) (λ i. permutation o i) row
 
 -- the value of an assertion's term, base constants being embedded
-abbrev pub value_in : {F E : Type 0} → Over F E → (Leaf → E) → Assertion F → E
+abbrev pub value_in : {F E : Type 0} → AlgebraOver F E → (Leaf → E) → Assertion F → E
 value_in a s (Base t) = value a s t
 value_in a s (Extension t) = value a s t
 
 -- the values of the assertions, in order
-abbrev pub values_in : {F E : Type 0} → Over F E → (Leaf → E) → List (Assertion F) → List E
+abbrev pub values_in : {F E : Type 0} → AlgebraOver F E → (Leaf → E) → List (Assertion F) → List E
 values_in a s ts = map (value_in a s) ts
 
 -- The accumulator y is that before, x, times alpha^k, plus Horner's fold of the values of the k assertions at the row.
-pub record GrewFolder {F E : Type 0} (a : Over F E) (d e : FolderRow E) (x y : E) (ts : List (Assertion F)) : Type 0 where
+pub record GrewFolder {F E : Type 0} (a : AlgebraOver F E) (d e : FolderRow E) (x y : E) (ts : List (Assertion F)) : Type 0 where
   pub same_row : e ≡ d
   pub folded : y ≡ folded_on a.ring d.alpha x (values_in a (folder_leaves a d) ts)
 

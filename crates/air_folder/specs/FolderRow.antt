@@ -1,6 +1,6 @@
 -- The row that a folder stands at, and its growth.
 use Rattle.std.specs.Prelude.{◌≡◌, List, is_some}
-use Rattle.air_field.specs.Ring.{Over}
+use Rattle.air_field.specs.Ring.{AlgebraOver}
 use Rattle.air_builder.specs.Assertion.{Assertion}
 use Rattle.air_builder.specs.PermutationRows.{permutation_data}
 use Rattle.air_folder.specs.Folder.{FolderRow, GrewFolder}
@@ -25,9 +25,9 @@ folder_row b = record {
 }
 
 -- the accumulator is that before times alpha, plus one value
-abbrev pub StepsBy : {F E : Type 0} → Over F E → E → ConstraintFolder F E → ConstraintFolder F E → Type 0
+abbrev pub StepsBy : {F E : Type 0} → AlgebraOver F E → E → ConstraintFolder F E → ConstraintFolder F E → Type 0
 StepsBy a value b c = c.accumulator ≡ a.ring.add (a.ring.mul b.accumulator b.alpha) value
 
 -- the folder grew by the list
-abbrev pub FolderGrew : {F E : Type 0} → Over F E → ConstraintFolder F E → ConstraintFolder F E → List (Assertion F) → Type 0
+abbrev pub FolderGrew : {F E : Type 0} → AlgebraOver F E → ConstraintFolder F E → ConstraintFolder F E → List (Assertion F) → Type 0
 FolderGrew a b c ts = GrewFolder a (folder_row b) (folder_row c) b.accumulator c.accumulator ts

@@ -1,6 +1,6 @@
 -- What the fold of an AIR beside its recording answers and refuses.
 use Rattle.std.specs.Prelude.{◌≡◌, ◌⊎◌, ◌≤◌, ℕ, List, length, map, take}
-use Rattle.air_field.specs.Ring.{CommRing, Over}
+use Rattle.air_field.specs.Ring.{CommRing, AlgebraOver}
 use Rattle.air_field.specs.Extension.{Basis}
 use Rattle.air_field.specs.Term.{Leaf}
 use Rattle.air_field.specs.Value.{value}
@@ -22,18 +22,18 @@ use Rattle.air_folder.specs.declared.folder.builder.ConstraintFolder.{Constraint
 use Rattle.air_folder.specs.declared.folding.Folded.{Folded}
 
 -- the values of the recorded base constraints at the leaves, in order
-abbrev pub base_values : {F E : Type 0} → Over F E → (Leaf → E) → Recorded F E → List E
+abbrev pub base_values : {F E : Type 0} → AlgebraOver F E → (Leaf → E) → Recorded F E → List E
 base_values a s recorded = map (value a s) (terms_of base_reads recorded.pool.0 recorded.base.items)
 
 -- and those of the recorded extension constraints
-abbrev pub ext_values : {F E : Type 0} → Over F E → Basis F E → (Leaf → E) → Recorded F E → List E
+abbrev pub ext_values : {F E : Type 0} → AlgebraOver F E → Basis F E → (Leaf → E) → Recorded F E → List E
 ext_values a basis s recorded = map (value a s) (terms_of (ext_reads basis) recorded.pool recorded.ext.items)
 
 -- The recording records the declared terms, and the layout has the places of each kind. The values of the declared terms
 -- at the folder's leaves are at the base places those of the recorded base constraints, and at the extension places those
 -- of the recorded extension constraints. The accumulator is Horner's fold of these values by the folder's alpha; and it
 -- is their recombination from all coordinates and whole powers that recombine what stands at these places.
-pub record IsFolded {F E : Type 0} (r : CommRing F) (a : Over F E) (basis : Basis F E) (d : FolderRow E) (declared : List (Assertion F)) (f : Folded F E) : Type 0 where
+pub record IsFolded {F E : Type 0} (r : CommRing F) (a : AlgebraOver F E) (basis : Basis F E) (d : FolderRow E) (declared : List (Assertion F)) (f : Folded F E) : Type 0 where
   pub base : RecordsBase r a base_reads f.recorded.pool.0 f.recorded.base.items declared
   pub ext : RecordsExt r a (ext_reads basis) f.recorded.pool f.recorded.ext.items declared
   pub places : ArePlacesOf (map kind_of declared) f.layout.base_indices.items f.layout.ext_indices.items
@@ -46,14 +46,14 @@ pub record IsFolded {F E : Type 0} (r : CommRing F) (a : Over F E) (basis : Basi
       → recombination r a coordinates powers (base_values a (folder_leaves a d) f.recorded) (ext_values a basis (folder_leaves a d) f.recorded) ≡ f.accumulator
 
 -- the folder grew by the first ones of the list, perhaps by none
-pub record GrewByBeginningOf {F E : Type 0} (a : Over F E) (b c : ConstraintFolder F E) (ts : List (Assertion F)) : Type 0 where
+pub record GrewByBeginningOf {F E : Type 0} (a : AlgebraOver F E) (b c : ConstraintFolder F E) (ts : List (Assertion F)) : Type 0 where
   pub count : ℕ
   pub within : count ≤ length ts
   pub beginning : FolderGrew a b c (take count ts)
 
 -- It refuses what the recording refuses; and where that answers, want of memory to the AIR itself,
 -- or an entry that the folder hasn't.
-abbrev pub FoldingRefuses : {F E : Type 0} → CommRing F → Over F E → AirLayout → Declaration F
+abbrev pub FoldingRefuses : {F E : Type 0} → CommRing F → AlgebraOver F E → AirLayout → Declaration F
     → FolderRow E → AirError → Type 0
 FoldingRefuses r a layout d row e =
     RecordRefuses layout d e

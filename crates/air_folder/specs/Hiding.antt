@@ -7,7 +7,7 @@ use Rattle.air_recording.specs.Folds.{sum_by_powers}
 
 -- whether Horner's fold of the values by alpha is zero
 abbrev pub folds_to_zero : {A : Type 0} → CommRing A → (A → A → Bool) → List A → A → Bool
-folds_to_zero r eq values alpha = eq (sum_by_powers r alpha values) r.nil
+folds_to_zero r eq values alpha = eq (sum_by_powers r alpha values) r.zero
 
 abbrev pub IsBelowAll : {A : Type 0} → (A → A → Ordering) → A → List A → Type 0
 IsBelowAll cmp x [] = Unit {0}

@@ -45,7 +45,7 @@ pub fn fold_air<
     layout: AirLayout,
     folder: &mut ConstraintFolder<'a, F, EF>,
 ) -> Result<Folded<F, EF>, AirError>
-    requires from_zero { folder.old.accumulator ≡ EF.over.ring.nil }
+    requires from_zero { folder.old.accumulator ≡ EF.over.ring.zero }
     ensures folded { IfOk result (IsFolded F.ring EF.over EF.basis
         (folder_row folder.old) (A.declaration air.now).declared) }
     ensures accumulator { IfOk result (λ f. folder.new.accumulator ≡ f.accumulator) }

@@ -16,7 +16,7 @@ abbrev pub Then : {F : Type 0} → (List (Assertion F) → Type 0) → (List (As
 Then {F = F} is more ss = (xs : List (Assertion F)) × (ys : List (Assertion F)) × is xs × more ys × (ss ≡ xs ++ ys)
 
 module _ {S R E F : Type 0} {view : BuilderView S R E F} (laws : BuilderLaws view) where
-  open view use {stands, kept, grew, refuses}
+  open view use {reads_as, kept, grew, refuses}
 
   -- what is said of some lists, of any that are among them
   pub list_of : {is was : List (Assertion F) → Type 0} {a b : S} (result : Result (Unit {0}) AirError)
@@ -92,14 +92,14 @@ module _ {S R E F : Type 0} {view : BuilderView S R E F} (laws : BuilderLaws vie
 
   -- what is asserted over what stands at the leaves
   module _ {I : Type 0} (over : (Leaf → Term F) → I → Assertion F → Type 0) where
-    pub over_kept : (a b : S) → kept a b → (x : I) (s : Assertion F) → over (stands a) x s → over (stands b) x s
+    pub over_kept : (a b : S) → kept a b → (x : I) (s : Assertion F) → over (reads_as a) x s → over (reads_as b) x s
     over_kept a b k x s h = subst (λ l. over l x s) (sym (laws.stands_kept a b k)) h
 
     -- a list was asserted, and then each element
     pub list_then_each : {is : List (Assertion F) → Type 0} {a b d : S} {xs : List I} {u : Unit {0}}
         (result : Result (Unit {0}) AirError) → AssertedList is kept grew refuses a b (Ok u)
-        → AssertedEach (λ c. over (stands c)) kept grew refuses b d xs result
-        → AssertedList (Then is (AllZip (over (stands a)) xs)) kept grew refuses a d result
+        → AssertedEach (λ c. over (reads_as c)) kept grew refuses b d xs result
+        → AssertedList (Then is (AllZip (over (reads_as a)) xs)) kept grew refuses a d result
     list_then_each {is = is} {a = a} {b = b} {d = d} {xs = xs} result h k =
         subst (λ l. AssertedList (Then is (AllZip (over l) xs)) kept grew refuses a d result) (laws.stands_kept a b h.keeps)
         (list_then result h (list_of_each result k))

@@ -38,7 +38,7 @@ pub half_made : {V F : Type 0} (C : CommRing F) (means : V → Term F → Type 0
     → (x : Assertion F) → HalfOf C (VariableMeans means (λ l. l)) s p x → MadeOne (λ t. t) s P x
 half_made C means s P p m x h = (
   half_term C h.0 h.1 h.2,
-  subst (λ w. P (sub_term (with_leaves s h.0) w)) (leaves-packed_xors s C.nil h.1 h.2)
+  subst (λ w. P (sub_term (with_leaves s h.0) w)) (leaves-packed_xors s C.zero h.1 h.2)
       (m (with_leaves s h.0) (map (with_leaves s) h.1) (map (with_leaves s) h.2) h.3
       (zip_mapped means (with_leaves s) p.1 h.1 h.4) (zip_mapped means (with_leaves s) p.2 h.2 h.5)),
   h.6,
@@ -62,7 +62,7 @@ module _ {S V F : Type 0} (C : CommRing F) (one : F) (is : one ≡ C.one) (means
   xors_are limbs b c shift d e ss w =
       let turned = rotated_left shift w.2 in
       let rotated = zip_rotated (means a) shift c w.2 w.5 in
-      let half : Term F → List (Term F) → Assertion F = λ t bits. Base (sub_term t (packed_term C.nil bits)) in
+      let half : Term F → List (Term F) → Assertion F = λ t bits. Base (sub_term t (packed_term C.zero bits)) in
       let low = half w.0.low (take 16 (xor_terms w.1 turned)) in
       let high = half w.0.high (drop 16 (xor_terms w.1 turned)) in (
         test_asserts C w.2 ++ (low ∷ []),

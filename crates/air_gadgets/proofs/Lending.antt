@@ -46,17 +46,17 @@ some_refused refuses s e (t ∷ ts) h = omega arith
 -- a part that is refused
 refused_part : {S R E F : Type 0} {view : BuilderView S R E F} (laws : BuilderLaws view) (a : S) (e : RingError) (all ts : List (Term F))
     → ((t : Term F) → PartOf t (map Base ts) → PartOf t (map Base all))
-    → RefusesOne view.ring_refuses e (map (with_leaves (view.stands a)) ts) → view.refuses a (air_error e) (map Base all)
+    → RefusesOne view.ring_refuses e (map (with_leaves (view.reads_as a)) ts) → view.refuses a (air_error e) (map Base all)
 refused_part laws a e all [] part h = absurd h
 refused_part laws a e all (t ∷ ts) part (inl h) = laws.refuses_in_ring a e t (map Base all) h (part t (inl whole))
 refused_part laws a e all (t ∷ ts) part (inr h) = refused_part laws a e all ts (λ u q. part u (inr q)) h
 
 module _ {S R E F : Type 0} {view : BuilderView S R E F} (ring : RingLaws view) (laws : BuilderLaws view)
     {a : S} {q r : R} (p : q ≡ view.ring_of a) (e : view.extends q r) where
-  open view use {means, ring_refuses, ring_of, with_ring, stands, kept, grew, refuses}
+  open view use {means, ring_refuses, ring_of, with_ring, reads_as, kept, grew, refuses}
 
   -- what the elements assert
-  lent_asserts : (xs : List E) (ts : List (Term F)) → AllZip (means r) xs (map (with_leaves (stands a)) ts)
+  lent_asserts : (xs : List E) (ts : List (Term F)) → AllZip (means r) xs (map (with_leaves (reads_as a)) ts)
       → AllZip (AssertsOf Base (MeansIn view) (λ t. t) (with_ring a r)) xs (map Base ts)
   lent_asserts [] [] h = tt
   lent_asserts [] (t ∷ ts) h = absurd h
@@ -65,7 +65,7 @@ module _ {S R E F : Type 0} {view : BuilderView S R E F} (ring : RingLaws view) 
 
   -- the lent ring made elements, and then each was asserted to be zero
   pub made_asserted : {is : List (Assertion F) → Type 0} {b : S} {xs : List E} (result : Result (Unit {0}) AirError)
-      → ((ss : List (Assertion F)) → is ss → Made (stands a) (AllZip (means r) xs) ss)
+      → ((ss : List (Assertion F)) → is ss → Made (reads_as a) (AllZip (means r) xs) ss)
       → AssertedEach (AssertsOf Base (MeansIn view) (λ t. t)) kept grew refuses (with_ring a r) b xs result
       → AssertedList is kept grew refuses a b result
   made_asserted {xs = xs} result made h =
@@ -75,7 +75,7 @@ module _ {S R E F : Type 0} {view : BuilderView S R E F} (ring : RingLaws view) 
       (list_of_each laws result h))
 
   making_list_refused : {is : List (Assertion F) → Type 0} (f : RingError)
-      → ((ss : List (Assertion F)) → is ss → Made (stands a) (RefusesOne ring_refuses f) ss)
+      → ((ss : List (Assertion F)) → is ss → Made (reads_as a) (RefusesOne ring_refuses f) ss)
       → AssertedList is kept grew refuses a (with_ring a r) (Err (air_error f))
   making_list_refused f made =
       let none = lent laws a q r p e in record {
@@ -84,7 +84,7 @@ module _ {S R E F : Type 0} {view : BuilderView S R E F} (ring : RingLaws view) 
         err = λ ss i.
             let m = made ss i in record {
               count = 0;
-              within = subst (λ v. 0 < length v) (sym m.2) (some_refused ring_refuses (stands a) f m.0 m.1);
+              within = subst (λ v. 0 < length v) (sym m.2) (some_refused ring_refuses (reads_as a) f m.0 m.1);
               beginning = none;
             };
         refused = λ ss i.
@@ -94,7 +94,7 @@ module _ {S R E F : Type 0} {view : BuilderView S R E F} (ring : RingLaws view) 
 
   -- a `?` gives up where the lent ring refused to make one
   pub list_gives_up : {is : List (Assertion F) → Type 0} {f : RingError} {result : Result (Unit {0}) AirError}
-      → IsErrAnd result (λ y. y ≡ air_error f) → ((ss : List (Assertion F)) → is ss → Made (stands a) (RefusesOne ring_refuses f) ss)
+      → IsErrAnd result (λ y. y ≡ air_error f) → ((ss : List (Assertion F)) → is ss → Made (reads_as a) (RefusesOne ring_refuses f) ss)
       → AssertedList is kept grew refuses a (with_ring a r) result
   list_gives_up {f = f} {result = result} given made =
       let i = err_from_is_err_and result given in
@@ -103,7 +103,7 @@ module _ {S R E F : Type 0} {view : BuilderView S R E F} (ring : RingLaws view) 
   module _ {I : Type 0} {asserts : S → I → Assertion F → Type 0} {x : I} (op : Term F → Term F) where
     -- the lent ring made an element, and then that was asserted
     pub one_asserted : {b : S} {z : E} (result : Result (Unit {0}) AirError)
-        → ((s : Assertion F) → asserts a x s → MadeOne op (stands a) (means r z) s)
+        → ((s : Assertion F) → asserts a x s → MadeOne op (reads_as a) (means r z) s)
         → AssertedEach (AssertsOf Base (MeansIn view) op) kept grew refuses (with_ring a r) b (z ∷ []) result
         → AssertedEach asserts kept grew refuses a b (x ∷ []) result
     one_asserted {z = z} result made h =
@@ -111,7 +111,7 @@ module _ {S R E F : Type 0} {view : BuilderView S R E F} (ring : RingLaws view) 
 
     -- a `?` gives up where the lent ring refused to make it
     pub one_gives_up : {f : RingError} {result : Result (Unit {0}) AirError} → IsErrAnd result (λ y. y ≡ air_error f)
-        → ((t : Term F) → PartOf t (Base (op t) ∷ [])) → ((s : Assertion F) → asserts a x s → MadeOne op (stands a) (ring_refuses f) s)
+        → ((t : Term F) → PartOf t (Base (op t) ∷ [])) → ((s : Assertion F) → asserts a x s → MadeOne op (reads_as a) (ring_refuses f) s)
         → AssertedEach asserts kept grew refuses a (with_ring a r) (x ∷ []) result
     one_gives_up {f = f} {result = result} given inside made =
         let i = err_from_is_err_and result given in
@@ -122,35 +122,35 @@ module _ {S R E F : Type 0} {view : BuilderView S R E F} (ring : RingLaws view) 
         subst (λ v. refuses a (air_error f) (v ∷ [])) (sym m.2) (laws.refuses_in_ring a f m.0 (Base (op m.0) ∷ []) m.1 (inside m.0))))
 
   limbs_in : (xs : List E) (t : Limbs (Term F)) → LimbsMean (MeansIn view a) xs t
-      → LimbsMean (means q) xs (leaves_of (stands a) t)
+      → LimbsMean (means q) xs (leaves_of (reads_as a) t)
   limbs_in xs t h =
-      subst (λ s. LimbsMean (means s) xs (leaves_of (stands a) t)) (sym p)
-      (zip_mapped (means (ring_of a)) (with_leaves (stands a)) xs (t.low ∷ t.high ∷ []) h)
+      subst (λ s. LimbsMean (means s) xs (leaves_of (reads_as a) t)) (sym p)
+      (zip_mapped (means (ring_of a)) (with_leaves (reads_as a)) xs (t.low ∷ t.high ∷ []) h)
 
   module _ {V : Type 0} (vm : V → Term F → Type 0) where
-    limbs_of : (xs : List V) (t : Limbs (Term F)) → LimbsMean (VariableMeans vm stands a) xs t
-        → LimbsMean vm xs (leaves_of (stands a) t)
-    limbs_of xs t h = zip_mapped vm (with_leaves (stands a)) xs (t.low ∷ t.high ∷ []) h
+    limbs_of : (xs : List V) (t : Limbs (Term F)) → LimbsMean (VariableMeans vm reads_as a) xs t
+        → LimbsMean vm xs (leaves_of (reads_as a) t)
+    limbs_of xs t h = zip_mapped vm (with_leaves (reads_as a)) xs (t.low ∷ t.high ∷ []) h
 
     -- what is said of the terms of a sum of two in the lent ring, of three
     pub sum_made : (C : CommRing F) (P : List (Term F) → Type 0) (xs ys : List V) (zs : List E)
         → FromThree (add2_terms C) (LimbsMean vm xs) (LimbsMean vm ys) (LimbsMean (means q) zs) P
-        → (ss : List (Assertion F)) → Adds2 C (VariableMeans vm stands a) (MeansIn view a) xs ys zs ss
-        → Made (stands a) P ss
+        → (ss : List (Assertion F)) → Adds2 C (VariableMeans vm reads_as a) (MeansIn view a) xs ys zs ss
+        → Made (reads_as a) P ss
     sum_made C P xs ys zs h ss w = (
       add2_terms C w.0 w.1 w.2,
-      h (leaves_of (stands a) w.0) (leaves_of (stands a) w.1) (leaves_of (stands a) w.2)
+      h (leaves_of (reads_as a) w.0) (leaves_of (reads_as a) w.1) (leaves_of (reads_as a) w.2)
           (limbs_of xs w.0 w.3) (limbs_of ys w.1 w.4) (limbs_in zs w.2 w.5),
       w.6,
     )
 
     pub sum_of_three_made : (C : CommRing F) (P : List (Term F) → Type 0) (xs ys : List V) (zs vs : List E)
         → FromFour (add3_terms C) (LimbsMean vm xs) (LimbsMean vm ys) (LimbsMean (means q) zs) (LimbsMean (means q) vs) P
-        → (ss : List (Assertion F)) → Adds3 C (VariableMeans vm stands a) (MeansIn view a) xs ys zs vs ss
-        → Made (stands a) P ss
+        → (ss : List (Assertion F)) → Adds3 C (VariableMeans vm reads_as a) (MeansIn view a) xs ys zs vs ss
+        → Made (reads_as a) P ss
     sum_of_three_made C P xs ys zs vs h ss w = (
       add3_terms C w.0 w.1 w.2 w.3,
-      h (leaves_of (stands a) w.0) (leaves_of (stands a) w.1) (leaves_of (stands a) w.2) (leaves_of (stands a) w.3)
+      h (leaves_of (reads_as a) w.0) (leaves_of (reads_as a) w.1) (leaves_of (reads_as a) w.2) (leaves_of (reads_as a) w.3)
           (limbs_of xs w.0 w.4) (limbs_of ys w.1 w.5) (limbs_in zs w.2 w.6) (limbs_in vs w.3 w.7),
       w.8,
     )

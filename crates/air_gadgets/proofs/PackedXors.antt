@@ -26,7 +26,7 @@ module _ {V F : Type 0} (Q : V → Term F → Type 0) (C : CommRing F) where
 
   -- a lone bit, or the lowest one
   of_lowest : (P : Term F → Type 0) (b : Term F) → P b → ((x : Term F) → P (add_term (double_term x) b))
-      → (xs : List (Term F)) → P (packed_term C.nil (b ∷ xs))
+      → (xs : List (Term F)) → P (packed_term C.zero (b ∷ xs))
   of_lowest P b lone go [] = lone
   of_lowest P b lone go (x ∷ xs) = go (packed_from x xs)
 
@@ -38,7 +38,7 @@ module _ {V F : Type 0} (Q : V → Term F → Type 0) (C : CommRing F) where
   from_lowest [] ws p q same P some bit go = absurd (omega (arith, some))
   from_lowest (v ∷ vs) [] p q same P some bit go = absurd (omega (arith, same))
   from_lowest (v ∷ vs) (w ∷ ws) p q same P some bit go =
-      of_heads (λ xs. P (packed_term C.nil xs)) v w vs ws
+      of_heads (λ xs. P (packed_term C.zero xs)) v w vs ws
       (λ t u ts us i j _ _.
       let b = bit t u (subst (λ x. Q x t) (sym p) i) (subst (λ x. Q x u) (sym q) j) in
       of_lowest P (xor_term t u) b (λ x. go x (xor_term t u) b) (xor_terms ts us))
@@ -54,9 +54,9 @@ module _ {V F : Type 0} (Q : V → Term F → Type 0) (C : CommRing F) where
   from_all (v ∷ x ∷ vs) [] p q same B R P more bit rest go = absurd (omega (arith, same))
   from_all (v ∷ x ∷ vs) (w ∷ []) p q same B R P more bit rest go = absurd (omega (arith, same))
   from_all (v ∷ x ∷ vs) (w ∷ y ∷ ws) p q same B R P more bit rest go =
-      of_heads (λ xs. P (packed_term C.nil xs)) v w (x ∷ vs) (y ∷ ws)
+      of_heads (λ xs. P (packed_term C.zero xs)) v w (x ∷ vs) (y ∷ ws)
       (λ t u ts us i j h k.
-      of_heads (λ xs. P (packed_term C.nil (xor_term t u ∷ xs))) x y vs ws
+      of_heads (λ xs. P (packed_term C.zero (xor_term t u ∷ xs))) x y vs ws
       (λ t' u' ts' us' i' j' h' k'.
       go (packed_xor_term C (t' ∷ ts') (u' ∷ us')) (xor_term t u)
       (rest (t' ∷ ts') (u' ∷ us') (subst (λ l. AllZip Q l (t' ∷ ts')) (sym (rest_is (v ∷ x ∷ vs))) (i', h')) (subst (λ l. AllZip Q l (u' ∷ us')) (sym (rest_is (w ∷ y ∷ ws))) (j', k')))

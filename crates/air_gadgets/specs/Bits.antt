@@ -19,7 +19,7 @@ xored (b ∷ bs) = (b + xored bs) % 2
 
 -- the sum of 2^i x_i in a ring
 abbrev pub packed : {A : Type 0} → CommRing A → List A → A
-packed R [] = R.nil
+packed R [] = R.zero
 packed R (x ∷ xs) = R.add x (R.mul (R.add R.one R.one) (packed R xs))
 
 -- (x + y) - 2xy

@@ -66,7 +66,7 @@ xor_terms (t ∷ ts) (u ∷ us) = xor_term t u ∷ xor_terms ts us
 
 -- the packed xor of two lists of bits, and a limb less that
 abbrev pub packed_xor_term : {F : Type 0} → CommRing F → List (Term F) → List (Term F) → Term F
-packed_xor_term R ts us = packed_term R.nil (xor_terms ts us)
+packed_xor_term R ts us = packed_term R.zero (xor_terms ts us)
 
 abbrev pub half_term : {F : Type 0} → CommRing F → Term F → List (Term F) → List (Term F) → Term F
 half_term R t us vs = sub_term t (packed_xor_term R us vs)
@@ -75,7 +75,7 @@ half_term R t us vs = sub_term t (packed_xor_term R us vs)
 abbrev pub half_terms : {F : Type 0} → CommRing F → Limbs (Term F) → List (Term F) → List (Term F) → ℕ → List (Term F)
 half_terms R a b c shift =
     let bits = xor_terms b (rotated_left shift c) in
-    sub_term a.low (packed_term R.nil (take 16 bits)) ∷ sub_term a.high (packed_term R.nil (drop 16 bits)) ∷ []
+    sub_term a.low (packed_term R.zero (take 16 bits)) ∷ sub_term a.high (packed_term R.zero (drop 16 bits)) ∷ []
 
 -- each is zero or one
 abbrev pub test_asserts : {F : Type 0} → CommRing F → List (Term F) → List (Assertion F)
@@ -116,25 +116,25 @@ LimbsMean means xs t = AllZip means xs (t.low ∷ t.high ∷ [])
 
 -- a variable means a term in a builder: what stands at its leaves
 abbrev pub VariableMeans : {S V F : Type 0} → (V → Term F → Type 0) → (S → Leaf → Term F) → S → V → Term F → Type 0
-VariableMeans means stands b v t = means v (with_leaves (stands b) t)
+VariableMeans means reads_as b v t = means v (with_leaves (reads_as b) t)
 
 -- the list is what `add2` asserts of terms that were handed to it
 abbrev pub Adds2 : {V E F : Type 0} → CommRing F → (V → Term F → Type 0) → (E → Term F → Type 0) → List V → List V → List E → List (Assertion F) → Type 0
-Adds2 {F = F} R stands means a b c ts =
+Adds2 {F = F} R reads_as means a b c ts =
     (t : Limbs (Term F)) × (u : Limbs (Term F)) × (v : Limbs (Term F))
-    × LimbsMean stands a t × LimbsMean stands b u × LimbsMean means c v × (ts ≡ add2_asserts R t u v)
+    × LimbsMean reads_as a t × LimbsMean reads_as b u × LimbsMean means c v × (ts ≡ add2_asserts R t u v)
 
 -- the list is what `add3` asserts of terms that were handed to it
 abbrev pub Adds3 : {V E F : Type 0} → CommRing F → (V → Term F → Type 0) → (E → Term F → Type 0) → List V → List V → List E → List E → List (Assertion F) → Type 0
-Adds3 {F = F} R stands means a b c d ts =
+Adds3 {F = F} R reads_as means a b c d ts =
     (t : Limbs (Term F)) × (u : Limbs (Term F)) × (v : Limbs (Term F)) × (w : Limbs (Term F))
-    × LimbsMean stands a t × LimbsMean stands b u × LimbsMean means c v × LimbsMean means d w × (ts ≡ add3_asserts R t u v w)
+    × LimbsMean reads_as a t × LimbsMean reads_as b u × LimbsMean means c v × LimbsMean means d w × (ts ≡ add3_asserts R t u v w)
 
 -- the list is what `xor_32_shift` asserts of terms that were handed to it
 abbrev pub Xors : {V F : Type 0} → CommRing F → (V → Term F → Type 0) → List V → List V → List V → ℕ → List (Assertion F) → Type 0
-Xors {F = F} R stands a b c shift ts =
+Xors {F = F} R reads_as a b c shift ts =
     (t : Limbs (Term F)) × (u : List (Term F)) × (v : List (Term F))
-    × LimbsMean stands a t × AllZip stands b u × AllZip stands c v × (ts ≡ xor_asserts R t u v shift)
+    × LimbsMean reads_as a t × AllZip reads_as b u × AllZip reads_as c v × (ts ≡ xor_asserts R t u v shift)
 
 -- the assertion is that a limb less the packed xor of two lists of bits is zero, of terms that the three mean
 abbrev pub HalfOf : {S V F : Type 0} → CommRing F → (S → V → Term F → Type 0) → S → V × List V × List V → Assertion F → Type 0

@@ -1,6 +1,6 @@
 -- Sums of powers of two times elements.
 use Rattle.std.specs.Prelude.{◌≡◌, ℕ, suc, ◌^◌, ◌<◌, List, [], ◌∷◌, map}
-use Rattle.air_field.specs.Ring.{CommRing, Over, image, itself}
+use Rattle.air_field.specs.Ring.{CommRing, AlgebraOver, image, itself}
 use Rattle.air_field.specs.Term.{Leaf, Term}
 use Rattle.air_field.specs.Value.{value}
 use Rattle.air_gadgets.specs.Bits.{digits_of, packed}
@@ -8,11 +8,11 @@ use Rattle.air_gadgets.specs.Packing.{packed_term}
 
 -- the sum of 2^(k + i) x_i
 abbrev pub power_sum : {A : Type 0} → CommRing A → ℕ → List A → A
-power_sum R k [] = R.nil
+power_sum R k [] = R.zero
 power_sum R k (x ∷ xs) = R.add (R.mul (image R (2 ^ k)) x) (power_sum R (suc k) xs)
 
 -- what is packed of terms has the sum of 2^i v_i as its value in an algebra, v_i being theirs
-abbrev pub PacksValuesIn : {F E : Type 0} → Over F E → F → Type 0
+abbrev pub PacksValuesIn : {F E : Type 0} → AlgebraOver F E → F → Type 0
 PacksValuesIn {F} {E} a none =
     (s : Leaf → E) (ts : List (Term F))
     → value a s (packed_term none ts) ≡ power_sum a.ring 0 (map (value a s) ts)
@@ -27,12 +27,12 @@ PacksByPowers {A} R = (xs : List A) → packed R xs ≡ power_sum R 0 xs
 
 -- what is packed of terms whose values in an algebra are the images of the n lowest bits of a
 -- number below 2^n has the number's image as its value
-abbrev pub PacksNumbers : {F E : Type 0} → Over F E → F → Type 0
+abbrev pub PacksNumbers : {F E : Type 0} → AlgebraOver F E → F → Type 0
 PacksNumbers {F} {E} a none =
     (s : Leaf → E) (ts : List (Term F)) (n v : ℕ) → v < 2 ^ n
     → map (value a s) ts ≡ map (image a.ring) (digits_of 2 n v)
     → value a s (packed_term none ts) ≡ image a.ring v
 
 -- an algebra's image of a number is that of the number's image in the field
-abbrev pub EmbedsImages : {F E : Type 0} → CommRing F → Over F E → Type 0
+abbrev pub EmbedsImages : {F E : Type 0} → CommRing F → AlgebraOver F E → Type 0
 EmbedsImages R a = (n : ℕ) → a.embed (image R n) ≡ image a.ring n

@@ -5,7 +5,7 @@ use Rattle.std.proofs.lemmas.Bool.Decides.{eqb_tells}
 use Rattle.std.proofs.lemmas.List.{get_or-set_same, get_or-set_other, get_or_default}
 use Rattle.air_symbolic.specs.Nodes.{node_at}
 use Rattle.air_symbolic.specs.declared.pools.expr.SymbolicExpr.{SymbolicExpr}
-use Rattle.air_infix.specs.Names.{place, sum_below, node_places, operand_places, places_at}
+use Rattle.air_infix.specs.Names.{one_if_is, total_below, node_places, operand_places, places_at}
 use Rattle.air_infix.specs.Counts.{AreMarks, places_for, AreCounted}
 use Rattle.air_infix.specs.declared.counts.Places.{Places}
 use Rattle.air_infix.specs.declared.counts.Places.TheVariants.{Nowhere}
@@ -14,24 +14,24 @@ use Rattle.air_infix.specs.declared.counts.Places.TheVariants.{Nowhere}
 pub AreCounted-same : (f g : ℕ → ℕ) (counts : List Places) → ((i : ℕ) → f i ≡ g i) → AreCounted f counts → AreCounted g counts
 AreCounted-same f g counts e h = record { each = λ i b. h.each i b ∙ ap places_for (e i) }
 
-place-same : (i : ℕ) → place i i ≡ 1
+place-same : (i : ℕ) → one_if_is i i ≡ 1
 place-same i = ap (λ b. cond b 1 0) (⊎_elim (λ (h : (eqb i i ≡ true) × (i ≡ i)). h.0) (λ (h : (eqb i i ≡ false) × (i ≢ i)). absurd (h.1 refl)) (eqb_tells i i))
 
-place-other : (i x : ℕ) → i ≢ x → place i x ≡ 0
+place-other : (i x : ℕ) → i ≢ x → one_if_is i x ≡ 0
 place-other i x ne = ap (λ b. cond b 1 0) (ne_eqb x i (λ e. ne (sym e)))
 
 -- a place that names x is counted
-pub place-counted : (f : ℕ → ℕ) (counts : List Places) (x : ℕ) (new : Places) → x < length counts → ((n : ℕ) → get_or counts x Nowhere ≡ places_for n → new ≡ places_for (n + 1)) → AreCounted f counts → AreCounted (λ i. f i + place i x) (set counts x new)
+pub place-counted : (f : ℕ → ℕ) (counts : List Places) (x : ℕ) (new : Places) → x < length counts → ((n : ℕ) → get_or counts x Nowhere ≡ places_for n → new ≡ places_for (n + 1)) → AreCounted f counts → AreCounted (λ i. f i + one_if_is i x) (set counts x new)
 place-counted f counts x new lt now h = record {
   each = λ i b.
       let within : i < length counts = omega (arith, b, length-set counts x new) in
       ⊎_elim
       (λ (e : i ≡ x).
       let at : get_or (set counts x new) x Nowhere ≡ places_for (f x + 1) = get_or-set_same counts x new Nowhere lt ∙ now (f x) (h.each x lt) in
-      let one : places_for (f x + 1) ≡ places_for (f x + place x x) = ap (λ k. places_for (f x + k)) (sym (place-same x)) in
-      subst (λ j. get_or (set counts x new) j Nowhere ≡ places_for (f j + place j x)) (sym e) (at ∙ one))
+      let one : places_for (f x + 1) ≡ places_for (f x + one_if_is x x) = ap (λ k. places_for (f x + k)) (sym (place-same x)) in
+      subst (λ j. get_or (set counts x new) j Nowhere ≡ places_for (f j + one_if_is j x)) (sym e) (at ∙ one))
       (λ (ne : i ≢ x).
-      let none : f i ≡ f i + place i x = omega (arith, place-other i x ne) in
+      let none : f i ≡ f i + one_if_is i x = omega (arith, place-other i x ne) in
       get_or-set_other counts x i new Nowhere ne ∙ h.each i within ∙ ap places_for none)
       (cases_eq i x);
 }
@@ -51,8 +51,8 @@ module _ {A : Type 0} (ns : List (SymbolicExpr A)) (marks : List (Option ℕ)) w
       ap (λ o. cond (is_some o) (node_places i (node_at ns k)) 0) at ∙ ap (node_places i) here
 
 -- one number more
-pub sum-more : (f : ℕ → ℕ) (n : ℕ) → sum_below f (n + 1) ≡ sum_below f n + f n
-sum-more f n = ap (sum_below f) (add-one n)
+pub sum-more : (f : ℕ → ℕ) (n : ℕ) → total_below f (n + 1) ≡ total_below f n + f n
+sum-more f n = ap (total_below f) (add-one n)
 
 -- at first nothing is counted
 pub none-counted : (n : ℕ) (counts : List Places) → counts ≡ replicate n Nowhere → AreCounted (λ _. 0) counts

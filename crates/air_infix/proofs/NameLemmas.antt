@@ -8,7 +8,7 @@ use Rattle.std.proofs.lemmas.List.{get_or_past}
 use Rattle.std.proofs.lemmas.List.FromFn.{map-range_with_len_more, get_or-map-range_with_len, length-map-range_with_len}
 use Rattle.air_symbolic.specs.Nodes.{node_at}
 use Rattle.air_symbolic.specs.declared.pools.expr.SymbolicExpr.{SymbolicExpr}
-use Rattle.air_infix.specs.Names.{passing_below, name_by, is_reached, has_operation, places_of, is_named}
+use Rattle.air_infix.specs.Names.{passing_below, name_by, is_reached, has_operation, count_of_places, is_named}
 use Rattle.air_infix.specs.Counts.{places_for, AreCounted, is_more, passes}
 use Rattle.air_infix.specs.declared.counts.Places.{Places}
 use Rattle.air_infix.specs.declared.counts.Places.TheVariants.{Nowhere}
@@ -51,16 +51,16 @@ module _ {A : Type 0} (ns : List (SymbolicExpr A)) (marks : List (Option ℕ)) (
       (cases_lt i n)
 
   -- who is named by the counts is named
-  pub passes-is : (roots : List ℕ) → length marks ≡ length ns → length counts ≡ length ns → AreCounted (places_of ns roots marks) counts → (i : ℕ) → passes ns marks counts i ≡ is_named ns roots marks i
+  pub passes-is : (roots : List ℕ) → length marks ≡ length ns → length counts ≡ length ns → AreCounted (count_of_places ns roots marks) counts → (i : ℕ) → passes ns marks counts i ≡ is_named ns roots marks i
   passes-is roots same_marks same_counts h i =
       ⊎_elim
       (λ (lt : i < length ns).
       ap (λ b. is_reached marks i && (has_operation (node_at ns i) && b))
-      (ap is_more (h.each i (omega (arith, lt, same_counts))) ∙ more-is (places_of ns roots marks i)))
+      (ap is_more (h.each i (omega (arith, lt, same_counts))) ∙ more-is (count_of_places ns roots marks i)))
       (λ (past : length ns ≤ i).
       let none : is_reached marks i ≡ false = past-unmarked i (omega (arith, past, same_marks)) in
       ap (λ b. b && (has_operation (node_at ns i) && is_more (get_or counts i Nowhere))) none
-      ∙ sym (ap (λ b. b && (has_operation (node_at ns i) && leb 2 (places_of ns roots marks i))) none))
+      ∙ sym (ap (λ b. b && (has_operation (node_at ns i) && leb 2 (count_of_places ns roots marks i))) none))
       (cases_lt i (length ns))
     where
       more-is : (n : ℕ) → is_more (places_for n) ≡ leb 2 n

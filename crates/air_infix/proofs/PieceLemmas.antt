@@ -10,7 +10,7 @@ use Rattle.air_infix.specs.declared.binding.Binding.{Binding}
 use Rattle.air_infix.specs.declared.binding.Binding.TheVariants.{Loose, Summand, Factor, Negated}
 use Rattle.air_infix.specs.declared.pieces.Piece.{Piece}
 use Rattle.air_infix.specs.declared.pieces.Piece.TheVariants.{Operand, Plus, Minus, Times, Close}
-use Rattle.air_infix.specs.Infix.{Shown, shown_node, text_of, leaf_text, opening, wrapped, wraps_sum, wraps_product}
+use Rattle.air_infix.specs.Infix.{Shown, shown_node, infix_text, leaf_text, opening, wrapped, wraps_sum, wraps_product}
 use Rattle.air_infix.specs.Pieces.{piece_text, rest_text, pair_pieces, node_front, node_rest, IsPieceBelow, shown_size, piece_size, rest_size}
 
 -- what follows of two facts on one success
@@ -34,7 +34,7 @@ module _ {F : Type 0} {p : ℕ} (m : Modular F p) (f : ℕ → Shown (BaseLeaf F
   pair-text false left operator right = simp (append_assoc, append-nil)
 
   -- how a node begins, and what follows, is its text
-  pub node-text : (within : Binding) (n : SymbolicExpr (BaseLeaf F)) → node_front m within n ++ rest_text m f (node_rest within n) ≡ text_of m within (shown_node f n)
+  pub node-text : (within : Binding) (n : SymbolicExpr (BaseLeaf F)) → node_front m within n ++ rest_text m f (node_rest within n) ≡ infix_text m within (shown_node f n)
   node-text within (Leaf a) = append-nil (leaf_text m within a)
   node-text within (Add x y d) = pair-text (wraps_sum within) (Operand x Loose) Plus (Operand y Summand)
   node-text within (Sub x y d) = pair-text (wraps_sum within) (Operand x Loose) Minus (Operand y Summand)
@@ -42,7 +42,7 @@ module _ {F : Type 0} {p : ℕ} (m : Modular F p) (f : ℕ → Shown (BaseLeaf F
   node-text within (Mul x y d) = pair-text (wraps_product within) (Operand x Summand) Times (Operand y Factor)
 
   -- a node was begun, and what follows it left
-  pub left-text : (within : Binding) (n : SymbolicExpr (BaseLeaf F)) (old : List ℕ) (rest : List (Piece F)) → (old ++ node_front m within n) ++ rest_text m f (rest ++ node_rest within n) ≡ old ++ (text_of m within (shown_node f n) ++ rest_text m f rest)
+  pub left-text : (within : Binding) (n : SymbolicExpr (BaseLeaf F)) (old : List ℕ) (rest : List (Piece F)) → (old ++ node_front m within n) ++ rest_text m f (rest ++ node_rest within n) ≡ old ++ (infix_text m within (shown_node f n) ++ rest_text m f rest)
   left-text within n old rest =
       ap (λ t. (old ++ node_front m within n) ++ t) (rest_text-append rest (node_rest within n))
       ∙ append_assoc old (node_front m within n) (rest_text m f (node_rest within n) ++ rest_text m f rest)

@@ -112,11 +112,11 @@ abbrev pub name_text : ℕ → List ℕ
 name_text k = codes "%" ++ decimal k
 
 -- Plus and minus bind alike and times closer, all three to the left; the minus of a negative binds closest.
-abbrev pub text_of : {F : Type 0} {p : ℕ} → Modular F p → Binding → Shown (BaseLeaf F) → List ℕ
-text_of m within nothing = []
-text_of m within (leaf a) = leaf_text m within a
-text_of m within (name k) = name_text k
-text_of m within (sum t u) = wrapped (wraps_sum within) (text_of m Loose t ++ (codes " + " ++ text_of m Summand u))
-text_of m within (difference t u) = wrapped (wraps_sum within) (text_of m Loose t ++ (codes " - " ++ text_of m Summand u))
-text_of m within (negative t) = codes "-" ++ text_of m Negated t
-text_of m within (product t u) = wrapped (wraps_product within) (text_of m Summand t ++ (codes " * " ++ text_of m Factor u))
+abbrev pub infix_text : {F : Type 0} {p : ℕ} → Modular F p → Binding → Shown (BaseLeaf F) → List ℕ
+infix_text m within nothing = []
+infix_text m within (leaf a) = leaf_text m within a
+infix_text m within (name k) = name_text k
+infix_text m within (sum t u) = wrapped (wraps_sum within) (infix_text m Loose t ++ (codes " + " ++ infix_text m Summand u))
+infix_text m within (difference t u) = wrapped (wraps_sum within) (infix_text m Loose t ++ (codes " - " ++ infix_text m Summand u))
+infix_text m within (negative t) = codes "-" ++ infix_text m Negated t
+infix_text m within (product t u) = wrapped (wraps_product within) (infix_text m Summand t ++ (codes " * " ++ infix_text m Factor u))

@@ -7,12 +7,12 @@ use Rattle.air_symbolic.specs.BaseLeaves.{base_leaves, base_reads}
 use Rattle.air_symbolic.specs.ExtLeaves.{BaseNodes}
 use Rattle.air_symbolic.specs.Pools.{term_at}
 use Rattle.air_infix.specs.declared.binding.Binding.TheVariants.{Loose}
-use Rattle.air_infix.specs.Infix.{shown, shown_at, text_of, name_text}
+use Rattle.air_infix.specs.Infix.{shown, shown_at, infix_text, name_text}
 use Rattle.air_infix.specs.Names.{AreNames}
 
 -- the names of a list, in which number i has its name at place i
-abbrev pub listed : List (Option ℕ) → ℕ → Option ℕ
-listed names i = get_or names i None
+abbrev pub listed_name : List (Option ℕ) → ℕ → Option ℕ
+listed_name names i = get_or names i None
 
 -- each line ended by a byte 10
 abbrev pub lines_text : List (List ℕ) → List ℕ
@@ -21,13 +21,13 @@ lines_text lines = flat_map (λ line. line ++ codes "\n") lines
 module _ {F : Type 0} {p : ℕ} (m : Modular F p) (pool : BaseNodes F) (names : List (Option ℕ)) where
   -- `%k = TEXT`, for number i by its node
   abbrev pub definition_line : ℕ → ℕ → List ℕ
-  definition_line k i = name_text k ++ (codes " = " ++ text_of m Loose (shown_at (listed names) pool.1 i))
+  definition_line k i = name_text k ++ (codes " = " ++ infix_text m Loose (shown_at (listed_name names) pool.1 i))
 
   -- `#j degree D: TEXT`, for number i
   abbrev pub constraint_line : ℕ → ℕ → List ℕ
   constraint_line j i =
       codes "#" ++ (decimal j ++ (codes " degree " ++ (decimal (degree_by cached_weight (term_at base_reads pool i))
-      ++ (codes ": " ++ text_of m Loose (shown (listed names) pool.1 i)))))
+      ++ (codes ": " ++ infix_text m Loose (shown (listed_name names) pool.1 i)))))
 
 -- a line for each element, by its place and itself
 abbrev pub numbered : (ℕ → ℕ → List ℕ) → List ℕ → List (List ℕ)

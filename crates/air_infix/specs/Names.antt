@@ -10,9 +10,9 @@ use Rattle.air_symbolic.specs.declared.pools.expr.SymbolicExpr.TheVariants.{Leaf
 -- ---- the numbers below a bound
 
 -- the sum of f over the numbers below a bound
-abbrev pub sum_below : (ℕ → ℕ) → ℕ → ℕ
-sum_below f zero = 0
-sum_below f (suc n) = sum_below f n + f n
+abbrev pub total_below : (ℕ → ℕ) → ℕ → ℕ
+total_below f zero = 0
+total_below f (suc n) = total_below f n + f n
 
 -- the numbers below a bound that pass a test, in order
 abbrev pub passing_below : (ℕ → Bool) → ℕ → List ℕ
@@ -22,16 +22,16 @@ passing_below test (suc n) = passing_below test n ++ (if test n then n ∷ [] el
 -- ---- the places that name a number
 
 -- 1 where x is i
-abbrev pub place : ℕ → ℕ → ℕ
-place i x = if x == i then 1 else 0
+abbrev pub one_if_is : ℕ → ℕ → ℕ
+one_if_is i x = if x == i then 1 else 0
 
 -- how many operands of a node are number i
 abbrev pub operand_places : {A : Type 0} → ℕ → SymbolicExpr A → ℕ
 operand_places i (Leaf a) = 0
-operand_places i (Add x y d) = place i x + place i y
-operand_places i (Sub x y d) = place i x + place i y
-operand_places i (Neg x d) = place i x
-operand_places i (Mul x y d) = place i x + place i y
+operand_places i (Add x y d) = one_if_is i x + one_if_is i y
+operand_places i (Sub x y d) = one_if_is i x + one_if_is i y
+operand_places i (Neg x d) = one_if_is i x
+operand_places i (Mul x y d) = one_if_is i x + one_if_is i y
 
 abbrev pub node_places : {A : Type 0} → ℕ → Option (SymbolicExpr A) → ℕ
 node_places i None = 0
@@ -47,8 +47,8 @@ abbrev pub places_at : {A : Type 0} → List (SymbolicExpr A) → List (Option �
 places_at ns marks i j = if is_reached marks j then node_places i (node_at ns j) else 0
 
 -- how many operands of reached nodes and how many roots are number i
-abbrev pub places_of : {A : Type 0} → List (SymbolicExpr A) → List ℕ → List (Option ℕ) → ℕ → ℕ
-places_of ns roots marks i = count_by (λ root. root == i) roots + sum_below (places_at ns marks i) (length ns)
+abbrev pub count_of_places : {A : Type 0} → List (SymbolicExpr A) → List ℕ → List (Option ℕ) → ℕ → ℕ
+count_of_places ns roots marks i = count_by (λ root. root == i) roots + total_below (places_at ns marks i) (length ns)
 
 -- ---- names
 
@@ -65,7 +65,7 @@ has_operation (Some n) = is_operation n
 
 -- the roots reach the number, it is no leaf, and two places or more name it
 abbrev pub is_named : {A : Type 0} → List (SymbolicExpr A) → List ℕ → List (Option ℕ) → ℕ → Bool
-is_named ns roots marks i = is_reached marks i && (has_operation (node_at ns i) && nat_le 2 (places_of ns roots marks i))
+is_named ns roots marks i = is_reached marks i && (has_operation (node_at ns i) && nat_le 2 (count_of_places ns roots marks i))
 
 -- the name of a number: how many before it have one
 abbrev pub name_by : (ℕ → Bool) → ℕ → Option ℕ

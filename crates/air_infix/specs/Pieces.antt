@@ -8,11 +8,11 @@ use Rattle.air_infix.specs.declared.binding.Binding.{Binding}
 use Rattle.air_infix.specs.declared.binding.Binding.TheVariants.{Loose, Summand, Factor, Negated}
 use Rattle.air_infix.specs.declared.pieces.Piece.{Piece}
 use Rattle.air_infix.specs.declared.pieces.Piece.TheVariants.{Operand, Plus, Minus, Times, Close}
-use Rattle.air_infix.specs.Infix.{Shown, nothing, leaf, name, sum, difference, negative, product, text_of, leaf_text, opening, wraps_sum, wraps_product}
+use Rattle.air_infix.specs.Infix.{Shown, nothing, leaf, name, sum, difference, negative, product, infix_text, leaf_text, opening, wraps_sum, wraps_product}
 
 -- the text of a piece, number i being shown as f i
 abbrev pub piece_text : {F : Type 0} {p : ℕ} → Modular F p → (ℕ → Shown (BaseLeaf F)) → Piece F → List ℕ
-piece_text m f (Operand i within) = text_of m within (f i)
+piece_text m f (Operand i within) = infix_text m within (f i)
 piece_text m f Plus = codes " + "
 piece_text m f Minus = codes " - "
 piece_text m f Times = codes " * "

@@ -3,7 +3,7 @@ ghost use Rattle.std.specs.Prelude.{◌≡◌, ℕ, ◌+◌, ◌<◌, ◌==◌, 
 ghost use Rattle.std.specs.List.{count_by};
 ghost use Rattle.air_symbolic.specs.Nodes.{OperandsBelow};
 ghost use Rattle.air_symbolic.specs.Pools.{IsPool};
-ghost use Rattle.air_infix.specs.Names.{place, operand_places, sum_below, places_at, places_of};
+ghost use Rattle.air_infix.specs.Names.{one_if_is, operand_places, total_below, places_at, count_of_places};
 ghost use Rattle.air_infix.specs.Counts.{places_for, AreCounted, AreMarks};
 
 use air_symbolic::{ExprId, ExprPool, SymLeaf, SymbolicExpr};
@@ -30,7 +30,8 @@ fn one_more(places: Places) -> Places
 // Counts a place that names `x`.
 fn count_place<A: SymLeaf>(counts: &mut [Places], x: ExprId<A>)
     requires { x < length counts.old }
-    ensures { (f : ℕ → ℕ) → AreCounted f counts.old → AreCounted (λ i. f i + place i x) counts.new }
+    ensures { (f : ℕ → ℕ) → AreCounted f counts.old
+        → AreCounted (λ i. f i + one_if_is i x) counts.new }
 {
     let number = x.number();
     counts[number] = one_more(counts[number]);
@@ -96,7 +97,7 @@ fn count_reached<A: SymLeaf>(counts: &mut [Places], pool: &ExprPool<A>, marks: &
     requires places { length counts.old ≡ length pool.now.1 }
     requires marks { AreMarks (length pool.now.1) marks.now }
     ensures { (f : ℕ → ℕ) → AreCounted f counts.old → AreCounted
-        (λ i. f i + sum_below (places_at pool.now.1 marks.now i) (length pool.now.1)) counts.new }
+        (λ i. f i + total_below (places_at pool.now.1 marks.now i) (length pool.now.1)) counts.new }
 {
     for number in 0..marks.len() {
         count_node(counts, pool, marks, number);
@@ -115,7 +116,7 @@ fn count_all<A: SymLeaf>(
     requires places { length counts.old ≡ length pool.now.1 }
     requires marks { AreMarks (length pool.now.1) marks.now }
     requires none { AreCounted (λ _. 0) counts.old }
-    ensures { AreCounted (places_of pool.now.1 roots.now marks.now) counts.new }
+    ensures { AreCounted (count_of_places pool.now.1 roots.now marks.now) counts.new }
 {
     count_roots(counts, roots);
     count_reached(counts, pool, marks);
@@ -133,7 +134,7 @@ pub fn count_places<A: SymLeaf>(
     requires marks { AreMarks (length pool.now.1) marks.now }
     ensures places { IfOk result (λ counts. length counts.items ≡ length pool.now.1) }
     ensures counted { IfOk result (λ counts.
-        AreCounted (places_of pool.now.1 roots.now marks.now) counts.items) }
+        AreCounted (count_of_places pool.now.1 roots.now marks.now) counts.items) }
 {
     let mut counts = vec![in alloc; Places::Nowhere; pool.len()]?;
     count_all(&mut counts, pool, roots, marks);

@@ -2,7 +2,7 @@
 ghost use Rattle.std.specs.Prelude.{◌≡◌, ◌+◌, ◌<◌, ◌++◌, length, get_or, None, All, OnOk, string_bytes};
 ghost use Rattle.air_symbolic.specs.BaseLeaves.{base_reads};
 ghost use Rattle.air_symbolic.specs.Pools.{IsPool};
-ghost use Rattle.air_infix.specs.Infix.{shown, shown_at, text_of};
+ghost use Rattle.air_infix.specs.Infix.{shown, shown_at, infix_text};
 ghost use Rattle.air_infix.specs.Pieces.{piece_text, rest_text, IsPieceBelow, piece_size, rest_size};
 
 use crate::binding::Binding;
@@ -73,7 +73,8 @@ pub fn push_infix<F: PrimeField64>(
     requires pool { IsPool base_reads pool.now }
     requires here { id < length pool.now.1 }
     ensures { OnOk result (string_bytes text.new ≡ string_bytes text.old ++
-        text_of F.residues Binding.Loose (shown (λ i. get_or names.now.1 i None) pool.now.1 id)) }
+        infix_text F.residues Binding.Loose
+        (shown (λ i. get_or names.now.1 i None) pool.now.1 id)) }
 {
     let mut rest = Vec::new(alloc);
     rest.push(Piece::Operand(id, Binding::Loose))?;
@@ -91,7 +92,8 @@ pub fn push_definition<F: PrimeField64>(
     requires pool { IsPool base_reads pool.now }
     requires here { id < length pool.now.1 }
     ensures { OnOk result (string_bytes text.new ≡ string_bytes text.old ++
-        text_of F.residues Binding.Loose (shown_at (λ i. get_or names.now.1 i None) pool.now.1 id)) }
+        infix_text F.residues Binding.Loose
+        (shown_at (λ i. get_or names.now.1 i None) pool.now.1 id)) }
 {
     let mut rest = Vec::new(alloc);
     leave_node(text, &mut rest, *pool.node(id), Binding::Loose)?;

@@ -17,13 +17,13 @@ use Rattle.air_symbolic.specs.Pools.{tree_at}
 use Rattle.air_symbolic.specs.Trees.{Tree}
 use Rattle.air_symbolic.specs.declared.leaves.base_leaf.BaseLeaf.{BaseLeaf}
 use Rattle.air_wire.specs.BaseLeaves.{element_at}
-use Rattle.air_wire.specs.Reads.{Reads}
+use Rattle.air_wire.specs.ReadCalls.{ReadsTree}
 use Rattle.air_wire.specs.laws.Lists.{fails_is, fails_if}
 use Rattle.air_wire.specs.Results.{◌>>=◌, Fails, Gives}
 use Rattle.air_wire.specs.declared.errors.FlatError.{FlatError}
 use Rattle.air_wire.specs.declared.errors.FlatError.TheVariants as faults
 use Rattle.air_object.specs.Members.{MemberValues}
-use Rattle.air_object.specs.Parts.{GivenElements, AreElements, Given, AreGiven, and_one, one_more, numbers_of, of_member, AreMembersOf, ArePartsOf, given_elements, given_by, members_with}
+use Rattle.air_object.specs.Parts.{GivenElements, AreElements, GivenTrees, AreGiven, and_one, one_more, root_numbers, of_member, AreMembersOf, ArePartsOf, given_elements, given_by, members_with}
 use Rattle.air_object.specs.Readers.{Reader, each_from, elements, tree, trees, width_member, elements_member, table_member, constraints_member, periodic_member, boundary_member, cap_member, weight_member, members_read}
 use Rattle.air_object.proofs.TokenLemmas.{data_before, one_more_data, item_read}
 use Rattle.air_object.proofs.Trees.{Pool, GrownTo, AllIn, all_in_push, trees_kept}
@@ -121,13 +121,13 @@ module _ {F : Type 0} {order : ℕ} (modular : Modular F order) where
 
   -- ---- one root more, in a pool that has grown
 
-  module _ (p q : Pool F) (d : Data) (given : Given F) (grown : GrownTo p q) where
-    abbrev more : Given F
+  module _ (p q : Pool F) (d : Data) (given : GivenTrees F) (grown : GrownTo p q) where
+    abbrev more : GivenTrees F
     more = one_more (tree modular) given d
 
     roots_more : (roots : Result (Vec ℕ Global) FlatError) (root : Result ℕ FlatError) → IfOk roots (λ v. AllIn p v.items) → IfOk root (λ i. i < length q.1)
         → Gives (λ v. map (tree_at p) v.items) roots given → Gives (tree_at q) root (tree modular d)
-        → IfOk (and_one (numbers_of roots) root) (AllIn q) × Gives (map (tree_at q)) (and_one (numbers_of roots) root) more
+        → IfOk (and_one (root_numbers roots) root) (AllIn q) × Gives (map (tree_at q)) (and_one (root_numbers roots) root) more
     roots_more (Ok v) (Ok i) here there first second =
         (all_in_push modular p q v.items i grown here there, rw (first, second, map_push, trees_kept modular p q v.items grown here) refl)
     roots_more (Ok v) (Err f) here there first second = (tt, rw first (next_fails f (tree modular d) (λ t. Ok (map (tree_at p) v.items ++ t ∷ [])) second))
@@ -138,11 +138,11 @@ module _ {F : Type 0} {order : ℕ} (modular : Modular F order) where
     roots_seen all (Ok v) one here g = (subst (λ r. IfOk r (AllIn q)) one here, subst (λ r. Gives (map (tree_at q)) r more) one g)
     roots_seen all (Err f) one here g = (tt, fails_if f more (λ n. fails_is f more (subst (λ r. Gives (map (tree_at q)) r more) (fails_is f all one n) g) n))
 
-  pub root_more : (c e : Constraints F) (root : Result ℕ FlatError) (d : Data) (given : Given F) → Reads base_grows base_reads tree_at c.pool e.pool root (tree modular d)
-      → Gives (λ v. v.items) e.roots (and_one (numbers_of c.roots) root) → AreGiven given c → AreGiven (one_more (tree modular) given d) e
+  pub root_more : (c e : Constraints F) (root : Result ℕ FlatError) (d : Data) (given : GivenTrees F) → ReadsTree base_grows base_reads tree_at c.pool e.pool root (tree modular d)
+      → Gives (λ v. v.items) e.roots (and_one (root_numbers c.roots) root) → AreGiven given c → AreGiven (one_more (tree modular) given d) e
   root_more c e root d given reads one h =
       let both = roots_more c.pool e.pool d given reads.grown c.roots root h.inside.here reads.here h.read reads.read in
-      let seen = roots_seen c.pool e.pool d given reads.grown (and_one (numbers_of c.roots) root) e.roots one both.0 both.1 in
+      let seen = roots_seen c.pool e.pool d given reads.grown (and_one (root_numbers c.roots) root) e.roots one both.0 both.1 in
       record { inside = record { pool = reads.grown.pool h.inside.pool; here = seen.0 }; read = seen.1 }
 
   -- ---- one member more
@@ -220,18 +220,18 @@ module _ {F : Type 0} {order : ℕ} (modular : Modular F order) where
 
   -- where the trace and the constraints gave what they are given by, so do all members
   module _ {X : Type 0} (see : X → MemberValues F) (r : Result X FlatError) (rest : Data) where
-    abbrev GivesWith : GivenElements F → Given F → Type 0
+    abbrev GivesWith : GivenElements F → GivenTrees F → Type 0
     GivesWith trace g = Gives see r (members_with modular trace g rest)
 
-    constraints_memory : (trace : GivenElements F) (given : Given F) → GivesWith trace (Err faults.Memory) → GivesWith trace given
+    constraints_memory : (trace : GivenElements F) (given : GivenTrees F) → GivesWith trace (Err faults.Memory) → GivesWith trace given
     unfolding members_with
     constraints_memory trace given h = without_memory see r given _ (width_member (codes "main_width") rest) trace (table_member modular rest) (elements_member modular (codes "public_values") rest) h
 
-    trace_memory : (trace : GivenElements F) (given : Given F) → GivesWith (Err faults.Memory) given → GivesWith trace given
+    trace_memory : (trace : GivenElements F) (given : GivenTrees F) → GivesWith (Err faults.Memory) given → GivesWith trace given
     unfolding members_with
     trace_memory trace given h = width_memory see r trace _ (width_member (codes "main_width") rest) h
 
-    both_give : {U V : Type 0} (trace : GivenElements F) (given : Given F) (shown : U → List F) (seen : V → List (Tree (BaseLeaf F))) (es : Result U FlatError) (roots : Result V FlatError)
+    both_give : {U V : Type 0} (trace : GivenElements F) (given : GivenTrees F) (shown : U → List F) (seen : V → List (Tree (BaseLeaf F))) (es : Result U FlatError) (roots : Result V FlatError)
         → Gives shown es trace → Gives seen roots given
         → GivesWith (result_map_both shown (λ f. f) es) (result_map_both seen (λ f. f) roots) → GivesWith trace given
     both_give trace given shown seen es roots first second h =

@@ -7,22 +7,22 @@ use Rattle.air_symbolic.specs.declared.leaves.base_leaf.BaseLeaf.{BaseLeaf}
 use Rattle.air_core.specs.declared.boundary.BoundaryPublic.{BoundaryPublic}
 use Rattle.air_wire.specs.BaseLeaves.{base_kind}
 use Rattle.air_wire.specs.Boundaries.{SpellsCell}
-use Rattle.air_wire.specs.Good.{IsList, HasFault}
-use Rattle.air_wire.specs.Spelling.{IsWhole}
+use Rattle.air_wire.specs.NodeLists.{IsList, HasFault}
+use Rattle.air_wire.specs.Spelling.{IsWholeNumber}
 use Rattle.air_wire.specs.declared.errors.FlatError.{FlatError}
 use Rattle.air_wire.specs.declared.errors.FlatError.TheVariants as faults
 use Rattle.air_object.specs.Objects.{Grammar, by_form, list_of, needed, optional, both, both_or_none}
 
 abbrev pub whole_number : Grammar ℕ
-whole_number = by_form (λ d n. IsWhole n d)
+whole_number = by_form (λ d n. IsWholeNumber n d)
 
 -- no whole number, or one at or past the modulus p
 abbrev pub ElementFault : ℕ → Data → FlatError → Type 0
-ElementFault p d f = (((n : ℕ) → IsWhole n d → ⊥) × (f ≡ faults.Shape 0)) ⊎ ((n : ℕ) × IsWhole n d × (p ≤ n) × (f ≡ faults.NotCanonical 0))
+ElementFault p d f = (((n : ℕ) → IsWholeNumber n d → ⊥) × (f ≡ faults.Shape 0)) ⊎ ((n : ℕ) × IsWholeNumber n d × (p ≤ n) × (f ≡ faults.NotCanonical 0))
 
 -- a field element, by its canonical number
 abbrev pub element : {F : Type 0} {p : ℕ} → Modular F p → Grammar F
-element {p = p} m = record { spells = λ d x. IsWhole (m.value x) d; fault = ElementFault p }
+element {p = p} m = record { spells = λ d x. IsWholeNumber (m.value x) d; fault = ElementFault p }
 
 -- a list of nodes, as the tree of its root
 abbrev pub constraint : {F : Type 0} {p : ℕ} → Modular F p → Grammar (Tree (BaseLeaf F))
@@ -34,7 +34,7 @@ cell = by_form SpellsCell
 -- null is no cap
 abbrev pub SpellsCap : Data → Option ℕ → Type 0
 SpellsCap d None = d ≡ null
-SpellsCap d (Some n) = IsWhole n d
+SpellsCap d (Some n) = IsWholeNumber n d
 
 abbrev pub cap : Grammar (Option ℕ)
 cap = by_form SpellsCap

@@ -23,14 +23,14 @@ AllSpell g (item d ds) [] = ⊥
 AllSpell g (item d ds) (x ∷ xs) = g.spells d x × AllSpell g ds xs
 
 -- the first element that spells nothing has this fault, and all before it spell something
-abbrev pub FirstFault : {X : Type 0} → Grammar X → Items → FlatError → Type 0
-FirstFault g no_items f = ⊥
-FirstFault {X} g (item d ds) f = g.fault d f ⊎ ((x : X) × g.spells d x × FirstFault g ds f)
+abbrev pub FirstElementFault : {X : Type 0} → Grammar X → Items → FlatError → Type 0
+FirstElementFault g no_items f = ⊥
+FirstElementFault {X} g (item d ds) f = g.fault d f ⊎ ((x : X) × g.spells d x × FirstElementFault g ds f)
 
 abbrev pub list_of : {X : Type 0} → Grammar X → Grammar (List X)
 list_of g = record {
   spells = λ d xs. (ds : Items) × (as_array d ≡ Some ds) × AllSpell g ds xs;
-  fault = λ d f. ((as_array d ≡ None) × (f ≡ faults.Shape 0)) ⊎ ((ds : Items) × (as_array d ≡ Some ds) × FirstFault g ds f);
+  fault = λ d f. ((as_array d ≡ None) × (f ≡ faults.Shape 0)) ⊎ ((ds : Items) × (as_array d ≡ Some ds) × FirstElementFault g ds f);
 }
 
 -- ---- members of an object

@@ -24,12 +24,12 @@ abbrev pub AreElements : {F : Type 0} → GivenElements F → Result (Vec F Glob
 AreElements given es = Gives (λ v. v.items) es given
 
 -- the trees of the constraints, or the first fault
-abbrev pub Given : Type 0 → Type 0
-Given F = Result (List (Tree (BaseLeaf F))) FlatError
+abbrev pub GivenTrees : Type 0 → Type 0
+GivenTrees F = Result (List (Tree (BaseLeaf F))) FlatError
 
 -- the numbers of the roots, or the first fault
-abbrev pub numbers_of : Result (Vec ℕ Global) FlatError → Result (List ℕ) FlatError
-numbers_of roots = result_map_both (λ v. v.items) (λ f. f) roots
+abbrev pub root_numbers : Result (Vec ℕ Global) FlatError → Result (List ℕ) FlatError
+root_numbers roots = result_map_both (λ v. v.items) (λ f. f) roots
 
 -- the roots are numbers of the pool
 pub record InPool {F : Type 0} (c : Constraints F) : Type 0 where
@@ -37,7 +37,7 @@ pub record InPool {F : Type 0} (c : Constraints F) : Type 0 where
   pub here : IfOk c.roots (λ roots. All (λ i. i < length c.pool.1) roots.items)
 
 -- and have these trees, or it is this fault
-pub record AreGiven {F : Type 0} (given : Given F) (c : Constraints F) : Type 0 where
+pub record AreGiven {F : Type 0} (given : GivenTrees F) (c : Constraints F) : Type 0 where
   pub inside : InPool c
   pub read : Gives (λ roots. map (tree_at c.pool) roots.items) c.roots given
 
@@ -70,10 +70,10 @@ pub record ArePartsOf {F : Type 0} {p : ℕ} (m : Modular F p) (d rest : Data) (
 abbrev pub given_elements : {F : Type 0} → Result (Vec F Global) FlatError → GivenElements F
 given_elements es = result_map_both (λ v. v.items) (λ f. f) es
 
-abbrev pub given_by : {F : Type 0} → Constraints F → Given F
+abbrev pub given_by : {F : Type 0} → Constraints F → GivenTrees F
 given_by c = result_map_both (λ roots. map (tree_at c.pool) roots.items) (λ f. f) c.roots
 
-unfoldable pub members_with : {F : Type 0} {p : ℕ} → Modular F p → GivenElements F → Given F → Reader (MemberValues F)
+unfoldable pub members_with : {F : Type 0} {p : ℕ} → Modular F p → GivenElements F → GivenTrees F → Reader (MemberValues F)
 members_with m trace given d = do
   width ← width_member (codes "main_width") d
   main ← trace

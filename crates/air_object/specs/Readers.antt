@@ -54,8 +54,8 @@ cells d = list_read cell_read d
 
 -- ---- the cap
 
-unfoldable pub cap_of : Data → Option (Option ℕ)
-cap_of d = if is_some (as_null d) then Some None else option_map (λ n. Some n) (whole d)
+unfoldable pub cap_in : Data → Option (Option ℕ)
+cap_in d = if is_some (as_null d) then Some None else option_map (λ n. Some n) (whole d)
 
 -- ---- members
 
@@ -97,7 +97,7 @@ unfoldable pub boundary_member : Reader (List BoundaryPublic)
 boundary_member d = optional_read (codes "boundary") [] cells d
 
 unfoldable pub cap_member : Reader (Option ℕ)
-cap_member d = optional_read (codes "cap") None (λ c. formed (cap_of c)) d
+cap_member d = optional_read (codes "cap") None (λ c. formed (cap_in c)) d
 
 unfoldable pub weight_member : Reader ℕ
 weight_member d = optional_read (codes "transition_weight") 0 (λ c. formed (whole c)) d

@@ -3,10 +3,10 @@ ghost use Rattle.std.specs.Prelude.{[], Ok, Err};
 ghost use Rattle.serde_json.specs.View.{view, items_view};
 ghost use Rattle.air_symbolic.specs.BaseLeaves.{base_reads, base_grows};
 ghost use Rattle.air_symbolic.specs.Pools.{IsPool, tree_at};
-ghost use Rattle.air_wire.specs.Reads.{Reads, ReadsAll};
+ghost use Rattle.air_wire.specs.ReadCalls.{ReadsTree, ReadsAll};
 ghost use Rattle.air_wire.specs.Results.{Gives};
 ghost use Rattle.air_wire.specs.declared.errors.FlatError.TheVariants.{Shape};
-ghost use Rattle.air_object.specs.Parts.{AreGiven, and_one, numbers_of};
+ghost use Rattle.air_object.specs.Parts.{AreGiven, and_one, root_numbers};
 ghost use Rattle.air_object.specs.Readers.{each_from, tree, trees, constraints_member};
 
 use air_field::{Field, PrimeField64};
@@ -39,7 +39,7 @@ pub(crate) fn root_from<F: PrimeField64>(
     value: &Value,
 ) -> Root<F>
     requires { IsPool base_reads pool.old }
-    ensures { Reads base_grows base_reads tree_at pool.old pool.new result
+    ensures { ReadsTree base_grows base_reads tree_at pool.old pool.new result
         (tree F.residues (view value.now)) }
 {
     from_flat_value(alloc, pool, value)
@@ -102,7 +102,7 @@ pub(crate) fn with_root<F: PrimeField64>(
     roots: Result<Roots<F>, FlatError>,
     root: Root<F>,
 ) -> Result<Roots<F>, FlatError>
-    ensures { Gives (λ v. v.items) result (and_one (numbers_of roots) root) }
+    ensures { Gives (λ v. v.items) result (and_one (root_numbers roots) root) }
 {
     let mut roots = roots?;
     roots.push(root?)?;

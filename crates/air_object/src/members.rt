@@ -7,7 +7,7 @@ ghost use Rattle.air_symbolic.specs.Pools.{IsPool};
 ghost use Rattle.air_wire.specs.Results.{Gives};
 ghost use Rattle.air_wire.specs.declared.errors.FlatError.TheVariants.{Shape};
 ghost use Rattle.air_object.specs.Parts.{InPool, given_elements, given_by, members_with};
-ghost use Rattle.air_object.specs.Readers.{width_member, elements_member, table_member, periodic_member, boundary_member, cap_of, cap_member, weight_member};
+ghost use Rattle.air_object.specs.Readers.{width_member, elements_member, table_member, periodic_member, boundary_member, cap_in, cap_member, weight_member};
 ghost use Rattle.air_object.specs.Seen.{seen_rows, seen_members};
 
 use crate::cells::cells_from;
@@ -100,9 +100,9 @@ fn boundary_from(alloc: Global, value: &Value) -> Result<Vec<BoundaryPublic>, Fl
     }
 }
 
-#[tactic(auto, unfolding(crate::specs::Readers::cap_of))]
-fn cap_of(value: &Value) -> Option<Option<usize>>
-    ensures { result ≡ cap_of (view value.now) }
+#[tactic(auto, unfolding(crate::specs::Readers::cap_in))]
+fn cap_in(value: &Value) -> Option<Option<usize>>
+    ensures { result ≡ cap_in (view value.now) }
 {
     if value.is_null() {
         return Some(None);
@@ -116,7 +116,7 @@ fn cap_from(value: &Value) -> Result<Option<usize>, FlatError>
     ensures { Gives (λ o. o) result (cap_member (view value.now)) }
 {
     match value.get("cap") {
-        Some(cap) => cap_of(cap).ok_or(FlatError::Shape { at: 0 }),
+        Some(cap) => cap_in(cap).ok_or(FlatError::Shape { at: 0 }),
         None => Ok(None),
     }
 }

@@ -8,8 +8,8 @@ ghost use Rattle.serde_json.specs.View.{view, members_view};
 ghost use Rattle.air_symbolic.specs.BaseLeaves.{base_reads, base_grows};
 ghost use Rattle.air_symbolic.specs.Pools.{IsPool, tree_at};
 ghost use Rattle.air_wire.specs.BaseLeaves.{element_at};
-ghost use Rattle.air_wire.specs.Reads.{Reads};
-ghost use Rattle.air_object.specs.Parts.{AreElements, Given, InPool, AreGiven, AreMembersOf, ArePartsOf, one_more};
+ghost use Rattle.air_wire.specs.ReadCalls.{ReadsTree};
+ghost use Rattle.air_object.specs.Parts.{AreElements, GivenTrees, InPool, AreGiven, AreMembersOf, ArePartsOf, one_more};
 ghost use Rattle.air_object.specs.Readers.{each_from, elements, tree, trees};
 
 use crate::constraints::{
@@ -90,7 +90,7 @@ fn read_nodes<F: PrimeField64>(
     ensures ok { IfOk result (λ root. (ds : Items)
         × (converted of_items (items (value depth) (length reader.old) reader.old)
         ≡ Some (ds, reader.new))
-        × Reads base_grows base_reads tree_at pool.old pool.new root (tree F.residues (array ds))) }
+        × ReadsTree base_grows base_reads tree_at pool.old pool.new root (tree F.residues (array ds))) }
     ensures shorter { OnOk result (length reader.new < length reader.old) }
     ensures err { result ≡ Err TextFault.Json
         → converted of_items (items (value depth) (length reader.old) reader.old) ≡ None }
@@ -113,7 +113,7 @@ fn read_root<F: PrimeField64>(
     requires { IsPool base_reads pool.old }
     ensures ok { IfOk result (λ root. (d : Data)
         × (converted of_json (value depth reader.old) ≡ Some (d, reader.new))
-        × Reads base_grows base_reads tree_at pool.old pool.new root (tree F.residues d)) }
+        × ReadsTree base_grows base_reads tree_at pool.old pool.new root (tree F.residues d)) }
     ensures shorter { OnOk result (length reader.new < length reader.old) }
     ensures err { result ≡ Err TextFault.Json → converted of_json (value depth reader.old) ≡ None }
 {
@@ -138,7 +138,7 @@ fn read_list<F: PrimeField64>(
     requires { InPool constraints }
     ensures ok { IfOk result (λ c. (d : Data)
         × (converted of_json (value depth reader.old) ≡ Some (d, reader.new))
-        × ((given : Given F) → AreGiven given constraints
+        × ((given : GivenTrees F) → AreGiven given constraints
         → AreGiven (one_more (tree F.residues) given d) c)) }
     ensures shorter { OnOk result (length reader.new < length reader.old) }
     ensures err { result ≡ Err TextFault.Json → converted of_json (value depth reader.old) ≡ None }

@@ -10,7 +10,7 @@ use Rattle.p3_air.specs.Theorem.{Instance}
 use Rattle.p3_air.specs.Audits.{IsAuditUnder, AuditRefusesUnder}
 use Rattle.p3_air.specs.declared.audit.Audit.{Audit}
 use Rattle.air_core.specs.declared.errors.AirError.{AirError}
-use Rattle.air_program.specs.Answer.{equal, AuditRefuses}
+use Rattle.air_program.specs.Answer.{equal, CappedAuditRefuses}
 
 -- tests that agree on all elements are the same
 same_test : {F : Type 0} (f g : F → F → Bool) → ((a b : F) → f a b ≡ g a b) → f ≡ g
@@ -26,7 +26,7 @@ module _ {F : Type 0} {order : ℕ} (modular : Modular F order) (r : CommRing F)
       subst (λ e. IsAuditUnder (modular_ring modular) e basis x cap w audit) eq_same
       (subst (λ q. IsAuditUnder q eq basis x cap w audit) ring_is h)
 
-  pub refusal_of_residues : (x : Instance F) (cap : Option ℕ) (w : ℕ) (e : AirError) → AuditRefusesUnder r eq x cap w e → AuditRefuses modular x cap w e
+  pub refusal_of_residues : (x : Instance F) (cap : Option ℕ) (w : ℕ) (e : AirError) → AuditRefusesUnder r eq x cap w e → CappedAuditRefuses modular x cap w e
   refusal_of_residues x cap w e h =
       subst (λ t. AuditRefusesUnder (modular_ring modular) t x cap w e) eq_same
       (subst (λ q. AuditRefusesUnder q eq x cap w e) ring_is h)

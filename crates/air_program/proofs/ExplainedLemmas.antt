@@ -30,7 +30,8 @@ use Rattle.air_report.specs.Given.{table_grid}
 use Rattle.air_report.specs.declared.debug.failure.ConstraintFailure.{ConstraintFailure}
 use Rattle.air_program.specs.AtHand.{KnownAt}
 use Rattle.air_program.specs.Explained.{Failure, IsBelow, IsExplained, IsExplainedText, PushesExplained, PushesNames, failing_roots, cell_lines}
-use Rattle.air_program.specs.Texts.{Found, count_lines, lines_text, place_of, IsFailureLine, PushesLine}
+use Rattle.air_program.specs.Texts.{Found, count_lines, place_of, IsFailureLine, PushesLine}
+use Rattle.air_infix.specs.Lines.{lines_text}
 use Rattle.air_program.specs.declared.explain.RowValues.{RowValues}
 
 AllZip-append : {A B : Type 0} (R : A → B → Type 0) (xs : List A) (ys : List B) (vs : List A) (ws : List B) → AllZip R xs ys → AllZip R vs ws → AllZip R (xs ++ vs) (ys ++ ws)
@@ -119,9 +120,9 @@ one-explained m pool roots cells trace names f line below old mid new is_line is
 
 module _ {F : Type 0} {p : ℕ} (m : Modular F p) (r : CommRing F) (ring_is : r ≡ modular_ring m) (pool : BaseNodes F) (roots : List ℕ) (cells : List BoundaryPublic) (trace : Trace F) (names : List (Option ℕ)) (f : Failure) where
   -- its constraint, by values that are known
-  pub root_explained : (root : ℕ) (marks : List (Option ℕ)) (at : RowValues F) (read old mid new : List ℕ) → slice_get roots (place_of f).1 ≡ Some root → AreClosed pool.1 marks → KnownAt r trace pool.1 marks at → at.row ≡ (place_of f).0 → root < length pool.1 → Marked marks root → Reads pool.1 root read → PushesLine f old mid → new ≡ mid ++ lines_text (explained_lines m pool names (λ i. get_or at.values.items i r.nil) root read) → PushesExplained m pool roots cells trace names (f ∷ []) old new
+  pub root_explained : (root : ℕ) (marks : List (Option ℕ)) (at : RowValues F) (read old mid new : List ℕ) → slice_get roots (place_of f).1 ≡ Some root → AreClosed pool.1 marks → KnownAt r trace pool.1 marks at → at.row ≡ (place_of f).0 → root < length pool.1 → Marked marks root → Reads pool.1 root read → PushesLine f old mid → new ≡ mid ++ lines_text (explained_lines m pool names (λ i. get_or at.values.items i r.zero) root read) → PushesExplained m pool roots cells trace names (f ∷ []) old new
   root_explained root marks at read old mid new is closed known row here marked reads line written =
-      let lines : List (List ℕ) = explained_lines m pool names (λ i. get_or at.values.items i r.nil) root read in
+      let lines : List (List ℕ) = explained_lines m pool names (λ i. get_or at.values.items i r.zero) root read in
       let there : Explains m r (row_assignment r trace at.row) pool names root lines =
       explains_known m r (row_assignment r trace at.row) pool names marks at.values.items root read closed known.known here marked reads in
       let below : Explains m (modular_ring m) (row_assignment (modular_ring m) trace (place_of f).0) pool names root lines =

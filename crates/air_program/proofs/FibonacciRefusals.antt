@@ -2,7 +2,7 @@
 -- domain whose weight is great.
 use Rattle.std.proofs.Common.{◌≡◌, ◌⊎◌, ℕ, zero, suc, ◌+◌, ◌<◌, ◌≤◌, ◌^◌, List, [], ◌∷◌, ◌++◌, length, refl, arith, Bool, Option, inl, inr}
 use Rattle.std.proofs.Math.Nat.{max-le, le-max_left, le-max_right}
-use Rattle.air_field.specs.Ring.{CommRing, Over, itself}
+use Rattle.air_field.specs.Ring.{CommRing, AlgebraOver, itself}
 use Rattle.air_field.specs.Term.{Leaf, permutation, Term}
 use Rattle.air_field.specs.Part.{Part, whole, in_add_left, in_add_right, in_sub_left, in_sub_right, in_neg, in_mul_left, in_mul_right}
 use Rattle.air_field.specs.Degree.{degree_by, cached_weight, trace_weight, greatest_degree}
@@ -56,14 +56,14 @@ TermsBelow w b [] = Unit {0}
 TermsBelow w b (t ∷ ts) = (degree_by w t ≤ b) × TermsBelow w b ts
 
 -- what records such terms has no greater degree
-recorded_below : {F E : Type 0} (a : Over F E) (w : Leaf → ℕ) (b : ℕ) (us ts : List (Term F)) → EachRecords a us ts → TermsBelow w b ts → greatest_degree w us ≤ b
+recorded_below : {F E : Type 0} (a : AlgebraOver F E) (w : Leaf → ℕ) (b : ℕ) (us ts : List (Term F)) → EachRecords a us ts → TermsBelow w b ts → greatest_degree w us ≤ b
 unfolding TermsBelow
 recorded_below a w b [] [] m h = omega arith
 recorded_below a w b [] (t ∷ ts) m h = absurd m
 recorded_below a w b (u ∷ us) [] m h = absurd m
 recorded_below a w b (u ∷ us) (t ∷ ts) m h = max-le (omega (arith, m.0.degree_le w, h.0)) (recorded_below a w b us ts m.1 h.1)
 
-both_below : {F E : Type 0} (a : Over F E) (w : Leaf → ℕ) (b : ℕ) (us ts vs ss : List (Term F)) → EachRecords a us ts → EachRecords a vs ss → TermsBelow w b ts → TermsBelow w b ss → greatest_degree w (us ++ vs) ≤ b
+both_below : {F E : Type 0} (a : AlgebraOver F E) (w : Leaf → ℕ) (b : ℕ) (us ts vs ss : List (Term F)) → EachRecords a us ts → EachRecords a vs ss → TermsBelow w b ts → TermsBelow w b ss → greatest_degree w (us ++ vs) ≤ b
 unfolding TermsBelow
 both_below a w b [] [] vs ss m n h k = recorded_below a w b vs ss n k
 both_below a w b [] (t ∷ ts) vs ss m n h k = absurd m

@@ -3,8 +3,8 @@ use Rattle.std.proofs.Common.{◌≡◌, ℕ, ◌+◌, ◌<◌, true, List, [], 
 use Rattle.std.proofs.lemmas.Bool.{lt-ltb}
 use Rattle.std.proofs.lemmas.List.{append-nil, length-map}
 use Rattle.air_field.specs.BabyBear.{BabyBear}
-use Rattle.air_program.specs.Grammar.{number_of, fields_of, numbers_of, numbers_in, rows_in, rows_of, has_some}
-use Rattle.air_program.specs.Parsing.{residues, onto, with_row, PushesRow}
+use Rattle.air_program.specs.Grammar.{number_in, fields_of, numbers_of_line, numbers_in, rows_in, rows_of_lines, has_some}
+use Rattle.air_program.specs.Parsing.{element_values, onto, with_row, PushesRow}
 
 -- ---- one line
 
@@ -20,13 +20,13 @@ cons_of (Some n) (Some ns) row e = (n, ns, cc)
 first_row : (fields : List (List ℕ)) (lines : List (List (List ℕ))) (row : List ℕ) → numbers_in fields ≡ Some row → 0 < length row → rows_in (fields ∷ lines) ≡ with_row row (rows_in lines)
 first_row [] lines row e some = let none : row ≡ [] = cc in absurd (omega (arith, ap length none))
 first_row (f ∷ fs) lines row e some =
-    let made = cons_of (number_of f) (numbers_in fs) row e in
+    let made = cons_of (number_in f) (numbers_in fs) row e in
     rw (some_true f fs, e, made.2) refl
 
 blank : (fields : List (List ℕ)) (lines : List (List (List ℕ))) (row : List ℕ) → numbers_in fields ≡ Some row → length row ≡ 0 → rows_in (fields ∷ lines) ≡ rows_in lines
 blank [] lines row e none = refl
 blank (f ∷ fs) lines row e none =
-    let made = cons_of (number_of f) (numbers_in fs) row e in
+    let made = cons_of (number_in f) (numbers_in fs) row e in
     absurd (omega (arith, ap length made.2))
 
 bad : (fields : List (List ℕ)) (lines : List (List (List ℕ))) → numbers_in fields ≡ None → rows_in (fields ∷ lines) ≡ None
@@ -43,26 +43,26 @@ nothing_behind : (before row : List ℕ) → length row ≡ 0 → before ++ row 
 nothing_behind before [] none = append-nil before
 nothing_behind before (n ∷ ns) none = absurd (omega arith)
 
-pub row_taken : (before after : List BabyBear) (line : List ℕ) (lines : List (List ℕ)) (count : ℕ) → onto (residues before) (numbers_of line) ≡ Some (residues after) → length after ≡ length before + count → 0 < count → PushesRow (residues before) (residues after) count (rows_of (line ∷ lines)) (rows_of lines)
-unfolding rows_of
+pub row_taken : (before after : List BabyBear) (line : List ℕ) (lines : List (List ℕ)) (count : ℕ) → onto (element_values before) (numbers_of_line line) ≡ Some (element_values after) → length after ≡ length before + count → 0 < count → PushesRow (element_values before) (element_values after) count (rows_of_lines (line ∷ lines)) (rows_of_lines lines)
+unfolding rows_of_lines
 row_taken before after line lines count e long some =
-    let row = row_read (residues before) (residues after) (numbers_of line) e in
-    let same : length (residues after) ≡ length (residues before) + length row.0 = ap length row.2 ∙ length-append (residues before) row.0 in
+    let row = row_read (element_values before) (element_values after) (numbers_of_line line) e in
+    let same : length (element_values after) ≡ length (element_values before) + length row.0 = ap length row.2 ∙ length-append (element_values before) row.0 in
     let all : count ≡ length row.0 = omega (arith, length-map before (λ x. x.residue), length-map after (λ x. x.residue)) in
     (row.0, row.2, all, first_row (fields_of line) (map fields_of lines) row.0 row.1 (omega arith))
 
-pub line_skipped : (before after : List BabyBear) (line : List ℕ) (lines : List (List ℕ)) (count : ℕ) → onto (residues before) (numbers_of line) ≡ Some (residues after) → length after ≡ length before + count → count ≡ 0 → (residues after ≡ residues before) × (rows_of (line ∷ lines) ≡ rows_of lines)
-unfolding rows_of
+pub line_skipped : (before after : List BabyBear) (line : List ℕ) (lines : List (List ℕ)) (count : ℕ) → onto (element_values before) (numbers_of_line line) ≡ Some (element_values after) → length after ≡ length before + count → count ≡ 0 → (element_values after ≡ element_values before) × (rows_of_lines (line ∷ lines) ≡ rows_of_lines lines)
+unfolding rows_of_lines
 line_skipped before after line lines count e long none =
-    let row = row_read (residues before) (residues after) (numbers_of line) e in
-    let same : length (residues after) ≡ length (residues before) + length row.0 = ap length row.2 ∙ length-append (residues before) row.0 in
+    let row = row_read (element_values before) (element_values after) (numbers_of_line line) e in
+    let same : length (element_values after) ≡ length (element_values before) + length row.0 = ap length row.2 ∙ length-append (element_values before) row.0 in
     let empty : length row.0 ≡ 0 = omega (arith, length-map before (λ x. x.residue), length-map after (λ x. x.residue)) in
-    (row.2 ∙ nothing_behind (residues before) row.0 empty, blank (fields_of line) (map fields_of lines) row.0 row.1 empty)
+    (row.2 ∙ nothing_behind (element_values before) row.0 empty, blank (fields_of line) (map fields_of lines) row.0 row.1 empty)
 
-pub bad_line : (line : List ℕ) (lines : List (List ℕ)) → numbers_of line ≡ None → rows_of (line ∷ lines) ≡ None
-unfolding rows_of
+pub bad_line : (line : List ℕ) (lines : List (List ℕ)) → numbers_of_line line ≡ None → rows_of_lines (line ∷ lines) ≡ None
+unfolding rows_of_lines
 bad_line line lines e = bad (fields_of line) (map fields_of lines) e
 
-pub no_line : rows_of [] ≡ Some []
-unfolding rows_of
+pub no_line : rows_of_lines [] ≡ Some []
+unfolding rows_of_lines
 no_line = refl

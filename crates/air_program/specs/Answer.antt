@@ -10,7 +10,7 @@ use Rattle.p3_air.specs.Audits.{IsAuditUnder, IsDegreePast, AuditRefusesUnder}
 use Rattle.p3_air.specs.declared.audit.Audit.{Audit}
 use Rattle.air_core.specs.declared.errors.AirError.{AirError}
 use Rattle.air_program.specs.Fibonacci.{fibonacci_declaration}
-use Rattle.air_program.specs.Parsing.{residues}
+use Rattle.air_program.specs.Parsing.{element_values}
 use Rattle.air_program.specs.Texts.{Found, found, IsFindingsText, findings_status}
 use Rattle.air_program.specs.Refusals.{IsRefusal}
 
@@ -29,8 +29,8 @@ pub record AuditFinds {F : Type 0} {p : ℕ} (m : Modular F p) (x : Instance F) 
   pub found_is : f ≡ found_by audit
 
 -- what such an audit refuses
-abbrev pub AuditRefuses : {F : Type 0} {p : ℕ} → Modular F p → Instance F → Option ℕ → ℕ → AirError → Type 0
-AuditRefuses m = AuditRefusesUnder (modular_ring m) (equal m)
+abbrev pub CappedAuditRefuses : {F : Type 0} {p : ℕ} → Modular F p → Instance F → Option ℕ → ℕ → AirError → Type 0
+CappedAuditRefuses m = AuditRefusesUnder (modular_ring m) (equal m)
 
 -- the text and the status of what an audit finds
 abbrev pub TellsFound : {F : Type 0} {p : ℕ} → Modular F p → Instance F → Option ℕ → ℕ → ℕ → List ℕ → Type 0
@@ -58,5 +58,5 @@ abbrev pub IsAnswerTo : Option ℕ → ℕ → Option (List ℕ × List ℕ) →
 IsAnswerTo cap w None status text = IsRefusal (codes "Syntax") status text
 IsAnswerTo cap w (Some p) status text =
     (public : List BabyBear) × (values : List BabyBear)
-    × (residues public ≡ p.0) × (residues values ≡ p.1)
+    × (element_values public ≡ p.0) × (element_values values ≡ p.1)
     × AnswersGiven (fibonacci_instance (grid_of 2 values) public) cap w status text

@@ -23,7 +23,8 @@ use Rattle.air_program.specs.Answer.{AuditFinds}
 use Rattle.air_program.specs.ByField.{AnswersBytes}
 use Rattle.air_program.specs.FlatAnswer.{flat_instance, RefusesValue}
 use Rattle.air_program.specs.Refusals.{IsRefusal, air_name}
-use Rattle.air_program.specs.Texts.{Found, place_of, IsFailureLine, count_lines, findings_status, lines_text}
+use Rattle.air_program.specs.Texts.{Found, place_of, IsFailureLine, count_lines, findings_status}
+use Rattle.air_infix.specs.Lines.{lines_text}
 
 -- a failure: its row, its constraint and the label's bytes
 abbrev pub Failure : Type 0

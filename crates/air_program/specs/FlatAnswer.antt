@@ -9,7 +9,7 @@ use Rattle.air_object.specs.Input.{SpellsInput, HasInputFault}
 use Rattle.air_object.specs.declared.input.FlatInput.{FlatInput}
 use Rattle.p3_air.specs.Theorem.{Instance, instance}
 use Rattle.air_core.specs.declared.errors.AirError.{AirError}
-use Rattle.air_program.specs.Answer.{AuditRefuses, TellsFound}
+use Rattle.air_program.specs.Answer.{CappedAuditRefuses, TellsFound}
 use Rattle.air_object.specs.Fields.{field_of, OverField}
 use Rattle.air_object.specs.declared.field_name.FieldName.{FieldName}
 use Rattle.air_program.specs.Refusals.{IsRefusal, air_name}
@@ -50,7 +50,7 @@ module _ {F : Type 0} {p : ℕ} (m : Modular F p) where
 
   -- what its audit refuses
   abbrev pub AuditRefusesInput : FlatInput F → AirError → Type 0
-  AuditRefusesInput input e = AuditRefuses m (flat_instance input) input.cap input.transition_weight e
+  AuditRefusesInput input e = CappedAuditRefuses m (flat_instance input) input.cap input.transition_weight e
 
   -- the first refusal: of the reading and then of the matrices, where the value spells no input,
   -- else of the audit

@@ -15,8 +15,8 @@ is_numeral field = nat_lt 0 (length field) && (nat_le (length field) 10 && all_a
 abbrev pub if_element : ℕ → Option ℕ
 if_element n = if nat_le n 2013265920 then Some n else None
 
-unfoldable pub number_of : List ℕ → Option ℕ
-number_of field = if is_numeral field then if_element (digits_value 10 field) else None
+unfoldable pub number_in : List ℕ → Option ℕ
+number_in field = if is_numeral field then if_element (digits_value 10 field) else None
 
 -- ---- lines
 
@@ -34,10 +34,10 @@ all_of (x ∷ xs) = option_and_then (λ v. option_map (λ vs. v ∷ vs) (all_of 
 
 -- the numbers that these fields write
 abbrev pub numbers_in : List (List ℕ) → Option (List ℕ)
-numbers_in fields = all_of (map number_of fields)
+numbers_in fields = all_of (map number_in fields)
 
-abbrev pub numbers_of : List ℕ → Option (List ℕ)
-numbers_of line = numbers_in (fields_of line)
+abbrev pub numbers_of_line : List ℕ → Option (List ℕ)
+numbers_of_line line = numbers_in (fields_of line)
 
 -- ---- the whole input
 
@@ -45,8 +45,8 @@ numbers_of line = numbers_in (fields_of line)
 abbrev pub rows_in : List (List (List ℕ)) → Option (List (List ℕ))
 rows_in ls = all_of (map numbers_in (filter has_some ls))
 
-unfoldable pub rows_of : List (List ℕ) → Option (List (List ℕ))
-rows_of ls = rows_in (map fields_of ls)
+unfoldable pub rows_of_lines : List (List ℕ) → Option (List (List ℕ))
+rows_of_lines ls = rows_in (map fields_of ls)
 
 -- three public values, and rows of two, one after the other
 abbrev pub input_of : List (List ℕ) → Option (List ℕ × List ℕ)
@@ -56,4 +56,4 @@ input_of (public ∷ rows) = if length public == 3 && list_all (λ row. length r
 -- The public values and the trace, or nothing where the syntax is wrong. Lines are as std's `lines` has them: a byte 10 ends one,
 -- and one byte 13 before it is dropped. The last line may lack its end, and then a byte 13 stays.
 unfoldable pub parse : List ℕ → Option (List ℕ × List ℕ)
-parse bytes = option_and_then input_of (rows_of (lines bytes))
+parse bytes = option_and_then input_of (rows_of_lines (lines bytes))

@@ -3,8 +3,8 @@ use Rattle.std.specs.Prelude.{◌≡◌, ℕ, Option, Some, option_map, List, []
 use Rattle.air_field.specs.BabyBear.{BabyBear}
 
 -- the numbers below the modulus
-abbrev pub residues : List BabyBear → List ℕ
-residues = map (λ x. x.residue)
+abbrev pub element_values : List BabyBear → List ℕ
+element_values = map (λ x. x.residue)
 
 -- the numbers behind those of a list
 abbrev pub onto : List ℕ → Option (List ℕ) → Option (List ℕ)

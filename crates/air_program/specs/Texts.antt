@@ -1,12 +1,9 @@
 -- The lines that are printed.
 use Rattle.std.specs.Prelude.{◌≡◌, ◌≢◌, ℕ, All, List, [], ◌∷◌, ◌++◌, length, map, codes, decimal, ◌==◌, if◌then◌else◌, Option, IfSome}
 use Rattle.std.specs.List.{AllZip, flat_map}
+use Rattle.air_infix.specs.Lines.{lines_text}
 use Rattle.air_report.specs.FailureTexts.{seen_failure, label_suffix}
 use Rattle.air_program.specs.declared.texts.Findings.{Findings}
-
--- each line ended by a byte 10
-abbrev pub lines_text : List (List ℕ) → List ℕ
-lines_text lines = flat_map (λ line. line ++ codes "\n") lines
 
 -- what was found: the three counts, and of each failure the row, the constraint and the label's bytes
 pub record Found : Type 0 where

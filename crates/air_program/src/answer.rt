@@ -7,7 +7,7 @@ ghost use Rattle.p3_air.specs.Theorem.{instance};
 ghost use Rattle.air_program.specs.Texts.{found, findings_status, IsFindingsText};
 ghost use Rattle.air_program.specs.Commands.{has_labels, trace};
 ghost use Rattle.air_program.specs.Grammar.{parse};
-ghost use Rattle.air_program.specs.Answer.{AuditFinds, AuditRefuses, fibonacci_instance, PassesDegree, IsAnswerTo};
+ghost use Rattle.air_program.specs.Answer.{AuditFinds, CappedAuditRefuses, fibonacci_instance, PassesDegree, IsAnswerTo};
 ghost use Rattle.air_program.specs.Requests.{Answers, MayRefuse};
 
 use crate::commands::{Command, Request};
@@ -61,7 +61,7 @@ pub(crate) fn findings_of<
     ensures found { IfOk result (λ findings. AuditFinds F.residues
         (instance (A.declaration air.now) main.now public_values.now)
         cap transition_weight (found findings)) }
-    ensures refused { IfErr result (AuditRefuses F.residues
+    ensures refused { IfErr result (CappedAuditRefuses F.residues
         (instance (A.declaration air.now) main.now public_values.now) cap transition_weight) }
 {
     match audit_air_with_cap(alloc, air, main, public_values, cap, transition_weight) {
@@ -117,7 +117,7 @@ pub(crate) fn status(findings: &Findings) -> u8
 }
 
 /// The status and the text of what was found.
-pub(crate) fn told(alloc: Global, findings: &Findings) -> Result<(u8, String), Refusal>
+pub(crate) fn render(alloc: Global, findings: &Findings) -> Result<(u8, String), Refusal>
     ensures status { IfOk result (λ p. p.0 ≡ findings_status (found findings.now)) }
     ensures text { IfOk result (λ p. IsFindingsText (found findings.now) (string_bytes p.1)) }
     ensures refused { IfErr result (λ why. why ≡ Refusal.Memory) }
@@ -159,7 +159,7 @@ fn answer_trace(
         cap,
         transition_weight,
     )?;
-    told(alloc, &findings)
+    render(alloc, &findings)
 }
 
 /// The status and the text that answer an input.

@@ -18,7 +18,8 @@ ghost use Rattle.air_program.specs.Explained.{failing_roots, cell_lines, PushesN
 ghost use Rattle.air_program.specs.FlatAnswer.{StandsFor, HasNoValue, AuditRefusesInput};
 ghost use Rattle.air_program.specs.Refusals.{name_of, refusal_text, air_refusal};
 ghost use Rattle.air_program.specs.Requests.{MayRefuse};
-ghost use Rattle.air_program.specs.Texts.{found, findings_status, lines_text};
+ghost use Rattle.air_program.specs.Texts.{found, findings_status};
+ghost use Rattle.air_infix.specs.Lines.{lines_text};
 ghost use Rattle.air_core.specs.declared.errors.AirError.{AirError};
 
 use crate::answer::{findings_of, status};

@@ -12,7 +12,7 @@ ghost use Rattle.air_program.specs.Refusals.{name_of, refusal_text};
 ghost use Rattle.air_program.specs.Requests.{MayRefuse};
 ghost use Rattle.air_program.specs.Texts.{found};
 
-use crate::answer::{findings_of, told};
+use crate::answer::{findings_of, render};
 use crate::commands::Request;
 use crate::refusals::Refusal;
 use crate::texts::Findings;
@@ -106,7 +106,7 @@ fn answer_parts<F: PrimeField64 + 'static>(
     } = parts;
     let input = input_from(alloc, &rest, main, constraints)?;
     let findings = audit_input(alloc, input)?;
-    told(alloc, &findings)
+    render(alloc, &findings)
 }
 
 /// The status and the text that answer an object over F, of which the bytes are the text.

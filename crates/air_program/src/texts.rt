@@ -2,7 +2,8 @@
 
 ghost use Rattle.std.specs.Prelude.{◌≡◌, ◌++◌, OnOk, IfOk, IfSome, option_map, string_bytes};
 ghost use Rattle.air_report.specs.FailureTexts.{label_suffix, seen_failure};
-ghost use Rattle.air_program.specs.Texts.{HasNoLineEnd, lines_text, count_lines, found, PushesLine, IsFindingsText};
+ghost use Rattle.air_program.specs.Texts.{HasNoLineEnd, count_lines, found, PushesLine, IsFindingsText};
+ghost use Rattle.air_infix.specs.Lines.{lines_text};
 
 use p3_air::{ConstraintFailure, ConstraintReport};
 use std::alloc::{AllocError, Global};

@@ -1,6 +1,6 @@
 -- Horner's fold is its recombination.
 use Rattle.std.proofs.Common.{◌≡◌, ℕ, ◌+◌, ◌<◌, List, [], ◌∷◌, length, map, get_or, refl, sym, ap, ap₂, ◌∙◌}
-use Rattle.air_field.specs.Ring.{CommRing, Over}
+use Rattle.air_field.specs.Ring.{CommRing, AlgebraOver}
 use Rattle.air_field.specs.Extension.{Basis, ExtensionLaws}
 use Rattle.air_recording.specs.Weights.{weight, weights_of, coordinates_of, all_coordinates_of}
 use Rattle.air_recording.specs.declared.symbolic.kind.ConstraintKind.{ConstraintKind}
@@ -9,7 +9,7 @@ use Rattle.air_recording.proofs.Tabulations.{IsTabulation, length-tabulation, ge
 use Rattle.air_recording.proofs.SumLaws.{sum_below-ext, sum_below-mul, sum_over, sum_over-ext, sum_below-over, weighted_sum-map, sum_below-from, sum-places, length-places}
 use Rattle.air_recording.proofs.BasisParts.{part, element-parts}
 
-module _ {F E : Type 0} (R : CommRing F) (a : Over F E) (basis : Basis F E) (n : ℕ) (laws : ExtensionLaws R a basis n) where
+module _ {F E : Type 0} (R : CommRing F) (a : AlgebraOver F E) (basis : Basis F E) (n : ℕ) (laws : ExtensionLaws R a basis n) where
   tabulated : (ws : List E) → IsTabulation (all_coordinates_of R basis ws) (coordinates_of R basis ws)
   tabulated ws = record { none = refl; more = λ m. refl }
 
@@ -62,7 +62,7 @@ module _ {F E : Type 0} (R : CommRing F) (a : Over F E) (basis : Basis F E) (n :
       ∙ ap₂ (λ k m. sum_below a.ring (λ i. a.ring.mul (weight a.ring alpha k i) (at i)) m) total (sym same_length))))
     where
       at : ℕ → E
-      at i = get_or values i a.ring.nil
+      at i = get_or values i a.ring.zero
 
       total : length b + length e ≡ length values
       total = ap₂ (λ x y. length x + length y) are.base are.extension ∙ (length-places 0 kinds ∙ sym same_length)

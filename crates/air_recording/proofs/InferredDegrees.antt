@@ -10,7 +10,7 @@ use Rattle.air_symbolic.specs.Weights.{SomeOverflows}
 use Rattle.air_symbolic.specs.Leaves.{Leaves}
 use Rattle.air_symbolic.specs.Pools.{term_at}
 use Rattle.air_symbolic.specs.declared.pools.expr.SymbolicExpr.{SymbolicExpr}
-use Rattle.air_field.specs.Ring.{CommRing, Over, itself}
+use Rattle.air_field.specs.Ring.{CommRing, AlgebraOver, itself}
 use Rattle.air_builder.specs.Declaration.{Declaration}
 use Rattle.air_core.specs.Errors.{air_error}
 use Rattle.air_recording.specs.Inferred.{periods_of, greatest_in, AnswersInferred, DegreeRefuses}
@@ -85,7 +85,7 @@ weighted_answer (suc w) n periods us (Err Memory) some h fits = h
 weighted_answer (suc w) n periods us (Err DegreeOverflow) some h fits = h
 
 -- a refusal of the degree of what is recorded
-pub inferred_refused : {F E : Type 0} (r : CommRing F) (over : Over F E) (w n : ℕ) (layout : AirLayout) (d : Declaration F) (us vs : List (Term F)) (e : RingError)
+pub inferred_refused : {F E : Type 0} (r : CommRing F) (over : AlgebraOver F E) (w n : ℕ) (layout : AirLayout) (d : Declaration F) (us vs : List (Term F)) (e : RingError)
     → EachRecords (itself r) us (base_terms d.declared) → EachRecords over vs (ext_terms d.declared) → RecordingAnswers r over layout d
     → AnswersInferred w n (periods_of d.periodic) (us ++ vs) (Err e) → DegreeRefuses r over w n layout d (air_error e)
 inferred_refused r over w n layout d us vs Memory b x f h = inl (inr (f.suits.fits, tt))

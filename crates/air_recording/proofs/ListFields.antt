@@ -4,8 +4,8 @@ use Rattle.std.specs.Option.{ok_or}
 use Rattle.serde_json.specs.Data.{Data}
 use Rattle.air_wire.specs.laws.Readings.{ok_or_found}
 use Rattle.air_wire.specs.Results.{Fails}
-use Rattle.air_wire.specs.Wholes.{HasWholes, wholes_at}
-use Rattle.air_wire.specs.laws.Wholes.{wholes_found, wholes_read}
+use Rattle.air_wire.specs.WholeNumbers.{HasWholes, wholes_at}
+use Rattle.air_wire.specs.laws.WholeNumbers.{wholes_found, wholes_read}
 use Rattle.air_wire.specs.declared.errors.FlatError.{FlatError}
 use Rattle.air_wire.specs.declared.errors.FlatError.TheVariants as faults
 

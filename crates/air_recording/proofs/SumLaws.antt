@@ -2,7 +2,7 @@
 use Rattle.std.proofs.Common.{◌≡◌, ℕ, zero, suc, ◌+◌, ◌<◌, Bool, List, [], ◌∷◌, length, map, refl, sym, ap, ap₂, ◌∙◌, arith}
 use Rattle.std.specs.List.{filter, enumerate_from}
 use Rattle.air_field.specs.Ring.{CommRing}
-use Rattle.air_field.specs.laws.Ring.{nil_mul, add_mul, add_left_comm, ring_rules}
+use Rattle.air_field.specs.laws.Ring.{zero_mul, add_mul, add_left_comm, ring_rules}
 use Rattle.air_recording.specs.Kinds.{is_base, is_extension}
 use Rattle.air_recording.specs.declared.symbolic.kind.ConstraintKind.{ConstraintKind}
 use Rattle.air_recording.specs.declared.symbolic.kind.ConstraintKind.TheVariants as kind
@@ -18,24 +18,24 @@ module _ {E : Type 0} (r : CommRing E) where
   sum_below-ext f g (suc n) h = ap₂ r.add (sum_below-ext f g n (λ i b. h i (omega arith))) (h n (omega arith))
 
   pub sum_below-mul : (f : ℕ → E) (c : E) (n : ℕ) → sum_below r (λ i. r.mul (f i) c) n ≡ r.mul (sum_below r f n) c
-  sum_below-mul f c zero = sym (nil_mul r c)
+  sum_below-mul f c zero = sym (zero_mul r c)
   sum_below-mul f c (suc n) = ap (λ x. r.add x (r.mul (f n) c)) (sum_below-mul f c n) ∙ sym (add_mul r (sum_below r f n) (f n) c)
 
   -- the sum of f over a list
   abbrev pub sum_over : {A : Type 0} → (A → E) → List A → E
-  sum_over f [] = r.nil
+  sum_over f [] = r.zero
   sum_over f (x ∷ xs) = r.add (f x) (sum_over f xs)
 
   pub sum_over-ext : {A : Type 0} (f g : A → E) (xs : List A) → ((x : A) → f x ≡ g x) → sum_over f xs ≡ sum_over g xs
   sum_over-ext f g [] h = refl
   sum_over-ext f g (x ∷ xs) h = ap₂ r.add (h x) (sum_over-ext f g xs h)
 
-  sum_over-nil : {A : Type 0} (xs : List A) → sum_over (λ x. r.nil) xs ≡ r.nil
+  sum_over-nil : {A : Type 0} (xs : List A) → sum_over (λ x. r.zero) xs ≡ r.zero
   sum_over-nil [] = refl
-  sum_over-nil (x ∷ xs) = ap (r.add r.nil) (sum_over-nil xs) ∙ r.add_nil r.nil
+  sum_over-nil (x ∷ xs) = ap (r.add r.zero) (sum_over-nil xs) ∙ r.add_zero r.zero
 
   sum_over-add : {A : Type 0} (f g : A → E) (xs : List A) → sum_over (λ x. r.add (f x) (g x)) xs ≡ r.add (sum_over f xs) (sum_over g xs)
-  sum_over-add f g [] = sym (r.add_nil r.nil)
+  sum_over-add f g [] = sym (r.add_zero r.zero)
   sum_over-add f g (x ∷ xs) =
       ap (r.add (r.add (f x) (g x))) (sum_over-add f g xs) ∙ simp ring_rules
 
@@ -52,11 +52,11 @@ module _ {E : Type 0} (r : CommRing E) where
 
   -- f k + .. + f (k + n - 1)
   abbrev pub sum_from : (ℕ → E) → ℕ → ℕ → E
-  sum_from f k zero = r.nil
+  sum_from f k zero = r.zero
   sum_from f k (suc n) = r.add (f k) (sum_from f (k + 1) n)
 
   sum_from-last : (f : ℕ → E) (k n : ℕ) → sum_from f k (suc n) ≡ r.add (sum_from f k n) (f (k + n))
-  sum_from-last f k zero = r.add_comm (f k) r.nil ∙ ap (λ i. r.add r.nil (f i)) (omega arith)
+  sum_from-last f k zero = r.add_comm (f k) r.zero ∙ ap (λ i. r.add r.zero (f i)) (omega arith)
   sum_from-last f k (suc n) =
       ap (r.add (f k)) (sum_from-last f (k + 1) n ∙ ap (λ i. r.add (sum_from f (k + 1) n) (f i)) (omega arith))
       ∙ sym (r.add_assoc (f k) (sum_from f (k + 1) n) (f (k + suc n)))
@@ -69,7 +69,7 @@ module _ {E : Type 0} (r : CommRing E) where
 
   -- the places of both kinds are all places
   pub sum-places : (f : ℕ → E) (k : ℕ) (kinds : List ConstraintKind) → r.add (sum_over f (places_from is_base k kinds)) (sum_over f (places_from is_extension k kinds)) ≡ sum_from f k (length kinds)
-  sum-places f k [] = r.add_nil r.nil
+  sum-places f k [] = r.add_zero r.zero
   sum-places f k (kind.Base ∷ kinds) =
       r.add_assoc (f k) (sum_over f (places_from is_base (k + 1) kinds)) (sum_over f (places_from is_extension (k + 1) kinds))
       ∙ ap (r.add (f k)) (sum-places f (k + 1) kinds)

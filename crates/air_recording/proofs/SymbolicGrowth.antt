@@ -1,7 +1,7 @@
 -- How a symbolic builder grows: by nothing, and by one expression that was put on a list.
 use Rattle.std.proofs.Common.{◌≡◌, ℕ, List, [], ◌∷◌, Result, OnOk, OnErr, IfErr, refl, sym, subst}
 use Rattle.std.proofs.lemmas.Result.{on_ok_weaker, on_err_weaker, IfErr-weaker}
-use Rattle.air_field.specs.Ring.{CommRing, Over}
+use Rattle.air_field.specs.Ring.{CommRing, AlgebraOver}
 use Rattle.air_field.specs.Extension.{Basis, ExtensionLaws}
 use Rattle.air_field.specs.Term.{leaf_term, with_leaves}
 use Rattle.air_symbolic.specs.Pools.{PoolMeans, Grown}
@@ -18,7 +18,7 @@ use Rattle.air_builder.specs.laws.Batches.{asserted_one}
 use Rattle.air_recording.specs.Recording.{Fixed, Lists, with_base, with_ext, KeptRecording, GrewRecording}
 use Rattle.air_recording.specs.laws.Recording.{recorded_none, recorded_base, recorded_ext}
 
-module _ {F EF : Type 0} {r : CommRing F} {over : Over F EF} {basis : Basis F EF} {n : ℕ} (laws : ExtensionLaws r over basis n)
+module _ {F EF : Type 0} {r : CommRing F} {over : AlgebraOver F EF} {basis : Basis F EF} {n : ℕ} (laws : ExtensionLaws r over basis n)
     (p : ExtNodes F EF) (s : Fixed ℕ) (old : Lists ℕ ℕ) where
   -- the builder kept its pool
   abbrev Kept : Type 0

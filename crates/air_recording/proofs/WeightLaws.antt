@@ -27,10 +27,10 @@ module _ {E : Type 0} (r : CommRing E) (alpha : E) where
   -- what stands in them at these indices, counted from the last power on, are weights
   pub picked-weights : (k count : ℕ) (given powers : List E) (indices below : List ℕ) (picked : List E) → given ≡ powers → powers ≡ powers_of r alpha k → indices ≡ below → k ≡ count → All (λ i. i < k) below → ((d : E) → picked ≡ map (λ i. get_or given (length given - 1 - i) d) indices) → picked ≡ weights_of r alpha count below
   picked-weights k count given powers indices below picked lent are same counted h picks =
-      picks r.nil
-      ∙ (ap₂ (λ l is. map (λ i. get_or l (length l - 1 - i) r.nil) is) (lent ∙ are) same
-      ∙ (ap (λ m. map (λ i. get_or (powers_of r alpha k) (m - 1 - i) r.nil) below) (length-powers k)
-      ∙ (weights-by_index k r.nil below h ∙ ap (λ m. weights_of r alpha m below) counted)))
+      picks r.zero
+      ∙ (ap₂ (λ l is. map (λ i. get_or l (length l - 1 - i) r.zero) is) (lent ∙ are) same
+      ∙ (ap (λ m. map (λ i. get_or (powers_of r alpha k) (m - 1 - i) r.zero) below) (length-powers k)
+      ∙ (weights-by_index k r.zero below h ∙ ap (λ m. weights_of r alpha m below) counted)))
 
 -- what holds of all of a joined list holds of all of each part
 pub All-left : (P : ℕ → Type 0) (xs ys : List ℕ) → All P (xs ++ ys) → All P xs

@@ -1,32 +1,32 @@
 -- Horner's fold of the values of constraints, and its recombination from weights and coordinates.
 use Rattle.std.specs.Prelude.{◌≡◌, ℕ, zero, suc, List, [], ◌∷◌, ◌++◌, length, map, replicate, get_or}
-use Rattle.air_field.specs.Ring.{CommRing, Over}
+use Rattle.air_field.specs.Ring.{CommRing, AlgebraOver}
 use Rattle.air_recording.specs.Weights.{weight}
 use Rattle.air_recording.specs.Kinds.{is_base, is_extension, places_where}
 use Rattle.air_recording.specs.declared.symbolic.kind.ConstraintKind.{ConstraintKind}
 
 -- f 0 + .. + f (n - 1)
 abbrev pub sum_below : {E : Type 0} → CommRing E → (ℕ → E) → ℕ → E
-sum_below r f zero = r.nil
+sum_below r f zero = r.zero
 sum_below r f (suc n) = r.add (sum_below r f n) (f n)
 
 -- the sum of the k values by powers of alpha: value i times alpha^(k-1-i)
 abbrev pub sum_by_powers : {E : Type 0} → CommRing E → E → List E → E
-sum_by_powers r alpha values = sum_below r (λ i. r.mul (weight r alpha (length values) i) (get_or values i r.nil)) (length values)
+sum_by_powers r alpha values = sum_below r (λ i. r.mul (weight r alpha (length values) i) (get_or values i r.zero)) (length values)
 
 -- the element whose coefficient d is one, and whose others are zero
-abbrev pub basis_element : {F E : Type 0} → CommRing F → Over F E → ℕ → E
-basis_element R a d = a.extend (replicate d R.nil ++ R.one ∷ [])
+abbrev pub basis_element : {F E : Type 0} → CommRing F → AlgebraOver F E → ℕ → E
+basis_element R a d = a.extend (replicate d R.zero ++ R.one ∷ [])
 
 -- the sum of weight times value, place by place
 abbrev pub weighted_sum : {E : Type 0} → CommRing E → List E → List E → E
-weighted_sum r [] values = r.nil
-weighted_sum r (w ∷ weights) [] = r.nil
+weighted_sum r [] values = r.zero
+weighted_sum r (w ∷ weights) [] = r.zero
 weighted_sum r (w ∷ weights) (v ∷ values) = r.add (r.mul w v) (weighted_sum r weights values)
 
 -- The sum, over each basis element and each base constraint, of coordinate times basis element times value, plus the
 -- sum, over each extension constraint, of whole power times value.
-abbrev pub recombination : {F E : Type 0} → CommRing F → Over F E → List (List F) → List E → List E → List E → E
+abbrev pub recombination : {F E : Type 0} → CommRing F → AlgebraOver F E → List (List F) → List E → List E → List E → E
 recombination R a coordinates powers base extension =
     a.ring.add
     (sum_below a.ring (λ d. weighted_sum a.ring (map (λ c. a.ring.mul (a.embed c) (basis_element R a d)) (get_or coordinates d [])) base) (length coordinates))
@@ -39,11 +39,11 @@ pub record ArePlacesOf (kinds : List ConstraintKind) (base_indices ext_indices :
 
 -- the values at these indices
 abbrev pub values_at : {E : Type 0} → CommRing E → List E → List ℕ → List E
-values_at r values indices = map (λ i. get_or values i r.nil) indices
+values_at r values indices = map (λ i. get_or values i r.zero) indices
 
 -- Of constraints whose kinds stand at these indices, whatever their values, the recombination from these coordinates
 -- and powers is Horner's fold of all values in order. Of no constraints it is zero.
-abbrev pub Recombines : {F E : Type 0} → CommRing F → Over F E → E → List ℕ → List ℕ → List (List F) → List E → Type 0
+abbrev pub Recombines : {F E : Type 0} → CommRing F → AlgebraOver F E → E → List ℕ → List ℕ → List (List F) → List E → Type 0
 Recombines {E = E} R a alpha base_indices ext_indices coordinates powers =
     (kinds : List ConstraintKind) (values : List E) → ArePlacesOf kinds base_indices ext_indices → length values ≡ length kinds
     → recombination R a coordinates powers (values_at a.ring values base_indices) (values_at a.ring values ext_indices) ≡ sum_by_powers a.ring alpha values

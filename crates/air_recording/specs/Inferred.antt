@@ -1,6 +1,6 @@
 -- The degree that is inferred, and where it is refused.
 use Rattle.std.specs.Prelude.{Result, Ok, Err, ◌≡◌, ◌⊎◌, ℕ, ◌≤◌, ◌^◌, max, List, [], ◌∷◌, ◌++◌, Vec, length, map}
-use Rattle.air_field.specs.Ring.{CommRing, Over, itself}
+use Rattle.air_field.specs.Ring.{CommRing, AlgebraOver, itself}
 use Rattle.air_field.specs.Extension.{Basis}
 use Rattle.air_field.specs.Term.{Leaf, Term}
 use Rattle.air_field.specs.Degree.{greatest_degree}
@@ -35,7 +35,7 @@ recorded_terms basis recorded =
 -- The degree inferred for n rows, in a domain of weight w, from terms that record what an AIR declares: base terms over the
 -- base field and over the extension, extension terms over the extension. For two rows and more it bounds the degrees of
 -- their polynomials wherever the leaves' are within theirs.
-pub record IsInferred {F E : Type 0} (r : CommRing F) (over : Over F E) (w n : ℕ) (d : Declaration F) (degree : ℕ) : Type 0 where
+pub record IsInferred {F E : Type 0} (r : CommRing F) (over : AlgebraOver F E) (w n : ℕ) (d : Declaration F) (degree : ℕ) : Type 0 where
   pub base : List (Term F)
   pub ext : List (Term F)
   pub base_recorded : EachRecords (itself r) base (base_terms d.declared)
@@ -53,7 +53,7 @@ AnswersInferred w n periods us (Err Memory) = Unit {0}
 AnswersInferred w n periods us (Err DegreeOverflow) = 2 ^ 64 ≤ greatest_degree (domain_weight w n periods) us
 
 -- of terms that record what is declared one has a degree past `usize` by these weights
-pub record IsDegreeOver {F E : Type 0} (r : CommRing F) (over : Over F E) (weights : Leaf → ℕ) (ts : List (Assertion F)) : Type 0 where
+pub record IsDegreeOver {F E : Type 0} (r : CommRing F) (over : AlgebraOver F E) (weights : Leaf → ℕ) (ts : List (Assertion F)) : Type 0 where
   pub base : List (Term F)
   pub ext : List (Term F)
   pub base_recorded : EachRecords (itself r) base (base_terms ts)
@@ -62,7 +62,7 @@ pub record IsDegreeOver {F E : Type 0} (r : CommRing F) (over : Over F E) (weigh
 
 -- It refuses what the recording refuses, and, where the recording answers, a recorded degree past `usize`, as a domain of
 -- weight w counts degrees over n rows.
-abbrev pub DegreeRefuses : {F E : Type 0} → CommRing F → Over F E → ℕ → ℕ → AirLayout → Declaration F → AirError → Type 0
+abbrev pub DegreeRefuses : {F E : Type 0} → CommRing F → AlgebraOver F E → ℕ → ℕ → AirLayout → Declaration F → AirError → Type 0
 DegreeRefuses r over w n layout d e =
     RecordRefuses layout d e
     ⊎ (RecordingAnswers r over layout d

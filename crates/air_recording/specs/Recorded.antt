@@ -1,7 +1,7 @@
 -- What a recording answers and refuses.
 use Rattle.std.specs.List.{AllZip}
 use Rattle.std.specs.Prelude.{◌≡◌, ◌⊎◌, ℕ, ◌≤◌, ◌<◌, ◌^◌, List, ◌++◌, map}
-use Rattle.air_field.specs.Ring.{CommRing, Over, itself}
+use Rattle.air_field.specs.Ring.{CommRing, AlgebraOver, itself}
 use Rattle.air_field.specs.Term.{Leaf, Term}
 use Rattle.air_field.specs.Value.{value}
 use Rattle.air_field.specs.Polynomial.{polynomial, SamePolynomial}
@@ -21,13 +21,13 @@ use Rattle.air_builder.specs.Refused.{Refused}
 
 -- a recorded term for one that is declared: in an algebra, the same polynomial under every assignment of coefficient
 -- lists, the same value under every assignment, and a degree that is no greater by any weights
-pub record RecordsTerm {F E : Type 0} (a : Over F E) (u t : Term F) : Type 0 where
+pub record RecordsTerm {F E : Type 0} (a : AlgebraOver F E) (u t : Term F) : Type 0 where
   pub same : (s : Leaf → List E) → SamePolynomial (polynomial a s u) (polynomial a s t)
   pub same_value : (s : Leaf → E) → value a s u ≡ value a s t
   pub degree_le : (w : Leaf → ℕ) → degree_by w u ≤ degree_by w t
 
 -- one for each, in order
-abbrev pub EachRecords : {F E : Type 0} → Over F E → List (Term F) → List (Term F) → Type 0
+abbrev pub EachRecords : {F E : Type 0} → AlgebraOver F E → List (Term F) → List (Term F) → Type 0
 EachRecords a us ts = AllZip (RecordsTerm a) us ts
 
 -- the terms of these numbers of a pool
@@ -36,7 +36,7 @@ terms_of reads pool is = map (λ i. term_at reads pool i) is
 
 -- Each declared base term has one number of the base pool, in order: it means that term, and so has its polynomial,
 -- over the base field and over the extension.
-pub record RecordsBase {U A F E : Type 0} (r : CommRing F) (over : Over F E) (reads : U → Leaves A F) (pool : U × List (SymbolicExpr A)) (numbers : List ℕ) (ts : List (Assertion F)) : Type 0 where
+pub record RecordsBase {U A F E : Type 0} (r : CommRing F) (over : AlgebraOver F E) (reads : U → Leaves A F) (pool : U × List (SymbolicExpr A)) (numbers : List ℕ) (ts : List (Assertion F)) : Type 0 where
   pub well_formed : IsPool reads pool
   pub means : AllZip (PoolMeans reads r pool) numbers (base_terms ts)
   pub terms : EachRecords (itself r) (terms_of reads pool numbers) (base_terms ts)
@@ -44,7 +44,7 @@ pub record RecordsBase {U A F E : Type 0} (r : CommRing F) (over : Over F E) (re
 
 -- Each declared extension term has one number of the extension pool, in order: it means that term, and so has its
 -- polynomial.
-pub record RecordsExt {U A F E : Type 0} (r : CommRing F) (over : Over F E) (reads : U → Leaves A F) (pool : U × List (SymbolicExpr A)) (numbers : List ℕ) (ts : List (Assertion F)) : Type 0 where
+pub record RecordsExt {U A F E : Type 0} (r : CommRing F) (over : AlgebraOver F E) (reads : U → Leaves A F) (pool : U × List (SymbolicExpr A)) (numbers : List ℕ) (ts : List (Assertion F)) : Type 0 where
   pub well_formed : IsPool reads pool
   pub means : AllZip (PoolMeans reads r pool) numbers (ext_terms ts)
   pub terms : EachRecords over (terms_of reads pool numbers) (ext_terms ts)
@@ -58,7 +58,7 @@ RecordRefuses layout d e =
 
 -- The recording answers: the layout has the AIR's counts and each entry that a declared term names, and some terms which
 -- record what is declared have cached degrees within `usize`.
-pub record RecordingAnswers {F E : Type 0} (r : CommRing F) (over : Over F E) (layout : AirLayout) (d : Declaration F) : Type 0 where
+pub record RecordingAnswers {F E : Type 0} (r : CommRing F) (over : AlgebraOver F E) (layout : AirLayout) (d : Declaration F) : Type 0 where
   pub suits : LayoutSuits layout d
   pub base : List (Term F)
   pub ext : List (Term F)

@@ -3,7 +3,7 @@ use Rattle.std.specs.Prelude.{◌≡◌, ℕ, List, Option, Some, option_and_the
 use Rattle.serde_json.specs.Data.{Data, object, member, no_members}
 use Rattle.air_wire.specs.Parts.{whole_at}
 use Rattle.air_wire.specs.Spelling.{number_data, HasWhole}
-use Rattle.air_wire.specs.Wholes.{wholes_data, HasWholes}
+use Rattle.air_wire.specs.WholeNumbers.{wholes_data, HasWholes}
 use Rattle.air_recording.specs.declared.layouts.air_layout.AirLayout.{AirLayout}
 use Rattle.air_recording.specs.declared.layouts.constraint_layout.ConstraintLayout.{ConstraintLayout}
 

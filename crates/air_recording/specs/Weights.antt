@@ -15,7 +15,7 @@ weights_of r alpha k indices = map (weight r alpha k) indices
 
 -- coefficient d of each of these weights
 abbrev pub coordinates_of : {F E : Type 0} → CommRing F → Basis F E → List E → ℕ → List F
-coordinates_of R basis weights d = map (λ w. coefficient R.nil (basis.coefficients w) d) weights
+coordinates_of R basis weights d = map (λ w. coefficient R.zero (basis.coefficients w) d) weights
 
 -- coefficient d of each of these weights, for each d below n in order
 abbrev pub all_coordinates_of : {F E : Type 0} → CommRing F → Basis F E → List E → ℕ → List (List F)

@@ -7,7 +7,7 @@ use Rattle.std.proofs.Math.Seq.{take-append-add}
 use Rattle.air_field.specs.Ring.{CommRing}
 use Rattle.air_field.specs.Grid.{Grid}
 use Rattle.air_core.specs.declared.boundary.BoundaryPublic.{BoundaryPublic}
-use Rattle.air_report.specs.Cells.{differs, differing, left_of, cell_place, cell_label, failure_text, ListsCells, IsListedPast}
+use Rattle.air_report.specs.Cells.{differs, differing, left_of, cell_place, cell_label, label_text, ListsCells, IsListedPast}
 use Rattle.air_report.specs.Report.{failure_place, IsReached}
 use Rattle.air_report.specs.laws.Debug.{enumerate_from-append}
 use Rattle.air_report.specs.declared.debug.failure.ConstraintFailure.{ConstraintFailure}
@@ -59,7 +59,7 @@ lists_none h count cap n fs = record {
   labels = ap (map (λ (p : ℕ × BoundaryPublic). Some (cell_label p.1))) (sym (left_of-none cap n));
 }
 
-lists_one : (h count : ℕ) (xs : List (ℕ × BoundaryPublic)) (p : ℕ × BoundaryPublic) (fs gs hs : List ConstraintFailure) (f : ConstraintFailure) → ListsCells h count xs fs gs → hs ≡ gs ++ f ∷ [] → failure_place f ≡ cell_place h count p → failure_text f ≡ Some (cell_label p.1) → ListsCells h count (xs ++ p ∷ []) fs hs
+lists_one : (h count : ℕ) (xs : List (ℕ × BoundaryPublic)) (p : ℕ × BoundaryPublic) (fs gs hs : List ConstraintFailure) (f : ConstraintFailure) → ListsCells h count xs fs gs → hs ≡ gs ++ f ∷ [] → failure_place f ≡ cell_place h count p → label_text f ≡ Some (cell_label p.1) → ListsCells h count (xs ++ p ∷ []) fs hs
 lists_one h count xs p fs gs hs f l e place label =
     let label_of : ℕ × BoundaryPublic → Option (List ℕ) = λ q. Some (cell_label q.1) in
     record {
@@ -68,8 +68,8 @@ lists_one h count xs p fs gs hs f l e place label =
       places = map-append failure_place l.more (f ∷ [])
           ∙ (ap (λ us. us ++ failure_place f ∷ []) l.places
           ∙ (ap (λ q. map (cell_place h count) xs ++ q ∷ []) place ∙ sym (map-append (cell_place h count) xs (p ∷ []))));
-      labels = map-append failure_text l.more (f ∷ [])
-          ∙ (ap (λ us. us ++ failure_text f ∷ []) l.labels
+      labels = map-append label_text l.more (f ∷ [])
+          ∙ (ap (λ us. us ++ label_text f ∷ []) l.labels
           ∙ (ap (λ q. map label_of xs ++ q ∷ []) label ∙ sym (map-append label_of xs (p ∷ []))));
     }
 
@@ -111,7 +111,7 @@ module _ {F : Type 0} (r : CommRing F) (eq : F → F → Bool) (main : Grid F) (
         few (subst (λ n. IsReached cap n) (sym e) h)
 
     -- a cell that differs is listed, where the cap isn't reached
-    pub lists_new : (d : BoundaryPublic) (f : ConstraintFailure) (hs : List ConstraintFailure) → i < length cells → differs r eq main public (get_or cells i d) ≡ true → (IsReached cap (length gs) → ⊥) → hs ≡ gs ++ f ∷ [] → failure_place f ≡ cell_place height count (i, get_or cells i d) → failure_text f ≡ Some (cell_label (get_or cells i d)) → ListsCells height count (left_of cap (length fs) (differing r eq main public (take (i + 1) cells))) fs hs
+    pub lists_new : (d : BoundaryPublic) (f : ConstraintFailure) (hs : List ConstraintFailure) → i < length cells → differs r eq main public (get_or cells i d) ≡ true → (IsReached cap (length gs) → ⊥) → hs ≡ gs ++ f ∷ [] → failure_place f ≡ cell_place height count (i, get_or cells i d) → label_text f ≡ Some (cell_label (get_or cells i d)) → ListsCells height count (left_of cap (length fs) (differing r eq main public (take (i + 1) cells))) fs hs
     lists_new d f hs lt e few push place label =
         let before = differing r eq main public (take i cells) in
         let cell : ℕ × BoundaryPublic = (i, get_or cells i d) in

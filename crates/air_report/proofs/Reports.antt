@@ -7,7 +7,7 @@ use Rattle.air_builder.specs.Assertion.{Assertion}
 use Rattle.air_report.specs.laws.Report.{report_of-more}
 use Rattle.air_core.specs.declared.boundary.BoundaryPublic.{BoundaryPublic}
 use Rattle.air_report.specs.Cells.{differing, left_of, ListsCells}
-use Rattle.air_report.specs.Checks.{CheckedRow, listed}
+use Rattle.air_report.specs.Checks.{CheckedRow, listed_cells}
 use Rattle.air_report.specs.Given.{Given, given_trace, height}
 use Rattle.air_report.specs.Report.{failure_place, report_of, count_shown, IsReached}
 use Rattle.air_report.specs.declared.debug.failure.ConstraintFailure.{ConstraintFailure}
@@ -34,9 +34,9 @@ reached_later None n h = h
 reached_later (Some cap) n h = omega (arith, h)
 
 -- the cells that are listed after the failures of the rows
-pub listed_after : {F : Type 0} (r : CommRing F) (eq : F → F → Bool) (g : Given F) (cap : Option ℕ) (shown : ℕ) (fs gs : List ConstraintFailure) (count : ℕ) (cells : List BoundaryPublic) → map failure_place fs ≡ report_of r eq (given_trace g) g.declaration.declared shown → count ≡ count_shown g.declaration.declared shown → cells ≡ g.declaration.cells → ListsCells (height g) count (left_of cap (length fs) (differing r eq g.main g.public cells)) fs gs → ListsCells (height g) (count_shown g.declaration.declared shown) (listed r eq g cap shown) fs gs
+pub listed_after : {F : Type 0} (r : CommRing F) (eq : F → F → Bool) (g : Given F) (cap : Option ℕ) (shown : ℕ) (fs gs : List ConstraintFailure) (count : ℕ) (cells : List BoundaryPublic) → map failure_place fs ≡ report_of r eq (given_trace g) g.declaration.declared shown → count ≡ count_shown g.declaration.declared shown → cells ≡ g.declaration.cells → ListsCells (height g) count (left_of cap (length fs) (differing r eq g.main g.public cells)) fs gs → ListsCells (height g) (count_shown g.declaration.declared shown) (listed_cells r eq g cap shown) fs gs
 listed_after r eq g cap shown fs gs count cells places counted same l =
     let len : length fs ≡ length (report_of r eq (given_trace g) g.declaration.declared shown) = sym (length-map fs failure_place) ∙ ap length places in
-    subst (λ n. ListsCells (height g) n (listed r eq g cap shown) fs gs) counted
+    subst (λ n. ListsCells (height g) n (listed_cells r eq g cap shown) fs gs) counted
     (subst (λ n. ListsCells (height g) count (left_of cap n (differing r eq g.main g.public g.declaration.cells)) fs gs) len
     (subst (λ cs. ListsCells (height g) count (left_of cap (length fs) (differing r eq g.main g.public cs)) fs gs) same l))

@@ -5,7 +5,7 @@ use Rattle.std.proofs.Math.Nat.{pow-suc}
 use Rattle.std.proofs.lemmas.List.{length-map}
 use Rattle.std.proofs.lemmas.Option.{get_or_from_slice_get}
 use Rattle.air_field.specs.Grid.{Grid}
-use Rattle.air_field.specs.Ring.{CommRing, Over, itself}
+use Rattle.air_field.specs.Ring.{CommRing, AlgebraOver, itself}
 use Rattle.air_field.specs.Assignment.{selector, row_at, row_or_none, trace_shape, IsMissing}
 use Rattle.air_field.specs.OneRow.{no_permutation, one_row_shape}
 use Rattle.air_field.specs.declared.matrices.view.ViewPair.{ViewPair}
@@ -25,8 +25,8 @@ use Rattle.air_report.specs.declared.debug.builder.DebugConstraintBuilder.{Debug
 use Rattle.air_report.specs.declared.debug.failure.ConstraintFailure.{ConstraintFailure}
 use Rattle.air_report.proofs.OwnExtension.{own_nonzero}
 
-not_selector : {F : Type 0} (r : CommRing F) (b : Bool) → selector r (not b) ≡ (if b then r.nil else r.one)
-not_selector r b = elim b as (λ c. selector r (not c) ≡ (if c then r.nil else r.one)) [ true ↦ refl | false ↦ refl ]
+not_selector : {F : Type 0} (r : CommRing F) (b : Bool) → selector r (not b) ≡ (if b then r.zero else r.one)
+not_selector r b = elim b as (λ c. selector r (not c) ≡ (if c then r.zero else r.one)) [ true ↦ refl | false ↦ refl ]
 
 -- each column's value, where each has one
 periodic_is : {F A : Type 0} (z : F) (i : ℕ) (ps : List F) (cs : List (Vec F A)) → map Some ps ≡ map (column_at i) cs → ps ≡ map (λ column. slice_index_or column (i % length column) z) (map (λ c. c.items) cs)
@@ -50,7 +50,7 @@ module _ {F : Type 0} (g : Given F) {i : ℕ} {pair table : ViewPair F} {periodi
     {fs : List ConstraintFailure} {b : DebugConstraintBuilder F F}
     (at : IsAtRow i pair table g.public first last other periodic None [] [] fs b) where
   -- where it holds what stands at its row of the trace, it grows by what the check of the row adds
-  pub checked_row : {r : CommRing F} {eq : F → F → Bool} {over : Over F F} {e : RowData F F} {n : ℕ} {gs hs : List ConstraintFailure}
+  pub checked_row : {r : CommRing F} {eq : F → F → Bool} {over : AlgebraOver F F} {e : RowData F F} {n : ℕ} {gs hs : List ConstraintFailure}
       → over ≡ itself r → debug_row b ≡ record { row = i; values = row_at r (given_trace g) i; has_permutation = false; permutation = no_permutation } → hs ≡ gs
       → GrewAtRow (is_zero_at r over eq eq) (debug_row b) e b.constraint_index n b.failures.items gs g.declaration.declared
       → CheckedRow r eq g i fs hs n
@@ -83,8 +83,8 @@ module _ {F : Type 0} (g : Given F) {i : ℕ} {pair table : ViewPair F} {periodi
         let v : table.bottom.values.now ≡ row_or_none (slice_get (table_grid g.declaration.preprocessed).rows ((i + 1) % length g.main.rows)) =
         after ∙ (ap (λ x. row_or_none (slice_get (table_grid x).rows ((i + 1) % length (table_grid x).rows))) same
         ∙ around_table g.declaration.preprocessed (length g.main.rows) i fits.table_fits) in
-        let q = periodic_is r.nil i periodic.items g.declaration.periodic p in
-        let k : other ≡ (if i + 1 == length g.main.rows then r.nil else r.one) = o ∙ not_selector r (i + 1 == length g.main.rows) in
+        let q = periodic_is r.zero i periodic.items g.declaration.periodic p in
+        let k : other ≡ (if i + 1 == length g.main.rows then r.zero else r.one) = o ∙ not_selector r (i + 1 == length g.main.rows) in
         holds ∙ rw (c, n, u, v, q, f, l, k)
 
     -- it has what the trace has

@@ -20,7 +20,7 @@ cell_value z main cell = slice_index_or (row_or_none (slice_get main.rows (row_o
 
 -- the cell doesn't hold its public value
 abbrev pub differs : {F : Type 0} → CommRing F → (F → F → Bool) → Grid F → List F → BoundaryPublic → Bool
-differs r eq main public cell = not (eq (cell_value r.nil main cell) (slice_index_or public cell.public_value r.nil))
+differs r eq main public cell = not (eq (cell_value r.zero main cell) (slice_index_or public cell.public_value r.zero))
 
 -- the differing cells, each with its place in the list
 abbrev pub differing : {F : Type 0} → CommRing F → (F → F → Bool) → Grid F → List F → List BoundaryPublic → List (ℕ × BoundaryPublic)
@@ -39,12 +39,12 @@ abbrev pub cell_label : BoundaryPublic → List ℕ
 cell_label cell = codes "boundary-IO cell in column " ++ (decimal cell.column ++ (codes " does not hold public value " ++ decimal cell.public_value))
 
 -- the text of a failure's label, if it has one
-abbrev pub text_of : Option (String Global) → Option (List ℕ)
-text_of None = None
-text_of (Some s) = Some (string_bytes s)
+abbrev pub bytes_of_text : Option (String Global) → Option (List ℕ)
+bytes_of_text None = None
+bytes_of_text (Some s) = Some (string_bytes s)
 
-abbrev pub failure_text : ConstraintFailure → Option (List ℕ)
-failure_text f = text_of f.label
+abbrev pub label_text : ConstraintFailure → Option (List ℕ)
+label_text f = bytes_of_text f.label
 
 -- a cell is listed only where the trace has rows
 abbrev pub HasRowsFor : ℕ → List BoundaryPublic → Type 0
@@ -76,7 +76,7 @@ pub record ListsCells (h count : ℕ) (cells : List (ℕ × BoundaryPublic)) (fs
   pub more : List ConstraintFailure
   pub failures : gs ≡ fs ++ more
   pub places : map failure_place more ≡ map (cell_place h count) cells
-  pub labels : map failure_text more ≡ map (λ p. Some (cell_label p.1)) cells
+  pub labels : map label_text more ≡ map (λ p. Some (cell_label p.1)) cells
 
 -- the place of one of these cells, after so many constraints, passes `usize`
 pub record IsListedPast (count : ℕ) (cells : List (ℕ × BoundaryPublic)) : Type 0 where

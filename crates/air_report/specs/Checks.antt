@@ -47,8 +47,8 @@ abbrev pub Fits : {F : Type 0} → Given F → Type 0
 Fits g = ShapesFit g.declaration.periodic (height g) (table_height g.declaration.preprocessed)
 
 -- the differing cells that a cap lists after the first n rows
-abbrev pub listed : {F : Type 0} → CommRing F → (F → F → Bool) → Given F → Option ℕ → ℕ → List (ℕ × BoundaryPublic)
-listed r eq g cap n = left_of cap (length (report_of r eq (given_trace g) g.declaration.declared n)) (differing r eq g.main g.public g.declaration.cells)
+abbrev pub listed_cells : {F : Type 0} → CommRing F → (F → F → Bool) → Given F → Option ℕ → ℕ → List (ℕ × BoundaryPublic)
+listed_cells r eq g cap n = left_of cap (length (report_of r eq (given_trace g) g.declaration.declared n)) (differing r eq g.main g.public g.declaration.cells)
 
 -- The report of a check under a cap: the nonzero pairs of the rows that the cap shows, and then the differing cells, as
 -- many as the cap leaves. The shapes and the cells fit.
@@ -59,7 +59,7 @@ pub record IsReport {F : Type 0} (r : CommRing F) (eq : F → F → Bool) (g : G
   pub cells : CellsFit g.main g.public g.declaration.cells
   pub of_rows : List ConstraintFailure
   pub places : map failure_place of_rows ≡ report_of r eq (given_trace g) g.declaration.declared shown
-  pub lists : ListsCells (height g) (count_shown g.declaration.declared shown) (listed r eq g cap shown) of_rows report.failures.items
+  pub lists : ListsCells (height g) (count_shown g.declaration.declared shown) (listed_cells r eq g cap shown) of_rows report.failures.items
   pub rows : report.total_rows ≡ height g
   pub count : report.total_constraints_per_row ≡ count_shown g.declaration.declared shown
 
@@ -80,7 +80,7 @@ pub record IsCellPastCount {F : Type 0} (r : CommRing F) (eq : F → F → Bool)
   pub shown : ℕ
   pub ran : RowsRan r eq g cap shown
   pub cells : CellsFit g.main g.public g.declaration.cells
-  pub past : IsListedPast (count_shown g.declaration.declared shown) (listed r eq g cap shown)
+  pub past : IsListedPast (count_shown g.declaration.declared shown) (listed_cells r eq g cap shown)
 
 -- the rows ran, and then the cells had this fault
 abbrev pub RefusesCells : {F : Type 0} → CommRing F → (F → F → Bool) → Given F → Option ℕ → AirError → Type 0

@@ -1,7 +1,7 @@
 -- What the debug builder holds of a row, and how it grows.
 use Rattle.std.specs.Prelude.{◌≡◌, ℕ, ◌+◌, List, ◌++◌, length, map, Bool, not}
 use Rattle.std.specs.List.{filter, enumerate_from}
-use Rattle.air_field.specs.Ring.{CommRing, Over, itself}
+use Rattle.air_field.specs.Ring.{CommRing, AlgebraOver, itself}
 use Rattle.air_field.specs.Extension.{Basis}
 use Rattle.air_field.specs.Term.{Leaf, permutation, challenge, permutation_value, Term, const_term, ext_const_term}
 use Rattle.air_field.specs.Value.{value}
@@ -38,24 +38,24 @@ row_data row current next preprocessed_current preprocessed_next periodic public
 
 -- the assignment of the row
 abbrev pub row_leaves : {F E : Type 0} → CommRing F → RowData F E → Leaf → F
-row_leaves r d = leaf_value r.nil d.values
+row_leaves r d = leaf_value r.zero d.values
 
 -- the same over the extension, with the permutation data
-abbrev pub ext_row_leaves : {F E : Type 0} → CommRing F → Over F E → RowData F E → Leaf → E
-ext_row_leaves r a d = one_row_value r.nil a d.values d.permutation
+abbrev pub ext_row_leaves : {F E : Type 0} → CommRing F → AlgebraOver F E → RowData F E → Leaf → E
+ext_row_leaves r a d = one_row_value r.zero a d.values d.permutation
 
 -- what stands at a leaf, as a constant of F, or of the extension where it is of the permutation data
-abbrev pub row_stands : {F E : Type 0} → CommRing F → Over F E → Basis F E → RowData F E → Leaf → Term F
-row_stands r a basis d (permutation o i) = ext_const_term (basis.coefficients (ext_row_leaves r a d (permutation o i)))
-row_stands r a basis d (challenge i) = ext_const_term (basis.coefficients (ext_row_leaves r a d (challenge i)))
-row_stands r a basis d (permutation_value i) = ext_const_term (basis.coefficients (ext_row_leaves r a d (permutation_value i)))
-row_stands r a basis d l = const_term (row_leaves r d l)
+abbrev pub row_reads_as : {F E : Type 0} → CommRing F → AlgebraOver F E → Basis F E → RowData F E → Leaf → Term F
+row_reads_as r a basis d (permutation o i) = ext_const_term (basis.coefficients (ext_row_leaves r a d (permutation o i)))
+row_reads_as r a basis d (challenge i) = ext_const_term (basis.coefficients (ext_row_leaves r a d (challenge i)))
+row_reads_as r a basis d (permutation_value i) = ext_const_term (basis.coefficients (ext_row_leaves r a d (permutation_value i)))
+row_reads_as r a basis d l = const_term (row_leaves r d l)
 
 -- whether an assertion is zero at the row: a base term by its value in F, an extension term by its value over the
 -- extension
-abbrev pub is_zero_at : {F E : Type 0} → CommRing F → Over F E → (F → F → Bool) → (E → E → Bool) → RowData F E → Assertion F → Bool
-is_zero_at r a eq ext_eq d (Base t) = eq (value (itself r) (row_leaves r d) t) r.nil
-is_zero_at r a eq ext_eq d (Extension t) = ext_eq (value a (ext_row_leaves r a d) t) a.ring.nil
+abbrev pub is_zero_at : {F E : Type 0} → CommRing F → AlgebraOver F E → (F → F → Bool) → (E → E → Bool) → RowData F E → Assertion F → Bool
+is_zero_at r a eq ext_eq d (Base t) = eq (value (itself r) (row_leaves r d) t) r.zero
+is_zero_at r a eq ext_eq d (Extension t) = ext_eq (value a (ext_row_leaves r a d) t) a.ring.zero
 
 -- the places, counted from n on, of the assertions that the test doesn't find zero
 abbrev pub nonzero_by : {F : Type 0} → (Assertion F → Bool) → ℕ → List (Assertion F) → List ℕ
@@ -63,7 +63,7 @@ nonzero_by zero n ts = map (λ p. p.0) (filter (λ p. not (zero p.1)) (enumerate
 
 -- the same where the field is its own extension
 abbrev pub nonzero_from : {F : Type 0} → CommRing F → (F → F → Bool) → (Leaf → F) → ℕ → List (Assertion F) → List ℕ
-nonzero_from r eq s n ts = nonzero_by (λ t. eq (assertion_value r s t) r.nil) n ts
+nonzero_from r eq s n ts = nonzero_by (λ t. eq (assertion_value r s t) r.zero) n ts
 
 -- The counter rose by the length of the list, and the failures got the places of what isn't zero, in order.
 pub record GrewAtRow {F E : Type 0} (zero : RowData F E → Assertion F → Bool) (d e : RowData F E) (m n : ℕ) (fs gs : List ConstraintFailure) (ts : List (Assertion F)) : Type 0 where

@@ -1,29 +1,29 @@
 -- What the debug builder does with an assertion that has no name.
 use Rattle.std.specs.Prelude.{◌≡◌, [], ◌∷◌, Bool, Result}
-use Rattle.air_field.specs.Ring.{CommRing, Over}
+use Rattle.air_field.specs.Ring.{CommRing, AlgebraOver}
 use Rattle.air_field.specs.Extension.{Basis}
 use Rattle.air_field.specs.Term.{Term, IsBase, with_leaves}
 use Rattle.air_field.specs.Algebra.{closed_value, closed_value_in}
 use Rattle.air_builder.specs.Assertion.{Assertion}
 use Rattle.air_builder.specs.Batches.{AssertedEach}
 use Rattle.air_core.specs.declared.errors.AirError.{AirError}
-use Rattle.air_report.specs.Debug.{RowData, row_stands, GrewAtRow}
+use Rattle.air_report.specs.Debug.{RowData, row_reads_as, GrewAtRow}
 use Rattle.air_report.specs.DebugLabels.{LogsOne, IsNameless}
 use Rattle.air_report.specs.DebugRow.{debug_row}
 use Rattle.air_report.specs.RowRefusals.{RefusedAtRow}
 use Rattle.air_report.specs.declared.debug.builder.DebugConstraintBuilder.{DebugConstraintBuilder}
 
 -- an element means a base term at the builder's row
-abbrev pub MeansAtRow : {F E : Type 0} → CommRing F → Over F E → Basis F E
+abbrev pub MeansAtRow : {F E : Type 0} → CommRing F → AlgebraOver F E → Basis F E
     → DebugConstraintBuilder F E → F → Term F → Type 0
 MeansAtRow r a basis b x t =
-    IsBase (with_leaves (row_stands r a basis (debug_row b)) t)
-    × (closed_value r (with_leaves (row_stands r a basis (debug_row b)) t) ≡ x)
+    IsBase (with_leaves (row_reads_as r a basis (debug_row b)) t)
+    × (closed_value r (with_leaves (row_reads_as r a basis (debug_row b)) t) ≡ x)
 
 -- an element of the extension means a term there
-abbrev pub ExtMeansAtRow : {F E : Type 0} → CommRing F → Over F E → Basis F E
+abbrev pub ExtMeansAtRow : {F E : Type 0} → CommRing F → AlgebraOver F E → Basis F E
     → DebugConstraintBuilder F E → E → Term F → Type 0
-ExtMeansAtRow r a basis b x t = closed_value_in a (with_leaves (row_stands r a basis (debug_row b)) t) ≡ x
+ExtMeansAtRow r a basis b x t = closed_value_in a (with_leaves (row_reads_as r a basis (debug_row b)) t) ≡ x
 
 -- a call that asserts one element did what a call of any builder does
 abbrev pub AssertedAtRow : {F E X : Type 0} → (RowData F E → Assertion F → Bool)

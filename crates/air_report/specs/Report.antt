@@ -21,7 +21,7 @@ all_places h ts = flat_map (λ r. map (λ p. (r, p)) (enumerate_from 0 ts)) (ran
 
 -- the assertion isn't zero at the row
 abbrev pub is_nonzero : {F : Type 0} → CommRing F → (F → F → Bool) → Trace F → ℕ × (ℕ × Assertion F) → Bool
-is_nonzero r eq trace p = not (eq (assertion_value r (row_assignment r trace p.0) p.1.1) r.nil)
+is_nonzero r eq trace p = not (eq (assertion_value r (row_assignment r trace p.0) p.1.1) r.zero)
 
 -- the row, and the place in the list
 abbrev pub place : {F : Type 0} → ℕ × (ℕ × Assertion F) → ℕ × ℕ

@@ -5,11 +5,11 @@ use Rattle.std.specs.Prelude.{Option, Some, None}
 use Rattle.air_field.specs.Ring.{CommRing}
 use Rattle.air_field.specs.Degree.{degree_by, cached_weight}
 use Rattle.air_symbolic.specs.Leaves.{Leaves, Keeps, LeafLaws}
-use Rattle.air_symbolic.specs.Trees.{Tree, nothing, leaf_tree, add_tree, sub_tree, neg_tree, mul_tree, term_of, tree_constant, IsWhole}
+use Rattle.air_symbolic.specs.Trees.{Tree, nothing, leaf_tree, add_tree, sub_tree, neg_tree, mul_tree, term_of, tree_constant, IsWholeTree}
 use Rattle.air_symbolic.specs.Pools.{IsPool, Grown, tree_at, term_at, constant_at, IsConst}
 use Rattle.air_symbolic.specs.laws.Pools.{Grown-refl, Grown-trans, here-kept, tree-kept}
 use Rattle.air_symbolic.specs.laws.Numbers.{tree_of-whole, term_of-kept}
-use Rattle.air_symbolic.specs.Folds.{IsFolded, sum_fold, product_fold, IsSum, IsProduct, NeedsNode}
+use Rattle.air_symbolic.specs.Folds.{IsSimplified, sum_fold, product_fold, IsSum, IsProduct, NeedsNode}
 use Rattle.air_symbolic.specs.FoldedLists.{JoinedFrom, IsJoined, SumStep, ProductStep, Overflows, OverflowsFrom, ProductOverflows, IsSumOfAll, IsProductOfAll}
 use Rattle.air_symbolic.specs.declared.pools.expr.SymbolicExpr.{SymbolicExpr}
 use Rattle.air_symbolic.specs.declared.pools.fold.Fold.{Fold}
@@ -17,7 +17,7 @@ use Rattle.air_symbolic.specs.declared.pools.fold.Fold.TheVariants.{Constant, Le
 
 -- What folding says stays while what lies under grows.
 module _ {A F : Type 0} (l m : Leaves A F) (k : Keeps l m) where
-  pub tree_constant-kept : (t : Tree A) → IsWhole l.valid t → tree_constant m.constant t ≡ tree_constant l.constant t
+  pub tree_constant-kept : (t : Tree A) → IsWholeTree l.valid t → tree_constant m.constant t ≡ tree_constant l.constant t
   tree_constant-kept nothing h = refl
   tree_constant-kept (leaf_tree a) h = k.constant a h
   tree_constant-kept (add_tree t u) h = refl
@@ -30,7 +30,7 @@ module _ {A F : Type 0} (l m : Leaves A F) (k : Keeps l m) where
       let a : A = h.0 in
       (a, h.1, record { valid = k.valid a h.2.valid; constant = k.constant a h.2.valid ∙ h.2.constant; term = k.term a h.2.valid ∙ h.2.term })
 
-  pub IsFolded-kept : (t u node v : Tree A) (f : Option (Fold F)) → IsFolded l t u node f v → IsFolded m t u node f v
+  pub IsFolded-kept : (t u node v : Tree A) (f : Option (Fold F)) → IsSimplified l t u node f v → IsSimplified m t u node f v
   IsFolded-kept t u node v (Some (Constant c)) h = IsConst-kept c v h
   IsFolded-kept t u node v (Some Left) h = h
   IsFolded-kept t u node v (Some Right) h = h
@@ -87,7 +87,7 @@ module _ {U A F : Type 0} (r : CommRing F) (eq : F → F → Bool) (reads : U �
 
     pub sum-later : (z : ℕ) → IsSum reads r eq s q x y z → SumStep r eq (reads u) (tree_at s x) (tree_at s y) (tree_at q z)
     sum-later z h =
-        subst (λ f. IsFolded (reads u) (tree_at s x) (tree_at s y) (add_tree (tree_at s x) (tree_at s y)) f (tree_at q z))
+        subst (λ f. IsSimplified (reads u) (tree_at s x) (tree_at s y) (add_tree (tree_at s x) (tree_at s y)) f (tree_at q z))
         (sym (ap₂ (sum_fold r eq) (constant-later x b) (constant-later y c)))
         (IsFolded-kept (reads q.0) (reads u) (laws.keeps q.0 u later) (tree_at s x) (tree_at s y) (add_tree (tree_at s x) (tree_at s y)) (tree_at q z) _ h.tree)
 
@@ -106,7 +106,7 @@ module _ {U A F : Type 0} (r : CommRing F) (eq : F → F → Bool) (reads : U �
     pub product-later : (z : ℕ) → (NeedsNode reads r eq s x y × (2 ^ 64 ≤ degree_by cached_weight (term_at reads s x) + degree_by cached_weight (term_at reads s y)) → ⊥) → IsProduct reads r eq s q x y z → ProductStep r eq (reads u) (tree_at s x) (tree_at s y) (tree_at q z)
     product-later z n h = (
       λ o. n (overflows-before o),
-      subst (λ f. IsFolded (reads u) (tree_at s x) (tree_at s y) (mul_tree (tree_at s x) (tree_at s y)) f (tree_at q z))
+      subst (λ f. IsSimplified (reads u) (tree_at s x) (tree_at s y) (mul_tree (tree_at s x) (tree_at s y)) f (tree_at q z))
           (sym fold-later)
           (IsFolded-kept (reads q.0) (reads u) (laws.keeps q.0 u later) (tree_at s x) (tree_at s y) (mul_tree (tree_at s x) (tree_at s y)) (tree_at q z) _ h.tree),
     )
@@ -123,7 +123,7 @@ module _ {U A F : Type 0} (r : CommRing F) (eq : F → F → Bool) (reads : U �
   -- of a list that a pattern takes apart
   module _ (p : U × List (SymbolicExpr A)) where
     pub sum_begun : (xs : List ℕ) (x : ℕ) → 0 < length xs → x ≡ get_or xs 0 x → All (λ i. i < length p.1) xs
-        → IsJoining reads grows (SumRest r eq reads) (λ v u. IsJoined (reads u) r.nil (SumStep r eq (reads u)) (map (tree_at p) xs) v) p p x (take (length xs - 1) (drop 1 xs))
+        → IsJoining reads grows (SumRest r eq reads) (λ v u. IsJoined (reads u) r.zero (SumStep r eq (reads u)) (map (tree_at p) xs) v) p p x (take (length xs - 1) (drop 1 xs))
     sum_begun [] x some is h = absurd (omega (arith, some))
     sum_begun (y ∷ ys) x some is h =
         rw is (left-is ys _ (sym (take_rest (y ∷ ys) 1)) (begin_joining (SumRest r eq reads) p y ys h))
@@ -189,7 +189,7 @@ module _ {U A F : Type 0} (r : CommRing F) (eq : F → F → Bool) (reads : U �
         (overflows-later s q q.0 (h.grown.pool pool) g (laws.same q.0) total x h.total_in (here-kept r reads grows empty laws p s x h.grown b) o.0 o.1)))
 
   -- nothing is left
-  pub sum_ended : (p s : U × List (SymbolicExpr A)) (xs : List ℕ) (total : ℕ) → IsJoining reads grows (SumRest r eq reads) (λ v u. IsJoined (reads u) r.nil (SumStep r eq (reads u)) (map (tree_at p) xs) v) p s total [] → IsSumOfAll reads r eq p s xs total
+  pub sum_ended : (p s : U × List (SymbolicExpr A)) (xs : List ℕ) (total : ℕ) → IsJoining reads grows (SumRest r eq reads) (λ v u. IsJoined (reads u) r.zero (SumStep r eq (reads u)) (map (tree_at p) xs) v) p s total [] → IsSumOfAll reads r eq p s xs total
   sum_ended p s xs total h = record { here = h.total_in; tree = h.leads (tree_at s total) s.0 (laws.same s.0) refl }
 
   pub product_ended : (p s : U × List (SymbolicExpr A)) (xs : List ℕ) (total : ℕ) → IsJoining reads grows (ProductRest r eq reads) (λ v u. IsJoined (reads u) r.one (ProductStep r eq (reads u)) (map (tree_at p) xs) v) p s total [] → IsProductOfAll reads r eq p s xs total

@@ -7,54 +7,54 @@ use Rattle.air_field.specs.Same.{Simplifies}
 use Rattle.air_field.specs.laws.Degree.{Simplifies-refl, Simplifies-trans, Simplifies-add, Simplifies-mul}
 use Rattle.air_field.specs.Joins.{join_from, join_terms}
 use Rattle.air_symbolic.specs.Leaves.{Leaves, LeafLaws}
-use Rattle.air_symbolic.specs.Trees.{Tree, add_tree, mul_tree, term_of, IsWhole}
+use Rattle.air_symbolic.specs.Trees.{Tree, add_tree, mul_tree, term_of, IsWholeTree}
 use Rattle.air_symbolic.specs.Pools.{IsPool, Grown, tree_at, term_at}
 use Rattle.air_symbolic.specs.laws.Pools.{here-kept, tree-kept}
 use Rattle.air_symbolic.specs.laws.Numbers.{tree_of-whole, term_of-kept}
-use Rattle.air_symbolic.specs.Folds.{IsFolded}
+use Rattle.air_symbolic.specs.Folds.{IsSimplified}
 use Rattle.air_symbolic.specs.FoldedLists.{JoinedFrom, IsJoined, SumStep, ProductStep, IsSumOfAll, IsProductOfAll}
-use Rattle.air_symbolic.proofs.Folding.{operation-stands, sum, product}
+use Rattle.air_symbolic.proofs.Folding.{operation-simplifies, sum, product}
 use Rattle.air_symbolic.specs.declared.pools.expr.SymbolicExpr.{SymbolicExpr}
 use Rattle.air_symbolic.specs.declared.pools.fold.Fold.{Fold}
 use Rattle.air_symbolic.specs.declared.pools.fold.Fold.TheVariants.{Constant, Left, Right, Negated}
 
 abbrev AllWhole : {A : Type 0} → (A → Type 0) → List (Tree A) → Type 0
 AllWhole valid [] = Unit {0}
-AllWhole valid (t ∷ ts) = IsWhole valid t × AllWhole valid ts
+AllWhole valid (t ∷ ts) = IsWholeTree valid t × AllWhole valid ts
 
 -- what folding answers is whole
-IsFolded-whole : {A F : Type 0} (l : Leaves A F) (t u node v : Tree A) (f : Option (Fold F)) → IsWhole l.valid t → IsWhole l.valid u → IsWhole l.valid node → IsFolded l t u node f v → IsWhole l.valid v
-IsFolded-whole l t u node v (Some (Constant c)) ht hu hn h = subst (IsWhole l.valid) (sym h.1) h.2.valid
-IsFolded-whole l t u node v (Some Left) ht hu hn h = subst (IsWhole l.valid) (sym h) ht
-IsFolded-whole l t u node v (Some Right) ht hu hn h = subst (IsWhole l.valid) (sym h) hu
-IsFolded-whole l t u node v (Some Negated) ht hu hn h = subst (IsWhole l.valid) (sym h) hu
-IsFolded-whole l t u node v None ht hu hn h = subst (IsWhole l.valid) (sym h) hn
+IsFolded-whole : {A F : Type 0} (l : Leaves A F) (t u node v : Tree A) (f : Option (Fold F)) → IsWholeTree l.valid t → IsWholeTree l.valid u → IsWholeTree l.valid node → IsSimplified l t u node f v → IsWholeTree l.valid v
+IsFolded-whole l t u node v (Some (Constant c)) ht hu hn h = subst (IsWholeTree l.valid) (sym h.1) h.2.valid
+IsFolded-whole l t u node v (Some Left) ht hu hn h = subst (IsWholeTree l.valid) (sym h) ht
+IsFolded-whole l t u node v (Some Right) ht hu hn h = subst (IsWholeTree l.valid) (sym h) hu
+IsFolded-whole l t u node v (Some Negated) ht hu hn h = subst (IsWholeTree l.valid) (sym h) hu
+IsFolded-whole l t u node v None ht hu hn h = subst (IsWholeTree l.valid) (sym h) hn
 
 module _ {A F : Type 0} (r : CommRing F) (l : Leaves A F) (op : Term F → Term F → Term F) (step : Tree A → Tree A → Tree A → Type 0)
     (congruent : (t u v w : Term F) → Simplifies r t v → Simplifies r u w → Simplifies r (op t u) (op v w))
-    (step_stands : (t u v : Tree A) → IsWhole l.valid t → IsWhole l.valid u → step t u v → Simplifies r (term_of l.term v) (op (term_of l.term t) (term_of l.term u)))
-    (step_whole : (t u v : Tree A) → IsWhole l.valid t → IsWhole l.valid u → step t u v → IsWhole l.valid v) where
-  join_from-stands : (a b : Term F) (ts : List (Term F)) → Simplifies r a b → Simplifies r (join_from op a ts) (join_from op b ts)
-  join_from-stands a b [] h = h
-  join_from-stands a b (t ∷ ts) h = join_from-stands (op a t) (op b t) ts (congruent a t b t h (Simplifies-refl r t))
+    (step_stands : (t u v : Tree A) → IsWholeTree l.valid t → IsWholeTree l.valid u → step t u v → Simplifies r (term_of l.term v) (op (term_of l.term t) (term_of l.term u)))
+    (step_whole : (t u v : Tree A) → IsWholeTree l.valid t → IsWholeTree l.valid u → step t u v → IsWholeTree l.valid v) where
+  join_from-simplifies : (a b : Term F) (ts : List (Term F)) → Simplifies r a b → Simplifies r (join_from op a ts) (join_from op b ts)
+  join_from-simplifies a b [] h = h
+  join_from-simplifies a b (t ∷ ts) h = join_from-simplifies (op a t) (op b t) ts (congruent a t b t h (Simplifies-refl r t))
 
-  from-stands : (t : Tree A) (ts : List (Tree A)) (v : Tree A) → IsWhole l.valid t → AllWhole l.valid ts → JoinedFrom step t ts v → Simplifies r (term_of l.term v) (join_from op (term_of l.term t) (map (term_of l.term) ts))
-  from-stands t [] v ht hs h = subst (λ x. Simplifies r (term_of l.term x) (term_of l.term t)) (sym h) (Simplifies-refl r (term_of l.term t))
-  from-stands t (u ∷ us) v ht hs h =
+  from-simplifies : (t : Tree A) (ts : List (Tree A)) (v : Tree A) → IsWholeTree l.valid t → AllWhole l.valid ts → JoinedFrom step t ts v → Simplifies r (term_of l.term v) (join_from op (term_of l.term t) (map (term_of l.term) ts))
+  from-simplifies t [] v ht hs h = subst (λ x. Simplifies r (term_of l.term x) (term_of l.term t)) (sym h) (Simplifies-refl r (term_of l.term t))
+  from-simplifies t (u ∷ us) v ht hs h =
       let w : Tree A = h.0 in
       Simplifies-trans r _ _ _
-      (from-stands w us v (step_whole t u w ht hs.0 h.1) hs.1 h.2)
-      (join_from-stands (term_of l.term w) (op (term_of l.term t) (term_of l.term u)) (map (term_of l.term) us) (step_stands t u w ht hs.0 h.1))
+      (from-simplifies w us v (step_whole t u w ht hs.0 h.1) hs.1 h.2)
+      (join_from-simplifies (term_of l.term w) (op (term_of l.term t) (term_of l.term u)) (map (term_of l.term) us) (step_stands t u w ht hs.0 h.1))
 
-  joined-stands : (none : F) (ts : List (Tree A)) (v : Tree A) → AllWhole l.valid ts → IsJoined l none step ts v → Simplifies r (term_of l.term v) (join_terms op none (map (term_of l.term) ts))
-  joined-stands none [] v hs h =
+  joined-simplifies : (none : F) (ts : List (Tree A)) (v : Tree A) → AllWhole l.valid ts → IsJoined l none step ts v → Simplifies r (term_of l.term v) (join_terms op none (map (term_of l.term) ts))
+  joined-simplifies none [] v hs h =
       subst (λ x. Simplifies r x (const_term none)) (sym (ap (term_of l.term) h.1 ∙ h.2.term)) (Simplifies-refl r (const_term none))
-  joined-stands none (t ∷ ts) v hs h = from-stands t ts v hs.0 hs.1 h
+  joined-simplifies none (t ∷ ts) v hs h = from-simplifies t ts v hs.0 hs.1 h
 
 module _ {U A F : Type 0} (r : CommRing F) (eq : F → F → Bool) (decides : (x y : F) → Decides (eq x y) (x ≡ y)) (reads : U → Leaves A F) (grows : U → U → Type 0) (empty : U) (laws : LeafLaws r reads grows empty) (p q : U × List (SymbolicExpr A)) (pool : IsPool reads p) (g : Grown grows reads p q) where
-  tree-whole : (i : ℕ) → i < length p.1 → IsWhole (reads q.0).valid (tree_at p i)
+  tree-whole : (i : ℕ) → i < length p.1 → IsWholeTree (reads q.0).valid (tree_at p i)
   tree-whole i b =
-      subst (IsWhole (reads q.0).valid) (tree-kept r reads grows empty laws p q i g b)
+      subst (IsWholeTree (reads q.0).valid) (tree-kept r reads grows empty laws p q i g b)
       (tree_of-whole (reads q.0) q.1 (g.pool pool).nodes i (here-kept r reads grows empty laws p q i g b))
 
   trees-whole : (xs : List ℕ) → All (λ i. i < length p.1) xs → AllWhole (reads q.0).valid (map (tree_at p) xs)
@@ -68,18 +68,18 @@ module _ {U A F : Type 0} (r : CommRing F) (eq : F → F → Bool) (decides : (x
       (term_of-kept (reads p.0) (reads q.0) (laws.keeps p.0 q.0 g.under) (tree_at p x) (tree_of-whole (reads p.0) p.1 pool.nodes x (h 0 x (omega arith))))
       (terms-kept xs (λ k d lt. h (suc k) d (omega arith)))
 
-  pub IsSumOfAll-stands : (xs : List ℕ) → All (λ i. i < length p.1) xs → (z : ℕ) → IsSumOfAll reads r eq p q xs z → Simplifies r (term_at reads q z) (join_terms add_term r.nil (map (term_at reads p) xs))
-  IsSumOfAll-stands xs h z m =
-      subst (λ ts. Simplifies r (term_at reads q z) (join_terms add_term r.nil ts)) (terms-kept xs h)
-      (joined-stands r (reads q.0) add_term (SumStep r eq (reads q.0)) (Simplifies-add r)
-      (λ t u v ht hu s. operation-stands r (reads q.0) (reads q.0) (laws.constant_is q.0) (laws.keeps q.0 q.0 (laws.same q.0)) (sum decides (reads q.0)) t u ht hu v s)
+  pub IsSumOfAll-simplifies : (xs : List ℕ) → All (λ i. i < length p.1) xs → (z : ℕ) → IsSumOfAll reads r eq p q xs z → Simplifies r (term_at reads q z) (join_terms add_term r.zero (map (term_at reads p) xs))
+  IsSumOfAll-simplifies xs h z m =
+      subst (λ ts. Simplifies r (term_at reads q z) (join_terms add_term r.zero ts)) (terms-kept xs h)
+      (joined-simplifies r (reads q.0) add_term (SumStep r eq (reads q.0)) (Simplifies-add r)
+      (λ t u v ht hu s. operation-simplifies r (reads q.0) (reads q.0) (laws.constant_is q.0) (laws.keeps q.0 q.0 (laws.same q.0)) (sum decides (reads q.0)) t u ht hu v s)
       (λ t u v ht hu s. IsFolded-whole (reads q.0) t u (add_tree t u) v _ ht hu (ht, hu) s)
-      r.nil (map (tree_at p) xs) (tree_at q z) (trees-whole xs h) m.tree)
+      r.zero (map (tree_at p) xs) (tree_at q z) (trees-whole xs h) m.tree)
 
-  pub IsProductOfAll-stands : (xs : List ℕ) → All (λ i. i < length p.1) xs → (z : ℕ) → IsProductOfAll reads r eq p q xs z → Simplifies r (term_at reads q z) (join_terms mul_term r.one (map (term_at reads p) xs))
-  IsProductOfAll-stands xs h z m =
+  pub IsProductOfAll-simplifies : (xs : List ℕ) → All (λ i. i < length p.1) xs → (z : ℕ) → IsProductOfAll reads r eq p q xs z → Simplifies r (term_at reads q z) (join_terms mul_term r.one (map (term_at reads p) xs))
+  IsProductOfAll-simplifies xs h z m =
       subst (λ ts. Simplifies r (term_at reads q z) (join_terms mul_term r.one ts)) (terms-kept xs h)
-      (joined-stands r (reads q.0) mul_term (ProductStep r eq (reads q.0)) (Simplifies-mul r)
-      (λ t u v ht hu s. operation-stands r (reads q.0) (reads q.0) (laws.constant_is q.0) (laws.keeps q.0 q.0 (laws.same q.0)) (product decides (reads q.0)) t u ht hu v s.1)
+      (joined-simplifies r (reads q.0) mul_term (ProductStep r eq (reads q.0)) (Simplifies-mul r)
+      (λ t u v ht hu s. operation-simplifies r (reads q.0) (reads q.0) (laws.constant_is q.0) (laws.keeps q.0 q.0 (laws.same q.0)) (product decides (reads q.0)) t u ht hu v s.1)
       (λ t u v ht hu s. IsFolded-whole (reads q.0) t u (mul_tree t u) v _ ht hu (ht, hu) s.1)
       r.one (map (tree_at p) xs) (tree_at q z) (trees-whole xs h) m.tree)

@@ -8,10 +8,10 @@ use Rattle.air_field.specs.Same.{Same, same_refl, same_trans, same_add, same_neg
 use Rattle.air_field.specs.laws.Same.{same_sub, const_sub, const_neg, zero_add, zero_sub, sub_zero, zero_mul, mul_zero, one_mul}
 use Rattle.air_field.specs.laws.Degree.{Simplifies-refl}
 use Rattle.air_symbolic.specs.Leaves.{Leaves, Keeps, LeafLaws}
-use Rattle.air_symbolic.specs.Trees.{Tree, nothing, leaf_tree, add_tree, sub_tree, neg_tree, mul_tree, term_of, IsWhole, tree_constant}
+use Rattle.air_symbolic.specs.Trees.{Tree, nothing, leaf_tree, add_tree, sub_tree, neg_tree, mul_tree, term_of, IsWholeTree, tree_constant}
 use Rattle.air_symbolic.specs.laws.Numbers.{term_of-kept, tree_of-whole}
 use Rattle.air_symbolic.specs.Pools.{IsPool, Grown, tree_at, term_at, constant_at, IsConst, HasTree, HasConst}
-use Rattle.air_symbolic.specs.Folds.{zero_fold, sum_fold, difference_fold, product_fold, negative_fold, IsFolded, HasFold, IsOperation}
+use Rattle.air_symbolic.specs.Folds.{zero_fold, sum_fold, difference_fold, product_fold, negative_fold, IsSimplified, HasFold, IsOperation}
 use Rattle.air_symbolic.specs.declared.pools.expr.SymbolicExpr.{SymbolicExpr}
 use Rattle.air_symbolic.specs.declared.pools.fold.Fold.{Fold}
 use Rattle.air_symbolic.specs.declared.pools.fold.Fold.TheVariants.{Constant, Left, Right, Negated}
@@ -29,72 +29,72 @@ FoldSimplifies r x y z (Some Right) = Simplifies r y z
 FoldSimplifies r x y z (Some Negated) = Simplifies r (neg_term y) z
 
 module _ {F : Type 0} (r : CommRing F) where
-  cond-stands : (b : Bool) (x y z : Term F) (f g : Option (Fold F)) → (b ≡ true → FoldSimplifies r x y z f) → FoldSimplifies r x y z g → FoldSimplifies r x y z (cond b f g)
-  cond-stands true x y z f g h k = h refl
-  cond-stands false x y z f g h k = k
+  cond-simplifies : (b : Bool) (x y z : Term F) (f g : Option (Fold F)) → (b ≡ true → FoldSimplifies r x y z f) → FoldSimplifies r x y z g → FoldSimplifies r x y z (cond b f g)
+  cond-simplifies true x y z f g h k = h refl
+  cond-simplifies false x y z f g h k = k
 
-  negative_fold-stands : (o : Option F) (x y : Term F) → IsKnown r x o → FoldSimplifies r x y (neg_term x) (negative_fold r o)
-  negative_fold-stands (Some a) x y h = same_trans const_neg (same_neg (h a refl))
-  negative_fold-stands None x y h = tt
+  negative_fold-simplifies : (o : Option F) (x y : Term F) → IsKnown r x o → FoldSimplifies r x y (neg_term x) (negative_fold r o)
+  negative_fold-simplifies (Some a) x y h = same_trans const_neg (same_neg (h a refl))
+  negative_fold-simplifies None x y h = tt
 
 module _ {F : Type 0} (r : CommRing F) (eq : F → F → Bool) (decides : (x y : F) → Decides (eq x y) (x ≡ y)) where
   -- the fold f where the operand u, the constant a, is b
-  tested-stands : (a b : F) (u x y z : Term F) (f g : Option (Fold F)) → IsKnown r u (Some a) → (Same r (const_term b) u → FoldSimplifies r x y z f) → FoldSimplifies r x y z g → FoldSimplifies r x y z (cond (eq a b) f g)
-  tested-stands a b u x y z f g h k = cond-stands r (eq a b) x y z f g (λ e. k (h b (ap (λ (c : F). Some c) ((decides a b).0 e))))
+  tested-simplifies : (a b : F) (u x y z : Term F) (f g : Option (Fold F)) → IsKnown r u (Some a) → (Same r (const_term b) u → FoldSimplifies r x y z f) → FoldSimplifies r x y z g → FoldSimplifies r x y z (cond (eq a b) f g)
+  tested-simplifies a b u x y z f g h k = cond-simplifies r (eq a b) x y z f g (λ e. k (h b (ap (λ (c : F). Some c) ((decides a b).0 e))))
 
-  product_fold-stands : (o p : Option F) (x y : Term F) → IsKnown r x o → IsKnown r y p → FoldSimplifies r x y (mul_term x y) (product_fold r eq o p)
-  product_fold-stands (Some a) (Some b) x y h k = same_trans const_mul (same_mul (h a refl) (k b refl))
-  product_fold-stands (Some a) None x y h k =
-      tested-stands a r.nil x x y _ (Some (Constant r.nil)) _ h (λ c. same_trans zero_mul (same_mul c same_refl))
-      (tested-stands a r.one x x y _ (Some Right) None h (λ c. record { same = same_trans one_mul (same_mul c same_refl); degree_le = λ w. omega arith }) tt)
-  product_fold-stands None (Some b) x y h k =
-      tested-stands b r.nil y x y _ (Some (Constant r.nil)) _ k (λ c. same_trans mul_zero (same_mul same_refl c))
-      (tested-stands b r.one y x y _ (Some Left) None k (λ c. record { same = same_trans mul_one (same_mul same_refl c); degree_le = λ w. omega arith }) tt)
-  product_fold-stands None None x y h k = tt
+  product_fold-simplifies : (o p : Option F) (x y : Term F) → IsKnown r x o → IsKnown r y p → FoldSimplifies r x y (mul_term x y) (product_fold r eq o p)
+  product_fold-simplifies (Some a) (Some b) x y h k = same_trans const_mul (same_mul (h a refl) (k b refl))
+  product_fold-simplifies (Some a) None x y h k =
+      tested-simplifies a r.zero x x y _ (Some (Constant r.zero)) _ h (λ c. same_trans zero_mul (same_mul c same_refl))
+      (tested-simplifies a r.one x x y _ (Some Right) None h (λ c. record { same = same_trans one_mul (same_mul c same_refl); degree_le = λ w. omega arith }) tt)
+  product_fold-simplifies None (Some b) x y h k =
+      tested-simplifies b r.zero y x y _ (Some (Constant r.zero)) _ k (λ c. same_trans mul_zero (same_mul same_refl c))
+      (tested-simplifies b r.one y x y _ (Some Left) None k (λ c. record { same = same_trans mul_one (same_mul same_refl c); degree_le = λ w. omega arith }) tt)
+  product_fold-simplifies None None x y h k = tt
 
-  zero_fold-stands : (op : F → F → F) (from_zero : Fold F) (term : Term F → Term F → Term F)
+  zero_fold-simplifies : (op : F → F → F) (from_zero : Fold F) (term : Term F → Term F → Term F)
       → ((a b : F) (x y : Term F) → Same r (const_term a) x → Same r (const_term b) y → Same r (const_term (op a b)) (term x y))
-      → ((x y : Term F) → Same r (const_term r.nil) x → FoldSimplifies r x y (term x y) (Some from_zero))
-      → ((x y : Term F) → Same r (const_term r.nil) y → Simplifies r x (term x y))
+      → ((x y : Term F) → Same r (const_term r.zero) x → FoldSimplifies r x y (term x y) (Some from_zero))
+      → ((x y : Term F) → Same r (const_term r.zero) y → Simplifies r x (term x y))
       → (o p : Option F) (x y : Term F) → IsKnown r x o → IsKnown r y p → FoldSimplifies r x y (term x y) (zero_fold r eq op from_zero o p)
-  zero_fold-stands op from_zero term known left_zero right_zero (Some a) (Some b) x y h k = known a b x y (h a refl) (k b refl)
-  zero_fold-stands op from_zero term known left_zero right_zero (Some a) None x y h k = tested-stands a r.nil x x y _ (Some from_zero) None h (left_zero x y) tt
-  zero_fold-stands op from_zero term known left_zero right_zero None (Some b) x y h k = tested-stands b r.nil y x y _ (Some Left) None k (right_zero x y) tt
-  zero_fold-stands op from_zero term known left_zero right_zero None None x y h k = tt
+  zero_fold-simplifies op from_zero term known left_zero right_zero (Some a) (Some b) x y h k = known a b x y (h a refl) (k b refl)
+  zero_fold-simplifies op from_zero term known left_zero right_zero (Some a) None x y h k = tested-simplifies a r.zero x x y _ (Some from_zero) None h (left_zero x y) tt
+  zero_fold-simplifies op from_zero term known left_zero right_zero None (Some b) x y h k = tested-simplifies b r.zero y x y _ (Some Left) None k (right_zero x y) tt
+  zero_fold-simplifies op from_zero term known left_zero right_zero None None x y h k = tt
 
-  sum_fold-stands : (o p : Option F) (x y : Term F) → IsKnown r x o → IsKnown r y p → FoldSimplifies r x y (add_term x y) (sum_fold r eq o p)
-  sum_fold-stands =
-      zero_fold-stands r.add Right add_term (λ a b x y h k. same_trans const_add (same_add h k))
+  sum_fold-simplifies : (o p : Option F) (x y : Term F) → IsKnown r x o → IsKnown r y p → FoldSimplifies r x y (add_term x y) (sum_fold r eq o p)
+  sum_fold-simplifies =
+      zero_fold-simplifies r.add Right add_term (λ a b x y h k. same_trans const_add (same_add h k))
       (λ x y c. record { same = same_trans zero_add (same_add c same_refl); degree_le = λ w. omega arith })
       (λ x y c. record { same = same_trans add_zero (same_add same_refl c); degree_le = λ w. omega arith })
 
-  difference_fold-stands : (o p : Option F) (x y : Term F) → IsKnown r x o → IsKnown r y p → FoldSimplifies r x y (sub_term x y) (difference_fold r eq o p)
-  difference_fold-stands =
-      zero_fold-stands (minus r) Negated sub_term (λ a b x y h k. same_trans const_sub (same_sub h k))
+  difference_fold-simplifies : (o p : Option F) (x y : Term F) → IsKnown r x o → IsKnown r y p → FoldSimplifies r x y (sub_term x y) (difference_fold r eq o p)
+  difference_fold-simplifies =
+      zero_fold-simplifies (minus r) Negated sub_term (λ a b x y h k. same_trans const_sub (same_sub h k))
       (λ x y c. record { same = same_trans zero_sub (same_sub c same_refl); degree_le = λ w. omega arith })
       (λ x y c. record { same = same_trans sub_zero (same_sub same_refl c); degree_le = λ w. omega arith })
 
 -- What an operation is: a node over its operands, what it folds to, and its term.
 pub record Operates {A F : Type 0} (r : CommRing F) (l : Leaves A F) (node : Tree A → Tree A → Tree A) (fold : Option F → Option F → Option (Fold F)) (term : Term F → Term F → Term F) : Type 0 where
-  pub whole : (t u : Tree A) → IsWhole l.valid t → IsWhole l.valid u → IsWhole l.valid (node t u)
+  pub whole : (t u : Tree A) → IsWholeTree l.valid t → IsWholeTree l.valid u → IsWholeTree l.valid (node t u)
   pub means : (t u : Tree A) → term_of l.term (node t u) ≡ term (term_of l.term t) (term_of l.term u)
-  pub stands : (o p : Option F) (x y : Term F) → IsKnown r x o → IsKnown r y p → FoldSimplifies r x y (term x y) (fold o p)
+  pub simplifies : (o p : Option F) (x y : Term F) → IsKnown r x o → IsKnown r y p → FoldSimplifies r x y (term x y) (fold o p)
 
 module _ {A F : Type 0} {r : CommRing F} {eq : F → F → Bool} (decides : (x y : F) → Decides (eq x y) (x ≡ y)) (l : Leaves A F) where
   pub sum : Operates r l add_tree (sum_fold r eq) add_term
-  sum = record { whole = λ t u h k. (h, k); means = λ t u. refl; stands = sum_fold-stands r eq decides }
+  sum = record { whole = λ t u h k. (h, k); means = λ t u. refl; simplifies = sum_fold-simplifies r eq decides }
 
   pub difference : Operates r l sub_tree (difference_fold r eq) sub_term
-  difference = record { whole = λ t u h k. (h, k); means = λ t u. refl; stands = difference_fold-stands r eq decides }
+  difference = record { whole = λ t u h k. (h, k); means = λ t u. refl; simplifies = difference_fold-simplifies r eq decides }
 
   pub product : Operates r l mul_tree (product_fold r eq) mul_term
-  product = record { whole = λ t u h k. (h, k); means = λ t u. refl; stands = product_fold-stands r eq decides }
+  product = record { whole = λ t u h k. (h, k); means = λ t u. refl; simplifies = product_fold-simplifies r eq decides }
 
 pub negative : {A F : Type 0} (r : CommRing F) (l : Leaves A F) → Operates r l (λ t _. neg_tree t) (λ o _. negative_fold r o) (λ x _. neg_term x)
-negative r l = record { whole = λ t u h k. h; means = λ t u. refl; stands = λ o p x y h k. negative_fold-stands r o x y h }
+negative r l = record { whole = λ t u h k. h; means = λ t u. refl; simplifies = λ o p x y h k. negative_fold-simplifies r o x y h }
 
 module _ {A F : Type 0} (r : CommRing F) (l m : Leaves A F) (constant_is : (a : A) (c : F) → l.valid a → l.constant a ≡ Some c → Same r (const_term c) (l.term a)) (k : Keeps l m) where
-  const-is : (t : Tree A) → IsWhole l.valid t → (a : F) → tree_constant l.constant t ≡ Some a → Same r (const_term a) (term_of l.term t)
+  const-is : (t : Tree A) → IsWholeTree l.valid t → (a : F) → tree_constant l.constant t ≡ Some a → Same r (const_term a) (term_of l.term t)
   const-is nothing h a e = absurd h
   const-is (leaf_tree x) h a e = constant_is x a h e
   const-is (add_tree t u) h a e = cc
@@ -107,28 +107,28 @@ module _ {A F : Type 0} (r : CommRing F) (l m : Leaves A F) (constant_is : (a : 
       subst (λ y. Simplifies r y x) (sym (ap (term_of m.term) h.1 ∙ h.2.term))
       record { same = s; degree_le = λ w. omega arith }
 
-  by_tree : (v s : Tree A) (x : Term F) → v ≡ s → IsWhole l.valid s → Simplifies r (term_of l.term s) x → Simplifies r (term_of m.term v) x
+  by_tree : (v s : Tree A) (x : Term F) → v ≡ s → IsWholeTree l.valid s → Simplifies r (term_of l.term s) x → Simplifies r (term_of m.term v) x
   by_tree v s x e h st =
       subst (λ y. Simplifies r y x) (sym (ap (term_of m.term) e ∙ term_of-kept l m k s h)) st
 
   -- what is folded stands for the node's term, where the fold does
-  folded-stands : (t u node v : Tree A) (f : Option (Fold F)) → IsWhole l.valid t → IsWhole l.valid u → IsWhole l.valid node → FoldSimplifies r (term_of l.term t) (term_of l.term u) (term_of l.term node) f → IsFolded m t u node f v → Simplifies r (term_of m.term v) (term_of l.term node)
-  folded-stands t u node v None ht hu hn s h = by_tree v node (term_of l.term node) h hn (Simplifies-refl r (term_of l.term node))
-  folded-stands t u node v (Some (Constant c)) ht hu hn s h = by_const c v (term_of l.term node) h s
-  folded-stands t u node v (Some Left) ht hu hn s h = by_tree v t (term_of l.term node) h ht s
-  folded-stands t u node v (Some Right) ht hu hn s h = by_tree v u (term_of l.term node) h hu s
-  folded-stands t u node v (Some Negated) ht hu hn s h = by_tree v (neg_tree u) (term_of l.term node) h hu s
+  folded-simplifies : (t u node v : Tree A) (f : Option (Fold F)) → IsWholeTree l.valid t → IsWholeTree l.valid u → IsWholeTree l.valid node → FoldSimplifies r (term_of l.term t) (term_of l.term u) (term_of l.term node) f → IsSimplified m t u node f v → Simplifies r (term_of m.term v) (term_of l.term node)
+  folded-simplifies t u node v None ht hu hn s h = by_tree v node (term_of l.term node) h hn (Simplifies-refl r (term_of l.term node))
+  folded-simplifies t u node v (Some (Constant c)) ht hu hn s h = by_const c v (term_of l.term node) h s
+  folded-simplifies t u node v (Some Left) ht hu hn s h = by_tree v t (term_of l.term node) h ht s
+  folded-simplifies t u node v (Some Right) ht hu hn s h = by_tree v u (term_of l.term node) h hu s
+  folded-simplifies t u node v (Some Negated) ht hu hn s h = by_tree v (neg_tree u) (term_of l.term node) h hu s
 
   -- an operation, folded, stands for its term
-  pub operation-stands : {node : Tree A → Tree A → Tree A} {fold : Option F → Option F → Option (Fold F)} {term : Term F → Term F → Term F} → Operates r l node fold term
-      → (t u : Tree A) → IsWhole l.valid t → IsWhole l.valid u → (v : Tree A) → IsFolded m t u (node t u) (fold (tree_constant l.constant t) (tree_constant l.constant u)) v
+  pub operation-simplifies : {node : Tree A → Tree A → Tree A} {fold : Option F → Option F → Option (Fold F)} {term : Term F → Term F → Term F} → Operates r l node fold term
+      → (t u : Tree A) → IsWholeTree l.valid t → IsWholeTree l.valid u → (v : Tree A) → IsSimplified m t u (node t u) (fold (tree_constant l.constant t) (tree_constant l.constant u)) v
       → Simplifies r (term_of m.term v) (term (term_of l.term t) (term_of l.term u))
-  operation-stands {node = node} {fold = fold} o t u ht hu v h =
+  operation-simplifies {node = node} {fold = fold} o t u ht hu v h =
       let x = term_of l.term t in
       let y = term_of l.term u in
       let f = fold (tree_constant l.constant t) (tree_constant l.constant u) in
-      let folds = subst (λ z. FoldSimplifies r x y z f) (sym (o.means t u)) (o.stands _ _ x y (const-is t ht) (const-is u hu)) in
-      subst (Simplifies r (term_of m.term v)) (o.means t u) (folded-stands t u (node t u) v f ht hu (o.whole t u ht hu) folds h)
+      let folds = subst (λ z. FoldSimplifies r x y z f) (sym (o.means t u)) (o.simplifies _ _ x y (const-is t ht) (const-is u hu)) in
+      subst (Simplifies r (term_of m.term v)) (o.means t u) (folded-simplifies t u (node t u) v f ht hu (o.whole t u ht hu) folds h)
 
 -- So do the numbers that a pool's folded calls answer.
 module _ {U A F E : Type 0} {r : CommRing F} {reads : U → Leaves A F} {grows : U → U → Type 0} {empty : U} (laws : LeafLaws r reads grows empty) {p q : U × List (SymbolicExpr A)} (pool : IsPool reads p) (grown : Grown grows reads p q)
@@ -138,16 +138,16 @@ module _ {U A F E : Type 0} {r : CommRing F} {reads : U → Leaves A F} {grows :
   abbrev pub Answers : Type 0
   Answers = IfOk answer (IsOperation reads p q node fold x y) × IfOk answer (λ z. Simplifies r (term_at reads q z) (term (term_at reads p x) (term_at reads p y)))
 
-  whole_at : (i : ℕ) → i < length p.1 → IsWhole (reads p.0).valid (tree_at p i)
+  whole_at : (i : ℕ) → i < length p.1 → IsWholeTree (reads p.0).valid (tree_at p i)
   whole_at i b = tree_of-whole (reads p.0) p.1 pool.nodes i b
 
-  answers : (f : Option (Fold F)) → fold (constant_at reads p x) (constant_at reads p y) ≡ f → IfOk answer (λ z. (z < length q.1) × IsFolded (reads q.0) (tree_at p x) (tree_at p y) (node (tree_at p x) (tree_at p y)) f (tree_at q z)) → Answers
+  answers : (f : Option (Fold F)) → fold (constant_at reads p x) (constant_at reads p y) ≡ f → IfOk answer (λ z. (z < length q.1) × IsSimplified (reads q.0) (tree_at p x) (tree_at p y) (node (tree_at p x) (tree_at p y)) f (tree_at q z)) → Answers
   answers f is h =
       let made = IfOk-weaker answer _ (IsOperation reads p q node fold x y)
-      (λ z m. record { here = m.0; tree = subst (λ g. IsFolded (reads q.0) (tree_at p x) (tree_at p y) (node (tree_at p x) (tree_at p y)) g (tree_at q z)) (sym is) m.1 }) h in (
+      (λ z m. record { here = m.0; tree = subst (λ g. IsSimplified (reads q.0) (tree_at p x) (tree_at p y) (node (tree_at p x) (tree_at p y)) g (tree_at q z)) (sym is) m.1 }) h in (
         made,
         IfOk-weaker answer _ _
-            (λ z m. operation-stands r (reads p.0) (reads q.0) (laws.constant_is p.0) (laws.keeps p.0 q.0 grown.under) o (tree_at p x) (tree_at p y) (whole_at x x_in) (whole_at y y_in) (tree_at q z) m.tree)
+            (λ z m. operation-simplifies r (reads p.0) (reads q.0) (laws.constant_is p.0) (laws.keeps p.0 q.0 grown.under) o (tree_at p x) (tree_at p y) (whole_at x x_in) (whole_at y y_in) (tree_at q z) m.tree)
             made,
       )
 

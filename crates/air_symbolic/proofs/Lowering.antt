@@ -3,7 +3,7 @@ use Rattle.std.proofs.Common.{◌≡◌, ℕ, ◌+◌, ◌<◌, max, List, lengt
 use Rattle.air_field.specs.Degree.{degree_by, cached_weight}
 use Rattle.air_field.specs.Ring.{CommRing}
 use Rattle.air_field.specs.Extension.{Basis}
-use Rattle.air_symbolic.specs.Trees.{Tree, nothing, leaf_tree, add_tree, sub_tree, neg_tree, mul_tree, term_of, IsWhole}
+use Rattle.air_symbolic.specs.Trees.{Tree, nothing, leaf_tree, add_tree, sub_tree, neg_tree, mul_tree, term_of, IsWholeTree}
 use Rattle.air_symbolic.specs.Pools.{HasTree, tree_at, IsPool}
 use Rattle.air_symbolic.specs.BaseLeaves.{base_term, base_leaves, base_reads, base_grows}
 use Rattle.air_symbolic.specs.laws.BaseLeaves.{base_leaf_laws}
@@ -23,7 +23,7 @@ use Rattle.air_symbolic.specs.declared.leaves.ext_leaf.ExtLeaf.TheVariants.{Base
 
 module _ {F EF : Type 0} (r : CommRing F) where
   -- it stays while the base pool grows
-  pub lowered-kept : (u v : BaseNodes F) → ext_grows u v → (t : Tree (ExtLeaf F EF)) → IsWhole (ext_valid u) t → lowered v t ≡ lowered u t
+  pub lowered-kept : (u v : BaseNodes F) → ext_grows u v → (t : Tree (ExtLeaf F EF)) → IsWholeTree (ext_valid u) t → lowered v t ≡ lowered u t
   lowered-kept u v g nothing h = refl
   lowered-kept u v g (leaf_tree (Base i)) h = tree-kept r base_reads base_grows tt (base_leaf_laws r) u v i g h.here
   lowered-kept u v g (leaf_tree (ExtVariable x)) h = refl
@@ -34,7 +34,7 @@ module _ {F EF : Type 0} (r : CommRing F) where
   lowered-kept u v g (mul_tree t x) h = cc (lowered-kept u v g t h.0, lowered-kept u v g x h.1)
 
   -- it has the tree's term
-  pub lowered-term : (basis : Basis F EF) (u : BaseNodes F) (t : Tree (ExtLeaf F EF)) → IsWhole (ext_valid u) t → (HasExtOnly t → ⊥) → term_of base_term (lowered u t) ≡ term_of (ext_term basis u) t
+  pub lowered-term : (basis : Basis F EF) (u : BaseNodes F) (t : Tree (ExtLeaf F EF)) → IsWholeTree (ext_valid u) t → (HasExtOnly t → ⊥) → term_of base_term (lowered u t) ≡ term_of (ext_term basis u) t
   lowered-term basis u nothing h n = absurd h
   lowered-term basis u (leaf_tree (Base i)) h n = refl
   lowered-term basis u (leaf_tree (ExtVariable x)) h n = absurd (n tt)

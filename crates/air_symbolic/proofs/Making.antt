@@ -35,7 +35,7 @@ module _ {U A F E : Type 0} {r : CommRing F} {reads : U → Leaves A F} {q : U �
   made-both x y term congruent =
       IfOk-both answer _ _ _ (λ z m s. (
         record { pool = pool; here = m.here },
-        λ t u h k. record { pool = pool; here = m.here; stands = Simplifies-trans r _ _ _ s (congruent _ _ t u h.stands k.stands) },
+        λ t u h k. record { pool = pool; here = m.here; simplifies = Simplifies-trans r _ _ _ s (congruent _ _ t u h.simplifies k.simplifies) },
       ))
 
   pub made-one : (x : ℕ) (term : Term F → Term F) → ((t v : Term F) → Simplifies r t v → Simplifies r (term t) (term v))
@@ -44,7 +44,7 @@ module _ {U A F E : Type 0} {r : CommRing F} {reads : U → Leaves A F} {q : U �
   made-one x term congruent =
       IfOk-both answer _ _ _ (λ z m s. (
         record { pool = pool; here = m.here },
-        λ t h. record { pool = pool; here = m.here; stands = Simplifies-trans r _ _ _ s (congruent _ t h.stands) },
+        λ t h. record { pool = pool; here = m.here; simplifies = Simplifies-trans r _ _ _ s (congruent _ t h.simplifies) },
       ))
 
 -- A leaf means its term.
@@ -52,7 +52,7 @@ pub made-leaf : {U A F : Type 0} (r : CommRing F) (reads : U → Leaves A F) (q 
 made-leaf r reads q a z pool h =
     let t = (reads q.0).term a in (
       record { pool = pool; here = h.here },
-      record { pool = pool; here = h.here; stands = subst (λ x. Simplifies r x t) (sym (ap (term_of (reads q.0).term) h.tree)) (Simplifies-refl r t) },
+      record { pool = pool; here = h.here; simplifies = subst (λ x. Simplifies r x t) (sym (ap (term_of (reads q.0).term) h.tree)) (Simplifies-refl r t) },
     )
 
 -- A constant means its term.
@@ -66,7 +66,7 @@ made-constant r reads q c z pool h =
 pub refused-product : {X U A F : Type 0} (r : CommRing F) (reads : U → Leaves A F) (p : U × List (SymbolicExpr A)) (x y : ℕ) (q : Result X RingError) → (q ≡ Err DegreeOverflow → 2 ^ 64 ≤ degree_by cached_weight (term_at reads p x) + degree_by cached_weight (term_at reads p y)) → IfErr q (RefusedOfBoth (PoolMeans reads r) PoolRefuses mul_term p x y)
 refused-product r reads p x y (Ok i) h = tt
 refused-product r reads p x y (Err Memory) h = λ t u k m. tt
-refused-product r reads p x y (Err DegreeOverflow) h = λ t u k m. omega (arith, h refl, k.stands.degree_le cached_weight, m.stands.degree_le cached_weight)
+refused-product r reads p x y (Err DegreeOverflow) h = λ t u k m. omega (arith, h refl, k.simplifies.degree_le cached_weight, m.simplifies.degree_le cached_weight)
 
 -- The leaf of a base expression means what that means.
 pub made-lifted : {F EF : Type 0} (r : CommRing F) (basis : Basis F EF) (p q : ExtNodes F EF) (x : ℕ) → q.0 ≡ p.0 → IsPool (ext_reads basis) q → (z : ℕ) → HasTree q (leaf_tree (Base x)) z → Lifted (PoolHas (ext_reads basis)) (PoolMeans (ext_reads basis) r) (BaseMeans r basis) p q x z
@@ -74,7 +74,7 @@ made-lifted r basis p q x same pool z m =
     let reads = ext_reads basis in
     let is : term_at reads q z ≡ term_at base_reads p.0 x = ap (term_of (reads q.0).term) m.tree ∙ ap (λ u. term_at base_reads u x) same in (
       record { pool = pool; here = m.here },
-      λ t h. record { pool = pool; here = m.here; stands = subst (λ u. Simplifies r u t) (sym is) h.base.stands },
+      λ t h. record { pool = pool; here = m.here; simplifies = subst (λ u. Simplifies r u t) (sym is) h.base.simplifies },
     )
 
 -- What means a term means each term that is it.

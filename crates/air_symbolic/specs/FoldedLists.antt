@@ -5,7 +5,7 @@ use Rattle.air_field.specs.Degree.{degree_by, cached_weight}
 use Rattle.air_symbolic.specs.Leaves.{Leaves}
 use Rattle.air_symbolic.specs.Trees.{Tree, add_tree, mul_tree, term_of, tree_constant}
 use Rattle.air_symbolic.specs.Pools.{tree_at, IsConst}
-use Rattle.air_symbolic.specs.Folds.{sum_fold, product_fold, IsFolded}
+use Rattle.air_symbolic.specs.Folds.{sum_fold, product_fold, IsSimplified}
 use Rattle.air_symbolic.specs.declared.pools.expr.SymbolicExpr.{SymbolicExpr}
 
 -- v is t joined with the trees one by one
@@ -21,7 +21,7 @@ IsJoined l none step (t ∷ ts) v = JoinedFrom step t ts v
 module _ {A F : Type 0} (r : CommRing F) (eq : F → F → Bool) (l : Leaves A F) where
   -- v is the folded sum of t and u
   abbrev pub SumStep : Tree A → Tree A → Tree A → Type 0
-  SumStep t u v = IsFolded l t u (add_tree t u) (sum_fold r eq (tree_constant l.constant t) (tree_constant l.constant u)) v
+  SumStep t u v = IsSimplified l t u (add_tree t u) (sum_fold r eq (tree_constant l.constant t) (tree_constant l.constant u)) v
 
   -- the product of t and u needs a node, and the degrees add past `usize`
   abbrev pub Overflows : Tree A → Tree A → Type 0
@@ -32,7 +32,7 @@ module _ {A F : Type 0} (r : CommRing F) (eq : F → F → Bool) (l : Leaves A F
   -- v is the folded product of t and u, which is not refused
   abbrev pub ProductStep : Tree A → Tree A → Tree A → Type 0
   ProductStep t u v =
-      (Overflows t u → ⊥) × IsFolded l t u (mul_tree t u) (product_fold r eq (tree_constant l.constant t) (tree_constant l.constant u)) v
+      (Overflows t u → ⊥) × IsSimplified l t u (mul_tree t u) (product_fold r eq (tree_constant l.constant t) (tree_constant l.constant u)) v
 
   -- from t on, the product with one of the trees is refused
   abbrev pub OverflowsFrom : Tree A → List (Tree A) → Type 0
@@ -47,7 +47,7 @@ module _ {A F : Type 0} (r : CommRing F) (eq : F → F → Bool) (l : Leaves A F
 module _ {U A F : Type 0} (reads : U → Leaves A F) (r : CommRing F) (eq : F → F → Bool) (p q : U × List (SymbolicExpr A)) where
   pub record IsSumOfAll (xs : List ℕ) (z : ℕ) : Type 0 where
     pub here : z < length q.1
-    pub tree : IsJoined (reads q.0) r.nil (SumStep r eq (reads q.0)) (map (tree_at p) xs) (tree_at q z)
+    pub tree : IsJoined (reads q.0) r.zero (SumStep r eq (reads q.0)) (map (tree_at p) xs) (tree_at q z)
 
   pub record IsProductOfAll (xs : List ℕ) (z : ℕ) : Type 0 where
     pub here : z < length q.1

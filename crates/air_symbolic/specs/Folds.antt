@@ -12,8 +12,8 @@ use Rattle.air_symbolic.specs.declared.pools.fold.Fold.TheVariants.{Constant, Le
 -- Of an operation that gives its left operand where the right one is zero; `from_zero` stands where the left one is.
 abbrev pub zero_fold : {F : Type 0} → CommRing F → (F → F → Bool) → (F → F → F) → Fold F → Option F → Option F → Option (Fold F)
 zero_fold r eq op from_zero (Some a) (Some b) = Some (Constant (op a b))
-zero_fold r eq op from_zero (Some a) None = cond (eq a r.nil) (Some from_zero) None
-zero_fold r eq op from_zero None (Some b) = cond (eq b r.nil) (Some Left) None
+zero_fold r eq op from_zero (Some a) None = cond (eq a r.zero) (Some from_zero) None
+zero_fold r eq op from_zero None (Some b) = cond (eq b r.zero) (Some Left) None
 zero_fold r eq op from_zero None None = None
 
 abbrev pub sum_fold : {F : Type 0} → CommRing F → (F → F → Bool) → Option F → Option F → Option (Fold F)
@@ -24,8 +24,8 @@ difference_fold r eq = zero_fold r eq (minus r) Negated
 
 abbrev pub product_fold : {F : Type 0} → CommRing F → (F → F → Bool) → Option F → Option F → Option (Fold F)
 product_fold r eq (Some a) (Some b) = Some (Constant (r.mul a b))
-product_fold r eq (Some a) None = cond (eq a r.nil) (Some (Constant r.nil)) (cond (eq a r.one) (Some Right) None)
-product_fold r eq None (Some b) = cond (eq b r.nil) (Some (Constant r.nil)) (cond (eq b r.one) (Some Left) None)
+product_fold r eq (Some a) None = cond (eq a r.zero) (Some (Constant r.zero)) (cond (eq a r.one) (Some Right) None)
+product_fold r eq None (Some b) = cond (eq b r.zero) (Some (Constant r.zero)) (cond (eq b r.one) (Some Left) None)
 product_fold r eq None None = None
 
 abbrev pub negative_fold : {F : Type 0} → CommRing F → Option F → Option (Fold F)
@@ -40,9 +40,9 @@ IsFold l t u Right v = v ≡ u
 IsFold l t u Negated v = v ≡ neg_tree u
 
 -- and where nothing folds it is the node
-abbrev pub IsFolded : {A F : Type 0} → Leaves A F → Tree A → Tree A → Tree A → Option (Fold F) → Tree A → Type 0
-IsFolded l t u node (Some fold) v = IsFold l t u fold v
-IsFolded l t u node None v = v ≡ node
+abbrev pub IsSimplified : {A F : Type 0} → Leaves A F → Tree A → Tree A → Tree A → Option (Fold F) → Tree A → Type 0
+IsSimplified l t u node (Some fold) v = IsFold l t u fold v
+IsSimplified l t u node None v = v ≡ node
 
 -- number i of the pool q is what the fold says of the operands t and u
 pub record HasFold {U A F : Type 0} (reads : U → Leaves A F) (q : U × List (SymbolicExpr A)) (t u : Tree A) (fold : Fold F) (i : ℕ) : Type 0 where
@@ -53,7 +53,7 @@ pub record HasFold {U A F : Type 0} (reads : U → Leaves A F) (q : U × List (S
 pub record IsOperation {U A F : Type 0} (reads : U → Leaves A F) (p q : U × List (SymbolicExpr A))
     (node : Tree A → Tree A → Tree A) (fold : Option F → Option F → Option (Fold F)) (x y i : ℕ) : Type 0 where
   pub here : i < length q.1
-  pub tree : IsFolded (reads q.0) (tree_at p x) (tree_at p y) (node (tree_at p x) (tree_at p y)) (fold (constant_at reads p x) (constant_at reads p y)) (tree_at q i)
+  pub tree : IsSimplified (reads q.0) (tree_at p x) (tree_at p y) (node (tree_at p x) (tree_at p y)) (fold (constant_at reads p x) (constant_at reads p y)) (tree_at q i)
 
 module _ {U A F : Type 0} (reads : U → Leaves A F) (r : CommRing F) (eq : F → F → Bool) (p q : U × List (SymbolicExpr A)) where
   abbrev pub IsSum : ℕ → ℕ → ℕ → Type 0

@@ -45,7 +45,7 @@ pub record PoolHas {U A F : Type 0} (reads : U → Leaves A F) (p : U × List (S
 pub record PoolMeans {U A F : Type 0} (reads : U → Leaves A F) (r : CommRing F) (p : U × List (SymbolicExpr A)) (i : ℕ) (t : Term F) : Type 0 where
   pub pool : IsPool reads p
   pub here : i < length p.1
-  pub stands : Simplifies r (term_at reads p i) t
+  pub simplifies : Simplifies r (term_at reads p i) t
 
 -- number i has the tree t
 pub record HasTree {U A : Type 0} (p : U × List (SymbolicExpr A)) (t : Tree A) (i : ℕ) : Type 0 where

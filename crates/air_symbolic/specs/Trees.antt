@@ -30,10 +30,10 @@ tree_constant f (neg_tree t) = None
 tree_constant f (mul_tree t u) = None
 
 -- each leaf is valid, and no part is missing
-abbrev pub IsWhole : {A : Type 0} → (A → Type 0) → Tree A → Type 0
-IsWhole valid nothing = ⊥
-IsWhole valid (leaf_tree a) = valid a
-IsWhole valid (add_tree t u) = IsWhole valid t × IsWhole valid u
-IsWhole valid (sub_tree t u) = IsWhole valid t × IsWhole valid u
-IsWhole valid (neg_tree t) = IsWhole valid t
-IsWhole valid (mul_tree t u) = IsWhole valid t × IsWhole valid u
+abbrev pub IsWholeTree : {A : Type 0} → (A → Type 0) → Tree A → Type 0
+IsWholeTree valid nothing = ⊥
+IsWholeTree valid (leaf_tree a) = valid a
+IsWholeTree valid (add_tree t u) = IsWholeTree valid t × IsWholeTree valid u
+IsWholeTree valid (sub_tree t u) = IsWholeTree valid t × IsWholeTree valid u
+IsWholeTree valid (neg_tree t) = IsWholeTree valid t
+IsWholeTree valid (mul_tree t u) = IsWholeTree valid t × IsWholeTree valid u

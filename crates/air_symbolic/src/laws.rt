@@ -1,7 +1,7 @@
 //! What callers rely on, as the contracts of functions.
 ghost use Rattle.std.specs.Prelude.{◌≡◌, ℕ, ◌<◌, ◌≤◌, ◌↔◌, List, length, IsTrue, get_or};
 ghost use Rattle.std.specs.Ordering.{nat_cmp};
-ghost use Rattle.air_field.specs.Ring.{Over, OverLaws};
+ghost use Rattle.air_field.specs.Ring.{AlgebraOver, AlgebraOverLaws};
 ghost use Rattle.air_field.specs.Term.{Leaf, Term};
 ghost use Rattle.air_field.specs.Polynomial.{polynomial, SamePolynomial, HasDegreeAtMost};
 ghost use Rattle.air_field.specs.Degree.{degree_by};
@@ -46,8 +46,8 @@ pub fn is_same_whole_tree<F: Field, EF: ExtensionField<F>>(
 
 /// An expression has the polynomial of each term that it means, under every assignment over every algebra `E`.
 pub fn polynomial_is_kept<E, A: SymLeaf>(_pool: &ExprPool<A>, _x: ExprId<A>)
-    ensures { (a : Over A.F E) → OverLaws A.F.ring a → (t : Term A.F) → PoolMeans A.reads A.F.ring
-        _pool.now _x t → (s : Leaf → List E) → SamePolynomial
+    ensures { (a : AlgebraOver A.F E) → AlgebraOverLaws A.F.ring a → (t : Term A.F)
+        → PoolMeans A.reads A.F.ring _pool.now _x t → (s : Leaf → List E) → SamePolynomial
         (polynomial a s (term_at A.reads _pool.now _x)) (polynomial a s t) }
 {}
 
@@ -59,8 +59,8 @@ pub fn degree_is_kept<A: SymLeaf>(_pool: &ExprPool<A>, _x: ExprId<A>)
 
 /// Where each leaf's polynomial is within the leaf's weight, that of an expression is within its degree.
 pub fn polynomial_is_within_degree<E, A: SymLeaf>(_pool: &ExprPool<A>, _x: ExprId<A>)
-    ensures { (a : Over A.F E) (s : Leaf → List E) (w : Leaf → ℕ)
-        → ((l : Leaf) → HasDegreeAtMost a.ring (λ n. get_or (s l) n a.ring.nil) (w l))
+    ensures { (a : AlgebraOver A.F E) (s : Leaf → List E) (w : Leaf → ℕ)
+        → ((l : Leaf) → HasDegreeAtMost a.ring (λ n. get_or (s l) n a.ring.zero) (w l))
         → HasDegreeAtMost a.ring (polynomial a s (term_at A.reads _pool.now _x))
         (degree_by w (term_at A.reads _pool.now _x)) }
 {}

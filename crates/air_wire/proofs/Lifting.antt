@@ -2,7 +2,7 @@
 use Rattle.std.proofs.Common.{◌≡◌, ℕ, List, length, Result, Ok, sym, ap, subst, ◌∙◌}
 use Rattle.air_field.specs.Modular.{Modular}
 use Rattle.serde_json.specs.Data.{Data}
-use Rattle.air_field.specs.Ring.{CommRing, Over}
+use Rattle.air_field.specs.Ring.{CommRing, AlgebraOver}
 use Rattle.air_field.specs.Extension.{Basis, ExtensionLaws}
 use Rattle.air_symbolic.specs.Trees.{Tree}
 use Rattle.air_symbolic.specs.declared.leaves.base_leaf.BaseLeaf.{BaseLeaf}
@@ -11,7 +11,7 @@ use Rattle.air_wire.specs.laws.Readings.{done}
 use Rattle.air_wire.specs.Coefficients.{elements_at}
 use Rattle.air_wire.specs.laws.Coefficients.{elements_found}
 use Rattle.air_wire.specs.laws.ExtLeaves.{made_of}
-use Rattle.air_wire.specs.Seen.{over}
+use Rattle.air_wire.specs.Unshared.{over}
 use Rattle.air_wire.specs.Written.{IsWritten}
 use Rattle.air_wire.specs.BaseLeaves.{base_kind, base_seen}
 use Rattle.air_wire.specs.laws.BaseLeaves.{over_same}
@@ -42,7 +42,7 @@ module _ {F : Type 0} {p : ℕ} (m : Modular F p) where
   pub right_count : (k n place : ℕ) (d : Data) (cs list : List F) → k ≡ n → elements_at m k place d ≡ Ok cs → list ≡ cs → length list ≡ n
   right_count k n place d cs list same read is = ap length is ∙ ((elements_found m k place d cs read).1 ∙ same)
 
-  pub made_constant : {EF : Type 0} (r : CommRing F) (a : Over F EF) (basis : Basis F EF) (n : ℕ) → ExtensionLaws r a basis n → (k place : ℕ) (d : Data) (cs list : List F) (e : EF) → k ≡ n → elements_at m k place d ≡ Ok cs → list ≡ cs → basis.coefficients e ≡ list → ext_constant_at m a n place d ≡ Ok e
+  pub made_constant : {EF : Type 0} (r : CommRing F) (a : AlgebraOver F EF) (basis : Basis F EF) (n : ℕ) → ExtensionLaws r a basis n → (k place : ℕ) (d : Data) (cs list : List F) (e : EF) → k ≡ n → elements_at m k place d ≡ Ok cs → list ≡ cs → basis.coefficients e ≡ list → ext_constant_at m a n place d ≡ Ok e
   made_constant {EF} r a basis n laws k place d cs list e same read is of =
       let there : elements_at m n place d ≡ Ok cs = subst (λ j. elements_at m j place d ≡ Ok cs) same read in
       ap (λ (q : Result (List F) FlatError). q >>= λ xs. done (a.extend xs)) there

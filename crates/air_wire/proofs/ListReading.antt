@@ -11,8 +11,8 @@ use Rattle.air_symbolic.specs.declared.pools.expr.SymbolicExpr.{SymbolicExpr}
 use Rattle.air_wire.specs.declared.errors.FlatError.{FlatError}
 use Rattle.air_wire.specs.declared.errors.FlatError.TheVariants as faults
 use Rattle.air_wire.specs.Results.{◌>>=◌, Gives}
-use Rattle.air_wire.specs.Nodes.{Kind, KindLaws, node_at, node_more, nodes_from, last_tree, root_of}
-use Rattle.air_wire.specs.Good.{AreNodes, IsList, HasFault}
+use Rattle.air_wire.specs.Nodes.{Kind, KindLaws, node_of_value, node_more, nodes_from, last_tree, root_of}
+use Rattle.air_wire.specs.NodeLists.{AreNodes, IsList, HasFault}
 use Rattle.air_wire.specs.ListReaders.{last_number, HasRead}
 use Rattle.air_wire.specs.laws.Lists.{nodes_found, nodes_again, fault_found, fault_read, root_found, root_fault, fails_is, fails_if, gives_ok, gives_err}
 use Rattle.air_wire.proofs.Growing.{AllBelow}
@@ -21,7 +21,7 @@ use Rattle.air_wire.proofs.Loop.{carry}
 nodes_push : {S F : Type 0} (kind : Kind S F) (done : List (Tree S)) (ds : List Data) (d : Data) → nodes_from kind done (items_of (ds ++ d ∷ [])) ≡ node_more kind (nodes_from kind done (items_of ds)) d
 unfolding nodes_from
 nodes_push kind done [] d = refl
-nodes_push {S} kind done (e ∷ ds) d = later (node_at kind done e) (λ t. nodes_push kind (done ++ t ∷ []) ds d)
+nodes_push {S} kind done (e ∷ ds) d = later (node_of_value kind done e) (λ t. nodes_push kind (done ++ t ∷ []) ds d)
   where
     later : (r : Result (Tree S) FlatError) → ((t : Tree S) → nodes_from kind (done ++ t ∷ []) (items_of (ds ++ d ∷ [])) ≡ node_more kind (nodes_from kind (done ++ t ∷ []) (items_of ds)) d)
         → (r >>= λ t. nodes_from kind (done ++ t ∷ []) (items_of (ds ++ d ∷ []))) ≡ node_more kind (r >>= λ t. nodes_from kind (done ++ t ∷ []) (items_of ds)) d
@@ -91,7 +91,7 @@ module _ {U A S F : Type 0} (kind : Kind S F) (laws : KindLaws kind) (tree : U �
     pub still_read : (f : FlatError) → HasRead kind tree p ds (Err f) → HasRead kind tree q (ds ++ d ∷ []) (Err f)
     still_read f h =
         gives_read q (ds ++ d ∷ []) (Err f) tt
-        (carry f (nodes_from kind [] (items_of ds)) (λ done. node_at kind done d >>= λ t. Ok (done ++ t ∷ [])) _ (sym (nodes_push kind [] ds d)) (read_gives p ds (Err f) h))
+        (carry f (nodes_from kind [] (items_of ds)) (λ done. node_of_value kind done d >>= λ t. Ok (done ++ t ∷ [])) _ (sym (nodes_push kind [] ds d)) (read_gives p ds (Err f) h))
 
     pub read_on : (ids : List ℕ) (r : Result (List ℕ) FlatError) → IfOk r (AllBelow (length q.1)) → Gives (map (tree q)) r (node_more kind (Ok (map (tree p) ids)) d)
         → HasRead kind tree p ds (Ok ids) → HasRead kind tree q (ds ++ d ∷ []) r

@@ -5,7 +5,7 @@ use Rattle.std.specs.Option.{is_some}
 use Rattle.std.proofs.Math.ListN.{set}
 use Rattle.serde_json.specs.Data.{Data}
 use Rattle.air_symbolic.specs.Leaves.{Leaves}
-use Rattle.air_symbolic.specs.Trees.{Tree, nothing, leaf_tree, add_tree, sub_tree, neg_tree, mul_tree, IsWhole}
+use Rattle.air_symbolic.specs.Trees.{Tree, nothing, leaf_tree, add_tree, sub_tree, neg_tree, mul_tree, IsWholeTree}
 use Rattle.air_symbolic.specs.Nodes.{unfold_node, tree_of, NodeFits, stated_degree, OperandsBelow, IsNode}
 use Rattle.air_symbolic.specs.laws.Numbers.{tree_of-whole}
 use Rattle.air_symbolic.specs.laws.Sharing.{shared}
@@ -14,9 +14,9 @@ use Rattle.air_symbolic.specs.declared.pools.expr.SymbolicExpr.{SymbolicExpr}
 use Rattle.air_symbolic.specs.declared.pools.expr.SymbolicExpr.TheVariants.{Leaf, Add, Sub, Neg, Mul}
 use Rattle.air_wire.specs.Spelling.{case_data}
 use Rattle.air_wire.specs.Nodes.{Kind}
-use Rattle.air_wire.specs.Seen.{over, seen_at, degree, WireLaws}
+use Rattle.air_wire.specs.Unshared.{over, seen_at, degree, WireLaws}
 use Rattle.air_wire.specs.Written.{Stands, two_data, one_data, IsWrittenNode}
-use Rattle.air_wire.specs.Writing.{Placed, IsReady, IsNodeValue, steps_of}
+use Rattle.air_wire.specs.Writing.{Placed, IsWritable, IsNodeValue, steps_of}
 use Rattle.air_wire.proofs.SeenTrees.{degree_is_seen}
 use Rattle.air_wire.proofs.Left.{node_tree, within_last, work, work_pop, look_less}
 use Rattle.air_wire.proofs.Ordered.{HasOperands}
@@ -41,7 +41,7 @@ module _ {A S F : Type 0} (kind : Kind S F) (seen : A → S) (f : ℕ → Tree S
       by_entry (None, e) = absurd (t.missing x e s)
       by_entry (Some i, e) = (i, e)
 
-  ready_of : (valid : A → Type 0) (n : ℕ) (node : SymbolicExpr A) → n < size → OperandsBelow n node → ((a : A) → node ≡ Leaf a → valid a) → HasOperands done (node_tree seen f node) → IsReady valid places node
+  ready_of : (valid : A → Type 0) (n : ℕ) (node : SymbolicExpr A) → n < size → OperandsBelow n node → ((a : A) → node ≡ Leaf a → valid a) → HasOperands done (node_tree seen f node) → IsWritable valid places node
   unfolding HasOperands
   ready_of valid n (Leaf a) h below leaf has = leaf a refl
   ready_of valid n (Add x y d) h below leaf has = (placed_at x (omega (arith, below.0, h)) has.0, placed_at y (omega (arith, below.1, h)) has.1)
@@ -62,7 +62,7 @@ module _ {A S F : Type 0} (kind : Kind S F) (seen : A → S) (f : ℕ → Tree S
 -- ---- pools
 
 module _ {U A S F : Type 0} (reads : U → Leaves A F) (grows : U → U → Type 0) (seen : U → A → S) (kind : Kind S F) (laws : WireLaws reads grows seen kind.term) where
-  over_one : (u : U) (t v : Tree A) → IsWhole (reads u).valid t → IsWhole (reads u).valid v → over (seen u) t ≡ over (seen u) v → t ≡ v
+  over_one : (u : U) (t v : Tree A) → IsWholeTree (reads u).valid t → IsWholeTree (reads u).valid v → over (seen u) t ≡ over (seen u) v → t ≡ v
   over_one u nothing v h k e = absurd h
   over_one u (leaf_tree a) (leaf_tree b) h k e =
       let l : seen u a ≡ seen u b = cc in
@@ -130,7 +130,7 @@ module _ {U A S F : Type 0} (reads : U → Leaves A F) (grows : U → U → Type
         (subst (λ (l : List (ℕ × Bool)). w (rest ++ steps_of s.0 node) < w l) (sym same) (look_less (seen_at seen p) (seen p.0) rest s.0 node (node_seen p s.0 node is)))
 
     -- at a step that writes a node, its operands are written
-    pub next_ready : (steps rest : List (ℕ × Bool)) (s : ℕ × Bool) (node : SymbolicExpr A) → steps ≡ rest ++ s ∷ [] → s.1 ≡ true → IsNode (reads p.0) p.1 s.0 node → At steps → IsReady (reads p.0).valid places node
+    pub next_ready : (steps rest : List (ℕ × Bool)) (s : ℕ × Bool) (node : SymbolicExpr A) → steps ≡ rest ++ s ∷ [] → s.1 ≡ true → IsNode (reads p.0) p.1 s.0 node → At steps → IsWritable (reads p.0).valid places node
     next_ready steps rest s node e b is g =
         let h : At (rest ++ (s.0, true) ∷ []) = write_at rest s.0 s.1 b (subst At e g) in
         ready_of kind (seen p.0) (seen_at seen p) size h.done places h.table (reads p.0).valid s.0 node (within_last size rest (s.0, true) h.within) is.below

@@ -3,14 +3,14 @@ use Rattle.std.proofs.Common.{◌≡◌, ℕ, ◌<◌, List, length, Result, Ok,
 use Rattle.air_field.specs.Term.{Term}
 use Rattle.air_field.specs.Degree.{degree_by, cached_weight}
 use Rattle.air_symbolic.specs.Leaves.{Leaves}
-use Rattle.air_symbolic.specs.Trees.{Tree, nothing, leaf_tree, add_tree, sub_tree, neg_tree, mul_tree, term_of, IsWhole}
+use Rattle.air_symbolic.specs.Trees.{Tree, nothing, leaf_tree, add_tree, sub_tree, neg_tree, mul_tree, term_of, IsWholeTree}
 use Rattle.air_symbolic.specs.Nodes.{tree_of}
 use Rattle.air_symbolic.specs.laws.Numbers.{tree_of-kept, tree_of-whole}
 use Rattle.air_symbolic.specs.Pools.{IsPool, Grown, tree_at, term_at}
 use Rattle.air_symbolic.specs.declared.pools.expr.SymbolicExpr.{SymbolicExpr}
 use Rattle.air_wire.specs.declared.errors.FlatError.{FlatError}
 use Rattle.air_wire.specs.Results.{◌>>=◌}
-use Rattle.air_wire.specs.Seen.{over, seen_at, degree, WireLaws}
+use Rattle.air_wire.specs.Unshared.{over, seen_at, degree, WireLaws}
 
 module _ {U A S F : Type 0} (reads : U → Leaves A F) (grows : U → U → Type 0) (seen : U → A → S) (term : S → Term F) (laws : WireLaws reads grows seen term) where
   over_term : (u : U) (t : Tree A) → term_of term (over (seen u) t) ≡ term_of (reads u).term t
@@ -27,7 +27,7 @@ module _ {U A S F : Type 0} (reads : U → Leaves A F) (grows : U → U → Type
   pub degree_is_seen : (p : U × List (SymbolicExpr A)) (i d : ℕ) → d ≡ degree_by cached_weight (term_at reads p i) → d ≡ degree term (seen_at seen p i)
   degree_is_seen p i d e = e ∙ sym (degree_seen p i)
 
-  over_kept : (u v : U) → grows u v → (t : Tree A) → IsWhole (reads u).valid t → over (seen v) t ≡ over (seen u) t
+  over_kept : (u v : U) → grows u v → (t : Tree A) → IsWholeTree (reads u).valid t → over (seen v) t ≡ over (seen u) t
   over_kept u v g nothing h = refl
   over_kept u v g (leaf_tree a) h = ap (λ s. leaf_tree s) (laws.kept u v g a h)
   over_kept u v g (add_tree t w) h = cc (over_kept u v g t h.0, over_kept u v g w h.1)

@@ -9,10 +9,10 @@ use Rattle.air_symbolic.specs.declared.leaves.base_leaf.BaseLeaf.TheVariants as 
 use Rattle.air_wire.specs.Parts.{whole, find_name, text_or}
 use Rattle.air_wire.specs.Results.{◌>>=◌}
 use Rattle.air_wire.specs.Entries.{SpellsVariable, variable_plain}
-use Rattle.air_wire.specs.Spelling.{number_data, case_data, IsCase, IsWhole}
+use Rattle.air_wire.specs.Spelling.{number_data, case_data, IsCase, IsWholeNumber}
 use Rattle.air_wire.specs.Nodes.{Kind}
 use Rattle.air_wire.specs.LeafFaults.{OwnFaultOr}
-use Rattle.air_wire.specs.Seen.{WireLaws}
+use Rattle.air_wire.specs.Unshared.{WireLaws}
 use Rattle.air_wire.specs.declared.errors.FlatError.{FlatError}
 use Rattle.air_wire.specs.declared.errors.FlatError.TheVariants as faults
 
@@ -21,13 +21,13 @@ SpellsLeaf m d (leaves.Variable v) = IsCase (codes "Variable") (λ c. SpellsVari
 SpellsLeaf m d leaves.IsFirstRow = d ≡ string (codes "IsFirstRow")
 SpellsLeaf m d leaves.IsLastRow = d ≡ string (codes "IsLastRow")
 SpellsLeaf m d leaves.IsTransition = d ≡ string (codes "IsTransition")
-SpellsLeaf m d (leaves.Constant x) = IsCase (codes "Constant") (IsWhole (m.value x)) d
+SpellsLeaf m d (leaves.Constant x) = IsCase (codes "Constant") (IsWholeNumber (m.value x)) d
 
 -- ---- which fault has a value that spells none
 
 -- a whole number at or past the modulus p
 abbrev pub IsPast : ℕ → Data → Type 0
-IsPast p c = (n : ℕ) × IsWhole n c × (p ≤ n)
+IsPast p c = (n : ℕ) × IsWholeNumber n c × (p ≤ n)
 
 -- a constant has a fault of its own where its number is whole, but not canonical
 abbrev pub OwnLeafFault : ℕ → ℕ → Data → FlatError → Type 0

@@ -2,7 +2,7 @@
 use Rattle.std.specs.Prelude.{◌≡◌, ℕ, List, Option, Some, None, option_map, option_and_then, codes}
 use Rattle.serde_json.specs.Data.{Data, string, object, member, no_members}
 use Rattle.serde_json.specs.Find.{as_str, get}
-use Rattle.air_wire.specs.Parts.{whole_at, both, find_name, text_or}
+use Rattle.air_wire.specs.Parts.{whole_at, all_two, find_name, text_or}
 use Rattle.air_wire.specs.Plain.{Plain}
 use Rattle.air_wire.specs.Spelling.{number_data, case_data, IsCase, HasField, HasWhole}
 
@@ -54,7 +54,7 @@ abbrev pub SpellsIndexed : {E : Type 0} → Plain E → Data → E → ℕ → T
 SpellsIndexed entry d e i = HasField (codes "entry") (λ c. entry.spells c e) d × HasWhole (codes "index") i d
 
 unfoldable pub indexed_read : {E V : Type 0} → Plain E → (E → ℕ → V) → Data → Option V
-indexed_read entry make d = both make (option_and_then entry.read (get (codes "entry") d)) (whole_at (codes "index") d)
+indexed_read entry make d = all_two make (option_and_then entry.read (get (codes "entry") d)) (whole_at (codes "index") d)
 
 -- what is made of both
 abbrev pub indexed_plain : {E V : Type 0} → Plain E → (E → ℕ → V) → (V → E) → (V → ℕ) → Plain V

@@ -1,7 +1,7 @@
 -- Extension leaves: how they are spelt, and how they are read in a node.
 use Rattle.std.specs.Prelude.{◌≡◌, ℕ, ◌⊎◌, List, Result, Ok, Err, option_map, codes, if◌then◌else◌, bytes_eq, ok_or}
 use Rattle.serde_json.specs.Data.{Data, array}
-use Rattle.air_field.specs.Ring.{Over}
+use Rattle.air_field.specs.Ring.{AlgebraOver}
 use Rattle.air_field.specs.Extension.{Basis}
 use Rattle.air_field.specs.Term.{Term, leaf_term, ext_const_term}
 use Rattle.air_field.specs.Modular.{Modular}
@@ -14,10 +14,10 @@ use Rattle.air_wire.specs.Results.{◌>>=◌}
 use Rattle.air_wire.specs.Spelling.{case_data, IsCase}
 use Rattle.air_wire.specs.ExtEntries.{SpellsExtVariable, ext_variable_plain}
 use Rattle.air_wire.specs.Coefficients.{number_items, elements_at}
-use Rattle.air_wire.specs.Wholes.{HasPast}
+use Rattle.air_wire.specs.WholeNumbers.{HasPast}
 use Rattle.air_wire.specs.LeafFaults.{OwnFaultOr}
 use Rattle.air_wire.specs.Nodes.{Kind, root_of}
-use Rattle.air_wire.specs.Good.{IsList, HasFault}
+use Rattle.air_wire.specs.NodeLists.{IsList, HasFault}
 use Rattle.air_wire.specs.Written.{IsWritten}
 use Rattle.air_wire.specs.BaseLeaves.{base_kind}
 use Rattle.air_wire.specs.declared.errors.FlatError.{FlatError}
@@ -35,10 +35,10 @@ WritesWhole m basis d (whole_base t) = IsCase (codes "Base") (λ c. IsWritten (b
 WritesWhole m basis d (whole_variable v) = d ≡ case_data (codes "ExtVariable") (ext_variable_plain.written v)
 WritesWhole m basis d (whole_constant e) = d ≡ case_data (codes "ExtConstant") (array (number_items m (basis.coefficients e)))
 
-abbrev pub whole_term : {F EF : Type 0} → Basis F EF → WholeLeaf F EF → Term F
-whole_term basis (whole_base t) = term_of base_term t
-whole_term basis (whole_variable v) = leaf_term (ext_entry_leaf v.entry v.index)
-whole_term basis (whole_constant c) = ext_const_term (basis.coefficients c)
+abbrev pub whole_leaf_term : {F EF : Type 0} → Basis F EF → WholeLeaf F EF → Term F
+whole_leaf_term basis (whole_base t) = term_of base_term t
+whole_leaf_term basis (whole_variable v) = leaf_term (ext_entry_leaf v.entry v.index)
+whole_leaf_term basis (whole_constant c) = ext_const_term (basis.coefficients c)
 
 -- ---- which fault has a value that spells none
 
@@ -71,10 +71,10 @@ moved place (Err f) = Err (at_place place f)
 abbrev pub lifted_at : {F EF : Type 0} {p : ℕ} → Modular F p → ℕ → Data → Result (WholeLeaf F EF) FlatError
 lifted_at m place c = moved place (root_of (base_kind m) c) >>= λ t. Ok (whole_base t)
 
-abbrev pub ext_constant_at : {F EF : Type 0} {p : ℕ} → Modular F p → Over F EF → ℕ → ℕ → Data → Result EF FlatError
+abbrev pub ext_constant_at : {F EF : Type 0} {p : ℕ} → Modular F p → AlgebraOver F EF → ℕ → ℕ → Data → Result EF FlatError
 ext_constant_at m a count place c = elements_at m count place c >>= λ cs. Ok (a.extend cs)
 
-abbrev pub ext_leaf_with : {F EF : Type 0} {p : ℕ} → Modular F p → Over F EF → ℕ → ℕ → List ℕ → Data → Result (WholeLeaf F EF) FlatError
+abbrev pub ext_leaf_with : {F EF : Type 0} {p : ℕ} → Modular F p → AlgebraOver F EF → ℕ → ℕ → List ℕ → Data → Result (WholeLeaf F EF) FlatError
 ext_leaf_with m a count place name c =
     if bytes_eq name (codes "Base") then lifted_at m place c
     else (if bytes_eq name (codes "ExtVariable") then ok_or (option_map (λ v. whole_variable v) (ext_variable_plain.read c)) (faults.Shape place)
@@ -82,9 +82,9 @@ ext_leaf_with m a count place name c =
     else Err (faults.Shape place)))
 
 -- the leaf that is spelt by a value in the node at a place, or its fault
-unfoldable pub ext_leaf_at : {F EF : Type 0} {p : ℕ} → Modular F p → Over F EF → ℕ → ℕ → Data → Result (WholeLeaf F EF) FlatError
+unfoldable pub ext_leaf_at : {F EF : Type 0} {p : ℕ} → Modular F p → AlgebraOver F EF → ℕ → ℕ → Data → Result (WholeLeaf F EF) FlatError
 ext_leaf_at m a count place d = case_or (Err (faults.Shape place)) (ext_leaf_with m a count place) (only_member d)
 
 -- extension leaves, with so many coefficients
-abbrev pub ext_kind : {F EF : Type 0} {p : ℕ} → Modular F p → Over F EF → Basis F EF → ℕ → Kind (WholeLeaf F EF) F
-ext_kind m a basis count = record { spells = SpellsWhole m basis; writes = WritesWhole m basis; fault = WholeFault m basis count; leaf_at = ext_leaf_at m a count; term = whole_term basis }
+abbrev pub ext_kind : {F EF : Type 0} {p : ℕ} → Modular F p → AlgebraOver F EF → Basis F EF → ℕ → Kind (WholeLeaf F EF) F
+ext_kind m a basis count = record { spells = SpellsWhole m basis; writes = WritesWhole m basis; fault = WholeFault m basis count; leaf_at = ext_leaf_at m a count; term = whole_leaf_term basis }

@@ -7,7 +7,7 @@ use Rattle.air_symbolic.specs.Trees.{Tree}
 use Rattle.air_symbolic.specs.declared.pools.expr.SymbolicExpr.{SymbolicExpr}
 use Rattle.air_wire.specs.Results.{◌>>=◌}
 use Rattle.air_wire.specs.Nodes.{Kind}
-use Rattle.air_wire.specs.Good.{AreNodes, FirstFault}
+use Rattle.air_wire.specs.NodeLists.{AreNodes, FirstFault}
 use Rattle.air_wire.specs.declared.errors.FlatError.{FlatError}
 use Rattle.air_wire.specs.declared.errors.FlatError.TheVariants as faults
 

@@ -7,7 +7,7 @@ use Rattle.air_field.specs.Term.{Term}
 use Rattle.air_symbolic.specs.Trees.{Tree, leaf_tree, add_tree, sub_tree, neg_tree, mul_tree}
 use Rattle.air_wire.specs.Parts.{only_member, whole_at, all_three, find_name, case_or}
 use Rattle.air_wire.specs.Results.{◌>>=◌}
-use Rattle.air_wire.specs.Seen.{degree}
+use Rattle.air_wire.specs.Unshared.{degree}
 use Rattle.air_wire.specs.declared.operations.Operation.{Operation}
 use Rattle.air_wire.specs.declared.operations.Operation.TheVariants.{Add, Sub, Mul, Neg}
 use Rattle.air_wire.specs.declared.errors.FlatError.{FlatError}
@@ -58,8 +58,8 @@ second_of Mul c = whole_at (codes "y") c
 second_of Neg c = whole_at (codes "x") c
 
 -- the stated degree and the operands' places
-unfoldable pub places_of : Operation → Data → Option (ℕ × ℕ × ℕ)
-places_of op c = all_three (λ d x y. (d, x, y)) (whole_at (codes "degree_multiple") c) (whole_at (codes "x") c) (second_of op c)
+unfoldable pub operands_of : Operation → Data → Option (ℕ × ℕ × ℕ)
+operands_of op c = all_three (λ d x y. (d, x, y)) (whole_at (codes "degree_multiple") c) (whole_at (codes "x") c) (second_of op c)
 
 -- the degree, where it fits `usize`
 abbrev pub joined_degree : Operation → ℕ → ℕ → Result ℕ FlatError
@@ -78,7 +78,7 @@ joined_tree Neg t u = neg_tree t
 -- the operands, where the degree is stated right
 unfoldable pub operands_at : {S F : Type 0} → Kind S F → List (Tree S) → Operation → Data → Result (Tree S × Tree S) FlatError
 operands_at kind done op c = do
-  p ← ok_or (places_of op c) (faults.Shape (length done))
+  p ← ok_or (operands_of op c) (faults.Shape (length done))
   t ← operand done p.1
   u ← operand done p.2
   found ← joined_degree op (degree kind.term t) (degree kind.term u)
@@ -101,17 +101,17 @@ node_with kind done name c =
     else operation_or kind done (find_name operations name) c
 
 -- the tree of the node that is spelt by a value, behind the trees of done, or its first fault
-unfoldable pub node_at : {S F : Type 0} → Kind S F → List (Tree S) → Data → Result (Tree S) FlatError
-node_at kind done d = case_or (Err (faults.Shape (length done))) (node_with kind done) (only_member d)
+unfoldable pub node_of_value : {S F : Type 0} → Kind S F → List (Tree S) → Data → Result (Tree S) FlatError
+node_of_value kind done d = case_or (Err (faults.Shape (length done))) (node_with kind done) (only_member d)
 
 -- the trees of done and of the further nodes, or the first fault
 unfoldable pub nodes_from : {S F : Type 0} → Kind S F → List (Tree S) → Items → Result (List (Tree S)) FlatError
 nodes_from kind done no_items = Ok done
-nodes_from kind done (item d ds) = node_at kind done d >>= λ t. nodes_from kind (done ++ t ∷ []) ds
+nodes_from kind done (item d ds) = node_of_value kind done d >>= λ t. nodes_from kind (done ++ t ∷ []) ds
 
 -- the trees of the nodes so far and of one more, or the first fault
 abbrev pub node_more : {S F : Type 0} → Kind S F → Result (List (Tree S)) FlatError → Data → Result (List (Tree S)) FlatError
-node_more kind so_far d = so_far >>= λ done. node_at kind done d >>= λ t. Ok (done ++ t ∷ [])
+node_more kind so_far d = so_far >>= λ done. node_of_value kind done d >>= λ t. Ok (done ++ t ∷ [])
 
 -- the root of a list is its last node
 unfoldable pub last_tree : {S : Type 0} → List (Tree S) → Result (Tree S) FlatError

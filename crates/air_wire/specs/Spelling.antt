@@ -19,8 +19,8 @@ abbrev pub HasField : List ℕ → (Data → Type 0) → Data → Type 0
 HasField name P d = (c : Data) × (get name d ≡ Some c) × P c
 
 -- d is the whole number n
-abbrev pub IsWhole : ℕ → Data → Type 0
-IsWhole n d = d ≡ number_data n
+abbrev pub IsWholeNumber : ℕ → Data → Type 0
+IsWholeNumber n d = d ≡ number_data n
 
 -- the field of this name is the whole number n
 abbrev pub HasWhole : List ℕ → ℕ → Data → Type 0

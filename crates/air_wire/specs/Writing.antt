@@ -15,12 +15,12 @@ abbrev pub Placed : List (Option ℕ) → ℕ → Type 0
 Placed places x = (i : ℕ) × (slice_get places x ≡ Some (Some i))
 
 -- the operands of a node have places, and a leaf is valid
-abbrev pub IsReady : {A : Type 0} → (A → Type 0) → List (Option ℕ) → SymbolicExpr A → Type 0
-IsReady valid places (Leaf a) = valid a
-IsReady valid places (Add x y d) = Placed places x × Placed places y
-IsReady valid places (Sub x y d) = Placed places x × Placed places y
-IsReady valid places (Neg x d) = Placed places x
-IsReady valid places (Mul x y d) = Placed places x × Placed places y
+abbrev pub IsWritable : {A : Type 0} → (A → Type 0) → List (Option ℕ) → SymbolicExpr A → Type 0
+IsWritable valid places (Leaf a) = valid a
+IsWritable valid places (Add x y d) = Placed places x × Placed places y
+IsWritable valid places (Sub x y d) = Placed places x × Placed places y
+IsWritable valid places (Neg x d) = Placed places x
+IsWritable valid places (Mul x y d) = Placed places x × Placed places y
 
 -- the case of this name with the stated degree, and the operands' places
 abbrev pub NamesTwo : List ℕ → List (Option ℕ) → ℕ → ℕ → ℕ → Data → Type 0

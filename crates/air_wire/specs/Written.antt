@@ -5,7 +5,7 @@ use Rattle.serde_json.specs.Data.{Data, array, object, member, no_members}
 use Rattle.serde_json.specs.View.{items_of}
 use Rattle.air_symbolic.specs.Trees.{Tree, nothing, leaf_tree, add_tree, sub_tree, neg_tree, mul_tree}
 use Rattle.air_wire.specs.Spelling.{number_data, case_data, IsCase}
-use Rattle.air_wire.specs.Seen.{degree}
+use Rattle.air_wire.specs.Unshared.{degree}
 use Rattle.air_wire.specs.Nodes.{Kind}
 
 -- all subtrees in post-order: those of the left operand, those of the right one, the tree

@@ -9,10 +9,10 @@ pub mod Entries
 pub mod ExtEntries
 pub mod ExtLeaves
 pub mod Nodes
-pub mod Reads
-pub mod Forms
+pub mod ReadCalls
+pub mod NodeFaults
 pub mod LeafFaults
 pub mod Lists
 pub mod Written
 pub mod Coefficients
-pub mod Wholes
+pub mod WholeNumbers

@@ -112,7 +112,7 @@ impl<F: PrimeField64> WireLeaf for BaseLeaf<F> {
     ghost use Rattle.air_wire.specs.BaseLeaves.{base_kind, base_seen, base_wire_laws};
     ghost use Rattle.air_wire.specs.laws.BaseLeaves.{base_kind_laws};
 
-    ghost Seen = { BaseLeaf F };
+    ghost View = { BaseLeaf F };
 
     ghost seen = { λ u a. base_seen u a };
 

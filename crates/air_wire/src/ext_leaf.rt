@@ -6,7 +6,7 @@ ghost use Rattle.air_symbolic.specs.Pools.{IsPool, Grown, tree_at};
 ghost use Rattle.air_symbolic.specs.BaseLeaves.{base_reads, base_grows};
 ghost use Rattle.air_symbolic.specs.ExtLeaves.{ext_valid};
 ghost use Rattle.air_symbolic.specs.ExtTrees.{whole_leaf};
-ghost use Rattle.air_wire.specs.Reads.{Reads};
+ghost use Rattle.air_wire.specs.ReadCalls.{ReadsTree};
 ghost use Rattle.air_wire.specs.Results.{Gives};
 ghost use Rattle.air_wire.specs.Spelling.{case_data};
 ghost use Rattle.air_wire.specs.Coefficients.{number_items, wholes, if_canonical, elements_at};
@@ -120,7 +120,7 @@ fn base_from<F: PrimeField64>(
     contents: &Value,
 ) -> Result<ExprId<BaseLeaf<F>>, FlatError>
     requires { IsPool base_reads under.old }
-    ensures { Reads base_grows base_reads tree_at under.old under.new result
+    ensures { ReadsTree base_grows base_reads tree_at under.old under.new result
         (moved at (root_of (base_kind F.residues) (view contents.now))) }
 {
     match list_from(alloc, under, contents) {
@@ -215,7 +215,7 @@ impl<F: PrimeField64, EF: ExtensionField<F>> WireLeaf for ExtLeaf<F, EF> {
     ghost use Rattle.air_wire.specs.ExtLeaves.{ext_kind};
     ghost use Rattle.air_wire.specs.laws.ExtLeaves.{ext_wire_laws, ext_kind_laws};
 
-    ghost Seen = { WholeLeaf F EF };
+    ghost View = { WholeLeaf F EF };
 
     ghost seen = { λ u a. whole u a };
 

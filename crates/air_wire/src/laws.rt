@@ -2,10 +2,10 @@
 ghost use Rattle.std.specs.Prelude.{◌≡◌, ◌↔◌, List, Err};
 ghost use Rattle.serde_json.specs.Data.{Data};
 ghost use Rattle.air_symbolic.specs.Trees.{Tree};
-ghost use Rattle.air_wire.specs.Good.{IsList, HasFault};
+ghost use Rattle.air_wire.specs.NodeLists.{IsList, HasFault};
 ghost use Rattle.air_wire.specs.Written.{IsWritten};
-ghost use Rattle.air_wire.specs.Nodes.{node_at};
-ghost use Rattle.air_wire.specs.Forms.{NodeFault};
+ghost use Rattle.air_wire.specs.Nodes.{node_of_value};
+ghost use Rattle.air_wire.specs.NodeFaults.{NodeFault};
 ghost use Rattle.air_wire.specs.declared.errors.FlatError.{FlatError};
 
 use crate::wire_leaf::WireLeaf;
@@ -34,5 +34,5 @@ pub fn lists_are_written_one_way<A: WireLeaf>()
 /// such fault is found.
 pub fn faults_of_nodes<A: WireLeaf>()
     ensures { (before : List (Tree A.Seen)) (d : Data) (f : FlatError) →
-        (node_at A.kind before d ≡ Err f) ↔ NodeFault A.kind before d f }
+        (node_of_value A.kind before d ≡ Err f) ↔ NodeFault A.kind before d f }
 {}

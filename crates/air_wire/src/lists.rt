@@ -5,9 +5,9 @@ ghost use Rattle.serde_json.specs.View.{view, items_of};
 ghost use Rattle.air_symbolic.specs.Pools.{IsPool, Grown};
 ghost use Rattle.air_symbolic.specs.declared.pools.expr.SymbolicExpr.{SymbolicExpr};
 ghost use Rattle.air_wire.specs.ListReaders.{numbers_or, last_number, HasRead};
-ghost use Rattle.air_wire.specs.Reads.{AreOf, Reads, ReadsAll};
-ghost use Rattle.air_wire.specs.Seen.{seen_at};
-ghost use Rattle.air_wire.specs.Good.{IsList, HasFault};
+ghost use Rattle.air_wire.specs.ReadCalls.{AreOf, ReadsTree, ReadsAll};
+ghost use Rattle.air_wire.specs.Unshared.{seen_at};
+ghost use Rattle.air_wire.specs.NodeLists.{IsList, HasFault};
 ghost use Rattle.air_wire.specs.Nodes.{root_of, node_more};
 
 use crate::errors::FlatError;
@@ -62,7 +62,8 @@ fn fault_after<A: WireLeaf>(
     value: &Value,
 ) -> Option<FlatError>
     requires pool { IsPool A.reads pool.old }
-    requires here { IfOk (numbers_or ids.old.items fault) (λ is. All (λ i. i < length pool.old.1) is) }
+    requires here { IfOk (numbers_or ids.old.items fault)
+        (λ is. All (λ i. i < length pool.old.1) is) }
     ensures grown { Grown A.grows A.reads pool.old pool.new }
     ensures read { (ds : List Data)
         → HasRead A.kind (seen_at A.seen) pool.old ds (numbers_or ids.old.items fault)
@@ -149,7 +150,7 @@ pub(crate) fn list_from<A: WireLeaf>(
     value: &Value,
 ) -> Result<ExprId<A>, FlatError>
     requires { IsPool A.reads pool.old }
-    ensures { Reads A.grows A.reads (seen_at A.seen) pool.old pool.new result
+    ensures { ReadsTree A.grows A.reads (seen_at A.seen) pool.old pool.new result
         (root_of A.kind (view value.now)) }
 {
     let items = value.as_array().ok_or(FlatError::Shape { at: 0 })?;

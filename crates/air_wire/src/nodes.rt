@@ -2,13 +2,13 @@
 ghost use Rattle.std.specs.Prelude.{◌≡◌, ◌<◌, length, map, All, IfOk, IsOk, Ok};
 ghost use Rattle.serde_json.specs.View.{view};
 ghost use Rattle.air_symbolic.specs.Pools.{IsPool};
-ghost use Rattle.air_wire.specs.Reads.{AreOf, Reads};
+ghost use Rattle.air_wire.specs.ReadCalls.{AreOf, ReadsTree};
 ghost use Rattle.air_wire.specs.Results.{Gives};
-ghost use Rattle.air_wire.specs.Seen.{seen_at, degree};
-ghost use Rattle.air_wire.specs.Nodes.{operand, stated, joined_degree, joined_tree, operands_at, operation_at, leaf_node_at, node_at};
+ghost use Rattle.air_wire.specs.Unshared.{seen_at, degree};
+ghost use Rattle.air_wire.specs.Nodes.{operand, stated, joined_degree, joined_tree, operands_at, operation_at, leaf_node_at, node_of_value};
 
 use crate::errors::FlatError;
-use crate::operations::{Operation, joined_degree, operation_named, places_of};
+use crate::operations::{Operation, joined_degree, operands_of, operation_named};
 use crate::parts::only_member;
 use crate::wire_leaf::WireLeaf;
 use air_symbolic::{ExprId, ExprPool};
@@ -78,7 +78,7 @@ fn operands<A: WireLeaf>(
         (operands_at A.kind (map (seen_at A.seen pool.now) ids.now) operation (view contents.now)) }
 {
     let shape = FlatError::Shape { at: ids.len() };
-    let (degree, x, y) = places_of(operation, contents).ok_or(shape)?;
+    let (degree, x, y) = operands_of(operation, contents).ok_or(shape)?;
     let left = operand(pool, ids, x)?;
     let right = operand(pool, ids, y)?;
     let found = joined_degree(operation, degree_of(pool, left), degree_of(pool, right))?;
@@ -98,7 +98,7 @@ fn inserted<A: WireLeaf>(
     requires fits { IsOk (joined_degree operation
         (degree A.kind.term (seen_at A.seen pool.old operands.0))
         (degree A.kind.term (seen_at A.seen pool.old operands.1))) }
-    ensures { Reads A.grows A.reads (seen_at A.seen) pool.old pool.new result
+    ensures { ReadsTree A.grows A.reads (seen_at A.seen) pool.old pool.new result
         (Ok (joined_tree operation (seen_at A.seen pool.old operands.0)
         (seen_at A.seen pool.old operands.1))) }
 {
@@ -121,7 +121,7 @@ fn operation_from<A: WireLeaf>(
     contents: &Value,
 ) -> Result<ExprId<A>, FlatError>
     requires { AreOf A.reads pool.old ids.now }
-    ensures { Reads A.grows A.reads (seen_at A.seen) pool.old pool.new result
+    ensures { ReadsTree A.grows A.reads (seen_at A.seen) pool.old pool.new result
         (operation_at A.kind (map (seen_at A.seen pool.old) ids.now) operation
         (view contents.now)) }
 {
@@ -136,7 +136,7 @@ fn leaf_from<A: WireLeaf>(
     contents: &Value,
 ) -> Result<ExprId<A>, FlatError>
     requires { IsPool A.reads pool.old }
-    ensures { Reads A.grows A.reads (seen_at A.seen) pool.old pool.new result
+    ensures { ReadsTree A.grows A.reads (seen_at A.seen) pool.old pool.new result
         (leaf_node_at A.kind at (view contents.now)) }
 {
     let leaf = A::leaf_from_value(alloc, at, pool.base_mut(), contents)?;
@@ -144,7 +144,7 @@ fn leaf_from<A: WireLeaf>(
 }
 
 /// The expression of the node that the value spells behind the expressions `ids`.
-#[tactic(auto, unfolding(crate::specs::Nodes::node_at))]
+#[tactic(auto, unfolding(crate::specs::Nodes::node_of_value))]
 pub(crate) fn node_from<A: WireLeaf>(
     alloc: Global,
     pool: &mut ExprPool<A>,
@@ -152,8 +152,8 @@ pub(crate) fn node_from<A: WireLeaf>(
     value: &Value,
 ) -> Result<ExprId<A>, FlatError>
     requires { AreOf A.reads pool.old ids.now }
-    ensures { Reads A.grows A.reads (seen_at A.seen) pool.old pool.new result
-        (node_at A.kind (map (seen_at A.seen pool.old) ids.now) (view value.now)) }
+    ensures { ReadsTree A.grows A.reads (seen_at A.seen) pool.old pool.new result
+        (node_of_value A.kind (map (seen_at A.seen pool.old) ids.now) (view value.now)) }
 {
     let shape = FlatError::Shape { at: ids.len() };
     let (name, contents) = only_member(value).ok_or(shape)?;

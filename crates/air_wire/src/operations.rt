@@ -2,7 +2,7 @@
 ghost use Rattle.std.specs.Prelude.{◌≡◌};
 ghost use Rattle.serde_json.specs.View.{view};
 ghost use Rattle.air_wire.specs.Parts.{find_name};
-ghost use Rattle.air_wire.specs.Nodes.{operations, second_of, places_of, joined_degree};
+ghost use Rattle.air_wire.specs.Nodes.{operations, second_of, operands_of, joined_degree};
 
 use crate::errors::FlatError;
 use crate::parts::whole_at;
@@ -43,9 +43,9 @@ fn second_of(operation: Operation, contents: &Value) -> Option<usize>
 }
 
 /// The stated degree and the operands' places.
-#[tactic(auto, unfolding(crate::specs::Nodes::places_of))]
-pub(crate) fn places_of(operation: Operation, contents: &Value) -> Option<(usize, usize, usize)>
-    ensures { result ≡ places_of operation (view contents.now) }
+#[tactic(auto, unfolding(crate::specs::Nodes::operands_of))]
+pub(crate) fn operands_of(operation: Operation, contents: &Value) -> Option<(usize, usize, usize)>
+    ensures { result ≡ operands_of operation (view contents.now) }
 {
     let degree = whole_at(contents, "degree_multiple")?;
     let x = whole_at(contents, "x")?;

@@ -2,7 +2,7 @@
 ghost use Rattle.std.specs.Prelude.{◌≡◌, IfOk, ok_or};
 ghost use Rattle.serde_json.specs.View.{view};
 ghost use Rattle.air_wire.specs.Results.{Gives};
-ghost use Rattle.air_wire.specs.Wholes.{wholes_data, wholes_at};
+ghost use Rattle.air_wire.specs.WholeNumbers.{wholes_data, wholes_at};
 
 use crate::errors::FlatError;
 use crate::ext_leaf::wholes;

@@ -3,7 +3,7 @@ ghost use Rattle.std.specs.Prelude.{◌≡◌, IfOk, IfErr};
 ghost use Rattle.serde_json.specs.View.{view};
 ghost use Rattle.air_wire.specs.Nodes.{Kind, KindLaws};
 ghost use Rattle.air_wire.specs.Results.{Gives};
-ghost use Rattle.air_wire.specs.Seen.{WireLaws};
+ghost use Rattle.air_wire.specs.Unshared.{WireLaws};
 
 use crate::errors::FlatError;
 use air_symbolic::SymLeaf;
@@ -13,11 +13,11 @@ use std::alloc::Global;
 /// A leaf that can be read from a value and written as one.
 pub trait WireLeaf: SymLeaf {
     // A leaf that holds no number of a pool.
-    ghost Seen: { Type 0 };
+    ghost View: { Type 0 };
 
-    ghost seen: { Self.Under → Self → Seen };
+    ghost seen: { Self.Under → Self → View };
 
-    ghost kind: { Kind Seen Self.F };
+    ghost kind: { Kind View Self.F };
 
     /// The leaf that the value spells in the node at place `at`; any other value is refused with its first fault.
     fn leaf_from_value(

@@ -3,7 +3,7 @@ ghost use Rattle.std.specs.Prelude.{◌≡◌, ◌<◌, ◌+◌, [], ◌∷◌, 
 ghost use Rattle.serde_json.specs.View.{view};
 ghost use Rattle.air_symbolic.specs.Pools.{IsPool};
 ghost use Rattle.air_symbolic.specs.Trees.{leaf_tree};
-ghost use Rattle.air_wire.specs.Seen.{seen_at};
+ghost use Rattle.air_wire.specs.Unshared.{seen_at};
 ghost use Rattle.air_wire.specs.Written.{AreNodesOf, IsWritten};
 ghost use Rattle.air_wire.specs.Writing.{steps_of};
 

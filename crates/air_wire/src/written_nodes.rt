@@ -4,7 +4,7 @@ ghost use Rattle.std.specs.List.{slice_get};
 ghost use Rattle.serde_json.specs.View.{view};
 ghost use Rattle.air_wire.specs.Spelling.{IsCase, case_data};
 ghost use Rattle.air_wire.specs.Written.{two_data, one_data};
-ghost use Rattle.air_wire.specs.Writing.{Placed, IsReady, IsNodeValue};
+ghost use Rattle.air_wire.specs.Writing.{Placed, IsWritable, IsNodeValue};
 
 use crate::cases::case_value;
 use crate::errors::FlatError;
@@ -76,7 +76,7 @@ pub(crate) fn node_value<A: WireLeaf>(
     node: &SymbolicExpr<A>,
 ) -> Result<Value, FlatError>
     requires sound { (A.reads under.now).sound }
-    requires ready { IsReady (A.reads under.now).valid places.now node.now }
+    requires ready { IsWritable (A.reads under.now).valid places.now node.now }
     ensures written { IfOk result (λ v. IsNodeValue A.kind (A.seen under.now) places.now node.now
         (view v)) }
     ensures refused { IfErr result (λ e. e ≡ FlatError.Memory) }

@@ -10,12 +10,12 @@ abbrev pub limbs : {A : Type 0} → A → A → Limbs A
 limbs low high = record { low = low; high = high }
 
 -- each is zero, of which becomes f
-abbrev pub all_zero : {F : Type 0} → (Term F → Term F) → List (Term F) → List (Assertion F)
-all_zero f ts = map (λ t. Base (f t)) ts
+abbrev pub all_vanish : {F : Type 0} → (Term F → Term F) → List (Term F) → List (Assertion F)
+all_vanish f ts = map (λ t. Base (f t)) ts
 
 -- The word whose lower limb is in this column, with the 16 columns of its bits behind it, and then the upper one with its.
-abbrev pub word_at : {F : Type 0} → ℕ → Limbs (Term F)
-word_at first = limbs (leaf_term (main 0 first)) (leaf_term (main 0 (first + 17)))
+abbrev pub word_in_columns : {F : Type 0} → ℕ → Limbs (Term F)
+word_in_columns first = limbs (leaf_term (main 0 first)) (leaf_term (main 0 (first + 17)))
 
 -- it has these bits
 unfoldable pub word_bits : {F : Type 0} → CommRing F → ℕ → (Term F → Term F) → List (Assertion F)

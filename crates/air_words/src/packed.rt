@@ -4,10 +4,10 @@ ghost use Rattle.air_field.specs.Algebra.{MadeOfBoth, RefusedOfBoth};
 ghost use Rattle.air_field.specs.Term.{Term};
 ghost use Rattle.air_gadgets.specs.Packing.{packed_from, packed_term};
 ghost use Rattle.air_author.specs.Expressions.{MadeIn};
-ghost use Rattle.air_words.specs.BitTerms.{twice_and_term, terms_from, terms_of};
+ghost use Rattle.air_words.specs.BitTerms.{twice_and_term, terms_from, first_terms};
 
 use air_author::{AirResult, Constant, Expression, answered};
-use air_builder::{AirBuilder, Seen};
+use air_builder::{AirBuilder, View};
 use air_field::{Algebra, Field, RingError};
 
 /// Expressions that an index numbers.
@@ -26,7 +26,7 @@ pub trait Series<AB: AirBuilder> {
     fn make_at(&self, index: usize, builder: &mut AB) -> AirResult<AB::Expr>
         requires ready { AB.ready builder.old }
         requires within { index < count self.now }
-        ensures { MadeIn ⟦<AB as Seen>⟧.view builder.old builder.new result
+        ensures { MadeIn ⟦<AB as View>⟧.view builder.old builder.new result
             (term_at self.now index) };
 }
 
@@ -57,7 +57,7 @@ fn make_packed<AB: AirBuilder, S: Series<AB>>(
     requires ready { AB.ready builder.old }
     requires within { at + more < S.count series.now }
     requires fits { at + more ≤ usize.MAX }
-    ensures { MadeIn ⟦<AB as Seen>⟧.view builder.old builder.new result
+    ensures { MadeIn ⟦<AB as View>⟧.view builder.old builder.new result
         (packed_from (S.term_at series.now at) (terms_from (S.term_at series.now) (at + 1) more)) }
 {
     if more == 0 {
@@ -73,7 +73,7 @@ fn make_packed<AB: AirBuilder, S: Series<AB>>(
 pub struct Packed<S>(pub S);
 
 impl<AB: AirBuilder, S: Series<AB>> Expression<AB> for Packed<S> {
-    ghost term = { λ s. packed_term AB.F.ring.nil (terms_of (S.term_at s.0) (S.count s.0)) };
+    ghost term = { λ s. packed_term AB.F.ring.zero (first_terms (S.term_at s.0) (S.count s.0)) };
 
     fn make(&self, builder: &mut AB) -> AirResult<AB::Expr> {
         let count = self.0.count();

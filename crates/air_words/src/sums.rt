@@ -6,13 +6,13 @@ ghost use Rattle.air_builder.specs.Assertion.{Base};
 ghost use Rattle.air_gadgets.specs.Gadgets.{less_two_term, less_three_term, raised_term, carry_term, times_raised_term, whole_term, carried_terms, add2_terms, add3_terms};
 ghost use Rattle.air_author.specs.Constraints.{AssertedIn};
 ghost use Rattle.air_author.specs.Expressions.{Lasts};
-ghost use Rattle.air_words.specs.WordTerms.{limbs, all_zero};
+ghost use Rattle.air_words.specs.WordTerms.{limbs, all_vanish};
 
 use air_author::{
     AirResult, Condition, Constraint, Expression, Less, Number, Zero, make_difference,
     make_product, make_sum,
 };
-use air_builder::{AirBuilder, Seen};
+use air_builder::{AirBuilder, View};
 
 // What an operation is of is handed by reference, to kinds that keep references: of references as kinds of their own,
 // as in Difference<&X, &Y>, each costs seconds of proof wherever it stands.
@@ -101,7 +101,7 @@ fn assert_zero<AB: AirBuilder, X: Expression<AB>, K: Condition<AB>>(
     requires ready { AB.ready builder.old }
     requires held { Lasts AB.kept (λ b. X.holds x.now b × K.where_holds condition.now b)
         builder.old }
-    ensures { AssertedIn ⟦<AB as Seen>⟧.view builder.old builder.new result
+    ensures { AssertedIn ⟦<AB as View>⟧.view builder.old builder.new result
         (Base (K.under condition.now (X.term x.now)) ∷ []) }
 {
     Zero(x).assert_under(builder, condition)
@@ -117,7 +117,7 @@ fn assert_both_zero<AB: AirBuilder, X: Expression<AB>, Y: Expression<AB>, K: Con
     requires ready { AB.ready builder.old }
     requires held { Lasts AB.kept
         (λ b. (X.holds x.now b × Y.holds y.now b) × K.where_holds condition.now b) builder.old }
-    ensures { AssertedIn ⟦<AB as Seen>⟧.view builder.old builder.new result
+    ensures { AssertedIn ⟦<AB as View>⟧.view builder.old builder.new result
         (Base (K.under condition.now (X.term x.now)) ∷ Base (K.under condition.now (Y.term y.now))
         ∷ []) }
 {
@@ -136,8 +136,8 @@ fn assert_zero_but_carry<AB: AirBuilder, X: Expression<AB>, Y: Expression<AB>, K
     requires held { Lasts AB.kept
         (λ b. (X.holds low.now b × Y.holds high.now b) × K.where_holds condition.now b)
         builder.old }
-    ensures { AssertedIn ⟦<AB as Seen>⟧.view builder.old builder.new result
-        (all_zero (K.under condition.now) (carried_terms AB.F.ring false (X.term low.now)
+    ensures { AssertedIn ⟦<AB as View>⟧.view builder.old builder.new result
+        (all_vanish (K.under condition.now) (carried_terms AB.F.ring false (X.term low.now)
         (Y.term high.now))) }
 {
     let whole = Whole(low, high);
@@ -159,7 +159,7 @@ pub struct Add2<X, Y, Z> {
 
 impl<AB: AirBuilder, X: Expression<AB>, Y: Expression<AB>, Z: Expression<AB>> Constraint<AB>
     for Add2<X, Y, Z> {
-    ghost asserts = { λ s f _. all_zero f (add2_terms AB.F.ring
+    ghost asserts = { λ s f _. all_vanish f (add2_terms AB.F.ring
         (limbs (X.term s.a.0) (X.term s.a.1)) (limbs (Y.term s.b.0) (Y.term s.b.1))
         (limbs (Z.term s.c.0) (Z.term s.c.1))) };
 
@@ -222,8 +222,8 @@ fn assert_zero_but_two_carries<
     requires held { Lasts AB.kept
         (λ b. (X.holds low.now b × Y.holds high.now b) × K.where_holds condition.now b)
         builder.old }
-    ensures { AssertedIn ⟦<AB as Seen>⟧.view builder.old builder.new result
-        (all_zero (K.under condition.now) (carried_terms AB.F.ring true (X.term low.now)
+    ensures { AssertedIn ⟦<AB as View>⟧.view builder.old builder.new result
+        (all_vanish (K.under condition.now) (carried_terms AB.F.ring true (X.term low.now)
         (Y.term high.now))) }
 {
     let whole = Whole(low, high);
@@ -247,7 +247,7 @@ impl<
     Z: Expression<AB>,
     W: Expression<AB>,
 > Constraint<AB> for Add3<X, Y, Z, W> {
-    ghost asserts = { λ s f _. all_zero f (add3_terms AB.F.ring
+    ghost asserts = { λ s f _. all_vanish f (add3_terms AB.F.ring
         (limbs (X.term s.a.0) (X.term s.a.1)) (limbs (Y.term s.b.0) (Y.term s.b.1))
         (limbs (Z.term s.c.0) (Z.term s.c.1)) (limbs (W.term s.d.0) (W.term s.d.1))) };
 

@@ -4,12 +4,12 @@ use Rattle.blake3_rows.specs.declared.refusals.Refusal.{Refusal}
 use Rattle.blake3_rows.specs.declared.refusals.Refusal.TheVariants as refusals
 
 -- the name of the refusal's variant
-abbrev pub name_of : Refusal → List ℕ
-name_of refusals.Usage = codes "Usage"
-name_of refusals.NotANumber = codes "NotANumber"
-name_of refusals.Read = codes "Read"
-name_of refusals.TooLong = codes "TooLong"
-name_of refusals.NoSuchRow = codes "NoSuchRow"
-name_of refusals.NoSuchColumn = codes "NoSuchColumn"
-name_of refusals.Memory = codes "Memory"
-name_of refusals.Audit = codes "Audit"
+abbrev pub refusal_name : Refusal → List ℕ
+refusal_name refusals.Usage = codes "Usage"
+refusal_name refusals.NotANumber = codes "NotANumber"
+refusal_name refusals.Read = codes "Read"
+refusal_name refusals.TooLong = codes "TooLong"
+refusal_name refusals.NoSuchRow = codes "NoSuchRow"
+refusal_name refusals.NoSuchColumn = codes "NoSuchColumn"
+refusal_name refusals.Memory = codes "Memory"
+refusal_name refusals.Audit = codes "Audit"

@@ -1,6 +1,6 @@
 //! Why the program refuses.
 ghost use Rattle.std.specs.Prelude.{◌≡◌};
-ghost use Rattle.blake3_rows.specs.Refusals.{name_of};
+ghost use Rattle.blake3_rows.specs.Refusals.{refusal_name};
 
 use air_blake3_rows::TraceError;
 use p3_air::AirError;
@@ -30,7 +30,7 @@ pub enum Refusal {
 impl Refusal {
     /// The name in the line that is written.
     pub fn name(self) -> &'static str
-        ensures { result.now ≡ name_of self }
+        ensures { result.now ≡ refusal_name self }
     {
         match self {
             Refusal::Usage => "Usage",

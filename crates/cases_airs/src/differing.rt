@@ -20,7 +20,7 @@ struct Row<E> {
 fn read_cell<AB: AirBuilder>(builder: &mut AB, column: usize) -> Result<AB::Expr, AirError>
     requires { AB.ready builder.old }
     ensures keeps { AB.grew builder.old builder.new [] }
-    ensures made { IfOk result (λ x. Means AB.Ring.means AB.ring_of AB.stands builder.new x
+    ensures made { IfOk result (λ x. Means AB.Ring.means AB.ring_of AB.reads_as builder.new x
         (leaf_term (main 0 column))) }
     ensures there { OnOk result (AB.missing builder.old (main 0 column) → ⊥) }
     ensures refused { IfErr result (RefusesPart AB.refuses builder.old
@@ -40,7 +40,7 @@ fn read_row<AB: AirBuilder>(builder: &mut AB) -> Result<Row<AB::Expr>, AirError>
     requires { AB.ready builder.old }
     ensures keeps { AB.grew builder.old builder.new [] }
     ensures made { IfOk result (λ row. RowMeans
-        (Means AB.Ring.means AB.ring_of AB.stands builder.new) row.x row.y row.z) }
+        (Means AB.Ring.means AB.ring_of AB.reads_as builder.new) row.x row.y row.z) }
     ensures there { OnOk result (NoneMissing (AB.missing builder.old) (differing AB.F.ONE)) }
     ensures refused { IfErr result (λ e. AB.refuses builder.old e (differing AB.F.ONE)) }
 {
@@ -52,7 +52,7 @@ fn read_row<AB: AirBuilder>(builder: &mut AB) -> Result<Row<AB::Expr>, AirError>
 
 fn assert_row<AB: AirBuilder>(builder: &mut AB, row: Row<AB::Expr>) -> Result<(), AirError>
     requires ready { AB.ready builder.old }
-    requires means { RowMeans (Means AB.Ring.means AB.ring_of AB.stands builder.old) row.x row.y
+    requires means { RowMeans (Means AB.Ring.means AB.ring_of AB.reads_as builder.old) row.x row.y
         row.z }
     ensures keeps { AB.kept builder.old builder.new }
     ensures ok { OnOk result (AB.grew builder.old builder.new (differing AB.F.ONE)) }

@@ -19,7 +19,7 @@ fn next_is<AB: AirBuilder, X: Expression<AB>>(
     value: &X,
 ) -> Result<(), AirError>
     requires ready { AB.ready builder.old }
-    requires held { Lasts AB.kept (Holds (Means AB.Ring.means AB.ring_of AB.stands) AB.missing
+    requires held { Lasts AB.kept (Holds (Means AB.Ring.means AB.ring_of AB.reads_as) AB.missing
         x (X.term value.now)) builder.old }
     ensures { Asserted AB.kept AB.grew AB.missing AB.refuses builder.old builder.new result
         (Base (mul_term (leaf_term transition)

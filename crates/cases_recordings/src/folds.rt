@@ -81,7 +81,7 @@ pub fn row_of<F: Field, EF: ExtensionField<F>>(
 fn folder_of<'a, F: Field + 'static, EF: ExtensionField<F> + 'static>(
     row: &'a Row<EF>,
 ) -> Result<Folder<'a, F, EF>, Fault>
-    ensures { IfOk result (λ folder. folder.accumulator ≡ EF.over.ring.nil) }
+    ensures { IfOk result (λ folder. folder.accumulator ≡ EF.over.ring.zero) }
 {
     if row.current.len() != row.next.len() || row.permutation.len() != row.next_permutation.len() {
         return Err(Fault::Unreadable(Why::OtherShape));

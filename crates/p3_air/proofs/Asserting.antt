@@ -40,14 +40,14 @@ each_asserts means b (x ∷ xs) [] h = absurd h
 each_asserts means b (x ∷ xs) (t ∷ ts) h = ((t, h.0, refl), each_asserts means b xs ts h.1)
 
 module _ {S R E F : Type 0} {view : BuilderView S R E F} (ring : RingLaws view) (laws : BuilderLaws view) where
-  open view use {has, ring_of, stands, kept, grew, missing, refuses}
+  open view use {has, ring_of, reads_as, kept, grew, missing, refuses}
 
   -- what means a term is of the ring
   pub all_has : (b : S) (xs : List E) (ts : List (Term F)) → AllZip (λ x t. MeansIn view b x t) xs ts → All (λ x. has (ring_of b) x) xs
   all_has b [] [] h = λ k d lt. absurd (omega (arith, lt))
   all_has b [] (t ∷ ts) h = absurd h
   all_has b (x ∷ xs) [] h = absurd h
-  all_has b (x ∷ xs) (t ∷ ts) h = all_cons (λ y. has (ring_of b) y) x xs (ring.means_has (ring_of b) x (with_leaves (stands b) t) h.0) (all_has b xs ts h.1)
+  all_has b (x ∷ xs) (t ∷ ts) h = all_cons (λ y. has (ring_of b) y) x xs (ring.means_has (ring_of b) x (with_leaves (reads_as b) t) h.0) (all_has b xs ts h.1)
 
   -- each root's expression was made, and asserted to be zero
   pub roots_asserted : (a b d : S) (xs : List E) (ts : List (Term F)) (r : Result (Unit {0}) AirError) → grew a b []

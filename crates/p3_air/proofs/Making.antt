@@ -10,7 +10,7 @@ use Rattle.air_symbolic.specs.declared.pools.expr.SymbolicExpr.TheVariants as no
 use Rattle.air_builder.specs.Builders.{MeansIn, BuilderView, RingLaws, BuilderLaws}
 use Rattle.air_builder.specs.laws.Filters.{means_kept}
 use Rattle.air_builder.specs.Refusals.{IsPastWindow, EachLeaf}
-use Rattle.air_author.specs.Expressions.{Made, Lasts}
+use Rattle.air_author.specs.Expressions.{MakesTerm, Lasts}
 use Rattle.air_author.specs.Handing.{each_weaker, made_lasts}
 use Rattle.air_symbolic.specs.laws.Sharing.{found}
 use Rattle.p3_air.specs.declared.flat.step.Step.{Step}
@@ -91,12 +91,12 @@ module _ {S R B F : Type 0} {view : BuilderView S R B F} (laws : BuilderLaws vie
   open view use {grew, missing, refuses}
 
   -- what the table has is made already
-  pub made_already : {means : S → B → Term F → Type 0} (a : S) (t : Term F) (x : B) → IsMade means missing a t x → Made means grew missing refuses a a (Ok x) t
+  pub made_already : {means : S → B → Term F → Type 0} (a : S) (t : Term F) (x : B) → IsMade means missing a t x → MakesTerm means grew missing refuses a a (Ok x) t
   made_already a t x h = record { keeps = laws.same a; made = h.meant; there = h.leaves; refused = tt }
 
   -- no window has the row
   pub past_window_refused : {E : Type 0} {means : S → E → Term F → Type 0} (a : S) (o : ℕ) (l : Leaf)
-      → IsPastWindow o l → Made {E = E} means grew missing refuses a a (Err (RowOffset o)) (leaf_term l)
+      → IsPastWindow o l → MakesTerm {E = E} means grew missing refuses a a (Err (RowOffset o)) (leaf_term l)
   past_window_refused a o l past = record {
     keeps = laws.same a;
     made = tt;
@@ -115,7 +115,7 @@ module _ {S R E F : Type 0} {view : BuilderView S R E F} (ring : RingLaws view) 
   }
 
   -- what was made is made
-  pub is_made : (a b : S) (t : Term F) (x : E) → Made (MeansIn view) grew missing refuses a b (Ok x) t → IsMade (MeansIn view) missing b t x
+  pub is_made : (a b : S) (t : Term F) (x : E) → MakesTerm (MeansIn view) grew missing refuses a b (Ok x) t → IsMade (MeansIn view) missing b t x
   is_made a b t x h = made_lasts ring laws a b x t h b (laws.by_growth b b [] (laws.same b))
 
   -- it was there before

@@ -11,7 +11,7 @@ use Rattle.air_symbolic.specs.declared.pools.expr.SymbolicExpr.{SymbolicExpr}
 use Rattle.air_symbolic.specs.declared.pools.expr.SymbolicExpr.TheVariants as node
 use Rattle.p3_air.specs.declared.flat.step.Step.{Step}
 use Rattle.p3_air.specs.declared.flat.step.Step.TheVariants as step
-use Rattle.p3_air.specs.Plans.{number_at, IsPlaceOf, StepMakes, AreSteps, has_operand, some_has_operand, IsUsed, IsPlan, AreNumbered}
+use Rattle.p3_air.specs.Plans.{number_at, IsPlaceOf, StepMakes, AreSteps, has_operand, some_has_operand, IsUsed, IsPlan, HavePlaces}
 
 -- operands below k
 pub each_below : {A : Type 0} (P Q : ℕ → Type 0) (k : ℕ) (n : SymbolicExpr A) → ((i : ℕ) → i < k → P i → Q i) → OperandsBelow k n → EachOperand P n → EachOperand Q n
@@ -85,7 +85,7 @@ operand_found i (node.Mul x y d) (inl e) = or_left (eqb i x) (eqb i y) (eqb_same
 operand_found i (node.Mul x y d) (inr e) = or_right (eqb i x) (eqb i y) (eqb_same i y e)
 
 -- the roots' places
-roots_within : (marks : List (Option ℕ)) (numbers table places roots : List ℕ) → AreNumbered marks numbers table → All (λ i. Marked marks i) roots → AllZip (λ p i. p ≡ get_or table i 0) places roots → All (λ p. p < length numbers) places
+roots_within : (marks : List (Option ℕ)) (numbers table places roots : List ℕ) → HavePlaces marks numbers table → All (λ i. Marked marks i) roots → AllZip (λ p i. p ≡ get_or table i 0) places roots → All (λ p. p < length numbers) places
 roots_within marks numbers table [] [] h m z = λ k d lt. absurd (omega (arith, lt))
 roots_within marks numbers table [] (i ∷ roots) h m z = absurd z
 roots_within marks numbers table (p ∷ places) [] h m z = absurd z
@@ -97,7 +97,7 @@ roots_within marks numbers table (p ∷ places) (i ∷ roots) h m z = all_cons p
     all_cons p places lt h zero d b = lt
     all_cons p places lt h (suc k) d b = h k d (omega (arith, b))
 
-roots_placed : (marks : List (Option ℕ)) (numbers table places roots : List ℕ) → AreNumbered marks numbers table → All (λ i. Marked marks i) roots → AllZip (λ p i. p ≡ get_or table i 0) places roots → AllZip (λ p i. i ≡ number_at numbers p) places roots
+roots_placed : (marks : List (Option ℕ)) (numbers table places roots : List ℕ) → HavePlaces marks numbers table → All (λ i. Marked marks i) roots → AllZip (λ p i. p ≡ get_or table i 0) places roots → AllZip (λ p i. i ≡ number_at numbers p) places roots
 roots_placed marks numbers table [] [] h m z = tt
 roots_placed marks numbers table [] (i ∷ roots) h m z = absurd z
 roots_placed marks numbers table (p ∷ places) [] h m z = absurd z
@@ -127,7 +127,7 @@ module _ {A F : Type 0} (l : Leaves A F) (ns : List (SymbolicExpr A)) (roots : L
   reached_marked i (root (k, lt, e)) = subst (λ j. Marked marks j) e (r.roots_marked k i lt)
   reached_marked i (operand {j = j} {n = n} f is p) = one_operand (λ k. Marked marks k) i n p (r.operands_marked j n (reached_marked j f) is)
 
-  module _ (numbers table : List ℕ) (h : AreNumbered marks numbers table) where
+  module _ (numbers table : List ℕ) (h : HavePlaces marks numbers table) where
     -- what is reached is needed
     reached_used : (i : ℕ) → ReachedFrom l ns roots i → IsUsed ns roots numbers i
     reached_used i (root (k, lt, e)) =

@@ -12,7 +12,7 @@ use Rattle.air_builder.specs.laws.Zips.{AllZip-joined}
 use Rattle.air_builder.specs.Builders.{MeansIn, BuilderView, RingLaws, BuilderLaws}
 use Rattle.air_builder.specs.Assertion.{Assertion}
 use Rattle.air_builder.specs.Refusals.{PartOf, EachLeaf}
-use Rattle.air_author.specs.Expressions.{Made}
+use Rattle.air_author.specs.Expressions.{MakesTerm}
 use Rattle.p3_air.specs.Tables.{IsMade, HasAt, MadeAll, OrMemory}
 use Rattle.p3_air.proofs.Making.{there_before}
 
@@ -91,7 +91,7 @@ all_one P x h (suc k) d lt = absurd (omega (arith, lt))
 module _ {S E F X : Type 0} (means : S → E → Term F → Type 0) (grew : S → S → List (Assertion F) → Type 0)
     (missing : S → Leaf → Type 0) (refuses : S → X → List (Assertion F) → Type 0) (a b : S) (t : Term F) where
   -- what was made of a list of one term is made of the term
-  pub one_made : (xs : Vec E Global) (x : E) → MadeAll means grew missing refuses a b (Ok xs) (t ∷ []) → slice_get xs.items 0 ≡ Some x → Made means grew missing refuses a b (Ok x) t
+  pub one_made : (xs : Vec E Global) (x : E) → MadeAll means grew missing refuses a b (Ok xs) (t ∷ []) → slice_get xs.items 0 ≡ Some x → MakesTerm means grew missing refuses a b (Ok x) t
   one_made xs x h at = record {
     keeps = h.keeps;
     made = first_has (means b) xs.items t x h.made at;
@@ -99,7 +99,7 @@ module _ {S E F X : Type 0} (means : S → E → Term F → Type 0) (grew : S �
     refused = tt;
   }
 
-  pub one_refused : (e : X) → MadeAll {E = E} means grew missing refuses a b (Err e) (t ∷ []) → Made {E = E} means grew missing refuses a b (Err e) t
+  pub one_refused : (e : X) → MadeAll {E = E} means grew missing refuses a b (Err e) (t ∷ []) → MakesTerm {E = E} means grew missing refuses a b (Err e) t
   one_refused e h = record {
     keeps = h.keeps;
     made = tt;

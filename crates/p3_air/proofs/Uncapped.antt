@@ -6,7 +6,7 @@ use Rattle.air_field.specs.Assignment.{IsMissing}
 use Rattle.air_builder.specs.Refusals.{NoneMissing}
 use Rattle.air_core.specs.declared.errors.AirError.{AirError}
 use Rattle.air_core.specs.declared.errors.AirError.TheVariants.{Memory}
-use Rattle.air_report.specs.Cells.{cell_label, cell_place, failure_text}
+use Rattle.air_report.specs.Cells.{cell_label, cell_place, label_text}
 use Rattle.air_report.specs.Checks.{Fits, HasEntries, IsCellPastCount, IsReport, RowsRan, RowRefuses}
 use Rattle.air_report.specs.Given.{given_trace}
 use Rattle.air_report.specs.Report.{count_shown, failure_place, report_of}
@@ -71,8 +71,8 @@ module _ {F : Type 0} (r : CommRing F) (eq : F → F → Bool) (x : Instance F) 
 
     pub labels : LabelsFrom (length (nonzero_places r eq x)) (violations r eq x) report
     labels = labels_are (drop (length (nonzero_places r eq x)) report.failures.items)
-        ∙ (ap (λ fs. map failure_text (drop (length (nonzero_places r eq x)) fs)) p.lists.failures
-        ∙ (ap (map failure_text) (dropped p.of_rows p.lists.more (length (nonzero_places r eq x)) counted)
+        ∙ (ap (λ fs. map label_text (drop (length (nonzero_places r eq x)) fs)) p.lists.failures
+        ∙ (ap (map label_text) (dropped p.of_rows p.lists.more (length (nonzero_places r eq x)) counted)
         ∙ (p.lists.labels ∙ ap (map (λ c. Some (cell_label c.1))) (sym (violations_are r x eq)))))
       where
         counted : length (nonzero_places r eq x) ≡ length p.of_rows

@@ -80,7 +80,7 @@ pub record IsPlan {A F : Type 0} (l : Leaves A F) (ns : List (SymbolicExpr A)) (
   pub used : (k : ℕ) → k < length numbers → IsUsed ns roots numbers (number_at numbers k)
 
 -- Each marked number has a place, where it stands, and those that are less stand before it.
-pub record AreNumbered (marks : List (Option ℕ)) (numbers places : List ℕ) : Type 0 where
+pub record HavePlaces (marks : List (Option ℕ)) (numbers places : List ℕ) : Type 0 where
   pub long : length places ≡ length marks
   pub marked : (k : ℕ) → k < length numbers → Marked marks (number_at numbers k)
   pub placed : (i : ℕ) → Marked marks i → IsPlaceOf numbers (length numbers) (get_or places i 0) i

@@ -15,12 +15,12 @@ abbrev pub IsMade : {S E F : Type 0} → (S → E → Term F → Type 0) → (S 
 IsMade means missing b t x = Holds means missing x t b
 
 -- there is an expression, and it has the property
-abbrev pub HasOne : {E : Type 0} → (E → Type 0) → Option E → Type 0
-HasOne {E} P o = (x : E) × (o ≡ Some x) × P x
+abbrev pub SomeHas : {E : Type 0} → (E → Type 0) → Option E → Type 0
+SomeHas {E} P o = (x : E) × (o ≡ Some x) × P x
 
 -- the table has an expression at place p, and it has the property
 abbrev pub HasAt : {E : Type 0} → (E → Type 0) → List E → ℕ → Type 0
-HasAt P table p = HasOne P (slice_get table p)
+HasAt P table p = SomeHas P (slice_get table p)
 
 -- the table has at each place before k the expression of the place's number
 abbrev pub TableMade : {E F : Type 0} → (Term F → E → Type 0) → (ℕ → Term F) → List ℕ → List E → ℕ → Type 0

@@ -65,20 +65,20 @@ entry_at z table row column = slice_index_or (unwrap_or (slice_get table.rows ro
 -- selectors are one on the first row, on the last row, and on all rows but the last. What isn't
 -- there reads as zero.
 abbrev pub read_at : {F : Type 0} → CommRing F → Instance F → ℕ → Leaf → F
-read_at r x i (main zero c) = entry_at r.nil x.main i c
-read_at r x i (main (suc zero) c) = entry_at r.nil x.main ((i + 1) % row_count x) c
-read_at r x i (main (suc (suc o)) c) = r.nil
-read_at r x i (preprocessed zero c) = entry_at r.nil (table_grid x.air.preprocessed) i c
-read_at r x i (preprocessed (suc zero) c) = entry_at r.nil (table_grid x.air.preprocessed) ((i + 1) % row_count x) c
-read_at r x i (preprocessed (suc (suc o)) c) = r.nil
-read_at r x i (periodic c) = slice_index_or (map (λ column. slice_index_or column.items (i % length column.items) r.nil) x.air.periodic) c r.nil
-read_at r x i (public k) = slice_index_or x.public k r.nil
-read_at r x i first_row = if i == 0 then r.one else r.nil
-read_at r x i last_row = if i + 1 == row_count x then r.one else r.nil
-read_at r x i transition = if i + 1 == row_count x then r.nil else r.one
-read_at r x i (permutation o c) = r.nil
-read_at r x i (challenge k) = r.nil
-read_at r x i (permutation_value k) = r.nil
+read_at r x i (main zero c) = entry_at r.zero x.main i c
+read_at r x i (main (suc zero) c) = entry_at r.zero x.main ((i + 1) % row_count x) c
+read_at r x i (main (suc (suc o)) c) = r.zero
+read_at r x i (preprocessed zero c) = entry_at r.zero (table_grid x.air.preprocessed) i c
+read_at r x i (preprocessed (suc zero) c) = entry_at r.zero (table_grid x.air.preprocessed) ((i + 1) % row_count x) c
+read_at r x i (preprocessed (suc (suc o)) c) = r.zero
+read_at r x i (periodic c) = slice_index_or (map (λ column. slice_index_or column.items (i % length column.items) r.zero) x.air.periodic) c r.zero
+read_at r x i (public k) = slice_index_or x.public k r.zero
+read_at r x i first_row = if i == 0 then r.one else r.zero
+read_at r x i last_row = if i + 1 == row_count x then r.one else r.zero
+read_at r x i transition = if i + 1 == row_count x then r.zero else r.one
+read_at r x i (permutation o c) = r.zero
+read_at r x i (challenge k) = r.zero
+read_at r x i (permutation_value k) = r.zero
 
 -- the value of a constraint on row i
 abbrev pub value_on : {F : Type 0} → CommRing F → Instance F → ℕ → Assertion F → F
@@ -194,7 +194,7 @@ pub record MeansEach {F : Type 0} (r : CommRing F) (basis : Basis F F) (air : De
 
 -- all pairs of a row and a place at which the declared constraint isn't zero: by rows, and in a row by places
 abbrev pub nonzero_places : {F : Type 0} → CommRing F → (F → F → Bool) → Instance F → List (ℕ × ℕ)
-nonzero_places r eq x = map place (filter (λ p. not (eq (value_on r x p.0 p.1.1) r.nil)) (all_places (row_count x) x.air.declared))
+nonzero_places r eq x = map place (filter (λ p. not (eq (value_on r x p.0 p.1.1) r.zero)) (all_places (row_count x) x.air.declared))
 
 -- how many constraints a row has, 0 without a row
 abbrev pub constraints_per_row : {F : Type 0} → Instance F → ℕ
@@ -202,7 +202,7 @@ constraints_per_row x = if row_count x == 0 then 0 else length x.air.declared
 
 -- the cells that don't hold their public values, each with its number in the list of cells
 abbrev pub violations : {F : Type 0} → CommRing F → (F → F → Bool) → Instance F → List (ℕ × BoundaryPublic)
-violations r eq x = filter (λ c. not (eq (entry_at r.nil x.main (row_of c.1.end (row_count x)) c.1.column) (slice_index_or x.public c.1.public_value r.nil))) (enumerate_from 0 x.air.cells)
+violations r eq x = filter (λ c. not (eq (entry_at r.zero x.main (row_of c.1.end (row_count x)) c.1.column) (slice_index_or x.public c.1.public_value r.zero))) (enumerate_from 0 x.air.cells)
 
 -- where they are listed: in the cell's row, at the place that is its number after all constraints
 abbrev pub violated_cells : {F : Type 0} → CommRing F → (F → F → Bool) → Instance F → List (ℕ × ℕ)

@@ -13,7 +13,7 @@ use crate::constraints::Constraint;
 use crate::expressions::Expression;
 use crate::expressions::arithmetic::{BoolCheck, Less};
 use crate::expressions::constants::One;
-use air_builder::{AirBuilder, Seen};
+use air_builder::{AirBuilder, View};
 use air_field::Algebra;
 
 /// What is claimed by one assertion: that an expression is zero.
@@ -29,7 +29,7 @@ pub trait Claim<AB: AirBuilder> {
         requires ready { AB.ready builder.old }
         requires held { Lasts AB.kept (λ b. claim_holds self.now b × K.where_holds condition.now b)
             builder.old }
-        ensures { MadeIn ⟦<AB as Seen>⟧.view builder.old builder.new result
+        ensures { MadeIn ⟦<AB as View>⟧.view builder.old builder.new result
             (K.under condition.now (claims self.now)) };
 }
 
@@ -43,7 +43,7 @@ fn assert_claim<AB: AirBuilder, C: Claim<AB>, K: Condition<AB>>(
     requires ready { AB.ready builder.old }
     requires held { Lasts AB.kept (λ b. C.claim_holds claim.now b × K.where_holds condition.now b)
         builder.old }
-    ensures { AssertedIn ⟦<AB as Seen>⟧.view builder.old builder.new result
+    ensures { AssertedIn ⟦<AB as View>⟧.view builder.old builder.new result
         (Base (K.under condition.now (C.claims claim.now)) ∷ []) }
 {
     let x = claim.make_claim(builder, condition)?;

@@ -14,7 +14,7 @@ use crate::constraints::named::Label;
 use crate::expressions::ExtExpression;
 use crate::expressions::arithmetic::{BoolCheck, Less};
 use crate::expressions::constants::One;
-use air_builder::{ExtensionBuilder, NamedExtensionBuilder, Seen, SeenOver};
+use air_builder::{ExtensionBuilder, NamedExtensionBuilder, View, ViewOver};
 use air_field::Algebra;
 
 /// What is claimed by one assertion over the extension: that an expression is zero.
@@ -35,7 +35,7 @@ pub trait ExtClaim<AB: ExtensionBuilder> {
         requires held { Lasts AB.kept (λ b. ext_claim_holds self.now b × K.where_holds condition.now
             b)
             builder.old }
-        ensures { MadeIn ⟦<AB as SeenOver>⟧.view builder.old builder.new result
+        ensures { MadeIn ⟦<AB as ViewOver>⟧.view builder.old builder.new result
             (K.ext_under condition.now (ext_claims self.now)) };
 }
 
@@ -50,7 +50,7 @@ fn assert_ext_claim<AB: ExtensionBuilder, C: ExtClaim<AB>, K: Condition<AB>>(
     requires held { Lasts AB.kept (λ b. C.ext_claim_holds claim.now b × K.where_holds condition.now
         b)
         builder.old }
-    ensures { AssertedIn ⟦<AB as Seen>⟧.view builder.old builder.new result
+    ensures { AssertedIn ⟦<AB as View>⟧.view builder.old builder.new result
         (Extension (K.ext_under condition.now (C.ext_claims claim.now)) ∷ []) }
 {
     let x = claim.make_ext_claim(builder, condition)?;
@@ -194,7 +194,7 @@ impl<AB: NamedExtensionBuilder, N: Label, C: ExtClaim<AB>> Constraint<AB> for Ex
         requires held { Lasts AB.kept (λ b. C.ext_claim_holds self.now.1 b ×
             K.where_holds condition.now b)
             builder.old }
-        ensures asserted { AssertedIn ⟦<AB as Seen>⟧.view builder.old builder.new result
+        ensures asserted { AssertedIn ⟦<AB as View>⟧.view builder.old builder.new result
             (Extension (K.ext_under condition.now (C.ext_claims self.now.1)) ∷ []) }
         ensures label { OnOk result (IsLabelled AB.labelled (N.displays self.now.0) builder.old
             builder.new (Extension (K.ext_under condition.now (C.ext_claims self.now.1)))) }

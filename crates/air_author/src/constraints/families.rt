@@ -9,7 +9,7 @@ ghost use Rattle.air_author.specs.Expressions.{Lasts};
 use crate::AirResult;
 use crate::conditions::Condition;
 use crate::constraints::Constraint;
-use air_builder::{AirBuilder, Seen};
+use air_builder::{AirBuilder, View};
 
 /// Each constraint of a slice, in order.
 #[derive(Clone, Copy, Drop)]
@@ -56,7 +56,7 @@ pub trait Family<AB: AirBuilder> {
         requires within { index < size self.now }
         requires held { Lasts AB.kept (λ b. family_holds self.now b × K.where_holds condition.now b)
             builder.old }
-        ensures { AssertedIn ⟦<AB as Seen>⟧.view builder.old builder.new result
+        ensures { AssertedIn ⟦<AB as View>⟧.view builder.old builder.new result
             (asserts_at self.now index (K.under condition.now) (K.ext_under condition.now)) };
 }
 

@@ -8,7 +8,7 @@ use crate::AirResult;
 use crate::conditions::Condition;
 use crate::constraints::Constraint;
 use crate::constraints::claims::Claim;
-use air_builder::{Element, Joined, Name, NamedAirBuilder, Seen};
+use air_builder::{Element, Joined, Name, NamedAirBuilder, View};
 
 /// A name that a constraint can have: it may be evaluated at any time.
 pub trait Label: Name + Copy {
@@ -43,7 +43,7 @@ impl<AB: NamedAirBuilder, N: Label, C: Claim<AB>> Constraint<AB> for Named<N, C>
         requires held { Lasts AB.kept (λ b. C.claim_holds self.now.1 b × K.where_holds condition.now
             b)
             builder.old }
-        ensures asserted { AssertedIn ⟦<AB as Seen>⟧.view builder.old builder.new result
+        ensures asserted { AssertedIn ⟦<AB as View>⟧.view builder.old builder.new result
             (Base (K.under condition.now (C.claims self.now.1)) ∷ []) }
         ensures label { OnOk result (IsLabelled AB.labelled (N.displays self.now.0) builder.old
             builder.new (Base (K.under condition.now (C.claims self.now.1)))) }

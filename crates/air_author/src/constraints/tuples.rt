@@ -6,7 +6,7 @@ ghost use Rattle.air_author.specs.Expressions.{Lasts};
 use crate::AirResult;
 use crate::conditions::Condition;
 use crate::constraints::Constraint;
-use air_builder::{AirBuilder, Seen};
+use air_builder::{AirBuilder, View};
 
 // Each length takes its first constraint and hands on the others one by one: as a tuple of references they would make a
 // type of all of theirs, which is dear to prove.
@@ -24,7 +24,7 @@ fn assert_two<AB: AirBuilder, C: Constraint<AB>, D: Constraint<AB>, K: Condition
         (λ b. (C.all_hold c.now b × D.all_hold d.now b) × K.where_holds condition.now b)
         builder.old }
     ensures { let under = K.under condition.now in let ext_under = K.ext_under condition.now in
-        AssertedIn ⟦<AB as Seen>⟧.view builder.old builder.new result
+        AssertedIn ⟦<AB as View>⟧.view builder.old builder.new result
         (C.asserts c.now under ext_under ++ D.asserts d.now under ext_under) }
 {
     c.assert_under(builder, condition)?;
@@ -44,7 +44,7 @@ fn assert_three<
         (λ b. (C.all_hold c.now b × (D.all_hold d.now b × E.all_hold e.now b))
         × K.where_holds condition.now b) builder.old }
     ensures { let under = K.under condition.now in let ext_under = K.ext_under condition.now in
-        AssertedIn ⟦<AB as Seen>⟧.view builder.old builder.new result
+        AssertedIn ⟦<AB as View>⟧.view builder.old builder.new result
         (C.asserts c.now under ext_under ++ (D.asserts d.now under ext_under
         ++ E.asserts e.now under ext_under)) }
 {
@@ -66,7 +66,7 @@ fn assert_four<
         (λ b. (C.all_hold c.now b × (D.all_hold d.now b × (E.all_hold e.now b
         × G.all_hold g.now b))) × K.where_holds condition.now b) builder.old }
     ensures { let under = K.under condition.now in let ext_under = K.ext_under condition.now in
-        AssertedIn ⟦<AB as Seen>⟧.view builder.old builder.new result
+        AssertedIn ⟦<AB as View>⟧.view builder.old builder.new result
         (C.asserts c.now under ext_under ++ (D.asserts d.now under ext_under
         ++ (E.asserts e.now under ext_under ++ G.asserts g.now under ext_under))) }
 {

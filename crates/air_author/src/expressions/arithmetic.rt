@@ -5,7 +5,7 @@ ghost use Rattle.air_author.specs.Expressions.{Lasts, MadeIn, MadeBothIn};
 
 use crate::AirResult;
 use crate::expressions::{Expression, answered};
-use air_builder::{AirBuilder, Seen};
+use air_builder::{AirBuilder, View};
 use air_field::Algebra;
 
 /// Makes both, in order.
@@ -17,7 +17,7 @@ fn make_both<AB: AirBuilder, X: Expression<AB>, Y: Expression<AB>>(
 ) -> AirResult<(AB::Expr, AB::Expr)>
     requires ready { AB.ready builder.old }
     requires held { Lasts AB.kept (λ b. X.holds x.now b × Y.holds y.now b) builder.old }
-    ensures { MadeBothIn ⟦<AB as Seen>⟧.view builder.old builder.new result (X.term x.now)
+    ensures { MadeBothIn ⟦<AB as View>⟧.view builder.old builder.new result (X.term x.now)
         (Y.term y.now) }
 {
     let first = x.make(builder)?;
@@ -34,7 +34,7 @@ pub fn make_sum<AB: AirBuilder, X: Expression<AB>, Y: Expression<AB>>(
 ) -> AirResult<AB::Expr>
     requires ready { AB.ready builder.old }
     requires held { Lasts AB.kept (λ b. X.holds x.now b × Y.holds y.now b) builder.old }
-    ensures { MadeIn ⟦<AB as Seen>⟧.view builder.old builder.new result
+    ensures { MadeIn ⟦<AB as View>⟧.view builder.old builder.new result
         (add_term (X.term x.now) (Y.term y.now)) }
 {
     let (x, y) = make_both(builder, x, y)?;
@@ -50,7 +50,7 @@ pub fn make_difference<AB: AirBuilder, X: Expression<AB>, Y: Expression<AB>>(
 ) -> AirResult<AB::Expr>
     requires ready { AB.ready builder.old }
     requires held { Lasts AB.kept (λ b. X.holds x.now b × Y.holds y.now b) builder.old }
-    ensures { MadeIn ⟦<AB as Seen>⟧.view builder.old builder.new result
+    ensures { MadeIn ⟦<AB as View>⟧.view builder.old builder.new result
         (sub_term (X.term x.now) (Y.term y.now)) }
 {
     let (x, y) = make_both(builder, x, y)?;
@@ -66,7 +66,7 @@ pub fn make_product<AB: AirBuilder, X: Expression<AB>, Y: Expression<AB>>(
 ) -> AirResult<AB::Expr>
     requires ready { AB.ready builder.old }
     requires held { Lasts AB.kept (λ b. X.holds x.now b × Y.holds y.now b) builder.old }
-    ensures { MadeIn ⟦<AB as Seen>⟧.view builder.old builder.new result
+    ensures { MadeIn ⟦<AB as View>⟧.view builder.old builder.new result
         (mul_term (X.term x.now) (Y.term y.now)) }
 {
     let (x, y) = make_both(builder, x, y)?;

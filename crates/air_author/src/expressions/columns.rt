@@ -2,13 +2,13 @@
 ghost use Rattle.std.specs.Prelude.{◌≡◌, ◌↔◌, None, IfSome};
 ghost use Rattle.air_field.specs.Term.{preprocessed, main, periodic, public, leaf_term};
 ghost use Rattle.air_core.specs.Entries.{entry_leaf};
-ghost use Rattle.air_builder.specs.Builders.{VariableStands};
+ghost use Rattle.air_builder.specs.Builders.{VariableReadsAs};
 ghost use Rattle.air_builder.specs.Refusals.{IsOfWindow};
 ghost use Rattle.air_author.specs.Expressions.{MadeIn};
 
 use crate::AirResult;
 use crate::expressions::{Expression, answered, element, present};
-use air_builder::{AirBuilder, AirError, Seen};
+use air_builder::{AirBuilder, AirError, View};
 use air_core::BaseEntry;
 use air_field::{Algebra, FromVar};
 
@@ -21,11 +21,11 @@ fn make_found<AB: AirBuilder>(
     index: usize,
 ) -> AirResult<AB::Expr>
     requires ready { AB.ready builder.old }
-    requires found { IfSome found (VariableStands AB.Ring.FromVar-1.var_means
-        (AB.stands builder.old) (entry_leaf entry index)) }
+    requires found { IfSome found (VariableReadsAs AB.Ring.FromVar-1.var_means
+        (AB.reads_as builder.old) (entry_leaf entry index)) }
     requires of_window { IsOfWindow entry }
     requires none { (found ≡ None) ↔ AB.missing builder.old (entry_leaf entry index) }
-    ensures { MadeIn ⟦<AB as Seen>⟧.view builder.old builder.new result
+    ensures { MadeIn ⟦<AB as View>⟧.view builder.old builder.new result
         (leaf_term (entry_leaf entry index)) }
 {
     let v = present(found, AirError::MissingEntry { entry, index })?;

@@ -10,7 +10,7 @@ use crate::expressions::arithmetic::{
 use crate::expressions::constants::One;
 use crate::expressions::power::{Power, multiplied};
 use crate::expressions::{Expression, ExtExpression, answered};
-use air_builder::{ExtensionBuilder, SeenOver};
+use air_builder::{ExtensionBuilder, ViewOver};
 use air_field::{Algebra, ExtAlgebra, ExtensionField};
 
 /// Makes a base expression, and lifts it.
@@ -21,7 +21,7 @@ pub(crate) fn make_lifted<AB: ExtensionBuilder, X: Expression<AB>>(
 ) -> AirResult<AB::ExprEF>
     requires ready { AB.ready builder.old }
     requires held { Lasts AB.kept (X.holds x.now) builder.old }
-    ensures { MadeIn ⟦<AB as SeenOver>⟧.view builder.old builder.new result (X.term x.now) }
+    ensures { MadeIn ⟦<AB as ViewOver>⟧.view builder.old builder.new result (X.term x.now) }
 {
     let x = x.make(builder)?;
     answered(builder.ext_ring().lift(x))
@@ -64,7 +64,7 @@ fn make_both_ext<AB: ExtensionBuilder, X: ExtExpression<AB>, Y: ExtExpression<AB
 ) -> AirResult<(AB::ExprEF, AB::ExprEF)>
     requires ready { AB.ready builder.old }
     requires held { Lasts AB.kept (λ b. X.ext_holds x.now b × Y.ext_holds y.now b) builder.old }
-    ensures { MadeBothIn ⟦<AB as SeenOver>⟧.view builder.old builder.new result (X.ext_term x.now)
+    ensures { MadeBothIn ⟦<AB as ViewOver>⟧.view builder.old builder.new result (X.ext_term x.now)
         (Y.ext_term y.now) }
 {
     let first = x.make_ext(builder)?;

@@ -6,7 +6,7 @@ ghost use Rattle.air_author.specs.Expressions.{MadeIn};
 
 use crate::AirResult;
 use crate::expressions::{ExtExpression, answered, element, present};
-use air_builder::{AirError, PermutationAirBuilder, SeenOver};
+use air_builder::{AirError, PermutationAirBuilder, ViewOver};
 use air_core::ExtEntry;
 use air_field::{Algebra, FromVar};
 
@@ -21,7 +21,7 @@ where
     AB::ExtRing: FromVar<AB::F, AB::RandomVar> + FromVar<AB::F, AB::PermutationVar>,
     requires ready { AB.ready builder.old }
     requires within { offset ≤ 1 }
-    ensures { MadeIn ⟦<AB as SeenOver>⟧.view builder.old builder.new result
+    ensures { MadeIn ⟦<AB as ViewOver>⟧.view builder.old builder.new result
         (leaf_term (permutation offset index)) }
 {
     let found = builder.permutation_variable(offset, index)?;

@@ -3,13 +3,13 @@ use Rattle.std.specs.Prelude.{◌≡◌, [], map}
 use Rattle.std.proofs.Common.{sym, ◌∙◌, ap, subst}
 use Rattle.air_builder.specs.Assertion.{filtered}
 use Rattle.air_builder.specs.Builders.{BuilderView, BuilderLaws}
-use Rattle.air_builder.specs.Extensions.{ExtensionView, ExtensionLaws}
+use Rattle.air_builder.specs.Extensions.{ExtensionView, ExtensionRingLaws}
 use Rattle.air_builder.specs.Filters.{filter_view}
 use Rattle.air_builder.specs.laws.Refusals.{PartOf-filtered}
 use Rattle.air_builder.specs.ExtensionFilters.{filter_extension}
 
 module _ {S R X B E F : Type 0} {view : BuilderView S R B F} {over : ExtensionView S X B E F}
-    (laws : BuilderLaws view) (extension : ExtensionLaws view over) {N P : Type 0}
+    (laws : BuilderLaws view) (extension : ExtensionRingLaws view over) {N P : Type 0}
     (inner : P → S) (name : P → N) (condition : P → B) (with_inner : P → S → P)
     (inner_is : (p : P) (s : S) → inner (with_inner p s) ≡ s)
     (name_is : (p : P) (s : S) → name (with_inner p s) ≡ name p)
@@ -19,7 +19,7 @@ module _ {S R X B E F : Type 0} {view : BuilderView S R B F} {over : ExtensionVi
   lent_inside p r e = subst (λ s. view.grew (inner p) s []) (sym (inner_is p (over.with_ring (inner p) r))) (extension.ext_ring_lent (inner p) r e)
 
   -- a filter keeps the laws of the builder inside
-  pub extension_filter_laws : ExtensionLaws (filter_view view inner name condition with_inner)
+  pub extension_filter_laws : ExtensionRingLaws (filter_view view inner name condition with_inner)
       (filter_extension over inner with_inner)
   extension_filter_laws = record {
     ext_ring_lent = λ p r e. record {

@@ -10,13 +10,13 @@ use Rattle.air_builder.specs.laws.Refusals.{PartOf-filtered}
 use Rattle.air_builder.specs.Filters.{GrewUnder, GrewInside, RefusesInside, filter_view}
 
 module _ {S R E F : Type 0} {view : BuilderView S R E F} (ring : RingLaws view) (laws : BuilderLaws view) where
-  open view use {has, means, extends, ring_of, with_ring, stands, kept, grew, refuses}
+  open view use {has, means, extends, ring_of, with_ring, reads_as, kept, grew, refuses}
 
   -- what meant a term before still means it
   pub means_kept : (a b : S) (x : E) (t : Term F) → kept a b → MeansIn view a x t → MeansIn view b x t
   means_kept a b x t k m =
       subst (λ s. means (ring_of b) x (with_leaves s t)) (sym (laws.stands_kept a b k))
-      (ring.means_stays (ring_of a) (ring_of b) x (with_leaves (stands a) t) (laws.ring_kept a b k) m)
+      (ring.means_stays (ring_of a) (ring_of b) x (with_leaves (reads_as a) t) (laws.ring_kept a b k) m)
 
   -- what was in the ring is in it still
   pub has_kept : (a b : S) (x : E) → kept a b → has (ring_of a) x → has (ring_of b) x
@@ -24,11 +24,11 @@ module _ {S R E F : Type 0} {view : BuilderView S R E F} (ring : RingLaws view) 
 
   -- what the lent ring gave means its term afterwards
   pub means_lent : (a : S) (r : R) (x : E) (t : Term F) → extends (ring_of a) r
-      → means r x (with_leaves (stands a) t) → MeansIn view (with_ring a r) x t
+      → means r x (with_leaves (reads_as a) t) → MeansIn view (with_ring a r) x t
   means_lent a r x t e m =
       subst (λ s. means (ring_of (with_ring a r)) x (with_leaves s t))
       (sym (laws.stands_kept a (with_ring a r) (laws.by_growth a (with_ring a r) [] (laws.ring_lent a r e))))
-      (subst (λ q. means q x (with_leaves (stands a) t)) (sym (laws.ring_with a r)) m)
+      (subst (λ q. means q x (with_leaves (reads_as a) t)) (sym (laws.ring_with a r)) m)
 
   -- what a filter may refuse its builder may
   pub refused_filter : (x : E) (a i : S) (e : AirError) (us ts : List (Assertion F)) (t : Term F) → grew a i us

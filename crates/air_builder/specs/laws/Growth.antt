@@ -44,58 +44,58 @@ pub has_in : {R E : Type 0} (has : R → E → Type 0) {q r : R} (x : E) → q �
 has_in has x e h = subst (λ r. has r x) (sym e) h
 
 module _ {S R E F : Type 0} {view : BuilderView S R E F} (ring : RingLaws view) (laws : BuilderLaws view) where
-  open view use {means, extends, ring_refuses, ring_of, with_ring, stands, grew, refuses}
+  open view use {means, extends, ring_refuses, ring_of, with_ring, reads_as, grew, refuses}
 
   pub lent_means : (a : S) (q r : R) (x : E) (t : Term F) → q ≡ ring_of a → extends q r
-      → means r x (with_leaves (stands a) t) → MeansIn view (with_ring a r) x t
+      → means r x (with_leaves (reads_as a) t) → MeansIn view (with_ring a r) x t
   lent_means a q r x t p e m = means_lent ring laws a r x t (subst (λ s. extends s r) p e) m
 
   module _ (kind : Term F → Assertion F) {a : S} {q r : R} (p : q ≡ ring_of a) (e : extends q r) where
     -- what an element asserts, the one that the lent ring made of it asserts as it is
-    pub made_of : (op : Term F → Term F) {x z : E} → ((t : Term F) → op (with_leaves (stands a) t) ≡ with_leaves (stands a) (op t))
+    pub made_of : (op : Term F → Term F) {x z : E} → ((t : Term F) → op (with_leaves (reads_as a) t) ≡ with_leaves (reads_as a) (op t))
         → ((t : Term F) → means q x t → means r z (op t))
         → (s : Assertion F) → AssertsOf kind (MeansIn view) op a x s
         → AssertsOf kind (MeansIn view) (λ t. t) (with_ring a r) z s
     made_of op {x} {z} through m s h =
-        let below = with_leaves (stands a) h.0 in
+        let below = with_leaves (reads_as a) h.0 in
         let made = subst (λ v. means r z v) (through h.0) (m below (means_in means x below p h.1)) in
         (op h.0, lent_means a q r z (op h.0) p e made, h.2)
 
     -- the same, of two
     pub made_of_both : (op : Term F → Term F → Term F) {x y z : E}
-        → ((t u : Term F) → op (with_leaves (stands a) t) (with_leaves (stands a) u) ≡ with_leaves (stands a) (op t u))
+        → ((t u : Term F) → op (with_leaves (reads_as a) t) (with_leaves (reads_as a) u) ≡ with_leaves (reads_as a) (op t u))
         → ((t u : Term F) → means q x t → means q y u → means r z (op t u))
         → (s : Assertion F) → AssertsOfBoth kind (MeansIn view) op a (x, y) s
         → AssertsOf kind (MeansIn view) (λ t. t) (with_ring a r) z s
     made_of_both op {x} {y} {z} through m s h =
-        let first = with_leaves (stands a) h.0 in
-        let second = with_leaves (stands a) h.1 in
+        let first = with_leaves (reads_as a) h.0 in
+        let second = with_leaves (reads_as a) h.1 in
         let made = m first second (means_in means x first p h.2) (means_in means y second p h.3) in
         (op h.0 h.1, lent_means a q r z (op h.0 h.1) p e (subst (λ v. means r z v) (through h.0 h.1) made), h.4)
 
   module _ (kind : Term F → Assertion F) (inside : (t : Term F) → PartOf t (kind t ∷ [])) {a : S} {q : R}
       (p : q ≡ ring_of a) where
     -- the lent ring refused the operation
-    pub refuses_part : (f : RingError) (t : Term F) (s : Assertion F) → s ≡ kind t → ring_refuses f (with_leaves (stands a) t)
+    pub refuses_part : (f : RingError) (t : Term F) (s : Assertion F) → s ≡ kind t → ring_refuses f (with_leaves (reads_as a) t)
         → refuses a (air_error f) (s ∷ [])
     refuses_part f t s is h =
         subst (λ v. refuses a (air_error f) (v ∷ [])) (sym is) (laws.refuses_in_ring a f t (kind t ∷ []) h (inside t))
 
     pub refused_of : (op : Term F → Term F) (f : RingError) {x : E}
-        → ((t : Term F) → op (with_leaves (stands a) t) ≡ with_leaves (stands a) (op t))
+        → ((t : Term F) → op (with_leaves (reads_as a) t) ≡ with_leaves (reads_as a) (op t))
         → ((t : Term F) → means q x t → ring_refuses f (op t))
         → (s : Assertion F) → AssertsOf kind (MeansIn view) op a x s → refuses a (air_error f) (s ∷ [])
     refused_of op f {x} through m s h =
-        let below = with_leaves (stands a) h.0 in
+        let below = with_leaves (reads_as a) h.0 in
         refuses_part f (op h.0) s h.2 (subst (λ v. ring_refuses f v) (through h.0) (m below (means_in means x below p h.1)))
 
     pub refused_of_both : (op : Term F → Term F → Term F) (f : RingError) {x y : E}
-        → ((t u : Term F) → op (with_leaves (stands a) t) (with_leaves (stands a) u) ≡ with_leaves (stands a) (op t u))
+        → ((t u : Term F) → op (with_leaves (reads_as a) t) (with_leaves (reads_as a) u) ≡ with_leaves (reads_as a) (op t u))
         → ((t u : Term F) → means q x t → means q y u → ring_refuses f (op t u))
         → (s : Assertion F) → AssertsOfBoth kind (MeansIn view) op a (x, y) s → refuses a (air_error f) (s ∷ [])
     refused_of_both op f {x} {y} through m s h =
-        let first = with_leaves (stands a) h.0 in
-        let second = with_leaves (stands a) h.1 in
+        let first = with_leaves (reads_as a) h.0 in
+        let second = with_leaves (reads_as a) h.1 in
         let refused = m first second (means_in means x first p h.2) (means_in means y second p h.3) in
         refuses_part f (op h.0 h.1) s h.4 (subst (λ v. ring_refuses f v) (through h.0 h.1) refused)
 
@@ -126,9 +126,9 @@ module _ {S R E F : Type 0} {view : BuilderView S R E F} (laws : BuilderLaws vie
 -- ring's refusal.
 module _ {S R E F : Type 0} {view : BuilderView S R E F} (ring : RingLaws view) (laws : BuilderLaws view)
     (kind : Term F → Assertion F) {a : S} {q r : R} (p : q ≡ view.ring_of a) (e : view.extends q r) where
-  open view use {means, ring_refuses, with_ring, stands, kept, grew, refuses}
+  open view use {means, ring_refuses, with_ring, reads_as, kept, grew, refuses}
 
-  module _ (op : Term F → Term F) (through : (t : Term F) → op (with_leaves (stands a) t) ≡ with_leaves (stands a) (op t)) where
+  module _ (op : Term F → Term F) (through : (t : Term F) → op (with_leaves (reads_as a) t) ≡ with_leaves (reads_as a) (op t)) where
     pub one_asserted : {b : S} {x z : E} {result : Result (Unit {0}) AirError}
         → ((t : Term F) → means q x t → means r z (op t))
         → AssertedEach (AssertsOf kind (MeansIn view) (λ t. t)) kept grew refuses (with_ring a r) b (z ∷ []) result
@@ -144,7 +144,7 @@ module _ {S R E F : Type 0} {view : BuilderView S R E F} (ring : RingLaws view) 
         rw (i.1, i.2) (making_refused laws p e (air_error f) (refused_of ring laws kind inside p op f through m))
 
   module _ (op : Term F → Term F → Term F)
-      (through : (t u : Term F) → op (with_leaves (stands a) t) (with_leaves (stands a) u) ≡ with_leaves (stands a) (op t u)) where
+      (through : (t u : Term F) → op (with_leaves (reads_as a) t) (with_leaves (reads_as a) u) ≡ with_leaves (reads_as a) (op t u)) where
     pub both_asserted : {b : S} {x y z : E} {result : Result (Unit {0}) AirError}
         → ((t u : Term F) → means q x t → means q y u → means r z (op t u))
         → AssertedEach (AssertsOf kind (MeansIn view) (λ t. t)) kept grew refuses (with_ring a r) b (z ∷ []) result

@@ -174,9 +174,9 @@ module _ {S R E F : Type 0} {view : BuilderView S R E F} {labelled : S → S →
 module _ {S R E F : Type 0} {view : BuilderView S R E F} {labelled : S → S → List (Labelled F) → Type 0}
     (ring : RingLaws view) (laws : BuilderLaws view) (named : NamedLaws view.grew labelled) (kind : Term F → Assertion F)
     {says : Option (List ℕ) → Type 0} {a : S} {q r : R} (p : q ≡ view.ring_of a) (e : view.extends q r) where
-  open view use {means, ring_refuses, with_ring, stands, kept, grew, refuses}
+  open view use {means, ring_refuses, with_ring, reads_as, kept, grew, refuses}
 
-  module _ (op : Term F → Term F) (through : (t : Term F) → op (with_leaves (stands a) t) ≡ with_leaves (stands a) (op t)) where
+  module _ (op : Term F → Term F) (through : (t : Term F) → op (with_leaves (reads_as a) t) ≡ with_leaves (reads_as a) (op t)) where
     pub one_named : {b : S} {x z : E} {result : Result (Unit {0}) AirError}
         → ((t : Term F) → means q x t → means r z (op t))
         → AssertedEach (AssertsOf kind (MeansIn view) (λ t. t)) kept grew refuses (with_ring a r) b (z ∷ []) result
@@ -193,7 +193,7 @@ module _ {S R E F : Type 0} {view : BuilderView S R E F} {labelled : S → S →
         rw (i.1, i.2) (making_unnamed laws named p e (air_error f) (refused_of ring laws kind inside p op f through m))
 
   module _ (op : Term F → Term F → Term F)
-      (through : (t u : Term F) → op (with_leaves (stands a) t) (with_leaves (stands a) u) ≡ with_leaves (stands a) (op t u)) where
+      (through : (t u : Term F) → op (with_leaves (reads_as a) t) (with_leaves (reads_as a) u) ≡ with_leaves (reads_as a) (op t u)) where
     pub both_named : {b : S} {x y z : E} {result : Result (Unit {0}) AirError}
         → ((t u : Term F) → means q x t → means q y u → means r z (op t u))
         → AssertedEach (AssertsOf kind (MeansIn view) (λ t. t)) kept grew refuses (with_ring a r) b (z ∷ []) result

@@ -6,11 +6,11 @@ use Rattle.air_field.specs.Assignment.{Shape, IsMissing}
 use Rattle.air_core.specs.declared.errors.AirError.{AirError}
 use Rattle.air_builder.specs.Assertion.{Assertion}
 use Rattle.air_builder.specs.Builders.{BuilderView, BuilderLaws}
-use Rattle.air_builder.specs.Extensions.{ExtensionView, ExtensionLaws}
+use Rattle.air_builder.specs.Extensions.{ExtensionView, ExtensionRingLaws}
 use Rattle.air_builder.specs.Refusals.{NamesLeaf, PartOf}
 use Rattle.air_builder.specs.laws.Refusals.{past_window_missing}
 
-module _ {S D F : Type 0} (row : S → D) (shape : D → Shape) (stands : D → Leaf → Term F)
+module _ {S D F : Type 0} (row : S → D) (shape : D → Shape) (reads_as : D → Leaf → Term F)
     (grew : S → S → List (Assertion F) → Type 0) (refuses : S → AirError → List (Assertion F) → Type 0) where
   -- the builder as its laws see it: the row stays, an entry that its shape hasn't is missing, and the ring keeps and
   -- refuses nothing
@@ -23,7 +23,7 @@ module _ {S D F : Type 0} (row : S → D) (shape : D → Shape) (stands : D → 
     ring_refuses = λ _ _. ⊥;
     ring_of = ring_of;
     with_ring = with_ring;
-    stands = λ b. stands (row b);
+    reads_as = λ b. reads_as (row b);
     ready = λ _. ⊤;
     kept = λ a b. row b ≡ row a;
     grew = grew;
@@ -69,7 +69,7 @@ module _ {S D F : Type 0} (row : S → D) (shape : D → Shape) (stands : D → 
       by_growth = grows.same_row;
       kept_joined = λ a b c g h. h ∙ g;
       ring_kept = λ a b k. tt;
-      stands_kept = λ a b k. ap stands k;
+      stands_kept = λ a b k. ap reads_as k;
       ready_kept = λ a b k h. tt;
       missing_kept = λ a b l k h. subst (λ d. IsMissing (shape d) l) k h;
       missing_stays = λ a b l k h. subst (λ d. IsMissing (shape d) l) (sym k) h;
@@ -85,7 +85,7 @@ module _ {S D F : Type 0} (row : S → D) (shape : D → Shape) (stands : D → 
 
     -- and those of builders over an extension, for its ring over the extension
     pub row_extension_laws : {B U : Type 0} (base_of : S → B) (base_means : U → Term F → Type 0) {with_base : S → B → S}
-        → ExtensionLaws (row_view base_of with_base base_means) (row_over ring_of with_ring base_means means)
+        → ExtensionRingLaws (row_view base_of with_base base_means) (row_over ring_of with_ring base_means means)
     row_extension_laws base_of base_means = record {
       ext_ring_lent = λ a r e. lent a r;
       ext_ring_with = ring_is;

@@ -2,7 +2,7 @@
 use Rattle.std.specs.Prelude.{◌≡◌, ◌⊎◌, ◌<◌, ◌≤◌, ◌↔◌, ℕ, zero, suc, List, length, Option, Some, None, IfSome, refl, slice_get, get_or, slice_index_or}
 use Rattle.std.proofs.Common.{inl, inr, sym, ◌∙◌, ap, subst, arith}
 use Rattle.std.proofs.lemmas.Option.{get_or_from_slice_get, slice_get_cases, slice_get_past}
-use Rattle.air_field.specs.Ring.{CommRing, Over}
+use Rattle.air_field.specs.Ring.{CommRing, AlgebraOver}
 use Rattle.air_field.specs.Term.{permutation}
 use Rattle.air_field.specs.Extension.{Basis, ExtensionLaws}
 use Rattle.air_field.specs.laws.Extension.{extend-coefficients}
@@ -69,23 +69,23 @@ module _ {F : Type 0} where
   base_window = window_shows is_base (λ x. (tt, refl))
 
 -- Rows over an extension: an element is what the coefficients of what is read there stand for.
-module _ {F E : Type 0} {r : CommRing F} {a : Over F E} {basis : Basis F E} {n : ℕ}
+module _ {F E : Type 0} {r : CommRing F} {a : AlgebraOver F E} {basis : Basis F E} {n : ℕ}
     (laws : ExtensionLaws r a basis n) where
   abbrev stands_for : E → E → Type 0
   stands_for x v = a.extend (basis.coefficients x) ≡ v
 
-  pub element_stands : (row : List E) (i : ℕ) (v : E) → slice_get row i ≡ Some v → stands_for (slice_index_or row i a.ring.nil) v
-  element_stands = shown stands_for (extend-coefficients r a basis n laws) a.ring.nil
+  pub element_stands : (row : List E) (i : ℕ) (v : E) → slice_get row i ≡ Some v → stands_for (slice_index_or row i a.ring.zero) v
+  element_stands = shown stands_for (extend-coefficients r a basis n laws) a.ring.zero
 
-  pub found_stands : (row : List E) (i : ℕ) (found : Option E) → found ≡ slice_get row i → IfSome found (stands_for (slice_index_or row i a.ring.nil))
-  found_stands = found_shown stands_for (extend-coefficients r a basis n laws) a.ring.nil
+  pub found_stands : (row : List E) (i : ℕ) (found : Option E) → found ≡ slice_get row i → IfSome found (stands_for (slice_index_or row i a.ring.zero))
+  found_stands = found_shown stands_for (extend-coefficients r a basis n laws) a.ring.zero
 
-  pub extension_window : (first second top bottom : List E) → length first ≡ length second → top ≡ first → bottom ≡ second → WindowShows stands_for a.ring.nil first second top bottom
-  extension_window = window_shows stands_for (extend-coefficients r a basis n laws) a.ring.nil
+  pub extension_window : (first second top bottom : List E) → length first ≡ length second → top ≡ first → bottom ≡ second → WindowShows stands_for a.ring.zero first second top bottom
+  extension_window = window_shows stands_for (extend-coefficients r a basis n laws) a.ring.zero
 
   -- a window on the two rows of a permutation trace
   pub permutation_window : {p : Option (ViewPair E)} (pair : ViewPair E) (top bottom : List E) → p ≡ Some pair → top ≡ pair.top.values.now
-      → bottom ≡ pair.bottom.values.now → WindowShows stands_for a.ring.nil (permutation_row p) (next_permutation_row p) top bottom
+      → bottom ≡ pair.bottom.values.now → WindowShows stands_for a.ring.zero (permutation_row p) (next_permutation_row p) top bottom
   permutation_window pair top bottom is f s =
       rw is (extension_window pair.top.values.now pair.bottom.values.now top bottom (pair.top_is_row ∙ pair.same_width ∙ sym pair.bottom_is_row) f s)
 

@@ -5,14 +5,14 @@ ghost use Rattle.std.specs.Borrow.{sem, Lends};
 ghost use Rattle.air_field.specs.Algebra.{MadeOf, RefusedOf, bool_check_term};
 ghost use Rattle.air_field.specs.Term.{Leaf, preprocessed, main, periodic, public, first_row, last_row, transition, Term, leaf_term, const_term, sub_term};
 ghost use Rattle.air_builder.specs.Assertion.{Assertion, Base};
-ghost use Rattle.air_builder.specs.Builders.{MeansIn, MeansOfBoth, RowStands, VariableStands, BuilderLaws, less_one_term};
+ghost use Rattle.air_builder.specs.Builders.{MeansIn, MeansOfBoth, RowReadsAs, VariableReadsAs, BuilderLaws, less_one_term};
 ghost use Rattle.air_builder.specs.Batches.{Asserts, AssertsBoth};
 ghost use Rattle.air_builder.specs.Filters.{FiltersBy};
 ghost use Rattle.air_builder.specs.Refusals.{RowEnds, RefusesPartOfBoth};
 ghost use Rattle.air_core.specs.declared.errors.AirError.{AirError};
 
 use crate::builders::filtered::FilteredAirBuilder;
-use crate::builders::seen::Seen;
+use crate::builders::view::View;
 use air_core::errors::AirError;
 use air_core::windows::access::WindowAccess;
 use air_field::{Algebra, Field, FromVar, RingError};
@@ -70,7 +70,7 @@ pub trait AirBuilder {
     ghost with_ring: { Self → Self.Ring → Self };
 
     /// How this builder reads a leaf: as itself where constraints are recorded, as a constant where a row is evaluated.
-    ghost stands: { Self → Leaf → Term Self.F };
+    ghost reads_as: { Self → Leaf → Term Self.F };
 
     /// The builder's ring is as the builder left it, or extends it.
     ghost ready: { Self → Type 0 };
@@ -99,10 +99,10 @@ pub trait AirBuilder {
     /// The window of the main trace. A builder that makes its window may refuse for want of memory.
     fn main(&self) -> Result<Self::MainWindow, AirError>
         ensures window { IfOk result Self.MainWindow.is_window }
-        ensures current { IfOk result (λ w. RowStands Self.Ring.FromVar-1.var_means
-            (λ i. stands self.now (main 0 i)) (Self.MainWindow.current_row w)) }
-        ensures next { IfOk result (λ w. RowStands Self.Ring.FromVar-1.var_means
-            (λ i. stands self.now (main 1 i)) (Self.MainWindow.next_row w)) }
+        ensures current { IfOk result (λ w. RowReadsAs Self.Ring.FromVar-1.var_means
+            (λ i. reads_as self.now (main 0 i)) (Self.MainWindow.current_row w)) }
+        ensures next { IfOk result (λ w. RowReadsAs Self.Ring.FromVar-1.var_means
+            (λ i. reads_as self.now (main 1 i)) (Self.MainWindow.next_row w)) }
         ensures current_ends { IfOk result (λ w. RowEnds (missing self.now) (λ i. main 0 i)
             (Self.MainWindow.current_row w)) }
         ensures next_ends { IfOk result (λ w. RowEnds (missing self.now) (λ i. main 1 i)
@@ -112,18 +112,18 @@ pub trait AirBuilder {
     /// The variable in a column of the main trace, at offset 0 the current row's and at 1 the next one's, if there is
     /// one. Takes no memory, where a window may.
     fn main_variable(&self, offset: usize, column: usize) -> Option<Self::Var>
-        ensures found { IfSome result (VariableStands Self.Ring.FromVar-1.var_means
-            (stands self.now) (main offset column)) }
+        ensures found { IfSome result (VariableReadsAs Self.Ring.FromVar-1.var_means
+            (reads_as self.now) (main offset column)) }
         ensures none { (result ≡ None) ↔ missing self.now (main offset column) };
 
     /// The window of the preprocessed trace; without one it has no columns.
     fn preprocessed(&self) -> &Self::PreprocessedWindow
         ensures window { Self.PreprocessedWindow.is_window result.now }
-        ensures current { RowStands Self.Ring.FromVar-1.var_means
-            (λ i. stands self.now (preprocessed 0 i))
+        ensures current { RowReadsAs Self.Ring.FromVar-1.var_means
+            (λ i. reads_as self.now (preprocessed 0 i))
             (Self.PreprocessedWindow.current_row result.now) }
-        ensures next { RowStands Self.Ring.FromVar-1.var_means
-            (λ i. stands self.now (preprocessed 1 i))
+        ensures next { RowReadsAs Self.Ring.FromVar-1.var_means
+            (λ i. reads_as self.now (preprocessed 1 i))
             (Self.PreprocessedWindow.next_row result.now) }
         ensures current_ends { RowEnds (missing self.now) (λ i. preprocessed 0 i)
             (Self.PreprocessedWindow.current_row result.now) }
@@ -134,8 +134,8 @@ pub trait AirBuilder {
     /// there is one. Takes no memory.
     #[inline(always)]
     fn preprocessed_variable(&self, offset: usize, column: usize) -> Option<Self::Var>
-        ensures found { IfSome result (VariableStands Self.Ring.FromVar-1.var_means
-            (stands self.now) (preprocessed offset column)) }
+        ensures found { IfSome result (VariableReadsAs Self.Ring.FromVar-1.var_means
+            (reads_as self.now) (preprocessed offset column)) }
         ensures none { (result ≡ None) ↔ missing self.now (preprocessed offset column) }
     {
         match offset {
@@ -147,14 +147,14 @@ pub trait AirBuilder {
 
     /// The public values.
     fn public_values(&self) -> &[Self::PublicVar]
-        ensures stands { RowStands Self.Ring.FromVar-2.var_means (λ i. stands self.now (public i))
-            result.now }
+        ensures reads_as { RowReadsAs Self.Ring.FromVar-2.var_means
+            (λ i. reads_as self.now (public i)) result.now }
         ensures ends { RowEnds (missing self.now) public result.now };
 
     /// The values of the periodic columns.
     fn periodic_values(&self) -> &[Self::PeriodicVar]
-        ensures stands { RowStands Self.Ring.FromVar-3.var_means (λ i. stands self.now (periodic i))
-            result.now }
+        ensures reads_as { RowReadsAs Self.Ring.FromVar-3.var_means
+            (λ i. reads_as self.now (periodic i)) result.now }
         ensures ends { RowEnds (missing self.now) periodic result.now };
 
     /// One on the first row, else zero.
@@ -162,7 +162,7 @@ pub trait AirBuilder {
         requires { ready self.old }
         ensures always { IsOk result }
         ensures keeps { grew self.old self.new [] }
-        ensures ok { IfOk result (λ x. MeansIn ⟦<Self as Seen>⟧.view self.new x
+        ensures ok { IfOk result (λ x. MeansIn ⟦<Self as View>⟧.view self.new x
             (leaf_term first_row)) };
 
     /// One on the last row, else zero.
@@ -170,7 +170,7 @@ pub trait AirBuilder {
         requires { ready self.old }
         ensures always { IsOk result }
         ensures keeps { grew self.old self.new [] }
-        ensures ok { IfOk result (λ x. MeansIn ⟦<Self as Seen>⟧.view self.new x
+        ensures ok { IfOk result (λ x. MeansIn ⟦<Self as View>⟧.view self.new x
             (leaf_term last_row)) };
 
     /// Zero on the last row, else one.
@@ -178,7 +178,7 @@ pub trait AirBuilder {
         requires { ready self.old }
         ensures always { IsOk result }
         ensures keeps { grew self.old self.new [] }
-        ensures ok { IfOk result (λ x. MeansIn ⟦<Self as Seen>⟧.view self.new x
+        ensures ok { IfOk result (λ x. MeansIn ⟦<Self as View>⟧.view self.new x
             (leaf_term transition)) };
 
     /// The transition selector of windows of `size` rows, which must be at most 2: zero on the last row, else one.
@@ -188,7 +188,7 @@ pub trait AirBuilder {
         requires within { size ≤ 2 }
         ensures always { IsOk result }
         ensures keeps { grew self.old self.new [] }
-        ensures ok { IfOk result (λ x. MeansIn ⟦<Self as Seen>⟧.view self.new x
+        ensures ok { IfOk result (λ x. MeansIn ⟦<Self as View>⟧.view self.new x
             (leaf_term transition)) }
     {
         prove!(size <= 2);
@@ -205,9 +205,9 @@ pub trait AirBuilder {
         requires y_in { Self.Ring.has (ring_of self.old) y }
         ensures keeps { grew self.old self.new [] }
         ensures of_ring { IfOk result (λ z. Self.Ring.has (ring_of self.new) z) }
-        ensures made { IfOk result (λ z. MeansOfBoth (MeansIn ⟦<Self as Seen>⟧.view) sub_term
+        ensures made { IfOk result (λ z. MeansOfBoth (MeansIn ⟦<Self as View>⟧.view) sub_term
             self.old self.new x y z) }
-        ensures refused { IfErr result (RefusesPartOfBoth (MeansIn ⟦<Self as Seen>⟧.view) refuses
+        ensures refused { IfErr result (RefusesPartOfBoth (MeansIn ⟦<Self as View>⟧.view) refuses
             sub_term self.old x y) }
     {
         let difference = self.ring().sub(x, y)?;
@@ -218,14 +218,14 @@ pub trait AirBuilder {
     fn assert_zero(&mut self, x: Self::Expr) -> Result<(), AirError>
         requires ready { ready self.old }
         requires of_ring { Self.Ring.has (ring_of self.old) x }
-        ensures { Asserts ⟦<Self as Seen>⟧.view Base (λ t. t) self.old self.new (x ∷ []) result };
+        ensures { Asserts ⟦<Self as View>⟧.view Base (λ t. t) self.old self.new (x ∷ []) result };
 
     /// Asserts that `x` is one: growth by x - 1.
     #[inline(always)]
     final fn assert_one(&mut self, x: Self::Expr) -> Result<(), AirError>
         requires ready { ready self.old }
         requires of_ring { Self.Ring.has (ring_of self.old) x }
-        ensures { Asserts ⟦<Self as Seen>⟧.view Base (less_one_term Self.F.ONE) self.old self.new
+        ensures { Asserts ⟦<Self as View>⟧.view Base (less_one_term Self.F.ONE) self.old self.new
             (x ∷ []) result }
     {
         let less = less_one(self.ring(), x)?;
@@ -238,7 +238,7 @@ pub trait AirBuilder {
         requires ready { ready self.old }
         requires x_in { Self.Ring.has (ring_of self.old) x }
         requires y_in { Self.Ring.has (ring_of self.old) y }
-        ensures { AssertsBoth ⟦<Self as Seen>⟧.view Base sub_term self.old self.new ((x, y) ∷ [])
+        ensures { AssertsBoth ⟦<Self as View>⟧.view Base sub_term self.old self.new ((x, y) ∷ [])
             result }
     {
         let z = self.ring().sub(x, y)?;
@@ -250,7 +250,7 @@ pub trait AirBuilder {
     final fn assert_bool(&mut self, x: Self::Expr) -> Result<(), AirError>
         requires ready { ready self.old }
         requires of_ring { Self.Ring.has (ring_of self.old) x }
-        ensures { Asserts ⟦<Self as Seen>⟧.view Base (bool_check_term Self.F.ONE) self.old
+        ensures { Asserts ⟦<Self as View>⟧.view Base (bool_check_term Self.F.ONE) self.old
             self.new (x ∷ []) result }
     {
         let check = self.ring().bool_check(x)?;
@@ -261,7 +261,7 @@ pub trait AirBuilder {
     final fn assert_zeros_slice(&mut self, elements: &[Self::Expr]) -> Result<(), AirError>
         requires ready { ready self.old }
         requires of_ring { All (Self.Ring.has (ring_of self.old)) elements.now }
-        ensures { Asserts ⟦<Self as Seen>⟧.view Base (λ t. t) self.old self.new elements.now
+        ensures { Asserts ⟦<Self as View>⟧.view Base (λ t. t) self.old self.new elements.now
             result }
     {
         for element in elements {
@@ -274,7 +274,7 @@ pub trait AirBuilder {
     final fn assert_bools_slice(&mut self, elements: &[Self::Expr]) -> Result<(), AirError>
         requires ready { ready self.old }
         requires of_ring { All (Self.Ring.has (ring_of self.old)) elements.now }
-        ensures { Asserts ⟦<Self as Seen>⟧.view Base (bool_check_term Self.F.ONE) self.old
+        ensures { Asserts ⟦<Self as View>⟧.view Base (bool_check_term Self.F.ONE) self.old
             self.new elements.now result }
     {
         for element in elements {
@@ -293,7 +293,7 @@ pub trait AirBuilder {
         requires same_length { length left.now ≡ length right.now }
         requires left_in { All (Self.Ring.has (ring_of self.old)) left.now }
         requires right_in { All (Self.Ring.has (ring_of self.old)) right.now }
-        ensures { AssertsBoth ⟦<Self as Seen>⟧.view Base sub_term self.old self.new
+        ensures { AssertsBoth ⟦<Self as View>⟧.view Base sub_term self.old self.new
             (zip left.now right.now) result }
     {
         for (i, x) in left.iter().enumerate() {
@@ -324,7 +324,7 @@ pub trait AirBuilder {
     where
         Self: Sized,
         requires { ready self.old }
-        ensures { FiltersBy ⟦<Self as Seen>⟧.view first_row self.old self.entry.ghost_name result }
+        ensures { FiltersBy ⟦<Self as View>⟧.view first_row self.old self.entry.ghost_name result }
     {
         let condition = self.is_first_row()?;
         self.when(condition)
@@ -336,7 +336,7 @@ pub trait AirBuilder {
     where
         Self: Sized,
         requires { ready self.old }
-        ensures { FiltersBy ⟦<Self as Seen>⟧.view last_row self.old self.entry.ghost_name result }
+        ensures { FiltersBy ⟦<Self as View>⟧.view last_row self.old self.entry.ghost_name result }
     {
         let condition = self.is_last_row()?;
         self.when(condition)
@@ -348,7 +348,7 @@ pub trait AirBuilder {
     where
         Self: Sized,
         requires { ready self.old }
-        ensures { FiltersBy ⟦<Self as Seen>⟧.view transition self.old self.entry.ghost_name result }
+        ensures { FiltersBy ⟦<Self as View>⟧.view transition self.old self.entry.ghost_name result }
     {
         let condition = self.is_transition()?;
         self.when(condition)
@@ -370,9 +370,9 @@ pub trait AirBuilder {
         ensures same_reference { IfOk result (λ f. f.inner.ghost_name ≡ self.entry.ghost_name) }
         ensures inner { IfOk result (λ f. grew self.old f.inner.now []) }
         ensures of_ring { IfOk result (λ f. Self.Ring.has (ring_of f.inner.now) f.condition) }
-        ensures condition { IfOk result (λ f. MeansOfBoth (MeansIn ⟦<Self as Seen>⟧.view) sub_term
+        ensures condition { IfOk result (λ f. MeansOfBoth (MeansIn ⟦<Self as View>⟧.view) sub_term
             self.old f.inner.now x y f.condition) }
-        ensures refused { IfErr result (RefusesPartOfBoth (MeansIn ⟦<Self as Seen>⟧.view) refuses
+        ensures refused { IfErr result (RefusesPartOfBoth (MeansIn ⟦<Self as View>⟧.view) refuses
             sub_term self.old x y) }
     {
         let condition = self.difference(x, y)?;
@@ -389,11 +389,11 @@ pub trait AirBuilder {
         Self: Sized,
         requires ready { ready self.old }
         requires within { size ≤ 2 }
-        ensures { FiltersBy ⟦<Self as Seen>⟧.view transition self.old self.entry.ghost_name result }
+        ensures { FiltersBy ⟦<Self as View>⟧.view transition self.old self.entry.ghost_name result }
     {
         let condition = self.is_transition_window(size)?;
         self.when(condition)
     }
 
-    ghost laws: { BuilderLaws ⟦<Self as Seen>⟧.view };
+    ghost laws: { BuilderLaws ⟦<Self as View>⟧.view };
 }

@@ -7,7 +7,7 @@ ghost use Rattle.air_builder.specs.Assertion.{Base};
 ghost use Rattle.air_builder.specs.Batches.{Asserts, AssertsBoth};
 
 use crate::builders::air_builder::AirBuilder;
-use crate::builders::seen::Seen;
+use crate::builders::view::View;
 use air_core::errors::AirError;
 
 /// Asserts arrays of `N` elements, one after another: growth by a term an element.
@@ -17,7 +17,7 @@ pub trait AssertAll<const N: usize>: AirBuilder {
     final fn assert_zeros(&mut self, elements: [Self::Expr; N]) -> Result<(), AirError>
         requires ready { Self.ready self.old }
         requires of_ring { All (Self.Ring.has (Self.ring_of self.old)) elements }
-        ensures { Asserts ⟦<Self as Seen>⟧.view Base (λ t. t) self.old self.new elements result }
+        ensures { Asserts ⟦<Self as View>⟧.view Base (λ t. t) self.old self.new elements result }
     {
         self.assert_zeros_slice(&elements)
     }
@@ -27,7 +27,7 @@ pub trait AssertAll<const N: usize>: AirBuilder {
     final fn assert_bools(&mut self, elements: [Self::Expr; N]) -> Result<(), AirError>
         requires ready { Self.ready self.old }
         requires of_ring { All (Self.Ring.has (Self.ring_of self.old)) elements }
-        ensures { Asserts ⟦<Self as Seen>⟧.view Base (bool_check_term Self.F.ONE) self.old
+        ensures { Asserts ⟦<Self as View>⟧.view Base (bool_check_term Self.F.ONE) self.old
             self.new elements result }
     {
         self.assert_bools_slice(&elements)
@@ -43,7 +43,7 @@ pub trait AssertAll<const N: usize>: AirBuilder {
         requires ready { Self.ready self.old }
         requires left_in { All (Self.Ring.has (Self.ring_of self.old)) left }
         requires right_in { All (Self.Ring.has (Self.ring_of self.old)) right }
-        ensures { AssertsBoth ⟦<Self as Seen>⟧.view Base sub_term self.old self.new
+        ensures { AssertsBoth ⟦<Self as View>⟧.view Base sub_term self.old self.new
             (zip left right) result }
     {
         self.assert_eq_slices(&left, &right)

@@ -4,7 +4,7 @@ ghost use Rattle.air_builder.specs.Assertion.{Extension};
 ghost use Rattle.air_builder.specs.Batches.{Asserts};
 
 use crate::builders::extension::ExtensionBuilder;
-use crate::builders::seen::SeenOver;
+use crate::builders::view::ViewOver;
 use air_core::errors::AirError;
 
 /// Asserts arrays of `N` elements over the extension, one after another: growth by a term an element.
@@ -14,7 +14,7 @@ pub trait AssertAllExt<const N: usize>: ExtensionBuilder {
     final fn assert_zeros_ext(&mut self, elements: [Self::ExprEF; N]) -> Result<(), AirError>
         requires ready { Self.ready self.old }
         requires of_ring { All (Self.ExtRing.has (Self.ext_ring_of self.old)) elements }
-        ensures { Asserts ⟦<Self as SeenOver>⟧.view Extension (λ t. t) self.old self.new elements
+        ensures { Asserts ⟦<Self as ViewOver>⟧.view Extension (λ t. t) self.old self.new elements
             result }
     {
         self.assert_zeros_ext_slice(&elements)

@@ -7,7 +7,7 @@ ghost use Rattle.air_builder.specs.Labels.{Labels};
 ghost use Rattle.air_core.specs.Texts.{ElementSays};
 
 use crate::builders::named::NamedAirBuilder;
-use crate::builders::seen::Seen;
+use crate::builders::view::View;
 use air_core::errors::AirError;
 use air_core::names::namespace::Namespace;
 
@@ -23,9 +23,9 @@ pub trait AssertAllNamed<const N: usize>: NamedAirBuilder {
         requires ready { Self.ready self.old }
         requires of_ring { All (Self.Ring.has (Self.ring_of self.old)) elements }
         requires can_evaluate { M.can_evaluate name }
-        ensures asserted { Asserts ⟦<Self as Seen>⟧.view Base (λ t. t) self.old self.new elements
+        ensures asserted { Asserts ⟦<Self as View>⟧.view Base (λ t. t) self.old self.new elements
             result }
-        ensures label { Labels ⟦<Self as Seen>⟧.view Self.labelled Base (λ t. t)
+        ensures label { Labels ⟦<Self as View>⟧.view Self.labelled Base (λ t. t)
             (ElementSays (M.displays name)) self.old self.new elements result }
     {
         self.assert_zeros_named_slice(&elements, name)
@@ -41,9 +41,9 @@ pub trait AssertAllNamed<const N: usize>: NamedAirBuilder {
         requires ready { Self.ready self.old }
         requires of_ring { All (Self.Ring.has (Self.ring_of self.old)) elements }
         requires can_evaluate { M.can_evaluate name }
-        ensures asserted { Asserts ⟦<Self as Seen>⟧.view Base (bool_check_term Self.F.ONE)
+        ensures asserted { Asserts ⟦<Self as View>⟧.view Base (bool_check_term Self.F.ONE)
             self.old self.new elements result }
-        ensures label { Labels ⟦<Self as Seen>⟧.view Self.labelled Base
+        ensures label { Labels ⟦<Self as View>⟧.view Self.labelled Base
             (bool_check_term Self.F.ONE) (ElementSays (M.displays name)) self.old self.new
             elements result }
     {

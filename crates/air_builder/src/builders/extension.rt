@@ -5,10 +5,10 @@ ghost use Rattle.air_field.specs.Term.{sub_term};
 ghost use Rattle.air_builder.specs.Assertion.{Extension};
 ghost use Rattle.air_builder.specs.Batches.{Asserts, AssertsBoth};
 ghost use Rattle.air_builder.specs.Builders.{less_one_term};
-ghost use Rattle.air_builder.specs.Extensions.{ExtensionLaws};
+ghost use Rattle.air_builder.specs.Extensions.{ExtensionRingLaws};
 
 use crate::builders::air_builder::{AirBuilder, less_one};
-use crate::builders::seen::{Seen, SeenExt, SeenOver};
+use crate::builders::view::{View, ViewExt, ViewOver};
 use air_core::errors::AirError;
 use air_field::{Algebra, ExtAlgebra, ExtensionField, FromVar};
 
@@ -44,7 +44,7 @@ pub trait ExtensionBuilder: AirBuilder {
     fn assert_zero_ext(&mut self, x: Self::ExprEF) -> Result<(), AirError>
         requires ready { Self.ready self.old }
         requires of_ring { Self.ExtRing.has (ext_ring_of self.old) x }
-        ensures { Asserts ⟦<Self as SeenOver>⟧.view Extension (λ t. t) self.old self.new (x ∷ [])
+        ensures { Asserts ⟦<Self as ViewOver>⟧.view Extension (λ t. t) self.old self.new (x ∷ [])
             result };
 
     /// Asserts that `x` is one: growth by x - 1.
@@ -52,7 +52,7 @@ pub trait ExtensionBuilder: AirBuilder {
     final fn assert_one_ext(&mut self, x: Self::ExprEF) -> Result<(), AirError>
         requires ready { Self.ready self.old }
         requires of_ring { Self.ExtRing.has (ext_ring_of self.old) x }
-        ensures { Asserts ⟦<Self as SeenOver>⟧.view Extension (less_one_term Self.F.ONE) self.old
+        ensures { Asserts ⟦<Self as ViewOver>⟧.view Extension (less_one_term Self.F.ONE) self.old
             self.new (x ∷ []) result }
     {
         let less = less_one(self.ext_ring(), x)?;
@@ -65,7 +65,7 @@ pub trait ExtensionBuilder: AirBuilder {
         requires ready { Self.ready self.old }
         requires x_in { Self.ExtRing.has (ext_ring_of self.old) x }
         requires y_in { Self.ExtRing.has (ext_ring_of self.old) y }
-        ensures { AssertsBoth ⟦<Self as SeenOver>⟧.view Extension sub_term self.old self.new
+        ensures { AssertsBoth ⟦<Self as ViewOver>⟧.view Extension sub_term self.old self.new
             ((x, y) ∷ []) result }
     {
         let z = self.ext_ring().sub(x, y)?;
@@ -76,7 +76,7 @@ pub trait ExtensionBuilder: AirBuilder {
     final fn assert_zeros_ext_slice(&mut self, elements: &[Self::ExprEF]) -> Result<(), AirError>
         requires ready { Self.ready self.old }
         requires of_ring { All (Self.ExtRing.has (ext_ring_of self.old)) elements.now }
-        ensures { Asserts ⟦<Self as SeenOver>⟧.view Extension (λ t. t) self.old self.new
+        ensures { Asserts ⟦<Self as ViewOver>⟧.view Extension (λ t. t) self.old self.new
             elements.now result }
     {
         for element in elements {
@@ -85,5 +85,5 @@ pub trait ExtensionBuilder: AirBuilder {
         Ok(())
     }
 
-    ghost ext_laws: { ExtensionLaws ⟦<Self as Seen>⟧.view ⟦<Self as SeenExt>⟧.over };
+    ghost ext_laws: { ExtensionRingLaws ⟦<Self as View>⟧.view ⟦<Self as ViewExt>⟧.over };
 }

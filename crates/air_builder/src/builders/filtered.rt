@@ -69,20 +69,20 @@ impl<'a, AB: AirBuilder> AirBuilder for FilteredAirBuilder<'a, AB> {
           { now = AB.with_ring f.inner.now r };
     } };
 
-    ghost stands = { λ f. AB.stands f.inner.now };
+    ghost reads_as = { λ f. AB.reads_as f.inner.now };
 
     ghost ready = { λ f. AB.ready f.inner.now × AB.Ring.has (AB.ring_of f.inner.now) f.condition };
 
     ghost kept = { λ f g. KeptInside AB.kept f.inner.ghost_name g.inner.ghost_name f.condition
         g.condition f.inner.now g.inner.now };
 
-    ghost grew = { λ f g ts. GrewInside AB.kept AB.grew (Means AB.Ring.means AB.ring_of AB.stands)
+    ghost grew = { λ f g ts. GrewInside AB.kept AB.grew (Means AB.Ring.means AB.ring_of AB.reads_as)
         f.inner.ghost_name g.inner.ghost_name f.condition g.condition f.inner.now g.inner.now ts };
 
     ghost missing = { λ f l. AB.missing f.inner.now l };
 
-    ghost refuses = { λ f e ts. RefusesInside AB.refuses (Means AB.Ring.means AB.ring_of AB.stands)
-        f.condition f.inner.now e ts };
+    ghost refuses = { λ f e ts. RefusesInside AB.refuses
+        (Means AB.Ring.means AB.ring_of AB.reads_as) f.condition f.inner.now e ts };
 
     ghost laws = { filter_laws AB.Ring.Algebra.laws AB.laws (λ p. p.inner.now)
         (λ p. p.inner.ghost_name) (λ p. p.condition)

@@ -9,7 +9,7 @@ ghost use Rattle.air_builder.specs.Labels.{Labelled, Labels, LabelsBoth, NamedLa
 ghost use Rattle.air_core.specs.Texts.{ElementSays};
 
 use crate::builders::air_builder::{AirBuilder, less_one};
-use crate::builders::seen::Seen;
+use crate::builders::view::View;
 use air_core::errors::AirError;
 use air_core::names::element::Element;
 use air_core::names::joined::Joined;
@@ -30,9 +30,9 @@ pub trait NamedAirBuilder: AirBuilder {
         requires ready { Self.ready self.old }
         requires of_ring { Self.Ring.has (Self.ring_of self.old) x }
         requires can_evaluate { N.can_evaluate name }
-        ensures asserted { Asserts ⟦<Self as Seen>⟧.view Base (λ t. t) self.old self.new (x ∷ [])
+        ensures asserted { Asserts ⟦<Self as View>⟧.view Base (λ t. t) self.old self.new (x ∷ [])
             result }
-        ensures label { Labels ⟦<Self as Seen>⟧.view labelled Base (λ t. t) (λ i. N.displays name)
+        ensures label { Labels ⟦<Self as View>⟧.view labelled Base (λ t. t) (λ i. N.displays name)
             self.old self.new (x ∷ []) result };
 
     /// Asserts that `x` is one.
@@ -41,9 +41,9 @@ pub trait NamedAirBuilder: AirBuilder {
         requires ready { Self.ready self.old }
         requires of_ring { Self.Ring.has (Self.ring_of self.old) x }
         requires can_evaluate { N.can_evaluate name }
-        ensures asserted { Asserts ⟦<Self as Seen>⟧.view Base (less_one_term Self.F.ONE) self.old
+        ensures asserted { Asserts ⟦<Self as View>⟧.view Base (less_one_term Self.F.ONE) self.old
             self.new (x ∷ []) result }
-        ensures label { Labels ⟦<Self as Seen>⟧.view labelled Base (less_one_term Self.F.ONE)
+        ensures label { Labels ⟦<Self as View>⟧.view labelled Base (less_one_term Self.F.ONE)
             (λ i. N.displays name) self.old self.new (x ∷ []) result }
     {
         let less = less_one(self.ring(), x)?;
@@ -62,9 +62,9 @@ pub trait NamedAirBuilder: AirBuilder {
         requires x_in { Self.Ring.has (Self.ring_of self.old) x }
         requires y_in { Self.Ring.has (Self.ring_of self.old) y }
         requires can_evaluate { N.can_evaluate name }
-        ensures asserted { AssertsBoth ⟦<Self as Seen>⟧.view Base sub_term self.old self.new
+        ensures asserted { AssertsBoth ⟦<Self as View>⟧.view Base sub_term self.old self.new
             ((x, y) ∷ []) result }
-        ensures label { LabelsBoth ⟦<Self as Seen>⟧.view labelled Base sub_term
+        ensures label { LabelsBoth ⟦<Self as View>⟧.view labelled Base sub_term
             (λ i. N.displays name) self.old self.new ((x, y) ∷ []) result }
     {
         let z = self.ring().sub(x, y)?;
@@ -77,9 +77,9 @@ pub trait NamedAirBuilder: AirBuilder {
         requires ready { Self.ready self.old }
         requires of_ring { Self.Ring.has (Self.ring_of self.old) x }
         requires can_evaluate { N.can_evaluate name }
-        ensures asserted { Asserts ⟦<Self as Seen>⟧.view Base (bool_check_term Self.F.ONE)
+        ensures asserted { Asserts ⟦<Self as View>⟧.view Base (bool_check_term Self.F.ONE)
             self.old self.new (x ∷ []) result }
-        ensures label { Labels ⟦<Self as Seen>⟧.view labelled Base (bool_check_term Self.F.ONE)
+        ensures label { Labels ⟦<Self as View>⟧.view labelled Base (bool_check_term Self.F.ONE)
             (λ i. N.displays name) self.old self.new (x ∷ []) result }
     {
         let check = self.ring().bool_check(x)?;
@@ -95,9 +95,9 @@ pub trait NamedAirBuilder: AirBuilder {
         requires ready { Self.ready self.old }
         requires of_ring { All (Self.Ring.has (Self.ring_of self.old)) elements.now }
         requires can_evaluate { N.can_evaluate name }
-        ensures asserted { Asserts ⟦<Self as Seen>⟧.view Base (λ t. t) self.old self.new
+        ensures asserted { Asserts ⟦<Self as View>⟧.view Base (λ t. t) self.old self.new
             elements.now result }
-        ensures label { Labels ⟦<Self as Seen>⟧.view labelled Base (λ t. t)
+        ensures label { Labels ⟦<Self as View>⟧.view labelled Base (λ t. t)
             (ElementSays (N.displays name)) self.old self.new elements.now result }
     {
         for (i, element) in elements.iter().enumerate() {
@@ -115,9 +115,9 @@ pub trait NamedAirBuilder: AirBuilder {
         requires ready { Self.ready self.old }
         requires of_ring { All (Self.Ring.has (Self.ring_of self.old)) elements.now }
         requires can_evaluate { N.can_evaluate name }
-        ensures asserted { Asserts ⟦<Self as Seen>⟧.view Base (bool_check_term Self.F.ONE)
+        ensures asserted { Asserts ⟦<Self as View>⟧.view Base (bool_check_term Self.F.ONE)
             self.old self.new elements.now result }
-        ensures label { Labels ⟦<Self as Seen>⟧.view labelled Base (bool_check_term Self.F.ONE)
+        ensures label { Labels ⟦<Self as View>⟧.view labelled Base (bool_check_term Self.F.ONE)
             (ElementSays (N.displays name)) self.old self.new elements.now result }
     {
         for (i, element) in elements.iter().enumerate() {

@@ -11,7 +11,7 @@ use crate::builders::extension::ExtensionBuilder;
 use crate::builders::extension_filter::under_condition;
 use crate::builders::filtered::FilteredAirBuilder;
 use crate::builders::named::NamedAirBuilder;
-use crate::builders::seen::SeenOver;
+use crate::builders::view::ViewOver;
 use air_core::errors::AirError;
 use air_core::names::name::Name;
 use air_field::Algebra;
@@ -23,9 +23,9 @@ pub trait NamedExtensionBuilder: ExtensionBuilder + NamedAirBuilder {
         requires ready { Self.ready self.old }
         requires of_ring { Self.ExtRing.has (Self.ext_ring_of self.old) x }
         requires can_evaluate { N.can_evaluate name }
-        ensures asserted { Asserts ⟦<Self as SeenOver>⟧.view Extension (λ t. t) self.old self.new
+        ensures asserted { Asserts ⟦<Self as ViewOver>⟧.view Extension (λ t. t) self.old self.new
             (x ∷ []) result }
-        ensures label { Labels ⟦<Self as SeenOver>⟧.view Self.labelled Extension (λ t. t)
+        ensures label { Labels ⟦<Self as ViewOver>⟧.view Self.labelled Extension (λ t. t)
             (λ i. N.displays name) self.old self.new (x ∷ []) result };
 
     /// Asserts that `x` is one.
@@ -38,9 +38,9 @@ pub trait NamedExtensionBuilder: ExtensionBuilder + NamedAirBuilder {
         requires ready { Self.ready self.old }
         requires of_ring { Self.ExtRing.has (Self.ext_ring_of self.old) x }
         requires can_evaluate { N.can_evaluate name }
-        ensures asserted { Asserts ⟦<Self as SeenOver>⟧.view Extension (less_one_term Self.F.ONE)
+        ensures asserted { Asserts ⟦<Self as ViewOver>⟧.view Extension (less_one_term Self.F.ONE)
             self.old self.new (x ∷ []) result }
-        ensures label { Labels ⟦<Self as SeenOver>⟧.view Self.labelled Extension
+        ensures label { Labels ⟦<Self as ViewOver>⟧.view Self.labelled Extension
             (less_one_term Self.F.ONE) (λ i. N.displays name) self.old self.new (x ∷ []) result }
     {
         let less = less_one(self.ext_ring(), x)?;
@@ -59,9 +59,9 @@ pub trait NamedExtensionBuilder: ExtensionBuilder + NamedAirBuilder {
         requires x_in { Self.ExtRing.has (Self.ext_ring_of self.old) x }
         requires y_in { Self.ExtRing.has (Self.ext_ring_of self.old) y }
         requires can_evaluate { N.can_evaluate name }
-        ensures asserted { AssertsBoth ⟦<Self as SeenOver>⟧.view Extension sub_term self.old
+        ensures asserted { AssertsBoth ⟦<Self as ViewOver>⟧.view Extension sub_term self.old
             self.new ((x, y) ∷ []) result }
-        ensures label { LabelsBoth ⟦<Self as SeenOver>⟧.view Self.labelled Extension sub_term
+        ensures label { LabelsBoth ⟦<Self as ViewOver>⟧.view Self.labelled Extension sub_term
             (λ i. N.displays name) self.old self.new ((x, y) ∷ []) result }
     {
         let z = self.ext_ring().sub(x, y)?;

@@ -12,8 +12,8 @@ use air_field::Algebra;
 
 impl<'a, AB: NamedAirBuilder> NamedAirBuilder for FilteredAirBuilder<'a, AB> {
     ghost labelled = { λ f g ls. LabelledInside AB.kept AB.labelled
-        (Means AB.Ring.means AB.ring_of AB.stands) f.inner.ghost_name g.inner.ghost_name f.condition
-        g.condition f.inner.now g.inner.now ls };
+        (Means AB.Ring.means AB.ring_of AB.reads_as) f.inner.ghost_name g.inner.ghost_name
+        f.condition g.condition f.inner.now g.inner.now ls };
 
     ghost named_laws = { named_filter_laws AB.Ring.Algebra.laws AB.laws AB.named_laws
         (λ p. p.inner.now) (λ p. p.inner.ghost_name) (λ p. p.condition) };

@@ -5,7 +5,7 @@ ghost use Rattle.air_builder.specs.Batches.{Asserts};
 ghost use Rattle.air_builder.specs.Labels.{Labels, discarding};
 
 use crate::builders::air_builder::AirBuilder;
-use crate::builders::seen::Seen;
+use crate::builders::view::View;
 use air_core::errors::AirError;
 use air_core::names::name::Name;
 
@@ -23,9 +23,9 @@ pub trait PassthroughNamedAirBuilder: AirBuilder {
     ) -> Result<(), AirError>
         requires ready { Self.ready self.old }
         requires of_ring { Self.Ring.has (Self.ring_of self.old) x }
-        ensures asserted { Asserts ⟦<Self as Seen>⟧.view Base (λ t. t) self.old self.new (x ∷ [])
+        ensures asserted { Asserts ⟦<Self as View>⟧.view Base (λ t. t) self.old self.new (x ∷ [])
             result }
-        ensures label { Labels ⟦<Self as Seen>⟧.view (discarding Self.grew) Base (λ t. t)
+        ensures label { Labels ⟦<Self as View>⟧.view (discarding Self.grew) Base (λ t. t)
             (λ i. N.displays _name) self.old self.new (x ∷ []) result }
     {
         self.assert_zero(x)

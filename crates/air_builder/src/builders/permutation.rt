@@ -1,7 +1,7 @@
 //! Builders with a permutation trace.
 ghost use Rattle.std.specs.Prelude.{◌≡◌, ◌↔◌, ◌≤◌, ◌<◌, None, IfOk, IfErr, IfSome};
 ghost use Rattle.air_field.specs.Term.{permutation, challenge, permutation_value};
-ghost use Rattle.air_builder.specs.Builders.{RowStands, VariableStands};
+ghost use Rattle.air_builder.specs.Builders.{RowReadsAs, VariableReadsAs};
 ghost use Rattle.air_builder.specs.Refusals.{RowEnds};
 ghost use Rattle.air_builder.specs.Extensions.{RefusesWindow};
 
@@ -29,10 +29,10 @@ where
     /// permutation column, and as `main` may be.
     fn permutation(&self) -> Result<Self::MP, AirError>
         ensures window { IfOk result Self.MP.is_window }
-        ensures current { IfOk result (λ w. RowStands Self.ExtRing.FromVar-1.var_means
-            (λ i. Self.stands self.now (permutation 0 i)) (Self.MP.current_row w)) }
-        ensures next { IfOk result (λ w. RowStands Self.ExtRing.FromVar-1.var_means
-            (λ i. Self.stands self.now (permutation 1 i)) (Self.MP.next_row w)) }
+        ensures current { IfOk result (λ w. RowReadsAs Self.ExtRing.FromVar-1.var_means
+            (λ i. Self.reads_as self.now (permutation 0 i)) (Self.MP.current_row w)) }
+        ensures next { IfOk result (λ w. RowReadsAs Self.ExtRing.FromVar-1.var_means
+            (λ i. Self.reads_as self.now (permutation 1 i)) (Self.MP.next_row w)) }
         ensures current_ends { IfOk result (λ w. RowEnds (Self.missing self.now)
             (λ i. permutation 0 i) (Self.MP.current_row w)) }
         ensures next_ends { IfOk result (λ w. RowEnds (Self.missing self.now) (λ i. permutation 1 i)
@@ -48,8 +48,8 @@ where
         offset: usize,
         column: usize,
     ) -> Result<Option<Self::VarEF>, AirError>
-        ensures found { IfOk result (λ o. IfSome o (VariableStands Self.ExtRing.FromVar-1.var_means
-            (Self.stands self.now) (permutation offset column))) }
+        ensures found { IfOk result (λ o. IfSome o (VariableReadsAs Self.ExtRing.FromVar-1.var_means
+            (Self.reads_as self.now) (permutation offset column))) }
         ensures none { offset ≤ 1 → IfOk result (λ o. (o ≡ None) ↔ Self.missing self.now
             (permutation offset column)) }
         ensures past { 1 < offset → IfOk result (λ o. o ≡ None) }
@@ -66,13 +66,13 @@ where
 
     /// The challenges.
     fn permutation_randomness(&self) -> &[Self::RandomVar]
-        ensures stands { RowStands Self.ExtRing.FromVar-2.var_means
-            (λ i. Self.stands self.now (challenge i)) result.now }
+        ensures reads_as { RowReadsAs Self.ExtRing.FromVar-2.var_means
+            (λ i. Self.reads_as self.now (challenge i)) result.now }
         ensures ends { RowEnds (Self.missing self.now) challenge result.now };
 
     /// The values that the permutation argument exposes.
     fn permutation_values(&self) -> &[Self::PermutationVar]
-        ensures stands { RowStands Self.ExtRing.FromVar-3.var_means
-            (λ i. Self.stands self.now (permutation_value i)) result.now }
+        ensures reads_as { RowReadsAs Self.ExtRing.FromVar-3.var_means
+            (λ i. Self.reads_as self.now (permutation_value i)) result.now }
         ensures ends { RowEnds (Self.missing self.now) permutation_value result.now };
 }

@@ -11,8 +11,8 @@ use Rattle.air_symbolic.specs.Reach.{EachOperand, IsOperand, Marked, Reached, Re
 use Rattle.air_symbolic.specs.declared.leaves.base_leaf.BaseLeaf.{BaseLeaf}
 use Rattle.air_symbolic.specs.declared.pools.expr.SymbolicExpr.{SymbolicExpr}
 use Rattle.air_symbolic.specs.declared.pools.expr.SymbolicExpr.TheVariants as node
-use Rattle.air_infix.specs.Infix.{shown, text_of, constant_text}
-use Rattle.air_infix.specs.Lines.{listed}
+use Rattle.air_infix.specs.Infix.{shown, infix_text, constant_text}
+use Rattle.air_infix.specs.Lines.{listed_name}
 use Rattle.air_infix.specs.Names.{is_reached, passing_below}
 use Rattle.air_infix.specs.declared.binding.Binding.TheVariants.{Loose}
 use Rattle.air_explain.specs.Equations.{equation, equation_lines}
@@ -82,13 +82,13 @@ read_marked ns marks read from i closed at h is =
     marked_reach ns marks from i closed at (h.only_reached i some.0 some.1).1
 
 -- The lines by values that are known explain a number.
-pub explains_known : {F : Type 0} {p : ℕ} (m : Modular F p) (r : CommRing F) (s : Leaf → F) (pool : BaseNodes F) (names marks : List (Option ℕ)) (values : List F) (from : ℕ) (numbers : List ℕ) → AreClosed pool.1 marks → Known r s pool.1 marks (length pool.1) values → from < length pool.1 → Marked marks from → Reads pool.1 from numbers → Explains m r s pool names from (explained_lines m pool names (λ i. get_or values i r.nil) from numbers)
+pub explains_known : {F : Type 0} {p : ℕ} (m : Modular F p) (r : CommRing F) (s : Leaf → F) (pool : BaseNodes F) (names marks : List (Option ℕ)) (values : List F) (from : ℕ) (numbers : List ℕ) → AreClosed pool.1 marks → Known r s pool.1 marks (length pool.1) values → from < length pool.1 → Marked marks from → Reads pool.1 from numbers → Explains m r s pool names from (explained_lines m pool names (λ i. get_or values i r.zero) from numbers)
 explains_known {F} m r s pool names marks values from numbers closed known here at reads =
     let ns = pool.1 in
-    let f : ℕ → List ℕ = equation m pool names (λ i. get_or values i r.nil) in
+    let f : ℕ → List ℕ = equation m pool names (λ i. get_or values i r.zero) in
     let g : ℕ → List ℕ = equation m pool names (value_at r s ns) in
     let same : (i : ℕ) → i < length ns → Marked marks i → f i ≡ g i =
-    λ i b marked. ap (λ (v : F). text_of m Loose (shown (listed names) ns i) ++ (codes " = " ++ constant_text m v)) (known i b marked) in
+    λ i b marked. ap (λ (v : F). infix_text m Loose (shown (listed_name names) ns i) ++ (codes " = " ++ constant_text m v)) (known i b marked) in
     let all : map f numbers ≡ map g numbers =
     ap (map f) reads.numbers_are
     ∙ same_below (is_read ns reads.marks) f g (length ns) (λ i b t. same i b (read_marked ns marks reads.marks from i closed at reads.reached t))

@@ -1,7 +1,7 @@
 -- Values as a ring that makes expressions, and values of terms under leaves.
 use Rattle.std.specs.Prelude.{◌≡◌, ⊤, List, refl}
 use Rattle.std.proofs.Common.{ap, ap₂}
-use Rattle.air_field.specs.Ring.{CommRing, minus, Over, itself}
+use Rattle.air_field.specs.Ring.{CommRing, minus, AlgebraOver, itself}
 use Rattle.air_field.specs.Term.{Leaf, Term, leaf_term, const_term, ext_const_term, add_term, sub_term, neg_term, mul_term, with_leaves, IsBase}
 use Rattle.air_field.specs.Value.{value}
 use Rattle.air_field.specs.Algebra.{AlgebraLaws, closed_value_in, closed_value}
@@ -22,7 +22,7 @@ stateless_laws means some = record {
 }
 
 -- whose elements are their values; each is an extension constant
-pub value_in_laws : {R F E X : Type 0} (a : Over F E) (coefficients : E → List F)
+pub value_in_laws : {R F E X : Type 0} (a : AlgebraOver F E) (coefficients : E → List F)
     → ((x : E) → a.extend (coefficients x) ≡ x)
     → AlgebraLaws {R = R} {E = E} {F = F} {X = X} (λ _. ⊤) (λ _ _. ⊤) (λ _ x t. closed_value_in a t ≡ x) (λ _ _. ⊤)
     (λ _ _. ⊥)

@@ -3,7 +3,7 @@ use Rattle.std.specs.Prelude.{◌≡◌, ℕ, ◌-◌, ◌∷◌, replicate, ref
 use Rattle.std.specs.Bool.{Decides}
 use Rattle.std.proofs.Common.{◌∙◌, ap, lit<}
 use Rattle.std.proofs.lemmas.Slice.Eq.{slice_eq-Decides}
-use Rattle.air_field.specs.Ring.{OverLaws}
+use Rattle.air_field.specs.Ring.{AlgebraOverLaws}
 use Rattle.air_field.specs.laws.FourCoefficients.{four_scale}
 use Rattle.air_field.specs.Extension.{ExtensionLaws}
 use Rattle.air_field.specs.laws.BaseParts.{part-of, part-is}
@@ -33,7 +33,7 @@ binomial_laws m w =
           ∙ ap (λ n. c ∷ replicate (n - 1) (residue_class m 0)) x.four);
     }
 
-pub binomial_over_laws : {M : Type 0} (m : Ghosts M) (w : ℕ) → OverLaws (residue_ring m) (binomial_over m w)
+pub binomial_over_laws : {M : Type 0} (m : Ghosts M) (w : ℕ) → AlgebraOverLaws (residue_ring m) (binomial_over m w)
 binomial_over_laws m w = extension_over_laws (residue_ring m) (binomial_over m w) (binomial_basis m) 4 (binomial_laws m w)
 
 -- `==` tells the same polynomial

@@ -2,8 +2,8 @@
 use Rattle.std.proofs.Common.{ℕ, zero, suc, ◌+◌, ◌-◌, ◌<◌, ◌≤◌, List, get_or, refl, ap, ◌∙◌, arith, ⊎_elim}
 use Rattle.std.proofs.Math.Nat.{le-max_left, le-max_right}
 use Rattle.std.proofs.lemmas.Bool.{cases_lt}
-use Rattle.air_field.specs.Ring.{CommRing, Over}
-use Rattle.air_field.specs.laws.Ring.{nil_mul, mul_nil, neg_nil}
+use Rattle.air_field.specs.Ring.{CommRing, AlgebraOver}
+use Rattle.air_field.specs.laws.Ring.{zero_mul, mul_zero, neg_zero}
 use Rattle.air_field.specs.Term.{Leaf, Term, leaf_term, const_term, ext_const_term, add_term, sub_term, neg_term, mul_term}
 use Rattle.air_field.specs.Polynomial.{convolve, only, polynomial, HasDegreeAtMost}
 use Rattle.air_field.specs.Degree.{degree_by}
@@ -20,13 +20,13 @@ module _ {E : Type 0} (r : CommRing E) where
   convolve-degree f g d e hf hg k b =
       sums.sum_to-nil r (λ i. r.mul (f i) (g (k - i))) k
       (λ i c. ⊎_elim
-      (λ (lt : d < i). ap (λ x. r.mul x (g (k - i))) (hf i lt) ∙ nil_mul r (g (k - i)))
-      (λ (ge : i ≤ d). ap (λ x. r.mul (f i) x) (hg (k - i) (omega arith)) ∙ mul_nil r (f i))
+      (λ (lt : d < i). ap (λ x. r.mul x (g (k - i))) (hf i lt) ∙ zero_mul r (g (k - i)))
+      (λ (ge : i ≤ d). ap (λ x. r.mul (f i) x) (hg (k - i) (omega arith)) ∙ mul_zero r (f i))
       (cases_lt d i))
 
 -- Where each leaf's polynomial is within its weight, a term's polynomial is within its degree.
-pub polynomial-degree : {F E : Type 0} (a : Over F E) (s : Leaf → List E) (w : Leaf → ℕ)
-    → ((x : Leaf) → HasDegreeAtMost a.ring (λ n. get_or (s x) n a.ring.nil) (w x)) → (t : Term F)
+pub polynomial-degree : {F E : Type 0} (a : AlgebraOver F E) (s : Leaf → List E) (w : Leaf → ℕ)
+    → ((x : Leaf) → HasDegreeAtMost a.ring (λ n. get_or (s x) n a.ring.zero) (w x)) → (t : Term F)
     → HasDegreeAtMost a.ring (polynomial a s t) (degree_by w t)
 polynomial-degree a s w h (leaf_term x) k b = h x k b
 polynomial-degree a s w h (const_term c) k b = only-degree a.ring (a.embed c) 0 k b
@@ -34,12 +34,12 @@ polynomial-degree a s w h (ext_const_term c) k b = only-degree a.ring (a.extend 
 polynomial-degree a s w h (add_term t u) k b =
     let x : degree_by w t < k = omega (arith, le-max_left (degree_by w t) (degree_by w u)) in
     let y : degree_by w u < k = omega (arith, le-max_right (degree_by w t) (degree_by w u)) in
-    cc (polynomial-degree a s w h t k x, polynomial-degree a s w h u k y, a.ring.add_nil a.ring.nil)
+    cc (polynomial-degree a s w h t k x, polynomial-degree a s w h u k y, a.ring.add_zero a.ring.zero)
 polynomial-degree a s w h (sub_term t u) k b =
     let x : degree_by w t < k = omega (arith, le-max_left (degree_by w t) (degree_by w u)) in
     let y : degree_by w u < k = omega (arith, le-max_right (degree_by w t) (degree_by w u)) in
-    cc (polynomial-degree a s w h t k x, polynomial-degree a s w h u k y, neg_nil a.ring, a.ring.add_nil a.ring.nil)
-polynomial-degree a s w h (neg_term t) k b = cc (polynomial-degree a s w h t k b, neg_nil a.ring)
+    cc (polynomial-degree a s w h t k x, polynomial-degree a s w h u k y, neg_zero a.ring, a.ring.add_zero a.ring.zero)
+polynomial-degree a s w h (neg_term t) k b = cc (polynomial-degree a s w h t k b, neg_zero a.ring)
 polynomial-degree a s w h (mul_term t u) k b =
     convolve-degree a.ring (polynomial a s t) (polynomial a s u) (degree_by w t) (degree_by w u) (polynomial-degree a s w h t) (polynomial-degree a s w h u) k b
 

@@ -1,9 +1,9 @@
 -- What extensions keep: padded lists, and the ring with its coefficients.
 use Rattle.std.specs.Prelude.{◌≡◌, ℕ, zero, suc, ◌-◌, ◌<◌, List, [], ◌∷◌, length, replicate, refl}
 use Rattle.std.proofs.Common.{sym, ◌∙◌, ap, ap₂, arith}
-use Rattle.air_field.specs.Ring.{CommRing, AllZero, Over, OverLaws}
+use Rattle.air_field.specs.Ring.{CommRing, AllZero, AlgebraOver, AlgebraOverLaws}
 use Rattle.air_field.specs.RingOps.{ops}
-use Rattle.air_field.specs.laws.Ring.{mul_nil, add_cancel}
+use Rattle.air_field.specs.laws.Ring.{mul_zero, add_cancel}
 use Rattle.air_field.specs.Coefficients.{poly_add, poly_scale, padded}
 use Rattle.air_field.specs.Extension.{Basis, ExtensionLaws}
 
@@ -26,33 +26,33 @@ padded-nil d zero = refl
 padded-nil d (suc n) = ap (λ l. d ∷ l) (padded-nil d n)
 
 module _ {F : Type 0} (R : CommRing F) where
-  pub AllZero-replicate : (n : ℕ) → AllZero R (replicate n R.nil)
+  pub AllZero-replicate : (n : ℕ) → AllZero R (replicate n R.zero)
   AllZero-replicate zero = tt
   AllZero-replicate (suc n) = (refl, AllZero-replicate n)
 
-  pub padded-zeros : (n : ℕ) (p : List F) → AllZero R p → padded R.nil n p ≡ replicate n R.nil
+  pub padded-zeros : (n : ℕ) (p : List F) → AllZero R p → padded R.zero n p ≡ replicate n R.zero
   padded-zeros zero p h = refl
-  padded-zeros (suc n) [] h = ap (λ l. R.nil ∷ l) (padded-nil R.nil n)
+  padded-zeros (suc n) [] h = ap (λ l. R.zero ∷ l) (padded-nil R.zero n)
   padded-zeros (suc n) (x ∷ p) h = ap₂ (λ c l. c ∷ l) h.0 (padded-zeros n p h.1)
 
-  add-zeros : (n : ℕ) → poly_add (ops R) (replicate n R.nil) (replicate n R.nil) ≡ replicate n R.nil
+  add-zeros : (n : ℕ) → poly_add (ops R) (replicate n R.zero) (replicate n R.zero) ≡ replicate n R.zero
   add-zeros zero = refl
-  add-zeros (suc n) = ap₂ (λ c l. c ∷ l) (R.add_nil R.nil) (add-zeros n)
+  add-zeros (suc n) = ap₂ (λ c l. c ∷ l) (R.add_zero R.zero) (add-zeros n)
 
-  scale-zeros : (c : F) (n : ℕ) → poly_scale (ops R) c (replicate n R.nil) ≡ replicate n R.nil
+  scale-zeros : (c : F) (n : ℕ) → poly_scale (ops R) c (replicate n R.zero) ≡ replicate n R.zero
   scale-zeros c zero = refl
-  scale-zeros c (suc n) = ap₂ (λ x l. x ∷ l) (mul_nil R c) (scale-zeros c n)
+  scale-zeros c (suc n) = ap₂ (λ x l. x ∷ l) (mul_zero R c) (scale-zeros c n)
 
   -- the coefficients past the first
-  padded-first : (n : ℕ) (x : F) (p : List F) → 0 < n → AllZero R p → padded R.nil n (x ∷ p) ≡ x ∷ replicate (n - 1) R.nil
+  padded-first : (n : ℕ) (x : F) (p : List F) → 0 < n → AllZero R p → padded R.zero n (x ∷ p) ≡ x ∷ replicate (n - 1) R.zero
   padded-first zero x p pos h = absurd (omega arith)
-  padded-first (suc n) x p pos h = ap (λ l. x ∷ l) (padded-zeros n p h ∙ ap (λ k. replicate k R.nil) (less_one n))
+  padded-first (suc n) x p pos h = ap (λ l. x ∷ l) (padded-zeros n p h ∙ ap (λ k. replicate k R.zero) (less_one n))
     where
       less_one : (k : ℕ) → k ≡ suc k - 1
       less_one k = omega arith
 
 -- An extension is an algebra over the base ring.
-module _ {F E : Type 0} (R : CommRing F) (a : Over F E) (basis : Basis F E) (n : ℕ) (laws : ExtensionLaws R a basis n) where
+module _ {F E : Type 0} (R : CommRing F) (a : AlgebraOver F E) (basis : Basis F E) (n : ℕ) (laws : ExtensionLaws R a basis n) where
   extension-add : (x y : F) → a.embed (R.add x y) ≡ a.ring.add (a.embed x) (a.embed y)
   extension-add x y =
       laws.same (a.embed (R.add x y)) (a.ring.add (a.embed x) (a.embed y))
@@ -67,20 +67,20 @@ module _ {F E : Type 0} (R : CommRing F) (a : Over F E) (basis : Basis F E) (n :
       ∙ sym (laws.scale_is x (a.embed y)
       ∙ (ap (poly_scale (ops R) x) (laws.embed_is y) ∙ ap (λ l. R.mul x y ∷ l) (scale-zeros R x (n - 1)))))
 
-  extension-nil : a.embed R.nil ≡ a.ring.nil
+  extension-nil : a.embed R.zero ≡ a.ring.zero
   extension-nil =
-      add_cancel a.ring (a.embed R.nil) (a.embed R.nil) a.ring.nil
-      (sym (extension-add R.nil R.nil) ∙ (ap a.embed (R.add_nil R.nil) ∙ sym (a.ring.add_nil (a.embed R.nil))))
+      add_cancel a.ring (a.embed R.zero) (a.embed R.zero) a.ring.zero
+      (sym (extension-add R.zero R.zero) ∙ (ap a.embed (R.add_zero R.zero) ∙ sym (a.ring.add_zero (a.embed R.zero))))
 
   extension-base : (x : F) (xs : List F) → AllZero R xs → a.extend (x ∷ xs) ≡ a.embed x
   extension-base x xs h =
       laws.same (a.extend (x ∷ xs)) (a.embed x)
       (laws.extend_is (x ∷ xs) ∙ (padded-first R n x xs laws.positive h ∙ sym (laws.embed_is x)))
 
-  pub extension_over_laws : OverLaws R a
+  pub extension_over_laws : AlgebraOverLaws R a
   extension_over_laws =
       record {
-        embed_nil = extension-nil;
+        embed_zero = extension-nil;
         embed_one = laws.embed_one;
         embed_add = extension-add;
         embed_mul = extension-mul;
@@ -90,4 +90,4 @@ module _ {F E : Type 0} (R : CommRing F) (a : Over F E) (basis : Basis F E) (n :
   -- the element of an element's own coefficients
   pub extend-coefficients : (x : E) → a.extend (basis.coefficients x) ≡ x
   extend-coefficients x =
-      laws.same (a.extend (basis.coefficients x)) x (laws.extend_is (basis.coefficients x) ∙ padded-whole R.nil n (basis.coefficients x) (laws.count x))
+      laws.same (a.extend (basis.coefficients x)) x (laws.extend_is (basis.coefficients x) ∙ padded-whole R.zero n (basis.coefficients x) (laws.count x))

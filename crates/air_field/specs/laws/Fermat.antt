@@ -5,7 +5,7 @@ use Rattle.std.proofs.Common.{sym, ◌∙◌, ap, subst, inl, inr, arith}
 use Rattle.std.proofs.lemmas.Nat.Gcd.{le_of_dvd}
 use Rattle.std.proofs.Math.Nat.{pow-suc, pow-zero, zero-mod, dvd-mul_right, mod-eq-zero_of_dvd, dvd-mul_right_of_dvd}
 use Rattle.air_field.specs.Prime.{IsPrime}
-use Rattle.air_field.specs.laws.Order.{Same, same_add, same_if}
+use Rattle.air_field.specs.laws.Order.{SameModulo, same_add, same_if}
 
 -- in how many ways k of n are chosen
 abbrev choose : ℕ → ℕ → ℕ
@@ -73,19 +73,19 @@ divides_choose n k prime low =
       | inr d ↦ d
     ]
 
-first_terms : (n x k : ℕ) → IsPrime (suc n) → k < suc n → Same (suc n) (terms (suc n) x (suc k)) 1
+first_terms : (n x k : ℕ) → IsPrime (suc n) → k < suc n → SameModulo (suc n) (terms (suc n) x (suc k)) 1
 first_terms n x zero prime low = same_if (suc n) _ 1 (ap (λ y. 0 + 1 * y) (pow-zero x))
 first_terms n x (suc k) prime low =
     same_add (suc n) (terms (suc n) x (suc k)) 1 (choose (suc n) (suc k) * x ^ suc k) 0
     (first_terms n x k prime (omega (arith, low)))
     (mod-eq-zero_of_dvd (suc n) (dvd-mul_right_of_dvd (suc n) (divides_choose n k prime low) (x ^ suc k)) ∙ sym (zero-mod (suc n)))
 
-next_power : (n x : ℕ) → IsPrime (suc n) → Same (suc n) ((x + 1) ^ suc n) (1 + x ^ suc n)
+next_power : (n x : ℕ) → IsPrime (suc n) → SameModulo (suc n) ((x + 1) ^ suc n) (1 + x ^ suc n)
 next_power n x prime =
     same_if (suc n) _ _ (sym (terms-all (suc n) x) ∙ ap (λ c. terms (suc n) x (suc n) + c * x ^ suc n) (choose-all (suc n)))
     ∙ same_add (suc n) (terms (suc n) x (suc n)) 1 (1 * x ^ suc n) (x ^ suc n) (first_terms n x n prime (omega arith)) (same_if (suc n) _ _ (omega arith))
 
-fermat_at : (n x : ℕ) → IsPrime (suc n) → Same (suc n) (x ^ suc n) x
+fermat_at : (n x : ℕ) → IsPrime (suc n) → SameModulo (suc n) (x ^ suc n) x
 fermat_at n zero prime = same_if (suc n) _ _ (pow-suc 0 n ∙ omega arith)
 fermat_at n (suc x) prime =
     same_if (suc n) _ _ (ap (λ y. y ^ suc n) (omega arith))
@@ -93,6 +93,6 @@ fermat_at n (suc x) prime =
     ∙ (same_add (suc n) 1 1 (x ^ suc n) x refl (fermat_at n x prime)
     ∙ same_if (suc n) _ _ (omega arith)))
 
-pub fermat : (p x : ℕ) → IsPrime p → Same p (x ^ p) x
+pub fermat : (p x : ℕ) → IsPrime p → SameModulo p (x ^ p) x
 fermat zero x prime = absurd (let least : 2 ≤ 0 = prime.least in omega (arith, least))
 fermat (suc n) x prime = fermat_at n x prime

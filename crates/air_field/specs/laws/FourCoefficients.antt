@@ -43,20 +43,20 @@ mul_add_at R w a b c d e f g h i j k l =
 mul_comm_at : {A : Type 0} (R : CommRing A) (w : A) (a b c d e f g h : A)
     → binomial_mul (ops R) w (a ∷ b ∷ c ∷ d ∷ []) (e ∷ f ∷ g ∷ h ∷ []) ≡ binomial_mul (ops R) w (e ∷ f ∷ g ∷ h ∷ []) (a ∷ b ∷ c ∷ d ∷ [])
 mul_comm_at R w a b c d e f g h =
-    ring_list R (a ∷ b ∷ c ∷ d ∷ e ∷ f ∷ g ∷ h ∷ R.nil ∷ R.nil ∷ R.nil ∷ R.nil ∷ w ∷ [])
+    ring_list R (a ∷ b ∷ c ∷ d ∷ e ∷ f ∷ g ∷ h ∷ R.zero ∷ R.zero ∷ R.zero ∷ R.zero ∷ w ∷ [])
     (wide (vars 0 4) (vars 4 4)) (wide (vars 4 4) (vars 0 4)) refl
 
 -- x times the list, by the list of x as a constant
 scale_at : {A : Type 0} (R : CommRing A) (w x a b c d : A)
     → binomial_mul (ops R) w (constant_four (ops R) x) (a ∷ b ∷ c ∷ d ∷ []) ≡ poly_scale (ops R) x (a ∷ b ∷ c ∷ d ∷ [])
 scale_at R w x a b c d =
-    ring_list R (a ∷ b ∷ c ∷ d ∷ x ∷ R.nil ∷ R.nil ∷ R.nil ∷ R.nil ∷ R.nil ∷ R.nil ∷ R.nil ∷ w ∷ [])
+    ring_list R (a ∷ b ∷ c ∷ d ∷ x ∷ R.zero ∷ R.zero ∷ R.zero ∷ R.zero ∷ R.zero ∷ R.zero ∷ R.zero ∷ w ∷ [])
     (wide (constant_four expr_ops (var 4)) (vars 0 4)) (poly_scale expr_ops (var 4) (vars 0 4)) refl
 
 one_at : {A : Type 0} (R : CommRing A) (w a b c d : A)
     → binomial_mul (ops R) w (a ∷ b ∷ c ∷ d ∷ []) (constant_four (ops R) R.one) ≡ a ∷ b ∷ c ∷ d ∷ []
 one_at R w a b c d =
-    ring_list R (a ∷ b ∷ c ∷ d ∷ R.nil ∷ R.nil ∷ R.nil ∷ R.nil ∷ R.nil ∷ R.nil ∷ R.nil ∷ R.nil ∷ w ∷ [])
+    ring_list R (a ∷ b ∷ c ∷ d ∷ R.zero ∷ R.zero ∷ R.zero ∷ R.zero ∷ R.zero ∷ R.zero ∷ R.zero ∷ R.zero ∷ w ∷ [])
     (wide (vars 0 4) (constant_four expr_ops unit)) (vars 0 4) refl
 
 add_assoc_at : {A : Type 0} (R : CommRing A) (a b c d e f g h i j k l : A)
@@ -72,12 +72,12 @@ add_comm_at R a b c d e f g h =
     ring_list R (a ∷ b ∷ c ∷ d ∷ e ∷ f ∷ g ∷ h ∷ []) (sum (vars 0 4) (vars 4 4)) (sum (vars 4 4) (vars 0 4)) refl
 
 add_nil_at : {A : Type 0} (R : CommRing A) (a b c d : A)
-    → poly_add (ops R) (a ∷ b ∷ c ∷ d ∷ []) (constant_four (ops R) R.nil) ≡ a ∷ b ∷ c ∷ d ∷ []
+    → poly_add (ops R) (a ∷ b ∷ c ∷ d ∷ []) (constant_four (ops R) R.zero) ≡ a ∷ b ∷ c ∷ d ∷ []
 add_nil_at R a b c d =
     ring_list R (a ∷ b ∷ c ∷ d ∷ []) (sum (vars 0 4) (constant_four expr_ops nought)) (vars 0 4) refl
 
 add_neg_at : {A : Type 0} (R : CommRing A) (a b c d : A)
-    → poly_add (ops R) (a ∷ b ∷ c ∷ d ∷ []) (poly_neg (ops R) (a ∷ b ∷ c ∷ d ∷ [])) ≡ constant_four (ops R) R.nil
+    → poly_add (ops R) (a ∷ b ∷ c ∷ d ∷ []) (poly_neg (ops R) (a ∷ b ∷ c ∷ d ∷ [])) ≡ constant_four (ops R) R.zero
 add_neg_at R a b c d =
     ring_list R (a ∷ b ∷ c ∷ d ∷ []) (sum (vars 0 4) (poly_neg expr_ops (vars 0 4))) (constant_four expr_ops nought) refl
 
@@ -155,12 +155,12 @@ four_add_comm R p q hp hq =
     add_comm_at R a b c d e f g h) q hq) p hp
 
 pub four_add_nil : {A : Type 0} (R : CommRing A) (p : List A) → length p ≡ 4
-    → poly_add (ops R) p (constant_four (ops R) R.nil) ≡ p
-four_add_nil R p hp = by_four (λ y. poly_add (ops R) y (constant_four (ops R) R.nil) ≡ y) (λ a b c d. add_nil_at R a b c d) p hp
+    → poly_add (ops R) p (constant_four (ops R) R.zero) ≡ p
+four_add_nil R p hp = by_four (λ y. poly_add (ops R) y (constant_four (ops R) R.zero) ≡ y) (λ a b c d. add_nil_at R a b c d) p hp
 
 pub four_add_neg : {A : Type 0} (R : CommRing A) (p : List A) → length p ≡ 4
-    → poly_add (ops R) p (poly_neg (ops R) p) ≡ constant_four (ops R) R.nil
-four_add_neg R p hp = by_four (λ y. poly_add (ops R) y (poly_neg (ops R) y) ≡ constant_four (ops R) R.nil) (λ a b c d. add_neg_at R a b c d) p hp
+    → poly_add (ops R) p (poly_neg (ops R) p) ≡ constant_four (ops R) R.zero
+four_add_neg R p hp = by_four (λ y. poly_add (ops R) y (poly_neg (ops R) y) ≡ constant_four (ops R) R.zero) (λ a b c d. add_neg_at R a b c d) p hp
 
 -- ---- the product as the code writes it
 
@@ -182,7 +182,7 @@ four_rows R w p e f g h =
 rows_at : {A : Type 0} (R : CommRing A) (w a b c d e f g h : A)
     → four_rows (ops R) w (a ∷ b ∷ c ∷ d ∷ []) e f g h ≡ binomial_mul (ops R) w (a ∷ b ∷ c ∷ d ∷ []) (e ∷ f ∷ g ∷ h ∷ [])
 rows_at R w a b c d e f g h =
-    ring_list R (a ∷ b ∷ c ∷ d ∷ e ∷ f ∷ g ∷ h ∷ R.nil ∷ R.nil ∷ R.nil ∷ R.nil ∷ w ∷ [])
+    ring_list R (a ∷ b ∷ c ∷ d ∷ e ∷ f ∷ g ∷ h ∷ R.zero ∷ R.zero ∷ R.zero ∷ R.zero ∷ w ∷ [])
     (four_rows expr_ops (var 12) (vars 0 4) (var 4) (var 5) (var 6) (var 7))
     (wide (vars 0 4) (vars 4 4)) refl
 

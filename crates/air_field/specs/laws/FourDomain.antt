@@ -5,7 +5,7 @@ use Rattle.air_field.specs.Ring.{CommRing, minus}
 use Rattle.air_field.specs.RingOps.{ops}
 use Rattle.air_field.specs.Domain.{IsDomain, IsNoRatio}
 use Rattle.air_field.specs.Coefficients.{binomial_mul, constant_four, poly_scale}
-use Rattle.air_field.specs.laws.Ring.{nil_add, mul_nil, nil_mul, ring_rules}
+use Rattle.air_field.specs.laws.Ring.{zero_add, mul_zero, zero_mul, ring_rules}
 use Rattle.air_field.specs.laws.RingSolver.{var, plus, times, less, opp, nought, expr_ops, vars, ring_list}
 use Rattle.air_field.specs.laws.FourCoefficients.{by_four, four_mul_assoc, four_mul_comm, four_scale}
 
@@ -34,10 +34,10 @@ module _ {A : Type 0} (R : CommRing A) (w : A) where
   -- what it is multiplied by to give its norm
   abbrev pub adjugate : A → A → A → A → List A
   adjugate a b c d =
-      binomial_mul (ops R) w (a ∷ R.neg b ∷ c ∷ R.neg d ∷ []) (even a b c d ∷ R.nil ∷ R.neg (odd a b c d) ∷ R.nil ∷ [])
+      binomial_mul (ops R) w (a ∷ R.neg b ∷ c ∷ R.neg d ∷ []) (even a b c d ∷ R.zero ∷ R.neg (odd a b c d) ∷ R.zero ∷ [])
 
   pub first_product : (a b c d : A) → binomial_mul (ops R) w (a ∷ b ∷ c ∷ d ∷ []) (a ∷ R.neg b ∷ c ∷ R.neg d ∷ [])
-      ≡ even a b c d ∷ R.nil ∷ odd a b c d ∷ R.nil ∷ []
+      ≡ even a b c d ∷ R.zero ∷ odd a b c d ∷ R.zero ∷ []
   first_product a b c d =
       ring_list R (a ∷ b ∷ c ∷ d ∷ w ∷ [])
       (binomial_mul expr_ops (var 4) (vars 0 4) (var 0 ∷ opp (var 1) ∷ var 2 ∷ opp (var 3) ∷ []))
@@ -48,7 +48,7 @@ module _ {A : Type 0} (R : CommRing A) (w : A) where
       ∷ [])
       refl
 
-  second_product : (e o : A) → binomial_mul (ops R) w (e ∷ R.nil ∷ o ∷ R.nil ∷ []) (e ∷ R.nil ∷ R.neg o ∷ R.nil ∷ []) ≡ constant_four (ops R) (norm_two e o)
+  second_product : (e o : A) → binomial_mul (ops R) w (e ∷ R.zero ∷ o ∷ R.zero ∷ []) (e ∷ R.zero ∷ R.neg o ∷ R.zero ∷ []) ≡ constant_four (ops R) (norm_two e o)
   second_product e o =
       ring_list R (e ∷ o ∷ w ∷ [])
       (binomial_mul expr_ops (var 2) (var 0 ∷ nought ∷ var 1 ∷ nought ∷ []) (var 0 ∷ nought ∷ opp (var 1) ∷ nought ∷ []))
@@ -57,13 +57,13 @@ module _ {A : Type 0} (R : CommRing A) (w : A) where
 
   pub times_adjugate : (a b c d : A) → binomial_mul (ops R) w (a ∷ b ∷ c ∷ d ∷ []) (adjugate a b c d) ≡ constant_four (ops R) (norm a b c d)
   times_adjugate a b c d =
-      let second = even a b c d ∷ R.nil ∷ R.neg (odd a b c d) ∷ R.nil ∷ [] in
+      let second = even a b c d ∷ R.zero ∷ R.neg (odd a b c d) ∷ R.zero ∷ [] in
       sym (four_mul_assoc R w (a ∷ b ∷ c ∷ d ∷ []) (a ∷ R.neg b ∷ c ∷ R.neg d ∷ []) second refl refl refl)
       ∙ (ap (λ l. binomial_mul (ops R) w l second) (first_product a b c d) ∙ second_product (even a b c d) (odd a b c d))
 
   -- what gives zero with the polynomial gives zero with its norm
-  norm_times : (a b c d : A) (q : List A) → length q ≡ 4 → binomial_mul (ops R) w (a ∷ b ∷ c ∷ d ∷ []) q ≡ constant_four (ops R) R.nil
-      → poly_scale (ops R) (norm a b c d) q ≡ poly_scale (ops R) R.nil (adjugate a b c d)
+  norm_times : (a b c d : A) (q : List A) → length q ≡ 4 → binomial_mul (ops R) w (a ∷ b ∷ c ∷ d ∷ []) q ≡ constant_four (ops R) R.zero
+      → poly_scale (ops R) (norm a b c d) q ≡ poly_scale (ops R) R.zero (adjugate a b c d)
   norm_times a b c d q hq h =
       let p = a ∷ b ∷ c ∷ d ∷ [] in
       sym (four_scale R w (norm a b c d) q hq)
@@ -72,14 +72,14 @@ module _ {A : Type 0} (R : CommRing A) (w : A) where
       ∙ (ap (binomial_mul (ops R) w p) (four_mul_comm R w (adjugate a b c d) q refl hq)
       ∙ (sym (four_mul_assoc R w p q (adjugate a b c d) refl hq refl)
       ∙ (ap (λ l. binomial_mul (ops R) w l (adjugate a b c d)) h
-      ∙ four_scale R w R.nil (adjugate a b c d) refl)))))
+      ∙ four_scale R w R.zero (adjugate a b c d) refl)))))
 
   -- ---- the norm is zero only of zero
 
-  pub same_of_minus : (x y : A) → minus R x y ≡ R.nil → x ≡ y
+  pub same_of_minus : (x y : A) → minus R x y ≡ R.zero → x ≡ y
   same_of_minus x y h =
       let back : x ≡ R.add (minus R x y) y = simp ring_rules in
-      back ∙ (ap (λ z. R.add z y) h ∙ nil_add R y)
+      back ∙ (ap (λ z. R.add z y) h ∙ zero_add R y)
 
   square-norm_two : (a c : A) → R.mul (norm_two a c) (norm_two a c) ≡ norm_two (R.add (R.mul a a) (R.mul w (R.mul c c))) (R.add (R.mul a c) (R.mul a c))
   square-norm_two a c = simp ring_rules
@@ -88,78 +88,78 @@ module _ {A : Type 0} (R : CommRing A) (w : A) where
   turned-norm_two b d = simp ring_rules
 
   module _ (domain : IsDomain R) (no_ratio : IsNoRatio R w) (root : A) (minus_one : R.mul root root ≡ R.neg R.one) where
-    square_nil : (x : A) → R.mul x x ≡ R.nil → x ≡ R.nil
+    square_nil : (x : A) → R.mul x x ≡ R.zero → x ≡ R.zero
     square_nil x h = elim (domain x x h) [ inl e ↦ e | inr e ↦ e ]
 
-    both_nil : (x y : A) → R.mul x x ≡ R.mul w (R.mul y y) → (x ≡ R.nil) × (y ≡ R.nil)
+    both_nil : (x y : A) → R.mul x x ≡ R.mul w (R.mul y y) → (x ≡ R.zero) × (y ≡ R.zero)
     both_nil x y h =
-        let e : y ≡ R.nil = no_ratio x y h in
-        (square_nil x (h ∙ (ap (λ z. R.mul w (R.mul z z)) e ∙ (ap (R.mul w) (mul_nil R R.nil) ∙ mul_nil R w))), e)
+        let e : y ≡ R.zero = no_ratio x y h in
+        (square_nil x (h ∙ (ap (λ z. R.mul w (R.mul z z)) e ∙ (ap (R.mul w) (mul_zero R R.zero) ∙ mul_zero R w))), e)
 
-    norm_two-nil : (x y : A) → norm_two x y ≡ R.nil → (x ≡ R.nil) × (y ≡ R.nil)
+    norm_two-nil : (x y : A) → norm_two x y ≡ R.zero → (x ≡ R.zero) × (y ≡ R.zero)
     norm_two-nil x y h = both_nil x y (same_of_minus (R.mul x x) (R.mul w (R.mul y y)) h)
 
     -- - w y^2 is w (root y)^2
-    both_nil_neg : (x y : A) → R.mul x x ≡ R.neg (R.mul w (R.mul y y)) → (x ≡ R.nil) × (y ≡ R.nil)
+    both_nil_neg : (x y : A) → R.mul x x ≡ R.neg (R.mul w (R.mul y y)) → (x ≡ R.zero) × (y ≡ R.zero)
     both_nil_neg x y h =
         let moved : R.mul w (R.mul (R.mul root y) (R.mul root y)) ≡ R.mul (R.mul root root) (R.mul w (R.mul y y)) = simp ring_rules in
         let turned : R.mul (R.neg R.one) (R.mul w (R.mul y y)) ≡ R.neg (R.mul w (R.mul y y)) = simp ring_rules in
-        let both : (x ≡ R.nil) × (R.mul root y ≡ R.nil) = both_nil x (R.mul root y) (h ∙ sym (moved ∙ (ap (λ z. R.mul z (R.mul w (R.mul y y))) minus_one ∙ turned))) in
+        let both : (x ≡ R.zero) × (R.mul root y ≡ R.zero) = both_nil x (R.mul root y) (h ∙ sym (moved ∙ (ap (λ z. R.mul z (R.mul w (R.mul y y))) minus_one ∙ turned))) in
         let own : y ≡ R.neg (R.mul (R.neg R.one) y) = simp ring_rules in
-        let own_nil : R.neg (R.mul root R.nil) ≡ R.nil = simp ring_rules in (
+        let own_nil : R.neg (R.mul root R.zero) ≡ R.zero = simp ring_rules in (
           both.0,
           own ∙ (ap (λ z. R.neg (R.mul z y)) (sym minus_one) ∙ (ap R.neg (R.mul_assoc root root y) ∙ (ap (λ z. R.neg (R.mul root z)) both.1 ∙ own_nil))),
         )
 
     -- (a + c X^2)^2 is then X^2 (b + d X^2)^2, and so are the norms of both sides
-    pub norm_nil : (a b c d : A) → norm a b c d ≡ R.nil → a ∷ b ∷ c ∷ d ∷ [] ≡ constant_four (ops R) R.nil
+    pub norm_nil : (a b c d : A) → norm a b c d ≡ R.zero → a ∷ b ∷ c ∷ d ∷ [] ≡ constant_four (ops R) R.zero
     norm_nil a b c d h =
-        let parts : (even a b c d ≡ R.nil) × (odd a b c d ≡ R.nil) = norm_two-nil (even a b c d) (odd a b c d) h in
-        let both : (norm_two a c ≡ R.nil) × (norm_two b d ≡ R.nil) =
+        let parts : (even a b c d ≡ R.zero) × (odd a b c d ≡ R.zero) = norm_two-nil (even a b c d) (odd a b c d) h in
+        let both : (norm_two a c ≡ R.zero) × (norm_two b d ≡ R.zero) =
         both_nil_neg (norm_two a c) (norm_two b d)
         (square-norm_two a c ∙ (ap₂ norm_two (same_of_minus _ _ parts.0) (same_of_minus _ _ parts.1) ∙ turned-norm_two b d)) in
-        let first : (a ≡ R.nil) × (c ≡ R.nil) = norm_two-nil a c both.0 in
-        let second : (b ≡ R.nil) × (d ≡ R.nil) = norm_two-nil b d both.1 in
+        let first : (a ≡ R.zero) × (c ≡ R.zero) = norm_two-nil a c both.0 in
+        let second : (b ≡ R.zero) × (d ≡ R.zero) = norm_two-nil b d both.1 in
         λ i. first.0 i ∷ second.0 i ∷ first.1 i ∷ second.1 i ∷ []
 
-    split : (n x z : A) → R.mul n x ≡ R.mul R.nil z → (n ≡ R.nil) ⊎ (x ≡ R.nil)
-    split n x z h = domain n x (h ∙ nil_mul R z)
+    split : (n x z : A) → R.mul n x ≡ R.mul R.zero z → (n ≡ R.zero) ⊎ (x ≡ R.zero)
+    split n x z h = domain n x (h ∙ zero_mul R z)
 
-    all_nil : (n e f g h p q r s : A) → R.mul n e ∷ R.mul n f ∷ R.mul n g ∷ R.mul n h ∷ [] ≡ R.mul R.nil p ∷ R.mul R.nil q ∷ R.mul R.nil r ∷ R.mul R.nil s ∷ []
-        → (n ≡ R.nil) ⊎ (e ∷ f ∷ g ∷ h ∷ [] ≡ constant_four (ops R) R.nil)
+    all_nil : (n e f g h p q r s : A) → R.mul n e ∷ R.mul n f ∷ R.mul n g ∷ R.mul n h ∷ [] ≡ R.mul R.zero p ∷ R.mul R.zero q ∷ R.mul R.zero r ∷ R.mul R.zero s ∷ []
+        → (n ≡ R.zero) ⊎ (e ∷ f ∷ g ∷ h ∷ [] ≡ constant_four (ops R) R.zero)
     all_nil n e f g h p q r s k =
         elim (both_or (split n e p cc) (both_or (split n f q cc) (both_or (split n g r cc) (split n h s cc)))) [
           | inl z ↦ inl z
           | inr all ↦ inr (λ i. all.0 i ∷ all.1.0 i ∷ all.1.1.0 i ∷ all.1.1.1 i ∷ [])
         ]
 
-    four_domain_at : (a b c d e f g h : A) → binomial_mul (ops R) w (a ∷ b ∷ c ∷ d ∷ []) (e ∷ f ∷ g ∷ h ∷ []) ≡ constant_four (ops R) R.nil
-        → (a ∷ b ∷ c ∷ d ∷ [] ≡ constant_four (ops R) R.nil) ⊎ (e ∷ f ∷ g ∷ h ∷ [] ≡ constant_four (ops R) R.nil)
+    four_domain_at : (a b c d e f g h : A) → binomial_mul (ops R) w (a ∷ b ∷ c ∷ d ∷ []) (e ∷ f ∷ g ∷ h ∷ []) ≡ constant_four (ops R) R.zero
+        → (a ∷ b ∷ c ∷ d ∷ [] ≡ constant_four (ops R) R.zero) ⊎ (e ∷ f ∷ g ∷ h ∷ [] ≡ constant_four (ops R) R.zero)
     four_domain_at a b c d e f g h k =
         elim (all_nil (norm a b c d) e f g h _ _ _ _ (norm_times a b c d (e ∷ f ∷ g ∷ h ∷ []) refl k)) [
           | inl n ↦ inl (norm_nil a b c d n)
           | inr z ↦ inr z
         ]
 
-    pub four_domain : (p q : List A) → length p ≡ 4 → length q ≡ 4 → binomial_mul (ops R) w p q ≡ constant_four (ops R) R.nil
-        → (p ≡ constant_four (ops R) R.nil) ⊎ (q ≡ constant_four (ops R) R.nil)
+    pub four_domain : (p q : List A) → length p ≡ 4 → length q ≡ 4 → binomial_mul (ops R) w p q ≡ constant_four (ops R) R.zero
+        → (p ≡ constant_four (ops R) R.zero) ⊎ (q ≡ constant_four (ops R) R.zero)
     four_domain p q hp hq =
         by_four
-        (λ l. binomial_mul (ops R) w l q ≡ constant_four (ops R) R.nil → (l ≡ constant_four (ops R) R.nil) ⊎ (q ≡ constant_four (ops R) R.nil))
+        (λ l. binomial_mul (ops R) w l q ≡ constant_four (ops R) R.zero → (l ≡ constant_four (ops R) R.zero) ⊎ (q ≡ constant_four (ops R) R.zero))
         (λ a b c d.
         by_four
-        (λ m. binomial_mul (ops R) w (a ∷ b ∷ c ∷ d ∷ []) m ≡ constant_four (ops R) R.nil → (a ∷ b ∷ c ∷ d ∷ [] ≡ constant_four (ops R) R.nil) ⊎ (m ≡ constant_four (ops R) R.nil))
+        (λ m. binomial_mul (ops R) w (a ∷ b ∷ c ∷ d ∷ []) m ≡ constant_four (ops R) R.zero → (a ∷ b ∷ c ∷ d ∷ [] ≡ constant_four (ops R) R.zero) ⊎ (m ≡ constant_four (ops R) R.zero))
         (λ e f g h. four_domain_at a b c d e f g h) q hq) p hp
 
     scaled_inverse : (n v : A) → R.mul n v ≡ R.one → poly_scale (ops R) n (constant_four (ops R) v) ≡ constant_four (ops R) R.one
-    scaled_inverse n v e = λ i. e i ∷ mul_nil R n i ∷ mul_nil R n i ∷ mul_nil R n i ∷ []
+    scaled_inverse n v e = λ i. e i ∷ mul_zero R n i ∷ mul_zero R n i ∷ mul_zero R n i ∷ []
 
     -- a polynomial that isn't zero has an inverse, where the base's elements have
-    module _ (inv : A → A) (inverse : (x : A) → (x ≡ R.nil → ⊥) → R.mul x (inv x) ≡ R.one) where
+    module _ (inv : A → A) (inverse : (x : A) → (x ≡ R.zero → ⊥) → R.mul x (inv x) ≡ R.one) where
       abbrev four_inverse_at : A → A → A → A → List A
       four_inverse_at a b c d = binomial_mul (ops R) w (adjugate a b c d) (constant_four (ops R) (inv (norm a b c d)))
 
-      times_inverse : (a b c d : A) → (a ∷ b ∷ c ∷ d ∷ [] ≡ constant_four (ops R) R.nil → ⊥)
+      times_inverse : (a b c d : A) → (a ∷ b ∷ c ∷ d ∷ [] ≡ constant_four (ops R) R.zero → ⊥)
           → binomial_mul (ops R) w (a ∷ b ∷ c ∷ d ∷ []) (four_inverse_at a b c d) ≡ constant_four (ops R) R.one
       times_inverse a b c d some =
           let n = norm a b c d in
@@ -168,9 +168,9 @@ module _ {A : Type 0} (R : CommRing A) (w : A) where
           ∙ (four_scale R w n (constant_four (ops R) (inv n)) refl
           ∙ scaled_inverse n (inv n) (inverse n (λ e. some (norm_nil a b c d e)))))
 
-      pub four_inverse : (p : List A) → length p ≡ 4 → (p ≡ constant_four (ops R) R.nil → ⊥)
+      pub four_inverse : (p : List A) → length p ≡ 4 → (p ≡ constant_four (ops R) R.zero → ⊥)
           → (q : List A) × (length q ≡ 4) × (binomial_mul (ops R) w p q ≡ constant_four (ops R) R.one)
       four_inverse p hp =
           by_four
-          (λ l. (l ≡ constant_four (ops R) R.nil → ⊥) → (q : List A) × (length q ≡ 4) × (binomial_mul (ops R) w l q ≡ constant_four (ops R) R.one))
+          (λ l. (l ≡ constant_four (ops R) R.zero → ⊥) → (q : List A) × (length q ≡ 4) × (binomial_mul (ops R) w l q ≡ constant_four (ops R) R.one))
           (λ a b c d some. (four_inverse_at a b c d, refl, times_inverse a b c d some)) p hp

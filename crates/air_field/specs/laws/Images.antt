@@ -5,10 +5,10 @@ use Rattle.std.proofs.Common.{sym, ◌∙◌, ap, inl, inr, arith, add-suc, add-
 use Rattle.std.proofs.lemmas.Bool.{cases_lt}
 use Rattle.std.proofs.Math.Nat.{le_of_dvd, mul-suc, mul-zero, pow-zero, pow-suc, eq-zero-or-pos, add-sub_of_le}
 use Rattle.air_field.specs.Ring.{CommRing, image}
-use Rattle.air_field.specs.laws.Ring.{add_cancel, nil_add, mul_nil, ring_rules}
+use Rattle.air_field.specs.laws.Ring.{add_cancel, zero_add, mul_zero, ring_rules}
 use Rattle.air_field.specs.Powers.{power}
 
-pub image-zero : {A : Type 0} (R : CommRing A) → image R 0 ≡ R.nil
+pub image-zero : {A : Type 0} (R : CommRing A) → image R 0 ≡ R.zero
 unfolding image
 image-zero R = refl
 
@@ -18,13 +18,13 @@ image-suc R n = refl
 
 module _ {A : Type 0} (R : CommRing A) where
   pub image-one : image R 1 ≡ R.one
-  image-one = image-suc R 0 ∙ (ap (λ x. R.add x R.one) (image-zero R) ∙ nil_add R R.one)
+  image-one = image-suc R 0 ∙ (ap (λ x. R.add x R.one) (image-zero R) ∙ zero_add R R.one)
 
   pub image-two : image R 2 ≡ R.add R.one R.one
   image-two = image-suc R 1 ∙ ap (λ x. R.add x R.one) image-one
 
   pub image-add : (m n : ℕ) → image R (m + n) ≡ R.add (image R m) (image R n)
-  image-add m zero = ap (image R) (add-zero m) ∙ (sym (R.add_nil (image R m)) ∙ ap (R.add (image R m)) (sym (image-zero R)))
+  image-add m zero = ap (image R) (add-zero m) ∙ (sym (R.add_zero (image R m)) ∙ ap (R.add (image R m)) (sym (image-zero R)))
   image-add m (suc n) =
       ap (image R) (add-suc m n)
       ∙ (image-suc R (m + n)
@@ -36,7 +36,7 @@ module _ {A : Type 0} (R : CommRing A) where
   mul_step x y = simp ring_rules
 
   pub image-mul : (m n : ℕ) → image R (m * n) ≡ R.mul (image R m) (image R n)
-  image-mul m zero = ap (image R) (mul-zero m) ∙ (image-zero R ∙ (sym (mul_nil R (image R m)) ∙ ap (R.mul (image R m)) (sym (image-zero R))))
+  image-mul m zero = ap (image R) (mul-zero m) ∙ (image-zero R ∙ (sym (mul_zero R (image R m)) ∙ ap (R.mul (image R m)) (sym (image-zero R))))
   image-mul m (suc n) =
       ap (image R) (mul-suc m n)
       ∙ (image-add (m * n) m
@@ -55,13 +55,13 @@ module _ {A : Type 0} (R : CommRing A) where
 
 -- the image of n is zero exactly if p divides n
 abbrev pub HasCharacteristic : {A : Type 0} → CommRing A → ℕ → Type 0
-HasCharacteristic R p = (n : ℕ) → (image R n ≡ R.nil) ↔ (p ∣ n)
+HasCharacteristic R p = (n : ℕ) → (image R n ≡ R.zero) ↔ (p ∣ n)
 
 beyond : (p n : ℕ) → n < p → p ≤ n → ⊥
 beyond p n h k = omega arith
 
 module _ {A : Type 0} (R : CommRing A) (p : ℕ) (has : HasCharacteristic R p) where
-  pub zero_of_image : (n : ℕ) → n < p → image R n ≡ R.nil → n ≡ 0
+  pub zero_of_image : (n : ℕ) → n < p → image R n ≡ R.zero → n ≡ 0
   zero_of_image n low h =
       elim (eq-zero-or-pos n) [ inl e ↦ e | inr pos ↦ absurd (beyond p n low (le_of_dvd pos ((has n).0 h))) ]
 
@@ -69,8 +69,8 @@ module _ {A : Type 0} (R : CommRing A) (p : ℕ) (has : HasCharacteristic R p) w
   same_below m n low le e =
       let rest : n - m ≡ 0 =
       zero_of_image (n - m) (omega arith)
-      (add_cancel R (image R m) (image R (n - m)) R.nil
-      (sym (image-add R m (n - m)) ∙ (ap (image R) (add-sub_of_le le) ∙ (sym e ∙ sym (R.add_nil (image R m)))))) in
+      (add_cancel R (image R m) (image R (n - m)) R.zero
+      (sym (image-add R m (n - m)) ∙ (ap (image R) (add-sub_of_le le) ∙ (sym e ∙ sym (R.add_zero (image R m)))))) in
       omega arith
 
   -- two whole numbers below the characteristic are equal if their images are

@@ -19,15 +19,15 @@ use Rattle.air_field.specs.laws.SamePolynomial.{same_list}
 
 module _ {A : Type 0} (R : CommRing A) (domain : IsDomain R) where
   -- x y is 1 where x (y x) is x
-  one_of : (x y : A) → R.mul (R.mul y x) x ≡ x → (x ≡ R.nil → ⊥) → R.mul x y ≡ R.one
+  one_of : (x y : A) → R.mul (R.mul y x) x ≡ x → (x ≡ R.zero → ⊥) → R.mul x y ≡ R.one
   one_of x y h some =
       let apart : R.mul x (minus R (R.mul x y) R.one) ≡ minus R (R.mul (R.mul y x) x) x = simp ring_rules in
       elim (domain x (minus R (R.mul x y) R.one) (apart ∙ (ap (λ z. minus R z x) h ∙ R.add_neg x))) [
         | inl e ↦ absurd (some e)
-        | inr e ↦ same_of_minus R R.nil (R.mul x y) R.one e
+        | inr e ↦ same_of_minus R R.zero (R.mul x y) R.one e
       ]
 
-  by_power : (x : A) (n p : ℕ) → suc (suc n) ≡ p → power R x p ≡ x → (x ≡ R.nil → ⊥) → R.mul x (power R x n) ≡ R.one
+  by_power : (x : A) (n p : ℕ) → suc (suc n) ≡ p → power R x p ≡ x → (x ≡ R.zero → ⊥) → R.mul x (power R x n) ≡ R.one
   by_power x n p e fermat some = one_of x (power R x n) (ap (power R x) e ∙ fermat) some
 
 pub modular_inverse : {A : Type 0} {p : ℕ} (m : Modular A p) → IsPrime p → (x : A) → (x ≡ m.class 0 → ⊥) → (modular_ring m).mul x (power (modular_ring m) x (p - 2)) ≡ m.class 1

@@ -11,10 +11,10 @@ use Rattle.air_field.specs.Prime.{IsPrime}
 use Rattle.air_field.specs.laws.Fermat.{fermat}
 use Rattle.air_field.specs.laws.Modular.{class_of, class-add, two_is_sum, domain}
 use Rattle.air_field.specs.laws.NoRatio.{no_ratio}
-use Rattle.air_field.specs.laws.Order.{Same, same_add, same_mul, same_if, two_is_not_zero, pow_times}
+use Rattle.air_field.specs.laws.Order.{SameModulo, same_add, same_mul, same_if, two_is_not_zero, pow_times}
 use Rattle.air_field.specs.laws.Ring.{neg_unique}
 
-power_modulo-is : (digits b e p : ℕ) → Same p (power_modulo digits b e p) (b ^ e)
+power_modulo-is : (digits b e p : ℕ) → SameModulo p (power_modulo digits b e p) (b ^ e)
 power_modulo-is zero b e p = refl
 power_modulo-is (suc digits) b e p =
     let split : e % 16 + e / 16 * 16 ≡ e = omega arith in
@@ -23,7 +23,7 @@ power_modulo-is (suc digits) b e p =
     ∙ same_if p _ _ (ap (λ x. b ^ (e % 16) * x) (pow_times b 16 (e / 16)) ∙ (sym (pow-add b (e % 16) (e / 16 * 16)) ∙ ap (λ x. b ^ x) split)))
 
 module _ {A : Type 0} {p : ℕ} (m : Modular A p) where
-  same_classes : (a b : ℕ) → Same p a b → m.class a ≡ m.class b
+  same_classes : (a b : ℕ) → SameModulo p a b → m.class a ≡ m.class b
   same_classes a b h = m.same _ _ (m.value_class a ∙ (h ∙ sym (m.value_class b)))
 
   class-mul : (a b : ℕ) → m.class (a * b) ≡ modular_mul m (m.class a) (m.class b)
@@ -45,7 +45,7 @@ module _ {A : Type 0} {p : ℕ} (m : Modular A p) where
         ∙ (same_classes (m.value x ^ p) (m.value x) (fermat p (m.value x) prime)
         ∙ class_of m x))
 
-    is_last : (n : ℕ) → Same p (n + 1) 0 → m.class n ≡ (modular_ring m).neg (m.class 1)
+    is_last : (n : ℕ) → SameModulo p (n + 1) 0 → m.class n ≡ (modular_ring m).neg (m.class 1)
     is_last n h =
         neg_unique (modular_ring m) (m.class 1) (m.class n)
         ((modular_ring m).add_comm (m.class 1) (m.class n) ∙ (sym (class-add m n 1) ∙ same_classes (n + 1) 0 h))
@@ -54,9 +54,9 @@ module _ {A : Type 0} {p : ℕ} (m : Modular A p) where
     odd_if big h = two_is_not_zero p big (sym (m.value_class 2) ∙ (ap m.value (two_is_sum m ∙ h) ∙ m.value_class 0))
 
     module _ (w : ℕ) (h : IsNoSquare p w) where
-      last : Same p (w ^ (p / 4) * w ^ (p / 4) + 1) 0
+      last : SameModulo p (w ^ (p / 4) * w ^ (p / 4) + 1) 0
       last =
-          let own : Same p (power_modulo 16 w (p / 4) p) (w ^ (p / 4)) = power_modulo-is 16 w (p / 4) p in
+          let own : SameModulo p (power_modulo 16 w (p / 4) p) (w ^ (p / 4)) = power_modulo-is 16 w (p / 4) p in
           sym (same_add p _ _ 1 1 (same_mul p _ _ _ _ own own) refl) ∙ (h.last ∙ sym (zero-mod p))
 
       half : power (modular_ring m) (m.class w) (p / 4 + p / 4) ≡ (modular_ring m).neg (m.class 1)

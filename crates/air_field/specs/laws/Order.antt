@@ -15,10 +15,10 @@ use Rattle.air_field.specs.laws.Trial.{low_cofactor}
 
 -- ---- numbers that are the same modulo d
 
-abbrev pub Same : ℕ → ℕ → ℕ → Type 0
-Same d x y = x % d ≡ y % d
+abbrev pub SameModulo : ℕ → ℕ → ℕ → Type 0
+SameModulo d x y = x % d ≡ y % d
 
-pub same_mul : (d x u y v : ℕ) → Same d x u → Same d y v → Same d (x * y) (u * v)
+pub same_mul : (d x u y v : ℕ) → SameModulo d x u → SameModulo d y v → SameModulo d (x * y) (u * v)
 same_mul d x u y v p q =
     sym (mul-mod_first x y d)
     ∙ (ap (λ s. (s * y) % d) p
@@ -27,7 +27,7 @@ same_mul d x u y v p q =
     ∙ (ap (λ s. (u * s) % d) q
     ∙ mul-mod_second u v d))))
 
-pub same_add : (d x u y v : ℕ) → Same d x u → Same d y v → Same d (x + y) (u + v)
+pub same_add : (d x u y v : ℕ) → SameModulo d x u → SameModulo d y v → SameModulo d (x + y) (u + v)
 same_add d x u y v p q =
     sym (mod-add-mod x d y)
     ∙ (ap (λ s. (s + y) % d) p
@@ -36,22 +36,22 @@ same_add d x u y v p q =
     ∙ (ap (λ s. (u + s) % d) q
     ∙ add-mod-mod u v d))))
 
-pub same_if : (d x y : ℕ) → x ≡ y → Same d x y
+pub same_if : (d x y : ℕ) → x ≡ y → SameModulo d x y
 same_if d x y e = ap (λ s. s % d) e
 
 -- ---- powers of a number that is one below a multiple of d
 
 -- x c + (c + 1) is (x + 1) c + 1
-last_times : (d c x : ℕ) → Same d (c + 1) 0 → Same d (x + 1) 0 → Same d (x * c) 1
+last_times : (d c x : ℕ) → SameModulo d (c + 1) 0 → SameModulo d (x + 1) 0 → SameModulo d (x * c) 1
 last_times d c x last low =
-    let left : Same d (x * c + 0) (x * c + (c + 1)) = same_add d (x * c) (x * c) 0 (c + 1) refl (sym last) in
-    let middle : Same d (x * c + (c + 1)) ((x + 1) * c + 1) = same_if d _ _ (omega arith) in
-    let right : Same d ((x + 1) * c + 1) (0 * c + 1) = same_add d ((x + 1) * c) (0 * c) 1 1 (same_mul d (x + 1) 0 c c low refl) refl in
+    let left : SameModulo d (x * c + 0) (x * c + (c + 1)) = same_add d (x * c) (x * c) 0 (c + 1) refl (sym last) in
+    let middle : SameModulo d (x * c + (c + 1)) ((x + 1) * c + 1) = same_if d _ _ (omega arith) in
+    let right : SameModulo d ((x + 1) * c + 1) (0 * c + 1) = same_add d ((x + 1) * c) (0 * c) 1 1 (same_mul d (x + 1) 0 c c low refl) refl in
     same_if d (x * c) (x * c + 0) (omega arith) ∙ (left ∙ (middle ∙ (right ∙ same_if d (0 * c + 1) 1 (omega arith))))
 
 -- c^s is 1 at an even s, and c at an odd one
 abbrev pub Turn : ℕ → ℕ → ℕ → Type 0
-Turn d c s = ((s % 2 ≡ 0) × Same d (c ^ s) 1) ⊎ ((s % 2 ≡ 1) × Same d (c ^ s + 1) 0)
+Turn d c s = ((s % 2 ≡ 0) × SameModulo d (c ^ s) 1) ⊎ ((s % 2 ≡ 1) × SameModulo d (c ^ s + 1) 0)
 
 then_odd : (s : ℕ) → s % 2 ≡ 0 → suc s % 2 ≡ 1
 then_odd s e = omega (arith, e)
@@ -59,7 +59,7 @@ then_odd s e = omega (arith, e)
 then_even : (s : ℕ) → s % 2 ≡ 1 → suc s % 2 ≡ 0
 then_even s e = omega (arith, e)
 
-turns : (d c s : ℕ) → Same d (c + 1) 0 → Turn d c s
+turns : (d c s : ℕ) → SameModulo d (c + 1) 0 → Turn d c s
 turns d c zero last = inl (refl, same_if d (c ^ zero) 1 (pow-zero c))
 turns d c (suc s) last =
     elim (turns d c s last) [
@@ -73,12 +73,12 @@ turns d c (suc s) last =
       | inr w ↦ inl (then_even s w.0, same_if d (c ^ suc s) (c ^ s * c) (pow-suc c s) ∙ last_times d c (c ^ s) last w.1)
     ]
 
-pub two_is_not_zero : (d : ℕ) → 2 < d → Same d (1 + 1) 0 → ⊥
+pub two_is_not_zero : (d : ℕ) → 2 < d → SameModulo d (1 + 1) 0 → ⊥
 two_is_not_zero d big e =
     let same : 2 ≡ 0 = sym (mod-eq_of_lt big) ∙ (e ∙ zero-mod d) in
     omega (arith, same)
 
-even_if_one : (d c s : ℕ) → 2 < d → Same d (c + 1) 0 → Same d (c ^ s) 1 → s % 2 ≡ 0
+even_if_one : (d c s : ℕ) → 2 < d → SameModulo d (c + 1) 0 → SameModulo d (c ^ s) 1 → s % 2 ≡ 0
 even_if_one d c s big last one =
     elim (turns d c s last) [
       | inl w ↦ w.0
@@ -105,7 +105,7 @@ square_of b k = mul-pow b b (2 ^ k) ∙ sym (twice b k)
 first_power : (b : ℕ) → b ^ 1 ≡ b
 first_power b = pow-suc b 0 ∙ (ap (λ x. x * b) (pow-zero b) ∙ omega arith)
 
-pub order : (k b d t : ℕ) → 2 < d → Same d (b ^ 2 ^ k + 1) 0 → Same d (b ^ t) 1 → 2 ^ suc k ∣ t
+pub order : (k b d t : ℕ) → 2 < d → SameModulo d (b ^ 2 ^ k + 1) 0 → SameModulo d (b ^ t) 1 → 2 ^ suc k ∣ t
 order zero b d t big last one =
     dvd_of_mod-eq-zero 2 (even_if_one d b t big (ap (λ x. (x + 1) % d) (sym (first_power b)) ∙ last) one)
 order (suc k) b d t big last one =
@@ -114,7 +114,7 @@ order (suc k) b d t big last one =
     (same_if d ((b * b) ^ t) (b ^ t * b ^ t) (mul-pow b b t) ∙ same_mul d (b ^ t) 1 (b ^ t) 1 one one) in
     let q = t / 2 ^ suc k in
     let whole : q * 2 ^ suc k ≡ t = div-mul_cancel (2 ^ suc k) below in
-    let turned : Same d ((b ^ 2 ^ suc k) ^ q) 1 = same_if d _ (b ^ t) (pow_times b (2 ^ suc k) q ∙ ap (λ e. b ^ e) whole) ∙ one in
+    let turned : SameModulo d ((b ^ 2 ^ suc k) ^ q) 1 = same_if d _ (b ^ t) (pow_times b (2 ^ suc k) q ∙ ap (λ e. b ^ e) whole) ∙ one in
     let half : q / 2 * 2 ≡ q = div-mul_cancel 2 (dvd_of_mod-eq-zero 2 (even_if_one d (b ^ 2 ^ suc k) q big last turned)) in
     subst (λ x. 2 ^ suc (suc k) ∣ x) (ap (λ x. x * (q / 2)) (two-pow-succ (suc k)) ∙ (regroup (2 ^ suc k) (q / 2) q half ∙ whole))
     (dvd-mul_right (2 ^ suc (suc k)) (q / 2))
@@ -122,13 +122,13 @@ order (suc k) b d t big last one =
     regroup : (m h q : ℕ) → h * 2 ≡ q → (m + m) * h ≡ q * m
     regroup m h q e = sym (ap (λ x. x * m) (sym e) ∙ omega arith)
 
-one_at_order : (k b d : ℕ) → Same d (b ^ 2 ^ k + 1) 0 → Same d (b ^ 2 ^ suc k) 1
+one_at_order : (k b d : ℕ) → SameModulo d (b ^ 2 ^ k + 1) 0 → SameModulo d (b ^ 2 ^ suc k) 1
 one_at_order k b d last = same_if d _ _ (twice b k) ∙ last_times d (b ^ 2 ^ k) (b ^ 2 ^ k) last last
 
 -- b^n and b^i are different
-cancelled : (n b d i top : ℕ) → i < n → n < top → Same d (b ^ top) 1 → Same d (b ^ n) (b ^ i) → Same d (b ^ (n - i)) 1
+cancelled : (n b d i top : ℕ) → i < n → n < top → SameModulo d (b ^ top) 1 → SameModulo d (b ^ n) (b ^ i) → SameModulo d (b ^ (n - i)) 1
 cancelled n b d i top low high one e =
-    let left : Same d (b ^ n * b ^ (top - i)) (b ^ i * b ^ (top - i)) = same_mul d (b ^ n) (b ^ i) (b ^ (top - i)) (b ^ (top - i)) e refl in
+    let left : SameModulo d (b ^ n * b ^ (top - i)) (b ^ i * b ^ (top - i)) = same_mul d (b ^ n) (b ^ i) (b ^ (top - i)) (b ^ (top - i)) e refl in
     let right : b ^ i * b ^ (top - i) ≡ b ^ top = sym (pow-add b i (top - i)) ∙ ap (λ x. b ^ x) (omega (arith, low, high)) in
     let moved : b ^ n * b ^ (top - i) ≡ b ^ top * b ^ (n - i) =
     sym (pow-add b n (top - i)) ∙ (ap (λ x. b ^ x) (omega (arith, low, high)) ∙ pow-add b top (n - i)) in
@@ -142,7 +142,7 @@ cancelled n b d i top low high one e =
 too_short : (top n i : ℕ) → i < n → n < top → top ≤ n - i → ⊥
 too_short top n i low high long = omega (arith, low, high, long)
 
-different : (k b d n i : ℕ) → 2 < d → Same d (b ^ 2 ^ k + 1) 0 → i < n → n < 2 ^ suc k → Same d (b ^ n) (b ^ i) → ⊥
+different : (k b d n i : ℕ) → 2 < d → SameModulo d (b ^ 2 ^ k + 1) 0 → i < n → n < 2 ^ suc k → SameModulo d (b ^ n) (b ^ i) → ⊥
 different k b d n i big last low high e =
     let some : 0 < n - i = omega (arith, low) in
     too_short (2 ^ suc k) n i low high
@@ -162,11 +162,11 @@ eqb_false : (b : Bool) (x y : ℕ) → eqb x y ≡ b → (x ≡ y → ⊥) → b
 eqb_false true x y e never = absurd (never (eqb-true x y e))
 eqb_false false x y e never = refl
 
-apart : (b d m n : ℕ) → ((i : ℕ) → i < n → Same d (b ^ m) (b ^ i) → ⊥) → AllByRecursion (λ y. eqb ((b ^ m) % d) y ≡ false) (powers_modulo b d n)
+apart : (b d m n : ℕ) → ((i : ℕ) → i < n → SameModulo d (b ^ m) (b ^ i) → ⊥) → AllByRecursion (λ y. eqb ((b ^ m) % d) y ≡ false) (powers_modulo b d n)
 apart b d m zero never = tt
 apart b d m (suc n) never = (eqb_false _ _ _ refl (never n (omega arith)), apart b d m n (λ i low. never i (omega (arith, low))))
 
-distinct : (k b d n : ℕ) → 2 < d → Same d (b ^ 2 ^ k + 1) 0 → n ≤ 2 ^ suc k → IsDistinct eqb (powers_modulo b d n)
+distinct : (k b d n : ℕ) → 2 < d → SameModulo d (b ^ 2 ^ k + 1) 0 → n ≤ 2 ^ suc k → IsDistinct eqb (powers_modulo b d n)
 unfolding IsDistinct
 distinct k b d zero big last high = tt
 distinct k b d (suc n) big last high =
@@ -181,7 +181,7 @@ all_below : (b d n q : ℕ) → 0 < d → list_any (eqb q) (powers_modulo b d n)
 all_below b d zero q some h = absurd (true≢false (sym h))
 all_below b d (suc n) q some h = in_range b d n q (eqb q ((b ^ n) % d)) some refl h (all_below b d n q some)
 
-pub divisor_is_great : (k b d : ℕ) → 2 < d → Same d (b ^ 2 ^ k + 1) 0 → 2 ^ suc k ≤ d
+pub divisor_is_great : (k b d : ℕ) → 2 < d → SameModulo d (b ^ 2 ^ k + 1) 0 → 2 ^ suc k ≤ d
 divisor_is_great k b d big last =
     subst (λ x. x ≤ d) (length-powers b d (2 ^ suc k))
     (length-le_from_distinct_below (powers_modulo b d (2 ^ suc k)) d (distinct k b d (2 ^ suc k) big last (omega arith))
@@ -194,7 +194,7 @@ abbrev pub squares : ℕ → ℕ → ℕ → ℕ
 squares zero b p = b
 squares (suc k) b p = squares k (b * b % p) p
 
-squares-is : (k b p : ℕ) → Same p (squares k b p) (b ^ 2 ^ k)
+squares-is : (k b p : ℕ) → SameModulo p (squares k b p) (b ^ 2 ^ k)
 squares-is zero b p = same_if p b (b ^ 1) (sym (first_power b))
 squares-is (suc k) b p =
     squares-is k (b * b % p) p

@@ -1,7 +1,7 @@
 -- Polynomials of terms.
 use Rattle.std.proofs.Common.{◌≡◌, ℕ, zero, suc, List, [], ◌∷◌, get_or, refl, sym, ap, ◌∙◌}
-use Rattle.air_field.specs.Ring.{CommRing, Over, OverLaws}
-use Rattle.air_field.specs.laws.Ring.{mul_nil}
+use Rattle.air_field.specs.Ring.{CommRing, AlgebraOver, AlgebraOverLaws}
+use Rattle.air_field.specs.laws.Ring.{mul_zero}
 use Rattle.air_field.specs.Term.{Leaf, Term, leaf_term, const_term, ext_const_term, add_term, sub_term, neg_term, mul_term}
 use Rattle.air_field.specs.Value.{value}
 use Rattle.air_field.specs.Polynomial.{only, polynomial}
@@ -11,7 +11,7 @@ use Rattle.air_field.specs.Same.{assoc_mul, comm_mul, mul_sum, ext_base}
 use Rattle.air_field.specs.laws.Sums as sums
 
 -- The constant coefficient is the value.
-pub polynomial-zero : {F E : Type 0} (a : Over F E) (s : Leaf → List E) (t : Term F) → polynomial a s t 0 ≡ value a (λ l. get_or (s l) 0 a.ring.nil) t
+pub polynomial-zero : {F E : Type 0} (a : AlgebraOver F E) (s : Leaf → List E) (t : Term F) → polynomial a s t 0 ≡ value a (λ l. get_or (s l) 0 a.ring.zero) t
 polynomial-zero a s (leaf_term l) = refl
 polynomial-zero a s (const_term c) = refl
 polynomial-zero a s (ext_const_term c) = refl
@@ -21,11 +21,11 @@ polynomial-zero a s (neg_term t) = cc (polynomial-zero a s t)
 polynomial-zero a s (mul_term t u) = cc (polynomial-zero a s t, polynomial-zero a s u)
 
 -- Under lists of one, a polynomial's constant coefficient is the value.
-pub polynomial-lists_of_one : {F E : Type 0} (a : Over F E) (v : Leaf → E) (t : Term F) → polynomial a (λ l. v l ∷ []) t 0 ≡ value a v t
+pub polynomial-lists_of_one : {F E : Type 0} (a : AlgebraOver F E) (v : Leaf → E) (t : Term F) → polynomial a (λ l. v l ∷ []) t 0 ≡ value a v t
 polynomial-lists_of_one a v t = polynomial-zero a (λ l. v l ∷ []) t
 
 -- What the laws make equal has one polynomial, in every algebra.
-module _ {F E : Type 0} (r : CommRing F) (a : Over F E) (m : OverLaws r a) (s : Leaf → List E) where
+module _ {F E : Type 0} (r : CommRing F) (a : AlgebraOver F E) (m : AlgebraOverLaws r a) (s : Leaf → List E) where
   pub Same-poly : {t u : Term F} → Same r t u → (n : ℕ) → polynomial a s t n ≡ polynomial a s u n
   Same-poly same_refl n = refl
   Same-poly (same_sym h) n = sym (Same-poly h n)
@@ -35,17 +35,17 @@ module _ {F E : Type 0} (r : CommRing F) (a : Over F E) (m : OverLaws r a) (s : 
   Same-poly (same_mul {t = t} {u = u} {v = v} {w = w} h k) n =
       sums.convolve-ext a.ring (polynomial a s t) (polynomial a s u) (polynomial a s v) (polynomial a s w) n (Same-poly h) (Same-poly k)
   Same-poly (const_add {x = x} {y = y}) zero = m.embed_add x y
-  Same-poly (const_add {x = x} {y = y}) (suc n) = sym (a.ring.add_nil a.ring.nil)
+  Same-poly (const_add {x = x} {y = y}) (suc n) = sym (a.ring.add_zero a.ring.zero)
   Same-poly (const_mul {x = x} {y = y}) zero = m.embed_mul x y
   Same-poly (const_mul {x = x} {y = y}) (suc n) =
-      sym (sums.convolve-only_left a.ring (a.embed x) (only a.ring (a.embed y)) (suc n) ∙ mul_nil a.ring (a.embed x))
+      sym (sums.convolve-only_left a.ring (a.embed x) (only a.ring (a.embed y)) (suc n) ∙ mul_zero a.ring (a.embed x))
   Same-poly (add_zero {t = t}) n =
-      cc (m.embed_nil, sums.only-nil a.ring n, a.ring.add_nil (polynomial a s t n))
+      cc (m.embed_zero, sums.only-nil a.ring n, a.ring.add_zero (polynomial a s t n))
   Same-poly (mul_one {t = t}) n =
       cc (m.embed_one, sums.convolve-only_right a.ring (polynomial a s t) (a.embed r.one) n, a.ring.mul_one (polynomial a s t n))
   Same-poly (assoc_add {t = t} {u = u} {v = v}) n = a.ring.add_assoc (polynomial a s t n) (polynomial a s u n) (polynomial a s v n)
   Same-poly (comm_add {t = t} {u = u}) n = a.ring.add_comm (polynomial a s t n) (polynomial a s u n)
-  Same-poly (add_opposite {t = t}) n = cc (a.ring.add_neg (polynomial a s t n), m.embed_nil, sums.only-nil a.ring n)
+  Same-poly (add_opposite {t = t}) n = cc (a.ring.add_neg (polynomial a s t n), m.embed_zero, sums.only-nil a.ring n)
   Same-poly (sub_is {t = t} {u = u}) n = refl
   Same-poly (assoc_mul {t = t} {u = u} {v = v}) n = sums.convolve-assoc a.ring (polynomial a s t) (polynomial a s u) (polynomial a s v) n
   Same-poly (comm_mul {t = t} {u = u}) n = sums.convolve-comm a.ring (polynomial a s t) (polynomial a s u) n
@@ -53,5 +53,5 @@ module _ {F E : Type 0} (r : CommRing F) (a : Over F E) (m : OverLaws r a) (s : 
   Same-poly (ext_base {x = x} {xs = xs} z) n = ap (λ c. only a.ring c n) (sym (m.extend_base x xs z))
 
   -- so they have one value under every assignment
-  pub Same-value : {t u : Term F} → Same r t u → value a (λ l. get_or (s l) 0 a.ring.nil) t ≡ value a (λ l. get_or (s l) 0 a.ring.nil) u
+  pub Same-value : {t u : Term F} → Same r t u → value a (λ l. get_or (s l) 0 a.ring.zero) t ≡ value a (λ l. get_or (s l) 0 a.ring.zero) u
   Same-value {t = t} {u = u} h = sym (polynomial-zero a s t) ∙ (Same-poly h 0 ∙ polynomial-zero a s u)

@@ -6,7 +6,7 @@ use Rattle.std.specs.Prelude.{◌≡◌, ℕ, zero, suc, ◌+◌, refl, List, []
 use Rattle.std.proofs.Common.{sym, ◌∙◌, ap, ap₂}
 use Rattle.air_field.specs.Ring.{CommRing}
 use Rattle.air_field.specs.RingOps.{RingOps}
-use Rattle.air_field.specs.laws.Ring.{nil_add, one_mul, mul_nil, nil_mul, add_mul, add_left_comm, mul_left_comm, add_cancel_right, neg_add_left}
+use Rattle.air_field.specs.laws.Ring.{zero_add, one_mul, mul_zero, zero_mul, add_mul, add_left_comm, mul_left_comm, add_cancel_right, neg_add_left}
 
 -- ---- sums over lists in a commutative monoid
 record Monoid (A : Type 0) : Type 0 where
@@ -45,7 +45,7 @@ fold-append M f [] ys = sym (M.unit_op (fold M f ys))
 fold-append M f (x ∷ xs) ys = ap (M.op (f x)) (fold-append M f xs ys) ∙ sym (M.assoc (f x) (fold M f xs) (fold M f ys))
 
 abbrev sums : {A : Type 0} → CommRing A → Monoid A
-sums R = record { op = R.add; unit = R.nil; assoc = R.add_assoc; left_comm = add_left_comm R; unit_op = nil_add R }
+sums R = record { op = R.add; unit = R.zero; assoc = R.add_assoc; left_comm = add_left_comm R; unit_op = zero_add R }
 
 abbrev products : {A : Type 0} → CommRing A → Monoid A
 products R = record { op = R.mul; unit = R.one; assoc = R.mul_assoc; left_comm = mul_left_comm R; unit_op = one_mul R }
@@ -57,7 +57,7 @@ look d (x ∷ xs) zero = x
 look d (x ∷ xs) (suc n) = look d xs n
 
 abbrev product_of : {A : Type 0} → CommRing A → List A → List ℕ → A
-product_of R env m = fold (products R) (look R.nil env) m
+product_of R env m = fold (products R) (look R.zero env) m
 
 abbrev sum_of : {A : Type 0} → CommRing A → List A → List (List ℕ) → A
 sum_of R env p = fold (sums R) (product_of R env) p
@@ -71,13 +71,13 @@ times_all [] q = []
 times_all (m ∷ p) q = each m q ++ times_all p q
 
 sum-each : {A : Type 0} (R : CommRing A) (env : List A) (m : List ℕ) (q : List (List ℕ)) → sum_of R env (each m q) ≡ R.mul (product_of R env m) (sum_of R env q)
-sum-each R env m [] = sym (mul_nil R (product_of R env m))
+sum-each R env m [] = sym (mul_zero R (product_of R env m))
 sum-each R env m (n ∷ q) =
-    ap₂ R.add (fold-append (products R) (look R.nil env) m n) (sum-each R env m q)
+    ap₂ R.add (fold-append (products R) (look R.zero env) m n) (sum-each R env m q)
     ∙ sym (R.mul_add (product_of R env m) (product_of R env n) (sum_of R env q))
 
 sum-times_all : {A : Type 0} (R : CommRing A) (env : List A) (p q : List (List ℕ)) → sum_of R env (times_all p q) ≡ R.mul (sum_of R env p) (sum_of R env q)
-sum-times_all R env [] q = sym (nil_mul R (sum_of R env q))
+sum-times_all R env [] q = sym (zero_mul R (sum_of R env q))
 sum-times_all R env (m ∷ p) q =
     fold-append (sums R) (product_of R env) (each m q) (times_all p q)
     ∙ (ap₂ R.add (sum-each R env m q) (sum-times_all R env p q)
@@ -98,7 +98,7 @@ canonical p = sort before (sort_each p)
 
 sum-sort_each : {A : Type 0} (R : CommRing A) (env : List A) (p : List (List ℕ)) → sum_of R env (sort_each p) ≡ sum_of R env p
 sum-sort_each R env [] = refl
-sum-sort_each R env (m ∷ p) = ap₂ R.add (fold-sort (products R) (look R.nil env) leb m) (sum-sort_each R env p)
+sum-sort_each R env (m ∷ p) = ap₂ R.add (fold-sort (products R) (look R.zero env) leb m) (sum-sort_each R env p)
 
 sum-canonical : {A : Type 0} (R : CommRing A) (env : List A) (p : List (List ℕ)) → sum_of R env (canonical p) ≡ sum_of R env p
 sum-canonical R env p = fold-sort (sums R) (product_of R env) before (sort_each p) ∙ sum-sort_each R env p
@@ -116,8 +116,8 @@ abbrev pub less : Expr → Expr → Expr
 less a b = plus a (opp b)
 
 abbrev pub value : {A : Type 0} → CommRing A → List A → Expr → A
-value R env (var i) = look R.nil env i
-value R env nought = R.nil
+value R env (var i) = look R.zero env i
+value R env nought = R.zero
 value R env unit = R.one
 value R env (plus a b) = R.add (value R env a) (value R env b)
 value R env (times a b) = R.mul (value R env a) (value R env b)
@@ -172,8 +172,8 @@ sum-times_both R env a b c d =
 
 means : {A : Type 0} (R : CommRing A) (env : List A) (e : Expr) → Means R env (value R env e) (parts e)
 means R env (var i) =
-    R.add_nil (look R.nil env i) ∙ (sym (R.mul_one (look R.nil env i)) ∙ sym (R.add_nil (R.mul (look R.nil env i) R.one)))
-means R env nought = R.add_nil R.nil
+    R.add_zero (look R.zero env i) ∙ (sym (R.mul_one (look R.zero env i)) ∙ sym (R.add_zero (R.mul (look R.zero env i) R.one)))
+means R env nought = R.add_zero R.zero
 means R env unit = refl
 means R env (plus a b) =
     ap (R.add (R.add (value R env a) (value R env b))) (fold-append (sums R) (product_of R env) (parts a).below (parts b).below)
@@ -219,7 +219,7 @@ example R a b c =
 
 -- ---- lists of expressions, as a definition over `RingOps` computes them
 abbrev pub expr_ops : RingOps Expr
-expr_ops = record { nil = nought; one = unit; add = plus; mul = times; neg = opp }
+expr_ops = record { zero = nought; one = unit; add = plus; mul = times; neg = opp }
 
 abbrev pub values : {A : Type 0} → CommRing A → List A → List Expr → List A
 values R env [] = []

@@ -9,14 +9,14 @@ module _ {F : Type 0} {r : CommRing F} where
   pub same_sub : {t u v w : Term F} → Same r t v → Same r u w → Same r (sub_term t u) (sub_term v w)
   same_sub h k = same_trans sub_is (same_trans (same_add h (same_neg k)) (same_sym sub_is))
 
-  pub zero_add : {t : Term F} → Same r t (add_term (const_term r.nil) t)
+  pub zero_add : {t : Term F} → Same r t (add_term (const_term r.zero) t)
   zero_add = same_trans add_zero comm_add
 
   pub one_mul : {t : Term F} → Same r t (mul_term (const_term r.one) t)
   one_mul = same_trans mul_one comm_mul
 
   -- only the negative of u adds up to zero with u
-  opposite_is : {u v : Term F} → Same r (add_term u v) (const_term r.nil) → Same r v (neg_term u)
+  opposite_is : {u v : Term F} → Same r (add_term u v) (const_term r.zero) → Same r v (neg_term u)
   opposite_is {u = u} {v = v} h =
       same_trans (zero_add {t = v}) (same_trans (same_add (same_sym (add_opposite {t = u})) same_refl)
       (same_trans (same_add comm_add same_refl) (same_trans assoc_add
@@ -30,23 +30,23 @@ module _ {F : Type 0} {r : CommRing F} where
   pub const_sub : {x y : F} → Same r (const_term (minus r x y)) (sub_term (const_term x) (const_term y))
   const_sub = same_trans const_add (same_trans (same_add same_refl const_neg) (same_sym sub_is))
 
-  neg_zero : Same r (neg_term (const_term r.nil)) (const_term r.nil)
+  neg_zero : Same r (neg_term (const_term r.zero)) (const_term r.zero)
   neg_zero = same_trans zero_add add_opposite
 
-  pub zero_sub : {t : Term F} → Same r (neg_term t) (sub_term (const_term r.nil) t)
+  pub zero_sub : {t : Term F} → Same r (neg_term t) (sub_term (const_term r.zero) t)
   zero_sub = same_trans zero_add (same_sym sub_is)
 
-  pub sub_zero : {t : Term F} → Same r t (sub_term t (const_term r.nil))
+  pub sub_zero : {t : Term F} → Same r t (sub_term t (const_term r.zero))
   sub_zero = same_trans add_zero (same_trans (same_add same_refl (same_sym neg_zero)) (same_sym sub_is))
 
   -- only zero is left as it is where it is added to itself
-  doubled_is_zero : {t : Term F} → Same r t (add_term t t) → Same r (const_term r.nil) t
+  doubled_is_zero : {t : Term F} → Same r t (add_term t t) → Same r (const_term r.zero) t
   doubled_is_zero {t = t} h =
       same_trans (same_sym (add_opposite {t = t})) (same_trans (same_add h same_refl)
       (same_trans assoc_add (same_trans (same_add same_refl add_opposite) (same_sym add_zero))))
 
-  pub mul_zero : {t : Term F} → Same r (const_term r.nil) (mul_term t (const_term r.nil))
+  pub mul_zero : {t : Term F} → Same r (const_term r.zero) (mul_term t (const_term r.zero))
   mul_zero = doubled_is_zero (same_trans (same_mul same_refl add_zero) mul_sum)
 
-  pub zero_mul : {t : Term F} → Same r (const_term r.nil) (mul_term (const_term r.nil) t)
+  pub zero_mul : {t : Term F} → Same r (const_term r.zero) (mul_term (const_term r.zero) t)
   zero_mul = same_trans mul_zero comm_mul

@@ -9,7 +9,7 @@ module _ {F : Type 0} (R : CommRing F) where
   single-same : (a b : F) → a ∷ [] ≡ b ∷ [] → a ≡ b
   single-same a b h = cc
 
-  single-extend : (l : List F) → first_or R.nil l ∷ [] ≡ padded R.nil 1 l
+  single-extend : (l : List F) → first_or R.zero l ∷ [] ≡ padded R.zero 1 l
   single-extend [] = refl
   single-extend (x ∷ l) = refl
 

@@ -1,27 +1,27 @@
 -- Sums and convolutions in a commutative ring.
 use Rattle.std.proofs.Common.{◌≡◌, ℕ, zero, suc, ◌+◌, ◌-◌, ◌≤◌, refl, sym, ap, ap₂, ◌∙◌, arith}
-use Rattle.air_field.specs.Ring.{CommRing, minus, Over, OverLaws}
-use Rattle.air_field.specs.laws.Ring.{nil_add, nil_mul, neg_unique, neg_nil, add_left_comm}
+use Rattle.air_field.specs.Ring.{CommRing, minus, AlgebraOver, AlgebraOverLaws}
+use Rattle.air_field.specs.laws.Ring.{zero_add, zero_mul, neg_unique, neg_zero, add_left_comm}
 use Rattle.air_field.specs.Polynomial.{sum_to, convolve, only}
 
 module _ {E : Type 0} (r : CommRing E) where
-  pub minus_nil : (x : E) → minus r x r.nil ≡ x
-  minus_nil x = cc (neg_nil r, r.add_nil x)
+  pub minus_zero : (x : E) → minus r x r.zero ≡ x
+  minus_zero x = cc (neg_zero r, r.add_zero x)
 
-  pub nil_minus : (x : E) → minus r r.nil x ≡ r.neg x
-  nil_minus x = nil_add r (r.neg x)
+  pub zero_minus : (x : E) → minus r r.zero x ≡ r.neg x
+  zero_minus x = zero_add r (r.neg x)
 
   pub sum_to-ext : (f g : ℕ → E) (n : ℕ) → ((i : ℕ) → i ≤ n → f i ≡ g i) → sum_to r f n ≡ sum_to r g n
   sum_to-ext f g zero h = h 0 (omega arith)
   sum_to-ext f g (suc n) h = cc (sum_to-ext f g n (λ i b. h i (omega arith)), h (suc n) (omega arith))
 
-  pub sum_to-nil : (f : ℕ → E) (n : ℕ) → ((i : ℕ) → i ≤ n → f i ≡ r.nil) → sum_to r f n ≡ r.nil
+  pub sum_to-nil : (f : ℕ → E) (n : ℕ) → ((i : ℕ) → i ≤ n → f i ≡ r.zero) → sum_to r f n ≡ r.zero
   sum_to-nil f zero h = h 0 (omega arith)
-  sum_to-nil f (suc n) h = cc (sum_to-nil f n (λ i b. h i (omega arith)), h (suc n) (omega arith), r.add_nil r.nil)
+  sum_to-nil f (suc n) h = cc (sum_to-nil f n (λ i b. h i (omega arith)), h (suc n) (omega arith), r.add_zero r.zero)
 
-  pub sum_to-first : (f : ℕ → E) (n : ℕ) → ((i : ℕ) → f (suc i) ≡ r.nil) → sum_to r f n ≡ f 0
+  pub sum_to-first : (f : ℕ → E) (n : ℕ) → ((i : ℕ) → f (suc i) ≡ r.zero) → sum_to r f n ≡ f 0
   sum_to-first f zero h = refl
-  sum_to-first f (suc n) h = cc (sum_to-first f n h, h n, r.add_nil (f 0))
+  sum_to-first f (suc n) h = cc (sum_to-first f n h, h n, r.add_zero (f 0))
 
   -- (a + b) + (c + d) = (a + c) + (b + d)
   exchange : (a b c d : E) → r.add (r.add a b) (r.add c d) ≡ r.add (r.add a c) (r.add b d)
@@ -78,13 +78,13 @@ module _ {E : Type 0} (r : CommRing E) where
       row : (i : ℕ) → i ≤ n → sum_to r (λ j. f i j) (suc n - i) ≡ r.add (sum_to r (λ j. f i j) (n - i)) (f i (suc n - i))
       row i b = ap (λ m. sum_to r (λ j. f i j) m) (above i b) ∙ ap (λ m. r.add (sum_to r (λ j. f i j) (n - i)) (f i m)) (sym (above i b))
 
-  pub only-nil : (n : ℕ) → only r r.nil n ≡ r.nil
+  pub only-nil : (n : ℕ) → only r r.zero n ≡ r.zero
   only-nil zero = refl
   only-nil (suc n) = refl
 
   pub convolve-only_left : (c : E) (g : ℕ → E) (n : ℕ) → convolve r (only r c) g n ≡ r.mul c (g n)
   convolve-only_left c g n =
-      sum_to-first (λ i. r.mul (only r c i) (g (n - i))) n (λ i. nil_mul r (g (n - suc i)))
+      sum_to-first (λ i. r.mul (only r c i) (g (n - i))) n (λ i. zero_mul r (g (n - suc i)))
       ∙ ap (λ k. r.mul c (g k)) (omega arith)
 
   pub convolve-ext : (f g h k : ℕ → E) (n : ℕ) → ((i : ℕ) → f i ≡ h i) → ((i : ℕ) → g i ≡ k i) → convolve r f g n ≡ convolve r h k n
@@ -137,9 +137,9 @@ module _ {E : Type 0} (r : CommRing E) where
       ∙ sum_to-ext (λ i. sum_to r (λ j. part f g h n i j) (n - i)) (λ i. r.mul (f i) (convolve r g h (n - i))) n (λ i b. row f g h n i))
 
 -- An embedding keeps negatives and differences.
-module _ {F E : Type 0} (r : CommRing F) (a : Over F E) (m : OverLaws r a) where
+module _ {F E : Type 0} (r : CommRing F) (a : AlgebraOver F E) (m : AlgebraOverLaws r a) where
   pub embed_neg : (x : F) → a.embed (r.neg x) ≡ a.ring.neg (a.embed x)
-  embed_neg x = neg_unique a.ring (a.embed x) (a.embed (r.neg x)) (sym (m.embed_add x (r.neg x)) ∙ (ap a.embed (r.add_neg x) ∙ m.embed_nil))
+  embed_neg x = neg_unique a.ring (a.embed x) (a.embed (r.neg x)) (sym (m.embed_add x (r.neg x)) ∙ (ap a.embed (r.add_neg x) ∙ m.embed_zero))
 
   pub embed_minus : (x y : F) → a.embed (minus r x y) ≡ minus a.ring (a.embed x) (a.embed y)
   embed_minus x y = m.embed_add x (r.neg y) ∙ ap (a.ring.add (a.embed x)) (embed_neg y)

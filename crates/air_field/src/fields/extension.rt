@@ -1,7 +1,7 @@
 //! Extension fields.
 ghost use Rattle.std.specs.Prelude.{◌≡◌, ℕ, ◌↔◌, length, IsTrue, IfOk, IsOkUnless};
 ghost use Rattle.std.specs.Bool.{Decides};
-ghost use Rattle.air_field.specs.Ring.{Over, OverLaws, minus};
+ghost use Rattle.air_field.specs.Ring.{AlgebraOver, AlgebraOverLaws, minus};
 ghost use Rattle.air_field.specs.Domain.{IsDomain, IsInversion};
 ghost use Rattle.air_field.specs.Extension.{Basis, ExtensionLaws, IsInBase};
 ghost use Rattle.air_field.specs.Powers.{powers_of};
@@ -15,7 +15,7 @@ use std::fmt::Debug;
 pub trait ExtensionField<F: Field>: Copy + Eq + Ord + Debug {
     /// The ring, the element of an element of `F`, and the element of a coefficient list: zero past its end and cut
     /// at `DIMENSION`.
-    ghost over: { Over F Self };
+    ghost over: { AlgebraOver F Self };
 
     /// The coefficients of an element, lowest first, and the element of `F` that it is, where it is one.
     ghost basis: { Basis F Self };
@@ -27,7 +27,7 @@ pub trait ExtensionField<F: Field>: Copy + Eq + Ord + Debug {
 
     /// Zero.
     fn zero() -> Self
-        ensures { result ≡ over.ring.nil };
+        ensures { result ≡ over.ring.zero };
 
     /// One.
     fn one() -> Self
@@ -82,7 +82,7 @@ pub trait ExtensionField<F: Field>: Copy + Eq + Ord + Debug {
 
     ghost laws: { ExtensionLaws F.ring over basis DIMENSION };
 
-    ghost over_laws: { OverLaws F.ring over };
+    ghost over_laws: { AlgebraOverLaws F.ring over };
 
     ghost eq_is: { (a b : Self) → Decides (Self.eq a b) (a ≡ b) };
 }

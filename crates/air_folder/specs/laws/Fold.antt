@@ -2,7 +2,7 @@
 use Rattle.std.specs.Prelude.{◌≡◌, ℕ, zero, suc, ◌-◌, List, [], ◌∷◌, ◌++◌, length, get_or, refl}
 use Rattle.std.proofs.Common.{sym, ◌∙◌, ap, ap₂, arith}
 use Rattle.air_field.specs.Ring.{CommRing}
-use Rattle.air_field.specs.laws.Ring.{nil_add, nil_mul}
+use Rattle.air_field.specs.laws.Ring.{zero_add, zero_mul}
 use Rattle.air_field.specs.laws.RingSolver.{var, plus, times, ring}
 use Rattle.air_field.specs.Powers.{power}
 use Rattle.air_recording.specs.Weights.{weight}
@@ -12,7 +12,7 @@ use Rattle.air_folder.specs.Fold.{folded_on, running}
 module _ {E : Type 0} (r : CommRing E) where
   -- the first summand apart
   sum_below-first : (f : ℕ → E) (n : ℕ) → sum_below r f (suc n) ≡ r.add (f 0) (sum_below r (λ i. f (suc i)) n)
-  sum_below-first f zero = r.add_comm r.nil (f 0)
+  sum_below-first f zero = r.add_comm r.zero (f 0)
   sum_below-first f (suc n) =
       ap (λ x. r.add x (f (suc n))) (sum_below-first f n) ∙ r.add_assoc (f 0) (sum_below r (λ i. f (suc i)) n) (f (suc n))
 
@@ -20,9 +20,9 @@ module _ {E : Type 0} (r : CommRing E) where
     -- the first value has the highest power
     pub sum_by_powers-first : (v : E) (values : List E) → sum_by_powers r alpha (v ∷ values) ≡ r.add (r.mul (power r alpha (length values)) v) (sum_by_powers r alpha values)
     sum_by_powers-first v values =
-        sum_below-first (λ i. r.mul (weight r alpha (suc (length values)) i) (get_or (v ∷ values) i r.nil)) (length values)
+        sum_below-first (λ i. r.mul (weight r alpha (suc (length values)) i) (get_or (v ∷ values) i r.zero)) (length values)
         ∙ ap₂ (λ p s. r.add (r.mul (power r alpha p) v) s) (omega arith)
-        (ap (λ w. sum_below r w (length values)) (λ j i. r.mul (power r alpha (later (length values) i j)) (get_or values i r.nil)))
+        (ap (λ w. sum_below r w (length values)) (λ j i. r.mul (power r alpha (later (length values) i j)) (get_or values i r.zero)))
       where
         later : (n i : ℕ) → suc n - 1 - suc i ≡ n - 1 - i
         later n i = omega arith
@@ -35,7 +35,7 @@ module _ {E : Type 0} (r : CommRing E) where
         refl
 
     pub running-is : (acc : E) (values : List E) → running r alpha acc values ≡ folded_on r alpha acc values
-    running-is acc [] = sym (r.add_nil (r.mul acc r.one) ∙ r.mul_one acc)
+    running-is acc [] = sym (r.add_zero (r.mul acc r.one) ∙ r.mul_one acc)
     running-is acc (v ∷ values) =
         running-is (r.add (r.mul acc alpha) v) values
         ∙ (step acc v (power r alpha (length values)) (sum_by_powers r alpha values)
@@ -61,6 +61,6 @@ module _ {E : Type 0} (r : CommRing E) where
     folded_on-none acc = running-is acc []
 
     -- from zero it is Horner's fold
-    pub folded_on-nil : (values : List E) → folded_on r alpha r.nil values ≡ sum_by_powers r alpha values
+    pub folded_on-nil : (values : List E) → folded_on r alpha r.zero values ≡ sum_by_powers r alpha values
     folded_on-nil values =
-        ap (λ x. r.add x (sum_by_powers r alpha values)) (nil_mul r (power r alpha (length values))) ∙ nil_add r (sum_by_powers r alpha values)
+        ap (λ x. r.add x (sum_by_powers r alpha values)) (zero_mul r (power r alpha (length values))) ∙ zero_add r (sum_by_powers r alpha values)

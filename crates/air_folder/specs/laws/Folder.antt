@@ -2,7 +2,7 @@
 use Rattle.std.specs.Prelude.{◌≡◌, List, [], ◌∷◌, ◌++◌, Ok, refl}
 use Rattle.std.proofs.Common.{sym, ◌∙◌, ap, ap₂, subst}
 use Rattle.std.proofs.lemmas.List.{map-append}
-use Rattle.air_field.specs.Ring.{Over}
+use Rattle.air_field.specs.Ring.{AlgebraOver}
 use Rattle.air_field.specs.Extension.{Basis}
 use Rattle.air_field.specs.Term.{Leaf, Term, with_leaves}
 use Rattle.air_field.specs.Value.{value}
@@ -18,15 +18,15 @@ use Rattle.air_builder.specs.laws.Batches.{asserted_one}
 use Rattle.air_builder.specs.laws.RowBuilders.{row_view, row_over, GrowsAtRow, row_laws, row_extension_laws}
 use Rattle.air_builder.specs.Refused.{Refused}
 use Rattle.air_builder.specs.laws.Refused.{Refused-first, Refused-then, Refused-missing}
-use Rattle.air_builder.specs.Extensions.{ExtensionLaws}
+use Rattle.air_builder.specs.Extensions.{ExtensionRingLaws}
 use Rattle.air_folder.specs.Fold.{folded_on}
 use Rattle.air_folder.specs.laws.Fold.{folded_on-none, folded_on-one, folded_on-append}
-use Rattle.air_folder.specs.Folder.{FolderRow, HasValue, folder_leaves, folder_stands, FolderMissing, value_in, values_in, GrewFolder, FolderRefuses}
+use Rattle.air_folder.specs.Folder.{FolderRow, HasValue, folder_leaves, folder_reads_as, FolderMissing, value_in, values_in, GrewFolder, FolderRefuses}
 use Rattle.air_folder.specs.FolderRow.{folder_row, StepsBy, FolderGrew}
 use Rattle.air_folder.specs.declared.folder.builder.ConstraintFolder.{ConstraintFolder}
 use Rattle.air_folder.specs.declared.folder.ring.FolderRing.{FolderRing}
 
-module _ {F E : Type 0} (a : Over F E) where
+module _ {F E : Type 0} (a : AlgebraOver F E) where
   grew_joined : (d e f : FolderRow E) (x y z : E) (ts us : List (Assertion F)) → GrewFolder a d e x y ts → GrewFolder a e f y z us → GrewFolder a d f x z (ts ++ us)
   grew_joined d e f x y z ts us g h = record {
     same_row = h.same_row ∙ g.same_row;
@@ -49,11 +49,11 @@ module _ {F E : Type 0} (a : Over F E) where
 
   -- an expression that means a term is the term's value at the row
   pub folder_value : (basis : Basis F E) → ((x : E) → a.extend (basis.coefficients x) ≡ x)
-      → (d : FolderRow E) (t : Term F) (v : E) → HasValue a v (with_leaves (folder_stands a basis d) t)
+      → (d : FolderRow E) (t : Term F) (v : E) → HasValue a v (with_leaves (folder_reads_as a basis d) t)
       → value a (folder_leaves a d) t ≡ v
   folder_value basis named d t v means =
       ap (λ s. value a s t) (λ i l. sym (named (folder_leaves a d l)) i)
-      ∙ (sym (value-leaves a (λ _. a.ring.nil) (folder_stands a basis d) t) ∙ means)
+      ∙ (sym (value-leaves a (λ _. a.ring.zero) (folder_reads_as a basis d) t) ∙ means)
 
   abbrev shape : FolderRow E → Shape
   shape d = one_row_shape d.values d.others
@@ -65,7 +65,7 @@ module _ {F E : Type 0} (a : Over F E) where
   pub folded_asserted : (basis : Basis F E) → ((x : E) → a.extend (basis.coefficients x) ≡ x)
       → {kind : Term F → Assertion F} (b c : ConstraintFolder F E) (x : E) → folder_row c ≡ folder_row b → StepsBy a x b c
       → ((s : Leaf → E) (t : Term F) → value_in a s (kind t) ≡ value a s t)
-      → AssertedEach (AssertsOf kind (λ d y t. HasValue a y (with_leaves (folder_stands a basis (folder_row d)) t)) (λ t. t))
+      → AssertedEach (AssertsOf kind (λ d y t. HasValue a y (with_leaves (folder_reads_as a basis (folder_row d)) t)) (λ t. t))
       (λ d e. folder_row e ≡ folder_row d) (FolderGrew a) refuses b c (x ∷ []) (Ok tt)
   folded_asserted basis named b c x keeps folded is =
       let at = folder_leaves a (folder_row b) in
@@ -74,8 +74,8 @@ module _ {F E : Type 0} (a : Over F E) where
       (ap (value_in a at) k.2 ∙ (is at k.0 ∙ folder_value basis named (folder_row b) k.0 x k.1)))
       tt tt
 
-  grows : (stands : FolderRow E → Leaf → Term F) → GrowsAtRow folder_row shape stands (FolderGrew a) refuses
-  grows stands = record {
+  grows : (reads_as : FolderRow E → Leaf → Term F) → GrowsAtRow folder_row shape reads_as (FolderGrew a) refuses
+  grows reads_as = record {
     same = λ b. unchanged (folder_row b) (folder_row b) b.accumulator b.accumulator refl refl;
     joined = λ b c d ts us g h. grew_joined (folder_row b) (folder_row c) (folder_row d) b.accumulator c.accumulator d.accumulator ts us g h;
     same_row = λ b c ts g. g.same_row;
@@ -102,10 +102,10 @@ module _ {F E : Type 0} (a : Over F E) where
 
   module _ (basis : Basis F E) where
     -- a folder keeps them for its ring, where each element means a term
-    pub folder_laws : BuilderLaws (row_view folder_row shape (folder_stands a basis) (FolderGrew a) refuses (λ b. b.ring) with_ring (HasValue a))
-    folder_laws = row_laws folder_row shape (folder_stands a basis) (FolderGrew a) refuses (λ b. b.ring) with_ring lent (λ b q. refl) (grows (folder_stands a basis))
+    pub folder_laws : BuilderLaws (row_view folder_row shape (folder_reads_as a basis) (FolderGrew a) refuses (λ b. b.ring) with_ring (HasValue a))
+    folder_laws = row_laws folder_row shape (folder_reads_as a basis) (FolderGrew a) refuses (λ b. b.ring) with_ring lent (λ b q. refl) (grows (folder_reads_as a basis))
 
     -- and for its ring over the extension, which is the same
-    pub folder_extension_laws : ExtensionLaws (row_view folder_row shape (folder_stands a basis) (FolderGrew a) refuses (λ b. b.ring) with_ring (HasValue a))
-        (row_over folder_row shape (folder_stands a basis) (FolderGrew a) refuses (λ b. b.ring) with_ring (HasValue a) (HasValue a))
-    folder_extension_laws = row_extension_laws folder_row shape (folder_stands a basis) (FolderGrew a) refuses (λ b. b.ring) with_ring lent (λ b q. refl) (λ b. b.ring) (HasValue a)
+    pub folder_extension_laws : ExtensionRingLaws (row_view folder_row shape (folder_reads_as a basis) (FolderGrew a) refuses (λ b. b.ring) with_ring (HasValue a))
+        (row_over folder_row shape (folder_reads_as a basis) (FolderGrew a) refuses (λ b. b.ring) with_ring (HasValue a) (HasValue a))
+    folder_extension_laws = row_extension_laws folder_row shape (folder_reads_as a basis) (FolderGrew a) refuses (λ b. b.ring) with_ring lent (λ b q. refl) (λ b. b.ring) (HasValue a)

@@ -56,7 +56,7 @@ impl<'a, F: Field, EF: ExtensionField<F>> ConstraintFolder<'a, F, EF> {
         ensures is_last_row { result.is_last_row ≡ is_last_row }
         ensures is_transition { result.is_transition ≡ is_transition }
         ensures alpha { result.alpha ≡ alpha }
-        ensures accumulator { result.accumulator ≡ EF.over.ring.nil }
+        ensures accumulator { result.accumulator ≡ EF.over.ring.zero }
     {
         ConstraintFolder {
             main: RowWindow::from_two_rows(main.top.values, main.bottom.values),

@@ -1,6 +1,6 @@
 //! The folder as a builder: an expression is its value, and an assertion adds the value to the sum times alpha.
 ghost use Rattle.std.specs.Prelude.{◌≡◌, ⊤};
-ghost use Rattle.air_folder.specs.Folder.{folder_stands, FolderMissing, FolderRefuses};
+ghost use Rattle.air_folder.specs.Folder.{folder_reads_as, FolderMissing, FolderRefuses};
 ghost use Rattle.air_folder.specs.laws.Folder.{folder_laws};
 ghost use Rattle.air_folder.specs.FolderRow.{folder_row, FolderGrew};
 
@@ -29,7 +29,7 @@ impl<'a, F: Field, EF: ExtensionField<F>> AirBuilder for ConstraintFolder<'a, F,
 
     ghost with_ring = { λ b r. record b { ring = r } };
 
-    ghost stands = { λ b. folder_stands EF.over EF.basis (folder_row b) };
+    ghost reads_as = { λ b. folder_reads_as EF.over EF.basis (folder_row b) };
 
     ghost ready = { λ _. ⊤ };
 

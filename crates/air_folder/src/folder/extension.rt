@@ -1,6 +1,6 @@
 //! The folder over the extension, and with permutation data.
 ghost use Rattle.std.specs.Prelude.{◌≡◌, ◌≢◌, IfOk, IfErr, IsOk, Err, None};
-ghost use Rattle.air_folder.specs.Folder.{PermutationStands, PermutationEnds};
+ghost use Rattle.air_folder.specs.Folder.{PermutationReadsAs, PermutationEnds};
 ghost use Rattle.air_folder.specs.laws.Folder.{folder_extension_laws};
 ghost use Rattle.air_folder.specs.FolderRow.{folder_row};
 
@@ -45,9 +45,9 @@ impl<'a, F: Field, EF: ExtensionField<F>> PermutationAirBuilder for ConstraintFo
     /// The window of the permutation trace; a folder that was made without one, and it alone, refuses.
     fn permutation(&self) -> Result<RowWindow<'a, EF>, AirError>
         ensures current { IfOk result (λ w.
-            PermutationStands EF.over EF.basis (folder_row self.now) 0 w.current.now) }
+            PermutationReadsAs EF.over EF.basis (folder_row self.now) 0 w.current.now) }
         ensures next { IfOk result (λ w.
-            PermutationStands EF.over EF.basis (folder_row self.now) 1 w.next.now) }
+            PermutationReadsAs EF.over EF.basis (folder_row self.now) 1 w.next.now) }
         ensures current_ends { IfOk result (λ w.
             PermutationEnds (folder_row self.now) 0 w.current.now) }
         ensures next_ends { IfOk result (λ w. PermutationEnds (folder_row self.now) 1 w.next.now) }

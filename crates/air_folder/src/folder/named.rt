@@ -7,7 +7,7 @@ ghost use Rattle.air_builder.specs.laws.NamedFilters.{discarding_laws};
 ghost use Rattle.air_folder.specs.laws.Folder.{folder_laws};
 
 use crate::folder::builder::ConstraintFolder;
-use air_builder::{Seen, SeenOver};
+use air_builder::{View, ViewOver};
 use p3_air::{
     AirBuilder, AirBuilderWithContext, AirError, ExtensionBuilder, ExtensionField, Field, Name,
     NamedAirBuilder, NamedExtensionBuilder, PassthroughNamedAirBuilder,
@@ -22,9 +22,9 @@ impl<'a, F: Field, EF: ExtensionField<F>> NamedAirBuilder for ConstraintFolder<'
     ghost named_laws = { discarding_laws (folder_laws EF.over EF.basis) };
 
     fn assert_zero_named<N: Name>(&mut self, x: EF, name: N) -> Result<(), AirError>
-        ensures asserted { Asserts ⟦<ConstraintFolder<'a, F, EF> as Seen>⟧.view Base (λ t. t)
+        ensures asserted { Asserts ⟦<ConstraintFolder<'a, F, EF> as View>⟧.view Base (λ t. t)
             self.old self.new (x ∷ []) result }
-        ensures label { Labels ⟦<ConstraintFolder<'a, F, EF> as Seen>⟧.view
+        ensures label { Labels ⟦<ConstraintFolder<'a, F, EF> as View>⟧.view
             (discarding ⟦<ConstraintFolder<'a, F, EF> as AirBuilder>⟧.grew) Base (λ t. t)
             (λ i. N.displays name) self.old self.new (x ∷ []) result }
     {
@@ -34,9 +34,9 @@ impl<'a, F: Field, EF: ExtensionField<F>> NamedAirBuilder for ConstraintFolder<'
 
 impl<'a, F: Field, EF: ExtensionField<F>> NamedExtensionBuilder for ConstraintFolder<'a, F, EF> {
     fn assert_zero_ext_named<N: Name>(&mut self, x: EF, _name: N) -> Result<(), AirError>
-        ensures asserted { Asserts ⟦<ConstraintFolder<'a, F, EF> as SeenOver>⟧.view Extension
+        ensures asserted { Asserts ⟦<ConstraintFolder<'a, F, EF> as ViewOver>⟧.view Extension
             (λ t. t) self.old self.new (x ∷ []) result }
-        ensures label { Labels ⟦<ConstraintFolder<'a, F, EF> as SeenOver>⟧.view
+        ensures label { Labels ⟦<ConstraintFolder<'a, F, EF> as ViewOver>⟧.view
             (discarding ⟦<ConstraintFolder<'a, F, EF> as AirBuilder>⟧.grew) Extension (λ t. t)
             (λ i. N.displays _name) self.old self.new (x ∷ []) result }
     {

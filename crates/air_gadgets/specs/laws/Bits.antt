@@ -19,16 +19,16 @@ module _ {A : Type 0} (R : CommRing A) where
   xor_at : (m n k : ℕ) (x y z : A) → image R m ≡ x → image R n ≡ y → image R k ≡ z → ring_xor R x y ≡ z → ring_xor R (image R m) (image R n) ≡ image R k
   xor_at m n k x y z hm hn hk h = ap₂ (ring_xor R) hm hn ∙ (h ∙ sym hk)
 
-  xor_no_no : ring_xor R R.nil R.nil ≡ R.nil
+  xor_no_no : ring_xor R R.zero R.zero ≡ R.zero
   xor_no_no = ring R [] (less (plus nought nought) (plus (times nought nought) (times nought nought))) nought refl
 
-  xor_no_yes : ring_xor R R.nil R.one ≡ R.one
+  xor_no_yes : ring_xor R R.zero R.one ≡ R.one
   xor_no_yes = ring R [] (less (plus nought unit) (plus (times nought unit) (times nought unit))) unit refl
 
-  xor_yes_no : ring_xor R R.one R.nil ≡ R.one
+  xor_yes_no : ring_xor R R.one R.zero ≡ R.one
   xor_yes_no = ring R [] (less (plus unit nought) (plus (times unit nought) (times unit nought))) unit refl
 
-  xor_yes_yes : ring_xor R R.one R.one ≡ R.nil
+  xor_yes_yes : ring_xor R R.one R.one ≡ R.zero
   xor_yes_yes = ring R [] (less (plus unit unit) (plus (times unit unit) (times unit unit))) nought refl
 
   -- the xor of the images of two bits
@@ -52,7 +52,7 @@ module _ {A : Type 0} (R : CommRing A) where
       ∙ (xors_from_image ((m + b) % 2) bs below hb.1 ∙ ap (image R) e)
 
   -- the xor of the images of bits
-  pub xors-image : (start : A) (xs : List A) (bs : List ℕ) → start ≡ R.nil → AreBits bs → xs ≡ map (image R) bs → xors_from R start xs ≡ image R (xored bs)
+  pub xors-image : (start : A) (xs : List A) (bs : List ℕ) → start ≡ R.zero → AreBits bs → xs ≡ map (image R) bs → xors_from R start xs ≡ image R (xored bs)
   xors-image start xs bs e hb h = ap₂ (xors_from R) (e ∙ sym (image-zero R)) h ∙ (xors_from_image 0 bs (omega arith) hb ∙ ap (image R) (xored_once bs))
 
   -- y and not x, of the images of two bits

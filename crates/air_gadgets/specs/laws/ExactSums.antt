@@ -17,8 +17,8 @@ whole_same R q x y k l e f = ap₂ R.add e (ap (λ z. R.mul z q) f ∙ R.mul_com
 
 -- both terms vanish exactly if what they are is zero
 both_vanish : {A : Type 0} (R : CommRing A) (n : ℕ) {P : Type 0} {x y k l : A} → x ≡ k → y ≡ l
-    → ((carried R k 4294967296 n ≡ R.nil) × (carried R l 65536 n ≡ R.nil)) ↔ P
-    → ((carried R x 4294967296 n ≡ R.nil) × ((carried R y 65536 n ≡ R.nil) × Unit {0})) ↔ P
+    → ((carried R k 4294967296 n ≡ R.zero) × (carried R l 65536 n ≡ R.zero)) ↔ P
+    → ((carried R x 4294967296 n ≡ R.zero) × ((carried R y 65536 n ≡ R.zero) × Unit {0})) ↔ P
 both_vanish R n whole low exact =
     let whole_is = ap (λ z. carried R z 4294967296 n) whole in
     let low_is = ap (λ z. carried R z 65536 n) low in (

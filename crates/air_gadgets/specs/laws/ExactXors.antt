@@ -35,10 +35,10 @@ module _ {F : Type 0} (R : CommRing F) (s : Leaf → F) where
 
   -- of a half, cut alike
   half_value : (f : List (Term F) → List (Term F)) (g : List F → List F) → ((ts : List (Term F)) → g (map (value (itself R) s) ts) ≡ map (value (itself R) s) (f ts))
-      → (u v : List (Term F)) (shift : ℕ) → value (itself R) s (packed_term R.nil (f (xor_terms u (rotated_left shift v)))) ≡ packed R (g (ring_xors R (map (value (itself R) s) u) (rotated_left shift (map (value (itself R) s) v))))
+      → (u v : List (Term F)) (shift : ℕ) → value (itself R) s (packed_term R.zero (f (xor_terms u (rotated_left shift v)))) ≡ packed R (g (ring_xors R (map (value (itself R) s) u) (rotated_left shift (map (value (itself R) s) v))))
   half_value f g alike u v shift =
       let bits = xor_terms u (rotated_left shift v) in
-      value-packed_term (itself R) R.nil refl s (f bits) ∙ (ap (packed R) (sym (alike bits)) ∙ ap (λ xs. packed R (g xs)) (values_of u v shift))
+      value-packed_term (itself R) R.zero refl s (f bits) ∙ (ap (packed R) (sym (alike bits)) ∙ ap (λ xs. packed R (g xs)) (values_of u v shift))
 
 pub xor_is_exact : {F : Type 0} (R : CommRing F) → XorIsExact R
 xor_is_exact R t u v shift s b domain hb eu =

@@ -1,6 +1,6 @@
 -- The value of packed bits, and of packed bits of numbers.
 use Rattle.std.proofs.Common.{◌≡◌, ◌∙◌, zero, suc, List, [], ◌∷◌, map, refl, sym, ap, ap₂}
-use Rattle.air_field.specs.Ring.{CommRing, Over, OverLaws, image}
+use Rattle.air_field.specs.Ring.{CommRing, AlgebraOver, AlgebraOverLaws, image}
 use Rattle.air_field.specs.laws.RingSolver.{var, nought, unit, plus, times, ring}
 use Rattle.air_field.specs.laws.Images.{image-zero, image-suc}
 use Rattle.air_field.specs.Term.{Leaf, Term}
@@ -12,13 +12,13 @@ use Rattle.air_gadgets.specs.laws.Bits.{packed-digits}
 use Rattle.air_gadgets.specs.laws.PowerSums.{packs_by_powers}
 
 module _ {A : Type 0} (R : CommRing A) where
-  last_bit : (x : A) → x ≡ R.add x (R.mul (R.add R.one R.one) R.nil)
+  last_bit : (x : A) → x ≡ R.add x (R.mul (R.add R.one R.one) R.zero)
   last_bit x = ring R (x ∷ []) (var 0) (plus (var 0) (times (plus unit unit) nought)) refl
 
   next_bit : (x y z : A) → y ≡ z → R.add (R.add y y) x ≡ R.add x (R.mul (R.add R.one R.one) z)
   next_bit x y z e = ring R (x ∷ y ∷ []) (plus (plus (var 1) (var 1)) (var 0)) (plus (var 0) (times (plus unit unit) (var 1))) refl ∙ ap (λ w. R.add x (R.mul (R.add R.one R.one) w)) e
 
-module _ {F E : Type 0} (a : Over F E) (none : F) (is : a.embed none ≡ a.ring.nil) where
+module _ {F E : Type 0} (a : AlgebraOver F E) (none : F) (is : a.embed none ≡ a.ring.zero) where
   value-packed_from : (s : Leaf → E) (t : Term F) (ts : List (Term F)) → value a s (packed_from t ts) ≡ packed a.ring (map (value a s) (t ∷ ts))
   value-packed_from s t [] = last_bit a.ring (value a s t)
   value-packed_from s t (u ∷ us) = next_bit a.ring (value a s t) (value a s (packed_from u us)) (packed a.ring (map (value a s) (u ∷ us))) (value-packed_from s u us)
@@ -34,8 +34,8 @@ module _ {F E : Type 0} (a : Over F E) (none : F) (is : a.embed none ≡ a.ring.
   pub packs_numbers : PacksNumbers a none
   packs_numbers s ts n v below bits = value-packed_term s ts ∙ (ap (packed a.ring) bits ∙ packed-digits a.ring n v below)
 
-pub embeds_images : {F E : Type 0} (R : CommRing F) (a : Over F E) → OverLaws R a → EmbedsImages R a
-embeds_images R a laws zero = ap a.embed (image-zero R) ∙ (laws.embed_nil ∙ sym (image-zero a.ring))
+pub embeds_images : {F E : Type 0} (R : CommRing F) (a : AlgebraOver F E) → AlgebraOverLaws R a → EmbedsImages R a
+embeds_images R a laws zero = ap a.embed (image-zero R) ∙ (laws.embed_zero ∙ sym (image-zero a.ring))
 embeds_images R a laws (suc n) =
     ap a.embed (image-suc R n)
     ∙ (laws.embed_add (image R n) R.one

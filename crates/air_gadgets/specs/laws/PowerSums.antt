@@ -26,7 +26,7 @@ module _ {A : Type 0} (R : CommRing A) where
   first_place : (x y : A) → R.add (R.mul (image R 1) x) y ≡ R.add y x
   first_place x y = ap (λ i. R.add (R.mul i x) y) (image-one R) ∙ ring R (x ∷ y ∷ []) (plus (times unit (var 0)) (var 1)) (plus (var 1) (var 0)) refl
 
-  none_after : (x : A) → R.add R.nil x ≡ x
+  none_after : (x : A) → R.add R.zero x ≡ x
   none_after x = ring R (x ∷ []) (plus nought (var 0)) (var 0) refl
 
   twice_first : (x y : A) → R.add x (R.mul (R.add R.one R.one) y) ≡ R.add (R.add y y) x
@@ -41,13 +41,13 @@ module _ {A : Type 0} (R : CommRing A) where
 
 module _ {F : Type 0} (R : CommRing F) (s : Leaf → F) where
   packed_from_value : (t : Term F) (us : List (Term F)) → value (itself R) s (packed_from t us) ≡ power_sum R 0 (map (value (itself R) s) (t ∷ us))
-  packed_from_value t [] = sym (first_place R (value (itself R) s t) R.nil ∙ none_after R (value (itself R) s t))
+  packed_from_value t [] = sym (first_place R (value (itself R) s t) R.zero ∙ none_after R (value (itself R) s t))
   packed_from_value t (u ∷ us) =
       let rest = map (value (itself R) s) (u ∷ us) in
       ap (λ w. R.add (R.add w w) (value (itself R) s t)) (packed_from_value u us)
       ∙ (ap (λ w. R.add w (value (itself R) s t)) (sym (twice_power_sum R 0 rest))
       ∙ sym (first_place R (value (itself R) s t) (power_sum R 1 rest)))
 
-pub packs_values : {F : Type 0} (R : CommRing F) (none : F) → none ≡ R.nil → PacksValues R none
+pub packs_values : {F : Type 0} (R : CommRing F) (none : F) → none ≡ R.zero → PacksValues R none
 packs_values R none e s [] = e
 packs_values R none e s (t ∷ us) = packed_from_value R s t us

@@ -3,12 +3,12 @@ use Rattle.std.specs.Prelude.{◌≡◌, ℕ, zero, suc, refl, ◌+◌, ◌-◌,
 use Rattle.std.proofs.lemmas.List.{take-map, drop-map, map-append}
 use Rattle.std.proofs.Common.{sym, ◌∙◌, ap, ap₂, subst, inl, inr, arith}
 use Rattle.air_field.specs.Ring.{CommRing, image, minus}
-use Rattle.air_field.specs.laws.Ring.{nil_add, ring_rules}
+use Rattle.air_field.specs.laws.Ring.{zero_add, ring_rules}
 use Rattle.air_field.specs.laws.RingSolver.{var, nought, unit, plus, times, less, ring}
 use Rattle.air_field.specs.laws.Images.{image-add, image-mul, image-zero, image-one, image-two}
 use Rattle.air_gadgets.specs.Bits.{AreBits, packed, ring_xor}
 use Rattle.air_gadgets.specs.Words.{number_of, xor_bits, rotated_left}
-use Rattle.air_gadgets.specs.Exact.{IsDomain}
+use Rattle.air_field.specs.Domain.{IsDomain}
 
 abbrev pub bit_check : {A : Type 0} → CommRing A → A → A
 bit_check R x = R.mul x (minus R x R.one)
@@ -20,27 +20,27 @@ ring_xors R (x ∷ xs) (y ∷ ys) = ring_xor R x y ∷ ring_xors R xs ys
 
 abbrev pub AllChecked : {A : Type 0} → CommRing A → List A → Type 0
 AllChecked R [] = Unit {0}
-AllChecked R (x ∷ xs) = (bit_check R x ≡ R.nil) × AllChecked R xs
+AllChecked R (x ∷ xs) = (bit_check R x ≡ R.zero) × AllChecked R xs
 
-pub same_of_minus : {A : Type 0} (R : CommRing A) (x y : A) → minus R x y ≡ R.nil → x ≡ y
+pub same_of_minus : {A : Type 0} (R : CommRing A) (x y : A) → minus R x y ≡ R.zero → x ≡ y
 same_of_minus R x y h =
-    ring R (x ∷ y ∷ []) (var 0) (plus (less (var 0) (var 1)) (var 1)) refl ∙ (ap (λ z. R.add z y) h ∙ nil_add R y)
+    ring R (x ∷ y ∷ []) (var 0) (plus (less (var 0) (var 1)) (var 1)) refl ∙ (ap (λ z. R.add z y) h ∙ zero_add R y)
 
 -- in a domain exactly the images of 0 and 1 pass the test for a bit
-pub bit_of_check : {A : Type 0} (R : CommRing A) → IsDomain R → (x : A) → bit_check R x ≡ R.nil → (n : ℕ) × (n < 2) × (x ≡ image R n)
+pub bit_of_check : {A : Type 0} (R : CommRing A) → IsDomain R → (x : A) → bit_check R x ≡ R.zero → (n : ℕ) × (n < 2) × (x ≡ image R n)
 bit_of_check R domain x h =
     elim (domain x (minus R x R.one) h) [
       | inl e ↦ (0, omega arith, e ∙ sym (image-zero R))
       | inr e ↦ (1, omega arith, same_of_minus R x R.one e ∙ sym (image-one R))
     ]
 
-check_at_zero : {A : Type 0} (R : CommRing A) → bit_check R R.nil ≡ R.nil
+check_at_zero : {A : Type 0} (R : CommRing A) → bit_check R R.zero ≡ R.zero
 check_at_zero R = simp ring_rules
 
-check_at_one : {A : Type 0} (R : CommRing A) → bit_check R R.one ≡ R.nil
+check_at_one : {A : Type 0} (R : CommRing A) → bit_check R R.one ≡ R.zero
 check_at_one R = simp ring_rules
 
-pub check_of_bit : {A : Type 0} (R : CommRing A) (n : ℕ) → n < 2 → bit_check R (image R n) ≡ R.nil
+pub check_of_bit : {A : Type 0} (R : CommRing A) (n : ℕ) → n < 2 → bit_check R (image R n) ≡ R.zero
 check_of_bit R zero h = ap (bit_check R) (image-zero R) ∙ check_at_zero R
 check_of_bit R (suc zero) h = ap (bit_check R) (image-one R) ∙ check_at_one R
 check_of_bit R (suc (suc n)) h = absurd (omega arith)
@@ -62,16 +62,16 @@ checks_of_bits R (n ∷ ns) h = (check_of_bit R n h.0, checks_of_bits R ns h.1)
 xor_at : {A : Type 0} (R : CommRing A) (m n k : ℕ) (x y z : A) → image R m ≡ x → image R n ≡ y → image R k ≡ z → ring_xor R x y ≡ z → ring_xor R (image R m) (image R n) ≡ image R k
 xor_at R m n k x y z hm hn hk h = ap₂ (ring_xor R) hm hn ∙ (h ∙ sym hk)
 
-xor_no_no : {A : Type 0} (R : CommRing A) → ring_xor R R.nil R.nil ≡ R.nil
+xor_no_no : {A : Type 0} (R : CommRing A) → ring_xor R R.zero R.zero ≡ R.zero
 xor_no_no R = ring R [] (less (plus nought nought) (plus (times nought nought) (times nought nought))) nought refl
 
-xor_no_yes : {A : Type 0} (R : CommRing A) → ring_xor R R.nil R.one ≡ R.one
+xor_no_yes : {A : Type 0} (R : CommRing A) → ring_xor R R.zero R.one ≡ R.one
 xor_no_yes R = ring R [] (less (plus nought unit) (plus (times nought unit) (times nought unit))) unit refl
 
-xor_yes_no : {A : Type 0} (R : CommRing A) → ring_xor R R.one R.nil ≡ R.one
+xor_yes_no : {A : Type 0} (R : CommRing A) → ring_xor R R.one R.zero ≡ R.one
 xor_yes_no R = ring R [] (less (plus unit nought) (plus (times unit nought) (times unit nought))) unit refl
 
-xor_yes_yes : {A : Type 0} (R : CommRing A) → ring_xor R R.one R.one ≡ R.nil
+xor_yes_yes : {A : Type 0} (R : CommRing A) → ring_xor R R.one R.one ≡ R.zero
 xor_yes_yes R = ring R [] (less (plus unit unit) (plus (times unit unit) (times unit unit))) nought refl
 
 pub xor-image : {A : Type 0} (R : CommRing A) (m n : ℕ) → m < 2 → n < 2 → ring_xor R (image R m) (image R n) ≡ image R ((m + n) % 2)
@@ -115,14 +115,14 @@ bits-rotated : (s : ℕ) (bs : List ℕ) → AreBits bs → AreBits (rotated_lef
 bits-rotated s bs h = bits-append (drop (32 - s) bs) (take (32 - s) bs) (bits-drop (32 - s) bs h) (bits-take (32 - s) bs h)
 
 -- the terms: the tests for bits, and what each half differs by
-abbrev pub half_term : {A : Type 0} → CommRing A → A → List A → A
-half_term R a xs = minus R a (packed R xs)
+abbrev pub half_value : {A : Type 0} → CommRing A → A → List A → A
+half_value R a xs = minus R a (packed R xs)
 
 abbrev pub TermsAreZero : {A : Type 0} → CommRing A → A → A → List A → List A → ℕ → Type 0
 TermsAreZero R a0 a1 bs cs s =
     (AllChecked R cs)
-    × (half_term R a0 (take 16 (ring_xors R bs (rotated_left s cs))) ≡ R.nil)
-    × (half_term R a1 (drop 16 (ring_xors R bs (rotated_left s cs))) ≡ R.nil)
+    × (half_value R a0 (take 16 (ring_xors R bs (rotated_left s cs))) ≡ R.zero)
+    × (half_value R a1 (drop 16 (ring_xors R bs (rotated_left s cs))) ≡ R.zero)
 
 -- what they mean: c is made of bits, and a is the xor of b and the rotated_left c
 abbrev pub IsXor : {A : Type 0} → CommRing A → A → A → List ℕ → List ℕ → ℕ → Type 0
@@ -142,7 +142,7 @@ cut_half R f g alike s bs ns hb hn =
     ap (λ xs. packed R (f xs)) (half-image R s bs ns hb hn)
     ∙ (ap (packed R) (alike (xor_bits bs (rotated_left s ns))) ∙ packed-images R (g (xor_bits bs (rotated_left s ns))))
 
-minus_own : {A : Type 0} (R : CommRing A) (x y : A) → x ≡ y → minus R x y ≡ R.nil
+minus_own : {A : Type 0} (R : CommRing A) (x y : A) → x ≡ y → minus R x y ≡ R.zero
 minus_own R x y e = ap (λ z. minus R z y) e ∙ R.add_neg y
 
 given_bits : {A : Type 0} (R : CommRing A) (a0 a1 : A) (bs ns : List ℕ) (s : ℕ) → AreBits bs → AreBits ns

@@ -24,8 +24,8 @@ pub fn add2<AB: AirBuilder>(
     requires ready { AB.ready builder.old }
     requires c_in { All (AB.Ring.has (AB.ring_of builder.old)) c.now }
     ensures { AssertedList (Adds2 AB.F.ring
-        (VariableMeans AB.Ring.FromVar-1.var_means AB.stands builder.old)
-        (Means AB.Ring.means AB.ring_of AB.stands builder.old) a.now b.now c.now)
+        (VariableMeans AB.Ring.FromVar-1.var_means AB.reads_as builder.old)
+        (Means AB.Ring.means AB.ring_of AB.reads_as builder.old) a.now b.now c.now)
         AB.kept AB.grew AB.refuses builder.old builder.new result }
 {
     let elements = sum_of_two(builder.ring(), a, b, c)?;
@@ -50,8 +50,8 @@ pub fn add3<AB: AirBuilder>(
     requires c_in { All (AB.Ring.has (AB.ring_of builder.old)) c.now }
     requires d_in { All (AB.Ring.has (AB.ring_of builder.old)) d.now }
     ensures { AssertedList (Adds3 AB.F.ring
-        (VariableMeans AB.Ring.FromVar-1.var_means AB.stands builder.old)
-        (Means AB.Ring.means AB.ring_of AB.stands builder.old) a.now b.now c.now d.now)
+        (VariableMeans AB.Ring.FromVar-1.var_means AB.reads_as builder.old)
+        (Means AB.Ring.means AB.ring_of AB.reads_as builder.old) a.now b.now c.now d.now)
         AB.kept AB.grew AB.refuses builder.old builder.new result }
 {
     let elements = sum_of_three(builder.ring(), a, b, c, d)?;

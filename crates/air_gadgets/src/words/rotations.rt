@@ -13,7 +13,7 @@ use air_field::{Algebra, Field, FromVar};
 fn assert_bit<AB: AirBuilder>(builder: &mut AB, variable: AB::Var) -> Result<(), AirError>
     requires { AB.ready builder.old }
     ensures { AssertedEach
-        (AssertsOf Base (VariableMeans AB.Ring.FromVar-1.var_means AB.stands)
+        (AssertsOf Base (VariableMeans AB.Ring.FromVar-1.var_means AB.reads_as)
         (bool_check_term AB.F.ONE))
         AB.kept AB.grew AB.refuses builder.old builder.new (variable ∷ []) result }
 {
@@ -25,7 +25,7 @@ fn assert_bit<AB: AirBuilder>(builder: &mut AB, variable: AB::Var) -> Result<(),
 fn assert_bits<AB: AirBuilder>(builder: &mut AB, variables: &[AB::Var]) -> Result<(), AirError>
     requires { AB.ready builder.old }
     ensures { AssertedEach
-        (AssertsOf Base (VariableMeans AB.Ring.FromVar-1.var_means AB.stands)
+        (AssertsOf Base (VariableMeans AB.Ring.FromVar-1.var_means AB.reads_as)
         (bool_check_term AB.F.ONE))
         AB.kept AB.grew AB.refuses builder.old builder.new variables.now result }
 {
@@ -46,7 +46,7 @@ fn assert_half<AB: AirBuilder>(
     requires some { 0 < length b.now }
     requires same { length b.now ≡ length c.now }
     ensures { AssertedEach
-        (HalfOf AB.F.ring (VariableMeans AB.Ring.FromVar-1.var_means AB.stands))
+        (HalfOf AB.F.ring (VariableMeans AB.Ring.FromVar-1.var_means AB.reads_as))
         AB.kept AB.grew AB.refuses builder.old builder.new ((limb, b.now, c.now) ∷ []) result }
 {
     let difference = less_packed(builder.ring(), limb, b, c)?;
@@ -68,7 +68,7 @@ pub fn xor_32_shift<AB: AirBuilder>(
     requires ready { AB.ready builder.old }
     requires within { shift ≤ 32 }
     ensures { AssertedList (Xors AB.F.ring
-        (VariableMeans AB.Ring.FromVar-1.var_means AB.stands builder.old) a.now b.now c.now shift)
+        (VariableMeans AB.Ring.FromVar-1.var_means AB.reads_as builder.old) a.now b.now c.now shift)
         AB.kept AB.grew AB.refuses builder.old builder.new result }
 {
     let [a0, a1] = *a;

@@ -8,26 +8,26 @@ use Rattle.air_field.specs.Ring.{CommRing, image, itself, minus}
 use Rattle.air_field.specs.Term.{Leaf, Term, leaf_term, main, sub_term}
 use Rattle.air_field.specs.Value.{value}
 use Rattle.air_field.specs.laws.Images.{image-add, image-mul, image-zero, image-one, image-two}
-use Rattle.air_field.specs.laws.Ring.{nil_add}
+use Rattle.air_field.specs.laws.Ring.{zero_add}
 use Rattle.air_field.specs.laws.RingSolver.{var, unit, plus, times, less, ring}
 use Rattle.air_builder.specs.Assertion.{Base}
 use Rattle.air_gadgets.specs.Exact.{AllVanish}
 use Rattle.air_gadgets.specs.Packing.{packed_from}
 use Rattle.air_words.specs.BitTerms.{terms_from, columns_from, bits_asserts, has_bits, packed_bits}
-use Rattle.air_words.specs.WordTerms.{word_at, word_bits}
+use Rattle.air_words.specs.WordTerms.{word_in_columns, word_bits}
 use Rattle.air_laws.specs.Numbers.{IsBelow, IsWord}
 use Rattle.air_laws.specs.laws.Vanishing.{both_vanish, one_vanishes}
 
 module _ {F : Type 0} (R : CommRing F) (domain : IsDomain R) (s : Leaf → F) where
   -- x (x - 1) is zero only of bits
-  bit_of : (x : F) → R.mul x (minus R x R.one) ≡ R.nil → (n : ℕ) × (n < 2) × (x ≡ image R n)
+  bit_of : (x : F) → R.mul x (minus R x R.one) ≡ R.zero → (n : ℕ) × (n < 2) × (x ≡ image R n)
   bit_of x h =
       elim (domain x (minus R x R.one) h) [
         | inl e ↦ (0, omega arith, e ∙ sym (image-zero R))
-        | inr e ↦ (1, omega arith, (ring R (x ∷ R.one ∷ []) (var 0) (plus (less (var 0) (var 1)) (var 1)) refl ∙ (ap (λ z. R.add z R.one) e ∙ nil_add R R.one)) ∙ sym (image-one R))
+        | inr e ↦ (1, omega arith, (ring R (x ∷ R.one ∷ []) (var 0) (plus (less (var 0) (var 1)) (var 1)) refl ∙ (ap (λ z. R.add z R.one) e ∙ zero_add R R.one)) ∙ sym (image-one R))
       ]
 
-  bit_below : (t : Term F) → value (itself R) s (bool_check_term R.one t) ≡ R.nil → IsBelow R s 2 t
+  bit_below : (t : Term F) → value (itself R) s (bool_check_term R.one t) ≡ R.zero → IsBelow R s 2 t
   bit_below t h = let b = bit_of (value (itself R) s t) h in record { number = b.0; below = b.1; is = b.2 }
 
   -- bits packed are below a power of two
@@ -58,11 +58,11 @@ module _ {F : Type 0} (R : CommRing F) (domain : IsDomain R) (s : Leaf → F) wh
       record {
         number = packed.number;
         below = packed.below;
-        is = (ring R (x ∷ y ∷ []) (var 0) (plus (less (var 0) (var 1)) (var 1)) refl ∙ (ap (λ z. R.add z y) parts.1.0 ∙ nil_add R y)) ∙ packed.is;
+        is = (ring R (x ∷ y ∷ []) (var 0) (plus (less (var 0) (var 1)) (var 1)) refl ∙ (ap (λ z. R.add z y) parts.1.0 ∙ zero_add R y)) ∙ packed.is;
       }
 
   -- a word that has its bits has 16 in each limb
-  pub bits_of_word : (first : ℕ) → AllVanish R s (word_bits R first (λ t. t)) → IsWord R s (word_at first)
+  pub bits_of_word : (first : ℕ) → AllVanish R s (word_bits R first (λ t. t)) → IsWord R s (word_in_columns first)
   unfolding word_bits
   bits_of_word first h =
       let low = leaf_term (main 0 first) in

@@ -52,8 +52,8 @@ fails_both f [] ys h k = k
 fails_both f (x ∷ xs) ys h k = (h.0, fails_both f xs ys h.1 k)
 
 module _ {F : Type 0} (r : CommRing F) (eq : F → F → Bool) (decides : (a b : F) → Decides (eq a b) (a ≡ b)) (trace : Trace F) where
-  zero_of : (a : F) → not (eq a r.nil) ≡ false → a ≡ r.nil
-  zero_of a e = (decides a r.nil).0 (turned (eq a r.nil) e)
+  zero_of : (a : F) → not (eq a r.zero) ≡ false → a ≡ r.zero
+  zero_of a e = (decides a r.zero).0 (turned (eq a r.zero) e)
     where
       turned : (b : Bool) → not b ≡ false → b ≡ true
       turned true e = refl
@@ -85,8 +85,8 @@ module _ {F : Type 0} (r : CommRing F) (eq : F → F → Bool) (decides : (a b :
   all_vanish ts h e row l =
       rows_vanish ts 0 h (unfiltered (is_nonzero r eq trace) (all_places h ts) (unmapped place _ e)) row (omega arith) (omega arith)
 
-  is_zero : (a : F) → a ≡ r.nil → not (eq a r.nil) ≡ false
-  is_zero a e = ap not ((decides a r.nil).1 e)
+  is_zero : (a : F) → a ≡ r.zero → not (eq a r.zero) ≡ false
+  is_zero a e = ap not ((decides a r.zero).1 e)
 
   row_fails : (row n : ℕ) (ts : List (Assertion F)) → AllVanish r (row_assignment r trace row) ts → Fails (is_nonzero r eq trace) (map (λ p. (row, p)) (enumerate_from n ts))
   unfolding Fails

@@ -7,7 +7,7 @@ use Rattle.air_wire.specs.declared.errors.FlatError.{FlatError}
 use Rattle.air_wire.specs.declared.errors.FlatError.TheVariants as faults
 use Rattle.air_wire.specs.Results.{◌>>=◌}
 use Rattle.air_wire.specs.laws.Readings.{done, done_is, bind_ok, ok_or_found}
-use Rattle.air_object.specs.Objects.{Grammar, by_form, AllSpell, FirstFault, list_of, needed, optional, both, both_or_none}
+use Rattle.air_object.specs.Objects.{Grammar, by_form, AllSpell, FirstElementFault, list_of, needed, optional, both, both_or_none}
 use Rattle.air_object.specs.Readers.{Reader, formed, each_from, list_read, needed_read, or_absent, optional_read, both_read, if_either}
 
 pub record Agrees {X : Type 0} (g : Grammar X) (read : Reader X) : Type 0 where
@@ -73,16 +73,16 @@ module _ {X : Type 0} (g : Grammar X) (read : Reader X) (agrees : Agrees g read)
       ap (λ (r : Result X FlatError). r >>= λ y. each_from read (before ++ y ∷ []) ds) (agrees.again d x h.0)
       ∙ each_again (before ++ x ∷ []) ds xs h.1 ∙ ap (λ v. done v) (append_assoc before (x ∷ []) xs)
 
-  each_fault : (before : List X) (ds : Items) (f : FlatError) → each_from read before ds ≡ Err f → FirstFault g ds f
+  each_fault : (before : List X) (ds : Items) (f : FlatError) → each_from read before ds ≡ Err f → FirstElementFault g ds f
   unfolding each_from
   each_fault before no_items f e = absurd cc
   each_fault before (item d ds) f e = at_item (λ x. each_fault (before ++ x ∷ []) ds f) (read d) refl e
     where
-      at_item : ((x : X) → each_from read (before ++ x ∷ []) ds ≡ Err f → FirstFault g ds f) → (r : Result X FlatError) → read d ≡ r → (r >>= λ x. each_from read (before ++ x ∷ []) ds) ≡ Err f → FirstFault g (item d ds) f
+      at_item : ((x : X) → each_from read (before ++ x ∷ []) ds ≡ Err f → FirstElementFault g ds f) → (r : Result X FlatError) → read d ≡ r → (r >>= λ x. each_from read (before ++ x ∷ []) ds) ≡ Err f → FirstElementFault g (item d ds) f
       at_item later (Ok x) is e = inr (x, agrees.found d x is, later x e)
       at_item later (Err h) is e = inl (agrees.fault d f (is ∙ ap (λ k. failed k) (err_is h f e)))
 
-  each_refused : (before : List X) (ds : Items) (f : FlatError) → FirstFault g ds f → each_from read before ds ≡ Err f
+  each_refused : (before : List X) (ds : Items) (f : FlatError) → FirstElementFault g ds f → each_from read before ds ≡ Err f
   unfolding each_from
   each_refused before no_items f h = absurd h
   each_refused before (item d ds) f (inl h) = ap (λ (r : Result X FlatError). r >>= λ x. each_from read (before ++ x ∷ []) ds) (agrees.refused d f h)

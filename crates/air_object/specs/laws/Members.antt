@@ -12,19 +12,19 @@ use Rattle.air_wire.specs.laws.Lists.{root_found, root_again, root_fault, root_f
 use Rattle.air_wire.specs.Parts.{whole}
 use Rattle.air_wire.specs.Results.{◌>>=◌}
 use Rattle.air_wire.specs.laws.Readings.{named, number_found}
-use Rattle.air_wire.specs.Spelling.{IsWhole}
+use Rattle.air_wire.specs.Spelling.{IsWholeNumber}
 use Rattle.air_wire.specs.declared.errors.FlatError.{FlatError}
 use Rattle.air_wire.specs.declared.errors.FlatError.TheVariants as faults
 use Rattle.air_object.specs.Objects.{list_of, needed, optional, both_or_none}
 use Rattle.air_object.specs.Members.{whole_number, ElementFault, element, constraint, cell, SpellsCap, cap, MemberValues, members}
-use Rattle.air_object.specs.Readers.{formed, tree, trees, elements, columns, cell_read, cells, cap_of, width_member, elements_member, table_member, constraints_member, periodic_member, boundary_member, cap_member, weight_member, members_read, Reader, both_read}
+use Rattle.air_object.specs.Readers.{formed, tree, trees, elements, columns, cell_read, cells, cap_in, width_member, elements_member, table_member, constraints_member, periodic_member, boundary_member, cap_member, weight_member, members_read, Reader, both_read}
 use Rattle.air_object.specs.laws.Agreement.{Agrees, by_form_agrees, list_agrees, needed_agrees, optional_agrees, both_agree, both_or_none_agrees, agrees_as, failed, err_is}
 
-whole_again : (d : Data) (n : ℕ) → IsWhole n d → whole d ≡ Some n
+whole_again : (d : Data) (n : ℕ) → IsWholeNumber n d → whole d ≡ Some n
 whole_again d n h = ap whole h
 
 whole_agrees : Agrees whole_number (λ d. formed (whole d))
-whole_agrees = by_form_agrees (λ d n. IsWhole n d) whole number_found whole_again
+whole_agrees = by_form_agrees (λ d n. IsWholeNumber n d) whole number_found whole_again
 
 cell_agrees : Agrees cell cell_read
 cell_agrees = by_form_agrees SpellsCell cell_of cell_laws.found cell_laws.again
@@ -33,8 +33,8 @@ cells_agree : Agrees (list_of cell) cells
 unfolding cells
 cells_agree = list_agrees cell cell_read cell_agrees
 
-cap_found : (d : Data) (o : Option ℕ) → cap_of d ≡ Some o → SpellsCap d o
-unfolding cap_of
+cap_found : (d : Data) (o : Option ℕ) → cap_in d ≡ Some o → SpellsCap d o
+unfolding cap_in
 cap_found null o e = named (SpellsCap null) None o refl e
 cap_found (boolean b) o e = absurd cc
 cap_found (number (unsigned n)) o e = named (SpellsCap (number (unsigned n))) (Some n) o refl e
@@ -44,13 +44,13 @@ cap_found (string s) o e = absurd cc
 cap_found (array ds) o e = absurd cc
 cap_found (object ms) o e = absurd cc
 
-cap_again : (d : Data) (o : Option ℕ) → SpellsCap d o → cap_of d ≡ Some o
-unfolding cap_of
+cap_again : (d : Data) (o : Option ℕ) → SpellsCap d o → cap_in d ≡ Some o
+unfolding cap_in
 cap_again d None h = rw h refl
 cap_again d (Some n) h = rw h refl
 
-cap_agrees : Agrees cap (λ d. formed (cap_of d))
-cap_agrees = by_form_agrees SpellsCap cap_of cap_found cap_again
+cap_agrees : Agrees cap (λ d. formed (cap_in d))
+cap_agrees = by_form_agrees SpellsCap cap_in cap_found cap_again
 
 width_agrees : (name : List ℕ) → Agrees (needed name whole_number) (width_member name)
 unfolding width_member
@@ -62,7 +62,7 @@ boundary_agrees = optional_agrees (codes "boundary") (list_of cell) cells cells_
 
 cap_member_agrees : Agrees (optional (codes "cap") None cap) cap_member
 unfolding cap_member
-cap_member_agrees = optional_agrees (codes "cap") cap (λ d. formed (cap_of d)) cap_agrees None
+cap_member_agrees = optional_agrees (codes "cap") cap (λ d. formed (cap_in d)) cap_agrees None
 
 weight_agrees : Agrees (optional (codes "transition_weight") 0 whole_number) weight_member
 unfolding weight_member

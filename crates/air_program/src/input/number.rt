@@ -1,7 +1,7 @@
 //! Numbers in decimal digits.
 
 ghost use Rattle.std.specs.Prelude.{◌≡◌, ◌≤◌, IfSome};
-ghost use Rattle.air_program.specs.Grammar.{number_of};
+ghost use Rattle.air_program.specs.Grammar.{number_in};
 
 const MOST_DIGITS: usize = 10;
 
@@ -9,9 +9,9 @@ const MOST_DIGITS: usize = 10;
 const GREATEST: u64 = 2013265920;
 
 /// The number that a field writes.
-#[tactic(auto, unfolding(crate::specs::Grammar::number_of))]
+#[tactic(auto, unfolding(crate::specs::Grammar::number_in))]
 pub fn number(field: &[u8]) -> Option<u32>
-    ensures value { result ≡ number_of field.now }
+    ensures value { result ≡ number_in field.now }
     ensures small { IfSome result (λ n. n ≤ 2013265920) }
 {
     if field.is_empty() || field.len() > MOST_DIGITS {

@@ -2,8 +2,8 @@
 
 ghost use Rattle.std.specs.Prelude.{◌≡◌, ◌<◌, ◌%◌, None, Some, ◌+◌, length, vec_len, IfOk, OnOk, IsErrOf};
 ghost use Rattle.std.specs.Str.Lines.{lines};
-ghost use Rattle.air_program.specs.Grammar.{numbers_of, rows_of, parse};
-ghost use Rattle.air_program.specs.Parsing.{residues, onto, PushesRow};
+ghost use Rattle.air_program.specs.Grammar.{numbers_of_line, rows_of_lines, parse};
+ghost use Rattle.air_program.specs.Parsing.{element_values, onto, PushesRow};
 
 use crate::input::number::number;
 use crate::input::pieces::{next_field, next_line};
@@ -30,10 +30,10 @@ impl<T: Drop> From<AllocFailed<T>> for ParseFault {
 /// Adds the numbers of a line at the end, and answers how many it has.
 #[tactic(auto, using(crate::proofs::Numbers::next_number))]
 fn push_numbers(numbers: &mut Vec<BabyBear>, line: &[u8]) -> Result<usize, ParseFault>
-    ensures numbers { OnOk result (onto (residues numbers.old.items) (numbers_of line.now) ≡ Some
-        (residues numbers.new.items)) }
+    ensures numbers { OnOk result (onto (element_values numbers.old.items)
+        (numbers_of_line line.now) ≡ Some (element_values numbers.new.items)) }
     ensures count { IfOk result (λ count. vec_len numbers.new ≡ vec_len numbers.old + count) }
-    ensures syntax { IsErrOf result ParseFault.Syntax → numbers_of line.now ≡ None }
+    ensures syntax { IsErrOf result ParseFault.Syntax → numbers_of_line line.now ≡ None }
 {
     let before = numbers.len();
     let mut rest = line;
@@ -50,12 +50,12 @@ fn push_numbers(numbers: &mut Vec<BabyBear>, line: &[u8]) -> Result<usize, Parse
 /// Adds the numbers of the next line that has some, and answers how many: 0 where no such line is left.
 #[tactic(auto, using(crate::proofs::Rows::row_taken, crate::proofs::Rows::line_skipped, crate::proofs::Rows::bad_line))]
 fn push_row(numbers: &mut Vec<BabyBear>, rest: &mut &[u8]) -> Result<usize, ParseFault>
-    ensures ok { IfOk result (λ count. PushesRow (residues numbers.old.items)
-        (residues numbers.new.items) count (rows_of (lines rest.old.now))
-        (rows_of (lines rest.new.now))) }
+    ensures ok { IfOk result (λ count. PushesRow (element_values numbers.old.items)
+        (element_values numbers.new.items) count (rows_of_lines (lines rest.old.now))
+        (rows_of_lines (lines rest.new.now))) }
     ensures shorter { IfOk result (λ count. 0 < count → length (lines rest.new.now) < length
         (lines rest.old.now)) }
-    ensures syntax { IsErrOf result ParseFault.Syntax → rows_of (lines rest.old.now) ≡ None }
+    ensures syntax { IsErrOf result ParseFault.Syntax → rows_of_lines (lines rest.old.now) ≡ None }
 {
     'lines: while let Some((line, after)) = next_line(*rest) {
         *rest = after;
@@ -78,7 +78,7 @@ pub struct Input {
 #[tactic(auto, unfolding(crate::specs::Grammar::parse))]
 pub fn parse(alloc: Global, bytes: &[u8]) -> Result<Input, ParseFault>
     ensures ok { IfOk result (λ input. parse bytes.now ≡ Some
-        (residues input.public_values.items, residues input.values.items)) }
+        (element_values input.public_values.items, element_values input.values.items)) }
     ensures three { IfOk result (λ input. vec_len input.public_values ≡ 3) }
     ensures whole_rows { IfOk result (λ input. vec_len input.values % 2 ≡ 0) }
     ensures syntax { IsErrOf result ParseFault.Syntax → parse bytes.now ≡ None }

@@ -1,7 +1,7 @@
 -- What bounds degrees of terms bounds the degrees of their polynomials over so many rows.
 use Rattle.std.proofs.Common.{ℕ, zero, suc, ◌-◌, ◌*◌, add-mul, ◌≤◌, max, List, slice_index_or, arith}
 use Rattle.std.proofs.Math.Nat.{max-le, le-max_left, le-max_right, mul-le-mul_right}
-use Rattle.air_field.specs.Ring.{Over}
+use Rattle.air_field.specs.Ring.{AlgebraOver}
 use Rattle.air_field.specs.Term.{Leaf, Term, leaf_term, const_term, ext_const_term, add_term, sub_term, neg_term, mul_term}
 use Rattle.air_field.specs.Degree.{degree_by, transition_weight}
 use Rattle.air_field.specs.laws.Degree.{polynomial-degree}
@@ -31,5 +31,5 @@ degrees_within (suc w) n periods ts d h two = λ k t b.
     omega (arith, scaled_within v (n - 1) u, mul-le-mul_right {m = degree_by v u} {n = d} (n - 1) (h.within k t b))
 
 -- Terms of such degrees have polynomials of such degrees.
-pub polynomials_within : {F E : Type 0} (a : Over F E) (w : Leaf → ℕ) (bound : ℕ) (ts : List (Term F)) → DegreesWithin w bound ts → PolynomialsWithin a w bound ts
+pub polynomials_within : {F E : Type 0} (a : AlgebraOver F E) (w : Leaf → ℕ) (bound : ℕ) (ts : List (Term F)) → DegreesWithin w bound ts → PolynomialsWithin a w bound ts
 polynomials_within a w bound ts h s leaves k d b m past = polynomial-degree a s w leaves (slice_index_or ts k d) m (omega (arith, past, h k d b))

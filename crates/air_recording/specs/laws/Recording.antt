@@ -14,7 +14,7 @@ use Rattle.air_builder.specs.laws.Zips.{AllZip-joined, AllZip-weaker}
 use Rattle.air_builder.specs.Assertion.{Assertion, Base, Extension}
 use Rattle.air_builder.specs.Builders.{BuilderView, BuilderLaws}
 use Rattle.air_builder.specs.laws.Refusals.{past_window_missing}
-use Rattle.air_builder.specs.Extensions.{ExtensionView, ExtensionLaws}
+use Rattle.air_builder.specs.Extensions.{ExtensionView, ExtensionRingLaws}
 use Rattle.air_builder.specs.Refused.{Refused}
 use Rattle.air_builder.specs.laws.Refused.{Refused-first, Refused-then, Refused-missing, Refused-ring}
 use Rattle.air_recording.specs.Kinds.{kind_of, base_terms, ext_terms}
@@ -160,7 +160,7 @@ module _ {R Q E X F : Type 0}
       ring_refuses = PoolRefuses;
       ring_of = λ b. base_of (pool b);
       with_ring = with_ring;
-      stands = λ _ l. leaf_term l;
+      reads_as = λ _ l. leaf_term l;
       ready = λ b. IsReady (ext_valid (pool b)) (means (base_of (pool b))) (fixed b);
       kept = λ a b. KeptRecording ext_extends (pool a) (pool b) (fixed a) (fixed b);
       grew = λ a b ts.
@@ -216,7 +216,7 @@ module _ {R Q E X F : Type 0}
         with_ring = with_ext_ring;
       }
 
-      pub recording_ext_laws : ExtensionLaws recording_view recording_over
+      pub recording_ext_laws : ExtensionRingLaws recording_view recording_over
       recording_ext_laws = record {
         ext_ring_lent = λ a q e. recorded_none (pool a) (pool (with_ext_ring a q)) (fixed a)
             (fixed (with_ext_ring a q)) (lists a) (lists (with_ext_ring a q))

@@ -3,7 +3,7 @@ use Rattle.std.specs.Prelude.{◌≡◌, ℕ, List, Option, Some, None, option_a
 use Rattle.std.proofs.Common.{sym, ap, ◌∙◌}
 use Rattle.serde_json.specs.Data.{Data}
 use Rattle.air_wire.specs.Spelling.{HasWhole}
-use Rattle.air_wire.specs.laws.Wholes.{wholes_read}
+use Rattle.air_wire.specs.laws.WholeNumbers.{wholes_read}
 use Rattle.air_wire.specs.Parts.{whole_at}
 use Rattle.air_wire.specs.laws.Readings.{named, field_found, field_read}
 use Rattle.air_recording.specs.Spellings.{layout_data, constraints_data, SpellsLayout, SpellsConstraints, HaveSameIndices, with_count, layout_of}

@@ -41,7 +41,7 @@ impl<F: Field, EF: ExtensionField<F>> AirBuilder for SymbolicAirBuilder<F, EF> {
 
     ghost with_ring = { λ b r. record b { pool = (r, b.pool.1) } };
 
-    ghost stands = { λ _ l. leaf_term l };
+    ghost reads_as = { λ _ l. leaf_term l };
 
     ghost ready = { λ b. IsReady (IsPool (ext_reads EF.basis) b.pool)
         (PoolMeans base_reads F.ring b.pool.0) (fixed_by b.selectors b.entries.base.layout) };

@@ -16,7 +16,7 @@ ghost use Rattle.air_recording.specs.SymbolicParts.{fixed_by};
 use crate::symbolic::builder::SymbolicAirBuilder;
 use air_builder::{
     AirBuilder, AirError, ExtensionBuilder, Name, NamedAirBuilder, NamedExtensionBuilder,
-    PassthroughNamedAirBuilder, Seen, SeenOver,
+    PassthroughNamedAirBuilder, View, ViewOver,
 };
 use air_field::{ExtensionField, Field};
 use air_symbolic::{BaseLeaf, ExprId, ExtLeaf};
@@ -40,9 +40,9 @@ impl<F: Field, EF: ExtensionField<F>> NamedAirBuilder for SymbolicAirBuilder<F, 
     ) -> Result<(), AirError>
         requires ready { ⟦<SymbolicAirBuilder<F, EF> as AirBuilder>⟧.ready self.old }
         requires of_ring { PoolHas base_reads self.old.pool.0 x }
-        ensures asserted { Asserts ⟦<SymbolicAirBuilder<F, EF> as Seen>⟧.view Base (λ t. t) self.old
+        ensures asserted { Asserts ⟦<SymbolicAirBuilder<F, EF> as View>⟧.view Base (λ t. t) self.old
             self.new (x ∷ []) result }
-        ensures label { Labels ⟦<SymbolicAirBuilder<F, EF> as Seen>⟧.view
+        ensures label { Labels ⟦<SymbolicAirBuilder<F, EF> as View>⟧.view
             (discarding ⟦<SymbolicAirBuilder<F, EF> as AirBuilder>⟧.grew) Base (λ t. t)
             (λ i. N.displays name) self.old self.new (x ∷ []) result }
     {
@@ -58,9 +58,9 @@ impl<F: Field, EF: ExtensionField<F>> NamedExtensionBuilder for SymbolicAirBuild
     ) -> Result<(), AirError>
         requires ready { ⟦<SymbolicAirBuilder<F, EF> as AirBuilder>⟧.ready self.old }
         requires of_ring { PoolHas (ext_reads EF.basis) self.old.pool x }
-        ensures asserted { Asserts ⟦<SymbolicAirBuilder<F, EF> as SeenOver>⟧.view Extension
+        ensures asserted { Asserts ⟦<SymbolicAirBuilder<F, EF> as ViewOver>⟧.view Extension
             (λ t. t) self.old self.new (x ∷ []) result }
-        ensures label { Labels ⟦<SymbolicAirBuilder<F, EF> as SeenOver>⟧.view
+        ensures label { Labels ⟦<SymbolicAirBuilder<F, EF> as ViewOver>⟧.view
             (discarding ⟦<SymbolicAirBuilder<F, EF> as AirBuilder>⟧.grew) Extension (λ t. t)
             (λ i. N.displays _name) self.old self.new (x ∷ []) result }
     {

@@ -11,7 +11,7 @@ use Rattle.air_builder.specs.Assertion.{Assertion}
 use Rattle.air_builder.specs.Builders.{BuilderLaws}
 use Rattle.air_builder.specs.Refusals.{NamesLeaf}
 use Rattle.air_builder.specs.laws.RowBuilders.{row_view, row_over, GrowsAtRow, row_laws, row_extension_laws}
-use Rattle.air_builder.specs.Extensions.{ExtensionLaws}
+use Rattle.air_builder.specs.Extensions.{ExtensionRingLaws}
 use Rattle.air_builder.specs.Refused.{Refused}
 use Rattle.air_builder.specs.laws.Refused.{Refused-first, Refused-then, Refused-missing}
 use Rattle.air_core.specs.declared.errors.AirError.{AirError}
@@ -110,8 +110,8 @@ module _ {F E : Type 0} (zero : RowData F E → Assertion F → Bool) where
     abbrev refuses : S → AirError → List (Assertion F) → Type 0
     refuses b e ts = RefusedAtRow zero (data_of b) (count b) e ts
 
-    grows : (stands : RowData F E → Leaf → Term F) → GrowsAtRow data_of shape stands grew refuses
-    grows stands = record {
+    grows : (reads_as : RowData F E → Leaf → Term F) → GrowsAtRow data_of shape reads_as grew refuses
+    grows reads_as = record {
       same = λ a. same_at_row (data_of a) (count a) (failures a);
       joined = λ a b c xs ys g h. joined_at_row (data_of a) (data_of b) (data_of c) (count a) (count b) (count c) (failures a) (failures b) (failures c) xs ys g h;
       same_row = λ a b xs g. g.same_row;
@@ -130,18 +130,18 @@ module _ {F E : Type 0} (zero : RowData F E → Assertion F → Bool) where
       };
     }
 
-    module _ (stands : RowData F E → Leaf → Term F) {R V : Type 0} (ring_of : S → R) (with_ring : S → R → S)
+    module _ (reads_as : RowData F E → Leaf → Term F) {R V : Type 0} (ring_of : S → R) (with_ring : S → R → S)
         (data_is : (a : S) (q : R) → data_of (with_ring a q) ≡ data_of a)
         (count_is : (a : S) (q : R) → count (with_ring a q) ≡ count a)
         (failures_is : (a : S) (q : R) → failures (with_ring a q) ≡ failures a)
         (ring_is : (a : S) (q : R) → ring_of (with_ring a q) ≡ q)
         {means : V → Term F → Type 0} where
       -- it keeps the laws
-      pub debug_laws : BuilderLaws (row_view data_of shape stands grew refuses ring_of with_ring means)
-      debug_laws = row_laws data_of shape stands grew refuses ring_of with_ring (λ a q. unchanged a (with_ring a q) (data_is a q) (count_is a q) (failures_is a q)) ring_is (grows stands)
+      pub debug_laws : BuilderLaws (row_view data_of shape reads_as grew refuses ring_of with_ring means)
+      debug_laws = row_laws data_of shape reads_as grew refuses ring_of with_ring (λ a q. unchanged a (with_ring a q) (data_is a q) (count_is a q) (failures_is a q)) ring_is (grows reads_as)
 
       -- and those of builders over an extension, for its ring over the extension
       pub debug_extension_laws : {B U : Type 0} (base_of : S → B) (base_means : U → Term F → Type 0) {with_base : S → B → S}
-          → ExtensionLaws (row_view data_of shape stands grew refuses base_of with_base base_means)
-          (row_over data_of shape stands grew refuses ring_of with_ring base_means means)
-      debug_extension_laws = row_extension_laws data_of shape stands grew refuses ring_of with_ring (λ a q. unchanged a (with_ring a q) (data_is a q) (count_is a q) (failures_is a q)) ring_is
+          → ExtensionRingLaws (row_view data_of shape reads_as grew refuses base_of with_base base_means)
+          (row_over data_of shape reads_as grew refuses ring_of with_ring base_means means)
+      debug_extension_laws = row_extension_laws data_of shape reads_as grew refuses ring_of with_ring (λ a q. unchanged a (with_ring a q) (data_is a q) (count_is a q) (failures_is a q)) ring_is

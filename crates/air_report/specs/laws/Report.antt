@@ -27,9 +27,9 @@ module _ {F : Type 0} (r : CommRing F) (eq : F → F → Bool) (trace : Trace F)
   row_places : (h : ℕ) (es : List (ℕ × Assertion F))
       → map place (filter (is_nonzero r eq trace) (map (λ p. (h, p)) es))
       ≡ map (λ k. (h, k))
-      (map (λ p. p.0) (filter (λ p. not (eq (assertion_value r (row_assignment r trace h) p.1) r.nil)) es))
+      (map (λ p. p.0) (filter (λ p. not (eq (assertion_value r (row_assignment r trace h) p.1) r.zero)) es))
   row_places h [] = refl
-  row_places h (e ∷ es) = step (not (eq (assertion_value r (row_assignment r trace h) e.1) r.nil)) _ _ (row_places h es)
+  row_places h (e ∷ es) = step (not (eq (assertion_value r (row_assignment r trace h) e.1) r.zero)) _ _ (row_places h es)
     where
       step : (b : Bool) (us : List (ℕ × (ℕ × Assertion F))) (vs : List (ℕ × Assertion F))
           → map place us ≡ map (λ k. (h, k)) (map (λ (p : ℕ × Assertion F). p.0) vs)

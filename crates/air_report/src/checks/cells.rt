@@ -1,7 +1,7 @@
 //! Boundary cells of a whole trace.
 ghost use Rattle.std.specs.Prelude.{◌≡◌, ◌+◌, ◌<◌, ◌≤◌, ◌^◌, ◌⊎◌, Some, IfOk, IfErr, OnOk, MatchOption, length, string_bytes};
 ghost use Rattle.air_core.specs.Boundary.{row_of, AreSound};
-ghost use Rattle.air_report.specs.Cells.{differs, differing, left_of, ListsCells, IsListedPast, cell_label, failure_text, CellsFit, IsCellFault, AgreeBelow, IsFirstDiffering};
+ghost use Rattle.air_report.specs.Cells.{differs, differing, left_of, ListsCells, IsListedPast, cell_label, label_text, CellsFit, IsCellFault, AgreeBelow, IsFirstDiffering};
 ghost use Rattle.air_report.specs.Report.{failure_place};
 
 use crate::checks::check::{is_reached, main_row};
@@ -65,7 +65,7 @@ fn cell_failure(
     place: usize,
 ) -> Result<ConstraintFailure, AirError>
     ensures place { IfOk result (λ f. failure_place f ≡ (row, count + place)) }
-    ensures label { IfOk result (λ f. failure_text f ≡ Some (cell_label cell.now)) }
+    ensures label { IfOk result (λ f. label_text f ≡ Some (cell_label cell.now)) }
     ensures refused { IfErr result (λ e. (e ≡ AirError.Memory)
         ⊎ ((e ≡ AirError.CountOverflow) × (2 ^ 64 ≤ count + place))) }
 {

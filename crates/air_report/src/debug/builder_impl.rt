@@ -3,7 +3,7 @@
 ghost use Rattle.std.specs.Prelude.{◌≡◌, refl, ⊤, OnOk};
 ghost use Rattle.air_builder.specs.Assertion.{Base};
 ghost use Rattle.air_builder.specs.Batches.{AssertsOf};
-ghost use Rattle.air_report.specs.Debug.{row_stands, is_zero_at, GrewAtRow};
+ghost use Rattle.air_report.specs.Debug.{row_reads_as, is_zero_at, GrewAtRow};
 ghost use Rattle.air_report.specs.DebugAsserts.{AssertedAtRow, MeansAtRow, LogsNameless};
 ghost use Rattle.air_report.specs.laws.Debug.{debug_laws};
 ghost use Rattle.air_report.specs.RowRefusals.{RowMissing, RefusedAtRow};
@@ -35,7 +35,7 @@ impl<'a, F: Field, EF: ExtensionField<F> + 'static> AirBuilder
 
     ghost with_ring = { λ b r. record b { ring = r } };
 
-    ghost stands = { λ b. row_stands F.ring EF.over EF.basis (debug_row b) };
+    ghost reads_as = { λ b. row_reads_as F.ring EF.over EF.basis (debug_row b) };
 
     ghost ready = { λ _. ⊤ };
 
@@ -51,7 +51,7 @@ impl<'a, F: Field, EF: ExtensionField<F> + 'static> AirBuilder
 
     ghost laws = { debug_laws (is_zero_at F.ring EF.over F.eq EF.eq) debug_row
         (λ b. b.constraint_index) (λ b. b.failures.items)
-        (row_stands F.ring EF.over EF.basis) (λ b. b.ring) (λ b r. record b { ring = r })
+        (row_reads_as F.ring EF.over EF.basis) (λ b. b.ring) (λ b r. record b { ring = r })
         (λ _ _. refl) (λ _ _. refl) (λ _ _. refl) (λ _ _. refl) };
 
     #[inline(always)]
@@ -121,7 +121,7 @@ impl<'a, F: Field, EF: ExtensionField<F> + 'static> AirBuilder
         ensures asserted { AssertedAtRow (is_zero_at F.ring EF.over F.eq EF.eq)
             (AssertsOf Base (MeansAtRow F.ring EF.over EF.basis) (λ t. t)) self.old self.new x
             result }
-        ensures nameless { OnOk result (LogsNameless (F.eq x F.ring.nil) self.old self.new) }
+        ensures nameless { OnOk result (LogsNameless (F.eq x F.ring.zero) self.old self.new) }
     {
         self.log(x == F::ZERO, "")
     }

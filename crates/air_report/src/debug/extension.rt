@@ -5,9 +5,9 @@ ghost use Rattle.air_field.specs.Term.{IsBase, permutation};
 ghost use Rattle.air_builder.specs.Assertion.{Extension};
 ghost use Rattle.air_builder.specs.Batches.{Asserts, AssertsOf};
 ghost use Rattle.air_builder.specs.Labels.{Labels};
-ghost use Rattle.air_builder.specs.Builders.{Means, RowStands};
+ghost use Rattle.air_builder.specs.Builders.{Means, RowReadsAs};
 ghost use Rattle.air_builder.specs.Refusals.{RowEnds};
-ghost use Rattle.air_report.specs.Debug.{is_zero_at, row_stands};
+ghost use Rattle.air_report.specs.Debug.{is_zero_at, row_reads_as};
 ghost use Rattle.air_report.specs.DebugLabels.{LabelledAtRow, LogRefuses};
 ghost use Rattle.air_report.specs.DebugAsserts.{AssertedAtRow, ExtMeansAtRow, LogsNameless};
 ghost use Rattle.air_report.specs.laws.Debug.{debug_extension_laws};
@@ -17,7 +17,7 @@ ghost use Rattle.air_report.specs.DebugRow.{debug_row};
 use crate::debug::builder::DebugConstraintBuilder;
 use air_builder::{
     AirBuilder, AirError, ExtensionBuilder, Name, NamedAirBuilder, NamedExtensionBuilder,
-    PermutationAirBuilder, RowWindow, SeenOver, WindowAccess,
+    PermutationAirBuilder, RowWindow, ViewOver, WindowAccess,
 };
 use air_field::{Algebra, ExtFieldRing, ExtensionField, Field};
 
@@ -37,7 +37,7 @@ impl<'a, F: Field, EF: ExtensionField<F> + 'static> ExtensionBuilder
 
     ghost ext_laws = { debug_extension_laws (is_zero_at F.ring EF.over F.eq EF.eq) debug_row
         (λ b. b.constraint_index) (λ b. b.failures.items)
-        (row_stands F.ring EF.over EF.basis) (λ b. b.ext_ring)
+        (row_reads_as F.ring EF.over EF.basis) (λ b. b.ext_ring)
         (λ b r. record b { ext_ring = r }) (λ _ _. refl) (λ _ _. refl) (λ _ _. refl) (λ _ _. refl)
         (λ b. b.ring) (λ x t. IsBase t × (closed_value F.ring t ≡ x)) };
 
@@ -52,7 +52,8 @@ impl<'a, F: Field, EF: ExtensionField<F> + 'static> ExtensionBuilder
         ensures asserted { AssertedAtRow (is_zero_at F.ring EF.over F.eq EF.eq)
             (AssertsOf Extension (ExtMeansAtRow F.ring EF.over EF.basis) (λ t. t)) self.old self.new
             x result }
-        ensures nameless { OnOk result (LogsNameless (EF.eq x EF.over.ring.nil) self.old self.new) }
+        ensures nameless { OnOk result
+            (LogsNameless (EF.eq x EF.over.ring.zero) self.old self.new) }
     {
         self.log(x == EF::zero(), "")
     }
@@ -62,14 +63,14 @@ impl<'a, F: Field, EF: ExtensionField<F> + 'static> NamedExtensionBuilder
     for DebugConstraintBuilder<'a, F, EF> {
     #[inline(always)]
     fn assert_zero_ext_named<N: Name>(&mut self, x: EF, name: N) -> Result<(), AirError>
-        requires can_evaluate { EF.eq x EF.over.ring.nil ≡ false → N.can_evaluate name }
-        ensures asserted { Asserts ⟦<DebugConstraintBuilder<'a, F, EF> as SeenOver>⟧.view Extension
+        requires can_evaluate { EF.eq x EF.over.ring.zero ≡ false → N.can_evaluate name }
+        ensures asserted { Asserts ⟦<DebugConstraintBuilder<'a, F, EF> as ViewOver>⟧.view Extension
             (λ t. t) self.old self.new (x ∷ []) result }
-        ensures label { Labels ⟦<DebugConstraintBuilder<'a, F, EF> as SeenOver>⟧.view
+        ensures label { Labels ⟦<DebugConstraintBuilder<'a, F, EF> as ViewOver>⟧.view
             ⟦<DebugConstraintBuilder<'a, F, EF> as NamedAirBuilder>⟧.labelled Extension (λ t. t)
             (λ i. N.displays name) self.old self.new (x ∷ []) result }
         ensures passes { IfErr result (LogRefuses self.old.constraint_index
-            (EF.eq x EF.over.ring.nil)) }
+            (EF.eq x EF.over.ring.zero)) }
     {
         self.log(x == EF::zero(), name)
     }
@@ -86,11 +87,11 @@ impl<'a, F: Field, EF: ExtensionField<F> + 'static> PermutationAirBuilder
     /// The window of the permutation trace; a builder that was made without one, and it alone, refuses.
     #[inline(always)]
     fn permutation(&self) -> Result<RowWindow<'a, EF>, AirError>
-        ensures current { IfOk result (λ w. RowStands (λ v t. closed_value_in EF.over t ≡ v)
-            (λ i. row_stands F.ring EF.over EF.basis (debug_row self.now) (permutation 0 i))
+        ensures current { IfOk result (λ w. RowReadsAs (λ v t. closed_value_in EF.over t ≡ v)
+            (λ i. row_reads_as F.ring EF.over EF.basis (debug_row self.now) (permutation 0 i))
             w.current.now) }
-        ensures next { IfOk result (λ w. RowStands (λ v t. closed_value_in EF.over t ≡ v)
-            (λ i. row_stands F.ring EF.over EF.basis (debug_row self.now) (permutation 1 i))
+        ensures next { IfOk result (λ w. RowReadsAs (λ v t. closed_value_in EF.over t ≡ v)
+            (λ i. row_reads_as F.ring EF.over EF.basis (debug_row self.now) (permutation 1 i))
             w.next.now) }
         ensures current_ends { IfOk result (λ w. RowEnds (RowMissing (debug_row self.now))
             (λ i. permutation 0 i) w.current.now) }

@@ -23,21 +23,21 @@ impl<'a, F: Field, EF: ExtensionField<F> + 'static> NamedAirBuilder
 
     #[inline(always)]
     fn assert_zero_named<N: Name>(&mut self, x: F, name: N) -> Result<(), AirError>
-        requires can_evaluate { F.eq x F.ring.nil ≡ false → N.can_evaluate name }
+        requires can_evaluate { F.eq x F.ring.zero ≡ false → N.can_evaluate name }
         ensures asserted { AssertedEach (AssertsOf Base (Means ⟦<FieldRing<F> as Algebra<F>>⟧.means
             ⟦<DebugConstraintBuilder<'a, F, EF> as AirBuilder>⟧.ring_of
-            ⟦<DebugConstraintBuilder<'a, F, EF> as AirBuilder>⟧.stands) (λ t. t))
+            ⟦<DebugConstraintBuilder<'a, F, EF> as AirBuilder>⟧.reads_as) (λ t. t))
             ⟦<DebugConstraintBuilder<'a, F, EF> as AirBuilder>⟧.kept
             ⟦<DebugConstraintBuilder<'a, F, EF> as AirBuilder>⟧.grew
             ⟦<DebugConstraintBuilder<'a, F, EF> as AirBuilder>⟧.refuses self.old self.new (x ∷ [])
             result }
         ensures label { LabelledEach (AssertsOf Base (Means ⟦<FieldRing<F> as Algebra<F>>⟧.means
             ⟦<DebugConstraintBuilder<'a, F, EF> as AirBuilder>⟧.ring_of
-            ⟦<DebugConstraintBuilder<'a, F, EF> as AirBuilder>⟧.stands) (λ t. t))
+            ⟦<DebugConstraintBuilder<'a, F, EF> as AirBuilder>⟧.reads_as) (λ t. t))
             (λ a b ls. LabelledAtRow (is_zero_at F.ring EF.over F.eq EF.eq) (debug_row a) (debug_row b)
             a.constraint_index b.constraint_index a.failures.items b.failures.items ls)
             (λ i. N.displays name) self.old self.new (x ∷ []) result }
-        ensures passes { IfErr result (LogRefuses self.old.constraint_index (F.eq x F.ring.nil)) }
+        ensures passes { IfErr result (LogRefuses self.old.constraint_index (F.eq x F.ring.zero)) }
     {
         self.log(x == F::ZERO, name)
     }

@@ -1,7 +1,7 @@
 -- What leaves over an extension keep as the base pool grows.
 use Rattle.std.specs.Prelude.{◌≡◌, ℕ, ◌-◌, Some, refl}
 use Rattle.std.proofs.Common.{◌∙◌, sym, subst, ap}
-use Rattle.air_field.specs.Ring.{CommRing, Over}
+use Rattle.air_field.specs.Ring.{CommRing, AlgebraOver}
 use Rattle.air_field.specs.Extension.{Basis, ExtensionLaws}
 use Rattle.air_field.specs.laws.Extension.{AllZero-replicate}
 use Rattle.air_field.specs.Term.{const_term, ext_const_term}
@@ -17,7 +17,7 @@ use Rattle.air_symbolic.specs.declared.leaves.ext_leaf.ExtLeaf.{ExtLeaf}
 use Rattle.air_symbolic.specs.declared.leaves.ext_leaf.ExtLeaf.TheVariants.{Base, ExtVariable, ExtConstant}
 use Rattle.air_symbolic.specs.ExtLeaves.{BaseNodes, no_base_nodes, ext_grows, ext_valid, ext_term, ext_constant, ext_reads}
 
-module _ {F EF : Type 0} {r : CommRing F} {over : Over F EF} {basis : Basis F EF} {n : ℕ} (laws : ExtensionLaws r over basis n) where
+module _ {F EF : Type 0} {r : CommRing F} {over : AlgebraOver F EF} {basis : Basis F EF} {n : ℕ} (laws : ExtensionLaws r over basis n) where
   -- a base tree that is a constant
   base_tree-constant : (t : Tree (BaseLeaf F)) (c : F) → tree_constant base_constant t ≡ Some c → Same r (const_term c) (term_of base_term t)
   base_tree-constant nothing c e = cc

@@ -1,7 +1,7 @@
 -- What a pool over an extension keeps, as itself and of the base pool that it owns.
 use Rattle.std.specs.Prelude.{◌≡◌, ℕ}
 use Rattle.std.proofs.Common.{subst}
-use Rattle.air_field.specs.Ring.{CommRing, Over}
+use Rattle.air_field.specs.Ring.{CommRing, AlgebraOver}
 use Rattle.air_field.specs.Extension.{Basis, ExtensionLaws}
 use Rattle.air_field.specs.Algebra.{AlgebraLaws}
 use Rattle.air_field.specs.ExtAlgebra.{ExtAlgebraLaws}
@@ -14,7 +14,7 @@ use Rattle.air_symbolic.specs.PoolRefusals.{PoolRefuses}
 use Rattle.air_symbolic.specs.laws.Pools.{pool_laws, Grown-under, has-kept, means-kept}
 use Rattle.air_symbolic.specs.ExtPool.{ExtNodes, BaseHas, BaseMeans}
 
-module _ {F EF : Type 0} {r : CommRing F} {over : Over F EF} {basis : Basis F EF} {n : ℕ} (laws : ExtensionLaws r over basis n) where
+module _ {F EF : Type 0} {r : CommRing F} {over : AlgebraOver F EF} {basis : Basis F EF} {n : ℕ} (laws : ExtensionLaws r over basis n) where
   -- what an extension pool keeps as a ring of expressions
   pub ext_pool_laws : AlgebraLaws (IsPool (ext_reads basis)) (PoolHas (ext_reads basis))
       (PoolMeans (ext_reads basis) r) (Grown ext_grows (ext_reads basis)) PoolRefuses

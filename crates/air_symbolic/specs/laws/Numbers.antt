@@ -5,7 +5,7 @@ use Rattle.std.proofs.lemmas.Bool.{ne_eqb, cases_lt}
 use Rattle.std.proofs.lemmas.Bool.Decides.{eqb_tells}
 use Rattle.air_field.specs.Degree.{degree_by, cached_weight}
 use Rattle.air_symbolic.specs.Leaves.{Leaves, Keeps}
-use Rattle.air_symbolic.specs.Trees.{Tree, nothing, leaf_tree, add_tree, sub_tree, neg_tree, mul_tree, term_of, IsWhole}
+use Rattle.air_symbolic.specs.Trees.{Tree, nothing, leaf_tree, add_tree, sub_tree, neg_tree, mul_tree, term_of, IsWholeTree}
 use Rattle.air_symbolic.specs.Nodes.{unfold_node, tree_of, node_at, cached_degree, NodeFits, WellFormed}
 use Rattle.air_symbolic.specs.declared.pools.expr.SymbolicExpr.{SymbolicExpr}
 use Rattle.air_symbolic.specs.declared.pools.expr.SymbolicExpr.TheVariants.{Leaf, Add, Sub, Neg, Mul}
@@ -41,27 +41,27 @@ tree_of-kept (n ∷ more) old i h = tree_of-older n (more ++ old) i (below more 
 
 -- Every tree of well-formed nodes is whole.
 module _ {A F : Type 0} (l : Leaves A F) where
-  node_whole : (older : List (SymbolicExpr A)) → ((i : ℕ) → i < length older → IsWhole l.valid (tree_of older i))
-      → (n : SymbolicExpr A) → NodeFits l older n → IsWhole l.valid (unfold_node (tree_of older) n)
+  node_whole : (older : List (SymbolicExpr A)) → ((i : ℕ) → i < length older → IsWholeTree l.valid (tree_of older i))
+      → (n : SymbolicExpr A) → NodeFits l older n → IsWholeTree l.valid (unfold_node (tree_of older) n)
   node_whole older ih (Leaf a) h = h
   node_whole older ih (Add x y d) h = (ih x h.0, ih y h.1)
   node_whole older ih (Sub x y d) h = (ih x h.0, ih y h.1)
   node_whole older ih (Neg x d) h = ih x h.0
   node_whole older ih (Mul x y d) h = (ih x h.0, ih y h.1)
 
-  pub tree_of-whole : (ns : List (SymbolicExpr A)) → WellFormed l ns → (i : ℕ) → i < length ns → IsWhole l.valid (tree_of ns i)
+  pub tree_of-whole : (ns : List (SymbolicExpr A)) → WellFormed l ns → (i : ℕ) → i < length ns → IsWholeTree l.valid (tree_of ns i)
   tree_of-whole [] wf i b = absurd (omega arith)
   tree_of-whole (n ∷ older) wf i b =
       ⊎_elim
       (λ (p : i ≡ length older).
-      subst (λ k. IsWhole l.valid (tree_of (n ∷ older) k)) (sym p)
-      (subst (λ t. IsWhole l.valid t) (sym (tree_of-newest n older)) (node_whole older (tree_of-whole older wf.2) n wf.0)))
-      (λ (lt : i < length older). subst (λ t. IsWhole l.valid t) (sym (tree_of-older n older i lt)) (tree_of-whole older wf.2 i lt))
+      subst (λ k. IsWholeTree l.valid (tree_of (n ∷ older) k)) (sym p)
+      (subst (λ t. IsWholeTree l.valid t) (sym (tree_of-newest n older)) (node_whole older (tree_of-whole older wf.2) n wf.0)))
+      (λ (lt : i < length older). subst (λ t. IsWholeTree l.valid t) (sym (tree_of-older n older i lt)) (tree_of-whole older wf.2 i lt))
       (at_end i (length older) b)
 
 -- What m keeps of l's leaves is kept along a tree, and nodes stay well formed.
 module _ {A F : Type 0} (l m : Leaves A F) (k : Keeps l m) where
-  pub term_of-kept : (t : Tree A) → IsWhole l.valid t → term_of m.term t ≡ term_of l.term t
+  pub term_of-kept : (t : Tree A) → IsWholeTree l.valid t → term_of m.term t ≡ term_of l.term t
   term_of-kept nothing h = refl
   term_of-kept (leaf_tree a) h = k.term a h
   term_of-kept (add_tree t u) h = cc (term_of-kept t h.0, term_of-kept u h.1)

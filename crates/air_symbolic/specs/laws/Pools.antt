@@ -57,7 +57,7 @@ module _ {U A F : Type 0} (r : CommRing F) (reads : U → Leaves A F) (grows : U
   means-kept p q i t g h = record {
     pool = g.pool h.pool;
     here = here-kept p q i g h.here;
-    stands = subst (λ x. Simplifies r x t) (sym (term-kept p q i g record { pool = h.pool; here = h.here })) h.stands;
+    simplifies = subst (λ x. Simplifies r x t) (sym (term-kept p q i g record { pool = h.pool; here = h.here })) h.simplifies;
   }
 
   -- what a pool keeps as a ring of expressions
@@ -71,5 +71,5 @@ module _ {U A F : Type 0} (r : CommRing F) (reads : U → Leaves A F) (grows : U
     means_stays = means-kept;
     means_has = λ p x t h. record { pool = h.pool; here = h.here };
     has_valid = λ p x h. h.pool;
-    means_some = λ p x h. (term_at reads p x, record { pool = h.pool; here = h.here; stands = record { same = same_refl; degree_le = λ w. omega arith } });
+    means_some = λ p x h. (term_at reads p x, record { pool = h.pool; here = h.here; simplifies = record { same = same_refl; degree_le = λ w. omega arith } });
   }

@@ -2,7 +2,7 @@
 use Rattle.std.proofs.Common.{◌≡◌, ℕ, ap, refl}
 use Rattle.air_field.specs.Ring.{CommRing}
 use Rattle.air_symbolic.specs.laws.Pools.{tree-kept}
-use Rattle.air_symbolic.specs.Trees.{Tree, nothing, leaf_tree, add_tree, sub_tree, neg_tree, mul_tree, IsWhole}
+use Rattle.air_symbolic.specs.Trees.{Tree, nothing, leaf_tree, add_tree, sub_tree, neg_tree, mul_tree, IsWholeTree}
 use Rattle.air_symbolic.specs.Pools.{tree_at}
 use Rattle.air_symbolic.specs.BaseLeaves.{base_leaves, base_reads, base_grows}
 use Rattle.air_symbolic.specs.laws.BaseLeaves.{base_leaf_laws}
@@ -21,7 +21,7 @@ module _ {F EF : Type 0} (u : BaseNodes F) where
   same_leaf (ExtConstant c) (ExtConstant d) h k e = cc
   same_leaf _ _ h k e = absurd (cc)
 
-  pub same_tree : (t v : Tree (ExtLeaf F EF)) → IsWhole (ext_valid u) t → IsWhole (ext_valid u) v → whole_tree u t ≡ whole_tree u v → t ≡ v
+  pub same_tree : (t v : Tree (ExtLeaf F EF)) → IsWholeTree (ext_valid u) t → IsWholeTree (ext_valid u) v → whole_tree u t ≡ whole_tree u v → t ≡ v
   same_tree nothing v h k e = absurd h
   same_tree (leaf_tree a) (leaf_tree b) h k e =
       let l : whole_leaf u a ≡ whole_leaf u b = cc in
@@ -38,7 +38,7 @@ module _ {F EF : Type 0} (u : BaseNodes F) where
 
 -- A whole tree stays while the base pool grows.
 module _ {F EF : Type 0} (r : CommRing F) (u v : BaseNodes F) (g : ext_grows u v) where
-  pub whole_tree-kept : (t : Tree (ExtLeaf F EF)) → IsWhole (ext_valid u) t → whole_tree v t ≡ whole_tree u t
+  pub whole_tree-kept : (t : Tree (ExtLeaf F EF)) → IsWholeTree (ext_valid u) t → whole_tree v t ≡ whole_tree u t
   whole_tree-kept nothing h = refl
   whole_tree-kept (leaf_tree (Base i)) h =
       ap (λ k. leaf_tree (whole_base k)) (tree-kept r base_reads base_grows tt (base_leaf_laws r) u v i g h.here)

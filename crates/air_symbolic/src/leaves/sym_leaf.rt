@@ -109,7 +109,7 @@ pub trait SymLeaf: Copy + Eq + Ord + Debug {
     fn zero(under: &mut Self::Under) -> Result<Self, RingError>
         requires { (reads under.old).sound }
         ensures grown { grows under.old under.new }
-        ensures made { IfOk result (IsConstLeaf (reads under.new) Self.F.ring.nil) }
+        ensures made { IfOk result (IsConstLeaf (reads under.new) Self.F.ring.zero) }
         ensures refused { IfErr result (λ e. e ≡ RingError.Memory) }
     {
         Self::from_const(Self::F::ZERO, under)

@@ -28,7 +28,7 @@ impl<A: SymLeaf> ExprPool<A> {
     pub fn zero(&mut self) -> Result<ExprId<A>, RingError>
         requires { IsPool A.reads self.old }
         ensures grown { Grown A.grows A.reads self.old self.new }
-        ensures made { IfOk result (HasConst A.reads self.new A.F.ring.nil) }
+        ensures made { IfOk result (HasConst A.reads self.new A.F.ring.zero) }
         ensures refused { IfErr result (λ e. e ≡ RingError.Memory) }
     {
         self.constant(A::F::ZERO)
@@ -64,7 +64,7 @@ impl<A: SymLeaf> ExprPool<A> {
         requires y_in { y < length self.old.1 }
         ensures grown { Grown A.grows A.reads self.old self.new }
         ensures made { IfOk result (IsSum A.reads A.F.ring A.F.eq self.old self.new x y) }
-        ensures stands { IfOk result (λ z. Simplifies A.F.ring (term_at A.reads self.new z)
+        ensures simplifies { IfOk result (λ z. Simplifies A.F.ring (term_at A.reads self.new z)
             (add_term (term_at A.reads self.old x) (term_at A.reads self.old y))) }
         ensures refused { IfErr result (λ e. e ≡ RingError.Memory) }
     {
@@ -81,7 +81,7 @@ impl<A: SymLeaf> ExprPool<A> {
         requires y_in { y < length self.old.1 }
         ensures grown { Grown A.grows A.reads self.old self.new }
         ensures made { IfOk result (IsDifference A.reads A.F.ring A.F.eq self.old self.new x y) }
-        ensures stands { IfOk result (λ z. Simplifies A.F.ring (term_at A.reads self.new z)
+        ensures simplifies { IfOk result (λ z. Simplifies A.F.ring (term_at A.reads self.new z)
             (sub_term (term_at A.reads self.old x) (term_at A.reads self.old y))) }
         ensures refused { IfErr result (λ e. e ≡ RingError.Memory) }
     {
@@ -97,7 +97,7 @@ impl<A: SymLeaf> ExprPool<A> {
         requires x_in { x < length self.old.1 }
         ensures grown { Grown A.grows A.reads self.old self.new }
         ensures made { IfOk result (IsNegative A.reads A.F.ring A.F.eq self.old self.new x) }
-        ensures stands { IfOk result (λ z. Simplifies A.F.ring (term_at A.reads self.new z)
+        ensures simplifies { IfOk result (λ z. Simplifies A.F.ring (term_at A.reads self.new z)
             (neg_term (term_at A.reads self.old x))) }
         ensures refused { IfErr result (λ e. e ≡ RingError.Memory) }
     {
@@ -115,7 +115,7 @@ impl<A: SymLeaf> ExprPool<A> {
         requires y_in { y < length self.old.1 }
         ensures grown { Grown A.grows A.reads self.old self.new }
         ensures made { IfOk result (IsProduct A.reads A.F.ring A.F.eq self.old self.new x y) }
-        ensures stands { IfOk result (λ z. Simplifies A.F.ring (term_at A.reads self.new z)
+        ensures simplifies { IfOk result (λ z. Simplifies A.F.ring (term_at A.reads self.new z)
             (mul_term (term_at A.reads self.old x) (term_at A.reads self.old y))) }
         ensures overflow { (result ≡ Err RingError.DegreeOverflow)
             ↔ (NeedsNode A.reads A.F.ring A.F.eq self.old x y

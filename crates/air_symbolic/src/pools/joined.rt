@@ -18,8 +18,8 @@ impl<A: SymLeaf> ExprPool<A> {
         requires all_in { All (λ x. x < length self.old.1) xs.now }
         ensures grown { Grown A.grows A.reads self.old self.new }
         ensures made { IfOk result (IsSumOfAll A.reads A.F.ring A.F.eq self.old self.new xs.now) }
-        ensures stands { IfOk result (λ z. Simplifies A.F.ring (term_at A.reads self.new z)
-            (join_terms add_term A.F.ring.nil (map (term_at A.reads self.old) xs.now))) }
+        ensures simplifies { IfOk result (λ z. Simplifies A.F.ring (term_at A.reads self.new z)
+            (join_terms add_term A.F.ring.zero (map (term_at A.reads self.old) xs.now))) }
         ensures refused { IfErr result (λ e. e ≡ RingError.Memory) }
     {
         let [first, rest @ ..] = xs else {
@@ -40,7 +40,7 @@ impl<A: SymLeaf> ExprPool<A> {
         ensures grown { Grown A.grows A.reads self.old self.new }
         ensures made { IfOk result (IsProductOfAll A.reads A.F.ring A.F.eq self.old self.new
             xs.now) }
-        ensures stands { IfOk result (λ z. Simplifies A.F.ring (term_at A.reads self.new z)
+        ensures simplifies { IfOk result (λ z. Simplifies A.F.ring (term_at A.reads self.new z)
             (join_terms mul_term A.F.ring.one (map (term_at A.reads self.old) xs.now))) }
         ensures overflow { result ≡ Err RingError.DegreeOverflow → ProductOverflows A.F.ring A.F.eq
             (A.reads self.new.0) (map (tree_at self.old) xs.now) }

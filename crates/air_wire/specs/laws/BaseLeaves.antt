@@ -11,12 +11,12 @@ use Rattle.air_symbolic.specs.declared.leaves.base_leaf.BaseLeaf.{BaseLeaf}
 use Rattle.air_symbolic.specs.declared.leaves.base_leaf.BaseLeaf.TheVariants as leaves
 use Rattle.air_wire.specs.Parts.{whole}
 use Rattle.air_wire.specs.Results.{◌>>=◌}
-use Rattle.air_wire.specs.Spelling.{number_data, case_data, IsWhole}
+use Rattle.air_wire.specs.Spelling.{number_data, case_data, IsWholeNumber}
 use Rattle.air_wire.specs.laws.Readings.{mapped, done, done_is, not_done, bind_ok, ok_or_found, test_ok, name_ok, name_found, text_read, number_found, failed, err_is, not_failed, ok_or_failed, before_done, test_failed, name_failed}
 use Rattle.air_wire.specs.Entries.{variable_plain}
 use Rattle.air_wire.specs.laws.Entries.{variable_laws}
 use Rattle.air_wire.specs.Nodes.{KindLaws}
-use Rattle.air_wire.specs.Seen.{over}
+use Rattle.air_wire.specs.Unshared.{over}
 use Rattle.air_wire.specs.laws.LeafFaults.{leaf_fault_found, leaf_fault_again}
 use Rattle.air_wire.specs.BaseLeaves.{SpellsLeaf, IsPast, OwnLeafFault, WritesLeaf, element_or, element_at, bare_leaves, bare_leaf, leaf_with, leaf_at, base_kind, base_seen}
 use Rattle.air_wire.specs.declared.errors.FlatError.{FlatError}
@@ -33,11 +33,11 @@ module _ {F : Type 0} {p : ℕ} (m : Modular F p) where
       test_ok (λ y. Some n ≡ Some (m.value y)) (nat_lt n p) (Ok (m.class n)) (Err (faults.NotCanonical place)) x e
       (λ small e. ap (λ k. Some k) (class_number n x small e)) (not_done (λ y. Some n ≡ Some (m.value y)) (faults.NotCanonical place) x)
 
-  pub element_found : (place : ℕ) (d : Data) (x : F) → element_at m place d ≡ Ok x → IsWhole (m.value x) d
+  pub element_found : (place : ℕ) (d : Data) (x : F) → element_at m place d ≡ Ok x → IsWholeNumber (m.value x) d
   unfolding element_at
   element_found place d x e = number_found d (m.value x) (element_found_of place (whole d) x e)
 
-  pub element_again : (place : ℕ) (d : Data) (x : F) → IsWhole (m.value x) d → element_at m place d ≡ Ok x
+  pub element_again : (place : ℕ) (d : Data) (x : F) → IsWholeNumber (m.value x) d → element_at m place d ≡ Ok x
   unfolding element_at
   element_again place d x h =
       ap (λ e. element_or m place (whole e)) h

@@ -12,8 +12,8 @@ use Rattle.air_wire.specs.Parts.{whole}
 use Rattle.air_wire.specs.Results.{◌>>=◌}
 use Rattle.air_wire.specs.Spelling.{number_data}
 use Rattle.air_wire.specs.laws.Readings.{done, done_is, not_done, bind_ok, ok_or_found, test_ok, number_found, err_is, not_failed, ok_or_failed, bind_failed, test_failed}
-use Rattle.air_wire.specs.Wholes.{wholes_data, SomePast, HasPast}
-use Rattle.air_wire.specs.laws.Wholes.{whole_items_found, whole_items_again}
+use Rattle.air_wire.specs.WholeNumbers.{wholes_data, SomePast, HasPast}
+use Rattle.air_wire.specs.laws.WholeNumbers.{whole_items_found, whole_items_again}
 use Rattle.air_wire.specs.declared.errors.FlatError.{FlatError}
 use Rattle.air_wire.specs.declared.errors.FlatError.TheVariants as faults
 use Rattle.air_wire.specs.Coefficients.{number_items, wholes, is_canonical, if_count, if_canonical, elements_at}

@@ -2,7 +2,7 @@
 use Rattle.std.specs.Prelude.{◌≡◌, ℕ, List, Result, Ok, Err, option_map, codes, ok_or, length, refl}
 use Rattle.std.proofs.Common.{sym, ap, ◌∙◌, ◌⊎◌, inl, inr, ⊎_elim}
 use Rattle.serde_json.specs.Data.{Data, array}
-use Rattle.air_field.specs.Ring.{CommRing, Over}
+use Rattle.air_field.specs.Ring.{CommRing, AlgebraOver}
 use Rattle.air_field.specs.Extension.{Basis, ExtensionLaws}
 use Rattle.air_field.specs.laws.Extension.{padded-whole}
 use Rattle.air_field.specs.Modular.{Modular}
@@ -21,15 +21,15 @@ use Rattle.air_wire.specs.ExtEntries.{ext_variable_plain}
 use Rattle.air_wire.specs.laws.ExtEntries.{ext_variable_laws}
 use Rattle.air_wire.specs.Coefficients.{number_items, elements_at}
 use Rattle.air_wire.specs.laws.Coefficients.{elements_found, elements_again, elements_failed, elements_past}
-use Rattle.air_wire.specs.Wholes.{HasPast}
+use Rattle.air_wire.specs.WholeNumbers.{HasPast}
 use Rattle.air_wire.specs.laws.LeafFaults.{leaf_fault_found, leaf_fault_again}
-use Rattle.air_wire.specs.Seen.{WireLaws}
+use Rattle.air_wire.specs.Unshared.{WireLaws}
 use Rattle.air_wire.specs.Nodes.{KindLaws, root_of}
 use Rattle.air_wire.specs.laws.Lists.{root_found, root_again, root_fault, root_fault_read}
 use Rattle.air_wire.specs.laws.Written.{written_list, one_list}
 use Rattle.air_wire.specs.BaseLeaves.{base_kind}
 use Rattle.air_wire.specs.laws.BaseLeaves.{base_kind_laws}
-use Rattle.air_wire.specs.ExtLeaves.{SpellsWhole, WritesWhole, whole_term, at_place, OwnWholeFault, moved, ext_constant_at, ext_leaf_with, ext_leaf_at, ext_kind}
+use Rattle.air_wire.specs.ExtLeaves.{SpellsWhole, WritesWhole, whole_leaf_term, at_place, OwnWholeFault, moved, ext_constant_at, ext_leaf_with, ext_leaf_at, ext_kind}
 use Rattle.air_wire.specs.declared.errors.FlatError.{FlatError}
 use Rattle.air_wire.specs.declared.errors.FlatError.TheVariants as faults
 
@@ -48,18 +48,18 @@ module _ {F EF : Type 0} (r : CommRing F) (basis : Basis F EF) where
   seen-kept u v g (ExtVariable x) h = refl
   seen-kept u v g (ExtConstant c) h = refl
 
-  seen-term : (u : BaseNodes F) (a : ExtLeaf F EF) → whole_term basis (whole_leaf u a) ≡ (ext_reads basis u).term a
+  seen-term : (u : BaseNodes F) (a : ExtLeaf F EF) → whole_leaf_term basis (whole_leaf u a) ≡ (ext_reads basis u).term a
   seen-term u (Base i) = refl
   seen-term u (ExtVariable x) = refl
   seen-term u (ExtConstant c) = refl
 
-  pub ext_wire_laws : WireLaws (ext_reads basis) (λ u v. ext_grows u v) (λ u a. whole_leaf u a) (whole_term basis)
+  pub ext_wire_laws : WireLaws (ext_reads basis) (λ u v. ext_grows u v) (λ u a. whole_leaf u a) (whole_leaf_term basis)
   ext_wire_laws = record { term_is = seen-term; kept = seen-kept; one = λ u. same_leaf u }
 
-module _ {F EF : Type 0} {p : ℕ} (m : Modular F p) (r : CommRing F) (a : Over F EF) (basis : Basis F EF) (count : ℕ) (laws : ExtensionLaws r a basis count) where
+module _ {F EF : Type 0} {p : ℕ} (m : Modular F p) (r : CommRing F) (a : AlgebraOver F EF) (basis : Basis F EF) (count : ℕ) (laws : ExtensionLaws r a basis count) where
   -- the element of a list of so many coefficients
   extended : (cs : List F) → length cs ≡ count → basis.coefficients (a.extend cs) ≡ cs
-  extended cs h = laws.extend_is cs ∙ padded-whole r.nil count cs h
+  extended cs h = laws.extend_is cs ∙ padded-whole r.zero count cs h
 
   pub made_of : (e : EF) (cs : List F) → length cs ≡ count → basis.coefficients e ≡ cs → e ≡ a.extend cs
   made_of e cs h is = laws.same e (a.extend cs) (is ∙ sym (extended cs h))

@@ -11,10 +11,10 @@ use Rattle.air_wire.specs.declared.errors.FlatError.{FlatError}
 use Rattle.air_wire.specs.declared.errors.FlatError.TheVariants as faults
 use Rattle.air_wire.specs.Results.{◌>>=◌, Fails, Gives}
 use Rattle.air_wire.specs.laws.Readings.{done, done_is, not_done, bind_ok, ok_or_found, failed, err_is}
-use Rattle.air_wire.specs.Nodes.{Kind, KindLaws, node_at, nodes_from, last_tree, root_of}
-use Rattle.air_wire.specs.Good.{AreNodes, IsList, FirstFault, ItemsFault, HasFault}
+use Rattle.air_wire.specs.Nodes.{Kind, KindLaws, node_of_value, nodes_from, last_tree, root_of}
+use Rattle.air_wire.specs.NodeLists.{AreNodes, IsList, FirstFault, ItemsFault, HasFault}
 use Rattle.air_wire.specs.laws.Nodes.{node_found, node_again}
-use Rattle.air_wire.specs.laws.Forms.{node_fault, node_fails}
+use Rattle.air_wire.specs.laws.NodeFaults.{node_fault, node_fails}
 
 -- ---- the last of a list
 
@@ -60,7 +60,7 @@ module _ {S F : Type 0} (kind : Kind S F) (laws : KindLaws kind) where
   unfolding nodes_from
   nodes_found before no_items ts e = ([], done_is (λ v. v ≡ before ++ []) before ts e (sym (append-nil before)), tt)
   nodes_found before (item d ds) ts e =
-      let t = bind_ok (node_at kind before d) (λ t. nodes_from kind (before ++ t ∷ []) ds) ts e in
+      let t = bind_ok (node_of_value kind before d) (λ t. nodes_from kind (before ++ t ∷ []) ds) ts e in
       let r = nodes_found (before ++ t.0 ∷ []) ds ts t.2 in
       (t.0 ∷ r.0, r.1 ∙ append_assoc before (t.0 ∷ []) r.0, (node_found kind laws before d t.0 t.1, r.2))
 
@@ -76,11 +76,11 @@ module _ {S F : Type 0} (kind : Kind S F) (laws : KindLaws kind) where
   pub fault_found : (before : List (Tree S)) (ds : Items) (f : FlatError) → nodes_from kind before ds ≡ Err f → FirstFault kind before ds f
   unfolding nodes_from
   fault_found before no_items f e = absurd cc
-  fault_found before (item d ds) f e = at_node (λ t. fault_found (before ++ t ∷ []) ds f) (node_at kind before d) refl e
+  fault_found before (item d ds) f e = at_node (λ t. fault_found (before ++ t ∷ []) ds f) (node_of_value kind before d) refl e
     where
       at_node : ((t : Tree S) → nodes_from kind (before ++ t ∷ []) ds ≡ Err f
           → FirstFault kind (before ++ t ∷ []) ds f)
-          → (r : Result (Tree S) FlatError) → node_at kind before d ≡ r
+          → (r : Result (Tree S) FlatError) → node_of_value kind before d ≡ r
           → (r >>= λ t. nodes_from kind (before ++ t ∷ []) ds) ≡ Err f → FirstFault kind before (item d ds) f
       at_node later (Ok t) is e = inr (t, node_found kind laws before d t is, later t e)
       at_node later (Err g) is e = inl (node_fault kind laws before d f (is ∙ ap (λ h. failed h) (err_is {A = List (Tree S)} g f e)))

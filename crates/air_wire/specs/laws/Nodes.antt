@@ -9,23 +9,23 @@ use Rattle.air_wire.specs.declared.errors.FlatError.TheVariants as faults
 use Rattle.air_wire.specs.Results.{◌>>=◌}
 use Rattle.air_wire.specs.Spelling.{case_data, HasWhole}
 use Rattle.air_wire.specs.laws.Readings.{three_found, name_found, field_found, field_read, done, done_is, not_done, bind_ok, bind_then, ok_or_found, test_ok, name_ok, case_read}
-use Rattle.air_wire.specs.Seen.{degree}
-use Rattle.air_wire.specs.Nodes.{Kind, KindLaws, operand_of, operand, stated, operations, second_of, places_of, joined_degree, joined_tree, operands_at, operation_or, node_with, node_at}
+use Rattle.air_wire.specs.Unshared.{degree}
+use Rattle.air_wire.specs.Nodes.{Kind, KindLaws, operand_of, operand, stated, operations, second_of, operands_of, joined_degree, joined_tree, operands_at, operation_or, node_with, node_of_value}
 use Rattle.air_wire.specs.Parts.{find_name}
 use Rattle.air_wire.specs.declared.operations.Operation.{Operation}
 use Rattle.air_wire.specs.declared.operations.Operation.TheVariants.{Add, Sub, Mul, Neg}
-use Rattle.air_wire.specs.Good.{HasTwo, IsNode}
+use Rattle.air_wire.specs.NodeLists.{HasTwoOperands, SpellsNode}
 
 -- ---- fields
 
-pub places_found : (op : Operation) (c : Data) (p : ℕ × ℕ × ℕ) → places_of op c ≡ Some p → HasWhole (codes "degree_multiple") p.0 c × HasWhole (codes "x") p.1 c × (second_of op c ≡ Some p.2)
-unfolding places_of
+pub places_found : (op : Operation) (c : Data) (p : ℕ × ℕ × ℕ) → operands_of op c ≡ Some p → HasWhole (codes "degree_multiple") p.0 c × HasWhole (codes "x") p.1 c × (second_of op c ≡ Some p.2)
+unfolding operands_of
 places_found op c p e =
     three_found (λ p. HasWhole (codes "degree_multiple") p.0 c × HasWhole (codes "x") p.1 c × (second_of op c ≡ Some p.2)) _ _ _ _ p e
     (λ d x y dh xh yh. (field_found (codes "degree_multiple") c d dh, field_found (codes "x") c x xh, yh))
 
-pub places_read : (op : Operation) (c : Data) (d x y : ℕ) → HasWhole (codes "degree_multiple") d c → HasWhole (codes "x") x c → second_of op c ≡ Some y → places_of op c ≡ Some (d, x, y)
-unfolding places_of
+pub places_read : (op : Operation) (c : Data) (d x y : ℕ) → HasWhole (codes "degree_multiple") d c → HasWhole (codes "x") x c → second_of op c ≡ Some y → operands_of op c ≡ Some (d, x, y)
+unfolding operands_of
 places_read op c d x y dh xh yh = rw (field_read (codes "degree_multiple") c d dh, field_read (codes "x") c x xh, yh) refl
 
 unfoldable pub operation_name : Operation → List ℕ
@@ -78,13 +78,13 @@ module _ {S F : Type 0} (kind : Kind S F) (before : List (Tree S)) where
   -- the operands of an operation and its degree, where they were found
   abbrev AreOperands : Operation → Data → Tree S × Tree S → Type 0
   AreOperands op c q =
-      (p : ℕ × ℕ × ℕ) × (places_of op c ≡ Some p) × (slice_get before p.1 ≡ Some q.0) × (slice_get before p.2 ≡ Some q.1)
+      (p : ℕ × ℕ × ℕ) × (operands_of op c ≡ Some p) × (slice_get before p.1 ≡ Some q.0) × (slice_get before p.2 ≡ Some q.1)
       × (joined_degree op (degree kind.term q.0) (degree kind.term q.1) ≡ Ok p.0)
 
   operands_found : (op : Operation) (c : Data) (q : Tree S × Tree S) → operands_at kind before op c ≡ Ok q → AreOperands op c q
   unfolding operands_at
   operands_found op c q e =
-      bind_then (AreOperands op c q) (ok_or (places_of op c) (faults.Shape (length before)))
+      bind_then (AreOperands op c q) (ok_or (operands_of op c) (faults.Shape (length before)))
       (λ p. operand before p.1 >>= λ t. operand before p.2 >>= λ u. joined_degree op (degree kind.term t) (degree kind.term u) >>= λ n. stated (length before) p.0 n (t, u)) q e
       (λ p p_is e. bind_then (AreOperands op c q) (operand before p.1)
       (λ t. operand before p.2 >>= λ u. joined_degree op (degree kind.term t) (degree kind.term u) >>= λ n. stated (length before) p.0 n (t, u)) q e
@@ -94,7 +94,7 @@ module _ {S F : Type 0} (kind : Kind S F) (before : List (Tree S)) where
       let s = stated_found (length before) p.0 n (t, u) q e in
       subst (AreOperands op c) {x = (t, u)} {y = q} s.1 (
         p,
-        ok_or_found (places_of op c) (faults.Shape (length before)) p p_is,
+        ok_or_found (operands_of op c) (faults.Shape (length before)) p p_is,
         operand_found before p.1 t t_is,
         operand_found before p.2 u u_is,
         subst (λ k. joined_degree op (degree kind.term t) (degree kind.term u) ≡ done k) (sym s.0) n_is,
@@ -105,29 +105,29 @@ module _ {S F : Type 0} (kind : Kind S F) (before : List (Tree S)) where
   operands_read op c t u h = rw (h.1, operand_read before h.0.1 t h.2, operand_read before h.0.2 u h.3, h.4, same_number h.0.0 h.0.0 refl) refl
 
   -- two operands
-  two_found : (op : Operation) (c : Data) (q : Tree S × Tree S) → ((y : ℕ) → second_of op c ≡ Some y → HasWhole (codes "y") y c) → (h : AreOperands op c q) → HasTwo before q.0 q.1 h.0.0 c
+  two_found : (op : Operation) (c : Data) (q : Tree S × Tree S) → ((y : ℕ) → second_of op c ≡ Some y → HasWhole (codes "y") y c) → (h : AreOperands op c q) → HasTwoOperands before q.0 q.1 h.0.0 c
   two_found op c q second h =
       let p = places_found op c h.0 h.1 in
       (p.0, (h.0.1, p.1, h.2), (h.0.2, second h.0.2 p.2, h.3))
 
   two_read : (op : Operation) (c : Data) (t u : Tree S) (n : ℕ) → ((y : ℕ) → HasWhole (codes "y") y c → second_of op c ≡ Some y)
-      → joined_degree op (degree kind.term t) (degree kind.term u) ≡ Ok n → HasTwo before t u n c
+      → joined_degree op (degree kind.term t) (degree kind.term u) ≡ Ok n → HasTwoOperands before t u n c
       → operands_at kind before op c ≡ Ok (t, u)
   two_read op c t u n second e h =
       operands_read op c t u ((n, h.1.0, h.2.0), places_read op c n h.1.0 h.2.0 h.0 h.1.1 (second h.2.0 h.2.1), h.1.2, h.2.2, e)
 
-  operation_found : (op : Operation) (c : Data) (q : Tree S × Tree S) → operands_at kind before op c ≡ Ok q → IsNode kind before (case_data (operation_name op) c) (joined_tree op q.0 q.1)
+  operation_found : (op : Operation) (c : Data) (q : Tree S × Tree S) → operands_at kind before op c ≡ Ok q → SpellsNode kind before (case_data (operation_name op) c) (joined_tree op q.0 q.1)
   unfolding operation_name
   operation_found Add c q e =
       let h = operands_found Add c q e in
-      (c, refl, done_back (λ n. HasTwo before q.0 q.1 n c) _ h.0.0 h.4 (two_found Add c q (λ y. field_found (codes "y") c y) h))
+      (c, refl, done_back (λ n. HasTwoOperands before q.0 q.1 n c) _ h.0.0 h.4 (two_found Add c q (λ y. field_found (codes "y") c y) h))
   operation_found Sub c q e =
       let h = operands_found Sub c q e in
-      (c, refl, done_back (λ n. HasTwo before q.0 q.1 n c) _ h.0.0 h.4 (two_found Sub c q (λ y. field_found (codes "y") c y) h))
+      (c, refl, done_back (λ n. HasTwoOperands before q.0 q.1 n c) _ h.0.0 h.4 (two_found Sub c q (λ y. field_found (codes "y") c y) h))
   operation_found Mul c q e =
       let h = operands_found Mul c q e in
       let n = product_found (degree kind.term q.0) (degree kind.term q.1) h.0.0 h.4 in
-      ((c, refl, subst (λ n. HasTwo before q.0 q.1 n c) n.1 (two_found Mul c q (λ y. field_found (codes "y") c y) h)), n.0)
+      ((c, refl, subst (λ n. HasTwoOperands before q.0 q.1 n c) n.1 (two_found Mul c q (λ y. field_found (codes "y") c y) h)), n.0)
   operation_found Neg c q e =
       let h = operands_found Neg c q e in
       let p = places_found Neg c h.0 h.1 in
@@ -136,40 +136,40 @@ module _ {S F : Type 0} (kind : Kind S F) (before : List (Tree S)) where
 -- ---- nodes
 
 module _ {S F : Type 0} (kind : Kind S F) (laws : KindLaws kind) (before : List (Tree S)) where
-  with_found : (name : List ℕ) (c : Data) (t : Tree S) → node_with kind before name c ≡ Ok t → IsNode kind before (case_data name c) t
+  with_found : (name : List ℕ) (c : Data) (t : Tree S) → node_with kind before name c ≡ Ok t → SpellsNode kind before (case_data name c) t
   with_found name c t e =
-      let P : Tree S → Type 0 = IsNode kind before (case_data name c) in
+      let P : Tree S → Type 0 = SpellsNode kind before (case_data name c) in
       name_ok P name (codes "Leaf") _ _ t e
       (λ same e.
       let a = bind_ok (kind.leaf_at (length before) c) (λ a. done (leaf_tree a)) t e in
       done_is P (leaf_tree a.0) t a.2 (c, ap (λ n. case_data n c) same, laws.found (length before) c a.0 a.1))
       (λ e. at_operation (find_name operations name) refl e)
     where
-      at_operation : (o : Option Operation) → find_name operations name ≡ o → operation_or kind before o c ≡ Ok t → IsNode kind before (case_data name c) t
-      at_operation None is e = not_done (IsNode kind before (case_data name c)) (faults.Shape (length before)) t e
+      at_operation : (o : Option Operation) → find_name operations name ≡ o → operation_or kind before o c ≡ Ok t → SpellsNode kind before (case_data name c) t
+      at_operation None is e = not_done (SpellsNode kind before (case_data name c)) (faults.Shape (length before)) t e
       at_operation (Some op) is e =
           let q = bind_ok (operands_at kind before op c) (λ q. done (joined_tree op q.0 q.1)) t e in
-          done_is (IsNode kind before (case_data name c)) (joined_tree op q.0.0 q.0.1) t q.2
-          (subst (λ s. IsNode kind before (case_data s c) (joined_tree op q.0.0 q.0.1)) (sym (named_operation name op is)) (operation_found kind before op c q.0 q.1))
+          done_is (SpellsNode kind before (case_data name c)) (joined_tree op q.0.0 q.0.1) t q.2
+          (subst (λ s. SpellsNode kind before (case_data s c) (joined_tree op q.0.0 q.0.1)) (sym (named_operation name op is)) (operation_found kind before op c q.0 q.1))
 
-  pub node_found : (d : Data) (t : Tree S) → node_at kind before d ≡ Ok t → IsNode kind before d t
-  unfolding node_at
+  pub node_found : (d : Data) (t : Tree S) → node_of_value kind before d ≡ Ok t → SpellsNode kind before d t
+  unfolding node_of_value
   node_found d t e =
-      case_read (λ x. IsNode kind before x t) (λ r. r ≡ Ok t) (Err (faults.Shape (length before))) (node_with kind before) d e
-      (not_done (IsNode kind before d) (faults.Shape (length before)) t) (λ name c. with_found name c t)
+      case_read (λ x. SpellsNode kind before x t) (λ r. r ≡ Ok t) (Err (faults.Shape (length before))) (node_with kind before) d e
+      (not_done (SpellsNode kind before d) (faults.Shape (length before)) t) (λ name c. with_found name c t)
 
-  pub node_again : (d : Data) (t : Tree S) → IsNode kind before d t → node_at kind before d ≡ Ok t
-  unfolding node_at
+  pub node_again : (d : Data) (t : Tree S) → SpellsNode kind before d t → node_of_value kind before d ≡ Ok t
+  unfolding node_of_value
   node_again d nothing h = absurd h
   node_again d (leaf_tree a) h =
-      ap (node_at kind before) h.1 ∙ ap (λ r. r >>= λ a. done (leaf_tree a)) (laws.again (length before) h.0 a h.2)
-  node_again d (add_tree t u) h = ap (node_at kind before) h.1 ∙ ap (λ r. r >>= λ q. done (add_tree q.0 q.1)) (two_read kind before Add h.0 t u _ (λ y. field_read (codes "y") h.0 y) refl h.2)
-  node_again d (sub_tree t u) h = ap (node_at kind before) h.1 ∙ ap (λ r. r >>= λ q. done (sub_tree q.0 q.1)) (two_read kind before Sub h.0 t u _ (λ y. field_read (codes "y") h.0 y) refl h.2)
+      ap (node_of_value kind before) h.1 ∙ ap (λ r. r >>= λ a. done (leaf_tree a)) (laws.again (length before) h.0 a h.2)
+  node_again d (add_tree t u) h = ap (node_of_value kind before) h.1 ∙ ap (λ r. r >>= λ q. done (add_tree q.0 q.1)) (two_read kind before Add h.0 t u _ (λ y. field_read (codes "y") h.0 y) refl h.2)
+  node_again d (sub_tree t u) h = ap (node_of_value kind before) h.1 ∙ ap (λ r. r >>= λ q. done (sub_tree q.0 q.1)) (two_read kind before Sub h.0 t u _ (λ y. field_read (codes "y") h.0 y) refl h.2)
   node_again d (mul_tree t u) h =
-      ap (node_at kind before) h.0.1
+      ap (node_of_value kind before) h.0.1
       ∙ ap (λ r. r >>= λ q. done (mul_tree q.0 q.1)) (two_read kind before Mul h.0.0 t u _ (λ y. field_read (codes "y") h.0.0 y) (product_read (degree kind.term t) (degree kind.term u) h.1) h.0.2)
   node_again d (neg_tree t) h =
-      ap (node_at kind before) h.1
+      ap (node_of_value kind before) h.1
       ∙ ap (λ r. r >>= λ q. done (neg_tree q.0))
       (operands_read kind before Neg h.0 t t (
         (degree kind.term t, h.2.1.0, h.2.1.0),

@@ -6,7 +6,7 @@ use Rattle.std.proofs.Common.{sym, ap, subst, ◌∙◌}
 use Rattle.std.proofs.lemmas.Slice.Eq.{bytes_eq-Decides}
 use Rattle.serde_json.specs.Data.{Data, null, boolean, number, string, array, object, unsigned, negative, float, no_members, member}
 use Rattle.serde_json.specs.Find.{get, as_str}
-use Rattle.air_wire.specs.Parts.{only_member, whole, whole_at, both, all_three, find_name, case_or, text_or}
+use Rattle.air_wire.specs.Parts.{only_member, whole, whole_at, all_two, all_three, find_name, case_or, text_or}
 use Rattle.air_wire.specs.Spelling.{number_data, case_data, HasField, HasWhole}
 
 some_is : {A : Type 0} (x y : A) → Some x ≡ Some y → x ≡ y
@@ -50,7 +50,7 @@ field_read name d n h = ap (option_and_then whole) h
 
 -- ---- what was made of parts that were found
 
-pub both_found : {A B C : Type 0} (P : C → Type 0) (make : A → B → C) (x : Option A) (y : Option B) (z : C) → both make x y ≡ Some z → ((a : A) (b : B) → x ≡ Some a → y ≡ Some b → P (make a b)) → P z
+pub both_found : {A B C : Type 0} (P : C → Type 0) (make : A → B → C) (x : Option A) (y : Option B) (z : C) → all_two make x y ≡ Some z → ((a : A) (b : B) → x ≡ Some a → y ≡ Some b → P (make a b)) → P z
 both_found P make None y z e h = none_found P z e
 both_found P make (Some a) None z e h = none_found P z e
 both_found P make (Some a) (Some b) z e h = named P (make a b) z (h a b refl refl) e

@@ -6,9 +6,9 @@ use Rattle.serde_json.specs.Find.{as_array}
 use Rattle.serde_json.specs.View.{items_of}
 use Rattle.air_symbolic.specs.Trees.{Tree, nothing, leaf_tree, add_tree, sub_tree, neg_tree, mul_tree}
 use Rattle.air_wire.specs.Spelling.{case_data}
-use Rattle.air_wire.specs.Seen.{degree}
+use Rattle.air_wire.specs.Unshared.{degree}
 use Rattle.air_wire.specs.Nodes.{Kind, KindLaws}
-use Rattle.air_wire.specs.Good.{IsNode, AreNodes, IsList}
+use Rattle.air_wire.specs.NodeLists.{SpellsNode, AreNodes, IsList}
 use Rattle.air_wire.specs.laws.Lists.{one_tree}
 use Rattle.air_wire.specs.Written.{subtrees, Stands, Adds, two_data, one_data, WritesTwo, WritesOne, IsWrittenNode, AreWritten, IsWritten}
 
@@ -208,7 +208,7 @@ module _ {S : Type 0} where
 module _ {S F : Type 0} (kind : Kind S F) (laws : KindLaws kind) where
   -- ---- what is written is a list of nodes
 
-  written_node : (before : List (Tree S)) (d : Data) (t : Tree S) → IsWrittenNode kind before d t → IsNode kind before d t
+  written_node : (before : List (Tree S)) (d : Data) (t : Tree S) → IsWrittenNode kind before d t → SpellsNode kind before d t
   written_node before d nothing h = h
   written_node before d (leaf_tree a) h = (h.0, h.1, laws.written h.0 a h.2)
   written_node before d (add_tree t u) (x, y, is) =

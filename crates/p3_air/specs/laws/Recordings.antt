@@ -89,11 +89,11 @@ module _ {F : Type 0} (r : CommRing F) where
   same_nonzero eq s n [] (t ∷ ts) h = absurd h
   same_nonzero eq s n (u ∷ us) [] h = absurd h
   same_nonzero eq s n (u ∷ us) (t ∷ ts) h =
-      let test : ℕ × Assertion F → Bool = λ p. not (eq (assertion_value r s p.1) r.nil) in
+      let test : ℕ × Assertion F → Bool = λ p. not (eq (assertion_value r s p.1) r.zero) in
       let xs = filter test (enumerate_from (n + 1) us) in
       let ys = filter test (enumerate_from (n + 1) ts) in
-      ap (λ v. numbers_of (cond (not (eq v r.nil)) ((n, u) ∷ xs) xs)) (same_value s u t h.0)
-      ∙ kept_same (not (eq (assertion_value r s t) r.nil)) n u t xs ys (same_nonzero eq s (n + 1) us ts h.1)
+      ap (λ v. numbers_of (cond (not (eq v r.zero)) ((n, u) ∷ xs) xs)) (same_value s u t h.0)
+      ∙ kept_same (not (eq (assertion_value r s t) r.zero)) n u t xs ys (same_nonzero eq s (n + 1) us ts h.1)
 
   same_report : (eq : F → F → Bool) (trace : Trace F) (us ts : List (Assertion F)) → AllZip RecordsConstraint us ts → (h : ℕ) → report_of r eq trace us h ≡ report_of r eq trace ts h
   same_report eq trace us ts m zero = refl

@@ -34,7 +34,7 @@ use Rattle.air_recording.specs.Layouts.{air_layout, layout_shape}
 use Rattle.air_recording.specs.Recorded.{RecordsTerm, RecordingAnswers, terms_of}
 use Rattle.air_recording.specs.Recording.{IsOver}
 use Rattle.air_recording.specs.declared.symbolic.record.Recorded.{Recorded}
-use Rattle.air_report.specs.Cells.{differing, failure_text, text_of, IsCellFault}
+use Rattle.air_report.specs.Cells.{differing, label_text, bytes_of_text, IsCellFault}
 use Rattle.air_report.specs.Checks.{Fits, RowRefuses}
 use Rattle.air_report.specs.Given.{given_trace, table_grid}
 use Rattle.air_report.specs.Report.{all_places, assertion_value, place, report_of}
@@ -51,8 +51,8 @@ row_is None = refl
 row_is (Some row) = refl
 
 module _ {F : Type 0} (r : CommRing F) (x : Instance F) where
-  entry_is : (table : Grid F) (i c : ℕ) → entry_at r.nil table i c ≡ slice_index_or (row_or_none (slice_get table.rows i)) c r.nil
-  entry_is table i c = ap (λ row. slice_index_or row c r.nil) (row_is (slice_get table.rows i))
+  entry_is : (table : Grid F) (i c : ℕ) → entry_at r.zero table i c ≡ slice_index_or (row_or_none (slice_get table.rows i)) c r.zero
+  entry_is table i c = ap (λ row. slice_index_or row c r.zero) (row_is (slice_get table.rows i))
 
   -- `read_at` is the assignment of a row
   pub read_at_is : (i : ℕ) (l : Leaf) → read_at r x i l ≡ row_assignment r (given_trace (check_input x)) i l
@@ -62,7 +62,7 @@ module _ {F : Type 0} (r : CommRing F) (x : Instance F) where
   read_at_is i (preprocessed zero c) = entry_is (table_grid x.air.preprocessed) i c
   read_at_is i (preprocessed (suc zero) c) = entry_is (table_grid x.air.preprocessed) ((i + 1) % row_count x) c
   read_at_is i (preprocessed (suc (suc o)) c) = refl
-  read_at_is i (periodic c) = ap (λ row. slice_index_or row c r.nil) (sym (map-map (λ (column : List F). slice_index_or column (i % length column) r.nil) (λ column. column.items) x.air.periodic))
+  read_at_is i (periodic c) = ap (λ row. slice_index_or row c r.zero) (sym (map-map (λ (column : List F). slice_index_or column (i % length column) r.zero) (λ column. column.items) x.air.periodic))
   read_at_is i (public k) = refl
   read_at_is i first_row = refl
   read_at_is i last_row = refl
@@ -74,19 +74,19 @@ module _ {F : Type 0} (r : CommRing F) (x : Instance F) where
   -- `nonzero_places` is the report on all rows
   pub nonzero_places_are : (eq : F → F → Bool) → nonzero_places r eq x ≡ report_of r eq (given_trace (check_input x)) x.air.declared (row_count x)
   nonzero_places_are eq =
-      ap (λ (s : ℕ → Leaf → F). map place (filter (λ p. not (eq (assertion_value r (s p.0) p.1.1) r.nil)) (all_places (row_count x) x.air.declared))) (λ j i l. read_at_is i l j)
+      ap (λ (s : ℕ → Leaf → F). map place (filter (λ p. not (eq (assertion_value r (s p.0) p.1.1) r.zero)) (all_places (row_count x) x.air.declared))) (λ j i l. read_at_is i l j)
 
   -- `violations` are the differing cells
   pub violations_are : (eq : F → F → Bool) → violations r eq x ≡ differing r eq x.main x.public x.air.cells
   violations_are eq =
-      ap (λ (f : BoundaryPublic → F). filter (λ c. not (eq (f c.1) (slice_index_or x.public c.1.public_value r.nil))) (enumerate_from 0 x.air.cells)) (λ j cell. entry_is x.main (row_of cell.end (row_count x)) cell.column j)
+      ap (λ (f : BoundaryPublic → F). filter (λ c. not (eq (f c.1) (slice_index_or x.public c.1.public_value r.zero))) (enumerate_from 0 x.air.cells)) (λ j cell. entry_is x.main (row_of cell.end (row_count x)) cell.column j)
 
-text_is : (o : Option (String Global)) → option_map (λ s. string_bytes s) o ≡ text_of o
+text_is : (o : Option (String Global)) → option_map (λ s. string_bytes s) o ≡ bytes_of_text o
 text_is None = refl
 text_is (Some s) = refl
 
 -- a failure's label
-pub labels_are : (fs : List ConstraintFailure) → map (λ f. option_map (λ s. string_bytes s) f.label) fs ≡ map failure_text fs
+pub labels_are : (fs : List ConstraintFailure) → map (λ f. option_map (λ s. string_bytes s) f.label) fs ≡ map label_text fs
 labels_are fs = ap (λ (f : ConstraintFailure → Option (List ℕ)). map f fs) (λ j f. text_is f.label j)
 
 -- ---- which entries there are

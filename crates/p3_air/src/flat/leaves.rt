@@ -3,7 +3,7 @@ ghost use Rattle.air_field.specs.Term.{leaf_term};
 ghost use Rattle.air_core.specs.Entries.{entry_leaf};
 ghost use Rattle.air_symbolic.specs.BaseLeaves.{base_term};
 ghost use Rattle.air_builder.specs.Builders.{Means};
-ghost use Rattle.air_author.specs.Expressions.{Made};
+ghost use Rattle.air_author.specs.Expressions.{MakesTerm};
 
 use air_author::{
     Constant, Current, Expression, FirstRow, LastRow, Next, Periodic, PreprocessedCurrent,
@@ -19,7 +19,7 @@ fn make_variable<AB: AirBuilder>(
     variable: SymbolicVariable<AB::F>,
 ) -> Result<AB::Expr, AirError>
     requires { AB.ready builder.old }
-    ensures { Made (Means AB.Ring.means AB.ring_of AB.stands) AB.grew AB.missing AB.refuses
+    ensures { MakesTerm (Means AB.Ring.means AB.ring_of AB.reads_as) AB.grew AB.missing AB.refuses
         builder.old builder.new result (leaf_term (entry_leaf variable.entry variable.index)) }
 {
     let index = variable.index;
@@ -45,7 +45,7 @@ pub(crate) fn make_leaf<AB: AirBuilder>(
     leaf: BaseLeaf<AB::F>,
 ) -> Result<AB::Expr, AirError>
     requires { AB.ready builder.old }
-    ensures { Made (Means AB.Ring.means AB.ring_of AB.stands) AB.grew AB.missing AB.refuses
+    ensures { MakesTerm (Means AB.Ring.means AB.ring_of AB.reads_as) AB.grew AB.missing AB.refuses
         builder.old builder.new result (base_term leaf) }
 {
     match leaf {

@@ -6,7 +6,7 @@ ghost use Rattle.air_symbolic.specs.Pools.{IsPool, term_at};
 ghost use Rattle.air_symbolic.specs.declared.leaves.base_leaf.BaseLeaf.{BaseLeaf};
 ghost use Rattle.air_symbolic.specs.declared.pools.expr.SymbolicExpr.{SymbolicExpr};
 ghost use Rattle.air_builder.specs.Builders.{Means};
-ghost use Rattle.air_author.specs.Expressions.{Made};
+ghost use Rattle.air_author.specs.Expressions.{MakesTerm};
 ghost use Rattle.p3_air.specs.Plans.{number_at, IsLeaf, MakesPlace};
 ghost use Rattle.p3_air.specs.Tables.{IsMade, HasAt, TableMade};
 
@@ -38,7 +38,7 @@ struct AtPlace<'a, E, F: Field>(
 impl<'a, AB: AirBuilder> Expression<AB> for AtPlace<'a, AB::Expr, AB::F> {
     ghost term = { λ s. term_at base_reads s.0.now (number_at s.1.now s.3) };
 
-    ghost holds = { λ s b. HasAt (IsMade (Means AB.Ring.means AB.ring_of AB.stands) AB.missing b
+    ghost holds = { λ s b. HasAt (IsMade (Means AB.Ring.means AB.ring_of AB.reads_as) AB.missing b
         (term_at base_reads s.0.now (number_at s.1.now s.3))) s.2.now s.3 };
 
     #[inline(always)]
@@ -59,7 +59,7 @@ fn make_number<AB: AirBuilder>(
     requires here { id < length pool.now.1 }
     requires leaf { (n : SymbolicExpr (BaseLeaf AB.F)) →
         IsNode base_leaves pool.now.1 id n → IsLeaf n }
-    ensures { Made (Means AB.Ring.means AB.ring_of AB.stands) AB.grew AB.missing AB.refuses
+    ensures { MakesTerm (Means AB.Ring.means AB.ring_of AB.reads_as) AB.grew AB.missing AB.refuses
         builder.old builder.new result (term_at base_reads pool.now id) }
 {
     match *pool.node(id) {
@@ -84,9 +84,9 @@ pub(crate) fn make_step<AB: AirBuilder>(
     requires here { number_at numbers.now place < length pool.now.1 }
     requires makes { MakesPlace base_leaves pool.now.1 numbers.now place step }
     requires table { TableMade
-        (IsMade (Means AB.Ring.means AB.ring_of AB.stands) AB.missing builder.old)
+        (IsMade (Means AB.Ring.means AB.ring_of AB.reads_as) AB.missing builder.old)
         (term_at base_reads pool.now) numbers.now table.now place }
-    ensures { Made (Means AB.Ring.means AB.ring_of AB.stands) AB.grew AB.missing AB.refuses
+    ensures { MakesTerm (Means AB.Ring.means AB.ring_of AB.reads_as) AB.grew AB.missing AB.refuses
         builder.old builder.new result
         (term_at base_reads pool.now (number_at numbers.now place)) }
 {

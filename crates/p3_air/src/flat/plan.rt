@@ -8,7 +8,7 @@ ghost use Rattle.air_symbolic.specs.Reach.{EachOperand};
 ghost use Rattle.air_symbolic.specs.declared.pools.expr.SymbolicExpr.{SymbolicExpr};
 ghost use Rattle.air_symbolic.specs.declared.leaves.base_leaf.BaseLeaf.{BaseLeaf};
 ghost use Rattle.air_core.specs.declared.errors.AirError.{AirError};
-ghost use Rattle.p3_air.specs.Plans.{number_at, IsPlaceOf, StepMakes, AreSteps, AreNumbered, IsPlan};
+ghost use Rattle.p3_air.specs.Plans.{number_at, IsPlaceOf, StepMakes, AreSteps, HavePlaces, IsPlan};
 
 use crate::flat::pushing::push;
 use crate::flat::step::Step;
@@ -49,7 +49,7 @@ fn number_marked<A: SymLeaf>(
     marks: &[Option<ExprId<A>>],
 ) -> Result<(Vec<ExprId<A>>, Vec<usize>), AirError>
     requires own { (i j : ℕ) → get_or marks.now i None ≡ Some j → j ≡ i }
-    ensures numbered { IfOk result (λ both. AreNumbered marks.now both.0.items both.1.items) }
+    ensures numbered { IfOk result (λ both. HavePlaces marks.now both.0.items both.1.items) }
     ensures refused { IfErr result (λ e. e ≡ AirError.Memory) }
 {
     let mut numbers = Vec::new(alloc);

@@ -3,7 +3,7 @@ ghost use Rattle.std.specs.Prelude.{◌<◌, length, map, All};
 ghost use Rattle.air_symbolic.specs.BaseLeaves.{base_reads};
 ghost use Rattle.air_symbolic.specs.Pools.{IsPool, term_at};
 ghost use Rattle.air_builder.specs.Builders.{Means};
-ghost use Rattle.air_author.specs.Expressions.{Made};
+ghost use Rattle.air_author.specs.Expressions.{MakesTerm};
 ghost use Rattle.p3_air.specs.Tables.{MadeAll, OrMemory};
 
 use crate::flat::nodes::known;
@@ -27,7 +27,7 @@ pub fn resolve<AB: AirBuilder>(
     requires ready { AB.ready builder.old }
     requires pool { IsPool base_reads pool.now }
     requires here { id < length pool.now.1 }
-    ensures { Made (Means AB.Ring.means AB.ring_of AB.stands)
+    ensures { MakesTerm (Means AB.Ring.means AB.ring_of AB.reads_as)
         AB.grew AB.missing (OrMemory AB.refuses) builder.old builder.new result
         (term_at base_reads pool.now id) }
 {
@@ -45,7 +45,7 @@ pub fn resolve_all<AB: AirBuilder>(
     requires ready { AB.ready builder.old }
     requires pool { IsPool base_reads pool.now }
     requires here { All (λ i. i < length pool.now.1) roots.now }
-    ensures { MadeAll (Means AB.Ring.means AB.ring_of AB.stands)
+    ensures { MadeAll (Means AB.Ring.means AB.ring_of AB.reads_as)
         AB.grew AB.missing (OrMemory AB.refuses) builder.old builder.new result
         (map (term_at base_reads pool.now) roots.now) }
 {

@@ -32,7 +32,7 @@ pub(crate) fn make_places<AB: AirBuilder>(
         plan.now.numbers.items plan.now.steps.items plan.now.places.items }
     ensures keeps { AB.grew builder.old builder.new [] }
     ensures made { IfOk result (λ table. TableMade
-        (IsMade (Means AB.Ring.means AB.ring_of AB.stands) AB.missing builder.new)
+        (IsMade (Means AB.Ring.means AB.ring_of AB.reads_as) AB.missing builder.new)
         (term_at base_reads pool.now) plan.now.numbers.items table.items
         (length plan.now.numbers.items)) }
     ensures refused { IfErr result (λ e. (ss : List (Assertion AB.F)) →
@@ -73,7 +73,7 @@ pub(crate) fn make_planned<AB: AirBuilder>(
     requires planned { IsPlan base_leaves pool.now.1
         (map (number_at plan.now.numbers.items) plan.now.places.items)
         plan.now.numbers.items plan.now.steps.items plan.now.places.items }
-    ensures { MadeAll (Means AB.Ring.means AB.ring_of AB.stands)
+    ensures { MadeAll (Means AB.Ring.means AB.ring_of AB.reads_as)
         AB.grew AB.missing (OrMemory AB.refuses) builder.old builder.new result
         (map (λ p. term_at base_reads pool.now (number_at plan.now.numbers.items p))
         plan.now.places.items) }

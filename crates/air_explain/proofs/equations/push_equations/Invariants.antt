@@ -7,5 +7,5 @@ use Rattle.air_explain.proofs.equations.push_equations.Given as goal
 abbrev pub invariant-loop-id : goal.invariant-loop-id
 invariant-loop-id g l = record {
   first : l.is_first ≡ eqb l.id-index 0;
-  text_is : string_bytes l.text ≡ string_bytes l.fn.text ++ begun (equation g.F.PrimeField64.residues l.pool l.names.1 (λ j. get_or l.values j g.F.Field.ring.nil)) (take l.id-index l.ids);
+  text_is : string_bytes l.text ≡ string_bytes l.fn.text ++ begun (equation g.F.PrimeField64.residues l.pool l.names.1 (λ j. get_or l.values j g.F.Field.ring.zero)) (take l.id-index l.ids);
 }

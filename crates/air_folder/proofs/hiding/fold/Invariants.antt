@@ -3,4 +3,4 @@ use Rattle.air_folder.specs.Fold.{running}
 use Rattle.air_folder.proofs.hiding.fold.Given as goal
 
 abbrev pub invariant-loop-value : goal.invariant-loop-value
-invariant-loop-value g l = running g.EF.ExtensionField.over.ring l.alpha l.accumulator (drop l.value-index l.values) ≡ running g.EF.ExtensionField.over.ring l.alpha g.EF.ExtensionField.over.ring.nil l.values
+invariant-loop-value g l = running g.EF.ExtensionField.over.ring l.alpha l.accumulator (drop l.value-index l.values) ≡ running g.EF.ExtensionField.over.ring l.alpha g.EF.ExtensionField.over.ring.zero l.values

@@ -10,6 +10,6 @@ returns-clause-fewer g c some =
     let counted : c.count.result ≡ count_by hides c.args.alphas.now = search rules in
     rw counted
     (few_hide g.EF.ExtensionField.over.ring g.met.EF.DomainExtension.domain hides c.args.values.now c.args.alphas.now
-    (λ x h. (g.met.EF.ExtensionField.eq_is (sum_by_powers g.EF.ExtensionField.over.ring x c.args.values.now) g.EF.ExtensionField.over.ring.nil).0 h)
+    (λ x h. (g.met.EF.ExtensionField.eq_is (sum_by_powers g.EF.ExtensionField.over.ring x c.args.values.now) g.EF.ExtensionField.over.ring.zero).0 h)
     (increasing_distinct g.EF.Ord.cmp g.met.EF.Ord.total c.args.alphas.now c.requires)
     some)

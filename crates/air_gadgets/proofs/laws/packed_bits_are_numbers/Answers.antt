@@ -10,7 +10,7 @@ returns-clause-numbers g c = packs_numbers (itself g.F.Field.ring) g.F.Field.ZER
 pub returns-clause-ext_numbers : goal.returns-clause-ext_numbers
 returns-clause-ext_numbers g c =
     let over = g.EF.ExtensionField.over in
-    packs_numbers over g.F.Field.ZERO (ap over.embed g.met.F.Field.zero_is ∙ g.met.EF.ExtensionField.over_laws.embed_nil)
+    packs_numbers over g.F.Field.ZERO (ap over.embed g.met.F.Field.zero_is ∙ g.met.EF.ExtensionField.over_laws.embed_zero)
 
 pub returns-clause-sums : goal.returns-clause-sums
 returns-clause-sums g c = packs_values_in (itself g.F.Field.ring) g.F.Field.ZERO g.met.F.Field.zero_is
@@ -18,7 +18,7 @@ returns-clause-sums g c = packs_values_in (itself g.F.Field.ring) g.F.Field.ZERO
 pub returns-clause-ext_sums : goal.returns-clause-ext_sums
 returns-clause-ext_sums g c =
     let over = g.EF.ExtensionField.over in
-    packs_values_in over g.F.Field.ZERO (ap over.embed g.met.F.Field.zero_is ∙ g.met.EF.ExtensionField.over_laws.embed_nil)
+    packs_values_in over g.F.Field.ZERO (ap over.embed g.met.F.Field.zero_is ∙ g.met.EF.ExtensionField.over_laws.embed_zero)
 
 pub returns-clause-powers : goal.returns-clause-powers
 returns-clause-powers g c = packs_by_powers g.F.Field.ring

@@ -1,5 +1,5 @@
 use Rattle.std.proofs.Common.{ℕ, ◌+◌, get_or, set, sym, ap, subst, ◌∙◌}
-use Rattle.air_infix.specs.Names.{place}
+use Rattle.air_infix.specs.Names.{one_if_is}
 use Rattle.air_infix.specs.Counts.{AreCounted}
 use Rattle.air_infix.specs.declared.counts.Places.TheVariants.{Nowhere}
 use Rattle.air_infix.proofs.CountLemmas.{place-counted}
@@ -10,6 +10,6 @@ returns g c =
     let counts = c.args.counts.now in
     let is = c.number-number.ensures in
     λ (f : ℕ → ℕ) h.
-    subst (λ n. AreCounted (λ i. f i + place i c.args.x) (set counts n c.one_more.result)) (sym is)
+    subst (λ n. AreCounted (λ i. f i + one_if_is i c.args.x) (set counts n c.one_more.result)) (sym is)
     (place-counted f counts c.args.x c.one_more.result c.requires
     (λ n e. c.one_more.ensures n (ap (λ k. get_or counts k Nowhere) is ∙ e)) h)

@@ -1,5 +1,5 @@
 use Rattle.std.proofs.Common.{ℕ, ◌+◌, arith}
-use Rattle.air_infix.specs.Names.{sum_below, places_at}
+use Rattle.air_infix.specs.Names.{total_below, places_at}
 use Rattle.air_infix.proofs.CountLemmas.{AreCounted-same, sum-more}
 use Rattle.air_infix.proofs.counts.count_reached.Goals as goal
 
@@ -8,6 +8,6 @@ loop-number-preserved g c =
     let places = places_at c.args.pool.now.1 c.args.marks.now in
     let k = c.loop-number.number in
     λ (f : ℕ → ℕ) h.
-    AreCounted-same (λ i. f i + sum_below (places i) k + places i k) (λ i. f i + sum_below (places i) (k + 1)) c.count_node.new.counts
+    AreCounted-same (λ i. f i + total_below (places i) k + places i k) (λ i. f i + total_below (places i) (k + 1)) c.count_node.new.counts
     (λ i. omega (arith, sum-more (places i) k))
-    (c.count_node.ensures (λ i. f i + sum_below (places i) k) (c.loop-number.invariant f h))
+    (c.count_node.ensures (λ i. f i + total_below (places i) k) (c.loop-number.invariant f h))

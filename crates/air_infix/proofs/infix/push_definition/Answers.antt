@@ -1,6 +1,6 @@
 use Rattle.std.proofs.Common.{◌≡◌, ℕ, ◌++◌, [], get_or, None, string_bytes, append-nil, sym, ap, ap₂, ◌∙◌}
 use Rattle.std.proofs.lemmas.Result.{on_ok_weaker}
-use Rattle.air_infix.specs.Infix.{shown, shown_at, shown_node, text_of}
+use Rattle.air_infix.specs.Infix.{shown, shown_at, shown_node, infix_text}
 use Rattle.air_infix.specs.Pieces.{rest_text, node_rest}
 use Rattle.air_infix.specs.declared.binding.Binding.TheVariants.{Loose}
 use Rattle.air_infix.proofs.PieceLemmas.{left-text}
@@ -22,5 +22,5 @@ returns g c =
     (λ h. h
     ∙ ap₂ (λ t r. t ++ rest_text m f r) c.in_ok-leave_node.ensures.front rest
     ∙ left-text m f Loose n old []
-    ∙ ap (λ t. old ++ t) (append-nil (text_of m Loose (shown_node f n)) ∙ ap (text_of m Loose) (sym node)))
+    ∙ ap (λ t. old ++ t) (append-nil (infix_text m Loose (shown_node f n)) ∙ ap (infix_text m Loose) (sym node)))
     c.write_rest.ensures

@@ -1,5 +1,5 @@
 use Rattle.std.proofs.Common.{◌≡◌, ℕ, ◌+◌, ◌<◌, ◌++◌, length, get_or, None, All, string_bytes, sym, ap, ap₂, subst, ◌∙◌, arith}
-use Rattle.air_infix.specs.Infix.{shown, shown_node, text_of}
+use Rattle.air_infix.specs.Infix.{shown, shown_node, infix_text}
 use Rattle.air_infix.specs.Pieces.{rest_text, rest_size, piece_text, piece_size, shown_size, IsPieceBelow}
 use Rattle.air_infix.proofs.PieceLemmas.{on_both, left-text, left-size, left-below}
 use Rattle.air_infix.proofs.ShownLemmas.{unnamed, below-more}
@@ -17,8 +17,8 @@ returns-in-None-clause-text g c =
     let here : id < length ns = subst (λ q. IsPieceBelow (length ns) q) c.in-Operand.is c.requires.here in
     let none : named id ≡ None = sym c.name.ensures ∙ c.in-None.is in
     let is : f id ≡ shown_node f n = unnamed named _ ns c.requires.pool.nodes id n here c.node.ensures none in
-    let piece : text_of m within (shown_node f n) ≡ piece_text m f c.args.piece =
-    sym (ap (piece_text m f) c.in-Operand.is ∙ ap (text_of m within) is) in
+    let piece : infix_text m within (shown_node f n) ≡ piece_text m f c.args.piece =
+    sym (ap (piece_text m f) c.in-Operand.is ∙ ap (infix_text m within) is) in
     on_both _ _ _ c.leave_node.result
     (λ p q.
     ap₂ (λ t r. t ++ rest_text m f r) p q

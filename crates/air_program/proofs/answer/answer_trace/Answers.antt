@@ -14,4 +14,4 @@ returns-in_err-findings-clause-refused c =
 pub returns-clause-ok : goal.returns-clause-ok
 returns-clause-ok c =
     let input = c.in-Ok.input in
-    answered c.told.result c.args.cap c.args.transition_weight c.args.input.now input.public_values.items input.values.items (found c.in_ok-findings.findings) c.in-Ok.ensures.ok (rw (sym c.trace_of-main.ensures.trace, sym c.deref.ensures.value) c.in_ok-findings.ensures.found) c.told.ensures.status c.told.ensures.text
+    answered c.render.result c.args.cap c.args.transition_weight c.args.input.now input.public_values.items input.values.items (found c.in_ok-findings.findings) c.in-Ok.ensures.ok (rw (sym c.trace_of-main.ensures.trace, sym c.deref.ensures.value) c.in_ok-findings.ensures.found) c.render.ensures.status c.render.ensures.text

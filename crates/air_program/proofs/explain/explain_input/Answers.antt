@@ -4,7 +4,7 @@ use Rattle.std.specs.Global.{Global}
 use Rattle.std.proofs.lemmas.Result.{err_from_is_err_and}
 use Rattle.air_core.specs.declared.boundary.BoundaryPublic.{BoundaryPublic}
 use Rattle.p3_air.specs.Theorem.{Instance}
-use Rattle.air_program.specs.Answer.{AuditFinds, AuditRefuses}
+use Rattle.air_program.specs.Answer.{AuditFinds, CappedAuditRefuses}
 use Rattle.air_program.specs.Explained.{IsExplainedText, trace_with}
 use Rattle.air_program.specs.FlatAnswer.{AuditRefusesInput, flat_instance}
 use Rattle.air_program.specs.Texts.{found}
@@ -52,7 +52,7 @@ returns-in_err-findings-clause-refused g c =
     let no = c.in_err-findings in
     let same = same_instance input air.pool air.roots.items air.width air.num_public_values air.preprocessed air.periodic.items air.cells.items public of in
     let refuses : AuditRefusesInput m input no.field-0.0 =
-    subst (λ (x : Instance _). AuditRefuses m x input.cap input.transition_weight no.field-0.0) same no.ensures.refused in
+    subst (λ (x : Instance _). CappedAuditRefuses m x input.cap input.transition_weight no.field-0.0) same no.ensures.refused in
     rw (p.1, p.2) (inr (no.field-0.0, refuses, refl))
 
 pub returns-clause-ok : goal.returns-clause-ok

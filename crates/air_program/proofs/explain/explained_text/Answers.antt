@@ -5,7 +5,8 @@ use Rattle.air_explain.specs.Rows.{trace_of}
 use Rattle.air_report.specs.FailureTexts.{seen_failure}
 use Rattle.air_report.specs.declared.debug.failure.ConstraintFailure.{ConstraintFailure}
 use Rattle.air_program.specs.Explained.{PushesExplained, PushesNames}
-use Rattle.air_program.specs.Texts.{count_lines, found, lines_text}
+use Rattle.air_program.specs.Texts.{count_lines, found}
+use Rattle.air_infix.specs.Lines.{lines_text}
 use Rattle.air_program.proofs.ExplainedLemmas.{text_explained}
 use Rattle.air_program.proofs.explain.explained_text.Goals as goal
 

@@ -7,7 +7,7 @@ use Rattle.air_explain.specs.Reading.{Reads}
 use Rattle.air_explain.specs.Rows.{trace_of}
 use Rattle.air_explain.specs.laws.Values.{reads_here}
 use Rattle.air_report.specs.FailureTexts.{seen_failure}
-use Rattle.air_program.specs.Texts.{lines_text}
+use Rattle.air_infix.specs.Lines.{lines_text}
 use Rattle.air_program.proofs.ExplainedLemmas.{item_there, item_past, item_has, root_explained, past_explained, cell_explained}
 use Rattle.air_program.proofs.explain.push_explained_failure.Goals as goal
 
@@ -52,4 +52,4 @@ returns-clause-pushes g c =
     (item_has (λ i. Marked c.args.marks.now i) air.roots.items k c.in-Some.root there c.requires.roots)
     (subst (λ (xs : List ℕ). Reads ns root xs) (sym c.deref-3.ensures.value) c.in_ok-read.ensures)
     c.in_ok-push_failure.ensures
-    (subst (λ (values : List _). string_bytes c.push_explained.new.text ≡ string_bytes c.push_failure.new.text ++ lines_text (explained_lines m air.pool c.args.names.now.1 (λ i. get_or values i r.nil) root read)) c.deref-2.ensures.value c.in_ok-push_explained.ensures)
+    (subst (λ (values : List _). string_bytes c.push_explained.new.text ≡ string_bytes c.push_failure.new.text ++ lines_text (explained_lines m air.pool c.args.names.now.1 (λ i. get_or values i r.zero) root read)) c.deref-2.ensures.value c.in_ok-push_explained.ensures)

@@ -24,4 +24,4 @@ returns-in_err-findings-clause-refused g c =
 pub returns-clause-ok : goal.returns-clause-ok
 returns-clause-ok g c =
     let m = g.F.PrimeField64.residues in
-    value_answered m c.told.result (λ d. ArePartsOf m d (view c.args.parts.rest) c.args.parts.main c.args.parts.constraints) c.in_ok-input.input (found c.in_ok-findings.findings) (λ d h. c.in_ok-input.ensures.read d h) c.in_ok-findings.ensures.found c.told.ensures.status c.told.ensures.text
+    value_answered m c.render.result (λ d. ArePartsOf m d (view c.args.parts.rest) c.args.parts.main c.args.parts.constraints) c.in_ok-input.input (found c.in_ok-findings.findings) (λ d h. c.in_ok-input.ensures.read d h) c.in_ok-findings.ensures.found c.render.ensures.status c.render.ensures.text

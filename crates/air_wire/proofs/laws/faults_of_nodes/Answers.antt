@@ -1,4 +1,4 @@
-use Rattle.air_wire.specs.laws.Forms.{node_fault, node_fails}
+use Rattle.air_wire.specs.laws.NodeFaults.{node_fault, node_fails}
 use Rattle.air_wire.proofs.laws.faults_of_nodes.Goals as goal
 
 pub returns : goal.returns

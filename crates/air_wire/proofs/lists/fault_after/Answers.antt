@@ -1,7 +1,7 @@
 use Rattle.std.proofs.Common.{Option, Ok, Err, subst}
 use Rattle.serde_json.specs.View.{view}
 use Rattle.air_wire.specs.ListReaders.{numbers_or, HasRead}
-use Rattle.air_wire.specs.Seen.{seen_at}
+use Rattle.air_wire.specs.Unshared.{seen_at}
 use Rattle.air_wire.specs.declared.errors.FlatError.{FlatError}
 use Rattle.air_wire.proofs.ListReading.{still_read, read_on}
 use Rattle.air_wire.proofs.lists.fault_after.Goals as goal

@@ -1,7 +1,7 @@
 use Rattle.serde_json.specs.View.{view}
 use Rattle.air_wire.specs.Nodes.{root_of}
-use Rattle.air_wire.specs.Seen.{seen_at}
-use Rattle.air_wire.specs.Good.{IsList, HasFault}
+use Rattle.air_wire.specs.Unshared.{seen_at}
+use Rattle.air_wire.specs.NodeLists.{IsList, HasFault}
 use Rattle.air_wire.specs.laws.Lists.{root_found, root_fault, gives_ok, gives_err}
 use Rattle.air_wire.proofs.lists.from_flat_value.Goals as goal
 

@@ -3,7 +3,7 @@ use Rattle.std.proofs.lemmas.List.{map_more}
 use Rattle.serde_json.specs.View.{view}
 use Rattle.air_symbolic.specs.laws.Pools.{Grown-refl, Grown-trans}
 use Rattle.air_wire.specs.ListReaders.{HasRead}
-use Rattle.air_wire.specs.Seen.{seen_at}
+use Rattle.air_wire.specs.Unshared.{seen_at}
 use Rattle.air_wire.proofs.lists.items_from.Goals as goal
 
 pub loop-item-init : goal.loop-item-init

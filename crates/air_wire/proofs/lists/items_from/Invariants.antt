@@ -2,7 +2,7 @@ use Rattle.std.proofs.Common.{map, take}
 use Rattle.serde_json.specs.View.{view}
 use Rattle.air_symbolic.specs.Pools.{Grown}
 use Rattle.air_wire.specs.ListReaders.{HasRead}
-use Rattle.air_wire.specs.Seen.{seen_at}
+use Rattle.air_wire.specs.Unshared.{seen_at}
 use Rattle.air_wire.proofs.lists.items_from.Given as goal
 
 -- the items so far are read

@@ -4,7 +4,7 @@ use Rattle.serde_json.specs.Find.{as_array}
 use Rattle.serde_json.specs.View.{view, items_of, items_view}
 use Rattle.air_symbolic.specs.Trees.{Tree}
 use Rattle.air_wire.specs.Results.{Gives}
-use Rattle.air_wire.specs.Seen.{seen_at}
+use Rattle.air_wire.specs.Unshared.{seen_at}
 use Rattle.air_wire.specs.declared.errors.FlatError.{FlatError}
 use Rattle.air_wire.specs.laws.Lists.{root_given, same_root}
 use Rattle.air_wire.proofs.lists.list_from.Goals as goal

@@ -2,12 +2,12 @@ use Rattle.std.proofs.Common.{[], ◌∷◌, ◌++◌, map, Result, Ok, refl, ap
 use Rattle.std.proofs.lemmas.List.{map_push}
 use Rattle.serde_json.specs.View.{view}
 use Rattle.air_symbolic.specs.Trees.{Tree}
-use Rattle.air_wire.specs.Nodes.{node_at}
+use Rattle.air_wire.specs.Nodes.{node_of_value}
 use Rattle.air_wire.specs.Results.{◌>>=◌}
-use Rattle.air_wire.specs.Seen.{seen_at}
+use Rattle.air_wire.specs.Unshared.{seen_at}
 use Rattle.air_wire.specs.declared.errors.FlatError.{FlatError}
 use Rattle.air_wire.specs.declared.errors.FlatError.TheVariants.{Memory}
-use Rattle.air_wire.specs.laws.Reads.{gives_up_all}
+use Rattle.air_wire.specs.laws.ReadCalls.{gives_up_all}
 use Rattle.air_wire.proofs.Growing.{longer, below_push, map_kept}
 use Rattle.air_wire.proofs.Loop.{carry}
 use Rattle.air_wire.proofs.SeenTrees.{seen_kept}
@@ -19,7 +19,7 @@ returns-in_err-id g c =
     let before = map (seen_at A.seen c.args.pool.now) c.args.ids.now.items in
     let bad = rw c.deref.ensures.value at c.in_err-id.ensures.read in
     gives_up_all c.in_err-id.field-0.0 c.node_from.ensures.grown c.from_residual.ensures.1
-    (carry c.in_err-id.field-0.0 (node_at A.kind before (view c.args.value.now)) (λ t. Ok (before ++ t ∷ [])) _ refl bad)
+    (carry c.in_err-id.field-0.0 (node_of_value A.kind before (view c.args.value.now)) (λ t. Ok (before ++ t ∷ [])) _ refl bad)
 
 pub returns-in_err-push : goal.returns-in_err-push
 returns-in_err-push g c = gives_up_all Memory c.node_from.ensures.grown c.from_residual-in_err-push.ensures.1 tt
@@ -37,5 +37,5 @@ returns g c =
     record {
       grown = c.node_from.ensures.grown;
       here = rw c.in_ok-push.ensures.items (below_push _ _ ids id c.requires.ids_in (longer g.A.SymLeaf.reads g.A.SymLeaf.grows old new c.node_from.ensures.grown) c.in_ok-id.ensures.here);
-      read = rw (c.in_ok-push.ensures.items, map_push, kept) (ap (λ (r : Result (Tree _) FlatError). r >>= λ t. Ok (before ++ t ∷ [])) {x = node_at A.kind before (view c.args.value.now)} good);
+      read = rw (c.in_ok-push.ensures.items, map_push, kept) (ap (λ (r : Result (Tree _) FlatError). r >>= λ t. Ok (before ++ t ∷ [])) {x = node_of_value A.kind before (view c.args.value.now)} good);
     }

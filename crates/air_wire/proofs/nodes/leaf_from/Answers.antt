@@ -3,7 +3,7 @@ use Rattle.serde_json.specs.View.{view}
 use Rattle.air_symbolic.specs.Pools.{tree_at}
 use Rattle.air_symbolic.specs.laws.Pools.{Grown-trans}
 use Rattle.air_wire.specs.Faults.{ring_fault}
-use Rattle.air_wire.specs.laws.Reads.{gives_up}
+use Rattle.air_wire.specs.laws.ReadCalls.{gives_up}
 use Rattle.air_wire.proofs.Growing.{lent_grown}
 use Rattle.air_wire.proofs.Loop.{carry}
 use Rattle.air_wire.proofs.SeenTrees.{leaf_seen}

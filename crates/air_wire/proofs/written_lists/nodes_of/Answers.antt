@@ -2,7 +2,7 @@ use Rattle.std.proofs.Common.{◌≡◌, ◌+◌, [], length, map, sym, ◌∙�
 use Rattle.std.proofs.lemmas.Grind.{common_steps}
 use Rattle.std.proofs.lemmas.List.{map_push, length-map}
 use Rattle.serde_json.specs.View.{view}
-use Rattle.air_wire.specs.Seen.{seen_at}
+use Rattle.air_wire.specs.Unshared.{seen_at}
 use Rattle.air_wire.proofs.Progress.{starts, ends}
 use Rattle.air_wire.proofs.PoolNodes.{next_within, next_smaller, next_skips, next_looks, looks_smaller, next_ready, next_writes}
 use Rattle.air_wire.proofs.written_lists.nodes_of.Goals as goal

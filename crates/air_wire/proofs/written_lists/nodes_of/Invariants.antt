@@ -1,6 +1,6 @@
 use Rattle.std.proofs.Common.{◌+◌, map}
 use Rattle.serde_json.specs.View.{view}
-use Rattle.air_wire.specs.Seen.{seen_at}
+use Rattle.air_wire.specs.Unshared.{seen_at}
 use Rattle.air_wire.proofs.Left.{work}
 use Rattle.air_wire.proofs.Progress.{Progress}
 use Rattle.air_wire.proofs.written_lists.nodes_of.Given as goal

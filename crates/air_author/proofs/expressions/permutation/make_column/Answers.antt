@@ -1,6 +1,6 @@
 use Rattle.std.proofs.Common.{sym, ◌∙◌, subst, refl, IfSome}
 use Rattle.air_field.specs.Term.{permutation, leaf_term}
-use Rattle.air_builder.specs.Builders.{VariableStands}
+use Rattle.air_builder.specs.Builders.{VariableReadsAs}
 use Rattle.air_builder.specs.laws.Extensions.{over_extension}
 use Rattle.air_author.specs.laws.Making.{operation_answered, some_none, window_gives_up}
 use Rattle.air_author.proofs.expressions.permutation.make_column.Goals as goal
@@ -11,7 +11,7 @@ returns g c =
     let leaf = permutation c.args.offset c.args.index in
     let found = c.in_ok-found.ensures in
     let is = c.in_ok-v.ensures.ok in
-    let means = subst (λ o. IfSome o (VariableStands g.AB.ExtRing.FromVar-1.var_means (g.AB.AirBuilder.stands c.args.builder.now) leaf)) is found.found in
+    let means = subst (λ o. IfSome o (VariableReadsAs g.AB.ExtRing.FromVar-1.var_means (g.AB.AirBuilder.reads_as c.args.builder.now) leaf)) is found.found in
     let there = found.none c.requires.within in
     operation_answered g.met.AB.ExtRing.Algebra.laws (over_extension laws g.met.AB.ExtensionBuilder.ext_laws) (g.AB.ExtRing.FromVar-1.var_means c.in_ok-v.v) (λ u. u) _ _ _ _ _ _ (leaf_term leaf) _ c.answered.ensures (laws.same _) c.ext_ring.ensures.value c.from_var.ensures.extended c.from_var.ensures.made c.from_var.ensures.refused means refl (λ h. some_none (sym is ∙ there.1 h))
 

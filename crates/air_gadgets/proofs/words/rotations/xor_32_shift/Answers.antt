@@ -24,7 +24,7 @@ returns-in_err-assert_bits g c =
     let p = err_from_is_err_and c.from_residual.result c.from_residual.ensures.1 in
     let laws = g.met.AB.AirBuilder.laws in
     rw (p.1, p.2)
-    (list_of laws _ (xors_are g.AB.F.Field.ring _ g.met.AB.F.Field.one_is (VariableMeans g.AB.Ring.FromVar-1.var_means g.AB.AirBuilder.stands) c.args.builder.now _ _ _ _ c.index-a-0.result c.index-a-1.result)
+    (list_of laws _ (xors_are g.AB.F.Field.ring _ g.met.AB.F.Field.one_is (VariableMeans g.AB.Ring.FromVar-1.var_means g.AB.AirBuilder.reads_as) c.args.builder.now _ _ _ _ c.index-a-0.result c.index-a-1.result)
     (list_first laws (list_first laws (list_of_each laws _ c.in_err-assert_bits.ensures))))
 
 pub returns-in_err-assert_half : goal.returns-in_err-assert_half
@@ -34,7 +34,7 @@ returns-in_err-assert_half g c =
     let own_is : c.as_slice-own.result.now ≡ c.args.b.now = cc in
     let others_is : c.as_slice-others.result.now ≡ rotated_left c.args.shift c.args.c.now = cc in
     rw (p.1, p.2)
-    (list_of laws _ (xors_are g.AB.F.Field.ring _ g.met.AB.F.Field.one_is (VariableMeans g.AB.Ring.FromVar-1.var_means g.AB.AirBuilder.stands) c.args.builder.now _ _ _ _ c.index-a-0.result c.index-a-1.result)
+    (list_of laws _ (xors_are g.AB.F.Field.ring _ g.met.AB.F.Field.one_is (VariableMeans g.AB.Ring.FromVar-1.var_means g.AB.AirBuilder.reads_as) c.args.builder.now _ _ _ _ c.index-a-0.result c.index-a-1.result)
     (list_first laws
     (list_then_each laws (HalfOf g.AB.F.Field.ring (VariableMeans g.AB.Ring.FromVar-1.var_means (λ l. l))) _ (list_of_each laws _ c.in_ok-assert_bits.ensures)
     (low_half_is own_is others_is c.in_err-assert_half.ensures))))
@@ -44,7 +44,7 @@ returns g c =
     let laws = g.met.AB.AirBuilder.laws in
     let own_is : c.as_slice-own.result.now ≡ c.args.b.now = cc in
     let others_is : c.as_slice-others.result.now ≡ rotated_left c.args.shift c.args.c.now = cc in
-    list_of laws c.assert_half-2.result (xors_are g.AB.F.Field.ring _ g.met.AB.F.Field.one_is (VariableMeans g.AB.Ring.FromVar-1.var_means g.AB.AirBuilder.stands) c.args.builder.now _ _ _ _ c.index-a-0.result c.index-a-1.result)
+    list_of laws c.assert_half-2.result (xors_are g.AB.F.Field.ring _ g.met.AB.F.Field.one_is (VariableMeans g.AB.Ring.FromVar-1.var_means g.AB.AirBuilder.reads_as) c.args.builder.now _ _ _ _ c.index-a-0.result c.index-a-1.result)
     (list_then_each laws (HalfOf g.AB.F.Field.ring (VariableMeans g.AB.Ring.FromVar-1.var_means (λ l. l))) c.assert_half-2.result
     (list_then_each laws (HalfOf g.AB.F.Field.ring (VariableMeans g.AB.Ring.FromVar-1.var_means (λ l. l))) _ (list_of_each laws _ c.in_ok-assert_bits.ensures)
     (low_half_is own_is others_is c.in_ok-assert_half.ensures))

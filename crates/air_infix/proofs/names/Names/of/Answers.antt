@@ -1,6 +1,6 @@
 use Rattle.std.proofs.Common.{◌≡◌, ℕ, List, Option, length, sym, subst, ◌∙◌}
 use Rattle.air_symbolic.specs.Reach.{Reached}
-use Rattle.air_infix.specs.Names.{places_of, is_named}
+use Rattle.air_infix.specs.Names.{count_of_places, is_named}
 use Rattle.air_infix.specs.Counts.{AreCounted, passes}
 use Rattle.air_infix.specs.declared.counts.Places.{Places}
 use Rattle.air_infix.proofs.NameLemmas.{if_both, passes-is, passing_below-same, name_by-same}
@@ -17,10 +17,10 @@ returns g c =
     subst (λ (ms : List (Option ℕ)). Reached l ns roots ms) (sym c.deref-2.ensures.value) c.in-Ok.ensures.marked in
     let places : length counts ≡ length ns =
     subst (λ (cs : List Places). length cs ≡ length ns) (sym c.deref-3.ensures.value) c.in_ok-counts.ensures.places in
-    let first : AreCounted (places_of ns roots marks) c.in_ok-counts.counts.items =
-    subst (λ (ms : List (Option ℕ)). AreCounted (places_of ns roots ms) c.in_ok-counts.counts.items) (c.deref.ensures.value ∙ sym c.deref-2.ensures.value) c.in_ok-counts.ensures.counted in
-    let counted : AreCounted (places_of ns roots marks) counts =
-    subst (λ (cs : List Places). AreCounted (places_of ns roots marks) cs) (sym c.deref-3.ensures.value) first in
+    let first : AreCounted (count_of_places ns roots marks) c.in_ok-counts.counts.items =
+    subst (λ (ms : List (Option ℕ)). AreCounted (count_of_places ns roots ms) c.in_ok-counts.counts.items) (c.deref.ensures.value ∙ sym c.deref-2.ensures.value) c.in_ok-counts.ensures.counted in
+    let counted : AreCounted (count_of_places ns roots marks) counts =
+    subst (λ (cs : List Places). AreCounted (count_of_places ns roots marks) cs) (sym c.deref-3.ensures.value) first in
     let same = passes-is ns marks counts roots reach.places places counted in
     if_both _ _ _ c.give_names.result
     (λ n p q. record {

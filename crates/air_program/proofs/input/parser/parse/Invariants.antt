@@ -1,13 +1,13 @@
 use Rattle.std.proofs.Common.{◌≡◌, ◌%◌, length, vec_len}
 use Rattle.std.specs.Str.Lines.{lines}
-use Rattle.air_program.specs.Grammar.{rows_of, parse}
-use Rattle.air_program.specs.Parsing.{residues}
+use Rattle.air_program.specs.Grammar.{rows_of_lines, parse}
+use Rattle.air_program.specs.Parsing.{element_values}
 use Rattle.air_program.proofs.Inputs.{input_with}
 use Rattle.air_program.proofs.input.parser.parse.Given as goal
 
 abbrev pub invariant-rows : goal.invariant-rows
 invariant-rows l = record {
-  rest : input_with (residues l.public_values.items) (residues l.values.items) (rows_of (lines l.rest)) ≡ parse l.bytes;
+  rest : input_with (element_values l.public_values.items) (element_values l.values.items) (rows_of_lines (lines l.rest)) ≡ parse l.bytes;
   three : vec_len l.public_values ≡ 3;
   whole_rows : vec_len l.values % 2 ≡ 0;
 }

@@ -1,6 +1,6 @@
 use Rattle.std.proofs.Common.{List, Result, ℕ, sym, subst}
 use Rattle.air_wire.specs.ListReaders.{HasRead}
-use Rattle.air_wire.specs.Seen.{seen_at}
+use Rattle.air_wire.specs.Unshared.{seen_at}
 use Rattle.air_wire.specs.declared.errors.FlatError.{FlatError}
 use Rattle.air_wire.proofs.lists.ListReader.read_node.Goals as goal
 

@@ -1,9 +1,9 @@
 use Rattle.std.proofs.Common.{◌≡◌, ◌≢◌, ℕ, List, Result, IfOk, IfErr, sym, ap, subst, ◌∙◌}
 use Rattle.serde_json.specs.Data.{array}
 use Rattle.serde_json.specs.View.{items_of}
-use Rattle.air_wire.specs.Good.{IsList, HasFault}
+use Rattle.air_wire.specs.NodeLists.{IsList, HasFault}
 use Rattle.air_wire.specs.ListReaders.{numbers_or, HasRead}
-use Rattle.air_wire.specs.Seen.{seen_at}
+use Rattle.air_wire.specs.Unshared.{seen_at}
 use Rattle.air_wire.specs.declared.errors.FlatError.{FlatError}
 use Rattle.air_wire.specs.declared.errors.FlatError.TheVariants as faults
 use Rattle.air_wire.proofs.ListReading.{root_is, root_fails}

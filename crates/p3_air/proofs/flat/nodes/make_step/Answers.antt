@@ -2,7 +2,7 @@ use Rattle.std.proofs.Common.{subst}
 use Rattle.air_symbolic.specs.BaseLeaves.{base_leaves, base_reads}
 use Rattle.air_symbolic.specs.Pools.{term_at}
 use Rattle.air_builder.specs.Builders.{Means}
-use Rattle.air_author.specs.Expressions.{Made}
+use Rattle.air_author.specs.Expressions.{MakesTerm}
 use Rattle.p3_air.specs.Plans.{number_at, IsPlaceOf, StepMakes}
 use Rattle.p3_air.proofs.Making.{place_made, at_lasts, both_last, sum_term, difference_term, negative_term, product_term, sum_before, difference_before, negative_before, product_before}
 use Rattle.p3_air.proofs.flat.nodes.make_step.Goals as goal
@@ -59,7 +59,7 @@ returns-in-Add g c =
     let k = c.args.place in
     let f = place_made base_leaves ns numbers k c.requires.pool.nodes c.requires.here c.args.step c.requires.makes in
     let m = subst (λ s. StepMakes (IsPlaceOf numbers k) s f.0) c.in-Add.is f.2 in
-    subst (λ t. Made (Means g.AB.Ring.Algebra.means A.ring_of A.stands) A.grew A.missing A.refuses c.args.builder.now c.make.new.builder c.make.result t)
+    subst (λ t. MakesTerm (Means g.AB.Ring.Algebra.means A.ring_of A.reads_as) A.grew A.missing A.refuses c.args.builder.now c.make.new.builder c.make.result t)
     (sum_term base_leaves ns numbers k (number_at numbers k) c.in-Add.x c.in-Add.y f.0 f.1 m) c.make.ensures
 
 pub returns-in-Sub : goal.returns-in-Sub
@@ -70,7 +70,7 @@ returns-in-Sub g c =
     let k = c.args.place in
     let f = place_made base_leaves ns numbers k c.requires.pool.nodes c.requires.here c.args.step c.requires.makes in
     let m = subst (λ s. StepMakes (IsPlaceOf numbers k) s f.0) c.in-Sub.is f.2 in
-    subst (λ t. Made (Means g.AB.Ring.Algebra.means A.ring_of A.stands) A.grew A.missing A.refuses c.args.builder.now c.make-in-Sub.new.builder c.make-in-Sub.result t)
+    subst (λ t. MakesTerm (Means g.AB.Ring.Algebra.means A.ring_of A.reads_as) A.grew A.missing A.refuses c.args.builder.now c.make-in-Sub.new.builder c.make-in-Sub.result t)
     (difference_term base_leaves ns numbers k (number_at numbers k) c.in-Sub.x c.in-Sub.y f.0 f.1 m) c.make-in-Sub.ensures
 
 pub returns-in-Neg : goal.returns-in-Neg
@@ -81,7 +81,7 @@ returns-in-Neg g c =
     let k = c.args.place in
     let f = place_made base_leaves ns numbers k c.requires.pool.nodes c.requires.here c.args.step c.requires.makes in
     let m = subst (λ s. StepMakes (IsPlaceOf numbers k) s f.0) c.in-Neg.is f.2 in
-    subst (λ t. Made (Means g.AB.Ring.Algebra.means A.ring_of A.stands) A.grew A.missing A.refuses c.args.builder.now c.make-in-Neg.new.builder c.make-in-Neg.result t)
+    subst (λ t. MakesTerm (Means g.AB.Ring.Algebra.means A.ring_of A.reads_as) A.grew A.missing A.refuses c.args.builder.now c.make-in-Neg.new.builder c.make-in-Neg.result t)
     (negative_term base_leaves ns numbers k (number_at numbers k) c.in-Neg.x f.0 f.1 m) c.make-in-Neg.ensures
 
 pub returns-in-Mul : goal.returns-in-Mul
@@ -92,5 +92,5 @@ returns-in-Mul g c =
     let k = c.args.place in
     let f = place_made base_leaves ns numbers k c.requires.pool.nodes c.requires.here c.args.step c.requires.makes in
     let m = subst (λ s. StepMakes (IsPlaceOf numbers k) s f.0) c.in-Mul.is f.2 in
-    subst (λ t. Made (Means g.AB.Ring.Algebra.means A.ring_of A.stands) A.grew A.missing A.refuses c.args.builder.now c.make-in-Mul.new.builder c.make-in-Mul.result t)
+    subst (λ t. MakesTerm (Means g.AB.Ring.Algebra.means A.ring_of A.reads_as) A.grew A.missing A.refuses c.args.builder.now c.make-in-Mul.new.builder c.make-in-Mul.result t)
     (product_term base_leaves ns numbers k (number_at numbers k) c.in-Mul.x c.in-Mul.y f.0 f.1 m) c.make-in-Mul.ensures

@@ -11,15 +11,15 @@ pub returns-in_err-expressions : goal.returns-in_err-expressions
 returns-in_err-expressions g c =
     let A = g.AB.AirBuilder in
     let p = err_from_is_err_and c.from_residual.result c.from_residual.ensures.1 in
-    rw (p.1, p.2) (one_refused (Means g.AB.Ring.Algebra.means A.ring_of A.stands) A.grew A.missing (OrMemory A.refuses) c.args.builder.now c.resolve_all.new.builder (term_at base_reads c.args.pool.now c.args.id) c.in_err-expressions.field-0.0 c.in_err-expressions.ensures)
+    rw (p.1, p.2) (one_refused (Means g.AB.Ring.Algebra.means A.ring_of A.reads_as) A.grew A.missing (OrMemory A.refuses) c.args.builder.now c.resolve_all.new.builder (term_at base_reads c.args.pool.now c.args.id) c.in_err-expressions.field-0.0 c.in_err-expressions.ensures)
 
 pub known-requires : goal.known-requires
 known-requires g c =
     let A = g.AB.AirBuilder in
     subst (λ v. 0 < length v) (sym c.deref.ensures.value)
-    (has_first (Means g.AB.Ring.Algebra.means A.ring_of A.stands c.resolve_all.new.builder) c.in_ok-expressions.expressions.items (term_at base_reads c.args.pool.now c.args.id) c.in_ok-expressions.ensures.made)
+    (has_first (Means g.AB.Ring.Algebra.means A.ring_of A.reads_as c.resolve_all.new.builder) c.in_ok-expressions.expressions.items (term_at base_reads c.args.pool.now c.args.id) c.in_ok-expressions.ensures.made)
 
 pub returns : goal.returns
 returns g c =
     let A = g.AB.AirBuilder in
-    one_made (Means g.AB.Ring.Algebra.means A.ring_of A.stands) A.grew A.missing (OrMemory A.refuses) c.args.builder.now c.resolve_all.new.builder (term_at base_reads c.args.pool.now c.args.id) c.in_ok-expressions.expressions c.known.result c.in_ok-expressions.ensures (rw c.deref.ensures.value at c.known.ensures)
+    one_made (Means g.AB.Ring.Algebra.means A.ring_of A.reads_as) A.grew A.missing (OrMemory A.refuses) c.args.builder.now c.resolve_all.new.builder (term_at base_reads c.args.pool.now c.args.id) c.in_ok-expressions.expressions c.known.result c.in_ok-expressions.ensures (rw c.deref.ensures.value at c.known.ensures)

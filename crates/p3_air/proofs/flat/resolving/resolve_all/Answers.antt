@@ -16,4 +16,4 @@ returns g c =
     let A = g.AB.AirBuilder in
     let plan = c.in_ok-plan.plan in
     let same = planned_terms (term_at base_reads c.args.pool.now) plan.numbers.items plan.places.items c.args.roots.now c.in_ok-plan.ensures.planned.stand in
-    subst (λ ts. MadeAll (Means g.AB.Ring.Algebra.means A.ring_of A.stands) A.grew A.missing (OrMemory A.refuses) c.args.builder.now c.make_planned.new.builder c.make_planned.result ts) same c.make_planned.ensures
+    subst (λ ts. MadeAll (Means g.AB.Ring.Algebra.means A.ring_of A.reads_as) A.grew A.missing (OrMemory A.refuses) c.args.builder.now c.make_planned.new.builder c.make_planned.result ts) same c.make_planned.ensures

@@ -13,5 +13,5 @@ invariant-loop-step g l =
       grown : A.grew l.initial.builder l.builder [];
       ready : A.ready l.builder;
       long : length l.table.items ≡ l.step-index;
-      made : TableMade (IsMade (Means g.AB.Ring.Algebra.means A.ring_of A.stands) A.missing l.builder) (term_at base_reads l.pool) l.plan.numbers.items l.table.items l.step-index;
+      made : TableMade (IsMade (Means g.AB.Ring.Algebra.means A.ring_of A.reads_as) A.missing l.builder) (term_at base_reads l.pool) l.plan.numbers.items l.table.items l.step-index;
     }

@@ -24,7 +24,7 @@ pub read_places-requires : goal.read_places-requires
 read_places-requires g c =
     let A = g.AB.AirBuilder in
     let plan = c.args.plan.now in
-    let made = λ (q : ℕ). IsMade (Means g.AB.Ring.Algebra.means A.ring_of A.stands) A.missing c.make_places.new.builder (term_at base_reads c.args.pool.now (number_at plan.numbers.items q)) in
+    let made = λ (q : ℕ). IsMade (Means g.AB.Ring.Algebra.means A.ring_of A.reads_as) A.missing c.make_places.new.builder (term_at base_reads c.args.pool.now (number_at plan.numbers.items q)) in
     subst (λ v. All (λ q. q < length c.deref.result.now) v) (sym c.deref-2.ensures.value)
     (λ k d lt. subst (λ t. get_or plan.places.items k d < length t) (sym c.deref.ensures.value)
     (has_within (made (get_or plan.places.items k d)) c.in_ok-table.table.items (get_or plan.places.items k d) (c.in_ok-table.ensures.made (get_or plan.places.items k d) (c.requires.planned.within k d lt))))
@@ -34,7 +34,7 @@ returns g c =
     let A = g.AB.AirBuilder in
     let plan = c.args.plan.now in
     let term = λ (q : ℕ). term_at base_reads c.args.pool.now (number_at plan.numbers.items q) in
-    let made = λ (q : ℕ). IsMade (Means g.AB.Ring.Algebra.means A.ring_of A.stands) A.missing c.make_places.new.builder (term q) in
+    let made = λ (q : ℕ). IsMade (Means g.AB.Ring.Algebra.means A.ring_of A.reads_as) A.missing c.make_places.new.builder (term q) in
     let table = subst (λ t. All (λ q. HasAt (made q) t q) plan.places.items) (sym c.deref.ensures.value)
     (λ k d lt. c.in_ok-table.ensures.made (get_or plan.places.items k d) (c.requires.planned.within k d lt)) in
     let read = rw c.deref-2.ensures.value at c.read_places.ensures.read in

@@ -14,7 +14,7 @@ returns-in_err-x g c =
 pub returns : goal.returns
 returns g c =
     let one = g.AB.F.Field.ring.one in
-    let at = g.AB.AirBuilder.stands c.make_ext-2.new.builder in
+    let at = g.AB.AirBuilder.reads_as c.make_ext-2.new.builder in
     let t = g.X.ExtExpression.ext_term c.args.self.now.0 in
     let n : suc (c.args.self.now.1 - 1) ≡ c.args.self.now.1 = omega arith in
     one_answered g.met.AB.ExtRing.Algebra.laws (over_extension g.met.AB.AirBuilder.laws g.met.AB.ExtensionBuilder.ext_laws) (λ u. power_term one u (suc (c.args.self.now.1 - 1))) _ _ _ _ _ _ _ _ _ c.in_ok-x.ensures c.answered.ensures c.ext_ring.ensures.value c.multiplied.ensures.extended c.multiplied.ensures.made c.multiplied.ensures.refused

@@ -13,7 +13,7 @@ returns-in_err-x g c =
 pub returns : goal.returns
 returns g c =
     let one = g.AB.F.Field.ring.one in
-    let at = g.AB.AirBuilder.stands c.make-2.new.builder in
+    let at = g.AB.AirBuilder.reads_as c.make-2.new.builder in
     let t = g.X.Expression.term c.args.self.now.0 in
     let n : suc (c.args.self.now.1 - 1) ≡ c.args.self.now.1 = omega arith in
     one_answered g.met.AB.Ring.Algebra.laws g.met.AB.AirBuilder.laws (λ u. power_term one u (suc (c.args.self.now.1 - 1))) _ _ _ _ _ _ _ _ _ c.in_ok-x.ensures c.answered.ensures c.ring.ensures.value c.multiplied.ensures.extended c.multiplied.ensures.made c.multiplied.ensures.refused

@@ -5,4 +5,4 @@ use Rattle.air_builder.specs.Builders.{Means}
 use Rattle.air_builder.proofs.builders.air_builder.AirBuilder.assert_zeros_slice.Given as goal
 
 abbrev pub invariant-loop-element : goal.invariant-loop-element
-invariant-loop-element g l = AssertedEach (AssertsOf Base (Means g.Self.Ring.Algebra.means g.Self.AirBuilder.ring_of g.Self.AirBuilder.stands) (λ t. t)) g.Self.AirBuilder.kept g.Self.AirBuilder.grew g.Self.AirBuilder.refuses l.initial.self l.self (take l.element-index l.elements) (Ok tt)
+invariant-loop-element g l = AssertedEach (AssertsOf Base (Means g.Self.Ring.Algebra.means g.Self.AirBuilder.ring_of g.Self.AirBuilder.reads_as) (λ t. t)) g.Self.AirBuilder.kept g.Self.AirBuilder.grew g.Self.AirBuilder.refuses l.initial.self l.self (take l.element-index l.elements) (Ok tt)

@@ -8,6 +8,6 @@ use Rattle.air_builder.proofs.builders.named.NamedAirBuilder.assert_zeros_named_
 
 abbrev pub invariant-loop-i : goal.invariant-loop-i
 invariant-loop-i g l = record {
-  asserted : AssertedEach (AssertsOf Base (Means g.Self.Ring.Algebra.means g.Self.AirBuilder.ring_of g.Self.AirBuilder.stands) (λ t. t)) g.Self.AirBuilder.kept g.Self.AirBuilder.grew g.Self.AirBuilder.refuses l.initial.self l.self (take l.i l.elements) (Ok tt);
-  labels : LabelledEach (AssertsOf Base (Means g.Self.Ring.Algebra.means g.Self.AirBuilder.ring_of g.Self.AirBuilder.stands) (λ t. t)) g.Self.NamedAirBuilder.labelled (ElementSays (g.N.Name.displays l.name)) l.initial.self l.self (take l.i l.elements) (Ok tt);
+  asserted : AssertedEach (AssertsOf Base (Means g.Self.Ring.Algebra.means g.Self.AirBuilder.ring_of g.Self.AirBuilder.reads_as) (λ t. t)) g.Self.AirBuilder.kept g.Self.AirBuilder.grew g.Self.AirBuilder.refuses l.initial.self l.self (take l.i l.elements) (Ok tt);
+  labels : LabelledEach (AssertsOf Base (Means g.Self.Ring.Algebra.means g.Self.AirBuilder.ring_of g.Self.AirBuilder.reads_as) (λ t. t)) g.Self.NamedAirBuilder.labelled (ElementSays (g.N.Name.displays l.name)) l.initial.self l.self (take l.i l.elements) (Ok tt);
 }

@@ -8,6 +8,6 @@ returns g c =
     let e = c.mul.ensures in
     record {
       extended = e.grown;
-      made = made-both (e.grown.pool c.requires.x_in.pool) _ _ _ _ _ _ mul_term (Simplifies-mul g.A.F.Field.ring) e.made e.stands;
+      made = made-both (e.grown.pool c.requires.x_in.pool) _ _ _ _ _ _ mul_term (Simplifies-mul g.A.F.Field.ring) e.made e.simplifies;
       refused = refused-product g.A.F.Field.ring g.A.SymLeaf.reads c.args.self.now c.args.x c.args.y c.mul.result (λ o. (e.overflow.0 o).1);
     }

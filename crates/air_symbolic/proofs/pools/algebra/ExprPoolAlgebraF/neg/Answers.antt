@@ -8,4 +8,4 @@ returns-clause-extended g c = c.neg.ensures.grown
 
 pub returns-clause-made : goal.returns-clause-made
 returns-clause-made g c =
-    made-one (c.neg.ensures.grown.pool c.requires.pool) _ _ _ _ _ neg_term (Simplifies-neg g.A.F.Field.ring) c.neg.ensures.made c.neg.ensures.stands
+    made-one (c.neg.ensures.grown.pool c.requires.pool) _ _ _ _ _ neg_term (Simplifies-neg g.A.F.Field.ring) c.neg.ensures.made c.neg.ensures.simplifies

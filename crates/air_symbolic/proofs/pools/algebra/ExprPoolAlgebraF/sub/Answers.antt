@@ -5,4 +5,4 @@ use Rattle.air_symbolic.proofs.pools.algebra.ExprPoolAlgebraF.sub.Goals as goal
 
 pub returns-clause-made : goal.returns-clause-made
 returns-clause-made g c =
-    made-both (c.sub.ensures.grown.pool c.requires.x_in.pool) _ _ _ _ _ _ sub_term (Simplifies-sub g.A.F.Field.ring) c.sub.ensures.made c.sub.ensures.stands
+    made-both (c.sub.ensures.grown.pool c.requires.x_in.pool) _ _ _ _ _ _ sub_term (Simplifies-sub g.A.F.Field.ring) c.sub.ensures.made c.sub.ensures.simplifies

@@ -3,7 +3,7 @@ use Rattle.std.proofs.lemmas.List.{drop_all}
 use Rattle.std.proofs.lemmas.Result.{err_from_is_err_and}
 use Rattle.air_symbolic.specs.laws.Pools.{Grown-trans}
 use Rattle.air_symbolic.proofs.FoldedLists.{left-is, product_begun, product_taken, overflow_taken, overflow_told, product_ended, drop_item, next_in}
-use Rattle.air_symbolic.proofs.FoldedTerms.{IsProductOfAll-stands}
+use Rattle.air_symbolic.proofs.FoldedTerms.{IsProductOfAll-simplifies}
 use Rattle.air_symbolic.proofs.pools.pool.ExprPool.product.Goals as goal
 
 pub loop-x-init : goal.loop-x-init
@@ -49,8 +49,8 @@ returns-clause-made g c =
     product_ended g.A.F.Field.ring g.A.F.PartialEq.eq g.A.SymLeaf.reads g.A.SymLeaf.grows g.A.SymLeaf.no_under g.met.A.SymLeaf.leaf_laws c.args.self.now c.loop-x.self c.args.xs.now c.loop-x.total
     (left-is _ _ (drop_all c.loop-x.x-index (take (length c.args.xs.now - 1) (drop 1 c.args.xs.now)) c.loop-x-test.false) c.loop-x.invariant.product)
 
-pub returns-clause-stands : goal.returns-clause-stands
-returns-clause-stands g c =
-    IsProductOfAll-stands g.A.F.Field.ring g.A.F.PartialEq.eq g.met.A.F.Field.eq_is g.A.SymLeaf.reads g.A.SymLeaf.grows g.A.SymLeaf.no_under g.met.A.SymLeaf.leaf_laws c.args.self.now c.loop-x.self c.requires.pool c.loop-x.invariant.product.grown
+pub returns-clause-simplifies : goal.returns-clause-simplifies
+returns-clause-simplifies g c =
+    IsProductOfAll-simplifies g.A.F.Field.ring g.A.F.PartialEq.eq g.met.A.F.Field.eq_is g.A.SymLeaf.reads g.A.SymLeaf.grows g.A.SymLeaf.no_under g.met.A.SymLeaf.leaf_laws c.args.self.now c.loop-x.self c.requires.pool c.loop-x.invariant.product.grown
     c.args.xs.now c.requires.all_in c.loop-x.total
     (returns-clause-made g c)

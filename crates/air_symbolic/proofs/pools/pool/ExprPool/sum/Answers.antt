@@ -2,7 +2,7 @@ use Rattle.std.proofs.Common.{length, ◌-◌, drop, take, arith}
 use Rattle.std.proofs.lemmas.List.{drop_all}
 use Rattle.air_symbolic.specs.laws.Pools.{Grown-trans}
 use Rattle.air_symbolic.proofs.FoldedLists.{left-is, sum_begun, sum_taken, sum_ended, drop_item, next_in}
-use Rattle.air_symbolic.proofs.FoldedTerms.{IsSumOfAll-stands}
+use Rattle.air_symbolic.proofs.FoldedTerms.{IsSumOfAll-simplifies}
 use Rattle.air_symbolic.proofs.pools.pool.ExprPool.sum.Goals as goal
 
 pub loop-x-init : goal.loop-x-init
@@ -35,8 +35,8 @@ returns-clause-made g c =
     sum_ended g.A.F.Field.ring g.A.F.PartialEq.eq g.A.SymLeaf.reads g.A.SymLeaf.grows g.A.SymLeaf.no_under g.met.A.SymLeaf.leaf_laws c.args.self.now c.loop-x.self c.args.xs.now c.loop-x.total
     (left-is _ _ (drop_all c.loop-x.x-index (take (length c.args.xs.now - 1) (drop 1 c.args.xs.now)) c.loop-x-test.false) c.loop-x.invariant)
 
-pub returns-clause-stands : goal.returns-clause-stands
-returns-clause-stands g c =
-    IsSumOfAll-stands g.A.F.Field.ring g.A.F.PartialEq.eq g.met.A.F.Field.eq_is g.A.SymLeaf.reads g.A.SymLeaf.grows g.A.SymLeaf.no_under g.met.A.SymLeaf.leaf_laws c.args.self.now c.loop-x.self c.requires.pool c.loop-x.invariant.grown
+pub returns-clause-simplifies : goal.returns-clause-simplifies
+returns-clause-simplifies g c =
+    IsSumOfAll-simplifies g.A.F.Field.ring g.A.F.PartialEq.eq g.met.A.F.Field.eq_is g.A.SymLeaf.reads g.A.SymLeaf.grows g.A.SymLeaf.no_under g.met.A.SymLeaf.leaf_laws c.args.self.now c.loop-x.self c.requires.pool c.loop-x.invariant.grown
     c.args.xs.now c.requires.all_in c.loop-x.total
     (returns-clause-made g c)

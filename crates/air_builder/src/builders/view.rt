@@ -7,11 +7,11 @@ use crate::builders::extension::ExtensionBuilder;
 use air_field::{Algebra, ExtAlgebra};
 
 /// A builder as its laws see it.
-pub trait Seen: AirBuilder {
+pub trait View: AirBuilder {
     ghost view: { BuilderView Self Self.Ring Self.Expr Self.F };
 }
 
-impl<AB: AirBuilder> Seen for AB {
+impl<AB: AirBuilder> View for AB {
     ghost view = { record {
       valid = AB.Ring.valid;
       has = AB.Ring.has;
@@ -20,7 +20,7 @@ impl<AB: AirBuilder> Seen for AB {
       ring_refuses = AB.Ring.refuses;
       ring_of = AB.ring_of;
       with_ring = AB.with_ring;
-      stands = AB.stands;
+      reads_as = AB.reads_as;
       ready = AB.ready;
       kept = AB.kept;
       grew = AB.grew;
@@ -30,11 +30,11 @@ impl<AB: AirBuilder> Seen for AB {
 }
 
 /// A builder's ring over the extension as the laws see it.
-pub trait SeenExt: ExtensionBuilder {
+pub trait ViewExt: ExtensionBuilder {
     ghost over: { ExtensionView Self Self.ExtRing Self.Expr Self.ExprEF Self.F };
 }
 
-impl<AB: ExtensionBuilder> SeenExt for AB {
+impl<AB: ExtensionBuilder> ViewExt for AB {
     ghost over = { record {
       valid = AB.ExtRing.valid;
       has = AB.ExtRing.has;
@@ -49,10 +49,10 @@ impl<AB: ExtensionBuilder> SeenExt for AB {
 }
 
 /// A builder with its ring over the extension in the place of its base ring, as its laws see it.
-pub trait SeenOver: ExtensionBuilder {
+pub trait ViewOver: ExtensionBuilder {
     ghost view: { BuilderView Self Self.ExtRing Self.ExprEF Self.F };
 }
 
-impl<AB: ExtensionBuilder> SeenOver for AB {
-    ghost view = { over_view ⟦<AB as Seen>⟧.view ⟦<AB as SeenExt>⟧.over };
+impl<AB: ExtensionBuilder> ViewOver for AB {
+    ghost view = { over_view ⟦<AB as View>⟧.view ⟦<AB as ViewExt>⟧.over };
 }

@@ -6,13 +6,13 @@ use Rattle.air_symbolic.specs.Leaves.{Leaves}
 use Rattle.air_symbolic.specs.Trees.{Tree}
 use Rattle.air_symbolic.specs.Pools.{Grown}
 use Rattle.air_symbolic.specs.declared.pools.expr.SymbolicExpr.{SymbolicExpr}
-use Rattle.air_wire.specs.Reads.{Reads, ReadsAll}
+use Rattle.air_wire.specs.ReadCalls.{ReadsTree, ReadsAll}
 use Rattle.air_wire.specs.Results.{Fails}
 use Rattle.air_wire.specs.declared.errors.FlatError.{FlatError}
 
 module _ {U A S F : Type 0} {grows : U → U → Type 0} {reads : U → Leaves A F} {tree : U × List (SymbolicExpr A) → ℕ → Tree S} {p q : U × List (SymbolicExpr A)} where
   pub gives_up : (f : FlatError) {result : Result ℕ FlatError} {given : Result (Tree S) FlatError} → Grown grows reads p q
-      → IsErrAnd result (λ e. e ≡ f) → Fails f given → Reads grows reads tree p q result given
+      → IsErrAnd result (λ e. e ≡ f) → Fails f given → ReadsTree grows reads tree p q result given
   gives_up f {result = result} g h fails =
       let k = err_from_is_err_and result h in
       rw (k.1, k.2) record { grown = g; here = tt; read = fails }

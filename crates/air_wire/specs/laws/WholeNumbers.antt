@@ -6,7 +6,7 @@ use Rattle.serde_json.specs.Find.{get, as_array}
 use Rattle.air_wire.specs.Parts.{whole}
 use Rattle.air_wire.specs.laws.Readings.{none_found, named, number_found}
 use Rattle.air_wire.specs.Coefficients.{wholes}
-use Rattle.air_wire.specs.Wholes.{whole_items, wholes_data, HasWholes, wholes_at}
+use Rattle.air_wire.specs.WholeNumbers.{whole_items, wholes_data, HasWholes, wholes_at}
 
 pub whole_items_again : (ns : List ℕ) → wholes (whole_items ns) ≡ Some ns
 unfolding wholes

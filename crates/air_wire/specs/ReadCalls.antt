@@ -14,7 +14,7 @@ pub record AreOf {U A F : Type 0} (reads : U → Leaves A F) (p : U × List (Sym
 
 -- The pool has grown; the answer is a number of it, whose tree is what reading gives, or the fault, unless memory ran
 -- out. A tree is seen by tree.
-pub record Reads {U A S F : Type 0} (grows : U → U → Type 0) (reads : U → Leaves A F) (tree : U × List (SymbolicExpr A) → ℕ → Tree S)
+pub record ReadsTree {U A S F : Type 0} (grows : U → U → Type 0) (reads : U → Leaves A F) (tree : U × List (SymbolicExpr A) → ℕ → Tree S)
     (p q : U × List (SymbolicExpr A)) (result : Result ℕ FlatError) (given : Result (Tree S) FlatError) : Type 0 where
   pub grown : Grown grows reads p q
   pub here : IfOk result (λ i. i < length q.1)

@@ -4,7 +4,7 @@ use Rattle.std.specs.List.{slice_get}
 use Rattle.serde_json.specs.Data.{Data}
 use Rattle.air_symbolic.specs.Trees.{Tree}
 use Rattle.air_wire.specs.Spelling.{IsCase, HasWhole}
-use Rattle.air_wire.specs.Seen.{degree}
+use Rattle.air_wire.specs.Unshared.{degree}
 use Rattle.air_wire.specs.Nodes.{Kind}
 use Rattle.air_wire.specs.declared.errors.FlatError.{FlatError}
 use Rattle.air_wire.specs.declared.errors.FlatError.TheVariants as faults

@@ -14,10 +14,10 @@ use Rattle.air_wire.specs.Parts.{only_member, find_name, case_or}
 use Rattle.air_wire.specs.Results.{◌>>=◌}
 use Rattle.air_wire.specs.Spelling.{case_data}
 use Rattle.air_wire.specs.laws.Readings.{done, by_name, none_found, named, mapped, then_found, field_found, field_read, case_read, failed, err_is, before_done}
-use Rattle.air_wire.specs.Seen.{degree}
-use Rattle.air_wire.specs.Nodes.{Kind, KindLaws, operand_of, operand, stated, operations, places_of, joined_degree, joined_tree, operands_at, operation_or, leaf_node_at, node_with, node_at}
+use Rattle.air_wire.specs.Unshared.{degree}
+use Rattle.air_wire.specs.Nodes.{Kind, KindLaws, operand_of, operand, stated, operations, operands_of, joined_degree, joined_tree, operands_at, operation_or, leaf_node_at, node_with, node_of_value}
 use Rattle.air_wire.specs.laws.Nodes.{operation_name, named_operation, places_found, places_read}
-use Rattle.air_wire.specs.Forms.{Form, leaf_form, add_form, sub_form, mul_form, neg_form, SpellsForm, IsLate, IsAt, IsMisstated, OperandsFault, SumFault, ProductFault, FormFault, NodeFault}
+use Rattle.air_wire.specs.NodeFaults.{Form, leaf_form, add_form, sub_form, mul_form, neg_form, SpellsForm, IsLate, IsAt, IsMisstated, OperandsFault, SumFault, ProductFault, FormFault, NodeFault}
 
 -- ---- the form of a value
 
@@ -27,7 +27,7 @@ data Raw : Type 0 where
   raw : Operation → ℕ × ℕ × ℕ → Raw
 
 abbrev raw_with : List ℕ → Data → Option Raw
-raw_with name c = if bytes_eq name (codes "Leaf") then Some (raw_leaf c) else option_and_then (λ op. option_map (λ p. raw op p) (places_of op c)) (find_name operations name)
+raw_with name c = if bytes_eq name (codes "Leaf") then Some (raw_leaf c) else option_and_then (λ op. option_map (λ p. raw op p) (operands_of op c)) (find_name operations name)
 
 abbrev raw_of : Data → Option Raw
 raw_of d = case_or None raw_with (only_member d)
@@ -49,7 +49,7 @@ raw_again d (neg_form n x) h = ap raw_of h.1 ∙ ap (option_map (λ p. raw Neg p
 -- what the value spells whose form is read so
 abbrev SpellsRaw : Data → Raw → Type 0
 SpellsRaw d (raw_leaf c) = d ≡ case_data (codes "Leaf") c
-SpellsRaw d (raw op p) = (c : Data) × (d ≡ case_data (operation_name op) c) × (places_of op c ≡ Some p)
+SpellsRaw d (raw op p) = (c : Data) × (d ≡ case_data (operation_name op) c) × (operands_of op c ≡ Some p)
 
 raw_found : (d : Data) (m : Raw) → raw_of d ≡ Some m → SpellsRaw d m
 raw_found d m e =
@@ -58,11 +58,11 @@ raw_found d m e =
     let P : Raw → Type 0 = SpellsRaw (case_data name c) in
     by_name P name (codes "Leaf") _ _ m e
     (λ same. named P (raw_leaf c) m (ap (λ n. case_data n c) same))
-    (λ e. then_found (P m) (λ op. option_map (λ p. raw op p) (places_of op c)) (find_name operations name) m e
-    (λ op is e. mapped P (λ p. raw op p) (places_of op c) m e (λ p at. (c, ap (λ n. case_data n c) (named_operation name op is), at)))))
+    (λ e. then_found (P m) (λ op. option_map (λ p. raw op p) (operands_of op c)) (find_name operations name) m e
+    (λ op is e. mapped P (λ p. raw op p) (operands_of op c) m e (λ p at. (c, ap (λ n. case_data n c) (named_operation name op is), at)))))
 
 -- what is read so has a form
-operation_spelt : (op : Operation) (d c : Data) (p : ℕ × ℕ × ℕ) → d ≡ case_data (operation_name op) c → places_of op c ≡ Some p → (m : Form) × SpellsForm d m
+operation_spelt : (op : Operation) (d c : Data) (p : ℕ × ℕ × ℕ) → d ≡ case_data (operation_name op) c → operands_of op c ≡ Some p → (m : Form) × SpellsForm d m
 unfolding operation_name
 operation_spelt Add d c p is at =
     let h = places_found Add c p at in (add_form p.0 p.1 p.2, (c, is, (h.0, h.1, field_found (codes "y") c p.2 h.2)))
@@ -128,10 +128,10 @@ module _ {S F : Type 0} (kind : Kind S F) (laws : KindLaws kind) (before : List 
   places_by op None = refl
   places_by op (Some p) = refl
 
-  operation_by : (o : Option Operation) (c : Data) → operation_or kind before o c ≡ by_raw (option_and_then (λ op. option_map (λ p. raw op p) (places_of op c)) o)
+  operation_by : (o : Option Operation) (c : Data) → operation_or kind before o c ≡ by_raw (option_and_then (λ op. option_map (λ p. raw op p) (operands_of op c)) o)
   unfolding operands_at
   operation_by None c = refl
-  operation_by (Some op) c = places_by op (places_of op c)
+  operation_by (Some op) c = places_by op (operands_of op c)
 
   case_by : (o : Option (List ℕ × Data)) → case_or (Err (faults.Shape (length before))) (node_with kind before) o ≡ by_raw (case_or None raw_with o)
   case_by None = refl
@@ -185,7 +185,7 @@ module _ {S F : Type 0} (kind : Kind S F) (laws : KindLaws kind) (before : List 
       at_x (inl late) = inl late
       at_x (inr p) = at_y p.0 p.1 (one_operand y (λ u. step Neg n p.0 u) f p.2)
 
-  operation_fault : (op : Operation) (d c : Data) (p : ℕ × ℕ × ℕ) (f : FlatError) → d ≡ case_data (operation_name op) c → places_of op c ≡ Some p → operands op p ≡ Err f → (m : Form) × SpellsForm d m × FormFault kind before m f
+  operation_fault : (op : Operation) (d c : Data) (p : ℕ × ℕ × ℕ) (f : FlatError) → d ≡ case_data (operation_name op) c → operands_of op c ≡ Some p → operands op p ≡ Err f → (m : Form) × SpellsForm d m × FormFault kind before m f
   unfolding operation_name
   operation_fault Add d c p f is at e =
       let h = places_found Add c p at in
@@ -207,8 +207,8 @@ module _ {S F : Type 0} (kind : Kind S F) (laws : KindLaws kind) (before : List 
   raw_fault d (raw_leaf c) f is e = (leaf_form c, (c, is, refl), laws.fault_found (length before) c f (before_done (kind.leaf_at (length before) c) (λ a. leaf_tree a) f e))
   raw_fault d (raw op p) f h e = operation_fault op d h.0 p f h.1 h.2 (before_done (operands op p) (λ q. joined_tree op q.0 q.1) f e)
 
-  pub node_fault : (d : Data) (f : FlatError) → node_at kind before d ≡ Err f → NodeFault kind before d f
-  unfolding node_at
+  pub node_fault : (d : Data) (f : FlatError) → node_of_value kind before d ≡ Err f → NodeFault kind before d f
+  unfolding node_of_value
   node_fault d f e = go (raw_of d) refl (sym (case_by (only_member d)) ∙ e)
     where
       go : (o : Option Raw) → raw_of d ≡ o → by_raw o ≡ Err f → NodeFault kind before d f
@@ -269,8 +269,8 @@ module _ {S F : Type 0} (kind : Kind S F) (laws : KindLaws kind) (before : List 
   form_fails (mul_form n x y) f h = ap (joins Mul) (operands_fail x y (step Mul n) (ProductFault kind before n) (product_fails n) f h)
   form_fails (neg_form n x) f h = ap (joins Neg) (negative_fails n x f h)
 
-  pub node_fails : (d : Data) (f : FlatError) → NodeFault kind before d f → node_at kind before d ≡ Err f
-  unfolding node_at
+  pub node_fails : (d : Data) (f : FlatError) → NodeFault kind before d f → node_of_value kind before d ≡ Err f
+  unfolding node_of_value
   node_fails d f (inl (nowhere, is)) = case_by (only_member d) ∙ go (raw_of d) refl
     where
       go : (o : Option Raw) → raw_of d ≡ o → by_raw o ≡ Err f

@@ -5,9 +5,9 @@ use Rattle.serde_json.specs.Data.{Data, Items, no_items, item}
 use Rattle.serde_json.specs.Find.{as_array}
 use Rattle.air_symbolic.specs.Trees.{Tree, nothing, leaf_tree, add_tree, sub_tree, neg_tree, mul_tree}
 use Rattle.air_wire.specs.Spelling.{IsCase, HasWhole}
-use Rattle.air_wire.specs.Seen.{degree}
+use Rattle.air_wire.specs.Unshared.{degree}
 use Rattle.air_wire.specs.Nodes.{Kind}
-use Rattle.air_wire.specs.Forms.{NodeFault}
+use Rattle.air_wire.specs.NodeFaults.{NodeFault}
 use Rattle.air_wire.specs.declared.errors.FlatError.{FlatError}
 use Rattle.air_wire.specs.declared.errors.FlatError.TheVariants as faults
 
@@ -16,28 +16,28 @@ abbrev pub HasOperand : {S : Type 0} → List ℕ → List (Tree S) → Tree S �
 HasOperand name done t c = (i : ℕ) × HasWhole name i c × (slice_get done i ≡ Some t)
 
 -- the operands are t and u, and the stated degree is d
-abbrev pub HasTwo : {S : Type 0} → List (Tree S) → Tree S → Tree S → ℕ → Data → Type 0
-HasTwo done t u d c = HasWhole (codes "degree_multiple") d c × HasOperand (codes "x") done t c × HasOperand (codes "y") done u c
+abbrev pub HasTwoOperands : {S : Type 0} → List (Tree S) → Tree S → Tree S → ℕ → Data → Type 0
+HasTwoOperands done t u d c = HasWhole (codes "degree_multiple") d c × HasOperand (codes "x") done t c × HasOperand (codes "y") done u c
 
-abbrev pub HasOne : {S : Type 0} → List (Tree S) → Tree S → ℕ → Data → Type 0
-HasOne done t d c = HasWhole (codes "degree_multiple") d c × HasOperand (codes "x") done t c
+abbrev pub HasOneOperand : {S : Type 0} → List (Tree S) → Tree S → ℕ → Data → Type 0
+HasOneOperand done t d c = HasWhole (codes "degree_multiple") d c × HasOperand (codes "x") done t c
 
 -- Behind nodes with the trees of done, the value is a node with this tree: its operands stand earlier, and its stated
 -- degree is the tree's, which fits `usize`.
-abbrev pub IsNode : {S F : Type 0} → Kind S F → List (Tree S) → Data → Tree S → Type 0
-IsNode kind done d nothing = ⊥
-IsNode kind done d (leaf_tree a) = IsCase (codes "Leaf") (λ c. kind.spells c a) d
-IsNode kind done d (add_tree t u) = IsCase (codes "Add") (HasTwo done t u (max (degree kind.term t) (degree kind.term u))) d
-IsNode kind done d (sub_tree t u) = IsCase (codes "Sub") (HasTwo done t u (max (degree kind.term t) (degree kind.term u))) d
-IsNode kind done d (neg_tree t) = IsCase (codes "Neg") (HasOne done t (degree kind.term t)) d
-IsNode kind done d (mul_tree t u) = IsCase (codes "Mul") (HasTwo done t u (degree kind.term t + degree kind.term u)) d × (degree kind.term t + degree kind.term u < 2 ^ 64)
+abbrev pub SpellsNode : {S F : Type 0} → Kind S F → List (Tree S) → Data → Tree S → Type 0
+SpellsNode kind done d nothing = ⊥
+SpellsNode kind done d (leaf_tree a) = IsCase (codes "Leaf") (λ c. kind.spells c a) d
+SpellsNode kind done d (add_tree t u) = IsCase (codes "Add") (HasTwoOperands done t u (max (degree kind.term t) (degree kind.term u))) d
+SpellsNode kind done d (sub_tree t u) = IsCase (codes "Sub") (HasTwoOperands done t u (max (degree kind.term t) (degree kind.term u))) d
+SpellsNode kind done d (neg_tree t) = IsCase (codes "Neg") (HasOneOperand done t (degree kind.term t)) d
+SpellsNode kind done d (mul_tree t u) = IsCase (codes "Mul") (HasTwoOperands done t u (degree kind.term t + degree kind.term u)) d × (degree kind.term t + degree kind.term u < 2 ^ 64)
 
 -- the values are nodes with these trees, each behind those before it
 abbrev pub AreNodes : {S F : Type 0} → Kind S F → List (Tree S) → Items → List (Tree S) → Type 0
 AreNodes kind done no_items [] = Unit {0}
 AreNodes kind done no_items (t ∷ ts) = ⊥
 AreNodes kind done (item d ds) [] = ⊥
-AreNodes kind done (item d ds) (t ∷ ts) = IsNode kind done d t × AreNodes kind (done ++ t ∷ []) ds ts
+AreNodes kind done (item d ds) (t ∷ ts) = SpellsNode kind done d t × AreNodes kind (done ++ t ∷ []) ds ts
 
 -- the value is a list of nodes, the last of which has the tree t
 pub record IsList {S F : Type 0} (kind : Kind S F) (d : Data) (t : Tree S) : Type 0 where
@@ -49,7 +49,7 @@ pub record IsList {S F : Type 0} (kind : Kind S F) (d : Data) (t : Tree S) : Typ
 -- the first node that is none has this fault, and all before it are nodes
 abbrev pub FirstFault : {S F : Type 0} → Kind S F → List (Tree S) → Items → FlatError → Type 0
 FirstFault kind done no_items f = ⊥
-FirstFault {S} kind done (item d ds) f = NodeFault kind done d f ⊎ ((t : Tree S) × IsNode kind done d t × FirstFault kind (done ++ t ∷ []) ds f)
+FirstFault {S} kind done (item d ds) f = NodeFault kind done d f ⊎ ((t : Tree S) × SpellsNode kind done d t × FirstFault kind (done ++ t ∷ []) ds f)
 
 abbrev pub ItemsFault : {S F : Type 0} → Kind S F → Items → FlatError → Type 0
 ItemsFault kind no_items f = f ≡ faults.EmptyList
