@@ -19,7 +19,7 @@ pub image-class : (n : ℕ) → image baby_bear_ring n ≡ class n
 image-class n = modular.image-class baby_bears n
 
 pub image-is-zero : (n : ℕ) → (image baby_bear_ring n ≡ class 0) ↔ (2013265921 ∣ n)
-image-is-zero n = modular.image-is-zero baby_bears n
+image-is-zero n = modular.image-zero baby_bears n
 
 -- `==` tells the same value
 pub equal_is : (a b : BabyBear) → Decides (eqb a.residue b.residue) (a ≡ b)
