@@ -14,8 +14,8 @@ abbrev pub all_vanish : {F : Type 0} → (Term F → Term F) → List (Term F) �
 all_vanish f ts = map (λ t. Base (f t)) ts
 
 -- The word whose lower limb is in this column, with the 16 columns of its bits behind it, and then the upper one with its.
-abbrev pub word_in_columns : {F : Type 0} → ℕ → Limbs (Term F)
-word_in_columns first = limbs (leaf_term (main 0 first)) (leaf_term (main 0 (first + 17)))
+abbrev pub word_at : {F : Type 0} → ℕ → Limbs (Term F)
+word_at first = limbs (leaf_term (main 0 first)) (leaf_term (main 0 (first + 17)))
 
 -- it has these bits
 unfoldable pub word_bits : {F : Type 0} → CommRing F → ℕ → (Term F → Term F) → List (Assertion F)

@@ -18,16 +18,16 @@ first_words v = v.q0.a ∷ v.q1.a ∷ v.q2.a ∷ v.q3.a ∷ v.q0.b ∷ v.q1.b �
 abbrev pub byte_at : List ℕ → ℕ → ℕ
 byte_at bytes i = slice_index_or bytes i 0
 
-abbrev pub word_at : List ℕ → ℕ → ℕ
-word_at bytes i =
+abbrev pub word_of_bytes : List ℕ → ℕ → ℕ
+word_of_bytes bytes i =
     byte_at bytes i + 2 ^ 8 * byte_at bytes (i + 1) + 2 ^ 16 * byte_at bytes (i + 2) + 2 ^ 24 * byte_at bytes (i + 3)
 
 abbrev pub words_at : List ℕ → ℕ → List ℕ
 words_at bytes i =
-    word_at bytes (i + 0) ∷ word_at bytes (i + 4) ∷ word_at bytes (i + 8) ∷ word_at bytes (i + 12) ∷
-    word_at bytes (i + 16) ∷ word_at bytes (i + 20) ∷ word_at bytes (i + 24) ∷ word_at bytes (i + 28) ∷
-    word_at bytes (i + 32) ∷ word_at bytes (i + 36) ∷ word_at bytes (i + 40) ∷ word_at bytes (i + 44) ∷
-    word_at bytes (i + 48) ∷ word_at bytes (i + 52) ∷ word_at bytes (i + 56) ∷ word_at bytes (i + 60) ∷ []
+    word_of_bytes bytes (i + 0) ∷ word_of_bytes bytes (i + 4) ∷ word_of_bytes bytes (i + 8) ∷ word_of_bytes bytes (i + 12) ∷
+    word_of_bytes bytes (i + 16) ∷ word_of_bytes bytes (i + 20) ∷ word_of_bytes bytes (i + 24) ∷ word_of_bytes bytes (i + 28) ∷
+    word_of_bytes bytes (i + 32) ∷ word_of_bytes bytes (i + 36) ∷ word_of_bytes bytes (i + 40) ∷ word_of_bytes bytes (i + 44) ∷
+    word_of_bytes bytes (i + 48) ∷ word_of_bytes bytes (i + 52) ∷ word_of_bytes bytes (i + 56) ∷ word_of_bytes bytes (i + 60) ∷ []
 
 -- of so many bytes there are so many blocks of 64: one at least
 abbrev pub block_count : ℕ → ℕ

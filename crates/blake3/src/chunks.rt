@@ -1,6 +1,6 @@
 //! The blocks of a message of one chunk, which has at most 1,024 bytes.
 ghost use Rattle.std.specs.Prelude.{◌≡◌, ◌+◌, ◌*◌, ◌<◌, ◌≤◌, ◌^◌, suc};
-ghost use Rattle.blake3.specs.Hashing.{block_count, block_flags, block_length, byte_at, first_words, start_words, word_at, words_at};
+ghost use Rattle.blake3.specs.Hashing.{block_count, block_flags, block_length, byte_at, first_words, start_words, word_of_bytes, words_at};
 
 use crate::words::State;
 
@@ -28,7 +28,7 @@ fn byte_at(message: &[u8], at: usize) -> u32
 /// Four bytes as a word, the lowest first.
 fn word_at(message: &[u8], at: usize) -> u32
     requires { at ≤ 2 ^ 16 }
-    ensures { result ≡ word_at message.now at }
+    ensures { result ≡ word_of_bytes message.now at }
 {
     byte_at(message, at)
         + 256 * byte_at(message, at + 1)

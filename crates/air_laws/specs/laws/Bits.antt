@@ -14,7 +14,7 @@ use Rattle.air_builder.specs.Assertion.{Base}
 use Rattle.air_gadgets.specs.Exact.{AllVanish}
 use Rattle.air_gadgets.specs.Packing.{packed_from}
 use Rattle.air_words.specs.BitTerms.{terms_from, columns_from, bits_asserts, has_bits, packed_bits}
-use Rattle.air_words.specs.WordTerms.{word_in_columns, word_bits}
+use Rattle.air_words.specs.WordTerms.{word_at, word_bits}
 use Rattle.air_laws.specs.Numbers.{IsBelow, IsWord}
 use Rattle.air_laws.specs.laws.Vanishing.{both_vanish, one_vanishes}
 
@@ -62,7 +62,7 @@ module _ {F : Type 0} (R : CommRing F) (domain : IsDomain R) (s : Leaf → F) wh
       }
 
   -- a word that has its bits has 16 in each limb
-  pub bits_of_word : (first : ℕ) → AllVanish R s (word_bits R first (λ t. t)) → IsWord R s (word_in_columns first)
+  pub bits_of_word : (first : ℕ) → AllVanish R s (word_bits R first (λ t. t)) → IsWord R s (word_at first)
   unfolding word_bits
   bits_of_word first h =
       let low = leaf_term (main 0 first) in
