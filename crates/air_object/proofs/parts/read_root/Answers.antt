@@ -1,6 +1,6 @@
 use Rattle.std.proofs.Common.{◌≡◌, ◌-◌, [], ◌∷◌, length, ap, ap₂, ◌∙◌, arith}
 use Rattle.json.specs.Json.{parse_map, items, value}
-use Rattle.json.specs.ReadsTree.{token_of}
+use Rattle.json.specs.Reads.{token_of}
 use Rattle.json.proofs.Grammar.{value_is, value-begin_array}
 use Rattle.serde_json.specs.Data.{array}
 use Rattle.serde_json.specs.Read.{of_json, of_items, converted}
