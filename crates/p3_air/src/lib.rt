@@ -2,11 +2,14 @@
 //!
 //! An AIR is written once, as values that are its constraints, and audited on a trace:
 //!
+//!     const COLUMNS: CounterColumns = CounterColumns { bit: 0, count: 1 };
+//!
 //!     impl<AB: AirBuilder> PlainConstraints<AB> for Counter {
 //!         fn eval(&self, builder: &mut AB) -> Result<(), AirError> {
-//!             let (bit, count) = (current(0), current(1));
-//!             let rises = When(Transition, next(1).equals(count + bit));
-//!             assert_all(builder, &(Boolean(bit), When(FirstRow, Zero(count)), rises))
+//!             let CounterColumns { bit, count } = COLUMNS;
+//!             let rises = When(Transition, next(count).equals(current(count) + current(bit)));
+//!             let constraints = (Boolean(current(bit)), When(FirstRow, Zero(current(count))), rises);
+//!             assert_all(builder, &constraints)
 //!         }
 //!     }
 //!
