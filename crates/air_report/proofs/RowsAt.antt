@@ -17,12 +17,14 @@ use Rattle.air_core.specs.declared.errors.AirError.TheVariants.{Memory, EmptyPer
 use Rattle.air_report.specs.Checks.{CheckedRow, Fits, RowRefuses}
 use Rattle.air_report.specs.Given.{Given, given_trace, table_grid}
 use Rattle.air_report.specs.Debug.{RowData, row_data, is_zero_at, nonzero_by, GrewAtRow}
-use Rattle.air_report.specs.DebugRow.{debug_row, IsAtRow}
+use Rattle.air_report.specs.DebugRow.{debug_row, row_selectors, IsRow, StandsAt}
 use Rattle.air_report.specs.RowRefusals.{RefusedAtRow, IsFull}
 use Rattle.air_report.specs.laws.Debug.{refused_anyway}
 use Rattle.air_report.specs.Shapes.{FitsHeight, table_height}
 use Rattle.air_report.specs.declared.debug.builder.DebugConstraintBuilder.{DebugConstraintBuilder}
 use Rattle.air_report.specs.declared.debug.failure.ConstraintFailure.{ConstraintFailure}
+use Rattle.air_report.specs.declared.debug.row.Row.{Row}
+use Rattle.air_report.specs.declared.debug.row.Selectors.{Selectors}
 use Rattle.air_report.proofs.OwnExtension.{own_nonzero}
 
 not_selector : {F : Type 0} (r : CommRing F) (b : Bool) → selector r (not b) ≡ (if b then r.zero else r.one)
@@ -46,9 +48,9 @@ around_table None h i f = refl
 around_table (Some table) h i f = ap (λ n. row_or_none (slice_get table.rows ((i + 1) % n))) f
 
 -- a builder at a row of a trace that is checked
-module _ {F : Type 0} (g : Given F) {i : ℕ} {pair table : ViewPair F} {periodic : Vec F Global} {first last other : F}
-    {fs : List ConstraintFailure} {b : DebugConstraintBuilder F F}
-    (at : IsAtRow i pair table g.public first last other periodic None [] [] fs b) where
+module _ {F : Type 0} (g : Given F) {i : ℕ} {pair table : ViewPair F} {selected : Selectors F} {row : Row F}
+    {periodic : Vec F Global} {fs : List ConstraintFailure} {b : DebugConstraintBuilder F F}
+    (made : IsRow i pair table g.public selected row) (at : StandsAt row periodic fs b) where
   -- where it holds what stands at its row of the trace, it grows by what the check of the row adds
   pub checked_row : {r : CommRing F} {eq : F → F → Bool} {over : AlgebraOver F F} {e : RowData F F} {n : ℕ} {gs hs : List ConstraintFailure}
       → over ≡ itself r → debug_row b ≡ record { row = i; values = row_at r (given_trace g) i; has_permutation = false; permutation = no_permutation } → hs ≡ gs
@@ -67,25 +69,25 @@ module _ {F : Type 0} (g : Given F) {i : ℕ} {pair table : ViewPair F} {periodi
   -- the table that its preprocessed rows are of, and its periodic row
   module _ {t : Option (Grid F)} (same : t ≡ g.declaration.preprocessed) (p : map Some periodic.items ≡ map (column_at i) g.declaration.periodic) where
     holds : debug_row b ≡ row_data i pair.top.values.now pair.bottom.values.now
-        table.top.values.now table.bottom.values.now periodic.items g.public first last other false no_permutation
-    holds = rw (at.row_index, at.main, at.preprocessed, at.preprocessed_next, at.periodic_row, at.public_values, at.is_first_row, at.is_last_row, at.is_transition, at.permutation, at.permutation_challenges, at.permutation_values)
+        table.top.values.now table.bottom.values.now periodic.items g.public selected.is_first_row selected.is_last_row selected.is_transition false no_permutation
+    holds = rw (at.row, made.index, made.main, made.preprocessed, made.preprocessed_next, made.public_values, made.selectors, at.periodic_row, at.permutation, at.permutation_challenges, at.permutation_values)
 
     -- it holds what stands at its row of the trace
     pub row_at-given : (r : CommRing F) → Fits g → slice_get g.main.rows i ≡ Some pair.top.values.now
         → slice_get g.main.rows ((i + 1) % length g.main.rows) ≡ Some pair.bottom.values.now
         → table.top.values.now ≡ row_or_none (slice_get (table_grid t).rows i)
         → table.bottom.values.now ≡ row_or_none (slice_get (table_grid t).rows ((i + 1) % length (table_grid t).rows))
-        → first ≡ selector r (i == 0) → last ≡ selector r (i + 1 == length g.main.rows) → other ≡ selector r (not (i + 1 == length g.main.rows))
+        → selected ≡ row_selectors r i (length g.main.rows)
         → debug_row b ≡ record { row = i; values = row_at r (given_trace g) i; has_permutation = false; permutation = no_permutation }
-    row_at-given r fits c n before after f l o =
+    row_at-given r fits c n before after selectors =
         let u : table.top.values.now ≡ row_or_none (slice_get (table_grid g.declaration.preprocessed).rows i) =
         before ∙ ap (λ x. row_or_none (slice_get (table_grid x).rows i)) same in
         let v : table.bottom.values.now ≡ row_or_none (slice_get (table_grid g.declaration.preprocessed).rows ((i + 1) % length g.main.rows)) =
         after ∙ (ap (λ x. row_or_none (slice_get (table_grid x).rows ((i + 1) % length (table_grid x).rows))) same
         ∙ around_table g.declaration.preprocessed (length g.main.rows) i fits.table_fits) in
         let q = periodic_is r.zero i periodic.items g.declaration.periodic p in
-        let k : other ≡ (if i + 1 == length g.main.rows then r.zero else r.one) = o ∙ not_selector r (i + 1 == length g.main.rows) in
-        holds ∙ rw (c, n, u, v, q, f, l, k)
+        let k = not_selector r (i + 1 == length g.main.rows) in
+        holds ∙ rw (c, n, u, v, q, selectors, k)
 
     -- it has what the trace has
     pub shape-given : length pair.top.values.now ≡ g.main.width → length table.top.values.now ≡ (table_grid t).width

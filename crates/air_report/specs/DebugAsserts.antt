@@ -1,14 +1,15 @@
 -- What the debug builder does with an assertion that has no name.
-use Rattle.std.specs.Prelude.{◌≡◌, [], ◌∷◌, Bool, Result}
+use Rattle.std.specs.Prelude.{◌≡◌, List, [], ◌∷◌, Bool, Result}
 use Rattle.air_field.specs.Ring.{CommRing, AlgebraOver}
 use Rattle.air_field.specs.Extension.{Basis}
 use Rattle.air_field.specs.Term.{Term, IsBase, with_leaves}
 use Rattle.air_field.specs.Algebra.{closed_value, closed_value_in}
 use Rattle.air_builder.specs.Assertion.{Assertion}
 use Rattle.air_builder.specs.Batches.{AssertedEach}
+use Rattle.air_builder.specs.Labels.{Labelled}
 use Rattle.air_core.specs.declared.errors.AirError.{AirError}
 use Rattle.air_report.specs.Debug.{RowData, row_reads_as, GrewAtRow}
-use Rattle.air_report.specs.DebugLabels.{LogsOne, IsNameless}
+use Rattle.air_report.specs.DebugLabels.{LogsOne, IsNameless, LabelledAtRow}
 use Rattle.air_report.specs.DebugRow.{debug_row}
 use Rattle.air_report.specs.RowRefusals.{RefusedAtRow}
 use Rattle.air_report.specs.declared.debug.builder.DebugConstraintBuilder.{DebugConstraintBuilder}
@@ -40,5 +41,12 @@ AssertedAtRow zero asserts a b x result =
 abbrev pub LogsNameless : {F E : Type 0} → Bool → DebugConstraintBuilder F E
     → DebugConstraintBuilder F E → Type 0
 LogsNameless holds a b =
-    LogsOne a.row_index a.constraint_index b.constraint_index IsNameless holds a.failures.items
+    LogsOne a.row.index a.constraint_index b.constraint_index IsNameless holds a.failures.items
     b.failures.items
+
+-- a builder grew by assertions that have labels
+abbrev pub GrewLabelled : {F E : Type 0} → (RowData F E → Assertion F → Bool)
+    → DebugConstraintBuilder F E → DebugConstraintBuilder F E → List (Labelled F) → Type 0
+GrewLabelled zero a b ls =
+    LabelledAtRow zero (debug_row a) (debug_row b) a.constraint_index b.constraint_index
+    a.failures.items b.failures.items ls

@@ -6,3 +6,4 @@ mod extension;
 pub mod failure;
 mod logging;
 mod named;
+pub(crate) mod row;

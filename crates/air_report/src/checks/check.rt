@@ -3,6 +3,7 @@ ghost use Rattle.std.specs.Prelude.{IsTrue, ◌↔◌, ◌≡◌, ◌+◌, ◌%�
 ghost use Rattle.std.specs.Option.{option_copied};
 ghost use Rattle.air_field.specs.Assignment.{selector, row_or_none};
 ghost use Rattle.air_report.specs.Report.{IsReached};
+ghost use Rattle.air_report.specs.DebugRow.{row_selectors};
 ghost use Rattle.air_report.specs.Given.{given, table_grid};
 ghost use Rattle.air_report.specs.Checks.{CheckRefuses, CheckedRow, CheckedRows, Fits, HasEntries, IsReport, RowRefuses, RowsRefuse};
 
@@ -11,6 +12,7 @@ use crate::checks::report::ConstraintReport;
 use crate::checks::shapes::{check_shapes, table_height};
 use crate::debug::builder::DebugConstraintBuilder;
 use crate::debug::failure::ConstraintFailure;
+use crate::debug::row::{Row, Selectors};
 use air_builder::{Air, AirError};
 use air_core::periodic::fill_periodic_row;
 use air_field::{Field, RowMajorMatrix, RowMajorMatrixView, SelfExtension, ViewPair};
@@ -22,6 +24,19 @@ fn selector<F: Field>(on: bool) -> F
     ensures { result ≡ selector F.ring on }
 {
     if on { F::ONE } else { F::ZERO }
+}
+
+/// The selectors at a row of a trace of this height.
+#[inline(always)]
+fn selectors_at<F: Field>(row: usize, height: usize) -> Selectors<F>
+    requires { row < height }
+    ensures { result ≡ row_selectors F.ring row height }
+{
+    Selectors {
+        is_first_row: selector(row == 0),
+        is_last_row: selector(row + 1 == height),
+        is_transition: selector(row + 1 != height),
+    }
 }
 
 /// A row that is there.
@@ -113,15 +128,13 @@ pub(crate) fn check_row<'a, F: SelfExtension + 'static, A: Air<DebugConstraintBu
 {
     let height = main.height();
     fill_periodic_row(&mut builder.periodic_row, air.periodic_columns(), row)?;
-    builder.move_to(
+    builder.move_to(Row::new(
         row,
         row_pair(main, row),
         table_pair(air.preprocessed_trace(), row),
         public_values,
-        selector(row == 0),
-        selector(row + 1 == height),
-        selector(row + 1 != height),
-    );
+        selectors_at(row, height),
+    ));
     air.eval(builder)
 }
 

@@ -1,9 +1,10 @@
 //! The debug builder: it holds the values at one row, and evaluates what is asserted there.
 ghost use Rattle.std.specs.Prelude.{◌≡◌, ◌≢◌, ◌↔◌, IsTrue, [], None, Some, IfOk, IfErr, IfSome, string_bytes};
-ghost use Rattle.air_report.specs.DebugRow.{IsAtRow};
+ghost use Rattle.air_report.specs.DebugRow.{IsAtRow, StandsAt, counted_from, failures_of};
 ghost use Rattle.air_report.specs.FailureTexts.{failures_text};
 
 use crate::debug::failure::{ConstraintFailure, failures_text};
+use crate::debug::row::{Row, Selectors};
 use air_builder::{AirError, RowWindow};
 use air_field::{ExtFieldRing, ExtensionField, Field, FieldRing, RowMajorMatrixView, ViewPair};
 use std::alloc::Global;
@@ -12,13 +13,7 @@ use std::alloc::Global;
 /// the values; the periodic row alone is its own.
 #[derive(Drop)]
 pub struct DebugConstraintBuilder<'a, F: Field, EF: ExtensionField<F>> {
-    pub(crate) row_index: usize,
-    pub(crate) main: ViewPair<'a, F>,
-    pub(crate) preprocessed: RowWindow<'a, F>,
-    pub(crate) public_values: &'a [F],
-    pub(crate) is_first_row: F,
-    pub(crate) is_last_row: F,
-    pub(crate) is_transition: F,
+    pub(crate) row: Row<'a, F>,
     pub(crate) periodic_row: Vec<F>,
     pub(crate) permutation: Option<ViewPair<'a, EF>>,
     pub(crate) permutation_challenges: &'a [EF],
@@ -46,17 +41,13 @@ impl<'a, F: Field + ExtensionField<F>> DebugConstraintBuilder<'a, F, F> {
         ensures { IsAtRow row_index main.entry preprocessed.entry public_values.now is_first_row
             is_last_row is_transition periodic_row None [] [] [] result }
     {
-        Self::at_row(
-            alloc,
-            row_index,
-            main,
-            preprocessed,
-            public_values,
+        let selectors = Selectors {
             is_first_row,
             is_last_row,
             is_transition,
-            periodic_row,
-        )
+        };
+        let row = Row::new(row_index, main, preprocessed, public_values, selectors);
+        Self::at_row(alloc, row, periodic_row)
     }
 }
 
@@ -69,13 +60,17 @@ impl<'a, F: Field, EF: ExtensionField<F>> DebugConstraintBuilder<'a, F, EF> {
     {
         let none = RowMajorMatrixView::new_row(&[]);
         DebugConstraintBuilder {
-            row_index: 0,
-            main: ViewPair::new(none, none),
-            preprocessed: RowWindow::from_two_rows(&[], &[]),
-            public_values: &[],
-            is_first_row: F::ZERO,
-            is_last_row: F::ZERO,
-            is_transition: F::ZERO,
+            row: Row {
+                index: 0,
+                main: ViewPair::new(none, none),
+                preprocessed: RowWindow::from_two_rows(&[], &[]),
+                public_values: &[],
+                selectors: Selectors {
+                    is_first_row: F::ZERO,
+                    is_last_row: F::ZERO,
+                    is_transition: F::ZERO,
+                },
+            },
             periodic_row: Vec::new(alloc),
             permutation: None,
             permutation_challenges: &[],
@@ -87,65 +82,26 @@ impl<'a, F: Field, EF: ExtensionField<F>> DebugConstraintBuilder<'a, F, EF> {
         }
     }
 
-    /// Moves to the row of this index, where it has no permutation data and has counted nothing. The failures stay, and the
-    /// values of the periodic columns, which are those of this row already.
+    /// Moves to a row, where it has no permutation data and has counted nothing. The failures stay, and the values of
+    /// the periodic columns, which are those of this row already.
     #[inline(always)]
-    pub(crate) fn move_to(
-        &mut self,
-        row_index: usize,
-        main: ViewPair<'a, F>,
-        preprocessed: ViewPair<'a, F>,
-        public_values: &'a [F],
-        is_first_row: F,
-        is_last_row: F,
-        is_transition: F,
-    )
-        ensures { IsAtRow row_index main.entry preprocessed.entry public_values.now is_first_row
-            is_last_row is_transition self.old.periodic_row None [] [] self.old.failures.items
-            self.new }
+    pub(crate) fn move_to(&mut self, row: Row<'a, F>)
+        ensures { StandsAt row.entry self.old.periodic_row self.old.failures.items self.new }
     {
-        self.row_index = row_index;
-        self.main = main;
-        self.preprocessed = RowWindow::from_two_rows(
-            preprocessed.top.values,
-            preprocessed.bottom.values,
-        );
-        self.public_values = public_values;
-        self.is_first_row = is_first_row;
-        self.is_last_row = is_last_row;
-        self.is_transition = is_transition;
+        self.row = row;
         self.permutation = None;
         self.permutation_challenges = &[];
         self.permutation_values = &[];
         self.constraint_index = 0;
     }
 
-    /// A builder at the row of this index, without permutation data, and without failures.
-    fn at_row(
-        alloc: Global,
-        row_index: usize,
-        main: ViewPair<'a, F>,
-        preprocessed: ViewPair<'a, F>,
-        public_values: &'a [F],
-        is_first_row: F,
-        is_last_row: F,
-        is_transition: F,
-        periodic_row: Vec<F>,
-    ) -> Self
-        ensures { IsAtRow row_index main.entry preprocessed.entry public_values.now is_first_row
-            is_last_row is_transition periodic_row None [] [] [] result }
+    /// A builder at a row, without permutation data, and without failures.
+    fn at_row(alloc: Global, row: Row<'a, F>, periodic_row: Vec<F>) -> Self
+        ensures { StandsAt row.entry periodic_row [] result }
     {
         let mut builder = Self::at_no_row(alloc);
         builder.periodic_row = periodic_row;
-        builder.move_to(
-            row_index,
-            main,
-            preprocessed,
-            public_values,
-            is_first_row,
-            is_last_row,
-            is_transition,
-        );
+        builder.move_to(row);
         builder
     }
 
@@ -169,27 +125,23 @@ impl<'a, F: Field, EF: ExtensionField<F>> DebugConstraintBuilder<'a, F, EF> {
             is_last_row is_transition periodic_row (Some permutation.entry)
             permutation_challenges.now permutation_values.now [] result }
     {
+        let selectors = Selectors {
+            is_first_row,
+            is_last_row,
+            is_transition,
+        };
+        let row = Row::new(row_index, main, preprocessed, public_values, selectors);
         DebugConstraintBuilder {
             permutation: Some(permutation),
             permutation_challenges,
             permutation_values,
-            ..Self::at_row(
-                alloc,
-                row_index,
-                main,
-                preprocessed,
-                public_values,
-                is_first_row,
-                is_last_row,
-                is_transition,
-                periodic_row,
-            )
+            ..Self::at_row(alloc, row, periodic_row)
         }
     }
 
     /// The builder with its counter at a number, as one that goes on where another stopped.
     pub fn counting_from(self, count: usize) -> Self
-        ensures { result ≡ record self.entry { constraint_index = count } }
+        ensures { result ≡ counted_from self.entry count }
     {
         let mut builder = self;
         builder.constraint_index = count;
@@ -198,14 +150,14 @@ impl<'a, F: Field, EF: ExtensionField<F>> DebugConstraintBuilder<'a, F, EF> {
 
     /// Whether an assertion failed.
     pub fn has_failures(&self) -> bool
-        ensures { IsTrue result ↔ (self.now.failures.items ≢ []) }
+        ensures { IsTrue result ↔ ((failures_of self.now).items ≢ []) }
     {
         !self.failures.is_empty()
     }
 
     /// The assertions that failed, in order.
     pub fn failures(&self) -> &[ConstraintFailure]
-        ensures { result.now ≡ self.now.failures.items }
+        ensures { result.now ≡ (failures_of self.now).items }
     {
         self.failures.as_slice()
     }
@@ -213,7 +165,7 @@ impl<'a, F: Field, EF: ExtensionField<F>> DebugConstraintBuilder<'a, F, EF> {
     /// The failures in brackets, joined by `, `, as `[#0, #2 "label"]`; where a label isn't ASCII, nothing is said of
     /// the text. It refuses for want of memory alone.
     pub fn formatted_failures(&self) -> Result<String, AirError>
-        ensures text { IfOk result (λ text. IfSome (failures_text self.now.failures.items)
+        ensures text { IfOk result (λ text. IfSome (failures_text (failures_of self.now).items)
             (λ bytes. string_bytes text ≡ bytes)) }
         ensures refused { IfErr result (λ e. e ≡ AirError.Memory) }
     {
@@ -223,7 +175,7 @@ impl<'a, F: Field, EF: ExtensionField<F>> DebugConstraintBuilder<'a, F, EF> {
 
     /// The assertions that failed, handed over.
     pub fn into_failures(self) -> Vec<ConstraintFailure>
-        ensures { result ≡ self.entry.failures }
+        ensures { result ≡ failures_of self.entry }
     {
         let DebugConstraintBuilder { failures, .. } = self;
         failures

@@ -61,35 +61,35 @@ impl<'a, F: Field, EF: ExtensionField<F> + 'static> AirBuilder
 
     #[inline(always)]
     fn main(&self) -> Result<RowWindow<'a, F>, AirError> {
-        Ok(RowWindow::from_two_rows(self.main.top.values, self.main.bottom.values))
+        Ok(RowWindow::from_two_rows(self.row.main.top.values, self.row.main.bottom.values))
     }
 
     #[inline(always)]
     fn main_variable(&self, offset: usize, column: usize) -> Option<F> {
         match offset {
-            0 => self.main.top.values.get(column).copied(),
-            1 => self.main.bottom.values.get(column).copied(),
+            0 => self.row.main.top.values.get(column).copied(),
+            1 => self.row.main.bottom.values.get(column).copied(),
             _ => None,
         }
     }
 
     #[inline(always)]
     fn preprocessed(&self) -> &RowWindow<'a, F> {
-        &self.preprocessed
+        &self.row.preprocessed
     }
 
     #[inline(always)]
     fn preprocessed_variable(&self, offset: usize, column: usize) -> Option<F> {
         match offset {
-            0 => self.preprocessed.current(column),
-            1 => self.preprocessed.next(column),
+            0 => self.row.preprocessed.current(column),
+            1 => self.row.preprocessed.next(column),
             _ => None,
         }
     }
 
     #[inline(always)]
     fn public_values(&self) -> &[F] {
-        self.public_values
+        self.row.public_values
     }
 
     #[inline(always)]
@@ -100,19 +100,19 @@ impl<'a, F: Field, EF: ExtensionField<F> + 'static> AirBuilder
     #[inline(always)]
     #[tactic(auto, using(crate::specs::laws::Debug::same_at_row))]
     fn is_first_row(&mut self) -> Result<F, AirError> {
-        Ok(self.is_first_row)
+        Ok(self.row.selectors.is_first_row)
     }
 
     #[inline(always)]
     #[tactic(auto, using(crate::specs::laws::Debug::same_at_row))]
     fn is_last_row(&mut self) -> Result<F, AirError> {
-        Ok(self.is_last_row)
+        Ok(self.row.selectors.is_last_row)
     }
 
     #[inline(always)]
     #[tactic(auto, using(crate::specs::laws::Debug::same_at_row))]
     fn is_transition(&mut self) -> Result<F, AirError> {
-        Ok(self.is_transition)
+        Ok(self.row.selectors.is_transition)
     }
 
     /// Asserts that `x` is zero; where it isn't, the failure has no label.

@@ -12,7 +12,7 @@ ghost use Rattle.air_report.specs.DebugLabels.{LabelledAtRow, LogRefuses};
 ghost use Rattle.air_report.specs.DebugAsserts.{AssertedAtRow, ExtMeansAtRow, LogsNameless};
 ghost use Rattle.air_report.specs.laws.Debug.{debug_extension_laws};
 ghost use Rattle.air_report.specs.RowRefusals.{RowMissing};
-ghost use Rattle.air_report.specs.DebugRow.{debug_row};
+ghost use Rattle.air_report.specs.DebugRow.{debug_row, count_of, permutation_of};
 
 use crate::debug::builder::DebugConstraintBuilder;
 use air_builder::{
@@ -69,7 +69,7 @@ impl<'a, F: Field, EF: ExtensionField<F> + 'static> NamedExtensionBuilder
         ensures label { Labels ⟦<DebugConstraintBuilder<'a, F, EF> as ViewOver>⟧.view
             ⟦<DebugConstraintBuilder<'a, F, EF> as NamedAirBuilder>⟧.labelled Extension (λ t. t)
             (λ i. N.displays name) self.old self.new (x ∷ []) result }
-        ensures passes { IfErr result (LogRefuses self.old.constraint_index
+        ensures passes { IfErr result (LogRefuses (count_of self.old)
             (EF.eq x EF.over.ring.zero)) }
     {
         self.log(x == EF::zero(), name)
@@ -97,10 +97,10 @@ impl<'a, F: Field, EF: ExtensionField<F> + 'static> PermutationAirBuilder
             (λ i. permutation 0 i) w.current.now) }
         ensures next_ends { IfOk result (λ w. RowEnds (RowMissing (debug_row self.now))
             (λ i. permutation 1 i) w.next.now) }
-        ensures answered { self.now.permutation ≢ None → IsOk result }
-        ensures without { self.now.permutation ≡ None → result ≡ Err AirError.NoPermutation }
+        ensures answered { permutation_of self.now ≢ None → IsOk result }
+        ensures without { permutation_of self.now ≡ None → result ≡ Err AirError.NoPermutation }
         ensures refused { IfErr result (λ e. (e ≡ AirError.NoPermutation)
-            × (self.now.permutation ≡ None)) }
+            × (permutation_of self.now ≡ None)) }
     {
         match &self.permutation {
             Some(pair) => Ok(RowWindow::from_two_rows(pair.top.values, pair.bottom.values)),

@@ -54,7 +54,7 @@ impl<'a, F: Field, EF: ExtensionField<F>> DebugConstraintBuilder<'a, F, EF> {
     pub(crate) fn log<N: Name>(&mut self, holds: bool, name: N) -> Result<(), AirError>
         requires { holds ≡ false → N.can_evaluate name }
         ensures keeps { debug_row self.new ≡ debug_row self.old }
-        ensures ok { OnOk result (LogsOne self.old.row_index self.old.constraint_index
+        ensures ok { OnOk result (LogsOne self.old.row.index self.old.constraint_index
             self.new.constraint_index (N.displays name) holds self.old.failures.items
             self.new.failures.items) }
         ensures err_count { OnErr result (self.new.constraint_index ≡ self.old.constraint_index) }
@@ -68,7 +68,7 @@ impl<'a, F: Field, EF: ExtensionField<F>> DebugConstraintBuilder<'a, F, EF> {
             // the failures alone are lent to the call, so that a row's builder needs no place in memory
             let none = Vec::new(*self.failures.allocator());
             let mut failures = mem::replace(&mut self.failures, none);
-            let kept = keep_failure(&mut failures, self.row_index, self.constraint_index, name);
+            let kept = keep_failure(&mut failures, self.row.index, self.constraint_index, name);
             self.failures = failures;
             kept?;
         }

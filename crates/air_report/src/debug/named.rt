@@ -5,9 +5,10 @@ ghost use Rattle.air_builder.specs.Batches.{AssertsOf, AssertedEach};
 ghost use Rattle.air_builder.specs.Builders.{Means};
 ghost use Rattle.air_builder.specs.Labels.{LabelledEach};
 ghost use Rattle.air_report.specs.Debug.{is_zero_at};
-ghost use Rattle.air_report.specs.DebugLabels.{LabelledAtRow, LogRefuses};
+ghost use Rattle.air_report.specs.DebugLabels.{LogRefuses};
 ghost use Rattle.air_report.specs.laws.DebugLabels.{debug_named_laws};
-ghost use Rattle.air_report.specs.DebugRow.{debug_row};
+ghost use Rattle.air_report.specs.DebugAsserts.{GrewLabelled};
+ghost use Rattle.air_report.specs.DebugRow.{debug_row, count_of};
 
 use crate::debug::builder::DebugConstraintBuilder;
 use air_builder::{AirBuilder, AirBuilderWithContext, AirError, Name, NamedAirBuilder};
@@ -15,8 +16,7 @@ use air_field::{Algebra, ExtensionField, Field, FieldRing};
 
 impl<'a, F: Field, EF: ExtensionField<F> + 'static> NamedAirBuilder
     for DebugConstraintBuilder<'a, F, EF> {
-    ghost labelled = { λ a b ls. LabelledAtRow (is_zero_at F.ring EF.over F.eq EF.eq) (debug_row a)
-        (debug_row b) a.constraint_index b.constraint_index a.failures.items b.failures.items ls };
+    ghost labelled = { GrewLabelled (is_zero_at F.ring EF.over F.eq EF.eq) };
 
     ghost named_laws = { debug_named_laws (is_zero_at F.ring EF.over F.eq EF.eq) debug_row
         (λ b. b.constraint_index) (λ b. b.failures.items) };
@@ -34,10 +34,9 @@ impl<'a, F: Field, EF: ExtensionField<F> + 'static> NamedAirBuilder
         ensures label { LabelledEach (AssertsOf Base (Means ⟦<FieldRing<F> as Algebra<F>>⟧.means
             ⟦<DebugConstraintBuilder<'a, F, EF> as AirBuilder>⟧.ring_of
             ⟦<DebugConstraintBuilder<'a, F, EF> as AirBuilder>⟧.reads_as) (λ t. t))
-            (λ a b ls. LabelledAtRow (is_zero_at F.ring EF.over F.eq EF.eq) (debug_row a) (debug_row b)
-            a.constraint_index b.constraint_index a.failures.items b.failures.items ls)
-            (λ i. N.displays name) self.old self.new (x ∷ []) result }
-        ensures passes { IfErr result (LogRefuses self.old.constraint_index (F.eq x F.ring.zero)) }
+            (GrewLabelled (is_zero_at F.ring EF.over F.eq EF.eq)) (λ i. N.displays name)
+            self.old self.new (x ∷ []) result }
+        ensures passes { IfErr result (LogRefuses (count_of self.old) (F.eq x F.ring.zero)) }
     {
         self.log(x == F::ZERO, name)
     }

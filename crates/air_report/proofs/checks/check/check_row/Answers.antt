@@ -1,8 +1,9 @@
-use Rattle.std.proofs.Common.{◌≡◌, map, Some, OnOk, refl, subst, rules}
+use Rattle.std.proofs.Common.{◌≡◌, map, Some, OnOk, refl, ap, subst, ◌∙◌}
 use Rattle.std.proofs.lemmas.Result.{err_from_is_err_and, on_ok_weaker, IfErr-weaker}
 use Rattle.air_field.specs.Assignment.{IsMissing}
 use Rattle.air_core.specs.Periodic.{column_at, RefusesPeriodicRow}
 use Rattle.air_builder.specs.Refusals.{NoneMissing}
+use Rattle.air_report.specs.DebugRow.{row_selectors}
 use Rattle.air_report.specs.Given.{given}
 use Rattle.air_report.proofs.RowsAt.{row_at-given, checked_row, shape-given, row_refusal, periodic_refusal}
 use Rattle.air_report.proofs.checks.check.check_row.Goals as goal
@@ -10,13 +11,12 @@ use Rattle.air_report.proofs.checks.check.check_row.Goals as goal
 pub returns-clause-checked : goal.returns-clause-checked
 returns-clause-checked g c =
     let all = given (g.A.BaseAir.declaration c.args.air.now) c.args.main.now c.args.public_values.now in
-    let at = c.move_to.ensures in
     let columns = all.declaration.periodic in
     let periodic : map Some c.fill_periodic_row.new.values.items ≡ map (column_at c.args.row) columns =
     rw (← c.periodic_columns.ensures) c.in_ok-fill_periodic_row.ensures.filled in
-    let same = row_at-given all at c.preprocessed_trace.ensures periodic g.F.Field.ring c.requires.fits
-    c.row_pair.ensures.top c.row_pair.ensures.bottom c.table_pair.ensures.top c.table_pair.ensures.bottom (search rules) (search rules) (search rules) in
-    on_ok_weaker c.eval.result (λ grew. checked_row all at g.met.F.SelfExtension.over_itself same refl grew) c.eval.ensures.ok
+    let same = row_at-given all c.new.ensures c.move_to.ensures c.preprocessed_trace.ensures periodic g.F.Field.ring c.requires.fits
+    c.row_pair.ensures.top c.row_pair.ensures.bottom c.table_pair.ensures.top c.table_pair.ensures.bottom (c.selectors_at.ensures ∙ ap (row_selectors g.F.Field.ring c.args.row) c.height-height.ensures) in
+    on_ok_weaker c.eval.result (λ grew. checked_row all c.new.ensures c.move_to.ensures g.met.F.SelfExtension.over_itself same refl grew) c.eval.ensures.ok
 
 pub returns-clause-there : goal.returns-clause-there
 returns-clause-there g c =
@@ -24,7 +24,7 @@ returns-clause-there g c =
     let columns = all.declaration.periodic in
     let periodic : map Some c.fill_periodic_row.new.values.items ≡ map (column_at c.args.row) columns =
     rw (← c.periodic_columns.ensures) c.in_ok-fill_periodic_row.ensures.filled in
-    let same = shape-given all c.move_to.ensures c.preprocessed_trace.ensures periodic
+    let same = shape-given all c.new.ensures c.move_to.ensures c.preprocessed_trace.ensures periodic
     c.row_pair.ensures.width c.table_pair.ensures.width in
     subst (λ s. OnOk c.eval.result (NoneMissing (IsMissing s) all.declaration.declared)) same c.eval.ensures.there
 
@@ -42,5 +42,5 @@ returns-clause-refused g c =
     let columns = all.declaration.periodic in
     let periodic : map Some c.fill_periodic_row.new.values.items ≡ map (column_at c.args.row) columns =
     rw (← c.periodic_columns.ensures) c.in_ok-fill_periodic_row.ensures.filled in
-    IfErr-weaker c.eval.result _ _ (row_refusal all c.move_to.ensures c.preprocessed_trace.ensures periodic
+    IfErr-weaker c.eval.result _ _ (row_refusal all c.new.ensures c.move_to.ensures c.preprocessed_trace.ensures periodic
     c.row_pair.ensures.width c.table_pair.ensures.width) c.eval.ensures.refused

@@ -4,6 +4,6 @@ use Rattle.air_report.proofs.debug.builder_impl.DebugConstraintBuilderAirBuilder
 
 pub returns : goal.returns
 returns g c =
-    let window = c.args.self.now.preprocessed in
+    let window = c.args.self.now.row.preprocessed in
     let shows = base_window g.F.Field.ring.zero window.current.now window.next.now _ _ window.same_width refl refl in
     record { window = tt; current = shows.current; next = shows.next; current_ends = shows.current_ends; next_ends = shows.next_ends }

@@ -1,0 +1,49 @@
+//! The row that a debug builder stands at.
+ghost use Rattle.air_report.specs.DebugRow.{IsRow};
+
+use air_builder::RowWindow;
+use air_field::{Field, ViewPair};
+
+/// The values of the three selectors at a row.
+#[derive(Drop)]
+pub(crate) struct Selectors<F: Field> {
+    pub(crate) is_first_row: F,
+    pub(crate) is_last_row: F,
+    pub(crate) is_transition: F,
+}
+
+/// A row of a trace and the one after it, as they are lent: of the main trace and of the preprocessed table, with the
+/// public values and the selectors. The values of the periodic columns stand beside it, in the builder's own list.
+#[derive(Drop)]
+pub(crate) struct Row<'a, F: Field> {
+    pub(crate) index: usize,
+    pub(crate) main: ViewPair<'a, F>,
+    pub(crate) preprocessed: RowWindow<'a, F>,
+    pub(crate) public_values: &'a [F],
+    pub(crate) selectors: Selectors<F>,
+}
+
+impl<'a, F: Field> Row<'a, F> {
+    /// The row of this index: the pairs hold that row and the one after it.
+    #[inline(always)]
+    pub(crate) fn new(
+        index: usize,
+        main: ViewPair<'a, F>,
+        preprocessed: ViewPair<'a, F>,
+        public_values: &'a [F],
+        selectors: Selectors<F>,
+    ) -> Self
+        ensures { IsRow index main.entry preprocessed.entry public_values.now selectors result }
+    {
+        Row {
+            index,
+            main,
+            preprocessed: RowWindow::from_two_rows(
+                preprocessed.top.values,
+                preprocessed.bottom.values,
+            ),
+            public_values,
+            selectors,
+        }
+    }
+}
