@@ -7,7 +7,6 @@ mod checks;
 use checks::check_sums;
 use p3_air::{AirError, BabyBear, CheckError, Field, RowMajorMatrix, word_with_bits};
 use std::alloc::Global;
-use std::io;
 
 fn check_rows(alloc: Global, rows: [[u32; 3]; 3]) -> Result<(), CheckError> {
     let mut cells = Vec::new(alloc);
@@ -19,10 +18,9 @@ fn check_rows(alloc: Global, rows: [[u32; 3]; 3]) -> Result<(), CheckError> {
     check_sums(alloc, &trace)
 }
 
-fn main(rt: HostRuntime) -> io::Result<()> {
-    let most = u32::MAX;
-    let right = [[3, 1, 2], [0, most, 1], [most - 1, most, most]];
-    for rows in [right, [[3, 1, 2], [65537, 65535, 1], [65536, most, 1]]] {
+fn main(rt: HostRuntime) -> std::io::Result<()> {
+    let right = [[3, 1, 2], [0, u32::MAX, 1], [4, 6, u32::MAX - 1]];
+    for rows in [right, [[3, 1, 2], [65537, 65535, 1], [65536, u32::MAX, 1]]] {
         match check_rows(rt.alloc(), rows) {
             Ok(()) => println!(rt; "each sum is right")?,
             Err(error) => println!(rt; "{error}")?,

@@ -9,7 +9,6 @@ use p3_air::{
 };
 use product::RunningProduct;
 use std::alloc::Global;
-use std::io;
 
 /// A line for each row, with the constraints that fail there.
 fn report_on<F: Field + 'static, EF: ExtensionField<F> + 'static>(
@@ -36,7 +35,7 @@ fn report_on<F: Field + 'static, EF: ExtensionField<F> + 'static>(
     Ok(text)
 }
 
-fn main(rt: HostRuntime) -> io::Result<()> {
+fn main(rt: HostRuntime) -> std::io::Result<()> {
     // With X for the root, whose fourth power is 11, the challenge is 11 + X, and what is exposed is
     // (13 + X)(14 + X)(16 + X)(18 + X).
     let challenge = Extension::from_basis_coefficients(&[11, 1, 0, 0].map(BabyBear::new));

@@ -19,10 +19,9 @@ where
     AB::ExtRing: FromVar<AB::F, AB::RandomVar> + FromVar<AB::F, AB::PermutationVar>,
 {
     fn eval(&self, builder: &mut AB) -> Result<(), AirError> {
-        let product = permutation_current(0);
-        let more = product * (challenge(0) + current(0));
+        let more = permutation_current(0) * (challenge(0) + current(0));
         let constraints = (
-            When(FirstRow, ExtIsOne(product)),
+            When(FirstRow, ExtIsOne(permutation_current(0))),
             When(Transition, permutation_next(0).ext_equals(more)),
             When(LastRow, permutation_value(0).ext_equals(more)),
         );

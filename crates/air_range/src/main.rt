@@ -7,7 +7,6 @@ mod range;
 use checks::check_range;
 use p3_air::{AirError, BabyBear, CheckError, trace_of_rows, with_bits};
 use std::alloc::Global;
-use std::io;
 
 fn check_values(alloc: Global, values: [u64; 4]) -> Result<(), CheckError> {
     let rows = values.map(|value| with_bits::<17>(value));
@@ -15,7 +14,7 @@ fn check_values(alloc: Global, values: [u64; 4]) -> Result<(), CheckError> {
     check_range(alloc, &trace)
 }
 
-fn main(rt: HostRuntime) -> io::Result<()> {
+fn main(rt: HostRuntime) -> std::io::Result<()> {
     for values in [[0, 1, 65535, 40000], [0, 1, 65536, 40000]] {
         match check_values(rt.alloc(), values) {
             Ok(()) => println!(rt; "each value is below 65536")?,
