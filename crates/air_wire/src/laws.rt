@@ -12,9 +12,9 @@ use crate::wire_leaf::WireLeaf;
 
 /// A value is a list of nodes of one tree at most, has one first fault at most, and never both.
 pub fn lists_are_read_one_way<A: WireLeaf>()
-    ensures one_tree { (d : Data) (t u : Tree A.Seen) → IsList A.kind d t → IsList A.kind d u →
+    ensures one_tree { (d : Data) (t u : Tree A.View) → IsList A.kind d t → IsList A.kind d u →
         t ≡ u }
-    ensures no_fault { (d : Data) (t : Tree A.Seen) (f : FlatError) → IsList A.kind d t →
+    ensures no_fault { (d : Data) (t : Tree A.View) (f : FlatError) → IsList A.kind d t →
         HasFault A.kind d f → ⊥ }
     ensures one_fault { (d : Data) (f g : FlatError) → HasFault A.kind d f → HasFault A.kind d g →
         f ≡ g }
@@ -23,16 +23,16 @@ pub fn lists_are_read_one_way<A: WireLeaf>()
 /// What is written for a tree is a list of that tree, one value and no other; so two trees are equal exactly if their
 /// written lists are.
 pub fn lists_are_written_one_way<A: WireLeaf>()
-    ensures list { (d : Data) (t : Tree A.Seen) → IsWritten A.kind d t → IsList A.kind d t }
-    ensures one_list { (d e : Data) (t : Tree A.Seen) → IsWritten A.kind d t →
+    ensures list { (d : Data) (t : Tree A.View) → IsWritten A.kind d t → IsList A.kind d t }
+    ensures one_list { (d e : Data) (t : Tree A.View) → IsWritten A.kind d t →
         IsWritten A.kind e t → d ≡ e }
-    ensures one_tree { (d : Data) (t u : Tree A.Seen) → IsWritten A.kind d t →
+    ensures one_tree { (d : Data) (t u : Tree A.View) → IsWritten A.kind d t →
         IsWritten A.kind d u → t ≡ u }
 {}
 
 /// What is found of a node that isn't read is its fault, that it has no form or the first fault of its form; and each
 /// such fault is found.
 pub fn faults_of_nodes<A: WireLeaf>()
-    ensures { (before : List (Tree A.Seen)) (d : Data) (f : FlatError) →
+    ensures { (before : List (Tree A.View)) (d : Data) (f : FlatError) →
         (node_of_value A.kind before d ≡ Err f) ↔ NodeFault A.kind before d f }
 {}

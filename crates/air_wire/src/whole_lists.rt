@@ -21,7 +21,7 @@ pub fn wholes_value(alloc: Global, numbers: &[usize]) -> Result<Value, AllocErro
 }
 
 /// The list of whole numbers that is a field of an object; `Shape` at place 0 where there is none.
-#[tactic(auto, unfolding(crate::specs::Wholes::wholes_at))]
+#[tactic(auto, unfolding(crate::specs::WholeNumbers::wholes_at))]
 pub fn wholes_at(alloc: Global, value: &Value, name: &str) -> Result<Vec<usize>, FlatError>
     ensures { Gives (λ v. v.items) result
         (ok_or (wholes_at name.now (view value.now)) (FlatError.Shape 0)) }
