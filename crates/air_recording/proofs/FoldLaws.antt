@@ -2,7 +2,7 @@
 use Rattle.std.proofs.Common.{◌≡◌, ℕ, ◌+◌, ◌<◌, List, [], ◌∷◌, length, map, get_or, refl, sym, ap, ap₂, ◌∙◌}
 use Rattle.air_field.specs.Ring.{CommRing, AlgebraOver}
 use Rattle.air_field.specs.Extension.{Basis, ExtensionLaws}
-use Rattle.air_recording.specs.Weights.{weight, weights_of, coordinates_of, all_coordinates_of}
+use Rattle.air_recording.specs.AlphaPowers.{alpha_power, alpha_powers_at, coordinates_of, all_coordinates_of}
 use Rattle.air_recording.specs.declared.symbolic.kind.ConstraintKind.{ConstraintKind}
 use Rattle.air_recording.specs.Folds.{sum_below, sum_by_powers, basis_element, weighted_sum, recombination, ArePlacesOf, values_at, Recombines}
 use Rattle.air_recording.proofs.Tabulations.{IsTabulation, length-tabulation, get_or-tabulation}
@@ -52,14 +52,14 @@ module _ {F E : Type 0} (R : CommRing F) (a : AlgebraOver F E) (basis : Basis F 
 
   -- The recombination, from coordinates and whole powers, of the values at the places of both kinds is Horner's fold of all.
   pub recombination-sum_by_powers : (alpha : E) (kinds : List ConstraintKind) (values : List E) (b e : List ℕ) → ArePlacesOf kinds b e → length values ≡ length kinds →
-      recombination R a (all_coordinates_of R basis (weights_of a.ring alpha (length b + length e) b) n) (weights_of a.ring alpha (length b + length e) e) (values_at a.ring values b) (values_at a.ring values e)
+      recombination R a (all_coordinates_of R basis (alpha_powers_at a.ring alpha (length b + length e) b) n) (alpha_powers_at a.ring alpha (length b + length e) e) (values_at a.ring values b) (values_at a.ring values e)
       ≡ sum_by_powers a.ring alpha values
   recombination-sum_by_powers alpha kinds values b e are same_length =
-      recombined (weight a.ring alpha (length b + length e)) at b e
-      ∙ (ap₂ (λ x y. a.ring.add (sum_over a.ring (λ i. a.ring.mul (weight a.ring alpha (length b + length e) i) (at i)) x) (sum_over a.ring (λ i. a.ring.mul (weight a.ring alpha (length b + length e) i) (at i)) y)) are.base are.extension
-      ∙ (sum-places a.ring (λ i. a.ring.mul (weight a.ring alpha (length b + length e) i) (at i)) 0 kinds
-      ∙ (sym (sum_below-from a.ring (λ i. a.ring.mul (weight a.ring alpha (length b + length e) i) (at i)) (length kinds))
-      ∙ ap₂ (λ k m. sum_below a.ring (λ i. a.ring.mul (weight a.ring alpha k i) (at i)) m) total (sym same_length))))
+      recombined (alpha_power a.ring alpha (length b + length e)) at b e
+      ∙ (ap₂ (λ x y. a.ring.add (sum_over a.ring (λ i. a.ring.mul (alpha_power a.ring alpha (length b + length e) i) (at i)) x) (sum_over a.ring (λ i. a.ring.mul (alpha_power a.ring alpha (length b + length e) i) (at i)) y)) are.base are.extension
+      ∙ (sum-places a.ring (λ i. a.ring.mul (alpha_power a.ring alpha (length b + length e) i) (at i)) 0 kinds
+      ∙ (sym (sum_below-from a.ring (λ i. a.ring.mul (alpha_power a.ring alpha (length b + length e) i) (at i)) (length kinds))
+      ∙ ap₂ (λ k m. sum_below a.ring (λ i. a.ring.mul (alpha_power a.ring alpha k i) (at i)) m) total (sym same_length))))
     where
       at : ℕ → E
       at i = get_or values i a.ring.zero
@@ -68,9 +68,9 @@ module _ {F E : Type 0} (R : CommRing F) (a : AlgebraOver F E) (basis : Basis F 
       total = ap₂ (λ x y. length x + length y) are.base are.extension ∙ (length-places 0 kinds ∙ sym same_length)
 
   -- the same of lists that are said to be these coordinates and these whole powers, of k constraints
-  pub recombines : (alpha : E) (k : ℕ) (b e : List ℕ) (lists : List (List F)) (powers : List E) → k ≡ length b + length e → lists ≡ all_coordinates_of R basis (weights_of a.ring alpha k b) n → powers ≡ weights_of a.ring alpha k e → Recombines R a alpha b e lists powers
+  pub recombines : (alpha : E) (k : ℕ) (b e : List ℕ) (lists : List (List F)) (powers : List E) → k ≡ length b + length e → lists ≡ all_coordinates_of R basis (alpha_powers_at a.ring alpha k b) n → powers ≡ alpha_powers_at a.ring alpha k e → Recombines R a alpha b e lists powers
   recombines alpha k b e lists powers count lists_are powers_are kinds values are same_length =
       ap₂ (λ l p. recombination R a l p (values_at a.ring values b) (values_at a.ring values e))
-      (lists_are ∙ ap (λ m. all_coordinates_of R basis (weights_of a.ring alpha m b) n) count)
-      (powers_are ∙ ap (λ m. weights_of a.ring alpha m e) count)
+      (lists_are ∙ ap (λ m. all_coordinates_of R basis (alpha_powers_at a.ring alpha m b) n) count)
+      (powers_are ∙ ap (λ m. alpha_powers_at a.ring alpha m e) count)
       ∙ recombination-sum_by_powers alpha kinds values b e are same_length

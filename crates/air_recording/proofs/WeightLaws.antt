@@ -3,7 +3,7 @@ use Rattle.std.proofs.Common.{◌≡◌, ℕ, suc, ◌+◌, ◌-◌, ◌<◌, Li
 use Rattle.std.proofs.lemmas.List.{get_or_append_left, get_or-append-add}
 use Rattle.air_field.specs.Ring.{CommRing}
 use Rattle.air_field.specs.Powers.{power, powers_of}
-use Rattle.air_recording.specs.Weights.{weights_of}
+use Rattle.air_recording.specs.AlphaPowers.{alpha_powers_at}
 use Rattle.air_recording.proofs.Tabulations.{IsTabulation, length-tabulation, get_or-tabulation}
 
 module _ {E : Type 0} (r : CommRing E) (alpha : E) where
@@ -13,7 +13,7 @@ module _ {E : Type 0} (r : CommRing E) (alpha : E) where
   length-powers : (k : ℕ) → length (powers_of r alpha k) ≡ k
   length-powers = length-tabulation (powers_of r alpha) (power r alpha) tabulated
 
-  weights-by_index : (k : ℕ) (d : E) (indices : List ℕ) → All (λ i. i < k) indices → map (λ i. get_or (powers_of r alpha k) (k - 1 - i) d) indices ≡ weights_of r alpha k indices
+  weights-by_index : (k : ℕ) (d : E) (indices : List ℕ) → All (λ i. i < k) indices → map (λ i. get_or (powers_of r alpha k) (k - 1 - i) d) indices ≡ alpha_powers_at r alpha k indices
   weights-by_index k d [] h = refl
   weights-by_index k d (i ∷ indices) h =
       let lt : i < k = h 0 0 (omega arith) in
@@ -25,12 +25,12 @@ module _ {E : Type 0} (r : CommRing E) (alpha : E) where
       subst (λ (l : List ℕ). All (λ i. i < length given) l) (sym same) (subst (λ (m : ℕ). All (λ i. i < m) below) (sym (ap length (lent ∙ are) ∙ length-powers k)) h)
 
   -- what stands in them at these indices, counted from the last power on, are weights
-  pub picked-weights : (k count : ℕ) (given powers : List E) (indices below : List ℕ) (picked : List E) → given ≡ powers → powers ≡ powers_of r alpha k → indices ≡ below → k ≡ count → All (λ i. i < k) below → ((d : E) → picked ≡ map (λ i. get_or given (length given - 1 - i) d) indices) → picked ≡ weights_of r alpha count below
+  pub picked-weights : (k count : ℕ) (given powers : List E) (indices below : List ℕ) (picked : List E) → given ≡ powers → powers ≡ powers_of r alpha k → indices ≡ below → k ≡ count → All (λ i. i < k) below → ((d : E) → picked ≡ map (λ i. get_or given (length given - 1 - i) d) indices) → picked ≡ alpha_powers_at r alpha count below
   picked-weights k count given powers indices below picked lent are same counted h picks =
       picks r.zero
       ∙ (ap₂ (λ l is. map (λ i. get_or l (length l - 1 - i) r.zero) is) (lent ∙ are) same
       ∙ (ap (λ m. map (λ i. get_or (powers_of r alpha k) (m - 1 - i) r.zero) below) (length-powers k)
-      ∙ (weights-by_index k r.zero below h ∙ ap (λ m. weights_of r alpha m below) counted)))
+      ∙ (weights-by_index k r.zero below h ∙ ap (λ m. alpha_powers_at r alpha m below) counted)))
 
 -- what holds of all of a joined list holds of all of each part
 pub All-left : (P : ℕ → Type 0) (xs ys : List ℕ) → All P (xs ++ ys) → All P xs

@@ -1,7 +1,7 @@
 -- Horner's fold of the values of constraints, and its recombination from weights and coordinates.
 use Rattle.std.specs.Prelude.{◌≡◌, ℕ, zero, suc, List, [], ◌∷◌, ◌++◌, length, map, replicate, get_or}
 use Rattle.air_field.specs.Ring.{CommRing, AlgebraOver}
-use Rattle.air_recording.specs.Weights.{weight}
+use Rattle.air_recording.specs.AlphaPowers.{alpha_power}
 use Rattle.air_recording.specs.Kinds.{is_base, is_extension, places_where}
 use Rattle.air_recording.specs.declared.symbolic.kind.ConstraintKind.{ConstraintKind}
 
@@ -12,7 +12,7 @@ sum_below r f (suc n) = r.add (sum_below r f n) (f n)
 
 -- the sum of the k values by powers of alpha: value i times alpha^(k-1-i)
 abbrev pub sum_by_powers : {E : Type 0} → CommRing E → E → List E → E
-sum_by_powers r alpha values = sum_below r (λ i. r.mul (weight r alpha (length values) i) (get_or values i r.zero)) (length values)
+sum_by_powers r alpha values = sum_below r (λ i. r.mul (alpha_power r alpha (length values) i) (get_or values i r.zero)) (length values)
 
 -- the element whose coefficient d is one, and whose others are zero
 abbrev pub basis_element : {F E : Type 0} → CommRing F → AlgebraOver F E → ℕ → E

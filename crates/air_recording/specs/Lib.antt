@@ -8,7 +8,7 @@ pub use Rattle.air_builder.specs.Assertion
 pub use Rattle.air_builder.specs.Builders
 pub mod Layouts
 pub mod Spellings
-pub mod Weights
+pub mod AlphaPowers
 pub mod Folds
 pub mod Rows
 pub mod Kinds

@@ -5,7 +5,7 @@ use Rattle.air_field.specs.Ring.{CommRing}
 use Rattle.air_field.specs.laws.Ring.{zero_add, zero_mul}
 use Rattle.air_field.specs.laws.RingSolver.{var, plus, times, ring}
 use Rattle.air_field.specs.Powers.{power}
-use Rattle.air_recording.specs.Weights.{weight}
+use Rattle.air_recording.specs.AlphaPowers.{alpha_power}
 use Rattle.air_recording.specs.Folds.{sum_below, sum_by_powers}
 use Rattle.air_folder.specs.Fold.{folded_on, running}
 
@@ -20,7 +20,7 @@ module _ {E : Type 0} (r : CommRing E) where
     -- the first value has the highest power
     pub sum_by_powers-first : (v : E) (values : List E) → sum_by_powers r alpha (v ∷ values) ≡ r.add (r.mul (power r alpha (length values)) v) (sum_by_powers r alpha values)
     sum_by_powers-first v values =
-        sum_below-first (λ i. r.mul (weight r alpha (suc (length values)) i) (get_or (v ∷ values) i r.zero)) (length values)
+        sum_below-first (λ i. r.mul (alpha_power r alpha (suc (length values)) i) (get_or (v ∷ values) i r.zero)) (length values)
         ∙ ap₂ (λ p s. r.add (r.mul (power r alpha p) v) s) (omega arith)
         (ap (λ w. sum_below r w (length values)) (λ j i. r.mul (power r alpha (later (length values) i j)) (get_or values i r.zero)))
       where

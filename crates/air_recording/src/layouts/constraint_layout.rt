@@ -1,7 +1,7 @@
 //! The order of the constraints, and their weights in a fold.
 ghost use Rattle.std.specs.Prelude.{◌≡◌, ◌-◌, ◌<◌, length, map, slice_index_or, All, IfOk, IfErr, OnOk};
 ghost use Rattle.air_recording.specs.Layouts.{constraint_count, constraint_indices, first_past, IsWithinCount, DecompositionRefuses};
-ghost use Rattle.air_recording.specs.Weights.{weights_of, coordinates_of, all_coordinates_of};
+ghost use Rattle.air_recording.specs.AlphaPowers.{alpha_powers_at, coordinates_of, all_coordinates_of};
 ghost use Rattle.air_recording.specs.Folds.{Recombines};
 
 use air_builder::AirError;
@@ -51,9 +51,9 @@ impl ConstraintLayout {
         alpha: EF,
     ) -> Result<(Vec<Vec<F>>, Vec<EF>), AirError>
         ensures coordinates { IfOk result (λ r. map (λ v. v.items) r.0.items ≡ all_coordinates_of
-            F.ring EF.basis (weights_of EF.over.ring alpha (constraint_count self.now)
+            F.ring EF.basis (alpha_powers_at EF.over.ring alpha (constraint_count self.now)
             self.now.base_indices.items) EF.DIMENSION) }
-        ensures powers { IfOk result (λ r. r.1.items ≡ weights_of EF.over.ring alpha
+        ensures powers { IfOk result (λ r. r.1.items ≡ alpha_powers_at EF.over.ring alpha
             (constraint_count self.now) self.now.ext_indices.items) }
         ensures within { OnOk result (IsWithinCount self.now) }
         ensures fold { IfOk result (λ r. Recombines F.ring EF.over alpha self.now.base_indices.items

@@ -1,5 +1,5 @@
 use Rattle.std.proofs.Common.{◌≡◌, map}
-use Rattle.air_recording.specs.Weights.{all_coordinates_of}
+use Rattle.air_recording.specs.AlphaPowers.{all_coordinates_of}
 use Rattle.air_recording.proofs.layouts.constraint_layout.all_coordinates.Given as goal
 
 abbrev pub invariant-loop-d : goal.invariant-loop-d

@@ -1,5 +1,5 @@
 use Rattle.std.proofs.Common.{◌≡◌, take}
-use Rattle.air_recording.specs.Weights.{coordinates_of}
+use Rattle.air_recording.specs.AlphaPowers.{coordinates_of}
 use Rattle.air_recording.proofs.layouts.constraint_layout.coordinate.Given as goal
 
 abbrev pub invariant-loop-element : goal.invariant-loop-element

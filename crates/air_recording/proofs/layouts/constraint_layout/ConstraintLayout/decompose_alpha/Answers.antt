@@ -1,5 +1,5 @@
 use Rattle.std.proofs.Common.{◌≡◌, ℕ, ◌<◌, All, map, ap, ◌∙◌, subst, arith}
-use Rattle.air_recording.specs.Weights.{weights_of, all_coordinates_of}
+use Rattle.air_recording.specs.AlphaPowers.{alpha_powers_at, all_coordinates_of}
 use Rattle.air_recording.specs.Layouts.{constraint_count, constraint_indices}
 use Rattle.air_recording.proofs.FoldLaws.{recombines}
 use Rattle.air_recording.specs.laws.Layouts.{below-none_past}
@@ -26,11 +26,11 @@ returns g c =
     let r = g.EF.ExtensionField.over.ring in
     let total = c.total_constraints-total.result in
     let within : All (λ i. i < total) (constraint_indices l) = below-none_past total (constraint_indices l) c.in_default.ensures in
-    let base : c.in_ok-base.base.items ≡ weights_of r c.args.alpha (constraint_count l) l.base_indices.items =
+    let base : c.in_ok-base.base.items ≡ alpha_powers_at r c.args.alpha (constraint_count l) l.base_indices.items =
     picked-weights r c.args.alpha total (constraint_count l) c.deref.result.now c.in_ok-powers.powers.items c.deref-2.result.now l.base_indices.items c.in_ok-base.base.items c.deref.ensures.value c.in_ok-powers.ensures.powers c.deref-2.ensures.value c.total_constraints-total.ensures (All-left (λ i. i < total) l.base_indices.items l.ext_indices.items within) c.in_ok-base.ensures in
-    let whole : c.in_ok-whole.whole.items ≡ weights_of r c.args.alpha (constraint_count l) l.ext_indices.items =
+    let whole : c.in_ok-whole.whole.items ≡ alpha_powers_at r c.args.alpha (constraint_count l) l.ext_indices.items =
     picked-weights r c.args.alpha total (constraint_count l) c.deref-3.result.now c.in_ok-powers.powers.items c.deref-4.result.now l.ext_indices.items c.in_ok-whole.whole.items c.deref-3.ensures.value c.in_ok-powers.ensures.powers c.deref-4.ensures.value c.total_constraints-total.ensures (All-right (λ i. i < total) l.base_indices.items l.ext_indices.items within) c.in_ok-whole.ensures in
-    let lists : map (λ v. v.items) c.in_ok-coordinates.coordinates.items ≡ all_coordinates_of g.F.Field.ring g.EF.ExtensionField.basis (weights_of r c.args.alpha (constraint_count l) l.base_indices.items) g.EF.ExtensionField.DIMENSION =
+    let lists : map (λ v. v.items) c.in_ok-coordinates.coordinates.items ≡ all_coordinates_of g.F.Field.ring g.EF.ExtensionField.basis (alpha_powers_at r c.args.alpha (constraint_count l) l.base_indices.items) g.EF.ExtensionField.DIMENSION =
     c.in_ok-coordinates.ensures.coordinates
     ∙ ap (λ ws. all_coordinates_of g.F.Field.ring g.EF.ExtensionField.basis ws g.EF.ExtensionField.DIMENSION) (c.deref-5.ensures.value ∙ base) in
     record {

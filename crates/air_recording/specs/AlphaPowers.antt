@@ -6,12 +6,12 @@ use Rattle.air_field.specs.Coefficients.{coefficient}
 use Rattle.air_field.specs.Powers.{power}
 
 -- the weight of constraint i of k: alpha^(k-1-i)
-abbrev pub weight : {E : Type 0} → CommRing E → E → ℕ → ℕ → E
-weight r alpha k i = power r alpha (k - 1 - i)
+abbrev pub alpha_power : {E : Type 0} → CommRing E → E → ℕ → ℕ → E
+alpha_power r alpha k i = power r alpha (k - 1 - i)
 
 -- the weights of the constraints with these indices
-abbrev pub weights_of : {E : Type 0} → CommRing E → E → ℕ → List ℕ → List E
-weights_of r alpha k indices = map (weight r alpha k) indices
+abbrev pub alpha_powers_at : {E : Type 0} → CommRing E → E → ℕ → List ℕ → List E
+alpha_powers_at r alpha k indices = map (alpha_power r alpha k) indices
 
 -- coefficient d of each of these weights
 abbrev pub coordinates_of : {F E : Type 0} → CommRing F → Basis F E → List E → ℕ → List F
