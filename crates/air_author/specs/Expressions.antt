@@ -22,7 +22,7 @@ pub record MakesTerm {S E F X : Type 0} (means : S → E → Term F → Type 0) 
   pub there : OnOk r (EachLeaf (λ l. missing a l → ⊥) t)
   pub refused : IfErr r (λ e. (ts : List (Assertion F)) → PartOf t ts → refuses a e ts)
 
--- Elements of both terms were made, as `Made` says of one.
+-- Elements of both terms were made, as `MakesTerm` says of one.
 pub record MadeBoth {S E F X : Type 0} (means : S → E → Term F → Type 0) (grew : S → S → List (Assertion F) → Type 0)
     (missing : S → Leaf → Type 0) (refuses : S → X → List (Assertion F) → Type 0) (a b : S) (r : Result (E × E) X)
     (t u : Term F) : Type 0 where
