@@ -3,6 +3,6 @@ pub mod Objects
 pub mod Members
 pub mod Readers
 pub mod Input
-pub mod View
+pub mod Seen
 pub mod Parts
 pub mod laws
