@@ -1,5 +1,6 @@
 //! Folds of the wide AIR at one row, each with its recording.
 ghost use Rattle.std.specs.Prelude.{◌≡◌};
+ghost use Rattle.air_folder.specs.FolderRow.{accumulator_of};
 
 use crate::wide::Wide;
 use air_folder::{ConstraintFolder, fold_air};
@@ -15,7 +16,7 @@ type Folder<'a> = ConstraintFolder<'a, BabyBear, Element>;
 
 // A folder at the first of these rows, whose next row it is too.
 fn folder_at<'a>(row: &'a [Element], alpha: Element) -> Folder<'a>
-    ensures { result.accumulator
+    ensures { accumulator_of result
         ≡ ⟦<BinomialExtensionField as ExtensionField<BabyBear>>⟧.over.ring.zero }
 {
     let one = Element::from_base(BabyBear::ONE);

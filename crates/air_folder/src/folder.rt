@@ -5,4 +5,5 @@ mod builder_impl;
 mod extension;
 mod named;
 pub mod ring;
+pub(crate) mod row;
 mod values;

@@ -3,7 +3,7 @@ ghost use Rattle.std.specs.Prelude.{◌≡◌, IfOk, IfErr, OnOk, OnErr};
 ghost use Rattle.air_builder.specs.Refusals.{NoneMissing};
 ghost use Rattle.air_recording.specs.Layouts.{LayoutSuits};
 ghost use Rattle.air_folder.specs.Folder.{FolderMissing};
-ghost use Rattle.air_folder.specs.FolderRow.{folder_row};
+ghost use Rattle.air_folder.specs.FolderRow.{accumulator_of, folder_row};
 ghost use Rattle.air_folder.specs.Folding.{IsFolded, GrewByBeginningOf, FoldingRefuses};
 
 use crate::folder::builder::ConstraintFolder;
@@ -45,10 +45,10 @@ pub fn fold_air<
     layout: AirLayout,
     folder: &mut ConstraintFolder<'a, F, EF>,
 ) -> Result<Folded<F, EF>, AirError>
-    requires from_zero { folder.old.accumulator ≡ EF.over.ring.zero }
+    requires from_zero { accumulator_of folder.old ≡ EF.over.ring.zero }
     ensures folded { IfOk result (IsFolded F.ring EF.over EF.basis
         (folder_row folder.old) (A.declaration air.now).declared) }
-    ensures accumulator { IfOk result (λ f. folder.new.accumulator ≡ f.accumulator) }
+    ensures accumulator { IfOk result (λ f. accumulator_of folder.new ≡ f.accumulator) }
     ensures row { folder_row folder.new ≡ folder_row folder.old }
     ensures layout { OnOk result (LayoutSuits layout (A.declaration air.now)) }
     ensures there { OnOk result (NoneMissing (FolderMissing (folder_row folder.old))

@@ -1,5 +1,6 @@
 //! Folds of an AIR's values at one row, beside its recording, and how few elements hide a value.
 ghost use Rattle.std.specs.Prelude.{◌≡◌, IsTrue, IfOk};
+ghost use Rattle.air_folder.specs.FolderRow.{accumulator_of};
 ghost use Rattle.air_folder.specs.Hiding.{IsBelowAll, IsIncreasing};
 
 use crate::recordings::Recorder;
@@ -81,7 +82,7 @@ pub fn row_of<F: Field, EF: ExtensionField<F>>(
 fn folder_of<'a, F: Field + 'static, EF: ExtensionField<F> + 'static>(
     row: &'a Row<EF>,
 ) -> Result<Folder<'a, F, EF>, Fault>
-    ensures { IfOk result (λ folder. folder.accumulator ≡ EF.over.ring.zero) }
+    ensures { IfOk result (λ folder. accumulator_of folder ≡ EF.over.ring.zero) }
 {
     if row.current.len() != row.next.len() || row.permutation.len() != row.next_permutation.len() {
         return Err(Fault::Unreadable(Why::OtherShape));

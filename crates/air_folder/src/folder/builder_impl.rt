@@ -48,39 +48,39 @@ impl<'a, F: Field, EF: ExtensionField<F>> AirBuilder for ConstraintFolder<'a, F,
     }
 
     fn main(&self) -> Result<RowWindow<'a, EF>, AirError> {
-        Ok(self.main)
+        Ok(self.row.main)
     }
 
     fn main_variable(&self, offset: usize, column: usize) -> Option<EF> {
         match offset {
-            0 => self.main.current(column),
-            1 => self.main.next(column),
+            0 => self.row.main.current(column),
+            1 => self.row.main.next(column),
             _ => None,
         }
     }
 
     fn preprocessed(&self) -> &RowWindow<'a, EF> {
-        &self.preprocessed
+        &self.row.preprocessed
     }
 
     fn public_values(&self) -> &[EF] {
-        self.public_values
+        self.row.public_values
     }
 
     fn periodic_values(&self) -> &[EF] {
-        self.periodic
+        self.row.periodic
     }
 
     fn is_first_row(&mut self) -> Result<EF, AirError> {
-        Ok(self.is_first_row)
+        Ok(self.row.selectors.is_first_row)
     }
 
     fn is_last_row(&mut self) -> Result<EF, AirError> {
-        Ok(self.is_last_row)
+        Ok(self.row.selectors.is_last_row)
     }
 
     fn is_transition(&mut self) -> Result<EF, AirError> {
-        Ok(self.is_transition)
+        Ok(self.row.selectors.is_transition)
     }
 
     fn assert_zero(&mut self, x: EF) -> Result<(), AirError> {
