@@ -33,7 +33,7 @@ values_are_their_base a basis extended = record {
 }
 
 -- what stands at the leaves, all of it over the extension; whether there is a permutation trace, with columns or without;
--- and the element whose powers are the weights
+-- and alpha, by whose powers values are folded
 pub record FolderRow (E : Type 0) : Type 0 where
   pub values : RowValues E
   pub has_permutation : Bool
