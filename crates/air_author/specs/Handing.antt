@@ -1,12 +1,12 @@
 -- What is known of an expression that was made, where it is handed to a gadget.
-use Rattle.std.specs.Prelude.{◌<◌, List, [], length, take, Result, Ok, Err}
+use Rattle.std.specs.Prelude.{◌<◌, List, [], length, take, Result, Ok, Err, ⊤}
 use Rattle.air_field.specs.Term.{Leaf, Term, leaf_term, const_term, ext_const_term, add_term, sub_term, neg_term, mul_term}
 use Rattle.air_core.specs.declared.errors.AirError.{AirError}
 use Rattle.air_builder.specs.Assertion.{Assertion}
 use Rattle.air_builder.specs.Builders.{MeansIn, BuilderView, RingLaws, BuilderLaws}
 use Rattle.air_builder.specs.laws.Filters.{means_kept}
 use Rattle.air_builder.specs.Refusals.{EachLeaf, PartOf}
-use Rattle.air_author.specs.Constraints.{Asserted}
+use Rattle.air_builder.specs.Batches.{Asserted}
 use Rattle.air_author.specs.Expressions.{MakesTerm, Lasts, Holds}
 
 pub each_weaker : {F : Type 0} {P Q : Leaf → Type 0} (t : Term F) → ((l : Leaf) → P l → Q l) → EachLeaf P t → EachLeaf Q t
@@ -47,7 +47,7 @@ module _ {S R B E F : Type 0} {view : BuilderView S R B F} {means : S → E → 
   }
 
   -- it was made, and then the list was asserted
-  pub made_then : (a b d : S) (x : E) (r : Result (Unit {0}) AirError) (t : Term F) (ts : List (Assertion F))
+  pub made_then : (a b d : S) (x : E) (r : Result ⊤ AirError) (t : Term F) (ts : List (Assertion F))
       → MakesTerm means grew missing refuses a b (Ok x) t → Asserted kept grew missing refuses b d r ts
       → Asserted kept grew missing refuses a d r ts
   made_then a b d x (Ok u) t ts h k = record {

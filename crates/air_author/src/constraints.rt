@@ -1,16 +1,13 @@
 //! Constraints as values, each of a small type of its own that knows what it asserts.
-ghost use Rattle.std.specs.Prelude.{◌≡◌, ◌⊎◌, ⊤, List, OnOk, OnErr, IfErr};
+ghost use Rattle.std.specs.Prelude.{⊤, List};
 ghost use Rattle.air_field.specs.Term.{Term};
 ghost use Rattle.air_builder.specs.Assertion.{Assertion};
-ghost use Rattle.air_builder.specs.Batches.{GrewByFirst};
-ghost use Rattle.air_builder.specs.Refusals.{NoneMissing};
-ghost use Rattle.air_core.specs.declared.errors.AirError.{AirError};
-ghost use Rattle.air_author.specs.Constraints.{AssertedIn};
+ghost use Rattle.air_builder.specs.Batches.{AssertedIn, Evaluates};
 ghost use Rattle.air_author.specs.Expressions.{Lasts};
 
 use crate::AirResult;
 use crate::conditions::{Condition, Everywhere};
-use air_builder::{AirBuilder, AirError, View};
+use air_builder::{AirBuilder, View};
 
 pub mod claims;
 pub mod extension;
@@ -69,15 +66,8 @@ pub fn assert_these<AB: AirBuilder, C: Constraint<AB>>(
 pub fn assert_all<AB: AirBuilder, C: Constraint<AB>>(builder: &mut AB, constraints: &C) -> AirResult
     requires ready { AB.ready builder.old }
     requires held { Lasts AB.kept (C.all_hold constraints.now) builder.old }
-    ensures ok { OnOk result (AB.grew builder.old builder.new
-        (C.asserts constraints.now (λ t. t) (λ t. t))) }
-    ensures there { OnOk result (NoneMissing (AB.missing builder.old)
-        (C.asserts constraints.now (λ t. t) (λ t. t))) }
-    ensures keeps { AB.kept builder.old builder.new }
-    ensures err { OnErr result (GrewByFirst AB.grew builder.old builder.new
-        (C.asserts constraints.now (λ t. t) (λ t. t))) }
-    ensures refused { IfErr result (λ e. (e ≡ AirError.Memory) ⊎ AB.refuses builder.old e
-        (C.asserts constraints.now (λ t. t) (λ t. t))) }
+    ensures { Evaluates ⟦<AB as View>⟧.view builder.old builder.new result
+        (C.asserts constraints.now (λ t. t) (λ t. t)) }
 {
     assert_these(builder, constraints)
 }

@@ -1,6 +1,6 @@
 //! An AIR's constraints as a value among another's, on columns further right.
 ghost use Rattle.std.specs.Prelude.{⊤, ◌^◌, ◌<◌};
-ghost use Rattle.air_author.specs.Constraints.{AssertedIn};
+ghost use Rattle.air_builder.specs.Batches.{AssertedIn};
 ghost use Rattle.air_author.specs.Expressions.{Lasts};
 ghost use Rattle.air_author.specs.Moved.{moved_under};
 

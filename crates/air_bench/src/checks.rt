@@ -2,7 +2,7 @@
 
 use crate::traces::{fibonacci_trace, wide_trace};
 use crate::wide::Wide;
-use air_program::Fibonacci;
+use air_fibonacci::Fibonacci;
 use p3_air::{AirError, Field, RowMajorMatrix, check_all_constraints};
 use std::alloc::Global;
 

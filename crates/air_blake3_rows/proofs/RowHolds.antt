@@ -8,7 +8,7 @@ use Rattle.air_field.specs.Domain.{IsDomain}
 use Rattle.blake3.specs.Compression.{Block, columns_mixed, diagonals, place_in, first_state, after_rounds, compress}
 use Rattle.blake3.specs.Blocks.{columns_half}
 use Rattle.blake3.specs.Sizes.{AreStateWords, AreBlockWords}
-use Rattle.blake3.specs.laws.Sizes.{mixed_state, diagonal_state, rounds_words, first_words, outputs_words}
+use Rattle.blake3.specs.laws.Sizes.{mixed_state, diagonal_state, rounds_words, first_state_words, outputs_words}
 use Rattle.blake3.specs.declared.words.State.{State}
 use Rattle.air_blake3.specs.Words.{bits_at, state_of}
 use Rattle.air_blake3.specs.Row.{state_from, round_column, before_round}
@@ -28,7 +28,7 @@ module _ {F : Type 0} (R : CommRing F) (row : List F) (beside : RowValues F) (b 
       let n1 : length (l0 ++ l1) ≡ 640 = length-two l0 l1 512 128 n0 (length-first (λ i. bit_values R (b.chaining i)) 32 (λ i. refl) 4) in
       let p2 = two_stand R row 0 640 (l0 ++ l1) (state_values R (diagonals x)) n1 h in
       let p1 = two_stand R row 0 512 l0 l1 n0 p2.0 in
-      let stored = state_stands R row beside 640 (diagonals x) (diagonal_state x (first_words b words)) p2.1 in
+      let stored = state_stands R row beside 640 (diagonals x) (diagonal_state x (first_state_words b words)) p2.1 in
       let first : IsStateOf R s (state_of (before_round 0)) x = record {
         q0 = record { a = stored.q0.a; b = stored.q3.b; c = stored.q2.c; d = stored.q1.d };
         q1 = record { a = stored.q1.a; b = stored.q0.b; c = stored.q3.c; d = stored.q2.d };
@@ -59,7 +59,7 @@ module _ {F : Type 0} (R : CommRing F) (row : List F) (beside : RowValues F) (b 
       let v = after_rounds (first_state b) b.message r in
       let m = λ (i : ℕ). b.message (place_in r i) in
       let n = 912 + 1088 * r in
-      let v_words : AreStateWords v = rounds_words (first_state b) b.message (first_words b words) r in
+      let v_words : AreStateWords v = rounds_words (first_state b) b.message (first_state_words b words) r in
       let parts = round_stands R row beside n v m h in
       let w = columns_mixed v m in
       let one = columns_of_round R row beside n v m v_words parts.0 in
@@ -133,7 +133,7 @@ module _ {F : Type 0} (R : CommRing F) (beside : RowValues F) (b : Block) (words
       let row = block_row R b in
       let x = first_state b in
       let v = after_rounds x b.message 7 in
-      let start = first_words b words in
+      let start = first_state_words b words in
       let last = rounds_words x b.message start 7 in
       let f = λ (r : ℕ). round_values R (after_rounds x b.message r) (λ i. b.message (place_in r i)) in
       let lengths = λ (r : ℕ). length-round R (after_rounds x b.message r) (λ i. b.message (place_in r i)) in

@@ -1,10 +1,12 @@
 -- What a call that asserts does: growth by what each of its elements asserts, in order, or a refusal.
 use Rattle.std.specs.List.{AllZip}
-use Rattle.std.specs.Prelude.{◌≡◌, ℕ, ◌<◌, List, length, take, Result, OnOk, OnErr, IfErr}
-use Rattle.air_field.specs.Term.{Term}
+use Rattle.std.specs.Prelude.{◌≡◌, ◌⊎◌, ℕ, ◌<◌, List, length, take, Result, OnOk, OnErr, IfErr, ⊤}
+use Rattle.air_field.specs.Term.{Leaf, Term}
 use Rattle.air_core.specs.declared.errors.AirError.{AirError}
+use Rattle.air_core.specs.declared.errors.AirError.TheVariants.{Memory}
 use Rattle.air_builder.specs.Assertion.{Assertion}
 use Rattle.air_builder.specs.Builders.{BuilderView, MeansIn}
+use Rattle.air_builder.specs.Refusals.{NoneMissing}
 
 -- the assertion, of a kind, is that of the operation of a term that x means
 abbrev pub AssertsOf : {S E F : Type 0} → (Term F → Assertion F) → (S → E → Term F → Type 0) → (Term F → Term F) → S → E → Assertion F → Type 0
@@ -38,7 +40,7 @@ RefusesByEach {F = F} asserts refuses a xs e = (ss : List (Assertion F)) → All
 -- the first ones and not all, and refuses as growing by all may be refused.
 pub record AssertedEach {S I F X : Type 0} (asserts : S → I → Assertion F → Type 0) (kept : S → S → Type 0)
     (grew : S → S → List (Assertion F) → Type 0) (refuses : S → X → List (Assertion F) → Type 0)
-    (a b : S) (xs : List I) (result : Result (Unit {0}) X) : Type 0 where
+    (a b : S) (xs : List I) (result : Result ⊤ X) : Type 0 where
   pub keeps : kept a b
   pub ok : OnOk result (GrewByEach asserts grew a b xs)
   pub err : OnErr result (GrewByBeginning asserts grew a b xs)
@@ -47,11 +49,35 @@ pub record AssertedEach {S I F X : Type 0} (asserts : S → I → Assertion F �
 -- What a call does to a builder that asserts of each of xs, in order, that the operation of what it means is zero: by an
 -- assertion of this kind.
 abbrev pub Asserts : {S R E F : Type 0} → BuilderView S R E F → (Term F → Assertion F) → (Term F → Term F) → S → S → List E
-    → Result (Unit {0}) AirError → Type 0
+    → Result ⊤ AirError → Type 0
 Asserts view kind op a b xs result = AssertedEach (AssertsOf kind (MeansIn view) op) view.kept view.grew view.refuses a b xs result
 
 -- the same of pairs
 abbrev pub AssertsBoth : {S R E F : Type 0} → BuilderView S R E F → (Term F → Assertion F) → (Term F → Term F → Term F) → S → S
-    → List (E × E) → Result (Unit {0}) AirError → Type 0
+    → List (E × E) → Result ⊤ AirError → Type 0
 AssertsBoth view kind op a b ps result =
     AssertedEach (AssertsOfBoth kind (MeansIn view) op) view.kept view.grew view.refuses a b ps result
+
+-- What a call that asserts a list does to a builder: it keeps it. Where it is Ok, the builder grew by the list, and each
+-- leaf of the list is there; else it grew by a beginning of the list that isn't the whole, and the refusal is one of the
+-- list.
+pub record Asserted {S F X : Type 0} (kept : S → S → Type 0) (grew : S → S → List (Assertion F) → Type 0)
+    (missing : S → Leaf → Type 0) (refuses : S → X → List (Assertion F) → Type 0) (a b : S)
+    (r : Result ⊤ X) (ts : List (Assertion F)) : Type 0 where
+  pub keeps : kept a b
+  pub ok : OnOk r (grew a b ts)
+  pub there : OnOk r (NoneMissing (missing a) ts)
+  pub err : OnErr r (GrewByFirst grew a b ts)
+  pub refused : IfErr r (λ e. refuses a e ts)
+
+-- the same of a builder as its laws see it
+abbrev pub AssertedIn : {S R E F : Type 0} → BuilderView S R E F → S → S → Result ⊤ AirError → List (Assertion F) → Type 0
+AssertedIn view a b r ts = Asserted view.kept view.grew view.missing view.refuses a b r ts
+
+-- besides what is refused, memory may be wanting
+abbrev pub OrMemory : {S F : Type 0} → (S → AirError → List (Assertion F) → Type 0) → S → AirError → List (Assertion F) → Type 0
+OrMemory refuses a e ts = (e ≡ Memory) ⊎ refuses a e ts
+
+-- What the evaluation of an AIR with these constraints does to a builder: it asserts them. It may lack memory of its own.
+abbrev pub Evaluates : {S R E F : Type 0} → BuilderView S R E F → S → S → Result ⊤ AirError → List (Assertion F) → Type 0
+Evaluates view a b r ts = Asserted view.kept view.grew view.missing (OrMemory view.refuses) a b r ts

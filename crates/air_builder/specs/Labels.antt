@@ -1,5 +1,5 @@
 -- Growth by assertions that have labels.
-use Rattle.std.specs.Prelude.{◌≡◌, ℕ, ◌+◌, ◌<◌, List, [], ◌∷◌, ◌++◌, length, take, map, Option, Result, OnOk, OnErr}
+use Rattle.std.specs.Prelude.{◌≡◌, ℕ, ◌+◌, ◌<◌, List, [], ◌∷◌, ◌++◌, length, take, map, Option, Result, OnOk, OnErr, ⊤}
 use Rattle.std.specs.List.{AllZip, zip}
 use Rattle.air_core.specs.declared.errors.AirError.{AirError}
 use Rattle.air_field.specs.Term.{Term}
@@ -18,12 +18,12 @@ Labelled F = Assertion F × Label
 
 -- a label that was shown is one that the name may display
 abbrev pub IsSaid : (Option (List ℕ) → Type 0) → Label → Type 0
-IsSaid says Unasked = Unit {0}
+IsSaid says Unasked = ⊤
 IsSaid says (Shown text) = says text
 
 -- the same of labels in order, where `says i` is what the name at place i may display
 abbrev pub AreSaidFrom : (ℕ → Option (List ℕ) → Type 0) → ℕ → List Label → Type 0
-AreSaidFrom says i [] = Unit {0}
+AreSaidFrom says i [] = ⊤
 AreSaidFrom says i (l ∷ ls) = IsSaid (says i) l × AreSaidFrom says (i + 1) ls
 
 -- the assertions without their labels
@@ -55,18 +55,18 @@ pub record LabelledByBeginning {S I F : Type 0} (asserts : S → I → Assertion
 -- ones that the builder grew by
 pub record LabelledEach {S I F : Type 0} (asserts : S → I → Assertion F → Type 0)
     (labelled : S → S → List (Labelled F) → Type 0) (says : ℕ → Option (List ℕ) → Type 0) (a b : S)
-    (xs : List I) (result : Result (Unit {0}) AirError) : Type 0 where
+    (xs : List I) (result : Result ⊤ AirError) : Type 0 where
   pub ok : OnOk result (LabelledByEach asserts labelled says a b xs)
   pub err : OnErr result (LabelledByBeginning asserts labelled says a b xs)
 
 -- what a call that does what `Asserts` says does to the labels, in a builder that grows under labels as `labelled` says
 abbrev pub Labels : {S R E F : Type 0} → BuilderView S R E F → (S → S → List (Labelled F) → Type 0) → (Term F → Assertion F)
-    → (Term F → Term F) → (ℕ → Option (List ℕ) → Type 0) → S → S → List E → Result (Unit {0}) AirError → Type 0
+    → (Term F → Term F) → (ℕ → Option (List ℕ) → Type 0) → S → S → List E → Result ⊤ AirError → Type 0
 Labels view labelled kind op says a b xs result = LabelledEach (AssertsOf kind (MeansIn view) op) labelled says a b xs result
 
 -- the same of pairs
 abbrev pub LabelsBoth : {S R E F : Type 0} → BuilderView S R E F → (S → S → List (Labelled F) → Type 0) → (Term F → Assertion F)
-    → (Term F → Term F → Term F) → (ℕ → Option (List ℕ) → Type 0) → S → S → List (E × E) → Result (Unit {0}) AirError → Type 0
+    → (Term F → Term F → Term F) → (ℕ → Option (List ℕ) → Type 0) → S → S → List (E × E) → Result ⊤ AirError → Type 0
 LabelsBoth view labelled kind op says a b ps result = LabelledEach (AssertsOfBoth kind (MeansIn view) op) labelled says a b ps result
 
 -- What every named builder keeps. Growth under labels is growth; growth by nothing leaves the labels.

@@ -1,5 +1,5 @@
 -- Where a builder may refuse.
-use Rattle.std.specs.Prelude.{◌≡◌, ◌<◌, ◌≤◌, ◌⊎◌, ◌↔◌, ℕ, List, [], ◌∷◌, None, slice_get}
+use Rattle.std.specs.Prelude.{◌≡◌, ◌<◌, ◌≤◌, ◌⊎◌, ◌↔◌, ℕ, List, [], ◌∷◌, None, slice_get, ⊤}
 use Rattle.air_field.specs.Term.{Leaf, preprocessed, main, permutation, Term, leaf_term, const_term, ext_const_term, add_term, sub_term, neg_term, mul_term}
 use Rattle.air_field.specs.Part.{Part}
 use Rattle.air_core.specs.Entries.{entry_leaf}
@@ -22,8 +22,8 @@ IsPastWindow o l = (1 < o) × (i : ℕ) × ((l ≡ preprocessed o i) ⊎ (l ≡ 
 abbrev pub IsOfWindow : BaseEntry → Type 0
 IsOfWindow (Preprocessed o) = o ≤ 1
 IsOfWindow (Main o) = o ≤ 1
-IsOfWindow Periodic = Unit {0}
-IsOfWindow Public = Unit {0}
+IsOfWindow Periodic = ⊤
+IsOfWindow Public = ⊤
 
 -- the error names a leaf, a column by its entry where a window has its row; an offset that no
 -- window has names each column of that row, and that there is no permutation trace each of its
@@ -60,14 +60,14 @@ NoneMissing missing ts = (l : Leaf) → missing l → PartOf (leaf_term l) ts �
 -- each leaf of a term, and of a list of assertions, has the property
 abbrev pub EachLeaf : {F : Type 0} → (Leaf → Type 0) → Term F → Type 0
 EachLeaf P (leaf_term l) = P l
-EachLeaf P (const_term c) = Unit {0}
-EachLeaf P (ext_const_term cs) = Unit {0}
+EachLeaf P (const_term c) = ⊤
+EachLeaf P (ext_const_term cs) = ⊤
 EachLeaf P (add_term t u) = EachLeaf P t × EachLeaf P u
 EachLeaf P (sub_term t u) = EachLeaf P t × EachLeaf P u
 EachLeaf P (neg_term t) = EachLeaf P t
 EachLeaf P (mul_term t u) = EachLeaf P t × EachLeaf P u
 
 abbrev pub EachLeafOf : {F : Type 0} → (Leaf → Type 0) → List (Assertion F) → Type 0
-EachLeafOf P [] = Unit {0}
+EachLeafOf P [] = ⊤
 EachLeafOf P (Base t ∷ rest) = EachLeaf P t × EachLeafOf P rest
 EachLeafOf P (Extension t ∷ rest) = EachLeaf P t × EachLeafOf P rest

@@ -1,5 +1,5 @@
 -- Where a builder refuses to grow.
-use Rattle.std.specs.Prelude.{ℕ, List}
+use Rattle.std.specs.Prelude.{ℕ, List, ⊤}
 use Rattle.air_field.specs.Term.{Leaf, permutation, Term, leaf_term}
 use Rattle.air_core.specs.Entries.{entry_leaf}
 use Rattle.air_core.specs.ExtEntries.{ext_entry_leaf}
@@ -13,7 +13,7 @@ use Rattle.air_core.specs.declared.errors.AirError.TheVariants.{Memory, DegreeOv
 -- has, where a part names a missing column of that row; the permutation trace, where a part names
 -- a missing column of it; nothing else
 abbrev pub Refused : {F : Type 0} → (Leaf → Type 0) → (Term F → Type 0) → (List (Assertion F) → Type 0) → AirError → List (Assertion F) → Type 0
-Refused missing over full Memory ts = Unit {0}
+Refused missing over full Memory ts = ⊤
 Refused {F = F} missing over full DegreeOverflow ts = (t : Term F) × (over t × PartOf t ts)
 Refused missing over full CountOverflow ts = full ts
 Refused missing over full (MissingEntry e i) ts =

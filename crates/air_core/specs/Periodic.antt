@@ -1,5 +1,5 @@
 -- Periodic columns by row.
-use Rattle.std.specs.Prelude.{◌≡◌, ℕ, ◌%◌, ◌*◌, ◌<◌, ◌≤◌, ◌++◌, List, [], length, map, slice_get, Option, Some, None, Result, Ok, Err, Vec, slice_index_or}
+use Rattle.std.specs.Prelude.{◌≡◌, ℕ, ◌%◌, ◌*◌, ◌<◌, ◌≤◌, ◌++◌, List, [], length, map, slice_get, Option, Some, None, Result, Ok, Err, Vec, slice_index_or, ⊤}
 use Rattle.std.specs.List.{range_with_len}
 use Rattle.air_field.specs.Grid.{Grid, rows_of}
 use Rattle.air_core.specs.declared.errors.AirError.{AirError}
@@ -23,7 +23,7 @@ pub record IsFirstEmpty {T A : Type 0} (columns : List (Vec T A)) (index : ℕ) 
 
 -- want of memory, or the first empty column
 abbrev pub RefusesPeriodicRow : {T A : Type 0} → List (Vec T A) → AirError → Type 0
-RefusesPeriodicRow columns Memory = Unit {0}
+RefusesPeriodicRow columns Memory = ⊤
 RefusesPeriodicRow columns (EmptyPeriodicColumn index) = IsFirstEmpty columns index
 RefusesPeriodicRow columns _ = ⊥
 
@@ -43,7 +43,7 @@ rows_below columns h = map (λ row. map (column_at row) columns) (range_with_len
 
 -- want of memory, or the first empty column where another isn't empty
 abbrev pub RefusesPeriodicMatrix : {T A : Type 0} → List (Vec T A) → AirError → Type 0
-RefusesPeriodicMatrix columns Memory = Unit {0}
+RefusesPeriodicMatrix columns Memory = ⊤
 RefusesPeriodicMatrix columns (EmptyPeriodicColumn index) = IsFirstEmpty columns index × ((h : ℕ) × IsGreatestPeriod columns h × (0 < h))
 RefusesPeriodicMatrix columns _ = ⊥
 

@@ -4,8 +4,8 @@ use Rattle.p3_air.specs.Author.{CommRing, Assertion, current, next, first_row, l
 use Rattle.p3_air.specs.Author.{◌⊕◌, ◌≐◌, is_zero, boolean, when, moved}
 
 -- the bit is a bit; the count begins at zero, and rises by the bit
-unfoldable pub counter : {F : Type 0} → CommRing F → List (Assertion F)
-counter R =
+unfoldable pub one_counter : {F : Type 0} → CommRing F → List (Assertion F)
+one_counter R =
     let bit : ℕ = 0 in
     let count : ℕ = 1 in
     boolean R.one (current bit) ++
@@ -14,4 +14,4 @@ counter R =
 
 -- a counter in the columns 0 and 1, one in 2 and 3, and on the last row one count is the other
 abbrev pub counters : {F : Type 0} → CommRing F → List (Assertion F)
-counters R = moved 0 (counter R) ++ (moved 2 (counter R) ++ when last_row (current 1 ≐ current 3))
+counters R = moved 0 (one_counter R) ++ (moved 2 (one_counter R) ++ when last_row (current 1 ≐ current 3))

@@ -1,5 +1,5 @@
 //! A counter that may stand in another AIR: a bit, and behind it the count of the bits above that were one.
-ghost use Rattle.air_counters.specs.Counters.{counter};
+ghost use Rattle.air_counters.specs.Counters.{one_counter};
 
 use p3_air::author::{
     Boolean, Condition, Constraint, FirstRow, MovableConstraints, PlainAir, Transition, When, Zero,
@@ -12,7 +12,7 @@ use p3_air::{AirBuilder, AirError, Field};
 pub struct Counter;
 
 impl<F: Field> PlainAir<F> for Counter {
-    ghost plain = { λ _. (counter F.ring, 2, 0) };
+    ghost plain = { λ _. (one_counter F.ring, 2, 0) };
 
     fn width_and_public_values(&self) -> (usize, usize) {
         (2, 0)
@@ -20,7 +20,7 @@ impl<F: Field> PlainAir<F> for Counter {
 }
 
 impl<AB: AirBuilder> MovableConstraints<AB> for Counter {
-    #[tactic(auto, unfolding(crate::specs::Counters::counter))]
+    #[tactic(auto, unfolding(crate::specs::Counters::one_counter))]
     fn assert_moved<K: Condition<AB>>(
         &self,
         columns: usize,

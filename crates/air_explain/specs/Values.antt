@@ -1,5 +1,5 @@
 -- The values of a pool's numbers.
-use Rattle.std.specs.Prelude.{◌≡◌, ℕ, ◌<◌, List, length, get_or, Option, None, Some}
+use Rattle.std.specs.Prelude.{◌≡◌, ℕ, ◌<◌, List, length, slice_index_or, Option, None, Some}
 use Rattle.air_field.specs.Ring.{CommRing, minus, itself}
 use Rattle.air_field.specs.Term.{Leaf}
 use Rattle.air_field.specs.Value.{value}
@@ -26,10 +26,10 @@ module _ {F : Type 0} (r : CommRing F) (s : Leaf → F) where
 
   -- the values of the marked numbers below k are known
   abbrev pub Known : List (SymbolicExpr (BaseLeaf F)) → List (Option ℕ) → ℕ → List F → Type 0
-  Known ns marks k values = (i : ℕ) → i < k → Marked marks i → get_or values i r.zero ≡ value_at ns i
+  Known ns marks k values = (i : ℕ) → i < k → Marked marks i → slice_index_or values i r.zero ≡ value_at ns i
 
 -- Marks of all nodes: each stands at its own place, and with a node its operands are marked.
 pub record AreClosed {F : Type 0} (ns : List (SymbolicExpr (BaseLeaf F))) (marks : List (Option ℕ)) : Type 0 where
   pub places : length marks ≡ length ns
-  pub own : (i j : ℕ) → get_or marks i None ≡ Some j → j ≡ i
+  pub own : (i j : ℕ) → slice_index_or marks i None ≡ Some j → j ≡ i
   pub operands : (i : ℕ) (n : SymbolicExpr (BaseLeaf F)) → Marked marks i → IsNode base_leaves ns i n → EachOperand (λ j. Marked marks j) n

@@ -1,5 +1,5 @@
 //! Expressions and their values, as equations.
-ghost use Rattle.std.specs.Prelude.{◌≡◌, ◌<◌, ◌++◌, length, map, get_or, All, OnOk, codes, string_bytes, if◌then◌else◌};
+ghost use Rattle.std.specs.Prelude.{◌≡◌, ◌<◌, ◌++◌, length, map, slice_index_or, All, OnOk, codes, string_bytes, if◌then◌else◌};
 ghost use Rattle.air_symbolic.specs.BaseLeaves.{base_reads};
 ghost use Rattle.air_symbolic.specs.Pools.{IsPool};
 ghost use Rattle.air_infix.specs.Lines.{lines_text};
@@ -24,7 +24,7 @@ pub(crate) fn push_equation<F: PrimeField64>(
     requires here { id < length pool.now.1 }
     requires places { length values.now ≡ length pool.now.1 }
     ensures { OnOk result (string_bytes text.new ≡ string_bytes text.old ++
-        equation F.residues pool.now names.now.1 (λ i. get_or values.now i F.ring.zero) id) }
+        equation F.residues pool.now names.now.1 (λ i. slice_index_or values.now i F.ring.zero) id) }
 {
     push_infix(alloc, text, pool, names, id)?;
     text.push_str(" = ")?;
@@ -57,7 +57,7 @@ pub(crate) fn push_equations<F: PrimeField64>(
     requires places { length values.now ≡ length pool.now.1 }
     ensures { OnOk result (string_bytes text.new ≡ string_bytes text.old ++ lines_text
         (equation_lines (map (equation F.residues pool.now names.now.1
-        (λ i. get_or values.now i F.ring.zero)) ids.now))) }
+        (λ i. slice_index_or values.now i F.ring.zero)) ids.now))) }
 {
     let mut is_first = true;
     for id in ids {

@@ -1,5 +1,5 @@
 //! The lines that explain an expression, and those of the names that stand in them.
-ghost use Rattle.std.specs.Prelude.{◌≡◌, ◌<◌, ◌++◌, ◌∷◌, [], length, get_or, All, OnOk, codes, string_bytes, if◌then◌else◌};
+ghost use Rattle.std.specs.Prelude.{◌≡◌, ◌<◌, ◌++◌, ◌∷◌, [], length, slice_index_or, All, OnOk, codes, string_bytes, if◌then◌else◌};
 ghost use Rattle.air_symbolic.specs.BaseLeaves.{base_reads};
 ghost use Rattle.air_symbolic.specs.Pools.{IsPool};
 ghost use Rattle.air_infix.specs.Lines.{lines_text, definition_line};
@@ -85,7 +85,7 @@ pub fn push_explained<F: PrimeField64>(
     requires reads { All (λ i. i < length pool.now.1) reads.now }
     requires places { length values.now ≡ length pool.now.1 }
     ensures { OnOk result (string_bytes text.new ≡ string_bytes text.old ++ lines_text
-        (explained_lines F.residues pool.now names.now.1 (λ i. get_or values.now i F.ring.zero)
+        (explained_lines F.residues pool.now names.now.1 (λ i. slice_index_or values.now i F.ring.zero)
         root reads.now)) }
 {
     text.push_str("  ")?;

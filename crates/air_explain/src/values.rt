@@ -1,5 +1,5 @@
 //! The values of a pool's expressions at a row.
-ghost use Rattle.std.specs.Prelude.{◌≡◌, ◌<◌, length, get_or, IfOk};
+ghost use Rattle.std.specs.Prelude.{◌≡◌, ◌<◌, length, slice_index_or, IfOk};
 ghost use Rattle.air_field.specs.Assignment.{row_assignment};
 ghost use Rattle.air_symbolic.specs.BaseLeaves.{base_reads};
 ghost use Rattle.air_symbolic.specs.Nodes.{OperandsBelow};
@@ -16,7 +16,7 @@ use std::alloc::{AllocError, Global};
 /// The value of a number that is known.
 pub(crate) fn known<F: Field>(values: &[F], number: usize) -> F
     requires { number < length values.now }
-    ensures { result ≡ get_or values.now number F.ring.zero }
+    ensures { result ≡ slice_index_or values.now number F.ring.zero }
 {
     values[number]
 }
@@ -31,7 +31,7 @@ fn node_value<F: Field>(
     requires operands { OperandsBelow (length values.now) node }
     requires row { row < length trace.now.main.now.rows }
     ensures { result ≡ node_value F.ring (row_assignment F.ring (trace_of trace.now) row)
-        (λ i. get_or values.now i F.ring.zero) node }
+        (λ i. slice_index_or values.now i F.ring.zero) node }
 {
     match node {
         SymbolicExpr::Leaf(leaf) => leaf_value(trace, row, leaf),

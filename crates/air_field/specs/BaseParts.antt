@@ -1,5 +1,5 @@
 -- The element of the base field that a coefficient list is.
-use Rattle.std.specs.Prelude.{Bool, true, ◌&&◌, cond, List, [], ◌∷◌, Option, Some, None}
+use Rattle.std.specs.Prelude.{Bool, true, ◌&&◌, List, [], ◌∷◌, Option, Some, None, if◌then◌else◌}
 use Rattle.air_field.specs.Ring.{CommRing}
 
 -- whether each coefficient is zero
@@ -10,4 +10,4 @@ all_zero r eq (x ∷ xs) = eq x r.zero && all_zero r eq xs
 -- the first coefficient, where all others are zero
 abbrev pub base_part : {F : Type 0} → CommRing F → (F → F → Bool) → List F → Option F
 base_part r eq [] = None
-base_part r eq (x ∷ xs) = cond (all_zero r eq xs) (Some x) None
+base_part r eq (x ∷ xs) = if all_zero r eq xs then Some x else None

@@ -1,5 +1,5 @@
 -- The polynomials over a field of residues modulo X^4 - w: a ring, and an extension of that field.
-use Rattle.std.specs.Prelude.{◌≡◌, ℕ, refl, List, length, eqb}
+use Rattle.std.specs.Prelude.{◌≡◌, ℕ, refl, List, length, ◌==◌}
 use Rattle.air_field.specs.Ring.{CommRing, AlgebraOver}
 use Rattle.air_field.specs.RingOps.{ops}
 use Rattle.air_field.specs.Coefficients.{poly_add, poly_neg, binomial_mul, constant_four, padded}
@@ -64,5 +64,5 @@ abbrev pub binomial_basis : {M : Type 0} (m : Ghosts M) → Basis (Residue M m) 
 binomial_basis m =
     record {
       coefficients = λ a. a.value;
-      base_part = λ a. base_part (residue_ring m) (λ x y. eqb x.residue y.residue) a.value;
+      base_part = λ a. base_part (residue_ring m) (λ x y. x.residue == y.residue) a.value;
     }

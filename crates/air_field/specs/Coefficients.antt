@@ -1,5 +1,5 @@
 -- Polynomials as lists of coefficients, lowest first, and what is left of them modulo X^4 - w.
-use Rattle.std.specs.Prelude.{◌≡◌, ℕ, zero, suc, ◌+◌, ◌<◌, List, [], ◌∷◌, get_or}
+use Rattle.std.specs.Prelude.{◌≡◌, ℕ, zero, suc, ◌+◌, ◌<◌, List, [], ◌∷◌, slice_index_or}
 use Rattle.air_field.specs.Ring.{CommRing}
 use Rattle.air_field.specs.RingOps.{RingOps}
 use Rattle.air_field.specs.Polynomial.{convolve}
@@ -50,7 +50,7 @@ padded d (suc n) (x ∷ p) = x ∷ padded d n p
 
 -- the coefficient at a place, zero past the list's end
 abbrev pub coefficient : {A : Type 0} → A → List A → ℕ → A
-coefficient d p n = get_or p n d
+coefficient d p n = slice_index_or p n d
 
 -- r is the product of p and q where X^4 is w: each of its four coefficients is the product's, with w times the one
 -- that stands four places on

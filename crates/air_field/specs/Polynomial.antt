@@ -1,5 +1,5 @@
 -- The polynomial of a term: a coefficient for each number.
-use Rattle.std.specs.Prelude.{◌≡◌, ℕ, zero, suc, ◌-◌, ◌<◌, List, get_or}
+use Rattle.std.specs.Prelude.{◌≡◌, ℕ, zero, suc, ◌-◌, ◌<◌, List, slice_index_or}
 use Rattle.air_field.specs.Ring.{CommRing, minus, AlgebraOver}
 use Rattle.air_field.specs.Term.{Leaf, Term, leaf_term, const_term, ext_const_term, add_term, sub_term, neg_term, mul_term}
 
@@ -19,7 +19,7 @@ only r c (suc n) = r.zero
 
 -- coefficient n of the term's polynomial, the leaves having the coefficient lists of s, zero past their ends
 abbrev pub polynomial : {F E : Type 0} → AlgebraOver F E → (Leaf → List E) → Term F → ℕ → E
-polynomial a s (leaf_term l) n = get_or (s l) n a.ring.zero
+polynomial a s (leaf_term l) n = slice_index_or (s l) n a.ring.zero
 polynomial a s (const_term c) n = only a.ring (a.embed c) n
 polynomial a s (ext_const_term c) n = only a.ring (a.extend c) n
 polynomial a s (add_term t u) n = a.ring.add (polynomial a s t n) (polynomial a s u n)

@@ -1,5 +1,5 @@
 -- Terms: unshared, unfolded expressions over named leaves.
-use Rattle.std.specs.Prelude.{ℕ, List}
+use Rattle.std.specs.Prelude.{ℕ, List, ⊤}
 
 -- A leaf that is no constant.
 pub data Leaf : Type 0 where
@@ -35,20 +35,20 @@ with_leaves s (mul_term x y) = mul_term (with_leaves s x) (with_leaves s y)
 
 -- it has base leaves and base constants alone
 abbrev pub IsBaseLeaf : Leaf → Type 0
-IsBaseLeaf (preprocessed o i) = Unit {0}
-IsBaseLeaf (main o i) = Unit {0}
-IsBaseLeaf (periodic i) = Unit {0}
-IsBaseLeaf (public i) = Unit {0}
-IsBaseLeaf first_row = Unit {0}
-IsBaseLeaf last_row = Unit {0}
-IsBaseLeaf transition = Unit {0}
+IsBaseLeaf (preprocessed o i) = ⊤
+IsBaseLeaf (main o i) = ⊤
+IsBaseLeaf (periodic i) = ⊤
+IsBaseLeaf (public i) = ⊤
+IsBaseLeaf first_row = ⊤
+IsBaseLeaf last_row = ⊤
+IsBaseLeaf transition = ⊤
 IsBaseLeaf (permutation o i) = ⊥
 IsBaseLeaf (challenge i) = ⊥
 IsBaseLeaf (permutation_value i) = ⊥
 
 abbrev pub IsBase : {F : Type 0} → Term F → Type 0
 IsBase (leaf_term l) = IsBaseLeaf l
-IsBase (const_term c) = Unit {0}
+IsBase (const_term c) = ⊤
 IsBase (ext_const_term cs) = ⊥
 IsBase (add_term t u) = IsBase t × IsBase u
 IsBase (sub_term t u) = IsBase t × IsBase u

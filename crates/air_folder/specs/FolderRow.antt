@@ -30,8 +30,8 @@ abbrev pub accumulator_of : {F E : Type 0} → ConstraintFolder F E → E
 accumulator_of b = b.accumulator
 
 -- the two rows of its permutation trace, if it has one
-abbrev pub permutation_of : {F E : Type 0} → ConstraintFolder F E → Option (ViewPair E)
-permutation_of b = b.permutation
+abbrev pub folder_permutation : {F E : Type 0} → ConstraintFolder F E → Option (ViewPair E)
+folder_permutation b = b.permutation
 
 -- The folder stands at the row that the pairs hold, with the values, the permutation data and alpha that it was given, and
 -- its accumulator is zero.

@@ -1,5 +1,5 @@
 -- Numbers and their digits, bits, and bits in a ring.
-use Rattle.std.specs.Prelude.{ℕ, zero, suc, ◌+◌, ◌/◌, ◌%◌, ◌<◌, List, [], ◌∷◌}
+use Rattle.std.specs.Prelude.{ℕ, zero, suc, ◌+◌, ◌/◌, ◌%◌, ◌<◌, List, [], ◌∷◌, ⊤}
 use Rattle.air_field.specs.Ring.{CommRing, minus}
 
 -- so many of a number's lowest digits, lowest first
@@ -9,7 +9,7 @@ digits_of base (suc k) n = n % base ∷ digits_of base k (n / base)
 
 -- a list of numbers below 2
 abbrev pub AreBits : List ℕ → Type 0
-AreBits [] = Unit {0}
+AreBits [] = ⊤
 AreBits (b ∷ bs) = (b < 2) × AreBits bs
 
 -- the xor of bits

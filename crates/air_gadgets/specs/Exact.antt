@@ -1,5 +1,5 @@
 -- What it means that the asserted terms are zero.
-use Rattle.std.specs.Prelude.{◌≡◌, ℕ, ◌*◌, ◌^◌, ◌<◌, ◌⊎◌, ◌↔◌, List, [], ◌∷◌, map}
+use Rattle.std.specs.Prelude.{◌≡◌, ℕ, ◌*◌, ◌^◌, ◌<◌, ◌⊎◌, ◌↔◌, List, [], ◌∷◌, map, ⊤}
 use Rattle.air_field.specs.Ring.{CommRing, image, itself}
 use Rattle.air_field.specs.Term.{Leaf, Term}
 use Rattle.air_field.specs.Value.{value}
@@ -11,7 +11,7 @@ use Rattle.air_gadgets.specs.Gadgets.{add2_asserts, add3_asserts, xor_asserts}
 
 -- each term has the value zero
 abbrev pub AllVanish : {F : Type 0} → CommRing F → (Leaf → F) → List (Assertion F) → Type 0
-AllVanish R s [] = Unit {0}
+AllVanish R s [] = ⊤
 AllVanish R s (Base t ∷ ts) = (value (itself R) s t ≡ R.zero) × AllVanish R s ts
 AllVanish R s (Extension t ∷ ts) = (value (itself R) s t ≡ R.zero) × AllVanish R s ts
 

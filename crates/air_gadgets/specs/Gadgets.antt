@@ -1,5 +1,5 @@
 -- What the gadgets of words assert.
-use Rattle.std.specs.Prelude.{◌≡◌, ℕ, ◌*◌, ◌^◌, ◌⊎◌, List, [], ◌∷◌, ◌++◌, map, take, drop, Bool, true, false, Result, OnOk, OnErr, IfOk, IfErr}
+use Rattle.std.specs.Prelude.{◌≡◌, ℕ, ◌*◌, ◌^◌, ◌⊎◌, List, [], ◌∷◌, ◌++◌, map, take, drop, Bool, true, false, Result, OnOk, OnErr, IfOk, IfErr, ⊤}
 use Rattle.std.specs.List.{AllZip}
 use Rattle.air_field.specs.Ring.{CommRing, image}
 use Rattle.air_field.specs.Term.{Leaf, Term, with_leaves, const_term, add_term, sub_term, mul_term}
@@ -148,7 +148,7 @@ HalfOf {F = F} R means a p s =
 -- be refused.
 pub record AssertedList {S X F : Type 0} (is : List (Assertion F) → Type 0) (kept : S → S → Type 0)
     (grew : S → S → List (Assertion F) → Type 0) (refuses : S → X → List (Assertion F) → Type 0)
-    (a b : S) (result : Result (Unit {0}) X) : Type 0 where
+    (a b : S) (result : Result ⊤ X) : Type 0 where
   pub keeps : kept a b
   pub ok : OnOk result ((ts : List (Assertion F)) → is ts → grew a b ts)
   pub err : OnErr result ((ts : List (Assertion F)) → is ts → GrewByFirst grew a b ts)

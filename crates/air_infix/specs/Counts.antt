@@ -1,5 +1,5 @@
 -- Counts of places that stop at two.
-use Rattle.std.specs.Prelude.{◌≡◌, ℕ, zero, suc, ◌<◌, Bool, true, false, ◌&&◌, List, length, get_or, Option, None, Some}
+use Rattle.std.specs.Prelude.{◌≡◌, ℕ, zero, suc, ◌<◌, Bool, true, false, ◌&&◌, List, length, slice_index_or, Option, None, Some}
 use Rattle.air_symbolic.specs.Nodes.{node_at}
 use Rattle.air_symbolic.specs.declared.pools.expr.SymbolicExpr.{SymbolicExpr}
 use Rattle.air_infix.specs.Names.{is_reached, has_operation}
@@ -9,7 +9,7 @@ use Rattle.air_infix.specs.declared.counts.Places.TheVariants.{Nowhere, Once, Mo
 -- marks of n numbers: each stands at its own place
 pub record AreMarks (n : ℕ) (marks : List (Option ℕ)) : Type 0 where
   pub places : length marks ≡ n
-  pub own : (i j : ℕ) → get_or marks i None ≡ Some j → j ≡ i
+  pub own : (i j : ℕ) → slice_index_or marks i None ≡ Some j → j ≡ i
 
 -- so many places
 abbrev pub places_for : ℕ → Places
@@ -19,7 +19,7 @@ places_for (suc (suc n)) = More
 
 -- f i places name number i
 pub record AreCounted (f : ℕ → ℕ) (counts : List Places) : Type 0 where
-  pub each : (i : ℕ) → i < length counts → get_or counts i Nowhere ≡ places_for (f i)
+  pub each : (i : ℕ) → i < length counts → slice_index_or counts i Nowhere ≡ places_for (f i)
 
 abbrev pub is_more : Places → Bool
 is_more Nowhere = false
@@ -28,4 +28,4 @@ is_more More = true
 
 -- the number is reached, it is no leaf, and more than one place was counted
 abbrev pub passes : {A : Type 0} → List (SymbolicExpr A) → List (Option ℕ) → List Places → ℕ → Bool
-passes ns marks counts i = is_reached marks i && (has_operation (node_at ns i) && is_more (get_or counts i Nowhere))
+passes ns marks counts i = is_reached marks i && (has_operation (node_at ns i) && is_more (slice_index_or counts i Nowhere))

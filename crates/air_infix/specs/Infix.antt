@@ -1,5 +1,5 @@
 -- Expressions in infix notation.
-use Rattle.std.specs.Prelude.{ℕ, ◌-◌, ◌*◌, Bool, true, false, cond, eqb, nat_lt, ◌==◌, if◌then◌else◌, List, [], ◌∷◌, ◌++◌, length, Option, None, Some, codes, decimal}
+use Rattle.std.specs.Prelude.{ℕ, ◌-◌, ◌*◌, Bool, true, false, nat_lt, ◌==◌, if◌then◌else◌, List, [], ◌∷◌, ◌++◌, length, Option, None, Some, codes, decimal}
 use Rattle.air_field.specs.Modular.{Modular}
 use Rattle.air_core.specs.declared.variables.entry.BaseEntry.{BaseEntry}
 use Rattle.air_core.specs.declared.variables.entry.BaseEntry.TheVariants.{Preprocessed, Main, Periodic, Public}
@@ -39,9 +39,7 @@ named_or (Some k) t = name k
 abbrev pub shown_at : {A : Type 0} → (ℕ → Option ℕ) → List (SymbolicExpr A) → ℕ → Shown A
 shown_at named [] i = nothing
 shown_at named (n ∷ older) i =
-    cond (eqb i (length older))
-    (shown_node (λ x. named_or (named x) (shown_at named older x)) n)
-    (shown_at named older i)
+    if i == length older then shown_node (λ x. named_or (named x) (shown_at named older x)) n else shown_at named older i
 
 -- number i where an expression names it
 abbrev pub shown : {A : Type 0} → (ℕ → Option ℕ) → List (SymbolicExpr A) → ℕ → Shown A

@@ -1,5 +1,5 @@
 -- The lines that show the constraints of a pool.
-use Rattle.std.specs.Prelude.{◌≡◌, ℕ, List, ◌++◌, map, get_or, Option, None, codes, decimal}
+use Rattle.std.specs.Prelude.{◌≡◌, ℕ, List, ◌++◌, map, slice_index_or, Option, None, codes, decimal}
 use Rattle.std.specs.List.{enumerate_from, flat_map}
 use Rattle.air_field.specs.Degree.{degree_by, cached_weight}
 use Rattle.air_field.specs.Modular.{Modular}
@@ -12,7 +12,7 @@ use Rattle.air_infix.specs.Names.{AreNames}
 
 -- the names of a list, in which number i has its name at place i
 abbrev pub listed_name : List (Option ℕ) → ℕ → Option ℕ
-listed_name names i = get_or names i None
+listed_name names i = slice_index_or names i None
 
 -- each line ended by a byte 10
 abbrev pub lines_text : List (List ℕ) → List ℕ

@@ -1,5 +1,5 @@
 -- Which nodes of a pool have a name, where some roots are shown, and which.
-use Rattle.std.specs.Prelude.{◌≡◌, ℕ, zero, suc, ◌+◌, Bool, true, false, ◌&&◌, is_some, nat_le, ◌==◌, if◌then◌else◌, List, [], ◌∷◌, ◌++◌, length, get_or, Option, None, Some}
+use Rattle.std.specs.Prelude.{◌≡◌, ℕ, zero, suc, ◌+◌, Bool, true, false, ◌&&◌, is_some, nat_le, ◌==◌, if◌then◌else◌, List, [], ◌∷◌, ◌++◌, length, slice_index_or, Option, None, Some}
 use Rattle.std.specs.List.{count_by}
 use Rattle.air_symbolic.specs.Leaves.{Leaves}
 use Rattle.air_symbolic.specs.Nodes.{node_at}
@@ -40,7 +40,7 @@ node_places i (Some n) = operand_places i n
 -- Below, `marks` has at each place whether the roots reach the number.
 
 abbrev pub is_reached : List (Option ℕ) → ℕ → Bool
-is_reached marks i = is_some (get_or marks i None)
+is_reached marks i = is_some (slice_index_or marks i None)
 
 -- how many operands of node j are number i, if j is reached
 abbrev pub places_at : {A : Type 0} → List (SymbolicExpr A) → List (Option ℕ) → ℕ → ℕ → ℕ
@@ -76,4 +76,4 @@ pub record AreNames {A F : Type 0} (l : Leaves A F) (ns : List (SymbolicExpr A))
   pub marks : List (Option ℕ)
   pub reached : Reached l ns roots marks
   pub named : names.0 ≡ passing_below (is_named ns roots marks) (length ns)
-  pub each : (i : ℕ) → get_or names.1 i None ≡ name_by (is_named ns roots marks) i
+  pub each : (i : ℕ) → slice_index_or names.1 i None ≡ name_by (is_named ns roots marks) i

@@ -1,5 +1,5 @@
 -- What is still to be written, piece after piece.
-use Rattle.std.specs.Prelude.{ℕ, ◌+◌, ◌<◌, Bool, if◌then◌else◌, List, [], ◌∷◌, ◌++◌, codes}
+use Rattle.std.specs.Prelude.{ℕ, ◌+◌, ◌<◌, Bool, if◌then◌else◌, List, [], ◌∷◌, ◌++◌, codes, ⊤}
 use Rattle.air_field.specs.Modular.{Modular}
 use Rattle.air_symbolic.specs.declared.leaves.base_leaf.BaseLeaf.{BaseLeaf}
 use Rattle.air_symbolic.specs.declared.pools.expr.SymbolicExpr.{SymbolicExpr}
@@ -46,10 +46,10 @@ node_rest within (Mul x y d) = pair_pieces (wraps_product within) (Operand x Sum
 -- a number is below n
 abbrev pub IsPieceBelow : {F : Type 0} → ℕ → Piece F → Type 0
 IsPieceBelow n (Operand i within) = i < n
-IsPieceBelow n Plus = Unit {0}
-IsPieceBelow n Minus = Unit {0}
-IsPieceBelow n Times = Unit {0}
-IsPieceBelow n Close = Unit {0}
+IsPieceBelow n Plus = ⊤
+IsPieceBelow n Minus = ⊤
+IsPieceBelow n Times = ⊤
+IsPieceBelow n Close = ⊤
 
 -- more than the pieces that an expression gives
 abbrev pub shown_size : {A : Type 0} → Shown A → ℕ

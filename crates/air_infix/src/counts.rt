@@ -1,5 +1,5 @@
 //! How many places name each number, as far as it matters.
-ghost use Rattle.std.specs.Prelude.{◌≡◌, ℕ, ◌+◌, ◌<◌, ◌==◌, length, get_or, None, All, IfOk};
+ghost use Rattle.std.specs.Prelude.{◌≡◌, ℕ, ◌+◌, ◌<◌, ◌==◌, length, slice_index_or, None, All, IfOk};
 ghost use Rattle.std.specs.List.{count_by};
 ghost use Rattle.air_symbolic.specs.Nodes.{OperandsBelow};
 ghost use Rattle.air_symbolic.specs.Pools.{IsPool};

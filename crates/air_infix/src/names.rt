@@ -1,5 +1,5 @@
 //! Names for the nodes that several places name.
-ghost use Rattle.std.specs.Prelude.{◌≡◌, get_or, None};
+ghost use Rattle.std.specs.Prelude.{◌≡◌, slice_index_or, None};
 
 use air_symbolic::{ExprId, SymLeaf};
 use std::marker::Model;
@@ -22,7 +22,7 @@ impl<A: SymLeaf> Model for Names<A> {
 impl<A: SymLeaf> Names<A> {
     /// The name of an expression, if it has one.
     pub fn name(&self, id: ExprId<A>) -> Option<usize>
-        ensures { result ≡ get_or self.now.1 id None }
+        ensures { result ≡ slice_index_or self.now.1 id None }
     {
         match self.names.get(id.number()) {
             Some(name) => *name,

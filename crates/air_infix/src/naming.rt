@@ -1,5 +1,5 @@
 //! Who gets a name.
-ghost use Rattle.std.specs.Prelude.{◌≡◌, ℕ, ◌<◌, length, get_or, [], ◌∷◌, ◌++◌, Some, None, option_map, All, IfOk, OnOk, if◌then◌else◌};
+ghost use Rattle.std.specs.Prelude.{◌≡◌, ℕ, ◌<◌, length, slice_index_or, [], ◌∷◌, ◌++◌, Some, None, option_map, All, IfOk, OnOk, if◌then◌else◌};
 ghost use Rattle.std.specs.Option.{option_to_list};
 ghost use Rattle.air_symbolic.specs.Pools.{IsPool};
 ghost use Rattle.air_infix.specs.Names.{AreNames, passing_below, name_by, is_operation};
@@ -76,7 +76,7 @@ fn give_names<A: SymLeaf>(
     ensures named { IfOk result (λ n. n.0 ≡
         passing_below (passes pool.now.1 marks.now counts.now) (length pool.now.1)) }
     ensures each { IfOk result (λ n. (i : ℕ) →
-        get_or n.1 i None ≡ name_by (passes pool.now.1 marks.now counts.now) i) }
+        slice_index_or n.1 i None ≡ name_by (passes pool.now.1 marks.now counts.now) i) }
 {
     let mut named = Vec::new(alloc);
     let mut names = Vec::with_capacity(alloc, marks.len())?;

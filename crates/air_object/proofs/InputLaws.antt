@@ -16,7 +16,7 @@ use Rattle.air_object.specs.Input.{table_of, HasMatrixFault, SpellsInput, HasInp
 use Rattle.air_object.specs.declared.input.FlatInput.{FlatInput}
 use Rattle.air_object.specs.Members.{MemberValues, members}
 use Rattle.air_object.specs.Readers.{members_read}
-use Rattle.air_object.specs.laws.Agreement.{err_is}
+use Rattle.air_wire.specs.laws.Readings.{err_is}
 use Rattle.air_object.specs.laws.Members.{members_agree}
 
 module _ {F : Type 0} {order : ℕ} (modular : Modular F order) where

@@ -1,5 +1,5 @@
 -- What data spell, and the first fault of data that spell nothing.
-use Rattle.std.specs.Prelude.{◌≡◌, ℕ, List, [], ◌∷◌, Option, Some, None, ◌⊎◌}
+use Rattle.std.specs.Prelude.{◌≡◌, ℕ, List, [], ◌∷◌, Option, Some, None, ◌⊎◌, ⊤}
 use Rattle.serde_json.specs.Data.{Data, Items, no_items, item}
 use Rattle.serde_json.specs.Find.{get, as_array}
 use Rattle.air_wire.specs.Spelling.{HasField}
@@ -17,7 +17,7 @@ by_form {X} spells = record { spells = spells; fault = λ d f. ((x : X) → spel
 -- ---- lists, element by element
 
 abbrev pub AllSpell : {X : Type 0} → Grammar X → Items → List X → Type 0
-AllSpell g no_items [] = Unit {0}
+AllSpell g no_items [] = ⊤
 AllSpell g no_items (x ∷ xs) = ⊥
 AllSpell g (item d ds) [] = ⊥
 AllSpell g (item d ds) (x ∷ xs) = g.spells d x × AllSpell g ds xs
@@ -58,7 +58,7 @@ both {X} g h = record {
 
 -- there is a member of one of these names
 abbrev pub HasEither : List ℕ → List ℕ → Data → Type 0
-HasEither one other d = HasField one (λ _. Unit {0}) d ⊎ HasField other (λ _. Unit {0}) d
+HasEither one other d = HasField one (λ _. ⊤) d ⊎ HasField other (λ _. ⊤) d
 
 -- both members or neither: where one of them is there, so must the other be
 abbrev pub both_or_none : {X Y : Type 0} → List ℕ → Grammar X → List ℕ → Grammar Y → Grammar (Option (X × Y))

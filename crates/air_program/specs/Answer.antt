@@ -9,7 +9,7 @@ use Rattle.p3_air.specs.Theorem.{Instance, instance}
 use Rattle.p3_air.specs.Audits.{IsAuditUnder, IsDegreePast, AuditRefusesUnder}
 use Rattle.p3_air.specs.declared.audit.Audit.{Audit}
 use Rattle.air_core.specs.declared.errors.AirError.{AirError}
-use Rattle.air_program.specs.Fibonacci.{fibonacci_declaration}
+use Rattle.air_fibonacci.specs.Fibonacci.{fibonacci_declaration}
 use Rattle.air_program.specs.Parsing.{element_values}
 use Rattle.air_program.specs.Texts.{Found, found, IsFindingsText, findings_status}
 use Rattle.air_program.specs.Refusals.{IsRefusal}

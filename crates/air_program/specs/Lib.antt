@@ -2,7 +2,6 @@ pub mod Grammar
 pub mod Parsing
 pub mod Texts
 pub mod Refusals
-pub mod Fibonacci
 pub mod Answer
 pub mod FlatAnswer
 pub mod ByField

@@ -12,13 +12,13 @@ ghost use Rattle.air_program.specs.Requests.{Answers, MayRefuse};
 
 use crate::commands::{Command, Request};
 use crate::explain::answer_explain;
-use crate::fibonacci::Fibonacci;
 use crate::flat::answer_flat;
 use crate::input::{Input, ParseFault, parse};
 use crate::refusals::Refusal;
 use crate::show::answer_show;
 use crate::texts::{Findings, findings_text};
 use air_builder::AirError;
+use air_fibonacci::Fibonacci;
 use air_field::{BabyBear, PrimeField64, RowMajorMatrix};
 use p3_air::{Air, BaseAir, DebugConstraintBuilder, SymbolicAirBuilder, audit_air_with_cap};
 use std::alloc::Global;

@@ -1,10 +1,9 @@
-//! What the program does: its words, its input, its answers, and the Fibonacci AIR that it audits.
+//! What the program does: its words, its input and its answers.
 #![tactic(auto)]
 
 mod answer;
 mod commands;
 mod explain;
-pub mod fibonacci;
 mod flat;
 mod input;
 pub mod program;
@@ -12,8 +11,8 @@ pub mod refusals;
 mod show;
 mod texts;
 
+pub use air_fibonacci::Fibonacci;
 pub use air_object::{FieldName, FlatInput, field_of, flat_input_from};
 pub use air_streams::{ReadSource, Sink, Source, StreamFault, WriteSink};
-pub use fibonacci::Fibonacci;
 pub use program::{refuse, run};
 pub use refusals::Refusal;

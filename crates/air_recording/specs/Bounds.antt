@@ -2,7 +2,7 @@
 --
 -- In some domains the transition selector is a linear polynomial, in others one of about the trace's degree. A domain says
 -- which by a weight w: with 0 it is linear, with 1 and more it counts as w columns.
-use Rattle.std.specs.Prelude.{◌≡◌, ℕ, zero, suc, ◌+◌, ◌-◌, ◌*◌, ◌≤◌, ◌<◌, ◌^◌, List, All, get_or}
+use Rattle.std.specs.Prelude.{◌≡◌, ℕ, zero, suc, ◌+◌, ◌-◌, ◌*◌, ◌≤◌, ◌<◌, ◌^◌, List, All, slice_index_or}
 use Rattle.air_field.specs.Ring.{CommRing, AlgebraOver}
 use Rattle.air_field.specs.Term.{Leaf, Term}
 use Rattle.air_field.specs.Polynomial.{polynomial, HasDegreeAtMost}
@@ -18,7 +18,7 @@ DegreesWithin w bound ts = All (λ t. degree_by w t ≤ bound) ts
 
 -- each leaf's polynomial is within its weight
 abbrev pub LeavesWithin : {E : Type 0} → CommRing E → (Leaf → ℕ) → (Leaf → List E) → Type 0
-LeavesWithin r w s = (l : Leaf) → HasDegreeAtMost r (λ n. get_or (s l) n r.zero) (w l)
+LeavesWithin r w s = (l : Leaf) → HasDegreeAtMost r (λ n. slice_index_or (s l) n r.zero) (w l)
 
 -- the terms' polynomials have at most this degree wherever the leaves' are within their weights
 abbrev pub PolynomialsWithin : {F E : Type 0} → AlgebraOver F E → (Leaf → ℕ) → ℕ → List (Term F) → Type 0

@@ -1,5 +1,5 @@
 -- Horner's fold of the values of constraints, and its recombination from weights and coordinates.
-use Rattle.std.specs.Prelude.{◌≡◌, ℕ, zero, suc, List, [], ◌∷◌, ◌++◌, length, map, replicate, get_or}
+use Rattle.std.specs.Prelude.{◌≡◌, ℕ, zero, suc, List, [], ◌∷◌, ◌++◌, length, map, replicate, slice_index_or}
 use Rattle.air_field.specs.Ring.{CommRing, AlgebraOver}
 use Rattle.air_recording.specs.AlphaPowers.{alpha_power}
 use Rattle.air_recording.specs.Kinds.{is_base, is_extension, places_where}
@@ -12,7 +12,7 @@ sum_below r f (suc n) = r.add (sum_below r f n) (f n)
 
 -- the sum of the k values by powers of alpha: value i times alpha^(k-1-i)
 abbrev pub sum_by_powers : {E : Type 0} → CommRing E → E → List E → E
-sum_by_powers r alpha values = sum_below r (λ i. r.mul (alpha_power r alpha (length values) i) (get_or values i r.zero)) (length values)
+sum_by_powers r alpha values = sum_below r (λ i. r.mul (alpha_power r alpha (length values) i) (slice_index_or values i r.zero)) (length values)
 
 -- the element whose coefficient d is one, and whose others are zero
 abbrev pub basis_element : {F E : Type 0} → CommRing F → AlgebraOver F E → ℕ → E
@@ -29,7 +29,7 @@ weighted_sum r (w ∷ weights) (v ∷ values) = r.add (r.mul w v) (weighted_sum 
 abbrev pub recombination : {F E : Type 0} → CommRing F → AlgebraOver F E → List (List F) → List E → List E → List E → E
 recombination R a coordinates powers base extension =
     a.ring.add
-    (sum_below a.ring (λ d. weighted_sum a.ring (map (λ c. a.ring.mul (a.embed c) (basis_element R a d)) (get_or coordinates d [])) base) (length coordinates))
+    (sum_below a.ring (λ d. weighted_sum a.ring (map (λ c. a.ring.mul (a.embed c) (basis_element R a d)) (slice_index_or coordinates d [])) base) (length coordinates))
     (weighted_sum a.ring powers extension)
 
 -- the first list has the places of the base kinds, the second those of the extension kinds, in order
@@ -39,7 +39,7 @@ pub record ArePlacesOf (kinds : List ConstraintKind) (base_indices ext_indices :
 
 -- the values at these indices
 abbrev pub values_at : {E : Type 0} → CommRing E → List E → List ℕ → List E
-values_at r values indices = map (λ i. get_or values i r.zero) indices
+values_at r values indices = map (λ i. slice_index_or values i r.zero) indices
 
 -- Of constraints whose kinds stand at these indices, whatever their values, the recombination from these coordinates
 -- and powers is Horner's fold of all values in order. Of no constraints it is zero.

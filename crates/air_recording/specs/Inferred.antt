@@ -1,5 +1,5 @@
 -- The degree that is inferred, and where it is refused.
-use Rattle.std.specs.Prelude.{Result, Ok, Err, ◌≡◌, ◌⊎◌, ℕ, ◌≤◌, ◌^◌, max, List, [], ◌∷◌, ◌++◌, Vec, length, map}
+use Rattle.std.specs.Prelude.{Result, Ok, Err, ◌≡◌, ◌⊎◌, ℕ, ◌≤◌, ◌^◌, max, List, [], ◌∷◌, ◌++◌, Vec, length, map, ⊤}
 use Rattle.air_field.specs.Ring.{CommRing, AlgebraOver, itself}
 use Rattle.air_field.specs.Extension.{Basis}
 use Rattle.air_field.specs.Term.{Leaf, Term}
@@ -49,7 +49,7 @@ pub record IsInferred {F E : Type 0} (r : CommRing F) (over : AlgebraOver F E) (
 -- as the domain counts, passes `usize`, and for want of memory
 abbrev pub AnswersInferred : {F : Type 0} → ℕ → ℕ → List ℕ → List (Term F) → Result ℕ RingError → Type 0
 AnswersInferred w n periods us (Ok d) = IsDegreeFor w n periods us d
-AnswersInferred w n periods us (Err Memory) = Unit {0}
+AnswersInferred w n periods us (Err Memory) = ⊤
 AnswersInferred w n periods us (Err DegreeOverflow) = 2 ^ 64 ≤ greatest_degree (domain_weight w n periods) us
 
 -- of terms that record what is declared one has a degree past `usize` by these weights

@@ -1,5 +1,5 @@
 -- Layouts: as shapes, against what an AIR says it has, and of constraints.
-use Rattle.std.specs.Prelude.{◌≡◌, ◌≢◌, ℕ, ◌+◌, ◌<◌, ◌≤◌, ◌^◌, List, length, ◌++◌, All, Option, Some, vec_len, nat_le}
+use Rattle.std.specs.Prelude.{◌≡◌, ◌≢◌, ℕ, ◌+◌, ◌<◌, ◌≤◌, ◌^◌, List, length, ◌++◌, All, Option, Some, vec_len, nat_le, ⊤}
 use Rattle.std.specs.List.{find}
 use Rattle.air_field.specs.Assignment.{Shape, IsMissing}
 use Rattle.air_builder.specs.Declaration.{Declaration, table_width}
@@ -74,7 +74,7 @@ pub record IsWithinCount (l : ConstraintLayout) : Type 0 where
 -- want of memory, a count past `usize` (no memory holds so many indices), or the first index at or past the count, base
 -- indices first
 abbrev pub DecompositionRefuses : ConstraintLayout → AirError → Type 0
-DecompositionRefuses l Memory = Unit {0}
+DecompositionRefuses l Memory = ⊤
 DecompositionRefuses l CountOverflow = 2 ^ 64 ≤ constraint_count l
 DecompositionRefuses l (IndexPastTotal index total) =
     (total ≡ constraint_count l) × (first_past (constraint_count l) (constraint_indices l) ≡ Some index)

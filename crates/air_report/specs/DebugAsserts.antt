@@ -1,5 +1,5 @@
 -- What the debug builder does with an assertion that has no name.
-use Rattle.std.specs.Prelude.{◌≡◌, List, [], ◌∷◌, Bool, Result}
+use Rattle.std.specs.Prelude.{◌≡◌, List, [], ◌∷◌, Bool, Result, ⊤}
 use Rattle.air_field.specs.Ring.{CommRing, AlgebraOver}
 use Rattle.air_field.specs.Extension.{Basis}
 use Rattle.air_field.specs.Term.{Term, IsBase, with_leaves}
@@ -29,7 +29,7 @@ ExtMeansAtRow r a basis b x t = closed_value_in a (with_leaves (row_reads_as r a
 -- a call that asserts one element did what a call of any builder does
 abbrev pub AssertedAtRow : {F E X : Type 0} → (RowData F E → Assertion F → Bool)
     → (DebugConstraintBuilder F E → X → Assertion F → Type 0)
-    → DebugConstraintBuilder F E → DebugConstraintBuilder F E → X → Result (Unit {0}) AirError
+    → DebugConstraintBuilder F E → DebugConstraintBuilder F E → X → Result ⊤ AirError
     → Type 0
 AssertedAtRow zero asserts a b x result =
     AssertedEach asserts (λ c d. debug_row d ≡ debug_row c)

@@ -1,5 +1,5 @@
 -- How the debug builder logs an assertion, and how it grows by assertions that have labels.
-use Rattle.std.specs.Prelude.{◌≡◌, ℕ, ◌+◌, ◌^◌, List, [], ◌∷◌, ◌++◌, map, Bool, true, false, not, All, Option, Some, None, option_map, String, string_bytes}
+use Rattle.std.specs.Prelude.{◌≡◌, ℕ, ◌+◌, ◌^◌, List, [], ◌∷◌, ◌++◌, map, Bool, true, false, not, All, Option, Some, None, option_map, String, string_bytes, ⊤}
 use Rattle.std.specs.List.{AllZip, filter}
 use Rattle.air_builder.specs.Assertion.{Assertion}
 use Rattle.air_builder.specs.Labels.{Label, Unasked, Shown, Labelled, without_labels}
@@ -12,7 +12,7 @@ use Rattle.air_report.specs.declared.debug.failure.ConstraintFailure.{Constraint
 
 -- the label has the bytes of a text, and there is none where the text is empty; a text of which nothing is said gives any
 abbrev pub KeepsText : {A : Type 0} → Option (List ℕ) → Option (String A) → Type 0
-KeepsText None kept = Unit {0}
+KeepsText None kept = ⊤
 KeepsText (Some text) kept = option_map string_bytes kept ≡ kept_text text
 
 -- the failure keeps what its assertion's name displays, which was asked for

@@ -1,5 +1,5 @@
 -- Which preprocessed tables and periodic columns fit a trace.
-use Rattle.std.specs.Prelude.{◌≡◌, ◌≢◌, ℕ, ◌%◌, ◌^◌, ◌<◌, List, length, Option, Some, None, Result, Ok, Err, Vec, slice_index_or}
+use Rattle.std.specs.Prelude.{◌≡◌, ◌≢◌, ℕ, ◌%◌, ◌^◌, ◌<◌, List, length, Option, Some, None, Result, Ok, Err, Vec, slice_index_or, ⊤}
 use Rattle.air_field.specs.Grid.{Grid}
 use Rattle.air_core.specs.declared.errors.AirError.{AirError}
 use Rattle.air_core.specs.declared.errors.AirError.TheVariants.{PreprocessedHeight, PeriodNotPowerOfTwo, PeriodDoesNotDivide}
@@ -20,7 +20,7 @@ PeriodsFitBelow {T} {A} columns height n = (k : ℕ) (d : Vec T A) → k < n
     → IsPowerOfTwo (length (slice_index_or columns k d).items) × (height % length (slice_index_or columns k d).items ≡ 0)
 
 abbrev pub FitsHeight : Option ℕ → ℕ → Type 0
-FitsHeight None height = Unit {0}
+FitsHeight None height = ⊤
 FitsHeight (Some preprocessed) height = preprocessed ≡ height
 
 -- the table has the trace's height, and each period is a power of two that divides it
@@ -38,6 +38,6 @@ IsShapeFault {T} {A} columns height preprocessed (PeriodDoesNotDivide i n h) = F
 IsShapeFault columns height preprocessed _ = ⊥
 
 -- the shapes fit, or this is the first that doesn't
-abbrev pub MatchShapes : {T A : Type 0} → List (Vec T A) → ℕ → Option ℕ → Result (Unit {0}) AirError → Type 0
+abbrev pub MatchShapes : {T A : Type 0} → List (Vec T A) → ℕ → Option ℕ → Result ⊤ AirError → Type 0
 MatchShapes columns height preprocessed (Ok _) = ShapesFit columns height preprocessed
 MatchShapes columns height preprocessed (Err e) = IsShapeFault columns height preprocessed e

@@ -1,5 +1,5 @@
 -- What the leaves of base expressions mean.
-use Rattle.std.specs.Prelude.{Option, None, Some}
+use Rattle.std.specs.Prelude.{Option, None, Some, ⊤}
 use Rattle.air_field.specs.Term.{first_row, last_row, transition, Term, leaf_term, const_term}
 use Rattle.air_core.specs.Entries.{entry_leaf}
 use Rattle.air_symbolic.specs.Leaves.{Leaves}
@@ -21,11 +21,11 @@ base_constant IsTransition = None
 base_constant (Constant c) = Some c
 
 abbrev pub base_leaves : {F : Type 0} → Leaves (BaseLeaf F) F
-base_leaves = record { sound = Unit {0}; valid = λ _. Unit {0}; constant = base_constant; term = base_term }
+base_leaves = record { sound = ⊤; valid = λ _. ⊤; constant = base_constant; term = base_term }
 
 -- with nothing under the pool
-abbrev pub base_reads : {F : Type 0} → Unit {0} → Leaves (BaseLeaf F) F
+abbrev pub base_reads : {F : Type 0} → ⊤ → Leaves (BaseLeaf F) F
 base_reads _ = base_leaves
 
-abbrev pub base_grows : Unit {0} → Unit {0} → Type 0
-base_grows _ _ = Unit {0}
+abbrev pub base_grows : ⊤ → ⊤ → Type 0
+base_grows _ _ = ⊤

@@ -1,5 +1,5 @@
 -- Degrees by the numbers of a pool.
-use Rattle.std.specs.Prelude.{◌≡◌, ℕ, ◌+◌, max, List, length, get_or, Result, Err}
+use Rattle.std.specs.Prelude.{◌≡◌, ℕ, ◌+◌, max, List, length, slice_index_or, Result, Err, ⊤}
 use Rattle.air_field.specs.declared.errors.RingError.{RingError}
 use Rattle.air_field.specs.declared.errors.RingError.TheVariants.{Memory}
 use Rattle.air_symbolic.specs.PoolRefusals.{AnswersDegree}
@@ -8,7 +8,7 @@ use Rattle.air_symbolic.specs.declared.pools.expr.SymbolicExpr.TheVariants.{Leaf
 
 -- the answer at number i; past the end it says nothing of a degree
 abbrev pub answer_at : List (Result ℕ RingError) → ℕ → Result ℕ RingError
-answer_at table i = get_or table i (Err Memory)
+answer_at table i = slice_index_or table i (Err Memory)
 
 -- The table has n places, and answers the degree of each number at its place.
 pub record AnswersDegrees (degree : ℕ → ℕ) (n : ℕ) (table : List (Result ℕ RingError)) : Type 0 where
@@ -26,7 +26,7 @@ node_degree leaf degree (Mul x y d) = degree x + degree y
 -- a leaf that is a node is valid
 abbrev pub IsValidNode : {A : Type 0} → (A → Type 0) → SymbolicExpr A → Type 0
 IsValidNode valid (Leaf a) = valid a
-IsValidNode valid (Add x y d) = Unit {0}
-IsValidNode valid (Sub x y d) = Unit {0}
-IsValidNode valid (Neg x d) = Unit {0}
-IsValidNode valid (Mul x y d) = Unit {0}
+IsValidNode valid (Add x y d) = ⊤
+IsValidNode valid (Sub x y d) = ⊤
+IsValidNode valid (Neg x d) = ⊤
+IsValidNode valid (Mul x y d) = ⊤

@@ -1,5 +1,5 @@
 -- What the leaves of extension expressions mean, over a pool of base expressions.
-use Rattle.std.specs.Prelude.{List, [], Option, None}
+use Rattle.std.specs.Prelude.{List, [], Option, None, ⊤}
 use Rattle.air_field.specs.Extension.{Basis}
 use Rattle.air_field.specs.Term.{Term, leaf_term, ext_const_term}
 use Rattle.air_core.specs.ExtEntries.{ext_entry_leaf}
@@ -13,7 +13,7 @@ use Rattle.air_symbolic.specs.declared.leaves.ext_leaf.ExtLeaf.TheVariants.{Base
 
 -- a base pool, as contracts see it
 abbrev pub BaseNodes : Type 0 → Type 0
-BaseNodes F = Unit {0} × List (SymbolicExpr (BaseLeaf F))
+BaseNodes F = ⊤ × List (SymbolicExpr (BaseLeaf F))
 
 -- nothing under a new extension pool
 abbrev pub no_base_nodes : {F : Type 0} → BaseNodes F
@@ -26,8 +26,8 @@ ext_grows u v = Grown base_grows base_reads u v
 -- a Base leaf names an expression of the base pool
 abbrev pub ext_valid : {F EF : Type 0} → BaseNodes F → ExtLeaf F EF → Type 0
 ext_valid u (Base i) = PoolHas base_reads u i
-ext_valid u (ExtVariable v) = Unit {0}
-ext_valid u (ExtConstant c) = Unit {0}
+ext_valid u (ExtVariable v) = ⊤
+ext_valid u (ExtConstant c) = ⊤
 
 -- the term, a Base leaf having that of its base tree
 abbrev pub ext_term : {F EF : Type 0} → Basis F EF → BaseNodes F → ExtLeaf F EF → Term F

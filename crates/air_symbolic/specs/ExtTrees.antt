@@ -1,5 +1,5 @@
 -- The trees of extension expressions, in which a Base leaf holds a whole base tree.
-use Rattle.std.specs.Prelude.{◌≡◌, ℕ, ◌⊎◌}
+use Rattle.std.specs.Prelude.{◌≡◌, ℕ, ◌⊎◌, ⊤}
 use Rattle.air_field.specs.Extension.{Basis}
 use Rattle.air_symbolic.specs.Trees.{Tree, nothing, leaf_tree, add_tree, sub_tree, neg_tree, mul_tree, term_of}
 use Rattle.air_symbolic.specs.Pools.{tree_at, term_at, HasTree}
@@ -43,8 +43,8 @@ KeepsWholeTree {F = F} {EF = EF} basis p i =
 -- the leaf is of the extension alone
 abbrev pub IsExtOnly : {F EF : Type 0} → ExtLeaf F EF → Type 0
 IsExtOnly (Base i) = ⊥
-IsExtOnly (ExtVariable v) = Unit {0}
-IsExtOnly (ExtConstant c) = Unit {0}
+IsExtOnly (ExtVariable v) = ⊤
+IsExtOnly (ExtConstant c) = ⊤
 
 -- such a leaf occurs in the tree
 abbrev pub HasExtOnly : {F EF : Type 0} → Tree (ExtLeaf F EF) → Type 0

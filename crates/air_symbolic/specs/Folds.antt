@@ -1,5 +1,5 @@
 -- Which tree a folded operation answers: the first case that fits.
-use Rattle.std.specs.Prelude.{◌≡◌, ℕ, ◌<◌, Bool, cond, List, length, Option, None, Some}
+use Rattle.std.specs.Prelude.{◌≡◌, ℕ, ◌<◌, Bool, List, length, Option, None, Some, if◌then◌else◌}
 use Rattle.air_field.specs.Ring.{CommRing, minus}
 use Rattle.air_symbolic.specs.Leaves.{Leaves}
 use Rattle.air_symbolic.specs.Trees.{Tree, add_tree, sub_tree, neg_tree, mul_tree}
@@ -12,8 +12,8 @@ use Rattle.air_symbolic.specs.declared.pools.fold.Fold.TheVariants.{Constant, Le
 -- Of an operation that gives its left operand where the right one is zero; `from_zero` stands where the left one is.
 abbrev pub zero_fold : {F : Type 0} → CommRing F → (F → F → Bool) → (F → F → F) → Fold F → Option F → Option F → Option (Fold F)
 zero_fold r eq op from_zero (Some a) (Some b) = Some (Constant (op a b))
-zero_fold r eq op from_zero (Some a) None = cond (eq a r.zero) (Some from_zero) None
-zero_fold r eq op from_zero None (Some b) = cond (eq b r.zero) (Some Left) None
+zero_fold r eq op from_zero (Some a) None = if eq a r.zero then Some from_zero else None
+zero_fold r eq op from_zero None (Some b) = if eq b r.zero then Some Left else None
 zero_fold r eq op from_zero None None = None
 
 abbrev pub sum_fold : {F : Type 0} → CommRing F → (F → F → Bool) → Option F → Option F → Option (Fold F)
@@ -24,8 +24,10 @@ difference_fold r eq = zero_fold r eq (minus r) Negated
 
 abbrev pub product_fold : {F : Type 0} → CommRing F → (F → F → Bool) → Option F → Option F → Option (Fold F)
 product_fold r eq (Some a) (Some b) = Some (Constant (r.mul a b))
-product_fold r eq (Some a) None = cond (eq a r.zero) (Some (Constant r.zero)) (cond (eq a r.one) (Some Right) None)
-product_fold r eq None (Some b) = cond (eq b r.zero) (Some (Constant r.zero)) (cond (eq b r.one) (Some Left) None)
+product_fold r eq (Some a) None =
+    if eq a r.zero then Some (Constant r.zero) else (if eq a r.one then Some Right else None)
+product_fold r eq None (Some b) =
+    if eq b r.zero then Some (Constant r.zero) else (if eq b r.one then Some Left else None)
 product_fold r eq None None = None
 
 abbrev pub negative_fold : {F : Type 0} → CommRing F → Option F → Option (Fold F)

@@ -1,5 +1,5 @@
 -- Base numbers in place of the numbers of an extension pool.
-use Rattle.std.specs.Prelude.{◌≡◌, ℕ, ◌<◌, List, length, get_or, Option, None, Some}
+use Rattle.std.specs.Prelude.{◌≡◌, ℕ, ◌<◌, List, length, slice_index_or, Option, None, Some}
 use Rattle.air_symbolic.specs.Trees.{Tree, nothing, leaf_tree, add_tree, sub_tree, neg_tree, mul_tree}
 use Rattle.air_symbolic.specs.Nodes.{node_at, unfold_node, tree_of, NodeFits}
 use Rattle.air_symbolic.specs.Pools.{tree_at, HasTree}
@@ -31,7 +31,7 @@ IsLoweredIn p q i o = (b : ℕ) × (o ≡ Some b) × HasTree q.0 (lowered p.0 (t
 
 -- the table has at number i the base number that is i lowered
 abbrev pub LoweredAt : {F EF : Type 0} → ExtNodes F EF → List (Option ℕ) → ℕ → Type 0
-LoweredAt p table i = IsLoweredIn p p i (get_or table i None)
+LoweredAt p table i = IsLoweredIn p p i (slice_index_or table i None)
 
 -- the node n fits the base pool of p, and there is number i of p lowered
 abbrev pub IsLoweredNode : {F EF : Type 0} → ExtNodes F EF → ℕ → SymbolicExpr (BaseLeaf F) → Type 0

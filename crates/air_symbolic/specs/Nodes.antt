@@ -1,5 +1,5 @@
 -- A pool's nodes, the newest first, and what each number stands for.
-use Rattle.std.specs.Prelude.{◌≡◌, ℕ, ◌<◌, ◌+◌, ◌≢◌, max, List, [], ◌∷◌, length, cond, eqb, Option, None, Some}
+use Rattle.std.specs.Prelude.{◌≡◌, ℕ, ◌<◌, ◌+◌, ◌≢◌, max, List, [], ◌∷◌, length, Option, None, Some, ⊤, if◌then◌else◌, ◌==◌}
 use Rattle.air_field.specs.Degree.{degree_by, cached_weight}
 use Rattle.air_symbolic.specs.Leaves.{Leaves}
 use Rattle.air_symbolic.specs.Trees.{Tree, nothing, leaf_tree, add_tree, sub_tree, neg_tree, mul_tree, term_of}
@@ -17,12 +17,12 @@ unfold_node f (Mul x y d) = mul_tree (f x) (f y)
 -- the tree of number i: its nodes unfolded
 abbrev pub tree_of : {A : Type 0} → List (SymbolicExpr A) → ℕ → Tree A
 tree_of [] i = nothing
-tree_of (n ∷ older) i = cond (eqb i (length older)) (unfold_node (tree_of older) n) (tree_of older i)
+tree_of (n ∷ older) i = if i == length older then unfold_node (tree_of older) n else tree_of older i
 
 -- the node of number i
 abbrev pub node_at : {A : Type 0} → List (SymbolicExpr A) → ℕ → Option (SymbolicExpr A)
 node_at [] i = None
-node_at (n ∷ older) i = cond (eqb i (length older)) (Some n) (node_at older i)
+node_at (n ∷ older) i = if i == length older then Some n else node_at older i
 
 -- the degree of number i by the cached weights
 abbrev pub cached_degree : {A F : Type 0} → Leaves A F → List (SymbolicExpr A) → ℕ → ℕ
@@ -46,17 +46,17 @@ NodeFits l ns (Mul x y d) = (x < length ns) × (y < length ns) × (d ≡ cached_
 
 -- n is none of ns
 abbrev pub Absent : {A : Type 0} → SymbolicExpr A → List (SymbolicExpr A) → Type 0
-Absent n [] = Unit {0}
+Absent n [] = ⊤
 Absent n (m ∷ ms) = (m ≢ n) × Absent n ms
 
 -- each node fits those before it, and none is there twice
 abbrev pub WellFormed : {A F : Type 0} → Leaves A F → List (SymbolicExpr A) → Type 0
-WellFormed l [] = Unit {0}
+WellFormed l [] = ⊤
 WellFormed l (n ∷ older) = NodeFits l older n × Absent n older × WellFormed l older
 
 -- the operands of a node are below k
 abbrev pub OperandsBelow : {A : Type 0} → ℕ → SymbolicExpr A → Type 0
-OperandsBelow k (Leaf a) = Unit {0}
+OperandsBelow k (Leaf a) = ⊤
 OperandsBelow k (Add x y d) = (x < k) × (y < k)
 OperandsBelow k (Sub x y d) = (x < k) × (y < k)
 OperandsBelow k (Neg x d) = x < k

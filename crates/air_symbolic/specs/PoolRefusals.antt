@@ -1,5 +1,5 @@
 -- What a pool may refuse.
-use Rattle.std.specs.Prelude.{Result, Ok, Err, ◌≡◌, ℕ, ◌≤◌, ◌^◌}
+use Rattle.std.specs.Prelude.{Result, Ok, Err, ◌≡◌, ℕ, ◌≤◌, ◌^◌, ⊤}
 use Rattle.air_field.specs.Term.{Term}
 use Rattle.air_field.specs.Degree.{degree_by, cached_weight}
 use Rattle.air_field.specs.declared.errors.RingError.{RingError}
@@ -7,11 +7,11 @@ use Rattle.air_field.specs.declared.errors.RingError.TheVariants.{Memory, Degree
 
 -- Memory is refused anywhere, a degree only where it passes `usize`.
 abbrev pub PoolRefuses : {F : Type 0} → RingError → Term F → Type 0
-PoolRefuses Memory t = Unit {0}
+PoolRefuses Memory t = ⊤
 PoolRefuses DegreeOverflow t = 2 ^ 64 ≤ degree_by cached_weight t
 
 -- the answer is the degree d, or want of memory, or a refusal where d passes `usize`
 abbrev pub AnswersDegree : ℕ → Result ℕ RingError → Type 0
 AnswersDegree d (Ok n) = n ≡ d
-AnswersDegree d (Err Memory) = Unit {0}
+AnswersDegree d (Err Memory) = ⊤
 AnswersDegree d (Err DegreeOverflow) = 2 ^ 64 ≤ d

@@ -1,5 +1,5 @@
 -- The numbers of a pool that roots reach.
-use Rattle.std.specs.Prelude.{◌≡◌, ◌⊎◌, ℕ, List, length, get_or, All, Contains, Option, None, Some}
+use Rattle.std.specs.Prelude.{◌≡◌, ◌⊎◌, ℕ, List, length, slice_index_or, All, Contains, Option, None, Some, ⊤}
 use Rattle.air_symbolic.specs.Leaves.{Leaves}
 use Rattle.air_symbolic.specs.Nodes.{IsNode}
 use Rattle.air_symbolic.specs.declared.pools.expr.SymbolicExpr.{SymbolicExpr}
@@ -7,7 +7,7 @@ use Rattle.air_symbolic.specs.declared.pools.expr.SymbolicExpr.TheVariants.{Leaf
 
 -- each operand of a node has the property
 abbrev pub EachOperand : {A : Type 0} → (ℕ → Type 0) → SymbolicExpr A → Type 0
-EachOperand P (Leaf a) = Unit {0}
+EachOperand P (Leaf a) = ⊤
 EachOperand P (Add x y d) = P x × P y
 EachOperand P (Sub x y d) = P x × P y
 EachOperand P (Neg x d) = P x
@@ -28,17 +28,17 @@ pub data ReachedFrom {A F : Type 0} (l : Leaves A F) (ns : List (SymbolicExpr A)
 
 -- number i is marked: its place holds it
 abbrev pub Marked : List (Option ℕ) → ℕ → Type 0
-Marked marks i = get_or marks i None ≡ Some i
+Marked marks i = slice_index_or marks i None ≡ Some i
 
 -- Further numbers were marked, which have the property.
 pub record MarkedMore (P : ℕ → Type 0) (old new : List (Option ℕ)) : Type 0 where
   pub places : length new ≡ length old
   pub stays : (i : ℕ) → Marked old i → Marked new i
-  pub only : (i j : ℕ) → get_or new i None ≡ Some j → (get_or old i None ≡ Some j) ⊎ ((j ≡ i) × P i)
+  pub only : (i j : ℕ) → slice_index_or new i None ≡ Some j → (slice_index_or old i None ≡ Some j) ⊎ ((j ≡ i) × P i)
 
 -- Of ns nodes the numbers that the roots reach are marked, and no others.
 pub record Reached {A F : Type 0} (l : Leaves A F) (ns : List (SymbolicExpr A)) (roots : List ℕ) (marks : List (Option ℕ)) : Type 0 where
   pub places : length marks ≡ length ns
   pub roots_marked : All (λ i. Marked marks i) roots
   pub operands_marked : (i : ℕ) (n : SymbolicExpr A) → Marked marks i → IsNode l ns i n → EachOperand (λ j. Marked marks j) n
-  pub only_reached : (i j : ℕ) → get_or marks i None ≡ Some j → (j ≡ i) × ReachedFrom l ns roots i
+  pub only_reached : (i j : ℕ) → slice_index_or marks i None ≡ Some j → (j ≡ i) × ReachedFrom l ns roots i

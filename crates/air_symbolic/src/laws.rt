@@ -1,5 +1,5 @@
 //! What callers rely on, as the contracts of functions.
-ghost use Rattle.std.specs.Prelude.{◌≡◌, ℕ, ◌<◌, ◌≤◌, ◌↔◌, List, length, IsTrue, get_or};
+ghost use Rattle.std.specs.Prelude.{◌≡◌, ℕ, ◌<◌, ◌≤◌, ◌↔◌, List, length, IsTrue, slice_index_or};
 ghost use Rattle.std.specs.Ordering.{nat_cmp};
 ghost use Rattle.air_field.specs.Ring.{AlgebraOver, AlgebraOverLaws};
 ghost use Rattle.air_field.specs.Term.{Leaf, Term};
@@ -60,7 +60,7 @@ pub fn degree_is_kept<A: SymLeaf>(_pool: &ExprPool<A>, _x: ExprId<A>)
 /// Where each leaf's polynomial is within the leaf's weight, that of an expression is within its degree.
 pub fn polynomial_is_within_degree<E, A: SymLeaf>(_pool: &ExprPool<A>, _x: ExprId<A>)
     ensures { (a : AlgebraOver A.F E) (s : Leaf → List E) (w : Leaf → ℕ)
-        → ((l : Leaf) → HasDegreeAtMost a.ring (λ n. get_or (s l) n a.ring.zero) (w l))
+        → ((l : Leaf) → HasDegreeAtMost a.ring (λ n. slice_index_or (s l) n a.ring.zero) (w l))
         → HasDegreeAtMost a.ring (polynomial a s (term_at A.reads _pool.now _x))
         (degree_by w (term_at A.reads _pool.now _x)) }
 {}

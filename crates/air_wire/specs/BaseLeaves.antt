@@ -1,5 +1,5 @@
 -- Base leaves: how they are spelt, and how they are read in a node.
-use Rattle.std.specs.Prelude.{◌≡◌, ℕ, ◌≤◌, List, [], ◌∷◌, Option, Some, None, Result, Ok, Err, option_map, codes, if◌then◌else◌, nat_lt, bytes_eq, ok_or, refl}
+use Rattle.std.specs.Prelude.{◌≡◌, ℕ, ◌≤◌, List, [], ◌∷◌, Option, Some, None, Result, Ok, Err, option_map, codes, if◌then◌else◌, nat_lt, bytes_eq, ok_or, refl, ⊤}
 use Rattle.serde_json.specs.Data.{Data, string}
 use Rattle.serde_json.specs.Find.{as_str}
 use Rattle.air_field.specs.Modular.{Modular}
@@ -80,7 +80,7 @@ abbrev pub base_kind : {F : Type 0} {p : ℕ} → Modular F p → Kind (BaseLeaf
 base_kind m = record { spells = SpellsLeaf m; writes = WritesLeaf m; fault = LeafFault m; leaf_at = leaf_at m; term = base_term }
 
 -- a base leaf holds no number
-abbrev pub base_seen : {F : Type 0} → Unit {0} → BaseLeaf F → BaseLeaf F
+abbrev pub base_seen : {F : Type 0} → ⊤ → BaseLeaf F → BaseLeaf F
 base_seen u a = a
 
 pub base_wire_laws : {F : Type 0} → WireLaws (base_reads {F = F}) base_grows base_seen base_term

@@ -1,5 +1,5 @@
 -- Which values are lists of nodes, and which tree each is.
-use Rattle.std.specs.Prelude.{◌≡◌, ℕ, ◌+◌, ◌<◌, ◌^◌, ◌⊎◌, max, List, [], ◌∷◌, ◌++◌, Some, None, codes}
+use Rattle.std.specs.Prelude.{◌≡◌, ℕ, ◌+◌, ◌<◌, ◌^◌, ◌⊎◌, max, List, [], ◌∷◌, ◌++◌, Some, None, codes, ⊤}
 use Rattle.std.specs.List.{slice_get}
 use Rattle.serde_json.specs.Data.{Data, Items, no_items, item}
 use Rattle.serde_json.specs.Find.{as_array}
@@ -34,7 +34,7 @@ SpellsNode kind done d (mul_tree t u) = IsCase (codes "Mul") (HasTwoOperands don
 
 -- the values are nodes with these trees, each behind those before it
 abbrev pub AreNodes : {S F : Type 0} → Kind S F → List (Tree S) → Items → List (Tree S) → Type 0
-AreNodes kind done no_items [] = Unit {0}
+AreNodes kind done no_items [] = ⊤
 AreNodes kind done no_items (t ∷ ts) = ⊥
 AreNodes kind done (item d ds) [] = ⊥
 AreNodes kind done (item d ds) (t ∷ ts) = SpellsNode kind done d t × AreNodes kind (done ++ t ∷ []) ds ts

@@ -1,5 +1,5 @@
 -- The list of nodes that is written for a tree.
-use Rattle.std.specs.Prelude.{◌≡◌, ℕ, ◌+◌, ◌<◌, ◌^◌, ◌⊎◌, max, List, [], ◌∷◌, ◌++◌, Some, codes}
+use Rattle.std.specs.Prelude.{◌≡◌, ℕ, ◌+◌, ◌<◌, ◌^◌, ◌⊎◌, max, List, [], ◌∷◌, ◌++◌, Some, codes, ⊤}
 use Rattle.std.specs.List.{slice_get}
 use Rattle.serde_json.specs.Data.{Data, array, object, member, no_members}
 use Rattle.serde_json.specs.View.{items_of}
@@ -55,7 +55,7 @@ IsWrittenNode kind done d (mul_tree t u) = WritesTwo (codes "Mul") done t u (deg
 
 -- the values are what is written for these trees, each behind those before it
 unfoldable pub AreWritten : {S F : Type 0} → Kind S F → List (Tree S) → List Data → List (Tree S) → Type 0
-AreWritten kind done [] [] = Unit {0}
+AreWritten kind done [] [] = ⊤
 AreWritten kind done [] (t ∷ ts) = ⊥
 AreWritten kind done (d ∷ ds) [] = ⊥
 AreWritten kind done (d ∷ ds) (t ∷ ts) = IsWrittenNode kind done d t × AreWritten kind (done ++ t ∷ []) ds ts

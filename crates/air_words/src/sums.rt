@@ -4,7 +4,7 @@ ghost use Rattle.air_field.specs.Algebra.{scaled_term};
 ghost use Rattle.air_field.specs.Ring.{image};
 ghost use Rattle.air_builder.specs.Assertion.{Base};
 ghost use Rattle.air_gadgets.specs.Gadgets.{less_two_term, less_three_term, raised_term, carry_term, times_raised_term, whole_term, carried_terms, add2_terms, add3_terms};
-ghost use Rattle.air_author.specs.Constraints.{AssertedIn};
+ghost use Rattle.air_builder.specs.Batches.{AssertedIn};
 ghost use Rattle.air_author.specs.Expressions.{Lasts};
 ghost use Rattle.air_words.specs.WordTerms.{limbs, all_vanish};
 

@@ -6,20 +6,24 @@ use Rattle.air_builder.specs.Assertion.{Assertion}
 use Rattle.air_builder.specs.Builders.{MeansIn, BuilderView, RingLaws, BuilderLaws}
 use Rattle.air_builder.specs.Refusals.{PartOf}
 use Rattle.air_builder.specs.laws.Filters.{means_kept}
-use Rattle.cases_airs.specs.Differing.{differing, RowMeans}
+use Rattle.cases_airs.specs.Differing.{differing_asserts, RowMeans}
 use Rattle.air_builder.specs.Notation.{current}
 
-pub part_x : {F : Type 0} (one : F) → PartOf (current 0) (differing one)
+pub part_x : {F : Type 0} (one : F) → PartOf (current 0) (differing_asserts one)
 part_x one = inl (in_mul_right (in_mul_left whole))
 
-pub part_y : {F : Type 0} (one : F) → PartOf (current 1) (differing one)
+pub part_y : {F : Type 0} (one : F) → PartOf (current 1) (differing_asserts one)
 part_y one = inl (in_mul_left (in_sub_left whole))
 
-pub part_z : {F : Type 0} (one : F) → PartOf (current 2) (differing one)
+pub part_z : {F : Type 0} (one : F) → PartOf (current 2) (differing_asserts one)
 part_z one = inl (in_mul_left (in_sub_right whole))
 
-pub part_condition : {F : Type 0} (one : F) → PartOf (sub_term (current 1) (current 2)) (differing one)
+pub part_condition : {F : Type 0} (one : F) → PartOf (sub_term (current 1) (current 2)) (differing_asserts one)
 part_condition one = inl (in_mul_left whole)
+
+pub always : {T X P : Type 0} (r : Result T X) → P → OnOk r P
+always (Ok u) h = h
+always (Err e) h = tt
 
 pub on_ok : {T X P Q : Type 0} (r : Result T X) → (P → Q) → OnOk r P → OnOk r Q
 on_ok (Ok u) f h = f h

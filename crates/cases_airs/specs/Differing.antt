@@ -6,8 +6,8 @@ use Rattle.air_builder.specs.Notation.{current, ◌⊖◌, ◌≐◌, boolean, w
 use Rattle.air_builder.specs.Refusals.{PartOf}
 
 -- where y and z differ: x is a bit, and x is y
-abbrev pub differing : {F : Type 0} → F → List (Assertion F)
-differing one = when (current 1 ⊖ current 2) (boolean one (current 0) ++ current 0 ≐ current 1)
+abbrev pub differing_asserts : {F : Type 0} → F → List (Assertion F)
+differing_asserts one = when (current 1 ⊖ current 2) (boolean one (current 0) ++ current 0 ≐ current 1)
 
 -- each cell means its column
 pub record RowMeans {E F : Type 0} (means : E → Term F → Type 0) (x y z : E) : Type 0 where

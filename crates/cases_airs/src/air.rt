@@ -6,7 +6,7 @@ ghost use Rattle.p3_air.specs.FlatAirs.{zero_at_roots};
 use crate::differing::assert_differing;
 use crate::handed::assert_handed;
 use crate::lists::{BaseList, Constraints, Declared, LabelledList, PermutationList};
-use air_program::Fibonacci;
+use air_fibonacci::Fibonacci;
 use p3_air::author::{
     Challenge, Current, Difference, ExtNamed, ExtZero, Lifted, Named, PermutationCurrent,
     PermutationValue, Power, Product, Zero, assert_all,

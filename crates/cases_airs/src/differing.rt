@@ -1,12 +1,12 @@
 //! An AIR whose `eval` is written against the calls of the builder, under a condition that is a difference.
-ghost use Rattle.std.specs.Prelude.{◌≡◌, ◌⊎◌, OnOk, OnErr, IfOk, IfErr, []};
+ghost use Rattle.std.specs.Prelude.{OnOk, OnErr, IfOk, IfErr, []};
 ghost use Rattle.air_field.specs.Term.{main, leaf_term};
-ghost use Rattle.air_builder.specs.Batches.{GrewByFirst};
+ghost use Rattle.air_builder.specs.Batches.{GrewByFirst, Evaluates};
 ghost use Rattle.air_builder.specs.Builders.{Means};
 ghost use Rattle.air_builder.specs.Refusals.{NoneMissing};
-ghost use Rattle.cases_airs.specs.Differing.{differing, RowMeans, RefusesPart};
+ghost use Rattle.cases_airs.specs.Differing.{differing_asserts, RowMeans, RefusesPart};
 
-use p3_air::{AirBuilder, AirError, Algebra, BaseEntry, FromVar};
+use p3_air::{AirBuilder, AirError, Algebra, BaseEntry, FromVar, View};
 
 /// The cells of a row.
 #[derive(Clone, Copy)]
@@ -41,8 +41,9 @@ fn read_row<AB: AirBuilder>(builder: &mut AB) -> Result<Row<AB::Expr>, AirError>
     ensures keeps { AB.grew builder.old builder.new [] }
     ensures made { IfOk result (λ row. RowMeans
         (Means AB.Ring.means AB.ring_of AB.reads_as builder.new) row.x row.y row.z) }
-    ensures there { OnOk result (NoneMissing (AB.missing builder.old) (differing AB.F.ONE)) }
-    ensures refused { IfErr result (λ e. AB.refuses builder.old e (differing AB.F.ONE)) }
+    ensures there { OnOk result (NoneMissing (AB.missing builder.old)
+        (differing_asserts AB.F.ONE)) }
+    ensures refused { IfErr result (λ e. AB.refuses builder.old e (differing_asserts AB.F.ONE)) }
 {
     let x = read_cell(builder, 0)?;
     let y = read_cell(builder, 1)?;
@@ -55,9 +56,10 @@ fn assert_row<AB: AirBuilder>(builder: &mut AB, row: Row<AB::Expr>) -> Result<()
     requires means { RowMeans (Means AB.Ring.means AB.ring_of AB.reads_as builder.old) row.x row.y
         row.z }
     ensures keeps { AB.kept builder.old builder.new }
-    ensures ok { OnOk result (AB.grew builder.old builder.new (differing AB.F.ONE)) }
-    ensures err { OnErr result (GrewByFirst AB.grew builder.old builder.new (differing AB.F.ONE)) }
-    ensures refused { IfErr result (λ e. AB.refuses builder.old e (differing AB.F.ONE)) }
+    ensures ok { OnOk result (AB.grew builder.old builder.new (differing_asserts AB.F.ONE)) }
+    ensures err { OnErr result (GrewByFirst AB.grew builder.old builder.new
+        (differing_asserts AB.F.ONE)) }
+    ensures refused { IfErr result (λ e. AB.refuses builder.old e (differing_asserts AB.F.ONE)) }
 {
     let condition = builder.difference(row.y, row.z)?;
     let mut filter = builder.when(condition)?;
@@ -69,12 +71,8 @@ fn assert_row<AB: AirBuilder>(builder: &mut AB, row: Row<AB::Expr>) -> Result<()
 /// Columns x, y and z: where y and z differ, x is a bit, and it is y.
 pub fn assert_differing<AB: AirBuilder>(builder: &mut AB) -> Result<(), AirError>
     requires { AB.ready builder.old }
-    ensures ok { OnOk result (AB.grew builder.old builder.new (differing AB.F.ONE)) }
-    ensures there { OnOk result (NoneMissing (AB.missing builder.old) (differing AB.F.ONE)) }
-    ensures keeps { AB.kept builder.old builder.new }
-    ensures err { OnErr result (GrewByFirst AB.grew builder.old builder.new (differing AB.F.ONE)) }
-    ensures refused { IfErr result (λ e. (e ≡ AirError.Memory) ⊎ AB.refuses builder.old e
-        (differing AB.F.ONE)) }
+    ensures { Evaluates ⟦<AB as View>⟧.view builder.old builder.new result
+        (differing_asserts AB.F.ONE) }
 {
     let row = read_row(builder)?;
     assert_row(builder, row)

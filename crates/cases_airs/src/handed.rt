@@ -3,14 +3,14 @@ ghost use Rattle.std.specs.Prelude.{[], ◌∷◌};
 ghost use Rattle.air_field.specs.Term.{main, transition, leaf_term, mul_term, sub_term};
 ghost use Rattle.air_builder.specs.Assertion.{Base};
 ghost use Rattle.air_builder.specs.Builders.{Means};
-ghost use Rattle.air_author.specs.Constraints.{Asserted};
+ghost use Rattle.air_builder.specs.Batches.{Asserted, Evaluates};
 ghost use Rattle.air_author.specs.Expressions.{Lasts, Holds};
 ghost use Rattle.cases_airs.specs.Handed.{handed};
 
 use p3_air::author::{
     Already, Current, Equal, Expression, Next, Sum, Transition, When, assert_these,
 };
-use p3_air::{AirBuilder, AirError};
+use p3_air::{AirBuilder, AirError, View};
 
 /// The gadget: column 1 of the next row is x, which was made of a value.
 fn next_is<AB: AirBuilder, X: Expression<AB>>(
@@ -34,7 +34,7 @@ fn next_is<AB: AirBuilder, X: Expression<AB>>(
 /// Column 1 of the next row is the sum of this row's columns.
 pub fn assert_handed<AB: AirBuilder>(builder: &mut AB) -> Result<(), AirError>
     requires { AB.ready builder.old }
-    ensures { Asserted AB.kept AB.grew AB.missing AB.refuses builder.old builder.new result handed }
+    ensures { Evaluates ⟦<AB as View>⟧.view builder.old builder.new result handed }
 {
     let sum = Sum(Current(0), Current(1));
     let x = sum.make(builder)?;

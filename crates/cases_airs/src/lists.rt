@@ -37,9 +37,9 @@ impl Clone for BaseList {
 impl Copy for BaseList {}
 
 impl<F: Field> Declared<F> for BaseList {
-    ghost use Rattle.air_program.specs.Fibonacci.{fibonacci};
+    ghost use Rattle.air_fibonacci.specs.Fibonacci.{fibonacci};
     ghost use Rattle.cases_airs.specs.declared.lists.BaseList.TheVariants.{Lines, Fibonacci, FibonacciNamed, Steep, Handed, Differing};
-    ghost use Rattle.cases_airs.specs.Differing.{differing};
+    ghost use Rattle.cases_airs.specs.Differing.{differing_asserts};
     ghost use Rattle.cases_airs.specs.Handed.{handed};
     ghost use Rattle.cases_airs.specs.TableAirs.{steep};
 
@@ -49,7 +49,7 @@ impl<F: Field> Declared<F> for BaseList {
       | FibonacciNamed ↦ fibonacci
       | Steep n ↦ steep F.ring.one n
       | Handed ↦ handed
-      | Differing ↦ differing F.ONE
+      | Differing ↦ differing_asserts F.ONE
     ] };
 }
 

@@ -1,40 +1,11 @@
 //! Names whose texts stand in a table.
-ghost use Rattle.std.specs.Prelude.{◌≡◌, Some};
 
-use air_core::{Element, Name, Namespace, NamespaceExt};
+use air_core::{Element, Name, NamespaceExt};
 use cases::words::count_of;
 use cases::{Fault, Why};
-use std::alloc::{AllocError, Global};
+use cases_assertions::Label;
+use std::alloc::Global;
 use std::string::ToString;
-
-/// The name of a word; `-` is the empty one.
-#[derive(Clone, Copy, Drop)]
-pub struct Label<'a>(&'a str);
-
-impl<'a> Label<'a> {
-    pub fn new(word: &'a str) -> Self {
-        match word {
-            "-" => Label(""),
-            _ => Label(word),
-        }
-    }
-}
-
-impl<'a> Name for Label<'a> {
-    type Output = &'a str;
-
-    ghost can_evaluate = { λ _. Unit {0} };
-
-    ghost displays = { λ name text. text ≡ Some name.0.now };
-
-    fn evaluate(self) -> Result<&'a str, AllocError> {
-        Ok(self.0)
-    }
-}
-
-impl<'a> Namespace for Label<'a> {}
-
-impl<'a> NamespaceExt for Label<'a> {}
 
 // Adds a name's text.
 fn show_name<N: Name>(alloc: Global, name: N, text: &mut String) -> Result<(), Fault>

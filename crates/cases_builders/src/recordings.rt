@@ -3,13 +3,13 @@ ghost use Rattle.std.specs.Prelude.{IfOk};
 ghost use Rattle.air_symbolic.specs.ExtLeaves.{ext_reads};
 ghost use Rattle.air_symbolic.specs.Pools.{IsPool};
 
-use crate::filters::assert_all;
 use crate::trees::{show_tree, show_value};
 use air_builder::AirBuilder;
 use air_field::{BabyBear, BinomialExtensionField, ExtensionField, Field};
 use air_recording::{AirLayout, Recorded, SymbolicAirBuilder};
 use cases::words::Number;
 use cases::{Bench, Fault, Line};
+use cases_assertions::assert_all;
 use p3_air::finish_recording;
 use std::alloc::Global;
 

@@ -1,11 +1,11 @@
 //! Assertions that are evaluated at one row without columns: each line has a builder of its own.
 
-use crate::filters::assert_all;
 use air_builder::AirBuilder;
 use air_field::{BabyBear, BinomialExtensionField, RowMajorMatrixView, ViewPair};
 use air_report::DebugConstraintBuilder;
 use cases::words::element_of;
 use cases::{Bench, Fault, Line};
+use cases_assertions::assert_all;
 use std::alloc::Global;
 
 #[derive(Drop)]

@@ -55,8 +55,8 @@ fn two_of<F: Field>(alloc: Global, word: &str) -> Result<Two<F>, Fault> {
     })
 }
 
-/// An element of the extension: its coefficients, which `.` separates.
-pub fn element_of_extension<F: Field, EF: ExtensionField<F>>(
+// An element of the extension: its coefficients, which `.` separates.
+fn element_of_extension<F: Field, EF: ExtensionField<F>>(
     alloc: Global,
     word: &str,
 ) -> Result<EF, Fault> {
@@ -130,23 +130,16 @@ impl<F: Field, EF: ExtensionField<F>> Row<F, EF> {
     }
 }
 
-/// Whether a word is a call on the row's builder.
-pub fn is_call(word: &str) -> bool {
-    word.starts_with("assert") || word.starts_with("when") || word.starts_with("eval")
-}
-
-/// The row of the words `KEY:VALUE` among these.
+/// The row of the words `KEY:VALUE`.
 pub fn row_of<F: Field, EF: ExtensionField<F>>(
     alloc: Global,
     words: &[&str],
 ) -> Result<Row<F, EF>, Fault> {
     let mut row = Row::new(alloc);
     for word in words {
-        if !is_call(*word) {
-            match word.split_once(':') {
-                Some((key, value)) => row.set(alloc, key, value)?,
-                None => return Err(Fault::Unreadable(Why::NoSuchWord)),
-            }
+        match word.split_once(':') {
+            Some((key, value)) => row.set(alloc, key, value)?,
+            None => return Err(Fault::Unreadable(Why::NoSuchWord)),
         }
     }
     Ok(row)

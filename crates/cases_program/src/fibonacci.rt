@@ -1,8 +1,8 @@
 //! Fibonacci in each call that records, checks or audits.
 
 use crate::checks::{show_check, show_report};
+use air_fibonacci::Fibonacci;
 use air_field::{BabyBear, RowMajorMatrix};
-use air_program::Fibonacci;
 use cases::words::{count_of, listed_elements};
 use cases::{Fault, Why};
 use p3_air::{

@@ -3,8 +3,8 @@ ghost use Rattle.std.specs.Prelude.{⊤, None, []};
 ghost use Rattle.air_builder.specs.Declaration.{plain_declaration};
 
 use air_builder::{AirError, BaseAir, BoundaryPublic};
+use air_fibonacci::Fibonacci;
 use air_field::{BabyBear, RowMajorMatrix};
-use air_program::Fibonacci;
 use cases::{Fault, Why};
 use std::alloc::Global;
 
@@ -14,7 +14,7 @@ struct OneHint;
 impl BaseAir<BabyBear> for OneHint {
     ghost declaration = { λ _. plain_declaration [] 3 0 };
 
-    ghost has_own_next_row_columns = { λ _. Unit {0} };
+    ghost has_own_next_row_columns = { λ _. ⊤ };
 
     fn width(&self) -> usize {
         3

@@ -8,12 +8,10 @@ use Rattle.air_core.specs.declared.errors.AirError.{AirError}
 use Rattle.air_builder.specs.Assertion.{Assertion, Base}
 use Rattle.air_builder.specs.laws.Zips.{AllZip-take}
 use Rattle.std.proofs.lemmas.Slice.Zip.{AllZip-long}
-use Rattle.air_builder.specs.Batches.{AssertsOf, AssertedEach}
+use Rattle.air_builder.specs.Batches.{AssertsOf, AssertedEach, Asserted, OrMemory}
 use Rattle.air_builder.specs.Builders.{MeansIn, BuilderView, RingLaws, BuilderLaws}
 use Rattle.air_builder.specs.Refusals.{PartOf, EachLeaf, EachLeafOf}
 use Rattle.air_builder.specs.laws.Refusals.{none_missing}
-use Rattle.air_author.specs.Constraints.{Asserted}
-use Rattle.p3_air.specs.Tables.{OrMemory}
 
 all_cons : {X : Type 0} (P : X → Type 0) (x : X) (xs : List X) → P x → All P xs → All P (x ∷ xs)
 all_cons P x xs p h zero d lt = p
@@ -77,6 +75,16 @@ module _ {S R E F : Type 0} {view : BuilderView S R E F} (ring : RingLaws view) 
         };
         refused = inr (laws.refuses_then a b e [] ss g (h.refused ss each));
       }
+
+  -- of no roots nothing is asserted
+  pub none_asserted : (a : S) → Asserted kept grew missing (OrMemory refuses) a a (Ok tt) []
+  none_asserted a = let none : List (Assertion F) = [] in record {
+    keeps = laws.by_growth a a [] (laws.same a);
+    ok = laws.same a;
+    there = none_missing (missing a) none tt;
+    err = tt;
+    refused = tt;
+  }
 
   -- the making of the expressions was refused
   pub making_refused : (a b : S) (e : AirError) (ts : List (Term F)) → 0 < length ts → grew a b []

@@ -13,7 +13,8 @@ use Rattle.air_builder.specs.Builders.{MeansIn, BuilderView, RingLaws, BuilderLa
 use Rattle.air_builder.specs.Assertion.{Assertion}
 use Rattle.air_builder.specs.Refusals.{PartOf, EachLeaf}
 use Rattle.air_author.specs.Expressions.{MakesTerm}
-use Rattle.p3_air.specs.Tables.{IsMade, HasAt, MadeAll, OrMemory}
+use Rattle.air_builder.specs.Batches.{OrMemory}
+use Rattle.p3_air.specs.Tables.{IsMade, HasAt, MadeAll}
 use Rattle.p3_air.proofs.Making.{there_before}
 
 -- what holds of each image holds of each element's image

@@ -1,6 +1,6 @@
 -- How the expressions of roots are made, one after another.
 use Rattle.std.specs.List.{AllZip, list_any}
-use Rattle.std.specs.Prelude.{◌≡◌, ◌||◌, ℕ, ◌<◌, List, length, get_or, All, Bool, false, eqb, Option, None, Some}
+use Rattle.std.specs.Prelude.{◌≡◌, ◌||◌, ℕ, ◌<◌, List, length, slice_index_or, All, Bool, false, Option, None, Some, ⊤, ◌==◌}
 use Rattle.air_symbolic.specs.Leaves.{Leaves}
 use Rattle.air_symbolic.specs.Nodes.{node_at, IsNode}
 use Rattle.air_symbolic.specs.Reach.{Marked}
@@ -11,7 +11,7 @@ use Rattle.p3_air.specs.declared.flat.step.Step.TheVariants as step
 
 -- the number of a place
 abbrev pub number_at : List ℕ → ℕ → ℕ
-number_at numbers p = get_or numbers p 0
+number_at numbers p = slice_index_or numbers p 0
 
 -- place p is before place k, and has number i
 abbrev pub IsPlaceOf : List ℕ → ℕ → ℕ → ℕ → Type 0
@@ -19,7 +19,7 @@ IsPlaceOf numbers k p i = (p < k) × (i ≡ number_at numbers p)
 
 -- a leaf; and operations whose operands have these properties
 abbrev pub IsLeaf : {A : Type 0} → SymbolicExpr A → Type 0
-IsLeaf (node.Leaf a) = Unit {0}
+IsLeaf (node.Leaf a) = ⊤
 IsLeaf _ = ⊥
 
 abbrev pub IsSum : {A : Type 0} → (ℕ → Type 0) → (ℕ → Type 0) → SymbolicExpr A → Type 0
@@ -53,15 +53,15 @@ MakesPlace {A} l ns numbers k s = (n : SymbolicExpr A) → IsNode l ns (number_a
 -- for each number there is a step, which makes its node
 pub record AreSteps {A F : Type 0} (l : Leaves A F) (ns : List (SymbolicExpr A)) (numbers : List ℕ) (steps : List Step) : Type 0 where
   pub long : length steps ≡ length numbers
-  pub makes : (k : ℕ) → k < length numbers → MakesPlace l ns numbers k (get_or steps k step.Leaf)
+  pub makes : (k : ℕ) → k < length numbers → MakesPlace l ns numbers k (slice_index_or steps k step.Leaf)
 
 -- whether number i is an operand of the node
 abbrev pub has_operand : {A : Type 0} → ℕ → SymbolicExpr A → Bool
 has_operand i (node.Leaf a) = false
-has_operand i (node.Add x y d) = eqb i x || eqb i y
-has_operand i (node.Sub x y d) = eqb i x || eqb i y
-has_operand i (node.Neg x d) = eqb i x
-has_operand i (node.Mul x y d) = eqb i x || eqb i y
+has_operand i (node.Add x y d) = (i == x) || (i == y)
+has_operand i (node.Sub x y d) = (i == x) || (i == y)
+has_operand i (node.Neg x d) = i == x
+has_operand i (node.Mul x y d) = (i == x) || (i == y)
 
 abbrev pub some_has_operand : {A : Type 0} → ℕ → Option (SymbolicExpr A) → Bool
 some_has_operand i None = false
@@ -69,7 +69,7 @@ some_has_operand i (Some n) = has_operand i n
 
 -- number i is a root, or an operand of the node of one of the numbers
 abbrev pub IsUsed : {A : Type 0} → List (SymbolicExpr A) → List ℕ → List ℕ → ℕ → Type 0
-IsUsed ns roots numbers i = (list_any (λ r. eqb i r) roots || list_any (λ j. some_has_operand i (node_at ns j)) numbers) ≡ Bool.true
+IsUsed ns roots numbers i = (list_any (λ r. i == r) roots || list_any (λ j. some_has_operand i (node_at ns j)) numbers) ≡ Bool.true
 
 -- The steps make, in order, the nodes of some numbers, each of which the roots need, and the roots stand at these places.
 pub record IsPlan {A F : Type 0} (l : Leaves A F) (ns : List (SymbolicExpr A)) (roots numbers : List ℕ) (steps : List Step) (places : List ℕ) : Type 0 where
@@ -83,5 +83,5 @@ pub record IsPlan {A F : Type 0} (l : Leaves A F) (ns : List (SymbolicExpr A)) (
 pub record HavePlaces (marks : List (Option ℕ)) (numbers places : List ℕ) : Type 0 where
   pub long : length places ≡ length marks
   pub marked : (k : ℕ) → k < length numbers → Marked marks (number_at numbers k)
-  pub placed : (i : ℕ) → Marked marks i → IsPlaceOf numbers (length numbers) (get_or places i 0) i
-  pub before : (k i : ℕ) → k < length numbers → i < number_at numbers k → Marked marks i → IsPlaceOf numbers k (get_or places i 0) i
+  pub placed : (i : ℕ) → Marked marks i → IsPlaceOf numbers (length numbers) (slice_index_or places i 0) i
+  pub before : (k i : ℕ) → k < length numbers → i < number_at numbers k → Marked marks i → IsPlaceOf numbers k (slice_index_or places i 0) i

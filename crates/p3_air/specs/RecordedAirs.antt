@@ -1,5 +1,5 @@
 -- The AIR that a recording is.
-use Rattle.std.specs.Prelude.{◌≡◌, List, length, map, Some}
+use Rattle.std.specs.Prelude.{◌≡◌, List, length, map, Some, ⊤}
 use Rattle.air_field.specs.Ring.{CommRing, itself}
 use Rattle.air_symbolic.specs.BaseLeaves.{base_reads}
 use Rattle.air_builder.specs.Assertion.{Assertion, Base}
@@ -19,7 +19,7 @@ zero_at_recorded recorded =
 abbrev pub RecordedAirRefuses : {F EF : Type 0} → Recorded F EF → AirError → Type 0
 RecordedAirRefuses recorded (IndexPastTotal index total) =
     (total ≡ length recorded.pool.0.1) × (first_past total recorded.base.items ≡ Some index)
-RecordedAirRefuses recorded Memory = Unit {0}
+RecordedAirRefuses recorded Memory = ⊤
 RecordedAirRefuses recorded _ = ⊥
 
 -- each declared base term is recorded by the one that another list declares, in order

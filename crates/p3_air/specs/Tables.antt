@@ -1,10 +1,8 @@
 -- Expressions by the numbers of a pool.
 use Rattle.std.specs.List.{AllZip}
-use Rattle.std.specs.Prelude.{◌≡◌, ◌⊎◌, ◌<◌, ℕ, List, [], slice_get, All, Option, Some, Result, Vec, OnOk, IfOk, IfErr}
+use Rattle.std.specs.Prelude.{◌≡◌, ◌<◌, ℕ, List, [], slice_get, All, Option, Some, Result, Vec, OnOk, IfOk, IfErr}
 use Rattle.std.specs.Global.{Global}
 use Rattle.air_field.specs.Term.{Leaf, Term}
-use Rattle.air_core.specs.declared.errors.AirError.{AirError}
-use Rattle.air_core.specs.declared.errors.AirError.TheVariants.{Memory}
 use Rattle.air_builder.specs.Assertion.{Assertion}
 use Rattle.air_builder.specs.Refusals.{PartOf, EachLeaf}
 use Rattle.air_author.specs.Expressions.{Holds}
@@ -25,10 +23,6 @@ HasAt P table p = SomeHas P (slice_get table p)
 -- the table has at each place before k the expression of the place's number
 abbrev pub TableMade : {E F : Type 0} → (Term F → E → Type 0) → (ℕ → Term F) → List ℕ → List E → ℕ → Type 0
 TableMade is_made term numbers table k = (p : ℕ) → p < k → HasAt (is_made (term (number_at numbers p))) table p
-
--- Besides what the builder refuses, memory may be wanting.
-abbrev pub OrMemory : {S F : Type 0} → (S → AirError → List (Assertion F) → Type 0) → S → AirError → List (Assertion F) → Type 0
-OrMemory refuses a e ts = (e ≡ Memory) ⊎ refuses a e ts
 
 -- The expression of each term was made, in order: nothing was asserted, and each leaf of the terms is there. A refusal
 -- may be one of any list that has each of the terms as a part.

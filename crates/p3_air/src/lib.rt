@@ -71,6 +71,7 @@ pub use air_builder::PassthroughNamedAirBuilder;
 pub use air_builder::PermutationAirBuilder;
 pub use air_builder::RowWindow;
 pub use air_builder::TwoRows;
+pub use air_builder::View;
 pub use air_builder::WindowAccess;
 pub use air_core::BaseEntry;
 pub use air_core::ExtEntry;

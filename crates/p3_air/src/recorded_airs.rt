@@ -5,7 +5,7 @@ ghost use Rattle.air_symbolic.specs.ExtLeaves.{ext_reads};
 ghost use Rattle.air_symbolic.specs.Pools.{IsPool};
 ghost use Rattle.air_core.specs.declared.errors.AirError.{AirError};
 ghost use Rattle.air_builder.specs.Assertion.{Assertion};
-ghost use Rattle.air_author.specs.Constraints.{Asserted};
+ghost use Rattle.air_builder.specs.Batches.{Asserted};
 ghost use Rattle.air_author.specs.Expressions.{Lasts};
 ghost use Rattle.air_recording.specs.Layouts.{first_past};
 ghost use Rattle.air_recording.specs.Recorded.{RecordsBase};

@@ -4,7 +4,7 @@ ghost use Rattle.air_field.specs.Algebra.{bool_check_term};
 ghost use Rattle.air_field.specs.Term.{Term, sub_term};
 ghost use Rattle.air_builder.specs.Assertion.{Base};
 ghost use Rattle.air_builder.specs.Builders.{less_one_term};
-ghost use Rattle.air_author.specs.Constraints.{AssertedIn};
+ghost use Rattle.air_builder.specs.Batches.{AssertedIn};
 ghost use Rattle.air_author.specs.Expressions.{MadeIn, Lasts};
 
 use crate::AirResult;

@@ -3,7 +3,8 @@ ghost use Rattle.std.specs.Prelude.{◌≡◌, ℕ, ◌<◌, ⊤, List};
 ghost use Rattle.std.specs.Prelude.{All as EachOf};
 ghost use Rattle.air_field.specs.Term.{Term};
 ghost use Rattle.air_builder.specs.Assertion.{Assertion};
-ghost use Rattle.air_author.specs.Constraints.{AssertedIn, asserts_of_each, asserts_of_first};
+ghost use Rattle.air_builder.specs.Batches.{AssertedIn};
+ghost use Rattle.air_author.specs.Constraints.{asserts_of_each, asserts_of_first};
 ghost use Rattle.air_author.specs.Expressions.{Lasts};
 
 use crate::AirResult;

@@ -1,7 +1,8 @@
 //! Constraints under names.
 ghost use Rattle.std.specs.Prelude.{[], ◌∷◌, OnOk, OnErr};
 ghost use Rattle.air_builder.specs.Assertion.{Base};
-ghost use Rattle.air_author.specs.Constraints.{AssertedIn, IsLabelled};
+ghost use Rattle.air_builder.specs.Batches.{AssertedIn};
+ghost use Rattle.air_author.specs.Constraints.{IsLabelled};
 ghost use Rattle.air_author.specs.Expressions.{Lasts};
 
 use crate::AirResult;

@@ -1,6 +1,6 @@
 //! Constraints one after another.
 ghost use Rattle.std.specs.Prelude.{◌++◌};
-ghost use Rattle.air_author.specs.Constraints.{AssertedIn};
+ghost use Rattle.air_builder.specs.Batches.{AssertedIn};
 ghost use Rattle.air_author.specs.Expressions.{Lasts};
 
 use crate::AirResult;

@@ -1,15 +1,16 @@
 -- What follows of a call that asserts each of several elements.
-use Rattle.std.proofs.Common.{◌≡◌, ◌<◌, ◌≤◌, ℕ, zero, suc, ◌+◌, List, [], ◌∷◌, ◌++◌, length, take, drop, get_or, Result, Ok, Err, OnOk, OnErr, IfErr, ap, subst, sym, ◌∙◌, ap₂, append-nil, arith}
+use Rattle.std.specs.Prelude.{⊤}
+use Rattle.std.proofs.Common.{◌≡◌, ◌<◌, ◌≤◌, ℕ, zero, suc, ◌+◌, List, [], ◌∷◌, ◌++◌, length, take, drop, slice_index_or, Result, Ok, Err, inr, OnOk, OnErr, IfErr, ap, subst, sym, ◌∙◌, ap₂, append-nil, arith}
 use Rattle.std.proofs.lemmas.List.{take_more, take_all, drop_more, take-append-drop, take-append-le, length-append}
-use Rattle.std.proofs.lemmas.Result.{err_from_is_err_and}
+use Rattle.std.proofs.lemmas.Result.{err_from_is_err_and, IfErr-weaker}
 use Rattle.std.proofs.lemmas.Slice.Zip.{get_or-zip}
 use Rattle.std.proofs.Math.Seq.{take-append-add}
 use Rattle.std.specs.List.{AllZip, zip}
 use Rattle.std.specs.Result.{IsErrAnd}
-use Rattle.air_field.specs.Term.{Term}
+use Rattle.air_field.specs.Term.{Leaf, Term}
 use Rattle.air_core.specs.declared.errors.AirError.{AirError}
 use Rattle.air_builder.specs.Assertion.{Assertion}
-use Rattle.air_builder.specs.Batches.{AssertsOf, AssertsOfBoth, GrewByEach, GrewByBeginning, GrewByFirst, RefusesByEach, AssertedEach}
+use Rattle.air_builder.specs.Batches.{AssertsOf, AssertsOfBoth, GrewByEach, GrewByBeginning, GrewByFirst, RefusesByEach, AssertedEach, Asserted, OrMemory}
 use Rattle.air_builder.specs.Builders.{MeansIn, BuilderView, RingLaws, BuilderLaws}
 use Rattle.air_builder.specs.laws.Filters.{means_kept}
 use Rattle.air_builder.specs.laws.Zips.{AllZip-parts, AllZip-nil}
@@ -36,7 +37,7 @@ module _ {S I F : Type 0} (asserts : S → I → Assertion F → Type 0) (a b : 
 module _ {S I F X : Type 0} {asserts : S → I → Assertion F → Type 0} {kept : S → S → Type 0}
     {grew : S → S → List (Assertion F) → Type 0} {refuses : S → X → List (Assertion F) → Type 0} {a b : S} {x : I} where
   -- one element was asserted, or refused
-  pub asserted_one : (result : Result (Unit {0}) X) → kept a b
+  pub asserted_one : (result : Result ⊤ X) → kept a b
       → OnOk result ((s : Assertion F) → asserts a x s → grew a b (s ∷ [])) → OnErr result (grew a b [])
       → IfErr result (λ e. (s : Assertion F) → asserts a x s → refuses a e (s ∷ []))
       → AssertedEach asserts kept grew refuses a b (x ∷ []) result
@@ -53,7 +54,7 @@ module _ {S I F X : Type 0} {asserts : S → I → Assertion F → Type 0} {kept
   }
 
   -- and what that says
-  pub grew_one : {u : Unit {0}} → AssertedEach asserts kept grew refuses a b (x ∷ []) (Ok u)
+  pub grew_one : {u : ⊤} → AssertedEach asserts kept grew refuses a b (x ∷ []) (Ok u)
       → (s : Assertion F) → asserts a x s → grew a b (s ∷ [])
   grew_one h s k = h.ok (s ∷ []) (k, tt)
 
@@ -86,7 +87,7 @@ module _ {S F : Type 0} (grew : S → S → List (Assertion F) → Type 0) (a b 
       }
 
 -- the first elements, one more, and the others
-pub in_parts : {X : Type 0} (xs : List X) (i : ℕ) (d : X) → i < length xs → xs ≡ take i xs ++ (get_or xs i d ∷ drop (i + 1) xs)
+pub in_parts : {X : Type 0} (xs : List X) (i : ℕ) (d : X) → i < length xs → xs ≡ take i xs ++ (slice_index_or xs i d ∷ drop (i + 1) xs)
 in_parts xs i d lt = sym (take-append-drop i xs) ∙ ap (λ v. take i xs ++ v) (drop_more xs i d lt)
 
 module _ {S R E F : Type 0} {view : BuilderView S R E F} (laws : BuilderLaws view) {I : Type 0} (asserts : S → I → Assertion F → Type 0)
@@ -99,7 +100,7 @@ module _ {S R E F : Type 0} {view : BuilderView S R E F} (laws : BuilderLaws vie
   none_yet a (s ∷ ss) h = absurd h
 
   -- one element more
-  each_more : (a b c : S) (xs : List I) (i : ℕ) (x : I) → i < length xs → x ≡ get_or xs i x → kept a b
+  each_more : (a b c : S) (xs : List I) (i : ℕ) (x : I) → i < length xs → x ≡ slice_index_or xs i x → kept a b
       → GrewByEach asserts grew a b (take i xs) → ((s : Assertion F) → asserts b x s → grew b c (s ∷ []))
       → GrewByEach asserts grew a c (take (i + 1) xs)
   each_more a b c xs i x lt is k g one ss h =
@@ -126,7 +127,7 @@ module _ {S R E F : Type 0} {view : BuilderView S R E F} (laws : BuilderLaws vie
       (laws.refuses_then a b e before (s ∷ after) g (laws.refuses_first b e (s ∷ []) after r))
 
   -- one element was refused
-  each_refused : (a b : S) (e : AirError) (xs : List I) (i : ℕ) (x : I) → i < length xs → x ≡ get_or xs i x
+  each_refused : (a b : S) (e : AirError) (xs : List I) (i : ℕ) (x : I) → i < length xs → x ≡ slice_index_or xs i x
       → kept a b → GrewByEach asserts grew a b (take i xs)
       → ((s : Assertion F) → asserts b x s → refuses b e (s ∷ []))
       → RefusesByEach asserts refuses a xs e
@@ -141,7 +142,7 @@ module _ {S R E F : Type 0} {view : BuilderView S R E F} (laws : BuilderLaws vie
 
   module _ {a b c : S} (xs : List I) (i : ℕ) where
     -- one element more
-    pub asserted_more : {u v : Unit {0}} (x : I) → i < length xs → x ≡ get_or xs i x
+    pub asserted_more : {u v : ⊤} (x : I) → i < length xs → x ≡ slice_index_or xs i x
         → AssertedEach asserts kept grew refuses a b (take i xs) (Ok u)
         → AssertedEach asserts kept grew refuses b c (x ∷ []) (Ok v)
         → AssertedEach asserts kept grew refuses a c (take (i + 1) xs) (Ok tt)
@@ -153,8 +154,8 @@ module _ {S R E F : Type 0} {view : BuilderView S R E F} (laws : BuilderLaws vie
     }
 
     -- one element was refused, and a `?` gives up
-    pub asserted_refused : {u : Unit {0}} {e : AirError} {result : Result (Unit {0}) AirError} (x : I) → i < length xs
-        → x ≡ get_or xs i x → AssertedEach asserts kept grew refuses a b (take i xs) (Ok u)
+    pub asserted_refused : {u : ⊤} {e : AirError} {result : Result ⊤ AirError} (x : I) → i < length xs
+        → x ≡ slice_index_or xs i x → AssertedEach asserts kept grew refuses a b (take i xs) (Ok u)
         → AssertedEach asserts kept grew refuses b c (x ∷ []) (Err e) → IsErrAnd result (λ y. y ≡ e)
         → AssertedEach asserts kept grew refuses a c xs result
     asserted_refused {e = e} {result = result} x lt is h k given =
@@ -167,7 +168,7 @@ module _ {S R E F : Type 0} {view : BuilderView S R E F} (laws : BuilderLaws vie
         })
 
   -- all elements
-  pub asserted_all : {a b : S} {u v : Unit {0}} (xs : List I) (i : ℕ) → length xs ≤ i
+  pub asserted_all : {a b : S} {u v : ⊤} (xs : List I) (i : ℕ) → length xs ≤ i
       → AssertedEach asserts kept grew refuses a b (take i xs) (Ok u)
       → AssertedEach asserts kept grew refuses a b xs (Ok v)
   asserted_all {a} {b} xs i end h = record {
@@ -179,7 +180,7 @@ module _ {S R E F : Type 0} {view : BuilderView S R E F} (laws : BuilderLaws vie
 
 -- the pair at a place of two lists
 pub get_pair : {A B : Type 0} (xs : List A) (ys : List B) (i : ℕ) (x : A) (y : B) → i < length xs → i < length ys
-    → x ≡ get_or xs i x → y ≡ get_or ys i y → (x, y) ≡ get_or (zip xs ys) i (x, y)
+    → x ≡ slice_index_or xs i x → y ≡ slice_index_or ys i y → (x, y) ≡ slice_index_or (zip xs ys) i (x, y)
 get_pair xs ys i x y p q e f = ap₂ (λ v w. (v, w)) e f ∙ sym (get_or-zip xs ys i (x, y) p q)
 
 module _ {S R E F : Type 0} {view : BuilderView S R E F} (ring : RingLaws view) (laws : BuilderLaws view) where
@@ -194,3 +195,15 @@ module _ {S R E F : Type 0} {view : BuilderView S R E F} (ring : RingLaws view) 
       → (p : E × E) (s : Assertion F)
       → AssertsOfBoth kind (MeansIn view) op a p s → AssertsOfBoth kind (MeansIn view) op b p s
   both_kept kind op a b k p s h = (h.0, h.1, means_kept ring laws a b p.0 h.0 k h.2, means_kept ring laws a b p.1 h.1 k h.3, h.4)
+
+-- a call that asserts a list may be all of an evaluation
+pub evaluates : {S F : Type 0} {kept : S → S → Type 0} {grew : S → S → List (Assertion F) → Type 0} {missing : S → Leaf → Type 0}
+    {refuses : S → AirError → List (Assertion F) → Type 0} {a b : S} {ts : List (Assertion F)} (r : Result ⊤ AirError)
+    → Asserted kept grew missing refuses a b r ts → Asserted kept grew missing (OrMemory refuses) a b r ts
+evaluates r h = record {
+  keeps = h.keeps;
+  ok = h.ok;
+  there = h.there;
+  err = h.err;
+  refused = IfErr-weaker r _ _ (λ e refused. inr refused) h.refused;
+}

@@ -1,4 +1,5 @@
 -- Growth after a ring was lent.
+use Rattle.std.specs.Prelude.{⊤}
 use Rattle.std.proofs.Common.{◌≡◌, List, [], ◌∷◌, Result, Ok, Err, subst, sym}
 use Rattle.std.proofs.lemmas.Result.{err_from_is_err_and}
 use Rattle.std.specs.Result.{IsErrAnd}
@@ -104,7 +105,7 @@ module _ {S R E F : Type 0} {view : BuilderView S R E F} (laws : BuilderLaws vie
 
   module _ {I : Type 0} {asserts : S → I → Assertion F → Type 0} {a : S} {q r : R} {x : I} (p : q ≡ ring_of a) (e : extends q r) where
     -- The lent ring made z of x, which asserts what x does, and then z was asserted: so was x.
-    pub lent_asserted : {J : Type 0} {made : S → J → Assertion F → Type 0} {b : S} {z : J} (result : Result (Unit {0}) AirError)
+    pub lent_asserted : {J : Type 0} {made : S → J → Assertion F → Type 0} {b : S} {z : J} (result : Result ⊤ AirError)
         → ((s : Assertion F) → asserts a x s → made (with_ring a r) z s)
         → AssertedEach made kept grew refuses (with_ring a r) b (z ∷ []) result
         → AssertedEach asserts kept grew refuses a b (x ∷ []) result
@@ -129,13 +130,13 @@ module _ {S R E F : Type 0} {view : BuilderView S R E F} (ring : RingLaws view) 
   open view use {means, ring_refuses, with_ring, reads_as, kept, grew, refuses}
 
   module _ (op : Term F → Term F) (through : (t : Term F) → op (with_leaves (reads_as a) t) ≡ with_leaves (reads_as a) (op t)) where
-    pub one_asserted : {b : S} {x z : E} {result : Result (Unit {0}) AirError}
+    pub one_asserted : {b : S} {x z : E} {result : Result ⊤ AirError}
         → ((t : Term F) → means q x t → means r z (op t))
         → AssertedEach (AssertsOf kind (MeansIn view) (λ t. t)) kept grew refuses (with_ring a r) b (z ∷ []) result
         → AssertedEach (AssertsOf kind (MeansIn view) op) kept grew refuses a b (x ∷ []) result
     one_asserted {result = result} m h = lent_asserted laws p e result (made_of ring laws kind p e op through m) h
 
-    pub one_gives_up : {x : E} {f : RingError} {result : Result (Unit {0}) AirError}
+    pub one_gives_up : {x : E} {f : RingError} {result : Result ⊤ AirError}
         → ((t : Term F) → PartOf t (kind t ∷ [])) → ((t : Term F) → means q x t → ring_refuses f (op t))
         → IsErrAnd result (λ y. y ≡ air_error f)
         → AssertedEach (AssertsOf kind (MeansIn view) op) kept grew refuses a (with_ring a r) (x ∷ []) result
@@ -145,13 +146,13 @@ module _ {S R E F : Type 0} {view : BuilderView S R E F} (ring : RingLaws view) 
 
   module _ (op : Term F → Term F → Term F)
       (through : (t u : Term F) → op (with_leaves (reads_as a) t) (with_leaves (reads_as a) u) ≡ with_leaves (reads_as a) (op t u)) where
-    pub both_asserted : {b : S} {x y z : E} {result : Result (Unit {0}) AirError}
+    pub both_asserted : {b : S} {x y z : E} {result : Result ⊤ AirError}
         → ((t u : Term F) → means q x t → means q y u → means r z (op t u))
         → AssertedEach (AssertsOf kind (MeansIn view) (λ t. t)) kept grew refuses (with_ring a r) b (z ∷ []) result
         → AssertedEach (AssertsOfBoth kind (MeansIn view) op) kept grew refuses a b ((x, y) ∷ []) result
     both_asserted {result = result} m h = lent_asserted laws p e result (made_of_both ring laws kind p e op through m) h
 
-    pub both_gives_up : {x y : E} {f : RingError} {result : Result (Unit {0}) AirError}
+    pub both_gives_up : {x y : E} {f : RingError} {result : Result ⊤ AirError}
         → ((t : Term F) → PartOf t (kind t ∷ [])) → ((t u : Term F) → means q x t → means q y u → ring_refuses f (op t u))
         → IsErrAnd result (λ y. y ≡ air_error f)
         → AssertedEach (AssertsOfBoth kind (MeansIn view) op) kept grew refuses a (with_ring a r) ((x, y) ∷ []) result

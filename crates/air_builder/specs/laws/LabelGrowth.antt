@@ -1,5 +1,6 @@
 -- Growth under labels.
-use Rattle.std.proofs.Common.{◌≡◌, ◌<◌, ◌≤◌, ℕ, ◌+◌, List, [], ◌∷◌, ◌++◌, length, take, get_or, Option, Result, Ok, Err, refl, ap, subst, sym, ◌∙◌, arith, length-append, append-nil}
+use Rattle.std.specs.Prelude.{⊤}
+use Rattle.std.proofs.Common.{◌≡◌, ◌<◌, ◌≤◌, ℕ, ◌+◌, List, [], ◌∷◌, ◌++◌, length, take, slice_index_or, Option, Result, Ok, Err, refl, ap, subst, sym, ◌∙◌, arith, length-append, append-nil}
 use Rattle.std.proofs.lemmas.List.{take_more, take_all, length-take-le}
 use Rattle.std.proofs.lemmas.Result.{err_from_is_err_and}
 use Rattle.std.specs.Result.{IsErrAnd}
@@ -27,7 +28,7 @@ IsSaid-weaker w (Shown text) h = w text h
 -- a builder that discards labels asks for none
 pub discarded : {S I F : Type 0} {asserts : S → I → Assertion F → Type 0} {kept : S → S → Type 0}
     {grew : S → S → List (Assertion F) → Type 0} {refuses : S → AirError → List (Assertion F) → Type 0}
-    {says : Option (List ℕ) → Type 0} {a b : S} {x : I} (result : Result (Unit {0}) AirError)
+    {says : Option (List ℕ) → Type 0} {a b : S} {x : I} (result : Result ⊤ AirError)
     → AssertedEach asserts kept grew refuses a b (x ∷ []) result
     → LabelledEach asserts (discarding grew) (λ i. says) a b (x ∷ []) result
 discarded (Ok u) h = labelled_one (Ok u) (record { label = Unasked; said = tt; grown = λ s k. grew_one h s k }) tt
@@ -37,7 +38,7 @@ discarded (Err e) h = labelled_one (Err e) tt (grew_none h)
 pub record NamedOne {S I F : Type 0} (asserts : S → I → Assertion F → Type 0) (kept : S → S → Type 0)
     (grew : S → S → List (Assertion F) → Type 0) (refuses : S → AirError → List (Assertion F) → Type 0)
     (labelled : S → S → List (Labelled F) → Type 0) (says : Option (List ℕ) → Type 0) (a b : S) (x : I)
-    (result : Result (Unit {0}) AirError) : Type 0 where
+    (result : Result ⊤ AirError) : Type 0 where
   pub asserted : AssertedEach asserts kept grew refuses a b (x ∷ []) result
   pub label : LabelledEach asserts labelled (λ i. says) a b (x ∷ []) result
 
@@ -72,7 +73,7 @@ module _ {S R E F : Type 0} {view : BuilderView S R E F} {labelled : S → S →
     }
 
     -- one element more
-    label_more : (a b c : S) (xs : List I) (i : ℕ) (x : I) (l : Label) → i < length xs → x ≡ get_or xs i x
+    label_more : (a b c : S) (xs : List I) (i : ℕ) (x : I) (l : Label) → i < length xs → x ≡ slice_index_or xs i x
         → kept a b → LabelledByEach asserts labelled says a b (take i xs) → IsSaid (says i) l
         → ((s : Assertion F) → asserts b x s → labelled b c ((s, l) ∷ []))
         → LabelledByEach asserts labelled says a c (take (i + 1) xs)
@@ -114,8 +115,8 @@ module _ {S R E F : Type 0} {view : BuilderView S R E F} {labelled : S → S →
 
     module _ {a b c : S} (xs : List I) (i : ℕ) where
       -- one element more
-      pub labelled_more : {u v : Unit {0}} {others : Option (List ℕ) → Type 0} (x : I) → i < length xs
-          → x ≡ get_or xs i x → kept a b → LabelledEach asserts labelled says a b (take i xs) (Ok u)
+      pub labelled_more : {u v : ⊤} {others : Option (List ℕ) → Type 0} (x : I) → i < length xs
+          → x ≡ slice_index_or xs i x → kept a b → LabelledEach asserts labelled says a b (take i xs) (Ok u)
           → ((text : Option (List ℕ)) → others text → says i text)
           → LabelledEach asserts labelled (λ j. others) b c (x ∷ []) (Ok v)
           → LabelledEach asserts labelled says a c (take (i + 1) xs) (Ok tt)
@@ -124,7 +125,7 @@ module _ {S R E F : Type 0} {view : BuilderView S R E F} {labelled : S → S →
           record { ok = label_more a b c xs i x one.label lt is k h.ok (IsSaid-weaker w one.label one.said) one.grown; err = tt }
 
       -- one element was refused, and a `?` gives up
-      pub labelled_refused : {u : Unit {0}} {e : AirError} {result : Result (Unit {0}) AirError} {x : I}
+      pub labelled_refused : {u : ⊤} {e : AirError} {result : Result ⊤ AirError} {x : I}
           {others : ℕ → Option (List ℕ) → Type 0} → i < length xs
           → LabelledEach asserts labelled says a b (take i xs) (Ok u)
           → LabelledEach asserts labelled others b c (x ∷ []) (Err e) → IsErrAnd result (λ y. y ≡ e)
@@ -134,7 +135,7 @@ module _ {S R E F : Type 0} {view : BuilderView S R E F} {labelled : S → S →
           rw (q.1, q.2) (record { ok = tt; err = label_beginning a b c xs i lt h.ok (no_label k) })
 
     -- all elements
-    pub labelled_all : {a b : S} {u v : Unit {0}} (xs : List I) (i : ℕ) → length xs ≤ i
+    pub labelled_all : {a b : S} {u v : ⊤} (xs : List I) (i : ℕ) → length xs ≤ i
         → LabelledEach asserts labelled says a b (take i xs) (Ok u) → LabelledEach asserts labelled says a b xs (Ok v)
     labelled_all {a} {b} xs i end h = record {
       ok = subst (λ v. LabelledByEach asserts labelled says a b v) (take_all i xs end) h.ok;
@@ -142,7 +143,7 @@ module _ {S R E F : Type 0} {view : BuilderView S R E F} {labelled : S → S →
     }
 
   module _ {I : Type 0} {asserts : S → I → Assertion F → Type 0} {says : Option (List ℕ) → Type 0} {a : S} {q r : R} {x : I} (p : q ≡ ring_of a) (e : extends q r) where
-    lent_labelled : {J : Type 0} {made : S → J → Assertion F → Type 0} {b : S} {z : J} (result : Result (Unit {0}) AirError)
+    lent_labelled : {J : Type 0} {made : S → J → Assertion F → Type 0} {b : S} {z : J} (result : Result ⊤ AirError)
         → ((s : Assertion F) → asserts a x s → made (with_ring a r) z s)
         → LabelledEach made labelled (λ i. says) (with_ring a r) b (z ∷ []) result
         → LabelledEach asserts labelled (λ i. says) a b (x ∷ []) result
@@ -157,7 +158,7 @@ module _ {S R E F : Type 0} {view : BuilderView S R E F} {labelled : S → S →
     making_unlabelled f = labelled_one (Err f) tt (named.labelled_nothing a (with_ring a r) (lent laws a q r p e))
 
     -- The lent ring made z of x, which asserts what x does, and then z was asserted under a label: so was x.
-    pub lent_named : {J : Type 0} {made : S → J → Assertion F → Type 0} {b : S} {z : J} (result : Result (Unit {0}) AirError)
+    pub lent_named : {J : Type 0} {made : S → J → Assertion F → Type 0} {b : S} {z : J} (result : Result ⊤ AirError)
         → ((s : Assertion F) → asserts a x s → made (with_ring a r) z s)
         → AssertedEach made kept grew refuses (with_ring a r) b (z ∷ []) result
         → LabelledEach made labelled (λ i. says) (with_ring a r) b (z ∷ []) result
@@ -177,14 +178,14 @@ module _ {S R E F : Type 0} {view : BuilderView S R E F} {labelled : S → S →
   open view use {means, ring_refuses, with_ring, reads_as, kept, grew, refuses}
 
   module _ (op : Term F → Term F) (through : (t : Term F) → op (with_leaves (reads_as a) t) ≡ with_leaves (reads_as a) (op t)) where
-    pub one_named : {b : S} {x z : E} {result : Result (Unit {0}) AirError}
+    pub one_named : {b : S} {x z : E} {result : Result ⊤ AirError}
         → ((t : Term F) → means q x t → means r z (op t))
         → AssertedEach (AssertsOf kind (MeansIn view) (λ t. t)) kept grew refuses (with_ring a r) b (z ∷ []) result
         → LabelledEach (AssertsOf kind (MeansIn view) (λ t. t)) labelled (λ i. says) (with_ring a r) b (z ∷ []) result
         → NamedOne (AssertsOf kind (MeansIn view) op) kept grew refuses labelled says a b x result
     one_named {result = result} m h l = lent_named laws named p e result (made_of ring laws kind p e op through m) h l
 
-    pub one_unnamed : {x : E} {f : RingError} {result : Result (Unit {0}) AirError}
+    pub one_unnamed : {x : E} {f : RingError} {result : Result ⊤ AirError}
         → ((t : Term F) → PartOf t (kind t ∷ [])) → ((t : Term F) → means q x t → ring_refuses f (op t))
         → IsErrAnd result (λ y. y ≡ air_error f)
         → NamedOne (AssertsOf kind (MeansIn view) op) kept grew refuses labelled says a (with_ring a r) x result
@@ -194,14 +195,14 @@ module _ {S R E F : Type 0} {view : BuilderView S R E F} {labelled : S → S →
 
   module _ (op : Term F → Term F → Term F)
       (through : (t u : Term F) → op (with_leaves (reads_as a) t) (with_leaves (reads_as a) u) ≡ with_leaves (reads_as a) (op t u)) where
-    pub both_named : {b : S} {x y z : E} {result : Result (Unit {0}) AirError}
+    pub both_named : {b : S} {x y z : E} {result : Result ⊤ AirError}
         → ((t u : Term F) → means q x t → means q y u → means r z (op t u))
         → AssertedEach (AssertsOf kind (MeansIn view) (λ t. t)) kept grew refuses (with_ring a r) b (z ∷ []) result
         → LabelledEach (AssertsOf kind (MeansIn view) (λ t. t)) labelled (λ i. says) (with_ring a r) b (z ∷ []) result
         → NamedOne (AssertsOfBoth kind (MeansIn view) op) kept grew refuses labelled says a b (x, y) result
     both_named {result = result} m h l = lent_named laws named p e result (made_of_both ring laws kind p e op through m) h l
 
-    pub both_unnamed : {x y : E} {f : RingError} {result : Result (Unit {0}) AirError}
+    pub both_unnamed : {x y : E} {f : RingError} {result : Result ⊤ AirError}
         → ((t : Term F) → PartOf t (kind t ∷ [])) → ((t u : Term F) → means q x t → means q y u → ring_refuses f (op t u))
         → IsErrAnd result (λ y. y ≡ air_error f)
         → NamedOne (AssertsOfBoth kind (MeansIn view) op) kept grew refuses labelled says a (with_ring a r) (x, y) result

@@ -1,5 +1,5 @@
 -- Lists of labelled assertions without their labels, and the label of one assertion.
-use Rattle.std.specs.Prelude.{◌≡◌, ℕ, zero, suc, ◌<◌, List, [], ◌∷◌, ◌++◌, length, take, Option, Result, Ok, Err, OnOk, OnErr, refl}
+use Rattle.std.specs.Prelude.{◌≡◌, ℕ, zero, suc, ◌<◌, List, [], ◌∷◌, ◌++◌, length, take, Option, Result, Ok, Err, OnOk, OnErr, refl, ⊤}
 use Rattle.std.specs.List.{AllZip, zip}
 use Rattle.std.proofs.Common.{arith, subst, sym}
 use Rattle.std.proofs.lemmas.List.{map-append}
@@ -42,7 +42,7 @@ module _ {S I F : Type 0} (asserts : S → I → Assertion F → Type 0) (labell
 module _ {S I F : Type 0} {asserts : S → I → Assertion F → Type 0} {labelled : S → S → List (Labelled F) → Type 0}
     {a b : S} {x : I} where
   -- one element was asserted under a label, or refused
-  pub labelled_one : {says : Option (List ℕ) → Type 0} (result : Result (Unit {0}) AirError)
+  pub labelled_one : {says : Option (List ℕ) → Type 0} (result : Result ⊤ AirError)
       → OnOk result (OneLabel asserts labelled says a b x) → OnErr result (labelled a b [])
       → LabelledEach asserts labelled (λ i. says) a b (x ∷ []) result
   labelled_one (Ok u) h n = record {
@@ -69,7 +69,7 @@ module _ {S I F : Type 0} {asserts : S → I → Assertion F → Type 0} {labell
   }
 
   -- and what that says
-  pub one_label : {says : Option (List ℕ) → Type 0} {u : Unit {0}}
+  pub one_label : {says : Option (List ℕ) → Type 0} {u : ⊤}
       → LabelledEach asserts labelled (λ i. says) a b (x ∷ []) (Ok u) → OneLabel asserts labelled says a b x
   one_label {says} h = only_label asserts labelled a b x says h.ok.labels h.ok.as_many h.ok.said h.ok.grown
 

@@ -1,5 +1,5 @@
 -- Rows as a builder shows them: what stands at their places, and where they end.
-use Rattle.std.specs.Prelude.{◌≡◌, ◌⊎◌, ◌<◌, ◌≤◌, ◌↔◌, ℕ, zero, suc, List, length, Option, Some, None, IfSome, refl, slice_get, get_or, slice_index_or}
+use Rattle.std.specs.Prelude.{◌≡◌, ◌⊎◌, ◌<◌, ◌≤◌, ◌↔◌, ℕ, zero, suc, List, length, Option, Some, None, IfSome, refl, slice_get, slice_index_or, ⊤}
 use Rattle.std.proofs.Common.{inl, inr, sym, ◌∙◌, ap, subst, arith}
 use Rattle.std.proofs.lemmas.Option.{get_or_from_slice_get, slice_get_cases, slice_get_past}
 use Rattle.air_field.specs.Ring.{CommRing, AlgebraOver}
@@ -21,7 +21,7 @@ pub record WindowShows {E : Type 0} (holds : E → E → Type 0) (z : E) (first 
 
 -- where there is no element the row has ended
 none_ends : {E : Type 0} (row : List E) (i : ℕ)
-    → ((x : E) × (i < length row) × (slice_get row i ≡ Some x) × (get_or row i x ≡ x)) ⊎ ((length row ≤ i) × (slice_get row i ≡ None))
+    → ((x : E) × (i < length row) × (slice_get row i ≡ Some x) × (slice_index_or row i x ≡ x)) ⊎ ((length row ≤ i) × (slice_get row i ≡ None))
     → slice_get row i ≡ None → length row ≤ i
 none_ends row i (inl w) e = absurd (some_none (sym w.2 ∙ e))
   where
@@ -57,7 +57,7 @@ module _ {E : Type 0} (holds : E → E → Type 0) (each : (x : E) → holds x x
 -- Rows over the base field: an element is what is read there.
 module _ {F : Type 0} where
   abbrev is_base : F → F → Type 0
-  is_base x v = Unit {0} × (x ≡ v)
+  is_base x v = ⊤ × (x ≡ v)
 
   pub element_is : (row : List F) (i : ℕ) (z v : F) → slice_get row i ≡ Some v → is_base (slice_index_or row i z) v
   element_is row i z = shown is_base (λ x. (tt, refl)) z row i

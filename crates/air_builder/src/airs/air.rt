@@ -1,14 +1,14 @@
 //! AIRs.
-ghost use Rattle.std.specs.Prelude.{◌≡◌, ◌⊎◌, None, false, length, IfOk, IfErr, OnOk, OnErr};
+ghost use Rattle.std.specs.Prelude.{◌≡◌, None, false, length, IfOk, IfErr};
 ghost use Rattle.std.specs.List.{range_with_len};
 ghost use Rattle.std.specs.Option.{option_copied};
-ghost use Rattle.air_builder.specs.Batches.{GrewByFirst};
+ghost use Rattle.air_builder.specs.Batches.{Evaluates};
 ghost use Rattle.air_builder.specs.Declaration.{Declaration, table_width};
 ghost use Rattle.air_core.specs.Periodic.{MatchPeriodicMatrix, MatchPeriodicValues};
-ghost use Rattle.air_builder.specs.Refusals.{NoneMissing};
 
 use crate::airs::columns::columns_below;
 use crate::builders::air_builder::AirBuilder;
+use crate::builders::view::View;
 use air_core::boundary::BoundaryPublic;
 use air_core::errors::AirError;
 use air_core::periodic::{periodic_matrix, periodic_row};
@@ -174,13 +174,6 @@ pub trait Air<AB: AirBuilder>: BaseAir<AB::F> {
     /// Asserts the constraints on the builder, in the order of the declared list.
     fn eval(&self, builder: &mut AB) -> Result<(), AirError>
         requires { AB.ready builder.old }
-        ensures ok { OnOk result (AB.grew builder.old builder.new
-            (Self.declaration self.now).declared) }
-        ensures there { OnOk result (NoneMissing (AB.missing builder.old)
-            (Self.declaration self.now).declared) }
-        ensures keeps { AB.kept builder.old builder.new }
-        ensures err { OnErr result (GrewByFirst AB.grew builder.old builder.new
-            (Self.declaration self.now).declared) }
-        ensures refused { IfErr result (λ e. (e ≡ AirError.Memory) ⊎ AB.refuses builder.old e
-            (Self.declaration self.now).declared) };
+        ensures { Evaluates ⟦<AB as View>⟧.view builder.old builder.new result
+            (Self.declaration self.now).declared };
 }

@@ -1,5 +1,5 @@
 //! Names of the elements of a batch.
-ghost use Rattle.std.specs.Prelude.{◌≡◌, Some};
+ghost use Rattle.std.specs.Prelude.{◌≡◌, Some, ⊤};
 ghost use Rattle.air_core.specs.Texts.{element_text};
 
 use crate::names::name::Name;
@@ -22,7 +22,7 @@ impl Display for Element {
 impl Name for Element {
     type Output = Element;
 
-    ghost can_evaluate = { λ _. Unit {0} };
+    ghost can_evaluate = { λ _. ⊤ };
 
     ghost displays = { λ element text. text ≡ Some (element_text element.0) };
 

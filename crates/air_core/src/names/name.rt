@@ -1,5 +1,5 @@
 //! Names, and those that are texts or closures.
-ghost use Rattle.std.specs.Prelude.{◌≡◌, ℕ, List, Option, Some, Ok, IfOk};
+ghost use Rattle.std.specs.Prelude.{◌≡◌, ℕ, List, Option, Some, Ok, IfOk, ⊤};
 
 use std::alloc::AllocError;
 use std::fmt::Display;
@@ -25,7 +25,7 @@ pub trait Name: Drop {
 impl Name for &'static str {
     type Output = &'static str;
 
-    ghost can_evaluate = { λ _. Unit {0} };
+    ghost can_evaluate = { λ _. ⊤ };
 
     ghost displays = { λ name text. text ≡ Some name.now };
 

@@ -1,5 +1,5 @@
 //! Windows over two rows that are lent.
-ghost use Rattle.std.specs.Prelude.{◌≡◌, length};
+ghost use Rattle.std.specs.Prelude.{◌≡◌, length, ⊤};
 
 use crate::errors::AirError;
 use crate::windows::access::WindowAccess;
@@ -19,7 +19,7 @@ impl<'a, T> Copy for RowWindow<'a, T> {}
 impl<'a, T> Clone for RowWindow<'a, T> {
     ghost is_clone = { λ x y. y ≡ x };
 
-    ghost is_infallible = { λ _. Unit {0} };
+    ghost is_infallible = { λ _. ⊤ };
 
     fn clone(&self) -> Result<Self, AllocError> {
         Ok(*self)
@@ -60,7 +60,7 @@ impl<'a, T: Copy> RowWindow<'a, T> {
 }
 
 impl<'a, T: Copy> WindowAccess<T> for RowWindow<'a, T> {
-    ghost is_window = { λ _. Unit {0} };
+    ghost is_window = { λ _. ⊤ };
 
     ghost current_row = { λ w. w.current.now };
 

@@ -1,5 +1,5 @@
 //! Windows that own their two rows.
-ghost use Rattle.std.specs.Prelude.{◌≡◌, length};
+ghost use Rattle.std.specs.Prelude.{◌≡◌, length, ⊤};
 
 use crate::windows::access::WindowAccess;
 
@@ -23,7 +23,7 @@ impl<T: Copy> TwoRows<T> {
 }
 
 impl<T: Copy> WindowAccess<T> for TwoRows<T> {
-    ghost is_window = { λ _. Unit {0} };
+    ghost is_window = { λ _. ⊤ };
 
     ghost current_row = { λ w. w.current.items };
 

@@ -1,5 +1,5 @@
 -- Lines by values that are known, and what a number's reads are.
-use Rattle.std.proofs.Common.{◌≡◌, ℕ, zero, suc, ◌<◌, ◌≤◌, Bool, true, false, ◌&&◌, cond, List, [], ◌∷◌, ◌++◌, length, get_or, map, All, Contains, Option, None, Some, is_some, codes, refl, sym, ap, ap₂, subst, ◌∙◌, arith, ⊎_elim}
+use Rattle.std.proofs.Common.{◌≡◌, ℕ, zero, suc, ◌<◌, ◌≤◌, Bool, true, false, ◌&&◌, cond, List, [], ◌∷◌, ◌++◌, length, slice_index_or, map, All, Contains, Option, None, Some, is_some, codes, refl, sym, ap, ap₂, subst, ◌∙◌, arith, ⊎_elim}
 use Rattle.std.proofs.lemmas.List.{map-append}
 use Rattle.std.proofs.lemmas.List.Elements.{All-nil, All-cons, All-append}
 use Rattle.air_field.specs.Modular.{Modular}
@@ -37,7 +37,7 @@ marked_reach : {F : Type 0} (ns : List (SymbolicExpr (BaseLeaf F))) (marks : Lis
 marked_reach ns marks from i closed at (root c) = subst (λ j. Marked marks j) (only c) at
   where
     only : Contains (from ∷ []) i → from ≡ i
-    only c = let first : c.0 ≡ 0 = omega (arith, c.1) in sym (ap (λ (j : ℕ). get_or (from ∷ []) j i) first) ∙ c.2
+    only c = let first : c.0 ≡ 0 = omega (arith, c.1) in sym (ap (λ (j : ℕ). slice_index_or (from ∷ []) j i) first) ∙ c.2
 marked_reach ns marks from i closed at (operand {j = j} {n = n} h is op) =
     each_operand (λ k. Marked marks k) i n (closed.operands j n (marked_reach ns marks from j closed at h) is) op
 
@@ -78,14 +78,14 @@ reads_here ns from numbers h = subst (λ xs. All (λ i. i < length ns) xs) (sym 
 -- what a number reads is marked where the number is
 read_marked : {F : Type 0} (ns : List (SymbolicExpr (BaseLeaf F))) (marks read : List (Option ℕ)) (from i : ℕ) → AreClosed ns marks → Marked marks from → Reached base_leaves ns (from ∷ []) read → is_read ns read i ≡ true → Marked marks i
 read_marked ns marks read from i closed at h is =
-    let some = some_of (get_or read i None) (both_true (is_reached read i) (has_variable (node_at ns i)) is) in
+    let some = some_of (slice_index_or read i None) (both_true (is_reached read i) (has_variable (node_at ns i)) is) in
     marked_reach ns marks from i closed at (h.only_reached i some.0 some.1).1
 
 -- The lines by values that are known explain a number.
-pub explains_known : {F : Type 0} {p : ℕ} (m : Modular F p) (r : CommRing F) (s : Leaf → F) (pool : BaseNodes F) (names marks : List (Option ℕ)) (values : List F) (from : ℕ) (numbers : List ℕ) → AreClosed pool.1 marks → Known r s pool.1 marks (length pool.1) values → from < length pool.1 → Marked marks from → Reads pool.1 from numbers → Explains m r s pool names from (explained_lines m pool names (λ i. get_or values i r.zero) from numbers)
+pub explains_known : {F : Type 0} {p : ℕ} (m : Modular F p) (r : CommRing F) (s : Leaf → F) (pool : BaseNodes F) (names marks : List (Option ℕ)) (values : List F) (from : ℕ) (numbers : List ℕ) → AreClosed pool.1 marks → Known r s pool.1 marks (length pool.1) values → from < length pool.1 → Marked marks from → Reads pool.1 from numbers → Explains m r s pool names from (explained_lines m pool names (λ i. slice_index_or values i r.zero) from numbers)
 explains_known {F} m r s pool names marks values from numbers closed known here at reads =
     let ns = pool.1 in
-    let f : ℕ → List ℕ = equation m pool names (λ i. get_or values i r.zero) in
+    let f : ℕ → List ℕ = equation m pool names (λ i. slice_index_or values i r.zero) in
     let g : ℕ → List ℕ = equation m pool names (value_at r s ns) in
     let same : (i : ℕ) → i < length ns → Marked marks i → f i ≡ g i =
     λ i b marked. ap (λ (v : F). infix_text m Loose (shown (listed_name names) ns i) ++ (codes " = " ++ constant_text m v)) (known i b marked) in

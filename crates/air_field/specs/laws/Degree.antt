@@ -1,5 +1,5 @@
 -- Degrees of terms.
-use Rattle.std.proofs.Common.{ℕ, zero, suc, ◌+◌, ◌-◌, ◌<◌, ◌≤◌, List, get_or, refl, ap, ◌∙◌, arith, ⊎_elim}
+use Rattle.std.proofs.Common.{ℕ, zero, suc, ◌+◌, ◌-◌, ◌<◌, ◌≤◌, List, slice_index_or, refl, ap, ◌∙◌, arith, ⊎_elim}
 use Rattle.std.proofs.Math.Nat.{le-max_left, le-max_right}
 use Rattle.std.proofs.lemmas.Bool.{cases_lt}
 use Rattle.air_field.specs.Ring.{CommRing, AlgebraOver}
@@ -26,7 +26,7 @@ module _ {E : Type 0} (r : CommRing E) where
 
 -- Where each leaf's polynomial is within its weight, a term's polynomial is within its degree.
 pub polynomial-degree : {F E : Type 0} (a : AlgebraOver F E) (s : Leaf → List E) (w : Leaf → ℕ)
-    → ((x : Leaf) → HasDegreeAtMost a.ring (λ n. get_or (s x) n a.ring.zero) (w x)) → (t : Term F)
+    → ((x : Leaf) → HasDegreeAtMost a.ring (λ n. slice_index_or (s x) n a.ring.zero) (w x)) → (t : Term F)
     → HasDegreeAtMost a.ring (polynomial a s t) (degree_by w t)
 polynomial-degree a s w h (leaf_term x) k b = h x k b
 polynomial-degree a s w h (const_term c) k b = only-degree a.ring (a.embed c) 0 k b

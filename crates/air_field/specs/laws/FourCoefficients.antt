@@ -1,6 +1,6 @@
 -- The lists of four coefficients are a commutative ring modulo X^4 - w.
 use Rattle.std.specs.Prelude.{◌≡◌, refl, List, [], ◌∷◌, length}
-use Rattle.std.proofs.Common.{get_or, ◌∙◌, ap, arith}
+use Rattle.std.proofs.Common.{slice_index_or, ◌∙◌, ap, arith}
 use Rattle.air_field.specs.Ring.{CommRing}
 use Rattle.air_field.specs.RingOps.{RingOps, ops}
 use Rattle.air_field.specs.laws.RingSolver.{Expr, var, unit, nought, expr_ops, vars, ring_list}
@@ -165,9 +165,9 @@ four_add_neg R p hp = by_four (λ y. poly_add (ops R) y (poly_neg (ops R) y) ≡
 -- ---- the product as the code writes it
 
 -- four items, as they were read of a list
-from_reads : {A : Type 0} (p : List A) (a b c d : A) → length p ≡ 4 → a ≡ get_or p 0 a → b ≡ get_or p 1 b → c ≡ get_or p 2 c → d ≡ get_or p 3 d → a ∷ b ∷ c ∷ d ∷ [] ≡ p
+from_reads : {A : Type 0} (p : List A) (a b c d : A) → length p ≡ 4 → a ≡ slice_index_or p 0 a → b ≡ slice_index_or p 1 b → c ≡ slice_index_or p 2 c → d ≡ slice_index_or p 3 d → a ∷ b ∷ c ∷ d ∷ [] ≡ p
 from_reads p a b c d h =
-    by_four (λ l. a ≡ get_or l 0 a → b ≡ get_or l 1 b → c ≡ get_or l 2 c → d ≡ get_or l 3 d → a ∷ b ∷ c ∷ d ∷ [] ≡ l)
+    by_four (λ l. a ≡ slice_index_or l 0 a → b ≡ slice_index_or l 1 b → c ≡ slice_index_or l 2 c → d ≡ slice_index_or l 3 d → a ∷ b ∷ c ∷ d ∷ [] ≡ l)
     (λ s t u v hs ht hu hv i. hs i ∷ ht i ∷ hu i ∷ hv i ∷ []) p h
 
 -- the product as sums of products with q's coefficients, w times those that X^4 has passed
@@ -187,7 +187,7 @@ rows_at R w a b c d e f g h =
     (wide (vars 0 4) (vars 4 4)) refl
 
 pub four_rows-is : {A : Type 0} (R : CommRing A) (w : A) (p q : List A) (e f g h : A) → length p ≡ 4 → length q ≡ 4
-    → e ≡ get_or q 0 e → f ≡ get_or q 1 f → g ≡ get_or q 2 g → h ≡ get_or q 3 h
+    → e ≡ slice_index_or q 0 e → f ≡ slice_index_or q 1 f → g ≡ slice_index_or q 2 g → h ≡ slice_index_or q 3 h
     → four_rows (ops R) w p e f g h ≡ binomial_mul (ops R) w p q
 four_rows-is R w p q e f g h hp hq he hf hg hh =
     by_four (λ l. four_rows (ops R) w l e f g h ≡ binomial_mul (ops R) w l (e ∷ f ∷ g ∷ h ∷ [])) (λ a b c d. rows_at R w a b c d e f g h) p hp

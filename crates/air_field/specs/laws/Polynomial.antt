@@ -1,5 +1,5 @@
 -- Polynomials of terms.
-use Rattle.std.proofs.Common.{◌≡◌, ℕ, zero, suc, List, [], ◌∷◌, get_or, refl, sym, ap, ◌∙◌}
+use Rattle.std.proofs.Common.{◌≡◌, ℕ, zero, suc, List, [], ◌∷◌, slice_index_or, refl, sym, ap, ◌∙◌}
 use Rattle.air_field.specs.Ring.{CommRing, AlgebraOver, AlgebraOverLaws}
 use Rattle.air_field.specs.laws.Ring.{mul_zero}
 use Rattle.air_field.specs.Term.{Leaf, Term, leaf_term, const_term, ext_const_term, add_term, sub_term, neg_term, mul_term}
@@ -11,7 +11,7 @@ use Rattle.air_field.specs.Same.{assoc_mul, comm_mul, mul_sum, ext_base}
 use Rattle.air_field.specs.laws.Sums as sums
 
 -- The constant coefficient is the value.
-pub polynomial-zero : {F E : Type 0} (a : AlgebraOver F E) (s : Leaf → List E) (t : Term F) → polynomial a s t 0 ≡ value a (λ l. get_or (s l) 0 a.ring.zero) t
+pub polynomial-zero : {F E : Type 0} (a : AlgebraOver F E) (s : Leaf → List E) (t : Term F) → polynomial a s t 0 ≡ value a (λ l. slice_index_or (s l) 0 a.ring.zero) t
 polynomial-zero a s (leaf_term l) = refl
 polynomial-zero a s (const_term c) = refl
 polynomial-zero a s (ext_const_term c) = refl
@@ -53,5 +53,5 @@ module _ {F E : Type 0} (r : CommRing F) (a : AlgebraOver F E) (m : AlgebraOverL
   Same-poly (ext_base {x = x} {xs = xs} z) n = ap (λ c. only a.ring c n) (sym (m.extend_base x xs z))
 
   -- so they have one value under every assignment
-  pub Same-value : {t u : Term F} → Same r t u → value a (λ l. get_or (s l) 0 a.ring.zero) t ≡ value a (λ l. get_or (s l) 0 a.ring.zero) u
+  pub Same-value : {t u : Term F} → Same r t u → value a (λ l. slice_index_or (s l) 0 a.ring.zero) t ≡ value a (λ l. slice_index_or (s l) 0 a.ring.zero) u
   Same-value {t = t} {u = u} h = sym (polynomial-zero a s t) ∙ (Same-poly h 0 ∙ polynomial-zero a s u)

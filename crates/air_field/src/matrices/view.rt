@@ -1,5 +1,5 @@
 //! Views: parts of matrices that are lent.
-ghost use Rattle.std.specs.Prelude.{◌≡◌, length};
+ghost use Rattle.std.specs.Prelude.{◌≡◌, length, ⊤};
 
 use std::alloc::AllocError;
 
@@ -46,7 +46,7 @@ impl<'a, T: Copy> Copy for ViewPair<'a, T> {}
 impl<'a, T: Copy> Clone for ViewPair<'a, T> {
     ghost is_clone = { λ x y. y ≡ x };
 
-    ghost is_infallible = { λ _. Unit {0} };
+    ghost is_infallible = { λ _. ⊤ };
 
     fn clone(&self) -> Result<Self, AllocError> {
         Ok(*self)

@@ -1,5 +1,5 @@
 -- The fold that goes on is Horner's, value after value.
-use Rattle.std.specs.Prelude.{◌≡◌, ℕ, zero, suc, ◌-◌, List, [], ◌∷◌, ◌++◌, length, get_or, refl}
+use Rattle.std.specs.Prelude.{◌≡◌, ℕ, zero, suc, ◌-◌, List, [], ◌∷◌, ◌++◌, length, slice_index_or, refl}
 use Rattle.std.proofs.Common.{sym, ◌∙◌, ap, ap₂, arith}
 use Rattle.air_field.specs.Ring.{CommRing}
 use Rattle.air_field.specs.laws.Ring.{zero_add, zero_mul}
@@ -20,9 +20,9 @@ module _ {E : Type 0} (r : CommRing E) where
     -- the first value has the highest power
     pub sum_by_powers-first : (v : E) (values : List E) → sum_by_powers r alpha (v ∷ values) ≡ r.add (r.mul (power r alpha (length values)) v) (sum_by_powers r alpha values)
     sum_by_powers-first v values =
-        sum_below-first (λ i. r.mul (alpha_power r alpha (suc (length values)) i) (get_or (v ∷ values) i r.zero)) (length values)
+        sum_below-first (λ i. r.mul (alpha_power r alpha (suc (length values)) i) (slice_index_or (v ∷ values) i r.zero)) (length values)
         ∙ ap₂ (λ p s. r.add (r.mul (power r alpha p) v) s) (omega arith)
-        (ap (λ w. sum_below r w (length values)) (λ j i. r.mul (power r alpha (later (length values) i j)) (get_or values i r.zero)))
+        (ap (λ w. sum_below r w (length values)) (λ j i. r.mul (power r alpha (later (length values) i j)) (slice_index_or values i r.zero)))
       where
         later : (n i : ℕ) → suc n - 1 - suc i ≡ n - 1 - i
         later n i = omega arith

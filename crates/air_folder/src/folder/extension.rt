@@ -2,7 +2,7 @@
 ghost use Rattle.std.specs.Prelude.{◌≡◌, ◌≢◌, IfOk, IfErr, IsOk, Err, None};
 ghost use Rattle.air_folder.specs.Folder.{PermutationReadsAs, PermutationEnds};
 ghost use Rattle.air_folder.specs.laws.Folder.{folder_extension_laws};
-ghost use Rattle.air_folder.specs.FolderRow.{folder_row, permutation_of};
+ghost use Rattle.air_folder.specs.FolderRow.{folder_row, folder_permutation};
 
 use crate::folder::builder::ConstraintFolder;
 use crate::folder::ring::FolderRing;
@@ -51,10 +51,10 @@ impl<'a, F: Field, EF: ExtensionField<F>> PermutationAirBuilder for ConstraintFo
         ensures current_ends { IfOk result (λ w.
             PermutationEnds (folder_row self.now) 0 w.current.now) }
         ensures next_ends { IfOk result (λ w. PermutationEnds (folder_row self.now) 1 w.next.now) }
-        ensures answered { permutation_of self.now ≢ None → IsOk result }
-        ensures without { permutation_of self.now ≡ None → result ≡ Err AirError.NoPermutation }
+        ensures answered { folder_permutation self.now ≢ None → IsOk result }
+        ensures without { folder_permutation self.now ≡ None → result ≡ Err AirError.NoPermutation }
         ensures refused { IfErr result (λ e.
-            (e ≡ AirError.NoPermutation) × (permutation_of self.now ≡ None)) }
+            (e ≡ AirError.NoPermutation) × (folder_permutation self.now ≡ None)) }
     {
         match &self.permutation {
             Some(pair) => Ok(RowWindow::from_two_rows(pair.top.values, pair.bottom.values)),

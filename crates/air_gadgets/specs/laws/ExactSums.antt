@@ -1,5 +1,5 @@
 -- The asserted terms of an addition, and the sum of the words.
-use Rattle.std.specs.Prelude.{◌≡◌, ℕ, ◌↔◌}
+use Rattle.std.specs.Prelude.{◌≡◌, ℕ, ◌↔◌, ⊤}
 use Rattle.std.proofs.Common.{sym, ◌∙◌, ap, ap₂}
 use Rattle.air_field.specs.Ring.{CommRing, image, minus}
 use Rattle.air_field.specs.laws.Images.{HasCharacteristic}
@@ -18,7 +18,7 @@ whole_same R q x y k l e f = ap₂ R.add e (ap (λ z. R.mul z q) f ∙ R.mul_com
 -- both terms vanish exactly if what they are is zero
 both_vanish : {A : Type 0} (R : CommRing A) (n : ℕ) {P : Type 0} {x y k l : A} → x ≡ k → y ≡ l
     → ((carried R k 4294967296 n ≡ R.zero) × (carried R l 65536 n ≡ R.zero)) ↔ P
-    → ((carried R x 4294967296 n ≡ R.zero) × ((carried R y 65536 n ≡ R.zero) × Unit {0})) ↔ P
+    → ((carried R x 4294967296 n ≡ R.zero) × ((carried R y 65536 n ≡ R.zero) × ⊤)) ↔ P
 both_vanish R n whole low exact =
     let whole_is = ap (λ z. carried R z 4294967296 n) whole in
     let low_is = ap (λ z. carried R z 65536 n) low in (

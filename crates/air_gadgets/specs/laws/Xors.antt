@@ -1,5 +1,5 @@
 -- Bits in a ring, their xor and their packing, and a word's list rotated.
-use Rattle.std.specs.Prelude.{◌≡◌, ℕ, zero, suc, refl, ◌+◌, ◌-◌, ◌*◌, ◌%◌, ◌<◌, ◌↔◌, List, [], ◌∷◌, ◌++◌, map, take, drop}
+use Rattle.std.specs.Prelude.{◌≡◌, ℕ, zero, suc, refl, ◌+◌, ◌-◌, ◌*◌, ◌%◌, ◌<◌, ◌↔◌, List, [], ◌∷◌, ◌++◌, map, take, drop, ⊤}
 use Rattle.std.proofs.lemmas.List.{take-map, drop-map, map-append}
 use Rattle.std.proofs.Common.{sym, ◌∙◌, ap, ap₂, subst, inl, inr, arith}
 use Rattle.air_field.specs.Ring.{CommRing, image, minus}
@@ -19,7 +19,7 @@ ring_xors R (x ∷ xs) [] = []
 ring_xors R (x ∷ xs) (y ∷ ys) = ring_xor R x y ∷ ring_xors R xs ys
 
 abbrev pub AllChecked : {A : Type 0} → CommRing A → List A → Type 0
-AllChecked R [] = Unit {0}
+AllChecked R [] = ⊤
 AllChecked R (x ∷ xs) = (bit_check R x ≡ R.zero) × AllChecked R xs
 
 pub same_of_minus : {A : Type 0} (R : CommRing A) (x y : A) → minus R x y ≡ R.zero → x ≡ y

@@ -1,4 +1,5 @@
 -- A report lists nothing exactly where every term vanishes at each row.
+use Rattle.std.specs.Prelude.{⊤}
 use Rattle.std.proofs.Common.{◌≡◌, ◌<◌, ◌≤◌, ℕ, zero, suc, ◌+◌, List, [], ◌∷◌, ◌++◌, map, Bool, true, false, not, cond, refl, sym, ◌∙◌, ap, subst, inl, inr, arith}
 use Rattle.std.specs.List.{filter, flat_map, range_with_len, enumerate_from}
 use Rattle.std.specs.Bool.{Decides}
@@ -27,7 +28,7 @@ unmapped f (x ∷ xs) e = absurd (never (f x) (map f xs) e)
 
 -- none passes the test
 Fails : {A : Type 0} → (A → Bool) → List A → Type 0
-Fails f [] = Unit {0}
+Fails f [] = ⊤
 Fails f (x ∷ xs) = (f x ≡ false) × Fails f xs
 
 fails_first : {A : Type 0} (f : A → Bool) (x : A) (xs : List A) (b : Bool) → f x ≡ b → cond b (x ∷ filter f xs) (filter f xs) ≡ []

@@ -6,7 +6,7 @@ use Rattle.serde_json.specs.Find.{get, as_array}
 use Rattle.air_wire.specs.declared.errors.FlatError.{FlatError}
 use Rattle.air_wire.specs.declared.errors.FlatError.TheVariants as faults
 use Rattle.air_wire.specs.Results.{◌>>=◌}
-use Rattle.air_wire.specs.laws.Readings.{done, done_is, bind_ok, ok_or_found}
+use Rattle.air_wire.specs.laws.Readings.{done, done_is, failed, err_is, bind_ok, ok_or_found}
 use Rattle.air_object.specs.Objects.{Grammar, by_form, AllSpell, FirstElementFault, list_of, needed, optional, both, both_or_none}
 use Rattle.air_object.specs.Readers.{Reader, formed, each_from, list_read, needed_read, or_absent, optional_read, both_read, if_either}
 
@@ -24,12 +24,6 @@ agrees_as g read other same agrees = record {
   fault = λ d f e. agrees.fault d f (sym (same d) ∙ e);
   refused = λ d f h. same d ∙ agrees.refused d f h;
 }
-
-abbrev pub failed : {A : Type 0} → FlatError → Result A FlatError
-failed f = Err f
-
-pub err_is : {A : Type 0} (f g : FlatError) → failed {A = A} f ≡ failed g → f ≡ g
-err_is f g e = cc
 
 some_is : {A : Type 0} (x y : A) → Some x ≡ Some y → x ≡ y
 some_is x y e = cc

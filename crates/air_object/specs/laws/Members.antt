@@ -11,14 +11,14 @@ use Rattle.air_wire.specs.laws.Boundaries.{cell_laws}
 use Rattle.air_wire.specs.laws.Lists.{root_found, root_again, root_fault, root_fault_read}
 use Rattle.air_wire.specs.Parts.{whole}
 use Rattle.air_wire.specs.Results.{◌>>=◌}
-use Rattle.air_wire.specs.laws.Readings.{named, number_found}
+use Rattle.air_wire.specs.laws.Readings.{named, number_found, failed, err_is}
 use Rattle.air_wire.specs.Spelling.{IsWholeNumber}
 use Rattle.air_wire.specs.declared.errors.FlatError.{FlatError}
 use Rattle.air_wire.specs.declared.errors.FlatError.TheVariants as faults
 use Rattle.air_object.specs.Objects.{list_of, needed, optional, both_or_none}
 use Rattle.air_object.specs.Members.{whole_number, ElementFault, element, constraint, cell, SpellsCap, cap, MemberValues, members}
 use Rattle.air_object.specs.Readers.{formed, tree, trees, elements, columns, cell_read, cells, cap_in, width_member, elements_member, table_member, constraints_member, periodic_member, boundary_member, cap_member, weight_member, members_read, Reader, both_read}
-use Rattle.air_object.specs.laws.Agreement.{Agrees, by_form_agrees, list_agrees, needed_agrees, optional_agrees, both_agree, both_or_none_agrees, agrees_as, failed, err_is}
+use Rattle.air_object.specs.laws.Agreement.{Agrees, by_form_agrees, list_agrees, needed_agrees, optional_agrees, both_agree, both_or_none_agrees, agrees_as}
 
 whole_again : (d : Data) (n : ℕ) → IsWholeNumber n d → whole d ≡ Some n
 whole_again d n h = ap whole h

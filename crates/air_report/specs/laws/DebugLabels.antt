@@ -1,5 +1,5 @@
 -- The debug builder keeps the laws of named builders.
-use Rattle.std.specs.Prelude.{◌≡◌, Result, Ok, Err, OnOk, OnErr, IfErr, ℕ, List, [], ◌∷◌, ◌++◌, map, Bool, true, false, not, cond, refl, All, Option}
+use Rattle.std.specs.Prelude.{◌≡◌, Result, Ok, Err, OnOk, OnErr, IfErr, ℕ, List, [], ◌∷◌, ◌++◌, map, Bool, true, false, not, cond, refl, All, Option, ⊤}
 use Rattle.std.specs.List.{AllZip, filter}
 use Rattle.std.proofs.Common.{inl, sym, ◌∙◌, ap, subst, arith, append_assoc}
 use Rattle.std.proofs.lemmas.List.{map-append, append-nil}
@@ -95,7 +95,7 @@ module _ {F E : Type 0} (zero : RowData F E → Assertion F → Bool) where
   module _ {S I : Type 0} (data_of : S → RowData F E) (count : S → ℕ) (failures : S → List ConstraintFailure)
       {asserts : S → I → Assertion F → Type 0} {a b : S} {x : I} (says : Option (List ℕ) → Type 0) (holds : Bool)
       (same : data_of b ≡ data_of a) where
-    pub logged_asserted : (r : Result (Unit {0}) AirError)
+    pub logged_asserted : (r : Result ⊤ AirError)
         → OnOk r (LogsOne (data_of a).row (count a) (count b) says holds (failures a) (failures b))
         → OnErr r (count b ≡ count a) → OnErr r (failures b ≡ failures a) → IfErr r (LogRefuses (count a) holds)
         → ((s : Assertion F) → asserts a x s → zero (data_of a) s ≡ holds)
@@ -111,7 +111,7 @@ module _ {F E : Type 0} (zero : RowData F E → Assertion F → Bool) where
         (nothing_at_row (data_of a) (data_of b) (count a) (count b) (failures a) (failures b) same n f)
         (λ s k. refused_of_log (data_of a) (count a) holds s (is s k) y e)
 
-    pub logged_labelled : (r : Result (Unit {0}) AirError)
+    pub logged_labelled : (r : Result ⊤ AirError)
         → OnOk r (LogsOne (data_of a).row (count a) (count b) says holds (failures a) (failures b))
         → OnErr r (count b ≡ count a) → OnErr r (failures b ≡ failures a)
         → ((s : Assertion F) → asserts a x s → zero (data_of a) s ≡ holds)

@@ -1,5 +1,7 @@
 //! The leaves of base expressions.
 
+ghost use Rattle.std.specs.Prelude.{⊤};
+
 use crate::leaves::sym_leaf::SymLeaf;
 use crate::pools::weight::{DegreeTable, LeafWeight};
 use air_core::SymbolicVariable;
@@ -31,7 +33,7 @@ impl<F: Field> SymLeaf for BaseLeaf<F> {
 
     ghost nodes_under = { λ _. 0 };
 
-    ghost has_degrees = { λ _ _ _. Unit {0} };
+    ghost has_degrees = { λ _ _ _. ⊤ };
 
     ghost no_under = { tt };
 

@@ -1,5 +1,5 @@
 //! Extension expressions that are base expressions.
-ghost use Rattle.std.specs.Prelude.{◌≡◌, ◌≢◌, ◌<◌, [], ◌∷◌, length, get_or, None, IfOk, IfErr, IfNone, MatchOption, Decides};
+ghost use Rattle.std.specs.Prelude.{◌≡◌, ◌≢◌, ◌<◌, [], ◌∷◌, length, slice_index_or, None, IfOk, IfErr, IfNone, MatchOption, Decides};
 ghost use Rattle.std.specs.Option.{IfSome};
 ghost use Rattle.air_symbolic.specs.ExtLeaves.{ext_reads, ext_grows};
 ghost use Rattle.air_symbolic.specs.ExtTrees.{HasExtOnly, lowered, IsLowered, HasTermOf};
@@ -19,8 +19,8 @@ fn lowered_at<F: Field, EF: ExtensionField<F>>(
     table: &[Option<ExprId<BaseLeaf<F>>>],
     id: ExprId<ExtLeaf<F, EF>>,
 ) -> ExprId<BaseLeaf<F>>
-    requires { get_or table.now id None ≢ None }
-    ensures { get_or table.now id None ≡ Some result }
+    requires { slice_index_or table.now id None ≢ None }
+    ensures { slice_index_or table.now id None ≡ Some result }
 {
     match table[id.number()] {
         Some(x) => x,

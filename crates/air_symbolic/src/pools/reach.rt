@@ -1,5 +1,5 @@
 //! Which expressions of a pool some roots reach.
-ghost use Rattle.std.specs.Prelude.{◌≡◌, ◌⊎◌, ◌<◌, ℕ, length, get_or, None, All, Contains, IfOk, IfErr};
+ghost use Rattle.std.specs.Prelude.{◌≡◌, ◌⊎◌, ◌<◌, ℕ, length, slice_index_or, None, All, Contains, IfOk, IfErr};
 ghost use Rattle.air_symbolic.specs.Nodes.{OperandsBelow};
 ghost use Rattle.air_symbolic.specs.Pools.{IsPool};
 ghost use Rattle.air_symbolic.specs.Reach.{EachOperand, IsOperand, Marked, MarkedMore, Reached};
@@ -13,7 +13,7 @@ use std::alloc::Global;
 // So many places, of which none is marked.
 fn unmarked<A: SymLeaf>(alloc: Global, places: usize) -> Result<Vec<Option<ExprId<A>>>, RingError>
     ensures places { IfOk result (λ marks. length marks.items ≡ places) }
-    ensures none { IfOk result (λ marks. (i : ℕ) → get_or marks.items i None ≡ None) }
+    ensures none { IfOk result (λ marks. (i : ℕ) → slice_index_or marks.items i None ≡ None) }
     ensures refused { IfErr result (λ e. e ≡ RingError.Memory) }
 {
     let mut marks = Vec::with_capacity(alloc, places)?;
@@ -79,7 +79,7 @@ fn mark_reached<A: SymLeaf>(
     requires pool { IsPool A.reads pool.now }
     requires here { All (λ x. x < length pool.now.1) roots.now }
     requires places { length marks.old ≡ length pool.now.1 }
-    requires none { (i : ℕ) → get_or marks.old i None ≡ None }
+    requires none { (i : ℕ) → slice_index_or marks.old i None ≡ None }
     ensures { Reached (A.reads pool.now.0) pool.now.1 roots.now marks.new }
 {
     mark_all(marks, roots);

@@ -1,7 +1,7 @@
 -- What is found by reading a value is what the value spells.
 use Rattle.air_wire.specs.declared.errors.FlatError.{FlatError}
 use Rattle.air_wire.specs.Results.{◌>>=◌}
-use Rattle.std.specs.Prelude.{◌≡◌, ℕ, List, [], ◌∷◌, Bool, true, false, Option, Some, None, Result, Ok, Err, ok_or, option_map, option_and_then, if◌then◌else◌, bytes_eq, refl}
+use Rattle.std.specs.Prelude.{◌≡◌, ℕ, List, [], ◌∷◌, Bool, true, false, Option, Some, None, Result, Ok, Err, ok_or, option_map, option_and_then, if◌then◌else◌, bytes_eq, refl, ⊤}
 use Rattle.std.proofs.Common.{sym, ap, subst, ◌∙◌}
 use Rattle.std.proofs.lemmas.Slice.Eq.{bytes_eq-Decides}
 use Rattle.serde_json.specs.Data.{Data, null, boolean, number, string, array, object, unsigned, negative, float, no_members, member}
@@ -78,7 +78,7 @@ field_with spells read found name d x e =
 
 -- P of each row
 abbrev pub Rows : {A : Type 0} → (List ℕ → A → Type 0) → List (List ℕ × A) → Type 0
-Rows P [] = Unit {0}
+Rows P [] = ⊤
 Rows P (row ∷ rows) = P row.0 row.1 × Rows P rows
 
 pub name_found : {A : Type 0} (P : List ℕ → A → Type 0) (rows : List (List ℕ × A)) (s : List ℕ) (z : A) → find_name rows s ≡ Some z → Rows P rows → P s z

@@ -1,11 +1,11 @@
 -- The places in the message that the rounds take their words from.
-use Rattle.std.specs.Prelude.{◌≡◌, ℕ, zero, suc, refl, ◌<◌, List, [], ◌∷◌, slice_index}
+use Rattle.std.specs.Prelude.{◌≡◌, ℕ, zero, suc, refl, ◌<◌, List, [], ◌∷◌, slice_index, ⊤}
 use Rattle.std.proofs.Common.{arith}
 use Rattle.blake3.specs.Compression.{permutation, place_in}
 
 -- each place is one of the sixteen
 abbrev AllBelow : List ℕ → Type 0
-AllBelow [] = Unit {0}
+AllBelow [] = ⊤
 AllBelow (x ∷ xs) = (x < 16) × AllBelow xs
 
 below_at : (xs : List ℕ) → AllBelow xs → (i : ℕ) → slice_index xs i < 16

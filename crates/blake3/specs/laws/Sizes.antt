@@ -64,8 +64,8 @@ rounds_words v m h (suc r) =
     let n = λ (i : ℕ). m (place_in r i) in
     from_diagonal_state _ (mixed_state (diagonals (columns_mixed x n)) (λ i. n (8 + i)) (diagonal_state (columns_mixed x n) (mixed_state x n (rounds_words v m h r))))
 
-pub first_words : (b : Block) → AreBlockWords b → AreStateWords (first_state b)
-first_words b h = record {
+pub first_state_words : (b : Block) → AreBlockWords b → AreStateWords (first_state b)
+first_state_words b h = record {
   q0 = record { a = h.chaining 0; b = h.chaining 4; c = omega arith; d = h.counter_low };
   q1 = record { a = h.chaining 1; b = h.chaining 5; c = omega arith; d = h.counter_high };
   q2 = record { a = h.chaining 2; b = h.chaining 6; c = omega arith; d = h.length };

@@ -1,6 +1,6 @@
 //! Names that are asked for only where an assertion at a row fails, and never where one is recorded; batches as arrays,
 //! and what a builder at a row, or a filter on it, lends.
-ghost use Rattle.std.specs.Prelude.{IfOk};
+ghost use Rattle.std.specs.Prelude.{IfOk, ⊤};
 
 use p3_air::{
     AirBuilder, AirBuilderWithContext, AirError, AirLayout, AssertAll, AssertAllExt,
@@ -127,9 +127,9 @@ struct Asking<'a>(&'a Cell<u32>);
 impl Name for Asking<'_> {
     type Output = &'static str;
 
-    ghost can_evaluate = { λ _. Unit {0} };
+    ghost can_evaluate = { λ _. ⊤ };
 
-    ghost displays = { λ _ _. Unit {0} };
+    ghost displays = { λ _ _. ⊤ };
 
     fn evaluate(self) -> Result<&'static str, AllocError> {
         self.0.set(1);

@@ -1,5 +1,5 @@
 -- That roots are in a pool has at most one proof.
-use Rattle.std.specs.Prelude.{ℕ, List, [], ◌∷◌}
+use Rattle.std.specs.Prelude.{ℕ, List, [], ◌∷◌, ⊤}
 use Rattle.std.proofs.Props.{props}
 use Rattle.air_symbolic.specs.BaseLeaves.{base_leaves}
 use Rattle.air_symbolic.specs.Nodes.{NodeFits, Absent, WellFormed}
@@ -24,5 +24,5 @@ WellFormed-prop : {F : Type 0} (ns : List (SymbolicExpr (BaseLeaf F))) → IsPro
 WellFormed-prop [] = hlevel props
 WellFormed-prop (n ∷ older) = hlevel (props, NodeFits-prop older n, Absent-prop n older, WellFormed-prop older)
 
-pub RootsIn-prop : {F : Type 0} (p : Unit {0} × List (SymbolicExpr (BaseLeaf F))) (roots : List ℕ) → IsProp (RootsIn p roots)
+pub RootsIn-prop : {F : Type 0} (p : ⊤ × List (SymbolicExpr (BaseLeaf F))) (roots : List ℕ) → IsProp (RootsIn p roots)
 RootsIn-prop p roots = hlevel (props, WellFormed-prop p.1)

@@ -1,6 +1,6 @@
 //! The plan by which the expressions of roots are made: once it is there, nothing is searched.
 ghost use Rattle.std.specs.List.{AllZip};
-ghost use Rattle.std.specs.Prelude.{◌≡◌, ◌++◌, ◌∷◌, [], ◌<◌, ℕ, length, get_or, All, None, Some, MatchOption, OnOk, IfOk, IfErr};
+ghost use Rattle.std.specs.Prelude.{◌≡◌, ◌++◌, ◌∷◌, [], ◌<◌, ℕ, length, slice_index_or, All, None, Some, MatchOption, OnOk, IfOk, IfErr};
 ghost use Rattle.air_symbolic.specs.BaseLeaves.{base_leaves, base_reads};
 ghost use Rattle.air_symbolic.specs.Nodes.{IsNode};
 ghost use Rattle.air_symbolic.specs.Pools.{IsPool};
@@ -48,7 +48,7 @@ fn number_marked<A: SymLeaf>(
     alloc: Global,
     marks: &[Option<ExprId<A>>],
 ) -> Result<(Vec<ExprId<A>>, Vec<usize>), AirError>
-    requires own { (i j : ℕ) → get_or marks.now i None ≡ Some j → j ≡ i }
+    requires own { (i j : ℕ) → slice_index_or marks.now i None ≡ Some j → j ≡ i }
     ensures numbered { IfOk result (λ both. HavePlaces marks.now both.0.items both.1.items) }
     ensures refused { IfErr result (λ e. e ≡ AirError.Memory) }
 {
@@ -64,7 +64,7 @@ fn number_marked<A: SymLeaf>(
 // The step that makes a node, whose operands stand at these places.
 fn step_of<A: SymLeaf>(node: SymbolicExpr<A>, places: &[usize]) -> Step
     requires { EachOperand (λ i. i < length places.now) node }
-    ensures { StepMakes (λ p i. p ≡ get_or places.now i 0) result node }
+    ensures { StepMakes (λ p i. p ≡ slice_index_or places.now i 0) result node }
 {
     match node {
         SymbolicExpr::Leaf(_) => Step::Leaf,
@@ -87,7 +87,7 @@ fn steps_of<F: Field>(
     requires long { length places.now ≡ length pool.now.1 }
     requires before { (k : ℕ) → k < length numbers.now → (n : SymbolicExpr (BaseLeaf F)) →
         IsNode base_leaves pool.now.1 (number_at numbers.now k) n →
-        EachOperand (λ i. IsPlaceOf numbers.now k (get_or places.now i 0) i) n }
+        EachOperand (λ i. IsPlaceOf numbers.now k (slice_index_or places.now i 0) i) n }
     ensures made { IfOk result (λ steps.
         AreSteps base_leaves pool.now.1 numbers.now steps.items) }
     ensures refused { IfErr result (λ e. e ≡ AirError.Memory) }
@@ -107,7 +107,7 @@ fn places_of<A: SymLeaf>(
 ) -> Result<Vec<usize>, AirError>
     requires { All (λ i. i < length places.now) roots.now }
     ensures placed { IfOk result (λ found.
-        AllZip (λ p i. p ≡ get_or places.now i 0) found.items roots.now) }
+        AllZip (λ p i. p ≡ slice_index_or places.now i 0) found.items roots.now) }
     ensures refused { IfErr result (λ e. e ≡ AirError.Memory) }
 {
     let mut found = Vec::new(alloc);

@@ -4,7 +4,8 @@ ghost use Rattle.air_symbolic.specs.BaseLeaves.{base_reads};
 ghost use Rattle.air_symbolic.specs.Pools.{IsPool, term_at};
 ghost use Rattle.air_builder.specs.Builders.{Means};
 ghost use Rattle.air_author.specs.Expressions.{MakesTerm};
-ghost use Rattle.p3_air.specs.Tables.{MadeAll, OrMemory};
+ghost use Rattle.air_builder.specs.Batches.{OrMemory};
+ghost use Rattle.p3_air.specs.Tables.{MadeAll};
 
 use crate::flat::nodes::known;
 use crate::flat::plan::plan_of;

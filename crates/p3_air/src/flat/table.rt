@@ -8,7 +8,8 @@ ghost use Rattle.air_builder.specs.Assertion.{Assertion};
 ghost use Rattle.air_builder.specs.Builders.{Means};
 ghost use Rattle.air_builder.specs.Refusals.{PartOf};
 ghost use Rattle.p3_air.specs.Plans.{number_at, IsPlan};
-ghost use Rattle.p3_air.specs.Tables.{IsMade, TableMade, MadeAll, OrMemory};
+ghost use Rattle.air_builder.specs.Batches.{OrMemory};
+ghost use Rattle.p3_air.specs.Tables.{IsMade, TableMade, MadeAll};
 
 use crate::flat::nodes::{known, make_step};
 use crate::flat::plan::Plan;

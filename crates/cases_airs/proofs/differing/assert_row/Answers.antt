@@ -5,7 +5,7 @@ use Rattle.air_field.specs.Term.{sub_term, mul_term}
 use Rattle.air_builder.specs.Assertion.{Base}
 use Rattle.air_builder.specs.laws.Batches.{grew_one, grew_none, refused_one}
 use Rattle.air_builder.specs.laws.Filters.{means_kept, inside_joined, inside_refused, refused_filter, after_filter}
-use Rattle.cases_airs.specs.Differing.{differing}
+use Rattle.cases_airs.specs.Differing.{differing_asserts}
 use Rattle.air_builder.specs.Notation.{current}
 use Rattle.cases_airs.proofs.DifferingParts.{part_condition, inside}
 use Rattle.cases_airs.proofs.differing.assert_row.Goals as goal
@@ -14,7 +14,7 @@ pub returns-in_err-condition-clause-refused : goal.returns-in_err-condition-clau
 returns-in_err-condition-clause-refused g c =
     let one = g.AB.F.Field.ONE in
     let p = err_from_is_err_and c.from_residual.result c.from_residual.ensures.1 in
-    rw (p.1, p.2) (c.in_err-condition.ensures.refused (current 1) (current 2) (differing one) c.requires.means.y_means c.requires.means.z_means (part_condition one))
+    rw (p.1, p.2) (c.in_err-condition.ensures.refused (current 1) (current 2) (differing_asserts one) c.requires.means.y_means c.requires.means.z_means (part_condition one))
 
 pub returns-in_err-assert_bool-clause-err : goal.returns-in_err-assert_bool-clause-err
 returns-in_err-assert_bool-clause-err g c =

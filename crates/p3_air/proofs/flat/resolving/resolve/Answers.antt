@@ -3,7 +3,7 @@ use Rattle.std.proofs.lemmas.Result.{err_from_is_err_and}
 use Rattle.air_symbolic.specs.BaseLeaves.{base_reads}
 use Rattle.air_symbolic.specs.Pools.{term_at}
 use Rattle.air_builder.specs.Builders.{Means}
-use Rattle.p3_air.specs.Tables.{OrMemory}
+use Rattle.air_builder.specs.Batches.{OrMemory}
 use Rattle.p3_air.proofs.Roots.{has_first, one_made, one_refused}
 use Rattle.p3_air.proofs.flat.resolving.resolve.Goals as goal
 

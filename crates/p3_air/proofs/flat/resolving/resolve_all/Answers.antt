@@ -2,7 +2,8 @@ use Rattle.std.proofs.Common.{subst}
 use Rattle.air_symbolic.specs.BaseLeaves.{base_leaves, base_reads}
 use Rattle.air_symbolic.specs.Pools.{term_at}
 use Rattle.air_builder.specs.Builders.{Means}
-use Rattle.p3_air.specs.Tables.{MadeAll, OrMemory}
+use Rattle.air_builder.specs.Batches.{OrMemory}
+use Rattle.p3_air.specs.Tables.{MadeAll}
 use Rattle.p3_air.proofs.Needed.{planned_terms, plan_of_places}
 use Rattle.p3_air.proofs.flat.resolving.resolve_all.Goals as goal
 

@@ -1,5 +1,6 @@
 use Rattle.std.proofs.Common.{Ok}
-use Rattle.air_author.specs.Constraints.{Asserted, asserts_of_first}
+use Rattle.air_builder.specs.Batches.{Asserted}
+use Rattle.air_author.specs.Constraints.{asserts_of_first}
 use Rattle.air_author.proofs.constraints.families.AllConstraint.assert_under.Given as goal
 
 abbrev pub invariant-loop-index : goal.invariant-loop-index

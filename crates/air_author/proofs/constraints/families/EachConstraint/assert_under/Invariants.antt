@@ -1,5 +1,6 @@
 use Rattle.std.proofs.Common.{Ok, take}
-use Rattle.air_author.specs.Constraints.{Asserted, asserts_of_each}
+use Rattle.air_builder.specs.Batches.{Asserted}
+use Rattle.air_author.specs.Constraints.{asserts_of_each}
 use Rattle.air_author.proofs.constraints.families.EachConstraint.assert_under.Given as goal
 
 abbrev pub invariant-loop-constraint : goal.invariant-loop-constraint

@@ -1,0 +1,16 @@
+-- The constraints of the Fibonacci AIR.
+use Rattle.std.specs.Prelude.{List, ◌++◌}
+use Rattle.p3_air.specs.Author.{Assertion, Declaration, plain_declaration, current, next, public, first_row, last_row, transition, ◌⊕◌, ◌≐◌, when}
+
+-- a and b begin with public values 0 and 1; the next a is b, and the next b is a + b; the last b is public value 2
+abbrev pub fibonacci : {F : Type 0} → List (Assertion F)
+fibonacci =
+    let a = current 0 in
+    let b = current 1 in
+    when first_row (a ≐ public 0 ++ b ≐ public 1) ++
+    when transition (next 0 ≐ b ++ next 1 ≐ a ⊕ b) ++
+    when last_row (b ≐ public 2)
+
+-- on two columns and three public values, with nothing beside
+abbrev pub fibonacci_declaration : {F : Type 0} → Declaration F
+fibonacci_declaration = plain_declaration fibonacci 2 3

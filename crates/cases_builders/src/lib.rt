@@ -1,0 +1,40 @@
+//! Cases of fields, rings, matrices, windows, cells, names, columns, bits, word gadgets, assertions and filters, read from
+//! tables: each line makes public calls, and says what they answer.
+#![tactic(auto)]
+
+mod airs;
+mod bits;
+mod cells;
+mod columns;
+mod labels;
+mod matrices;
+mod recordings;
+mod rows;
+mod trees;
+mod values;
+mod windows;
+mod words;
+
+use crate::recordings::Recordings;
+use crate::rows::Rows;
+use crate::values::Values;
+use cases::{Fault, Report, Table, Tables, Why, check_lines};
+
+/// The tables of this layer, by their heads.
+pub struct BuilderTables;
+
+impl Tables for BuilderTables {
+    fn check(
+        rt: &HostRuntime,
+        head: &str,
+        table: &Table<'_>,
+        report: &mut Report,
+    ) -> Result<(), Fault> {
+        match head {
+            "values" => check_lines::<Values>(rt, table, report),
+            "recordings" => check_lines::<Recordings>(rt, table, report),
+            "rows" => check_lines::<Rows>(rt, table, report),
+            _ => Err(Fault::Unreadable(Why::NoSuchTable)),
+        }
+    }
+}

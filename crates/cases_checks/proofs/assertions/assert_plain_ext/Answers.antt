@@ -1,8 +1,0 @@
-use contract.BorrowLft.{⊑_static}
-use Rattle.cases_checks.proofs.assertions.assert_plain_ext.Goals as goal
-
-pub assert_zero_ext_under-requires-lives-AB-ExtensionBuilder-2 : goal.assert_zero_ext_under-requires-lives-AB-ExtensionBuilder-2
-assert_zero_ext_under-requires-lives-AB-ExtensionBuilder-2 g c κs within = λ a m. ⊑_static _ a (c.type_bounds.static-EF a m)
-
-pub assert_zero_ext_under-requires-lives-AB-AirBuilder-2 : goal.assert_zero_ext_under-requires-lives-AB-AirBuilder-2
-assert_zero_ext_under-requires-lives-AB-AirBuilder-2 g c κs within = λ a m. ⊑_static _ a (c.type_bounds.static-EF a m)

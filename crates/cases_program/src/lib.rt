@@ -1,0 +1,30 @@
+//! Cases of the program over streams in memory, of the objects that it reads, and of the AIRs that it audits, read from
+//! tables: each line makes one public call, and says what it answers.
+#![tactic(auto)]
+
+mod bench;
+mod checks;
+mod fibonacci;
+mod flat_inputs;
+mod runs;
+mod streams;
+
+use crate::bench::Program;
+use cases::{Fault, Report, Table, Tables, Why, check_lines};
+
+/// The tables of this layer, by their heads.
+pub struct ProgramTables;
+
+impl Tables for ProgramTables {
+    fn check(
+        rt: &HostRuntime,
+        head: &str,
+        table: &Table<'_>,
+        report: &mut Report,
+    ) -> Result<(), Fault> {
+        match head {
+            "the program" => check_lines::<Program<'_>>(rt, table, report),
+            _ => Err(Fault::Unreadable(Why::NoSuchTable)),
+        }
+    }
+}
