@@ -22,6 +22,8 @@ pub trait Modulus: Copy {
         requires right { b < P }
         ensures { result ≡ (a * b) % P }
     {
-        (a as u64 * b as u64 % Self::P as u64) as u32
+        // a product has 62 bits; where LLVM sees that, it divides by one multiplication
+        let product = a as u64 * b as u64 % 4611686018427387904;
+        (product % Self::P as u64) as u32
     }
 }

@@ -60,7 +60,7 @@ impl<A: Copy + Ord> NodeTable<A> {
     }
 
     /// The allocator of the nodes.
-    pub fn allocator(&self) -> &Global {
+    pub(crate) fn allocator(&self) -> &Global {
         self.nodes.allocator()
     }
 
