@@ -1,4 +1,5 @@
 //! What a layer says of its tables.
+ghost use Rattle.std.specs.Prelude.{◌≢◌, OnOk};
 
 use crate::faults::Fault;
 use crate::lines::Line;
@@ -20,11 +21,12 @@ pub trait Bench<'a>: Sized + Drop {
 
 /// The tables of a program.
 pub trait Tables {
-    /// Checks the lines of a table by its head, the table's first line without `# `.
+    /// Checks the lines of a table by its head, the table's first line without `# `. A table without lines is refused.
     fn check(
         rt: &HostRuntime,
         head: &str,
         table: &Table<'_>,
         report: &mut Report,
-    ) -> Result<(), Fault>;
+    ) -> Result<(), Fault>
+        ensures counted { OnOk result (report.new.lines ≢ report.old.lines) };
 }

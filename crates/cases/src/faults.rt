@@ -1,4 +1,6 @@
 //! Why a line has no answer.
+ghost use Rattle.std.specs.Prelude.{◌≡◌, ◌↔◌, true, IfOk};
+ghost use Rattle.cases.specs.Reports.{IsRefusal};
 
 use air_core::AirError;
 use air_field::{MatrixError, RingError};
@@ -98,7 +100,9 @@ impl From<MatrixError> for Fault {
 }
 
 /// Adds why a line has no answer; whether it is one that a call can give.
-pub fn show_refusal(fault: Fault, text: &mut String) -> Result<bool, Fault> {
+pub fn show_refusal(fault: Fault, text: &mut String) -> Result<bool, Fault>
+    ensures { IfOk result (λ answers. (answers ≡ true) ↔ IsRefusal fault) }
+{
     match fault {
         Fault::Air(error) => write!(text, "{error:?}")?,
         Fault::List(error) => write!(text, "{error:?}")?,

@@ -1,4 +1,5 @@
 //! A table's lines.
+ghost use Rattle.std.specs.Prelude.{◌⊎◌, IfOk, IsSome};
 
 use crate::faults::{Fault, Why};
 use crate::words::count_of;
@@ -43,8 +44,11 @@ fn name_of(text: &str) -> Result<(Option<usize>, &str), Fault> {
     }
 }
 
-/// The line of a text `CALL => WANTED`, `NAME = CALL`, `NAME = CALL => WANTED` or `repeat COUNT NAME = CALL`.
-pub fn line_of<'a>(alloc: Global, text: &'a str) -> Result<Line<'a>, Fault> {
+/// The line of a text `CALL => WANTED`, `NAME = CALL`, `NAME = CALL => WANTED` or `repeat COUNT NAME = CALL`: none is
+/// taken that neither wants an answer nor names it.
+pub fn line_of<'a>(alloc: Global, text: &'a str) -> Result<Line<'a>, Fault>
+    ensures checks { IfOk result (λ line. IsSome line.name ⊎ IsSome line.wanted) }
+{
     let (made, wanted) = match text.split_once(" => ") {
         Some((made, wanted)) => (made, Some(wanted)),
         None => (text, None),

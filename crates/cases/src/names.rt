@@ -1,4 +1,5 @@
 //! The names that lines give to what they make.
+ghost use Rattle.std.specs.Prelude.{◌≡◌, ◌⊎◌, IfErr};
 
 use crate::faults::{Fault, Why};
 use std::alloc::Global;
@@ -42,7 +43,9 @@ impl<'a, T: Copy> Names<'a, T> {
     }
 
     /// What a name stands for.
-    pub fn get(&self, name: &str) -> Result<T, Fault> {
+    pub fn get(&self, name: &str) -> Result<T, Fault>
+        ensures refused { IfErr result (λ e. e ≡ Fault.Unreadable Why.NoSuchName) }
+    {
         match self.place(name) {
             Some(place) => match self.values.get(place) {
                 Some(value) => Ok(*value),
@@ -53,7 +56,10 @@ impl<'a, T: Copy> Names<'a, T> {
     }
 
     /// Gives a name to a value, a name that has one only `again`. Where it is refused the names are as they were.
-    pub fn bind(&mut self, name: &'a str, value: T, again: bool) -> Result<(), Fault> {
+    pub fn bind(&mut self, name: &'a str, value: T, again: bool) -> Result<(), Fault>
+        ensures refused { IfErr result (λ e. (e ≡ Fault.Memory)
+            ⊎ (e ≡ Fault.Unreadable Why.NameIsTaken) ⊎ (e ≡ Fault.Unreadable Why.NoSuchName)) }
+    {
         match self.place(name) {
             Some(place) if again => match self.values.get_mut(place) {
                 Some(known) => {

@@ -1,4 +1,6 @@
 //! What is found of the lines.
+ghost use Rattle.std.specs.Prelude.{◌≡◌, false, if◌then◌else◌};
+ghost use Rattle.cases.specs.Reports.{one_more};
 
 use crate::faults::Fault;
 
@@ -16,7 +18,13 @@ pub struct Report {
 }
 
 impl Report {
-    pub fn new(again: bool) -> Self {
+    /// Nothing is counted yet.
+    pub fn new(again: bool) -> Self
+        ensures lines { result.lines ≡ 0 }
+        ensures differ { result.differ ≡ 0 }
+        ensures again { result.again ≡ again }
+        ensures refused { result.refused ≡ false }
+    {
         Report {
             lines: 0,
             differ: 0,
@@ -26,7 +34,7 @@ impl Report {
         }
     }
 
-    /// Counts a line, and prints one that differs, or whose call was made again.
+    /// Counts a line, whatever becomes of the printing, and prints one that differs, or whose call was made again.
     pub fn count(
         &mut self,
         rt: &impl Print,
@@ -34,15 +42,22 @@ impl Report {
         line: &str,
         right: bool,
         found: &str,
-    ) -> Result<(), Fault> {
+    ) -> Result<(), Fault>
+        ensures lines { self.new.lines ≡ one_more self.old.lines }
+        ensures differ { self.new.differ
+            ≡ (if right then self.old.differ else one_more self.old.differ) }
+        ensures again { self.new.again ≡ self.old.again }
+    {
         self.lines = self.lines.saturating_add(1);
+        if !right {
+            self.differ = self.differ.saturating_add(1);
+        }
         let at = self.at;
         if self.refused {
             self.refused = false;
             println!(rt; "{table}:{at}: refused, and made again")?;
         }
         if !right {
-            self.differ = self.differ.saturating_add(1);
             println!(rt; "{table}:{at}: {line}")?;
             println!(rt; "    found: {found}")?;
         }

@@ -1,4 +1,5 @@
 //! Tables, line by line.
+ghost use Rattle.std.specs.Prelude.{◌≡◌, ◌≢◌, ◌<◌, ◌↔◌, true, false, OnOk};
 
 use crate::bench::{Bench, Tables};
 use crate::faults::{Fault, Why, show_refusal};
@@ -97,12 +98,15 @@ fn is_right<'a, B: Bench<'a>>(
     }
 }
 
-/// Checks each line of a table but the first one, comments and empty ones. At a line `new` the bench is made anew.
+/// Checks each line of a table but the first one, comments and empty ones. At a line `new` the bench is made anew. A table
+/// in which no line is counted is refused (`NoLines`).
 pub fn check_lines<'a, B: Bench<'a>>(
     rt: &HostRuntime,
     table: &Table<'a>,
     report: &mut Report,
-) -> Result<(), Fault> {
+) -> Result<(), Fault>
+    ensures counted { OnOk result (report.new.lines ≢ report.old.lines) }
+{
     let mut bench = B::new(rt.alloc());
     let mut text = String::new(rt.alloc());
     let before = report.lines;
@@ -131,7 +135,9 @@ fn check_table<T: Tables>(
     name: &str,
     text: &str,
     report: &mut Report,
-) -> Result<(), Fault> {
+) -> Result<(), Fault>
+    ensures counted { OnOk result (report.new.lines ≢ report.old.lines) }
+{
     report.at = 1;
     match text.split_once('\n') {
         Some((first, _)) => match first.split_once(' ') {
@@ -157,28 +163,35 @@ fn check_file<T: Tables>(rt: &HostRuntime, name: &str, report: &mut Report) -> R
     Ok(true)
 }
 
-// Checks the table of each word. Status 0 where there are lines and none differs, 1 where one does or there is none,
-// 2 where a table can't be gone through.
+// Status 0 where each table was gone through, there are lines, and none differs; 2 where a table wasn't gone through, else 1.
+fn status_of(whole: bool, report: &Report) -> u8
+    ensures good { (result ≡ 0)
+        ↔ ((whole ≡ true) × (0 < report.now.lines) × (report.now.differ ≡ 0)) }
+    ensures broken { (result ≡ 2) ↔ (whole ≡ false) }
+{
+    if !whole {
+        2
+    } else if report.lines == 0 || report.differ > 0 {
+        1
+    } else {
+        0
+    }
+}
+
+// Checks the table of each word, and answers the status.
 fn check_all<T: Tables>(rt: &HostRuntime) -> Result<u8, Fault> {
     let mut report = Report::new(false);
-    let mut all = true;
+    let mut whole = true;
     for word in env::args(rt)?.skip(1) {
         if word.as_str() == "again" {
             report.again = true;
         } else if !check_file::<T>(rt, word.as_str(), &mut report)? {
-            all = false;
+            whole = false;
         }
     }
-    let lines = report.lines;
-    let differ = report.differ;
+    let (lines, differ) = (report.lines, report.differ);
     println!(rt; "{lines} lines, {differ} differ")?;
-    if !all {
-        Ok(2)
-    } else if lines == 0 || differ > 0 {
-        Ok(1)
-    } else {
-        Ok(0)
-    }
+    Ok(status_of(whole, &report))
 }
 
 /// Checks the tables that the program's words name; behind a word `again` each call that is refused for want of memory

@@ -1,4 +1,9 @@
 //! Words as numbers, elements, values and texts.
+ghost use Rattle.std.specs.Prelude.{◌≡◌, ◌⊎◌, OkIff, IfOk, IfErr, Some};
+ghost use Rattle.air_field.specs.Ring.{image};
+ghost use Rattle.serde_json.specs.View.{view};
+ghost use Rattle.serde_json.specs.Read.{read as read_text};
+ghost use Rattle.cases.specs.Words.{IsNumber, number_in};
 
 use crate::faults::{Fault, Why};
 use air_field::{ExtensionField, Field, PrimeField64};
@@ -18,7 +23,10 @@ impl<F: PrimeField64> Number for F {
 }
 
 /// A count.
-pub fn count_of(word: &str) -> Result<usize, Fault> {
+pub fn count_of(word: &str) -> Result<usize, Fault>
+    ensures number { OkIff result (IsNumber word.now) (number_in word.now) }
+    ensures refused { IfErr result (λ e. e ≡ Fault.Unreadable Why.NoNumber) }
+{
     match word.parse::<usize>() {
         Ok(n) => Ok(n),
         Err(_) => Err(Fault::Unreadable(Why::NoNumber)),
@@ -26,7 +34,10 @@ pub fn count_of(word: &str) -> Result<usize, Fault> {
 }
 
 /// A number.
-pub fn number_of(word: &str) -> Result<u64, Fault> {
+pub fn number_of(word: &str) -> Result<u64, Fault>
+    ensures number { OkIff result (IsNumber word.now) (number_in word.now) }
+    ensures refused { IfErr result (λ e. e ≡ Fault.Unreadable Why.NoNumber) }
+{
     match word.parse::<u64>() {
         Ok(n) => Ok(n),
         Err(_) => Err(Fault::Unreadable(Why::NoNumber)),
@@ -45,7 +56,10 @@ pub fn counts_of(alloc: Global, word: &str) -> Result<Vec<usize>, Fault> {
 }
 
 /// The element of a number.
-pub fn element_of<F: Field>(word: &str) -> Result<F, Fault> {
+pub fn element_of<F: Field>(word: &str) -> Result<F, Fault>
+    ensures element { OkIff result (IsNumber word.now) (image F.ring (number_in word.now)) }
+    ensures refused { IfErr result (λ e. e ≡ Fault.Unreadable Why.NoNumber) }
+{
     Ok(F::from_u64(number_of(word)?))
 }
 
@@ -95,7 +109,10 @@ pub fn listed_extension<F: Field, EF: ExtensionField<F>>(
 }
 
 /// The JSON value of a word.
-pub fn value_of(alloc: Global, word: &str) -> Result<Value, Fault> {
+pub fn value_of(alloc: Global, word: &str) -> Result<Value, Fault>
+    ensures value { IfOk result (λ v. read_text word.now ≡ Some (view v)) }
+    ensures refused { IfErr result (λ e. (e ≡ Fault.Memory) ⊎ (e ≡ Fault.Unreadable Why.NoJson)) }
+{
     match Value::from_str(alloc, word) {
         Ok(value) => Ok(value),
         Err(error) if error.is_memory() => Err(Fault::Memory),

@@ -97,10 +97,10 @@ fn show_matrix<F: Number>(alloc: Global, air: &Said<F>, text: &mut String) -> Re
     Ok(())
 }
 
-// Adds what an AIR says that leaves all answers as they are.
-fn show_left<F: Field>(
+/// Adds what an AIR says that leaves all answers as they are.
+pub fn show_said<F: Field, A: BaseAir<F>>(
     alloc: Global,
-    air: &Said<F>,
+    air: &A,
     call: &str,
     text: &mut String,
 ) -> Result<(), Fault> {
@@ -166,7 +166,7 @@ pub fn air<F: Number>(alloc: Global, call: &[&str], text: &mut String) -> Result
         }
         [word, "of", width, values, cells @ ..] => {
             let air: Said<F> = with_table(alloc, *width, *values, cells)?;
-            show_left(alloc, &air, *word, text)
+            show_said(alloc, &air, *word, text)
         }
         _ => Err(Fault::Unreadable(Why::NoSuchCall)),
     }

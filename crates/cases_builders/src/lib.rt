@@ -6,6 +6,7 @@ mod airs;
 mod bits;
 mod cells;
 mod columns;
+mod hints;
 mod labels;
 mod matrices;
 mod recordings;

@@ -4,6 +4,7 @@ use crate::airs::air;
 use crate::bits::utils;
 use crate::cells::boundary;
 use crate::columns::{pair_col, virtual_pair_col};
+use crate::hints::hint;
 use crate::labels::names;
 use crate::matrices::{matrix, view_pair};
 use crate::windows::window;
@@ -32,6 +33,7 @@ impl<'a> Bench<'a> for Values {
             ["boundary", call @ ..] => boundary(alloc, call, text),
             ["name", call @ ..] => names(alloc, call, text),
             ["air", call @ ..] => air::<BabyBear>(alloc, call, text),
+            ["hint", air, call] => hint(alloc, *air, *call, text),
             ["PairCol", call @ ..] => pair_col::<BabyBear>(alloc, call, text),
             ["VirtualPairCol", call @ ..] => virtual_pair_col::<BabyBear>(alloc, call, text),
             ["utils", call @ ..] => utils(alloc, call, text),

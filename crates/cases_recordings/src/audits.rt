@@ -1,7 +1,8 @@
 //! Audits: the recording, the report and the degree at once.
 ghost use Rattle.air_symbolic.specs.Pools.{IsPool};
 
-use crate::recordings::{Recorder, show_bases};
+use crate::expressions::show_expressions;
+use crate::recordings::Recorder;
 use air_builder::{Air, BaseAir};
 use air_field::RowMajorMatrix;
 use air_report::{ConstraintFailure, DebugConstraintBuilder};
@@ -47,7 +48,7 @@ fn show_audit<F: Number>(audit: &Audit<F>, text: &mut String) -> Result<(), Faul
     )?;
     show_failures(&audit.report.failures, text)?;
     text.push_str(" | recorded: ")?;
-    show_bases(audit.recorded.pool.base(), &audit.recorded.base, text)
+    show_expressions(audit.recorded.pool.base(), &audit.recorded.base, text)
 }
 
 /// Adds what an audit finds.

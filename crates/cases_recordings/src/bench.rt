@@ -3,7 +3,6 @@
 use crate::audits::Given;
 use crate::filters::show_when;
 use crate::folds::{Row, answer_hiding, row_of};
-use crate::hints::answer_hints;
 use crate::kinds::{audited, audited_under_cap, by_base, by_extension, folded};
 use crate::layouts::{answer_layout, layout_of};
 use crate::lent::answer_lent;
@@ -148,7 +147,6 @@ impl<'a> Bench<'a> for Alone {
         }
         if answer_layout(alloc, words, text)?
             || answer_lent::<BabyBear, Element>(alloc, words, text)?
-            || answer_hints(alloc, words, text)?
             || answer_hiding(alloc, words, text)?
         {
             return Ok(());

@@ -1,14 +1,14 @@
 //! The variables and selectors that the symbolic builder lends, and what it records of assertions over the extension.
 ghost use Rattle.std.specs.Prelude.{[], IfOk};
 
-use crate::expressions::{show_base, show_ext_variable, show_variable};
+use crate::expressions::{ShownVariable, show_expression, show_expressions};
 use crate::layouts::layout_of;
-use crate::recordings::{Recorder, show_exts};
+use crate::recordings::Recorder;
 use air_builder::{
     AirBuilder, AirError, ExtensionBuilder, NamedExtensionBuilder, PermutationAirBuilder,
     WindowAccess,
 };
-use air_core::{SymbolicVariable, SymbolicVariableExt, TwoRows};
+use air_core::TwoRows;
 use air_field::{Algebra, ExtAlgebra, ExtensionField, Field};
 use air_recording::{AirLayout, SymbolicAirBuilder};
 use cases::words::{Number, count_of, element_of, extension_of};
@@ -37,12 +37,9 @@ fn at<T: Copy>(window: &TwoRows<T>, row: &str, column: &str) -> Result<Option<T>
 }
 
 // Adds a variable, or that there is none.
-fn show_found<F: Field>(
-    found: Option<SymbolicVariable<F>>,
-    text: &mut String,
-) -> Result<(), Fault> {
+fn show_found<V: ShownVariable>(found: Option<V>, text: &mut String) -> Result<(), Fault> {
     match found {
-        Some(v) => show_variable(v, text),
+        Some(v) => v.show(text),
         None => {
             text.push_str("None")?;
             Ok(())
@@ -50,34 +47,10 @@ fn show_found<F: Field>(
     }
 }
 
-fn show_ext_found<F: Field, EF: ExtensionField<F>>(
-    found: Option<SymbolicVariableExt<F, EF>>,
-    text: &mut String,
-) -> Result<(), Fault> {
-    match found {
-        Some(v) => show_ext_variable(v, text),
-        None => {
-            text.push_str("None")?;
-            Ok(())
-        }
-    }
-}
-
-fn show_variables<F: Field>(all: &[SymbolicVariable<F>], text: &mut String) -> Result<(), Fault> {
+fn show_variables<V: ShownVariable>(all: &[V], text: &mut String) -> Result<(), Fault> {
     for (place, v) in all.iter().enumerate() {
         text.push_str(if place == 0 { "" } else { " " })?;
-        show_variable(*v, text)?;
-    }
-    Ok(())
-}
-
-fn show_ext_variables<F: Field, EF: ExtensionField<F>>(
-    all: &[SymbolicVariableExt<F, EF>],
-    text: &mut String,
-) -> Result<(), Fault> {
-    for (place, v) in all.iter().enumerate() {
-        text.push_str(if place == 0 { "" } else { " " })?;
-        show_ext_variable(*v, text)?;
+        v.show(text)?;
     }
     Ok(())
 }
@@ -134,7 +107,7 @@ fn show_selector<F: Number, EF: ExtensionField<F>>(
     requires { ⟦<SymbolicAirBuilder<F, EF> as AirBuilder>⟧.ready builder.old }
 {
     let x = lent_selector(builder, selector_of(words)?)?;
-    show_base(builder.ring(), x, 1, false, text)
+    show_expression(builder.ring(), x, 1, false, text)
 }
 
 // Asserts that an element of the extension is zero, under a name.
@@ -184,7 +157,7 @@ fn show_recorded<F: Number, EF: ExtensionField<F>>(
     requires { ⟦<SymbolicAirBuilder<F, EF> as AirBuilder>⟧.ready builder.old }
 {
     let numbers = builder.extension_constraints().to_vec(alloc)?;
-    show_exts(builder.ext_ring(), numbers.as_slice(), text)
+    show_expressions(builder.ext_ring(), numbers.as_slice(), text)
 }
 
 // Adds the variable of a window that a builder lends.
@@ -198,7 +171,7 @@ fn show_in_window<F: Number, EF: ExtensionField<F>>(
     match window {
         "main" => show_found(at(&builder.main()?, row, column)?, text),
         "preprocessed" => show_found(at(builder.preprocessed(), row, column)?, text),
-        "permutation" => show_ext_found(at(&builder.permutation()?, row, column)?, text),
+        "permutation" => show_found(at(&builder.permutation()?, row, column)?, text),
         "main_variable" => {
             show_found(
                 builder.main_variable(count_of(row)?, count_of(column)?),
@@ -207,7 +180,7 @@ fn show_in_window<F: Number, EF: ExtensionField<F>>(
         }
         "permutation_variable" => {
             let (row, column) = (count_of(row)?, count_of(column)?);
-            show_ext_found(builder.permutation_variable(row, column)?, text)
+            show_found(builder.permutation_variable(row, column)?, text)
         }
         _ => Err(Fault::Unreadable(Why::NoSuchCall)),
     }
@@ -222,8 +195,8 @@ fn show_list<F: Number, EF: ExtensionField<F>>(
     match list {
         "public_values" => show_variables(builder.public_values(), text)?,
         "periodic_values" => show_variables(builder.periodic_values(), text)?,
-        "permutation_randomness" => show_ext_variables(builder.permutation_randomness(), text)?,
-        "permutation_values" => show_ext_variables(builder.permutation_values(), text)?,
+        "permutation_randomness" => show_variables(builder.permutation_randomness(), text)?,
+        "permutation_values" => show_variables(builder.permutation_values(), text)?,
         _ => return Ok(false),
     }
     Ok(true)

@@ -7,7 +7,6 @@ mod bench;
 mod expressions;
 mod filters;
 mod folds;
-mod hints;
 mod kinds;
 mod layouts;
 mod lent;

@@ -2,7 +2,7 @@
 ghost use Rattle.std.specs.Prelude.{IfOk};
 ghost use Rattle.air_symbolic.specs.Pools.{IsPool};
 
-use crate::expressions::{BasePool, ExtPool, show_base, show_ext};
+use crate::expressions::show_expressions;
 use air_builder::{Air, AirError};
 use air_field::ExtensionField;
 use air_recording::{
@@ -10,55 +10,12 @@ use air_recording::{
     get_max_constraint_degree, get_max_constraint_degree_extension, get_symbolic_constraints,
     get_symbolic_constraints_extension,
 };
-use air_symbolic::{BaseLeaf, ExprId, ExtLeaf, SymLeaf};
+use air_symbolic::{BaseLeaf, ExprId, ExprPool, ExtLeaf, SymLeaf};
 use cases::words::{Number, count_of, counts_of};
 use cases::{Fault, Why};
 use std::alloc::Global;
 
 pub type Recorder<F, EF> = SymbolicAirBuilder<F, EF>;
-
-/// How deep a tree is shown.
-const DEPTH: usize = 8;
-
-/// Adds base expressions with the degrees that their nodes state, `none` of none.
-pub fn show_bases<F: Number>(
-    pool: &BasePool<F>,
-    numbers: &[ExprId<BaseLeaf<F>>],
-    text: &mut String,
-) -> Result<(), Fault>
-    requires { IsPool ⟦<BaseLeaf<F> as SymLeaf>⟧.reads pool.now }
-{
-    for (place, number) in numbers.iter().enumerate() {
-        text.push_str(if place == 0 { "" } else { "; " })?;
-        show_base(pool, *number, DEPTH, false, text)?;
-        if pool.contains(*number) {
-            let degree = pool.degree_multiple(*number);
-            write!(text, ", degree {degree}")?;
-        }
-    }
-    text.push_str(if numbers.is_empty() { "none" } else { "" })?;
-    Ok(())
-}
-
-/// The same of expressions over the extension.
-pub fn show_exts<F: Number, EF: ExtensionField<F>>(
-    pool: &ExtPool<F, EF>,
-    numbers: &[ExprId<ExtLeaf<F, EF>>],
-    text: &mut String,
-) -> Result<(), Fault>
-    requires { IsPool ⟦<ExtLeaf<F, EF> as SymLeaf>⟧.reads pool.now }
-{
-    for (place, number) in numbers.iter().enumerate() {
-        text.push_str(if place == 0 { "" } else { "; " })?;
-        show_ext(pool, *number, DEPTH, false, text)?;
-        if pool.contains(*number) {
-            let degree = pool.degree_multiple(*number);
-            write!(text, ", degree {degree}")?;
-        }
-    }
-    text.push_str(if numbers.is_empty() { "none" } else { "" })?;
-    Ok(())
-}
 
 // Adds the base constraints of an AIR, and how many others there are, of which there are to be none.
 fn show_symbolic<F: Number, A: Air<Recorder<F, F>>>(
@@ -68,7 +25,7 @@ fn show_symbolic<F: Number, A: Air<Recorder<F, F>>>(
     text: &mut String,
 ) -> Result<(), Fault> {
     let recorded = get_symbolic_constraints::<F, A>(alloc, air, layout)?;
-    show_bases(recorded.pool.base(), &recorded.base, text)?;
+    show_expressions(recorded.pool.base(), &recorded.base, text)?;
     let ext = recorded.ext.len();
     if ext > 0 {
         write!(text, ", and {ext} over the extension")?;
@@ -78,7 +35,7 @@ fn show_symbolic<F: Number, A: Air<Recorder<F, F>>>(
 
 // Adds the degrees that the nodes of base expressions state.
 fn show_degrees<F: Number>(
-    pool: &BasePool<F>,
+    pool: &ExprPool<BaseLeaf<F>>,
     numbers: &[ExprId<BaseLeaf<F>>],
     text: &mut String,
 ) -> Result<(), Fault>
@@ -96,7 +53,7 @@ fn show_degrees<F: Number>(
 
 // Adds the degrees of the polynomials of base expressions over so many rows.
 fn show_poly_degrees<F: Number>(
-    pool: &BasePool<F>,
+    pool: &ExprPool<BaseLeaf<F>>,
     numbers: &[ExprId<BaseLeaf<F>>],
     rows: usize,
     periods: &[usize],
@@ -122,9 +79,9 @@ pub fn show_both<F: Number, EF: ExtensionField<F>>(
     requires { IsPool ⟦<ExtLeaf<F, EF> as SymLeaf>⟧.reads recorded.now.pool }
 {
     text.push_str("base: ")?;
-    show_bases(recorded.pool.base(), &recorded.base, text)?;
+    show_expressions(recorded.pool.base(), &recorded.base, text)?;
     text.push_str(" | extension: ")?;
-    show_exts(&recorded.pool, &recorded.ext, text)
+    show_expressions(&recorded.pool, &recorded.ext, text)
 }
 
 fn show_all<F: Number, EF: ExtensionField<F>, A: Air<Recorder<F, EF>>>(

@@ -1,4 +1,4 @@
 use Rattle.cases_recordings.proofs.lent.show_recorded.Goals as goal
 
-pub show_exts-requires : goal.show_exts-requires
-show_exts-requires g c = rw c.ext_ring.ensures.value c.requires.pool
+pub show_expressions-requires : goal.show_expressions-requires
+show_expressions-requires g c = rw c.ext_ring.ensures.value c.requires.pool

@@ -1,0 +1,11 @@
+-- Words of lines as whole numbers.
+use Rattle.std.specs.Prelude.{ℕ, ◌<◌, ◌^◌, List}
+use Rattle.std.specs.Str.Parse.{IsNumeral, digits_value, without_leading_plus}
+
+-- the word is a whole number in decimals that fits 64 bits; a plus may stand first
+abbrev pub IsNumber : List ℕ → Type 0
+IsNumber word = IsNumeral 10 (without_leading_plus word) × (digits_value 10 (without_leading_plus word) < 2 ^ 64)
+
+-- that number
+abbrev pub number_in : List ℕ → ℕ
+number_in word = digits_value 10 (without_leading_plus word)
