@@ -1,6 +1,7 @@
 //! Why a line has no answer.
 ghost use Rattle.std.specs.Prelude.{◌≡◌, ◌↔◌, true, IfOk};
 ghost use Rattle.cases.specs.Reports.{IsRefusal};
+ghost use Rattle.cases.specs.declared.faults.Fault.TheVariants.{Memory};
 
 use air_core::AirError;
 use air_field::{MatrixError, RingError};
@@ -46,12 +47,16 @@ pub enum Why {
 }
 
 impl From<AllocError> for Fault {
+    ghost from_gives = { λ _ fault. fault ≡ Memory };
+
     fn from(_error: AllocError) -> Fault {
         Fault::Memory
     }
 }
 
 impl<T: Drop> From<AllocFailed<T>> for Fault {
+    ghost from_gives = { λ _ fault. fault ≡ Memory };
+
     fn from(_error: AllocFailed<T>) -> Fault {
         Fault::Memory
     }
