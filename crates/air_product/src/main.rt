@@ -13,9 +13,9 @@ fn report_on(
     column: &RowMajorMatrix<BabyBear>,
     beside: Permutation<'_, Extension>,
 ) -> Result<String, AirError> {
-    let mut text = String::new(alloc);
+    let (air, public_values, mut text) = (RunningProduct, [], String::new(alloc));
     for row in 0..column.height().min(beside.trace.height()) {
-        let failed = check_row_with_permutation(alloc, &RunningProduct, column, &[], beside, row)?;
+        let failed = check_row_with_permutation(alloc, &air, column, &public_values, beside, row)?;
         write!(text, "row {row}: {failed:?}\n")?;
     }
     Ok(text)
