@@ -1,10 +1,10 @@
 -- Base parts are as the lists of coefficients tell.
-use Rattle.std.specs.Prelude.{◌≡◌, ℕ, zero, suc, ◌-◌, Bool, true, false, ◌&&◌, cond, List, [], ◌∷◌, length, replicate, Some, None, refl}
-use Rattle.std.proofs.Common.{Decides, ◌∙◌, ap, ap₂, arith}
+use Rattle.std.specs.Prelude.{◌≡◌, ℕ, zero, suc, ◌-◌, Bool, true, false, ◌&&◌, cond, List, [], ◌∷◌, length, replicate, Some, None, refl, ◌↔◌}
+use Rattle.std.proofs.Common.{◌∙◌, ap, ap₂, arith}
 use Rattle.air_field.specs.Ring.{CommRing}
 use Rattle.air_field.specs.BaseParts.{all_zero, base_part}
 
-module _ {F : Type 0} (r : CommRing F) (eq : F → F → Bool) (decides : (x y : F) → Decides (eq x y) (x ≡ y)) where
+module _ {F : Type 0} (r : CommRing F) (eq : F → F → Bool) (decides : (x y : F) → (eq x y ≡ true) ↔ (x ≡ y)) where
   all_zero-replicate : (n : ℕ) → all_zero r eq (replicate n r.zero) ≡ true
   all_zero-replicate zero = refl
   all_zero-replicate (suc n) = ap₂ (λ x y. x && y) ((decides r.zero r.zero).1 refl) (all_zero-replicate n)

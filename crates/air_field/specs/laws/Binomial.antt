@@ -1,6 +1,5 @@
 -- The extension keeps the laws of an extension, and `==` tells its elements apart.
-use Rattle.std.specs.Prelude.{◌≡◌, ℕ, ◌-◌, ◌∷◌, replicate, refl, eqb}
-use Rattle.std.specs.Bool.{Decides}
+use Rattle.std.specs.Prelude.{◌≡◌, ℕ, ◌-◌, ◌∷◌, replicate, refl, eqb, ◌↔◌, true}
 use Rattle.std.proofs.Common.{◌∙◌, ap, lit<}
 use Rattle.std.proofs.lemmas.Slice.Eq.{slice_eq-Decides}
 use Rattle.air_field.specs.Ring.{AlgebraOverLaws}
@@ -37,7 +36,7 @@ pub binomial_over_laws : {M : Type 0} (m : Ghosts M) (w : ℕ) → AlgebraOverLa
 binomial_over_laws m w = extension_over_laws (residue_ring m) (binomial_over m w) (binomial_basis m) 4 (binomial_laws m w)
 
 -- `==` tells the same polynomial
-pub same_polynomial : {M : Type 0} {m : Ghosts M} (a b : BinomialExtension M m) → Decides (pointwise (λ x y. eqb x.residue y.residue) a.value b.value) (a ≡ b)
+pub same_polynomial : {M : Type 0} {m : Ghosts M} (a b : BinomialExtension M m) → (pointwise (λ x y. eqb x.residue y.residue) a.value b.value ≡ true) ↔ (a ≡ b)
 same_polynomial {M = M} {m = m} a b =
-    let told : Decides (pointwise (λ (x y : Residue M m). eqb x.residue y.residue) a.value b.value) (a.value ≡ b.value) = slice_eq-Decides (equal_is (residues m)) a.value b.value _ refl in
+    let told : (pointwise (λ (x y : Residue M m). eqb x.residue y.residue) a.value b.value ≡ true) ↔ (a.value ≡ b.value) = slice_eq-Decides (equal_is (residues m)) a.value b.value _ refl in
     ((λ h. same_list a b (told.0 h)), (λ e. told.1 (ap (λ x. x.value) e)))

@@ -1,13 +1,12 @@
 -- How an order is known to be exact.
-use Rattle.std.specs.Prelude.{◌≡◌, Bool}
+use Rattle.std.specs.Prelude.{◌≡◌, Bool, ◌↔◌, true}
 use Rattle.std.proofs.Common.{sym, ◌∙◌, ap}
 use Rattle.std.specs.declared.cmp.Ordering.{Ordering}
-use Rattle.std.specs.Bool.{Decides}
 use Rattle.std.specs.Ordering.{is_eq}
 use Rattle.std.specs.Cmp.{IsTotalOrder, Equal-is}
 use Rattle.air_field.specs.Comparison.{IsExactOrder}
 
-pub exact_order : {A : Type 0} (eq : A → A → Bool) (cmp : A → A → Ordering) → ((a b : A) → Decides (eq a b) (a ≡ b)) → ((a b : A) → eq a b ≡ is_eq (cmp a b)) → IsTotalOrder cmp → IsExactOrder eq cmp
+pub exact_order : {A : Type 0} (eq : A → A → Bool) (cmp : A → A → Ordering) → ((a b : A) → (eq a b ≡ true) ↔ (a ≡ b)) → ((a b : A) → eq a b ≡ is_eq (cmp a b)) → IsTotalOrder cmp → IsExactOrder eq cmp
 exact_order eq cmp eq_is matches total =
     record {
       eq_is = eq_is;

@@ -1,6 +1,6 @@
 -- Classes of whole numbers: how they add, which are zero, and when two are the same.
 use Rattle.std.specs.Prelude.{◌≡◌, ℕ, zero, suc, refl, ◌+◌, ◌-◌, ◌*◌, ◌%◌, ◌<◌, ◌≤◌, ◌↔◌, ◌⊎◌, eqb, Bool, true, false}
-use Rattle.std.specs.Bool.{Decides, if◌then◌else◌}
+use Rattle.std.specs.Bool.{if◌then◌else◌}
 use Rattle.std.specs.Int.{◌∣◌}
 use mir.Val.{bool_byte}
 use Rattle.std.proofs.Common.{sym, ◌∙◌, ap, inl, inr, arith, mod-eq_of_lt, eqb-true, eq-eqb}
@@ -55,7 +55,7 @@ module _ {A : Type 0} {p : ℕ} (m : Modular A p) where
       ]
 
   -- `==` tells the same value
-  pub equal_is : (a b : A) → Decides (eqb (m.value a) (m.value b)) (a ≡ b)
+  pub equal_is : (a b : A) → (eqb (m.value a) (m.value b) ≡ true) ↔ (a ≡ b)
   equal_is a b = ((λ h. m.same a b (eqb-true (m.value a) (m.value b) h)), (λ e. eq-eqb (m.value a) (m.value b) (ap m.value e)))
 
   pub two_is_sum : m.class 2 ≡ modular_add m (m.class 1) (m.class 1)

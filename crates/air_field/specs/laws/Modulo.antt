@@ -1,6 +1,5 @@
 -- Classes of whole numbers modulo 2013265921: how they add, which are zero, and when two are the same.
-use Rattle.std.specs.Prelude.{◌≡◌, ℕ, ◌+◌, eqb, ◌↔◌}
-use Rattle.std.specs.Bool.{Decides}
+use Rattle.std.specs.Prelude.{◌≡◌, ℕ, ◌+◌, eqb, ◌↔◌, true}
 use Rattle.std.specs.Int.{◌∣◌}
 use Rattle.air_field.specs.Ring.{image}
 use Rattle.air_field.specs.BabyBear.{BabyBear}
@@ -22,5 +21,5 @@ pub image-is-zero : (n : ℕ) → (image baby_bear_ring n ≡ class 0) ↔ (2013
 image-is-zero n = modular.image-zero baby_bears n
 
 -- `==` tells the same value
-pub equal_is : (a b : BabyBear) → Decides (eqb a.residue b.residue) (a ≡ b)
+pub equal_is : (a b : BabyBear) → (eqb a.residue b.residue ≡ true) ↔ (a ≡ b)
 equal_is a b = modular.equal_is baby_bears a b

@@ -1,6 +1,5 @@
 //! Extension fields.
-ghost use Rattle.std.specs.Prelude.{◌≡◌, ℕ, ◌↔◌, length, IsTrue, IfOk, IsOkUnless};
-ghost use Rattle.std.specs.Bool.{Decides};
+ghost use Rattle.std.specs.Prelude.{◌≡◌, ℕ, ◌↔◌, length, IsTrue, IfOk, IsOkUnless, true};
 ghost use Rattle.air_field.specs.Ring.{AlgebraOver, AlgebraOverLaws, minus};
 ghost use Rattle.air_field.specs.Domain.{IsDomain, IsInversion};
 ghost use Rattle.air_field.specs.Extension.{Basis, ExtensionLaws, IsInBase};
@@ -84,7 +83,7 @@ pub trait ExtensionField<F: Field>: Copy + Eq + Ord + Debug {
 
     ghost over_laws: { AlgebraOverLaws F.ring over };
 
-    ghost eq_is: { (a b : Self) → Decides (Self.eq a b) (a ≡ b) };
+    ghost eq_is: { (a b : Self) → (Self.eq a b ≡ true) ↔ (a ≡ b) };
 }
 
 /// An extension that is a field: a product is zero only if a factor is, and what isn't zero has an inverse.

@@ -1,6 +1,5 @@
 -- Where a check lists nothing, every declared term vanishes at each row.
-use Rattle.std.specs.Prelude.{◌≡◌, ℕ, ◌<◌, List, [], length, map, Bool, None}
-use Rattle.std.specs.Bool.{Decides}
+use Rattle.std.specs.Prelude.{◌≡◌, ℕ, ◌<◌, List, [], length, map, Bool, None, ◌↔◌, true}
 use Rattle.std.proofs.Common.{sym, ◌∙◌, ap, inl, inr}
 use Rattle.air_field.specs.Ring.{CommRing}
 use Rattle.air_field.specs.Assignment.{row_assignment}
@@ -14,7 +13,7 @@ use Rattle.air_report.specs.Report.{failure_place, plain_trace, report_of}
 use Rattle.air_report.specs.declared.checks.report.ConstraintReport.{ConstraintReport}
 use Rattle.air_laws.specs.laws.Reports.{all_vanish, nothing_first}
 
-module _ {F : Type 0} (R : CommRing F) (eq : F → F → Bool) (decides : (x y : F) → Decides (eq x y) (x ≡ y)) where
+module _ {F : Type 0} (R : CommRing F) (eq : F → F → Bool) (decides : (x y : F) → (eq x y ≡ true) ↔ (x ≡ y)) where
   -- a trace that a check up to the first fault lets pass
   pub kept_vanish : (g : Given F) (row : ℕ) → IsSatisfied R eq g → row < height g → AllVanish R (row_assignment R (given_trace g) row) g.declaration.declared
   kept_vanish g row kept lt = all_vanish R eq decides (given_trace g) g.declaration.declared (height g) kept.none row lt

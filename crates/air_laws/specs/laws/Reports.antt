@@ -1,8 +1,7 @@
 -- A report lists nothing exactly where every term vanishes at each row.
-use Rattle.std.specs.Prelude.{⊤}
+use Rattle.std.specs.Prelude.{⊤, ◌↔◌}
 use Rattle.std.proofs.Common.{◌≡◌, ◌<◌, ◌≤◌, ℕ, zero, suc, ◌+◌, List, [], ◌∷◌, ◌++◌, map, Bool, true, false, not, cond, refl, sym, ◌∙◌, ap, subst, inl, inr, arith}
 use Rattle.std.specs.List.{filter, flat_map, range_with_len, enumerate_from}
-use Rattle.std.specs.Bool.{Decides}
 use Rattle.std.proofs.lemmas.Bool.{cases_lt}
 use Rattle.air_field.specs.Ring.{CommRing}
 use Rattle.air_field.specs.Assignment.{Trace, row_assignment}
@@ -52,7 +51,7 @@ unfolding Fails
 fails_both f [] ys h k = k
 fails_both f (x ∷ xs) ys h k = (h.0, fails_both f xs ys h.1 k)
 
-module _ {F : Type 0} (r : CommRing F) (eq : F → F → Bool) (decides : (a b : F) → Decides (eq a b) (a ≡ b)) (trace : Trace F) where
+module _ {F : Type 0} (r : CommRing F) (eq : F → F → Bool) (decides : (a b : F) → (eq a b ≡ true) ↔ (a ≡ b)) (trace : Trace F) where
   zero_of : (a : F) → not (eq a r.zero) ≡ false → a ≡ r.zero
   zero_of a e = (decides a r.zero).0 (turned (eq a r.zero) e)
     where

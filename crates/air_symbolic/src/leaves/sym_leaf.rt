@@ -1,5 +1,5 @@
 //! What a leaf of an expression has to tell.
-ghost use Rattle.std.specs.Prelude.{◌≡◌, ℕ, ◌≤◌, ◌<◌, ◌^◌, List, Result, IfOk, IfErr, Decides};
+ghost use Rattle.std.specs.Prelude.{◌≡◌, ℕ, ◌≤◌, ◌<◌, ◌^◌, List, Result, IfOk, IfErr, ◌↔◌, true};
 ghost use Rattle.air_field.specs.Degree.{degree_by, cached_weight, transition_weight, trace_weight};
 ghost use Rattle.air_symbolic.specs.Leaves.{Leaves, LeafLaws, IsConstLeaf};
 ghost use Rattle.air_symbolic.specs.PoolRefusals.{AnswersDegree};
@@ -147,7 +147,7 @@ pub trait SymLeaf: Copy + Eq + Ord + Debug {
         Self::from_const(Self::F::NEG_ONE, under)
     }
 
-    ghost eq_is: { (x y : Self) → Decides (Self.eq x y) (x ≡ y) };
+    ghost eq_is: { (x y : Self) → (Self.eq x y ≡ true) ↔ (x ≡ y) };
 
     ghost leaf_laws: { LeafLaws Self.F.ring reads grows no_under };
 }

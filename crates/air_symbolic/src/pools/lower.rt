@@ -1,5 +1,5 @@
 //! Extension expressions that are base expressions.
-ghost use Rattle.std.specs.Prelude.{◌≡◌, ◌≢◌, ◌<◌, [], ◌∷◌, length, slice_index_or, None, IfOk, IfErr, IfNone, MatchOption, Decides};
+ghost use Rattle.std.specs.Prelude.{◌≡◌, ◌≢◌, ◌<◌, [], ◌∷◌, length, slice_index_or, None, IfOk, IfErr, IfNone, MatchOption, ◌↔◌, true};
 ghost use Rattle.std.specs.Option.{IfSome};
 ghost use Rattle.air_symbolic.specs.ExtLeaves.{ext_reads, ext_grows};
 ghost use Rattle.air_symbolic.specs.ExtTrees.{HasExtOnly, lowered, IsLowered, HasTermOf};
@@ -33,7 +33,7 @@ impl<F: Field, EF: ExtensionField<F>> ExprPool<ExtLeaf<F, EF>> {
     fn is_ext_only(&self, mark: Option<ExprId<ExtLeaf<F, EF>>>) -> bool
         requires pool { IsPool (ext_reads EF.basis) self.now }
         requires here { IfSome mark (λ i. i < length self.now.1) }
-        ensures { Decides result (IsMarkedExtOnly self.now mark) }
+        ensures { (result ≡ true) ↔ IsMarkedExtOnly self.now mark }
     {
         match mark {
             Some(id) => match self.node(id) {
@@ -55,7 +55,7 @@ impl<F: Field, EF: ExtensionField<F>> ExprPool<ExtLeaf<F, EF>> {
         requires here { id < length self.now.1 }
         requires marked { Reached (ext_reads EF.basis self.now.0)
             self.now.1 (id ∷ []) marks.now }
-        ensures { Decides result (HasExtOnly (tree_at self.now id)) }
+        ensures { (result ≡ true) ↔ HasExtOnly (tree_at self.now id) }
     {
         for mark in marks {
             if self.is_ext_only(*mark) {
