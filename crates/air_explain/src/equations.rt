@@ -1,7 +1,7 @@
 //! Expressions and their values, as equations.
 ghost use Rattle.std.specs.Prelude.{◌≡◌, ◌<◌, ◌++◌, length, map, slice_index_or, All, OnOk, codes, string_bytes, if◌then◌else◌};
 ghost use Rattle.air_symbolic.specs.BaseLeaves.{base_reads};
-ghost use Rattle.air_symbolic.specs.Pools.{IsPool};
+ghost use Rattle.air_symbolic.specs.Pools.{IsPool, size};
 ghost use Rattle.air_infix.specs.Lines.{lines_text};
 ghost use Rattle.air_explain.specs.Equations.{equation, equation_lines};
 
@@ -21,8 +21,8 @@ pub(crate) fn push_equation<F: PrimeField64>(
     id: ExprId<BaseLeaf<F>>,
 ) -> Result<(), AllocError>
     requires pool { IsPool base_reads pool.now }
-    requires here { id < length pool.now.1 }
-    requires places { length values.now ≡ length pool.now.1 }
+    requires here { id < size pool.now }
+    requires places { length values.now ≡ size pool.now }
     ensures { OnOk result (string_bytes text.new ≡ string_bytes text.old ++
         equation F.residues pool.now names.now.1 (λ i. slice_index_or values.now i F.ring.zero) id) }
 {
@@ -53,8 +53,8 @@ pub(crate) fn push_equations<F: PrimeField64>(
     ids: &[ExprId<BaseLeaf<F>>],
 ) -> Result<(), AllocError>
     requires pool { IsPool base_reads pool.now }
-    requires here { All (λ i. i < length pool.now.1) ids.now }
-    requires places { length values.now ≡ length pool.now.1 }
+    requires here { All (λ i. i < size pool.now) ids.now }
+    requires places { length values.now ≡ size pool.now }
     ensures { OnOk result (string_bytes text.new ≡ string_bytes text.old ++ lines_text
         (equation_lines (map (equation F.residues pool.now names.now.1
         (λ i. slice_index_or values.now i F.ring.zero)) ids.now))) }

@@ -1,10 +1,9 @@
 //! The lines that explain an expression, and those of the names that stand in them.
-ghost use Rattle.std.specs.Prelude.{◌≡◌, ◌<◌, ◌++◌, ◌∷◌, [], length, slice_index_or, All, OnOk, codes, string_bytes, if◌then◌else◌};
+ghost use Rattle.std.specs.Prelude.{◌≡◌, ◌<◌, ◌++◌, [], length, slice_index_or, All, OnOk, codes, string_bytes, if◌then◌else◌};
 ghost use Rattle.air_symbolic.specs.BaseLeaves.{base_reads};
-ghost use Rattle.air_symbolic.specs.Pools.{IsPool};
+ghost use Rattle.air_symbolic.specs.Pools.{IsPool, size};
 ghost use Rattle.air_infix.specs.Lines.{lines_text, definition_line};
 ghost use Rattle.air_infix.specs.Names.{is_reached};
-ghost use Rattle.air_explain.specs.Equations.{equation};
 ghost use Rattle.air_explain.specs.Explained.{explained_lines, reached_definitions};
 
 use crate::equations::{push_equation, push_equations};
@@ -37,7 +36,7 @@ fn push_name<F: PrimeField64>(
     id: ExprId<BaseLeaf<F>>,
 ) -> Result<(), AllocError>
     requires pool { IsPool base_reads pool.now }
-    requires here { id < length pool.now.1 }
+    requires here { id < size pool.now }
     ensures { OnOk result (string_bytes text.new ≡ string_bytes text.old ++
         (if is_reached marks.now id
         then definition_line F.residues pool.now names.now.1 name id ++ codes "\n" else [])) }
@@ -59,7 +58,7 @@ pub fn push_reached_definitions<F: PrimeField64>(
     marks: &[Option<ExprId<BaseLeaf<F>>>],
 ) -> Result<(), AllocError>
     requires pool { IsPool base_reads pool.now }
-    requires here { All (λ x. x < length pool.now.1) names.now.0 }
+    requires here { All (λ x. x < size pool.now) names.now.0 }
     ensures { OnOk result (string_bytes text.new ≡ string_bytes text.old ++ lines_text
         (reached_definitions F.residues pool.now names.now marks.now)) }
 {
@@ -81,9 +80,9 @@ pub fn push_explained<F: PrimeField64>(
     reads: &[ExprId<BaseLeaf<F>>],
 ) -> Result<(), AllocError>
     requires pool { IsPool base_reads pool.now }
-    requires here { root < length pool.now.1 }
-    requires reads { All (λ i. i < length pool.now.1) reads.now }
-    requires places { length values.now ≡ length pool.now.1 }
+    requires here { root < size pool.now }
+    requires reads { All (λ i. i < size pool.now) reads.now }
+    requires places { length values.now ≡ size pool.now }
     ensures { OnOk result (string_bytes text.new ≡ string_bytes text.old ++ lines_text
         (explained_lines F.residues pool.now names.now.1 (λ i. slice_index_or values.now i F.ring.zero)
         root reads.now)) }

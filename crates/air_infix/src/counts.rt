@@ -1,8 +1,8 @@
 //! How many places name each number, as far as it matters.
-ghost use Rattle.std.specs.Prelude.{◌≡◌, ℕ, ◌+◌, ◌<◌, ◌==◌, length, slice_index_or, None, All, IfOk};
+ghost use Rattle.std.specs.Prelude.{◌≡◌, ℕ, ◌+◌, ◌<◌, ◌==◌, length, All, IfOk};
 ghost use Rattle.std.specs.List.{count_by};
 ghost use Rattle.air_symbolic.specs.Nodes.{OperandsBelow};
-ghost use Rattle.air_symbolic.specs.Pools.{IsPool};
+ghost use Rattle.air_symbolic.specs.Pools.{IsPool, nodes_of, size};
 ghost use Rattle.air_infix.specs.Names.{one_if_is, operand_places, total_below, places_at, count_of_places};
 ghost use Rattle.air_infix.specs.Counts.{places_for, AreCounted, AreMarks};
 
@@ -80,11 +80,11 @@ fn count_node<A: SymLeaf>(
     number: usize,
 )
     requires pool { IsPool A.reads pool.now }
-    requires places { length counts.old ≡ length pool.now.1 }
-    requires marks { AreMarks (length pool.now.1) marks.now }
+    requires places { length counts.old ≡ size pool.now }
+    requires marks { AreMarks (size pool.now) marks.now }
     requires here { number < length marks.now }
     ensures { (f : ℕ → ℕ) → AreCounted f counts.old →
-        AreCounted (λ i. f i + places_at pool.now.1 marks.now i number) counts.new }
+        AreCounted (λ i. f i + places_at (nodes_of pool.now) marks.now i number) counts.new }
 {
     if let Some(id) = marks[number] {
         count_operands(counts, *pool.node(id));
@@ -94,10 +94,11 @@ fn count_node<A: SymLeaf>(
 // Counts the operands of the nodes that are reached.
 fn count_reached<A: SymLeaf>(counts: &mut [Places], pool: &ExprPool<A>, marks: &[Option<ExprId<A>>])
     requires pool { IsPool A.reads pool.now }
-    requires places { length counts.old ≡ length pool.now.1 }
-    requires marks { AreMarks (length pool.now.1) marks.now }
+    requires places { length counts.old ≡ size pool.now }
+    requires marks { AreMarks (size pool.now) marks.now }
     ensures { (f : ℕ → ℕ) → AreCounted f counts.old → AreCounted
-        (λ i. f i + total_below (places_at pool.now.1 marks.now i) (length pool.now.1)) counts.new }
+        (λ i. f i + total_below (places_at (nodes_of pool.now) marks.now i) (size pool.now))
+        counts.new }
 {
     for number in 0..marks.len() {
         count_node(counts, pool, marks, number);
@@ -112,11 +113,11 @@ fn count_all<A: SymLeaf>(
     marks: &[Option<ExprId<A>>],
 )
     requires pool { IsPool A.reads pool.now }
-    requires here { All (λ x. x < length pool.now.1) roots.now }
-    requires places { length counts.old ≡ length pool.now.1 }
-    requires marks { AreMarks (length pool.now.1) marks.now }
+    requires here { All (λ x. x < size pool.now) roots.now }
+    requires places { length counts.old ≡ size pool.now }
+    requires marks { AreMarks (size pool.now) marks.now }
     requires none { AreCounted (λ _. 0) counts.old }
-    ensures { AreCounted (count_of_places pool.now.1 roots.now marks.now) counts.new }
+    ensures { AreCounted (count_of_places (nodes_of pool.now) roots.now marks.now) counts.new }
 {
     count_roots(counts, roots);
     count_reached(counts, pool, marks);
@@ -130,11 +131,11 @@ pub fn count_places<A: SymLeaf>(
     marks: &[Option<ExprId<A>>],
 ) -> Result<Vec<Places>, AllocError>
     requires pool { IsPool A.reads pool.now }
-    requires here { All (λ x. x < length pool.now.1) roots.now }
-    requires marks { AreMarks (length pool.now.1) marks.now }
-    ensures places { IfOk result (λ counts. length counts.items ≡ length pool.now.1) }
+    requires here { All (λ x. x < size pool.now) roots.now }
+    requires marks { AreMarks (size pool.now) marks.now }
+    ensures places { IfOk result (λ counts. length counts.items ≡ size pool.now) }
     ensures counted { IfOk result (λ counts.
-        AreCounted (count_of_places pool.now.1 roots.now marks.now) counts.items) }
+        AreCounted (count_of_places (nodes_of pool.now) roots.now marks.now) counts.items) }
 {
     let mut counts = vec![in alloc; Places::Nowhere; pool.len()]?;
     count_all(&mut counts, pool, roots, marks);

@@ -1,7 +1,7 @@
 //! Who gets a name.
 ghost use Rattle.std.specs.Prelude.{◌≡◌, ℕ, ◌<◌, length, slice_index_or, [], ◌∷◌, ◌++◌, Some, None, option_map, All, IfOk, OnOk, if◌then◌else◌};
 ghost use Rattle.std.specs.Option.{option_to_list};
-ghost use Rattle.air_symbolic.specs.Pools.{IsPool};
+ghost use Rattle.air_symbolic.specs.Pools.{IsPool, base_of, nodes_of, size};
 ghost use Rattle.air_infix.specs.Names.{AreNames, passing_below, name_by, is_operation};
 ghost use Rattle.air_infix.specs.Counts.{passes, AreMarks};
 
@@ -28,10 +28,11 @@ fn named_at<A: SymLeaf>(
     number: usize,
 ) -> Option<ExprId<A>>
     requires pool { IsPool A.reads pool.now }
-    requires marks { AreMarks (length pool.now.1) marks.now }
-    requires places { length counts.now ≡ length pool.now.1 }
+    requires marks { AreMarks (size pool.now) marks.now }
+    requires places { length counts.now ≡ size pool.now }
     requires here { number < length marks.now }
-    ensures { result ≡ if passes pool.now.1 marks.now counts.now number then Some number else None }
+    ensures { result
+        ≡ if passes (nodes_of pool.now) marks.now counts.now number then Some number else None }
 {
     let Some(id) = marks[number] else {
         return None;
@@ -71,12 +72,12 @@ fn give_names<A: SymLeaf>(
     counts: &[Places],
 ) -> Result<Names<A>, AllocError>
     requires pool { IsPool A.reads pool.now }
-    requires marks { AreMarks (length pool.now.1) marks.now }
-    requires places { length counts.now ≡ length pool.now.1 }
+    requires marks { AreMarks (size pool.now) marks.now }
+    requires places { length counts.now ≡ size pool.now }
     ensures named { IfOk result (λ n. n.0 ≡
-        passing_below (passes pool.now.1 marks.now counts.now) (length pool.now.1)) }
+        passing_below (passes (nodes_of pool.now) marks.now counts.now) (size pool.now)) }
     ensures each { IfOk result (λ n. (i : ℕ) →
-        slice_index_or n.1 i None ≡ name_by (passes pool.now.1 marks.now counts.now) i) }
+        slice_index_or n.1 i None ≡ name_by (passes (nodes_of pool.now) marks.now counts.now) i) }
 {
     let mut named = Vec::new(alloc);
     let mut names = Vec::with_capacity(alloc, marks.len())?;
@@ -92,8 +93,9 @@ impl<A: SymLeaf> Names<A> {
     /// name it, among the operands of what they reach and the roots. It is refused for want of memory alone.
     pub fn of(alloc: Global, pool: &ExprPool<A>, roots: &[ExprId<A>]) -> Result<Self, AllocError>
         requires pool { IsPool A.reads pool.now }
-        requires here { All (λ x. x < length pool.now.1) roots.now }
-        ensures { IfOk result (AreNames (A.reads pool.now.0) pool.now.1 roots.now) }
+        requires here { All (λ x. x < size pool.now) roots.now }
+        ensures { IfOk result
+            (AreNames (A.reads (base_of pool.now)) (nodes_of pool.now) roots.now) }
     {
         let Ok(marks) = reached(alloc, pool, roots) else {
             return Err(AllocError);

@@ -1,12 +1,12 @@
 -- An object whose trace and constraints are read apart from its other members.
-use Rattle.std.specs.Prelude.{◌≡◌, ◌≢◌, ℕ, ◌<◌, List, [], ◌∷◌, ◌++◌, length, map, All, Option, Result, Ok, IfOk, codes, Vec}
+use Rattle.std.specs.Prelude.{◌≡◌, ◌≢◌, ℕ, ◌<◌, List, [], ◌∷◌, ◌++◌, map, All, Option, Result, Ok, IfOk, codes, Vec}
 use Rattle.std.specs.Global.{Global}
 use Rattle.std.specs.Result.{result_map_both}
 use Rattle.serde_json.specs.Data.{Data, Members}
 use Rattle.serde_json.specs.Find.{get, get_member}
 use Rattle.air_field.specs.Modular.{Modular}
 use Rattle.air_symbolic.specs.BaseLeaves.{base_reads}
-use Rattle.air_symbolic.specs.Pools.{IsPool, tree_at}
+use Rattle.air_symbolic.specs.Pools.{IsPool, tree_at, size}
 use Rattle.air_symbolic.specs.Trees.{Tree}
 use Rattle.air_symbolic.specs.declared.leaves.base_leaf.BaseLeaf.{BaseLeaf}
 use Rattle.air_wire.specs.Results.{◌>>=◌, Gives}
@@ -34,7 +34,7 @@ root_numbers roots = result_map_both (λ v. v.items) (λ f. f) roots
 -- the roots are numbers of the pool
 pub record InPool {F : Type 0} (c : Constraints F) : Type 0 where
   pub pool : IsPool base_reads c.pool
-  pub here : IfOk c.roots (λ roots. All (λ i. i < length c.pool.1) roots.items)
+  pub here : IfOk c.roots (λ roots. All (λ i. i < size c.pool) roots.items)
 
 -- and have these trees, or it is this fault
 pub record AreGiven {F : Type 0} (given : GivenTrees F) (c : Constraints F) : Type 0 where

@@ -1,11 +1,10 @@
 -- What answers the word `show`.
-use Rattle.std.specs.Prelude.{◌≡◌, ◌⊎◌, ℕ, ◌<◌, List, length, map, All, codes}
+use Rattle.std.specs.Prelude.{◌≡◌, ◌⊎◌, ℕ, ◌<◌, List, map, All, codes}
 use Rattle.serde_json.specs.Data.{Data}
 use Rattle.air_field.specs.Modular.{Modular}
-use Rattle.air_core.specs.declared.errors.AirError.{AirError}
 use Rattle.air_symbolic.specs.BaseLeaves.{base_reads}
 use Rattle.air_symbolic.specs.ExtLeaves.{BaseNodes}
-use Rattle.air_symbolic.specs.Pools.{IsPool, tree_at}
+use Rattle.air_symbolic.specs.Pools.{IsPool, tree_at, size}
 use Rattle.air_symbolic.specs.Trees.{Tree}
 use Rattle.air_symbolic.specs.declared.leaves.base_leaf.BaseLeaf.{BaseLeaf}
 use Rattle.air_wire.specs.Faults.{air_fault}
@@ -25,7 +24,7 @@ pub record ShowsValue {F : Type 0} {p : ℕ} (m : Modular F p) (d : Data) (text 
   pub pool : BaseNodes F
   pub roots : List ℕ
   pub is_pool : IsPool base_reads pool
-  pub here : All (λ i. i < length pool.1) roots
+  pub here : All (λ i. i < size pool) roots
   pub spelt : (constraints m).spells d (map (tree_at pool) roots)
   pub shows : ShowsRoots m pool roots text
 

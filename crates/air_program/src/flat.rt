@@ -1,10 +1,10 @@
 //! The answer to a JSON object: an AIR whose constraints are lists of nodes, and a trace of it.
 
-ghost use Rattle.std.specs.Prelude.{◌≡◌, ◌<◌, ◌⊎◌, length, All, None, IfOk, IfErr, string_bytes};
+ghost use Rattle.std.specs.Prelude.{◌≡◌, ◌<◌, ◌⊎◌, All, None, IfOk, IfErr, string_bytes};
 ghost use Rattle.serde_json.specs.Data.{Data};
 ghost use Rattle.serde_json.specs.View.{view};
 ghost use Rattle.air_symbolic.specs.BaseLeaves.{base_reads};
-ghost use Rattle.air_symbolic.specs.Pools.{IsPool};
+ghost use Rattle.air_symbolic.specs.Pools.{IsPool, size};
 ghost use Rattle.air_program.specs.Answer.{AuditFinds};
 ghost use Rattle.air_program.specs.FlatAnswer.{StandsFor, HasNoValue, flat_instance, AuditRefusesInput, AnswersIn, IsFlatAnswer};
 ghost use Rattle.air_object.specs.Parts.{InPool, ArePartsOf};
@@ -62,7 +62,7 @@ fn audit_input<F: PrimeField64 + 'static>(
     input: FlatInput<F>,
 ) -> Result<Findings, AirError>
     requires pool { IsPool base_reads input.pool }
-    requires roots { All (λ i. i < length input.pool.1) input.roots.items }
+    requires roots { All (λ i. i < size input.pool) input.roots.items }
     ensures found { IfOk result (λ findings. AuditFinds F.residues (flat_instance input) input.cap
         input.transition_weight (found findings)) }
     ensures refused { IfErr result (AuditRefusesInput F.residues input) }

@@ -1,9 +1,9 @@
 //! The answer to the word `show`: the constraints of a JSON object, as people read them.
 
-ghost use Rattle.std.specs.Prelude.{◌≡◌, ◌⊎◌, ◌<◌, length, map, All, IfOk, IfErr, string_bytes};
+ghost use Rattle.std.specs.Prelude.{◌≡◌, ◌⊎◌, ◌<◌, All, IfOk, IfErr, string_bytes};
 ghost use Rattle.serde_json.specs.Data.{Data};
 ghost use Rattle.air_symbolic.specs.BaseLeaves.{base_reads};
-ghost use Rattle.air_symbolic.specs.Pools.{IsPool};
+ghost use Rattle.air_symbolic.specs.Pools.{IsPool, size};
 ghost use Rattle.air_infix.specs.Lines.{ShowsRoots};
 ghost use Rattle.air_program.specs.FlatAnswer.{StandsFor, HasNoValue};
 ghost use Rattle.air_object.specs.Parts.{InPool, AreGiven};
@@ -28,7 +28,7 @@ fn show_roots<F: PrimeField64>(
     roots: &[BaseId<F>],
 ) -> Result<(u8, String), Refusal>
     requires pool { IsPool base_reads pool.now }
-    requires here { All (λ i. i < length pool.now.1) roots.now }
+    requires here { All (λ i. i < size pool.now) roots.now }
     ensures status { IfOk result (λ p. p.0 ≡ 0) }
     ensures shows { IfOk result (λ p. ShowsRoots F.residues pool.now roots.now (string_bytes p.1)) }
     ensures refused { IfErr result (λ why. why ≡ Refusal.Memory) }

@@ -8,8 +8,7 @@ use Rattle.air_field.specs.Polynomial.{polynomial, SamePolynomial}
 use Rattle.air_field.specs.Degree.{degree_by, cached_weight, greatest_degree}
 use Rattle.air_field.specs.Assignment.{IsMissing}
 use Rattle.air_symbolic.specs.Leaves.{Leaves}
-use Rattle.air_symbolic.specs.Pools.{IsPool, PoolMeans, term_at}
-use Rattle.air_symbolic.specs.declared.pools.expr.SymbolicExpr.{SymbolicExpr}
+use Rattle.air_symbolic.specs.Pools.{IsPool, PoolMeans, term_at, Pool}
 use Rattle.air_builder.specs.Assertion.{Assertion}
 use Rattle.air_builder.specs.Declaration.{Declaration}
 use Rattle.air_core.specs.declared.errors.AirError.{AirError}
@@ -31,12 +30,12 @@ abbrev pub EachRecords : {F E : Type 0} → AlgebraOver F E → List (Term F) �
 EachRecords a us ts = AllZip (RecordsTerm a) us ts
 
 -- the terms of these numbers of a pool
-abbrev pub terms_of : {U A F : Type 0} → (U → Leaves A F) → U × List (SymbolicExpr A) → List ℕ → List (Term F)
+abbrev pub terms_of : {U A F : Type 0} → (U → Leaves A F) → Pool U A → List ℕ → List (Term F)
 terms_of reads pool is = map (λ i. term_at reads pool i) is
 
 -- Each declared base term has one number of the base pool, in order: it means that term, and so has its polynomial,
 -- over the base field and over the extension.
-pub record RecordsBase {U A F E : Type 0} (r : CommRing F) (over : AlgebraOver F E) (reads : U → Leaves A F) (pool : U × List (SymbolicExpr A)) (numbers : List ℕ) (ts : List (Assertion F)) : Type 0 where
+pub record RecordsBase {U A F E : Type 0} (r : CommRing F) (over : AlgebraOver F E) (reads : U → Leaves A F) (pool : Pool U A) (numbers : List ℕ) (ts : List (Assertion F)) : Type 0 where
   pub well_formed : IsPool reads pool
   pub means : AllZip (PoolMeans reads r pool) numbers (base_terms ts)
   pub terms : EachRecords (itself r) (terms_of reads pool numbers) (base_terms ts)
@@ -44,7 +43,7 @@ pub record RecordsBase {U A F E : Type 0} (r : CommRing F) (over : AlgebraOver F
 
 -- Each declared extension term has one number of the extension pool, in order: it means that term, and so has its
 -- polynomial.
-pub record RecordsExt {U A F E : Type 0} (r : CommRing F) (over : AlgebraOver F E) (reads : U → Leaves A F) (pool : U × List (SymbolicExpr A)) (numbers : List ℕ) (ts : List (Assertion F)) : Type 0 where
+pub record RecordsExt {U A F E : Type 0} (r : CommRing F) (over : AlgebraOver F E) (reads : U → Leaves A F) (pool : Pool U A) (numbers : List ℕ) (ts : List (Assertion F)) : Type 0 where
   pub well_formed : IsPool reads pool
   pub means : AllZip (PoolMeans reads r pool) numbers (ext_terms ts)
   pub terms : EachRecords over (terms_of reads pool numbers) (ext_terms ts)

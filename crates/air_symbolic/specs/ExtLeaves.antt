@@ -1,19 +1,18 @@
 -- What the leaves of extension expressions mean, over a pool of base expressions.
-use Rattle.std.specs.Prelude.{List, [], Option, None, ⊤}
+use Rattle.std.specs.Prelude.{[], Option, None, ⊤}
 use Rattle.air_field.specs.Extension.{Basis}
 use Rattle.air_field.specs.Term.{Term, leaf_term, ext_const_term}
 use Rattle.air_core.specs.ExtEntries.{ext_entry_leaf}
 use Rattle.air_symbolic.specs.Leaves.{Leaves}
-use Rattle.air_symbolic.specs.Pools.{IsPool, Grown, PoolHas, term_at, constant_at}
+use Rattle.air_symbolic.specs.Pools.{IsPool, Grown, PoolHas, term_at, constant_at, Pool}
 use Rattle.air_symbolic.specs.BaseLeaves.{base_reads, base_grows}
-use Rattle.air_symbolic.specs.declared.pools.expr.SymbolicExpr.{SymbolicExpr}
 use Rattle.air_symbolic.specs.declared.leaves.base_leaf.BaseLeaf.{BaseLeaf}
 use Rattle.air_symbolic.specs.declared.leaves.ext_leaf.ExtLeaf.{ExtLeaf}
 use Rattle.air_symbolic.specs.declared.leaves.ext_leaf.ExtLeaf.TheVariants.{Base, ExtVariable, ExtConstant}
 
 -- a base pool, as contracts see it
 abbrev pub BaseNodes : Type 0 → Type 0
-BaseNodes F = ⊤ × List (SymbolicExpr (BaseLeaf F))
+BaseNodes F = Pool ⊤ (BaseLeaf F)
 
 -- nothing under a new extension pool
 abbrev pub no_base_nodes : {F : Type 0} → BaseNodes F

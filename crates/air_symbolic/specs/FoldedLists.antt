@@ -1,12 +1,11 @@
 -- Which tree the folded sum or product of a list answers: its elements are taken from the left, and each step is folded.
-use Rattle.std.specs.Prelude.{◌≡◌, ℕ, ◌+◌, ◌<◌, ◌≤◌, ◌^◌, ◌⊎◌, Bool, List, [], ◌∷◌, length, map, None}
+use Rattle.std.specs.Prelude.{◌≡◌, ℕ, ◌+◌, ◌<◌, ◌≤◌, ◌^◌, ◌⊎◌, Bool, List, [], ◌∷◌, map, None}
 use Rattle.air_field.specs.Ring.{CommRing}
 use Rattle.air_field.specs.Degree.{degree_by, cached_weight}
 use Rattle.air_symbolic.specs.Leaves.{Leaves}
 use Rattle.air_symbolic.specs.Trees.{Tree, add_tree, mul_tree, term_of, tree_constant}
-use Rattle.air_symbolic.specs.Pools.{tree_at, IsConst}
+use Rattle.air_symbolic.specs.Pools.{tree_at, IsConst, Pool, base_of, size}
 use Rattle.air_symbolic.specs.Folds.{sum_fold, product_fold, IsSimplified}
-use Rattle.air_symbolic.specs.declared.pools.expr.SymbolicExpr.{SymbolicExpr}
 
 -- v is t joined with the trees one by one
 abbrev pub JoinedFrom : {A : Type 0} → (Tree A → Tree A → Tree A → Type 0) → Tree A → List (Tree A) → Tree A → Type 0
@@ -44,11 +43,11 @@ module _ {A F : Type 0} (r : CommRing F) (eq : F → F → Bool) (l : Leaves A F
   ProductOverflows (t ∷ ts) = OverflowsFrom t ts
 
 -- Number z of the pool q is the folded join of the elements xs, which were of the pool p.
-module _ {U A F : Type 0} (reads : U → Leaves A F) (r : CommRing F) (eq : F → F → Bool) (p q : U × List (SymbolicExpr A)) where
+module _ {U A F : Type 0} (reads : U → Leaves A F) (r : CommRing F) (eq : F → F → Bool) (p q : Pool U A) where
   pub record IsSumOfAll (xs : List ℕ) (z : ℕ) : Type 0 where
-    pub here : z < length q.1
-    pub tree : IsJoined (reads q.0) r.zero (SumStep r eq (reads q.0)) (map (tree_at p) xs) (tree_at q z)
+    pub here : z < size q
+    pub tree : IsJoined (reads (base_of q)) r.zero (SumStep r eq (reads (base_of q))) (map (tree_at p) xs) (tree_at q z)
 
   pub record IsProductOfAll (xs : List ℕ) (z : ℕ) : Type 0 where
-    pub here : z < length q.1
-    pub tree : IsJoined (reads q.0) r.one (ProductStep r eq (reads q.0)) (map (tree_at p) xs) (tree_at q z)
+    pub here : z < size q
+    pub tree : IsJoined (reads (base_of q)) r.one (ProductStep r eq (reads (base_of q))) (map (tree_at p) xs) (tree_at q z)

@@ -1,10 +1,9 @@
 -- Which tree a folded operation answers: the first case that fits.
-use Rattle.std.specs.Prelude.{◌≡◌, ℕ, ◌<◌, Bool, List, length, Option, None, Some, if◌then◌else◌}
+use Rattle.std.specs.Prelude.{◌≡◌, ℕ, ◌<◌, Bool, Option, None, Some, if◌then◌else◌}
 use Rattle.air_field.specs.Ring.{CommRing, minus}
 use Rattle.air_symbolic.specs.Leaves.{Leaves}
 use Rattle.air_symbolic.specs.Trees.{Tree, add_tree, sub_tree, neg_tree, mul_tree}
-use Rattle.air_symbolic.specs.Pools.{tree_at, constant_at, IsConst}
-use Rattle.air_symbolic.specs.declared.pools.expr.SymbolicExpr.{SymbolicExpr}
+use Rattle.air_symbolic.specs.Pools.{tree_at, constant_at, IsConst, Pool, base_of, size}
 use Rattle.air_symbolic.specs.declared.pools.fold.Fold.{Fold}
 use Rattle.air_symbolic.specs.declared.pools.fold.Fold.TheVariants.{Constant, Left, Right, Negated}
 
@@ -47,17 +46,17 @@ IsSimplified l t u node (Some fold) v = IsFold l t u fold v
 IsSimplified l t u node None v = v ≡ node
 
 -- number i of the pool q is what the fold says of the operands t and u
-pub record HasFold {U A F : Type 0} (reads : U → Leaves A F) (q : U × List (SymbolicExpr A)) (t u : Tree A) (fold : Fold F) (i : ℕ) : Type 0 where
-  pub here : i < length q.1
-  pub tree : IsFold (reads q.0) t u fold (tree_at q i)
+pub record HasFold {U A F : Type 0} (reads : U → Leaves A F) (q : Pool U A) (t u : Tree A) (fold : Fold F) (i : ℕ) : Type 0 where
+  pub here : i < size q
+  pub tree : IsFold (reads (base_of q)) t u fold (tree_at q i)
 
 -- number i of the pool q is an operation of x and y, which were of the pool p: what it folds to, or else its node
-pub record IsOperation {U A F : Type 0} (reads : U → Leaves A F) (p q : U × List (SymbolicExpr A))
+pub record IsOperation {U A F : Type 0} (reads : U → Leaves A F) (p q : Pool U A)
     (node : Tree A → Tree A → Tree A) (fold : Option F → Option F → Option (Fold F)) (x y i : ℕ) : Type 0 where
-  pub here : i < length q.1
-  pub tree : IsSimplified (reads q.0) (tree_at p x) (tree_at p y) (node (tree_at p x) (tree_at p y)) (fold (constant_at reads p x) (constant_at reads p y)) (tree_at q i)
+  pub here : i < size q
+  pub tree : IsSimplified (reads (base_of q)) (tree_at p x) (tree_at p y) (node (tree_at p x) (tree_at p y)) (fold (constant_at reads p x) (constant_at reads p y)) (tree_at q i)
 
-module _ {U A F : Type 0} (reads : U → Leaves A F) (r : CommRing F) (eq : F → F → Bool) (p q : U × List (SymbolicExpr A)) where
+module _ {U A F : Type 0} (reads : U → Leaves A F) (r : CommRing F) (eq : F → F → Bool) (p q : Pool U A) where
   abbrev pub IsSum : ℕ → ℕ → ℕ → Type 0
   IsSum x y = IsOperation reads p q add_tree (sum_fold r eq) x y
 
@@ -72,5 +71,5 @@ module _ {U A F : Type 0} (reads : U → Leaves A F) (r : CommRing F) (eq : F �
   IsNegative x = IsOperation reads p q (λ t _. neg_tree t) (λ o _. negative_fold r o) x x
 
 -- the product of x and y needs a node
-abbrev pub NeedsNode : {U A F : Type 0} → (U → Leaves A F) → CommRing F → (F → F → Bool) → U × List (SymbolicExpr A) → ℕ → ℕ → Type 0
+abbrev pub NeedsNode : {U A F : Type 0} → (U → Leaves A F) → CommRing F → (F → F → Bool) → Pool U A → ℕ → ℕ → Type 0
 NeedsNode reads r eq p x y = product_fold r eq (constant_at reads p x) (constant_at reads p y) ≡ None

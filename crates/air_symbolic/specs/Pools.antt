@@ -1,4 +1,4 @@
--- A pool, seen as what lies under it and its nodes, the newest first.
+-- Pools of expressions, and what the numbers of a pool stand for.
 use Rattle.std.specs.Prelude.{◌≡◌, ℕ, ◌<◌, List, ◌++◌, length, Option}
 use Rattle.air_field.specs.Ring.{CommRing}
 use Rattle.air_field.specs.Term.{Term}
@@ -8,48 +8,64 @@ use Rattle.air_symbolic.specs.Trees.{Tree, leaf_tree, term_of, tree_constant}
 use Rattle.air_symbolic.specs.Nodes.{tree_of, WellFormed}
 use Rattle.air_symbolic.specs.declared.pools.expr.SymbolicExpr.{SymbolicExpr}
 
+-- a pool, as contracts see it: what lies under it, and its nodes, the newest first
+abbrev pub Pool : (U A : Type 0) → Type 0
+Pool U A = U × List (SymbolicExpr A)
+
+-- what lies under the pool
+abbrev pub base_of : {U A : Type 0} → Pool U A → U
+base_of p = p.0
+
+-- its nodes, the newest first
+abbrev pub nodes_of : {U A : Type 0} → Pool U A → List (SymbolicExpr A)
+nodes_of p = p.1
+
+-- how many there are: the numbers below are the pool's
+abbrev pub size : {U A : Type 0} → Pool U A → ℕ
+size p = length (nodes_of p)
+
 -- What lies under the pool is sound, each node fits those before it, and none is there twice.
-pub record IsPool {U A F : Type 0} (reads : U → Leaves A F) (p : U × List (SymbolicExpr A)) : Type 0 where
-  pub under : (reads p.0).sound
-  pub nodes : WellFormed (reads p.0) p.1
+pub record IsPool {U A F : Type 0} (reads : U → Leaves A F) (p : Pool U A) : Type 0 where
+  pub under : (reads (base_of p)).sound
+  pub nodes : WellFormed (reads (base_of p)) (nodes_of p)
 
 -- the tree of number i
-abbrev pub tree_at : {U A : Type 0} → U × List (SymbolicExpr A) → ℕ → Tree A
-tree_at p i = tree_of p.1 i
+abbrev pub tree_at : {U A : Type 0} → Pool U A → ℕ → Tree A
+tree_at p i = tree_of (nodes_of p) i
 
 -- the term of number i
-abbrev pub term_at : {U A F : Type 0} → (U → Leaves A F) → U × List (SymbolicExpr A) → ℕ → Term F
-term_at reads p i = term_of (reads p.0).term (tree_of p.1 i)
+abbrev pub term_at : {U A F : Type 0} → (U → Leaves A F) → Pool U A → ℕ → Term F
+term_at reads p i = term_of (reads (base_of p)).term (tree_of (nodes_of p) i)
 
 -- the constant that number i is, if it is one
-abbrev pub constant_at : {U A F : Type 0} → (U → Leaves A F) → U × List (SymbolicExpr A) → ℕ → Option F
-constant_at reads p i = tree_constant (reads p.0).constant (tree_of p.1 i)
+abbrev pub constant_at : {U A F : Type 0} → (U → Leaves A F) → Pool U A → ℕ → Option F
+constant_at reads p i = tree_constant (reads (base_of p)).constant (tree_of (nodes_of p) i)
 
 -- q is p with nothing lost: earlier numbers keep their trees
-pub record Grown {U A F : Type 0} (grows : U → U → Type 0) (reads : U → Leaves A F) (p q : U × List (SymbolicExpr A)) : Type 0 where
-  pub under : grows p.0 q.0
-  pub nodes : (more : List (SymbolicExpr A)) × (q.1 ≡ more ++ p.1)
+pub record Grown {U A F : Type 0} (grows : U → U → Type 0) (reads : U → Leaves A F) (p q : Pool U A) : Type 0 where
+  pub under : grows (base_of p) (base_of q)
+  pub nodes : (more : List (SymbolicExpr A)) × (nodes_of q ≡ more ++ nodes_of p)
   pub pool : IsPool reads p → IsPool reads q
 
 -- number i has its tree and its term in every pool that p has grown to
-pub record KeepsTree {U A F : Type 0} (grows : U → U → Type 0) (reads : U → Leaves A F) (p : U × List (SymbolicExpr A)) (i : ℕ) : Type 0 where
-  pub tree : (q : U × List (SymbolicExpr A)) → Grown grows reads p q → tree_at q i ≡ tree_at p i
-  pub term : (q : U × List (SymbolicExpr A)) → Grown grows reads p q → term_at reads q i ≡ term_at reads p i
+pub record KeepsTree {U A F : Type 0} (grows : U → U → Type 0) (reads : U → Leaves A F) (p : Pool U A) (i : ℕ) : Type 0 where
+  pub tree : (q : Pool U A) → Grown grows reads p q → tree_at q i ≡ tree_at p i
+  pub term : (q : Pool U A) → Grown grows reads p q → term_at reads q i ≡ term_at reads p i
 
 -- number i is of the pool
-pub record PoolHas {U A F : Type 0} (reads : U → Leaves A F) (p : U × List (SymbolicExpr A)) (i : ℕ) : Type 0 where
+pub record PoolHas {U A F : Type 0} (reads : U → Leaves A F) (p : Pool U A) (i : ℕ) : Type 0 where
   pub pool : IsPool reads p
-  pub here : i < length p.1
+  pub here : i < size p
 
 -- number i means term t in the pool
-pub record PoolMeans {U A F : Type 0} (reads : U → Leaves A F) (r : CommRing F) (p : U × List (SymbolicExpr A)) (i : ℕ) (t : Term F) : Type 0 where
+pub record PoolMeans {U A F : Type 0} (reads : U → Leaves A F) (r : CommRing F) (p : Pool U A) (i : ℕ) (t : Term F) : Type 0 where
   pub pool : IsPool reads p
-  pub here : i < length p.1
+  pub here : i < size p
   pub simplifies : Simplifies r (term_at reads p i) t
 
 -- number i has the tree t
-pub record HasTree {U A : Type 0} (p : U × List (SymbolicExpr A)) (t : Tree A) (i : ℕ) : Type 0 where
-  pub here : i < length p.1
+pub record HasTree {U A : Type 0} (p : Pool U A) (t : Tree A) (i : ℕ) : Type 0 where
+  pub here : i < size p
   pub tree : tree_at p i ≡ t
 
 -- the tree is the constant c, written as a base constant
@@ -57,6 +73,6 @@ abbrev pub IsConst : {A F : Type 0} → Leaves A F → F → Tree A → Type 0
 IsConst {A = A} l c t = (a : A) × (t ≡ leaf_tree a) × IsConstLeaf l c a
 
 -- number i is the constant c, written as a base constant
-pub record HasConst {U A F : Type 0} (reads : U → Leaves A F) (p : U × List (SymbolicExpr A)) (c : F) (i : ℕ) : Type 0 where
-  pub here : i < length p.1
-  pub constant : IsConst (reads p.0) c (tree_at p i)
+pub record HasConst {U A F : Type 0} (reads : U → Leaves A F) (p : Pool U A) (c : F) (i : ℕ) : Type 0 where
+  pub here : i < size p
+  pub constant : IsConst (reads (base_of p)) c (tree_at p i)

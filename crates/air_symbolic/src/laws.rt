@@ -1,12 +1,12 @@
 //! What callers rely on, as the contracts of functions.
-ghost use Rattle.std.specs.Prelude.{◌≡◌, ℕ, ◌<◌, ◌≤◌, ◌↔◌, List, length, IsTrue, slice_index_or};
+ghost use Rattle.std.specs.Prelude.{◌≡◌, ℕ, ◌<◌, ◌≤◌, ◌↔◌, List, IsTrue, slice_index_or};
 ghost use Rattle.std.specs.Ordering.{nat_cmp};
 ghost use Rattle.air_field.specs.Ring.{AlgebraOver, AlgebraOverLaws};
 ghost use Rattle.air_field.specs.Term.{Leaf, Term};
 ghost use Rattle.air_field.specs.Polynomial.{polynomial, SamePolynomial, HasDegreeAtMost};
 ghost use Rattle.air_field.specs.Degree.{degree_by};
 ghost use Rattle.air_field.specs.Comparison.{IsExactOrder};
-ghost use Rattle.air_symbolic.specs.Pools.{IsPool, PoolMeans, tree_at, term_at, KeepsTree};
+ghost use Rattle.air_symbolic.specs.Pools.{IsPool, PoolMeans, tree_at, term_at, KeepsTree, size};
 ghost use Rattle.air_symbolic.specs.ExtLeaves.{ext_reads};
 ghost use Rattle.air_symbolic.specs.ExtPool.{GrowsWithBase};
 ghost use Rattle.air_symbolic.specs.ExtTrees.{whole_tree_at, KeepsWholeTree};
@@ -21,8 +21,8 @@ use std::cmp::Ordering;
 /// Two numbers of a pool are equal exactly where their trees are: a tree has one number.
 pub fn is_same_tree<A: SymLeaf>(pool: &ExprPool<A>, x: ExprId<A>, y: ExprId<A>) -> bool
     requires pool { IsPool A.reads pool.now }
-    requires x_in { x < length pool.now.1 }
-    requires y_in { y < length pool.now.1 }
+    requires x_in { x < size pool.now }
+    requires y_in { y < size pool.now }
     ensures numbers { IsTrue result ↔ (x ≡ y) }
     ensures trees { IsTrue result ↔ (tree_at pool.now x ≡ tree_at pool.now y) }
 {
@@ -36,8 +36,8 @@ pub fn is_same_whole_tree<F: Field, EF: ExtensionField<F>>(
     y: ExprId<ExtLeaf<F, EF>>,
 ) -> bool
     requires pool { IsPool (ext_reads EF.basis) pool.now }
-    requires x_in { x < length pool.now.1 }
-    requires y_in { y < length pool.now.1 }
+    requires x_in { x < size pool.now }
+    requires y_in { y < size pool.now }
     ensures numbers { IsTrue result ↔ (x ≡ y) }
     ensures trees { IsTrue result ↔ (whole_tree_at pool.now x ≡ whole_tree_at pool.now y) }
 {
@@ -87,7 +87,7 @@ pub fn pool_grows_with_base<F: Field, EF: ExtensionField<F>>(_pool: &ExprPool<Ex
 /// A number keeps its tree and its term while the pool grows.
 pub fn tree_is_kept<A: SymLeaf>(_pool: &ExprPool<A>, _x: ExprId<A>)
     requires pool { IsPool A.reads _pool.now }
-    requires here { _x < length _pool.now.1 }
+    requires here { _x < size _pool.now }
     ensures { KeepsTree A.grows A.reads _pool.now _x }
 {}
 
@@ -97,6 +97,6 @@ pub fn whole_tree_is_kept<F: Field, EF: ExtensionField<F>>(
     _x: ExprId<ExtLeaf<F, EF>>,
 )
     requires pool { IsPool (ext_reads EF.basis) _pool.now }
-    requires here { _x < length _pool.now.1 }
+    requires here { _x < size _pool.now }
     ensures { KeepsWholeTree EF.basis _pool.now _x }
 {}

@@ -4,12 +4,12 @@ use Rattle.std.specs.List.{slice_get}
 use Rattle.serde_json.specs.Data.{Data}
 use Rattle.serde_json.specs.View.{items_of}
 use Rattle.air_symbolic.specs.Trees.{Tree}
-use Rattle.air_symbolic.specs.declared.pools.expr.SymbolicExpr.{SymbolicExpr}
 use Rattle.air_wire.specs.Results.{◌>>=◌}
 use Rattle.air_wire.specs.Nodes.{Kind}
 use Rattle.air_wire.specs.NodeLists.{AreNodes, FirstFault}
 use Rattle.air_wire.specs.declared.errors.FlatError.{FlatError}
 use Rattle.air_wire.specs.declared.errors.FlatError.TheVariants as faults
+use Rattle.air_symbolic.specs.Pools.{Pool, size}
 
 -- a reader's numbers, unless it has met a fault
 abbrev pub numbers_or : List ℕ → Option FlatError → Result (List ℕ) FlatError
@@ -22,8 +22,8 @@ last_number reader = reader >>= λ ids. ok_or (slice_get ids (length ids - 1)) f
 
 -- The reader has read the values ds: each is a node behind those before it, and the reader has their numbers in the pool
 -- p, where a tree is seen by tree; or one is none, and the reader has the first fault, unless memory ran out.
-pub record HasRead {U A S F : Type 0} (kind : Kind S F) (tree : U × List (SymbolicExpr A) → ℕ → Tree S) (p : U × List (SymbolicExpr A))
+pub record HasRead {U A S F : Type 0} (kind : Kind S F) (tree : Pool U A → ℕ → Tree S) (p : Pool U A)
     (ds : List Data) (reader : Result (List ℕ) FlatError) : Type 0 where
-  pub here : IfOk reader (λ ids. All (λ i. i < length p.1) ids)
+  pub here : IfOk reader (λ ids. All (λ i. i < size p) ids)
   pub nodes : IfOk reader (λ ids. AreNodes kind [] (items_of ds) (map (tree p) ids))
   pub fault : IfErr reader (λ f. f ≢ faults.Memory → FirstFault kind [] (items_of ds) f)

@@ -1,11 +1,10 @@
 -- Trees whose leaves hold no numbers of a pool.
-use Rattle.std.specs.Prelude.{◌≡◌, ℕ, List}
+use Rattle.std.specs.Prelude.{◌≡◌, ℕ}
 use Rattle.air_field.specs.Term.{Term}
 use Rattle.air_field.specs.Degree.{degree_by, cached_weight}
 use Rattle.air_symbolic.specs.Leaves.{Leaves}
 use Rattle.air_symbolic.specs.Trees.{Tree, nothing, leaf_tree, add_tree, sub_tree, neg_tree, mul_tree, term_of}
-use Rattle.air_symbolic.specs.Pools.{tree_at}
-use Rattle.air_symbolic.specs.declared.pools.expr.SymbolicExpr.{SymbolicExpr}
+use Rattle.air_symbolic.specs.Pools.{tree_at, Pool, base_of}
 
 -- the tree over other leaves
 abbrev pub over : {A S : Type 0} → (A → S) → Tree A → Tree S
@@ -17,8 +16,8 @@ over f (neg_tree t) = neg_tree (over f t)
 over f (mul_tree t u) = mul_tree (over f t) (over f u)
 
 -- the tree of number i
-abbrev pub seen_at : {U A S : Type 0} → (U → A → S) → U × List (SymbolicExpr A) → ℕ → Tree S
-seen_at seen p i = over (seen p.0) (tree_at p i)
+abbrev pub seen_at : {U A S : Type 0} → (U → A → S) → Pool U A → ℕ → Tree S
+seen_at seen p i = over (seen (base_of p)) (tree_at p i)
 
 -- the degree by the cached weights, which a list states
 abbrev pub degree : {S F : Type 0} → (S → Term F) → Tree S → ℕ

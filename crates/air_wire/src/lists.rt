@@ -1,9 +1,8 @@
 //! Lists of nodes.
-ghost use Rattle.std.specs.Prelude.{◌≡◌, ◌≢◌, ◌<◌, ◌∷◌, ◌++◌, [], List, length, map, All, Ok, IfOk, IfErr};
+ghost use Rattle.std.specs.Prelude.{◌≡◌, ◌≢◌, ◌<◌, ◌∷◌, ◌++◌, [], List, map, All, Ok, IfOk, IfErr};
 ghost use Rattle.serde_json.specs.Data.{Data, array};
 ghost use Rattle.serde_json.specs.View.{view, items_of};
-ghost use Rattle.air_symbolic.specs.Pools.{IsPool, Grown};
-ghost use Rattle.air_symbolic.specs.declared.pools.expr.SymbolicExpr.{SymbolicExpr};
+ghost use Rattle.air_symbolic.specs.Pools.{Pool, IsPool, Grown, size};
 ghost use Rattle.air_wire.specs.ListReaders.{numbers_or, last_number, HasRead};
 ghost use Rattle.air_wire.specs.ReadCalls.{AreOf, ReadsTree, ReadsAll};
 ghost use Rattle.air_wire.specs.Unshared.{seen_at};
@@ -63,7 +62,7 @@ fn fault_after<A: WireLeaf>(
 ) -> Option<FlatError>
     requires pool { IsPool A.reads pool.old }
     requires here { IfOk (numbers_or ids.old.items fault)
-        (λ is. All (λ i. i < length pool.old.1) is) }
+        (λ is. All (λ i. i < size pool.old) is) }
     ensures grown { Grown A.grows A.reads pool.old pool.new }
     ensures read { (ds : List Data)
         → HasRead A.kind (seen_at A.seen) pool.old ds (numbers_or ids.old.items fault)
@@ -95,7 +94,7 @@ fn last_or<A: WireLeaf>(ids: &[ExprId<A>], fault: Option<FlatError>) -> Result<E
 impl<A: WireLeaf> ListReader<A> {
     /// A reader before the list's first node.
     pub fn new(alloc: Global) -> Self
-        ensures { (p : A.Under × List (SymbolicExpr A))
+        ensures { (p : Pool A.Under A)
             → HasRead A.kind (seen_at A.seen) p [] result }
     {
         ListReader {
@@ -107,7 +106,7 @@ impl<A: WireLeaf> ListReader<A> {
     /// Reads the list's next node, which is inserted unfolded; behind a fault no further node is read.
     pub fn read_node(&mut self, alloc: Global, pool: &mut ExprPool<A>, value: &Value)
         requires pool { IsPool A.reads pool.old }
-        requires here { IfOk self.old (λ ids. All (λ i. i < length pool.old.1) ids) }
+        requires here { IfOk self.old (λ ids. All (λ i. i < size pool.old) ids) }
         ensures grown { Grown A.grows A.reads pool.old pool.new }
         ensures read { (ds : List Data) → HasRead A.kind (seen_at A.seen) pool.old ds self.old
             → HasRead A.kind (seen_at A.seen) pool.new (ds ++ view value.now ∷ []) self.new }
@@ -117,12 +116,12 @@ impl<A: WireLeaf> ListReader<A> {
 
     /// The expression of the root of the list that is read, its last node, or the list's first fault.
     pub fn root(self) -> Result<ExprId<A>, FlatError>
-        ensures here { (p : A.Under × List (SymbolicExpr A)) → (ds : List Data)
-            → HasRead A.kind (seen_at A.seen) p ds self → IfOk result (λ i. i < length p.1) }
-        ensures root { (p : A.Under × List (SymbolicExpr A)) → (ds : List Data)
+        ensures here { (p : Pool A.Under A) → (ds : List Data)
+            → HasRead A.kind (seen_at A.seen) p ds self → IfOk result (λ i. i < size p) }
+        ensures root { (p : Pool A.Under A) → (ds : List Data)
             → HasRead A.kind (seen_at A.seen) p ds self
             → IfOk result (λ i. IsList A.kind (array (items_of ds)) (seen_at A.seen p i)) }
-        ensures fault { (p : A.Under × List (SymbolicExpr A)) → (ds : List Data)
+        ensures fault { (p : Pool A.Under A) → (ds : List Data)
             → HasRead A.kind (seen_at A.seen) p ds self → IfErr result
             (λ e. e ≢ FlatError.Memory → HasFault A.kind (array (items_of ds)) e) }
     {
@@ -167,7 +166,7 @@ pub fn from_flat_value<A: WireLeaf>(
 ) -> Result<ExprId<A>, FlatError>
     requires { IsPool A.reads pool.old }
     ensures grown { Grown A.grows A.reads pool.old pool.new }
-    ensures here { IfOk result (λ i. i < length pool.new.1) }
+    ensures here { IfOk result (λ i. i < size pool.new) }
     ensures root { IfOk result (λ i. IsList A.kind (view value.now) (seen_at A.seen pool.new i)) }
     ensures fault { IfErr result (λ e. e ≢ FlatError.Memory → HasFault A.kind (view value.now) e) }
 {

@@ -1,7 +1,7 @@
 //! One node of a list.
-ghost use Rattle.std.specs.Prelude.{◌≡◌, ◌<◌, length, map, All, IfOk, IsOk, Ok};
+ghost use Rattle.std.specs.Prelude.{◌≡◌, ◌<◌, map, All, IfOk, IsOk, Ok};
 ghost use Rattle.serde_json.specs.View.{view};
-ghost use Rattle.air_symbolic.specs.Pools.{IsPool};
+ghost use Rattle.air_symbolic.specs.Pools.{IsPool, size};
 ghost use Rattle.air_wire.specs.ReadCalls.{AreOf, ReadsTree};
 ghost use Rattle.air_wire.specs.Results.{Gives};
 ghost use Rattle.air_wire.specs.Unshared.{seen_at, degree};
@@ -22,8 +22,8 @@ fn operand<A: WireLeaf>(
     ids: &[ExprId<A>],
     place: usize,
 ) -> Result<ExprId<A>, FlatError>
-    requires { All (λ i. i < length pool.now.1) ids.now }
-    ensures here { IfOk result (λ i. i < length pool.now.1) }
+    requires { All (λ i. i < size pool.now) ids.now }
+    ensures here { IfOk result (λ i. i < size pool.now) }
     ensures read { Gives (seen_at A.seen pool.now) result
         (operand (map (seen_at A.seen pool.now) ids.now) place) }
 {
@@ -54,7 +54,7 @@ fn stated(at: usize, degree: usize, found: usize) -> Result<(), FlatError>
 // The degree of an expression, as a list states it.
 fn degree_of<A: WireLeaf>(pool: &ExprPool<A>, id: ExprId<A>) -> usize
     requires pool { IsPool A.reads pool.now }
-    requires here { id < length pool.now.1 }
+    requires here { id < size pool.now }
     ensures { result ≡ degree A.kind.term (seen_at A.seen pool.now id) }
 {
     pool.degree_multiple(id)
@@ -69,8 +69,8 @@ fn operands<A: WireLeaf>(
     contents: &Value,
 ) -> Result<(ExprId<A>, ExprId<A>), FlatError>
     requires { AreOf A.reads pool.now ids.now }
-    ensures left { IfOk result (λ p. p.0 < length pool.now.1) }
-    ensures right { IfOk result (λ p. p.1 < length pool.now.1) }
+    ensures left { IfOk result (λ p. p.0 < size pool.now) }
+    ensures right { IfOk result (λ p. p.1 < size pool.now) }
     ensures fits { IfOk result (λ p. IsOk (joined_degree operation
         (degree A.kind.term (seen_at A.seen pool.now p.0))
         (degree A.kind.term (seen_at A.seen pool.now p.1)))) }
@@ -93,8 +93,8 @@ fn inserted<A: WireLeaf>(
     operands: (ExprId<A>, ExprId<A>),
 ) -> Result<ExprId<A>, FlatError>
     requires pool { IsPool A.reads pool.old }
-    requires left { operands.0 < length pool.old.1 }
-    requires right { operands.1 < length pool.old.1 }
+    requires left { operands.0 < size pool.old }
+    requires right { operands.1 < size pool.old }
     requires fits { IsOk (joined_degree operation
         (degree A.kind.term (seen_at A.seen pool.old operands.0))
         (degree A.kind.term (seen_at A.seen pool.old operands.1))) }

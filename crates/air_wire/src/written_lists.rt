@@ -1,7 +1,7 @@
 //! Lists of nodes that are written.
-ghost use Rattle.std.specs.Prelude.{◌≡◌, ◌<◌, ◌+◌, [], ◌∷◌, ◌++◌, true, false, length, map, replicate, IfOk, IfErr};
+ghost use Rattle.std.specs.Prelude.{◌≡◌, ◌<◌, ◌+◌, [], ◌∷◌, ◌++◌, true, false, map, replicate, IfOk, IfErr};
 ghost use Rattle.serde_json.specs.View.{view};
-ghost use Rattle.air_symbolic.specs.Pools.{IsPool};
+ghost use Rattle.air_symbolic.specs.Pools.{IsPool, size};
 ghost use Rattle.air_symbolic.specs.Trees.{leaf_tree};
 ghost use Rattle.air_wire.specs.Unshared.{seen_at};
 ghost use Rattle.air_wire.specs.Written.{AreNodesOf, IsWritten};
@@ -23,7 +23,7 @@ fn no_places(alloc: Global, count: usize) -> Result<Vec<Option<usize>>, AllocErr
 
 // How many numbers there are up to this one, which is the greatest that its list may name.
 fn numbers_to<A: WireLeaf>(pool: &ExprPool<A>, id: ExprId<A>) -> usize
-    requires { id < length pool.now.1 }
+    requires { id < size pool.now }
     ensures { result ≡ id + 1 }
 {
     pool.len().min(id.number() + 1)
@@ -86,7 +86,7 @@ fn nodes_of<A: WireLeaf>(
     root: ExprId<A>,
 ) -> Result<Vec<Value>, FlatError>
     requires pool { IsPool A.reads pool.now }
-    requires here { root < length pool.now.1 }
+    requires here { root < size pool.now }
     ensures written { IfOk result (λ v. AreNodesOf A.kind (map view v.items)
         (seen_at A.seen pool.now root)) }
     ensures refused { IfErr result (λ e. e ≡ FlatError.Memory) }
@@ -137,7 +137,7 @@ fn items_of<A: WireLeaf>(
     root: ExprId<A>,
 ) -> Result<Vec<Value>, FlatError>
     requires pool { IsPool A.reads pool.now }
-    requires here { root < length pool.now.1 }
+    requires here { root < size pool.now }
     ensures written { IfOk result (λ v. AreNodesOf A.kind (map view v.items)
         (seen_at A.seen pool.now root)) }
     ensures refused { IfErr result (λ e. e ≡ FlatError.Memory) }
@@ -155,7 +155,7 @@ pub fn to_flat_value<A: WireLeaf>(
     id: ExprId<A>,
 ) -> Result<Value, FlatError>
     requires pool { IsPool A.reads pool.now }
-    requires here { id < length pool.now.1 }
+    requires here { id < size pool.now }
     ensures written { IfOk result (λ v. IsWritten A.kind (view v) (seen_at A.seen pool.now id)) }
     ensures refused { IfErr result (λ e. e ≡ FlatError.Memory) }
 {

@@ -1,6 +1,7 @@
 //! A well-formed pool, whose expressions go by the names that lines give them: what a name stands for is tested at run
 //! time to be of the pool.
-ghost use Rattle.std.specs.Prelude.{◌<◌, length, IsTrue, All, IfOk};
+ghost use Rattle.std.specs.Prelude.{◌<◌, IsTrue, All, IfOk};
+ghost use Rattle.air_symbolic.specs.Pools.{size};
 
 use crate::words::leaf_of;
 use cases::words::element_of;
@@ -17,11 +18,9 @@ pub struct NamedPool<'a, A: SymLeaf> {
 }
 
 impl<'a, A: SymLeaf> Model for NamedPool<'a, A> {
-    ghost use Rattle.std.specs.Prelude.{List};
-    ghost use Rattle.air_symbolic.specs.Pools.{IsPool};
-    ghost use Rattle.air_symbolic.specs.declared.pools.expr.SymbolicExpr.{SymbolicExpr};
+    ghost use Rattle.air_symbolic.specs.Pools.{IsPool, Pool};
 
-    ghost Value = { A.Under × List (SymbolicExpr A) };
+    ghost Value = { Pool A.Under A };
 
     ghost view = { λ b. b.pool };
 
@@ -38,7 +37,7 @@ impl<'a, A: SymLeaf> NamedPool<'a, A> {
 
     /// The expression of a name.
     pub fn at(&self, name: &str) -> Result<ExprId<A>, Fault>
-        ensures { IfOk result (λ x. x < length self.now.1) }
+        ensures { IfOk result (λ x. x < size self.now) }
     {
         let x = self.names.get(name)?;
         if self.pool.contains(x) {
@@ -50,7 +49,7 @@ impl<'a, A: SymLeaf> NamedPool<'a, A> {
 
     /// Whether all are of the pool.
     pub fn contains_all(&self, xs: &[ExprId<A>]) -> bool
-        ensures { IsTrue result → All (λ x. x < length self.now.1) xs.now }
+        ensures { IsTrue result → All (λ x. x < size self.now) xs.now }
     {
         for x in xs {
             if !self.pool.contains(*x) {

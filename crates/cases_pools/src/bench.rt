@@ -1,6 +1,7 @@
 //! A well-formed pool, whose expressions go by the names that lines give them: what a name stands for is tested at run
 //! time to be of the pool.
-ghost use Rattle.std.specs.Prelude.{◌<◌, length, IsTrue, All, IfOk};
+ghost use Rattle.std.specs.Prelude.{◌<◌, IsTrue, All, IfOk};
+ghost use Rattle.air_symbolic.specs.Pools.{size};
 
 use crate::known_leaves::show_known;
 use crate::shown::{Shown, show_all, show_expression};
@@ -36,11 +37,9 @@ pub struct PoolBench<'a, A: SymLeaf> {
 }
 
 impl<'a, A: SymLeaf> Model for PoolBench<'a, A> {
-    ghost use Rattle.std.specs.Prelude.{List};
-    ghost use Rattle.air_symbolic.specs.Pools.{IsPool};
-    ghost use Rattle.air_symbolic.specs.declared.pools.expr.SymbolicExpr.{SymbolicExpr};
+    ghost use Rattle.air_symbolic.specs.Pools.{IsPool, Pool};
 
-    ghost Value = { A.Under × List (SymbolicExpr A) };
+    ghost Value = { Pool A.Under A };
 
     ghost view = { λ b. b.pool };
 
@@ -50,7 +49,7 @@ impl<'a, A: SymLeaf> Model for PoolBench<'a, A> {
 impl<'a, A: SymLeaf> PoolBench<'a, A> {
     /// The expression of a name.
     pub fn at(&self, name: &str) -> Result<ExprId<A>, Fault>
-        ensures { IfOk result (λ x. x < length self.now.1) }
+        ensures { IfOk result (λ x. x < size self.now) }
     {
         let x = self.names.get(name)?;
         if self.pool.contains(x) {
@@ -62,7 +61,7 @@ impl<'a, A: SymLeaf> PoolBench<'a, A> {
 
     // Whether all are of the pool.
     fn contains_all(&self, xs: &[ExprId<A>]) -> bool
-        ensures { IsTrue result → All (λ x. x < length self.now.1) xs.now }
+        ensures { IsTrue result → All (λ x. x < size self.now) xs.now }
     {
         for x in xs {
             if !self.pool.contains(*x) {
@@ -74,7 +73,7 @@ impl<'a, A: SymLeaf> PoolBench<'a, A> {
 
     // The expressions of some names.
     fn all_at(&self, names: &[&str]) -> Result<Vec<ExprId<A>>, Fault>
-        ensures { IfOk result (λ all. All (λ x. x < length self.now.1) all.items) }
+        ensures { IfOk result (λ all. All (λ x. x < size self.now) all.items) }
     {
         let mut all = Vec::new(self.names.alloc());
         for name in names {
@@ -90,7 +89,7 @@ impl<'a, A: SymLeaf> PoolBench<'a, A> {
 
     // An operation on one expression. (A call at the end of an arm costs the least proof: each `?` has three.)
     fn operate(&mut self, word: &str, x: ExprId<A>) -> Result<ExprId<A>, RingError>
-        requires { x < length self.old.1 }
+        requires { x < size self.old }
     {
         match word {
             "neg" => self.pool.neg(x),
@@ -102,8 +101,8 @@ impl<'a, A: SymLeaf> PoolBench<'a, A> {
 
     // An operation on two that folds.
     fn fold_two(&mut self, word: &str, x: ExprId<A>, y: ExprId<A>) -> Result<ExprId<A>, RingError>
-        requires x_in { x < length self.old.1 }
-        requires y_in { y < length self.old.1 }
+        requires x_in { x < size self.old }
+        requires y_in { y < size self.old }
     {
         match word {
             "add" => self.pool.add(x, y),
@@ -116,8 +115,8 @@ impl<'a, A: SymLeaf> PoolBench<'a, A> {
 
     // An operation on two that doesn't.
     fn insert_two(&mut self, word: &str, x: ExprId<A>, y: ExprId<A>) -> Result<ExprId<A>, RingError>
-        requires x_in { x < length self.old.1 }
-        requires y_in { y < length self.old.1 }
+        requires x_in { x < size self.old }
+        requires y_in { y < size self.old }
     {
         match word {
             "insert_add" => self.pool.insert_add(x, y),

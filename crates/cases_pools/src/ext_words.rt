@@ -1,5 +1,6 @@
 //! Calls that extension pools alone have, and those of the base pool under one.
-ghost use Rattle.std.specs.Prelude.{◌<◌, length, IfOk};
+ghost use Rattle.std.specs.Prelude.{◌<◌, IfOk};
+ghost use Rattle.air_symbolic.specs.Pools.{base_of, size};
 
 use crate::base_words::base_leaf;
 use crate::bench::{PoolBench, TableLeaf};
@@ -48,7 +49,7 @@ fn show_entry(entry: ExtEntry, text: &mut String) -> Result<(), Fault> {
 impl<'a, F: Number, EF: ExtensionField<F>> PoolBench<'a, ExtLeaf<F, EF>> {
     // The expression of a name of the base pool.
     fn base_at(&self, name: &str) -> Result<ExprId<BaseLeaf<F>>, Fault>
-        ensures { IfOk result (λ x. x < length self.now.0.1) }
+        ensures { IfOk result (λ x. x < size (base_of self.now)) }
     {
         let x = self.base_names.get(name)?;
         if self.pool.base().contains(x) {
@@ -67,8 +68,8 @@ impl<'a, F: Number, EF: ExtensionField<F>> PoolBench<'a, ExtLeaf<F, EF>> {
         x: ExprId<BaseLeaf<F>>,
         y: ExprId<BaseLeaf<F>>,
     ) -> Result<ExprId<BaseLeaf<F>>, RingError>
-        requires x_in { x < length self.old.0.1 }
-        requires y_in { y < length self.old.0.1 }
+        requires x_in { x < size (base_of self.old) }
+        requires y_in { y < size (base_of self.old) }
     {
         self.pool.base_mut().add(x, y)
     }

@@ -1,9 +1,9 @@
 //! The degree inferred for the constraints of an AIR.
-ghost use Rattle.std.specs.Prelude.{◌≡◌, ◌<◌, ◌^◌, ◌++◌, length, IfOk, IfErr, OnOk, All};
+ghost use Rattle.std.specs.Prelude.{◌≡◌, ◌<◌, ◌^◌, ◌++◌, IfOk, IfErr, OnOk, All};
 ghost use Rattle.air_field.specs.Degree.{cached_weight, greatest_degree, quotient_degree};
 ghost use Rattle.air_symbolic.specs.BaseLeaves.{base_reads};
 ghost use Rattle.air_symbolic.specs.ExtLeaves.{ext_reads};
-ghost use Rattle.air_symbolic.specs.Pools.{IsPool};
+ghost use Rattle.air_symbolic.specs.Pools.{IsPool, base_of, size};
 ghost use Rattle.air_symbolic.specs.PoolRefusals.{AnswersDegree};
 ghost use Rattle.air_symbolic.specs.Weights.{leaf_weight};
 ghost use Rattle.air_recording.specs.Layouts.{LayoutSuits};
@@ -32,7 +32,7 @@ pub fn constraint_degree_from_poly_degree(poly_degree: usize, trace_len: usize) 
 /// The greatest cached degree of these expressions, 0 of none.
 fn greatest_cached<A: SymLeaf>(pool: &ExprPool<A>, numbers: &[ExprId<A>]) -> usize
     requires pool { IsPool A.reads pool.now }
-    requires here { All (λ i. i < length pool.now.1) numbers.now }
+    requires here { All (λ i. i < size pool.now) numbers.now }
     ensures { result ≡ greatest_degree cached_weight (terms_of A.reads pool.now numbers.now) }
 {
     let mut greatest = 0;
@@ -49,9 +49,10 @@ pub(crate) fn greatest_recorded<F: Field, EF: ExtensionField<F>>(
     ext: &[ExprId<ExtLeaf<F, EF>>],
 ) -> usize
     requires pool { IsPool (ext_reads EF.basis) pool.now }
-    requires base_here { All (λ i. i < length pool.now.0.1) base.now }
-    requires ext_here { All (λ i. i < length pool.now.1) ext.now }
-    ensures value { result ≡ greatest_degree cached_weight (terms_of base_reads pool.now.0 base.now
+    requires base_here { All (λ i. i < size (base_of pool.now)) base.now }
+    requires ext_here { All (λ i. i < size pool.now) ext.now }
+    ensures value { result ≡ greatest_degree cached_weight
+        (terms_of base_reads (base_of pool.now) base.now
         ++ terms_of (ext_reads EF.basis) pool.now ext.now) }
     ensures fits { result < 2 ^ 64 }
 {
@@ -80,8 +81,8 @@ pub fn greatest_degree_of<F: Field, EF: ExtensionField<F>>(
     weight: LeafWeight<'_>,
 ) -> Result<usize, RingError>
     requires pool { IsPool (ext_reads EF.basis) recorded.now.pool }
-    requires base_here { All (λ i. i < length recorded.now.pool.0.1) recorded.now.base.items }
-    requires ext_here { All (λ i. i < length recorded.now.pool.1) recorded.now.ext.items }
+    requires base_here { All (λ i. i < size (base_of recorded.now.pool)) recorded.now.base.items }
+    requires ext_here { All (λ i. i < size recorded.now.pool) recorded.now.ext.items }
     ensures answer { AnswersDegree (greatest_degree (leaf_weight weight.entry)
         (recorded_terms EF.basis recorded.now)) result }
     ensures fits { OnOk result (greatest_degree (leaf_weight weight.entry)
@@ -101,8 +102,8 @@ fn trace_degree_of<F: Field, EF: ExtensionField<F>>(
     periods: &[usize],
 ) -> Result<usize, RingError>
     requires pool { IsPool (ext_reads EF.basis) recorded.now.pool }
-    requires base_here { All (λ i. i < length recorded.now.pool.0.1) recorded.now.base.items }
-    requires ext_here { All (λ i. i < length recorded.now.pool.1) recorded.now.ext.items }
+    requires base_here { All (λ i. i < size (base_of recorded.now.pool)) recorded.now.base.items }
+    requires ext_here { All (λ i. i < size recorded.now.pool) recorded.now.ext.items }
     ensures { AnswersInferred 0 trace_len periods.now
         (recorded_terms EF.basis recorded.now) result }
 {
@@ -131,8 +132,8 @@ pub fn degree_of<F: Field, EF: ExtensionField<F>>(
     transition_weight: usize,
 ) -> Result<usize, RingError>
     requires pool { IsPool (ext_reads EF.basis) recorded.now.pool }
-    requires base_here { All (λ i. i < length recorded.now.pool.0.1) recorded.now.base.items }
-    requires ext_here { All (λ i. i < length recorded.now.pool.1) recorded.now.ext.items }
+    requires base_here { All (λ i. i < size (base_of recorded.now.pool)) recorded.now.base.items }
+    requires ext_here { All (λ i. i < size recorded.now.pool) recorded.now.ext.items }
     ensures { AnswersInferred transition_weight trace_len periods.now
         (recorded_terms EF.basis recorded.now) result }
 {

@@ -1,8 +1,8 @@
 //! The constraints of an AIR as expressions.
-ghost use Rattle.std.specs.Prelude.{◌≡◌, ◌<◌, [], length, map, All, IfOk, IfErr, OnOk};
+ghost use Rattle.std.specs.Prelude.{◌≡◌, ◌<◌, [], map, All, IfOk, IfErr, OnOk};
 ghost use Rattle.air_symbolic.specs.BaseLeaves.{base_reads};
 ghost use Rattle.air_symbolic.specs.ExtLeaves.{ext_reads};
-ghost use Rattle.air_symbolic.specs.Pools.{IsPool};
+ghost use Rattle.air_symbolic.specs.Pools.{IsPool, base_of, size};
 ghost use Rattle.air_recording.specs.Layouts.{LayoutSuits};
 ghost use Rattle.air_recording.specs.Folds.{ArePlacesOf};
 ghost use Rattle.air_recording.specs.Kinds.{kind_of, RecordsKinds};
@@ -51,14 +51,14 @@ pub fn record<F: Field, EF: ExtensionField<F>, A: Air<SymbolicAirBuilder<F, EF>>
     air: &A,
     layout: AirLayout,
 ) -> Result<SymbolicAirBuilder<F, EF>, AirError>
-    ensures base { IfOk result (λ b. RecordsBase F.ring EF.over base_reads b.pool.0
+    ensures base { IfOk result (λ b. RecordsBase F.ring EF.over base_reads (base_of b.pool)
         b.constraints.base.items (A.declaration air.now).declared) }
     ensures ext { IfOk result (λ b. RecordsExt F.ring EF.over
         (ext_reads EF.basis) b.pool b.constraints.ext.items
         (A.declaration air.now).declared) }
-    ensures base_here { IfOk result (λ b. All (λ i. i < length b.pool.0.1)
+    ensures base_here { IfOk result (λ b. All (λ i. i < size (base_of b.pool))
         b.constraints.base.items) }
-    ensures ext_here { IfOk result (λ b. All (λ i. i < length b.pool.1) b.constraints.ext.items) }
+    ensures ext_here { IfOk result (λ b. All (λ i. i < size b.pool) b.constraints.ext.items) }
     ensures kinds { IfOk result (λ b. RecordsKinds b.constraints.kinds.items
         (A.declaration air.now).declared) }
     ensures layout { OnOk result (LayoutSuits layout (A.declaration air.now)) }
@@ -87,8 +87,8 @@ pub fn get_all_symbolic_constraints<
     EF: ExtensionField<F>,
     A: Air<SymbolicAirBuilder<F, EF>>,
 >(alloc: Global, air: &A, layout: AirLayout) -> Result<Recorded<F, EF>, AirError>
-    ensures base { IfOk result (λ r. RecordsBase F.ring EF.over base_reads r.pool.0 r.base.items
-        (A.declaration air.now).declared) }
+    ensures base { IfOk result (λ r. RecordsBase F.ring EF.over
+        base_reads (base_of r.pool) r.base.items (A.declaration air.now).declared) }
     ensures ext { IfOk result (λ r. RecordsExt F.ring EF.over
         (ext_reads EF.basis) r.pool r.ext.items
         (A.declaration air.now).declared) }
@@ -107,8 +107,8 @@ pub fn get_symbolic_constraints<F: SelfExtension, A: Air<SymbolicAirBuilder<F, F
     air: &A,
     layout: AirLayout,
 ) -> Result<Recorded<F, F>, AirError>
-    ensures base { IfOk result (λ r. RecordsBase F.ring F.over base_reads r.pool.0 r.base.items
-        (A.declaration air.now).declared) }
+    ensures base { IfOk result (λ r. RecordsBase F.ring F.over
+        base_reads (base_of r.pool) r.base.items (A.declaration air.now).declared) }
     ensures pool { IfOk result (λ r. IsPool (ext_reads F.basis) r.pool) }
     ensures ext { IfOk result (λ r. r.ext.items ≡ []) }
     ensures layout { OnOk result (LayoutSuits layout (A.declaration air.now)) }

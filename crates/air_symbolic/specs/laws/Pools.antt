@@ -8,17 +8,17 @@ use Rattle.air_field.specs.Algebra.{AlgebraLaws}
 use Rattle.air_symbolic.specs.Leaves.{Leaves, LeafLaws}
 use Rattle.air_symbolic.specs.Trees.{term_of}
 use Rattle.air_symbolic.specs.Nodes.{tree_of}
-use Rattle.air_symbolic.specs.Pools.{IsPool, tree_at, term_at, Grown, PoolMeans, PoolHas}
+use Rattle.air_symbolic.specs.Pools.{Pool, IsPool, tree_at, term_at, Grown, PoolMeans, PoolHas}
 use Rattle.air_symbolic.specs.PoolRefusals.{PoolRefuses}
 use Rattle.air_symbolic.specs.laws.PoolRefusals.{PoolRefuses-whole}
 use Rattle.air_symbolic.specs.laws.Numbers.{tree_of-kept, tree_of-whole, term_of-kept, WellFormed-kept}
 use Rattle.air_symbolic.specs.declared.pools.expr.SymbolicExpr.{SymbolicExpr}
 
 module _ {U A F : Type 0} (r : CommRing F) (reads : U → Leaves A F) (grows : U → U → Type 0) (empty : U) (laws : LeafLaws r reads grows empty) where
-  pub Grown-refl : (p : U × List (SymbolicExpr A)) → Grown grows reads p p
+  pub Grown-refl : (p : Pool U A) → Grown grows reads p p
   Grown-refl p = record { under = laws.same p.0; nodes = ([], refl); pool = λ (h : IsPool reads p). h }
 
-  pub Grown-trans : (p q s : U × List (SymbolicExpr A)) → Grown grows reads p q → Grown grows reads q s → Grown grows reads p s
+  pub Grown-trans : (p q s : Pool U A) → Grown grows reads p q → Grown grows reads q s → Grown grows reads p s
   Grown-trans p q s h k = record {
     under = laws.joined p.0 q.0 s.0 h.under k.under;
     nodes = (k.nodes.0 ++ h.nodes.0, k.nodes.1 ∙ ap (λ l. k.nodes.0 ++ l) h.nodes.1 ∙ sym (append_assoc k.nodes.0 h.nodes.0 p.1));
@@ -37,23 +37,23 @@ module _ {U A F : Type 0} (r : CommRing F) (reads : U → Leaves A F) (grows : U
   }
 
   -- earlier numbers stay
-  pub here-kept : (p q : U × List (SymbolicExpr A)) (i : ℕ) → Grown grows reads p q → i < length p.1 → i < length q.1
+  pub here-kept : (p q : Pool U A) (i : ℕ) → Grown grows reads p q → i < length p.1 → i < length q.1
   here-kept p q i g h = omega (arith, h, ap length g.nodes.1, length-append g.nodes.0 p.1)
 
   -- they keep their trees
-  pub tree-kept : (p q : U × List (SymbolicExpr A)) (i : ℕ) → Grown grows reads p q → i < length p.1 → tree_at q i ≡ tree_at p i
+  pub tree-kept : (p q : Pool U A) (i : ℕ) → Grown grows reads p q → i < length p.1 → tree_at q i ≡ tree_at p i
   tree-kept p q i g h = ap (λ l. tree_of l i) g.nodes.1 ∙ tree_of-kept g.nodes.0 p.1 i h
 
   -- and their terms
-  pub term-kept : (p q : U × List (SymbolicExpr A)) (i : ℕ) → Grown grows reads p q → PoolHas reads p i → term_at reads q i ≡ term_at reads p i
+  pub term-kept : (p q : Pool U A) (i : ℕ) → Grown grows reads p q → PoolHas reads p i → term_at reads q i ≡ term_at reads p i
   term-kept p q i g h =
       ap (term_of (reads q.0).term) (tree-kept p q i g h.here)
       ∙ term_of-kept (reads p.0) (reads q.0) (laws.keeps p.0 q.0 g.under) (tree_at p i) (tree_of-whole (reads p.0) p.1 h.pool.nodes i h.here)
 
-  pub has-kept : (p q : U × List (SymbolicExpr A)) (i : ℕ) → Grown grows reads p q → PoolHas reads p i → PoolHas reads q i
+  pub has-kept : (p q : Pool U A) (i : ℕ) → Grown grows reads p q → PoolHas reads p i → PoolHas reads q i
   has-kept p q i g h = record { pool = g.pool h.pool; here = here-kept p q i g h.here }
 
-  pub means-kept : (p q : U × List (SymbolicExpr A)) (i : ℕ) (t : Term F) → Grown grows reads p q → PoolMeans reads r p i t → PoolMeans reads r q i t
+  pub means-kept : (p q : Pool U A) (i : ℕ) (t : Term F) → Grown grows reads p q → PoolMeans reads r p i t → PoolMeans reads r q i t
   means-kept p q i t g h = record {
     pool = g.pool h.pool;
     here = here-kept p q i g h.here;

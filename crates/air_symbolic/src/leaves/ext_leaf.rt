@@ -26,10 +26,9 @@ impl<F: Field, EF: ExtensionField<F>> SymLeaf for ExtLeaf<F, EF> {
     type Under = ExprPool<BaseLeaf<F>>;
 
     ghost use Rattle.std.proofs.Common.{arith};
-    ghost use Rattle.std.specs.Prelude.{length};
     ghost use Rattle.air_field.specs.Degree.{degree_by};
     ghost use Rattle.air_symbolic.specs.Weights.{leaf_weight};
-    ghost use Rattle.air_symbolic.specs.Pools.{term_at};
+    ghost use Rattle.air_symbolic.specs.Pools.{term_at, size};
     ghost use Rattle.air_symbolic.specs.BaseLeaves.{base_reads};
     ghost use Rattle.air_symbolic.specs.DegreeTables.{AnswersDegrees};
     ghost use Rattle.air_symbolic.specs.ExtLeaves.{no_base_nodes, ext_reads, ext_grows};
@@ -39,10 +38,10 @@ impl<F: Field, EF: ExtensionField<F>> SymLeaf for ExtLeaf<F, EF> {
 
     ghost grows = { λ u v. ext_grows u v };
 
-    ghost nodes_under = { λ u. length u.1 };
+    ghost nodes_under = { λ u. size u };
 
     ghost has_degrees = { λ u w table.
-        AnswersDegrees (λ i. degree_by (leaf_weight w) (term_at base_reads u i)) (length u.1) table };
+        AnswersDegrees (λ i. degree_by (leaf_weight w) (term_at base_reads u i)) (size u) table };
 
     ghost no_under = { no_base_nodes };
 

@@ -3,7 +3,7 @@ ghost use Rattle.std.specs.Prelude.{◌≡◌, ℕ, ◌<◌, ◌≤◌, ◌+◌,
 ghost use Rattle.air_field.specs.Degree.{degree_by};
 ghost use Rattle.air_symbolic.specs.Weights.{leaf_weight};
 ghost use Rattle.air_symbolic.specs.Nodes.{OperandsBelow};
-ghost use Rattle.air_symbolic.specs.Pools.{IsPool, term_at};
+ghost use Rattle.air_symbolic.specs.Pools.{IsPool, term_at, base_of, size};
 ghost use Rattle.air_symbolic.specs.PoolRefusals.{AnswersDegree};
 ghost use Rattle.air_symbolic.specs.DegreeTables.{answer_at, AnswersDegrees, node_degree, IsValidNode};
 
@@ -88,8 +88,8 @@ impl<A: SymLeaf> ExprPool<A> {
         table: &mut DegreeTable,
     ) -> Result<(), RingError>
         requires pool { IsPool A.reads self.now }
-        requires here { id < length self.now.1 }
-        requires under { A.has_degrees self.now.0 weight under.now.degrees.items }
+        requires here { id < size self.now }
+        requires under { A.has_degrees (base_of self.now) weight under.now.degrees.items }
         requires operands { AnswersDegrees
             (λ i. degree_by (leaf_weight weight) (term_at A.reads self.now i))
             id table.old.degrees.items }
@@ -116,8 +116,8 @@ impl<A: SymLeaf> ExprPool<A> {
         under: &DegreeTable,
     ) -> Result<DegreeTable, RingError>
         requires pool { IsPool A.reads self.now }
-        requires here { count ≤ length self.now.1 }
-        requires under { A.has_degrees self.now.0 weight under.now.degrees.items }
+        requires here { count ≤ size self.now }
+        requires under { A.has_degrees (base_of self.now) weight under.now.degrees.items }
         ensures degrees { IfOk result (λ t. AnswersDegrees
             (λ i. degree_by (leaf_weight weight.entry) (term_at A.reads self.now i))
             count t.degrees.items) }
@@ -142,11 +142,11 @@ impl<A: SymLeaf> ExprPool<A> {
         weight: LeafWeight<'_>,
     ) -> Result<DegreeTable, RingError>
         requires pool { IsPool A.reads self.now }
-        requires here { count ≤ length self.now.1 }
+        requires here { count ≤ size self.now }
         ensures degrees { IfOk result (λ t. AnswersDegrees
             (λ i. degree_by (leaf_weight weight.entry) (term_at A.reads self.now i))
             count t.degrees.items) }
-        ensures turns { IfOk result (λ t. t.turns ≡ count + A.nodes_under self.now.0) }
+        ensures turns { IfOk result (λ t. t.turns ≡ count + A.nodes_under (base_of self.now)) }
         ensures refused { IfErr result (λ e. e ≡ RingError.Memory) }
     {
         let under = A::degrees_under(self.base(), weight, *self.nodes.allocator())?;

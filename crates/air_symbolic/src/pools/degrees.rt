@@ -2,7 +2,7 @@
 ghost use Rattle.std.specs.Prelude.{◌≡◌, ◌≢◌, ℕ, ◌<◌, ◌≤◌, ◌+◌, length, map, All, IfOk, IfErr};
 ghost use Rattle.air_field.specs.Degree.{degree_by, cached_weight, transition_weight, trace_weight};
 ghost use Rattle.air_symbolic.specs.Weights.{leaf_weight, turns_by, SomeOverflows};
-ghost use Rattle.air_symbolic.specs.Pools.{IsPool, term_at};
+ghost use Rattle.air_symbolic.specs.Pools.{IsPool, term_at, base_of, size};
 ghost use Rattle.air_symbolic.specs.PoolRefusals.{AnswersDegree};
 ghost use Rattle.air_symbolic.specs.DegreeTables.{AnswersDegrees};
 
@@ -17,7 +17,7 @@ impl<A: SymLeaf> ExprPool<A> {
     // The degree of one root by the leaves' weights.
     fn root_degree(&self, id: ExprId<A>, weight: LeafWeight<'_>) -> Result<usize, RingError>
         requires pool { IsPool A.reads self.now }
-        requires here { id < length self.now.1 }
+        requires here { id < size self.now }
         ensures { AnswersDegree
             (degree_by (leaf_weight weight.entry) (term_at A.reads self.now id)) result }
     {
@@ -31,7 +31,7 @@ impl<A: SymLeaf> ExprPool<A> {
     // The degrees that the roots' nodes state.
     fn stated_degrees(&self, roots: &[ExprId<A>]) -> Result<Degrees, RingError>
         requires pool { IsPool A.reads self.now }
-        requires all_in { All (λ x. x < length self.now.1) roots.now }
+        requires all_in { All (λ x. x < size self.now) roots.now }
         ensures values { IfOk result (λ d. d.values.items ≡
             map (λ x. degree_by cached_weight (term_at A.reads self.now x)) roots.now) }
         ensures turns { IfOk result (λ d. d.turns ≡ 0) }
@@ -77,11 +77,11 @@ impl<A: SymLeaf> ExprPool<A> {
         weight: LeafWeight<'_>,
     ) -> Result<Degrees, RingError>
         requires pool { IsPool A.reads self.now }
-        requires all_in { All (λ x. x < length self.now.1) roots.now }
+        requires all_in { All (λ x. x < size self.now) roots.now }
         ensures values { IfOk result (λ d. d.values.items ≡
             map (λ x. degree_by (leaf_weight weight.entry) (term_at A.reads self.now x)) roots.now) }
         ensures turns { IfOk result (λ d.
-            d.turns ≡ length self.now.1 + A.nodes_under self.now.0) }
+            d.turns ≡ size self.now + A.nodes_under (base_of self.now)) }
         ensures refused { IfErr result (λ e. e ≢ RingError.Memory → SomeOverflows
             (map (λ x. degree_by (leaf_weight weight.entry) (term_at A.reads self.now x)) roots.now)) }
     {
@@ -97,7 +97,7 @@ impl<A: SymLeaf> ExprPool<A> {
         weight: usize,
     ) -> Result<usize, RingError>
         requires pool { IsPool A.reads self.now }
-        requires here { id < length self.now.1 }
+        requires here { id < size self.now }
         ensures { AnswersDegree (degree_by (transition_weight weight) (term_at A.reads self.now id))
             result }
     {
@@ -114,7 +114,7 @@ impl<A: SymLeaf> ExprPool<A> {
         periods: &[usize],
     ) -> Result<usize, RingError>
         requires pool { IsPool A.reads self.now }
-        requires here { id < length self.now.1 }
+        requires here { id < size self.now }
         ensures { AnswersDegree (degree_by (trace_weight trace_len periods.now)
             (term_at A.reads self.now id)) result }
     {
@@ -127,13 +127,13 @@ impl<A: SymLeaf> ExprPool<A> {
     /// root reaches; and otherwise only for want of memory.
     pub fn degrees(&self, roots: &[ExprId<A>], weight: LeafWeight<'_>) -> Result<Degrees, RingError>
         requires pool { IsPool A.reads self.now }
-        requires all_in { All (λ x. x < length self.now.1) roots.now }
+        requires all_in { All (λ x. x < size self.now) roots.now }
         ensures values { IfOk result (λ d. d.values.items ≡ map
             (λ x. degree_by (leaf_weight weight.entry) (term_at A.reads self.now x)) roots.now) }
         ensures turns { IfOk result (λ d. d.turns ≡
-            turns_by weight.entry (length self.now.1 + A.nodes_under self.now.0)) }
+            turns_by weight.entry (size self.now + A.nodes_under (base_of self.now))) }
         ensures at_most { IfOk result (λ d.
-            d.turns ≤ length self.now.1 + A.nodes_under self.now.0) }
+            d.turns ≤ size self.now + A.nodes_under (base_of self.now)) }
         ensures refused { IfErr result (λ e. e ≢ RingError.Memory → SomeOverflows
             (map (λ x. degree_by (leaf_weight weight.entry) (term_at A.reads self.now x))
             roots.now)) }

@@ -1,9 +1,9 @@
 //! Degrees of expressions of both pools.
-ghost use Rattle.std.specs.Prelude.{◌≡◌, ◌≢◌, ◌<◌, ◌⊎◌, length, map, All, IfOk, IfErr};
+ghost use Rattle.std.specs.Prelude.{◌≡◌, ◌≢◌, ◌<◌, ◌⊎◌, map, All, IfOk, IfErr};
 ghost use Rattle.air_field.specs.Degree.{degree_by};
 ghost use Rattle.air_symbolic.specs.BaseLeaves.{base_reads};
 ghost use Rattle.air_symbolic.specs.ExtLeaves.{ext_reads};
-ghost use Rattle.air_symbolic.specs.Pools.{IsPool, term_at};
+ghost use Rattle.air_symbolic.specs.Pools.{IsPool, term_at, base_of, size};
 ghost use Rattle.air_symbolic.specs.Weights.{leaf_weight, SomeOverflows};
 
 use crate::leaves::base_leaf::BaseLeaf;
@@ -24,20 +24,20 @@ impl<F: Field, EF: ExtensionField<F>> ExprPool<ExtLeaf<F, EF>> {
         weight: LeafWeight<'_>,
     ) -> Result<(Degrees, Degrees), RingError>
         requires pool { IsPool (ext_reads EF.basis) self.now }
-        requires base_in { All (λ x. x < length self.now.0.1) base_roots.now }
-        requires all_in { All (λ x. x < length self.now.1) roots.now }
+        requires base_in { All (λ x. x < size (base_of self.now)) base_roots.now }
+        requires all_in { All (λ x. x < size self.now) roots.now }
         ensures base { IfOk result (λ d. d.0.values.items ≡ map
-            (λ x. degree_by (leaf_weight weight.entry) (term_at base_reads self.now.0 x))
+            (λ x. degree_by (leaf_weight weight.entry) (term_at base_reads (base_of self.now) x))
             base_roots.now) }
         ensures values { IfOk result (λ d. d.1.values.items ≡ map
             (λ x. degree_by (leaf_weight weight.entry)
             (term_at (ext_reads EF.basis) self.now x))
             roots.now) }
-        ensures base_turns { IfOk result (λ d. d.0.turns ≡ length self.now.0.1) }
-        ensures turns { IfOk result (λ d. d.1.turns ≡ length self.now.1) }
+        ensures base_turns { IfOk result (λ d. d.0.turns ≡ size (base_of self.now)) }
+        ensures turns { IfOk result (λ d. d.1.turns ≡ size self.now) }
         ensures refused { IfErr result (λ e. e ≢ RingError.Memory →
             SomeOverflows (map
-            (λ x. degree_by (leaf_weight weight.entry) (term_at base_reads self.now.0 x))
+            (λ x. degree_by (leaf_weight weight.entry) (term_at base_reads (base_of self.now) x))
             base_roots.now)
             ⊎ SomeOverflows (map
             (λ x. degree_by (leaf_weight weight.entry)

@@ -1,9 +1,9 @@
 //! The folded operations: the first case of the folding table that fits, else a node.
-ghost use Rattle.std.specs.Prelude.{◌≡◌, ◌<◌, ◌≤◌, ◌+◌, ◌^◌, ◌↔◌, length, IfOk, IfErr};
+ghost use Rattle.std.specs.Prelude.{◌≡◌, ◌<◌, ◌≤◌, ◌+◌, ◌^◌, ◌↔◌, IfOk, IfErr};
 ghost use Rattle.air_field.specs.Term.{add_term, sub_term, neg_term, mul_term};
 ghost use Rattle.air_field.specs.Degree.{degree_by, cached_weight};
 ghost use Rattle.air_field.specs.Same.{Simplifies};
-ghost use Rattle.air_symbolic.specs.Pools.{IsPool, tree_at, term_at, Grown, HasConst};
+ghost use Rattle.air_symbolic.specs.Pools.{IsPool, tree_at, term_at, Grown, HasConst, size};
 ghost use Rattle.air_symbolic.specs.Folds.{HasFold, IsSum, IsDifference, IsNegative, IsProduct, NeedsNode};
 
 use crate::leaves::sym_leaf::SymLeaf;
@@ -42,8 +42,8 @@ impl<A: SymLeaf> ExprPool<A> {
         y: ExprId<A>,
     ) -> Result<ExprId<A>, RingError>
         requires pool { IsPool A.reads self.old }
-        requires x_in { x < length self.old.1 }
-        requires y_in { y < length self.old.1 }
+        requires x_in { x < size self.old }
+        requires y_in { y < size self.old }
         ensures grown { Grown A.grows A.reads self.old self.new }
         ensures made { IfOk result (HasFold A.reads self.new (tree_at self.old x)
             (tree_at self.old y) fold) }
@@ -60,8 +60,8 @@ impl<A: SymLeaf> ExprPool<A> {
     /// The sum, folded.
     pub fn add(&mut self, x: ExprId<A>, y: ExprId<A>) -> Result<ExprId<A>, RingError>
         requires pool { IsPool A.reads self.old }
-        requires x_in { x < length self.old.1 }
-        requires y_in { y < length self.old.1 }
+        requires x_in { x < size self.old }
+        requires y_in { y < size self.old }
         ensures grown { Grown A.grows A.reads self.old self.new }
         ensures made { IfOk result (IsSum A.reads A.F.ring A.F.eq self.old self.new x y) }
         ensures simplifies { IfOk result (λ z. Simplifies A.F.ring (term_at A.reads self.new z)
@@ -77,8 +77,8 @@ impl<A: SymLeaf> ExprPool<A> {
     /// The difference, folded.
     pub fn sub(&mut self, x: ExprId<A>, y: ExprId<A>) -> Result<ExprId<A>, RingError>
         requires pool { IsPool A.reads self.old }
-        requires x_in { x < length self.old.1 }
-        requires y_in { y < length self.old.1 }
+        requires x_in { x < size self.old }
+        requires y_in { y < size self.old }
         ensures grown { Grown A.grows A.reads self.old self.new }
         ensures made { IfOk result (IsDifference A.reads A.F.ring A.F.eq self.old self.new x y) }
         ensures simplifies { IfOk result (λ z. Simplifies A.F.ring (term_at A.reads self.new z)
@@ -94,7 +94,7 @@ impl<A: SymLeaf> ExprPool<A> {
     /// The negative, folded.
     pub fn neg(&mut self, x: ExprId<A>) -> Result<ExprId<A>, RingError>
         requires pool { IsPool A.reads self.old }
-        requires x_in { x < length self.old.1 }
+        requires x_in { x < size self.old }
         ensures grown { Grown A.grows A.reads self.old self.new }
         ensures made { IfOk result (IsNegative A.reads A.F.ring A.F.eq self.old self.new x) }
         ensures simplifies { IfOk result (λ z. Simplifies A.F.ring (term_at A.reads self.new z)
@@ -111,8 +111,8 @@ impl<A: SymLeaf> ExprPool<A> {
     /// degrees add past `usize`.
     pub fn mul(&mut self, x: ExprId<A>, y: ExprId<A>) -> Result<ExprId<A>, RingError>
         requires pool { IsPool A.reads self.old }
-        requires x_in { x < length self.old.1 }
-        requires y_in { y < length self.old.1 }
+        requires x_in { x < size self.old }
+        requires y_in { y < size self.old }
         ensures grown { Grown A.grows A.reads self.old self.new }
         ensures made { IfOk result (IsProduct A.reads A.F.ring A.F.eq self.old self.new x y) }
         ensures simplifies { IfOk result (λ z. Simplifies A.F.ring (term_at A.reads self.new z)

@@ -1,9 +1,9 @@
 //! Folded sums and products of lists, from the left.
-ghost use Rattle.std.specs.Prelude.{◌≡◌, ◌<◌, length, map, All, IfOk, IfErr};
+ghost use Rattle.std.specs.Prelude.{◌≡◌, ◌<◌, map, All, IfOk, IfErr};
 ghost use Rattle.air_field.specs.Term.{add_term, mul_term};
 ghost use Rattle.air_field.specs.Same.{Simplifies};
 ghost use Rattle.air_field.specs.Joins.{join_terms};
-ghost use Rattle.air_symbolic.specs.Pools.{IsPool, tree_at, term_at, Grown};
+ghost use Rattle.air_symbolic.specs.Pools.{IsPool, tree_at, term_at, Grown, base_of, size};
 ghost use Rattle.air_symbolic.specs.FoldedLists.{IsSumOfAll, IsProductOfAll, ProductOverflows};
 
 use crate::leaves::sym_leaf::SymLeaf;
@@ -15,7 +15,7 @@ impl<A: SymLeaf> ExprPool<A> {
     /// The sum, folded step by step from the left; of none, 0. It refuses for want of memory alone.
     pub fn sum(&mut self, xs: &[ExprId<A>]) -> Result<ExprId<A>, RingError>
         requires pool { IsPool A.reads self.old }
-        requires all_in { All (λ x. x < length self.old.1) xs.now }
+        requires all_in { All (λ x. x < size self.old) xs.now }
         ensures grown { Grown A.grows A.reads self.old self.new }
         ensures made { IfOk result (IsSumOfAll A.reads A.F.ring A.F.eq self.old self.new xs.now) }
         ensures simplifies { IfOk result (λ z. Simplifies A.F.ring (term_at A.reads self.new z)
@@ -36,14 +36,14 @@ impl<A: SymLeaf> ExprPool<A> {
     /// step needs a node and the degrees add past `usize`, and always there unless memory is wanting before.
     pub fn product(&mut self, xs: &[ExprId<A>]) -> Result<ExprId<A>, RingError>
         requires pool { IsPool A.reads self.old }
-        requires all_in { All (λ x. x < length self.old.1) xs.now }
+        requires all_in { All (λ x. x < size self.old) xs.now }
         ensures grown { Grown A.grows A.reads self.old self.new }
         ensures made { IfOk result (IsProductOfAll A.reads A.F.ring A.F.eq self.old self.new
             xs.now) }
         ensures simplifies { IfOk result (λ z. Simplifies A.F.ring (term_at A.reads self.new z)
             (join_terms mul_term A.F.ring.one (map (term_at A.reads self.old) xs.now))) }
         ensures overflow { result ≡ Err RingError.DegreeOverflow → ProductOverflows A.F.ring A.F.eq
-            (A.reads self.new.0) (map (tree_at self.old) xs.now) }
+            (A.reads (base_of self.new)) (map (tree_at self.old) xs.now) }
     {
         let [first, rest @ ..] = xs else {
             return self.constant(A::F::ONE);

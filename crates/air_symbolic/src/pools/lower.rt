@@ -1,10 +1,10 @@
 //! Extension expressions that are base expressions.
-ghost use Rattle.std.specs.Prelude.{◌≡◌, ◌≢◌, ◌<◌, [], ◌∷◌, length, slice_index_or, None, IfOk, IfErr, IfNone, MatchOption, ◌↔◌, true};
+ghost use Rattle.std.specs.Prelude.{◌≡◌, ◌≢◌, ◌<◌, [], ◌∷◌, slice_index_or, None, IfOk, IfErr, IfNone, MatchOption, ◌↔◌, true};
 ghost use Rattle.std.specs.Option.{IfSome};
 ghost use Rattle.air_symbolic.specs.ExtLeaves.{ext_reads, ext_grows};
 ghost use Rattle.air_symbolic.specs.ExtTrees.{HasExtOnly, lowered, IsLowered, HasTermOf};
 ghost use Rattle.air_symbolic.specs.Lowered.{IsMarkedExtOnly, IsLoweredIn, IsLoweredNode, CanLower};
-ghost use Rattle.air_symbolic.specs.Pools.{IsPool, Grown, HasTree, tree_at};
+ghost use Rattle.air_symbolic.specs.Pools.{IsPool, Grown, HasTree, tree_at, base_of, nodes_of, size};
 ghost use Rattle.air_symbolic.specs.Reach.{Reached};
 
 use crate::leaves::base_leaf::BaseLeaf;
@@ -32,7 +32,7 @@ impl<F: Field, EF: ExtensionField<F>> ExprPool<ExtLeaf<F, EF>> {
     // Whether what is marked is a leaf of the extension alone.
     fn is_ext_only(&self, mark: Option<ExprId<ExtLeaf<F, EF>>>) -> bool
         requires pool { IsPool (ext_reads EF.basis) self.now }
-        requires here { IfSome mark (λ i. i < length self.now.1) }
+        requires here { IfSome mark (λ i. i < size self.now) }
         ensures { (result ≡ true) ↔ IsMarkedExtOnly self.now mark }
     {
         match mark {
@@ -52,9 +52,9 @@ impl<F: Field, EF: ExtensionField<F>> ExprPool<ExtLeaf<F, EF>> {
         marks: &[Option<ExprId<ExtLeaf<F, EF>>>],
     ) -> bool
         requires pool { IsPool (ext_reads EF.basis) self.now }
-        requires here { id < length self.now.1 }
-        requires marked { Reached (ext_reads EF.basis self.now.0)
-            self.now.1 (id ∷ []) marks.now }
+        requires here { id < size self.now }
+        requires marked { Reached (ext_reads EF.basis (base_of self.now))
+            (nodes_of self.now) (id ∷ []) marks.now }
         ensures { (result ≡ true) ↔ HasExtOnly (tree_at self.now id) }
     {
         for mark in marks {
@@ -75,8 +75,8 @@ impl<F: Field, EF: ExtensionField<F>> ExprPool<ExtLeaf<F, EF>> {
         requires pool { IsPool (ext_reads EF.basis) self.now }
         requires ready { CanLower self.now table.now id }
         ensures node { IfOk result (IsLoweredNode self.now id) }
-        ensures there { IfErr result (HasTree self.now.0
-            (lowered self.now.0 (tree_at self.now id))) }
+        ensures there { IfErr result (HasTree (base_of self.now)
+            (lowered (base_of self.now) (tree_at self.now id))) }
     {
         match *self.node(id) {
             SymbolicExpr::Leaf(ExtLeaf::Base(b)) => Err(b),
@@ -123,9 +123,10 @@ impl<F: Field, EF: ExtensionField<F>> ExprPool<ExtLeaf<F, EF>> {
     ) -> Result<ExprId<BaseLeaf<F>>, RingError>
         requires pool { IsPool (ext_reads EF.basis) self.old }
         requires ready { CanLower self.old table.now id }
-        ensures same_nodes { self.new.1 ≡ self.old.1 }
+        ensures same_nodes { nodes_of self.new ≡ nodes_of self.old }
         ensures grown { Grown ext_grows (ext_reads EF.basis) self.old self.new }
-        ensures made { IfOk result (HasTree self.new.0 (lowered self.old.0 (tree_at self.old id))) }
+        ensures made { IfOk result (HasTree (base_of self.new)
+            (lowered (base_of self.old) (tree_at self.old id))) }
         ensures refused { IfErr result (λ e. e ≡ RingError.Memory) }
     {
         match self.over_base(id, table) {
@@ -142,7 +143,7 @@ impl<F: Field, EF: ExtensionField<F>> ExprPool<ExtLeaf<F, EF>> {
     ) -> Result<Option<ExprId<BaseLeaf<F>>>, RingError>
         requires pool { IsPool (ext_reads EF.basis) self.old }
         requires ready { IfSome mark (CanLower self.old table.now) }
-        ensures same_nodes { self.new.1 ≡ self.old.1 }
+        ensures same_nodes { nodes_of self.new ≡ nodes_of self.old }
         ensures grown { Grown ext_grows (ext_reads EF.basis) self.old self.new }
         ensures made { IfOk result (λ b. IfSome mark (λ i. IsLoweredIn self.old self.new i b)) }
         ensures refused { IfErr result (λ e. e ≡ RingError.Memory) }
@@ -164,13 +165,14 @@ impl<F: Field, EF: ExtensionField<F>> ExprPool<ExtLeaf<F, EF>> {
         marks: &[Option<ExprId<ExtLeaf<F, EF>>>],
     ) -> Result<ExprId<BaseLeaf<F>>, RingError>
         requires pool { IsPool (ext_reads EF.basis) self.old }
-        requires here { id < length self.old.1 }
-        requires marked { Reached (ext_reads EF.basis self.old.0)
-            self.old.1 (id ∷ []) marks.now }
+        requires here { id < size self.old }
+        requires marked { Reached (ext_reads EF.basis (base_of self.old))
+            (nodes_of self.old) (id ∷ []) marks.now }
         requires base_only { HasExtOnly (tree_at self.old id) → ⊥ }
-        ensures same_nodes { self.new.1 ≡ self.old.1 }
+        ensures same_nodes { nodes_of self.new ≡ nodes_of self.old }
         ensures grown { Grown ext_grows (ext_reads EF.basis) self.old self.new }
-        ensures made { IfOk result (HasTree self.new.0 (lowered self.old.0 (tree_at self.old id))) }
+        ensures made { IfOk result (HasTree (base_of self.new)
+            (lowered (base_of self.old) (tree_at self.old id))) }
         ensures refused { IfErr result (λ e. e ≡ RingError.Memory) }
     {
         let mut table = Vec::with_capacity(*self.nodes.allocator(), marks.len())?;
@@ -188,13 +190,13 @@ impl<F: Field, EF: ExtensionField<F>> ExprPool<ExtLeaf<F, EF>> {
         id: ExprId<ExtLeaf<F, EF>>,
     ) -> Result<Option<ExprId<BaseLeaf<F>>>, RingError>
         requires pool { IsPool (ext_reads EF.basis) self.old }
-        requires here { id < length self.old.1 }
-        ensures same_nodes { self.new.1 ≡ self.old.1 }
+        requires here { id < size self.old }
+        ensures same_nodes { nodes_of self.new ≡ nodes_of self.old }
         ensures grown { Grown ext_grows (ext_reads EF.basis) self.old self.new }
         ensures made { IfOk result (λ b. MatchOption b (HasExtOnly (tree_at self.old id))
-            (IsLowered self.old.0 self.new.0 (tree_at self.old id))) }
+            (IsLowered (base_of self.old) (base_of self.new) (tree_at self.old id))) }
         ensures term { IfOk result (λ b. IfSome b
-            (HasTermOf EF.basis self.old id self.new.0)) }
+            (HasTermOf EF.basis self.old id (base_of self.new))) }
         ensures none { IfOk result (λ b. IfNone b (self.new ≡ self.old)) }
         ensures refused { IfErr result (λ e. e ≡ RingError.Memory) }
     {

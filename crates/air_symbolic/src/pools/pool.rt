@@ -1,8 +1,8 @@
 //! A pool of nodes, and the calls that read it.
-ghost use Rattle.std.specs.Prelude.{◌≡◌, ◌<◌, ◌↔◌, length, [], IsTrue, MatchOption, Some};
+ghost use Rattle.std.specs.Prelude.{◌≡◌, ◌<◌, ◌↔◌, [], IsTrue};
 ghost use Rattle.air_field.specs.Degree.{degree_by, cached_weight};
 ghost use Rattle.air_symbolic.specs.Nodes.{IsNode};
-ghost use Rattle.air_symbolic.specs.Pools.{IsPool, term_at, constant_at};
+ghost use Rattle.air_symbolic.specs.Pools.{IsPool, term_at, constant_at, base_of, nodes_of, size};
 
 use crate::leaves::sym_leaf::SymLeaf;
 use crate::pools::expr::{ExprId, SymbolicExpr};
@@ -18,10 +18,10 @@ pub struct ExprPool<A: SymLeaf> {
 }
 
 impl<A: SymLeaf> Model for ExprPool<A> {
-    ghost use Rattle.std.specs.Prelude.{List, reverse};
-    ghost use Rattle.air_symbolic.specs.declared.pools.expr.SymbolicExpr.{SymbolicExpr};
+    ghost use Rattle.std.specs.Prelude.{reverse};
+    ghost use Rattle.air_symbolic.specs.Pools.{Pool};
 
-    ghost Value = { A.Under × List (SymbolicExpr A) };
+    ghost Value = { Pool A.Under A };
 
     ghost view = { λ p. (p.under, reverse p.nodes) };
 }
@@ -40,14 +40,14 @@ impl<A: SymLeaf> ExprPool<A> {
 
     /// How many nodes there are.
     pub fn len(&self) -> usize
-        ensures { result ≡ length self.now.1 }
+        ensures { result ≡ size self.now }
     {
         self.nodes.len()
     }
 
     /// Whether `id` is of this pool.
     pub fn contains(&self, id: ExprId<A>) -> bool
-        ensures { IsTrue result ↔ (id < length self.now.1) }
+        ensures { IsTrue result ↔ (id < size self.now) }
     {
         id.number() < self.nodes.len()
     }
@@ -55,8 +55,8 @@ impl<A: SymLeaf> ExprPool<A> {
     /// The node of a number.
     pub fn node(&self, id: ExprId<A>) -> &SymbolicExpr<A>
         requires pool { IsPool A.reads self.now }
-        requires here { id < length self.now.1 }
-        ensures { IsNode (A.reads self.now.0) self.now.1 id result.now }
+        requires here { id < size self.now }
+        ensures { IsNode (A.reads (base_of self.now)) (nodes_of self.now) id result.now }
     {
         self.nodes.get(id.number())
     }
@@ -64,7 +64,7 @@ impl<A: SymLeaf> ExprPool<A> {
     /// The degree by the cached weights, which the node states.
     pub fn degree_multiple(&self, id: ExprId<A>) -> usize
         requires pool { IsPool A.reads self.now }
-        requires here { id < length self.now.1 }
+        requires here { id < size self.now }
         ensures { result ≡ degree_by cached_weight (term_at A.reads self.now id) }
     {
         match self.node(id) {
@@ -91,7 +91,7 @@ impl<A: SymLeaf> ExprPool<A> {
     /// The constant that the expression is, for folding: only a leaf is one.
     pub fn as_const(&self, id: ExprId<A>) -> Option<A::F>
         requires pool { IsPool A.reads self.now }
-        requires here { id < length self.now.1 }
+        requires here { id < size self.now }
         ensures { result ≡ constant_at A.reads self.now id }
     {
         match self.node(id) {

@@ -4,13 +4,12 @@ use Rattle.std.specs.Result.{IsErrAnd}
 use Rattle.std.proofs.lemmas.Result.{err_from_is_err_and}
 use Rattle.air_symbolic.specs.Leaves.{Leaves}
 use Rattle.air_symbolic.specs.Trees.{Tree}
-use Rattle.air_symbolic.specs.Pools.{Grown}
-use Rattle.air_symbolic.specs.declared.pools.expr.SymbolicExpr.{SymbolicExpr}
+use Rattle.air_symbolic.specs.Pools.{Pool, Grown}
 use Rattle.air_wire.specs.ReadCalls.{ReadsTree, ReadsAll}
 use Rattle.air_wire.specs.Results.{Fails}
 use Rattle.air_wire.specs.declared.errors.FlatError.{FlatError}
 
-module _ {U A S F : Type 0} {grows : U → U → Type 0} {reads : U → Leaves A F} {tree : U × List (SymbolicExpr A) → ℕ → Tree S} {p q : U × List (SymbolicExpr A)} where
+module _ {U A S F : Type 0} {grows : U → U → Type 0} {reads : U → Leaves A F} {tree : Pool U A → ℕ → Tree S} {p q : Pool U A} where
   pub gives_up : (f : FlatError) {result : Result ℕ FlatError} {given : Result (Tree S) FlatError} → Grown grows reads p q
       → IsErrAnd result (λ e. e ≡ f) → Fails f given → ReadsTree grows reads tree p q result given
   gives_up f {result = result} g h fails =

@@ -1,11 +1,12 @@
 -- That roots are in a pool has at most one proof.
-use Rattle.std.specs.Prelude.{ℕ, List, [], ◌∷◌, ⊤}
+use Rattle.std.specs.Prelude.{ℕ, List, [], ◌∷◌}
 use Rattle.std.proofs.Props.{props}
 use Rattle.air_symbolic.specs.BaseLeaves.{base_leaves}
 use Rattle.air_symbolic.specs.Nodes.{NodeFits, Absent, WellFormed}
 use Rattle.air_symbolic.specs.declared.leaves.base_leaf.BaseLeaf.{BaseLeaf}
 use Rattle.air_symbolic.specs.declared.pools.expr.SymbolicExpr.{SymbolicExpr}
 use Rattle.air_symbolic.specs.declared.pools.expr.SymbolicExpr.TheVariants.{Leaf, Add, Sub, Neg, Mul}
+use Rattle.air_symbolic.specs.ExtLeaves.{BaseNodes}
 use Rattle.p3_air.specs.FlatAirs.{RootsIn}
 
 -- There is at most one proof of it.
@@ -24,5 +25,5 @@ WellFormed-prop : {F : Type 0} (ns : List (SymbolicExpr (BaseLeaf F))) → IsPro
 WellFormed-prop [] = hlevel props
 WellFormed-prop (n ∷ older) = hlevel (props, NodeFits-prop older n, Absent-prop n older, WellFormed-prop older)
 
-pub RootsIn-prop : {F : Type 0} (p : ⊤ × List (SymbolicExpr (BaseLeaf F))) (roots : List ℕ) → IsProp (RootsIn p roots)
+pub RootsIn-prop : {F : Type 0} (p : BaseNodes F) (roots : List ℕ) → IsProp (RootsIn p roots)
 RootsIn-prop p roots = hlevel (props, WellFormed-prop p.1)

@@ -1,7 +1,7 @@
 //! The expressions of a pool in any builder.
-ghost use Rattle.std.specs.Prelude.{◌<◌, length, map, All};
+ghost use Rattle.std.specs.Prelude.{◌<◌, map, All};
 ghost use Rattle.air_symbolic.specs.BaseLeaves.{base_reads};
-ghost use Rattle.air_symbolic.specs.Pools.{IsPool, term_at};
+ghost use Rattle.air_symbolic.specs.Pools.{IsPool, term_at, size};
 ghost use Rattle.air_builder.specs.Builders.{Means};
 ghost use Rattle.air_author.specs.Expressions.{MakesTerm};
 ghost use Rattle.air_builder.specs.Batches.{OrMemory};
@@ -27,7 +27,7 @@ pub fn resolve<AB: AirBuilder>(
 ) -> Result<AB::Expr, AirError>
     requires ready { AB.ready builder.old }
     requires pool { IsPool base_reads pool.now }
-    requires here { id < length pool.now.1 }
+    requires here { id < size pool.now }
     ensures { MakesTerm (Means AB.Ring.means AB.ring_of AB.reads_as)
         AB.grew AB.missing (OrMemory AB.refuses) builder.old builder.new result
         (term_at base_reads pool.now id) }
@@ -45,7 +45,7 @@ pub fn resolve_all<AB: AirBuilder>(
 ) -> Result<Vec<AB::Expr>, AirError>
     requires ready { AB.ready builder.old }
     requires pool { IsPool base_reads pool.now }
-    requires here { All (λ i. i < length pool.now.1) roots.now }
+    requires here { All (λ i. i < size pool.now) roots.now }
     ensures { MadeAll (Means AB.Ring.means AB.ring_of AB.reads_as)
         AB.grew AB.missing (OrMemory AB.refuses) builder.old builder.new result
         (map (term_at base_reads pool.now) roots.now) }
