@@ -12,12 +12,6 @@ module _ {F : Type 0} {grows : Unit {0} → Unit {0} → Type 0} {p q : Unit {0}
   kept : {i : ℕ} → i < length p.1 → i < length q.1
   kept h = let longer : length q.1 ≡ length g.nodes.0 + length p.1 = ap length g.nodes.1 ∙ length-append g.nodes.0 p.1 in omega (arith, longer, h)
 
-  pub last_two : {x y z : ℕ} → RootsIn p (x ∷ y ∷ []) → z < length q.1 → RootsIn q (y ∷ z ∷ [])
-  last_two {x = x} {y = y} {z = z} old h = record {
-    pool = g.pool old.pool;
-    here = All-cons (λ i. i < length q.1) y (z ∷ []) (kept (old.here 1 0 (omega arith))) (All-cons (λ i. i < length q.1) z [] h (λ k d b. absurd (omega (arith, b))));
-  }
-
   pub last_four : {u v x y z : ℕ} → RootsIn p (u ∷ v ∷ x ∷ y ∷ []) → z < length q.1 → RootsIn q (v ∷ x ∷ y ∷ z ∷ [])
   last_four {u = u} {v = v} {x = x} {y = y} {z = z} old h = record {
     pool = g.pool old.pool;

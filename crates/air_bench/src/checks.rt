@@ -3,6 +3,7 @@
 use crate::traces::{fibonacci_trace, wide_trace};
 use crate::wide::Wide;
 use air_fibonacci::Fibonacci;
+use p3_air::author::Plain;
 use p3_air::{AirError, Field, RowMajorMatrix, check_all_constraints};
 use std::alloc::Global;
 
@@ -44,7 +45,7 @@ fn wide_failures<F: Field + 'static>(
     main: &RowMajorMatrix<F>,
     cap: Option<usize>,
 ) -> Result<usize, AirError> {
-    let air = Wide { count: 64 };
+    let air = Plain(Wide { count: 64 });
     let report = check_all_constraints(alloc, &air, main, &[], cap)?;
     Ok(report.failures.len())
 }

@@ -1,16 +1,15 @@
 //! A trace in which every row fails every constraint.
-ghost use Rattle.std.specs.Prelude.{◌≡◌, [], ◌∷◌};
+ghost use Rattle.std.specs.Prelude.{[], ◌∷◌};
 ghost use Rattle.air_field.specs.Term.{leaf_term, main};
 ghost use Rattle.air_builder.specs.Assertion.{Base};
-ghost use Rattle.air_builder.specs.Declaration.{plain_declaration};
 ghost use Rattle.air_bench.specs.More.{zeros};
 
 use crate::traces::constant_trace;
-use p3_air::author::{All, Condition, Constraint, Current, Family, Zero, assert_all};
-use p3_air::{
-    Air, AirBuilder, AirError, BabyBear, BaseAir, BoundaryPublic, Field, RowMajorMatrix,
-    check_all_constraints,
+use p3_air::author::{
+    All, Condition, Constraint, Current, Family, Plain, PlainAir, PlainConstraints, Zero,
+    assert_all,
 };
+use p3_air::{AirBuilder, AirError, BabyBear, Field, RowMajorMatrix, check_all_constraints};
 use std::alloc::Global;
 
 /// Column 0 is zero, so many times.
@@ -38,31 +37,15 @@ impl<AB: AirBuilder> Family<AB> for Zeros {
     }
 }
 
-impl<F: Copy> BaseAir<F> for Zeros {
-    ghost declaration = { λ s. plain_declaration (zeros s.count) 1 0 };
+impl<F: Field> PlainAir<F> for Zeros {
+    ghost plain = { λ s. (zeros s.count, 1, 0) };
 
-    fn width(&self) -> usize {
-        1
-    }
-
-    fn num_public_values(&self) -> usize {
-        0
-    }
-
-    fn preprocessed_trace(&self) -> Option<&RowMajorMatrix<F>> {
-        None
-    }
-
-    fn periodic_columns(&self) -> &[Vec<F>] {
-        &[]
-    }
-
-    fn public_boundary_io(&self) -> &[BoundaryPublic] {
-        &[]
+    fn width_and_public_values(&self) -> (usize, usize) {
+        (1, 0)
     }
 }
 
-impl<AB: AirBuilder> Air<AB> for Zeros {
+impl<AB: AirBuilder> PlainConstraints<AB> for Zeros {
     fn eval(&self, builder: &mut AB) -> Result<(), AirError> {
         assert_all(builder, &All(*self))
     }
@@ -71,7 +54,7 @@ impl<AB: AirBuilder> Air<AB> for Zeros {
 // The failures that one check finds.
 fn failures(
     alloc: Global,
-    air: &Zeros,
+    air: &Plain<Zeros>,
     main: &RowMajorMatrix<BabyBear>,
 ) -> Result<usize, AirError> {
     let report = check_all_constraints(alloc, air, main, &[], None)?;
@@ -81,7 +64,7 @@ fn failures(
 /// The failures that so many checks of 128 constraints find on so many rows that fail each.
 pub fn check_failing(alloc: Global, rounds: usize, rows: usize) -> Result<usize, AirError> {
     let main = constant_trace(alloc, BabyBear::ONE, 1, rows)?;
-    let air = Zeros { count: 128 };
+    let air = Plain(Zeros { count: 128 });
     let mut count = 0usize;
     for _ in 0..rounds {
         count = count.wrapping_add(failures(alloc, &air, &main)?);

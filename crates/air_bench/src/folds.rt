@@ -4,6 +4,7 @@ ghost use Rattle.air_folder.specs.FolderRow.{accumulator_of};
 
 use crate::wide::Wide;
 use air_folder::{ConstraintFolder, fold_air};
+use p3_air::author::Plain;
 use p3_air::{
     AirError, AirLayout, BabyBear, BinomialExtensionField, ExtensionField, Field,
     RowMajorMatrixView, ViewPair,
@@ -40,8 +41,8 @@ fn folder_at<'a>(row: &'a [Element], alpha: Element) -> Folder<'a>
 
 // The constraints that one fold folds.
 fn folded(alloc: Global, row: &[Element], alpha: Element) -> Result<usize, AirError> {
-    let air = Wide { count: 64 };
-    let layout = AirLayout::from_air::<BabyBear, Wide>(&air);
+    let air = Plain(Wide { count: 64 });
+    let layout = AirLayout::from_air::<BabyBear, Plain<Wide>>(&air);
     let mut folder = folder_at(row, alpha);
     let folded = fold_air(alloc, &air, layout, &mut folder)?;
     Ok(folded.recorded.base.len())

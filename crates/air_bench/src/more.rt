@@ -2,14 +2,14 @@
 ghost use Rattle.std.specs.Prelude.{◌≡◌, [], ◌∷◌, None};
 ghost use Rattle.air_field.specs.Term.{add_term, challenge, leaf_term, main, mul_term, periodic, permutation, sub_term};
 ghost use Rattle.air_builder.specs.Assertion.{Base, Extension};
-ghost use Rattle.air_builder.specs.Declaration.{plain_declaration};
 ghost use Rattle.air_bench.specs.More.{cycles, lookups, lookup_term};
 
 use crate::traces::{constant_trace, wide_trace};
 use crate::wide::Wide;
 use p3_air::author::{
     All, Challenge, Condition, Constraint, Current, Difference, ExtZero, Family, Lifted, Periodic,
-    PermutationCurrent, PermutationNext, Product, Sum, Zero, assert_all,
+    PermutationCurrent, PermutationNext, Plain, PlainAir, PlainConstraints, Product, Sum, Zero,
+    assert_all,
 };
 use p3_air::{
     Air, AirBuilder, AirError, AirLayout, BabyBear, BaseAir, BinomialExtensionField,
@@ -119,31 +119,15 @@ where
     }
 }
 
-impl<F: Copy> BaseAir<F> for Lookups {
-    ghost declaration = { λ s. plain_declaration (lookups s.count) 32 0 };
+impl<F: Field> PlainAir<F> for Lookups {
+    ghost plain = { λ s. (lookups s.count, 32, 0) };
 
-    fn width(&self) -> usize {
-        32
-    }
-
-    fn num_public_values(&self) -> usize {
-        0
-    }
-
-    fn preprocessed_trace(&self) -> Option<&RowMajorMatrix<F>> {
-        None
-    }
-
-    fn periodic_columns(&self) -> &[Vec<F>] {
-        &[]
-    }
-
-    fn public_boundary_io(&self) -> &[BoundaryPublic] {
-        &[]
+    fn width_and_public_values(&self) -> (usize, usize) {
+        (32, 0)
     }
 }
 
-impl<AB: PermutationAirBuilder> Air<AB> for Lookups
+impl<AB: PermutationAirBuilder> PlainConstraints<AB> for Lookups
 where
     AB::ExtRing: FromVar<AB::F, AB::RandomVar> + FromVar<AB::F, AB::PermutationVar>,
 {
@@ -184,9 +168,9 @@ fn counted_cycles(
 
 /// The failures that so many checks of the recorded wide AIR find.
 pub fn check_flat(alloc: Global, rounds: usize, rows: usize) -> Result<usize, AirError> {
-    let wide = Wide { count: 64 };
-    let layout = AirLayout::from_air::<BabyBear, Wide>(&wide);
-    let recorded = get_symbolic_constraints::<BabyBear, Wide>(alloc, &wide, layout)?;
+    let wide = Plain(Wide { count: 64 });
+    let layout = AirLayout::from_air::<BabyBear, Plain<Wide>>(&wide);
+    let recorded = get_symbolic_constraints::<BabyBear, Plain<Wide>>(alloc, &wide, layout)?;
     let air = recorded_air(recorded, 64, 0, Vec::new(alloc), Vec::new(alloc))?;
     let main = wide_trace(alloc, rows)?;
     let mut count = 0usize;
@@ -216,16 +200,16 @@ pub fn check_cycles(alloc: Global, rounds: usize, rows: usize) -> Result<usize, 
 // checker compares more than its limit allows.
 fn recorded_lookups<F: Field, EF: ExtensionField<F>>(
     alloc: Global,
-    air: &Lookups,
+    air: &Plain<Lookups>,
     layout: AirLayout,
 ) -> Result<usize, AirError> {
-    let recorded = get_all_symbolic_constraints::<F, EF, Lookups>(alloc, air, layout)?;
+    let recorded = get_all_symbolic_constraints::<F, EF, Plain<Lookups>>(alloc, air, layout)?;
     Ok(recorded.ext.len())
 }
 
 /// The constraints over the extension that so many recordings record.
 pub fn record_lookups(alloc: Global, rounds: usize) -> Result<usize, AirError> {
-    let air = Lookups { count: 32 };
+    let air = Plain(Lookups { count: 32 });
     let layout = AirLayout {
         preprocessed_width: 0,
         main_width: 32,
@@ -245,13 +229,15 @@ pub fn record_lookups(alloc: Global, rounds: usize) -> Result<usize, AirError> {
 
 /// The constraints that so many recordings of the wide AIR with the extension record.
 pub fn record_wide_ext(alloc: Global, rounds: usize) -> Result<usize, AirError> {
-    let air = Wide { count: 64 };
+    let air = Plain(Wide { count: 64 });
     let mut count = 0usize;
     for _ in 0..rounds {
-        let layout = AirLayout::from_air::<BabyBear, Wide>(&air);
-        let recorded = get_all_symbolic_constraints::<BabyBear, BinomialExtensionField, Wide>(
-            alloc, &air, layout,
-        )?;
+        let layout = AirLayout::from_air::<BabyBear, Plain<Wide>>(&air);
+        let recorded = get_all_symbolic_constraints::<
+            BabyBear,
+            BinomialExtensionField,
+            Plain<Wide>,
+        >(alloc, &air, layout)?;
         count = count.wrapping_add(recorded.base.len());
     }
     Ok(count)

@@ -10,12 +10,13 @@ use std::alloc::Global;
 /// A line for each row: the constraints that fail on it.
 fn report_on(
     alloc: Global,
+    air: &RunningProduct,
     column: &RowMajorMatrix<BabyBear>,
     beside: Permutation<'_, Extension>,
 ) -> Result<String, AirError> {
-    let (air, public_values, mut text) = (RunningProduct, [], String::new(alloc));
+    let (public_values, mut text) = ([], String::new(alloc));
     for row in 0..column.height().min(beside.trace.height()) {
-        let failed = check_row_with_permutation(alloc, &air, column, &public_values, beside, row)?;
+        let failed = check_row_with_permutation(alloc, air, column, &public_values, beside, row)?;
         write!(text, "row {row}: {failed:?}\n")?;
     }
     Ok(text)
@@ -35,7 +36,7 @@ fn report_of(alloc: Global, numbers: [u64; 4]) -> Result<String, AirError> {
     let (trace, challenges, values) = (RowMajorMatrix::new(products, 1)?, [challenge], [exposed]);
     let column = trace_of_rows(alloc, &numbers.map(|number| [number]))?;
     let beside = Permutation::new(&trace, &challenges, &values);
-    report_on(alloc, &column, beside)
+    report_on(alloc, &RunningProduct, &column, beside)
 }
 
 fn main(rt: HostRuntime) -> std::io::Result<()> {

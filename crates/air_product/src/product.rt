@@ -4,7 +4,6 @@ ghost use Rattle.air_product.specs.Product.{running_product};
 use p3_air::author::*;
 
 /// Column 0 of the permutation trace is one on row 0, and each row multiplies it by the challenge plus its column 0.
-#[derive(Clone, Copy, Drop)]
 pub struct RunningProduct;
 
 impl<F: Field> PlainAir<F> for RunningProduct {

@@ -34,7 +34,8 @@ impl Report {
         }
     }
 
-    /// Counts a line, whatever becomes of the printing, and prints one that differs, or whose call was made again.
+    /// Counts a line, whatever becomes of the printing, and prints one that differs, or whose call was made again. The
+    /// next line begins with no call refused.
     pub fn count(
         &mut self,
         rt: &impl Print,
@@ -47,6 +48,7 @@ impl Report {
         ensures differ { self.new.differ
             ≡ (if right then self.old.differ else one_more self.old.differ) }
         ensures again { self.new.again ≡ self.old.again }
+        ensures refused { self.new.refused ≡ false }
     {
         self.lines = self.lines.saturating_add(1);
         if !right {
