@@ -29,8 +29,8 @@ fn answer_times<'a, B: Bench<'a>>(
     Ok(())
 }
 
-// Makes a call once more that is refused for want of memory. What has to stand must stand as before it; whether it does,
-// and else `text` holds what stands.
+// Makes a call once more that is refused for want of memory. What has to stand must stand as before it; whether it
+// does, and else `text` holds what stands.
 fn answer_again<'a, B: Bench<'a>>(
     alloc: Global,
     bench: &mut B,
@@ -98,8 +98,8 @@ fn is_right<'a, B: Bench<'a>>(
     }
 }
 
-/// Checks each line of a table but the first one, comments and empty ones. At a line `new` the bench is made anew. A table
-/// in which no line is counted is refused (`NoLines`).
+/// Checks each line of a table but the first one, comments and empty ones. At a line `new` the bench is made anew. A
+/// table in which no line is counted is refused (`NoLines`).
 pub fn check_lines<'a, B: Bench<'a>>(
     rt: &HostRuntime,
     table: &Table<'a>,
@@ -163,7 +163,8 @@ fn check_file<T: Tables>(rt: &HostRuntime, name: &str, report: &mut Report) -> R
     Ok(true)
 }
 
-// Status 0 where each table was gone through, there are lines, and none differs; 2 where a table wasn't gone through, else 1.
+// Status 0 where each table was gone through, there are lines, and none differs; 2 where a table wasn't gone through,
+// else 1.
 fn status_of(whole: bool, report: &Report) -> u8
     ensures good { (result ≡ 0)
         ↔ ((whole ≡ true) × (0 < report.now.lines) × (report.now.differ ≡ 0)) }

@@ -133,7 +133,8 @@ fn escaped(letter: char) -> Result<char, Fault> {
     }
 }
 
-/// The text of a word, in which `\s` is a space and `\n` ends a line (and `\r`, `\t`, `\z` for zero, `\\`); `-`: no text.
+/// The text of a word, in which `\s` is a space and `\n` ends a line (and `\r`, `\t`, `\z` for zero, `\\`); `-`: no
+/// text.
 pub fn text_of(alloc: Global, word: &str) -> Result<String, Fault> {
     let mut text = String::new(alloc);
     if word == "-" {

@@ -1,5 +1,5 @@
-//! The AIRs of the tables, and the words by which lines make them: [`TableAir`] is the one type of all, [`Airs`] what the
-//! lines of a table have made.
+//! The AIRs of the tables, and the words by which lines make them: [`TableAir`] is the one type of all, [`Airs`] what
+//! the lines of a table have made.
 #![tactic(auto)]
 
 pub mod air;

@@ -1,5 +1,5 @@
-//! Cases of fields, rings, matrices, windows, cells, names, columns, bits, word gadgets, assertions and filters, read from
-//! tables: each line makes public calls, and says what they answer.
+//! Cases of fields, rings, matrices, windows, cells, names, columns, bits, word gadgets, assertions and filters, read
+//! from tables: each line makes public calls, and says what they answer.
 #![tactic(auto)]
 
 mod airs;

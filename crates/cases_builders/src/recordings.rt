@@ -18,8 +18,8 @@ pub struct Recordings {
     alloc: Global,
 }
 
-// What is recorded of the assertions. Over any fields: of the builder over two given ones the checker compares more than
-// its limit allows.
+// What is recorded of the assertions. Over any fields: of the builder over two given ones the checker compares more
+// than its limit allows.
 fn recorded<F: Field, EF: ExtensionField<F>>(
     alloc: Global,
     words: &[&str],

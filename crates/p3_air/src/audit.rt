@@ -32,8 +32,8 @@ pub struct Audit<F: SelfExtension> {
 /// polynomial, and so on every row the value that the report is about.
 ///
 /// `transition_weight` is what the transition selector weighs in the prover's domain: 0 where it is a linear
-/// polynomial, otherwise the number of columns that it counts as. For N rows, and 0, each recorded polynomial has degree
-/// at most `degree` (N - 1) + 1; for a weight from 1, at most `degree` (N - 1).
+/// polynomial, otherwise the number of columns that it counts as. For N rows, and 0, each recorded polynomial has
+/// degree at most `degree` (N - 1) + 1; for a weight from 1, at most `degree` (N - 1).
 pub fn audit_air<
     'a,
     F: SelfExtension + 'static,
@@ -51,7 +51,8 @@ pub fn audit_air<
         (instance (A.declaration air.now) main.now public_values.now)) }
 
     // At the place of each declared constraint one of its kind is recorded: it has the declared one's polynomial, its
-    // value on every row, and no greater degree. It is an expression of a pool, and means the declared constraint there.
+    // value on every row, and no greater degree. It is an expression of a pool, and means the declared constraint
+    // there.
     ensures recorded { IfOk result (RecordsEach F.ring F.basis (A.declaration air.now)) }
     ensures pool { IfOk result (λ a. MeansEach F.ring F.basis (A.declaration air.now) a.recorded) }
 
@@ -66,8 +67,8 @@ pub fn audit_air<
         IfOk result (λ a. (a.report.total_rows ≡ row_count x)
         × (a.report.total_constraints_per_row ≡ constraints_per_row x)) }
 
-    // The degree is that of the recorded terms in the domain. For two rows and more it bounds their polynomials wherever
-    // the leaves' are within theirs; for three and more it is the least that bounds the terms' degrees.
+    // The degree is that of the recorded terms in the domain. For two rows and more it bounds their polynomials
+    // wherever the leaves' are within theirs; for three and more it is the least that bounds the terms' degrees.
     ensures degree { let x = instance (A.declaration air.now) main.now public_values.now in
         IfOk result (λ a. (a.degree ≡ degree_in transition_weight x (terms_in F.basis a.recorded))
         × (greatest_degree (domain transition_weight x).weight (terms_in F.basis a.recorded)

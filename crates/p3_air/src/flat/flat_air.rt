@@ -42,8 +42,8 @@ pub struct FlatAir<F: Field> {
 
 impl<F: Field> FlatAir<F> {
     /// The AIR that asserts the roots in order; its main trace has `width` columns, and it has no preprocessed table
-    /// ([`FlatAir::with_preprocessed`] gives it one). The pool must be as its calls left it, and each root a number of it.
-    /// What the roots reach is looked up here, once, and no longer at a row. It refuses for want of memory alone
+    /// ([`FlatAir::with_preprocessed`] gives it one). The pool must be as its calls left it, and each root a number of
+    /// it. What the roots reach is looked up here, once, and no longer at a row. It refuses for want of memory alone
     /// (`Memory`).
     pub fn new(
         pool: ExprPool<BaseLeaf<F>>,
@@ -77,9 +77,9 @@ impl<F: Field> FlatAir<F> {
         })
     }
 
-    /// The same AIR with this preprocessed table, in place of the one that it had. A column of the table that a constraint
-    /// names is then there. The table's height isn't compared with anything here: where the AIR is audited or checked, a
-    /// table of another height than the trace is refused (`PreprocessedHeight`). It takes no memory.
+    /// The same AIR with this preprocessed table, in place of the one that it had. A column of the table that a
+    /// constraint names is then there. The table's height isn't compared with anything here: where the AIR is audited
+    /// or checked, a table of another height than the trace is refused (`PreprocessedHeight`). It takes no memory.
     pub fn with_preprocessed(mut self, table: RowMajorMatrix<F>) -> Self
         ensures pool { result.pool ≡ self.pool }
         ensures roots { result.roots ≡ self.roots }
