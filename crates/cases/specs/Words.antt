@@ -1,5 +1,6 @@
 -- Words of lines as whole numbers.
-use Rattle.std.specs.Prelude.{ℕ, ◌<◌, ◌^◌, List}
+use Rattle.std.specs.Prelude.{◌≡◌, ℕ, ◌<◌, ◌^◌, List}
+use Rattle.air_field.specs.Ring.{CommRing, image}
 use Rattle.std.specs.Str.Parse.{IsNumeral, digits_value, without_leading_plus}
 
 -- the word is a whole number in decimals that fits 64 bits; a plus may stand first
@@ -9,3 +10,7 @@ IsNumber word = IsNumeral 10 (without_leading_plus word) × (digits_value 10 (wi
 -- that number
 abbrev pub number_in : List ℕ → ℕ
 number_in word = digits_value 10 (without_leading_plus word)
+
+-- the word is a whole number, and x its element
+abbrev pub SpellsElement : {F : Type 0} → CommRing F → F → List ℕ → Type 0
+SpellsElement r x word = IsNumber word × (x ≡ image r (number_in word))

@@ -1,7 +1,7 @@
 //! Why a line has no answer.
-ghost use Rattle.std.specs.Prelude.{◌≡◌, ◌↔◌, true, IfOk};
+ghost use Rattle.std.specs.Prelude.{◌≡◌, ◌↔◌, ◌⊎◌, true, IfOk, IfErr};
 ghost use Rattle.cases.specs.Reports.{IsRefusal};
-ghost use Rattle.cases.specs.declared.faults.Fault.TheVariants.{Memory};
+ghost use Rattle.cases.specs.declared.faults.Fault.TheVariants.{Memory, Stream};
 
 use air_core::AirError;
 use air_field::{MatrixError, RingError};
@@ -106,7 +106,8 @@ impl From<MatrixError> for Fault {
 
 /// Adds why a line has no answer; whether it is one that a call can give.
 pub fn show_refusal(fault: Fault, text: &mut String) -> Result<bool, Fault>
-    ensures { IfOk result (λ answers. (answers ≡ true) ↔ IsRefusal fault) }
+    ensures answers { IfOk result (λ answers. (answers ≡ true) ↔ IsRefusal fault) }
+    ensures refused { IfErr result (λ e. (e ≡ Memory) ⊎ ((e ≡ Stream) × (fault ≡ Stream))) }
 {
     match fault {
         Fault::Air(error) => write!(text, "{error:?}")?,

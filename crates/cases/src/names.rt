@@ -1,5 +1,7 @@
 //! The names that lines give to what they make.
-ghost use Rattle.std.specs.Prelude.{◌≡◌, ◌⊎◌, IfErr};
+ghost use Rattle.std.specs.Prelude.{◌≡◌, ◌⊎◌, [], map, IfErr, OnErr, ok_or, bytes_eq};
+ghost use Rattle.std.specs.List.{position};
+ghost use Rattle.cases.specs.Named.{names_in, values_in, value_named, HaveSameNames};
 
 use crate::faults::{Fault, Why};
 use std::alloc::Global;
@@ -13,38 +15,46 @@ pub struct Names<'a, T> {
 }
 
 impl<'a, T: Copy> Names<'a, T> {
-    pub fn new(alloc: Global) -> Self {
+    /// No names.
+    pub fn new(alloc: Global) -> Self
+        ensures names { names_in result ≡ [] }
+        ensures values { values_in result ≡ [] }
+    {
         Names {
             words: Vec::new(alloc),
             values: Vec::new(alloc),
         }
     }
 
+    /// The allocator of the names.
     pub fn alloc(&self) -> Global {
         *self.values.allocator()
     }
 
-    pub fn words(&self) -> &[&'a str] {
+    /// The names, in the order in which they were first given.
+    pub fn words(&self) -> &[&'a str]
+        ensures { map (λ w. w.now) result.now ≡ names_in self.now }
+    {
         self.words.as_slice()
     }
 
-    pub fn values(&self) -> &[T] {
+    /// What each of them stands for.
+    pub fn values(&self) -> &[T]
+        ensures { result.now ≡ values_in self.now }
+    {
         self.values.as_slice()
     }
 
     // The place of a name.
-    fn place(&self, name: &str) -> Option<usize> {
-        for (place, word) in self.words.iter().enumerate() {
-            if *word == name {
-                return Some(place);
-            }
-        }
-        None
+    fn place(&self, name: &str) -> Option<usize>
+        ensures { result ≡ position (λ w. bytes_eq w.now name.now) self.now.words.items }
+    {
+        self.words.iter().position(|word| *word == name)
     }
 
     /// What a name stands for.
     pub fn get(&self, name: &str) -> Result<T, Fault>
-        ensures refused { IfErr result (λ e. e ≡ Fault.Unreadable Why.NoSuchName) }
+        ensures { result ≡ ok_or (value_named self.now name.now) (Fault.Unreadable Why.NoSuchName) }
     {
         match self.place(name) {
             Some(place) => match self.values.get(place) {
@@ -59,6 +69,7 @@ impl<'a, T: Copy> Names<'a, T> {
     pub fn bind(&mut self, name: &'a str, value: T, again: bool) -> Result<(), Fault>
         ensures refused { IfErr result (λ e. (e ≡ Fault.Memory)
             ⊎ (e ≡ Fault.Unreadable Why.NameIsTaken) ⊎ (e ≡ Fault.Unreadable Why.NoSuchName)) }
+        ensures kept { OnErr result (HaveSameNames self.old self.new) }
     {
         match self.place(name) {
             Some(place) if again => match self.values.get_mut(place) {
@@ -72,7 +83,7 @@ impl<'a, T: Copy> Names<'a, T> {
             None => {
                 self.words.reserve(1)?;
                 self.values.push(value)?;
-                self.words.push(name)?;
+                self.words.push_reserved(name);
                 Ok(())
             }
         }

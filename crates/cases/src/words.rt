@@ -1,9 +1,10 @@
 //! Words as numbers, elements, values and texts.
-ghost use Rattle.std.specs.Prelude.{◌≡◌, ◌⊎◌, OkIff, IfOk, IfErr, Some};
+ghost use Rattle.std.specs.Prelude.{◌≡◌, ◌⊎◌, OkIff, IfOk, IfErr, Some, None};
+ghost use Rattle.std.specs.List.{AllZip};
 ghost use Rattle.air_field.specs.Ring.{image};
 ghost use Rattle.serde_json.specs.View.{view};
 ghost use Rattle.serde_json.specs.Read.{read as read_text};
-ghost use Rattle.cases.specs.Words.{IsNumber, number_in};
+ghost use Rattle.cases.specs.Words.{IsNumber, number_in, SpellsElement};
 
 use crate::faults::{Fault, Why};
 use air_field::{ExtensionField, Field, PrimeField64};
@@ -64,7 +65,11 @@ pub fn element_of<F: Field>(word: &str) -> Result<F, Fault>
 }
 
 /// Elements, a word each.
-pub fn elements_of<F: Field>(alloc: Global, words: &[&str]) -> Result<Vec<F>, Fault> {
+pub fn elements_of<F: Field>(alloc: Global, words: &[&str]) -> Result<Vec<F>, Fault>
+    ensures elements { IfOk result (λ xs.
+        AllZip (λ x w. SpellsElement F.ring x w.now) xs.items words.now) }
+    ensures refused { IfErr result (λ e. (e ≡ Fault.Memory) ⊎ (e ≡ Fault.Unreadable Why.NoNumber)) }
+{
     let mut all = Vec::new(alloc);
     for word in words {
         all.push(element_of(*word)?)?;
@@ -87,7 +92,10 @@ pub fn listed_elements<F: Field>(alloc: Global, word: &str) -> Result<Vec<F>, Fa
 pub fn extension_of<F: Field, EF: ExtensionField<F>>(
     alloc: Global,
     words: &[&str],
-) -> Result<EF, Fault> {
+) -> Result<EF, Fault>
+    ensures coefficients { IfOk result (λ x.
+        AllZip (λ c w. SpellsElement F.ring c w.now) (EF.basis.coefficients x) words.now) }
+{
     let all: Vec<F> = elements_of(alloc, words)?;
     if all.len() == EF::DIMENSION {
         Ok(EF::from_basis_coefficients(all.as_slice()))
@@ -111,7 +119,8 @@ pub fn listed_extension<F: Field, EF: ExtensionField<F>>(
 /// The JSON value of a word.
 pub fn value_of(alloc: Global, word: &str) -> Result<Value, Fault>
     ensures value { IfOk result (λ v. read_text word.now ≡ Some (view v)) }
-    ensures refused { IfErr result (λ e. (e ≡ Fault.Memory) ⊎ (e ≡ Fault.Unreadable Why.NoJson)) }
+    ensures refused { IfErr result (λ e. (e ≡ Fault.Memory)
+        ⊎ ((e ≡ Fault.Unreadable Why.NoJson) × (read_text word.now ≡ None))) }
 {
     match Value::from_str(alloc, word) {
         Ok(value) => Ok(value),
