@@ -1,8 +1,13 @@
 pub use Rattle.air_field.specs.Ring
 pub use Rattle.air_field.specs.Term
+pub use Rattle.air_field.specs.Degree
 pub use Rattle.air_field.specs.Algebra
 pub use Rattle.air_field.specs.Assignment
 pub use Rattle.air_field.specs.Grid
+pub use Rattle.air_core.specs.Entries
+pub use Rattle.air_symbolic.specs.Pools
+pub use Rattle.air_symbolic.specs.BaseLeaves
+pub use Rattle.air_symbolic.specs.ExtLeaves
 pub use Rattle.air_builder.specs.Assertion
 pub use Rattle.air_builder.specs.Notation
 pub use Rattle.air_builder.specs.Declaration
@@ -17,7 +22,10 @@ pub use Rattle.air_author.specs.Moved
 pub use Rattle.air_words.specs.BitTerms
 pub use Rattle.air_words.specs.WordTerms
 pub use Rattle.air_words.specs.XorTerms
+pub use Rattle.air_recording.specs.Recorded
+pub use Rattle.air_recording.specs.Layouts
 pub use Rattle.air_report.specs.Report
+pub use Rattle.air_report.specs.RowRefusals
 pub use Rattle.air_laws.specs.Numbers
 pub mod Author
 pub mod Claims
