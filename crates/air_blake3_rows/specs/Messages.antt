@@ -1,5 +1,5 @@
 -- The blocks of a message of one chunk.
-use Rattle.std.specs.Prelude.{◌≡◌, ℕ, ◌-◌, List, length, map, slice_index_or}
+use Rattle.std.specs.Prelude.{◌≡◌, ℕ, ◌-◌, List, length, map, HoldsAt}
 use Rattle.std.specs.List.{range_with_len}
 use Rattle.blake3.specs.Compression.{Block, compress}
 use Rattle.blake3.specs.Hashing.{block_at, block_count, chained, first_words}
@@ -13,4 +13,4 @@ blocks_of bytes = map (λ k. block_at bytes k (chained bytes k)) (range_with_len
 -- the first eight words of the last block's output are these
 abbrev pub EndsWith : List ℕ → List InputBlock → Type 0
 EndsWith digest blocks =
-    (d : InputBlock) → first_words (compress (block_in (slice_index_or blocks (length blocks - 1) d))) ≡ digest
+    HoldsAt (λ block. first_words (compress (block_in block)) ≡ digest) blocks (length blocks - 1)

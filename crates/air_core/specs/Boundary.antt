@@ -1,5 +1,6 @@
 -- Which cells of a trace are refused, and by which error.
-use Rattle.std.specs.Prelude.{◌≡◌, ◌≢◌, ℕ, ◌-◌, ◌<◌, ◌≤◌, List, length, take, codes, slice_index_or}
+use Rattle.std.specs.Prelude.{◌≡◌, ◌≢◌, ℕ, ◌-◌, ◌<◌, ◌≤◌, List, length, take, codes, All, HoldsAt}
+use Rattle.air_core.specs.FirstOnes.{EachOfFirst}
 use Rattle.air_core.specs.declared.boundary.BoundaryEnd.{BoundaryEnd}
 use Rattle.air_core.specs.declared.boundary.BoundaryEnd.TheVariants.{First, Last}
 use Rattle.air_core.specs.declared.boundary.BoundaryPublic.{BoundaryPublic}
@@ -20,13 +21,12 @@ end_text Last = codes "Last"
 pub record HasCellAt (cells : List BoundaryPublic) (column : ℕ) (end : BoundaryEnd) : Type 0 where
   pub place : ℕ
   pub within : place < length cells
-  pub column_is : (d : BoundaryPublic) → (slice_index_or cells place d).column ≡ column
-  pub end_is : (d : BoundaryPublic) → (slice_index_or cells place d).end ≡ end
+  pub column_is : HoldsAt (λ cell. cell.column ≡ column) cells place
+  pub end_is : HoldsAt (λ cell. cell.end ≡ end) cells place
 
 -- no cell does
 abbrev pub LacksCellAt : List BoundaryPublic → ℕ → BoundaryEnd → Type 0
-LacksCellAt cells column end = (place : ℕ) (d : BoundaryPublic) → place < length cells
-    → (slice_index_or cells place d).column ≡ column → (slice_index_or cells place d).end ≢ end
+LacksCellAt cells column end = All (λ cell. cell.column ≡ column → cell.end ≢ end) cells
 
 -- the cell is in a trace of this width, holds a public value that is there, and isn't among the earlier ones
 pub record IsSoundCell (width values : ℕ) (earlier : List BoundaryPublic) (cell : BoundaryPublic) : Type 0 where
@@ -46,8 +46,7 @@ IsFaultOf width values earlier cell (DuplicateCell column end) =
 
 -- each of the first n cells is sound
 abbrev pub AreSoundBelow : ℕ → ℕ → List BoundaryPublic → ℕ → Type 0
-AreSoundBelow width values cells n = (k : ℕ) (d : BoundaryPublic) → k < n
-    → IsSoundCell width values (take k cells) (slice_index_or cells k d)
+AreSoundBelow width values cells n = EachOfFirst (λ k. IsSoundCell width values (take k cells)) cells n
 
 -- each cell is sound
 abbrev pub AreSound : ℕ → ℕ → List BoundaryPublic → Type 0
@@ -58,4 +57,4 @@ pub record IsFirstFault (width values : ℕ) (cells : List BoundaryPublic) (erro
   pub place : ℕ
   pub within : place < length cells
   pub before : AreSoundBelow width values cells place
-  pub fault : (d : BoundaryPublic) → IsFaultOf width values (take place cells) (slice_index_or cells place d) error
+  pub fault : HoldsAt (λ cell. IsFaultOf width values (take place cells) cell error) cells place

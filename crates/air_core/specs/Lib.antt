@@ -1,6 +1,7 @@
 pub use Rattle.air_field.specs.Grid
 pub use Rattle.air_field.specs.Term
 pub use Rattle.air_field.specs.Degree
+pub mod FirstOnes
 pub mod Entries
 pub mod ExtEntries
 pub mod Boundary

@@ -1,7 +1,8 @@
 -- Periodic columns by row.
-use Rattle.std.specs.Prelude.{◌≡◌, ℕ, ◌%◌, ◌*◌, ◌<◌, ◌≤◌, ◌++◌, List, [], length, map, slice_get, Option, Some, None, Result, Ok, Err, Vec, slice_index_or, ⊤}
+use Rattle.std.specs.Prelude.{◌≡◌, ℕ, ◌%◌, ◌*◌, ◌<◌, ◌≤◌, ◌++◌, List, [], length, map, slice_get, Option, Some, None, Result, Ok, Err, Vec, All, HoldsAt, ⊤}
 use Rattle.std.specs.List.{range_with_len}
 use Rattle.air_field.specs.Grid.{Grid, rows_of}
+use Rattle.air_core.specs.FirstOnes.{EachOfFirst}
 use Rattle.air_core.specs.declared.errors.AirError.{AirError}
 use Rattle.air_core.specs.declared.errors.AirError.TheVariants.{Memory, EmptyPeriodicColumn}
 
@@ -18,8 +19,8 @@ pub record HasRows {T C : Type 0} (old : List T) (columns : List C) (at_row : C 
 -- the first column without values stands here
 pub record IsFirstEmpty {T A : Type 0} (columns : List (Vec T A)) (index : ℕ) : Type 0 where
   pub within : index < length columns
-  pub is_empty : (d : Vec T A) → length (slice_index_or columns index d).items ≡ 0
-  pub before : (k : ℕ) (d : Vec T A) → k < index → 0 < length (slice_index_or columns k d).items
+  pub is_empty : HoldsAt (λ column. length column.items ≡ 0) columns index
+  pub before : EachOfFirst (λ k column. 0 < length column.items) columns index
 
 -- want of memory, or the first empty column
 abbrev pub RefusesPeriodicRow : {T A : Type 0} → List (Vec T A) → AirError → Type 0
@@ -34,8 +35,8 @@ MatchPeriodicValues columns row (Err e) = RefusesPeriodicRow columns e
 
 -- no period is greater, and one is this, or there are no columns and it is 0
 pub record IsGreatestPeriod {T A : Type 0} (columns : List (Vec T A)) (height : ℕ) : Type 0 where
-  pub bounds : (k : ℕ) (d : Vec T A) → k < length columns → length (slice_index_or columns k d).items ≤ height
-  pub reached : 0 < height → (k : ℕ) × (k < length columns) × ((d : Vec T A) → length (slice_index_or columns k d).items ≡ height)
+  pub bounds : All (λ column. length column.items ≤ height) columns
+  pub reached : 0 < height → (k : ℕ) × (k < length columns) × HoldsAt (λ column. length column.items ≡ height) columns k
 
 -- the values of the first h rows
 abbrev pub rows_below : {T A : Type 0} → List (Vec T A) → ℕ → List (List (Option T))

@@ -1,12 +1,13 @@
 -- Boundary cells of a trace: which of them differ from their public values, and how these are listed.
 use Rattle.std.specs.Prelude.{◌≡◌, ◌≢◌, ℕ, ◌+◌, ◌-◌, ◌<◌, ◌≤◌, ◌^◌, List, [], ◌++◌, length, map, take, Bool, true}
 use Rattle.std.specs.Prelude.{false, not, Option, None, Some, String, codes, decimal, string_bytes, slice_get}
-use Rattle.std.specs.Prelude.{slice_index_or}
+use Rattle.std.specs.Prelude.{slice_index_or, HoldsAt}
 use Rattle.std.specs.Global.{Global}
 use Rattle.std.specs.List.{filter, enumerate_from}
 use Rattle.air_field.specs.Ring.{CommRing}
 use Rattle.air_field.specs.Grid.{Grid}
 use Rattle.air_field.specs.Assignment.{row_or_none}
+use Rattle.air_core.specs.FirstOnes.{EachOfFirst}
 use Rattle.air_core.specs.Boundary.{row_of, AreSound, IsFirstFault}
 use Rattle.air_core.specs.declared.boundary.BoundaryPublic.{BoundaryPublic}
 use Rattle.air_core.specs.declared.errors.AirError.{AirError}
@@ -63,13 +64,13 @@ IsCellFault main public cells _ = ⊥
 
 -- each of the first n cells holds its public value
 abbrev pub AgreeBelow : {F : Type 0} → CommRing F → (F → F → Bool) → Grid F → List F → List BoundaryPublic → ℕ → Type 0
-AgreeBelow r eq main public cells n = (k : ℕ) (d : BoundaryPublic) → k < n → differs r eq main public (slice_index_or cells k d) ≡ false
+AgreeBelow r eq main public cells n = EachOfFirst (λ k cell. differs r eq main public cell ≡ false) cells n
 
 -- the first cell that differs stands here, in this row
 pub record IsFirstDiffering {F : Type 0} (r : CommRing F) (eq : F → F → Bool) (main : Grid F) (public : List F) (cells : List BoundaryPublic) (index : ℕ) : Type 0 where
   pub within : index < length cells
   pub before : AgreeBelow r eq main public cells index
-  pub differs_here : (d : BoundaryPublic) → differs r eq main public (slice_index_or cells index d) ≡ true
+  pub differs_here : HoldsAt (λ cell. differs r eq main public cell ≡ true) cells index
 
 -- The failures got one more for each of these cells, in order: at its place, and with its label.
 pub record ListsCells (h count : ℕ) (cells : List (ℕ × BoundaryPublic)) (fs gs : List ConstraintFailure) : Type 0 where

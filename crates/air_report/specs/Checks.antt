@@ -1,5 +1,5 @@
 -- What a check of a trace answers and refuses.
-use Rattle.std.specs.Prelude.{◌≡◌, ◌≢◌, ◌⊎◌, ℕ, ◌+◌, ◌<◌, List, [], ◌++◌, length, map, Bool, Option, None, slice_index_or}
+use Rattle.std.specs.Prelude.{◌≡◌, ◌≢◌, ◌⊎◌, ℕ, ◌+◌, ◌<◌, List, [], ◌++◌, length, map, Bool, Option, None, HoldsAt}
 use Rattle.air_field.specs.Ring.{CommRing}
 use Rattle.air_field.specs.Assignment.{trace_shape, row_assignment, IsMissing}
 use Rattle.air_core.specs.Boundary.{row_of}
@@ -109,7 +109,7 @@ pub record IsMismatch {F : Type 0} (r : CommRing F) (eq : F → F → Bool) (g :
   pub shapes : Fits g
   pub cells : CellsFit g.main g.public g.declaration.cells
   pub first : IsFirstDiffering r eq g.main g.public g.declaration.cells index
-  pub row_is : (d : BoundaryPublic) → row ≡ row_of (slice_index_or g.declaration.cells index d).end (height g)
+  pub row_is : HoldsAt (λ cell. row ≡ row_of cell.end (height g)) g.declaration.cells index
 
 -- No cell differs; this is the least row with a nonzero pair, and these are all of its pairs. The trace has the entries.
 pub record IsFailedRow {F : Type 0} (r : CommRing F) (eq : F → F → Bool) (g : Given F) (row : ℕ) (fs : List ConstraintFailure) : Type 0 where

@@ -1,6 +1,7 @@
 -- Which preprocessed tables and periodic columns fit a trace.
-use Rattle.std.specs.Prelude.{◌≡◌, ◌≢◌, ℕ, ◌%◌, ◌^◌, ◌<◌, List, length, Option, Some, None, Result, Ok, Err, Vec, slice_index_or, ⊤}
+use Rattle.std.specs.Prelude.{◌≡◌, ◌≢◌, ℕ, ◌%◌, ◌^◌, ◌<◌, List, length, Option, Some, None, Result, Ok, Err, Vec, HoldsAt, ⊤}
 use Rattle.air_field.specs.Grid.{Grid}
+use Rattle.air_core.specs.FirstOnes.{EachOfFirst}
 use Rattle.air_core.specs.declared.errors.AirError.{AirError}
 use Rattle.air_core.specs.declared.errors.AirError.TheVariants.{PreprocessedHeight, PeriodNotPowerOfTwo, PeriodDoesNotDivide}
 
@@ -16,8 +17,8 @@ pub record IsPowerOfTwo (n : ℕ) : Type 0 where
 
 -- the first n columns' periods are powers of two that divide the height
 abbrev pub PeriodsFitBelow : {T A : Type 0} → List (Vec T A) → ℕ → ℕ → Type 0
-PeriodsFitBelow {T} {A} columns height n = (k : ℕ) (d : Vec T A) → k < n
-    → IsPowerOfTwo (length (slice_index_or columns k d).items) × (height % length (slice_index_or columns k d).items ≡ 0)
+PeriodsFitBelow columns height n =
+    EachOfFirst (λ k column. IsPowerOfTwo (length column.items) × (height % length column.items ≡ 0)) columns n
 
 abbrev pub FitsHeight : Option ℕ → ℕ → Type 0
 FitsHeight None height = ⊤
@@ -31,10 +32,10 @@ pub record ShapesFit {T A : Type 0} (columns : List (Vec T A)) (height : ℕ) (p
 -- this error names the first shape that doesn't fit: the table's, then each column's
 abbrev pub IsShapeFault : {T A : Type 0} → List (Vec T A) → ℕ → Option ℕ → AirError → Type 0
 IsShapeFault columns height preprocessed (PreprocessedHeight p m) = (preprocessed ≡ Some p) × (m ≡ height) × (p ≢ height)
-IsShapeFault {T} {A} columns height preprocessed (PeriodNotPowerOfTwo i n) = FitsHeight preprocessed height × (i < length columns)
-    × PeriodsFitBelow columns height i × ((d : Vec T A) → n ≡ length (slice_index_or columns i d).items) × ¬ (IsPowerOfTwo n)
-IsShapeFault {T} {A} columns height preprocessed (PeriodDoesNotDivide i n h) = FitsHeight preprocessed height × (i < length columns)
-    × PeriodsFitBelow columns height i × ((d : Vec T A) → n ≡ length (slice_index_or columns i d).items) × IsPowerOfTwo n × (h ≡ height) × (height % n ≢ 0)
+IsShapeFault columns height preprocessed (PeriodNotPowerOfTwo i n) = FitsHeight preprocessed height × (i < length columns)
+    × PeriodsFitBelow columns height i × HoldsAt (λ column. n ≡ length column.items) columns i × ¬ (IsPowerOfTwo n)
+IsShapeFault columns height preprocessed (PeriodDoesNotDivide i n h) = FitsHeight preprocessed height × (i < length columns)
+    × PeriodsFitBelow columns height i × HoldsAt (λ column. n ≡ length column.items) columns i × IsPowerOfTwo n × (h ≡ height) × (height % n ≢ 0)
 IsShapeFault columns height preprocessed _ = ⊥
 
 -- the shapes fit, or this is the first that doesn't
