@@ -1,5 +1,7 @@
 -- Names, and what they stand for.
 use Rattle.std.specs.Prelude.{◌≡◌, ℕ, List, map, Option, bytes_eq, option_and_then}
+use Rattle.std.specs.Global.{Global}
+use Rattle.std.specs.Vec.{vec_allocator}
 use Rattle.std.specs.List.{slice_get, position}
 use Rattle.cases.specs.declared.names.Names.{Names}
 
@@ -14,6 +16,10 @@ values_in n = n.values.items
 -- what a name stands for, if it is there: the value at its first place
 abbrev pub value_named : {T : Type 0} → Names T → List ℕ → Option T
 value_named n name = option_and_then (slice_get (values_in n)) (position (λ w. bytes_eq w.now name) n.words.items)
+
+-- the allocator that the values are held by
+abbrev pub allocator_of : {T : Type 0} → Names T → Global
+allocator_of n = vec_allocator n.values
 
 -- the names are the same, and stand for the same
 pub record HaveSameNames {T : Type 0} (a b : Names T) : Type 0 where

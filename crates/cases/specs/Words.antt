@@ -11,6 +11,10 @@ IsNumber word = IsNumeral 10 (without_leading_plus word) × (digits_value 10 (wi
 abbrev pub number_in : List ℕ → ℕ
 number_in word = digits_value 10 (without_leading_plus word)
 
+-- the word is the number n
+abbrev pub SpellsNumber : ℕ → List ℕ → Type 0
+SpellsNumber n word = IsNumber word × (n ≡ number_in word)
+
 -- the word is a whole number, and x its element
 abbrev pub SpellsElement : {F : Type 0} → CommRing F → F → List ℕ → Type 0
 SpellsElement r x word = IsNumber word × (x ≡ image r (number_in word))

@@ -1,7 +1,7 @@
 //! The names that lines give to what they make.
 ghost use Rattle.std.specs.Prelude.{◌≡◌, ◌⊎◌, [], map, IfErr, OnErr, ok_or, bytes_eq};
 ghost use Rattle.std.specs.List.{position};
-ghost use Rattle.cases.specs.Named.{names_in, values_in, value_named, HaveSameNames};
+ghost use Rattle.cases.specs.Named.{names_in, values_in, value_named, allocator_of, HaveSameNames};
 
 use crate::faults::{Fault, Why};
 use std::alloc::Global;
@@ -27,7 +27,9 @@ impl<'a, T: Copy> Names<'a, T> {
     }
 
     /// The allocator of the names.
-    pub fn alloc(&self) -> Global {
+    pub fn alloc(&self) -> Global
+        ensures { result ≡ allocator_of self.now }
+    {
         *self.values.allocator()
     }
 

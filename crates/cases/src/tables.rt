@@ -1,5 +1,6 @@
 //! Tables, line by line.
-ghost use Rattle.std.specs.Prelude.{◌≡◌, ◌≢◌, ◌<◌, ◌↔◌, true, false, OnOk};
+ghost use Rattle.std.specs.Prelude.{◌≡◌, ◌≢◌, ◌<◌, ◌≤◌, ◌↔◌, true, false, IfOk, OnOk};
+ghost use Rattle.std.specs.Process.{exit_status};
 
 use crate::bench::{Bench, Tables};
 use crate::faults::{Fault, Why, show_refusal};
@@ -169,6 +170,7 @@ fn status_of(whole: bool, report: &Report) -> u8
     ensures good { (result ≡ 0)
         ↔ ((whole ≡ true) × (0 < report.now.lines) × (report.now.differ ≡ 0)) }
     ensures broken { (result ≡ 2) ↔ (whole ≡ false) }
+    ensures status { result ≤ 2 }
 {
     if !whole {
         2
@@ -180,7 +182,9 @@ fn status_of(whole: bool, report: &Report) -> u8
 }
 
 // Checks the table of each word, and answers the status.
-fn check_all<T: Tables>(rt: &HostRuntime) -> Result<u8, Fault> {
+fn check_all<T: Tables>(rt: &HostRuntime) -> Result<u8, Fault>
+    ensures { IfOk result (λ status. status ≤ 2) }
+{
     let mut report = Report::new(false);
     let mut whole = true;
     for word in env::args(rt)?.skip(1) {
@@ -197,7 +201,9 @@ fn check_all<T: Tables>(rt: &HostRuntime) -> Result<u8, Fault> {
 
 /// Checks the tables that the program's words name; behind a word `again` each call that is refused for want of memory
 /// is made once more. Prints each line that differs, and then how many lines there are and how many differ.
-pub fn run<T: Tables>(rt: &HostRuntime) -> ExitCode {
+pub fn run<T: Tables>(rt: &HostRuntime) -> ExitCode
+    ensures status { exit_status result ≤ 2 }
+{
     match check_all::<T>(rt) {
         Ok(status) => ExitCode::from(status),
         Err(fault) => {

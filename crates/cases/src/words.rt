@@ -1,10 +1,17 @@
 //! Words as numbers, elements, values and texts.
-ghost use Rattle.std.specs.Prelude.{◌≡◌, ◌⊎◌, OkIff, IfOk, IfErr, Some, None};
-ghost use Rattle.std.specs.List.{AllZip};
+ghost use Rattle.std.specs.Prelude.{◌≡◌, ◌≢◌, ◌⊎◌, ℕ, ◌<◌, ◌++◌, ◌==◌, if◌then◌else◌, [], length, map, All};
+ghost use Rattle.std.specs.Prelude.{OkIff, OnOk, IfOk, IfErr, ok_or, Some, None, codes, string_bytes};
+ghost use Rattle.std.specs.List.{AllZip, flat_map};
+ghost use Rattle.std.specs.Str.{chars};
 ghost use Rattle.air_field.specs.Ring.{image};
 ghost use Rattle.serde_json.specs.View.{view};
 ghost use Rattle.serde_json.specs.Read.{read as read_text};
-ghost use Rattle.cases.specs.Words.{IsNumber, number_in, SpellsElement};
+ghost use Rattle.cases.specs.Words.{IsNumber, number_in, SpellsNumber, SpellsElement};
+ghost use Rattle.cases.specs.Listed.{parts_at, listed, coefficients_listed};
+ghost use Rattle.cases.specs.Spelled.{escaped_letter, SpellsText, SpellsNoText, shown_letter};
+ghost use Rattle.cases.specs.Spelled.{elements_text};
+ghost use Rattle.cases.specs.Numbers.{AreNumbers};
+ghost use Rattle.cases.specs.laws.Numbers.{are_values};
 
 use crate::faults::{Fault, Why};
 use air_field::{ExtensionField, Field, PrimeField64};
@@ -13,11 +20,20 @@ use std::alloc::Global;
 
 /// A field whose elements are written as numbers.
 pub trait Number: Field {
+    ghost least: { Self → ℕ };
+
     /// The least number of the element.
-    fn number(self) -> u64;
+    fn number(self) -> u64
+        ensures { result ≡ least self };
+
+    ghost least_is: { AreNumbers Self.Field.ring Self.Field.CHARACTERISTIC Self.least };
 }
 
 impl<F: PrimeField64> Number for F {
+    ghost least = { F.residues.value };
+
+    ghost least_is = { are_values F.residues F.order_is F.ring_is };
+
     fn number(self) -> u64 {
         self.as_canonical_u64()
     }
@@ -45,13 +61,38 @@ pub fn number_of(word: &str) -> Result<u64, Fault>
     }
 }
 
+// The parts of a word, which an ASCII character separates.
+fn parts_of<'a>(alloc: Global, word: &'a str, separator: char) -> Result<Vec<&'a str>, Fault>
+    ensures parts { separator < 128
+        → IfOk result (λ ps. map (λ p. p.now) ps.items ≡ parts_at separator word.now) }
+    ensures refused { IfErr result (λ e. e ≡ Fault.Memory) }
+{
+    let parts = word.split(separator).collect(alloc)?;
+    Ok(parts)
+}
+
+// The parts of a word, which commas separate; `-`: there is none.
+fn listed_parts<'a>(alloc: Global, word: &'a str) -> Result<Vec<&'a str>, Fault>
+    ensures parts { IfOk result (λ ps. map (λ p. p.now) ps.items ≡ listed word.now) }
+    ensures refused { IfErr result (λ e. e ≡ Fault.Memory) }
+{
+    if word == "-" {
+        Ok(Vec::new(alloc))
+    } else {
+        parts_of(alloc, word, ',')
+    }
+}
+
 /// Counts, which commas separate; `-`: there is none.
-pub fn counts_of(alloc: Global, word: &str) -> Result<Vec<usize>, Fault> {
+pub fn counts_of(alloc: Global, word: &str) -> Result<Vec<usize>, Fault>
+    ensures counts { IfOk result (λ ns. AllZip SpellsNumber ns.items (listed word.now)) }
+    ensures refused { IfErr result (λ e. (e ≡ Fault.Memory)
+        ⊎ ((e ≡ Fault.Unreadable Why.NoNumber) × (¬ All IsNumber (listed word.now)))) }
+{
+    let parts = listed_parts(alloc, word)?;
     let mut all = Vec::new(alloc);
-    if word != "-" {
-        for part in word.split(',') {
-            all.push(count_of(part)?)?;
-        }
+    for part in &parts {
+        all.push(count_of(*part)?)?;
     }
     Ok(all)
 }
@@ -68,7 +109,8 @@ pub fn element_of<F: Field>(word: &str) -> Result<F, Fault>
 pub fn elements_of<F: Field>(alloc: Global, words: &[&str]) -> Result<Vec<F>, Fault>
     ensures elements { IfOk result (λ xs.
         AllZip (λ x w. SpellsElement F.ring x w.now) xs.items words.now) }
-    ensures refused { IfErr result (λ e. (e ≡ Fault.Memory) ⊎ (e ≡ Fault.Unreadable Why.NoNumber)) }
+    ensures refused { IfErr result (λ e. (e ≡ Fault.Memory)
+        ⊎ ((e ≡ Fault.Unreadable Why.NoNumber) × (¬ All (λ w. IsNumber w.now) words.now))) }
 {
     let mut all = Vec::new(alloc);
     for word in words {
@@ -78,14 +120,14 @@ pub fn elements_of<F: Field>(alloc: Global, words: &[&str]) -> Result<Vec<F>, Fa
 }
 
 /// Elements of one word, which commas separate; `-`: there is none.
-pub fn listed_elements<F: Field>(alloc: Global, word: &str) -> Result<Vec<F>, Fault> {
-    let mut all = Vec::new(alloc);
-    if word != "-" {
-        for part in word.split(',') {
-            all.push(element_of(part)?)?;
-        }
-    }
-    Ok(all)
+pub fn listed_elements<F: Field>(alloc: Global, word: &str) -> Result<Vec<F>, Fault>
+    ensures elements { IfOk result (λ xs.
+        AllZip (SpellsElement F.ring) xs.items (listed word.now)) }
+    ensures refused { IfErr result (λ e. (e ≡ Fault.Memory)
+        ⊎ ((e ≡ Fault.Unreadable Why.NoNumber) × (¬ All IsNumber (listed word.now)))) }
+{
+    let parts = listed_parts(alloc, word)?;
+    elements_of(alloc, parts.as_slice())
 }
 
 /// An element of an extension, by its coefficients.
@@ -95,6 +137,9 @@ pub fn extension_of<F: Field, EF: ExtensionField<F>>(
 ) -> Result<EF, Fault>
     ensures coefficients { IfOk result (λ x.
         AllZip (λ c w. SpellsElement F.ring c w.now) (EF.basis.coefficients x) words.now) }
+    ensures refused { IfErr result (λ e. (e ≡ Fault.Memory)
+        ⊎ ((e ≡ Fault.Unreadable Why.NoNumber) × (¬ All (λ w. IsNumber w.now) words.now))
+        ⊎ ((e ≡ Fault.Unreadable Why.OtherDimension) × (length words.now ≢ EF.DIMENSION))) }
 {
     let all: Vec<F> = elements_of(alloc, words)?;
     if all.len() == EF::DIMENSION {
@@ -104,15 +149,31 @@ pub fn extension_of<F: Field, EF: ExtensionField<F>>(
     }
 }
 
+// The parts of a word, which dots separate where there is one, else commas.
+fn coefficient_parts<'a>(alloc: Global, word: &'a str) -> Result<Vec<&'a str>, Fault>
+    ensures parts { IfOk result (λ ps. map (λ p. p.now) ps.items ≡ coefficients_listed word.now) }
+    ensures refused { IfErr result (λ e. e ≡ Fault.Memory) }
+{
+    if word.contains('.') {
+        parts_of(alloc, word, '.')
+    } else {
+        parts_of(alloc, word, ',')
+    }
+}
+
 /// An element of an extension, by its coefficients, which commas separate, or dots.
 pub fn listed_extension<F: Field, EF: ExtensionField<F>>(
     alloc: Global,
     word: &str,
-) -> Result<EF, Fault> {
-    let mut parts = Vec::new(alloc);
-    for part in word.split(if word.contains('.') { '.' } else { ',' }) {
-        parts.push(part)?;
-    }
+) -> Result<EF, Fault>
+    ensures coefficients { IfOk result (λ x.
+        AllZip (SpellsElement F.ring) (EF.basis.coefficients x) (coefficients_listed word.now)) }
+    ensures refused { IfErr result (λ e. (e ≡ Fault.Memory)
+        ⊎ ((e ≡ Fault.Unreadable Why.NoNumber) × (¬ All IsNumber (coefficients_listed word.now)))
+        ⊎ ((e ≡ Fault.Unreadable Why.OtherDimension)
+        × (length (coefficients_listed word.now) ≢ EF.DIMENSION))) }
+{
+    let parts = coefficient_parts(alloc, word)?;
     extension_of::<F, EF>(alloc, parts.as_slice())
 }
 
@@ -130,7 +191,9 @@ pub fn value_of(alloc: Global, word: &str) -> Result<Value, Fault>
 }
 
 // The character that a letter behind a backslash stands for.
-fn escaped(letter: char) -> Result<char, Fault> {
+fn escaped(letter: char) -> Result<char, Fault>
+    ensures { result ≡ ok_or (escaped_letter letter) (Fault.Unreadable Why.NoText) }
+{
     match letter {
         's' => Ok(' '),
         'n' => Ok('\n'),
@@ -144,7 +207,13 @@ fn escaped(letter: char) -> Result<char, Fault> {
 
 /// The text of a word, in which `\s` is a space and `\n` ends a line (and `\r`, `\t`, `\z` for zero, `\\`); `-`: no
 /// text.
-pub fn text_of(alloc: Global, word: &str) -> Result<String, Fault> {
+pub fn text_of(alloc: Global, word: &str) -> Result<String, Fault>
+    ensures none { word.now ≡ codes "-" → IfOk result (λ text. string_bytes text ≡ []) }
+    ensures text { word.now ≢ codes "-"
+        → IfOk result (λ text. SpellsText word.now (string_bytes text)) }
+    ensures refused { IfErr result (λ e. (e ≡ Fault.Memory)
+        ⊎ ((e ≡ Fault.Unreadable Why.NoText) × SpellsNoText word.now)) }
+{
     let mut text = String::new(alloc);
     if word == "-" {
         return Ok(text);
@@ -167,7 +236,11 @@ pub fn text_of(alloc: Global, word: &str) -> Result<String, Fault> {
 }
 
 /// Adds a text on one line: its ends of lines are `\n`, `\r`, a backslash is doubled.
-pub fn show_text(shown: &str, text: &mut String) -> Result<(), Fault> {
+pub fn show_text(shown: &str, text: &mut String) -> Result<(), Fault>
+    ensures added { OnOk result (string_bytes text.new
+        ≡ string_bytes text.old ++ flat_map shown_letter (chars shown.now)) }
+    ensures refused { IfErr result (λ e. e ≡ Fault.Memory) }
+{
     for letter in shown.chars() {
         match letter {
             '\n' => text.push_str("\\n")?,
@@ -179,13 +252,27 @@ pub fn show_text(shown: &str, text: &mut String) -> Result<(), Fault> {
     Ok(())
 }
 
+// Adds the space that stands before each number but the first.
+fn show_space(place: usize, text: &mut String) -> Result<(), Fault>
+    ensures added { OnOk result (string_bytes text.new
+        ≡ string_bytes text.old ++ (if place == 0 then [] else codes " ")) }
+    ensures refused { IfErr result (λ e. e ≡ Fault.Memory) }
+{
+    if place > 0 {
+        text.push_str(" ")?;
+    }
+    Ok(())
+}
+
 /// Adds the numbers of elements, as `[1 2 3]`.
-pub fn show_elements<F: Number>(elements: &[F], text: &mut String) -> Result<(), Fault> {
+pub fn show_elements<F: Number>(elements: &[F], text: &mut String) -> Result<(), Fault>
+    ensures added { OnOk result (string_bytes text.new
+        ≡ string_bytes text.old ++ elements_text (map F.least elements.now)) }
+    ensures refused { IfErr result (λ e. e ≡ Fault.Memory) }
+{
     text.push_str("[")?;
     for (place, element) in elements.iter().enumerate() {
-        if place > 0 {
-            text.push_str(" ")?;
-        }
+        show_space(place, text)?;
         let number = element.number();
         write!(text, "{number}")?;
     }
