@@ -1,5 +1,6 @@
-//! Tests, a file a layer.
+//! Tests, a file a layer, and what several of them assert.
 mod builders;
 mod checks;
+mod labels;
 mod recordings;
 mod streams;

@@ -1,10 +1,7 @@
-//! Errors that pass through `?`, names that closures make, and the context that a filter hands on.
-ghost use Rattle.std.specs.Prelude.{◌≡◌, IfOk};
+//! Errors that pass through `?`, and names that are literals or made by closures.
 
-use air_builder::{AirBuilder, AirBuilderWithContext};
 use air_core::{AirError, BoundaryEnd, BoundaryIoError, Element, Lazy, Name, NamespaceExt};
-use air_field::{BabyBear, MatrixError, RingError, RowMajorMatrixView, ViewPair};
-use air_report::DebugConstraintBuilder;
+use air_field::{MatrixError, RingError};
 use std::alloc::AllocError;
 use std::string::ToString;
 use std::test::Fail;
@@ -54,35 +51,5 @@ fn closures_make_names(rt: HostRuntime) -> Result<(), Fail> {
         name.evaluate()?.to_string(alloc)?.as_str(),
         "row::column 4"
     );
-    Ok(())
-}
-
-// The context of a filter on a builder is the builder's own, by contract. The debug builder's is empty.
-fn context_of_filter<C: Copy, AB: AirBuilderWithContext<EvalContext = C>>(
-    builder: &mut AB,
-    condition: AB::Expr,
-) -> Result<C, AirError>
-    ensures { IfOk result (λ c. c ≡ AB.context builder.old) }
-{
-    let filter = builder.when(condition)?;
-    Ok(*filter.eval_context())
-}
-
-#[test]
-fn a_filter_hands_on_the_context(rt: HostRuntime) -> Result<(), Fail> {
-    let none = RowMajorMatrixView::new_row(&[]);
-    let zero = BabyBear::new(0);
-    let mut builder = DebugConstraintBuilder::new(
-        rt.alloc(),
-        0,
-        ViewPair::new(none, none),
-        ViewPair::new(none, none),
-        &[],
-        zero,
-        zero,
-        zero,
-        Vec::new(rt.alloc()),
-    );
-    assert_eq!(rt; context_of_filter(&mut builder, BabyBear::new(2))?, ());
     Ok(())
 }

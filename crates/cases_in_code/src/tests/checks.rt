@@ -1,27 +1,29 @@
-//! Names that are asked for only where an assertion at a row fails, and never where one is recorded; batches as arrays,
-//! and what a builder at a row, or a filter on it, lends.
-ghost use Rattle.std.specs.Prelude.{IfOk, ⊤};
+//! What a builder at a row does: batches as arrays, names that are asked for only where an assertion fails, and what it
+//! lends, also by a filter. The assertions stand in functions over any builder that is always ready and whose rings
+//! have every element, and the builder is made over any fields: at given ones each call is dear to prove.
+ghost use Rattle.std.specs.Prelude.{◌≡◌, IfOk};
 
+use crate::tests::labels::{Asking, zero_asking, zero_ext_asking};
 use p3_air::{
-    AirBuilder, AirBuilderWithContext, AirError, AirLayout, AssertAll, AssertAllExt,
-    AssertAllNamed, BabyBear, BinomialExtensionField, DebugConstraintBuilder, ExtAlgebra,
-    ExtensionBuilder, ExtensionField, Field, FromVar, Lazy, Name, NamedAirBuilder,
-    NamedExtensionBuilder, Namespace, PermutationAirBuilder, RowMajorMatrixView,
-    SymbolicAirBuilder, ViewPair, WindowAccess,
+    AirBuilder, AirBuilderWithContext, AirError, Algebra, AssertAll, AssertAllExt, AssertAllNamed,
+    BabyBear, BinomialExtensionField, DebugConstraintBuilder, ExtensionBuilder, ExtensionField,
+    Field, FromVar, NamedAirBuilder, NamedExtensionBuilder, PermutationAirBuilder,
+    RowMajorMatrixView, ViewPair, WindowAccess,
 };
-use std::alloc::{AllocError, Global};
+use std::alloc::Global;
 use std::cell::Cell;
 use std::fmt::Debug;
 use std::test::Fail;
 
 type Element = BinomialExtensionField;
 
-type Row<'a> = DebugConstraintBuilder<'a, BabyBear, Element>;
-
-type Recorder = SymbolicAirBuilder<BabyBear, Element>;
+type Row<'a, F, EF> = DebugConstraintBuilder<'a, F, EF>;
 
 // A builder at row 7 of a trace without columns, with these permutation data.
-fn row_with<'a>(alloc: Global, permutation: ViewPair<'a, Element>) -> Row<'a> {
+fn row_with<'a, F: Field, EF: ExtensionField<F>>(
+    alloc: Global,
+    permutation: ViewPair<'a, EF>,
+) -> Row<'a, F, EF> {
     let none = RowMajorMatrixView::new_row(&[]);
     let rows = ViewPair::new(none, none);
     DebugConstraintBuilder::new_with_permutation(
@@ -30,9 +32,9 @@ fn row_with<'a>(alloc: Global, permutation: ViewPair<'a, Element>) -> Row<'a> {
         rows,
         rows,
         &[],
-        BabyBear::ZERO,
-        BabyBear::ZERO,
-        BabyBear::ONE,
+        F::ZERO,
+        F::ZERO,
+        F::ONE,
         permutation,
         &[],
         &[],
@@ -41,7 +43,7 @@ fn row_with<'a>(alloc: Global, permutation: ViewPair<'a, Element>) -> Row<'a> {
 }
 
 // The same without permutation data.
-fn row<'a>(alloc: Global) -> Row<'a> {
+fn row<'a, F: Field, EF: ExtensionField<F>>(alloc: Global) -> Row<'a, F, EF> {
     let none = RowMajorMatrixView::new_row(&[]);
     row_with(alloc, ViewPair::new(none, none))
 }
@@ -51,215 +53,265 @@ fn root_times(x: u32) -> Element {
     Element::from_basis_coefficients(&[0, x, 0, 0].map(BabyBear::new))
 }
 
-// Asserts that a number is zero, under a name that sets a counter to 1 where it is asked for.
-fn zero_asking(builder: &mut Row<'_>, x: u32, asked: &Cell<u32>) -> Result<(), AirError> {
-    builder.assert_zero_named(
-        BabyBear::new(x),
-        Lazy(|| {
-            asked.set(1);
-            Ok("base")
-        }),
-    )
-}
-
-// The same over the extension, where the counter is set to 2.
-fn zero_ext_asking(builder: &mut Row<'_>, x: u32, asked: &Cell<u32>) -> Result<(), AirError> {
-    builder.assert_zero_ext_named(
-        root_times(x),
-        Lazy(|| {
-            asked.set(2);
-            Ok("extension")
-        }),
-    )
-}
-
-// Arrays of two elements, of which the second one's assertion fails.
-fn assert_arrays(builder: &mut Row<'_>) -> Result<(), AirError> {
-    let [zero, one, two] = [0, 1, 2].map(BabyBear::new);
-    builder.assert_zeros([zero, two])?;
-    builder.assert_bools([one, two])?;
-    builder.assert_eq_arrays([one, two], [one, one])
+// Asserts arrays. (They are handed on: one of a builder's elements can be made where their type is known.)
+fn assert_arrays<AB: AirBuilder>(
+    builder: &mut AB,
+    zeros: [AB::Expr; 2],
+    bits: [AB::Expr; 2],
+    ones: [AB::Expr; 2],
+) -> Result<(), AirError>
+    requires ready { (b : AB) → AB.ready b }
+    requires of_ring { (r : AB.Ring) (x : AB.Expr) → AB.Ring.has r x }
+{
+    builder.assert_zeros(zeros)?;
+    builder.assert_bools(bits)?;
+    builder.assert_eq_arrays(bits, ones)
 }
 
 // The same under names, and over the extension.
-fn assert_named_arrays(builder: &mut Row<'_>) -> Result<(), AirError> {
-    let [zero, one, two] = [0, 1, 2].map(BabyBear::new);
-    builder.assert_zeros_named([zero, two], "zeros")?;
-    builder.assert_bools_named([one, two], "bits")?;
-    builder.assert_zeros_ext([root_times(0), root_times(1)])
+fn assert_named_arrays<AB: NamedExtensionBuilder>(
+    builder: &mut AB,
+    zeros: [AB::Expr; 2],
+    bits: [AB::Expr; 2],
+    roots: [AB::ExprEF; 2],
+) -> Result<(), AirError>
+    requires ready { (b : AB) → AB.ready b }
+    requires of_ring { (r : AB.Ring) (x : AB.Expr) → AB.Ring.has r x }
+    requires of_ext_ring { (r : AB.ExtRing) (x : AB.ExprEF) → AB.ExtRing.has r x }
+{
+    builder.assert_zeros_named(zeros, "zeros")?;
+    builder.assert_bools_named(bits, "bits")?;
+    builder.assert_zeros_ext(roots)
 }
 
-// (A table's lines make lists: an array of a builder's elements can be made where the builder's type is known.)
+// Both.
+fn assert_all_arrays<AB: NamedExtensionBuilder>(
+    builder: &mut AB,
+    zeros: [AB::Expr; 2],
+    bits: [AB::Expr; 2],
+    ones: [AB::Expr; 2],
+    roots: [AB::ExprEF; 2],
+) -> Result<(), AirError>
+    requires ready { (b : AB) → AB.ready b }
+    requires of_ring { (r : AB.Ring) (x : AB.Expr) → AB.Ring.has r x }
+    requires of_ext_ring { (r : AB.ExtRing) (x : AB.ExprEF) → AB.ExtRing.has r x }
+{
+    assert_arrays(builder, zeros, bits, ones)?;
+    assert_named_arrays(builder, zeros, bits, roots)
+}
+
+// What fails of them at a row.
+fn failures_of_arrays<F: Field + 'static, EF: ExtensionField<F> + 'static>(
+    alloc: Global,
+    zeros: [F; 2],
+    bits: [F; 2],
+    ones: [F; 2],
+    roots: [EF; 2],
+) -> Result<String, AirError> {
+    let mut builder: Row<'_, F, EF> = row(alloc);
+    assert_all_arrays(&mut builder, zeros, bits, ones, roots)?;
+    builder.formatted_failures()
+}
+
+// Of each array the second element's assertion fails.
 #[test]
 fn arrays_are_batches(rt: HostRuntime) -> Result<(), Fail> {
-    let mut builder = row(rt.alloc());
-    assert_arrays(&mut builder)?;
-    assert_named_arrays(&mut builder)?;
+    let [zero, one, two] = [0, 1, 2].map(BabyBear::new);
+    let roots = [root_times(0), root_times(1)];
+    let failures = failures_of_arrays(rt.alloc(), [zero, two], [one, two], [one, one], roots)?;
     assert_eq!(rt;
-        builder.formatted_failures()?.as_str(),
+        failures.as_str(),
         "[#1, #3, #5, #7 \"zeros::[1]\", #9 \"bits::[1]\", #11]"
     );
     Ok(())
 }
 
+// What a counter says after assertions of both kinds that hold, after one that fails, and after one over the extension
+// that fails.
+fn counts_asked<AB: NamedExtensionBuilder>(
+    builder: &mut AB,
+    zero: AB::Expr,
+    one: AB::Expr,
+    zero_ext: AB::ExprEF,
+    root: AB::ExprEF,
+) -> Result<[u32; 3], AirError>
+    requires ready { (b : AB) → AB.ready b }
+    requires of_ring { (r : AB.Ring) (x : AB.Expr) → AB.Ring.has r x }
+    requires of_ext_ring { (r : AB.ExtRing) (x : AB.ExprEF) → AB.ExtRing.has r x }
+{
+    let asked = Cell::new(0u32);
+    zero_asking(builder, zero, &asked)?;
+    zero_ext_asking(builder, zero_ext, &asked)?;
+    let passing = asked.get();
+    zero_asking(builder, one, &asked)?;
+    let failing = asked.get();
+    zero_ext_asking(builder, root, &asked)?;
+    Ok([passing, failing, asked.get()])
+}
+
+// The same at a row, and what failed.
+fn counts_and_failures<F: Field + 'static, EF: ExtensionField<F> + 'static>(
+    alloc: Global,
+    root: EF,
+) -> Result<([u32; 3], String), AirError> {
+    let mut builder: Row<'_, F, EF> = row(alloc);
+    let counts = counts_asked(&mut builder, F::ZERO, F::ONE, EF::zero(), root)?;
+    Ok((counts, builder.formatted_failures()?))
+}
+
 #[test]
 fn a_passing_assertion_asks_for_no_label(rt: HostRuntime) -> Result<(), Fail> {
-    let asked = Cell::new(0u32);
-    let mut builder = row(rt.alloc());
-    zero_asking(&mut builder, 0, &asked)?;
-    zero_ext_asking(&mut builder, 0, &asked)?;
-    assert_eq!(rt; asked.get(), 0);
-    zero_asking(&mut builder, 1, &asked)?;
-    assert_eq!(rt; asked.get(), 1);
-    zero_ext_asking(&mut builder, 1, &asked)?;
-    assert_eq!(rt; asked.get(), 2);
-    assert_eq!(rt;
-        builder.formatted_failures()?.as_str(),
-        "[#2 \"base\", #3 \"extension\"]"
-    );
+    let (counts, failures) = counts_and_failures::<BabyBear, Element>(rt.alloc(), root_times(1))?;
+    assert_eq!(rt; counts, [0, 1, 2]);
+    assert_eq!(rt; failures.as_str(), "[#2 \"base\", #3 \"extension\"]");
     Ok(())
 }
 
-/// A name that sets a counter to 1 where it is asked for.
-#[derive(Clone, Copy, Drop)]
-struct Asking<'a>(&'a Cell<u32>);
-
-impl Name for Asking<'_> {
-    type Output = &'static str;
-
-    ghost can_evaluate = { λ _. ⊤ };
-
-    ghost displays = { λ _ _. ⊤ };
-
-    fn evaluate(self) -> Result<&'static str, AllocError> {
-        self.0.set(1);
-        Ok("asked")
-    }
+// Asserts under a name that an element is one.
+fn one_asking<AB: NamedAirBuilder>(
+    builder: &mut AB,
+    x: AB::Expr,
+    asked: &Cell<u32>,
+) -> Result<(), AirError>
+    requires ready { AB.ready builder.old }
+    requires of_ring { AB.Ring.has (AB.ring_of builder.old) x }
+{
+    builder.assert_one_named(x, Asking(asked))
 }
 
-impl Namespace for Asking<'_> {}
-
-// Asserts under names what holds of ones.
-fn ones_asking(builder: &mut Row<'_>, asked: &Cell<u32>) -> Result<(), AirError> {
-    let one = BabyBear::ONE;
-    builder.assert_one_named(one, Asking(asked))?;
+// Asserts under names what holds of one.
+fn ones_asking<AB: NamedAirBuilder>(
+    builder: &mut AB,
+    one: AB::Expr,
+    asked: &Cell<u32>,
+) -> Result<(), AirError>
+    requires ready { (b : AB) → AB.ready b }
+    requires of_ring { (r : AB.Ring) (x : AB.Expr) → AB.Ring.has r x }
+{
+    one_asking(builder, one, asked)?;
     builder.assert_eq_named(one, one, Asking(asked))?;
     builder.assert_bool_named(one, Asking(asked))
 }
 
-// The same of batches, and over the extension.
-fn lists_asking(builder: &mut Row<'_>, asked: &Cell<u32>) -> Result<(), AirError> {
-    builder.assert_zeros_named_slice(&[BabyBear::ZERO], Asking(asked))?;
-    builder.assert_bools_named_slice(&[BabyBear::ONE], Asking(asked))?;
-    builder.assert_one_ext_named(Element::one(), Asking(asked))?;
-    builder.assert_eq_ext_named(root_times(5), root_times(5), Asking(asked))
+// The same of batches, of zeros and of ones.
+fn batches_asking<AB: NamedAirBuilder>(
+    builder: &mut AB,
+    zeros: &[AB::Expr],
+    ones: &[AB::Expr],
+    asked: &Cell<u32>,
+) -> Result<(), AirError>
+    requires ready { (b : AB) → AB.ready b }
+    requires of_ring { (r : AB.Ring) (x : AB.Expr) → AB.Ring.has r x }
+{
+    builder.assert_zeros_named_slice(zeros, Asking(asked))?;
+    builder.assert_bools_named_slice(ones, Asking(asked))
+}
+
+// The same over the extension, of one, and of an element and itself.
+fn ext_asking<AB: NamedExtensionBuilder>(
+    builder: &mut AB,
+    one: AB::ExprEF,
+    x: AB::ExprEF,
+    asked: &Cell<u32>,
+) -> Result<(), AirError>
+    requires ready { (b : AB) → AB.ready b }
+    requires of_ext_ring { (r : AB.ExtRing) (x : AB.ExprEF) → AB.ExtRing.has r x }
+{
+    builder.assert_one_ext_named(one, Asking(asked))?;
+    builder.assert_eq_ext_named(x, x, Asking(asked))
+}
+
+// All of these.
+fn assert_what_holds<AB: NamedExtensionBuilder>(
+    builder: &mut AB,
+    one: AB::Expr,
+    zeros: &[AB::Expr],
+    ones: &[AB::Expr],
+    one_ext: AB::ExprEF,
+    x: AB::ExprEF,
+    asked: &Cell<u32>,
+) -> Result<(), AirError>
+    requires ready { (b : AB) → AB.ready b }
+    requires of_ring { (r : AB.Ring) (x : AB.Expr) → AB.Ring.has r x }
+    requires of_ext_ring { (r : AB.ExtRing) (x : AB.ExprEF) → AB.ExtRing.has r x }
+{
+    ones_asking(builder, one, asked)?;
+    batches_asking(builder, zeros, ones, asked)?;
+    ext_asking(builder, one_ext, x, asked)
+}
+
+// Whether what holds failed at a row, and what the counter says then; and after one more assertion, which fails, what
+// the counter says and what failed.
+fn what_holds_and_one_more<F: Field + 'static, EF: ExtensionField<F> + 'static>(
+    alloc: Global,
+    zeros: &[F],
+    ones: &[F],
+    x: EF,
+) -> Result<(bool, u32, u32, String), AirError> {
+    let asked = Cell::new(0u32);
+    let mut builder: Row<'_, F, EF> = row(alloc);
+    assert_what_holds(&mut builder, F::ONE, zeros, ones, EF::one(), x, &asked)?;
+    let (failed, holding) = (builder.has_failures(), asked.get());
+    one_asking(&mut builder, F::ZERO, &asked)?;
+    Ok((failed, holding, asked.get(), builder.formatted_failures()?))
 }
 
 #[test]
 fn what_holds_asks_for_no_label(rt: HostRuntime) -> Result<(), Fail> {
-    let asked = Cell::new(0u32);
-    let mut builder = row(rt.alloc());
-    ones_asking(&mut builder, &asked)?;
-    lists_asking(&mut builder, &asked)?;
-    assert_eq!(rt; builder.has_failures(), false);
-    assert_eq!(rt; asked.get(), 0);
-    builder.assert_one_named(BabyBear::ZERO, Asking(&asked))?;
-    assert_eq!(rt; asked.get(), 1);
-    assert_eq!(rt; builder.formatted_failures()?.as_str(), "[#7 \"asked\"]");
+    let [zero, one] = [0, 1].map(BabyBear::new);
+    let (failed, holding, failing, failures) = what_holds_and_one_more(
+        rt.alloc(),
+        &[zero],
+        &[one],
+        root_times(5),
+    )?;
+    assert_eq!(rt; failed, false);
+    assert_eq!(rt; [holding, failing], [0, 1]);
+    assert_eq!(rt; failures.as_str(), "[#7 \"asked\"]");
     Ok(())
 }
 
-// Asserts under a name that the first row is none.
-fn assert_named<AB: NamedAirBuilder, N: Name>(builder: &mut AB, name: N) -> Result<(), AirError>
-    requires ready { AB.ready builder.old }
-    requires can_evaluate { N.can_evaluate name }
-{
-    let x = builder.is_first_row()?;
-    builder.assert_zero_named(x, name)
-}
-
-// Asserts under a name that an element of the extension is zero.
-fn assert_ext_named<AB: NamedExtensionBuilder, N: Name>(
+// The context of a filter on a builder is the builder's own, by contract.
+fn context_of_filter<C: Copy, AB: AirBuilderWithContext<EvalContext = C>>(
     builder: &mut AB,
-    x: AB::EF,
-    name: N,
-) -> Result<(), AirError>
-    requires ready { AB.ready builder.old }
-    requires can_evaluate { N.can_evaluate name }
+    condition: AB::Expr,
+) -> Result<C, AirError>
+    ensures { IfOk result (λ c. c ≡ AB.context builder.old) }
 {
-    let x = builder.ext_ring().ext_constant(x)?;
-    builder.assert_zero_ext_named(x, name)
+    let filter = builder.when(condition)?;
+    Ok(*filter.eval_context())
 }
 
-// A builder that has recorded nothing.
-fn recorder(alloc: Global) -> Result<Recorder, AirError>
-    ensures { IfOk result ⟦<Recorder as AirBuilder>⟧.ready }
-{
-    SymbolicAirBuilder::new(alloc, AirLayout::default())
+// The contexts that a builder and a filter on it hand on, as a text.
+fn context_texts<C: Copy + Debug, AB: AirBuilderWithContext<EvalContext = C>>(
+    alloc: Global,
+    builder: &mut AB,
+    condition: AB::Expr,
+) -> Result<String, Fail> {
+    let own = *builder.eval_context();
+    let handed_on = context_of_filter(builder, condition)?;
+    Ok(format!(in alloc; "{own:?} {handed_on:?}")?)
 }
 
-// Records an assertion under a name that sets a counter where it is asked for.
-fn record_asking(builder: &mut Recorder, asked: &Cell<u32>) -> Result<(), AirError>
-    requires { ⟦<Recorder as AirBuilder>⟧.ready builder.old }
-{
-    assert_named(
-        builder,
-        Lazy(|| {
-            asked.set(1);
-            Ok("never")
-        }),
-    )
-}
-
-// The same over the extension. Over any fields: of the builder over two given ones the checker compares more than its
-// limit allows.
-fn record_ext_asking<F: Field, EF: ExtensionField<F>>(
-    builder: &mut SymbolicAirBuilder<F, EF>,
-    asked: &Cell<u32>,
-) -> Result<(), AirError>
-    requires { ⟦<SymbolicAirBuilder<F, EF> as AirBuilder>⟧.ready builder.old }
-{
-    assert_ext_named(
-        builder,
-        EF::one(),
-        Lazy(|| {
-            asked.set(2);
-            Ok("never")
-        }),
-    )
+// Those at a row.
+fn contexts_at_row<F: Field + 'static, EF: ExtensionField<F> + 'static>(
+    alloc: Global,
+) -> Result<String, Fail> {
+    let mut builder: Row<'_, F, EF> = row(alloc);
+    context_texts(alloc, &mut builder, F::TWO)
 }
 
 #[test]
-fn a_recording_asks_for_no_label(rt: HostRuntime) -> Result<(), Fail> {
-    let asked = Cell::new(0u32);
-    let mut builder = recorder(rt.alloc())?;
-    record_asking(&mut builder, &asked)?;
-    assert_eq!(rt; builder.base_constraints().len(), 1);
-    let mut builder = recorder(rt.alloc())?;
-    record_ext_asking(&mut builder, &asked)?;
-    assert_eq!(rt; builder.extension_constraints().len(), 1);
-    assert_eq!(rt; asked.get(), 0);
+fn a_builder_at_a_row_and_a_filter_on_it_have_the_empty_context(
+    rt: HostRuntime,
+) -> Result<(), Fail> {
+    let contexts = contexts_at_row::<BabyBear, Element>(rt.alloc())?;
+    assert_eq!(rt; contexts.as_str(), "() ()");
     Ok(())
 }
 
-// The context that a builder hands on, as a text.
-fn context_text<AB: AirBuilderWithContext>(alloc: Global, builder: &AB) -> Result<String, Fail>
-where
-    AB::EvalContext: Debug,
-{
-    let context = builder.eval_context();
-    Ok(format!(in alloc; "{context:?}")?)
-}
-
-#[test]
-fn a_builder_at_a_row_has_the_empty_context(rt: HostRuntime) -> Result<(), Fail> {
-    let alloc = rt.alloc();
-    let builder = row(alloc);
-    assert_eq!(rt; context_text(alloc, &builder)?.as_str(), "()");
-    Ok(())
-}
-
-// What a filter lends of permutation data: column 1 of the window's current row, and the next row's variable in column 0.
+// What a filter lends of permutation data: column 1 of the window's current row, and the next row's variable in column
+// 0.
 fn lent_by_filter<AB: PermutationAirBuilder>(
     builder: &mut AB,
     condition: AB::Expr,
@@ -275,6 +327,15 @@ where
     Ok((current, next))
 }
 
+// The same at a row.
+fn lent_at_row<F: Field + 'static, EF: ExtensionField<F> + 'static>(
+    alloc: Global,
+    rows: ViewPair<'_, EF>,
+) -> Result<(Option<EF>, Option<EF>), AirError> {
+    let mut builder: Row<'_, F, EF> = row_with(alloc, rows);
+    lent_by_filter(&mut builder, F::TWO)
+}
+
 #[test]
 fn a_filter_hands_on_the_permutation_data(rt: HostRuntime) -> Result<(), Fail> {
     let current = [root_times(1), root_times(2)];
@@ -283,8 +344,7 @@ fn a_filter_hands_on_the_permutation_data(rt: HostRuntime) -> Result<(), Fail> {
         RowMajorMatrixView::new_row(&current),
         RowMajorMatrixView::new_row(&next),
     );
-    let mut builder = row_with(rt.alloc(), rows);
-    let (here, after) = lent_by_filter(&mut builder, BabyBear::new(2))?;
+    let (here, after) = lent_at_row::<BabyBear, Element>(rt.alloc(), rows)?;
     assert_eq!(rt; here, Some(root_times(2)));
     assert_eq!(rt; after, Some(root_times(3)));
     Ok(())

@@ -1,54 +1,77 @@
-//! Folds of assertions by themselves, with names that count how often they are asked for.
-
+//! Recordings and folds of assertions, under names that tell whether they are asked for: never. The assertions stand in
+//! functions over any builder, and the builders are made over any fields: at given ones each call is dear to prove.
+use crate::tests::labels::{zero_asking, zero_ext_asking};
 use air_folder::ConstraintFolder;
 use p3_air::{
-    AirBuilder, AirError, Algebra, BabyBear, BinomialExtensionField, ExtensionBuilder,
-    ExtensionField, Lazy, NamedAirBuilder, NamedExtensionBuilder, RowMajorMatrixView, ViewPair,
+    AirBuilder, AirError, AirLayout, Algebra, BabyBear, BinomialExtensionField, ExtAlgebra,
+    ExtensionBuilder, ExtensionField, Field, NamedAirBuilder, NamedExtensionBuilder,
+    RowMajorMatrixView, SymbolicAirBuilder, ViewPair,
 };
+use std::alloc::Global;
 use std::cell::Cell;
 use std::test::Fail;
 
 type Element = BinomialExtensionField;
 
-type Folder<'a> = ConstraintFolder<'a, BabyBear, Element>;
-
-// The image of a number.
-fn element(n: u32) -> Element {
-    Element::from_base(BabyBear::new(n))
-}
-
-// A folder at a row without columns.
-fn folder_by<'a>(alpha: Element) -> Folder<'a> {
-    let none = RowMajorMatrixView::new_row(&[]);
-    let rows = ViewPair::new(none, none);
-    let [zero, one] = [0, 1].map(element);
-    ConstraintFolder::new(rows, rows, None, &[], &[], &[], &[], zero, zero, one, alpha)
-}
-
-// Asserts a value under a name that sets the counter where it is asked for.
-fn assert_named(folder: &mut Folder<'_>, asked: &Cell<u32>, x: Element) -> Result<(), AirError> {
-    folder.assert_zero_named(
-        x,
-        Lazy(|| {
-            asked.set(1);
-            Ok("base")
-        }),
-    )
-}
-
-// The same for an extension constraint.
-fn assert_ext_named(
-    folder: &mut Folder<'_>,
+// Asserts under a name that an element of the extension is zero. The builder is ready for more.
+fn constant_asking<AB: NamedExtensionBuilder>(
+    builder: &mut AB,
+    x: AB::EF,
     asked: &Cell<u32>,
-    x: Element,
-) -> Result<(), AirError> {
-    folder.assert_zero_ext_named(
-        x,
-        Lazy(|| {
-            asked.set(2);
-            Ok("extension")
-        }),
-    )
+) -> Result<(), AirError>
+    requires { AB.ready builder.old }
+    ensures { AB.ready builder.new }
+{
+    let x = builder.ext_ring().ext_constant(x)?;
+    zero_ext_asking(builder, x, asked)
+}
+
+// Asserts under a name that the first row is none.
+fn first_row_asking<AB: NamedAirBuilder>(
+    builder: &mut AB,
+    asked: &Cell<u32>,
+) -> Result<(), AirError>
+    requires { AB.ready builder.old }
+{
+    let x = builder.is_first_row()?;
+    zero_asking(builder, x, asked)
+}
+
+// Both.
+fn both_asking<AB: NamedExtensionBuilder>(
+    builder: &mut AB,
+    x: AB::EF,
+    asked: &Cell<u32>,
+) -> Result<(), AirError>
+    requires { AB.ready builder.old }
+{
+    constant_asking(builder, x, asked)?;
+    first_row_asking(builder, asked)
+}
+
+// How many base and extension constraints are recorded of both.
+fn recorded_asking<F: Field, EF: ExtensionField<F>>(
+    alloc: Global,
+    asked: &Cell<u32>,
+) -> Result<(usize, usize), AirError> {
+    let mut builder: SymbolicAirBuilder<F, EF> = SymbolicAirBuilder::new(
+        alloc,
+        AirLayout::default(),
+    )?;
+    both_asking(&mut builder, EF::one(), asked)?;
+    Ok((
+        builder.base_constraints().len(),
+        builder.extension_constraints().len(),
+    ))
+}
+
+#[test]
+fn a_recording_asks_for_no_label(rt: HostRuntime) -> Result<(), Fail> {
+    let asked = Cell::new(0u32);
+    let counts = recorded_asking::<BabyBear, Element>(rt.alloc(), &asked)?;
+    assert_eq!(rt; counts, (1, 1));
+    assert_eq!(rt; asked.get(), 0);
+    Ok(())
 }
 
 // Asserts where a condition holds that `x` is zero.
@@ -79,18 +102,70 @@ fn assert_ext_under<AB: ExtensionBuilder>(
     filter.assert_zero_ext(x)
 }
 
+// Asserts under names that an element and one of the extension are zero.
+fn two_asking<AB: NamedExtensionBuilder>(
+    builder: &mut AB,
+    x: AB::Expr,
+    y: AB::ExprEF,
+    asked: &Cell<u32>,
+) -> Result<(), AirError>
+    requires ready { (b : AB) → AB.ready b }
+    requires of_ring { (r : AB.Ring) (x : AB.Expr) → AB.Ring.has r x }
+    requires of_ext_ring { (r : AB.ExtRing) (x : AB.ExprEF) → AB.ExtRing.has r x }
+{
+    zero_asking(builder, x, asked)?;
+    zero_ext_asking(builder, y, asked)
+}
+
+// The same where conditions hold.
+fn two_under<AB: ExtensionBuilder>(
+    builder: &mut AB,
+    condition: AB::Expr,
+    x: AB::Expr,
+    ext_condition: AB::Expr,
+    y: AB::ExprEF,
+) -> Result<(), AirError>
+    requires ready { (b : AB) → AB.ready b }
+    requires of_ring { (r : AB.Ring) (x : AB.Expr) → AB.Ring.has r x }
+    requires of_ext_ring { (r : AB.ExtRing) (x : AB.ExprEF) → AB.ExtRing.has r x }
+{
+    assert_under(builder, condition, x)?;
+    assert_ext_under(builder, ext_condition, y)
+}
+
+type Folder<'a, F, EF> = ConstraintFolder<'a, F, EF>;
+
+// The image of a number.
+fn element<F: Field, EF: ExtensionField<F>>(n: u64) -> EF {
+    EF::from_base(F::from_u64(n))
+}
+
+// A folder at a row without columns.
+fn folder_by<'a, F: Field, EF: ExtensionField<F>>(alpha: EF) -> Folder<'a, F, EF> {
+    let none = RowMajorMatrixView::new_row(&[]);
+    let rows = ViewPair::new(none, none);
+    let (zero, one) = (EF::zero(), EF::one());
+    ConstraintFolder::new(rows, rows, None, &[], &[], &[], &[], zero, zero, one, alpha)
+}
+
+// What 1, `x`, 12 and 30 are folded to by 10; the last two are products with conditions.
+fn folded<F: Field, EF: ExtensionField<F>>(x: EF, asked: &Cell<u32>) -> Result<EF, AirError> {
+    let mut folder: Folder<'_, F, EF> = folder_by(element::<F, EF>(10));
+    two_asking(&mut folder, EF::one(), x, asked)?;
+    let (three, four) = (element::<F, EF>(3), element::<F, EF>(4));
+    let (five, six) = (element::<F, EF>(5), element::<F, EF>(6));
+    two_under(&mut folder, three, four, five, six)?;
+    Ok(folder.accumulator())
+}
+
 // 1, 2X, 12 and 30: 1000 + 200X + 120 + 30 by alpha 10. No name is asked for.
 #[test]
 fn each_assertion_is_folded(rt: HostRuntime) -> Result<(), Fail> {
-    let mut folder = folder_by(element(10));
     let asked = Cell::new(0);
     let root = Element::from_basis_coefficients(&[0, 2, 0, 0].map(BabyBear::new));
-    assert_named(&mut folder, &asked, element(1))?;
-    assert_ext_named(&mut folder, &asked, root)?;
-    assert_under(&mut folder, element(3), element(4))?;
-    assert_ext_under(&mut folder, element(5), element(6))?;
+    let sum = folded::<BabyBear, Element>(root, &asked)?;
     assert_eq!(rt; asked.get(), 0);
     let wanted = Element::from_basis_coefficients(&[1150, 200, 0, 0].map(BabyBear::new));
-    assert_eq!(rt; folder.accumulator(), wanted);
+    assert_eq!(rt; sum, wanted);
     Ok(())
 }
