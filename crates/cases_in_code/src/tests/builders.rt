@@ -12,16 +12,21 @@ fn errors_from_below_keep_what_they_say(rt: HostRuntime) -> Result<(), Fail> {
         column: 4,
         end: BoundaryEnd::Last,
     };
-    assert_eq!(rt; AirError::from(AllocError), AirError::Memory);
-    assert_eq!(rt;
-        AirError::from(RingError::DegreeOverflow),
-        AirError::DegreeOverflow
-    );
-    assert_eq!(rt;
-        AirError::from(MatrixError::Ragged { len: 3, width: 2 }),
-        AirError::Ragged { len: 3, width: 2 }
-    );
-    assert_eq!(rt; AirError::from(twice), AirError::Boundary(twice));
+    let ragged = MatrixError::Ragged { len: 3, width: 2 };
+    for (made, wanted) in [
+        (AirError::from(AllocError), AirError::Memory),
+        (
+            AirError::from(RingError::DegreeOverflow),
+            AirError::DegreeOverflow,
+        ),
+        (
+            AirError::from(ragged),
+            AirError::Ragged { len: 3, width: 2 },
+        ),
+        (AirError::from(twice), AirError::Boundary(twice)),
+    ] {
+        assert_eq!(rt; made, wanted);
+    }
     assert_eq!(rt;
         AirError::from(twice).to_string(rt.alloc())?.as_str(),
         "boundary-IO declares column 4 twice on the Last row"
@@ -29,27 +34,28 @@ fn errors_from_below_keep_what_they_say(rt: HostRuntime) -> Result<(), Fail> {
     Ok(())
 }
 
-// The texts of names that are literals.
-#[test]
-fn names_stand_under_namespaces(rt: HostRuntime) -> Result<(), Fail> {
-    let alloc = rt.alloc();
-    let leaf = "outer".join("mid").name("leaf").evaluate()?;
-    assert_eq!(rt; leaf.to_string(alloc)?.as_str(), "outer::mid::leaf");
-    let empty = "".name("").evaluate()?;
-    assert_eq!(rt; empty.to_string(alloc)?.as_str(), "::");
-    let element = "z".name(Element(12)).evaluate()?;
-    assert_eq!(rt; element.to_string(alloc)?.as_str(), "z::[12]");
+// Adds a name's text in brackets.
+fn add_name<N: Name>(name: N, text: &mut String) -> Result<(), Fail>
+    requires { N.can_evaluate name }
+{
+    let shown = name.evaluate()?;
+    write!(text, "[{shown}]")?;
     Ok(())
 }
 
 #[test]
-fn closures_make_names(rt: HostRuntime) -> Result<(), Fail> {
+fn names_stand_under_namespaces(rt: HostRuntime) -> Result<(), Fail> {
     let alloc = rt.alloc();
+    let mut text = String::new(alloc);
+    add_name("outer".join("mid").name("leaf"), &mut text)?;
+    add_name("".name(""), &mut text)?;
+    add_name("z".name(Element(12)), &mut text)?;
     let column = 4;
-    let name = "row".name(Lazy(move || format!(in alloc; "column {column}")));
+    let lazy = Lazy(move || format!(in alloc; "column {column}"));
+    add_name("row".name(lazy), &mut text)?;
     assert_eq!(rt;
-        name.evaluate()?.to_string(alloc)?.as_str(),
-        "row::column 4"
+        text.as_str(),
+        "[outer::mid::leaf][::][z::[12]][row::column 4]"
     );
     Ok(())
 }
