@@ -61,7 +61,7 @@ fn assert_arrays<AB: AirBuilder>(
     ones: [AB::Expr; 2],
 ) -> Result<(), AirError>
     requires ready { (b : AB) → AB.ready b }
-    requires of_ring { (r : AB.Ring) (x : AB.Expr) → AB.Ring.has r x }
+    requires of_ring { (r : AB.Ring) (e : AB.Expr) → AB.Ring.has r e }
 {
     builder.assert_zeros(zeros)?;
     builder.assert_bools(bits)?;
@@ -76,8 +76,8 @@ fn assert_named_arrays<AB: NamedExtensionBuilder>(
     roots: [AB::ExprEF; 2],
 ) -> Result<(), AirError>
     requires ready { (b : AB) → AB.ready b }
-    requires of_ring { (r : AB.Ring) (x : AB.Expr) → AB.Ring.has r x }
-    requires of_ext_ring { (r : AB.ExtRing) (x : AB.ExprEF) → AB.ExtRing.has r x }
+    requires of_ring { (r : AB.Ring) (e : AB.Expr) → AB.Ring.has r e }
+    requires of_ext_ring { (r : AB.ExtRing) (e : AB.ExprEF) → AB.ExtRing.has r e }
 {
     builder.assert_zeros_named(zeros, "zeros")?;
     builder.assert_bools_named(bits, "bits")?;
@@ -93,8 +93,8 @@ fn assert_all_arrays<AB: NamedExtensionBuilder>(
     roots: [AB::ExprEF; 2],
 ) -> Result<(), AirError>
     requires ready { (b : AB) → AB.ready b }
-    requires of_ring { (r : AB.Ring) (x : AB.Expr) → AB.Ring.has r x }
-    requires of_ext_ring { (r : AB.ExtRing) (x : AB.ExprEF) → AB.ExtRing.has r x }
+    requires of_ring { (r : AB.Ring) (e : AB.Expr) → AB.Ring.has r e }
+    requires of_ext_ring { (r : AB.ExtRing) (e : AB.ExprEF) → AB.ExtRing.has r e }
 {
     assert_arrays(builder, zeros, bits, ones)?;
     assert_named_arrays(builder, zeros, bits, roots)
@@ -136,8 +136,8 @@ fn counts_asked<AB: NamedExtensionBuilder>(
     root: AB::ExprEF,
 ) -> Result<[u32; 3], AirError>
     requires ready { (b : AB) → AB.ready b }
-    requires of_ring { (r : AB.Ring) (x : AB.Expr) → AB.Ring.has r x }
-    requires of_ext_ring { (r : AB.ExtRing) (x : AB.ExprEF) → AB.ExtRing.has r x }
+    requires of_ring { (r : AB.Ring) (e : AB.Expr) → AB.Ring.has r e }
+    requires of_ext_ring { (r : AB.ExtRing) (e : AB.ExprEF) → AB.ExtRing.has r e }
 {
     let asked = Cell::new(0u32);
     zero_asking(builder, zero, &asked)?;
@@ -186,7 +186,7 @@ fn ones_asking<AB: NamedAirBuilder>(
     asked: &Cell<u32>,
 ) -> Result<(), AirError>
     requires ready { (b : AB) → AB.ready b }
-    requires of_ring { (r : AB.Ring) (x : AB.Expr) → AB.Ring.has r x }
+    requires of_ring { (r : AB.Ring) (e : AB.Expr) → AB.Ring.has r e }
 {
     one_asking(builder, one, asked)?;
     builder.assert_eq_named(one, one, Asking(asked))?;
@@ -201,7 +201,7 @@ fn batches_asking<AB: NamedAirBuilder>(
     asked: &Cell<u32>,
 ) -> Result<(), AirError>
     requires ready { (b : AB) → AB.ready b }
-    requires of_ring { (r : AB.Ring) (x : AB.Expr) → AB.Ring.has r x }
+    requires of_ring { (r : AB.Ring) (e : AB.Expr) → AB.Ring.has r e }
 {
     builder.assert_zeros_named_slice(zeros, Asking(asked))?;
     builder.assert_bools_named_slice(ones, Asking(asked))
@@ -215,7 +215,7 @@ fn ext_asking<AB: NamedExtensionBuilder>(
     asked: &Cell<u32>,
 ) -> Result<(), AirError>
     requires ready { (b : AB) → AB.ready b }
-    requires of_ext_ring { (r : AB.ExtRing) (x : AB.ExprEF) → AB.ExtRing.has r x }
+    requires of_ext_ring { (r : AB.ExtRing) (e : AB.ExprEF) → AB.ExtRing.has r e }
 {
     builder.assert_one_ext_named(one, Asking(asked))?;
     builder.assert_eq_ext_named(x, x, Asking(asked))
@@ -232,8 +232,8 @@ fn assert_what_holds<AB: NamedExtensionBuilder>(
     asked: &Cell<u32>,
 ) -> Result<(), AirError>
     requires ready { (b : AB) → AB.ready b }
-    requires of_ring { (r : AB.Ring) (x : AB.Expr) → AB.Ring.has r x }
-    requires of_ext_ring { (r : AB.ExtRing) (x : AB.ExprEF) → AB.ExtRing.has r x }
+    requires of_ring { (r : AB.Ring) (e : AB.Expr) → AB.Ring.has r e }
+    requires of_ext_ring { (r : AB.ExtRing) (e : AB.ExprEF) → AB.ExtRing.has r e }
 {
     ones_asking(builder, one, asked)?;
     batches_asking(builder, zeros, ones, asked)?;

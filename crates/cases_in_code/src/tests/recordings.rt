@@ -110,8 +110,8 @@ fn two_asking<AB: NamedExtensionBuilder>(
     asked: &Cell<u32>,
 ) -> Result<(), AirError>
     requires ready { (b : AB) → AB.ready b }
-    requires of_ring { (r : AB.Ring) (x : AB.Expr) → AB.Ring.has r x }
-    requires of_ext_ring { (r : AB.ExtRing) (x : AB.ExprEF) → AB.ExtRing.has r x }
+    requires of_ring { (r : AB.Ring) (e : AB.Expr) → AB.Ring.has r e }
+    requires of_ext_ring { (r : AB.ExtRing) (e : AB.ExprEF) → AB.ExtRing.has r e }
 {
     zero_asking(builder, x, asked)?;
     zero_ext_asking(builder, y, asked)
@@ -126,8 +126,8 @@ fn two_under<AB: ExtensionBuilder>(
     y: AB::ExprEF,
 ) -> Result<(), AirError>
     requires ready { (b : AB) → AB.ready b }
-    requires of_ring { (r : AB.Ring) (x : AB.Expr) → AB.Ring.has r x }
-    requires of_ext_ring { (r : AB.ExtRing) (x : AB.ExprEF) → AB.ExtRing.has r x }
+    requires of_ring { (r : AB.Ring) (e : AB.Expr) → AB.Ring.has r e }
+    requires of_ext_ring { (r : AB.ExtRing) (e : AB.ExprEF) → AB.ExtRing.has r e }
 {
     assert_under(builder, condition, x)?;
     assert_ext_under(builder, ext_condition, y)
