@@ -100,7 +100,18 @@ fn assert_all_arrays<AB: NamedExtensionBuilder>(
     assert_named_arrays(builder, zeros, bits, roots)
 }
 
-// What fails of them at a row.
+// Both at a row.
+fn assert_arrays_at_row<F: Field + 'static, EF: ExtensionField<F> + 'static>(
+    builder: &mut Row<'_, F, EF>,
+    zeros: [F; 2],
+    bits: [F; 2],
+    ones: [F; 2],
+    roots: [EF; 2],
+) -> Result<(), AirError> {
+    assert_all_arrays(builder, zeros, bits, ones, roots)
+}
+
+// What fails of them there.
 fn failures_of_arrays<F: Field + 'static, EF: ExtensionField<F> + 'static>(
     alloc: Global,
     zeros: [F; 2],
@@ -109,7 +120,7 @@ fn failures_of_arrays<F: Field + 'static, EF: ExtensionField<F> + 'static>(
     roots: [EF; 2],
 ) -> Result<String, AirError> {
     let mut builder: Row<'_, F, EF> = row(alloc);
-    assert_all_arrays(&mut builder, zeros, bits, ones, roots)?;
+    assert_arrays_at_row(&mut builder, zeros, bits, ones, roots)?;
     builder.formatted_failures()
 }
 
@@ -149,13 +160,21 @@ fn counts_asked<AB: NamedExtensionBuilder>(
     Ok([passing, failing, asked.get()])
 }
 
-// The same at a row, and what failed.
+// The same at a row.
+fn counts_asked_at_row<F: Field + 'static, EF: ExtensionField<F> + 'static>(
+    builder: &mut Row<'_, F, EF>,
+    root: EF,
+) -> Result<[u32; 3], AirError> {
+    counts_asked(builder, F::ZERO, F::ONE, EF::zero(), root)
+}
+
+// The same, and what failed.
 fn counts_and_failures<F: Field + 'static, EF: ExtensionField<F> + 'static>(
     alloc: Global,
     root: EF,
 ) -> Result<([u32; 3], String), AirError> {
     let mut builder: Row<'_, F, EF> = row(alloc);
-    let counts = counts_asked(&mut builder, F::ZERO, F::ONE, EF::zero(), root)?;
+    let counts = counts_asked_at_row(&mut builder, root)?;
     Ok((counts, builder.formatted_failures()?))
 }
 
@@ -167,18 +186,6 @@ fn a_passing_assertion_asks_for_no_label(rt: HostRuntime) -> Result<(), Fail> {
     Ok(())
 }
 
-// Asserts under a name that an element is one.
-fn one_asking<AB: NamedAirBuilder>(
-    builder: &mut AB,
-    x: AB::Expr,
-    asked: &Cell<u32>,
-) -> Result<(), AirError>
-    requires ready { AB.ready builder.old }
-    requires of_ring { AB.Ring.has (AB.ring_of builder.old) x }
-{
-    builder.assert_one_named(x, Asking(asked))
-}
-
 // Asserts under names what holds of one.
 fn ones_asking<AB: NamedAirBuilder>(
     builder: &mut AB,
@@ -188,7 +195,7 @@ fn ones_asking<AB: NamedAirBuilder>(
     requires ready { (b : AB) → AB.ready b }
     requires of_ring { (r : AB.Ring) (e : AB.Expr) → AB.Ring.has r e }
 {
-    one_asking(builder, one, asked)?;
+    builder.assert_one_named(one, Asking(asked))?;
     builder.assert_eq_named(one, one, Asking(asked))?;
     builder.assert_bool_named(one, Asking(asked))
 }
@@ -240,6 +247,37 @@ fn assert_what_holds<AB: NamedExtensionBuilder>(
     ext_asking(builder, one_ext, x, asked)
 }
 
+// All of these at a row.
+fn assert_what_holds_at_row<F: Field + 'static, EF: ExtensionField<F> + 'static>(
+    builder: &mut Row<'_, F, EF>,
+    zeros: &[F],
+    ones: &[F],
+    x: EF,
+    asked: &Cell<u32>,
+) -> Result<(), AirError> {
+    assert_what_holds(builder, F::ONE, zeros, ones, EF::one(), x, asked)
+}
+
+// Asserts under a name that an element is one.
+fn one_asking<AB: NamedExtensionBuilder>(
+    builder: &mut AB,
+    x: AB::Expr,
+    asked: &Cell<u32>,
+) -> Result<(), AirError>
+    requires ready { AB.ready builder.old }
+    requires of_ring { AB.Ring.has (AB.ring_of builder.old) x }
+{
+    builder.assert_one_named(x, Asking(asked))
+}
+
+// Asserts so at a row that zero is one, which fails.
+fn assert_what_fails_at_row<F: Field + 'static, EF: ExtensionField<F> + 'static>(
+    builder: &mut Row<'_, F, EF>,
+    asked: &Cell<u32>,
+) -> Result<(), AirError> {
+    one_asking(builder, F::ZERO, asked)
+}
+
 // Whether what holds failed at a row, and what the counter says then; and after one more assertion, which fails, what
 // the counter says and what failed.
 fn what_holds_and_one_more<F: Field + 'static, EF: ExtensionField<F> + 'static>(
@@ -250,9 +288,9 @@ fn what_holds_and_one_more<F: Field + 'static, EF: ExtensionField<F> + 'static>(
 ) -> Result<(bool, u32, u32, String), AirError> {
     let asked = Cell::new(0u32);
     let mut builder: Row<'_, F, EF> = row(alloc);
-    assert_what_holds(&mut builder, F::ONE, zeros, ones, EF::one(), x, &asked)?;
+    assert_what_holds_at_row(&mut builder, zeros, ones, x, &asked)?;
     let (failed, holding) = (builder.has_failures(), asked.get());
-    one_asking(&mut builder, F::ZERO, &asked)?;
+    assert_what_fails_at_row(&mut builder, &asked)?;
     Ok((failed, holding, asked.get(), builder.formatted_failures()?))
 }
 
@@ -293,19 +331,27 @@ fn context_texts<C: Copy + Debug, AB: AirBuilderWithContext<EvalContext = C>>(
     Ok(format!(in alloc; "{own:?} {handed_on:?}")?)
 }
 
-// Those at a row.
-fn contexts_at_row<F: Field + 'static, EF: ExtensionField<F> + 'static>(
+// Those that a builder at a row and a filter on it hand on.
+fn context_texts_at_row<F: Field + 'static, EF: ExtensionField<F> + 'static>(
+    alloc: Global,
+    builder: &mut Row<'_, F, EF>,
+) -> Result<String, Fail> {
+    context_texts(alloc, builder, F::TWO)
+}
+
+// The same of a builder without permutation data.
+fn contexts_of_row<F: Field + 'static, EF: ExtensionField<F> + 'static>(
     alloc: Global,
 ) -> Result<String, Fail> {
     let mut builder: Row<'_, F, EF> = row(alloc);
-    context_texts(alloc, &mut builder, F::TWO)
+    context_texts_at_row(alloc, &mut builder)
 }
 
 #[test]
 fn a_builder_at_a_row_and_a_filter_on_it_have_the_empty_context(
     rt: HostRuntime,
 ) -> Result<(), Fail> {
-    let contexts = contexts_at_row::<BabyBear, Element>(rt.alloc())?;
+    let contexts = contexts_of_row::<BabyBear, Element>(rt.alloc())?;
     assert_eq!(rt; contexts.as_str(), "() ()");
     Ok(())
 }
@@ -329,11 +375,18 @@ where
 
 // The same at a row.
 fn lent_at_row<F: Field + 'static, EF: ExtensionField<F> + 'static>(
+    builder: &mut Row<'_, F, EF>,
+) -> Result<(Option<EF>, Option<EF>), AirError> {
+    lent_by_filter(builder, F::TWO)
+}
+
+// The same of these permutation data.
+fn lent_of_rows<F: Field + 'static, EF: ExtensionField<F> + 'static>(
     alloc: Global,
     rows: ViewPair<'_, EF>,
 ) -> Result<(Option<EF>, Option<EF>), AirError> {
     let mut builder: Row<'_, F, EF> = row_with(alloc, rows);
-    lent_by_filter(&mut builder, F::TWO)
+    lent_at_row(&mut builder)
 }
 
 #[test]
@@ -344,7 +397,7 @@ fn a_filter_hands_on_the_permutation_data(rt: HostRuntime) -> Result<(), Fail> {
         RowMajorMatrixView::new_row(&current),
         RowMajorMatrixView::new_row(&next),
     );
-    let (here, after) = lent_at_row::<BabyBear, Element>(rt.alloc(), rows)?;
+    let (here, after) = lent_of_rows::<BabyBear, Element>(rt.alloc(), rows)?;
     assert_eq!(rt; here, Some(root_times(2)));
     assert_eq!(rt; after, Some(root_times(3)));
     Ok(())

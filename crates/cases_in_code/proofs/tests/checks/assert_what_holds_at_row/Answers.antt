@@ -1,5 +1,5 @@
 use contract.BorrowLft.{⊑_static}
-use Rattle.cases_in_code.proofs.tests.checks.what_holds_and_one_more.Goals as goal
+use Rattle.cases_in_code.proofs.tests.checks.assert_what_holds_at_row.Goals as goal
 
 -- the extension lives for ever
 pub assert_what_holds-requires-lives-AB-NamedExtensionBuilder-2 : goal.assert_what_holds-requires-lives-AB-NamedExtensionBuilder-2
@@ -13,9 +13,3 @@ assert_what_holds-requires-lives-AB-AirBuilder-2 g c κs within = λ a m. ⊑_st
 
 pub assert_what_holds-requires-lives-AB-NamedAirBuilder-2 : goal.assert_what_holds-requires-lives-AB-NamedAirBuilder-2
 assert_what_holds-requires-lives-AB-NamedAirBuilder-2 g c κs within = λ a m. ⊑_static _ a (c.type_bounds.static-EF a m)
-
-pub one_asking-requires-lives-AB-NamedAirBuilder-2 : goal.one_asking-requires-lives-AB-NamedAirBuilder-2
-one_asking-requires-lives-AB-NamedAirBuilder-2 g c κs within = λ a m. ⊑_static _ a (c.type_bounds.static-EF a m)
-
-pub one_asking-requires-lives-AB-AirBuilder-2 : goal.one_asking-requires-lives-AB-AirBuilder-2
-one_asking-requires-lives-AB-AirBuilder-2 g c κs within = λ a m. ⊑_static _ a (c.type_bounds.static-EF a m)

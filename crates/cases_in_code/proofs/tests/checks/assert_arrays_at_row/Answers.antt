@@ -1,5 +1,5 @@
 use contract.BorrowLft.{⊑_static}
-use Rattle.cases_in_code.proofs.tests.checks.failures_of_arrays.Goals as goal
+use Rattle.cases_in_code.proofs.tests.checks.assert_arrays_at_row.Goals as goal
 
 -- the extension lives for ever
 pub assert_all_arrays-requires-lives-AB-NamedExtensionBuilder-2 : goal.assert_all_arrays-requires-lives-AB-NamedExtensionBuilder-2

@@ -1,5 +1,5 @@
 use contract.BorrowLft.{⊑_static}
-use Rattle.cases_in_code.proofs.tests.checks.counts_and_failures.Goals as goal
+use Rattle.cases_in_code.proofs.tests.checks.counts_asked_at_row.Goals as goal
 
 -- the extension lives for ever
 pub counts_asked-requires-lives-AB-NamedExtensionBuilder-2 : goal.counts_asked-requires-lives-AB-NamedExtensionBuilder-2
