@@ -2,5 +2,7 @@
 mod builders;
 mod checks;
 mod labels;
+mod lent;
 mod recordings;
+mod rows;
 mod streams;

@@ -1,57 +1,16 @@
-//! What a builder at a row does: batches as arrays, names that are asked for only where an assertion fails, and what it
-//! lends, also by a filter. The assertions stand in functions over any builder that is always ready and whose rings
-//! have every element, and the builder is made over any fields: at given ones each call is dear to prove.
-ghost use Rattle.std.specs.Prelude.{◌≡◌, IfOk};
+//! What fails at a row: batches as arrays, and names that are asked for only where an assertion fails. The assertions
+//! stand in functions over any builder that is always ready and whose rings have every element, and the builder is made
+//! over any fields: at given ones each call is dear to prove.
 
 use crate::tests::labels::{Asking, zero_asking, zero_ext_asking};
+use crate::tests::rows::{Element, Row, root_times, row};
 use p3_air::{
-    AirBuilder, AirBuilderWithContext, AirError, Algebra, AssertAll, AssertAllExt, AssertAllNamed,
-    BabyBear, BinomialExtensionField, DebugConstraintBuilder, ExtensionBuilder, ExtensionField,
-    Field, FromVar, NamedAirBuilder, NamedExtensionBuilder, PermutationAirBuilder,
-    RowMajorMatrixView, ViewPair, WindowAccess,
+    AirBuilder, AirError, Algebra, AssertAll, AssertAllExt, AssertAllNamed, BabyBear,
+    ExtensionBuilder, ExtensionField, Field, NamedAirBuilder, NamedExtensionBuilder,
 };
 use std::alloc::Global;
 use std::cell::Cell;
-use std::fmt::Debug;
 use std::test::Fail;
-
-type Element = BinomialExtensionField;
-
-type Row<'a, F, EF> = DebugConstraintBuilder<'a, F, EF>;
-
-// A builder at row 7 of a trace without columns, with these permutation data.
-fn row_with<'a, F: Field, EF: ExtensionField<F>>(
-    alloc: Global,
-    permutation: ViewPair<'a, EF>,
-) -> Row<'a, F, EF> {
-    let none = RowMajorMatrixView::new_row(&[]);
-    let rows = ViewPair::new(none, none);
-    DebugConstraintBuilder::new_with_permutation(
-        alloc,
-        7,
-        rows,
-        rows,
-        &[],
-        F::ZERO,
-        F::ZERO,
-        F::ONE,
-        permutation,
-        &[],
-        &[],
-        Vec::new(alloc),
-    )
-}
-
-// The same without permutation data.
-fn row<'a, F: Field, EF: ExtensionField<F>>(alloc: Global) -> Row<'a, F, EF> {
-    let none = RowMajorMatrixView::new_row(&[]);
-    row_with(alloc, ViewPair::new(none, none))
-}
-
-// So many times the root of the extension.
-fn root_times(x: u32) -> Element {
-    Element::from_basis_coefficients(&[0, x, 0, 0].map(BabyBear::new))
-}
 
 // Asserts arrays. (They are handed on: one of a builder's elements can be made where their type is known.)
 fn assert_arrays<AB: AirBuilder>(
@@ -306,99 +265,5 @@ fn what_holds_asks_for_no_label(rt: HostRuntime) -> Result<(), Fail> {
     assert_eq!(rt; failed, false);
     assert_eq!(rt; [holding, failing], [0, 1]);
     assert_eq!(rt; failures.as_str(), "[#7 \"asked\"]");
-    Ok(())
-}
-
-// The context of a filter on a builder is the builder's own, by contract.
-fn context_of_filter<C: Copy, AB: AirBuilderWithContext<EvalContext = C>>(
-    builder: &mut AB,
-    condition: AB::Expr,
-) -> Result<C, AirError>
-    ensures { IfOk result (λ c. c ≡ AB.context builder.old) }
-{
-    let filter = builder.when(condition)?;
-    Ok(*filter.eval_context())
-}
-
-// The contexts that a builder and a filter on it hand on, as a text.
-fn context_texts<C: Copy + Debug, AB: AirBuilderWithContext<EvalContext = C>>(
-    alloc: Global,
-    builder: &mut AB,
-    condition: AB::Expr,
-) -> Result<String, Fail> {
-    let own = *builder.eval_context();
-    let handed_on = context_of_filter(builder, condition)?;
-    Ok(format!(in alloc; "{own:?} {handed_on:?}")?)
-}
-
-// Those that a builder at a row and a filter on it hand on.
-fn context_texts_at_row<F: Field + 'static, EF: ExtensionField<F> + 'static>(
-    alloc: Global,
-    builder: &mut Row<'_, F, EF>,
-) -> Result<String, Fail> {
-    context_texts(alloc, builder, F::TWO)
-}
-
-// The same of a builder without permutation data.
-fn contexts_of_row<F: Field + 'static, EF: ExtensionField<F> + 'static>(
-    alloc: Global,
-) -> Result<String, Fail> {
-    let mut builder: Row<'_, F, EF> = row(alloc);
-    context_texts_at_row(alloc, &mut builder)
-}
-
-#[test]
-fn a_builder_at_a_row_and_a_filter_on_it_have_the_empty_context(
-    rt: HostRuntime,
-) -> Result<(), Fail> {
-    let contexts = contexts_of_row::<BabyBear, Element>(rt.alloc())?;
-    assert_eq!(rt; contexts.as_str(), "() ()");
-    Ok(())
-}
-
-// What a filter lends of permutation data: column 1 of the window's current row, and the next row's variable in column
-// 0.
-fn lent_by_filter<AB: PermutationAirBuilder>(
-    builder: &mut AB,
-    condition: AB::Expr,
-) -> Result<(Option<AB::VarEF>, Option<AB::VarEF>), AirError>
-where
-    AB::ExtRing: FromVar<AB::F, AB::RandomVar> + FromVar<AB::F, AB::PermutationVar>,
-    requires ready { AB.ready builder.old }
-    requires condition_in { AB.Ring.has (AB.ring_of builder.old) condition }
-{
-    let filter = builder.when(condition)?;
-    let current = filter.permutation()?.current(1);
-    let next = filter.permutation_variable(1, 0)?;
-    Ok((current, next))
-}
-
-// The same at a row.
-fn lent_at_row<F: Field + 'static, EF: ExtensionField<F> + 'static>(
-    builder: &mut Row<'_, F, EF>,
-) -> Result<(Option<EF>, Option<EF>), AirError> {
-    lent_by_filter(builder, F::TWO)
-}
-
-// The same of these permutation data.
-fn lent_of_rows<F: Field + 'static, EF: ExtensionField<F> + 'static>(
-    alloc: Global,
-    rows: ViewPair<'_, EF>,
-) -> Result<(Option<EF>, Option<EF>), AirError> {
-    let mut builder: Row<'_, F, EF> = row_with(alloc, rows);
-    lent_at_row(&mut builder)
-}
-
-#[test]
-fn a_filter_hands_on_the_permutation_data(rt: HostRuntime) -> Result<(), Fail> {
-    let current = [root_times(1), root_times(2)];
-    let next = [root_times(3), root_times(4)];
-    let rows = ViewPair::new(
-        RowMajorMatrixView::new_row(&current),
-        RowMajorMatrixView::new_row(&next),
-    );
-    let (here, after) = lent_of_rows::<BabyBear, Element>(rt.alloc(), rows)?;
-    assert_eq!(rt; here, Some(root_times(2)));
-    assert_eq!(rt; after, Some(root_times(3)));
     Ok(())
 }

@@ -1,5 +1,5 @@
 use contract.BorrowLft.{⊑_static}
-use Rattle.cases_in_code.proofs.tests.checks.lent_at_row.Goals as goal
+use Rattle.cases_in_code.proofs.tests.lent.lent_at_row.Goals as goal
 
 -- the extension lives for ever
 pub lent_by_filter-requires-lives-AB-PermutationAirBuilder-2 : goal.lent_by_filter-requires-lives-AB-PermutationAirBuilder-2

@@ -1,5 +1,5 @@
 use contract.BorrowLft.{⊑_static}
-use Rattle.cases_in_code.proofs.tests.checks.context_texts_at_row.Goals as goal
+use Rattle.cases_in_code.proofs.tests.lent.context_texts_at_row.Goals as goal
 
 -- the extension lives for ever
 pub context_texts-requires-lives-AB-AirBuilderWithContext-2 : goal.context_texts-requires-lives-AB-AirBuilderWithContext-2
