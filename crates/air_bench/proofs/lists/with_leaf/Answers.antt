@@ -1,5 +1,5 @@
 use Rattle.air_bench.proofs.Growing.{last_four}
 use Rattle.air_bench.proofs.lists.with_leaf.Goals as goal
 
-pub invariant_of-result : goal.invariant_of-result
-invariant_of-result c = record { roots_in = last_four c.leaf-2.ensures.grown c.args.sums.roots_in c.in_ok-z.ensures.made.here }
+pub moved_up-requires : goal.moved_up-requires
+moved_up-requires g c = last_four c.leaf-2.ensures.grown c.args.sums.roots_in c.in_ok-z.ensures.made.here
