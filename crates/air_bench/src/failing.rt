@@ -4,12 +4,13 @@ ghost use Rattle.air_field.specs.Term.{leaf_term, main};
 ghost use Rattle.air_builder.specs.Assertion.{Base};
 ghost use Rattle.air_bench.specs.More.{zeros};
 
+use crate::checks::check_rounds;
 use crate::traces::constant_trace;
 use p3_air::author::{
     All, Condition, Constraint, Current, Family, Plain, PlainAir, PlainConstraints, Zero,
     assert_all,
 };
-use p3_air::{AirBuilder, AirError, BabyBear, Field, RowMajorMatrix, check_all_constraints};
+use p3_air::{AirBuilder, AirError, Field};
 use std::alloc::Global;
 
 /// Column 0 is zero, so many times.
@@ -51,23 +52,14 @@ impl<AB: AirBuilder> PlainConstraints<AB> for Zeros {
     }
 }
 
-// The failures that one check finds.
-fn failures(
-    alloc: Global,
-    air: &Plain<Zeros>,
-    main: &RowMajorMatrix<BabyBear>,
-) -> Result<usize, AirError> {
-    let report = check_all_constraints(alloc, air, main, &[], None)?;
-    Ok(report.failures.len())
-}
-
 /// The failures that so many checks of 128 constraints find on so many rows that fail each.
-pub fn check_failing(alloc: Global, rounds: usize, rows: usize) -> Result<usize, AirError> {
-    let main = constant_trace(alloc, BabyBear::ONE, 1, rows)?;
+pub fn check_failing<F: Field + 'static>(
+    alloc: Global,
+    rounds: usize,
+    rows: usize,
+) -> Result<usize, AirError> {
     let air = Plain(Zeros { count: 128 });
-    let mut count = 0usize;
-    for _ in 0..rounds {
-        count = count.wrapping_add(failures(alloc, &air, &main)?);
-    }
-    Ok(count)
+    let main = constant_trace(alloc, F::ONE, 1, rows)?;
+    let (failures, _) = check_rounds(alloc, &air, &main, &[], rounds)?;
+    Ok(failures)
 }

@@ -1,20 +1,20 @@
-//! Checks of an AIR of expressions and of one with periodic columns, and recordings over an extension.
+//! An AIR with periodic columns, to be checked, and one with permutation columns, to be recorded.
 ghost use Rattle.std.specs.Prelude.{◌≡◌, [], ◌∷◌, None};
 ghost use Rattle.air_field.specs.Term.{add_term, challenge, leaf_term, main, mul_term, periodic, permutation, sub_term};
 ghost use Rattle.air_builder.specs.Assertion.{Base, Extension};
 ghost use Rattle.air_bench.specs.More.{cycles, lookups, lookup_term};
 
-use crate::traces::{constant_trace, wide_trace};
-use crate::wide::Wide;
+use crate::checks::check_rounds;
+use crate::recordings::record_rounds_ext;
+use crate::traces::constant_trace;
 use p3_air::author::{
     All, Challenge, Condition, Constraint, Current, Difference, ExtZero, Family, Lifted, Periodic,
     PermutationCurrent, PermutationNext, Plain, PlainAir, PlainConstraints, Product, Sum, Zero,
     assert_all,
 };
 use p3_air::{
-    Air, AirBuilder, AirError, AirLayout, BabyBear, BaseAir, BinomialExtensionField,
-    BoundaryPublic, ExtensionField, Field, FlatAir, FromVar, PermutationAirBuilder, RowMajorMatrix,
-    check_all_constraints, get_all_symbolic_constraints, get_symbolic_constraints, recorded_air,
+    Air, AirBuilder, AirError, AirLayout, BaseAir, BoundaryPublic, ExtensionField, Field, FromVar,
+    PermutationAirBuilder, RowMajorMatrix,
 };
 use std::alloc::Global;
 
@@ -84,7 +84,8 @@ impl<AB: AirBuilder> Air<AB> for Cycles<AB::F> {
     }
 }
 
-/// Over 32 permutation columns: the sum of each and a challenge, times the main column, is the next of it.
+/// Over 32 permutation columns: the sum of each and a challenge, times the main column, is the next
+/// of it.
 #[derive(Clone, Copy, Drop)]
 pub struct Lookups {
     count: usize,
@@ -136,109 +137,36 @@ where
     }
 }
 
-/// The failures that a check finds, and the constraints of a row.
-fn counted(
+/// The failures that so many checks of the AIR with periodic columns find, and the constraints of a
+/// row.
+pub fn check_cycles<F: Field + 'static>(
     alloc: Global,
-    air: &FlatAir<BabyBear>,
-    main: &RowMajorMatrix<BabyBear>,
+    rounds: usize,
+    rows: usize,
 ) -> Result<usize, AirError> {
-    let report = check_all_constraints(alloc, air, main, &[], None)?;
-    Ok(
-        report
-            .failures
-            .len()
-            .wrapping_add(report.total_constraints_per_row),
-    )
-}
-
-/// The failures that a check finds, and the constraints of a row.
-fn counted_cycles(
-    alloc: Global,
-    air: &Cycles<BabyBear>,
-    main: &RowMajorMatrix<BabyBear>,
-) -> Result<usize, AirError> {
-    let report = check_all_constraints(alloc, air, main, &[], None)?;
-    Ok(
-        report
-            .failures
-            .len()
-            .wrapping_add(report.total_constraints_per_row),
-    )
-}
-
-/// The failures that so many checks of the recorded wide AIR find.
-pub fn check_flat(alloc: Global, rounds: usize, rows: usize) -> Result<usize, AirError> {
-    let wide = Plain(Wide { count: 64 });
-    let layout = AirLayout::from_air::<BabyBear, Plain<Wide>>(&wide);
-    let recorded = get_symbolic_constraints::<BabyBear, Plain<Wide>>(alloc, &wide, layout)?;
-    let air = recorded_air(recorded, 64, 0, Vec::new(alloc), Vec::new(alloc))?;
-    let main = wide_trace(alloc, rows)?;
-    let mut count = 0usize;
-    for _ in 0..rounds {
-        count = count.wrapping_add(counted(alloc, &air, &main)?);
-    }
-    Ok(count)
-}
-
-/// The failures that so many checks of the AIR with periodic columns find.
-pub fn check_cycles(alloc: Global, rounds: usize, rows: usize) -> Result<usize, AirError> {
     let mut columns = Vec::new(alloc);
     for _ in 0..8 {
-        let column = vec![in alloc; BabyBear::ZERO; 8].map_err(|_| AirError::Memory)?;
+        let column = vec![in alloc; F::ZERO; 8].map_err(|_| AirError::Memory)?;
         columns.push(column).map_err(|_| AirError::Memory)?;
     }
     let air = Cycles { columns };
-    let main = constant_trace(alloc, BabyBear::ONE, 8, rows)?;
-    let mut count = 0usize;
-    for _ in 0..rounds {
-        count = count.wrapping_add(counted_cycles(alloc, &air, &main)?);
-    }
-    Ok(count)
-}
-
-// How many constraints over the extension are recorded once. Over any fields: of the builder over two given ones the
-// checker compares more than its limit allows.
-fn recorded_lookups<F: Field, EF: ExtensionField<F>>(
-    alloc: Global,
-    air: &Plain<Lookups>,
-    layout: AirLayout,
-) -> Result<usize, AirError> {
-    let recorded = get_all_symbolic_constraints::<F, EF, Plain<Lookups>>(alloc, air, layout)?;
-    Ok(recorded.ext.len())
+    let main = constant_trace(alloc, F::ONE, 8, rows)?;
+    let (failures, constraints) = check_rounds(alloc, &air, &main, &[], rounds)?;
+    Ok(failures.wrapping_add(constraints))
 }
 
 /// The constraints over the extension that so many recordings record.
-pub fn record_lookups(alloc: Global, rounds: usize) -> Result<usize, AirError> {
+pub fn record_lookups<F: Field, EF: ExtensionField<F>>(
+    alloc: Global,
+    rounds: usize,
+) -> Result<usize, AirError> {
     let air = Plain(Lookups { count: 32 });
     let layout = AirLayout {
-        preprocessed_width: 0,
         main_width: 32,
-        num_public_values: 0,
         permutation_width: 32,
         num_permutation_challenges: 1,
-        num_permutation_values: 0,
-        num_periodic_columns: 0,
+        ..AirLayout::default()
     };
-    let mut count = 0usize;
-    for _ in 0..rounds {
-        let recorded = recorded_lookups::<BabyBear, BinomialExtensionField>(alloc, &air, layout)?;
-        count = count.wrapping_add(recorded);
-    }
-    Ok(count)
-}
-
-/// The constraints that so many recordings of the wide AIR with the extension record.
-pub fn record_wide_ext(alloc: Global, rounds: usize) -> Result<usize, AirError> {
-    let air = Plain(Wide { count: 64 });
-    let mut count = 0usize;
-    for _ in 0..rounds {
-        let layout = AirLayout::from_air::<BabyBear, Plain<Wide>>(&air);
-        let recorded = get_all_symbolic_constraints::<
-            BabyBear,
-            BinomialExtensionField,
-            Plain<Wide>,
-        >(alloc, &air, layout)?;
-        count = count.wrapping_add(recorded.base.len());
-    }
-    Ok(count)
+    let (_, ext) = record_rounds_ext::<F, EF, Plain<Lookups>>(alloc, &air, layout, rounds)?;
+    Ok(ext)
 }
