@@ -20,7 +20,6 @@ pub use Rattle.air_field.specs.Grid
 pub use Rattle.air_field.specs.Matrix
 pub use Rattle.air_field.specs.declared.errors.RingError
 pub use Rattle.air_field.specs.declared.errors.MatrixError
-
 -- entries, windows, boundary cells, periodic columns, names, refusals
 pub use Rattle.air_core.specs.Entries
 pub use Rattle.air_core.specs.ExtEntries
@@ -34,7 +33,6 @@ pub use Rattle.air_core.specs.declared.boundary.BoundaryPublic
 pub use Rattle.air_core.specs.declared.boundary.BoundaryEnd
 pub use Rattle.air_core.specs.declared.boundary.BoundaryIoError
 pub use Rattle.air_core.specs.declared.errors.AirError
-
 -- expressions, their pools, and lists of them
 pub use Rattle.air_symbolic.specs.Trees
 pub use Rattle.air_symbolic.specs.Nodes
@@ -70,7 +68,6 @@ pub use Rattle.air_wire.specs.ExtLeaves as ExtLeafSpellings
 pub use Rattle.air_wire.specs.Boundaries as BoundarySpellings
 pub use Rattle.air_wire.specs.WholeNumbers
 pub use Rattle.air_wire.specs.declared.errors.FlatError
-
 -- an AIR's declaration, and what its calls to a builder assert and refuse
 pub use Rattle.air_builder.specs.Assertion
 pub use Rattle.air_builder.specs.Notation
@@ -97,7 +94,6 @@ pub use Rattle.air_author.specs.Moved
 pub use Rattle.air_words.specs.BitTerms
 pub use Rattle.air_words.specs.WordTerms
 pub use Rattle.air_words.specs.XorTerms
-
 -- recordings, their layouts and degrees
 pub use Rattle.air_recording.specs.Recorded
 pub use Rattle.air_recording.specs.Kinds as ConstraintKinds
@@ -113,7 +109,6 @@ pub use Rattle.air_recording.specs.Bounds
 pub use Rattle.air_recording.specs.Spellings
 pub use Rattle.air_recording.specs.declared.layouts.air_layout.AirLayout
 pub use Rattle.air_recording.specs.declared.layouts.constraint_layout.ConstraintLayout
-
 -- checks and their reports
 pub use Rattle.air_report.specs.Given
 pub use Rattle.air_report.specs.Shapes
@@ -130,7 +125,6 @@ pub use Rattle.air_report.specs.declared.checks.check_first.CheckError
 pub use Rattle.air_report.specs.declared.checks.report.ConstraintReport
 pub use Rattle.air_report.specs.declared.debug.failure.ConstraintFailure
 pub use Rattle.air_laws.specs.Numbers
-
 -- an author's words in one place; the audit theorem; AIRs that are recorded or read from lists
 pub mod Author
 pub mod Claims

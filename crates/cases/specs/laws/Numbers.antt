@@ -1,5 +1,5 @@
 -- The values of a prime field's elements are numbers of them.
-use Rattle.std.proofs.Common.{◌≡◌, ℕ, ap, subst, ◌∙◌}
+use Rattle.std.proofs.Common.{◌≡◌, ◌<◌, ℕ, ap, subst, ◌∙◌}
 use Rattle.air_field.specs.Ring.{CommRing, image}
 use Rattle.air_field.specs.Modular.{Modular, modular_ring}
 use Rattle.air_field.specs.laws.Modular.{image-class, class_of}
