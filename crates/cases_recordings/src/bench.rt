@@ -6,36 +6,38 @@ use crate::folds::{Row, answer_hiding, row_of};
 use crate::kinds::{audited, audited_under_cap, by_base, by_extension, folded};
 use crate::layouts::{answer_layout, layout_of};
 use crate::lent::answer_lent;
-use air_field::{BabyBear, BinomialExtensionField};
+use air_field::{ExtensionField, Field};
 use air_recording::AirLayout;
-use cases::words::{count_of, listed_elements};
+use cases::words::{Number, count_of, listed_elements};
 use cases::{Bench, Fault, Line, Why};
 use cases_airs::words::{cap_of, trace_of};
 use cases_airs::{Airs, TableAir};
 use std::alloc::Global;
+use std::marker::PhantomData;
 
-type Element = BinomialExtensionField;
-
-/// The AIRs that lines have made.
+/// The AIRs that lines have made, over these fields. (The fields are named where the tables are checked and nowhere
+/// else: at given ones each call is dear to prove.)
 #[derive(Drop)]
-pub struct AirBench<'a> {
+pub struct AirBench<'a, F: Field, EF> {
     alloc: Global,
-    airs: Airs<'a, BabyBear>,
+    airs: Airs<'a, F>,
+    extension: PhantomData<EF>,
 }
 
 /// Calls that need no AIR.
 #[derive(Drop)]
-pub struct Alone {
+pub struct Alone<F, EF> {
     alloc: Global,
+    fields: PhantomData<(F, EF)>,
 }
 
 // What the words say of an audit, but the cap.
-fn given_of(
+fn given_of<F: Field>(
     alloc: Global,
     trace: &str,
     public: &str,
     weight: &str,
-) -> Result<Given<BabyBear>, Fault> {
+) -> Result<Given<F>, Fault> {
     Ok(Given {
         main: trace_of(alloc, trace)?,
         public_values: listed_elements(alloc, public)?,
@@ -44,24 +46,25 @@ fn given_of(
 }
 
 // The AIR's own layout, changed as the word says.
-fn layout_by(air: &TableAir<BabyBear>, word: &str) -> Result<AirLayout, Fault> {
-    layout_of(
-        AirLayout::from_air::<BabyBear, TableAir<BabyBear>>(air),
-        word,
-    )
+fn layout_by<F: Field>(air: &TableAir<F>, word: &str) -> Result<AirLayout, Fault> {
+    layout_of(AirLayout::from_air::<F, TableAir<F>>(air), word)
 }
 
 // Adds whether the layout suits the AIR.
-fn validated(air: &TableAir<BabyBear>, layout: AirLayout, text: &mut String) -> Result<(), Fault> {
-    layout.validate_against_air::<BabyBear, TableAir<BabyBear>>(air)?;
+fn validated<F: Field>(
+    air: &TableAir<F>,
+    layout: AirLayout,
+    text: &mut String,
+) -> Result<(), Fault> {
+    layout.validate_against_air::<F, TableAir<F>>(air)?;
     text.push_str("accepted")?;
     Ok(())
 }
 
 // Adds what a call answers of an AIR by a layout.
-fn answer_by(
+fn answer_by<F: Number + 'static, EF: ExtensionField<F> + 'static>(
     alloc: Global,
-    air: &TableAir<BabyBear>,
+    air: &TableAir<F>,
     layout: AirLayout,
     call: &str,
     words: &[&str],
@@ -69,26 +72,24 @@ fn answer_by(
 ) -> Result<(), Fault> {
     match (call, words) {
         ("fold_air", words) => {
-            let row: Row<Element> = row_of::<BabyBear, Element>(alloc, words)?;
-            folded::<BabyBear, Element>(alloc, air, layout, &row, text)
+            let row: Row<EF> = row_of::<F, EF>(alloc, words)?;
+            folded::<F, EF>(alloc, air, layout, &row, text)
         }
-        ("eval_when", [condition]) => {
-            show_when::<BabyBear, Element>(alloc, air, layout, *condition, text)
-        }
+        ("eval_when", [condition]) => { show_when::<F, EF>(alloc, air, layout, *condition, text) }
         ("validate_against_air", []) => validated(air, layout, text),
         ("layout", []) => {
             write!(text, "{layout:?}")?;
             Ok(())
         }
         _ if by_base(alloc, air, layout, call, words, text)? => Ok(()),
-        _ => by_extension::<BabyBear, Element>(alloc, air, layout, call, words, text),
+        _ => by_extension::<F, EF>(alloc, air, layout, call, words, text),
     }
 }
 
 // Adds what a call answers of an AIR.
-fn answer_of(
+fn answer_of<F: Number + 'static, EF: ExtensionField<F> + 'static>(
     alloc: Global,
-    air: &TableAir<BabyBear>,
+    air: &TableAir<F>,
     call: &str,
     words: &[&str],
     text: &mut String,
@@ -103,17 +104,18 @@ fn answer_of(
             audited_under_cap(alloc, air, &given, cap_of(*cap)?, text)
         }
         (_, [layout, words @ ..]) => {
-            answer_by(alloc, air, layout_by(air, *layout)?, call, words, text)
+            answer_by::<F, EF>(alloc, air, layout_by(air, *layout)?, call, words, text)
         }
         _ => Err(Fault::Unreadable(Why::NoSuchCall)),
     }
 }
 
-impl<'a> Bench<'a> for AirBench<'a> {
+impl<'a, F: Number + 'static, EF: ExtensionField<F> + 'static> Bench<'a> for AirBench<'a, F, EF> {
     fn new(alloc: Global) -> Self {
         AirBench {
             alloc,
             airs: Airs::new(alloc),
+            extension: PhantomData,
         }
     }
 
@@ -123,7 +125,7 @@ impl<'a> Bench<'a> for AirBench<'a> {
         }
         match line.words.as_slice() {
             [call, air, words @ ..] => {
-                answer_of(self.alloc, self.airs.air(*air)?, *call, words, text)
+                answer_of::<F, EF>(self.alloc, self.airs.air(*air)?, *call, words, text)
             }
             _ => Err(Fault::Unreadable(Why::NoSuchCall)),
         }
@@ -134,9 +136,12 @@ impl<'a> Bench<'a> for AirBench<'a> {
     }
 }
 
-impl<'a> Bench<'a> for Alone {
+impl<'a, F: Number, EF: ExtensionField<F>> Bench<'a> for Alone<F, EF> {
     fn new(alloc: Global) -> Self {
-        Alone { alloc }
+        Alone {
+            alloc,
+            fields: PhantomData,
+        }
     }
 
     fn answer(&mut self, line: &Line<'a>, text: &mut String) -> Result<(), Fault> {
@@ -145,8 +150,8 @@ impl<'a> Bench<'a> for Alone {
         if line.name.is_some() {
             return Err(Fault::Unreadable(Why::MakesNothing));
         }
-        if answer_layout(alloc, words, text)?
-            || answer_lent::<BabyBear, Element>(alloc, words, text)?
+        if answer_layout::<F, EF>(alloc, words, text)?
+            || answer_lent::<F, EF>(alloc, words, text)?
             || answer_hiding(alloc, words, text)?
         {
             return Ok(());

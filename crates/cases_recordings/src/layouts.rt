@@ -1,9 +1,11 @@
 //! Layouts of AIRs and of constraints, by themselves.
 
-use air_field::{BabyBear, BinomialExtensionField, ExtensionField, Field};
+use air_field::{ExtensionField, Field};
 use air_recording::{AirLayout, ConstraintLayout, constraint_degree_from_poly_degree};
 use air_wire::Spelled;
-use cases::words::{count_of, counts_of, elements_of, extension_of, show_elements, value_of};
+use cases::words::{
+    Number, count_of, counts_of, elements_of, extension_of, show_elements, value_of,
+};
 use cases::{Fault, Why};
 use std::alloc::Global;
 use std::fmt::Debug;
@@ -40,7 +42,7 @@ fn places_of(alloc: Global, base: &str, ext: &str) -> Result<ConstraintLayout, F
 }
 
 /// Adds the coefficients of elements, as `[[1 0 0 0] [0 1 0 0]]`.
-pub fn show_extensions<EF: ExtensionField<BabyBear>>(
+pub fn show_extensions<F: Number, EF: ExtensionField<F>>(
     elements: &[EF],
     text: &mut String,
 ) -> Result<(), Fault> {
@@ -56,13 +58,13 @@ pub fn show_extensions<EF: ExtensionField<BabyBear>>(
 }
 
 // Adds the coordinates of the base weights, a list for each element of the basis, and the whole weights.
-fn show_decomposed<EF: ExtensionField<BabyBear>>(
+fn show_decomposed<F: Number, EF: ExtensionField<F>>(
     alloc: Global,
     layout: &ConstraintLayout,
     alpha: EF,
     text: &mut String,
 ) -> Result<(), Fault> {
-    let (coordinates, powers) = layout.decompose_alpha::<BabyBear, EF>(alloc, alpha)?;
+    let (coordinates, powers) = layout.decompose_alpha::<F, EF>(alloc, alpha)?;
     text.push_str("[")?;
     for (place, list) in coordinates.iter().enumerate() {
         if place > 0 {
@@ -71,10 +73,10 @@ fn show_decomposed<EF: ExtensionField<BabyBear>>(
         show_elements(list.as_slice(), text)?;
     }
     text.push_str("] and ")?;
-    show_extensions(powers.as_slice(), text)
+    show_extensions::<F, EF>(powers.as_slice(), text)
 }
 
-fn decompose_alpha(
+fn decompose_alpha<F: Number, EF: ExtensionField<F>>(
     alloc: Global,
     layout: &ConstraintLayout,
     alpha: &[&str],
@@ -82,12 +84,12 @@ fn decompose_alpha(
 ) -> Result<(), Fault> {
     match alpha {
         [_] => {
-            let alpha: BabyBear = extension_of::<BabyBear, BabyBear>(alloc, alpha)?;
-            show_decomposed(alloc, layout, alpha, text)
+            let alpha = extension_of::<F, F>(alloc, alpha)?;
+            show_decomposed::<F, F>(alloc, layout, alpha, text)
         }
         _ => {
-            let alpha = extension_of::<BabyBear, BinomialExtensionField>(alloc, alpha)?;
-            show_decomposed(alloc, layout, alpha, text)
+            let alpha = extension_of::<F, EF>(alloc, alpha)?;
+            show_decomposed::<F, EF>(alloc, layout, alpha, text)
         }
     }
 }
@@ -105,22 +107,22 @@ fn weighted<F: Field>(weights: &[F], places: &[usize], values: &[F]) -> Result<F
 }
 
 // Adds the recombination of values by what an alpha of the base field decomposes to.
-fn show_recombined(
+fn show_recombined<F: Number>(
     alloc: Global,
     layout: &ConstraintLayout,
     alpha: &str,
     values: &[&str],
     text: &mut String,
 ) -> Result<(), Fault> {
-    let values = elements_of(alloc, values)?;
-    let alpha = extension_of::<BabyBear, BabyBear>(alloc, &[alpha])?;
-    let (coordinates, powers) = layout.decompose_alpha::<BabyBear, BabyBear>(alloc, alpha)?;
+    let values: Vec<F> = elements_of(alloc, values)?;
+    let alpha = extension_of::<F, F>(alloc, &[alpha])?;
+    let (coordinates, powers) = layout.decompose_alpha::<F, F>(alloc, alpha)?;
     let mut sum = weighted(powers.as_slice(), &layout.ext_indices, values.as_slice())?;
     for list in &coordinates {
         let more = weighted(list.as_slice(), &layout.base_indices, values.as_slice())?;
         sum = Field::add(sum, more);
     }
-    let number = sum.as_canonical_u64();
+    let number = sum.number();
     write!(text, "{number}")?;
     Ok(())
 }
@@ -142,7 +144,11 @@ fn show_spelt<S: Spelled + Debug + Drop>(
 }
 
 /// Adds what a call on a layout answers, if the line is one.
-pub fn answer_layout(alloc: Global, words: &[&str], text: &mut String) -> Result<bool, Fault> {
+pub fn answer_layout<F: Number, EF: ExtensionField<F>>(
+    alloc: Global,
+    words: &[&str],
+    text: &mut String,
+) -> Result<bool, Fault> {
     match words {
         ["default_layout"] => {
             let layout = AirLayout::default();
@@ -157,10 +163,10 @@ pub fn answer_layout(alloc: Global, words: &[&str], text: &mut String) -> Result
             write!(text, "{count}")?;
         }
         ["decompose_alpha", base, ext, alpha @ ..] => {
-            decompose_alpha(alloc, &places_of(alloc, *base, *ext)?, alpha, text)?
+            decompose_alpha::<F, EF>(alloc, &places_of(alloc, *base, *ext)?, alpha, text)?
         }
         ["recombination", base, ext, alpha, values @ ..] => {
-            show_recombined(alloc, &places_of(alloc, *base, *ext)?, *alpha, values, text)?
+            show_recombined::<F>(alloc, &places_of(alloc, *base, *ext)?, *alpha, values, text)?
         }
         ["constraint_degree_from_poly_degree", degree, rows] => {
             let (degree, rows) = (count_of(*degree)?, count_of(*rows)?);

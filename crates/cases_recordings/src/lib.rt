@@ -13,7 +13,10 @@ mod lent;
 mod recordings;
 
 use crate::bench::{AirBench, Alone};
+use air_field::{BabyBear, BinomialExtensionField};
 use cases::{Fault, Report, Table, Tables, Why, check_lines};
+
+type Element = BinomialExtensionField;
 
 /// The tables of this layer, by their heads.
 pub struct RecordingTables;
@@ -26,8 +29,8 @@ impl Tables for RecordingTables {
         report: &mut Report,
     ) -> Result<(), Fault> {
         match head {
-            "airs" => check_lines::<AirBench<'_>>(rt, table, report),
-            "calls without an AIR" => check_lines::<Alone>(rt, table, report),
+            "airs" => check_lines::<AirBench<'_, BabyBear, Element>>(rt, table, report),
+            "calls without an AIR" => check_lines::<Alone<BabyBear, Element>>(rt, table, report),
             _ => Err(Fault::Unreadable(Why::NoSuchTable)),
         }
     }
