@@ -4,6 +4,7 @@ use crate::checks::show_flat_check;
 use crate::fibonacci::{layout_of, show_recording, show_traced};
 use crate::flat_inputs::show_input;
 use crate::runs::show_run;
+use air_field::BabyBear;
 use cases::{Bench, Fault, Line, Names, Why};
 use std::alloc::Global;
 
@@ -48,7 +49,7 @@ impl<'a> Program<'a> {
                 table,
             ] => {
                 let layout = layout_of([*width, *values, *columns, *table])?;
-                show_recording(alloc, *call, layout, text)
+                show_recording::<BabyBear>(alloc, *call, layout, text)
             }
             _ => Err(Fault::Unreadable(Why::NoSuchCall)),
         }

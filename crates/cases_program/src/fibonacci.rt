@@ -2,7 +2,7 @@
 
 use crate::checks::{show_check, show_report};
 use air_fibonacci::Fibonacci;
-use air_field::{BabyBear, RowMajorMatrix};
+use air_field::{BabyBear, Field, RowMajorMatrix};
 use cases::words::{count_of, listed_elements};
 use cases::{Fault, Why};
 use p3_air::{
@@ -79,56 +79,60 @@ fn show_audit(
 }
 
 // Adds how many constraints of each kind there are.
-fn show_recorded(recorded: &Recorded<BabyBear, BabyBear>, text: &mut String) -> Result<(), Fault> {
+fn show_recorded<F: Field>(recorded: &Recorded<F, F>, text: &mut String) -> Result<(), Fault> {
     let base = recorded.base.len();
     let ext = recorded.ext.len();
     write!(text, "base {base} ext {ext}")?;
     Ok(())
 }
 
-/// Adds what a recording by a layout answers: its constraints, their places, or their degree on 4 rows.
-pub fn show_recording(
+// Adds the degree on 4 rows of what is recorded by a layout, by either call.
+fn show_degree<F: Field>(
     alloc: Global,
     call: &str,
     layout: AirLayout,
     text: &mut String,
 ) -> Result<(), Fault> {
     let air = Fibonacci::new();
-    match call {
-        "get_symbolic_constraints" => {
-            show_recorded(&get_symbolic_constraints(alloc, &air, layout)?, text)
-        }
-        "get_symbolic_constraints_extension" => {
-            show_recorded(
-                &get_symbolic_constraints_extension(alloc, &air, layout)?,
-                text,
-            )
-        }
-        "get_all_symbolic_constraints" => {
-            show_recorded(&get_all_symbolic_constraints(alloc, &air, layout)?, text)
-        }
-        "get_constraint_layout" => {
-            let places = get_constraint_layout::<BabyBear, BabyBear, Fibonacci>(
-                alloc, &air, layout,
-            )?;
-            show_layout(&places, text)
-        }
+    let degree = match call {
         "get_max_constraint_degree" => {
-            let degree = get_max_constraint_degree::<BabyBear, Fibonacci>(
-                alloc, &air, layout, 4, 0,
-            )?;
-            write!(text, "{degree}")?;
-            Ok(())
+            get_max_constraint_degree::<F, Fibonacci>(alloc, &air, layout, 4, 0)?
         }
         "get_max_constraint_degree_extension" => {
-            let degree = get_max_constraint_degree_extension::<BabyBear, BabyBear, Fibonacci>(
-                alloc, &air, layout, 4, 0,
-            )?;
-            write!(text, "{degree}")?;
-            Ok(())
+            get_max_constraint_degree_extension::<F, F, Fibonacci>(alloc, &air, layout, 4, 0)?
         }
-        _ => Err(Fault::Unreadable(Why::NoSuchCall)),
-    }
+        _ => return Err(Fault::Unreadable(Why::NoSuchCall)),
+    };
+    write!(text, "{degree}")?;
+    Ok(())
+}
+
+/// Adds what a recording by a layout answers: its constraints, their places, or their degree on 4 rows. (Over any
+/// field, since each call at a given one is dear to prove.)
+pub fn show_recording<F: Field>(
+    alloc: Global,
+    call: &str,
+    layout: AirLayout,
+    text: &mut String,
+) -> Result<(), Fault> {
+    let air = Fibonacci::new();
+    let recorded = match call {
+        "get_symbolic_constraints" => {
+            get_symbolic_constraints::<F, Fibonacci>(alloc, &air, layout)?
+        }
+        "get_symbolic_constraints_extension" => {
+            get_symbolic_constraints_extension::<F, F, Fibonacci>(alloc, &air, layout)?
+        }
+        "get_all_symbolic_constraints" => {
+            get_all_symbolic_constraints::<F, F, Fibonacci>(alloc, &air, layout)?
+        }
+        "get_constraint_layout" => {
+            let places = get_constraint_layout::<F, F, Fibonacci>(alloc, &air, layout)?;
+            return show_layout(&places, text);
+        }
+        _ => return show_degree::<F>(alloc, call, layout, text),
+    };
+    show_recorded(&recorded, text)
 }
 
 /// The layout of these counts.
