@@ -3,7 +3,8 @@ use Rattle.std.proofs.Common.{◌≡◌, ℕ, ◌+◌, ◌<◌, List, [], ◌∷
 use Rattle.std.proofs.Math.ListN.{length-append}
 use Rattle.std.proofs.lemmas.List.Elements.{All-cons}
 use Rattle.air_symbolic.specs.BaseLeaves.{base_reads}
-use Rattle.air_symbolic.specs.Pools.{Grown}
+use Rattle.air_symbolic.specs.ExtLeaves.{BaseNodes}
+use Rattle.air_symbolic.specs.Pools.{Grown, IsPool, size}
 use Rattle.air_symbolic.specs.declared.leaves.base_leaf.BaseLeaf.{BaseLeaf}
 use Rattle.air_symbolic.specs.declared.pools.expr.SymbolicExpr.{SymbolicExpr}
 use Rattle.p3_air.specs.FlatAirs.{RootsIn}
@@ -17,3 +18,12 @@ module _ {F : Type 0} {grows : Unit {0} → Unit {0} → Type 0} {p q : Unit {0}
     pool = g.pool old.pool;
     here = All-cons (λ i. i < length q.1) v (x ∷ y ∷ z ∷ []) (kept (old.here 1 0 (omega arith))) (All-cons (λ i. i < length q.1) x (y ∷ z ∷ []) (kept (old.here 2 0 (omega arith))) (All-cons (λ i. i < length q.1) y (z ∷ []) (kept (old.here 3 0 (omega arith))) (All-cons (λ i. i < length q.1) z [] h (λ k d b. absurd (omega (arith, b))))));
   }
+
+-- one node stands for all four
+pub one_node : {F : Type 0} (p : BaseNodes F) (y : ℕ) → IsPool base_reads p → y < size p → RootsIn p (y ∷ y ∷ y ∷ y ∷ [])
+one_node p y pool h =
+    let P : ℕ → Type 0 = λ i. i < size p in
+    record {
+      pool = pool;
+      here = All-cons P y (y ∷ y ∷ y ∷ []) h (All-cons P y (y ∷ y ∷ []) h (All-cons P y (y ∷ []) h (All-cons P y [] h (λ k d b. absurd (omega (arith, b))))));
+    }

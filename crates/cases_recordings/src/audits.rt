@@ -20,6 +20,8 @@ pub struct Given<F> {
     pub main: RowMajorMatrix<F>,
     pub public_values: Vec<F>,
     pub transition_weight: usize,
+    /// The cap, where the call takes one.
+    pub cap: Option<Option<usize>>,
 }
 
 // Adds each failure with its row, `none` of none.
@@ -51,31 +53,22 @@ fn show_audit<F: Number>(audit: &Audit<F>, text: &mut String) -> Result<(), Faul
     show_expressions(audit.recorded.pool.base(), &audit.recorded.base, text)
 }
 
-/// Adds what an audit finds.
+/// Adds what an audit finds, under the cap if there is one.
 pub fn answer_audit<
     'a,
     F: Number + 'static,
     A: BaseAir<F> + Air<Recorder<F, F>> + Air<RowBuilder<'a, F>>,
 >(alloc: Global, air: &'a A, given: &'a Given<F>, text: &mut String) -> Result<(), Fault> {
     let public = given.public_values.as_slice();
-    let audit = audit_air(alloc, air, &given.main, public, given.transition_weight)?;
-    show_audit(&audit, text)
-}
-
-/// Adds what an audit under a cap finds.
-pub fn answer_capped_audit<
-    'a,
-    F: Number + 'static,
-    A: BaseAir<F> + Air<Recorder<F, F>> + Air<RowBuilder<'a, F>>,
->(
-    alloc: Global,
-    air: &'a A,
-    given: &'a Given<F>,
-    cap: Option<usize>,
-    text: &mut String,
-) -> Result<(), Fault> {
-    let public = given.public_values.as_slice();
     let weight = given.transition_weight;
-    let audit = audit_air_with_cap(alloc, air, &given.main, public, cap, weight)?;
-    show_audit(&audit, text)
+    match given.cap {
+        None => {
+            let audit = audit_air(alloc, air, &given.main, public, weight)?;
+            show_audit(&audit, text)
+        }
+        Some(cap) => {
+            let audit = audit_air_with_cap(alloc, air, &given.main, public, cap, weight)?;
+            show_audit(&audit, text)
+        }
+    }
 }

@@ -3,7 +3,7 @@
 use crate::audits::Given;
 use crate::filters::show_when;
 use crate::folds::{Row, answer_hiding, row_of};
-use crate::kinds::{audited, audited_under_cap, by_base, by_extension, folded};
+use crate::kinds::{audited, by_base, by_extension, folded};
 use crate::layouts::{answer_layout, layout_of};
 use crate::lent::answer_lent;
 use air_field::{ExtensionField, Field};
@@ -31,17 +31,19 @@ pub struct Alone<F, EF> {
     fields: PhantomData<(F, EF)>,
 }
 
-// What the words say of an audit, but the cap.
+// What the words say of an audit.
 fn given_of<F: Field>(
     alloc: Global,
     trace: &str,
     public: &str,
     weight: &str,
+    cap: Option<Option<usize>>,
 ) -> Result<Given<F>, Fault> {
     Ok(Given {
         main: trace_of(alloc, trace)?,
         public_values: listed_elements(alloc, public)?,
         transition_weight: count_of(weight)?,
+        cap,
     })
 }
 
@@ -96,12 +98,13 @@ fn answer_of<F: Number + 'static, EF: ExtensionField<F> + 'static>(
 ) -> Result<(), Fault> {
     match (call, words) {
         ("audit_air", [trace, public, weight]) => {
-            let given = given_of(alloc, *trace, *public, *weight)?;
+            let given = given_of(alloc, *trace, *public, *weight, None)?;
             audited(alloc, air, &given, text)
         }
         ("audit_air_with_cap", [trace, public, cap, weight]) => {
-            let given = given_of(alloc, *trace, *public, *weight)?;
-            audited_under_cap(alloc, air, &given, cap_of(*cap)?, text)
+            let cap = cap_of(*cap)?;
+            let given = given_of(alloc, *trace, *public, *weight, Some(cap))?;
+            audited(alloc, air, &given, text)
         }
         (_, [layout, words @ ..]) => {
             answer_by::<F, EF>(alloc, air, layout_by(air, *layout)?, call, words, text)

@@ -1,7 +1,7 @@
 //! Calls on the AIRs of tables. Each is a function over any fields, and is called at the fields of the tables: where a
 //! call itself names both fields, comparing what the builder's traits ask with what it has passes the checker's limit.
 
-use crate::audits::{Given, answer_audit, answer_capped_audit};
+use crate::audits::{Given, answer_audit};
 use crate::folds::{Row, answer_fold};
 use crate::recordings::{answer_base, answer_extension};
 use air_field::ExtensionField;
@@ -54,15 +54,4 @@ pub fn audited<F: Number + 'static>(
     text: &mut String,
 ) -> Result<(), Fault> {
     answer_audit::<F, TableAir<F>>(alloc, air, given, text)
-}
-
-/// Adds what an audit under a cap finds.
-pub fn audited_under_cap<F: Number + 'static>(
-    alloc: Global,
-    air: &TableAir<F>,
-    given: &Given<F>,
-    cap: Option<usize>,
-    text: &mut String,
-) -> Result<(), Fault> {
-    answer_capped_audit::<F, TableAir<F>>(alloc, air, given, cap, text)
 }

@@ -1,5 +1,5 @@
 //! The variables and selectors that the symbolic builder lends, and what it records of assertions over the extension.
-ghost use Rattle.std.specs.Prelude.{[], IfOk};
+ghost use Rattle.std.specs.Prelude.{[]};
 
 use crate::expressions::{ShownVariable, show_expression, show_expressions};
 use crate::layouts::layout_of;
@@ -9,22 +9,11 @@ use air_builder::{
     WindowAccess,
 };
 use air_core::TwoRows;
-use air_field::{Algebra, ExtAlgebra, ExtensionField, Field};
+use air_field::{Algebra, ExtAlgebra, ExtensionField};
 use air_recording::{AirLayout, SymbolicAirBuilder};
 use cases::words::{Number, count_of, element_of, extension_of};
 use cases::{Fault, Why};
 use std::alloc::Global;
-
-// A builder that has recorded nothing.
-fn builder_of<F: Field, EF: ExtensionField<F>>(
-    alloc: Global,
-    layout: &str,
-) -> Result<Recorder<F, EF>, Fault>
-    ensures { IfOk result ⟦<SymbolicAirBuilder<F, EF> as AirBuilder>⟧.ready }
-{
-    let layout = layout_of(AirLayout::default(), layout)?;
-    Ok(SymbolicAirBuilder::new(alloc, layout)?)
-}
 
 // The element of a window's current or next row.
 fn at<T: Copy>(window: &TwoRows<T>, row: &str, column: &str) -> Result<Option<T>, Fault> {
@@ -239,7 +228,8 @@ pub fn answer_lent<F: Number, EF: ExtensionField<F>>(
     let ["builder", layout, words @ ..] = words else {
         return Ok(false);
     };
-    let mut builder = builder_of::<F, EF>(alloc, *layout)?;
+    let layout = layout_of(AirLayout::default(), *layout)?;
+    let mut builder: Recorder<F, EF> = SymbolicAirBuilder::new(alloc, layout)?;
     match words {
         ["assert_zero_ext_named", x @ ..] => show_named(alloc, &mut builder, x, text)?,
         ["when", condition, "assert_zero_ext", x @ ..] => {
