@@ -18,20 +18,20 @@
 //!
 //! Where that is Ok, and the report lists nothing, each constraint that `Counter` declares is zero at each row.
 //!
-//! To
-//! - write an AIR: [`author`], and [`utils`] for bits and words against the builder's calls; with tables beside the
-//!   trace, [`BaseAir`] and [`Air`];
-//! - make a trace: [`trace_of_rows`], [`with_bits`], [`word_with_bits`], [`RowMajorMatrix`];
-//! - check a trace: [`check_constraints`] up to the first fault, [`check_all_constraints`] to its end,
-//!   [`check_row_with_permutation`] a row with permutation data;
-//! - record an AIR: [`get_all_symbolic_constraints`], and [`recorded_air`] to make an AIR of a recording;
-//! - size the quotient: [`get_max_constraint_degree`], [`constraint_degree_from_poly_degree`];
-//! - do all three at once, so that what is recorded is what is tested: [`audit_air`];
-//! - take expressions from outside: [`symbolic`], [`to_flat_value`], [`from_flat_value`], [`FlatAir`], [`resolve`];
-//! - prove more of a trace that was checked: [`laws`].
+//! | to | call | its promise |
+//! |---|---|---|
+//! | write an AIR | [`author`], [`utils`], [`BaseAir`] | `eval` asserts just the declared list on each builder |
+//! | make a trace | [`trace_of_rows`], [`with_bits`], [`word_with_bits`] | the rows and numbers that were given |
+//! | check it | [`check_constraints`], [`check_all_constraints`] | the first fault; each row and constraint not zero |
+//! | check a row | [`check_row_with_permutation`] | each constraint that isn't zero there, the extension's too |
+//! | record an AIR | [`get_all_symbolic_constraints`] | of each constraint its polynomial, at no greater degree |
+//! | size the quotient | [`get_max_constraint_degree`] | a degree that bounds the polynomials of what is recorded |
+//! | audit | [`audit_air`] | all of this at once: what is recorded is what is tested |
+//! | fold | `fold_air`, of the crate air_folder | what is folded is what is recorded, by powers of alpha |
+//! | take an AIR in | [`symbolic`], [`from_flat_value`], [`FlatAir`] | what the list spells; its roots are to be zero |
+//! | prove more | [`laws`] | bits are the numbers that they pack; sums and xors of words are exact |
 //!
-//! Folding with a challenge is air_folder's. What users need of the crates below is passed on here. What differs at a
-//! call from the Rust crate is in `CALLING.md`.
+//! What users need of the crates below is passed on here. What differs at a call from Rust is in `CALLING.md`.
 #![tactic(auto)]
 
 pub mod audit;
