@@ -3,10 +3,10 @@
 //! over any fields: at given ones each call is dear to prove.
 
 use crate::tests::labels::{Asking, zero_asking, zero_ext_asking};
-use crate::tests::rows::{Element, Row, root_times, row};
+use crate::tests::rows::{Element, Row, no_rows, root_times, row_with};
 use p3_air::{
     AirBuilder, AirError, Algebra, AssertAll, AssertAllExt, AssertAllNamed, BabyBear,
-    ExtensionBuilder, ExtensionField, Field, NamedAirBuilder, NamedExtensionBuilder,
+    ExtensionBuilder, ExtensionField, Field, NamedAirBuilder, NamedExtensionBuilder, ViewPair,
 };
 use std::alloc::Global;
 use std::cell::Cell;
@@ -73,12 +73,13 @@ fn assert_arrays_at_row<F: Field + 'static, EF: ExtensionField<F> + 'static>(
 // What fails of them there.
 fn failures_of_arrays<F: Field + 'static, EF: ExtensionField<F> + 'static>(
     alloc: Global,
+    rows: ViewPair<'_, EF>,
     zeros: [F; 2],
     bits: [F; 2],
     ones: [F; 2],
     roots: [EF; 2],
 ) -> Result<String, AirError> {
-    let mut builder: Row<'_, F, EF> = row(alloc);
+    let mut builder: Row<'_, F, EF> = row_with(alloc, rows);
     assert_arrays_at_row(&mut builder, zeros, bits, ones, roots)?;
     builder.formatted_failures()
 }
@@ -88,7 +89,14 @@ fn failures_of_arrays<F: Field + 'static, EF: ExtensionField<F> + 'static>(
 fn arrays_are_batches(rt: HostRuntime) -> Result<(), Fail> {
     let [zero, one, two] = [0, 1, 2].map(BabyBear::new);
     let roots = [root_times(0), root_times(1)];
-    let failures = failures_of_arrays(rt.alloc(), [zero, two], [one, two], [one, one], roots)?;
+    let failures = failures_of_arrays(
+        rt.alloc(),
+        no_rows(),
+        [zero, two],
+        [one, two],
+        [one, one],
+        roots,
+    )?;
     assert_eq!(rt;
         failures.as_str(),
         "[#1, #3, #5, #7 \"zeros::[1]\", #9 \"bits::[1]\", #11]"
@@ -130,16 +138,21 @@ fn counts_asked_at_row<F: Field + 'static, EF: ExtensionField<F> + 'static>(
 // The same, and what failed.
 fn counts_and_failures<F: Field + 'static, EF: ExtensionField<F> + 'static>(
     alloc: Global,
+    rows: ViewPair<'_, EF>,
     root: EF,
 ) -> Result<([u32; 3], String), AirError> {
-    let mut builder: Row<'_, F, EF> = row(alloc);
+    let mut builder: Row<'_, F, EF> = row_with(alloc, rows);
     let counts = counts_asked_at_row(&mut builder, root)?;
     Ok((counts, builder.formatted_failures()?))
 }
 
 #[test]
 fn a_passing_assertion_asks_for_no_label(rt: HostRuntime) -> Result<(), Fail> {
-    let (counts, failures) = counts_and_failures::<BabyBear, Element>(rt.alloc(), root_times(1))?;
+    let (counts, failures) = counts_and_failures::<BabyBear, Element>(
+        rt.alloc(),
+        no_rows(),
+        root_times(1),
+    )?;
     assert_eq!(rt; counts, [0, 1, 2]);
     assert_eq!(rt; failures.as_str(), "[#2 \"base\", #3 \"extension\"]");
     Ok(())
@@ -241,12 +254,13 @@ fn assert_what_fails_at_row<F: Field + 'static, EF: ExtensionField<F> + 'static>
 // the counter says and what failed.
 fn what_holds_and_one_more<F: Field + 'static, EF: ExtensionField<F> + 'static>(
     alloc: Global,
+    rows: ViewPair<'_, EF>,
     zeros: &[F],
     ones: &[F],
     x: EF,
 ) -> Result<(bool, u32, u32, String), AirError> {
     let asked = Cell::new(0u32);
-    let mut builder: Row<'_, F, EF> = row(alloc);
+    let mut builder: Row<'_, F, EF> = row_with(alloc, rows);
     assert_what_holds_at_row(&mut builder, zeros, ones, x, &asked)?;
     let (failed, holding) = (builder.has_failures(), asked.get());
     assert_what_fails_at_row(&mut builder, &asked)?;
@@ -258,6 +272,7 @@ fn what_holds_asks_for_no_label(rt: HostRuntime) -> Result<(), Fail> {
     let [zero, one] = [0, 1].map(BabyBear::new);
     let (failed, holding, failing, failures) = what_holds_and_one_more(
         rt.alloc(),
+        no_rows(),
         &[zero],
         &[one],
         root_times(5),

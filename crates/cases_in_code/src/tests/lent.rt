@@ -1,7 +1,7 @@
 //! What a builder at a row, or a filter on it, lends.
 ghost use Rattle.std.specs.Prelude.{◌≡◌, IfOk};
 
-use crate::tests::rows::{Element, Row, root_times, row, row_with};
+use crate::tests::rows::{Element, Row, no_rows, root_times, row_with};
 use p3_air::{
     AirBuilder, AirBuilderWithContext, AirError, Algebra, BabyBear, ExtensionBuilder,
     ExtensionField, Field, FromVar, PermutationAirBuilder, RowMajorMatrixView, ViewPair,
@@ -41,11 +41,12 @@ fn context_texts_at_row<F: Field + 'static, EF: ExtensionField<F> + 'static>(
     context_texts(alloc, builder, F::TWO)
 }
 
-// The same of a builder without permutation data.
+// The same of a builder with these permutation data.
 fn contexts_of_row<F: Field + 'static, EF: ExtensionField<F> + 'static>(
     alloc: Global,
+    rows: ViewPair<'_, EF>,
 ) -> Result<String, Fail> {
-    let mut builder: Row<'_, F, EF> = row(alloc);
+    let mut builder: Row<'_, F, EF> = row_with(alloc, rows);
     context_texts_at_row(alloc, &mut builder)
 }
 
@@ -53,7 +54,7 @@ fn contexts_of_row<F: Field + 'static, EF: ExtensionField<F> + 'static>(
 fn a_builder_at_a_row_and_a_filter_on_it_have_the_empty_context(
     rt: HostRuntime,
 ) -> Result<(), Fail> {
-    let contexts = contexts_of_row::<BabyBear, Element>(rt.alloc())?;
+    let contexts = contexts_of_row::<BabyBear, Element>(rt.alloc(), no_rows())?;
     assert_eq!(rt; contexts.as_str(), "() ()");
     Ok(())
 }

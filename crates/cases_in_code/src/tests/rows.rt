@@ -35,10 +35,10 @@ pub fn row_with<'a, F: Field, EF: ExtensionField<F>>(
     )
 }
 
-/// The same without permutation data.
-pub fn row<'a, F: Field, EF: ExtensionField<F>>(alloc: Global) -> Row<'a, F, EF> {
+/// No permutation data.
+pub fn no_rows<'a>() -> ViewPair<'a, Element> {
     let none = RowMajorMatrixView::new_row(&[]);
-    row_with(alloc, ViewPair::new(none, none))
+    ViewPair::new(none, none)
 }
 
 /// So many times the root of the extension.
