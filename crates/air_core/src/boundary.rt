@@ -91,8 +91,13 @@ fn contains_place(cells: &[BoundaryPublic], column: usize, end: BoundaryEnd) -> 
         .any(|cell| cell.column == column && cell.end == end)
 }
 
-/// Checks that each cell is in the trace, holds a public value that is there, and stands once. The first cell at fault
-/// is refused: for its column, else for its public value, else for an earlier cell at its place. It takes no memory.
+/// Checks that each cell is in the trace, holds a public value that is there, and stands once. The cells are the AIR's,
+/// never the witness's, and nothing else ties them to its trace. It takes no memory.
+///
+/// # Errors
+///
+/// The first cell at fault: its column is past the main trace's, else its public value is none of those that the AIR
+/// has, else an earlier cell is at its column and end.
 pub fn validate(
     cells: &[BoundaryPublic],
     width: usize,
