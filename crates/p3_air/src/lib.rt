@@ -25,8 +25,8 @@
 //! | check it | [`check_constraints`], [`check_all_constraints`] | the first fault; each row and constraint not zero |
 //! | check a row | [`check_row_with_permutation`] | each constraint that isn't zero there, the extension's too |
 //! | record an AIR | [`get_all_symbolic_constraints`] | of each constraint its polynomial, at no greater degree |
-//! | size the quotient | [`get_max_constraint_degree`] | a degree that bounds the polynomials of what is recorded |
-//! | audit | [`audit_air`] | all of this at once: what is recorded is what is tested |
+//! | size the quotient | [`get_max_constraint_degree`] | the degree of what is recorded, as the domain counts |
+//! | audit | [`audit_air`] | records, checks and sizes: what is recorded is what is tested |
 //! | fold | `fold_air`, of the crate air_folder | what is folded is what is recorded, by powers of alpha |
 //! | take an AIR in | [`symbolic`], [`from_flat_value`], [`FlatAir`] | what the list spells; its roots are to be zero |
 //! | prove more | [`laws`] | bits are the numbers that they pack; sums and xors of words are exact |
