@@ -1,6 +1,7 @@
 //! Where constraints hold. An author writes `When`; these are what it hands to the constraints inside.
 ghost use Rattle.std.specs.Prelude.{⊤};
-ghost use Rattle.air_field.specs.Term.{Term, mul_term};
+ghost use Rattle.air_field.specs.Term.{Term};
+ghost use Rattle.air_builder.specs.Notation.{◌⊙◌};
 ghost use Rattle.air_author.specs.Expressions.{MadeIn, Lasts};
 
 use crate::AirResult;
@@ -68,9 +69,9 @@ impl<AB: AirBuilder> Condition<AB> for Everywhere {
 pub struct Where<'a, K, S>(pub(crate) &'a K, pub(crate) S);
 
 impl<'a, AB: AirBuilder, K: Condition<AB>, S: Expression<AB>> Condition<AB> for Where<'a, K, S> {
-    ghost under = { λ s t. K.under s.0.now (mul_term (S.term s.1) t) };
+    ghost under = { λ s t. K.under s.0.now (S.term s.1 ⊙ t) };
 
-    ghost ext_under = { λ s t. K.ext_under s.0.now (mul_term t (S.term s.1)) };
+    ghost ext_under = { λ s t. K.ext_under s.0.now (t ⊙ S.term s.1) };
 
     ghost where_holds = { λ s b. K.where_holds s.0.now b × S.holds s.1 b };
 

@@ -1,7 +1,5 @@
 //! A trace in which every row fails every constraint.
-ghost use Rattle.std.specs.Prelude.{[], ◌∷◌};
-ghost use Rattle.air_field.specs.Term.{leaf_term, main};
-ghost use Rattle.air_builder.specs.Assertion.{Base};
+ghost use Rattle.air_builder.specs.Notation.{current, is_zero};
 ghost use Rattle.air_bench.specs.More.{zeros};
 
 use crate::checks::check_rounds;
@@ -22,7 +20,7 @@ struct Zeros {
 impl<AB: AirBuilder> Family<AB> for Zeros {
     ghost size = { λ s. s.count };
 
-    ghost asserts_at = { λ _ _ f _. Base (f (leaf_term (main 0 0))) ∷ [] };
+    ghost asserts_at = { λ _ _ f _. is_zero (f (current 0)) };
 
     fn size(&self) -> usize {
         self.count

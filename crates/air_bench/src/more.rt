@@ -1,7 +1,6 @@
 //! An AIR with periodic columns, to be checked, and one with permutation columns, to be recorded.
-ghost use Rattle.std.specs.Prelude.{◌≡◌, [], ◌∷◌, None};
-ghost use Rattle.air_field.specs.Term.{add_term, challenge, leaf_term, main, mul_term, periodic, permutation, sub_term};
-ghost use Rattle.air_builder.specs.Assertion.{Base, Extension};
+ghost use Rattle.std.specs.Prelude.{◌≡◌, [], None};
+ghost use Rattle.air_builder.specs.Notation.{current, ext_is_zero, is_zero, periodic, ◌⊙◌};
 ghost use Rattle.air_bench.specs.More.{cycles, lookups, lookup_term};
 
 use crate::checks::check_rounds;
@@ -30,8 +29,7 @@ struct Products {}
 impl<AB: AirBuilder> Family<AB> for Products {
     ghost size = { λ _. 8 };
 
-    ghost asserts_at = { λ _ i f _.
-        Base (f (mul_term (leaf_term (periodic i)) (leaf_term (main 0 i)))) ∷ [] };
+    ghost asserts_at = { λ _ i f _. is_zero (f (periodic i ⊙ current i)) };
 
     fn size(&self) -> usize {
         8
@@ -102,7 +100,7 @@ where
 {
     ghost size = { λ s. s.count };
 
-    ghost asserts_at = { λ _ i _ g. Extension (g (lookup_term i)) ∷ [] };
+    ghost asserts_at = { λ _ i _ g. ext_is_zero (g (lookup_term i)) };
 
     fn size(&self) -> usize {
         self.count

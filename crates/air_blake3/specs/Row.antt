@@ -2,8 +2,9 @@
 use Rattle.std.specs.Prelude.{ℕ, ◌+◌, ◌*◌, ◌/◌, ◌%◌, ◌^◌, List, [], ◌∷◌, ◌++◌, slice_index}
 use Rattle.air_field.specs.Algebra.{xor_term}
 use Rattle.air_field.specs.Ring.{CommRing, image}
-use Rattle.air_field.specs.Term.{Term, const_term, sub_term}
-use Rattle.air_builder.specs.Assertion.{Assertion, Base}
+use Rattle.air_field.specs.Term.{Term}
+use Rattle.air_builder.specs.Assertion.{Assertion}
+use Rattle.air_builder.specs.Notation.{constant, ◌≐◌}
 use Rattle.air_gadgets.specs.Words.{Limbs}
 use Rattle.air_gadgets.specs.Gadgets.{test_asserts, xor_asserts}
 use Rattle.air_author.specs.Constraints.{asserts_of_first}
@@ -75,17 +76,17 @@ round_at R f r =
 
 -- both limbs are those
 abbrev pub limbs_are : {F : Type 0} → Limbs (Term F) → Limbs (Term F) → List (Assertion F)
-limbs_are t u = Base (sub_term t.low u.low) ∷ Base (sub_term t.high u.high) ∷ []
+limbs_are t u = (t.low ≐ u.low) ++ (t.high ≐ u.high)
 
 abbrev pub constant_limbs : {F : Type 0} → CommRing F → ℕ → Limbs (Term F)
-constant_limbs R n = record { low = const_term (image R (n % 2 ^ 16)); high = const_term (image R (n / 2 ^ 16)) }
+constant_limbs R n = record { low = constant (image R (n % 2 ^ 16)); high = constant (image R (n / 2 ^ 16)) }
 
 -- each of the last list is the xor of those at its place
 abbrev pub xors_are : {F : Type 0} → List (Term F) → List (Term F) → List (Term F) → List (Assertion F)
 xors_are [] us vs = []
 xors_are (t ∷ ts) [] vs = []
 xors_are (t ∷ ts) (u ∷ us) [] = []
-xors_are (t ∷ ts) (u ∷ us) (v ∷ vs) = Base (sub_term v (xor_term t u)) ∷ xors_are ts us vs
+xors_are (t ∷ ts) (u ∷ us) (v ∷ vs) = (v ≐ xor_term t u) ++ xors_are ts us vs
 
 -- a column of the first state: its word a is that of some bits, its words b and d are made of bits, its word c is constant
 unfoldable pub first_asserts : {F : Type 0} → CommRing F → (Term F → Term F) → QuarterTerms F → List (Term F) → ℕ → List (Assertion F)

@@ -1,8 +1,9 @@
 -- Words as terms: some by their limbs of 16 bits, some by their 32 bits, the lowest first; and the columns of both.
 use Rattle.std.specs.Prelude.{ℕ, zero, suc, ◌+◌, List, [], ◌∷◌, take, drop}
 use Rattle.air_field.specs.Ring.{CommRing}
-use Rattle.air_field.specs.Term.{main, Term, leaf_term}
+use Rattle.air_field.specs.Term.{Term}
 use Rattle.air_builder.specs.Assertion.{Assertion, Base, Extension}
+use Rattle.air_builder.specs.Notation.{current}
 use Rattle.air_gadgets.specs.Packing.{packed_term}
 use Rattle.air_gadgets.specs.Words.{Limbs}
 use Rattle.blake3.specs.declared.words.Quarter.{Quarter}
@@ -43,7 +44,7 @@ under f (Extension t ∷ ts) = Extension (f t) ∷ under f ts
 
 -- so many columns after the first
 abbrev pub column : {F : Type 0} → ℕ → ℕ → Term F
-column first i = leaf_term (main 0 (first + i))
+column first i = current (first + i)
 
 -- so many terms that an index numbers, from one on
 abbrev pub terms_numbered : {F : Type 0} → (ℕ → Term F) → ℕ → ℕ → List (Term F)

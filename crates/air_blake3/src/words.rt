@@ -1,8 +1,7 @@
 //! Words of the row as expressions, by their limbs or their bits, and what is asserted of single words.
-ghost use Rattle.std.specs.Prelude.{◌+◌, ◌∷◌, []};
+ghost use Rattle.std.specs.Prelude.{◌+◌};
 ghost use Rattle.air_field.specs.Algebra.{xor_term};
-ghost use Rattle.air_field.specs.Term.{sub_term};
-ghost use Rattle.air_builder.specs.Assertion.{Base};
+ghost use Rattle.air_builder.specs.Notation.{◌⊖◌, is_zero};
 ghost use Rattle.air_gadgets.specs.Gadgets.{add2_asserts, add3_asserts, test_asserts};
 ghost use Rattle.air_blake3.specs.Row.{constant_limbs, limbs_are};
 ghost use Rattle.air_blake3.specs.Words.{bits_at, column, limbs_at, packed_limbs, under};
@@ -178,8 +177,8 @@ pub(crate) struct BitXors(pub(crate) u32, pub(crate) u32, pub(crate) u32);
 impl<AB: AirBuilder> Family<AB> for BitXors {
     ghost size = { λ _. 32 };
 
-    ghost asserts_at = { λ s i f _. Base (f (sub_term (column s.2 i)
-        (xor_term (column s.0 i) (column s.1 i)))) ∷ [] };
+    ghost asserts_at = { λ s i f _. is_zero (f (column s.2 i ⊖
+        xor_term (column s.0 i) (column s.1 i))) };
 
     fn size(&self) -> usize {
         32

@@ -1,8 +1,9 @@
 -- Columns of a preprocessed and a main trace, and weighted sums of them.
 use Rattle.std.specs.Prelude.{◌≡◌, ℕ, ◌<◌, List, [], ◌∷◌, Option, Some, All, map, slice_get}
-use Rattle.air_field.specs.Term.{Term, const_term, add_term}
+use Rattle.air_field.specs.Term.{Term}
 use Rattle.air_field.specs.Algebra.{scaled_term}
 use Rattle.air_field.specs.Joins.{join_from}
+use Rattle.air_builder.specs.Notation.{constant, ◌⊕◌}
 use Rattle.air_gadgets.specs.declared.columns.pair_col.PairCol.{PairCol}
 use Rattle.air_gadgets.specs.declared.columns.pair_col.PairCol.TheVariants.{Preprocessed, Main}
 
@@ -47,7 +48,7 @@ FitsWithin preprocessed_width main_width c = All (λ w. IsWithin preprocessed_wi
 
 -- the constant plus the sum of weight times column, where a term stands for each column
 abbrev pub combined_term : {F : Type 0} → (PairCol → Term F) → Combination F → Term F
-combined_term {F} at c = join_from add_term (const_term c.constant) (map (λ w. scaled_term w.1 (at w.0)) c.weights)
+combined_term {F} at c = join_from ◌⊕◌ (constant c.constant) (map (λ w. scaled_term w.1 (at w.0)) c.weights)
 
 -- what stands in each column means the term that stands for the column
 abbrev pub ColumnsMean : {E F : Type 0} → (E → Term F → Type 0) → (PairCol → Term F) → List E → List E → Type 0

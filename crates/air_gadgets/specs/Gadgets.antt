@@ -2,27 +2,28 @@
 use Rattle.std.specs.Prelude.{◌≡◌, ℕ, ◌*◌, ◌^◌, ◌⊎◌, List, [], ◌∷◌, ◌++◌, map, take, drop, Bool, true, false, Result, OnOk, OnErr, IfOk, IfErr, ⊤}
 use Rattle.std.specs.List.{AllZip}
 use Rattle.air_field.specs.Ring.{CommRing, image}
-use Rattle.air_field.specs.Term.{Leaf, Term, with_leaves, const_term, add_term, sub_term, mul_term}
+use Rattle.air_field.specs.Term.{Leaf, Term, with_leaves}
 use Rattle.air_field.specs.Algebra.{bool_check_term, scaled_term, xor_term}
 use Rattle.air_gadgets.specs.Packing.{packed_term}
 use Rattle.air_builder.specs.Assertion.{Assertion, Base}
 use Rattle.air_builder.specs.Batches.{GrewByFirst}
+use Rattle.air_builder.specs.Notation.{constant, ◌⊕◌, ◌⊖◌, ◌⊙◌}
 use Rattle.air_gadgets.specs.Words.{Limbs, rotated_left}
 
 -- t - u - v, and t - u - v - w
 abbrev pub less_two_term : {F : Type 0} → Term F → Term F → Term F → Term F
-less_two_term t u v = sub_term (sub_term t u) v
+less_two_term t u v = t ⊖ u ⊖ v
 
 abbrev pub less_three_term : {F : Type 0} → Term F → Term F → Term F → Term F → Term F
-less_three_term t u v w = sub_term (less_two_term t u v) w
+less_three_term t u v w = t ⊖ u ⊖ v ⊖ w
 
 -- t + n
 abbrev pub raised_term : {F : Type 0} → CommRing F → ℕ → Term F → Term F
-raised_term R n t = add_term t (const_term (image R n))
+raised_term R n t = t ⊕ constant (image R n)
 
 -- u (t + n)
 abbrev pub times_raised_term : {F : Type 0} → CommRing F → ℕ → Term F → Term F → Term F
-times_raised_term R n t u = mul_term u (raised_term R n t)
+times_raised_term R n t u = u ⊙ raised_term R n t
 
 -- t (t + n), and t (t + n) (t + 2n)
 abbrev pub carry_term : {F : Type 0} → CommRing F → ℕ → Term F → Term F
@@ -33,7 +34,7 @@ two_carries_term R n t = times_raised_term R (2 * n) t (carry_term R n t)
 
 -- low + 2^16 high
 abbrev pub whole_term : {F : Type 0} → CommRing F → Term F → Term F → Term F
-whole_term R low high = add_term low (scaled_term (image R (2 ^ 16)) high)
+whole_term R low high = low ⊕ scaled_term (image R (2 ^ 16)) high
 
 -- one carry, or two
 abbrev pub carries_term : {F : Type 0} → CommRing F → Bool → ℕ → Term F → Term F
@@ -69,13 +70,13 @@ abbrev pub packed_xor_term : {F : Type 0} → CommRing F → List (Term F) → L
 packed_xor_term R ts us = packed_term R.zero (xor_terms ts us)
 
 abbrev pub half_term : {F : Type 0} → CommRing F → Term F → List (Term F) → List (Term F) → Term F
-half_term R t us vs = sub_term t (packed_xor_term R us vs)
+half_term R t us vs = t ⊖ packed_xor_term R us vs
 
 -- the halves of a less those of b xor c rotated
 abbrev pub half_terms : {F : Type 0} → CommRing F → Limbs (Term F) → List (Term F) → List (Term F) → ℕ → List (Term F)
 half_terms R a b c shift =
     let bits = xor_terms b (rotated_left shift c) in
-    sub_term a.low (packed_term R.zero (take 16 bits)) ∷ sub_term a.high (packed_term R.zero (drop 16 bits)) ∷ []
+    a.low ⊖ packed_term R.zero (take 16 bits) ∷ a.high ⊖ packed_term R.zero (drop 16 bits) ∷ []
 
 -- each is zero or one
 abbrev pub test_asserts : {F : Type 0} → CommRing F → List (Term F) → List (Assertion F)

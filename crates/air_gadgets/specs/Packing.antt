@@ -1,17 +1,18 @@
 -- Bits packed into a number.
 use Rattle.std.specs.Prelude.{List, [], ◌∷◌}
 use Rattle.std.specs.List.{AllZip}
-use Rattle.air_field.specs.Term.{Term, const_term, add_term}
+use Rattle.air_field.specs.Term.{Term}
 use Rattle.air_field.specs.Algebra.{double_term}
+use Rattle.air_builder.specs.Notation.{constant, ◌⊕◌}
 
 -- t plus twice the rest: the sum of 2^i t_i
 abbrev pub packed_from : {F : Type 0} → Term F → List (Term F) → Term F
 packed_from t [] = t
-packed_from t (u ∷ us) = add_term (double_term (packed_from u us)) t
+packed_from t (u ∷ us) = double_term (packed_from u us) ⊕ t
 
 -- the sum of 2^i t_i; of none, the constant
 abbrev pub packed_term : {F : Type 0} → F → List (Term F) → Term F
-packed_term none [] = const_term none
+packed_term none [] = constant none
 packed_term none (t ∷ ts) = packed_from t ts
 
 -- z is an element that means the sum of 2^i t_i, of what the elements meant

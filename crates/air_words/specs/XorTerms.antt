@@ -1,10 +1,11 @@
 -- The xor of a word with a rotated one, of columns of bits.
 use Rattle.std.specs.Prelude.{ℕ, ◌+◌, ◌-◌, ◌%◌, List, [], ◌∷◌, ◌++◌}
 use Rattle.air_field.specs.Ring.{CommRing}
-use Rattle.air_field.specs.Term.{Term, sub_term}
+use Rattle.air_field.specs.Term.{Term}
 use Rattle.air_field.specs.Algebra.{xor_term}
 use Rattle.air_gadgets.specs.Packing.{packed_term}
-use Rattle.air_builder.specs.Assertion.{Assertion, Base}
+use Rattle.air_builder.specs.Assertion.{Assertion}
+use Rattle.air_builder.specs.Notation.{◌⊖◌, is_zero}
 use Rattle.air_gadgets.specs.Words.{Limbs}
 use Rattle.air_words.specs.BitTerms.{columns_from, first_terms, bits_asserts}
 
@@ -20,5 +21,5 @@ xor_half R b c shift from = packed_term R.zero (first_terms (λ i. xor_at b c sh
 abbrev pub xor_shift_asserts : {F : Type 0} → CommRing F → Limbs (Term F) → ℕ → ℕ → ℕ → (Term F → Term F) → List (Assertion F)
 xor_shift_asserts R a b c shift f =
     bits_asserts R c 32 f
-    ++ ((Base (f (sub_term a.low (xor_half R b c shift 0))) ∷ [])
-    ++ (Base (f (sub_term a.high (xor_half R b c shift 16))) ∷ []))
+    ++ (is_zero (f (a.low ⊖ xor_half R b c shift 0))
+    ++ is_zero (f (a.high ⊖ xor_half R b c shift 16)))

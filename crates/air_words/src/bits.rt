@@ -1,7 +1,7 @@
 //! Columns of bits.
-ghost use Rattle.std.specs.Prelude.{◌≡◌, ◌+◌, ◌^◌, ◌<◌, ◌∷◌, []};
+ghost use Rattle.std.specs.Prelude.{◌≡◌, ◌+◌, ◌^◌, ◌<◌};
 ghost use Rattle.air_field.specs.Algebra.{bool_check_term};
-ghost use Rattle.air_builder.specs.Assertion.{Base};
+ghost use Rattle.air_builder.specs.Notation.{is_zero};
 ghost use Rattle.air_words.specs.BitTerms.{columns_from, packed_bits, bits_asserts, has_bits};
 
 use crate::packed::{Packed, Series};
@@ -64,7 +64,7 @@ impl<AB: AirBuilder> Family<AB> for Bits {
     ghost size = { λ s. s.0.count };
 
     ghost asserts_at = { λ s i f _.
-        Base (f (bool_check_term AB.F.ring.one (columns_from s.0.first i))) ∷ [] };
+        is_zero (f (bool_check_term AB.F.ring.one (columns_from s.0.first i))) };
 
     fn size(&self) -> usize {
         self.0.count

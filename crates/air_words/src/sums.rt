@@ -1,8 +1,8 @@
 //! Sums of words.
-ghost use Rattle.std.specs.Prelude.{true, false, [], ◌∷◌};
+ghost use Rattle.std.specs.Prelude.{◌++◌, true, false};
 ghost use Rattle.air_field.specs.Algebra.{scaled_term};
 ghost use Rattle.air_field.specs.Ring.{image};
-ghost use Rattle.air_builder.specs.Assertion.{Base};
+ghost use Rattle.air_builder.specs.Notation.{is_zero};
 ghost use Rattle.air_gadgets.specs.Gadgets.{less_two_term, less_three_term, raised_term, carry_term, times_raised_term, whole_term, carried_terms, add2_terms, add3_terms};
 ghost use Rattle.air_builder.specs.Batches.{AssertedIn};
 ghost use Rattle.air_author.specs.Expressions.{Lasts};
@@ -102,7 +102,7 @@ fn assert_zero<AB: AirBuilder, X: Expression<AB>, K: Condition<AB>>(
     requires held { Lasts AB.kept (λ b. X.holds x.now b × K.where_holds condition.now b)
         builder.old }
     ensures { AssertedIn ⟦<AB as View>⟧.view builder.old builder.new result
-        (Base (K.under condition.now (X.term x.now)) ∷ []) }
+        (is_zero (K.under condition.now (X.term x.now))) }
 {
     Zero(x).assert_under(builder, condition)
 }
@@ -118,8 +118,8 @@ fn assert_both_zero<AB: AirBuilder, X: Expression<AB>, Y: Expression<AB>, K: Con
     requires held { Lasts AB.kept
         (λ b. (X.holds x.now b × Y.holds y.now b) × K.where_holds condition.now b) builder.old }
     ensures { AssertedIn ⟦<AB as View>⟧.view builder.old builder.new result
-        (Base (K.under condition.now (X.term x.now)) ∷ Base (K.under condition.now (Y.term y.now))
-        ∷ []) }
+        (is_zero (K.under condition.now (X.term x.now)) ++
+        is_zero (K.under condition.now (Y.term y.now))) }
 {
     assert_zero(builder, condition, x)?;
     assert_zero(builder, condition, y)

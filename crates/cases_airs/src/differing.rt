@@ -1,8 +1,9 @@
 //! An AIR whose `eval` is written against the calls of the builder, under a condition that is a difference.
 ghost use Rattle.std.specs.Prelude.{OnOk, OnErr, IfOk, IfErr, []};
-ghost use Rattle.air_field.specs.Term.{main, leaf_term};
+ghost use Rattle.air_field.specs.Term.{main};
 ghost use Rattle.air_builder.specs.Batches.{GrewByFirst, Evaluates};
 ghost use Rattle.air_builder.specs.Builders.{Means};
+ghost use Rattle.air_builder.specs.Notation.{current};
 ghost use Rattle.air_builder.specs.Refusals.{NoneMissing};
 ghost use Rattle.cases_airs.specs.Differing.{differing_asserts, RowMeans, RefusesPart};
 
@@ -21,10 +22,10 @@ fn read_cell<AB: AirBuilder>(builder: &mut AB, column: usize) -> Result<AB::Expr
     requires { AB.ready builder.old }
     ensures keeps { AB.grew builder.old builder.new [] }
     ensures made { IfOk result (λ x. Means AB.Ring.means AB.ring_of AB.reads_as builder.new x
-        (leaf_term (main 0 column))) }
+        (current column)) }
     ensures there { OnOk result (AB.missing builder.old (main 0 column) → ⊥) }
     ensures refused { IfErr result (RefusesPart AB.refuses builder.old
-        (leaf_term (main 0 column))) }
+        (current column)) }
 {
     let Some(variable) = builder.main_variable(0, column) else {
         return Err(AirError::MissingEntry {

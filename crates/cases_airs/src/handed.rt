@@ -1,9 +1,7 @@
 //! An AIR with a gadget that is handed an expression.
-ghost use Rattle.std.specs.Prelude.{[], ◌∷◌};
-ghost use Rattle.air_field.specs.Term.{main, transition, leaf_term, mul_term, sub_term};
-ghost use Rattle.air_builder.specs.Assertion.{Base};
 ghost use Rattle.air_builder.specs.Builders.{Means};
 ghost use Rattle.air_builder.specs.Batches.{Asserted, Evaluates};
+ghost use Rattle.air_builder.specs.Notation.{next, transition, when, ◌≐◌};
 ghost use Rattle.air_author.specs.Expressions.{Lasts, Holds};
 ghost use Rattle.cases_airs.specs.Handed.{handed};
 
@@ -22,8 +20,7 @@ fn next_is<AB: AirBuilder, X: Expression<AB>>(
     requires held { Lasts AB.kept (Holds (Means AB.Ring.means AB.ring_of AB.reads_as) AB.missing
         x (X.term value.now)) builder.old }
     ensures { Asserted AB.kept AB.grew AB.missing AB.refuses builder.old builder.new result
-        (Base (mul_term (leaf_term transition)
-        (sub_term (leaf_term (main 1 1)) (X.term value.now))) ∷ []) }
+        (when transition (next 1 ≐ X.term value.now)) }
 {
     assert_these(
         builder,

@@ -2,9 +2,18 @@
 
 -- rings and fields, terms and what they are on a row, matrices
 pub use Rattle.air_field.specs.Ring
+pub use Rattle.air_field.specs.RingOps
 pub use Rattle.air_field.specs.Algebra
+pub use Rattle.air_field.specs.Joins
 pub use Rattle.air_field.specs.Domain
 pub use Rattle.air_field.specs.Modular
+pub use Rattle.air_field.specs.Residue
+pub use Rattle.air_field.specs.Prime
+pub use Rattle.air_field.specs.NoSquare
+pub use Rattle.air_field.specs.Limbs
+pub use Rattle.air_field.specs.Goldilocks
+pub use Rattle.air_field.specs.Binomial
+pub use Rattle.air_field.specs.Coefficients
 pub use Rattle.air_field.specs.Powers
 pub use Rattle.air_field.specs.Extension
 pub use Rattle.air_field.specs.ExtAlgebra
@@ -23,6 +32,8 @@ pub use Rattle.air_field.specs.declared.errors.MatrixError
 -- entries, windows, boundary cells, periodic columns, names, refusals
 pub use Rattle.air_core.specs.Entries
 pub use Rattle.air_core.specs.ExtEntries
+pub use Rattle.air_core.specs.declared.variables.entry.BaseEntry
+pub use Rattle.air_core.specs.declared.variables.ext_entry.ExtEntry
 pub use Rattle.air_core.specs.WindowShapes
 pub use Rattle.air_core.specs.Boundary
 pub use Rattle.air_core.specs.Periodic
@@ -52,7 +63,9 @@ pub use Rattle.air_symbolic.specs.Reach
 pub use Rattle.air_symbolic.specs.declared.pools.expr.SymbolicExpr
 pub use Rattle.air_symbolic.specs.declared.leaves.base_leaf.BaseLeaf
 pub use Rattle.air_symbolic.specs.declared.leaves.ext_leaf.ExtLeaf
+pub use Rattle.air_symbolic.specs.declared.pools.weight.LeafWeight
 pub use Rattle.air_wire.specs.NodeLists
+pub use Rattle.air_wire.specs.ListReaders
 pub use Rattle.air_wire.specs.NodeFaults
 pub use Rattle.air_wire.specs.Nodes as NodesFromValues
 pub use Rattle.air_wire.specs.ReadCalls
@@ -61,6 +74,11 @@ pub use Rattle.air_wire.specs.Unshared
 pub use Rattle.air_wire.specs.Written
 pub use Rattle.air_wire.specs.Writing
 pub use Rattle.air_wire.specs.Spelling
+pub use Rattle.air_wire.specs.Parts
+pub use Rattle.air_wire.specs.Plain
+pub use Rattle.air_wire.specs.Coefficients as CoefficientSpellings
+pub use Rattle.air_wire.specs.EntryForms
+pub use Rattle.air_wire.specs.Faults as ReadingFaults
 pub use Rattle.air_wire.specs.Entries as EntrySpellings
 pub use Rattle.air_wire.specs.ExtEntries as ExtEntrySpellings
 pub use Rattle.air_wire.specs.BaseLeaves as BaseLeafSpellings
@@ -80,16 +98,20 @@ pub use Rattle.air_builder.specs.Extensions
 pub use Rattle.air_builder.specs.ExtensionFilters
 pub use Rattle.air_builder.specs.Refusals
 pub use Rattle.air_builder.specs.Refused
+pub use Rattle.air_builder.specs.PermutationRows as PermutationBuilders
 pub use Rattle.air_gadgets.specs.Words
 pub use Rattle.air_gadgets.specs.Gadgets
 pub use Rattle.air_gadgets.specs.Bits
 pub use Rattle.air_gadgets.specs.Packing
 pub use Rattle.air_gadgets.specs.PowerSums
+pub use Rattle.air_gadgets.specs.Exact
 pub use Rattle.air_gadgets.specs.Columns
+pub use Rattle.air_gadgets.specs.declared.columns.pair_col.PairCol
 pub use Rattle.air_gadgets.specs.Errors as ColumnErrors
 pub use Rattle.air_author.specs.Expressions
 pub use Rattle.air_author.specs.Constraints
 pub use Rattle.air_author.specs.Kinds
+pub use Rattle.air_author.specs.Handing
 pub use Rattle.air_author.specs.Moved
 pub use Rattle.air_words.specs.BitTerms
 pub use Rattle.air_words.specs.WordTerms

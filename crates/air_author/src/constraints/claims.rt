@@ -1,8 +1,8 @@
 //! Constraints of one assertion.
-ghost use Rattle.std.specs.Prelude.{⊤, [], ◌∷◌};
+ghost use Rattle.std.specs.Prelude.{⊤};
 ghost use Rattle.air_field.specs.Algebra.{bool_check_term};
-ghost use Rattle.air_field.specs.Term.{Term, sub_term};
-ghost use Rattle.air_builder.specs.Assertion.{Base};
+ghost use Rattle.air_field.specs.Term.{Term};
+ghost use Rattle.air_builder.specs.Notation.{is_zero, ◌⊖◌};
 ghost use Rattle.air_builder.specs.Builders.{less_one_term};
 ghost use Rattle.air_builder.specs.Batches.{AssertedIn};
 ghost use Rattle.air_author.specs.Expressions.{MadeIn, Lasts};
@@ -44,7 +44,7 @@ fn assert_claim<AB: AirBuilder, C: Claim<AB>, K: Condition<AB>>(
     requires held { Lasts AB.kept (λ b. C.claim_holds claim.now b × K.where_holds condition.now b)
         builder.old }
     ensures { AssertedIn ⟦<AB as View>⟧.view builder.old builder.new result
-        (Base (K.under condition.now (C.claims claim.now)) ∷ []) }
+        (is_zero (K.under condition.now (C.claims claim.now))) }
 {
     let x = claim.make_claim(builder, condition)?;
     builder.assert_zero(x)
@@ -66,7 +66,7 @@ impl<AB: AirBuilder, X: Expression<AB>> Claim<AB> for Zero<X> {
 }
 
 impl<AB: AirBuilder, X: Expression<AB>> Constraint<AB> for Zero<X> {
-    ghost asserts = { λ s f _. Base (f (⟦<Zero<X> as Claim<AB>>⟧.claims s)) ∷ [] };
+    ghost asserts = { λ s f _. is_zero (f (⟦<Zero<X> as Claim<AB>>⟧.claims s)) };
 
     ghost all_hold = { λ s b. ⟦<Zero<X> as Claim<AB>>⟧.claim_holds s b };
 
@@ -92,7 +92,7 @@ impl<AB: AirBuilder, X: Expression<AB>> Claim<AB> for IsOne<X> {
 }
 
 impl<AB: AirBuilder, X: Expression<AB>> Constraint<AB> for IsOne<X> {
-    ghost asserts = { λ s f _. Base (f (⟦<IsOne<X> as Claim<AB>>⟧.claims s)) ∷ [] };
+    ghost asserts = { λ s f _. is_zero (f (⟦<IsOne<X> as Claim<AB>>⟧.claims s)) };
 
     ghost all_hold = { λ s b. ⟦<IsOne<X> as Claim<AB>>⟧.claim_holds s b };
 
@@ -107,7 +107,7 @@ impl<AB: AirBuilder, X: Expression<AB>> Constraint<AB> for IsOne<X> {
 pub struct Equal<X, Y>(pub X, pub Y);
 
 impl<AB: AirBuilder, X: Expression<AB>, Y: Expression<AB>> Claim<AB> for Equal<X, Y> {
-    ghost claims = { λ s. sub_term (X.term s.0) (Y.term s.1) };
+    ghost claims = { λ s. X.term s.0 ⊖ Y.term s.1 };
 
     ghost claim_holds = { λ s b. X.holds s.0 b × Y.holds s.1 b };
 
@@ -118,7 +118,7 @@ impl<AB: AirBuilder, X: Expression<AB>, Y: Expression<AB>> Claim<AB> for Equal<X
 }
 
 impl<AB: AirBuilder, X: Expression<AB>, Y: Expression<AB>> Constraint<AB> for Equal<X, Y> {
-    ghost asserts = { λ s f _. Base (f (⟦<Equal<X, Y> as Claim<AB>>⟧.claims s)) ∷ [] };
+    ghost asserts = { λ s f _. is_zero (f (⟦<Equal<X, Y> as Claim<AB>>⟧.claims s)) };
 
     ghost all_hold = { λ s b. ⟦<Equal<X, Y> as Claim<AB>>⟧.claim_holds s b };
 
@@ -144,7 +144,7 @@ impl<AB: AirBuilder, X: Expression<AB>> Claim<AB> for Boolean<X> {
 }
 
 impl<AB: AirBuilder, X: Expression<AB>> Constraint<AB> for Boolean<X> {
-    ghost asserts = { λ s f _. Base (f (⟦<Boolean<X> as Claim<AB>>⟧.claims s)) ∷ [] };
+    ghost asserts = { λ s f _. is_zero (f (⟦<Boolean<X> as Claim<AB>>⟧.claims s)) };
 
     ghost all_hold = { λ s b. ⟦<Boolean<X> as Claim<AB>>⟧.claim_holds s b };
 

@@ -1,8 +1,9 @@
 //! Constraints over the extension, each of one assertion.
-ghost use Rattle.std.specs.Prelude.{⊤, [], ◌∷◌, OnOk, OnErr};
+ghost use Rattle.std.specs.Prelude.{⊤, [], OnOk, OnErr};
 ghost use Rattle.air_field.specs.Algebra.{bool_check_term};
-ghost use Rattle.air_field.specs.Term.{Term, sub_term};
+ghost use Rattle.air_field.specs.Term.{Term};
 ghost use Rattle.air_builder.specs.Assertion.{Extension};
+ghost use Rattle.air_builder.specs.Notation.{ext_is_zero, ◌⊖◌};
 ghost use Rattle.air_builder.specs.Builders.{less_one_term};
 ghost use Rattle.air_builder.specs.Batches.{AssertedIn};
 ghost use Rattle.air_author.specs.Constraints.{IsLabelled};
@@ -52,7 +53,7 @@ fn assert_ext_claim<AB: ExtensionBuilder, C: ExtClaim<AB>, K: Condition<AB>>(
         b)
         builder.old }
     ensures { AssertedIn ⟦<AB as View>⟧.view builder.old builder.new result
-        (Extension (K.ext_under condition.now (C.ext_claims claim.now)) ∷ []) }
+        (ext_is_zero (K.ext_under condition.now (C.ext_claims claim.now))) }
 {
     let x = claim.make_ext_claim(builder, condition)?;
     builder.assert_zero_ext(x)
@@ -78,7 +79,7 @@ impl<AB: ExtensionBuilder, X: ExtExpression<AB>> ExtClaim<AB> for ExtZero<X> {
 }
 
 impl<AB: ExtensionBuilder, X: ExtExpression<AB>> Constraint<AB> for ExtZero<X> {
-    ghost asserts = { λ s _ g. Extension (g (⟦<ExtZero<X> as ExtClaim<AB>>⟧.ext_claims s)) ∷ [] };
+    ghost asserts = { λ s _ g. ext_is_zero (g (⟦<ExtZero<X> as ExtClaim<AB>>⟧.ext_claims s)) };
 
     ghost all_hold = { λ s b. ⟦<ExtZero<X> as ExtClaim<AB>>⟧.ext_claim_holds s b };
 
@@ -108,7 +109,7 @@ impl<AB: ExtensionBuilder, X: ExtExpression<AB>> ExtClaim<AB> for ExtIsOne<X> {
 }
 
 impl<AB: ExtensionBuilder, X: ExtExpression<AB>> Constraint<AB> for ExtIsOne<X> {
-    ghost asserts = { λ s _ g. Extension (g (⟦<ExtIsOne<X> as ExtClaim<AB>>⟧.ext_claims s)) ∷ [] };
+    ghost asserts = { λ s _ g. ext_is_zero (g (⟦<ExtIsOne<X> as ExtClaim<AB>>⟧.ext_claims s)) };
 
     ghost all_hold = { λ s b. ⟦<ExtIsOne<X> as ExtClaim<AB>>⟧.ext_claim_holds s b };
 
@@ -124,7 +125,7 @@ pub struct ExtEqual<X, Y>(pub X, pub Y);
 
 impl<AB: ExtensionBuilder, X: ExtExpression<AB>, Y: ExtExpression<AB>> ExtClaim<AB>
     for ExtEqual<X, Y> {
-    ghost ext_claims = { λ s. sub_term (X.ext_term s.0) (Y.ext_term s.1) };
+    ghost ext_claims = { λ s. X.ext_term s.0 ⊖ Y.ext_term s.1 };
 
     ghost ext_claim_holds = { λ s b. X.ext_holds s.0 b × Y.ext_holds s.1 b };
 
@@ -140,7 +141,7 @@ impl<AB: ExtensionBuilder, X: ExtExpression<AB>, Y: ExtExpression<AB>> ExtClaim<
 
 impl<AB: ExtensionBuilder, X: ExtExpression<AB>, Y: ExtExpression<AB>> Constraint<AB>
     for ExtEqual<X, Y> {
-    ghost asserts = { λ s _ g. Extension (g (⟦<ExtEqual<X, Y> as ExtClaim<AB>>⟧.ext_claims s)) ∷ [] };
+    ghost asserts = { λ s _ g. ext_is_zero (g (⟦<ExtEqual<X, Y> as ExtClaim<AB>>⟧.ext_claims s)) };
 
     ghost all_hold = { λ s b. ⟦<ExtEqual<X, Y> as ExtClaim<AB>>⟧.ext_claim_holds s b };
 
@@ -170,7 +171,7 @@ impl<AB: ExtensionBuilder, X: ExtExpression<AB>> ExtClaim<AB> for ExtBoolean<X> 
 }
 
 impl<AB: ExtensionBuilder, X: ExtExpression<AB>> Constraint<AB> for ExtBoolean<X> {
-    ghost asserts = { λ s _ g. Extension (g (⟦<ExtBoolean<X> as ExtClaim<AB>>⟧.ext_claims s)) ∷ [] };
+    ghost asserts = { λ s _ g. ext_is_zero (g (⟦<ExtBoolean<X> as ExtClaim<AB>>⟧.ext_claims s)) };
 
     ghost all_hold = { λ s b. ⟦<ExtBoolean<X> as ExtClaim<AB>>⟧.ext_claim_holds s b };
 
@@ -185,7 +186,7 @@ impl<AB: ExtensionBuilder, X: ExtExpression<AB>> Constraint<AB> for ExtBoolean<X
 pub struct ExtNamed<N, C>(pub N, pub C);
 
 impl<AB: NamedExtensionBuilder, N: Label, C: ExtClaim<AB>> Constraint<AB> for ExtNamed<N, C> {
-    ghost asserts = { λ s _ g. Extension (g (C.ext_claims s.1)) ∷ [] };
+    ghost asserts = { λ s _ g. ext_is_zero (g (C.ext_claims s.1)) };
 
     ghost all_hold = { λ s b. C.ext_claim_holds s.1 b };
 
@@ -196,7 +197,7 @@ impl<AB: NamedExtensionBuilder, N: Label, C: ExtClaim<AB>> Constraint<AB> for Ex
             K.where_holds condition.now b)
             builder.old }
         ensures asserted { AssertedIn ⟦<AB as View>⟧.view builder.old builder.new result
-            (Extension (K.ext_under condition.now (C.ext_claims self.now.1)) ∷ []) }
+            (ext_is_zero (K.ext_under condition.now (C.ext_claims self.now.1))) }
         ensures label { OnOk result (IsLabelled AB.labelled (N.displays self.now.0) builder.old
             builder.new (Extension (K.ext_under condition.now (C.ext_claims self.now.1)))) }
         ensures no_label { OnErr result (AB.labelled builder.old builder.new []) }

@@ -1,6 +1,7 @@
 //! Constraints under names.
-ghost use Rattle.std.specs.Prelude.{[], ◌∷◌, OnOk, OnErr};
+ghost use Rattle.std.specs.Prelude.{[], OnOk, OnErr};
 ghost use Rattle.air_builder.specs.Assertion.{Base};
+ghost use Rattle.air_builder.specs.Notation.{is_zero};
 ghost use Rattle.air_builder.specs.Batches.{AssertedIn};
 ghost use Rattle.air_author.specs.Constraints.{IsLabelled};
 ghost use Rattle.air_author.specs.Expressions.{Lasts};
@@ -34,7 +35,7 @@ impl<A: Label, B: Label> Label for Joined<A, B> {
 pub struct Named<N, C>(pub N, pub C);
 
 impl<AB: NamedAirBuilder, N: Label, C: Claim<AB>> Constraint<AB> for Named<N, C> {
-    ghost asserts = { λ s f _. Base (f (C.claims s.1)) ∷ [] };
+    ghost asserts = { λ s f _. is_zero (f (C.claims s.1)) };
 
     ghost all_hold = { λ s b. C.claim_holds s.1 b };
 
@@ -45,7 +46,7 @@ impl<AB: NamedAirBuilder, N: Label, C: Claim<AB>> Constraint<AB> for Named<N, C>
             b)
             builder.old }
         ensures asserted { AssertedIn ⟦<AB as View>⟧.view builder.old builder.new result
-            (Base (K.under condition.now (C.claims self.now.1)) ∷ []) }
+            (is_zero (K.under condition.now (C.claims self.now.1))) }
         ensures label { OnOk result (IsLabelled AB.labelled (N.displays self.now.0) builder.old
             builder.new (Base (K.under condition.now (C.claims self.now.1)))) }
         ensures no_label { OnErr result (AB.labelled builder.old builder.new []) }

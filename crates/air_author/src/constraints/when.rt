@@ -1,5 +1,5 @@
 //! Constraints where a selector isn't zero.
-ghost use Rattle.air_field.specs.Term.{mul_term};
+ghost use Rattle.air_builder.specs.Notation.{◌⊙◌};
 
 use crate::AirResult;
 use crate::conditions::{Condition, Where};
@@ -13,8 +13,8 @@ use air_builder::AirBuilder;
 pub struct When<S, C>(pub S, pub C);
 
 impl<AB: AirBuilder, S: Expression<AB>, C: Constraint<AB>> Constraint<AB> for When<S, C> {
-    ghost asserts = { λ s f g. C.asserts s.1 (λ t. f (mul_term (S.term s.0) t))
-        (λ t. g (mul_term t (S.term s.0))) };
+    ghost asserts = { λ s f g. C.asserts s.1 (λ t. f (S.term s.0 ⊙ t))
+        (λ t. g (t ⊙ S.term s.0)) };
 
     ghost all_hold = { λ s b. S.holds s.0 b × C.all_hold s.1 b };
 

@@ -1,6 +1,6 @@
 //! Operations on expressions.
 ghost use Rattle.air_field.specs.Algebra.{double_term, bool_check_term};
-ghost use Rattle.air_field.specs.Term.{add_term, sub_term, neg_term, mul_term};
+ghost use Rattle.air_builder.specs.Notation.{negative, ◌⊕◌, ◌⊖◌, ◌⊙◌};
 ghost use Rattle.air_author.specs.Expressions.{Lasts, MadeIn, MadeBothIn};
 
 use crate::AirResult;
@@ -35,7 +35,7 @@ pub fn make_sum<AB: AirBuilder, X: Expression<AB>, Y: Expression<AB>>(
     requires ready { AB.ready builder.old }
     requires held { Lasts AB.kept (λ b. X.holds x.now b × Y.holds y.now b) builder.old }
     ensures { MadeIn ⟦<AB as View>⟧.view builder.old builder.new result
-        (add_term (X.term x.now) (Y.term y.now)) }
+        (X.term x.now ⊕ Y.term y.now) }
 {
     let (x, y) = make_both(builder, x, y)?;
     answered(builder.ring().add(x, y))
@@ -51,7 +51,7 @@ pub fn make_difference<AB: AirBuilder, X: Expression<AB>, Y: Expression<AB>>(
     requires ready { AB.ready builder.old }
     requires held { Lasts AB.kept (λ b. X.holds x.now b × Y.holds y.now b) builder.old }
     ensures { MadeIn ⟦<AB as View>⟧.view builder.old builder.new result
-        (sub_term (X.term x.now) (Y.term y.now)) }
+        (X.term x.now ⊖ Y.term y.now) }
 {
     let (x, y) = make_both(builder, x, y)?;
     answered(builder.ring().sub(x, y))
@@ -67,7 +67,7 @@ pub fn make_product<AB: AirBuilder, X: Expression<AB>, Y: Expression<AB>>(
     requires ready { AB.ready builder.old }
     requires held { Lasts AB.kept (λ b. X.holds x.now b × Y.holds y.now b) builder.old }
     ensures { MadeIn ⟦<AB as View>⟧.view builder.old builder.new result
-        (mul_term (X.term x.now) (Y.term y.now)) }
+        (X.term x.now ⊙ Y.term y.now) }
 {
     let (x, y) = make_both(builder, x, y)?;
     answered(builder.ring().mul(x, y))
@@ -78,7 +78,7 @@ pub fn make_product<AB: AirBuilder, X: Expression<AB>, Y: Expression<AB>>(
 pub struct Sum<X, Y>(pub X, pub Y);
 
 impl<AB: AirBuilder, X: Expression<AB>, Y: Expression<AB>> Expression<AB> for Sum<X, Y> {
-    ghost term = { λ s. add_term (X.term s.0) (Y.term s.1) };
+    ghost term = { λ s. X.term s.0 ⊕ Y.term s.1 };
 
     ghost holds = { λ s b. X.holds s.0 b × Y.holds s.1 b };
 
@@ -93,7 +93,7 @@ impl<AB: AirBuilder, X: Expression<AB>, Y: Expression<AB>> Expression<AB> for Su
 pub struct Difference<X, Y>(pub X, pub Y);
 
 impl<AB: AirBuilder, X: Expression<AB>, Y: Expression<AB>> Expression<AB> for Difference<X, Y> {
-    ghost term = { λ s. sub_term (X.term s.0) (Y.term s.1) };
+    ghost term = { λ s. X.term s.0 ⊖ Y.term s.1 };
 
     ghost holds = { λ s b. X.holds s.0 b × Y.holds s.1 b };
 
@@ -109,7 +109,7 @@ impl<AB: AirBuilder, X: Expression<AB>, Y: Expression<AB>> Expression<AB> for Di
 pub struct Less<'a, X, Y>(pub &'a X, pub &'a Y);
 
 impl<'a, AB: AirBuilder, X: Expression<AB>, Y: Expression<AB>> Expression<AB> for Less<'a, X, Y> {
-    ghost term = { λ s. sub_term (X.term s.0.now) (Y.term s.1.now) };
+    ghost term = { λ s. X.term s.0.now ⊖ Y.term s.1.now };
 
     ghost holds = { λ s b. X.holds s.0.now b × Y.holds s.1.now b };
 
@@ -124,7 +124,7 @@ impl<'a, AB: AirBuilder, X: Expression<AB>, Y: Expression<AB>> Expression<AB> fo
 pub struct Product<X, Y>(pub X, pub Y);
 
 impl<AB: AirBuilder, X: Expression<AB>, Y: Expression<AB>> Expression<AB> for Product<X, Y> {
-    ghost term = { λ s. mul_term (X.term s.0) (Y.term s.1) };
+    ghost term = { λ s. X.term s.0 ⊙ Y.term s.1 };
 
     ghost holds = { λ s b. X.holds s.0 b × Y.holds s.1 b };
 
@@ -139,7 +139,7 @@ impl<AB: AirBuilder, X: Expression<AB>, Y: Expression<AB>> Expression<AB> for Pr
 pub struct Negative<X>(pub X);
 
 impl<AB: AirBuilder, X: Expression<AB>> Expression<AB> for Negative<X> {
-    ghost term = { λ s. neg_term (X.term s.0) };
+    ghost term = { λ s. negative (X.term s.0) };
 
     ghost holds = { λ s b. X.holds s.0 b };
 
@@ -171,7 +171,7 @@ impl<AB: AirBuilder, X: Expression<AB>> Expression<AB> for Double<X> {
 pub struct Square<X>(pub X);
 
 impl<AB: AirBuilder, X: Expression<AB>> Expression<AB> for Square<X> {
-    ghost term = { λ s. mul_term (X.term s.0) (X.term s.0) };
+    ghost term = { λ s. X.term s.0 ⊙ X.term s.0 };
 
     ghost holds = { λ s b. X.holds s.0 b };
 

@@ -1,6 +1,7 @@
 //! Entries of the row: columns, periodic columns and public values. A missing one is refused by name.
 ghost use Rattle.std.specs.Prelude.{◌≡◌, ◌↔◌, None, IfSome};
-ghost use Rattle.air_field.specs.Term.{preprocessed, main, periodic, public, leaf_term};
+ghost use Rattle.air_field.specs.Term.{leaf_term};
+ghost use Rattle.air_builder.specs.Notation.{current, next, periodic, preprocessed_current, preprocessed_next, public};
 ghost use Rattle.air_core.specs.Entries.{entry_leaf};
 ghost use Rattle.air_builder.specs.Builders.{VariableReadsAs};
 ghost use Rattle.air_builder.specs.Refusals.{IsOfWindow};
@@ -37,7 +38,7 @@ fn make_found<AB: AirBuilder>(
 pub struct Current(pub usize);
 
 impl<AB: AirBuilder> Expression<AB> for Current {
-    ghost term = { λ s. leaf_term (main 0 s.0) };
+    ghost term = { λ s. current s.0 };
 
     #[inline(always)]
     fn make(&self, builder: &mut AB) -> AirResult<AB::Expr> {
@@ -51,7 +52,7 @@ impl<AB: AirBuilder> Expression<AB> for Current {
 pub struct Next(pub usize);
 
 impl<AB: AirBuilder> Expression<AB> for Next {
-    ghost term = { λ s. leaf_term (main 1 s.0) };
+    ghost term = { λ s. next s.0 };
 
     #[inline(always)]
     fn make(&self, builder: &mut AB) -> AirResult<AB::Expr> {
@@ -65,7 +66,7 @@ impl<AB: AirBuilder> Expression<AB> for Next {
 pub struct PreprocessedCurrent(pub usize);
 
 impl<AB: AirBuilder> Expression<AB> for PreprocessedCurrent {
-    ghost term = { λ s. leaf_term (preprocessed 0 s.0) };
+    ghost term = { λ s. preprocessed_current s.0 };
 
     #[inline(always)]
     fn make(&self, builder: &mut AB) -> AirResult<AB::Expr> {
@@ -84,7 +85,7 @@ impl<AB: AirBuilder> Expression<AB> for PreprocessedCurrent {
 pub struct PreprocessedNext(pub usize);
 
 impl<AB: AirBuilder> Expression<AB> for PreprocessedNext {
-    ghost term = { λ s. leaf_term (preprocessed 1 s.0) };
+    ghost term = { λ s. preprocessed_next s.0 };
 
     #[inline(always)]
     fn make(&self, builder: &mut AB) -> AirResult<AB::Expr> {
@@ -103,7 +104,7 @@ impl<AB: AirBuilder> Expression<AB> for PreprocessedNext {
 pub struct Public(pub usize);
 
 impl<AB: AirBuilder> Expression<AB> for Public {
-    ghost term = { λ s. leaf_term (public s.0) };
+    ghost term = { λ s. public s.0 };
 
     #[inline(always)]
     fn make(&self, builder: &mut AB) -> AirResult<AB::Expr> {
@@ -120,7 +121,7 @@ impl<AB: AirBuilder> Expression<AB> for Public {
 pub struct Periodic(pub usize);
 
 impl<AB: AirBuilder> Expression<AB> for Periodic {
-    ghost term = { λ s. leaf_term (periodic s.0) };
+    ghost term = { λ s. periodic s.0 };
 
     #[inline(always)]
     fn make(&self, builder: &mut AB) -> AirResult<AB::Expr> {

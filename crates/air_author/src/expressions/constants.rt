@@ -1,6 +1,6 @@
 //! Constants of the field.
 ghost use Rattle.air_field.specs.Ring.{image};
-ghost use Rattle.air_field.specs.Term.{const_term};
+ghost use Rattle.air_builder.specs.Notation.{constant};
 
 use crate::AirResult;
 use crate::expressions::{Expression, answered};
@@ -12,7 +12,7 @@ use air_field::{Algebra, Field};
 pub struct Constant<F>(pub F);
 
 impl<AB: AirBuilder> Expression<AB> for Constant<AB::F> {
-    ghost term = { λ s. const_term s.0 };
+    ghost term = { λ s. constant s.0 };
 
     #[inline(always)]
     fn make(&self, builder: &mut AB) -> AirResult<AB::Expr> {
@@ -25,7 +25,7 @@ impl<AB: AirBuilder> Expression<AB> for Constant<AB::F> {
 pub struct One;
 
 impl<AB: AirBuilder> Expression<AB> for One {
-    ghost term = { λ _. const_term AB.F.ring.one };
+    ghost term = { λ _. constant AB.F.ring.one };
 
     #[inline(always)]
     fn make(&self, builder: &mut AB) -> AirResult<AB::Expr> {
@@ -38,7 +38,7 @@ impl<AB: AirBuilder> Expression<AB> for One {
 pub struct Number(pub u64);
 
 impl<AB: AirBuilder> Expression<AB> for Number {
-    ghost term = { λ s. const_term (image AB.F.ring s.0) };
+    ghost term = { λ s. constant (image AB.F.ring s.0) };
 
     #[inline(always)]
     fn make(&self, builder: &mut AB) -> AirResult<AB::Expr> {

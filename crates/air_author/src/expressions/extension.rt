@@ -1,6 +1,6 @@
 //! Expressions over the extension. Operations are those on base expressions.
 ghost use Rattle.air_field.specs.Algebra.{double_term, bool_check_term};
-ghost use Rattle.air_field.specs.Term.{ext_const_term, add_term, sub_term, neg_term, mul_term};
+ghost use Rattle.air_builder.specs.Notation.{ext_constant, negative, ◌⊕◌, ◌⊖◌, ◌⊙◌};
 ghost use Rattle.air_author.specs.Expressions.{Lasts, MadeIn, MadeBothIn, power_term};
 
 use crate::AirResult;
@@ -47,7 +47,7 @@ impl<AB: ExtensionBuilder, X: Expression<AB>> ExtExpression<AB> for Lifted<X> {
 pub struct ExtConstant<EF>(pub EF);
 
 impl<AB: ExtensionBuilder> ExtExpression<AB> for ExtConstant<AB::EF> {
-    ghost ext_term = { λ s. ext_const_term (AB.EF.basis.coefficients s.0) };
+    ghost ext_term = { λ s. ext_constant (AB.EF.basis.coefficients s.0) };
 
     #[inline(always)]
     fn make_ext(&self, builder: &mut AB) -> AirResult<AB::ExprEF> {
@@ -74,7 +74,7 @@ fn make_both_ext<AB: ExtensionBuilder, X: ExtExpression<AB>, Y: ExtExpression<AB
 
 impl<AB: ExtensionBuilder, X: ExtExpression<AB>, Y: ExtExpression<AB>> ExtExpression<AB>
     for Sum<X, Y> {
-    ghost ext_term = { λ s. add_term (X.ext_term s.0) (Y.ext_term s.1) };
+    ghost ext_term = { λ s. X.ext_term s.0 ⊕ Y.ext_term s.1 };
 
     ghost ext_holds = { λ s b. X.ext_holds s.0 b × Y.ext_holds s.1 b };
 
@@ -87,7 +87,7 @@ impl<AB: ExtensionBuilder, X: ExtExpression<AB>, Y: ExtExpression<AB>> ExtExpres
 
 impl<'a, AB: ExtensionBuilder, X: ExtExpression<AB>, Y: ExtExpression<AB>> ExtExpression<AB>
     for Less<'a, X, Y> {
-    ghost ext_term = { λ s. sub_term (X.ext_term s.0.now) (Y.ext_term s.1.now) };
+    ghost ext_term = { λ s. X.ext_term s.0.now ⊖ Y.ext_term s.1.now };
 
     ghost ext_holds = { λ s b. X.ext_holds s.0.now b × Y.ext_holds s.1.now b };
 
@@ -100,7 +100,7 @@ impl<'a, AB: ExtensionBuilder, X: ExtExpression<AB>, Y: ExtExpression<AB>> ExtEx
 
 impl<AB: ExtensionBuilder, X: ExtExpression<AB>, Y: ExtExpression<AB>> ExtExpression<AB>
     for Difference<X, Y> {
-    ghost ext_term = { λ s. sub_term (X.ext_term s.0) (Y.ext_term s.1) };
+    ghost ext_term = { λ s. X.ext_term s.0 ⊖ Y.ext_term s.1 };
 
     ghost ext_holds = { λ s b. X.ext_holds s.0 b × Y.ext_holds s.1 b };
 
@@ -112,7 +112,7 @@ impl<AB: ExtensionBuilder, X: ExtExpression<AB>, Y: ExtExpression<AB>> ExtExpres
 
 impl<AB: ExtensionBuilder, X: ExtExpression<AB>, Y: ExtExpression<AB>> ExtExpression<AB>
     for Product<X, Y> {
-    ghost ext_term = { λ s. mul_term (X.ext_term s.0) (Y.ext_term s.1) };
+    ghost ext_term = { λ s. X.ext_term s.0 ⊙ Y.ext_term s.1 };
 
     ghost ext_holds = { λ s b. X.ext_holds s.0 b × Y.ext_holds s.1 b };
 
@@ -124,7 +124,7 @@ impl<AB: ExtensionBuilder, X: ExtExpression<AB>, Y: ExtExpression<AB>> ExtExpres
 }
 
 impl<AB: ExtensionBuilder, X: ExtExpression<AB>> ExtExpression<AB> for Negative<X> {
-    ghost ext_term = { λ s. neg_term (X.ext_term s.0) };
+    ghost ext_term = { λ s. negative (X.ext_term s.0) };
 
     ghost ext_holds = { λ s b. X.ext_holds s.0 b };
 
@@ -148,7 +148,7 @@ impl<AB: ExtensionBuilder, X: ExtExpression<AB>> ExtExpression<AB> for Double<X>
 }
 
 impl<AB: ExtensionBuilder, X: ExtExpression<AB>> ExtExpression<AB> for Square<X> {
-    ghost ext_term = { λ s. mul_term (X.ext_term s.0) (X.ext_term s.0) };
+    ghost ext_term = { λ s. X.ext_term s.0 ⊙ X.ext_term s.0 };
 
     ghost ext_holds = { λ s b. X.ext_holds s.0 b };
 

@@ -1,7 +1,8 @@
 //! Entries of the permutation trace, its challenges and its values. A missing one is refused by name, and each column
 //! of a builder without a permutation trace with `NoPermutation`.
 ghost use Rattle.std.specs.Prelude.{◌≤◌};
-ghost use Rattle.air_field.specs.Term.{permutation, challenge, permutation_value, leaf_term};
+ghost use Rattle.air_field.specs.Term.{permutation, leaf_term};
+ghost use Rattle.air_builder.specs.Notation.{challenge, permutation_current, permutation_next, permutation_value};
 ghost use Rattle.air_author.specs.Expressions.{MadeIn};
 
 use crate::AirResult;
@@ -39,7 +40,7 @@ impl<AB: PermutationAirBuilder> ExtExpression<AB> for PermutationCurrent
 where
     AB::ExtRing: FromVar<AB::F, AB::RandomVar> + FromVar<AB::F, AB::PermutationVar>,
 {
-    ghost ext_term = { λ s. leaf_term (permutation 0 s.0) };
+    ghost ext_term = { λ s. permutation_current s.0 };
 
     #[inline(always)]
     fn make_ext(&self, builder: &mut AB) -> AirResult<AB::ExprEF> {
@@ -55,7 +56,7 @@ impl<AB: PermutationAirBuilder> ExtExpression<AB> for PermutationNext
 where
     AB::ExtRing: FromVar<AB::F, AB::RandomVar> + FromVar<AB::F, AB::PermutationVar>,
 {
-    ghost ext_term = { λ s. leaf_term (permutation 1 s.0) };
+    ghost ext_term = { λ s. permutation_next s.0 };
 
     #[inline(always)]
     fn make_ext(&self, builder: &mut AB) -> AirResult<AB::ExprEF> {
@@ -71,7 +72,7 @@ impl<AB: PermutationAirBuilder> ExtExpression<AB> for Challenge
 where
     AB::ExtRing: FromVar<AB::F, AB::RandomVar> + FromVar<AB::F, AB::PermutationVar>,
 {
-    ghost ext_term = { λ s. leaf_term (challenge s.0) };
+    ghost ext_term = { λ s. challenge s.0 };
 
     #[inline(always)]
     fn make_ext(&self, builder: &mut AB) -> AirResult<AB::ExprEF> {
@@ -91,7 +92,7 @@ impl<AB: PermutationAirBuilder> ExtExpression<AB> for PermutationValue
 where
     AB::ExtRing: FromVar<AB::F, AB::RandomVar> + FromVar<AB::F, AB::PermutationVar>,
 {
-    ghost ext_term = { λ s. leaf_term (permutation_value s.0) };
+    ghost ext_term = { λ s. permutation_value s.0 };
 
     #[inline(always)]
     fn make_ext(&self, builder: &mut AB) -> AirResult<AB::ExprEF> {

@@ -1,5 +1,5 @@
 //! Selectors of rows.
-ghost use Rattle.air_field.specs.Term.{first_row, last_row, transition, leaf_term};
+ghost use Rattle.air_builder.specs.Notation.{first_row, last_row, transition};
 
 use crate::AirResult;
 use crate::expressions::Expression;
@@ -10,7 +10,7 @@ use air_builder::AirBuilder;
 pub struct FirstRow;
 
 impl<AB: AirBuilder> Expression<AB> for FirstRow {
-    ghost term = { λ _. leaf_term first_row };
+    ghost term = { λ _. first_row };
 
     #[inline(always)]
     fn make(&self, builder: &mut AB) -> AirResult<AB::Expr> {
@@ -23,7 +23,7 @@ impl<AB: AirBuilder> Expression<AB> for FirstRow {
 pub struct LastRow;
 
 impl<AB: AirBuilder> Expression<AB> for LastRow {
-    ghost term = { λ _. leaf_term last_row };
+    ghost term = { λ _. last_row };
 
     #[inline(always)]
     fn make(&self, builder: &mut AB) -> AirResult<AB::Expr> {
@@ -36,7 +36,7 @@ impl<AB: AirBuilder> Expression<AB> for LastRow {
 pub struct Transition;
 
 impl<AB: AirBuilder> Expression<AB> for Transition {
-    ghost term = { λ _. leaf_term transition };
+    ghost term = { λ _. transition };
 
     #[inline(always)]
     fn make(&self, builder: &mut AB) -> AirResult<AB::Expr> {
