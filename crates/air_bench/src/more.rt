@@ -7,7 +7,7 @@ use crate::checks::check_rounds;
 use crate::recordings::record_rounds_ext;
 use crate::traces::constant_trace;
 use p3_air::author::{
-    All, Challenge, Condition, Constraint, Current, Difference, ExtZero, Family, Lifted, Periodic,
+    All, Challenge, Condition, Constraint, Current, Difference, ExtZero, Family, Periodic,
     PermutationCurrent, PermutationNext, Plain, PlainAir, PlainConstraints, Product, Sum, Zero,
     assert_all,
 };
@@ -113,7 +113,7 @@ where
         condition: &K,
     ) -> Result<(), AirError> {
         let shifted = Sum(PermutationCurrent(index), Challenge(0));
-        let product = Product(shifted, Lifted(Current(index)));
+        let product = Product(shifted, Current(index));
         ExtZero(Difference(product, PermutationNext(index))).assert_under(builder, condition)
     }
 }

@@ -5,14 +5,14 @@ ghost use Rattle.air_builder.specs.Declaration.{plain_declaration};
 use crate::airs::show_said;
 use air_builder::{AirError, BaseAir, BoundaryPublic};
 use air_fibonacci::Fibonacci;
-use air_field::{BabyBear, RowMajorMatrix};
+use air_field::{Field, RowMajorMatrix};
 use cases::{Fault, Why};
 use std::alloc::Global;
 
 /// An AIR of three columns without constraints, of which only column 1 is said to be read at the next row.
 struct OneHint;
 
-impl BaseAir<BabyBear> for OneHint {
+impl<F: Field> BaseAir<F> for OneHint {
     ghost declaration = { λ _. plain_declaration [] 3 0 };
 
     ghost has_own_next_row_columns = { λ _. ⊤ };
@@ -25,11 +25,11 @@ impl BaseAir<BabyBear> for OneHint {
         0
     }
 
-    fn preprocessed_trace(&self) -> Option<&RowMajorMatrix<BabyBear>> {
+    fn preprocessed_trace(&self) -> Option<&RowMajorMatrix<F>> {
         None
     }
 
-    fn periodic_columns(&self) -> &[Vec<BabyBear>] {
+    fn periodic_columns(&self) -> &[Vec<F>] {
         &[]
     }
 
@@ -43,10 +43,15 @@ impl BaseAir<BabyBear> for OneHint {
 }
 
 /// Adds what an AIR hints: Fibonacci has no hints of its own, the other one.
-pub fn hint(alloc: Global, air: &str, call: &str, text: &mut String) -> Result<(), Fault> {
+pub fn hint<F: Field>(
+    alloc: Global,
+    air: &str,
+    call: &str,
+    text: &mut String,
+) -> Result<(), Fault> {
     match air {
-        "fibonacci" => show_said::<BabyBear, Fibonacci>(alloc, &Fibonacci::new(), call, text),
-        "one_hint" => show_said::<BabyBear, OneHint>(alloc, &OneHint, call, text),
+        "fibonacci" => show_said::<F, Fibonacci>(alloc, &Fibonacci::new(), call, text),
+        "one_hint" => show_said::<F, OneHint>(alloc, &OneHint, call, text),
         _ => Err(Fault::Unreadable(Why::NoSuchName)),
     }
 }

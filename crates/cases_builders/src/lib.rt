@@ -19,7 +19,10 @@ mod words;
 use crate::recordings::Recordings;
 use crate::rows::Rows;
 use crate::values::Values;
+use air_field::{BabyBear, BinomialExtensionField};
 use cases::{Fault, Report, Table, Tables, Why, check_lines};
+
+type Element = BinomialExtensionField;
 
 /// The tables of this layer, by their heads.
 pub struct BuilderTables;
@@ -32,9 +35,9 @@ impl Tables for BuilderTables {
         report: &mut Report,
     ) -> Result<(), Fault> {
         match head {
-            "values" => check_lines::<Values>(rt, table, report),
-            "recordings" => check_lines::<Recordings>(rt, table, report),
-            "rows" => check_lines::<Rows>(rt, table, report),
+            "values" => check_lines::<Values<BabyBear>>(rt, table, report),
+            "recordings" => check_lines::<Recordings<BabyBear, Element>>(rt, table, report),
+            "rows" => check_lines::<Rows<BabyBear, Element>>(rt, table, report),
             _ => Err(Fault::Unreadable(Why::NoSuchTable)),
         }
     }

@@ -5,21 +5,23 @@ ghost use Rattle.air_symbolic.specs.Pools.{IsPool};
 
 use crate::trees::{show_tree, show_value};
 use air_builder::AirBuilder;
-use air_field::{BabyBear, BinomialExtensionField, ExtensionField, Field};
+use air_field::{ExtensionField, Field};
 use air_recording::{AirLayout, Recorded, SymbolicAirBuilder};
 use cases::words::Number;
 use cases::{Bench, Fault, Line};
 use cases_assertions::assert_all;
 use p3_air::finish_recording;
 use std::alloc::Global;
+use std::marker::PhantomData;
 
+/// Recordings over these fields.
 #[derive(Drop)]
-pub struct Recordings {
+pub struct Recordings<F, EF> {
     alloc: Global,
+    fields: PhantomData<(F, EF)>,
 }
 
-// What is recorded of the assertions. Over any fields: of the builder over two given ones the checker compares more
-// than its limit allows.
+// What is recorded of the assertions.
 fn recorded<F: Field, EF: ExtensionField<F>>(
     alloc: Global,
     words: &[&str],
@@ -61,19 +63,27 @@ fn answer_recorded<F: Number, EF: ExtensionField<F>>(
     show_recorded(&recorded::<F, EF>(alloc, words)?, text)
 }
 
-impl<'a> Bench<'a> for Recordings {
+// How many rows the window of the symbolic builder has.
+fn window_rows<F: Field, EF: ExtensionField<F>>() -> usize {
+    SymbolicAirBuilder::<F, EF>::WINDOW
+}
+
+impl<'a, F: Number, EF: ExtensionField<F>> Bench<'a> for Recordings<F, EF> {
     fn new(alloc: Global) -> Self {
-        Recordings { alloc }
+        Recordings {
+            alloc,
+            fields: PhantomData,
+        }
     }
 
     fn answer(&mut self, line: &Line<'a>, text: &mut String) -> Result<(), Fault> {
         match line.words.as_slice() {
             ["WINDOW"] => {
-                let rows = SymbolicAirBuilder::<BabyBear, BinomialExtensionField>::WINDOW;
+                let rows = window_rows::<F, EF>();
                 write!(text, "{rows}")?;
                 Ok(())
             }
-            words => answer_recorded::<BabyBear, BinomialExtensionField>(self.alloc, words, text),
+            words => answer_recorded::<F, EF>(self.alloc, words, text),
         }
     }
 

@@ -1,22 +1,29 @@
 //! Assertions that are evaluated at one row without columns: each line has a builder of its own.
 
 use air_builder::AirBuilder;
-use air_field::{BabyBear, BinomialExtensionField, RowMajorMatrixView, ViewPair};
+use air_field::{ExtensionField, Field, RowMajorMatrixView, ViewPair};
 use air_report::DebugConstraintBuilder;
 use cases::words::element_of;
 use cases::{Bench, Fault, Line};
 use cases_assertions::assert_all;
 use std::alloc::Global;
+use std::marker::PhantomData;
 
+/// Rows over these fields. (The fields are named where the tables are checked and nowhere else: at given ones each call
+/// is dear to prove.)
 #[derive(Drop)]
-pub struct Rows {
+pub struct Rows<F, EF> {
     alloc: Global,
+    fields: PhantomData<(F, EF)>,
 }
 
-type RowBuilder<'a> = DebugConstraintBuilder<'a, BabyBear, BinomialExtensionField>;
+type RowBuilder<'a, F, EF> = DebugConstraintBuilder<'a, F, EF>;
 
 // A builder at the first row, with these selectors of the first, the last and the other rows.
-fn row_builder<'a>(alloc: Global, selectors: [BabyBear; 3]) -> RowBuilder<'a> {
+fn row_builder<'a, F: Field, EF: ExtensionField<F>>(
+    alloc: Global,
+    selectors: [F; 3],
+) -> RowBuilder<'a, F, EF> {
     let [first, last, transition] = selectors;
     let none = RowMajorMatrixView::new_row(&[]);
     let none_over = RowMajorMatrixView::new_row(&[]);
@@ -36,29 +43,37 @@ fn row_builder<'a>(alloc: Global, selectors: [BabyBear; 3]) -> RowBuilder<'a> {
     )
 }
 
-fn assert_at_row(alloc: Global, builder: &mut RowBuilder<'_>, words: &[&str]) -> Result<(), Fault> {
-    assert_all(alloc, builder, words)
-}
-
-fn show_failures(builder: &RowBuilder<'_>, text: &mut String) -> Result<(), Fault> {
+// Adds the failures of the assertions at the first row, with these selectors.
+fn show_failures<F: Field + 'static, EF: ExtensionField<F> + 'static>(
+    alloc: Global,
+    selectors: [F; 3],
+    words: &[&str],
+    text: &mut String,
+) -> Result<(), Fault> {
+    let mut builder: RowBuilder<'_, F, EF> = row_builder(alloc, selectors);
+    assert_all(alloc, &mut builder, words)?;
     let failures = builder.formatted_failures()?;
     text.push_str(failures.as_str())?;
     Ok(())
 }
 
-impl<'a> Bench<'a> for Rows {
+// How many rows the window of a builder at a row has.
+fn window_rows<F: Field + 'static, EF: ExtensionField<F> + 'static>() -> usize {
+    DebugConstraintBuilder::<'static, F, EF>::WINDOW
+}
+
+impl<'a, F: Field + 'static, EF: ExtensionField<F> + 'static> Bench<'a> for Rows<F, EF> {
     fn new(alloc: Global) -> Self {
-        Rows { alloc }
+        Rows {
+            alloc,
+            fields: PhantomData,
+        }
     }
 
     fn answer(&mut self, line: &Line<'a>, text: &mut String) -> Result<(), Fault> {
         let (selectors, words) = match line.words.as_slice() {
             ["WINDOW"] => {
-                let rows = DebugConstraintBuilder::<
-                    'static,
-                    BabyBear,
-                    BinomialExtensionField,
-                >::WINDOW;
+                let rows = window_rows::<F, EF>();
                 write!(text, "{rows}")?;
                 return Ok(());
             }
@@ -66,11 +81,9 @@ impl<'a> Bench<'a> for Rows {
                 let (first, last) = (element_of(*first)?, element_of(*last)?);
                 ([first, last, element_of(*transition)?], words)
             }
-            words => ([BabyBear::new(1); 3], words),
+            words => ([F::ONE; 3], words),
         };
-        let mut builder = row_builder(self.alloc, selectors);
-        assert_at_row(self.alloc, &mut builder, words)?;
-        show_failures(&builder, text)
+        show_failures::<F, EF>(self.alloc, selectors, words, text)
     }
 
     fn standing(&self, _text: &mut String) -> Result<(), Fault> {

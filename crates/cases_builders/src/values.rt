@@ -9,19 +9,24 @@ use crate::labels::names;
 use crate::matrices::{matrix, view_pair};
 use crate::windows::window;
 use crate::words::word_gadget;
-use air_field::BabyBear;
+use air_field::PrimeField64;
 use cases::{Bench, Fault, Line, Why};
 use std::alloc::Global;
+use std::marker::PhantomData;
 
 /// What is made by one line is gone with it.
 #[derive(Drop)]
-pub struct Values {
+pub struct Values<F> {
     alloc: Global,
+    field: PhantomData<F>,
 }
 
-impl<'a> Bench<'a> for Values {
+impl<'a, F: PrimeField64 + 'static> Bench<'a> for Values<F> {
     fn new(alloc: Global) -> Self {
-        Values { alloc }
+        Values {
+            alloc,
+            field: PhantomData,
+        }
     }
 
     fn answer(&mut self, line: &Line<'a>, text: &mut String) -> Result<(), Fault> {
@@ -32,12 +37,12 @@ impl<'a> Bench<'a> for Values {
             ["window", call @ ..] => window(alloc, call, text),
             ["boundary", call @ ..] => boundary(alloc, call, text),
             ["name", call @ ..] => names(alloc, call, text),
-            ["air", call @ ..] => air::<BabyBear>(alloc, call, text),
-            ["hint", air, call] => hint(alloc, *air, *call, text),
-            ["PairCol", call @ ..] => pair_col::<BabyBear>(alloc, call, text),
-            ["VirtualPairCol", call @ ..] => virtual_pair_col::<BabyBear>(alloc, call, text),
-            ["utils", call @ ..] => utils(alloc, call, text),
-            ["gadget", call @ ..] => word_gadget(alloc, call, text),
+            ["air", call @ ..] => air::<F>(alloc, call, text),
+            ["hint", air, call] => hint::<F>(alloc, *air, *call, text),
+            ["PairCol", call @ ..] => pair_col::<F>(alloc, call, text),
+            ["VirtualPairCol", call @ ..] => virtual_pair_col::<F>(alloc, call, text),
+            ["utils", call @ ..] => utils::<F>(alloc, call, text),
+            ["gadget", call @ ..] => word_gadget::<F>(alloc, call, text),
             _ => Err(Fault::Unreadable(Why::NoSuchCall)),
         }
     }

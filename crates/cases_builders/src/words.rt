@@ -6,8 +6,7 @@ ghost use Rattle.air_symbolic.specs.Pools.{IsPool, base_of};
 use air_builder::{AirBuilder, AirError};
 use air_core::{BaseEntry, SymbolicVariable};
 use air_field::{
-    Algebra, BabyBear, Field, FromVar, Goldilocks, KoalaBear, Mersenne31, PrimeField64,
-    RowMajorMatrix,
+    Algebra, Field, FromVar, Goldilocks, KoalaBear, Mersenne31, PrimeField64, RowMajorMatrix,
 };
 use air_gadgets::{add2, add3, xor_32_shift};
 use air_recording::{AirLayout, Recorded, SymbolicAirBuilder};
@@ -281,12 +280,16 @@ fn gadget_over<F: PrimeField64 + 'static>(
     }
 }
 
-/// Adds what a gadget makes of the row of its words: over BabyBear, or over the field that is named.
-pub fn word_gadget(alloc: Global, call: &[&str], text: &mut String) -> Result<(), Fault> {
+/// Adds what a gadget makes of the row of its words, over the field that is named, if one is.
+pub fn word_gadget<F: PrimeField64 + 'static>(
+    alloc: Global,
+    call: &[&str],
+    text: &mut String,
+) -> Result<(), Fault> {
     match call {
         ["over", "KoalaBear", call @ ..] => gadget_over::<KoalaBear>(alloc, call, text),
         ["over", "Mersenne31", call @ ..] => gadget_over::<Mersenne31>(alloc, call, text),
         ["over", "Goldilocks", call @ ..] => gadget_over::<Goldilocks>(alloc, call, text),
-        call => gadget_over::<BabyBear>(alloc, call, text),
+        call => gadget_over::<F>(alloc, call, text),
     }
 }

@@ -4,17 +4,19 @@ use crate::checks::show_flat_check;
 use crate::fibonacci::{layout_of, show_recording, show_traced};
 use crate::flat_inputs::show_input;
 use crate::runs::show_run;
-use air_field::BabyBear;
+use air_field::PrimeField64;
 use cases::{Bench, Fault, Line, Names, Why};
 use std::alloc::Global;
+use std::marker::PhantomData;
 
-/// The inputs that have names.
+/// The inputs that have names, and the field of all calls but `run`, which names its own.
 #[derive(Drop)]
-pub struct Program<'a> {
+pub struct Program<'a, F> {
     inputs: Names<'a, &'a str>,
+    field: PhantomData<F>,
 }
 
-impl<'a> Program<'a> {
+impl<'a, F: PrimeField64 + 'static> Program<'a, F> {
     // Adds what a run answers: its words are said, the last two give its input, by name or itself.
     fn answer_run(&self, words: &[&'a str], text: &mut String) -> Result<(), Fault> {
         let alloc = self.inputs.alloc();
@@ -34,9 +36,9 @@ impl<'a> Program<'a> {
         let alloc = self.inputs.alloc();
         match words {
             ["run", rest @ ..] => self.answer_run(rest, text),
-            ["flat_input_from", object] => show_input(alloc, *object, text),
-            [call, "<", name] => show_flat_check(alloc, *call, self.inputs.get(*name)?, text),
-            [call, "fibonacci", rest @ ..] => show_traced(alloc, *call, rest, text),
+            ["flat_input_from", object] => show_input::<F>(alloc, *object, text),
+            [call, "<", name] => show_flat_check::<F>(alloc, *call, self.inputs.get(*name)?, text),
+            [call, "fibonacci", rest @ ..] => show_traced::<F>(alloc, *call, rest, text),
             [
                 call,
                 "main_width",
@@ -49,17 +51,18 @@ impl<'a> Program<'a> {
                 table,
             ] => {
                 let layout = layout_of([*width, *values, *columns, *table])?;
-                show_recording::<BabyBear>(alloc, *call, layout, text)
+                show_recording::<F>(alloc, *call, layout, text)
             }
             _ => Err(Fault::Unreadable(Why::NoSuchCall)),
         }
     }
 }
 
-impl<'a> Bench<'a> for Program<'a> {
+impl<'a, F: PrimeField64 + 'static> Bench<'a> for Program<'a, F> {
     fn new(alloc: Global) -> Self {
         Program {
             inputs: Names::new(alloc),
+            field: PhantomData,
         }
     }
 

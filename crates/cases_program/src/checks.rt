@@ -1,6 +1,6 @@
 //! Checks of whole traces.
 
-use air_field::{BabyBear, RowMajorMatrix};
+use air_field::{Field, PrimeField64, RowMajorMatrix};
 use air_program::{FlatInput, flat_input_from};
 use cases::words::value_of;
 use cases::{Fault, Why};
@@ -43,12 +43,12 @@ fn show_error(error: CheckError, text: &mut String) -> Result<(), Fault> {
 }
 
 /// Adds what a check of a trace answers.
-pub fn show_check<'a, A: Air<DebugConstraintBuilder<'a, BabyBear, BabyBear>>>(
+pub fn show_check<'a, F: Field + 'static, A: Air<DebugConstraintBuilder<'a, F, F>>>(
     alloc: Global,
     call: &str,
     air: &'a A,
-    main: &'a RowMajorMatrix<BabyBear>,
-    public_values: &'a [BabyBear],
+    main: &'a RowMajorMatrix<F>,
+    public_values: &'a [F],
     cap: Option<usize>,
     text: &mut String,
 ) -> Result<(), Fault> {
@@ -66,10 +66,7 @@ pub fn show_check<'a, A: Air<DebugConstraintBuilder<'a, BabyBear, BabyBear>>>(
 }
 
 // The AIR with this preprocessed table, if there is one.
-fn with_table(
-    air: FlatAir<BabyBear>,
-    table: Option<RowMajorMatrix<BabyBear>>,
-) -> FlatAir<BabyBear> {
+fn with_table<F: Field>(air: FlatAir<F>, table: Option<RowMajorMatrix<F>>) -> FlatAir<F> {
     match table {
         Some(table) => air.with_preprocessed(table),
         None => air,
@@ -77,7 +74,7 @@ fn with_table(
 }
 
 /// Adds what a check of an object's trace answers.
-pub fn show_flat_check(
+pub fn show_flat_check<F: PrimeField64 + 'static>(
     alloc: Global,
     call: &str,
     object: &str,
@@ -94,7 +91,7 @@ pub fn show_flat_check(
         preprocessed,
         cap,
         ..
-    } = flat_input_from::<BabyBear>(alloc, &value)?;
+    } = flat_input_from::<F>(alloc, &value)?;
     let (width, count) = (main.width(), public_values.len());
     let air = FlatAir::new(pool, roots, width, count, periodic, cells)?;
     let air = with_table(air, preprocessed);

@@ -2,7 +2,7 @@
 
 use crate::checks::{show_check, show_report};
 use air_fibonacci::Fibonacci;
-use air_field::{BabyBear, Field, RowMajorMatrix};
+use air_field::{Field, RowMajorMatrix};
 use cases::words::{count_of, listed_elements};
 use cases::{Fault, Why};
 use p3_air::{
@@ -13,7 +13,11 @@ use p3_air::{
 use std::alloc::Global;
 
 // The rows of these values.
-fn trace_of(alloc: Global, width: &str, values: &str) -> Result<RowMajorMatrix<BabyBear>, Fault> {
+fn trace_of<F: Field>(
+    alloc: Global,
+    width: &str,
+    values: &str,
+) -> Result<RowMajorMatrix<F>, Fault> {
     let values = listed_elements(alloc, values)?;
     Ok(RowMajorMatrix::new(values, count_of(width)?)?)
 }
@@ -28,7 +32,7 @@ fn cap_of(word: &str) -> Result<Option<usize>, Fault> {
 
 /// Adds what a check of a trace answers, or an audit. The words are the width, the values row after row, the public
 /// values, and the cap of a check.
-pub fn show_traced(
+pub fn show_traced<F: Field + 'static>(
     alloc: Global,
     call: &str,
     words: &[&str],
@@ -36,13 +40,13 @@ pub fn show_traced(
 ) -> Result<(), Fault> {
     match words {
         [width, values, "public", public] => {
-            let main = trace_of(alloc, *width, *values)?;
+            let main: RowMajorMatrix<F> = trace_of(alloc, *width, *values)?;
             let public_values = listed_elements(alloc, *public)?;
             show_audit(alloc, call, &main, &public_values, text)
         }
         [width, values, "public", public, "cap", cap] => {
             let main = trace_of(alloc, *width, *values)?;
-            let public_values: Vec<BabyBear> = listed_elements(alloc, *public)?;
+            let public_values: Vec<F> = listed_elements(alloc, *public)?;
             let cap = cap_of(*cap)?;
             let fibonacci = Fibonacci::new();
             show_check(alloc, call, &fibonacci, &main, &public_values, cap, text)
@@ -60,11 +64,11 @@ fn show_layout(layout: &ConstraintLayout, text: &mut String) -> Result<(), Fault
 }
 
 // Adds what an audit finds.
-fn show_audit(
+fn show_audit<F: Field + 'static>(
     alloc: Global,
     call: &str,
-    main: &RowMajorMatrix<BabyBear>,
-    public_values: &[BabyBear],
+    main: &RowMajorMatrix<F>,
+    public_values: &[F],
     text: &mut String,
 ) -> Result<(), Fault> {
     if call != "audit_air" {

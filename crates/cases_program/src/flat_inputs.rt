@@ -1,14 +1,14 @@
 //! Objects that an AIR and its trace are read from.
 
-use air_field::{BabyBear, RowMajorMatrix};
+use air_field::{Field, PrimeField64, RowMajorMatrix};
 use air_program::{FlatInput, flat_input_from};
 use air_symbolic::{BaseLeaf, ExprId};
 use cases::Fault;
-use cases::words::{show_elements, value_of};
+use cases::words::{Number, show_elements, value_of};
 use std::alloc::Global;
 
 // Adds the rows.
-fn show_rows(matrix: &RowMajorMatrix<BabyBear>, text: &mut String) -> Result<(), Fault> {
+fn show_rows<F: Number>(matrix: &RowMajorMatrix<F>, text: &mut String) -> Result<(), Fault> {
     let width = matrix.width();
     write!(text, "width {width} rows")?;
     for row in 0..matrix.height() {
@@ -21,7 +21,7 @@ fn show_rows(matrix: &RowMajorMatrix<BabyBear>, text: &mut String) -> Result<(),
 }
 
 // Adds the numbers of the roots.
-fn show_roots(roots: &[ExprId<BaseLeaf<BabyBear>>], text: &mut String) -> Result<(), Fault> {
+fn show_roots<F: Field>(roots: &[ExprId<BaseLeaf<F>>], text: &mut String) -> Result<(), Fault> {
     text.push_str(" roots")?;
     for root in roots {
         let number = root.number();
@@ -31,7 +31,7 @@ fn show_roots(roots: &[ExprId<BaseLeaf<BabyBear>>], text: &mut String) -> Result
 }
 
 // Adds the columns, cells, the cap and the weight.
-fn show_rest(input: &FlatInput<BabyBear>, text: &mut String) -> Result<(), Fault> {
+fn show_rest<F: Number>(input: &FlatInput<F>, text: &mut String) -> Result<(), Fault> {
     text.push_str(" periodic")?;
     for column in &input.periodic {
         text.push_str(" ")?;
@@ -49,9 +49,13 @@ fn show_rest(input: &FlatInput<BabyBear>, text: &mut String) -> Result<(), Fault
 }
 
 /// Adds what the object spells, but for its expressions their number and those of the constraints.
-pub fn show_input(alloc: Global, object: &str, text: &mut String) -> Result<(), Fault> {
+pub fn show_input<F: PrimeField64>(
+    alloc: Global,
+    object: &str,
+    text: &mut String,
+) -> Result<(), Fault> {
     let value = value_of(alloc, object)?;
-    let input = flat_input_from::<BabyBear>(alloc, &value)?;
+    let input = flat_input_from::<F>(alloc, &value)?;
     show_rows(&input.main, text)?;
     if let Some(table) = &input.preprocessed {
         text.push_str(" preprocessed ")?;

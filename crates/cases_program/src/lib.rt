@@ -10,6 +10,7 @@ mod runs;
 mod streams;
 
 use crate::bench::Program;
+use air_field::BabyBear;
 use cases::{Fault, Report, Table, Tables, Why, check_lines};
 
 /// The tables of this layer, by their heads.
@@ -23,7 +24,7 @@ impl Tables for ProgramTables {
         report: &mut Report,
     ) -> Result<(), Fault> {
         match head {
-            "the program" => check_lines::<Program<'_>>(rt, table, report),
+            "the program" => check_lines::<Program<'_, BabyBear>>(rt, table, report),
             _ => Err(Fault::Unreadable(Why::NoSuchTable)),
         }
     }
