@@ -2,7 +2,7 @@
 
 use crate::assertions::{Answer, answer_row};
 use crate::recorded::{recorded_counter, recorded_elsewhere};
-use crate::reports::{Given, check_first, given_of, show_base_audit, show_clone, show_report};
+use crate::reports::{Asked, Given, given_of, show_base_audit, show_check};
 use crate::rows::{lend, resolved};
 use cases::words::{Number, count_of};
 use cases::{Bench, Fault, Line, Why};
@@ -32,6 +32,17 @@ fn asked(call: &str) -> Option<Answer> {
     }
 }
 
+// What is asked of a check.
+fn asked_of(call: &str, rest: &[&str]) -> Result<Asked, Fault> {
+    match (call, rest) {
+        ("check_all_constraints", [cap]) => Ok(Asked::Report(cap_of(*cap)?)),
+        ("cloned_report", [cap]) => Ok(Asked::Copy(cap_of(*cap)?)),
+        ("check_constraints", []) => Ok(Asked::First { in_words: false }),
+        ("check_constraints_text", []) => Ok(Asked::First { in_words: true }),
+        _ => Err(Fault::Unreadable(Why::NoSuchCall)),
+    }
+}
+
 // Adds what a call on an AIR and what it is checked on answers.
 fn check_given<F: Number + 'static>(
     alloc: Global,
@@ -42,15 +53,11 @@ fn check_given<F: Number + 'static>(
     text: &mut String,
 ) -> Result<(), Fault> {
     match (call, rest) {
-        ("check_all_constraints", [cap]) => show_report(alloc, air, given, cap_of(*cap)?, text),
-        ("cloned_report", [cap]) => show_clone(alloc, air, given, cap_of(*cap)?, text),
-        ("check_constraints", []) => check_first(alloc, air, given, false, text),
-        ("check_constraints_text", []) => check_first(alloc, air, given, true, text),
         ("audit_air", [weight]) => {
             let public = given.public.as_slice();
             show_base_audit(alloc, air, &given.main, public, count_of(*weight)?, text)
         }
-        _ => Err(Fault::Unreadable(Why::NoSuchCall)),
+        _ => show_check(alloc, air, given, asked_of(call, rest)?, text),
     }
 }
 

@@ -49,61 +49,63 @@ fn show(report: &ConstraintReport, text: &mut String) -> Result<(), Fault> {
     show_failures(report.failures.as_slice(), text)
 }
 
-// The report of a check.
-fn report_of<F: Field + 'static>(
-    alloc: Global,
-    air: &TableAir<F>,
-    given: &Given<F>,
-    cap: Option<usize>,
-) -> Result<ConstraintReport, Fault> {
-    let report = check_all_constraints(alloc, air, &given.main, given.public.as_slice(), cap)?;
-    Ok(report)
+/// What is asked of a check.
+#[derive(Drop)]
+pub enum Asked {
+    /// Its report, under a cap if there is one.
+    Report(Option<usize>),
+    /// The debug text of a copy of that.
+    Copy(Option<usize>),
+    /// Its first fault, with a refusal as a fault of the line, or in words.
+    First { in_words: bool },
 }
 
-/// Adds the report of a check.
-pub fn show_report<F: Field + 'static>(
-    alloc: Global,
-    air: &TableAir<F>,
-    given: &Given<F>,
-    cap: Option<usize>,
-    text: &mut String,
-) -> Result<(), Fault> {
-    let report = report_of(alloc, air, given, cap)?;
-    show(&report, text)
-}
-
-/// Adds the debug text of a copy of the report.
-pub fn show_clone<F: Field + 'static>(
-    alloc: Global,
-    air: &TableAir<F>,
-    given: &Given<F>,
-    cap: Option<usize>,
-    text: &mut String,
-) -> Result<(), Fault> {
-    let copy = report_of(alloc, air, given, cap)?.clone()?;
-    write!(text, "{copy:?}")?;
-    Ok(())
-}
-
-/// Adds the first fault of a check, or its refusal in words.
-pub fn check_first<F: Field + 'static>(
-    alloc: Global,
-    air: &TableAir<F>,
-    given: &Given<F>,
-    in_words: bool,
-    text: &mut String,
-) -> Result<(), Fault> {
-    match check_constraints(alloc, air, &given.main, given.public.as_slice()) {
-        Ok(()) => text.push_str("ok")?,
-        Err(CheckError::Refused(error)) if !in_words => return Err(Fault::from(error)),
-        Err(error) => {
+// Adds the first fault of a check.
+fn show_first(error: CheckError, in_words: bool, text: &mut String) -> Result<(), Fault> {
+    match error {
+        CheckError::Refused(error) if !in_words => Err(Fault::from(error)),
+        error => {
             write!(text, "{error}")?;
             if let CheckError::RowFailed { failures, .. } = &error {
                 show_failures(failures.as_slice(), text)?;
             }
+            Ok(())
         }
     }
-    Ok(())
+}
+
+// Adds what a check answers.
+fn answer_check<'a, F: Field + 'static, A: Air<RowBuilder<'a, F>>>(
+    alloc: Global,
+    air: &'a A,
+    given: &'a Given<F>,
+    asked: Asked,
+    text: &mut String,
+) -> Result<(), Fault> {
+    let (main, public) = (&given.main, given.public.as_slice());
+    match asked {
+        Asked::Report(cap) => show(&check_all_constraints(alloc, air, main, public, cap)?, text),
+        Asked::Copy(cap) => {
+            let copy = check_all_constraints(alloc, air, main, public, cap)?.clone()?;
+            write!(text, "{copy:?}")?;
+            Ok(())
+        }
+        Asked::First { in_words } => match check_constraints(alloc, air, main, public) {
+            Ok(()) => Ok(text.push_str("ok")?),
+            Err(error) => show_first(error, in_words, text),
+        },
+    }
+}
+
+/// Adds what a check of a table's AIR answers.
+pub fn show_check<F: Field + 'static>(
+    alloc: Global,
+    air: &TableAir<F>,
+    given: &Given<F>,
+    asked: Asked,
+    text: &mut String,
+) -> Result<(), Fault> {
+    answer_check::<F, TableAir<F>>(alloc, air, given, asked, text)
 }
 
 /// Adds the degree that an audit infers in a domain of this weight, and its report.

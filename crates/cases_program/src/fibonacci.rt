@@ -1,4 +1,5 @@
-//! Fibonacci in each call that records, checks or audits.
+//! Fibonacci in each call that records, checks or audits. (Most is over any AIR: each call that names one is dear to
+//! prove.)
 
 use crate::checks::{show_check, show_report};
 use air_fibonacci::Fibonacci;
@@ -6,20 +7,21 @@ use air_field::{Field, RowMajorMatrix};
 use cases::words::{count_of, listed_elements};
 use cases::{Fault, Why};
 use p3_air::{
-    AirLayout, ConstraintLayout, Recorded, audit_air, get_all_symbolic_constraints,
-    get_constraint_layout, get_max_constraint_degree, get_max_constraint_degree_extension,
-    get_symbolic_constraints, get_symbolic_constraints_extension,
+    Air, AirLayout, BaseAir, ConstraintLayout, DebugConstraintBuilder, Recorded,
+    SymbolicAirBuilder, audit_air, get_all_symbolic_constraints, get_constraint_layout,
+    get_max_constraint_degree, get_max_constraint_degree_extension, get_symbolic_constraints,
+    get_symbolic_constraints_extension,
 };
 use std::alloc::Global;
 
-// The rows of these values.
-fn trace_of<F: Field>(
-    alloc: Global,
-    width: &str,
-    values: &str,
-) -> Result<RowMajorMatrix<F>, Fault> {
-    let values = listed_elements(alloc, values)?;
-    Ok(RowMajorMatrix::new(values, count_of(width)?)?)
+type Recorder<F> = SymbolicAirBuilder<F, F>;
+
+/// A trace, public values, and what is said of a cap.
+#[derive(Drop)]
+struct Traced<F> {
+    main: RowMajorMatrix<F>,
+    public_values: Vec<F>,
+    cap: Option<Option<usize>>,
 }
 
 // A cap; `-`: there is none.
@@ -30,29 +32,21 @@ fn cap_of(word: &str) -> Result<Option<usize>, Fault> {
     }
 }
 
-/// Adds what a check of a trace answers, or an audit. The words are the width, the values row after row, the public
-/// values, and the cap of a check.
-pub fn show_traced<F: Field + 'static>(
-    alloc: Global,
-    call: &str,
-    words: &[&str],
-    text: &mut String,
-) -> Result<(), Fault> {
-    match words {
-        [width, values, "public", public] => {
-            let main: RowMajorMatrix<F> = trace_of(alloc, *width, *values)?;
-            let public_values = listed_elements(alloc, *public)?;
-            show_audit(alloc, call, &main, &public_values, text)
-        }
+// The width, the values row after row, the public values, and the cap of a check.
+fn traced_of<F: Field>(alloc: Global, words: &[&str]) -> Result<Traced<F>, Fault> {
+    let (width, values, public, cap) = match words {
+        [width, values, "public", public] => (width, values, public, None),
         [width, values, "public", public, "cap", cap] => {
-            let main = trace_of(alloc, *width, *values)?;
-            let public_values: Vec<F> = listed_elements(alloc, *public)?;
-            let cap = cap_of(*cap)?;
-            let fibonacci = Fibonacci::new();
-            show_check(alloc, call, &fibonacci, &main, &public_values, cap, text)
+            (width, values, public, Some(cap_of(*cap)?))
         }
-        _ => Err(Fault::Unreadable(Why::NoSuchCall)),
-    }
+        _ => return Err(Fault::Unreadable(Why::NoSuchCall)),
+    };
+    let values = listed_elements(alloc, *values)?;
+    Ok(Traced {
+        main: RowMajorMatrix::new(values, count_of(*width)?)?,
+        public_values: listed_elements(alloc, *public)?,
+        cap,
+    })
 }
 
 // Adds the places of recorded constraints.
@@ -64,22 +58,57 @@ fn show_layout(layout: &ConstraintLayout, text: &mut String) -> Result<(), Fault
 }
 
 // Adds what an audit finds.
-fn show_audit<F: Field + 'static>(
-    alloc: Global,
-    call: &str,
-    main: &RowMajorMatrix<F>,
-    public_values: &[F],
-    text: &mut String,
-) -> Result<(), Fault> {
-    if call != "audit_air" {
-        return Err(Fault::Unreadable(Why::NoSuchCall));
-    }
-    let audit = audit_air(alloc, &Fibonacci::new(), main, public_values, 0)?;
+fn show_audit<
+    'a,
+    F: Field + 'static,
+    A: BaseAir<F> + Air<Recorder<F>> + Air<DebugConstraintBuilder<'a, F, F>>,
+>(alloc: Global, air: &'a A, given: &'a Traced<F>, text: &mut String) -> Result<(), Fault> {
+    let audit = audit_air(alloc, air, &given.main, &given.public_values, 0)?;
     show_layout(&audit.layout, text)?;
     let recorded = audit.recorded.base.len();
     let degree = audit.degree;
     write!(text, " recorded {recorded} degree {degree} ")?;
     show_report(&audit.report, text)
+}
+
+// Adds what a check of a trace answers, or an audit.
+fn answer_traced<
+    'a,
+    F: Field + 'static,
+    A: BaseAir<F> + Air<Recorder<F>> + Air<DebugConstraintBuilder<'a, F, F>>,
+>(
+    alloc: Global,
+    call: &str,
+    air: &'a A,
+    given: &'a Traced<F>,
+    text: &mut String,
+) -> Result<(), Fault> {
+    match given.cap {
+        Some(cap) => {
+            show_check(
+                alloc,
+                call,
+                air,
+                &given.main,
+                &given.public_values,
+                cap,
+                text,
+            )
+        }
+        None if call == "audit_air" => show_audit(alloc, air, given, text),
+        None => Err(Fault::Unreadable(Why::NoSuchCall)),
+    }
+}
+
+/// Adds what a check of a trace answers, which has a cap, or an audit.
+pub fn show_traced<F: Field + 'static>(
+    alloc: Global,
+    call: &str,
+    words: &[&str],
+    text: &mut String,
+) -> Result<(), Fault> {
+    let given: Traced<F> = traced_of(alloc, words)?;
+    answer_traced(alloc, call, &Fibonacci::new(), &given, text)
 }
 
 // Adds how many constraints of each kind there are.
@@ -91,19 +120,19 @@ fn show_recorded<F: Field>(recorded: &Recorded<F, F>, text: &mut String) -> Resu
 }
 
 // Adds the degree on 4 rows of what is recorded by a layout, by either call.
-fn show_degree<F: Field>(
+fn show_degree<F: Field, A: Air<Recorder<F>>>(
     alloc: Global,
     call: &str,
+    air: &A,
     layout: AirLayout,
     text: &mut String,
 ) -> Result<(), Fault> {
-    let air = Fibonacci::new();
     let degree = match call {
         "get_max_constraint_degree" => {
-            get_max_constraint_degree::<F, Fibonacci>(alloc, &air, layout, 4, 0)?
+            get_max_constraint_degree::<F, A>(alloc, air, layout, 4, 0)?
         }
         "get_max_constraint_degree_extension" => {
-            get_max_constraint_degree_extension::<F, F, Fibonacci>(alloc, &air, layout, 4, 0)?
+            get_max_constraint_degree_extension::<F, F, A>(alloc, air, layout, 4, 0)?
         }
         _ => return Err(Fault::Unreadable(Why::NoSuchCall)),
     };
@@ -111,32 +140,39 @@ fn show_degree<F: Field>(
     Ok(())
 }
 
-/// Adds what a recording by a layout answers: its constraints, their places, or their degree on 4 rows. (Over any
-/// field, since each call at a given one is dear to prove.)
+// Adds what a recording by a layout answers: its constraints, their places, or their degree on 4 rows.
+fn show_by_layout<F: Field, A: Air<Recorder<F>>>(
+    alloc: Global,
+    call: &str,
+    air: &A,
+    layout: AirLayout,
+    text: &mut String,
+) -> Result<(), Fault> {
+    let recorded = match call {
+        "get_symbolic_constraints" => get_symbolic_constraints::<F, A>(alloc, air, layout)?,
+        "get_symbolic_constraints_extension" => {
+            get_symbolic_constraints_extension::<F, F, A>(alloc, air, layout)?
+        }
+        "get_all_symbolic_constraints" => {
+            get_all_symbolic_constraints::<F, F, A>(alloc, air, layout)?
+        }
+        "get_constraint_layout" => {
+            let places = get_constraint_layout::<F, F, A>(alloc, air, layout)?;
+            return show_layout(&places, text);
+        }
+        _ => return show_degree::<F, A>(alloc, call, air, layout, text),
+    };
+    show_recorded(&recorded, text)
+}
+
+/// Adds what a recording of Fibonacci by a layout answers.
 pub fn show_recording<F: Field>(
     alloc: Global,
     call: &str,
     layout: AirLayout,
     text: &mut String,
 ) -> Result<(), Fault> {
-    let air = Fibonacci::new();
-    let recorded = match call {
-        "get_symbolic_constraints" => {
-            get_symbolic_constraints::<F, Fibonacci>(alloc, &air, layout)?
-        }
-        "get_symbolic_constraints_extension" => {
-            get_symbolic_constraints_extension::<F, F, Fibonacci>(alloc, &air, layout)?
-        }
-        "get_all_symbolic_constraints" => {
-            get_all_symbolic_constraints::<F, F, Fibonacci>(alloc, &air, layout)?
-        }
-        "get_constraint_layout" => {
-            let places = get_constraint_layout::<F, F, Fibonacci>(alloc, &air, layout)?;
-            return show_layout(&places, text);
-        }
-        _ => return show_degree::<F>(alloc, call, layout, text),
-    };
-    show_recorded(&recorded, text)
+    show_by_layout::<F, Fibonacci>(alloc, call, &Fibonacci::new(), layout, text)
 }
 
 /// The layout of these counts.

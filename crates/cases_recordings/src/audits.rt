@@ -12,7 +12,7 @@ use cases::words::Number;
 use p3_air::{Audit, audit_air, audit_air_with_cap};
 use std::alloc::Global;
 
-type RowBuilder<'a, F> = DebugConstraintBuilder<'a, F, F>;
+pub type RowBuilder<'a, F> = DebugConstraintBuilder<'a, F, F>;
 
 /// What is audited beside the AIR.
 #[derive(Drop)]

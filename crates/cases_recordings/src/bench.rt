@@ -3,7 +3,7 @@
 use crate::audits::Given;
 use crate::filters::show_when;
 use crate::folds::{Row, answer_hiding, row_of};
-use crate::kinds::{audited, by_base, by_extension, folded};
+use crate::kinds::{by_base, by_extension};
 use crate::layouts::{answer_layout, layout_of};
 use crate::lent::answer_lent;
 use air_field::{ExtensionField, Field};
@@ -75,7 +75,7 @@ fn answer_by<F: Number + 'static, EF: ExtensionField<F> + 'static>(
     match (call, words) {
         ("fold_air", words) => {
             let row: Row<EF> = row_of::<F, EF>(alloc, words)?;
-            folded::<F, EF>(alloc, air, layout, &row, text)
+            by_extension::<F, EF>(alloc, air, Some(&row), layout, call, words, text)
         }
         ("eval_when", [condition]) => { show_when::<F, EF>(alloc, air, layout, *condition, text) }
         ("validate_against_air", []) => validated(air, layout, text),
@@ -83,9 +83,28 @@ fn answer_by<F: Number + 'static, EF: ExtensionField<F> + 'static>(
             write!(text, "{layout:?}")?;
             Ok(())
         }
-        _ if by_base(alloc, air, layout, call, words, text)? => Ok(()),
-        _ => by_extension::<F, EF>(alloc, air, layout, call, words, text),
+        _ if by_base(alloc, air, None, layout, call, words, text)? => Ok(()),
+        _ => by_extension::<F, EF>(alloc, air, None, layout, call, words, text),
     }
+}
+
+// Adds what an audit of an AIR finds.
+fn audited<F: Number + 'static>(
+    alloc: Global,
+    air: &TableAir<F>,
+    given: &Given<F>,
+    text: &mut String,
+) -> Result<(), Fault> {
+    by_base(
+        alloc,
+        air,
+        Some(given),
+        AirLayout::default(),
+        "audit_air",
+        &[],
+        text,
+    )?;
+    Ok(())
 }
 
 // Adds what a call answers of an AIR.

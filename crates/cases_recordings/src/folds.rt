@@ -13,7 +13,7 @@ use cases::{Fault, Why};
 use std::alloc::Global;
 use std::cmp::Ordering;
 
-type Folder<'a, F, EF> = ConstraintFolder<'a, F, EF>;
+pub type Folder<'a, F, EF> = ConstraintFolder<'a, F, EF>;
 
 /// What a folder is made of.
 #[derive(Drop)]

@@ -87,18 +87,6 @@ fn lent_selector<AB: AirBuilder>(builder: &mut AB, selector: Selector) -> Result
     selector_in(builder, selector)
 }
 
-// Adds a selector that the builder lends.
-fn show_selector<F: Number, EF: ExtensionField<F>>(
-    builder: &mut Recorder<F, EF>,
-    words: &[&str],
-    text: &mut String,
-) -> Result<(), Fault>
-    requires { ⟦<SymbolicAirBuilder<F, EF> as AirBuilder>⟧.ready builder.old }
-{
-    let x = lent_selector(builder, selector_of(words)?)?;
-    show_expression(builder.ring(), x, 1, false, text)
-}
-
 // Asserts that an element of the extension is zero, under a name.
 fn assert_named<AB: NamedExtensionBuilder>(builder: &mut AB, x: AB::EF) -> Result<(), AirError>
     requires { AB.ready builder.old }
@@ -135,18 +123,6 @@ fn assert_constant_ext_under<AB: ExtensionBuilder>(
     let x = builder.ext_ring().ext_constant(x)?;
     let condition = builder.ring().constant(condition)?;
     assert_zero_ext_under(builder, condition, x)
-}
-
-// Adds what is recorded over the extension.
-fn show_recorded<F: Number, EF: ExtensionField<F>>(
-    alloc: Global,
-    builder: &mut Recorder<F, EF>,
-    text: &mut String,
-) -> Result<(), Fault>
-    requires { ⟦<SymbolicAirBuilder<F, EF> as AirBuilder>⟧.ready builder.old }
-{
-    let numbers = builder.extension_constraints().to_vec(alloc)?;
-    show_expressions(builder.ext_ring(), numbers.as_slice(), text)
 }
 
 // Adds the variable of a window that a builder lends.
@@ -191,32 +167,67 @@ fn show_list<F: Number, EF: ExtensionField<F>>(
     Ok(true)
 }
 
-// Adds what is recorded of an assertion under a name.
-fn show_named<F: Number, EF: ExtensionField<F>>(
-    alloc: Global,
-    builder: &mut Recorder<F, EF>,
-    x: &[&str],
-    text: &mut String,
-) -> Result<(), Fault>
-    requires { ⟦<SymbolicAirBuilder<F, EF> as AirBuilder>⟧.ready builder.old }
-{
-    assert_named(builder, extension_of::<F, EF>(alloc, x)?)?;
-    show_recorded(alloc, builder, text)
+// What is asked of a builder that it may change.
+#[derive(Drop)]
+enum Asked<F, EF> {
+    Selector(Selector),
+    /// To assert under a name that the element is zero.
+    Named(EF),
+    /// To assert where the constant holds that the element is zero.
+    Under(F, EF),
 }
 
-// Adds what is recorded of an assertion under a condition.
-fn show_filtered<F: Number, EF: ExtensionField<F>>(
+fn asked_of<F: Field, EF: ExtensionField<F>>(
+    alloc: Global,
+    words: &[&str],
+) -> Result<Asked<F, EF>, Fault> {
+    match words {
+        ["assert_zero_ext_named", x @ ..] => Ok(Asked::Named(extension_of::<F, EF>(alloc, x)?)),
+        ["when", condition, "assert_zero_ext", x @ ..] => {
+            let x = extension_of::<F, EF>(alloc, x)?;
+            Ok(Asked::Under(element_of(*condition)?, x))
+        }
+        _ => Ok(Asked::Selector(selector_of(words)?)),
+    }
+}
+
+// Does that, and gives the selector, if one is asked for.
+fn done<AB: NamedExtensionBuilder>(
+    builder: &mut AB,
+    asked: Asked<AB::F, AB::EF>,
+) -> Result<Option<AB::Expr>, AirError>
+    requires { AB.ready builder.old }
+    ensures { AB.ready builder.new }
+{
+    match asked {
+        Asked::Selector(selector) => Ok(Some(lent_selector(builder, selector)?)),
+        Asked::Named(x) => {
+            assert_named(builder, x)?;
+            Ok(None)
+        }
+        Asked::Under(condition, x) => {
+            assert_constant_ext_under(builder, condition, x)?;
+            Ok(None)
+        }
+    }
+}
+
+// Adds a selector that the builder lends, or what it has recorded over the extension.
+fn show_done<F: Number, EF: ExtensionField<F>>(
     alloc: Global,
     builder: &mut Recorder<F, EF>,
-    condition: &str,
-    x: &[&str],
+    words: &[&str],
     text: &mut String,
 ) -> Result<(), Fault>
     requires { ⟦<SymbolicAirBuilder<F, EF> as AirBuilder>⟧.ready builder.old }
 {
-    let x = extension_of::<F, EF>(alloc, x)?;
-    assert_constant_ext_under(builder, element_of(condition)?, x)?;
-    show_recorded(alloc, builder, text)
+    match done(builder, asked_of::<F, EF>(alloc, words)?)? {
+        Some(x) => show_expression(builder.ring(), x, 1, false, text),
+        None => {
+            let numbers = builder.extension_constraints().to_vec(alloc)?;
+            show_expressions(builder.ext_ring(), numbers.as_slice(), text)
+        }
+    }
 }
 
 /// Adds what a call on a builder answers, if the line is one.
@@ -231,13 +242,9 @@ pub fn answer_lent<F: Number, EF: ExtensionField<F>>(
     let layout = layout_of(AirLayout::default(), *layout)?;
     let mut builder: Recorder<F, EF> = SymbolicAirBuilder::new(alloc, layout)?;
     match words {
-        ["assert_zero_ext_named", x @ ..] => show_named(alloc, &mut builder, x, text)?,
-        ["when", condition, "assert_zero_ext", x @ ..] => {
-            show_filtered(alloc, &mut builder, *condition, x, text)?
-        }
         [window, row, column] => show_in_window(&builder, *window, *row, *column, text)?,
         [list] if show_list(&builder, *list, text)? => {}
-        _ => show_selector(&mut builder, words, text)?,
+        _ => show_done(alloc, &mut builder, words, text)?,
     }
     Ok(true)
 }

@@ -1,4 +1,0 @@
-use Rattle.cases_recordings.proofs.lent.show_recorded.Goals as goal
-
-pub show_expressions-requires : goal.show_expressions-requires
-show_expressions-requires g c = rw c.ext_ring.ensures.value c.requires.pool
