@@ -1,6 +1,6 @@
 //! Calls of bits and limbs.
 
-use air_field::FieldRing;
+use air_field::{BabyBear, FieldRing};
 use air_gadgets::utils::{
     checked_andn, checked_xor, pack_bits_le, u32_to_bits_le, u64_to_16_bit_limbs, u64_to_bits_le,
 };
@@ -25,18 +25,18 @@ fn made<F: Number>(alloc: Global, call: &[&str]) -> Result<F, Fault> {
 }
 
 /// Adds what a call answers.
-pub fn utils<F: Number>(alloc: Global, call: &[&str], text: &mut String) -> Result<(), Fault> {
+pub fn utils(alloc: Global, call: &[&str], text: &mut String) -> Result<(), Fault> {
     match call {
         ["u32_to_bits_le", n] => match (*n).parse::<u32>() {
-            Ok(n) => show_elements(&u32_to_bits_le::<F>(n), text),
+            Ok(n) => show_elements(&u32_to_bits_le::<BabyBear>(n), text),
             Err(_) => Err(Fault::Unreadable(Why::NoNumber)),
         },
-        ["u64_to_bits_le", n] => show_elements(&u64_to_bits_le::<F>(number_of(*n)?), text),
+        ["u64_to_bits_le", n] => show_elements(&u64_to_bits_le::<BabyBear>(number_of(*n)?), text),
         ["u64_to_16_bit_limbs", n] => {
-            show_elements(&u64_to_16_bit_limbs::<F>(number_of(*n)?), text)
+            show_elements(&u64_to_16_bit_limbs::<BabyBear>(number_of(*n)?), text)
         }
         _ => {
-            let number = made::<F>(alloc, call)?.number();
+            let number = made::<BabyBear>(alloc, call)?.number();
             write!(text, "{number}")?;
             Ok(())
         }

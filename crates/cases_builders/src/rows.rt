@@ -43,15 +43,18 @@ fn row_builder<'a, F: Field, EF: ExtensionField<F>>(
     )
 }
 
-// Adds the failures of the assertions at the first row, with these selectors.
-fn show_failures<F: Field + 'static, EF: ExtensionField<F> + 'static>(
+fn assert_at_row<F: Field + 'static, EF: ExtensionField<F> + 'static>(
     alloc: Global,
-    selectors: [F; 3],
+    builder: &mut RowBuilder<'_, F, EF>,
     words: &[&str],
+) -> Result<(), Fault> {
+    assert_all(alloc, builder, words)
+}
+
+fn show_failures<F: Field, EF: ExtensionField<F>>(
+    builder: &RowBuilder<'_, F, EF>,
     text: &mut String,
 ) -> Result<(), Fault> {
-    let mut builder: RowBuilder<'_, F, EF> = row_builder(alloc, selectors);
-    assert_all(alloc, &mut builder, words)?;
     let failures = builder.formatted_failures()?;
     text.push_str(failures.as_str())?;
     Ok(())
@@ -83,7 +86,9 @@ impl<'a, F: Field + 'static, EF: ExtensionField<F> + 'static> Bench<'a> for Rows
             }
             words => ([F::ONE; 3], words),
         };
-        show_failures::<F, EF>(self.alloc, selectors, words, text)
+        let mut builder: RowBuilder<'_, F, EF> = row_builder(self.alloc, selectors);
+        assert_at_row(self.alloc, &mut builder, words)?;
+        show_failures(&builder, text)
     }
 
     fn standing(&self, _text: &mut String) -> Result<(), Fault> {

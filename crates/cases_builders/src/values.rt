@@ -41,7 +41,7 @@ impl<'a, F: PrimeField64 + 'static> Bench<'a> for Values<F> {
             ["hint", air, call] => hint::<F>(alloc, *air, *call, text),
             ["PairCol", call @ ..] => pair_col::<F>(alloc, call, text),
             ["VirtualPairCol", call @ ..] => virtual_pair_col::<F>(alloc, call, text),
-            ["utils", call @ ..] => utils::<F>(alloc, call, text),
+            ["utils", call @ ..] => utils(alloc, call, text),
             ["gadget", call @ ..] => word_gadget::<F>(alloc, call, text),
             _ => Err(Fault::Unreadable(Why::NoSuchCall)),
         }
