@@ -20,7 +20,7 @@ pub struct Rows<F, EF> {
 type RowBuilder<'a, F, EF> = DebugConstraintBuilder<'a, F, EF>;
 
 // A builder at the first row, with these selectors of the first, the last and the other rows.
-fn row_builder<'a, F: Field, EF: ExtensionField<F>>(
+fn row_builder<'a, F: Field + 'static, EF: ExtensionField<F> + 'static>(
     alloc: Global,
     selectors: [F; 3],
 ) -> RowBuilder<'a, F, EF> {
