@@ -9,7 +9,7 @@ use air_builder::{
     WindowAccess,
 };
 use air_core::TwoRows;
-use air_field::{Algebra, ExtAlgebra, ExtensionField};
+use air_field::{Algebra, ExtAlgebra, ExtensionField, Field};
 use air_recording::{AirLayout, SymbolicAirBuilder};
 use cases::words::{Number, count_of, element_of, extension_of};
 use cases::{Fault, Why};
