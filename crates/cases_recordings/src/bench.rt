@@ -63,6 +63,22 @@ fn validated<F: Field>(
     Ok(())
 }
 
+// Adds what a call answers that records an AIR, over the base field or with an extension.
+fn recorded<F: Number + 'static, EF: ExtensionField<F> + 'static>(
+    alloc: Global,
+    air: &TableAir<F>,
+    layout: AirLayout,
+    call: &str,
+    words: &[&str],
+    text: &mut String,
+) -> Result<(), Fault> {
+    let (no_audit, no_row) = (None, None);
+    if by_base(alloc, air, &no_audit, layout, call, words, text)? {
+        return Ok(());
+    }
+    by_extension::<F, EF>(alloc, air, &no_row, layout, call, words, text)
+}
+
 // Adds what a call answers of an AIR by a layout.
 fn answer_by<F: Number + 'static, EF: ExtensionField<F> + 'static>(
     alloc: Global,
@@ -75,7 +91,7 @@ fn answer_by<F: Number + 'static, EF: ExtensionField<F> + 'static>(
     match (call, words) {
         ("fold_air", words) => {
             let row: Row<EF> = row_of::<F, EF>(alloc, words)?;
-            by_extension::<F, EF>(alloc, air, Some(&row), layout, call, words, text)
+            by_extension::<F, EF>(alloc, air, &Some(row), layout, call, words, text)
         }
         ("eval_when", [condition]) => { show_when::<F, EF>(alloc, air, layout, *condition, text) }
         ("validate_against_air", []) => validated(air, layout, text),
@@ -83,8 +99,7 @@ fn answer_by<F: Number + 'static, EF: ExtensionField<F> + 'static>(
             write!(text, "{layout:?}")?;
             Ok(())
         }
-        _ if by_base(alloc, air, None, layout, call, words, text)? => Ok(()),
-        _ => by_extension::<F, EF>(alloc, air, None, layout, call, words, text),
+        _ => recorded::<F, EF>(alloc, air, layout, call, words, text),
     }
 }
 
@@ -92,13 +107,13 @@ fn answer_by<F: Number + 'static, EF: ExtensionField<F> + 'static>(
 fn audited<F: Number + 'static>(
     alloc: Global,
     air: &TableAir<F>,
-    given: &Given<F>,
+    given: Given<F>,
     text: &mut String,
 ) -> Result<(), Fault> {
     by_base(
         alloc,
         air,
-        Some(given),
+        &Some(given),
         AirLayout::default(),
         "audit_air",
         &[],
@@ -118,12 +133,12 @@ fn answer_of<F: Number + 'static, EF: ExtensionField<F> + 'static>(
     match (call, words) {
         ("audit_air", [trace, public, weight]) => {
             let given = given_of(alloc, *trace, *public, *weight, None)?;
-            audited(alloc, air, &given, text)
+            audited(alloc, air, given, text)
         }
         ("audit_air_with_cap", [trace, public, cap, weight]) => {
             let cap = cap_of(*cap)?;
             let given = given_of(alloc, *trace, *public, *weight, Some(cap))?;
-            audited(alloc, air, &given, text)
+            audited(alloc, air, given, text)
         }
         (_, [layout, words @ ..]) => {
             answer_by::<F, EF>(alloc, air, layout_by(air, *layout)?, call, words, text)

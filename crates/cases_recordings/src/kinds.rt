@@ -17,7 +17,7 @@ use std::alloc::Global;
 fn over_base<'a, F: Number + 'static, A: BaseAir<F> + Air<Recorder<F, F>> + Air<RowBuilder<'a, F>>>(
     alloc: Global,
     air: &'a A,
-    given: Option<&'a Given<F>>,
+    given: &'a Option<Given<F>>,
     layout: AirLayout,
     call: &str,
     words: &[&str],
@@ -36,7 +36,7 @@ fn over_base<'a, F: Number + 'static, A: BaseAir<F> + Air<Recorder<F, F>> + Air<
 pub fn by_base<F: Number + 'static>(
     alloc: Global,
     air: &TableAir<F>,
-    given: Option<&Given<F>>,
+    given: &Option<Given<F>>,
     layout: AirLayout,
     call: &str,
     words: &[&str],
@@ -54,7 +54,7 @@ fn over_extension<
 >(
     alloc: Global,
     air: &A,
-    row: Option<&'a Row<EF>>,
+    row: &'a Option<Row<EF>>,
     layout: AirLayout,
     call: &str,
     words: &[&str],
@@ -70,7 +70,7 @@ fn over_extension<
 pub fn by_extension<F: Number + 'static, EF: ExtensionField<F> + 'static>(
     alloc: Global,
     air: &TableAir<F>,
-    row: Option<&Row<EF>>,
+    row: &Option<Row<EF>>,
     layout: AirLayout,
     call: &str,
     words: &[&str],
