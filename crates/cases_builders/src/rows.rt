@@ -19,26 +19,29 @@ pub struct Rows<F, EF> {
 
 type RowBuilder<'a, F, EF> = DebugConstraintBuilder<'a, F, EF>;
 
-// A builder at the first row, with these selectors of the first, the last and the other rows.
-fn row_builder<'a, F: Field + 'static, EF: ExtensionField<F> + 'static>(
+// A builder at the first row, with no columns of any kind, and with these selectors of the first, the last and the
+// other rows.
+fn row_builder<'a, F: Field, EF: ExtensionField<F>>(
     alloc: Global,
+    none: &'a [F],
+    none_over: &'a [EF],
     selectors: [F; 3],
 ) -> RowBuilder<'a, F, EF> {
     let [first, last, transition] = selectors;
-    let none = RowMajorMatrixView::new_row(&[]);
-    let none_over = RowMajorMatrixView::new_row(&[]);
+    let empty = RowMajorMatrixView::new_row(none);
+    let empty_over = RowMajorMatrixView::new_row(none_over);
     DebugConstraintBuilder::new_with_permutation(
         alloc,
         0,
-        ViewPair::new(none, none),
-        ViewPair::new(none, none),
-        &[],
+        ViewPair::new(empty, empty),
+        ViewPair::new(empty, empty),
+        none,
         first,
         last,
         transition,
-        ViewPair::new(none_over, none_over),
-        &[],
-        &[],
+        ViewPair::new(empty_over, empty_over),
+        none_over,
+        none_over,
         Vec::new(alloc),
     )
 }
@@ -86,7 +89,13 @@ impl<'a, F: Field + 'static, EF: ExtensionField<F> + 'static> Bench<'a> for Rows
             }
             words => ([F::ONE; 3], words),
         };
-        let mut builder: RowBuilder<'_, F, EF> = row_builder(self.alloc, selectors);
+        let (none, none_over) = (Vec::new(self.alloc), Vec::new(self.alloc));
+        let mut builder: RowBuilder<'_, F, EF> = row_builder(
+            self.alloc,
+            none.as_slice(),
+            none_over.as_slice(),
+            selectors,
+        );
         assert_at_row(self.alloc, &mut builder, words)?;
         show_failures(&builder, text)
     }
