@@ -25,9 +25,9 @@ fn row_builder<'a, F: Field, EF: ExtensionField<F>>(
     alloc: Global,
     none: &'a [F],
     none_over: &'a [EF],
-    selectors: [F; 3],
+    selectors: (F, F, F),
 ) -> RowBuilder<'a, F, EF> {
-    let [first, last, transition] = selectors;
+    let (first, last, transition) = selectors;
     let empty = RowMajorMatrixView::new_row(none);
     let empty_over = RowMajorMatrixView::new_row(none_over);
     DebugConstraintBuilder::new_with_permutation(
@@ -85,9 +85,9 @@ impl<'a, F: Field + 'static, EF: ExtensionField<F> + 'static> Bench<'a> for Rows
             }
             ["at", first, last, transition, words @ ..] => {
                 let (first, last) = (element_of(*first)?, element_of(*last)?);
-                ([first, last, element_of(*transition)?], words)
+                ((first, last, element_of(*transition)?), words)
             }
-            words => ([F::ONE; 3], words),
+            words => ((F::ONE, F::ONE, F::ONE), words),
         };
         let (none, none_over) = (Vec::new(self.alloc), Vec::new(self.alloc));
         let mut builder: RowBuilder<'_, F, EF> = row_builder(
