@@ -1,8 +1,23 @@
 //! The constraint crate: AIRs recorded as symbolic expressions, and evaluated on concrete rows.
 //!
-//! An AIR is written once, as values that are its constraints, and audited on a trace:
+//! An AIR is written once, as values that are its constraints:
+//!
+//!     struct CounterColumns {
+//!         bit: usize,
+//!         count: usize,
+//!     }
 //!
 //!     const COLUMNS: CounterColumns = CounterColumns { bit: 0, count: 1 };
+//!
+//!     pub struct Counter {}
+//!
+//!     impl<F: Field> PlainAir<F> for Counter {
+//!         ghost plain = { λ _. (counter F.ring, 2, 0) };
+//!
+//!         fn width_and_public_values(&self) -> (usize, usize) {
+//!             (2, 0)
+//!         }
+//!     }
 //!
 //!     impl<AB: AirBuilder> PlainConstraints<AB> for Counter {
 //!         fn eval(&self, builder: &mut AB) -> Result<(), AirError> {
@@ -12,6 +27,15 @@
 //!             assert_all(builder, &constraints)
 //!         }
 //!     }
+//!
+//! What it declares is a definition in its `specs`:
+//!
+//!     counter R =
+//!         boolean R.one (current 0) ++
+//!         when first_row (is_zero (current 1)) ++
+//!         when transition (next 1 ≐ current 1 ⊕ current 0)
+//!
+//! A trace of it is audited:
 //!
 //!     let trace = trace_of_rows(alloc, &[[1, 0], [0, 1], [1, 1], [0, 2]])?;
 //!     let audit = audit_air(alloc, &Plain(Counter {}), &trace, &[], 0)?;
