@@ -1,11 +1,12 @@
 -- What the making of an expression does.
 use Rattle.std.specs.Prelude.{ℕ, zero, suc, List, [], Result, Ok, Err, OnOk, IfOk, IfErr}
-use Rattle.air_field.specs.Term.{Leaf, Term, const_term, mul_term}
+use Rattle.air_field.specs.Term.{Leaf, Term}
 use Rattle.air_field.specs.declared.errors.RingError.{RingError}
 use Rattle.air_core.specs.declared.errors.AirError.{AirError}
 use Rattle.air_core.specs.Errors.{air_error}
 use Rattle.air_builder.specs.Assertion.{Assertion}
 use Rattle.air_builder.specs.Builders.{BuilderView, MeansIn}
+use Rattle.air_builder.specs.Notation.{constant, ◌⊙◌}
 use Rattle.air_builder.specs.Refusals.{PartOf, EachLeaf}
 
 -- the fact holds of a builder, and of what becomes of it
@@ -45,9 +46,9 @@ air_result (Err e) = Err (air_error e)
 
 -- the product of so many of the term, from the left; of none, one
 abbrev pub power_term : {F : Type 0} → F → Term F → ℕ → Term F
-power_term one t zero = const_term one
+power_term one t zero = constant one
 power_term one t (suc zero) = t
-power_term one t (suc (suc n)) = mul_term (power_term one t (suc n)) t
+power_term one t (suc (suc n)) = power_term one t (suc n) ⊙ t
 
 -- x means the term in the builder, and each leaf of the term is there
 pub record Holds {S E F : Type 0} (means : S → E → Term F → Type 0) (missing : S → Leaf → Type 0) (x : E) (t : Term F) (b : S) : Type 0 where
