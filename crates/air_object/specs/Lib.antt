@@ -4,5 +4,6 @@ pub mod Members
 pub mod Readers
 pub mod Input
 pub mod Seen
+pub mod Begun
 pub mod Parts
 pub mod laws

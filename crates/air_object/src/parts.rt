@@ -9,7 +9,7 @@ ghost use Rattle.air_symbolic.specs.BaseLeaves.{base_reads, base_grows};
 ghost use Rattle.air_symbolic.specs.Pools.{IsPool, tree_at};
 ghost use Rattle.air_wire.specs.BaseLeaves.{element_at};
 ghost use Rattle.air_wire.specs.ReadCalls.{ReadsTree};
-ghost use Rattle.air_object.specs.Parts.{AreElements, GivenTrees, InPool, AreGiven, AreMembersOf, ArePartsOf, one_more};
+ghost use Rattle.air_object.specs.Parts.{GivenElements, AreElements, GivenTrees, InPool, AreGiven, AreMembersOf, ArePartsOf, one_more};
 ghost use Rattle.air_object.specs.Readers.{each_from, elements, tree, trees};
 
 use crate::constraints::{
@@ -18,7 +18,7 @@ use crate::constraints::{
 };
 use crate::elements::{Elements, elements_from, missing_elements, no_elements, with_element};
 use crate::members::elements_at;
-use crate::text::{TextFault, read, read_from};
+use crate::text::{Begun, TextFault, begun, read, read_from};
 use air_field::{Field, PrimeField64};
 use air_wire::ListReader;
 use json::{Reader, Scratch, Token};
@@ -33,6 +33,24 @@ pub struct Parts<F: Field> {
     pub rest: Value,
     pub main: Elements<F>,
     pub constraints: Constraints<F>,
+}
+
+// The elements, and the one that begins where the reader stands.
+fn read_element<F: PrimeField64>(
+    alloc: Global,
+    reader: &mut Reader<'_>,
+    depth: usize,
+    elements: Elements<F>,
+) -> Result<Elements<F>, TextFault>
+    ensures ok { IfOk result (λ es. (d : Data)
+        × (converted of_json (value depth reader.old) ≡ Some (d, reader.new))
+        × ((given : GivenElements F) → AreElements given elements
+        → AreElements (one_more (element_at F.residues 0) given d) es)) }
+    ensures shorter { OnOk result (length reader.new < length reader.old) }
+    ensures err { result ≡ Err TextFault.Json → converted of_json (value depth reader.old) ≡ None }
+{
+    let item = read(alloc, reader, depth)?;
+    Ok(with_element(elements, &item))
 }
 
 // The elements of the array in which the reader stands.
@@ -50,8 +68,7 @@ fn read_items<F: PrimeField64>(
 {
     let mut elements = no_elements(alloc);
     'items: while !reader.take_end_array() {
-        let item = read(alloc, reader, depth)?;
-        elements = with_element(elements, &item);
+        elements = read_element(alloc, reader, depth, elements)?;
     }
     Ok(elements)
 }
@@ -68,15 +85,10 @@ fn read_elements<F: PrimeField64>(
     ensures shorter { OnOk result (length reader.new < length reader.old) }
     ensures err { result ≡ Err TextFault.Json → converted of_json (value depth reader.old) ≡ None }
 {
-    let token = reader.next().ok_or(TextFault::Json)?;
-    if let Token::BeginArray = token {
-        if depth == 0 {
-            return Err(TextFault::Json);
-        }
-        return read_items(alloc, reader, depth - 1);
+    match begun(alloc, reader, depth)? {
+        Begun::Array(inside) => read_items(alloc, reader, inside),
+        Begun::Other(other) => Ok(elements_from(alloc, &other)),
     }
-    let other = read_from(alloc, token, reader, depth)?;
-    Ok(elements_from(alloc, &other))
 }
 
 // The root of the list of nodes in which the reader stands, node by node.
@@ -117,15 +129,10 @@ fn read_root<F: PrimeField64>(
     ensures shorter { OnOk result (length reader.new < length reader.old) }
     ensures err { result ≡ Err TextFault.Json → converted of_json (value depth reader.old) ≡ None }
 {
-    let token = reader.next().ok_or(TextFault::Json)?;
-    if let Token::BeginArray = token {
-        if depth == 0 {
-            return Err(TextFault::Json);
-        }
-        return read_nodes(alloc, reader, depth - 1, pool);
+    match begun(alloc, reader, depth)? {
+        Begun::Array(inside) => read_nodes(alloc, reader, inside, pool),
+        Begun::Other(other) => Ok(root_from(alloc, pool, &other)),
     }
-    let other = read_from(alloc, token, reader, depth)?;
-    Ok(root_from(alloc, pool, &other))
 }
 
 // The constraints, and the list that begins where the reader stands.
@@ -181,15 +188,10 @@ fn read_constraints<F: PrimeField64>(
     ensures shorter { OnOk result (length reader.new < length reader.old) }
     ensures err { result ≡ Err TextFault.Json → converted of_json (value depth reader.old) ≡ None }
 {
-    let token = reader.next().ok_or(TextFault::Json)?;
-    if let Token::BeginArray = token {
-        if depth == 0 {
-            return Err(TextFault::Json);
-        }
-        return read_lists(alloc, reader, depth - 1);
+    match begun(alloc, reader, depth)? {
+        Begun::Array(inside) => read_lists(alloc, reader, inside),
+        Begun::Other(other) => Ok(constraints_listed(alloc, &other)),
     }
-    let other = read_from(alloc, token, reader, depth)?;
-    Ok(constraints_listed(alloc, &other))
 }
 
 // The members of the object in which the reader stands.

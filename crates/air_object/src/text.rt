@@ -5,6 +5,7 @@ ghost use Rattle.json.specs.Reads.{token_of};
 ghost use Rattle.serde_json.specs.Data.{no_members};
 ghost use Rattle.serde_json.specs.Read.{of_json, of_items, of_members, converted};
 ghost use Rattle.serde_json.specs.View.{view, items_view, members_view};
+ghost use Rattle.air_object.specs.Begun.{IsBegun};
 
 use crate::number::number_of;
 use json::{Invalid, Reader, Token};
@@ -47,6 +48,32 @@ impl<T: Drop> From<AllocFailed<T>> for TextFault {
     fn from(_refused: AllocFailed<T>) -> TextFault {
         TextFault::Memory
     }
+}
+
+/// What begins a value.
+#[derive(Drop)]
+pub enum Begun {
+    /// An array, whose items are at most so deep.
+    Array(usize),
+    /// Another value, and its end.
+    Other(Value),
+}
+
+/// What begins where the reader stands.
+pub fn begun(alloc: Global, reader: &mut Reader<'_>, depth: usize) -> Result<Begun, TextFault>
+    ensures ok { IfOk result (IsBegun depth reader.old reader.new) }
+    ensures shorter { OnOk result (length reader.new < length reader.old) }
+    ensures err { result ≡ Err TextFault.Json → converted of_json (value depth reader.old) ≡ None }
+{
+    let token = reader.next().ok_or(TextFault::Json)?;
+    if let Token::BeginArray = token {
+        if depth == 0 {
+            return Err(TextFault::Json);
+        }
+        return Ok(Begun::Array(depth - 1));
+    }
+    let other = read_from(alloc, token, reader, depth)?;
+    Ok(Begun::Other(other))
 }
 
 /// The value that begins where the reader stands.

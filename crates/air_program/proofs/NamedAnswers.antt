@@ -1,11 +1,13 @@
--- What answers a JSON value over the field that it names, step by step.
-use Rattle.std.proofs.Common.{◌≡◌, ◌⊎◌, ℕ, List, Option, Some, None, Result, Ok, Err, IfOk, IfErr, String, string_bytes, refl, sym, ap, subst, ◌∙◌, inl, inr}
+-- What answers bytes, over the field that their value names, step by step.
+use Rattle.std.proofs.Common.{◌≡◌, ◌⊎◌, ℕ, List, Option, Some, None, Result, Ok, Err, IfOk, IfErr, String, Vec, string_bytes, codes, refl, sym, ap, subst, ◌∙◌, inl, inr}
 use Rattle.std.specs.Global.{Global}
 use Rattle.serde_json.specs.Data.{Data}
 use Rattle.air_field.specs.Modular.{Modular}
-use Rattle.air_program.specs.ByField.{AnswersNamed, AnswersBytes}
-use Rattle.air_object.specs.Fields.{field_of, OverField}
-use Rattle.air_program.specs.FlatAnswer.{StandsFor, HasNoValue}
+use Rattle.air_wire.specs.declared.errors.FlatError.{FlatError}
+use Rattle.air_program.specs.ByField.{StandsFor, HasNoValue, AnswersNamed, AnswersBytes}
+use Rattle.air_object.specs.Fields.{named_by, field_of, OverField}
+use Rattle.air_object.specs.Parts.{ArePartsOf}
+use Rattle.air_object.specs.declared.constraints.Constraints.{Constraints}
 use Rattle.air_program.specs.Refusals.{name_of, refusal_text}
 use Rattle.air_object.specs.declared.field_name.FieldName.{FieldName}
 use Rattle.air_program.specs.declared.refusals.Refusal.{Refusal}
@@ -21,6 +23,11 @@ pub at_value : (A : Type 0) (P Q : Data → Type 0) (d : Data) → P d → A ⊎
 at_value A P Q d has (inl a) = inl a
 at_value A P Q d has (inr refuses) = inr (refuses d has)
 
+-- what the member `field` names is told by the other members too
+pub same_field : {F : Type 0} {order : ℕ} (m : Modular F order) (d rest : Data) {es : Result (Vec F Global) FlatError} (c : Constraints F) → ArePartsOf m d rest es c → field_of d ≡ field_of rest
+unfolding field_of
+same_field m d rest c parts = ap named_by (parts.others (codes "field") (λ e. absurd cc) (λ e. absurd cc))
+
 -- bytes stand for one value
 one_value : (bytes : List ℕ) (d e : Data) → StandsFor bytes d → StandsFor bytes e → d ≡ e
 one_value bytes d e h k = cc (sym h.1 ∙ k.1)
@@ -30,10 +37,10 @@ module _ (answers : (F : Type 0) (p : ℕ) → Modular F p → Data → ℕ → 
   abbrev pub MayRefuseBytes : List ℕ → Refusal → Type 0
   MayRefuseBytes bytes why = (why ≡ refusals.Memory) ⊎ AnswersBytes answers bytes 2 (refusal_text (name_of why))
 
-  -- where the bytes can't be read
-  pub unread : (bytes : List ℕ) (why : Refusal) → (why ≡ refusals.Memory) ⊎ ((why ≡ refusals.Json) × HasNoValue bytes) → MayRefuseBytes bytes why
-  unread bytes why (inl memory) = inl memory
-  unread bytes why (inr none) = inr (inl (none.1, (refl, ap (λ w. refusal_text (name_of w)) none.0)))
+  -- what refuses whatever has these parts refuses the value that the bytes stand for
+  pub still_refused : {F : Type 0} {order : ℕ} (m : Modular F order) (bytes : List ℕ) (d : Data) (P : Data → Type 0) (why : Refusal) → StandsFor bytes d → P d → (why ≡ refusals.Memory) ⊎ ((e : Data) → P e → answers F order m e 2 (refusal_text (name_of why))) → (why ≡ refusals.Memory) ⊎ (((why ≡ refusals.Json) × HasNoValue bytes) ⊎ ((e : Data) × StandsFor bytes e × answers F order m e 2 (refusal_text (name_of why))))
+  still_refused m bytes d P why stands has (inl memory) = inl memory
+  still_refused m bytes d P why stands has (inr refuses) = inr (inr (d, stands, refuses d has))
 
   module _ (bytes : List ℕ) (d : Data) (stands : StandsFor bytes d) where
     -- what answers the value over the field of this name answers the bytes

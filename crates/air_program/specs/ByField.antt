@@ -1,11 +1,19 @@
--- Answers to a JSON value over the field that it names.
-use Rattle.std.specs.Prelude.{◌⊎◌, ℕ, List, codes, Option, Some, None}
+-- From the bytes of a text to the JSON value that they stand for, and to its answer over the field that it names.
+use Rattle.std.specs.Prelude.{◌≡◌, ◌⊎◌, ℕ, List, codes, Option, Some, None, IsUtf8}
 use Rattle.serde_json.specs.Data.{Data}
+use Rattle.serde_json.specs.Read.{read}
 use Rattle.air_field.specs.Modular.{Modular}
 use Rattle.air_object.specs.Fields.{field_of, OverField}
-use Rattle.air_program.specs.FlatAnswer.{StandsFor, HasNoValue}
 use Rattle.air_program.specs.Refusals.{IsRefusal}
 use Rattle.air_object.specs.declared.field_name.FieldName.{FieldName}
+
+-- the JSON value that the bytes of a text stand for
+abbrev pub StandsFor : List ℕ → Data → Type 0
+StandsFor bytes d = IsUtf8 bytes × (read bytes ≡ Some d)
+
+-- they stand for none
+abbrev pub HasNoValue : List ℕ → Type 0
+HasNoValue bytes = (d : Data) → StandsFor bytes d → ⊥
 
 -- Below, `answers` relates a value to a status and a text, over each field.
 

@@ -1,5 +1,5 @@
 -- What answers the word `explain`.
-use Rattle.std.specs.Prelude.{◌≡◌, ◌⊎◌, ℕ, ◌-◌, ◌<◌, List, [], ◌∷◌, ◌++◌, length, map, Option, None, Some, Vec, slice_get}
+use Rattle.std.specs.Prelude.{◌≡◌, ℕ, ◌-◌, ◌<◌, List, [], ◌∷◌, ◌++◌, length, map, Option, None, Some, Vec, slice_get}
 use Rattle.std.specs.Global.{Global}
 use Rattle.std.specs.Option.{option_to_list}
 use Rattle.std.specs.List.{AllZip, flat_map}
@@ -9,7 +9,6 @@ use Rattle.air_field.specs.Grid.{Grid}
 use Rattle.air_field.specs.Modular.{Modular, modular_ring}
 use Rattle.air_field.specs.Term.{Leaf}
 use Rattle.air_core.specs.declared.boundary.BoundaryPublic.{BoundaryPublic}
-use Rattle.air_core.specs.declared.errors.AirError.{AirError}
 use Rattle.air_symbolic.specs.BaseLeaves.{base_leaves}
 use Rattle.air_symbolic.specs.ExtLeaves.{BaseNodes}
 use Rattle.air_symbolic.specs.Reach.{Reached}
@@ -17,12 +16,10 @@ use Rattle.air_infix.specs.Names.{AreNames}
 use Rattle.air_explain.specs.Cells.{cell_line}
 use Rattle.air_explain.specs.Explained.{Explains, reached_definitions}
 use Rattle.air_report.specs.Given.{table_grid}
-use Rattle.air_object.specs.Input.{SpellsInput}
 use Rattle.air_object.specs.declared.input.FlatInput.{FlatInput}
 use Rattle.air_program.specs.Answer.{AuditFinds}
 use Rattle.air_program.specs.ByField.{AnswersBytes}
-use Rattle.air_program.specs.FlatAnswer.{flat_instance, RefusesValue}
-use Rattle.air_program.specs.Refusals.{IsRefusal, air_name}
+use Rattle.air_program.specs.FlatAnswer.{flat_instance, AnswersInput}
 use Rattle.air_program.specs.Texts.{Found, place_of, IsFailureLine, count_lines, findings_status}
 use Rattle.air_infix.specs.Lines.{lines_text}
 use Rattle.air_symbolic.specs.Pools.{nodes_of}
@@ -103,11 +100,9 @@ module _ {F : Type 0} {p : ℕ} (m : Modular F p) where
       × (status ≡ findings_status f)
       × IsExplainedText m input.pool input.roots.items input.cells.items (trace_with input.main input.preprocessed input.periodic.items input.public_values.items) f text
 
--- what is found of the input that the value spells over the field, explained, or the name of the first refusal of `flat`
+-- what the audit of the input that the value spells finds, explained
 abbrev pub ExplainedIn : (F : Type 0) (p : ℕ) → Modular F p → Data → ℕ → List ℕ → Type 0
-ExplainedIn F p m d status text =
-    ((input : FlatInput F) × SpellsInput m d input × TellsExplained m input status text)
-    ⊎ ((e : AirError) × RefusesValue m d e × IsRefusal (air_name e) status text)
+ExplainedIn F p m = AnswersInput m (TellsExplained m)
 
 abbrev pub IsExplainAnswer : List ℕ → ℕ → List ℕ → Type 0
 IsExplainAnswer = AnswersBytes ExplainedIn

@@ -1,7 +1,6 @@
 -- What answers a whole input that is a JSON object.
-use Rattle.std.specs.Prelude.{◌≡◌, ◌⊎◌, ℕ, List, length, codes, Option, Some, None, IsUtf8}
+use Rattle.std.specs.Prelude.{◌⊎◌, ℕ, List, length}
 use Rattle.serde_json.specs.Data.{Data}
-use Rattle.serde_json.specs.Read.{read}
 use Rattle.air_field.specs.Modular.{Modular}
 use Rattle.air_builder.specs.Declaration.{Declaration}
 use Rattle.p3_air.specs.FlatAirs.{zero_at_roots}
@@ -10,21 +9,8 @@ use Rattle.air_object.specs.declared.input.FlatInput.{FlatInput}
 use Rattle.p3_air.specs.Theorem.{Instance, instance}
 use Rattle.air_core.specs.declared.errors.AirError.{AirError}
 use Rattle.air_program.specs.Answer.{CappedAuditRefuses, TellsFound}
-use Rattle.air_object.specs.Fields.{field_of, OverField}
-use Rattle.air_object.specs.declared.field_name.FieldName.{FieldName}
+use Rattle.air_program.specs.ByField.{AnswersBytes}
 use Rattle.air_program.specs.Refusals.{IsRefusal, air_name}
-
--- ---- from bytes to a value
-
--- the JSON value that the bytes of a text stand for
-abbrev pub StandsFor : List ℕ → Data → Type 0
-StandsFor bytes d = IsUtf8 bytes × (read bytes ≡ Some d)
-
--- they stand for none
-abbrev pub HasNoValue : List ℕ → Type 0
-HasNoValue bytes = (d : Data) → StandsFor bytes d → ⊥
-
--- ---- from a value to what is found
 
 -- that the roots are zero, as wide as the trace and with so many public values; the preprocessed
 -- table, periodic columns and cells
@@ -59,24 +45,15 @@ module _ {F : Type 0} {p : ℕ} (m : Modular F p) where
       HasInputFault m d e
       ⊎ ((input : FlatInput F) × SpellsInput m d input × AuditRefusesInput input e)
 
-  -- what is found of the input that the value spells over the field, or the name of the first refusal
-  abbrev pub AnswersIn : Data → ℕ → List ℕ → Type 0
-  AnswersIn d status text =
-      ((input : FlatInput F) × SpellsInput m d input × TellsInput input status text)
+  -- what `tells` says of the input that the value spells, or the name of the first refusal
+  abbrev pub AnswersInput : (FlatInput F → ℕ → List ℕ → Type 0) → Data → ℕ → List ℕ → Type 0
+  AnswersInput tells d status text =
+      ((input : FlatInput F) × SpellsInput m d input × tells input status text)
       ⊎ ((e : AirError) × RefusesValue d e × IsRefusal (air_name e) status text)
 
--- ---- the answer
+-- what the audit of that input finds
+abbrev pub AuditedIn : (F : Type 0) (p : ℕ) → Modular F p → Data → ℕ → List ℕ → Type 0
+AuditedIn F p m = AnswersInput m (TellsInput m)
 
--- over the field that is named, and `Field` where none is
-abbrev pub AnswersOver : Option FieldName → Data → ℕ → List ℕ → Type 0
-AnswersOver None d status text = IsRefusal (codes "Field") status text
-AnswersOver (Some field) d status text = OverField (λ F p m. AnswersIn m d status text) field
-
-abbrev pub AnswersValue : Data → ℕ → List ℕ → Type 0
-AnswersValue d status text = AnswersOver (field_of d) d status text
-
--- `Json` where the bytes stand for no value
 abbrev pub IsFlatAnswer : List ℕ → ℕ → List ℕ → Type 0
-IsFlatAnswer bytes status text =
-    (HasNoValue bytes × IsRefusal (codes "Json") status text)
-    ⊎ ((d : Data) × StandsFor bytes d × AnswersValue d status text)
+IsFlatAnswer = AnswersBytes AuditedIn

@@ -3,8 +3,8 @@ pub mod Parsing
 pub mod Texts
 pub mod Refusals
 pub mod Answer
-pub mod FlatAnswer
 pub mod ByField
+pub mod FlatAnswer
 pub mod Shown
 pub mod Explained
 pub mod AtHand

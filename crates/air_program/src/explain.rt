@@ -1,8 +1,6 @@
 //! The answer to the word `explain`: what the audit of a JSON object finds, and below each failure what stands there.
 
 ghost use Rattle.std.specs.Prelude.{◌≡◌, ◌<◌, ◌≤◌, ◌-◌, ◌⊎◌, ◌++◌, ◌∷◌, [], length, map, All, IfOk, IfErr, IfSome, OnOk, slice_get, string_bytes};
-ghost use Rattle.serde_json.specs.Data.{Data};
-ghost use Rattle.serde_json.specs.View.{view};
 ghost use Rattle.air_field.specs.Assignment.{row_assignment};
 ghost use Rattle.air_symbolic.specs.BaseLeaves.{base_leaves, base_reads};
 ghost use Rattle.air_symbolic.specs.Pools.{IsPool, nodes_of, size};
@@ -11,27 +9,25 @@ ghost use Rattle.air_infix.specs.Names.{AreNames};
 ghost use Rattle.air_explain.specs.Rows.{trace_of};
 ghost use Rattle.air_explain.specs.Values.{AreClosed};
 ghost use Rattle.air_report.specs.FailureTexts.{seen_failure};
-ghost use Rattle.air_object.specs.Parts.{InPool, ArePartsOf};
 ghost use Rattle.air_program.specs.AtHand.{KnownAt};
-ghost use Rattle.air_program.specs.Explained.{failing_roots, cell_lines, PushesNames, PushesExplained, trace_with, IsExplainedText, TellsExplained, ExplainedIn, IsExplainAnswer};
-ghost use Rattle.air_program.specs.FlatAnswer.{StandsFor, HasNoValue, AuditRefusesInput};
-ghost use Rattle.air_program.specs.Refusals.{name_of, refusal_text, air_refusal};
-ghost use Rattle.air_program.specs.Requests.{MayRefuse};
+ghost use Rattle.air_program.specs.Explained.{failing_roots, cell_lines, PushesNames, PushesExplained, trace_with, IsExplainedText, TellsExplained, ExplainedIn};
+ghost use Rattle.air_program.specs.FlatAnswer.{AuditRefusesInput};
+ghost use Rattle.air_program.specs.Refusals.{air_refusal};
 ghost use Rattle.air_program.specs.Texts.{found, findings_status};
 ghost use Rattle.air_infix.specs.Lines.{lines_text};
 ghost use Rattle.air_core.specs.declared.errors.AirError.{AirError};
 
 use crate::answer::{findings_of, status};
-use crate::commands::Request;
-use crate::flat::{parts_from, with_table};
+use crate::by_field::ObjectAnswer;
+use crate::flat::with_table;
 use crate::refusals::Refusal;
 use crate::texts::{Findings, push_counts, push_failure};
 use air_explain::{
     TraceRows, push_cell, push_explained, push_reached_definitions, reads, values_at,
 };
-use air_field::{BabyBear, Goldilocks, KoalaBear, Mersenne31, PrimeField64, RowMajorMatrix};
+use air_field::{PrimeField64, RowMajorMatrix};
 use air_infix::Names;
-use air_object::{BaseId, BasePool, FieldName, FlatInput, Parts, field_of, input_from};
+use air_object::{BaseId, BasePool, FlatInput, Parts, input_from};
 use air_symbolic::{BaseLeaf, reached};
 use p3_air::{ConstraintFailure, FlatAir};
 use std::alloc::{AllocError, Global};
@@ -259,55 +255,22 @@ fn explain_input<F: PrimeField64 + 'static>(
     explained(alloc, &air, &input.main, &input.public_values, &findings)
 }
 
-/// The status and the text that explain an object over F whose parts these are.
-fn explain_parts<F: PrimeField64 + 'static>(
-    alloc: Global,
-    parts: Parts<F>,
-) -> Result<(u8, String), Refusal>
-    requires { InPool parts.constraints }
-    ensures ok { IfOk result (λ p. (d : Data)
-        → ArePartsOf F.residues d (view parts.rest) parts.main parts.constraints
-        → ExplainedIn F F.ORDER_U64 F.residues d p.0 (string_bytes p.1)) }
-    ensures refused { IfErr result (λ why. (why ≡ Refusal.Memory) ⊎ ((d : Data)
-        → ArePartsOf F.residues d (view parts.rest) parts.main parts.constraints
-        → ExplainedIn F F.ORDER_U64 F.residues d 2 (refusal_text (name_of why)))) }
-{
-    let Parts {
-        rest,
-        main,
-        constraints,
-    } = parts;
-    let input = input_from(alloc, &rest, main, constraints)?;
-    explain_input(alloc, input)
-}
+/// Answers with what an audit finds, explained.
+pub(crate) struct Explained {}
 
-/// The status and the text that explain an object over F, of which the bytes are the text.
-fn explain_over<F: PrimeField64 + 'static>(
-    alloc: Global,
-    bytes: &[u8],
-) -> Result<(u8, String), Refusal>
-    ensures ok { IfOk result (λ p. (d : Data) × StandsFor bytes.now d
-        × ExplainedIn F F.ORDER_U64 F.residues d p.0 (string_bytes p.1)) }
-    ensures refused { IfErr result (λ why. (why ≡ Refusal.Memory)
-        ⊎ (((why ≡ Refusal.Json) × HasNoValue bytes.now) ⊎ ((d : Data) × StandsFor bytes.now d
-        × ExplainedIn F F.ORDER_U64 F.residues d 2 (refusal_text (name_of why))))) }
-{
-    let parts: Parts<F> = parts_from(alloc, bytes)?;
-    explain_parts(alloc, parts)
-}
+impl ObjectAnswer for Explained {
+    ghost answers = { ExplainedIn };
 
-/// The status and the text that answer `explain`. The object is read as over `BabyBear`, and once more over the field that
-/// it names, where that is another one.
-pub fn answer_explain(alloc: Global, bytes: &[u8]) -> Result<(u8, String), Refusal>
-    ensures ok { IfOk result (λ p. IsExplainAnswer bytes.now p.0 (string_bytes p.1)) }
-    ensures refused { IfErr result (MayRefuse Request.Explain bytes.now) }
-{
-    let parts: Parts<BabyBear> = parts_from(alloc, bytes)?;
-    match field_of(&parts.rest) {
-        Some(FieldName::BabyBear) => explain_parts(alloc, parts),
-        Some(FieldName::KoalaBear) => explain_over::<KoalaBear>(alloc, bytes),
-        Some(FieldName::Mersenne31) => explain_over::<Mersenne31>(alloc, bytes),
-        Some(FieldName::Goldilocks) => explain_over::<Goldilocks>(alloc, bytes),
-        None => Err(Refusal::Field),
+    fn answer<F: PrimeField64 + 'static>(
+        alloc: Global,
+        parts: Parts<F>,
+    ) -> Result<(u8, String), Refusal> {
+        let Parts {
+            rest,
+            main,
+            constraints,
+        } = parts;
+        let input = input_from(alloc, &rest, main, constraints)?;
+        explain_input(alloc, input)
     }
 }

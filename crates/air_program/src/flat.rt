@@ -1,43 +1,21 @@
-//! The answer to a JSON object: an AIR whose constraints are lists of nodes, and a trace of it.
+//! What an audit finds of a JSON object: an AIR whose constraints are lists of nodes, and a trace of it.
 
-ghost use Rattle.std.specs.Prelude.{◌≡◌, ◌<◌, ◌⊎◌, All, None, IfOk, IfErr, string_bytes};
-ghost use Rattle.serde_json.specs.Data.{Data};
-ghost use Rattle.serde_json.specs.View.{view};
+ghost use Rattle.std.specs.Prelude.{◌≡◌, ◌<◌, All, None, IfOk, IfErr};
 ghost use Rattle.air_symbolic.specs.BaseLeaves.{base_reads};
 ghost use Rattle.air_symbolic.specs.Pools.{IsPool, size};
 ghost use Rattle.air_program.specs.Answer.{AuditFinds};
-ghost use Rattle.air_program.specs.FlatAnswer.{StandsFor, HasNoValue, flat_instance, AuditRefusesInput, AnswersIn, IsFlatAnswer};
-ghost use Rattle.air_object.specs.Parts.{InPool, ArePartsOf};
-ghost use Rattle.air_program.specs.Refusals.{name_of, refusal_text};
-ghost use Rattle.air_program.specs.Requests.{MayRefuse};
+ghost use Rattle.air_program.specs.FlatAnswer.{flat_instance, AuditRefusesInput, AuditedIn};
 ghost use Rattle.air_program.specs.Texts.{found};
 
 use crate::answer::{findings_of, render};
-use crate::commands::Request;
+use crate::by_field::ObjectAnswer;
 use crate::refusals::Refusal;
 use crate::texts::Findings;
 use air_builder::AirError;
-use air_field::{BabyBear, Field, Goldilocks, KoalaBear, Mersenne31, PrimeField64, RowMajorMatrix};
-use air_object::{FieldName, FlatInput, Parts, TextFault, field_of, input_from, parts_of};
+use air_field::{Field, PrimeField64, RowMajorMatrix};
+use air_object::{FlatInput, Parts, input_from};
 use p3_air::FlatAir;
 use std::alloc::Global;
-
-/// The parts of the JSON value that the bytes stand for, its trace and its constraints read as over F.
-pub(crate) fn parts_from<F: PrimeField64>(alloc: Global, bytes: &[u8]) -> Result<Parts<F>, Refusal>
-    ensures parts { IfOk result (λ p. (d : Data) × StandsFor bytes.now d
-        × ArePartsOf F.residues d (view p.rest) p.main p.constraints) }
-    ensures refused { IfErr result (λ why. (why ≡ Refusal.Memory)
-        ⊎ ((why ≡ Refusal.Json) × HasNoValue bytes.now)) }
-{
-    let Ok(text) = str::from_utf8(bytes) else {
-        return Err(Refusal::Json);
-    };
-    match parts_of(alloc, text) {
-        Ok(parts) => Ok(parts),
-        Err(TextFault::Memory) => Err(Refusal::Memory),
-        Err(TextFault::Json) => Err(Refusal::Json),
-    }
-}
 
 /// An AIR without a preprocessed table, and with this one, if there is one.
 pub(crate) fn with_table<F: Field>(air: FlatAir<F>, table: Option<RowMajorMatrix<F>>) -> FlatAir<F>
@@ -86,58 +64,23 @@ fn audit_input<F: PrimeField64 + 'static>(
     )
 }
 
-/// The status and the text that answer an object over F whose parts these are.
-fn answer_parts<F: PrimeField64 + 'static>(
-    alloc: Global,
-    parts: Parts<F>,
-) -> Result<(u8, String), Refusal>
-    requires { InPool parts.constraints }
-    ensures ok { IfOk result (λ p. (d : Data)
-        → ArePartsOf F.residues d (view parts.rest) parts.main parts.constraints
-        → AnswersIn F.residues d p.0 (string_bytes p.1)) }
-    ensures refused { IfErr result (λ why. (why ≡ Refusal.Memory) ⊎ ((d : Data)
-        → ArePartsOf F.residues d (view parts.rest) parts.main parts.constraints
-        → AnswersIn F.residues d 2 (refusal_text (name_of why)))) }
-{
-    let Parts {
-        rest,
-        main,
-        constraints,
-    } = parts;
-    let input = input_from(alloc, &rest, main, constraints)?;
-    let findings = audit_input(alloc, input)?;
-    render(alloc, &findings)
-}
+/// Answers with what an audit finds.
+pub(crate) struct Audited {}
 
-/// The status and the text that answer an object over F, of which the bytes are the text.
-fn answer_over<F: PrimeField64 + 'static>(
-    alloc: Global,
-    bytes: &[u8],
-) -> Result<(u8, String), Refusal>
-    ensures ok { IfOk result (λ p. (d : Data) × StandsFor bytes.now d
-        × AnswersIn F.residues d p.0 (string_bytes p.1)) }
-    ensures refused { IfErr result (λ why. (why ≡ Refusal.Memory)
-        ⊎ (((why ≡ Refusal.Json) × HasNoValue bytes.now) ⊎ ((d : Data) × StandsFor bytes.now d
-        × AnswersIn F.residues d 2 (refusal_text (name_of why))))) }
-{
-    let parts: Parts<F> = parts_from(alloc, bytes)?;
-    answer_parts(alloc, parts)
-}
+impl ObjectAnswer for Audited {
+    ghost answers = { AuditedIn };
 
-/// The status and the text that answer a JSON object. It is read as over `BabyBear`, and once more over the field that
-/// its member `field` names, where that is another one.
-pub fn answer_flat(alloc: Global, bytes: &[u8]) -> Result<(u8, String), Refusal>
-    ensures ok { IfOk result (λ p. IsFlatAnswer bytes.now p.0 (string_bytes p.1)) }
-    ensures refused { IfErr result (MayRefuse Request.Flat bytes.now) }
-{
-    let parts: Parts<BabyBear> = parts_from(alloc, bytes)?;
-    let Some(field) = field_of(&parts.rest) else {
-        return Err(Refusal::Field);
-    };
-    match field {
-        FieldName::BabyBear => answer_parts(alloc, parts),
-        FieldName::KoalaBear => answer_over::<KoalaBear>(alloc, bytes),
-        FieldName::Mersenne31 => answer_over::<Mersenne31>(alloc, bytes),
-        FieldName::Goldilocks => answer_over::<Goldilocks>(alloc, bytes),
+    fn answer<F: PrimeField64 + 'static>(
+        alloc: Global,
+        parts: Parts<F>,
+    ) -> Result<(u8, String), Refusal> {
+        let Parts {
+            rest,
+            main,
+            constraints,
+        } = parts;
+        let input = input_from(alloc, &rest, main, constraints)?;
+        let findings = audit_input(alloc, input)?;
+        render(alloc, &findings)
     }
 }

@@ -2,6 +2,7 @@
 #![tactic(auto)]
 
 mod answer;
+mod by_field;
 mod commands;
 mod explain;
 mod flat;

@@ -5,20 +5,17 @@ ghost use Rattle.serde_json.specs.Data.{Data};
 ghost use Rattle.air_symbolic.specs.BaseLeaves.{base_reads};
 ghost use Rattle.air_symbolic.specs.Pools.{IsPool, size};
 ghost use Rattle.air_infix.specs.Lines.{ShowsRoots};
-ghost use Rattle.air_program.specs.FlatAnswer.{StandsFor, HasNoValue};
 ghost use Rattle.air_object.specs.Parts.{InPool, AreGiven};
 ghost use Rattle.air_object.specs.Readers.{constraints_member};
 ghost use Rattle.air_program.specs.Refusals.{name_of, refusal_text};
-ghost use Rattle.air_program.specs.Requests.{MayRefuse};
-ghost use Rattle.air_program.specs.Shown.{ShownIn, IsShowAnswer};
+ghost use Rattle.air_program.specs.Shown.{ShownIn};
 
-use crate::commands::Request;
-use crate::flat::parts_from;
+use crate::by_field::ObjectAnswer;
 use crate::refusals::Refusal;
 use air_builder::AirError;
-use air_field::{BabyBear, Goldilocks, KoalaBear, Mersenne31, PrimeField64};
+use air_field::PrimeField64;
 use air_infix::show;
-use air_object::{BaseId, BasePool, Constraints, FieldName, Parts, field_of};
+use air_object::{BaseId, BasePool, Constraints, Parts};
 use std::alloc::Global;
 
 /// The status and the text that show the roots.
@@ -59,48 +56,21 @@ fn show_constraints<F: PrimeField64>(
     }
 }
 
-/// The status and the text that show the constraints among these parts.
-fn show_parts<F: PrimeField64>(alloc: Global, parts: Parts<F>) -> Result<(u8, String), Refusal>
-    requires { InPool parts.constraints }
-    ensures ok { IfOk result (λ p. (d : Data)
-        → AreGiven (constraints_member F.residues d) parts.constraints
-        → ShownIn F F.ORDER_U64 F.residues d p.0 (string_bytes p.1)) }
-    ensures refused { IfErr result (λ why. (why ≡ Refusal.Memory) ⊎ ((d : Data)
-        → AreGiven (constraints_member F.residues d) parts.constraints
-        → ShownIn F F.ORDER_U64 F.residues d 2 (refusal_text (name_of why)))) }
-{
-    let Parts {
-        rest: _,
-        main: _,
-        constraints,
-    } = parts;
-    show_constraints(alloc, constraints)
-}
+/// Answers with the constraints as people read them.
+pub(crate) struct Shown {}
 
-/// The status and the text that show the constraints of an object over F, of which the bytes are the text.
-fn show_over<F: PrimeField64>(alloc: Global, bytes: &[u8]) -> Result<(u8, String), Refusal>
-    ensures ok { IfOk result (λ p. (d : Data) × StandsFor bytes.now d
-        × ShownIn F F.ORDER_U64 F.residues d p.0 (string_bytes p.1)) }
-    ensures refused { IfErr result (λ why. (why ≡ Refusal.Memory)
-        ⊎ (((why ≡ Refusal.Json) × HasNoValue bytes.now) ⊎ ((d : Data) × StandsFor bytes.now d
-        × ShownIn F F.ORDER_U64 F.residues d 2 (refusal_text (name_of why))))) }
-{
-    let parts: Parts<F> = parts_from(alloc, bytes)?;
-    show_parts(alloc, parts)
-}
+impl ObjectAnswer for Shown {
+    ghost answers = { ShownIn };
 
-/// The status and the text that answer `show`: of the object the members `field` and `constraints` are read alone. It is
-/// read as over `BabyBear`, and once more over the field that it names, where that is another one.
-pub fn answer_show(alloc: Global, bytes: &[u8]) -> Result<(u8, String), Refusal>
-    ensures ok { IfOk result (λ p. IsShowAnswer bytes.now p.0 (string_bytes p.1)) }
-    ensures refused { IfErr result (MayRefuse Request.Show bytes.now) }
-{
-    let parts: Parts<BabyBear> = parts_from(alloc, bytes)?;
-    match field_of(&parts.rest) {
-        Some(FieldName::BabyBear) => show_parts(alloc, parts),
-        Some(FieldName::KoalaBear) => show_over::<KoalaBear>(alloc, bytes),
-        Some(FieldName::Mersenne31) => show_over::<Mersenne31>(alloc, bytes),
-        Some(FieldName::Goldilocks) => show_over::<Goldilocks>(alloc, bytes),
-        None => Err(Refusal::Field),
+    fn answer<F: PrimeField64 + 'static>(
+        alloc: Global,
+        parts: Parts<F>,
+    ) -> Result<(u8, String), Refusal> {
+        let Parts {
+            rest: _,
+            main: _,
+            constraints,
+        } = parts;
+        show_constraints(alloc, constraints)
     }
 }

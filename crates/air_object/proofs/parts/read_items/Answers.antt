@@ -1,7 +1,7 @@
 use Rattle.std.proofs.Common.{◌≡◌, [], length, Some, None, ap, ◌∙◌, arith}
 use Rattle.json.specs.Json.{parse_map, after_end_array, items, value}
 use Rattle.serde_json.specs.Read.{of_items, converted}
-use Rattle.serde_json.specs.View.{view, items_of}
+use Rattle.serde_json.specs.View.{items_of}
 use Rattle.air_wire.specs.BaseLeaves.{element_at}
 use Rattle.air_object.specs.Parts.{AreElements}
 use Rattle.air_object.specs.Readers.{each_from}
@@ -15,45 +15,21 @@ items-init g c =
     let all = converted of_items (items (value c.args.depth) (length c.args.reader.now) c.args.reader.now) in
     (length c.args.reader.now, omega arith, [], none_before all, omega arith, c.no_elements-elements.ensures)
 
-pub returns-in_err-item-clause-err : goal.returns-in_err-item-clause-err
-returns-in_err-item-clause-err g c refused =
+pub returns-in_err-elements-clause-err : goal.returns-in_err-elements-clause-err
+returns-in_err-elements-clause-err g c refused =
     let p = value c.args.depth in
     let l = c.items in
     let n = l.invariant.0 in
     let going : (after_end_array l.reader ≡ None) × (c.take_end_array.new.self ≡ l.reader) = grind arith in
-    l.invariant.3 ∙ ap (parse_map (data_before l.invariant.2)) (item_refused p n l.reader going.0 (rw (← going.1) (c.read.ensures.err (grind arith))))
+    l.invariant.3 ∙ ap (parse_map (data_before l.invariant.2)) (item_refused p n l.reader going.0 (rw (← going.1) (c.read_element.ensures.err (grind arith))))
 
 pub items-preserved : goal.items-preserved
 items-preserved g c =
     let p = value c.args.depth in
     let l = c.items in
     let going : (after_end_array l.reader ≡ None) × (c.take_end_array.new.self ≡ l.reader) = grind arith in
-    let done = c.in_ok-item.ensures in
-    one_item_more (element_at g.F.PrimeField64.residues 0) (λ given. AreElements given l.elements) (λ given. AreElements given c.with_element-elements.result) p _ (length c.args.reader.now) l.invariant.0 l.reader c.read.new.reader l.invariant.2 (view c.in_ok-item.item) l.invariant.1 l.invariant.3 l.invariant.4 l.invariant.5 going.0 (rw (← going.1) done.ok) (rw (← going.1) done.shorter) c.with_element-elements.ensures
-
-pub items-preserved-in_ok-item : goal.items-preserved-in_ok-item
-items-preserved-in_ok-item g c =
-    let p = value c.args.depth in
-    let l = c.items in
-    let going : (after_end_array l.reader ≡ None) × (c.take_end_array.new.self ≡ l.reader) = grind arith in
-    let done = c.in_ok-item.ensures in
-    one_item_more (element_at g.F.PrimeField64.residues 0) (λ given. AreElements given l.elements) (λ given. AreElements given c.with_element-elements.result) p _ (length c.args.reader.now) l.invariant.0 l.reader c.read.new.reader l.invariant.2 (view c.in_ok-item.item) l.invariant.1 l.invariant.3 l.invariant.4 l.invariant.5 going.0 (rw (← going.1) done.ok) (rw (← going.1) done.shorter) c.with_element-elements.ensures
-
-pub items-preserved-in_ok-item-2 : goal.items-preserved-in_ok-item-2
-items-preserved-in_ok-item-2 g c =
-    let p = value c.args.depth in
-    let l = c.items in
-    let going : (after_end_array l.reader ≡ None) × (c.take_end_array.new.self ≡ l.reader) = grind arith in
-    let done = c.in_ok-item.ensures in
-    one_item_more (element_at g.F.PrimeField64.residues 0) (λ given. AreElements given l.elements) (λ given. AreElements given c.with_element-elements.result) p _ (length c.args.reader.now) l.invariant.0 l.reader c.read.new.reader l.invariant.2 (view c.in_ok-item.item) l.invariant.1 l.invariant.3 l.invariant.4 l.invariant.5 going.0 (rw (← going.1) done.ok) (rw (← going.1) done.shorter) c.with_element-elements.ensures
-
-pub items-preserved-in_ok-item-3 : goal.items-preserved-in_ok-item-3
-items-preserved-in_ok-item-3 g c =
-    let p = value c.args.depth in
-    let l = c.items in
-    let going : (after_end_array l.reader ≡ None) × (c.take_end_array.new.self ≡ l.reader) = grind arith in
-    let done = c.in_ok-item.ensures in
-    one_item_more (element_at g.F.PrimeField64.residues 0) (λ given. AreElements given l.elements) (λ given. AreElements given c.with_element-elements.result) p _ (length c.args.reader.now) l.invariant.0 l.reader c.read.new.reader l.invariant.2 (view c.in_ok-item.item) l.invariant.1 l.invariant.3 l.invariant.4 l.invariant.5 going.0 (rw (← going.1) done.ok) (rw (← going.1) done.shorter) c.with_element-elements.ensures
+    let done = c.in_ok-elements.ensures in
+    one_item_more (element_at g.F.PrimeField64.residues 0) (λ given. AreElements given l.elements) (λ given. AreElements given c.in_ok-elements.elements) p _ (length c.args.reader.now) l.invariant.0 l.reader c.read_element.new.reader l.invariant.2 done.ok.0 l.invariant.1 l.invariant.3 l.invariant.4 l.invariant.5 going.0 (rw (← going.1) done.ok.1) (rw (← going.1) done.shorter) done.ok.2
 
 pub returns-clause-ok : goal.returns-clause-ok
 returns-clause-ok g c =
