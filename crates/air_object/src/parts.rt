@@ -18,7 +18,7 @@ use crate::constraints::{
 };
 use crate::elements::{Elements, elements_from, missing_elements, no_elements, with_element};
 use crate::members::elements_at;
-use crate::text::{Begun, TextFault, begun, read, read_from};
+use crate::text::{Beginning, TextFault, begun, read, read_from};
 use air_field::{Field, PrimeField64};
 use air_wire::ListReader;
 use json::{Reader, Scratch, Token};
@@ -86,8 +86,8 @@ fn read_elements<F: PrimeField64>(
     ensures err { result ≡ Err TextFault.Json → converted of_json (value depth reader.old) ≡ None }
 {
     match begun(alloc, reader, depth)? {
-        Begun::Array(inside) => read_items(alloc, reader, inside),
-        Begun::Other(other) => Ok(elements_from(alloc, &other)),
+        Beginning::Array(inside) => read_items(alloc, reader, inside),
+        Beginning::Other(other) => Ok(elements_from(alloc, &other)),
     }
 }
 
@@ -130,8 +130,8 @@ fn read_root<F: PrimeField64>(
     ensures err { result ≡ Err TextFault.Json → converted of_json (value depth reader.old) ≡ None }
 {
     match begun(alloc, reader, depth)? {
-        Begun::Array(inside) => read_nodes(alloc, reader, inside, pool),
-        Begun::Other(other) => Ok(root_from(alloc, pool, &other)),
+        Beginning::Array(inside) => read_nodes(alloc, reader, inside, pool),
+        Beginning::Other(other) => Ok(root_from(alloc, pool, &other)),
     }
 }
 
@@ -189,8 +189,8 @@ fn read_constraints<F: PrimeField64>(
     ensures err { result ≡ Err TextFault.Json → converted of_json (value depth reader.old) ≡ None }
 {
     match begun(alloc, reader, depth)? {
-        Begun::Array(inside) => read_lists(alloc, reader, inside),
-        Begun::Other(other) => Ok(constraints_listed(alloc, &other)),
+        Beginning::Array(inside) => read_lists(alloc, reader, inside),
+        Beginning::Other(other) => Ok(constraints_listed(alloc, &other)),
     }
 }
 

@@ -52,7 +52,7 @@ impl<T: Drop> From<AllocFailed<T>> for TextFault {
 
 /// What begins a value.
 #[derive(Drop)]
-pub enum Begun {
+pub enum Beginning {
     /// An array, whose items are at most so deep.
     Array(usize),
     /// Another value, and its end.
@@ -60,7 +60,7 @@ pub enum Begun {
 }
 
 /// What begins where the reader stands.
-pub fn begun(alloc: Global, reader: &mut Reader<'_>, depth: usize) -> Result<Begun, TextFault>
+pub fn begun(alloc: Global, reader: &mut Reader<'_>, depth: usize) -> Result<Beginning, TextFault>
     ensures ok { IfOk result (IsBegun depth reader.old reader.new) }
     ensures shorter { OnOk result (length reader.new < length reader.old) }
     ensures err { result ≡ Err TextFault.Json → converted of_json (value depth reader.old) ≡ None }
@@ -70,10 +70,10 @@ pub fn begun(alloc: Global, reader: &mut Reader<'_>, depth: usize) -> Result<Beg
         if depth == 0 {
             return Err(TextFault::Json);
         }
-        return Ok(Begun::Array(depth - 1));
+        return Ok(Beginning::Array(depth - 1));
     }
     let other = read_from(alloc, token, reader, depth)?;
-    Ok(Begun::Other(other))
+    Ok(Beginning::Other(other))
 }
 
 /// The value that begins where the reader stands.

@@ -7,6 +7,7 @@ pub mod ByField
 pub mod FlatAnswer
 pub mod Shown
 pub mod Explained
+pub mod Wanted
 pub mod AtHand
 pub mod Commands
 pub mod Requests

@@ -10,13 +10,10 @@ ghost use Rattle.air_program.specs.Grammar.{parse};
 ghost use Rattle.air_program.specs.Answer.{AuditFinds, CappedAuditRefuses, fibonacci_instance, PassesDegree, IsAnswerTo};
 ghost use Rattle.air_program.specs.Requests.{Answers, MayRefuse};
 
-use crate::by_field::answer_object;
+use crate::by_field::{Wanted, answer_object};
 use crate::commands::{Command, Request};
-use crate::explain::Explained;
-use crate::flat::Audited;
 use crate::input::{Input, ParseFault, parse};
 use crate::refusals::Refusal;
-use crate::show::Shown;
 use crate::texts::{Findings, findings_text};
 use air_builder::AirError;
 use air_fibonacci::Fibonacci;
@@ -174,8 +171,8 @@ pub fn answer(alloc: Global, request: Request, input: &[u8]) -> Result<(u8, Stri
             cap,
             transition_weight,
         } => answer_trace(alloc, command, cap, transition_weight, input),
-        Request::Flat => answer_object::<Audited>(alloc, input),
-        Request::Show => answer_object::<Shown>(alloc, input),
-        Request::Explain => answer_object::<Explained>(alloc, input),
+        Request::Flat => answer_object(alloc, Wanted::Audit, input),
+        Request::Show => answer_object(alloc, Wanted::Show, input),
+        Request::Explain => answer_object(alloc, Wanted::Explain, input),
     }
 }

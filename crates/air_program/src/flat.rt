@@ -1,14 +1,17 @@
 //! What an audit finds of a JSON object: an AIR whose constraints are lists of nodes, and a trace of it.
 
-ghost use Rattle.std.specs.Prelude.{◌≡◌, ◌<◌, All, None, IfOk, IfErr};
+ghost use Rattle.std.specs.Prelude.{◌≡◌, ◌<◌, ◌⊎◌, All, None, IfOk, IfErr, string_bytes};
+ghost use Rattle.serde_json.specs.Data.{Data};
+ghost use Rattle.serde_json.specs.View.{view};
 ghost use Rattle.air_symbolic.specs.BaseLeaves.{base_reads};
 ghost use Rattle.air_symbolic.specs.Pools.{IsPool, size};
 ghost use Rattle.air_program.specs.Answer.{AuditFinds};
 ghost use Rattle.air_program.specs.FlatAnswer.{flat_instance, AuditRefusesInput, AuditedIn};
+ghost use Rattle.air_object.specs.Parts.{InPool, ArePartsOf};
+ghost use Rattle.air_program.specs.Refusals.{name_of, refusal_text};
 ghost use Rattle.air_program.specs.Texts.{found};
 
 use crate::answer::{findings_of, render};
-use crate::by_field::ObjectAnswer;
 use crate::refusals::Refusal;
 use crate::texts::Findings;
 use air_builder::AirError;
@@ -64,23 +67,25 @@ fn audit_input<F: PrimeField64 + 'static>(
     )
 }
 
-/// Answers with what an audit finds.
-pub(crate) struct Audited {}
-
-impl ObjectAnswer for Audited {
-    ghost answers = { AuditedIn };
-
-    fn answer<F: PrimeField64 + 'static>(
-        alloc: Global,
-        parts: Parts<F>,
-    ) -> Result<(u8, String), Refusal> {
-        let Parts {
-            rest,
-            main,
-            constraints,
-        } = parts;
-        let input = input_from(alloc, &rest, main, constraints)?;
-        let findings = audit_input(alloc, input)?;
-        render(alloc, &findings)
-    }
+/// The status and the text of what an audit of an object over F finds whose parts these are.
+pub(crate) fn audit_parts<F: PrimeField64 + 'static>(
+    alloc: Global,
+    parts: Parts<F>,
+) -> Result<(u8, String), Refusal>
+    requires { InPool parts.constraints }
+    ensures ok { IfOk result (λ p. (d : Data)
+        → ArePartsOf F.residues d (view parts.rest) parts.main parts.constraints
+        → AuditedIn F F.ORDER_U64 F.residues d p.0 (string_bytes p.1)) }
+    ensures refused { IfErr result (λ why. (why ≡ Refusal.Memory) ⊎ ((d : Data)
+        → ArePartsOf F.residues d (view parts.rest) parts.main parts.constraints
+        → AuditedIn F F.ORDER_U64 F.residues d 2 (refusal_text (name_of why)))) }
+{
+    let Parts {
+        rest,
+        main,
+        constraints,
+    } = parts;
+    let input = input_from(alloc, &rest, main, constraints)?;
+    let findings = audit_input(alloc, input)?;
+    render(alloc, &findings)
 }

@@ -2,15 +2,15 @@
 
 ghost use Rattle.std.specs.Prelude.{◌≡◌, ◌⊎◌, ◌<◌, All, IfOk, IfErr, string_bytes};
 ghost use Rattle.serde_json.specs.Data.{Data};
+ghost use Rattle.serde_json.specs.View.{view};
 ghost use Rattle.air_symbolic.specs.BaseLeaves.{base_reads};
 ghost use Rattle.air_symbolic.specs.Pools.{IsPool, size};
 ghost use Rattle.air_infix.specs.Lines.{ShowsRoots};
-ghost use Rattle.air_object.specs.Parts.{InPool, AreGiven};
+ghost use Rattle.air_object.specs.Parts.{InPool, AreGiven, ArePartsOf};
 ghost use Rattle.air_object.specs.Readers.{constraints_member};
 ghost use Rattle.air_program.specs.Refusals.{name_of, refusal_text};
 ghost use Rattle.air_program.specs.Shown.{ShownIn};
 
-use crate::by_field::ObjectAnswer;
 use crate::refusals::Refusal;
 use air_builder::AirError;
 use air_field::PrimeField64;
@@ -56,21 +56,23 @@ fn show_constraints<F: PrimeField64>(
     }
 }
 
-/// Answers with the constraints as people read them.
-pub(crate) struct Shown {}
-
-impl ObjectAnswer for Shown {
-    ghost answers = { ShownIn };
-
-    fn answer<F: PrimeField64 + 'static>(
-        alloc: Global,
-        parts: Parts<F>,
-    ) -> Result<(u8, String), Refusal> {
-        let Parts {
-            rest: _,
-            main: _,
-            constraints,
-        } = parts;
-        show_constraints(alloc, constraints)
-    }
+/// The status and the text that show the constraints of an object over F whose parts these are.
+pub(crate) fn show_parts<F: PrimeField64 + 'static>(
+    alloc: Global,
+    parts: Parts<F>,
+) -> Result<(u8, String), Refusal>
+    requires { InPool parts.constraints }
+    ensures ok { IfOk result (λ p. (d : Data)
+        → ArePartsOf F.residues d (view parts.rest) parts.main parts.constraints
+        → ShownIn F F.ORDER_U64 F.residues d p.0 (string_bytes p.1)) }
+    ensures refused { IfErr result (λ why. (why ≡ Refusal.Memory) ⊎ ((d : Data)
+        → ArePartsOf F.residues d (view parts.rest) parts.main parts.constraints
+        → ShownIn F F.ORDER_U64 F.residues d 2 (refusal_text (name_of why)))) }
+{
+    let Parts {
+        rest: _,
+        main: _,
+        constraints,
+    } = parts;
+    show_constraints(alloc, constraints)
 }

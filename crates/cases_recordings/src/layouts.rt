@@ -10,6 +10,21 @@ use cases::{Fault, Why};
 use std::alloc::Global;
 use std::fmt::Debug;
 
+// Sets the count of this name.
+fn set(layout: &mut AirLayout, name: &str, count: usize) -> Result<(), Fault> {
+    match name {
+        "preprocessed" => layout.preprocessed_width = count,
+        "main" => layout.main_width = count,
+        "public" => layout.num_public_values = count,
+        "periodic" => layout.num_periodic_columns = count,
+        "permutation" => layout.permutation_width = count,
+        "challenges" => layout.num_permutation_challenges = count,
+        "values" => layout.num_permutation_values = count,
+        _ => return Err(Fault::Unreadable(Why::NoSuchWord)),
+    }
+    Ok(())
+}
+
 /// The layout of a word such as `main:2,public:1`, in which what isn't named is as in `start`; `own`: `start`.
 pub fn layout_of(start: AirLayout, word: &str) -> Result<AirLayout, Fault> {
     let mut layout = start;
@@ -17,16 +32,10 @@ pub fn layout_of(start: AirLayout, word: &str) -> Result<AirLayout, Fault> {
         return Ok(layout);
     }
     for part in word.split(',') {
-        match part.split_once(':') {
-            Some(("preprocessed", n)) => layout.preprocessed_width = count_of(n)?,
-            Some(("main", n)) => layout.main_width = count_of(n)?,
-            Some(("public", n)) => layout.num_public_values = count_of(n)?,
-            Some(("periodic", n)) => layout.num_periodic_columns = count_of(n)?,
-            Some(("permutation", n)) => layout.permutation_width = count_of(n)?,
-            Some(("challenges", n)) => layout.num_permutation_challenges = count_of(n)?,
-            Some(("values", n)) => layout.num_permutation_values = count_of(n)?,
-            _ => return Err(Fault::Unreadable(Why::NoSuchWord)),
-        }
+        let Some((name, count)) = part.split_once(':') else {
+            return Err(Fault::Unreadable(Why::NoSuchWord));
+        };
+        set(&mut layout, name, count_of(count)?)?;
     }
     Ok(layout)
 }

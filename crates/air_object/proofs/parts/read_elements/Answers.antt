@@ -1,13 +1,14 @@
-use Rattle.std.proofs.Common.{length, ap, ◌∙◌}
+use Rattle.std.proofs.Common.{length, ap, ◌∙◌, subst}
 use Rattle.json.specs.Json.{parse_map, items, value}
 use Rattle.serde_json.specs.Data.{array}
 use Rattle.serde_json.specs.Read.{of_json, of_items, converted}
+use Rattle.air_object.specs.Begun.{IsBegun}
 use Rattle.air_object.proofs.PartLemmas.{elements_of_array}
 use Rattle.air_object.proofs.parts.read_elements.Goals as goal
 
 pub returns-in-Array-clause-ok : goal.returns-in-Array-clause-ok
 returns-in-Array-clause-ok g c =
-    elements_of_array g.F.PrimeField64.residues c.read_items.result (converted of_json (value c.args.depth c.args.reader.now)) (converted of_items (items (value c.in-Array.inside) (length c.begun.new.reader) c.begun.new.reader)) c.read_items.new.reader c.in_ok-begun.ensures.ok c.read_items.ensures.ok
+    elements_of_array g.F.PrimeField64.residues c.read_items.result (converted of_json (value c.args.depth c.args.reader.now)) (converted of_items (items (value c.in-Array.inside) (length c.begun.new.reader) c.begun.new.reader)) c.read_items.new.reader (subst (IsBegun c.args.depth c.args.reader.now c.begun.new.reader) c.in-Array.is c.in_ok-inside.ensures.ok) c.read_items.ensures.ok
 
 pub returns-in-Array-clause-err : goal.returns-in-Array-clause-err
-returns-in-Array-clause-err g c refused = c.in_ok-begun.ensures.ok ∙ ap (parse_map array) (c.read_items.ensures.err refused)
+returns-in-Array-clause-err g c refused = (subst (IsBegun c.args.depth c.args.reader.now c.begun.new.reader) c.in-Array.is c.in_ok-inside.ensures.ok) ∙ ap (parse_map array) (c.read_items.ensures.err refused)

@@ -4,7 +4,7 @@ use Rattle.serde_json.specs.View.{view}
 use Rattle.air_object.specs.Parts.{ArePartsOf}
 use Rattle.air_program.specs.Explained.{TellsExplained}
 use Rattle.air_program.proofs.FlatAnswers.{parts_refused, input_refused}
-use Rattle.air_program.proofs.explain.ExplainedObjectAnswer.answer.Goals as goal
+use Rattle.air_program.proofs.explain.explain_parts.Goals as goal
 
 pub returns-in_err-input-clause-refused : goal.returns-in_err-input-clause-refused
 returns-in_err-input-clause-refused g c =

@@ -5,7 +5,7 @@ use Rattle.air_object.specs.Parts.{ArePartsOf}
 use Rattle.air_program.specs.FlatAnswer.{TellsInput}
 use Rattle.air_program.specs.Texts.{found}
 use Rattle.air_program.proofs.FlatAnswers.{parts_refused, value_answered}
-use Rattle.air_program.proofs.flat.AuditedObjectAnswer.answer.Goals as goal
+use Rattle.air_program.proofs.flat.audit_parts.Goals as goal
 
 pub returns-in_err-input-clause-refused : goal.returns-in_err-input-clause-refused
 returns-in_err-input-clause-refused g c =
