@@ -3,9 +3,21 @@ ghost use Rattle.std.specs.Prelude.{OnOk};
 
 use crate::assertions::assert_this;
 use crate::constants::{constant, two_constants};
-use air_builder::{AirBuilder, NamedExtensionBuilder};
+use air_builder::{AirBuilder, FilteredAirBuilder, NamedExtensionBuilder};
 use cases::{Fault, Why};
 use std::alloc::Global;
+
+// Makes an assertion on a filter. (That a filter is a builder is dear to prove, so the others call this.)
+fn assert_on<'a, AB: NamedExtensionBuilder>(
+    alloc: Global,
+    filter: &mut FilteredAirBuilder<'a, AB>,
+    call: &[&str],
+) -> Result<(), Fault>
+    requires { ⟦<FilteredAirBuilder<'a, AB> as AirBuilder>⟧.ready filter.old }
+    ensures { OnOk result (⟦<FilteredAirBuilder<'a, AB> as AirBuilder>⟧.kept filter.old filter.new) }
+{
+    Ok(assert_this(alloc, filter, call)?)
+}
 
 // Makes an assertion where a condition holds.
 fn assert_when<AB: NamedExtensionBuilder>(
@@ -19,7 +31,7 @@ fn assert_when<AB: NamedExtensionBuilder>(
     ensures { OnOk result (AB.kept builder.old builder.new) }
 {
     let mut filter = builder.when(condition)?;
-    Ok(assert_this(alloc, &mut filter, call)?)
+    Ok(assert_on(alloc, &mut filter, call)?)
 }
 
 // Makes an assertion where x and y differ.
@@ -36,7 +48,7 @@ fn assert_when_ne<AB: NamedExtensionBuilder>(
     ensures { OnOk result (AB.kept builder.old builder.new) }
 {
     let mut filter = builder.when_ne(x, y)?;
-    Ok(assert_this(alloc, &mut filter, call)?)
+    Ok(assert_on(alloc, &mut filter, call)?)
 }
 
 // Makes an assertion on the rows that a selector names.
@@ -52,15 +64,15 @@ fn assert_on_rows<AB: NamedExtensionBuilder>(
     match selector {
         "when_first_row" => {
             let mut filter = builder.when_first_row()?;
-            Ok(assert_this(alloc, &mut filter, call)?)
+            Ok(assert_on(alloc, &mut filter, call)?)
         }
         "when_last_row" => {
             let mut filter = builder.when_last_row()?;
-            Ok(assert_this(alloc, &mut filter, call)?)
+            Ok(assert_on(alloc, &mut filter, call)?)
         }
         "when_transition" => {
             let mut filter = builder.when_transition()?;
-            Ok(assert_this(alloc, &mut filter, call)?)
+            Ok(assert_on(alloc, &mut filter, call)?)
         }
         _ => Err(Fault::Unreadable(Why::NoSuchCall)),
     }
@@ -76,7 +88,7 @@ fn assert_in_window<AB: NamedExtensionBuilder>(
     ensures { OnOk result (AB.kept builder.old builder.new) }
 {
     let mut filter = builder.when_transition_window(2)?;
-    Ok(assert_this(alloc, &mut filter, call)?)
+    Ok(assert_on(alloc, &mut filter, call)?)
 }
 
 // Makes an assertion, or makes it on the filter that stands before it.

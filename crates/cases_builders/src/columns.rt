@@ -63,36 +63,61 @@ fn weighted_here<F: Field>(alloc: Global, words: &[&str]) -> Result<Vec<(usize, 
     Ok(all)
 }
 
+// The virtual column of columns with weights, and of a constant.
+fn newly<F: Field>(
+    alloc: Global,
+    word: &str,
+    c: F,
+    all: &[&str],
+) -> Result<VirtualPairCol<F>, Fault> {
+    match word {
+        "new_main" => Ok(VirtualPairCol::new_main(alloc, weighted_here(alloc, all)?, c)?),
+        "new_preprocessed" => {
+            Ok(VirtualPairCol::new_preprocessed(alloc, weighted_here(alloc, all)?, c)?)
+        }
+        "new" => Ok(VirtualPairCol::new(weighted(alloc, all)?, c)),
+        _ => Err(Fault::Unreadable(Why::NoSuchCall)),
+    }
+}
+
+// The virtual column of the difference of two columns.
+fn difference<F: Field>(
+    alloc: Global,
+    word: &str,
+    x: usize,
+    y: usize,
+) -> Result<VirtualPairCol<F>, Fault> {
+    match word {
+        "diff_main" => Ok(VirtualPairCol::diff_main(alloc, x, y)?),
+        "diff_preprocessed" => Ok(VirtualPairCol::diff_preprocessed(alloc, x, y)?),
+        _ => Err(Fault::Unreadable(Why::NoSuchCall)),
+    }
+}
+
+// The virtual column of one word: a constant, a column, or the sum of some.
+fn of_word<F: Field>(alloc: Global, word: &str, x: &str) -> Result<VirtualPairCol<F>, Fault> {
+    match word {
+        "constant" => Ok(VirtualPairCol::constant(alloc, element_of(x)?)),
+        "single" => Ok(VirtualPairCol::single(alloc, column_of(x)?)?),
+        "single_main" => Ok(VirtualPairCol::single_main(alloc, count_of(x)?)?),
+        "single_preprocessed" => Ok(VirtualPairCol::single_preprocessed(alloc, count_of(x)?)?),
+        "sum_main" => Ok(VirtualPairCol::sum_main(alloc, counts_of(alloc, x)?)?),
+        "sum_preprocessed" => Ok(VirtualPairCol::sum_preprocessed(alloc, counts_of(alloc, x)?)?),
+        _ => Err(Fault::Unreadable(Why::NoSuchCall)),
+    }
+}
+
 // The virtual column that a call makes.
 fn made<F: Field>(alloc: Global, call: &[&str]) -> Result<VirtualPairCol<F>, Fault> {
     match call {
         ["one"] => Ok(VirtualPairCol::one(alloc)),
-        ["constant", c] => Ok(VirtualPairCol::constant(alloc, element_of(*c)?)),
-        ["single", x] => Ok(VirtualPairCol::single(alloc, column_of(*x)?)?),
-        ["single_main", x] => Ok(VirtualPairCol::single_main(alloc, count_of(*x)?)?),
-        ["single_preprocessed", x] => {
-            Ok(VirtualPairCol::single_preprocessed(alloc, count_of(*x)?)?)
-        }
-        ["sum_main", all] => Ok(VirtualPairCol::sum_main(alloc, counts_of(alloc, *all)?)?),
-        ["sum_preprocessed", all] => {
-            Ok(VirtualPairCol::sum_preprocessed(alloc, counts_of(alloc, *all)?)?)
-        }
-        ["diff_main", x, y] => Ok(VirtualPairCol::diff_main(alloc, count_of(*x)?, count_of(*y)?)?),
-        ["diff_preprocessed", x, y] => {
-            Ok(VirtualPairCol::diff_preprocessed(alloc, count_of(*x)?, count_of(*y)?)?)
-        }
-        ["new_main", c, all @ ..] => {
-            let c = element_of(*c)?;
-            Ok(VirtualPairCol::new_main(alloc, weighted_here(alloc, all)?, c)?)
-        }
-        ["new_preprocessed", c, all @ ..] => {
-            let c = element_of(*c)?;
-            Ok(VirtualPairCol::new_preprocessed(alloc, weighted_here(alloc, all)?, c)?)
-        }
-        ["new", c, all @ ..] => {
-            let c = element_of(*c)?;
-            Ok(VirtualPairCol::new(weighted(alloc, all)?, c))
-        }
+        [
+            word @ ("new" | "new_main" | "new_preprocessed"),
+            c,
+            all @ ..,
+        ] => { newly(alloc, *word, element_of(*c)?, all) }
+        [word, x] => of_word(alloc, *word, *x),
+        [word, x, y] => difference(alloc, *word, count_of(*x)?, count_of(*y)?),
         _ => Err(Fault::Unreadable(Why::NoSuchCall)),
     }
 }

@@ -43,15 +43,13 @@ impl<F: Field> BaseAir<F> for OneHint {
 }
 
 /// Adds what an AIR hints: Fibonacci has no hints of its own, the other one.
-pub fn hint<F: Field>(
-    alloc: Global,
-    air: &str,
-    call: &str,
-    text: &mut String,
-) -> Result<(), Fault> {
-    match air {
-        "fibonacci" => show_said::<F, Fibonacci>(alloc, &Fibonacci::new(), call, text),
-        "one_hint" => show_said::<F, OneHint>(alloc, &OneHint, call, text),
+pub fn hint<F: Field>(alloc: Global, call: &[&str], text: &mut String) -> Result<(), Fault> {
+    let [air, call] = call else {
+        return Err(Fault::Unreadable(Why::NoSuchCall));
+    };
+    match *air {
+        "fibonacci" => show_said::<F, Fibonacci>(alloc, &Fibonacci::new(), *call, text),
+        "one_hint" => show_said::<F, OneHint>(alloc, &OneHint, *call, text),
         _ => Err(Fault::Unreadable(Why::NoSuchName)),
     }
 }

@@ -34,9 +34,11 @@ pub fn matrix(alloc: Global, call: &[&str], text: &mut String) -> Result<(), Fau
 }
 
 /// Adds the pair of two rows.
-pub fn view_pair(alloc: Global, top: &str, bottom: &str, text: &mut String) -> Result<(), Fault> {
-    let top = counts_of(alloc, top)?;
-    let bottom = counts_of(alloc, bottom)?;
+pub fn view_pair(alloc: Global, rows: &[&str], text: &mut String) -> Result<(), Fault> {
+    let [top, bottom] = rows else {
+        return Err(Fault::Unreadable(Why::NoSuchCall));
+    };
+    let (top, bottom) = (counts_of(alloc, *top)?, counts_of(alloc, *bottom)?);
     if top.len() != bottom.len() {
         return Err(Fault::Unreadable(Why::OtherShape));
     }

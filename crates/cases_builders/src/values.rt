@@ -31,18 +31,21 @@ impl<'a, F: PrimeField64 + 'static> Bench<'a> for Values<F> {
 
     fn answer(&mut self, line: &Line<'a>, text: &mut String) -> Result<(), Fault> {
         let alloc = self.alloc;
-        match line.words.as_slice() {
-            ["RowMajorMatrix", call @ ..] => matrix(alloc, call, text),
-            ["ViewPair", top, bottom] => view_pair(alloc, *top, *bottom, text),
-            ["window", call @ ..] => window(alloc, call, text),
-            ["boundary", call @ ..] => boundary(alloc, call, text),
-            ["name", call @ ..] => names(alloc, call, text),
-            ["air", call @ ..] => air::<F>(alloc, call, text),
-            ["hint", air, call] => hint::<F>(alloc, *air, *call, text),
-            ["PairCol", call @ ..] => pair_col::<F>(alloc, call, text),
-            ["VirtualPairCol", call @ ..] => virtual_pair_col::<F>(alloc, call, text),
-            ["utils", call @ ..] => utils(alloc, call, text),
-            ["gadget", call @ ..] => word_gadget::<F>(alloc, call, text),
+        let [word, call @ ..] = line.words.as_slice() else {
+            return Err(Fault::Unreadable(Why::NoSuchCall));
+        };
+        match *word {
+            "RowMajorMatrix" => matrix(alloc, call, text),
+            "ViewPair" => view_pair(alloc, call, text),
+            "window" => window(alloc, call, text),
+            "boundary" => boundary(alloc, call, text),
+            "name" => names(alloc, call, text),
+            "air" => air::<F>(alloc, call, text),
+            "hint" => hint::<F>(alloc, call, text),
+            "PairCol" => pair_col::<F>(alloc, call, text),
+            "VirtualPairCol" => virtual_pair_col::<F>(alloc, call, text),
+            "utils" => utils(alloc, call, text),
+            "gadget" => word_gadget::<F>(alloc, call, text),
             _ => Err(Fault::Unreadable(Why::NoSuchCall)),
         }
     }

@@ -10,7 +10,7 @@ use air_field::{
 };
 use air_gadgets::{add2, add3, xor_32_shift};
 use air_recording::{AirLayout, Recorded, SymbolicAirBuilder};
-use air_report::check_all_constraints;
+use air_report::{ConstraintReport, check_all_constraints};
 use air_symbolic::{BaseLeaf, ExprId, ExprPool};
 use cases::words::{count_of, element_of, listed_elements};
 use cases::{Fault, Why};
@@ -171,24 +171,38 @@ fn recorded<F: Field>(alloc: Global, gadget: Gadget, width: usize) -> Result<Rec
     Ok(finish_recording(builder))
 }
 
-// Adds how many constraints a gadget has, and which of them fail at a row.
-fn show_checked<F: Field + 'static>(
+// What a check of a gadget reports at a row.
+fn checked<F: Field + 'static>(
     alloc: Global,
     gadget: Gadget,
     row: Vec<F>,
-    text: &mut String,
-) -> Result<(), Fault> {
+) -> Result<ConstraintReport, Fault> {
     let width = row.len();
     let recorded = recorded::<F>(alloc, gadget, width)?;
     let air = recorded_air(recorded, width, 0, Vec::new(alloc), Vec::new(alloc))?;
     let main = RowMajorMatrix::new(row, width)?;
-    let report = check_all_constraints(alloc, &air, &main, &[], None)?;
+    Ok(check_all_constraints(alloc, &air, &main, &[], None)?)
+}
+
+// Adds how many constraints a report counts a row, and which of them fail.
+fn show_report(report: &ConstraintReport, text: &mut String) -> Result<(), Fault> {
     let count = report.total_constraints_per_row;
     write!(text, "{count} constraints")?;
     for failure in &report.failures {
         write!(text, ", {failure}")?;
     }
     Ok(())
+}
+
+// Adds those of a gadget at a row.
+fn show_checked<F: Field + 'static>(
+    alloc: Global,
+    gadget: Gadget,
+    row: Vec<F>,
+    text: &mut String,
+) -> Result<(), Fault> {
+    let report = checked(alloc, gadget, row)?;
+    show_report(&report, text)
 }
 
 // Adds the degrees of what is recorded of a gadget.
@@ -245,30 +259,49 @@ fn push_bits<F: PrimeField64>(alloc: Global, word: &str, row: &mut Vec<F>) -> Re
     Ok(())
 }
 
+// The limbs of words.
+fn limbs_of<F: PrimeField64>(alloc: Global, words: &[&str]) -> Result<Vec<F>, Fault> {
+    let mut row = Vec::new(alloc);
+    for word in words {
+        push_limbs(alloc, *word, &mut row)?;
+    }
+    Ok(row)
+}
+
+// The limbs of a word, and the bits of two others.
+fn word_and_bits<F: PrimeField64>(
+    alloc: Global,
+    a: &str,
+    b: &str,
+    c: &str,
+) -> Result<Vec<F>, Fault> {
+    let mut row = Vec::new(alloc);
+    push_limbs(alloc, a, &mut row)?;
+    push_bits(alloc, b, &mut row)?;
+    push_bits(alloc, c, &mut row)?;
+    Ok(row)
+}
+
 // Adds what a gadget makes of the row of its words, which are numbers of the field.
 fn gadget_over<F: PrimeField64 + 'static>(
     alloc: Global,
     call: &[&str],
     text: &mut String,
 ) -> Result<(), Fault> {
-    let mut row: Vec<F> = Vec::new(alloc);
     match call {
-        ["add2", a, b, c] => {
-            for word in [a, b, c] {
-                push_limbs(alloc, *word, &mut row)?;
-            }
-            show_checked(alloc, Gadget::SumOfTwo, row, text)
+        ["add2", words @ ..] if words.len() == 3 => {
+            show_checked(alloc, Gadget::SumOfTwo, limbs_of::<F>(alloc, words)?, text)
         }
-        ["add3", a, b, c, d] => {
-            for word in [a, b, c, d] {
-                push_limbs(alloc, *word, &mut row)?;
-            }
-            show_checked(alloc, Gadget::SumOfThree, row, text)
+        ["add3", words @ ..] if words.len() == 4 => {
+            show_checked(
+                alloc,
+                Gadget::SumOfThree,
+                limbs_of::<F>(alloc, words)?,
+                text,
+            )
         }
         ["xor_32_shift", a, b, c, shift] => {
-            push_limbs(alloc, *a, &mut row)?;
-            push_bits(alloc, *b, &mut row)?;
-            push_bits(alloc, *c, &mut row)?;
+            let row: Vec<F> = word_and_bits(alloc, *a, *b, *c)?;
             show_checked(alloc, Gadget::Xor(count_of(*shift)?), row, text)
         }
         ["degrees", "add2"] => show_degrees::<F>(alloc, Gadget::SumOfTwo, 6, text),

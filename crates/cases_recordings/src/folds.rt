@@ -6,7 +6,7 @@ ghost use Rattle.air_folder.specs.Hiding.{IsBelowAll, IsIncreasing};
 use crate::recordings::Recorder;
 use air_builder::{Air, BaseAir};
 use air_field::{BabyBear, ExtensionField, Field, RowMajorMatrixView, ViewPair};
-use air_folder::{ConstraintFolder, fold_air, hiding_alphas};
+use air_folder::{ConstraintFolder, Folded, fold_air, hiding_alphas};
 use air_recording::AirLayout;
 use cases::words::{Number, listed_elements, show_elements};
 use cases::{Fault, Why};
@@ -118,6 +118,19 @@ fn folder_of<'a, F: Field + 'static, EF: ExtensionField<F> + 'static>(
     ))
 }
 
+// Adds what is folded, and the places of the constraints.
+fn show_folded<F: Number, EF: ExtensionField<F>>(
+    folded: &Folded<F, EF>,
+    text: &mut String,
+) -> Result<(), Fault> {
+    show_elements(folded.accumulator.as_basis_coefficients_slice(), text)?;
+    let base = folded.recorded.base.len();
+    let ext = folded.recorded.ext.len();
+    let places = &folded.layout;
+    write!(text, ", {base} base, {ext} extension, {places:?}")?;
+    Ok(())
+}
+
 /// Adds what is folded of an AIR at the row, and the places of its constraints.
 pub fn answer_fold<
     'a,
@@ -133,12 +146,7 @@ pub fn answer_fold<
 ) -> Result<(), Fault> {
     let mut folder: Folder<'a, F, EF> = folder_of(row)?;
     let folded = fold_air(alloc, air, layout, &mut folder)?;
-    show_elements(folded.accumulator.as_basis_coefficients_slice(), text)?;
-    let base = folded.recorded.base.len();
-    let ext = folded.recorded.ext.len();
-    let places = &folded.layout;
-    write!(text, ", {base} base, {ext} extension, {places:?}")?;
-    Ok(())
+    show_folded(&folded, text)
 }
 
 // Whether a number is below all these.

@@ -70,9 +70,10 @@ pub fn show_extensions<F: Number, EF: ExtensionField<F>>(
 fn show_decomposed<F: Number, EF: ExtensionField<F>>(
     alloc: Global,
     layout: &ConstraintLayout,
-    alpha: EF,
+    alpha: &[&str],
     text: &mut String,
 ) -> Result<(), Fault> {
+    let alpha = extension_of::<F, EF>(alloc, alpha)?;
     let (coordinates, powers) = layout.decompose_alpha::<F, EF>(alloc, alpha)?;
     text.push_str("[")?;
     for (place, list) in coordinates.iter().enumerate() {
@@ -85,22 +86,26 @@ fn show_decomposed<F: Number, EF: ExtensionField<F>>(
     show_extensions::<F, EF>(powers.as_slice(), text)
 }
 
+// The same of the places in words, and an alpha of either field.
 fn decompose_alpha<F: Number, EF: ExtensionField<F>>(
     alloc: Global,
-    layout: &ConstraintLayout,
+    base: &str,
+    ext: &str,
     alpha: &[&str],
     text: &mut String,
 ) -> Result<(), Fault> {
+    let layout = places_of(alloc, base, ext)?;
     match alpha {
-        [_] => {
-            let alpha = extension_of::<F, F>(alloc, alpha)?;
-            show_decomposed::<F, F>(alloc, layout, alpha, text)
-        }
-        _ => {
-            let alpha = extension_of::<F, EF>(alloc, alpha)?;
-            show_decomposed::<F, EF>(alloc, layout, alpha, text)
-        }
+        [_] => show_decomposed::<F, F>(alloc, &layout, alpha, text),
+        _ => show_decomposed::<F, EF>(alloc, &layout, alpha, text),
     }
+}
+
+// Adds how many places there are.
+fn show_total(alloc: Global, base: &str, ext: &str, text: &mut String) -> Result<(), Fault> {
+    let count = places_of(alloc, base, ext)?.total_constraints();
+    write!(text, "{count}")?;
+    Ok(())
 }
 
 // The sum of weight times value, each value of the constraint at the index beside the weight.
@@ -136,6 +141,19 @@ fn show_recombined<F: Number>(
     Ok(())
 }
 
+// The same of the places in words.
+fn recombine<F: Number>(
+    alloc: Global,
+    base: &str,
+    ext: &str,
+    alpha: &str,
+    values: &[&str],
+    text: &mut String,
+) -> Result<(), Fault> {
+    let layout = places_of(alloc, base, ext)?;
+    show_recombined::<F>(alloc, &layout, alpha, values, text)
+}
+
 // Adds what a word spells, and how that is spelt again where it is spelt otherwise.
 fn show_spelt<S: Spelled + Debug + Drop>(
     alloc: Global,
@@ -167,15 +185,12 @@ pub fn answer_layout<F: Number, EF: ExtensionField<F>>(
         ["spelling", "ConstraintLayout", word] => {
             show_spelt::<ConstraintLayout>(alloc, *word, text)?
         }
-        ["total_constraints", base, ext] => {
-            let count = places_of(alloc, *base, *ext)?.total_constraints();
-            write!(text, "{count}")?;
-        }
+        ["total_constraints", base, ext] => show_total(alloc, *base, *ext, text)?,
         ["decompose_alpha", base, ext, alpha @ ..] => {
-            decompose_alpha::<F, EF>(alloc, &places_of(alloc, *base, *ext)?, alpha, text)?
+            decompose_alpha::<F, EF>(alloc, *base, *ext, alpha, text)?
         }
         ["recombination", base, ext, alpha, values @ ..] => {
-            show_recombined::<F>(alloc, &places_of(alloc, *base, *ext)?, *alpha, values, text)?
+            recombine::<F>(alloc, *base, *ext, *alpha, values, text)?
         }
         ["constraint_degree_from_poly_degree", degree, rows] => {
             let (degree, rows) = (count_of(*degree)?, count_of(*rows)?);

@@ -230,6 +230,22 @@ fn show_done<F: Number, EF: ExtensionField<F>>(
     }
 }
 
+// Adds what the words ask of a builder.
+fn show_asked<F: Number, EF: ExtensionField<F>>(
+    alloc: Global,
+    builder: &mut Recorder<F, EF>,
+    words: &[&str],
+    text: &mut String,
+) -> Result<(), Fault>
+    requires { ⟦<SymbolicAirBuilder<F, EF> as AirBuilder>⟧.ready builder.old }
+{
+    match words {
+        [window, row, column] => show_in_window(builder, *window, *row, *column, text),
+        [list] if show_list(builder, *list, text)? => Ok(()),
+        _ => show_done(alloc, builder, words, text),
+    }
+}
+
 /// Adds what a call on a builder answers, if the line is one.
 pub fn answer_lent<F: Number, EF: ExtensionField<F>>(
     alloc: Global,
@@ -241,10 +257,6 @@ pub fn answer_lent<F: Number, EF: ExtensionField<F>>(
     };
     let layout = layout_of(AirLayout::default(), *layout)?;
     let mut builder: Recorder<F, EF> = SymbolicAirBuilder::new(alloc, layout)?;
-    match words {
-        [window, row, column] => show_in_window(&builder, *window, *row, *column, text)?,
-        [list] if show_list(&builder, *list, text)? => {}
-        _ => show_done(alloc, &mut builder, words, text)?,
-    }
+    show_asked(alloc, &mut builder, words, text)?;
     Ok(true)
 }

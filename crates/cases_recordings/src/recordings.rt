@@ -17,7 +17,19 @@ use std::alloc::Global;
 
 pub type Recorder<F, EF> = SymbolicAirBuilder<F, EF>;
 
-// Adds the base constraints of an AIR, and how many others there are, of which there are to be none.
+// Adds the base constraints, and how many others there are, of which there are to be none.
+fn show_base<F: Number>(recorded: &Recorded<F, F>, text: &mut String) -> Result<(), Fault>
+    requires { IsPool ⟦<ExtLeaf<F, F> as SymLeaf>⟧.reads recorded.now.pool }
+{
+    show_expressions(recorded.pool.base(), &recorded.base, text)?;
+    let ext = recorded.ext.len();
+    if ext > 0 {
+        write!(text, ", and {ext} over the extension")?;
+    }
+    Ok(())
+}
+
+// Adds those of an AIR.
 fn show_symbolic<F: Number, A: Air<Recorder<F, F>>>(
     alloc: Global,
     air: &A,
@@ -25,12 +37,7 @@ fn show_symbolic<F: Number, A: Air<Recorder<F, F>>>(
     text: &mut String,
 ) -> Result<(), Fault> {
     let recorded = get_symbolic_constraints::<F, A>(alloc, air, layout)?;
-    show_expressions(recorded.pool.base(), &recorded.base, text)?;
-    let ext = recorded.ext.len();
-    if ext > 0 {
-        write!(text, ", and {ext} over the extension")?;
-    }
-    Ok(())
+    show_base(&recorded, text)
 }
 
 // Adds the degrees that the nodes of base expressions state.
@@ -127,6 +134,17 @@ fn show_places<F: Number, EF: ExtensionField<F>>(
     Ok(())
 }
 
+// Adds those of an AIR.
+fn show_evaluated<F: Number, EF: ExtensionField<F>, A: Air<Recorder<F, EF>>>(
+    alloc: Global,
+    air: &A,
+    layout: AirLayout,
+    text: &mut String,
+) -> Result<(), Fault> {
+    let builder = evaluated::<F, EF, A>(alloc, air, layout)?;
+    show_places(&builder, text)
+}
+
 // Adds the degrees that the nodes of an AIR's base constraints state.
 fn show_stated<F: Number, A: Air<Recorder<F, F>>>(
     alloc: Global,
@@ -143,12 +161,13 @@ fn show_poly<F: Number, A: Air<Recorder<F, F>>>(
     alloc: Global,
     air: &A,
     layout: AirLayout,
-    rows: usize,
-    periods: &[usize],
+    rows: &str,
+    periods: &str,
     text: &mut String,
 ) -> Result<(), Fault> {
+    let (rows, periods) = (count_of(rows)?, counts_of(alloc, periods)?);
     let recorded = get_symbolic_constraints::<F, A>(alloc, air, layout)?;
-    show_poly_degrees(recorded.pool.base(), &recorded.base, rows, periods, text)
+    show_poly_degrees(recorded.pool.base(), &recorded.base, rows, &periods, text)
 }
 
 // Adds the places of the constraints of each kind.
@@ -163,29 +182,34 @@ fn show_layout<F: Number, EF: ExtensionField<F>, A: Air<Recorder<F, EF>>>(
     Ok(())
 }
 
-// The degree that is inferred.
-fn inferred<F: Number, A: Air<Recorder<F, F>>>(
+// Adds the degree that is inferred.
+fn show_inferred<F: Number, A: Air<Recorder<F, F>>>(
     alloc: Global,
     air: &A,
     layout: AirLayout,
     rows: &str,
     weight: &str,
-) -> Result<usize, Fault> {
+    text: &mut String,
+) -> Result<(), Fault> {
     let (rows, weight) = (count_of(rows)?, count_of(weight)?);
-    Ok(get_max_constraint_degree::<F, A>(alloc, air, layout, rows, weight)?)
+    let degree = get_max_constraint_degree::<F, A>(alloc, air, layout, rows, weight)?;
+    write!(text, "{degree}")?;
+    Ok(())
 }
 
 // The same over the extension.
-fn inferred_extension<F: Number, EF: ExtensionField<F>, A: Air<Recorder<F, EF>>>(
+fn show_inferred_extension<F: Number, EF: ExtensionField<F>, A: Air<Recorder<F, EF>>>(
     alloc: Global,
     air: &A,
     layout: AirLayout,
     rows: &str,
     weight: &str,
-) -> Result<usize, Fault> {
+    text: &mut String,
+) -> Result<(), Fault> {
     let (rows, weight) = (count_of(rows)?, count_of(weight)?);
     let degree = get_max_constraint_degree_extension::<F, EF, A>(alloc, air, layout, rows, weight)?;
-    Ok(degree)
+    write!(text, "{degree}")?;
+    Ok(())
 }
 
 /// Adds what a call answers of an AIR that is recorded over the base field, if it is one.
@@ -201,12 +225,10 @@ pub fn answer_base<F: Number, A: Air<Recorder<F, F>>>(
         ("get_symbolic_constraints", []) => show_symbolic::<F, A>(alloc, air, layout, text)?,
         ("degree_multiples", []) => show_stated::<F, A>(alloc, air, layout, text)?,
         ("poly_degrees", [rows, periods]) => {
-            let periods = counts_of(alloc, *periods)?;
-            show_poly::<F, A>(alloc, air, layout, count_of(*rows)?, &periods, text)?;
+            show_poly::<F, A>(alloc, air, layout, *rows, *periods, text)?
         }
         ("get_max_constraint_degree", [rows, weight]) => {
-            let degree = inferred::<F, A>(alloc, air, layout, *rows, *weight)?;
-            write!(text, "{degree}")?;
+            show_inferred::<F, A>(alloc, air, layout, *rows, *weight, text)?
         }
         _ => return Ok(false),
     }
@@ -228,11 +250,9 @@ pub fn answer_extension<F: Number, EF: ExtensionField<F>, A: Air<Recorder<F, EF>
             alloc, air, layout, text,
         ),
         ("get_constraint_layout", []) => show_layout::<F, EF, A>(alloc, air, layout, text),
-        ("eval", []) => show_places(&evaluated::<F, EF, A>(alloc, air, layout)?, text),
+        ("eval", []) => show_evaluated::<F, EF, A>(alloc, air, layout, text),
         ("get_max_constraint_degree_extension", [rows, weight]) => {
-            let degree = inferred_extension::<F, EF, A>(alloc, air, layout, *rows, *weight)?;
-            write!(text, "{degree}")?;
-            Ok(())
+            show_inferred_extension::<F, EF, A>(alloc, air, layout, *rows, *weight, text)
         }
         _ => Err(Fault::Unreadable(Why::NoSuchCall)),
     }
