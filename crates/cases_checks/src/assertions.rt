@@ -56,6 +56,19 @@ fn texts_of(alloc: Global, words: &[&str]) -> Result<Vec<String>, Fault> {
     Ok(texts)
 }
 
+// Makes the assertions of these texts.
+fn assert_texts<F: Field + 'static, EF: ExtensionField<F> + 'static>(
+    alloc: Global,
+    builder: &mut ExtRow<'_, F, EF>,
+    texts: &[String],
+) -> Result<(), Fault> {
+    let mut words = Vec::new(alloc);
+    for text in texts {
+        words.push(text.as_str())?;
+    }
+    assert_on(alloc, builder, words.as_slice())
+}
+
 // Makes the assertions of the words, or asserts an AIR's constraints.
 fn assert_words<F: Field + 'static, EF: ExtensionField<F> + 'static>(
     alloc: Global,
@@ -68,11 +81,7 @@ fn assert_words<F: Field + 'static, EF: ExtensionField<F> + 'static>(
         ["eval", air] => Ok(eval_on(airs.air(*air)?, builder)?),
         _ => {
             let texts = texts_of(alloc, words)?;
-            let mut words = Vec::new(alloc);
-            for text in &texts {
-                words.push(text.as_str())?;
-            }
-            assert_on(alloc, builder, words.as_slice())
+            assert_texts(alloc, builder, texts.as_slice())
         }
     }
 }
@@ -89,6 +98,23 @@ fn show_copies(failures: &[ConstraintFailure], text: &mut String) -> Result<(), 
     Ok(())
 }
 
+// Adds how many failed, and which.
+fn show_failed(failures: &[ConstraintFailure], text: &mut String) -> Result<(), Fault> {
+    let count = failures.len();
+    write!(text, "{count} failed")?;
+    show_failures(failures, text)
+}
+
+// Adds the failures as the builder formats them.
+fn show_formatted<F: Field, EF: ExtensionField<F>>(
+    builder: &ExtRow<'_, F, EF>,
+    text: &mut String,
+) -> Result<(), Fault> {
+    let formatted = builder.formatted_failures()?;
+    text.push_str(formatted.as_str())?;
+    Ok(())
+}
+
 // Adds what the builder answers.
 fn show_answer<F: Field, EF: ExtensionField<F>>(
     builder: ExtRow<'_, F, EF>,
@@ -96,19 +122,15 @@ fn show_answer<F: Field, EF: ExtensionField<F>>(
     text: &mut String,
 ) -> Result<(), Fault> {
     match answer {
-        Answer::Formatted => text.push_str(builder.formatted_failures()?.as_str())?,
-        Answer::Has => {
-            let has = builder.has_failures();
-            write!(text, "{has}")?;
-        }
-        Answer::Shown => {
-            let count = builder.failures().len();
-            write!(text, "{count} failed")?;
-            show_failures(builder.failures(), text)?;
-        }
-        Answer::Copied => show_copies(builder.into_failures().as_slice(), text)?,
+        Answer::Formatted => show_formatted(&builder, text),
+        Answer::Has => Ok(text.push_str(if builder.has_failures() {
+            "true"
+        } else {
+            "false"
+        })?),
+        Answer::Shown => show_failed(builder.failures(), text),
+        Answer::Copied => show_copies(builder.into_failures().as_slice(), text),
     }
-    Ok(())
 }
 
 /// Adds what the builder at a row answers, once assertions were made on it: the words `KEY:VALUE` say what stands at the

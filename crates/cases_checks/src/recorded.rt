@@ -60,14 +60,10 @@ pub fn recorded_counter<F: Field + 'static>(
     weight: &str,
     text: &mut String,
 ) -> Result<(), Fault> {
+    let weight = count_of(weight)?;
+    let given = given_of(alloc, main, "-")?;
     let air = air_of(alloc, record_counter::<F>(alloc)?)?;
-    show_audit(
-        alloc,
-        &air,
-        &given_of(alloc, main, "-")?,
-        count_of(weight)?,
-        text,
-    )
+    show_audit(alloc, &air, &given, weight, text)
 }
 
 /// Adds how the numbers of a recording are refused with the pool of none: by the first one.

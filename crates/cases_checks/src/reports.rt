@@ -5,8 +5,8 @@ use cases::{Fault, Why};
 use cases_airs::words::trace_of;
 use cases_airs::{Constraints, ListAir, TableAir};
 use p3_air::{
-    Air, BaseAir, CheckError, ConstraintFailure, ConstraintReport, DebugConstraintBuilder, Field,
-    RowMajorMatrix, SymbolicAirBuilder, audit_air, check_all_constraints, check_constraints,
+    Air, Audit, BaseAir, CheckError, ConstraintFailure, ConstraintReport, DebugConstraintBuilder,
+    Field, RowMajorMatrix, SymbolicAirBuilder, audit_air, check_all_constraints, check_constraints,
 };
 use std::alloc::Global;
 
@@ -74,6 +74,13 @@ fn show_first(error: CheckError, in_words: bool, text: &mut String) -> Result<()
     }
 }
 
+// Adds the debug text of a copy of a report.
+fn show_copy(report: &ConstraintReport, text: &mut String) -> Result<(), Fault> {
+    let copy = report.clone()?;
+    write!(text, "{copy:?}")?;
+    Ok(())
+}
+
 // Adds what a check answers.
 fn answer_check<'a, F: Field + 'static, A: Air<RowBuilder<'a, F>>>(
     alloc: Global,
@@ -84,11 +91,13 @@ fn answer_check<'a, F: Field + 'static, A: Air<RowBuilder<'a, F>>>(
 ) -> Result<(), Fault> {
     let (main, public) = (&given.main, given.public.as_slice());
     match asked {
-        Asked::Report(cap) => show(&check_all_constraints(alloc, air, main, public, cap)?, text),
+        Asked::Report(cap) => {
+            let report = check_all_constraints(alloc, air, main, public, cap)?;
+            show(&report, text)
+        }
         Asked::Copy(cap) => {
-            let copy = check_all_constraints(alloc, air, main, public, cap)?.clone()?;
-            write!(text, "{copy:?}")?;
-            Ok(())
+            let report = check_all_constraints(alloc, air, main, public, cap)?;
+            show_copy(&report, text)
         }
         Asked::First { in_words } => match check_constraints(alloc, air, main, public) {
             Ok(()) => Ok(text.push_str("ok")?),
@@ -108,7 +117,14 @@ pub fn show_check<F: Field + 'static>(
     answer_check::<F, TableAir<F>>(alloc, air, given, asked, text)
 }
 
-/// Adds the degree that an audit infers in a domain of this weight, and its report.
+// Adds the degree that an audit infers, and its report.
+fn show_audited<F: Field>(audit: &Audit<F>, text: &mut String) -> Result<(), Fault> {
+    let degree = audit.degree;
+    write!(text, "degree {degree}, ")?;
+    show(&audit.report, text)
+}
+
+/// Adds those of an audit in a domain of this weight.
 pub fn show_audit<
     'a,
     F: Field + 'static,
@@ -121,9 +137,7 @@ pub fn show_audit<
     text: &mut String,
 ) -> Result<(), Fault> {
     let audit = audit_air(alloc, air, &given.main, given.public.as_slice(), weight)?;
-    let degree = audit.degree;
-    write!(text, "degree {degree}, ")?;
-    show(&audit.report, text)
+    show_audited(&audit, text)
 }
 
 /// The same of a table's AIR, if its constraints are over the base field. Over any field: at a given one the checker
@@ -140,9 +154,7 @@ pub fn show_base_audit<F: Field + 'static>(
         Constraints::Base(list) => {
             let air = ListAir { list, air };
             let audit = audit_air(alloc, &air, main, public, weight)?;
-            let degree = audit.degree;
-            write!(text, "degree {degree}, ")?;
-            show(&audit.report, text)
+            show_audited(&audit, text)
         }
         _ => Err(Fault::Unreadable(Why::NoSuchCall)),
     }

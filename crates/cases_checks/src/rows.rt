@@ -97,24 +97,48 @@ impl<F: Field, EF: ExtensionField<F>> Row<F, EF> {
         }
     }
 
+    fn set_rows(&mut self, key: &str, rows: Two<F>) {
+        match key {
+            "main" => self.main = rows,
+            _ => self.preprocessed = rows,
+        }
+    }
+
+    fn set_elements(&mut self, key: &str, elements: Vec<F>) {
+        match key {
+            "public" => self.public = elements,
+            "selectors" => self.selectors = elements,
+            _ => self.periodic = elements,
+        }
+    }
+
+    fn set_permutation(&mut self, alloc: Global, value: &str) -> Result<(), Fault> {
+        let current = listed_extension::<F, EF>(alloc, value)?;
+        let next = listed_extension::<F, EF>(alloc, value)?;
+        self.permutation = Two { current, next };
+        Ok(())
+    }
+
+    fn set_extension(&mut self, key: &str, elements: Vec<EF>) {
+        match key {
+            "challenges" => self.challenges = elements,
+            _ => self.values = elements,
+        }
+    }
+
     // Sets what a word `KEY:VALUE` says.
     fn set(&mut self, alloc: Global, key: &str, value: &str) -> Result<(), Fault> {
         match key {
             "row" => self.index = count_of(value)?,
             "counting_from" => self.from = count_of(value)?,
-            "main" => self.main = two_of(alloc, value)?,
-            "preprocessed" => self.preprocessed = two_of(alloc, value)?,
-            "public" => self.public = listed_elements(alloc, value)?,
-            "selectors" => self.selectors = listed_elements(alloc, value)?,
-            "periodic" => self.periodic = listed_elements(alloc, value)?,
-            "permutation" => {
-                self.permutation = Two {
-                    current: listed_extension::<F, EF>(alloc, value)?,
-                    next: listed_extension::<F, EF>(alloc, value)?,
-                }
+            "main" | "preprocessed" => self.set_rows(key, two_of(alloc, value)?),
+            "public" | "selectors" | "periodic" => {
+                self.set_elements(key, listed_elements(alloc, value)?)
             }
-            "challenges" => self.challenges = listed_extension::<F, EF>(alloc, value)?,
-            "values" => self.values = listed_extension::<F, EF>(alloc, value)?,
+            "permutation" => self.set_permutation(alloc, value)?,
+            "challenges" | "values" => {
+                self.set_extension(key, listed_extension::<F, EF>(alloc, value)?)
+            }
             _ => return Err(Fault::Unreadable(Why::NoSuchWord)),
         }
         Ok(())
@@ -158,13 +182,19 @@ fn pair<'a, T: Copy>(rows: &'a Two<T>) -> Result<ViewPair<'a, T>, Fault> {
     ))
 }
 
+// A copy of elements.
+fn copied<F: Field>(alloc: Global, elements: &[F]) -> Result<Vec<F>, Fault> {
+    let mut copy = Vec::new(alloc);
+    copy.extend_from_slice(elements)?;
+    Ok(copy)
+}
+
 // The builder at a row, without permutation data.
 fn plain_row<'a, F: Field>(alloc: Global, row: &'a Row<F, F>) -> Result<PlainRow<'a, F>, Fault> {
     let (first, last, transition) = row.selectors()?;
-    let mut periodic = Vec::new(alloc);
-    periodic.extend_from_slice(row.periodic.as_slice())?;
     let main = pair(&row.main)?;
     let preprocessed = pair(&row.preprocessed)?;
+    let periodic = copied(alloc, row.periodic.as_slice())?;
     Ok(DebugConstraintBuilder::new(
         alloc,
         row.index,
@@ -184,11 +214,10 @@ pub fn ext_row<'a, F: Field, EF: ExtensionField<F>>(
     row: &'a Row<F, EF>,
 ) -> Result<ExtRow<'a, F, EF>, Fault> {
     let (first, last, transition) = row.selectors()?;
-    let mut periodic = Vec::new(alloc);
-    periodic.extend_from_slice(row.periodic.as_slice())?;
     let main = pair(&row.main)?;
     let preprocessed = pair(&row.preprocessed)?;
     let permutation = pair(&row.permutation)?;
+    let periodic = copied(alloc, row.periodic.as_slice())?;
     let builder = DebugConstraintBuilder::new_with_permutation(
         alloc,
         row.index,
@@ -288,6 +317,20 @@ fn show_permutation<F: Number + 'static>(
     Ok(())
 }
 
+// Adds what a builder lends whose windows have these widths.
+fn show_lent<F: Number + 'static>(
+    alloc: Global,
+    builder: &mut PlainRow<'_, F>,
+    main: usize,
+    preprocessed: usize,
+    text: &mut String,
+) -> Result<(), Fault> {
+    show_windows(builder, main, preprocessed, text)?;
+    show_values(builder, text)?;
+    show_selectors(alloc, builder, text)?;
+    show_permutation(builder, text)
+}
+
 /// Adds what the builder at a row lends.
 pub fn lend<F: Number + 'static>(
     alloc: Global,
@@ -297,10 +340,21 @@ pub fn lend<F: Number + 'static>(
     let row = row_of::<F, F>(alloc, words)?;
     let (main, preprocessed) = (row.main.current.len(), row.preprocessed.current.len());
     let mut builder = plain_row(alloc, &row)?;
-    show_windows(&builder, main, preprocessed, text)?;
-    show_values(&builder, text)?;
-    show_selectors(alloc, &mut builder, text)?;
-    show_permutation(&builder, text)
+    show_lent(alloc, &mut builder, main, preprocessed, text)
+}
+
+// Adds the value of an expression at the builder's row.
+fn show_value<F: Number + 'static>(
+    alloc: Global,
+    pool: &NamedPool<'_, BaseLeaf<F>>,
+    x: &str,
+    builder: &mut PlainRow<'_, F>,
+    text: &mut String,
+) -> Result<(), Fault> {
+    let x = pool.at(x)?;
+    let value = resolve(alloc, &pool.pool, x, builder)?.number();
+    write!(text, "{value}")?;
+    Ok(())
 }
 
 /// Adds the value of an expression at a row.
@@ -313,8 +367,5 @@ pub fn resolved<F: Number + 'static>(
 ) -> Result<(), Fault> {
     let row = row_of::<F, F>(alloc, words)?;
     let mut builder = plain_row(alloc, &row)?;
-    let x = pool.at(x)?;
-    let value = resolve(alloc, &pool.pool, x, &mut builder)?.number();
-    write!(text, "{value}")?;
-    Ok(())
+    show_value(alloc, pool, x, &mut builder, text)
 }

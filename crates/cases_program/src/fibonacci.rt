@@ -7,7 +7,7 @@ use air_field::{Field, RowMajorMatrix};
 use cases::words::{count_of, listed_elements};
 use cases::{Fault, Why};
 use p3_air::{
-    Air, AirLayout, BaseAir, ConstraintLayout, DebugConstraintBuilder, Recorded,
+    Air, AirLayout, Audit, BaseAir, ConstraintLayout, DebugConstraintBuilder, Recorded,
     SymbolicAirBuilder, audit_air, get_all_symbolic_constraints, get_constraint_layout,
     get_max_constraint_degree, get_max_constraint_degree_extension, get_symbolic_constraints,
     get_symbolic_constraints_extension,
@@ -41,10 +41,12 @@ fn traced_of<F: Field>(alloc: Global, words: &[&str]) -> Result<Traced<F>, Fault
         }
         _ => return Err(Fault::Unreadable(Why::NoSuchCall)),
     };
-    let values = listed_elements(alloc, *values)?;
+    let width = count_of(*width)?;
+    let main = RowMajorMatrix::new(listed_elements(alloc, *values)?, width)?;
+    let public_values = listed_elements(alloc, *public)?;
     Ok(Traced {
-        main: RowMajorMatrix::new(values, count_of(*width)?)?,
-        public_values: listed_elements(alloc, *public)?,
+        main,
+        public_values,
         cap,
     })
 }
@@ -57,6 +59,15 @@ fn show_layout(layout: &ConstraintLayout, text: &mut String) -> Result<(), Fault
     Ok(())
 }
 
+// Adds what was found.
+fn show_audited<F: Field>(audit: &Audit<F>, text: &mut String) -> Result<(), Fault> {
+    show_layout(&audit.layout, text)?;
+    let recorded = audit.recorded.base.len();
+    let degree = audit.degree;
+    write!(text, " recorded {recorded} degree {degree} ")?;
+    show_report(&audit.report, text)
+}
+
 // Adds what an audit finds.
 fn show_audit<
     'a,
@@ -64,11 +75,7 @@ fn show_audit<
     A: BaseAir<F> + Air<Recorder<F>> + Air<DebugConstraintBuilder<'a, F, F>>,
 >(alloc: Global, air: &'a A, given: &'a Traced<F>, text: &mut String) -> Result<(), Fault> {
     let audit = audit_air(alloc, air, &given.main, &given.public_values, 0)?;
-    show_layout(&audit.layout, text)?;
-    let recorded = audit.recorded.base.len();
-    let degree = audit.degree;
-    write!(text, " recorded {recorded} degree {degree} ")?;
-    show_report(&audit.report, text)
+    show_audited(&audit, text)
 }
 
 // Adds what a check of a trace answers, or an audit.

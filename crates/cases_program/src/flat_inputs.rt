@@ -48,14 +48,8 @@ fn show_rest<F: Number>(input: &FlatInput<F>, text: &mut String) -> Result<(), F
     Ok(())
 }
 
-/// Adds what the object spells, but for its expressions their number and those of the constraints.
-pub fn show_input<F: PrimeField64>(
-    alloc: Global,
-    object: &str,
-    text: &mut String,
-) -> Result<(), Fault> {
-    let value = value_of(alloc, object)?;
-    let input = flat_input_from::<F>(alloc, &value)?;
+// Adds all that an input has, but for its expressions their number and those of the constraints.
+fn show_whole<F: Number>(input: &FlatInput<F>, text: &mut String) -> Result<(), Fault> {
     show_rows(&input.main, text)?;
     if let Some(table) = &input.preprocessed {
         text.push_str(" preprocessed ")?;
@@ -66,5 +60,16 @@ pub fn show_input<F: PrimeField64>(
     let nodes = input.pool.len();
     write!(text, " nodes {nodes}")?;
     show_roots(&input.roots, text)?;
-    show_rest(&input, text)
+    show_rest(input, text)
+}
+
+/// Adds what the object spells, as `show_whole` does.
+pub fn show_input<F: PrimeField64>(
+    alloc: Global,
+    object: &str,
+    text: &mut String,
+) -> Result<(), Fault> {
+    let value = value_of(alloc, object)?;
+    let input = flat_input_from::<F>(alloc, &value)?;
+    show_whole(&input, text)
 }

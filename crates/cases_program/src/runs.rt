@@ -19,8 +19,22 @@ fn bytes_of(alloc: Global, input: &str) -> Result<Vec<u8>, Fault> {
     Ok(bytes)
 }
 
-// Adds what a run answers that moves so many bytes at a time: its status, how much it has not read, if any, and what it
-// wrote. A run that refuses for want of memory has no answer.
+// Adds what a run answers with this status: how much it has not read, if any, and what it wrote.
+fn show_answer(status: u8, left: usize, written: &[u8], text: &mut String) -> Result<(), Fault> {
+    if written == b"refused: Memory\n".as_slice() {
+        return Err(Fault::Memory);
+    }
+    write!(text, "status {status} ")?;
+    if left > 0 {
+        write!(text, "unread {left} ")?;
+    }
+    match str::from_utf8(written) {
+        Ok(written) => show_text(written, text),
+        Err(_) => Err(Fault::Unreadable(Why::NoText)),
+    }
+}
+
+// Adds what a run answers that moves so many bytes at a time. One that refuses for want of memory has no answer.
 fn run_by(
     alloc: Global,
     words: &[String],
@@ -34,18 +48,43 @@ fn run_by(
     let Ok(status) = run(alloc, words, &mut reader, &mut writer) else {
         return Err(Fault::Memory);
     };
-    if writer.bytes() == b"refused: Memory\n".as_slice() {
-        return Err(Fault::Memory);
+    show_answer(status, reader.left(), writer.bytes(), text)
+}
+
+// The texts of words.
+fn texts_of(alloc: Global, words: &[&str]) -> Result<Vec<String>, Fault> {
+    let mut texts = Vec::new(alloc);
+    for word in words {
+        texts.push(text_of(alloc, *word)?)?;
     }
-    write!(text, "status {status} ")?;
-    let left = reader.left();
-    if left > 0 {
-        write!(text, "unread {left} ")?;
+    Ok(texts)
+}
+
+// Adds what a run answers that moves so many bytes at a time, where it isn't this.
+fn show_other(
+    alloc: Global,
+    words: &[String],
+    input: &[u8],
+    most: usize,
+    whole: &str,
+    text: &mut String,
+) -> Result<(), Fault> {
+    let mut cut = String::new(alloc);
+    run_by(alloc, words, input, most, &mut cut)?;
+    if cut.as_str() != whole {
+        write!(text, ", but in pieces of {most}: {cut}")?;
     }
-    match str::from_utf8(writer.bytes()) {
-        Ok(written) => show_text(written, text),
-        Err(_) => Err(Fault::Unreadable(Why::NoText)),
+    Ok(())
+}
+
+// Adds what the program answers to these bytes, as `show_run` does.
+fn run_all(alloc: Global, words: &[String], input: &[u8], text: &mut String) -> Result<(), Fault> {
+    run_by(alloc, words, input, 4096, text)?;
+    let whole = text.clone()?;
+    for most in [1, 2, 3, 7] {
+        show_other(alloc, words, input, most, whole.as_str(), text)?;
     }
+    Ok(())
 }
 
 /// Adds what the program answers to an input, called with these words. It is the same for an input and an output in
@@ -56,19 +95,7 @@ pub fn show_run(
     input: &str,
     text: &mut String,
 ) -> Result<(), Fault> {
-    let mut said = Vec::new(alloc);
-    for word in words {
-        said.push(text_of(alloc, *word)?)?;
-    }
+    let said = texts_of(alloc, words)?;
     let input = bytes_of(alloc, input)?;
-    run_by(alloc, said.as_slice(), input.as_slice(), 4096, text)?;
-    let whole = text.clone()?;
-    for most in [1, 2, 3, 7] {
-        let mut cut = String::new(alloc);
-        run_by(alloc, said.as_slice(), input.as_slice(), most, &mut cut)?;
-        if cut.as_str() != whole.as_str() {
-            write!(text, ", but in pieces of {most}: {cut}")?;
-        }
-    }
-    Ok(())
+    run_all(alloc, said.as_slice(), input.as_slice(), text)
 }
