@@ -14,7 +14,8 @@ fn assert_on<'a, AB: NamedExtensionBuilder>(
     call: &[&str],
 ) -> Result<(), Fault>
     requires { ⟦<FilteredAirBuilder<'a, AB> as AirBuilder>⟧.ready filter.old }
-    ensures { OnOk result (⟦<FilteredAirBuilder<'a, AB> as AirBuilder>⟧.kept filter.old filter.new) }
+    ensures { OnOk result
+        (⟦<FilteredAirBuilder<'a, AB> as AirBuilder>⟧.kept filter.old filter.new) }
 {
     Ok(assert_this(alloc, filter, call)?)
 }

@@ -7,7 +7,7 @@ use crate::known_leaves::show_known;
 use crate::shown::{Shown, show_all, show_expression};
 use crate::spellings::answer_alone;
 use air_field::{Algebra, Field, RingError};
-use air_symbolic::{BaseLeaf, ExprId, ExprPool, LeafWeight, SymLeaf};
+use air_symbolic::{BaseLeaf, Degrees, ExprId, ExprPool, LeafWeight, SymLeaf};
 use air_wire::{WireLeaf, from_flat_value, to_flat_value};
 use cases::words::{count_of, counts_of, number_of, value_of};
 use cases::{Bench, Fault, Line, Names, Why};
@@ -44,6 +44,16 @@ impl<'a, A: SymLeaf> Model for PoolBench<'a, A> {
     ghost view = { λ b. b.pool };
 
     ghost invariant = { λ b. IsPool A.reads b.pool };
+}
+
+// Adds degrees, and the turns that they took.
+fn show_turns(degrees: &Degrees, text: &mut String) -> Result<(), Fault> {
+    for degree in &degrees.values {
+        write!(text, "{degree} ")?;
+    }
+    let turns = degrees.turns;
+    write!(text, "turns {turns}")?;
+    Ok(())
 }
 
 impl<'a, A: SymLeaf> PoolBench<'a, A> {
@@ -232,12 +242,7 @@ impl<'a, A: SymLeaf> PoolBench<'a, A> {
     ) -> Result<(), Fault> {
         let roots = self.all_at(names)?;
         let degrees = self.pool.degrees(roots.as_slice(), weight)?;
-        for degree in &degrees.values {
-            write!(text, "{degree} ")?;
-        }
-        let turns = degrees.turns;
-        write!(text, "turns {turns}")?;
-        Ok(())
+        show_turns(&degrees, text)
     }
 
     // Adds the degrees by the weight that the words say, and the turns.
@@ -249,9 +254,10 @@ impl<'a, A: SymLeaf> PoolBench<'a, A> {
                 self.show_degrees(weight, names, text)
             }
             ["trace", rows, periods, names @ ..] => {
+                let trace_len = count_of(*rows)?;
                 let periods = counts_of(self.names.alloc(), *periods)?;
                 let weight = LeafWeight::Trace {
-                    trace_len: count_of(*rows)?,
+                    trace_len,
                     periods: periods.as_slice(),
                 };
                 self.show_degrees(weight, names, text)
@@ -290,10 +296,14 @@ impl<'a, A: Shown + WireLeaf> PoolBench<'a, A> {
         Ok(from_flat_value(self.names.alloc(), &mut self.pool, &value)?)
     }
 
-    fn show_written(&self, x: &str, text: &mut String) -> Result<(), Fault> {
+    fn written(&self, x: &str) -> Result<String, Fault> {
         let x = self.at(x)?;
         let value = to_flat_value(self.names.alloc(), &self.pool, x)?;
-        let written = value.to_string(self.names.alloc())?;
+        Ok(value.to_string(self.names.alloc())?)
+    }
+
+    fn show_written(&self, x: &str, text: &mut String) -> Result<(), Fault> {
+        let written = self.written(x)?;
         text.push_str(written.as_str())?;
         Ok(())
     }

@@ -11,20 +11,31 @@ use cases::{Fault, Why};
 use std::alloc::Global;
 use std::fmt::Debug;
 
-// Adds what a word spells, if it is the spelling of that.
+// How it is spelt.
+fn spelling_of<S: Spelled>(alloc: Global, x: &S) -> Result<String, Fault> {
+    let value = x.to_value(alloc)?;
+    Ok(value.to_string(alloc)?)
+}
+
+// Adds it, and how it is spelt where the word spells it otherwise.
+fn show_beside<S: Debug>(x: &S, written: &str, word: &str, text: &mut String) -> Result<(), Fault> {
+    if written == word {
+        write!(text, "{x:?}")?;
+    } else {
+        write!(text, "{x:?}, which is spelt {written}")?;
+    }
+    Ok(())
+}
+
+// Adds what a word spells, and how that is spelt where the word spells it otherwise.
 fn show_spelt<S: Spelled + Debug + Drop>(
     alloc: Global,
     word: &str,
     text: &mut String,
 ) -> Result<(), Fault> {
     let x = S::from_value(alloc, &value_of(alloc, word)?)?;
-    let written = x.to_value(alloc)?.to_string(alloc)?;
-    if written.as_str() == word {
-        write!(text, "{x:?}")?;
-    } else {
-        write!(text, "{x:?}, which is spelt {written}")?;
-    }
-    Ok(())
+    let written = spelling_of(alloc, &x)?;
+    show_beside(&x, written.as_str(), word, text)
 }
 
 fn show_spelling(alloc: Global, kind: &str, word: &str, text: &mut String) -> Result<(), Fault> {
@@ -50,8 +61,8 @@ fn show_base_degrees(
     text: &mut String,
 ) -> Result<(), Fault> {
     let variable: SymbolicVariable<BabyBear> = base_variable(words)?;
-    let periods = counts_of(alloc, periods)?;
     let rows = count_of(rows)?;
+    let periods = counts_of(alloc, periods)?;
     let stated = variable.degree_multiple();
     let over_rows = variable.poly_degree(rows, periods.as_slice());
     write!(text, "{stated}, over {rows} rows {over_rows}")?;
