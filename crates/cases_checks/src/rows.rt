@@ -182,19 +182,12 @@ fn pair<'a, T: Copy>(rows: &'a Two<T>) -> Result<ViewPair<'a, T>, Fault> {
     ))
 }
 
-// A copy of elements.
-fn copied<F: Field>(alloc: Global, elements: &[F]) -> Result<Vec<F>, Fault> {
-    let mut copy = Vec::new(alloc);
-    copy.extend_from_slice(elements)?;
-    Ok(copy)
-}
-
 // The builder at a row, without permutation data.
 fn plain_row<'a, F: Field>(alloc: Global, row: &'a Row<F, F>) -> Result<PlainRow<'a, F>, Fault> {
     let (first, last, transition) = row.selectors()?;
     let main = pair(&row.main)?;
     let preprocessed = pair(&row.preprocessed)?;
-    let periodic = copied(alloc, row.periodic.as_slice())?;
+    let periodic = row.periodic.as_slice().to_vec(alloc)?;
     Ok(DebugConstraintBuilder::new(
         alloc,
         row.index,
@@ -217,7 +210,7 @@ pub fn ext_row<'a, F: Field, EF: ExtensionField<F>>(
     let main = pair(&row.main)?;
     let preprocessed = pair(&row.preprocessed)?;
     let permutation = pair(&row.permutation)?;
-    let periodic = copied(alloc, row.periodic.as_slice())?;
+    let periodic = row.periodic.as_slice().to_vec(alloc)?;
     let builder = DebugConstraintBuilder::new_with_permutation(
         alloc,
         row.index,
