@@ -5,8 +5,8 @@ ghost use Rattle.air_builder.specs.Notation.{◌⊙◌};
 ghost use Rattle.air_author.specs.Expressions.{MadeIn, Lasts};
 
 use crate::AirResult;
-use crate::expressions::arithmetic::Product;
-use crate::expressions::extension::Lifted;
+use crate::expressions::arithmetic::Times;
+use crate::expressions::extension::LiftedAt;
 use crate::expressions::{Expression, ExtExpression};
 use air_builder::{AirBuilder, ExtensionBuilder, View, ViewOver};
 use air_field::Algebra;
@@ -66,18 +66,18 @@ impl<AB: AirBuilder> Condition<AB> for Everywhere {
 
 /// Where a condition holds and a selector isn't zero.
 #[derive(Clone, Copy, Drop)]
-pub struct Where<'a, K, S>(pub(crate) &'a K, pub(crate) S);
+pub struct Where<'a, K, S>(pub(crate) &'a K, pub(crate) &'a S);
 
 impl<'a, AB: AirBuilder, K: Condition<AB>, S: Expression<AB>> Condition<AB> for Where<'a, K, S> {
-    ghost under = { λ s t. K.under s.0.now (S.term s.1 ⊙ t) };
+    ghost under = { λ s t. K.under s.0.now (S.term s.1.now ⊙ t) };
 
-    ghost ext_under = { λ s t. K.ext_under s.0.now (t ⊙ S.term s.1) };
+    ghost ext_under = { λ s t. K.ext_under s.0.now (t ⊙ S.term s.1.now) };
 
-    ghost where_holds = { λ s b. K.where_holds s.0.now b × S.holds s.1 b };
+    ghost where_holds = { λ s b. K.where_holds s.0.now b × S.holds s.1.now b };
 
     #[inline(always)]
     fn make_under<X: Expression<AB>>(&self, builder: &mut AB, x: &X) -> AirResult<AB::Expr> {
-        self.0.make_under(builder, &Product(&self.1, x))
+        self.0.make_under(builder, &Times(self.1, x))
     }
 
     #[inline(always)]
@@ -85,6 +85,6 @@ impl<'a, AB: AirBuilder, K: Condition<AB>, S: Expression<AB>> Condition<AB> for 
     where
         AB: ExtensionBuilder,
     {
-        self.0.make_ext_under(builder, &Product(x, Lifted(&self.1)))
+        self.0.make_ext_under(builder, &Times(x, &LiftedAt(self.1)))
     }
 }

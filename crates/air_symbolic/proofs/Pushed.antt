@@ -126,7 +126,7 @@ module _ {A : Type 0} (nodes : List (SymbolicExpr A)) (node : SymbolicExpr A) (a
   products-kept : ((k : Operands) → node ≢ Mul k.x k.y k.degree_multiple) → FindsNumbers (λ k. Mul k.x k.y k.degree_multiple) (nodes ++ node ∷ []) product
   products-kept other = FindsNumbers-other (λ k. Mul k.x k.y k.degree_multiple) nodes product node other old.products
 
-  pub numbered-leaf : (new : A → Option ℕ) (k : A) → node ≡ Leaf k → Entered leaf new k (length nodes) → AreNumbered (nodes ++ node ∷ []) new sum difference negative product
+  numbered-leaf : (new : A → Option ℕ) (k : A) → node ≡ Leaf k → Entered leaf new k (length nodes) → AreNumbered (nodes ++ node ∷ []) new sum difference negative product
   numbered-leaf new k is entered = record {
     leaves = subst (λ m. FindsNumbers Leaf (nodes ++ m ∷ []) new) (sym is) (FindsNumbers-push Leaf (λ a b e. cc) nodes leaf new k (not-there (Leaf k) is) old.leaves entered);
     sums = sums-kept (λ l e. cc);
@@ -135,7 +135,7 @@ module _ {A : Type 0} (nodes : List (SymbolicExpr A)) (node : SymbolicExpr A) (a
     products = products-kept (λ l e. cc);
   }
 
-  pub numbered-sum : (new : Operands → Option ℕ) (k : Operands) → node ≡ Add k.x k.y k.degree_multiple → Entered sum new k (length nodes) → AreNumbered (nodes ++ node ∷ []) leaf new difference negative product
+  numbered-sum : (new : Operands → Option ℕ) (k : Operands) → node ≡ Add k.x k.y k.degree_multiple → Entered sum new k (length nodes) → AreNumbered (nodes ++ node ∷ []) leaf new difference negative product
   numbered-sum new k is entered = record {
     leaves = leaves-kept (λ l e. cc);
     sums = subst (λ m. FindsNumbers (λ l. Add l.x l.y l.degree_multiple) (nodes ++ m ∷ []) new) (sym is) (FindsNumbers-push (λ l. Add l.x l.y l.degree_multiple) (λ a b e. same-operands a b (cc) (cc) (cc)) nodes sum new k (not-there (Add k.x k.y k.degree_multiple) is) old.sums entered);
@@ -144,7 +144,7 @@ module _ {A : Type 0} (nodes : List (SymbolicExpr A)) (node : SymbolicExpr A) (a
     products = products-kept (λ l e. cc);
   }
 
-  pub numbered-difference : (new : Operands → Option ℕ) (k : Operands) → node ≡ Sub k.x k.y k.degree_multiple → Entered difference new k (length nodes) → AreNumbered (nodes ++ node ∷ []) leaf sum new negative product
+  numbered-difference : (new : Operands → Option ℕ) (k : Operands) → node ≡ Sub k.x k.y k.degree_multiple → Entered difference new k (length nodes) → AreNumbered (nodes ++ node ∷ []) leaf sum new negative product
   numbered-difference new k is entered = record {
     leaves = leaves-kept (λ l e. cc);
     sums = sums-kept (λ l e. cc);
@@ -153,7 +153,7 @@ module _ {A : Type 0} (nodes : List (SymbolicExpr A)) (node : SymbolicExpr A) (a
     products = products-kept (λ l e. cc);
   }
 
-  pub numbered-negative : (new : Operand → Option ℕ) (k : Operand) → node ≡ Neg k.x k.degree_multiple → Entered negative new k (length nodes) → AreNumbered (nodes ++ node ∷ []) leaf sum difference new product
+  numbered-negative : (new : Operand → Option ℕ) (k : Operand) → node ≡ Neg k.x k.degree_multiple → Entered negative new k (length nodes) → AreNumbered (nodes ++ node ∷ []) leaf sum difference new product
   numbered-negative new k is entered = record {
     leaves = leaves-kept (λ l e. cc);
     sums = sums-kept (λ l e. cc);
@@ -162,7 +162,7 @@ module _ {A : Type 0} (nodes : List (SymbolicExpr A)) (node : SymbolicExpr A) (a
     products = products-kept (λ l e. cc);
   }
 
-  pub numbered-product : (new : Operands → Option ℕ) (k : Operands) → node ≡ Mul k.x k.y k.degree_multiple → Entered product new k (length nodes) → AreNumbered (nodes ++ node ∷ []) leaf sum difference negative new
+  numbered-product : (new : Operands → Option ℕ) (k : Operands) → node ≡ Mul k.x k.y k.degree_multiple → Entered product new k (length nodes) → AreNumbered (nodes ++ node ∷ []) leaf sum difference negative new
   numbered-product new k is entered = record {
     leaves = leaves-kept (λ l e. cc);
     sums = sums-kept (λ l e. cc);
@@ -170,3 +170,20 @@ module _ {A : Type 0} (nodes : List (SymbolicExpr A)) (node : SymbolicExpr A) (a
     negatives = negatives-kept (λ l e. cc);
     products = subst (λ m. FindsNumbers (λ l. Mul l.x l.y l.degree_multiple) (nodes ++ m ∷ []) new) (sym is) (FindsNumbers-push (λ l. Mul l.x l.y l.degree_multiple) (λ a b e. same-operands a b (cc) (cc) (cc)) nodes product new k (not-there (Mul k.x k.y k.degree_multiple) is) old.products entered);
   }
+
+-- the same, whatever the nodes are, where the number that was entered is how many there are
+module _ {A : Type 0} (node : SymbolicExpr A) (number : ℕ) {leaf : A → Option ℕ} {sum difference : Operands → Option ℕ} {negative : Operand → Option ℕ} {product : Operands → Option ℕ} where
+  pub enters-leaf : {new : A → Option ℕ} (k : A) → node ≡ Leaf k → Entered leaf new k number → (nodes : List (SymbolicExpr A)) → number ≡ length nodes → ((i : ℕ) → slice_get nodes i ≢ Some node) → AreNumbered nodes leaf sum difference negative product → AreNumbered (nodes ++ node ∷ []) new sum difference negative product
+  enters-leaf {new = new} k is entered nodes count absent old = numbered-leaf nodes node absent old new k is (subst (λ (n : ℕ). Entered leaf new k n) count entered)
+
+  pub enters-sum : {new : Operands → Option ℕ} (k : Operands) → node ≡ Add k.x k.y k.degree_multiple → Entered sum new k number → (nodes : List (SymbolicExpr A)) → number ≡ length nodes → ((i : ℕ) → slice_get nodes i ≢ Some node) → AreNumbered nodes leaf sum difference negative product → AreNumbered (nodes ++ node ∷ []) leaf new difference negative product
+  enters-sum {new = new} k is entered nodes count absent old = numbered-sum nodes node absent old new k is (subst (λ (n : ℕ). Entered sum new k n) count entered)
+
+  pub enters-difference : {new : Operands → Option ℕ} (k : Operands) → node ≡ Sub k.x k.y k.degree_multiple → Entered difference new k number → (nodes : List (SymbolicExpr A)) → number ≡ length nodes → ((i : ℕ) → slice_get nodes i ≢ Some node) → AreNumbered nodes leaf sum difference negative product → AreNumbered (nodes ++ node ∷ []) leaf sum new negative product
+  enters-difference {new = new} k is entered nodes count absent old = numbered-difference nodes node absent old new k is (subst (λ (n : ℕ). Entered difference new k n) count entered)
+
+  pub enters-negative : {new : Operand → Option ℕ} (k : Operand) → node ≡ Neg k.x k.degree_multiple → Entered negative new k number → (nodes : List (SymbolicExpr A)) → number ≡ length nodes → ((i : ℕ) → slice_get nodes i ≢ Some node) → AreNumbered nodes leaf sum difference negative product → AreNumbered (nodes ++ node ∷ []) leaf sum difference new product
+  enters-negative {new = new} k is entered nodes count absent old = numbered-negative nodes node absent old new k is (subst (λ (n : ℕ). Entered negative new k n) count entered)
+
+  pub enters-product : {new : Operands → Option ℕ} (k : Operands) → node ≡ Mul k.x k.y k.degree_multiple → Entered product new k number → (nodes : List (SymbolicExpr A)) → number ≡ length nodes → ((i : ℕ) → slice_get nodes i ≢ Some node) → AreNumbered nodes leaf sum difference negative product → AreNumbered (nodes ++ node ∷ []) leaf sum difference negative new
+  enters-product {new = new} k is entered nodes count absent old = numbered-product nodes node absent old new k is (subst (λ (n : ℕ). Entered product new k n) count entered)

@@ -8,6 +8,7 @@ use Rattle.air_symbolic.specs.declared.pools.expr.SymbolicExpr.{SymbolicExpr}
 use Rattle.air_symbolic.specs.declared.pools.expr.SymbolicExpr.TheVariants.{Leaf, Add, Sub, Neg, Mul}
 use Rattle.air_symbolic.specs.declared.pools.keys.Operands.{Operands}
 use Rattle.air_symbolic.specs.declared.pools.keys.Operand.{Operand}
+use Rattle.air_symbolic.specs.declared.pools.kind_tables.KindTables.{KindTables}
 
 -- the opposite order
 abbrev pub opposite : {K : Type 0} → (K → K → Ordering) → Reverse K → Reverse K → Ordering
@@ -32,3 +33,8 @@ pub record AreNumbered {A : Type 0} (nodes : List (SymbolicExpr A)) (leaf : A �
   pub differences : FindsNumbers (λ k. Sub k.x k.y k.degree_multiple) nodes difference
   pub negatives : FindsNumbers (λ k. Neg k.x k.degree_multiple) nodes negative
   pub products : FindsNumbers (λ k. Mul k.x k.y k.degree_multiple) nodes product
+
+-- the same of these tables, whose keys have these orders
+abbrev pub AreNumberedIn : {A : Type 0} → (A → A → Ordering) → (Operands → Operands → Ordering) → (Operand → Operand → Ordering) → KindTables A → List (SymbolicExpr A) → Type 0
+AreNumberedIn leaf_cmp two_cmp one_cmp t nodes =
+    AreNumbered nodes (numbers_by leaf_cmp t.leaves.numbers) (numbers_by two_cmp t.sums.numbers) (numbers_by two_cmp t.differences.numbers) (numbers_by one_cmp t.negatives.numbers) (numbers_by two_cmp t.products.numbers)

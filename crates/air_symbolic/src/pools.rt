@@ -13,6 +13,7 @@ mod insert;
 mod joined;
 mod keys;
 mod kind_table;
+mod kind_tables;
 mod lending;
 mod lower;
 mod node_table;

@@ -119,6 +119,21 @@ impl<'a, AB: AirBuilder, X: Expression<AB>, Y: Expression<AB>> Expression<AB> fo
     }
 }
 
+/// x y, of expressions that stand elsewhere, as `Less` is of a difference.
+#[derive(Drop)]
+pub(crate) struct Times<'a, X, Y>(pub(crate) &'a X, pub(crate) &'a Y);
+
+impl<'a, AB: AirBuilder, X: Expression<AB>, Y: Expression<AB>> Expression<AB> for Times<'a, X, Y> {
+    ghost term = { λ s. X.term s.0.now ⊙ Y.term s.1.now };
+
+    ghost holds = { λ s b. X.holds s.0.now b × Y.holds s.1.now b };
+
+    #[inline(always)]
+    fn make(&self, builder: &mut AB) -> AirResult<AB::Expr> {
+        make_product(builder, self.0, self.1)
+    }
+}
+
 /// x y
 #[derive(Clone, Copy, Drop)]
 pub struct Product<X, Y>(pub X, pub Y);

@@ -5,7 +5,7 @@ ghost use Rattle.air_author.specs.Expressions.{Lasts, MadeIn, MadeBothIn, power_
 
 use crate::AirResult;
 use crate::expressions::arithmetic::{
-    BoolCheck, Difference, Double, Less, Negative, Product, Square, Sum,
+    BoolCheck, Difference, Double, Less, Negative, Product, Square, Sum, Times,
 };
 use crate::expressions::constants::One;
 use crate::expressions::power::{Power, multiplied};
@@ -39,6 +39,21 @@ impl<AB: ExtensionBuilder, X: Expression<AB>> ExtExpression<AB> for Lifted<X> {
     #[inline(always)]
     fn make_ext(&self, builder: &mut AB) -> AirResult<AB::ExprEF> {
         make_lifted(builder, &self.0)
+    }
+}
+
+/// A base expression that stands elsewhere, over the extension.
+#[derive(Drop)]
+pub(crate) struct LiftedAt<'a, X>(pub(crate) &'a X);
+
+impl<'a, AB: ExtensionBuilder, X: Expression<AB>> ExtExpression<AB> for LiftedAt<'a, X> {
+    ghost ext_term = { λ s. X.term s.0.now };
+
+    ghost ext_holds = { λ s b. X.holds s.0.now b };
+
+    #[inline(always)]
+    fn make_ext(&self, builder: &mut AB) -> AirResult<AB::ExprEF> {
+        make_lifted(builder, self.0)
     }
 }
 
@@ -110,6 +125,19 @@ impl<AB: ExtensionBuilder, X: ExtExpression<AB>, Y: ExtExpression<AB>> ExtExpres
     }
 }
 
+impl<'a, AB: ExtensionBuilder, X: ExtExpression<AB>, Y: ExtExpression<AB>> ExtExpression<AB>
+    for Times<'a, X, Y> {
+    ghost ext_term = { λ s. X.ext_term s.0.now ⊙ Y.ext_term s.1.now };
+
+    ghost ext_holds = { λ s b. X.ext_holds s.0.now b × Y.ext_holds s.1.now b };
+
+    #[inline(always)]
+    fn make_ext(&self, builder: &mut AB) -> AirResult<AB::ExprEF> {
+        let (x, y) = make_both_ext(builder, self.0, self.1)?;
+        answered(builder.ext_ring().mul(x, y))
+    }
+}
+
 impl<AB: ExtensionBuilder, X: ExtExpression<AB>, Y: ExtExpression<AB>> ExtExpression<AB>
     for Product<X, Y> {
     ghost ext_term = { λ s. X.ext_term s.0 ⊙ Y.ext_term s.1 };
@@ -118,8 +146,7 @@ impl<AB: ExtensionBuilder, X: ExtExpression<AB>, Y: ExtExpression<AB>> ExtExpres
 
     #[inline(always)]
     fn make_ext(&self, builder: &mut AB) -> AirResult<AB::ExprEF> {
-        let (x, y) = make_both_ext(builder, &self.0, &self.1)?;
-        answered(builder.ext_ring().mul(x, y))
+        Times(&self.0, &self.1).make_ext(builder)
     }
 }
 

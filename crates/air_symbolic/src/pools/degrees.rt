@@ -70,6 +70,27 @@ impl<A: SymLeaf> ExprPool<A> {
         })
     }
 
+    /// The roots' degrees by the leaves' weights, from a table over that of what lies under the pool. The turns are this
+    /// pool's alone.
+    pub(crate) fn degrees_over(
+        &self,
+        roots: &[ExprId<A>],
+        weight: LeafWeight<'_>,
+        under: &DegreeTable,
+    ) -> Result<Degrees, RingError>
+        requires pool { IsPool A.reads self.now }
+        requires all_in { All (λ x. x < size self.now) roots.now }
+        requires under { A.has_degrees (base_of self.now) weight under.now.degrees.items }
+        ensures values { IfOk result (λ d. d.values.items ≡
+            map (λ x. degree_by (leaf_weight weight.entry) (term_at A.reads self.now x)) roots.now) }
+        ensures turns { IfOk result (λ d. d.turns ≡ size self.now) }
+        ensures refused { IfErr result (λ e. e ≢ RingError.Memory → SomeOverflows
+            (map (λ x. degree_by (leaf_weight weight.entry) (term_at A.reads self.now x)) roots.now)) }
+    {
+        let table = self.table_over(self.len(), weight, under)?;
+        self.degrees_from(&table, roots)
+    }
+
     // The roots' degrees by the leaves' weights, all from one table.
     fn table_degrees(
         &self,

@@ -46,8 +46,7 @@ impl<F: Field, EF: ExtensionField<F>> ExprPool<ExtLeaf<F, EF>> {
     {
         let base_table = self.base().degree_table(self.base().len(), weight)?;
         let base = self.base().degrees_from(&base_table, base_roots)?;
-        let table = self.table_over(self.len(), weight, &base_table)?;
-        let degrees = self.degrees_from(&table, roots)?;
+        let degrees = self.degrees_over(roots, weight, &base_table)?;
         Ok((base, degrees))
     }
 }

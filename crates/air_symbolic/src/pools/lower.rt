@@ -158,7 +158,33 @@ impl<F: Field, EF: ExtensionField<F>> ExprPool<ExtLeaf<F, EF>> {
     }
 
     // The base expression of a tree in which no leaf of the extension alone occurs: what it reaches is lowered from the
-    // least number up.
+    // least number up, into a table that has no place yet.
+    fn lower_into(
+        &mut self,
+        id: ExprId<ExtLeaf<F, EF>>,
+        marks: &[Option<ExprId<ExtLeaf<F, EF>>>],
+        table: &mut Vec<Option<ExprId<BaseLeaf<F>>>>,
+    ) -> Result<ExprId<BaseLeaf<F>>, RingError>
+        requires pool { IsPool (ext_reads EF.basis) self.old }
+        requires here { id < size self.old }
+        requires marked { Reached (ext_reads EF.basis (base_of self.old))
+            (nodes_of self.old) (id ∷ []) marks.now }
+        requires base_only { HasExtOnly (tree_at self.old id) → ⊥ }
+        requires no_places { table.old.items ≡ [] }
+        ensures same_nodes { nodes_of self.new ≡ nodes_of self.old }
+        ensures grown { Grown ext_grows (ext_reads EF.basis) self.old self.new }
+        ensures made { IfOk result (HasTree (base_of self.new)
+            (lowered (base_of self.old) (tree_at self.old id))) }
+        ensures refused { IfErr result (λ e. e ≡ RingError.Memory) }
+    {
+        for mark in marks {
+            let made = self.lower_mark(*mark, table)?;
+            table.push(made)?;
+        }
+        Ok(lowered_at(table, id))
+    }
+
+    // The same, with a table of its own.
     fn lower(
         &mut self,
         id: ExprId<ExtLeaf<F, EF>>,
@@ -176,11 +202,7 @@ impl<F: Field, EF: ExtensionField<F>> ExprPool<ExtLeaf<F, EF>> {
         ensures refused { IfErr result (λ e. e ≡ RingError.Memory) }
     {
         let mut table = Vec::with_capacity(*self.nodes.allocator(), marks.len())?;
-        for mark in marks {
-            let made = self.lower_mark(*mark, &table)?;
-            table.push(made)?;
-        }
-        Ok(lowered_at(table.as_slice(), id))
+        self.lower_into(id, marks, &mut table)
     }
 
     /// The base expression with the same tree, not folded, and so with the same term; None exactly where a leaf of the

@@ -6,7 +6,7 @@ ghost use Rattle.air_symbolic.specs.declared.pools.expr.SymbolicExpr.{SymbolicEx
 
 use crate::pools::expr::SymbolicExpr;
 use crate::pools::keys::{Operand, Operands};
-use crate::pools::kind_table::KindTable;
+use crate::pools::kind_tables::KindTables;
 use std::alloc::{AllocError, Global};
 use std::marker::Model;
 
@@ -17,11 +17,7 @@ const PLACES: usize = 256;
 #[derive(Drop)]
 pub struct NodeTable<A: Copy + Ord> {
     nodes: Vec<SymbolicExpr<A>>,
-    leaves: KindTable<A>,
-    sums: KindTable<Operands>,
-    differences: KindTable<Operands>,
-    negatives: KindTable<Operand>,
-    products: KindTable<Operands>,
+    kinds: KindTables<A>,
     // by place, a number that a node of this place may have; without places until one is remembered, so that a pool is
     // small to move
     remembered: Vec<usize>,
@@ -29,18 +25,15 @@ pub struct NodeTable<A: Copy + Ord> {
 
 impl<A: Copy + Ord> Model for NodeTable<A> {
     ghost use Rattle.std.specs.Prelude.{List};
-    ghost use Rattle.air_symbolic.specs.Numbering.{AreNumbered, numbers_by};
+    ghost use Rattle.air_symbolic.specs.Numbering.{AreNumberedIn};
     ghost use Rattle.air_symbolic.specs.declared.pools.expr.SymbolicExpr.{SymbolicExpr};
 
     ghost Value = { List (SymbolicExpr A) };
 
     ghost view = { λ t. t.nodes.items };
 
-    ghost invariant = { λ t. AreNumbered t.nodes.items (numbers_by A.cmp t.leaves.numbers)
-        (numbers_by ⟦<Operands as Ord>⟧.cmp t.sums.numbers)
-        (numbers_by ⟦<Operands as Ord>⟧.cmp t.differences.numbers)
-        (numbers_by ⟦<Operand as Ord>⟧.cmp t.negatives.numbers)
-        (numbers_by ⟦<Operands as Ord>⟧.cmp t.products.numbers) };
+    ghost invariant = { λ t. AreNumberedIn A.cmp ⟦<Operands as Ord>⟧.cmp
+        ⟦<Operand as Ord>⟧.cmp t.kinds t.nodes.items };
 }
 
 impl<A: Copy + Ord> NodeTable<A> {
@@ -50,11 +43,7 @@ impl<A: Copy + Ord> NodeTable<A> {
     {
         NodeTable {
             nodes: Vec::new(alloc),
-            leaves: KindTable::new(alloc),
-            sums: KindTable::new(alloc),
-            differences: KindTable::new(alloc),
-            negatives: KindTable::new(alloc),
-            products: KindTable::new(alloc),
+            kinds: KindTables::new(alloc),
             remembered: Vec::new(alloc),
         }
     }
@@ -84,42 +73,7 @@ impl<A: Copy + Ord> NodeTable<A> {
         ensures { MatchOption result ((i : ℕ) → slice_get self.now i ≢ Some node.now)
             (λ i. slice_get self.now i ≡ Some node.now) }
     {
-        match *node {
-            SymbolicExpr::Leaf(a) => self.leaves.find(a),
-            SymbolicExpr::Add {
-                x,
-                y,
-                degree_multiple,
-            } => self.sums.find(Operands {
-                x: x.number(),
-                y: y.number(),
-                degree_multiple,
-            }),
-            SymbolicExpr::Sub {
-                x,
-                y,
-                degree_multiple,
-            } => self.differences.find(Operands {
-                x: x.number(),
-                y: y.number(),
-                degree_multiple,
-            }),
-            SymbolicExpr::Neg { x, degree_multiple } => {
-                self.negatives.find(Operand {
-                    x: x.number(),
-                    degree_multiple,
-                })
-            }
-            SymbolicExpr::Mul {
-                x,
-                y,
-                degree_multiple,
-            } => self.products.find(Operands {
-                x: x.number(),
-                y: y.number(),
-                degree_multiple,
-            }),
-        }
+        self.kinds.find(node)
     }
 
     /// The number that is remembered at a place, if it is the node's.
@@ -161,54 +115,7 @@ impl<A: Copy + Ord> NodeTable<A> {
     {
         let number = self.nodes.len();
         self.nodes.reserve(1)?;
-        match &node {
-            SymbolicExpr::Leaf(a) => self.leaves.enter(*a, number)?,
-            SymbolicExpr::Add {
-                x,
-                y,
-                degree_multiple,
-            } => self.sums.enter(
-                Operands {
-                    x: x.number(),
-                    y: y.number(),
-                    degree_multiple: *degree_multiple,
-                },
-                number,
-            )?,
-            SymbolicExpr::Sub {
-                x,
-                y,
-                degree_multiple,
-            } => self.differences.enter(
-                Operands {
-                    x: x.number(),
-                    y: y.number(),
-                    degree_multiple: *degree_multiple,
-                },
-                number,
-            )?,
-            SymbolicExpr::Neg { x, degree_multiple } => {
-                self.negatives.enter(
-                    Operand {
-                        x: x.number(),
-                        degree_multiple: *degree_multiple,
-                    },
-                    number,
-                )?
-            }
-            SymbolicExpr::Mul {
-                x,
-                y,
-                degree_multiple,
-            } => self.products.enter(
-                Operands {
-                    x: x.number(),
-                    y: y.number(),
-                    degree_multiple: *degree_multiple,
-                },
-                number,
-            )?,
-        }
+        self.kinds.enter(&node, number)?;
         self.nodes.push_reserved(node);
         Ok(number)
     }

@@ -5,7 +5,7 @@ use Rattle.air_symbolic.specs.laws.ExtPool.{ext_pool_laws}
 use Rattle.air_symbolic.specs.Lowered.{CanLower}
 use Rattle.air_symbolic.proofs.Lowering.{lowered-there}
 use Rattle.air_symbolic.proofs.ReachedTrees.{mark-can-lower, more-lowered, lowered-at-first}
-use Rattle.air_symbolic.proofs.pools.lower.ExprPool+ExtLeaf+F+EF.lower.Goals as goal
+use Rattle.air_symbolic.proofs.pools.lower.ExprPool+ExtLeaf+F+EF.lower_into.Goals as goal
 
 pub lower_mark-requires : goal.lower_mark-requires
 lower_mark-requires g c =
@@ -51,7 +51,7 @@ lowered_at-requires g c =
     let id = c.args.id in
     let below : id < c.loop-mark.mark-index = omega (arith, c.requires.here, c.requires.marked.places, c.loop-mark-test.false) in
     let at = c.loop-mark.invariant.made id below (c.requires.marked.roots_marked 0 id (omega arith)) in
-    subst (λ t. get_or t id None ≡ None → ⊥) (sym c.as_slice.ensures.value) (lowered-there s s id (get_or c.loop-mark.table.items id None) at)
+    subst (λ t. get_or t id None ≡ None → ⊥) (sym c.deref-2.ensures.value) (lowered-there s s id (get_or c.loop-mark.table.items id None) at)
 
 pub returns-clause-same_nodes : goal.returns-clause-same_nodes
 returns-clause-same_nodes g c = c.loop-mark.invariant.same_nodes
@@ -68,6 +68,6 @@ returns-clause-made g c =
     let reach = c.requires.marked in
     let below : id < c.loop-mark.mark-index = omega (arith, c.requires.here, reach.places, c.loop-mark-test.false) in
     let at : get_or c.loop-mark.table.items id None ≡ Some c.lowered_at.result =
-    subst (λ t. get_or t id None ≡ Some c.lowered_at.result) c.as_slice.ensures.value c.lowered_at.ensures in
+    subst (λ t. get_or t id None ≡ Some c.lowered_at.result) c.deref-2.ensures.value c.lowered_at.ensures in
     lowered-at-first g.F.Field.ring g.EF.ExtensionField.basis p s c.loop-mark.table.items id c.lowered_at.result c.requires.pool h.grown h.same_nodes c.requires.here
     (h.made id below (reach.roots_marked 0 id (omega arith))) at

@@ -3,7 +3,7 @@ use Rattle.air_field.specs.Term.{mul_term}
 use Rattle.air_field.specs.Part.{whole, in_mul_left, in_mul_right}
 use Rattle.air_builder.specs.laws.Extensions.{over_extension}
 use Rattle.air_author.specs.laws.Making.{first_in_ring, second_in_ring, operand_gives_up, both_answered}
-use Rattle.air_author.proofs.expressions.extension.ProductExtExpression.make_ext.Goals as goal
+use Rattle.air_author.proofs.expressions.extension.TimesExtExpression.make_ext.Goals as goal
 
 pub returns-in_err-x : goal.returns-in_err-x
 returns-in_err-x g c = operand_gives_up (in_mul_left whole) (in_mul_right whole) c.from_residual.ensures.1 c.in_err-x.ensures
