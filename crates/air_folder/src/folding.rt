@@ -7,7 +7,7 @@ ghost use Rattle.air_folder.specs.FolderRow.{accumulator_of, folder_row};
 ghost use Rattle.air_folder.specs.Folding.{IsFolded, GrewByBeginningOf, FoldingRefuses};
 
 use crate::folder::builder::ConstraintFolder;
-use air_recording::symbolic::record::record;
+use air_recording::symbolic::record::record_with_layout;
 use p3_air::{
     Air, AirError, AirLayout, BaseAir, ConstraintLayout, ExtensionField, Field, Recorded,
     SymbolicAirBuilder,
@@ -58,13 +58,11 @@ pub fn fold_air<
     ensures refused { IfErr result (FoldingRefuses F.ring EF.over layout (A.declaration air.now)
         (folder_row folder.old)) }
 {
-    let builder: SymbolicAirBuilder<F, EF> = record(alloc, air, layout)?;
-    let places = builder.constraint_layout()?;
-    let recorded = builder.into_recorded();
+    let (recorded, layout) = record_with_layout(alloc, air, layout)?;
     air.eval(folder)?;
     Ok(Folded {
         recorded,
-        layout: places,
+        layout,
         accumulator: folder.accumulator(),
     })
 }

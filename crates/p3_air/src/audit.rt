@@ -6,8 +6,8 @@ ghost use Rattle.p3_air.specs.Audits.{IsAuditUnder, AuditRefusesUnder};
 
 use air_builder::{Air, AirError, BaseAir};
 use air_field::{RowMajorMatrix, SelfExtension};
-use air_recording::symbolic::degree::{degree_of, lengths_of};
-use air_recording::symbolic::record::record;
+use air_recording::symbolic::degree::infer_degree;
+use air_recording::symbolic::record::record_with_layout;
 use air_recording::{AirLayout, ConstraintLayout, Recorded, SymbolicAirBuilder};
 use air_report::{ConstraintReport, DebugConstraintBuilder, check_all_constraints};
 use std::alloc::Global;
@@ -108,12 +108,9 @@ pub fn audit_air_with_cap<
         (instance (A.declaration air.now) main.now public_values.now)
         max_failures transition_weight) }
 {
-    let builder: SymbolicAirBuilder<F, F> = record(alloc, air, AirLayout::from_air::<F, A>(air))?;
-    let layout = builder.constraint_layout()?;
-    let recorded = builder.into_recorded();
+    let (recorded, layout) = record_with_layout(alloc, air, AirLayout::from_air::<F, A>(air))?;
     let report = check_all_constraints(alloc, air, main, public_values, max_failures)?;
-    let periods = lengths_of(alloc, air.periodic_columns())?;
-    let degree = degree_of(&recorded, main.height(), &periods, transition_weight)?;
+    let degree = infer_degree(alloc, air, &recorded, main.height(), transition_weight)?;
     Ok(Audit {
         recorded,
         layout,

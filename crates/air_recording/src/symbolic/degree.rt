@@ -13,7 +13,7 @@ ghost use Rattle.air_recording.specs.Inferred.{periods_of, greatest_in, recorded
 use crate::layouts::air_layout::AirLayout;
 use crate::symbolic::builder::SymbolicAirBuilder;
 use crate::symbolic::record::{Recorded, get_all_symbolic_constraints};
-use air_builder::{Air, AirError};
+use air_builder::{Air, AirError, BaseAir};
 use air_field::{ExtensionField, Field, RingError, SelfExtension};
 use air_symbolic::{BaseLeaf, ExprId, ExprPool, ExtLeaf, LeafWeight, SymLeaf};
 use std::alloc::Global;
@@ -125,7 +125,7 @@ fn trace_degree_of<F: Field, EF: ExtensionField<F>>(
 ///
 /// The pool must be as its calls left it, and the numbers in it. It refuses `DegreeOverflow` where their greatest
 /// degree, as the domain counts, passes `usize`, and want of memory.
-pub fn degree_of<F: Field, EF: ExtensionField<F>>(
+fn degree_of<F: Field, EF: ExtensionField<F>>(
     recorded: &Recorded<F, EF>,
     trace_len: usize,
     periods: &[usize],
@@ -144,15 +144,35 @@ pub fn degree_of<F: Field, EF: ExtensionField<F>>(
 }
 
 /// The lengths of periodic columns, in order.
-pub fn lengths_of<F>(alloc: Global, columns: &[Vec<F>]) -> Result<Vec<usize>, AirError>
+fn lengths_of<F>(alloc: Global, columns: &[Vec<F>]) -> Result<Vec<usize>, RingError>
     ensures lengths { IfOk result (λ periods. periods.items ≡ periods_of columns.now) }
-    ensures refused { IfErr result (λ e. e ≡ AirError.Memory) }
+    ensures refused { IfErr result (λ e. e ≡ RingError.Memory) }
 {
     let mut periods = Vec::with_capacity(alloc, columns.len())?;
     for column in columns {
         periods.push(column.len())?;
     }
     Ok(periods)
+}
+
+/// The degree inferred from an AIR's constraints as they are recorded: that of [`degree_of`] for the lengths of the AIR's
+/// periodic columns. The pool must be as its calls left it, and the numbers in it.
+pub fn infer_degree<F: Field, EF: ExtensionField<F>, A: BaseAir<F>>(
+    alloc: Global,
+    air: &A,
+    recorded: &Recorded<F, EF>,
+    trace_len: usize,
+    transition_weight: usize,
+) -> Result<usize, RingError>
+    requires pool { IsPool (ext_reads EF.basis) recorded.now.pool }
+    requires base_here { All (λ i. i < size (base_of recorded.now.pool)) recorded.now.base.items }
+    requires ext_here { All (λ i. i < size recorded.now.pool) recorded.now.ext.items }
+    ensures { AnswersInferred transition_weight trace_len
+        (periods_of (A.declaration air.now).periodic)
+        (recorded_terms EF.basis recorded.now) result }
+{
+    let periods = lengths_of(alloc, air.periodic_columns())?;
+    degree_of(recorded, trace_len, &periods, transition_weight)
 }
 
 /// The degree inferred from the base and extension constraints as they are recorded, for a trace of `trace_len` rows in
@@ -188,8 +208,7 @@ pub fn get_max_constraint_degree_extension<
         (A.declaration air.now)) }
 {
     let recorded = get_all_symbolic_constraints(alloc, air, layout)?;
-    let periods = lengths_of(alloc, air.periodic_columns())?;
-    let degree = degree_of(&recorded, trace_len, &periods, transition_weight)?;
+    let degree = infer_degree(alloc, air, &recorded, trace_len, transition_weight)?;
     Ok(degree)
 }
 

@@ -46,7 +46,7 @@ impl<F: Field, EF: ExtensionField<F>> SymbolicAirBuilder<F, EF> {
 
 /// Has an AIR assert its constraints on a symbolic builder of this layout, which is compared with the AIR first. It
 /// refuses what [`get_all_symbolic_constraints`] refuses.
-pub fn record<F: Field, EF: ExtensionField<F>, A: Air<SymbolicAirBuilder<F, EF>>>(
+fn record<F: Field, EF: ExtensionField<F>, A: Air<SymbolicAirBuilder<F, EF>>>(
     alloc: Global,
     air: &A,
     layout: AirLayout,
@@ -98,6 +98,30 @@ pub fn get_all_symbolic_constraints<
 {
     let builder = record(alloc, air, layout)?;
     Ok(builder.into_recorded())
+}
+
+/// What [`get_all_symbolic_constraints`] records, and where the constraints of each kind stand among all of them.
+pub fn record_with_layout<F: Field, EF: ExtensionField<F>, A: Air<SymbolicAirBuilder<F, EF>>>(
+    alloc: Global,
+    air: &A,
+    layout: AirLayout,
+) -> Result<(Recorded<F, EF>, ConstraintLayout), AirError>
+    ensures base { IfOk result (λ r. RecordsBase F.ring EF.over base_reads (base_of r.0.pool)
+        r.0.base.items (A.declaration air.now).declared) }
+    ensures ext { IfOk result (λ r. RecordsExt F.ring EF.over
+        (ext_reads EF.basis) r.0.pool r.0.ext.items
+        (A.declaration air.now).declared) }
+    ensures base_here { IfOk result (λ r. All (λ i. i < size (base_of r.0.pool)) r.0.base.items) }
+    ensures ext_here { IfOk result (λ r. All (λ i. i < size r.0.pool) r.0.ext.items) }
+    ensures places { IfOk result (λ r. ArePlacesOf (map kind_of (A.declaration air.now).declared)
+        r.1.base_indices.items r.1.ext_indices.items) }
+    ensures layout { OnOk result (LayoutSuits layout (A.declaration air.now)) }
+    ensures answers { OnOk result (RecordingAnswers F.ring EF.over layout (A.declaration air.now)) }
+    ensures refused { IfErr result (RecordRefuses layout (A.declaration air.now)) }
+{
+    let builder = record(alloc, air, layout)?;
+    let places = builder.constraint_layout()?;
+    Ok((builder.into_recorded(), places))
 }
 
 /// Records the base constraints of an AIR, as [`get_all_symbolic_constraints`] does; `ext` is left empty. The pool is one

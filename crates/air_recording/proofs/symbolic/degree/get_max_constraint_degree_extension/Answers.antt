@@ -1,24 +1,24 @@
-use Rattle.std.proofs.Common.{ℕ, List, ◌++◌, Err, subst, ◌∙◌, ap}
+use Rattle.std.proofs.Common.{◌++◌}
 use Rattle.air_field.specs.Ring.{itself}
 use Rattle.air_recording.specs.Bounds.{leaf_degree, polynomial_bound, IsDegreeFor}
 use Rattle.air_recording.specs.laws.Bounds.{degrees_within, polynomials_within}
 use Rattle.std.proofs.lemmas.Result.{err_from_is_err_and}
 use Rattle.air_symbolic.specs.BaseLeaves.{base_reads}
 use Rattle.air_symbolic.specs.ExtLeaves.{ext_reads}
-use Rattle.air_recording.specs.Inferred.{periods_of, AnswersInferred}
+use Rattle.air_recording.specs.Inferred.{periods_of}
 use Rattle.air_recording.specs.Kinds.{base_terms, ext_terms}
 use Rattle.air_recording.specs.Recorded.{terms_of}
 use Rattle.air_recording.proofs.InferredDegrees.{base_within, inferred_refused}
 use Rattle.air_recording.proofs.Recordings.{numbers_here}
 use Rattle.air_recording.proofs.symbolic.degree.get_max_constraint_degree_extension.Goals as goal
 
-pub degree_of-requires-clause-base_here : goal.degree_of-requires-clause-base_here
-degree_of-requires-clause-base_here g c =
+pub infer_degree-requires-clause-base_here : goal.infer_degree-requires-clause-base_here
+infer_degree-requires-clause-base_here g c =
     let r = c.in_ok-recorded.recorded in
     numbers_here g.F.Field.ring base_reads r.pool.0 r.base.items (base_terms (g.A.BaseAir.declaration c.args.air.now).declared) c.in_ok-recorded.ensures.base.means
 
-pub degree_of-requires-clause-ext_here : goal.degree_of-requires-clause-ext_here
-degree_of-requires-clause-ext_here g c =
+pub infer_degree-requires-clause-ext_here : goal.infer_degree-requires-clause-ext_here
+infer_degree-requires-clause-ext_here g c =
     let r = c.in_ok-recorded.recorded in
     numbers_here g.F.Field.ring (ext_reads g.EF.ExtensionField.basis) r.pool r.ext.items (ext_terms (g.A.BaseAir.declaration c.args.air.now).declared) c.in_ok-recorded.ensures.ext.means
 
@@ -28,11 +28,9 @@ returns-in_err-degree-clause-refused g c =
     let us = terms_of base_reads r.pool.0 r.base.items in
     let vs = terms_of (ext_reads g.EF.ExtensionField.basis) r.pool r.ext.items in
     let e = c.in_err-degree.field-0.0 in
-    let q = c.deref.ensures.value ∙ (c.in_ok-periods.ensures.lengths ∙ ap periods_of c.periodic_columns.ensures) in
-    let h = subst (λ (l : List ℕ). AnswersInferred c.args.transition_weight c.args.trace_len l (us ++ vs) (Err e)) q c.in_err-degree.ensures in
     let p = err_from_is_err_and c.from_residual-in_err-degree.result c.from_residual-in_err-degree.ensures.1 in
     rw (p.1, p.2)
-    (inferred_refused g.F.Field.ring g.EF.ExtensionField.over c.args.transition_weight c.args.trace_len c.args.layout (g.A.BaseAir.declaration c.args.air.now) us vs e c.in_ok-recorded.ensures.base.terms c.in_ok-recorded.ensures.ext.terms c.in_ok-recorded.ensures.answers h)
+    (inferred_refused g.F.Field.ring g.EF.ExtensionField.over c.args.transition_weight c.args.trace_len c.args.layout (g.A.BaseAir.declaration c.args.air.now) us vs e c.in_ok-recorded.ensures.base.terms c.in_ok-recorded.ensures.ext.terms c.in_ok-recorded.ensures.answers c.in_err-degree.ensures)
 
 pub returns-clause-inferred : goal.returns-clause-inferred
 returns-clause-inferred g c =
@@ -47,8 +45,7 @@ returns-clause-inferred g c =
     let d = c.in_ok-degree.degree in
     let w = leaf_degree v n periods in
     let bound = polynomial_bound v d n in
-    let q = c.deref.ensures.value ∙ (c.in_ok-periods.ensures.lengths ∙ ap periods_of c.periodic_columns.ensures) in
-    let degree : IsDegreeFor v n periods (us ++ vs) d = subst (λ (l : List ℕ). IsDegreeFor v n l (us ++ vs) d) q c.in_ok-degree.ensures in
+    let degree : IsDegreeFor v n periods (us ++ vs) d = c.in_ok-degree.ensures in
     record {
       base = us;
       ext = vs;
