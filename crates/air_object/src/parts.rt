@@ -1,14 +1,14 @@
 //! The JSON object as its text is read: the trace number by number and the constraints node by node, so that no more
 //! than one of either is held as a value.
 ghost use Rattle.std.specs.Prelude.{◌≡◌, ◌≢◌, ◌<◌, [], length, Err, Some, None, IfOk, IfErr, OnOk};
-ghost use Rattle.json.specs.Json.{value, items, members};
-ghost use Rattle.serde_json.specs.Data.{Data, array, Items, Members, no_members};
-ghost use Rattle.serde_json.specs.Read.{of_json, of_items, of_members, converted, read};
+ghost use Rattle.serde_json.specs.Data.{Data, array, Items, Members};
+ghost use Rattle.serde_json.specs.Read.{read};
 ghost use Rattle.serde_json.specs.View.{view, members_view};
 ghost use Rattle.air_symbolic.specs.BaseLeaves.{base_reads, base_grows};
 ghost use Rattle.air_symbolic.specs.Pools.{IsPool, tree_at};
 ghost use Rattle.air_wire.specs.BaseLeaves.{element_at};
 ghost use Rattle.air_wire.specs.ReadCalls.{ReadsTree};
+ghost use Rattle.air_object.specs.Begun.{value_at, items_at, members_at};
 ghost use Rattle.air_object.specs.Parts.{GivenElements, AreElements, GivenTrees, InPool, AreGiven, AreMembersOf, ArePartsOf, one_more};
 ghost use Rattle.air_object.specs.Readers.{each_from, elements, tree, trees};
 
@@ -43,11 +43,11 @@ fn read_element<F: PrimeField64>(
     elements: Elements<F>,
 ) -> Result<Elements<F>, TextFault>
     ensures ok { IfOk result (λ es. (d : Data)
-        × (converted of_json (value depth reader.old) ≡ Some (d, reader.new))
+        × (value_at depth reader.old ≡ Some (d, reader.new))
         × ((given : GivenElements F) → AreElements given elements
         → AreElements (one_more (element_at F.residues 0) given d) es)) }
     ensures shorter { OnOk result (length reader.new < length reader.old) }
-    ensures err { result ≡ Err TextFault.Json → converted of_json (value depth reader.old) ≡ None }
+    ensures err { result ≡ Err TextFault.Json → value_at depth reader.old ≡ None }
 {
     let item = read(alloc, reader, depth)?;
     Ok(with_element(elements, &item))
@@ -60,11 +60,10 @@ fn read_items<F: PrimeField64>(
     depth: usize,
 ) -> Result<Elements<F>, TextFault>
     ensures ok { IfOk result (λ es. (ds : Items)
-        × (converted of_items (items (value depth) (length reader.old) reader.old)
-        ≡ Some (ds, reader.new)) × AreElements (each_from (element_at F.residues 0) [] ds) es) }
+        × (items_at depth reader.old ≡ Some (ds, reader.new))
+        × AreElements (each_from (element_at F.residues 0) [] ds) es) }
     ensures shorter { OnOk result (length reader.new < length reader.old) }
-    ensures err { result ≡ Err TextFault.Json
-        → converted of_items (items (value depth) (length reader.old) reader.old) ≡ None }
+    ensures err { result ≡ Err TextFault.Json → items_at depth reader.old ≡ None }
 {
     let mut elements = no_elements(alloc);
     'items: while !reader.take_end_array() {
@@ -80,10 +79,10 @@ fn read_elements<F: PrimeField64>(
     depth: usize,
 ) -> Result<Elements<F>, TextFault>
     ensures ok { IfOk result (λ es. (d : Data)
-        × (converted of_json (value depth reader.old) ≡ Some (d, reader.new))
+        × (value_at depth reader.old ≡ Some (d, reader.new))
         × AreElements (elements F.residues d) es) }
     ensures shorter { OnOk result (length reader.new < length reader.old) }
-    ensures err { result ≡ Err TextFault.Json → converted of_json (value depth reader.old) ≡ None }
+    ensures err { result ≡ Err TextFault.Json → value_at depth reader.old ≡ None }
 {
     match begun(alloc, reader, depth)? {
         Beginning::Array(inside) => read_items(alloc, reader, inside),
@@ -100,12 +99,10 @@ fn read_nodes<F: PrimeField64>(
 ) -> Result<Root<F>, TextFault>
     requires { IsPool base_reads pool.old }
     ensures ok { IfOk result (λ root. (ds : Items)
-        × (converted of_items (items (value depth) (length reader.old) reader.old)
-        ≡ Some (ds, reader.new))
+        × (items_at depth reader.old ≡ Some (ds, reader.new))
         × ReadsTree base_grows base_reads tree_at pool.old pool.new root (tree F.residues (array ds))) }
     ensures shorter { OnOk result (length reader.new < length reader.old) }
-    ensures err { result ≡ Err TextFault.Json
-        → converted of_items (items (value depth) (length reader.old) reader.old) ≡ None }
+    ensures err { result ≡ Err TextFault.Json → items_at depth reader.old ≡ None }
 {
     let mut list = ListReader::new(alloc);
     'items: while !reader.take_end_array() {
@@ -124,10 +121,10 @@ fn read_root<F: PrimeField64>(
 ) -> Result<Root<F>, TextFault>
     requires { IsPool base_reads pool.old }
     ensures ok { IfOk result (λ root. (d : Data)
-        × (converted of_json (value depth reader.old) ≡ Some (d, reader.new))
+        × (value_at depth reader.old ≡ Some (d, reader.new))
         × ReadsTree base_grows base_reads tree_at pool.old pool.new root (tree F.residues d)) }
     ensures shorter { OnOk result (length reader.new < length reader.old) }
-    ensures err { result ≡ Err TextFault.Json → converted of_json (value depth reader.old) ≡ None }
+    ensures err { result ≡ Err TextFault.Json → value_at depth reader.old ≡ None }
 {
     match begun(alloc, reader, depth)? {
         Beginning::Array(inside) => read_nodes(alloc, reader, inside, pool),
@@ -144,11 +141,11 @@ fn read_list<F: PrimeField64>(
 ) -> Result<Constraints<F>, TextFault>
     requires { InPool constraints }
     ensures ok { IfOk result (λ c. (d : Data)
-        × (converted of_json (value depth reader.old) ≡ Some (d, reader.new))
+        × (value_at depth reader.old ≡ Some (d, reader.new))
         × ((given : GivenTrees F) → AreGiven given constraints
         → AreGiven (one_more (tree F.residues) given d) c)) }
     ensures shorter { OnOk result (length reader.new < length reader.old) }
-    ensures err { result ≡ Err TextFault.Json → converted of_json (value depth reader.old) ≡ None }
+    ensures err { result ≡ Err TextFault.Json → value_at depth reader.old ≡ None }
 {
     let Constraints { mut pool, roots } = constraints;
     let root = read_root(alloc, reader, depth, &mut pool)?;
@@ -163,11 +160,10 @@ fn read_lists<F: PrimeField64>(
     depth: usize,
 ) -> Result<Constraints<F>, TextFault>
     ensures ok { IfOk result (λ c. (ds : Items)
-        × (converted of_items (items (value depth) (length reader.old) reader.old)
-        ≡ Some (ds, reader.new)) × AreGiven (each_from (tree F.residues) [] ds) c) }
+        × (items_at depth reader.old ≡ Some (ds, reader.new))
+        × AreGiven (each_from (tree F.residues) [] ds) c) }
     ensures shorter { OnOk result (length reader.new < length reader.old) }
-    ensures err { result ≡ Err TextFault.Json
-        → converted of_items (items (value depth) (length reader.old) reader.old) ≡ None }
+    ensures err { result ≡ Err TextFault.Json → items_at depth reader.old ≡ None }
 {
     let mut constraints = no_constraints(alloc);
     'items: while !reader.take_end_array() {
@@ -183,10 +179,10 @@ fn read_constraints<F: PrimeField64>(
     depth: usize,
 ) -> Result<Constraints<F>, TextFault>
     ensures ok { IfOk result (λ c. (d : Data)
-        × (converted of_json (value depth reader.old) ≡ Some (d, reader.new))
+        × (value_at depth reader.old ≡ Some (d, reader.new))
         × AreGiven (trees F.residues d) c) }
     ensures shorter { OnOk result (length reader.new < length reader.old) }
-    ensures err { result ≡ Err TextFault.Json → converted of_json (value depth reader.old) ≡ None }
+    ensures err { result ≡ Err TextFault.Json → value_at depth reader.old ≡ None }
 {
     match begun(alloc, reader, depth)? {
         Beginning::Array(inside) => read_lists(alloc, reader, inside),
@@ -201,11 +197,9 @@ fn read_apart<F: PrimeField64>(
     depth: usize,
 ) -> Result<(Map<String, Value>, Elements<F>, Constraints<F>), TextFault>
     ensures ok { IfOk result (λ p. (ms : Members)
-        × (converted (λ xs. of_members xs no_members)
-        (members (value depth) (length reader.old) reader.old) ≡ Some (ms, reader.new))
+        × (members_at depth reader.old ≡ Some (ms, reader.new))
         × AreMembersOf F.residues ms (members_view p.0.entries) p.1 p.2) }
-    ensures err { result ≡ Err TextFault.Json → converted (λ xs. of_members xs no_members)
-        (members (value depth) (length reader.old) reader.old) ≡ None }
+    ensures err { result ≡ Err TextFault.Json → members_at depth reader.old ≡ None }
 {
     let mut rest = Map::new(alloc);
     let mut main = missing_elements();
@@ -231,9 +225,9 @@ fn read_parts<F: PrimeField64>(
     depth: usize,
 ) -> Result<Parts<F>, TextFault>
     ensures ok { IfOk result (λ p. (d : Data)
-        × (converted of_json (value depth reader.old) ≡ Some (d, reader.new))
+        × (value_at depth reader.old ≡ Some (d, reader.new))
         × ArePartsOf F.residues d (view p.rest) p.main p.constraints) }
-    ensures err { result ≡ Err TextFault.Json → converted of_json (value depth reader.old) ≡ None }
+    ensures err { result ≡ Err TextFault.Json → value_at depth reader.old ≡ None }
 {
     let token = reader.next().ok_or(TextFault::Json)?;
     if let Token::BeginObject = token {

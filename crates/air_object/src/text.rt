@@ -1,11 +1,8 @@
 //! The JSON values of a text, each read where a reader stands.
 ghost use Rattle.std.specs.Prelude.{◌≡◌, ◌<◌, ◌≤◌, ◌∷◌, length, Err, Some, None, IfOk, OnOk};
-ghost use Rattle.json.specs.Json.{value, items, members};
 ghost use Rattle.json.specs.Reads.{token_of};
-ghost use Rattle.serde_json.specs.Data.{no_members};
-ghost use Rattle.serde_json.specs.Read.{of_json, of_items, of_members, converted};
 ghost use Rattle.serde_json.specs.View.{view, items_view, members_view};
-ghost use Rattle.air_object.specs.Begun.{IsBegun};
+ghost use Rattle.air_object.specs.Begun.{IsBegun, value_at, items_at, members_at};
 
 use crate::number::number_of;
 use json::{Invalid, Reader, Token};
@@ -63,7 +60,7 @@ pub enum Beginning {
 pub fn begun(alloc: Global, reader: &mut Reader<'_>, depth: usize) -> Result<Beginning, TextFault>
     ensures ok { IfOk result (IsBegun depth reader.old reader.new) }
     ensures shorter { OnOk result (length reader.new < length reader.old) }
-    ensures err { result ≡ Err TextFault.Json → converted of_json (value depth reader.old) ≡ None }
+    ensures err { result ≡ Err TextFault.Json → value_at depth reader.old ≡ None }
 {
     let token = reader.next().ok_or(TextFault::Json)?;
     if let Token::BeginArray = token {
@@ -79,10 +76,9 @@ pub fn begun(alloc: Global, reader: &mut Reader<'_>, depth: usize) -> Result<Beg
 /// The value that begins where the reader stands.
 #[cycle(read)]
 pub fn read(alloc: Global, reader: &mut Reader<'_>, depth: usize) -> Result<Value, TextFault>
-    ensures ok { IfOk result
-        (λ v. converted of_json (value depth reader.old) ≡ Some (view v, reader.new)) }
+    ensures ok { IfOk result (λ v. value_at depth reader.old ≡ Some (view v, reader.new)) }
     ensures shorter { OnOk result (length reader.new < length reader.old) }
-    ensures err { result ≡ Err TextFault.Json → converted of_json (value depth reader.old) ≡ None }
+    ensures err { result ≡ Err TextFault.Json → value_at depth reader.old ≡ None }
 {
     let token = reader.next().ok_or(TextFault::Json)?;
     read_from(alloc, token, reader, depth)
@@ -96,11 +92,11 @@ pub fn read_from(
     reader: &mut Reader<'_>,
     depth: usize,
 ) -> Result<Value, TextFault>
-    ensures ok { IfOk result (λ v. converted of_json
-        (value depth (token_of token.entry ∷ reader.old)) ≡ Some (view v, reader.new)) }
+    ensures ok { IfOk result (λ v. value_at depth (token_of token.entry ∷ reader.old)
+        ≡ Some (view v, reader.new)) }
     ensures shorter { OnOk result (length reader.new ≤ length reader.old) }
-    ensures err { result ≡ Err TextFault.Json → converted of_json
-        (value depth (token_of token.entry ∷ reader.old)) ≡ None }
+    ensures err { result ≡ Err TextFault.Json
+        → value_at depth (token_of token.entry ∷ reader.old) ≡ None }
 {
     match token {
         Token::String(text) => Ok(Value::String(String::from_str(alloc, text)?)),
@@ -128,12 +124,10 @@ pub fn read_from(
 
 #[cycle(read)]
 fn read_items(alloc: Global, reader: &mut Reader<'_>, depth: usize) -> Result<Vec<Value>, TextFault>
-    ensures ok { IfOk result
-        (λ v. converted of_items (items (value depth) (length reader.old) reader.old)
+    ensures ok { IfOk result (λ v. items_at depth reader.old
         ≡ Some (items_view v.items, reader.new)) }
     ensures shorter { OnOk result (length reader.new < length reader.old) }
-    ensures err { result ≡ Err TextFault.Json
-        → converted of_items (items (value depth) (length reader.old) reader.old) ≡ None }
+    ensures err { result ≡ Err TextFault.Json → items_at depth reader.old ≡ None }
 {
     let mut found = Vec::new(alloc);
     'items: while !reader.take_end_array() {
@@ -149,14 +143,10 @@ fn read_members(
     reader: &mut Reader<'_>,
     depth: usize,
 ) -> Result<Map<String, Value>, TextFault>
-    ensures ok { IfOk result
-        (λ m. converted (λ ms. of_members ms no_members)
-        (members (value depth) (length reader.old) reader.old)
+    ensures ok { IfOk result (λ m. members_at depth reader.old
         ≡ Some (members_view m.entries, reader.new)) }
     ensures shorter { OnOk result (length reader.new < length reader.old) }
-    ensures err { result ≡ Err TextFault.Json
-        → converted (λ ms. of_members ms no_members)
-        (members (value depth) (length reader.old) reader.old) ≡ None }
+    ensures err { result ≡ Err TextFault.Json → members_at depth reader.old ≡ None }
 {
     let mut found = Map::new(alloc);
     'members: while let Some(name) = reader.next_key()? {

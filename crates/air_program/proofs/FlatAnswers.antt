@@ -1,16 +1,13 @@
 -- What answers the input that a JSON value spells, step by step. Below, `tells` is what is said of it.
-use Rattle.std.proofs.Common.{◌≡◌, ◌≢◌, ◌⊎◌, ℕ, List, Result, Ok, Err, IfOk, String, string_bytes, refl, sym, ap, subst, inl, inr}
-use Rattle.std.specs.Global.{Global}
+use Rattle.std.proofs.Common.{◌≡◌, ◌≢◌, ◌⊎◌, ℕ, List, refl, sym, ap, subst, inl, inr}
 use Rattle.serde_json.specs.Data.{Data}
 use Rattle.air_field.specs.Modular.{Modular}
 use Rattle.air_object.specs.declared.input.FlatInput.{FlatInput}
 use Rattle.air_core.specs.declared.errors.AirError.{AirError}
 use Rattle.air_core.specs.declared.errors.AirError.TheVariants.{Memory}
-use Rattle.air_program.specs.Answer.{AuditFinds}
 use Rattle.air_object.specs.Input.{SpellsInput}
-use Rattle.air_program.specs.FlatAnswer.{flat_instance, RefusesValue, AuditRefusesInput, AnswersInput, AuditedIn}
+use Rattle.air_program.specs.FlatAnswer.{RefusesValue, AuditRefusesInput, AnswersInput}
 use Rattle.air_program.specs.Refusals.{name_of, refusal_text, air_refusal}
-use Rattle.air_program.specs.Texts.{Found, IsFindingsText, findings_status}
 use Rattle.air_program.specs.declared.refusals.Refusal.{Refusal}
 use Rattle.air_program.specs.declared.refusals.Refusal.TheVariants as refusals
 
@@ -39,8 +36,3 @@ module _ {F : Type 0} {order : ℕ} (m : Modular F order) (tells : FlatInput F �
   input_refused P input why spelt (inl memory) = inl memory
   input_refused P input why spelt (inr h) =
       subst (λ w. (w ≡ refusals.Memory) ⊎ ((d : Data) → P d → Refuses d w)) (sym h.2) (parts_refused P h.0 (λ d has n. inr (input, spelt d has, h.1)))
-
--- what an audit found is the answer
-pub value_answered : {F : Type 0} {order : ℕ} (m : Modular F order) {E : Type 0} (r : Result (ℕ × String Global) E) (P : Data → Type 0) (input : FlatInput F) (f : Found) → ((d : Data) → P d → SpellsInput m d input) → AuditFinds m (flat_instance input) input.cap input.transition_weight f → IfOk r (λ p. p.0 ≡ findings_status f) → IfOk r (λ p. IsFindingsText f (string_bytes p.1)) → IfOk r (λ p. (d : Data) → P d → AuditedIn F order m d p.0 (string_bytes p.1))
-value_answered m (Ok p) P input f spelt finds s t = λ d h. inl (input, spelt d h, (f, finds, s, t))
-value_answered m (Err _) P input f spelt finds s t = tt

@@ -1,19 +1,15 @@
 -- Traces of two columns, and what answers an input.
-use Rattle.std.proofs.Common.{◌≡◌, ◌⊎◌, ℕ, zero, suc, List, drop, length, Option, Some, Result, Ok, Err, IfOk, String, string_bytes, refl, ap, ◌∙◌, inl, inr}
-use Rattle.std.specs.Global.{Global}
+use Rattle.std.proofs.Common.{◌≡◌, ◌⊎◌, ℕ, zero, suc, List, drop, length, Option, Some, refl, ap, ◌∙◌, inl, inr}
 use Rattle.air_field.specs.Grid.{rows_of, grid_of}
 use Rattle.air_field.specs.BabyBear.{BabyBear}
 use Rattle.air_field.specs.Modulo.{baby_bears}
 use Rattle.air_program.specs.Answer.{AuditFinds, fibonacci_instance, PassesDegree, IsAnswerTo}
 use Rattle.air_core.specs.declared.errors.AirError.{AirError}
 use Rattle.air_core.specs.declared.errors.AirError.TheVariants as air
-use Rattle.air_program.specs.Commands.{trace}
 use Rattle.air_program.specs.Grammar.{parse}
 use Rattle.air_program.specs.Parsing.{element_values}
-use Rattle.air_program.specs.Refusals.{air_refusal}
-use Rattle.air_program.specs.Requests.{MayRefuse}
+use Rattle.air_program.specs.Refusals.{name_of, refusal_text, air_refusal}
 use Rattle.air_program.specs.Texts.{Found, IsFindingsText, findings_status}
-use Rattle.air_program.specs.declared.commands.Command.{Command}
 use Rattle.air_program.specs.declared.refusals.Refusal.{Refusal}
 use Rattle.air_program.specs.declared.refusals.Refusal.TheVariants as refusals
 
@@ -21,9 +17,10 @@ pub length-rows : {T : Type 0} (h w : ℕ) (xs : List T) → length (rows_of h w
 length-rows zero w xs = refl
 length-rows (suc h) w xs = ap suc (length-rows h w (drop w xs))
 
-pub answered : {E : Type 0} (r : Result (ℕ × String Global) E) (cap : Option ℕ) (w : ℕ) (input : List ℕ) (public values : List BabyBear) (f : Found) → parse input ≡ Some (element_values public, element_values values) → AuditFinds baby_bears (fibonacci_instance (grid_of 2 values) public) cap w f → IfOk r (λ p. p.0 ≡ findings_status f) → IfOk r (λ p. IsFindingsText f (string_bytes p.1)) → IfOk r (λ p. IsAnswerTo cap w (parse input) p.0 (string_bytes p.1))
-answered (Ok p) cap w input public values f e finds s t = rw e (public, values, refl, refl, inl (f, finds, s, t))
-answered (Err _) cap w input public values f e finds s t = tt
+-- what an audit finds is the answer
+pub answered : (cap : Option ℕ) (w : ℕ) (input : List ℕ) (public values : List BabyBear) (f : Found) → parse input ≡ Some (element_values public, element_values values) → AuditFinds baby_bears (fibonacci_instance (grid_of 2 values) public) cap w f
+    → (status : ℕ) (text : List ℕ) → status ≡ findings_status f → IsFindingsText f text → IsAnswerTo cap w (parse input) status text
+answered cap w input public values f e finds status text s t = rw e (public, values, refl, refl, inl (f, finds, s, t))
 
 -- want of memory and a degree past `usize` keep their names
 pub told_as : {P : Type 0} (e : AirError) (why : Refusal) → why ≡ air_refusal e → (e ≡ air.Memory) ⊎ ((e ≡ air.DegreeOverflow) × P)
@@ -32,7 +29,7 @@ told_as e why is (inl memory) = inl (is ∙ ap air_refusal memory)
 told_as e why is (inr past) = inr (is ∙ ap air_refusal past.0, past.1)
 
 -- what an audit refuses is the answer, or memory ran out
-pub refused : (cap : Option ℕ) (w : ℕ) (command : Command) (input : List ℕ) (public values : List BabyBear) (why : Refusal) → parse input ≡ Some (element_values public, element_values values)
-    → (why ≡ refusals.Memory) ⊎ ((why ≡ refusals.Air air.DegreeOverflow) × PassesDegree (fibonacci_instance (grid_of 2 values) public) cap w) → MayRefuse (trace cap w command) input why
-refused cap w command input public values why e (inl memory) = inl memory
-refused cap w command input public values why e (inr past) = inr (rw (e, past.0) (public, values, refl, refl, inr (past.1, (refl, refl))))
+pub refused : (cap : Option ℕ) (w : ℕ) (input : List ℕ) (public values : List BabyBear) (why : Refusal) → parse input ≡ Some (element_values public, element_values values)
+    → (why ≡ refusals.Memory) ⊎ ((why ≡ refusals.Air air.DegreeOverflow) × PassesDegree (fibonacci_instance (grid_of 2 values) public) cap w) → (why ≡ refusals.Memory) ⊎ IsAnswerTo cap w (parse input) 2 (refusal_text (name_of why))
+refused cap w input public values why e (inl memory) = inl memory
+refused cap w input public values why e (inr past) = inr (rw (e, past.0) (public, values, refl, refl, inr (past.1, (refl, refl))))

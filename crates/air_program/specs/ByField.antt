@@ -2,10 +2,13 @@
 use Rattle.std.specs.Prelude.{◌≡◌, ◌⊎◌, ℕ, List, codes, Option, Some, None, IsUtf8}
 use Rattle.serde_json.specs.Data.{Data}
 use Rattle.serde_json.specs.Read.{read}
+use Rattle.serde_json.specs.View.{view}
 use Rattle.air_field.specs.Modular.{Modular}
 use Rattle.air_object.specs.Fields.{field_of, OverField}
+use Rattle.air_object.specs.Parts.{ArePartsOf}
 use Rattle.air_program.specs.Refusals.{IsRefusal}
 use Rattle.air_object.specs.declared.field_name.FieldName.{FieldName}
+use Rattle.air_object.specs.declared.parts.Parts.{Parts}
 
 -- the JSON value that the bytes of a text stand for
 abbrev pub StandsFor : List ℕ → Data → Type 0
@@ -15,15 +18,27 @@ StandsFor bytes d = IsUtf8 bytes × (read bytes ≡ Some d)
 abbrev pub HasNoValue : List ℕ → Type 0
 HasNoValue bytes = (d : Data) → StandsFor bytes d → ⊥
 
+-- `Json` where they stand for none, else what answers their value
+abbrev pub AnswersValue : (Data → ℕ → List ℕ → Type 0) → List ℕ → ℕ → List ℕ → Type 0
+AnswersValue answers bytes status text =
+    (HasNoValue bytes × IsRefusal (codes "Json") status text)
+    ⊎ ((d : Data) × StandsFor bytes d × answers d status text)
+
+-- the value has these parts
+abbrev pub HasParts : {F : Type 0} {p : ℕ} → Modular F p → Parts F → Data → Type 0
+HasParts m parts d = ArePartsOf m d (view parts.rest) parts.main parts.constraints
+
 -- Below, `answers` relates a value to a status and a text, over each field.
+
+-- the answer to each value that has these parts
+abbrev pub AnswersParts : ((F : Type 0) (p : ℕ) → Modular F p → Data → ℕ → List ℕ → Type 0) → {F : Type 0} {p : ℕ} → Modular F p → Parts F → ℕ → List ℕ → Type 0
+AnswersParts answers m parts status text = (d : Data) → HasParts m parts d → answers _ _ m d status text
 
 -- over the field that is named, and `Field` where none is
 abbrev pub AnswersNamed : ((F : Type 0) (p : ℕ) → Modular F p → Data → ℕ → List ℕ → Type 0) → Option FieldName → Data → ℕ → List ℕ → Type 0
 AnswersNamed answers None d status text = IsRefusal (codes "Field") status text
 AnswersNamed answers (Some field) d status text = OverField (λ F p m. answers F p m d status text) field
 
--- `Json` where the bytes stand for no value
+-- the answer to the bytes of a text
 abbrev pub AnswersBytes : ((F : Type 0) (p : ℕ) → Modular F p → Data → ℕ → List ℕ → Type 0) → List ℕ → ℕ → List ℕ → Type 0
-AnswersBytes answers bytes status text =
-    (HasNoValue bytes × IsRefusal (codes "Json") status text)
-    ⊎ ((d : Data) × StandsFor bytes d × AnswersNamed answers (field_of d) d status text)
+AnswersBytes answers = AnswersValue (λ d. AnswersNamed answers (field_of d) d)

@@ -100,7 +100,7 @@ module _ {F : Type 0} {p : ℕ} (m : Modular F p) where
       × (status ≡ findings_status f)
       × IsExplainedText m input.pool input.roots.items input.cells.items (trace_with input.main input.preprocessed input.periodic.items input.public_values.items) f text
 
--- what the audit of the input that the value spells finds, explained
+-- what the audit of the input that the value spells finds, explained, or the first refusal
 abbrev pub ExplainedIn : (F : Type 0) (p : ℕ) → Modular F p → Data → ℕ → List ℕ → Type 0
 ExplainedIn F p m = AnswersInput m (TellsExplained m)
 

@@ -51,7 +51,7 @@ module _ {F : Type 0} {p : ℕ} (m : Modular F p) where
       ((input : FlatInput F) × SpellsInput m d input × tells input status text)
       ⊎ ((e : AirError) × RefusesValue d e × IsRefusal (air_name e) status text)
 
--- what the audit of that input finds
+-- what the audit of the input that the value spells finds, or the first refusal
 abbrev pub AuditedIn : (F : Type 0) (p : ℕ) → Modular F p → Data → ℕ → List ℕ → Type 0
 AuditedIn F p m = AnswersInput m (TellsInput m)
 

@@ -1,5 +1,6 @@
 -- Refusals, their names and their line.
-use Rattle.std.specs.Prelude.{◌≡◌, ℕ, List, [], ◌∷◌, ◌++◌, codes}
+use Rattle.std.specs.Prelude.{◌≡◌, ◌⊎◌, ℕ, List, [], ◌∷◌, ◌++◌, codes, Result, IfOk, IfErr, String, string_bytes}
+use Rattle.std.specs.Global.{Global}
 use Rattle.air_core.specs.declared.errors.AirError.{AirError}
 use Rattle.air_core.specs.declared.errors.AirError.TheVariants as air
 use Rattle.air_infix.specs.Lines.{lines_text}
@@ -54,3 +55,8 @@ refusal_text name = lines_text ((codes "refused: " ++ name) ∷ [])
 -- the status and the text of a refusal
 abbrev pub IsRefusal : List ℕ → ℕ → List ℕ → Type 0
 IsRefusal name status text = (status ≡ 2) × (text ≡ refusal_text name)
+
+-- What is given is an answer: a status and a text are one, and so is a refusal, unless memory ran out.
+pub record GivesAnswer (answers : ℕ → List ℕ → Type 0) (given : Result (ℕ × String Global) Refusal) : Type 0 where
+  pub ok : IfOk given (λ p. answers p.0 (string_bytes p.1))
+  pub refused : IfErr given (λ why. (why ≡ refusals.Memory) ⊎ answers 2 (refusal_text (name_of why)))

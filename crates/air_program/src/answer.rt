@@ -5,10 +5,11 @@ ghost use Rattle.air_field.specs.Grid.{grid_of};
 ghost use Rattle.air_field.specs.Modulo.{baby_bears};
 ghost use Rattle.p3_air.specs.Theorem.{instance};
 ghost use Rattle.air_program.specs.Texts.{found, findings_status, IsFindingsText};
-ghost use Rattle.air_program.specs.Commands.{has_labels, trace};
+ghost use Rattle.air_program.specs.Commands.{has_labels};
 ghost use Rattle.air_program.specs.Grammar.{parse};
 ghost use Rattle.air_program.specs.Answer.{AuditFinds, CappedAuditRefuses, fibonacci_instance, PassesDegree, IsAnswerTo};
-ghost use Rattle.air_program.specs.Requests.{Answers, MayRefuse};
+ghost use Rattle.air_program.specs.Refusals.{GivesAnswer};
+ghost use Rattle.air_program.specs.Requests.{Answers};
 
 use crate::by_field::{Wanted, answer_object};
 use crate::commands::{Command, Request};
@@ -134,9 +135,7 @@ fn answer_trace(
     transition_weight: usize,
     input: &[u8],
 ) -> Result<(u8, String), Refusal>
-    ensures ok { IfOk result (λ p. IsAnswerTo cap transition_weight (parse input.now) p.0
-        (string_bytes p.1)) }
-    ensures refused { IfErr result (MayRefuse (trace cap transition_weight command) input.now) }
+    ensures { GivesAnswer (IsAnswerTo cap transition_weight (parse input.now)) result }
 {
     let input = match parse(alloc, input) {
         Ok(input) => input,
@@ -162,8 +161,7 @@ fn answer_trace(
 
 /// The status and the text that answer an input.
 pub fn answer(alloc: Global, request: Request, input: &[u8]) -> Result<(u8, String), Refusal>
-    ensures ok { IfOk result (λ p. Answers request input.now p.0 (string_bytes p.1)) }
-    ensures refused { IfErr result (MayRefuse request input.now) }
+    ensures { GivesAnswer (Answers request input.now) result }
 {
     match request {
         Request::Trace {

@@ -1,11 +1,10 @@
 //! The answer to a JSON object, over the field that its member `field` names.
 
-ghost use Rattle.std.specs.Prelude.{◌≡◌, ◌⊎◌, IfOk, IfErr, string_bytes};
+ghost use Rattle.std.specs.Prelude.{◌≡◌, ◌⊎◌, IfOk, IfErr};
 ghost use Rattle.serde_json.specs.Data.{Data};
-ghost use Rattle.serde_json.specs.View.{view};
-ghost use Rattle.air_object.specs.Parts.{InPool, ArePartsOf};
-ghost use Rattle.air_program.specs.ByField.{StandsFor, HasNoValue, AnswersBytes};
-ghost use Rattle.air_program.specs.Refusals.{name_of, refusal_text};
+ghost use Rattle.air_object.specs.Parts.{InPool};
+ghost use Rattle.air_program.specs.ByField.{StandsFor, HasNoValue, HasParts, AnswersValue, AnswersParts, AnswersBytes};
+ghost use Rattle.air_program.specs.Refusals.{GivesAnswer};
 ghost use Rattle.air_program.specs.Wanted.{AnswersIn};
 
 use crate::explain::explain_parts;
@@ -30,7 +29,7 @@ pub enum Wanted {
 /// The parts of the JSON value that the bytes stand for, its trace and its constraints read as over F.
 fn parts_from<F: PrimeField64>(alloc: Global, bytes: &[u8]) -> Result<Parts<F>, Refusal>
     ensures parts { IfOk result (λ p. (d : Data) × StandsFor bytes.now d
-        × ArePartsOf F.residues d (view p.rest) p.main p.constraints) }
+        × HasParts F.residues p d) }
     ensures refused { IfErr result (λ why. (why ≡ Refusal.Memory)
         ⊎ ((why ≡ Refusal.Json) × HasNoValue bytes.now)) }
 {
@@ -51,12 +50,7 @@ fn answer_parts<F: PrimeField64 + 'static>(
     parts: Parts<F>,
 ) -> Result<(u8, String), Refusal>
     requires { InPool parts.constraints }
-    ensures ok { IfOk result (λ p. (d : Data)
-        → ArePartsOf F.residues d (view parts.rest) parts.main parts.constraints
-        → AnswersIn wanted F F.ORDER_U64 F.residues d p.0 (string_bytes p.1)) }
-    ensures refused { IfErr result (λ why. (why ≡ Refusal.Memory) ⊎ ((d : Data)
-        → ArePartsOf F.residues d (view parts.rest) parts.main parts.constraints
-        → AnswersIn wanted F F.ORDER_U64 F.residues d 2 (refusal_text (name_of why)))) }
+    ensures { GivesAnswer (AnswersParts (AnswersIn wanted) F.residues parts) result }
 {
     match wanted {
         Wanted::Audit => audit_parts(alloc, parts),
@@ -71,11 +65,8 @@ fn answer_over<F: PrimeField64 + 'static>(
     wanted: Wanted,
     bytes: &[u8],
 ) -> Result<(u8, String), Refusal>
-    ensures ok { IfOk result (λ p. (d : Data) × StandsFor bytes.now d
-        × AnswersIn wanted F F.ORDER_U64 F.residues d p.0 (string_bytes p.1)) }
-    ensures refused { IfErr result (λ why. (why ≡ Refusal.Memory)
-        ⊎ (((why ≡ Refusal.Json) × HasNoValue bytes.now) ⊎ ((d : Data) × StandsFor bytes.now d
-        × AnswersIn wanted F F.ORDER_U64 F.residues d 2 (refusal_text (name_of why))))) }
+    ensures { GivesAnswer (AnswersValue (AnswersIn wanted F F.ORDER_U64 F.residues) bytes.now)
+        result }
 {
     let parts: Parts<F> = parts_from(alloc, bytes)?;
     answer_parts(alloc, wanted, parts)
@@ -84,10 +75,7 @@ fn answer_over<F: PrimeField64 + 'static>(
 /// The status and the text that answer a JSON object. It is read as over `BabyBear`, and once more over the field that it
 /// names, where that is another one.
 pub fn answer_object(alloc: Global, wanted: Wanted, bytes: &[u8]) -> Result<(u8, String), Refusal>
-    ensures ok { IfOk result (λ p. AnswersBytes (AnswersIn wanted) bytes.now p.0
-        (string_bytes p.1)) }
-    ensures refused { IfErr result (λ why. (why ≡ Refusal.Memory)
-        ⊎ AnswersBytes (AnswersIn wanted) bytes.now 2 (refusal_text (name_of why))) }
+    ensures { GivesAnswer (AnswersBytes (AnswersIn wanted) bytes.now) result }
 {
     let parts: Parts<BabyBear> = parts_from(alloc, bytes)?;
     match field_of(&parts.rest) {

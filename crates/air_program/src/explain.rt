@@ -1,8 +1,6 @@
 //! The answer to the word `explain`: what the audit of a JSON object finds, and below each failure what stands there.
 
 ghost use Rattle.std.specs.Prelude.{◌≡◌, ◌<◌, ◌≤◌, ◌-◌, ◌⊎◌, ◌++◌, ◌∷◌, [], length, map, All, IfOk, IfErr, IfSome, OnOk, slice_get, string_bytes};
-ghost use Rattle.serde_json.specs.Data.{Data};
-ghost use Rattle.serde_json.specs.View.{view};
 ghost use Rattle.air_field.specs.Assignment.{row_assignment};
 ghost use Rattle.air_symbolic.specs.BaseLeaves.{base_leaves, base_reads};
 ghost use Rattle.air_symbolic.specs.Pools.{IsPool, nodes_of, size};
@@ -11,11 +9,12 @@ ghost use Rattle.air_infix.specs.Names.{AreNames};
 ghost use Rattle.air_explain.specs.Rows.{trace_of};
 ghost use Rattle.air_explain.specs.Values.{AreClosed};
 ghost use Rattle.air_report.specs.FailureTexts.{seen_failure};
-ghost use Rattle.air_object.specs.Parts.{InPool, ArePartsOf};
+ghost use Rattle.air_object.specs.Parts.{InPool};
 ghost use Rattle.air_program.specs.AtHand.{KnownAt};
+ghost use Rattle.air_program.specs.ByField.{AnswersParts};
 ghost use Rattle.air_program.specs.Explained.{failing_roots, cell_lines, PushesNames, PushesExplained, trace_with, IsExplainedText, TellsExplained, ExplainedIn};
 ghost use Rattle.air_program.specs.FlatAnswer.{AuditRefusesInput};
-ghost use Rattle.air_program.specs.Refusals.{name_of, refusal_text, air_refusal};
+ghost use Rattle.air_program.specs.Refusals.{air_refusal, GivesAnswer};
 ghost use Rattle.air_program.specs.Texts.{found, findings_status};
 ghost use Rattle.air_infix.specs.Lines.{lines_text};
 ghost use Rattle.air_core.specs.declared.errors.AirError.{AirError};
@@ -263,12 +262,7 @@ pub(crate) fn explain_parts<F: PrimeField64 + 'static>(
     parts: Parts<F>,
 ) -> Result<(u8, String), Refusal>
     requires { InPool parts.constraints }
-    ensures ok { IfOk result (λ p. (d : Data)
-        → ArePartsOf F.residues d (view parts.rest) parts.main parts.constraints
-        → ExplainedIn F F.ORDER_U64 F.residues d p.0 (string_bytes p.1)) }
-    ensures refused { IfErr result (λ why. (why ≡ Refusal.Memory) ⊎ ((d : Data)
-        → ArePartsOf F.residues d (view parts.rest) parts.main parts.constraints
-        → ExplainedIn F F.ORDER_U64 F.residues d 2 (refusal_text (name_of why)))) }
+    ensures { GivesAnswer (AnswersParts ExplainedIn F.residues parts) result }
 {
     let Parts {
         rest,

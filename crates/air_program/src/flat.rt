@@ -1,14 +1,13 @@
 //! What an audit finds of a JSON object: an AIR whose constraints are lists of nodes, and a trace of it.
 
-ghost use Rattle.std.specs.Prelude.{◌≡◌, ◌<◌, ◌⊎◌, All, None, IfOk, IfErr, string_bytes};
-ghost use Rattle.serde_json.specs.Data.{Data};
-ghost use Rattle.serde_json.specs.View.{view};
+ghost use Rattle.std.specs.Prelude.{◌≡◌, ◌<◌, All, None, IfOk, IfErr};
 ghost use Rattle.air_symbolic.specs.BaseLeaves.{base_reads};
 ghost use Rattle.air_symbolic.specs.Pools.{IsPool, size};
 ghost use Rattle.air_program.specs.Answer.{AuditFinds};
 ghost use Rattle.air_program.specs.FlatAnswer.{flat_instance, AuditRefusesInput, AuditedIn};
-ghost use Rattle.air_object.specs.Parts.{InPool, ArePartsOf};
-ghost use Rattle.air_program.specs.Refusals.{name_of, refusal_text};
+ghost use Rattle.air_object.specs.Parts.{InPool};
+ghost use Rattle.air_program.specs.ByField.{AnswersParts};
+ghost use Rattle.air_program.specs.Refusals.{GivesAnswer};
 ghost use Rattle.air_program.specs.Texts.{found};
 
 use crate::answer::{findings_of, render};
@@ -73,12 +72,7 @@ pub(crate) fn audit_parts<F: PrimeField64 + 'static>(
     parts: Parts<F>,
 ) -> Result<(u8, String), Refusal>
     requires { InPool parts.constraints }
-    ensures ok { IfOk result (λ p. (d : Data)
-        → ArePartsOf F.residues d (view parts.rest) parts.main parts.constraints
-        → AuditedIn F F.ORDER_U64 F.residues d p.0 (string_bytes p.1)) }
-    ensures refused { IfErr result (λ why. (why ≡ Refusal.Memory) ⊎ ((d : Data)
-        → ArePartsOf F.residues d (view parts.rest) parts.main parts.constraints
-        → AuditedIn F F.ORDER_U64 F.residues d 2 (refusal_text (name_of why)))) }
+    ensures { GivesAnswer (AnswersParts AuditedIn F.residues parts) result }
 {
     let Parts {
         rest,

@@ -1,14 +1,14 @@
 //! The answer to the word `show`: the constraints of a JSON object, as people read them.
 
-ghost use Rattle.std.specs.Prelude.{◌≡◌, ◌⊎◌, ◌<◌, All, IfOk, IfErr, string_bytes};
+ghost use Rattle.std.specs.Prelude.{◌≡◌, ◌<◌, All, IfOk, IfErr, string_bytes};
 ghost use Rattle.serde_json.specs.Data.{Data};
-ghost use Rattle.serde_json.specs.View.{view};
 ghost use Rattle.air_symbolic.specs.BaseLeaves.{base_reads};
 ghost use Rattle.air_symbolic.specs.Pools.{IsPool, size};
 ghost use Rattle.air_infix.specs.Lines.{ShowsRoots};
-ghost use Rattle.air_object.specs.Parts.{InPool, AreGiven, ArePartsOf};
+ghost use Rattle.air_object.specs.Parts.{InPool, AreGiven};
 ghost use Rattle.air_object.specs.Readers.{constraints_member};
-ghost use Rattle.air_program.specs.Refusals.{name_of, refusal_text};
+ghost use Rattle.air_program.specs.ByField.{AnswersParts};
+ghost use Rattle.air_program.specs.Refusals.{GivesAnswer};
 ghost use Rattle.air_program.specs.Shown.{ShownIn};
 
 use crate::refusals::Refusal;
@@ -42,12 +42,9 @@ fn show_constraints<F: PrimeField64>(
     constraints: Constraints<F>,
 ) -> Result<(u8, String), Refusal>
     requires { InPool constraints }
-    ensures ok { IfOk result (λ p. (d : Data)
+    ensures { GivesAnswer (λ status text. (d : Data)
         → AreGiven (constraints_member F.residues d) constraints
-        → ShownIn F F.ORDER_U64 F.residues d p.0 (string_bytes p.1)) }
-    ensures refused { IfErr result (λ why. (why ≡ Refusal.Memory) ⊎ ((d : Data)
-        → AreGiven (constraints_member F.residues d) constraints
-        → ShownIn F F.ORDER_U64 F.residues d 2 (refusal_text (name_of why)))) }
+        → ShownIn F F.ORDER_U64 F.residues d status text) result }
 {
     let Constraints { pool, roots } = constraints;
     match roots {
@@ -62,12 +59,7 @@ pub(crate) fn show_parts<F: PrimeField64 + 'static>(
     parts: Parts<F>,
 ) -> Result<(u8, String), Refusal>
     requires { InPool parts.constraints }
-    ensures ok { IfOk result (λ p. (d : Data)
-        → ArePartsOf F.residues d (view parts.rest) parts.main parts.constraints
-        → ShownIn F F.ORDER_U64 F.residues d p.0 (string_bytes p.1)) }
-    ensures refused { IfErr result (λ why. (why ≡ Refusal.Memory) ⊎ ((d : Data)
-        → ArePartsOf F.residues d (view parts.rest) parts.main parts.constraints
-        → ShownIn F F.ORDER_U64 F.residues d 2 (refusal_text (name_of why)))) }
+    ensures { GivesAnswer (AnswersParts ShownIn F.residues parts) result }
 {
     let Parts {
         rest: _,

@@ -1,25 +1,25 @@
-use Rattle.std.proofs.Common.{◌≡◌, List, ℕ, string_bytes, sym, ap, subst, ◌∙◌, inl}
+use Rattle.std.proofs.Common.{◌≡◌, List, ℕ, string_bytes, ap, subst, ◌∙◌, inl}
 use Rattle.air_wire.specs.Faults.{air_fault}
 use Rattle.air_infix.specs.Lines.{ShowsRoots}
 use Rattle.air_program.specs.Refusals.{air_refusal}
-use Rattle.air_program.proofs.NamedAnswers.{if_both}
+use Rattle.air_program.proofs.NamedAnswers.{gives_both}
 use Rattle.air_program.proofs.ShowAnswers.{shows_given, refused_given}
 use Rattle.air_program.proofs.show.show_constraints.Goals as goal
 
-pub returns-in-Ok-clause-ok : goal.returns-in-Ok-clause-ok
-returns-in-Ok-clause-ok g c =
+pub returns-in-Ok : goal.returns-in-Ok
+returns-in-Ok g c =
     let m = g.F.PrimeField64.residues in
     let given = c.args.constraints in
-    if_both _ _ _ c.show_roots.result
+    gives_both _ _ c.show_roots.result
     (λ p s t. λ d h. inl (
       s,
       shows_given m given c.in-Ok.roots c.in-Ok.is c.requires (string_bytes p.1)
           (subst (λ (rs : List ℕ). ShowsRoots m given.pool rs (string_bytes p.1)) c.deref.ensures.value t) d h,
     ))
-    c.show_roots.ensures.status c.show_roots.ensures.shows
+    c.show_roots.ensures.status c.show_roots.ensures.shows c.show_roots.ensures.refused
 
-pub returns-clause-refused : goal.returns-clause-refused
-returns-clause-refused g c =
+pub returns : goal.returns
+returns g c =
     let m = g.F.PrimeField64.residues in
     let is : c.from-in-Err.result ≡ air_refusal (air_fault c.in-Err.fault) = c.from-in-Err.ensures ∙ ap air_refusal c.from.ensures in
-    rw is (refused_given m c.args.constraints c.in-Err.fault c.in-Err.is)
+    rw is (record { ok = tt; refused = refused_given m c.args.constraints c.in-Err.fault c.in-Err.is })
