@@ -26,6 +26,10 @@ pub record SpellsText (word text : List ℕ) : Type 0 where
 abbrev pub SpellsNoText : List ℕ → Type 0
 SpellsNoText word = (text : List ℕ) → ¬ SpellsText word text
 
+-- the text is what the word spells; `-` is no text
+abbrev pub IsTextOf : List ℕ → List ℕ → Type 0
+IsTextOf text word = (word ≡ codes "-" → text ≡ []) × (word ≢ codes "-" → SpellsText word text)
+
 -- a letter on one line: `\n` and `\r` are the ends of lines, and a backslash is doubled
 abbrev pub shown_letter : ℕ → List ℕ
 shown_letter c =

@@ -1,6 +1,6 @@
 //! Why a line has no answer.
 ghost use Rattle.std.specs.Prelude.{◌≡◌, ◌↔◌, ◌⊎◌, true, IfOk, IfErr};
-ghost use Rattle.cases.specs.Reports.{IsRefusal};
+ghost use Rattle.cases.specs.Reports.{IsRefusal, list_fault};
 ghost use Rattle.cases.specs.declared.faults.Fault.TheVariants.{Memory, Stream};
 
 use air_core::AirError;
@@ -81,6 +81,8 @@ impl From<RingError> for Fault {
 }
 
 impl From<FlatError> for Fault {
+    ghost from_gives = { λ error fault. fault ≡ list_fault error };
+
     fn from(error: FlatError) -> Fault {
         match error {
             FlatError::Memory => Fault::Memory,

@@ -1,6 +1,6 @@
 //! Words as numbers, elements, values and texts.
 ghost use Rattle.std.specs.Prelude.{◌≡◌, ◌≢◌, ◌⊎◌, ℕ, ◌<◌, ◌++◌, ◌==◌, if◌then◌else◌, [], length, map, All};
-ghost use Rattle.std.specs.Prelude.{OkIff, OnOk, IfOk, IfErr, ok_or, Some, None, codes, string_bytes};
+ghost use Rattle.std.specs.Prelude.{OkIff, OnOk, IfOk, IfErr, IfSome, ok_or, Some, None, codes, string_bytes};
 ghost use Rattle.std.specs.List.{AllZip, flat_map};
 ghost use Rattle.std.specs.Str.{chars};
 ghost use Rattle.air_field.specs.Ring.{image};
@@ -8,15 +8,18 @@ ghost use Rattle.serde_json.specs.View.{view};
 ghost use Rattle.serde_json.specs.Read.{read as read_text};
 ghost use Rattle.cases.specs.Words.{IsNumber, number_in, SpellsNumber, SpellsElement};
 ghost use Rattle.cases.specs.Listed.{parts_at, listed, coefficients_listed};
-ghost use Rattle.cases.specs.Spelled.{escaped_letter, SpellsText, SpellsNoText, shown_letter};
+ghost use Rattle.cases.specs.Spelled.{escaped_letter, SpellsText, SpellsNoText, IsTextOf, shown_letter};
 ghost use Rattle.cases.specs.Spelled.{elements_text};
+ghost use Rattle.cases.specs.Values.{IsSpeltBy, IsWritten, beside_text, ShowsBeside};
 ghost use Rattle.cases.specs.Numbers.{AreNumbers};
 ghost use Rattle.cases.specs.laws.Numbers.{are_values};
 
 use crate::faults::{Fault, Why};
 use air_field::{ExtensionField, Field, PrimeField64};
+use air_wire::{FlatError, Spelled};
 use serde_json::Value;
 use std::alloc::Global;
+use std::fmt::Debug;
 
 /// A field whose elements are written as numbers.
 pub trait Number: Field {
@@ -235,6 +238,20 @@ pub fn text_of(alloc: Global, word: &str) -> Result<String, Fault>
     Ok(text)
 }
 
+/// The texts of words.
+pub fn texts_of(alloc: Global, words: &[&str]) -> Result<Vec<String>, Fault>
+    ensures texts { IfOk result (λ texts.
+        AllZip (λ text word. IsTextOf (string_bytes text) word.now) texts.items words.now) }
+    ensures refused { IfErr result (λ e. (e ≡ Fault.Memory)
+        ⊎ ((e ≡ Fault.Unreadable Why.NoText) × (¬ All (λ w. ¬ SpellsNoText w.now) words.now))) }
+{
+    let mut texts = Vec::new(alloc);
+    for word in words {
+        texts.push(text_of(alloc, *word)?)?;
+    }
+    Ok(texts)
+}
+
 /// Adds a text on one line: its ends of lines are `\n`, `\r`, a backslash is doubled.
 pub fn show_text(shown: &str, text: &mut String) -> Result<(), Fault>
     ensures added { OnOk result (string_bytes text.new
@@ -278,4 +295,56 @@ pub fn show_elements<F: Number>(elements: &[F], text: &mut String) -> Result<(),
     }
     text.push_str("]")?;
     Ok(())
+}
+
+// What a word spells.
+fn spelt_of<S: Spelled>(alloc: Global, word: &str) -> Result<S, Fault>
+    ensures spelt { IfOk result (IsSpeltBy S.spells word.now) }
+    ensures refused { IfErr result (λ e. (e ≡ Fault.Memory)
+        ⊎ ((e ≡ Fault.Unreadable Why.NoJson) × (read_text word.now ≡ None))
+        ⊎ ((e ≡ Fault.List (FlatError.Shape 0)) × ((x : S) → ¬ IsSpeltBy S.spells word.now x))) }
+{
+    let value = value_of(alloc, word)?;
+    Ok(S::from_value(alloc, &value)?)
+}
+
+// How it is spelt.
+fn spelling_of<S: Spelled>(alloc: Global, x: &S) -> Result<String, Fault>
+    ensures written { IfOk result (λ written. IsWritten (S.spelling x.now) (string_bytes written)) }
+    ensures refused { IfErr result (λ e. e ≡ Fault.Memory) }
+{
+    let value = x.to_value(alloc)?;
+    Ok(value.to_string(alloc)?)
+}
+
+// Adds it, and how it is spelt where the word spells it otherwise.
+fn show_beside<S: Debug>(x: &S, written: &str, word: &str, text: &mut String) -> Result<(), Fault>
+    ensures added { OnOk result (IfSome (S.debug_output x.now) (λ shown. string_bytes text.new
+        ≡ string_bytes text.old ++ beside_text shown written.now word.now)) }
+    ensures refused { IfErr result (λ e. e ≡ Fault.Memory) }
+{
+    if written == word {
+        write!(text, "{x:?}")?;
+    } else {
+        write!(text, "{x:?}, which is spelt {written}")?;
+    }
+    Ok(())
+}
+
+/// Adds what a word spells, and how that is spelt where the word spells it otherwise.
+pub fn show_spelt<S: Spelled + Debug + Drop>(
+    alloc: Global,
+    word: &str,
+    text: &mut String,
+) -> Result<(), Fault>
+    ensures added { OnOk result ((x : S) × IsSpeltBy S.spells word.now x
+        × ShowsBeside (S.debug_output x) (S.spelling x) word.now (string_bytes text.old)
+        (string_bytes text.new)) }
+    ensures refused { IfErr result (λ e. (e ≡ Fault.Memory)
+        ⊎ ((e ≡ Fault.Unreadable Why.NoJson) × (read_text word.now ≡ None))
+        ⊎ ((e ≡ Fault.List (FlatError.Shape 0)) × ((x : S) → ¬ IsSpeltBy S.spells word.now x))) }
+{
+    let x: S = spelt_of(alloc, word)?;
+    let written = spelling_of(alloc, &x)?;
+    show_beside(&x, written.as_str(), word, text)
 }

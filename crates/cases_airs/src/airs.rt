@@ -1,4 +1,6 @@
 //! The AIRs that lines make.
+ghost use Rattle.std.specs.Prelude.{◌<◌, All, OnOk};
+ghost use Rattle.air_symbolic.specs.Pools.{size};
 
 use crate::air::TableAir;
 use crate::parts::Parts;
@@ -36,6 +38,17 @@ impl<'a, F: Field> Airs<'a, F> {
         }
     }
 
+    // Gives a name to the AIR that is made next, whose expressions are to be of the pool.
+    fn name_next(&mut self, name: &'a str, roots: &[ExprId<BaseLeaf<F>>]) -> Result<(), Fault>
+        ensures { OnOk result (All (λ x. x < size self.new.pool) roots.now) }
+    {
+        if !self.pool.contains_all(roots) {
+            return Err(Fault::Unreadable(Why::OtherPool));
+        }
+        self.airs.reserve(1)?;
+        self.names.bind(name, self.airs.len(), false)
+    }
+
     // Gives an AIR its name. It takes the pool, so that the names of expressions stand for nothing then.
     fn keep(
         &mut self,
@@ -43,11 +56,7 @@ impl<'a, F: Field> Airs<'a, F> {
         parts: Parts<F>,
         roots: Vec<ExprId<BaseLeaf<F>>>,
     ) -> Result<(), Fault> {
-        if !self.pool.contains_all(roots.as_slice()) {
-            return Err(Fault::Unreadable(Why::OtherPool));
-        }
-        self.airs.reserve(1)?;
-        self.names.bind(name, self.airs.len(), false)?;
+        self.name_next(name, &roots)?;
         let none = NamedPool::new(self.names.alloc());
         self.lost = true;
         let NamedPool { pool, .. } = mem::replace(&mut self.pool, none);
@@ -69,10 +78,13 @@ impl<'a, F: Field> Airs<'a, F> {
         Ok(())
     }
 
-    // Makes the AIR of some words.
-    fn make(&mut self, name: &'a str, words: &[&str]) -> Result<(), Fault> {
-        let mut parts = Parts::new(self.names.alloc());
-        let mut roots = Vec::new(self.names.alloc());
+    // Takes the words of an AIR: which expressions are to be zero, and what stands beside them.
+    fn take(
+        &self,
+        words: &[&str],
+        parts: &mut Parts<F>,
+        roots: &mut Vec<ExprId<BaseLeaf<F>>>,
+    ) -> Result<(), Fault> {
         for word in words {
             match word.split_once(':') {
                 Some(("zero", x)) => roots.push(self.pool.at(x)?)?,
@@ -80,6 +92,14 @@ impl<'a, F: Field> Airs<'a, F> {
                 None => parts.take(*word)?,
             }
         }
+        Ok(())
+    }
+
+    // Makes the AIR of some words.
+    fn make(&mut self, name: &'a str, words: &[&str]) -> Result<(), Fault> {
+        let mut parts = Parts::new(self.names.alloc());
+        let mut roots = Vec::new(self.names.alloc());
+        self.take(words, &mut parts, &mut roots)?;
         self.keep(name, parts, roots)
     }
 

@@ -32,24 +32,45 @@ pub fn leaf_of<F: Field>(words: &[&str]) -> Result<BaseLeaf<F>, Fault> {
     }
 }
 
+// Adds a row so many times, and answers its width, which is to be the known one.
+fn add_row<F: Field>(
+    row: &[F],
+    times: usize,
+    known: Option<usize>,
+    values: &mut Vec<F>,
+) -> Result<usize, Fault> {
+    match known {
+        Some(width) if width != row.len() => return Err(Fault::Unreadable(Why::OtherShape)),
+        _ => {}
+    }
+    for _ in 0..times {
+        values.extend_from_slice(row)?;
+    }
+    Ok(row.len())
+}
+
+// The same of the row and the count of a part.
+fn add_part<F: Field>(
+    alloc: Global,
+    part: &str,
+    known: Option<usize>,
+    values: &mut Vec<F>,
+) -> Result<usize, Fault> {
+    let (row, times) = match part.split_once('*') {
+        Some((row, times)) => (row, count_of(times)?),
+        None => (part, 1),
+    };
+    let row: Vec<F> = listed_elements(alloc, row)?;
+    add_row(&row, times, known, values)
+}
+
 /// The trace of a word: rows, which `/` separates, each a list of elements, with `*` and a count behind it where it
 /// stands so often.
 pub fn trace_of<F: Field>(alloc: Global, word: &str) -> Result<RowMajorMatrix<F>, Fault> {
     let mut values = Vec::new(alloc);
     let mut width = None;
     for part in word.split('/') {
-        let (row, times) = match part.split_once('*') {
-            Some((row, times)) => (row, count_of(times)?),
-            None => (part, 1),
-        };
-        let row: Vec<F> = listed_elements(alloc, row)?;
-        match width {
-            Some(known) if known != row.len() => return Err(Fault::Unreadable(Why::OtherShape)),
-            _ => width = Some(row.len()),
-        }
-        for _ in 0..times {
-            values.extend_from_slice(row.as_slice())?;
-        }
+        width = Some(add_part(alloc, part, width, &mut values)?);
     }
     Ok(RowMajorMatrix::new(values, width.unwrap_or(0))?)
 }

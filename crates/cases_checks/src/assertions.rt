@@ -3,7 +3,7 @@
 use crate::reports::show_failures;
 use crate::rows::{ExtRow, ext_row, row_of};
 use cases::Fault;
-use cases::words::text_of;
+use cases::words::texts_of;
 use cases_airs::{Airs, TableAir};
 use cases_assertions::assert_all;
 use p3_air::{Air, AirError, ConstraintFailure, ExtensionField, Field};
@@ -45,15 +45,6 @@ fn assert_on<F: Field + 'static, EF: ExtensionField<F> + 'static>(
     words: &[&str],
 ) -> Result<(), Fault> {
     assert_all(alloc, builder, words)
-}
-
-// The texts of the words, as labels have them.
-fn texts_of(alloc: Global, words: &[&str]) -> Result<Vec<String>, Fault> {
-    let mut texts = Vec::new(alloc);
-    for word in words {
-        texts.push(text_of(alloc, *word)?)?;
-    }
-    Ok(texts)
 }
 
 // Makes the assertions of these texts.

@@ -22,7 +22,7 @@ pub struct Checks<'a, F: Field, EF> {
 }
 
 // What the word of a call on a row asks, if it is one.
-fn asked(call: &str) -> Option<Answer> {
+fn asked_of_row(call: &str) -> Option<Answer> {
     match call {
         "formatted_failures" => Some(Answer::Formatted),
         "has_failures" => Some(Answer::Has),
@@ -33,7 +33,7 @@ fn asked(call: &str) -> Option<Answer> {
 }
 
 // What is asked of a check.
-fn asked_of(call: &str, rest: &[&str]) -> Result<Asked, Fault> {
+fn asked_of_check(call: &str, rest: &[&str]) -> Result<Asked, Fault> {
     match (call, rest) {
         ("check_all_constraints", [cap]) => Ok(Asked::Report(cap_of(*cap)?)),
         ("cloned_report", [cap]) => Ok(Asked::Copy(cap_of(*cap)?)),
@@ -57,7 +57,7 @@ fn check_given<F: Number + 'static>(
             let public = given.public.as_slice();
             show_base_audit(alloc, air, &given.main, public, count_of(*weight)?, text)
         }
-        _ => show_check(alloc, air, given, asked_of(call, rest)?, text),
+        _ => show_check(alloc, air, given, asked_of_check(call, rest)?, text),
     }
 }
 
@@ -76,7 +76,7 @@ impl<'a, F: Number + 'static, EF: ExtensionField<F> + 'static> Checks<'a, F, EF>
 
     // Adds what a call answers.
     fn answer_call(&self, call: &str, words: &[&str], text: &mut String) -> Result<(), Fault> {
-        if let Some(answer) = asked(call) {
+        if let Some(answer) = asked_of_row(call) {
             return answer_row::<F, EF>(self.alloc, &self.airs, answer, words, text);
         }
         match (call, words) {

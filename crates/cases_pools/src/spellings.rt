@@ -5,39 +5,11 @@ use crate::ext_words::ext_variable;
 use air_core::{BoundaryEnd, BoundaryPublic};
 use air_field::{BabyBear, BinomialExtensionField};
 use air_symbolic::{BaseEntry, ExtEntry, SymbolicVariable, SymbolicVariableExt};
-use air_wire::Spelled;
-use cases::words::{count_of, counts_of, value_of};
+use cases::words::{count_of, counts_of, show_spelt};
 use cases::{Fault, Why};
 use std::alloc::Global;
-use std::fmt::Debug;
 
-// How it is spelt.
-fn spelling_of<S: Spelled>(alloc: Global, x: &S) -> Result<String, Fault> {
-    let value = x.to_value(alloc)?;
-    Ok(value.to_string(alloc)?)
-}
-
-// Adds it, and how it is spelt where the word spells it otherwise.
-fn show_beside<S: Debug>(x: &S, written: &str, word: &str, text: &mut String) -> Result<(), Fault> {
-    if written == word {
-        write!(text, "{x:?}")?;
-    } else {
-        write!(text, "{x:?}, which is spelt {written}")?;
-    }
-    Ok(())
-}
-
-// Adds what a word spells, and how that is spelt where the word spells it otherwise.
-fn show_spelt<S: Spelled + Debug + Drop>(
-    alloc: Global,
-    word: &str,
-    text: &mut String,
-) -> Result<(), Fault> {
-    let x = S::from_value(alloc, &value_of(alloc, word)?)?;
-    let written = spelling_of(alloc, &x)?;
-    show_beside(&x, written.as_str(), word, text)
-}
-
+// Adds what a word spells as this type.
 fn show_spelling(alloc: Global, kind: &str, word: &str, text: &mut String) -> Result<(), Fault> {
     match kind {
         "BaseEntry" => show_spelt::<BaseEntry>(alloc, word, text),

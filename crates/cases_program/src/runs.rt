@@ -2,7 +2,7 @@
 
 use crate::streams::{Kept, Pieces};
 use air_program::run;
-use cases::words::{show_text, text_of};
+use cases::words::{show_text, text_of, texts_of};
 use cases::{Fault, Why};
 use std::alloc::Global;
 use std::str;
@@ -49,15 +49,6 @@ fn run_by(
         return Err(Fault::Memory);
     };
     show_answer(status, reader.left(), writer.bytes(), text)
-}
-
-// The texts of words.
-fn texts_of(alloc: Global, words: &[&str]) -> Result<Vec<String>, Fault> {
-    let mut texts = Vec::new(alloc);
-    for word in words {
-        texts.push(text_of(alloc, *word)?)?;
-    }
-    Ok(texts)
 }
 
 // Adds what a run answers that moves so many bytes at a time, where it isn't this.

@@ -2,13 +2,11 @@
 
 use air_field::{ExtensionField, Field};
 use air_recording::{AirLayout, ConstraintLayout, constraint_degree_from_poly_degree};
-use air_wire::Spelled;
 use cases::words::{
-    Number, count_of, counts_of, elements_of, extension_of, show_elements, value_of,
+    Number, count_of, counts_of, elements_of, extension_of, show_elements, show_spelt,
 };
 use cases::{Fault, Why};
 use std::alloc::Global;
-use std::fmt::Debug;
 
 // Sets the count of this name.
 fn set(layout: &mut AirLayout, name: &str, count: usize) -> Result<(), Fault> {
@@ -152,22 +150,6 @@ fn recombine<F: Number>(
 ) -> Result<(), Fault> {
     let layout = places_of(alloc, base, ext)?;
     show_recombined::<F>(alloc, &layout, alpha, values, text)
-}
-
-// Adds what a word spells, and how that is spelt again where it is spelt otherwise.
-fn show_spelt<S: Spelled + Debug + Drop>(
-    alloc: Global,
-    word: &str,
-    text: &mut String,
-) -> Result<(), Fault> {
-    let x = S::from_value(alloc, &value_of(alloc, word)?)?;
-    let written = x.to_value(alloc)?.to_string(alloc)?;
-    if written.as_str() == word {
-        write!(text, "{x:?}")?;
-    } else {
-        write!(text, "{x:?}, which is spelt {written}")?;
-    }
-    Ok(())
 }
 
 /// Adds what a call on a layout answers, if the line is one.
