@@ -1,5 +1,5 @@
 -- Ordered maps that find the numbers of a list's nodes, one for each kind.
-use Rattle.std.specs.Prelude.{◌≡◌, ◌≢◌, ◌⊎◌, ◌↔◌, ℕ, List, Option, Some}
+use Rattle.std.specs.Prelude.{◌≡◌, ◌≢◌, ◌⊎◌, ◌↔◌, ℕ, List, [], ◌∷◌, Option, Some}
 use Rattle.std.specs.declared.cmp.Ordering.{Ordering}
 use Rattle.std.specs.declared.cmp.Reverse.{Reverse}
 use Rattle.std.specs.List.{slice_get}
@@ -38,3 +38,8 @@ pub record AreNumbered {A : Type 0} (nodes : List (SymbolicExpr A)) (leaf : A �
 abbrev pub AreNumberedIn : {A : Type 0} → (A → A → Ordering) → (Operands → Operands → Ordering) → (Operand → Operand → Ordering) → KindTables A → List (SymbolicExpr A) → Type 0
 AreNumberedIn leaf_cmp two_cmp one_cmp t nodes =
     AreNumbered nodes (numbers_by leaf_cmp t.leaves.numbers) (numbers_by two_cmp t.sums.numbers) (numbers_by two_cmp t.differences.numbers) (numbers_by one_cmp t.negatives.numbers) (numbers_by two_cmp t.products.numbers)
+
+-- the same of the tables that are there: without any there are no nodes
+abbrev pub FindEach : {A : Type 0} → (A → A → Ordering) → (Operands → Operands → Ordering) → (Operand → Operand → Ordering) → List (KindTables A) → List (SymbolicExpr A) → Type 0
+FindEach leaf_cmp two_cmp one_cmp [] nodes = nodes ≡ []
+FindEach leaf_cmp two_cmp one_cmp (t ∷ ts) nodes = AreNumberedIn leaf_cmp two_cmp one_cmp t nodes

@@ -16,6 +16,7 @@ mod kind_table;
 mod kind_tables;
 mod lending;
 mod lower;
+mod node_numbers;
 mod node_table;
 pub mod pool;
 pub mod reach;

@@ -1,6 +1,7 @@
 //! The numbers of a pool's expressions, and its nodes.
-ghost use Rattle.std.specs.Prelude.{◌≡◌};
+ghost use Rattle.std.specs.Prelude.{◌≡◌, ⊤};
 
+use std::alloc::AllocError;
 use std::marker::{Model, PhantomData};
 
 /// The number of an expression in a pool of leaves `A`. Inside one pool two numbers are equal exactly where their trees
@@ -40,7 +41,7 @@ impl<A: Copy> ExprId<A> {
 }
 
 /// A node of a pool, which names its operands by their numbers and states its degree.
-#[derive(Clone, Copy, Debug, PartialEq, Eq, PartialOrd, Ord)]
+#[derive(Copy, Debug, PartialEq, Eq, PartialOrd, Ord)]
 pub enum SymbolicExpr<A> {
     Leaf(A),
     Add {
@@ -62,4 +63,15 @@ pub enum SymbolicExpr<A> {
         y: ExprId<A>,
         degree_multiple: usize,
     },
+}
+
+// By hand, since a derived one clones field by field.
+impl<A: Copy> Clone for SymbolicExpr<A> {
+    ghost is_clone = { λ x y. y ≡ x };
+
+    ghost is_infallible = { λ _. ⊤ };
+
+    fn clone(&self) -> Result<Self, AllocError> {
+        Ok(*self)
+    }
 }

@@ -5,7 +5,7 @@ ghost use Rattle.air_symbolic.specs.Folds.{sum_fold, difference_fold, product_fo
 use air_field::Field;
 
 /// What a folded operation answers in place of a node: a constant, an operand, or the negated right operand.
-#[derive(Clone, Copy, Debug, PartialEq, Eq)]
+#[derive(Clone, Copy)]
 pub enum Fold<F> {
     Constant(F),
     Left,

@@ -6,7 +6,7 @@ ghost use Rattle.air_symbolic.specs.declared.pools.expr.SymbolicExpr.{SymbolicEx
 
 use crate::pools::expr::SymbolicExpr;
 use crate::pools::keys::{Operand, Operands};
-use crate::pools::kind_tables::KindTables;
+use crate::pools::node_numbers::NodeNumbers;
 use std::alloc::{AllocError, Global};
 use std::marker::Model;
 
@@ -17,7 +17,7 @@ const PLACES: usize = 256;
 #[derive(Drop)]
 pub struct NodeTable<A: Copy + Ord> {
     nodes: Vec<SymbolicExpr<A>>,
-    kinds: KindTables<A>,
+    numbers: NodeNumbers<A>,
     // by place, a number that a node of this place may have; without places until one is remembered, so that a pool is
     // small to move
     remembered: Vec<usize>,
@@ -25,15 +25,15 @@ pub struct NodeTable<A: Copy + Ord> {
 
 impl<A: Copy + Ord> Model for NodeTable<A> {
     ghost use Rattle.std.specs.Prelude.{List};
-    ghost use Rattle.air_symbolic.specs.Numbering.{AreNumberedIn};
+    ghost use Rattle.air_symbolic.specs.Numbering.{FindEach};
     ghost use Rattle.air_symbolic.specs.declared.pools.expr.SymbolicExpr.{SymbolicExpr};
 
     ghost Value = { List (SymbolicExpr A) };
 
     ghost view = { λ t. t.nodes.items };
 
-    ghost invariant = { λ t. AreNumberedIn A.cmp ⟦<Operands as Ord>⟧.cmp
-        ⟦<Operand as Ord>⟧.cmp t.kinds t.nodes.items };
+    ghost invariant = { λ t. FindEach A.cmp ⟦<Operands as Ord>⟧.cmp
+        ⟦<Operand as Ord>⟧.cmp t.numbers.tables.items t.nodes.items };
 }
 
 impl<A: Copy + Ord> NodeTable<A> {
@@ -43,7 +43,7 @@ impl<A: Copy + Ord> NodeTable<A> {
     {
         NodeTable {
             nodes: Vec::new(alloc),
-            kinds: KindTables::new(alloc),
+            numbers: NodeNumbers::new(alloc),
             remembered: Vec::new(alloc),
         }
     }
@@ -73,7 +73,7 @@ impl<A: Copy + Ord> NodeTable<A> {
         ensures { MatchOption result ((i : ℕ) → slice_get self.now i ≢ Some node.now)
             (λ i. slice_get self.now i ≡ Some node.now) }
     {
-        self.kinds.find(node)
+        self.numbers.find(node)
     }
 
     /// The number that is remembered at a place, if it is the node's.
@@ -115,7 +115,7 @@ impl<A: Copy + Ord> NodeTable<A> {
     {
         let number = self.nodes.len();
         self.nodes.reserve(1)?;
-        self.kinds.enter(&node, number)?;
+        self.numbers.enter(&node, number)?;
         self.nodes.push_reserved(node);
         Ok(number)
     }
