@@ -34,7 +34,7 @@ use Rattle.air_recording.specs.Recorded.{RecordsTerm}
 use Rattle.air_recording.specs.declared.symbolic.record.Recorded.{Recorded}
 use Rattle.air_report.specs.Cells.{cell_label}
 use Rattle.air_report.specs.Given.{table_grid}
-use Rattle.air_report.specs.Report.{all_places, assertion_value, place, failure_place}
+use Rattle.air_report.specs.Report.{all_places, assertion_value}
 use Rattle.air_report.specs.Shapes.{IsPowerOfTwo}
 use Rattle.air_report.specs.declared.checks.report.ConstraintReport.{ConstraintReport}
 use Rattle.p3_air.specs.declared.audit.Audit.{Audit}
@@ -194,7 +194,8 @@ pub record MeansEach {F : Type 0} (r : CommRing F) (basis : Basis F F) (air : De
 
 -- all pairs of a row and a place at which the declared constraint isn't zero: by rows, and in a row by places
 abbrev pub nonzero_places : {F : Type 0} → CommRing F → (F → F → Bool) → Instance F → List (ℕ × ℕ)
-nonzero_places r eq x = map place (filter (λ p. not (eq (value_on r x p.0 p.1.1) r.zero)) (all_places (row_count x) x.air.declared))
+nonzero_places r eq x =
+    map (λ p. (p.0, p.1.0)) (filter (λ p. not (eq (assertion_value r (read_at r x p.0) p.1.1) r.zero)) (all_places (row_count x) x.air.declared))
 
 -- how many constraints a row has, 0 without a row
 abbrev pub constraints_per_row : {F : Type 0} → Instance F → ℕ
@@ -210,7 +211,7 @@ violated_cells r eq x = map (λ c. (row_of c.1.end (row_count x), constraints_pe
 
 -- the rows and places of the failures that a report lists, in order
 abbrev pub failure_places : ConstraintReport → List (ℕ × ℕ)
-failure_places report = map failure_place report.failures.items
+failure_places report = map (λ f. (f.row, f.constraint)) report.failures.items
 
 -- the failures from number n on have the labels of these cells, in order
 abbrev pub LabelsFrom : ℕ → List (ℕ × BoundaryPublic) → ConstraintReport → Type 0
