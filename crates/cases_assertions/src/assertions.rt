@@ -1,37 +1,71 @@
 //! Assertions over constants, by the words of their calls. A call knows the builder by its traits alone. Calls on as many
 //! elements stand together: the elements are made first, by one loan of the ring, and then the call is one of them.
-ghost use Rattle.std.specs.Prelude.{◌≡◌, [], ◌∷◌, IfOk, OnOk};
+ghost use Rattle.std.specs.Prelude.{◌≡◌, [], ◌∷◌, All, IfOk, OnOk};
 
 use crate::constants::{
     constant, constant_lists, constants, ext_constant, two_constants, two_ext_constants,
 };
 use crate::labels::Label;
-use air_builder::{AirBuilder, ExtensionBuilder, NamedAirBuilder, NamedExtensionBuilder};
+use air_builder::{AirBuilder, AirError, ExtensionBuilder, NamedAirBuilder, NamedExtensionBuilder};
 use air_core::{Namespace, NamespaceExt};
 use cases::{Fault, Why};
 use std::alloc::Global;
 
-// Makes an assertion on one element.
-fn assert_one_of<AB: AirBuilder>(builder: &mut AB, word: &str, x: &str) -> Result<(), Fault>
-    requires { AB.ready builder.old }
+// The assertion of this word on an element.
+fn assert_one_as<AB: AirBuilder>(builder: &mut AB, word: &str, x: AB::Expr) -> Result<(), AirError>
+    requires ready { AB.ready builder.old }
+    requires of_ring { AB.Ring.has (AB.ring_of builder.old) x }
     ensures { OnOk result (AB.kept builder.old builder.new) }
 {
-    let x = constant::<AB::F, AB::Ring>(builder.ring(), x)?;
     match word {
-        "assert_zero" => Ok(builder.assert_zero(x)?),
-        "assert_one" => Ok(builder.assert_one(x)?),
-        "assert_bool" => Ok(builder.assert_bool(x)?),
-        _ => Err(Fault::Unreadable(Why::NoSuchCall)),
+        "assert_zero" => builder.assert_zero(x),
+        "assert_one" => builder.assert_one(x),
+        _ => builder.assert_bool(x),
     }
 }
 
-// Asserts that two elements are equal.
-fn assert_equal<AB: AirBuilder>(builder: &mut AB, x: &str, y: &str) -> Result<(), Fault>
+// Makes an assertion on one element.
+fn assert_one_of<AB: AirBuilder>(
+    builder: &mut AB,
+    word: &str,
+    elements: &[&str],
+) -> Result<(), Fault>
     requires { AB.ready builder.old }
     ensures { OnOk result (AB.kept builder.old builder.new) }
 {
-    let (x, y) = two_constants::<AB::F, AB::Ring>(builder.ring(), x, y)?;
+    let [x] = elements else {
+        return Err(Fault::Unreadable(Why::NoSuchCall));
+    };
+    let x = constant::<AB::F, AB::Ring>(builder.ring(), *x)?;
+    Ok(assert_one_as(builder, word, x)?)
+}
+
+// Asserts that two elements are equal.
+fn assert_equal<AB: AirBuilder>(builder: &mut AB, elements: &[&str]) -> Result<(), Fault>
+    requires { AB.ready builder.old }
+    ensures { OnOk result (AB.kept builder.old builder.new) }
+{
+    let [x, y] = elements else {
+        return Err(Fault::Unreadable(Why::NoSuchCall));
+    };
+    let (x, y) = two_constants::<AB::F, AB::Ring>(builder.ring(), *x, *y)?;
     Ok(builder.assert_eq(x, y)?)
+}
+
+// The assertion of this word on each element of a list.
+fn assert_each_as<AB: AirBuilder>(
+    builder: &mut AB,
+    word: &str,
+    list: &[AB::Expr],
+) -> Result<(), AirError>
+    requires ready { AB.ready builder.old }
+    requires of_ring { All (AB.Ring.has (AB.ring_of builder.old)) list.now }
+    ensures { OnOk result (AB.kept builder.old builder.new) }
+{
+    match word {
+        "assert_zeros_slice" => builder.assert_zeros_slice(list),
+        _ => builder.assert_bools_slice(list),
+    }
 }
 
 // Makes an assertion on each element of a list.
@@ -45,11 +79,7 @@ fn assert_each<AB: AirBuilder>(
     ensures { OnOk result (AB.kept builder.old builder.new) }
 {
     let list = constants::<AB::F, AB::Ring>(alloc, builder.ring(), list)?;
-    match word {
-        "assert_zeros_slice" => Ok(builder.assert_zeros_slice(&list)?),
-        "assert_bools_slice" => Ok(builder.assert_bools_slice(&list)?),
-        _ => Err(Fault::Unreadable(Why::NoSuchCall)),
-    }
+    Ok(assert_each_as(builder, word, &list)?)
 }
 
 // Asserts that the elements of two lists are equal, of which the words are the first half and the second.
@@ -97,22 +127,37 @@ fn ext_elements<AB: ExtensionBuilder>(
     two_ext_constants::<AB::F, AB::EF, AB::ExtRing>(alloc, builder.ext_ring(), first, second)
 }
 
+// The assertion of this word on an element of the extension.
+fn assert_one_ext_as<AB: ExtensionBuilder>(
+    builder: &mut AB,
+    word: &str,
+    x: AB::ExprEF,
+) -> Result<(), AirError>
+    requires ready { AB.ready builder.old }
+    requires of_ring { AB.ExtRing.has (AB.ext_ring_of builder.old) x }
+    ensures { OnOk result (AB.kept builder.old builder.new) }
+{
+    match word {
+        "assert_zero_ext" => builder.assert_zero_ext(x),
+        _ => builder.assert_one_ext(x),
+    }
+}
+
 // Makes an assertion on one element of the extension.
 fn assert_one_ext_of<AB: ExtensionBuilder>(
     alloc: Global,
     builder: &mut AB,
     word: &str,
-    x: &str,
+    elements: &[&str],
 ) -> Result<(), Fault>
     requires { AB.ready builder.old }
     ensures { OnOk result (AB.kept builder.old builder.new) }
 {
-    let x = ext_element(alloc, builder, x)?;
-    match word {
-        "assert_zero_ext" => Ok(builder.assert_zero_ext(x)?),
-        "assert_one_ext" => Ok(builder.assert_one_ext(x)?),
-        _ => Err(Fault::Unreadable(Why::NoSuchCall)),
-    }
+    let [x] = elements else {
+        return Err(Fault::Unreadable(Why::NoSuchCall));
+    };
+    let x = ext_element(alloc, builder, *x)?;
+    Ok(assert_one_ext_as(builder, word, x)?)
 }
 
 // A list of two elements. (An array of a builder's elements owes a bound on its size, which no clause can give.)
@@ -150,49 +195,88 @@ fn assert_two_ext_of<AB: ExtensionBuilder>(
     alloc: Global,
     builder: &mut AB,
     word: &str,
-    x: &str,
-    y: &str,
+    elements: &[&str],
 ) -> Result<(), Fault>
     requires { AB.ready builder.old }
     ensures { OnOk result (AB.kept builder.old builder.new) }
 {
-    let (x, y) = ext_elements(alloc, builder, x, y)?;
+    let [x, y] = elements else {
+        return Err(Fault::Unreadable(Why::NoSuchCall));
+    };
+    let (x, y) = ext_elements(alloc, builder, *x, *y)?;
     Ok(assert_ext_pair(alloc, builder, word, x, y)?)
+}
+
+// The assertion of this word on an element, under a name.
+fn assert_one_named_as<AB: NamedAirBuilder, N: Namespace>(
+    builder: &mut AB,
+    word: &str,
+    x: AB::Expr,
+    name: N,
+) -> Result<(), AirError>
+    requires ready { AB.ready builder.old }
+    requires of_ring { AB.Ring.has (AB.ring_of builder.old) x }
+    requires can_evaluate { N.can_evaluate name }
+    ensures { OnOk result (AB.kept builder.old builder.new) }
+{
+    match word {
+        "assert_zero_named" => builder.assert_zero_named(x, name),
+        "assert_one_named" => builder.assert_one_named(x, name),
+        _ => builder.assert_bool_named(x, name),
+    }
 }
 
 // Makes an assertion on one element under a name.
 fn assert_one_named_of<AB: NamedAirBuilder, N: Namespace>(
     builder: &mut AB,
     word: &str,
-    x: &str,
+    elements: &[&str],
     name: N,
 ) -> Result<(), Fault>
     requires ready { AB.ready builder.old }
     requires can_evaluate { N.can_evaluate name }
     ensures { OnOk result (AB.kept builder.old builder.new) }
 {
-    let x = constant::<AB::F, AB::Ring>(builder.ring(), x)?;
-    match word {
-        "assert_zero_named" => Ok(builder.assert_zero_named(x, name)?),
-        "assert_one_named" => Ok(builder.assert_one_named(x, name)?),
-        "assert_bool_named" => Ok(builder.assert_bool_named(x, name)?),
-        _ => Err(Fault::Unreadable(Why::NoSuchCall)),
-    }
+    let [x] = elements else {
+        return Err(Fault::Unreadable(Why::NoSuchCall));
+    };
+    let x = constant::<AB::F, AB::Ring>(builder.ring(), *x)?;
+    Ok(assert_one_named_as(builder, word, x, name)?)
 }
 
 // Asserts that two elements are equal, under a name.
 fn assert_equal_named<AB: NamedAirBuilder, N: Namespace>(
     builder: &mut AB,
-    x: &str,
-    y: &str,
+    elements: &[&str],
     name: N,
 ) -> Result<(), Fault>
     requires ready { AB.ready builder.old }
     requires can_evaluate { N.can_evaluate name }
     ensures { OnOk result (AB.kept builder.old builder.new) }
 {
-    let (x, y) = two_constants::<AB::F, AB::Ring>(builder.ring(), x, y)?;
+    let [x, y] = elements else {
+        return Err(Fault::Unreadable(Why::NoSuchCall));
+    };
+    let (x, y) = two_constants::<AB::F, AB::Ring>(builder.ring(), *x, *y)?;
     Ok(builder.assert_eq_named(x, y, name)?)
+}
+
+// The assertion of this word on each element of a list, under a name.
+fn assert_each_named_as<AB: NamedAirBuilder, N: Namespace>(
+    builder: &mut AB,
+    word: &str,
+    list: &[AB::Expr],
+    name: N,
+) -> Result<(), AirError>
+    requires ready { AB.ready builder.old }
+    requires of_ring { All (AB.Ring.has (AB.ring_of builder.old)) list.now }
+    requires can_evaluate { N.can_evaluate name }
+    ensures { OnOk result (AB.kept builder.old builder.new) }
+{
+    match word {
+        "assert_zeros_named_slice" => builder.assert_zeros_named_slice(list, name),
+        _ => builder.assert_bools_named_slice(list, name),
+    }
 }
 
 // Makes an assertion on each element of a list, under a name.
@@ -208,10 +292,24 @@ fn assert_each_named<AB: NamedAirBuilder, N: Namespace>(
     ensures { OnOk result (AB.kept builder.old builder.new) }
 {
     let list = constants::<AB::F, AB::Ring>(alloc, builder.ring(), list)?;
+    Ok(assert_each_named_as(builder, word, &list, name)?)
+}
+
+// The assertion of this word on an element of the extension, under a name.
+fn assert_one_ext_named_as<AB: NamedExtensionBuilder, N: Namespace>(
+    builder: &mut AB,
+    word: &str,
+    x: AB::ExprEF,
+    name: N,
+) -> Result<(), AirError>
+    requires ready { AB.ready builder.old }
+    requires of_ring { AB.ExtRing.has (AB.ext_ring_of builder.old) x }
+    requires can_evaluate { N.can_evaluate name }
+    ensures { OnOk result (AB.kept builder.old builder.new) }
+{
     match word {
-        "assert_zeros_named_slice" => Ok(builder.assert_zeros_named_slice(&list, name)?),
-        "assert_bools_named_slice" => Ok(builder.assert_bools_named_slice(&list, name)?),
-        _ => Err(Fault::Unreadable(Why::NoSuchCall)),
+        "assert_zero_ext_named" => builder.assert_zero_ext_named(x, name),
+        _ => builder.assert_one_ext_named(x, name),
     }
 }
 
@@ -220,35 +318,60 @@ fn assert_one_ext_named_of<AB: NamedExtensionBuilder, N: Namespace>(
     alloc: Global,
     builder: &mut AB,
     word: &str,
-    x: &str,
+    elements: &[&str],
     name: N,
 ) -> Result<(), Fault>
     requires ready { AB.ready builder.old }
     requires can_evaluate { N.can_evaluate name }
     ensures { OnOk result (AB.kept builder.old builder.new) }
 {
-    let x = ext_element(alloc, builder, x)?;
-    match word {
-        "assert_zero_ext_named" => Ok(builder.assert_zero_ext_named(x, name)?),
-        "assert_one_ext_named" => Ok(builder.assert_one_ext_named(x, name)?),
-        _ => Err(Fault::Unreadable(Why::NoSuchCall)),
-    }
+    let [x] = elements else {
+        return Err(Fault::Unreadable(Why::NoSuchCall));
+    };
+    let x = ext_element(alloc, builder, *x)?;
+    Ok(assert_one_ext_named_as(builder, word, x, name)?)
 }
 
 // Asserts that two elements of the extension are equal, under a name.
 fn assert_eq_ext_named_of<AB: NamedExtensionBuilder, N: Namespace>(
     alloc: Global,
     builder: &mut AB,
-    x: &str,
-    y: &str,
+    elements: &[&str],
     name: N,
 ) -> Result<(), Fault>
     requires ready { AB.ready builder.old }
     requires can_evaluate { N.can_evaluate name }
     ensures { OnOk result (AB.kept builder.old builder.new) }
 {
-    let (x, y) = ext_elements(alloc, builder, x, y)?;
+    let [x, y] = elements else {
+        return Err(Fault::Unreadable(Why::NoSuchCall));
+    };
+    let (x, y) = ext_elements(alloc, builder, *x, *y)?;
     Ok(builder.assert_eq_ext_named(x, y, name)?)
+}
+
+// Makes an assertion on elements of the base under a name.
+fn assert_named_base<AB: NamedAirBuilder, N: Namespace>(
+    alloc: Global,
+    builder: &mut AB,
+    word: &str,
+    elements: &[&str],
+    name: N,
+) -> Result<(), Fault>
+    requires ready { AB.ready builder.old }
+    requires can_evaluate { N.can_evaluate name }
+    ensures { OnOk result (AB.kept builder.old builder.new) }
+{
+    match word {
+        "assert_eq_named" => assert_equal_named(builder, elements, name),
+        "assert_zeros_named_slice" | "assert_bools_named_slice" => {
+            assert_each_named(alloc, builder, word, elements, name)
+        }
+        "assert_zero_named" | "assert_one_named" | "assert_bool_named" => {
+            assert_one_named_of(builder, word, elements, name)
+        }
+        _ => Err(Fault::Unreadable(Why::NoSuchCall)),
+    }
 }
 
 // Makes an assertion under a name.
@@ -262,18 +385,15 @@ fn assert_under_name<AB: NamedExtensionBuilder, N: Namespace>(
     requires can_evaluate { N.can_evaluate name }
     ensures { OnOk result (AB.kept builder.old builder.new) }
 {
-    match call {
-        ["assert_eq_ext_named", x, y] => assert_eq_ext_named_of(alloc, builder, *x, *y, name),
-        [word @ ("assert_zero_ext_named" | "assert_one_ext_named"), x] => {
-            assert_one_ext_named_of(alloc, builder, *word, *x, name)
+    let [word, elements @ ..] = call else {
+        return Err(Fault::Unreadable(Why::NoSuchCall));
+    };
+    match *word {
+        "assert_zero_ext_named" | "assert_one_ext_named" => {
+            assert_one_ext_named_of(alloc, builder, *word, elements, name)
         }
-        ["assert_eq_named", x, y] => assert_equal_named(builder, *x, *y, name),
-        [
-            word @ ("assert_zeros_named_slice" | "assert_bools_named_slice"),
-            list @ ..,
-        ] => assert_each_named(alloc, builder, *word, list, name),
-        [word, x] => assert_one_named_of(builder, *word, *x, name),
-        _ => Err(Fault::Unreadable(Why::NoSuchCall)),
+        "assert_eq_ext_named" => assert_eq_ext_named_of(alloc, builder, elements, name),
+        _ => assert_named_base(alloc, builder, *word, elements, name),
     }
 }
 
@@ -289,8 +409,27 @@ fn words_before_name(call: &[&str]) -> usize {
     count
 }
 
+// Makes an assertion on elements of the base that has no name.
+fn assert_bare_base<AB: AirBuilder>(
+    alloc: Global,
+    builder: &mut AB,
+    word: &str,
+    elements: &[&str],
+) -> Result<(), Fault>
+    requires { AB.ready builder.old }
+    ensures { OnOk result (AB.kept builder.old builder.new) }
+{
+    match word {
+        "assert_eq" => assert_equal(builder, elements),
+        "assert_eq_slices" => assert_lists(alloc, builder, elements),
+        "assert_zeros_slice" | "assert_bools_slice" => assert_each(alloc, builder, word, elements),
+        "assert_zero" | "assert_one" | "assert_bool" => assert_one_of(builder, word, elements),
+        _ => Err(Fault::Unreadable(Why::NoSuchCall)),
+    }
+}
+
 // Makes an assertion that has no name.
-fn assert_bare<AB: NamedExtensionBuilder>(
+fn assert_bare<AB: ExtensionBuilder>(
     alloc: Global,
     builder: &mut AB,
     call: &[&str],
@@ -298,21 +437,15 @@ fn assert_bare<AB: NamedExtensionBuilder>(
     requires { AB.ready builder.old }
     ensures { OnOk result (AB.kept builder.old builder.new) }
 {
-    match call {
-        [word @ ("assert_eq_ext" | "assert_zeros_ext_slice"), x, y] => {
-            assert_two_ext_of(alloc, builder, *word, *x, *y)
+    let [word, elements @ ..] = call else {
+        return Err(Fault::Unreadable(Why::NoSuchCall));
+    };
+    match *word {
+        "assert_zero_ext" | "assert_one_ext" => assert_one_ext_of(alloc, builder, *word, elements),
+        "assert_eq_ext" | "assert_zeros_ext_slice" => {
+            assert_two_ext_of(alloc, builder, *word, elements)
         }
-        [word @ ("assert_zero_ext" | "assert_one_ext"), x] => {
-            assert_one_ext_of(alloc, builder, *word, *x)
-        }
-        ["assert_eq", x, y] => assert_equal(builder, *x, *y),
-        ["assert_eq_slices", lists @ ..] => assert_lists(alloc, builder, lists),
-        [
-            word @ ("assert_zeros_slice" | "assert_bools_slice"),
-            list @ ..,
-        ] => assert_each(alloc, builder, *word, list),
-        [word, x] => assert_one_of(builder, *word, *x),
-        _ => Err(Fault::Unreadable(Why::NoSuchCall)),
+        _ => assert_bare_base(alloc, builder, *word, elements),
     }
 }
 

@@ -52,31 +52,43 @@ fn assert_when_ne<AB: NamedExtensionBuilder>(
     Ok(assert_on(alloc, &mut filter, call)?)
 }
 
-// Makes an assertion on the rows that a selector names.
-fn assert_on_rows<AB: NamedExtensionBuilder>(
+// Makes an assertion on the first row.
+fn assert_on_first_row<AB: NamedExtensionBuilder>(
     alloc: Global,
     builder: &mut AB,
-    selector: &str,
     call: &[&str],
 ) -> Result<(), Fault>
     requires { AB.ready builder.old }
     ensures { OnOk result (AB.kept builder.old builder.new) }
 {
-    match selector {
-        "when_first_row" => {
-            let mut filter = builder.when_first_row()?;
-            Ok(assert_on(alloc, &mut filter, call)?)
-        }
-        "when_last_row" => {
-            let mut filter = builder.when_last_row()?;
-            Ok(assert_on(alloc, &mut filter, call)?)
-        }
-        "when_transition" => {
-            let mut filter = builder.when_transition()?;
-            Ok(assert_on(alloc, &mut filter, call)?)
-        }
-        _ => Err(Fault::Unreadable(Why::NoSuchCall)),
-    }
+    let mut filter = builder.when_first_row()?;
+    Ok(assert_on(alloc, &mut filter, call)?)
+}
+
+// Makes an assertion on the last row.
+fn assert_on_last_row<AB: NamedExtensionBuilder>(
+    alloc: Global,
+    builder: &mut AB,
+    call: &[&str],
+) -> Result<(), Fault>
+    requires { AB.ready builder.old }
+    ensures { OnOk result (AB.kept builder.old builder.new) }
+{
+    let mut filter = builder.when_last_row()?;
+    Ok(assert_on(alloc, &mut filter, call)?)
+}
+
+// Makes an assertion on all rows but the last.
+fn assert_on_transition<AB: NamedExtensionBuilder>(
+    alloc: Global,
+    builder: &mut AB,
+    call: &[&str],
+) -> Result<(), Fault>
+    requires { AB.ready builder.old }
+    ensures { OnOk result (AB.kept builder.old builder.new) }
+{
+    let mut filter = builder.when_transition()?;
+    Ok(assert_on(alloc, &mut filter, call)?)
 }
 
 // Makes an assertion on the transitions of windows of two rows.
@@ -88,8 +100,43 @@ fn assert_in_window<AB: NamedExtensionBuilder>(
     requires { AB.ready builder.old }
     ensures { OnOk result (AB.kept builder.old builder.new) }
 {
+    let ["2", call @ ..] = call else {
+        return Err(Fault::Unreadable(Why::NoSuchCall));
+    };
     let mut filter = builder.when_transition_window(2)?;
     Ok(assert_on(alloc, &mut filter, call)?)
+}
+
+// Makes an assertion where the element behind `when` isn't zero.
+fn assert_where<AB: NamedExtensionBuilder>(
+    alloc: Global,
+    builder: &mut AB,
+    call: &[&str],
+) -> Result<(), Fault>
+    requires { AB.ready builder.old }
+    ensures { OnOk result (AB.kept builder.old builder.new) }
+{
+    let [x, call @ ..] = call else {
+        return Err(Fault::Unreadable(Why::NoSuchCall));
+    };
+    let x = constant::<AB::F, AB::Ring>(builder.ring(), *x)?;
+    assert_when(alloc, builder, x, call)
+}
+
+// Makes an assertion where the two elements behind `when_ne` differ.
+fn assert_where_differs<AB: NamedExtensionBuilder>(
+    alloc: Global,
+    builder: &mut AB,
+    call: &[&str],
+) -> Result<(), Fault>
+    requires { AB.ready builder.old }
+    ensures { OnOk result (AB.kept builder.old builder.new) }
+{
+    let [x, y, call @ ..] = call else {
+        return Err(Fault::Unreadable(Why::NoSuchCall));
+    };
+    let (x, y) = two_constants::<AB::F, AB::Ring>(builder.ring(), *x, *y)?;
+    assert_when_ne(alloc, builder, x, y, call)
 }
 
 // Makes an assertion, or makes it on the filter that stands before it.
@@ -101,20 +148,16 @@ fn assert_under<AB: NamedExtensionBuilder>(
     requires { AB.ready builder.old }
     ensures { OnOk result (AB.kept builder.old builder.new) }
 {
-    match call {
-        ["when", x, call @ ..] => {
-            let x = constant::<AB::F, AB::Ring>(builder.ring(), *x)?;
-            Ok(assert_when(alloc, builder, x, call)?)
-        }
-        ["when_ne", x, y, call @ ..] => {
-            let (x, y) = two_constants::<AB::F, AB::Ring>(builder.ring(), *x, *y)?;
-            Ok(assert_when_ne(alloc, builder, x, y, call)?)
-        }
-        ["when_transition_window", "2", call @ ..] => assert_in_window(alloc, builder, call),
-        [
-            word @ ("when_first_row" | "when_last_row" | "when_transition"),
-            call @ ..,
-        ] => { assert_on_rows(alloc, builder, *word, call) }
+    let [word, rest @ ..] = call else {
+        return Err(Fault::Unreadable(Why::NoSuchCall));
+    };
+    match *word {
+        "when" => assert_where(alloc, builder, rest),
+        "when_ne" => assert_where_differs(alloc, builder, rest),
+        "when_transition_window" => assert_in_window(alloc, builder, rest),
+        "when_first_row" => assert_on_first_row(alloc, builder, rest),
+        "when_last_row" => assert_on_last_row(alloc, builder, rest),
+        "when_transition" => assert_on_transition(alloc, builder, rest),
         _ => assert_this(alloc, builder, call),
     }
 }
@@ -134,6 +177,22 @@ fn assert_under_when<AB: NamedExtensionBuilder>(
     Ok(assert_under(alloc, &mut filter, call)?)
 }
 
+// Makes an assertion on the filter of `when`, or on one over it.
+fn assert_under_first<AB: NamedExtensionBuilder>(
+    alloc: Global,
+    builder: &mut AB,
+    call: &[&str],
+) -> Result<(), Fault>
+    requires { AB.ready builder.old }
+    ensures { OnOk result (AB.kept builder.old builder.new) }
+{
+    let [x, call @ ..] = call else {
+        return Err(Fault::Unreadable(Why::NoSuchCall));
+    };
+    let x = constant::<AB::F, AB::Ring>(builder.ring(), *x)?;
+    assert_under_when(alloc, builder, x, call)
+}
+
 // Makes an assertion, or makes it on the one or two filters that stand before it.
 fn assert_under_both<AB: NamedExtensionBuilder>(
     alloc: Global,
@@ -144,10 +203,7 @@ fn assert_under_both<AB: NamedExtensionBuilder>(
     ensures { OnOk result (AB.kept builder.old builder.new) }
 {
     match call {
-        ["when", x, call @ ..] => {
-            let x = constant::<AB::F, AB::Ring>(builder.ring(), *x)?;
-            Ok(assert_under_when(alloc, builder, x, call)?)
-        }
+        ["when", call @ ..] => assert_under_first(alloc, builder, call),
         _ => assert_under(alloc, builder, call),
     }
 }
