@@ -60,6 +60,20 @@ fn with_periodic<F: Field>(alloc: Global, words: &[&str]) -> Result<Said<F>, Fau
     })
 }
 
+// A table, if it has columns.
+fn table_of<F: Field>(
+    alloc: Global,
+    width: &str,
+    values: &str,
+) -> Result<Option<RowMajorMatrix<F>>, Fault> {
+    let width = count_of(width)?;
+    if width == 0 {
+        return Ok(None);
+    }
+    let values = listed_elements(alloc, values)?;
+    Ok(Some(RowMajorMatrix::new(values, width)?))
+}
+
 // A table, if it has columns, and cells.
 fn with_table<F: Field>(
     alloc: Global,
@@ -67,25 +81,16 @@ fn with_table<F: Field>(
     values: &str,
     cells: &[&str],
 ) -> Result<Said<F>, Fault> {
-    let width = count_of(width)?;
-    let table = if width == 0 {
-        None
-    } else {
-        Some(RowMajorMatrix::new(listed_elements(alloc, values)?, width)?)
-    };
+    let table = table_of(alloc, width, values)?;
+    let cells = cells_of(alloc, cells)?;
     Ok(Said {
         table,
         periodic: Vec::new(alloc),
-        cells: cells_of(alloc, cells)?,
+        cells,
     })
 }
 
-// Adds the rows of the matrix of periodic columns.
-fn show_matrix<F: Number>(alloc: Global, air: &Said<F>, text: &mut String) -> Result<(), Fault> {
-    let Some(matrix) = air.periodic_columns_matrix(alloc)? else {
-        text.push_str("None")?;
-        return Ok(());
-    };
+fn show_rows<F: Number>(matrix: &RowMajorMatrix<F>, text: &mut String) -> Result<(), Fault> {
     let (width, height) = (matrix.width(), matrix.height());
     write!(text, "width {width} height {height}")?;
     for row in 0..height {
@@ -97,6 +102,39 @@ fn show_matrix<F: Number>(alloc: Global, air: &Said<F>, text: &mut String) -> Re
     Ok(())
 }
 
+// Adds the rows of the matrix of periodic columns.
+fn show_matrix<F: Number>(alloc: Global, air: &Said<F>, text: &mut String) -> Result<(), Fault> {
+    match air.periodic_columns_matrix(alloc)? {
+        Some(matrix) => show_rows(&matrix, text),
+        None => Ok(text.push_str("None")?),
+    }
+}
+
+fn show_count(count: usize, text: &mut String) -> Result<(), Fault> {
+    write!(text, "{count}")?;
+    Ok(())
+}
+
+fn show_hint(hint: Option<usize>, text: &mut String) -> Result<(), Fault> {
+    write!(text, "{hint:?}")?;
+    Ok(())
+}
+
+fn show_truth(truth: bool, text: &mut String) -> Result<(), Fault> {
+    write!(text, "{truth}")?;
+    Ok(())
+}
+
+fn show_columns(columns: &[usize], text: &mut String) -> Result<(), Fault> {
+    write!(text, "{columns:?}")?;
+    Ok(())
+}
+
+fn show_cells(cells: &[BoundaryPublic], text: &mut String) -> Result<(), Fault> {
+    write!(text, "{cells:?}")?;
+    Ok(())
+}
+
 /// Adds what an AIR says that leaves all answers as they are.
 pub fn show_said<F: Field, A: BaseAir<F>>(
     alloc: Global,
@@ -105,69 +143,84 @@ pub fn show_said<F: Field, A: BaseAir<F>>(
     text: &mut String,
 ) -> Result<(), Fault> {
     match call {
-        "width" => {
-            let width = air.width();
-            write!(text, "{width}")?;
-        }
-        "num_public_values" => {
-            let count = air.num_public_values();
-            write!(text, "{count}")?;
-        }
-        "preprocessed_width" => {
-            let width = air.preprocessed_width();
-            write!(text, "{width}")?;
-        }
-        "num_constraints" => {
-            let count = air.num_constraints();
-            write!(text, "{count:?}")?;
-        }
-        "max_constraint_degree" => {
-            let degree = air.max_constraint_degree();
-            write!(text, "{degree:?}")?;
-        }
-        "assumes_boolean_trace" => {
-            let assumes = air.assumes_boolean_trace();
-            write!(text, "{assumes}")?;
-        }
-        "main_next_row_columns" => {
-            let columns = air.main_next_row_columns(alloc)?;
-            write!(text, "{columns:?}")?;
-        }
+        "width" => show_count(air.width(), text),
+        "num_public_values" => show_count(air.num_public_values(), text),
+        "preprocessed_width" => show_count(air.preprocessed_width(), text),
+        "num_constraints" => show_hint(air.num_constraints(), text),
+        "max_constraint_degree" => show_hint(air.max_constraint_degree(), text),
+        "assumes_boolean_trace" => show_truth(air.assumes_boolean_trace(), text),
+        "main_next_row_columns" => show_columns(&air.main_next_row_columns(alloc)?, text),
         "preprocessed_next_row_columns" => {
-            let columns = air.preprocessed_next_row_columns(alloc)?;
-            write!(text, "{columns:?}")?;
+            show_columns(&air.preprocessed_next_row_columns(alloc)?, text)
         }
-        "public_boundary_io" => {
-            let cells = air.public_boundary_io();
-            write!(text, "{cells:?}")?;
-        }
-        _ => return Err(Fault::Unreadable(Why::NoSuchCall)),
+        "public_boundary_io" => show_cells(air.public_boundary_io(), text),
+        _ => Err(Fault::Unreadable(Why::NoSuchCall)),
     }
-    Ok(())
+}
+
+// Adds the values of the periodic columns at a row.
+fn show_values<F: Number>(
+    alloc: Global,
+    air: &Said<F>,
+    row: &str,
+    text: &mut String,
+) -> Result<(), Fault> {
+    let values = air.periodic_values(alloc, count_of(row)?)?;
+    show_elements(&values, text)
+}
+
+fn periodic_values<F: Number>(
+    alloc: Global,
+    given: &[&str],
+    text: &mut String,
+) -> Result<(), Fault> {
+    let [row, columns @ ..] = given else {
+        return Err(Fault::Unreadable(Why::NoSuchCall));
+    };
+    let air: Said<F> = with_periodic(alloc, columns)?;
+    show_values(alloc, &air, *row, text)
+}
+
+fn periodic_columns_matrix<F: Number>(
+    alloc: Global,
+    columns: &[&str],
+    text: &mut String,
+) -> Result<(), Fault> {
+    let air: Said<F> = with_periodic(alloc, columns)?;
+    show_matrix(alloc, &air, text)
+}
+
+fn num_periodic_columns<F: Number>(
+    alloc: Global,
+    columns: &[&str],
+    text: &mut String,
+) -> Result<(), Fault> {
+    let air: Said<F> = with_periodic(alloc, columns)?;
+    show_count(air.num_periodic_columns(), text)
+}
+
+fn of_table<F: Number>(
+    alloc: Global,
+    word: &str,
+    given: &[&str],
+    text: &mut String,
+) -> Result<(), Fault> {
+    let ["of", width, values, cells @ ..] = given else {
+        return Err(Fault::Unreadable(Why::NoSuchCall));
+    };
+    let air: Said<F> = with_table(alloc, *width, *values, cells)?;
+    show_said(alloc, &air, word, text)
 }
 
 /// Adds what an AIR says, of periodic columns or of a table.
 pub fn air<F: Number>(alloc: Global, call: &[&str], text: &mut String) -> Result<(), Fault> {
-    match call {
-        ["periodic_values", row, columns @ ..] => {
-            let air: Said<F> = with_periodic(alloc, columns)?;
-            let values = air.periodic_values(alloc, count_of(*row)?)?;
-            show_elements(values.as_slice(), text)
-        }
-        ["periodic_columns_matrix", columns @ ..] => {
-            let air: Said<F> = with_periodic(alloc, columns)?;
-            show_matrix(alloc, &air, text)
-        }
-        ["num_periodic_columns", columns @ ..] => {
-            let air: Said<F> = with_periodic(alloc, columns)?;
-            let count = air.num_periodic_columns();
-            write!(text, "{count}")?;
-            Ok(())
-        }
-        [word, "of", width, values, cells @ ..] => {
-            let air: Said<F> = with_table(alloc, *width, *values, cells)?;
-            show_said(alloc, &air, *word, text)
-        }
-        _ => Err(Fault::Unreadable(Why::NoSuchCall)),
+    let [word, given @ ..] = call else {
+        return Err(Fault::Unreadable(Why::NoSuchCall));
+    };
+    match *word {
+        "periodic_values" => periodic_values::<F>(alloc, given, text),
+        "periodic_columns_matrix" => periodic_columns_matrix::<F>(alloc, given, text),
+        "num_periodic_columns" => num_periodic_columns::<F>(alloc, given, text),
+        word => of_table::<F>(alloc, word, given, text),
     }
 }

@@ -1,5 +1,6 @@
 //! Calls of bits and limbs.
 
+use air_builder::AirError;
 use air_field::{BabyBear, FieldRing};
 use air_gadgets::utils::{
     checked_andn, checked_xor, pack_bits_le, u32_to_bits_le, u64_to_16_bit_limbs, u64_to_bits_le,
@@ -8,37 +9,76 @@ use cases::words::{Number, element_of, elements_of, number_of, show_elements};
 use cases::{Fault, Why};
 use std::alloc::Global;
 
+fn packed<F: Number>(bits: &[F]) -> Result<F, AirError> {
+    let mut ring = FieldRing::<F>::new();
+    pack_bits_le(&mut ring, bits)
+}
+
+fn of_bits<F: Number>(alloc: Global, word: &str, bits: &[&str]) -> Result<F, Fault> {
+    let bits: Vec<F> = elements_of(alloc, bits)?;
+    match word {
+        "pack_bits_le" => Ok(packed(&bits)?),
+        _ => Ok(checked_xor(&bits)),
+    }
+}
+
+fn of_two<F: Number>(given: &[&str]) -> Result<F, Fault> {
+    let [x, y] = given else {
+        return Err(Fault::Unreadable(Why::NoSuchCall));
+    };
+    let x: F = element_of(*x)?;
+    Ok(checked_andn(x, element_of(*y)?))
+}
+
 // The element that a call makes of bits.
-fn made<F: Number>(alloc: Global, call: &[&str]) -> Result<F, Fault> {
-    match call {
-        ["pack_bits_le", bits @ ..] => {
-            let bits: Vec<F> = elements_of(alloc, bits)?;
-            Ok(pack_bits_le(&mut FieldRing::<F>::new(), bits.as_slice())?)
-        }
-        ["checked_xor", bits @ ..] => {
-            let bits: Vec<F> = elements_of(alloc, bits)?;
-            Ok(checked_xor(bits.as_slice()))
-        }
-        ["checked_andn", x, y] => Ok(checked_andn(element_of(*x)?, element_of(*y)?)),
+fn made<F: Number>(alloc: Global, word: &str, given: &[&str]) -> Result<F, Fault> {
+    match word {
+        "pack_bits_le" | "checked_xor" => of_bits(alloc, word, given),
+        "checked_andn" => of_two(given),
         _ => Err(Fault::Unreadable(Why::NoSuchCall)),
     }
+}
+
+fn show_made<F: Number>(
+    alloc: Global,
+    word: &str,
+    given: &[&str],
+    text: &mut String,
+) -> Result<(), Fault> {
+    let made: F = made(alloc, word, given)?;
+    let number = made.number();
+    write!(text, "{number}")?;
+    Ok(())
+}
+
+fn show_numbers(elements: &[BabyBear], text: &mut String) -> Result<(), Fault> {
+    show_elements(elements, text)
+}
+
+fn show_bits_of_32(n: &str, text: &mut String) -> Result<(), Fault> {
+    match n.parse::<u32>() {
+        Ok(n) => show_numbers(&u32_to_bits_le(n), text),
+        Err(_) => Err(Fault::Unreadable(Why::NoNumber)),
+    }
+}
+
+fn show_bits_of_64(n: &str, text: &mut String) -> Result<(), Fault> {
+    let n = number_of(n)?;
+    show_numbers(&u64_to_bits_le(n), text)
+}
+
+fn show_limbs(n: &str, text: &mut String) -> Result<(), Fault> {
+    let n = number_of(n)?;
+    show_numbers(&u64_to_16_bit_limbs(n), text)
 }
 
 /// Adds what a call answers.
 pub fn utils(alloc: Global, call: &[&str], text: &mut String) -> Result<(), Fault> {
     match call {
-        ["u32_to_bits_le", n] => match (*n).parse::<u32>() {
-            Ok(n) => show_elements(&u32_to_bits_le::<BabyBear>(n), text),
-            Err(_) => Err(Fault::Unreadable(Why::NoNumber)),
-        },
-        ["u64_to_bits_le", n] => show_elements(&u64_to_bits_le::<BabyBear>(number_of(*n)?), text),
-        ["u64_to_16_bit_limbs", n] => {
-            show_elements(&u64_to_16_bit_limbs::<BabyBear>(number_of(*n)?), text)
-        }
-        _ => {
-            let number = made::<BabyBear>(alloc, call)?.number();
-            write!(text, "{number}")?;
-            Ok(())
-        }
+        ["u32_to_bits_le", n] => show_bits_of_32(*n, text),
+        ["u64_to_bits_le", n] => show_bits_of_64(*n, text),
+        ["u64_to_16_bit_limbs", n] => show_limbs(*n, text),
+        [word, given @ ..] => show_made::<BabyBear>(alloc, *word, given, text),
+        [] => Err(Fault::Unreadable(Why::NoSuchCall)),
     }
 }

@@ -15,68 +15,111 @@ fn column_of(word: &str) -> Result<PairCol, Fault> {
     }
 }
 
-/// Adds what a call of a single column answers.
-pub fn pair_col<F: Number>(alloc: Global, call: &[&str], text: &mut String) -> Result<(), Fault> {
-    match call {
-        ["in_range", column, preprocessed, main] => {
-            let inside = column_of(*column)?.in_range(count_of(*preprocessed)?, count_of(*main)?);
-            write!(text, "{inside}")?;
-        }
-        ["get", column, preprocessed, main] => {
-            let column = column_of(*column)?;
-            let preprocessed: Vec<F> = listed_elements(alloc, *preprocessed)?;
-            let main = listed_elements(alloc, *main)?;
-            if !column.in_range(preprocessed.len(), main.len()) {
-                return Err(Fault::Unreadable(Why::OtherShape));
-            }
-            let number = column
-                .get(preprocessed.as_slice(), main.as_slice())
-                .number();
-            write!(text, "{number}")?;
-        }
-        _ => return Err(Fault::Unreadable(Why::NoSuchCall)),
-    }
+fn show_in_range(given: &[&str], text: &mut String) -> Result<(), Fault> {
+    let [column, preprocessed, main] = given else {
+        return Err(Fault::Unreadable(Why::NoSuchCall));
+    };
+    let column = column_of(*column)?;
+    let preprocessed = count_of(*preprocessed)?;
+    let inside = column.in_range(preprocessed, count_of(*main)?);
+    write!(text, "{inside}")?;
     Ok(())
 }
 
-// Columns of either trace with their weights.
+// Adds the element of a column of these rows.
+fn show_found<F: Number>(
+    column: PairCol,
+    preprocessed: &[F],
+    main: &[F],
+    text: &mut String,
+) -> Result<(), Fault> {
+    if !column.in_range(preprocessed.len(), main.len()) {
+        return Err(Fault::Unreadable(Why::OtherShape));
+    }
+    let number = column.get(preprocessed, main).number();
+    write!(text, "{number}")?;
+    Ok(())
+}
+
+fn show_element<F: Number>(alloc: Global, given: &[&str], text: &mut String) -> Result<(), Fault> {
+    let [column, preprocessed, main] = given else {
+        return Err(Fault::Unreadable(Why::NoSuchCall));
+    };
+    let column = column_of(*column)?;
+    let preprocessed: Vec<F> = listed_elements(alloc, *preprocessed)?;
+    let main: Vec<F> = listed_elements(alloc, *main)?;
+    show_found(column, &preprocessed, &main, text)
+}
+
+/// Adds what a call of a single column answers.
+pub fn pair_col<F: Number>(alloc: Global, call: &[&str], text: &mut String) -> Result<(), Fault> {
+    let [word, given @ ..] = call else {
+        return Err(Fault::Unreadable(Why::NoSuchCall));
+    };
+    match *word {
+        "in_range" => show_in_range(given, text),
+        "get" => show_element::<F>(alloc, given, text),
+        _ => Err(Fault::Unreadable(Why::NoSuchCall)),
+    }
+}
+
+// A column of either trace with its weight.
+fn weighted_column<F: Field>(word: &str) -> Result<(PairCol, F), Fault> {
+    let Some((column, weight)) = word.rsplit_once(':') else {
+        return Err(Fault::Unreadable(Why::NoSuchWord));
+    };
+    let column = column_of(column)?;
+    Ok((column, element_of(weight)?))
+}
+
 fn weighted<F: Field>(alloc: Global, words: &[&str]) -> Result<Vec<(PairCol, F)>, Fault> {
     let mut all = Vec::new(alloc);
     for word in words {
-        match (*word).rsplit_once(':') {
-            Some((column, weight)) => all.push((column_of(column)?, element_of(weight)?))?,
-            None => return Err(Fault::Unreadable(Why::NoSuchWord)),
-        }
+        all.push(weighted_column(*word)?)?;
     }
     Ok(all)
 }
 
-// Columns of one trace with their weights.
-fn weighted_here<F: Field>(alloc: Global, words: &[&str]) -> Result<Vec<(usize, F)>, Fault> {
+// A column of one trace with its weight.
+fn weighted_here<F: Field>(word: &str) -> Result<(usize, F), Fault> {
+    let Some((column, weight)) = word.split_once(':') else {
+        return Err(Fault::Unreadable(Why::NoSuchWord));
+    };
+    let column = count_of(column)?;
+    Ok((column, element_of(weight)?))
+}
+
+fn all_weighted_here<F: Field>(alloc: Global, words: &[&str]) -> Result<Vec<(usize, F)>, Fault> {
     let mut all = Vec::new(alloc);
     for word in words {
-        match (*word).split_once(':') {
-            Some((column, weight)) => all.push((count_of(column)?, element_of(weight)?))?,
-            None => return Err(Fault::Unreadable(Why::NoSuchWord)),
-        }
+        all.push(weighted_here(*word)?)?;
     }
     Ok(all)
 }
 
-// The virtual column of columns with weights, and of a constant.
-fn newly<F: Field>(
+// The virtual column of columns of one trace with weights, and of a constant.
+fn newly_here<F: Field>(
     alloc: Global,
     word: &str,
     c: F,
     all: &[&str],
 ) -> Result<VirtualPairCol<F>, Fault> {
+    let all: Vec<(usize, F)> = all_weighted_here(alloc, all)?;
     match word {
-        "new_main" => Ok(VirtualPairCol::new_main(alloc, weighted_here(alloc, all)?, c)?),
-        "new_preprocessed" => {
-            Ok(VirtualPairCol::new_preprocessed(alloc, weighted_here(alloc, all)?, c)?)
-        }
+        "new_main" => Ok(VirtualPairCol::new_main(alloc, all, c)?),
+        _ => Ok(VirtualPairCol::new_preprocessed(alloc, all, c)?),
+    }
+}
+
+// The virtual column of columns with weights, and of a constant.
+fn newly<F: Field>(alloc: Global, word: &str, given: &[&str]) -> Result<VirtualPairCol<F>, Fault> {
+    let [c, all @ ..] = given else {
+        return Err(Fault::Unreadable(Why::NoSuchCall));
+    };
+    let c: F = element_of(*c)?;
+    match word {
         "new" => Ok(VirtualPairCol::new(weighted(alloc, all)?, c)),
-        _ => Err(Fault::Unreadable(Why::NoSuchCall)),
+        _ => newly_here(alloc, word, c, all),
     }
 }
 
@@ -84,13 +127,33 @@ fn newly<F: Field>(
 fn difference<F: Field>(
     alloc: Global,
     word: &str,
-    x: usize,
-    y: usize,
+    x: &str,
+    y: &str,
 ) -> Result<VirtualPairCol<F>, Fault> {
+    let x = count_of(x)?;
+    let y = count_of(y)?;
     match word {
         "diff_main" => Ok(VirtualPairCol::diff_main(alloc, x, y)?),
         "diff_preprocessed" => Ok(VirtualPairCol::diff_preprocessed(alloc, x, y)?),
         _ => Err(Fault::Unreadable(Why::NoSuchCall)),
+    }
+}
+
+// The virtual column of one column of the trace that the word names.
+fn single_here<F: Field>(alloc: Global, word: &str, x: &str) -> Result<VirtualPairCol<F>, Fault> {
+    let x = count_of(x)?;
+    match word {
+        "single_main" => Ok(VirtualPairCol::single_main(alloc, x)?),
+        _ => Ok(VirtualPairCol::single_preprocessed(alloc, x)?),
+    }
+}
+
+// The virtual column of the sum of some of them.
+fn sum_here<F: Field>(alloc: Global, word: &str, all: &str) -> Result<VirtualPairCol<F>, Fault> {
+    let all = counts_of(alloc, all)?;
+    match word {
+        "sum_main" => Ok(VirtualPairCol::sum_main(alloc, all)?),
+        _ => Ok(VirtualPairCol::sum_preprocessed(alloc, all)?),
     }
 }
 
@@ -99,27 +162,54 @@ fn of_word<F: Field>(alloc: Global, word: &str, x: &str) -> Result<VirtualPairCo
     match word {
         "constant" => Ok(VirtualPairCol::constant(alloc, element_of(x)?)),
         "single" => Ok(VirtualPairCol::single(alloc, column_of(x)?)?),
-        "single_main" => Ok(VirtualPairCol::single_main(alloc, count_of(x)?)?),
-        "single_preprocessed" => Ok(VirtualPairCol::single_preprocessed(alloc, count_of(x)?)?),
-        "sum_main" => Ok(VirtualPairCol::sum_main(alloc, counts_of(alloc, x)?)?),
-        "sum_preprocessed" => Ok(VirtualPairCol::sum_preprocessed(alloc, counts_of(alloc, x)?)?),
+        "single_main" | "single_preprocessed" => single_here(alloc, word, x),
+        "sum_main" | "sum_preprocessed" => sum_here(alloc, word, x),
+        _ => Err(Fault::Unreadable(Why::NoSuchCall)),
+    }
+}
+
+// The virtual column of no word.
+fn of_nothing<F: Field>(alloc: Global, word: &str) -> Result<VirtualPairCol<F>, Fault> {
+    match word {
+        "one" => Ok(VirtualPairCol::one(alloc)),
+        _ => Err(Fault::Unreadable(Why::NoSuchCall)),
+    }
+}
+
+fn of_few<F: Field>(alloc: Global, word: &str, given: &[&str]) -> Result<VirtualPairCol<F>, Fault> {
+    match given {
+        [] => of_nothing(alloc, word),
+        [x] => of_word(alloc, word, *x),
+        [x, y] => difference(alloc, word, *x, *y),
         _ => Err(Fault::Unreadable(Why::NoSuchCall)),
     }
 }
 
 // The virtual column that a call makes.
 fn made<F: Field>(alloc: Global, call: &[&str]) -> Result<VirtualPairCol<F>, Fault> {
-    match call {
-        ["one"] => Ok(VirtualPairCol::one(alloc)),
-        [
-            word @ ("new" | "new_main" | "new_preprocessed"),
-            c,
-            all @ ..,
-        ] => { newly(alloc, *word, element_of(*c)?, all) }
-        [word, x] => of_word(alloc, *word, *x),
-        [word, x, y] => difference(alloc, *word, count_of(*x)?, count_of(*y)?),
-        _ => Err(Fault::Unreadable(Why::NoSuchCall)),
+    let [word, given @ ..] = call else {
+        return Err(Fault::Unreadable(Why::NoSuchCall));
+    };
+    match *word {
+        "new" | "new_main" | "new_preprocessed" => newly(alloc, *word, given),
+        word => of_few(alloc, word, given),
     }
+}
+
+fn show_value<F: Number>(
+    column: &VirtualPairCol<F>,
+    preprocessed: &[F],
+    main: &[F],
+    text: &mut String,
+) -> Result<(), Fault> {
+    if !column.fits(preprocessed.len(), main.len()) {
+        return Err(Fault::Unreadable(Why::OtherShape));
+    }
+    let mut ring = FieldRing::<F>::new();
+    let found = column.apply(&mut ring, preprocessed, main)?;
+    let number = found.number();
+    write!(text, "{number}")?;
+    Ok(())
 }
 
 // Adds the virtual column at these rows.
@@ -132,14 +222,35 @@ fn show_applied<F: Number>(
 ) -> Result<(), Fault> {
     let preprocessed: Vec<F> = listed_elements(alloc, preprocessed)?;
     let main: Vec<F> = listed_elements(alloc, main)?;
-    if !column.fits(preprocessed.len(), main.len()) {
-        return Err(Fault::Unreadable(Why::OtherShape));
-    }
-    let mut ring = FieldRing::<F>::new();
-    let found = column.apply(&mut ring, preprocessed.as_slice(), main.as_slice())?;
-    let number = found.number();
-    write!(text, "{number}")?;
+    show_value(column, &preprocessed, &main, text)
+}
+
+// Adds whether it fits these widths.
+fn show_fits<F: Number>(
+    column: &VirtualPairCol<F>,
+    preprocessed: &str,
+    main: &str,
+    text: &mut String,
+) -> Result<(), Fault> {
+    let preprocessed = count_of(preprocessed)?;
+    let fits = column.fits(preprocessed, count_of(main)?);
+    write!(text, "{fits}")?;
     Ok(())
+}
+
+fn show_call<F: Number>(
+    alloc: Global,
+    column: &VirtualPairCol<F>,
+    word: &str,
+    preprocessed: &str,
+    main: &str,
+    text: &mut String,
+) -> Result<(), Fault> {
+    match word {
+        "fits" => show_fits(column, preprocessed, main, text),
+        "apply" => show_applied(alloc, column, preprocessed, main, text),
+        _ => show_applied(alloc, &column.clone()?, preprocessed, main, text),
+    }
 }
 
 /// Adds what a call of the virtual column answers that the other words make.
@@ -148,21 +259,13 @@ pub fn virtual_pair_col<F: Number>(
     call: &[&str],
     text: &mut String,
 ) -> Result<(), Fault> {
-    match call {
-        ["fits", preprocessed, main, maker @ ..] => {
+    let [word, preprocessed, main, maker @ ..] = call else {
+        return Err(Fault::Unreadable(Why::NoSuchCall));
+    };
+    match *word {
+        "fits" | "apply" | "clone_apply" => {
             let column: VirtualPairCol<F> = made(alloc, maker)?;
-            let fits = column.fits(count_of(*preprocessed)?, count_of(*main)?);
-            write!(text, "{fits}")?;
-            Ok(())
-        }
-        ["apply", preprocessed, main, maker @ ..] => {
-            let column: VirtualPairCol<F> = made(alloc, maker)?;
-            show_applied(alloc, &column, *preprocessed, *main, text)
-        }
-        ["clone_apply", preprocessed, main, maker @ ..] => {
-            let column: VirtualPairCol<F> = made(alloc, maker)?;
-            let copy = column.clone()?;
-            show_applied(alloc, &copy, *preprocessed, *main, text)
+            show_call(alloc, &column, *word, *preprocessed, *main, text)
         }
         _ => Err(Fault::Unreadable(Why::NoSuchCall)),
     }

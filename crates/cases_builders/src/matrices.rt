@@ -10,26 +10,69 @@ pub fn matrix_of(alloc: Global, width: &str, values: &str) -> Result<RowMajorMat
     Ok(RowMajorMatrix::new(counts_of(alloc, values)?, count_of(width)?)?)
 }
 
+fn new(alloc: Global, given: &[&str], text: &mut String) -> Result<(), Fault> {
+    let [width, values] = given else {
+        return Err(Fault::Unreadable(Why::NoSuchCall));
+    };
+    let made = matrix_of(alloc, *width, *values)?;
+    let (width, height) = (made.width(), made.height());
+    write!(text, "width {width} height {height}")?;
+    Ok(())
+}
+
+fn show_element(
+    matrix: &RowMajorMatrix<usize>,
+    row: &str,
+    column: &str,
+    text: &mut String,
+) -> Result<(), Fault> {
+    let row = count_of(row)?;
+    let found = matrix.get(row, count_of(column)?);
+    write!(text, "{found:?}")?;
+    Ok(())
+}
+
+fn get(alloc: Global, given: &[&str], text: &mut String) -> Result<(), Fault> {
+    let [width, values, row, column] = given else {
+        return Err(Fault::Unreadable(Why::NoSuchCall));
+    };
+    show_element(&matrix_of(alloc, *width, *values)?, *row, *column, text)
+}
+
+fn show_row(matrix: &RowMajorMatrix<usize>, row: &str, text: &mut String) -> Result<(), Fault> {
+    let found = matrix.row_slice(count_of(row)?);
+    write!(text, "{found:?}")?;
+    Ok(())
+}
+
+fn row_slice(alloc: Global, given: &[&str], text: &mut String) -> Result<(), Fault> {
+    let [width, values, row] = given else {
+        return Err(Fault::Unreadable(Why::NoSuchCall));
+    };
+    show_row(&matrix_of(alloc, *width, *values)?, *row, text)
+}
+
 /// Adds what a call of a matrix answers.
 pub fn matrix(alloc: Global, call: &[&str], text: &mut String) -> Result<(), Fault> {
-    match call {
-        ["new", width, values] => {
-            let made = matrix_of(alloc, *width, *values)?;
-            let (width, height) = (made.width(), made.height());
-            write!(text, "width {width} height {height}")?;
-        }
-        ["get", width, values, row, column] => {
-            let made = matrix_of(alloc, *width, *values)?;
-            let found = made.get(count_of(*row)?, count_of(*column)?);
-            write!(text, "{found:?}")?;
-        }
-        ["row_slice", width, values, row] => {
-            let made = matrix_of(alloc, *width, *values)?;
-            let found = made.row_slice(count_of(*row)?);
-            write!(text, "{found:?}")?;
-        }
-        _ => return Err(Fault::Unreadable(Why::NoSuchCall)),
+    let [word, given @ ..] = call else {
+        return Err(Fault::Unreadable(Why::NoSuchCall));
+    };
+    match *word {
+        "new" => new(alloc, given, text),
+        "get" => get(alloc, given, text),
+        "row_slice" => row_slice(alloc, given, text),
+        _ => Err(Fault::Unreadable(Why::NoSuchCall)),
     }
+}
+
+fn show_pair(top: &[usize], bottom: &[usize], text: &mut String) -> Result<(), Fault> {
+    if top.len() != bottom.len() {
+        return Err(Fault::Unreadable(Why::OtherShape));
+    }
+    let top = RowMajorMatrixView::new_row(top);
+    let bottom = RowMajorMatrixView::new(bottom, bottom.len());
+    let pair = ViewPair::new(top, bottom);
+    write!(text, "{pair:?}")?;
     Ok(())
 }
 
@@ -38,13 +81,7 @@ pub fn view_pair(alloc: Global, rows: &[&str], text: &mut String) -> Result<(), 
     let [top, bottom] = rows else {
         return Err(Fault::Unreadable(Why::NoSuchCall));
     };
-    let (top, bottom) = (counts_of(alloc, *top)?, counts_of(alloc, *bottom)?);
-    if top.len() != bottom.len() {
-        return Err(Fault::Unreadable(Why::OtherShape));
-    }
-    let top = RowMajorMatrixView::new_row(top.as_slice());
-    let bottom = RowMajorMatrixView::new(bottom.as_slice(), bottom.len());
-    let pair = ViewPair::new(top, bottom);
-    write!(text, "{pair:?}")?;
-    Ok(())
+    let top = counts_of(alloc, *top)?;
+    let bottom = counts_of(alloc, *bottom)?;
+    show_pair(&top, &bottom, text)
 }

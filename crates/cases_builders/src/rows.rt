@@ -68,6 +68,32 @@ fn window_rows<F: Field + 'static, EF: ExtensionField<F> + 'static>() -> usize {
     DebugConstraintBuilder::<'static, F, EF>::WINDOW
 }
 
+fn show_window_rows<F: Field + 'static, EF: ExtensionField<F> + 'static>(
+    text: &mut String,
+) -> Result<(), Fault> {
+    let rows = window_rows::<F, EF>();
+    write!(text, "{rows}")?;
+    Ok(())
+}
+
+fn selectors_of<F: Field>(first: &str, last: &str, transition: &str) -> Result<(F, F, F), Fault> {
+    let first: F = element_of(first)?;
+    let last: F = element_of(last)?;
+    Ok((first, last, element_of(transition)?))
+}
+
+// Adds what fails of the assertions at a row with these selectors.
+fn answer_at_row<F: Field + 'static, EF: ExtensionField<F> + 'static>(
+    alloc: Global,
+    selectors: (F, F, F),
+    words: &[&str],
+    text: &mut String,
+) -> Result<(), Fault> {
+    let mut builder: RowBuilder<'_, F, EF> = row_builder(alloc, &[], &[], selectors);
+    assert_at_row(alloc, &mut builder, words)?;
+    show_failures(&builder, text)
+}
+
 impl<'a, F: Field + 'static, EF: ExtensionField<F> + 'static> Bench<'a> for Rows<F, EF> {
     fn new(alloc: Global) -> Self {
         Rows {
@@ -77,27 +103,14 @@ impl<'a, F: Field + 'static, EF: ExtensionField<F> + 'static> Bench<'a> for Rows
     }
 
     fn answer(&mut self, line: &Line<'a>, text: &mut String) -> Result<(), Fault> {
-        let (selectors, words) = match line.words.as_slice() {
-            ["WINDOW"] => {
-                let rows = window_rows::<F, EF>();
-                write!(text, "{rows}")?;
-                return Ok(());
-            }
+        match line.words.as_slice() {
+            ["WINDOW"] => show_window_rows::<F, EF>(text),
             ["at", first, last, transition, words @ ..] => {
-                let (first, last) = (element_of(*first)?, element_of(*last)?);
-                ((first, last, element_of(*transition)?), words)
+                let selectors = selectors_of(*first, *last, *transition)?;
+                answer_at_row::<F, EF>(self.alloc, selectors, words, text)
             }
-            words => ((F::ONE, F::ONE, F::ONE), words),
-        };
-        let (none, none_over) = (Vec::new(self.alloc), Vec::new(self.alloc));
-        let mut builder: RowBuilder<'_, F, EF> = row_builder(
-            self.alloc,
-            none.as_slice(),
-            none_over.as_slice(),
-            selectors,
-        );
-        assert_at_row(self.alloc, &mut builder, words)?;
-        show_failures(&builder, text)
+            words => answer_at_row::<F, EF>(self.alloc, (F::ONE, F::ONE, F::ONE), words, text),
+        }
     }
 
     fn standing(&self, _text: &mut String) -> Result<(), Fault> {

@@ -38,22 +38,28 @@ pub fn show_tree<F: Number>(
     }
     let (x, operation, y) = match *pool.node(id) {
         SymbolicExpr::Leaf(leaf) => return show_leaf(leaf, text),
-        SymbolicExpr::Neg { x, .. } => {
-            text.push_str("(-")?;
-            show_tree(pool, x, depth - 1, text)?;
-            text.push_str(")")?;
-            return Ok(());
-        }
-        SymbolicExpr::Add { x, y, .. } => (x, " + ", y),
-        SymbolicExpr::Sub { x, y, .. } => (x, " - ", y),
-        SymbolicExpr::Mul { x, y, .. } => (x, " * ", y),
+        SymbolicExpr::Neg { x, .. } => (None, "-", x),
+        SymbolicExpr::Add { x, y, .. } => (Some(x), " + ", y),
+        SymbolicExpr::Sub { x, y, .. } => (Some(x), " - ", y),
+        SymbolicExpr::Mul { x, y, .. } => (Some(x), " * ", y),
     };
     text.push_str("(")?;
-    show_tree(pool, x, depth - 1, text)?;
+    if let Some(x) = x {
+        show_tree(pool, x, depth - 1, text)?;
+    }
     text.push_str(operation)?;
     show_tree(pool, y, depth - 1, text)?;
     text.push_str(")")?;
     Ok(())
+}
+
+// The sum, the difference or the product.
+fn joined<F: Field, EF: ExtensionField<F>>(operation: char, x: EF, y: EF) -> EF {
+    match operation {
+        '+' => x.add(y),
+        '-' => x.sub(y),
+        _ => x.mul(y),
+    }
 }
 
 // The value of an expression over constants alone, to this depth.
@@ -70,23 +76,17 @@ fn value_of<F: Field, EF: ExtensionField<F>>(
     if let Some(c) = pool.as_const(id) {
         return Some(EF::from_base(c));
     }
-    match *pool.node(id) {
-        SymbolicExpr::Leaf(ExtLeaf::ExtConstant(c)) => Some(c),
-        SymbolicExpr::Leaf(_) => None,
-        SymbolicExpr::Neg { x, .. } => Some(value_of(pool, x, depth - 1)?.neg()),
-        SymbolicExpr::Add { x, y, .. } => {
-            let left = value_of(pool, x, depth - 1)?;
-            Some(left.add(value_of(pool, y, depth - 1)?))
-        }
-        SymbolicExpr::Sub { x, y, .. } => {
-            let left = value_of(pool, x, depth - 1)?;
-            Some(left.sub(value_of(pool, y, depth - 1)?))
-        }
-        SymbolicExpr::Mul { x, y, .. } => {
-            let left = value_of(pool, x, depth - 1)?;
-            Some(left.mul(value_of(pool, y, depth - 1)?))
-        }
-    }
+    let (x, operation, y) = match *pool.node(id) {
+        SymbolicExpr::Leaf(ExtLeaf::ExtConstant(c)) => return Some(c),
+        SymbolicExpr::Leaf(_) => return None,
+        SymbolicExpr::Neg { x, .. } => return Some(value_of(pool, x, depth - 1)?.neg()),
+        SymbolicExpr::Add { x, y, .. } => (x, '+', y),
+        SymbolicExpr::Sub { x, y, .. } => (x, '-', y),
+        SymbolicExpr::Mul { x, y, .. } => (x, '*', y),
+    };
+    let left = value_of(pool, x, depth - 1)?;
+    let right = value_of(pool, y, depth - 1)?;
+    Some(joined::<F, EF>(operation, left, right))
 }
 
 /// Adds the value of an expression over constants alone.

@@ -14,7 +14,7 @@ use air_report::{ConstraintReport, check_all_constraints};
 use air_symbolic::{BaseLeaf, ExprId, ExprPool};
 use cases::words::{count_of, element_of, listed_elements};
 use cases::{Fault, Why};
-use p3_air::{finish_recording, recorded_air};
+use p3_air::{FlatAir, finish_recording, recorded_air};
 use std::alloc::Global;
 
 type Column<F> = SymbolicVariable<F>;
@@ -96,18 +96,6 @@ enum Gadget {
 
 type Recorder<F> = SymbolicAirBuilder<F, F>;
 
-// Records that the word of columns 0 and 1 is the sum of the next two words.
-fn record_sum_of_two<F: Field>(builder: &mut Recorder<F>) -> Result<(), AirError>
-    requires { ⟦<SymbolicAirBuilder<F, F> as AirBuilder>⟧.ready builder.old }
-    ensures { OnOk result (⟦<SymbolicAirBuilder<F, F> as AirBuilder>⟧.ready
-        builder.new) }
-{
-    let [low, high]: [Column<F>; 2] = columns(4);
-    let low = made_of(builder, low)?;
-    let high = made_of(builder, high)?;
-    add_two(builder, columns(0), columns(2), [low, high])
-}
-
 // The elements of two columns from one on. What was in the ring still is.
 fn two_made<F: Field>(
     builder: &mut Recorder<F>,
@@ -128,6 +116,16 @@ fn two_made<F: Field>(
     let low = made_of(builder, low)?;
     let high = made_of(builder, high)?;
     Ok([low, high])
+}
+
+// Records that the word of columns 0 and 1 is the sum of the next two words.
+fn record_sum_of_two<F: Field>(builder: &mut Recorder<F>) -> Result<(), AirError>
+    requires { ⟦<SymbolicAirBuilder<F, F> as AirBuilder>⟧.ready builder.old }
+    ensures { OnOk result (⟦<SymbolicAirBuilder<F, F> as AirBuilder>⟧.ready
+        builder.new) }
+{
+    let c = two_made(builder, 4)?;
+    add_two(builder, columns(0), columns(2), c)
 }
 
 // Records that the word of columns 0 and 1 is the sum of the next three words.
@@ -171,17 +169,38 @@ fn recorded<F: Field>(alloc: Global, gadget: Gadget, width: usize) -> Result<Rec
     Ok(finish_recording(builder))
 }
 
+// The AIR of what is recorded of a gadget.
+fn gadget_air<F: Field>(alloc: Global, gadget: Gadget, width: usize) -> Result<FlatAir<F>, Fault> {
+    let recorded = recorded::<F>(alloc, gadget, width)?;
+    Ok(recorded_air(recorded, width, 0, Vec::new(alloc), Vec::new(alloc))?)
+}
+
+fn report_of<'a, F: Field + 'static>(
+    alloc: Global,
+    air: &'a FlatAir<F>,
+    main: &'a RowMajorMatrix<F>,
+) -> Result<ConstraintReport, Fault> {
+    Ok(check_all_constraints(alloc, air, main, &[], None)?)
+}
+
+fn report_at_row<F: Field + 'static>(
+    alloc: Global,
+    air: &FlatAir<F>,
+    row: Vec<F>,
+) -> Result<ConstraintReport, Fault> {
+    let width = row.len();
+    let main = RowMajorMatrix::new(row, width)?;
+    report_of(alloc, air, &main)
+}
+
 // What a check of a gadget reports at a row.
 fn checked<F: Field + 'static>(
     alloc: Global,
     gadget: Gadget,
     row: Vec<F>,
 ) -> Result<ConstraintReport, Fault> {
-    let width = row.len();
-    let recorded = recorded::<F>(alloc, gadget, width)?;
-    let air = recorded_air(recorded, width, 0, Vec::new(alloc), Vec::new(alloc))?;
-    let main = RowMajorMatrix::new(row, width)?;
-    Ok(check_all_constraints(alloc, &air, &main, &[], None)?)
+    let air: FlatAir<F> = gadget_air(alloc, gadget, row.len())?;
+    report_at_row(alloc, &air, row)
 }
 
 // Adds how many constraints a report counts a row, and which of them fail.
@@ -205,16 +224,15 @@ fn show_checked<F: Field + 'static>(
     show_report(&report, text)
 }
 
-// Adds the degrees of what is recorded of a gadget.
-fn show_degrees<F: Field>(
-    alloc: Global,
-    gadget: Gadget,
-    width: usize,
+// Adds the degrees of expressions.
+fn show_degrees_in<F: Field>(
+    pool: &ExprPool<BaseLeaf<F>>,
+    expressions: &[ExprId<BaseLeaf<F>>],
     text: &mut String,
-) -> Result<(), Fault> {
-    let Recorded { pool, base, .. } = recorded::<F>(alloc, gadget, width)?;
-    let pool = pool.into_base();
-    for (place, id) in base.iter().enumerate() {
+) -> Result<(), Fault>
+    requires { IsPool base_reads pool.now }
+{
+    for (place, id) in expressions.iter().enumerate() {
         if place > 0 {
             text.push_str(" ")?;
         }
@@ -226,16 +244,40 @@ fn show_degrees<F: Field>(
     Ok(())
 }
 
+// Adds the degrees of what is recorded of a gadget.
+fn show_degrees<F: Field>(
+    alloc: Global,
+    gadget: Gadget,
+    width: usize,
+    text: &mut String,
+) -> Result<(), Fault> {
+    let Recorded { pool, base, .. } = recorded::<F>(alloc, gadget, width)?;
+    show_degrees_in(&pool.into_base(), &base, text)
+}
+
 // Adds the limbs of a word.
 fn push_limbs<F: PrimeField64>(alloc: Global, word: &str, row: &mut Vec<F>) -> Result<(), Fault> {
     let limbs: Vec<F> = listed_elements(alloc, word)?;
     if limbs.len() != 2 {
         return Err(Fault::Unreadable(Why::OtherShape));
     }
-    for limb in &limbs {
-        row.push(*limb)?;
-    }
+    row.extend_from_slice(&limbs)?;
     Ok(())
+}
+
+// Sets the element that stands as `PLACE:NUMBER`.
+fn set_bit<F: PrimeField64>(part: &str, bits: &mut [F]) -> Result<(), Fault> {
+    let Some((place, number)) = part.split_once(':') else {
+        return Err(Fault::Unreadable(Why::NoSuchWord));
+    };
+    let number = element_of(number)?;
+    match bits.get_mut(count_of(place)?) {
+        Some(bit) => {
+            *bit = number;
+            Ok(())
+        }
+        None => Err(Fault::Unreadable(Why::OtherShape)),
+    }
 }
 
 // Adds 32 elements, zero but for those that stand as `PLACE:NUMBER`, with commas between.
@@ -243,19 +285,10 @@ fn push_bits<F: PrimeField64>(alloc: Global, word: &str, row: &mut Vec<F>) -> Re
     let mut bits = vec![in alloc; F::ZERO; 32]?;
     if word != "-" {
         for part in word.split(',') {
-            let Some((place, number)) = part.split_once(':') else {
-                return Err(Fault::Unreadable(Why::NoSuchWord));
-            };
-            let number = element_of(number)?;
-            match bits.get_mut(count_of(place)?) {
-                Some(bit) => *bit = number,
-                None => return Err(Fault::Unreadable(Why::OtherShape)),
-            }
+            set_bit(part, &mut bits)?;
         }
     }
-    for bit in &bits {
-        row.push(*bit)?;
-    }
+    row.extend_from_slice(&bits)?;
     Ok(())
 }
 
@@ -282,33 +315,71 @@ fn word_and_bits<F: PrimeField64>(
     Ok(row)
 }
 
+fn show_sum<F: PrimeField64 + 'static>(
+    alloc: Global,
+    gadget: Gadget,
+    words: &[&str],
+    text: &mut String,
+) -> Result<(), Fault> {
+    let row: Vec<F> = limbs_of(alloc, words)?;
+    show_checked(alloc, gadget, row, text)
+}
+
+fn show_xor<F: PrimeField64 + 'static>(
+    alloc: Global,
+    given: &[&str],
+    text: &mut String,
+) -> Result<(), Fault> {
+    let [a, b, c, shift] = given else {
+        return Err(Fault::Unreadable(Why::NoSuchCall));
+    };
+    let row: Vec<F> = word_and_bits(alloc, *a, *b, *c)?;
+    show_checked(alloc, Gadget::Xor(count_of(*shift)?), row, text)
+}
+
+// A gadget, and how many columns it takes.
+fn gadget_of(call: &[&str]) -> Result<(Gadget, usize), Fault> {
+    match call {
+        ["add2"] => Ok((Gadget::SumOfTwo, 6)),
+        ["add3"] => Ok((Gadget::SumOfThree, 8)),
+        ["xor_32_shift", shift] => Ok((Gadget::Xor(count_of(*shift)?), 66)),
+        _ => Err(Fault::Unreadable(Why::NoSuchCall)),
+    }
+}
+
+fn show_degrees_of<F: Field>(alloc: Global, call: &[&str], text: &mut String) -> Result<(), Fault> {
+    let (gadget, width) = gadget_of(call)?;
+    show_degrees::<F>(alloc, gadget, width, text)
+}
+
 // Adds what a gadget makes of the row of its words, which are numbers of the field.
 fn gadget_over<F: PrimeField64 + 'static>(
     alloc: Global,
     call: &[&str],
     text: &mut String,
 ) -> Result<(), Fault> {
-    match call {
-        ["add2", words @ ..] if words.len() == 3 => {
-            show_checked(alloc, Gadget::SumOfTwo, limbs_of::<F>(alloc, words)?, text)
-        }
-        ["add3", words @ ..] if words.len() == 4 => {
-            show_checked(
-                alloc,
-                Gadget::SumOfThree,
-                limbs_of::<F>(alloc, words)?,
-                text,
-            )
-        }
-        ["xor_32_shift", a, b, c, shift] => {
-            let row: Vec<F> = word_and_bits(alloc, *a, *b, *c)?;
-            show_checked(alloc, Gadget::Xor(count_of(*shift)?), row, text)
-        }
-        ["degrees", "add2"] => show_degrees::<F>(alloc, Gadget::SumOfTwo, 6, text),
-        ["degrees", "add3"] => show_degrees::<F>(alloc, Gadget::SumOfThree, 8, text),
-        ["degrees", "xor_32_shift", shift] => {
-            show_degrees::<F>(alloc, Gadget::Xor(count_of(*shift)?), 66, text)
-        }
+    let [word, given @ ..] = call else {
+        return Err(Fault::Unreadable(Why::NoSuchCall));
+    };
+    match *word {
+        "add2" if given.len() == 3 => show_sum::<F>(alloc, Gadget::SumOfTwo, given, text),
+        "add3" if given.len() == 4 => show_sum::<F>(alloc, Gadget::SumOfThree, given, text),
+        "xor_32_shift" => show_xor::<F>(alloc, given, text),
+        "degrees" => show_degrees_of::<F>(alloc, given, text),
+        _ => Err(Fault::Unreadable(Why::NoSuchCall)),
+    }
+}
+
+fn gadget_over_named(
+    alloc: Global,
+    field: &str,
+    call: &[&str],
+    text: &mut String,
+) -> Result<(), Fault> {
+    match field {
+        "KoalaBear" => gadget_over::<KoalaBear>(alloc, call, text),
+        "Mersenne31" => gadget_over::<Mersenne31>(alloc, call, text),
+        "Goldilocks" => gadget_over::<Goldilocks>(alloc, call, text),
         _ => Err(Fault::Unreadable(Why::NoSuchCall)),
     }
 }
@@ -320,9 +391,7 @@ pub fn word_gadget<F: PrimeField64 + 'static>(
     text: &mut String,
 ) -> Result<(), Fault> {
     match call {
-        ["over", "KoalaBear", call @ ..] => gadget_over::<KoalaBear>(alloc, call, text),
-        ["over", "Mersenne31", call @ ..] => gadget_over::<Mersenne31>(alloc, call, text),
-        ["over", "Goldilocks", call @ ..] => gadget_over::<Goldilocks>(alloc, call, text),
+        ["over", field, call @ ..] => gadget_over_named(alloc, *field, call, text),
         call => gadget_over::<F>(alloc, call, text),
     }
 }

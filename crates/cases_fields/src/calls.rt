@@ -3,7 +3,7 @@
 use crate::fields::{extension, field};
 use crate::rings::{ext_field_ring, field_ring};
 use air_field::{DomainExtension, PrimeField64};
-use cases::{Bench, Fault, Line};
+use cases::{Bench, Fault, Line, Why};
 use std::alloc::Global;
 use std::marker::PhantomData;
 
@@ -26,12 +26,16 @@ impl<'a, F: PrimeField64 + DomainExtension<F>, EF: DomainExtension<F>> Bench<'a>
 
     fn answer(&mut self, line: &Line<'a>, text: &mut String) -> Result<(), Fault> {
         let alloc = self.alloc;
-        match line.words.as_slice() {
-            ["Extension", call @ ..] => extension::<F, EF>(alloc, call, text),
-            ["Itself", call @ ..] => extension::<F, F>(alloc, call, text),
-            ["FieldRing", call @ ..] => field_ring::<F>(alloc, call, text),
-            ["ExtFieldRing", call @ ..] => ext_field_ring::<F, EF>(alloc, call, text),
-            call => field::<F>(call, text),
+        let words = line.words.as_slice();
+        let [word, call @ ..] = words else {
+            return Err(Fault::Unreadable(Why::NoSuchCall));
+        };
+        match *word {
+            "Extension" => extension::<F, EF>(alloc, call, text),
+            "Itself" => extension::<F, F>(alloc, call, text),
+            "FieldRing" => field_ring::<F>(alloc, call, text),
+            "ExtFieldRing" => ext_field_ring::<F, EF>(alloc, call, text),
+            _ => field::<F>(words, text),
         }
     }
 

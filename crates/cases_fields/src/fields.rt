@@ -6,8 +6,43 @@ use cases::words::{count_of, element_of, listed_extension, number_of, show_eleme
 use cases::{Fault, Why};
 use std::alloc::Global;
 
-// The element that a call on two elements answers.
-fn field_of_two<F: PrimeField64>(word: &str, x: &str, y: &str) -> Result<F, Fault> {
+// The element that a call without elements is.
+fn field_constant<F: PrimeField64>(word: &str) -> Result<F, Fault> {
+    match word {
+        "ZERO" => Ok(F::ZERO),
+        "ONE" => Ok(F::ONE),
+        "TWO" => Ok(F::TWO),
+        "NEG_ONE" => Ok(F::NEG_ONE),
+        _ => Err(Fault::Unreadable(Why::NoSuchCall)),
+    }
+}
+
+// The element of a truth.
+fn field_of_bool<F: PrimeField64>(word: &str) -> Result<F, Fault> {
+    match word {
+        "true" => Ok(F::from_bool(true)),
+        "false" => Ok(F::from_bool(false)),
+        _ => Err(Fault::Unreadable(Why::NoSuchCall)),
+    }
+}
+
+// The element that a call on one word answers.
+fn field_of_one<F: PrimeField64>(word: &str, x: &str) -> Result<F, Fault> {
+    match word {
+        "from_bool" => field_of_bool(x),
+        "from_u64" => element_of(x),
+        "neg" => Ok(element_of::<F>(x)?.neg()),
+        _ => Err(Fault::Unreadable(Why::NoSuchCall)),
+    }
+}
+
+fn field_power<F: PrimeField64>(x: &str, power: &str) -> Result<F, Fault> {
+    let x: F = element_of(x)?;
+    Ok(power_of(x, number_of(power)?))
+}
+
+// The sum, the difference or the product of two elements.
+fn field_joined<F: PrimeField64>(word: &str, x: &str, y: &str) -> Result<F, Fault> {
     let x: F = element_of(x)?;
     let y: F = element_of(y)?;
     match word {
@@ -17,15 +52,11 @@ fn field_of_two<F: PrimeField64>(word: &str, x: &str, y: &str) -> Result<F, Faul
     }
 }
 
-// The element that a call without elements is.
-fn field_constant<F: PrimeField64>(call: &[&str]) -> Result<F, Fault> {
-    match call {
-        ["ZERO"] => Ok(F::ZERO),
-        ["ONE"] => Ok(F::ONE),
-        ["TWO"] => Ok(F::TWO),
-        ["NEG_ONE"] => Ok(F::NEG_ONE),
-        ["from_bool", "true"] => Ok(F::from_bool(true)),
-        ["from_bool", "false"] => Ok(F::from_bool(false)),
+// The element that a call on two words answers.
+fn field_of_two<F: PrimeField64>(word: &str, x: &str, y: &str) -> Result<F, Fault> {
+    match word {
+        "add" | "sub" | "mul" => field_joined(word, x, y),
+        "power_of" => field_power(x, y),
         _ => Err(Fault::Unreadable(Why::NoSuchCall)),
     }
 }
@@ -33,11 +64,10 @@ fn field_constant<F: PrimeField64>(call: &[&str]) -> Result<F, Fault> {
 // The element that a call answers.
 fn field_element<F: PrimeField64>(call: &[&str]) -> Result<F, Fault> {
     match call {
-        ["from_u64", n] => element_of(*n),
-        [word @ ("add" | "sub" | "mul"), x, y] => field_of_two(*word, *x, *y),
-        ["neg", x] => Ok(element_of::<F>(*x)?.neg()),
-        ["power_of", x, k] => Ok(power_of(element_of(*x)?, number_of(*k)?)),
-        _ => field_constant(call),
+        [word] => field_constant(*word),
+        [word, x] => field_of_one(*word, *x),
+        [word, x, y] => field_of_two(*word, *x, *y),
+        _ => Err(Fault::Unreadable(Why::NoSuchCall)),
     }
 }
 

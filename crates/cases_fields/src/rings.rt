@@ -32,41 +32,70 @@ fn of_two<F: Field>(word: &str, x: F, y: F) -> Result<F, RingError> {
     }
 }
 
-fn made_of_one<F: Field>(word: &str, x: &str) -> Result<F, Fault> {
-    Ok(of_one(word, element_of::<F>(x)?)?)
+fn of_many<F: Field>(word: &str, all: &[F]) -> Result<F, RingError> {
+    let mut ring = FieldRing::<F>::new();
+    match word {
+        "sum" => ring.sum(all),
+        _ => ring.product(all),
+    }
 }
 
-fn made_of_two<F: Field>(word: &str, x: &str, y: &str) -> Result<F, Fault> {
-    let x: F = element_of(x)?;
-    Ok(of_two(word, x, element_of(y)?)?)
+fn of_power<F: Field>(x: F, power: u64) -> Result<F, RingError> {
+    let mut ring = FieldRing::<F>::new();
+    ring.mul_2exp_u64(x, power)
 }
 
 fn doubled<F: Field>(x: &str, power: &str) -> Result<F, Fault> {
     let x: F = element_of(x)?;
-    Ok(FieldRing::<F>::new().mul_2exp_u64(x, number_of(power)?)?)
+    let power = number_of(power)?;
+    Ok(of_power(x, power)?)
+}
+
+fn joined_two<F: Field>(word: &str, x: &str, y: &str) -> Result<F, Fault> {
+    let x: F = element_of(x)?;
+    let y: F = element_of(y)?;
+    Ok(of_two(word, x, y)?)
+}
+
+fn made_of_one<F: Field>(word: &str, x: &str) -> Result<F, Fault> {
+    match word {
+        "constant" | "from_var" | "neg" | "double" | "bool_check" => {
+            Ok(of_one(word, element_of::<F>(x)?)?)
+        }
+        _ => Err(Fault::Unreadable(Why::NoSuchCall)),
+    }
+}
+
+fn made_of_two<F: Field>(word: &str, x: &str, y: &str) -> Result<F, Fault> {
+    match word {
+        "add" | "sub" | "mul" | "xor" | "andn" => joined_two(word, x, y),
+        "mul_2exp_u64" => doubled(x, y),
+        _ => Err(Fault::Unreadable(Why::NoSuchCall)),
+    }
+}
+
+fn made_of_few<F: Field>(word: &str, given: &[&str]) -> Result<F, Fault> {
+    match given {
+        [x] => made_of_one(word, *x),
+        [x, y] => made_of_two(word, *x, *y),
+        _ => Err(Fault::Unreadable(Why::NoSuchCall)),
+    }
 }
 
 // The sum or the product of elements.
 fn joined<F: Field>(alloc: Global, word: &str, all: &[&str]) -> Result<F, Fault> {
     let all: Vec<F> = elements_of(alloc, all)?;
-    let mut ring = FieldRing::<F>::new();
-    match word {
-        "sum" => Ok(ring.sum(all.as_slice())?),
-        _ => Ok(ring.product(all.as_slice())?),
-    }
+    Ok(of_many(word, &all)?)
 }
 
 // The element that a call of the field's ring answers.
 fn made<F: Field>(alloc: Global, call: &[&str]) -> Result<F, Fault> {
-    match call {
-        [word @ ("sum" | "product"), all @ ..] => joined(alloc, *word, all),
-        ["mul_2exp_u64", x, power] => doubled(*x, *power),
-        [
-            word @ ("constant" | "from_var" | "neg" | "double" | "bool_check"),
-            x,
-        ] => { made_of_one(*word, *x) }
-        [word @ ("add" | "sub" | "mul" | "xor" | "andn"), x, y] => made_of_two(*word, *x, *y),
-        _ => Err(Fault::Unreadable(Why::NoSuchCall)),
+    let [word, given @ ..] = call else {
+        return Err(Fault::Unreadable(Why::NoSuchCall));
+    };
+    match *word {
+        "sum" | "product" => joined(alloc, *word, given),
+        word => made_of_few(word, given),
     }
 }
 
@@ -122,6 +151,14 @@ fn over_base<F: Field, EF: ExtensionField<F>>(word: &str, x: F) -> Result<EF, Ri
     }
 }
 
+fn over_many<F: Field, EF: ExtensionField<F>>(word: &str, all: &[EF]) -> Result<EF, RingError> {
+    let mut ring = ExtFieldRing::<F, EF>::new();
+    match word {
+        "sum" => ring.sum(all),
+        _ => ring.product(all),
+    }
+}
+
 // The sum or the product of elements of the extension.
 fn joined_over<F: Field, EF: ExtensionField<F>>(
     alloc: Global,
@@ -129,10 +166,43 @@ fn joined_over<F: Field, EF: ExtensionField<F>>(
     all: &[&str],
 ) -> Result<EF, Fault> {
     let all: Vec<EF> = all_of::<F, EF>(alloc, all)?;
-    let mut ring = ExtFieldRing::<F, EF>::new();
+    Ok(over_many::<F, EF>(word, &all)?)
+}
+
+fn joined_over_two<F: Field, EF: ExtensionField<F>>(
+    alloc: Global,
+    word: &str,
+    x: &str,
+    y: &str,
+) -> Result<EF, Fault> {
+    let x: EF = listed_extension::<F, EF>(alloc, x)?;
+    let y: EF = listed_extension::<F, EF>(alloc, y)?;
+    Ok(over_two::<F, EF>(word, x, y)?)
+}
+
+fn made_over_base<F: Field, EF: ExtensionField<F>>(word: &str, x: &str) -> Result<EF, Fault> {
+    let x: F = element_of(x)?;
+    Ok(over_base::<F, EF>(word, x)?)
+}
+
+fn made_over_itself<F: Field, EF: ExtensionField<F>>(
+    alloc: Global,
+    word: &str,
+    x: &str,
+) -> Result<EF, Fault> {
+    let x: EF = listed_extension::<F, EF>(alloc, x)?;
+    Ok(over_one::<F, EF>(word, x)?)
+}
+
+fn made_over_one<F: Field, EF: ExtensionField<F>>(
+    alloc: Global,
+    word: &str,
+    x: &str,
+) -> Result<EF, Fault> {
     match word {
-        "sum" => Ok(ring.sum(all.as_slice())?),
-        _ => Ok(ring.product(all.as_slice())?),
+        "constant" | "lift" => made_over_base::<F, EF>(word, x),
+        "ext_constant" | "from_var" | "neg" => made_over_itself::<F, EF>(alloc, word, x),
+        _ => Err(Fault::Unreadable(Why::NoSuchCall)),
     }
 }
 
@@ -142,20 +212,32 @@ fn made_over_two<F: Field, EF: ExtensionField<F>>(
     x: &str,
     y: &str,
 ) -> Result<EF, Fault> {
-    let x: EF = listed_extension::<F, EF>(alloc, x)?;
-    Ok(over_two::<F, EF>(word, x, listed_extension::<F, EF>(alloc, y)?)?)
+    match word {
+        "add" | "sub" | "mul" => joined_over_two::<F, EF>(alloc, word, x, y),
+        _ => Err(Fault::Unreadable(Why::NoSuchCall)),
+    }
+}
+
+fn made_over_few<F: Field, EF: ExtensionField<F>>(
+    alloc: Global,
+    word: &str,
+    given: &[&str],
+) -> Result<EF, Fault> {
+    match given {
+        [x] => made_over_one::<F, EF>(alloc, word, *x),
+        [x, y] => made_over_two::<F, EF>(alloc, word, *x, *y),
+        _ => Err(Fault::Unreadable(Why::NoSuchCall)),
+    }
 }
 
 // The element that a call of the extension's ring answers.
 fn made_over<F: Field, EF: ExtensionField<F>>(alloc: Global, call: &[&str]) -> Result<EF, Fault> {
-    match call {
-        [word @ ("sum" | "product"), all @ ..] => joined_over::<F, EF>(alloc, *word, all),
-        [word @ ("constant" | "lift"), x] => Ok(over_base::<F, EF>(*word, element_of(*x)?)?),
-        [word @ ("ext_constant" | "from_var" | "neg"), x] => {
-            Ok(over_one::<F, EF>(*word, listed_extension::<F, EF>(alloc, *x)?)?)
-        }
-        [word @ ("add" | "sub" | "mul"), x, y] => made_over_two::<F, EF>(alloc, *word, *x, *y),
-        _ => Err(Fault::Unreadable(Why::NoSuchCall)),
+    let [word, given @ ..] = call else {
+        return Err(Fault::Unreadable(Why::NoSuchCall));
+    };
+    match *word {
+        "sum" | "product" => joined_over::<F, EF>(alloc, *word, given),
+        word => made_over_few::<F, EF>(alloc, word, given),
     }
 }
 

@@ -2,24 +2,34 @@
 
 use crate::bench::{PoolBench, TableLeaf};
 use crate::shown::Shown;
-use air_field::Field;
+use air_field::{Field, RingError};
 use air_symbolic::{BaseEntry, BaseLeaf, ExprId, SymbolicVariable};
 use cases::words::{Number, count_of, element_of};
 use cases::{Fault, Line, Names, Why};
 
+// An entry without rows.
+fn value_entry(word: &str) -> Result<BaseEntry, Fault> {
+    match word {
+        "Periodic" => Ok(BaseEntry::Periodic),
+        "Public" => Ok(BaseEntry::Public),
+        _ => Err(Fault::Unreadable(Why::NoSuchWord)),
+    }
+}
+
+// An entry of a window.
+fn window_entry(word: &str, offset: usize) -> Result<BaseEntry, Fault> {
+    match word {
+        "Main" => Ok(BaseEntry::Main { offset }),
+        "Preprocessed" => Ok(BaseEntry::Preprocessed { offset }),
+        _ => Err(Fault::Unreadable(Why::NoSuchWord)),
+    }
+}
+
 // A base entry: `Main OFFSET`, `Preprocessed OFFSET`, `Periodic` or `Public`.
 fn base_entry(words: &[&str]) -> Result<BaseEntry, Fault> {
     match words {
-        ["Periodic"] => Ok(BaseEntry::Periodic),
-        ["Public"] => Ok(BaseEntry::Public),
-        [window, offset] => {
-            let offset = count_of(*offset)?;
-            match *window {
-                "Main" => Ok(BaseEntry::Main { offset }),
-                "Preprocessed" => Ok(BaseEntry::Preprocessed { offset }),
-                _ => Err(Fault::Unreadable(Why::NoSuchWord)),
-            }
-        }
+        [word] => value_entry(*word),
+        [word, offset] => window_entry(*word, count_of(*offset)?),
         _ => Err(Fault::Unreadable(Why::NoSuchWord)),
     }
 }
@@ -35,12 +45,20 @@ pub fn base_variable<F: Field>(words: &[&str]) -> Result<SymbolicVariable<F>, Fa
     }
 }
 
+// A leaf of one word.
+fn selector<F: Field>(word: &str) -> Result<BaseLeaf<F>, Fault> {
+    match word {
+        "IsFirstRow" => Ok(BaseLeaf::IsFirstRow),
+        "IsLastRow" => Ok(BaseLeaf::IsLastRow),
+        "IsTransition" => Ok(BaseLeaf::IsTransition),
+        _ => Err(Fault::Unreadable(Why::NoSuchWord)),
+    }
+}
+
 /// A base leaf: a selector, `Constant NUMBER`, or a variable.
 pub fn base_leaf<F: Field>(words: &[&str]) -> Result<BaseLeaf<F>, Fault> {
     match words {
-        ["IsFirstRow"] => Ok(BaseLeaf::IsFirstRow),
-        ["IsLastRow"] => Ok(BaseLeaf::IsLastRow),
-        ["IsTransition"] => Ok(BaseLeaf::IsTransition),
+        [word] => selector(*word),
         ["Constant", c] => Ok(BaseLeaf::Constant(element_of(*c)?)),
         _ => Ok(BaseLeaf::Variable(base_variable(words)?)),
     }
@@ -87,28 +105,48 @@ impl<'a, F: Number> PoolBench<'a, BaseLeaf<F>> {
         Ok(self.pool.variable(variable)?)
     }
 
-    fn push_leaf(&mut self, word: &str, leaf: &[&str]) -> Result<ExprId<BaseLeaf<F>>, Fault> {
-        let leaf = base_leaf(leaf)?;
-        match word {
-            "leaf" => Ok(self.pool.leaf(leaf)?),
-            _ => Ok(self.pool.leaf_expr(leaf)?),
+    fn insert_leaf(
+        &mut self,
+        call: &str,
+        leaf: BaseLeaf<F>,
+    ) -> Result<ExprId<BaseLeaf<F>>, RingError> {
+        match call {
+            "leaf" => self.pool.leaf(leaf),
+            _ => self.pool.leaf_expr(leaf),
         }
+    }
+
+    fn push_leaf(&mut self, call: &str, leaf: &[&str]) -> Result<ExprId<BaseLeaf<F>>, Fault> {
+        let leaf = base_leaf(leaf)?;
+        Ok(self.insert_leaf(call, leaf)?)
     }
 }
 
 impl<F: Number> TableLeaf for BaseLeaf<F> {
-    fn answer<'a>(
+    fn made<'a>(
         bench: &mut PoolBench<'a, Self>,
-        line: &Line<'a>,
-        text: &mut String,
-    ) -> Result<bool, Fault> {
-        let x = match line.words.as_slice() {
-            ["variable", variable @ ..] => bench.push_variable(variable)?,
-            [word @ ("leaf" | "leaf_expr"), leaf @ ..] => bench.push_leaf(*word, leaf)?,
-            _ => return Ok(false),
-        };
-        bench.keep(line, x, text)?;
-        Ok(true)
+        call: &str,
+        operands: &[&str],
+    ) -> Result<ExprId<Self>, Fault> {
+        match call {
+            "variable" => bench.push_variable(operands),
+            "leaf" | "leaf_expr" => bench.push_leaf(call, operands),
+            _ => bench.made(call, operands),
+        }
+    }
+
+    fn is_under(_call: &str) -> bool {
+        false
+    }
+
+    fn answer_under<'a>(
+        _bench: &mut PoolBench<'a, Self>,
+        _line: &Line<'a>,
+        _call: &str,
+        _operands: &[&str],
+        _text: &mut String,
+    ) -> Result<(), Fault> {
+        Err(Fault::Unreadable(Why::NoSuchCall))
     }
 
     fn show_under(_bench: &PoolBench<'_, Self>, _text: &mut String) -> Result<(), Fault> {

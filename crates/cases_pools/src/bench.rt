@@ -4,25 +4,38 @@ ghost use Rattle.std.specs.Prelude.{◌<◌, IsTrue, All, IfOk};
 ghost use Rattle.air_symbolic.specs.Pools.{size};
 
 use crate::known_leaves::show_known;
-use crate::shown::{Shown, show_all, show_expression};
+use crate::shown::{Shown, show_all, show_constant, show_expression};
 use crate::spellings::answer_alone;
 use air_field::{Algebra, Field, RingError};
 use air_symbolic::{BaseLeaf, Degrees, ExprId, ExprPool, LeafWeight, SymLeaf};
 use air_wire::{WireLeaf, from_flat_value, to_flat_value};
 use cases::words::{count_of, counts_of, number_of, value_of};
 use cases::{Bench, Fault, Line, Names, Why};
+use serde_json::Value;
 use std::alloc::Global;
 use std::marker::Model;
 
 /// A leaf with calls of its own. They stand apart from its text: a method that calls what needs its own trait has no
 /// proof.
 pub trait TableLeaf: Shown {
-    /// Answers a call that pools of these leaves alone have, if the line is one.
-    fn answer<'a>(
+    /// The expression that a call makes which pools of these leaves alone have, or pools of all.
+    fn made<'a>(
+        bench: &mut PoolBench<'a, Self>,
+        call: &str,
+        operands: &[&str],
+    ) -> Result<ExprId<Self>, Fault>;
+
+    /// Whether a call is about what lies under the pool.
+    fn is_under(call: &str) -> bool;
+
+    /// Answers such a call.
+    fn answer_under<'a>(
         bench: &mut PoolBench<'a, Self>,
         line: &Line<'a>,
+        call: &str,
+        operands: &[&str],
         text: &mut String,
-    ) -> Result<bool, Fault>;
+    ) -> Result<(), Fault>;
 
     /// Adds the nodes of the names in what lies under the pool.
     fn show_under(bench: &PoolBench<'_, Self>, text: &mut String) -> Result<(), Fault>;
@@ -56,6 +69,38 @@ fn show_turns(degrees: &Degrees, text: &mut String) -> Result<(), Fault> {
     Ok(())
 }
 
+// Adds a JSON value.
+fn show_value(alloc: Global, value: &Value, text: &mut String) -> Result<(), Fault> {
+    let written = value.to_string(alloc)?;
+    text.push_str(written.as_str())?;
+    Ok(())
+}
+
+// What an operation is made of.
+enum Operands {
+    None,
+    Number,
+    One,
+    OneAndPower,
+    Two,
+    Any,
+}
+
+// What the operation of a call is made of. (It stands apart, since words are dear to tell apart where a pool is lent.)
+fn operands_of(call: &str) -> Option<Operands> {
+    match call {
+        "zero" => Some(Operands::None),
+        "constant" => Some(Operands::Number),
+        "neg" | "double" | "bool_check" | "insert_neg" => Some(Operands::One),
+        "mul_2exp_u64" => Some(Operands::OneAndPower),
+        "add" | "sub" | "mul" | "xor" | "andn" | "insert_add" | "insert_sub" | "insert_mul" => {
+            Some(Operands::Two)
+        }
+        "sum" | "product" => Some(Operands::Any),
+        _ => None,
+    }
+}
+
 impl<'a, A: SymLeaf> PoolBench<'a, A> {
     /// The expression of a name.
     pub fn at(&self, name: &str) -> Result<ExprId<A>, Fault>
@@ -66,6 +111,16 @@ impl<'a, A: SymLeaf> PoolBench<'a, A> {
             Ok(x)
         } else {
             Err(Fault::Unreadable(Why::OtherPool))
+        }
+    }
+
+    /// The expression of the one operand.
+    pub fn only(&self, operands: &[&str]) -> Result<ExprId<A>, Fault>
+        ensures { IfOk result (λ x. x < size self.now) }
+    {
+        match operands {
+            [x] => self.at(*x),
+            _ => Err(Fault::Unreadable(Why::NoSuchCall)),
         }
     }
 
@@ -81,15 +136,21 @@ impl<'a, A: SymLeaf> PoolBench<'a, A> {
         true
     }
 
+    // Adds the expressions of some names.
+    fn add_all(&self, names: &[&str], all: &mut Vec<ExprId<A>>) -> Result<(), Fault> {
+        for name in names {
+            let x = self.at(*name)?;
+            all.push(x)?;
+        }
+        Ok(())
+    }
+
     // The expressions of some names.
     fn all_at(&self, names: &[&str]) -> Result<Vec<ExprId<A>>, Fault>
         ensures { IfOk result (λ all. All (λ x. x < size self.now) all.items) }
     {
         let mut all = Vec::new(self.names.alloc());
-        for name in names {
-            let x = self.at(*name)?;
-            all.push(x)?;
-        }
+        self.add_all(names, &mut all)?;
         if self.contains_all(all.as_slice()) {
             Ok(all)
         } else {
@@ -117,7 +178,16 @@ impl<'a, A: SymLeaf> PoolBench<'a, A> {
         match word {
             "add" => self.pool.add(x, y),
             "sub" => self.pool.sub(x, y),
-            "mul" => self.pool.mul(x, y),
+            _ => self.pool.mul(x, y),
+        }
+    }
+
+    // An operation on two bits.
+    fn join_bits(&mut self, word: &str, x: ExprId<A>, y: ExprId<A>) -> Result<ExprId<A>, RingError>
+        requires x_in { x < size self.old }
+        requires y_in { y < size self.old }
+    {
+        match word {
             "xor" => self.pool.xor(x, y),
             _ => self.pool.andn(x, y),
         }
@@ -135,105 +205,154 @@ impl<'a, A: SymLeaf> PoolBench<'a, A> {
         }
     }
 
+    // An operation on two.
+    fn operate_two(
+        &mut self,
+        word: &str,
+        x: ExprId<A>,
+        y: ExprId<A>,
+    ) -> Result<ExprId<A>, RingError>
+        requires x_in { x < size self.old }
+        requires y_in { y < size self.old }
+    {
+        match word {
+            "insert_add" | "insert_sub" | "insert_mul" => self.insert_two(word, x, y),
+            "xor" | "andn" => self.join_bits(word, x, y),
+            _ => self.fold_two(word, x, y),
+        }
+    }
+
     // What an operation on one makes.
-    fn made_of_one(&mut self, word: &str, x: &str) -> Result<ExprId<A>, Fault> {
-        let x = self.at(x)?;
+    fn made_of_one(&mut self, word: &str, operands: &[&str]) -> Result<ExprId<A>, Fault> {
+        let x = self.only(operands)?;
         Ok(self.operate(word, x)?)
     }
 
     // What an operation on two makes.
-    fn made_of_two(&mut self, word: &str, x: &str, y: &str) -> Result<ExprId<A>, Fault> {
-        let x = self.at(x)?;
-        let y = self.at(y)?;
-        match word {
-            "add" | "sub" | "mul" | "xor" | "andn" => Ok(self.fold_two(word, x, y)?),
-            _ => Ok(self.insert_two(word, x, y)?),
-        }
+    fn made_of_two(&mut self, word: &str, operands: &[&str]) -> Result<ExprId<A>, Fault> {
+        let [x, y] = operands else {
+            return Err(Fault::Unreadable(Why::NoSuchCall));
+        };
+        let x = self.at(*x)?;
+        let y = self.at(*y)?;
+        Ok(self.operate_two(word, x, y)?)
     }
 
     // The sum or the product of some.
-    fn joined(&mut self, word: &str, names: &[&str]) -> Result<ExprId<A>, Fault> {
-        let all = self.all_at(names)?;
+    fn join(&mut self, word: &str, all: &[ExprId<A>]) -> Result<ExprId<A>, Fault>
+        requires { All (λ x. x < size self.old) all.now }
+    {
         match word {
-            "sum" => Ok(self.pool.sum(all.as_slice())?),
-            _ => Ok(self.pool.product(all.as_slice())?),
+            "sum" => Ok(self.pool.sum(all)?),
+            _ => Ok(self.pool.product(all)?),
         }
     }
 
-    fn constant(&mut self, c: &str) -> Result<ExprId<A>, Fault> {
-        let c = A::F::from_u64(number_of(c)?);
+    // The same of some names.
+    fn joined(&mut self, word: &str, names: &[&str]) -> Result<ExprId<A>, Fault> {
+        let all = self.all_at(names)?;
+        self.join(word, &all)
+    }
+
+    fn zero(&mut self, operands: &[&str]) -> Result<ExprId<A>, Fault> {
+        let [] = operands else {
+            return Err(Fault::Unreadable(Why::NoSuchCall));
+        };
+        Ok(self.pool.zero()?)
+    }
+
+    fn constant(&mut self, operands: &[&str]) -> Result<ExprId<A>, Fault> {
+        let [c] = operands else {
+            return Err(Fault::Unreadable(Why::NoSuchCall));
+        };
+        let c = A::F::from_u64(number_of(*c)?);
         Ok(self.pool.constant(c)?)
     }
 
-    fn doubled(&mut self, x: &str, power: &str) -> Result<ExprId<A>, Fault> {
-        let x = self.at(x)?;
-        Ok(self.pool.mul_2exp_u64(x, number_of(power)?)?)
+    fn doubled(&mut self, operands: &[&str]) -> Result<ExprId<A>, Fault> {
+        let [x, power] = operands else {
+            return Err(Fault::Unreadable(Why::NoSuchCall));
+        };
+        let x = self.at(*x)?;
+        let power = number_of(*power)?;
+        Ok(self.pool.mul_2exp_u64(x, power)?)
     }
 
-    // The expression that an operation makes.
-    fn made(&mut self, words: &[&str]) -> Result<ExprId<A>, Fault> {
-        match words {
-            ["zero"] => Ok(self.pool.zero()?),
-            ["constant", c] => self.constant(*c),
-            [word @ ("sum" | "product"), names @ ..] => self.joined(*word, names),
-            ["mul_2exp_u64", x, power] => self.doubled(*x, *power),
-            [word @ ("neg" | "double" | "bool_check" | "insert_neg"), x] => {
-                self.made_of_one(*word, *x)
-            }
-            [
-                word @ ("add"
-                | "sub"
-                | "mul"
-                | "xor"
-                | "andn"
-                | "insert_add"
-                | "insert_sub"
-                | "insert_mul"),
-                x,
-                y,
-            ] => self.made_of_two(*word, *x, *y),
-            _ => Err(Fault::Unreadable(Why::NoSuchCall)),
+    /// The expression that an operation makes.
+    pub fn made(&mut self, call: &str, operands: &[&str]) -> Result<ExprId<A>, Fault> {
+        match operands_of(call) {
+            Some(Operands::None) => self.zero(operands),
+            Some(Operands::Number) => self.constant(operands),
+            Some(Operands::OneAndPower) => self.doubled(operands),
+            Some(Operands::One) => self.made_of_one(call, operands),
+            Some(Operands::Two) => self.made_of_two(call, operands),
+            Some(Operands::Any) => self.joined(call, operands),
+            None => Err(Fault::Unreadable(Why::NoSuchCall)),
         }
     }
 
+    // The degree of an expression over rows.
+    fn degree_over(&self, x: ExprId<A>, rows: usize, periods: &[usize]) -> Result<usize, Fault>
+        requires { x < size self.now }
+    {
+        Ok(self.pool.poly_degree(x, rows, periods)?)
+    }
+
     // The degree of an expression by rows.
-    fn poly_degree(&self, x: &str, rows: &str, periods: &str) -> Result<usize, Fault> {
-        let x = self.at(x)?;
-        let rows = count_of(rows)?;
-        let periods = counts_of(self.names.alloc(), periods)?;
-        Ok(self.pool.poly_degree(x, rows, periods.as_slice())?)
+    fn poly_degree(&self, operands: &[&str]) -> Result<usize, Fault> {
+        let [x, rows, periods] = operands else {
+            return Err(Fault::Unreadable(Why::NoSuchCall));
+        };
+        let x = self.at(*x)?;
+        let rows = count_of(*rows)?;
+        let periods = counts_of(self.names.alloc(), *periods)?;
+        self.degree_over(x, rows, &periods)
     }
 
     // The degree of an expression by a weight of the transition selector.
-    fn weighted_degree(&self, x: &str, weight: &str) -> Result<usize, Fault> {
-        let x = self.at(x)?;
-        Ok(
-            self.pool
-                .degree_multiple_with_transition(x, count_of(weight)?)?,
-        )
+    fn weighted_degree(&self, operands: &[&str]) -> Result<usize, Fault> {
+        let [x, weight] = operands else {
+            return Err(Fault::Unreadable(Why::NoSuchCall));
+        };
+        let x = self.at(*x)?;
+        let weight = count_of(*weight)?;
+        Ok(self.pool.degree_multiple_with_transition(x, weight)?)
     }
 
-    // The number that a call on one expression answers.
-    fn count_of_one(&self, word: &str, x: &str) -> Result<usize, Fault> {
-        let x = self.at(x)?;
-        match word {
+    // The number of an expression, or its degree.
+    fn count_of_one(&self, call: &str, operands: &[&str]) -> Result<usize, Fault> {
+        let x = self.only(operands)?;
+        match call {
             "number" => Ok(x.number()),
             _ => Ok(self.pool.degree_multiple(x)),
         }
     }
 
     // The number that a call answers.
-    fn count(&self, words: &[&str]) -> Result<usize, Fault> {
-        match words {
-            ["len"] => Ok(self.pool.len()),
-            [word @ ("number" | "degree_multiple"), x] => self.count_of_one(*word, *x),
-            ["degree_multiple_with_transition", x, weight] => self.weighted_degree(*x, *weight),
-            ["poly_degree", x, rows, periods] => self.poly_degree(*x, *rows, *periods),
+    fn count(&self, call: &str, operands: &[&str]) -> Result<usize, Fault> {
+        match call {
+            "len" if operands.is_empty() => Ok(self.pool.len()),
+            "number" | "degree_multiple" => self.count_of_one(call, operands),
+            "degree_multiple_with_transition" => self.weighted_degree(operands),
+            "poly_degree" => self.poly_degree(operands),
             _ => Err(Fault::Unreadable(Why::NoSuchCall)),
         }
     }
 
-    // Adds the degrees of some names by a weight, and the turns that they take.
+    // Adds the degrees of some expressions by a weight, and the turns that they take.
+    fn show_degrees_of(
+        &self,
+        weight: LeafWeight<'_>,
+        roots: &[ExprId<A>],
+        text: &mut String,
+    ) -> Result<(), Fault>
+        requires { All (λ x. x < size self.now) roots.now }
+    {
+        let degrees = self.pool.degrees(roots, weight)?;
+        show_turns(&degrees, text)
+    }
+
+    // The same of some names.
     fn show_degrees(
         &self,
         weight: LeafWeight<'_>,
@@ -241,91 +360,106 @@ impl<'a, A: SymLeaf> PoolBench<'a, A> {
         text: &mut String,
     ) -> Result<(), Fault> {
         let roots = self.all_at(names)?;
-        let degrees = self.pool.degrees(roots.as_slice(), weight)?;
-        show_turns(&degrees, text)
+        self.show_degrees_of(weight, &roots, text)
+    }
+
+    // The same by a weight of the transition selector.
+    fn weigh_transition(&self, words: &[&str], text: &mut String) -> Result<(), Fault> {
+        let [weight, names @ ..] = words else {
+            return Err(Fault::Unreadable(Why::NoSuchWord));
+        };
+        let weight = count_of(*weight)?;
+        self.show_degrees(LeafWeight::Transition(weight), names, text)
+    }
+
+    // The same by rows and the lengths of periodic columns.
+    fn weigh_trace(&self, words: &[&str], text: &mut String) -> Result<(), Fault> {
+        let [rows, periods, names @ ..] = words else {
+            return Err(Fault::Unreadable(Why::NoSuchWord));
+        };
+        let trace_len = count_of(*rows)?;
+        let periods = counts_of(self.names.alloc(), *periods)?;
+        let weight = LeafWeight::Trace {
+            trace_len,
+            periods: periods.as_slice(),
+        };
+        self.show_degrees(weight, names, text)
     }
 
     // Adds the degrees by the weight that the words say, and the turns.
     fn weigh(&self, words: &[&str], text: &mut String) -> Result<(), Fault> {
-        match words {
-            ["cached", names @ ..] => self.show_degrees(LeafWeight::Cached, names, text),
-            ["transition", weight, names @ ..] => {
-                let weight = LeafWeight::Transition(count_of(*weight)?);
-                self.show_degrees(weight, names, text)
-            }
-            ["trace", rows, periods, names @ ..] => {
-                let trace_len = count_of(*rows)?;
-                let periods = counts_of(self.names.alloc(), *periods)?;
-                let weight = LeafWeight::Trace {
-                    trace_len,
-                    periods: periods.as_slice(),
-                };
-                self.show_degrees(weight, names, text)
-            }
+        let [kind, rest @ ..] = words else {
+            return Err(Fault::Unreadable(Why::NoSuchWord));
+        };
+        match *kind {
+            "cached" => self.show_degrees(LeafWeight::Cached, rest, text),
+            "transition" => self.weigh_transition(rest, text),
+            "trace" => self.weigh_trace(rest, text),
             _ => Err(Fault::Unreadable(Why::NoSuchWord)),
         }
     }
 }
 
 impl<'a, A: Shown> PoolBench<'a, A> {
-    fn show_const(&self, x: &str, text: &mut String) -> Result<(), Fault> {
-        let x = self.at(x)?;
-        match self.pool.as_const(x) {
-            Some(c) => {
-                let number = A::number(c);
-                write!(text, "{number}")?;
-            }
-            None => text.push_str("None")?,
-        }
-        Ok(())
+    fn show_const(&self, operands: &[&str], text: &mut String) -> Result<(), Fault> {
+        let x = self.only(operands)?;
+        show_constant::<A>(self.pool.as_const(x), text)
     }
 
     /// Adds what an expression is that a line made, and gives it the line's name.
     pub fn keep(&mut self, line: &Line<'a>, x: ExprId<A>, text: &mut String) -> Result<(), Fault> {
         show_expression(&self.pool, &self.names, &self.base_names, x, text)?;
-        if let Some(name) = line.name {
-            self.names.bind(name, x, line.times.is_some())?;
+        match line.name {
+            Some(name) => self.names.bind(name, x, line.times.is_some()),
+            None => Ok(()),
         }
-        Ok(())
     }
 }
 
 impl<'a, A: Shown + WireLeaf> PoolBench<'a, A> {
-    fn read(&mut self, list: &str) -> Result<ExprId<A>, Fault> {
-        let value = value_of(self.names.alloc(), list)?;
-        Ok(from_flat_value(self.names.alloc(), &mut self.pool, &value)?)
+    fn read_value(&mut self, value: &Value) -> Result<ExprId<A>, Fault> {
+        Ok(from_flat_value(self.names.alloc(), &mut self.pool, value)?)
     }
 
-    fn written(&self, x: &str) -> Result<String, Fault> {
-        let x = self.at(x)?;
+    fn read(&mut self, operands: &[&str]) -> Result<ExprId<A>, Fault> {
+        let [list] = operands else {
+            return Err(Fault::Unreadable(Why::NoSuchCall));
+        };
+        let value = value_of(self.names.alloc(), *list)?;
+        self.read_value(&value)
+    }
+
+    fn show_written(&self, operands: &[&str], text: &mut String) -> Result<(), Fault> {
+        let x = self.only(operands)?;
         let value = to_flat_value(self.names.alloc(), &self.pool, x)?;
-        Ok(value.to_string(self.names.alloc())?)
+        show_value(self.names.alloc(), &value, text)
     }
 
-    fn show_written(&self, x: &str, text: &mut String) -> Result<(), Fault> {
-        let written = self.written(x)?;
-        text.push_str(written.as_str())?;
-        Ok(())
+    fn show_known(&self, operands: &[&str], text: &mut String) -> Result<(), Fault> {
+        match operands {
+            [known] => show_known::<A>(self.names.alloc(), *known, text),
+            _ => Err(Fault::Unreadable(Why::NoSuchCall)),
+        }
     }
 
     // Adds the number that a call answers.
-    fn show_count(&self, words: &[&str], text: &mut String) -> Result<(), Fault> {
-        let count = self.count(words)?;
+    fn show_count(&self, call: &str, operands: &[&str], text: &mut String) -> Result<(), Fault> {
+        let count = self.count(call, operands)?;
         write!(text, "{count}")?;
         Ok(())
     }
 
     // Adds what a call sees that makes nothing.
-    fn see(&self, words: &[&str], text: &mut String) -> Result<(), Fault> {
-        match words {
-            ["as_const", x] => self.show_const(*x, text),
-            ["degrees", words @ ..] => self.weigh(words, text),
-            ["to_flat_value", x] => self.show_written(*x, text),
-            ["known_leaf", known] => show_known::<A>(self.names.alloc(), *known, text),
-            ["spelling" | "variable_degrees" | "ext_variable_degrees", ..] => {
-                answer_alone(self.names.alloc(), words, text)
+    fn see(&self, call: &str, operands: &[&str], text: &mut String) -> Result<(), Fault> {
+        match call {
+            "as_const" => self.show_const(operands, text),
+            "degrees" => self.weigh(operands, text),
+            "to_flat_value" => self.show_written(operands, text),
+            "known_leaf" => self.show_known(operands, text),
+            "spelling" | "variable_degrees" | "ext_variable_degrees" => {
+                answer_alone(self.names.alloc(), call, operands, text)
             }
-            _ => self.show_count(words, text),
+            _ => self.show_count(call, operands, text),
         }
     }
 }
@@ -350,12 +484,23 @@ fn makes_nothing(call: &str) -> bool {
 }
 
 impl<'a, A: TableLeaf + WireLeaf> PoolBench<'a, A> {
+    // The expression that a call makes.
+    fn made_by(&mut self, call: &str, operands: &[&str]) -> Result<ExprId<A>, Fault> {
+        match call {
+            "from_flat_value" => self.read(operands),
+            _ => A::made(self, call, operands),
+        }
+    }
+
     // Adds what a call makes, and gives it the line's name.
-    fn make(&mut self, line: &Line<'a>, text: &mut String) -> Result<(), Fault> {
-        let x = match line.words.as_slice() {
-            ["from_flat_value", list] => self.read(*list)?,
-            words => self.made(words)?,
-        };
+    fn make(
+        &mut self,
+        line: &Line<'a>,
+        call: &str,
+        operands: &[&str],
+        text: &mut String,
+    ) -> Result<(), Fault> {
+        let x = self.made_by(call, operands)?;
         self.keep(line, x, text)
     }
 }
@@ -370,14 +515,15 @@ impl<'a, A: TableLeaf + WireLeaf> Bench<'a> for PoolBench<'a, A> {
     }
 
     fn answer(&mut self, line: &Line<'a>, text: &mut String) -> Result<(), Fault> {
-        if A::answer(self, line, text)? {
-            return Ok(());
-        }
-        match line.words.as_slice() {
-            [call, ..] if line.name.is_none() && makes_nothing(*call) => {
-                self.see(line.words.as_slice(), text)
-            }
-            _ => self.make(line, text),
+        let [call, operands @ ..] = line.words.as_slice() else {
+            return Err(Fault::Unreadable(Why::NoSuchCall));
+        };
+        if A::is_under(*call) {
+            A::answer_under(self, line, *call, operands, text)
+        } else if line.name.is_none() && makes_nothing(*call) {
+            self.see(*call, operands, text)
+        } else {
+            self.make(line, *call, operands, text)
         }
     }
 

@@ -10,11 +10,19 @@ use air_symbolic::{BaseLeaf, ExprId, ExtEntry, ExtLeaf, SymbolicVariableExt};
 use cases::words::{Number, count_of, extension_of, show_elements};
 use cases::{Fault, Line, Names, Why};
 
+// An entry without rows.
+fn value_entry(word: &str) -> Result<ExtEntry, Fault> {
+    match word {
+        "Challenge" => Ok(ExtEntry::Challenge),
+        "PermutationValue" => Ok(ExtEntry::PermutationValue),
+        _ => Err(Fault::Unreadable(Why::NoSuchWord)),
+    }
+}
+
 // An extension entry: `Permutation OFFSET`, `Challenge` or `PermutationValue`.
 fn ext_entry(words: &[&str]) -> Result<ExtEntry, Fault> {
     match words {
-        ["Challenge"] => Ok(ExtEntry::Challenge),
-        ["PermutationValue"] => Ok(ExtEntry::PermutationValue),
+        [word] => value_entry(*word),
         ["Permutation", offset] => {
             let offset = count_of(*offset)?;
             Ok(ExtEntry::Permutation { offset })
@@ -88,29 +96,50 @@ impl<'a, F: Number, EF: ExtensionField<F>> PoolBench<'a, ExtLeaf<F, EF>> {
             x,
             text,
         )?;
-        if let Some(name) = line.name {
-            self.base_names.bind(name, x, line.times.is_some())?;
+        match line.name {
+            Some(name) => self.base_names.bind(name, x, line.times.is_some()),
+            None => Ok(()),
         }
-        Ok(())
     }
 
     fn base_leaf_expr(&mut self, leaf: &[&str]) -> Result<ExprId<BaseLeaf<F>>, Fault> {
-        Ok(self.push_base_leaf(base_leaf(leaf)?)?)
+        let leaf = base_leaf(leaf)?;
+        Ok(self.push_base_leaf(leaf)?)
     }
 
-    fn base_sum(&mut self, x: &str, y: &str) -> Result<ExprId<BaseLeaf<F>>, Fault> {
-        let x = self.base_at(x)?;
-        let y = self.base_at(y)?;
+    fn base_sum(&mut self, operands: &[&str]) -> Result<ExprId<BaseLeaf<F>>, Fault> {
+        let [x, y] = operands else {
+            return Err(Fault::Unreadable(Why::NoSuchCall));
+        };
+        let x = self.base_at(*x)?;
+        let y = self.base_at(*y)?;
         Ok(self.push_base_sum(x, y)?)
     }
 
-    // The expression of the base pool that a call makes, if it makes one.
-    fn made_base(&mut self, words: &[&str]) -> Result<Option<ExprId<BaseLeaf<F>>>, Fault> {
-        match words {
-            ["leaf_expr", leaf @ ..] => Ok(Some(self.base_leaf_expr(leaf)?)),
-            ["add", x, y] => Ok(Some(self.base_sum(*x, *y)?)),
-            _ => Ok(None),
+    // The expression of the base pool that a call makes.
+    fn made_base(&mut self, call: &str, operands: &[&str]) -> Result<ExprId<BaseLeaf<F>>, Fault> {
+        match call {
+            "leaf_expr" => self.base_leaf_expr(operands),
+            "add" => self.base_sum(operands),
+            _ => Err(Fault::Unreadable(Why::NoSuchCall)),
         }
+    }
+
+    fn make_base(
+        &mut self,
+        line: &Line<'a>,
+        call: &str,
+        operands: &[&str],
+        text: &mut String,
+    ) -> Result<(), Fault> {
+        let x = self.made_base(call, operands)?;
+        self.keep_base(line, x, text)
+    }
+
+    fn show_base_len(&self, text: &mut String) -> Result<(), Fault> {
+        let count = self.pool.base().len();
+        write!(text, "{count}")?;
+        Ok(())
     }
 
     // Answers a call of the base pool.
@@ -120,29 +149,36 @@ impl<'a, F: Number, EF: ExtensionField<F>> PoolBench<'a, ExtLeaf<F, EF>> {
         words: &[&str],
         text: &mut String,
     ) -> Result<(), Fault> {
-        if let Some(x) = self.made_base(words)? {
-            return self.keep_base(line, x, text);
-        }
         match words {
-            ["len"] if line.name.is_none() => {
-                let count = self.pool.base().len();
-                write!(text, "{count}")?;
-                Ok(())
-            }
-            _ => Err(Fault::Unreadable(Why::NoSuchCall)),
+            ["len"] if line.name.is_none() => self.show_base_len(text),
+            [call, operands @ ..] => self.make_base(line, *call, operands, text),
+            [] => Err(Fault::Unreadable(Why::NoSuchCall)),
         }
     }
 
-    fn answer_to_base(&mut self, line: &Line<'a>, x: &str, text: &mut String) -> Result<(), Fault> {
-        let x = self.at(x)?;
-        match self.pool.to_base(x)? {
-            Some(b) => self.keep_base(line, b, text),
-            None if line.name.is_none() => {
-                text.push_str("None")?;
-                Ok(())
-            }
-            None => Err(Fault::Unreadable(Why::MakesNothing)),
+    // Adds what an expression is in the base pool, and gives it the line's name.
+    fn keep_found(
+        &mut self,
+        line: &Line<'a>,
+        found: Option<ExprId<BaseLeaf<F>>>,
+        text: &mut String,
+    ) -> Result<(), Fault> {
+        match found {
+            Some(x) => self.keep_base(line, x, text),
+            None if line.name.is_some() => Err(Fault::Unreadable(Why::MakesNothing)),
+            None => Ok(text.push_str("None")?),
         }
+    }
+
+    fn answer_to_base(
+        &mut self,
+        line: &Line<'a>,
+        operands: &[&str],
+        text: &mut String,
+    ) -> Result<(), Fault> {
+        let x = self.only(operands)?;
+        let found = self.pool.to_base(x)?;
+        self.keep_found(line, found, text)
     }
 
     fn push_variable(&mut self, variable: &[&str]) -> Result<ExprId<ExtLeaf<F, EF>>, Fault> {
@@ -155,19 +191,12 @@ impl<'a, F: Number, EF: ExtensionField<F>> PoolBench<'a, ExtLeaf<F, EF>> {
         Ok(self.pool.ext_constant(c)?)
     }
 
-    fn lifted(&mut self, x: &str) -> Result<ExprId<ExtLeaf<F, EF>>, Fault> {
-        let x = self.base_at(x)?;
+    fn lifted(&mut self, operands: &[&str]) -> Result<ExprId<ExtLeaf<F, EF>>, Fault> {
+        let [x] = operands else {
+            return Err(Fault::Unreadable(Why::NoSuchCall));
+        };
+        let x = self.base_at(*x)?;
         Ok(self.pool.lift(x)?)
-    }
-
-    // Answers a call that makes no extension expression, if the line is one.
-    fn answer_in_base(&mut self, line: &Line<'a>, text: &mut String) -> Result<bool, Fault> {
-        match line.words.as_slice() {
-            ["base", words @ ..] => self.answer_base(line, words, text)?,
-            ["to_base", x] => self.answer_to_base(line, *x, text)?,
-            _ => return Ok(false),
-        }
-        Ok(true)
     }
 }
 
@@ -197,19 +226,34 @@ impl<F: Number, EF: ExtensionField<F>> Shown for ExtLeaf<F, EF> {
 }
 
 impl<F: Number, EF: ExtensionField<F>> TableLeaf for ExtLeaf<F, EF> {
-    fn answer<'a>(
+    fn made<'a>(
+        bench: &mut PoolBench<'a, Self>,
+        call: &str,
+        operands: &[&str],
+    ) -> Result<ExprId<Self>, Fault> {
+        match call {
+            "variable" => bench.push_variable(operands),
+            "ext_constant" => bench.push_constant(operands),
+            "lift" => bench.lifted(operands),
+            _ => bench.made(call, operands),
+        }
+    }
+
+    fn is_under(call: &str) -> bool {
+        call == "base" || call == "to_base"
+    }
+
+    fn answer_under<'a>(
         bench: &mut PoolBench<'a, Self>,
         line: &Line<'a>,
+        call: &str,
+        operands: &[&str],
         text: &mut String,
-    ) -> Result<bool, Fault> {
-        let x = match line.words.as_slice() {
-            ["variable", variable @ ..] => bench.push_variable(variable)?,
-            ["ext_constant", coefficients @ ..] => bench.push_constant(coefficients)?,
-            ["lift", x] => bench.lifted(*x)?,
-            _ => return bench.answer_in_base(line, text),
-        };
-        bench.keep(line, x, text)?;
-        Ok(true)
+    ) -> Result<(), Fault> {
+        match call {
+            "base" => bench.answer_base(line, operands, text),
+            _ => bench.answer_to_base(line, operands, text),
+        }
     }
 
     fn show_under(bench: &PoolBench<'_, Self>, text: &mut String) -> Result<(), Fault> {

@@ -1,12 +1,36 @@
 //! The leaves of the constants that every pool knows.
 ghost use Rattle.std.specs.Prelude.{◌≡◌, IfOk};
 
-use crate::shown::Shown;
+use crate::shown::{Shown, show_constant};
 use air_field::{Field, RingError};
 use air_symbolic::SymLeaf;
 use cases::Fault;
 use cases::words::number_of;
 use std::alloc::Global;
+
+// The leaf of a constant that has a word.
+fn named_leaf<A: SymLeaf>(word: &str, under: &mut A::Under) -> Result<A, RingError>
+    requires { (A.reads under.old).sound }
+    ensures sound { (A.reads under.new).sound }
+    ensures valid { IfOk result (λ a. (A.reads under.new).valid a) }
+{
+    match word {
+        "zero" => A::zero(under),
+        "one" => A::one(under),
+        "two" => A::two(under),
+        _ => A::neg_one(under),
+    }
+}
+
+// The leaf of a number.
+fn leaf_of_number<A: SymLeaf>(word: &str, under: &mut A::Under) -> Result<A, Fault>
+    requires { (A.reads under.old).sound }
+    ensures sound { (A.reads under.new).sound }
+    ensures valid { IfOk result (λ a. (A.reads under.new).valid a) }
+{
+    let c = A::F::from_u64(number_of(word)?);
+    Ok(A::from_const(c, under)?)
+}
 
 // The leaf of a constant, which is a word or a number.
 fn leaf_of<A: SymLeaf>(word: &str, under: &mut A::Under) -> Result<A, Fault>
@@ -15,14 +39,8 @@ fn leaf_of<A: SymLeaf>(word: &str, under: &mut A::Under) -> Result<A, Fault>
     ensures valid { IfOk result (λ a. (A.reads under.new).valid a) }
 {
     match word {
-        "zero" => Ok(A::zero(under)?),
-        "one" => Ok(A::one(under)?),
-        "two" => Ok(A::two(under)?),
-        "neg_one" => Ok(A::neg_one(under)?),
-        _ => {
-            let c = A::F::from_u64(number_of(word)?);
-            Ok(A::from_const(c, under)?)
-        }
+        "zero" | "one" | "two" | "neg_one" => Ok(named_leaf(word, under)?),
+        _ => leaf_of_number(word, under),
     }
 }
 
@@ -31,13 +49,7 @@ fn show_leaf<A: Shown>(leaf: &A, under: &A::Under, text: &mut String) -> Result<
     requires sound { (A.reads under.now).sound }
     requires valid { (A.reads under.now).valid leaf.now }
 {
-    match leaf.as_const(under) {
-        Some(c) => {
-            let number = A::number(c);
-            write!(text, "{number}")?;
-        }
-        None => text.push_str("None")?,
-    }
+    show_constant::<A>(leaf.as_const(under), text)?;
     let weighted = leaf.degree_multiple_with_transition(3, under)?;
     let over_rows = leaf.poly_degree(8, &[], under)?;
     write!(text, ", degrees {weighted} {over_rows}")?;

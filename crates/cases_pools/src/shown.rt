@@ -18,6 +18,18 @@ pub trait Shown: SymLeaf {
     ) -> Result<(), Fault>;
 }
 
+/// Adds the constant that there is for folding, or `None`.
+pub fn show_constant<A: Shown>(found: Option<A::F>, text: &mut String) -> Result<(), Fault> {
+    match found {
+        Some(c) => {
+            let number = A::number(c);
+            write!(text, "{number}")?;
+        }
+        None => text.push_str("None")?,
+    }
+    Ok(())
+}
+
 // The first name of an expression.
 fn name_of<'a, A: SymLeaf>(names: &Names<'a, ExprId<A>>, x: ExprId<A>) -> Option<&'a str> {
     for (place, known) in names.values().iter().enumerate() {
@@ -44,6 +56,23 @@ pub fn show_operand<A: SymLeaf>(
     Ok(())
 }
 
+// Adds one operand or two.
+fn show_operands<A: SymLeaf>(
+    names: &Names<'_, ExprId<A>>,
+    x: ExprId<A>,
+    y: Option<ExprId<A>>,
+    text: &mut String,
+) -> Result<(), Fault> {
+    show_operand(names, x, text)?;
+    match y {
+        Some(y) => {
+            text.push_str(" ")?;
+            show_operand(names, y, text)
+        }
+        None => Ok(()),
+    }
+}
+
 // Adds an operation on one expression or two.
 fn show_operation<A: SymLeaf>(
     names: &Names<'_, ExprId<A>>,
@@ -54,11 +83,7 @@ fn show_operation<A: SymLeaf>(
     text: &mut String,
 ) -> Result<(), Fault> {
     text.push_str(word)?;
-    show_operand(names, x, text)?;
-    if let Some(y) = y {
-        text.push_str(" ")?;
-        show_operand(names, y, text)?;
-    }
+    show_operands(names, x, y, text)?;
     write!(text, " degree {degree}")?;
     Ok(())
 }

@@ -24,17 +24,21 @@ fn show_spelling(alloc: Global, kind: &str, word: &str, text: &mut String) -> Re
     }
 }
 
+fn answer_spelling(alloc: Global, operands: &[&str], text: &mut String) -> Result<(), Fault> {
+    match operands {
+        [kind, word] => show_spelling(alloc, *kind, *word, text),
+        _ => Err(Fault::Unreadable(Why::NoSuchCall)),
+    }
+}
+
 // Adds the degree that nodes state of a base variable, and that over some rows.
-fn show_base_degrees(
-    alloc: Global,
-    rows: &str,
-    periods: &str,
-    words: &[&str],
-    text: &mut String,
-) -> Result<(), Fault> {
+fn show_base_degrees(alloc: Global, operands: &[&str], text: &mut String) -> Result<(), Fault> {
+    let [rows, periods, words @ ..] = operands else {
+        return Err(Fault::Unreadable(Why::NoSuchCall));
+    };
     let variable: SymbolicVariable<BabyBear> = base_variable(words)?;
-    let rows = count_of(rows)?;
-    let periods = counts_of(alloc, periods)?;
+    let rows = count_of(*rows)?;
+    let periods = counts_of(alloc, *periods)?;
     let stated = variable.degree_multiple();
     let over_rows = variable.poly_degree(rows, periods.as_slice());
     write!(text, "{stated}, over {rows} rows {over_rows}")?;
@@ -42,9 +46,12 @@ fn show_base_degrees(
 }
 
 // The same of an extension variable.
-fn show_ext_degrees(rows: &str, words: &[&str], text: &mut String) -> Result<(), Fault> {
+fn show_ext_degrees(operands: &[&str], text: &mut String) -> Result<(), Fault> {
+    let [rows, words @ ..] = operands else {
+        return Err(Fault::Unreadable(Why::NoSuchCall));
+    };
     let variable: SymbolicVariableExt<BabyBear, BinomialExtensionField> = ext_variable(words)?;
-    let rows = count_of(rows)?;
+    let rows = count_of(*rows)?;
     let stated = variable.degree_multiple();
     let over_rows = variable.poly_degree(rows);
     write!(text, "{stated}, over {rows} rows {over_rows}")?;
@@ -52,13 +59,16 @@ fn show_ext_degrees(rows: &str, words: &[&str], text: &mut String) -> Result<(),
 }
 
 /// Adds what a call answers that needs no pool.
-pub fn answer_alone(alloc: Global, words: &[&str], text: &mut String) -> Result<(), Fault> {
-    match words {
-        ["spelling", kind, word] => show_spelling(alloc, *kind, *word, text),
-        ["variable_degrees", rows, periods, variable @ ..] => {
-            show_base_degrees(alloc, *rows, *periods, variable, text)
-        }
-        ["ext_variable_degrees", rows, variable @ ..] => show_ext_degrees(*rows, variable, text),
+pub fn answer_alone(
+    alloc: Global,
+    call: &str,
+    operands: &[&str],
+    text: &mut String,
+) -> Result<(), Fault> {
+    match call {
+        "spelling" => answer_spelling(alloc, operands, text),
+        "variable_degrees" => show_base_degrees(alloc, operands, text),
+        "ext_variable_degrees" => show_ext_degrees(operands, text),
         _ => Err(Fault::Unreadable(Why::NoSuchCall)),
     }
 }

@@ -1,5 +1,5 @@
 use contract.BorrowLft.{⊑_static}
-use Rattle.cases_builders.proofs.words.checked.Goals as goal
+use Rattle.cases_builders.proofs.words.report_of.Goals as goal
 
 -- the field lives for ever
 pub check_all_constraints-requires-lives-A-Air : goal.check_all_constraints-requires-lives-A-Air
