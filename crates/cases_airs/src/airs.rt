@@ -6,7 +6,7 @@ use crate::air::TableAir;
 use crate::parts::Parts;
 use crate::pool::NamedPool;
 use cases::{Fault, Line, Names, Why};
-use p3_air::{BaseLeaf, ExprId, Field, FlatAir};
+use p3_air::{AirError, BaseLeaf, ExprId, Field, FlatAir};
 use std::alloc::Global;
 use std::mem;
 
@@ -49,14 +49,14 @@ impl<'a, F: Field> Airs<'a, F> {
         self.names.bind(name, self.airs.len(), false)
     }
 
-    // Gives an AIR its name. It takes the pool, so that the names of expressions stand for nothing then.
-    fn keep(
+    // The AIR of some parts. It takes the pool, so that the names of expressions stand for nothing then.
+    fn air_of(
         &mut self,
-        name: &'a str,
         parts: Parts<F>,
         roots: Vec<ExprId<BaseLeaf<F>>>,
-    ) -> Result<(), Fault> {
-        self.name_next(name, &roots)?;
+    ) -> Result<TableAir<F>, AirError>
+        requires { All (λ x. x < size self.old.pool) roots.items }
+    {
         let none = NamedPool::new(self.names.alloc());
         self.lost = true;
         let NamedPool { pool, .. } = mem::replace(&mut self.pool, none);
@@ -69,13 +69,29 @@ impl<'a, F: Field> Airs<'a, F> {
             cells,
         } = parts;
         let flat = FlatAir::new(pool, roots, width, num_public_values, periodic, cells)?;
-        self.airs.push(TableAir {
+        Ok(TableAir {
             constraints,
             flat,
             table,
-        })?;
+        })
+    }
+
+    fn push(&mut self, air: TableAir<F>) -> Result<(), Fault> {
+        self.airs.push(air)?;
         self.lost = false;
         Ok(())
+    }
+
+    // Gives an AIR its name.
+    fn keep(
+        &mut self,
+        name: &'a str,
+        parts: Parts<F>,
+        roots: Vec<ExprId<BaseLeaf<F>>>,
+    ) -> Result<(), Fault> {
+        self.name_next(name, &roots)?;
+        let air = self.air_of(parts, roots)?;
+        self.push(air)
     }
 
     // Takes the words of an AIR: which expressions are to be zero, and what stands beside them.
@@ -103,13 +119,15 @@ impl<'a, F: Field> Airs<'a, F> {
         self.keep(name, parts, roots)
     }
 
+    fn answer_air(&mut self, name: &'a str, words: &[&str]) -> Result<bool, Fault> {
+        self.make(name, words)?;
+        Ok(true)
+    }
+
     /// Makes the expression or the AIR of a line, if it makes one.
     pub fn answer(&mut self, line: &Line<'a>) -> Result<bool, Fault> {
         match (line.words.as_slice(), line.name) {
-            (["air", words @ ..], Some(name)) => {
-                self.make(name, words)?;
-                Ok(true)
-            }
+            (["air", words @ ..], Some(name)) => self.answer_air(name, words),
             _ => self.pool.answer(line),
         }
     }

@@ -18,6 +18,20 @@ pub struct Parts<F: Field> {
     pub cells: Vec<BoundaryPublic>,
 }
 
+// The constraints of a name.
+fn named_constraints(word: &str) -> Result<Constraints, Fault> {
+    match word {
+        "fibonacci" => Ok(Constraints::Base(BaseList::Fibonacci)),
+        "fibonacci_named" => Ok(Constraints::Base(BaseList::FibonacciNamed)),
+        "handed" => Ok(Constraints::Base(BaseList::Handed)),
+        "differing" => Ok(Constraints::Base(BaseList::Differing)),
+        "permuted" => Ok(Constraints::Permutation(PermutationList::Permuted)),
+        "mixed" => Ok(Constraints::Permutation(PermutationList::Mixed)),
+        "labelled" => Ok(Constraints::Labelled),
+        _ => Err(Fault::Unreadable(Why::NoSuchWord)),
+    }
+}
+
 impl<F: Field> Parts<F> {
     pub fn new(alloc: Global) -> Self {
         Parts {
@@ -30,33 +44,48 @@ impl<F: Field> Parts<F> {
         }
     }
 
+    // Sets a count.
+    fn set_count(&mut self, key: &str, count: usize) {
+        match key {
+            "width" => self.width = count,
+            "public" => self.num_public_values = count,
+            _ => self.constraints = Constraints::Base(BaseList::Steep(count)),
+        }
+    }
+
+    fn set_table(&mut self, value: &str) -> Result<(), Fault> {
+        let table = trace_of(*self.periodic.allocator(), value)?;
+        self.table = Some(table);
+        Ok(())
+    }
+
+    fn push_periodic(&mut self, value: &str) -> Result<(), Fault> {
+        let column = listed_elements(*self.periodic.allocator(), value)?;
+        Ok(self.periodic.push(column)?)
+    }
+
+    fn push_cell(&mut self, value: &str) -> Result<(), Fault> {
+        let cell = cell_of(value)?;
+        Ok(self.cells.push(cell)?)
+    }
+
     /// Sets what a word `KEY:VALUE` says.
     pub fn set(&mut self, key: &str, value: &str) -> Result<(), Fault> {
-        let alloc = *self.periodic.allocator();
         match key {
-            "width" => self.width = count_of(value)?,
-            "public" => self.num_public_values = count_of(value)?,
-            "steep" => self.constraints = Constraints::Base(BaseList::Steep(count_of(value)?)),
-            "table" => self.table = Some(trace_of(alloc, value)?),
-            "periodic" => self.periodic.push(listed_elements(alloc, value)?)?,
-            "cell" => self.cells.push(cell_of(value)?)?,
-            _ => return Err(Fault::Unreadable(Why::NoSuchWord)),
+            "width" | "public" | "steep" => {
+                self.set_count(key, count_of(value)?);
+                Ok(())
+            }
+            "table" => self.set_table(value),
+            "periodic" => self.push_periodic(value),
+            "cell" => self.push_cell(value),
+            _ => Err(Fault::Unreadable(Why::NoSuchWord)),
         }
-        Ok(())
     }
 
     /// Takes the named list of constraints.
     pub fn take(&mut self, word: &str) -> Result<(), Fault> {
-        self.constraints = match word {
-            "fibonacci" => Constraints::Base(BaseList::Fibonacci),
-            "fibonacci_named" => Constraints::Base(BaseList::FibonacciNamed),
-            "handed" => Constraints::Base(BaseList::Handed),
-            "differing" => Constraints::Base(BaseList::Differing),
-            "permuted" => Constraints::Permutation(PermutationList::Permuted),
-            "mixed" => Constraints::Permutation(PermutationList::Mixed),
-            "labelled" => Constraints::Labelled,
-            _ => return Err(Fault::Unreadable(Why::NoSuchWord)),
-        };
+        self.constraints = named_constraints(word)?;
         Ok(())
     }
 }

@@ -1,12 +1,12 @@
 //! A well-formed pool, whose expressions go by the names that lines give them: what a name stands for is tested at run
 //! time to be of the pool.
 ghost use Rattle.std.specs.Prelude.{◌<◌, IsTrue, All, IfOk};
-ghost use Rattle.air_symbolic.specs.Pools.{size};
+ghost use Rattle.air_symbolic.specs.Pools.{base_of, size};
 
 use crate::words::leaf_of;
 use cases::words::element_of;
 use cases::{Fault, Line, Names, Why};
-use p3_air::{Algebra, BaseLeaf, ExprId, ExprPool, Field, SymLeaf};
+use p3_air::{Algebra, BaseLeaf, ExprId, ExprPool, Field, RingError, SymLeaf};
 use std::alloc::Global;
 use std::marker::Model;
 
@@ -59,49 +59,101 @@ impl<'a, A: SymLeaf> NamedPool<'a, A> {
         true
     }
 
-    fn neg(&mut self, x: &str) -> Result<ExprId<A>, Fault> {
-        let x = self.at(x)?;
-        Ok(self.pool.neg(x)?)
+    fn neg(&mut self, operands: &[&str]) -> Result<Option<ExprId<A>>, Fault> {
+        let [x] = operands else {
+            return Ok(None);
+        };
+        let x = self.at(*x)?;
+        Ok(Some(self.pool.neg(x)?))
     }
 
-    fn two(&mut self, word: &str, x: &str, y: &str) -> Result<ExprId<A>, Fault> {
-        let x = self.at(x)?;
-        let y = self.at(y)?;
+    fn operate(&mut self, word: &str, x: ExprId<A>, y: ExprId<A>) -> Result<ExprId<A>, RingError>
+        requires x_in { x < size self.old }
+        requires y_in { y < size self.old }
+    {
         match word {
-            "add" => Ok(self.pool.add(x, y)?),
-            "sub" => Ok(self.pool.sub(x, y)?),
-            "mul" => Ok(self.pool.mul(x, y)?),
-            _ => Err(Fault::Unreadable(Why::NoSuchCall)),
+            "add" => self.pool.add(x, y),
+            "sub" => self.pool.sub(x, y),
+            _ => self.pool.mul(x, y),
         }
     }
 
-    fn constant(&mut self, word: &str) -> Result<ExprId<A>, Fault> {
-        let c: A::F = element_of(word)?;
-        Ok(self.pool.constant(c)?)
+    fn two(&mut self, word: &str, operands: &[&str]) -> Result<Option<ExprId<A>>, Fault> {
+        let [x, y] = operands else {
+            return Ok(None);
+        };
+        let x = self.at(*x)?;
+        let y = self.at(*y)?;
+        Ok(Some(self.operate(word, x, y)?))
+    }
+
+    fn constant(&mut self, operands: &[&str]) -> Result<Option<ExprId<A>>, Fault> {
+        let [c] = operands else {
+            return Ok(None);
+        };
+        let c: A::F = element_of(*c)?;
+        Ok(Some(self.pool.constant(c)?))
+    }
+
+    // The expression that an operation makes, if the call is one.
+    fn made(&mut self, call: &str, operands: &[&str]) -> Result<Option<ExprId<A>>, Fault> {
+        match call {
+            "constant" => self.constant(operands),
+            "neg" => self.neg(operands),
+            "add" | "sub" | "mul" => self.two(call, operands),
+            _ => Ok(None),
+        }
+    }
+
+    // Gives an expression the line's name.
+    fn keep(&mut self, line: &Line<'a>, x: ExprId<A>) -> Result<(), Fault> {
+        match line.name {
+            Some(name) => self.names.bind(name, x, line.times.is_some()),
+            None => Err(Fault::Unreadable(Why::NoName)),
+        }
+    }
+
+    // Makes the expression of a leaf, and gives it the line's name.
+    fn keep_leaf(&mut self, line: &Line<'a>, leaf: A) -> Result<(), Fault>
+        requires { (A.reads (base_of self.old)).valid leaf }
+    {
+        let x = self.pool.leaf(leaf)?;
+        self.keep(line, x)
+    }
+
+    // Makes the expression of an operation, if the line is one, and gives it the line's name.
+    fn answer_operation(
+        &mut self,
+        line: &Line<'a>,
+        call: &str,
+        operands: &[&str],
+    ) -> Result<bool, Fault> {
+        match self.made(call, operands)? {
+            Some(x) => {
+                self.keep(line, x)?;
+                Ok(true)
+            }
+            None => Ok(false),
+        }
     }
 }
 
 impl<'a, F: Field> NamedPool<'a, BaseLeaf<F>> {
-    fn leaf(&mut self, words: &[&str]) -> Result<ExprId<BaseLeaf<F>>, Fault> {
-        let leaf: BaseLeaf<F> = leaf_of(words)?;
-        Ok(self.pool.leaf(leaf)?)
+    // Makes the leaf of a line, and gives it the line's name.
+    fn answer_leaf(&mut self, line: &Line<'a>, leaf: &[&str]) -> Result<bool, Fault> {
+        let leaf = leaf_of(leaf)?;
+        self.keep_leaf(line, leaf)?;
+        Ok(true)
     }
 
     /// Makes the expression of a line, if it makes one, and gives it the line's name.
     pub fn answer(&mut self, line: &Line<'a>) -> Result<bool, Fault> {
-        let x = match line.words.as_slice() {
-            ["leaf" | "variable", leaf @ ..] => self.leaf(leaf)?,
-            ["constant", c] => self.constant(*c)?,
-            ["neg", x] => self.neg(*x)?,
-            [word @ ("add" | "sub" | "mul"), x, y] => self.two(*word, *x, *y)?,
-            _ => return Ok(false),
+        let [call, operands @ ..] = line.words.as_slice() else {
+            return Ok(false);
         };
-        match line.name {
-            Some(name) => {
-                self.names.bind(name, x, line.times.is_some())?;
-                Ok(true)
-            }
-            None => Err(Fault::Unreadable(Why::NoName)),
+        match *call {
+            "leaf" | "variable" => self.answer_leaf(line, operands),
+            _ => self.answer_operation(line, *call, operands),
         }
     }
 }

@@ -12,22 +12,44 @@ fn variable<F: Field>(entry: BaseEntry, index: &str) -> Result<BaseLeaf<F>, Faul
     Ok(BaseLeaf::Variable(SymbolicVariable::new(entry, count_of(index)?)))
 }
 
+// A selector.
+fn selector<F: Field>(word: &str) -> Result<BaseLeaf<F>, Fault> {
+    match word {
+        "IsFirstRow" => Ok(BaseLeaf::IsFirstRow),
+        "IsLastRow" => Ok(BaseLeaf::IsLastRow),
+        "IsTransition" => Ok(BaseLeaf::IsTransition),
+        _ => Err(Fault::Unreadable(Why::NoSuchWord)),
+    }
+}
+
+// An entry without rows.
+fn value_entry(word: &str) -> Result<BaseEntry, Fault> {
+    match word {
+        "Periodic" => Ok(BaseEntry::Periodic),
+        "Public" => Ok(BaseEntry::Public),
+        _ => Err(Fault::Unreadable(Why::NoSuchWord)),
+    }
+}
+
+// An entry of a window.
+fn window_entry(word: &str, offset: &str) -> Result<BaseEntry, Fault> {
+    match word {
+        "Main" => Ok(BaseEntry::Main {
+            offset: count_of(offset)?,
+        }),
+        "Preprocessed" => Ok(BaseEntry::Preprocessed {
+            offset: count_of(offset)?,
+        }),
+        _ => Err(Fault::Unreadable(Why::NoSuchWord)),
+    }
+}
+
 /// A selector, or the variable `Main OFFSET INDEX`, `Preprocessed OFFSET INDEX`, `Periodic INDEX` or `Public INDEX`.
 pub fn leaf_of<F: Field>(words: &[&str]) -> Result<BaseLeaf<F>, Fault> {
     match words {
-        ["IsFirstRow"] => Ok(BaseLeaf::IsFirstRow),
-        ["IsLastRow"] => Ok(BaseLeaf::IsLastRow),
-        ["IsTransition"] => Ok(BaseLeaf::IsTransition),
-        ["Main", offset, index] => {
-            let offset = count_of(*offset)?;
-            variable(BaseEntry::Main { offset }, *index)
-        }
-        ["Preprocessed", offset, index] => {
-            let offset = count_of(*offset)?;
-            variable(BaseEntry::Preprocessed { offset }, *index)
-        }
-        ["Periodic", index] => variable(BaseEntry::Periodic, *index),
-        ["Public", index] => variable(BaseEntry::Public, *index),
+        [word] => selector(*word),
+        [entry, index] => variable(value_entry(*entry)?, *index),
+        [entry, offset, index] => variable(window_entry(*entry, *offset)?, *index),
         _ => Err(Fault::Unreadable(Why::NoSuchWord)),
     }
 }
@@ -83,18 +105,30 @@ pub fn cap_of(word: &str) -> Result<Option<usize>, Fault> {
     }
 }
 
+// The end of a trace.
+fn end_of(word: &str) -> Result<BoundaryEnd, Fault> {
+    match word {
+        "First" => Ok(BoundaryEnd::First),
+        "Last" => Ok(BoundaryEnd::Last),
+        _ => Err(Fault::Unreadable(Why::NoSuchWord)),
+    }
+}
+
+// The cell of a column.
+fn cell_at(column: &str, end: &str, public_value: &str) -> Result<BoundaryPublic, Fault> {
+    let end = end_of(end)?;
+    let column = count_of(column)?;
+    let public_value = count_of(public_value)?;
+    Ok(BoundaryPublic::new(column, end, public_value))
+}
+
 /// The boundary cell `COLUMN,First,PUBLIC` or `COLUMN,Last,PUBLIC`.
 pub fn cell_of(word: &str) -> Result<BoundaryPublic, Fault> {
     match word.split_once(',') {
-        Some((column, rest)) => {
-            let (end, public_value) = match rest.split_once(',') {
-                Some(("First", public_value)) => (BoundaryEnd::First, public_value),
-                Some(("Last", public_value)) => (BoundaryEnd::Last, public_value),
-                _ => return Err(Fault::Unreadable(Why::NoSuchWord)),
-            };
-            let column = count_of(column)?;
-            Ok(BoundaryPublic::new(column, end, count_of(public_value)?))
-        }
+        Some((column, rest)) => match rest.split_once(',') {
+            Some((end, public_value)) => cell_at(column, end, public_value),
+            None => Err(Fault::Unreadable(Why::NoSuchWord)),
+        },
         None => Err(Fault::Unreadable(Why::NoSuchWord)),
     }
 }

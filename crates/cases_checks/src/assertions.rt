@@ -1,7 +1,7 @@
 //! What a builder at a row answers, once assertions were made on it.
 
 use crate::reports::show_failures;
-use crate::rows::{ExtRow, ext_row, row_of};
+use crate::rows::{ExtRow, Row, ext_row, row_of};
 use cases::Fault;
 use cases::words::texts_of;
 use cases_airs::{Airs, TableAir};
@@ -47,6 +47,14 @@ fn assert_on<F: Field + 'static, EF: ExtensionField<F> + 'static>(
     assert_all(alloc, builder, words)
 }
 
+// Adds these texts as words.
+fn add_words<'a>(texts: &'a [String], words: &mut Vec<&'a str>) -> Result<(), Fault> {
+    for text in texts {
+        words.push(text.as_str())?;
+    }
+    Ok(())
+}
+
 // Makes the assertions of these texts.
 fn assert_texts<F: Field + 'static, EF: ExtensionField<F> + 'static>(
     alloc: Global,
@@ -54,10 +62,18 @@ fn assert_texts<F: Field + 'static, EF: ExtensionField<F> + 'static>(
     texts: &[String],
 ) -> Result<(), Fault> {
     let mut words = Vec::new(alloc);
-    for text in texts {
-        words.push(text.as_str())?;
-    }
+    add_words(texts, &mut words)?;
     assert_on(alloc, builder, words.as_slice())
+}
+
+// Makes the assertions of words that spell texts.
+fn assert_spelt<F: Field + 'static, EF: ExtensionField<F> + 'static>(
+    alloc: Global,
+    builder: &mut ExtRow<'_, F, EF>,
+    words: &[&str],
+) -> Result<(), Fault> {
+    let texts = texts_of(alloc, words)?;
+    assert_texts(alloc, builder, texts.as_slice())
 }
 
 // Makes the assertions of the words, or asserts an AIR's constraints.
@@ -70,10 +86,7 @@ fn assert_words<F: Field + 'static, EF: ExtensionField<F> + 'static>(
     match words {
         [] => Ok(()),
         ["eval", air] => Ok(eval_on(airs.air(*air)?, builder)?),
-        _ => {
-            let texts = texts_of(alloc, words)?;
-            assert_texts(alloc, builder, texts.as_slice())
-        }
+        _ => assert_spelt(alloc, builder, words),
     }
 }
 
@@ -106,6 +119,11 @@ fn show_formatted<F: Field, EF: ExtensionField<F>>(
     Ok(())
 }
 
+// Adds whether any failed.
+fn show_whether(failed: bool, text: &mut String) -> Result<(), Fault> {
+    Ok(text.push_str(if failed { "true" } else { "false" })?)
+}
+
 // Adds what the builder answers.
 fn show_answer<F: Field, EF: ExtensionField<F>>(
     builder: ExtRow<'_, F, EF>,
@@ -114,14 +132,24 @@ fn show_answer<F: Field, EF: ExtensionField<F>>(
 ) -> Result<(), Fault> {
     match answer {
         Answer::Formatted => show_formatted(&builder, text),
-        Answer::Has => Ok(text.push_str(if builder.has_failures() {
-            "true"
-        } else {
-            "false"
-        })?),
+        Answer::Has => show_whether(builder.has_failures(), text),
         Answer::Shown => show_failed(builder.failures(), text),
         Answer::Copied => show_copies(builder.into_failures().as_slice(), text),
     }
+}
+
+// Adds what the builder at this row answers, once these calls were made on it.
+fn answer_at<F: Field + 'static, EF: ExtensionField<F> + 'static>(
+    alloc: Global,
+    airs: &Airs<'_, F>,
+    answer: Answer,
+    row: &Row<F, EF>,
+    calls: &[&str],
+    text: &mut String,
+) -> Result<(), Fault> {
+    let mut builder = ext_row(alloc, row)?;
+    assert_words(alloc, airs, &mut builder, calls)?;
+    show_answer(builder, answer, text)
 }
 
 /// Adds what the builder at a row answers, once assertions were made on it: the words `KEY:VALUE` say what stands at the
@@ -135,7 +163,5 @@ pub fn answer_row<F: Field + 'static, EF: ExtensionField<F> + 'static>(
 ) -> Result<(), Fault> {
     let (row, calls) = words.split_at(words_of_row(words).min(words.len()));
     let row = row_of::<F, EF>(alloc, row)?;
-    let mut builder = ext_row(alloc, &row)?;
-    assert_words(alloc, airs, &mut builder, calls)?;
-    show_answer(builder, answer, text)
+    answer_at(alloc, airs, answer, &row, calls, text)
 }

@@ -32,15 +32,54 @@ fn asked_of_row(call: &str) -> Option<Answer> {
     }
 }
 
-// What is asked of a check.
-fn asked_of_check(call: &str, rest: &[&str]) -> Result<Asked, Fault> {
-    match (call, rest) {
-        ("check_all_constraints", [cap]) => Ok(Asked::Report(cap_of(*cap)?)),
-        ("cloned_report", [cap]) => Ok(Asked::Copy(cap_of(*cap)?)),
-        ("check_constraints", []) => Ok(Asked::First { in_words: false }),
-        ("check_constraints_text", []) => Ok(Asked::First { in_words: true }),
+// What is asked of a check that reports.
+fn asked_of_report(rest: &[&str], copied: bool) -> Result<Asked, Fault> {
+    let [cap] = rest else {
+        return Err(Fault::Unreadable(Why::NoSuchCall));
+    };
+    let cap = cap_of(*cap)?;
+    Ok(Asked::Report { cap, copied })
+}
+
+// What is asked of one that says its first fault.
+fn asked_of_first(rest: &[&str], in_words: bool) -> Result<Asked, Fault> {
+    match rest {
+        [] => Ok(Asked::First { in_words }),
         _ => Err(Fault::Unreadable(Why::NoSuchCall)),
     }
+}
+
+// What is asked of a check.
+fn asked_of_check(call: &str, rest: &[&str]) -> Result<Asked, Fault> {
+    match call {
+        "check_all_constraints" => asked_of_report(rest, false),
+        "cloned_report" => asked_of_report(rest, true),
+        "check_constraints" => asked_of_first(rest, false),
+        "check_constraints_text" => asked_of_first(rest, true),
+        _ => Err(Fault::Unreadable(Why::NoSuchCall)),
+    }
+}
+
+// Adds what an audit answers.
+fn audit_given<F: Number + 'static>(
+    alloc: Global,
+    air: &TableAir<F>,
+    given: &Given<F>,
+    rest: &[&str],
+    text: &mut String,
+) -> Result<(), Fault> {
+    let [weight] = rest else {
+        return Err(Fault::Unreadable(Why::NoSuchCall));
+    };
+    let weight = count_of(*weight)?;
+    show_base_audit(
+        alloc,
+        air,
+        &given.main,
+        given.public.as_slice(),
+        weight,
+        text,
+    )
 }
 
 // Adds what a call on an AIR and what it is checked on answers.
@@ -52,11 +91,8 @@ fn check_given<F: Number + 'static>(
     rest: &[&str],
     text: &mut String,
 ) -> Result<(), Fault> {
-    match (call, rest) {
-        ("audit_air", [weight]) => {
-            let public = given.public.as_slice();
-            show_base_audit(alloc, air, &given.main, public, count_of(*weight)?, text)
-        }
+    match call {
+        "audit_air" => audit_given(alloc, air, given, rest, text),
         _ => show_check(alloc, air, given, asked_of_check(call, rest)?, text),
     }
 }
@@ -74,21 +110,33 @@ impl<'a, F: Number + 'static, EF: ExtensionField<F> + 'static> Checks<'a, F, EF>
         }
     }
 
-    // Adds what a call answers.
-    fn answer_call(&self, call: &str, words: &[&str], text: &mut String) -> Result<(), Fault> {
-        if let Some(answer) = asked_of_row(call) {
-            return answer_row::<F, EF>(self.alloc, &self.airs, answer, words, text);
-        }
+    fn resolve(&self, words: &[&str], text: &mut String) -> Result<(), Fault> {
+        let [x, words @ ..] = words else {
+            return Err(Fault::Unreadable(Why::NoSuchCall));
+        };
+        resolved(self.alloc, &self.airs.pool, *x, words, text)
+    }
+
+    // Adds what a call answers that is not about a row.
+    fn answer_other(&self, call: &str, words: &[&str], text: &mut String) -> Result<(), Fault> {
         match (call, words) {
-            ("lent", words) => lend::<F>(self.alloc, words, text),
-            ("resolve", [x, words @ ..]) => {
-                resolved(self.alloc, &self.airs.pool, *x, words, text)
-            }
             ("audit_recorded_counter", [main, weight]) => {
                 recorded_counter::<F>(self.alloc, *main, *weight, text)
             }
             ("recorded_elsewhere", []) => recorded_elsewhere::<F>(self.alloc, text),
             _ => self.check(call, words, text),
+        }
+    }
+
+    // Adds what a call answers.
+    fn answer_call(&self, call: &str, words: &[&str], text: &mut String) -> Result<(), Fault> {
+        if let Some(answer) = asked_of_row(call) {
+            return answer_row::<F, EF>(self.alloc, &self.airs, answer, words, text);
+        }
+        match call {
+            "lent" => lend::<F>(self.alloc, words, text),
+            "resolve" => self.resolve(words, text),
+            _ => self.answer_other(call, words, text),
         }
     }
 }

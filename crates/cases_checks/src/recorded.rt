@@ -66,17 +66,32 @@ pub fn recorded_counter<F: Field + 'static>(
     show_audit(alloc, &air, &given, weight, text)
 }
 
-/// Adds how the numbers of a recording are refused with the pool of none: by the first one.
-pub fn recorded_elsewhere<F: Field>(alloc: Global, text: &mut String) -> Result<(), Fault> {
-    let Recorded { base, ext, .. } = record_counter::<F>(alloc)?;
-    let first = base.first().map(|x| x.number());
+// A recording with the pool of none.
+fn without_pool<F: Field>(alloc: Global, recorded: Recorded<F, F>) -> Recorded<F, F>
+    ensures { IsPool base_reads (base_of result.pool) }
+{
+    let Recorded { base, ext, .. } = recorded;
     let pool = ExprPool::new(alloc);
-    match air_of(alloc, Recorded { pool, base, ext }) {
-        Ok(_) => text.push_str("an AIR")?,
-        Err(AirError::IndexPastTotal { index, total }) if Some(index) == first => {
+    Recorded { pool, base, ext }
+}
+
+// Adds how a recording's numbers were refused: by the first one.
+fn show_refusal(error: AirError, first: Option<usize>, text: &mut String) -> Result<(), Fault> {
+    match error {
+        AirError::IndexPastTotal { index, total } if Some(index) == first => {
             write!(text, "the first number is past {total}")?;
+            Ok(())
         }
-        Err(error) => return Err(Fault::from(error)),
+        error => Err(Fault::from(error)),
     }
-    Ok(())
+}
+
+/// Adds how the numbers of a recording are refused with the pool of none.
+pub fn recorded_elsewhere<F: Field>(alloc: Global, text: &mut String) -> Result<(), Fault> {
+    let recorded = record_counter::<F>(alloc)?;
+    let first = recorded.base.first().map(|x| x.number());
+    match air_of(alloc, without_pool(alloc, recorded)) {
+        Ok(_) => Ok(text.push_str("an AIR")?),
+        Err(error) => show_refusal(error, first, text),
+    }
 }

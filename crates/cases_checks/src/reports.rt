@@ -52,10 +52,8 @@ fn show(report: &ConstraintReport, text: &mut String) -> Result<(), Fault> {
 /// What is asked of a check.
 #[derive(Drop)]
 pub enum Asked {
-    /// Its report, under a cap if there is one.
-    Report(Option<usize>),
-    /// The debug text of a copy of that.
-    Copy(Option<usize>),
+    /// Its report, under a cap if there is one, or the debug text of a copy of that.
+    Report { cap: Option<usize>, copied: bool },
     /// Its first fault, with a refusal as a fault of the line, or in words.
     First { in_words: bool },
 }
@@ -81,6 +79,15 @@ fn show_copy(report: &ConstraintReport, text: &mut String) -> Result<(), Fault> 
     Ok(())
 }
 
+// Adds a report, or the debug text of a copy of it.
+fn show_report(report: &ConstraintReport, copied: bool, text: &mut String) -> Result<(), Fault> {
+    if copied {
+        show_copy(report, text)
+    } else {
+        show(report, text)
+    }
+}
+
 // Adds what a check answers.
 fn answer_check<'a, F: Field + 'static, A: Air<RowBuilder<'a, F>>>(
     alloc: Global,
@@ -91,13 +98,9 @@ fn answer_check<'a, F: Field + 'static, A: Air<RowBuilder<'a, F>>>(
 ) -> Result<(), Fault> {
     let (main, public) = (&given.main, given.public.as_slice());
     match asked {
-        Asked::Report(cap) => {
+        Asked::Report { cap, copied } => {
             let report = check_all_constraints(alloc, air, main, public, cap)?;
-            show(&report, text)
-        }
-        Asked::Copy(cap) => {
-            let report = check_all_constraints(alloc, air, main, public, cap)?;
-            show_copy(&report, text)
+            show_report(&report, copied, text)
         }
         Asked::First { in_words } => match check_constraints(alloc, air, main, public) {
             Ok(()) => Ok(text.push_str("ok")?),

@@ -49,10 +49,9 @@ fn nothing<T: Drop>(alloc: Global) -> Two<T> {
 // The row `CURRENT/NEXT`, or one that stands twice.
 fn two_of<F: Field>(alloc: Global, word: &str) -> Result<Two<F>, Fault> {
     let (current, next) = word.split_once('/').unwrap_or((word, word));
-    Ok(Two {
-        current: listed_elements(alloc, current)?,
-        next: listed_elements(alloc, next)?,
-    })
+    let current = listed_elements(alloc, current)?;
+    let next = listed_elements(alloc, next)?;
+    Ok(Two { current, next })
 }
 
 // An element of the extension: its coefficients, which `.` separates.
@@ -97,19 +96,32 @@ impl<F: Field, EF: ExtensionField<F>> Row<F, EF> {
         }
     }
 
-    fn set_rows(&mut self, key: &str, rows: Two<F>) {
+    fn set_count(&mut self, key: &str, value: &str) -> Result<(), Fault> {
+        let count = count_of(value)?;
+        match key {
+            "row" => self.index = count,
+            _ => self.from = count,
+        }
+        Ok(())
+    }
+
+    fn set_rows(&mut self, alloc: Global, key: &str, value: &str) -> Result<(), Fault> {
+        let rows = two_of(alloc, value)?;
         match key {
             "main" => self.main = rows,
             _ => self.preprocessed = rows,
         }
+        Ok(())
     }
 
-    fn set_elements(&mut self, key: &str, elements: Vec<F>) {
+    fn set_elements(&mut self, alloc: Global, key: &str, value: &str) -> Result<(), Fault> {
+        let elements = listed_elements(alloc, value)?;
         match key {
             "public" => self.public = elements,
             "selectors" => self.selectors = elements,
             _ => self.periodic = elements,
         }
+        Ok(())
     }
 
     fn set_permutation(&mut self, alloc: Global, value: &str) -> Result<(), Fault> {
@@ -119,29 +131,25 @@ impl<F: Field, EF: ExtensionField<F>> Row<F, EF> {
         Ok(())
     }
 
-    fn set_extension(&mut self, key: &str, elements: Vec<EF>) {
+    fn set_extension(&mut self, alloc: Global, key: &str, value: &str) -> Result<(), Fault> {
+        let elements = listed_extension::<F, EF>(alloc, value)?;
         match key {
             "challenges" => self.challenges = elements,
             _ => self.values = elements,
         }
+        Ok(())
     }
 
     // Sets what a word `KEY:VALUE` says.
     fn set(&mut self, alloc: Global, key: &str, value: &str) -> Result<(), Fault> {
         match key {
-            "row" => self.index = count_of(value)?,
-            "counting_from" => self.from = count_of(value)?,
-            "main" | "preprocessed" => self.set_rows(key, two_of(alloc, value)?),
-            "public" | "selectors" | "periodic" => {
-                self.set_elements(key, listed_elements(alloc, value)?)
-            }
-            "permutation" => self.set_permutation(alloc, value)?,
-            "challenges" | "values" => {
-                self.set_extension(key, listed_extension::<F, EF>(alloc, value)?)
-            }
-            _ => return Err(Fault::Unreadable(Why::NoSuchWord)),
+            "row" | "counting_from" => self.set_count(key, value),
+            "main" | "preprocessed" => self.set_rows(alloc, key, value),
+            "public" | "selectors" | "periodic" => self.set_elements(alloc, key, value),
+            "permutation" => self.set_permutation(alloc, value),
+            "challenges" | "values" => self.set_extension(alloc, key, value),
+            _ => Err(Fault::Unreadable(Why::NoSuchWord)),
         }
-        Ok(())
     }
 
     // The selectors of the first row, the last one and the others; without a word for them all are 0.
@@ -281,6 +289,17 @@ fn show_values<F: Number + 'static>(
     show_elements(builder.periodic_values(), text)
 }
 
+// Lists the selectors.
+fn list_selectors<F: Number + 'static>(
+    builder: &mut PlainRow<'_, F>,
+    selectors: &mut Vec<F>,
+) -> Result<(), Fault> {
+    selectors.push(builder.is_first_row()?)?;
+    selectors.push(builder.is_last_row()?)?;
+    selectors.push(builder.is_transition()?)?;
+    Ok(())
+}
+
 // Adds the selectors.
 fn show_selectors<F: Number + 'static>(
     alloc: Global,
@@ -288,9 +307,7 @@ fn show_selectors<F: Number + 'static>(
     text: &mut String,
 ) -> Result<(), Fault> {
     let mut selectors = Vec::new(alloc);
-    selectors.push(builder.is_first_row()?)?;
-    selectors.push(builder.is_last_row()?)?;
-    selectors.push(builder.is_transition()?)?;
+    list_selectors(builder, &mut selectors)?;
     text.push_str(", selectors ")?;
     show_elements(selectors.as_slice(), text)
 }
@@ -324,6 +341,17 @@ fn show_lent<F: Number + 'static>(
     show_permutation(builder, text)
 }
 
+// Adds what the builder at this row lends.
+fn lend_at<F: Number + 'static>(
+    alloc: Global,
+    row: &Row<F, F>,
+    text: &mut String,
+) -> Result<(), Fault> {
+    let (main, preprocessed) = (row.main.current.len(), row.preprocessed.current.len());
+    let mut builder = plain_row(alloc, row)?;
+    show_lent(alloc, &mut builder, main, preprocessed, text)
+}
+
 /// Adds what the builder at a row lends.
 pub fn lend<F: Number + 'static>(
     alloc: Global,
@@ -331,9 +359,7 @@ pub fn lend<F: Number + 'static>(
     text: &mut String,
 ) -> Result<(), Fault> {
     let row = row_of::<F, F>(alloc, words)?;
-    let (main, preprocessed) = (row.main.current.len(), row.preprocessed.current.len());
-    let mut builder = plain_row(alloc, &row)?;
-    show_lent(alloc, &mut builder, main, preprocessed, text)
+    lend_at(alloc, &row, text)
 }
 
 // Adds the value of an expression at the builder's row.
@@ -350,6 +376,18 @@ fn show_value<F: Number + 'static>(
     Ok(())
 }
 
+// Adds the value of an expression at this row.
+fn resolve_at<F: Number + 'static>(
+    alloc: Global,
+    pool: &NamedPool<'_, BaseLeaf<F>>,
+    x: &str,
+    row: &Row<F, F>,
+    text: &mut String,
+) -> Result<(), Fault> {
+    let mut builder = plain_row(alloc, row)?;
+    show_value(alloc, pool, x, &mut builder, text)
+}
+
 /// Adds the value of an expression at a row.
 pub fn resolved<F: Number + 'static>(
     alloc: Global,
@@ -359,6 +397,5 @@ pub fn resolved<F: Number + 'static>(
     text: &mut String,
 ) -> Result<(), Fault> {
     let row = row_of::<F, F>(alloc, words)?;
-    let mut builder = plain_row(alloc, &row)?;
-    show_value(alloc, pool, x, &mut builder, text)
+    resolve_at(alloc, pool, x, &row, text)
 }
