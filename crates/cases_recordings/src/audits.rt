@@ -1,8 +1,7 @@
 //! Audits: the recording, the report and the degree at once.
 ghost use Rattle.air_symbolic.specs.Pools.{IsPool, base_of};
 
-use crate::expressions::show_expressions;
-use crate::recordings::Recorder;
+use crate::recordings::{Recorder, show_base};
 use air_builder::{Air, BaseAir};
 use air_field::RowMajorMatrix;
 use air_report::{ConstraintFailure, DebugConstraintBuilder};
@@ -50,7 +49,7 @@ fn show_audit<F: Number>(audit: &Audit<F>, text: &mut String) -> Result<(), Faul
     )?;
     show_failures(&audit.report.failures, text)?;
     text.push_str(" | recorded: ")?;
-    show_expressions(audit.recorded.pool.base(), &audit.recorded.base, text)
+    show_base(&audit.recorded, text)
 }
 
 /// Adds what an audit finds, under the cap if there is one.

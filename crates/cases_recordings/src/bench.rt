@@ -2,9 +2,9 @@
 
 use crate::audits::Given;
 use crate::filters::show_when;
-use crate::folds::{Row, answer_hiding, row_of};
+use crate::folds::{answer_hiding, row_of};
 use crate::kinds::{by_base, by_extension};
-use crate::layouts::{answer_layout, layout_of};
+use crate::layouts::{answer_layout, layout_of, show_air_layout};
 use crate::lent::answer_lent;
 use air_field::{ExtensionField, Field};
 use air_recording::AirLayout;
@@ -31,6 +31,17 @@ pub struct Alone<F, EF> {
     fields: PhantomData<(F, EF)>,
 }
 
+// The public values of a word, and the weight of the transition selector.
+fn values_and_weight<F: Field>(
+    alloc: Global,
+    public: &str,
+    weight: &str,
+) -> Result<(Vec<F>, usize), Fault> {
+    let public_values = listed_elements(alloc, public)?;
+    let weight = count_of(weight)?;
+    Ok((public_values, weight))
+}
+
 // What the words say of an audit.
 fn given_of<F: Field>(
     alloc: Global,
@@ -39,67 +50,42 @@ fn given_of<F: Field>(
     weight: &str,
     cap: Option<Option<usize>>,
 ) -> Result<Given<F>, Fault> {
+    let main = trace_of(alloc, trace)?;
+    let (public_values, transition_weight) = values_and_weight(alloc, public, weight)?;
     Ok(Given {
-        main: trace_of(alloc, trace)?,
-        public_values: listed_elements(alloc, public)?,
-        transition_weight: count_of(weight)?,
+        main,
+        public_values,
+        transition_weight,
         cap,
     })
 }
 
-// The AIR's own layout, changed as the word says.
-fn layout_by<F: Field>(air: &TableAir<F>, word: &str) -> Result<AirLayout, Fault> {
-    layout_of(AirLayout::from_air::<F, TableAir<F>>(air), word)
-}
-
-// Adds whether the layout suits the AIR.
-fn validated<F: Field>(
-    air: &TableAir<F>,
-    layout: AirLayout,
-    text: &mut String,
-) -> Result<(), Fault> {
-    layout.validate_against_air::<F, TableAir<F>>(air)?;
-    text.push_str("accepted")?;
-    Ok(())
-}
-
-// Adds what a call answers that records an AIR, over the base field or with an extension.
-fn recorded<F: Number + 'static, EF: ExtensionField<F> + 'static>(
+// The same with the cap in words.
+fn given_with_cap<F: Field>(
     alloc: Global,
-    air: &TableAir<F>,
-    layout: AirLayout,
+    trace: &str,
+    public: &str,
+    cap: &str,
+    weight: &str,
+) -> Result<Given<F>, Fault> {
+    let cap = cap_of(cap)?;
+    given_of(alloc, trace, public, weight, Some(cap))
+}
+
+// What a call gives to an audit, if it is one.
+fn audited_of<F: Field>(
+    alloc: Global,
     call: &str,
     words: &[&str],
-    text: &mut String,
-) -> Result<(), Fault> {
-    let (no_audit, no_row) = (None, None);
-    if by_base(alloc, air, &no_audit, layout, call, words, text)? {
-        return Ok(());
-    }
-    by_extension::<F, EF>(alloc, air, &no_row, layout, call, words, text)
-}
-
-// Adds what a call answers of an AIR by a layout.
-fn answer_by<F: Number + 'static, EF: ExtensionField<F> + 'static>(
-    alloc: Global,
-    air: &TableAir<F>,
-    layout: AirLayout,
-    call: &str,
-    words: &[&str],
-    text: &mut String,
-) -> Result<(), Fault> {
-    match (call, words) {
-        ("fold_air", words) => {
-            let row: Row<EF> = row_of::<F, EF>(alloc, words)?;
-            by_extension::<F, EF>(alloc, air, &Some(row), layout, call, words, text)
+) -> Result<Option<Given<F>>, Fault> {
+    match words {
+        [trace, public, weight] if call == "audit_air" => {
+            Ok(Some(given_of(alloc, *trace, *public, *weight, None)?))
         }
-        ("eval_when", [condition]) => { show_when::<F, EF>(alloc, air, layout, *condition, text) }
-        ("validate_against_air", []) => validated(air, layout, text),
-        ("layout", []) => {
-            write!(text, "{layout:?}")?;
-            Ok(())
+        [trace, public, cap, weight] if call == "audit_air_with_cap" => {
+            Ok(Some(given_with_cap(alloc, *trace, *public, *cap, *weight)?))
         }
-        _ => recorded::<F, EF>(alloc, air, layout, call, words, text),
+        _ => Ok(None),
     }
 }
 
@@ -122,6 +108,127 @@ fn audited<F: Number + 'static>(
     Ok(())
 }
 
+// The AIR's own layout, changed as the word says.
+fn layout_by<F: Field>(air: &TableAir<F>, word: &str) -> Result<AirLayout, Fault> {
+    layout_of(AirLayout::from_air::<F, TableAir<F>>(air), word)
+}
+
+// Adds whether the layout suits the AIR, where the call has no more words.
+fn validated<F: Field>(
+    air: &TableAir<F>,
+    layout: AirLayout,
+    words: &[&str],
+    text: &mut String,
+) -> Result<(), Fault> {
+    if !words.is_empty() {
+        return Err(Fault::Unreadable(Why::NoSuchCall));
+    }
+    layout.validate_against_air::<F, TableAir<F>>(air)?;
+    text.push_str("accepted")?;
+    Ok(())
+}
+
+// Adds what a call answers that records an AIR over the base field, if it is one.
+fn recorded_over_base<F: Number + 'static>(
+    alloc: Global,
+    air: &TableAir<F>,
+    layout: AirLayout,
+    call: &str,
+    words: &[&str],
+    text: &mut String,
+) -> Result<bool, Fault> {
+    let no_audit = None;
+    by_base(alloc, air, &no_audit, layout, call, words, text)
+}
+
+// Adds what a call answers that records an AIR with an extension.
+fn recorded_with_extension<F: Number + 'static, EF: ExtensionField<F> + 'static>(
+    alloc: Global,
+    air: &TableAir<F>,
+    layout: AirLayout,
+    call: &str,
+    words: &[&str],
+    text: &mut String,
+) -> Result<(), Fault> {
+    let no_row = None;
+    by_extension::<F, EF>(alloc, air, &no_row, layout, call, words, text)
+}
+
+// Adds what a call answers that records an AIR, over the base field or with an extension.
+fn recorded<F: Number + 'static, EF: ExtensionField<F> + 'static>(
+    alloc: Global,
+    air: &TableAir<F>,
+    layout: AirLayout,
+    call: &str,
+    words: &[&str],
+    text: &mut String,
+) -> Result<(), Fault> {
+    if recorded_over_base(alloc, air, layout, call, words, text)? {
+        return Ok(());
+    }
+    recorded_with_extension::<F, EF>(alloc, air, layout, call, words, text)
+}
+
+// Adds what an AIR's values at the row of the words are folded to.
+fn folded<F: Number + 'static, EF: ExtensionField<F> + 'static>(
+    alloc: Global,
+    air: &TableAir<F>,
+    layout: AirLayout,
+    words: &[&str],
+    text: &mut String,
+) -> Result<(), Fault> {
+    let row = Some(row_of::<F, EF>(alloc, words)?);
+    by_extension::<F, EF>(alloc, air, &row, layout, "fold_air", words, text)
+}
+
+// Adds what is recorded where an AIR's constraints are asserted under the number of the word.
+fn recorded_when<F: Number, EF: ExtensionField<F>>(
+    alloc: Global,
+    air: &TableAir<F>,
+    layout: AirLayout,
+    words: &[&str],
+    text: &mut String,
+) -> Result<(), Fault> {
+    let [condition] = words else {
+        return Err(Fault::Unreadable(Why::NoSuchCall));
+    };
+    show_when::<F, EF>(alloc, air, layout, *condition, text)
+}
+
+// Adds what a call answers of an AIR by a layout.
+fn answer_by<F: Number + 'static, EF: ExtensionField<F> + 'static>(
+    alloc: Global,
+    air: &TableAir<F>,
+    layout: AirLayout,
+    call: &str,
+    words: &[&str],
+    text: &mut String,
+) -> Result<(), Fault> {
+    match call {
+        "fold_air" => folded::<F, EF>(alloc, air, layout, words, text),
+        "eval_when" => recorded_when::<F, EF>(alloc, air, layout, words, text),
+        "validate_against_air" => validated(air, layout, words, text),
+        "layout" => show_air_layout(layout, words, text),
+        _ => recorded::<F, EF>(alloc, air, layout, call, words, text),
+    }
+}
+
+// The same of a layout in words.
+fn answer_by_words<F: Number + 'static, EF: ExtensionField<F> + 'static>(
+    alloc: Global,
+    air: &TableAir<F>,
+    call: &str,
+    words: &[&str],
+    text: &mut String,
+) -> Result<(), Fault> {
+    match words {
+        [layout, words @ ..] => {
+            answer_by::<F, EF>(alloc, air, layout_by(air, *layout)?, call, words, text)
+        }
+        [] => Err(Fault::Unreadable(Why::NoSuchCall)),
+    }
+}
+
 // Adds what a call answers of an AIR.
 fn answer_of<F: Number + 'static, EF: ExtensionField<F> + 'static>(
     alloc: Global,
@@ -130,20 +237,9 @@ fn answer_of<F: Number + 'static, EF: ExtensionField<F> + 'static>(
     words: &[&str],
     text: &mut String,
 ) -> Result<(), Fault> {
-    match (call, words) {
-        ("audit_air", [trace, public, weight]) => {
-            let given = given_of(alloc, *trace, *public, *weight, None)?;
-            audited(alloc, air, given, text)
-        }
-        ("audit_air_with_cap", [trace, public, cap, weight]) => {
-            let cap = cap_of(*cap)?;
-            let given = given_of(alloc, *trace, *public, *weight, Some(cap))?;
-            audited(alloc, air, given, text)
-        }
-        (_, [layout, words @ ..]) => {
-            answer_by::<F, EF>(alloc, air, layout_by(air, *layout)?, call, words, text)
-        }
-        _ => Err(Fault::Unreadable(Why::NoSuchCall)),
+    match audited_of(alloc, call, words)? {
+        Some(given) => audited(alloc, air, given, text),
+        None => answer_by_words::<F, EF>(alloc, air, call, words, text),
     }
 }
 
@@ -173,6 +269,20 @@ impl<'a, F: Number + 'static, EF: ExtensionField<F> + 'static> Bench<'a> for Air
     }
 }
 
+// Adds what a call answers that needs no AIR.
+fn answer_alone<F: Number, EF: ExtensionField<F>>(
+    alloc: Global,
+    call: &str,
+    words: &[&str],
+    text: &mut String,
+) -> Result<(), Fault> {
+    match call {
+        "builder" => answer_lent::<F, EF>(alloc, words, text),
+        "hiding_alphas" => answer_hiding(alloc, words, text),
+        _ => answer_layout::<F, EF>(alloc, call, words, text),
+    }
+}
+
 impl<'a, F: Number, EF: ExtensionField<F>> Bench<'a> for Alone<F, EF> {
     fn new(alloc: Global) -> Self {
         Alone {
@@ -182,18 +292,13 @@ impl<'a, F: Number, EF: ExtensionField<F>> Bench<'a> for Alone<F, EF> {
     }
 
     fn answer(&mut self, line: &Line<'a>, text: &mut String) -> Result<(), Fault> {
-        let words = line.words.as_slice();
-        let alloc = self.alloc;
         if line.name.is_some() {
             return Err(Fault::Unreadable(Why::MakesNothing));
         }
-        if answer_layout::<F, EF>(alloc, words, text)?
-            || answer_lent::<F, EF>(alloc, words, text)?
-            || answer_hiding(alloc, words, text)?
-        {
-            return Ok(());
+        match line.words.as_slice() {
+            [call, words @ ..] => answer_alone::<F, EF>(self.alloc, *call, words, text),
+            [] => Err(Fault::Unreadable(Why::NoSuchCall)),
         }
-        Err(Fault::Unreadable(Why::NoSuchCall))
     }
 
     fn standing(&self, _text: &mut String) -> Result<(), Fault> {

@@ -9,6 +9,7 @@ use air_symbolic::{
 };
 use cases::Fault;
 use cases::words::{Number, show_elements};
+use std::fmt::Debug;
 
 /// How deep a tree is shown.
 const DEPTH: usize = 8;
@@ -19,33 +20,51 @@ pub trait ShownVariable: Copy {
     fn show(self, text: &mut String) -> Result<(), Fault>;
 }
 
+// Adds an entry's variable, by the entry's name if it has one.
+fn show_entry<E: Debug>(
+    name: Option<&str>,
+    entry: &E,
+    index: usize,
+    text: &mut String,
+) -> Result<(), Fault> {
+    match name {
+        Some(name) => write!(text, "{name}[{index}]")?,
+        None => write!(text, "{entry:?}[{index}]")?,
+    }
+    Ok(())
+}
+
+fn base_name(entry: BaseEntry) -> Option<&'static str> {
+    match entry {
+        BaseEntry::Main { offset: 0 } => Some("main"),
+        BaseEntry::Main { offset: 1 } => Some("next_main"),
+        BaseEntry::Preprocessed { offset: 0 } => Some("preprocessed"),
+        BaseEntry::Preprocessed { offset: 1 } => Some("next_preprocessed"),
+        BaseEntry::Periodic => Some("periodic"),
+        BaseEntry::Public => Some("public"),
+        _ => None,
+    }
+}
+
+fn ext_name(entry: ExtEntry) -> Option<&'static str> {
+    match entry {
+        ExtEntry::Permutation { offset: 0 } => Some("permutation"),
+        ExtEntry::Permutation { offset: 1 } => Some("next_permutation"),
+        ExtEntry::Challenge => Some("challenge"),
+        ExtEntry::PermutationValue => Some("permutation_value"),
+        _ => None,
+    }
+}
+
 impl<F: Field> ShownVariable for SymbolicVariable<F> {
     fn show(self, text: &mut String) -> Result<(), Fault> {
-        let index = self.index;
-        match self.entry {
-            BaseEntry::Main { offset: 0 } => write!(text, "main[{index}]")?,
-            BaseEntry::Main { offset: 1 } => write!(text, "next_main[{index}]")?,
-            BaseEntry::Preprocessed { offset: 0 } => write!(text, "preprocessed[{index}]")?,
-            BaseEntry::Preprocessed { offset: 1 } => write!(text, "next_preprocessed[{index}]")?,
-            BaseEntry::Periodic => write!(text, "periodic[{index}]")?,
-            BaseEntry::Public => write!(text, "public[{index}]")?,
-            entry => write!(text, "{entry:?}[{index}]")?,
-        }
-        Ok(())
+        show_entry(base_name(self.entry), &self.entry, self.index, text)
     }
 }
 
 impl<F: Field, EF: ExtensionField<F>> ShownVariable for SymbolicVariableExt<F, EF> {
     fn show(self, text: &mut String) -> Result<(), Fault> {
-        let index = self.index;
-        match self.entry {
-            ExtEntry::Permutation { offset: 0 } => write!(text, "permutation[{index}]")?,
-            ExtEntry::Permutation { offset: 1 } => write!(text, "next_permutation[{index}]")?,
-            ExtEntry::Challenge => write!(text, "challenge[{index}]")?,
-            ExtEntry::PermutationValue => write!(text, "permutation_value[{index}]")?,
-            entry => write!(text, "{entry:?}[{index}]")?,
-        }
-        Ok(())
+        show_entry(ext_name(self.entry), &self.entry, self.index, text)
     }
 }
 
@@ -71,16 +90,18 @@ impl<F: Number> ShownLeaf for BaseLeaf<F> {
         _inside: bool,
         text: &mut String,
     ) -> Result<(), Fault> {
-        match self {
+        let name = match self {
             BaseLeaf::Variable(v) => return v.show(text),
-            BaseLeaf::IsFirstRow => text.push_str("is_first_row")?,
-            BaseLeaf::IsLastRow => text.push_str("is_last_row")?,
-            BaseLeaf::IsTransition => text.push_str("is_transition")?,
+            BaseLeaf::IsFirstRow => "is_first_row",
+            BaseLeaf::IsLastRow => "is_last_row",
+            BaseLeaf::IsTransition => "is_transition",
             BaseLeaf::Constant(c) => {
                 let number = c.number();
                 write!(text, "{number}")?;
+                return Ok(());
             }
-        }
+        };
+        text.push_str(name)?;
         Ok(())
     }
 }
@@ -101,8 +122,8 @@ impl<F: Number, EF: ExtensionField<F>> ShownLeaf for ExtLeaf<F, EF> {
     }
 }
 
-/// Adds an expression to this depth, an operation among operands in brackets.
-pub fn show_expression<A: ShownLeaf>(
+// Adds an expression to this depth, an operation among operands in brackets.
+fn show_expression<A: ShownLeaf>(
     pool: &ExprPool<A>,
     id: ExprId<A>,
     depth: usize,
@@ -133,8 +154,8 @@ pub fn show_expression<A: ShownLeaf>(
     Ok(())
 }
 
-/// Adds expressions with the degrees that their nodes state, `none` of none.
-pub fn show_expressions<A: ShownLeaf>(
+// Adds expressions with the degrees that their nodes state, `none` of none.
+fn show_expressions<A: ShownLeaf>(
     pool: &ExprPool<A>,
     numbers: &[ExprId<A>],
     text: &mut String,
@@ -151,4 +172,39 @@ pub fn show_expressions<A: ShownLeaf>(
     }
     text.push_str(if numbers.is_empty() { "none" } else { "" })?;
     Ok(())
+}
+
+/// Adds a base expression to this depth.
+pub fn show_base_expression<F: Number>(
+    pool: &ExprPool<BaseLeaf<F>>,
+    id: ExprId<BaseLeaf<F>>,
+    depth: usize,
+    text: &mut String,
+) -> Result<(), Fault>
+    requires { IsPool ⟦<BaseLeaf<F> as SymLeaf>⟧.reads pool.now }
+{
+    show_expression(pool, id, depth, false, text)
+}
+
+/// Adds base expressions with their degrees. (That their leaves are leaves of a pool, and shown, is dear to prove: it
+/// stands here.)
+pub fn show_base_expressions<F: Number>(
+    pool: &ExprPool<BaseLeaf<F>>,
+    numbers: &[ExprId<BaseLeaf<F>>],
+    text: &mut String,
+) -> Result<(), Fault>
+    requires { IsPool ⟦<BaseLeaf<F> as SymLeaf>⟧.reads pool.now }
+{
+    show_expressions(pool, numbers, text)
+}
+
+/// The same of expressions over the extension.
+pub fn show_ext_expressions<F: Number, EF: ExtensionField<F>>(
+    pool: &ExprPool<ExtLeaf<F, EF>>,
+    numbers: &[ExprId<ExtLeaf<F, EF>>],
+    text: &mut String,
+) -> Result<(), Fault>
+    requires { IsPool ⟦<ExtLeaf<F, EF> as SymLeaf>⟧.reads pool.now }
+{
+    show_expressions(pool, numbers, text)
 }

@@ -29,6 +29,23 @@ pub struct Row<EF> {
     alpha: Vec<EF>,
 }
 
+impl<EF> Row<EF> {
+    // A row of which nothing is said.
+    fn new(alloc: Global) -> Self {
+        Row {
+            current: Vec::new(alloc),
+            next: Vec::new(alloc),
+            permutation: Vec::new(alloc),
+            next_permutation: Vec::new(alloc),
+            public_values: Vec::new(alloc),
+            challenges: Vec::new(alloc),
+            values: Vec::new(alloc),
+            selectors: Vec::new(alloc),
+            alpha: Vec::new(alloc),
+        }
+    }
+}
+
 // The element of a word: a number, or the coefficients with commas between.
 fn extension_word<F: Field, EF: ExtensionField<F>>(alloc: Global, word: &str) -> Result<EF, Fault> {
     let all: Vec<F> = listed_elements(alloc, word)?;
@@ -39,43 +56,69 @@ fn extension_word<F: Field, EF: ExtensionField<F>>(alloc: Global, word: &str) ->
     }
 }
 
-// The elements, which `/` separates, of the word that begins with the key; where there is no such word, none.
-fn given<F: Field, EF: ExtensionField<F>>(
+// Adds the elements of a list, which `/` separates.
+fn add_list<F: Field, EF: ExtensionField<F>>(
+    alloc: Global,
+    list: &str,
+    all: &mut Vec<EF>,
+) -> Result<(), Fault> {
+    for part in list.split('/') {
+        all.push(extension_word::<F, EF>(alloc, part)?)?;
+    }
+    Ok(())
+}
+
+// Adds the elements of the word that begins with the key, if there is such a word.
+fn add_given<F: Field, EF: ExtensionField<F>>(
     alloc: Global,
     words: &[&str],
     key: &str,
-) -> Result<Vec<EF>, Fault> {
-    let mut all = Vec::new(alloc);
+    all: &mut Vec<EF>,
+) -> Result<(), Fault> {
     for word in words {
         match word.split_once(':') {
-            Some((name, list)) if name == key => {
-                for part in list.split('/') {
-                    all.push(extension_word::<F, EF>(alloc, part)?)?;
-                }
-            }
+            Some((name, list)) if name == key => add_list::<F, EF>(alloc, list, all)?,
             Some(_) => {}
             None => return Err(Fault::Unreadable(Why::NoSuchWord)),
         }
     }
-    Ok(all)
+    Ok(())
 }
 
-/// What the words say of a folder.
+// Adds what the words say of the rows of traces.
+fn add_traces<F: Field, EF: ExtensionField<F>>(
+    alloc: Global,
+    words: &[&str],
+    row: &mut Row<EF>,
+) -> Result<(), Fault> {
+    add_given::<F, EF>(alloc, words, "row", &mut row.current)?;
+    add_given::<F, EF>(alloc, words, "next", &mut row.next)?;
+    add_given::<F, EF>(alloc, words, "permutation", &mut row.permutation)?;
+    add_given::<F, EF>(alloc, words, "next_permutation", &mut row.next_permutation)
+}
+
+// The same of what stands beside them.
+fn add_values<F: Field, EF: ExtensionField<F>>(
+    alloc: Global,
+    words: &[&str],
+    row: &mut Row<EF>,
+) -> Result<(), Fault> {
+    add_given::<F, EF>(alloc, words, "public", &mut row.public_values)?;
+    add_given::<F, EF>(alloc, words, "challenges", &mut row.challenges)?;
+    add_given::<F, EF>(alloc, words, "values", &mut row.values)?;
+    add_given::<F, EF>(alloc, words, "selectors", &mut row.selectors)?;
+    add_given::<F, EF>(alloc, words, "alpha", &mut row.alpha)
+}
+
+/// What the words say of a folder. (A list is filled in its place: what is owned is dropped behind each `?`.)
 pub fn row_of<F: Field, EF: ExtensionField<F>>(
     alloc: Global,
     words: &[&str],
 ) -> Result<Row<EF>, Fault> {
-    Ok(Row {
-        current: given::<F, EF>(alloc, words, "row")?,
-        next: given::<F, EF>(alloc, words, "next")?,
-        permutation: given::<F, EF>(alloc, words, "permutation")?,
-        next_permutation: given::<F, EF>(alloc, words, "next_permutation")?,
-        public_values: given::<F, EF>(alloc, words, "public")?,
-        challenges: given::<F, EF>(alloc, words, "challenges")?,
-        values: given::<F, EF>(alloc, words, "values")?,
-        selectors: given::<F, EF>(alloc, words, "selectors")?,
-        alpha: given::<F, EF>(alloc, words, "alpha")?,
-    })
+    let mut row = Row::new(alloc);
+    add_traces::<F, EF>(alloc, words, &mut row)?;
+    add_values::<F, EF>(alloc, words, &mut row)?;
+    Ok(row)
 }
 
 // A folder at the row.
@@ -169,17 +212,22 @@ fn is_increasing(all: &[BabyBear]) -> bool
     }
 }
 
-/// Adds how many of the alphas fold the values to zero, if the line asks that.
-pub fn answer_hiding(alloc: Global, words: &[&str], text: &mut String) -> Result<bool, Fault> {
-    let ["hiding_alphas", values, alphas] = words else {
-        return Ok(false);
+// Adds how many of the alphas, which have to increase, fold the values to zero.
+fn show_hiding(values: &[BabyBear], alphas: &[BabyBear], text: &mut String) -> Result<(), Fault> {
+    if !is_increasing(alphas) {
+        return Err(Fault::Unreadable(Why::OtherShape));
+    }
+    let count = hiding_alphas(values, alphas);
+    write!(text, "{count}")?;
+    Ok(())
+}
+
+/// The same of the values and the alphas in words.
+pub fn answer_hiding(alloc: Global, words: &[&str], text: &mut String) -> Result<(), Fault> {
+    let [values, alphas] = words else {
+        return Err(Fault::Unreadable(Why::NoSuchCall));
     };
     let values: Vec<BabyBear> = listed_elements(alloc, *values)?;
     let alphas: Vec<BabyBear> = listed_elements(alloc, *alphas)?;
-    if !is_increasing(alphas.as_slice()) {
-        return Err(Fault::Unreadable(Why::OtherShape));
-    }
-    let count = hiding_alphas(values.as_slice(), alphas.as_slice());
-    write!(text, "{count}")?;
-    Ok(true)
+    show_hiding(&values, &alphas, text)
 }

@@ -64,7 +64,31 @@ pub fn show_extensions<F: Number, EF: ExtensionField<F>>(
     Ok(())
 }
 
+// Adds lists of elements, as `[[1 2] [3 4]]`.
+fn show_lists<F: Number>(lists: &[Vec<F>], text: &mut String) -> Result<(), Fault> {
+    text.push_str("[")?;
+    for (place, list) in lists.iter().enumerate() {
+        if place > 0 {
+            text.push_str(" ")?;
+        }
+        show_elements(list.as_slice(), text)?;
+    }
+    text.push_str("]")?;
+    Ok(())
+}
+
 // Adds the coordinates of the base weights, a list for each element of the basis, and the whole weights.
+fn show_weights<F: Number, EF: ExtensionField<F>>(
+    coordinates: &[Vec<F>],
+    powers: &[EF],
+    text: &mut String,
+) -> Result<(), Fault> {
+    show_lists(coordinates, text)?;
+    text.push_str(" and ")?;
+    show_extensions::<F, EF>(powers, text)
+}
+
+// The same of what an alpha decomposes to.
 fn show_decomposed<F: Number, EF: ExtensionField<F>>(
     alloc: Global,
     layout: &ConstraintLayout,
@@ -73,26 +97,19 @@ fn show_decomposed<F: Number, EF: ExtensionField<F>>(
 ) -> Result<(), Fault> {
     let alpha = extension_of::<F, EF>(alloc, alpha)?;
     let (coordinates, powers) = layout.decompose_alpha::<F, EF>(alloc, alpha)?;
-    text.push_str("[")?;
-    for (place, list) in coordinates.iter().enumerate() {
-        if place > 0 {
-            text.push_str(" ")?;
-        }
-        show_elements(list.as_slice(), text)?;
-    }
-    text.push_str("] and ")?;
-    show_extensions::<F, EF>(powers.as_slice(), text)
+    show_weights::<F, EF>(&coordinates, &powers, text)
 }
 
 // The same of the places in words, and an alpha of either field.
 fn decompose_alpha<F: Number, EF: ExtensionField<F>>(
     alloc: Global,
-    base: &str,
-    ext: &str,
-    alpha: &[&str],
+    words: &[&str],
     text: &mut String,
 ) -> Result<(), Fault> {
-    let layout = places_of(alloc, base, ext)?;
+    let [base, ext, alpha @ ..] = words else {
+        return Err(Fault::Unreadable(Why::NoSuchCall));
+    };
+    let layout = places_of(alloc, *base, *ext)?;
     match alpha {
         [_] => show_decomposed::<F, F>(alloc, &layout, alpha, text),
         _ => show_decomposed::<F, EF>(alloc, &layout, alpha, text),
@@ -100,8 +117,11 @@ fn decompose_alpha<F: Number, EF: ExtensionField<F>>(
 }
 
 // Adds how many places there are.
-fn show_total(alloc: Global, base: &str, ext: &str, text: &mut String) -> Result<(), Fault> {
-    let count = places_of(alloc, base, ext)?.total_constraints();
+fn show_total(alloc: Global, words: &[&str], text: &mut String) -> Result<(), Fault> {
+    let [base, ext] = words else {
+        return Err(Fault::Unreadable(Why::NoSuchCall));
+    };
+    let count = places_of(alloc, *base, *ext)?.total_constraints();
     write!(text, "{count}")?;
     Ok(())
 }
@@ -118,7 +138,45 @@ fn weighted<F: Field>(weights: &[F], places: &[usize], values: &[F]) -> Result<F
     Ok(sum)
 }
 
-// Adds the recombination of values by what an alpha of the base field decomposes to.
+// The recombination of values by the coordinates of the base weights, and the whole weights.
+fn recombined<F: Field>(
+    layout: &ConstraintLayout,
+    coordinates: &[Vec<F>],
+    powers: &[F],
+    values: &[F],
+) -> Result<F, Fault> {
+    let mut sum = weighted(powers, &layout.ext_indices, values)?;
+    for list in coordinates {
+        let more = weighted(list.as_slice(), &layout.base_indices, values)?;
+        sum = Field::add(sum, more);
+    }
+    Ok(sum)
+}
+
+// The same by what an alpha of the base field decomposes to.
+fn recombined_by<F: Field>(
+    alloc: Global,
+    layout: &ConstraintLayout,
+    alpha: &str,
+    values: &[F],
+) -> Result<F, Fault> {
+    let alpha = extension_of::<F, F>(alloc, &[alpha])?;
+    let (coordinates, powers) = layout.decompose_alpha::<F, F>(alloc, alpha)?;
+    recombined(layout, &coordinates, &powers, values)
+}
+
+// The same of the values in words.
+fn recombination_of<F: Field>(
+    alloc: Global,
+    layout: &ConstraintLayout,
+    alpha: &str,
+    values: &[&str],
+) -> Result<F, Fault> {
+    let values: Vec<F> = elements_of(alloc, values)?;
+    recombined_by(alloc, layout, alpha, &values)
+}
+
+// Adds the number of that.
 fn show_recombined<F: Number>(
     alloc: Global,
     layout: &ConstraintLayout,
@@ -126,60 +184,67 @@ fn show_recombined<F: Number>(
     values: &[&str],
     text: &mut String,
 ) -> Result<(), Fault> {
-    let values: Vec<F> = elements_of(alloc, values)?;
-    let alpha = extension_of::<F, F>(alloc, &[alpha])?;
-    let (coordinates, powers) = layout.decompose_alpha::<F, F>(alloc, alpha)?;
-    let mut sum = weighted(powers.as_slice(), &layout.ext_indices, values.as_slice())?;
-    for list in &coordinates {
-        let more = weighted(list.as_slice(), &layout.base_indices, values.as_slice())?;
-        sum = Field::add(sum, more);
-    }
+    let sum: F = recombination_of(alloc, layout, alpha, values)?;
     let number = sum.number();
     write!(text, "{number}")?;
     Ok(())
 }
 
 // The same of the places in words.
-fn recombine<F: Number>(
-    alloc: Global,
-    base: &str,
-    ext: &str,
-    alpha: &str,
-    values: &[&str],
-    text: &mut String,
-) -> Result<(), Fault> {
-    let layout = places_of(alloc, base, ext)?;
-    show_recombined::<F>(alloc, &layout, alpha, values, text)
+fn recombine<F: Number>(alloc: Global, words: &[&str], text: &mut String) -> Result<(), Fault> {
+    let [base, ext, alpha, values @ ..] = words else {
+        return Err(Fault::Unreadable(Why::NoSuchCall));
+    };
+    let layout = places_of(alloc, *base, *ext)?;
+    show_recombined::<F>(alloc, &layout, *alpha, values, text)
 }
 
-/// Adds what a call on a layout answers, if the line is one.
+// Adds the degree that the degree of a polynomial over so many rows stands for.
+fn show_degree(words: &[&str], text: &mut String) -> Result<(), Fault> {
+    let [degree, rows] = words else {
+        return Err(Fault::Unreadable(Why::NoSuchCall));
+    };
+    let (degree, rows) = (count_of(*degree)?, count_of(*rows)?);
+    let degree = constraint_degree_from_poly_degree(degree, rows);
+    write!(text, "{degree}")?;
+    Ok(())
+}
+
+// Adds what a JSON value spells.
+fn show_spelling(alloc: Global, words: &[&str], text: &mut String) -> Result<(), Fault> {
+    let [name, word] = words else {
+        return Err(Fault::Unreadable(Why::NoSuchCall));
+    };
+    match *name {
+        "AirLayout" => show_spelt::<AirLayout>(alloc, *word, text),
+        "ConstraintLayout" => show_spelt::<ConstraintLayout>(alloc, *word, text),
+        _ => Err(Fault::Unreadable(Why::NoSuchCall)),
+    }
+}
+
+/// Adds a layout, where the call has no more words.
+pub fn show_air_layout(layout: AirLayout, words: &[&str], text: &mut String) -> Result<(), Fault> {
+    if !words.is_empty() {
+        return Err(Fault::Unreadable(Why::NoSuchCall));
+    }
+    write!(text, "{layout:?}")?;
+    Ok(())
+}
+
+/// Adds what a call on a layout answers.
 pub fn answer_layout<F: Number, EF: ExtensionField<F>>(
     alloc: Global,
+    call: &str,
     words: &[&str],
     text: &mut String,
-) -> Result<bool, Fault> {
-    match words {
-        ["default_layout"] => {
-            let layout = AirLayout::default();
-            write!(text, "{layout:?}")?;
-        }
-        ["spelling", "AirLayout", word] => show_spelt::<AirLayout>(alloc, *word, text)?,
-        ["spelling", "ConstraintLayout", word] => {
-            show_spelt::<ConstraintLayout>(alloc, *word, text)?
-        }
-        ["total_constraints", base, ext] => show_total(alloc, *base, *ext, text)?,
-        ["decompose_alpha", base, ext, alpha @ ..] => {
-            decompose_alpha::<F, EF>(alloc, *base, *ext, alpha, text)?
-        }
-        ["recombination", base, ext, alpha, values @ ..] => {
-            recombine::<F>(alloc, *base, *ext, *alpha, values, text)?
-        }
-        ["constraint_degree_from_poly_degree", degree, rows] => {
-            let (degree, rows) = (count_of(*degree)?, count_of(*rows)?);
-            let degree = constraint_degree_from_poly_degree(degree, rows);
-            write!(text, "{degree}")?;
-        }
-        _ => return Ok(false),
+) -> Result<(), Fault> {
+    match call {
+        "default_layout" => show_air_layout(AirLayout::default(), words, text),
+        "spelling" => show_spelling(alloc, words, text),
+        "total_constraints" => show_total(alloc, words, text),
+        "decompose_alpha" => decompose_alpha::<F, EF>(alloc, words, text),
+        "recombination" => recombine::<F>(alloc, words, text),
+        "constraint_degree_from_poly_degree" => show_degree(words, text),
+        _ => Err(Fault::Unreadable(Why::NoSuchCall)),
     }
-    Ok(true)
 }

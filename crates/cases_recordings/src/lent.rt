@@ -1,7 +1,7 @@
 //! The variables and selectors that the symbolic builder lends, and what it records of assertions over the extension.
 ghost use Rattle.std.specs.Prelude.{[]};
 
-use crate::expressions::{ShownVariable, show_expression, show_expressions};
+use crate::expressions::{ShownVariable, show_base_expression, show_ext_expressions};
 use crate::layouts::layout_of;
 use crate::recordings::Recorder;
 use air_builder::{
@@ -11,18 +11,29 @@ use air_builder::{
 use air_core::TwoRows;
 use air_field::{Algebra, ExtAlgebra, ExtensionField, Field};
 use air_recording::{AirLayout, SymbolicAirBuilder};
+use air_symbolic::{BaseLeaf, ExprId, SymbolicVariable, SymbolicVariableExt};
 use cases::words::{Number, count_of, element_of, extension_of};
 use cases::{Fault, Why};
 use std::alloc::Global;
 
 // The element of a window's current or next row.
-fn at<T: Copy>(window: &TwoRows<T>, row: &str, column: &str) -> Result<Option<T>, Fault> {
-    let column = count_of(column)?;
+fn in_row<T: Copy, W: WindowAccess<T>>(
+    window: &W,
+    row: &str,
+    column: usize,
+) -> Result<Option<T>, Fault>
+    requires { W.is_window window.now }
+{
     match row {
         "current" => Ok(window.current(column)),
         "next" => Ok(window.next(column)),
         _ => Err(Fault::Unreadable(Why::NoSuchWord)),
     }
+}
+
+// The same of a window of the symbolic builder, and a column in words.
+fn at<T: Copy>(window: &TwoRows<T>, row: &str, column: &str) -> Result<Option<T>, Fault> {
+    in_row(window, row, count_of(column)?)
 }
 
 // Adds a variable, or that there is none.
@@ -54,13 +65,29 @@ enum Selector {
     TransitionWindow,
 }
 
-fn selector_of(words: &[&str]) -> Result<Selector, Fault> {
+// The selector of a window of this size.
+fn window_selector(size: &str) -> Result<Selector, Fault> {
+    match size {
+        "1" => Ok(Selector::NarrowWindow),
+        "2" => Ok(Selector::TransitionWindow),
+        _ => Err(Fault::Unreadable(Why::NoSuchCall)),
+    }
+}
+
+// The selector of a row.
+fn row_selector(call: &str) -> Result<Selector, Fault> {
+    match call {
+        "is_first_row" => Ok(Selector::FirstRow),
+        "is_last_row" => Ok(Selector::LastRow),
+        "is_transition" => Ok(Selector::Transition),
+        _ => Err(Fault::Unreadable(Why::NoSuchCall)),
+    }
+}
+
+fn selector_of(call: &str, words: &[&str]) -> Result<Selector, Fault> {
     match words {
-        ["is_first_row"] => Ok(Selector::FirstRow),
-        ["is_last_row"] => Ok(Selector::LastRow),
-        ["is_transition"] => Ok(Selector::Transition),
-        ["is_transition_window", "1"] => Ok(Selector::NarrowWindow),
-        ["is_transition_window", "2"] => Ok(Selector::TransitionWindow),
+        [] => row_selector(call),
+        [size] if call == "is_transition_window" => window_selector(*size),
         _ => Err(Fault::Unreadable(Why::NoSuchCall)),
     }
 }
@@ -125,8 +152,40 @@ fn assert_constant_ext_under<AB: ExtensionBuilder>(
     assert_zero_ext_under(builder, condition, x)
 }
 
-// Adds the variable of a window that a builder lends.
-fn show_in_window<F: Number, EF: ExtensionField<F>>(
+// The variable over the base field of a window that a builder lends, or that it lends without one.
+fn base_variable<F: Field, EF: ExtensionField<F>>(
+    builder: &Recorder<F, EF>,
+    window: &str,
+    row: &str,
+    column: &str,
+) -> Result<Option<SymbolicVariable<F>>, Fault> {
+    match window {
+        "main" => {
+            let main = builder.main()?;
+            at(&main, row, column)
+        }
+        "preprocessed" => at(builder.preprocessed(), row, column),
+        _ => Ok(builder.main_variable(count_of(row)?, count_of(column)?)),
+    }
+}
+
+// The same over the extension.
+fn ext_variable<F: Field, EF: ExtensionField<F>>(
+    builder: &Recorder<F, EF>,
+    window: &str,
+    row: &str,
+    column: &str,
+) -> Result<Option<SymbolicVariableExt<F, EF>>, Fault> {
+    if window == "permutation" {
+        let permutation = builder.permutation()?;
+        return at(&permutation, row, column);
+    }
+    let (row, column) = (count_of(row)?, count_of(column)?);
+    Ok(builder.permutation_variable(row, column)?)
+}
+
+// Adds either.
+fn show_in_window<F: Field, EF: ExtensionField<F>>(
     builder: &Recorder<F, EF>,
     window: &str,
     row: &str,
@@ -134,35 +193,50 @@ fn show_in_window<F: Number, EF: ExtensionField<F>>(
     text: &mut String,
 ) -> Result<(), Fault> {
     match window {
-        "main" => show_found(at(&builder.main()?, row, column)?, text),
-        "preprocessed" => show_found(at(builder.preprocessed(), row, column)?, text),
-        "permutation" => show_found(at(&builder.permutation()?, row, column)?, text),
-        "main_variable" => {
-            show_found(
-                builder.main_variable(count_of(row)?, count_of(column)?),
-                text,
-            )
+        "main" | "preprocessed" | "main_variable" => {
+            show_found(base_variable(builder, window, row, column)?, text)
         }
-        "permutation_variable" => {
-            let (row, column) = (count_of(row)?, count_of(column)?);
-            show_found(builder.permutation_variable(row, column)?, text)
+        "permutation" | "permutation_variable" => {
+            show_found(ext_variable(builder, window, row, column)?, text)
         }
         _ => Err(Fault::Unreadable(Why::NoSuchCall)),
     }
 }
 
-// Adds the variables of a list that a builder lends, if the word names one.
-fn show_list<F: Number, EF: ExtensionField<F>>(
+// The variables over the base field of a list that a builder lends.
+fn base_list<'a, F: Field, EF: ExtensionField<F>>(
+    builder: &'a Recorder<F, EF>,
+    list: &str,
+) -> Option<&'a [SymbolicVariable<F>]> {
+    match list {
+        "public_values" => Some(builder.public_values()),
+        "periodic_values" => Some(builder.periodic_values()),
+        _ => None,
+    }
+}
+
+// The same over the extension.
+fn ext_list<'a, F: Field, EF: ExtensionField<F>>(
+    builder: &'a Recorder<F, EF>,
+    list: &str,
+) -> Option<&'a [SymbolicVariableExt<F, EF>]> {
+    match list {
+        "permutation_randomness" => Some(builder.permutation_randomness()),
+        "permutation_values" => Some(builder.permutation_values()),
+        _ => None,
+    }
+}
+
+// Adds either, if the word names one.
+fn show_list<F: Field, EF: ExtensionField<F>>(
     builder: &Recorder<F, EF>,
     list: &str,
     text: &mut String,
 ) -> Result<bool, Fault> {
-    match list {
-        "public_values" => show_variables(builder.public_values(), text)?,
-        "periodic_values" => show_variables(builder.periodic_values(), text)?,
-        "permutation_randomness" => show_variables(builder.permutation_randomness(), text)?,
-        "permutation_values" => show_variables(builder.permutation_values(), text)?,
-        _ => return Ok(false),
+    match (base_list(builder, list), ext_list(builder, list)) {
+        (Some(all), _) => show_variables(all, text)?,
+        (None, Some(all)) => show_variables(all, text)?,
+        (None, None) => return Ok(false),
     }
     Ok(true)
 }
@@ -177,17 +251,29 @@ enum Asked<F, EF> {
     Under(F, EF),
 }
 
-fn asked_of<F: Field, EF: ExtensionField<F>>(
+// To assert where a constant holds, in words.
+fn asked_under<F: Field, EF: ExtensionField<F>>(
     alloc: Global,
     words: &[&str],
 ) -> Result<Asked<F, EF>, Fault> {
     match words {
-        ["assert_zero_ext_named", x @ ..] => Ok(Asked::Named(extension_of::<F, EF>(alloc, x)?)),
-        ["when", condition, "assert_zero_ext", x @ ..] => {
+        [condition, "assert_zero_ext", x @ ..] => {
             let x = extension_of::<F, EF>(alloc, x)?;
             Ok(Asked::Under(element_of(*condition)?, x))
         }
-        _ => Ok(Asked::Selector(selector_of(words)?)),
+        _ => Err(Fault::Unreadable(Why::NoSuchCall)),
+    }
+}
+
+fn asked_of<F: Field, EF: ExtensionField<F>>(
+    alloc: Global,
+    call: &str,
+    words: &[&str],
+) -> Result<Asked<F, EF>, Fault> {
+    match call {
+        "assert_zero_ext_named" => Ok(Asked::Named(extension_of::<F, EF>(alloc, words)?)),
+        "when" => asked_under(alloc, words),
+        _ => Ok(Asked::Selector(selector_of(call, words)?)),
     }
 }
 
@@ -212,20 +298,32 @@ fn done<AB: NamedExtensionBuilder>(
     }
 }
 
+// The same on the symbolic builder. (That it is one of every kind is dear to prove, so it stands by itself.)
+fn done_by<F: Field, EF: ExtensionField<F>>(
+    builder: &mut Recorder<F, EF>,
+    asked: Asked<F, EF>,
+) -> Result<Option<ExprId<BaseLeaf<F>>>, AirError>
+    requires { ⟦<SymbolicAirBuilder<F, EF> as AirBuilder>⟧.ready builder.old }
+    ensures { ⟦<SymbolicAirBuilder<F, EF> as AirBuilder>⟧.ready builder.new }
+{
+    done(builder, asked)
+}
+
 // Adds a selector that the builder lends, or what it has recorded over the extension.
 fn show_done<F: Number, EF: ExtensionField<F>>(
     alloc: Global,
     builder: &mut Recorder<F, EF>,
+    call: &str,
     words: &[&str],
     text: &mut String,
 ) -> Result<(), Fault>
     requires { ⟦<SymbolicAirBuilder<F, EF> as AirBuilder>⟧.ready builder.old }
 {
-    match done(builder, asked_of::<F, EF>(alloc, words)?)? {
-        Some(x) => show_expression(builder.ring(), x, 1, false, text),
+    match done_by(builder, asked_of::<F, EF>(alloc, call, words)?)? {
+        Some(x) => show_base_expression(builder.ring(), x, 1, text),
         None => {
             let numbers = builder.extension_constraints().to_vec(alloc)?;
-            show_expressions(builder.ext_ring(), numbers.as_slice(), text)
+            show_ext_expressions(builder.ext_ring(), numbers.as_slice(), text)
         }
     }
 }
@@ -242,21 +340,21 @@ fn show_asked<F: Number, EF: ExtensionField<F>>(
     match words {
         [window, row, column] => show_in_window(builder, *window, *row, *column, text),
         [list] if show_list(builder, *list, text)? => Ok(()),
-        _ => show_done(alloc, builder, words, text),
+        [call, words @ ..] => show_done(alloc, builder, *call, words, text),
+        [] => Err(Fault::Unreadable(Why::NoSuchCall)),
     }
 }
 
-/// Adds what a call on a builder answers, if the line is one.
+/// Adds what a call on a builder of a layout answers.
 pub fn answer_lent<F: Number, EF: ExtensionField<F>>(
     alloc: Global,
     words: &[&str],
     text: &mut String,
-) -> Result<bool, Fault> {
-    let ["builder", layout, words @ ..] = words else {
-        return Ok(false);
+) -> Result<(), Fault> {
+    let [layout, words @ ..] = words else {
+        return Err(Fault::Unreadable(Why::NoSuchCall));
     };
     let layout = layout_of(AirLayout::default(), *layout)?;
     let mut builder: Recorder<F, EF> = SymbolicAirBuilder::new(alloc, layout)?;
-    show_asked(alloc, &mut builder, words, text)?;
-    Ok(true)
+    show_asked(alloc, &mut builder, words, text)
 }

@@ -1,10 +1,10 @@
 //! Recordings of an AIR, and the degrees that are inferred of them.
-ghost use Rattle.std.specs.Prelude.{IfOk};
-ghost use Rattle.air_symbolic.specs.Pools.{IsPool};
+ghost use Rattle.std.specs.Prelude.{◌≡◌, IfOk};
+ghost use Rattle.air_symbolic.specs.Pools.{IsPool, base_of};
 
-use crate::expressions::show_expressions;
+use crate::expressions::{show_base_expressions, show_ext_expressions};
 use air_builder::{Air, AirError};
-use air_field::ExtensionField;
+use air_field::{ExtensionField, Field};
 use air_recording::{
     AirLayout, Recorded, SymbolicAirBuilder, get_all_symbolic_constraints, get_constraint_layout,
     get_max_constraint_degree, get_max_constraint_degree_extension, get_symbolic_constraints,
@@ -17,11 +17,30 @@ use std::alloc::Global;
 
 pub type Recorder<F, EF> = SymbolicAirBuilder<F, EF>;
 
-// Adds the base constraints, and how many others there are, of which there are to be none.
-fn show_base<F: Number>(recorded: &Recorded<F, F>, text: &mut String) -> Result<(), Fault>
-    requires { IsPool ⟦<ExtLeaf<F, F> as SymLeaf>⟧.reads recorded.now.pool }
+/// The base pool of a recording.
+pub fn base_pool<F: Field, EF: ExtensionField<F>>(
+    recorded: &Recorded<F, EF>,
+) -> &ExprPool<BaseLeaf<F>>
+    ensures { result.now ≡ base_of recorded.now.pool }
 {
-    show_expressions(recorded.pool.base(), &recorded.base, text)?;
+    recorded.pool.base()
+}
+
+/// Adds the base constraints.
+pub fn show_base<F: Number, EF: ExtensionField<F>>(
+    recorded: &Recorded<F, EF>,
+    text: &mut String,
+) -> Result<(), Fault>
+    requires { IsPool ⟦<BaseLeaf<F> as SymLeaf>⟧.reads (base_of recorded.now.pool) }
+{
+    show_base_expressions(base_pool(recorded), &recorded.base, text)
+}
+
+// Adds them, and how many others there are, of which there are to be none.
+fn show_base_alone<F: Number>(recorded: &Recorded<F, F>, text: &mut String) -> Result<(), Fault>
+    requires { IsPool ⟦<BaseLeaf<F> as SymLeaf>⟧.reads (base_of recorded.now.pool) }
+{
+    show_base(recorded, text)?;
     let ext = recorded.ext.len();
     if ext > 0 {
         write!(text, ", and {ext} over the extension")?;
@@ -29,24 +48,13 @@ fn show_base<F: Number>(recorded: &Recorded<F, F>, text: &mut String) -> Result<
     Ok(())
 }
 
-// Adds those of an AIR.
-fn show_symbolic<F: Number, A: Air<Recorder<F, F>>>(
-    alloc: Global,
-    air: &A,
-    layout: AirLayout,
-    text: &mut String,
-) -> Result<(), Fault> {
-    let recorded = get_symbolic_constraints::<F, A>(alloc, air, layout)?;
-    show_base(&recorded, text)
-}
-
-// Adds the degrees that the nodes of base expressions state.
-fn show_degrees<F: Number>(
-    pool: &ExprPool<BaseLeaf<F>>,
-    numbers: &[ExprId<BaseLeaf<F>>],
+// Adds the degrees that the nodes of expressions state.
+fn show_degrees<A: SymLeaf>(
+    pool: &ExprPool<A>,
+    numbers: &[ExprId<A>],
     text: &mut String,
 ) -> Result<(), Fault>
-    requires { IsPool ⟦<BaseLeaf<F> as SymLeaf>⟧.reads pool.now }
+    requires { IsPool A.reads pool.now }
 {
     for (place, number) in numbers.iter().enumerate() {
         text.push_str(if place == 0 { "" } else { " " })?;
@@ -58,15 +66,15 @@ fn show_degrees<F: Number>(
     Ok(())
 }
 
-// Adds the degrees of the polynomials of base expressions over so many rows.
-fn show_poly_degrees<F: Number>(
-    pool: &ExprPool<BaseLeaf<F>>,
-    numbers: &[ExprId<BaseLeaf<F>>],
+// Adds the degrees of the polynomials of expressions over so many rows.
+fn show_poly_degrees<A: SymLeaf>(
+    pool: &ExprPool<A>,
+    numbers: &[ExprId<A>],
     rows: usize,
     periods: &[usize],
     text: &mut String,
 ) -> Result<(), Fault>
-    requires { IsPool ⟦<BaseLeaf<F> as SymLeaf>⟧.reads pool.now }
+    requires { IsPool A.reads pool.now }
 {
     for (place, number) in numbers.iter().enumerate() {
         text.push_str(if place == 0 { "" } else { " " })?;
@@ -78,6 +86,67 @@ fn show_poly_degrees<F: Number>(
     Ok(())
 }
 
+// What is asked of an AIR's base constraints.
+#[derive(Drop)]
+enum Asked {
+    Constraints,
+    /// The degrees that their nodes state.
+    Degrees,
+    /// The degrees of their polynomials over so many rows, with these lengths of periodic columns.
+    PolyDegrees { rows: usize, periods: Vec<usize> },
+}
+
+// What a call without more words asks of them.
+fn asked_alone(call: &str) -> Option<Asked> {
+    match call {
+        "get_symbolic_constraints" => Some(Asked::Constraints),
+        "degree_multiples" => Some(Asked::Degrees),
+        _ => None,
+    }
+}
+
+// What a call asks of them, if it does.
+fn asked_of(alloc: Global, call: &str, words: &[&str]) -> Result<Option<Asked>, Fault> {
+    match words {
+        [] => Ok(asked_alone(call)),
+        [rows, periods] if call == "poly_degrees" => {
+            let rows = count_of(*rows)?;
+            let periods = counts_of(alloc, *periods)?;
+            Ok(Some(Asked::PolyDegrees { rows, periods }))
+        }
+        _ => Ok(None),
+    }
+}
+
+// Adds what is asked of the base constraints.
+fn show_asked<F: Number>(
+    recorded: &Recorded<F, F>,
+    asked: &Asked,
+    text: &mut String,
+) -> Result<(), Fault>
+    requires { IsPool ⟦<BaseLeaf<F> as SymLeaf>⟧.reads (base_of recorded.now.pool) }
+{
+    match asked {
+        Asked::Constraints => show_base_alone(recorded, text),
+        Asked::Degrees => show_degrees(base_pool(recorded), &recorded.base, text),
+        Asked::PolyDegrees { rows, periods } => {
+            show_poly_degrees(base_pool(recorded), &recorded.base, *rows, periods, text)
+        }
+    }
+}
+
+// The same of an AIR.
+fn show_asked_of<F: Number, A: Air<Recorder<F, F>>>(
+    alloc: Global,
+    air: &A,
+    layout: AirLayout,
+    asked: &Asked,
+    text: &mut String,
+) -> Result<(), Fault> {
+    let recorded = get_symbolic_constraints::<F, A>(alloc, air, layout)?;
+    show_asked(&recorded, asked, text)
+}
+
 /// Adds the constraints of both kinds.
 pub fn show_both<F: Number, EF: ExtensionField<F>>(
     recorded: &Recorded<F, EF>,
@@ -86,9 +155,9 @@ pub fn show_both<F: Number, EF: ExtensionField<F>>(
     requires { IsPool ⟦<ExtLeaf<F, EF> as SymLeaf>⟧.reads recorded.now.pool }
 {
     text.push_str("base: ")?;
-    show_expressions(recorded.pool.base(), &recorded.base, text)?;
+    show_base(recorded, text)?;
     text.push_str(" | extension: ")?;
-    show_expressions(&recorded.pool, &recorded.ext, text)
+    show_ext_expressions(&recorded.pool, &recorded.ext, text)
 }
 
 fn show_all<F: Number, EF: ExtensionField<F>, A: Air<Recorder<F, EF>>>(
@@ -145,31 +214,6 @@ fn show_evaluated<F: Number, EF: ExtensionField<F>, A: Air<Recorder<F, EF>>>(
     show_places(&builder, text)
 }
 
-// Adds the degrees that the nodes of an AIR's base constraints state.
-fn show_stated<F: Number, A: Air<Recorder<F, F>>>(
-    alloc: Global,
-    air: &A,
-    layout: AirLayout,
-    text: &mut String,
-) -> Result<(), Fault> {
-    let recorded = get_symbolic_constraints::<F, A>(alloc, air, layout)?;
-    show_degrees(recorded.pool.base(), &recorded.base, text)
-}
-
-// Adds the degrees of the polynomials of an AIR's base constraints, with these lengths of periodic columns.
-fn show_poly<F: Number, A: Air<Recorder<F, F>>>(
-    alloc: Global,
-    air: &A,
-    layout: AirLayout,
-    rows: &str,
-    periods: &str,
-    text: &mut String,
-) -> Result<(), Fault> {
-    let (rows, periods) = (count_of(rows)?, counts_of(alloc, periods)?);
-    let recorded = get_symbolic_constraints::<F, A>(alloc, air, layout)?;
-    show_poly_degrees(recorded.pool.base(), &recorded.base, rows, &periods, text)
-}
-
 // Adds the places of the constraints of each kind.
 fn show_layout<F: Number, EF: ExtensionField<F>, A: Air<Recorder<F, EF>>>(
     alloc: Global,
@@ -212,6 +256,24 @@ fn show_inferred_extension<F: Number, EF: ExtensionField<F>, A: Air<Recorder<F, 
     Ok(())
 }
 
+// Adds what is inferred of an AIR, if the call asks that.
+fn answer_inferred<F: Number, A: Air<Recorder<F, F>>>(
+    alloc: Global,
+    air: &A,
+    layout: AirLayout,
+    call: &str,
+    words: &[&str],
+    text: &mut String,
+) -> Result<bool, Fault> {
+    match words {
+        [rows, weight] if call == "get_max_constraint_degree" => {
+            show_inferred::<F, A>(alloc, air, layout, *rows, *weight, text)?;
+            Ok(true)
+        }
+        _ => Ok(false),
+    }
+}
+
 /// Adds what a call answers of an AIR that is recorded over the base field, if it is one.
 pub fn answer_base<F: Number, A: Air<Recorder<F, F>>>(
     alloc: Global,
@@ -221,18 +283,32 @@ pub fn answer_base<F: Number, A: Air<Recorder<F, F>>>(
     words: &[&str],
     text: &mut String,
 ) -> Result<bool, Fault> {
-    match (call, words) {
-        ("get_symbolic_constraints", []) => show_symbolic::<F, A>(alloc, air, layout, text)?,
-        ("degree_multiples", []) => show_stated::<F, A>(alloc, air, layout, text)?,
-        ("poly_degrees", [rows, periods]) => {
-            show_poly::<F, A>(alloc, air, layout, *rows, *periods, text)?
+    match asked_of(alloc, call, words)? {
+        Some(asked) => {
+            show_asked_of::<F, A>(alloc, air, layout, &asked, text)?;
+            Ok(true)
         }
-        ("get_max_constraint_degree", [rows, weight]) => {
-            show_inferred::<F, A>(alloc, air, layout, *rows, *weight, text)?
-        }
-        _ => return Ok(false),
+        None => answer_inferred::<F, A>(alloc, air, layout, call, words, text),
     }
-    Ok(true)
+}
+
+// Adds what a call without more words answers.
+fn answer_alone<F: Number, EF: ExtensionField<F>, A: Air<Recorder<F, EF>>>(
+    alloc: Global,
+    air: &A,
+    layout: AirLayout,
+    call: &str,
+    text: &mut String,
+) -> Result<(), Fault> {
+    match call {
+        "get_all_symbolic_constraints" => show_all::<F, EF, A>(alloc, air, layout, text),
+        "get_symbolic_constraints_extension" => show_extension::<F, EF, A>(
+            alloc, air, layout, text,
+        ),
+        "get_constraint_layout" => show_layout::<F, EF, A>(alloc, air, layout, text),
+        "eval" => show_evaluated::<F, EF, A>(alloc, air, layout, text),
+        _ => Err(Fault::Unreadable(Why::NoSuchCall)),
+    }
 }
 
 /// Adds what a call answers of an AIR that is recorded with an extension.
@@ -244,14 +320,9 @@ pub fn answer_extension<F: Number, EF: ExtensionField<F>, A: Air<Recorder<F, EF>
     words: &[&str],
     text: &mut String,
 ) -> Result<(), Fault> {
-    match (call, words) {
-        ("get_all_symbolic_constraints", []) => show_all::<F, EF, A>(alloc, air, layout, text),
-        ("get_symbolic_constraints_extension", []) => show_extension::<F, EF, A>(
-            alloc, air, layout, text,
-        ),
-        ("get_constraint_layout", []) => show_layout::<F, EF, A>(alloc, air, layout, text),
-        ("eval", []) => show_evaluated::<F, EF, A>(alloc, air, layout, text),
-        ("get_max_constraint_degree_extension", [rows, weight]) => {
+    match words {
+        [] => answer_alone::<F, EF, A>(alloc, air, layout, call, text),
+        [rows, weight] if call == "get_max_constraint_degree_extension" => {
             show_inferred_extension::<F, EF, A>(alloc, air, layout, *rows, *weight, text)
         }
         _ => Err(Fault::Unreadable(Why::NoSuchCall)),

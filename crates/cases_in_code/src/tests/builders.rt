@@ -2,7 +2,7 @@
 
 use air_core::{AirError, BoundaryEnd, BoundaryIoError, Element, Lazy, Name, NamespaceExt};
 use air_field::{MatrixError, RingError};
-use std::alloc::AllocError;
+use std::alloc::{AllocError, Global};
 use std::string::ToString;
 use std::test::Fail;
 
@@ -43,16 +43,29 @@ fn add_name<N: Name>(name: N, text: &mut String) -> Result<(), Fail>
     Ok(())
 }
 
-#[test]
-fn names_stand_under_namespaces(rt: HostRuntime) -> Result<(), Fail> {
-    let alloc = rt.alloc();
-    let mut text = String::new(alloc);
-    add_name("outer".join("mid").name("leaf"), &mut text)?;
-    add_name("".name(""), &mut text)?;
-    add_name("z".name(Element(12)), &mut text)?;
+// Adds the text of the name `outer::inner`. (The name of two parts is named here alone: a call is proved the sooner the
+// less its types nest.)
+fn add_under<A: NamespaceExt, N: Name>(outer: A, inner: N, text: &mut String) -> Result<(), Fail>
+    requires outer { A.can_evaluate outer }
+    requires inner { N.can_evaluate inner }
+{
+    add_name(outer.name(inner), text)
+}
+
+// Adds the texts of names of each kind under namespaces.
+fn add_names(alloc: Global, text: &mut String) -> Result<(), Fail> {
+    add_under("outer".join("mid"), "leaf", text)?;
+    add_under("", "", text)?;
+    add_under("z", Element(12), text)?;
     let column = 4;
     let lazy = Lazy(move || format!(in alloc; "column {column}"));
-    add_name("row".name(lazy), &mut text)?;
+    add_under("row", lazy, text)
+}
+
+#[test]
+fn names_stand_under_namespaces(rt: HostRuntime) -> Result<(), Fail> {
+    let mut text = String::new(rt.alloc());
+    add_names(rt.alloc(), &mut text)?;
     assert_eq!(rt;
         text.as_str(),
         "[outer::mid::leaf][::][z::[12]][row::column 4]"

@@ -12,8 +12,9 @@ use std::alloc::Global;
 use std::cell::Cell;
 use std::test::Fail;
 
-// Asserts arrays. (They are handed on: one of a builder's elements can be made where their type is known.)
-fn assert_arrays<AB: AirBuilder>(
+// Asserts arrays. (They are handed on: one of a builder's elements can be made where their type is known. The bound is
+// the trait of arrays, so that each call here is of what is given.)
+fn assert_arrays<AB: AssertAll<2>>(
     builder: &mut AB,
     zeros: [AB::Expr; 2],
     bits: [AB::Expr; 2],
@@ -27,23 +28,20 @@ fn assert_arrays<AB: AirBuilder>(
     builder.assert_eq_arrays(bits, ones)
 }
 
-// The same under names, and over the extension.
-fn assert_named_arrays<AB: NamedExtensionBuilder>(
+// The same under names.
+fn assert_named_arrays<AB: AssertAllNamed<2>>(
     builder: &mut AB,
     zeros: [AB::Expr; 2],
     bits: [AB::Expr; 2],
-    roots: [AB::ExprEF; 2],
 ) -> Result<(), AirError>
     requires ready { (b : AB) → AB.ready b }
     requires of_ring { (r : AB.Ring) (e : AB.Expr) → AB.Ring.has r e }
-    requires of_ext_ring { (r : AB.ExtRing) (e : AB.ExprEF) → AB.ExtRing.has r e }
 {
     builder.assert_zeros_named(zeros, "zeros")?;
-    builder.assert_bools_named(bits, "bits")?;
-    builder.assert_zeros_ext(roots)
+    builder.assert_bools_named(bits, "bits")
 }
 
-// Both.
+// Both, and one over the extension.
 fn assert_all_arrays<AB: NamedExtensionBuilder>(
     builder: &mut AB,
     zeros: [AB::Expr; 2],
@@ -56,10 +54,11 @@ fn assert_all_arrays<AB: NamedExtensionBuilder>(
     requires of_ext_ring { (r : AB.ExtRing) (e : AB.ExprEF) → AB.ExtRing.has r e }
 {
     assert_arrays(builder, zeros, bits, ones)?;
-    assert_named_arrays(builder, zeros, bits, roots)
+    assert_named_arrays(builder, zeros, bits)?;
+    builder.assert_zeros_ext(roots)
 }
 
-// Both at a row.
+// All of them at a row.
 fn assert_arrays_at_row<F: Field + 'static, EF: ExtensionField<F> + 'static>(
     builder: &mut Row<'_, F, EF>,
     zeros: [F; 2],
@@ -101,60 +100,6 @@ fn arrays_are_batches(rt: HostRuntime) -> Result<(), Fail> {
         failures.as_str(),
         "[#1, #3, #5, #7 \"zeros::[1]\", #9 \"bits::[1]\", #11]"
     );
-    Ok(())
-}
-
-// What a counter says after assertions of both kinds that hold, after one that fails, and after one over the extension
-// that fails.
-fn counts_asked<AB: NamedExtensionBuilder>(
-    builder: &mut AB,
-    zero: AB::Expr,
-    one: AB::Expr,
-    zero_ext: AB::ExprEF,
-    root: AB::ExprEF,
-) -> Result<[u32; 3], AirError>
-    requires ready { (b : AB) → AB.ready b }
-    requires of_ring { (r : AB.Ring) (e : AB.Expr) → AB.Ring.has r e }
-    requires of_ext_ring { (r : AB.ExtRing) (e : AB.ExprEF) → AB.ExtRing.has r e }
-{
-    let asked = Cell::new(0u32);
-    zero_asking(builder, zero, &asked)?;
-    zero_ext_asking(builder, zero_ext, &asked)?;
-    let passing = asked.get();
-    zero_asking(builder, one, &asked)?;
-    let failing = asked.get();
-    zero_ext_asking(builder, root, &asked)?;
-    Ok([passing, failing, asked.get()])
-}
-
-// The same at a row.
-fn counts_asked_at_row<F: Field + 'static, EF: ExtensionField<F> + 'static>(
-    builder: &mut Row<'_, F, EF>,
-    root: EF,
-) -> Result<[u32; 3], AirError> {
-    counts_asked(builder, F::ZERO, F::ONE, EF::zero(), root)
-}
-
-// The same, and what failed.
-fn counts_and_failures<F: Field + 'static, EF: ExtensionField<F> + 'static>(
-    alloc: Global,
-    rows: ViewPair<'_, EF>,
-    root: EF,
-) -> Result<([u32; 3], String), AirError> {
-    let mut builder: Row<'_, F, EF> = row_with(alloc, rows);
-    let counts = counts_asked_at_row(&mut builder, root)?;
-    Ok((counts, builder.formatted_failures()?))
-}
-
-#[test]
-fn a_passing_assertion_asks_for_no_label(rt: HostRuntime) -> Result<(), Fail> {
-    let (counts, failures) = counts_and_failures::<BabyBear, Element>(
-        rt.alloc(),
-        no_rows(),
-        root_times(1),
-    )?;
-    assert_eq!(rt; counts, [0, 1, 2]);
-    assert_eq!(rt; failures.as_str(), "[#2 \"base\", #3 \"extension\"]");
     Ok(())
 }
 
@@ -200,8 +145,39 @@ fn ext_asking<AB: NamedExtensionBuilder>(
     builder.assert_eq_ext_named(x, x, Asking(asked))
 }
 
-// All of these.
-fn assert_what_holds<AB: NamedExtensionBuilder>(
+// Asserts under a name that an element is one.
+fn one_asking<AB: NamedAirBuilder>(
+    builder: &mut AB,
+    x: AB::Expr,
+    asked: &Cell<u32>,
+) -> Result<(), AirError>
+    requires ready { AB.ready builder.old }
+    requires of_ring { AB.Ring.has (AB.ring_of builder.old) x }
+{
+    builder.assert_one_named(x, Asking(asked))
+}
+
+/// What is asserted, under names that tell a counter when they are asked for.
+#[derive(Drop)]
+enum Claim<'a, E, X> {
+    /// That the element is zero.
+    Zero(E),
+    /// The same over the extension.
+    ZeroExt(X),
+    /// That the element is one.
+    One(E),
+    /// What holds, by way of each call.
+    Holding {
+        one: E,
+        zeros: &'a [E],
+        ones: &'a [E],
+        one_ext: X,
+        x: X,
+    },
+}
+
+// Asserts what holds, by way of each call.
+fn holding_asking<AB: NamedExtensionBuilder>(
     builder: &mut AB,
     one: AB::Expr,
     zeros: &[AB::Expr],
@@ -219,52 +195,110 @@ fn assert_what_holds<AB: NamedExtensionBuilder>(
     ext_asking(builder, one_ext, x, asked)
 }
 
-// All of these at a row.
-fn assert_what_holds_at_row<F: Field + 'static, EF: ExtensionField<F> + 'static>(
-    builder: &mut Row<'_, F, EF>,
-    zeros: &[F],
-    ones: &[F],
-    x: EF,
-    asked: &Cell<u32>,
-) -> Result<(), AirError> {
-    assert_what_holds(builder, F::ONE, zeros, ones, EF::one(), x, asked)
-}
-
-// Asserts under a name that an element is one.
-fn one_asking<AB: NamedExtensionBuilder>(
+// Asserts a claim.
+fn claim_asking<AB: NamedExtensionBuilder>(
     builder: &mut AB,
-    x: AB::Expr,
+    claim: Claim<'_, AB::Expr, AB::ExprEF>,
     asked: &Cell<u32>,
 ) -> Result<(), AirError>
-    requires ready { AB.ready builder.old }
-    requires of_ring { AB.Ring.has (AB.ring_of builder.old) x }
+    requires ready { (b : AB) → AB.ready b }
+    requires of_ring { (r : AB.Ring) (e : AB.Expr) → AB.Ring.has r e }
+    requires of_ext_ring { (r : AB.ExtRing) (e : AB.ExprEF) → AB.ExtRing.has r e }
 {
-    builder.assert_one_named(x, Asking(asked))
+    match claim {
+        Claim::Zero(x) => zero_asking(builder, x, asked),
+        Claim::ZeroExt(x) => zero_ext_asking(builder, x, asked),
+        Claim::One(x) => one_asking(builder, x, asked),
+        Claim::Holding {
+            one,
+            zeros,
+            ones,
+            one_ext,
+            x,
+        } => holding_asking(builder, one, zeros, ones, one_ext, x, asked),
+    }
 }
 
-// Asserts so at a row that zero is one, which fails.
-fn assert_what_fails_at_row<F: Field + 'static, EF: ExtensionField<F> + 'static>(
-    builder: &mut Row<'_, F, EF>,
+// The same at a row. (That a builder at a row is one of every kind is dear to prove, so all claims come here.)
+fn claim_at_row<'a, F: Field + 'static, EF: ExtensionField<F> + 'static>(
+    builder: &mut Row<'a, F, EF>,
+    claim: Claim<'a, F, EF>,
     asked: &Cell<u32>,
 ) -> Result<(), AirError> {
-    one_asking(builder, F::ZERO, asked)
+    claim_asking(builder, claim, asked)
 }
 
-// Whether what holds failed at a row, and what the counter says then; and after one more assertion, which fails, what
-// the counter says and what failed.
-fn what_holds_and_one_more<F: Field + 'static, EF: ExtensionField<F> + 'static>(
+// What a counter says at a row after claims of both kinds that hold, after one that fails, and after one over the
+// extension that fails; and what failed.
+fn counts_asked<F: Field + 'static, EF: ExtensionField<F> + 'static>(
+    builder: &mut Row<'_, F, EF>,
+    root: EF,
+) -> Result<([u32; 3], String), AirError> {
+    let asked = Cell::new(0u32);
+    claim_at_row(builder, Claim::Zero(F::ZERO), &asked)?;
+    claim_at_row(builder, Claim::ZeroExt(EF::zero()), &asked)?;
+    let passing = asked.get();
+    claim_at_row(builder, Claim::Zero(F::ONE), &asked)?;
+    let failing = asked.get();
+    claim_at_row(builder, Claim::ZeroExt(root), &asked)?;
+    let failures = builder.formatted_failures()?;
+    Ok(([passing, failing, asked.get()], failures))
+}
+
+// The same of a builder with these permutation data.
+fn counts_and_failures<F: Field + 'static, EF: ExtensionField<F> + 'static>(
     alloc: Global,
     rows: ViewPair<'_, EF>,
-    zeros: &[F],
-    ones: &[F],
-    x: EF,
+    root: EF,
+) -> Result<([u32; 3], String), AirError> {
+    let mut builder: Row<'_, F, EF> = row_with(alloc, rows);
+    counts_asked(&mut builder, root)
+}
+
+#[test]
+fn a_passing_assertion_asks_for_no_label(rt: HostRuntime) -> Result<(), Fail> {
+    let (counts, failures) = counts_and_failures::<BabyBear, Element>(
+        rt.alloc(),
+        no_rows(),
+        root_times(1),
+    )?;
+    assert_eq!(rt; counts, [0, 1, 2]);
+    assert_eq!(rt; failures.as_str(), "[#2 \"base\", #3 \"extension\"]");
+    Ok(())
+}
+
+// Whether what holds failed at a row, and what the counter says then; and after one more claim, which fails, what the
+// counter says and what failed.
+fn holding_and_one_more<'a, F: Field + 'static, EF: ExtensionField<F> + 'static>(
+    builder: &mut Row<'a, F, EF>,
+    holding: Claim<'a, F, EF>,
 ) -> Result<(bool, u32, u32, String), AirError> {
     let asked = Cell::new(0u32);
-    let mut builder: Row<'_, F, EF> = row_with(alloc, rows);
-    assert_what_holds_at_row(&mut builder, zeros, ones, x, &asked)?;
+    claim_at_row(builder, holding, &asked)?;
     let (failed, holding) = (builder.has_failures(), asked.get());
-    assert_what_fails_at_row(&mut builder, &asked)?;
-    Ok((failed, holding, asked.get(), builder.formatted_failures()?))
+    claim_at_row(builder, Claim::One(F::ZERO), &asked)?;
+    let failures = builder.formatted_failures()?;
+    Ok((failed, holding, asked.get(), failures))
+}
+
+// The same of a builder with these permutation data.
+fn what_holds_and_one_more<'a, F: Field + 'static, EF: ExtensionField<F> + 'static>(
+    alloc: Global,
+    rows: ViewPair<'a, EF>,
+    zeros: &'a [F],
+    ones: &'a [F],
+    x: EF,
+) -> Result<(bool, u32, u32, String), AirError> {
+    let (one, one_ext) = (F::ONE, EF::one());
+    let holding = Claim::Holding {
+        one,
+        zeros,
+        ones,
+        one_ext,
+        x,
+    };
+    let mut builder: Row<'_, F, EF> = row_with(alloc, rows);
+    holding_and_one_more(&mut builder, holding)
 }
 
 #[test]

@@ -4,8 +4,8 @@ ghost use Rattle.std.specs.Prelude.{◌≡◌, IfOk};
 use crate::tests::rows::{Element, Row, no_rows, root_times, row_with};
 use p3_air::{
     AirBuilder, AirBuilderWithContext, AirError, Algebra, BabyBear, ExtensionBuilder,
-    ExtensionField, Field, FromVar, PermutationAirBuilder, RowMajorMatrixView, ViewPair,
-    WindowAccess,
+    ExtensionField, Field, FilteredAirBuilder, FromVar, PermutationAirBuilder, RowMajorMatrixView,
+    ViewPair, WindowAccess,
 };
 use std::alloc::Global;
 use std::fmt::Debug;
@@ -61,6 +61,18 @@ fn a_builder_at_a_row_and_a_filter_on_it_have_the_empty_context(
 
 // What a filter lends of permutation data: column 1 of the window's current row, and the next row's variable in column
 // 0.
+fn lent_by<AB: PermutationAirBuilder>(
+    filter: &FilteredAirBuilder<'_, AB>,
+) -> Result<(Option<AB::VarEF>, Option<AB::VarEF>), AirError>
+where
+    AB::ExtRing: FromVar<AB::F, AB::RandomVar> + FromVar<AB::F, AB::PermutationVar>,
+{
+    let current = filter.permutation()?.current(1);
+    let next = filter.permutation_variable(1, 0)?;
+    Ok((current, next))
+}
+
+// The same of a filter on a builder.
 fn lent_by_filter<AB: PermutationAirBuilder>(
     builder: &mut AB,
     condition: AB::Expr,
@@ -71,9 +83,7 @@ where
     requires condition_in { AB.Ring.has (AB.ring_of builder.old) condition }
 {
     let filter = builder.when(condition)?;
-    let current = filter.permutation()?.current(1);
-    let next = filter.permutation_variable(1, 0)?;
-    Ok((current, next))
+    lent_by(&filter)
 }
 
 // The same at a row.

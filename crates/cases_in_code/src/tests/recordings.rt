@@ -1,17 +1,16 @@
 //! Recordings and folds of assertions, under names that tell whether they are asked for: never. The assertions stand in
 //! functions over any builder, and the builders are made over any fields: at given ones each call is dear to prove.
 use crate::tests::labels::{zero_asking, zero_ext_asking};
+use crate::tests::rows::{Element, root_times};
 use air_folder::ConstraintFolder;
 use p3_air::{
-    AirBuilder, AirError, AirLayout, Algebra, BabyBear, BinomialExtensionField, ExtAlgebra,
-    ExtensionBuilder, ExtensionField, Field, NamedAirBuilder, NamedExtensionBuilder,
-    RowMajorMatrixView, SymbolicAirBuilder, ViewPair,
+    AirBuilder, AirError, AirLayout, Algebra, BabyBear, ExtAlgebra, ExtensionBuilder,
+    ExtensionField, Field, NamedAirBuilder, NamedExtensionBuilder, RowMajorMatrixView,
+    SymbolicAirBuilder, ViewPair,
 };
 use std::alloc::Global;
 use std::cell::Cell;
 use std::test::Fail;
-
-type Element = BinomialExtensionField;
 
 // Asserts under a name that an element of the extension is zero. The builder is ready for more.
 fn constant_asking<AB: NamedExtensionBuilder>(
@@ -133,6 +132,22 @@ fn two_under<AB: ExtensionBuilder>(
     assert_ext_under(builder, ext_condition, y)
 }
 
+// All four: each kind under a name, and where its condition holds. (The folder is named to the four by one call.)
+fn four_asking<AB: NamedExtensionBuilder>(
+    builder: &mut AB,
+    named: (AB::Expr, AB::ExprEF),
+    conditions: (AB::Expr, AB::Expr),
+    under: (AB::Expr, AB::ExprEF),
+    asked: &Cell<u32>,
+) -> Result<(), AirError>
+    requires ready { (b : AB) → AB.ready b }
+    requires of_ring { (r : AB.Ring) (e : AB.Expr) → AB.Ring.has r e }
+    requires of_ext_ring { (r : AB.ExtRing) (e : AB.ExprEF) → AB.ExtRing.has r e }
+{
+    two_asking(builder, named.0, named.1, asked)?;
+    two_under(builder, conditions.0, under.0, conditions.1, under.1)
+}
+
 type Folder<'a, F, EF> = ConstraintFolder<'a, F, EF>;
 
 // The image of a number.
@@ -150,11 +165,10 @@ fn folder_by<'a, F: Field, EF: ExtensionField<F>>(alpha: EF) -> Folder<'a, F, EF
 
 // What 1, `x`, 12 and 30 are folded to by 10; the last two are products with conditions.
 fn folded<F: Field, EF: ExtensionField<F>>(x: EF, asked: &Cell<u32>) -> Result<EF, AirError> {
+    let conditions = (element::<F, EF>(3), element::<F, EF>(5));
+    let under = (element::<F, EF>(4), element::<F, EF>(6));
     let mut folder: Folder<'_, F, EF> = folder_by(element::<F, EF>(10));
-    two_asking(&mut folder, EF::one(), x, asked)?;
-    let (three, four) = (element::<F, EF>(3), element::<F, EF>(4));
-    let (five, six) = (element::<F, EF>(5), element::<F, EF>(6));
-    two_under(&mut folder, three, four, five, six)?;
+    four_asking(&mut folder, (EF::one(), x), conditions, under, asked)?;
     Ok(folder.accumulator())
 }
 
@@ -162,8 +176,7 @@ fn folded<F: Field, EF: ExtensionField<F>>(x: EF, asked: &Cell<u32>) -> Result<E
 #[test]
 fn each_assertion_is_folded(rt: HostRuntime) -> Result<(), Fail> {
     let asked = Cell::new(0);
-    let root = Element::from_basis_coefficients(&[0, 2, 0, 0].map(BabyBear::new));
-    let sum = folded::<BabyBear, Element>(root, &asked)?;
+    let sum = folded::<BabyBear, Element>(root_times(2), &asked)?;
     assert_eq!(rt; asked.get(), 0);
     let wanted = Element::from_basis_coefficients(&[1150, 200, 0, 0].map(BabyBear::new));
     assert_eq!(rt; sum, wanted);

@@ -74,6 +74,28 @@ const INPUT: &[u8] = b"0 1 3\n0 1\n1 1\n1 2\n2 3\n";
 
 const OBJECT: &[u8] = b"{\"main_width\":1,\"main\":[0],\"public_values\":[],\"constraints\":[]}";
 
+/// The words of a text, which single spaces separate.
+fn words_of(alloc: Global, text: &str) -> Result<Vec<String>, Fail> {
+    let mut words = Vec::new(alloc);
+    for word in text.split(' ') {
+        words.push(String::from_str(alloc, word)?)?;
+    }
+    Ok(words)
+}
+
+/// The status of a run; none where a write failed.
+fn status_of(
+    alloc: Global,
+    words: &[String],
+    reader: &mut Pieces<'_>,
+    writer: &mut Kept,
+) -> Option<u8>
+    requires reader { reader.old.failed ≡ false }
+    requires writer { writer.old.failed ≡ false }
+{
+    run(alloc, words, reader, writer).ok()
+}
+
 /// The status of a run whose reader and writer fail after so many calls, and what was written; no status where a write
 /// failed.
 fn run_cut(
@@ -83,10 +105,7 @@ fn run_cut(
     reads: u64,
     writes: u64,
 ) -> Result<(Option<u8>, Vec<u8>), Fail> {
-    let mut words = Vec::new(alloc);
-    for word in text.split(' ') {
-        words.push(String::from_str(alloc, word)?)?;
-    }
+    let words = words_of(alloc, text)?;
     let mut reader = Pieces {
         bytes,
         calls_left: reads,
@@ -97,7 +116,7 @@ fn run_cut(
         calls_left: writes,
         failed: false,
     };
-    let status = run(alloc, &words, &mut reader, &mut writer).ok();
+    let status = status_of(alloc, &words, &mut reader, &mut writer);
     Ok((status, writer.bytes))
 }
 
