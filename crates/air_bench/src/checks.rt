@@ -1,9 +1,7 @@
-//! Checks of Fibonacci, and of the wide AIR as it is written and as it is recorded.
+//! Checks of Fibonacci, of an AIR as it is recorded, and of any AIR on a trace.
 
 use crate::traces::{fibonacci_trace, wide_trace};
-use crate::wide::Wide;
 use air_fibonacci::Fibonacci;
-use p3_air::author::Plain;
 use p3_air::{
     Air, AirError, AirLayout, BaseAir, DebugConstraintBuilder, Field, FlatAir, RowMajorMatrix,
     SymbolicAirBuilder, check_all_constraints, get_symbolic_constraints, recorded_air,
@@ -28,8 +26,8 @@ fn checked<'a, F: Field + 'static, A: Air<DebugConstraintBuilder<'a, F, F>>>(
     Ok((report.failures.len(), report.total_constraints_per_row))
 }
 
-/// How many failures so many checks find, and how many constraints a row has, each summed.
-pub fn check_rounds<'a, F: Field + 'static, A: Air<DebugConstraintBuilder<'a, F, F>>>(
+// How many failures so many checks find, and how many constraints a row has, each summed.
+fn check_rounds<'a, F: Field + 'static, A: Air<DebugConstraintBuilder<'a, F, F>>>(
     alloc: Global,
     air: &'a A,
     main: &'a RowMajorMatrix<F>,
@@ -46,6 +44,30 @@ pub fn check_rounds<'a, F: Field + 'static, A: Air<DebugConstraintBuilder<'a, F,
     Ok((failures, constraints))
 }
 
+/// The failures that so many checks find.
+pub fn count_failures<'a, F: Field + 'static, A: Air<DebugConstraintBuilder<'a, F, F>>>(
+    alloc: Global,
+    air: &'a A,
+    main: &'a RowMajorMatrix<F>,
+    public: &'a [F],
+    rounds: usize,
+) -> Result<usize, AirError> {
+    let (failures, _) = check_rounds(alloc, air, main, public, rounds)?;
+    Ok(failures)
+}
+
+/// The failures that so many checks find, and the constraints of a row.
+pub fn count_checked<'a, F: Field + 'static, A: Air<DebugConstraintBuilder<'a, F, F>>>(
+    alloc: Global,
+    air: &'a A,
+    main: &'a RowMajorMatrix<F>,
+    public: &'a [F],
+    rounds: usize,
+) -> Result<usize, AirError> {
+    let (failures, constraints) = check_rounds(alloc, air, main, public, rounds)?;
+    Ok(failures.wrapping_add(constraints))
+}
+
 /// The failures that so many checks of Fibonacci find, on so many rows.
 pub fn check_fibonacci<F: Field + 'static>(
     alloc: Global,
@@ -54,20 +76,7 @@ pub fn check_fibonacci<F: Field + 'static>(
 ) -> Result<usize, AirError> {
     let air = Fibonacci::new();
     let (main, public) = fibonacci_trace::<F>(alloc, rows)?;
-    let (failures, _) = check_rounds(alloc, &air, &main, &public, rounds)?;
-    Ok(failures)
-}
-
-/// The failures that so many checks of the wide AIR find, on so many rows.
-pub fn check_wide<F: Field + 'static>(
-    alloc: Global,
-    rounds: usize,
-    rows: usize,
-) -> Result<usize, AirError> {
-    let air = Plain(Wide { count: 64 });
-    let main = wide_trace::<F>(alloc, rows)?;
-    let (failures, _) = check_rounds(alloc, &air, &main, &[], rounds)?;
-    Ok(failures)
+    count_failures(alloc, &air, &main, &public, rounds)
 }
 
 // The AIR of what is recorded of an AIR with 64 columns.
@@ -80,14 +89,24 @@ fn flat_of<F: Field, A: BaseAir<F> + Air<SymbolicAirBuilder<F, F>>>(
     recorded_air(recorded, 64, 0, Vec::new(alloc), Vec::new(alloc))
 }
 
-/// The failures that so many checks of the recorded wide AIR find, and the constraints of a row.
-pub fn check_flat<F: Field + 'static>(
+// The failures that so many checks of a recorded AIR find, and the constraints of a row.
+fn check_flat<F: Field + 'static>(
     alloc: Global,
+    air: &FlatAir<F>,
     rounds: usize,
     rows: usize,
 ) -> Result<usize, AirError> {
-    let air = flat_of::<F, Plain<Wide>>(alloc, &Plain(Wide { count: 64 }))?;
     let main = wide_trace::<F>(alloc, rows)?;
-    let (failures, constraints) = check_rounds(alloc, &air, &main, &[], rounds)?;
-    Ok(failures.wrapping_add(constraints))
+    count_checked(alloc, air, &main, &[], rounds)
+}
+
+/// The same, with what is recorded of an AIR that the wide trace keeps.
+pub fn check_recorded<F: Field + 'static, A: BaseAir<F> + Air<SymbolicAirBuilder<F, F>>>(
+    alloc: Global,
+    air: &A,
+    rounds: usize,
+    rows: usize,
+) -> Result<usize, AirError> {
+    let flat = flat_of::<F, A>(alloc, air)?;
+    check_flat(alloc, &flat, rounds, rows)
 }

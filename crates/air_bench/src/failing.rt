@@ -2,7 +2,7 @@
 ghost use Rattle.air_builder.specs.Notation.{current, is_zero};
 ghost use Rattle.air_bench.specs.More.{zeros};
 
-use crate::checks::check_rounds;
+use crate::checks::count_failures;
 use crate::traces::constant_trace;
 use p3_air::author::{
     All, Condition, Constraint, Current, Family, Plain, PlainAir, PlainConstraints, Zero,
@@ -58,6 +58,5 @@ pub fn check_failing<F: Field + 'static>(
 ) -> Result<usize, AirError> {
     let air = Plain(Zeros { count: 128 });
     let main = constant_trace(alloc, F::ONE, 1, rows)?;
-    let (failures, _) = check_rounds(alloc, &air, &main, &[], rounds)?;
-    Ok(failures)
+    count_failures(alloc, &air, &main, &[], rounds)
 }

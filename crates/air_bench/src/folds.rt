@@ -1,11 +1,12 @@
-//! Folds of the wide AIR at one row, each with its recording.
+//! Folds of an AIR at one row, each with its recording.
 ghost use Rattle.std.specs.Prelude.{◌≡◌};
 ghost use Rattle.air_folder.specs.FolderRow.{accumulator_of};
 
-use crate::wide::Wide;
 use air_folder::{ConstraintFolder, fold_air};
-use p3_air::author::Plain;
-use p3_air::{AirError, AirLayout, ExtensionField, Field, RowMajorMatrixView, ViewPair};
+use p3_air::{
+    Air, AirError, AirLayout, BaseAir, ExtensionField, Field, RowMajorMatrixView,
+    SymbolicAirBuilder, ViewPair,
+};
 use std::alloc::Global;
 
 // A folder at the first of these rows, whose next row it is too.
@@ -33,31 +34,29 @@ fn folder_at<'a, F: Field + 'static, EF: ExtensionField<F> + 'static>(
 }
 
 // The constraints that one fold folds.
-fn folded<F: Field + 'static, EF: ExtensionField<F> + 'static>(
-    alloc: Global,
-    row: &[EF],
-    alpha: EF,
-) -> Result<usize, AirError> {
-    let air = Plain(Wide { count: 64 });
-    let layout = AirLayout::from_air::<F, Plain<Wide>>(&air);
-    let mut folder = folder_at::<F, EF>(row, alpha);
-    let folded = fold_air(alloc, &air, layout, &mut folder)?;
+fn folded<
+    'a,
+    F: Field + 'static,
+    EF: ExtensionField<F> + 'static,
+    A: BaseAir<F> + Air<SymbolicAirBuilder<F, EF>> + Air<ConstraintFolder<'a, F, EF>>,
+>(alloc: Global, air: &A, row: &'a [EF], alpha: EF) -> Result<usize, AirError> {
+    let layout = AirLayout::from_air::<F, A>(air);
+    let mut folder: ConstraintFolder<'a, F, EF> = folder_at(row, alpha);
+    let folded = fold_air(alloc, air, layout, &mut folder)?;
     Ok(folded.recorded.base.len())
 }
 
-/// The constraints that so many folds of the wide AIR fold.
-pub fn fold_wide<F: Field + 'static, EF: ExtensionField<F> + 'static>(
-    alloc: Global,
-    rounds: usize,
-) -> Result<usize, AirError> {
+/// The constraints that so many folds at the row fold.
+pub fn fold_rounds<
+    'a,
+    F: Field + 'static,
+    EF: ExtensionField<F> + 'static,
+    A: BaseAir<F> + Air<SymbolicAirBuilder<F, EF>> + Air<ConstraintFolder<'a, F, EF>>,
+>(alloc: Global, air: &A, row: &'a [EF], rounds: usize) -> Result<usize, AirError> {
     let alpha = EF::from_base(F::from_u64(7));
-    let mut row = Vec::with_capacity(alloc, 64)?;
-    for j in 1..=64u64 {
-        row.push(EF::from_base(F::from_u64(j)))?;
-    }
     let mut count = 0usize;
     for _ in 0..rounds {
-        count = count.wrapping_add(folded::<F, EF>(alloc, &row, alpha)?);
+        count = count.wrapping_add(folded::<F, EF, A>(alloc, air, row, alpha)?);
     }
     Ok(count)
 }

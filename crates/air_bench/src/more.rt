@@ -3,7 +3,7 @@ ghost use Rattle.std.specs.Prelude.{◌≡◌, [], None};
 ghost use Rattle.air_builder.specs.Notation.{current, ext_is_zero, is_zero, periodic, ◌⊙◌};
 ghost use Rattle.air_bench.specs.More.{cycles, lookups, lookup_term};
 
-use crate::checks::check_rounds;
+use crate::checks::count_checked;
 use crate::recordings::record_rounds_ext;
 use crate::traces::constant_trace;
 use p3_air::author::{
@@ -135,6 +135,26 @@ where
     }
 }
 
+// The AIR, with eight zeros in each periodic column.
+fn cycles_of_zeros<F: Field>(alloc: Global) -> Result<Cycles<F>, AirError> {
+    let mut columns = Vec::new(alloc);
+    for _ in 0..8 {
+        let column = vec![in alloc; F::ZERO; 8]?;
+        columns.push(column)?;
+    }
+    Ok(Cycles { columns })
+}
+
+// The failures that so many checks of it on a trace find, and the constraints of a row.
+fn check_trace<F: Field + 'static>(
+    alloc: Global,
+    main: &RowMajorMatrix<F>,
+    rounds: usize,
+) -> Result<usize, AirError> {
+    let air = cycles_of_zeros::<F>(alloc)?;
+    count_checked(alloc, &air, main, &[], rounds)
+}
+
 /// The failures that so many checks of the AIR with periodic columns find, and the constraints of a
 /// row.
 pub fn check_cycles<F: Field + 'static>(
@@ -142,15 +162,8 @@ pub fn check_cycles<F: Field + 'static>(
     rounds: usize,
     rows: usize,
 ) -> Result<usize, AirError> {
-    let mut columns = Vec::new(alloc);
-    for _ in 0..8 {
-        let column = vec![in alloc; F::ZERO; 8].map_err(|_| AirError::Memory)?;
-        columns.push(column).map_err(|_| AirError::Memory)?;
-    }
-    let air = Cycles { columns };
     let main = constant_trace(alloc, F::ONE, 8, rows)?;
-    let (failures, constraints) = check_rounds(alloc, &air, &main, &[], rounds)?;
-    Ok(failures.wrapping_add(constraints))
+    check_trace(alloc, &main, rounds)
 }
 
 /// The constraints over the extension that so many recordings record.
@@ -165,6 +178,5 @@ pub fn record_lookups<F: Field, EF: ExtensionField<F>>(
         num_permutation_challenges: 1,
         ..AirLayout::default()
     };
-    let (_, ext) = record_rounds_ext::<F, EF, Plain<Lookups>>(alloc, &air, layout, rounds)?;
-    Ok(ext)
+    record_rounds_ext::<F, EF, Plain<Lookups>>(alloc, &air, layout, rounds)
 }

@@ -1,0 +1,15 @@
+use contract.BorrowLft.{⊑_static}
+use Rattle.air_bench.proofs.more.check_trace.Goals as goal
+
+-- the field lives for ever
+pub count_checked-requires-lives-A-Air : goal.count_checked-requires-lives-A-Air
+count_checked-requires-lives-A-Air g c κs within a m = ⊑_static _ a (c.type_bounds.static-F a m)
+
+pub count_checked-requires-lives-A-Air-2 : goal.count_checked-requires-lives-A-Air-2
+count_checked-requires-lives-A-Air-2 g c κs within a m = ⊑_static _ a (c.type_bounds.static-F a m)
+
+pub count_checked-requires-lives-A-Air-3 : goal.count_checked-requires-lives-A-Air-3
+count_checked-requires-lives-A-Air-3 g c κs within a m = ⊑_static _ a (c.type_bounds.static-F a m)
+
+pub count_checked-requires-lives-A-Air-4 : goal.count_checked-requires-lives-A-Air-4
+count_checked-requires-lives-A-Air-4 g c κs within a m = ⊑_static _ a (c.type_bounds.static-F a m)
