@@ -166,7 +166,7 @@ pub fn check_cycles<F: Field + 'static>(
     check_trace(alloc, &main, rounds)
 }
 
-/// The constraints over the extension that so many recordings record.
+/// The constraints, all over the extension, that so many recordings record.
 pub fn record_lookups<F: Field, EF: ExtensionField<F>>(
     alloc: Global,
     rounds: usize,

@@ -20,7 +20,8 @@ pub struct NodeNumbers<A: Copy + Ord> {
 impl<A: Copy + Ord> NodeNumbers<A> {
     /// Nothing numbered. It takes no memory.
     pub fn new(alloc: Global) -> Self
-        ensures { FindEach A.cmp ⟦<Operands as Ord>⟧.cmp ⟦<Operand as Ord>⟧.cmp result.tables.items [] }
+        ensures { FindEach A.cmp ⟦<Operands as Ord>⟧.cmp ⟦<Operand as Ord>⟧.cmp
+            result.tables.items [] }
     {
         NodeNumbers {
             tables: Vec::new(alloc),
@@ -30,7 +31,8 @@ impl<A: Copy + Ord> NodeNumbers<A> {
     /// The number of a node, if it is among those that are numbered.
     pub fn find(&self, node: &SymbolicExpr<A>) -> Option<usize>
         ensures { (nodes : List (SymbolicExpr A))
-            → FindEach A.cmp ⟦<Operands as Ord>⟧.cmp ⟦<Operand as Ord>⟧.cmp self.now.tables.items nodes
+            → FindEach A.cmp ⟦<Operands as Ord>⟧.cmp ⟦<Operand as Ord>⟧.cmp
+            self.now.tables.items nodes
             → MatchOption result ((i : ℕ) → slice_get nodes i ≢ Some node.now)
             (λ i. slice_get nodes i ≡ Some node.now) }
     {
@@ -43,12 +45,15 @@ impl<A: Copy + Ord> NodeNumbers<A> {
         requires exact { (a b : A) → A.cmp a b ≡ Equal → a ≡ b }
         ensures entered { OnOk result ((nodes : List (SymbolicExpr A)) → number ≡ length nodes
             → ((i : ℕ) → slice_get nodes i ≢ Some node.now)
-            → FindEach A.cmp ⟦<Operands as Ord>⟧.cmp ⟦<Operand as Ord>⟧.cmp self.old.tables.items nodes
+            → FindEach A.cmp ⟦<Operands as Ord>⟧.cmp ⟦<Operand as Ord>⟧.cmp
+            self.old.tables.items nodes
             → FindEach A.cmp ⟦<Operands as Ord>⟧.cmp ⟦<Operand as Ord>⟧.cmp self.new.tables.items
             (nodes ++ node.now ∷ [])) }
         ensures refused { OnErr result ((nodes : List (SymbolicExpr A))
-            → FindEach A.cmp ⟦<Operands as Ord>⟧.cmp ⟦<Operand as Ord>⟧.cmp self.old.tables.items nodes
-            → FindEach A.cmp ⟦<Operands as Ord>⟧.cmp ⟦<Operand as Ord>⟧.cmp self.new.tables.items nodes) }
+            → FindEach A.cmp ⟦<Operands as Ord>⟧.cmp ⟦<Operand as Ord>⟧.cmp
+            self.old.tables.items nodes
+            → FindEach A.cmp ⟦<Operands as Ord>⟧.cmp ⟦<Operand as Ord>⟧.cmp
+            self.new.tables.items nodes) }
     {
         self.begin()?;
         self.tables[0].enter(node, number)
@@ -57,8 +62,10 @@ impl<A: Copy + Ord> NodeNumbers<A> {
     /// Makes the tables, where there are none yet.
     fn begin(&mut self) -> Result<(), AllocError>
         ensures kept { (nodes : List (SymbolicExpr A))
-            → FindEach A.cmp ⟦<Operands as Ord>⟧.cmp ⟦<Operand as Ord>⟧.cmp self.old.tables.items nodes
-            → FindEach A.cmp ⟦<Operands as Ord>⟧.cmp ⟦<Operand as Ord>⟧.cmp self.new.tables.items nodes }
+            → FindEach A.cmp ⟦<Operands as Ord>⟧.cmp ⟦<Operand as Ord>⟧.cmp
+            self.old.tables.items nodes
+            → FindEach A.cmp ⟦<Operands as Ord>⟧.cmp ⟦<Operand as Ord>⟧.cmp
+            self.new.tables.items nodes }
         ensures begun { OnOk result (0 < length self.new.tables.items) }
     {
         if self.tables.is_empty() {
