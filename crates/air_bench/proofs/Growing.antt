@@ -4,19 +4,19 @@ use Rattle.std.proofs.Math.ListN.{length-append}
 use Rattle.std.proofs.lemmas.List.Elements.{All-cons}
 use Rattle.air_symbolic.specs.BaseLeaves.{base_reads}
 use Rattle.air_symbolic.specs.ExtLeaves.{BaseNodes}
-use Rattle.air_symbolic.specs.Pools.{Grown, IsPool, size}
+use Rattle.air_symbolic.specs.Pools.{Pool, Grown, IsPool, size}
 use Rattle.air_symbolic.specs.declared.leaves.base_leaf.BaseLeaf.{BaseLeaf}
 use Rattle.air_symbolic.specs.declared.pools.expr.SymbolicExpr.{SymbolicExpr}
 use Rattle.p3_air.specs.FlatAirs.{RootsIn}
 
-module _ {F : Type 0} {grows : Unit {0} → Unit {0} → Type 0} {p q : Unit {0} × List (SymbolicExpr (BaseLeaf F))} (g : Grown grows base_reads p q) where
-  kept : {i : ℕ} → i < length p.1 → i < length q.1
-  kept h = let longer : length q.1 ≡ length g.nodes.0 + length p.1 = ap length g.nodes.1 ∙ length-append g.nodes.0 p.1 in omega (arith, longer, h)
+module _ {F : Type 0} {grows : Unit {0} → Unit {0} → Type 0} {p q : Pool (Unit {0}) (BaseLeaf F)} (g : Grown grows base_reads p q) where
+  kept : {i : ℕ} → i < length p.nodes → i < length q.nodes
+  kept h = let longer : length q.nodes ≡ length p.nodes + length g.nodes.0 = ap length g.nodes.1 ∙ length-append p.nodes g.nodes.0 in omega (arith, longer, h)
 
-  pub last_four : {u v x y z : ℕ} → RootsIn p (u ∷ v ∷ x ∷ y ∷ []) → z < length q.1 → RootsIn q (v ∷ x ∷ y ∷ z ∷ [])
+  pub last_four : {u v x y z : ℕ} → RootsIn p (u ∷ v ∷ x ∷ y ∷ []) → z < length q.nodes → RootsIn q (v ∷ x ∷ y ∷ z ∷ [])
   last_four {u = u} {v = v} {x = x} {y = y} {z = z} old h = record {
     pool = g.pool old.pool;
-    here = All-cons (λ i. i < length q.1) v (x ∷ y ∷ z ∷ []) (kept (old.here 1 0 (omega arith))) (All-cons (λ i. i < length q.1) x (y ∷ z ∷ []) (kept (old.here 2 0 (omega arith))) (All-cons (λ i. i < length q.1) y (z ∷ []) (kept (old.here 3 0 (omega arith))) (All-cons (λ i. i < length q.1) z [] h (λ k d b. absurd (omega (arith, b))))));
+    here = All-cons (λ i. i < length q.nodes) v (x ∷ y ∷ z ∷ []) (kept (old.here 1 0 (omega arith))) (All-cons (λ i. i < length q.nodes) x (y ∷ z ∷ []) (kept (old.here 2 0 (omega arith))) (All-cons (λ i. i < length q.nodes) y (z ∷ []) (kept (old.here 3 0 (omega arith))) (All-cons (λ i. i < length q.nodes) z [] h (λ k d b. absurd (omega (arith, b))))));
   }
 
 -- one node stands for all four

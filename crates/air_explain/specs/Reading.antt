@@ -1,7 +1,6 @@
 -- The columns, periodic columns and public values that an expression names.
-use Rattle.std.specs.Prelude.{◌≡◌, ℕ, Bool, true, false, ◌&&◌, List, [], ◌∷◌, length, Option, None, Some}
+use Rattle.std.specs.Prelude.{slice_get, ◌≡◌, ℕ, Bool, true, false, ◌&&◌, List, [], ◌∷◌, length, Option, None, Some}
 use Rattle.air_symbolic.specs.BaseLeaves.{base_leaves}
-use Rattle.air_symbolic.specs.Nodes.{node_at}
 use Rattle.air_symbolic.specs.Reach.{Reached}
 use Rattle.air_symbolic.specs.declared.leaves.base_leaf.BaseLeaf.{BaseLeaf}
 use Rattle.air_symbolic.specs.declared.leaves.base_leaf.BaseLeaf.TheVariants as leaf
@@ -30,7 +29,7 @@ has_variable (Some n) = is_variable n
 
 -- number i is marked and such a leaf
 abbrev pub is_read : {F : Type 0} → List (SymbolicExpr (BaseLeaf F)) → List (Option ℕ) → ℕ → Bool
-is_read ns marks i = is_reached marks i && has_variable (node_at ns i)
+is_read ns marks i = is_reached marks i && has_variable (slice_get ns i)
 
 -- those below n, in order
 abbrev pub read_below : {F : Type 0} → List (SymbolicExpr (BaseLeaf F)) → List (Option ℕ) → ℕ → List ℕ

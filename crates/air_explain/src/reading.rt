@@ -1,7 +1,7 @@
 //! Which columns and public values an expression names.
 ghost use Rattle.std.specs.Prelude.{◌≡◌, ◌<◌, ◌++◌, ◌∷◌, [], length, IfOk, OnOk, if◌then◌else◌};
 ghost use Rattle.air_symbolic.specs.BaseLeaves.{base_reads};
-ghost use Rattle.air_symbolic.specs.Pools.{IsPool, nodes_of, size};
+ghost use Rattle.air_symbolic.specs.Pools.{IsPool, size};
 ghost use Rattle.air_explain.specs.Values.{AreClosed};
 ghost use Rattle.air_explain.specs.Reading.{is_variable, is_read, read_below, Reads};
 
@@ -27,10 +27,10 @@ fn push_read<F: Field>(
     number: usize,
 ) -> Result<(), AllocError>
     requires pool { IsPool base_reads pool.now }
-    requires marks { AreClosed (nodes_of pool.now) marks.now }
+    requires marks { AreClosed pool.now.nodes marks.now }
     requires here { number < length marks.now }
     ensures { OnOk result (numbers.new.items ≡ numbers.old.items
-        ++ (if is_read (nodes_of pool.now) marks.now number then number ∷ [] else [])) }
+        ++ (if is_read pool.now.nodes marks.now number then number ∷ [] else [])) }
 {
     if let Some(id) = marks[number] {
         if is_variable(*pool.node(id)) {
@@ -47,9 +47,9 @@ fn marked_reads<F: Field>(
     marks: &[Option<ExprId<BaseLeaf<F>>>],
 ) -> Result<Vec<ExprId<BaseLeaf<F>>>, AllocError>
     requires pool { IsPool base_reads pool.now }
-    requires marks { AreClosed (nodes_of pool.now) marks.now }
+    requires marks { AreClosed pool.now.nodes marks.now }
     ensures { IfOk result (λ numbers. numbers.items ≡
-        read_below (nodes_of pool.now) marks.now (size pool.now)) }
+        read_below pool.now.nodes marks.now (size pool.now)) }
 {
     let mut numbers = Vec::new(alloc);
     for number in 0..marks.len() {
@@ -67,7 +67,7 @@ pub fn reads<F: Field>(
 ) -> Result<Vec<ExprId<BaseLeaf<F>>>, AllocError>
     requires pool { IsPool base_reads pool.now }
     requires here { root < size pool.now }
-    ensures { IfOk result (λ numbers. Reads (nodes_of pool.now) root numbers.items) }
+    ensures { IfOk result (λ numbers. Reads pool.now.nodes root numbers.items) }
 {
     let Ok(marks) = reached(alloc, pool, &[root]) else {
         return Err(AllocError);

@@ -3,7 +3,7 @@ ghost use Rattle.std.specs.Prelude.{◌≡◌, ◌<◌, length, slice_index_or, 
 ghost use Rattle.air_field.specs.Assignment.{row_assignment};
 ghost use Rattle.air_symbolic.specs.BaseLeaves.{base_reads};
 ghost use Rattle.air_symbolic.specs.Nodes.{OperandsBelow};
-ghost use Rattle.air_symbolic.specs.Pools.{IsPool, nodes_of, size};
+ghost use Rattle.air_symbolic.specs.Pools.{IsPool, size};
 ghost use Rattle.air_symbolic.specs.Reach.{Marked};
 ghost use Rattle.air_explain.specs.Rows.{trace_of};
 ghost use Rattle.air_explain.specs.Values.{value_at, node_value, Known, AreClosed};
@@ -52,14 +52,14 @@ fn marked_value<F: Field>(
     number: usize,
 ) -> F
     requires pool { IsPool base_reads pool.now }
-    requires marks { AreClosed (nodes_of pool.now) marks.now }
+    requires marks { AreClosed pool.now.nodes marks.now }
     requires row { row < length trace.now.main.now.rows }
     requires here { number < length marks.now }
     requires places { length values.now ≡ number }
     requires before { Known F.ring (row_assignment F.ring (trace_of trace.now) row)
-        (nodes_of pool.now) marks.now number values.now }
+        pool.now.nodes marks.now number values.now }
     ensures { Marked marks.now number → result ≡ value_at F.ring
-        (row_assignment F.ring (trace_of trace.now) row) (nodes_of pool.now) number }
+        (row_assignment F.ring (trace_of trace.now) row) pool.now.nodes number }
 {
     match marks[number] {
         Some(id) => node_value(values, *pool.node(id), trace, row),
@@ -77,11 +77,11 @@ pub fn values_at<F: Field>(
     row: usize,
 ) -> Result<Vec<F>, AllocError>
     requires pool { IsPool base_reads pool.now }
-    requires marks { AreClosed (nodes_of pool.now) marks.now }
+    requires marks { AreClosed pool.now.nodes marks.now }
     requires row { row < length trace.now.main.now.rows }
     ensures places { IfOk result (λ values. length values.items ≡ size pool.now) }
     ensures known { IfOk result (λ values. Known F.ring
-        (row_assignment F.ring (trace_of trace.now) row) (nodes_of pool.now) marks.now
+        (row_assignment F.ring (trace_of trace.now) row) pool.now.nodes marks.now
         (size pool.now) values.items) }
 {
     let mut values = Vec::with_capacity(alloc, marks.len())?;

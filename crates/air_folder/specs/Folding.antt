@@ -20,11 +20,11 @@ use Rattle.air_folder.specs.Folder.{FolderRow, folder_leaves, values_in, FolderR
 use Rattle.air_folder.specs.FolderRow.{FolderGrew}
 use Rattle.air_folder.specs.declared.folder.builder.ConstraintFolder.{ConstraintFolder}
 use Rattle.air_folder.specs.declared.folding.Folded.{Folded}
-use Rattle.air_symbolic.specs.Pools.{base_of}
+
 
 -- the values of the recorded base constraints at the leaves, in order
 abbrev pub base_values : {F E : Type 0} → AlgebraOver F E → (Leaf → E) → Recorded F E → List E
-base_values a s recorded = map (value a s) (terms_of base_reads (base_of recorded.pool) recorded.base.items)
+base_values a s recorded = map (value a s) (terms_of base_reads recorded.pool.base recorded.base.items)
 
 -- and those of the recorded extension constraints
 abbrev pub ext_values : {F E : Type 0} → AlgebraOver F E → Basis F E → (Leaf → E) → Recorded F E → List E
@@ -35,7 +35,7 @@ ext_values a basis s recorded = map (value a s) (terms_of (ext_reads basis) reco
 -- of the recorded extension constraints. The accumulator is Horner's fold of these values by the folder's alpha; and it
 -- is their recombination from all coordinates and whole powers that recombine what stands at these places.
 pub record IsFolded {F E : Type 0} (r : CommRing F) (a : AlgebraOver F E) (basis : Basis F E) (d : FolderRow E) (declared : List (Assertion F)) (f : Folded F E) : Type 0 where
-  pub base : RecordsBase r a base_reads (base_of f.recorded.pool) f.recorded.base.items declared
+  pub base : RecordsBase r a base_reads f.recorded.pool.base f.recorded.base.items declared
   pub ext : RecordsExt r a (ext_reads basis) f.recorded.pool f.recorded.ext.items declared
   pub places : ArePlacesOf (map kind_of declared) f.layout.base_indices.items f.layout.ext_indices.items
   pub values : List E

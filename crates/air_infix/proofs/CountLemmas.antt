@@ -1,9 +1,9 @@
 -- Counts, one place after another.
+use Rattle.std.specs.Prelude.{slice_get}
 use Rattle.std.proofs.Common.{◌≡◌, ◌≢◌, ℕ, zero, suc, ◌+◌, ◌<◌, true, false, cond, eqb, List, length, get_or, set, replicate, Option, None, Some, is_some, refl, sym, ap, subst, ◌∙◌, arith, ⊎_elim, add-one, length-set}
 use Rattle.std.proofs.lemmas.Bool.{cases_eq, ne_eqb}
 use Rattle.std.proofs.lemmas.Bool.Decides.{eqb_tells}
 use Rattle.std.proofs.lemmas.List.{get_or-set_same, get_or-set_other, get_or_default}
-use Rattle.air_symbolic.specs.Nodes.{node_at}
 use Rattle.air_symbolic.specs.declared.pools.expr.SymbolicExpr.{SymbolicExpr}
 use Rattle.air_infix.specs.Names.{one_if_is, total_below, node_places, operand_places, places_at}
 use Rattle.air_infix.specs.Counts.{AreMarks, places_for, AreCounted}
@@ -45,10 +45,10 @@ mark-own n marks k d id h lt e =
 
 module _ {A : Type 0} (ns : List (SymbolicExpr A)) (marks : List (Option ℕ)) where
   -- a marked node's operands
-  pub places-marked : (i k id : ℕ) (n : SymbolicExpr A) → get_or marks k None ≡ Some id → id ≡ k → node_at ns id ≡ Some n → places_at ns marks i k ≡ operand_places i n
+  pub places-marked : (i k id : ℕ) (n : SymbolicExpr A) → get_or marks k None ≡ Some id → id ≡ k → slice_get ns id ≡ Some n → places_at ns marks i k ≡ operand_places i n
   places-marked i k id n at own is =
-      let here : node_at ns k ≡ Some n = subst (λ j. node_at ns j ≡ Some n) own is in
-      ap (λ o. cond (is_some o) (node_places i (node_at ns k)) 0) at ∙ ap (node_places i) here
+      let here : slice_get ns k ≡ Some n = subst (λ j. slice_get ns j ≡ Some n) own is in
+      ap (λ o. cond (is_some o) (node_places i (slice_get ns k)) 0) at ∙ ap (node_places i) here
 
 -- one number more
 pub sum-more : (f : ℕ → ℕ) (n : ℕ) → total_below f (n + 1) ≡ total_below f n + f n

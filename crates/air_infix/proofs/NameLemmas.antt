@@ -1,4 +1,5 @@
 -- Names, one number after another.
+use Rattle.std.specs.Prelude.{slice_get}
 use Rattle.std.proofs.Common.{◌≡◌, ℕ, zero, suc, ◌+◌, ◌<◌, ◌≤◌, Bool, true, false, ◌&&◌, cond, leb, List, [], ◌∷◌, ◌++◌, length, get_or, map, All, Result, Ok, Err, IfOk, Option, None, Some, is_some, option_map, refl, sym, ap, ap₂, ◌∙◌, arith, ⊎_elim, add-one}
 use Rattle.std.specs.Option.{option_to_list}
 use Rattle.std.specs.List.{range_with_len}
@@ -6,7 +7,6 @@ use Rattle.std.proofs.lemmas.Bool.{cases_lt, le-leb}
 use Rattle.std.proofs.lemmas.List.Elements.{All-nil, All-cons, All-append}
 use Rattle.std.proofs.lemmas.List.{get_or_past}
 use Rattle.std.proofs.lemmas.List.FromFn.{map-range_with_len_more, get_or-map-range_with_len, length-map-range_with_len}
-use Rattle.air_symbolic.specs.Nodes.{node_at}
 use Rattle.air_symbolic.specs.declared.pools.expr.SymbolicExpr.{SymbolicExpr}
 use Rattle.air_infix.specs.Names.{passing_below, name_by, is_reached, has_operation, count_of_places, is_named}
 use Rattle.air_infix.specs.Counts.{places_for, AreCounted, is_more, passes}
@@ -46,7 +46,7 @@ module _ {A : Type 0} (ns : List (SymbolicExpr A)) (marks : List (Option ℕ)) (
       (λ (lt : i < n). get_or-map-range_with_len (name_by (passes ns marks counts)) 0 n i i None lt (omega arith))
       (λ (past : n ≤ i).
       get_or_past (map (name_by (passes ns marks counts)) (range_with_len 0 n)) i None (omega (arith, past, length-map-range_with_len (name_by (passes ns marks counts)) 0 n))
-      ∙ sym (ap (λ b. cond (b && (has_operation (node_at ns i) && is_more (get_or counts i Nowhere))) (Some (length (passing_below (passes ns marks counts) i))) None)
+      ∙ sym (ap (λ b. cond (b && (has_operation (slice_get ns i) && is_more (get_or counts i Nowhere))) (Some (length (passing_below (passes ns marks counts) i))) None)
       (past-unmarked i (omega (arith, le, past)))))
       (cases_lt i n)
 
@@ -55,12 +55,12 @@ module _ {A : Type 0} (ns : List (SymbolicExpr A)) (marks : List (Option ℕ)) (
   passes-is roots same_marks same_counts h i =
       ⊎_elim
       (λ (lt : i < length ns).
-      ap (λ b. is_reached marks i && (has_operation (node_at ns i) && b))
+      ap (λ b. is_reached marks i && (has_operation (slice_get ns i) && b))
       (ap is_more (h.each i (omega (arith, lt, same_counts))) ∙ more-is (count_of_places ns roots marks i)))
       (λ (past : length ns ≤ i).
       let none : is_reached marks i ≡ false = past-unmarked i (omega (arith, past, same_marks)) in
-      ap (λ b. b && (has_operation (node_at ns i) && is_more (get_or counts i Nowhere))) none
-      ∙ sym (ap (λ b. b && (has_operation (node_at ns i) && leb 2 (count_of_places ns roots marks i))) none))
+      ap (λ b. b && (has_operation (slice_get ns i) && is_more (get_or counts i Nowhere))) none
+      ∙ sym (ap (λ b. b && (has_operation (slice_get ns i) && leb 2 (count_of_places ns roots marks i))) none))
       (cases_lt i (length ns))
     where
       more-is : (n : ℕ) → is_more (places_for n) ≡ leb 2 n

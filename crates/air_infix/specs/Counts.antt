@@ -1,6 +1,5 @@
 -- Counts of places that stop at two.
-use Rattle.std.specs.Prelude.{◌≡◌, ℕ, zero, suc, ◌<◌, Bool, true, false, ◌&&◌, List, length, slice_index_or, Option, None, Some}
-use Rattle.air_symbolic.specs.Nodes.{node_at}
+use Rattle.std.specs.Prelude.{slice_get, ◌≡◌, ℕ, zero, suc, ◌<◌, Bool, true, false, ◌&&◌, List, length, slice_index_or, Option, None, Some}
 use Rattle.air_symbolic.specs.declared.pools.expr.SymbolicExpr.{SymbolicExpr}
 use Rattle.air_infix.specs.Names.{is_reached, has_operation}
 use Rattle.air_infix.specs.declared.counts.Places.{Places}
@@ -28,4 +27,4 @@ is_more More = true
 
 -- the number is reached, it is no leaf, and more than one place was counted
 abbrev pub passes : {A : Type 0} → List (SymbolicExpr A) → List (Option ℕ) → List Places → ℕ → Bool
-passes ns marks counts i = is_reached marks i && (has_operation (node_at ns i) && is_more (slice_index_or counts i Nowhere))
+passes ns marks counts i = is_reached marks i && (has_operation (slice_get ns i) && is_more (slice_index_or counts i Nowhere))

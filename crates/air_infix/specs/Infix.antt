@@ -1,9 +1,10 @@
 -- Expressions in infix notation.
-use Rattle.std.specs.Prelude.{ℕ, ◌-◌, ◌*◌, Bool, true, false, nat_lt, ◌==◌, if◌then◌else◌, List, [], ◌∷◌, ◌++◌, length, Option, None, Some, codes, decimal}
+use Rattle.std.specs.Prelude.{ℕ, ◌-◌, ◌*◌, Bool, true, false, nat_lt, ◌==◌, if◌then◌else◌, List, [], ◌∷◌, ◌++◌, length, Option, None, Some, codes, decimal, slice_index_or}
 use Rattle.air_field.specs.Modular.{Modular}
 use Rattle.air_core.specs.declared.variables.entry.BaseEntry.{BaseEntry}
 use Rattle.air_core.specs.declared.variables.entry.BaseEntry.TheVariants.{Preprocessed, Main, Periodic, Public}
 use Rattle.air_symbolic.specs.declared.leaves.base_leaf.BaseLeaf.{BaseLeaf}
+use Rattle.air_symbolic.specs.Nodes.{in_turn}
 use Rattle.air_symbolic.specs.declared.leaves.base_leaf.BaseLeaf.TheVariants.{Variable, IsFirstRow, IsLastRow, IsTransition, Constant}
 use Rattle.air_symbolic.specs.declared.pools.expr.SymbolicExpr.{SymbolicExpr}
 use Rattle.air_symbolic.specs.declared.pools.expr.SymbolicExpr.TheVariants.{Leaf, Add, Sub, Neg, Mul}
@@ -35,11 +36,9 @@ abbrev pub named_or : {A : Type 0} → Option ℕ → Shown A → Shown A
 named_or None t = t
 named_or (Some k) t = name k
 
--- Number i by its node, each operand by its name if `named` has one for it; of the nodes the newest stands first.
+-- number i by its node, each operand by its name if `named` has one for it
 abbrev pub shown_at : {A : Type 0} → (ℕ → Option ℕ) → List (SymbolicExpr A) → ℕ → Shown A
-shown_at named [] i = nothing
-shown_at named (n ∷ older) i =
-    if i == length older then shown_node (λ x. named_or (named x) (shown_at named older x)) n else shown_at named older i
+shown_at named ns i = slice_index_or (in_turn nothing (λ f. shown_node (λ x. named_or (named x) (f x))) [] ns) i nothing
 
 -- number i where an expression names it
 abbrev pub shown : {A : Type 0} → (ℕ → Option ℕ) → List (SymbolicExpr A) → ℕ → Shown A

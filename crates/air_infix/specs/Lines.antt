@@ -5,7 +5,7 @@ use Rattle.air_field.specs.Degree.{degree_by, cached_weight}
 use Rattle.air_field.specs.Modular.{Modular}
 use Rattle.air_symbolic.specs.BaseLeaves.{base_leaves, base_reads}
 use Rattle.air_symbolic.specs.ExtLeaves.{BaseNodes}
-use Rattle.air_symbolic.specs.Pools.{term_at, nodes_of}
+use Rattle.air_symbolic.specs.Pools.{term_at}
 use Rattle.air_infix.specs.declared.binding.Binding.TheVariants.{Loose}
 use Rattle.air_infix.specs.Infix.{shown, shown_at, infix_text, name_text}
 use Rattle.air_infix.specs.Names.{AreNames}
@@ -21,13 +21,13 @@ lines_text lines = flat_map (λ line. line ++ codes "\n") lines
 module _ {F : Type 0} {p : ℕ} (m : Modular F p) (pool : BaseNodes F) (names : List (Option ℕ)) where
   -- `%k = TEXT`, for number i by its node
   abbrev pub definition_line : ℕ → ℕ → List ℕ
-  definition_line k i = name_text k ++ (codes " = " ++ infix_text m Loose (shown_at (listed_name names) (nodes_of pool) i))
+  definition_line k i = name_text k ++ (codes " = " ++ infix_text m Loose (shown_at (listed_name names) pool.nodes i))
 
   -- `#j degree D: TEXT`, for number i
   abbrev pub constraint_line : ℕ → ℕ → List ℕ
   constraint_line j i =
       codes "#" ++ (decimal j ++ (codes " degree " ++ (decimal (degree_by cached_weight (term_at base_reads pool i))
-      ++ (codes ": " ++ infix_text m Loose (shown (listed_name names) (nodes_of pool) i)))))
+      ++ (codes ": " ++ infix_text m Loose (shown (listed_name names) pool.nodes i)))))
 
 -- a line for each element, by its place and itself
 abbrev pub numbered : (ℕ → ℕ → List ℕ) → List ℕ → List (List ℕ)
@@ -36,5 +36,5 @@ numbered line xs = map (λ x. line x.0 x.1) (enumerate_from 0 xs)
 -- The definitions of what has a name, in order, and then the roots.
 pub record ShowsRoots {F : Type 0} {p : ℕ} (m : Modular F p) (pool : BaseNodes F) (roots : List ℕ) (text : List ℕ) : Type 0 where
   pub names : List ℕ × List (Option ℕ)
-  pub are_names : AreNames base_leaves (nodes_of pool) roots names
+  pub are_names : AreNames base_leaves pool.nodes roots names
   pub text_is : text ≡ lines_text (numbered (definition_line m pool names.1) names.0 ++ numbered (constraint_line m pool names.1) roots)

@@ -1,8 +1,7 @@
 -- Which nodes of a pool have a name, where some roots are shown, and which.
-use Rattle.std.specs.Prelude.{◌≡◌, ℕ, zero, suc, ◌+◌, Bool, true, false, ◌&&◌, is_some, nat_le, ◌==◌, if◌then◌else◌, List, [], ◌∷◌, ◌++◌, length, slice_index_or, Option, None, Some}
+use Rattle.std.specs.Prelude.{slice_get, ◌≡◌, ℕ, zero, suc, ◌+◌, Bool, true, false, ◌&&◌, is_some, nat_le, ◌==◌, if◌then◌else◌, List, [], ◌∷◌, ◌++◌, length, slice_index_or, Option, None, Some}
 use Rattle.std.specs.List.{count_by}
 use Rattle.air_symbolic.specs.Leaves.{Leaves}
-use Rattle.air_symbolic.specs.Nodes.{node_at}
 use Rattle.air_symbolic.specs.Reach.{Reached}
 use Rattle.air_symbolic.specs.declared.pools.expr.SymbolicExpr.{SymbolicExpr}
 use Rattle.air_symbolic.specs.declared.pools.expr.SymbolicExpr.TheVariants.{Leaf, Add, Sub, Neg, Mul}
@@ -44,7 +43,7 @@ is_reached marks i = is_some (slice_index_or marks i None)
 
 -- how many operands of node j are number i, if j is reached
 abbrev pub places_at : {A : Type 0} → List (SymbolicExpr A) → List (Option ℕ) → ℕ → ℕ → ℕ
-places_at ns marks i j = if is_reached marks j then node_places i (node_at ns j) else 0
+places_at ns marks i j = if is_reached marks j then node_places i (slice_get ns j) else 0
 
 -- how many operands of reached nodes and how many roots are number i
 abbrev pub count_of_places : {A : Type 0} → List (SymbolicExpr A) → List ℕ → List (Option ℕ) → ℕ → ℕ
@@ -65,7 +64,7 @@ has_operation (Some n) = is_operation n
 
 -- the roots reach the number, it is no leaf, and two places or more name it
 abbrev pub is_named : {A : Type 0} → List (SymbolicExpr A) → List ℕ → List (Option ℕ) → ℕ → Bool
-is_named ns roots marks i = is_reached marks i && (has_operation (node_at ns i) && nat_le 2 (count_of_places ns roots marks i))
+is_named ns roots marks i = is_reached marks i && (has_operation (slice_get ns i) && nat_le 2 (count_of_places ns roots marks i))
 
 -- the name of a number: how many before it have one
 abbrev pub name_by : (ℕ → Bool) → ℕ → Option ℕ

@@ -2,7 +2,7 @@
 ghost use Rattle.std.specs.Prelude.{◌≡◌, ℕ, ◌+◌, ◌<◌, ◌==◌, length, All, IfOk};
 ghost use Rattle.std.specs.List.{count_by};
 ghost use Rattle.air_symbolic.specs.Nodes.{OperandsBelow};
-ghost use Rattle.air_symbolic.specs.Pools.{IsPool, nodes_of, size};
+ghost use Rattle.air_symbolic.specs.Pools.{IsPool, size};
 ghost use Rattle.air_infix.specs.Names.{one_if_is, operand_places, total_below, places_at, count_of_places};
 ghost use Rattle.air_infix.specs.Counts.{places_for, AreCounted, AreMarks};
 
@@ -84,7 +84,7 @@ fn count_node<A: SymLeaf>(
     requires marks { AreMarks (size pool.now) marks.now }
     requires here { number < length marks.now }
     ensures { (f : ℕ → ℕ) → AreCounted f counts.old →
-        AreCounted (λ i. f i + places_at (nodes_of pool.now) marks.now i number) counts.new }
+        AreCounted (λ i. f i + places_at pool.now.nodes marks.now i number) counts.new }
 {
     if let Some(id) = marks[number] {
         count_operands(counts, *pool.node(id));
@@ -97,7 +97,7 @@ fn count_reached<A: SymLeaf>(counts: &mut [Places], pool: &ExprPool<A>, marks: &
     requires places { length counts.old ≡ size pool.now }
     requires marks { AreMarks (size pool.now) marks.now }
     ensures { (f : ℕ → ℕ) → AreCounted f counts.old → AreCounted
-        (λ i. f i + total_below (places_at (nodes_of pool.now) marks.now i) (size pool.now))
+        (λ i. f i + total_below (places_at pool.now.nodes marks.now i) (size pool.now))
         counts.new }
 {
     for number in 0..marks.len() {
@@ -117,7 +117,7 @@ fn count_all<A: SymLeaf>(
     requires places { length counts.old ≡ size pool.now }
     requires marks { AreMarks (size pool.now) marks.now }
     requires none { AreCounted (λ _. 0) counts.old }
-    ensures { AreCounted (count_of_places (nodes_of pool.now) roots.now marks.now) counts.new }
+    ensures { AreCounted (count_of_places pool.now.nodes roots.now marks.now) counts.new }
 {
     count_roots(counts, roots);
     count_reached(counts, pool, marks);
@@ -135,7 +135,7 @@ pub fn count_places<A: SymLeaf>(
     requires marks { AreMarks (size pool.now) marks.now }
     ensures places { IfOk result (λ counts. length counts.items ≡ size pool.now) }
     ensures counted { IfOk result (λ counts.
-        AreCounted (count_of_places (nodes_of pool.now) roots.now marks.now) counts.items) }
+        AreCounted (count_of_places pool.now.nodes roots.now marks.now) counts.items) }
 {
     let mut counts = vec![in alloc; Places::Nowhere; pool.len()]?;
     count_all(&mut counts, pool, roots, marks);

@@ -1,7 +1,7 @@
 //! Who gets a name.
 ghost use Rattle.std.specs.Prelude.{◌≡◌, ℕ, ◌<◌, length, slice_index_or, [], ◌∷◌, ◌++◌, Some, None, option_map, All, IfOk, OnOk, if◌then◌else◌};
 ghost use Rattle.std.specs.Option.{option_to_list};
-ghost use Rattle.air_symbolic.specs.Pools.{IsPool, base_of, nodes_of, size};
+ghost use Rattle.air_symbolic.specs.Pools.{IsPool, size};
 ghost use Rattle.air_infix.specs.Names.{AreNames, passing_below, name_by, is_operation};
 ghost use Rattle.air_infix.specs.Counts.{passes, AreMarks};
 
@@ -32,7 +32,7 @@ fn named_at<A: SymLeaf>(
     requires places { length counts.now ≡ size pool.now }
     requires here { number < length marks.now }
     ensures { result
-        ≡ if passes (nodes_of pool.now) marks.now counts.now number then Some number else None }
+        ≡ if passes pool.now.nodes marks.now counts.now number then Some number else None }
 {
     let Some(id) = marks[number] else {
         return None;
@@ -75,9 +75,9 @@ fn give_names<A: SymLeaf>(
     requires marks { AreMarks (size pool.now) marks.now }
     requires places { length counts.now ≡ size pool.now }
     ensures named { IfOk result (λ n. n.0 ≡
-        passing_below (passes (nodes_of pool.now) marks.now counts.now) (size pool.now)) }
+        passing_below (passes pool.now.nodes marks.now counts.now) (size pool.now)) }
     ensures each { IfOk result (λ n. (i : ℕ) →
-        slice_index_or n.1 i None ≡ name_by (passes (nodes_of pool.now) marks.now counts.now) i) }
+        slice_index_or n.1 i None ≡ name_by (passes pool.now.nodes marks.now counts.now) i) }
 {
     let mut named = Vec::new(alloc);
     let mut names = Vec::with_capacity(alloc, marks.len())?;
@@ -95,7 +95,7 @@ impl<A: SymLeaf> Names<A> {
         requires pool { IsPool A.reads pool.now }
         requires here { All (λ x. x < size pool.now) roots.now }
         ensures { IfOk result
-            (AreNames (A.reads (base_of pool.now)) (nodes_of pool.now) roots.now) }
+            (AreNames (A.reads pool.now.base) pool.now.nodes roots.now) }
     {
         let Ok(marks) = reached(alloc, pool, roots) else {
             return Err(AllocError);

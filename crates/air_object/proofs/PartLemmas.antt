@@ -12,6 +12,7 @@ use Rattle.serde_json.specs.View.{view, items_of, members_view}
 use Rattle.serde_json.specs.declared.value.Value.{Value, Object}
 use Rattle.serde_json.proofs.Views.{view-Object, get_member-put, get_member-put_other}
 use Rattle.air_field.specs.Modular.{Modular}
+use Rattle.air_symbolic.specs.ExtLeaves.{BaseNodes}
 use Rattle.air_symbolic.specs.BaseLeaves.{base_reads, base_grows}
 use Rattle.air_symbolic.specs.Pools.{tree_at}
 use Rattle.air_symbolic.specs.Trees.{Tree}
@@ -26,7 +27,7 @@ use Rattle.air_object.specs.Members.{MemberValues}
 use Rattle.air_object.specs.Parts.{GivenElements, AreElements, GivenTrees, AreGiven, and_one, one_more, root_numbers, of_member, AreMembersOf, ArePartsOf, given_elements, given_by, members_with}
 use Rattle.air_object.specs.Readers.{Reader, each_from, elements, tree, trees, width_member, elements_member, table_member, constraints_member, periodic_member, boundary_member, cap_member, weight_member, members_read}
 use Rattle.air_object.proofs.TokenLemmas.{data_before, one_more_data, item_read}
-use Rattle.air_object.proofs.Trees.{Pool, GrownTo, AllIn, all_in_push, trees_kept}
+use Rattle.air_object.proofs.Trees.{GrownTo, AllIn, all_in_push, trees_kept}
 use Rattle.air_object.specs.declared.constraints.Constraints.{Constraints}
 
 -- what is seen of what a call gave is what is given
@@ -121,7 +122,7 @@ module _ {F : Type 0} {order : ℕ} (modular : Modular F order) where
 
   -- ---- one root more, in a pool that has grown
 
-  module _ (p q : Pool F) (d : Data) (given : GivenTrees F) (grown : GrownTo p q) where
+  module _ (p q : BaseNodes F) (d : Data) (given : GivenTrees F) (grown : GrownTo p q) where
     abbrev more : GivenTrees F
     more = one_more (tree modular) given d
 

@@ -120,7 +120,7 @@ one-explained m pool roots cells trace names f line below old mid new is_line is
 
 module _ {F : Type 0} {p : ℕ} (m : Modular F p) (r : CommRing F) (ring_is : r ≡ modular_ring m) (pool : BaseNodes F) (roots : List ℕ) (cells : List BoundaryPublic) (trace : Trace F) (names : List (Option ℕ)) (f : Failure) where
   -- its constraint, by values that are known
-  pub root_explained : (root : ℕ) (marks : List (Option ℕ)) (at : RowValues F) (read old mid new : List ℕ) → slice_get roots (place_of f).1 ≡ Some root → AreClosed pool.1 marks → KnownAt r trace pool.1 marks at → at.row ≡ (place_of f).0 → root < length pool.1 → Marked marks root → Reads pool.1 root read → PushesLine f old mid → new ≡ mid ++ lines_text (explained_lines m pool names (λ i. get_or at.values.items i r.zero) root read) → PushesExplained m pool roots cells trace names (f ∷ []) old new
+  pub root_explained : (root : ℕ) (marks : List (Option ℕ)) (at : RowValues F) (read old mid new : List ℕ) → slice_get roots (place_of f).1 ≡ Some root → AreClosed pool.nodes marks → KnownAt r trace pool.nodes marks at → at.row ≡ (place_of f).0 → root < length pool.nodes → Marked marks root → Reads pool.nodes root read → PushesLine f old mid → new ≡ mid ++ lines_text (explained_lines m pool names (λ i. get_or at.values.items i r.zero) root read) → PushesExplained m pool roots cells trace names (f ∷ []) old new
   root_explained root marks at read old mid new is closed known row here marked reads line written =
       let lines : List (List ℕ) = explained_lines m pool names (λ i. get_or at.values.items i r.zero) root read in
       let there : Explains m r (row_assignment r trace at.row) pool names root lines =
@@ -179,7 +179,7 @@ same_table None = refl
 same_table (Some table) = refl
 
 -- counts, names, failures
-pub text_explained : {F : Type 0} {p : ℕ} (m : Modular F p) (pool : BaseNodes F) (roots : List ℕ) (cells : List BoundaryPublic) (trace : Trace F) (names : List ℕ × List (Option ℕ)) (f : Found) (counts front text : List ℕ) → AreNames base_leaves pool.1 roots names → counts ≡ lines_text (count_lines f) → PushesNames m pool roots names f.failures counts front → PushesExplained m pool roots cells trace names.1 f.failures front text → IsExplainedText m pool roots cells trace f text
+pub text_explained : {F : Type 0} {p : ℕ} (m : Modular F p) (pool : BaseNodes F) (roots : List ℕ) (cells : List BoundaryPublic) (trace : Trace F) (names : List ℕ × List (Option ℕ)) (f : Found) (counts front text : List ℕ) → AreNames base_leaves pool.nodes roots names → counts ≡ lines_text (count_lines f) → PushesNames m pool roots names f.failures counts front → PushesExplained m pool roots cells trace names.1 f.failures front text → IsExplainedText m pool roots cells trace f text
 text_explained m pool roots cells trace names f counts front text are counted named rest =
     let defined : List (List ℕ) = reached_definitions m pool names named.marks in
     let pieces : front ≡ lines_text (count_lines f ++ defined) =

@@ -28,7 +28,7 @@ module _ {F : Type 0} {p : ℕ} (m : Modular F p) (c : Constraints F) where
     pool = c.pool;
     roots = roots.items;
     is_pool = inside.pool;
-    here = IfOk-at_ok (λ rs. All (λ i. i < length c.pool.1) rs.items) is inside.here;
+    here = IfOk-at_ok (λ rs. All (λ i. i < length c.pool.nodes) rs.items) is inside.here;
     spelt = (constraints_agree m).found d (map (tree_at c.pool) roots.items)
         (subst (λ r. Gives (λ rs. map (tree_at c.pool) rs.items) r (constraints_member m d)) is h.read);
     shows = shows;

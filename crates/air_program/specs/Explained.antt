@@ -22,7 +22,7 @@ use Rattle.air_program.specs.ByField.{AnswersBytes}
 use Rattle.air_program.specs.FlatAnswer.{flat_instance, AnswersInput}
 use Rattle.air_program.specs.Texts.{Found, place_of, IsFailureLine, count_lines, findings_status}
 use Rattle.air_infix.specs.Lines.{lines_text}
-use Rattle.air_symbolic.specs.Pools.{nodes_of}
+
 
 -- a failure: its row, its constraint and the label's bytes
 abbrev pub Failure : Type 0
@@ -68,7 +68,7 @@ module _ {F : Type 0} {p : ℕ} (m : Modular F p) (pool : BaseNodes F) (roots : 
 -- new is old and lines for those of the names that the failures' constraints reach, in order
 pub record PushesNames {F : Type 0} {p : ℕ} (m : Modular F p) (pool : BaseNodes F) (roots : List ℕ) (names : List ℕ × List (Option ℕ)) (failures : List Failure) (old new : List ℕ) : Type 0 where
   pub marks : List (Option ℕ)
-  pub failing : Reached base_leaves (nodes_of pool) (failing_roots roots failures) marks
+  pub failing : Reached base_leaves pool.nodes (failing_roots roots failures) marks
   pub pushed : new ≡ old ++ lines_text (reached_definitions m pool names marks)
 
 -- The lines of the counts; of the names that `show` gives those that failing constraints reach, in order.
@@ -78,9 +78,9 @@ front_lines m pool names marks f = count_lines f ++ reached_definitions m pool n
 -- These lines, and then each failure with what stands below it.
 pub record IsExplainedText {F : Type 0} {p : ℕ} (m : Modular F p) (pool : BaseNodes F) (roots : List ℕ) (cells : List BoundaryPublic) (trace : Trace F) (f : Found) (text : List ℕ) : Type 0 where
   pub names : List ℕ × List (Option ℕ)
-  pub are_names : AreNames base_leaves (nodes_of pool) roots names
+  pub are_names : AreNames base_leaves pool.nodes roots names
   pub marks : List (Option ℕ)
-  pub failing : Reached base_leaves (nodes_of pool) (failing_roots roots f.failures) marks
+  pub failing : Reached base_leaves pool.nodes (failing_roots roots f.failures) marks
   pub explains : PushesExplained m pool roots cells trace names.1 f.failures (lines_text (front_lines m pool names marks f)) text
 
 -- a main trace with what stands beside it

@@ -3,7 +3,7 @@
 ghost use Rattle.std.specs.Prelude.{◌≡◌, ◌<◌, ◌≤◌, ◌-◌, ◌⊎◌, ◌++◌, ◌∷◌, [], length, map, All, IfOk, IfErr, IfSome, OnOk, slice_get, string_bytes};
 ghost use Rattle.air_field.specs.Assignment.{row_assignment};
 ghost use Rattle.air_symbolic.specs.BaseLeaves.{base_leaves, base_reads};
-ghost use Rattle.air_symbolic.specs.Pools.{IsPool, nodes_of, size};
+ghost use Rattle.air_symbolic.specs.Pools.{IsPool, size};
 ghost use Rattle.air_symbolic.specs.Reach.{Marked};
 ghost use Rattle.air_infix.specs.Names.{AreNames};
 ghost use Rattle.air_explain.specs.Rows.{trace_of};
@@ -50,13 +50,13 @@ fn at_row<F: PrimeField64>(
     row: usize,
 ) -> Result<RowValues<F>, AllocError>
     requires pool { IsPool base_reads pool.now }
-    requires marks { AreClosed (nodes_of pool.now) marks.now }
+    requires marks { AreClosed pool.now.nodes marks.now }
     requires row { row < length trace.now.main.now.rows }
     requires known { IfSome at_hand
-        (KnownAt F.ring (trace_of trace.now) (nodes_of pool.now) marks.now) }
+        (KnownAt F.ring (trace_of trace.now) pool.now.nodes marks.now) }
     ensures row { IfOk result (λ at. at.row ≡ row) }
     ensures known { IfOk result
-        (KnownAt F.ring (trace_of trace.now) (nodes_of pool.now) marks.now) }
+        (KnownAt F.ring (trace_of trace.now) pool.now.nodes marks.now) }
 {
     if let Some(at) = at_hand {
         if at.row == row {
@@ -114,15 +114,15 @@ fn push_explained_failure<F: PrimeField64>(
     at_hand: Option<RowValues<F>>,
     failure: &ConstraintFailure,
 ) -> Result<Option<RowValues<F>>, AllocError>
-    requires marks { AreClosed (nodes_of air.now.pool) marks.now }
+    requires marks { AreClosed air.now.pool.nodes marks.now }
     requires roots { All (λ i. Marked marks.now i) air.now.roots.items }
     requires known { IfSome at_hand
-        (KnownAt F.ring (trace_of trace.now) (nodes_of air.now.pool) marks.now) }
+        (KnownAt F.ring (trace_of trace.now) air.now.pool.nodes marks.now) }
     ensures pushes { OnOk result (PushesExplained F.residues air.now.pool air.now.roots.items
         air.now.cells.items (trace_of trace.now) names.now.1 (seen_failure failure.now ∷ [])
         (string_bytes text.old) (string_bytes text.new)) }
     ensures known { IfOk result (λ at. IfSome at
-        (KnownAt F.ring (trace_of trace.now) (nodes_of air.now.pool) marks.now)) }
+        (KnownAt F.ring (trace_of trace.now) air.now.pool.nodes marks.now)) }
 {
     push_failure(alloc, text, failure)?;
     let Some(root) = air.roots.get(failure.constraint) else {
@@ -169,7 +169,7 @@ fn push_names<F: PrimeField64>(
     names: &Names<BaseLeaf<F>>,
     failures: &[ConstraintFailure],
 ) -> Result<(), AllocError>
-    requires { AreNames base_leaves (nodes_of air.now.pool) air.now.roots.items names.now }
+    requires { AreNames base_leaves air.now.pool.nodes air.now.roots.items names.now }
     ensures { OnOk result (PushesNames F.residues air.now.pool air.now.roots.items names.now
         (map seen_failure failures.now) (string_bytes text.old) (string_bytes text.new)) }
 {

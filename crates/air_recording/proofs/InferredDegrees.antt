@@ -8,7 +8,7 @@ use Rattle.air_field.specs.declared.errors.RingError.TheVariants.{Memory, Degree
 use Rattle.air_symbolic.specs.PoolRefusals.{AnswersDegree}
 use Rattle.air_symbolic.specs.Weights.{SomeOverflows}
 use Rattle.air_symbolic.specs.Leaves.{Leaves}
-use Rattle.air_symbolic.specs.Pools.{term_at}
+use Rattle.air_symbolic.specs.Pools.{Pool, term_at}
 use Rattle.air_symbolic.specs.declared.pools.expr.SymbolicExpr.{SymbolicExpr}
 use Rattle.air_field.specs.Ring.{CommRing, AlgebraOver, itself}
 use Rattle.air_builder.specs.Declaration.{Declaration}
@@ -98,7 +98,7 @@ base_within w bound us vs h =
     each_within w bound us (omega (arith, greatest_within_all w bound (us ++ vs) h, greatest-append w us vs, le-max_left (greatest_degree w us) (greatest_degree w vs)))
 
 -- The greatest of the degrees of these numbers' terms is their greatest degree, and one of them passes `usize` where it does.
-module _ {U A F : Type 0} (reads : U → Leaves A F) (pool : U × List (SymbolicExpr A)) (w : Leaf → ℕ) where
+module _ {U A F : Type 0} (reads : U → Leaves A F) (pool : Pool U A) (w : Leaf → ℕ) where
   pub greatest_in-degrees : (numbers : List ℕ) → greatest_in (map (λ x. degree_by w (term_at reads pool x)) numbers) ≡ greatest_degree w (terms_of reads pool numbers)
   greatest_in-degrees [] = refl
   greatest_in-degrees (x ∷ numbers) = ap (max (degree_by w (term_at reads pool x))) (greatest_in-degrees numbers)
@@ -115,7 +115,7 @@ module _ {U A F : Type 0} (reads : U → Leaves A F) (pool : U × List (Symbolic
   degrees_refused numbers DegreeOverflow h = some_over numbers (h (λ e. cc))
 
 -- a refusal for some term of either list is one for all terms
-pub both_refused : {U A V B F : Type 0} (reads : U → Leaves A F) (pool : U × List (SymbolicExpr A)) (ext_reads : V → Leaves B F) (ext_pool : V × List (SymbolicExpr B)) (w : Leaf → ℕ) (base ext : List ℕ) (e : RingError) → (e ≢ Memory → SomeOverflows (map (λ x. degree_by w (term_at reads pool x)) base) ⊎ SomeOverflows (map (λ x. degree_by w (term_at ext_reads ext_pool x)) ext)) → AnswersDegree (greatest_degree w (terms_of reads pool base ++ terms_of ext_reads ext_pool ext)) (Err e)
+pub both_refused : {U A V B F : Type 0} (reads : U → Leaves A F) (pool : Pool U A) (ext_reads : V → Leaves B F) (ext_pool : Pool V B) (w : Leaf → ℕ) (base ext : List ℕ) (e : RingError) → (e ≢ Memory → SomeOverflows (map (λ x. degree_by w (term_at reads pool x)) base) ⊎ SomeOverflows (map (λ x. degree_by w (term_at ext_reads ext_pool x)) ext)) → AnswersDegree (greatest_degree w (terms_of reads pool base ++ terms_of ext_reads ext_pool ext)) (Err e)
 both_refused reads pool ext_reads ext_pool w base ext Memory h = tt
 both_refused reads pool ext_reads ext_pool w base ext DegreeOverflow h =
     let us = terms_of reads pool base in

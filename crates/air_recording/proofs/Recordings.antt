@@ -5,11 +5,11 @@ use Rattle.air_field.specs.Ring.{CommRing, AlgebraOver, AlgebraOverLaws}
 use Rattle.air_field.specs.Term.{Term}
 use Rattle.air_field.specs.laws.Polynomial.{Same-poly, polynomial-lists_of_one}
 use Rattle.air_symbolic.specs.Leaves.{Leaves}
-use Rattle.air_symbolic.specs.Pools.{PoolMeans, term_at}
+use Rattle.air_symbolic.specs.Pools.{Pool, PoolMeans, term_at}
 use Rattle.air_symbolic.specs.declared.pools.expr.SymbolicExpr.{SymbolicExpr}
 use Rattle.air_recording.specs.Recorded.{EachRecords, terms_of}
 
-module _ {U A F : Type 0} (r : CommRing F) (reads : U → Leaves A F) (pool : U × List (SymbolicExpr A)) where
+module _ {U A F : Type 0} (r : CommRing F) (reads : U → Leaves A F) (pool : Pool U A) where
   pub each_records : {E : Type 0} (a : AlgebraOver F E) (m : AlgebraOverLaws r a) (is : List ℕ) (ts : List (Term F)) → AllZip (PoolMeans reads r pool) is ts → EachRecords a (terms_of reads pool is) ts
   each_records a l [] [] m = tt
   each_records a l [] (t ∷ ts) m = absurd m
@@ -24,7 +24,7 @@ module _ {U A F : Type 0} (r : CommRing F) (reads : U → Leaves A F) (pool : U 
   )
 
   -- and is of the pool
-  pub numbers_here : (is : List ℕ) (ts : List (Term F)) → AllZip (PoolMeans reads r pool) is ts → (k d : ℕ) → k < length is → slice_index_or is k d < length pool.1
+  pub numbers_here : (is : List ℕ) (ts : List (Term F)) → AllZip (PoolMeans reads r pool) is ts → (k d : ℕ) → k < length is → slice_index_or is k d < length pool.nodes
   numbers_here [] ts m k d b = absurd (omega arith)
   numbers_here (i ∷ is) [] m k d b = absurd m
   numbers_here (i ∷ is) (t ∷ ts) m zero d b = m.0.here

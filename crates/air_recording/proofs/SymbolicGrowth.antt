@@ -26,20 +26,20 @@ module _ {F EF : Type 0} {r : CommRing F} {over : AlgebraOver F EF} {basis : Bas
 
   -- and its lists grew
   abbrev Grew : Lists ℕ ℕ → List (Assertion F) → Type 0
-  Grew new ts = GrewRecording (λ q. PoolMeans base_reads r q.0) (PoolMeans (ext_reads basis) r) (Grown ext_grows (ext_reads basis)) p p s s old new ts
+  Grew new ts = GrewRecording (λ q. PoolMeans base_reads r q.base) (PoolMeans (ext_reads basis) r) (Grown ext_grows (ext_reads basis)) p p s s old new ts
 
   pub nothing_recorded : (new : Lists ℕ ℕ) → new ≡ old → Grew new []
   nothing_recorded new e =
       let ext = ext_pool_laws laws in
-      recorded_none (base_pool_laws r) ext (λ q. q.0) (base_grown basis) p p s s old new (ext.same p) refl e
+      recorded_none (base_pool_laws r) ext (λ q. q.base) (base_grown basis) p p s s old new (ext.same p) refl e
 
   -- a base expression that was put on its list is growth by what it asserts
-  pub base_recorded : (x : ℕ) (k : Assertion F) → AssertsOf Base (λ q y t. PoolMeans base_reads r q.0 y (with_leaves (λ l. leaf_term l) t)) (λ t. t) p x k → Grew (with_base old x) (k ∷ [])
-  base_recorded x k h = recorded_base (base_pool_laws r) (ext_pool_laws laws) (λ q. q.0) (base_grown basis) p s old _ x k h.0 refl h.2 h.1
+  pub base_recorded : (x : ℕ) (k : Assertion F) → AssertsOf Base (λ q y t. PoolMeans base_reads r q.base y (with_leaves (λ l. leaf_term l) t)) (λ t. t) p x k → Grew (with_base old x) (k ∷ [])
+  base_recorded x k h = recorded_base (base_pool_laws r) (ext_pool_laws laws) (λ q. q.base) (base_grown basis) p s old _ x k h.0 refl h.2 h.1
 
   -- and so is an extension expression
   pub ext_recorded : (x : ℕ) (k : Assertion F) → AssertsOf Extension (λ q y t. PoolMeans (ext_reads basis) r q y (with_leaves (λ l. leaf_term l) t)) (λ t. t) p x k → Grew (with_ext old x) (k ∷ [])
-  ext_recorded x k h = recorded_ext (base_pool_laws r) (ext_pool_laws laws) (λ q. q.0) (base_grown basis) p s old _ x k h.0 refl h.2 h.1
+  ext_recorded x k h = recorded_ext (base_pool_laws r) (ext_pool_laws laws) (λ q. q.base) (base_grown basis) p s old _ x k h.0 refl h.2 h.1
 
   -- what was put on a list is asserted; where it is refused, for want of memory, the lists are as they were
   pub pushed_asserted : {S I : Type 0} {asserts : S → I → Assertion F → Type 0} {kept : S → S → Type 0}

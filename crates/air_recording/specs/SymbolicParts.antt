@@ -4,7 +4,7 @@ use Rattle.air_field.specs.Ring.{CommRing}
 use Rattle.air_field.specs.Extension.{Basis}
 use Rattle.air_field.specs.Term.{first_row, last_row, transition, Term, leaf_term}
 use Rattle.air_symbolic.specs.Trees.{leaf_tree}
-use Rattle.air_symbolic.specs.Pools.{IsPool, PoolHas, PoolMeans, HasTree, base_of}
+use Rattle.air_symbolic.specs.Pools.{IsPool, PoolHas, PoolMeans, HasTree}
 use Rattle.air_symbolic.specs.BaseLeaves.{base_reads}
 use Rattle.air_symbolic.specs.ExtLeaves.{BaseNodes, ext_reads}
 use Rattle.air_symbolic.specs.ExtPool.{ExtNodes, BaseHas, BaseMeans}
@@ -37,8 +37,8 @@ pub record SelectorsMeanLeaves {F : Type 0} (means : ℕ → Term F → Type 0) 
 
 -- what is of the base pool that lies under an extension pool, and means a term there, is and does in the extension pool
 module _ {F EF : Type 0} (basis : Basis F EF) where
-  pub base_has_it : (p : ExtNodes F EF) (x : ℕ) → IsPool (ext_reads basis) p → PoolHas base_reads (base_of p) x → BaseHas basis p x
+  pub base_has_it : (p : ExtNodes F EF) (x : ℕ) → IsPool (ext_reads basis) p → PoolHas base_reads p.base x → BaseHas basis p x
   base_has_it p x w h = record { pool = w; base = h }
 
-  pub base_means_it : (r : CommRing F) (p : ExtNodes F EF) (x : ℕ) (t : Term F) → IsPool (ext_reads basis) p → PoolMeans base_reads r (base_of p) x t → BaseMeans r basis p x t
+  pub base_means_it : (r : CommRing F) (p : ExtNodes F EF) (x : ℕ) (t : Term F) → IsPool (ext_reads basis) p → PoolMeans base_reads r p.base x t → BaseMeans r basis p x t
   base_means_it r p x t w h = record { pool = w; base = h }

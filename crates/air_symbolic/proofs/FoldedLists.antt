@@ -6,7 +6,7 @@ use Rattle.air_field.specs.Ring.{CommRing}
 use Rattle.air_field.specs.Degree.{degree_by, cached_weight}
 use Rattle.air_symbolic.specs.Leaves.{Leaves, Keeps, LeafLaws}
 use Rattle.air_symbolic.specs.Trees.{Tree, nothing, leaf_tree, add_tree, sub_tree, neg_tree, mul_tree, term_of, tree_constant, IsWholeTree}
-use Rattle.air_symbolic.specs.Pools.{IsPool, Grown, tree_at, term_at, constant_at, IsConst}
+use Rattle.air_symbolic.specs.Pools.{Pool, IsPool, Grown, tree_at, term_at, constant_at, IsConst}
 use Rattle.air_symbolic.specs.laws.Pools.{Grown-refl, Grown-trans, here-kept, tree-kept}
 use Rattle.air_symbolic.specs.laws.Numbers.{tree_of-whole, term_of-kept}
 use Rattle.air_symbolic.specs.Folds.{IsSimplified, sum_fold, product_fold, IsSum, IsProduct, NeedsNode}
@@ -46,14 +46,14 @@ Keeps-trans l m n h k = record {
 }
 
 -- total was joined of what was taken, and the rest is left
-pub record IsJoining {U A F W : Type 0} (reads : U → Leaves A F) (grows : U → U → Type 0) (Rest : W → U → Tree A → List (Tree A) → Type 0) (Goal : W → U → Type 0) (p s : U × List (SymbolicExpr A)) (total : ℕ) (left : List ℕ) : Type 0 where
+pub record IsJoining {U A F W : Type 0} (reads : U → Leaves A F) (grows : U → U → Type 0) (Rest : W → U → Tree A → List (Tree A) → Type 0) (Goal : W → U → Type 0) (p s : Pool U A) (total : ℕ) (left : List ℕ) : Type 0 where
   pub grown : Grown grows reads p s
-  pub total_in : total < length s.1
-  pub left_in : All (λ x. x < length p.1) left
-  pub leads : (v : W) (u : U) → grows s.0 u → Rest v u (tree_at s total) (map (tree_at p) left) → Goal v u
+  pub total_in : total < length s.nodes
+  pub left_in : All (λ x. x < length p.nodes) left
+  pub leads : (v : W) (u : U) → grows s.base u → Rest v u (tree_at s total) (map (tree_at p) left) → Goal v u
 
 -- the same list in other words
-pub left-is : {U A F W : Type 0} {reads : U → Leaves A F} {grows : U → U → Type 0} {Rest : W → U → Tree A → List (Tree A) → Type 0} {Goal : W → U → Type 0} {p s : U × List (SymbolicExpr A)} {total : ℕ} (left after : List ℕ) → left ≡ after → IsJoining reads grows Rest Goal p s total left → IsJoining reads grows Rest Goal p s total after
+pub left-is : {U A F W : Type 0} {reads : U → Leaves A F} {grows : U → U → Type 0} {Rest : W → U → Tree A → List (Tree A) → Type 0} {Goal : W → U → Type 0} {p s : Pool U A} {total : ℕ} (left after : List ℕ) → left ≡ after → IsJoining reads grows Rest Goal p s total left → IsJoining reads grows Rest Goal p s total after
 left-is {reads = reads} {grows = grows} {Rest = Rest} {Goal = Goal} {p = p} {s = s} {total = total} left after e h =
     subst (λ l. IsJoining reads grows Rest Goal p s total l) e h
 
@@ -69,27 +69,27 @@ module _ {U A F : Type 0} (r : CommRing F) (eq : F → F → Bool) (reads : U �
   OverflowRest v u t ts = OverflowsFrom r eq (reads u) t ts
 
 -- total is the product of what was taken of xs, and none of its steps was refused
-pub record IsMultiplying {U A F : Type 0} (r : CommRing F) (eq : F → F → Bool) (reads : U → Leaves A F) (grows : U → U → Type 0) (p s : U × List (SymbolicExpr A)) (xs : List ℕ) (total : ℕ) (left : List ℕ) : Type 0 where
+pub record IsMultiplying {U A F : Type 0} (r : CommRing F) (eq : F → F → Bool) (reads : U → Leaves A F) (grows : U → U → Type 0) (p s : Pool U A) (xs : List ℕ) (total : ℕ) (left : List ℕ) : Type 0 where
   pub product : IsJoining reads grows (ProductRest r eq reads) (λ v u. IsJoined (reads u) r.one (ProductStep r eq (reads u)) (map (tree_at p) xs) v) p s total left
   pub overflow : IsJoining reads grows (OverflowRest r eq reads) (λ _ u. ProductOverflows r eq (reads u) (map (tree_at p) xs)) p s total left
 
 module _ {U A F : Type 0} (r : CommRing F) (eq : F → F → Bool) (reads : U → Leaves A F) (grows : U → U → Type 0) (empty : U) (laws : LeafLaws r reads grows empty) where
   -- the steps of a sum and of a product, over what lies under later on
-  module _ (s q : U × List (SymbolicExpr A)) (u : U) (pool : IsPool reads s) (g : Grown grows reads s q) (later : grows q.0 u) (x y : ℕ) (b : x < length s.1) (c : y < length s.1) where
-    now : Keeps (reads s.0) (reads u)
-    now = Keeps-trans (reads s.0) (reads q.0) (reads u) (laws.keeps s.0 q.0 g.under) (laws.keeps q.0 u later)
+  module _ (s q : Pool U A) (u : U) (pool : IsPool reads s) (g : Grown grows reads s q) (later : grows q.base u) (x y : ℕ) (b : x < length s.nodes) (c : y < length s.nodes) where
+    now : Keeps (reads s.base) (reads u)
+    now = Keeps-trans (reads s.base) (reads q.base) (reads u) (laws.keeps s.base q.base g.under) (laws.keeps q.base u later)
 
-    constant-later : (i : ℕ) → i < length s.1 → tree_constant (reads u).constant (tree_at s i) ≡ constant_at reads s i
-    constant-later i h = tree_constant-kept (reads s.0) (reads u) now (tree_at s i) (tree_of-whole (reads s.0) s.1 pool.nodes i h)
+    constant-later : (i : ℕ) → i < length s.nodes → tree_constant (reads u).constant (tree_at s i) ≡ constant_at reads s i
+    constant-later i h = tree_constant-kept (reads s.base) (reads u) now (tree_at s i) (tree_of-whole (reads s.base) s.nodes pool.nodes i h)
 
-    term-later : (i : ℕ) → i < length s.1 → term_of (reads u).term (tree_at s i) ≡ term_at reads s i
-    term-later i h = term_of-kept (reads s.0) (reads u) now (tree_at s i) (tree_of-whole (reads s.0) s.1 pool.nodes i h)
+    term-later : (i : ℕ) → i < length s.nodes → term_of (reads u).term (tree_at s i) ≡ term_at reads s i
+    term-later i h = term_of-kept (reads s.base) (reads u) now (tree_at s i) (tree_of-whole (reads s.base) s.nodes pool.nodes i h)
 
     pub sum-later : (z : ℕ) → IsSum reads r eq s q x y z → SumStep r eq (reads u) (tree_at s x) (tree_at s y) (tree_at q z)
     sum-later z h =
         subst (λ f. IsSimplified (reads u) (tree_at s x) (tree_at s y) (add_tree (tree_at s x) (tree_at s y)) f (tree_at q z))
         (sym (ap₂ (sum_fold r eq) (constant-later x b) (constant-later y c)))
-        (IsFolded-kept (reads q.0) (reads u) (laws.keeps q.0 u later) (tree_at s x) (tree_at s y) (add_tree (tree_at s x) (tree_at s y)) (tree_at q z) _ h.tree)
+        (IsFolded-kept (reads q.base) (reads u) (laws.keeps q.base u later) (tree_at s x) (tree_at s y) (add_tree (tree_at s x) (tree_at s y)) (tree_at q z) _ h.tree)
 
     fold-later : product_fold r eq (tree_constant (reads u).constant (tree_at s x)) (tree_constant (reads u).constant (tree_at s y)) ≡ product_fold r eq (constant_at reads s x) (constant_at reads s y)
     fold-later = ap₂ (product_fold r eq) (constant-later x b) (constant-later y c)
@@ -108,11 +108,11 @@ module _ {U A F : Type 0} (r : CommRing F) (eq : F → F → Bool) (reads : U �
       λ o. n (overflows-before o),
       subst (λ f. IsSimplified (reads u) (tree_at s x) (tree_at s y) (mul_tree (tree_at s x) (tree_at s y)) f (tree_at q z))
           (sym fold-later)
-          (IsFolded-kept (reads q.0) (reads u) (laws.keeps q.0 u later) (tree_at s x) (tree_at s y) (mul_tree (tree_at s x) (tree_at s y)) (tree_at q z) _ h.tree),
+          (IsFolded-kept (reads q.base) (reads u) (laws.keeps q.base u later) (tree_at s x) (tree_at s y) (mul_tree (tree_at s x) (tree_at s y)) (tree_at q z) _ h.tree),
     )
 
   -- joining begins with the first element
-  pub begin_joining : {W : Type 0} (Rest : W → U → Tree A → List (Tree A) → Type 0) (p : U × List (SymbolicExpr A)) (x : ℕ) (xs : List ℕ) → All (λ i. i < length p.1) (x ∷ xs) → IsJoining reads grows Rest (λ v u. Rest v u (tree_at p x) (map (tree_at p) xs)) p p x xs
+  pub begin_joining : {W : Type 0} (Rest : W → U → Tree A → List (Tree A) → Type 0) (p : Pool U A) (x : ℕ) (xs : List ℕ) → All (λ i. i < length p.nodes) (x ∷ xs) → IsJoining reads grows Rest (λ v u. Rest v u (tree_at p x) (map (tree_at p) xs)) p p x xs
   begin_joining Rest p x xs h = record {
     grown = Grown-refl r reads grows empty laws p;
     total_in = h 0 x (omega arith);
@@ -121,14 +121,14 @@ module _ {U A F : Type 0} (r : CommRing F) (eq : F → F → Bool) (reads : U �
   }
 
   -- of a list that a pattern takes apart
-  module _ (p : U × List (SymbolicExpr A)) where
-    pub sum_begun : (xs : List ℕ) (x : ℕ) → 0 < length xs → x ≡ get_or xs 0 x → All (λ i. i < length p.1) xs
+  module _ (p : Pool U A) where
+    pub sum_begun : (xs : List ℕ) (x : ℕ) → 0 < length xs → x ≡ get_or xs 0 x → All (λ i. i < length p.nodes) xs
         → IsJoining reads grows (SumRest r eq reads) (λ v u. IsJoined (reads u) r.zero (SumStep r eq (reads u)) (map (tree_at p) xs) v) p p x (take (length xs - 1) (drop 1 xs))
     sum_begun [] x some is h = absurd (omega (arith, some))
     sum_begun (y ∷ ys) x some is h =
         rw is (left-is ys _ (sym (take_rest (y ∷ ys) 1)) (begin_joining (SumRest r eq reads) p y ys h))
 
-    pub product_begun : (xs : List ℕ) (x : ℕ) → 0 < length xs → x ≡ get_or xs 0 x → All (λ i. i < length p.1) xs
+    pub product_begun : (xs : List ℕ) (x : ℕ) → 0 < length xs → x ≡ get_or xs 0 x → All (λ i. i < length p.nodes) xs
         → IsMultiplying r eq reads grows p p xs x (take (length xs - 1) (drop 1 xs))
     product_begun [] x some is h = absurd (omega (arith, some))
     product_begun (y ∷ ys) x some is h =
@@ -138,23 +138,23 @@ module _ {U A F : Type 0} (r : CommRing F) (eq : F → F → Bool) (reads : U �
         }
 
   -- one more element
-  pub take_one : {W : Type 0} (Rest : W → U → Tree A → List (Tree A) → Type 0) (Goal : W → U → Type 0) (p s q : U × List (SymbolicExpr A)) (total x z : ℕ) (left : List ℕ) → Grown grows reads s q → z < length q.1 → IsJoining reads grows Rest Goal p s total (x ∷ left)
-      → ((v : W) (u : U) (ts : List (Tree A)) → grows q.0 u → Rest v u (tree_at q z) ts → Rest v u (tree_at s total) (tree_at p x ∷ ts))
+  pub take_one : {W : Type 0} (Rest : W → U → Tree A → List (Tree A) → Type 0) (Goal : W → U → Type 0) (p s q : Pool U A) (total x z : ℕ) (left : List ℕ) → Grown grows reads s q → z < length q.nodes → IsJoining reads grows Rest Goal p s total (x ∷ left)
+      → ((v : W) (u : U) (ts : List (Tree A)) → grows q.base u → Rest v u (tree_at q z) ts → Rest v u (tree_at s total) (tree_at p x ∷ ts))
       → IsJoining reads grows Rest Goal p q z left
   take_one Rest Goal p s q total x z left g here h step = record {
     grown = Grown-trans r reads grows empty laws p s q h.grown g;
     total_in = here;
     left_in = λ k d lt. h.left_in (suc k) d (omega arith);
-    leads = λ v u later rest. h.leads v u (laws.joined s.0 q.0 u g.under later) (step v u (map (tree_at p) left) later rest);
+    leads = λ v u later rest. h.leads v u (laws.joined s.base q.base u g.under later) (step v u (map (tree_at p) left) later rest);
   }
 
   -- the trees of a list's elements, which are of the pool p, stay in s
-  element-stays : (p s : U × List (SymbolicExpr A)) (x : ℕ) → Grown grows reads p s → x < length p.1 → tree_at s x ≡ tree_at p x
+  element-stays : (p s : Pool U A) (x : ℕ) → Grown grows reads p s → x < length p.nodes → tree_at s x ≡ tree_at p x
   element-stays p s x g b = tree-kept r reads grows empty laws p s x g b
 
-  pub sum_taken : {Goal : Tree A → U → Type 0} (p s q : U × List (SymbolicExpr A)) (total x z : ℕ) (left : List ℕ) → IsPool reads p → Grown grows reads s q → IsSum reads r eq s q total x z → IsJoining reads grows (SumRest r eq reads) Goal p s total (x ∷ left) → IsJoining reads grows (SumRest r eq reads) Goal p q z left
+  pub sum_taken : {Goal : Tree A → U → Type 0} (p s q : Pool U A) (total x z : ℕ) (left : List ℕ) → IsPool reads p → Grown grows reads s q → IsSum reads r eq s q total x z → IsJoining reads grows (SumRest r eq reads) Goal p s total (x ∷ left) → IsJoining reads grows (SumRest r eq reads) Goal p q z left
   sum_taken p s q total x z left pool g m h =
-      let b : x < length p.1 = h.left_in 0 x (omega arith) in
+      let b : x < length p.nodes = h.left_in 0 x (omega arith) in
       take_one (SumRest r eq reads) _ p s q total x z left g m.here h
       (λ v u ts later rest. (
         tree_at q z,
@@ -163,8 +163,8 @@ module _ {U A F : Type 0} (r : CommRing F) (eq : F → F → Bool) (reads : U �
         rest,
       ))
 
-  module _ (p s q : U × List (SymbolicExpr A)) (total x : ℕ) (left : List ℕ) (pool : IsPool reads p) (g : Grown grows reads s q) where
-    step-taken : (u : U) → grows q.0 u → (z : ℕ) → Grown grows reads p s → total < length s.1 → x < length p.1 → (NeedsNode reads r eq s total x × (2 ^ 64 ≤ degree_by cached_weight (term_at reads s total) + degree_by cached_weight (term_at reads s x)) → ⊥) → IsProduct reads r eq s q total x z → ProductStep r eq (reads u) (tree_at s total) (tree_at p x) (tree_at q z)
+  module _ (p s q : Pool U A) (total x : ℕ) (left : List ℕ) (pool : IsPool reads p) (g : Grown grows reads s q) where
+    step-taken : (u : U) → grows q.base u → (z : ℕ) → Grown grows reads p s → total < length s.nodes → x < length p.nodes → (NeedsNode reads r eq s total x × (2 ^ 64 ≤ degree_by cached_weight (term_at reads s total) + degree_by cached_weight (term_at reads s x)) → ⊥) → IsProduct reads r eq s q total x z → ProductStep r eq (reads u) (tree_at s total) (tree_at p x) (tree_at q z)
     step-taken u later z grown c b n m =
         subst (λ t. ProductStep r eq (reads u) (tree_at s total) t (tree_at q z)) (element-stays p s x grown b)
         (product-later s q u (grown.pool pool) g later total x c (here-kept r reads grows empty laws p s x grown b) z n m)
@@ -181,26 +181,26 @@ module _ {U A F : Type 0} (r : CommRing F) (eq : F → F → Bool) (reads : U �
           (λ v u ts later rest. inr (tree_at q z, step-taken u later z h.grown h.total_in (h.left_in 0 x (omega arith)) n m, rest))
 
     -- the product with x overflows
-    pub overflow_told : {Goal : Unit {0} → U → Type 0} → NeedsNode reads r eq s total x × (2 ^ 64 ≤ degree_by cached_weight (term_at reads s total) + degree_by cached_weight (term_at reads s x)) → IsJoining reads grows (OverflowRest r eq reads) Goal p s total (x ∷ left) → Goal tt q.0
+    pub overflow_told : {Goal : Unit {0} → U → Type 0} → NeedsNode reads r eq s total x × (2 ^ 64 ≤ degree_by cached_weight (term_at reads s total) + degree_by cached_weight (term_at reads s x)) → IsJoining reads grows (OverflowRest r eq reads) Goal p s total (x ∷ left) → Goal tt q.base
     overflow_told o h =
-        let b : x < length p.1 = h.left_in 0 x (omega arith) in
-        h.leads tt q.0 g.under
-        (inl (subst (λ t. Overflows r eq (reads q.0) (tree_at s total) t) (element-stays p s x h.grown b)
-        (overflows-later s q q.0 (h.grown.pool pool) g (laws.same q.0) total x h.total_in (here-kept r reads grows empty laws p s x h.grown b) o.0 o.1)))
+        let b : x < length p.nodes = h.left_in 0 x (omega arith) in
+        h.leads tt q.base g.under
+        (inl (subst (λ t. Overflows r eq (reads q.base) (tree_at s total) t) (element-stays p s x h.grown b)
+        (overflows-later s q q.base (h.grown.pool pool) g (laws.same q.base) total x h.total_in (here-kept r reads grows empty laws p s x h.grown b) o.0 o.1)))
 
   -- nothing is left
-  pub sum_ended : (p s : U × List (SymbolicExpr A)) (xs : List ℕ) (total : ℕ) → IsJoining reads grows (SumRest r eq reads) (λ v u. IsJoined (reads u) r.zero (SumStep r eq (reads u)) (map (tree_at p) xs) v) p s total [] → IsSumOfAll reads r eq p s xs total
-  sum_ended p s xs total h = record { here = h.total_in; tree = h.leads (tree_at s total) s.0 (laws.same s.0) refl }
+  pub sum_ended : (p s : Pool U A) (xs : List ℕ) (total : ℕ) → IsJoining reads grows (SumRest r eq reads) (λ v u. IsJoined (reads u) r.zero (SumStep r eq (reads u)) (map (tree_at p) xs) v) p s total [] → IsSumOfAll reads r eq p s xs total
+  sum_ended p s xs total h = record { here = h.total_in; tree = h.leads (tree_at s total) s.base (laws.same s.base) refl }
 
-  pub product_ended : (p s : U × List (SymbolicExpr A)) (xs : List ℕ) (total : ℕ) → IsJoining reads grows (ProductRest r eq reads) (λ v u. IsJoined (reads u) r.one (ProductStep r eq (reads u)) (map (tree_at p) xs) v) p s total [] → IsProductOfAll reads r eq p s xs total
-  product_ended p s xs total h = record { here = h.total_in; tree = h.leads (tree_at s total) s.0 (laws.same s.0) refl }
+  pub product_ended : (p s : Pool U A) (xs : List ℕ) (total : ℕ) → IsJoining reads grows (ProductRest r eq reads) (λ v u. IsJoined (reads u) r.one (ProductStep r eq (reads u)) (map (tree_at p) xs) v) p s total [] → IsProductOfAll reads r eq p s xs total
+  product_ended p s xs total h = record { here = h.total_in; tree = h.leads (tree_at s total) s.base (laws.same s.base) refl }
 
 pub drop_item : {X : Type 0} (l : List X) (i : ℕ) (x : X) → i < length l → x ≡ get_or l i x → drop i l ≡ x ∷ drop (i + 1) l
 drop_item l i x h is = drop-cons l i x h ∙ (ap (λ y. y ∷ drop (suc i) l) (sym is) ∙ ap (λ n. x ∷ drop n l) (sym (add-one i)))
 
 -- The item at place i begins what is left from there on, and is of the pool.
-module _ {U A F W : Type 0} {r : CommRing F} {reads : U → Leaves A F} {grows : U → U → Type 0} {empty : U} (laws : LeafLaws r reads grows empty) {Rest : W → U → Tree A → List (Tree A) → Type 0} {Goal : W → U → Type 0} {p s : U × List (SymbolicExpr A)} {total x : ℕ} (rest : List ℕ) (i : ℕ) where
-  pub next_in : i < length rest → x ≡ get_or rest i x → IsJoining reads grows Rest Goal p s total (drop i rest) → x < length s.1
+module _ {U A F W : Type 0} {r : CommRing F} {reads : U → Leaves A F} {grows : U → U → Type 0} {empty : U} (laws : LeafLaws r reads grows empty) {Rest : W → U → Tree A → List (Tree A) → Type 0} {Goal : W → U → Type 0} {p s : Pool U A} {total x : ℕ} (rest : List ℕ) (i : ℕ) where
+  pub next_in : i < length rest → x ≡ get_or rest i x → IsJoining reads grows Rest Goal p s total (drop i rest) → x < length s.nodes
   next_in b is h =
       let k = left-is _ _ (drop_item rest i x b is) h in
       here-kept r reads grows empty laws p s x k.grown (k.left_in 0 x (omega arith))

@@ -8,7 +8,7 @@ use Rattle.air_field.specs.laws.Degree.{Simplifies-refl, Simplifies-trans, Simpl
 use Rattle.air_field.specs.Joins.{join_from, join_terms}
 use Rattle.air_symbolic.specs.Leaves.{Leaves, LeafLaws}
 use Rattle.air_symbolic.specs.Trees.{Tree, add_tree, mul_tree, term_of, IsWholeTree}
-use Rattle.air_symbolic.specs.Pools.{IsPool, Grown, tree_at, term_at}
+use Rattle.air_symbolic.specs.Pools.{Pool, IsPool, Grown, tree_at, term_at}
 use Rattle.air_symbolic.specs.laws.Pools.{here-kept, tree-kept}
 use Rattle.air_symbolic.specs.laws.Numbers.{tree_of-whole, term_of-kept}
 use Rattle.air_symbolic.specs.Folds.{IsSimplified}
@@ -51,35 +51,35 @@ module _ {A F : Type 0} (r : CommRing F) (l : Leaves A F) (op : Term F → Term 
       subst (λ x. Simplifies r x (const_term none)) (sym (ap (term_of l.term) h.1 ∙ h.2.term)) (Simplifies-refl r (const_term none))
   joined-simplifies none (t ∷ ts) v hs h = from-simplifies t ts v hs.0 hs.1 h
 
-module _ {U A F : Type 0} (r : CommRing F) (eq : F → F → Bool) (decides : (x y : F) → Decides (eq x y) (x ≡ y)) (reads : U → Leaves A F) (grows : U → U → Type 0) (empty : U) (laws : LeafLaws r reads grows empty) (p q : U × List (SymbolicExpr A)) (pool : IsPool reads p) (g : Grown grows reads p q) where
-  tree-whole : (i : ℕ) → i < length p.1 → IsWholeTree (reads q.0).valid (tree_at p i)
+module _ {U A F : Type 0} (r : CommRing F) (eq : F → F → Bool) (decides : (x y : F) → Decides (eq x y) (x ≡ y)) (reads : U → Leaves A F) (grows : U → U → Type 0) (empty : U) (laws : LeafLaws r reads grows empty) (p q : Pool U A) (pool : IsPool reads p) (g : Grown grows reads p q) where
+  tree-whole : (i : ℕ) → i < length p.nodes → IsWholeTree (reads q.base).valid (tree_at p i)
   tree-whole i b =
-      subst (IsWholeTree (reads q.0).valid) (tree-kept r reads grows empty laws p q i g b)
-      (tree_of-whole (reads q.0) q.1 (g.pool pool).nodes i (here-kept r reads grows empty laws p q i g b))
+      subst (IsWholeTree (reads q.base).valid) (tree-kept r reads grows empty laws p q i g b)
+      (tree_of-whole (reads q.base) q.nodes (g.pool pool).nodes i (here-kept r reads grows empty laws p q i g b))
 
-  trees-whole : (xs : List ℕ) → All (λ i. i < length p.1) xs → AllWhole (reads q.0).valid (map (tree_at p) xs)
+  trees-whole : (xs : List ℕ) → All (λ i. i < length p.nodes) xs → AllWhole (reads q.base).valid (map (tree_at p) xs)
   trees-whole [] h = tt
   trees-whole (x ∷ xs) h = (tree-whole x (h 0 x (omega arith)), trees-whole xs (λ k d lt. h (suc k) d (omega arith)))
 
-  terms-kept : (xs : List ℕ) → All (λ i. i < length p.1) xs → map (term_of (reads q.0).term) (map (tree_at p) xs) ≡ map (term_at reads p) xs
+  terms-kept : (xs : List ℕ) → All (λ i. i < length p.nodes) xs → map (term_of (reads q.base).term) (map (tree_at p) xs) ≡ map (term_at reads p) xs
   terms-kept [] h = refl
   terms-kept (x ∷ xs) h =
       ap₂ (λ (t : Term F) ts. t ∷ ts)
-      (term_of-kept (reads p.0) (reads q.0) (laws.keeps p.0 q.0 g.under) (tree_at p x) (tree_of-whole (reads p.0) p.1 pool.nodes x (h 0 x (omega arith))))
+      (term_of-kept (reads p.base) (reads q.base) (laws.keeps p.base q.base g.under) (tree_at p x) (tree_of-whole (reads p.base) p.nodes pool.nodes x (h 0 x (omega arith))))
       (terms-kept xs (λ k d lt. h (suc k) d (omega arith)))
 
-  pub IsSumOfAll-simplifies : (xs : List ℕ) → All (λ i. i < length p.1) xs → (z : ℕ) → IsSumOfAll reads r eq p q xs z → Simplifies r (term_at reads q z) (join_terms add_term r.zero (map (term_at reads p) xs))
+  pub IsSumOfAll-simplifies : (xs : List ℕ) → All (λ i. i < length p.nodes) xs → (z : ℕ) → IsSumOfAll reads r eq p q xs z → Simplifies r (term_at reads q z) (join_terms add_term r.zero (map (term_at reads p) xs))
   IsSumOfAll-simplifies xs h z m =
       subst (λ ts. Simplifies r (term_at reads q z) (join_terms add_term r.zero ts)) (terms-kept xs h)
-      (joined-simplifies r (reads q.0) add_term (SumStep r eq (reads q.0)) (Simplifies-add r)
-      (λ t u v ht hu s. operation-simplifies r (reads q.0) (reads q.0) (laws.constant_is q.0) (laws.keeps q.0 q.0 (laws.same q.0)) (sum decides (reads q.0)) t u ht hu v s)
-      (λ t u v ht hu s. IsFolded-whole (reads q.0) t u (add_tree t u) v _ ht hu (ht, hu) s)
+      (joined-simplifies r (reads q.base) add_term (SumStep r eq (reads q.base)) (Simplifies-add r)
+      (λ t u v ht hu s. operation-simplifies r (reads q.base) (reads q.base) (laws.constant_is q.base) (laws.keeps q.base q.base (laws.same q.base)) (sum decides (reads q.base)) t u ht hu v s)
+      (λ t u v ht hu s. IsFolded-whole (reads q.base) t u (add_tree t u) v _ ht hu (ht, hu) s)
       r.zero (map (tree_at p) xs) (tree_at q z) (trees-whole xs h) m.tree)
 
-  pub IsProductOfAll-simplifies : (xs : List ℕ) → All (λ i. i < length p.1) xs → (z : ℕ) → IsProductOfAll reads r eq p q xs z → Simplifies r (term_at reads q z) (join_terms mul_term r.one (map (term_at reads p) xs))
+  pub IsProductOfAll-simplifies : (xs : List ℕ) → All (λ i. i < length p.nodes) xs → (z : ℕ) → IsProductOfAll reads r eq p q xs z → Simplifies r (term_at reads q z) (join_terms mul_term r.one (map (term_at reads p) xs))
   IsProductOfAll-simplifies xs h z m =
       subst (λ ts. Simplifies r (term_at reads q z) (join_terms mul_term r.one ts)) (terms-kept xs h)
-      (joined-simplifies r (reads q.0) mul_term (ProductStep r eq (reads q.0)) (Simplifies-mul r)
-      (λ t u v ht hu s. operation-simplifies r (reads q.0) (reads q.0) (laws.constant_is q.0) (laws.keeps q.0 q.0 (laws.same q.0)) (product decides (reads q.0)) t u ht hu v s.1)
-      (λ t u v ht hu s. IsFolded-whole (reads q.0) t u (mul_tree t u) v _ ht hu (ht, hu) s.1)
+      (joined-simplifies r (reads q.base) mul_term (ProductStep r eq (reads q.base)) (Simplifies-mul r)
+      (λ t u v ht hu s. operation-simplifies r (reads q.base) (reads q.base) (laws.constant_is q.base) (laws.keeps q.base q.base (laws.same q.base)) (product decides (reads q.base)) t u ht hu v s.1)
+      (λ t u v ht hu s. IsFolded-whole (reads q.base) t u (mul_tree t u) v _ ht hu (ht, hu) s.1)
       r.one (map (tree_at p) xs) (tree_at q z) (trees-whole xs h) m.tree)

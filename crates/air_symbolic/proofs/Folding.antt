@@ -10,7 +10,7 @@ use Rattle.air_field.specs.laws.Degree.{Simplifies-refl}
 use Rattle.air_symbolic.specs.Leaves.{Leaves, Keeps, LeafLaws}
 use Rattle.air_symbolic.specs.Trees.{Tree, nothing, leaf_tree, add_tree, sub_tree, neg_tree, mul_tree, term_of, IsWholeTree, tree_constant}
 use Rattle.air_symbolic.specs.laws.Numbers.{term_of-kept, tree_of-whole}
-use Rattle.air_symbolic.specs.Pools.{IsPool, Grown, tree_at, term_at, constant_at, IsConst, HasTree, HasConst}
+use Rattle.air_symbolic.specs.Pools.{Pool, IsPool, Grown, tree_at, term_at, constant_at, IsConst, HasTree, HasConst}
 use Rattle.air_symbolic.specs.Folds.{zero_fold, sum_fold, difference_fold, product_fold, negative_fold, IsSimplified, HasFold, IsOperation}
 use Rattle.air_symbolic.specs.declared.pools.expr.SymbolicExpr.{SymbolicExpr}
 use Rattle.air_symbolic.specs.declared.pools.fold.Fold.{Fold}
@@ -131,23 +131,23 @@ module _ {A F : Type 0} (r : CommRing F) (l m : Leaves A F) (constant_is : (a : 
       subst (Simplifies r (term_of m.term v)) (o.means t u) (folded-simplifies t u (node t u) v f ht hu (o.whole t u ht hu) folds h)
 
 -- So do the numbers that a pool's folded calls answer.
-module _ {U A F E : Type 0} {r : CommRing F} {reads : U → Leaves A F} {grows : U → U → Type 0} {empty : U} (laws : LeafLaws r reads grows empty) {p q : U × List (SymbolicExpr A)} (pool : IsPool reads p) (grown : Grown grows reads p q)
-    {node : Tree A → Tree A → Tree A} {fold : Option F → Option F → Option (Fold F)} {term : Term F → Term F → Term F} (o : Operates r (reads p.0) node fold term)
-    {x y : ℕ} (x_in : x < length p.1) (y_in : y < length p.1) (answer : Result ℕ E) where
+module _ {U A F E : Type 0} {r : CommRing F} {reads : U → Leaves A F} {grows : U → U → Type 0} {empty : U} (laws : LeafLaws r reads grows empty) {p q : Pool U A} (pool : IsPool reads p) (grown : Grown grows reads p q)
+    {node : Tree A → Tree A → Tree A} {fold : Option F → Option F → Option (Fold F)} {term : Term F → Term F → Term F} (o : Operates r (reads p.base) node fold term)
+    {x y : ℕ} (x_in : x < length p.nodes) (y_in : y < length p.nodes) (answer : Result ℕ E) where
   -- what is answered is the operation, and stands for its term
   abbrev pub Answers : Type 0
   Answers = IfOk answer (IsOperation reads p q node fold x y) × IfOk answer (λ z. Simplifies r (term_at reads q z) (term (term_at reads p x) (term_at reads p y)))
 
-  whole_at : (i : ℕ) → i < length p.1 → IsWholeTree (reads p.0).valid (tree_at p i)
-  whole_at i b = tree_of-whole (reads p.0) p.1 pool.nodes i b
+  whole_at : (i : ℕ) → i < length p.nodes → IsWholeTree (reads p.base).valid (tree_at p i)
+  whole_at i b = tree_of-whole (reads p.base) p.nodes pool.nodes i b
 
-  answers : (f : Option (Fold F)) → fold (constant_at reads p x) (constant_at reads p y) ≡ f → IfOk answer (λ z. (z < length q.1) × IsSimplified (reads q.0) (tree_at p x) (tree_at p y) (node (tree_at p x) (tree_at p y)) f (tree_at q z)) → Answers
+  answers : (f : Option (Fold F)) → fold (constant_at reads p x) (constant_at reads p y) ≡ f → IfOk answer (λ z. (z < length q.nodes) × IsSimplified (reads q.base) (tree_at p x) (tree_at p y) (node (tree_at p x) (tree_at p y)) f (tree_at q z)) → Answers
   answers f is h =
       let made = IfOk-weaker answer _ (IsOperation reads p q node fold x y)
-      (λ z m. record { here = m.0; tree = subst (λ g. IsSimplified (reads q.0) (tree_at p x) (tree_at p y) (node (tree_at p x) (tree_at p y)) g (tree_at q z)) (sym is) m.1 }) h in (
+      (λ z m. record { here = m.0; tree = subst (λ g. IsSimplified (reads q.base) (tree_at p x) (tree_at p y) (node (tree_at p x) (tree_at p y)) g (tree_at q z)) (sym is) m.1 }) h in (
         made,
         IfOk-weaker answer _ _
-            (λ z m. operation-simplifies r (reads p.0) (reads q.0) (laws.constant_is p.0) (laws.keeps p.0 q.0 grown.under) o (tree_at p x) (tree_at p y) (whole_at x x_in) (whole_at y y_in) (tree_at q z) m.tree)
+            (λ z m. operation-simplifies r (reads p.base) (reads q.base) (laws.constant_is p.base) (laws.keeps p.base q.base grown.under) o (tree_at p x) (tree_at p y) (whole_at x x_in) (whole_at y y_in) (tree_at q z) m.tree)
             made,
       )
 
@@ -162,4 +162,4 @@ module _ {U A F E : Type 0} {r : CommRing F} {reads : U → Leaves A F} {grows :
   pub is_constant : {a b : F} → fold (constant_at reads p x) (constant_at reads p y) ≡ Some (Constant a) → b ≡ a → IfOk answer (HasConst reads q b) → Answers
   is_constant {a = a} found is made =
       answers (Some (Constant a)) found
-      (IfOk-weaker answer _ _ (λ z h. (h.here, subst (λ d. IsConst (reads q.0) d (tree_at q z)) is h.constant)) made)
+      (IfOk-weaker answer _ _ (λ z h. (h.here, subst (λ d. IsConst (reads q.base) d (tree_at q z)) is h.constant)) made)

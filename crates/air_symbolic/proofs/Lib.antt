@@ -1,4 +1,4 @@
-pub mod Vectors
+pub mod Tables
 pub mod Pushed
 pub mod Making
 pub mod Folding

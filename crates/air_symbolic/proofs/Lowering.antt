@@ -45,10 +45,10 @@ module _ {F EF : Type 0} (r : CommRing F) where
   lowered-term basis u (mul_tree t x) h n = cc (lowered-term basis u t h.0 (λ e. n (inl e)), lowered-term basis u x h.1 (λ e. n (inr e)))
 
 -- the lowered tree of a number has the number's term
-pub lowered-has-term : {F EF : Type 0} (r : CommRing F) (basis : Basis F EF) (p : ExtNodes F EF) (i : ℕ) (u : BaseNodes F) (b : ℕ) → IsPool (ext_reads basis) p → i < length p.1 → (HasExtOnly (tree_at p i) → ⊥) → HasTree u (lowered p.0 (tree_at p i)) b → HasTermOf basis p i u b
+pub lowered-has-term : {F EF : Type 0} (r : CommRing F) (basis : Basis F EF) (p : ExtNodes F EF) (i : ℕ) (u : BaseNodes F) (b : ℕ) → IsPool (ext_reads basis) p → i < length p.nodes → (HasExtOnly (tree_at p i) → ⊥) → HasTree u (lowered p.base (tree_at p i)) b → HasTermOf basis p i u b
 lowered-has-term r basis p i u b pool here n h =
     ap (term_of base_term) h.tree
-    ∙ lowered-term r basis p.0 (tree_at p i) (tree_of-whole (ext_reads basis p.0) p.1 pool.nodes i here) n
+    ∙ lowered-term r basis p.base (tree_at p i) (tree_of-whole (ext_reads basis p.base) p.nodes pool.nodes i here) n
 
 -- A number of the base pool keeps its tree.
 pub HasTree-kept : {F : Type 0} (r : CommRing F) (u v : BaseNodes F) (i : ℕ) (t : Tree (BaseLeaf F)) → ext_grows u v → HasTree u t i → HasTree v t i
@@ -62,11 +62,11 @@ module _ {F EF : Type 0} (p q : ExtNodes F EF) (i : ℕ) (o : Option ℕ) where
   pub lowered-there : IsLoweredIn p q i o → o ≡ None → ⊥
   lowered-there h n = let e : Some h.0 ≡ None = sym h.1 ∙ n in cc
 
-  pub lowered-read : IsLoweredIn p q i o → (b : ℕ) → o ≡ Some b → HasTree q.0 (lowered p.0 (tree_at p i)) b
+  pub lowered-read : IsLoweredIn p q i o → (b : ℕ) → o ≡ Some b → HasTree q.base (lowered p.base (tree_at p i)) b
   lowered-read h b e =
       let s : Some h.0 ≡ Some b = sym h.1 ∙ e in
       let same : h.0 ≡ b = cc in
-      subst (λ k. HasTree q.0 (lowered p.0 (tree_at p i)) k) same h.2
+      subst (λ k. HasTree q.base (lowered p.base (tree_at p i)) k) same h.2
 
 -- operands below k
 pub each_below : {A : Type 0} (P Q : ℕ → Type 0) (k : ℕ) (n : SymbolicExpr A) → ((i : ℕ) → i < k → P i → Q i) → OperandsBelow k n → EachOperand P n → EachOperand Q n
@@ -78,45 +78,45 @@ each_below P Q k (Mul x y d) f b h = (f x b.0 h.0, f y b.1 h.1)
 
 -- Number i, which can be lowered, is a node in the base pool over what its operands are lowered to.
 module _ {F EF : Type 0} (r : CommRing F) {basis : Basis F EF} {p : ExtNodes F EF} (pool : IsPool (ext_reads basis) p) {table : List (Option ℕ)} {i : ℕ} (ready : CanLower p table i) where
-  module _ {n : SymbolicExpr (ExtLeaf F EF)} (is : IsNode (ext_reads basis p.0) p.1 i n) where
+  module _ {n : SymbolicExpr (ExtLeaf F EF)} (is : IsNode (ext_reads basis p.base) p.nodes i n) where
     pub operands-there : EachOperand (λ x. get_or table x None ≡ None → ⊥) n
     operands-there =
         each_below (LoweredAt p table) (λ x. get_or table x None ≡ None → ⊥) i n (λ x _ h. lowered-there p p x (get_or table x None) h) is.below (ready.operands n is.node)
 
-    only : HasExtOnly (unfold_node (tree_of p.1) n) → ⊥
+    only : HasExtOnly (unfold_node (tree_of p.nodes) n) → ⊥
     only = subst (λ t. HasExtOnly t → ⊥) is.tree ready.base_only
 
   -- b stands for the operand x
   record IsFor (x b : ℕ) : Type 0 where
-    here : b < length p.0.1
-    degree : cached_degree (ext_reads basis p.0) p.1 x ≡ cached_degree base_leaves p.0.1 b
-    tree : tree_at p.0 b ≡ lowered p.0 (tree_at p x)
+    here : b < length p.base.nodes
+    degree : cached_degree (ext_reads basis p.base) p.nodes x ≡ cached_degree base_leaves p.base.nodes b
+    tree : tree_at p.base b ≡ lowered p.base (tree_at p x)
 
-  operand : (x b : ℕ) → x < length p.1 → (HasExtOnly (tree_at p x) → ⊥) → LoweredAt p table x → get_or table x None ≡ Some b → IsFor x b
+  operand : (x b : ℕ) → x < length p.nodes → (HasExtOnly (tree_at p x) → ⊥) → LoweredAt p table x → get_or table x None ≡ Some b → IsFor x b
   operand x b here base at e =
       let h = lowered-read p p x (get_or table x None) at b e in
       record {
         here = h.here;
-        degree = ap (degree_by cached_weight) (sym (lowered-has-term r basis p x p.0 b pool here base h));
+        degree = ap (degree_by cached_weight) (sym (lowered-has-term r basis p x p.base b pool here base h));
         tree = h.tree;
       }
 
-  both : (join : ℕ → ℕ → ℕ) (node : Tree (BaseLeaf F) → Tree (BaseLeaf F) → Tree (BaseLeaf F)) (x y d a b : ℕ) → (x < length p.1) × (y < length p.1) × (d ≡ join (cached_degree (ext_reads basis p.0) p.1 x) (cached_degree (ext_reads basis p.0) p.1 y)) → (HasExtOnly (tree_at p x) ⊎ HasExtOnly (tree_at p y) → ⊥) → LoweredAt p table x × LoweredAt p table y → lowered p.0 (tree_at p i) ≡ node (lowered p.0 (tree_at p x)) (lowered p.0 (tree_at p y)) → get_or table x None ≡ Some a → get_or table y None ≡ Some b → ((a < length p.0.1) × (b < length p.0.1) × (d ≡ join (cached_degree base_leaves p.0.1 a) (cached_degree base_leaves p.0.1 b))) × (node (tree_at p.0 a) (tree_at p.0 b) ≡ lowered p.0 (tree_at p i))
+  both : (join : ℕ → ℕ → ℕ) (node : Tree (BaseLeaf F) → Tree (BaseLeaf F) → Tree (BaseLeaf F)) (x y d a b : ℕ) → (x < length p.nodes) × (y < length p.nodes) × (d ≡ join (cached_degree (ext_reads basis p.base) p.nodes x) (cached_degree (ext_reads basis p.base) p.nodes y)) → (HasExtOnly (tree_at p x) ⊎ HasExtOnly (tree_at p y) → ⊥) → LoweredAt p table x × LoweredAt p table y → lowered p.base (tree_at p i) ≡ node (lowered p.base (tree_at p x)) (lowered p.base (tree_at p y)) → get_or table x None ≡ Some a → get_or table y None ≡ Some b → ((a < length p.base.nodes) × (b < length p.base.nodes) × (d ≡ join (cached_degree base_leaves p.base.nodes a) (cached_degree base_leaves p.base.nodes b))) × (node (tree_at p.base a) (tree_at p.base b) ≡ lowered p.base (tree_at p i))
   both join node x y d a b fits base at tree ea eb =
       let ha = operand x a fits.0 (λ e. base (inl e)) at.0 ea in
       let hb = operand y b fits.1 (λ e. base (inr e)) at.1 eb in
       ((ha.here, hb.here, fits.2 ∙ ap₂ join ha.degree hb.degree), ap₂ node ha.tree hb.tree ∙ sym tree)
 
-  pub added : {x y d a b : ℕ} → IsNode (ext_reads basis p.0) p.1 i (Add x y d) → get_or table x None ≡ Some a → get_or table y None ≡ Some b → IsLoweredNode p i (Add a b d)
-  added is = both max (λ t u. add_tree t u) _ _ _ _ _ is.fits (only is) (ready.operands _ is.node) (ap (lowered p.0) is.tree)
+  pub added : {x y d a b : ℕ} → IsNode (ext_reads basis p.base) p.nodes i (Add x y d) → get_or table x None ≡ Some a → get_or table y None ≡ Some b → IsLoweredNode p i (Add a b d)
+  added is = both max (λ t u. add_tree t u) _ _ _ _ _ is.fits (only is) (ready.operands _ is.node) (ap (lowered p.base) is.tree)
 
-  pub subtracted : {x y d a b : ℕ} → IsNode (ext_reads basis p.0) p.1 i (Sub x y d) → get_or table x None ≡ Some a → get_or table y None ≡ Some b → IsLoweredNode p i (Sub a b d)
-  subtracted is = both max (λ t u. sub_tree t u) _ _ _ _ _ is.fits (only is) (ready.operands _ is.node) (ap (lowered p.0) is.tree)
+  pub subtracted : {x y d a b : ℕ} → IsNode (ext_reads basis p.base) p.nodes i (Sub x y d) → get_or table x None ≡ Some a → get_or table y None ≡ Some b → IsLoweredNode p i (Sub a b d)
+  subtracted is = both max (λ t u. sub_tree t u) _ _ _ _ _ is.fits (only is) (ready.operands _ is.node) (ap (lowered p.base) is.tree)
 
-  pub multiplied : {x y d a b : ℕ} → IsNode (ext_reads basis p.0) p.1 i (Mul x y d) → get_or table x None ≡ Some a → get_or table y None ≡ Some b → IsLoweredNode p i (Mul a b d)
-  multiplied is = both (λ k l. k + l) (λ t u. mul_tree t u) _ _ _ _ _ is.fits (only is) (ready.operands _ is.node) (ap (lowered p.0) is.tree)
+  pub multiplied : {x y d a b : ℕ} → IsNode (ext_reads basis p.base) p.nodes i (Mul x y d) → get_or table x None ≡ Some a → get_or table y None ≡ Some b → IsLoweredNode p i (Mul a b d)
+  multiplied is = both (λ k l. k + l) (λ t u. mul_tree t u) _ _ _ _ _ is.fits (only is) (ready.operands _ is.node) (ap (lowered p.base) is.tree)
 
-  pub negated : {x d a : ℕ} → IsNode (ext_reads basis p.0) p.1 i (Neg x d) → get_or table x None ≡ Some a → IsLoweredNode p i (Neg a d)
+  pub negated : {x d a : ℕ} → IsNode (ext_reads basis p.base) p.nodes i (Neg x d) → get_or table x None ≡ Some a → IsLoweredNode p i (Neg a d)
   negated is e =
       let h = operand _ _ is.fits.0 (only is) (ready.operands _ is.node) e in
-      ((h.here, is.fits.1 ∙ h.degree), ap (λ t. neg_tree t) h.tree ∙ sym (ap (lowered p.0) is.tree))
+      ((h.here, is.fits.1 ∙ h.degree), ap (λ t. neg_tree t) h.tree ∙ sym (ap (lowered p.base) is.tree))

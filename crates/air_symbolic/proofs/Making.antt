@@ -12,7 +12,7 @@ use Rattle.air_field.specs.Algebra.{Made, MadeOf, MadeOfBoth, RefusedOfBoth}
 use Rattle.air_field.specs.ExtAlgebra.{Lifted}
 use Rattle.air_symbolic.specs.Leaves.{Leaves}
 use Rattle.air_symbolic.specs.Trees.{Tree, leaf_tree, term_of}
-use Rattle.air_symbolic.specs.Pools.{IsPool, term_at, PoolHas, PoolMeans, HasTree, HasConst}
+use Rattle.air_symbolic.specs.Pools.{Pool, IsPool, term_at, PoolHas, PoolMeans, HasTree, HasConst}
 use Rattle.air_symbolic.specs.Folds.{IsOperation}
 use Rattle.air_symbolic.specs.PoolRefusals.{PoolRefuses}
 use Rattle.air_symbolic.specs.BaseLeaves.{base_reads}
@@ -28,7 +28,7 @@ IfOk-both (Ok x) P Q R f p q = f x p q
 IfOk-both (Err e) P Q R f p q = tt
 
 -- An operation, answered, means its term.
-module _ {U A F E : Type 0} {r : CommRing F} {reads : U → Leaves A F} {q : U × List (SymbolicExpr A)} (pool : IsPool reads q) (p : U × List (SymbolicExpr A)) (node : Tree A → Tree A → Tree A) (fold : Option F → Option F → Option (Fold F)) (answer : Result ℕ E) where
+module _ {U A F E : Type 0} {r : CommRing F} {reads : U → Leaves A F} {q : Pool U A} (pool : IsPool reads q) (p : Pool U A) (node : Tree A → Tree A → Tree A) (fold : Option F → Option F → Option (Fold F)) (answer : Result ℕ E) where
   pub made-both : (x y : ℕ) (term : Term F → Term F → Term F) → ((t u v w : Term F) → Simplifies r t v → Simplifies r u w → Simplifies r (term t u) (term v w))
       → IfOk answer (IsOperation reads p q node fold x y) → IfOk answer (λ z. Simplifies r (term_at reads q z) (term (term_at reads p x) (term_at reads p y)))
       → IfOk answer (MadeOfBoth (PoolHas reads) (PoolMeans reads r) term p q x y)
@@ -48,35 +48,35 @@ module _ {U A F E : Type 0} {r : CommRing F} {reads : U → Leaves A F} {q : U �
       ))
 
 -- A leaf means its term.
-pub made-leaf : {U A F : Type 0} (r : CommRing F) (reads : U → Leaves A F) (q : U × List (SymbolicExpr A)) (a : A) (z : ℕ) → IsPool reads q → HasTree q (leaf_tree a) z → Made (PoolHas reads) (PoolMeans reads r) ((reads q.0).term a) q z
+pub made-leaf : {U A F : Type 0} (r : CommRing F) (reads : U → Leaves A F) (q : Pool U A) (a : A) (z : ℕ) → IsPool reads q → HasTree q (leaf_tree a) z → Made (PoolHas reads) (PoolMeans reads r) ((reads q.base).term a) q z
 made-leaf r reads q a z pool h =
-    let t = (reads q.0).term a in (
+    let t = (reads q.base).term a in (
       record { pool = pool; here = h.here },
-      record { pool = pool; here = h.here; simplifies = subst (λ x. Simplifies r x t) (sym (ap (term_of (reads q.0).term) h.tree)) (Simplifies-refl r t) },
+      record { pool = pool; here = h.here; simplifies = subst (λ x. Simplifies r x t) (sym (ap (term_of (reads q.base).term) h.tree)) (Simplifies-refl r t) },
     )
 
 -- A constant means its term.
-pub made-constant : {U A F : Type 0} (r : CommRing F) (reads : U → Leaves A F) (q : U × List (SymbolicExpr A)) (c : F) (z : ℕ) → IsPool reads q → HasConst reads q c z → Made (PoolHas reads) (PoolMeans reads r) (const_term c) q z
+pub made-constant : {U A F : Type 0} (r : CommRing F) (reads : U → Leaves A F) (q : Pool U A) (c : F) (z : ℕ) → IsPool reads q → HasConst reads q c z → Made (PoolHas reads) (PoolMeans reads r) (const_term c) q z
 made-constant r reads q c z pool h =
     let a = h.constant.0 in
     subst (λ t. Made (PoolHas reads) (PoolMeans reads r) t q z) h.constant.2.term
     (made-leaf r reads q a z pool record { here = h.here; tree = h.constant.1 })
 
 -- A product is refused only where its degree passes `usize`.
-pub refused-product : {X U A F : Type 0} (r : CommRing F) (reads : U → Leaves A F) (p : U × List (SymbolicExpr A)) (x y : ℕ) (q : Result X RingError) → (q ≡ Err DegreeOverflow → 2 ^ 64 ≤ degree_by cached_weight (term_at reads p x) + degree_by cached_weight (term_at reads p y)) → IfErr q (RefusedOfBoth (PoolMeans reads r) PoolRefuses mul_term p x y)
+pub refused-product : {X U A F : Type 0} (r : CommRing F) (reads : U → Leaves A F) (p : Pool U A) (x y : ℕ) (q : Result X RingError) → (q ≡ Err DegreeOverflow → 2 ^ 64 ≤ degree_by cached_weight (term_at reads p x) + degree_by cached_weight (term_at reads p y)) → IfErr q (RefusedOfBoth (PoolMeans reads r) PoolRefuses mul_term p x y)
 refused-product r reads p x y (Ok i) h = tt
 refused-product r reads p x y (Err Memory) h = λ t u k m. tt
 refused-product r reads p x y (Err DegreeOverflow) h = λ t u k m. omega (arith, h refl, k.simplifies.degree_le cached_weight, m.simplifies.degree_le cached_weight)
 
 -- The leaf of a base expression means what that means.
-pub made-lifted : {F EF : Type 0} (r : CommRing F) (basis : Basis F EF) (p q : ExtNodes F EF) (x : ℕ) → q.0 ≡ p.0 → IsPool (ext_reads basis) q → (z : ℕ) → HasTree q (leaf_tree (Base x)) z → Lifted (PoolHas (ext_reads basis)) (PoolMeans (ext_reads basis) r) (BaseMeans r basis) p q x z
+pub made-lifted : {F EF : Type 0} (r : CommRing F) (basis : Basis F EF) (p q : ExtNodes F EF) (x : ℕ) → q.base ≡ p.base → IsPool (ext_reads basis) q → (z : ℕ) → HasTree q (leaf_tree (Base x)) z → Lifted (PoolHas (ext_reads basis)) (PoolMeans (ext_reads basis) r) (BaseMeans r basis) p q x z
 made-lifted r basis p q x same pool z m =
     let reads = ext_reads basis in
-    let is : term_at reads q z ≡ term_at base_reads p.0 x = ap (term_of (reads q.0).term) m.tree ∙ ap (λ u. term_at base_reads u x) same in (
+    let is : term_at reads q z ≡ term_at base_reads p.base x = ap (term_of (reads q.base).term) m.tree ∙ ap (λ u. term_at base_reads u x) same in (
       record { pool = pool; here = m.here },
       λ t h. record { pool = pool; here = m.here; simplifies = subst (λ u. Simplifies r u t) (sym is) h.base.simplifies },
     )
 
 -- What means a term means each term that is it.
-pub made-equal : {U A F : Type 0} (r : CommRing F) (reads : U → Leaves A F) (q : U × List (SymbolicExpr A)) (u : Term F) (z : ℕ) → Made (PoolHas reads) (PoolMeans reads r) u q z → PoolHas reads q z × ((t : Term F) → t ≡ u → PoolMeans reads r q z t)
+pub made-equal : {U A F : Type 0} (r : CommRing F) (reads : U → Leaves A F) (q : Pool U A) (u : Term F) (z : ℕ) → Made (PoolHas reads) (PoolMeans reads r) u q z → PoolHas reads q z × ((t : Term F) → t ≡ u → PoolMeans reads r q z t)
 made-equal r reads q u z m = (m.0, λ t h. subst (λ w. PoolMeans reads r q z w) (sym h) m.1)

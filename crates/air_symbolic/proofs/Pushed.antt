@@ -10,6 +10,7 @@ use Rattle.std.specs.Cmp.{IsTotalOrder, Equal-is}
 use Rattle.std.proofs.lemmas.Cmp.{tied_itself, tied_back}
 use Rattle.std.proofs.lemmas.Bool.{cases_Bool}
 use Rattle.std.specs.BTreeMap.{BTreeMap, get, Updates}
+use Rattle.air_symbolic.specs.laws.Numbers.{at_pushed}
 use Rattle.air_symbolic.specs.Numbering.{opposite, numbers_by, Entered, FindsNumbers, AreNumbered}
 use Rattle.air_symbolic.specs.declared.pools.expr.SymbolicExpr.{SymbolicExpr}
 use Rattle.air_symbolic.specs.declared.pools.expr.SymbolicExpr.TheVariants.{Leaf, Add, Sub, Neg, Mul}
@@ -17,17 +18,6 @@ use Rattle.air_symbolic.specs.declared.pools.keys.Operands.{Operands}
 use Rattle.air_symbolic.specs.declared.pools.keys.Operand.{Operand}
 
 module _ {N : Type 0} where
-  Some-is : {x y : N} → Some x ≡ Some y → x ≡ y
-  Some-is e = cc
-
-  -- what stands at a place of the longer list
-  at_pushed : (xs : List N) (x k : N) (i : ℕ) → slice_get (xs ++ x ∷ []) i ≡ Some k → (slice_get xs i ≡ Some k) ⊎ ((i ≡ length xs) × (x ≡ k))
-  at_pushed [] x k zero e = inr (refl, Some-is e)
-  at_pushed [] x k (suc i) e = absurd (cc)
-  at_pushed (y ∷ xs) x k zero e = inl e
-  at_pushed (y ∷ xs) x k (suc i) e =
-      ⊎_elim (λ (h : slice_get xs i ≡ Some k). inl h) (λ (h : (i ≡ length xs) × (x ≡ k)). inr (ap suc h.0, h.1)) (at_pushed xs x k i e)
-
   kept_place : (xs : List N) (x k : N) (i : ℕ) → slice_get xs i ≡ Some k → slice_get (xs ++ x ∷ []) i ≡ Some k
   kept_place [] x k i e = absurd (cc)
   kept_place (y ∷ xs) x k zero e = e

@@ -16,7 +16,7 @@ BaseNodes F = Pool ⊤ (BaseLeaf F)
 
 -- nothing under a new extension pool
 abbrev pub no_base_nodes : {F : Type 0} → BaseNodes F
-no_base_nodes = (tt, [])
+no_base_nodes = record { base = tt; nodes = [] }
 
 -- the base pool has grown
 abbrev pub ext_grows : {F : Type 0} → BaseNodes F → BaseNodes F → Type 0

@@ -4,7 +4,7 @@ use Rattle.air_field.specs.Ring.{CommRing}
 use Rattle.air_field.specs.Extension.{Basis}
 use Rattle.air_field.specs.Term.{Term}
 use Rattle.air_field.specs.Algebra.{Made}
-use Rattle.air_symbolic.specs.Pools.{IsPool, PoolHas, PoolMeans, Grown, Pool, base_of, nodes_of}
+use Rattle.air_symbolic.specs.Pools.{IsPool, PoolHas, PoolMeans, Grown, Pool, on_base}
 use Rattle.air_symbolic.specs.BaseLeaves.{base_reads}
 use Rattle.air_symbolic.specs.ExtLeaves.{BaseNodes, ext_grows, ext_reads}
 use Rattle.air_symbolic.specs.declared.leaves.ext_leaf.ExtLeaf.{ExtLeaf}
@@ -20,12 +20,12 @@ module _ {F EF : Type 0} (basis : Basis F EF) where
 
   -- the extension pool has grown wherever its base pool alone has
   abbrev pub GrowsWithBase : ExtNodes F EF → Type 0
-  GrowsWithBase p = (u : BaseNodes F) → ext_grows (base_of p) u → ExtGrown p (u, nodes_of p)
+  GrowsWithBase p = (u : BaseNodes F) → ext_grows p.base u → ExtGrown p (on_base p u)
 
   -- number i is of the base pool
   pub record BaseHas (p : ExtNodes F EF) (i : ℕ) : Type 0 where
     pub pool : IsPool (ext_reads basis) p
-    pub base : PoolHas base_reads (base_of p) i
+    pub base : PoolHas base_reads p.base i
 
 module _ {F EF : Type 0} (r : CommRing F) (basis : Basis F EF) where
   -- number z of the extension pool means t
@@ -35,4 +35,4 @@ module _ {F EF : Type 0} (r : CommRing F) (basis : Basis F EF) where
   -- number i of the base pool means t
   pub record BaseMeans (p : ExtNodes F EF) (i : ℕ) (t : Term F) : Type 0 where
     pub pool : IsPool (ext_reads basis) p
-    pub base : PoolMeans base_reads r (base_of p) i t
+    pub base : PoolMeans base_reads r p.base i t

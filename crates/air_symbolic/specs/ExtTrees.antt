@@ -2,7 +2,7 @@
 use Rattle.std.specs.Prelude.{◌≡◌, ℕ, ◌⊎◌, ⊤}
 use Rattle.air_field.specs.Extension.{Basis}
 use Rattle.air_symbolic.specs.Trees.{Tree, nothing, leaf_tree, add_tree, sub_tree, neg_tree, mul_tree, term_of}
-use Rattle.air_symbolic.specs.Pools.{tree_at, term_at, HasTree, base_of}
+use Rattle.air_symbolic.specs.Pools.{tree_at, term_at, HasTree}
 use Rattle.air_symbolic.specs.BaseLeaves.{base_reads}
 use Rattle.air_symbolic.specs.ExtLeaves.{BaseNodes, ext_term}
 use Rattle.air_symbolic.specs.ExtPool.{ExtNodes, ExtGrown}
@@ -33,7 +33,7 @@ whole_tree u (mul_tree t v) = mul_tree (whole_tree u t) (whole_tree u v)
 
 -- the tree of number i of an extension pool
 abbrev pub whole_tree_at : {F EF : Type 0} → ExtNodes F EF → ℕ → Tree (WholeLeaf F EF)
-whole_tree_at p i = whole_tree (base_of p) (tree_at p i)
+whole_tree_at p i = whole_tree p.base (tree_at p i)
 
 -- number i has its whole tree in every pool that p has grown to
 abbrev pub KeepsWholeTree : {F EF : Type 0} → Basis F EF → ExtNodes F EF → ℕ → Type 0
@@ -77,4 +77,4 @@ pub record IsLowered {F EF : Type 0} (old u : BaseNodes F) (t : Tree (ExtLeaf F 
 
 -- number b of the base pool u has the term of number i of the extension pool p
 abbrev pub HasTermOf : {F EF : Type 0} → Basis F EF → ExtNodes F EF → ℕ → BaseNodes F → ℕ → Type 0
-HasTermOf basis p i u b = term_at base_reads u b ≡ term_of (ext_term basis (base_of p)) (tree_at p i)
+HasTermOf basis p i u b = term_at base_reads u b ≡ term_of (ext_term basis p.base) (tree_at p i)

@@ -4,7 +4,7 @@ use Rattle.air_field.specs.Ring.{CommRing}
 use Rattle.air_field.specs.Degree.{degree_by, cached_weight}
 use Rattle.air_symbolic.specs.Leaves.{Leaves}
 use Rattle.air_symbolic.specs.Trees.{Tree, add_tree, mul_tree, term_of, tree_constant}
-use Rattle.air_symbolic.specs.Pools.{tree_at, IsConst, Pool, base_of, size}
+use Rattle.air_symbolic.specs.Pools.{tree_at, IsConst, Pool, size}
 use Rattle.air_symbolic.specs.Folds.{sum_fold, product_fold, IsSimplified}
 
 -- v is t joined with the trees one by one
@@ -46,8 +46,8 @@ module _ {A F : Type 0} (r : CommRing F) (eq : F → F → Bool) (l : Leaves A F
 module _ {U A F : Type 0} (reads : U → Leaves A F) (r : CommRing F) (eq : F → F → Bool) (p q : Pool U A) where
   pub record IsSumOfAll (xs : List ℕ) (z : ℕ) : Type 0 where
     pub here : z < size q
-    pub tree : IsJoined (reads (base_of q)) r.zero (SumStep r eq (reads (base_of q))) (map (tree_at p) xs) (tree_at q z)
+    pub tree : IsJoined (reads q.base) r.zero (SumStep r eq (reads q.base)) (map (tree_at p) xs) (tree_at q z)
 
   pub record IsProductOfAll (xs : List ℕ) (z : ℕ) : Type 0 where
     pub here : z < size q
-    pub tree : IsJoined (reads (base_of q)) r.one (ProductStep r eq (reads (base_of q))) (map (tree_at p) xs) (tree_at q z)
+    pub tree : IsJoined (reads q.base) r.one (ProductStep r eq (reads q.base)) (map (tree_at p) xs) (tree_at q z)

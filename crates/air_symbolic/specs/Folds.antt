@@ -3,7 +3,7 @@ use Rattle.std.specs.Prelude.{◌≡◌, ℕ, ◌<◌, Bool, Option, None, Some,
 use Rattle.air_field.specs.Ring.{CommRing, minus}
 use Rattle.air_symbolic.specs.Leaves.{Leaves}
 use Rattle.air_symbolic.specs.Trees.{Tree, add_tree, sub_tree, neg_tree, mul_tree}
-use Rattle.air_symbolic.specs.Pools.{tree_at, constant_at, IsConst, Pool, base_of, size}
+use Rattle.air_symbolic.specs.Pools.{tree_at, constant_at, IsConst, Pool, size}
 use Rattle.air_symbolic.specs.declared.pools.fold.Fold.{Fold}
 use Rattle.air_symbolic.specs.declared.pools.fold.Fold.TheVariants.{Constant, Left, Right, Negated}
 
@@ -48,13 +48,13 @@ IsSimplified l t u node None v = v ≡ node
 -- number i of the pool q is what the fold says of the operands t and u
 pub record HasFold {U A F : Type 0} (reads : U → Leaves A F) (q : Pool U A) (t u : Tree A) (fold : Fold F) (i : ℕ) : Type 0 where
   pub here : i < size q
-  pub tree : IsFold (reads (base_of q)) t u fold (tree_at q i)
+  pub tree : IsFold (reads q.base) t u fold (tree_at q i)
 
 -- number i of the pool q is an operation of x and y, which were of the pool p: what it folds to, or else its node
 pub record IsOperation {U A F : Type 0} (reads : U → Leaves A F) (p q : Pool U A)
     (node : Tree A → Tree A → Tree A) (fold : Option F → Option F → Option (Fold F)) (x y i : ℕ) : Type 0 where
   pub here : i < size q
-  pub tree : IsSimplified (reads (base_of q)) (tree_at p x) (tree_at p y) (node (tree_at p x) (tree_at p y)) (fold (constant_at reads p x) (constant_at reads p y)) (tree_at q i)
+  pub tree : IsSimplified (reads q.base) (tree_at p x) (tree_at p y) (node (tree_at p x) (tree_at p y)) (fold (constant_at reads p x) (constant_at reads p y)) (tree_at q i)
 
 module _ {U A F : Type 0} (reads : U → Leaves A F) (r : CommRing F) (eq : F → F → Bool) (p q : Pool U A) where
   abbrev pub IsSum : ℕ → ℕ → ℕ → Type 0

@@ -1,8 +1,8 @@
 -- Base numbers in place of the numbers of an extension pool.
-use Rattle.std.specs.Prelude.{◌≡◌, ℕ, ◌<◌, List, slice_index_or, Option, None, Some}
+use Rattle.std.specs.Prelude.{◌≡◌, ℕ, ◌<◌, List, slice_get, slice_index_or, Option, None, Some}
 use Rattle.air_symbolic.specs.Trees.{Tree, nothing, leaf_tree, add_tree, sub_tree, neg_tree, mul_tree}
-use Rattle.air_symbolic.specs.Nodes.{node_at, unfold_node, tree_of, NodeFits}
-use Rattle.air_symbolic.specs.Pools.{tree_at, HasTree, base_of, nodes_of, size}
+use Rattle.air_symbolic.specs.Nodes.{unfold_node, tree_of, NodeFits}
+use Rattle.air_symbolic.specs.Pools.{tree_at, HasTree, size}
 use Rattle.air_symbolic.specs.BaseLeaves.{base_leaves}
 use Rattle.air_symbolic.specs.ExtPool.{ExtNodes}
 use Rattle.air_symbolic.specs.ExtTrees.{IsExtOnly, HasExtOnly, lowered}
@@ -27,7 +27,7 @@ IsMarkedExtOnly p (Some i) = IsExtOnlyLeaf (tree_at p i)
 
 -- there is a base number, and in q it is number i of p lowered
 abbrev pub IsLoweredIn : {F EF : Type 0} → ExtNodes F EF → ExtNodes F EF → ℕ → Option ℕ → Type 0
-IsLoweredIn p q i o = (b : ℕ) × (o ≡ Some b) × HasTree (base_of q) (lowered (base_of p) (tree_at p i)) b
+IsLoweredIn p q i o = (b : ℕ) × (o ≡ Some b) × HasTree q.base (lowered p.base (tree_at p i)) b
 
 -- the table has at number i the base number that is i lowered
 abbrev pub LoweredAt : {F EF : Type 0} → ExtNodes F EF → List (Option ℕ) → ℕ → Type 0
@@ -35,10 +35,10 @@ LoweredAt p table i = IsLoweredIn p p i (slice_index_or table i None)
 
 -- the node n fits the base pool of p, and there is number i of p lowered
 abbrev pub IsLoweredNode : {F EF : Type 0} → ExtNodes F EF → ℕ → SymbolicExpr (BaseLeaf F) → Type 0
-IsLoweredNode p i n = NodeFits base_leaves (nodes_of (base_of p)) n × (unfold_node (tree_of (nodes_of (base_of p))) n ≡ lowered (base_of p) (tree_at p i))
+IsLoweredNode p i n = NodeFits base_leaves p.base.nodes n × (unfold_node (tree_of p.base.nodes) n ≡ lowered p.base (tree_at p i))
 
 -- Number i can be lowered: no extension-only leaf occurs in its tree, and the table has its operands lowered.
 pub record CanLower {F EF : Type 0} (p : ExtNodes F EF) (table : List (Option ℕ)) (i : ℕ) : Type 0 where
   pub here : i < size p
   pub base_only : HasExtOnly (tree_at p i) → ⊥
-  pub operands : (n : SymbolicExpr (ExtLeaf F EF)) → node_at (nodes_of p) i ≡ Some n → EachOperand (LoweredAt p table) n
+  pub operands : (n : SymbolicExpr (ExtLeaf F EF)) → slice_get p.nodes i ≡ Some n → EachOperand (LoweredAt p table) n

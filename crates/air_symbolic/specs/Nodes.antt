@@ -1,5 +1,5 @@
--- A pool's nodes, the newest first, and what each number stands for.
-use Rattle.std.specs.Prelude.{◌≡◌, ℕ, ◌<◌, ◌+◌, ◌≢◌, max, List, [], ◌∷◌, length, Option, None, Some, ⊤, if◌then◌else◌, ◌==◌}
+-- A pool's nodes, in the order of their numbers, and what each number stands for.
+use Rattle.std.specs.Prelude.{◌≡◌, ℕ, ◌<◌, ◌+◌, max, List, [], ◌∷◌, ◌++◌, length, take, Some, ⊤, slice_get, slice_index_or}
 use Rattle.air_field.specs.Degree.{degree_by, cached_weight}
 use Rattle.air_symbolic.specs.Leaves.{Leaves}
 use Rattle.air_symbolic.specs.Trees.{Tree, nothing, leaf_tree, add_tree, sub_tree, neg_tree, mul_tree, term_of}
@@ -14,15 +14,14 @@ unfold_node f (Sub x y d) = sub_tree (f x) (f y)
 unfold_node f (Neg x d) = neg_tree (f x)
 unfold_node f (Mul x y d) = mul_tree (f x) (f y)
 
--- the tree of number i: its nodes unfolded
-abbrev pub tree_of : {A : Type 0} → List (SymbolicExpr A) → ℕ → Tree A
-tree_of [] i = nothing
-tree_of (n ∷ older) i = if i == length older then unfold_node (tree_of older) n else tree_of older i
+-- What a step makes of each node in turn, from what was made of those before it; `none` stands for numbers that aren't.
+abbrev pub in_turn : {A T : Type 0} → T → ((ℕ → T) → SymbolicExpr A → T) → List T → List (SymbolicExpr A) → List T
+in_turn none step before [] = before
+in_turn none step before (n ∷ ns) = in_turn none step (before ++ step (λ i. slice_index_or before i none) n ∷ []) ns
 
--- the node of number i
-abbrev pub node_at : {A : Type 0} → List (SymbolicExpr A) → ℕ → Option (SymbolicExpr A)
-node_at [] i = None
-node_at (n ∷ older) i = if i == length older then Some n else node_at older i
+-- the tree of number i: its node and theirs unfolded
+abbrev pub tree_of : {A : Type 0} → List (SymbolicExpr A) → ℕ → Tree A
+tree_of ns i = slice_index_or (in_turn nothing unfold_node [] ns) i nothing
 
 -- the degree of number i by the cached weights
 abbrev pub cached_degree : {A F : Type 0} → Leaves A F → List (SymbolicExpr A) → ℕ → ℕ
@@ -44,15 +43,10 @@ NodeFits l ns (Sub x y d) = (x < length ns) × (y < length ns) × (d ≡ max (ca
 NodeFits l ns (Neg x d) = (x < length ns) × (d ≡ cached_degree l ns x)
 NodeFits l ns (Mul x y d) = (x < length ns) × (y < length ns) × (d ≡ cached_degree l ns x + cached_degree l ns y)
 
--- n is none of ns
-abbrev pub Absent : {A : Type 0} → SymbolicExpr A → List (SymbolicExpr A) → Type 0
-Absent n [] = ⊤
-Absent n (m ∷ ms) = (m ≢ n) × Absent n ms
-
 -- each node fits those before it, and none is there twice
-abbrev pub WellFormed : {A F : Type 0} → Leaves A F → List (SymbolicExpr A) → Type 0
-WellFormed l [] = ⊤
-WellFormed l (n ∷ older) = NodeFits l older n × Absent n older × WellFormed l older
+pub record WellFormed {A F : Type 0} (l : Leaves A F) (ns : List (SymbolicExpr A)) : Type 0 where
+  pub fits : (i : ℕ) (n : SymbolicExpr A) → slice_get ns i ≡ Some n → NodeFits l (take i ns) n
+  pub once : (i j : ℕ) (n : SymbolicExpr A) → slice_get ns i ≡ Some n → slice_get ns j ≡ Some n → i ≡ j
 
 -- the operands of a node are below k
 abbrev pub OperandsBelow : {A : Type 0} → ℕ → SymbolicExpr A → Type 0
@@ -64,7 +58,7 @@ OperandsBelow k (Mul x y d) = (x < k) × (y < k)
 
 -- n is the node of number i
 pub record IsNode {A F : Type 0} (l : Leaves A F) (ns : List (SymbolicExpr A)) (i : ℕ) (n : SymbolicExpr A) : Type 0 where
-  pub node : node_at ns i ≡ Some n
+  pub node : slice_get ns i ≡ Some n
   pub tree : tree_of ns i ≡ unfold_node (tree_of ns) n
   pub fits : NodeFits l ns n
   pub degree : cached_degree l ns i ≡ stated_degree l n

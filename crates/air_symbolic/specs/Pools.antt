@@ -8,43 +8,40 @@ use Rattle.air_symbolic.specs.Trees.{Tree, leaf_tree, term_of, tree_constant}
 use Rattle.air_symbolic.specs.Nodes.{tree_of, WellFormed}
 use Rattle.air_symbolic.specs.declared.pools.expr.SymbolicExpr.{SymbolicExpr}
 
--- a pool, as contracts see it: what lies under it, and its nodes, the newest first
-abbrev pub Pool : (U A : Type 0) → Type 0
-Pool U A = U × List (SymbolicExpr A)
+-- A pool, as contracts see it: what lies under it, and its nodes. Number i is the i-th node.
+pub record Pool (U A : Type 0) : Type 0 where
+  pub base : U
+  pub nodes : List (SymbolicExpr A)
 
--- what lies under the pool
-abbrev pub base_of : {U A : Type 0} → Pool U A → U
-base_of p = p.0
-
--- its nodes, the newest first
-abbrev pub nodes_of : {U A : Type 0} → Pool U A → List (SymbolicExpr A)
-nodes_of p = p.1
-
--- how many there are: the numbers below are the pool's
+-- how many nodes there are: the numbers below are the pool's
 abbrev pub size : {U A : Type 0} → Pool U A → ℕ
-size p = length (nodes_of p)
+size p = length p.nodes
+
+-- the same nodes on another base
+abbrev pub on_base : {U A : Type 0} → Pool U A → U → Pool U A
+on_base p u = record { base = u; nodes = p.nodes }
 
 -- What lies under the pool is sound, each node fits those before it, and none is there twice.
 pub record IsPool {U A F : Type 0} (reads : U → Leaves A F) (p : Pool U A) : Type 0 where
-  pub under : (reads (base_of p)).sound
-  pub nodes : WellFormed (reads (base_of p)) (nodes_of p)
+  pub under : (reads p.base).sound
+  pub nodes : WellFormed (reads p.base) p.nodes
 
 -- the tree of number i
 abbrev pub tree_at : {U A : Type 0} → Pool U A → ℕ → Tree A
-tree_at p i = tree_of (nodes_of p) i
+tree_at p i = tree_of p.nodes i
 
 -- the term of number i
 abbrev pub term_at : {U A F : Type 0} → (U → Leaves A F) → Pool U A → ℕ → Term F
-term_at reads p i = term_of (reads (base_of p)).term (tree_of (nodes_of p) i)
+term_at reads p i = term_of (reads p.base).term (tree_of p.nodes i)
 
 -- the constant that number i is, if it is one
 abbrev pub constant_at : {U A F : Type 0} → (U → Leaves A F) → Pool U A → ℕ → Option F
-constant_at reads p i = tree_constant (reads (base_of p)).constant (tree_of (nodes_of p) i)
+constant_at reads p i = tree_constant (reads p.base).constant (tree_of p.nodes i)
 
 -- q is p with nothing lost: earlier numbers keep their trees
 pub record Grown {U A F : Type 0} (grows : U → U → Type 0) (reads : U → Leaves A F) (p q : Pool U A) : Type 0 where
-  pub under : grows (base_of p) (base_of q)
-  pub nodes : (more : List (SymbolicExpr A)) × (nodes_of q ≡ more ++ nodes_of p)
+  pub under : grows p.base q.base
+  pub nodes : (more : List (SymbolicExpr A)) × (q.nodes ≡ p.nodes ++ more)
   pub pool : IsPool reads p → IsPool reads q
 
 -- number i has its tree and its term in every pool that p has grown to
@@ -75,4 +72,4 @@ IsConst {A = A} l c t = (a : A) × (t ≡ leaf_tree a) × IsConstLeaf l c a
 -- number i is the constant c, written as a base constant
 pub record HasConst {U A F : Type 0} (reads : U → Leaves A F) (p : Pool U A) (c : F) (i : ℕ) : Type 0 where
   pub here : i < size p
-  pub constant : IsConst (reads (base_of p)) c (tree_at p i)
+  pub constant : IsConst (reads p.base) c (tree_at p i)

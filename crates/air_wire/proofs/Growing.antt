@@ -2,16 +2,16 @@
 use Rattle.std.proofs.Common.{◌≡◌, ℕ, suc, zero, ◌<◌, ◌≤◌, List, [], ◌∷◌, ◌++◌, length, map, All, refl, ap, subst, arith, length-append}
 use Rattle.air_field.specs.Ring.{CommRing}
 use Rattle.air_symbolic.specs.Leaves.{Leaves, LeafLaws}
-use Rattle.air_symbolic.specs.Pools.{Grown}
+use Rattle.air_symbolic.specs.Pools.{Pool, on_base, Grown}
 use Rattle.air_symbolic.specs.laws.Pools.{Grown-under}
 use Rattle.air_symbolic.specs.declared.pools.expr.SymbolicExpr.{SymbolicExpr}
 
 -- what lies under the pool was lent, and has grown
-pub lent_grown : {U A F : Type 0} (r : CommRing F) (reads : U → Leaves A F) (grows : U → U → Type 0) (empty : U) → LeafLaws r reads grows empty → (p : U × List (SymbolicExpr A)) (lent w : U) → lent ≡ p.0 → grows lent w → Grown grows reads p (w, p.1)
-lent_grown r reads grows empty laws p lent w e g = Grown-under r reads grows empty laws p.0 w p.1 (subst (λ l. grows l w) e g)
+pub lent_grown : {U A F : Type 0} (r : CommRing F) (reads : U → Leaves A F) (grows : U → U → Type 0) (empty : U) → LeafLaws r reads grows empty → (p : Pool U A) (lent w : U) → lent ≡ p.base → grows lent w → Grown grows reads p (on_base p w)
+lent_grown r reads grows empty laws p lent w e g = Grown-under r reads grows empty laws p w (subst (λ l. grows l w) e g)
 
-pub longer : {U A F : Type 0} (reads : U → Leaves A F) (grows : U → U → Type 0) (p q : U × List (SymbolicExpr A)) → Grown grows reads p q → length p.1 ≤ length q.1
-longer reads grows p q g = omega (arith, ap length g.nodes.1, length-append g.nodes.0 p.1)
+pub longer : {U A F : Type 0} (reads : U → Leaves A F) (grows : U → U → Type 0) (p q : Pool U A) → Grown grows reads p q → length p.nodes ≤ length q.nodes
+longer reads grows p q g = omega (arith, ap length g.nodes.1, length-append p.nodes g.nodes.0)
 
 -- numbers below a bound
 abbrev pub AllBelow : ℕ → List ℕ → Type 0

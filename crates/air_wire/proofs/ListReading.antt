@@ -4,6 +4,7 @@ use Rattle.std.proofs.lemmas.List.{length-map}
 use Rattle.std.proofs.lemmas.Option.{slice_get-map}
 use Rattle.std.specs.Option.{ok_or}
 use Rattle.std.specs.List.{slice_get}
+use Rattle.air_symbolic.specs.Pools.{Pool}
 use Rattle.serde_json.specs.Data.{Data, array}
 use Rattle.serde_json.specs.View.{items_of}
 use Rattle.air_symbolic.specs.Trees.{Tree}
@@ -47,8 +48,8 @@ last_seen g ids =
 
 -- ---- a reader
 
-module _ {U A S F : Type 0} (kind : Kind S F) (laws : KindLaws kind) (tree : U × List (SymbolicExpr A) → ℕ → Tree S) where
-  module _ (p : U × List (SymbolicExpr A)) (ds : List Data) where
+module _ {U A S F : Type 0} (kind : Kind S F) (laws : KindLaws kind) (tree : Pool U A → ℕ → Tree S) where
+  module _ (p : Pool U A) (ds : List Data) where
     abbrev given : Result (List (Tree S)) FlatError
     given = nodes_from kind [] (items_of ds)
 
@@ -59,7 +60,7 @@ module _ {U A S F : Type 0} (kind : Kind S F) (laws : KindLaws kind) (tree : U �
     read_gives (Ok ids) h = nodes_again kind laws [] (items_of ds) (map (tree p) ids) h.nodes
     read_gives (Err f) h = fails_if f given (λ n. fault_read kind laws [] (items_of ds) f (h.fault n))
 
-    gives_read : (r : Result (List ℕ) FlatError) → IfOk r (AllBelow (length p.1)) → Gives (map (tree p)) r given → HasRead kind tree p ds r
+    gives_read : (r : Result (List ℕ) FlatError) → IfOk r (AllBelow (length p.nodes)) → Gives (map (tree p)) r given → HasRead kind tree p ds r
     gives_read (Ok ids) here g =
         let us = nodes_found kind laws [] (items_of ds) (map (tree p) ids) g in
         record { here = here; nodes = subst (AreNodes kind [] (items_of ds)) (sym us.1) us.2; fault = tt }
@@ -72,8 +73,8 @@ module _ {U A S F : Type 0} (kind : Kind S F) (laws : KindLaws kind) (tree : U �
     root_gives (Ok ids) h = subst (Gives (tree p) (last_number (Ok ids))) (sym (ap (λ (g : Result (List (Tree S)) FlatError). g >>= λ ts. last_tree ts) (read_gives (Ok ids) h))) (last_seen (tree p) ids)
     root_gives (Err f) h = carry f given (λ ts. last_tree ts) _ refl (read_gives (Err f) h)
 
-    pub root_here : (r : Result (List ℕ) FlatError) → HasRead kind tree p ds r → IfOk (last_number r) (λ i. i < length p.1)
-    root_here (Ok ids) h = at_below (length p.1) ids (length ids - 1) h.here
+    pub root_here : (r : Result (List ℕ) FlatError) → HasRead kind tree p ds r → IfOk (last_number r) (λ i. i < length p.nodes)
+    root_here (Ok ids) h = at_below (length p.nodes) ids (length ids - 1) h.here
     root_here (Err f) h = tt
 
     pub root_is : (r : Result (List ℕ) FlatError) → HasRead kind tree p ds r → IfOk (last_number r) (λ i. IsList kind whole (tree p i))
@@ -84,16 +85,16 @@ module _ {U A S F : Type 0} (kind : Kind S F) (laws : KindLaws kind) (tree : U �
 
   -- ---- one node more
 
-  pub none_read : (p : U × List (SymbolicExpr A)) → HasRead kind tree p [] (Ok [])
+  pub none_read : (p : Pool U A) → HasRead kind tree p [] (Ok [])
   none_read p = record { here = λ k d lt. absurd (omega (arith, lt)); nodes = tt; fault = tt }
 
-  module _ (p q : U × List (SymbolicExpr A)) (ds : List Data) (d : Data) where
+  module _ (p q : Pool U A) (ds : List Data) (d : Data) where
     pub still_read : (f : FlatError) → HasRead kind tree p ds (Err f) → HasRead kind tree q (ds ++ d ∷ []) (Err f)
     still_read f h =
         gives_read q (ds ++ d ∷ []) (Err f) tt
         (carry f (nodes_from kind [] (items_of ds)) (λ done. node_of_value kind done d >>= λ t. Ok (done ++ t ∷ [])) _ (sym (nodes_push kind [] ds d)) (read_gives p ds (Err f) h))
 
-    pub read_on : (ids : List ℕ) (r : Result (List ℕ) FlatError) → IfOk r (AllBelow (length q.1)) → Gives (map (tree q)) r (node_more kind (Ok (map (tree p) ids)) d)
+    pub read_on : (ids : List ℕ) (r : Result (List ℕ) FlatError) → IfOk r (AllBelow (length q.nodes)) → Gives (map (tree q)) r (node_more kind (Ok (map (tree p) ids)) d)
         → HasRead kind tree p ds (Ok ids) → HasRead kind tree q (ds ++ d ∷ []) r
     read_on ids r here g h =
         let same = nodes_push kind [] ds d ∙ ap (λ so_far. node_more kind so_far d) (read_gives p ds (Ok ids) h) in

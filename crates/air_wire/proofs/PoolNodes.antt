@@ -9,7 +9,7 @@ use Rattle.air_symbolic.specs.Trees.{Tree, nothing, leaf_tree, add_tree, sub_tre
 use Rattle.air_symbolic.specs.Nodes.{unfold_node, tree_of, NodeFits, stated_degree, OperandsBelow, IsNode}
 use Rattle.air_symbolic.specs.laws.Numbers.{tree_of-whole}
 use Rattle.air_symbolic.specs.laws.Sharing.{shared}
-use Rattle.air_symbolic.specs.Pools.{IsPool, tree_at}
+use Rattle.air_symbolic.specs.Pools.{Pool, IsPool, tree_at}
 use Rattle.air_symbolic.specs.declared.pools.expr.SymbolicExpr.{SymbolicExpr}
 use Rattle.air_symbolic.specs.declared.pools.expr.SymbolicExpr.TheVariants.{Leaf, Add, Sub, Neg, Mul}
 use Rattle.air_wire.specs.Spelling.{case_data}
@@ -78,12 +78,12 @@ module _ {U A S F : Type 0} (reads : U → Leaves A F) (grows : U → U → Type
   over_one u _ _ h k e = absurd (cc)
 
   -- no tree has two numbers
-  pub seen_one : (p : U × List (SymbolicExpr A)) → IsPool reads p → IsOneToOne (seen_at seen p) (length p.1)
+  pub seen_one : (p : Pool U A) → IsPool reads p → IsOneToOne (seen_at seen p) (length p.nodes)
   seen_one p w n m h k e =
-      shared (reads p.0) p.1 w.nodes n m h k
-      (over_one p.0 (tree_at p n) (tree_at p m) (tree_of-whole (reads p.0) p.1 w.nodes n h) (tree_of-whole (reads p.0) p.1 w.nodes m k) e)
+      shared (reads p.base) p.nodes w.nodes n m h k
+      (over_one p.base (tree_at p n) (tree_at p m) (tree_of-whole (reads p.base) p.nodes w.nodes n h) (tree_of-whole (reads p.base) p.nodes w.nodes m k) e)
 
-  over_node : (p : U × List (SymbolicExpr A)) (node : SymbolicExpr A) → over (seen p.0) (unfold_node (tree_of p.1) node) ≡ node_tree (seen p.0) (seen_at seen p) node
+  over_node : (p : Pool U A) (node : SymbolicExpr A) → over (seen p.base) (unfold_node (tree_of p.nodes) node) ≡ node_tree (seen p.base) (seen_at seen p) node
   over_node p (Leaf a) = refl
   over_node p (Add x y d) = refl
   over_node p (Sub x y d) = refl
@@ -91,12 +91,12 @@ module _ {U A S F : Type 0} (reads : U → Leaves A F) (grows : U → U → Type
   over_node p (Mul x y d) = refl
 
   -- the tree of a number is that of its node
-  pub node_seen : (p : U × List (SymbolicExpr A)) (n : ℕ) (node : SymbolicExpr A) → IsNode (reads p.0) p.1 n node → seen_at seen p n ≡ node_tree (seen p.0) (seen_at seen p) node
-  node_seen p n node is = ap (over (seen p.0)) is.tree ∙ over_node p node
+  pub node_seen : (p : Pool U A) (n : ℕ) (node : SymbolicExpr A) → IsNode (reads p.base) p.nodes n node → seen_at seen p n ≡ node_tree (seen p.base) (seen_at seen p) node
+  node_seen p n node is = ap (over (seen p.base)) is.tree ∙ over_node p node
 
   -- ---- the loop, at its next step
 
-  module _ (p : U × List (SymbolicExpr A)) (size : ℕ) (root : Tree S) (places : List (Option ℕ)) (ds : List Data) where
+  module _ (p : Pool U A) (size : ℕ) (root : Tree S) (places : List (Option ℕ)) (ds : List Data) where
     abbrev pub At : List (ℕ × Bool) → Type 0
     At steps = Progress kind (seen_at seen p) size root steps places ds
 
@@ -116,39 +116,39 @@ module _ {U A S F : Type 0} (reads : U → Leaves A F) (grows : U → U → Type
     write_at : (rest : List (ℕ × Bool)) (n : ℕ) (b : Bool) → b ≡ true → At (rest ++ (n, b) ∷ []) → At (rest ++ (n, true) ∷ [])
     write_at rest n b e h = subst (λ (c : Bool). At (rest ++ (n, c) ∷ [])) e h
 
-    pub next_looks : (steps rest more : List (ℕ × Bool)) (s : ℕ × Bool) (node : SymbolicExpr A) → steps ≡ rest ++ s ∷ [] → s.1 ≡ false → IsNode (reads p.0) p.1 s.0 node → more ≡ rest ++ steps_of s.0 node → At steps → At more
+    pub next_looks : (steps rest more : List (ℕ × Bool)) (s : ℕ × Bool) (node : SymbolicExpr A) → steps ≡ rest ++ s ∷ [] → s.1 ≡ false → IsNode (reads p.base) p.nodes s.0 node → more ≡ rest ++ steps_of s.0 node → At steps → At more
     next_looks steps rest more s node e b is m h =
         subst At (sym m)
-        (looks kind (seen_at seen p) size (seen p.0) root rest places ds s.0 node (node_seen p s.0 node is) is.below
+        (looks kind (seen_at seen p) size (seen p.base) root rest places ds s.0 node (node_seen p s.0 node is) is.below
         (look_at rest s.0 s.1 b (subst At e h)))
 
-    pub looks_smaller : (steps rest more : List (ℕ × Bool)) (s : ℕ × Bool) (node : SymbolicExpr A) → steps ≡ rest ++ s ∷ [] → s.1 ≡ false → IsNode (reads p.0) p.1 s.0 node → more ≡ rest ++ steps_of s.0 node → work (seen_at seen p) more < work (seen_at seen p) steps
+    pub looks_smaller : (steps rest more : List (ℕ × Bool)) (s : ℕ × Bool) (node : SymbolicExpr A) → steps ≡ rest ++ s ∷ [] → s.1 ≡ false → IsNode (reads p.base) p.nodes s.0 node → more ≡ rest ++ steps_of s.0 node → work (seen_at seen p) more < work (seen_at seen p) steps
     looks_smaller steps rest more s node e b is m =
         let w : List (ℕ × Bool) → ℕ = work (seen_at seen p) in
         let same : steps ≡ rest ++ (s.0, false) ∷ [] = e ∙ ap (λ (c : Bool). rest ++ (s.0, c) ∷ []) b in
         subst (λ (l : List (ℕ × Bool)). w l < w steps) (sym m)
-        (subst (λ (l : List (ℕ × Bool)). w (rest ++ steps_of s.0 node) < w l) (sym same) (look_less (seen_at seen p) (seen p.0) rest s.0 node (node_seen p s.0 node is)))
+        (subst (λ (l : List (ℕ × Bool)). w (rest ++ steps_of s.0 node) < w l) (sym same) (look_less (seen_at seen p) (seen p.base) rest s.0 node (node_seen p s.0 node is)))
 
     -- at a step that writes a node, its operands are written
-    pub next_ready : (steps rest : List (ℕ × Bool)) (s : ℕ × Bool) (node : SymbolicExpr A) → steps ≡ rest ++ s ∷ [] → s.1 ≡ true → IsNode (reads p.0) p.1 s.0 node → At steps → IsWritable (reads p.0).valid places node
+    pub next_ready : (steps rest : List (ℕ × Bool)) (s : ℕ × Bool) (node : SymbolicExpr A) → steps ≡ rest ++ s ∷ [] → s.1 ≡ true → IsNode (reads p.base) p.nodes s.0 node → At steps → IsWritable (reads p.base).valid places node
     next_ready steps rest s node e b is g =
         let h : At (rest ++ (s.0, true) ∷ []) = write_at rest s.0 s.1 b (subst At e g) in
-        ready_of kind (seen p.0) (seen_at seen p) size h.done places h.table (reads p.0).valid s.0 node (within_last size rest (s.0, true) h.within) is.below
-        (λ a q. subst (λ (m : SymbolicExpr A). NodeFits (reads p.0) p.1 m) q is.fits)
+        ready_of kind (seen p.base) (seen_at seen p) size h.done places h.table (reads p.base).valid s.0 node (within_last size rest (s.0, true) h.within) is.below
+        (λ a q. subst (λ (m : SymbolicExpr A). NodeFits (reads p.base) p.nodes m) q is.fits)
         (subst (HasOperands h.done) (node_seen p s.0 node is) (is_next kind (seen_at seen p) size root rest places ds s.0 h).0)
 
-    node_written : (steps : List (ℕ × Bool)) (n : ℕ) (node : SymbolicExpr A) (d : Data) → IsNode (reads p.0) p.1 n node → (h : At steps) → IsNodeValue kind (seen p.0) places node d → IsWrittenNode kind h.done d (seen_at seen p n)
+    node_written : (steps : List (ℕ × Bool)) (n : ℕ) (node : SymbolicExpr A) (d : Data) → IsNode (reads p.base) p.nodes n node → (h : At steps) → IsNodeValue kind (seen p.base) places node d → IsWrittenNode kind h.done d (seen_at seen p n)
     node_written steps n node d is h v =
-        let stated : stated_degree (reads p.0) node ≡ degree kind.term (node_tree (seen p.0) (seen_at seen p) node) =
-        degree_is_seen reads grows seen kind.term laws p n (stated_degree (reads p.0) node) (sym is.degree) ∙ ap (degree kind.term) (node_seen p n node is) in
+        let stated : stated_degree (reads p.base) node ≡ degree kind.term (node_tree (seen p.base) (seen_at seen p) node) =
+        degree_is_seen reads grows seen kind.term laws p n (stated_degree (reads p.base) node) (sym is.degree) ∙ ap (degree kind.term) (node_seen p n node is) in
         subst (IsWrittenNode kind h.done d) (sym (node_seen p n node is))
-        (value_of kind (seen p.0) (seen_at seen p) size h.done places h.table (reads p.0) node d stated v)
+        (value_of kind (seen p.base) (seen_at seen p) size h.done places h.table (reads p.base) node d stated v)
 
     -- of the first numbers too
-    first_ones : size ≤ length p.1 → IsOneToOne (seen_at seen p) (length p.1) → IsOneToOne (seen_at seen p) size
+    first_ones : size ≤ length p.nodes → IsOneToOne (seen_at seen p) (length p.nodes) → IsOneToOne (seen_at seen p) size
     first_ones le h n m x y e = h n m (omega (arith, le, x)) (omega (arith, le, y)) e
 
-    pub next_writes : (steps rest : List (ℕ × Bool)) (s : ℕ × Bool) (node : SymbolicExpr A) (o : Option ℕ) (d : Data) → IsPool reads p → size ≤ length p.1 → steps ≡ rest ++ s ∷ [] → s.1 ≡ true → slice_get places s.0 ≡ Some o → is_some o ≡ false → IsNode (reads p.0) p.1 s.0 node → IsNodeValue kind (seen p.0) places node d → At steps
+    pub next_writes : (steps rest : List (ℕ × Bool)) (s : ℕ × Bool) (node : SymbolicExpr A) (o : Option ℕ) (d : Data) → IsPool reads p → size ≤ length p.nodes → steps ≡ rest ++ s ∷ [] → s.1 ≡ true → slice_get places s.0 ≡ Some o → is_some o ≡ false → IsNode (reads p.base) p.nodes s.0 node → IsNodeValue kind (seen p.base) places node d → At steps
         → Progress kind (seen_at seen p) size root rest (set places s.0 (Some (length ds))) (ds ++ d ∷ [])
     next_writes steps rest s node (Some i) d w le e b at q is v g = absurd cc
     next_writes steps rest s node None d w le e b at q is v g =

@@ -4,7 +4,7 @@ use Rattle.air_field.specs.Term.{Term}
 use Rattle.air_field.specs.Degree.{degree_by, cached_weight}
 use Rattle.air_symbolic.specs.Leaves.{Leaves}
 use Rattle.air_symbolic.specs.Trees.{Tree, nothing, leaf_tree, add_tree, sub_tree, neg_tree, mul_tree, term_of}
-use Rattle.air_symbolic.specs.Pools.{tree_at, Pool, base_of}
+use Rattle.air_symbolic.specs.Pools.{tree_at, Pool}
 
 -- the tree over other leaves
 abbrev pub over : {A S : Type 0} → (A → S) → Tree A → Tree S
@@ -17,7 +17,7 @@ over f (mul_tree t u) = mul_tree (over f t) (over f u)
 
 -- the tree of number i
 abbrev pub seen_at : {U A S : Type 0} → (U → A → S) → Pool U A → ℕ → Tree S
-seen_at seen p i = over (seen (base_of p)) (tree_at p i)
+seen_at seen p i = over (seen p.base) (tree_at p i)
 
 -- the degree by the cached weights, which a list states
 abbrev pub degree : {S F : Type 0} → (S → Term F) → Tree S → ℕ

@@ -1,7 +1,7 @@
 //! A well-formed pool, whose expressions go by the names that lines give them: what a name stands for is tested at run
 //! time to be of the pool.
 ghost use Rattle.std.specs.Prelude.{◌<◌, IsTrue, All, IfOk};
-ghost use Rattle.air_symbolic.specs.Pools.{base_of, size};
+ghost use Rattle.air_symbolic.specs.Pools.{size};
 
 use crate::words::leaf_of;
 use cases::words::element_of;
@@ -115,7 +115,7 @@ impl<'a, A: SymLeaf> NamedPool<'a, A> {
 
     // Makes the expression of a leaf, and gives it the line's name.
     fn keep_leaf(&mut self, line: &Line<'a>, leaf: A) -> Result<(), Fault>
-        requires { (A.reads (base_of self.old)).valid leaf }
+        requires { (A.reads self.old.base).valid leaf }
     {
         let x = self.pool.leaf(leaf)?;
         self.keep(line, x)

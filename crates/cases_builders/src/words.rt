@@ -1,7 +1,7 @@
 //! Sums and xors of words: recorded over columns of the main trace, made an AIR, and checked on a trace of one row.
 ghost use Rattle.std.specs.Prelude.{ℕ, ◌≤◌, All, IfOk, OnOk};
 ghost use Rattle.air_symbolic.specs.BaseLeaves.{base_reads};
-ghost use Rattle.air_symbolic.specs.Pools.{IsPool, base_of};
+ghost use Rattle.air_symbolic.specs.Pools.{IsPool};
 
 use air_builder::{AirBuilder, AirError};
 use air_core::{BaseEntry, SymbolicVariable};
@@ -158,7 +158,7 @@ fn record_gadget<F: Field>(builder: &mut Recorder<F>, gadget: Gadget) -> Result<
 // What is recorded of a gadget over the columns from 0 on: the limbs of a, then those of the other words, or their
 // bits.
 fn recorded<F: Field>(alloc: Global, gadget: Gadget, width: usize) -> Result<Recorded<F, F>, Fault>
-    ensures { IfOk result (λ r. IsPool base_reads (base_of r.pool)) }
+    ensures { IfOk result (λ r. IsPool base_reads r.pool.base) }
 {
     let layout = AirLayout {
         main_width: width,

@@ -1,7 +1,7 @@
 //! Recordings made by hand, as AIRs.
 ghost use Rattle.std.specs.Prelude.{IfOk};
 ghost use Rattle.air_symbolic.specs.BaseLeaves.{base_reads};
-ghost use Rattle.air_symbolic.specs.Pools.{IsPool, base_of};
+ghost use Rattle.air_symbolic.specs.Pools.{IsPool};
 
 use crate::reports::{given_of, show_audit};
 use cases::Fault;
@@ -35,7 +35,7 @@ fn recording_builder<F: Field>(
 
 // What is recorded of it.
 fn record_counter<F: Field>(alloc: Global) -> Result<Recorded<F, F>, AirError>
-    ensures { IfOk result (λ r. IsPool base_reads (base_of r.pool)) }
+    ensures { IfOk result (λ r. IsPool base_reads r.pool.base) }
 {
     let layout = AirLayout {
         main_width: 2,
@@ -48,7 +48,7 @@ fn record_counter<F: Field>(alloc: Global) -> Result<Recorded<F, F>, AirError>
 
 // The AIR of a recording on a trace of two columns.
 fn air_of<F: Field>(alloc: Global, recorded: Recorded<F, F>) -> Result<FlatAir<F>, AirError>
-    requires { IsPool base_reads (base_of recorded.pool) }
+    requires { IsPool base_reads recorded.pool.base }
 {
     recorded_air(recorded, 2, 0, Vec::new(alloc), Vec::new(alloc))
 }
@@ -68,7 +68,7 @@ pub fn recorded_counter<F: Field + 'static>(
 
 // A recording with the pool of none.
 fn without_pool<F: Field>(alloc: Global, recorded: Recorded<F, F>) -> Recorded<F, F>
-    ensures { IsPool base_reads (base_of result.pool) }
+    ensures { IsPool base_reads result.pool.base }
 {
     let Recorded { base, ext, .. } = recorded;
     let pool = ExprPool::new(alloc);

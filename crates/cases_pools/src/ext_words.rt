@@ -1,6 +1,6 @@
 //! Calls that extension pools alone have, and those of the base pool under one.
 ghost use Rattle.std.specs.Prelude.{◌<◌, IfOk};
-ghost use Rattle.air_symbolic.specs.Pools.{base_of, size};
+ghost use Rattle.air_symbolic.specs.Pools.{size};
 
 use crate::base_words::base_leaf;
 use crate::bench::{PoolBench, TableLeaf};
@@ -57,7 +57,7 @@ fn show_entry(entry: ExtEntry, text: &mut String) -> Result<(), Fault> {
 impl<'a, F: Number, EF: ExtensionField<F>> PoolBench<'a, ExtLeaf<F, EF>> {
     // The expression of a name of the base pool.
     fn base_at(&self, name: &str) -> Result<ExprId<BaseLeaf<F>>, Fault>
-        ensures { IfOk result (λ x. x < size (base_of self.now)) }
+        ensures { IfOk result (λ x. x < size self.now.base) }
     {
         let x = self.base_names.get(name)?;
         if self.pool.base().contains(x) {
@@ -76,8 +76,8 @@ impl<'a, F: Number, EF: ExtensionField<F>> PoolBench<'a, ExtLeaf<F, EF>> {
         x: ExprId<BaseLeaf<F>>,
         y: ExprId<BaseLeaf<F>>,
     ) -> Result<ExprId<BaseLeaf<F>>, RingError>
-        requires x_in { x < size (base_of self.old) }
-        requires y_in { y < size (base_of self.old) }
+        requires x_in { x < size self.old.base }
+        requires y_in { y < size self.old.base }
     {
         self.pool.base_mut().add(x, y)
     }

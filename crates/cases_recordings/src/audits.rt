@@ -1,5 +1,5 @@
 //! Audits: the recording, the report and the degree at once.
-ghost use Rattle.air_symbolic.specs.Pools.{IsPool, base_of};
+ghost use Rattle.air_symbolic.specs.Pools.{IsPool};
 
 use crate::recordings::{Recorder, show_base};
 use air_builder::{Air, BaseAir};
@@ -36,7 +36,7 @@ fn show_failures(failures: &[ConstraintFailure], text: &mut String) -> Result<()
 
 // Adds the degree, the counts and the places, then the failures, then what is recorded.
 fn show_audit<F: Number>(audit: &Audit<F>, text: &mut String) -> Result<(), Fault>
-    requires { IsPool ⟦<BaseLeaf<F> as SymLeaf>⟧.reads (base_of audit.now.recorded.pool) }
+    requires { IsPool ⟦<BaseLeaf<F> as SymLeaf>⟧.reads audit.now.recorded.pool.base }
 {
     let degree = audit.degree;
     let rows = audit.report.total_rows;

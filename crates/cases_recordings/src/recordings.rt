@@ -1,6 +1,6 @@
 //! Recordings of an AIR, and the degrees that are inferred of them.
 ghost use Rattle.std.specs.Prelude.{◌≡◌, IfOk};
-ghost use Rattle.air_symbolic.specs.Pools.{IsPool, base_of};
+ghost use Rattle.air_symbolic.specs.Pools.{IsPool};
 
 use crate::expressions::{show_base_expressions, show_ext_expressions};
 use air_builder::{Air, AirError};
@@ -21,7 +21,7 @@ pub type Recorder<F, EF> = SymbolicAirBuilder<F, EF>;
 pub fn base_pool<F: Field, EF: ExtensionField<F>>(
     recorded: &Recorded<F, EF>,
 ) -> &ExprPool<BaseLeaf<F>>
-    ensures { result.now ≡ base_of recorded.now.pool }
+    ensures { result.now ≡ recorded.now.pool.base }
 {
     recorded.pool.base()
 }
@@ -31,14 +31,14 @@ pub fn show_base<F: Number, EF: ExtensionField<F>>(
     recorded: &Recorded<F, EF>,
     text: &mut String,
 ) -> Result<(), Fault>
-    requires { IsPool ⟦<BaseLeaf<F> as SymLeaf>⟧.reads (base_of recorded.now.pool) }
+    requires { IsPool ⟦<BaseLeaf<F> as SymLeaf>⟧.reads recorded.now.pool.base }
 {
     show_base_expressions(base_pool(recorded), &recorded.base, text)
 }
 
 // Adds them, and how many others there are, of which there are to be none.
 fn show_base_alone<F: Number>(recorded: &Recorded<F, F>, text: &mut String) -> Result<(), Fault>
-    requires { IsPool ⟦<BaseLeaf<F> as SymLeaf>⟧.reads (base_of recorded.now.pool) }
+    requires { IsPool ⟦<BaseLeaf<F> as SymLeaf>⟧.reads recorded.now.pool.base }
 {
     show_base(recorded, text)?;
     let ext = recorded.ext.len();
@@ -124,7 +124,7 @@ fn show_asked<F: Number>(
     asked: &Asked,
     text: &mut String,
 ) -> Result<(), Fault>
-    requires { IsPool ⟦<BaseLeaf<F> as SymLeaf>⟧.reads (base_of recorded.now.pool) }
+    requires { IsPool ⟦<BaseLeaf<F> as SymLeaf>⟧.reads recorded.now.pool.base }
 {
     match asked {
         Asked::Constraints => show_base_alone(recorded, text),

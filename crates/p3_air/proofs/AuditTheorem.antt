@@ -81,7 +81,7 @@ module _ {F : Type 0} (r : CommRing F) (x : Instance F) (ts : List (Term F)) (d 
 
 module _ {F : Type 0} (r : CommRing F) (eq : F → F → Bool) (basis : Basis F F) (x : Instance F) (cap : Option ℕ) (w : ℕ) (audit : Audit F) where
   pub audited : RecordingAnswers r (itself r) (air_layout x.air) x.air
-      → RecordsBase r (itself r) base_reads audit.recorded.pool.0 audit.recorded.base.items x.air.declared
+      → RecordsBase r (itself r) base_reads audit.recorded.pool.base audit.recorded.base.items x.air.declared
       → RecordsExt r (itself r) (ext_reads basis) audit.recorded.pool audit.recorded.ext.items x.air.declared
       → ArePlacesOf (map kind_of x.air.declared) audit.layout.base_indices.items audit.layout.ext_indices.items
       → IsReport r eq (check_input x) cap audit.report
@@ -103,7 +103,7 @@ module _ {F : Type 0} (r : CommRing F) (eq : F → F → Bool) (basis : Basis F 
         };
         pool = record {
           pool = ext.well_formed;
-          base = each_base (PoolMeans base_reads r audit.recorded.pool.0) audit.recorded.base.items ts base.means;
+          base = each_base (PoolMeans base_reads r audit.recorded.pool.base) audit.recorded.base.items ts base.means;
           ext = each_ext (PoolMeans (ext_reads basis) r audit.recorded.pool) audit.recorded.ext.items ts ext.means;
         };
         report = report;

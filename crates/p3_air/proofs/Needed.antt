@@ -11,7 +11,7 @@ use Rattle.air_field.specs.Part.{Part, whole, in_add_left, in_add_right, in_sub_
 use Rattle.air_builder.specs.laws.Parts.{part_of_in}
 use Rattle.air_symbolic.specs.Leaves.{Leaves}
 use Rattle.air_symbolic.specs.Trees.{Tree, term_of}
-use Rattle.air_symbolic.specs.Nodes.{unfold_node, tree_of, node_at, IsNode, OperandsBelow, WellFormed}
+use Rattle.air_symbolic.specs.Nodes.{unfold_node, tree_of, IsNode, OperandsBelow, WellFormed}
 use Rattle.air_symbolic.specs.laws.Sharing.{found}
 use Rattle.air_symbolic.specs.declared.pools.expr.SymbolicExpr.{SymbolicExpr}
 use Rattle.air_symbolic.specs.declared.pools.expr.SymbolicExpr.TheVariants as node
@@ -86,7 +86,7 @@ module _ {A F : Type 0} (l : Leaves A F) (ns : List (SymbolicExpr A)) where
     -- an operand of a number's node is reached where that number is
     of_operand : (m i : ℕ) → length ns ≤ i + suc m
         → ((q : ℕ) → q < length numbers → length ns ≤ number_at numbers q + m → ReachedFrom l ns roots (number_at numbers q))
-        → Any (λ j. some_has_operand i (node_at ns j) ≡ true) numbers → ReachedFrom l ns roots i
+        → Any (λ j. some_has_operand i (slice_get ns j) ≡ true) numbers → ReachedFrom l ns roots i
     of_operand m i far earlier (q, j, q_in, is, e) =
         let same : number_at numbers q ≡ j = get_or_default numbers q 0 j q_in ∙ is in
         let here : j < length ns = subst (λ v. v < length ns) same (h.here q q_in) in
@@ -102,8 +102,8 @@ module _ {A F : Type 0} (l : Leaves A F) (ns : List (SymbolicExpr A)) where
         let i = number_at numbers k in
         ⊎_elim
         (λ (a : list_any (λ r. eqb i r) roots ≡ true). equal_root i (Any-from_list_any (λ r. eqb i r) roots a))
-        (λ (b : list_any (λ j. some_has_operand i (node_at ns j)) numbers ≡ true). of_operand m i far (λ q q_in less. needed m q q_in less) (Any-from_list_any (λ j. some_has_operand i (node_at ns j)) numbers b))
-        (either (list_any (λ r. eqb i r) roots) (list_any (λ j. some_has_operand i (node_at ns j)) numbers) (h.used k lt))
+        (λ (b : list_any (λ j. some_has_operand i (slice_get ns j)) numbers ≡ true). of_operand m i far (λ q q_in less. needed m q q_in less) (Any-from_list_any (λ j. some_has_operand i (slice_get ns j)) numbers b))
+        (either (list_any (λ r. eqb i r) roots) (list_any (λ j. some_has_operand i (slice_get ns j)) numbers) (h.used k lt))
 
     -- a list that has the terms at the roots' places as parts has those of all numbers
     pub number_part : (ss : List (Assertion F)) → All (λ i. PartOf (term_of l.term (tree_of ns i)) ss) roots → (k : ℕ) → k < length numbers → PartOf (term_of l.term (tree_of ns (number_at numbers k))) ss

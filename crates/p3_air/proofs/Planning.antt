@@ -1,11 +1,12 @@
 -- The plan of roots.
+use Rattle.std.specs.Prelude.{slice_get}
 use Rattle.std.specs.List.{AllZip, list_any}
 use Rattle.std.proofs.Common.{◌≡◌, ◌⊎◌, ◌≤◌, ◌||◌, ℕ, zero, suc, ◌<◌, List, [], ◌∷◌, length, get_or, All, Bool, true, false, eqb, Option, None, Some, inl, inr, refl, sym, subst, ap, ◌∙◌, arith, ⊎_elim}
 use Rattle.std.proofs.lemmas.List.Folds.{list_any_at}
 use Rattle.std.proofs.Math.ListN.{get_or-eq_default}
 use Rattle.std.proofs.lemmas.List.{get_or_default}
 use Rattle.air_symbolic.specs.Leaves.{Leaves}
-use Rattle.air_symbolic.specs.Nodes.{node_at, IsNode, OperandsBelow}
+use Rattle.air_symbolic.specs.Nodes.{IsNode, OperandsBelow}
 use Rattle.air_symbolic.specs.Reach.{EachOperand, IsOperand, Marked, Reached, ReachedFrom, root, operand}
 use Rattle.air_symbolic.specs.declared.pools.expr.SymbolicExpr.{SymbolicExpr}
 use Rattle.air_symbolic.specs.declared.pools.expr.SymbolicExpr.TheVariants as node
@@ -131,14 +132,14 @@ module _ {A F : Type 0} (l : Leaves A F) (ns : List (SymbolicExpr A)) (roots : L
     -- what is reached is needed
     reached_used : (i : ℕ) → ReachedFrom l ns roots i → IsUsed ns roots numbers i
     reached_used i (root (k, lt, e)) =
-        or_left (list_any (λ j. eqb i j) roots) (list_any (λ j. some_has_operand i (node_at ns j)) numbers)
+        or_left (list_any (λ j. eqb i j) roots) (list_any (λ j. some_has_operand i (slice_get ns j)) numbers)
         (list_any_at (λ j. eqb i j) roots k i lt (eqb_same i (get_or roots k i) (sym e)))
     reached_used i (operand {j = j} {n = n} f is p) =
         let at = h.placed j (reached_marked j f) in
         let q = get_or table j 0 in
-        let found : some_has_operand i (node_at ns j) ≡ true = ap (λ o. some_has_operand i o) is.node ∙ operand_found i n p in
-        or_right (list_any (λ j. eqb i j) roots) (list_any (λ j. some_has_operand i (node_at ns j)) numbers)
-        (list_any_at (λ j. some_has_operand i (node_at ns j)) numbers q 0 at.0 (subst (λ v. some_has_operand i (node_at ns v) ≡ true) at.1 found))
+        let found : some_has_operand i (slice_get ns j) ≡ true = ap (λ o. some_has_operand i o) is.node ∙ operand_found i n p in
+        or_right (list_any (λ j. eqb i j) roots) (list_any (λ j. some_has_operand i (slice_get ns j)) numbers)
+        (list_any_at (λ j. some_has_operand i (slice_get ns j)) numbers q 0 at.0 (subst (λ v. some_has_operand i (slice_get ns v) ≡ true) at.1 found))
 
     -- the operands of a number stand before it
     pub operands_before : (k : ℕ) → k < length numbers → (n : SymbolicExpr A) → IsNode l ns (number_at numbers k) n → EachOperand (λ i. IsPlaceOf numbers k (get_or table i 0) i) n

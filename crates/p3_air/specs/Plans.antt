@@ -1,8 +1,8 @@
 -- How the expressions of roots are made, one after another.
 use Rattle.std.specs.List.{AllZip, list_any}
-use Rattle.std.specs.Prelude.{◌≡◌, ◌||◌, ℕ, ◌<◌, List, length, slice_index_or, All, Bool, false, Option, None, Some, ⊤, ◌==◌}
+use Rattle.std.specs.Prelude.{slice_get, ◌≡◌, ◌||◌, ℕ, ◌<◌, List, length, slice_index_or, All, Bool, false, Option, None, Some, ⊤, ◌==◌}
 use Rattle.air_symbolic.specs.Leaves.{Leaves}
-use Rattle.air_symbolic.specs.Nodes.{node_at, IsNode}
+use Rattle.air_symbolic.specs.Nodes.{IsNode}
 use Rattle.air_symbolic.specs.Reach.{Marked}
 use Rattle.air_symbolic.specs.declared.pools.expr.SymbolicExpr.{SymbolicExpr}
 use Rattle.air_symbolic.specs.declared.pools.expr.SymbolicExpr.TheVariants as node
@@ -69,7 +69,7 @@ some_has_operand i (Some n) = has_operand i n
 
 -- number i is a root, or an operand of the node of one of the numbers
 abbrev pub IsUsed : {A : Type 0} → List (SymbolicExpr A) → List ℕ → List ℕ → ℕ → Type 0
-IsUsed ns roots numbers i = (list_any (λ r. i == r) roots || list_any (λ j. some_has_operand i (node_at ns j)) numbers) ≡ Bool.true
+IsUsed ns roots numbers i = (list_any (λ r. i == r) roots || list_any (λ j. some_has_operand i (slice_get ns j)) numbers) ≡ Bool.true
 
 -- The steps make, in order, the nodes of some numbers, each of which the roots need, and the roots stand at these places.
 pub record IsPlan {A F : Type 0} (l : Leaves A F) (ns : List (SymbolicExpr A)) (roots numbers : List ℕ) (steps : List Step) (places : List ℕ) : Type 0 where

@@ -20,7 +20,7 @@ use Rattle.air_core.specs.declared.errors.AirError.TheVariants.{Memory, DegreeOv
 use Rattle.air_symbolic.specs.BaseLeaves.{base_term, base_reads}
 use Rattle.air_symbolic.specs.ExtLeaves.{ext_reads}
 use Rattle.air_symbolic.specs.Nodes.{tree_of}
-use Rattle.air_symbolic.specs.Pools.{IsPool, PoolMeans, base_of, nodes_of, tree_at}
+use Rattle.air_symbolic.specs.Pools.{IsPool, PoolMeans, tree_at}
 use Rattle.air_symbolic.specs.Trees.{term_of}
 use Rattle.air_symbolic.specs.declared.pools.expr.SymbolicExpr.{SymbolicExpr}
 use Rattle.air_symbolic.specs.declared.leaves.base_leaf.BaseLeaf.{BaseLeaf}
@@ -146,11 +146,11 @@ ext_leaf_term basis nodes (leaf.ExtConstant c) = ext_const_term (basis.coefficie
 
 -- the terms of the recorded base expressions: their trees, read as terms
 abbrev pub recorded_base : {F E : Type 0} → Recorded F E → List (Term F)
-recorded_base recorded = map (λ i. term_of base_term (tree_at (base_of recorded.pool) i)) recorded.base.items
+recorded_base recorded = map (λ i. term_of base_term (tree_at recorded.pool.base i)) recorded.base.items
 
 -- the terms of the recorded extension expressions
 abbrev pub recorded_ext : {F E : Type 0} → Basis F E → Recorded F E → List (Term F)
-recorded_ext basis recorded = map (λ i. term_of (ext_leaf_term basis (nodes_of (base_of recorded.pool))) (tree_at recorded.pool i)) recorded.ext.items
+recorded_ext basis recorded = map (λ i. term_of (ext_leaf_term basis recorded.pool.base.nodes) (tree_at recorded.pool i)) recorded.ext.items
 
 -- all of them
 abbrev pub terms_in : {F E : Type 0} → Basis F E → Recorded F E → List (Term F)
@@ -187,7 +187,7 @@ pub record RecordsEach {F : Type 0} (r : CommRing F) (basis : Basis F F) (air : 
 -- kind, in order.
 pub record MeansEach {F : Type 0} (r : CommRing F) (basis : Basis F F) (air : Declaration F) (recorded : Recorded F F) : Type 0 where
   pub pool : IsPool (ext_reads basis) recorded.pool
-  pub base : AllZip (λ i c. PoolMeans base_reads r (base_of recorded.pool) i c.1) recorded.base.items (base_constraints 0 air.declared)
+  pub base : AllZip (λ i c. PoolMeans base_reads r recorded.pool.base i c.1) recorded.base.items (base_constraints 0 air.declared)
   pub ext : AllZip (λ i c. PoolMeans (ext_reads basis) r recorded.pool i c.1) recorded.ext.items (ext_constraints 0 air.declared)
 
 -- ---- What is reported

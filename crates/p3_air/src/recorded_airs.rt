@@ -2,7 +2,7 @@
 ghost use Rattle.std.specs.Prelude.{◌≡◌, List, None, IfOk, IfErr};
 ghost use Rattle.air_symbolic.specs.BaseLeaves.{base_reads};
 ghost use Rattle.air_symbolic.specs.ExtLeaves.{ext_reads};
-ghost use Rattle.air_symbolic.specs.Pools.{IsPool, base_of};
+ghost use Rattle.air_symbolic.specs.Pools.{IsPool};
 ghost use Rattle.air_core.specs.declared.errors.AirError.{AirError};
 ghost use Rattle.air_builder.specs.Assertion.{Assertion};
 ghost use Rattle.air_builder.specs.Batches.{Asserted};
@@ -40,7 +40,7 @@ pub fn finish_recording<F: Field, EF: ExtensionField<F>>(
     builder: SymbolicAirBuilder<F, EF>,
 ) -> Recorded<F, EF>
     requires { ⟦<SymbolicAirBuilder<F, EF> as AirBuilder>⟧.ready builder }
-    ensures well_formed { IsPool base_reads (base_of result.pool) }
+    ensures well_formed { IsPool base_reads result.pool.base }
     ensures ext_well_formed { IsPool (ext_reads EF.basis) result.pool }
     ensures pool { result.pool ≡ builder.pool }
     ensures base { result.base ≡ builder.constraints.base }
@@ -72,7 +72,7 @@ pub fn recorded_air<F: Field, EF: ExtensionField<F>>(
     periodic: Vec<Vec<F>>,
     cells: Vec<BoundaryPublic>,
 ) -> Result<FlatAir<F>, AirError>
-    requires { IsPool base_reads (base_of recorded.pool) }
+    requires { IsPool base_reads recorded.pool.base }
     ensures declared { IfOk result (λ a.
         (⟦<FlatAir<F> as BaseAir<F>>⟧.declaration a).declared ≡ zero_at_recorded recorded) }
     ensures width { IfOk result (λ a. a.width ≡ width) }
@@ -81,11 +81,11 @@ pub fn recorded_air<F: Field, EF: ExtensionField<F>>(
     ensures periodic { IfOk result (λ a. a.periodic ≡ periodic) }
     ensures cells { IfOk result (λ a. a.cells ≡ cells) }
     ensures of_an_air { (declared : List (Assertion F)) →
-        RecordsBase F.ring EF.over base_reads (base_of recorded.pool) recorded.base.items declared →
+        RecordsBase F.ring EF.over base_reads recorded.pool.base recorded.base.items declared →
         IfOk result (λ a.
         RecordsBaseTerms F.ring (⟦<FlatAir<F> as BaseAir<F>>⟧.declaration a).declared declared) }
     ensures only_memory { (declared : List (Assertion F)) →
-        RecordsBase F.ring EF.over base_reads (base_of recorded.pool) recorded.base.items declared →
+        RecordsBase F.ring EF.over base_reads recorded.pool.base recorded.base.items declared →
         IfErr result (λ e. e ≡ AirError.Memory) }
     ensures refused { IfErr result (RecordedAirRefuses recorded) }
 {

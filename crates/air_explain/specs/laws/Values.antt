@@ -1,4 +1,5 @@
 -- Lines by values that are known, and what a number's reads are.
+use Rattle.std.specs.Prelude.{slice_get}
 use Rattle.std.proofs.Common.{◌≡◌, ℕ, zero, suc, ◌<◌, ◌≤◌, Bool, true, false, ◌&&◌, cond, List, [], ◌∷◌, ◌++◌, length, slice_index_or, map, All, Contains, Option, None, Some, is_some, codes, refl, sym, ap, ap₂, subst, ◌∙◌, arith, ⊎_elim}
 use Rattle.std.proofs.lemmas.List.{map-append}
 use Rattle.std.proofs.lemmas.List.Elements.{All-nil, All-cons, All-append}
@@ -19,7 +20,6 @@ use Rattle.air_explain.specs.Equations.{equation, equation_lines}
 use Rattle.air_explain.specs.Explained.{explained_lines, Explains}
 use Rattle.air_explain.specs.Reading.{Reads, has_variable, is_read}
 use Rattle.air_explain.specs.Values.{value_at, Known, AreClosed}
-use Rattle.air_symbolic.specs.Nodes.{node_at}
 
 -- the marks of what roots reach are closed
 pub reached_closed : {F : Type 0} (ns : List (SymbolicExpr (BaseLeaf F))) (roots : List ℕ) (marks : List (Option ℕ)) → Reached base_leaves ns roots marks → AreClosed ns marks
@@ -78,13 +78,13 @@ reads_here ns from numbers h = subst (λ xs. All (λ i. i < length ns) xs) (sym 
 -- what a number reads is marked where the number is
 read_marked : {F : Type 0} (ns : List (SymbolicExpr (BaseLeaf F))) (marks read : List (Option ℕ)) (from i : ℕ) → AreClosed ns marks → Marked marks from → Reached base_leaves ns (from ∷ []) read → is_read ns read i ≡ true → Marked marks i
 read_marked ns marks read from i closed at h is =
-    let some = some_of (slice_index_or read i None) (both_true (is_reached read i) (has_variable (node_at ns i)) is) in
+    let some = some_of (slice_index_or read i None) (both_true (is_reached read i) (has_variable (slice_get ns i)) is) in
     marked_reach ns marks from i closed at (h.only_reached i some.0 some.1).1
 
 -- The lines by values that are known explain a number.
-pub explains_known : {F : Type 0} {p : ℕ} (m : Modular F p) (r : CommRing F) (s : Leaf → F) (pool : BaseNodes F) (names marks : List (Option ℕ)) (values : List F) (from : ℕ) (numbers : List ℕ) → AreClosed pool.1 marks → Known r s pool.1 marks (length pool.1) values → from < length pool.1 → Marked marks from → Reads pool.1 from numbers → Explains m r s pool names from (explained_lines m pool names (λ i. slice_index_or values i r.zero) from numbers)
+pub explains_known : {F : Type 0} {p : ℕ} (m : Modular F p) (r : CommRing F) (s : Leaf → F) (pool : BaseNodes F) (names marks : List (Option ℕ)) (values : List F) (from : ℕ) (numbers : List ℕ) → AreClosed pool.nodes marks → Known r s pool.nodes marks (length pool.nodes) values → from < length pool.nodes → Marked marks from → Reads pool.nodes from numbers → Explains m r s pool names from (explained_lines m pool names (λ i. slice_index_or values i r.zero) from numbers)
 explains_known {F} m r s pool names marks values from numbers closed known here at reads =
-    let ns = pool.1 in
+    let ns = pool.nodes in
     let f : ℕ → List ℕ = equation m pool names (λ i. slice_index_or values i r.zero) in
     let g : ℕ → List ℕ = equation m pool names (value_at r s ns) in
     let same : (i : ℕ) → i < length ns → Marked marks i → f i ≡ g i =

@@ -3,7 +3,6 @@ ghost use Rattle.std.specs.Prelude.{◌≡◌, IfOk, IfErr};
 ghost use Rattle.air_recording.specs.RecordedLists.{no_lists, lists_of};
 ghost use Rattle.air_recording.specs.Folds.{ArePlacesOf};
 ghost use Rattle.air_recording.specs.SymbolicParts.{SelectorsAreLeaves};
-ghost use Rattle.air_symbolic.specs.Pools.{base_of};
 
 use crate::layouts::air_layout::AirLayout;
 use crate::layouts::constraint_layout::ConstraintLayout;
@@ -31,7 +30,7 @@ impl<F: Field, EF: ExtensionField<F>> SymbolicAirBuilder<F, EF> {
     pub fn new(alloc: Global, layout: AirLayout) -> Result<Self, AirError>
         ensures ready { IfOk result ⟦<SymbolicAirBuilder<F, EF> as AirBuilder>⟧.ready }
         ensures layout { IfOk result (λ b. b.entries.base.layout ≡ layout) }
-        ensures selectors { IfOk result (λ b. SelectorsAreLeaves (base_of b.pool) b.selectors) }
+        ensures selectors { IfOk result (λ b. SelectorsAreLeaves b.pool.base b.selectors) }
         ensures none { IfOk result (λ b. lists_of b.constraints ≡ no_lists) }
         ensures refused { IfErr result (λ e. e ≡ AirError.Memory) }
     {

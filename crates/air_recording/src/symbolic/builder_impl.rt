@@ -3,7 +3,7 @@ ghost use Rattle.std.specs.Prelude.{◌≡◌, [], refl};
 ghost use Rattle.air_field.specs.Term.{leaf_term};
 ghost use Rattle.air_field.specs.Degree.{cached_weight};
 ghost use Rattle.air_field.specs.Assignment.{IsMissing};
-ghost use Rattle.air_symbolic.specs.Pools.{IsPool, PoolMeans, Grown};
+ghost use Rattle.air_symbolic.specs.Pools.{on_base, IsPool, PoolMeans, Grown};
 ghost use Rattle.air_symbolic.specs.BaseLeaves.{base_reads};
 ghost use Rattle.air_symbolic.specs.laws.BasePool.{base_pool_laws};
 ghost use Rattle.air_symbolic.specs.ExtLeaves.{ext_reads, ext_grows};
@@ -37,20 +37,20 @@ impl<F: Field, EF: ExtensionField<F>> AirBuilder for SymbolicAirBuilder<F, EF> {
 
     type Ring = ExprPool<BaseLeaf<F>>;
 
-    ghost ring_of = { λ b. b.pool.0 };
+    ghost ring_of = { λ b. b.pool.base };
 
-    ghost with_ring = { λ b r. record b { pool = (r, b.pool.1) } };
+    ghost with_ring = { λ b r. record b { pool = on_base b.pool r } };
 
     ghost reads_as = { λ _ l. leaf_term l };
 
     ghost ready = { λ b. IsReady (IsPool (ext_reads EF.basis) b.pool)
-        (PoolMeans base_reads F.ring b.pool.0) (fixed_by b.selectors b.entries.base.layout) };
+        (PoolMeans base_reads F.ring b.pool.base) (fixed_by b.selectors b.entries.base.layout) };
 
     ghost kept = { λ a b. KeptRecording (Grown ext_grows (ext_reads EF.basis))
         a.pool b.pool (fixed_by a.selectors a.entries.base.layout)
         (fixed_by b.selectors b.entries.base.layout) };
 
-    ghost grew = { λ a b ts. GrewRecording (λ p. PoolMeans base_reads F.ring p.0)
+    ghost grew = { λ a b ts. GrewRecording (λ p. PoolMeans base_reads F.ring p.base)
         (PoolMeans (ext_reads EF.basis) F.ring)
         (Grown ext_grows (ext_reads EF.basis)) a.pool b.pool
         (fixed_by a.selectors a.entries.base.layout) (fixed_by b.selectors b.entries.base.layout)
@@ -62,9 +62,9 @@ impl<F: Field, EF: ExtensionField<F>> AirBuilder for SymbolicAirBuilder<F, EF> {
         (fixed_by b.selectors b.entries.base.layout).shape) (IsOver cached_weight) (λ _. ⊥) e ts };
 
     ghost laws = { recording_laws (base_pool_laws F.ring)
-        (ext_pool_laws EF.ExtensionField.laws) (λ p. p.0)
+        (ext_pool_laws EF.ExtensionField.laws) (λ p. p.base)
         (base_grown EF.basis) (λ b. b.pool)
-        (λ b r. record b { pool = (r, b.pool.1) }) (λ b. fixed_by b.selectors b.entries.base.layout)
+        (λ b r. record b { pool = on_base b.pool r }) (λ b. fixed_by b.selectors b.entries.base.layout)
         (λ b. lists_of b.constraints) (λ b r g. base_lent EF.ExtensionField.laws b.pool
         r g) (λ _ _. refl) (λ _ _. refl) (λ _ _. refl) };
 

@@ -3,7 +3,7 @@ ghost use Rattle.std.specs.Prelude.{◌≡◌, ◌<◌, ◌^◌, ◌++◌, IfOk,
 ghost use Rattle.air_field.specs.Degree.{cached_weight, greatest_degree, quotient_degree};
 ghost use Rattle.air_symbolic.specs.BaseLeaves.{base_reads};
 ghost use Rattle.air_symbolic.specs.ExtLeaves.{ext_reads};
-ghost use Rattle.air_symbolic.specs.Pools.{IsPool, base_of, size};
+ghost use Rattle.air_symbolic.specs.Pools.{IsPool, size};
 ghost use Rattle.air_symbolic.specs.PoolRefusals.{AnswersDegree};
 ghost use Rattle.air_symbolic.specs.Weights.{leaf_weight};
 ghost use Rattle.air_recording.specs.Layouts.{LayoutSuits};
@@ -49,10 +49,10 @@ pub(crate) fn greatest_recorded<F: Field, EF: ExtensionField<F>>(
     ext: &[ExprId<ExtLeaf<F, EF>>],
 ) -> usize
     requires pool { IsPool (ext_reads EF.basis) pool.now }
-    requires base_here { All (λ i. i < size (base_of pool.now)) base.now }
+    requires base_here { All (λ i. i < size pool.now.base) base.now }
     requires ext_here { All (λ i. i < size pool.now) ext.now }
     ensures value { result ≡ greatest_degree cached_weight
-        (terms_of base_reads (base_of pool.now) base.now
+        (terms_of base_reads pool.now.base base.now
         ++ terms_of (ext_reads EF.basis) pool.now ext.now) }
     ensures fits { result < 2 ^ 64 }
 {
@@ -81,7 +81,7 @@ pub fn greatest_degree_of<F: Field, EF: ExtensionField<F>>(
     weight: LeafWeight<'_>,
 ) -> Result<usize, RingError>
     requires pool { IsPool (ext_reads EF.basis) recorded.now.pool }
-    requires base_here { All (λ i. i < size (base_of recorded.now.pool)) recorded.now.base.items }
+    requires base_here { All (λ i. i < size recorded.now.pool.base) recorded.now.base.items }
     requires ext_here { All (λ i. i < size recorded.now.pool) recorded.now.ext.items }
     ensures answer { AnswersDegree (greatest_degree (leaf_weight weight.entry)
         (recorded_terms EF.basis recorded.now)) result }
@@ -102,7 +102,7 @@ fn trace_degree_of<F: Field, EF: ExtensionField<F>>(
     periods: &[usize],
 ) -> Result<usize, RingError>
     requires pool { IsPool (ext_reads EF.basis) recorded.now.pool }
-    requires base_here { All (λ i. i < size (base_of recorded.now.pool)) recorded.now.base.items }
+    requires base_here { All (λ i. i < size recorded.now.pool.base) recorded.now.base.items }
     requires ext_here { All (λ i. i < size recorded.now.pool) recorded.now.ext.items }
     ensures { AnswersInferred 0 trace_len periods.now
         (recorded_terms EF.basis recorded.now) result }
@@ -132,7 +132,7 @@ fn degree_of<F: Field, EF: ExtensionField<F>>(
     transition_weight: usize,
 ) -> Result<usize, RingError>
     requires pool { IsPool (ext_reads EF.basis) recorded.now.pool }
-    requires base_here { All (λ i. i < size (base_of recorded.now.pool)) recorded.now.base.items }
+    requires base_here { All (λ i. i < size recorded.now.pool.base) recorded.now.base.items }
     requires ext_here { All (λ i. i < size recorded.now.pool) recorded.now.ext.items }
     ensures { AnswersInferred transition_weight trace_len periods.now
         (recorded_terms EF.basis recorded.now) result }
@@ -165,7 +165,7 @@ pub fn infer_degree<F: Field, EF: ExtensionField<F>, A: BaseAir<F>>(
     transition_weight: usize,
 ) -> Result<usize, RingError>
     requires pool { IsPool (ext_reads EF.basis) recorded.now.pool }
-    requires base_here { All (λ i. i < size (base_of recorded.now.pool)) recorded.now.base.items }
+    requires base_here { All (λ i. i < size recorded.now.pool.base) recorded.now.base.items }
     requires ext_here { All (λ i. i < size recorded.now.pool) recorded.now.ext.items }
     ensures { AnswersInferred transition_weight trace_len
         (periods_of (A.declaration air.now).periodic)

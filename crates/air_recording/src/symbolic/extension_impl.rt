@@ -1,5 +1,6 @@
 //! The symbolic builder over the extension, and with permutation data.
 ghost use Rattle.std.specs.Prelude.{◌≡◌, [], refl, IfOk, IfErr};
+ghost use Rattle.air_symbolic.specs.Pools.{on_base};
 ghost use Rattle.air_symbolic.specs.BaseLeaves.{base_reads};
 ghost use Rattle.air_symbolic.specs.laws.BasePool.{base_pool_laws};
 ghost use Rattle.air_symbolic.specs.laws.ExtPool.{ext_pool_laws, base_lent, base_grown};
@@ -28,9 +29,9 @@ impl<F: Field, EF: ExtensionField<F>> ExtensionBuilder for SymbolicAirBuilder<F,
     ghost with_ext_ring = { λ b r. record b { pool = r } };
 
     ghost ext_laws = { recording_ext_laws (base_pool_laws F.ring)
-        (ext_pool_laws EF.ExtensionField.laws) (λ p. p.0)
+        (ext_pool_laws EF.ExtensionField.laws) (λ p. p.base)
         (base_grown EF.basis) (λ b. b.pool)
-        (λ b r. record b { pool = (r, b.pool.1) }) (λ b. fixed_by b.selectors b.entries.base.layout)
+        (λ b r. record b { pool = on_base b.pool r }) (λ b. fixed_by b.selectors b.entries.base.layout)
         (λ b. lists_of b.constraints) (λ b r g. base_lent EF.ExtensionField.laws b.pool
         r g) (λ _ _. refl) (λ _ _. refl) (λ _ _. refl) (λ b r. record b { pool = r }) (λ _ _. refl)
         (λ _ _. refl) (λ _ _. refl) (base_has_it EF.basis)

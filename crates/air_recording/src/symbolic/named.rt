@@ -2,7 +2,7 @@
 ghost use Rattle.std.specs.Prelude.{refl, [], ◌∷◌};
 ghost use Rattle.air_symbolic.specs.BaseLeaves.{base_reads};
 ghost use Rattle.air_symbolic.specs.ExtLeaves.{ext_reads};
-ghost use Rattle.air_symbolic.specs.Pools.{PoolHas};
+ghost use Rattle.air_symbolic.specs.Pools.{on_base, PoolHas};
 ghost use Rattle.air_symbolic.specs.laws.BasePool.{base_pool_laws};
 ghost use Rattle.air_symbolic.specs.laws.ExtPool.{ext_pool_laws, base_lent, base_grown};
 ghost use Rattle.air_builder.specs.Assertion.{Base, Extension};
@@ -27,9 +27,9 @@ impl<F: Field, EF: ExtensionField<F>> NamedAirBuilder for SymbolicAirBuilder<F, 
     ghost labelled = { discarding ⟦<SymbolicAirBuilder<F, EF> as AirBuilder>⟧.grew };
 
     ghost named_laws = { discarding_laws (recording_laws (base_pool_laws F.ring)
-        (ext_pool_laws EF.ExtensionField.laws) (λ p. p.0)
+        (ext_pool_laws EF.ExtensionField.laws) (λ p. p.base)
         (base_grown EF.basis) (λ b. b.pool)
-        (λ b r. record b { pool = (r, b.pool.1) }) (λ b. fixed_by b.selectors b.entries.base.layout)
+        (λ b r. record b { pool = on_base b.pool r }) (λ b. fixed_by b.selectors b.entries.base.layout)
         (λ b. lists_of b.constraints) (λ b r g. base_lent EF.ExtensionField.laws b.pool
         r g) (λ _ _. refl) (λ _ _. refl) (λ _ _. refl)) };
 
@@ -39,7 +39,7 @@ impl<F: Field, EF: ExtensionField<F>> NamedAirBuilder for SymbolicAirBuilder<F, 
         name: N,
     ) -> Result<(), AirError>
         requires ready { ⟦<SymbolicAirBuilder<F, EF> as AirBuilder>⟧.ready self.old }
-        requires of_ring { PoolHas base_reads self.old.pool.0 x }
+        requires of_ring { PoolHas base_reads self.old.pool.base x }
         ensures asserted { Asserts ⟦<SymbolicAirBuilder<F, EF> as View>⟧.view Base (λ t. t) self.old
             self.new (x ∷ []) result }
         ensures label { Labels ⟦<SymbolicAirBuilder<F, EF> as View>⟧.view

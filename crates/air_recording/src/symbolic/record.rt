@@ -2,7 +2,7 @@
 ghost use Rattle.std.specs.Prelude.{◌≡◌, ◌<◌, [], map, All, IfOk, IfErr, OnOk};
 ghost use Rattle.air_symbolic.specs.BaseLeaves.{base_reads};
 ghost use Rattle.air_symbolic.specs.ExtLeaves.{ext_reads};
-ghost use Rattle.air_symbolic.specs.Pools.{IsPool, base_of, size};
+ghost use Rattle.air_symbolic.specs.Pools.{IsPool, size};
 ghost use Rattle.air_recording.specs.Layouts.{LayoutSuits};
 ghost use Rattle.air_recording.specs.Folds.{ArePlacesOf};
 ghost use Rattle.air_recording.specs.Kinds.{kind_of, RecordsKinds};
@@ -51,12 +51,12 @@ fn record<F: Field, EF: ExtensionField<F>, A: Air<SymbolicAirBuilder<F, EF>>>(
     air: &A,
     layout: AirLayout,
 ) -> Result<SymbolicAirBuilder<F, EF>, AirError>
-    ensures base { IfOk result (λ b. RecordsBase F.ring EF.over base_reads (base_of b.pool)
+    ensures base { IfOk result (λ b. RecordsBase F.ring EF.over base_reads b.pool.base
         b.constraints.base.items (A.declaration air.now).declared) }
     ensures ext { IfOk result (λ b. RecordsExt F.ring EF.over
         (ext_reads EF.basis) b.pool b.constraints.ext.items
         (A.declaration air.now).declared) }
-    ensures base_here { IfOk result (λ b. All (λ i. i < size (base_of b.pool))
+    ensures base_here { IfOk result (λ b. All (λ i. i < size b.pool.base)
         b.constraints.base.items) }
     ensures ext_here { IfOk result (λ b. All (λ i. i < size b.pool) b.constraints.ext.items) }
     ensures kinds { IfOk result (λ b. RecordsKinds b.constraints.kinds.items
@@ -88,7 +88,7 @@ pub fn get_all_symbolic_constraints<
     A: Air<SymbolicAirBuilder<F, EF>>,
 >(alloc: Global, air: &A, layout: AirLayout) -> Result<Recorded<F, EF>, AirError>
     ensures base { IfOk result (λ r. RecordsBase F.ring EF.over
-        base_reads (base_of r.pool) r.base.items (A.declaration air.now).declared) }
+        base_reads r.pool.base r.base.items (A.declaration air.now).declared) }
     ensures ext { IfOk result (λ r. RecordsExt F.ring EF.over
         (ext_reads EF.basis) r.pool r.ext.items
         (A.declaration air.now).declared) }
@@ -106,12 +106,12 @@ pub fn record_with_layout<F: Field, EF: ExtensionField<F>, A: Air<SymbolicAirBui
     air: &A,
     layout: AirLayout,
 ) -> Result<(Recorded<F, EF>, ConstraintLayout), AirError>
-    ensures base { IfOk result (λ r. RecordsBase F.ring EF.over base_reads (base_of r.0.pool)
+    ensures base { IfOk result (λ r. RecordsBase F.ring EF.over base_reads r.0.pool.base
         r.0.base.items (A.declaration air.now).declared) }
     ensures ext { IfOk result (λ r. RecordsExt F.ring EF.over
         (ext_reads EF.basis) r.0.pool r.0.ext.items
         (A.declaration air.now).declared) }
-    ensures base_here { IfOk result (λ r. All (λ i. i < size (base_of r.0.pool)) r.0.base.items) }
+    ensures base_here { IfOk result (λ r. All (λ i. i < size r.0.pool.base) r.0.base.items) }
     ensures ext_here { IfOk result (λ r. All (λ i. i < size r.0.pool) r.0.ext.items) }
     ensures places { IfOk result (λ r. ArePlacesOf (map kind_of (A.declaration air.now).declared)
         r.1.base_indices.items r.1.ext_indices.items) }
@@ -132,7 +132,7 @@ pub fn get_symbolic_constraints<F: SelfExtension, A: Air<SymbolicAirBuilder<F, F
     layout: AirLayout,
 ) -> Result<Recorded<F, F>, AirError>
     ensures base { IfOk result (λ r. RecordsBase F.ring F.over
-        base_reads (base_of r.pool) r.base.items (A.declaration air.now).declared) }
+        base_reads r.pool.base r.base.items (A.declaration air.now).declared) }
     ensures pool { IfOk result (λ r. IsPool (ext_reads F.basis) r.pool) }
     ensures ext { IfOk result (λ r. r.ext.items ≡ []) }
     ensures layout { OnOk result (LayoutSuits layout (A.declaration air.now)) }

@@ -9,8 +9,9 @@ use Rattle.air_field.specs.Same.{Same, ext_base}
 use Rattle.air_symbolic.specs.Leaves.{LeafLaws}
 use Rattle.air_symbolic.specs.Trees.{Tree, nothing, leaf_tree, add_tree, sub_tree, neg_tree, mul_tree, term_of, tree_constant}
 use Rattle.air_symbolic.specs.Pools.{tree_at}
+use Rattle.air_symbolic.specs.laws.Numbers.{WellFormed-none}
 use Rattle.air_symbolic.specs.laws.Pools.{Grown-refl, Grown-trans, has-kept, tree-kept, term-kept}
-use Rattle.air_symbolic.specs.BaseLeaves.{base_term, base_constant, base_reads, base_grows}
+use Rattle.air_symbolic.specs.BaseLeaves.{base_leaves, base_term, base_constant, base_reads, base_grows}
 use Rattle.air_symbolic.specs.laws.BaseLeaves.{base_leaf_laws}
 use Rattle.air_symbolic.specs.declared.leaves.base_leaf.BaseLeaf.{BaseLeaf}
 use Rattle.air_symbolic.specs.declared.leaves.ext_leaf.ExtLeaf.{ExtLeaf}
@@ -56,7 +57,7 @@ module _ {F EF : Type 0} {r : CommRing F} {over : AlgebraOver F EF} {basis : Bas
   pub ext_leaf_laws : LeafLaws r (ext_reads basis) ext_grows no_base_nodes
   ext_leaf_laws = record {
     constant_is = λ u a c _ e. ext_constant-is u a c e;
-    empty_sound = record { under = tt; nodes = tt };
+    empty_sound = record { under = tt; nodes = WellFormed-none base_leaves };
     same = λ u. Grown-refl r base_reads base_grows tt (base_leaf_laws r) u;
     joined = λ u v w g h. Grown-trans r base_reads base_grows tt (base_leaf_laws r) u v w g h;
     keeps = λ u v g. record {

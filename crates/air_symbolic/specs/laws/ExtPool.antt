@@ -5,7 +5,7 @@ use Rattle.air_field.specs.Ring.{CommRing, AlgebraOver}
 use Rattle.air_field.specs.Extension.{Basis, ExtensionLaws}
 use Rattle.air_field.specs.Algebra.{AlgebraLaws}
 use Rattle.air_field.specs.ExtAlgebra.{ExtAlgebraLaws}
-use Rattle.air_symbolic.specs.Pools.{IsPool, PoolHas, PoolMeans, Grown}
+use Rattle.air_symbolic.specs.Pools.{IsPool, PoolHas, PoolMeans, Grown, on_base}
 use Rattle.air_symbolic.specs.BaseLeaves.{base_reads, base_grows}
 use Rattle.air_symbolic.specs.laws.BaseLeaves.{base_leaf_laws}
 use Rattle.air_symbolic.specs.ExtLeaves.{BaseNodes, no_base_nodes, ext_grows, ext_reads}
@@ -21,15 +21,15 @@ module _ {F EF : Type 0} {r : CommRing F} {over : AlgebraOver F EF} {basis : Bas
   ext_pool_laws = pool_laws r (ext_reads basis) ext_grows no_base_nodes (ext_leaf_laws laws)
 
   -- where the base pool was lent and has grown, the extension pool has grown
-  pub base_lent : (p : ExtNodes F EF) (u : BaseNodes F) → ext_grows p.0 u → Grown ext_grows (ext_reads basis) p (u, p.1)
-  base_lent p u g = Grown-under r (ext_reads basis) ext_grows no_base_nodes (ext_leaf_laws laws) p.0 u p.1 g
+  pub base_lent : (p : ExtNodes F EF) (u : BaseNodes F) → ext_grows p.base u → Grown ext_grows (ext_reads basis) p (on_base p u)
+  base_lent p u g = Grown-under r (ext_reads basis) ext_grows no_base_nodes (ext_leaf_laws laws) p u g
 
   -- the same of what was lent, which is the base pool
-  pub base_lent_from : (p : ExtNodes F EF) (lent u : BaseNodes F) → lent ≡ p.0 → ext_grows lent u → Grown ext_grows (ext_reads basis) p (u, p.1)
+  pub base_lent_from : (p : ExtNodes F EF) (lent u : BaseNodes F) → lent ≡ p.base → ext_grows lent u → Grown ext_grows (ext_reads basis) p (on_base p u)
   base_lent_from p lent u e g = base_lent p u (subst (λ (l : BaseNodes F). ext_grows l u) e g)
 
 -- where the extension pool has grown, its base pool has
-pub base_grown : {F EF : Type 0} (basis : Basis F EF) (p q : ExtNodes F EF) → Grown ext_grows (ext_reads basis) p q → Grown base_grows base_reads p.0 q.0
+pub base_grown : {F EF : Type 0} (basis : Basis F EF) (p q : ExtNodes F EF) → Grown ext_grows (ext_reads basis) p q → Grown base_grows base_reads p.base q.base
 base_grown basis p q g = g.under
 
 module _ {F EF : Type 0} (r : CommRing F) (basis : Basis F EF) where
@@ -37,11 +37,11 @@ module _ {F EF : Type 0} (r : CommRing F) (basis : Basis F EF) where
   pub ext_keeps_base : ExtAlgebraLaws (IsPool (ext_reads basis)) (BaseHas basis) (BaseMeans r basis)
       (Grown ext_grows (ext_reads basis))
   ext_keeps_base = record {
-    base_has_stays = λ p q x g h. record { pool = g.pool h.pool; base = has-kept r base_reads base_grows tt (base_leaf_laws r) p.0 q.0 x g.under h.base };
-    base_means_stays = λ p q x t g h. record { pool = g.pool h.pool; base = means-kept r base_reads base_grows tt (base_leaf_laws r) p.0 q.0 x t g.under h.base };
+    base_has_stays = λ p q x g h. record { pool = g.pool h.pool; base = has-kept r base_reads base_grows tt (base_leaf_laws r) p.base q.base x g.under h.base };
+    base_means_stays = λ p q x t g h. record { pool = g.pool h.pool; base = means-kept r base_reads base_grows tt (base_leaf_laws r) p.base q.base x t g.under h.base };
     base_means_has = λ p x t h. record { pool = h.pool; base = record { pool = h.base.pool; here = h.base.here } };
     base_has_valid = λ p x h. h.pool;
     base_means_some = λ p x h.
-        let some = (pool_laws r base_reads base_grows tt (base_leaf_laws r)).means_some p.0 x h.base in
+        let some = (pool_laws r base_reads base_grows tt (base_leaf_laws r)).means_some p.base x h.base in
         (some.0, record { pool = h.pool; base = some.1 });
   }

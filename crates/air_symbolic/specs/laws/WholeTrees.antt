@@ -16,7 +16,7 @@ module _ {F EF : Type 0} (u : BaseNodes F) where
   pub same_leaf : (a b : ExtLeaf F EF) → ext_valid u a → ext_valid u b → whole_leaf u a ≡ whole_leaf u b → a ≡ b
   same_leaf (Base i) (Base j) h k e =
       let t : tree_at u i ≡ tree_at u j = cc in
-      ap (λ (n : ℕ). Base n) (shared base_leaves u.1 h.pool.nodes i j h.here k.here t)
+      ap (λ (n : ℕ). Base n) (shared base_leaves u.nodes h.pool.nodes i j h.here k.here t)
   same_leaf (ExtVariable v) (ExtVariable w) h k e = cc
   same_leaf (ExtConstant c) (ExtConstant d) h k e = cc
   same_leaf _ _ h k e = absurd (cc)

@@ -3,7 +3,7 @@ ghost use Rattle.std.specs.Prelude.{◌≡◌, ℕ, ◌<◌, ◌≤◌, ◌+◌,
 ghost use Rattle.air_field.specs.Degree.{degree_by};
 ghost use Rattle.air_symbolic.specs.Weights.{leaf_weight};
 ghost use Rattle.air_symbolic.specs.Nodes.{OperandsBelow};
-ghost use Rattle.air_symbolic.specs.Pools.{IsPool, term_at, base_of, size};
+ghost use Rattle.air_symbolic.specs.Pools.{IsPool, term_at, size};
 ghost use Rattle.air_symbolic.specs.PoolRefusals.{AnswersDegree};
 ghost use Rattle.air_symbolic.specs.DegreeTables.{answer_at, AnswersDegrees, node_degree, IsValidNode};
 
@@ -89,7 +89,7 @@ impl<A: SymLeaf> ExprPool<A> {
     ) -> Result<(), RingError>
         requires pool { IsPool A.reads self.now }
         requires here { id < size self.now }
-        requires under { A.has_degrees (base_of self.now) weight under.now.degrees.items }
+        requires under { A.has_degrees self.now.base weight under.now.degrees.items }
         requires operands { AnswersDegrees
             (λ i. degree_by (leaf_weight weight) (term_at A.reads self.now i))
             id table.old.degrees.items }
@@ -117,7 +117,7 @@ impl<A: SymLeaf> ExprPool<A> {
     ) -> Result<DegreeTable, RingError>
         requires pool { IsPool A.reads self.now }
         requires here { count ≤ size self.now }
-        requires under { A.has_degrees (base_of self.now) weight under.now.degrees.items }
+        requires under { A.has_degrees self.now.base weight under.now.degrees.items }
         ensures degrees { IfOk result (λ t. AnswersDegrees
             (λ i. degree_by (leaf_weight weight.entry) (term_at A.reads self.now i))
             count t.degrees.items) }
@@ -146,7 +146,7 @@ impl<A: SymLeaf> ExprPool<A> {
         ensures degrees { IfOk result (λ t. AnswersDegrees
             (λ i. degree_by (leaf_weight weight.entry) (term_at A.reads self.now i))
             count t.degrees.items) }
-        ensures turns { IfOk result (λ t. t.turns ≡ count + A.nodes_under (base_of self.now)) }
+        ensures turns { IfOk result (λ t. t.turns ≡ count + A.nodes_under self.now.base) }
         ensures refused { IfErr result (λ e. e ≡ RingError.Memory) }
     {
         let under = A::degrees_under(self.base(), weight, *self.nodes.allocator())?;

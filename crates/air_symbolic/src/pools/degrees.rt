@@ -2,7 +2,7 @@
 ghost use Rattle.std.specs.Prelude.{◌≡◌, ◌≢◌, ℕ, ◌<◌, ◌≤◌, ◌+◌, length, map, All, IfOk, IfErr};
 ghost use Rattle.air_field.specs.Degree.{degree_by, cached_weight, transition_weight, trace_weight};
 ghost use Rattle.air_symbolic.specs.Weights.{leaf_weight, turns_by, SomeOverflows};
-ghost use Rattle.air_symbolic.specs.Pools.{IsPool, term_at, base_of, size};
+ghost use Rattle.air_symbolic.specs.Pools.{IsPool, term_at, size};
 ghost use Rattle.air_symbolic.specs.PoolRefusals.{AnswersDegree};
 ghost use Rattle.air_symbolic.specs.DegreeTables.{AnswersDegrees};
 
@@ -80,7 +80,7 @@ impl<A: SymLeaf> ExprPool<A> {
     ) -> Result<Degrees, RingError>
         requires pool { IsPool A.reads self.now }
         requires all_in { All (λ x. x < size self.now) roots.now }
-        requires under { A.has_degrees (base_of self.now) weight under.now.degrees.items }
+        requires under { A.has_degrees self.now.base weight under.now.degrees.items }
         ensures values { IfOk result (λ d. d.values.items ≡
             map (λ x. degree_by (leaf_weight weight.entry) (term_at A.reads self.now x)) roots.now) }
         ensures turns { IfOk result (λ d. d.turns ≡ size self.now) }
@@ -102,7 +102,7 @@ impl<A: SymLeaf> ExprPool<A> {
         ensures values { IfOk result (λ d. d.values.items ≡
             map (λ x. degree_by (leaf_weight weight.entry) (term_at A.reads self.now x)) roots.now) }
         ensures turns { IfOk result (λ d.
-            d.turns ≡ size self.now + A.nodes_under (base_of self.now)) }
+            d.turns ≡ size self.now + A.nodes_under self.now.base) }
         ensures refused { IfErr result (λ e. e ≢ RingError.Memory → SomeOverflows
             (map (λ x. degree_by (leaf_weight weight.entry) (term_at A.reads self.now x)) roots.now)) }
     {
@@ -152,9 +152,9 @@ impl<A: SymLeaf> ExprPool<A> {
         ensures values { IfOk result (λ d. d.values.items ≡ map
             (λ x. degree_by (leaf_weight weight.entry) (term_at A.reads self.now x)) roots.now) }
         ensures turns { IfOk result (λ d. d.turns ≡
-            turns_by weight.entry (size self.now + A.nodes_under (base_of self.now))) }
+            turns_by weight.entry (size self.now + A.nodes_under self.now.base)) }
         ensures at_most { IfOk result (λ d.
-            d.turns ≤ size self.now + A.nodes_under (base_of self.now)) }
+            d.turns ≤ size self.now + A.nodes_under self.now.base) }
         ensures refused { IfErr result (λ e. e ≢ RingError.Memory → SomeOverflows
             (map (λ x. degree_by (leaf_weight weight.entry) (term_at A.reads self.now x))
             roots.now)) }

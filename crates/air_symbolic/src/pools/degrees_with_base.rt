@@ -3,7 +3,7 @@ ghost use Rattle.std.specs.Prelude.{◌≡◌, ◌≢◌, ◌<◌, ◌⊎◌, ma
 ghost use Rattle.air_field.specs.Degree.{degree_by};
 ghost use Rattle.air_symbolic.specs.BaseLeaves.{base_reads};
 ghost use Rattle.air_symbolic.specs.ExtLeaves.{ext_reads};
-ghost use Rattle.air_symbolic.specs.Pools.{IsPool, term_at, base_of, size};
+ghost use Rattle.air_symbolic.specs.Pools.{IsPool, term_at, size};
 ghost use Rattle.air_symbolic.specs.Weights.{leaf_weight, SomeOverflows};
 
 use crate::leaves::base_leaf::BaseLeaf;
@@ -24,20 +24,20 @@ impl<F: Field, EF: ExtensionField<F>> ExprPool<ExtLeaf<F, EF>> {
         weight: LeafWeight<'_>,
     ) -> Result<(Degrees, Degrees), RingError>
         requires pool { IsPool (ext_reads EF.basis) self.now }
-        requires base_in { All (λ x. x < size (base_of self.now)) base_roots.now }
+        requires base_in { All (λ x. x < size self.now.base) base_roots.now }
         requires all_in { All (λ x. x < size self.now) roots.now }
         ensures base { IfOk result (λ d. d.0.values.items ≡ map
-            (λ x. degree_by (leaf_weight weight.entry) (term_at base_reads (base_of self.now) x))
+            (λ x. degree_by (leaf_weight weight.entry) (term_at base_reads self.now.base x))
             base_roots.now) }
         ensures values { IfOk result (λ d. d.1.values.items ≡ map
             (λ x. degree_by (leaf_weight weight.entry)
             (term_at (ext_reads EF.basis) self.now x))
             roots.now) }
-        ensures base_turns { IfOk result (λ d. d.0.turns ≡ size (base_of self.now)) }
+        ensures base_turns { IfOk result (λ d. d.0.turns ≡ size self.now.base) }
         ensures turns { IfOk result (λ d. d.1.turns ≡ size self.now) }
         ensures refused { IfErr result (λ e. e ≢ RingError.Memory →
             SomeOverflows (map
-            (λ x. degree_by (leaf_weight weight.entry) (term_at base_reads (base_of self.now) x))
+            (λ x. degree_by (leaf_weight weight.entry) (term_at base_reads self.now.base x))
             base_roots.now)
             ⊎ SomeOverflows (map
             (λ x. degree_by (leaf_weight weight.entry)

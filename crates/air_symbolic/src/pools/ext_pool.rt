@@ -7,7 +7,7 @@ ghost use Rattle.air_symbolic.specs.BaseLeaves.{base_reads};
 ghost use Rattle.air_symbolic.specs.ExtLeaves.{ext_reads, ext_grows};
 ghost use Rattle.air_symbolic.specs.ExtPool.{BaseMeans, ExtMade};
 ghost use Rattle.air_symbolic.specs.Trees.{leaf_tree};
-ghost use Rattle.air_symbolic.specs.Pools.{IsPool, PoolHas, PoolMeans, Grown, HasTree, base_of, size};
+ghost use Rattle.air_symbolic.specs.Pools.{IsPool, PoolHas, PoolMeans, Grown, HasTree, size};
 
 use crate::leaves::base_leaf::BaseLeaf;
 use crate::leaves::ext_leaf::ExtLeaf;
@@ -23,7 +23,7 @@ impl<F: Field, EF: ExtensionField<F>> ExprPool<ExtLeaf<F, EF>> {
         v: SymbolicVariableExt<F, EF>,
     ) -> Result<ExprId<ExtLeaf<F, EF>>, RingError>
         requires { IsPool (ext_reads EF.basis) self.old }
-        ensures same_base { base_of self.new ≡ base_of self.old }
+        ensures same_base { self.new.base ≡ self.old.base }
         ensures grown { Grown ext_grows (ext_reads EF.basis) self.old self.new }
         ensures tree { IfOk result (HasTree self.new (leaf_tree (ExtLeaf.ExtVariable v))) }
         ensures made { IfOk result (ExtMade F.ring EF.basis
@@ -37,7 +37,7 @@ impl<F: Field, EF: ExtensionField<F>> ExprPool<ExtLeaf<F, EF>> {
     /// The expression of a constant of the extension, as a leaf of its own.
     pub fn ext_constant(&mut self, c: EF) -> Result<ExprId<ExtLeaf<F, EF>>, RingError>
         requires { IsPool (ext_reads EF.basis) self.old }
-        ensures same_base { base_of self.new ≡ base_of self.old }
+        ensures same_base { self.new.base ≡ self.old.base }
         ensures grown { Grown ext_grows (ext_reads EF.basis) self.old self.new }
         ensures tree { IfOk result (HasTree self.new (leaf_tree (ExtLeaf.ExtConstant c))) }
         ensures made { IfOk result (ExtMade F.ring EF.basis
@@ -51,8 +51,8 @@ impl<F: Field, EF: ExtensionField<F>> ExprPool<ExtLeaf<F, EF>> {
     /// The expression of an expression of the base pool, as a leaf that holds the whole of it.
     pub fn lift(&mut self, x: ExprId<BaseLeaf<F>>) -> Result<ExprId<ExtLeaf<F, EF>>, RingError>
         requires pool { IsPool (ext_reads EF.basis) self.old }
-        requires here { x < size (base_of self.old) }
-        ensures same_base { base_of self.new ≡ base_of self.old }
+        requires here { x < size self.old.base }
+        ensures same_base { self.new.base ≡ self.old.base }
         ensures grown { Grown ext_grows (ext_reads EF.basis) self.old self.new }
         ensures tree { IfOk result (HasTree self.new (leaf_tree (ExtLeaf.Base x))) }
         ensures made { IfOk result (Lifted (PoolHas (ext_reads EF.basis))
@@ -66,7 +66,7 @@ impl<F: Field, EF: ExtensionField<F>> ExprPool<ExtLeaf<F, EF>> {
 
     /// The base pool, handed over as it is.
     pub fn into_base(self) -> ExprPool<BaseLeaf<F>>
-        ensures base { result ≡ base_of self }
+        ensures base { result ≡ self.base }
         ensures pool { IsPool (ext_reads EF.basis) self → IsPool base_reads
             result }
     {

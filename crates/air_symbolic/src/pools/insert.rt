@@ -5,7 +5,7 @@ ghost use Rattle.air_field.specs.Degree.{degree_by, cached_weight};
 ghost use Rattle.air_symbolic.specs.Trees.{leaf_tree, add_tree, sub_tree, neg_tree, mul_tree};
 ghost use Rattle.air_symbolic.specs.Nodes.{unfold_node, tree_of, NodeFits, OperandsBelow};
 ghost use Rattle.air_symbolic.specs.declared.pools.expr.SymbolicExpr.{SymbolicExpr};
-ghost use Rattle.air_symbolic.specs.Pools.{IsPool, tree_at, term_at, Grown, HasTree, base_of, nodes_of, size};
+ghost use Rattle.air_symbolic.specs.Pools.{IsPool, tree_at, term_at, Grown, HasTree, size};
 
 use crate::leaves::sym_leaf::SymLeaf;
 use crate::pools::expr::{ExprId, SymbolicExpr};
@@ -51,11 +51,11 @@ impl<A: SymLeaf> ExprPool<A> {
     // The number of the equal node if there is one, else of a new node: each expression is held once.
     pub(crate) fn insert(&mut self, node: SymbolicExpr<A>) -> Result<ExprId<A>, RingError>
         requires pool { IsPool A.reads self.old }
-        requires fits { NodeFits (A.reads (base_of self.old)) (nodes_of self.old) node }
-        ensures same_under { base_of self.new ≡ base_of self.old }
+        requires fits { NodeFits (A.reads self.old.base) self.old.nodes node }
+        ensures same_under { self.new.base ≡ self.old.base }
         ensures grown { Grown A.grows A.reads self.old self.new }
         ensures made { IfOk result (HasTree self.new
-            (unfold_node (tree_of (nodes_of self.old)) node)) }
+            (unfold_node (tree_of self.old.nodes) node)) }
         ensures refused { IfErr result (λ e. e ≡ RingError.Memory) }
         ensures kept { OnErr result (self.new ≡ self.old) }
     {
@@ -71,8 +71,8 @@ impl<A: SymLeaf> ExprPool<A> {
     /// The expression of a leaf, which must name nothing but what lies under this pool.
     pub fn leaf(&mut self, a: A) -> Result<ExprId<A>, RingError>
         requires pool { IsPool A.reads self.old }
-        requires valid { (A.reads (base_of self.old)).valid a }
-        ensures same_under { base_of self.new ≡ base_of self.old }
+        requires valid { (A.reads self.old.base).valid a }
+        ensures same_under { self.new.base ≡ self.old.base }
         ensures grown { Grown A.grows A.reads self.old self.new }
         ensures made { IfOk result (HasTree self.new (leaf_tree a)) }
         ensures refused { IfErr result (λ e. e ≡ RingError.Memory) }
@@ -84,8 +84,8 @@ impl<A: SymLeaf> ExprPool<A> {
     // `leaf`, behind a memory of 256 places: columns are read in every constraint, and this spares the map's search.
     pub(crate) fn leaf_at(&mut self, place: usize, a: A) -> Result<ExprId<A>, RingError>
         requires pool { IsPool A.reads self.old }
-        requires valid { (A.reads (base_of self.old)).valid a }
-        ensures same_under { base_of self.new ≡ base_of self.old }
+        requires valid { (A.reads self.old.base).valid a }
+        ensures same_under { self.new.base ≡ self.old.base }
         ensures grown { Grown A.grows A.reads self.old self.new }
         ensures made { IfOk result (HasTree self.new (leaf_tree a)) }
         ensures refused { IfErr result (λ e. e ≡ RingError.Memory) }
@@ -104,7 +104,7 @@ impl<A: SymLeaf> ExprPool<A> {
         requires pool { IsPool A.reads self.old }
         requires x_in { x < size self.old }
         requires y_in { y < size self.old }
-        ensures same_under { base_of self.new ≡ base_of self.old }
+        ensures same_under { self.new.base ≡ self.old.base }
         ensures grown { Grown A.grows A.reads self.old self.new }
         ensures made { IfOk result (HasTree self.new
             (add_tree (tree_at self.old x) (tree_at self.old y))) }
@@ -124,7 +124,7 @@ impl<A: SymLeaf> ExprPool<A> {
         requires pool { IsPool A.reads self.old }
         requires x_in { x < size self.old }
         requires y_in { y < size self.old }
-        ensures same_under { base_of self.new ≡ base_of self.old }
+        ensures same_under { self.new.base ≡ self.old.base }
         ensures grown { Grown A.grows A.reads self.old self.new }
         ensures made { IfOk result (HasTree self.new
             (sub_tree (tree_at self.old x) (tree_at self.old y))) }
@@ -143,7 +143,7 @@ impl<A: SymLeaf> ExprPool<A> {
     pub fn insert_neg(&mut self, x: ExprId<A>) -> Result<ExprId<A>, RingError>
         requires pool { IsPool A.reads self.old }
         requires x_in { x < size self.old }
-        ensures same_under { base_of self.new ≡ base_of self.old }
+        ensures same_under { self.new.base ≡ self.old.base }
         ensures grown { Grown A.grows A.reads self.old self.new }
         ensures made { IfOk result (HasTree self.new (neg_tree (tree_at self.old x))) }
         ensures refused { IfErr result (λ e. e ≡ RingError.Memory) }
@@ -159,7 +159,7 @@ impl<A: SymLeaf> ExprPool<A> {
         requires pool { IsPool A.reads self.old }
         requires x_in { x < size self.old }
         requires y_in { y < size self.old }
-        ensures same_under { base_of self.new ≡ base_of self.old }
+        ensures same_under { self.new.base ≡ self.old.base }
         ensures grown { Grown A.grows A.reads self.old self.new }
         ensures made { IfOk result (HasTree self.new
             (mul_tree (tree_at self.old x) (tree_at self.old y))) }

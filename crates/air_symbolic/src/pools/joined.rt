@@ -3,7 +3,7 @@ ghost use Rattle.std.specs.Prelude.{◌≡◌, ◌<◌, map, All, IfOk, IfErr};
 ghost use Rattle.air_field.specs.Term.{add_term, mul_term};
 ghost use Rattle.air_field.specs.Same.{Simplifies};
 ghost use Rattle.air_field.specs.Joins.{join_terms};
-ghost use Rattle.air_symbolic.specs.Pools.{IsPool, tree_at, term_at, Grown, base_of, size};
+ghost use Rattle.air_symbolic.specs.Pools.{IsPool, tree_at, term_at, Grown, size};
 ghost use Rattle.air_symbolic.specs.FoldedLists.{IsSumOfAll, IsProductOfAll, ProductOverflows};
 
 use crate::leaves::sym_leaf::SymLeaf;
@@ -43,7 +43,7 @@ impl<A: SymLeaf> ExprPool<A> {
         ensures simplifies { IfOk result (λ z. Simplifies A.F.ring (term_at A.reads self.new z)
             (join_terms mul_term A.F.ring.one (map (term_at A.reads self.old) xs.now))) }
         ensures overflow { result ≡ Err RingError.DegreeOverflow → ProductOverflows A.F.ring A.F.eq
-            (A.reads (base_of self.new)) (map (tree_at self.old) xs.now) }
+            (A.reads self.new.base) (map (tree_at self.old) xs.now) }
     {
         let [first, rest @ ..] = xs else {
             return self.constant(A::F::ONE);

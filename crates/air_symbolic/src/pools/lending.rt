@@ -1,8 +1,8 @@
 //! The pool that lies under another: an extension pool owns its base pool.
 ghost use Rattle.std.specs.Prelude.{◌≡◌};
 ghost use Rattle.std.specs.Borrow.{Lends, sem};
+ghost use Rattle.air_symbolic.specs.Pools.{on_base};
 ghost use Rattle.air_symbolic.specs.contracts.pools.pool.ExprPool.{the_row};
-ghost use Rattle.air_symbolic.specs.Pools.{base_of, nodes_of};
 
 use crate::leaves::sym_leaf::SymLeaf;
 use crate::pools::pool::ExprPool;
@@ -10,7 +10,7 @@ use crate::pools::pool::ExprPool;
 impl<A: SymLeaf> ExprPool<A> {
     /// What lies under the pool: of an extension pool its base pool, for reading.
     pub fn base(&self) -> &A::Under
-        ensures { result.now ≡ base_of self.now }
+        ensures { result.now ≡ self.now.base }
     {
         &self.under
     }
@@ -21,8 +21,8 @@ impl<A: SymLeaf> ExprPool<A> {
         ensures* lends { sem 𝓛 (Lends (the_row A.row A.F.row A.Under.row A.SymLeaf.own A.Eq.own
             A.PartialEq.own A.Ord.own A.PartialOrd.own A.Debug.own A.F.Field.own A.F.PartialEq.own
             A.F.Ord.own A.F.PartialOrd.own A.F.Debug.own) A.Under.row self.entry result
-            (λ w. (w, nodes_of self.old))) }
-        ensures value { result.now ≡ base_of self.old }
+            (λ w. on_base self.old w)) }
+        ensures value { result.now ≡ self.old.base }
     {
         &mut self.under
     }

@@ -4,7 +4,7 @@ ghost use Rattle.std.specs.Option.{IfSome};
 ghost use Rattle.air_symbolic.specs.ExtLeaves.{ext_reads, ext_grows};
 ghost use Rattle.air_symbolic.specs.ExtTrees.{HasExtOnly, lowered, IsLowered, HasTermOf};
 ghost use Rattle.air_symbolic.specs.Lowered.{IsMarkedExtOnly, IsLoweredIn, IsLoweredNode, CanLower};
-ghost use Rattle.air_symbolic.specs.Pools.{IsPool, Grown, HasTree, tree_at, base_of, nodes_of, size};
+ghost use Rattle.air_symbolic.specs.Pools.{IsPool, Grown, HasTree, tree_at, size};
 ghost use Rattle.air_symbolic.specs.Reach.{Reached};
 
 use crate::leaves::base_leaf::BaseLeaf;
@@ -53,8 +53,8 @@ impl<F: Field, EF: ExtensionField<F>> ExprPool<ExtLeaf<F, EF>> {
     ) -> bool
         requires pool { IsPool (ext_reads EF.basis) self.now }
         requires here { id < size self.now }
-        requires marked { Reached (ext_reads EF.basis (base_of self.now))
-            (nodes_of self.now) (id ∷ []) marks.now }
+        requires marked { Reached (ext_reads EF.basis self.now.base)
+            self.now.nodes (id ∷ []) marks.now }
         ensures { (result ≡ true) ↔ HasExtOnly (tree_at self.now id) }
     {
         for mark in marks {
@@ -75,8 +75,8 @@ impl<F: Field, EF: ExtensionField<F>> ExprPool<ExtLeaf<F, EF>> {
         requires pool { IsPool (ext_reads EF.basis) self.now }
         requires ready { CanLower self.now table.now id }
         ensures node { IfOk result (IsLoweredNode self.now id) }
-        ensures there { IfErr result (HasTree (base_of self.now)
-            (lowered (base_of self.now) (tree_at self.now id))) }
+        ensures there { IfErr result (HasTree self.now.base
+            (lowered self.now.base (tree_at self.now id))) }
     {
         match *self.node(id) {
             SymbolicExpr::Leaf(ExtLeaf::Base(b)) => Err(b),
@@ -123,10 +123,10 @@ impl<F: Field, EF: ExtensionField<F>> ExprPool<ExtLeaf<F, EF>> {
     ) -> Result<ExprId<BaseLeaf<F>>, RingError>
         requires pool { IsPool (ext_reads EF.basis) self.old }
         requires ready { CanLower self.old table.now id }
-        ensures same_nodes { nodes_of self.new ≡ nodes_of self.old }
+        ensures same_nodes { self.new.nodes ≡ self.old.nodes }
         ensures grown { Grown ext_grows (ext_reads EF.basis) self.old self.new }
-        ensures made { IfOk result (HasTree (base_of self.new)
-            (lowered (base_of self.old) (tree_at self.old id))) }
+        ensures made { IfOk result (HasTree self.new.base
+            (lowered self.old.base (tree_at self.old id))) }
         ensures refused { IfErr result (λ e. e ≡ RingError.Memory) }
     {
         match self.over_base(id, table) {
@@ -143,7 +143,7 @@ impl<F: Field, EF: ExtensionField<F>> ExprPool<ExtLeaf<F, EF>> {
     ) -> Result<Option<ExprId<BaseLeaf<F>>>, RingError>
         requires pool { IsPool (ext_reads EF.basis) self.old }
         requires ready { IfSome mark (CanLower self.old table.now) }
-        ensures same_nodes { nodes_of self.new ≡ nodes_of self.old }
+        ensures same_nodes { self.new.nodes ≡ self.old.nodes }
         ensures grown { Grown ext_grows (ext_reads EF.basis) self.old self.new }
         ensures made { IfOk result (λ b. IfSome mark (λ i. IsLoweredIn self.old self.new i b)) }
         ensures refused { IfErr result (λ e. e ≡ RingError.Memory) }
@@ -167,14 +167,14 @@ impl<F: Field, EF: ExtensionField<F>> ExprPool<ExtLeaf<F, EF>> {
     ) -> Result<ExprId<BaseLeaf<F>>, RingError>
         requires pool { IsPool (ext_reads EF.basis) self.old }
         requires here { id < size self.old }
-        requires marked { Reached (ext_reads EF.basis (base_of self.old))
-            (nodes_of self.old) (id ∷ []) marks.now }
+        requires marked { Reached (ext_reads EF.basis self.old.base)
+            self.old.nodes (id ∷ []) marks.now }
         requires base_only { HasExtOnly (tree_at self.old id) → ⊥ }
         requires no_places { table.old.items ≡ [] }
-        ensures same_nodes { nodes_of self.new ≡ nodes_of self.old }
+        ensures same_nodes { self.new.nodes ≡ self.old.nodes }
         ensures grown { Grown ext_grows (ext_reads EF.basis) self.old self.new }
-        ensures made { IfOk result (HasTree (base_of self.new)
-            (lowered (base_of self.old) (tree_at self.old id))) }
+        ensures made { IfOk result (HasTree self.new.base
+            (lowered self.old.base (tree_at self.old id))) }
         ensures refused { IfErr result (λ e. e ≡ RingError.Memory) }
     {
         for mark in marks {
@@ -192,13 +192,13 @@ impl<F: Field, EF: ExtensionField<F>> ExprPool<ExtLeaf<F, EF>> {
     ) -> Result<ExprId<BaseLeaf<F>>, RingError>
         requires pool { IsPool (ext_reads EF.basis) self.old }
         requires here { id < size self.old }
-        requires marked { Reached (ext_reads EF.basis (base_of self.old))
-            (nodes_of self.old) (id ∷ []) marks.now }
+        requires marked { Reached (ext_reads EF.basis self.old.base)
+            self.old.nodes (id ∷ []) marks.now }
         requires base_only { HasExtOnly (tree_at self.old id) → ⊥ }
-        ensures same_nodes { nodes_of self.new ≡ nodes_of self.old }
+        ensures same_nodes { self.new.nodes ≡ self.old.nodes }
         ensures grown { Grown ext_grows (ext_reads EF.basis) self.old self.new }
-        ensures made { IfOk result (HasTree (base_of self.new)
-            (lowered (base_of self.old) (tree_at self.old id))) }
+        ensures made { IfOk result (HasTree self.new.base
+            (lowered self.old.base (tree_at self.old id))) }
         ensures refused { IfErr result (λ e. e ≡ RingError.Memory) }
     {
         let mut table = Vec::with_capacity(*self.nodes.allocator(), marks.len())?;
@@ -213,12 +213,12 @@ impl<F: Field, EF: ExtensionField<F>> ExprPool<ExtLeaf<F, EF>> {
     ) -> Result<Option<ExprId<BaseLeaf<F>>>, RingError>
         requires pool { IsPool (ext_reads EF.basis) self.old }
         requires here { id < size self.old }
-        ensures same_nodes { nodes_of self.new ≡ nodes_of self.old }
+        ensures same_nodes { self.new.nodes ≡ self.old.nodes }
         ensures grown { Grown ext_grows (ext_reads EF.basis) self.old self.new }
         ensures made { IfOk result (λ b. MatchOption b (HasExtOnly (tree_at self.old id))
-            (IsLowered (base_of self.old) (base_of self.new) (tree_at self.old id))) }
+            (IsLowered self.old.base self.new.base (tree_at self.old id))) }
         ensures term { IfOk result (λ b. IfSome b
-            (HasTermOf EF.basis self.old id (base_of self.new))) }
+            (HasTermOf EF.basis self.old id self.new.base)) }
         ensures none { IfOk result (λ b. IfNone b (self.new ≡ self.old)) }
         ensures refused { IfErr result (λ e. e ≡ RingError.Memory) }
     {

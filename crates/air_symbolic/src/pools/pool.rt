@@ -2,7 +2,7 @@
 ghost use Rattle.std.specs.Prelude.{◌≡◌, ◌<◌, ◌↔◌, [], IsTrue};
 ghost use Rattle.air_field.specs.Degree.{degree_by, cached_weight};
 ghost use Rattle.air_symbolic.specs.Nodes.{IsNode};
-ghost use Rattle.air_symbolic.specs.Pools.{IsPool, term_at, constant_at, base_of, nodes_of, size};
+ghost use Rattle.air_symbolic.specs.Pools.{IsPool, term_at, constant_at, size};
 
 use crate::leaves::sym_leaf::SymLeaf;
 use crate::pools::expr::{ExprId, SymbolicExpr};
@@ -18,18 +18,17 @@ pub struct ExprPool<A: SymLeaf> {
 }
 
 impl<A: SymLeaf> Model for ExprPool<A> {
-    ghost use Rattle.std.specs.Prelude.{reverse};
     ghost use Rattle.air_symbolic.specs.Pools.{Pool};
 
     ghost Value = { Pool A.Under A };
 
-    ghost view = { λ p. (p.under, reverse p.nodes) };
+    ghost view = { λ p. record { base = p.under; nodes = p.nodes } };
 }
 
 impl<A: SymLeaf> ExprPool<A> {
     /// An empty pool.
     pub fn new(alloc: Global) -> Self
-        ensures empty { result ≡ (A.no_under, []) }
+        ensures empty { result ≡ record { base = A.no_under; nodes = [] } }
         ensures pool { IsPool A.reads result }
     {
         ExprPool {
@@ -56,7 +55,7 @@ impl<A: SymLeaf> ExprPool<A> {
     pub fn node(&self, id: ExprId<A>) -> &SymbolicExpr<A>
         requires pool { IsPool A.reads self.now }
         requires here { id < size self.now }
-        ensures { IsNode (A.reads (base_of self.now)) (nodes_of self.now) id result.now }
+        ensures { IsNode (A.reads self.now.base) self.now.nodes id result.now }
     {
         self.nodes.get(id.number())
     }

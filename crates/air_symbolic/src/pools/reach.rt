@@ -1,7 +1,7 @@
 //! Which expressions of a pool some roots reach.
 ghost use Rattle.std.specs.Prelude.{◌≡◌, ◌⊎◌, ◌<◌, ℕ, length, slice_index_or, None, All, Contains, IfOk, IfErr};
 ghost use Rattle.air_symbolic.specs.Nodes.{OperandsBelow};
-ghost use Rattle.air_symbolic.specs.Pools.{IsPool, base_of, nodes_of, size};
+ghost use Rattle.air_symbolic.specs.Pools.{IsPool, size};
 ghost use Rattle.air_symbolic.specs.Reach.{EachOperand, IsOperand, Marked, MarkedMore, Reached};
 
 use crate::leaves::sym_leaf::SymLeaf;
@@ -80,7 +80,7 @@ fn mark_reached<A: SymLeaf>(
     requires here { All (λ x. x < size pool.now) roots.now }
     requires places { length marks.old ≡ size pool.now }
     requires none { (i : ℕ) → slice_index_or marks.old i None ≡ None }
-    ensures { Reached (A.reads (base_of pool.now)) (nodes_of pool.now) roots.now marks.new }
+    ensures { Reached (A.reads pool.now.base) pool.now.nodes roots.now marks.new }
 {
     mark_all(marks, roots);
     let mut number = marks.len();
@@ -101,7 +101,7 @@ pub fn reached<A: SymLeaf>(
     requires pool { IsPool A.reads pool.now }
     requires here { All (λ x. x < size pool.now) roots.now }
     ensures marked { IfOk result (λ marks.
-        Reached (A.reads (base_of pool.now)) (nodes_of pool.now) roots.now marks.items) }
+        Reached (A.reads pool.now.base) pool.now.nodes roots.now marks.items) }
     ensures refused { IfErr result (λ e. e ≡ RingError.Memory) }
 {
     let mut marks = unmarked(alloc, pool.len())?;

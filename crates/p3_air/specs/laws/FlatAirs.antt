@@ -1,8 +1,8 @@
 -- That roots are in a pool has at most one proof.
-use Rattle.std.specs.Prelude.{ℕ, List, [], ◌∷◌}
+use Rattle.std.specs.Prelude.{ℕ, List}
 use Rattle.std.proofs.Props.{props}
 use Rattle.air_symbolic.specs.BaseLeaves.{base_leaves}
-use Rattle.air_symbolic.specs.Nodes.{NodeFits, Absent, WellFormed}
+use Rattle.air_symbolic.specs.Nodes.{NodeFits, WellFormed}
 use Rattle.air_symbolic.specs.declared.leaves.base_leaf.BaseLeaf.{BaseLeaf}
 use Rattle.air_symbolic.specs.declared.pools.expr.SymbolicExpr.{SymbolicExpr}
 use Rattle.air_symbolic.specs.declared.pools.expr.SymbolicExpr.TheVariants.{Leaf, Add, Sub, Neg, Mul}
@@ -17,13 +17,8 @@ NodeFits-prop ns (Sub x y d) = hlevel props
 NodeFits-prop ns (Neg x d) = hlevel props
 NodeFits-prop ns (Mul x y d) = hlevel props
 
-Absent-prop : {A : Type 0} (n : SymbolicExpr A) (ms : List (SymbolicExpr A)) → IsProp (Absent n ms)
-Absent-prop n [] = hlevel props
-Absent-prop n (m ∷ ms) = hlevel (props, Absent-prop n ms)
-
 WellFormed-prop : {F : Type 0} (ns : List (SymbolicExpr (BaseLeaf F))) → IsProp (WellFormed base_leaves ns)
-WellFormed-prop [] = hlevel props
-WellFormed-prop (n ∷ older) = hlevel (props, NodeFits-prop older n, Absent-prop n older, WellFormed-prop older)
+WellFormed-prop ns = hlevel (props, NodeFits-prop)
 
 pub RootsIn-prop : {F : Type 0} (p : BaseNodes F) (roots : List ℕ) → IsProp (RootsIn p roots)
-RootsIn-prop p roots = hlevel (props, WellFormed-prop p.1)
+RootsIn-prop p roots = hlevel (props, WellFormed-prop p.nodes)

@@ -353,7 +353,7 @@ module _ {F : Type 0} (x : Instance F) where
 -- ---- what is recorded
 
 module _ {F E : Type 0} (basis : Basis F E) (u : BaseNodes F) where
-  pub ext_leaf_term_is : (a : ExtLeaf F E) → ext_leaf_term basis u.1 a ≡ ext_term basis u a
+  pub ext_leaf_term_is : (a : ExtLeaf F E) → ext_leaf_term basis u.nodes a ≡ ext_term basis u a
   ext_leaf_term_is (leaf.Base k) = refl
   ext_leaf_term_is (leaf.ExtVariable v) = refl
   ext_leaf_term_is (leaf.ExtConstant c) = refl
@@ -361,7 +361,7 @@ module _ {F E : Type 0} (basis : Basis F E) (u : BaseNodes F) where
 -- `recorded_ext` and `terms_in` are the terms of the recorded numbers
 pub recorded_ext_are : {F E : Type 0} (basis : Basis F E) (recorded : Recorded F E) → recorded_ext basis recorded ≡ terms_of (ext_reads basis) recorded.pool recorded.ext.items
 recorded_ext_are {F} {E} basis recorded =
-    ap (λ (f : ExtLeaf F E → Term F). map (λ i. term_of f (tree_of recorded.pool.1 i)) recorded.ext.items) (λ j a. ext_leaf_term_is basis recorded.pool.0 a j)
+    ap (λ (f : ExtLeaf F E → Term F). map (λ i. term_of f (tree_of recorded.pool.nodes i)) recorded.ext.items) (λ j a. ext_leaf_term_is basis recorded.pool.base a j)
 
 pub terms_in_are : {F E : Type 0} (basis : Basis F E) (recorded : Recorded F E) → terms_in basis recorded ≡ recorded_terms basis recorded
 terms_in_are basis recorded = ap (λ us. recorded_base recorded ++ us) (recorded_ext_are basis recorded)

@@ -1,7 +1,7 @@
 //! The AIR that expressions of a pool are.
 ghost use Rattle.std.specs.Prelude.{◌≡◌, ◌<◌, All, Some, None, IfOk, IfErr};
 ghost use Rattle.air_symbolic.specs.BaseLeaves.{base_leaves, base_reads};
-ghost use Rattle.air_symbolic.specs.Pools.{IsPool, nodes_of, size};
+ghost use Rattle.air_symbolic.specs.Pools.{IsPool, size};
 ghost use Rattle.air_core.specs.declared.errors.AirError.{AirError};
 ghost use Rattle.p3_air.specs.FlatAirs.{RootsIn, zero_at_roots};
 ghost use Rattle.p3_air.specs.Plans.{IsPlan};
@@ -35,8 +35,8 @@ pub struct FlatAir<F: Field> {
     /// The pool is one, and the roots are in it.
     pub ghost roots_in: { RootsIn pool roots.items } by { RootsIn-prop pool roots.items },
     /// The plan is that of the roots.
-    ghost planned: { IsPlan base_leaves (nodes_of pool) roots.items plan.numbers.items
-        plan.steps.items plan.places.items } by { IsPlan-prop base_leaves (nodes_of pool)
+    ghost planned: { IsPlan base_leaves pool.nodes roots.items plan.numbers.items
+        plan.steps.items plan.places.items } by { IsPlan-prop base_leaves pool.nodes
             roots.items plan.numbers.items plan.steps.items plan.places.items },
 }
 

@@ -2,7 +2,7 @@
 ghost use Rattle.std.specs.Prelude.{◌≡◌, ◌<◌, length, Some, slice_get};
 ghost use Rattle.air_symbolic.specs.BaseLeaves.{base_leaves, base_reads};
 ghost use Rattle.air_symbolic.specs.Nodes.{IsNode};
-ghost use Rattle.air_symbolic.specs.Pools.{IsPool, term_at, nodes_of, size};
+ghost use Rattle.air_symbolic.specs.Pools.{IsPool, term_at, size};
 ghost use Rattle.air_symbolic.specs.declared.leaves.base_leaf.BaseLeaf.{BaseLeaf};
 ghost use Rattle.air_symbolic.specs.declared.pools.expr.SymbolicExpr.{SymbolicExpr};
 ghost use Rattle.air_builder.specs.Builders.{Means};
@@ -58,7 +58,7 @@ fn make_number<AB: AirBuilder>(
     requires pool { IsPool base_reads pool.now }
     requires here { id < size pool.now }
     requires leaf { (n : SymbolicExpr (BaseLeaf AB.F)) →
-        IsNode base_leaves (nodes_of pool.now) id n → IsLeaf n }
+        IsNode base_leaves pool.now.nodes id n → IsLeaf n }
     ensures { MakesTerm (Means AB.Ring.means AB.ring_of AB.reads_as) AB.grew AB.missing AB.refuses
         builder.old builder.new result (term_at base_reads pool.now id) }
 {
@@ -82,7 +82,7 @@ pub(crate) fn make_step<AB: AirBuilder>(
     requires pool { IsPool base_reads pool.now }
     requires within { place < length numbers.now }
     requires here { number_at numbers.now place < size pool.now }
-    requires makes { MakesPlace base_leaves (nodes_of pool.now) numbers.now place step }
+    requires makes { MakesPlace base_leaves pool.now.nodes numbers.now place step }
     requires table { TableMade
         (IsMade (Means AB.Ring.means AB.ring_of AB.reads_as) AB.missing builder.old)
         (term_at base_reads pool.now) numbers.now table.now place }

@@ -3,7 +3,7 @@ ghost use Rattle.std.specs.List.{AllZip};
 ghost use Rattle.std.specs.Prelude.{◌≡◌, ◌++◌, ◌∷◌, [], ◌<◌, ℕ, length, slice_index_or, All, None, Some, MatchOption, OnOk, IfOk, IfErr};
 ghost use Rattle.air_symbolic.specs.BaseLeaves.{base_leaves, base_reads};
 ghost use Rattle.air_symbolic.specs.Nodes.{IsNode};
-ghost use Rattle.air_symbolic.specs.Pools.{IsPool, nodes_of, size};
+ghost use Rattle.air_symbolic.specs.Pools.{IsPool, size};
 ghost use Rattle.air_symbolic.specs.Reach.{EachOperand};
 ghost use Rattle.air_symbolic.specs.declared.pools.expr.SymbolicExpr.{SymbolicExpr};
 ghost use Rattle.air_symbolic.specs.declared.leaves.base_leaf.BaseLeaf.{BaseLeaf};
@@ -86,10 +86,10 @@ fn steps_of<F: Field>(
     requires here { All (λ i. i < size pool.now) numbers.now }
     requires long { length places.now ≡ size pool.now }
     requires before { (k : ℕ) → k < length numbers.now → (n : SymbolicExpr (BaseLeaf F)) →
-        IsNode base_leaves (nodes_of pool.now) (number_at numbers.now k) n →
+        IsNode base_leaves pool.now.nodes (number_at numbers.now k) n →
         EachOperand (λ i. IsPlaceOf numbers.now k (slice_index_or places.now i 0) i) n }
     ensures made { IfOk result (λ steps.
-        AreSteps base_leaves (nodes_of pool.now) numbers.now steps.items) }
+        AreSteps base_leaves pool.now.nodes numbers.now steps.items) }
     ensures refused { IfErr result (λ e. e ≡ AirError.Memory) }
 {
     let mut steps = Vec::new(alloc);
@@ -125,7 +125,7 @@ pub(crate) fn plan_of<F: Field>(
 ) -> Result<Plan<F>, AirError>
     requires pool { IsPool base_reads pool.now }
     requires here { All (λ i. i < size pool.now) roots.now }
-    ensures planned { IfOk result (λ plan. IsPlan base_leaves (nodes_of pool.now) roots.now
+    ensures planned { IfOk result (λ plan. IsPlan base_leaves pool.now.nodes roots.now
         plan.numbers.items plan.steps.items plan.places.items) }
     ensures refused { IfErr result (λ e. e ≡ AirError.Memory) }
 {

@@ -4,4 +4,4 @@ use Rattle.air_explain.proofs.reading.marked_reads.Given as goal
 
 -- the numbers so far
 abbrev pub invariant-loop-number : goal.invariant-loop-number
-invariant-loop-number g l = l.numbers.items ≡ read_below l.pool.1 l.marks l.number
+invariant-loop-number g l = l.numbers.items ≡ read_below l.pool.nodes l.marks l.number

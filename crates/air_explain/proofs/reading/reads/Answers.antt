@@ -9,7 +9,7 @@ returns g c =
     IfOk-weaker c.marked_reads.result _ _
     (λ numbers h. record {
       marks = c.deref.result.now;
-      reached = subst (λ (marks : List (Option ℕ)). Reached base_leaves c.args.pool.now.1 (c.args.root ∷ []) marks) (sym c.deref.ensures.value) c.in-Ok.ensures.marked;
+      reached = subst (λ (marks : List (Option ℕ)). Reached base_leaves c.args.pool.now.nodes (c.args.root ∷ []) marks) (sym c.deref.ensures.value) c.in-Ok.ensures.marked;
       numbers_are = h;
     })
     c.marked_reads.ensures

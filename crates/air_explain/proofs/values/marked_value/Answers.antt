@@ -11,16 +11,16 @@ use Rattle.air_explain.proofs.Numbers.{mark-own, node_value-is}
 use Rattle.air_explain.proofs.values.marked_value.Goals as goal
 
 pub node-requires-clause-here : goal.node-requires-clause-here
-node-requires-clause-here g c = (mark-own c.args.pool.now.1 c.args.marks.now c.args.number _ c.in-Some.id c.requires.marks c.requires.here c.in-Some.is).1
+node-requires-clause-here g c = (mark-own c.args.pool.now.nodes c.args.marks.now c.args.number _ c.in-Some.id c.requires.marks c.requires.here c.in-Some.is).1
 
 pub node_value-requires-clause-operands : goal.node_value-requires-clause-operands
 node_value-requires-clause-operands g c =
-    let own = mark-own c.args.pool.now.1 c.args.marks.now c.args.number _ c.in-Some.id c.requires.marks c.requires.here c.in-Some.is in
+    let own = mark-own c.args.pool.now.nodes c.args.marks.now c.args.number _ c.in-Some.id c.requires.marks c.requires.here c.in-Some.is in
     subst (λ k. OperandsBelow k c.node.result.now) (own.0 ∙ sym c.requires.places) c.node.ensures.below
 
 pub returns-in-Some : goal.returns-in-Some
 returns-in-Some g c = λ m.
-    let ns = c.args.pool.now.1 in
+    let ns = c.args.pool.now.nodes in
     let marks = c.args.marks.now in
     let r = g.F.Field.ring in
     let s = row_assignment r (trace_of c.args.trace.now) c.args.row in

@@ -11,5 +11,5 @@ loop-number-preserved g c =
     let r = g.F.Field.ring in
     record {
       places = grind (arith, common_steps);
-      known = Known-more r (row_assignment r (trace_of c.args.trace.now) c.args.row) c.args.pool.now.1 c.args.marks.now c.loop-number.number c.loop-number.values.items c.push.new.self.items c.marked_value-value.result h.places c.in_ok-push.ensures.items h.known c.marked_value-value.ensures;
+      known = Known-more r (row_assignment r (trace_of c.args.trace.now) c.args.row) c.args.pool.now.nodes c.args.marks.now c.loop-number.number c.loop-number.values.items c.push.new.self.items c.marked_value-value.result h.places c.in_ok-push.ensures.items h.known c.marked_value-value.ensures;
     }

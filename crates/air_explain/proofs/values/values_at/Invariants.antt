@@ -8,5 +8,5 @@ use Rattle.air_explain.proofs.values.values_at.Given as goal
 abbrev pub invariant-loop-number : goal.invariant-loop-number
 invariant-loop-number g l = record {
   places : length l.values.items ≡ l.number;
-  known : Known g.F.Field.ring (row_assignment g.F.Field.ring (trace_of l.trace) l.row) l.pool.1 l.marks l.number l.values.items;
+  known : Known g.F.Field.ring (row_assignment g.F.Field.ring (trace_of l.trace) l.row) l.pool.nodes l.marks l.number l.values.items;
 }

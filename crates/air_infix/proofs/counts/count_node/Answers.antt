@@ -4,11 +4,11 @@ use Rattle.air_infix.proofs.CountLemmas.{AreCounted-same, mark-own, places-marke
 use Rattle.air_infix.proofs.counts.count_node.Goals as goal
 
 pub node-requires-clause-here : goal.node-requires-clause-here
-node-requires-clause-here g c = (mark-own (length c.args.pool.now.1) c.args.marks.now c.args.number _ c.in-Some.id c.requires.marks c.requires.here c.in-Some.is).1
+node-requires-clause-here g c = (mark-own (length c.args.pool.now.nodes) c.args.marks.now c.args.number _ c.in-Some.id c.requires.marks c.requires.here c.in-Some.is).1
 
 pub returns-in-Some : goal.returns-in-Some
 returns-in-Some g c =
-    let ns = c.args.pool.now.1 in
+    let ns = c.args.pool.now.nodes in
     let marks = c.args.marks.now in
     let k = c.args.number in
     let id = c.in-Some.id in

@@ -5,7 +5,7 @@ use Rattle.air_infix.proofs.counts.count_reached.Goals as goal
 
 pub loop-number-preserved : goal.loop-number-preserved
 loop-number-preserved g c =
-    let places = places_at c.args.pool.now.1 c.args.marks.now in
+    let places = places_at c.args.pool.now.nodes c.args.marks.now in
     let k = c.loop-number.number in
     λ (f : ℕ → ℕ) h.
     AreCounted-same (λ i. f i + total_below (places i) k + places i k) (λ i. f i + total_below (places i) (k + 1)) c.count_node.new.counts

@@ -6,4 +6,4 @@ use Rattle.air_infix.proofs.counts.count_reached.Given as goal
 -- the operands of the nodes so far are counted
 abbrev pub invariant-loop-number : goal.invariant-loop-number
 invariant-loop-number g l =
-    (f : ℕ → ℕ) → AreCounted f l.initial.counts → AreCounted (λ i. f i + total_below (places_at l.pool.1 l.marks i) l.number) l.counts
+    (f : ℕ → ℕ) → AreCounted f l.initial.counts → AreCounted (λ i. f i + total_below (places_at l.pool.nodes l.marks i) l.number) l.counts

@@ -10,12 +10,12 @@ use Rattle.air_infix.proofs.infix.push_definition.Goals as goal
 pub returns : goal.returns
 returns g c =
     let m = g.F.PrimeField64.residues in
-    let ns = c.args.pool.now.1 in
+    let ns = c.args.pool.now.nodes in
     let named = λ (i : ℕ). get_or c.args.names.now.1 i None in
     let f = shown named ns in
     let n = c.node.result.now in
     let old = string_bytes c.args.text.now in
-    let node : shown_at named ns c.args.id ≡ shown_node f n = shown_at-node named _ ns c.requires.pool.nodes c.args.id n c.requires.here c.node.ensures in
+    let node : shown_at named ns c.args.id ≡ shown_node f n = shown_at-node named _ ns c.args.id n c.node.ensures in
     let rest : c.leave_node.new.rest.items ≡ [] ++ node_rest Loose n =
     c.in_ok-leave_node.ensures.rest ∙ ap (λ xs. xs ++ node_rest Loose n) c.new-rest.ensures.items in
     on_ok_weaker c.write_rest.result

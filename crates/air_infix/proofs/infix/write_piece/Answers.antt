@@ -8,7 +8,7 @@ use Rattle.air_infix.proofs.infix.write_piece.Goals as goal
 pub returns-in-None-clause-text : goal.returns-in-None-clause-text
 returns-in-None-clause-text g c =
     let m = g.F.PrimeField64.residues in
-    let ns = c.args.pool.now.1 in
+    let ns = c.args.pool.now.nodes in
     let named = λ (i : ℕ). get_or c.args.names.now.1 i None in
     let f = shown named ns in
     let id = c.in-Operand.id in
@@ -16,7 +16,7 @@ returns-in-None-clause-text g c =
     let n = c.node.result.now in
     let here : id < length ns = subst (λ q. IsPieceBelow (length ns) q) c.in-Operand.is c.requires.here in
     let none : named id ≡ None = sym c.name.ensures ∙ c.in-None.is in
-    let is : f id ≡ shown_node f n = unnamed named _ ns c.requires.pool.nodes id n here c.node.ensures none in
+    let is : f id ≡ shown_node f n = unnamed named _ ns id n c.node.ensures none in
     let piece : infix_text m within (shown_node f n) ≡ piece_text m f c.args.piece =
     sym (ap (piece_text m f) c.in-Operand.is ∙ ap (infix_text m within) is) in
     on_both _ _ _ c.leave_node.result
@@ -28,7 +28,7 @@ returns-in-None-clause-text g c =
 
 pub returns-in-None-clause-here : goal.returns-in-None-clause-here
 returns-in-None-clause-here g c =
-    let ns = c.args.pool.now.1 in
+    let ns = c.args.pool.now.nodes in
     let id = c.in-Operand.id in
     let n = c.node.result.now in
     let here : id < length ns = subst (λ q. IsPieceBelow (length ns) q) c.in-Operand.is c.requires.here in
@@ -39,14 +39,14 @@ returns-in-None-clause-here g c =
 
 pub returns-in-None-clause-size : goal.returns-in-None-clause-size
 returns-in-None-clause-size g c =
-    let ns = c.args.pool.now.1 in
+    let ns = c.args.pool.now.nodes in
     let named = λ (i : ℕ). get_or c.args.names.now.1 i None in
     let f = shown named ns in
     let id = c.in-Operand.id in
     let n = c.node.result.now in
     let here : id < length ns = subst (λ q. IsPieceBelow (length ns) q) c.in-Operand.is c.requires.here in
     let none : named id ≡ None = sym c.name.ensures ∙ c.in-None.is in
-    let is : f id ≡ shown_node f n = unnamed named _ ns c.requires.pool.nodes id n here c.node.ensures none in
+    let is : f id ≡ shown_node f n = unnamed named _ ns id n c.node.ensures none in
     let size : shown_size (shown_node f n) ≡ piece_size f c.args.piece = sym (ap (piece_size f) c.in-Operand.is ∙ ap shown_size is) in
     on_both _ _ _ c.leave_node.result
     (λ p q. subst (λ k. rest_size f c.leave_node.new.rest.items < rest_size f c.args.rest.now.items + k) size

@@ -7,7 +7,7 @@ use Rattle.air_infix.proofs.infix.write_rest.Goals as goal
 
 pub loop-piece-smaller : goal.loop-piece-smaller
 loop-piece-smaller g c =
-    let f = shown (λ (i : ℕ). get_or c.args.names.now.1 i None) c.args.pool.now.1 in
+    let f = shown (λ (i : ℕ). get_or c.args.names.now.1 i None) c.args.pool.now.nodes in
     let popped = c.pop.new.self.items in
     let size : rest_size f c.loop-piece.rest.items ≡ rest_size f popped + piece_size f c.in-Some.piece =
     ap (rest_size f) c.in-Some.ensures.items ∙ rest_size-push f popped c.in-Some.piece in
@@ -16,7 +16,7 @@ loop-piece-smaller g c =
 pub loop-piece-preserved : goal.loop-piece-preserved
 loop-piece-preserved g c =
     let m = g.F.PrimeField64.residues in
-    let f = shown (λ (i : ℕ). get_or c.args.names.now.1 i None) c.args.pool.now.1 in
+    let f = shown (λ (i : ℕ). get_or c.args.names.now.1 i None) c.args.pool.now.nodes in
     let popped = c.pop.new.self.items in
     let next : rest_text m f c.loop-piece.rest.items ≡ piece_text m f c.in-Some.piece ++ rest_text m f popped =
     ap (rest_text m f) c.in-Some.ensures.items ∙ rest_text-push m f popped c.in-Some.piece in
@@ -25,5 +25,5 @@ loop-piece-preserved g c =
           ∙ ap (λ t. string_bytes c.loop-piece.text ++ t) (sym next)
           ∙ c.loop-piece.invariant.text;
       below = c.in_ok-write_piece.ensures.here
-          (All-pop (IsPieceBelow (length c.args.pool.now.1)) c.loop-piece.rest.items popped (Some c.in-Some.piece) c.in-Some.ensures.items c.loop-piece.invariant.below).0;
+          (All-pop (IsPieceBelow (length c.args.pool.now.nodes)) c.loop-piece.rest.items popped (Some c.in-Some.piece) c.in-Some.ensures.items c.loop-piece.invariant.below).0;
     }

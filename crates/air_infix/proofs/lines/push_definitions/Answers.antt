@@ -11,7 +11,7 @@ loop-name-preserved g c =
     let line = definition_line m c.args.pool.now c.args.names.now.1 in
     let k = c.loop-name.name-counter in
     let old = string_bytes c.loop-name.text in
-    let text = infix_text m Loose (shown_at (λ i. get_or c.args.names.now.1 i None) c.args.pool.now.1 c.id-item.result) in
+    let text = infix_text m Loose (shown_at (λ i. get_or c.args.names.now.1 i None) c.args.pool.now.nodes c.id-item.result) in
     let written : string_bytes c.push_str.new.self ≡ old ++ (line k c.id-item.result ++ codes "\n") =
     c.in_ok-push_str.ensures.bytes
     ∙ ap (λ t. t ++ codes "\n") (c.in_ok-push_definition.ensures ∙ ap (λ t. t ++ text) c.in_ok-write.ensures.bytes)

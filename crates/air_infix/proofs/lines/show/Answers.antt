@@ -7,7 +7,7 @@ use Rattle.air_infix.proofs.lines.show.Goals as goal
 
 pub push_definitions-requires-clause-here : goal.push_definitions-requires-clause-here
 push_definitions-requires-clause-here g c =
-    let ns = c.args.pool.now.1 in
+    let ns = c.args.pool.now.nodes in
     let are = c.in_ok-names.ensures in
     subst (λ (xs : List ℕ). All (λ x. x < length ns) xs) (sym are.named)
     (passing-low (is_named ns c.args.roots.now are.marks) (length ns) (length ns) (omega arith))

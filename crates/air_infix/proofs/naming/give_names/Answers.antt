@@ -4,7 +4,7 @@ use Rattle.air_infix.proofs.naming.give_names.Goals as goal
 
 pub loop-number-preserved : goal.loop-number-preserved
 loop-number-preserved g c =
-    let test = passes c.args.pool.now.1 c.args.marks.now c.args.counts.now in
+    let test = passes c.args.pool.now.nodes c.args.marks.now c.args.counts.now in
     let h = c.loop-number.invariant in
     let k = c.loop-number.number in
     let id = c.named_at-id.result in
@@ -15,4 +15,4 @@ loop-number-preserved g c =
 
 pub returns-clause-each : goal.returns-clause-each
 returns-clause-each g c =
-    names-all c.args.pool.now.1 c.args.marks.now c.args.counts.now c.loop-number.names.items c.loop-number.number c.loop-number-test.false c.loop-number.invariant.names
+    names-all c.args.pool.now.nodes c.args.marks.now c.args.counts.now c.loop-number.names.items c.loop-number.number c.loop-number-test.false c.loop-number.invariant.names

@@ -7,7 +7,7 @@ use Rattle.air_infix.proofs.naming.give_names.Given as goal
 -- the numbers so far have their names
 abbrev pub invariant-loop-number : goal.invariant-loop-number
 invariant-loop-number g l =
-    let test = passes l.pool.1 l.marks l.counts in
+    let test = passes l.pool.nodes l.marks l.counts in
     record {
       named : l.named.items ≡ passing_below test l.number;
       names : l.names.items ≡ map (name_by test) (range_with_len 0 l.number);

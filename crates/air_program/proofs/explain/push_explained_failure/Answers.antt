@@ -30,7 +30,7 @@ returns-then-failure-height-clause-pushes g c =
 
 pub push_explained-requires-clause-reads : goal.push_explained-requires-clause-reads
 push_explained-requires-clause-reads g c =
-    let ns = c.args.air.now.pool.1 in
+    let ns = c.args.air.now.pool.nodes in
     subst (λ (xs : List ℕ). All (λ i. i < length ns) xs) (sym c.deref-3.ensures.value)
     (reads_here ns c.in-Some.root.now c.in_ok-read.read.items c.in_ok-read.ensures)
 
@@ -39,7 +39,7 @@ returns-clause-pushes g c =
     let m = g.F.PrimeField64.residues in
     let r = g.F.Field.ring in
     let air = c.args.air.now in
-    let ns = air.pool.1 in
+    let ns = air.pool.nodes in
     let k = c.args.failure.now.constraint in
     let root = c.in-Some.root.now in
     let read = c.deref-3.result.now in

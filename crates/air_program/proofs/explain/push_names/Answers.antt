@@ -9,7 +9,7 @@ use Rattle.air_program.proofs.explain.push_names.Goals as goal
 
 pub reached-requires-clause-here : goal.reached-requires-clause-here
 reached-requires-clause-here g c =
-    let ns = c.args.air.now.pool.1 in
+    let ns = c.args.air.now.pool.nodes in
     let fs = map seen_failure c.args.failures.now in
     let same : c.deref-2.result.now ≡ failing_roots c.args.air.now.roots.items fs =
     c.deref-2.ensures.value ∙ c.in_ok-failing.ensures ∙ ap (λ (rs : List ℕ). failing_roots rs fs) c.deref.ensures.value in
@@ -18,11 +18,11 @@ reached-requires-clause-here g c =
 
 pub push_reached_definitions-requires-clause-here : goal.push_reached_definitions-requires-clause-here
 push_reached_definitions-requires-clause-here g c =
-    names_here base_leaves c.args.air.now.pool.1 c.args.air.now.roots.items c.args.names.now c.requires
+    names_here base_leaves c.args.air.now.pool.nodes c.args.air.now.roots.items c.args.names.now c.requires
 
 pub returns : goal.returns
 returns g c =
-    let ns = c.args.air.now.pool.1 in
+    let ns = c.args.air.now.pool.nodes in
     let fs = map seen_failure c.args.failures.now in
     let same : c.deref-2.result.now ≡ failing_roots c.args.air.now.roots.items fs =
     c.deref-2.ensures.value ∙ c.in_ok-failing.ensures ∙ ap (λ (rs : List ℕ). failing_roots rs fs) c.deref.ensures.value in

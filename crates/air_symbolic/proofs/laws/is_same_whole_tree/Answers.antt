@@ -10,12 +10,12 @@ pub returns : goal.returns
 returns g c =
     let p = c.args.pool.now in
     let r = c.requires in
-    let l = ext_reads g.EF.ExtensionField.basis p.0 in
+    let l = ext_reads g.EF.ExtensionField.basis p.base in
     let d = c.is_same_tree.ensures.trees in
     record {
       numbers = c.is_same_tree.ensures.numbers;
       trees = (
-        λ q. ap (whole_tree p.0) (d.0 q),
-        λ e. d.1 (same_tree p.0 (tree_at p c.args.x) (tree_at p c.args.y) (tree_of-whole l p.1 r.pool.nodes c.args.x r.x_in) (tree_of-whole l p.1 r.pool.nodes c.args.y r.y_in) e),
+        λ q. ap (whole_tree p.base) (d.0 q),
+        λ e. d.1 (same_tree p.base (tree_at p c.args.x) (tree_at p c.args.y) (tree_of-whole l p.nodes r.pool.nodes c.args.x r.x_in) (tree_of-whole l p.nodes r.pool.nodes c.args.y r.y_in) e),
       );
     }

@@ -15,5 +15,5 @@ returns g c =
     let i = c.args._x in
     let reads = ext_reads g.EF.ExtensionField.basis in
     let laws = ext_leaf_laws g.met.EF.ExtensionField.laws in
-    λ q h. ap (whole_tree q.0) (tree-kept r reads ext_grows no_base_nodes laws p q i h c.requires.here)
-    ∙ whole_tree-kept r p.0 q.0 h.under (tree_at p i) (tree_of-whole (reads p.0) p.1 c.requires.pool.nodes i c.requires.here)
+    λ q h. ap (whole_tree q.base) (tree-kept r reads ext_grows no_base_nodes laws p q i h c.requires.here)
+    ∙ whole_tree-kept r p.base q.base h.under (tree_at p i) (tree_of-whole (reads p.base) p.nodes c.requires.pool.nodes i c.requires.here)

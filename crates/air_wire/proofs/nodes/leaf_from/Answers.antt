@@ -1,6 +1,6 @@
 use Rattle.std.proofs.Common.{refl}
 use Rattle.serde_json.specs.View.{view}
-use Rattle.air_symbolic.specs.Pools.{tree_at}
+use Rattle.air_symbolic.specs.Pools.{on_base, tree_at}
 use Rattle.air_symbolic.specs.laws.Pools.{Grown-trans}
 use Rattle.air_wire.specs.Faults.{ring_fault}
 use Rattle.air_wire.specs.laws.ReadCalls.{gives_up}
@@ -23,7 +23,7 @@ leaf-requires-clause-pool g c =
 pub returns-in_err-leaf-2 : goal.returns-in_err-leaf-2
 returns-in_err-leaf-2 g c =
     gives_up (ring_fault c.in_err-leaf-2.field-0.0)
-    (Grown-trans _ g.A.SymLeaf.reads g.A.SymLeaf.grows _ g.met.A.SymLeaf.leaf_laws c.args.pool.now (c.leaf_from_value.new.under, c.args.pool.now.1) c.leaf.new.self
+    (Grown-trans _ g.A.SymLeaf.reads g.A.SymLeaf.grows _ g.met.A.SymLeaf.leaf_laws c.args.pool.now (on_base c.args.pool.now c.leaf_from_value.new.under) c.leaf.new.self
     (lent_grown _ g.A.SymLeaf.reads g.A.SymLeaf.grows _ g.met.A.SymLeaf.leaf_laws c.args.pool.now c.base_mut.result.now c.leaf_from_value.new.under c.base_mut.ensures.value c.leaf_from_value.ensures.grown)
     c.leaf.ensures.grown)
     c.from_residual-in_err-leaf-2.ensures.1
@@ -34,9 +34,9 @@ returns g c =
     let A = g.A.WireLeaf in
     record {
       grown =
-          Grown-trans _ g.A.SymLeaf.reads g.A.SymLeaf.grows _ g.met.A.SymLeaf.leaf_laws c.args.pool.now (c.leaf_from_value.new.under, c.args.pool.now.1) c.leaf.new.self
+          Grown-trans _ g.A.SymLeaf.reads g.A.SymLeaf.grows _ g.met.A.SymLeaf.leaf_laws c.args.pool.now (on_base c.args.pool.now c.leaf_from_value.new.under) c.leaf.new.self
           (lent_grown _ g.A.SymLeaf.reads g.A.SymLeaf.grows _ g.met.A.SymLeaf.leaf_laws c.args.pool.now c.base_mut.result.now c.leaf_from_value.new.under c.base_mut.ensures.value c.leaf_from_value.ensures.grown)
           c.leaf.ensures.grown;
       here = c.in_ok-leaf-2.ensures.made.here;
-      read = leaf_seen A.seen c.leaf_from_value.new.under c.leaf.new.self.0 c.in_ok-leaf.leaf (tree_at c.leaf.new.self c.in_ok-leaf-2.field-0) (A.kind.leaf_at c.args.at (view c.args.contents.now)) c.leaf.ensures.same_under c.in_ok-leaf-2.ensures.made.tree c.in_ok-leaf.ensures.read;
+      read = leaf_seen A.seen c.leaf_from_value.new.under c.leaf.new.self.base c.in_ok-leaf.leaf (tree_at c.leaf.new.self c.in_ok-leaf-2.field-0) (A.kind.leaf_at c.args.at (view c.args.contents.now)) c.leaf.ensures.same_under c.in_ok-leaf-2.ensures.made.tree c.in_ok-leaf.ensures.read;
     }

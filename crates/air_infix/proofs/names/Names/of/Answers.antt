@@ -8,8 +8,8 @@ use Rattle.air_infix.proofs.names.Names.of.Goals as goal
 
 pub returns : goal.returns
 returns g c =
-    let l = g.A.SymLeaf.reads c.args.pool.now.0 in
-    let ns = c.args.pool.now.1 in
+    let l = g.A.SymLeaf.reads c.args.pool.now.base in
+    let ns = c.args.pool.now.nodes in
     let roots = c.args.roots.now in
     let marks = c.deref-2.result.now in
     let counts = c.deref-3.result.now in

@@ -16,24 +16,24 @@ returns-in_err-base-clause-answer g c =
     let pool = c.args.recorded.now.pool in
     let reads = ext_reads g.EF.ExtensionField.basis in
     let e = c.in_err-base.field-0.0 in
-    let q = ap₂ (λ bs xs. terms_of base_reads pool.0 bs ++ terms_of reads pool xs) c.deref.ensures.value c.deref-2.ensures.value in
+    let q = ap₂ (λ bs xs. terms_of base_reads pool.base bs ++ terms_of reads pool xs) c.deref.ensures.value c.deref-2.ensures.value in
     let p = err_from_is_err_and c.from_residual.result c.from_residual.ensures.1 in
     rw (p.1, p.2)
     (subst (λ ts. AnswersDegree (greatest_degree w ts) (Err e)) q
-    (both_refused base_reads pool.0 reads pool w c.deref.result.now c.deref-2.result.now e c.in_err-base.ensures.refused))
+    (both_refused base_reads pool.base reads pool w c.deref.result.now c.deref-2.result.now e c.in_err-base.ensures.refused))
 
 pub returns : goal.returns
 returns g c =
     let w = leaf_weight c.args.weight in
     let pool = c.args.recorded.now.pool in
     let reads = ext_reads g.EF.ExtensionField.basis in
-    let us = terms_of base_reads pool.0 c.args.recorded.now.base.items in
+    let us = terms_of base_reads pool.base c.args.recorded.now.base.items in
     let vs = terms_of reads pool c.args.recorded.now.ext.items in
     let x : c.greatest_of.result ≡ greatest_degree w us =
     c.greatest_of.ensures.value
     ∙ (ap greatest_in (c.deref-3.ensures.value ∙ c.in_ok-base.ensures.base)
-    ∙ (greatest_in-degrees base_reads pool.0 w c.deref.result.now
-    ∙ ap (λ l. greatest_degree w (terms_of base_reads pool.0 l)) c.deref.ensures.value)) in
+    ∙ (greatest_in-degrees base_reads pool.base w c.deref.result.now
+    ∙ ap (λ l. greatest_degree w (terms_of base_reads pool.base l)) c.deref.ensures.value)) in
     let y : c.greatest_of-2.result ≡ greatest_degree w vs =
     c.greatest_of-2.ensures.value
     ∙ (ap greatest_in (c.deref-4.ensures.value ∙ c.in_ok-base.ensures.values)

@@ -27,12 +27,12 @@ returns-clause-base g c =
     let pool = c.eval.new.builder.pool in
     let numbers = c.eval.new.builder.constraints.base.items in
     let all : numbers ≡ grew.more_base = grew.base ∙ ap (λ l. l.base ++ grew.more_base) c.in_ok-builder.ensures.none in
-    let means : AllZip (PoolMeans base_reads r pool.0) numbers (base_terms ts) = subst (λ l. AllZip (PoolMeans base_reads r pool.0) l (base_terms ts)) (sym all) grew.each_base in
+    let means : AllZip (PoolMeans base_reads r pool.base) numbers (base_terms ts) = subst (λ l. AllZip (PoolMeans base_reads r pool.base) l (base_terms ts)) (sym all) grew.each_base in
     record {
       well_formed = (grew.keeps.pool.pool c.in_ok-builder.ensures.ready.pool).under;
       means = means;
-      terms = each_records r base_reads pool.0 (itself r) (itself_laws r) numbers (base_terms ts) means;
-      in_extension = each_records r base_reads pool.0 g.EF.ExtensionField.over g.met.EF.ExtensionField.over_laws numbers (base_terms ts) means;
+      terms = each_records r base_reads pool.base (itself r) (itself_laws r) numbers (base_terms ts) means;
+      in_extension = each_records r base_reads pool.base g.EF.ExtensionField.over g.met.EF.ExtensionField.over_laws numbers (base_terms ts) means;
     }
 
 pub returns-clause-ext : goal.returns-clause-ext
@@ -56,7 +56,7 @@ returns-clause-base_here g c =
     let r = g.F.Field.ring in
     let ts = base_terms (g.A.BaseAir.declaration c.args.air.now).declared in
     let grew = c.in_ok-eval.ensures.ok in
-    let pool = c.eval.new.builder.pool.0 in
+    let pool = c.eval.new.builder.pool.base in
     let all : c.eval.new.builder.constraints.base.items ≡ grew.more_base = grew.base ∙ ap (λ l. l.base ++ grew.more_base) c.in_ok-builder.ensures.none in
     numbers_here r base_reads pool c.eval.new.builder.constraints.base.items ts (subst (λ l. AllZip (PoolMeans base_reads r pool) l ts) (sym all) grew.each_base)
 
@@ -100,7 +100,7 @@ greatest_recorded-greatest-requires-clause-base_here g c =
     let r = g.F.Field.ring in
     let ts = base_terms (g.A.BaseAir.declaration c.args.air.now).declared in
     let grew = c.in_ok-eval.ensures.ok in
-    let pool = c.eval.new.builder.pool.0 in
+    let pool = c.eval.new.builder.pool.base in
     let all : c.deref.result.now ≡ grew.more_base = c.deref.ensures.value ∙ (grew.base ∙ ap (λ l. l.base ++ grew.more_base) c.in_ok-builder.ensures.none) in
     numbers_here r base_reads pool c.deref.result.now ts (subst (λ l. AllZip (PoolMeans base_reads r pool) l ts) (sym all) grew.each_base)
 
@@ -119,11 +119,11 @@ pub returns-clause-answers : goal.returns-clause-answers
 returns-clause-answers g c =
     let reads = ext_reads g.EF.ExtensionField.basis in
     let built = c.eval.new.builder in
-    let us = terms_of base_reads built.pool.0 built.constraints.base.items in
+    let us = terms_of base_reads built.pool.base built.constraints.base.items in
     let vs = terms_of reads built.pool built.constraints.ext.items in
     let greatest : c.greatest_recorded-greatest.result ≡ greatest_degree cached_weight (us ++ vs) =
     c.greatest_recorded-greatest.ensures.value
-    ∙ ap₂ (λ bs xs. greatest_degree cached_weight (terms_of base_reads built.pool.0 bs ++ terms_of reads built.pool xs)) c.deref.ensures.value c.deref-2.ensures.value in
+    ∙ ap₂ (λ bs xs. greatest_degree cached_weight (terms_of base_reads built.pool.base bs ++ terms_of reads built.pool xs)) c.deref.ensures.value c.deref-2.ensures.value in
     record {
       suits = returns-clause-layout g c;
       base = us;

@@ -2,7 +2,7 @@ use Rattle.air_field.specs.Term.{first_row, last_row, leaf_term}
 use Rattle.std.proofs.Common.{ℕ, List, ◌∙◌}
 use Rattle.air_field.specs.Ring.{CommRing}
 use Rattle.air_symbolic.specs.Trees.{Tree}
-use Rattle.air_symbolic.specs.Pools.{HasTree, Grown}
+use Rattle.air_symbolic.specs.Pools.{Pool, HasTree, Grown}
 use Rattle.air_symbolic.specs.BaseLeaves.{base_reads, base_grows}
 use Rattle.air_symbolic.specs.laws.BaseLeaves.{base_leaf_laws}
 use Rattle.air_symbolic.specs.laws.Pools.{here-kept, tree-kept}
@@ -12,7 +12,7 @@ use Rattle.air_symbolic.specs.declared.pools.expr.SymbolicExpr.{SymbolicExpr}
 use Rattle.air_recording.proofs.symbolic.selectors.make_selectors.Goals as goal
 
 -- a number keeps its tree
-kept : {F : Type 0} (r : CommRing F) (p q : Unit {0} × List (SymbolicExpr (BaseLeaf F))) (t : Tree (BaseLeaf F)) (i : ℕ) → Grown base_grows base_reads p q → HasTree p t i → HasTree q t i
+kept : {F : Type 0} (r : CommRing F) (p q : Pool (Unit {0}) (BaseLeaf F)) (t : Tree (BaseLeaf F)) (i : ℕ) → Grown base_grows base_reads p q → HasTree p t i → HasTree q t i
 kept r p q t i g h = record {
   here = here-kept r base_reads base_grows tt (base_leaf_laws r) p q i g h.here;
   tree = tree-kept r base_reads base_grows tt (base_leaf_laws r) p q i g h.here ∙ h.tree;
@@ -44,7 +44,7 @@ returns-in_err-last_row-clause-grown g c =
     (base_pool_laws g.F.Field.ring).joined c.args.pool.now c.leaf_expr.new.self c.leaf_expr-2.new.self c.leaf_expr.ensures.grown c.leaf_expr-2.ensures.grown
 
 -- three growths, one after another
-thrice : {F : Type 0} (r : CommRing F) (o p q s : Unit {0} × List (SymbolicExpr (BaseLeaf F))) → Grown base_grows base_reads o p → Grown base_grows base_reads p q → Grown base_grows base_reads q s → Grown base_grows base_reads o s
+thrice : {F : Type 0} (r : CommRing F) (o p q s : Pool (Unit {0}) (BaseLeaf F)) → Grown base_grows base_reads o p → Grown base_grows base_reads p q → Grown base_grows base_reads q s → Grown base_grows base_reads o s
 thrice r o p q s f g h =
     let laws = base_pool_laws r in
     laws.joined o q s (laws.joined o p q f g) h

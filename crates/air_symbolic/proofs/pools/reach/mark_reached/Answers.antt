@@ -4,8 +4,8 @@ use Rattle.air_symbolic.proofs.pools.reach.mark_reached.Goals as goal
 
 pub loop-number-init : goal.loop-number-init
 loop-number-init g c =
-    let read = g.A.SymLeaf.reads c.args.pool.now.0 in
-    let ns = c.args.pool.now.1 in
+    let read = g.A.SymLeaf.reads c.args.pool.now.base in
+    let ns = c.args.pool.now.nodes in
     record {
       below = omega arith;
       places = c.mark_all.ensures.more.places ∙ c.requires.places;
@@ -18,13 +18,13 @@ pub node-requires-clause-here : goal.node-requires-clause-here
 node-requires-clause-here g c =
     let h = c.loop-number.invariant in
     let lt : c.loop-number.number - 1 < length c.loop-number.marks = omega (arith, h.below, c.loop-number-test.true) in
-    let m = mark_read (g.A.SymLeaf.reads c.args.pool.now.0) c.args.pool.now.1 c.args.roots.now c.loop-number.marks _ c.in-Some.x _ lt h.only c.in-Some.is in
+    let m = mark_read (g.A.SymLeaf.reads c.args.pool.now.base) c.args.pool.now.nodes c.args.roots.now c.loop-number.marks _ c.in-Some.x _ lt h.only c.in-Some.is in
     omega (arith, lt, m.0, h.places)
 
 pub loop-number-preserved-in-Some : goal.loop-number-preserved-in-Some
 loop-number-preserved-in-Some g c =
-    let read = g.A.SymLeaf.reads c.args.pool.now.0 in
-    let ns = c.args.pool.now.1 in
+    let read = g.A.SymLeaf.reads c.args.pool.now.base in
+    let ns = c.args.pool.now.nodes in
     let roots = c.args.roots.now in
     let a = c.loop-number.marks in
     let b = c.mark_operands.new.marks in

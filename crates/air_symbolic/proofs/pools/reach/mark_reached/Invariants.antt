@@ -6,13 +6,13 @@ use Rattle.air_symbolic.proofs.pools.reach.mark_reached.Given as goal
 -- What is marked is reached, and the marked nodes that were looked at have their operands marked.
 abbrev pub invariant-loop-number : goal.invariant-loop-number
 invariant-loop-number g l =
-    let read = g.A.SymLeaf.reads l.pool.0 in
+    let read = g.A.SymLeaf.reads l.pool.base in
     record {
       below : l.number ≤ length l.marks;
-      places : length l.marks ≡ length l.pool.1;
+      places : length l.marks ≡ length l.pool.nodes;
       roots : All (λ i. Marked l.marks i) l.roots;
-      closed : ClosedFrom read l.pool.1 l.roots l.number l.marks;
-      only : OnlyReached read l.pool.1 l.roots l.marks;
+      closed : ClosedFrom read l.pool.nodes l.roots l.number l.marks;
+      only : OnlyReached read l.pool.nodes l.roots l.marks;
     }
 
 abbrev pub decreases-loop-number : goal.decreases-loop-number

@@ -9,7 +9,7 @@ use Rattle.p3_air.proofs.flat.nodes.make_step.Goals as goal
 
 pub make-requires-clause-held : goal.make-requires-clause-held
 make-requires-clause-held g c =
-    let ns = c.args.pool.now.1 in
+    let ns = c.args.pool.now.nodes in
     let numbers = c.args.numbers.now in
     let k = c.args.place in
     let term = term_at base_reads c.args.pool.now in
@@ -20,7 +20,7 @@ make-requires-clause-held g c =
 
 pub make-requires-in-Sub-clause-held : goal.make-requires-in-Sub-clause-held
 make-requires-in-Sub-clause-held g c =
-    let ns = c.args.pool.now.1 in
+    let ns = c.args.pool.now.nodes in
     let numbers = c.args.numbers.now in
     let k = c.args.place in
     let term = term_at base_reads c.args.pool.now in
@@ -31,7 +31,7 @@ make-requires-in-Sub-clause-held g c =
 
 pub make-requires-in-Neg-clause-held : goal.make-requires-in-Neg-clause-held
 make-requires-in-Neg-clause-held g c =
-    let ns = c.args.pool.now.1 in
+    let ns = c.args.pool.now.nodes in
     let numbers = c.args.numbers.now in
     let k = c.args.place in
     let term = term_at base_reads c.args.pool.now in
@@ -42,7 +42,7 @@ make-requires-in-Neg-clause-held g c =
 
 pub make-requires-in-Mul-clause-held : goal.make-requires-in-Mul-clause-held
 make-requires-in-Mul-clause-held g c =
-    let ns = c.args.pool.now.1 in
+    let ns = c.args.pool.now.nodes in
     let numbers = c.args.numbers.now in
     let k = c.args.place in
     let term = term_at base_reads c.args.pool.now in
@@ -54,7 +54,7 @@ make-requires-in-Mul-clause-held g c =
 pub returns-in-Add : goal.returns-in-Add
 returns-in-Add g c =
     let A = g.AB.AirBuilder in
-    let ns = c.args.pool.now.1 in
+    let ns = c.args.pool.now.nodes in
     let numbers = c.args.numbers.now in
     let k = c.args.place in
     let f = place_made base_leaves ns numbers k c.requires.pool.nodes c.requires.here c.args.step c.requires.makes in
@@ -65,7 +65,7 @@ returns-in-Add g c =
 pub returns-in-Sub : goal.returns-in-Sub
 returns-in-Sub g c =
     let A = g.AB.AirBuilder in
-    let ns = c.args.pool.now.1 in
+    let ns = c.args.pool.now.nodes in
     let numbers = c.args.numbers.now in
     let k = c.args.place in
     let f = place_made base_leaves ns numbers k c.requires.pool.nodes c.requires.here c.args.step c.requires.makes in
@@ -76,7 +76,7 @@ returns-in-Sub g c =
 pub returns-in-Neg : goal.returns-in-Neg
 returns-in-Neg g c =
     let A = g.AB.AirBuilder in
-    let ns = c.args.pool.now.1 in
+    let ns = c.args.pool.now.nodes in
     let numbers = c.args.numbers.now in
     let k = c.args.place in
     let f = place_made base_leaves ns numbers k c.requires.pool.nodes c.requires.here c.args.step c.requires.makes in
@@ -87,7 +87,7 @@ returns-in-Neg g c =
 pub returns-in-Mul : goal.returns-in-Mul
 returns-in-Mul g c =
     let A = g.AB.AirBuilder in
-    let ns = c.args.pool.now.1 in
+    let ns = c.args.pool.now.nodes in
     let numbers = c.args.numbers.now in
     let k = c.args.place in
     let f = place_made base_leaves ns numbers k c.requires.pool.nodes c.requires.here c.args.step c.requires.makes in

@@ -7,7 +7,7 @@ use Rattle.p3_air.proofs.flat.plan.plan_of.Goals as goal
 
 pub steps_of-requires-clause-here : goal.steps_of-requires-clause-here
 steps_of-requires-clause-here g c =
-    let ns = c.args.pool.now.1 in
+    let ns = c.args.pool.now.nodes in
     let both = c.in_ok-numbers in
     let h = subst (λ m. HavePlaces m both.numbers.items both.places.items) c.deref.ensures.value both.ensures.numbered in
     subst (λ v. All (λ i. i < length ns) v) (sym c.deref-2.ensures.value)
@@ -15,7 +15,7 @@ steps_of-requires-clause-here g c =
 
 pub returns-clause-planned : goal.returns-clause-planned
 returns-clause-planned g c =
-    let ns = c.args.pool.now.1 in
+    let ns = c.args.pool.now.nodes in
     let both = c.in_ok-numbers in
     let steps = c.in_ok-steps.steps.items in
     let places = c.in_ok-places.places.items in

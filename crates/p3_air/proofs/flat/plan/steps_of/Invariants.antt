@@ -8,5 +8,5 @@ use Rattle.p3_air.proofs.flat.plan.steps_of.Given as goal
 abbrev pub invariant-loop-id : goal.invariant-loop-id
 invariant-loop-id g l = record {
   long : length l.steps.items ≡ l.id-index;
-  makes : (k : ℕ) → k < l.id-index → MakesPlace base_leaves l.pool.1 l.numbers k (get_or l.steps.items k step.Leaf);
+  makes : (k : ℕ) → k < l.id-index → MakesPlace base_leaves l.pool.nodes l.numbers k (get_or l.steps.items k step.Leaf);
 }

@@ -10,7 +10,7 @@ use Rattle.p3_air.proofs.flat.resolving.resolve_all.Goals as goal
 pub make_planned-requires-clause-planned : goal.make_planned-requires-clause-planned
 make_planned-requires-clause-planned g c =
     let plan = c.in_ok-plan.plan in
-    plan_of_places base_leaves c.args.pool.now.1 c.args.roots.now plan.numbers.items plan.steps.items plan.places.items c.in_ok-plan.ensures.planned
+    plan_of_places base_leaves c.args.pool.now.nodes c.args.roots.now plan.numbers.items plan.steps.items plan.places.items c.in_ok-plan.ensures.planned
 
 pub returns : goal.returns
 returns g c =

@@ -6,7 +6,7 @@ use Rattle.air_symbolic.proofs.pools.lower.ExprPool+ExtLeaf+F+EF.has_ext_only.Go
 pub is_ext_only-requires-clause-here : goal.is_ext_only-requires-clause-here
 is_ext_only-requires-clause-here g c =
     let p = c.args.self.now in
-    mark-here (ext_reads g.EF.ExtensionField.basis p.0) p c.args.id c.args.marks.now c.requires.marked c.loop-mark.mark-index c.mark-item.result (omega (arith, c.loop-mark-test.true)) c.mark-item.is
+    mark-here (ext_reads g.EF.ExtensionField.basis p.base) p c.args.id c.args.marks.now c.requires.marked c.loop-mark.mark-index c.mark-item.result (omega (arith, c.loop-mark-test.true)) c.mark-item.is
 
 pub loop-mark-preserved : goal.loop-mark-preserved
 loop-mark-preserved g c =
@@ -16,7 +16,7 @@ loop-mark-preserved g c =
 pub returns-then-is_ext_only : goal.returns-then-is_ext_only
 returns-then-is_ext_only g c =
     let p = c.args.self.now in (
-      λ _. marked-ext-only (ext_reads g.EF.ExtensionField.basis p.0) p c.args.id c.args.marks.now c.requires.marked c.loop-mark.mark-index c.mark-item.result (omega (arith, c.loop-mark-test.true)) c.mark-item.is (c.is_ext_only.ensures.0 c.if-is_ext_only.true),
+      λ _. marked-ext-only (ext_reads g.EF.ExtensionField.basis p.base) p c.args.id c.args.marks.now c.requires.marked c.loop-mark.mark-index c.mark-item.result (omega (arith, c.loop-mark-test.true)) c.mark-item.is (c.is_ext_only.ensures.0 c.if-is_ext_only.true),
       λ _. refl,
     )
 
@@ -24,6 +24,6 @@ pub returns : goal.returns
 returns g c =
     let p = c.args.self.now in (
       λ (e : false ≡ true). absurd (cc),
-      λ h. absurd (none-marked (ext_reads g.EF.ExtensionField.basis p.0) p c.args.id c.args.marks.now c.requires.marked c.requires.pool.nodes
+      λ h. absurd (none-marked (ext_reads g.EF.ExtensionField.basis p.base) p c.args.id c.args.marks.now c.requires.marked c.requires.pool.nodes
           (λ i lt. c.loop-mark.invariant i (omega (arith, lt, c.loop-mark-test.false))) c.requires.here h),
     )

@@ -16,7 +16,7 @@ lower_mark-requires g c =
       pool = h.grown.pool c.requires.pool;
       ready =
           subst (λ t. IfSome c.mark-item.result (CanLower s t)) (sym c.deref.ensures.value)
-          (mark-can-lower (ext_reads g.EF.ExtensionField.basis p.0) p c.args.id c.args.marks.now c.requires.marked s c.loop-mark.table.items c.loop-mark.mark-index c.mark-item.result
+          (mark-can-lower (ext_reads g.EF.ExtensionField.basis p.base) p c.args.id c.args.marks.now c.requires.marked s c.loop-mark.table.items c.loop-mark.mark-index c.mark-item.result
           c.requires.pool.nodes h.same_nodes c.requires.base_only h.made (omega (arith, c.loop-mark-test.true)) c.mark-item.is);
     }
 
@@ -31,7 +31,7 @@ loop-mark-preserved g c =
       grown = (ext_pool_laws g.met.EF.ExtensionField.laws).joined p s t h.grown c.lower_mark.ensures.grown;
       places = let e = length-append c.loop-mark.table.items (c.in_ok-made.made ∷ []) in rw c.in_ok-push.ensures.items (omega (arith, e, h.places));
       made =
-          more-lowered (ext_reads g.EF.ExtensionField.basis p.0) p c.args.id c.args.marks.now c.requires.marked
+          more-lowered (ext_reads g.EF.ExtensionField.basis p.base) p c.args.id c.args.marks.now c.requires.marked
           g.F.Field.ring g.EF.ExtensionField.basis s t c.loop-mark.table.items _ c.loop-mark.mark-index c.mark-item.result c.in_ok-made.made
           (h.grown.pool c.requires.pool) c.lower_mark.ensures.grown c.lower_mark.ensures.same_nodes h.same_nodes
           (omega (arith, c.loop-mark-test.true)) c.mark-item.is h.places c.in_ok-push.ensures.items h.made c.in_ok-made.ensures.made;

@@ -8,7 +8,7 @@ use Rattle.air_symbolic.proofs.pools.lower.ExprPool+ExtLeaf+F+EF.lower_into.Give
 -- what is marked so far is lowered in the base pool as it is now
 abbrev pub invariant-loop-mark : goal.invariant-loop-mark
 invariant-loop-mark g l = record {
-  same_nodes : l.self.1 ≡ l.initial.self.1;
+  same_nodes : l.self.nodes ≡ l.initial.self.nodes;
   grown : Grown ext_grows (ext_reads g.EF.ExtensionField.basis) l.initial.self l.self;
   places : length l.table.items ≡ l.mark-index;
   made : (i : ℕ) → i < l.mark-index → Marked l.marks i → LoweredAt l.self l.table.items i;

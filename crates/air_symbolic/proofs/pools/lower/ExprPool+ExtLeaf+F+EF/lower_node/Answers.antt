@@ -11,7 +11,7 @@ insert-requires g c =
     let lent = sym c.base_mut.ensures.value in
     record {
       pool = subst (λ (u : BaseNodes g.row.F.Denot). IsPool base_reads u) lent c.requires.pool.under;
-      fits = subst (λ (u : BaseNodes g.row.F.Denot). NodeFits base_leaves u.1 c.in-Ok.node) lent c.in-Ok.ensures.node.0;
+      fits = subst (λ (u : BaseNodes g.row.F.Denot). NodeFits base_leaves u.nodes c.in-Ok.node) lent c.in-Ok.ensures.node.0;
     }
 
 pub returns-in-Ok-clause-grown : goal.returns-in-Ok-clause-grown
@@ -20,7 +20,7 @@ returns-in-Ok-clause-grown g c =
 
 pub returns-in-Ok-clause-made : goal.returns-in-Ok-clause-made
 returns-in-Ok-clause-made g c =
-    let is = ap (λ (u : BaseNodes g.row.F.Denot). unfold_node (tree_of u.1) c.in-Ok.node) c.base_mut.ensures.value ∙ c.in-Ok.ensures.node.1 in
+    let is = ap (λ (u : BaseNodes g.row.F.Denot). unfold_node (tree_of u.nodes) c.in-Ok.node) c.base_mut.ensures.value ∙ c.in-Ok.ensures.node.1 in
     subst (λ t. IfOk c.insert.result (HasTree c.insert.new.self t)) is c.insert.ensures.made
 
 pub returns-in-Err-clause-grown : goal.returns-in-Err-clause-grown

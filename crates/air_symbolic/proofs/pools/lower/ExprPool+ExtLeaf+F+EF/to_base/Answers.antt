@@ -7,18 +7,18 @@ use Rattle.air_symbolic.proofs.pools.lower.ExprPool+ExtLeaf+F+EF.to_base.Goals a
 
 pub returns-clause-term : goal.returns-clause-term
 returns-clause-term g c =
-    lowered-has-term g.F.Field.ring g.EF.ExtensionField.basis c.args.self.now c.args.id c.lower.new.self.0 c.in_ok-base.base
+    lowered-has-term g.F.Field.ring g.EF.ExtensionField.basis c.args.self.now c.args.id c.lower.new.self.base c.in_ok-base.base
     c.requires.pool c.requires.here
     (λ h. let e = c.has_ext_only.ensures.1 h in let f = c.if-has_ext_only.false in absurd (cc))
     c.in_ok-base.ensures.made
 
 pub has_ext_only-requires-clause-marked : goal.has_ext_only-requires-clause-marked
 has_ext_only-requires-clause-marked g c =
-    subst (λ m. Reached (ext_reads g.EF.ExtensionField.basis c.args.self.now.0) c.args.self.now.1 (c.args.id ∷ []) m) (sym c.deref.ensures.value) c.in_ok-marks.ensures.marked
+    subst (λ m. Reached (ext_reads g.EF.ExtensionField.basis c.args.self.now.base) c.args.self.now.nodes (c.args.id ∷ []) m) (sym c.deref.ensures.value) c.in_ok-marks.ensures.marked
 
 pub lower-requires-clause-marked : goal.lower-requires-clause-marked
 lower-requires-clause-marked g c =
-    subst (λ m. Reached (ext_reads g.EF.ExtensionField.basis c.args.self.now.0) c.args.self.now.1 (c.args.id ∷ []) m) (sym c.deref-2.ensures.value) c.in_ok-marks.ensures.marked
+    subst (λ m. Reached (ext_reads g.EF.ExtensionField.basis c.args.self.now.base) c.args.self.now.nodes (c.args.id ∷ []) m) (sym c.deref-2.ensures.value) c.in_ok-marks.ensures.marked
 
 pub lower-requires-clause-base_only : goal.lower-requires-clause-base_only
 lower-requires-clause-base_only g c = λ h. let e = c.has_ext_only.ensures.1 h in let f = c.if-has_ext_only.false in absurd (cc)

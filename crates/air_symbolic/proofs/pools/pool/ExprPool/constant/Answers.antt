@@ -1,18 +1,18 @@
-use Rattle.std.proofs.Common.{reverse}
 use Rattle.air_symbolic.specs.laws.Pools.{Grown-trans}
-use Rattle.air_symbolic.proofs.Vectors.{Grown-under-seen}
+use Rattle.air_symbolic.proofs.Tables.{Grown-under-seen}
 use Rattle.air_symbolic.proofs.pools.pool.ExprPool.constant.Goals as goal
 
 pub returns-in_err-a-clause-grown : goal.returns-in_err-a-clause-grown
 returns-in_err-a-clause-grown g c =
-    Grown-under-seen g.A.F.Field.ring g.A.SymLeaf.reads g.A.SymLeaf.grows g.A.SymLeaf.no_under g.met.A.SymLeaf.leaf_laws c.args.self.now c.self.inside.under c.from_const.new.under (reverse c.self.inside.nodes) c.self.view_is c.from_const.ensures.grown
+    Grown-under-seen g.met.A.SymLeaf.leaf_laws c.args.self.now c.self.inside.under c.self.inside.nodes c.self.view_is c.from_const.new.under c.from_const.ensures.grown
 
 pub leaf-requires-clause-pool : goal.leaf-requires-clause-pool
 leaf-requires-clause-pool g c =
-    (Grown-under-seen g.A.F.Field.ring g.A.SymLeaf.reads g.A.SymLeaf.grows g.A.SymLeaf.no_under g.met.A.SymLeaf.leaf_laws c.args.self.now c.self.inside.under c.from_const.new.under (reverse c.self.inside.nodes) c.self.view_is c.from_const.ensures.grown).pool c.requires
+    (Grown-under-seen g.met.A.SymLeaf.leaf_laws c.args.self.now c.self.inside.under c.self.inside.nodes c.self.view_is c.from_const.new.under c.from_const.ensures.grown).pool c.requires
 
 pub returns-clause-grown : goal.returns-clause-grown
 returns-clause-grown g c =
-    Grown-trans g.A.F.Field.ring g.A.SymLeaf.reads g.A.SymLeaf.grows g.A.SymLeaf.no_under g.met.A.SymLeaf.leaf_laws c.args.self.now (c.from_const.new.under, reverse c.self.inside.nodes) c.leaf.new.self
-    (Grown-under-seen g.A.F.Field.ring g.A.SymLeaf.reads g.A.SymLeaf.grows g.A.SymLeaf.no_under g.met.A.SymLeaf.leaf_laws c.args.self.now c.self.inside.under c.from_const.new.under (reverse c.self.inside.nodes) c.self.view_is c.from_const.ensures.grown)
+    Grown-trans g.A.F.Field.ring g.A.SymLeaf.reads g.A.SymLeaf.grows g.A.SymLeaf.no_under g.met.A.SymLeaf.leaf_laws c.args.self.now
+    (record { base = c.from_const.new.under; nodes = c.self.inside.nodes }) c.leaf.new.self
+    (Grown-under-seen g.met.A.SymLeaf.leaf_laws c.args.self.now c.self.inside.under c.self.inside.nodes c.self.view_is c.from_const.new.under c.from_const.ensures.grown)
     c.leaf.ensures.grown

@@ -34,7 +34,7 @@ returns-then-is_empty g c =
 pub make_planned-requires-clause-planned : goal.make_planned-requires-clause-planned
 make_planned-requires-clause-planned g c =
     let a = c.args.self.now in
-    plan_of_places base_leaves a.pool.1 a.roots.items a.plan.numbers.items a.plan.steps.items a.plan.places.items a.planned
+    plan_of_places base_leaves a.pool.nodes a.roots.items a.plan.numbers.items a.plan.steps.items a.plan.places.items a.planned
 
 not_none : (n : ℕ) → false ≡ (n == 0) → 0 < n
 not_none zero e = cc
