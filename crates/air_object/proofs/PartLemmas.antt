@@ -126,7 +126,7 @@ module _ {F : Type 0} {order : ℕ} (modular : Modular F order) where
     abbrev more : GivenTrees F
     more = one_more (tree modular) given d
 
-    roots_more : (roots : Result (Vec ℕ Global) FlatError) (root : Result ℕ FlatError) → IfOk roots (λ v. AllIn p v.items) → IfOk root (λ i. i < length q.1)
+    roots_more : (roots : Result (Vec ℕ Global) FlatError) (root : Result ℕ FlatError) → IfOk roots (λ v. AllIn p v.items) → IfOk root (λ i. i < length q.nodes)
         → Gives (λ v. map (tree_at p) v.items) roots given → Gives (tree_at q) root (tree modular d)
         → IfOk (and_one (root_numbers roots) root) (AllIn q) × Gives (map (tree_at q)) (and_one (root_numbers roots) root) more
     roots_more (Ok v) (Ok i) here there first second =

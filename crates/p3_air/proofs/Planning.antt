@@ -1,10 +1,9 @@
 -- The plan of roots.
-use Rattle.std.specs.Prelude.{slice_get}
 use Rattle.std.specs.List.{AllZip, list_any}
-use Rattle.std.proofs.Common.{◌≡◌, ◌⊎◌, ◌≤◌, ◌||◌, ℕ, zero, suc, ◌<◌, List, [], ◌∷◌, length, get_or, All, Bool, true, false, eqb, Option, None, Some, inl, inr, refl, sym, subst, ap, ◌∙◌, arith, ⊎_elim}
+use Rattle.std.proofs.Common.{slice_get, ◌≡◌, ◌⊎◌, ◌≤◌, ◌||◌, ℕ, zero, suc, ◌+◌, ◌<◌, List, [], ◌∷◌, ◌++◌, length, get_or, All, Bool, true, false, eqb, Option, None, Some, inl, inr, refl, sym, subst, ap, ◌∙◌, arith, ⊎_elim}
 use Rattle.std.proofs.lemmas.List.Folds.{list_any_at}
 use Rattle.std.proofs.Math.ListN.{get_or-eq_default}
-use Rattle.std.proofs.lemmas.List.{get_or_default}
+use Rattle.std.proofs.lemmas.List.{get_or_default, get_or_append_left, get_or_push}
 use Rattle.air_symbolic.specs.Leaves.{Leaves}
 use Rattle.air_symbolic.specs.Nodes.{IsNode, OperandsBelow}
 use Rattle.air_symbolic.specs.Reach.{EachOperand, IsOperand, Marked, Reached, ReachedFrom, root, operand}
@@ -12,7 +11,7 @@ use Rattle.air_symbolic.specs.declared.pools.expr.SymbolicExpr.{SymbolicExpr}
 use Rattle.air_symbolic.specs.declared.pools.expr.SymbolicExpr.TheVariants as node
 use Rattle.p3_air.specs.declared.flat.step.Step.{Step}
 use Rattle.p3_air.specs.declared.flat.step.Step.TheVariants as step
-use Rattle.p3_air.specs.Plans.{number_at, IsPlaceOf, StepMakes, AreSteps, has_operand, some_has_operand, IsUsed, IsPlan, HavePlaces}
+use Rattle.p3_air.specs.Plans.{number_at, IsPlaceOf, StepMakes, MakesPlace, AreSteps, has_operand, some_has_operand, IsUsed, IsPlan, HavePlaces}
 
 -- operands below k
 pub each_below : {A : Type 0} (P Q : ℕ → Type 0) (k : ℕ) (n : SymbolicExpr A) → ((i : ℕ) → i < k → P i → Q i) → OperandsBelow k n → EachOperand P n → EachOperand Q n
@@ -63,6 +62,37 @@ step_placed P Q R (step.Mul p q) (node.Add x y d) f r h = absurd h
 step_placed P Q R (step.Mul p q) (node.Sub x y d) f r h = absurd h
 step_placed P Q R (step.Mul p q) (node.Neg x d) f r h = absurd h
 step_placed P Q R (step.Mul p q) (node.Mul x y d) f r h = (f p x r.0 h.0, f q y r.1 h.1)
+
+-- One step more makes the node of place k, whose operands stand before it.
+pub one_step_more : {A F : Type 0} (l : Leaves A F) (ns : List (SymbolicExpr A)) (numbers places : List ℕ) (k id : ℕ) (steps new : List Step) (s : Step) (n : SymbolicExpr A)
+    → new ≡ steps ++ s ∷ [] → length steps ≡ k → ((j : ℕ) → j < k → MakesPlace l ns numbers j (get_or steps j step.Leaf))
+    → k < length numbers → id ≡ get_or numbers k id → IsNode l ns id n
+    → ((m : SymbolicExpr A) → IsNode l ns (number_at numbers k) m → EachOperand (λ i. IsPlaceOf numbers k (get_or places i 0) i) m)
+    → StepMakes (λ p i. p ≡ get_or places i 0) s n → (j : ℕ) → j < k + 1 → MakesPlace l ns numbers j (get_or new j step.Leaf)
+one_step_more l ns numbers places k id steps new s n pushed long before in_numbers at is operands made j below =
+    subst (λ x. MakesPlace l ns numbers j x) (sym (ap (λ xs. get_or xs j step.Leaf) pushed))
+    (⊎_elim
+    (λ (lt : j < k).
+    subst (λ x. MakesPlace l ns numbers j x) (sym (get_or_append_left steps (s ∷ []) step.Leaf j (omega (arith, lt, long)))) (before j lt))
+    (λ (last : j ≡ k).
+    subst (λ x. MakesPlace l ns numbers j x) (sym (get_or_push steps s step.Leaf j (long ∙ sym last)))
+    (subst (λ i. MakesPlace l ns numbers i s) (sym last) makes))
+    (before_or_at j k below))
+  where
+    before_or_at : (j k : ℕ) → j < k + 1 → (j < k) ⊎ (j ≡ k)
+    before_or_at j k b = grind (arith, b)
+
+    number : number_at numbers k ≡ id
+    number = get_or_default numbers k 0 id in_numbers ∙ sym at
+
+    makes : MakesPlace l ns numbers k s
+    makes m m_is =
+        let one : Some n ≡ Some m = sym is.node ∙ ap (slice_get ns) (sym number) ∙ m_is.node in
+        let same : n ≡ m = cc in
+        subst (StepMakes (IsPlaceOf numbers k) s) same
+        (step_placed (λ p i. p ≡ get_or places i 0) (IsPlaceOf numbers k) (λ i. IsPlaceOf numbers k (get_or places i 0) i) s n
+        (λ p i r e. subst (λ q. IsPlaceOf numbers k q i) (sym e) r)
+        (operands n (subst (λ v. IsNode l ns v n) (sym number) is)) made)
 
 eqb_same : (i x : ℕ) → i ≡ x → eqb i x ≡ true
 eqb_same i x e = grind (arith, e)

@@ -23,7 +23,7 @@ returns-in-Some-clause-only_memory g c declared h =
 
 pub returns-in-Some-clause-refused : goal.returns-in-Some-clause-refused
 returns-in-Some-clause-refused g c =
-    let total = c.len-total.ensures ∙ ap (λ p. length p.1) c.into_base-pool.ensures.base in
+    let total = c.len-total.ensures ∙ ap (λ p. length p.nodes) c.into_base-pool.ensures.base in
     let first : Some c.in-Some.id ≡ first_past c.len-total.result c.args.recorded.base.items = rw c.deref.ensures.value at c.in-Some.ensures in
     (total, sym first ∙ ap Some (sym c.number.ensures))
 
