@@ -1,12 +1,11 @@
 -- The last nodes of a pool that grew by one.
-use Rattle.std.proofs.Common.{◌≡◌, ℕ, ◌+◌, ◌<◌, List, [], ◌∷◌, length, ap, ◌∙◌, arith}
+use Rattle.std.proofs.Common.{◌≡◌, ℕ, ◌+◌, ◌<◌, [], ◌∷◌, length, ap, ◌∙◌, arith}
 use Rattle.std.proofs.Math.ListN.{length-append}
 use Rattle.std.proofs.lemmas.List.Elements.{All-cons}
 use Rattle.air_symbolic.specs.BaseLeaves.{base_reads}
 use Rattle.air_symbolic.specs.ExtLeaves.{BaseNodes}
 use Rattle.air_symbolic.specs.Pools.{Pool, Grown, IsPool, size}
 use Rattle.air_symbolic.specs.declared.leaves.base_leaf.BaseLeaf.{BaseLeaf}
-use Rattle.air_symbolic.specs.declared.pools.expr.SymbolicExpr.{SymbolicExpr}
 use Rattle.p3_air.specs.FlatAirs.{RootsIn}
 
 module _ {F : Type 0} {grows : Unit {0} → Unit {0} → Type 0} {p q : Pool (Unit {0}) (BaseLeaf F)} (g : Grown grows base_reads p q) where

@@ -7,7 +7,6 @@ use Rattle.air_infix.specs.Infix.{shown, infix_text, constant_text}
 use Rattle.air_infix.specs.Lines.{listed_name}
 use Rattle.air_infix.specs.declared.binding.Binding.TheVariants.{Loose}
 
-
 -- `TEXT = V`: number i as it is shown, and its value
 abbrev pub equation : {F : Type 0} {p : ℕ} → Modular F p → BaseNodes F → List (Option ℕ) → (ℕ → F) → ℕ → List ℕ
 equation m pool names at i = infix_text m Loose (shown (listed_name names) pool.nodes i) ++ (codes " = " ++ constant_text m (at i))

@@ -11,7 +11,6 @@ use Rattle.air_explain.specs.Equations.{equation, equation_lines}
 use Rattle.air_explain.specs.Reading.{Reads}
 use Rattle.air_explain.specs.Values.{value_at}
 
-
 -- the line of a number and its value, and one of what it reads and their values, if there is such
 abbrev pub explained_lines : {F : Type 0} {p : ℕ} → Modular F p → BaseNodes F → List (Option ℕ) → (ℕ → F) → ℕ → List ℕ → List (List ℕ)
 explained_lines m pool names at root reads =

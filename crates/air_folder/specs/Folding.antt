@@ -21,7 +21,6 @@ use Rattle.air_folder.specs.FolderRow.{FolderGrew}
 use Rattle.air_folder.specs.declared.folder.builder.ConstraintFolder.{ConstraintFolder}
 use Rattle.air_folder.specs.declared.folding.Folded.{Folded}
 
-
 -- the values of the recorded base constraints at the leaves, in order
 abbrev pub base_values : {F E : Type 0} → AlgebraOver F E → (Leaf → E) → Recorded F E → List E
 base_values a s recorded = map (value a s) (terms_of base_reads recorded.pool.base recorded.base.items)

@@ -1,5 +1,5 @@
 -- Expressions in infix notation.
-use Rattle.std.specs.Prelude.{ℕ, ◌-◌, ◌*◌, Bool, true, false, nat_lt, ◌==◌, if◌then◌else◌, List, [], ◌∷◌, ◌++◌, length, Option, None, Some, codes, decimal, slice_index_or}
+use Rattle.std.specs.Prelude.{ℕ, ◌-◌, ◌*◌, Bool, true, false, nat_lt, ◌==◌, if◌then◌else◌, List, [], ◌++◌, Option, None, Some, codes, decimal, slice_index_or}
 use Rattle.air_field.specs.Modular.{Modular}
 use Rattle.air_core.specs.declared.variables.entry.BaseEntry.{BaseEntry}
 use Rattle.air_core.specs.declared.variables.entry.BaseEntry.TheVariants.{Preprocessed, Main, Periodic, Public}

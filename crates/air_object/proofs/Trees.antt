@@ -8,8 +8,6 @@ use Rattle.air_symbolic.specs.laws.BaseLeaves.{base_leaf_laws}
 use Rattle.air_symbolic.specs.ExtLeaves.{BaseNodes}
 use Rattle.air_symbolic.specs.Pools.{Grown, tree_at}
 use Rattle.air_symbolic.specs.laws.Pools.{Grown-trans, here-kept, tree-kept}
-use Rattle.air_symbolic.specs.declared.leaves.base_leaf.BaseLeaf.{BaseLeaf}
-use Rattle.air_symbolic.specs.declared.pools.expr.SymbolicExpr.{SymbolicExpr}
 use Rattle.air_wire.specs.BaseLeaves.{base_kind, base_seen}
 use Rattle.air_wire.specs.laws.BaseLeaves.{base_kind_laws, over_same}
 use Rattle.air_wire.specs.NodeLists.{IsList, HasFault}

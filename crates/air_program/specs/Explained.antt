@@ -23,7 +23,6 @@ use Rattle.air_program.specs.FlatAnswer.{flat_instance, AnswersInput}
 use Rattle.air_program.specs.Texts.{Found, place_of, IsFailureLine, count_lines, findings_status}
 use Rattle.air_infix.specs.Lines.{lines_text}
 
-
 -- a failure: its row, its constraint and the label's bytes
 abbrev pub Failure : Type 0
 Failure = ℕ × ℕ × Option (List ℕ)

@@ -9,7 +9,6 @@ use Rattle.air_symbolic.specs.PoolRefusals.{AnswersDegree}
 use Rattle.air_symbolic.specs.Weights.{SomeOverflows}
 use Rattle.air_symbolic.specs.Leaves.{Leaves}
 use Rattle.air_symbolic.specs.Pools.{Pool, term_at}
-use Rattle.air_symbolic.specs.declared.pools.expr.SymbolicExpr.{SymbolicExpr}
 use Rattle.air_field.specs.Ring.{CommRing, AlgebraOver, itself}
 use Rattle.air_builder.specs.Declaration.{Declaration}
 use Rattle.air_core.specs.Errors.{air_error}

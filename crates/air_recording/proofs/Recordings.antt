@@ -6,7 +6,6 @@ use Rattle.air_field.specs.Term.{Term}
 use Rattle.air_field.specs.laws.Polynomial.{Same-poly, polynomial-lists_of_one}
 use Rattle.air_symbolic.specs.Leaves.{Leaves}
 use Rattle.air_symbolic.specs.Pools.{Pool, PoolMeans, term_at}
-use Rattle.air_symbolic.specs.declared.pools.expr.SymbolicExpr.{SymbolicExpr}
 use Rattle.air_recording.specs.Recorded.{EachRecords, terms_of}
 
 module _ {U A F : Type 0} (r : CommRing F) (reads : U → Leaves A F) (pool : Pool U A) where

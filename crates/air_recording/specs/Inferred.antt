@@ -18,7 +18,6 @@ use Rattle.air_recording.specs.declared.layouts.air_layout.AirLayout.{AirLayout}
 use Rattle.air_recording.specs.Recorded.{EachRecords, RecordRefuses, RecordingAnswers, terms_of}
 use Rattle.air_recording.specs.declared.symbolic.record.Recorded.{Recorded}
 
-
 -- the lengths of periodic columns
 abbrev pub periods_of : {T A : Type 0} → List (Vec T A) → List ℕ
 periods_of columns = map (λ c. length c.items) columns

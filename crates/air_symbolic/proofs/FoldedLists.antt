@@ -11,7 +11,6 @@ use Rattle.air_symbolic.specs.laws.Pools.{Grown-refl, Grown-trans, here-kept, tr
 use Rattle.air_symbolic.specs.laws.Numbers.{tree_of-whole, term_of-kept}
 use Rattle.air_symbolic.specs.Folds.{IsSimplified, sum_fold, product_fold, IsSum, IsProduct, NeedsNode}
 use Rattle.air_symbolic.specs.FoldedLists.{JoinedFrom, IsJoined, SumStep, ProductStep, Overflows, OverflowsFrom, ProductOverflows, IsSumOfAll, IsProductOfAll}
-use Rattle.air_symbolic.specs.declared.pools.expr.SymbolicExpr.{SymbolicExpr}
 use Rattle.air_symbolic.specs.declared.pools.fold.Fold.{Fold}
 use Rattle.air_symbolic.specs.declared.pools.fold.Fold.TheVariants.{Constant, Left, Right, Negated}
 

@@ -1,5 +1,5 @@
 -- A folded operation stands for its term.
-use Rattle.std.proofs.Common.{Result, IfOk, Decides, ℕ, ◌<◌, List, length, ◌≡◌, Bool, true, false, cond, refl, sym, ap, ap₂, subst, ◌∙◌, arith}
+use Rattle.std.proofs.Common.{Result, IfOk, Decides, ℕ, ◌<◌, length, ◌≡◌, Bool, true, false, cond, refl, sym, ap, ap₂, subst, ◌∙◌, arith}
 use Rattle.std.proofs.lemmas.Result.{IfOk-weaker}
 use Rattle.std.specs.Prelude.{Option, None, Some}
 use Rattle.air_field.specs.Ring.{CommRing, minus}
@@ -12,7 +12,6 @@ use Rattle.air_symbolic.specs.Trees.{Tree, nothing, leaf_tree, add_tree, sub_tre
 use Rattle.air_symbolic.specs.laws.Numbers.{term_of-kept, tree_of-whole}
 use Rattle.air_symbolic.specs.Pools.{Pool, IsPool, Grown, tree_at, term_at, constant_at, IsConst, HasTree, HasConst}
 use Rattle.air_symbolic.specs.Folds.{zero_fold, sum_fold, difference_fold, product_fold, negative_fold, IsSimplified, HasFold, IsOperation}
-use Rattle.air_symbolic.specs.declared.pools.expr.SymbolicExpr.{SymbolicExpr}
 use Rattle.air_symbolic.specs.declared.pools.fold.Fold.{Fold}
 use Rattle.air_symbolic.specs.declared.pools.fold.Fold.TheVariants.{Constant, Left, Right, Negated}
 

@@ -1,5 +1,5 @@
 -- What a folded operation makes, in the words of rings that make their elements.
-use Rattle.std.proofs.Common.{Result, Ok, Err, IfOk, IfErr, ◌≡◌, ℕ, ◌≤◌, ◌+◌, ◌^◌, List, refl, sym, ap, subst, ◌∙◌, arith}
+use Rattle.std.proofs.Common.{Result, Ok, Err, IfOk, IfErr, ◌≡◌, ℕ, ◌≤◌, ◌+◌, ◌^◌, refl, sym, ap, subst, ◌∙◌, arith}
 use Rattle.air_field.specs.declared.errors.RingError.{RingError}
 use Rattle.air_field.specs.declared.errors.RingError.TheVariants.{Memory, DegreeOverflow}
 use Rattle.air_field.specs.Ring.{CommRing}
@@ -18,7 +18,6 @@ use Rattle.air_symbolic.specs.PoolRefusals.{PoolRefuses}
 use Rattle.air_symbolic.specs.BaseLeaves.{base_reads}
 use Rattle.air_symbolic.specs.ExtLeaves.{ext_reads}
 use Rattle.air_symbolic.specs.ExtPool.{ExtNodes, BaseMeans}
-use Rattle.air_symbolic.specs.declared.pools.expr.SymbolicExpr.{SymbolicExpr}
 use Rattle.std.specs.Prelude.{Option}
 use Rattle.air_symbolic.specs.declared.pools.fold.Fold.{Fold}
 use Rattle.air_symbolic.specs.declared.leaves.ext_leaf.ExtLeaf.TheVariants.{Base}

@@ -5,7 +5,7 @@ use Rattle.std.specs.Prelude.{Some, slice_get}
 use Rattle.air_field.specs.Ring.{CommRing}
 use Rattle.air_symbolic.specs.Leaves.{Leaves, LeafLaws}
 use Rattle.air_symbolic.specs.Nodes.{unfold_node, tree_of, NodeFits, WellFormed, IsNode}
-use Rattle.air_symbolic.specs.Pools.{Pool, on_base, Grown, HasTree}
+use Rattle.air_symbolic.specs.Pools.{Pool, Grown, HasTree}
 use Rattle.air_symbolic.specs.laws.Pools.{Grown-under, Grown-push}
 use Rattle.air_symbolic.specs.laws.Numbers.{tree_of-newest}
 use Rattle.air_symbolic.specs.laws.Sharing.{node_at-is}

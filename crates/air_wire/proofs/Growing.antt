@@ -4,7 +4,6 @@ use Rattle.air_field.specs.Ring.{CommRing}
 use Rattle.air_symbolic.specs.Leaves.{Leaves, LeafLaws}
 use Rattle.air_symbolic.specs.Pools.{Pool, on_base, Grown}
 use Rattle.air_symbolic.specs.laws.Pools.{Grown-under}
-use Rattle.air_symbolic.specs.declared.pools.expr.SymbolicExpr.{SymbolicExpr}
 
 -- what lies under the pool was lent, and has grown
 pub lent_grown : {U A F : Type 0} (r : CommRing F) (reads : U → Leaves A F) (grows : U → U → Type 0) (empty : U) → LeafLaws r reads grows empty → (p : Pool U A) (lent w : U) → lent ≡ p.base → grows lent w → Grown grows reads p (on_base p w)

@@ -1,5 +1,5 @@
 -- What a pool keeps as it grows.
-use Rattle.std.proofs.Common.{◌≡◌, ℕ, ◌<◌, List, [], ◌++◌, length, refl, sym, ap, subst, ◌∙◌, ◌∷◌, arith, append_assoc, append-nil}
+use Rattle.std.proofs.Common.{◌≡◌, ℕ, ◌<◌, [], ◌++◌, length, refl, sym, ap, subst, ◌∙◌, ◌∷◌, arith, append_assoc, append-nil}
 use Rattle.std.specs.Prelude.{Some, slice_get}
 use Rattle.std.proofs.Math.ListN.{length-append}
 use Rattle.air_field.specs.Ring.{CommRing}

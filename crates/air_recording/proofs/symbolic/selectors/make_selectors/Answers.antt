@@ -1,5 +1,5 @@
 use Rattle.air_field.specs.Term.{first_row, last_row, leaf_term}
-use Rattle.std.proofs.Common.{ℕ, List, ◌∙◌}
+use Rattle.std.proofs.Common.{ℕ, ◌∙◌}
 use Rattle.air_field.specs.Ring.{CommRing}
 use Rattle.air_symbolic.specs.Trees.{Tree}
 use Rattle.air_symbolic.specs.Pools.{Pool, HasTree, Grown}
@@ -8,7 +8,6 @@ use Rattle.air_symbolic.specs.laws.BaseLeaves.{base_leaf_laws}
 use Rattle.air_symbolic.specs.laws.Pools.{here-kept, tree-kept}
 use Rattle.air_symbolic.specs.laws.BasePool.{base_pool_laws}
 use Rattle.air_symbolic.specs.declared.leaves.base_leaf.BaseLeaf.{BaseLeaf}
-use Rattle.air_symbolic.specs.declared.pools.expr.SymbolicExpr.{SymbolicExpr}
 use Rattle.air_recording.proofs.symbolic.selectors.make_selectors.Goals as goal
 
 -- a number keeps its tree
