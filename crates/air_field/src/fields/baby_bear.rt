@@ -18,6 +18,13 @@ impl Modulus for BabyBearModulus {
 
     const NAME: &'static str = "BabyBear";
 
+    // the factor is 2^93 over the modulus, rounded up: of products it makes the quotient without a mask
+    fn product(a: u32, b: u32) -> u32 {
+        let n = a as u64 * b as u64;
+        let quotient = ((n as u128 * 4919131750545854593) >> 93) as u64;
+        (n - quotient * 2013265921) as u32
+    }
+
     ghost is_prime = { baby_bear_prime };
 
     ghost small = { lit< tt };

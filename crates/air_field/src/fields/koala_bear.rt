@@ -18,6 +18,13 @@ impl Modulus for KoalaBearModulus {
 
     const NAME: &'static str = "KoalaBear";
 
+    // the factor is 2^93 over the modulus, rounded up: of products it makes the quotient without a mask
+    fn product(a: u32, b: u32) -> u32 {
+        let n = a as u64 * b as u64;
+        let quotient = ((n as u128 * 4647998504580026394) >> 93) as u64;
+        (n - quotient * 2130706433) as u32
+    }
+
     ghost is_prime = { koala_bear_prime };
 
     ghost small = { lit< tt };

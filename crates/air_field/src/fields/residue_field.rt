@@ -49,7 +49,17 @@ impl<M: Modulus> Field for Residue<M> {
     }
 
     fn sub(self, other: Self) -> Self {
-        Residue::reduced_once(self.residue + (M::P - other.residue))
+        // both wrap where the other is greater, so that LLVM needs no branch
+        let gap = self.residue.wrapping_sub(other.residue);
+        let residue = if self.residue < other.residue {
+            gap.wrapping_add(M::P)
+        } else {
+            gap
+        };
+        Residue {
+            residue,
+            modulus: PhantomData,
+        }
     }
 
     fn neg(self) -> Self {
