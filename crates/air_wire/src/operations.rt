@@ -1,11 +1,12 @@
 //! The operations of a node: on two operands, or on one that stands for both.
-ghost use Rattle.std.specs.Prelude.{◌≡◌};
+ghost use Rattle.std.specs.Prelude.{◌≡◌, Some, IfSome, codes};
+ghost use Rattle.serde_json.specs.Find.{get};
 ghost use Rattle.serde_json.specs.View.{view};
 ghost use Rattle.air_wire.specs.Parts.{find_name};
 ghost use Rattle.air_wire.specs.Nodes.{operations, second_of, operands_of, joined_degree};
 
 use crate::errors::FlatError;
-use crate::parts::whole_at;
+use crate::parts::{whole, whole_at};
 use serde_json::Value;
 
 #[derive(Clone, Copy)]
@@ -42,11 +43,37 @@ fn second_of(operation: Operation, contents: &Value) -> Option<usize>
     }
 }
 
+// The members of an operation on two operands, where they come first, as in what is written: a search for each would
+// compare its name with those before it too.
+fn written_members(contents: &Value) -> Option<(&Value, &Value, &Value)>
+    ensures degree { IfSome result (λ m. get (codes "degree_multiple") (view contents.now)
+        ≡ Some (view m.0.now)) }
+    ensures x { IfSome result (λ m. get (codes "x") (view contents.now) ≡ Some (view m.1.now)) }
+    ensures y { IfSome result (λ m. get (codes "y") (view contents.now) ≡ Some (view m.2.now)) }
+{
+    let mut members = contents.as_object()?.iter();
+    let (first, degree) = members.next()?;
+    let (second, x) = members.next()?;
+    let (third, y) = members.next()?;
+    if first.as_str() == "degree_multiple" && second.as_str() == "x" && third.as_str() == "y" {
+        Some((degree, x, y))
+    } else {
+        None
+    }
+}
+
 /// The stated degree and the operands' places.
 #[tactic(auto, unfolding(crate::specs::Nodes::operands_of))]
 pub(crate) fn operands_of(operation: Operation, contents: &Value) -> Option<(usize, usize, usize)>
     ensures { result ≡ operands_of operation (view contents.now) }
 {
+    if let Some((degree, x, y)) = written_members(contents) {
+        let second = match operation {
+            Operation::Neg => x,
+            _ => y,
+        };
+        return Some((whole(degree)?, whole(x)?, whole(second)?));
+    }
     let degree = whole_at(contents, "degree_multiple")?;
     let x = whole_at(contents, "x")?;
     let y = second_of(operation, contents)?;
