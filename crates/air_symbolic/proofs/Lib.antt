@@ -1,5 +1,6 @@
 pub mod Tables
 pub mod Pushed
+pub mod StatedDegrees
 pub mod Making
 pub mod Folding
 pub mod FoldedLists

@@ -11,11 +11,9 @@ use Rattle.std.proofs.lemmas.Cmp.{tied_itself, tied_back}
 use Rattle.std.proofs.lemmas.Bool.{cases_Bool}
 use Rattle.std.specs.BTreeMap.{BTreeMap, get, Updates}
 use Rattle.air_symbolic.specs.laws.Numbers.{at_pushed}
-use Rattle.air_symbolic.specs.Numbering.{opposite, numbers_by, Entered, FindsNumbers, AreNumbered}
+use Rattle.air_symbolic.specs.Numbering.{IsNowhere, opposite, numbers_by, Entered, FindsNumbers, AreNumbered}
 use Rattle.air_symbolic.specs.declared.pools.expr.SymbolicExpr.{SymbolicExpr}
 use Rattle.air_symbolic.specs.declared.pools.expr.SymbolicExpr.TheVariants.{Leaf, Add, Sub, Neg, Mul}
-use Rattle.air_symbolic.specs.declared.pools.keys.Operands.{Operands}
-use Rattle.air_symbolic.specs.declared.pools.keys.Operand.{Operand}
 
 module _ {N : Type 0} where
   kept_place : (xs : List N) (x k : N) (i : ℕ) → slice_get xs i ≡ Some k → slice_get (xs ++ x ∷ []) i ≡ Some k
@@ -27,44 +25,54 @@ module _ {N : Type 0} where
   last_place [] x = refl
   last_place (y ∷ xs) x = last_place xs x
 
-module _ {K N : Type 0} (node_of : K → N) (one : (k l : K) → node_of k ≡ node_of l → k ≡ l) where
+module _ {K N : Type 0} (node_of : K → ℕ → N) where
   -- a node of this kind, which was not there
-  pub FindsNumbers-push : (nodes : List N) (old new : K → Option ℕ) (key : K) → ((i : ℕ) → slice_get nodes i ≢ Some (node_of key)) → FindsNumbers node_of nodes old → Entered old new key (length nodes) → FindsNumbers node_of (nodes ++ node_of key ∷ []) new
-  FindsNumbers-push nodes old new key absent finds entered k i =
+  pub FindsNumbers-push : ((k l : K) (d e : ℕ) → node_of k d ≡ node_of l e → k ≡ l) → (nodes : List N) (old new : K → Option ℕ) (key : K) (stated : ℕ) (node : N) (number : ℕ) → node ≡ node_of key stated → number ≡ length nodes → ((i d : ℕ) → slice_get nodes i ≢ Some (node_of key d)) → FindsNumbers node_of nodes old → Entered old new key number → FindsNumbers node_of (nodes ++ node ∷ []) new
+  FindsNumbers-push one nodes old new key stated node number is count absent finds entered k i =
       ⊎_elim
-      (λ (h : (k ≡ key) × (new k ≡ Some (length nodes))). (
-        λ e. let at : length nodes ≡ i = number-is (sym h.1 ∙ e) in subst (λ j. slice_get (nodes ++ node_of key ∷ []) j ≡ Some (node_of k)) at (last_place nodes (node_of key) ∙ ap (λ l. Some (node_of l)) (sym h.0)),
+      (λ (h : (k ≡ key) × (new k ≡ Some number)). (
+        λ e. let at : length nodes ≡ i = number-is (ap (λ (j : ℕ). Some j) (sym count) ∙ sym h.1 ∙ e) in (
+          stated,
+          subst (λ j. slice_get (nodes ++ node ∷ []) j ≡ Some (node_of k stated)) at (last_place nodes node ∙ ap (λ (n : N). Some n) (is ∙ ap (λ l. node_of l stated) (sym h.0))),
+        ),
         λ e. ⊎_elim
-            (λ (q : slice_get nodes i ≡ Some (node_of k)). absurd (absent i (q ∙ ap (λ l. Some (node_of l)) h.0)))
-            (λ (q : (i ≡ length nodes) × (node_of key ≡ node_of k)). h.1 ∙ ap (λ (j : ℕ). Some j) (sym q.0))
-            (at_pushed nodes (node_of key) (node_of k) i e),
+            (λ (q : slice_get nodes i ≡ Some (node_of k e.0)). absurd (absent i e.0 (q ∙ ap (λ l. Some (node_of l e.0)) h.0)))
+            (λ (q : (i ≡ length nodes) × (node ≡ node_of k e.0)). h.1 ∙ ap (λ (j : ℕ). Some j) (count ∙ sym q.0))
+            (at_pushed nodes node (node_of k e.0) i e.1),
       ))
       (λ (h : (k ≢ key) × (new k ≡ old k)). (
-        λ e. kept_place nodes (node_of key) (node_of k) i ((finds k i).0 (sym h.1 ∙ e)),
+        λ e. let before = (finds k i).0 (sym h.1 ∙ e) in (before.0, kept_place nodes node (node_of k before.0) i before.1),
         λ e. ⊎_elim
-            (λ (q : slice_get nodes i ≡ Some (node_of k)). h.1 ∙ (finds k i).1 q)
-            (λ (q : (i ≡ length nodes) × (node_of key ≡ node_of k)). absurd (h.0 (one k key (sym q.1))))
-            (at_pushed nodes (node_of key) (node_of k) i e),
+            (λ (q : slice_get nodes i ≡ Some (node_of k e.0)). h.1 ∙ (finds k i).1 (e.0, q))
+            (λ (q : (i ≡ length nodes) × (node ≡ node_of k e.0)). absurd (h.0 (one k key e.0 stated (sym q.1 ∙ is))))
+            (at_pushed nodes node (node_of k e.0) i e.1),
       ))
       (entered k)
     where
       number-is : {m n : ℕ} → Some m ≡ Some n → m ≡ n
       number-is e = cc
 
-module _ {K N : Type 0} (node_of : K → N) where
+  -- a table without keys
+  pub FindsNumbers-none : (table : K → Option ℕ) → ((k : K) → table k ≡ None) → FindsNumbers node_of [] table
+  FindsNumbers-none table none k i = (λ e. absurd (let n = none k in cc), λ e. absurd (let n = e.1 in cc))
+
   -- a node of another kind
-  pub FindsNumbers-other : (nodes : List N) (table : K → Option ℕ) (n : N) → ((k : K) → n ≢ node_of k) → FindsNumbers node_of nodes table → FindsNumbers node_of (nodes ++ n ∷ []) table
+  pub FindsNumbers-other : (nodes : List N) (table : K → Option ℕ) (n : N) → ((k : K) (d : ℕ) → n ≢ node_of k d) → FindsNumbers node_of nodes table → FindsNumbers node_of (nodes ++ n ∷ []) table
   FindsNumbers-other nodes table n other finds k i = (
-    λ e. kept_place nodes n (node_of k) i ((finds k i).0 e),
+    λ e. let before = (finds k i).0 e in (before.0, kept_place nodes n (node_of k before.0) i before.1),
     λ e. ⊎_elim
-        (λ (q : slice_get nodes i ≡ Some (node_of k)). (finds k i).1 q)
-        (λ (q : (i ≡ length nodes) × (n ≡ node_of k)). absurd (other k q.1))
-        (at_pushed nodes n (node_of k) i e),
+        (λ (q : slice_get nodes i ≡ Some (node_of k e.0)). (finds k i).1 (e.0, q))
+        (λ (q : (i ≡ length nodes) × (n ≡ node_of k e.0)). absurd (other k e.0 q.1))
+        (at_pushed nodes n (node_of k e.0) i e.1),
   )
 
+  -- a table that answers as before
+  pub FindsNumbers-same : (nodes : List N) (old new : K → Option ℕ) → ((k : K) → new k ≡ old k) → FindsNumbers node_of nodes old → FindsNumbers node_of nodes new
+  FindsNumbers-same nodes old new same finds k i = (λ e. (finds k i).0 (sym (same k) ∙ e), λ e. same k ∙ (finds k i).1 e)
+
   -- what the table answers for a key is its node's number, or that it is nowhere
-  pub FindsNumbers-find : (nodes : List N) (table : K → Option ℕ) (k : K) (answer : Option ℕ) → FindsNumbers node_of nodes table → answer ≡ table k → MatchOption answer ((i : ℕ) → slice_get nodes i ≢ Some (node_of k)) (λ i. slice_get nodes i ≡ Some (node_of k))
-  FindsNumbers-find nodes table k None finds e = λ i h. absurd (let known = (finds k i).1 h in cc)
+  pub FindsNumbers-find : (nodes : List N) (table : K → Option ℕ) (k : K) (answer : Option ℕ) → FindsNumbers node_of nodes table → answer ≡ table k → MatchOption answer ((i d : ℕ) → slice_get nodes i ≢ Some (node_of k d)) (λ i. (d : ℕ) × (slice_get nodes i ≡ Some (node_of k d)))
+  FindsNumbers-find nodes table k None finds e = λ i d h. absurd (let known = (finds k i).1 (d, h) in cc)
   FindsNumbers-find nodes table k (Some i) finds e = (finds k i).0 (sym e)
 
 module _ {K : Type 0} (cmp : K → K → Ordering) (total : IsTotalOrder cmp) where
@@ -84,96 +92,69 @@ module _ {K : Type 0} (cmp : K → K → Ordering) (total : IsTotalOrder cmp) wh
       ))
       (cases_Bool (is_eq (opposite cmp a b)))
 
-abbrev make-operands : ℕ → ℕ → ℕ → Operands
-make-operands x y d = record { x = x; y = y; degree_multiple = d }
+same-operands : (a b : ℕ × ℕ) → a.0 ≡ b.0 → a.1 ≡ b.1 → a ≡ b
+same-operands (a, b) (c, d) p q = cc
 
-abbrev make-operand : ℕ → ℕ → Operand
-make-operand x d = record { x = x; degree_multiple = d }
-
-same-operands : (a b : Operands) → a.x ≡ b.x → a.y ≡ b.y → a.degree_multiple ≡ b.degree_multiple → a ≡ b
-same-operands a b p q r = let e : make-operands a.x a.y a.degree_multiple ≡ make-operands b.x b.y b.degree_multiple = cc in e
-
-same-operand : (a b : Operand) → a.x ≡ b.x → a.degree_multiple ≡ b.degree_multiple → a ≡ b
-same-operand a b p q = let e : make-operand a.x a.degree_multiple ≡ make-operand b.x b.degree_multiple = cc in e
-
--- a node more is entered in the table of its kind, and every other table finds what it found
-module _ {A : Type 0} (nodes : List (SymbolicExpr A)) (node : SymbolicExpr A) (absent : (i : ℕ) → slice_get nodes i ≢ Some node) {leaf : A → Option ℕ} {sum difference : Operands → Option ℕ} {negative : Operand → Option ℕ} {product : Operands → Option ℕ} (old : AreNumbered nodes leaf sum difference negative product) where
-  not-there : (n : SymbolicExpr A) → node ≡ n → (i : ℕ) → slice_get nodes i ≢ Some n
-  not-there n is i e = absent i (e ∙ ap (λ (m : SymbolicExpr A). Some m) (sym is))
-
-  leaves-kept : ((k : A) → node ≢ Leaf k) → FindsNumbers Leaf (nodes ++ node ∷ []) leaf
-  leaves-kept other = FindsNumbers-other Leaf nodes leaf node other old.leaves
-
-  sums-kept : ((k : Operands) → node ≢ Add k.x k.y k.degree_multiple) → FindsNumbers (λ k. Add k.x k.y k.degree_multiple) (nodes ++ node ∷ []) sum
-  sums-kept other = FindsNumbers-other (λ k. Add k.x k.y k.degree_multiple) nodes sum node other old.sums
-
-  differences-kept : ((k : Operands) → node ≢ Sub k.x k.y k.degree_multiple) → FindsNumbers (λ k. Sub k.x k.y k.degree_multiple) (nodes ++ node ∷ []) difference
-  differences-kept other = FindsNumbers-other (λ k. Sub k.x k.y k.degree_multiple) nodes difference node other old.differences
-
-  negatives-kept : ((k : Operand) → node ≢ Neg k.x k.degree_multiple) → FindsNumbers (λ k. Neg k.x k.degree_multiple) (nodes ++ node ∷ []) negative
-  negatives-kept other = FindsNumbers-other (λ k. Neg k.x k.degree_multiple) nodes negative node other old.negatives
-
-  products-kept : ((k : Operands) → node ≢ Mul k.x k.y k.degree_multiple) → FindsNumbers (λ k. Mul k.x k.y k.degree_multiple) (nodes ++ node ∷ []) product
-  products-kept other = FindsNumbers-other (λ k. Mul k.x k.y k.degree_multiple) nodes product node other old.products
-
-  numbered-leaf : (new : A → Option ℕ) (k : A) → node ≡ Leaf k → Entered leaf new k (length nodes) → AreNumbered (nodes ++ node ∷ []) new sum difference negative product
-  numbered-leaf new k is entered = record {
-    leaves = subst (λ m. FindsNumbers Leaf (nodes ++ m ∷ []) new) (sym is) (FindsNumbers-push Leaf (λ a b e. cc) nodes leaf new k (not-there (Leaf k) is) old.leaves entered);
-    sums = sums-kept (λ l e. cc);
-    differences = differences-kept (λ l e. cc);
-    negatives = negatives-kept (λ l e. cc);
-    products = products-kept (λ l e. cc);
+-- A node in the table of its kind: every other table finds what it found.
+module _ {A : Type 0} {leaf : A → Option ℕ} {sum difference : ℕ × ℕ → Option ℕ} {negative : ℕ → Option ℕ} {product : ℕ × ℕ → Option ℕ} (node : SymbolicExpr A) (number : ℕ) where
+  pub enters-leaf : {new : A → Option ℕ} (k : A) → node ≡ Leaf k → Entered leaf new k number → (nodes : List (SymbolicExpr A)) → number ≡ length nodes → IsNowhere nodes node → AreNumbered nodes leaf sum difference negative product → AreNumbered (nodes ++ node ∷ []) new sum difference negative product
+  enters-leaf {new = new} k is entered nodes count absent old = record {
+    leaves = FindsNumbers-push (λ a _. Leaf a) (λ a b d e h. cc) nodes leaf new k 0 node number is count (subst (λ n. IsNowhere nodes n) is absent) old.leaves entered;
+    sums = FindsNumbers-other (λ k. Add k.0 k.1) nodes sum node (λ l e h. cc) old.sums;
+    differences = FindsNumbers-other (λ k. Sub k.0 k.1) nodes difference node (λ l e h. cc) old.differences;
+    negatives = FindsNumbers-other Neg nodes negative node (λ l e h. cc) old.negatives;
+    products = FindsNumbers-other (λ k. Mul k.0 k.1) nodes product node (λ l e h. cc) old.products;
   }
 
-  numbered-sum : (new : Operands → Option ℕ) (k : Operands) → node ≡ Add k.x k.y k.degree_multiple → Entered sum new k (length nodes) → AreNumbered (nodes ++ node ∷ []) leaf new difference negative product
-  numbered-sum new k is entered = record {
-    leaves = leaves-kept (λ l e. cc);
-    sums = subst (λ m. FindsNumbers (λ l. Add l.x l.y l.degree_multiple) (nodes ++ m ∷ []) new) (sym is) (FindsNumbers-push (λ l. Add l.x l.y l.degree_multiple) (λ a b e. same-operands a b (cc) (cc) (cc)) nodes sum new k (not-there (Add k.x k.y k.degree_multiple) is) old.sums entered);
-    differences = differences-kept (λ l e. cc);
-    negatives = negatives-kept (λ l e. cc);
-    products = products-kept (λ l e. cc);
+  pub enters-sum : {new : ℕ × ℕ → Option ℕ} (k : ℕ × ℕ) (d : ℕ) → node ≡ Add k.0 k.1 d → Entered sum new k number → (nodes : List (SymbolicExpr A)) → number ≡ length nodes → IsNowhere nodes node → AreNumbered nodes leaf sum difference negative product → AreNumbered (nodes ++ node ∷ []) leaf new difference negative product
+  enters-sum {new = new} k d is entered nodes count absent old = record {
+    leaves = FindsNumbers-other (λ a _. Leaf a) nodes leaf node (λ l e h. cc) old.leaves;
+    sums = FindsNumbers-push (λ k. Add k.0 k.1) (λ a b d e h. same-operands a b (cc) (cc)) nodes sum new k d node number is count (subst (λ n. IsNowhere nodes n) is absent) old.sums entered;
+    differences = FindsNumbers-other (λ k. Sub k.0 k.1) nodes difference node (λ l e h. cc) old.differences;
+    negatives = FindsNumbers-other Neg nodes negative node (λ l e h. cc) old.negatives;
+    products = FindsNumbers-other (λ k. Mul k.0 k.1) nodes product node (λ l e h. cc) old.products;
   }
 
-  numbered-difference : (new : Operands → Option ℕ) (k : Operands) → node ≡ Sub k.x k.y k.degree_multiple → Entered difference new k (length nodes) → AreNumbered (nodes ++ node ∷ []) leaf sum new negative product
-  numbered-difference new k is entered = record {
-    leaves = leaves-kept (λ l e. cc);
-    sums = sums-kept (λ l e. cc);
-    differences = subst (λ m. FindsNumbers (λ l. Sub l.x l.y l.degree_multiple) (nodes ++ m ∷ []) new) (sym is) (FindsNumbers-push (λ l. Sub l.x l.y l.degree_multiple) (λ a b e. same-operands a b (cc) (cc) (cc)) nodes difference new k (not-there (Sub k.x k.y k.degree_multiple) is) old.differences entered);
-    negatives = negatives-kept (λ l e. cc);
-    products = products-kept (λ l e. cc);
+  pub enters-difference : {new : ℕ × ℕ → Option ℕ} (k : ℕ × ℕ) (d : ℕ) → node ≡ Sub k.0 k.1 d → Entered difference new k number → (nodes : List (SymbolicExpr A)) → number ≡ length nodes → IsNowhere nodes node → AreNumbered nodes leaf sum difference negative product → AreNumbered (nodes ++ node ∷ []) leaf sum new negative product
+  enters-difference {new = new} k d is entered nodes count absent old = record {
+    leaves = FindsNumbers-other (λ a _. Leaf a) nodes leaf node (λ l e h. cc) old.leaves;
+    sums = FindsNumbers-other (λ k. Add k.0 k.1) nodes sum node (λ l e h. cc) old.sums;
+    differences = FindsNumbers-push (λ k. Sub k.0 k.1) (λ a b d e h. same-operands a b (cc) (cc)) nodes difference new k d node number is count (subst (λ n. IsNowhere nodes n) is absent) old.differences entered;
+    negatives = FindsNumbers-other Neg nodes negative node (λ l e h. cc) old.negatives;
+    products = FindsNumbers-other (λ k. Mul k.0 k.1) nodes product node (λ l e h. cc) old.products;
   }
 
-  numbered-negative : (new : Operand → Option ℕ) (k : Operand) → node ≡ Neg k.x k.degree_multiple → Entered negative new k (length nodes) → AreNumbered (nodes ++ node ∷ []) leaf sum difference new product
-  numbered-negative new k is entered = record {
-    leaves = leaves-kept (λ l e. cc);
-    sums = sums-kept (λ l e. cc);
-    differences = differences-kept (λ l e. cc);
-    negatives = subst (λ m. FindsNumbers (λ l. Neg l.x l.degree_multiple) (nodes ++ m ∷ []) new) (sym is) (FindsNumbers-push (λ l. Neg l.x l.degree_multiple) (λ a b e. same-operand a b (cc) (cc)) nodes negative new k (not-there (Neg k.x k.degree_multiple) is) old.negatives entered);
-    products = products-kept (λ l e. cc);
+  pub enters-negative : {new : ℕ → Option ℕ} (k : ℕ) (d : ℕ) → node ≡ Neg k d → Entered negative new k number → (nodes : List (SymbolicExpr A)) → number ≡ length nodes → IsNowhere nodes node → AreNumbered nodes leaf sum difference negative product → AreNumbered (nodes ++ node ∷ []) leaf sum difference new product
+  enters-negative {new = new} k d is entered nodes count absent old = record {
+    leaves = FindsNumbers-other (λ a _. Leaf a) nodes leaf node (λ l e h. cc) old.leaves;
+    sums = FindsNumbers-other (λ k. Add k.0 k.1) nodes sum node (λ l e h. cc) old.sums;
+    differences = FindsNumbers-other (λ k. Sub k.0 k.1) nodes difference node (λ l e h. cc) old.differences;
+    negatives = FindsNumbers-push Neg (λ a b d e h. cc) nodes negative new k d node number is count (subst (λ n. IsNowhere nodes n) is absent) old.negatives entered;
+    products = FindsNumbers-other (λ k. Mul k.0 k.1) nodes product node (λ l e h. cc) old.products;
   }
 
-  numbered-product : (new : Operands → Option ℕ) (k : Operands) → node ≡ Mul k.x k.y k.degree_multiple → Entered product new k (length nodes) → AreNumbered (nodes ++ node ∷ []) leaf sum difference negative new
-  numbered-product new k is entered = record {
-    leaves = leaves-kept (λ l e. cc);
-    sums = sums-kept (λ l e. cc);
-    differences = differences-kept (λ l e. cc);
-    negatives = negatives-kept (λ l e. cc);
-    products = subst (λ m. FindsNumbers (λ l. Mul l.x l.y l.degree_multiple) (nodes ++ m ∷ []) new) (sym is) (FindsNumbers-push (λ l. Mul l.x l.y l.degree_multiple) (λ a b e. same-operands a b (cc) (cc) (cc)) nodes product new k (not-there (Mul k.x k.y k.degree_multiple) is) old.products entered);
+  pub enters-product : {new : ℕ × ℕ → Option ℕ} (k : ℕ × ℕ) (d : ℕ) → node ≡ Mul k.0 k.1 d → Entered product new k number → (nodes : List (SymbolicExpr A)) → number ≡ length nodes → IsNowhere nodes node → AreNumbered nodes leaf sum difference negative product → AreNumbered (nodes ++ node ∷ []) leaf sum difference negative new
+  enters-product {new = new} k d is entered nodes count absent old = record {
+    leaves = FindsNumbers-other (λ a _. Leaf a) nodes leaf node (λ l e h. cc) old.leaves;
+    sums = FindsNumbers-other (λ k. Add k.0 k.1) nodes sum node (λ l e h. cc) old.sums;
+    differences = FindsNumbers-other (λ k. Sub k.0 k.1) nodes difference node (λ l e h. cc) old.differences;
+    negatives = FindsNumbers-other Neg nodes negative node (λ l e h. cc) old.negatives;
+    products = FindsNumbers-push (λ k. Mul k.0 k.1) (λ a b d e h. same-operands a b (cc) (cc)) nodes product new k d node number is count (subst (λ n. IsNowhere nodes n) is absent) old.products entered;
   }
 
--- the same, whatever the nodes are, where the number that was entered is how many there are
-module _ {A : Type 0} (node : SymbolicExpr A) (number : ℕ) {leaf : A → Option ℕ} {sum difference : Operands → Option ℕ} {negative : Operand → Option ℕ} {product : Operands → Option ℕ} where
-  pub enters-leaf : {new : A → Option ℕ} (k : A) → node ≡ Leaf k → Entered leaf new k number → (nodes : List (SymbolicExpr A)) → number ≡ length nodes → ((i : ℕ) → slice_get nodes i ≢ Some node) → AreNumbered nodes leaf sum difference negative product → AreNumbered (nodes ++ node ∷ []) new sum difference negative product
-  enters-leaf {new = new} k is entered nodes count absent old = numbered-leaf nodes node absent old new k is (subst (λ (n : ℕ). Entered leaf new k n) count entered)
+-- A table that answers as before, among the others.
+module _ {A : Type 0} {leaf : A → Option ℕ} {sum difference : ℕ × ℕ → Option ℕ} {negative : ℕ → Option ℕ} {product : ℕ × ℕ → Option ℕ} where
+  pub keeps-leaf : {new : A → Option ℕ} → ((k : A) → new k ≡ leaf k) → (nodes : List (SymbolicExpr A)) → AreNumbered nodes leaf sum difference negative product → AreNumbered nodes new sum difference negative product
+  keeps-leaf {new = new} same nodes old = record { leaves = FindsNumbers-same (λ a _. Leaf a) nodes leaf new same old.leaves; sums = old.sums; differences = old.differences; negatives = old.negatives; products = old.products }
 
-  pub enters-sum : {new : Operands → Option ℕ} (k : Operands) → node ≡ Add k.x k.y k.degree_multiple → Entered sum new k number → (nodes : List (SymbolicExpr A)) → number ≡ length nodes → ((i : ℕ) → slice_get nodes i ≢ Some node) → AreNumbered nodes leaf sum difference negative product → AreNumbered (nodes ++ node ∷ []) leaf new difference negative product
-  enters-sum {new = new} k is entered nodes count absent old = numbered-sum nodes node absent old new k is (subst (λ (n : ℕ). Entered sum new k n) count entered)
+  pub keeps-sum : {new : ℕ × ℕ → Option ℕ} → ((k : ℕ × ℕ) → new k ≡ sum k) → (nodes : List (SymbolicExpr A)) → AreNumbered nodes leaf sum difference negative product → AreNumbered nodes leaf new difference negative product
+  keeps-sum {new = new} same nodes old = record { leaves = old.leaves; sums = FindsNumbers-same (λ k. Add k.0 k.1) nodes sum new same old.sums; differences = old.differences; negatives = old.negatives; products = old.products }
 
-  pub enters-difference : {new : Operands → Option ℕ} (k : Operands) → node ≡ Sub k.x k.y k.degree_multiple → Entered difference new k number → (nodes : List (SymbolicExpr A)) → number ≡ length nodes → ((i : ℕ) → slice_get nodes i ≢ Some node) → AreNumbered nodes leaf sum difference negative product → AreNumbered (nodes ++ node ∷ []) leaf sum new negative product
-  enters-difference {new = new} k is entered nodes count absent old = numbered-difference nodes node absent old new k is (subst (λ (n : ℕ). Entered difference new k n) count entered)
+  pub keeps-difference : {new : ℕ × ℕ → Option ℕ} → ((k : ℕ × ℕ) → new k ≡ difference k) → (nodes : List (SymbolicExpr A)) → AreNumbered nodes leaf sum difference negative product → AreNumbered nodes leaf sum new negative product
+  keeps-difference {new = new} same nodes old = record { leaves = old.leaves; sums = old.sums; differences = FindsNumbers-same (λ k. Sub k.0 k.1) nodes difference new same old.differences; negatives = old.negatives; products = old.products }
 
-  pub enters-negative : {new : Operand → Option ℕ} (k : Operand) → node ≡ Neg k.x k.degree_multiple → Entered negative new k number → (nodes : List (SymbolicExpr A)) → number ≡ length nodes → ((i : ℕ) → slice_get nodes i ≢ Some node) → AreNumbered nodes leaf sum difference negative product → AreNumbered (nodes ++ node ∷ []) leaf sum difference new product
-  enters-negative {new = new} k is entered nodes count absent old = numbered-negative nodes node absent old new k is (subst (λ (n : ℕ). Entered negative new k n) count entered)
+  pub keeps-negative : {new : ℕ → Option ℕ} → ((k : ℕ) → new k ≡ negative k) → (nodes : List (SymbolicExpr A)) → AreNumbered nodes leaf sum difference negative product → AreNumbered nodes leaf sum difference new product
+  keeps-negative {new = new} same nodes old = record { leaves = old.leaves; sums = old.sums; differences = old.differences; negatives = FindsNumbers-same Neg nodes negative new same old.negatives; products = old.products }
 
-  pub enters-product : {new : Operands → Option ℕ} (k : Operands) → node ≡ Mul k.x k.y k.degree_multiple → Entered product new k number → (nodes : List (SymbolicExpr A)) → number ≡ length nodes → ((i : ℕ) → slice_get nodes i ≢ Some node) → AreNumbered nodes leaf sum difference negative product → AreNumbered (nodes ++ node ∷ []) leaf sum difference negative new
-  enters-product {new = new} k is entered nodes count absent old = numbered-product nodes node absent old new k is (subst (λ (n : ℕ). Entered product new k n) count entered)
+  pub keeps-product : {new : ℕ × ℕ → Option ℕ} → ((k : ℕ × ℕ) → new k ≡ product k) → (nodes : List (SymbolicExpr A)) → AreNumbered nodes leaf sum difference negative product → AreNumbered nodes leaf sum difference negative new
+  keeps-product {new = new} same nodes old = record { leaves = old.leaves; sums = old.sums; differences = old.differences; negatives = old.negatives; products = FindsNumbers-same (λ k. Mul k.0 k.1) nodes product new same old.products }

@@ -11,7 +11,6 @@ pub mod fold;
 mod folded;
 mod insert;
 mod joined;
-mod keys;
 mod kind_table;
 mod kind_tables;
 mod lending;

@@ -1,9 +1,10 @@
 //! The calls that make a node as it is, without folding. Where one is refused the pool is as it was.
-ghost use Rattle.std.specs.Prelude.{◌≡◌, ◌≢◌, ℕ, ◌<◌, ◌≤◌, ◌+◌, ◌^◌, ◌↔◌, true, Some, MatchOption, IfOk, IfErr, OnErr};
+ghost use Rattle.std.specs.Prelude.{◌≡◌, ℕ, ◌<◌, ◌≤◌, ◌+◌, ◌^◌, ◌↔◌, true, Some, MatchOption, IfOk, IfErr, OnErr};
 ghost use Rattle.std.specs.List.{slice_get};
 ghost use Rattle.air_field.specs.Degree.{degree_by, cached_weight};
 ghost use Rattle.air_symbolic.specs.Trees.{leaf_tree, add_tree, sub_tree, neg_tree, mul_tree};
 ghost use Rattle.air_symbolic.specs.Nodes.{unfold_node, tree_of, NodeFits, OperandsBelow};
+ghost use Rattle.air_symbolic.specs.Numbering.{IsNowhere, IsAt};
 ghost use Rattle.air_symbolic.specs.declared.pools.expr.SymbolicExpr.{SymbolicExpr};
 ghost use Rattle.air_symbolic.specs.Pools.{IsPool, tree_at, term_at, Grown, HasTree, size};
 
@@ -34,12 +35,11 @@ fn names_newest<A: SymLeaf>(node: &SymbolicExpr<A>, count: usize) -> bool
     }
 }
 
-// The number of a node, if it is there; the map is not asked for one that names the newest.
+// The number of a node, if it is there, of whatever degree; the map is not asked for one that names the newest.
 fn number_of<A: SymLeaf>(nodes: &NodeTable<A>, node: &SymbolicExpr<A>) -> Option<usize>
     requires older { (i : ℕ) (n : SymbolicExpr A) → slice_get nodes.now i ≡ Some n → OperandsBelow i
         n }
-    ensures { MatchOption result ((i : ℕ) → slice_get nodes.now i ≢ Some node.now)
-        (λ i. slice_get nodes.now i ≡ Some node.now) }
+    ensures { MatchOption result (IsNowhere nodes.now node.now) (IsAt nodes.now node.now) }
 {
     if names_newest(node, nodes.len()) {
         return None;

@@ -1,30 +1,28 @@
 //! The numbers of nodes of all kinds.
-ghost use Rattle.std.specs.Prelude.{◌≡◌, ◌≢◌, ◌++◌, [], ◌∷◌, ℕ, List, length, Some, MatchOption, OnOk, OnErr};
+ghost use Rattle.std.specs.Prelude.{◌≡◌, ◌++◌, [], ◌∷◌, List, length, MatchOption, OnOk, OnErr};
 ghost use Rattle.std.specs.declared.cmp.Ordering.TheVariants.{Equal};
-ghost use Rattle.std.specs.List.{slice_get};
-ghost use Rattle.air_symbolic.specs.Numbering.{AreNumberedIn};
+ghost use Rattle.air_symbolic.specs.Numbering.{IsNowhere, IsAt, AreNumberedIn};
 ghost use Rattle.air_symbolic.specs.declared.pools.expr.SymbolicExpr.{SymbolicExpr};
 
 use crate::pools::expr::SymbolicExpr;
-use crate::pools::keys::{Operand, Operands};
 use crate::pools::kind_table::KindTable;
 use std::alloc::{AllocError, Global};
 
-/// A table of numbers for each kind of node.
+/// A table of numbers for each kind of node, by what a node is made of: its leaf, or the numbers of its operands. These
+/// determine its degree, so no key holds it.
 #[derive(Drop)]
 pub struct KindTables<A: Copy + Ord> {
     pub(crate) leaves: KindTable<A>,
-    pub(crate) sums: KindTable<Operands>,
-    pub(crate) differences: KindTable<Operands>,
-    pub(crate) negatives: KindTable<Operand>,
-    pub(crate) products: KindTable<Operands>,
+    pub(crate) sums: KindTable<(usize, usize)>,
+    pub(crate) differences: KindTable<(usize, usize)>,
+    pub(crate) negatives: KindTable<usize>,
+    pub(crate) products: KindTable<(usize, usize)>,
 }
 
 impl<A: Copy + Ord> KindTables<A> {
     /// Tables without numbers. They take no memory.
     pub fn new(alloc: Global) -> Self
-        ensures { AreNumberedIn A.cmp ⟦<Operands as Ord>⟧.cmp
-            ⟦<Operand as Ord>⟧.cmp result [] }
+        ensures { AreNumberedIn A.cmp result [] }
     {
         KindTables {
             leaves: KindTable::new(alloc),
@@ -35,33 +33,18 @@ impl<A: Copy + Ord> KindTables<A> {
         }
     }
 
-    /// The number of a node, if it is among those that are numbered.
+    /// The number of a node, if it is among those that are numbered, of whatever degree.
     pub fn find(&self, node: &SymbolicExpr<A>) -> Option<usize>
         ensures { (nodes : List (SymbolicExpr A))
-            → AreNumberedIn A.cmp ⟦<Operands as Ord>⟧.cmp ⟦<Operand as Ord>⟧.cmp self.now nodes
-            → MatchOption result ((i : ℕ) → slice_get nodes i ≢ Some node.now)
-            (λ i. slice_get nodes i ≡ Some node.now) }
+            → AreNumberedIn A.cmp self.now nodes
+            → MatchOption result (IsNowhere nodes node.now) (IsAt nodes node.now) }
     {
         match *node {
             SymbolicExpr::Leaf(a) => self.leaves.find(a),
-            SymbolicExpr::Add {
-                x,
-                y,
-                degree_multiple,
-            } => self.sums.find(Operands::of(x, y, degree_multiple)),
-            SymbolicExpr::Sub {
-                x,
-                y,
-                degree_multiple,
-            } => self.differences.find(Operands::of(x, y, degree_multiple)),
-            SymbolicExpr::Neg { x, degree_multiple } => {
-                self.negatives.find(Operand::of(x, degree_multiple))
-            }
-            SymbolicExpr::Mul {
-                x,
-                y,
-                degree_multiple,
-            } => self.products.find(Operands::of(x, y, degree_multiple)),
+            SymbolicExpr::Add { x, y, .. } => self.sums.find((x.number(), y.number())),
+            SymbolicExpr::Sub { x, y, .. } => self.differences.find((x.number(), y.number())),
+            SymbolicExpr::Neg { x, .. } => self.negatives.find(x.number()),
+            SymbolicExpr::Mul { x, y, .. } => self.products.find((x.number(), y.number())),
         }
     }
 
@@ -70,39 +53,24 @@ impl<A: Copy + Ord> KindTables<A> {
     pub fn enter(&mut self, node: &SymbolicExpr<A>, number: usize) -> Result<(), AllocError>
         requires exact { (a b : A) → A.cmp a b ≡ Equal → a ≡ b }
         ensures entered { OnOk result ((nodes : List (SymbolicExpr A)) → number ≡ length nodes
-            → ((i : ℕ) → slice_get nodes i ≢ Some node.now)
-            → AreNumberedIn A.cmp ⟦<Operands as Ord>⟧.cmp ⟦<Operand as Ord>⟧.cmp self.old nodes
-            → AreNumberedIn A.cmp ⟦<Operands as Ord>⟧.cmp ⟦<Operand as Ord>⟧.cmp self.new
+            → IsNowhere nodes node.now
+            → AreNumberedIn A.cmp self.old nodes
+            → AreNumberedIn A.cmp self.new
             (nodes ++ node.now ∷ [])) }
         ensures refused { OnErr result ((nodes : List (SymbolicExpr A))
-            → AreNumberedIn A.cmp ⟦<Operands as Ord>⟧.cmp ⟦<Operand as Ord>⟧.cmp self.old nodes
-            → AreNumberedIn A.cmp ⟦<Operands as Ord>⟧.cmp ⟦<Operand as Ord>⟧.cmp self.new nodes) }
+            → AreNumberedIn A.cmp self.old nodes
+            → AreNumberedIn A.cmp self.new nodes) }
     {
         match *node {
             SymbolicExpr::Leaf(a) => self.leaves.enter(a, number),
-            SymbolicExpr::Add {
-                x,
-                y,
-                degree_multiple,
-            } => self.sums.enter(Operands::of(x, y, degree_multiple), number),
-            SymbolicExpr::Sub {
-                x,
-                y,
-                degree_multiple,
-            } => self
+            SymbolicExpr::Add { x, y, .. } => self.sums.enter((x.number(), y.number()), number),
+            SymbolicExpr::Sub { x, y, .. } => self
                 .differences
-                .enter(Operands::of(x, y, degree_multiple), number),
-            SymbolicExpr::Neg { x, degree_multiple } => {
-                self.negatives
-                    .enter(Operand::of(x, degree_multiple), number)
+                .enter((x.number(), y.number()), number),
+            SymbolicExpr::Neg { x, .. } => self.negatives.enter(x.number(), number),
+            SymbolicExpr::Mul { x, y, .. } => {
+                self.products.enter((x.number(), y.number()), number)
             }
-            SymbolicExpr::Mul {
-                x,
-                y,
-                degree_multiple,
-            } => self
-                .products
-                .enter(Operands::of(x, y, degree_multiple), number),
         }
     }
 }

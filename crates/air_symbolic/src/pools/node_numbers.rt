@@ -1,12 +1,10 @@
 //! The numbers of nodes of all kinds, in tables that are made with the first node.
-ghost use Rattle.std.specs.Prelude.{◌≡◌, ◌≢◌, ◌<◌, ◌++◌, [], ◌∷◌, ℕ, List, length, Some, MatchOption, OnOk, OnErr};
+ghost use Rattle.std.specs.Prelude.{◌≡◌, ◌<◌, ◌++◌, [], ◌∷◌, List, length, MatchOption, OnOk, OnErr};
 ghost use Rattle.std.specs.declared.cmp.Ordering.TheVariants.{Equal};
-ghost use Rattle.std.specs.List.{slice_get};
-ghost use Rattle.air_symbolic.specs.Numbering.{FindEach};
+ghost use Rattle.air_symbolic.specs.Numbering.{IsNowhere, IsAt, FindEach};
 ghost use Rattle.air_symbolic.specs.declared.pools.expr.SymbolicExpr.{SymbolicExpr};
 
 use crate::pools::expr::SymbolicExpr;
-use crate::pools::keys::{Operand, Operands};
 use crate::pools::kind_tables::KindTables;
 use std::alloc::{AllocError, Global};
 
@@ -20,21 +18,18 @@ pub struct NodeNumbers<A: Copy + Ord> {
 impl<A: Copy + Ord> NodeNumbers<A> {
     /// Nothing numbered. It takes no memory.
     pub fn new(alloc: Global) -> Self
-        ensures { FindEach A.cmp ⟦<Operands as Ord>⟧.cmp ⟦<Operand as Ord>⟧.cmp
-            result.tables.items [] }
+        ensures { FindEach A.cmp result.tables.items [] }
     {
         NodeNumbers {
             tables: Vec::new(alloc),
         }
     }
 
-    /// The number of a node, if it is among those that are numbered.
+    /// The number of a node, if it is among those that are numbered, of whatever degree.
     pub fn find(&self, node: &SymbolicExpr<A>) -> Option<usize>
         ensures { (nodes : List (SymbolicExpr A))
-            → FindEach A.cmp ⟦<Operands as Ord>⟧.cmp ⟦<Operand as Ord>⟧.cmp
-            self.now.tables.items nodes
-            → MatchOption result ((i : ℕ) → slice_get nodes i ≢ Some node.now)
-            (λ i. slice_get nodes i ≡ Some node.now) }
+            → FindEach A.cmp self.now.tables.items nodes
+            → MatchOption result (IsNowhere nodes node.now) (IsAt nodes node.now) }
     {
         self.tables.first()?.find(node)
     }
@@ -44,16 +39,13 @@ impl<A: Copy + Ord> NodeNumbers<A> {
     pub fn enter(&mut self, node: &SymbolicExpr<A>, number: usize) -> Result<(), AllocError>
         requires exact { (a b : A) → A.cmp a b ≡ Equal → a ≡ b }
         ensures entered { OnOk result ((nodes : List (SymbolicExpr A)) → number ≡ length nodes
-            → ((i : ℕ) → slice_get nodes i ≢ Some node.now)
-            → FindEach A.cmp ⟦<Operands as Ord>⟧.cmp ⟦<Operand as Ord>⟧.cmp
-            self.old.tables.items nodes
-            → FindEach A.cmp ⟦<Operands as Ord>⟧.cmp ⟦<Operand as Ord>⟧.cmp self.new.tables.items
+            → IsNowhere nodes node.now
+            → FindEach A.cmp self.old.tables.items nodes
+            → FindEach A.cmp self.new.tables.items
             (nodes ++ node.now ∷ [])) }
         ensures refused { OnErr result ((nodes : List (SymbolicExpr A))
-            → FindEach A.cmp ⟦<Operands as Ord>⟧.cmp ⟦<Operand as Ord>⟧.cmp
-            self.old.tables.items nodes
-            → FindEach A.cmp ⟦<Operands as Ord>⟧.cmp ⟦<Operand as Ord>⟧.cmp
-            self.new.tables.items nodes) }
+            → FindEach A.cmp self.old.tables.items nodes
+            → FindEach A.cmp self.new.tables.items nodes) }
     {
         self.begin()?;
         self.tables[0].enter(node, number)
@@ -62,10 +54,8 @@ impl<A: Copy + Ord> NodeNumbers<A> {
     /// Makes the tables, where there are none yet.
     fn begin(&mut self) -> Result<(), AllocError>
         ensures kept { (nodes : List (SymbolicExpr A))
-            → FindEach A.cmp ⟦<Operands as Ord>⟧.cmp ⟦<Operand as Ord>⟧.cmp
-            self.old.tables.items nodes
-            → FindEach A.cmp ⟦<Operands as Ord>⟧.cmp ⟦<Operand as Ord>⟧.cmp
-            self.new.tables.items nodes }
+            → FindEach A.cmp self.old.tables.items nodes
+            → FindEach A.cmp self.new.tables.items nodes }
         ensures begun { OnOk result (0 < length self.new.tables.items) }
     {
         if self.tables.is_empty() {

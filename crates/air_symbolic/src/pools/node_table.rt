@@ -1,11 +1,11 @@
 //! Nodes in the order of their numbers, and the number of each in an ordered map of its kind.
-ghost use Rattle.std.specs.Prelude.{◌≡◌, ◌≢◌, ◌<◌, ◌++◌, [], ◌∷◌, ℕ, length, Some, MatchOption, IfOk, OnErr, IfSome, true};
+ghost use Rattle.std.specs.Prelude.{◌≡◌, ◌<◌, ◌++◌, [], ◌∷◌, length, Some, MatchOption, IfOk, OnErr, IfSome, true};
 ghost use Rattle.std.specs.declared.cmp.Ordering.TheVariants.{Equal};
 ghost use Rattle.std.specs.List.{slice_get};
+ghost use Rattle.air_symbolic.specs.Numbering.{IsNowhere, IsAt};
 ghost use Rattle.air_symbolic.specs.declared.pools.expr.SymbolicExpr.{SymbolicExpr};
 
 use crate::pools::expr::SymbolicExpr;
-use crate::pools::keys::{Operand, Operands};
 use crate::pools::node_numbers::NodeNumbers;
 use std::alloc::{AllocError, Global};
 use std::marker::Model;
@@ -32,8 +32,7 @@ impl<A: Copy + Ord> Model for NodeTable<A> {
 
     ghost view = { λ t. t.nodes.items };
 
-    ghost invariant = { λ t. FindEach A.cmp ⟦<Operands as Ord>⟧.cmp
-        ⟦<Operand as Ord>⟧.cmp t.numbers.tables.items t.nodes.items };
+    ghost invariant = { λ t. FindEach A.cmp t.numbers.tables.items t.nodes.items };
 }
 
 impl<A: Copy + Ord> NodeTable<A> {
@@ -68,10 +67,9 @@ impl<A: Copy + Ord> NodeTable<A> {
         &self.nodes[number]
     }
 
-    /// The number of a node, if it is there.
+    /// The number of a node, if it is there, of whatever degree.
     pub fn find(&self, node: &SymbolicExpr<A>) -> Option<usize>
-        ensures { MatchOption result ((i : ℕ) → slice_get self.now i ≢ Some node.now)
-            (λ i. slice_get self.now i ≡ Some node.now) }
+        ensures { MatchOption result (IsNowhere self.now node.now) (IsAt self.now node.now) }
     {
         self.numbers.find(node)
     }
@@ -108,7 +106,7 @@ impl<A: Copy + Ord> NodeTable<A> {
     /// One more node, and its number. Where memory is refused, nothing has changed.
     pub fn push(&mut self, node: SymbolicExpr<A>) -> Result<usize, AllocError>
         requires exact { (a b : A) → A.cmp a b ≡ Equal → a ≡ b }
-        requires absent { (i : ℕ) → slice_get self.old i ≢ Some node }
+        requires absent { IsNowhere self.old node }
         ensures numbered { IfOk result (λ i. i ≡ length self.old) }
         ensures pushed { IfOk result (λ _. self.new ≡ self.old ++ node ∷ []) }
         ensures refused { OnErr result (self.new ≡ self.old) }

@@ -1,5 +1,8 @@
-use Rattle.std.proofs.Common.{◌∙◌}
+use Rattle.std.proofs.Common.{Some, ap, sym, ◌∙◌}
 use Rattle.std.proofs.lemmas.Option.{slice_get_within}
+use Rattle.air_symbolic.specs.Nodes.{tree_of}
+use Rattle.air_symbolic.specs.Numbering.{with_degree}
+use Rattle.air_symbolic.proofs.StatedDegrees.{unfold-with_degree, own-degree}
 use Rattle.air_symbolic.proofs.Tables.{IsNode-seen, Grown-push-seen, tree-pushed}
 use Rattle.air_symbolic.proofs.pools.pool.ExprPool.insert.Goals as goal
 
@@ -8,13 +11,15 @@ returns-in-Some-clause-made g c =
     let p = c.args.self.now in
     let table = c.self.inside in
     let i = c.in-Some.number in
-    let known = IsNode-seen (g.A.SymLeaf.reads p.base) p table.under table.nodes i c.args.node c.self.view_is c.requires.pool.nodes c.in-Some.ensures in
-    rw c.new.ensures record { here = slice_get_within p.nodes i c.args.node known.node; tree = known.tree }
+    let d = c.in-Some.ensures.0 in
+    let node = with_degree c.args.node d in
+    let known = IsNode-seen (g.A.SymLeaf.reads p.base) p table.under table.nodes i node c.self.view_is c.requires.pool.nodes c.in-Some.ensures.1 in
+    rw c.new.ensures record { here = slice_get_within p.nodes i node known.node; tree = known.tree ∙ unfold-with_degree (tree_of p.nodes) c.args.node d }
 
 pub returns-in_ok-number-in-None-clause-grown : goal.returns-in_ok-number-in-None-clause-grown
 returns-in_ok-number-in-None-clause-grown g c =
     Grown-push-seen g.met.A.SymLeaf.leaf_laws c.args.self.now c.self.inside.under c.self.inside.nodes c.self.view_is
-    c.push.new.self c.args.node c.in_ok-number-in-None.ensures.pushed c.requires.fits c.in-None.ensures
+    c.push.new.self c.args.node c.in_ok-number-in-None.ensures.pushed c.requires.fits (λ i e. let own = own-degree c.args.node in c.in-None.ensures i own.0 (e ∙ ap (λ n. Some n) (sym own.1)))
 
 -- a node's operands are older than it is
 pub number_of-requires : goal.number_of-requires

@@ -1,0 +1,30 @@
+-- What does not depend on the degree that a node states.
+use Rattle.std.proofs.Common.{◌≡◌, ℕ, refl}
+use Rattle.air_symbolic.specs.Trees.{Tree}
+use Rattle.air_symbolic.specs.Nodes.{unfold_node, OperandsBelow}
+use Rattle.air_symbolic.specs.Numbering.{with_degree}
+use Rattle.air_symbolic.specs.declared.pools.expr.SymbolicExpr.{SymbolicExpr}
+use Rattle.air_symbolic.specs.declared.pools.expr.SymbolicExpr.TheVariants.{Leaf, Add, Sub, Neg, Mul}
+
+module _ {A : Type 0} where
+  pub unfold-with_degree : (f : ℕ → Tree A) (n : SymbolicExpr A) (d : ℕ) → unfold_node f (with_degree n d) ≡ unfold_node f n
+  unfold-with_degree f (Leaf a) d = refl
+  unfold-with_degree f (Add x y e) d = refl
+  unfold-with_degree f (Sub x y e) d = refl
+  unfold-with_degree f (Neg x e) d = refl
+  unfold-with_degree f (Mul x y e) d = refl
+
+  pub below-with_degree : (k : ℕ) (n : SymbolicExpr A) (d : ℕ) → OperandsBelow k (with_degree n d) → OperandsBelow k n
+  below-with_degree k (Leaf a) d below = below
+  below-with_degree k (Add x y e) d below = below
+  below-with_degree k (Sub x y e) d below = below
+  below-with_degree k (Neg x e) d below = below
+  below-with_degree k (Mul x y e) d below = below
+
+  -- each node states a degree
+  pub own-degree : (n : SymbolicExpr A) → (d : ℕ) × (with_degree n d ≡ n)
+  own-degree (Leaf a) = (0, refl)
+  own-degree (Add x y e) = (e, refl)
+  own-degree (Sub x y e) = (e, refl)
+  own-degree (Neg x e) = (e, refl)
+  own-degree (Mul x y e) = (e, refl)
