@@ -28,8 +28,8 @@ element {p = p} m = record { spells = λ d x. IsWholeNumber (m.value x) d; fault
 abbrev pub constraint : {F : Type 0} {p : ℕ} → Modular F p → Grammar (Tree (BaseLeaf F))
 constraint m = record { spells = IsList (base_kind m); fault = HasFault (base_kind m) }
 
-abbrev pub cell : Grammar BoundaryPublic
-cell = by_form SpellsCell
+abbrev pub boundary_cell : Grammar BoundaryPublic
+boundary_cell = by_form SpellsCell
 
 -- null is no cap
 abbrev pub SpellsCap : Data → Option ℕ → Type 0
@@ -56,6 +56,6 @@ members m =
     (both (needed (codes "public_values") (list_of (element m)))
     (both (needed (codes "constraints") (list_of (constraint m)))
     (both (optional (codes "periodic") [] (list_of (list_of (element m))))
-    (both (optional (codes "boundary") [] (list_of cell))
+    (both (optional (codes "boundary") [] (list_of boundary_cell))
     (both (optional (codes "cap") None cap)
     (optional (codes "transition_weight") 0 whole_number))))))))

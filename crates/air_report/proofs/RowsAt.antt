@@ -62,8 +62,8 @@ module _ {F : Type 0} (g : Given F) {i : ℕ} {pair table : ViewPair F} {selecte
         more = grew.more;
         failures = handed ∙ (grew.failures ∙ ap (λ l. l ++ grew.more) at.failures);
         places = grew.places
-            ∙ (ap₂ places_of there at.counter ∙ ap (map (λ k. (i, k))) (own_nonzero r eq over own i (row_at r (given_trace g) i) 0 g.declaration.declared));
-        constraints = omega (arith, grew.count, at.counter);
+            ∙ (ap₂ places_of there at.constraint_index ∙ ap (map (λ k. (i, k))) (own_nonzero r eq over own i (row_at r (given_trace g) i) 0 g.declaration.declared));
+        constraints = omega (arith, grew.count, at.constraint_index);
       }
 
   -- the table that its preprocessed rows are of, and its periodic row
@@ -103,7 +103,7 @@ module _ {F : Type 0} (g : Given F) {i : ℕ} {pair table : ViewPair F} {selecte
         → {zero : RowData F F → Assertion F → Bool} (e : AirError)
         → (e ≡ Memory) ⊎ RefusedAtRow zero (debug_row b) b.constraint_index e g.declaration.declared → RowRefuses g e
     row_refusal c w e h =
-        subst (λ n. Refused (IsMissing (trace_shape (given_trace g))) (λ _. ⊥) (IsFull n) e g.declaration.declared) at.counter
+        subst (λ n. Refused (IsMissing (trace_shape (given_trace g))) (λ _. ⊥) (IsFull n) e g.declaration.declared) at.constraint_index
         (subst (λ s. Refused (IsMissing s) (λ _. ⊥) (IsFull b.constraint_index) e g.declaration.declared) (shape-given c w) (refused_anyway e h))
 
 no_empty_power : (k : ℕ) → 0 ≡ 2 ^ k → ⊥

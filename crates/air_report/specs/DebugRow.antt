@@ -63,7 +63,7 @@ pub record StandsAt {F E : Type 0} (at : Row F) (periodic : Vec F Global)
   pub permutation : b.permutation ≡ None
   pub permutation_challenges : b.permutation_challenges.now ≡ []
   pub permutation_values : b.permutation_values.now ≡ []
-  pub counter : b.constraint_index ≡ 0
+  pub constraint_index : b.constraint_index ≡ 0
   pub failures : b.failures.items ≡ before
 
 -- The builder is at the row of this index, and holds the pairs of rows, the values and the permutation data that it was given. It
@@ -82,5 +82,5 @@ pub record IsAtRow {F E : Type 0} (row : ℕ) (main_rows table_rows : ViewPair F
   pub permutation : b.permutation ≡ others
   pub permutation_challenges : b.permutation_challenges.now ≡ challenges
   pub permutation_values : b.permutation_values.now ≡ exposed
-  pub counter : b.constraint_index ≡ 0
+  pub constraint_index : b.constraint_index ≡ 0
   pub failures : b.failures.items ≡ before

@@ -115,13 +115,13 @@ pub data Expr : Type 0 where
 abbrev pub less : Expr → Expr → Expr
 less a b = plus a (opp b)
 
-abbrev pub value : {A : Type 0} → CommRing A → List A → Expr → A
-value R env (var i) = look R.zero env i
-value R env nought = R.zero
-value R env unit = R.one
-value R env (plus a b) = R.add (value R env a) (value R env b)
-value R env (times a b) = R.mul (value R env a) (value R env b)
-value R env (opp a) = R.neg (value R env a)
+abbrev pub meaning : {A : Type 0} → CommRing A → List A → Expr → A
+meaning R env (var i) = look R.zero env i
+meaning R env nought = R.zero
+meaning R env unit = R.one
+meaning R env (plus a b) = R.add (meaning R env a) (meaning R env b)
+meaning R env (times a b) = R.mul (meaning R env a) (meaning R env b)
+meaning R env (opp a) = R.neg (meaning R env a)
 
 -- the positive products, and the negative ones
 record Parts : Type 0 where
@@ -170,24 +170,24 @@ sum-times_both R env a b c d =
     fold-append (sums R) (product_of R env) (times_all a b) (times_all c d)
     ∙ ap₂ R.add (sum-times_all R env a b) (sum-times_all R env c d)
 
-means : {A : Type 0} (R : CommRing A) (env : List A) (e : Expr) → Means R env (value R env e) (parts e)
+means : {A : Type 0} (R : CommRing A) (env : List A) (e : Expr) → Means R env (meaning R env e) (parts e)
 means R env (var i) =
     R.add_zero (look R.zero env i) ∙ (sym (R.mul_one (look R.zero env i)) ∙ sym (R.add_zero (R.mul (look R.zero env i) R.one)))
 means R env nought = R.add_zero R.zero
 means R env unit = refl
 means R env (plus a b) =
-    ap (R.add (R.add (value R env a) (value R env b))) (fold-append (sums R) (product_of R env) (parts a).below (parts b).below)
-    ∙ (plus_step R (value R env a) (value R env b) (sum_of R env (parts a).below) (sum_of R env (parts b).below)
+    ap (R.add (R.add (meaning R env a) (meaning R env b))) (fold-append (sums R) (product_of R env) (parts a).below (parts b).below)
+    ∙ (plus_step R (meaning R env a) (meaning R env b) (sum_of R env (parts a).below) (sum_of R env (parts b).below)
     (sum_of R env (parts a).above) (sum_of R env (parts b).above) (means R env a) (means R env b)
     ∙ sym (fold-append (sums R) (product_of R env) (parts a).above (parts b).above))
 means R env (times a b) =
     let lower = sum-times_both R env (parts a).above (parts b).below (parts a).below (parts b).above in
     let upper = sum-times_both R env (parts a).above (parts b).above (parts a).below (parts b).below in
-    ap (R.add (R.mul (value R env a) (value R env b))) lower
-    ∙ (times_step R (value R env a) (value R env b) (sum_of R env (parts a).below) (sum_of R env (parts b).below)
+    ap (R.add (R.mul (meaning R env a) (meaning R env b))) lower
+    ∙ (times_step R (meaning R env a) (meaning R env b) (sum_of R env (parts a).below) (sum_of R env (parts b).below)
     (sum_of R env (parts a).above) (sum_of R env (parts b).above) (means R env a) (means R env b)
     ∙ sym upper)
-means R env (opp a) = opp_step R (value R env a) (sum_of R env (parts a).below) (sum_of R env (parts a).above) (means R env a)
+means R env (opp a) = opp_step R (meaning R env a) (sum_of R env (parts a).below) (sum_of R env (parts a).above) (means R env a)
 
 -- ---- the test, and what it shows
 abbrev pub left_form : Expr → Expr → List (List ℕ)
@@ -203,9 +203,9 @@ cancel_step R a b n m p q h k e =
     ∙ (R.add_assoc b m n ∙ (ap (R.add b) (R.add_comm m n) ∙ sym (R.add_assoc b n m)))))))
 
 -- two expressions with one form are equal in every commutative ring: `ring R (x ∷ y ∷ []) e1 e2 refl`
-pub ring : {A : Type 0} (R : CommRing A) (env : List A) (a b : Expr) → left_form a b ≡ left_form b a → value R env a ≡ value R env b
+pub ring : {A : Type 0} (R : CommRing A) (env : List A) (a b : Expr) → left_form a b ≡ left_form b a → meaning R env a ≡ meaning R env b
 ring R env a b h =
-    cancel_step R (value R env a) (value R env b) (sum_of R env (parts a).below) (sum_of R env (parts b).below)
+    cancel_step R (meaning R env a) (meaning R env b) (sum_of R env (parts a).below) (sum_of R env (parts b).below)
     (sum_of R env (parts a).above) (sum_of R env (parts b).above) (means R env a) (means R env b)
     (sym (fold-append (sums R) (product_of R env) (parts a).above (parts b).below)
     ∙ (sym (sum-canonical R env ((parts a).above ++ (parts b).below))
@@ -223,7 +223,7 @@ expr_ops = record { zero = nought; one = unit; add = plus; mul = times; neg = op
 
 abbrev pub values : {A : Type 0} → CommRing A → List A → List Expr → List A
 values R env [] = []
-values R env (e ∷ es) = value R env e ∷ values R env es
+values R env (e ∷ es) = meaning R env e ∷ values R env es
 
 -- the variables from n on, count of them
 abbrev pub vars : ℕ → ℕ → List Expr

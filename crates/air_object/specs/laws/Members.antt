@@ -16,7 +16,7 @@ use Rattle.air_wire.specs.Spelling.{IsWholeNumber}
 use Rattle.air_wire.specs.declared.errors.FlatError.{FlatError}
 use Rattle.air_wire.specs.declared.errors.FlatError.TheVariants as faults
 use Rattle.air_object.specs.Objects.{list_of, needed, optional, both_or_none}
-use Rattle.air_object.specs.Members.{whole_number, ElementFault, element, constraint, cell, SpellsCap, cap, MemberValues, members}
+use Rattle.air_object.specs.Members.{whole_number, ElementFault, element, constraint, boundary_cell, SpellsCap, cap, MemberValues, members}
 use Rattle.air_object.specs.Readers.{formed, tree, trees, elements, columns, cell_read, cells, cap_in, width_member, elements_member, table_member, constraints_member, periodic_member, boundary_member, cap_member, weight_member, members_read, Reader, both_read}
 use Rattle.air_object.specs.laws.Agreement.{Agrees, by_form_agrees, list_agrees, needed_agrees, optional_agrees, both_agree, both_or_none_agrees, agrees_as}
 
@@ -26,12 +26,12 @@ whole_again d n h = ap whole h
 whole_agrees : Agrees whole_number (λ d. formed (whole d))
 whole_agrees = by_form_agrees (λ d n. IsWholeNumber n d) whole number_found whole_again
 
-cell_agrees : Agrees cell cell_read
+cell_agrees : Agrees boundary_cell cell_read
 cell_agrees = by_form_agrees SpellsCell cell_of cell_laws.found cell_laws.again
 
-cells_agree : Agrees (list_of cell) cells
+cells_agree : Agrees (list_of boundary_cell) cells
 unfolding cells
-cells_agree = list_agrees cell cell_read cell_agrees
+cells_agree = list_agrees boundary_cell cell_read cell_agrees
 
 cap_found : (d : Data) (o : Option ℕ) → cap_in d ≡ Some o → SpellsCap d o
 unfolding cap_in
@@ -56,9 +56,9 @@ width_agrees : (name : List ℕ) → Agrees (needed name whole_number) (width_me
 unfolding width_member
 width_agrees name = needed_agrees name whole_number (λ d. formed (whole d)) whole_agrees
 
-boundary_agrees : Agrees (optional (codes "boundary") [] (list_of cell)) boundary_member
+boundary_agrees : Agrees (optional (codes "boundary") [] (list_of boundary_cell)) boundary_member
 unfolding boundary_member
-boundary_agrees = optional_agrees (codes "boundary") (list_of cell) cells cells_agree []
+boundary_agrees = optional_agrees (codes "boundary") (list_of boundary_cell) cells cells_agree []
 
 cap_member_agrees : Agrees (optional (codes "cap") None cap) cap_member
 unfolding cap_member
