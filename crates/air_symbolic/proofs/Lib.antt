@@ -1,4 +1,6 @@
 pub mod Tables
+pub mod Runs
+pub mod Entering
 pub mod Pushed
 pub mod StatedDegrees
 pub mod Making

@@ -1,17 +1,9 @@
 -- One more node at a list's end, and in the table of its kind.
-use Rattle.std.proofs.Common.{◌≡◌, ◌≢◌, ◌⊎◌, inl, inr, ⊎_elim, ℕ, zero, suc, true, false, cond, List, [], ◌∷◌, ◌++◌, length, refl, sym, ap, subst, ◌∙◌}
+use Rattle.std.proofs.Common.{◌≡◌, ◌≢◌, ◌⊎◌, inl, inr, ⊎_elim, ℕ, zero, suc, List, [], ◌∷◌, ◌++◌, length, refl, sym, ap, subst, ◌∙◌}
 use Rattle.std.specs.Prelude.{Option, None, Some, MatchOption}
 use Rattle.std.specs.List.{slice_get}
-use Rattle.std.specs.declared.cmp.Ordering.{Ordering}
-use Rattle.std.specs.declared.cmp.Reverse.{Reverse}
-use Rattle.std.specs.declared.cmp.Ordering.TheVariants.{Equal}
-use Rattle.std.specs.Ordering.{is_eq}
-use Rattle.std.specs.Cmp.{IsTotalOrder, Equal-is}
-use Rattle.std.proofs.lemmas.Cmp.{tied_itself, tied_back}
-use Rattle.std.proofs.lemmas.Bool.{cases_Bool}
-use Rattle.std.specs.BTreeMap.{BTreeMap, get, Updates}
 use Rattle.air_symbolic.specs.laws.Numbers.{at_pushed}
-use Rattle.air_symbolic.specs.Numbering.{IsNowhere, opposite, numbers_by, Entered, FindsNumbers, AreNumbered}
+use Rattle.air_symbolic.specs.Numbering.{IsNowhere, Entered, FindsNumbers, AreNumbered}
 use Rattle.air_symbolic.specs.declared.pools.expr.SymbolicExpr.{SymbolicExpr}
 use Rattle.air_symbolic.specs.declared.pools.expr.SymbolicExpr.TheVariants.{Leaf, Add, Sub, Neg, Mul}
 
@@ -27,7 +19,7 @@ module _ {N : Type 0} where
 
 module _ {K N : Type 0} (node_of : K → ℕ → N) where
   -- a node of this kind, which was not there
-  pub FindsNumbers-push : ((k l : K) (d e : ℕ) → node_of k d ≡ node_of l e → k ≡ l) → (nodes : List N) (old new : K → Option ℕ) (key : K) (stated : ℕ) (node : N) (number : ℕ) → node ≡ node_of key stated → number ≡ length nodes → ((i d : ℕ) → slice_get nodes i ≢ Some (node_of key d)) → FindsNumbers node_of nodes old → Entered old new key number → FindsNumbers node_of (nodes ++ node ∷ []) new
+  pub FindsNumbers-push : ((k l : K) (d e : ℕ) → node_of k d ≡ node_of l e → k ≡ l) → (nodes : List N) (old new : K → Option ℕ) (key : K) (stated : ℕ) (node : N) (number : ℕ) → node ≡ node_of key stated → number ≡ length nodes → ((i d : ℕ) → slice_get nodes i ≢ Some (node_of key d)) → FindsNumbers node_of nodes old → (old key ≡ None → Entered old new key number) → FindsNumbers node_of (nodes ++ node ∷ []) new
   FindsNumbers-push one nodes old new key stated node number is count absent finds entered k i =
       ⊎_elim
       (λ (h : (k ≡ key) × (new k ≡ Some number)). (
@@ -47,8 +39,12 @@ module _ {K N : Type 0} (node_of : K → ℕ → N) where
             (λ (q : (i ≡ length nodes) × (node ≡ node_of k e.0)). absurd (h.0 (one k key e.0 stated (sym q.1 ∙ is))))
             (at_pushed nodes node (node_of k e.0) i e.1),
       ))
-      (entered k)
+      (entered (none-found (old key) (λ j e. absent j ((finds key j).0 e).0 ((finds key j).0 e).1)) k)
     where
+      none-found : (o : Option ℕ) → ((j : ℕ) → o ≢ Some j) → o ≡ None
+      none-found None never = refl
+      none-found (Some j) never = absurd (never j refl)
+
       number-is : {m n : ℕ} → Some m ≡ Some n → m ≡ n
       number-is e = cc
 
@@ -75,29 +71,12 @@ module _ {K N : Type 0} (node_of : K → ℕ → N) where
   FindsNumbers-find nodes table k None finds e = λ i d h. absurd (let known = (finds k i).1 (d, h) in cc)
   FindsNumbers-find nodes table k (Some i) finds e = (finds k i).0 (sym e)
 
-module _ {K : Type 0} (cmp : K → K → Ordering) (total : IsTotalOrder cmp) where
-  -- a map in which a key's number was put, seen key by key
-  pub Updates-entered : (old new : BTreeMap (Reverse K) ℕ) (key : K) (n : ℕ) → ((k : K) → cmp key k ≡ Equal → key ≡ k) → Updates (opposite cmp) old new (record { 0 = key }) (Some n) → Entered (numbers_by cmp old) (numbers_by cmp new) key n
-  Updates-entered old new key n exact updates k =
-      let a : Reverse K = record { 0 = key } in
-      let b : Reverse K = record { 0 = k } in
-      ⊎_elim
-      (λ (h : is_eq (opposite cmp a b) ≡ true).
-      let same : key ≡ k = exact k (tied_back total k key ((Equal-is (opposite cmp a b)).0 h)) in
-      inl (sym same, updates.0 b ∙ ap (λ c. cond c (Some n) (get (opposite cmp) old b)) h))
-      (λ (h : is_eq (opposite cmp a b) ≡ false).
-      inr (
-        λ e. let tied : cmp k key ≡ Equal = subst (λ y. cmp k y ≡ Equal) e (tied_itself total k) in let t : is_eq (opposite cmp a b) ≡ true = (Equal-is (opposite cmp a b)).1 tied in cc,
-        updates.0 b ∙ ap (λ c. cond c (Some n) (get (opposite cmp) old b)) h,
-      ))
-      (cases_Bool (is_eq (opposite cmp a b)))
-
 same-operands : (a b : ℕ × ℕ) → a.0 ≡ b.0 → a.1 ≡ b.1 → a ≡ b
 same-operands (a, b) (c, d) p q = cc
 
 -- A node in the table of its kind: every other table finds what it found.
 module _ {A : Type 0} {leaf : A → Option ℕ} {sum difference : ℕ × ℕ → Option ℕ} {negative : ℕ → Option ℕ} {product : ℕ × ℕ → Option ℕ} (node : SymbolicExpr A) (number : ℕ) where
-  pub enters-leaf : {new : A → Option ℕ} (k : A) → node ≡ Leaf k → Entered leaf new k number → (nodes : List (SymbolicExpr A)) → number ≡ length nodes → IsNowhere nodes node → AreNumbered nodes leaf sum difference negative product → AreNumbered (nodes ++ node ∷ []) new sum difference negative product
+  pub enters-leaf : {new : A → Option ℕ} (k : A) → node ≡ Leaf k → (leaf k ≡ None → Entered leaf new k number) → (nodes : List (SymbolicExpr A)) → number ≡ length nodes → IsNowhere nodes node → AreNumbered nodes leaf sum difference negative product → AreNumbered (nodes ++ node ∷ []) new sum difference negative product
   enters-leaf {new = new} k is entered nodes count absent old = record {
     leaves = FindsNumbers-push (λ a _. Leaf a) (λ a b d e h. cc) nodes leaf new k 0 node number is count (subst (λ n. IsNowhere nodes n) is absent) old.leaves entered;
     sums = FindsNumbers-other (λ k. Add k.0 k.1) nodes sum node (λ l e h. cc) old.sums;
@@ -106,7 +85,7 @@ module _ {A : Type 0} {leaf : A → Option ℕ} {sum difference : ℕ × ℕ →
     products = FindsNumbers-other (λ k. Mul k.0 k.1) nodes product node (λ l e h. cc) old.products;
   }
 
-  pub enters-sum : {new : ℕ × ℕ → Option ℕ} (k : ℕ × ℕ) (d : ℕ) → node ≡ Add k.0 k.1 d → Entered sum new k number → (nodes : List (SymbolicExpr A)) → number ≡ length nodes → IsNowhere nodes node → AreNumbered nodes leaf sum difference negative product → AreNumbered (nodes ++ node ∷ []) leaf new difference negative product
+  pub enters-sum : {new : ℕ × ℕ → Option ℕ} (k : ℕ × ℕ) (d : ℕ) → node ≡ Add k.0 k.1 d → (sum k ≡ None → Entered sum new k number) → (nodes : List (SymbolicExpr A)) → number ≡ length nodes → IsNowhere nodes node → AreNumbered nodes leaf sum difference negative product → AreNumbered (nodes ++ node ∷ []) leaf new difference negative product
   enters-sum {new = new} k d is entered nodes count absent old = record {
     leaves = FindsNumbers-other (λ a _. Leaf a) nodes leaf node (λ l e h. cc) old.leaves;
     sums = FindsNumbers-push (λ k. Add k.0 k.1) (λ a b d e h. same-operands a b (cc) (cc)) nodes sum new k d node number is count (subst (λ n. IsNowhere nodes n) is absent) old.sums entered;
@@ -115,7 +94,7 @@ module _ {A : Type 0} {leaf : A → Option ℕ} {sum difference : ℕ × ℕ →
     products = FindsNumbers-other (λ k. Mul k.0 k.1) nodes product node (λ l e h. cc) old.products;
   }
 
-  pub enters-difference : {new : ℕ × ℕ → Option ℕ} (k : ℕ × ℕ) (d : ℕ) → node ≡ Sub k.0 k.1 d → Entered difference new k number → (nodes : List (SymbolicExpr A)) → number ≡ length nodes → IsNowhere nodes node → AreNumbered nodes leaf sum difference negative product → AreNumbered (nodes ++ node ∷ []) leaf sum new negative product
+  pub enters-difference : {new : ℕ × ℕ → Option ℕ} (k : ℕ × ℕ) (d : ℕ) → node ≡ Sub k.0 k.1 d → (difference k ≡ None → Entered difference new k number) → (nodes : List (SymbolicExpr A)) → number ≡ length nodes → IsNowhere nodes node → AreNumbered nodes leaf sum difference negative product → AreNumbered (nodes ++ node ∷ []) leaf sum new negative product
   enters-difference {new = new} k d is entered nodes count absent old = record {
     leaves = FindsNumbers-other (λ a _. Leaf a) nodes leaf node (λ l e h. cc) old.leaves;
     sums = FindsNumbers-other (λ k. Add k.0 k.1) nodes sum node (λ l e h. cc) old.sums;
@@ -124,7 +103,7 @@ module _ {A : Type 0} {leaf : A → Option ℕ} {sum difference : ℕ × ℕ →
     products = FindsNumbers-other (λ k. Mul k.0 k.1) nodes product node (λ l e h. cc) old.products;
   }
 
-  pub enters-negative : {new : ℕ → Option ℕ} (k : ℕ) (d : ℕ) → node ≡ Neg k d → Entered negative new k number → (nodes : List (SymbolicExpr A)) → number ≡ length nodes → IsNowhere nodes node → AreNumbered nodes leaf sum difference negative product → AreNumbered (nodes ++ node ∷ []) leaf sum difference new product
+  pub enters-negative : {new : ℕ → Option ℕ} (k : ℕ) (d : ℕ) → node ≡ Neg k d → (negative k ≡ None → Entered negative new k number) → (nodes : List (SymbolicExpr A)) → number ≡ length nodes → IsNowhere nodes node → AreNumbered nodes leaf sum difference negative product → AreNumbered (nodes ++ node ∷ []) leaf sum difference new product
   enters-negative {new = new} k d is entered nodes count absent old = record {
     leaves = FindsNumbers-other (λ a _. Leaf a) nodes leaf node (λ l e h. cc) old.leaves;
     sums = FindsNumbers-other (λ k. Add k.0 k.1) nodes sum node (λ l e h. cc) old.sums;
@@ -133,7 +112,7 @@ module _ {A : Type 0} {leaf : A → Option ℕ} {sum difference : ℕ × ℕ →
     products = FindsNumbers-other (λ k. Mul k.0 k.1) nodes product node (λ l e h. cc) old.products;
   }
 
-  pub enters-product : {new : ℕ × ℕ → Option ℕ} (k : ℕ × ℕ) (d : ℕ) → node ≡ Mul k.0 k.1 d → Entered product new k number → (nodes : List (SymbolicExpr A)) → number ≡ length nodes → IsNowhere nodes node → AreNumbered nodes leaf sum difference negative product → AreNumbered (nodes ++ node ∷ []) leaf sum difference negative new
+  pub enters-product : {new : ℕ × ℕ → Option ℕ} (k : ℕ × ℕ) (d : ℕ) → node ≡ Mul k.0 k.1 d → (product k ≡ None → Entered product new k number) → (nodes : List (SymbolicExpr A)) → number ≡ length nodes → IsNowhere nodes node → AreNumbered nodes leaf sum difference negative product → AreNumbered (nodes ++ node ∷ []) leaf sum difference negative new
   enters-product {new = new} k d is entered nodes count absent old = record {
     leaves = FindsNumbers-other (λ a _. Leaf a) nodes leaf node (λ l e h. cc) old.leaves;
     sums = FindsNumbers-other (λ k. Add k.0 k.1) nodes sum node (λ l e h. cc) old.sums;

@@ -1,12 +1,14 @@
--- Ordered maps that find the numbers of a list's nodes, one for each kind.
+-- Tables that find the numbers of a list's nodes, one for each kind.
 use Rattle.std.specs.Prelude.{◌≡◌, ◌≢◌, ◌⊎◌, ◌↔◌, ℕ, List, [], ◌∷◌, Option, Some}
 use Rattle.std.specs.declared.cmp.Ordering.{Ordering}
-use Rattle.std.specs.declared.cmp.Reverse.{Reverse}
 use Rattle.std.specs.Ordering.{nat_cmp, ordering_then}
 use Rattle.std.specs.List.{slice_get}
-use Rattle.std.specs.BTreeMap.{BTreeMap, get}
+use Rattle.std.specs.Option.{option_or}
+use Rattle.std.specs.Map.{lookup}
+use Rattle.std.specs.BTreeMap.{BTreeMap, get, is_at}
 use Rattle.air_symbolic.specs.declared.pools.expr.SymbolicExpr.{SymbolicExpr}
 use Rattle.air_symbolic.specs.declared.pools.expr.SymbolicExpr.TheVariants.{Leaf, Add, Sub, Neg, Mul}
+use Rattle.air_symbolic.specs.declared.pools.kind_table.KindTable.{KindTable}
 use Rattle.air_symbolic.specs.declared.pools.kind_tables.KindTables.{KindTables}
 
 -- ---- Nodes, whatever degree they state
@@ -29,17 +31,18 @@ IsAt nodes node i = (d : ℕ) × (slice_get nodes i ≡ Some (with_degree node d
 
 -- ---- Tables
 
--- the opposite order
-abbrev pub opposite : {K : Type 0} → (K → K → Ordering) → Reverse K → Reverse K → Ordering
-opposite cmp x y = cmp y.0 x.0
-
 -- the order of two operands: by the first, then by the second
 abbrev pub operands_cmp : ℕ × ℕ → ℕ × ℕ → Ordering
 operands_cmp k l = ordering_then (nat_cmp k.0 l.0) (nat_cmp k.1 l.1)
 
--- the number of a key in a map that goes from the greatest key down
-abbrev pub numbers_by : {K : Type 0} → (K → K → Ordering) → BTreeMap (Reverse K) ℕ → K → Option ℕ
-numbers_by cmp map k = get (opposite cmp) map (record { 0 = k })
+-- the number of a key: from the first run that has it, else from the map
+abbrev pub number_in : {K : Type 0} → (K → K → Ordering) → List (List (K × ℕ)) → BTreeMap K ℕ → K → Option ℕ
+number_in cmp [] rest key = get cmp rest key
+number_in cmp (run ∷ runs) rest key = option_or (lookup (is_at (cmp key)) run) (number_in cmp runs rest key)
+
+-- the number of a key in a table
+abbrev pub numbers_by : {K : Type 0} → (K → K → Ordering) → KindTable K → K → Option ℕ
+numbers_by cmp table key = number_in cmp table.runs.items table.rest key
 
 -- the key has this number now, and every other key the one that it had
 abbrev pub Entered : {K : Type 0} → (K → Option ℕ) → (K → Option ℕ) → K → ℕ → Type 0
@@ -61,7 +64,7 @@ pub record AreNumbered {A : Type 0} (nodes : List (SymbolicExpr A)) (leaf : A �
 -- the same of these tables, whose leaves have this order
 abbrev pub AreNumberedIn : {A : Type 0} → (A → A → Ordering) → KindTables A → List (SymbolicExpr A) → Type 0
 AreNumberedIn leaf_cmp t nodes =
-    AreNumbered nodes (numbers_by leaf_cmp t.leaves.numbers) (numbers_by operands_cmp t.sums.numbers) (numbers_by operands_cmp t.differences.numbers) (numbers_by nat_cmp t.negatives.numbers) (numbers_by operands_cmp t.products.numbers)
+    AreNumbered nodes (numbers_by leaf_cmp t.leaves) (numbers_by operands_cmp t.sums) (numbers_by operands_cmp t.differences) (numbers_by nat_cmp t.negatives) (numbers_by operands_cmp t.products)
 
 -- the same of the tables that are there: without any there are no nodes
 abbrev pub FindEach : {A : Type 0} → (A → A → Ordering) → List (KindTables A) → List (SymbolicExpr A) → Type 0

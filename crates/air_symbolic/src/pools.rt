@@ -1,6 +1,7 @@
 //! Pools of expressions, in which each tree stands once.
 
 mod algebra;
+mod ascending_run;
 mod base_pool;
 pub mod degree_table;
 mod degrees;

@@ -1,45 +1,79 @@
-//! The numbers of the nodes of one kind, in an ordered map.
-ghost use Rattle.std.specs.Prelude.{◌≡◌, None, OnOk, OnErr};
-ghost use Rattle.air_symbolic.specs.Numbering.{numbers_by, Entered};
+//! The numbers of the nodes of one kind.
+ghost use Rattle.std.specs.Prelude.{◌≡◌, ℕ, List, None, Some, IfSome, OnOk, OnErr};
+ghost use Rattle.std.specs.List.{slice_get};
 ghost use Rattle.std.specs.declared.cmp.Ordering.TheVariants.{Equal};
+ghost use Rattle.air_symbolic.specs.Runs.{IsBelow};
+ghost use Rattle.air_symbolic.specs.Numbering.{numbers_by, Entered};
 
+use crate::pools::ascending_run::AscendingRun;
 use std::alloc::{AllocError, Global};
-use std::cmp::Reverse;
 use std::collections::BTreeMap;
 
-/// The numbers of nodes, each by a key that tells it from the others of its kind.
+// How many runs a table has at most. What is numbered mostly comes in few sequences that interleave, as the columns of
+// this row and of the next one do.
+const RUNS: usize = 4;
+
+/// The numbers of nodes, each by a key that tells it from the others of its kind. A key goes to the end of the first run
+/// whose keys are all below it; if there is none, it begins a run, or goes into an ordered map once there are `RUNS`.
 #[derive(Drop)]
 pub struct KindTable<K: Copy + Ord> {
-    // the newest first: a search reads a block's keys from the first on, and new nodes mostly name new ones
-    pub(crate) numbers: BTreeMap<Reverse<K>, usize>,
+    pub(crate) runs: Vec<AscendingRun<K>>,
+    pub(crate) rest: BTreeMap<K, usize>,
 }
 
 impl<K: Copy + Ord> KindTable<K> {
     /// A table without numbers. It takes no memory.
     pub fn new(alloc: Global) -> Self
-        ensures { (k : K) → numbers_by K.cmp result.numbers k ≡ None }
+        ensures { (k : K) → numbers_by K.cmp result k ≡ None }
     {
         KindTable {
-            numbers: BTreeMap::new(alloc),
+            runs: Vec::new(alloc),
+            rest: BTreeMap::new(alloc),
         }
     }
 
     /// The number of a key, if it has one.
     pub fn find(&self, key: K) -> Option<usize>
-        ensures { result ≡ numbers_by K.cmp self.now.numbers key }
+        ensures { result ≡ numbers_by K.cmp self.now key }
     {
-        self.numbers.get(&Reverse(key)).copied()
+        for run in &self.runs {
+            if let Some(number) = run.find(key) {
+                return Some(number);
+            }
+        }
+        self.rest.get(&key).copied()
     }
 
-    /// Gives a key a number. Where memory is refused, nothing has changed.
+    /// Gives a key that has none a number. Where memory is refused, nothing has changed.
     pub fn enter(&mut self, key: K, number: usize) -> Result<(), AllocError>
         requires exact { (k : K) → K.cmp key k ≡ Equal → key ≡ k }
-        ensures entered { OnOk result (Entered (numbers_by K.cmp self.old.numbers)
-            (numbers_by K.cmp self.new.numbers) key number) }
-        ensures refused { OnErr result ((k : K) → numbers_by K.cmp self.new.numbers k
-            ≡ numbers_by K.cmp self.old.numbers k) }
+        ensures entered { OnOk result (numbers_by K.cmp self.old key ≡ None →
+            Entered (numbers_by K.cmp self.old) (numbers_by K.cmp self.new) key number) }
+        ensures refused { OnErr result ((k : K) →
+            numbers_by K.cmp self.new k ≡ numbers_by K.cmp self.old k) }
     {
-        self.numbers.insert(Reverse(key), number)?;
+        if let Some(at) = run_below(&self.runs, key) {
+            return self.runs[at].push(key, number);
+        }
+        if self.runs.len() < RUNS {
+            let mut run = AscendingRun::new(*self.runs.allocator());
+            run.push(key, number)?;
+            return Ok(self.runs.push(run)?);
+        }
+        self.rest.insert(key, number)?;
         Ok(())
     }
+}
+
+/// A run whose keys are all below this one, the first there is.
+fn run_below<K: Copy + Ord>(runs: &[AscendingRun<K>], key: K) -> Option<usize>
+    ensures { IfSome result (λ i. (run : List (K × ℕ))
+        × (slice_get runs.now i ≡ Some run) × IsBelow K.cmp run key) }
+{
+    for at in 0..runs.len() {
+        if runs[at].is_below(key) {
+            return Some(at);
+        }
+    }
+    None
 }
