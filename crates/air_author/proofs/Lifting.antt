@@ -23,5 +23,5 @@ pub made_in_base : {S R X B E F : Type 0} {view : BuilderView S R B F} {over : E
     → MakesTerm (MeansIn view) view.grew view.missing view.refuses a b (Ok x) t → q ≡ over.ring_of b → over.base_has q x
 made_in_base {view = view} {over = over} ring laws extension a b q x t was_ready h p =
     let is_ready = laws.ready_kept a b (laws.by_growth a b [] h.keeps) was_ready in
-    let is_in = ring.means_has (view.ring_of b) x (with_leaves (view.reads_as b) t) h.made in
+    let is_in = ring.means_has (view.ring_of b) x (with_leaves (view.reads_as b) t) h.made.0 in
     subst (λ s. over.base_has s x) (sym p) (extension.has_base b x is_ready is_in)

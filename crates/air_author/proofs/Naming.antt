@@ -22,7 +22,7 @@ module _ {S E F : Type 0} {grew : S → S → List (Assertion F) → Type 0} {la
       record {
         label = l.label;
         said = l.said;
-        grown = named.labelled_joined a b d [] ((one t, l.label) ∷ []) (named.labelled_nothing a b h.keeps) (l.grown (one t) (t, h.made, refl));
+        grown = named.labelled_joined a b d [] ((one t, l.label) ∷ []) (named.labelled_nothing a b h.keeps) (l.grown (one t) (t, h.made.0, refl));
       }
   made_then_labelled one a b d x (Err e) t h k = tt
 

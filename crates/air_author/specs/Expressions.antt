@@ -1,5 +1,6 @@
 -- What the making of an expression does.
-use Rattle.std.specs.Prelude.{ℕ, zero, suc, List, [], Result, Ok, Err, OnOk, IfOk, IfErr}
+use Rattle.std.specs.Prelude.{ℕ, zero, suc, List, [], ◌∷◌, All, Result, Ok, Err, OnOk, IfOk, IfErr}
+use Rattle.std.specs.List.{AllZip}
 use Rattle.air_field.specs.Term.{Leaf, Term}
 use Rattle.air_field.specs.declared.errors.RingError.{RingError}
 use Rattle.air_core.specs.declared.errors.AirError.{AirError}
@@ -13,31 +14,32 @@ use Rattle.air_builder.specs.Refusals.{PartOf, EachLeaf}
 abbrev pub Lasts : {S : Type 0} → (S → S → Type 0) → (S → Type 0) → S → Type 0
 Lasts {S} kept fact a = (b : S) → kept a b → fact b
 
--- An element of the term was made: nothing was asserted, and each leaf of the term is there. A refusal may be one of any
--- list that has the term as a part.
-pub record MakesTerm {S E F X : Type 0} (means : S → E → Term F → Type 0) (grew : S → S → List (Assertion F) → Type 0)
-    (missing : S → Leaf → Type 0) (refuses : S → X → List (Assertion F) → Type 0) (a b : S) (r : Result E X)
-    (t : Term F) : Type 0 where
+-- What a call that makes does to a builder: it made an element of each term, in order. Nothing was asserted, and each
+-- leaf of the terms is there. A refusal may be one of any list that has each of the terms as a part.
+pub record Makes {S E F X Y : Type 0} (elements : Y → List E) (means : S → E → Term F → Type 0)
+    (grew : S → S → List (Assertion F) → Type 0) (missing : S → Leaf → Type 0)
+    (refuses : S → X → List (Assertion F) → Type 0) (a b : S) (r : Result Y X) (ts : List (Term F)) : Type 0 where
   pub keeps : grew a b []
-  pub made : IfOk r (λ x. means b x t)
-  pub there : OnOk r (EachLeaf (λ l. missing a l → ⊥) t)
-  pub refused : IfErr r (λ e. (ts : List (Assertion F)) → PartOf t ts → refuses a e ts)
+  pub made : IfOk r (λ y. AllZip (means b) (elements y) ts)
+  pub there : OnOk r (All (EachLeaf (λ l. missing a l → ⊥)) ts)
+  pub refused : IfErr r (λ e. (ss : List (Assertion F)) → All (λ t. PartOf t ss) ts → refuses a e ss)
 
--- Elements of both terms were made, as `MakesTerm` says of one.
-pub record MadeBoth {S E F X : Type 0} (means : S → E → Term F → Type 0) (grew : S → S → List (Assertion F) → Type 0)
-    (missing : S → Leaf → Type 0) (refuses : S → X → List (Assertion F) → Type 0) (a b : S) (r : Result (E × E) X)
-    (t u : Term F) : Type 0 where
-  pub keeps : grew a b []
-  pub made : IfOk r (λ both. means b both.0 t × means b both.1 u)
-  pub there : OnOk r (EachLeaf (λ l. missing a l → ⊥) t × EachLeaf (λ l. missing a l → ⊥) u)
-  pub refused : IfErr r (λ e. (ts : List (Assertion F)) → PartOf t ts × PartOf u ts → refuses a e ts)
+-- an element of one term
+abbrev pub MakesTerm : {S E F X : Type 0} → (S → E → Term F → Type 0) → (S → S → List (Assertion F) → Type 0)
+    → (S → Leaf → Type 0) → (S → X → List (Assertion F) → Type 0) → S → S → Result E X → Term F → Type 0
+MakesTerm means grew missing refuses a b r t = Makes (λ x. x ∷ []) means grew missing refuses a b r (t ∷ [])
+
+-- a pair of elements of two
+abbrev pub MakesBoth : {S E F X : Type 0} → (S → E → Term F → Type 0) → (S → S → List (Assertion F) → Type 0)
+    → (S → Leaf → Type 0) → (S → X → List (Assertion F) → Type 0) → S → S → Result (E × E) X → Term F → Term F → Type 0
+MakesBoth means grew missing refuses a b r t u = Makes (λ p. p.0 ∷ p.1 ∷ []) means grew missing refuses a b r (t ∷ u ∷ [])
 
 -- the same of a builder as its laws see it
-abbrev pub MadeIn : {S R E F : Type 0} → BuilderView S R E F → S → S → Result E AirError → Term F → Type 0
-MadeIn view a b r t = MakesTerm (MeansIn view) view.grew view.missing view.refuses a b r t
+abbrev pub MakesIn : {S R E F : Type 0} → BuilderView S R E F → S → S → Result E AirError → Term F → Type 0
+MakesIn view a b r t = MakesTerm (MeansIn view) view.grew view.missing view.refuses a b r t
 
-abbrev pub MadeBothIn : {S R E F : Type 0} → BuilderView S R E F → S → S → Result (E × E) AirError → Term F → Term F → Type 0
-MadeBothIn view a b r t u = MadeBoth (MeansIn view) view.grew view.missing view.refuses a b r t u
+abbrev pub MakesBothIn : {S R E F : Type 0} → BuilderView S R E F → S → S → Result (E × E) AirError → Term F → Term F → Type 0
+MakesBothIn view a b r t u = MakesBoth (MeansIn view) view.grew view.missing view.refuses a b r t u
 
 -- what a ring answered, as its builder answers it
 abbrev pub air_result : {E : Type 0} → Result E RingError → Result E AirError

@@ -1,4 +1,5 @@
 -- What is known of an expression that was made, where it is handed to a gadget.
+use Rattle.std.proofs.Common.{arith}
 use Rattle.std.specs.Prelude.{◌<◌, List, [], length, take, Result, Ok, Err, ⊤}
 use Rattle.air_field.specs.Term.{Leaf, Term, leaf_term, const_term, ext_const_term, add_term, sub_term, neg_term, mul_term}
 use Rattle.air_core.specs.declared.errors.AirError.{AirError}
@@ -8,6 +9,7 @@ use Rattle.air_builder.specs.laws.Filters.{means_kept}
 use Rattle.air_builder.specs.Refusals.{EachLeaf, PartOf}
 use Rattle.air_builder.specs.Batches.{Asserted}
 use Rattle.air_author.specs.Expressions.{MakesTerm, Lasts, Holds}
+use Rattle.air_author.specs.laws.Each.{of_one}
 
 pub each_weaker : {F : Type 0} {P Q : Leaf → Type 0} (t : Term F) → ((l : Leaf) → P l → Q l) → EachLeaf P t → EachLeaf Q t
 each_weaker (leaf_term l) f h = f l h
@@ -27,8 +29,8 @@ module _ {S R E F : Type 0} {view : BuilderView S R E F} (ring : RingLaws view) 
   made_lasts a b x t h d k =
       let before = laws.kept_joined a b d (laws.by_growth a b [] h.keeps) k in
       record {
-        meant = means_kept ring laws b d x t k h.made;
-        leaves = each_weaker t (λ l f m. f (laws.missing_kept a d l before m)) h.there;
+        meant = means_kept ring laws b d x t k h.made.0;
+        leaves = each_weaker t (λ l f m. f (laws.missing_kept a d l before m)) (h.there 0 t (omega arith));
       }
 
 module _ {S R B E F : Type 0} {view : BuilderView S R B F} {means : S → E → Term F → Type 0}
@@ -43,7 +45,7 @@ module _ {S R B E F : Type 0} {view : BuilderView S R B F} {means : S → E → 
     ok = tt;
     there = tt;
     err = record { count = 0; within = some; beginning = h.keeps };
-    refused = h.refused ts part;
+    refused = h.refused ts (of_one (λ u. PartOf u ts) t part);
   }
 
   -- it was made, and then the list was asserted

@@ -2,7 +2,7 @@
 ghost use Rattle.std.specs.Prelude.{⊤};
 ghost use Rattle.air_field.specs.Term.{Term};
 ghost use Rattle.air_builder.specs.Notation.{◌⊙◌};
-ghost use Rattle.air_author.specs.Expressions.{MadeIn, Lasts};
+ghost use Rattle.air_author.specs.Expressions.{MakesIn, Lasts};
 
 use crate::AirResult;
 use crate::expressions::arithmetic::Times;
@@ -27,7 +27,7 @@ pub trait Condition<AB: AirBuilder> {
     fn make_under<X: Expression<AB>>(&self, builder: &mut AB, x: &X) -> AirResult<AB::Expr>
         requires ready { AB.ready builder.old }
         requires held { Lasts AB.kept (λ b. where_holds self.now b × X.holds x.now b) builder.old }
-        ensures { MadeIn ⟦<AB as View>⟧.view builder.old builder.new result
+        ensures { MakesIn ⟦<AB as View>⟧.view builder.old builder.new result
             (under self.now (X.term x.now)) };
 
     /// The same over the extension.
@@ -37,7 +37,7 @@ pub trait Condition<AB: AirBuilder> {
         requires ready { AB.ready builder.old }
         requires held { Lasts AB.kept (λ b. where_holds self.now b × X.ext_holds x.now b)
             builder.old }
-        ensures { MadeIn ⟦<AB as ViewOver>⟧.view builder.old builder.new result
+        ensures { MakesIn ⟦<AB as ViewOver>⟧.view builder.old builder.new result
             (ext_under self.now (X.ext_term x.now)) };
 }
 

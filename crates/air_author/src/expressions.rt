@@ -1,7 +1,7 @@
 //! Expressions as values, each of a small type of its own that knows its term.
 ghost use Rattle.std.specs.Prelude.{◌≡◌, ⊤, Some, None, IfOk, IfErr, slice_get};
 ghost use Rattle.air_field.specs.Term.{Term};
-ghost use Rattle.air_author.specs.Expressions.{MadeIn, Lasts, air_result};
+ghost use Rattle.air_author.specs.Expressions.{MakesIn, Lasts, air_result};
 
 use crate::AirResult;
 use air_builder::{AirBuilder, AirError, ExtensionBuilder, View, ViewOver};
@@ -29,7 +29,7 @@ pub trait Expression<AB: AirBuilder> {
     fn make(&self, builder: &mut AB) -> AirResult<AB::Expr>
         requires ready { AB.ready builder.old }
         requires held { Lasts AB.kept (holds self.now) builder.old }
-        ensures { MadeIn ⟦<AB as View>⟧.view builder.old builder.new result (term self.now) };
+        ensures { MakesIn ⟦<AB as View>⟧.view builder.old builder.new result (term self.now) };
 }
 
 /// An expression of constraints over the extension.
@@ -44,7 +44,7 @@ pub trait ExtExpression<AB: ExtensionBuilder> {
     fn make_ext(&self, builder: &mut AB) -> AirResult<AB::ExprEF>
         requires ready { AB.ready builder.old }
         requires held { Lasts AB.kept (ext_holds self.now) builder.old }
-        ensures { MadeIn ⟦<AB as ViewOver>⟧.view builder.old builder.new result
+        ensures { MakesIn ⟦<AB as ViewOver>⟧.view builder.old builder.new result
             (ext_term self.now) };
 }
 

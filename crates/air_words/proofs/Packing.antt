@@ -20,7 +20,7 @@ module _ {S R E F : Type 0} {view : BuilderView S R E F} (ring : RingLaws view) 
   pub stays_in_ring : (a b d : S) (q : R) (x y : E) (t u : Term F) → MakesTerm (MeansIn view) grew missing refuses a b (Ok x) t
       → MakesTerm (MeansIn view) grew missing refuses b d (Ok y) u → q ≡ ring_of d → has q x
   stays_in_ring a b d q x y t u h k p =
-      let later = means_kept ring laws b d x t (laws.by_growth b d [] k.keeps) h.made in
+      let later = means_kept ring laws b d x t (laws.by_growth b d [] k.keeps) h.made.0 in
       subst (λ s. has s x) (sym p) (ring.means_has (ring_of d) x (with_leaves (reads_as d) t) later)
 
 module _ {F : Type 0} (at : ℕ → Term F) where

@@ -3,7 +3,7 @@ ghost use Rattle.std.specs.Prelude.{◌≡◌, ℕ, ◌+◌, ◌<◌, ◌≤◌,
 ghost use Rattle.air_field.specs.Algebra.{MadeOfBoth, RefusedOfBoth};
 ghost use Rattle.air_field.specs.Term.{Term};
 ghost use Rattle.air_gadgets.specs.Packing.{packed_from, packed_term};
-ghost use Rattle.air_author.specs.Expressions.{MadeIn};
+ghost use Rattle.air_author.specs.Expressions.{MakesIn};
 ghost use Rattle.air_words.specs.BitTerms.{twice_and_term, terms_from, first_terms};
 
 use air_author::{AirResult, Constant, Expression, answered};
@@ -26,7 +26,7 @@ pub trait Series<AB: AirBuilder> {
     fn make_at(&self, index: usize, builder: &mut AB) -> AirResult<AB::Expr>
         requires ready { AB.ready builder.old }
         requires within { index < count self.now }
-        ensures { MadeIn ⟦<AB as View>⟧.view builder.old builder.new result
+        ensures { MakesIn ⟦<AB as View>⟧.view builder.old builder.new result
             (term_at self.now index) };
 }
 
@@ -57,7 +57,7 @@ fn make_packed<AB: AirBuilder, S: Series<AB>>(
     requires ready { AB.ready builder.old }
     requires within { at + more < S.count series.now }
     requires fits { at + more ≤ usize.MAX }
-    ensures { MadeIn ⟦<AB as View>⟧.view builder.old builder.new result
+    ensures { MakesIn ⟦<AB as View>⟧.view builder.old builder.new result
         (packed_from (S.term_at series.now at) (terms_from (S.term_at series.now) (at + 1) more)) }
 {
     if more == 0 {

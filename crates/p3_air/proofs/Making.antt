@@ -1,5 +1,5 @@
 -- Making the expressions of numbers.
-use Rattle.std.proofs.Common.{◌≡◌, ◌<◌, ℕ, List, [], length, slice_get, Some, Ok, Err, sym, ap, ap₂, subst, ◌∙◌}
+use Rattle.std.proofs.Common.{◌≡◌, ◌<◌, ℕ, List, [], length, slice_get, Some, Ok, Err, sym, ap, ap₂, subst, ◌∙◌, arith}
 use Rattle.air_field.specs.Term.{Leaf, Term, leaf_term, add_term, sub_term, neg_term, mul_term}
 use Rattle.air_core.specs.declared.errors.AirError.TheVariants.{RowOffset}
 use Rattle.air_symbolic.specs.Leaves.{Leaves}
@@ -11,6 +11,7 @@ use Rattle.air_builder.specs.Builders.{MeansIn, BuilderView, RingLaws, BuilderLa
 use Rattle.air_builder.specs.laws.Filters.{means_kept}
 use Rattle.air_builder.specs.Refusals.{IsPastWindow, EachLeaf}
 use Rattle.air_author.specs.Expressions.{MakesTerm, Lasts}
+use Rattle.air_author.specs.laws.Each.{of_one}
 use Rattle.air_author.specs.Handing.{each_weaker, made_lasts}
 use Rattle.air_symbolic.specs.laws.Sharing.{found}
 use Rattle.p3_air.specs.declared.flat.step.Step.{Step}
@@ -92,7 +93,7 @@ module _ {S R B F : Type 0} {view : BuilderView S R B F} (laws : BuilderLaws vie
 
   -- what the table has is made already
   pub made_already : {means : S → B → Term F → Type 0} (a : S) (t : Term F) (x : B) → IsMade means missing a t x → MakesTerm means grew missing refuses a a (Ok x) t
-  made_already a t x h = record { keeps = laws.same a; made = h.meant; there = h.leaves; refused = tt }
+  made_already a t x h = record { keeps = laws.same a; made = (h.meant, tt); there = of_one (EachLeaf (λ l. missing a l → ⊥)) t h.leaves; refused = tt }
 
   -- no window has the row
   pub past_window_refused : {E : Type 0} {means : S → E → Term F → Type 0} (a : S) (o : ℕ) (l : Leaf)
@@ -101,7 +102,7 @@ module _ {S R B F : Type 0} {view : BuilderView S R B F} (laws : BuilderLaws vie
     keeps = laws.same a;
     made = tt;
     there = tt;
-    refused = λ ts p. laws.refuses_missing a (RowOffset o) l ts (laws.past_window a o l past) past p;
+    refused = λ ts p. laws.refuses_missing a (RowOffset o) l ts (laws.past_window a o l past) past (p 0 (leaf_term l) (omega arith));
   }
 
 module _ {S R E F : Type 0} {view : BuilderView S R E F} (ring : RingLaws view) (laws : BuilderLaws view) where

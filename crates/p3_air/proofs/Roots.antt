@@ -1,6 +1,6 @@
 -- The expressions of roots, read from the table.
 use Rattle.std.specs.List.{AllZip}
-use Rattle.std.proofs.Common.{◌≡◌, ℕ, zero, suc, ◌+◌, ◌<◌, List, [], ◌∷◌, ◌++◌, length, get_or, slice_get, map, take, All, Some, Result, Ok, Err, IfOk, IfErr, Vec, inl, sym, ap, subst, ◌∙◌, arith}
+use Rattle.std.proofs.Common.{◌≡◌, ℕ, suc, ◌+◌, ◌<◌, List, [], ◌∷◌, ◌++◌, length, get_or, slice_get, map, take, All, Some, Result, Ok, Err, IfOk, IfErr, Vec, inl, sym, ap, subst, ◌∙◌, arith}
 use Rattle.std.specs.Global.{Global}
 use Rattle.std.proofs.lemmas.List.{take_more, get_or-map, length-map}
 use Rattle.std.proofs.lemmas.Option.{slice_get_within}
@@ -11,10 +11,10 @@ use Rattle.air_core.specs.declared.errors.AirError.TheVariants.{Memory}
 use Rattle.air_builder.specs.laws.Zips.{AllZip-joined}
 use Rattle.air_builder.specs.Builders.{MeansIn, BuilderView, RingLaws, BuilderLaws}
 use Rattle.air_builder.specs.Assertion.{Assertion}
-use Rattle.air_builder.specs.Refusals.{PartOf, EachLeaf}
+use Rattle.air_builder.specs.Refusals.{EachLeaf}
 use Rattle.air_author.specs.Expressions.{MakesTerm}
 use Rattle.air_builder.specs.Batches.{OrMemory}
-use Rattle.p3_air.specs.Tables.{IsMade, HasAt, MadeAll}
+use Rattle.p3_air.specs.Tables.{IsMade, HasAt, MakesAll}
 use Rattle.p3_air.proofs.Making.{there_before}
 
 -- what holds of each image holds of each element's image
@@ -59,7 +59,7 @@ module _ {S R E F : Type 0} {view : BuilderView S R E F} (ring : RingLaws view) 
       (r : Result (Vec E Global) AirError)
       → grew a b [] → All (λ i. HasAt (IsMade (MeansIn view) missing b (term i)) table i) roots
       → IfOk r (λ xs. AllZip (λ x i. slice_get table i ≡ Some x) xs.items roots) → IfErr r (λ e. e ≡ Memory)
-      → MadeAll (MeansIn view) grew missing (OrMemory refuses) a b r (map term roots)
+      → MakesAll (MeansIn view) grew missing (OrMemory refuses) a b r (map term roots)
   all_made a b term table roots (Ok xs) g h read memory = record {
     keeps = g;
     made = each_read (MeansIn view b) term table xs.items roots (λ k d lt. let x = h k d lt in (x.0, x.1, x.2.meant)) read;
@@ -85,25 +85,21 @@ first_has {E} P (y ∷ ys) t x z at = subst (λ v. P v t) (same at) z.0
     same : Some y ≡ Some x → y ≡ x
     same e = cc
 
-all_one : {A : Type 0} (P : A → Type 0) (x : A) → P x → All P (x ∷ [])
-all_one P x h zero d lt = h
-all_one P x h (suc k) d lt = absurd (omega (arith, lt))
-
 module _ {S E F X : Type 0} (means : S → E → Term F → Type 0) (grew : S → S → List (Assertion F) → Type 0)
     (missing : S → Leaf → Type 0) (refuses : S → X → List (Assertion F) → Type 0) (a b : S) (t : Term F) where
   -- what was made of a list of one term is made of the term
-  pub one_made : (xs : Vec E Global) (x : E) → MadeAll means grew missing refuses a b (Ok xs) (t ∷ []) → slice_get xs.items 0 ≡ Some x → MakesTerm means grew missing refuses a b (Ok x) t
+  pub one_made : (xs : Vec E Global) (x : E) → MakesAll means grew missing refuses a b (Ok xs) (t ∷ []) → slice_get xs.items 0 ≡ Some x → MakesTerm means grew missing refuses a b (Ok x) t
   one_made xs x h at = record {
     keeps = h.keeps;
-    made = first_has (means b) xs.items t x h.made at;
-    there = h.there 0 t (omega arith);
+    made = (first_has (means b) xs.items t x h.made at, tt);
+    there = h.there;
     refused = tt;
   }
 
-  pub one_refused : (e : X) → MadeAll {E = E} means grew missing refuses a b (Err e) (t ∷ []) → MakesTerm {E = E} means grew missing refuses a b (Err e) t
+  pub one_refused : (e : X) → MakesAll {E = E} means grew missing refuses a b (Err e) (t ∷ []) → MakesTerm {E = E} means grew missing refuses a b (Err e) t
   one_refused e h = record {
     keeps = h.keeps;
     made = tt;
     there = tt;
-    refused = λ ss p. h.refused ss (all_one (λ u. PartOf u ss) t p);
+    refused = h.refused;
   }

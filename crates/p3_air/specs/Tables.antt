@@ -1,11 +1,9 @@
 -- Expressions by the numbers of a pool.
-use Rattle.std.specs.List.{AllZip}
-use Rattle.std.specs.Prelude.{◌≡◌, ◌<◌, ℕ, List, [], slice_get, All, Option, Some, Result, Vec, OnOk, IfOk, IfErr}
+use Rattle.std.specs.Prelude.{◌≡◌, ◌<◌, ℕ, List, slice_get, Option, Some, Result, Vec}
 use Rattle.std.specs.Global.{Global}
 use Rattle.air_field.specs.Term.{Leaf, Term}
 use Rattle.air_builder.specs.Assertion.{Assertion}
-use Rattle.air_builder.specs.Refusals.{PartOf, EachLeaf}
-use Rattle.air_author.specs.Expressions.{Holds}
+use Rattle.air_author.specs.Expressions.{Holds, Makes}
 use Rattle.p3_air.specs.Plans.{number_at}
 
 -- in the builder the term has this expression
@@ -24,12 +22,7 @@ HasAt P table p = SomeHas P (slice_get table p)
 abbrev pub TableMade : {E F : Type 0} → (Term F → E → Type 0) → (ℕ → Term F) → List ℕ → List E → ℕ → Type 0
 TableMade is_made term numbers table k = (p : ℕ) → p < k → HasAt (is_made (term (number_at numbers p))) table p
 
--- The expression of each term was made, in order: nothing was asserted, and each leaf of the terms is there. A refusal
--- may be one of any list that has each of the terms as a part.
-pub record MadeAll {S E F X : Type 0} (means : S → E → Term F → Type 0) (grew : S → S → List (Assertion F) → Type 0)
-    (missing : S → Leaf → Type 0) (refuses : S → X → List (Assertion F) → Type 0) (a b : S)
-    (r : Result (Vec E Global) X) (ts : List (Term F)) : Type 0 where
-  pub keeps : grew a b []
-  pub made : IfOk r (λ xs. AllZip (λ x t. means b x t) xs.items ts)
-  pub there : OnOk r (All (λ t. EachLeaf (λ l. missing a l → ⊥) t) ts)
-  pub refused : IfErr r (λ e. (ss : List (Assertion F)) → All (λ t. PartOf t ss) ts → refuses a e ss)
+-- a list of expressions was made, of each term in order
+abbrev pub MakesAll : {S E F X : Type 0} → (S → E → Term F → Type 0) → (S → S → List (Assertion F) → Type 0)
+    → (S → Leaf → Type 0) → (S → X → List (Assertion F) → Type 0) → S → S → Result (Vec E Global) X → List (Term F) → Type 0
+MakesAll means grew missing refuses a b r ts = Makes (λ xs. xs.items) means grew missing refuses a b r ts

@@ -5,7 +5,7 @@ ghost use Rattle.air_field.specs.Term.{Term};
 ghost use Rattle.air_builder.specs.Notation.{is_zero, ◌⊖◌};
 ghost use Rattle.air_builder.specs.Builders.{less_one_term};
 ghost use Rattle.air_builder.specs.Batches.{AssertedIn};
-ghost use Rattle.air_author.specs.Expressions.{MadeIn, Lasts};
+ghost use Rattle.air_author.specs.Expressions.{MakesIn, Lasts};
 
 use crate::AirResult;
 use crate::conditions::Condition;
@@ -29,7 +29,7 @@ pub trait Claim<AB: AirBuilder> {
         requires ready { AB.ready builder.old }
         requires held { Lasts AB.kept (λ b. claim_holds self.now b × K.where_holds condition.now b)
             builder.old }
-        ensures { MadeIn ⟦<AB as View>⟧.view builder.old builder.new result
+        ensures { MakesIn ⟦<AB as View>⟧.view builder.old builder.new result
             (K.under condition.now (claims self.now)) };
 }
 

@@ -7,7 +7,7 @@ ghost use Rattle.air_builder.specs.Notation.{ext_is_zero, ◌⊖◌};
 ghost use Rattle.air_builder.specs.Builders.{less_one_term};
 ghost use Rattle.air_builder.specs.Batches.{AssertedIn};
 ghost use Rattle.air_author.specs.Constraints.{IsLabelled};
-ghost use Rattle.air_author.specs.Expressions.{MadeIn, Lasts};
+ghost use Rattle.air_author.specs.Expressions.{MakesIn, Lasts};
 
 use crate::AirResult;
 use crate::conditions::Condition;
@@ -37,7 +37,7 @@ pub trait ExtClaim<AB: ExtensionBuilder> {
         requires held { Lasts AB.kept (λ b. ext_claim_holds self.now b × K.where_holds condition.now
             b)
             builder.old }
-        ensures { MadeIn ⟦<AB as ViewOver>⟧.view builder.old builder.new result
+        ensures { MakesIn ⟦<AB as ViewOver>⟧.view builder.old builder.new result
             (K.ext_under condition.now (ext_claims self.now)) };
 }
 

@@ -1,7 +1,7 @@
 //! Operations on expressions.
 ghost use Rattle.air_field.specs.Algebra.{double_term, bool_check_term};
 ghost use Rattle.air_builder.specs.Notation.{negative, ◌⊕◌, ◌⊖◌, ◌⊙◌};
-ghost use Rattle.air_author.specs.Expressions.{Lasts, MadeIn, MadeBothIn};
+ghost use Rattle.air_author.specs.Expressions.{Lasts, MakesIn, MakesBothIn};
 
 use crate::AirResult;
 use crate::expressions::{Expression, answered};
@@ -17,7 +17,7 @@ fn make_both<AB: AirBuilder, X: Expression<AB>, Y: Expression<AB>>(
 ) -> AirResult<(AB::Expr, AB::Expr)>
     requires ready { AB.ready builder.old }
     requires held { Lasts AB.kept (λ b. X.holds x.now b × Y.holds y.now b) builder.old }
-    ensures { MadeBothIn ⟦<AB as View>⟧.view builder.old builder.new result (X.term x.now)
+    ensures { MakesBothIn ⟦<AB as View>⟧.view builder.old builder.new result (X.term x.now)
         (Y.term y.now) }
 {
     let first = x.make(builder)?;
@@ -34,7 +34,7 @@ pub fn make_sum<AB: AirBuilder, X: Expression<AB>, Y: Expression<AB>>(
 ) -> AirResult<AB::Expr>
     requires ready { AB.ready builder.old }
     requires held { Lasts AB.kept (λ b. X.holds x.now b × Y.holds y.now b) builder.old }
-    ensures { MadeIn ⟦<AB as View>⟧.view builder.old builder.new result
+    ensures { MakesIn ⟦<AB as View>⟧.view builder.old builder.new result
         (X.term x.now ⊕ Y.term y.now) }
 {
     let (x, y) = make_both(builder, x, y)?;
@@ -50,7 +50,7 @@ pub fn make_difference<AB: AirBuilder, X: Expression<AB>, Y: Expression<AB>>(
 ) -> AirResult<AB::Expr>
     requires ready { AB.ready builder.old }
     requires held { Lasts AB.kept (λ b. X.holds x.now b × Y.holds y.now b) builder.old }
-    ensures { MadeIn ⟦<AB as View>⟧.view builder.old builder.new result
+    ensures { MakesIn ⟦<AB as View>⟧.view builder.old builder.new result
         (X.term x.now ⊖ Y.term y.now) }
 {
     let (x, y) = make_both(builder, x, y)?;
@@ -66,7 +66,7 @@ pub fn make_product<AB: AirBuilder, X: Expression<AB>, Y: Expression<AB>>(
 ) -> AirResult<AB::Expr>
     requires ready { AB.ready builder.old }
     requires held { Lasts AB.kept (λ b. X.holds x.now b × Y.holds y.now b) builder.old }
-    ensures { MadeIn ⟦<AB as View>⟧.view builder.old builder.new result
+    ensures { MakesIn ⟦<AB as View>⟧.view builder.old builder.new result
         (X.term x.now ⊙ Y.term y.now) }
 {
     let (x, y) = make_both(builder, x, y)?;

@@ -5,7 +5,7 @@ ghost use Rattle.air_builder.specs.Notation.{current, next, periodic, preprocess
 ghost use Rattle.air_core.specs.Entries.{entry_leaf};
 ghost use Rattle.air_builder.specs.Builders.{VariableReadsAs};
 ghost use Rattle.air_builder.specs.Refusals.{IsOfWindow};
-ghost use Rattle.air_author.specs.Expressions.{MadeIn};
+ghost use Rattle.air_author.specs.Expressions.{MakesIn};
 
 use crate::AirResult;
 use crate::expressions::{Expression, answered, element, present};
@@ -26,7 +26,7 @@ fn make_found<AB: AirBuilder>(
         (AB.reads_as builder.old) (entry_leaf entry index)) }
     requires of_window { IsOfWindow entry }
     requires none { (found ≡ None) ↔ AB.missing builder.old (entry_leaf entry index) }
-    ensures { MadeIn ⟦<AB as View>⟧.view builder.old builder.new result
+    ensures { MakesIn ⟦<AB as View>⟧.view builder.old builder.new result
         (leaf_term (entry_leaf entry index)) }
 {
     let v = present(found, AirError::MissingEntry { entry, index })?;

@@ -1,7 +1,7 @@
 //! Expressions over the extension. Operations are those on base expressions.
 ghost use Rattle.air_field.specs.Algebra.{double_term, bool_check_term};
 ghost use Rattle.air_builder.specs.Notation.{ext_constant, negative, ◌⊕◌, ◌⊖◌, ◌⊙◌};
-ghost use Rattle.air_author.specs.Expressions.{Lasts, MadeIn, MadeBothIn, power_term};
+ghost use Rattle.air_author.specs.Expressions.{Lasts, MakesIn, MakesBothIn, power_term};
 
 use crate::AirResult;
 use crate::expressions::arithmetic::{
@@ -21,7 +21,7 @@ pub(crate) fn make_lifted<AB: ExtensionBuilder, X: Expression<AB>>(
 ) -> AirResult<AB::ExprEF>
     requires ready { AB.ready builder.old }
     requires held { Lasts AB.kept (X.holds x.now) builder.old }
-    ensures { MadeIn ⟦<AB as ViewOver>⟧.view builder.old builder.new result (X.term x.now) }
+    ensures { MakesIn ⟦<AB as ViewOver>⟧.view builder.old builder.new result (X.term x.now) }
 {
     let x = x.make(builder)?;
     answered(builder.ext_ring().lift(x))
@@ -79,7 +79,7 @@ fn make_both_ext<AB: ExtensionBuilder, X: ExtExpression<AB>, Y: ExtExpression<AB
 ) -> AirResult<(AB::ExprEF, AB::ExprEF)>
     requires ready { AB.ready builder.old }
     requires held { Lasts AB.kept (λ b. X.ext_holds x.now b × Y.ext_holds y.now b) builder.old }
-    ensures { MadeBothIn ⟦<AB as ViewOver>⟧.view builder.old builder.new result (X.ext_term x.now)
+    ensures { MakesBothIn ⟦<AB as ViewOver>⟧.view builder.old builder.new result (X.ext_term x.now)
         (Y.ext_term y.now) }
 {
     let first = x.make_ext(builder)?;

@@ -3,7 +3,7 @@
 ghost use Rattle.std.specs.Prelude.{◌≤◌};
 ghost use Rattle.air_field.specs.Term.{permutation, leaf_term};
 ghost use Rattle.air_builder.specs.Notation.{challenge, permutation_current, permutation_next, permutation_value};
-ghost use Rattle.air_author.specs.Expressions.{MadeIn};
+ghost use Rattle.air_author.specs.Expressions.{MakesIn};
 
 use crate::AirResult;
 use crate::expressions::{ExtExpression, answered, element, present};
@@ -22,7 +22,7 @@ where
     AB::ExtRing: FromVar<AB::F, AB::RandomVar> + FromVar<AB::F, AB::PermutationVar>,
     requires ready { AB.ready builder.old }
     requires within { offset ≤ 1 }
-    ensures { MadeIn ⟦<AB as ViewOver>⟧.view builder.old builder.new result
+    ensures { MakesIn ⟦<AB as ViewOver>⟧.view builder.old builder.new result
         (leaf_term (permutation offset index)) }
 {
     let found = builder.permutation_variable(offset, index)?;

@@ -5,7 +5,7 @@ ghost use Rattle.air_symbolic.specs.Pools.{IsPool, term_at, size};
 ghost use Rattle.air_builder.specs.Builders.{Means};
 ghost use Rattle.air_author.specs.Expressions.{MakesTerm};
 ghost use Rattle.air_builder.specs.Batches.{OrMemory};
-ghost use Rattle.p3_air.specs.Tables.{MadeAll};
+ghost use Rattle.p3_air.specs.Tables.{MakesAll};
 
 use crate::flat::nodes::known;
 use crate::flat::plan::plan_of;
@@ -46,7 +46,7 @@ pub fn resolve_all<AB: AirBuilder>(
     requires ready { AB.ready builder.old }
     requires pool { IsPool base_reads pool.now }
     requires here { All (λ i. i < size pool.now) roots.now }
-    ensures { MadeAll (Means AB.Ring.means AB.ring_of AB.reads_as)
+    ensures { MakesAll (Means AB.Ring.means AB.ring_of AB.reads_as)
         AB.grew AB.missing (OrMemory AB.refuses) builder.old builder.new result
         (map (term_at base_reads pool.now) roots.now) }
 {

@@ -9,7 +9,7 @@ ghost use Rattle.air_builder.specs.Builders.{Means};
 ghost use Rattle.air_builder.specs.Refusals.{PartOf};
 ghost use Rattle.p3_air.specs.Plans.{number_at, IsPlan};
 ghost use Rattle.air_builder.specs.Batches.{OrMemory};
-ghost use Rattle.p3_air.specs.Tables.{IsMade, TableMade, MadeAll};
+ghost use Rattle.p3_air.specs.Tables.{IsMade, TableMade, MakesAll};
 
 use crate::flat::nodes::{known, make_step};
 use crate::flat::plan::Plan;
@@ -74,7 +74,7 @@ pub(crate) fn make_planned<AB: AirBuilder>(
     requires planned { IsPlan base_leaves pool.now.nodes
         (map (number_at plan.now.numbers.items) plan.now.places.items)
         plan.now.numbers.items plan.now.steps.items plan.now.places.items }
-    ensures { MadeAll (Means AB.Ring.means AB.ring_of AB.reads_as)
+    ensures { MakesAll (Means AB.Ring.means AB.ring_of AB.reads_as)
         AB.grew AB.missing (OrMemory AB.refuses) builder.old builder.new result
         (map (λ p. term_at base_reads pool.now (number_at plan.now.numbers.items p))
         plan.now.places.items) }

@@ -3,7 +3,7 @@ use Rattle.air_symbolic.specs.BaseLeaves.{base_leaves, base_reads}
 use Rattle.air_symbolic.specs.Pools.{term_at}
 use Rattle.air_builder.specs.Builders.{Means}
 use Rattle.air_builder.specs.Batches.{OrMemory}
-use Rattle.p3_air.specs.Tables.{MadeAll}
+use Rattle.p3_air.specs.Tables.{MakesAll}
 use Rattle.p3_air.proofs.Needed.{planned_terms, plan_of_places}
 use Rattle.p3_air.proofs.flat.resolving.resolve_all.Goals as goal
 
@@ -17,4 +17,4 @@ returns g c =
     let A = g.AB.AirBuilder in
     let plan = c.in_ok-plan.plan in
     let same = planned_terms (term_at base_reads c.args.pool.now) plan.numbers.items plan.places.items c.args.roots.now c.in_ok-plan.ensures.planned.stand in
-    subst (λ ts. MadeAll (Means g.AB.Ring.Algebra.means A.ring_of A.reads_as) A.grew A.missing (OrMemory A.refuses) c.args.builder.now c.make_planned.new.builder c.make_planned.result ts) same c.make_planned.ensures
+    subst (λ ts. MakesAll (Means g.AB.Ring.Algebra.means A.ring_of A.reads_as) A.grew A.missing (OrMemory A.refuses) c.args.builder.now c.make_planned.new.builder c.make_planned.result ts) same c.make_planned.ensures
