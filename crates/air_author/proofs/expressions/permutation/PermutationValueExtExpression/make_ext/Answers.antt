@@ -1,8 +1,16 @@
-use Rattle.std.proofs.Common.{sym, ◌∙◌}
+use Rattle.std.proofs.Common.{sym, ◌∙◌, subst, refl}
 use Rattle.air_field.specs.Term.{permutation_value}
+use Rattle.air_builder.specs.Refusals.{NamesLeaf}
 use Rattle.air_builder.specs.laws.Extensions.{over_extension}
-use Rattle.air_author.specs.laws.Making.{entry_answered}
+use Rattle.air_author.specs.laws.Making.{entry_answered, leaf_gives_up}
 use Rattle.air_author.proofs.expressions.permutation.PermutationValueExtExpression.make_ext.Goals as goal
 
 pub returns : goal.returns
 returns g c = entry_answered g.met.AB.ExtRing.Algebra.laws (over_extension g.met.AB.AirBuilder.laws g.met.AB.ExtensionBuilder.ext_laws) g.AB.ExtRing.FromVar-3.var_means permutation_value _ _ _ _ _ _ _ _ c.answered.ensures c.ext_ring.ensures.value c.from_var.ensures.extended c.from_var.ensures.made c.from_var.ensures.refused c.permutation_values.ensures.reads_as c.permutation_values.ensures.ends (sym c.element.ensures ∙ c.in_ok-v.ensures.ok)
+
+pub returns-in_err-v : goal.returns-in_err-v
+returns-in_err-v g c =
+    let e = c.in_err-v.ensures.err in
+    let i = c.args.self.now.0 in
+    leaf_gives_up g.met.AB.AirBuilder.laws c.args.builder.now _ _ (permutation_value i) c.from_residual.ensures.1 ((c.permutation_values.ensures.ends i).1 (sym c.element.ensures ∙ e.0))
+    (subst (λ x. NamesLeaf x (permutation_value i)) (sym e.1) refl)
