@@ -5,12 +5,12 @@ use Rattle.air_field.specs.Algebra.{MadeOfBoth, RefusedOfBoth}
 use Rattle.air_field.specs.Part.{whole, in_add_left, in_add_right}
 use Rattle.air_field.specs.Term.{Term, with_leaves}
 use Rattle.air_field.specs.declared.errors.RingError.{RingError}
-use Rattle.air_gadgets.specs.Packing.{packed_from}
+use Rattle.air_gadgets.specs.Packing.{packed_from, packed_term}
 use Rattle.air_core.specs.declared.errors.AirError.{AirError}
 use Rattle.air_builder.specs.Builders.{MeansIn, BuilderView, RingLaws, BuilderLaws}
 use Rattle.air_builder.specs.laws.Filters.{means_kept}
 use Rattle.air_author.specs.Expressions.{MakesTerm, air_result}
-use Rattle.air_words.specs.BitTerms.{terms_from, twice_and_term}
+use Rattle.air_words.specs.BitTerms.{terms_from, first_terms, twice_and_term}
 use Rattle.air_author.specs.laws.Making.{part_gives_up, operand_gives_up, second_gives_up, one_by_one, both_answered}
 
 module _ {S R E F : Type 0} {view : BuilderView S R E F} (ring : RingLaws view) (laws : BuilderLaws view) where
@@ -22,6 +22,13 @@ module _ {S R E F : Type 0} {view : BuilderView S R E F} (ring : RingLaws view) 
   stays_in_ring a b d q x y t u h k p =
       let later = means_kept ring laws b d x t (laws.by_growth b d [] k.keeps) h.made.0 in
       subst (λ s. has s x) (sym p) (ring.means_has (ring_of d) x (with_leaves (reads_as d) t) later)
+
+-- the sum over a series that isn't empty, from its first term on
+pub all_packed : {F : Type 0} (none : F) (at : ℕ → Term F) (n : ℕ) → 0 < n → packed_from (at 0) (terms_from at (0 + 1) (n - 1)) ≡ packed_term none (first_terms at n)
+all_packed none at zero h = absurd (omega (arith, h))
+all_packed none at (suc n) h =
+    let e : suc n - 1 ≡ n = omega arith in
+    ap (λ m. packed_from (at 0) (terms_from at (0 + 1) m)) e
 
 module _ {F : Type 0} (at : ℕ → Term F) where
   abbrev pub packed_at : ℕ → ℕ → Term F

@@ -6,6 +6,7 @@ use Rattle.air_symbolic.specs.BaseLeaves.{base_leaves, base_reads}
 use Rattle.air_symbolic.specs.Pools.{term_at}
 use Rattle.air_builder.specs.Builders.{Means}
 use Rattle.air_builder.specs.Refusals.{PartOf}
+use Rattle.air_author.specs.laws.Each.{of_one}
 use Rattle.p3_air.specs.Plans.{number_at, MakesPlace}
 use Rattle.p3_air.specs.declared.flat.step.Step.TheVariants as step
 use Rattle.p3_air.specs.Tables.{IsMade, TableMade}
@@ -105,7 +106,7 @@ returns-in_err-x-clause-refused g c =
     let roots = All-map (λ i. PartOf (term i) ss) (number_at numbers) plan.places.items parts in
     let part = number_part base_leaves ns c.requires.pool.nodes (map (number_at numbers) plan.places.items) numbers plan.steps.items plan.places.items c.requires.planned ss roots k lt in
     let here = subst (λ v. PartOf (term (number_at v c.len-in-loop-step.result)) ss) (sym c.deref.ensures.value) (subst (λ q. PartOf (term (number_at numbers q)) ss) (sym same) part) in
-    inr (laws.refuses_then _ _ _ [] ss h.grown (c.in_err-x.ensures.refused ss here)))
+    inr (laws.refuses_then _ _ _ [] ss h.grown (c.in_err-x.ensures.refused ss (of_one (λ u. PartOf u ss) _ here))))
 
 pub returns-in_err-push-clause-keeps : goal.returns-in_err-push-clause-keeps
 returns-in_err-push-clause-keeps g c =
