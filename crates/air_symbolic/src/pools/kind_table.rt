@@ -65,7 +65,7 @@ impl<K: Copy + Ord> KindTable<K> {
     }
 }
 
-/// A run whose keys are all below this one, the first there is.
+/// A run whose keys are all below this one.
 fn run_below<K: Copy + Ord>(runs: &[AscendingRun<K>], key: K) -> Option<usize>
     ensures { IfSome result (λ i. (run : List (K × ℕ))
         × (slice_get runs.now i ≡ Some run) × IsBelow K.cmp run key) }

@@ -60,6 +60,8 @@ impl<A: Copy + Ord> NodeNumbers<A> {
     {
         if self.tables.is_empty() {
             let alloc = *self.tables.allocator();
+            // (a push alone makes room for four)
+            self.tables.reserve_exact(1)?;
             self.tables.push(KindTables::new(alloc))?;
         }
         Ok(())

@@ -13,14 +13,17 @@ use std::marker::Model;
 // How many places remember a number.
 const PLACES: usize = 256;
 
+// How many nodes there is room for from the first one on: those of a small AIR.
+const FIRST_NODES: usize = 24;
+
 /// Nodes by their numbers, which are handed out in order. Maps find a node's number, so that no call walks the list.
 #[derive(Drop)]
 pub struct NodeTable<A: Copy + Ord> {
     nodes: Vec<SymbolicExpr<A>>,
     numbers: NodeNumbers<A>,
     // by place, a number that a node of this place may have; without places until one is remembered, so that a pool is
-    // small to move
-    remembered: Vec<usize>,
+    // small to move, and of numbers of 32 bits, so that its block is small too
+    remembered: Vec<u32>,
 }
 
 impl<A: Copy + Ord> Model for NodeTable<A> {
@@ -80,20 +83,23 @@ impl<A: Copy + Ord> NodeTable<A> {
             → ⟦<SymbolicExpr<A> as PartialEq>⟧.eq node.now n ≡ true → node.now ≡ n }
         ensures { IfSome result (λ i. slice_get self.now i ≡ Some node.now) }
     {
-        let number = *self.remembered.get(place % PLACES)?;
+        let number = *self.remembered.get(place % PLACES)? as usize;
         if number < self.nodes.len() && node == self.get(number) {
             return Some(number);
         }
         None
     }
 
-    /// Remembers a number at a place, which changes no node.
+    /// Remembers a number below 2^32 at a place, which changes no node.
     pub fn remember(&mut self, place: usize, number: usize)
         ensures { self.new ≡ self.old }
     {
+        let Ok(number) = u32::try_from(number) else {
+            return;
+        };
         if self.remembered.is_empty() {
             // What can't be remembered for want of memory is looked for.
-            let Ok(places) = vec![in *self.nodes.allocator(); 0; PLACES] else {
+            let Ok(places) = vec![in *self.nodes.allocator(); 0u32; PLACES] else {
                 return;
             };
             self.remembered = places;
@@ -112,7 +118,8 @@ impl<A: Copy + Ord> NodeTable<A> {
         ensures refused { OnErr result (self.new ≡ self.old) }
     {
         let number = self.nodes.len();
-        self.nodes.reserve(1)?;
+        let room = if number == 0 { FIRST_NODES } else { 1 };
+        self.nodes.reserve(room)?;
         self.numbers.enter(&node, number)?;
         self.nodes.push_reserved(node);
         Ok(number)
