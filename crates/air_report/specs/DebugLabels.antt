@@ -20,6 +20,15 @@ abbrev pub KeepsLabel : ConstraintFailure → Label → Type 0
 KeepsLabel f Unasked = ⊥
 KeepsLabel f (Shown text) = KeepsText text f.label
 
+-- the text of an assertion that was made without a name: the empty one, of which no label is kept
+abbrev pub IsNameless : Option (List ℕ) → Type 0
+IsNameless text = text ≡ Some []
+
+-- a text that an assertion's name may display; without a name the empty one
+abbrev pub MayDisplay : {N : Type 0} → (N → Option (List ℕ) → Type 0) → Option N → Option (List ℕ) → Type 0
+MayDisplay displays None = IsNameless
+MayDisplay displays (Some name) = displays name
+
 -- one failure was added, at the row and the place k, with a text that the name may display
 pub record LogsFailure (row k : ℕ) (says : Option (List ℕ) → Type 0) (fs gs : List ConstraintFailure) : Type 0 where
   pub failure : ConstraintFailure
@@ -33,10 +42,6 @@ pub record LogsFailure (row k : ℕ) (says : Option (List ℕ) → Type 0) (fs g
 abbrev pub LogsOne : ℕ → ℕ → ℕ → (Option (List ℕ) → Type 0) → Bool → List ConstraintFailure → List ConstraintFailure → Type 0
 LogsOne row k n says true fs gs = (n ≡ k + 1) × (gs ≡ fs)
 LogsOne row k n says false fs gs = (n ≡ k + 1) × LogsFailure row k says fs gs
-
--- the text of an assertion that was made without a name: the empty one, of which no label is kept
-abbrev pub IsNameless : Option (List ℕ) → Type 0
-IsNameless text = text ≡ Some []
 
 -- memory can be wanting only where the assertion doesn't hold; the count only where it is full
 abbrev pub LogRefuses : ℕ → Bool → AirError → Type 0

@@ -123,6 +123,6 @@ impl<'a, F: Field, EF: ExtensionField<F> + 'static> AirBuilder
             result }
         ensures nameless { OnOk result (LogsNameless (F.eq x F.ring.zero) self.old self.new) }
     {
-        self.log(x == F::ZERO, "")
+        self.log(x == F::ZERO, None::<&'static str>)
     }
 }

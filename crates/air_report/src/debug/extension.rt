@@ -55,7 +55,7 @@ impl<'a, F: Field, EF: ExtensionField<F> + 'static> ExtensionBuilder
         ensures nameless { OnOk result
             (LogsNameless (EF.eq x EF.over.ring.zero) self.old self.new) }
     {
-        self.log(x == EF::zero(), "")
+        self.log(x == EF::zero(), None::<&'static str>)
     }
 }
 
@@ -72,7 +72,7 @@ impl<'a, F: Field, EF: ExtensionField<F> + 'static> NamedExtensionBuilder
         ensures passes { IfErr result (LogRefuses (count_of self.old)
             (EF.eq x EF.over.ring.zero)) }
     {
-        self.log(x == EF::zero(), name)
+        self.log(x == EF::zero(), Some(name))
     }
 }
 

@@ -1,6 +1,6 @@
 //! The log of a row: how many assertions there were, and which failed.
-ghost use Rattle.std.specs.Prelude.{◌≡◌, ◌+◌, ◌^◌, ℕ, List, Option, false, IfOk, OnOk, OnErr, IfErr};
-ghost use Rattle.air_report.specs.DebugLabels.{KeepsText, LogsFailure, LogsOne, LogRefuses};
+ghost use Rattle.std.specs.Prelude.{◌≡◌, ◌+◌, ◌^◌, ℕ, List, Option, false, IfOk, OnOk, OnErr, IfErr, IfSome};
+ghost use Rattle.air_report.specs.DebugLabels.{KeepsText, MayDisplay, LogsFailure, LogsOne, LogRefuses};
 ghost use Rattle.air_report.specs.DebugRow.{debug_row};
 
 use crate::debug::builder::DebugConstraintBuilder;
@@ -11,7 +11,7 @@ use std::alloc::{AllocError, Global};
 use std::mem;
 use std::string::ToString;
 
-/// The label of a failure: what the name displays, or none where that is empty.
+/// The label that a name gives: what it displays, or none where that is empty.
 fn label_of<N: Name>(alloc: Global, name: N) -> Result<Option<String>, AllocError>
     requires { N.can_evaluate name }
     ensures { IfOk result (λ label. (text : Option (List ℕ)) × N.displays name text × KeepsText text
@@ -25,20 +25,32 @@ fn label_of<N: Name>(alloc: Global, name: N) -> Result<Option<String>, AllocErro
     }
 }
 
+/// The label of a failure: that of its name, if it has one.
+fn label_if_named<N: Name>(alloc: Global, name: Option<N>) -> Result<Option<String>, AllocError>
+    requires { IfSome name N.can_evaluate }
+    ensures { IfOk result (λ label. (text : Option (List ℕ)) × MayDisplay N.displays name text
+        × KeepsText text label) }
+{
+    match name {
+        Some(name) => label_of(alloc, name),
+        None => Ok(None),
+    }
+}
+
 /// Keeps a failure, with what its name displays.
 fn keep_failure<N: Name>(
     failures: &mut Vec<ConstraintFailure>,
     row: usize,
     constraint: usize,
-    name: N,
+    name: Option<N>,
 ) -> Result<(), AirError>
-    requires { N.can_evaluate name }
-    ensures ok { OnOk result (LogsFailure row constraint (N.displays name) failures.old.items
-        failures.new.items) }
+    requires { IfSome name N.can_evaluate }
+    ensures ok { OnOk result (LogsFailure row constraint (MayDisplay N.displays name)
+        failures.old.items failures.new.items) }
     ensures err { OnErr result (failures.new.items ≡ failures.old.items) }
     ensures refused { IfErr result (λ e. e ≡ AirError.Memory) }
 {
-    let label = label_of(*failures.allocator(), name)?;
+    let label = label_if_named(*failures.allocator(), name)?;
     let failure = ConstraintFailure {
         row,
         constraint,
@@ -49,13 +61,13 @@ fn keep_failure<N: Name>(
 }
 
 impl<'a, F: Field, EF: ExtensionField<F>> DebugConstraintBuilder<'a, F, EF> {
-    /// Counts an assertion. Where it doesn't hold its failure is kept, and then alone the name is evaluated.
+    /// Counts an assertion. Where it doesn't hold its failure is kept, and then alone a name is evaluated.
     #[inline(always)]
-    pub(crate) fn log<N: Name>(&mut self, holds: bool, name: N) -> Result<(), AirError>
-        requires { holds ≡ false → N.can_evaluate name }
+    pub(crate) fn log<N: Name>(&mut self, holds: bool, name: Option<N>) -> Result<(), AirError>
+        requires { holds ≡ false → IfSome name N.can_evaluate }
         ensures keeps { debug_row self.new ≡ debug_row self.old }
         ensures ok { OnOk result (LogsOne self.old.row.index self.old.constraint_index
-            self.new.constraint_index (N.displays name) holds self.old.failures.items
+            self.new.constraint_index (MayDisplay N.displays name) holds self.old.failures.items
             self.new.failures.items) }
         ensures err_count { OnErr result (self.new.constraint_index ≡ self.old.constraint_index) }
         ensures err { OnErr result (self.new.failures.items ≡ self.old.failures.items) }

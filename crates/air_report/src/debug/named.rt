@@ -38,7 +38,7 @@ impl<'a, F: Field, EF: ExtensionField<F> + 'static> NamedAirBuilder
             self.old self.new (x ∷ []) result }
         ensures passes { IfErr result (LogRefuses (count_of self.old) (F.eq x F.ring.zero)) }
     {
-        self.log(x == F::ZERO, name)
+        self.log(x == F::ZERO, Some(name))
     }
 }
 
