@@ -5,7 +5,7 @@ ghost use Rattle.air_builder.specs.Notation.{◌⊙◌};
 ghost use Rattle.air_author.specs.Expressions.{MakesIn, Lasts};
 
 use crate::AirResult;
-use crate::expressions::arithmetic::Times;
+use crate::expressions::arithmetic::{Gated, Times};
 use crate::expressions::extension::LiftedAt;
 use crate::expressions::{Expression, ExtExpression};
 use air_builder::{AirBuilder, ExtensionBuilder, View, ViewOver};
@@ -77,7 +77,7 @@ impl<'a, AB: AirBuilder, K: Condition<AB>, S: Expression<AB>> Condition<AB> for 
 
     #[inline(always)]
     fn make_under<X: Expression<AB>>(&self, builder: &mut AB, x: &X) -> AirResult<AB::Expr> {
-        self.0.make_under(builder, &Times(self.1, x))
+        self.0.make_under(builder, &Gated(self.1, x))
     }
 
     #[inline(always)]

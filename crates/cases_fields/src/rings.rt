@@ -27,6 +27,7 @@ fn of_two<F: Field>(word: &str, x: F, y: F) -> Result<F, RingError> {
         "add" => ring.add(x, y),
         "sub" => ring.sub(x, y),
         "mul" => ring.mul(x, y),
+        "gated" => ring.gated(x, y),
         "xor" => ring.xor(x, y),
         _ => ring.andn(x, y),
     }
@@ -68,7 +69,7 @@ fn made_of_one<F: Field>(word: &str, x: &str) -> Result<F, Fault> {
 
 fn made_of_two<F: Field>(word: &str, x: &str, y: &str) -> Result<F, Fault> {
     match word {
-        "add" | "sub" | "mul" | "xor" | "andn" => joined_two(word, x, y),
+        "add" | "sub" | "mul" | "gated" | "xor" | "andn" => joined_two(word, x, y),
         "mul_2exp_u64" => doubled(x, y),
         _ => Err(Fault::Unreadable(Why::NoSuchCall)),
     }

@@ -123,14 +123,19 @@ impl<'a, AB: AirBuilder, X: Expression<AB>, Y: Expression<AB>> Expression<AB> fo
 #[derive(Drop)]
 pub(crate) struct Times<'a, X, Y>(pub(crate) &'a X, pub(crate) &'a Y);
 
-impl<'a, AB: AirBuilder, X: Expression<AB>, Y: Expression<AB>> Expression<AB> for Times<'a, X, Y> {
-    ghost term = { λ s. X.term s.0.now ⊙ Y.term s.1.now };
+/// condition x, of expressions that stand elsewhere: what is asserted under a condition.
+#[derive(Drop)]
+pub(crate) struct Gated<'a, S, X>(pub(crate) &'a S, pub(crate) &'a X);
 
-    ghost holds = { λ s b. X.holds s.0.now b × Y.holds s.1.now b };
+impl<'a, AB: AirBuilder, S: Expression<AB>, X: Expression<AB>> Expression<AB> for Gated<'a, S, X> {
+    ghost term = { λ s. S.term s.0.now ⊙ X.term s.1.now };
+
+    ghost holds = { λ s b. S.holds s.0.now b × X.holds s.1.now b };
 
     #[inline(always)]
     fn make(&self, builder: &mut AB) -> AirResult<AB::Expr> {
-        make_product(builder, self.0, self.1)
+        let (condition, x) = make_both(builder, self.0, self.1)?;
+        answered(builder.ring().gated(condition, x))
     }
 }
 

@@ -77,6 +77,19 @@ pub trait Algebra<F: Field> {
         ensures made { IfOk result (MadeOfBoth has means mul_term self.old self.new x y) }
         ensures refused { IfErr result (RefusedOfBoth means refuses mul_term self.old x y) };
 
+    /// condition x, of an assertion under a condition. A condition is mostly a selector, 0 or 1 at each row: where the
+    /// elements are values, a ring can see that and spare the product.
+    fn gated(&mut self, condition: Self::Elem, x: Self::Elem) -> Result<Self::Elem, RingError>
+        requires condition_in { has self.old condition }
+        requires x_in { has self.old x }
+        ensures extended { extends self.old self.new }
+        ensures made { IfOk result (MadeOfBoth has means mul_term self.old self.new condition x) }
+        ensures refused { IfErr result (RefusedOfBoth means refuses mul_term self.old condition
+            x) }
+    {
+        self.mul(condition, x)
+    }
+
     /// x + x
     fn double(&mut self, x: Self::Elem) -> Result<Self::Elem, RingError>
         requires { has self.old x }

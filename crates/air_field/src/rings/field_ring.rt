@@ -74,6 +74,19 @@ impl<F: Field> Algebra<F> for FieldRing<F> {
         Ok(x.mul(y))
     }
 
+    #[inline(always)]
+    fn gated(&mut self, condition: F, x: F) -> Result<F, RingError>
+        ensures { result ≡ Ok (F.ring.mul condition x) }
+    {
+        if condition == F::ONE {
+            Ok(x)
+        } else if condition == F::ZERO {
+            Ok(F::ZERO)
+        } else {
+            Ok(condition.mul(x))
+        }
+    }
+
     ghost laws = { value_laws F.ring };
 }
 

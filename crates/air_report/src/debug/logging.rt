@@ -37,18 +37,20 @@ fn label_if_named<N: Name>(alloc: Global, name: Option<N>) -> Result<Option<Stri
     }
 }
 
-/// Keeps a failure, with what its name displays.
+/// Keeps a failure, with what its name displays. (An `AllocError` takes no place in memory: an `AirError` would, and a
+/// row's builder would make that place ready for each assertion that holds.)
+#[cold]
+#[inline(never)]
 fn keep_failure<N: Name>(
     failures: &mut Vec<ConstraintFailure>,
     row: usize,
     constraint: usize,
     name: Option<N>,
-) -> Result<(), AirError>
+) -> Result<(), AllocError>
     requires { IfSome name N.can_evaluate }
     ensures ok { OnOk result (LogsFailure row constraint (MayDisplay N.displays name)
         failures.old.items failures.new.items) }
     ensures err { OnErr result (failures.new.items ≡ failures.old.items) }
-    ensures refused { IfErr result (λ e. e ≡ AirError.Memory) }
 {
     let label = label_if_named(*failures.allocator(), name)?;
     let failure = ConstraintFailure {
