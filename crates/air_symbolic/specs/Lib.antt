@@ -16,6 +16,7 @@ pub mod FoldedLists
 pub mod PoolRefusals
 pub mod Weights
 pub mod DegreeTables
+pub mod RowsRead
 pub mod Runs
 pub mod Numbering
 pub mod BaseLeaves

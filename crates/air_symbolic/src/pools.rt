@@ -14,6 +14,7 @@ mod insert;
 mod joined;
 mod kind_table;
 mod kind_tables;
+mod leaf_table;
 mod lending;
 mod lower;
 mod node_numbers;
