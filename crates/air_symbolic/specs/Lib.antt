@@ -16,7 +16,6 @@ pub mod FoldedLists
 pub mod PoolRefusals
 pub mod Weights
 pub mod DegreeTables
-pub mod RowsRead
 pub mod Runs
 pub mod Numbering
 pub mod BaseLeaves

@@ -1,5 +1,5 @@
 -- Tables that find the numbers of a list's nodes, one for each kind.
-use Rattle.std.specs.Prelude.{◌≡◌, ◌≢◌, ◌⊎◌, ◌↔◌, ℕ, zero, suc, List, [], ◌∷◌, Option, Some}
+use Rattle.std.specs.Prelude.{◌≡◌, ◌≢◌, ◌⊎◌, ◌↔◌, ℕ, List, [], ◌∷◌, Option, Some}
 use Rattle.std.specs.declared.cmp.Ordering.{Ordering}
 use Rattle.std.specs.Ordering.{nat_cmp, ordering_then}
 use Rattle.std.specs.List.{slice_get}
@@ -10,7 +10,6 @@ use Rattle.air_symbolic.specs.declared.pools.expr.SymbolicExpr.{SymbolicExpr}
 use Rattle.air_symbolic.specs.declared.pools.expr.SymbolicExpr.TheVariants.{Leaf, Add, Sub, Neg, Mul}
 use Rattle.air_symbolic.specs.declared.pools.kind_table.KindTable.{KindTable}
 use Rattle.air_symbolic.specs.declared.pools.kind_tables.KindTables.{KindTables}
-use Rattle.air_symbolic.specs.declared.pools.leaf_table.LeafTable.{LeafTable}
 
 -- ---- Nodes, whatever degree they state
 
@@ -45,16 +44,6 @@ number_in cmp (run ∷ runs) rest key = option_or (lookup (is_at (cmp key)) run)
 abbrev pub numbers_by : {K : Type 0} → (K → K → Ordering) → KindTable K → K → Option ℕ
 numbers_by cmp table key = number_in cmp table.runs.items table.rest key
 
--- the table of the leaves that read this row
-abbrev pub table_of_row : {A : Type 0} → LeafTable A → ℕ → KindTable A
-table_of_row t zero = t.current
-table_of_row t (suc zero) = t.next
-table_of_row t (suc (suc _)) = t.others
-
--- the number of a leaf, from the table of its row
-abbrev pub numbers_by_row : {A : Type 0} → (A → A → Ordering) → (A → ℕ) → LeafTable A → A → Option ℕ
-numbers_by_row cmp row_read t leaf = numbers_by cmp (table_of_row t (row_read leaf)) leaf
-
 -- the key has this number now, and every other key the one that it had
 abbrev pub Entered : {K : Type 0} → (K → Option ℕ) → (K → Option ℕ) → K → ℕ → Type 0
 Entered {K = K} old new key number = (k : K) → ((k ≡ key) × (new k ≡ Some number)) ⊎ ((k ≢ key) × (new k ≡ old k))
@@ -72,12 +61,12 @@ pub record AreNumbered {A : Type 0} (nodes : List (SymbolicExpr A)) (leaf : A �
   pub negatives : FindsNumbers Neg nodes negative
   pub products : FindsNumbers (λ k. Mul k.0 k.1) nodes product
 
--- the same of these tables, whose leaves have this order and read these rows
-abbrev pub AreNumberedIn : {A : Type 0} → (A → A → Ordering) → (A → ℕ) → KindTables A → List (SymbolicExpr A) → Type 0
-AreNumberedIn leaf_cmp row_read t nodes =
-    AreNumbered nodes (numbers_by_row leaf_cmp row_read t.leaves) (numbers_by operands_cmp t.sums) (numbers_by operands_cmp t.differences) (numbers_by nat_cmp t.negatives) (numbers_by operands_cmp t.products)
+-- the same of these tables, whose leaves have this order
+abbrev pub AreNumberedIn : {A : Type 0} → (A → A → Ordering) → KindTables A → List (SymbolicExpr A) → Type 0
+AreNumberedIn leaf_cmp t nodes =
+    AreNumbered nodes (numbers_by leaf_cmp t.leaves) (numbers_by operands_cmp t.sums) (numbers_by operands_cmp t.differences) (numbers_by nat_cmp t.negatives) (numbers_by operands_cmp t.products)
 
 -- the same of the tables that are there: without any there are no nodes
-abbrev pub FindEach : {A : Type 0} → (A → A → Ordering) → (A → ℕ) → List (KindTables A) → List (SymbolicExpr A) → Type 0
-FindEach leaf_cmp row_read [] nodes = nodes ≡ []
-FindEach leaf_cmp row_read (t ∷ ts) nodes = AreNumberedIn leaf_cmp row_read t nodes
+abbrev pub FindEach : {A : Type 0} → (A → A → Ordering) → List (KindTables A) → List (SymbolicExpr A) → Type 0
+FindEach leaf_cmp [] nodes = nodes ≡ []
+FindEach leaf_cmp (t ∷ ts) nodes = AreNumberedIn leaf_cmp t nodes

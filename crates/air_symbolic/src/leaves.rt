@@ -3,5 +3,4 @@
 pub mod base_leaf;
 pub mod base_part;
 pub mod ext_leaf;
-pub mod row_leaf;
 pub mod sym_leaf;

@@ -14,7 +14,6 @@ mod insert;
 mod joined;
 mod kind_table;
 mod kind_tables;
-mod leaf_table;
 mod lending;
 mod lower;
 mod node_numbers;

@@ -1,12 +1,10 @@
 //! The leaves of base expressions.
 
 ghost use Rattle.std.specs.Prelude.{⊤};
-ghost use Rattle.air_symbolic.specs.RowsRead.{base_row_read};
 
-use crate::leaves::row_leaf::RowLeaf;
 use crate::leaves::sym_leaf::SymLeaf;
 use crate::pools::weight::{DegreeTable, LeafWeight};
-use air_core::{BaseEntry, SymbolicVariable};
+use air_core::SymbolicVariable;
 use air_field::{Field, RingError};
 use std::alloc::Global;
 
@@ -18,21 +16,6 @@ pub enum BaseLeaf<F> {
     IsLastRow,
     IsTransition,
     Constant(F),
-}
-
-impl<F: Field> RowLeaf for BaseLeaf<F> {
-    ghost row_read = { base_row_read };
-
-    fn row_read(&self) -> usize {
-        match self {
-            BaseLeaf::Variable(v) => match v.entry {
-                BaseEntry::Preprocessed { offset } => offset,
-                BaseEntry::Main { offset } => offset,
-                _ => 2,
-            },
-            _ => 2,
-        }
-    }
 }
 
 impl<F: Field> SymLeaf for BaseLeaf<F> {

@@ -1,15 +1,13 @@
 //! The leaves of extension expressions.
-ghost use Rattle.air_symbolic.specs.RowsRead.{ext_row_read};
 
 use crate::leaves::base_leaf::BaseLeaf;
 use crate::leaves::base_part::base_part;
-use crate::leaves::row_leaf::RowLeaf;
 use crate::leaves::sym_leaf::SymLeaf;
 use crate::pools::degree_table::known;
 use crate::pools::expr::ExprId;
 use crate::pools::pool::ExprPool;
 use crate::pools::weight::{DegreeTable, LeafWeight};
-use air_core::{ExtEntry, SymbolicVariableExt};
+use air_core::SymbolicVariableExt;
 use air_field::{ExtensionField, Field, RingError};
 use std::alloc::Global;
 
@@ -20,20 +18,6 @@ pub enum ExtLeaf<F, EF> {
     Base(ExprId<BaseLeaf<F>>),
     ExtVariable(SymbolicVariableExt<F, EF>),
     ExtConstant(EF),
-}
-
-impl<F: Field, EF: ExtensionField<F>> RowLeaf for ExtLeaf<F, EF> {
-    ghost row_read = { ext_row_read };
-
-    fn row_read(&self) -> usize {
-        match self {
-            ExtLeaf::ExtVariable(v) => match v.entry {
-                ExtEntry::Permutation { offset } => offset,
-                _ => 2,
-            },
-            _ => 2,
-        }
-    }
 }
 
 impl<F: Field, EF: ExtensionField<F>> SymLeaf for ExtLeaf<F, EF> {

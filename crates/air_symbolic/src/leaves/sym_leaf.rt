@@ -7,14 +7,13 @@ ghost use Rattle.air_symbolic.specs.Weights.{leaf_weight};
 ghost use Rattle.air_symbolic.specs.declared.pools.weight.LeafWeight.{LeafWeight};
 ghost use Rattle.air_field.specs.declared.errors.RingError.{RingError};
 
-use crate::leaves::row_leaf::RowLeaf;
 use crate::pools::weight::{DegreeTable, LeafWeight};
 use air_field::{Field, RingError};
 use std::alloc::Global;
 use std::fmt::Debug;
 
 /// A leaf of an expression, which may name something in what lies under the pool.
-pub trait SymLeaf: RowLeaf + Eq + Debug {
+pub trait SymLeaf: Copy + Eq + Ord + Debug {
     /// The field of the constants.
     type F: Field;
 

@@ -4,30 +4,28 @@ ghost use Rattle.std.specs.declared.cmp.Ordering.TheVariants.{Equal};
 ghost use Rattle.air_symbolic.specs.Numbering.{IsNowhere, IsAt, AreNumberedIn};
 ghost use Rattle.air_symbolic.specs.declared.pools.expr.SymbolicExpr.{SymbolicExpr};
 
-use crate::leaves::row_leaf::RowLeaf;
 use crate::pools::expr::SymbolicExpr;
 use crate::pools::kind_table::KindTable;
-use crate::pools::leaf_table::LeafTable;
 use std::alloc::{AllocError, Global};
 
 /// A table of numbers for each kind of node, by what a node is made of: its leaf, or the numbers of its operands. These
 /// determine its degree, so no key holds it.
 #[derive(Drop)]
-pub struct KindTables<A: RowLeaf> {
-    pub(crate) leaves: LeafTable<A>,
+pub struct KindTables<A: Copy + Ord> {
+    pub(crate) leaves: KindTable<A>,
     pub(crate) sums: KindTable<(usize, usize)>,
     pub(crate) differences: KindTable<(usize, usize)>,
     pub(crate) negatives: KindTable<usize>,
     pub(crate) products: KindTable<(usize, usize)>,
 }
 
-impl<A: RowLeaf> KindTables<A> {
+impl<A: Copy + Ord> KindTables<A> {
     /// Tables without numbers. They take no memory.
     pub fn new(alloc: Global) -> Self
-        ensures { AreNumberedIn A.cmp A.row_read result [] }
+        ensures { AreNumberedIn A.cmp result [] }
     {
         KindTables {
-            leaves: LeafTable::new(alloc),
+            leaves: KindTable::new(alloc),
             sums: KindTable::new(alloc),
             differences: KindTable::new(alloc),
             negatives: KindTable::new(alloc),
@@ -38,7 +36,7 @@ impl<A: RowLeaf> KindTables<A> {
     /// The number of a node, if it is among those that are numbered, of whatever degree.
     pub fn find(&self, node: &SymbolicExpr<A>) -> Option<usize>
         ensures { (nodes : List (SymbolicExpr A))
-            → AreNumberedIn A.cmp A.row_read self.now nodes
+            → AreNumberedIn A.cmp self.now nodes
             → MatchOption result (IsNowhere nodes node.now) (IsAt nodes node.now) }
     {
         match *node {
@@ -56,12 +54,12 @@ impl<A: RowLeaf> KindTables<A> {
         requires exact { (a b : A) → A.cmp a b ≡ Equal → a ≡ b }
         ensures entered { OnOk result ((nodes : List (SymbolicExpr A)) → number ≡ length nodes
             → IsNowhere nodes node.now
-            → AreNumberedIn A.cmp A.row_read self.old nodes
-            → AreNumberedIn A.cmp A.row_read self.new
+            → AreNumberedIn A.cmp self.old nodes
+            → AreNumberedIn A.cmp self.new
             (nodes ++ node.now ∷ [])) }
         ensures refused { OnErr result ((nodes : List (SymbolicExpr A))
-            → AreNumberedIn A.cmp A.row_read self.old nodes
-            → AreNumberedIn A.cmp A.row_read self.new nodes) }
+            → AreNumberedIn A.cmp self.old nodes
+            → AreNumberedIn A.cmp self.new nodes) }
     {
         match *node {
             SymbolicExpr::Leaf(a) => self.leaves.enter(a, number),

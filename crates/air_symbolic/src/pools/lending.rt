@@ -19,9 +19,9 @@ impl<A: SymLeaf> ExprPool<A> {
     /// was lent, as every call of a pool does, and then the pool itself has grown.
     pub fn base_mut(&mut self) -> &mut A::Under
         ensures* lends { sem 𝓛 (Lends (the_row A.row A.F.row A.Under.row A.SymLeaf.own
-            A.RowLeaf.own A.Ord.own A.PartialEq.own A.PartialOrd.own A.Debug.own A.F.Field.own
-            A.F.PartialEq.own A.F.Ord.own A.F.PartialOrd.own A.F.Debug.own) A.Under.row self.entry
-            result (λ w. on_base self.old w)) }
+            A.PartialEq.own A.Ord.own A.PartialOrd.own A.Debug.own A.F.Field.own A.F.PartialEq.own
+            A.F.Ord.own A.F.PartialOrd.own A.F.Debug.own) A.Under.row self.entry result
+            (λ w. on_base self.old w)) }
         ensures value { result.now ≡ self.old.base }
     {
         &mut self.under

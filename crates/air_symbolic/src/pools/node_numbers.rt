@@ -4,7 +4,6 @@ ghost use Rattle.std.specs.declared.cmp.Ordering.TheVariants.{Equal};
 ghost use Rattle.air_symbolic.specs.Numbering.{IsNowhere, IsAt, FindEach};
 ghost use Rattle.air_symbolic.specs.declared.pools.expr.SymbolicExpr.{SymbolicExpr};
 
-use crate::leaves::row_leaf::RowLeaf;
 use crate::pools::expr::SymbolicExpr;
 use crate::pools::kind_tables::KindTables;
 use std::alloc::{AllocError, Global};
@@ -12,14 +11,14 @@ use std::alloc::{AllocError, Global};
 /// The numbers of a list's nodes. Without nodes there are no tables, so that an empty pool takes no memory and any pool
 /// is small to move.
 #[derive(Drop)]
-pub struct NodeNumbers<A: RowLeaf> {
+pub struct NodeNumbers<A: Copy + Ord> {
     pub(crate) tables: Vec<KindTables<A>>,
 }
 
-impl<A: RowLeaf> NodeNumbers<A> {
+impl<A: Copy + Ord> NodeNumbers<A> {
     /// Nothing numbered. It takes no memory.
     pub fn new(alloc: Global) -> Self
-        ensures { FindEach A.cmp A.row_read result.tables.items [] }
+        ensures { FindEach A.cmp result.tables.items [] }
     {
         NodeNumbers {
             tables: Vec::new(alloc),
@@ -29,7 +28,7 @@ impl<A: RowLeaf> NodeNumbers<A> {
     /// The number of a node, if it is among those that are numbered, of whatever degree.
     pub fn find(&self, node: &SymbolicExpr<A>) -> Option<usize>
         ensures { (nodes : List (SymbolicExpr A))
-            → FindEach A.cmp A.row_read self.now.tables.items nodes
+            → FindEach A.cmp self.now.tables.items nodes
             → MatchOption result (IsNowhere nodes node.now) (IsAt nodes node.now) }
     {
         self.tables.first()?.find(node)
@@ -41,12 +40,12 @@ impl<A: RowLeaf> NodeNumbers<A> {
         requires exact { (a b : A) → A.cmp a b ≡ Equal → a ≡ b }
         ensures entered { OnOk result ((nodes : List (SymbolicExpr A)) → number ≡ length nodes
             → IsNowhere nodes node.now
-            → FindEach A.cmp A.row_read self.old.tables.items nodes
-            → FindEach A.cmp A.row_read self.new.tables.items
+            → FindEach A.cmp self.old.tables.items nodes
+            → FindEach A.cmp self.new.tables.items
             (nodes ++ node.now ∷ [])) }
         ensures refused { OnErr result ((nodes : List (SymbolicExpr A))
-            → FindEach A.cmp A.row_read self.old.tables.items nodes
-            → FindEach A.cmp A.row_read self.new.tables.items nodes) }
+            → FindEach A.cmp self.old.tables.items nodes
+            → FindEach A.cmp self.new.tables.items nodes) }
     {
         self.begin()?;
         self.tables[0].enter(node, number)
@@ -55,8 +54,8 @@ impl<A: RowLeaf> NodeNumbers<A> {
     /// Makes the tables, where there are none yet.
     fn begin(&mut self) -> Result<(), AllocError>
         ensures kept { (nodes : List (SymbolicExpr A))
-            → FindEach A.cmp A.row_read self.old.tables.items nodes
-            → FindEach A.cmp A.row_read self.new.tables.items nodes }
+            → FindEach A.cmp self.old.tables.items nodes
+            → FindEach A.cmp self.new.tables.items nodes }
         ensures begun { OnOk result (0 < length self.new.tables.items) }
     {
         if self.tables.is_empty() {

@@ -5,7 +5,6 @@ ghost use Rattle.std.specs.List.{slice_get};
 ghost use Rattle.air_symbolic.specs.Numbering.{IsNowhere, IsAt};
 ghost use Rattle.air_symbolic.specs.declared.pools.expr.SymbolicExpr.{SymbolicExpr};
 
-use crate::leaves::row_leaf::RowLeaf;
 use crate::pools::expr::SymbolicExpr;
 use crate::pools::node_numbers::NodeNumbers;
 use std::alloc::{AllocError, Global};
@@ -19,7 +18,7 @@ const FIRST_NODES: usize = 24;
 
 /// Nodes by their numbers, which are handed out in order. Maps find a node's number, so that no call walks the list.
 #[derive(Drop)]
-pub struct NodeTable<A: RowLeaf> {
+pub struct NodeTable<A: Copy + Ord> {
     nodes: Vec<SymbolicExpr<A>>,
     numbers: NodeNumbers<A>,
     // by place, a number that a node of this place may have; without places until one is remembered, so that a pool is
@@ -27,7 +26,7 @@ pub struct NodeTable<A: RowLeaf> {
     remembered: Vec<u32>,
 }
 
-impl<A: RowLeaf> Model for NodeTable<A> {
+impl<A: Copy + Ord> Model for NodeTable<A> {
     ghost use Rattle.std.specs.Prelude.{List};
     ghost use Rattle.air_symbolic.specs.Numbering.{FindEach};
     ghost use Rattle.air_symbolic.specs.declared.pools.expr.SymbolicExpr.{SymbolicExpr};
@@ -36,10 +35,10 @@ impl<A: RowLeaf> Model for NodeTable<A> {
 
     ghost view = { λ t. t.nodes.items };
 
-    ghost invariant = { λ t. FindEach A.cmp A.row_read t.numbers.tables.items t.nodes.items };
+    ghost invariant = { λ t. FindEach A.cmp t.numbers.tables.items t.nodes.items };
 }
 
-impl<A: RowLeaf> NodeTable<A> {
+impl<A: Copy + Ord> NodeTable<A> {
     /// A table without nodes. It takes no memory.
     pub fn new(alloc: Global) -> Self
         ensures { result ≡ [] }
