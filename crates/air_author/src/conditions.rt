@@ -5,8 +5,8 @@ ghost use Rattle.air_builder.specs.Notation.{◌⊙◌};
 ghost use Rattle.air_author.specs.Expressions.{MakesIn, Lasts};
 
 use crate::AirResult;
-use crate::expressions::arithmetic::{Gated, Times};
-use crate::expressions::extension::LiftedAt;
+use crate::expressions::arithmetic::Gated;
+use crate::expressions::extension::{LiftedAt, Times};
 use crate::expressions::{Expression, ExtExpression};
 use air_builder::{AirBuilder, ExtensionBuilder, View, ViewOver};
 use air_field::Algebra;

@@ -39,7 +39,7 @@ pub use constraints::when::When;
 pub use constraints::{Constraint, assert_all, assert_these};
 pub use expressions::already::Already;
 pub use expressions::arithmetic::{
-    BoolCheck, Difference, Double, Less, Negative, Product, Square, Sum, make_difference,
+    BoolCheck, Difference, Double, Gated, Less, Negative, Product, Square, Sum, make_difference,
     make_product, make_sum,
 };
 pub use expressions::columns::{

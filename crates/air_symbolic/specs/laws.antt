@@ -8,3 +8,4 @@ pub mod BaseLeaves
 pub mod PoolRefusals
 pub mod ExtLeaves
 pub mod ExtPool
+pub mod OnePool

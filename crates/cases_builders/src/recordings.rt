@@ -1,7 +1,4 @@
 //! Assertions that are recorded: each line has a builder of its own.
-ghost use Rattle.std.specs.Prelude.{IfOk};
-ghost use Rattle.air_symbolic.specs.ExtLeaves.{ext_reads};
-ghost use Rattle.air_symbolic.specs.Pools.{IsPool};
 
 use crate::trees::{show_tree, show_value};
 use air_builder::AirBuilder;
@@ -25,9 +22,7 @@ pub struct Recordings<F, EF> {
 fn recorded<F: Field, EF: ExtensionField<F>>(
     alloc: Global,
     words: &[&str],
-) -> Result<Recorded<F, EF>, Fault>
-    ensures { IfOk result (λ r. IsPool (ext_reads EF.basis) r.pool) }
-{
+) -> Result<Recorded<F, EF>, Fault> {
     let mut builder: SymbolicAirBuilder<F, EF> = SymbolicAirBuilder::new(
         alloc,
         AirLayout::default(),
@@ -40,9 +35,7 @@ fn recorded<F: Field, EF: ExtensionField<F>>(
 fn show_recorded<F: Number, EF: ExtensionField<F>>(
     recorded: &Recorded<F, EF>,
     text: &mut String,
-) -> Result<(), Fault>
-    requires { IsPool (ext_reads EF.basis) recorded.now.pool }
-{
+) -> Result<(), Fault> {
     for id in &recorded.ext {
         text.push_str(if text.is_empty() { "" } else { " " })?;
         show_value(&recorded.pool, *id, text)?;

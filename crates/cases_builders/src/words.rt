@@ -157,9 +157,7 @@ fn record_gadget<F: Field>(builder: &mut Recorder<F>, gadget: Gadget) -> Result<
 
 // What is recorded of a gadget over the columns from 0 on: the limbs of a, then those of the other words, or their
 // bits.
-fn recorded<F: Field>(alloc: Global, gadget: Gadget, width: usize) -> Result<Recorded<F, F>, Fault>
-    ensures { IfOk result (λ r. IsPool base_reads r.pool.base) }
-{
+fn recorded<F: Field>(alloc: Global, gadget: Gadget, width: usize) -> Result<Recorded<F, F>, Fault> {
     let layout = AirLayout {
         main_width: width,
         ..AirLayout::default()

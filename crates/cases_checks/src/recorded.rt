@@ -1,7 +1,5 @@
 //! Recordings made by hand, as AIRs.
 ghost use Rattle.std.specs.Prelude.{IfOk};
-ghost use Rattle.air_symbolic.specs.BaseLeaves.{base_reads};
-ghost use Rattle.air_symbolic.specs.Pools.{IsPool};
 
 use crate::reports::{given_of, show_audit};
 use cases::Fault;
@@ -34,9 +32,7 @@ fn recording_builder<F: Field>(
 }
 
 // What is recorded of it.
-fn record_counter<F: Field>(alloc: Global) -> Result<Recorded<F, F>, AirError>
-    ensures { IfOk result (λ r. IsPool base_reads r.pool.base) }
-{
+fn record_counter<F: Field>(alloc: Global) -> Result<Recorded<F, F>, AirError> {
     let layout = AirLayout {
         main_width: 2,
         ..AirLayout::default()
@@ -47,9 +43,7 @@ fn record_counter<F: Field>(alloc: Global) -> Result<Recorded<F, F>, AirError>
 }
 
 // The AIR of a recording on a trace of two columns.
-fn air_of<F: Field>(alloc: Global, recorded: Recorded<F, F>) -> Result<FlatAir<F>, AirError>
-    requires { IsPool base_reads recorded.pool.base }
-{
+fn air_of<F: Field>(alloc: Global, recorded: Recorded<F, F>) -> Result<FlatAir<F>, AirError> {
     recorded_air(recorded, 2, 0, Vec::new(alloc), Vec::new(alloc))
 }
 
@@ -67,9 +61,7 @@ pub fn recorded_counter<F: Field + 'static>(
 }
 
 // A recording with the pool of none.
-fn without_pool<F: Field>(alloc: Global, recorded: Recorded<F, F>) -> Recorded<F, F>
-    ensures { IsPool base_reads result.pool.base }
-{
+fn without_pool<F: Field>(alloc: Global, recorded: Recorded<F, F>) -> Recorded<F, F> {
     let Recorded { base, ext, .. } = recorded;
     let pool = ExprPool::new(alloc);
     Recorded { pool, base, ext }

@@ -1,5 +1,4 @@
 //! Audits: the recording, the report and the degree at once.
-ghost use Rattle.air_symbolic.specs.Pools.{IsPool};
 
 use crate::recordings::{Recorder, show_base};
 use air_builder::{Air, BaseAir};
@@ -36,7 +35,6 @@ fn show_failures(failures: &[ConstraintFailure], text: &mut String) -> Result<()
 
 // Adds the degree, the counts and the places, then the failures, then what is recorded.
 fn show_audit<F: Number>(audit: &Audit<F>, text: &mut String) -> Result<(), Fault>
-    requires { IsPool ⟦<BaseLeaf<F> as SymLeaf>⟧.reads audit.now.recorded.pool.base }
 {
     let degree = audit.degree;
     let rows = audit.report.total_rows;

@@ -1,7 +1,5 @@
 //! What is recorded of an AIR whose constraints are asserted on a filter: the filter hands on all that they read.
-ghost use Rattle.std.specs.Prelude.{IfOk, OnOk};
-ghost use Rattle.air_symbolic.specs.ExtLeaves.{ext_reads};
-ghost use Rattle.air_symbolic.specs.Pools.{IsPool};
+ghost use Rattle.std.specs.Prelude.{OnOk};
 
 use crate::recordings::{Recorder, show_both};
 use air_builder::{Air, AirBuilder, AirError, NamedExtensionBuilder, PermutationAirBuilder};
@@ -50,9 +48,7 @@ fn recorded_when<F: Field, EF: ExtensionField<F>>(
     air: &TableAir<F>,
     layout: AirLayout,
     condition: F,
-) -> Result<Recorded<F, EF>, AirError>
-    ensures { IfOk result (λ r. IsPool (ext_reads EF.basis) r.pool) }
-{
+) -> Result<Recorded<F, EF>, AirError> {
     let mut builder: Recorder<F, EF> = SymbolicAirBuilder::new(alloc, layout)?;
     eval_when(&mut builder, air, condition)?;
     Ok(finish_recording(builder))

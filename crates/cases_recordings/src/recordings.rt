@@ -1,5 +1,5 @@
 //! Recordings of an AIR, and the degrees that are inferred of them.
-ghost use Rattle.std.specs.Prelude.{◌≡◌, IfOk};
+ghost use Rattle.std.specs.Prelude.{◌≡◌};
 ghost use Rattle.air_symbolic.specs.Pools.{IsPool};
 
 use crate::expressions::{show_base_expressions, show_ext_expressions};
@@ -31,14 +31,12 @@ pub fn show_base<F: Number, EF: ExtensionField<F>>(
     recorded: &Recorded<F, EF>,
     text: &mut String,
 ) -> Result<(), Fault>
-    requires { IsPool ⟦<BaseLeaf<F> as SymLeaf>⟧.reads recorded.now.pool.base }
 {
     show_base_expressions(base_pool(recorded), &recorded.base, text)
 }
 
 // Adds them, and how many others there are, of which there are to be none.
 fn show_base_alone<F: Number>(recorded: &Recorded<F, F>, text: &mut String) -> Result<(), Fault>
-    requires { IsPool ⟦<BaseLeaf<F> as SymLeaf>⟧.reads recorded.now.pool.base }
 {
     show_base(recorded, text)?;
     let ext = recorded.ext.len();
@@ -124,7 +122,6 @@ fn show_asked<F: Number>(
     asked: &Asked,
     text: &mut String,
 ) -> Result<(), Fault>
-    requires { IsPool ⟦<BaseLeaf<F> as SymLeaf>⟧.reads recorded.now.pool.base }
 {
     match asked {
         Asked::Constraints => show_base_alone(recorded, text),
@@ -152,7 +149,6 @@ pub fn show_both<F: Number, EF: ExtensionField<F>>(
     recorded: &Recorded<F, EF>,
     text: &mut String,
 ) -> Result<(), Fault>
-    requires { IsPool ⟦<ExtLeaf<F, EF> as SymLeaf>⟧.reads recorded.now.pool }
 {
     text.push_str("base: ")?;
     show_base(recorded, text)?;

@@ -1,15 +1,18 @@
 -- The audit theorem, from what the recording, the check and the inferred degree answer.
-use Rattle.std.proofs.Common.{Err, ◌≡◌, ℕ, zero, suc, ◌-◌, ◌*◌, ◌≤◌, ◌<◌, ◌^◌, max, List, ◌++◌, map, Bool, Option, slice_index_or, refl, sym, ◌∙◌, subst, arith, inl, inr, add-mul}
+use Rattle.std.proofs.Common.{Err, ◌≡◌, ℕ, zero, suc, ◌-◌, ◌*◌, ◌≤◌, ◌<◌, ◌^◌, max, List, [], ◌∷◌, ◌++◌, length, map, All, Bool, Option, slice_index_or, refl, sym, ◌∙◌, subst, arith, inl, inr, add-mul}
+use Rattle.std.specs.List.{AllZip}
 use Rattle.std.proofs.Math.Nat.{le-max_left, le-max_right, le_of_mul-le-mul_right}
 use Rattle.air_field.specs.Ring.{CommRing, itself}
 use Rattle.air_field.specs.Extension.{Basis}
 use Rattle.air_field.specs.Term.{Leaf, Term, leaf_term, const_term, ext_const_term, add_term, sub_term, neg_term, mul_term}
 use Rattle.air_field.specs.Degree.{degree_by, transition_weight, greatest_degree}
+use Rattle.air_field.specs.Same.{Simplifies}
 use Rattle.air_field.specs.declared.errors.RingError.{RingError}
 use Rattle.air_field.specs.declared.errors.RingError.TheVariants.{Memory, DegreeOverflow}
 use Rattle.air_symbolic.specs.BaseLeaves.{base_reads}
 use Rattle.air_symbolic.specs.ExtLeaves.{ext_reads}
-use Rattle.air_symbolic.specs.Pools.{PoolMeans}
+use Rattle.air_symbolic.specs.Leaves.{Leaves}
+use Rattle.air_symbolic.specs.Pools.{Pool, PoolMeans}
 use Rattle.air_builder.specs.Declaration.{Declaration}
 use Rattle.air_core.specs.Errors.{air_error}
 use Rattle.air_core.specs.declared.errors.AirError.{AirError}
@@ -19,7 +22,7 @@ use Rattle.air_recording.specs.Folds.{ArePlacesOf}
 use Rattle.air_recording.specs.Inferred.{AnswersInferred, periods_of, recorded_terms}
 use Rattle.air_recording.specs.Kinds.{kind_of, base_terms, ext_terms}
 use Rattle.air_recording.specs.Layouts.{air_layout, LayoutRefuses}
-use Rattle.air_recording.specs.Recorded.{EachRecords, RecordsTerm, RecordsBase, RecordsExt, RecordRefuses, RecordingAnswers}
+use Rattle.air_recording.specs.Recorded.{EachRecords, RecordsTerm, RecordsBase, RecordsExt, RecordRefuses, RecordingAnswers, terms_of}
 use Rattle.air_recording.specs.declared.layouts.air_layout.AirLayout.{AirLayout}
 use Rattle.air_recording.specs.laws.Bounds.{degrees_within, polynomials_within}
 use Rattle.air_report.specs.Checks.{IsReport}
@@ -77,17 +80,28 @@ module _ {F : Type 0} (r : CommRing F) (x : Instance F) (ts : List (Term F)) (d 
             le_of_mul-le-mul_right {m = degree_by v u} {n = e} {k = row_count x - 1} (omega (arith, scaled_least v (row_count x - 1) u, within k t b)) (omega (arith, three)));
       }
 
+-- ---- what is recorded
+
+-- what numbers mean, their terms stand for
+simplified : {U A F : Type 0} (reads : U → Leaves A F) (r : CommRing F) (p : Pool U A) (is : List ℕ) (ts : List (Term F)) → AllZip (PoolMeans reads r p) is ts → AllZip (Simplifies r) (terms_of reads p is) ts
+simplified reads r p [] [] h = tt
+simplified reads r p [] (t ∷ ts) h = absurd h
+simplified reads r p (i ∷ is) [] h = absurd h
+simplified reads r p (i ∷ is) (t ∷ ts) h = (h.0.simplifies, simplified reads r p is ts h.1)
+
 -- ---- the theorem under a cap
 
 module _ {F : Type 0} (r : CommRing F) (eq : F → F → Bool) (basis : Basis F F) (x : Instance F) (cap : Option ℕ) (w : ℕ) (audit : Audit F) where
   pub audited : RecordingAnswers r (itself r) (air_layout x.air) x.air
       → RecordsBase r (itself r) base_reads audit.recorded.pool.base audit.recorded.base.items x.air.declared
       → RecordsExt r (itself r) (ext_reads basis) audit.recorded.pool audit.recorded.ext.items x.air.declared
+      → All (λ i. i < length audit.recorded.pool.base.nodes) audit.recorded.base.items
+      → All (λ i. i < length audit.recorded.pool.nodes) audit.recorded.ext.items
       → ArePlacesOf (map kind_of x.air.declared) audit.layout.base_indices.items audit.layout.ext_indices.items
       → IsReport r eq (check_input x) cap audit.report
       → IsDegreeFor w (row_count x) (periods_of x.air.periodic) (recorded_terms basis audit.recorded) audit.degree
       → IsAuditUnder r eq basis x cap w audit
-  audited answers base ext places report inferred =
+  audited answers base ext base_here ext_here places report inferred =
       let ts = x.air.declared in
       let us = terms_in basis audit.recorded in
       let degree = subst (λ vs. IsDegreeFor w (row_count x) (periods_of x.air.periodic) vs audit.degree) (sym (terms_in_are basis audit.recorded)) inferred in
@@ -102,9 +116,10 @@ module _ {F : Type 0} (r : CommRing F) (eq : F → F → Bool) (basis : Basis F 
           };
         };
         pool = record {
-          pool = ext.well_formed;
-          base = each_base (PoolMeans base_reads r audit.recorded.pool.base) audit.recorded.base.items ts base.means;
-          ext = each_ext (PoolMeans (ext_reads basis) r audit.recorded.pool) audit.recorded.ext.items ts ext.means;
+          base_here = base_here;
+          ext_here = ext_here;
+          base = each_base (Simplifies r) (recorded_base audit.recorded) ts (simplified base_reads r _ _ _ base.means);
+          ext = each_ext (Simplifies r) _ ts (subst (λ vs. AllZip (Simplifies r) vs (ext_terms ts)) (sym (recorded_ext_are basis audit.recorded)) (simplified (ext_reads basis) r _ _ _ ext.means));
         };
         report = report;
         degree = degree_is r x us audit.degree w degree;

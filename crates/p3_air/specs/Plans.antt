@@ -45,6 +45,7 @@ StepMakes at (step.Add p q) n = IsSum (at p) (at q) n
 StepMakes at (step.Sub p q) n = IsDifference (at p) (at q) n
 StepMakes at (step.Neg p) n = IsNegative (at p) n
 StepMakes at (step.Mul p q) n = IsProduct (at p) (at q) n
+StepMakes at (step.Gate p q) n = IsProduct (at p) (at q) n
 
 -- the step makes the node of place k's number, out of operands before it
 abbrev pub MakesPlace : {A F : Type 0} → Leaves A F → List (SymbolicExpr A) → List ℕ → ℕ → Step → Type 0

@@ -2,7 +2,8 @@
 use Rattle.std.specs.Prelude.{◌≡◌, ◌<◌, ℕ, List, slice_get, Option, Some, Result, Vec}
 use Rattle.std.specs.Global.{Global}
 use Rattle.air_field.specs.Term.{Leaf, Term}
-use Rattle.air_builder.specs.Assertion.{Assertion}
+use Rattle.air_builder.specs.Assertion.{Assertion, Base}
+use Rattle.air_builder.specs.Batches.{AssertsOf}
 use Rattle.air_author.specs.Expressions.{Holds, Makes}
 use Rattle.p3_air.specs.Plans.{number_at}
 
@@ -17,6 +18,10 @@ SomeHas {E} P o = (x : E) × (o ≡ Some x) × P x
 -- the table has an expression at place p, and it has the property
 abbrev pub HasAt : {E : Type 0} → (E → Type 0) → List E → ℕ → Type 0
 HasAt P table p = SomeHas P (slice_get table p)
+
+-- the assertion is that what the expression at place p means is zero
+abbrev pub AssertsAt : {S E F : Type 0} → (S → E → Term F → Type 0) → List E → S → ℕ → Assertion F → Type 0
+AssertsAt means table a p s = HasAt (λ x. AssertsOf Base means (λ t. t) a x s) table p
 
 -- the table has at each place before k the expression of the place's number
 abbrev pub TableMade : {E F : Type 0} → (Term F → E → Type 0) → (ℕ → Term F) → List ℕ → List E → ℕ → Type 0

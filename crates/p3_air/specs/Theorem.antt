@@ -6,6 +6,7 @@ use Rattle.air_field.specs.Ring.{CommRing, itself}
 use Rattle.air_field.specs.Extension.{Basis}
 use Rattle.air_field.specs.Grid.{Grid}
 use Rattle.air_field.specs.Term.{Leaf, preprocessed, main, periodic, public, first_row, last_row, transition, permutation, challenge, permutation_value, Term, leaf_term, ext_const_term}
+use Rattle.air_field.specs.Same.{Simplifies}
 use Rattle.air_field.specs.Polynomial.{polynomial, HasDegreeAtMost}
 use Rattle.air_field.specs.Degree.{degree_by, greatest_degree, cached_weight, transition_weight, trace_weight, inferred_degree}
 use Rattle.air_field.specs.Assignment.{Shape, IsMissing}
@@ -17,10 +18,8 @@ use Rattle.air_core.specs.declared.boundary.BoundaryIoError.{BoundaryIoError}
 use Rattle.air_core.specs.declared.boundary.BoundaryIoError.TheVariants.{ColumnOutOfRange, PublicValueOutOfRange, DuplicateCell}
 use Rattle.air_core.specs.declared.errors.AirError.{AirError}
 use Rattle.air_core.specs.declared.errors.AirError.TheVariants.{Memory, DegreeOverflow, CountOverflow, MissingEntry, RowOffset, MissingExtEntry, NoPermutation, PreprocessedHeight, PeriodNotPowerOfTwo, PeriodDoesNotDivide, Boundary, EmptyTrace}
-use Rattle.air_symbolic.specs.BaseLeaves.{base_term, base_reads}
-use Rattle.air_symbolic.specs.ExtLeaves.{ext_reads}
+use Rattle.air_symbolic.specs.BaseLeaves.{base_term}
 use Rattle.air_symbolic.specs.Nodes.{tree_of}
-use Rattle.air_symbolic.specs.Pools.{IsPool, PoolMeans, tree_at}
 use Rattle.air_symbolic.specs.Trees.{term_of}
 use Rattle.air_symbolic.specs.declared.pools.expr.SymbolicExpr.{SymbolicExpr}
 use Rattle.air_symbolic.specs.declared.leaves.base_leaf.BaseLeaf.{BaseLeaf}
@@ -146,11 +145,11 @@ ext_leaf_term basis nodes (leaf.ExtConstant c) = ext_const_term (basis.coefficie
 
 -- the terms of the recorded base expressions: their trees, read as terms
 abbrev pub recorded_base : {F E : Type 0} → Recorded F E → List (Term F)
-recorded_base recorded = map (λ i. term_of base_term (tree_at recorded.pool.base i)) recorded.base.items
+recorded_base recorded = map (λ i. term_of base_term (tree_of recorded.pool.base.nodes i)) recorded.base.items
 
 -- the terms of the recorded extension expressions
 abbrev pub recorded_ext : {F E : Type 0} → Basis F E → Recorded F E → List (Term F)
-recorded_ext basis recorded = map (λ i. term_of (ext_leaf_term basis recorded.pool.base.nodes) (tree_at recorded.pool i)) recorded.ext.items
+recorded_ext basis recorded = map (λ i. term_of (ext_leaf_term basis recorded.pool.base.nodes) (tree_of recorded.pool.nodes i)) recorded.ext.items
 
 -- all of them
 abbrev pub terms_in : {F E : Type 0} → Basis F E → Recorded F E → List (Term F)
@@ -183,12 +182,13 @@ pub record RecordsEach {F : Type 0} (r : CommRing F) (basis : Basis F F) (air : 
   pub ext_places : audit.layout.ext_indices.items ≡ map (λ c. c.0) (ext_constraints 0 air.declared)
   pub terms : RecordConstraints r air (recorded_base audit.recorded) (recorded_ext basis audit.recorded)
 
--- The recorded expressions are numbers of a pool, and mean there the declared constraints of their
--- kind, in order.
+-- The recorded expressions are numbers of the pool, which its type says is one, and mean there the
+-- declared constraints of their kind, in order: by the laws of a commutative ring, in any algebra.
 pub record MeansEach {F : Type 0} (r : CommRing F) (basis : Basis F F) (air : Declaration F) (recorded : Recorded F F) : Type 0 where
-  pub pool : IsPool (ext_reads basis) recorded.pool
-  pub base : AllZip (λ i c. PoolMeans base_reads r recorded.pool.base i c.1) recorded.base.items (base_constraints 0 air.declared)
-  pub ext : AllZip (λ i c. PoolMeans (ext_reads basis) r recorded.pool i c.1) recorded.ext.items (ext_constraints 0 air.declared)
+  pub base_here : All (λ i. i < length recorded.pool.base.nodes) recorded.base.items
+  pub ext_here : All (λ i. i < length recorded.pool.nodes) recorded.ext.items
+  pub base : AllZip (λ u c. Simplifies r u c.1) (recorded_base recorded) (base_constraints 0 air.declared)
+  pub ext : AllZip (λ u c. Simplifies r u c.1) (recorded_ext basis recorded) (ext_constraints 0 air.declared)
 
 -- ---- What is reported
 

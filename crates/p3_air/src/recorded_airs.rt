@@ -1,8 +1,6 @@
 //! A recording as an AIR.
 ghost use Rattle.std.specs.Prelude.{◌≡◌, List, None, IfOk, IfErr};
 ghost use Rattle.air_symbolic.specs.BaseLeaves.{base_reads};
-ghost use Rattle.air_symbolic.specs.ExtLeaves.{ext_reads};
-ghost use Rattle.air_symbolic.specs.Pools.{IsPool};
 ghost use Rattle.air_core.specs.declared.errors.AirError.{AirError};
 ghost use Rattle.air_builder.specs.Assertion.{Assertion};
 ghost use Rattle.air_builder.specs.Batches.{Asserted};
@@ -40,8 +38,6 @@ pub fn finish_recording<F: Field, EF: ExtensionField<F>>(
     builder: SymbolicAirBuilder<F, EF>,
 ) -> Recorded<F, EF>
     requires { ⟦<SymbolicAirBuilder<F, EF> as AirBuilder>⟧.ready builder }
-    ensures well_formed { IsPool base_reads result.pool.base }
-    ensures ext_well_formed { IsPool (ext_reads EF.basis) result.pool }
     ensures pool { result.pool ≡ builder.pool }
     ensures base { result.base ≡ builder.constraints.base }
     ensures ext { result.ext ≡ builder.constraints.ext }
@@ -61,7 +57,6 @@ fn first_past<A: Copy>(numbers: &[ExprId<A>], total: usize) -> Option<ExprId<A>>
 /// recorded term names and that no table has is refused by its name (`MissingEntry`), or at an offset past 1 with
 /// `RowOffset`, when the AIR is audited, or a row of it checked. Recorded extension constraints are left out.
 ///
-/// The base pool must be as its calls left it; each call that records an AIR, and `finish_recording`, promise that.
 /// Of what was recorded of an AIR with its base constraints nothing but memory can be wanting, and the declared list
 /// then records these. Of numbers that were put together otherwise the first that isn't in the base pool is refused
 /// (`IndexPastTotal`). What the numbers reach is looked up here, once, which takes memory (`Memory`).
@@ -72,7 +67,6 @@ pub fn recorded_air<F: Field, EF: ExtensionField<F>>(
     periodic: Vec<Vec<F>>,
     cells: Vec<BoundaryPublic>,
 ) -> Result<FlatAir<F>, AirError>
-    requires { IsPool base_reads recorded.pool.base }
     ensures declared { IfOk result (λ a.
         (⟦<FlatAir<F> as BaseAir<F>>⟧.declaration a).declared ≡ zero_at_recorded recorded) }
     ensures width { IfOk result (λ a. a.width ≡ width) }

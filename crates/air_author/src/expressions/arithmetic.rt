@@ -119,13 +119,10 @@ impl<'a, AB: AirBuilder, X: Expression<AB>, Y: Expression<AB>> Expression<AB> fo
     }
 }
 
-/// x y, of expressions that stand elsewhere, as `Less` is of a difference.
+/// condition x, of expressions that stand elsewhere: the product, which a ring of values has for nothing where the
+/// condition is 0 or 1, as a selector mostly is.
 #[derive(Drop)]
-pub(crate) struct Times<'a, X, Y>(pub(crate) &'a X, pub(crate) &'a Y);
-
-/// condition x, of expressions that stand elsewhere: what is asserted under a condition.
-#[derive(Drop)]
-pub(crate) struct Gated<'a, S, X>(pub(crate) &'a S, pub(crate) &'a X);
+pub struct Gated<'a, S, X>(pub &'a S, pub &'a X);
 
 impl<'a, AB: AirBuilder, S: Expression<AB>, X: Expression<AB>> Expression<AB> for Gated<'a, S, X> {
     ghost term = { λ s. S.term s.0.now ⊙ X.term s.1.now };

@@ -5,7 +5,7 @@ ghost use Rattle.air_author.specs.Expressions.{Lasts, MakesIn, MakesBothIn, powe
 
 use crate::AirResult;
 use crate::expressions::arithmetic::{
-    BoolCheck, Difference, Double, Less, Negative, Product, Square, Sum, Times,
+    BoolCheck, Difference, Double, Less, Negative, Product, Square, Sum,
 };
 use crate::expressions::constants::One;
 use crate::expressions::power::{Power, multiplied};
@@ -124,6 +124,10 @@ impl<AB: ExtensionBuilder, X: ExtExpression<AB>, Y: ExtExpression<AB>> ExtExpres
         Less(&self.0, &self.1).make_ext(builder)
     }
 }
+
+/// x y, of expressions that stand elsewhere, as `Less` is of a difference.
+#[derive(Drop)]
+pub(crate) struct Times<'a, X, Y>(pub(crate) &'a X, pub(crate) &'a Y);
 
 impl<'a, AB: ExtensionBuilder, X: ExtExpression<AB>, Y: ExtExpression<AB>> ExtExpression<AB>
     for Times<'a, X, Y> {

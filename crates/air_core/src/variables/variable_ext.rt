@@ -1,17 +1,57 @@
 //! Extension variables.
 ghost use Rattle.std.specs.Prelude.{◌≡◌, []};
+ghost use Rattle.std.specs.Cmp.{partial_order_from_own_ties};
+ghost use Rattle.std.specs.Cmp.Rules.{comparing};
+ghost use Rattle.std.specs.Ordering.{on, nat_cmp, then_cmp, as_partial_cmp};
+ghost use Rattle.std.proofs.Common.{rules};
 ghost use Rattle.air_field.specs.Degree.{cached_weight, trace_weight};
 ghost use Rattle.air_core.specs.ExtEntries.{ext_entry_leaf};
+ghost use Rattle.air_core.specs.contracts.variables.ext_entry.ExtEntryOrd.TheImpl.Laws.{total-law as entry_total};
 
 use crate::variables::ext_entry::ExtEntry;
+use std::cmp::Ordering;
 use std::marker::PhantomData;
 
 /// An extension variable: an entry, and the place in it.
-#[derive(Clone, Copy, Debug, PartialEq, Eq, PartialOrd, Ord)]
+#[derive(Clone, Copy, Debug, PartialEq, Eq)]
 pub struct SymbolicVariableExt<F, EF> {
     pub entry: ExtEntry,
     pub index: usize,
     of: PhantomData<(F, EF)>,
+}
+
+/// By its place, and only then by its entry: authors mostly name a column on this row and on the next, and then go on to
+/// the columns after it, so that what they name mostly ascends.
+impl<F: Ord, EF: Ord> Ord for SymbolicVariableExt<F, EF> {
+    ghost cmp = { then_cmp (on (λ v. v.index) nat_cmp) (on (λ v. v.entry) ⟦<ExtEntry as Ord>⟧.cmp) };
+
+    ghost total = { Prim.search (comparing, entry_total, rules) };
+
+    ghost matches_partial_cmp = { Prim.search (comparing, rules) };
+
+    ghost matches_eq = { Prim.search (comparing, rules) };
+
+    fn cmp(&self, other: &Self) -> Ordering {
+        self.index
+            .cmp(&other.index)
+            .then(self.entry.cmp(&other.entry))
+    }
+}
+
+impl<F: PartialOrd, EF: PartialOrd> PartialOrd for SymbolicVariableExt<F, EF> {
+    ghost partial_cmp = { as_partial_cmp
+        (then_cmp (on (λ v. v.index) nat_cmp) (on (λ v. v.entry) ⟦<ExtEntry as Ord>⟧.cmp)) };
+
+    ghost laws = { partial_order_from_own_ties (Prim.search (comparing, entry_total, rules))
+        (Prim.search (comparing, rules)) };
+
+    fn partial_cmp(&self, other: &Self) -> Option<Ordering> {
+        Some(
+            self.index
+                .cmp(&other.index)
+                .then(self.entry.cmp(&other.entry)),
+        )
+    }
 }
 
 impl<F, EF> SymbolicVariableExt<F, EF> {

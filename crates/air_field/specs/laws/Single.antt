@@ -1,7 +1,7 @@
 -- A ring is an extension of itself: its elements are lists of one coefficient.
-use Rattle.std.specs.Prelude.{◌≡◌, refl, List, [], ◌∷◌}
+use Rattle.std.specs.Prelude.{◌≡◌, refl, List, [], ◌∷◌, slice_index_or}
 use Rattle.std.proofs.Common.{lit<}
-use Rattle.air_field.specs.Ring.{CommRing, itself, first_or}
+use Rattle.air_field.specs.Ring.{CommRing, itself}
 use Rattle.air_field.specs.Coefficients.{padded}
 use Rattle.air_field.specs.Extension.{own_basis, ExtensionLaws}
 
@@ -9,7 +9,7 @@ module _ {F : Type 0} (R : CommRing F) where
   single-same : (a b : F) → a ∷ [] ≡ b ∷ [] → a ≡ b
   single-same a b h = cc
 
-  single-extend : (l : List F) → first_or R.zero l ∷ [] ≡ padded R.zero 1 l
+  single-extend : (l : List F) → slice_index_or l 0 R.zero ∷ [] ≡ padded R.zero 1 l
   single-extend [] = refl
   single-extend (x ∷ l) = refl
 

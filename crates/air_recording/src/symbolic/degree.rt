@@ -74,13 +74,12 @@ fn greatest_of(numbers: &[usize]) -> usize
 }
 
 /// The greatest degree, by the leaves' weights, of all constraints as they are recorded, 0 of none. Each pool has one
-/// table for all of them. The pool must be as its calls left it, and the numbers in it. It refuses a greatest degree
-/// past `usize` (`DegreeOverflow`), and want of memory.
+/// table for all of them. The numbers must be in the pool. It refuses a greatest degree past `usize`
+/// (`DegreeOverflow`), and want of memory.
 pub fn greatest_degree_of<F: Field, EF: ExtensionField<F>>(
     recorded: &Recorded<F, EF>,
     weight: LeafWeight<'_>,
 ) -> Result<usize, RingError>
-    requires pool { IsPool (ext_reads EF.basis) recorded.now.pool }
     requires base_here { All (λ i. i < size recorded.now.pool.base) recorded.now.base.items }
     requires ext_here { All (λ i. i < size recorded.now.pool) recorded.now.ext.items }
     ensures answer { AnswersDegree (greatest_degree (leaf_weight weight.entry)
@@ -101,7 +100,6 @@ fn trace_degree_of<F: Field, EF: ExtensionField<F>>(
     trace_len: usize,
     periods: &[usize],
 ) -> Result<usize, RingError>
-    requires pool { IsPool (ext_reads EF.basis) recorded.now.pool }
     requires base_here { All (λ i. i < size recorded.now.pool.base) recorded.now.base.items }
     requires ext_here { All (λ i. i < size recorded.now.pool) recorded.now.ext.items }
     ensures { AnswersInferred 0 trace_len periods.now
@@ -123,15 +121,14 @@ fn trace_degree_of<F: Field, EF: ExtensionField<F>>(
 /// is periodic, no less than their greatest cached degree; for a weight from 1 their greatest degree by the cached
 /// weights with this one for the transition selector, whatever `trace_len` and `periods` are.
 ///
-/// The pool must be as its calls left it, and the numbers in it. It refuses `DegreeOverflow` where their greatest
-/// degree, as the domain counts, passes `usize`, and want of memory.
+/// The numbers must be in the pool. It refuses `DegreeOverflow` where their greatest degree, as the domain counts, passes
+/// `usize`, and want of memory.
 fn degree_of<F: Field, EF: ExtensionField<F>>(
     recorded: &Recorded<F, EF>,
     trace_len: usize,
     periods: &[usize],
     transition_weight: usize,
 ) -> Result<usize, RingError>
-    requires pool { IsPool (ext_reads EF.basis) recorded.now.pool }
     requires base_here { All (λ i. i < size recorded.now.pool.base) recorded.now.base.items }
     requires ext_here { All (λ i. i < size recorded.now.pool) recorded.now.ext.items }
     ensures { AnswersInferred transition_weight trace_len periods.now
@@ -156,7 +153,7 @@ fn lengths_of<F>(alloc: Global, columns: &[Vec<F>]) -> Result<Vec<usize>, RingEr
 }
 
 /// The degree inferred from an AIR's constraints as they are recorded: that of [`degree_of`] for the lengths of the AIR's
-/// periodic columns. The pool must be as its calls left it, and the numbers in it.
+/// periodic columns. The numbers must be in the pool.
 pub fn infer_degree<F: Field, EF: ExtensionField<F>, A: BaseAir<F>>(
     alloc: Global,
     air: &A,
@@ -164,7 +161,6 @@ pub fn infer_degree<F: Field, EF: ExtensionField<F>, A: BaseAir<F>>(
     trace_len: usize,
     transition_weight: usize,
 ) -> Result<usize, RingError>
-    requires pool { IsPool (ext_reads EF.basis) recorded.now.pool }
     requires base_here { All (λ i. i < size recorded.now.pool.base) recorded.now.base.items }
     requires ext_here { All (λ i. i < size recorded.now.pool) recorded.now.ext.items }
     ensures { AnswersInferred transition_weight trace_len

@@ -3,6 +3,7 @@ ghost use Rattle.std.specs.Prelude.{◌≡◌, ◌<◌, [], map, All, IfOk, IfEr
 ghost use Rattle.air_symbolic.specs.BaseLeaves.{base_reads};
 ghost use Rattle.air_symbolic.specs.ExtLeaves.{ext_reads};
 ghost use Rattle.air_symbolic.specs.Pools.{IsPool, size};
+ghost use Rattle.air_symbolic.specs.laws.OnePool.{ext_pool-prop};
 ghost use Rattle.air_recording.specs.Layouts.{LayoutSuits};
 ghost use Rattle.air_recording.specs.Folds.{ArePlacesOf};
 ghost use Rattle.air_recording.specs.Kinds.{kind_of, RecordsKinds};
@@ -25,11 +26,14 @@ pub struct Recorded<F: Field, EF: ExtensionField<F>> {
     pub pool: ExprPool<ExtLeaf<F, EF>>,
     pub base: Vec<ExprId<BaseLeaf<F>>>,
     pub ext: Vec<ExprId<ExtLeaf<F, EF>>>,
+    /// The pool and its base pool are as their calls left them.
+    pub ghost one_pool: { IsPool (ext_reads EF.basis) pool } by { ext_pool-prop EF.basis pool },
 }
 
 impl<F: Field, EF: ExtensionField<F>> SymbolicAirBuilder<F, EF> {
     /// What was recorded, handed over.
     pub fn into_recorded(self) -> Recorded<F, EF>
+        requires { IsPool (ext_reads EF.basis) self.pool }
         ensures pool { result.pool ≡ self.pool }
         ensures base { result.base ≡ self.constraints.base }
         ensures ext { result.ext ≡ self.constraints.ext }
@@ -133,7 +137,6 @@ pub fn get_symbolic_constraints<F: SelfExtension, A: Air<SymbolicAirBuilder<F, F
 ) -> Result<Recorded<F, F>, AirError>
     ensures base { IfOk result (λ r. RecordsBase F.ring F.over
         base_reads r.pool.base r.base.items (A.declaration air.now).declared) }
-    ensures pool { IfOk result (λ r. IsPool (ext_reads F.basis) r.pool) }
     ensures ext { IfOk result (λ r. r.ext.items ≡ []) }
     ensures layout { OnOk result (LayoutSuits layout (A.declaration air.now)) }
     ensures answers { OnOk result (RecordingAnswers F.ring F.over layout (A.declaration air.now)) }

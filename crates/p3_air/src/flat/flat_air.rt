@@ -9,7 +9,7 @@ ghost use Rattle.p3_air.specs.laws.FlatAirs.{RootsIn-prop};
 ghost use Rattle.p3_air.specs.laws.Plans.{IsPlan-prop};
 
 use crate::flat::plan::{Plan, plan_of};
-use crate::flat::table::make_planned;
+use crate::flat::table::{assert_places, make_places};
 use air_builder::{Air, AirBuilder, AirError, BaseAir, BoundaryPublic};
 use air_field::{Field, RowMajorMatrix};
 use air_symbolic::{BaseLeaf, ExprId, ExprPool};
@@ -131,7 +131,7 @@ impl<AB: AirBuilder> Air<AB> for FlatAir<AB::F> {
             return Ok(());
         }
         let alloc = *self.roots.allocator();
-        let expressions = make_planned(alloc, &self.pool, &self.plan, builder)?;
-        builder.assert_zeros_slice(&expressions)
+        let table = make_places(alloc, &self.pool, &self.plan, builder)?;
+        assert_places(builder, &table, &self.plan.places)
     }
 }

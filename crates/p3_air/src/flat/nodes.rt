@@ -12,7 +12,7 @@ ghost use Rattle.p3_air.specs.Tables.{IsMade, HasAt, TableMade};
 
 use crate::flat::leaves::make_leaf;
 use crate::flat::step::Step;
-use air_author::{Difference, Expression, Negative, Product, Sum};
+use air_author::{Difference, Expression, Gated, Negative, Product, Sum};
 use air_builder::{AirBuilder, AirError};
 use air_field::{Algebra, Field};
 use air_symbolic::{BaseLeaf, ExprId, ExprPool, SymbolicExpr};
@@ -106,6 +106,11 @@ pub(crate) fn make_step<AB: AirBuilder>(
         Step::Mul(x, y) => Product(
             AtPlace(pool, numbers, table, x),
             AtPlace(pool, numbers, table, y),
+        )
+        .make(builder),
+        Step::Gate(x, y) => Gated(
+            &AtPlace(pool, numbers, table, x),
+            &AtPlace(pool, numbers, table, y),
         )
         .make(builder),
     }

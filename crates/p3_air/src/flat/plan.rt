@@ -61,9 +61,29 @@ fn number_marked<A: SymLeaf>(
     Ok((numbers, places))
 }
 
+// Whether an expression is a selector, which is 0 or 1 on most rows that are tested.
+fn is_selector<F: Field>(pool: &ExprPool<BaseLeaf<F>>, id: ExprId<BaseLeaf<F>>) -> bool
+    requires pool { IsPool base_reads pool.now }
+    requires here { id < size pool.now }
+{
+    match pool.node(id) {
+        SymbolicExpr::Leaf(leaf) => match leaf {
+            BaseLeaf::IsFirstRow | BaseLeaf::IsLastRow | BaseLeaf::IsTransition => true,
+            _ => false,
+        },
+        _ => false,
+    }
+}
+
 // The step that makes a node, whose operands stand at these places.
-fn step_of<A: SymLeaf>(node: SymbolicExpr<A>, places: &[usize]) -> Step
-    requires { EachOperand (λ i. i < length places.now) node }
+fn step_of<F: Field>(
+    pool: &ExprPool<BaseLeaf<F>>,
+    node: SymbolicExpr<BaseLeaf<F>>,
+    places: &[usize],
+) -> Step
+    requires pool { IsPool base_reads pool.now }
+    requires long { length places.now ≡ size pool.now }
+    requires operands { EachOperand (λ i. i < length places.now) node }
     ensures { StepMakes (λ p i. p ≡ slice_index_or places.now i 0) result node }
 {
     match node {
@@ -71,7 +91,14 @@ fn step_of<A: SymLeaf>(node: SymbolicExpr<A>, places: &[usize]) -> Step
         SymbolicExpr::Add { x, y, .. } => Step::Add(places[x.number()], places[y.number()]),
         SymbolicExpr::Sub { x, y, .. } => Step::Sub(places[x.number()], places[y.number()]),
         SymbolicExpr::Neg { x, .. } => Step::Neg(places[x.number()]),
-        SymbolicExpr::Mul { x, y, .. } => Step::Mul(places[x.number()], places[y.number()]),
+        SymbolicExpr::Mul { x, y, .. } => {
+            let (at, other) = (places[x.number()], places[y.number()]);
+            if is_selector(pool, x) {
+                Step::Gate(at, other)
+            } else {
+                Step::Mul(at, other)
+            }
+        }
     }
 }
 
@@ -94,7 +121,7 @@ fn steps_of<F: Field>(
 {
     let mut steps = Vec::new(alloc);
     for id in numbers {
-        push(&mut steps, step_of(*pool.node(*id), places))?;
+        push(&mut steps, step_of(pool, *pool.node(*id), places))?;
     }
     Ok(steps)
 }

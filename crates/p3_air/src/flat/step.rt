@@ -8,4 +8,6 @@ pub(crate) enum Step {
     Sub(usize, usize),
     Neg(usize),
     Mul(usize, usize),
+    /// A product whose first operand is a selector.
+    Gate(usize, usize),
 }

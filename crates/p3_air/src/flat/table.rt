@@ -8,8 +8,8 @@ ghost use Rattle.air_builder.specs.Assertion.{Assertion};
 ghost use Rattle.air_builder.specs.Builders.{Means};
 ghost use Rattle.air_builder.specs.Refusals.{PartOf};
 ghost use Rattle.p3_air.specs.Plans.{number_at, IsPlan};
-ghost use Rattle.air_builder.specs.Batches.{OrMemory};
-ghost use Rattle.p3_air.specs.Tables.{IsMade, TableMade, MakesAll};
+ghost use Rattle.air_builder.specs.Batches.{AssertedEach, OrMemory};
+ghost use Rattle.p3_air.specs.Tables.{IsMade, HasAt, AssertsAt, TableMade, MakesAll};
 
 use crate::flat::nodes::{known, make_step};
 use crate::flat::plan::Plan;
@@ -81,4 +81,22 @@ pub(crate) fn make_planned<AB: AirBuilder>(
 {
     let table = make_places(alloc, pool, plan, builder)?;
     read_places(alloc, &table, &plan.places)
+}
+
+/// Asserts that the expressions at the places are zero, in order.
+pub(crate) fn assert_places<AB: AirBuilder>(
+    builder: &mut AB,
+    table: &[AB::Expr],
+    places: &[usize],
+) -> Result<(), AirError>
+    requires ready { AB.ready builder.old }
+    requires of_ring { All (HasAt (AB.Ring.has (AB.ring_of builder.old)) table.now) places.now }
+    ensures { AssertedEach
+        (AssertsAt (Means AB.Ring.means AB.ring_of AB.reads_as) table.now)
+        AB.kept AB.grew AB.refuses builder.old builder.new places.now result }
+{
+    for place in places {
+        builder.assert_zero(known(table, *place))?;
+    }
+    Ok(())
 }

@@ -60,5 +60,5 @@ returns-clause-audited g c =
     audited r g.F.PartialEq.eq basis (instance d c.args.main.now c.args.public_values.now) c.args.max_failures c.args.transition_weight
     record { recorded = recorded; layout = c.in_ok-recorded.layout; report = c.in_ok-report.report; degree = c.in_ok-degree.degree }
     (subst (λ a. RecordingAnswers r a (air_layout d) d) own (rw c.from_air.ensures at c.in_ok-recorded.ensures.answers))
-    base ext c.in_ok-recorded.ensures.places c.in_ok-report.ensures.report
+    base ext c.in_ok-recorded.ensures.base_here c.in_ok-recorded.ensures.ext_here c.in_ok-recorded.ensures.places c.in_ok-report.ensures.report
     (subst (λ n. IsDegreeFor c.args.transition_weight n (periods_of d.periodic) (us ++ vs) c.in_ok-degree.degree) c.height.ensures c.in_ok-degree.ensures)

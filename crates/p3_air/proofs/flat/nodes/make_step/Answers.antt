@@ -51,6 +51,17 @@ make-requires-in-Mul-clause-held g c =
     let b = product_before base_leaves ns numbers k c.in-Mul.x c.in-Mul.y f.0 m in
     both_last g.met.AB.Ring.Algebra.laws g.met.AB.AirBuilder.laws c.args.table.now c.in-Mul.x c.in-Mul.y (term (number_at numbers c.in-Mul.x)) (term (number_at numbers c.in-Mul.y)) c.args.builder.now (c.requires.table c.in-Mul.x b.0) (c.requires.table c.in-Mul.y b.1)
 
+pub make-requires-in-Gate-clause-held : goal.make-requires-in-Gate-clause-held
+make-requires-in-Gate-clause-held g c =
+    let ns = c.args.pool.now.nodes in
+    let numbers = c.args.numbers.now in
+    let k = c.args.place in
+    let term = term_at base_reads c.args.pool.now in
+    let f = place_made base_leaves ns numbers k c.requires.pool.nodes c.requires.here c.args.step c.requires.makes in
+    let m = subst (λ s. StepMakes (IsPlaceOf numbers k) s f.0) c.in-Gate.is f.2 in
+    let b = product_before base_leaves ns numbers k c.in-Gate.x c.in-Gate.y f.0 m in
+    both_last g.met.AB.Ring.Algebra.laws g.met.AB.AirBuilder.laws c.args.table.now c.in-Gate.x c.in-Gate.y (term (number_at numbers c.in-Gate.x)) (term (number_at numbers c.in-Gate.y)) c.args.builder.now (c.requires.table c.in-Gate.x b.0) (c.requires.table c.in-Gate.y b.1)
+
 pub returns-in-Add : goal.returns-in-Add
 returns-in-Add g c =
     let A = g.AB.AirBuilder in
@@ -94,3 +105,14 @@ returns-in-Mul g c =
     let m = subst (λ s. StepMakes (IsPlaceOf numbers k) s f.0) c.in-Mul.is f.2 in
     subst (λ t. MakesTerm (Means g.AB.Ring.Algebra.means A.ring_of A.reads_as) A.grew A.missing A.refuses c.args.builder.now c.make-in-Mul.new.builder c.make-in-Mul.result t)
     (product_term base_leaves ns numbers k (number_at numbers k) c.in-Mul.x c.in-Mul.y f.0 f.1 m) c.make-in-Mul.ensures
+
+pub returns-in-Gate : goal.returns-in-Gate
+returns-in-Gate g c =
+    let A = g.AB.AirBuilder in
+    let ns = c.args.pool.now.nodes in
+    let numbers = c.args.numbers.now in
+    let k = c.args.place in
+    let f = place_made base_leaves ns numbers k c.requires.pool.nodes c.requires.here c.args.step c.requires.makes in
+    let m = subst (λ s. StepMakes (IsPlaceOf numbers k) s f.0) c.in-Gate.is f.2 in
+    subst (λ t. MakesTerm (Means g.AB.Ring.Algebra.means A.ring_of A.reads_as) A.grew A.missing A.refuses c.args.builder.now c.make-in-Gate.new.builder c.make-in-Gate.result t)
+    (product_term base_leaves ns numbers k (number_at numbers k) c.in-Gate.x c.in-Gate.y f.0 f.1 m) c.make-in-Gate.ensures
