@@ -1,6 +1,6 @@
 -- Making the expressions of numbers.
 use Rattle.std.proofs.Common.{◌≡◌, ◌<◌, ℕ, List, [], length, slice_get, Some, Ok, Err, sym, ap, ap₂, subst, ◌∙◌, arith}
-use Rattle.air_field.specs.Term.{Leaf, Term, leaf_term, add_term, sub_term, neg_term, mul_term}
+use Rattle.air_field.specs.Term.{Leaf, main, Term, leaf_term, add_term, sub_term, neg_term, mul_term}
 use Rattle.air_core.specs.declared.errors.AirError.TheVariants.{RowOffset}
 use Rattle.air_symbolic.specs.Leaves.{Leaves}
 use Rattle.air_symbolic.specs.Nodes.{tree_of, IsNode, WellFormed}
@@ -15,7 +15,7 @@ use Rattle.air_author.specs.laws.Each.{of_one}
 use Rattle.air_author.specs.Handing.{each_weaker, made_lasts}
 use Rattle.air_symbolic.specs.laws.Sharing.{found}
 use Rattle.p3_air.specs.declared.flat.step.Step.{Step}
-use Rattle.p3_air.specs.Plans.{number_at, IsPlaceOf, MakesPlace, StepMakes, IsSum, IsDifference, IsNegative, IsProduct}
+use Rattle.p3_air.specs.Plans.{number_at, IsPlaceOf, MakesPlace, StepMakes, column_of, IsColumn, IsSum, IsDifference, IsNegative, IsProduct}
 use Rattle.p3_air.specs.Tables.{IsMade, HasAt}
 
 -- what a table has at a place is what is read there
@@ -25,8 +25,23 @@ read_is {E} P table p r (x, e, h) at = subst P (same (sym e ∙ at)) h
     same : Some x ≡ Some r → x ≡ r
     same e = cc
 
+column_term : {F : Type 0} (o c : ℕ) (t : Term F) → column_of t ≡ Some (o, c) → leaf_term (main o c) ≡ t
+column_term o c (leaf_term (main p i)) h = ap (λ q. leaf_term (main q.0 q.1)) (same h)
+  where
+    same : Some (p, i) ≡ Some (o, c) → (o, c) ≡ (p, i)
+    same e = cc
+column_term o c (leaf_term _) h = absurd (cc h)
+column_term o c _ h = absurd (cc h)
+
 -- the terms of nodes that steps make
 module _ {A F : Type 0} (l : Leaves A F) (ns : List (SymbolicExpr A)) (numbers : List ℕ) (k : ℕ) where
+  pub main_term : (i o c : ℕ) (n : SymbolicExpr A) → IsNode l ns i n → IsColumn l o c n → leaf_term (main o c) ≡ term_of l.term (tree_of ns i)
+  main_term i o c (node.Leaf a) is h = column_term o c (l.term a) h ∙ sym (ap (term_of l.term) is.tree)
+  main_term i o c (node.Add x y d) is h = absurd h
+  main_term i o c (node.Sub x y d) is h = absurd h
+  main_term i o c (node.Neg x d) is h = absurd h
+  main_term i o c (node.Mul x y d) is h = absurd h
+
   pub sum_term : (i p q : ℕ) (n : SymbolicExpr A) → IsNode l ns i n → IsSum (IsPlaceOf numbers k p) (IsPlaceOf numbers k q) n → add_term (term_of l.term (tree_of ns (number_at numbers p))) (term_of l.term (tree_of ns (number_at numbers q))) ≡ term_of l.term (tree_of ns i)
   sum_term i p q (node.Leaf a) is h = absurd h
   sum_term i p q (node.Add x y d) is h = sym (ap (term_of l.term) is.tree ∙ ap₂ (λ u v. add_term (term_of l.term (tree_of ns u)) (term_of l.term (tree_of ns v))) h.0.1 h.1.1)
@@ -56,7 +71,7 @@ module _ {A F : Type 0} (l : Leaves A F) (ns : List (SymbolicExpr A)) (numbers :
   product_term i p q (node.Mul x y d) is h = sym (ap (term_of l.term) is.tree ∙ ap₂ (λ u v. mul_term (term_of l.term (tree_of ns u)) (term_of l.term (tree_of ns v))) h.0.1 h.1.1)
 
   -- the node that a step makes
-  pub place_made : WellFormed l ns → number_at numbers k < length ns → (s : Step) → MakesPlace l ns numbers k s → (n : SymbolicExpr A) × IsNode l ns (number_at numbers k) n × StepMakes (IsPlaceOf numbers k) s n
+  pub place_made : WellFormed l ns → number_at numbers k < length ns → (s : Step) → MakesPlace l ns numbers k s → (n : SymbolicExpr A) × IsNode l ns (number_at numbers k) n × StepMakes l (IsPlaceOf numbers k) s n
   place_made wf here s makes = let f : (n : SymbolicExpr A) × IsNode l ns (number_at numbers k) n = found l ns wf (number_at numbers k) here in (f.0, f.1, makes f.0 f.1)
 
   -- the places of a step's operands are before it

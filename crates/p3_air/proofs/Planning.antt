@@ -40,36 +40,38 @@ one_operand P i (node.Mul x y d) (inl e) h = subst P (sym e) h.0
 one_operand P i (node.Mul x y d) (inr e) h = subst P (sym e) h.1
 
 -- a step whose places are those of the operands
-pub step_placed : {A : Type 0} (P Q : ℕ → ℕ → Type 0) (R : ℕ → Type 0) (s : Step) (n : SymbolicExpr A) → ((p i : ℕ) → R i → P p i → Q p i) → EachOperand R n → StepMakes P s n → StepMakes Q s n
-step_placed P Q R step.Leaf n f r h = h
-step_placed P Q R (step.Add p q) (node.Leaf a) f r h = absurd h
-step_placed P Q R (step.Add p q) (node.Add x y d) f r h = (f p x r.0 h.0, f q y r.1 h.1)
-step_placed P Q R (step.Add p q) (node.Sub x y d) f r h = absurd h
-step_placed P Q R (step.Add p q) (node.Neg x d) f r h = absurd h
-step_placed P Q R (step.Add p q) (node.Mul x y d) f r h = absurd h
-step_placed P Q R (step.Sub p q) (node.Leaf a) f r h = absurd h
-step_placed P Q R (step.Sub p q) (node.Add x y d) f r h = absurd h
-step_placed P Q R (step.Sub p q) (node.Sub x y d) f r h = (f p x r.0 h.0, f q y r.1 h.1)
-step_placed P Q R (step.Sub p q) (node.Neg x d) f r h = absurd h
-step_placed P Q R (step.Sub p q) (node.Mul x y d) f r h = absurd h
-step_placed P Q R (step.Neg p) (node.Leaf a) f r h = absurd h
-step_placed P Q R (step.Neg p) (node.Add x y d) f r h = absurd h
-step_placed P Q R (step.Neg p) (node.Sub x y d) f r h = absurd h
-step_placed P Q R (step.Neg p) (node.Neg x d) f r h = f p x r h
-step_placed P Q R (step.Neg p) (node.Mul x y d) f r h = absurd h
-step_placed P Q R (step.Mul p q) (node.Leaf a) f r h = absurd h
-step_placed P Q R (step.Mul p q) (node.Add x y d) f r h = absurd h
-step_placed P Q R (step.Mul p q) (node.Sub x y d) f r h = absurd h
-step_placed P Q R (step.Mul p q) (node.Neg x d) f r h = absurd h
-step_placed P Q R (step.Mul p q) (node.Mul x y d) f r h = (f p x r.0 h.0, f q y r.1 h.1)
-step_placed P Q R (step.Gate p q) n f r h = step_placed P Q R (step.Mul p q) n f r h
+pub step_placed : {A F : Type 0} (l : Leaves A F) (P Q : ℕ → ℕ → Type 0) (R : ℕ → Type 0) (s : Step) (n : SymbolicExpr A) → ((p i : ℕ) → R i → P p i → Q p i) → EachOperand R n → StepMakes l P s n → StepMakes l Q s n
+step_placed l P Q R step.Leaf n f r h = h
+step_placed l P Q R (step.Current c) n f r h = h
+step_placed l P Q R (step.Next c) n f r h = h
+step_placed l P Q R (step.Add p q) (node.Leaf a) f r h = absurd h
+step_placed l P Q R (step.Add p q) (node.Add x y d) f r h = (f p x r.0 h.0, f q y r.1 h.1)
+step_placed l P Q R (step.Add p q) (node.Sub x y d) f r h = absurd h
+step_placed l P Q R (step.Add p q) (node.Neg x d) f r h = absurd h
+step_placed l P Q R (step.Add p q) (node.Mul x y d) f r h = absurd h
+step_placed l P Q R (step.Sub p q) (node.Leaf a) f r h = absurd h
+step_placed l P Q R (step.Sub p q) (node.Add x y d) f r h = absurd h
+step_placed l P Q R (step.Sub p q) (node.Sub x y d) f r h = (f p x r.0 h.0, f q y r.1 h.1)
+step_placed l P Q R (step.Sub p q) (node.Neg x d) f r h = absurd h
+step_placed l P Q R (step.Sub p q) (node.Mul x y d) f r h = absurd h
+step_placed l P Q R (step.Neg p) (node.Leaf a) f r h = absurd h
+step_placed l P Q R (step.Neg p) (node.Add x y d) f r h = absurd h
+step_placed l P Q R (step.Neg p) (node.Sub x y d) f r h = absurd h
+step_placed l P Q R (step.Neg p) (node.Neg x d) f r h = f p x r h
+step_placed l P Q R (step.Neg p) (node.Mul x y d) f r h = absurd h
+step_placed l P Q R (step.Mul p q) (node.Leaf a) f r h = absurd h
+step_placed l P Q R (step.Mul p q) (node.Add x y d) f r h = absurd h
+step_placed l P Q R (step.Mul p q) (node.Sub x y d) f r h = absurd h
+step_placed l P Q R (step.Mul p q) (node.Neg x d) f r h = absurd h
+step_placed l P Q R (step.Mul p q) (node.Mul x y d) f r h = (f p x r.0 h.0, f q y r.1 h.1)
+step_placed l P Q R (step.Gate p q) n f r h = step_placed l P Q R (step.Mul p q) n f r h
 
 -- One step more makes the node of place k, whose operands stand before it.
 pub one_step_more : {A F : Type 0} (l : Leaves A F) (ns : List (SymbolicExpr A)) (numbers places : List ℕ) (k id : ℕ) (steps new : List Step) (s : Step) (n : SymbolicExpr A)
     → new ≡ steps ++ s ∷ [] → length steps ≡ k → ((j : ℕ) → j < k → MakesPlace l ns numbers j (get_or steps j step.Leaf))
     → k < length numbers → id ≡ get_or numbers k id → IsNode l ns id n
     → ((m : SymbolicExpr A) → IsNode l ns (number_at numbers k) m → EachOperand (λ i. IsPlaceOf numbers k (get_or places i 0) i) m)
-    → StepMakes (λ p i. p ≡ get_or places i 0) s n → (j : ℕ) → j < k + 1 → MakesPlace l ns numbers j (get_or new j step.Leaf)
+    → StepMakes l (λ p i. p ≡ get_or places i 0) s n → (j : ℕ) → j < k + 1 → MakesPlace l ns numbers j (get_or new j step.Leaf)
 one_step_more l ns numbers places k id steps new s n pushed long before in_numbers at is operands made j below =
     subst (λ x. MakesPlace l ns numbers j x) (sym (ap (λ xs. get_or xs j step.Leaf) pushed))
     (⊎_elim
@@ -90,8 +92,8 @@ one_step_more l ns numbers places k id steps new s n pushed long before in_numbe
     makes m m_is =
         let one : Some n ≡ Some m = sym is.node ∙ ap (slice_get ns) (sym number) ∙ m_is.node in
         let same : n ≡ m = cc in
-        subst (StepMakes (IsPlaceOf numbers k) s) same
-        (step_placed (λ p i. p ≡ get_or places i 0) (IsPlaceOf numbers k) (λ i. IsPlaceOf numbers k (get_or places i 0) i) s n
+        subst (StepMakes l (IsPlaceOf numbers k) s) same
+        (step_placed l (λ p i. p ≡ get_or places i 0) (IsPlaceOf numbers k) (λ i. IsPlaceOf numbers k (get_or places i 0) i) s n
         (λ p i r e. subst (λ q. IsPlaceOf numbers k q i) (sym e) r)
         (operands n (subst (λ v. IsNode l ns v n) (sym number) is)) made)
 

@@ -1,6 +1,7 @@
 -- How the expressions of roots are made, one after another.
 use Rattle.std.specs.List.{AllZip, list_any}
 use Rattle.std.specs.Prelude.{slice_get, ◌≡◌, ◌||◌, ℕ, ◌<◌, List, length, slice_index_or, All, Bool, false, Option, None, Some, ⊤, ◌==◌}
+use Rattle.air_field.specs.Term.{Term, leaf_term, main}
 use Rattle.air_symbolic.specs.Leaves.{Leaves}
 use Rattle.air_symbolic.specs.Nodes.{IsNode}
 use Rattle.air_symbolic.specs.Reach.{Marked}
@@ -22,6 +23,16 @@ abbrev pub IsLeaf : {A : Type 0} → SymbolicExpr A → Type 0
 IsLeaf (node.Leaf a) = ⊤
 IsLeaf _ = ⊥
 
+-- the column of the main trace that a term is, behind its row's offset
+abbrev pub column_of : {F : Type 0} → Term F → Option (ℕ × ℕ)
+column_of (leaf_term (main o c)) = Some (o, c)
+column_of _ = None
+
+-- the leaf of a column of the main trace, on the row at this offset
+abbrev pub IsColumn : {A F : Type 0} → Leaves A F → ℕ → ℕ → SymbolicExpr A → Type 0
+IsColumn l o c (node.Leaf a) = column_of (l.term a) ≡ Some (o, c)
+IsColumn l o c _ = ⊥
+
 abbrev pub IsSum : {A : Type 0} → (ℕ → Type 0) → (ℕ → Type 0) → SymbolicExpr A → Type 0
 IsSum P Q (node.Add x y d) = P x × Q y
 IsSum P Q _ = ⊥
@@ -38,18 +49,20 @@ abbrev pub IsProduct : {A : Type 0} → (ℕ → Type 0) → (ℕ → Type 0) �
 IsProduct P Q (node.Mul x y d) = P x × Q y
 IsProduct P Q _ = ⊥
 
--- the step makes the node: it is of the node's kind, and the operands are those at the step's places
-abbrev pub StepMakes : {A : Type 0} → (ℕ → ℕ → Type 0) → Step → SymbolicExpr A → Type 0
-StepMakes at step.Leaf n = IsLeaf n
-StepMakes at (step.Add p q) n = IsSum (at p) (at q) n
-StepMakes at (step.Sub p q) n = IsDifference (at p) (at q) n
-StepMakes at (step.Neg p) n = IsNegative (at p) n
-StepMakes at (step.Mul p q) n = IsProduct (at p) (at q) n
-StepMakes at (step.Gate p q) n = IsProduct (at p) (at q) n
+-- the step makes the node: it is of the node's kind, and names its column, or the places of its operands
+abbrev pub StepMakes : {A F : Type 0} → Leaves A F → (ℕ → ℕ → Type 0) → Step → SymbolicExpr A → Type 0
+StepMakes l at step.Leaf n = IsLeaf n
+StepMakes l at (step.Current c) n = IsColumn l 0 c n
+StepMakes l at (step.Next c) n = IsColumn l 1 c n
+StepMakes l at (step.Add p q) n = IsSum (at p) (at q) n
+StepMakes l at (step.Sub p q) n = IsDifference (at p) (at q) n
+StepMakes l at (step.Neg p) n = IsNegative (at p) n
+StepMakes l at (step.Mul p q) n = IsProduct (at p) (at q) n
+StepMakes l at (step.Gate p q) n = IsProduct (at p) (at q) n
 
 -- the step makes the node of place k's number, out of operands before it
 abbrev pub MakesPlace : {A F : Type 0} → Leaves A F → List (SymbolicExpr A) → List ℕ → ℕ → Step → Type 0
-MakesPlace {A} l ns numbers k s = (n : SymbolicExpr A) → IsNode l ns (number_at numbers k) n → StepMakes (IsPlaceOf numbers k) s n
+MakesPlace {A} l ns numbers k s = (n : SymbolicExpr A) → IsNode l ns (number_at numbers k) n → StepMakes l (IsPlaceOf numbers k) s n
 
 -- for each number there is a step, which makes its node
 pub record AreSteps {A F : Type 0} (l : Leaves A F) (ns : List (SymbolicExpr A)) (numbers : List ℕ) (steps : List Step) : Type 0 where

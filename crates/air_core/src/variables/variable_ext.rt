@@ -32,9 +32,10 @@ impl<F: Ord, EF: Ord> Ord for SymbolicVariableExt<F, EF> {
     ghost matches_eq = { Prim.search (comparing, rules) };
 
     fn cmp(&self, other: &Self) -> Ordering {
-        self.index
-            .cmp(&other.index)
-            .then(self.entry.cmp(&other.entry))
+        match self.index.cmp(&other.index) {
+            Ordering::Equal => self.entry.cmp(&other.entry),
+            order => order,
+        }
     }
 }
 
@@ -46,11 +47,10 @@ impl<F: PartialOrd, EF: PartialOrd> PartialOrd for SymbolicVariableExt<F, EF> {
         (Prim.search (comparing, rules)) };
 
     fn partial_cmp(&self, other: &Self) -> Option<Ordering> {
-        Some(
-            self.index
-                .cmp(&other.index)
-                .then(self.entry.cmp(&other.entry)),
-        )
+        match self.index.cmp(&other.index) {
+            Ordering::Equal => Some(self.entry.cmp(&other.entry)),
+            order => Some(order),
+        }
     }
 }
 

@@ -12,7 +12,7 @@ ghost use Rattle.p3_air.specs.Tables.{IsMade, HasAt, TableMade};
 
 use crate::flat::leaves::make_leaf;
 use crate::flat::step::Step;
-use air_author::{Difference, Expression, Gated, Negative, Product, Sum};
+use air_author::{Current, Difference, Expression, Gated, Negative, Next, Product, Sum};
 use air_builder::{AirBuilder, AirError};
 use air_field::{Algebra, Field};
 use air_symbolic::{BaseLeaf, ExprId, ExprPool, SymbolicExpr};
@@ -92,6 +92,8 @@ pub(crate) fn make_step<AB: AirBuilder>(
 {
     match step {
         Step::Leaf => make_number(builder, pool, numbers[place]),
+        Step::Current(column) => Current(column).make(builder),
+        Step::Next(column) => Next(column).make(builder),
         Step::Add(x, y) => Sum(
             AtPlace(pool, numbers, table, x),
             AtPlace(pool, numbers, table, y),

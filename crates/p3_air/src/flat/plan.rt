@@ -14,7 +14,7 @@ use crate::flat::pushing::push;
 use crate::flat::step::Step;
 use air_builder::AirError;
 use air_field::Field;
-use air_symbolic::{BaseLeaf, ExprId, ExprPool, SymLeaf, SymbolicExpr, reached};
+use air_symbolic::{BaseEntry, BaseLeaf, ExprId, ExprPool, SymLeaf, SymbolicExpr, reached};
 use std::alloc::Global;
 
 /// How the expressions of some roots are made, one after another.
@@ -84,10 +84,20 @@ fn step_of<F: Field>(
     requires pool { IsPool base_reads pool.now }
     requires long { length places.now ≡ size pool.now }
     requires operands { EachOperand (λ i. i < length places.now) node }
-    ensures { StepMakes (λ p i. p ≡ slice_index_or places.now i 0) result node }
+    ensures { StepMakes base_leaves (λ p i. p ≡ slice_index_or places.now i 0) result node }
 {
     match node {
-        SymbolicExpr::Leaf(_) => Step::Leaf,
+        SymbolicExpr::Leaf(leaf) => match leaf {
+            BaseLeaf::Variable(variable) => match variable.entry {
+                BaseEntry::Main { offset } => match offset {
+                    0 => Step::Current(variable.index),
+                    1 => Step::Next(variable.index),
+                    _ => Step::Leaf,
+                },
+                _ => Step::Leaf,
+            },
+            _ => Step::Leaf,
+        },
         SymbolicExpr::Add { x, y, .. } => Step::Add(places[x.number()], places[y.number()]),
         SymbolicExpr::Sub { x, y, .. } => Step::Sub(places[x.number()], places[y.number()]),
         SymbolicExpr::Neg { x, .. } => Step::Neg(places[x.number()]),

@@ -4,6 +4,9 @@
 #[derive(Clone, Copy, Drop)]
 pub(crate) enum Step {
     Leaf,
+    /// A column of the main trace, on this row or on the next.
+    Current(usize),
+    Next(usize),
     Add(usize, usize),
     Sub(usize, usize),
     Neg(usize),

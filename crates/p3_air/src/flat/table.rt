@@ -43,7 +43,7 @@ pub(crate) fn make_places<AB: AirBuilder>(
     let mut table = Vec::with_capacity(alloc, plan.steps.len())?;
     for step in &plan.steps {
         let x = make_step(builder, pool, &plan.numbers, table.len(), *step, &table)?;
-        push(&mut table, x)?;
+        table.push_reserved(x);
     }
     Ok(table)
 }

@@ -4,17 +4,17 @@ use Rattle.air_symbolic.specs.Pools.{term_at}
 use Rattle.air_builder.specs.Builders.{Means}
 use Rattle.air_author.specs.Expressions.{MakesTerm}
 use Rattle.p3_air.specs.Plans.{number_at, IsPlaceOf, StepMakes}
-use Rattle.p3_air.proofs.Making.{place_made, at_lasts, both_last, sum_term, difference_term, negative_term, product_term, sum_before, difference_before, negative_before, product_before}
+use Rattle.p3_air.proofs.Making.{place_made, at_lasts, both_last, sum_term, difference_term, negative_term, product_term, main_term, sum_before, difference_before, negative_before, product_before}
 use Rattle.p3_air.proofs.flat.nodes.make_step.Goals as goal
 
-pub make-requires-clause-held : goal.make-requires-clause-held
-make-requires-clause-held g c =
+pub make-requires-in-Add-clause-held : goal.make-requires-in-Add-clause-held
+make-requires-in-Add-clause-held g c =
     let ns = c.args.pool.now.nodes in
     let numbers = c.args.numbers.now in
     let k = c.args.place in
     let term = term_at base_reads c.args.pool.now in
     let f = place_made base_leaves ns numbers k c.requires.pool.nodes c.requires.here c.args.step c.requires.makes in
-    let m = subst (λ s. StepMakes (IsPlaceOf numbers k) s f.0) c.in-Add.is f.2 in
+    let m = subst (λ s. StepMakes base_leaves (IsPlaceOf numbers k) s f.0) c.in-Add.is f.2 in
     let b = sum_before base_leaves ns numbers k c.in-Add.x c.in-Add.y f.0 m in
     both_last g.met.AB.Ring.Algebra.laws g.met.AB.AirBuilder.laws c.args.table.now c.in-Add.x c.in-Add.y (term (number_at numbers c.in-Add.x)) (term (number_at numbers c.in-Add.y)) c.args.builder.now (c.requires.table c.in-Add.x b.0) (c.requires.table c.in-Add.y b.1)
 
@@ -25,7 +25,7 @@ make-requires-in-Sub-clause-held g c =
     let k = c.args.place in
     let term = term_at base_reads c.args.pool.now in
     let f = place_made base_leaves ns numbers k c.requires.pool.nodes c.requires.here c.args.step c.requires.makes in
-    let m = subst (λ s. StepMakes (IsPlaceOf numbers k) s f.0) c.in-Sub.is f.2 in
+    let m = subst (λ s. StepMakes base_leaves (IsPlaceOf numbers k) s f.0) c.in-Sub.is f.2 in
     let b = difference_before base_leaves ns numbers k c.in-Sub.x c.in-Sub.y f.0 m in
     both_last g.met.AB.Ring.Algebra.laws g.met.AB.AirBuilder.laws c.args.table.now c.in-Sub.x c.in-Sub.y (term (number_at numbers c.in-Sub.x)) (term (number_at numbers c.in-Sub.y)) c.args.builder.now (c.requires.table c.in-Sub.x b.0) (c.requires.table c.in-Sub.y b.1)
 
@@ -36,7 +36,7 @@ make-requires-in-Neg-clause-held g c =
     let k = c.args.place in
     let term = term_at base_reads c.args.pool.now in
     let f = place_made base_leaves ns numbers k c.requires.pool.nodes c.requires.here c.args.step c.requires.makes in
-    let m = subst (λ s. StepMakes (IsPlaceOf numbers k) s f.0) c.in-Neg.is f.2 in
+    let m = subst (λ s. StepMakes base_leaves (IsPlaceOf numbers k) s f.0) c.in-Neg.is f.2 in
     let b = negative_before base_leaves ns numbers k c.in-Neg.x f.0 m in
     at_lasts g.met.AB.Ring.Algebra.laws g.met.AB.AirBuilder.laws c.args.table.now c.in-Neg.x (term (number_at numbers c.in-Neg.x)) c.args.builder.now (c.requires.table c.in-Neg.x b)
 
@@ -47,7 +47,7 @@ make-requires-in-Mul-clause-held g c =
     let k = c.args.place in
     let term = term_at base_reads c.args.pool.now in
     let f = place_made base_leaves ns numbers k c.requires.pool.nodes c.requires.here c.args.step c.requires.makes in
-    let m = subst (λ s. StepMakes (IsPlaceOf numbers k) s f.0) c.in-Mul.is f.2 in
+    let m = subst (λ s. StepMakes base_leaves (IsPlaceOf numbers k) s f.0) c.in-Mul.is f.2 in
     let b = product_before base_leaves ns numbers k c.in-Mul.x c.in-Mul.y f.0 m in
     both_last g.met.AB.Ring.Algebra.laws g.met.AB.AirBuilder.laws c.args.table.now c.in-Mul.x c.in-Mul.y (term (number_at numbers c.in-Mul.x)) (term (number_at numbers c.in-Mul.y)) c.args.builder.now (c.requires.table c.in-Mul.x b.0) (c.requires.table c.in-Mul.y b.1)
 
@@ -58,9 +58,31 @@ make-requires-in-Gate-clause-held g c =
     let k = c.args.place in
     let term = term_at base_reads c.args.pool.now in
     let f = place_made base_leaves ns numbers k c.requires.pool.nodes c.requires.here c.args.step c.requires.makes in
-    let m = subst (λ s. StepMakes (IsPlaceOf numbers k) s f.0) c.in-Gate.is f.2 in
+    let m = subst (λ s. StepMakes base_leaves (IsPlaceOf numbers k) s f.0) c.in-Gate.is f.2 in
     let b = product_before base_leaves ns numbers k c.in-Gate.x c.in-Gate.y f.0 m in
     both_last g.met.AB.Ring.Algebra.laws g.met.AB.AirBuilder.laws c.args.table.now c.in-Gate.x c.in-Gate.y (term (number_at numbers c.in-Gate.x)) (term (number_at numbers c.in-Gate.y)) c.args.builder.now (c.requires.table c.in-Gate.x b.0) (c.requires.table c.in-Gate.y b.1)
+
+pub returns-in-Current : goal.returns-in-Current
+returns-in-Current g c =
+    let A = g.AB.AirBuilder in
+    let ns = c.args.pool.now.nodes in
+    let numbers = c.args.numbers.now in
+    let k = c.args.place in
+    let f = place_made base_leaves ns numbers k c.requires.pool.nodes c.requires.here c.args.step c.requires.makes in
+    let m = subst (λ s. StepMakes base_leaves (IsPlaceOf numbers k) s f.0) c.in-Current.is f.2 in
+    subst (λ t. MakesTerm (Means g.AB.Ring.Algebra.means A.ring_of A.reads_as) A.grew A.missing A.refuses c.args.builder.now c.make.new.builder c.make.result t)
+    (main_term base_leaves ns numbers k (number_at numbers k) 0 c.in-Current.column f.0 f.1 m) c.make.ensures
+
+pub returns-in-Next : goal.returns-in-Next
+returns-in-Next g c =
+    let A = g.AB.AirBuilder in
+    let ns = c.args.pool.now.nodes in
+    let numbers = c.args.numbers.now in
+    let k = c.args.place in
+    let f = place_made base_leaves ns numbers k c.requires.pool.nodes c.requires.here c.args.step c.requires.makes in
+    let m = subst (λ s. StepMakes base_leaves (IsPlaceOf numbers k) s f.0) c.in-Next.is f.2 in
+    subst (λ t. MakesTerm (Means g.AB.Ring.Algebra.means A.ring_of A.reads_as) A.grew A.missing A.refuses c.args.builder.now c.make-in-Next.new.builder c.make-in-Next.result t)
+    (main_term base_leaves ns numbers k (number_at numbers k) 1 c.in-Next.column f.0 f.1 m) c.make-in-Next.ensures
 
 pub returns-in-Add : goal.returns-in-Add
 returns-in-Add g c =
@@ -69,9 +91,9 @@ returns-in-Add g c =
     let numbers = c.args.numbers.now in
     let k = c.args.place in
     let f = place_made base_leaves ns numbers k c.requires.pool.nodes c.requires.here c.args.step c.requires.makes in
-    let m = subst (λ s. StepMakes (IsPlaceOf numbers k) s f.0) c.in-Add.is f.2 in
-    subst (λ t. MakesTerm (Means g.AB.Ring.Algebra.means A.ring_of A.reads_as) A.grew A.missing A.refuses c.args.builder.now c.make.new.builder c.make.result t)
-    (sum_term base_leaves ns numbers k (number_at numbers k) c.in-Add.x c.in-Add.y f.0 f.1 m) c.make.ensures
+    let m = subst (λ s. StepMakes base_leaves (IsPlaceOf numbers k) s f.0) c.in-Add.is f.2 in
+    subst (λ t. MakesTerm (Means g.AB.Ring.Algebra.means A.ring_of A.reads_as) A.grew A.missing A.refuses c.args.builder.now c.make-in-Add.new.builder c.make-in-Add.result t)
+    (sum_term base_leaves ns numbers k (number_at numbers k) c.in-Add.x c.in-Add.y f.0 f.1 m) c.make-in-Add.ensures
 
 pub returns-in-Sub : goal.returns-in-Sub
 returns-in-Sub g c =
@@ -80,7 +102,7 @@ returns-in-Sub g c =
     let numbers = c.args.numbers.now in
     let k = c.args.place in
     let f = place_made base_leaves ns numbers k c.requires.pool.nodes c.requires.here c.args.step c.requires.makes in
-    let m = subst (λ s. StepMakes (IsPlaceOf numbers k) s f.0) c.in-Sub.is f.2 in
+    let m = subst (λ s. StepMakes base_leaves (IsPlaceOf numbers k) s f.0) c.in-Sub.is f.2 in
     subst (λ t. MakesTerm (Means g.AB.Ring.Algebra.means A.ring_of A.reads_as) A.grew A.missing A.refuses c.args.builder.now c.make-in-Sub.new.builder c.make-in-Sub.result t)
     (difference_term base_leaves ns numbers k (number_at numbers k) c.in-Sub.x c.in-Sub.y f.0 f.1 m) c.make-in-Sub.ensures
 
@@ -91,7 +113,7 @@ returns-in-Neg g c =
     let numbers = c.args.numbers.now in
     let k = c.args.place in
     let f = place_made base_leaves ns numbers k c.requires.pool.nodes c.requires.here c.args.step c.requires.makes in
-    let m = subst (λ s. StepMakes (IsPlaceOf numbers k) s f.0) c.in-Neg.is f.2 in
+    let m = subst (λ s. StepMakes base_leaves (IsPlaceOf numbers k) s f.0) c.in-Neg.is f.2 in
     subst (λ t. MakesTerm (Means g.AB.Ring.Algebra.means A.ring_of A.reads_as) A.grew A.missing A.refuses c.args.builder.now c.make-in-Neg.new.builder c.make-in-Neg.result t)
     (negative_term base_leaves ns numbers k (number_at numbers k) c.in-Neg.x f.0 f.1 m) c.make-in-Neg.ensures
 
@@ -102,7 +124,7 @@ returns-in-Mul g c =
     let numbers = c.args.numbers.now in
     let k = c.args.place in
     let f = place_made base_leaves ns numbers k c.requires.pool.nodes c.requires.here c.args.step c.requires.makes in
-    let m = subst (λ s. StepMakes (IsPlaceOf numbers k) s f.0) c.in-Mul.is f.2 in
+    let m = subst (λ s. StepMakes base_leaves (IsPlaceOf numbers k) s f.0) c.in-Mul.is f.2 in
     subst (λ t. MakesTerm (Means g.AB.Ring.Algebra.means A.ring_of A.reads_as) A.grew A.missing A.refuses c.args.builder.now c.make-in-Mul.new.builder c.make-in-Mul.result t)
     (product_term base_leaves ns numbers k (number_at numbers k) c.in-Mul.x c.in-Mul.y f.0 f.1 m) c.make-in-Mul.ensures
 
@@ -113,6 +135,6 @@ returns-in-Gate g c =
     let numbers = c.args.numbers.now in
     let k = c.args.place in
     let f = place_made base_leaves ns numbers k c.requires.pool.nodes c.requires.here c.args.step c.requires.makes in
-    let m = subst (λ s. StepMakes (IsPlaceOf numbers k) s f.0) c.in-Gate.is f.2 in
+    let m = subst (λ s. StepMakes base_leaves (IsPlaceOf numbers k) s f.0) c.in-Gate.is f.2 in
     subst (λ t. MakesTerm (Means g.AB.Ring.Algebra.means A.ring_of A.reads_as) A.grew A.missing A.refuses c.args.builder.now c.make-in-Gate.new.builder c.make-in-Gate.result t)
     (product_term base_leaves ns numbers k (number_at numbers k) c.in-Gate.x c.in-Gate.y f.0 f.1 m) c.make-in-Gate.ensures

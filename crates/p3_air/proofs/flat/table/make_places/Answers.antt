@@ -108,9 +108,10 @@ returns-in_err-x-clause-refused g c =
     let here = subst (λ v. PartOf (term (number_at v c.len-in-loop-step.result)) ss) (sym c.deref.ensures.value) (subst (λ q. PartOf (term (number_at numbers q)) ss) (sym same) part) in
     inr (laws.refuses_then _ _ _ [] ss h.grown (c.in_err-x.ensures.refused ss (of_one (λ u. PartOf u ss) _ here))))
 
-pub returns-in_err-push-clause-keeps : goal.returns-in_err-push-clause-keeps
-returns-in_err-push-clause-keeps g c =
-    g.met.AB.AirBuilder.laws.joined _ _ _ [] [] c.loop-step.invariant.grown c.make_step.ensures.keeps
+pub push_reserved-requires : goal.push_reserved-requires
+push_reserved-requires g c =
+    let h = c.loop-step.invariant in
+    let all = ap length c.deref-step-items.ensures.value in omega (arith, c.loop-step-test.true, all, h.long, h.room, c.loop-step.table.ok)
 
 pub loop-step-preserved : goal.loop-step-preserved
 loop-step-preserved g c =
@@ -137,8 +138,9 @@ loop-step-preserved g c =
     record {
       grown = laws.joined _ _ _ [] [] h.grown c.make_step.ensures.keeps;
       ready = laws.ready_kept b d kept h.ready;
-      long = rw c.in_ok-push.ensures.ok (omega (arith, size, h.long));
-      made = rw c.in_ok-push.ensures.ok (table_more (made b) (made d) term numbers table k x h.long (λ t y. made_stays g.met.AB.Ring.Algebra.laws laws b d t y kept) h.made new);
+      long = rw c.push_reserved.ensures.items (omega (arith, size, h.long));
+      room = omega (arith, h.room, c.push_reserved.ensures.capacity);
+      made = rw c.push_reserved.ensures.items (table_more (made b) (made d) term numbers table k x h.long (λ t y. made_stays g.met.AB.Ring.Algebra.laws laws b d t y kept) h.made new);
     }
 
 pub returns-clause-made : goal.returns-clause-made

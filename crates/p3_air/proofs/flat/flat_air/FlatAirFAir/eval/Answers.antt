@@ -1,7 +1,8 @@
 use Rattle.std.specs.List.{AllZip}
-use Rattle.std.proofs.Common.{◌≡◌, ◌≢◌, ◌<◌, ◌∙◌, ⊎_elim, eqb, ◌==◌, ℕ, List, zero, suc, true, false, [], ◌∷◌, map, length, All, Ok, arith, refl, sym, subst}
+use Rattle.std.proofs.Common.{◌≡◌, ◌≢◌, ◌<◌, ◌∙◌, ⊎_elim, eqb, ◌==◌, ℕ, List, zero, suc, true, false, [], ◌∷◌, map, length, get_or, All, Ok, arith, refl, sym, subst}
 use Rattle.std.proofs.lemmas.Bool.Decides.{eqb_tells}
 use Rattle.std.proofs.lemmas.List.{length-map}
+use Rattle.std.proofs.lemmas.List.Elements.{All-map}
 use Rattle.std.proofs.lemmas.Result.{err_from_is_err_and}
 use Rattle.air_symbolic.specs.BaseLeaves.{base_leaves, base_reads}
 use Rattle.air_symbolic.specs.Pools.{term_at}
@@ -9,7 +10,11 @@ use Rattle.air_builder.specs.Assertion.{Assertion, Base}
 use Rattle.air_builder.specs.Builders.{Means}
 use Rattle.air_builder.specs.Refusals.{PartOf, EachLeaf}
 use Rattle.air_builder.specs.Batches.{Asserted, OrMemory}
-use Rattle.p3_air.proofs.Asserting.{all_has, none_asserted, roots_asserted, making_refused}
+use Rattle.p3_air.specs.Plans.{number_at}
+use Rattle.p3_air.specs.Tables.{IsMade, HasAt, AssertsAt}
+use Rattle.p3_air.proofs.Asserting.{each_asserts, made_has, none_asserted, roots_asserted, making_refused}
+use Rattle.p3_air.proofs.Making.{there_before}
+use Rattle.p3_air.proofs.Roots.{all_of_map}
 use Rattle.p3_air.proofs.Needed.{planned_terms, plan_of_places}
 use Rattle.p3_air.proofs.flat.flat_air.FlatAirFAir.eval.Goals as goal
 
@@ -31,8 +36,8 @@ returns-then-is_empty g c =
     subst (λ xs. Asserted A.kept A.grew A.missing (OrMemory A.refuses) b b (Ok tt) (map (λ t. Base t) (map (term_at base_reads a.pool) xs)))
     (sym (none_there a.roots.items short)) (none_asserted g.met.AB.Ring.Algebra.laws g.met.AB.AirBuilder.laws b)
 
-pub make_planned-requires-clause-planned : goal.make_planned-requires-clause-planned
-make_planned-requires-clause-planned g c =
+pub make_places-requires-clause-planned : goal.make_places-requires-clause-planned
+make_places-requires-clause-planned g c =
     let a = c.args.self.now in
     plan_of_places base_leaves a.pool.nodes a.roots.items a.plan.numbers.items a.plan.steps.items a.plan.places.items a.planned
 
@@ -40,32 +45,46 @@ not_none : (n : ℕ) → false ≡ (n == 0) → 0 < n
 not_none zero e = cc
 not_none (suc n) e = omega arith
 
-pub returns-in_err-expressions : goal.returns-in_err-expressions
-returns-in_err-expressions g c =
+pub returns-in_err-table : goal.returns-in_err-table
+returns-in_err-table g c =
     let p = err_from_is_err_and c.from_residual.result c.from_residual.ensures.1 in
     let a = c.args.self.now in
     let term = term_at base_reads a.pool in
+    let at = λ (q : ℕ). term (number_at a.plan.numbers.items q) in
     let same = planned_terms term a.plan.numbers.items a.plan.places.items a.roots.items a.planned.stand in
     let len = length-map a.roots.items term in
     let some : 0 < length (map term a.roots.items) = omega (arith, len, not_none _ c.if-is_empty.ensures) in
-    let made = c.in_err-expressions.ensures in
-    let refused = subst (λ ts. (ss : List (Assertion _)) → All (λ t. PartOf t ss) ts → OrMemory g.AB.AirBuilder.refuses c.args.builder.now c.in_err-expressions.field-0.0 ss) same made.refused in
-    rw (p.1, p.2) (making_refused g.met.AB.Ring.Algebra.laws g.met.AB.AirBuilder.laws _ c.make_planned.new.builder c.in_err-expressions.field-0.0 (map term a.roots.items) some made.keeps refused)
+    rw (p.1, p.2)
+    (making_refused g.met.AB.Ring.Algebra.laws g.met.AB.AirBuilder.laws _ c.make_places.new.builder c.in_err-table.field-0.0 (map term a.roots.items) some c.make_places.ensures.keeps
+    (λ ss all. c.in_err-table.ensures.refused ss (all_of_map (λ t. PartOf t ss) at a.plan.places.items (subst (λ us. All (λ t. PartOf t ss) us) (sym same) all))))
 
-pub assert_zeros_slice-requires-clause-of_ring : goal.assert_zeros_slice-requires-clause-of_ring
-assert_zeros_slice-requires-clause-of_ring g c =
-    let made = rw (← c.deref.ensures.value) at c.in_ok-expressions.ensures.made in
-    all_has g.met.AB.Ring.Algebra.laws g.met.AB.AirBuilder.laws c.make_planned.new.builder c.deref.result.now _ made
+pub assert_places-requires-clause-of_ring : goal.assert_places-requires-clause-of_ring
+assert_places-requires-clause-of_ring g c =
+    let A = g.AB.AirBuilder in
+    let plan = c.args.self.now.plan in
+    let term = term_at base_reads c.args.self.now.pool in
+    let b = c.make_places.new.builder in
+    subst (λ t. All (HasAt (g.AB.Ring.Algebra.has (A.ring_of b)) t) c.deref-2.result.now) (sym c.deref.ensures.value)
+    (subst (λ v. All (HasAt (g.AB.Ring.Algebra.has (A.ring_of b)) c.in_ok-table.table.items) v) (sym c.deref-2.ensures.value)
+    (λ k d lt.
+    let p = get_or plan.places.items k d in
+    made_has g.met.AB.Ring.Algebra.laws g.met.AB.AirBuilder.laws b (term (number_at plan.numbers.items p)) c.in_ok-table.table.items p (c.in_ok-table.ensures.made p (c.args.self.now.planned.within k d lt))))
 
 pub returns : goal.returns
 returns g c =
     let A = g.AB.AirBuilder in
     let a = c.args.self.now in
+    let plan = a.plan in
+    let laws = g.met.AB.AirBuilder.laws in
+    let b = c.make_places.new.builder in
     let term = term_at base_reads a.pool in
-    let ts = map term a.roots.items in
-    let same = planned_terms term a.plan.numbers.items a.plan.places.items a.roots.items a.planned.stand in
+    let at = λ (q : ℕ). term (number_at plan.numbers.items q) in
     let means = Means g.AB.Ring.Algebra.means A.ring_of A.reads_as in
-    let read = subst (λ us. AllZip (λ x t. means c.make_planned.new.builder x t) c.in_ok-expressions.expressions.items us) same c.in_ok-expressions.ensures.made in
-    let made = subst (λ xs. AllZip (λ x t. means c.make_planned.new.builder x t) xs ts) (sym c.deref.ensures.value) read in
-    let there = subst (λ us. All (λ t. EachLeaf (λ l. A.missing c.args.builder.now l → ⊥) t) us) same c.in_ok-expressions.ensures.there in
-    roots_asserted g.met.AB.Ring.Algebra.laws g.met.AB.AirBuilder.laws _ _ _ c.deref.result.now ts c.assert_zeros_slice.result c.make_planned.ensures.keeps made there c.assert_zeros_slice.ensures
+    let same = planned_terms term plan.numbers.items plan.places.items a.roots.items a.planned.stand in
+    let table = c.in_ok-table.table.items in
+    let made : All (λ p. HasAt (IsMade means A.missing b (at p)) table p) plan.places.items = λ k d lt. c.in_ok-table.ensures.made (get_or plan.places.items k d) (a.planned.within k d lt) in
+    let each = subst (λ us. AllZip (AssertsAt means table b) plan.places.items (map (λ t. Base t) us)) same (each_asserts means A.missing b table at plan.places.items made) in
+    let there = subst (λ us. All (λ t. EachLeaf (λ l. A.missing c.args.builder.now l → ⊥) t) us) same
+    (All-map (EachLeaf (λ l. A.missing c.args.builder.now l → ⊥)) at plan.places.items (λ k d lt. let x = made k d lt in there_before g.met.AB.Ring.Algebra.laws laws c.args.builder.now b (at (get_or plan.places.items k d)) x.0 (laws.by_growth _ _ [] c.make_places.ensures.keeps) x.2)) in
+    let asserted = rw (c.deref.ensures.value, c.deref-2.ensures.value) at c.assert_places.ensures in
+    roots_asserted g.met.AB.Ring.Algebra.laws laws c.args.builder.now b c.assert_places.new.builder table plan.places.items (map term a.roots.items) c.assert_places.result c.make_places.ensures.keeps each there asserted
