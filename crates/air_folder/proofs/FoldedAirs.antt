@@ -47,7 +47,7 @@ fold_from_zero r alpha values before from_zero after answer folded same =
 
 module _ {F E : Type 0} (r : CommRing F) (a : AlgebraOver F E) (basis : Basis F E) (d : FolderRow E) (ts : List (Assertion F)) where
   -- where the accumulator is the fold of the declared terms' values
-  pub folded_air : (f : Folded F E) → RecordsBase r a base_reads f.recorded.pool.base f.recorded.base.items ts → RecordsExt r a (ext_reads basis) f.recorded.pool f.recorded.ext.items ts
+  pub folded_air : (f : Folded F E) → RecordsBase r a base_reads f.recorded.pool.base f.recorded.base ts → RecordsExt r a (ext_reads basis) f.recorded.pool f.recorded.ext ts
       → ArePlacesOf (map kind_of ts) f.layout.base_indices.items f.layout.ext_indices.items → f.accumulator ≡ sum_by_powers a.ring d.alpha (values_in a (folder_leaves a d) ts) → IsFolded r a basis d ts f
   folded_air f base ext places fold = record {
     base = base;
@@ -72,10 +72,10 @@ module _ {F E : Type 0} (r : CommRing F) (a : AlgebraOver F E) (basis : Basis F 
       many : length values ≡ length ts
       many = length-map ts _
 
-      base_is : map at f.layout.base_indices.items ≡ map (value a (folder_leaves a d)) (terms_of base_reads f.recorded.pool.base f.recorded.base.items)
+      base_is : map at f.layout.base_indices.items ≡ map (value a (folder_leaves a d)) (terms_of base_reads f.recorded.pool.base f.recorded.base)
       base_is = ap (map at) places.base ∙ base_at a (folder_leaves a d) a.ring.zero at 0 ts _ base.in_extension (λ k. ap at (omega arith))
 
-      ext_is : map at f.layout.ext_indices.items ≡ map (value a (folder_leaves a d)) (terms_of (ext_reads basis) f.recorded.pool f.recorded.ext.items)
+      ext_is : map at f.layout.ext_indices.items ≡ map (value a (folder_leaves a d)) (terms_of (ext_reads basis) f.recorded.pool f.recorded.ext)
       ext_is = ap (map at) places.extension ∙ ext_at a (folder_leaves a d) a.ring.zero at 0 ts _ ext.terms (λ k. ap at (omega arith))
 
 -- a folder beside which the recording was refused grew by none

@@ -15,27 +15,27 @@ use Rattle.air_recording.specs.Kinds.{kind_of}
 use Rattle.air_recording.specs.Recorded.{RecordsBase, RecordsExt, terms_of}
 use Rattle.air_recording.specs.Recorded.{RecordRefuses, RecordingAnswers}
 use Rattle.air_recording.specs.declared.layouts.air_layout.AirLayout.{AirLayout}
-use Rattle.air_recording.specs.declared.symbolic.record.Recorded.{Recorded}
+use Rattle.air_recording.specs.Recordings.{Recording}
 use Rattle.air_folder.specs.Folder.{FolderRow, folder_leaves, values_in, FolderRefuses}
 use Rattle.air_folder.specs.FolderRow.{FolderGrew}
 use Rattle.air_folder.specs.declared.folder.builder.ConstraintFolder.{ConstraintFolder}
 use Rattle.air_folder.specs.declared.folding.Folded.{Folded}
 
 -- the values of the recorded base constraints at the leaves, in order
-abbrev pub base_values : {F E : Type 0} → AlgebraOver F E → (Leaf → E) → Recorded F E → List E
-base_values a s recorded = map (value a s) (terms_of base_reads recorded.pool.base recorded.base.items)
+abbrev pub base_values : {F E : Type 0} → AlgebraOver F E → (Leaf → E) → Recording F E → List E
+base_values a s recorded = map (value a s) (terms_of base_reads recorded.pool.base recorded.base)
 
 -- and those of the recorded extension constraints
-abbrev pub ext_values : {F E : Type 0} → AlgebraOver F E → Basis F E → (Leaf → E) → Recorded F E → List E
-ext_values a basis s recorded = map (value a s) (terms_of (ext_reads basis) recorded.pool recorded.ext.items)
+abbrev pub ext_values : {F E : Type 0} → AlgebraOver F E → Basis F E → (Leaf → E) → Recording F E → List E
+ext_values a basis s recorded = map (value a s) (terms_of (ext_reads basis) recorded.pool recorded.ext)
 
 -- The recording records the declared terms, and the layout has the places of each kind. The values of the declared terms
 -- at the folder's leaves are at the base places those of the recorded base constraints, and at the extension places those
 -- of the recorded extension constraints. The accumulator is Horner's fold of these values by the folder's alpha; and it
 -- is their recombination from all coordinates and whole powers that recombine what stands at these places.
 pub record IsFolded {F E : Type 0} (r : CommRing F) (a : AlgebraOver F E) (basis : Basis F E) (d : FolderRow E) (declared : List (Assertion F)) (f : Folded F E) : Type 0 where
-  pub base : RecordsBase r a base_reads f.recorded.pool.base f.recorded.base.items declared
-  pub ext : RecordsExt r a (ext_reads basis) f.recorded.pool f.recorded.ext.items declared
+  pub base : RecordsBase r a base_reads f.recorded.pool.base f.recorded.base declared
+  pub ext : RecordsExt r a (ext_reads basis) f.recorded.pool f.recorded.ext declared
   pub places : ArePlacesOf (map kind_of declared) f.layout.base_indices.items f.layout.ext_indices.items
   pub values : List E
   pub of_declared : values ≡ values_in a (folder_leaves a d) declared

@@ -1,5 +1,5 @@
 -- A row of variables, as a builder shows it.
-use Rattle.std.proofs.Common.{◌≡◌, ℕ, ◌≤◌, ◌↔◌, List, Some, None, slice_get, refl, subst}
+use Rattle.std.proofs.Common.{◌≡◌, ℕ, ◌≤◌, ◌↔◌, List, None, slice_get, refl, subst}
 use Rattle.air_field.specs.Term.{Term, leaf_term}
 use Rattle.air_core.specs.Entries.{entry_leaf}
 use Rattle.air_core.specs.declared.variables.entry.BaseEntry.{BaseEntry}

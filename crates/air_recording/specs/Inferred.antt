@@ -16,7 +16,7 @@ use Rattle.air_recording.specs.Bounds.{domain_weight, leaf_degree, polynomial_bo
 use Rattle.air_recording.specs.Kinds.{base_terms, ext_terms}
 use Rattle.air_recording.specs.declared.layouts.air_layout.AirLayout.{AirLayout}
 use Rattle.air_recording.specs.Recorded.{EachRecords, RecordRefuses, RecordingAnswers, terms_of}
-use Rattle.air_recording.specs.declared.symbolic.record.Recorded.{Recorded}
+use Rattle.air_recording.specs.Recordings.{Recording}
 
 -- the lengths of periodic columns
 abbrev pub periods_of : {T A : Type 0} → List (Vec T A) → List ℕ
@@ -28,9 +28,9 @@ greatest_in [] = 0
 greatest_in (n ∷ ns) = max n (greatest_in ns)
 
 -- all terms that were recorded: the base ones, and then the extension ones
-abbrev pub recorded_terms : {F E : Type 0} → Basis F E → Recorded F E → List (Term F)
+abbrev pub recorded_terms : {F E : Type 0} → Basis F E → Recording F E → List (Term F)
 recorded_terms basis recorded =
-    terms_of base_reads recorded.pool.base recorded.base.items ++ terms_of (ext_reads basis) recorded.pool recorded.ext.items
+    terms_of base_reads recorded.pool.base recorded.base ++ terms_of (ext_reads basis) recorded.pool recorded.ext
 
 -- The degree inferred for n rows, in a domain of weight w, from terms that record what an AIR declares: base terms over the
 -- base field and over the extension, extension terms over the extension. For two rows and more it bounds the degrees of

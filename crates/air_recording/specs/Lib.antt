@@ -15,6 +15,7 @@ pub mod Kinds
 pub mod Recording
 pub mod RecordedLists
 pub mod SymbolicParts
+pub mod Recordings
 pub mod Recorded
 pub mod Bounds
 pub mod Inferred

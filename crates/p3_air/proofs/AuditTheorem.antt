@@ -93,10 +93,10 @@ simplified reads r p (i ∷ is) (t ∷ ts) h = (h.0.simplifies, simplified reads
 
 module _ {F : Type 0} (r : CommRing F) (eq : F → F → Bool) (basis : Basis F F) (x : Instance F) (cap : Option ℕ) (w : ℕ) (audit : Audit F) where
   pub audited : RecordingAnswers r (itself r) (air_layout x.air) x.air
-      → RecordsBase r (itself r) base_reads audit.recorded.pool.base audit.recorded.base.items x.air.declared
-      → RecordsExt r (itself r) (ext_reads basis) audit.recorded.pool audit.recorded.ext.items x.air.declared
-      → All (λ i. i < length audit.recorded.pool.base.nodes) audit.recorded.base.items
-      → All (λ i. i < length audit.recorded.pool.nodes) audit.recorded.ext.items
+      → RecordsBase r (itself r) base_reads audit.recorded.pool.base audit.recorded.base x.air.declared
+      → RecordsExt r (itself r) (ext_reads basis) audit.recorded.pool audit.recorded.ext x.air.declared
+      → All (λ i. i < length audit.recorded.pool.base.nodes) audit.recorded.base
+      → All (λ i. i < length audit.recorded.pool.nodes) audit.recorded.ext
       → ArePlacesOf (map kind_of x.air.declared) audit.layout.base_indices.items audit.layout.ext_indices.items
       → IsReport r eq (check_input x) cap audit.report
       → IsDegreeFor w (row_count x) (periods_of x.air.periodic) (recorded_terms basis audit.recorded) audit.degree

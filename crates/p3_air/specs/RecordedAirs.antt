@@ -8,18 +8,18 @@ use Rattle.air_core.specs.declared.errors.AirError.TheVariants.{IndexPastTotal, 
 use Rattle.air_recording.specs.Kinds.{base_terms}
 use Rattle.air_recording.specs.Layouts.{first_past}
 use Rattle.air_recording.specs.Recorded.{EachRecords, terms_of}
-use Rattle.air_recording.specs.declared.symbolic.record.Recorded.{Recorded}
+use Rattle.air_recording.specs.Recordings.{Recording}
 use Rattle.air_symbolic.specs.Pools.{size}
 
 -- that each recorded base term is zero, in order
-abbrev pub zero_at_recorded : {F EF : Type 0} → Recorded F EF → List (Assertion F)
+abbrev pub zero_at_recorded : {F EF : Type 0} → Recording F EF → List (Assertion F)
 zero_at_recorded recorded =
-    map (λ t. Base t) (terms_of base_reads recorded.pool.base recorded.base.items)
+    map (λ t. Base t) (terms_of base_reads recorded.pool.base recorded.base)
 
 -- the first recorded base number that isn't one of the base pool, or want of memory
-abbrev pub RecordedAirRefuses : {F EF : Type 0} → Recorded F EF → AirError → Type 0
+abbrev pub RecordedAirRefuses : {F EF : Type 0} → Recording F EF → AirError → Type 0
 RecordedAirRefuses recorded (IndexPastTotal index total) =
-    (total ≡ size recorded.pool.base) × (first_past total recorded.base.items ≡ Some index)
+    (total ≡ size recorded.pool.base) × (first_past total recorded.base ≡ Some index)
 RecordedAirRefuses recorded Memory = ⊤
 RecordedAirRefuses recorded _ = ⊥
 

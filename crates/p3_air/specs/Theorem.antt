@@ -30,7 +30,7 @@ use Rattle.air_builder.specs.Declaration.{Declaration}
 use Rattle.air_builder.specs.Refusals.{IsOfWindow, IsPastWindow, NoneMissing, PartOf}
 use Rattle.air_recording.specs.Inferred.{periods_of}
 use Rattle.air_recording.specs.Recorded.{RecordsTerm}
-use Rattle.air_recording.specs.declared.symbolic.record.Recorded.{Recorded}
+use Rattle.air_recording.specs.Recordings.{Recording}
 use Rattle.air_report.specs.Cells.{cell_label}
 use Rattle.air_report.specs.Given.{table_grid}
 use Rattle.air_report.specs.Report.{all_places, assertion_value}
@@ -144,15 +144,15 @@ ext_leaf_term basis nodes (leaf.ExtVariable v) = leaf_term (ext_entry_leaf v.ent
 ext_leaf_term basis nodes (leaf.ExtConstant c) = ext_const_term (basis.coefficients c)
 
 -- the terms of the recorded base expressions: their trees, read as terms
-abbrev pub recorded_base : {F E : Type 0} → Recorded F E → List (Term F)
-recorded_base recorded = map (λ i. term_of base_term (tree_of recorded.pool.base.nodes i)) recorded.base.items
+abbrev pub recorded_base : {F E : Type 0} → Recording F E → List (Term F)
+recorded_base recorded = map (λ i. term_of base_term (tree_of recorded.pool.base.nodes i)) recorded.base
 
 -- the terms of the recorded extension expressions
-abbrev pub recorded_ext : {F E : Type 0} → Basis F E → Recorded F E → List (Term F)
-recorded_ext basis recorded = map (λ i. term_of (ext_leaf_term basis recorded.pool.base.nodes) (tree_of recorded.pool.nodes i)) recorded.ext.items
+abbrev pub recorded_ext : {F E : Type 0} → Basis F E → Recording F E → List (Term F)
+recorded_ext basis recorded = map (λ i. term_of (ext_leaf_term basis recorded.pool.base.nodes) (tree_of recorded.pool.nodes i)) recorded.ext
 
 -- all of them
-abbrev pub terms_in : {F E : Type 0} → Basis F E → Recorded F E → List (Term F)
+abbrev pub terms_in : {F E : Type 0} → Basis F E → Recording F E → List (Term F)
 terms_in basis recorded = recorded_base recorded ++ recorded_ext basis recorded
 
 -- the base constraints of a list that begins at place k, each with its place
@@ -184,9 +184,9 @@ pub record RecordsEach {F : Type 0} (r : CommRing F) (basis : Basis F F) (air : 
 
 -- The recorded expressions are numbers of the pool, which its type says is one, and mean there the
 -- declared constraints of their kind, in order: by the laws of a commutative ring, in any algebra.
-pub record MeansEach {F : Type 0} (r : CommRing F) (basis : Basis F F) (air : Declaration F) (recorded : Recorded F F) : Type 0 where
-  pub base_here : All (λ i. i < length recorded.pool.base.nodes) recorded.base.items
-  pub ext_here : All (λ i. i < length recorded.pool.nodes) recorded.ext.items
+pub record MeansEach {F : Type 0} (r : CommRing F) (basis : Basis F F) (air : Declaration F) (recorded : Recording F F) : Type 0 where
+  pub base_here : All (λ i. i < length recorded.pool.base.nodes) recorded.base
+  pub ext_here : All (λ i. i < length recorded.pool.nodes) recorded.ext
   pub base : AllZip (λ u c. Simplifies r u c.1) (recorded_base recorded) (base_constraints 0 air.declared)
   pub ext : AllZip (λ u c. Simplifies r u c.1) (recorded_ext basis recorded) (ext_constraints 0 air.declared)
 

@@ -75,11 +75,11 @@ pub fn recorded_air<F: Field, EF: ExtensionField<F>>(
     ensures periodic { IfOk result (λ a. a.periodic ≡ periodic) }
     ensures cells { IfOk result (λ a. a.cells ≡ cells) }
     ensures of_an_air { (declared : List (Assertion F)) →
-        RecordsBase F.ring EF.over base_reads recorded.pool.base recorded.base.items declared →
+        RecordsBase F.ring EF.over base_reads recorded.pool.base recorded.base declared →
         IfOk result (λ a.
         RecordsBaseTerms F.ring (⟦<FlatAir<F> as BaseAir<F>>⟧.declaration a).declared declared) }
     ensures only_memory { (declared : List (Assertion F)) →
-        RecordsBase F.ring EF.over base_reads recorded.pool.base recorded.base.items declared →
+        RecordsBase F.ring EF.over base_reads recorded.pool.base recorded.base declared →
         IfErr result (λ e. e ≡ AirError.Memory) }
     ensures refused { IfErr result (RecordedAirRefuses recorded) }
 {

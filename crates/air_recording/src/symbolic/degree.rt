@@ -80,8 +80,8 @@ pub fn greatest_degree_of<F: Field, EF: ExtensionField<F>>(
     recorded: &Recorded<F, EF>,
     weight: LeafWeight<'_>,
 ) -> Result<usize, RingError>
-    requires base_here { All (λ i. i < size recorded.now.pool.base) recorded.now.base.items }
-    requires ext_here { All (λ i. i < size recorded.now.pool) recorded.now.ext.items }
+    requires base_here { All (λ i. i < size recorded.now.pool.base) recorded.now.base }
+    requires ext_here { All (λ i. i < size recorded.now.pool) recorded.now.ext }
     ensures answer { AnswersDegree (greatest_degree (leaf_weight weight.entry)
         (recorded_terms EF.basis recorded.now)) result }
     ensures fits { OnOk result (greatest_degree (leaf_weight weight.entry)
@@ -100,8 +100,8 @@ fn trace_degree_of<F: Field, EF: ExtensionField<F>>(
     trace_len: usize,
     periods: &[usize],
 ) -> Result<usize, RingError>
-    requires base_here { All (λ i. i < size recorded.now.pool.base) recorded.now.base.items }
-    requires ext_here { All (λ i. i < size recorded.now.pool) recorded.now.ext.items }
+    requires base_here { All (λ i. i < size recorded.now.pool.base) recorded.now.base }
+    requires ext_here { All (λ i. i < size recorded.now.pool) recorded.now.ext }
     ensures { AnswersInferred 0 trace_len periods.now
         (recorded_terms EF.basis recorded.now) result }
 {
@@ -129,8 +129,8 @@ fn degree_of<F: Field, EF: ExtensionField<F>>(
     periods: &[usize],
     transition_weight: usize,
 ) -> Result<usize, RingError>
-    requires base_here { All (λ i. i < size recorded.now.pool.base) recorded.now.base.items }
-    requires ext_here { All (λ i. i < size recorded.now.pool) recorded.now.ext.items }
+    requires base_here { All (λ i. i < size recorded.now.pool.base) recorded.now.base }
+    requires ext_here { All (λ i. i < size recorded.now.pool) recorded.now.ext }
     ensures { AnswersInferred transition_weight trace_len periods.now
         (recorded_terms EF.basis recorded.now) result }
 {
@@ -161,8 +161,8 @@ pub fn infer_degree<F: Field, EF: ExtensionField<F>, A: BaseAir<F>>(
     trace_len: usize,
     transition_weight: usize,
 ) -> Result<usize, RingError>
-    requires base_here { All (λ i. i < size recorded.now.pool.base) recorded.now.base.items }
-    requires ext_here { All (λ i. i < size recorded.now.pool) recorded.now.ext.items }
+    requires base_here { All (λ i. i < size recorded.now.pool.base) recorded.now.base }
+    requires ext_here { All (λ i. i < size recorded.now.pool) recorded.now.ext }
     ensures { AnswersInferred transition_weight trace_len
         (periods_of (A.declaration air.now).periodic)
         (recorded_terms EF.basis recorded.now) result }

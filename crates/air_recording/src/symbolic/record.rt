@@ -3,7 +3,6 @@ ghost use Rattle.std.specs.Prelude.{◌≡◌, ◌<◌, [], map, All, IfOk, IfEr
 ghost use Rattle.air_symbolic.specs.BaseLeaves.{base_reads};
 ghost use Rattle.air_symbolic.specs.ExtLeaves.{ext_reads};
 ghost use Rattle.air_symbolic.specs.Pools.{IsPool, size};
-ghost use Rattle.air_symbolic.specs.laws.OnePool.{ext_pool-prop};
 ghost use Rattle.air_recording.specs.Layouts.{LayoutSuits};
 ghost use Rattle.air_recording.specs.Folds.{ArePlacesOf};
 ghost use Rattle.air_recording.specs.Kinds.{kind_of, RecordsKinds};
@@ -18,6 +17,7 @@ use air_builder::{Air, AirError};
 use air_field::{ExtensionField, Field, SelfExtension};
 use air_symbolic::{BaseLeaf, ExprId, ExprPool, ExtLeaf};
 use std::alloc::Global;
+use std::marker::Model;
 
 /// The recorded constraints of each kind, in the order of their assertion: the base ones are numbers of the pool's base
 /// pool, the extension ones of the pool.
@@ -26,8 +26,20 @@ pub struct Recorded<F: Field, EF: ExtensionField<F>> {
     pub pool: ExprPool<ExtLeaf<F, EF>>,
     pub base: Vec<ExprId<BaseLeaf<F>>>,
     pub ext: Vec<ExprId<ExtLeaf<F, EF>>>,
-    /// The pool and its base pool are as their calls left them.
-    pub ghost one_pool: { IsPool (ext_reads EF.basis) pool } by { ext_pool-prop EF.basis pool },
+}
+
+impl<F: Field, EF: ExtensionField<F>> Model for Recorded<F, EF> {
+    ghost use Rattle.air_recording.specs.Recordings.{Recording};
+
+    ghost Value = { Recording F EF };
+
+    ghost use Rattle.air_symbolic.specs.ExtLeaves.{ext_reads};
+    ghost use Rattle.air_symbolic.specs.Pools.{IsPool};
+
+    ghost view = { λ r. record { pool = r.pool; base = r.base.items; ext = r.ext.items } };
+
+    // The pool and its base pool are as their calls left them.
+    ghost invariant = { λ r. IsPool (ext_reads EF.basis) r.pool };
 }
 
 impl<F: Field, EF: ExtensionField<F>> SymbolicAirBuilder<F, EF> {
@@ -35,8 +47,8 @@ impl<F: Field, EF: ExtensionField<F>> SymbolicAirBuilder<F, EF> {
     pub fn into_recorded(self) -> Recorded<F, EF>
         requires { IsPool (ext_reads EF.basis) self.pool }
         ensures pool { result.pool ≡ self.pool }
-        ensures base { result.base ≡ self.constraints.base }
-        ensures ext { result.ext ≡ self.constraints.ext }
+        ensures base { result.base ≡ self.constraints.base.items }
+        ensures ext { result.ext ≡ self.constraints.ext.items }
     {
         let SymbolicAirBuilder {
             pool,
@@ -92,9 +104,9 @@ pub fn get_all_symbolic_constraints<
     A: Air<SymbolicAirBuilder<F, EF>>,
 >(alloc: Global, air: &A, layout: AirLayout) -> Result<Recorded<F, EF>, AirError>
     ensures base { IfOk result (λ r. RecordsBase F.ring EF.over
-        base_reads r.pool.base r.base.items (A.declaration air.now).declared) }
+        base_reads r.pool.base r.base (A.declaration air.now).declared) }
     ensures ext { IfOk result (λ r. RecordsExt F.ring EF.over
-        (ext_reads EF.basis) r.pool r.ext.items
+        (ext_reads EF.basis) r.pool r.ext
         (A.declaration air.now).declared) }
     ensures layout { OnOk result (LayoutSuits layout (A.declaration air.now)) }
     ensures answers { OnOk result (RecordingAnswers F.ring EF.over layout (A.declaration air.now)) }
@@ -111,12 +123,12 @@ pub fn record_with_layout<F: Field, EF: ExtensionField<F>, A: Air<SymbolicAirBui
     layout: AirLayout,
 ) -> Result<(Recorded<F, EF>, ConstraintLayout), AirError>
     ensures base { IfOk result (λ r. RecordsBase F.ring EF.over base_reads r.0.pool.base
-        r.0.base.items (A.declaration air.now).declared) }
+        r.0.base (A.declaration air.now).declared) }
     ensures ext { IfOk result (λ r. RecordsExt F.ring EF.over
-        (ext_reads EF.basis) r.0.pool r.0.ext.items
+        (ext_reads EF.basis) r.0.pool r.0.ext
         (A.declaration air.now).declared) }
-    ensures base_here { IfOk result (λ r. All (λ i. i < size r.0.pool.base) r.0.base.items) }
-    ensures ext_here { IfOk result (λ r. All (λ i. i < size r.0.pool) r.0.ext.items) }
+    ensures base_here { IfOk result (λ r. All (λ i. i < size r.0.pool.base) r.0.base) }
+    ensures ext_here { IfOk result (λ r. All (λ i. i < size r.0.pool) r.0.ext) }
     ensures places { IfOk result (λ r. ArePlacesOf (map kind_of (A.declaration air.now).declared)
         r.1.base_indices.items r.1.ext_indices.items) }
     ensures layout { OnOk result (LayoutSuits layout (A.declaration air.now)) }
@@ -136,8 +148,8 @@ pub fn get_symbolic_constraints<F: SelfExtension, A: Air<SymbolicAirBuilder<F, F
     layout: AirLayout,
 ) -> Result<Recorded<F, F>, AirError>
     ensures base { IfOk result (λ r. RecordsBase F.ring F.over
-        base_reads r.pool.base r.base.items (A.declaration air.now).declared) }
-    ensures ext { IfOk result (λ r. r.ext.items ≡ []) }
+        base_reads r.pool.base r.base (A.declaration air.now).declared) }
+    ensures ext { IfOk result (λ r. r.ext ≡ []) }
     ensures layout { OnOk result (LayoutSuits layout (A.declaration air.now)) }
     ensures answers { OnOk result (RecordingAnswers F.ring F.over layout (A.declaration air.now)) }
     ensures refused { IfErr result (RecordRefuses layout (A.declaration air.now)) }
@@ -153,9 +165,9 @@ pub fn get_symbolic_constraints_extension<
     EF: ExtensionField<F>,
     A: Air<SymbolicAirBuilder<F, EF>>,
 >(alloc: Global, air: &A, layout: AirLayout) -> Result<Recorded<F, EF>, AirError>
-    ensures base { IfOk result (λ r. r.base.items ≡ []) }
+    ensures base { IfOk result (λ r. r.base ≡ []) }
     ensures ext { IfOk result (λ r. RecordsExt F.ring EF.over
-        (ext_reads EF.basis) r.pool r.ext.items
+        (ext_reads EF.basis) r.pool r.ext
         (A.declaration air.now).declared) }
     ensures layout { OnOk result (LayoutSuits layout (A.declaration air.now)) }
     ensures answers { OnOk result (RecordingAnswers F.ring EF.over layout (A.declaration air.now)) }

@@ -33,7 +33,7 @@ use Rattle.air_recording.specs.Kinds.{kind_of, base_terms, ext_terms, is_base, i
 use Rattle.air_recording.specs.Layouts.{air_layout, layout_shape}
 use Rattle.air_recording.specs.Recorded.{RecordsTerm, RecordingAnswers, terms_of}
 use Rattle.air_recording.specs.Recording.{IsOver}
-use Rattle.air_recording.specs.declared.symbolic.record.Recorded.{Recorded}
+use Rattle.air_recording.specs.Recordings.{Recording}
 use Rattle.air_report.specs.Cells.{differing, label_text, bytes_of_text, IsCellFault}
 use Rattle.air_report.specs.Checks.{Fits, RowRefuses}
 use Rattle.air_report.specs.Given.{given_trace, table_grid}
@@ -359,11 +359,11 @@ module _ {F E : Type 0} (basis : Basis F E) (u : BaseNodes F) where
   ext_leaf_term_is (leaf.ExtConstant c) = refl
 
 -- `recorded_ext` and `terms_in` are the terms of the recorded numbers
-pub recorded_ext_are : {F E : Type 0} (basis : Basis F E) (recorded : Recorded F E) → recorded_ext basis recorded ≡ terms_of (ext_reads basis) recorded.pool recorded.ext.items
+pub recorded_ext_are : {F E : Type 0} (basis : Basis F E) (recorded : Recording F E) → recorded_ext basis recorded ≡ terms_of (ext_reads basis) recorded.pool recorded.ext
 recorded_ext_are {F} {E} basis recorded =
-    ap (λ (f : ExtLeaf F E → Term F). map (λ i. term_of f (tree_of recorded.pool.nodes i)) recorded.ext.items) (λ j a. ext_leaf_term_is basis recorded.pool.base a j)
+    ap (λ (f : ExtLeaf F E → Term F). map (λ i. term_of f (tree_of recorded.pool.nodes i)) recorded.ext) (λ j a. ext_leaf_term_is basis recorded.pool.base a j)
 
-pub terms_in_are : {F E : Type 0} (basis : Basis F E) (recorded : Recorded F E) → terms_in basis recorded ≡ recorded_terms basis recorded
+pub terms_in_are : {F E : Type 0} (basis : Basis F E) (recorded : Recording F E) → terms_in basis recorded ≡ recorded_terms basis recorded
 terms_in_are basis recorded = ap (λ us. recorded_base recorded ++ us) (recorded_ext_are basis recorded)
 
 -- the constraints of a kind are the terms of it, with their places

@@ -9,27 +9,27 @@ use Rattle.p3_air.proofs.recorded_airs.recorded_air.Goals as goal
 
 pub returns-in-Some-clause-of_an_air : goal.returns-in-Some-clause-of_an_air
 returns-in-Some-clause-of_an_air g c declared h =
-    let none = none_past g.F.Field.ring base_reads c.args.recorded.pool.base c.args.recorded.base.items (base_terms declared) h.means in
-    let found : Some c.in-Some.id ≡ first_past (length c.args.recorded.pool.base.nodes) c.args.recorded.base.items = rw (c.deref.ensures.value, c.len-total.ensures, c.into_base-pool.ensures.base) at c.in-Some.ensures in
+    let none = none_past g.F.Field.ring base_reads c.args.recorded.pool.base c.args.recorded.base (base_terms declared) h.means in
+    let found : Some c.in-Some.id ≡ first_past (length c.args.recorded.pool.base.nodes) c.args.recorded.base = rw (c.deref.ensures.value, c.len-total.ensures, c.into_base-pool.ensures.base) at c.in-Some.ensures in
     let clash : None ≡ Some c.in-Some.id = none ∙ sym found in
     cc
 
 pub returns-in-Some-clause-only_memory : goal.returns-in-Some-clause-only_memory
 returns-in-Some-clause-only_memory g c declared h =
-    let none = none_past g.F.Field.ring base_reads c.args.recorded.pool.base c.args.recorded.base.items (base_terms declared) h.means in
-    let found : Some c.in-Some.id ≡ first_past (length c.args.recorded.pool.base.nodes) c.args.recorded.base.items = rw (c.deref.ensures.value, c.len-total.ensures, c.into_base-pool.ensures.base) at c.in-Some.ensures in
+    let none = none_past g.F.Field.ring base_reads c.args.recorded.pool.base c.args.recorded.base (base_terms declared) h.means in
+    let found : Some c.in-Some.id ≡ first_past (length c.args.recorded.pool.base.nodes) c.args.recorded.base = rw (c.deref.ensures.value, c.len-total.ensures, c.into_base-pool.ensures.base) at c.in-Some.ensures in
     let clash : None ≡ Some c.in-Some.id = none ∙ sym found in
     cc
 
 pub returns-in-Some-clause-refused : goal.returns-in-Some-clause-refused
 returns-in-Some-clause-refused g c =
     let total = c.len-total.ensures ∙ ap (λ p. length p.nodes) c.into_base-pool.ensures.base in
-    let first : Some c.in-Some.id ≡ first_past c.len-total.result c.args.recorded.base.items = rw c.deref.ensures.value at c.in-Some.ensures in
+    let first : Some c.in-Some.id ≡ first_past c.len-total.result c.args.recorded.base = rw c.deref.ensures.value at c.in-Some.ensures in
     (total, sym first ∙ ap Some (sym c.number.ensures))
 
 pub new-requires-clause-here : goal.new-requires-clause-here
 new-requires-clause-here g c =
-    let none : None ≡ first_past (length c.into_base-pool.result.nodes) c.args.recorded.base.items = rw (c.deref.ensures.value, c.len-total.ensures) at c.in_default.ensures in
+    let none : None ≡ first_past (length c.into_base-pool.result.nodes) c.args.recorded.base = rw (c.deref.ensures.value, c.len-total.ensures) at c.in_default.ensures in
     below-none_past _ _ none
 
 pub returns-clause-of_an_air : goal.returns-clause-of_an_air

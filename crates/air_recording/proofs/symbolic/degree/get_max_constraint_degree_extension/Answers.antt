@@ -15,18 +15,18 @@ use Rattle.air_recording.proofs.symbolic.degree.get_max_constraint_degree_extens
 pub infer_degree-requires-clause-base_here : goal.infer_degree-requires-clause-base_here
 infer_degree-requires-clause-base_here g c =
     let r = c.in_ok-recorded.recorded in
-    numbers_here g.F.Field.ring base_reads r.pool.base r.base.items (base_terms (g.A.BaseAir.declaration c.args.air.now).declared) c.in_ok-recorded.ensures.base.means
+    numbers_here g.F.Field.ring base_reads r.pool.base r.base (base_terms (g.A.BaseAir.declaration c.args.air.now).declared) c.in_ok-recorded.ensures.base.means
 
 pub infer_degree-requires-clause-ext_here : goal.infer_degree-requires-clause-ext_here
 infer_degree-requires-clause-ext_here g c =
     let r = c.in_ok-recorded.recorded in
-    numbers_here g.F.Field.ring (ext_reads g.EF.ExtensionField.basis) r.pool r.ext.items (ext_terms (g.A.BaseAir.declaration c.args.air.now).declared) c.in_ok-recorded.ensures.ext.means
+    numbers_here g.F.Field.ring (ext_reads g.EF.ExtensionField.basis) r.pool r.ext (ext_terms (g.A.BaseAir.declaration c.args.air.now).declared) c.in_ok-recorded.ensures.ext.means
 
 pub returns-in_err-degree-clause-refused : goal.returns-in_err-degree-clause-refused
 returns-in_err-degree-clause-refused g c =
     let r = c.in_ok-recorded.recorded in
-    let us = terms_of base_reads r.pool.base r.base.items in
-    let vs = terms_of (ext_reads g.EF.ExtensionField.basis) r.pool r.ext.items in
+    let us = terms_of base_reads r.pool.base r.base in
+    let vs = terms_of (ext_reads g.EF.ExtensionField.basis) r.pool r.ext in
     let e = c.in_err-degree.field-0.0 in
     let p = err_from_is_err_and c.from_residual-in_err-degree.result c.from_residual-in_err-degree.ensures.1 in
     rw (p.1, p.2)
@@ -37,8 +37,8 @@ returns-clause-inferred g c =
     let field = g.F.Field.ring in
     let over = g.EF.ExtensionField.over in
     let r = c.in_ok-recorded.recorded in
-    let us = terms_of base_reads r.pool.base r.base.items in
-    let vs = terms_of (ext_reads g.EF.ExtensionField.basis) r.pool r.ext.items in
+    let us = terms_of base_reads r.pool.base r.base in
+    let vs = terms_of (ext_reads g.EF.ExtensionField.basis) r.pool r.ext in
     let v = c.args.transition_weight in
     let n = c.args.trace_len in
     let periods = periods_of (g.A.BaseAir.declaration c.args.air.now).periodic in

@@ -1,4 +1,4 @@
-use Rattle.std.proofs.Common.{max, ap, ap₂, ◌∙◌}
+use Rattle.std.proofs.Common.{◌≡◌, max, ap, ap₂, subst, ◌∙◌}
 use Rattle.std.proofs.lemmas.Result.{err_from_is_err_and}
 use Rattle.air_field.specs.Degree.{cached_weight, greatest_degree}
 use Rattle.air_symbolic.specs.BaseLeaves.{base_reads}
@@ -21,9 +21,11 @@ returns-then-not-is_empty g c =
 
 pub returns : goal.returns
 returns g c =
-    let pool = c.args.recorded.now.pool in
+    let inside = c.recorded.inside in
     let reads = ext_reads g.EF.ExtensionField.basis in
+    let degree = c.constraint_degree_from_poly_degree-degree.result in
     let base = c.greatest_cached-base.ensures ∙ ap (λ l. greatest_degree cached_weight l) (ap₂ (λ p l. terms_of base_reads p l) c.base.ensures c.deref.ensures.value) in
-    let ext = c.greatest_cached-ext.ensures ∙ ap (λ l. greatest_degree cached_weight (terms_of reads pool l)) c.deref-2.ensures.value in
-    let greatest = c.max-2.ensures ∙ ap (max c.constraint_degree_from_poly_degree-degree.result) (c.max.ensures ∙ ap₂ max base ext) in
+    let ext = c.greatest_cached-ext.ensures ∙ ap (λ l. greatest_degree cached_weight (terms_of reads inside.pool l)) c.deref-2.ensures.value in
+    let greatest = subst (λ v. c.max-2.result ≡ max degree (max (greatest_degree cached_weight (terms_of base_reads v.pool.base v.base)) (greatest_degree cached_weight (terms_of reads v.pool v.ext)))) c.recorded.view_is
+    (c.max-2.ensures ∙ ap (max degree) (c.max.ensures ∙ ap₂ max base ext)) in
     answered_plain c.args.trace_len c.args.periods.now _ _ _ _ _ c.in_ok-greatest.ensures.answer c.in_ok-greatest.ensures.fits c.constraint_degree_from_poly_degree-degree.ensures c.if-not-is_empty.ensures greatest
