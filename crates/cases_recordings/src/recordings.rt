@@ -21,7 +21,8 @@ pub type Recorder<F, EF> = SymbolicAirBuilder<F, EF>;
 pub fn base_pool<F: Field, EF: ExtensionField<F>>(
     recorded: &Recorded<F, EF>,
 ) -> &ExprPool<BaseLeaf<F>>
-    ensures { result.now ≡ recorded.now.pool.base }
+    ensures base { result.now ≡ recorded.now.pool.base }
+    ensures pool { IsPool ⟦<BaseLeaf<F> as SymLeaf>⟧.reads result.now }
 {
     recorded.pool.base()
 }
