@@ -157,7 +157,11 @@ fn record_gadget<F: Field>(builder: &mut Recorder<F>, gadget: Gadget) -> Result<
 
 // What is recorded of a gadget over the columns from 0 on: the limbs of a, then those of the other words, or their
 // bits.
-fn recorded<F: Field>(alloc: Global, gadget: Gadget, width: usize) -> Result<Recorded<F, F>, Fault> {
+fn recorded<F: Field>(
+    alloc: Global,
+    gadget: Gadget,
+    width: usize,
+) -> Result<Recorded<F, F>, Fault> {
     let layout = AirLayout {
         main_width: width,
         ..AirLayout::default()

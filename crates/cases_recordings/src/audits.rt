@@ -34,8 +34,7 @@ fn show_failures(failures: &[ConstraintFailure], text: &mut String) -> Result<()
 }
 
 // Adds the degree, the counts and the places, then the failures, then what is recorded.
-fn show_audit<F: Number>(audit: &Audit<F>, text: &mut String) -> Result<(), Fault>
-{
+fn show_audit<F: Number>(audit: &Audit<F>, text: &mut String) -> Result<(), Fault> {
     let degree = audit.degree;
     let rows = audit.report.total_rows;
     let constraints = audit.report.total_constraints_per_row;

@@ -31,14 +31,12 @@ pub fn base_pool<F: Field, EF: ExtensionField<F>>(
 pub fn show_base<F: Number, EF: ExtensionField<F>>(
     recorded: &Recorded<F, EF>,
     text: &mut String,
-) -> Result<(), Fault>
-{
+) -> Result<(), Fault> {
     show_base_expressions(base_pool(recorded), &recorded.base, text)
 }
 
 // Adds them, and how many others there are, of which there are to be none.
-fn show_base_alone<F: Number>(recorded: &Recorded<F, F>, text: &mut String) -> Result<(), Fault>
-{
+fn show_base_alone<F: Number>(recorded: &Recorded<F, F>, text: &mut String) -> Result<(), Fault> {
     show_base(recorded, text)?;
     let ext = recorded.ext.len();
     if ext > 0 {
@@ -122,8 +120,7 @@ fn show_asked<F: Number>(
     recorded: &Recorded<F, F>,
     asked: &Asked,
     text: &mut String,
-) -> Result<(), Fault>
-{
+) -> Result<(), Fault> {
     match asked {
         Asked::Constraints => show_base_alone(recorded, text),
         Asked::Degrees => show_degrees(base_pool(recorded), &recorded.base, text),
@@ -149,8 +146,7 @@ fn show_asked_of<F: Number, A: Air<Recorder<F, F>>>(
 pub fn show_both<F: Number, EF: ExtensionField<F>>(
     recorded: &Recorded<F, EF>,
     text: &mut String,
-) -> Result<(), Fault>
-{
+) -> Result<(), Fault> {
     text.push_str("base: ")?;
     show_base(recorded, text)?;
     text.push_str(" | extension: ")?;

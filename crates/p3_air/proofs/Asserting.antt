@@ -62,30 +62,30 @@ module _ {S R E F : Type 0} {view : BuilderView S R E F} (ring : RingLaws view) 
   at_place b c table p x (Ok u) at h = asserted_one (Ok u) h.keeps (λ s k. grew_one h s (read_is _ table p x k at)) tt tt
   at_place b c table p x (Err e) at h = asserted_one (Err e) h.keeps tt (grew_none h) (λ s k. refused_one h s (read_is _ table p x k at))
 
+  -- no place yet
+  pub no_place : {a : S} (table : List E) → AssertedEach (AssertsAt (MeansIn view) table) kept grew refuses a a [] (Ok tt)
+  no_place {a} table = nothing_asserted laws (AssertsAt (MeansIn view) table) (asserts_at_kept table) a
+
   -- one place after another
-  module _ {a b c : S} (table : List E) (places : List ℕ) (i : ℕ) where
-    pub no_place : AssertedEach (AssertsAt (MeansIn view) table) kept grew refuses a a [] (Ok tt)
-    no_place = nothing_asserted laws (AssertsAt (MeansIn view) table) (asserts_at_kept table) a
+  pub place_more : {a b c : S} {u v : Unit {0}} (table : List E) (places : List ℕ) (i p : ℕ) (x : E) → i < length places → p ≡ get_or places i p → slice_get table p ≡ Some x
+      → AssertedEach (AssertsAt (MeansIn view) table) kept grew refuses a b (take i places) (Ok u)
+      → AssertedEach (AssertsOf Base (MeansIn view) (λ t. t)) kept grew refuses b c (x ∷ []) (Ok v)
+      → AssertedEach (AssertsAt (MeansIn view) table) kept grew refuses a c (take (i + 1) places) (Ok tt)
+  place_more {a} {b} {c} {u} {v} table places i p x lt is at h k =
+      asserted_more laws (AssertsAt (MeansIn view) table) (asserts_at_kept table) {a = a} {b = b} {c = c} places i p lt is h (at_place b c table p x (Ok v) at k)
 
-    pub place_more : {u v : Unit {0}} (p : ℕ) (x : E) → i < length places → p ≡ get_or places i p → slice_get table p ≡ Some x
-        → AssertedEach (AssertsAt (MeansIn view) table) kept grew refuses a b (take i places) (Ok u)
-        → AssertedEach (AssertsOf Base (MeansIn view) (λ t. t)) kept grew refuses b c (x ∷ []) (Ok v)
-        → AssertedEach (AssertsAt (MeansIn view) table) kept grew refuses a c (take (i + 1) places) (Ok tt)
-    place_more {v = v} p x lt is at h k =
-        asserted_more laws (AssertsAt (MeansIn view) table) (asserts_at_kept table) {a = a} {b = b} {c = c} places i p lt is h (at_place b c table p x (Ok v) at k)
+  pub place_refused : {a b c : S} {u : Unit {0}} {e : AirError} {result : Result (Unit {0}) AirError} (table : List E) (places : List ℕ) (i p : ℕ) (x : E) → i < length places
+      → p ≡ get_or places i p → slice_get table p ≡ Some x
+      → AssertedEach (AssertsAt (MeansIn view) table) kept grew refuses a b (take i places) (Ok u)
+      → AssertedEach (AssertsOf Base (MeansIn view) (λ t. t)) kept grew refuses b c (x ∷ []) (Err e) → IsErrAnd result (λ y. y ≡ e)
+      → AssertedEach (AssertsAt (MeansIn view) table) kept grew refuses a c places result
+  place_refused {a} {b} {c} {u} {e} table places i p x lt is at h k given =
+      asserted_refused laws (AssertsAt (MeansIn view) table) (asserts_at_kept table) {a = a} {b = b} {c = c} places i p lt is h (at_place b c table p x (Err e) at k) given
 
-    pub place_refused : {u : Unit {0}} {e : AirError} {result : Result (Unit {0}) AirError} (p : ℕ) (x : E) → i < length places
-        → p ≡ get_or places i p → slice_get table p ≡ Some x
-        → AssertedEach (AssertsAt (MeansIn view) table) kept grew refuses a b (take i places) (Ok u)
-        → AssertedEach (AssertsOf Base (MeansIn view) (λ t. t)) kept grew refuses b c (x ∷ []) (Err e) → IsErrAnd result (λ y. y ≡ e)
-        → AssertedEach (AssertsAt (MeansIn view) table) kept grew refuses a c places result
-    place_refused {e = e} p x lt is at h k given =
-        asserted_refused laws (AssertsAt (MeansIn view) table) (asserts_at_kept table) {a = a} {b = b} {c = c} places i p lt is h (at_place b c table p x (Err e) at k) given
-
-    pub all_places : {u : Unit {0}} → length places ≤ i
-        → AssertedEach (AssertsAt (MeansIn view) table) kept grew refuses a b (take i places) (Ok u)
-        → AssertedEach (AssertsAt (MeansIn view) table) kept grew refuses a b places (Ok tt)
-    all_places end h = asserted_all laws (AssertsAt (MeansIn view) table) (asserts_at_kept table) {a = a} {b = b} places i end h
+  pub all_places : {a b : S} {u : Unit {0}} (table : List E) (places : List ℕ) (i : ℕ) → length places ≤ i
+      → AssertedEach (AssertsAt (MeansIn view) table) kept grew refuses a b (take i places) (Ok u)
+      → AssertedEach (AssertsAt (MeansIn view) table) kept grew refuses a b places (Ok tt)
+  all_places {a} {b} table places i end h = asserted_all laws (AssertsAt (MeansIn view) table) (asserts_at_kept table) {a = a} {b = b} places i end h
 
   -- each root's expression was made, and asserted to be zero
   pub roots_asserted : (a b d : S) (table : List E) (places : List ℕ) (ts : List (Term F)) (r : Result (Unit {0}) AirError) → grew a b []

@@ -1,5 +1,5 @@
 -- Making the expressions of numbers.
-use Rattle.std.proofs.Common.{◌≡◌, ◌<◌, ℕ, List, [], length, slice_get, Some, Ok, Err, sym, ap, ap₂, subst, ◌∙◌, arith}
+use Rattle.std.proofs.Common.{◌≡◌, ◌<◌, ℕ, List, [], length, slice_get, Option, Some, Ok, Err, sym, ap, ap₂, subst, ◌∙◌, arith}
 use Rattle.air_field.specs.Term.{Leaf, main, Term, leaf_term, add_term, sub_term, neg_term, mul_term}
 use Rattle.air_core.specs.declared.errors.AirError.TheVariants.{RowOffset}
 use Rattle.air_symbolic.specs.Leaves.{Leaves}
@@ -28,7 +28,7 @@ read_is {E} P table p r (x, e, h) at = subst P (same (sym e ∙ at)) h
 column_term : {F : Type 0} (o c : ℕ) (t : Term F) → column_of t ≡ Some (o, c) → leaf_term (main o c) ≡ t
 column_term o c (leaf_term (main p i)) h = ap (λ q. leaf_term (main q.0 q.1)) (same h)
   where
-    same : Some (p, i) ≡ Some (o, c) → (o, c) ≡ (p, i)
+    same : ◌≡◌ {A = Option (ℕ × ℕ)} (Some (p, i)) (Some (o, c)) → ◌≡◌ {A = ℕ × ℕ} (o, c) (p, i)
     same e = cc
 column_term o c (leaf_term _) h = absurd (cc h)
 column_term o c _ h = absurd (cc h)

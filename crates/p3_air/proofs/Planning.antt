@@ -64,7 +64,11 @@ step_placed l P Q R (step.Mul p q) (node.Add x y d) f r h = absurd h
 step_placed l P Q R (step.Mul p q) (node.Sub x y d) f r h = absurd h
 step_placed l P Q R (step.Mul p q) (node.Neg x d) f r h = absurd h
 step_placed l P Q R (step.Mul p q) (node.Mul x y d) f r h = (f p x r.0 h.0, f q y r.1 h.1)
-step_placed l P Q R (step.Gate p q) n f r h = step_placed l P Q R (step.Mul p q) n f r h
+step_placed l P Q R (step.Gate p q) (node.Leaf a) f r h = absurd h
+step_placed l P Q R (step.Gate p q) (node.Add x y d) f r h = absurd h
+step_placed l P Q R (step.Gate p q) (node.Sub x y d) f r h = absurd h
+step_placed l P Q R (step.Gate p q) (node.Neg x d) f r h = absurd h
+step_placed l P Q R (step.Gate p q) (node.Mul x y d) f r h = (f p x r.0 h.0, f q y r.1 h.1)
 
 -- One step more makes the node of place k, whose operands stand before it.
 pub one_step_more : {A F : Type 0} (l : Leaves A F) (ns : List (SymbolicExpr A)) (numbers places : List ℕ) (k id : ℕ) (steps new : List Step) (s : Step) (n : SymbolicExpr A)

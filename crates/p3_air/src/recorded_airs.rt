@@ -39,8 +39,8 @@ pub fn finish_recording<F: Field, EF: ExtensionField<F>>(
 ) -> Recorded<F, EF>
     requires { ⟦<SymbolicAirBuilder<F, EF> as AirBuilder>⟧.ready builder }
     ensures pool { result.pool ≡ builder.pool }
-    ensures base { result.base ≡ builder.constraints.base }
-    ensures ext { result.ext ≡ builder.constraints.ext }
+    ensures base { result.base ≡ builder.constraints.base.items }
+    ensures ext { result.ext ≡ builder.constraints.ext.items }
 {
     builder.into_recorded()
 }
