@@ -1,5 +1,5 @@
 -- The degree of a term by leaf weights, and the degree that is inferred from it.
-use Rattle.std.specs.Prelude.{ℕ, zero, suc, ◌+◌, ◌-◌, ◌/◌, ◌==◌, max, min, List, [], ◌∷◌, Option, Some, None, slice_get, if◌then◌else◌}
+use Rattle.std.specs.Prelude.{ℕ, zero, suc, ◌+◌, ◌-◌, ◌/◌, ◌==◌, max, min, List, [], ◌∷◌, slice_index_or, if◌then◌else◌}
 use Rattle.std.specs.Int.{div_ceil}
 use Rattle.air_field.specs.Term.{Leaf, preprocessed, main, periodic, public, first_row, last_row, transition}
 use Rattle.air_field.specs.Term.{permutation, challenge, permutation_value, Term, leaf_term, const_term}
@@ -37,16 +37,12 @@ abbrev pub periodic_degree : ℕ → ℕ → ℕ
 periodic_degree n zero = n - 1
 periodic_degree n (suc p) = n - n / suc p
 
--- the period that is listed, or all rows where it isn't
-abbrev pub period_or : ℕ → Option ℕ → ℕ
-period_or n None = n
-period_or n (Some p) = min p n
-
--- the degrees of the leaves' polynomials over n rows, the periodic columns having these lengths
+-- The degrees of the leaves' polynomials over n rows, the periodic columns having these lengths: no column's period is
+-- longer than the trace, and that of a column that isn't listed is the whole trace.
 abbrev pub trace_weight : ℕ → List ℕ → Leaf → ℕ
 trace_weight n periods (preprocessed o i) = n - 1
 trace_weight n periods (main o i) = n - 1
-trace_weight n periods (periodic i) = periodic_degree n (period_or n (slice_get periods i))
+trace_weight n periods (periodic i) = periodic_degree n (min (slice_index_or periods i n) n)
 trace_weight n periods (public i) = 0
 trace_weight n periods first_row = n - 1
 trace_weight n periods last_row = n - 1

@@ -1,5 +1,5 @@
 -- The polynomial of a term: a coefficient for each number.
-use Rattle.std.specs.Prelude.{◌≡◌, ℕ, zero, suc, ◌-◌, ◌<◌, List, slice_index_or}
+use Rattle.std.specs.Prelude.{◌≡◌, ℕ, zero, suc, ◌-◌, ◌<◌, List, [], ◌∷◌, slice_index_or}
 use Rattle.air_field.specs.Ring.{CommRing, minus, AlgebraOver}
 use Rattle.air_field.specs.Term.{Leaf, Term, leaf_term, const_term, ext_const_term, add_term, sub_term, neg_term, mul_term}
 
@@ -12,16 +12,12 @@ sum_to r f (suc n) = r.add (sum_to r f n) (f (suc n))
 abbrev pub convolve : {E : Type 0} → CommRing E → (ℕ → E) → (ℕ → E) → ℕ → E
 convolve r f g n = sum_to r (λ i. r.mul (f i) (g (n - i))) n
 
--- the coefficients of a constant
-abbrev pub only : {E : Type 0} → CommRing E → E → ℕ → E
-only r c zero = c
-only r c (suc n) = r.zero
-
--- coefficient n of the term's polynomial, the leaves having the coefficient lists of s, zero past their ends
+-- coefficient n of the term's polynomial, the leaves having the coefficient lists of s, a constant that of itself alone;
+-- past its end a list has zeros
 abbrev pub polynomial : {F E : Type 0} → AlgebraOver F E → (Leaf → List E) → Term F → ℕ → E
 polynomial a s (leaf_term l) n = slice_index_or (s l) n a.ring.zero
-polynomial a s (const_term c) n = only a.ring (a.embed c) n
-polynomial a s (ext_const_term c) n = only a.ring (a.extend c) n
+polynomial a s (const_term c) n = slice_index_or (a.embed c ∷ []) n a.ring.zero
+polynomial a s (ext_const_term c) n = slice_index_or (a.extend c ∷ []) n a.ring.zero
 polynomial a s (add_term t u) n = a.ring.add (polynomial a s t n) (polynomial a s u n)
 polynomial a s (sub_term t u) n = minus a.ring (polynomial a s t n) (polynomial a s u n)
 polynomial a s (neg_term t) n = a.ring.neg (polynomial a s t n)

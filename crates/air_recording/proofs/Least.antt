@@ -1,5 +1,5 @@
 -- The inferred degree bounds the degrees of terms, and is the least bound: for weight 0 for three rows and more.
-use Rattle.std.proofs.Common.{◌≡◌, ℕ, zero, suc, ◌+◌, ◌-◌, ◌*◌, add-mul, ◌<◌, ◌≤◌, ◌^◌, max, List, [], ◌∷◌, sym, subst, arith, ⊎_elim}
+use Rattle.std.proofs.Common.{◌≡◌, ℕ, zero, suc, ◌+◌, ◌-◌, ◌*◌, add-mul, ◌<◌, ◌≤◌, ◌^◌, min, max, List, [], ◌∷◌, sym, subst, arith, ⊎_elim}
 use Rattle.std.proofs.Math.Nat.{max-eq_left, max-eq_right, max-le, le-max_left, le-max_right, lt_of_mul-lt-mul_right, mul-le-mul_right, suc-mul, div_self}
 use Rattle.std.proofs.lemmas.Bool.{cases_lt}
 use Rattle.std.proofs.lemmas.Grind.{div_ceil_times}
@@ -40,7 +40,9 @@ module _ (n : ℕ) (some : 1 ≤ n) where
   leaf_within : (l : Leaf) → cached_weight l * (n - 1) ≤ trace_weight n [] l
   leaf_within (preprocessed o i) = omega arith
   leaf_within (main o i) = omega arith
-  leaf_within (periodic i) = periodic_within n some
+  leaf_within (periodic i) =
+      let whole : min n n ≡ n = omega arith in
+      subst (λ p. 1 * (n - 1) ≤ periodic_degree n p) (sym whole) (periodic_within n some)
     where
       periodic_within : (n : ℕ) → 1 ≤ n → 1 * (n - 1) ≤ periodic_degree n n
       periodic_within zero h = omega arith

@@ -5,11 +5,15 @@ use Rattle.std.specs.Prelude.{Some, slice_get}
 use Rattle.air_field.specs.Ring.{CommRing}
 use Rattle.air_symbolic.specs.Leaves.{Leaves, LeafLaws}
 use Rattle.air_symbolic.specs.Nodes.{unfold_node, tree_of, NodeFits, WellFormed, IsNode}
-use Rattle.air_symbolic.specs.Pools.{Pool, Grown, HasTree}
+use Rattle.air_symbolic.specs.Pools.{Pool, on_base, IsPool, IsNodeList, FitsBase, Grown, HasTree}
 use Rattle.air_symbolic.specs.laws.Pools.{Grown-under, Grown-push}
 use Rattle.air_symbolic.specs.laws.Numbers.{tree_of-newest}
 use Rattle.air_symbolic.specs.laws.Sharing.{node_at-is}
 use Rattle.air_symbolic.specs.declared.pools.expr.SymbolicExpr.{SymbolicExpr}
+
+-- what the type keeps and what is owed of the base make the value a pool
+pub pool-seen : {U A F : Type 0} (reads : U → Leaves A F) (p : Pool U A) (u : U) (xs : List (SymbolicExpr A)) → record { base = u; nodes = xs } ≡ p → IsNodeList reads xs → FitsBase reads p → IsPool reads p
+pool-seen reads p u xs e kept fits = fits kept.under (subst (λ (q : Pool _ _). IsPool reads (on_base q kept.under)) e kept.pool)
 
 -- the node read of the table is the pool's node of that number
 pub IsNode-seen : {U A F : Type 0} (l : Leaves A F) (p : Pool U A) (u : U) (xs : List (SymbolicExpr A)) (i : ℕ) (n : SymbolicExpr A) → record { base = u; nodes = xs } ≡ p → WellFormed l p.nodes → slice_get xs i ≡ Some n → IsNode l p.nodes i n
@@ -23,6 +27,10 @@ module _ {U A F : Type 0} {r : CommRing F} {reads : U → Leaves A F} {grows : U
       (λ f. subst (λ (zs : List (SymbolicExpr A)). Grown grows reads (record { base = u; nodes = xs }) (record { base = u; nodes = zs })) (sym pushed)
       (Grown-push r reads grows empty laws (record { base = u; nodes = xs }) n f absent))
       fits
+
+  -- so the type keeps the list
+  pub list-pushed : (ys : List (SymbolicExpr A)) (n : SymbolicExpr A) → ys ≡ xs ++ n ∷ [] → NodeFits (reads p.base) p.nodes n → ((i : ℕ) → slice_get xs i ≢ Some n) → IsPool reads p → IsNodeList reads ys
+  list-pushed ys n pushed fits absent pool = record { under = u; pool = (Grown-push-seen ys n pushed fits absent).pool pool }
 
   -- its number has its tree
   pub tree-pushed : (ys : List (SymbolicExpr A)) (n : SymbolicExpr A) (i : ℕ) → ys ≡ xs ++ n ∷ [] → i ≡ length xs → HasTree {U = U} (record { base = u; nodes = ys }) (unfold_node (tree_of p.nodes) n) i

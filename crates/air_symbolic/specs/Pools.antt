@@ -26,6 +26,16 @@ pub record IsPool {U A F : Type 0} (reads : U → Leaves A F) (p : Pool U A) : T
   pub under : (reads p.base).sound
   pub nodes : WellFormed (reads p.base) p.nodes
 
+-- What the type of a pool keeps: over some base its nodes are a pool's.
+pub record IsNodeList {U A F : Type 0} (reads : U → Leaves A F) (nodes : List (SymbolicExpr A)) : Type 0 where
+  pub under : U
+  pub pool : IsPool reads (record { base = under; nodes = nodes })
+
+-- What is owed of a base that was lent: the nodes fit it, if they fit any. Of a base pool nothing is owed, since nothing
+-- lies under it.
+abbrev pub FitsBase : {U A F : Type 0} → (U → Leaves A F) → Pool U A → Type 0
+FitsBase {U = U} reads p = (u : U) → IsPool reads (on_base p u) → IsPool reads p
+
 -- the tree of number i
 abbrev pub tree_at : {U A : Type 0} → Pool U A → ℕ → Tree A
 tree_at p i = tree_of p.nodes i

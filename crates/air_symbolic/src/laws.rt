@@ -6,7 +6,7 @@ ghost use Rattle.air_field.specs.Term.{Leaf, Term};
 ghost use Rattle.air_field.specs.Polynomial.{polynomial, SamePolynomial, HasDegreeAtMost};
 ghost use Rattle.air_field.specs.Degree.{degree_by};
 ghost use Rattle.air_field.specs.Comparison.{IsExactOrder};
-ghost use Rattle.air_symbolic.specs.Pools.{IsPool, PoolMeans, tree_at, term_at, KeepsTree, size};
+ghost use Rattle.air_symbolic.specs.Pools.{FitsBase, PoolMeans, tree_at, term_at, KeepsTree, size};
 ghost use Rattle.air_symbolic.specs.ExtLeaves.{ext_reads};
 ghost use Rattle.air_symbolic.specs.ExtPool.{GrowsWithBase};
 ghost use Rattle.air_symbolic.specs.ExtTrees.{whole_tree_at, KeepsWholeTree};
@@ -20,12 +20,13 @@ use std::cmp::Ordering;
 
 /// Two numbers of a pool are equal exactly where their trees are: a tree has one number.
 pub fn is_same_tree<A: SymLeaf>(pool: &ExprPool<A>, x: ExprId<A>, y: ExprId<A>) -> bool
-    requires pool { IsPool A.reads pool.now }
+    requires owed { FitsBase A.reads pool.now }
     requires x_in { x < size pool.now }
     requires y_in { y < size pool.now }
     ensures numbers { IsTrue result ↔ (x ≡ y) }
     ensures trees { IsTrue result ↔ (tree_at pool.now x ≡ tree_at pool.now y) }
 {
+    pool.nodes_fit();
     x == y
 }
 
@@ -35,12 +36,13 @@ pub fn is_same_whole_tree<F: Field, EF: ExtensionField<F>>(
     x: ExprId<ExtLeaf<F, EF>>,
     y: ExprId<ExtLeaf<F, EF>>,
 ) -> bool
-    requires pool { IsPool (ext_reads EF.basis) pool.now }
+    requires owed { FitsBase (ext_reads EF.basis) pool.now }
     requires x_in { x < size pool.now }
     requires y_in { y < size pool.now }
     ensures numbers { IsTrue result ↔ (x ≡ y) }
     ensures trees { IsTrue result ↔ (whole_tree_at pool.now x ≡ whole_tree_at pool.now y) }
 {
+    pool.nodes_fit();
     is_same_tree(pool, x, y)
 }
 
@@ -85,18 +87,22 @@ pub fn pool_grows_with_base<F: Field, EF: ExtensionField<F>>(_pool: &ExprPool<Ex
 {}
 
 /// A number keeps its tree and its term while the pool grows.
-pub fn tree_is_kept<A: SymLeaf>(_pool: &ExprPool<A>, _x: ExprId<A>)
-    requires pool { IsPool A.reads _pool.now }
-    requires here { _x < size _pool.now }
-    ensures { KeepsTree A.grows A.reads _pool.now _x }
-{}
+pub fn tree_is_kept<A: SymLeaf>(pool: &ExprPool<A>, _x: ExprId<A>)
+    requires owed { FitsBase A.reads pool.now }
+    requires here { _x < size pool.now }
+    ensures { KeepsTree A.grows A.reads pool.now _x }
+{
+    pool.nodes_fit();
+}
 
 /// A number keeps its whole tree, the base trees of its Base leaves with it, while the pool grows.
 pub fn whole_tree_is_kept<F: Field, EF: ExtensionField<F>>(
-    _pool: &ExprPool<ExtLeaf<F, EF>>,
+    pool: &ExprPool<ExtLeaf<F, EF>>,
     _x: ExprId<ExtLeaf<F, EF>>,
 )
-    requires pool { IsPool (ext_reads EF.basis) _pool.now }
-    requires here { _x < size _pool.now }
-    ensures { KeepsWholeTree EF.basis _pool.now _x }
-{}
+    requires owed { FitsBase (ext_reads EF.basis) pool.now }
+    requires here { _x < size pool.now }
+    ensures { KeepsWholeTree EF.basis pool.now _x }
+{
+    pool.nodes_fit();
+}

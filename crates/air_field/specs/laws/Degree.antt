@@ -5,10 +5,11 @@ use Rattle.std.proofs.lemmas.Bool.{cases_lt}
 use Rattle.air_field.specs.Ring.{CommRing, AlgebraOver}
 use Rattle.air_field.specs.laws.Ring.{zero_mul, mul_zero, neg_zero}
 use Rattle.air_field.specs.Term.{Leaf, Term, leaf_term, const_term, ext_const_term, add_term, sub_term, neg_term, mul_term}
-use Rattle.air_field.specs.Polynomial.{convolve, only, polynomial, HasDegreeAtMost}
+use Rattle.air_field.specs.Polynomial.{convolve, polynomial, HasDegreeAtMost}
 use Rattle.air_field.specs.Degree.{degree_by}
 use Rattle.air_field.specs.Same.{same_refl, same_trans, same_add, same_neg, same_mul, Simplifies}
 use Rattle.air_field.specs.laws.Same.{same_sub}
+use Rattle.air_field.specs.laws.Sums.{only}
 use Rattle.air_field.specs.laws.Sums as sums
 
 module _ {E : Type 0} (r : CommRing E) where

@@ -4,10 +4,11 @@ use Rattle.air_field.specs.Ring.{CommRing, AlgebraOver, AlgebraOverLaws}
 use Rattle.air_field.specs.laws.Ring.{mul_zero}
 use Rattle.air_field.specs.Term.{Leaf, Term, leaf_term, const_term, ext_const_term, add_term, sub_term, neg_term, mul_term}
 use Rattle.air_field.specs.Value.{value}
-use Rattle.air_field.specs.Polynomial.{only, polynomial}
+use Rattle.air_field.specs.Polynomial.{polynomial}
 use Rattle.air_field.specs.Same.{Same, same_refl, same_sym, same_trans, same_add, same_neg, same_mul}
 use Rattle.air_field.specs.Same.{const_add, const_mul, add_zero, mul_one, assoc_add, comm_add, add_opposite, sub_is}
 use Rattle.air_field.specs.Same.{assoc_mul, comm_mul, mul_sum, ext_base}
+use Rattle.air_field.specs.laws.Sums.{only}
 use Rattle.air_field.specs.laws.Sums as sums
 
 -- The constant coefficient is the value.

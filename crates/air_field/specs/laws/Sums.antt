@@ -1,8 +1,12 @@
 -- Sums and convolutions in a commutative ring.
-use Rattle.std.proofs.Common.{◌≡◌, ℕ, zero, suc, ◌+◌, ◌-◌, ◌≤◌, refl, sym, ap, ap₂, ◌∙◌, arith}
+use Rattle.std.proofs.Common.{◌≡◌, ℕ, zero, suc, ◌+◌, ◌-◌, ◌≤◌, [], ◌∷◌, slice_index_or, refl, sym, ap, ap₂, ◌∙◌, arith}
 use Rattle.air_field.specs.Ring.{CommRing, minus, AlgebraOver, AlgebraOverLaws}
 use Rattle.air_field.specs.laws.Ring.{zero_add, zero_mul, neg_unique, neg_zero, add_left_comm}
-use Rattle.air_field.specs.Polynomial.{sum_to, convolve, only}
+use Rattle.air_field.specs.Polynomial.{sum_to, convolve}
+
+-- the coefficients of a constant
+abbrev pub only : {E : Type 0} → CommRing E → E → ℕ → E
+only r c n = slice_index_or (c ∷ []) n r.zero
 
 module _ {E : Type 0} (r : CommRing E) where
   pub minus_zero : (x : E) → minus r x r.zero ≡ x

@@ -5,7 +5,7 @@ ghost use Rattle.air_field.specs.Term.{leaf_term};
 ghost use Rattle.air_core.specs.Entries.{entry_leaf};
 ghost use Rattle.air_symbolic.specs.BaseLeaves.{base_term, base_reads, base_grows};
 ghost use Rattle.air_symbolic.specs.Trees.{leaf_tree};
-ghost use Rattle.air_symbolic.specs.Pools.{IsPool, PoolHas, PoolMeans, Grown, HasTree};
+ghost use Rattle.air_symbolic.specs.Pools.{PoolHas, PoolMeans, Grown, HasTree};
 
 use crate::leaves::base_leaf::BaseLeaf;
 use crate::pools::expr::ExprId;
@@ -32,7 +32,6 @@ fn place_of<F>(a: &BaseLeaf<F>) -> usize {
 impl<F: Field> ExprPool<BaseLeaf<F>> {
     /// The expression of a leaf, which means the leaf's term.
     pub fn leaf_expr(&mut self, a: BaseLeaf<F>) -> Result<ExprId<BaseLeaf<F>>, RingError>
-        requires { IsPool base_reads self.old }
         ensures grown { Grown base_grows base_reads self.old self.new }
         ensures tree { IfOk result (HasTree self.new (leaf_tree a)) }
         ensures made { IfOk result (Made (PoolHas base_reads) (PoolMeans base_reads F.ring)
@@ -40,12 +39,12 @@ impl<F: Field> ExprPool<BaseLeaf<F>> {
         ensures refused { IfErr result (λ e. e ≡ RingError.Memory) }
         ensures kept { OnErr result (self.new ≡ self.old) }
     {
+        self.nodes_fit();
         self.leaf_at(place_of(&a), a)
     }
 
     /// The expression of a variable.
     pub fn variable(&mut self, v: SymbolicVariable<F>) -> Result<ExprId<BaseLeaf<F>>, RingError>
-        requires { IsPool base_reads self.old }
         ensures grown { Grown base_grows base_reads self.old self.new }
         ensures tree { IfOk result (HasTree self.new (leaf_tree (BaseLeaf.Variable v))) }
         ensures made { IfOk result (Made (PoolHas base_reads) (PoolMeans base_reads F.ring)

@@ -3,7 +3,7 @@ ghost use Rattle.std.specs.Prelude.{◌≡◌, ℕ, ◌<◌, ◌≤◌, ◌+◌,
 ghost use Rattle.air_field.specs.Degree.{degree_by};
 ghost use Rattle.air_symbolic.specs.Weights.{leaf_weight};
 ghost use Rattle.air_symbolic.specs.Nodes.{OperandsBelow};
-ghost use Rattle.air_symbolic.specs.Pools.{IsPool, term_at, size};
+ghost use Rattle.air_symbolic.specs.Pools.{FitsBase, term_at, size};
 ghost use Rattle.air_symbolic.specs.PoolRefusals.{AnswersDegree};
 ghost use Rattle.air_symbolic.specs.DegreeTables.{answer_at, AnswersDegrees, node_degree, IsValidNode};
 
@@ -87,7 +87,7 @@ impl<A: SymLeaf> ExprPool<A> {
         under: &DegreeTable,
         table: &mut DegreeTable,
     ) -> Result<(), RingError>
-        requires pool { IsPool A.reads self.now }
+        requires owed { FitsBase A.reads self.now }
         requires here { id < size self.now }
         requires under { A.has_degrees self.now.base weight under.now.degrees.items }
         requires operands { AnswersDegrees
@@ -115,7 +115,7 @@ impl<A: SymLeaf> ExprPool<A> {
         weight: LeafWeight<'_>,
         under: &DegreeTable,
     ) -> Result<DegreeTable, RingError>
-        requires pool { IsPool A.reads self.now }
+        requires owed { FitsBase A.reads self.now }
         requires here { count ≤ size self.now }
         requires under { A.has_degrees self.now.base weight under.now.degrees.items }
         ensures degrees { IfOk result (λ t. AnswersDegrees
@@ -141,7 +141,7 @@ impl<A: SymLeaf> ExprPool<A> {
         count: usize,
         weight: LeafWeight<'_>,
     ) -> Result<DegreeTable, RingError>
-        requires pool { IsPool A.reads self.now }
+        requires owed { FitsBase A.reads self.now }
         requires here { count ≤ size self.now }
         ensures degrees { IfOk result (λ t. AnswersDegrees
             (λ i. degree_by (leaf_weight weight.entry) (term_at A.reads self.now i))

@@ -2,7 +2,7 @@
 ghost use Rattle.std.specs.Prelude.{◌≡◌, ◌≢◌, ℕ, ◌<◌, ◌≤◌, ◌+◌, length, map, All, IfOk, IfErr};
 ghost use Rattle.air_field.specs.Degree.{degree_by, cached_weight, transition_weight, trace_weight};
 ghost use Rattle.air_symbolic.specs.Weights.{leaf_weight, turns_by, SomeOverflows};
-ghost use Rattle.air_symbolic.specs.Pools.{IsPool, term_at, size};
+ghost use Rattle.air_symbolic.specs.Pools.{FitsBase, term_at, size};
 ghost use Rattle.air_symbolic.specs.PoolRefusals.{AnswersDegree};
 ghost use Rattle.air_symbolic.specs.DegreeTables.{AnswersDegrees};
 
@@ -16,7 +16,7 @@ use air_field::RingError;
 impl<A: SymLeaf> ExprPool<A> {
     // The degree of one root by the leaves' weights.
     fn root_degree(&self, id: ExprId<A>, weight: LeafWeight<'_>) -> Result<usize, RingError>
-        requires pool { IsPool A.reads self.now }
+        requires owed { FitsBase A.reads self.now }
         requires here { id < size self.now }
         ensures { AnswersDegree
             (degree_by (leaf_weight weight.entry) (term_at A.reads self.now id)) result }
@@ -30,7 +30,7 @@ impl<A: SymLeaf> ExprPool<A> {
 
     // The degrees that the roots' nodes state.
     fn stated_degrees(&self, roots: &[ExprId<A>]) -> Result<Degrees, RingError>
-        requires pool { IsPool A.reads self.now }
+        requires owed { FitsBase A.reads self.now }
         requires all_in { All (λ x. x < size self.now) roots.now }
         ensures values { IfOk result (λ d. d.values.items ≡
             map (λ x. degree_by cached_weight (term_at A.reads self.now x)) roots.now) }
@@ -78,7 +78,7 @@ impl<A: SymLeaf> ExprPool<A> {
         weight: LeafWeight<'_>,
         under: &DegreeTable,
     ) -> Result<Degrees, RingError>
-        requires pool { IsPool A.reads self.now }
+        requires owed { FitsBase A.reads self.now }
         requires all_in { All (λ x. x < size self.now) roots.now }
         requires under { A.has_degrees self.now.base weight under.now.degrees.items }
         ensures values { IfOk result (λ d. d.values.items ≡
@@ -97,7 +97,7 @@ impl<A: SymLeaf> ExprPool<A> {
         roots: &[ExprId<A>],
         weight: LeafWeight<'_>,
     ) -> Result<Degrees, RingError>
-        requires pool { IsPool A.reads self.now }
+        requires owed { FitsBase A.reads self.now }
         requires all_in { All (λ x. x < size self.now) roots.now }
         ensures values { IfOk result (λ d. d.values.items ≡
             map (λ x. degree_by (leaf_weight weight.entry) (term_at A.reads self.now x)) roots.now) }
@@ -117,7 +117,7 @@ impl<A: SymLeaf> ExprPool<A> {
         id: ExprId<A>,
         weight: usize,
     ) -> Result<usize, RingError>
-        requires pool { IsPool A.reads self.now }
+        requires owed { FitsBase A.reads self.now }
         requires here { id < size self.now }
         ensures { AnswersDegree (degree_by (transition_weight weight) (term_at A.reads self.now id))
             result }
@@ -134,7 +134,7 @@ impl<A: SymLeaf> ExprPool<A> {
         trace_len: usize,
         periods: &[usize],
     ) -> Result<usize, RingError>
-        requires pool { IsPool A.reads self.now }
+        requires owed { FitsBase A.reads self.now }
         requires here { id < size self.now }
         ensures { AnswersDegree (degree_by (trace_weight trace_len periods.now)
             (term_at A.reads self.now id)) result }
@@ -147,7 +147,7 @@ impl<A: SymLeaf> ExprPool<A> {
     /// refused with `DegreeOverflow` only where the degree of some root passes `usize`, whatever nodes hold that no
     /// root reaches; and otherwise only for want of memory.
     pub fn degrees(&self, roots: &[ExprId<A>], weight: LeafWeight<'_>) -> Result<Degrees, RingError>
-        requires pool { IsPool A.reads self.now }
+        requires owed { FitsBase A.reads self.now }
         requires all_in { All (λ x. x < size self.now) roots.now }
         ensures values { IfOk result (λ d. d.values.items ≡ map
             (λ x. degree_by (leaf_weight weight.entry) (term_at A.reads self.now x)) roots.now) }

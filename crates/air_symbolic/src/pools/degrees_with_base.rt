@@ -3,7 +3,7 @@ ghost use Rattle.std.specs.Prelude.{◌≡◌, ◌≢◌, ◌<◌, ◌⊎◌, ma
 ghost use Rattle.air_field.specs.Degree.{degree_by};
 ghost use Rattle.air_symbolic.specs.BaseLeaves.{base_reads};
 ghost use Rattle.air_symbolic.specs.ExtLeaves.{ext_reads};
-ghost use Rattle.air_symbolic.specs.Pools.{IsPool, term_at, size};
+ghost use Rattle.air_symbolic.specs.Pools.{FitsBase, term_at, size};
 ghost use Rattle.air_symbolic.specs.Weights.{leaf_weight, SomeOverflows};
 
 use crate::leaves::base_leaf::BaseLeaf;
@@ -23,7 +23,7 @@ impl<F: Field, EF: ExtensionField<F>> ExprPool<ExtLeaf<F, EF>> {
         roots: &[ExprId<ExtLeaf<F, EF>>],
         weight: LeafWeight<'_>,
     ) -> Result<(Degrees, Degrees), RingError>
-        requires pool { IsPool (ext_reads EF.basis) self.now }
+        requires owed { FitsBase (ext_reads EF.basis) self.now }
         requires base_in { All (λ x. x < size self.now.base) base_roots.now }
         requires all_in { All (λ x. x < size self.now) roots.now }
         ensures base { IfOk result (λ d. d.0.values.items ≡ map

@@ -7,7 +7,7 @@ ghost use Rattle.air_symbolic.specs.BaseLeaves.{base_reads};
 ghost use Rattle.air_symbolic.specs.ExtLeaves.{ext_reads, ext_grows};
 ghost use Rattle.air_symbolic.specs.ExtPool.{BaseMeans, ExtMade};
 ghost use Rattle.air_symbolic.specs.Trees.{leaf_tree};
-ghost use Rattle.air_symbolic.specs.Pools.{IsPool, PoolHas, PoolMeans, Grown, HasTree, size};
+ghost use Rattle.air_symbolic.specs.Pools.{IsPool, FitsBase, PoolHas, PoolMeans, Grown, HasTree, size};
 
 use crate::leaves::base_leaf::BaseLeaf;
 use crate::leaves::ext_leaf::ExtLeaf;
@@ -22,7 +22,7 @@ impl<F: Field, EF: ExtensionField<F>> ExprPool<ExtLeaf<F, EF>> {
         &mut self,
         v: SymbolicVariableExt<F, EF>,
     ) -> Result<ExprId<ExtLeaf<F, EF>>, RingError>
-        requires { IsPool (ext_reads EF.basis) self.old }
+        requires { FitsBase (ext_reads EF.basis) self.old }
         ensures same_base { self.new.base ≡ self.old.base }
         ensures grown { Grown ext_grows (ext_reads EF.basis) self.old self.new }
         ensures tree { IfOk result (HasTree self.new (leaf_tree (ExtLeaf.ExtVariable v))) }
@@ -31,12 +31,13 @@ impl<F: Field, EF: ExtensionField<F>> ExprPool<ExtLeaf<F, EF>> {
         ensures refused { IfErr result (λ e. e ≡ RingError.Memory) }
         ensures kept { OnErr result (self.new ≡ self.old) }
     {
+        self.nodes_fit();
         self.leaf(ExtLeaf::ExtVariable(v))
     }
 
     /// The expression of a constant of the extension, as a leaf of its own.
     pub fn ext_constant(&mut self, c: EF) -> Result<ExprId<ExtLeaf<F, EF>>, RingError>
-        requires { IsPool (ext_reads EF.basis) self.old }
+        requires { FitsBase (ext_reads EF.basis) self.old }
         ensures same_base { self.new.base ≡ self.old.base }
         ensures grown { Grown ext_grows (ext_reads EF.basis) self.old self.new }
         ensures tree { IfOk result (HasTree self.new (leaf_tree (ExtLeaf.ExtConstant c))) }
@@ -45,12 +46,13 @@ impl<F: Field, EF: ExtensionField<F>> ExprPool<ExtLeaf<F, EF>> {
         ensures refused { IfErr result (λ e. e ≡ RingError.Memory) }
         ensures kept { OnErr result (self.new ≡ self.old) }
     {
+        self.nodes_fit();
         self.leaf(ExtLeaf::ExtConstant(c))
     }
 
     /// The expression of an expression of the base pool, as a leaf that holds the whole of it.
     pub fn lift(&mut self, x: ExprId<BaseLeaf<F>>) -> Result<ExprId<ExtLeaf<F, EF>>, RingError>
-        requires pool { IsPool (ext_reads EF.basis) self.old }
+        requires owed { FitsBase (ext_reads EF.basis) self.old }
         requires here { x < size self.old.base }
         ensures same_base { self.new.base ≡ self.old.base }
         ensures grown { Grown ext_grows (ext_reads EF.basis) self.old self.new }
@@ -61,16 +63,17 @@ impl<F: Field, EF: ExtensionField<F>> ExprPool<ExtLeaf<F, EF>> {
         ensures refused { IfErr result (λ e. e ≡ RingError.Memory) }
         ensures kept { OnErr result (self.new ≡ self.old) }
     {
+        self.nodes_fit();
         self.leaf(ExtLeaf::Base(x))
     }
 
     /// The base pool, handed over as it is.
     pub fn into_base(self) -> ExprPool<BaseLeaf<F>>
         ensures base { result ≡ self.base }
-        ensures pool { IsPool (ext_reads EF.basis) self → IsPool base_reads
-            result }
+        ensures pool { IsPool base_reads result }
     {
         let ExprPool { under, .. } = self;
+        under.nodes_fit();
         under
     }
 }

@@ -3,7 +3,7 @@ ghost use Rattle.std.specs.Prelude.{◌≡◌, ◌<◌, ◌≤◌, ◌+◌, ◌^
 ghost use Rattle.air_field.specs.Term.{add_term, sub_term, neg_term, mul_term};
 ghost use Rattle.air_field.specs.Degree.{degree_by, cached_weight};
 ghost use Rattle.air_field.specs.Same.{Simplifies};
-ghost use Rattle.air_symbolic.specs.Pools.{IsPool, tree_at, term_at, Grown, HasConst, size};
+ghost use Rattle.air_symbolic.specs.Pools.{FitsBase, tree_at, term_at, Grown, HasConst, size};
 ghost use Rattle.air_symbolic.specs.Folds.{HasFold, IsSum, IsDifference, IsNegative, IsProduct, NeedsNode};
 
 use crate::leaves::sym_leaf::SymLeaf;
@@ -15,7 +15,7 @@ use air_field::{Field, RingError};
 impl<A: SymLeaf> ExprPool<A> {
     /// A constant.
     pub fn constant(&mut self, c: A::F) -> Result<ExprId<A>, RingError>
-        requires { IsPool A.reads self.old }
+        requires { FitsBase A.reads self.old }
         ensures grown { Grown A.grows A.reads self.old self.new }
         ensures made { IfOk result (HasConst A.reads self.new c) }
         ensures refused { IfErr result (λ e. e ≡ RingError.Memory) }
@@ -26,7 +26,7 @@ impl<A: SymLeaf> ExprPool<A> {
 
     /// The constant 0.
     pub fn zero(&mut self) -> Result<ExprId<A>, RingError>
-        requires { IsPool A.reads self.old }
+        requires { FitsBase A.reads self.old }
         ensures grown { Grown A.grows A.reads self.old self.new }
         ensures made { IfOk result (HasConst A.reads self.new A.F.ring.zero) }
         ensures refused { IfErr result (λ e. e ≡ RingError.Memory) }
@@ -41,7 +41,7 @@ impl<A: SymLeaf> ExprPool<A> {
         x: ExprId<A>,
         y: ExprId<A>,
     ) -> Result<ExprId<A>, RingError>
-        requires pool { IsPool A.reads self.old }
+        requires owed { FitsBase A.reads self.old }
         requires x_in { x < size self.old }
         requires y_in { y < size self.old }
         ensures grown { Grown A.grows A.reads self.old self.new }
@@ -59,7 +59,7 @@ impl<A: SymLeaf> ExprPool<A> {
 
     /// The sum, folded.
     pub fn add(&mut self, x: ExprId<A>, y: ExprId<A>) -> Result<ExprId<A>, RingError>
-        requires pool { IsPool A.reads self.old }
+        requires owed { FitsBase A.reads self.old }
         requires x_in { x < size self.old }
         requires y_in { y < size self.old }
         ensures grown { Grown A.grows A.reads self.old self.new }
@@ -68,6 +68,7 @@ impl<A: SymLeaf> ExprPool<A> {
             (add_term (term_at A.reads self.old x) (term_at A.reads self.old y))) }
         ensures refused { IfErr result (λ e. e ≡ RingError.Memory) }
     {
+        self.nodes_fit();
         match fold_of_sum(self.as_const(x), self.as_const(y)) {
             Some(fold) => self.folded(fold, x, y),
             None => self.insert_add(x, y),
@@ -76,7 +77,7 @@ impl<A: SymLeaf> ExprPool<A> {
 
     /// The difference, folded.
     pub fn sub(&mut self, x: ExprId<A>, y: ExprId<A>) -> Result<ExprId<A>, RingError>
-        requires pool { IsPool A.reads self.old }
+        requires owed { FitsBase A.reads self.old }
         requires x_in { x < size self.old }
         requires y_in { y < size self.old }
         ensures grown { Grown A.grows A.reads self.old self.new }
@@ -85,6 +86,7 @@ impl<A: SymLeaf> ExprPool<A> {
             (sub_term (term_at A.reads self.old x) (term_at A.reads self.old y))) }
         ensures refused { IfErr result (λ e. e ≡ RingError.Memory) }
     {
+        self.nodes_fit();
         match fold_of_difference(self.as_const(x), self.as_const(y)) {
             Some(fold) => self.folded(fold, x, y),
             None => self.insert_sub(x, y),
@@ -93,7 +95,7 @@ impl<A: SymLeaf> ExprPool<A> {
 
     /// The negative, folded.
     pub fn neg(&mut self, x: ExprId<A>) -> Result<ExprId<A>, RingError>
-        requires pool { IsPool A.reads self.old }
+        requires owed { FitsBase A.reads self.old }
         requires x_in { x < size self.old }
         ensures grown { Grown A.grows A.reads self.old self.new }
         ensures made { IfOk result (IsNegative A.reads A.F.ring A.F.eq self.old self.new x) }
@@ -101,6 +103,7 @@ impl<A: SymLeaf> ExprPool<A> {
             (neg_term (term_at A.reads self.old x))) }
         ensures refused { IfErr result (λ e. e ≡ RingError.Memory) }
     {
+        self.nodes_fit();
         match self.as_const(x) {
             Some(c) => self.constant(c.neg()),
             None => self.insert_neg(x),
@@ -110,7 +113,7 @@ impl<A: SymLeaf> ExprPool<A> {
     /// The product, folded. It is refused with `DegreeOverflow` exactly where a node is needed and the operands'
     /// degrees add past `usize`.
     pub fn mul(&mut self, x: ExprId<A>, y: ExprId<A>) -> Result<ExprId<A>, RingError>
-        requires pool { IsPool A.reads self.old }
+        requires owed { FitsBase A.reads self.old }
         requires x_in { x < size self.old }
         requires y_in { y < size self.old }
         ensures grown { Grown A.grows A.reads self.old self.new }
@@ -122,6 +125,7 @@ impl<A: SymLeaf> ExprPool<A> {
             × (2 ^ 64 ≤ degree_by cached_weight (term_at A.reads self.old x) + degree_by
             cached_weight (term_at A.reads self.old y))) }
     {
+        self.nodes_fit();
         match fold_of_product(self.as_const(x), self.as_const(y)) {
             Some(fold) => self.folded(fold, x, y),
             None => self.insert_mul(x, y),

@@ -6,7 +6,7 @@ ghost use Rattle.air_symbolic.specs.Trees.{leaf_tree, add_tree, sub_tree, neg_tr
 ghost use Rattle.air_symbolic.specs.Nodes.{unfold_node, tree_of, NodeFits, OperandsBelow};
 ghost use Rattle.air_symbolic.specs.Numbering.{IsNowhere, IsAt};
 ghost use Rattle.air_symbolic.specs.declared.pools.expr.SymbolicExpr.{SymbolicExpr};
-ghost use Rattle.air_symbolic.specs.Pools.{IsPool, tree_at, term_at, Grown, HasTree, size};
+ghost use Rattle.air_symbolic.specs.Pools.{FitsBase, tree_at, term_at, Grown, HasTree, size};
 
 use crate::leaves::sym_leaf::SymLeaf;
 use crate::pools::expr::{ExprId, SymbolicExpr};
@@ -50,7 +50,7 @@ fn number_of<A: SymLeaf>(nodes: &NodeTable<A>, node: &SymbolicExpr<A>) -> Option
 impl<A: SymLeaf> ExprPool<A> {
     // The number of the equal node if there is one, else of a new node: each expression is held once.
     pub(crate) fn insert(&mut self, node: SymbolicExpr<A>) -> Result<ExprId<A>, RingError>
-        requires pool { IsPool A.reads self.old }
+        requires owed { FitsBase A.reads self.old }
         requires fits { NodeFits (A.reads self.old.base) self.old.nodes node }
         ensures same_under { self.new.base ≡ self.old.base }
         ensures grown { Grown A.grows A.reads self.old self.new }
@@ -70,7 +70,7 @@ impl<A: SymLeaf> ExprPool<A> {
 
     /// The expression of a leaf, which must name nothing but what lies under this pool.
     pub fn leaf(&mut self, a: A) -> Result<ExprId<A>, RingError>
-        requires pool { IsPool A.reads self.old }
+        requires owed { FitsBase A.reads self.old }
         requires valid { (A.reads self.old.base).valid a }
         ensures same_under { self.new.base ≡ self.old.base }
         ensures grown { Grown A.grows A.reads self.old self.new }
@@ -83,7 +83,7 @@ impl<A: SymLeaf> ExprPool<A> {
 
     // `leaf`, behind a memory of 256 places: columns are read in every constraint, and this spares the map's search.
     pub(crate) fn leaf_at(&mut self, place: usize, a: A) -> Result<ExprId<A>, RingError>
-        requires pool { IsPool A.reads self.old }
+        requires owed { FitsBase A.reads self.old }
         requires valid { (A.reads self.old.base).valid a }
         ensures same_under { self.new.base ≡ self.old.base }
         ensures grown { Grown A.grows A.reads self.old self.new }
@@ -101,7 +101,7 @@ impl<A: SymLeaf> ExprPool<A> {
 
     /// The sum, not folded.
     pub fn insert_add(&mut self, x: ExprId<A>, y: ExprId<A>) -> Result<ExprId<A>, RingError>
-        requires pool { IsPool A.reads self.old }
+        requires owed { FitsBase A.reads self.old }
         requires x_in { x < size self.old }
         requires y_in { y < size self.old }
         ensures same_under { self.new.base ≡ self.old.base }
@@ -121,7 +121,7 @@ impl<A: SymLeaf> ExprPool<A> {
 
     /// The difference, not folded.
     pub fn insert_sub(&mut self, x: ExprId<A>, y: ExprId<A>) -> Result<ExprId<A>, RingError>
-        requires pool { IsPool A.reads self.old }
+        requires owed { FitsBase A.reads self.old }
         requires x_in { x < size self.old }
         requires y_in { y < size self.old }
         ensures same_under { self.new.base ≡ self.old.base }
@@ -141,7 +141,7 @@ impl<A: SymLeaf> ExprPool<A> {
 
     /// The negative, not folded.
     pub fn insert_neg(&mut self, x: ExprId<A>) -> Result<ExprId<A>, RingError>
-        requires pool { IsPool A.reads self.old }
+        requires owed { FitsBase A.reads self.old }
         requires x_in { x < size self.old }
         ensures same_under { self.new.base ≡ self.old.base }
         ensures grown { Grown A.grows A.reads self.old self.new }
@@ -156,7 +156,7 @@ impl<A: SymLeaf> ExprPool<A> {
     /// The product, not folded. It is refused with `DegreeOverflow` exactly where the operands' degrees add past
     /// `usize`.
     pub fn insert_mul(&mut self, x: ExprId<A>, y: ExprId<A>) -> Result<ExprId<A>, RingError>
-        requires pool { IsPool A.reads self.old }
+        requires owed { FitsBase A.reads self.old }
         requires x_in { x < size self.old }
         requires y_in { y < size self.old }
         ensures same_under { self.new.base ≡ self.old.base }

@@ -3,7 +3,7 @@ ghost use Rattle.std.specs.Prelude.{◌≡◌, ◌<◌, map, All, IfOk, IfErr};
 ghost use Rattle.air_field.specs.Term.{add_term, mul_term};
 ghost use Rattle.air_field.specs.Same.{Simplifies};
 ghost use Rattle.air_field.specs.Joins.{join_terms};
-ghost use Rattle.air_symbolic.specs.Pools.{IsPool, tree_at, term_at, Grown, size};
+ghost use Rattle.air_symbolic.specs.Pools.{FitsBase, tree_at, term_at, Grown, size};
 ghost use Rattle.air_symbolic.specs.FoldedLists.{IsSumOfAll, IsProductOfAll, ProductOverflows};
 
 use crate::leaves::sym_leaf::SymLeaf;
@@ -14,7 +14,7 @@ use air_field::{Field, RingError};
 impl<A: SymLeaf> ExprPool<A> {
     /// The sum, folded step by step from the left; of none, 0. It refuses for want of memory alone.
     pub fn sum(&mut self, xs: &[ExprId<A>]) -> Result<ExprId<A>, RingError>
-        requires pool { IsPool A.reads self.old }
+        requires owed { FitsBase A.reads self.old }
         requires all_in { All (λ x. x < size self.old) xs.now }
         ensures grown { Grown A.grows A.reads self.old self.new }
         ensures made { IfOk result (IsSumOfAll A.reads A.F.ring A.F.eq self.old self.new xs.now) }
@@ -22,6 +22,7 @@ impl<A: SymLeaf> ExprPool<A> {
             (join_terms add_term A.F.ring.zero (map (term_at A.reads self.old) xs.now))) }
         ensures refused { IfErr result (λ e. e ≡ RingError.Memory) }
     {
+        self.nodes_fit();
         let [first, rest @ ..] = xs else {
             return self.constant(A::F::ZERO);
         };
@@ -35,7 +36,7 @@ impl<A: SymLeaf> ExprPool<A> {
     /// The product, folded step by step from the left; of none, 1. It is refused with `DegreeOverflow` only where a
     /// step needs a node and the degrees add past `usize`, and always there unless memory is wanting before.
     pub fn product(&mut self, xs: &[ExprId<A>]) -> Result<ExprId<A>, RingError>
-        requires pool { IsPool A.reads self.old }
+        requires owed { FitsBase A.reads self.old }
         requires all_in { All (λ x. x < size self.old) xs.now }
         ensures grown { Grown A.grows A.reads self.old self.new }
         ensures made { IfOk result (IsProductOfAll A.reads A.F.ring A.F.eq self.old self.new
@@ -45,6 +46,7 @@ impl<A: SymLeaf> ExprPool<A> {
         ensures overflow { result ≡ Err RingError.DegreeOverflow → ProductOverflows A.F.ring A.F.eq
             (A.reads self.new.base) (map (tree_at self.old) xs.now) }
     {
+        self.nodes_fit();
         let [first, rest @ ..] = xs else {
             return self.constant(A::F::ONE);
         };

@@ -4,7 +4,7 @@ ghost use Rattle.std.specs.Option.{IfSome};
 ghost use Rattle.air_symbolic.specs.ExtLeaves.{ext_reads, ext_grows};
 ghost use Rattle.air_symbolic.specs.ExtTrees.{HasExtOnly, lowered, IsLowered, HasTermOf};
 ghost use Rattle.air_symbolic.specs.Lowered.{IsMarkedExtOnly, IsLoweredIn, IsLoweredNode, CanLower};
-ghost use Rattle.air_symbolic.specs.Pools.{IsPool, Grown, HasTree, tree_at, size};
+ghost use Rattle.air_symbolic.specs.Pools.{IsPool, FitsBase, Grown, HasTree, tree_at, size};
 ghost use Rattle.air_symbolic.specs.Reach.{Reached};
 
 use crate::leaves::base_leaf::BaseLeaf;
@@ -211,7 +211,7 @@ impl<F: Field, EF: ExtensionField<F>> ExprPool<ExtLeaf<F, EF>> {
         &mut self,
         id: ExprId<ExtLeaf<F, EF>>,
     ) -> Result<Option<ExprId<BaseLeaf<F>>>, RingError>
-        requires pool { IsPool (ext_reads EF.basis) self.old }
+        requires owed { FitsBase (ext_reads EF.basis) self.old }
         requires here { id < size self.old }
         ensures same_nodes { self.new.nodes ≡ self.old.nodes }
         ensures grown { Grown ext_grows (ext_reads EF.basis) self.old self.new }
@@ -222,6 +222,7 @@ impl<F: Field, EF: ExtensionField<F>> ExprPool<ExtLeaf<F, EF>> {
         ensures none { IfOk result (λ b. IfNone b (self.new ≡ self.old)) }
         ensures refused { IfErr result (λ e. e ≡ RingError.Memory) }
     {
+        self.nodes_fit();
         let marks = reached(*self.nodes.allocator(), self, &[id])?;
         if self.has_ext_only(id, &marks) {
             return Ok(None);

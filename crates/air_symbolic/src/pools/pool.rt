@@ -2,7 +2,7 @@
 ghost use Rattle.std.specs.Prelude.{◌≡◌, ◌<◌, ◌↔◌, [], IsTrue};
 ghost use Rattle.air_field.specs.Degree.{degree_by, cached_weight};
 ghost use Rattle.air_symbolic.specs.Nodes.{IsNode};
-ghost use Rattle.air_symbolic.specs.Pools.{IsPool, term_at, constant_at, size};
+ghost use Rattle.air_symbolic.specs.Pools.{IsPool, FitsBase, term_at, constant_at, size};
 
 use crate::leaves::sym_leaf::SymLeaf;
 use crate::pools::expr::{ExprId, SymbolicExpr};
@@ -18,11 +18,14 @@ pub struct ExprPool<A: SymLeaf> {
 }
 
 impl<A: SymLeaf> Model for ExprPool<A> {
-    ghost use Rattle.air_symbolic.specs.Pools.{Pool};
+    ghost use Rattle.air_symbolic.specs.Pools.{Pool, IsNodeList};
 
     ghost Value = { Pool A.Under A };
 
     ghost view = { λ p. record { base = p.under; nodes = p.nodes } };
+
+    // Each node's operands are older than it, its degree is right, and no node is there twice.
+    ghost invariant = { λ p. IsNodeList A.reads p.nodes };
 }
 
 impl<A: SymLeaf> ExprPool<A> {
@@ -35,6 +38,15 @@ impl<A: SymLeaf> ExprPool<A> {
             nodes: NodeTable::new(alloc),
             under: A::new_under(alloc),
         }
+    }
+
+    /// The nodes fit what lies under them, which is all that a proof needs of a pool: its type keeps that they fit some
+    /// base, and what is owed of a lent one says that they fit this one.
+    pub fn nodes_fit(&self)
+        requires { FitsBase A.reads self.now }
+        ensures { IsPool A.reads self.now }
+    {
+        let _ = &self.nodes;
     }
 
     /// How many nodes there are.
@@ -53,7 +65,7 @@ impl<A: SymLeaf> ExprPool<A> {
 
     /// The node of a number.
     pub fn node(&self, id: ExprId<A>) -> &SymbolicExpr<A>
-        requires pool { IsPool A.reads self.now }
+        requires owed { FitsBase A.reads self.now }
         requires here { id < size self.now }
         ensures { IsNode (A.reads self.now.base) self.now.nodes id result.now }
     {
@@ -62,7 +74,7 @@ impl<A: SymLeaf> ExprPool<A> {
 
     /// The degree by the cached weights, which the node states.
     pub fn degree_multiple(&self, id: ExprId<A>) -> usize
-        requires pool { IsPool A.reads self.now }
+        requires owed { FitsBase A.reads self.now }
         requires here { id < size self.now }
         ensures { result ≡ degree_by cached_weight (term_at A.reads self.now id) }
     {
@@ -89,7 +101,7 @@ impl<A: SymLeaf> ExprPool<A> {
 
     /// The constant that the expression is, for folding: only a leaf is one.
     pub fn as_const(&self, id: ExprId<A>) -> Option<A::F>
-        requires pool { IsPool A.reads self.now }
+        requires owed { FitsBase A.reads self.now }
         requires here { id < size self.now }
         ensures { result ≡ constant_at A.reads self.now id }
     {

@@ -1,7 +1,7 @@
 //! Which expressions of a pool some roots reach.
 ghost use Rattle.std.specs.Prelude.{◌≡◌, ◌⊎◌, ◌<◌, ℕ, length, slice_index_or, None, All, Contains, IfOk, IfErr};
 ghost use Rattle.air_symbolic.specs.Nodes.{OperandsBelow};
-ghost use Rattle.air_symbolic.specs.Pools.{IsPool, size};
+ghost use Rattle.air_symbolic.specs.Pools.{FitsBase, size};
 ghost use Rattle.air_symbolic.specs.Reach.{EachOperand, IsOperand, Marked, MarkedMore, Reached};
 
 use crate::leaves::sym_leaf::SymLeaf;
@@ -76,7 +76,7 @@ fn mark_reached<A: SymLeaf>(
     pool: &ExprPool<A>,
     roots: &[ExprId<A>],
 )
-    requires pool { IsPool A.reads pool.now }
+    requires owed { FitsBase A.reads pool.now }
     requires here { All (λ x. x < size pool.now) roots.now }
     requires places { length marks.old ≡ size pool.now }
     requires none { (i : ℕ) → slice_index_or marks.old i None ≡ None }
@@ -98,7 +98,7 @@ pub fn reached<A: SymLeaf>(
     pool: &ExprPool<A>,
     roots: &[ExprId<A>],
 ) -> Result<Vec<Option<ExprId<A>>>, RingError>
-    requires pool { IsPool A.reads pool.now }
+    requires owed { FitsBase A.reads pool.now }
     requires here { All (λ x. x < size pool.now) roots.now }
     ensures marked { IfOk result (λ marks.
         Reached (A.reads pool.now.base) pool.now.nodes roots.now marks.items) }

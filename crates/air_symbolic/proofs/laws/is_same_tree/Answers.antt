@@ -20,6 +20,6 @@ returns g c =
       numbers = d;
       trees = (
         λ q. ap (tree_at p) (d.0 q),
-        λ q. d.1 (shared (g.A.SymLeaf.reads p.base) p.nodes c.requires.pool.nodes c.args.x c.args.y c.requires.x_in c.requires.y_in q),
+        λ q. d.1 (shared (g.A.SymLeaf.reads p.base) p.nodes c.nodes_fit.ensures.nodes c.args.x c.args.y c.requires.x_in c.requires.y_in q),
       );
     }

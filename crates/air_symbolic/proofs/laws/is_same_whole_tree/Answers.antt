@@ -16,6 +16,6 @@ returns g c =
       numbers = c.is_same_tree.ensures.numbers;
       trees = (
         λ q. ap (whole_tree p.base) (d.0 q),
-        λ e. d.1 (same_tree p.base (tree_at p c.args.x) (tree_at p c.args.y) (tree_of-whole l p.nodes r.pool.nodes c.args.x r.x_in) (tree_of-whole l p.nodes r.pool.nodes c.args.y r.y_in) e),
+        λ e. d.1 (same_tree p.base (tree_at p c.args.x) (tree_at p c.args.y) (tree_of-whole l p.nodes c.nodes_fit.ensures.nodes c.args.x r.x_in) (tree_of-whole l p.nodes c.nodes_fit.ensures.nodes c.args.y r.y_in) e),
       );
     }

@@ -8,9 +8,9 @@ returns g c =
     let grows = g.A.SymLeaf.grows in
     let empty = g.A.SymLeaf.no_under in
     let laws = g.met.A.SymLeaf.leaf_laws in
-    let p = c.args._pool.now in
+    let p = c.args.pool.now in
     let i = c.args._x in
     record {
       tree = λ q h. tree-kept r reads grows empty laws p q i h c.requires.here;
-      term = λ q h. term-kept r reads grows empty laws p q i h record { pool = c.requires.pool; here = c.requires.here };
+      term = λ q h. term-kept r reads grows empty laws p q i h record { pool = c.nodes_fit.ensures; here = c.requires.here };
     }

@@ -11,9 +11,9 @@ use Rattle.air_symbolic.proofs.laws.whole_tree_is_kept.Goals as goal
 pub returns : goal.returns
 returns g c =
     let r = g.F.Field.ring in
-    let p = c.args._pool.now in
+    let p = c.args.pool.now in
     let i = c.args._x in
     let reads = ext_reads g.EF.ExtensionField.basis in
     let laws = ext_leaf_laws g.met.EF.ExtensionField.laws in
     λ q h. ap (whole_tree q.base) (tree-kept r reads ext_grows no_base_nodes laws p q i h c.requires.here)
-    ∙ whole_tree-kept r p.base q.base h.under (tree_at p i) (tree_of-whole (reads p.base) p.nodes c.requires.pool.nodes i c.requires.here)
+    ∙ whole_tree-kept r p.base q.base h.under (tree_at p i) (tree_of-whole (reads p.base) p.nodes c.nodes_fit.ensures.nodes i c.requires.here)

@@ -7,4 +7,4 @@ pub returns-clause-made : goal.returns-clause-made
 returns-clause-made g c =
     let reads = ext_reads g.EF.ExtensionField.basis in
     let e = c.leaf.ensures in
-    IfOk-weaker _ _ _ (λ z m. made-leaf g.F.Field.ring reads c.leaf.new.self _ z (e.grown.pool c.requires) m) e.made
+    IfOk-weaker _ _ _ (λ z m. made-leaf g.F.Field.ring reads c.leaf.new.self _ z (e.grown.pool c.nodes_fit.ensures) m) e.made

@@ -9,7 +9,7 @@ returns g c =
       same_base = e.same_under;
       grown = e.grown;
       tree = e.made;
-      made = IfOk-weaker _ _ _ (made-lifted g.F.Field.ring g.EF.ExtensionField.basis c.args.self.now c.leaf.new.self c.args.x e.same_under (e.grown.pool c.requires.pool)) e.made;
+      made = IfOk-weaker _ _ _ (made-lifted g.F.Field.ring g.EF.ExtensionField.basis c.args.self.now c.leaf.new.self c.args.x e.same_under (e.grown.pool c.nodes_fit.ensures)) e.made;
       refused = e.refused;
       kept = e.kept;
     }

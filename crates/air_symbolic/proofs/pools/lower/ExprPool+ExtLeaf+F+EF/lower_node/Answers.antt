@@ -1,8 +1,8 @@
 use Rattle.std.proofs.Common.{◌∙◌, sym, ap, subst, IfOk}
 use Rattle.air_symbolic.specs.Nodes.{unfold_node, tree_of, NodeFits}
-use Rattle.air_symbolic.specs.BaseLeaves.{base_leaves, base_reads}
+use Rattle.air_symbolic.specs.BaseLeaves.{base_leaves}
 use Rattle.air_symbolic.specs.ExtLeaves.{BaseNodes}
-use Rattle.air_symbolic.specs.Pools.{IsPool, HasTree}
+use Rattle.air_symbolic.specs.Pools.{HasTree}
 use Rattle.air_symbolic.specs.laws.ExtPool.{ext_pool_laws, base_lent_from}
 use Rattle.air_symbolic.proofs.pools.lower.ExprPool+ExtLeaf+F+EF.lower_node.Goals as goal
 
@@ -10,7 +10,7 @@ pub insert-requires : goal.insert-requires
 insert-requires g c =
     let lent = sym c.base_mut.ensures.value in
     record {
-      pool = subst (λ (u : BaseNodes g.row.F.Denot). IsPool base_reads u) lent c.requires.pool.under;
+      owed = λ u h. h;
       fits = subst (λ (u : BaseNodes g.row.F.Denot). NodeFits base_leaves u.nodes c.in-Ok.node) lent c.in-Ok.ensures.node.0;
     }
 

@@ -8,7 +8,7 @@ use Rattle.air_symbolic.proofs.pools.lower.ExprPool+ExtLeaf+F+EF.to_base.Goals a
 pub returns-clause-term : goal.returns-clause-term
 returns-clause-term g c =
     lowered-has-term g.F.Field.ring g.EF.ExtensionField.basis c.args.self.now c.args.id c.lower.new.self.base c.in_ok-base.base
-    c.requires.pool c.requires.here
+    c.nodes_fit.ensures c.requires.here
     (λ h. let e = c.has_ext_only.ensures.1 h in let f = c.if-has_ext_only.false in absurd (cc))
     c.in_ok-base.ensures.made
 

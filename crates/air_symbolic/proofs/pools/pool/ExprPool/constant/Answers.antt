@@ -1,14 +1,15 @@
 use Rattle.air_symbolic.specs.laws.Pools.{Grown-trans}
-use Rattle.air_symbolic.proofs.Tables.{Grown-under-seen}
+use Rattle.air_symbolic.proofs.Tables.{pool-seen, Grown-under-seen}
 use Rattle.air_symbolic.proofs.pools.pool.ExprPool.constant.Goals as goal
 
 pub returns-in_err-a-clause-grown : goal.returns-in_err-a-clause-grown
 returns-in_err-a-clause-grown g c =
     Grown-under-seen g.met.A.SymLeaf.leaf_laws c.args.self.now c.self.inside.under c.self.inside.nodes c.self.view_is c.from_const.new.under c.from_const.ensures.grown
 
-pub leaf-requires-clause-pool : goal.leaf-requires-clause-pool
-leaf-requires-clause-pool g c =
-    (Grown-under-seen g.met.A.SymLeaf.leaf_laws c.args.self.now c.self.inside.under c.self.inside.nodes c.self.view_is c.from_const.new.under c.from_const.ensures.grown).pool c.requires
+pub leaf-requires-clause-owed : goal.leaf-requires-clause-owed
+leaf-requires-clause-owed g c u h =
+    (Grown-under-seen g.met.A.SymLeaf.leaf_laws c.args.self.now c.self.inside.under c.self.inside.nodes c.self.view_is c.from_const.new.under c.from_const.ensures.grown).pool
+    (pool-seen g.A.SymLeaf.reads c.args.self.now _ _ c.self.view_is c.self.invariant c.requires)
 
 pub returns-clause-grown : goal.returns-clause-grown
 returns-clause-grown g c =

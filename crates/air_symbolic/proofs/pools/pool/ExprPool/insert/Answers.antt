@@ -3,7 +3,7 @@ use Rattle.std.proofs.lemmas.Option.{slice_get_within}
 use Rattle.air_symbolic.specs.Nodes.{tree_of}
 use Rattle.air_symbolic.specs.Numbering.{with_degree}
 use Rattle.air_symbolic.proofs.StatedDegrees.{unfold-with_degree, own-degree}
-use Rattle.air_symbolic.proofs.Tables.{IsNode-seen, Grown-push-seen, tree-pushed}
+use Rattle.air_symbolic.proofs.Tables.{pool-seen, IsNode-seen, Grown-push-seen, list-pushed, tree-pushed}
 use Rattle.air_symbolic.proofs.pools.pool.ExprPool.insert.Goals as goal
 
 pub returns-in-Some-clause-made : goal.returns-in-Some-clause-made
@@ -13,8 +13,15 @@ returns-in-Some-clause-made g c =
     let i = c.in-Some.number in
     let d = c.in-Some.ensures.0 in
     let node = with_degree c.args.node d in
-    let known = IsNode-seen (g.A.SymLeaf.reads p.base) p table.under table.nodes i node c.self.view_is c.requires.pool.nodes c.in-Some.ensures.1 in
+    let known = IsNode-seen (g.A.SymLeaf.reads p.base) p table.under table.nodes i node c.self.view_is (pool-seen g.A.SymLeaf.reads p _ _ c.self.view_is c.self.invariant c.requires.owed).nodes c.in-Some.ensures.1 in
     rw c.new.ensures record { here = slice_get_within p.nodes i node known.node; tree = known.tree ∙ unfold-with_degree (tree_of p.nodes) c.args.node d }
+
+pub invariant_of-self-in-None : goal.invariant_of-self-in-None
+invariant_of-self-in-None g c =
+    let p = c.args.self.now in
+    list-pushed g.met.A.SymLeaf.leaf_laws p c.self.inside.under c.self.inside.nodes c.self.view_is
+    c.push.new.self c.args.node c.in_ok-number-in-None.ensures.pushed c.requires.fits (λ i e. let own = own-degree c.args.node in c.in-None.ensures i own.0 (e ∙ ap (λ n. Some n) (sym own.1)))
+    (pool-seen g.A.SymLeaf.reads p _ _ c.self.view_is c.self.invariant c.requires.owed)
 
 pub returns-in_ok-number-in-None-clause-grown : goal.returns-in_ok-number-in-None-clause-grown
 returns-in_ok-number-in-None-clause-grown g c =
@@ -27,7 +34,7 @@ number_of-requires g c =
     let p = c.args.self.now in
     let table = c.self.inside in
     record {
-      older = λ i n e. (IsNode-seen (g.A.SymLeaf.reads p.base) p table.under table.nodes i n c.self.view_is c.requires.pool.nodes e).below;
+      older = λ i n e. (IsNode-seen (g.A.SymLeaf.reads p.base) p table.under table.nodes i n c.self.view_is (pool-seen g.A.SymLeaf.reads p _ _ c.self.view_is c.self.invariant c.requires.owed).nodes e).below;
     }
 
 pub returns-in_ok-number-in-None-clause-made : goal.returns-in_ok-number-in-None-clause-made

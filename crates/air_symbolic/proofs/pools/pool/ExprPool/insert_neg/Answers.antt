@@ -1,7 +1,7 @@
 use Rattle.air_symbolic.proofs.pools.pool.ExprPool.insert_neg.Goals as goal
 
 pub insert-requires : goal.insert-requires
-insert-requires g c = record { pool = c.requires.pool; fits = (c.requires.x_in, c.degree_multiple-degree_multiple.ensures) }
+insert-requires g c = record { owed = c.requires.owed; fits = (c.requires.x_in, c.degree_multiple-degree_multiple.ensures) }
 
 pub returns : goal.returns
 returns g c = let e = c.insert.ensures in record { same_under = e.same_under; grown = e.grown; made = e.made; refused = e.refused; kept = e.kept }

@@ -18,7 +18,7 @@ returns-in_err-total-clause-grown g c =
 pub returns-in_err-total-clause-overflow : goal.returns-in_err-total-clause-overflow
 returns-in_err-total-clause-overflow g c =
     λ e. overflow_told g.A.F.Field.ring g.A.F.PartialEq.eq g.A.SymLeaf.reads g.A.SymLeaf.grows g.A.SymLeaf.no_under g.met.A.SymLeaf.leaf_laws c.args.self.now c.loop-x.self c.mul.new.self c.loop-x.total c.x-item.result _
-    c.requires.pool c.mul.ensures.grown (c.in_err-total.ensures.overflow.0 (let p = err_from_is_err_and c.from_residual.result c.from_residual.ensures.1 in cc))
+    c.nodes_fit.ensures c.mul.ensures.grown (c.in_err-total.ensures.overflow.0 (let p = err_from_is_err_and c.from_residual.result c.from_residual.ensures.1 in cc))
     (left-is _ _ (drop_item (take (length c.args.xs.now - 1) (drop 1 c.args.xs.now)) c.loop-x.x-index c.x-item.result c.loop-x-test.true c.x-item.is) c.loop-x.invariant.overflow)
 
 pub loop-x-preserved : goal.loop-x-preserved
@@ -26,17 +26,17 @@ loop-x-preserved g c =
     record {
       product =
           product_taken g.A.F.Field.ring g.A.F.PartialEq.eq g.A.SymLeaf.reads g.A.SymLeaf.grows g.A.SymLeaf.no_under g.met.A.SymLeaf.leaf_laws c.args.self.now c.loop-x.self c.mul.new.self c.loop-x.total c.x-item.result _
-          c.requires.pool c.mul.ensures.grown c.in_ok-total.total (λ o. let e = c.in_ok-total.ensures.overflow.1 o in cc) c.in_ok-total.ensures.made
+          c.nodes_fit.ensures c.mul.ensures.grown c.in_ok-total.total (λ o. let e = c.in_ok-total.ensures.overflow.1 o in cc) c.in_ok-total.ensures.made
           (left-is _ _ (drop_item (take (length c.args.xs.now - 1) (drop 1 c.args.xs.now)) c.loop-x.x-index c.x-item.result c.loop-x-test.true c.x-item.is) c.loop-x.invariant.product);
       overflow =
           overflow_taken g.A.F.Field.ring g.A.F.PartialEq.eq g.A.SymLeaf.reads g.A.SymLeaf.grows g.A.SymLeaf.no_under g.met.A.SymLeaf.leaf_laws c.args.self.now c.loop-x.self c.mul.new.self c.loop-x.total c.x-item.result _
-          c.requires.pool c.mul.ensures.grown c.in_ok-total.total (λ o. let e = c.in_ok-total.ensures.overflow.1 o in cc) c.in_ok-total.ensures.made
+          c.nodes_fit.ensures c.mul.ensures.grown c.in_ok-total.total (λ o. let e = c.in_ok-total.ensures.overflow.1 o in cc) c.in_ok-total.ensures.made
           (left-is _ _ (drop_item (take (length c.args.xs.now - 1) (drop 1 c.args.xs.now)) c.loop-x.x-index c.x-item.result c.loop-x-test.true c.x-item.is) c.loop-x.invariant.overflow);
     }
 
 pub mul-requires : goal.mul-requires
 mul-requires g c = record {
-  pool = c.loop-x.invariant.product.grown.pool c.requires.pool;
+  owed = λ u h. c.loop-x.invariant.product.grown.pool c.nodes_fit.ensures;
   x_in = c.loop-x.invariant.product.total_in;
   y_in = next_in g.met.A.SymLeaf.leaf_laws (take (length c.args.xs.now - 1) (drop 1 c.args.xs.now)) c.loop-x.x-index c.loop-x-test.true c.x-item.is c.loop-x.invariant.product;
 }
@@ -51,6 +51,6 @@ returns-clause-made g c =
 
 pub returns-clause-simplifies : goal.returns-clause-simplifies
 returns-clause-simplifies g c =
-    IsProductOfAll-simplifies g.A.F.Field.ring g.A.F.PartialEq.eq g.met.A.F.Field.eq_is g.A.SymLeaf.reads g.A.SymLeaf.grows g.A.SymLeaf.no_under g.met.A.SymLeaf.leaf_laws c.args.self.now c.loop-x.self c.requires.pool c.loop-x.invariant.product.grown
+    IsProductOfAll-simplifies g.A.F.Field.ring g.A.F.PartialEq.eq g.met.A.F.Field.eq_is g.A.SymLeaf.reads g.A.SymLeaf.grows g.A.SymLeaf.no_under g.met.A.SymLeaf.leaf_laws c.args.self.now c.loop-x.self c.nodes_fit.ensures c.loop-x.invariant.product.grown
     c.args.xs.now c.requires.all_in c.loop-x.total
     (returns-clause-made g c)

@@ -17,12 +17,12 @@ returns-in_err-total-clause-grown g c =
 pub loop-x-preserved : goal.loop-x-preserved
 loop-x-preserved g c =
     sum_taken g.A.F.Field.ring g.A.F.PartialEq.eq g.A.SymLeaf.reads g.A.SymLeaf.grows g.A.SymLeaf.no_under g.met.A.SymLeaf.leaf_laws c.args.self.now c.loop-x.self c.add.new.self c.loop-x.total c.x-item.result c.in_ok-total.total _
-    c.requires.pool c.add.ensures.grown c.in_ok-total.ensures.made
+    c.nodes_fit.ensures c.add.ensures.grown c.in_ok-total.ensures.made
     (left-is _ _ (drop_item (take (length c.args.xs.now - 1) (drop 1 c.args.xs.now)) c.loop-x.x-index c.x-item.result c.loop-x-test.true c.x-item.is) c.loop-x.invariant)
 
 pub add-requires : goal.add-requires
 add-requires g c = record {
-  pool = c.loop-x.invariant.grown.pool c.requires.pool;
+  owed = λ u h. c.loop-x.invariant.grown.pool c.nodes_fit.ensures;
   x_in = c.loop-x.invariant.total_in;
   y_in = next_in g.met.A.SymLeaf.leaf_laws (take (length c.args.xs.now - 1) (drop 1 c.args.xs.now)) c.loop-x.x-index c.loop-x-test.true c.x-item.is c.loop-x.invariant;
 }
@@ -37,6 +37,6 @@ returns-clause-made g c =
 
 pub returns-clause-simplifies : goal.returns-clause-simplifies
 returns-clause-simplifies g c =
-    IsSumOfAll-simplifies g.A.F.Field.ring g.A.F.PartialEq.eq g.met.A.F.Field.eq_is g.A.SymLeaf.reads g.A.SymLeaf.grows g.A.SymLeaf.no_under g.met.A.SymLeaf.leaf_laws c.args.self.now c.loop-x.self c.requires.pool c.loop-x.invariant.grown
+    IsSumOfAll-simplifies g.A.F.Field.ring g.A.F.PartialEq.eq g.met.A.F.Field.eq_is g.A.SymLeaf.reads g.A.SymLeaf.grows g.A.SymLeaf.no_under g.met.A.SymLeaf.leaf_laws c.args.self.now c.loop-x.self c.nodes_fit.ensures c.loop-x.invariant.grown
     c.args.xs.now c.requires.all_in c.loop-x.total
     (returns-clause-made g c)
