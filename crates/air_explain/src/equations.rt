@@ -1,7 +1,6 @@
 //! Expressions and their values, as equations.
 ghost use Rattle.std.specs.Prelude.{◌≡◌, ◌<◌, ◌++◌, length, map, slice_index_or, All, OnOk, codes, string_bytes, if◌then◌else◌};
-ghost use Rattle.air_symbolic.specs.BaseLeaves.{base_reads};
-ghost use Rattle.air_symbolic.specs.Pools.{IsPool, size};
+ghost use Rattle.air_symbolic.specs.Pools.{size};
 ghost use Rattle.air_infix.specs.Lines.{lines_text};
 ghost use Rattle.air_explain.specs.Equations.{equation, equation_lines};
 
@@ -20,7 +19,6 @@ pub(crate) fn push_equation<F: PrimeField64>(
     values: &[F],
     id: ExprId<BaseLeaf<F>>,
 ) -> Result<(), AllocError>
-    requires pool { IsPool base_reads pool.now }
     requires here { id < size pool.now }
     requires places { length values.now ≡ size pool.now }
     ensures { OnOk result (string_bytes text.new ≡ string_bytes text.old ++
@@ -52,7 +50,6 @@ pub(crate) fn push_equations<F: PrimeField64>(
     values: &[F],
     ids: &[ExprId<BaseLeaf<F>>],
 ) -> Result<(), AllocError>
-    requires pool { IsPool base_reads pool.now }
     requires here { All (λ i. i < size pool.now) ids.now }
     requires places { length values.now ≡ size pool.now }
     ensures { OnOk result (string_bytes text.new ≡ string_bytes text.old ++ lines_text

@@ -1,7 +1,6 @@
 //! The lines that explain an expression, and those of the names that stand in them.
 ghost use Rattle.std.specs.Prelude.{◌≡◌, ◌<◌, ◌++◌, [], length, slice_index_or, All, OnOk, codes, string_bytes, if◌then◌else◌};
-ghost use Rattle.air_symbolic.specs.BaseLeaves.{base_reads};
-ghost use Rattle.air_symbolic.specs.Pools.{IsPool, size};
+ghost use Rattle.air_symbolic.specs.Pools.{size};
 ghost use Rattle.air_infix.specs.Lines.{lines_text, definition_line};
 ghost use Rattle.air_infix.specs.Names.{is_reached};
 ghost use Rattle.air_explain.specs.Explained.{explained_lines, reached_definitions};
@@ -35,7 +34,6 @@ fn push_name<F: PrimeField64>(
     name: usize,
     id: ExprId<BaseLeaf<F>>,
 ) -> Result<(), AllocError>
-    requires pool { IsPool base_reads pool.now }
     requires here { id < size pool.now }
     ensures { OnOk result (string_bytes text.new ≡ string_bytes text.old ++
         (if is_reached marks.now id
@@ -57,7 +55,6 @@ pub fn push_reached_definitions<F: PrimeField64>(
     names: &Names<BaseLeaf<F>>,
     marks: &[Option<ExprId<BaseLeaf<F>>>],
 ) -> Result<(), AllocError>
-    requires pool { IsPool base_reads pool.now }
     requires here { All (λ x. x < size pool.now) names.now.0 }
     ensures { OnOk result (string_bytes text.new ≡ string_bytes text.old ++ lines_text
         (reached_definitions F.residues pool.now names.now marks.now)) }
@@ -79,7 +76,6 @@ pub fn push_explained<F: PrimeField64>(
     root: ExprId<BaseLeaf<F>>,
     reads: &[ExprId<BaseLeaf<F>>],
 ) -> Result<(), AllocError>
-    requires pool { IsPool base_reads pool.now }
     requires here { root < size pool.now }
     requires reads { All (λ i. i < size pool.now) reads.now }
     requires places { length values.now ≡ size pool.now }

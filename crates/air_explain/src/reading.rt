@@ -1,7 +1,6 @@
 //! Which columns and public values an expression names.
 ghost use Rattle.std.specs.Prelude.{◌≡◌, ◌<◌, ◌++◌, ◌∷◌, [], length, IfOk, OnOk, if◌then◌else◌};
-ghost use Rattle.air_symbolic.specs.BaseLeaves.{base_reads};
-ghost use Rattle.air_symbolic.specs.Pools.{IsPool, size};
+ghost use Rattle.air_symbolic.specs.Pools.{size};
 ghost use Rattle.air_explain.specs.Values.{AreClosed};
 ghost use Rattle.air_explain.specs.Reading.{is_variable, is_read, read_below, Reads};
 
@@ -26,7 +25,6 @@ fn push_read<F: Field>(
     marks: &[Option<ExprId<BaseLeaf<F>>>],
     number: usize,
 ) -> Result<(), AllocError>
-    requires pool { IsPool base_reads pool.now }
     requires marks { AreClosed pool.now.nodes marks.now }
     requires here { number < length marks.now }
     ensures { OnOk result (numbers.new.items ≡ numbers.old.items
@@ -46,7 +44,6 @@ fn marked_reads<F: Field>(
     pool: &ExprPool<BaseLeaf<F>>,
     marks: &[Option<ExprId<BaseLeaf<F>>>],
 ) -> Result<Vec<ExprId<BaseLeaf<F>>>, AllocError>
-    requires pool { IsPool base_reads pool.now }
     requires marks { AreClosed pool.now.nodes marks.now }
     ensures { IfOk result (λ numbers. numbers.items ≡
         read_below pool.now.nodes marks.now (size pool.now)) }
@@ -65,7 +62,6 @@ pub fn reads<F: Field>(
     pool: &ExprPool<BaseLeaf<F>>,
     root: ExprId<BaseLeaf<F>>,
 ) -> Result<Vec<ExprId<BaseLeaf<F>>>, AllocError>
-    requires pool { IsPool base_reads pool.now }
     requires here { root < size pool.now }
     ensures { IfOk result (λ numbers. Reads pool.now.nodes root numbers.items) }
 {

@@ -1,9 +1,8 @@
 //! The values of a pool's expressions at a row.
 ghost use Rattle.std.specs.Prelude.{◌≡◌, ◌<◌, length, slice_index_or, IfOk};
 ghost use Rattle.air_field.specs.Assignment.{row_assignment};
-ghost use Rattle.air_symbolic.specs.BaseLeaves.{base_reads};
 ghost use Rattle.air_symbolic.specs.Nodes.{OperandsBelow};
-ghost use Rattle.air_symbolic.specs.Pools.{IsPool, size};
+ghost use Rattle.air_symbolic.specs.Pools.{size};
 ghost use Rattle.air_symbolic.specs.Reach.{Marked};
 ghost use Rattle.air_explain.specs.Rows.{trace_of};
 ghost use Rattle.air_explain.specs.Values.{value_at, node_value, Known, AreClosed};
@@ -51,7 +50,6 @@ fn marked_value<F: Field>(
     row: usize,
     number: usize,
 ) -> F
-    requires pool { IsPool base_reads pool.now }
     requires marks { AreClosed pool.now.nodes marks.now }
     requires row { row < length trace.now.main.now.rows }
     requires here { number < length marks.now }
@@ -76,7 +74,6 @@ pub fn values_at<F: Field>(
     trace: &TraceRows<'_, F>,
     row: usize,
 ) -> Result<Vec<F>, AllocError>
-    requires pool { IsPool base_reads pool.now }
     requires marks { AreClosed pool.now.nodes marks.now }
     requires row { row < length trace.now.main.now.rows }
     ensures places { IfOk result (λ values. length values.items ≡ size pool.now) }

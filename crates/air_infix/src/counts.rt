@@ -2,7 +2,7 @@
 ghost use Rattle.std.specs.Prelude.{◌≡◌, ℕ, ◌+◌, ◌<◌, ◌==◌, length, All, IfOk};
 ghost use Rattle.std.specs.List.{count_by};
 ghost use Rattle.air_symbolic.specs.Nodes.{OperandsBelow};
-ghost use Rattle.air_symbolic.specs.Pools.{IsPool, size};
+ghost use Rattle.air_symbolic.specs.Pools.{FitsBase, size};
 ghost use Rattle.air_infix.specs.Names.{one_if_is, operand_places, total_below, places_at, count_of_places};
 ghost use Rattle.air_infix.specs.Counts.{places_for, AreCounted, AreMarks};
 
@@ -79,7 +79,7 @@ fn count_node<A: SymLeaf>(
     marks: &[Option<ExprId<A>>],
     number: usize,
 )
-    requires pool { IsPool A.reads pool.now }
+    requires owed { FitsBase A.reads pool.now }
     requires places { length counts.old ≡ size pool.now }
     requires marks { AreMarks (size pool.now) marks.now }
     requires here { number < length marks.now }
@@ -93,7 +93,7 @@ fn count_node<A: SymLeaf>(
 
 // Counts the operands of the nodes that are reached.
 fn count_reached<A: SymLeaf>(counts: &mut [Places], pool: &ExprPool<A>, marks: &[Option<ExprId<A>>])
-    requires pool { IsPool A.reads pool.now }
+    requires owed { FitsBase A.reads pool.now }
     requires places { length counts.old ≡ size pool.now }
     requires marks { AreMarks (size pool.now) marks.now }
     ensures { (f : ℕ → ℕ) → AreCounted f counts.old → AreCounted
@@ -112,7 +112,7 @@ fn count_all<A: SymLeaf>(
     roots: &[ExprId<A>],
     marks: &[Option<ExprId<A>>],
 )
-    requires pool { IsPool A.reads pool.now }
+    requires owed { FitsBase A.reads pool.now }
     requires here { All (λ x. x < size pool.now) roots.now }
     requires places { length counts.old ≡ size pool.now }
     requires marks { AreMarks (size pool.now) marks.now }
@@ -130,7 +130,7 @@ pub fn count_places<A: SymLeaf>(
     roots: &[ExprId<A>],
     marks: &[Option<ExprId<A>>],
 ) -> Result<Vec<Places>, AllocError>
-    requires pool { IsPool A.reads pool.now }
+    requires owed { FitsBase A.reads pool.now }
     requires here { All (λ x. x < size pool.now) roots.now }
     requires marks { AreMarks (size pool.now) marks.now }
     ensures places { IfOk result (λ counts. length counts.items ≡ size pool.now) }

@@ -1,7 +1,6 @@
 //! Expressions in infix notation.
 ghost use Rattle.std.specs.Prelude.{◌≡◌, ◌+◌, ◌<◌, ◌++◌, slice_index_or, None, All, OnOk, string_bytes};
-ghost use Rattle.air_symbolic.specs.BaseLeaves.{base_reads};
-ghost use Rattle.air_symbolic.specs.Pools.{IsPool, size};
+ghost use Rattle.air_symbolic.specs.Pools.{size};
 ghost use Rattle.air_infix.specs.Infix.{shown, shown_at, infix_text};
 ghost use Rattle.air_infix.specs.Pieces.{piece_text, rest_text, IsPieceBelow, piece_size, rest_size};
 
@@ -20,7 +19,6 @@ fn write_piece<F: PrimeField64>(
     names: &Names<BaseLeaf<F>>,
     piece: Piece<F>,
 ) -> Result<(), AllocError>
-    requires pool { IsPool base_reads pool.now }
     requires here { IsPieceBelow (size pool.now) piece }
     ensures text { let f = shown (λ i. slice_index_or names.now.1 i None) pool.now.nodes in
         OnOk result (string_bytes text.new ++ rest_text F.residues f rest.new.items ≡
@@ -50,7 +48,6 @@ fn write_rest<F: PrimeField64>(
     pool: &ExprPool<BaseLeaf<F>>,
     names: &Names<BaseLeaf<F>>,
 ) -> Result<(), AllocError>
-    requires pool { IsPool base_reads pool.now }
     requires here { All (IsPieceBelow (size pool.now)) rest.items }
     ensures { let f = shown (λ i. slice_index_or names.now.1 i None) pool.now.nodes in
         OnOk result (string_bytes text.new ≡
@@ -70,7 +67,6 @@ pub fn push_infix<F: PrimeField64>(
     names: &Names<BaseLeaf<F>>,
     id: ExprId<BaseLeaf<F>>,
 ) -> Result<(), AllocError>
-    requires pool { IsPool base_reads pool.now }
     requires here { id < size pool.now }
     ensures { OnOk result (string_bytes text.new ≡ string_bytes text.old ++
         infix_text F.residues Binding.Loose
@@ -89,7 +85,6 @@ pub fn push_definition<F: PrimeField64>(
     names: &Names<BaseLeaf<F>>,
     id: ExprId<BaseLeaf<F>>,
 ) -> Result<(), AllocError>
-    requires pool { IsPool base_reads pool.now }
     requires here { id < size pool.now }
     ensures { OnOk result (string_bytes text.new ≡ string_bytes text.old ++
         infix_text F.residues Binding.Loose

@@ -1,7 +1,6 @@
 //! The lines that show the constraints of a pool.
 ghost use Rattle.std.specs.Prelude.{◌≡◌, ◌<◌, ◌++◌, All, IfOk, OnOk, string_bytes};
-ghost use Rattle.air_symbolic.specs.BaseLeaves.{base_reads};
-ghost use Rattle.air_symbolic.specs.Pools.{IsPool, size};
+ghost use Rattle.air_symbolic.specs.Pools.{size};
 ghost use Rattle.air_infix.specs.Lines.{lines_text, numbered, definition_line, constraint_line, ShowsRoots};
 
 use crate::infix::{push_definition, push_infix};
@@ -17,7 +16,6 @@ pub fn push_definitions<F: PrimeField64>(
     pool: &ExprPool<BaseLeaf<F>>,
     names: &Names<BaseLeaf<F>>,
 ) -> Result<(), AllocError>
-    requires pool { IsPool base_reads pool.now }
     requires here { All (λ x. x < size pool.now) names.now.0 }
     ensures { OnOk result (string_bytes text.new ≡ string_bytes text.old
         ++ lines_text (numbered (definition_line F.residues pool.now names.now.1) names.now.0)) }
@@ -38,7 +36,6 @@ fn push_constraints<F: PrimeField64>(
     names: &Names<BaseLeaf<F>>,
     roots: &[ExprId<BaseLeaf<F>>],
 ) -> Result<(), AllocError>
-    requires pool { IsPool base_reads pool.now }
     requires here { All (λ x. x < size pool.now) roots.now }
     ensures { OnOk result (string_bytes text.new ≡ string_bytes text.old
         ++ lines_text (numbered (constraint_line F.residues pool.now names.now.1) roots.now)) }
@@ -59,7 +56,6 @@ pub fn show<F: PrimeField64>(
     pool: &ExprPool<BaseLeaf<F>>,
     roots: &[ExprId<BaseLeaf<F>>],
 ) -> Result<String, AllocError>
-    requires pool { IsPool base_reads pool.now }
     requires here { All (λ x. x < size pool.now) roots.now }
     ensures { IfOk result (λ text. ShowsRoots F.residues pool.now roots.now (string_bytes text)) }
 {

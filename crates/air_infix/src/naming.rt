@@ -1,7 +1,7 @@
 //! Who gets a name.
 ghost use Rattle.std.specs.Prelude.{◌≡◌, ℕ, ◌<◌, length, slice_index_or, [], ◌∷◌, ◌++◌, Some, None, option_map, All, IfOk, OnOk, if◌then◌else◌};
 ghost use Rattle.std.specs.Option.{option_to_list};
-ghost use Rattle.air_symbolic.specs.Pools.{IsPool, size};
+ghost use Rattle.air_symbolic.specs.Pools.{FitsBase, size};
 ghost use Rattle.air_infix.specs.Names.{AreNames, passing_below, name_by, is_operation};
 ghost use Rattle.air_infix.specs.Counts.{passes, AreMarks};
 
@@ -27,7 +27,7 @@ fn named_at<A: SymLeaf>(
     counts: &[Places],
     number: usize,
 ) -> Option<ExprId<A>>
-    requires pool { IsPool A.reads pool.now }
+    requires owed { FitsBase A.reads pool.now }
     requires marks { AreMarks (size pool.now) marks.now }
     requires places { length counts.now ≡ size pool.now }
     requires here { number < length marks.now }
@@ -71,7 +71,7 @@ fn give_names<A: SymLeaf>(
     marks: &[Option<ExprId<A>>],
     counts: &[Places],
 ) -> Result<Names<A>, AllocError>
-    requires pool { IsPool A.reads pool.now }
+    requires owed { FitsBase A.reads pool.now }
     requires marks { AreMarks (size pool.now) marks.now }
     requires places { length counts.now ≡ size pool.now }
     ensures named { IfOk result (λ n. n.0 ≡
@@ -92,7 +92,7 @@ impl<A: SymLeaf> Names<A> {
     /// The names where these roots are shown: a node that they reach and that isn't a leaf has one, if two places or more
     /// name it, among the operands of what they reach and the roots. It is refused for want of memory alone.
     pub fn of(alloc: Global, pool: &ExprPool<A>, roots: &[ExprId<A>]) -> Result<Self, AllocError>
-        requires pool { IsPool A.reads pool.now }
+        requires owed { FitsBase A.reads pool.now }
         requires here { All (λ x. x < size pool.now) roots.now }
         ensures { IfOk result
             (AreNames (A.reads pool.now.base) pool.now.nodes roots.now) }

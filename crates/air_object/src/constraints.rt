@@ -2,7 +2,7 @@
 ghost use Rattle.std.specs.Prelude.{[], Ok, Err};
 ghost use Rattle.serde_json.specs.View.{view, items_view};
 ghost use Rattle.air_symbolic.specs.BaseLeaves.{base_reads, base_grows};
-ghost use Rattle.air_symbolic.specs.Pools.{IsPool, tree_at};
+ghost use Rattle.air_symbolic.specs.Pools.{tree_at};
 ghost use Rattle.air_wire.specs.ReadCalls.{ReadsTree, ReadsAll};
 ghost use Rattle.air_wire.specs.Results.{Gives};
 ghost use Rattle.air_wire.specs.declared.errors.FlatError.TheVariants.{Shape};
@@ -38,7 +38,6 @@ pub(crate) fn root_from<F: PrimeField64>(
     pool: &mut BasePool<F>,
     value: &Value,
 ) -> Root<F>
-    requires { IsPool base_reads pool.old }
     ensures { ReadsTree base_grows base_reads tree_at pool.old pool.new result
         (tree F.residues (view value.now)) }
 {
@@ -50,7 +49,6 @@ fn roots_of<F: PrimeField64>(
     pool: &mut BasePool<F>,
     items: &[Value],
 ) -> Result<Roots<F>, FlatError>
-    requires { IsPool base_reads pool.old }
     ensures { ReadsAll base_grows base_reads tree_at (λ v. v.items) pool.old pool.new result
         (each_from (tree F.residues) [] (items_view items.now)) }
 {
@@ -69,7 +67,6 @@ pub fn roots_from<F: PrimeField64>(
     pool: &mut BasePool<F>,
     value: &Value,
 ) -> Result<Roots<F>, FlatError>
-    requires { IsPool base_reads pool.old }
     ensures { ReadsAll base_grows base_reads tree_at (λ v. v.items) pool.old pool.new result
         (trees F.residues (view value.now)) }
 {

@@ -2,7 +2,6 @@
 ghost use Rattle.std.specs.Prelude.{◌≡◌, ◌≢◌, ◌<◌, length, All, IfOk, IfErr, option_map};
 ghost use Rattle.serde_json.specs.Data.{Data};
 ghost use Rattle.serde_json.specs.View.{view};
-ghost use Rattle.air_symbolic.specs.BaseLeaves.{base_reads};
 ghost use Rattle.air_symbolic.specs.Pools.{IsPool, size};
 ghost use Rattle.air_object.specs.Input.{table_of, SpellsInput, HasInputFault};
 ghost use Rattle.air_object.specs.Parts.{InPool, ArePartsOf};
@@ -60,7 +59,6 @@ pub fn input_from<F: PrimeField64>(
     constraints: Constraints<F>,
 ) -> Result<FlatInput<F>, AirError>
     requires { InPool constraints }
-    ensures pool { IfOk result (λ input. IsPool base_reads input.pool) }
     ensures roots { IfOk result (λ input. All (λ i. i < size input.pool) input.roots.items) }
     ensures read { IfOk result (λ input. (d : Data)
         → ArePartsOf F.residues d (view value.now) main constraints → SpellsInput F.residues d input) }
@@ -94,7 +92,6 @@ pub fn flat_input_from<F: PrimeField64>(
     alloc: Global,
     value: &Value,
 ) -> Result<FlatInput<F>, AirError>
-    ensures pool { IfOk result (λ input. IsPool base_reads input.pool) }
     ensures roots { IfOk result (λ input. All (λ i. i < size input.pool) input.roots.items) }
     ensures read { IfOk result (SpellsInput F.residues (view value.now)) }
     ensures refused { IfErr result (λ e. e ≢ AirError.Memory

@@ -2,7 +2,6 @@
 ghost use Rattle.std.specs.Prelude.{◌≡◌, ◌<◌, map, All, IfOk, option_map, ok_or};
 ghost use Rattle.serde_json.specs.Find.{get};
 ghost use Rattle.serde_json.specs.View.{view};
-ghost use Rattle.air_symbolic.specs.BaseLeaves.{base_reads};
 ghost use Rattle.air_symbolic.specs.Pools.{IsPool, size};
 ghost use Rattle.air_wire.specs.Results.{Gives};
 ghost use Rattle.air_wire.specs.declared.errors.FlatError.TheVariants.{Shape};
@@ -141,7 +140,6 @@ pub fn members_from<F: PrimeField64>(
     constraints: Constraints<F>,
 ) -> Result<Members<F>, FlatError>
     requires { InPool constraints }
-    ensures pool { IfOk result (λ m. IsPool base_reads m.pool) }
     ensures roots { IfOk result (λ m. All (λ i. i < size m.pool) m.roots.items) }
     ensures read { Gives seen_members result (members_with F.residues (given_elements main)
         (given_by constraints) (view value.now)) }

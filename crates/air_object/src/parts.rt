@@ -5,7 +5,7 @@ ghost use Rattle.serde_json.specs.Data.{Data, array, Items, Members};
 ghost use Rattle.serde_json.specs.Read.{read};
 ghost use Rattle.serde_json.specs.View.{view, members_view};
 ghost use Rattle.air_symbolic.specs.BaseLeaves.{base_reads, base_grows};
-ghost use Rattle.air_symbolic.specs.Pools.{IsPool, tree_at};
+ghost use Rattle.air_symbolic.specs.Pools.{tree_at};
 ghost use Rattle.air_wire.specs.BaseLeaves.{element_at};
 ghost use Rattle.air_wire.specs.ReadCalls.{ReadsTree};
 ghost use Rattle.air_object.specs.Begun.{value_at, items_at, members_at};
@@ -97,7 +97,6 @@ fn read_nodes<F: PrimeField64>(
     depth: usize,
     pool: &mut BasePool<F>,
 ) -> Result<Root<F>, TextFault>
-    requires { IsPool base_reads pool.old }
     ensures ok { IfOk result (λ root. (ds : Items)
         × (items_at depth reader.old ≡ Some (ds, reader.new))
         × ReadsTree base_grows base_reads tree_at pool.old pool.new root (tree F.residues (array ds))) }
@@ -119,7 +118,6 @@ fn read_root<F: PrimeField64>(
     depth: usize,
     pool: &mut BasePool<F>,
 ) -> Result<Root<F>, TextFault>
-    requires { IsPool base_reads pool.old }
     ensures ok { IfOk result (λ root. (d : Data)
         × (value_at depth reader.old ≡ Some (d, reader.new))
         × ReadsTree base_grows base_reads tree_at pool.old pool.new root (tree F.residues d)) }

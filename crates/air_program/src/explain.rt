@@ -2,8 +2,8 @@
 
 ghost use Rattle.std.specs.Prelude.{◌≡◌, ◌<◌, ◌≤◌, ◌-◌, ◌⊎◌, ◌++◌, ◌∷◌, [], length, map, All, IfOk, IfErr, IfSome, OnOk, slice_get, string_bytes};
 ghost use Rattle.air_field.specs.Assignment.{row_assignment};
-ghost use Rattle.air_symbolic.specs.BaseLeaves.{base_leaves, base_reads};
-ghost use Rattle.air_symbolic.specs.Pools.{IsPool, size};
+ghost use Rattle.air_symbolic.specs.BaseLeaves.{base_leaves};
+ghost use Rattle.air_symbolic.specs.Pools.{size};
 ghost use Rattle.air_symbolic.specs.Reach.{Marked};
 ghost use Rattle.air_infix.specs.Names.{AreNames};
 ghost use Rattle.air_explain.specs.Rows.{trace_of};
@@ -49,7 +49,6 @@ fn at_row<F: PrimeField64>(
     at_hand: Option<RowValues<F>>,
     row: usize,
 ) -> Result<RowValues<F>, AllocError>
-    requires pool { IsPool base_reads pool.now }
     requires marks { AreClosed pool.now.nodes marks.now }
     requires row { row < length trace.now.main.now.rows }
     requires known { IfSome at_hand
@@ -230,7 +229,6 @@ fn explain_input<F: PrimeField64 + 'static>(
     alloc: Global,
     input: FlatInput<F>,
 ) -> Result<(u8, String), Refusal>
-    requires pool { IsPool base_reads input.pool }
     requires roots { All (λ i. i < size input.pool) input.roots.items }
     ensures ok { IfOk result (λ p. TellsExplained F.residues input p.0 (string_bytes p.1)) }
     ensures refused { IfErr result (λ why. (why ≡ Refusal.Memory) ⊎ ((e : AirError)

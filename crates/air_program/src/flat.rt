@@ -1,8 +1,7 @@
 //! What an audit finds of a JSON object: an AIR whose constraints are lists of nodes, and a trace of it.
 
 ghost use Rattle.std.specs.Prelude.{◌≡◌, ◌<◌, All, None, IfOk, IfErr};
-ghost use Rattle.air_symbolic.specs.BaseLeaves.{base_reads};
-ghost use Rattle.air_symbolic.specs.Pools.{IsPool, size};
+ghost use Rattle.air_symbolic.specs.Pools.{size};
 ghost use Rattle.air_program.specs.Answer.{AuditFinds};
 ghost use Rattle.air_program.specs.FlatAnswer.{flat_instance, AuditRefusesInput, AuditedIn};
 ghost use Rattle.air_object.specs.Parts.{InPool};
@@ -41,7 +40,6 @@ fn audit_input<F: PrimeField64 + 'static>(
     alloc: Global,
     input: FlatInput<F>,
 ) -> Result<Findings, AirError>
-    requires pool { IsPool base_reads input.pool }
     requires roots { All (λ i. i < size input.pool) input.roots.items }
     ensures found { IfOk result (λ findings. AuditFinds F.residues (flat_instance input) input.cap
         input.transition_weight (found findings)) }

@@ -2,8 +2,7 @@
 
 ghost use Rattle.std.specs.Prelude.{◌≡◌, ◌<◌, All, IfOk, IfErr, string_bytes};
 ghost use Rattle.serde_json.specs.Data.{Data};
-ghost use Rattle.air_symbolic.specs.BaseLeaves.{base_reads};
-ghost use Rattle.air_symbolic.specs.Pools.{IsPool, size};
+ghost use Rattle.air_symbolic.specs.Pools.{size};
 ghost use Rattle.air_infix.specs.Lines.{ShowsRoots};
 ghost use Rattle.air_object.specs.Parts.{InPool, AreGiven};
 ghost use Rattle.air_object.specs.Readers.{constraints_member};
@@ -24,7 +23,6 @@ fn show_roots<F: PrimeField64>(
     pool: &BasePool<F>,
     roots: &[BaseId<F>],
 ) -> Result<(u8, String), Refusal>
-    requires pool { IsPool base_reads pool.now }
     requires here { All (λ i. i < size pool.now) roots.now }
     ensures status { IfOk result (λ p. p.0 ≡ 0) }
     ensures shows { IfOk result (λ p. ShowsRoots F.residues pool.now roots.now (string_bytes p.1)) }

@@ -2,7 +2,7 @@
 ghost use Rattle.std.specs.Prelude.{◌≡◌, ◌<◌, length, map, IfOk, IfErr, ok_or, codes};
 ghost use Rattle.serde_json.specs.Data.{array};
 ghost use Rattle.serde_json.specs.View.{view, items_view};
-ghost use Rattle.air_symbolic.specs.Pools.{IsPool, Grown, tree_at};
+ghost use Rattle.air_symbolic.specs.Pools.{Grown, tree_at};
 ghost use Rattle.air_symbolic.specs.BaseLeaves.{base_reads, base_grows};
 ghost use Rattle.air_symbolic.specs.ExtLeaves.{ext_valid};
 ghost use Rattle.air_symbolic.specs.ExtTrees.{whole_leaf};
@@ -119,10 +119,10 @@ fn base_from<F: PrimeField64>(
     under: &mut ExprPool<BaseLeaf<F>>,
     contents: &Value,
 ) -> Result<ExprId<BaseLeaf<F>>, FlatError>
-    requires { IsPool base_reads under.old }
     ensures { ReadsTree base_grows base_reads tree_at under.old under.new result
         (moved at (root_of (base_kind F.residues) (view contents.now))) }
 {
+    under.nodes_fit();
     match list_from(alloc, under, contents) {
         Ok(id) => Ok(id),
         Err(fault) => Err(at_place(at, fault)),
@@ -136,12 +136,12 @@ fn ext_leaf_from<F: PrimeField64, EF: ExtensionField<F>>(
     under: &mut ExprPool<BaseLeaf<F>>,
     value: &Value,
 ) -> Result<ExtLeaf<F, EF>, FlatError>
-    requires { IsPool base_reads under.old }
     ensures grown { Grown base_grows base_reads under.old under.new }
     ensures valid { IfOk result (λ a. ext_valid under.new a) }
     ensures read { Gives (λ a. whole_leaf under.new a) result
         (ext_leaf_at F.residues EF.over EF.DIMENSION at (view value.now)) }
 {
+    under.nodes_fit();
     let shape = FlatError::Shape { at };
     let (name, contents) = only_member(value).ok_or(shape)?;
     if name == "Base" {
@@ -194,7 +194,6 @@ fn ext_leaf_value<F: PrimeField64, EF: ExtensionField<F>>(
     under: &ExprPool<BaseLeaf<F>>,
     leaf: &ExtLeaf<F, EF>,
 ) -> Result<Value, FlatError>
-    requires pool { IsPool base_reads under.now }
     requires valid { ext_valid under.now leaf.now }
     ensures written { IfOk result (λ v. WritesWhole F.residues EF.basis (view v)
         (whole_leaf under.now leaf.now)) }

@@ -2,7 +2,7 @@
 ghost use Rattle.std.specs.Prelude.{◌≡◌, ◌≢◌, ◌<◌, ◌∷◌, ◌++◌, [], List, map, All, Ok, IfOk, IfErr};
 ghost use Rattle.serde_json.specs.Data.{Data, array};
 ghost use Rattle.serde_json.specs.View.{view, items_of};
-ghost use Rattle.air_symbolic.specs.Pools.{Pool, IsPool, Grown, size};
+ghost use Rattle.air_symbolic.specs.Pools.{Pool, IsPool, FitsBase, Grown, size};
 ghost use Rattle.air_wire.specs.ListReaders.{numbers_or, last_number, HasRead};
 ghost use Rattle.air_wire.specs.ReadCalls.{AreOf, ReadsTree, ReadsAll};
 ghost use Rattle.air_wire.specs.Unshared.{seen_at};
@@ -105,12 +105,13 @@ impl<A: WireLeaf> ListReader<A> {
 
     /// Reads the list's next node, which is inserted unfolded; behind a fault no further node is read.
     pub fn read_node(&mut self, alloc: Global, pool: &mut ExprPool<A>, value: &Value)
-        requires pool { IsPool A.reads pool.old }
+        requires owed { FitsBase A.reads pool.old }
         requires here { IfOk self.old (λ ids. All (λ i. i < size pool.old) ids) }
         ensures grown { Grown A.grows A.reads pool.old pool.new }
         ensures read { (ds : List Data) → HasRead A.kind (seen_at A.seen) pool.old ds self.old
             → HasRead A.kind (seen_at A.seen) pool.new (ds ++ view value.now ∷ []) self.new }
     {
+        pool.nodes_fit();
         self.fault = fault_after(alloc, pool, &mut self.ids, self.fault, value);
     }
 
@@ -164,11 +165,12 @@ pub fn from_flat_value<A: WireLeaf>(
     pool: &mut ExprPool<A>,
     value: &Value,
 ) -> Result<ExprId<A>, FlatError>
-    requires { IsPool A.reads pool.old }
+    requires { FitsBase A.reads pool.old }
     ensures grown { Grown A.grows A.reads pool.old pool.new }
     ensures here { IfOk result (λ i. i < size pool.new) }
     ensures root { IfOk result (λ i. IsList A.kind (view value.now) (seen_at A.seen pool.new i)) }
     ensures fault { IfErr result (λ e. e ≢ FlatError.Memory → HasFault A.kind (view value.now) e) }
 {
+    pool.nodes_fit();
     list_from(alloc, pool, value)
 }

@@ -1,7 +1,7 @@
 //! Lists of nodes that are written.
 ghost use Rattle.std.specs.Prelude.{◌≡◌, ◌<◌, ◌+◌, [], ◌∷◌, ◌++◌, true, false, map, replicate, IfOk, IfErr};
 ghost use Rattle.serde_json.specs.View.{view};
-ghost use Rattle.air_symbolic.specs.Pools.{IsPool, size};
+ghost use Rattle.air_symbolic.specs.Pools.{IsPool, FitsBase, size};
 ghost use Rattle.air_symbolic.specs.Trees.{leaf_tree};
 ghost use Rattle.air_wire.specs.Unshared.{seen_at};
 ghost use Rattle.air_wire.specs.Written.{AreNodesOf, IsWritten};
@@ -154,11 +154,12 @@ pub fn to_flat_value<A: WireLeaf>(
     pool: &ExprPool<A>,
     id: ExprId<A>,
 ) -> Result<Value, FlatError>
-    requires pool { IsPool A.reads pool.now }
+    requires owed { FitsBase A.reads pool.now }
     requires here { id < size pool.now }
     ensures written { IfOk result (λ v. IsWritten A.kind (view v) (seen_at A.seen pool.now id)) }
     ensures refused { IfErr result (λ e. e ≡ FlatError.Memory) }
 {
+    pool.nodes_fit();
     let items = items_of(alloc, pool, id)?;
     Ok(Value::from(items))
 }

@@ -1,5 +1,5 @@
 //! The texts of recorded expressions.
-ghost use Rattle.air_symbolic.specs.Pools.{IsPool};
+ghost use Rattle.air_symbolic.specs.Pools.{FitsBase};
 
 use air_field::{ExtensionField, Field};
 use air_symbolic::{BaseLeaf, ExprId, ExprPool, ExtLeaf, SymLeaf, SymbolicExpr};
@@ -30,7 +30,6 @@ pub fn show_tree<F: Number>(
     depth: usize,
     text: &mut String,
 ) -> Result<(), Fault>
-    requires { IsPool ⟦<BaseLeaf<F> as SymLeaf>⟧.reads pool.now }
 {
     if depth == 0 || !pool.contains(id) {
         text.push_str("?")?;
@@ -68,7 +67,7 @@ fn value_of<F: Field, EF: ExtensionField<F>>(
     id: ExprId<ExtLeaf<F, EF>>,
     depth: usize,
 ) -> Option<EF>
-    requires { IsPool ⟦<ExtLeaf<F, EF> as SymLeaf>⟧.reads pool.now }
+    requires { FitsBase ⟦<ExtLeaf<F, EF> as SymLeaf>⟧.reads pool.now }
 {
     if depth == 0 || !pool.contains(id) {
         return None;
@@ -95,7 +94,7 @@ pub fn show_value<F: Number, EF: ExtensionField<F>>(
     id: ExprId<ExtLeaf<F, EF>>,
     text: &mut String,
 ) -> Result<(), Fault>
-    requires { IsPool ⟦<ExtLeaf<F, EF> as SymLeaf>⟧.reads pool.now }
+    requires { FitsBase ⟦<ExtLeaf<F, EF> as SymLeaf>⟧.reads pool.now }
 {
     match value_of(pool, id, 9) {
         Some(value) => show_elements(value.as_basis_coefficients_slice(), text),

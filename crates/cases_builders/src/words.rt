@@ -1,7 +1,5 @@
 //! Sums and xors of words: recorded over columns of the main trace, made an AIR, and checked on a trace of one row.
 ghost use Rattle.std.specs.Prelude.{ℕ, ◌≤◌, All, IfOk, OnOk};
-ghost use Rattle.air_symbolic.specs.BaseLeaves.{base_reads};
-ghost use Rattle.air_symbolic.specs.Pools.{IsPool};
 
 use air_builder::{AirBuilder, AirError};
 use air_core::{BaseEntry, SymbolicVariable};
@@ -232,7 +230,6 @@ fn show_degrees_in<F: Field>(
     expressions: &[ExprId<BaseLeaf<F>>],
     text: &mut String,
 ) -> Result<(), Fault>
-    requires { IsPool base_reads pool.now }
 {
     for (place, id) in expressions.iter().enumerate() {
         if place > 0 {

@@ -1,6 +1,6 @@
 //! Expressions as texts: an expression's text is its first name, or else its node.
 ghost use Rattle.std.specs.Prelude.{◌<◌};
-ghost use Rattle.air_symbolic.specs.Pools.{IsPool};
+ghost use Rattle.air_symbolic.specs.Pools.{FitsBase};
 
 use air_symbolic::{BaseLeaf, ExprId, ExprPool, SymLeaf, SymbolicExpr};
 use cases::{Fault, Names, Why};
@@ -129,7 +129,7 @@ pub fn show_expression<A: Shown>(
     x: ExprId<A>,
     text: &mut String,
 ) -> Result<(), Fault>
-    requires { IsPool A.reads pool.now }
+    requires { FitsBase A.reads pool.now }
 {
     match name_of(names, x) {
         Some(name) => {
@@ -148,7 +148,7 @@ pub fn show_all<A: Shown>(
     base: &Names<'_, ExprId<BaseLeaf<A::F>>>,
     text: &mut String,
 ) -> Result<(), Fault>
-    requires { IsPool A.reads pool.now }
+    requires { FitsBase A.reads pool.now }
 {
     for x in names.values() {
         if !pool.contains(*x) {

@@ -1,5 +1,5 @@
 //! Recorded expressions as texts.
-ghost use Rattle.air_symbolic.specs.Pools.{IsPool};
+ghost use Rattle.air_symbolic.specs.Pools.{FitsBase};
 
 use air_core::{BaseEntry, ExtEntry};
 use air_field::{ExtensionField, Field};
@@ -130,7 +130,7 @@ fn show_expression<A: ShownLeaf>(
     inside: bool,
     text: &mut String,
 ) -> Result<(), Fault>
-    requires { IsPool A.reads pool.now }
+    requires { FitsBase A.reads pool.now }
 {
     if depth == 0 || !pool.contains(id) {
         text.push_str("..")?;
@@ -160,7 +160,7 @@ fn show_expressions<A: ShownLeaf>(
     numbers: &[ExprId<A>],
     text: &mut String,
 ) -> Result<(), Fault>
-    requires { IsPool A.reads pool.now }
+    requires { FitsBase A.reads pool.now }
 {
     for (place, number) in numbers.iter().enumerate() {
         text.push_str(if place == 0 { "" } else { "; " })?;
@@ -181,7 +181,6 @@ pub fn show_base_expression<F: Number>(
     depth: usize,
     text: &mut String,
 ) -> Result<(), Fault>
-    requires { IsPool ⟦<BaseLeaf<F> as SymLeaf>⟧.reads pool.now }
 {
     show_expression(pool, id, depth, false, text)
 }
@@ -193,7 +192,6 @@ pub fn show_base_expressions<F: Number>(
     numbers: &[ExprId<BaseLeaf<F>>],
     text: &mut String,
 ) -> Result<(), Fault>
-    requires { IsPool ⟦<BaseLeaf<F> as SymLeaf>⟧.reads pool.now }
 {
     show_expressions(pool, numbers, text)
 }
@@ -204,7 +202,7 @@ pub fn show_ext_expressions<F: Number, EF: ExtensionField<F>>(
     numbers: &[ExprId<ExtLeaf<F, EF>>],
     text: &mut String,
 ) -> Result<(), Fault>
-    requires { IsPool ⟦<ExtLeaf<F, EF> as SymLeaf>⟧.reads pool.now }
+    requires { FitsBase ⟦<ExtLeaf<F, EF> as SymLeaf>⟧.reads pool.now }
 {
     show_expressions(pool, numbers, text)
 }

@@ -1,6 +1,6 @@
 //! Recordings of an AIR, and the degrees that are inferred of them.
 ghost use Rattle.std.specs.Prelude.{◌≡◌};
-ghost use Rattle.air_symbolic.specs.Pools.{IsPool};
+ghost use Rattle.air_symbolic.specs.Pools.{IsPool, FitsBase};
 
 use crate::expressions::{show_base_expressions, show_ext_expressions};
 use air_builder::{Air, AirError};
@@ -22,7 +22,6 @@ pub fn base_pool<F: Field, EF: ExtensionField<F>>(
     recorded: &Recorded<F, EF>,
 ) -> &ExprPool<BaseLeaf<F>>
     ensures base { result.now ≡ recorded.now.pool.base }
-    ensures pool { IsPool ⟦<BaseLeaf<F> as SymLeaf>⟧.reads result.now }
 {
     recorded.pool.base()
 }
@@ -51,7 +50,7 @@ fn show_degrees<A: SymLeaf>(
     numbers: &[ExprId<A>],
     text: &mut String,
 ) -> Result<(), Fault>
-    requires { IsPool A.reads pool.now }
+    requires { FitsBase A.reads pool.now }
 {
     for (place, number) in numbers.iter().enumerate() {
         text.push_str(if place == 0 { "" } else { " " })?;
@@ -71,7 +70,7 @@ fn show_poly_degrees<A: SymLeaf>(
     periods: &[usize],
     text: &mut String,
 ) -> Result<(), Fault>
-    requires { IsPool A.reads pool.now }
+    requires { FitsBase A.reads pool.now }
 {
     for (place, number) in numbers.iter().enumerate() {
         text.push_str(if place == 0 { "" } else { " " })?;

@@ -3,7 +3,7 @@ ghost use Rattle.std.specs.Prelude.{◌≡◌, ◌<◌, ◌^◌, ◌++◌, IfOk,
 ghost use Rattle.air_field.specs.Degree.{cached_weight, greatest_degree, quotient_degree};
 ghost use Rattle.air_symbolic.specs.BaseLeaves.{base_reads};
 ghost use Rattle.air_symbolic.specs.ExtLeaves.{ext_reads};
-ghost use Rattle.air_symbolic.specs.Pools.{IsPool, size};
+ghost use Rattle.air_symbolic.specs.Pools.{FitsBase, size};
 ghost use Rattle.air_symbolic.specs.PoolRefusals.{AnswersDegree};
 ghost use Rattle.air_symbolic.specs.Weights.{leaf_weight};
 ghost use Rattle.air_recording.specs.Layouts.{LayoutSuits};
@@ -31,7 +31,7 @@ pub fn constraint_degree_from_poly_degree(poly_degree: usize, trace_len: usize) 
 
 /// The greatest cached degree of these expressions, 0 of none.
 fn greatest_cached<A: SymLeaf>(pool: &ExprPool<A>, numbers: &[ExprId<A>]) -> usize
-    requires pool { IsPool A.reads pool.now }
+    requires owed { FitsBase A.reads pool.now }
     requires here { All (λ i. i < size pool.now) numbers.now }
     ensures { result ≡ greatest_degree cached_weight (terms_of A.reads pool.now numbers.now) }
 {
@@ -48,7 +48,7 @@ pub(crate) fn greatest_recorded<F: Field, EF: ExtensionField<F>>(
     base: &[ExprId<BaseLeaf<F>>],
     ext: &[ExprId<ExtLeaf<F, EF>>],
 ) -> usize
-    requires pool { IsPool (ext_reads EF.basis) pool.now }
+    requires owed { FitsBase (ext_reads EF.basis) pool.now }
     requires base_here { All (λ i. i < size pool.now.base) base.now }
     requires ext_here { All (λ i. i < size pool.now) ext.now }
     ensures value { result ≡ greatest_degree cached_weight

@@ -1,7 +1,6 @@
 //! The symbolic builder over the extension, and with permutation data.
 ghost use Rattle.std.specs.Prelude.{◌≡◌, [], refl, IfOk, IfErr};
 ghost use Rattle.air_symbolic.specs.Pools.{on_base};
-ghost use Rattle.air_symbolic.specs.BaseLeaves.{base_reads};
 ghost use Rattle.air_symbolic.specs.laws.BasePool.{base_pool_laws};
 ghost use Rattle.air_symbolic.specs.laws.ExtPool.{ext_pool_laws, base_lent, base_grown};
 ghost use Rattle.air_recording.specs.Rows.{IsExtRowOf};

@@ -2,7 +2,7 @@
 ghost use Rattle.std.specs.Prelude.{◌≡◌, ◌<◌, [], map, All, IfOk, IfErr, OnOk};
 ghost use Rattle.air_symbolic.specs.BaseLeaves.{base_reads};
 ghost use Rattle.air_symbolic.specs.ExtLeaves.{ext_reads};
-ghost use Rattle.air_symbolic.specs.Pools.{IsPool, size};
+ghost use Rattle.air_symbolic.specs.Pools.{IsPool, FitsBase, size};
 ghost use Rattle.air_recording.specs.Layouts.{LayoutSuits};
 ghost use Rattle.air_recording.specs.Folds.{ArePlacesOf};
 ghost use Rattle.air_recording.specs.Kinds.{kind_of, RecordsKinds};
@@ -34,7 +34,7 @@ impl<F: Field, EF: ExtensionField<F>> Model for Recorded<F, EF> {
     ghost Value = { Recording F EF };
 
     ghost use Rattle.air_symbolic.specs.ExtLeaves.{ext_reads};
-    ghost use Rattle.air_symbolic.specs.Pools.{IsPool};
+    ghost use Rattle.air_symbolic.specs.Pools.{IsPool, FitsBase};
 
     ghost view = { λ r. record { pool = r.pool; base = r.base.items; ext = r.ext.items } };
 
@@ -45,7 +45,7 @@ impl<F: Field, EF: ExtensionField<F>> Model for Recorded<F, EF> {
 impl<F: Field, EF: ExtensionField<F>> SymbolicAirBuilder<F, EF> {
     /// What was recorded, handed over.
     pub fn into_recorded(self) -> Recorded<F, EF>
-        requires { IsPool (ext_reads EF.basis) self.pool }
+        requires { FitsBase (ext_reads EF.basis) self.pool }
         ensures pool { result.pool ≡ self.pool }
         ensures base { result.base ≡ self.constraints.base.items }
         ensures ext { result.ext ≡ self.constraints.ext.items }

@@ -1,6 +1,6 @@
 //! The selectors' expressions.
 ghost use Rattle.std.specs.Prelude.{◌≡◌, IfOk, IfErr};
-ghost use Rattle.air_symbolic.specs.Pools.{IsPool, PoolMeans, Grown};
+ghost use Rattle.air_symbolic.specs.Pools.{PoolMeans, Grown};
 ghost use Rattle.air_symbolic.specs.BaseLeaves.{base_reads, base_grows};
 ghost use Rattle.air_recording.specs.SymbolicParts.{SelectorsAreLeaves, SelectorsMeanLeaves};
 
@@ -20,7 +20,6 @@ pub(crate) struct Selectors<F> {
 pub(crate) fn make_selectors<F: Field>(
     pool: &mut ExprPool<BaseLeaf<F>>,
 ) -> Result<Selectors<F>, AirError>
-    requires { IsPool base_reads pool.old }
     ensures grown { Grown base_grows base_reads pool.old pool.new }
     ensures leaves { IfOk result (SelectorsAreLeaves pool.new) }
     ensures mean { IfOk result (SelectorsMeanLeaves (PoolMeans base_reads F.ring pool.new)) }

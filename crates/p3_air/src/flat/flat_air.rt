@@ -1,7 +1,7 @@
 //! The AIR that expressions of a pool are.
 ghost use Rattle.std.specs.Prelude.{◌≡◌, ◌<◌, All, Some, None, IfOk, IfErr};
-ghost use Rattle.air_symbolic.specs.BaseLeaves.{base_leaves, base_reads};
-ghost use Rattle.air_symbolic.specs.Pools.{IsPool, size};
+ghost use Rattle.air_symbolic.specs.BaseLeaves.{base_leaves};
+ghost use Rattle.air_symbolic.specs.Pools.{size};
 ghost use Rattle.air_core.specs.declared.errors.AirError.{AirError};
 ghost use Rattle.p3_air.specs.FlatAirs.{RootsIn, zero_at_roots};
 ghost use Rattle.p3_air.specs.Plans.{IsPlan};
@@ -53,7 +53,6 @@ impl<F: Field> FlatAir<F> {
         periodic: Vec<Vec<F>>,
         cells: Vec<BoundaryPublic>,
     ) -> Result<Self, AirError>
-        requires pool { IsPool base_reads pool }
         requires here { All (λ i. i < size pool) roots.items }
         ensures pool { IfOk result (λ a. a.pool ≡ pool) }
         ensures roots { IfOk result (λ a. a.roots ≡ roots) }

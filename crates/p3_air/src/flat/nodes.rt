@@ -2,7 +2,7 @@
 ghost use Rattle.std.specs.Prelude.{◌≡◌, ◌<◌, length, Some, slice_get};
 ghost use Rattle.air_symbolic.specs.BaseLeaves.{base_leaves, base_reads};
 ghost use Rattle.air_symbolic.specs.Nodes.{IsNode};
-ghost use Rattle.air_symbolic.specs.Pools.{IsPool, term_at, size};
+ghost use Rattle.air_symbolic.specs.Pools.{term_at, size};
 ghost use Rattle.air_symbolic.specs.declared.leaves.base_leaf.BaseLeaf.{BaseLeaf};
 ghost use Rattle.air_symbolic.specs.declared.pools.expr.SymbolicExpr.{SymbolicExpr};
 ghost use Rattle.air_builder.specs.Builders.{Means};
@@ -55,7 +55,6 @@ fn make_number<AB: AirBuilder>(
     id: ExprId<BaseLeaf<AB::F>>,
 ) -> Result<AB::Expr, AirError>
     requires ready { AB.ready builder.old }
-    requires pool { IsPool base_reads pool.now }
     requires here { id < size pool.now }
     requires leaf { (n : SymbolicExpr (BaseLeaf AB.F)) →
         IsNode base_leaves pool.now.nodes id n → IsLeaf n }
@@ -79,7 +78,6 @@ pub(crate) fn make_step<AB: AirBuilder>(
     table: &[AB::Expr],
 ) -> Result<AB::Expr, AirError>
     requires ready { AB.ready builder.old }
-    requires pool { IsPool base_reads pool.now }
     requires within { place < length numbers.now }
     requires here { number_at numbers.now place < size pool.now }
     requires makes { MakesPlace base_leaves pool.now.nodes numbers.now place step }

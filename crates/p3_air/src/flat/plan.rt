@@ -1,9 +1,9 @@
 //! The plan by which the expressions of roots are made: once it is there, nothing is searched.
 ghost use Rattle.std.specs.List.{AllZip};
 ghost use Rattle.std.specs.Prelude.{◌≡◌, ◌++◌, ◌∷◌, [], ◌<◌, ℕ, length, slice_index_or, All, None, Some, MatchOption, OnOk, IfOk, IfErr};
-ghost use Rattle.air_symbolic.specs.BaseLeaves.{base_leaves, base_reads};
+ghost use Rattle.air_symbolic.specs.BaseLeaves.{base_leaves};
 ghost use Rattle.air_symbolic.specs.Nodes.{IsNode};
-ghost use Rattle.air_symbolic.specs.Pools.{IsPool, size};
+ghost use Rattle.air_symbolic.specs.Pools.{size};
 ghost use Rattle.air_symbolic.specs.Reach.{EachOperand};
 ghost use Rattle.air_symbolic.specs.declared.pools.expr.SymbolicExpr.{SymbolicExpr};
 ghost use Rattle.air_symbolic.specs.declared.leaves.base_leaf.BaseLeaf.{BaseLeaf};
@@ -63,7 +63,6 @@ fn number_marked<A: SymLeaf>(
 
 // Whether an expression is a selector, which is 0 or 1 on most rows that are tested.
 fn is_selector<F: Field>(pool: &ExprPool<BaseLeaf<F>>, id: ExprId<BaseLeaf<F>>) -> bool
-    requires pool { IsPool base_reads pool.now }
     requires here { id < size pool.now }
 {
     match pool.node(id) {
@@ -81,7 +80,6 @@ fn step_of<F: Field>(
     node: SymbolicExpr<BaseLeaf<F>>,
     places: &[usize],
 ) -> Step
-    requires pool { IsPool base_reads pool.now }
     requires long { length places.now ≡ size pool.now }
     requires operands { EachOperand (λ i. i < length places.now) node }
     ensures { StepMakes base_leaves (λ p i. p ≡ slice_index_or places.now i 0) result node }
@@ -119,7 +117,6 @@ fn steps_of<F: Field>(
     numbers: &[ExprId<BaseLeaf<F>>],
     places: &[usize],
 ) -> Result<Vec<Step>, AirError>
-    requires pool { IsPool base_reads pool.now }
     requires here { All (λ i. i < size pool.now) numbers.now }
     requires long { length places.now ≡ size pool.now }
     requires before { (k : ℕ) → k < length numbers.now → (n : SymbolicExpr (BaseLeaf F)) →
@@ -160,7 +157,6 @@ pub(crate) fn plan_of<F: Field>(
     pool: &ExprPool<BaseLeaf<F>>,
     roots: &[ExprId<BaseLeaf<F>>],
 ) -> Result<Plan<F>, AirError>
-    requires pool { IsPool base_reads pool.now }
     requires here { All (λ i. i < size pool.now) roots.now }
     ensures planned { IfOk result (λ plan. IsPlan base_leaves pool.now.nodes roots.now
         plan.numbers.items plan.steps.items plan.places.items) }

@@ -1,7 +1,7 @@
 //! The expressions of a pool in any builder.
 ghost use Rattle.std.specs.Prelude.{◌<◌, map, All};
 ghost use Rattle.air_symbolic.specs.BaseLeaves.{base_reads};
-ghost use Rattle.air_symbolic.specs.Pools.{IsPool, term_at, size};
+ghost use Rattle.air_symbolic.specs.Pools.{term_at, size};
 ghost use Rattle.air_builder.specs.Builders.{Means};
 ghost use Rattle.air_author.specs.Expressions.{MakesTerm};
 ghost use Rattle.air_builder.specs.Batches.{OrMemory};
@@ -26,7 +26,6 @@ pub fn resolve<AB: AirBuilder>(
     builder: &mut AB,
 ) -> Result<AB::Expr, AirError>
     requires ready { AB.ready builder.old }
-    requires pool { IsPool base_reads pool.now }
     requires here { id < size pool.now }
     ensures { MakesTerm (Means AB.Ring.means AB.ring_of AB.reads_as)
         AB.grew AB.missing (OrMemory AB.refuses) builder.old builder.new result
@@ -44,7 +43,6 @@ pub fn resolve_all<AB: AirBuilder>(
     builder: &mut AB,
 ) -> Result<Vec<AB::Expr>, AirError>
     requires ready { AB.ready builder.old }
-    requires pool { IsPool base_reads pool.now }
     requires here { All (λ i. i < size pool.now) roots.now }
     ensures { MakesAll (Means AB.Ring.means AB.ring_of AB.reads_as)
         AB.grew AB.missing (OrMemory AB.refuses) builder.old builder.new result

@@ -2,7 +2,7 @@
 ghost use Rattle.std.specs.List.{AllZip};
 ghost use Rattle.std.specs.Prelude.{◌≡◌, ◌<◌, List, [], length, map, All, Some, IfOk, IfErr, slice_get};
 ghost use Rattle.air_symbolic.specs.BaseLeaves.{base_leaves, base_reads};
-ghost use Rattle.air_symbolic.specs.Pools.{IsPool, term_at};
+ghost use Rattle.air_symbolic.specs.Pools.{term_at};
 ghost use Rattle.air_core.specs.declared.errors.AirError.{AirError};
 ghost use Rattle.air_builder.specs.Assertion.{Assertion};
 ghost use Rattle.air_builder.specs.Builders.{Means};
@@ -27,7 +27,6 @@ pub(crate) fn make_places<AB: AirBuilder>(
     builder: &mut AB,
 ) -> Result<Vec<AB::Expr>, AirError>
     requires ready { AB.ready builder.old }
-    requires pool { IsPool base_reads pool.now }
     requires planned { IsPlan base_leaves pool.now.nodes
         (map (number_at plan.now.numbers.items) plan.now.places.items)
         plan.now.numbers.items plan.now.steps.items plan.now.places.items }
@@ -70,7 +69,6 @@ pub(crate) fn make_planned<AB: AirBuilder>(
     builder: &mut AB,
 ) -> Result<Vec<AB::Expr>, AirError>
     requires ready { AB.ready builder.old }
-    requires pool { IsPool base_reads pool.now }
     requires planned { IsPlan base_leaves pool.now.nodes
         (map (number_at plan.now.numbers.items) plan.now.places.items)
         plan.now.numbers.items plan.now.steps.items plan.now.places.items }

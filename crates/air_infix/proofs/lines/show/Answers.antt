@@ -5,12 +5,14 @@ use Rattle.air_infix.specs.Lines.{lines_text, numbered, definition_line, constra
 use Rattle.air_infix.proofs.NameLemmas.{passing-low}
 use Rattle.air_infix.proofs.lines.show.Goals as goal
 
-pub push_definitions-requires-clause-here : goal.push_definitions-requires-clause-here
-push_definitions-requires-clause-here g c =
+pub push_definitions-requires : goal.push_definitions-requires
+push_definitions-requires g c =
     let ns = c.args.pool.now.nodes in
     let are = c.in_ok-names.ensures in
-    subst (λ (xs : List ℕ). All (λ x. x < length ns) xs) (sym are.named)
-    (passing-low (is_named ns c.args.roots.now are.marks) (length ns) (length ns) (omega arith))
+    record {
+      here = subst (λ (xs : List ℕ). All (λ x. x < length ns) xs) (sym are.named)
+          (passing-low (is_named ns c.args.roots.now are.marks) (length ns) (length ns) (omega arith));
+    }
 
 pub returns : goal.returns
 returns g c =

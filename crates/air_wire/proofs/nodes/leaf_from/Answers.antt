@@ -16,8 +16,8 @@ returns-in_err-leaf g c =
     c.from_residual.ensures.1
     (carry _ (g.A.WireLeaf.kind.leaf_at c.args.at (view c.args.contents.now)) _ _ refl c.in_err-leaf.ensures.read)
 
-pub leaf-requires-clause-pool : goal.leaf-requires-clause-pool
-leaf-requires-clause-pool g c =
+pub leaf-requires-clause-owed : goal.leaf-requires-clause-owed
+leaf-requires-clause-owed g c u h =
     (lent_grown _ g.A.SymLeaf.reads g.A.SymLeaf.grows _ g.met.A.SymLeaf.leaf_laws c.args.pool.now c.base_mut.result.now c.leaf_from_value.new.under c.base_mut.ensures.value c.leaf_from_value.ensures.grown).pool c.requires
 
 pub returns-in_err-leaf-2 : goal.returns-in_err-leaf-2
