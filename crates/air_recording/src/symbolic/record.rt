@@ -56,6 +56,7 @@ impl<F: Field, EF: ExtensionField<F>> SymbolicAirBuilder<F, EF> {
             ..
         } = self;
         let Constraints { base, ext, .. } = constraints;
+        pool.nodes_fit();
         Recorded { pool, base, ext }
     }
 }

@@ -62,6 +62,23 @@ fn keep_failure<N: Name>(
     Ok(())
 }
 
+/// Keeps a failure that has no name. (Apart from the other, whose call saves what a label's text needs.)
+#[cold]
+#[inline(never)]
+fn keep_nameless(
+    failures: &mut Vec<ConstraintFailure>,
+    row: usize,
+    constraint: usize,
+) -> Result<(), AllocError> {
+    let failure = ConstraintFailure {
+        row,
+        constraint,
+        label: None,
+    };
+    failures.push(failure)?;
+    Ok(())
+}
+
 impl<'a, F: Field, EF: ExtensionField<F>> DebugConstraintBuilder<'a, F, EF> {
     /// Counts an assertion. Where it doesn't hold its failure is kept, and then alone a name is evaluated.
     #[inline(always)]
@@ -82,7 +99,12 @@ impl<'a, F: Field, EF: ExtensionField<F>> DebugConstraintBuilder<'a, F, EF> {
             // the failures alone are lent to the call, so that a row's builder needs no place in memory
             let none = Vec::new(*self.failures.allocator());
             let mut failures = mem::replace(&mut self.failures, none);
-            let kept = keep_failure(&mut failures, self.row.index, self.constraint_index, name);
+            let kept = match name {
+                Some(name) => {
+                    keep_failure(&mut failures, self.row.index, self.constraint_index, Some(name))
+                }
+                None => keep_nameless(&mut failures, self.row.index, self.constraint_index),
+            };
             self.failures = failures;
             kept?;
         }
