@@ -1,6 +1,6 @@
 //! The log of a row: how many assertions there were, and which failed.
 ghost use Rattle.std.specs.Prelude.{◌≡◌, ◌+◌, ◌^◌, ℕ, List, Option, false, IfOk, OnOk, OnErr, IfErr, IfSome};
-ghost use Rattle.air_report.specs.DebugLabels.{KeepsText, MayDisplay, LogsFailure, LogsOne, LogRefuses};
+ghost use Rattle.air_report.specs.DebugLabels.{KeepsText, IsNameless, MayDisplay, LogsFailure, LogsOne, LogRefuses};
 ghost use Rattle.air_report.specs.DebugRow.{debug_row};
 
 use crate::debug::builder::DebugConstraintBuilder;
@@ -25,22 +25,54 @@ fn label_of<N: Name>(alloc: Global, name: N) -> Result<Option<String>, AllocErro
     }
 }
 
-/// The label of a failure: that of its name, if it has one.
-fn label_if_named<N: Name>(alloc: Global, name: Option<N>) -> Result<Option<String>, AllocError>
-    requires { IfSome name N.can_evaluate }
-    ensures { IfOk result (λ label. (text : Option (List ℕ)) × MayDisplay N.displays name text
-        × KeepsText text label) }
-{
-    match name {
-        Some(name) => label_of(alloc, name),
-        None => Ok(None),
-    }
-}
-
 /// Keeps a failure, with what its name displays. (An `AllocError` takes no place in memory: an `AirError` would, and a
 /// row's builder would make that place ready for each assertion that holds.)
 #[cold]
 #[inline(never)]
+fn keep_named<N: Name>(
+    failures: &mut Vec<ConstraintFailure>,
+    row: usize,
+    constraint: usize,
+    name: N,
+) -> Result<(), AllocError>
+    requires { N.can_evaluate name }
+    ensures ok { OnOk result (LogsFailure row constraint (N.displays name)
+        failures.old.items failures.new.items) }
+    ensures err { OnErr result (failures.new.items ≡ failures.old.items) }
+{
+    let label = label_of(*failures.allocator(), name)?;
+    let failure = ConstraintFailure {
+        row,
+        constraint,
+        label,
+    };
+    failures.push(failure)?;
+    Ok(())
+}
+
+/// Keeps a failure that has no name. (Apart from the other, which makes room for a label's text at each call.)
+#[cold]
+#[inline(never)]
+fn keep_nameless(
+    failures: &mut Vec<ConstraintFailure>,
+    row: usize,
+    constraint: usize,
+) -> Result<(), AllocError>
+    ensures ok { OnOk result (LogsFailure row constraint IsNameless
+        failures.old.items failures.new.items) }
+    ensures err { OnErr result (failures.new.items ≡ failures.old.items) }
+{
+    let failure = ConstraintFailure {
+        row,
+        constraint,
+        label: None,
+    };
+    failures.push(failure)?;
+    Ok(())
+}
+
+/// Keeps a failure, with what its name displays, if it has one.
+#[inline(always)]
 fn keep_failure<N: Name>(
     failures: &mut Vec<ConstraintFailure>,
     row: usize,
@@ -52,31 +84,10 @@ fn keep_failure<N: Name>(
         failures.old.items failures.new.items) }
     ensures err { OnErr result (failures.new.items ≡ failures.old.items) }
 {
-    let label = label_if_named(*failures.allocator(), name)?;
-    let failure = ConstraintFailure {
-        row,
-        constraint,
-        label,
-    };
-    failures.push(failure)?;
-    Ok(())
-}
-
-/// Keeps a failure that has no name. (Apart from the other, whose call saves what a label's text needs.)
-#[cold]
-#[inline(never)]
-fn keep_nameless(
-    failures: &mut Vec<ConstraintFailure>,
-    row: usize,
-    constraint: usize,
-) -> Result<(), AllocError> {
-    let failure = ConstraintFailure {
-        row,
-        constraint,
-        label: None,
-    };
-    failures.push(failure)?;
-    Ok(())
+    match name {
+        Some(name) => keep_named(failures, row, constraint, name),
+        None => keep_nameless(failures, row, constraint),
+    }
 }
 
 impl<'a, F: Field, EF: ExtensionField<F>> DebugConstraintBuilder<'a, F, EF> {
@@ -99,12 +110,7 @@ impl<'a, F: Field, EF: ExtensionField<F>> DebugConstraintBuilder<'a, F, EF> {
             // the failures alone are lent to the call, so that a row's builder needs no place in memory
             let none = Vec::new(*self.failures.allocator());
             let mut failures = mem::replace(&mut self.failures, none);
-            let kept = match name {
-                Some(name) => {
-                    keep_failure(&mut failures, self.row.index, self.constraint_index, Some(name))
-                }
-                None => keep_nameless(&mut failures, self.row.index, self.constraint_index),
-            };
+            let kept = keep_failure(&mut failures, self.row.index, self.constraint_index, name);
             self.failures = failures;
             kept?;
         }

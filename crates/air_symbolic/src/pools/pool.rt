@@ -42,6 +42,7 @@ impl<A: SymLeaf> ExprPool<A> {
 
     /// The nodes fit what lies under them, which is all that a proof needs of a pool: its type keeps that they fit some
     /// base, and what is owed of a lent one says that they fit this one.
+    #[inline(always)]
     pub fn nodes_fit(&self)
         requires { FitsBase A.reads self.now }
         ensures { IsPool A.reads self.now }

@@ -42,9 +42,8 @@ pub struct FlatAir<F: Field> {
 
 impl<F: Field> FlatAir<F> {
     /// The AIR that asserts the roots in order; its main trace has `width` columns, and it has no preprocessed table
-    /// ([`FlatAir::with_preprocessed`] gives it one). The pool must be as its calls left it, and each root a number of
-    /// it. What the roots reach is looked up here, once, and no longer at a row. It refuses for want of memory alone
-    /// (`Memory`).
+    /// ([`FlatAir::with_preprocessed`] gives it one). Each root must be a number of the pool. What the roots reach is
+    /// looked up here, once, and no longer at a row. It refuses for want of memory alone (`Memory`).
     pub fn new(
         pool: ExprPool<BaseLeaf<F>>,
         roots: Vec<ExprId<BaseLeaf<F>>>,
@@ -63,6 +62,7 @@ impl<F: Field> FlatAir<F> {
         ensures cells { IfOk result (λ a. a.cells ≡ cells) }
         ensures refused { IfErr result (λ e. e ≡ AirError.Memory) }
     {
+        pool.nodes_fit();
         let plan = plan_of(*roots.allocator(), &pool, &roots)?;
         Ok(FlatAir {
             pool,

@@ -88,6 +88,7 @@ pub(crate) fn make_step<AB: AirBuilder>(
         builder.old builder.new result
         (term_at base_reads pool.now (number_at numbers.now place)) }
 {
+    pool.nodes_fit();
     match step {
         Step::Leaf => make_number(builder, pool, numbers[place]),
         Step::Current(column) => Current(column).make(builder),

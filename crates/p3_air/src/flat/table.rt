@@ -39,6 +39,7 @@ pub(crate) fn make_places<AB: AirBuilder>(
         All (λ p. PartOf (term_at base_reads pool.now (number_at plan.now.numbers.items p)) ss)
         plan.now.places.items → OrMemory AB.refuses builder.old e ss) }
 {
+    pool.nodes_fit();
     let mut table = Vec::with_capacity(alloc, plan.steps.len())?;
     for step in &plan.steps {
         let x = make_step(builder, pool, &plan.numbers, table.len(), *step, &table)?;

@@ -35,13 +35,10 @@ returns-in-Some-clause-refused g c =
     subst (λ v. (c.len-total.result ≡ size v.pool.base) × (first_past c.len-total.result v.base ≡ Some c.number.result)) c.recorded.view_is
     (total, sym first ∙ ap Some (sym c.number.ensures))
 
-pub new-requires-clause-pool : goal.new-requires-clause-pool
-new-requires-clause-pool g c = c.into_base-pool.ensures.pool c.recorded.invariant
-
-pub new-requires-clause-here : goal.new-requires-clause-here
-new-requires-clause-here g c =
+pub new-requires : goal.new-requires
+new-requires g c =
     let none : None ≡ first_past (length c.into_base-pool.result.nodes) c.recorded.inside.base.items = rw (c.deref.ensures.value, c.len-total.ensures) at c.in_default.ensures in
-    below-none_past _ _ none
+    record { here = below-none_past _ _ none }
 
 pub returns-clause-of_an_air : goal.returns-clause-of_an_air
 returns-clause-of_an_air g c declared h =
