@@ -29,8 +29,7 @@ pub fn show_tree<F: Number>(
     id: ExprId<BaseLeaf<F>>,
     depth: usize,
     text: &mut String,
-) -> Result<(), Fault>
-{
+) -> Result<(), Fault> {
     if depth == 0 || !pool.contains(id) {
         text.push_str("?")?;
         return Ok(());

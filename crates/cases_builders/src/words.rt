@@ -229,8 +229,7 @@ fn show_degrees_in<F: Field>(
     pool: &ExprPool<BaseLeaf<F>>,
     expressions: &[ExprId<BaseLeaf<F>>],
     text: &mut String,
-) -> Result<(), Fault>
-{
+) -> Result<(), Fault> {
     for (place, id) in expressions.iter().enumerate() {
         if place > 0 {
             text.push_str(" ")?;

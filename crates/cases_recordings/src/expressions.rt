@@ -180,8 +180,7 @@ pub fn show_base_expression<F: Number>(
     id: ExprId<BaseLeaf<F>>,
     depth: usize,
     text: &mut String,
-) -> Result<(), Fault>
-{
+) -> Result<(), Fault> {
     show_expression(pool, id, depth, false, text)
 }
 
@@ -191,8 +190,7 @@ pub fn show_base_expressions<F: Number>(
     pool: &ExprPool<BaseLeaf<F>>,
     numbers: &[ExprId<BaseLeaf<F>>],
     text: &mut String,
-) -> Result<(), Fault>
-{
+) -> Result<(), Fault> {
     show_expressions(pool, numbers, text)
 }
 
