@@ -12,6 +12,9 @@ use air_field::{ExtensionField, Field};
 use air_symbolic::{BaseLeaf, ExprId, ExtLeaf};
 use std::alloc::Global;
 
+// How many base constraints there is room for from the first one on: those of a small AIR.
+const FIRST_CONSTRAINTS: usize = 16;
+
 /// The recorded expressions of each kind, in order, and the kind at each place of the whole.
 #[derive(Drop)]
 pub(crate) struct Constraints<F: Field, EF: ExtensionField<F>> {
@@ -41,6 +44,9 @@ impl<F: Field, EF: ExtensionField<F>> Constraints<F, EF> {
         ensures refused { IfErr result (λ e. e ≡ AirError.Memory) }
     {
         self.kinds.reserve(1)?;
+        if self.base.is_empty() {
+            self.base.reserve(FIRST_CONSTRAINTS)?;
+        }
         self.base.push(x)?;
         self.kinds.push_reserved(ConstraintKind::Base);
         Ok(())

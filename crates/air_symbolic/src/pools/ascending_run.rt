@@ -1,11 +1,14 @@
 //! Keys that ascend, each with its number.
-ghost use Rattle.std.specs.Prelude.{◌≡◌, ◌↔◌, ◌++◌, [], ◌∷◌, IsTrue, OnOk, OnErr};
+ghost use Rattle.std.specs.Prelude.{◌≡◌, ◌↔◌, ◌++◌, [], ◌∷◌, IsTrue, IfOk, OnOk, OnErr};
 ghost use Rattle.std.specs.BTreeMap.{is_at};
 ghost use Rattle.std.specs.Map.{lookup};
 ghost use Rattle.air_symbolic.specs.Runs.{IsBelow};
 
 use std::alloc::{AllocError, Global};
 use std::marker::Model;
+
+// How many keys a run has room for from the first one on.
+const FIRST_KEYS: usize = 8;
 
 /// Keys that ascend, each with its number. One is found by halving; only a key beyond all others is added, at the end.
 #[derive(Drop)]
@@ -25,13 +28,12 @@ impl<K: Copy + Ord> Model for AscendingRun<K> {
 }
 
 impl<K: Copy + Ord> AscendingRun<K> {
-    /// A run without keys. It takes no memory.
-    pub fn new(alloc: Global) -> Self
-        ensures { result ≡ [] }
+    /// A run without keys, which has room for the first few.
+    pub fn new(alloc: Global) -> Result<Self, AllocError>
+        ensures { IfOk result (λ run. run ≡ []) }
     {
-        AscendingRun {
-            pairs: Vec::new(alloc),
-        }
+        let pairs = Vec::with_capacity(alloc, FIRST_KEYS)?;
+        Ok(AscendingRun { pairs })
     }
 
     /// Whether all keys are below this one.

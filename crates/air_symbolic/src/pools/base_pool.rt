@@ -13,14 +13,15 @@ use crate::pools::pool::ExprPool;
 use air_core::{BaseEntry, SymbolicVariable};
 use air_field::{Field, FromVar, RingError};
 
-// The place of a leaf in the memory of `leaf_at`. Columns of both rows interleave, and the selectors have the last
-// three places; leaves that share one cost a search of the map and nothing else.
+// The place of a leaf in the memory of `leaf_at`. Columns of both rows interleave, public values and periodic columns
+// begin halfway, and the selectors have the last three places; leaves that share one cost a search of the map and
+// nothing else.
 fn place_of<F>(a: &BaseLeaf<F>) -> usize {
     match a {
         BaseLeaf::Variable(v) => match v.entry {
             BaseEntry::Main { offset } => v.index.wrapping_mul(2).wrapping_add(offset),
             BaseEntry::Preprocessed { offset } => v.index.wrapping_mul(2).wrapping_add(offset),
-            _ => v.index,
+            _ => v.index.wrapping_add(128),
         },
         BaseLeaf::IsFirstRow => 253,
         BaseLeaf::IsLastRow => 254,

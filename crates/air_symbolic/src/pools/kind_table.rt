@@ -56,7 +56,7 @@ impl<K: Copy + Ord> KindTable<K> {
             return self.runs[at].push(key, number);
         }
         if self.runs.len() < RUNS {
-            let mut run = AscendingRun::new(*self.runs.allocator());
+            let mut run = AscendingRun::new(*self.runs.allocator())?;
             run.push(key, number)?;
             return Ok(self.runs.push(run)?);
         }

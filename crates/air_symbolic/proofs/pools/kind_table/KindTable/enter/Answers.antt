@@ -12,7 +12,7 @@ returns-in-Some-clause-entered g c =
 
 pub returns-then-len-lt-RUNS-clause-entered : goal.returns-then-len-lt-RUNS-clause-entered
 returns-then-len-lt-RUNS-clause-entered g c =
-    rw (c.in_ok-push-2.ensures.items, c.in_ok-push.ensures.pushed, c.new-run.ensures)
+    rw (c.in_ok-push-2.ensures.items, c.in_ok-push.ensures.pushed, c.in_ok-run.ensures)
     (Entered-in_new_run g.met.K.Ord.total c.args.key c.args.number c.requires.exact c.args.self.now.runs.items c.args.self.now.rest)
 
 pub returns-in_err-insert-clause-refused : goal.returns-in_err-insert-clause-refused
