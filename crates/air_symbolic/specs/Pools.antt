@@ -31,8 +31,8 @@ pub record IsNodeList {U A F : Type 0} (reads : U → Leaves A F) (nodes : List 
   pub under : U
   pub pool : IsPool reads (record { base = under; nodes = nodes })
 
--- What is owed of a base that was lent: the nodes fit it, if they fit any. Of a base pool nothing is owed, since nothing
--- lies under it.
+-- What is owed of a base that was lent: the nodes fit it, if they fit any. Nothing lies under a base pool, so there it
+-- holds by itself.
 abbrev pub FitsBase : {U A F : Type 0} → (U → Leaves A F) → Pool U A → Type 0
 FitsBase {U = U} reads p = (u : U) → IsPool reads (on_base p u) → IsPool reads p
 
