@@ -12,8 +12,8 @@ sum_to r f (suc n) = r.add (sum_to r f n) (f (suc n))
 abbrev pub convolve : {E : Type 0} → CommRing E → (ℕ → E) → (ℕ → E) → ℕ → E
 convolve r f g n = sum_to r (λ i. r.mul (f i) (g (n - i))) n
 
--- coefficient n of the term's polynomial, the leaves having the coefficient lists of s, a constant itself alone; past the
--- end of a list there are zeros
+-- coefficient n of the term's polynomial, the leaves having the coefficient lists of s, a constant itself alone; past
+-- the end of a list there are zeros
 abbrev pub polynomial : {F E : Type 0} → AlgebraOver F E → (Leaf → List E) → Term F → ℕ → E
 polynomial a s (leaf_term l) n = slice_index_or (s l) n a.ring.zero
 polynomial a s (const_term c) n = slice_index_or (a.embed c ∷ []) n a.ring.zero
