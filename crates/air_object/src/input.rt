@@ -2,7 +2,7 @@
 ghost use Rattle.std.specs.Prelude.{◌≡◌, ◌≢◌, ◌<◌, length, All, IfOk, IfErr, option_map};
 ghost use Rattle.serde_json.specs.Data.{Data};
 ghost use Rattle.serde_json.specs.View.{view};
-ghost use Rattle.air_symbolic.specs.Pools.{IsPool, size};
+ghost use Rattle.air_symbolic.specs.Pools.{size};
 ghost use Rattle.air_object.specs.Input.{table_of, SpellsInput, HasInputFault};
 ghost use Rattle.air_object.specs.Parts.{InPool, ArePartsOf};
 ghost use Rattle.air_object.specs.Seen.{seen_rows};

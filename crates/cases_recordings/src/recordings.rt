@@ -1,6 +1,6 @@
 //! Recordings of an AIR, and the degrees that are inferred of them.
 ghost use Rattle.std.specs.Prelude.{◌≡◌};
-ghost use Rattle.air_symbolic.specs.Pools.{IsPool, FitsBase};
+ghost use Rattle.air_symbolic.specs.Pools.{FitsBase};
 
 use crate::expressions::{show_base_expressions, show_ext_expressions};
 use air_builder::{Air, AirError};

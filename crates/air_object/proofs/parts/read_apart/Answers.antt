@@ -1,5 +1,5 @@
 use Rattle.std.proofs.Common.{◌≡◌, ◌≢◌, ◌-◌, length, Some, codes, string_bytes, refl, sym, ap, subst, ◌∙◌, arith, rules}
-use Rattle.json.specs.Json.{read_key, members, value}
+use Rattle.json.specs.Json.{read_key, value}
 use Rattle.json.proofs.Grammar.{read_key-shorter}
 use Rattle.serde_json.specs.Data.{put, no_members}
 use Rattle.serde_json.specs.View.{view, members_view}

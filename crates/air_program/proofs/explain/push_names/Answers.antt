@@ -16,9 +16,9 @@ reached-requires-clause-here g c =
     subst (λ (rs : List ℕ). All (λ i. i < length ns) rs) (sym same)
     (failing_here (λ i. i < length ns) c.args.air.now.roots.items fs c.args.air.now.roots_in.here)
 
-pub push_reached_definitions-requires-clause-here : goal.push_reached_definitions-requires-clause-here
-push_reached_definitions-requires-clause-here g c =
-    names_here base_leaves c.args.air.now.pool.nodes c.args.air.now.roots.items c.args.names.now c.requires
+pub push_reached_definitions-requires : goal.push_reached_definitions-requires
+push_reached_definitions-requires g c =
+    record { here = names_here base_leaves c.args.air.now.pool.nodes c.args.air.now.roots.items c.args.names.now c.requires }
 
 pub returns : goal.returns
 returns g c =
