@@ -132,6 +132,7 @@ fn show_expression<A: ShownLeaf>(
 ) -> Result<(), Fault>
     requires { FitsBase A.reads pool.now }
 {
+    pool.nodes_fit();
     if depth == 0 || !pool.contains(id) {
         text.push_str("..")?;
         return Ok(());
