@@ -5,7 +5,7 @@ use Rattle.air_field.specs.Ring.{CommRing, minus, itself}
 use Rattle.air_field.specs.Term.{Leaf}
 use Rattle.air_field.specs.Value.{value}
 use Rattle.air_symbolic.specs.BaseLeaves.{base_term}
-use Rattle.air_symbolic.specs.Nodes.{unfold_node, tree_of, OperandsBelow}
+use Rattle.air_symbolic.specs.Nodes.{node_term, tree_of, OperandsBelow}
 use Rattle.air_symbolic.specs.Reach.{Marked, EachOperand}
 use Rattle.air_symbolic.specs.Trees.{term_of}
 use Rattle.air_symbolic.specs.declared.leaves.base_leaf.BaseLeaf.{BaseLeaf}
@@ -34,7 +34,7 @@ Known-more r s ns marks k old new x places e h now i below m =
     before_or_at i k b = grind (arith, b)
 
 -- the value of a node whose operands' values are known
-pub node_value-is : {F : Type 0} (r : CommRing F) (s : Leaf → F) (ns : List (SymbolicExpr (BaseLeaf F))) (marks : List (Option ℕ)) (k : ℕ) (values : List F) (n : SymbolicExpr (BaseLeaf F)) → Known r s ns marks k values → OperandsBelow k n → EachOperand (λ j. Marked marks j) n → node_value r s (λ i. get_or values i r.zero) n ≡ value (itself r) s (term_of base_term (unfold_node (tree_of ns) n))
+pub node_value-is : {F : Type 0} (r : CommRing F) (s : Leaf → F) (ns : List (SymbolicExpr (BaseLeaf F))) (marks : List (Option ℕ)) (k : ℕ) (values : List F) (n : SymbolicExpr (BaseLeaf F)) → Known r s ns marks k values → OperandsBelow k n → EachOperand (λ j. Marked marks j) n → node_value r s (λ i. get_or values i r.zero) n ≡ value (itself r) s (node_term base_term (λ i. term_of base_term (tree_of ns i)) n)
 node_value-is r s ns marks k values (node.Leaf a) h b m = refl
 node_value-is r s ns marks k values (node.Add x y d) h b m = ap₂ r.add (h x b.0 m.0) (h y b.1 m.1)
 node_value-is r s ns marks k values (node.Sub x y d) h b m = ap₂ (minus r) (h x b.0 m.0) (h y b.1 m.1)

@@ -232,7 +232,7 @@ module _ {F : Type 0} {order : ℕ} (modular : Modular F order) where
     unfolding members_with
     trace_memory trace given h = width_memory see r trace _ (width_member (codes "main_width") rest) h
 
-    both_give : {U V : Type 0} (trace : GivenElements F) (given : GivenTrees F) (shown : U → List F) (seen : V → List (Tree (BaseLeaf F))) (es : Result U FlatError) (roots : Result V FlatError)
+    both_give : {U V : Type 0} (trace : GivenElements F) (given : GivenTrees F) (shown : U → List F) (seen : V → List (Option (Tree (BaseLeaf F)))) (es : Result U FlatError) (roots : Result V FlatError)
         → Gives shown es trace → Gives seen roots given
         → GivesWith (result_map_both shown (λ f. f) es) (result_map_both seen (λ f. f) roots) → GivesWith trace given
     both_give trace given shown seen es roots first second h =

@@ -25,7 +25,7 @@ abbrev pub element : {F : Type 0} {p : ℕ} → Modular F p → Grammar F
 element {p = p} m = record { spells = λ d x. IsWholeNumber (m.value x) d; fault = ElementFault p }
 
 -- a list of nodes, as the tree of its root
-abbrev pub constraint : {F : Type 0} {p : ℕ} → Modular F p → Grammar (Tree (BaseLeaf F))
+abbrev pub constraint : {F : Type 0} {p : ℕ} → Modular F p → Grammar (Option (Tree (BaseLeaf F)))
 constraint m = record { spells = IsList (base_kind m); fault = HasFault (base_kind m) }
 
 abbrev pub boundary_cell : Grammar BoundaryPublic
@@ -46,7 +46,7 @@ TableValues F = ℕ × List F
 -- the width, the trace's values, the preprocessed table's width and values, the public values, the constraints, the
 -- periodic columns, the boundary cells, the cap, the weight of the transition selector
 abbrev pub MemberValues : Type 0 → Type 0
-MemberValues F = ℕ × (List F × (Option (TableValues F) × (List F × (List (Tree (BaseLeaf F)) × (List (List F) × (List BoundaryPublic × (Option ℕ × ℕ)))))))
+MemberValues F = ℕ × (List F × (Option (TableValues F) × (List F × (List (Option (Tree (BaseLeaf F))) × (List (List F) × (List BoundaryPublic × (Option ℕ × ℕ)))))))
 
 abbrev pub members : {F : Type 0} {p : ℕ} → Modular F p → Grammar (MemberValues F)
 members m =

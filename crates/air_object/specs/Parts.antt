@@ -25,7 +25,7 @@ AreElements given es = Gives (λ v. v.items) es given
 
 -- the trees of the constraints, or the first fault
 abbrev pub GivenTrees : Type 0 → Type 0
-GivenTrees F = Result (List (Tree (BaseLeaf F))) FlatError
+GivenTrees F = Result (List (Option (Tree (BaseLeaf F)))) FlatError
 
 -- the numbers of the roots, or the first fault
 abbrev pub root_numbers : Result (Vec ℕ Global) FlatError → Result (List ℕ) FlatError

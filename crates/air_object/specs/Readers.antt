@@ -38,10 +38,10 @@ elements m d = list_read (element_at m 0) d
 unfoldable pub columns : {F : Type 0} {p : ℕ} → Modular F p → Reader (List (List F))
 columns m d = list_read (elements m) d
 
-abbrev pub tree : {F : Type 0} {p : ℕ} → Modular F p → Reader (Tree (BaseLeaf F))
+abbrev pub tree : {F : Type 0} {p : ℕ} → Modular F p → Reader (Option (Tree (BaseLeaf F)))
 tree m d = root_of (base_kind m) d
 
-unfoldable pub trees : {F : Type 0} {p : ℕ} → Modular F p → Reader (List (Tree (BaseLeaf F)))
+unfoldable pub trees : {F : Type 0} {p : ℕ} → Modular F p → Reader (List (Option (Tree (BaseLeaf F))))
 trees m d = list_read (tree m) d
 
 -- ---- boundary cells
@@ -87,7 +87,7 @@ unfoldable pub table_member : {F : Type 0} {p : ℕ} → Modular F p → Reader 
 table_member m d =
     if_either (codes "preprocessed_width") (codes "preprocessed") (both_read (width_member (codes "preprocessed_width")) (elements_member m (codes "preprocessed"))) d
 
-unfoldable pub constraints_member : {F : Type 0} {p : ℕ} → Modular F p → Reader (List (Tree (BaseLeaf F)))
+unfoldable pub constraints_member : {F : Type 0} {p : ℕ} → Modular F p → Reader (List (Option (Tree (BaseLeaf F))))
 constraints_member m d = needed_read (codes "constraints") (trees m) d
 
 unfoldable pub periodic_member : {F : Type 0} {p : ℕ} → Modular F p → Reader (List (List F))

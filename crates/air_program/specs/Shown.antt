@@ -1,5 +1,5 @@
 -- What answers the word `show`.
-use Rattle.std.specs.Prelude.{◌≡◌, ◌⊎◌, ℕ, ◌<◌, List, map, All, codes}
+use Rattle.std.specs.Prelude.{◌≡◌, ◌⊎◌, ℕ, ◌<◌, List, map, All, Option, codes}
 use Rattle.serde_json.specs.Data.{Data}
 use Rattle.air_field.specs.Modular.{Modular}
 use Rattle.air_symbolic.specs.BaseLeaves.{base_reads}
@@ -16,7 +16,7 @@ use Rattle.air_object.specs.Objects.{Grammar, list_of, needed}
 use Rattle.air_program.specs.Refusals.{IsRefusal, air_name}
 
 -- the member `constraints`, alone
-abbrev pub constraints : {F : Type 0} {p : ℕ} → Modular F p → Grammar (List (Tree (BaseLeaf F)))
+abbrev pub constraints : {F : Type 0} {p : ℕ} → Modular F p → Grammar (List (Option (Tree (BaseLeaf F))))
 constraints m = needed (codes "constraints") (list_of (constraint m))
 
 -- The text shows roots of a pool that have the trees which the member spells.

@@ -4,7 +4,7 @@ use Rattle.std.specs.Prelude.{◌≡◌, ◌⊎◌, ℕ, ◌≤◌, ◌<◌, ◌
 use Rattle.air_field.specs.Ring.{CommRing, AlgebraOver, itself}
 use Rattle.air_field.specs.Term.{Leaf, Term}
 use Rattle.air_field.specs.Value.{value}
-use Rattle.air_field.specs.Polynomial.{polynomial, SamePolynomial}
+use Rattle.air_field.specs.Polynomial.{polynomial}
 use Rattle.air_field.specs.Degree.{degree_by, cached_weight, greatest_degree}
 use Rattle.air_field.specs.Assignment.{IsMissing}
 use Rattle.air_symbolic.specs.Leaves.{Leaves}
@@ -18,10 +18,10 @@ use Rattle.air_recording.specs.declared.layouts.air_layout.AirLayout.{AirLayout}
 use Rattle.air_recording.specs.Recording.{IsOver}
 use Rattle.air_builder.specs.Refused.{Refused}
 
--- a recorded term for one that is declared: in an algebra, the same polynomial under every assignment of coefficient
--- lists, the same value under every assignment, and a degree that is no greater by any weights
+-- a recorded term for one that is declared: in an algebra, the same polynomial (each coefficient) under every assignment
+-- of coefficient lists, the same value under every assignment, and a degree that is no greater by any weights
 pub record RecordsTerm {F E : Type 0} (a : AlgebraOver F E) (u t : Term F) : Type 0 where
-  pub same : (s : Leaf → List E) → SamePolynomial (polynomial a s u) (polynomial a s t)
+  pub same : (s : Leaf → List E) (n : ℕ) → polynomial a s u n ≡ polynomial a s t n
   pub same_value : (s : Leaf → E) → value a s u ≡ value a s t
   pub degree_le : (w : Leaf → ℕ) → degree_by w u ≤ degree_by w t
 

@@ -1,5 +1,5 @@
 -- What a symbolic builder keeps beside its pool and its lists, and what its pool has from the start.
-use Rattle.std.specs.Prelude.{ℕ}
+use Rattle.std.specs.Prelude.{ℕ, Some}
 use Rattle.air_field.specs.Ring.{CommRing}
 use Rattle.air_field.specs.Extension.{Basis}
 use Rattle.air_field.specs.Term.{first_row, last_row, transition, Term, leaf_term}
@@ -25,9 +25,9 @@ fixed_by s layout = record {
 
 -- the selectors' expressions are their leaves
 pub record SelectorsAreLeaves {F : Type 0} (pool : BaseNodes F) (s : Selectors F) : Type 0 where
-  pub first : HasTree pool (leaf_tree IsFirstRow) s.first_row
-  pub last : HasTree pool (leaf_tree IsLastRow) s.last_row
-  pub step : HasTree pool (leaf_tree IsTransition) s.transition
+  pub first : HasTree pool (Some (leaf_tree IsFirstRow)) s.first_row
+  pub last : HasTree pool (Some (leaf_tree IsLastRow)) s.last_row
+  pub step : HasTree pool (Some (leaf_tree IsTransition)) s.transition
 
 -- the selectors' expressions mean their leaves
 pub record SelectorsMeanLeaves {F : Type 0} (means : ℕ → Term F → Type 0) (s : Selectors F) : Type 0 where

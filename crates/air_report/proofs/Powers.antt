@@ -3,18 +3,18 @@ use Rattle.std.proofs.Common.{◌≡◌, ℕ, ◌+◌, ◌*◌, ◌/◌, ◌%◌
 use Rattle.std.proofs.lemmas.Nat.{zero_from_ones}
 use Rattle.std.proofs.Math.Nat.{pow-suc}
 use lib.Count.{ones, ones_step}
-use Rattle.air_report.specs.Shapes.{IsPowerOfTwo}
+use Rattle.std.specs.Int.{IsPowerOfTwo}
 
 -- n is its lowest bit r and twice its other bits q
 from_halves : (fuel n r q : ℕ) → n ≡ r + 2 * q → r < 2 → r + count_ones q ≡ 1 → n ≤ suc fuel
     → (q ≤ fuel → count_ones q ≡ 1 → IsPowerOfTwo q) → IsPowerOfTwo n
 from_halves fuel n zero q is lt one le rec =
     let half = rec (omega arith) (omega arith) in
-    record { exponent = suc half.exponent; power = omega (arith, pow-suc 2 half.exponent, half.power) }
+    (suc half.0, omega (arith, pow-suc 2 half.0, half.1))
 from_halves fuel n (suc zero) q is lt one le rec =
     let none : q ≡ 0 = zero_from_ones q (omega arith) in
     let small : n ≡ 1 = omega arith in
-    record { exponent = 0; power = small }
+    (0, small)
 from_halves fuel n (suc (suc r)) q is lt one le rec = absurd (omega arith)
 
 power_below : (fuel n : ℕ) → n ≤ fuel → count_ones n ≡ 1 → IsPowerOfTwo n

@@ -1,5 +1,6 @@
 -- Which preprocessed tables and periodic columns fit a trace.
-use Rattle.std.specs.Prelude.{◌≡◌, ◌≢◌, ℕ, ◌%◌, ◌^◌, ◌<◌, List, length, Option, Some, None, Result, Ok, Err, Vec, HoldsAt, ⊤}
+use Rattle.std.specs.Prelude.{◌≡◌, ◌≢◌, ℕ, ◌%◌, ◌<◌, List, length, Option, Some, None, Result, Ok, Err, Vec, HoldsAt, ⊤}
+use Rattle.std.specs.Int.{IsPowerOfTwo}
 use Rattle.air_field.specs.Grid.{Grid}
 use Rattle.air_core.specs.FirstOnes.{EachOfFirst}
 use Rattle.air_core.specs.declared.errors.AirError.{AirError}
@@ -9,11 +10,6 @@ use Rattle.air_core.specs.declared.errors.AirError.TheVariants.{PreprocessedHeig
 abbrev pub table_height : {F : Type 0} → Option (Grid F) → Option ℕ
 table_height None = None
 table_height (Some table) = Some (length table.rows)
-
--- the period is a power of two
-pub record IsPowerOfTwo (n : ℕ) : Type 0 where
-  pub exponent : ℕ
-  pub power : n ≡ 2 ^ exponent
 
 -- the first n columns' periods are powers of two that divide the height
 abbrev pub PeriodsFitBelow : {T A : Type 0} → List (Vec T A) → ℕ → ℕ → Type 0

@@ -6,15 +6,14 @@ use Rattle.air_field.specs.Term.{Leaf, Term}
 use Rattle.air_field.specs.Degree.{degree_by}
 use Rattle.air_field.specs.declared.errors.RingError.{RingError}
 use Rattle.air_field.specs.declared.errors.RingError.TheVariants.{Memory}
-use Rattle.air_symbolic.specs.Trees.{Tree, term_of}
-use Rattle.air_symbolic.specs.Nodes.{unfold_node}
+use Rattle.air_symbolic.specs.Nodes.{node_term}
 use Rattle.air_symbolic.specs.PoolRefusals.{AnswersDegree}
 use Rattle.air_symbolic.specs.DegreeTables.{answer_at, AnswersDegrees, node_degree}
 use Rattle.air_symbolic.specs.declared.pools.expr.SymbolicExpr.{SymbolicExpr}
 use Rattle.air_symbolic.specs.declared.pools.expr.SymbolicExpr.TheVariants as node
 
--- the degree of an unfolded node
-pub node_degree-is : {A F : Type 0} (w : Leaf → ℕ) (term : A → Term F) (at : ℕ → Tree A) (n : SymbolicExpr A) → node_degree (λ a. degree_by w (term a)) (λ i. degree_by w (term_of term (at i))) n ≡ degree_by w (term_of term (unfold_node at n))
+-- the degree of a node is that of its term
+pub node_degree-is : {A F : Type 0} (w : Leaf → ℕ) (term : A → Term F) (at : ℕ → Term F) (n : SymbolicExpr A) → node_degree (λ a. degree_by w (term a)) (λ i. degree_by w (at i)) n ≡ degree_by w (node_term term at n)
 node_degree-is w term at (node.Leaf a) = refl
 node_degree-is w term at (node.Add x y d) = refl
 node_degree-is w term at (node.Sub x y d) = refl

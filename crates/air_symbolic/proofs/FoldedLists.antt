@@ -5,10 +5,10 @@ use Rattle.std.specs.Prelude.{Option, Some, None}
 use Rattle.air_field.specs.Ring.{CommRing}
 use Rattle.air_field.specs.Degree.{degree_by, cached_weight}
 use Rattle.air_symbolic.specs.Leaves.{Leaves, Keeps, LeafLaws}
-use Rattle.air_symbolic.specs.Trees.{Tree, nothing, leaf_tree, add_tree, sub_tree, neg_tree, mul_tree, term_of, tree_constant, IsWholeTree}
+use Rattle.air_symbolic.specs.Trees.{Tree, leaf_tree, add_tree, sub_tree, neg_tree, mul_tree, both, term_of, tree_constant, IsValidTree}
 use Rattle.air_symbolic.specs.Pools.{Pool, IsPool, Grown, tree_at, term_at, constant_at, IsConst}
 use Rattle.air_symbolic.specs.laws.Pools.{Grown-refl, Grown-trans, here-kept, tree-kept}
-use Rattle.air_symbolic.specs.laws.Numbers.{tree_of-whole, term_of-kept}
+use Rattle.air_symbolic.specs.laws.Numbers.{tree_of-valid, term_of-kept}
 use Rattle.air_symbolic.specs.Folds.{IsSimplified, sum_fold, product_fold, IsSum, IsProduct, NeedsNode}
 use Rattle.air_symbolic.specs.FoldedLists.{JoinedFrom, IsJoined, SumStep, ProductStep, Overflows, OverflowsFrom, ProductOverflows, IsSumOfAll, IsProductOfAll}
 use Rattle.air_symbolic.specs.declared.pools.fold.Fold.{Fold}
@@ -16,25 +16,25 @@ use Rattle.air_symbolic.specs.declared.pools.fold.Fold.TheVariants.{Constant, Le
 
 -- What folding says stays while what lies under grows.
 module _ {A F : Type 0} (l m : Leaves A F) (k : Keeps l m) where
-  pub tree_constant-kept : (t : Tree A) → IsWholeTree l.valid t → tree_constant m.constant t ≡ tree_constant l.constant t
-  tree_constant-kept nothing h = refl
-  tree_constant-kept (leaf_tree a) h = k.constant a h
-  tree_constant-kept (add_tree t u) h = refl
-  tree_constant-kept (sub_tree t u) h = refl
-  tree_constant-kept (neg_tree t) h = refl
-  tree_constant-kept (mul_tree t u) h = refl
+  pub tree_constant-kept : (t : Option (Tree A)) → IsValidTree l.valid t → tree_constant m.constant t ≡ tree_constant l.constant t
+  tree_constant-kept None h = refl
+  tree_constant-kept (Some (leaf_tree a)) h = k.constant a h
+  tree_constant-kept (Some (add_tree t u)) h = refl
+  tree_constant-kept (Some (sub_tree t u)) h = refl
+  tree_constant-kept (Some (neg_tree t)) h = refl
+  tree_constant-kept (Some (mul_tree t u)) h = refl
 
-  pub IsConst-kept : (c : F) (t : Tree A) → IsConst l c t → IsConst m c t
+  pub IsConst-kept : (c : F) (t : Option (Tree A)) → IsConst l c t → IsConst m c t
   IsConst-kept c t h =
       let a : A = h.0 in
       (a, h.1, record { valid = k.valid a h.2.valid; constant = k.constant a h.2.valid ∙ h.2.constant; term = k.term a h.2.valid ∙ h.2.term })
 
-  pub IsFolded-kept : (t u node v : Tree A) (f : Option (Fold F)) → IsSimplified l t u node f v → IsSimplified m t u node f v
-  IsFolded-kept t u node v (Some (Constant c)) h = IsConst-kept c v h
-  IsFolded-kept t u node v (Some Left) h = h
-  IsFolded-kept t u node v (Some Right) h = h
-  IsFolded-kept t u node v (Some Negated) h = h
-  IsFolded-kept t u node v None h = h
+  pub IsFolded-kept : (t u node v : Option (Tree A)) (f : Option (Fold F)) → IsSimplified l t u node f v → IsSimplified m t u node f v
+  IsFolded-kept t u unfolded v (Some (Constant c)) h = IsConst-kept c v h
+  IsFolded-kept t u unfolded v (Some Left) h = h
+  IsFolded-kept t u unfolded v (Some Right) h = h
+  IsFolded-kept t u unfolded v (Some Negated) h = h
+  IsFolded-kept t u unfolded v None h = h
 
 Keeps-trans : {A F : Type 0} (l m n : Leaves A F) → Keeps l m → Keeps m n → Keeps l n
 Keeps-trans l m n h k = record {
@@ -45,26 +45,26 @@ Keeps-trans l m n h k = record {
 }
 
 -- total was joined of what was taken, and the rest is left
-pub record IsJoining {U A F W : Type 0} (reads : U → Leaves A F) (grows : U → U → Type 0) (Rest : W → U → Tree A → List (Tree A) → Type 0) (Goal : W → U → Type 0) (p s : Pool U A) (total : ℕ) (left : List ℕ) : Type 0 where
+pub record IsJoining {U A F W : Type 0} (reads : U → Leaves A F) (grows : U → U → Type 0) (Rest : W → U → Option (Tree A) → List (Option (Tree A)) → Type 0) (Goal : W → U → Type 0) (p s : Pool U A) (total : ℕ) (left : List ℕ) : Type 0 where
   pub grown : Grown grows reads p s
   pub total_in : total < length s.nodes
   pub left_in : All (λ x. x < length p.nodes) left
   pub leads : (v : W) (u : U) → grows s.base u → Rest v u (tree_at s total) (map (tree_at p) left) → Goal v u
 
 -- the same list in other words
-pub left-is : {U A F W : Type 0} {reads : U → Leaves A F} {grows : U → U → Type 0} {Rest : W → U → Tree A → List (Tree A) → Type 0} {Goal : W → U → Type 0} {p s : Pool U A} {total : ℕ} (left after : List ℕ) → left ≡ after → IsJoining reads grows Rest Goal p s total left → IsJoining reads grows Rest Goal p s total after
+pub left-is : {U A F W : Type 0} {reads : U → Leaves A F} {grows : U → U → Type 0} {Rest : W → U → Option (Tree A) → List (Option (Tree A)) → Type 0} {Goal : W → U → Type 0} {p s : Pool U A} {total : ℕ} (left after : List ℕ) → left ≡ after → IsJoining reads grows Rest Goal p s total left → IsJoining reads grows Rest Goal p s total after
 left-is {reads = reads} {grows = grows} {Rest = Rest} {Goal = Goal} {p = p} {s = s} {total = total} left after e h =
     subst (λ l. IsJoining reads grows Rest Goal p s total l) e h
 
 -- what is left of a sum and of a product, which answers v or overflows
 module _ {U A F : Type 0} (r : CommRing F) (eq : F → F → Bool) (reads : U → Leaves A F) where
-  abbrev pub SumRest : Tree A → U → Tree A → List (Tree A) → Type 0
+  abbrev pub SumRest : Option (Tree A) → U → Option (Tree A) → List (Option (Tree A)) → Type 0
   SumRest v u t ts = JoinedFrom (SumStep r eq (reads u)) t ts v
 
-  abbrev pub ProductRest : Tree A → U → Tree A → List (Tree A) → Type 0
+  abbrev pub ProductRest : Option (Tree A) → U → Option (Tree A) → List (Option (Tree A)) → Type 0
   ProductRest v u t ts = JoinedFrom (ProductStep r eq (reads u)) t ts v
 
-  abbrev pub OverflowRest : Unit {0} → U → Tree A → List (Tree A) → Type 0
+  abbrev pub OverflowRest : Unit {0} → U → Option (Tree A) → List (Option (Tree A)) → Type 0
   OverflowRest v u t ts = OverflowsFrom r eq (reads u) t ts
 
 -- total is the product of what was taken of xs, and none of its steps was refused
@@ -79,16 +79,16 @@ module _ {U A F : Type 0} (r : CommRing F) (eq : F → F → Bool) (reads : U �
     now = Keeps-trans (reads s.base) (reads q.base) (reads u) (laws.keeps s.base q.base g.under) (laws.keeps q.base u later)
 
     constant-later : (i : ℕ) → i < length s.nodes → tree_constant (reads u).constant (tree_at s i) ≡ constant_at reads s i
-    constant-later i h = tree_constant-kept (reads s.base) (reads u) now (tree_at s i) (tree_of-whole (reads s.base) s.nodes pool.nodes i h)
+    constant-later i h = tree_constant-kept (reads s.base) (reads u) now (tree_at s i) (tree_of-valid (reads s.base) s.nodes pool.nodes i h)
 
     term-later : (i : ℕ) → i < length s.nodes → term_of (reads u).term (tree_at s i) ≡ term_at reads s i
-    term-later i h = term_of-kept (reads s.base) (reads u) now (tree_at s i) (tree_of-whole (reads s.base) s.nodes pool.nodes i h)
+    term-later i h = term_of-kept (reads s.base) (reads u) now (tree_at s i) (tree_of-valid (reads s.base) s.nodes pool.nodes i h)
 
     pub sum-later : (z : ℕ) → IsSum reads r eq s q x y z → SumStep r eq (reads u) (tree_at s x) (tree_at s y) (tree_at q z)
     sum-later z h =
-        subst (λ f. IsSimplified (reads u) (tree_at s x) (tree_at s y) (add_tree (tree_at s x) (tree_at s y)) f (tree_at q z))
+        subst (λ f. IsSimplified (reads u) (tree_at s x) (tree_at s y) (both add_tree (tree_at s x) (tree_at s y)) f (tree_at q z))
         (sym (ap₂ (sum_fold r eq) (constant-later x b) (constant-later y c)))
-        (IsFolded-kept (reads q.base) (reads u) (laws.keeps q.base u later) (tree_at s x) (tree_at s y) (add_tree (tree_at s x) (tree_at s y)) (tree_at q z) _ h.tree)
+        (IsFolded-kept (reads q.base) (reads u) (laws.keeps q.base u later) (tree_at s x) (tree_at s y) (both add_tree (tree_at s x) (tree_at s y)) (tree_at q z) _ h.tree)
 
     fold-later : product_fold r eq (tree_constant (reads u).constant (tree_at s x)) (tree_constant (reads u).constant (tree_at s y)) ≡ product_fold r eq (constant_at reads s x) (constant_at reads s y)
     fold-later = ap₂ (product_fold r eq) (constant-later x b) (constant-later y c)
@@ -105,13 +105,13 @@ module _ {U A F : Type 0} (r : CommRing F) (eq : F → F → Bool) (reads : U �
     pub product-later : (z : ℕ) → (NeedsNode reads r eq s x y × (2 ^ 64 ≤ degree_by cached_weight (term_at reads s x) + degree_by cached_weight (term_at reads s y)) → ⊥) → IsProduct reads r eq s q x y z → ProductStep r eq (reads u) (tree_at s x) (tree_at s y) (tree_at q z)
     product-later z n h = (
       λ o. n (overflows-before o),
-      subst (λ f. IsSimplified (reads u) (tree_at s x) (tree_at s y) (mul_tree (tree_at s x) (tree_at s y)) f (tree_at q z))
+      subst (λ f. IsSimplified (reads u) (tree_at s x) (tree_at s y) (both mul_tree (tree_at s x) (tree_at s y)) f (tree_at q z))
           (sym fold-later)
-          (IsFolded-kept (reads q.base) (reads u) (laws.keeps q.base u later) (tree_at s x) (tree_at s y) (mul_tree (tree_at s x) (tree_at s y)) (tree_at q z) _ h.tree),
+          (IsFolded-kept (reads q.base) (reads u) (laws.keeps q.base u later) (tree_at s x) (tree_at s y) (both mul_tree (tree_at s x) (tree_at s y)) (tree_at q z) _ h.tree),
     )
 
   -- joining begins with the first element
-  pub begin_joining : {W : Type 0} (Rest : W → U → Tree A → List (Tree A) → Type 0) (p : Pool U A) (x : ℕ) (xs : List ℕ) → All (λ i. i < length p.nodes) (x ∷ xs) → IsJoining reads grows Rest (λ v u. Rest v u (tree_at p x) (map (tree_at p) xs)) p p x xs
+  pub begin_joining : {W : Type 0} (Rest : W → U → Option (Tree A) → List (Option (Tree A)) → Type 0) (p : Pool U A) (x : ℕ) (xs : List ℕ) → All (λ i. i < length p.nodes) (x ∷ xs) → IsJoining reads grows Rest (λ v u. Rest v u (tree_at p x) (map (tree_at p) xs)) p p x xs
   begin_joining Rest p x xs h = record {
     grown = Grown-refl r reads grows empty laws p;
     total_in = h 0 x (omega arith);
@@ -137,8 +137,8 @@ module _ {U A F : Type 0} (r : CommRing F) (eq : F → F → Bool) (reads : U �
         }
 
   -- one more element
-  pub take_one : {W : Type 0} (Rest : W → U → Tree A → List (Tree A) → Type 0) (Goal : W → U → Type 0) (p s q : Pool U A) (total x z : ℕ) (left : List ℕ) → Grown grows reads s q → z < length q.nodes → IsJoining reads grows Rest Goal p s total (x ∷ left)
-      → ((v : W) (u : U) (ts : List (Tree A)) → grows q.base u → Rest v u (tree_at q z) ts → Rest v u (tree_at s total) (tree_at p x ∷ ts))
+  pub take_one : {W : Type 0} (Rest : W → U → Option (Tree A) → List (Option (Tree A)) → Type 0) (Goal : W → U → Type 0) (p s q : Pool U A) (total x z : ℕ) (left : List ℕ) → Grown grows reads s q → z < length q.nodes → IsJoining reads grows Rest Goal p s total (x ∷ left)
+      → ((v : W) (u : U) (ts : List (Option (Tree A))) → grows q.base u → Rest v u (tree_at q z) ts → Rest v u (tree_at s total) (tree_at p x ∷ ts))
       → IsJoining reads grows Rest Goal p q z left
   take_one Rest Goal p s q total x z left g here h step = record {
     grown = Grown-trans r reads grows empty laws p s q h.grown g;
@@ -151,7 +151,7 @@ module _ {U A F : Type 0} (r : CommRing F) (eq : F → F → Bool) (reads : U �
   element-stays : (p s : Pool U A) (x : ℕ) → Grown grows reads p s → x < length p.nodes → tree_at s x ≡ tree_at p x
   element-stays p s x g b = tree-kept r reads grows empty laws p s x g b
 
-  pub sum_taken : {Goal : Tree A → U → Type 0} (p s q : Pool U A) (total x z : ℕ) (left : List ℕ) → IsPool reads p → Grown grows reads s q → IsSum reads r eq s q total x z → IsJoining reads grows (SumRest r eq reads) Goal p s total (x ∷ left) → IsJoining reads grows (SumRest r eq reads) Goal p q z left
+  pub sum_taken : {Goal : Option (Tree A) → U → Type 0} (p s q : Pool U A) (total x z : ℕ) (left : List ℕ) → IsPool reads p → Grown grows reads s q → IsSum reads r eq s q total x z → IsJoining reads grows (SumRest r eq reads) Goal p s total (x ∷ left) → IsJoining reads grows (SumRest r eq reads) Goal p q z left
   sum_taken p s q total x z left pool g m h =
       let b : x < length p.nodes = h.left_in 0 x (omega arith) in
       take_one (SumRest r eq reads) _ p s q total x z left g m.here h
@@ -169,7 +169,7 @@ module _ {U A F : Type 0} (r : CommRing F) (eq : F → F → Bool) (reads : U �
         (product-later s q u (grown.pool pool) g later total x c (here-kept r reads grows empty laws p s x grown b) z n m)
 
     module _ (z : ℕ) (n : NeedsNode reads r eq s total x × (2 ^ 64 ≤ degree_by cached_weight (term_at reads s total) + degree_by cached_weight (term_at reads s x)) → ⊥) (m : IsProduct reads r eq s q total x z) where
-      pub product_taken : {Goal : Tree A → U → Type 0} → IsJoining reads grows (ProductRest r eq reads) Goal p s total (x ∷ left) → IsJoining reads grows (ProductRest r eq reads) Goal p q z left
+      pub product_taken : {Goal : Option (Tree A) → U → Type 0} → IsJoining reads grows (ProductRest r eq reads) Goal p s total (x ∷ left) → IsJoining reads grows (ProductRest r eq reads) Goal p q z left
       product_taken h =
           take_one (ProductRest r eq reads) _ p s q total x z left g m.here h
           (λ v u ts later rest. (tree_at q z, step-taken u later z h.grown h.total_in (h.left_in 0 x (omega arith)) n m, rest))
@@ -198,7 +198,7 @@ pub drop_item : {X : Type 0} (l : List X) (i : ℕ) (x : X) → i < length l →
 drop_item l i x h is = drop-cons l i x h ∙ (ap (λ y. y ∷ drop (suc i) l) (sym is) ∙ ap (λ n. x ∷ drop n l) (sym (add-one i)))
 
 -- The item at place i begins what is left from there on, and is of the pool.
-module _ {U A F W : Type 0} {r : CommRing F} {reads : U → Leaves A F} {grows : U → U → Type 0} {empty : U} (laws : LeafLaws r reads grows empty) {Rest : W → U → Tree A → List (Tree A) → Type 0} {Goal : W → U → Type 0} {p s : Pool U A} {total x : ℕ} (rest : List ℕ) (i : ℕ) where
+module _ {U A F W : Type 0} {r : CommRing F} {reads : U → Leaves A F} {grows : U → U → Type 0} {empty : U} (laws : LeafLaws r reads grows empty) {Rest : W → U → Option (Tree A) → List (Option (Tree A)) → Type 0} {Goal : W → U → Type 0} {p s : Pool U A} {total x : ℕ} (rest : List ℕ) (i : ℕ) where
   pub next_in : i < length rest → x ≡ get_or rest i x → IsJoining reads grows Rest Goal p s total (drop i rest) → x < length s.nodes
   next_in b is h =
       let k = left-is _ _ (drop_item rest i x b is) h in

@@ -1,15 +1,15 @@
 -- A folded operation stands for its term.
 use Rattle.std.proofs.Common.{Result, IfOk, Decides, ℕ, ◌<◌, length, ◌≡◌, Bool, true, false, cond, refl, sym, ap, ap₂, subst, ◌∙◌, arith}
 use Rattle.std.proofs.lemmas.Result.{IfOk-weaker}
-use Rattle.std.specs.Prelude.{Option, None, Some}
+use Rattle.std.specs.Prelude.{Option, None, Some, option_map}
 use Rattle.air_field.specs.Ring.{CommRing, minus}
 use Rattle.air_field.specs.Term.{Term, const_term, add_term, sub_term, neg_term, mul_term}
 use Rattle.air_field.specs.Same.{Same, same_refl, same_trans, same_add, same_neg, same_mul, const_add, const_mul, add_zero, mul_one, Simplifies}
 use Rattle.air_field.specs.laws.Same.{same_sub, const_sub, const_neg, zero_add, zero_sub, sub_zero, zero_mul, mul_zero, one_mul}
 use Rattle.air_field.specs.laws.Degree.{Simplifies-refl}
 use Rattle.air_symbolic.specs.Leaves.{Leaves, Keeps, LeafLaws}
-use Rattle.air_symbolic.specs.Trees.{Tree, nothing, leaf_tree, add_tree, sub_tree, neg_tree, mul_tree, term_of, IsWholeTree, tree_constant}
-use Rattle.air_symbolic.specs.laws.Numbers.{term_of-kept, tree_of-whole}
+use Rattle.air_symbolic.specs.Trees.{Tree, leaf_tree, add_tree, sub_tree, neg_tree, mul_tree, both, term_of, IsValidTree, tree_constant}
+use Rattle.air_symbolic.specs.laws.Numbers.{term_of-kept, tree_of-valid, both-valid, both-term, negative-valid, negative-term}
 use Rattle.air_symbolic.specs.Pools.{Pool, IsPool, Grown, tree_at, term_at, constant_at, IsConst, HasTree, HasConst}
 use Rattle.air_symbolic.specs.Folds.{zero_fold, sum_fold, difference_fold, product_fold, negative_fold, IsSimplified, HasFold, IsOperation}
 use Rattle.air_symbolic.specs.declared.pools.fold.Fold.{Fold}
@@ -74,71 +74,89 @@ module _ {F : Type 0} (r : CommRing F) (eq : F → F → Bool) (decides : (x y :
       (λ x y c. record { same = same_trans sub_zero (same_sub same_refl c); degree_le = λ w. omega arith })
 
 -- What an operation is: a node over its operands, what it folds to, and its term.
-pub record Operates {A F : Type 0} (r : CommRing F) (l : Leaves A F) (node : Tree A → Tree A → Tree A) (fold : Option F → Option F → Option (Fold F)) (term : Term F → Term F → Term F) : Type 0 where
-  pub whole : (t u : Tree A) → IsWholeTree l.valid t → IsWholeTree l.valid u → IsWholeTree l.valid (node t u)
-  pub means : (t u : Tree A) → term_of l.term (node t u) ≡ term (term_of l.term t) (term_of l.term u)
+pub record Operates {A F : Type 0} (r : CommRing F) (l : Leaves A F) (node : Option (Tree A) → Option (Tree A) → Option (Tree A)) (fold : Option F → Option F → Option (Fold F)) (term : Term F → Term F → Term F) : Type 0 where
+  pub valid : (t u : Option (Tree A)) → IsValidTree l.valid t → IsValidTree l.valid u → IsValidTree l.valid (node t u)
+  pub means : (t u : Option (Tree A)) → IsValidTree l.valid t → IsValidTree l.valid u → term_of l.term (node t u) ≡ term (term_of l.term t) (term_of l.term u)
   pub simplifies : (o p : Option F) (x y : Term F) → IsKnown r x o → IsKnown r y p → FoldSimplifies r x y (term x y) (fold o p)
 
 module _ {A F : Type 0} {r : CommRing F} {eq : F → F → Bool} (decides : (x y : F) → Decides (eq x y) (x ≡ y)) (l : Leaves A F) where
-  pub sum : Operates r l add_tree (sum_fold r eq) add_term
-  sum = record { whole = λ t u h k. (h, k); means = λ t u. refl; simplifies = sum_fold-simplifies r eq decides }
+  pub sum : Operates r l (both add_tree) (sum_fold r eq) add_term
+  sum = record {
+    valid = both-valid l.valid add_tree (λ t u h k. (h, k));
+    means = both-term l.valid l.term add_tree add_term (λ t u. refl);
+    simplifies = sum_fold-simplifies r eq decides;
+  }
 
-  pub difference : Operates r l sub_tree (difference_fold r eq) sub_term
-  difference = record { whole = λ t u h k. (h, k); means = λ t u. refl; simplifies = difference_fold-simplifies r eq decides }
+  pub difference : Operates r l (both sub_tree) (difference_fold r eq) sub_term
+  difference = record {
+    valid = both-valid l.valid sub_tree (λ t u h k. (h, k));
+    means = both-term l.valid l.term sub_tree sub_term (λ t u. refl);
+    simplifies = difference_fold-simplifies r eq decides;
+  }
 
-  pub product : Operates r l mul_tree (product_fold r eq) mul_term
-  product = record { whole = λ t u h k. (h, k); means = λ t u. refl; simplifies = product_fold-simplifies r eq decides }
+  pub product : Operates r l (both mul_tree) (product_fold r eq) mul_term
+  product = record {
+    valid = both-valid l.valid mul_tree (λ t u h k. (h, k));
+    means = both-term l.valid l.term mul_tree mul_term (λ t u. refl);
+    simplifies = product_fold-simplifies r eq decides;
+  }
 
-pub negative : {A F : Type 0} (r : CommRing F) (l : Leaves A F) → Operates r l (λ t _. neg_tree t) (λ o _. negative_fold r o) (λ x _. neg_term x)
-negative r l = record { whole = λ t u h k. h; means = λ t u. refl; simplifies = λ o p x y h k. negative_fold-simplifies r o x y h }
+pub negative : {A F : Type 0} (r : CommRing F) (l : Leaves A F) → Operates r l (λ t _. option_map neg_tree t) (λ o _. negative_fold r o) (λ x _. neg_term x)
+negative r l = record {
+  valid = λ t u h k. negative-valid l.valid t h;
+  means = λ t u h k. negative-term l.valid l.term t h;
+  simplifies = λ o p x y h k. negative_fold-simplifies r o x y h;
+}
 
 module _ {A F : Type 0} (r : CommRing F) (l m : Leaves A F) (constant_is : (a : A) (c : F) → l.valid a → l.constant a ≡ Some c → Same r (const_term c) (l.term a)) (k : Keeps l m) where
-  const-is : (t : Tree A) → IsWholeTree l.valid t → (a : F) → tree_constant l.constant t ≡ Some a → Same r (const_term a) (term_of l.term t)
-  const-is nothing h a e = absurd h
-  const-is (leaf_tree x) h a e = constant_is x a h e
-  const-is (add_tree t u) h a e = cc
-  const-is (sub_tree t u) h a e = cc
-  const-is (neg_tree t) h a e = cc
-  const-is (mul_tree t u) h a e = cc
+  const-is : (t : Option (Tree A)) → IsValidTree l.valid t → (a : F) → tree_constant l.constant t ≡ Some a → Same r (const_term a) (term_of l.term t)
+  const-is None h a e = absurd h
+  const-is (Some (leaf_tree x)) h a e = constant_is x a h e
+  const-is (Some (add_tree t u)) h a e = cc
+  const-is (Some (sub_tree t u)) h a e = cc
+  const-is (Some (neg_tree t)) h a e = cc
+  const-is (Some (mul_tree t u)) h a e = cc
 
-  by_const : (c : F) (v : Tree A) (x : Term F) → IsConst m c v → Same r (const_term c) x → Simplifies r (term_of m.term v) x
+  by_const : (c : F) (v : Option (Tree A)) (x : Term F) → IsConst m c v → Same r (const_term c) x → Simplifies r (term_of m.term v) x
   by_const c v x h s =
       subst (λ y. Simplifies r y x) (sym (ap (term_of m.term) h.1 ∙ h.2.term))
       record { same = s; degree_le = λ w. omega arith }
 
-  by_tree : (v s : Tree A) (x : Term F) → v ≡ s → IsWholeTree l.valid s → Simplifies r (term_of l.term s) x → Simplifies r (term_of m.term v) x
+  by_tree : (v s : Option (Tree A)) (x : Term F) → v ≡ s → IsValidTree l.valid s → Simplifies r (term_of l.term s) x → Simplifies r (term_of m.term v) x
   by_tree v s x e h st =
       subst (λ y. Simplifies r y x) (sym (ap (term_of m.term) e ∙ term_of-kept l m k s h)) st
 
   -- what is folded stands for the node's term, where the fold does
-  folded-simplifies : (t u node v : Tree A) (f : Option (Fold F)) → IsWholeTree l.valid t → IsWholeTree l.valid u → IsWholeTree l.valid node → FoldSimplifies r (term_of l.term t) (term_of l.term u) (term_of l.term node) f → IsSimplified m t u node f v → Simplifies r (term_of m.term v) (term_of l.term node)
-  folded-simplifies t u node v None ht hu hn s h = by_tree v node (term_of l.term node) h hn (Simplifies-refl r (term_of l.term node))
-  folded-simplifies t u node v (Some (Constant c)) ht hu hn s h = by_const c v (term_of l.term node) h s
-  folded-simplifies t u node v (Some Left) ht hu hn s h = by_tree v t (term_of l.term node) h ht s
-  folded-simplifies t u node v (Some Right) ht hu hn s h = by_tree v u (term_of l.term node) h hu s
-  folded-simplifies t u node v (Some Negated) ht hu hn s h = by_tree v (neg_tree u) (term_of l.term node) h hu s
+  folded-simplifies : (t u node v : Option (Tree A)) (f : Option (Fold F)) → IsValidTree l.valid t → IsValidTree l.valid u → IsValidTree l.valid node → FoldSimplifies r (term_of l.term t) (term_of l.term u) (term_of l.term node) f → IsSimplified m t u node f v → Simplifies r (term_of m.term v) (term_of l.term node)
+  folded-simplifies t u unfolded v None ht hu hn s h = by_tree v unfolded (term_of l.term unfolded) h hn (Simplifies-refl r (term_of l.term unfolded))
+  folded-simplifies t u unfolded v (Some (Constant c)) ht hu hn s h = by_const c v (term_of l.term unfolded) h s
+  folded-simplifies t u unfolded v (Some Left) ht hu hn s h = by_tree v t (term_of l.term unfolded) h ht s
+  folded-simplifies t u unfolded v (Some Right) ht hu hn s h = by_tree v u (term_of l.term unfolded) h hu s
+  folded-simplifies t u unfolded v (Some Negated) ht hu hn s h =
+      by_tree v (option_map neg_tree u) (term_of l.term unfolded) h (negative-valid l.valid u hu)
+      (subst (λ x. Simplifies r x (term_of l.term unfolded)) (sym (negative-term l.valid l.term u hu)) s)
 
   -- an operation, folded, stands for its term
-  pub operation-simplifies : {node : Tree A → Tree A → Tree A} {fold : Option F → Option F → Option (Fold F)} {term : Term F → Term F → Term F} → Operates r l node fold term
-      → (t u : Tree A) → IsWholeTree l.valid t → IsWholeTree l.valid u → (v : Tree A) → IsSimplified m t u (node t u) (fold (tree_constant l.constant t) (tree_constant l.constant u)) v
+  pub operation-simplifies : {node : Option (Tree A) → Option (Tree A) → Option (Tree A)} {fold : Option F → Option F → Option (Fold F)} {term : Term F → Term F → Term F} → Operates r l node fold term
+      → (t u : Option (Tree A)) → IsValidTree l.valid t → IsValidTree l.valid u → (v : Option (Tree A)) → IsSimplified m t u (node t u) (fold (tree_constant l.constant t) (tree_constant l.constant u)) v
       → Simplifies r (term_of m.term v) (term (term_of l.term t) (term_of l.term u))
   operation-simplifies {node = node} {fold = fold} o t u ht hu v h =
       let x = term_of l.term t in
       let y = term_of l.term u in
       let f = fold (tree_constant l.constant t) (tree_constant l.constant u) in
-      let folds = subst (λ z. FoldSimplifies r x y z f) (sym (o.means t u)) (o.simplifies _ _ x y (const-is t ht) (const-is u hu)) in
-      subst (Simplifies r (term_of m.term v)) (o.means t u) (folded-simplifies t u (node t u) v f ht hu (o.whole t u ht hu) folds h)
+      let folds = subst (λ z. FoldSimplifies r x y z f) (sym (o.means t u ht hu)) (o.simplifies _ _ x y (const-is t ht) (const-is u hu)) in
+      subst (Simplifies r (term_of m.term v)) (o.means t u ht hu) (folded-simplifies t u (node t u) v f ht hu (o.valid t u ht hu) folds h)
 
 -- So do the numbers that a pool's folded calls answer.
 module _ {U A F E : Type 0} {r : CommRing F} {reads : U → Leaves A F} {grows : U → U → Type 0} {empty : U} (laws : LeafLaws r reads grows empty) {p q : Pool U A} (pool : IsPool reads p) (grown : Grown grows reads p q)
-    {node : Tree A → Tree A → Tree A} {fold : Option F → Option F → Option (Fold F)} {term : Term F → Term F → Term F} (o : Operates r (reads p.base) node fold term)
+    {node : Option (Tree A) → Option (Tree A) → Option (Tree A)} {fold : Option F → Option F → Option (Fold F)} {term : Term F → Term F → Term F} (o : Operates r (reads p.base) node fold term)
     {x y : ℕ} (x_in : x < length p.nodes) (y_in : y < length p.nodes) (answer : Result ℕ E) where
   -- what is answered is the operation, and stands for its term
   abbrev pub Answers : Type 0
   Answers = IfOk answer (IsOperation reads p q node fold x y) × IfOk answer (λ z. Simplifies r (term_at reads q z) (term (term_at reads p x) (term_at reads p y)))
 
-  whole_at : (i : ℕ) → i < length p.nodes → IsWholeTree (reads p.base).valid (tree_at p i)
-  whole_at i b = tree_of-whole (reads p.base) p.nodes pool.nodes i b
+  whole_at : (i : ℕ) → i < length p.nodes → IsValidTree (reads p.base).valid (tree_at p i)
+  whole_at i b = tree_of-valid (reads p.base) p.nodes pool.nodes i b
 
   answers : (f : Option (Fold F)) → fold (constant_at reads p x) (constant_at reads p y) ≡ f → IfOk answer (λ z. (z < length q.nodes) × IsSimplified (reads q.base) (tree_at p x) (tree_at p y) (node (tree_at p x) (tree_at p y)) f (tree_at q z)) → Answers
   answers f is h =

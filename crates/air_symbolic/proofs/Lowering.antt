@@ -1,57 +1,122 @@
 -- What a tree without extension-only leaves is as a base tree.
 use Rattle.std.proofs.Common.{◌≡◌, ℕ, ◌+◌, ◌<◌, max, List, length, get_or, refl, sym, ap, ap₂, ◌∙◌, inl, inr, ◌⊎◌, Option, Some, None, subst}
+use Rattle.std.specs.Prelude.{option_map}
 use Rattle.air_field.specs.Degree.{degree_by, cached_weight}
 use Rattle.air_field.specs.Ring.{CommRing}
+use Rattle.air_field.specs.Term.{Term, add_term, sub_term, neg_term, mul_term}
 use Rattle.air_field.specs.Extension.{Basis}
-use Rattle.air_symbolic.specs.Trees.{Tree, nothing, leaf_tree, add_tree, sub_tree, neg_tree, mul_tree, term_of, IsWholeTree}
+use Rattle.air_symbolic.specs.Trees.{Tree, leaf_tree, add_tree, sub_tree, neg_tree, mul_tree, both, tree_term, term_of, AllValid, IsValidTree}
 use Rattle.air_symbolic.specs.Pools.{HasTree, tree_at, IsPool}
 use Rattle.air_symbolic.specs.BaseLeaves.{base_term, base_leaves, base_reads, base_grows}
 use Rattle.air_symbolic.specs.laws.BaseLeaves.{base_leaf_laws}
 use Rattle.air_symbolic.specs.laws.Pools.{tree-kept, here-kept}
 use Rattle.air_symbolic.specs.Nodes.{unfold_node, tree_of, cached_degree, OperandsBelow, IsNode}
-use Rattle.air_symbolic.specs.laws.Numbers.{tree_of-whole}
+use Rattle.air_symbolic.specs.laws.Numbers.{tree_of-valid, both-valid, both-term, negative-valid, negative-term}
 use Rattle.air_symbolic.specs.ExtLeaves.{BaseNodes, ext_valid, ext_grows, ext_term, ext_reads}
 use Rattle.air_symbolic.specs.ExtPool.{ExtNodes}
 use Rattle.air_symbolic.specs.Reach.{EachOperand}
 use Rattle.air_symbolic.specs.Lowered.{IsLoweredIn, LoweredAt, IsLoweredNode, CanLower}
 use Rattle.air_symbolic.specs.declared.pools.expr.SymbolicExpr.{SymbolicExpr}
 use Rattle.air_symbolic.specs.declared.pools.expr.SymbolicExpr.TheVariants.{Leaf, Add, Sub, Neg, Mul}
-use Rattle.air_symbolic.specs.ExtTrees.{HasExtOnly, lowered, HasTermOf}
+use Rattle.air_symbolic.specs.ExtTrees.{SomeExtOnly, HasExtOnly, lowered_tree, lowered, HasTermOf}
 use Rattle.air_symbolic.specs.declared.leaves.base_leaf.BaseLeaf.{BaseLeaf}
 use Rattle.air_symbolic.specs.declared.leaves.ext_leaf.ExtLeaf.{ExtLeaf}
 use Rattle.air_symbolic.specs.declared.leaves.ext_leaf.ExtLeaf.TheVariants.{Base, ExtVariable, ExtConstant}
 
 module _ {F EF : Type 0} (r : CommRing F) where
   -- it stays while the base pool grows
-  pub lowered-kept : (u v : BaseNodes F) → ext_grows u v → (t : Tree (ExtLeaf F EF)) → IsWholeTree (ext_valid u) t → lowered v t ≡ lowered u t
-  lowered-kept u v g nothing h = refl
-  lowered-kept u v g (leaf_tree (Base i)) h = tree-kept r base_reads base_grows tt (base_leaf_laws r) u v i g h.here
-  lowered-kept u v g (leaf_tree (ExtVariable x)) h = refl
-  lowered-kept u v g (leaf_tree (ExtConstant c)) h = refl
-  lowered-kept u v g (add_tree t x) h = cc (lowered-kept u v g t h.0, lowered-kept u v g x h.1)
-  lowered-kept u v g (sub_tree t x) h = cc (lowered-kept u v g t h.0, lowered-kept u v g x h.1)
-  lowered-kept u v g (neg_tree t) h = cc (lowered-kept u v g t h)
-  lowered-kept u v g (mul_tree t x) h = cc (lowered-kept u v g t h.0, lowered-kept u v g x h.1)
+  lowered_tree-kept : (u v : BaseNodes F) → ext_grows u v → (t : Tree (ExtLeaf F EF)) → AllValid (ext_valid u) t → lowered_tree v t ≡ lowered_tree u t
+  lowered_tree-kept u v g (leaf_tree (Base i)) h = tree-kept r base_reads base_grows tt (base_leaf_laws r) u v i g h.here
+  lowered_tree-kept u v g (leaf_tree (ExtVariable x)) h = refl
+  lowered_tree-kept u v g (leaf_tree (ExtConstant c)) h = refl
+  lowered_tree-kept u v g (add_tree t x) h = ap₂ (both add_tree) (lowered_tree-kept u v g t h.0) (lowered_tree-kept u v g x h.1)
+  lowered_tree-kept u v g (sub_tree t x) h = ap₂ (both sub_tree) (lowered_tree-kept u v g t h.0) (lowered_tree-kept u v g x h.1)
+  lowered_tree-kept u v g (neg_tree t) h = ap (option_map neg_tree) (lowered_tree-kept u v g t h)
+  lowered_tree-kept u v g (mul_tree t x) h = ap₂ (both mul_tree) (lowered_tree-kept u v g t h.0) (lowered_tree-kept u v g x h.1)
 
-  -- it has the tree's term
-  pub lowered-term : (basis : Basis F EF) (u : BaseNodes F) (t : Tree (ExtLeaf F EF)) → IsWholeTree (ext_valid u) t → (HasExtOnly t → ⊥) → term_of base_term (lowered u t) ≡ term_of (ext_term basis u) t
-  lowered-term basis u nothing h n = absurd h
-  lowered-term basis u (leaf_tree (Base i)) h n = refl
-  lowered-term basis u (leaf_tree (ExtVariable x)) h n = absurd (n tt)
-  lowered-term basis u (leaf_tree (ExtConstant c)) h n = absurd (n tt)
-  lowered-term basis u (add_tree t x) h n = cc (lowered-term basis u t h.0 (λ e. n (inl e)), lowered-term basis u x h.1 (λ e. n (inr e)))
-  lowered-term basis u (sub_tree t x) h n = cc (lowered-term basis u t h.0 (λ e. n (inl e)), lowered-term basis u x h.1 (λ e. n (inr e)))
-  lowered-term basis u (neg_tree t) h n = cc (lowered-term basis u t h n)
-  lowered-term basis u (mul_tree t x) h n = cc (lowered-term basis u t h.0 (λ e. n (inl e)), lowered-term basis u x h.1 (λ e. n (inr e)))
+  pub lowered-kept : (u v : BaseNodes F) → ext_grows u v → (t : Option (Tree (ExtLeaf F EF))) → IsValidTree (ext_valid u) t → lowered v t ≡ lowered u t
+  lowered-kept u v g (Some t) h = lowered_tree-kept u v g t h
+  lowered-kept u v g None h = refl
+
+  -- it is there where no extension-only leaf occurs
+  lowered-valid : (u : BaseNodes F) (t : Tree (ExtLeaf F EF)) → AllValid (ext_valid u) t → (SomeExtOnly t → ⊥) → IsValidTree base_leaves.valid (lowered_tree u t)
+  lowered-valid u (leaf_tree (Base i)) h n = tree_of-valid base_leaves u.nodes h.pool.nodes i h.here
+  lowered-valid u (leaf_tree (ExtVariable x)) h n = absurd (n tt)
+  lowered-valid u (leaf_tree (ExtConstant c)) h n = absurd (n tt)
+  lowered-valid u (add_tree t x) h n = both-valid base_leaves.valid add_tree (λ _ _ p q. (p, q)) (lowered_tree u t) (lowered_tree u x) (lowered-valid u t h.0 (λ e. n (inl e))) (lowered-valid u x h.1 (λ e. n (inr e)))
+  lowered-valid u (sub_tree t x) h n = both-valid base_leaves.valid sub_tree (λ _ _ p q. (p, q)) (lowered_tree u t) (lowered_tree u x) (lowered-valid u t h.0 (λ e. n (inl e))) (lowered-valid u x h.1 (λ e. n (inr e)))
+  lowered-valid u (neg_tree t) h n = negative-valid base_leaves.valid (lowered_tree u t) (lowered-valid u t h n)
+  lowered-valid u (mul_tree t x) h n = both-valid base_leaves.valid mul_tree (λ _ _ p q. (p, q)) (lowered_tree u t) (lowered_tree u x) (lowered-valid u t h.0 (λ e. n (inl e))) (lowered-valid u x h.1 (λ e. n (inr e)))
+
+  -- and has the tree's term
+  module _ (basis : Basis F EF) (u : BaseNodes F) where
+    lowered_two-term : (node : Tree (BaseLeaf F) → Tree (BaseLeaf F) → Tree (BaseLeaf F)) (term : Term F → Term F → Term F)
+        → ((t x : Tree (BaseLeaf F)) → tree_term base_term (node t x) ≡ term (tree_term base_term t) (tree_term base_term x)) → (t x : Tree (ExtLeaf F EF))
+        → AllValid (ext_valid u) t × AllValid (ext_valid u) x → (SomeExtOnly t ⊎ SomeExtOnly x → ⊥)
+        → term_of base_term (lowered_tree u t) ≡ tree_term (ext_term basis u) t → term_of base_term (lowered_tree u x) ≡ tree_term (ext_term basis u) x
+        → term_of base_term (both node (lowered_tree u t) (lowered_tree u x)) ≡ term (tree_term (ext_term basis u) t) (tree_term (ext_term basis u) x)
+    lowered_two-term node term is t x h n left right =
+        both-term base_leaves.valid base_term node term is (lowered_tree u t) (lowered_tree u x) (lowered-valid u t h.0 (λ e. n (inl e))) (lowered-valid u x h.1 (λ e. n (inr e)))
+        ∙ ap₂ term left right
+
+    lowered_tree-term : (t : Tree (ExtLeaf F EF)) → AllValid (ext_valid u) t → (SomeExtOnly t → ⊥) → term_of base_term (lowered_tree u t) ≡ tree_term (ext_term basis u) t
+    lowered_tree-term (leaf_tree (Base i)) h n = refl
+    lowered_tree-term (leaf_tree (ExtVariable x)) h n = absurd (n tt)
+    lowered_tree-term (leaf_tree (ExtConstant c)) h n = absurd (n tt)
+    lowered_tree-term (add_tree t x) h n = lowered_two-term add_tree add_term (λ _ _. refl) t x h n (lowered_tree-term t h.0 (λ e. n (inl e))) (lowered_tree-term x h.1 (λ e. n (inr e)))
+    lowered_tree-term (sub_tree t x) h n = lowered_two-term sub_tree sub_term (λ _ _. refl) t x h n (lowered_tree-term t h.0 (λ e. n (inl e))) (lowered_tree-term x h.1 (λ e. n (inr e)))
+    lowered_tree-term (neg_tree t) h n = negative-term base_leaves.valid base_term (lowered_tree u t) (lowered-valid u t h n) ∙ ap (λ v. neg_term v) (lowered_tree-term t h n)
+    lowered_tree-term (mul_tree t x) h n = lowered_two-term mul_tree mul_term (λ _ _. refl) t x h n (lowered_tree-term t h.0 (λ e. n (inl e))) (lowered_tree-term x h.1 (λ e. n (inr e)))
+
+    pub lowered-term : (t : Option (Tree (ExtLeaf F EF))) → IsValidTree (ext_valid u) t → (HasExtOnly t → ⊥) → term_of base_term (lowered u t) ≡ term_of (ext_term basis u) t
+    lowered-term (Some t) h n = lowered_tree-term t h n
+    lowered-term None h n = absurd h
+
+-- What is lowered of a node is made of what is lowered of its operands.
+module _ {F EF : Type 0} (u : BaseNodes F) (node : Tree (ExtLeaf F EF) → Tree (ExtLeaf F EF) → Tree (ExtLeaf F EF)) where
+  lowered-both : (lowered_node : Tree (BaseLeaf F) → Tree (BaseLeaf F) → Tree (BaseLeaf F))
+      → ((t x : Tree (ExtLeaf F EF)) → lowered_tree u (node t x) ≡ both lowered_node (lowered_tree u t) (lowered_tree u x))
+      → (o p : Option (Tree (ExtLeaf F EF))) → IsValidTree (ext_valid u) o → IsValidTree (ext_valid u) p → lowered u (both node o p) ≡ both lowered_node (lowered u o) (lowered u p)
+  lowered-both lowered_node is (Some t) (Some x) h k = is t x
+  lowered-both lowered_node is (Some t) None h k = absurd k
+  lowered-both lowered_node is None p h k = absurd h
+
+module _ {F EF : Type 0} (u : BaseNodes F) where
+  lowered-negative : (o : Option (Tree (ExtLeaf F EF))) → IsValidTree (ext_valid u) o → lowered u (option_map neg_tree o) ≡ option_map neg_tree (lowered u o)
+  lowered-negative (Some t) h = refl
+  lowered-negative None h = absurd h
+
+-- An extension-only leaf of an operand is one of the node, and the other way.
+module _ {F EF : Type 0} (node : Tree (ExtLeaf F EF) → Tree (ExtLeaf F EF) → Tree (ExtLeaf F EF)) where
+  pub either_ext_only : (valid : ExtLeaf F EF → Type 0) → ((t x : Tree (ExtLeaf F EF)) → SomeExtOnly t ⊎ SomeExtOnly x → SomeExtOnly (node t x))
+      → (o p : Option (Tree (ExtLeaf F EF))) → IsValidTree valid o → IsValidTree valid p → HasExtOnly o ⊎ HasExtOnly p → HasExtOnly (both node o p)
+  either_ext_only valid is (Some t) (Some x) h k e = is t x e
+  either_ext_only valid is (Some t) None h k e = absurd k
+  either_ext_only valid is None p h k e = absurd h
+
+  pub ext_only_either : ((t x : Tree (ExtLeaf F EF)) → SomeExtOnly (node t x) → SomeExtOnly t ⊎ SomeExtOnly x)
+      → (o p : Option (Tree (ExtLeaf F EF))) → HasExtOnly (both node o p) → HasExtOnly o ⊎ HasExtOnly p
+  ext_only_either is (Some t) (Some x) e = is t x e
+  ext_only_either is (Some t) None e = absurd e
+  ext_only_either is None p e = absurd e
+
+module _ {F EF : Type 0} where
+  pub negative_ext_only : (o : Option (Tree (ExtLeaf F EF))) → HasExtOnly o → HasExtOnly (option_map neg_tree o)
+  negative_ext_only (Some t) e = e
+  negative_ext_only None e = absurd e
+
+  pub ext_only_negative : (o : Option (Tree (ExtLeaf F EF))) → HasExtOnly (option_map neg_tree o) → HasExtOnly o
+  ext_only_negative (Some t) e = e
+  ext_only_negative None e = absurd e
 
 -- the lowered tree of a number has the number's term
 pub lowered-has-term : {F EF : Type 0} (r : CommRing F) (basis : Basis F EF) (p : ExtNodes F EF) (i : ℕ) (u : BaseNodes F) (b : ℕ) → IsPool (ext_reads basis) p → i < length p.nodes → (HasExtOnly (tree_at p i) → ⊥) → HasTree u (lowered p.base (tree_at p i)) b → HasTermOf basis p i u b
 lowered-has-term r basis p i u b pool here n h =
     ap (term_of base_term) h.tree
-    ∙ lowered-term r basis p.base (tree_at p i) (tree_of-whole (ext_reads basis p.base) p.nodes pool.nodes i here) n
+    ∙ lowered-term r basis p.base (tree_at p i) (tree_of-valid (ext_reads basis p.base) p.nodes pool.nodes i here) n
 
 -- A number of the base pool keeps its tree.
-pub HasTree-kept : {F : Type 0} (r : CommRing F) (u v : BaseNodes F) (i : ℕ) (t : Tree (BaseLeaf F)) → ext_grows u v → HasTree u t i → HasTree v t i
+pub HasTree-kept : {F : Type 0} (r : CommRing F) (u v : BaseNodes F) (i : ℕ) (t : Option (Tree (BaseLeaf F))) → ext_grows u v → HasTree u t i → HasTree v t i
 HasTree-kept r u v i t g h = record {
   here = here-kept r base_reads base_grows tt (base_leaf_laws r) u v i g h.here;
   tree = tree-kept r base_reads base_grows tt (base_leaf_laws r) u v i g h.here ∙ h.tree;
@@ -83,8 +148,11 @@ module _ {F EF : Type 0} (r : CommRing F) {basis : Basis F EF} {p : ExtNodes F E
     operands-there =
         each_below (LoweredAt p table) (λ x. get_or table x None ≡ None → ⊥) i n (λ x _ h. lowered-there p p x (get_or table x None) h) is.below (ready.operands n is.node)
 
-    only : HasExtOnly (unfold_node (tree_of p.nodes) n) → ⊥
-    only = subst (λ t. HasExtOnly t → ⊥) is.tree ready.base_only
+    none : HasExtOnly (unfold_node (tree_of p.nodes) n) → ⊥
+    none = subst (λ t. HasExtOnly t → ⊥) is.tree ready.base_only
+
+  valid_at : (x : ℕ) → x < length p.nodes → IsValidTree (ext_valid p.base) (tree_at p x)
+  valid_at = tree_of-valid (ext_reads basis p.base) p.nodes pool.nodes
 
   -- b stands for the operand x
   record IsFor (x b : ℕ) : Type 0 where
@@ -101,22 +169,34 @@ module _ {F EF : Type 0} (r : CommRing F) {basis : Basis F EF} {p : ExtNodes F E
         tree = h.tree;
       }
 
-  both : (join : ℕ → ℕ → ℕ) (node : Tree (BaseLeaf F) → Tree (BaseLeaf F) → Tree (BaseLeaf F)) (x y d a b : ℕ) → (x < length p.nodes) × (y < length p.nodes) × (d ≡ join (cached_degree (ext_reads basis p.base) p.nodes x) (cached_degree (ext_reads basis p.base) p.nodes y)) → (HasExtOnly (tree_at p x) ⊎ HasExtOnly (tree_at p y) → ⊥) → LoweredAt p table x × LoweredAt p table y → lowered p.base (tree_at p i) ≡ node (lowered p.base (tree_at p x)) (lowered p.base (tree_at p y)) → get_or table x None ≡ Some a → get_or table y None ≡ Some b → ((a < length p.base.nodes) × (b < length p.base.nodes) × (d ≡ join (cached_degree base_leaves p.base.nodes a) (cached_degree base_leaves p.base.nodes b))) × (node (tree_at p.base a) (tree_at p.base b) ≡ lowered p.base (tree_at p i))
-  both join node x y d a b fits base at tree ea eb =
-      let ha = operand x a fits.0 (λ e. base (inl e)) at.0 ea in
-      let hb = operand y b fits.1 (λ e. base (inr e)) at.1 eb in
-      ((ha.here, hb.here, fits.2 ∙ ap₂ join ha.degree hb.degree), ap₂ node ha.tree hb.tree ∙ sym tree)
+  -- a node over two operands, and what it is lowered to
+  module _ (join : ℕ → ℕ → ℕ) (node : Tree (BaseLeaf F) → Tree (BaseLeaf F) → Tree (BaseLeaf F)) (ext_node : Tree (ExtLeaf F EF) → Tree (ExtLeaf F EF) → Tree (ExtLeaf F EF))
+      (lowers : (t u : Tree (ExtLeaf F EF)) → lowered_tree p.base (ext_node t u) ≡ both node (lowered_tree p.base t) (lowered_tree p.base u))
+      (occurs : (t u : Tree (ExtLeaf F EF)) → SomeExtOnly t ⊎ SomeExtOnly u → SomeExtOnly (ext_node t u)) where
+    over_two : (x y d a b : ℕ) → (x < length p.nodes) × (y < length p.nodes) × (d ≡ join (cached_degree (ext_reads basis p.base) p.nodes x) (cached_degree (ext_reads basis p.base) p.nodes y))
+        → (HasExtOnly (both ext_node (tree_at p x) (tree_at p y)) → ⊥) → LoweredAt p table x × LoweredAt p table y → tree_at p i ≡ both ext_node (tree_at p x) (tree_at p y)
+        → get_or table x None ≡ Some a → get_or table y None ≡ Some b
+        → ((a < length p.base.nodes) × (b < length p.base.nodes) × (d ≡ join (cached_degree base_leaves p.base.nodes a) (cached_degree base_leaves p.base.nodes b))) × (both node (tree_at p.base a) (tree_at p.base b) ≡ lowered p.base (tree_at p i))
+    over_two x y d a b fits base at tree ea eb =
+        let left = valid_at x fits.0 in
+        let right = valid_at y fits.1 in
+        let ha = operand x a fits.0 (λ e. base (either_ext_only ext_node (ext_valid p.base) occurs (tree_at p x) (tree_at p y) left right (inl e))) at.0 ea in
+        let hb = operand y b fits.1 (λ e. base (either_ext_only ext_node (ext_valid p.base) occurs (tree_at p x) (tree_at p y) left right (inr e))) at.1 eb in (
+          (ha.here, hb.here, fits.2 ∙ ap₂ join ha.degree hb.degree),
+          ap₂ (both node) ha.tree hb.tree ∙ sym (ap (lowered p.base) tree ∙ lowered-both p.base ext_node node lowers (tree_at p x) (tree_at p y) left right),
+        )
 
   pub added : {x y d a b : ℕ} → IsNode (ext_reads basis p.base) p.nodes i (Add x y d) → get_or table x None ≡ Some a → get_or table y None ≡ Some b → IsLoweredNode p i (Add a b d)
-  added is = both max (λ t u. add_tree t u) _ _ _ _ _ is.fits (only is) (ready.operands _ is.node) (ap (lowered p.base) is.tree)
+  added is = over_two max add_tree add_tree (λ _ _. refl) (λ _ _ e. e) _ _ _ _ _ is.fits (none is) (ready.operands _ is.node) is.tree
 
   pub subtracted : {x y d a b : ℕ} → IsNode (ext_reads basis p.base) p.nodes i (Sub x y d) → get_or table x None ≡ Some a → get_or table y None ≡ Some b → IsLoweredNode p i (Sub a b d)
-  subtracted is = both max (λ t u. sub_tree t u) _ _ _ _ _ is.fits (only is) (ready.operands _ is.node) (ap (lowered p.base) is.tree)
+  subtracted is = over_two max sub_tree sub_tree (λ _ _. refl) (λ _ _ e. e) _ _ _ _ _ is.fits (none is) (ready.operands _ is.node) is.tree
 
   pub multiplied : {x y d a b : ℕ} → IsNode (ext_reads basis p.base) p.nodes i (Mul x y d) → get_or table x None ≡ Some a → get_or table y None ≡ Some b → IsLoweredNode p i (Mul a b d)
-  multiplied is = both (λ k l. k + l) (λ t u. mul_tree t u) _ _ _ _ _ is.fits (only is) (ready.operands _ is.node) (ap (lowered p.base) is.tree)
+  multiplied is = over_two (λ k l. k + l) mul_tree mul_tree (λ _ _. refl) (λ _ _ e. e) _ _ _ _ _ is.fits (none is) (ready.operands _ is.node) is.tree
 
   pub negated : {x d a : ℕ} → IsNode (ext_reads basis p.base) p.nodes i (Neg x d) → get_or table x None ≡ Some a → IsLoweredNode p i (Neg a d)
-  negated is e =
-      let h = operand _ _ is.fits.0 (only is) (ready.operands _ is.node) e in
-      ((h.here, is.fits.1 ∙ h.degree), ap (λ t. neg_tree t) h.tree ∙ sym (ap (lowered p.base) is.tree))
+  negated {x = x} {d = d} {a = a} is e =
+      let valid = valid_at x is.fits.0 in
+      let h = operand x a is.fits.0 (λ o. none is (negative_ext_only (tree_at p x) o)) (ready.operands (Neg x d) is.node) e in
+      ((h.here, is.fits.1 ∙ h.degree), ap (option_map neg_tree) h.tree ∙ sym (ap (lowered p.base) is.tree ∙ lowered-negative p.base (tree_at p x) valid))

@@ -18,7 +18,7 @@ use Rattle.air_symbolic.specs.PoolRefusals.{PoolRefuses}
 use Rattle.air_symbolic.specs.BaseLeaves.{base_reads}
 use Rattle.air_symbolic.specs.ExtLeaves.{ext_reads}
 use Rattle.air_symbolic.specs.ExtPool.{ExtNodes, BaseMeans}
-use Rattle.std.specs.Prelude.{Option}
+use Rattle.std.specs.Prelude.{Option, Some}
 use Rattle.air_symbolic.specs.declared.pools.fold.Fold.{Fold}
 use Rattle.air_symbolic.specs.declared.leaves.ext_leaf.ExtLeaf.TheVariants.{Base}
 
@@ -27,7 +27,7 @@ IfOk-both (Ok x) P Q R f p q = f x p q
 IfOk-both (Err e) P Q R f p q = tt
 
 -- An operation, answered, means its term.
-module _ {U A F E : Type 0} {r : CommRing F} {reads : U → Leaves A F} {q : Pool U A} (pool : IsPool reads q) (p : Pool U A) (node : Tree A → Tree A → Tree A) (fold : Option F → Option F → Option (Fold F)) (answer : Result ℕ E) where
+module _ {U A F E : Type 0} {r : CommRing F} {reads : U → Leaves A F} {q : Pool U A} (pool : IsPool reads q) (p : Pool U A) (node : Option (Tree A) → Option (Tree A) → Option (Tree A)) (fold : Option F → Option F → Option (Fold F)) (answer : Result ℕ E) where
   pub made-both : (x y : ℕ) (term : Term F → Term F → Term F) → ((t u v w : Term F) → Simplifies r t v → Simplifies r u w → Simplifies r (term t u) (term v w))
       → IfOk answer (IsOperation reads p q node fold x y) → IfOk answer (λ z. Simplifies r (term_at reads q z) (term (term_at reads p x) (term_at reads p y)))
       → IfOk answer (MadeOfBoth (PoolHas reads) (PoolMeans reads r) term p q x y)
@@ -47,7 +47,7 @@ module _ {U A F E : Type 0} {r : CommRing F} {reads : U → Leaves A F} {q : Poo
       ))
 
 -- A leaf means its term.
-pub made-leaf : {U A F : Type 0} (r : CommRing F) (reads : U → Leaves A F) (q : Pool U A) (a : A) (z : ℕ) → IsPool reads q → HasTree q (leaf_tree a) z → Made (PoolHas reads) (PoolMeans reads r) ((reads q.base).term a) q z
+pub made-leaf : {U A F : Type 0} (r : CommRing F) (reads : U → Leaves A F) (q : Pool U A) (a : A) (z : ℕ) → IsPool reads q → HasTree q (Some (leaf_tree a)) z → Made (PoolHas reads) (PoolMeans reads r) ((reads q.base).term a) q z
 made-leaf r reads q a z pool h =
     let t = (reads q.base).term a in (
       record { pool = pool; here = h.here },
@@ -68,7 +68,7 @@ refused-product r reads p x y (Err Memory) h = λ t u k m. tt
 refused-product r reads p x y (Err DegreeOverflow) h = λ t u k m. omega (arith, h refl, k.simplifies.degree_le cached_weight, m.simplifies.degree_le cached_weight)
 
 -- The leaf of a base expression means what that means.
-pub made-lifted : {F EF : Type 0} (r : CommRing F) (basis : Basis F EF) (p q : ExtNodes F EF) (x : ℕ) → q.base ≡ p.base → IsPool (ext_reads basis) q → (z : ℕ) → HasTree q (leaf_tree (Base x)) z → Lifted (PoolHas (ext_reads basis)) (PoolMeans (ext_reads basis) r) (BaseMeans r basis) p q x z
+pub made-lifted : {F EF : Type 0} (r : CommRing F) (basis : Basis F EF) (p q : ExtNodes F EF) (x : ℕ) → q.base ≡ p.base → IsPool (ext_reads basis) q → (z : ℕ) → HasTree q (Some (leaf_tree (Base x))) z → Lifted (PoolHas (ext_reads basis)) (PoolMeans (ext_reads basis) r) (BaseMeans r basis) p q x z
 made-lifted r basis p q x same pool z m =
     let reads = ext_reads basis in
     let is : term_at reads q z ≡ term_at base_reads p.base x = ap (term_of (reads q.base).term) m.tree ∙ ap (λ u. term_at base_reads u x) same in (

@@ -5,39 +5,46 @@ use Rattle.std.specs.Prelude.{slice_get}
 use Rattle.air_field.specs.Ring.{CommRing}
 use Rattle.air_field.specs.Extension.{Basis}
 use Rattle.air_symbolic.specs.Leaves.{Leaves}
-use Rattle.air_symbolic.specs.Trees.{Tree, nothing, leaf_tree, add_tree, sub_tree, neg_tree, mul_tree}
-use Rattle.air_symbolic.specs.Nodes.{unfold_node, tree_of, WellFormed, IsNode}
-use Rattle.air_symbolic.specs.laws.Numbers.{tree_of-whole}
+use Rattle.air_symbolic.specs.Trees.{Tree, leaf_tree, add_tree, sub_tree, neg_tree, mul_tree, both}
+use Rattle.air_symbolic.specs.Nodes.{unfold_node, tree_of, NodeFits, WellFormed, IsNode}
+use Rattle.air_symbolic.specs.laws.Numbers.{tree_of-valid}
 use Rattle.air_symbolic.specs.laws.Sharing.{found, node_at-is}
 use Rattle.air_symbolic.specs.Pools.{IsPool, Grown, HasTree, tree_at}
 use Rattle.air_symbolic.specs.ExtLeaves.{ext_grows, ext_reads}
 use Rattle.air_symbolic.specs.ExtPool.{ExtNodes}
-use Rattle.air_symbolic.specs.ExtTrees.{HasExtOnly, lowered}
+use Rattle.air_symbolic.specs.ExtTrees.{SomeExtOnly, HasExtOnly, lowered}
 use Rattle.air_symbolic.specs.Reach.{EachOperand, IsOperand, Marked, Reached, ReachedFrom, root, operand}
 use Rattle.air_symbolic.specs.Lowered.{IsExtOnlyLeaf, IsMarkedExtOnly, IsLoweredIn, LoweredAt, CanLower}
 use Rattle.air_symbolic.specs.declared.pools.expr.SymbolicExpr.{SymbolicExpr}
 use Rattle.air_symbolic.specs.declared.pools.expr.SymbolicExpr.TheVariants as node
 use Rattle.air_symbolic.specs.declared.leaves.ext_leaf.ExtLeaf.{ExtLeaf}
-use Rattle.air_symbolic.proofs.Lowering.{each_below, HasTree-kept, lowered-kept, lowered-read}
+use Rattle.air_symbolic.proofs.Lowering.{each_below, HasTree-kept, lowered-kept, lowered-read, either_ext_only, ext_only_either, negative_ext_only, ext_only_negative}
 
 -- an extension-only leaf in an operand is one in the node
-operand-ext-only : {F EF : Type 0} (at : ℕ → Tree (ExtLeaf F EF)) (i : ℕ) (n : SymbolicExpr (ExtLeaf F EF)) → IsOperand i n → HasExtOnly (at i) → HasExtOnly (unfold_node at n)
-operand-ext-only at i (node.Leaf a) p h = absurd p
-operand-ext-only at i (node.Add x y d) (inl e) h = inl (subst (λ k. HasExtOnly (at k)) e h)
-operand-ext-only at i (node.Add x y d) (inr e) h = inr (subst (λ k. HasExtOnly (at k)) e h)
-operand-ext-only at i (node.Sub x y d) (inl e) h = inl (subst (λ k. HasExtOnly (at k)) e h)
-operand-ext-only at i (node.Sub x y d) (inr e) h = inr (subst (λ k. HasExtOnly (at k)) e h)
-operand-ext-only at i (node.Neg x d) e h = subst (λ k. HasExtOnly (at k)) e h
-operand-ext-only at i (node.Mul x y d) (inl e) h = inl (subst (λ k. HasExtOnly (at k)) e h)
-operand-ext-only at i (node.Mul x y d) (inr e) h = inr (subst (λ k. HasExtOnly (at k)) e h)
+module _ {F EF : Type 0} (l : Leaves (ExtLeaf F EF) F) (ns : List (SymbolicExpr (ExtLeaf F EF))) (wf : WellFormed l ns) where
+  of_two : (node_of : Tree (ExtLeaf F EF) → Tree (ExtLeaf F EF) → Tree (ExtLeaf F EF)) → ((t u : Tree (ExtLeaf F EF)) → SomeExtOnly t ⊎ SomeExtOnly u → SomeExtOnly (node_of t u))
+      → (i x y : ℕ) → x < length ns → y < length ns → (i ≡ x) ⊎ (i ≡ y) → HasExtOnly (tree_of ns i) → HasExtOnly (both node_of (tree_of ns x) (tree_of ns y))
+  of_two node_of is i x y b c p h =
+      either_ext_only node_of l.valid is (tree_of ns x) (tree_of ns y) (tree_of-valid l ns wf x b) (tree_of-valid l ns wf y c)
+      (⊎_elim
+      (λ (e : i ≡ x). inl (subst (λ k. HasExtOnly (tree_of ns k)) e h))
+      (λ (e : i ≡ y). inr (subst (λ k. HasExtOnly (tree_of ns k)) e h))
+      p)
 
-leaf-ext-only : {F EF : Type 0} (t : Tree (ExtLeaf F EF)) → IsExtOnlyLeaf t → HasExtOnly t
-leaf-ext-only nothing h = absurd h
-leaf-ext-only (leaf_tree a) h = h
-leaf-ext-only (add_tree t u) h = absurd h
-leaf-ext-only (sub_tree t u) h = absurd h
-leaf-ext-only (neg_tree t) h = absurd h
-leaf-ext-only (mul_tree t u) h = absurd h
+  operand-ext-only : (i : ℕ) (n : SymbolicExpr (ExtLeaf F EF)) → NodeFits l ns n → IsOperand i n → HasExtOnly (tree_of ns i) → HasExtOnly (unfold_node (tree_of ns) n)
+  operand-ext-only i (node.Leaf a) fits p h = absurd p
+  operand-ext-only i (node.Add x y d) fits p h = of_two add_tree (λ _ _ e. e) i x y fits.0 fits.1 p h
+  operand-ext-only i (node.Sub x y d) fits p h = of_two sub_tree (λ _ _ e. e) i x y fits.0 fits.1 p h
+  operand-ext-only i (node.Neg x d) fits e h = negative_ext_only (tree_of ns x) (subst (λ k. HasExtOnly (tree_of ns k)) e h)
+  operand-ext-only i (node.Mul x y d) fits p h = of_two mul_tree (λ _ _ e. e) i x y fits.0 fits.1 p h
+
+leaf-ext-only : {F EF : Type 0} (t : Option (Tree (ExtLeaf F EF))) → IsExtOnlyLeaf t → HasExtOnly t
+leaf-ext-only None h = absurd h
+leaf-ext-only (Some (leaf_tree a)) h = h
+leaf-ext-only (Some (add_tree t u)) h = absurd h
+leaf-ext-only (Some (sub_tree t u)) h = absurd h
+leaf-ext-only (Some (neg_tree t)) h = absurd h
+leaf-ext-only (Some (mul_tree t u)) h = absurd h
 
 -- what holds of one root holds of all
 pub one-root : (P : ℕ → Type 0) (r : ℕ) → P r → All P (r ∷ [])
@@ -55,13 +62,13 @@ not-marked p marks k o b lt e d f h =
 
 module _ {F EF : Type 0} (l : Leaves (ExtLeaf F EF) F) (p : ExtNodes F EF) (r : ℕ) where
   -- an extension-only leaf in what the root reaches is one in the root
-  reached-ext-only : (i : ℕ) → ReachedFrom l p.nodes (r ∷ []) i → HasExtOnly (tree_at p i) → HasExtOnly (tree_at p r)
-  reached-ext-only i (root (k, lt, e)) h =
+  reached-ext-only : WellFormed l p.nodes → (i : ℕ) → ReachedFrom l p.nodes (r ∷ []) i → HasExtOnly (tree_at p i) → HasExtOnly (tree_at p r)
+  reached-ext-only wf i (root (k, lt, e)) h =
       let z : k ≡ 0 = omega (arith, lt) in
       let first : r ≡ i = subst (λ j. get_or (r ∷ []) j i ≡ i) z e in
       subst (λ j. HasExtOnly (tree_at p j)) (sym first) h
-  reached-ext-only i (operand {j = j} {n = n} f is o) h =
-      reached-ext-only j f (subst (λ t. HasExtOnly t) (sym is.tree) (operand-ext-only (tree_of p.nodes) i n o h))
+  reached-ext-only wf i (operand {j = j} {n = n} f is o) h =
+      reached-ext-only wf j f (subst (λ t. HasExtOnly t) (sym is.tree) (operand-ext-only l p.nodes wf i n is.fits o h))
 
   module _ (marks : List (Option ℕ)) (reach : Reached l p.nodes (r ∷ []) marks) where
     -- what is read at a place is the place's number, and marked
@@ -79,24 +86,21 @@ module _ {F EF : Type 0} (l : Leaves (ExtLeaf F EF) F) (p : ExtNodes F EF) (r : 
         omega (arith, m.0, lt, reach.places)
 
     -- a marked extension-only leaf occurs in the root
-    pub marked-ext-only : (k : ℕ) (o : Option ℕ) → k < length marks → o ≡ get_or marks k o → IsMarkedExtOnly p o → HasExtOnly (tree_at p r)
-    marked-ext-only k None lt e h = absurd h
-    marked-ext-only k (Some i) lt e h =
+    pub marked-ext-only : WellFormed l p.nodes → (k : ℕ) (o : Option ℕ) → k < length marks → o ≡ get_or marks k o → IsMarkedExtOnly p o → HasExtOnly (tree_at p r)
+    marked-ext-only wf k None lt e h = absurd h
+    marked-ext-only wf k (Some i) lt e h =
         let m = mark-at k i (Some i) lt e refl in
-        reached-ext-only i m.2 (leaf-ext-only (tree_at p i) h)
+        reached-ext-only wf i m.2 (leaf-ext-only (tree_at p i) h)
 
     -- where none is marked, none occurs in what is
     module _ (wf : WellFormed l p.nodes) (none : (i : ℕ) → i < length marks → IsMarkedExtOnly p (get_or marks i None) → ⊥) where
       none-in-node : (i : ℕ) (n : SymbolicExpr (ExtLeaf F EF)) → i < length marks → Marked marks i → tree_at p i ≡ unfold_node (tree_of p.nodes) n → EachOperand (λ j. HasExtOnly (tree_at p j) → ⊥) n → HasExtOnly (unfold_node (tree_of p.nodes) n) → ⊥
       none-in-node i (node.Leaf a) lt m t f h =
           none i lt (subst (λ o. IsMarkedExtOnly p o) (sym m) (subst (λ u. IsExtOnlyLeaf u) (sym t) h))
-      none-in-node i (node.Add x y d) lt m t f (inl h) = f.0 h
-      none-in-node i (node.Add x y d) lt m t f (inr h) = f.1 h
-      none-in-node i (node.Sub x y d) lt m t f (inl h) = f.0 h
-      none-in-node i (node.Sub x y d) lt m t f (inr h) = f.1 h
-      none-in-node i (node.Neg x d) lt m t f h = f h
-      none-in-node i (node.Mul x y d) lt m t f (inl h) = f.0 h
-      none-in-node i (node.Mul x y d) lt m t f (inr h) = f.1 h
+      none-in-node i (node.Add x y d) lt m t f h = ⊎_elim f.0 f.1 (ext_only_either add_tree (λ _ _ e. e) _ _ h)
+      none-in-node i (node.Sub x y d) lt m t f h = ⊎_elim f.0 f.1 (ext_only_either sub_tree (λ _ _ e. e) _ _ h)
+      none-in-node i (node.Neg x d) lt m t f h = f (ext_only_negative (tree_of p.nodes x) h)
+      none-in-node i (node.Mul x y d) lt m t f h = ⊎_elim f.0 f.1 (ext_only_either mul_tree (λ _ _ e. e) _ _ h)
 
       none-below : (k i : ℕ) → i < k → i < length p.nodes → Marked marks i → HasExtOnly (tree_at p i) → ⊥
       none-below zero i b lt m h = absurd (omega (arith, b))
@@ -121,7 +125,7 @@ module _ {F EF : Type 0} (l : Leaves (ExtLeaf F EF) F) (p : ExtNodes F EF) (r : 
         let here : i < length p.nodes = omega (arith, m.0, lt, reach.places) in
         record {
           here = subst (λ (ns : List (SymbolicExpr (ExtLeaf F EF))). i < length ns) (sym same) here;
-          base_only = λ h. base (reached-ext-only i m.2 (subst (λ (ns : List (SymbolicExpr (ExtLeaf F EF))). HasExtOnly (tree_of ns i)) same h));
+          base_only = λ h. base (reached-ext-only wf i m.2 (subst (λ (ns : List (SymbolicExpr (ExtLeaf F EF))). HasExtOnly (tree_of ns i)) same h));
           operands = λ n at.
               let is : IsNode l p.nodes i n = node_at-is l p.nodes wf i n (subst (λ (ns : List (SymbolicExpr (ExtLeaf F EF))). slice_get ns i ≡ Some n) same at) in
               each_below (λ j. Marked marks j) (LoweredAt s table) i n
@@ -149,7 +153,7 @@ module _ {F EF : Type 0} (l : Leaves (ExtLeaf F EF) F) (p : ExtNodes F EF) (r : 
         moved i here b h = record {
           here = h.here;
           tree = h.tree
-              ∙ sym (lowered-kept r s.base t.base g.under (tree_at s i) (tree_of-whole (ext_reads basis s.base) s.nodes pool.nodes i here))
+              ∙ sym (lowered-kept r s.base t.base g.under (tree_at s i) (tree_of-valid (ext_reads basis s.base) s.nodes pool.nodes i here))
               ∙ ap (λ (ns : List (SymbolicExpr (ExtLeaf F EF))). lowered t.base (tree_of ns i)) (sym same);
         }
 
@@ -161,5 +165,5 @@ lowered-at-first r basis p s table i b pool g same here h e =
       here = last.here;
       tree = last.tree
           ∙ ap (λ (ns : List (SymbolicExpr (ExtLeaf _ _))). lowered s.base (tree_of ns i)) same
-          ∙ lowered-kept r p.base s.base g.under (tree_at p i) (tree_of-whole (ext_reads basis p.base) p.nodes pool.nodes i here);
+          ∙ lowered-kept r p.base s.base g.under (tree_at p i) (tree_of-valid (ext_reads basis p.base) p.nodes pool.nodes i here);
     }

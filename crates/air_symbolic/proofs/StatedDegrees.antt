@@ -1,5 +1,6 @@
 -- What does not depend on the degree that a node states.
 use Rattle.std.proofs.Common.{◌≡◌, ℕ, refl}
+use Rattle.std.specs.Prelude.{Option}
 use Rattle.air_symbolic.specs.Trees.{Tree}
 use Rattle.air_symbolic.specs.Nodes.{unfold_node, OperandsBelow}
 use Rattle.air_symbolic.specs.Numbering.{with_degree}
@@ -7,7 +8,7 @@ use Rattle.air_symbolic.specs.declared.pools.expr.SymbolicExpr.{SymbolicExpr}
 use Rattle.air_symbolic.specs.declared.pools.expr.SymbolicExpr.TheVariants.{Leaf, Add, Sub, Neg, Mul}
 
 module _ {A : Type 0} where
-  pub unfold-with_degree : (f : ℕ → Tree A) (n : SymbolicExpr A) (d : ℕ) → unfold_node f (with_degree n d) ≡ unfold_node f n
+  pub unfold-with_degree : (f : ℕ → Option (Tree A)) (n : SymbolicExpr A) (d : ℕ) → unfold_node f (with_degree n d) ≡ unfold_node f n
   unfold-with_degree f (Leaf a) d = refl
   unfold-with_degree f (Add x y e) d = refl
   unfold-with_degree f (Sub x y e) d = refl

@@ -1,7 +1,7 @@
 -- The trees of extension expressions, in which a Base leaf holds a whole base tree.
-use Rattle.std.specs.Prelude.{◌≡◌, ℕ, ◌⊎◌, ⊤}
+use Rattle.std.specs.Prelude.{◌≡◌, ℕ, ◌⊎◌, ⊤, Option, None, Some, option_map, option_and_then}
 use Rattle.air_field.specs.Extension.{Basis}
-use Rattle.air_symbolic.specs.Trees.{Tree, nothing, leaf_tree, add_tree, sub_tree, neg_tree, mul_tree, term_of}
+use Rattle.air_symbolic.specs.Trees.{Tree, leaf_tree, add_tree, sub_tree, neg_tree, mul_tree, both, term_of}
 use Rattle.air_symbolic.specs.Pools.{tree_at, term_at, HasTree}
 use Rattle.air_symbolic.specs.BaseLeaves.{base_reads}
 use Rattle.air_symbolic.specs.ExtLeaves.{BaseNodes, ext_term}
@@ -11,9 +11,9 @@ use Rattle.air_symbolic.specs.declared.leaves.ext_leaf.ExtLeaf.{ExtLeaf}
 use Rattle.air_symbolic.specs.declared.leaves.ext_leaf.ExtLeaf.TheVariants.{Base, ExtVariable, ExtConstant}
 use Rattle.air_core.specs.declared.variables.variable_ext.SymbolicVariableExt.{SymbolicVariableExt}
 
--- A leaf with the base tree in place of its number.
+-- A leaf with the tree of the base number in its place.
 pub data WholeLeaf (F EF : Type 0) : Type 0 where
-  whole_base : Tree (BaseLeaf F) → WholeLeaf F EF
+  whole_base : Option (Tree (BaseLeaf F)) → WholeLeaf F EF
   whole_variable : SymbolicVariableExt F EF → WholeLeaf F EF
   whole_constant : EF → WholeLeaf F EF
 
@@ -24,7 +24,6 @@ whole_leaf u (ExtConstant c) = whole_constant c
 
 -- the tree over such leaves
 abbrev pub whole_tree : {F EF : Type 0} → BaseNodes F → Tree (ExtLeaf F EF) → Tree (WholeLeaf F EF)
-whole_tree u nothing = nothing
 whole_tree u (leaf_tree a) = leaf_tree (whole_leaf u a)
 whole_tree u (add_tree t v) = add_tree (whole_tree u t) (whole_tree u v)
 whole_tree u (sub_tree t v) = sub_tree (whole_tree u t) (whole_tree u v)
@@ -32,8 +31,8 @@ whole_tree u (neg_tree t) = neg_tree (whole_tree u t)
 whole_tree u (mul_tree t v) = mul_tree (whole_tree u t) (whole_tree u v)
 
 -- the tree of number i of an extension pool
-abbrev pub whole_tree_at : {F EF : Type 0} → ExtNodes F EF → ℕ → Tree (WholeLeaf F EF)
-whole_tree_at p i = whole_tree p.base (tree_at p i)
+abbrev pub whole_tree_at : {F EF : Type 0} → ExtNodes F EF → ℕ → Option (Tree (WholeLeaf F EF))
+whole_tree_at p i = option_map (whole_tree p.base) (tree_at p i)
 
 -- number i has its whole tree in every pool that p has grown to
 abbrev pub KeepsWholeTree : {F EF : Type 0} → Basis F EF → ExtNodes F EF → ℕ → Type 0
@@ -46,32 +45,38 @@ IsExtOnly (Base i) = ⊥
 IsExtOnly (ExtVariable v) = ⊤
 IsExtOnly (ExtConstant c) = ⊤
 
--- such a leaf occurs in the tree
-abbrev pub HasExtOnly : {F EF : Type 0} → Tree (ExtLeaf F EF) → Type 0
-HasExtOnly nothing = ⊥
-HasExtOnly (leaf_tree a) = IsExtOnly a
-HasExtOnly (add_tree t v) = HasExtOnly t ⊎ HasExtOnly v
-HasExtOnly (sub_tree t v) = HasExtOnly t ⊎ HasExtOnly v
-HasExtOnly (neg_tree t) = HasExtOnly t
-HasExtOnly (mul_tree t v) = HasExtOnly t ⊎ HasExtOnly v
+-- such a leaf is one of the tree's
+abbrev pub SomeExtOnly : {F EF : Type 0} → Tree (ExtLeaf F EF) → Type 0
+SomeExtOnly (leaf_tree a) = IsExtOnly a
+SomeExtOnly (add_tree t v) = SomeExtOnly t ⊎ SomeExtOnly v
+SomeExtOnly (sub_tree t v) = SomeExtOnly t ⊎ SomeExtOnly v
+SomeExtOnly (neg_tree t) = SomeExtOnly t
+SomeExtOnly (mul_tree t v) = SomeExtOnly t ⊎ SomeExtOnly v
 
--- The base tree with the same nodes, the base trees of the leaves unfolded; where an extension-only leaf occurs,
--- nothing stands in its place.
-abbrev pub lowered_leaf : {F EF : Type 0} → BaseNodes F → ExtLeaf F EF → Tree (BaseLeaf F)
+-- the tree is there, and such a leaf occurs in it
+abbrev pub HasExtOnly : {F EF : Type 0} → Option (Tree (ExtLeaf F EF)) → Type 0
+HasExtOnly (Some t) = SomeExtOnly t
+HasExtOnly None = ⊥
+
+-- The base tree with the same nodes, the base trees of the leaves unfolded; there is none where an extension-only leaf
+-- occurs.
+abbrev pub lowered_leaf : {F EF : Type 0} → BaseNodes F → ExtLeaf F EF → Option (Tree (BaseLeaf F))
 lowered_leaf u (Base i) = tree_at u i
-lowered_leaf u (ExtVariable v) = nothing
-lowered_leaf u (ExtConstant c) = nothing
+lowered_leaf u (ExtVariable v) = None
+lowered_leaf u (ExtConstant c) = None
 
-abbrev pub lowered : {F EF : Type 0} → BaseNodes F → Tree (ExtLeaf F EF) → Tree (BaseLeaf F)
-lowered u nothing = nothing
-lowered u (leaf_tree a) = lowered_leaf u a
-lowered u (add_tree t v) = add_tree (lowered u t) (lowered u v)
-lowered u (sub_tree t v) = sub_tree (lowered u t) (lowered u v)
-lowered u (neg_tree t) = neg_tree (lowered u t)
-lowered u (mul_tree t v) = mul_tree (lowered u t) (lowered u v)
+abbrev pub lowered_tree : {F EF : Type 0} → BaseNodes F → Tree (ExtLeaf F EF) → Option (Tree (BaseLeaf F))
+lowered_tree u (leaf_tree a) = lowered_leaf u a
+lowered_tree u (add_tree t v) = both add_tree (lowered_tree u t) (lowered_tree u v)
+lowered_tree u (sub_tree t v) = both sub_tree (lowered_tree u t) (lowered_tree u v)
+lowered_tree u (neg_tree t) = option_map neg_tree (lowered_tree u t)
+lowered_tree u (mul_tree t v) = both mul_tree (lowered_tree u t) (lowered_tree u v)
+
+abbrev pub lowered : {F EF : Type 0} → BaseNodes F → Option (Tree (ExtLeaf F EF)) → Option (Tree (BaseLeaf F))
+lowered u t = option_and_then (lowered_tree u) t
 
 -- number b of the base pool u is the lowered tree t, in which no extension-only leaf occurs
-pub record IsLowered {F EF : Type 0} (old u : BaseNodes F) (t : Tree (ExtLeaf F EF)) (b : ℕ) : Type 0 where
+pub record IsLowered {F EF : Type 0} (old u : BaseNodes F) (t : Option (Tree (ExtLeaf F EF))) (b : ℕ) : Type 0 where
   pub base_only : HasExtOnly t → ⊥
   pub tree : HasTree u (lowered old t) b
 

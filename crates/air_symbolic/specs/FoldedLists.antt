@@ -1,44 +1,44 @@
 -- Which tree the folded sum or product of a list answers: its elements are taken from the left, and each step is folded.
-use Rattle.std.specs.Prelude.{◌≡◌, ℕ, ◌+◌, ◌<◌, ◌≤◌, ◌^◌, ◌⊎◌, Bool, List, [], ◌∷◌, map, None}
+use Rattle.std.specs.Prelude.{◌≡◌, ℕ, ◌+◌, ◌<◌, ◌≤◌, ◌^◌, ◌⊎◌, Bool, List, [], ◌∷◌, map, Option, None}
 use Rattle.air_field.specs.Ring.{CommRing}
 use Rattle.air_field.specs.Degree.{degree_by, cached_weight}
 use Rattle.air_symbolic.specs.Leaves.{Leaves}
-use Rattle.air_symbolic.specs.Trees.{Tree, add_tree, mul_tree, term_of, tree_constant}
+use Rattle.air_symbolic.specs.Trees.{Tree, add_tree, mul_tree, both, term_of, tree_constant}
 use Rattle.air_symbolic.specs.Pools.{tree_at, IsConst, Pool, size}
 use Rattle.air_symbolic.specs.Folds.{sum_fold, product_fold, IsSimplified}
 
 -- v is t joined with the trees one by one
-abbrev pub JoinedFrom : {A : Type 0} → (Tree A → Tree A → Tree A → Type 0) → Tree A → List (Tree A) → Tree A → Type 0
+abbrev pub JoinedFrom : {A : Type 0} → (Option (Tree A) → Option (Tree A) → Option (Tree A) → Type 0) → Option (Tree A) → List (Option (Tree A)) → Option (Tree A) → Type 0
 JoinedFrom step t [] v = v ≡ t
-JoinedFrom {A = A} step t (u ∷ us) v = (w : Tree A) × step t u w × JoinedFrom step w us v
+JoinedFrom {A = A} step t (u ∷ us) v = (w : Option (Tree A)) × step t u w × JoinedFrom step w us v
 
 -- v is the join of the trees, of none the constant
-abbrev pub IsJoined : {A F : Type 0} → Leaves A F → F → (Tree A → Tree A → Tree A → Type 0) → List (Tree A) → Tree A → Type 0
+abbrev pub IsJoined : {A F : Type 0} → Leaves A F → F → (Option (Tree A) → Option (Tree A) → Option (Tree A) → Type 0) → List (Option (Tree A)) → Option (Tree A) → Type 0
 IsJoined l none step [] v = IsConst l none v
 IsJoined l none step (t ∷ ts) v = JoinedFrom step t ts v
 
 module _ {A F : Type 0} (r : CommRing F) (eq : F → F → Bool) (l : Leaves A F) where
   -- v is the folded sum of t and u
-  abbrev pub SumStep : Tree A → Tree A → Tree A → Type 0
-  SumStep t u v = IsSimplified l t u (add_tree t u) (sum_fold r eq (tree_constant l.constant t) (tree_constant l.constant u)) v
+  abbrev pub SumStep : Option (Tree A) → Option (Tree A) → Option (Tree A) → Type 0
+  SumStep t u v = IsSimplified l t u (both add_tree t u) (sum_fold r eq (tree_constant l.constant t) (tree_constant l.constant u)) v
 
   -- the product of t and u needs a node, and the degrees add past `usize`
-  abbrev pub Overflows : Tree A → Tree A → Type 0
+  abbrev pub Overflows : Option (Tree A) → Option (Tree A) → Type 0
   Overflows t u =
       (product_fold r eq (tree_constant l.constant t) (tree_constant l.constant u) ≡ None)
       × (2 ^ 64 ≤ degree_by cached_weight (term_of l.term t) + degree_by cached_weight (term_of l.term u))
 
   -- v is the folded product of t and u, which is not refused
-  abbrev pub ProductStep : Tree A → Tree A → Tree A → Type 0
+  abbrev pub ProductStep : Option (Tree A) → Option (Tree A) → Option (Tree A) → Type 0
   ProductStep t u v =
-      (Overflows t u → ⊥) × IsSimplified l t u (mul_tree t u) (product_fold r eq (tree_constant l.constant t) (tree_constant l.constant u)) v
+      (Overflows t u → ⊥) × IsSimplified l t u (both mul_tree t u) (product_fold r eq (tree_constant l.constant t) (tree_constant l.constant u)) v
 
   -- from t on, the product with one of the trees is refused
-  abbrev pub OverflowsFrom : Tree A → List (Tree A) → Type 0
+  abbrev pub OverflowsFrom : Option (Tree A) → List (Option (Tree A)) → Type 0
   OverflowsFrom t [] = ⊥
-  OverflowsFrom t (u ∷ us) = Overflows t u ⊎ ((w : Tree A) × ProductStep t u w × OverflowsFrom w us)
+  OverflowsFrom t (u ∷ us) = Overflows t u ⊎ ((w : Option (Tree A)) × ProductStep t u w × OverflowsFrom w us)
 
-  abbrev pub ProductOverflows : List (Tree A) → Type 0
+  abbrev pub ProductOverflows : List (Option (Tree A)) → Type 0
   ProductOverflows [] = ⊥
   ProductOverflows (t ∷ ts) = OverflowsFrom t ts
 

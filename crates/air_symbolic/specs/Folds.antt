@@ -1,8 +1,8 @@
 -- Which tree a folded operation answers: the first case that fits.
-use Rattle.std.specs.Prelude.{◌≡◌, ℕ, ◌<◌, Bool, Option, None, Some, if◌then◌else◌}
+use Rattle.std.specs.Prelude.{◌≡◌, ℕ, ◌<◌, Bool, Option, None, Some, if◌then◌else◌, option_map}
 use Rattle.air_field.specs.Ring.{CommRing, minus}
 use Rattle.air_symbolic.specs.Leaves.{Leaves}
-use Rattle.air_symbolic.specs.Trees.{Tree, add_tree, sub_tree, neg_tree, mul_tree}
+use Rattle.air_symbolic.specs.Trees.{Tree, add_tree, sub_tree, neg_tree, mul_tree, both}
 use Rattle.air_symbolic.specs.Pools.{tree_at, constant_at, IsConst, Pool, size}
 use Rattle.air_symbolic.specs.declared.pools.fold.Fold.{Fold}
 use Rattle.air_symbolic.specs.declared.pools.fold.Fold.TheVariants.{Constant, Left, Right, Negated}
@@ -34,41 +34,41 @@ negative_fold r (Some a) = Some (Constant (r.neg a))
 negative_fold r None = None
 
 -- v is what the fold says of the operands t and u
-abbrev pub IsFold : {A F : Type 0} → Leaves A F → Tree A → Tree A → Fold F → Tree A → Type 0
+abbrev pub IsFold : {A F : Type 0} → Leaves A F → Option (Tree A) → Option (Tree A) → Fold F → Option (Tree A) → Type 0
 IsFold l t u (Constant c) v = IsConst l c v
 IsFold l t u Left v = v ≡ t
 IsFold l t u Right v = v ≡ u
-IsFold l t u Negated v = v ≡ neg_tree u
+IsFold l t u Negated v = v ≡ option_map neg_tree u
 
 -- and where nothing folds it is the node
-abbrev pub IsSimplified : {A F : Type 0} → Leaves A F → Tree A → Tree A → Tree A → Option (Fold F) → Tree A → Type 0
-IsSimplified l t u node (Some fold) v = IsFold l t u fold v
-IsSimplified l t u node None v = v ≡ node
+abbrev pub IsSimplified : {A F : Type 0} → Leaves A F → Option (Tree A) → Option (Tree A) → Option (Tree A) → Option (Fold F) → Option (Tree A) → Type 0
+IsSimplified l t u unfolded (Some fold) v = IsFold l t u fold v
+IsSimplified l t u unfolded None v = v ≡ unfolded
 
 -- number i of the pool q is what the fold says of the operands t and u
-pub record HasFold {U A F : Type 0} (reads : U → Leaves A F) (q : Pool U A) (t u : Tree A) (fold : Fold F) (i : ℕ) : Type 0 where
+pub record HasFold {U A F : Type 0} (reads : U → Leaves A F) (q : Pool U A) (t u : Option (Tree A)) (fold : Fold F) (i : ℕ) : Type 0 where
   pub here : i < size q
   pub tree : IsFold (reads q.base) t u fold (tree_at q i)
 
 -- number i of the pool q is an operation of x and y, which were of the pool p: what it folds to, or else its node
 pub record IsOperation {U A F : Type 0} (reads : U → Leaves A F) (p q : Pool U A)
-    (node : Tree A → Tree A → Tree A) (fold : Option F → Option F → Option (Fold F)) (x y i : ℕ) : Type 0 where
+    (node : Option (Tree A) → Option (Tree A) → Option (Tree A)) (fold : Option F → Option F → Option (Fold F)) (x y i : ℕ) : Type 0 where
   pub here : i < size q
   pub tree : IsSimplified (reads q.base) (tree_at p x) (tree_at p y) (node (tree_at p x) (tree_at p y)) (fold (constant_at reads p x) (constant_at reads p y)) (tree_at q i)
 
 module _ {U A F : Type 0} (reads : U → Leaves A F) (r : CommRing F) (eq : F → F → Bool) (p q : Pool U A) where
   abbrev pub IsSum : ℕ → ℕ → ℕ → Type 0
-  IsSum x y = IsOperation reads p q add_tree (sum_fold r eq) x y
+  IsSum x y = IsOperation reads p q (both add_tree) (sum_fold r eq) x y
 
   abbrev pub IsDifference : ℕ → ℕ → ℕ → Type 0
-  IsDifference x y = IsOperation reads p q sub_tree (difference_fold r eq) x y
+  IsDifference x y = IsOperation reads p q (both sub_tree) (difference_fold r eq) x y
 
   abbrev pub IsProduct : ℕ → ℕ → ℕ → Type 0
-  IsProduct x y = IsOperation reads p q mul_tree (product_fold r eq) x y
+  IsProduct x y = IsOperation reads p q (both mul_tree) (product_fold r eq) x y
 
   -- an operation of x alone
   abbrev pub IsNegative : ℕ → ℕ → Type 0
-  IsNegative x = IsOperation reads p q (λ t _. neg_tree t) (λ o _. negative_fold r o) x x
+  IsNegative x = IsOperation reads p q (λ t _. option_map neg_tree t) (λ o _. negative_fold r o) x x
 
 -- the product of x and y needs a node
 abbrev pub NeedsNode : {U A F : Type 0} → (U → Leaves A F) → CommRing F → (F → F → Bool) → Pool U A → ℕ → ℕ → Type 0

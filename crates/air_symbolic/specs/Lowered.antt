@@ -1,6 +1,6 @@
 -- Base numbers in place of the numbers of an extension pool.
 use Rattle.std.specs.Prelude.{◌≡◌, ℕ, ◌<◌, List, slice_get, slice_index_or, Option, None, Some}
-use Rattle.air_symbolic.specs.Trees.{Tree, nothing, leaf_tree, add_tree, sub_tree, neg_tree, mul_tree}
+use Rattle.air_symbolic.specs.Trees.{Tree, leaf_tree, add_tree, sub_tree, neg_tree, mul_tree}
 use Rattle.air_symbolic.specs.Nodes.{unfold_node, tree_of, NodeFits}
 use Rattle.air_symbolic.specs.Pools.{tree_at, HasTree, size}
 use Rattle.air_symbolic.specs.BaseLeaves.{base_leaves}
@@ -12,13 +12,13 @@ use Rattle.air_symbolic.specs.declared.leaves.base_leaf.BaseLeaf.{BaseLeaf}
 use Rattle.air_symbolic.specs.declared.leaves.ext_leaf.ExtLeaf.{ExtLeaf}
 
 -- the tree is a leaf of the extension alone
-abbrev pub IsExtOnlyLeaf : {F EF : Type 0} → Tree (ExtLeaf F EF) → Type 0
-IsExtOnlyLeaf nothing = ⊥
-IsExtOnlyLeaf (leaf_tree a) = IsExtOnly a
-IsExtOnlyLeaf (add_tree t u) = ⊥
-IsExtOnlyLeaf (sub_tree t u) = ⊥
-IsExtOnlyLeaf (neg_tree t) = ⊥
-IsExtOnlyLeaf (mul_tree t u) = ⊥
+abbrev pub IsExtOnlyLeaf : {F EF : Type 0} → Option (Tree (ExtLeaf F EF)) → Type 0
+IsExtOnlyLeaf (Some (leaf_tree a)) = IsExtOnly a
+IsExtOnlyLeaf (Some (add_tree t u)) = ⊥
+IsExtOnlyLeaf (Some (sub_tree t u)) = ⊥
+IsExtOnlyLeaf (Some (neg_tree t)) = ⊥
+IsExtOnlyLeaf (Some (mul_tree t u)) = ⊥
+IsExtOnlyLeaf None = ⊥
 
 -- a number is there, and its tree is such a leaf
 abbrev pub IsMarkedExtOnly : {F EF : Type 0} → ExtNodes F EF → Option ℕ → Type 0

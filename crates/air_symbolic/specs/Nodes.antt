@@ -1,27 +1,36 @@
 -- A pool's nodes, in the order of their numbers, and what each number stands for.
-use Rattle.std.specs.Prelude.{◌≡◌, ℕ, ◌<◌, ◌+◌, max, List, [], ◌∷◌, ◌++◌, length, take, Some, ⊤, slice_get, slice_index_or}
+use Rattle.std.specs.Prelude.{◌≡◌, ℕ, ◌<◌, ◌+◌, max, List, [], ◌∷◌, ◌++◌, length, take, Option, None, Some, option_map, ⊤, slice_get, slice_index_or}
+use Rattle.air_field.specs.Term.{Term, add_term, sub_term, neg_term, mul_term}
 use Rattle.air_field.specs.Degree.{degree_by, cached_weight}
 use Rattle.air_symbolic.specs.Leaves.{Leaves}
-use Rattle.air_symbolic.specs.Trees.{Tree, nothing, leaf_tree, add_tree, sub_tree, neg_tree, mul_tree, term_of}
+use Rattle.air_symbolic.specs.Trees.{Tree, leaf_tree, add_tree, sub_tree, neg_tree, mul_tree, both, term_of}
 use Rattle.air_symbolic.specs.declared.pools.expr.SymbolicExpr.{SymbolicExpr}
 use Rattle.air_symbolic.specs.declared.pools.expr.SymbolicExpr.TheVariants.{Leaf, Add, Sub, Neg, Mul}
 
--- the tree of a node, the trees of its operands being those of f
-abbrev pub unfold_node : {A : Type 0} → (ℕ → Tree A) → SymbolicExpr A → Tree A
-unfold_node f (Leaf a) = leaf_tree a
-unfold_node f (Add x y d) = add_tree (f x) (f y)
-unfold_node f (Sub x y d) = sub_tree (f x) (f y)
-unfold_node f (Neg x d) = neg_tree (f x)
-unfold_node f (Mul x y d) = mul_tree (f x) (f y)
+-- the tree of a node, from those of its operands; without one of these it has none
+abbrev pub unfold_node : {A : Type 0} → (ℕ → Option (Tree A)) → SymbolicExpr A → Option (Tree A)
+unfold_node at (Leaf a) = Some (leaf_tree a)
+unfold_node at (Add x y d) = both add_tree (at x) (at y)
+unfold_node at (Sub x y d) = both sub_tree (at x) (at y)
+unfold_node at (Neg x d) = option_map neg_tree (at x)
+unfold_node at (Mul x y d) = both mul_tree (at x) (at y)
+
+-- the term of a node, from those of its leaf and of its operands
+abbrev pub node_term : {A F : Type 0} → (A → Term F) → (ℕ → Term F) → SymbolicExpr A → Term F
+node_term leaf at (Leaf a) = leaf a
+node_term leaf at (Add x y d) = add_term (at x) (at y)
+node_term leaf at (Sub x y d) = sub_term (at x) (at y)
+node_term leaf at (Neg x d) = neg_term (at x)
+node_term leaf at (Mul x y d) = mul_term (at x) (at y)
 
 -- What a step makes of each node in turn, from what was made of those before it; `none` stands for numbers that aren't.
 abbrev pub in_turn : {A T : Type 0} → T → ((ℕ → T) → SymbolicExpr A → T) → List T → List (SymbolicExpr A) → List T
 in_turn none step before [] = before
 in_turn none step before (n ∷ ns) = in_turn none step (before ++ step (λ i. slice_index_or before i none) n ∷ []) ns
 
--- the tree of number i: its node and theirs unfolded
-abbrev pub tree_of : {A : Type 0} → List (SymbolicExpr A) → ℕ → Tree A
-tree_of ns i = slice_index_or (in_turn nothing unfold_node [] ns) i nothing
+-- the tree of number i, if a node has the number: its node and theirs unfolded
+abbrev pub tree_of : {A : Type 0} → List (SymbolicExpr A) → ℕ → Option (Tree A)
+tree_of ns i = slice_index_or (in_turn None unfold_node [] ns) i None
 
 -- the degree of number i by the cached weights
 abbrev pub cached_degree : {A F : Type 0} → Leaves A F → List (SymbolicExpr A) → ℕ → ℕ
@@ -60,6 +69,7 @@ OperandsBelow k (Mul x y d) = (x < k) × (y < k)
 pub record IsNode {A F : Type 0} (l : Leaves A F) (ns : List (SymbolicExpr A)) (i : ℕ) (n : SymbolicExpr A) : Type 0 where
   pub node : slice_get ns i ≡ Some n
   pub tree : tree_of ns i ≡ unfold_node (tree_of ns) n
+  pub term : term_of l.term (tree_of ns i) ≡ node_term l.term (λ x. term_of l.term (tree_of ns x)) n
   pub fits : NodeFits l ns n
   pub degree : cached_degree l ns i ≡ stated_degree l n
   pub below : OperandsBelow i n

@@ -1,5 +1,5 @@
 -- Pools of expressions, and what the numbers of a pool stand for.
-use Rattle.std.specs.Prelude.{◌≡◌, ℕ, ◌<◌, List, ◌++◌, length, Option}
+use Rattle.std.specs.Prelude.{◌≡◌, ℕ, ◌<◌, List, ◌++◌, length, Option, Some}
 use Rattle.air_field.specs.Ring.{CommRing}
 use Rattle.air_field.specs.Term.{Term}
 use Rattle.air_field.specs.Same.{Simplifies}
@@ -36,8 +36,8 @@ pub record IsNodeList {U A F : Type 0} (reads : U → Leaves A F) (nodes : List 
 abbrev pub FitsBase : {U A F : Type 0} → (U → Leaves A F) → Pool U A → Type 0
 FitsBase {U = U} reads p = (u : U) → IsPool reads (on_base p u) → IsPool reads p
 
--- the tree of number i
-abbrev pub tree_at : {U A : Type 0} → Pool U A → ℕ → Tree A
+-- the tree of number i, if there is the number
+abbrev pub tree_at : {U A : Type 0} → Pool U A → ℕ → Option (Tree A)
 tree_at p i = tree_of p.nodes i
 
 -- the term of number i
@@ -71,13 +71,13 @@ pub record PoolMeans {U A F : Type 0} (reads : U → Leaves A F) (r : CommRing F
   pub simplifies : Simplifies r (term_at reads p i) t
 
 -- number i has the tree t
-pub record HasTree {U A : Type 0} (p : Pool U A) (t : Tree A) (i : ℕ) : Type 0 where
+pub record HasTree {U A : Type 0} (p : Pool U A) (t : Option (Tree A)) (i : ℕ) : Type 0 where
   pub here : i < size p
   pub tree : tree_at p i ≡ t
 
 -- the tree is the constant c, written as a base constant
-abbrev pub IsConst : {A F : Type 0} → Leaves A F → F → Tree A → Type 0
-IsConst {A = A} l c t = (a : A) × (t ≡ leaf_tree a) × IsConstLeaf l c a
+abbrev pub IsConst : {A F : Type 0} → Leaves A F → F → Option (Tree A) → Type 0
+IsConst {A = A} l c t = (a : A) × (t ≡ Some (leaf_tree a)) × IsConstLeaf l c a
 
 -- number i is the constant c, written as a base constant
 pub record HasConst {U A F : Type 0} (reads : U → Leaves A F) (p : Pool U A) (c : F) (i : ℕ) : Type 0 where

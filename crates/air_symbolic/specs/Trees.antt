@@ -1,39 +1,52 @@
--- Expressions with no sharing, over leaves of a kind.
-use Rattle.std.specs.Prelude.{Option, None, []}
+-- Expressions with no sharing, over leaves of a kind. A number of a pool has a tree only where a node has the number, and
+-- so what is said of numbers is said of `Option (Tree A)`.
+use Rattle.std.specs.Prelude.{Option, None, Some, []}
 use Rattle.air_field.specs.Term.{Term, ext_const_term, add_term, sub_term, neg_term, mul_term}
 
--- `nothing` stands where there is no node.
 pub data Tree (A : Type 0) : Type 0 where
-  nothing : Tree A
   leaf_tree : A → Tree A
   add_tree : Tree A → Tree A → Tree A
   sub_tree : Tree A → Tree A → Tree A
   neg_tree : Tree A → Tree A
   mul_tree : Tree A → Tree A → Tree A
 
+-- the tree over two trees, where both are there
+abbrev pub both : {A : Type 0} → (Tree A → Tree A → Tree A) → Option (Tree A) → Option (Tree A) → Option (Tree A)
+both node (Some t) (Some u) = Some (node t u)
+both node (Some t) None = None
+both node None u = None
+
 -- the term of a tree
-abbrev pub term_of : {A F : Type 0} → (A → Term F) → Tree A → Term F
-term_of f nothing = ext_const_term []
-term_of f (leaf_tree a) = f a
-term_of f (add_tree t u) = add_term (term_of f t) (term_of f u)
-term_of f (sub_tree t u) = sub_term (term_of f t) (term_of f u)
-term_of f (neg_tree t) = neg_term (term_of f t)
-term_of f (mul_tree t u) = mul_term (term_of f t) (term_of f u)
+abbrev pub tree_term : {A F : Type 0} → (A → Term F) → Tree A → Term F
+tree_term f (leaf_tree a) = f a
+tree_term f (add_tree t u) = add_term (tree_term f t) (tree_term f u)
+tree_term f (sub_tree t u) = sub_term (tree_term f t) (tree_term f u)
+tree_term f (neg_tree t) = neg_term (tree_term f t)
+tree_term f (mul_tree t u) = mul_term (tree_term f t) (tree_term f u)
 
--- the constant that a tree is, if it is one
-abbrev pub tree_constant : {A F : Type 0} → (A → Option F) → Tree A → Option F
-tree_constant f nothing = None
-tree_constant f (leaf_tree a) = f a
-tree_constant f (add_tree t u) = None
-tree_constant f (sub_tree t u) = None
-tree_constant f (neg_tree t) = None
-tree_constant f (mul_tree t u) = None
+-- the term of the tree; without one it is zero
+abbrev pub term_of : {A F : Type 0} → (A → Term F) → Option (Tree A) → Term F
+term_of f (Some t) = tree_term f t
+term_of f None = ext_const_term []
 
--- each leaf is valid, and no part is missing
-abbrev pub IsWholeTree : {A : Type 0} → (A → Type 0) → Tree A → Type 0
-IsWholeTree valid nothing = ⊥
-IsWholeTree valid (leaf_tree a) = valid a
-IsWholeTree valid (add_tree t u) = IsWholeTree valid t × IsWholeTree valid u
-IsWholeTree valid (sub_tree t u) = IsWholeTree valid t × IsWholeTree valid u
-IsWholeTree valid (neg_tree t) = IsWholeTree valid t
-IsWholeTree valid (mul_tree t u) = IsWholeTree valid t × IsWholeTree valid u
+-- the constant that the tree is, if it is one
+abbrev pub tree_constant : {A F : Type 0} → (A → Option F) → Option (Tree A) → Option F
+tree_constant f (Some (leaf_tree a)) = f a
+tree_constant f (Some (add_tree t u)) = None
+tree_constant f (Some (sub_tree t u)) = None
+tree_constant f (Some (neg_tree t)) = None
+tree_constant f (Some (mul_tree t u)) = None
+tree_constant f None = None
+
+-- each leaf of the tree is valid
+abbrev pub AllValid : {A : Type 0} → (A → Type 0) → Tree A → Type 0
+AllValid valid (leaf_tree a) = valid a
+AllValid valid (add_tree t u) = AllValid valid t × AllValid valid u
+AllValid valid (sub_tree t u) = AllValid valid t × AllValid valid u
+AllValid valid (neg_tree t) = AllValid valid t
+AllValid valid (mul_tree t u) = AllValid valid t × AllValid valid u
+
+-- the tree is there, and each leaf is valid
+abbrev pub IsValidTree : {A : Type 0} → (A → Type 0) → Option (Tree A) → Type 0
+IsValidTree valid (Some t) = AllValid valid t
+IsValidTree valid None = ⊥

@@ -36,7 +36,7 @@ column_term o c _ h = absurd (cc h)
 -- the terms of nodes that steps make
 module _ {A F : Type 0} (l : Leaves A F) (ns : List (SymbolicExpr A)) (numbers : List ℕ) (k : ℕ) where
   pub main_term : (i o c : ℕ) (n : SymbolicExpr A) → IsNode l ns i n → IsColumn l o c n → leaf_term (main o c) ≡ term_of l.term (tree_of ns i)
-  main_term i o c (node.Leaf a) is h = column_term o c (l.term a) h ∙ sym (ap (term_of l.term) is.tree)
+  main_term i o c (node.Leaf a) is h = column_term o c (l.term a) h ∙ sym is.term
   main_term i o c (node.Add x y d) is h = absurd h
   main_term i o c (node.Sub x y d) is h = absurd h
   main_term i o c (node.Neg x d) is h = absurd h
@@ -44,7 +44,7 @@ module _ {A F : Type 0} (l : Leaves A F) (ns : List (SymbolicExpr A)) (numbers :
 
   pub sum_term : (i p q : ℕ) (n : SymbolicExpr A) → IsNode l ns i n → IsSum (IsPlaceOf numbers k p) (IsPlaceOf numbers k q) n → add_term (term_of l.term (tree_of ns (number_at numbers p))) (term_of l.term (tree_of ns (number_at numbers q))) ≡ term_of l.term (tree_of ns i)
   sum_term i p q (node.Leaf a) is h = absurd h
-  sum_term i p q (node.Add x y d) is h = sym (ap (term_of l.term) is.tree ∙ ap₂ (λ u v. add_term (term_of l.term (tree_of ns u)) (term_of l.term (tree_of ns v))) h.0.1 h.1.1)
+  sum_term i p q (node.Add x y d) is h = sym (is.term ∙ ap₂ (λ u v. add_term (term_of l.term (tree_of ns u)) (term_of l.term (tree_of ns v))) h.0.1 h.1.1)
   sum_term i p q (node.Sub x y d) is h = absurd h
   sum_term i p q (node.Neg x d) is h = absurd h
   sum_term i p q (node.Mul x y d) is h = absurd h
@@ -52,7 +52,7 @@ module _ {A F : Type 0} (l : Leaves A F) (ns : List (SymbolicExpr A)) (numbers :
   pub difference_term : (i p q : ℕ) (n : SymbolicExpr A) → IsNode l ns i n → IsDifference (IsPlaceOf numbers k p) (IsPlaceOf numbers k q) n → sub_term (term_of l.term (tree_of ns (number_at numbers p))) (term_of l.term (tree_of ns (number_at numbers q))) ≡ term_of l.term (tree_of ns i)
   difference_term i p q (node.Leaf a) is h = absurd h
   difference_term i p q (node.Add x y d) is h = absurd h
-  difference_term i p q (node.Sub x y d) is h = sym (ap (term_of l.term) is.tree ∙ ap₂ (λ u v. sub_term (term_of l.term (tree_of ns u)) (term_of l.term (tree_of ns v))) h.0.1 h.1.1)
+  difference_term i p q (node.Sub x y d) is h = sym (is.term ∙ ap₂ (λ u v. sub_term (term_of l.term (tree_of ns u)) (term_of l.term (tree_of ns v))) h.0.1 h.1.1)
   difference_term i p q (node.Neg x d) is h = absurd h
   difference_term i p q (node.Mul x y d) is h = absurd h
 
@@ -60,7 +60,7 @@ module _ {A F : Type 0} (l : Leaves A F) (ns : List (SymbolicExpr A)) (numbers :
   negative_term i p (node.Leaf a) is h = absurd h
   negative_term i p (node.Add x y d) is h = absurd h
   negative_term i p (node.Sub x y d) is h = absurd h
-  negative_term i p (node.Neg x d) is h = sym (ap (term_of l.term) is.tree ∙ ap (λ u. neg_term (term_of l.term (tree_of ns u))) h.1)
+  negative_term i p (node.Neg x d) is h = sym (is.term ∙ ap (λ u. neg_term (term_of l.term (tree_of ns u))) h.1)
   negative_term i p (node.Mul x y d) is h = absurd h
 
   pub product_term : (i p q : ℕ) (n : SymbolicExpr A) → IsNode l ns i n → IsProduct (IsPlaceOf numbers k p) (IsPlaceOf numbers k q) n → mul_term (term_of l.term (tree_of ns (number_at numbers p))) (term_of l.term (tree_of ns (number_at numbers q))) ≡ term_of l.term (tree_of ns i)
@@ -68,7 +68,7 @@ module _ {A F : Type 0} (l : Leaves A F) (ns : List (SymbolicExpr A)) (numbers :
   product_term i p q (node.Add x y d) is h = absurd h
   product_term i p q (node.Sub x y d) is h = absurd h
   product_term i p q (node.Neg x d) is h = absurd h
-  product_term i p q (node.Mul x y d) is h = sym (ap (term_of l.term) is.tree ∙ ap₂ (λ u v. mul_term (term_of l.term (tree_of ns u)) (term_of l.term (tree_of ns v))) h.0.1 h.1.1)
+  product_term i p q (node.Mul x y d) is h = sym (is.term ∙ ap₂ (λ u v. mul_term (term_of l.term (tree_of ns u)) (term_of l.term (tree_of ns v))) h.0.1 h.1.1)
 
   -- the node that a step makes
   pub place_made : WellFormed l ns → number_at numbers k < length ns → (s : Step) → MakesPlace l ns numbers k s → (n : SymbolicExpr A) × IsNode l ns (number_at numbers k) n × StepMakes l (IsPlaceOf numbers k) s n

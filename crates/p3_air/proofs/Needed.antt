@@ -10,8 +10,8 @@ use Rattle.air_field.specs.Term.{Term}
 use Rattle.air_field.specs.Part.{Part, whole, in_add_left, in_add_right, in_sub_left, in_sub_right, in_neg, in_mul_left, in_mul_right}
 use Rattle.air_builder.specs.laws.Parts.{part_of_in}
 use Rattle.air_symbolic.specs.Leaves.{Leaves}
-use Rattle.air_symbolic.specs.Trees.{Tree, term_of}
-use Rattle.air_symbolic.specs.Nodes.{unfold_node, tree_of, IsNode, OperandsBelow, WellFormed}
+use Rattle.air_symbolic.specs.Trees.{term_of}
+use Rattle.air_symbolic.specs.Nodes.{node_term, tree_of, IsNode, OperandsBelow, WellFormed}
 use Rattle.air_symbolic.specs.laws.Sharing.{found}
 use Rattle.air_symbolic.specs.declared.pools.expr.SymbolicExpr.{SymbolicExpr}
 use Rattle.air_symbolic.specs.declared.pools.expr.SymbolicExpr.TheVariants as node
@@ -23,11 +23,11 @@ use Rattle.p3_air.specs.Plans.{number_at, has_operand, some_has_operand, IsPlan}
 use Rattle.p3_air.specs.Tables.{TableMade}
 
 -- an operand's term is a part of the node's
-module _ {A F : Type 0} (f : A → Term F) (at : ℕ → Tree A) where
-  same_part : (i x : ℕ) → i ≡ x → Part (term_of f (at i)) (term_of f (at x))
-  same_part i x e = subst (λ k. Part (term_of f (at i)) (term_of f (at k))) e whole
+module _ {A F : Type 0} (f : A → Term F) (at : ℕ → Term F) where
+  same_part : (i x : ℕ) → i ≡ x → Part (at i) (at x)
+  same_part i x e = subst (λ k. Part (at i) (at k)) e whole
 
-  operand_part : (i : ℕ) (n : SymbolicExpr A) → IsOperand i n → Part (term_of f (at i)) (term_of f (unfold_node at n))
+  operand_part : (i : ℕ) (n : SymbolicExpr A) → IsOperand i n → Part (at i) (node_term f at n)
   operand_part i (node.Leaf a) p = absurd p
   operand_part i (node.Add x y d) (inl e) = in_add_left (same_part i x e)
   operand_part i (node.Add x y d) (inr e) = in_add_right (same_part i y e)
@@ -73,7 +73,7 @@ module _ {A F : Type 0} (l : Leaves A F) (ns : List (SymbolicExpr A)) where
   reached_part roots ss h i (root (k, lt, e)) = subst (λ j. PartOf (term_of l.term (tree_of ns j)) ss) e (h k i lt)
   reached_part roots ss h i (operand {j = j} {n = n} r is p) =
       part_of_in (term_of l.term (tree_of ns i)) (term_of l.term (tree_of ns j)) ss
-      (subst (λ t. Part (term_of l.term (tree_of ns i)) (term_of l.term t)) (sym is.tree) (operand_part l.term (tree_of ns) i n p))
+      (subst (Part (term_of l.term (tree_of ns i))) (sym is.term) (operand_part l.term (λ x. term_of l.term (tree_of ns x)) i n p))
       (reached_part roots ss h j r)
 
   module _ (wf : WellFormed l ns) (roots numbers : List ℕ) (steps : List Step) (places : List ℕ) (h : IsPlan l ns roots numbers steps places) where

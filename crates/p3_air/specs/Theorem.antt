@@ -1,5 +1,6 @@
 -- The audit theorem: what an audit answers, and what it refuses.
 use Rattle.std.specs.Prelude.{◌≡◌, ◌≢◌, ◌⊎◌, ℕ, zero, suc, ◌+◌, ◌-◌, ◌*◌, ◌%◌, ◌^◌, ◌<◌, ◌≤◌, ◌==◌, ⊤, Bool, not, if◌then◌else◌, List, [], ◌∷◌, ◌++◌, length, map, take, drop, All, Some, IfSome, unwrap_or, slice_get, slice_index_or, string_bytes}
+use Rattle.std.specs.Int.{IsPowerOfTwo}
 use Rattle.std.specs.Option.{option_map}
 use Rattle.std.specs.List.{AllZip, filter, enumerate_from}
 use Rattle.air_field.specs.Ring.{CommRing, itself}
@@ -34,7 +35,6 @@ use Rattle.air_recording.specs.Recordings.{Recording}
 use Rattle.air_report.specs.Cells.{cell_label}
 use Rattle.air_report.specs.Given.{table_grid}
 use Rattle.air_report.specs.Report.{all_places, assertion_value}
-use Rattle.air_report.specs.Shapes.{IsPowerOfTwo}
 use Rattle.air_report.specs.declared.checks.report.ConstraintReport.{ConstraintReport}
 use Rattle.p3_air.specs.declared.audit.Audit.{Audit}
 

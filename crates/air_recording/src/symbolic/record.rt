@@ -2,7 +2,7 @@
 ghost use Rattle.std.specs.Prelude.{◌≡◌, ◌<◌, [], map, All, IfOk, IfErr, OnOk};
 ghost use Rattle.air_symbolic.specs.BaseLeaves.{base_reads};
 ghost use Rattle.air_symbolic.specs.ExtLeaves.{ext_reads};
-ghost use Rattle.air_symbolic.specs.Pools.{IsPool, FitsBase, size};
+ghost use Rattle.air_symbolic.specs.Pools.{FitsBase, size};
 ghost use Rattle.air_recording.specs.Layouts.{LayoutSuits};
 ghost use Rattle.air_recording.specs.Folds.{ArePlacesOf};
 ghost use Rattle.air_recording.specs.Kinds.{kind_of, RecordsKinds};
@@ -34,7 +34,7 @@ impl<F: Field, EF: ExtensionField<F>> Model for Recorded<F, EF> {
     ghost Value = { Recording F EF };
 
     ghost use Rattle.air_symbolic.specs.ExtLeaves.{ext_reads};
-    ghost use Rattle.air_symbolic.specs.Pools.{IsPool, FitsBase};
+    ghost use Rattle.air_symbolic.specs.Pools.{IsPool};
 
     ghost view = { λ r. record { pool = r.pool; base = r.base.items; ext = r.ext.items } };
 

@@ -1,7 +1,8 @@
 //! Which preprocessed tables and periodic columns fit a trace.
 ghost use Rattle.std.specs.Prelude.{◌≡◌, ◌↔◌, IsTrue};
 ghost use Rattle.std.specs.Option.{option_copied};
-ghost use Rattle.air_report.specs.Shapes.{IsPowerOfTwo, MatchShapes, table_height};
+ghost use Rattle.std.specs.Int.{IsPowerOfTwo};
+ghost use Rattle.air_report.specs.Shapes.{MatchShapes, table_height};
 
 use air_builder::AirError;
 use air_field::RowMajorMatrix;

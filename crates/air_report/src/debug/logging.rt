@@ -1,5 +1,5 @@
 //! The log of a row: how many assertions there were, and which failed.
-ghost use Rattle.std.specs.Prelude.{◌≡◌, ◌+◌, ◌^◌, ℕ, List, Option, false, IfOk, OnOk, OnErr, IfErr, IfSome};
+ghost use Rattle.std.specs.Prelude.{◌≡◌, ◌+◌, ◌++◌, ◌^◌, ℕ, List, [], ◌∷◌, Option, false, IfOk, OnOk, OnErr, IfErr, IfSome};
 ghost use Rattle.air_report.specs.DebugLabels.{KeepsText, IsNameless, MayDisplay, LogsFailure, LogsOne, LogRefuses};
 ghost use Rattle.air_report.specs.DebugRow.{debug_row};
 
@@ -25,6 +25,32 @@ fn label_of<N: Name>(alloc: Global, name: N) -> Result<Option<String>, AllocErro
     }
 }
 
+/// A list that is this long mostly gets much longer, and copying it at each doubling costs more than the checks: room
+/// for two million failures more is then asked for at once.
+const LONG: usize = 1 << 15;
+
+/// Asks for much room. Where that much is refused, a push asks for what it needs itself.
+#[cold]
+#[inline(never)]
+fn ask_for_room(failures: &mut Vec<ConstraintFailure>)
+    ensures { failures.new.items ≡ failures.old.items }
+{
+    let _ = failures.reserve(64 * LONG);
+}
+
+/// Puts a failure at the end.
+#[inline(always)]
+fn add(failures: &mut Vec<ConstraintFailure>, failure: ConstraintFailure) -> Result<(), AllocError>
+    ensures ok { OnOk result (failures.new.items ≡ failures.old.items ++ failure ∷ []) }
+    ensures err { OnErr result (failures.new.items ≡ failures.old.items) }
+{
+    if failures.len() == LONG {
+        ask_for_room(failures);
+    }
+    failures.push(failure)?;
+    Ok(())
+}
+
 /// Keeps a failure, with what its name displays. (An `AllocError` takes no place in memory: an `AirError` would, and a
 /// row's builder would make that place ready for each assertion that holds.)
 #[cold]
@@ -46,8 +72,7 @@ fn keep_named<N: Name>(
         constraint,
         label,
     };
-    failures.push(failure)?;
-    Ok(())
+    add(failures, failure)
 }
 
 /// Keeps a failure that has no name. (Apart from the other, which makes room for a label's text at each call.)
@@ -67,8 +92,7 @@ fn keep_nameless(
         constraint,
         label: None,
     };
-    failures.push(failure)?;
-    Ok(())
+    add(failures, failure)
 }
 
 /// Keeps a failure, with what its name displays, if it has one.

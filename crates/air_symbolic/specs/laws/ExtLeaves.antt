@@ -1,5 +1,5 @@
 -- What leaves over an extension keep as the base pool grows.
-use Rattle.std.specs.Prelude.{◌≡◌, ℕ, ◌-◌, Some, refl}
+use Rattle.std.specs.Prelude.{◌≡◌, ℕ, ◌-◌, Option, None, Some, refl}
 use Rattle.std.proofs.Common.{◌∙◌, sym, subst, ap}
 use Rattle.air_field.specs.Ring.{CommRing, AlgebraOver}
 use Rattle.air_field.specs.Extension.{Basis, ExtensionLaws}
@@ -7,7 +7,7 @@ use Rattle.air_field.specs.laws.Extension.{AllZero-replicate}
 use Rattle.air_field.specs.Term.{const_term, ext_const_term}
 use Rattle.air_field.specs.Same.{Same, ext_base}
 use Rattle.air_symbolic.specs.Leaves.{LeafLaws}
-use Rattle.air_symbolic.specs.Trees.{Tree, nothing, leaf_tree, add_tree, sub_tree, neg_tree, mul_tree, term_of, tree_constant}
+use Rattle.air_symbolic.specs.Trees.{Tree, leaf_tree, add_tree, sub_tree, neg_tree, mul_tree, term_of, tree_constant}
 use Rattle.air_symbolic.specs.Pools.{tree_at}
 use Rattle.air_symbolic.specs.laws.Numbers.{WellFormed-none}
 use Rattle.air_symbolic.specs.laws.Pools.{Grown-refl, Grown-trans, has-kept, tree-kept, term-kept}
@@ -20,13 +20,13 @@ use Rattle.air_symbolic.specs.ExtLeaves.{BaseNodes, no_base_nodes, ext_grows, ex
 
 module _ {F EF : Type 0} {r : CommRing F} {over : AlgebraOver F EF} {basis : Basis F EF} {n : ℕ} (laws : ExtensionLaws r over basis n) where
   -- a base tree that is a constant
-  base_tree-constant : (t : Tree (BaseLeaf F)) (c : F) → tree_constant base_constant t ≡ Some c → Same r (const_term c) (term_of base_term t)
-  base_tree-constant nothing c e = cc
-  base_tree-constant (leaf_tree a) c e = (base_leaf_laws r).constant_is tt a c tt e
-  base_tree-constant (add_tree t u) c e = cc
-  base_tree-constant (sub_tree t u) c e = cc
-  base_tree-constant (neg_tree t) c e = cc
-  base_tree-constant (mul_tree t u) c e = cc
+  base_tree-constant : (t : Option (Tree (BaseLeaf F))) (c : F) → tree_constant base_constant t ≡ Some c → Same r (const_term c) (term_of base_term t)
+  base_tree-constant None c e = cc
+  base_tree-constant (Some (leaf_tree a)) c e = (base_leaf_laws r).constant_is tt a c tt e
+  base_tree-constant (Some (add_tree t u)) c e = cc
+  base_tree-constant (Some (sub_tree t u)) c e = cc
+  base_tree-constant (Some (neg_tree t)) c e = cc
+  base_tree-constant (Some (mul_tree t u)) c e = cc
 
   -- an element of the base field is that element as an extension constant too
   part-same : (x : EF) (c : F) → basis.base_part x ≡ Some c → Same r (const_term c) (ext_const_term (basis.coefficients x))

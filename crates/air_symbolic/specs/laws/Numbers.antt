@@ -1,14 +1,15 @@
 -- What a number of a pool keeps as nodes are added, and as what lies under them grows.
 use Rattle.std.proofs.Common.{◌≡◌, ℕ, zero, suc, ◌+◌, ◌<◌, ◌≤◌, max, List, [], ◌∷◌, ◌++◌, length, take, drop, get_or, refl, sym, ap, ap₂, subst, ◌∙◌, arith, ◌⊎◌, inl, inr, ⊎_elim}
-use Rattle.std.specs.Prelude.{Some, slice_get}
+use Rattle.std.specs.Prelude.{Option, None, Some, slice_get, option_map}
 use Rattle.std.proofs.Math.ListN.{length-append}
 use Rattle.std.proofs.lemmas.List.{get_or_append_left, get_or_push, take-append-drop, length-take-le, take-append-le}
 use Rattle.std.proofs.Math.Seq.{take-append_seam}
 use Rattle.std.proofs.lemmas.Option.{slice_get_within}
 use Rattle.air_field.specs.Degree.{degree_by, cached_weight}
+use Rattle.air_field.specs.Term.{Term, add_term, sub_term, neg_term, mul_term}
 use Rattle.air_symbolic.specs.Leaves.{Leaves, Keeps}
-use Rattle.air_symbolic.specs.Trees.{Tree, nothing, leaf_tree, add_tree, sub_tree, neg_tree, mul_tree, term_of, IsWholeTree}
-use Rattle.air_symbolic.specs.Nodes.{unfold_node, in_turn, tree_of, cached_degree, NodeFits, WellFormed}
+use Rattle.air_symbolic.specs.Trees.{Tree, leaf_tree, add_tree, sub_tree, neg_tree, mul_tree, both, tree_term, term_of, AllValid, IsValidTree}
+use Rattle.air_symbolic.specs.Nodes.{unfold_node, node_term, in_turn, tree_of, cached_degree, NodeFits, WellFormed}
 use Rattle.air_symbolic.specs.declared.pools.expr.SymbolicExpr.{SymbolicExpr}
 use Rattle.air_symbolic.specs.declared.pools.expr.SymbolicExpr.TheVariants.{Leaf, Add, Sub, Neg, Mul}
 
@@ -89,53 +90,95 @@ module _ {A T : Type 0} (none : T) (step : (ℕ → T) → SymbolicExpr A → T)
 
 -- earlier numbers keep their trees
 pub tree_of-kept : {A : Type 0} (old more : List (SymbolicExpr A)) (i : ℕ) → i < length old → tree_of (old ++ more) i ≡ tree_of old i
-tree_of-kept = made-kept nothing unfold_node
+tree_of-kept = made-kept None unfold_node
 
 pub tree_of-newest : {A : Type 0} (older : List (SymbolicExpr A)) (n : SymbolicExpr A) → tree_of (older ++ n ∷ []) (length older) ≡ unfold_node (tree_of older) n
-tree_of-newest = made-newest nothing unfold_node
+tree_of-newest = made-newest None unfold_node
 
 pub tree_of-before : {A : Type 0} (ns : List (SymbolicExpr A)) (i x : ℕ) → x < i → i ≤ length ns → tree_of (take i ns) x ≡ tree_of ns x
-tree_of-before = made-before nothing unfold_node
+tree_of-before = made-before None unfold_node
 
 pub tree_of-node : {A : Type 0} (ns : List (SymbolicExpr A)) (i : ℕ) (n : SymbolicExpr A) → slice_get ns i ≡ Some n → tree_of ns i ≡ unfold_node (tree_of (take i ns)) n
-tree_of-node = made-node nothing unfold_node
+tree_of-node = made-node None unfold_node
 
--- Every tree of well-formed nodes is whole.
+-- Of two valid trees one is made, whose term is made of theirs.
+module _ {A : Type 0} (valid : A → Type 0) where
+  pub both-valid : (node : Tree A → Tree A → Tree A)
+      → ((t u : Tree A) → AllValid valid t → AllValid valid u → AllValid valid (node t u))
+      → (o p : Option (Tree A)) → IsValidTree valid o → IsValidTree valid p → IsValidTree valid (both node o p)
+  both-valid node joins (Some t) (Some u) h k = joins t u h k
+  both-valid node joins (Some t) None h k = absurd k
+  both-valid node joins None p h k = absurd h
+
+  pub negative-valid : (o : Option (Tree A)) → IsValidTree valid o → IsValidTree valid (option_map neg_tree o)
+  negative-valid (Some t) h = h
+  negative-valid None h = absurd h
+
+  module _ {F : Type 0} (f : A → Term F) where
+    pub both-term : (node : Tree A → Tree A → Tree A) (term : Term F → Term F → Term F)
+        → ((t u : Tree A) → tree_term f (node t u) ≡ term (tree_term f t) (tree_term f u))
+        → (o p : Option (Tree A)) → IsValidTree valid o → IsValidTree valid p → term_of f (both node o p) ≡ term (term_of f o) (term_of f p)
+    both-term node term is (Some t) (Some u) h k = is t u
+    both-term node term is (Some t) None h k = absurd k
+    both-term node term is None p h k = absurd h
+
+    pub negative-term : (o : Option (Tree A)) → IsValidTree valid o → term_of f (option_map neg_tree o) ≡ neg_term (term_of f o)
+    negative-term (Some t) h = refl
+    negative-term None h = absurd h
+
+  -- a valid tree is there
+  pub tree_there : (o : Option (Tree A)) → IsValidTree valid o → (t : Tree A) × (o ≡ Some t)
+  tree_there (Some t) h = (t, refl)
+  tree_there None h = absurd h
+
+-- Every tree of well-formed nodes is valid.
 module _ {A F : Type 0} (l : Leaves A F) where
-  node_whole : (older : List (SymbolicExpr A)) → ((i : ℕ) → i < length older → IsWholeTree l.valid (tree_of older i))
-      → (n : SymbolicExpr A) → NodeFits l older n → IsWholeTree l.valid (unfold_node (tree_of older) n)
-  node_whole older ih (Leaf a) h = h
-  node_whole older ih (Add x y d) h = (ih x h.0, ih y h.1)
-  node_whole older ih (Sub x y d) h = (ih x h.0, ih y h.1)
-  node_whole older ih (Neg x d) h = ih x h.0
-  node_whole older ih (Mul x y d) h = (ih x h.0, ih y h.1)
+  node_valid : (older : List (SymbolicExpr A)) → ((i : ℕ) → i < length older → IsValidTree l.valid (tree_of older i))
+      → (n : SymbolicExpr A) → NodeFits l older n → IsValidTree l.valid (unfold_node (tree_of older) n)
+  node_valid older ih (Leaf a) h = h
+  node_valid older ih (Add x y d) h = both-valid l.valid add_tree (λ t u p q. (p, q)) (tree_of older x) (tree_of older y) (ih x h.0) (ih y h.1)
+  node_valid older ih (Sub x y d) h = both-valid l.valid sub_tree (λ t u p q. (p, q)) (tree_of older x) (tree_of older y) (ih x h.0) (ih y h.1)
+  node_valid older ih (Neg x d) h = negative-valid l.valid (tree_of older x) (ih x h.0)
+  node_valid older ih (Mul x y d) h = both-valid l.valid mul_tree (λ t u p q. (p, q)) (tree_of older x) (tree_of older y) (ih x h.0) (ih y h.1)
+
+  -- so the term of a node is made of its operands' terms
+  pub unfold_node-term : (ns : List (SymbolicExpr A)) → ((i : ℕ) → i < length ns → IsValidTree l.valid (tree_of ns i))
+      → (n : SymbolicExpr A) → NodeFits l ns n → term_of l.term (unfold_node (tree_of ns) n) ≡ node_term l.term (λ i. term_of l.term (tree_of ns i)) n
+  unfold_node-term ns valid (Leaf a) h = refl
+  unfold_node-term ns valid (Add x y d) h = both-term l.valid l.term add_tree add_term (λ t u. refl) (tree_of ns x) (tree_of ns y) (valid x h.0) (valid y h.1)
+  unfold_node-term ns valid (Sub x y d) h = both-term l.valid l.term sub_tree sub_term (λ t u. refl) (tree_of ns x) (tree_of ns y) (valid x h.0) (valid y h.1)
+  unfold_node-term ns valid (Neg x d) h = negative-term l.valid l.term (tree_of ns x) (valid x h.0)
+  unfold_node-term ns valid (Mul x y d) h = both-term l.valid l.term mul_tree mul_term (λ t u. refl) (tree_of ns x) (tree_of ns y) (valid x h.0) (valid y h.1)
 
   module _ (ns : List (SymbolicExpr A)) (wf : WellFormed l ns) where
-    whole_below : (k i : ℕ) → i < k → i < length ns → IsWholeTree l.valid (tree_of ns i)
-    whole_below zero i h b = absurd (omega (arith, h))
-    whole_below (suc k) i h b =
+    valid_below : (k i : ℕ) → i < k → i < length ns → IsValidTree l.valid (tree_of ns i)
+    valid_below zero i h b = absurd (omega (arith, h))
+    valid_below (suc k) i h b =
         let f : (n : SymbolicExpr A) × (slice_get ns i ≡ Some n) = element_at ns i b in
         let here : length (take i ns) ≡ i = length-take-le i ns (omega (arith, b)) in
-        subst (IsWholeTree l.valid) (sym (tree_of-node ns i f.0 f.1))
-        (node_whole (take i ns)
-        (λ x lt. subst (IsWholeTree l.valid) (sym (tree_of-before ns i x (omega (arith, lt, here)) (omega (arith, b)))) (whole_below k x (omega (arith, lt, here, h)) (omega (arith, lt, here, b))))
+        subst (IsValidTree l.valid) (sym (tree_of-node ns i f.0 f.1))
+        (node_valid (take i ns)
+        (λ x lt. subst (IsValidTree l.valid) (sym (tree_of-before ns i x (omega (arith, lt, here)) (omega (arith, b)))) (valid_below k x (omega (arith, lt, here, h)) (omega (arith, lt, here, b))))
         f.0 (wf.fits i f.0 f.1))
 
-  pub tree_of-whole : (ns : List (SymbolicExpr A)) → WellFormed l ns → (i : ℕ) → i < length ns → IsWholeTree l.valid (tree_of ns i)
-  tree_of-whole ns wf i b = whole_below ns wf (i + 1) i (omega arith) b
+  pub tree_of-valid : (ns : List (SymbolicExpr A)) → WellFormed l ns → (i : ℕ) → i < length ns → IsValidTree l.valid (tree_of ns i)
+  tree_of-valid ns wf i b = valid_below ns wf (i + 1) i (omega arith) b
 
 -- What m keeps of l's leaves is kept along a tree, and nodes stay well formed.
 module _ {A F : Type 0} (l m : Leaves A F) (k : Keeps l m) where
-  pub term_of-kept : (t : Tree A) → IsWholeTree l.valid t → term_of m.term t ≡ term_of l.term t
-  term_of-kept nothing h = refl
-  term_of-kept (leaf_tree a) h = k.term a h
-  term_of-kept (add_tree t u) h = cc (term_of-kept t h.0, term_of-kept u h.1)
-  term_of-kept (sub_tree t u) h = cc (term_of-kept t h.0, term_of-kept u h.1)
-  term_of-kept (neg_tree t) h = cc (term_of-kept t h)
-  term_of-kept (mul_tree t u) h = cc (term_of-kept t h.0, term_of-kept u h.1)
+  tree_term-kept : (t : Tree A) → AllValid l.valid t → tree_term m.term t ≡ tree_term l.term t
+  tree_term-kept (leaf_tree a) h = k.term a h
+  tree_term-kept (add_tree t u) h = cc (tree_term-kept t h.0, tree_term-kept u h.1)
+  tree_term-kept (sub_tree t u) h = cc (tree_term-kept t h.0, tree_term-kept u h.1)
+  tree_term-kept (neg_tree t) h = cc (tree_term-kept t h)
+  tree_term-kept (mul_tree t u) h = cc (tree_term-kept t h.0, tree_term-kept u h.1)
 
-  -- of nodes whose trees are whole
-  module _ (ns : List (SymbolicExpr A)) (whole : (i : ℕ) → i < length ns → IsWholeTree l.valid (tree_of ns i)) where
+  pub term_of-kept : (t : Option (Tree A)) → IsValidTree l.valid t → term_of m.term t ≡ term_of l.term t
+  term_of-kept (Some t) h = tree_term-kept t h
+  term_of-kept None h = absurd h
+
+  -- of nodes whose trees are valid
+  module _ (ns : List (SymbolicExpr A)) (whole : (i : ℕ) → i < length ns → IsValidTree l.valid (tree_of ns i)) where
     cached_degree-kept : (i : ℕ) → i < length ns → cached_degree l ns i ≡ cached_degree m ns i
     cached_degree-kept i b = ap (degree_by cached_weight) (sym (term_of-kept (tree_of ns i) (whole i b)))
 
@@ -152,7 +195,7 @@ module _ {A F : Type 0} (l m : Leaves A F) (k : Keeps l m) where
         let within : i < length ns = slice_get_within ns i n e in
         let here : length (take i ns) ≡ i = length-take-le i ns (omega (arith, within)) in
         NodeFits-kept (take i ns)
-        (λ x lt. subst (IsWholeTree l.valid) (sym (tree_of-before ns i x (omega (arith, lt, here)) (omega (arith, within)))) (tree_of-whole l ns wf x (omega (arith, lt, here, within))))
+        (λ x lt. subst (IsValidTree l.valid) (sym (tree_of-before ns i x (omega (arith, lt, here)) (omega (arith, within)))) (tree_of-valid l ns wf x (omega (arith, lt, here, within))))
         n (wf.fits i n e);
     once = wf.once;
   }

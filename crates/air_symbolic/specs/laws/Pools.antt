@@ -12,7 +12,7 @@ use Rattle.air_symbolic.specs.Nodes.{tree_of, NodeFits}
 use Rattle.air_symbolic.specs.Pools.{Pool, on_base, IsPool, tree_at, term_at, Grown, PoolMeans, PoolHas}
 use Rattle.air_symbolic.specs.PoolRefusals.{PoolRefuses}
 use Rattle.air_symbolic.specs.laws.PoolRefusals.{PoolRefuses-whole}
-use Rattle.air_symbolic.specs.laws.Numbers.{tree_of-kept, tree_of-whole, term_of-kept, WellFormed-kept, WellFormed-push}
+use Rattle.air_symbolic.specs.laws.Numbers.{tree_of-kept, tree_of-valid, term_of-kept, WellFormed-kept, WellFormed-push}
 use Rattle.air_symbolic.specs.declared.pools.expr.SymbolicExpr.{SymbolicExpr}
 
 module _ {U A F : Type 0} (r : CommRing F) (reads : U → Leaves A F) (grows : U → U → Type 0) (empty : U) (laws : LeafLaws r reads grows empty) where
@@ -57,7 +57,7 @@ module _ {U A F : Type 0} (r : CommRing F) (reads : U → Leaves A F) (grows : U
   pub term-kept : (p q : Pool U A) (i : ℕ) → Grown grows reads p q → PoolHas reads p i → term_at reads q i ≡ term_at reads p i
   term-kept p q i g h =
       ap (term_of (reads q.base).term) (tree-kept p q i g h.here)
-      ∙ term_of-kept (reads p.base) (reads q.base) (laws.keeps p.base q.base g.under) (tree_at p i) (tree_of-whole (reads p.base) p.nodes h.pool.nodes i h.here)
+      ∙ term_of-kept (reads p.base) (reads q.base) (laws.keeps p.base q.base g.under) (tree_at p i) (tree_of-valid (reads p.base) p.nodes h.pool.nodes i h.here)
 
   pub has-kept : (p q : Pool U A) (i : ℕ) → Grown grows reads p q → PoolHas reads p i → PoolHas reads q i
   has-kept p q i g h = record { pool = g.pool h.pool; here = here-kept p q i g h.here }

@@ -1,19 +1,19 @@
 -- The node of each number, and that no tree has two numbers.
 use Rattle.std.proofs.Common.{◌≡◌, ℕ, zero, suc, ◌+◌, ◌<◌, ◌≤◌, max, List, length, take, refl, sym, ap, ap₂, ◌∙◌, arith}
-use Rattle.std.specs.Prelude.{Some, slice_get}
+use Rattle.std.specs.Prelude.{Option, Some, slice_get, unwrap_or, option_map}
 use Rattle.std.proofs.lemmas.List.{length-take-le}
 use Rattle.std.proofs.lemmas.Option.{slice_get_within}
 use Rattle.air_field.specs.Degree.{degree_by, cached_weight}
 use Rattle.air_symbolic.specs.Leaves.{Leaves}
-use Rattle.air_symbolic.specs.Trees.{term_of}
-use Rattle.air_symbolic.specs.Nodes.{unfold_node, tree_of, cached_degree, stated_degree, NodeFits, WellFormed, OperandsBelow, IsNode}
-use Rattle.air_symbolic.specs.laws.Numbers.{element_at, tree_of-before, tree_of-node}
+use Rattle.air_symbolic.specs.Trees.{Tree, leaf_tree, add_tree, sub_tree, neg_tree, mul_tree, both, term_of}
+use Rattle.air_symbolic.specs.Nodes.{unfold_node, node_term, tree_of, cached_degree, stated_degree, NodeFits, WellFormed, OperandsBelow, IsNode}
+use Rattle.air_symbolic.specs.laws.Numbers.{element_at, tree_of-before, tree_of-node, tree_of-valid, tree_there, unfold_node-term}
 use Rattle.air_symbolic.specs.declared.pools.expr.SymbolicExpr.{SymbolicExpr}
 use Rattle.air_symbolic.specs.declared.pools.expr.SymbolicExpr.TheVariants.{Leaf, Add, Sub, Neg, Mul}
 
 module _ {A F : Type 0} (l : Leaves A F) where
-  -- the degree that a fitting node states is that of its tree
-  stated-is : (ns : List (SymbolicExpr A)) (n : SymbolicExpr A) → NodeFits l ns n → degree_by cached_weight (term_of l.term (unfold_node (tree_of ns) n)) ≡ stated_degree l n
+  -- the degree that a fitting node states is that of its term
+  stated-is : (ns : List (SymbolicExpr A)) (n : SymbolicExpr A) → NodeFits l ns n → degree_by cached_weight (node_term l.term (λ i. term_of l.term (tree_of ns i)) n) ≡ stated_degree l n
   stated-is ns (Leaf a) h = refl
   stated-is ns (Add x y d) h = sym h.2
   stated-is ns (Sub x y d) h = sym h.2
@@ -58,11 +58,13 @@ module _ {A F : Type 0} (l : Leaves A F) where
       let within : i ≤ length ns = omega (arith, slice_get_within ns i n e) in
       let fits : NodeFits l (take i ns) n = wf.fits i n e in
       let tree = tree_of-node ns i n e ∙ unfold-here ns i within n fits in
+      let term = ap (term_of l.term) tree ∙ unfold_node-term l ns (tree_of-valid l ns wf) n (fits-here ns i within n fits) in
       record {
         node = e;
         tree = tree;
+        term = term;
         fits = fits-here ns i within n fits;
-        degree = ap (λ t. degree_by cached_weight (term_of l.term t)) tree ∙ stated-is ns n (fits-here ns i within n fits);
+        degree = ap (degree_by cached_weight) term ∙ stated-is ns n (fits-here ns i within n fits);
         below = operands-below ns i within n fits;
       }
 
@@ -70,20 +72,50 @@ module _ {A F : Type 0} (l : Leaves A F) where
   pub found : (ns : List (SymbolicExpr A)) → WellFormed l ns → (i : ℕ) → i < length ns → (n : SymbolicExpr A) × IsNode l ns i n
   found ns wf i b = let f = element_at ns i b in (f.0, node_at-is ns wf i f.0 f.1)
 
+  -- ---- The tree of a node over trees that are there
+
+  abbrev node_tree : (ℕ → Tree A) → SymbolicExpr A → Tree A
+  node_tree at (Leaf a) = leaf_tree a
+  node_tree at (Add x y d) = add_tree (at x) (at y)
+  node_tree at (Sub x y d) = sub_tree (at x) (at y)
+  node_tree at (Neg x d) = neg_tree (at x)
+  node_tree at (Mul x y d) = mul_tree (at x) (at y)
+
+  -- the trees of numbers, z where there is none; of fitting nodes each is there
+  module _ (ns : List (SymbolicExpr A)) (wf : WellFormed l ns) (z : Tree A) where
+    abbrev there_at : ℕ → Tree A
+    there_at i = unwrap_or (tree_of ns i) z
+
+    is_there : (i : ℕ) → i < length ns → tree_of ns i ≡ Some (there_at i)
+    is_there i b = let t = tree_there l.valid (tree_of ns i) (tree_of-valid l ns wf i b) in t.1 ∙ ap (λ (o : Option (Tree A)). Some (unwrap_or o z)) (sym t.1)
+
+    both-there : (node : Tree A → Tree A → Tree A) (x y : ℕ) → x < length ns → y < length ns → both node (tree_of ns x) (tree_of ns y) ≡ Some (node (there_at x) (there_at y))
+    both-there node x y b c = ap₂ (both node) (is_there x b) (is_there y c)
+
+    unfold-there : (n : SymbolicExpr A) → NodeFits l ns n → unfold_node (tree_of ns) n ≡ Some (node_tree there_at n)
+    unfold-there (Leaf a) h = refl
+    unfold-there (Add x y d) h = both-there add_tree x y h.0 h.1
+    unfold-there (Sub x y d) h = both-there sub_tree x y h.0 h.1
+    unfold-there (Neg x d) h = ap (option_map neg_tree) (is_there x h.0)
+    unfold-there (Mul x y d) h = both-there mul_tree x y h.0 h.1
+
+  Some-is : {t u : Tree A} → Some t ≡ Some u → t ≡ u
+  Some-is e = cc
+
   -- fitting nodes of one tree are one, where the trees of the first one's operands have one number each
-  same_node : (ns : List (SymbolicExpr A)) (i : ℕ)
-      → ((x y : ℕ) → x < i → x < length ns → y < length ns → tree_of ns x ≡ tree_of ns y → x ≡ y) → (n m : SymbolicExpr A) → OperandsBelow i n
-      → NodeFits l ns n → NodeFits l ns m → unfold_node (tree_of ns) n ≡ unfold_node (tree_of ns) m → n ≡ m
-  same_node ns i one (Leaf a) (Leaf b) low h k e = cc
-  same_node ns i one (Add x y d) (Add u v f) low h k e =
+  same_node : (ns : List (SymbolicExpr A)) (i : ℕ) (at : ℕ → Tree A)
+      → ((x y : ℕ) → x < i → x < length ns → y < length ns → at x ≡ at y → x ≡ y) → (n m : SymbolicExpr A) → OperandsBelow i n
+      → NodeFits l ns n → NodeFits l ns m → node_tree at n ≡ node_tree at m → n ≡ m
+  same_node ns i at one (Leaf a) (Leaf b) low h k e = cc
+  same_node ns i at one (Add x y d) (Add u v f) low h k e =
       let p : x ≡ u = one x u low.0 h.0 k.0 (cc) in let q : y ≡ v = one y v low.1 h.1 k.1 (cc) in cc (h.2, k.2)
-  same_node ns i one (Sub x y d) (Sub u v f) low h k e =
+  same_node ns i at one (Sub x y d) (Sub u v f) low h k e =
       let p : x ≡ u = one x u low.0 h.0 k.0 (cc) in let q : y ≡ v = one y v low.1 h.1 k.1 (cc) in cc (h.2, k.2)
-  same_node ns i one (Neg x d) (Neg u f) low h k e =
+  same_node ns i at one (Neg x d) (Neg u f) low h k e =
       let p : x ≡ u = one x u low h.0 k.0 (cc) in cc (h.1, k.1)
-  same_node ns i one (Mul x y d) (Mul u v f) low h k e =
+  same_node ns i at one (Mul x y d) (Mul u v f) low h k e =
       let p : x ≡ u = one x u low.0 h.0 k.0 (cc) in let q : y ≡ v = one y v low.1 h.1 k.1 (cc) in cc (h.2, k.2)
-  same_node ns i one _ _ low h k e = cc
+  same_node ns i at one _ _ low h k e = cc
 
   module _ (ns : List (SymbolicExpr A)) (wf : WellFormed l ns) where
     shared_below : (k i j : ℕ) → i < k → i < length ns → j < length ns → tree_of ns i ≡ tree_of ns j → i ≡ j
@@ -91,8 +123,12 @@ module _ {A F : Type 0} (l : Leaves A F) where
     shared_below (suc k) i j lt b c e =
         let f : (n : SymbolicExpr A) × IsNode l ns i n = found ns wf i b in
         let g : (n : SymbolicExpr A) × IsNode l ns j n = found ns wf j c in
+        let z : Tree A = (tree_there l.valid (tree_of ns i) (tree_of-valid l ns wf i b)).0 in
         let same : f.0 ≡ g.0 =
-        same_node ns i (λ x y low. shared_below k x y (omega (arith, low, lt))) f.0 g.0 f.1.below f.1.fits g.1.fits (sym f.1.tree ∙ e ∙ g.1.tree) in
+        same_node ns i (there_at ns wf z)
+        (λ x y low x_in y_in t. shared_below k x y (omega (arith, low, lt)) x_in y_in (is_there ns wf z x x_in ∙ ap (λ (v : Tree A). Some v) t ∙ sym (is_there ns wf z y y_in)))
+        f.0 g.0 f.1.below f.1.fits g.1.fits
+        (Some-is (sym (unfold-there ns wf z f.0 f.1.fits) ∙ sym f.1.tree ∙ e ∙ g.1.tree ∙ unfold-there ns wf z g.0 g.1.fits)) in
         wf.once i j f.0 f.1.node (g.1.node ∙ ap (λ (n : SymbolicExpr A). Some n) (sym same))
 
   -- no tree has two numbers

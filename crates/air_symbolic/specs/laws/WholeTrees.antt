@@ -1,8 +1,9 @@
 -- Trees of extension expressions whose whole trees are one are one.
-use Rattle.std.proofs.Common.{◌≡◌, ℕ, ap, refl}
+use Rattle.std.proofs.Common.{◌≡◌, ℕ, ap, refl, Option, Some, None}
+use Rattle.std.specs.Prelude.{option_map}
 use Rattle.air_field.specs.Ring.{CommRing}
 use Rattle.air_symbolic.specs.laws.Pools.{tree-kept}
-use Rattle.air_symbolic.specs.Trees.{Tree, nothing, leaf_tree, add_tree, sub_tree, neg_tree, mul_tree, IsWholeTree}
+use Rattle.air_symbolic.specs.Trees.{Tree, leaf_tree, add_tree, sub_tree, neg_tree, mul_tree, AllValid, IsValidTree}
 use Rattle.air_symbolic.specs.Pools.{tree_at}
 use Rattle.air_symbolic.specs.BaseLeaves.{base_leaves, base_reads, base_grows}
 use Rattle.air_symbolic.specs.laws.BaseLeaves.{base_leaf_laws}
@@ -21,8 +22,7 @@ module _ {F EF : Type 0} (u : BaseNodes F) where
   same_leaf (ExtConstant c) (ExtConstant d) h k e = cc
   same_leaf _ _ h k e = absurd (cc)
 
-  pub same_tree : (t v : Tree (ExtLeaf F EF)) → IsWholeTree (ext_valid u) t → IsWholeTree (ext_valid u) v → whole_tree u t ≡ whole_tree u v → t ≡ v
-  same_tree nothing v h k e = absurd h
+  same_tree : (t v : Tree (ExtLeaf F EF)) → AllValid (ext_valid u) t → AllValid (ext_valid u) v → whole_tree u t ≡ whole_tree u v → t ≡ v
   same_tree (leaf_tree a) (leaf_tree b) h k e =
       let l : whole_leaf u a ≡ whole_leaf u b = cc in
       ap (λ (x : ExtLeaf F EF). leaf_tree x) (same_leaf a b h k l)
@@ -36,15 +36,23 @@ module _ {F EF : Type 0} (u : BaseNodes F) where
       let p : t ≡ x = same_tree t x h.0 k.0 (cc) in let q : v ≡ y = same_tree v y h.1 k.1 (cc) in cc
   same_tree _ _ h k e = absurd (cc)
 
+  pub same_whole_tree : (t v : Option (Tree (ExtLeaf F EF))) → IsValidTree (ext_valid u) t → IsValidTree (ext_valid u) v → option_map (whole_tree u) t ≡ option_map (whole_tree u) v → t ≡ v
+  same_whole_tree (Some t) (Some v) h k e = let whole : whole_tree u t ≡ whole_tree u v = cc in ap (λ (x : Tree (ExtLeaf F EF)). Some x) (same_tree t v h k whole)
+  same_whole_tree (Some t) None h k e = absurd k
+  same_whole_tree None v h k e = absurd h
+
 -- A whole tree stays while the base pool grows.
 module _ {F EF : Type 0} (r : CommRing F) (u v : BaseNodes F) (g : ext_grows u v) where
-  pub whole_tree-kept : (t : Tree (ExtLeaf F EF)) → IsWholeTree (ext_valid u) t → whole_tree v t ≡ whole_tree u t
-  whole_tree-kept nothing h = refl
-  whole_tree-kept (leaf_tree (Base i)) h =
+  tree-kept-whole : (t : Tree (ExtLeaf F EF)) → AllValid (ext_valid u) t → whole_tree v t ≡ whole_tree u t
+  tree-kept-whole (leaf_tree (Base i)) h =
       ap (λ k. leaf_tree (whole_base k)) (tree-kept r base_reads base_grows tt (base_leaf_laws r) u v i g h.here)
-  whole_tree-kept (leaf_tree (ExtVariable x)) h = refl
-  whole_tree-kept (leaf_tree (ExtConstant c)) h = refl
-  whole_tree-kept (add_tree t x) h = cc (whole_tree-kept t h.0, whole_tree-kept x h.1)
-  whole_tree-kept (sub_tree t x) h = cc (whole_tree-kept t h.0, whole_tree-kept x h.1)
-  whole_tree-kept (neg_tree t) h = cc (whole_tree-kept t h)
-  whole_tree-kept (mul_tree t x) h = cc (whole_tree-kept t h.0, whole_tree-kept x h.1)
+  tree-kept-whole (leaf_tree (ExtVariable x)) h = refl
+  tree-kept-whole (leaf_tree (ExtConstant c)) h = refl
+  tree-kept-whole (add_tree t x) h = cc (tree-kept-whole t h.0, tree-kept-whole x h.1)
+  tree-kept-whole (sub_tree t x) h = cc (tree-kept-whole t h.0, tree-kept-whole x h.1)
+  tree-kept-whole (neg_tree t) h = cc (tree-kept-whole t h)
+  tree-kept-whole (mul_tree t x) h = cc (tree-kept-whole t h.0, tree-kept-whole x h.1)
+
+  pub whole_tree-kept : (t : Option (Tree (ExtLeaf F EF))) → IsValidTree (ext_valid u) t → option_map (whole_tree v) t ≡ option_map (whole_tree u) t
+  whole_tree-kept (Some t) h = ap (λ x. Some x) (tree-kept-whole t h)
+  whole_tree-kept None h = refl

@@ -1,5 +1,5 @@
 //! Pools of base expressions.
-ghost use Rattle.std.specs.Prelude.{◌≡◌, refl, IfOk, IfErr, OnErr};
+ghost use Rattle.std.specs.Prelude.{◌≡◌, refl, Some, IfOk, IfErr, OnErr};
 ghost use Rattle.air_field.specs.Algebra.{Made};
 ghost use Rattle.air_field.specs.Term.{leaf_term};
 ghost use Rattle.air_core.specs.Entries.{entry_leaf};
@@ -34,7 +34,7 @@ impl<F: Field> ExprPool<BaseLeaf<F>> {
     /// The expression of a leaf, which means the leaf's term.
     pub fn leaf_expr(&mut self, a: BaseLeaf<F>) -> Result<ExprId<BaseLeaf<F>>, RingError>
         ensures grown { Grown base_grows base_reads self.old self.new }
-        ensures tree { IfOk result (HasTree self.new (leaf_tree a)) }
+        ensures tree { IfOk result (HasTree self.new (Some (leaf_tree a))) }
         ensures made { IfOk result (Made (PoolHas base_reads) (PoolMeans base_reads F.ring)
             (base_term a) self.new) }
         ensures refused { IfErr result (λ e. e ≡ RingError.Memory) }
@@ -47,7 +47,7 @@ impl<F: Field> ExprPool<BaseLeaf<F>> {
     /// The expression of a variable.
     pub fn variable(&mut self, v: SymbolicVariable<F>) -> Result<ExprId<BaseLeaf<F>>, RingError>
         ensures grown { Grown base_grows base_reads self.old self.new }
-        ensures tree { IfOk result (HasTree self.new (leaf_tree (BaseLeaf.Variable v))) }
+        ensures tree { IfOk result (HasTree self.new (Some (leaf_tree (BaseLeaf.Variable v)))) }
         ensures made { IfOk result (Made (PoolHas base_reads) (PoolMeans base_reads F.ring)
             (leaf_term (entry_leaf v.entry v.index)) self.new) }
         ensures refused { IfErr result (λ e. e ≡ RingError.Memory) }

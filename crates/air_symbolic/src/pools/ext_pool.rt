@@ -1,5 +1,5 @@
 //! Pools of extension expressions.
-ghost use Rattle.std.specs.Prelude.{◌≡◌, ◌<◌, refl, IfOk, IfErr, OnErr};
+ghost use Rattle.std.specs.Prelude.{◌≡◌, ◌<◌, refl, Some, IfOk, IfErr, OnErr};
 ghost use Rattle.air_field.specs.ExtAlgebra.{Lifted};
 ghost use Rattle.air_field.specs.Term.{leaf_term, ext_const_term};
 ghost use Rattle.air_core.specs.ExtEntries.{ext_entry_leaf};
@@ -25,7 +25,7 @@ impl<F: Field, EF: ExtensionField<F>> ExprPool<ExtLeaf<F, EF>> {
         requires { FitsBase (ext_reads EF.basis) self.old }
         ensures same_base { self.new.base ≡ self.old.base }
         ensures grown { Grown ext_grows (ext_reads EF.basis) self.old self.new }
-        ensures tree { IfOk result (HasTree self.new (leaf_tree (ExtLeaf.ExtVariable v))) }
+        ensures tree { IfOk result (HasTree self.new (Some (leaf_tree (ExtLeaf.ExtVariable v)))) }
         ensures made { IfOk result (ExtMade F.ring EF.basis
             (leaf_term (ext_entry_leaf v.entry v.index)) self.new) }
         ensures refused { IfErr result (λ e. e ≡ RingError.Memory) }
@@ -40,7 +40,7 @@ impl<F: Field, EF: ExtensionField<F>> ExprPool<ExtLeaf<F, EF>> {
         requires { FitsBase (ext_reads EF.basis) self.old }
         ensures same_base { self.new.base ≡ self.old.base }
         ensures grown { Grown ext_grows (ext_reads EF.basis) self.old self.new }
-        ensures tree { IfOk result (HasTree self.new (leaf_tree (ExtLeaf.ExtConstant c))) }
+        ensures tree { IfOk result (HasTree self.new (Some (leaf_tree (ExtLeaf.ExtConstant c)))) }
         ensures made { IfOk result (ExtMade F.ring EF.basis
             (ext_const_term (EF.basis.coefficients c)) self.new) }
         ensures refused { IfErr result (λ e. e ≡ RingError.Memory) }
@@ -56,7 +56,7 @@ impl<F: Field, EF: ExtensionField<F>> ExprPool<ExtLeaf<F, EF>> {
         requires here { x < size self.old.base }
         ensures same_base { self.new.base ≡ self.old.base }
         ensures grown { Grown ext_grows (ext_reads EF.basis) self.old self.new }
-        ensures tree { IfOk result (HasTree self.new (leaf_tree (ExtLeaf.Base x))) }
+        ensures tree { IfOk result (HasTree self.new (Some (leaf_tree (ExtLeaf.Base x)))) }
         ensures made { IfOk result (Lifted (PoolHas (ext_reads EF.basis))
             (PoolMeans (ext_reads EF.basis) F.ring)
             (BaseMeans F.ring EF.basis) self.old self.new x) }

@@ -1,8 +1,8 @@
 //! The calls that make a node as it is, without folding. Where one is refused the pool is as it was.
-ghost use Rattle.std.specs.Prelude.{◌≡◌, ℕ, ◌<◌, ◌≤◌, ◌+◌, ◌^◌, ◌↔◌, true, Some, MatchOption, IfOk, IfErr, OnErr};
+ghost use Rattle.std.specs.Prelude.{◌≡◌, ℕ, ◌<◌, ◌≤◌, ◌+◌, ◌^◌, ◌↔◌, true, Some, MatchOption, IfOk, IfErr, OnErr, option_map};
 ghost use Rattle.std.specs.List.{slice_get};
 ghost use Rattle.air_field.specs.Degree.{degree_by, cached_weight};
-ghost use Rattle.air_symbolic.specs.Trees.{leaf_tree, add_tree, sub_tree, neg_tree, mul_tree};
+ghost use Rattle.air_symbolic.specs.Trees.{leaf_tree, add_tree, sub_tree, neg_tree, mul_tree, both};
 ghost use Rattle.air_symbolic.specs.Nodes.{unfold_node, tree_of, NodeFits, OperandsBelow};
 ghost use Rattle.air_symbolic.specs.Numbering.{IsNowhere, IsAt};
 ghost use Rattle.air_symbolic.specs.declared.pools.expr.SymbolicExpr.{SymbolicExpr};
@@ -74,7 +74,7 @@ impl<A: SymLeaf> ExprPool<A> {
         requires valid { (A.reads self.old.base).valid a }
         ensures same_under { self.new.base ≡ self.old.base }
         ensures grown { Grown A.grows A.reads self.old self.new }
-        ensures made { IfOk result (HasTree self.new (leaf_tree a)) }
+        ensures made { IfOk result (HasTree self.new (Some (leaf_tree a))) }
         ensures refused { IfErr result (λ e. e ≡ RingError.Memory) }
         ensures kept { OnErr result (self.new ≡ self.old) }
     {
@@ -87,7 +87,7 @@ impl<A: SymLeaf> ExprPool<A> {
         requires valid { (A.reads self.old.base).valid a }
         ensures same_under { self.new.base ≡ self.old.base }
         ensures grown { Grown A.grows A.reads self.old self.new }
-        ensures made { IfOk result (HasTree self.new (leaf_tree a)) }
+        ensures made { IfOk result (HasTree self.new (Some (leaf_tree a))) }
         ensures refused { IfErr result (λ e. e ≡ RingError.Memory) }
         ensures kept { OnErr result (self.new ≡ self.old) }
     {
@@ -107,7 +107,7 @@ impl<A: SymLeaf> ExprPool<A> {
         ensures same_under { self.new.base ≡ self.old.base }
         ensures grown { Grown A.grows A.reads self.old self.new }
         ensures made { IfOk result (HasTree self.new
-            (add_tree (tree_at self.old x) (tree_at self.old y))) }
+            (both add_tree (tree_at self.old x) (tree_at self.old y))) }
         ensures refused { IfErr result (λ e. e ≡ RingError.Memory) }
         ensures kept { OnErr result (self.new ≡ self.old) }
     {
@@ -127,7 +127,7 @@ impl<A: SymLeaf> ExprPool<A> {
         ensures same_under { self.new.base ≡ self.old.base }
         ensures grown { Grown A.grows A.reads self.old self.new }
         ensures made { IfOk result (HasTree self.new
-            (sub_tree (tree_at self.old x) (tree_at self.old y))) }
+            (both sub_tree (tree_at self.old x) (tree_at self.old y))) }
         ensures refused { IfErr result (λ e. e ≡ RingError.Memory) }
         ensures kept { OnErr result (self.new ≡ self.old) }
     {
@@ -145,7 +145,8 @@ impl<A: SymLeaf> ExprPool<A> {
         requires x_in { x < size self.old }
         ensures same_under { self.new.base ≡ self.old.base }
         ensures grown { Grown A.grows A.reads self.old self.new }
-        ensures made { IfOk result (HasTree self.new (neg_tree (tree_at self.old x))) }
+        ensures made { IfOk result (HasTree self.new
+            (option_map neg_tree (tree_at self.old x))) }
         ensures refused { IfErr result (λ e. e ≡ RingError.Memory) }
         ensures kept { OnErr result (self.new ≡ self.old) }
     {
@@ -162,7 +163,7 @@ impl<A: SymLeaf> ExprPool<A> {
         ensures same_under { self.new.base ≡ self.old.base }
         ensures grown { Grown A.grows A.reads self.old self.new }
         ensures made { IfOk result (HasTree self.new
-            (mul_tree (tree_at self.old x) (tree_at self.old y))) }
+            (both mul_tree (tree_at self.old x) (tree_at self.old y))) }
         ensures overflow { (result ≡ Err RingError.DegreeOverflow)
             ↔ (2 ^ 64 ≤ degree_by cached_weight (term_at A.reads self.old x) + degree_by
             cached_weight (term_at A.reads self.old y)) }

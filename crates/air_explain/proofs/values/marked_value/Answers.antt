@@ -2,9 +2,7 @@ use Rattle.std.proofs.Common.{◌≡◌, get_or, None, Some, sym, ap, subst, ◌
 use Rattle.air_field.specs.Assignment.{row_assignment}
 use Rattle.air_field.specs.Ring.{itself}
 use Rattle.air_field.specs.Value.{value}
-use Rattle.air_symbolic.specs.BaseLeaves.{base_term}
 use Rattle.air_symbolic.specs.Nodes.{OperandsBelow}
-use Rattle.air_symbolic.specs.Trees.{term_of}
 use Rattle.air_explain.specs.Rows.{trace_of}
 use Rattle.air_explain.specs.Values.{value_at}
 use Rattle.air_explain.proofs.Numbers.{mark-own, node_value-is}
@@ -29,5 +27,5 @@ returns-in-Some g c = λ m.
     let marked = subst (λ j. get_or marks j None ≡ Some c.in-Some.id) (sym own.0) own.2 in
     c.node_value.ensures
     ∙ node_value-is r s ns marks c.args.number c.args.values.now n c.requires.before (subst (λ k. OperandsBelow k n) own.0 c.node.ensures.below) (c.requires.marks.operands c.in-Some.id n marked c.node.ensures)
-    ∙ ap (λ t. value (itself r) s (term_of base_term t)) (sym c.node.ensures.tree)
+    ∙ ap (value (itself r) s) (sym c.node.ensures.term)
     ∙ ap (value_at r s ns) own.0

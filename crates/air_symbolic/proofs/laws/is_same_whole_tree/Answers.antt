@@ -1,9 +1,10 @@
 use Rattle.std.proofs.Common.{ap}
-use Rattle.air_symbolic.specs.laws.Numbers.{tree_of-whole}
+use Rattle.std.specs.Prelude.{option_map}
+use Rattle.air_symbolic.specs.laws.Numbers.{tree_of-valid}
 use Rattle.air_symbolic.specs.ExtLeaves.{ext_reads}
 use Rattle.air_symbolic.specs.ExtTrees.{whole_tree}
 use Rattle.air_symbolic.specs.Pools.{tree_at}
-use Rattle.air_symbolic.specs.laws.WholeTrees.{same_tree}
+use Rattle.air_symbolic.specs.laws.WholeTrees.{same_whole_tree}
 use Rattle.air_symbolic.proofs.laws.is_same_whole_tree.Goals as goal
 
 pub returns : goal.returns
@@ -15,7 +16,7 @@ returns g c =
     record {
       numbers = c.is_same_tree.ensures.numbers;
       trees = (
-        λ q. ap (whole_tree p.base) (d.0 q),
-        λ e. d.1 (same_tree p.base (tree_at p c.args.x) (tree_at p c.args.y) (tree_of-whole l p.nodes c.nodes_fit.ensures.nodes c.args.x r.x_in) (tree_of-whole l p.nodes c.nodes_fit.ensures.nodes c.args.y r.y_in) e),
+        λ q. ap (option_map (whole_tree p.base)) (d.0 q),
+        λ e. d.1 (same_whole_tree p.base (tree_at p c.args.x) (tree_at p c.args.y) (tree_of-valid l p.nodes c.nodes_fit.ensures.nodes c.args.x r.x_in) (tree_of-valid l p.nodes c.nodes_fit.ensures.nodes c.args.y r.y_in) e),
       );
     }

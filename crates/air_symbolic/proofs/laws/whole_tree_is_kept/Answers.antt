@@ -1,5 +1,6 @@
 use Rattle.std.proofs.Common.{◌∙◌, ap}
-use Rattle.air_symbolic.specs.laws.Numbers.{tree_of-whole}
+use Rattle.std.specs.Prelude.{option_map}
+use Rattle.air_symbolic.specs.laws.Numbers.{tree_of-valid}
 use Rattle.air_symbolic.specs.laws.Pools.{tree-kept}
 use Rattle.air_symbolic.specs.ExtLeaves.{no_base_nodes, ext_reads, ext_grows}
 use Rattle.air_symbolic.specs.laws.ExtLeaves.{ext_leaf_laws}
@@ -15,5 +16,5 @@ returns g c =
     let i = c.args._x in
     let reads = ext_reads g.EF.ExtensionField.basis in
     let laws = ext_leaf_laws g.met.EF.ExtensionField.laws in
-    λ q h. ap (whole_tree q.base) (tree-kept r reads ext_grows no_base_nodes laws p q i h c.requires.here)
-    ∙ whole_tree-kept r p.base q.base h.under (tree_at p i) (tree_of-whole (reads p.base) p.nodes c.nodes_fit.ensures.nodes i c.requires.here)
+    λ q h. ap (option_map (whole_tree q.base)) (tree-kept r reads ext_grows no_base_nodes laws p q i h c.requires.here)
+    ∙ whole_tree-kept r p.base q.base h.under (tree_at p i) (tree_of-valid (reads p.base) p.nodes c.nodes_fit.ensures.nodes i c.requires.here)

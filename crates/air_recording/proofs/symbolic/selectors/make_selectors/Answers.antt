@@ -11,7 +11,7 @@ use Rattle.air_symbolic.specs.declared.leaves.base_leaf.BaseLeaf.{BaseLeaf}
 use Rattle.air_recording.proofs.symbolic.selectors.make_selectors.Goals as goal
 
 -- a number keeps its tree
-kept : {F : Type 0} (r : CommRing F) (p q : Pool (Unit {0}) (BaseLeaf F)) (t : Tree (BaseLeaf F)) (i : ℕ) → Grown base_grows base_reads p q → HasTree p t i → HasTree q t i
+kept : {F : Type 0} (r : CommRing F) (p q : Pool (Unit {0}) (BaseLeaf F)) (t : Option (Tree (BaseLeaf F))) (i : ℕ) → Grown base_grows base_reads p q → HasTree p t i → HasTree q t i
 kept r p q t i g h = record {
   here = here-kept r base_reads base_grows tt (base_leaf_laws r) p q i g h.here;
   tree = tree-kept r base_reads base_grows tt (base_leaf_laws r) p q i g h.here ∙ h.tree;

@@ -6,5 +6,5 @@ use Rattle.air_report.proofs.checks.shapes.is_power.Goals as goal
 pub returns : goal.returns
 returns c = rw c.is_power_of_two.ensures (
   λ set. power_from_ones c.args.n (eqb-true (count_ones c.args.n) 1 set),
-  λ power. eq-eqb (count_ones c.args.n) 1 (ap count_ones power.power ∙ ones-power power.exponent),
+  λ power. eq-eqb (count_ones c.args.n) 1 (ap count_ones power.1 ∙ ones-power power.0),
 )

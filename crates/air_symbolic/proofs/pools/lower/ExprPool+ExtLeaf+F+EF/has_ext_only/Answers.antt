@@ -16,7 +16,7 @@ loop-mark-preserved g c =
 pub returns-then-is_ext_only : goal.returns-then-is_ext_only
 returns-then-is_ext_only g c =
     let p = c.args.self.now in (
-      λ _. marked-ext-only (ext_reads g.EF.ExtensionField.basis p.base) p c.args.id c.args.marks.now c.requires.marked c.loop-mark.mark-index c.mark-item.result (omega (arith, c.loop-mark-test.true)) c.mark-item.is (c.is_ext_only.ensures.0 c.if-is_ext_only.true),
+      λ _. marked-ext-only (ext_reads g.EF.ExtensionField.basis p.base) p c.args.id c.args.marks.now c.requires.marked c.requires.pool.nodes c.loop-mark.mark-index c.mark-item.result (omega (arith, c.loop-mark-test.true)) c.mark-item.is (c.is_ext_only.ensures.0 c.if-is_ext_only.true),
       λ _. refl,
     )
 

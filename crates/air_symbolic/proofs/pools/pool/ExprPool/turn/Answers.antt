@@ -1,8 +1,6 @@
 use Rattle.std.proofs.Common.{◌≡◌, ℕ, length, sym, ap, subst, ◌∙◌}
 use Rattle.air_field.specs.Degree.{degree_by}
 use Rattle.air_symbolic.specs.Weights.{leaf_weight}
-use Rattle.air_symbolic.specs.Trees.{term_of}
-use Rattle.air_symbolic.specs.Nodes.{tree_of}
 use Rattle.air_symbolic.specs.Pools.{term_at}
 use Rattle.air_symbolic.specs.PoolRefusals.{AnswersDegree}
 use Rattle.air_symbolic.specs.DegreeTables.{AnswersDegrees, node_degree}
@@ -21,7 +19,7 @@ returns-clause-degrees g c =
     let leaves = λ (u : _). λ (a : _). degree_by w ((g.A.SymLeaf.reads u).term a) in
     let same : node_degree (leaves c.base.result.now) degree c.node-node.result.now ≡ degree c.args.id =
     ap (λ u. node_degree (leaves u) degree c.node-node.result.now) c.base.ensures
-    ∙ node_degree-is w (g.A.SymLeaf.reads p.base).term (tree_of p.nodes) c.node-node.result.now
-    ∙ sym (ap (λ t. degree_by w (term_of (g.A.SymLeaf.reads p.base).term t)) c.node-node.ensures.tree) in
+    ∙ node_degree-is w (g.A.SymLeaf.reads p.base).term (term_at g.A.SymLeaf.reads p) c.node-node.result.now
+    ∙ sym (ap (degree_by w) c.node-node.ensures.term) in
     more-degrees degree c.args.id table c.push.new.self.items c.degree_of_node-degree.result c.in_ok-push.ensures.items c.requires.operands
     (subst (λ d. AnswersDegree d c.degree_of_node-degree.result) same (c.degree_of_node-degree.ensures degree known))
