@@ -116,7 +116,7 @@ none_empty g (c ∷ cs) e f index h =
     let lt : index < length g.declaration.periodic = subst (λ l. index < length l) e h.within in
     let fit = f.periods_fit index c lt in
     let zero_long : length (slice_index_or g.declaration.periodic index c).items ≡ 0 = subst (λ l. length (slice_index_or l index c).items ≡ 0) e (h.is_empty c) in
-    no_empty_power fit.0.exponent (sym zero_long ∙ fit.0.power)
+    no_empty_power fit.0.0 (sym zero_long ∙ fit.0.1)
 
 -- columns that fit aren't empty, so that a row of them is refused for want of memory alone
 pub periodic_refusal : {F : Type 0} (g : Given F) (e : AirError) → Fits g → RefusesPeriodicRow g.declaration.periodic e → RowRefuses g e
