@@ -1,6 +1,7 @@
 pub mod OnlyMember
 pub mod SeenTrees
 pub mod Growing
+pub mod NumberTrees
 pub mod Loop
 pub mod ListReading
 pub mod Numbers

@@ -1,5 +1,5 @@
 -- The base expression of a list inside a leaf.
-use Rattle.std.proofs.Common.{◌≡◌, ℕ, List, length, Result, Ok, sym, ap, subst, ◌∙◌}
+use Rattle.std.proofs.Common.{◌≡◌, ℕ, List, length, Option, option_map, Result, Ok, sym, ap, subst, ◌∙◌}
 use Rattle.air_field.specs.Modular.{Modular}
 use Rattle.serde_json.specs.Data.{Data}
 use Rattle.air_field.specs.Ring.{CommRing, AlgebraOver}
@@ -20,14 +20,14 @@ use Rattle.air_wire.specs.declared.errors.FlatError.{FlatError}
 use Rattle.air_wire.specs.declared.errors.FlatError.TheVariants as faults
 
 -- a list that is written for what is seen of a tree is the tree's own
-pub written_tree : {F : Type 0} {p : ℕ} (m : Modular F p) (d : Data) (t : Tree (BaseLeaf F)) → IsWritten (base_kind m) d (over (base_seen tt) t) → IsWritten (base_kind m) d t
-written_tree m d t h = subst (IsWritten (base_kind m) d) (over_same t) h
+pub written_tree : {F : Type 0} {p : ℕ} (m : Modular F p) (d : Data) (o : Option (Tree (BaseLeaf F))) → IsWritten (base_kind m) d (option_map (over (base_seen tt)) o) → IsWritten (base_kind m) d o
+written_tree m d o h = subst (IsWritten (base_kind m) d) (over_same o) h
 
 -- a list that is read gives its tree
-pub moved_tree : {F : Type 0} (place : ℕ) (t : Tree (BaseLeaf F)) (read : Result (Tree (BaseLeaf F)) FlatError) → read ≡ Ok (over (base_seen tt) t) → moved place read ≡ Ok t
-moved_tree place t read e = ap (moved place) (e ∙ ap (λ u. Ok u) (over_same t))
+pub moved_tree : {F : Type 0} (place : ℕ) (o : Option (Tree (BaseLeaf F))) (read : Result (Option (Tree (BaseLeaf F))) FlatError) → read ≡ Ok (option_map (over (base_seen tt)) o) → moved place read ≡ Ok o
+moved_tree place o read e = ap (moved place) (e ∙ ap (λ u. Ok u) (over_same o))
 
-pub moved_fault : {F : Type 0} (place : ℕ) (f : FlatError) (read : Result (Tree (BaseLeaf F)) FlatError) → Fails f read → Fails (at_place place f) (moved place read)
+pub moved_fault : {F : Type 0} (place : ℕ) (f : FlatError) (read : Result (Option (Tree (BaseLeaf F))) FlatError) → Fails f read → Fails (at_place place f) (moved place read)
 moved_fault place faults.Memory read h = tt
 moved_fault place faults.DegreeOverflow read h = ap (moved place) h
 moved_fault place (faults.Shape inner) read h = ap (moved place) h

@@ -1,7 +1,8 @@
 -- What a reader of a list has read, beside what reading the list gives.
-use Rattle.std.proofs.Common.{◌≡◌, ℕ, zero, suc, ◌<◌, ◌-◌, List, [], ◌∷◌, ◌++◌, length, map, Option, Some, None, option_map, Result, Ok, Err, IfOk, IfErr, refl, sym, ap, subst, ◌∙◌, arith}
-use Rattle.std.proofs.lemmas.List.{length-map}
+use Rattle.std.proofs.Common.{◌≡◌, ℕ, zero, suc, ◌<◌, ◌-◌, List, [], ◌∷◌, ◌++◌, length, map, Option, Some, None, option_map, Result, Ok, Err, IfOk, IfErr, refl, sym, ap, ap₂, subst, ◌∙◌, arith}
+use Rattle.std.proofs.lemmas.List.{length-map, map_push}
 use Rattle.std.proofs.lemmas.Option.{slice_get-map}
+use Rattle.std.specs.Prelude.{filter_map}
 use Rattle.std.specs.Option.{ok_or}
 use Rattle.std.specs.List.{slice_get}
 use Rattle.air_symbolic.specs.Pools.{Pool}
@@ -10,13 +11,19 @@ use Rattle.serde_json.specs.View.{items_of}
 use Rattle.air_symbolic.specs.Trees.{Tree}
 use Rattle.air_wire.specs.declared.errors.FlatError.{FlatError}
 use Rattle.air_wire.specs.declared.errors.FlatError.TheVariants as faults
-use Rattle.air_wire.specs.Results.{◌>>=◌, Gives}
+use Rattle.air_wire.specs.Results.{◌>>=◌, as_some, all_some, Fails, Gives}
 use Rattle.air_wire.specs.Nodes.{Kind, KindLaws, node_of_value, node_more, nodes_from, last_tree, root_of}
 use Rattle.air_wire.specs.NodeLists.{AreNodes, IsList, HasFault}
 use Rattle.air_wire.specs.ListReaders.{last_number, HasRead}
 use Rattle.air_wire.specs.laws.Lists.{nodes_found, nodes_again, fault_found, fault_read, root_found, root_fault, fails_is, fails_if, gives_ok, gives_err}
+use Rattle.air_wire.specs.laws.Readings.{done, done_is, bind_ok, before_done}
 use Rattle.air_wire.proofs.Growing.{AllBelow}
+use Rattle.air_wire.proofs.NumberTrees.{there_are}
 use Rattle.air_wire.proofs.Loop.{carry}
+
+-- a fault of what is there is one of what is read
+pub fails_before : {X Y : Type 0} (f : FlatError) (r : Result X FlatError) (h : X → Y) → Fails f (r >>= λ x. done (h x)) → Fails f r
+fails_before f r h e = fails_if f r (λ n. before_done r h f (fails_is f (r >>= λ x. done (h x)) e n))
 
 nodes_push : {S F : Type 0} (kind : Kind S F) (done : List (Tree S)) (ds : List Data) (d : Data) → nodes_from kind done (items_of (ds ++ d ∷ [])) ≡ node_more kind (nodes_from kind done (items_of ds)) d
 unfolding nodes_from
@@ -27,6 +34,15 @@ nodes_push {S} kind done (e ∷ ds) d = later (node_of_value kind done e) (λ t.
         → (r >>= λ t. nodes_from kind (done ++ t ∷ []) (items_of (ds ++ d ∷ []))) ≡ node_more kind (r >>= λ t. nodes_from kind (done ++ t ∷ []) (items_of ds)) d
     later (Ok t) h = h t
     later (Err f) h = refl
+
+-- one node more is one tree more
+pub more_given : {S F : Type 0} (kind : Kind S F) (before : List (Tree S)) (d : Data) (olds : List (Option (Tree S))) (o : Option (Tree S)) → as_some (node_of_value kind before d) ≡ Ok o → olds ≡ map Some before
+    → all_some (node_more kind (Ok before) d) ≡ Ok (olds ++ o ∷ [])
+more_given kind before d olds o good are =
+    let t = bind_ok (node_of_value kind before d) (λ t. done (Some t)) o good in
+    ap (λ r. all_some (r >>= λ t. done (before ++ t ∷ []))) t.1
+    ∙ ap (λ l. done l) (map_push (λ t. Some t) before t.0)
+    ∙ ap₂ (λ l v. done (l ++ v ∷ [])) (sym are) (done_is (λ v. Some t.0 ≡ v) (Some t.0) o t.2 refl)
 
 -- ---- the last number
 
@@ -39,15 +55,31 @@ found_there : {X : Type 0} (g : ℕ → X) (o : Option ℕ) → Gives g (ok_or o
 found_there g None = refl
 found_there g (Some i) = refl
 
-last_seen : {S : Type 0} (g : ℕ → Tree S) (ids : List ℕ) → Gives g (last_number (Ok ids)) (last_tree (map g ids))
-unfolding last_tree
-last_seen g ids =
+last_mapped : {X : Type 0} (g : ℕ → X) (ids : List ℕ) → Gives g (last_number (Ok ids)) (ok_or (slice_get (map g ids) (length (map g ids) - 1)) faults.EmptyList)
+last_mapped g ids =
     let same : length (map g ids) - 1 ≡ length ids - 1 = ap (λ n. n - 1) (length-map ids g) in
     subst (λ o. Gives g (last_number (Ok ids)) (ok_or o faults.EmptyList)) (sym (ap (slice_get (map g ids)) same ∙ slice_get-map g ids (length ids - 1))) (found_there g (slice_get ids (length ids - 1)))
 
+some_last : {X : Type 0} (o : Option X) → ok_or (option_map (λ x. Some x) o) faults.EmptyList ≡ as_some (ok_or o faults.EmptyList)
+some_last None = refl
+some_last (Some x) = refl
+
+last_some : {S : Type 0} (ts : List (Tree S)) → ok_or (slice_get (map Some ts) (length (map Some ts) - 1)) faults.EmptyList ≡ as_some (last_tree ts)
+unfolding last_tree
+last_some ts =
+    let same : length (map Some ts) - 1 ≡ length ts - 1 = ap (λ n. n - 1) (length-map ts (λ t. Some t)) in
+    ap (λ o. ok_or o faults.EmptyList) (ap (slice_get (map Some ts)) same ∙ slice_get-map (λ t. Some t) ts (length ts - 1))
+    ∙ some_last (slice_get ts (length ts - 1))
+
+last_seen : {S : Type 0} (g : ℕ → Option (Tree S)) (ids : List ℕ) (ts : List (Tree S)) → map g ids ≡ map Some ts → Gives g (last_number (Ok ids)) (as_some (last_tree ts))
+last_seen g ids ts e =
+    subst (Gives g (last_number (Ok ids)))
+    (ap (λ l. ok_or (slice_get l (length l - 1)) faults.EmptyList) e ∙ last_some ts)
+    (last_mapped g ids)
+
 -- ---- a reader
 
-module _ {U A S F : Type 0} (kind : Kind S F) (laws : KindLaws kind) (tree : Pool U A → ℕ → Tree S) where
+module _ {U A S F : Type 0} (kind : Kind S F) (laws : KindLaws kind) (tree : Pool U A → ℕ → Option (Tree S)) where
   module _ (p : Pool U A) (ds : List Data) where
     abbrev given : Result (List (Tree S)) FlatError
     given = nodes_from kind [] (items_of ds)
@@ -55,22 +87,35 @@ module _ {U A S F : Type 0} (kind : Kind S F) (laws : KindLaws kind) (tree : Poo
     abbrev whole : Data
     whole = array (items_of ds)
 
-    read_gives : (r : Result (List ℕ) FlatError) → HasRead kind tree p ds r → Gives (map (tree p)) r given
-    read_gives (Ok ids) h = nodes_again kind laws [] (items_of ds) (map (tree p) ids) h.nodes
-    read_gives (Err f) h = fails_if f given (λ n. fault_read kind laws [] (items_of ds) f (h.fault n))
+    given_all : (ts : List (Tree S)) → AreNodes kind [] (items_of ds) ts → given ≡ Ok ts
+    given_all ts are = nodes_again kind laws [] (items_of ds) ts are
 
-    gives_read : (r : Result (List ℕ) FlatError) → IfOk r (AllBelow (length p.nodes)) → Gives (map (tree p)) r given → HasRead kind tree p ds r
+    given_fails : (f : FlatError) → HasRead kind tree p ds (Err f) → Fails f given
+    given_fails f h = fails_if f given (λ n. fault_read kind laws [] (items_of ds) f (h.fault n))
+
+    gives_read : (r : Result (List ℕ) FlatError) → IfOk r (AllBelow (length p.nodes)) → Gives (map (tree p)) r (all_some given) → HasRead kind tree p ds r
     gives_read (Ok ids) here g =
-        let us = nodes_found kind laws [] (items_of ds) (map (tree p) ids) g in
-        record { here = here; nodes = subst (AreNodes kind [] (items_of ds)) (sym us.1) us.2; fault = tt }
-    gives_read (Err f) here g = record { here = tt; nodes = tt; fault = λ n. fault_found kind laws [] (items_of ds) f (fails_is f given g n) }
+        let ts = bind_ok given (λ ts. done (map Some ts)) (map (tree p) ids) g in
+        let us = nodes_found kind laws [] (items_of ds) ts.0 ts.1 in
+        record {
+          here = here;
+          nodes = (ts.0, done_is (λ l. l ≡ map Some ts.0) (map Some ts.0) (map (tree p) ids) ts.2 refl, subst (AreNodes kind [] (items_of ds)) (sym us.1) us.2);
+          fault = tt;
+        }
+    gives_read (Err f) here g = record {
+      here = tt;
+      nodes = tt;
+      fault = λ n. fault_found kind laws [] (items_of ds) f (fails_is f given (fails_before f given (λ ts. map Some ts) g) n);
+    }
 
     -- ---- the root
 
     root_gives : (r : Result (List ℕ) FlatError) → HasRead kind tree p ds r → Gives (tree p) (last_number r) (root_of kind whole)
     unfolding root_of
-    root_gives (Ok ids) h = subst (Gives (tree p) (last_number (Ok ids))) (sym (ap (λ (g : Result (List (Tree S)) FlatError). g >>= λ ts. last_tree ts) (read_gives (Ok ids) h))) (last_seen (tree p) ids)
-    root_gives (Err f) h = carry f given (λ ts. last_tree ts) _ refl (read_gives (Err f) h)
+    root_gives (Ok ids) h =
+        let n = h.nodes in
+        subst (Gives (tree p) (last_number (Ok ids))) (sym (ap (λ (g : Result (List (Tree S)) FlatError). g >>= λ ts. as_some (last_tree ts)) (given_all n.0 n.2))) (last_seen (tree p) ids n.0 n.1)
+    root_gives (Err f) h = carry f given (λ ts. as_some (last_tree ts)) _ refl (given_fails f h)
 
     pub root_here : (r : Result (List ℕ) FlatError) → HasRead kind tree p ds r → IfOk (last_number r) (λ i. i < length p.nodes)
     root_here (Ok ids) h = at_below (length p.nodes) ids (length ids - 1) h.here
@@ -85,16 +130,19 @@ module _ {U A S F : Type 0} (kind : Kind S F) (laws : KindLaws kind) (tree : Poo
   -- ---- one node more
 
   pub none_read : (p : Pool U A) → HasRead kind tree p [] (Ok [])
-  none_read p = record { here = λ k d lt. absurd (omega (arith, lt)); nodes = tt; fault = tt }
+  none_read p = record { here = λ k d lt. absurd (omega (arith, lt)); nodes = ([], refl, tt); fault = tt }
 
   module _ (p q : Pool U A) (ds : List Data) (d : Data) where
     pub still_read : (f : FlatError) → HasRead kind tree p ds (Err f) → HasRead kind tree q (ds ++ d ∷ []) (Err f)
     still_read f h =
         gives_read q (ds ++ d ∷ []) (Err f) tt
-        (carry f (nodes_from kind [] (items_of ds)) (λ done. node_of_value kind done d >>= λ t. Ok (done ++ t ∷ [])) _ (sym (nodes_push kind [] ds d)) (read_gives p ds (Err f) h))
+        (carry f (nodes_from kind [] (items_of (ds ++ d ∷ []))) (λ ts. done (map Some ts)) _ refl
+        (carry f (nodes_from kind [] (items_of ds)) (λ done. node_of_value kind done d >>= λ t. Ok (done ++ t ∷ [])) _ (sym (nodes_push kind [] ds d)) (given_fails p ds f h)))
 
-    pub read_on : (ids : List ℕ) (r : Result (List ℕ) FlatError) → IfOk r (AllBelow (length q.nodes)) → Gives (map (tree q)) r (node_more kind (Ok (map (tree p) ids)) d)
+    pub read_on : (ids : List ℕ) (r : Result (List ℕ) FlatError) → IfOk r (AllBelow (length q.nodes)) → Gives (map (tree q)) r (all_some (node_more kind (Ok (filter_map (tree p) ids)) d))
         → HasRead kind tree p ds (Ok ids) → HasRead kind tree q (ds ++ d ∷ []) r
     read_on ids r here g h =
-        let same = nodes_push kind [] ds d ∙ ap (λ so_far. node_more kind so_far d) (read_gives p ds (Ok ids) h) in
-        gives_read q (ds ++ d ∷ []) r here (subst (Gives (map (tree q)) r) (sym same) g)
+        let n = h.nodes in
+        let so_far : nodes_from kind [] (items_of ds) ≡ Ok (filter_map (tree p) ids) = given_all p ds n.0 n.2 ∙ ap (λ ts. done ts) (sym (there_are (tree p) ids n.0 n.1)) in
+        let same = nodes_push kind [] ds d ∙ ap (λ so_far. node_more kind so_far d) so_far in
+        gives_read q (ds ++ d ∷ []) r here (subst (λ given. Gives (map (tree q)) r (all_some given)) (sym same) g)

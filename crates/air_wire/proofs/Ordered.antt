@@ -2,14 +2,13 @@
 use Rattle.std.proofs.Common.{◌≡◌, ℕ, suc, zero, List, [], ◌∷◌, ◌++◌, append_assoc, Some, refl, sym, subst, ◌∙◌, inl, ⊎_elim}
 use Rattle.std.specs.List.{slice_get}
 use Rattle.std.proofs.lemmas.List.{append-nil}
-use Rattle.air_symbolic.specs.Trees.{Tree, nothing, leaf_tree, add_tree, sub_tree, neg_tree, mul_tree}
+use Rattle.air_symbolic.specs.Trees.{Tree, leaf_tree, add_tree, sub_tree, neg_tree, mul_tree}
 use Rattle.air_wire.specs.Written.{subtrees, Stands, Adds}
 use Rattle.air_wire.specs.laws.Written.{stands_more, stands_push, stands_either, pushed_either, parts, parts_root}
 
 -- ---- operands stand earlier
 
 unfoldable pub HasOperands : {S : Type 0} → List (Tree S) → Tree S → Type 0
-HasOperands done nothing = Unit {0}
 HasOperands done (leaf_tree a) = Unit {0}
 HasOperands done (add_tree t u) = Stands done t × Stands done u
 HasOperands done (sub_tree t u) = Stands done t × Stands done u
@@ -38,7 +37,6 @@ module _ {S : Type 0} where
 
   operands_sub : (done more : List (Tree S)) (t : Tree S) → Sub done more → HasOperands done t → HasOperands more t
   unfolding HasOperands
-  operands_sub done more nothing sub h = tt
   operands_sub done more (leaf_tree a) sub h = tt
   operands_sub done more (add_tree t u) sub h = (sub t h.0, sub u h.1)
   operands_sub done more (sub_tree t u) sub h = (sub t h.0, sub u h.1)
@@ -71,7 +69,6 @@ module _ {S : Type 0} where
 
   ordered_tree : (t : Tree S) (done rest : List (Tree S)) → ((mid : List (Tree S)) → Sub done mid → Stands mid t → Ordered mid rest) → Ordered done (subtrees t ++ rest)
   unfolding HasOperands
-  ordered_tree nothing done rest k = ordered_root done rest nothing tt k
   ordered_tree (leaf_tree a) done rest k = ordered_root done rest (leaf_tree a) tt k
   ordered_tree (add_tree t u) done rest k = ordered_two t u (add_tree t u) done rest (ordered_tree t) (ordered_tree u) (λ mid p q. (p, q)) k
   ordered_tree (sub_tree t u) done rest k = ordered_two t u (sub_tree t u) done rest (ordered_tree t) (ordered_tree u) (λ mid p q. (p, q)) k
@@ -107,7 +104,6 @@ module _ {S : Type 0} where
 
   parts_stand : (done : List (Tree S)) (t : Tree S) → Closed done → HasOperands done t → (x : Tree S) → Stands (parts t) x → Stands done x
   unfolding HasOperands Closed
-  parts_stand done nothing closed h x p = absurd (nowhere x p.0 p.1)
   parts_stand done (leaf_tree a) closed h x p = absurd (nowhere x p.0 p.1)
   parts_stand done (add_tree t u) closed h x p = ⊎_elim (λ (l : Stands (subtrees t) x). closed t h.0 x l) (λ (r : Stands (subtrees u) x). closed u h.1 x r) (stands_either (subtrees t) (subtrees u) x p)
   parts_stand done (sub_tree t u) closed h x p = ⊎_elim (λ (l : Stands (subtrees t) x). closed t h.0 x l) (λ (r : Stands (subtrees u) x). closed u h.1 x r) (stands_either (subtrees t) (subtrees u) x p)

@@ -1,9 +1,9 @@
 -- Which values are lists of nodes, and which tree each is.
-use Rattle.std.specs.Prelude.{◌≡◌, ℕ, ◌+◌, ◌<◌, ◌^◌, ◌⊎◌, max, List, [], ◌∷◌, ◌++◌, Some, None, codes, ⊤}
+use Rattle.std.specs.Prelude.{◌≡◌, ℕ, ◌+◌, ◌<◌, ◌^◌, ◌⊎◌, max, List, [], ◌∷◌, ◌++◌, Option, Some, None, codes, ⊤}
 use Rattle.std.specs.List.{slice_get}
 use Rattle.serde_json.specs.Data.{Data, Items, no_items, item}
 use Rattle.serde_json.specs.Find.{as_array}
-use Rattle.air_symbolic.specs.Trees.{Tree, nothing, leaf_tree, add_tree, sub_tree, neg_tree, mul_tree}
+use Rattle.air_symbolic.specs.Trees.{Tree, leaf_tree, add_tree, sub_tree, neg_tree, mul_tree}
 use Rattle.air_wire.specs.Spelling.{IsCase, HasWhole}
 use Rattle.air_wire.specs.Unshared.{degree}
 use Rattle.air_wire.specs.Nodes.{Kind}
@@ -25,7 +25,6 @@ HasOneOperand done t d c = HasWhole (codes "degree_multiple") d c × HasOperand 
 -- Behind nodes with the trees of done, the value is a node with this tree: its operands stand earlier, and its stated
 -- degree is the tree's, which fits `usize`.
 abbrev pub SpellsNode : {S F : Type 0} → Kind S F → List (Tree S) → Data → Tree S → Type 0
-SpellsNode kind done d nothing = ⊥
 SpellsNode kind done d (leaf_tree a) = IsCase (codes "Leaf") (λ c. kind.spells c a) d
 SpellsNode kind done d (add_tree t u) = IsCase (codes "Add") (HasTwoOperands done t u (max (degree kind.term t) (degree kind.term u))) d
 SpellsNode kind done d (sub_tree t u) = IsCase (codes "Sub") (HasTwoOperands done t u (max (degree kind.term t) (degree kind.term u))) d
@@ -39,12 +38,14 @@ AreNodes kind done no_items (t ∷ ts) = ⊥
 AreNodes kind done (item d ds) [] = ⊥
 AreNodes kind done (item d ds) (t ∷ ts) = SpellsNode kind done d t × AreNodes kind (done ++ t ∷ []) ds ts
 
--- the value is a list of nodes, the last of which has the tree t
-pub record IsList {S F : Type 0} (kind : Kind S F) (d : Data) (t : Tree S) : Type 0 where
+-- the value is a list of nodes, the last of which, the root, has the tree o
+pub record IsList {S F : Type 0} (kind : Kind S F) (d : Data) (o : Option (Tree S)) : Type 0 where
   pub items : Items
   pub before : List (Tree S)
+  pub root : Tree S
+  pub tree : o ≡ Some root
   pub is : as_array d ≡ Some items
-  pub nodes : AreNodes kind [] items (before ++ t ∷ [])
+  pub nodes : AreNodes kind [] items (before ++ root ∷ [])
 
 -- the first node that is none has this fault, and all before it are nodes
 abbrev pub FirstFault : {S F : Type 0} → Kind S F → List (Tree S) → Items → FlatError → Type 0

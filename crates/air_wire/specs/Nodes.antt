@@ -6,7 +6,7 @@ use Rattle.serde_json.specs.Find.{as_array}
 use Rattle.air_field.specs.Term.{Term}
 use Rattle.air_symbolic.specs.Trees.{Tree, leaf_tree, add_tree, sub_tree, neg_tree, mul_tree}
 use Rattle.air_wire.specs.Parts.{only_member, whole_at, all_three, find_name, case_or}
-use Rattle.air_wire.specs.Results.{◌>>=◌}
+use Rattle.air_wire.specs.Results.{◌>>=◌, as_some}
 use Rattle.air_wire.specs.Unshared.{degree}
 use Rattle.air_wire.specs.declared.operations.Operation.{Operation}
 use Rattle.air_wire.specs.declared.operations.Operation.TheVariants.{Add, Sub, Mul, Neg}
@@ -34,11 +34,11 @@ pub record KindLaws {S F : Type 0} (kind : Kind S F) : Type 0 where
 -- ---- a node that stands behind the trees of done
 
 -- an operand, which stands earlier
-abbrev pub operand_of : {S : Type 0} → ℕ → ℕ → Option (Tree S) → Result (Tree S) FlatError
+abbrev pub operand_of : {X : Type 0} → ℕ → ℕ → Option X → Result X FlatError
 operand_of place i None = Err (faults.Operand place i)
-operand_of place i (Some t) = Ok t
+operand_of place i (Some x) = Ok x
 
-unfoldable pub operand : {S : Type 0} → List (Tree S) → ℕ → Result (Tree S) FlatError
+unfoldable pub operand : {X : Type 0} → List X → ℕ → Result X FlatError
 operand done i = operand_of (length done) i (slice_get done i)
 
 -- the tree, where its degree is the stated one
@@ -75,18 +75,20 @@ joined_tree Sub t u = sub_tree t u
 joined_tree Mul t u = mul_tree t u
 joined_tree Neg t u = neg_tree t
 
--- the operands, where the degree is stated right
-unfoldable pub operands_at : {S F : Type 0} → Kind S F → List (Tree S) → Operation → Data → Result (Tree S × Tree S) FlatError
-operands_at kind done op c = do
+-- the operands, trees or numbers with these degrees, where the degree is stated right
+unfoldable pub operands_at : {X : Type 0} → (X → ℕ) → List X → Operation → Data
+    → Result (X × X) FlatError
+operands_at degree_in done op c = do
   p ← ok_or (operands_of op c) (faults.Shape (length done))
-  t ← operand done p.1
-  u ← operand done p.2
-  found ← joined_degree op (degree kind.term t) (degree kind.term u)
-  stated (length done) p.0 found (t, u)
+  x ← operand done p.1
+  y ← operand done p.2
+  found ← joined_degree op (degree_in x) (degree_in y)
+  stated (length done) p.0 found (x, y)
 
 -- a node of an operation, of one that may be none
 abbrev pub operation_at : {S F : Type 0} → Kind S F → List (Tree S) → Operation → Data → Result (Tree S) FlatError
-operation_at kind done op c = operands_at kind done op c >>= λ p. Ok (joined_tree op p.0 p.1)
+operation_at kind done op c =
+    operands_at (degree kind.term) done op c >>= λ p. Ok (joined_tree op p.0 p.1)
 
 abbrev pub operation_or : {S F : Type 0} → Kind S F → List (Tree S) → Option Operation → Data → Result (Tree S) FlatError
 operation_or kind done None c = Err (faults.Shape (length done))
@@ -118,8 +120,8 @@ unfoldable pub last_tree : {S : Type 0} → List (Tree S) → Result (Tree S) Fl
 last_tree ts = ok_or (slice_get ts (length ts - 1)) faults.EmptyList
 
 -- the tree of the root of the list that is spelt by a value, or the first fault
-unfoldable pub root_of : {S F : Type 0} → Kind S F → Data → Result (Tree S) FlatError
+unfoldable pub root_of : {S F : Type 0} → Kind S F → Data → Result (Option (Tree S)) FlatError
 root_of kind d = do
   ds ← ok_or (as_array d) (faults.Shape 0)
   ts ← nodes_from kind [] ds
-  last_tree ts
+  as_some (last_tree ts)

@@ -1,5 +1,5 @@
 -- What reading gives: a value, or the first fault.
-use Rattle.std.specs.Prelude.{◌≡◌, Result, Ok, Err, ⊤}
+use Rattle.std.specs.Prelude.{◌≡◌, List, map, Option, Some, Result, Ok, Err, ⊤}
 use Rattle.air_wire.specs.declared.errors.FlatError.{FlatError}
 use Rattle.air_wire.specs.declared.errors.FlatError.TheVariants as faults
 
@@ -7,6 +7,13 @@ infixl 10 ◌>>=◌
 abbrev pub ◌>>=◌ : {A B : Type 0} → Result A FlatError → (A → Result B FlatError) → Result B FlatError
 (Ok x) >>= f = f x
 (Err e) >>= f = Err e
+
+-- what is read is there, and so is each element of a list that is read
+abbrev pub as_some : {A : Type 0} → Result A FlatError → Result (Option A) FlatError
+as_some read = read >>= λ a. Ok (Some a)
+
+abbrev pub all_some : {A : Type 0} → Result (List A) FlatError → Result (List (Option A)) FlatError
+all_some read = read >>= λ all. Ok (map Some all)
 
 -- What a function returned, seen by view, is what reading gives, unless memory ran out.
 abbrev pub Fails : {Y : Type 0} → FlatError → Result Y FlatError → Type 0

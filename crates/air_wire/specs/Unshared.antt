@@ -1,27 +1,30 @@
 -- Trees whose leaves hold no numbers of a pool.
-use Rattle.std.specs.Prelude.{◌≡◌, ℕ}
+use Rattle.std.specs.Prelude.{◌≡◌, ℕ, Option, option_map}
 use Rattle.air_field.specs.Term.{Term}
 use Rattle.air_field.specs.Degree.{degree_by, cached_weight}
 use Rattle.air_symbolic.specs.Leaves.{Leaves}
-use Rattle.air_symbolic.specs.Trees.{Tree, nothing, leaf_tree, add_tree, sub_tree, neg_tree, mul_tree, term_of}
+use Rattle.air_symbolic.specs.Trees.{Tree, leaf_tree, add_tree, sub_tree, neg_tree, mul_tree, tree_term, term_of}
 use Rattle.air_symbolic.specs.Pools.{tree_at, Pool}
 
 -- the tree over other leaves
 abbrev pub over : {A S : Type 0} → (A → S) → Tree A → Tree S
-over f nothing = nothing
 over f (leaf_tree a) = leaf_tree (f a)
 over f (add_tree t u) = add_tree (over f t) (over f u)
 over f (sub_tree t u) = sub_tree (over f t) (over f u)
 over f (neg_tree t) = neg_tree (over f t)
 over f (mul_tree t u) = mul_tree (over f t) (over f u)
 
--- the tree of number i
-abbrev pub seen_at : {U A S : Type 0} → (U → A → S) → Pool U A → ℕ → Tree S
-seen_at seen p i = over (seen p.base) (tree_at p i)
+-- the tree of number i, if there is the number
+abbrev pub seen_at : {U A S : Type 0} → (U → A → S) → Pool U A → ℕ → Option (Tree S)
+seen_at seen p i = option_map (over (seen p.base)) (tree_at p i)
 
 -- the degree by the cached weights, which a list states
 abbrev pub degree : {S F : Type 0} → (S → Term F) → Tree S → ℕ
-degree term t = degree_by cached_weight (term_of term t)
+degree term t = degree_by cached_weight (tree_term term t)
+
+-- the same of the tree of a number
+abbrev pub degree_of : {S F : Type 0} → (S → Term F) → Option (Tree S) → ℕ
+degree_of term o = degree_by cached_weight (term_of term o)
 
 -- A leaf's term is that of what is seen of it; what is seen of a valid leaf stays, and is seen of that leaf alone.
 pub record WireLaws {U A S F : Type 0} (reads : U → Leaves A F) (grows : U → U → Type 0) (seen : U → A → S) (term : S → Term F) : Type 0 where

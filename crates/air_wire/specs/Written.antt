@@ -1,16 +1,15 @@
 -- The list of nodes that is written for a tree.
-use Rattle.std.specs.Prelude.{◌≡◌, ℕ, ◌+◌, ◌<◌, ◌^◌, ◌⊎◌, max, List, [], ◌∷◌, ◌++◌, Some, codes, ⊤}
+use Rattle.std.specs.Prelude.{◌≡◌, ℕ, ◌+◌, ◌<◌, ◌^◌, ◌⊎◌, max, List, [], ◌∷◌, ◌++◌, Option, Some, codes, ⊤}
 use Rattle.std.specs.List.{slice_get}
 use Rattle.serde_json.specs.Data.{Data, array, object, member, no_members}
 use Rattle.serde_json.specs.View.{items_of}
-use Rattle.air_symbolic.specs.Trees.{Tree, nothing, leaf_tree, add_tree, sub_tree, neg_tree, mul_tree}
+use Rattle.air_symbolic.specs.Trees.{Tree, leaf_tree, add_tree, sub_tree, neg_tree, mul_tree}
 use Rattle.air_wire.specs.Spelling.{number_data, case_data, IsCase}
 use Rattle.air_wire.specs.Unshared.{degree}
 use Rattle.air_wire.specs.Nodes.{Kind}
 
 -- all subtrees in post-order: those of the left operand, those of the right one, the tree
 abbrev pub subtrees : {S : Type 0} → Tree S → List (Tree S)
-subtrees nothing = nothing ∷ []
 subtrees (leaf_tree a) = leaf_tree a ∷ []
 subtrees (add_tree t u) = subtrees t ++ subtrees u ++ add_tree t u ∷ []
 subtrees (sub_tree t u) = subtrees t ++ subtrees u ++ sub_tree t u ∷ []
@@ -44,7 +43,6 @@ WritesOne name done t d v = (x : Stands done t) × (v ≡ case_data name (one_da
 -- Behind nodes with the trees of done, the value is what is written for the tree: its degree, which fits `usize`, and
 -- the places of its operands.
 abbrev pub IsWrittenNode : {S F : Type 0} → Kind S F → List (Tree S) → Data → Tree S → Type 0
-IsWrittenNode kind done d nothing = ⊥
 IsWrittenNode kind done d (leaf_tree a) = IsCase (codes "Leaf") (λ c. kind.writes c a) d
 IsWrittenNode kind done d (add_tree t u) = WritesTwo (codes "Add") done t u (max (degree kind.term t) (degree kind.term u)) d
 IsWrittenNode kind done d (sub_tree t u) = WritesTwo (codes "Sub") done t u (max (degree kind.term t) (degree kind.term u)) d
@@ -66,8 +64,10 @@ pub record AreNodesOf {S F : Type 0} (kind : Kind S F) (ds : List Data) (t : Tre
   pub order : Adds [] (subtrees t) trees
   pub nodes : AreWritten kind [] ds trees
 
--- the value is the list that is written for the tree
-pub record IsWritten {S F : Type 0} (kind : Kind S F) (d : Data) (t : Tree S) : Type 0 where
+-- o is a tree, and the value is the list that is written for it
+pub record IsWritten {S F : Type 0} (kind : Kind S F) (d : Data) (o : Option (Tree S)) : Type 0 where
   pub items : List Data
+  pub root : Tree S
+  pub tree : o ≡ Some root
   pub is : d ≡ array (items_of items)
-  pub of : AreNodesOf kind items t
+  pub of : AreNodesOf kind items root

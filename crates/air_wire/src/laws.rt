@@ -1,5 +1,5 @@
 //! What callers rely on, as the contracts of functions.
-ghost use Rattle.std.specs.Prelude.{◌≡◌, ◌↔◌, List, Err};
+ghost use Rattle.std.specs.Prelude.{◌≡◌, ◌↔◌, List, Option, Err};
 ghost use Rattle.serde_json.specs.Data.{Data};
 ghost use Rattle.air_symbolic.specs.Trees.{Tree};
 ghost use Rattle.air_wire.specs.NodeLists.{IsList, HasFault};
@@ -12,9 +12,9 @@ use crate::wire_leaf::WireLeaf;
 
 /// A value is a list of nodes of one tree at most, has one first fault at most, and never both.
 pub fn lists_are_read_one_way<A: WireLeaf>()
-    ensures one_tree { (d : Data) (t u : Tree A.View) → IsList A.kind d t → IsList A.kind d u →
-        t ≡ u }
-    ensures no_fault { (d : Data) (t : Tree A.View) (f : FlatError) → IsList A.kind d t →
+    ensures one_tree { (d : Data) (t u : Option (Tree A.View)) → IsList A.kind d t →
+        IsList A.kind d u → t ≡ u }
+    ensures no_fault { (d : Data) (t : Option (Tree A.View)) (f : FlatError) → IsList A.kind d t →
         HasFault A.kind d f → ⊥ }
     ensures one_fault { (d : Data) (f g : FlatError) → HasFault A.kind d f → HasFault A.kind d g →
         f ≡ g }
@@ -23,10 +23,11 @@ pub fn lists_are_read_one_way<A: WireLeaf>()
 /// What is written for a tree is a list of that tree, one value and no other; so two trees are equal exactly if their
 /// written lists are.
 pub fn lists_are_written_one_way<A: WireLeaf>()
-    ensures list { (d : Data) (t : Tree A.View) → IsWritten A.kind d t → IsList A.kind d t }
-    ensures one_list { (d e : Data) (t : Tree A.View) → IsWritten A.kind d t →
+    ensures list { (d : Data) (t : Option (Tree A.View)) → IsWritten A.kind d t →
+        IsList A.kind d t }
+    ensures one_list { (d e : Data) (t : Option (Tree A.View)) → IsWritten A.kind d t →
         IsWritten A.kind e t → d ≡ e }
-    ensures one_tree { (d : Data) (t u : Tree A.View) → IsWritten A.kind d t →
+    ensures one_tree { (d : Data) (t u : Option (Tree A.View)) → IsWritten A.kind d t →
         IsWritten A.kind d u → t ≡ u }
 {}
 

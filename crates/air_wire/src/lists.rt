@@ -1,10 +1,11 @@
 //! Lists of nodes.
-ghost use Rattle.std.specs.Prelude.{◌≡◌, ◌≢◌, ◌<◌, ◌∷◌, ◌++◌, [], List, map, All, Ok, IfOk, IfErr};
+ghost use Rattle.std.specs.Prelude.{◌≡◌, ◌≢◌, ◌<◌, ◌∷◌, ◌++◌, [], List, map, filter_map, All, Ok, IfOk, IfErr};
 ghost use Rattle.serde_json.specs.Data.{Data, array};
 ghost use Rattle.serde_json.specs.View.{view, items_of};
 ghost use Rattle.air_symbolic.specs.Pools.{Pool, IsPool, FitsBase, Grown, size};
 ghost use Rattle.air_wire.specs.ListReaders.{numbers_or, last_number, HasRead};
 ghost use Rattle.air_wire.specs.ReadCalls.{AreOf, ReadsTree, ReadsAll};
+ghost use Rattle.air_wire.specs.Results.{all_some};
 ghost use Rattle.air_wire.specs.Unshared.{seen_at};
 ghost use Rattle.air_wire.specs.NodeLists.{IsList, HasFault};
 ghost use Rattle.air_wire.specs.Nodes.{root_of, node_more};
@@ -44,8 +45,8 @@ fn push_node<A: WireLeaf>(
 ) -> Result<(), FlatError>
     requires { AreOf A.reads pool.old ids.old.items }
     ensures { ReadsAll A.grows A.reads (seen_at A.seen) (λ _. ids.new.items) pool.old pool.new
-        result (node_more A.kind (Ok (map (seen_at A.seen pool.old) ids.old.items))
-        (view value.now)) }
+        result (all_some (node_more A.kind (Ok (filter_map (seen_at A.seen pool.old) ids.old.items))
+        (view value.now))) }
 {
     let id = node_from(alloc, pool, ids, value)?;
     ids.push(id)?;

@@ -1,10 +1,11 @@
 //! One node of a list.
-ghost use Rattle.std.specs.Prelude.{◌≡◌, ◌<◌, map, All, IfOk, IsOk, Ok};
+ghost use Rattle.std.specs.Prelude.{◌≡◌, ◌<◌, All, filter_map, IfOk, IsOk, Ok};
 ghost use Rattle.serde_json.specs.View.{view};
 ghost use Rattle.air_symbolic.specs.Pools.{IsPool, size};
+ghost use Rattle.air_symbolic.specs.Trees.{both};
 ghost use Rattle.air_wire.specs.ReadCalls.{AreOf, ReadsTree};
-ghost use Rattle.air_wire.specs.Results.{Gives};
-ghost use Rattle.air_wire.specs.Unshared.{seen_at, degree};
+ghost use Rattle.air_wire.specs.Results.{as_some};
+ghost use Rattle.air_wire.specs.Unshared.{seen_at, degree_of};
 ghost use Rattle.air_wire.specs.Nodes.{operand, stated, joined_degree, joined_tree, operands_at, operation_at, leaf_node_at, node_of_value};
 
 use crate::errors::FlatError;
@@ -24,8 +25,7 @@ fn operand<A: WireLeaf>(
 ) -> Result<ExprId<A>, FlatError>
     requires { All (λ i. i < size pool.now) ids.now }
     ensures here { IfOk result (λ i. i < size pool.now) }
-    ensures read { Gives (seen_at A.seen pool.now) result
-        (operand (map (seen_at A.seen pool.now) ids.now) place) }
+    ensures read { result ≡ operand ids.now place }
 {
     match ids.get(place) {
         Some(id) => Ok(*id),
@@ -55,7 +55,7 @@ fn stated(at: usize, degree: usize, found: usize) -> Result<(), FlatError>
 fn degree_of<A: WireLeaf>(pool: &ExprPool<A>, id: ExprId<A>) -> usize
     requires pool { IsPool A.reads pool.now }
     requires here { id < size pool.now }
-    ensures { result ≡ degree A.kind.term (seen_at A.seen pool.now id) }
+    ensures { result ≡ degree_of A.kind.term (seen_at A.seen pool.now id) }
 {
     pool.degree_multiple(id)
 }
@@ -72,10 +72,10 @@ fn operands<A: WireLeaf>(
     ensures left { IfOk result (λ p. p.0 < size pool.now) }
     ensures right { IfOk result (λ p. p.1 < size pool.now) }
     ensures fits { IfOk result (λ p. IsOk (joined_degree operation
-        (degree A.kind.term (seen_at A.seen pool.now p.0))
-        (degree A.kind.term (seen_at A.seen pool.now p.1)))) }
-    ensures read { Gives (λ p. (seen_at A.seen pool.now p.0, seen_at A.seen pool.now p.1)) result
-        (operands_at A.kind (map (seen_at A.seen pool.now) ids.now) operation (view contents.now)) }
+        (degree_of A.kind.term (seen_at A.seen pool.now p.0))
+        (degree_of A.kind.term (seen_at A.seen pool.now p.1)))) }
+    ensures read { result ≡ operands_at (λ i. degree_of A.kind.term (seen_at A.seen pool.now i))
+        ids.now operation (view contents.now) }
 {
     let shape = FlatError::Shape { at: ids.len() };
     let (degree, x, y) = operands_of(operation, contents).ok_or(shape)?;
@@ -96,10 +96,10 @@ fn inserted<A: WireLeaf>(
     requires left { operands.0 < size pool.old }
     requires right { operands.1 < size pool.old }
     requires fits { IsOk (joined_degree operation
-        (degree A.kind.term (seen_at A.seen pool.old operands.0))
-        (degree A.kind.term (seen_at A.seen pool.old operands.1))) }
+        (degree_of A.kind.term (seen_at A.seen pool.old operands.0))
+        (degree_of A.kind.term (seen_at A.seen pool.old operands.1))) }
     ensures { ReadsTree A.grows A.reads (seen_at A.seen) pool.old pool.new result
-        (Ok (joined_tree operation (seen_at A.seen pool.old operands.0)
+        (Ok (both (joined_tree operation) (seen_at A.seen pool.old operands.0)
         (seen_at A.seen pool.old operands.1))) }
 {
     let (x, y) = operands;
@@ -122,8 +122,8 @@ fn operation_from<A: WireLeaf>(
 ) -> Result<ExprId<A>, FlatError>
     requires { AreOf A.reads pool.old ids.now }
     ensures { ReadsTree A.grows A.reads (seen_at A.seen) pool.old pool.new result
-        (operation_at A.kind (map (seen_at A.seen pool.old) ids.now) operation
-        (view contents.now)) }
+        (as_some (operation_at A.kind (filter_map (seen_at A.seen pool.old) ids.now) operation
+        (view contents.now))) }
 {
     let operands = operands(pool, ids, operation, contents)?;
     inserted(pool, operation, operands)
@@ -137,14 +137,14 @@ fn leaf_from<A: WireLeaf>(
 ) -> Result<ExprId<A>, FlatError>
     requires { IsPool A.reads pool.old }
     ensures { ReadsTree A.grows A.reads (seen_at A.seen) pool.old pool.new result
-        (leaf_node_at A.kind at (view contents.now)) }
+        (as_some (leaf_node_at A.kind at (view contents.now))) }
 {
     let leaf = A::leaf_from_value(alloc, at, pool.base_mut(), contents)?;
     Ok(pool.leaf(leaf)?)
 }
 
 /// The expression of the node that the value spells behind the expressions `ids`.
-#[tactic(auto, unfolding(crate::specs::Nodes::node_of_value))]
+#[tactic(auto, using(crate::proofs::NumberTrees::trees_length), unfolding(crate::specs::Nodes::node_of_value))]
 pub(crate) fn node_from<A: WireLeaf>(
     alloc: Global,
     pool: &mut ExprPool<A>,
@@ -153,7 +153,8 @@ pub(crate) fn node_from<A: WireLeaf>(
 ) -> Result<ExprId<A>, FlatError>
     requires { AreOf A.reads pool.old ids.now }
     ensures { ReadsTree A.grows A.reads (seen_at A.seen) pool.old pool.new result
-        (node_of_value A.kind (map (seen_at A.seen pool.old) ids.now) (view value.now)) }
+        (as_some (node_of_value A.kind (filter_map (seen_at A.seen pool.old) ids.now)
+        (view value.now))) }
 {
     let shape = FlatError::Shape { at: ids.len() };
     let (name, contents) = only_member(value).ok_or(shape)?;

@@ -1,6 +1,7 @@
 //! Lists of nodes that are written.
 ghost use Rattle.std.specs.Prelude.{◌≡◌, ◌<◌, ◌+◌, [], ◌∷◌, ◌++◌, true, false, map, replicate, IfOk, IfErr};
-ghost use Rattle.serde_json.specs.View.{view};
+ghost use Rattle.serde_json.specs.Data.{array};
+ghost use Rattle.serde_json.specs.View.{view, items_of};
 ghost use Rattle.air_symbolic.specs.Pools.{IsPool, FitsBase, size};
 ghost use Rattle.air_symbolic.specs.Trees.{leaf_tree};
 ghost use Rattle.air_wire.specs.Unshared.{seen_at};
@@ -87,7 +88,7 @@ fn nodes_of<A: WireLeaf>(
 ) -> Result<Vec<Value>, FlatError>
     requires pool { IsPool A.reads pool.now }
     requires here { root < size pool.now }
-    ensures written { IfOk result (λ v. AreNodesOf A.kind (map view v.items)
+    ensures written { IfOk result (λ v. IsWritten A.kind (array (items_of (map view v.items)))
         (seen_at A.seen pool.now root)) }
     ensures refused { IfErr result (λ e. e ≡ FlatError.Memory) }
 {
@@ -138,7 +139,7 @@ fn items_of<A: WireLeaf>(
 ) -> Result<Vec<Value>, FlatError>
     requires pool { IsPool A.reads pool.now }
     requires here { root < size pool.now }
-    ensures written { IfOk result (λ v. AreNodesOf A.kind (map view v.items)
+    ensures written { IfOk result (λ v. IsWritten A.kind (array (items_of (map view v.items)))
         (seen_at A.seen pool.now root)) }
     ensures refused { IfErr result (λ e. e ≡ FlatError.Memory) }
 {

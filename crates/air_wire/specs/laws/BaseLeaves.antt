@@ -6,7 +6,7 @@ use Rattle.serde_json.specs.Data.{Data, string}
 use Rattle.air_field.specs.Modular.{Modular}
 use Rattle.air_field.specs.laws.Modular.{class_of}
 use Rattle.std.proofs.Math.Nat.{mod-eq_of_lt}
-use Rattle.air_symbolic.specs.Trees.{Tree, nothing, leaf_tree, add_tree, sub_tree, neg_tree, mul_tree}
+use Rattle.air_symbolic.specs.Trees.{Tree, leaf_tree, add_tree, sub_tree, neg_tree, mul_tree}
 use Rattle.air_symbolic.specs.declared.leaves.base_leaf.BaseLeaf.{BaseLeaf}
 use Rattle.air_symbolic.specs.declared.leaves.base_leaf.BaseLeaf.TheVariants as leaves
 use Rattle.air_wire.specs.Parts.{whole}
@@ -135,10 +135,13 @@ module _ {F : Type 0} {p : ℕ} (m : Modular F p) where
   }
 
 -- what is seen of a tree of base leaves is the tree
-pub over_same : {F : Type 0} (t : Tree (BaseLeaf F)) → over (base_seen tt) t ≡ t
-over_same nothing = refl
-over_same (leaf_tree a) = refl
-over_same (add_tree t u) = cc (over_same t, over_same u)
-over_same (sub_tree t u) = cc (over_same t, over_same u)
-over_same (neg_tree t) = cc (over_same t)
-over_same (mul_tree t u) = cc (over_same t, over_same u)
+same_tree : {F : Type 0} (t : Tree (BaseLeaf F)) → over (base_seen tt) t ≡ t
+same_tree (leaf_tree a) = refl
+same_tree (add_tree t u) = cc (same_tree t, same_tree u)
+same_tree (sub_tree t u) = cc (same_tree t, same_tree u)
+same_tree (neg_tree t) = cc (same_tree t)
+same_tree (mul_tree t u) = cc (same_tree t, same_tree u)
+
+pub over_same : {F : Type 0} (o : Option (Tree (BaseLeaf F))) → option_map (over (base_seen tt)) o ≡ o
+over_same (Some t) = ap (λ u. Some u) (same_tree t)
+over_same None = refl

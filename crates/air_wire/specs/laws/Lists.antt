@@ -9,8 +9,8 @@ use Rattle.serde_json.specs.Find.{as_array}
 use Rattle.air_symbolic.specs.Trees.{Tree}
 use Rattle.air_wire.specs.declared.errors.FlatError.{FlatError}
 use Rattle.air_wire.specs.declared.errors.FlatError.TheVariants as faults
-use Rattle.air_wire.specs.Results.{◌>>=◌, Fails, Gives}
-use Rattle.air_wire.specs.laws.Readings.{done, done_is, not_done, bind_ok, ok_or_found, failed, err_is}
+use Rattle.air_wire.specs.Results.{◌>>=◌, as_some, Fails, Gives}
+use Rattle.air_wire.specs.laws.Readings.{done, done_is, not_done, bind_ok, ok_or_found, failed, err_is, before_done}
 use Rattle.air_wire.specs.Nodes.{Kind, KindLaws, node_of_value, nodes_from, last_tree, root_of}
 use Rattle.air_wire.specs.NodeLists.{AreNodes, IsList, FirstFault, ItemsFault, HasFault}
 use Rattle.air_wire.specs.laws.Nodes.{node_found, node_again}
@@ -92,38 +92,47 @@ module _ {S F : Type 0} (kind : Kind S F) (laws : KindLaws kind) where
   fault_read before (item d ds) f (inr h) =
       ap (λ r. r >>= λ t. nodes_from kind (before ++ t ∷ []) ds) (node_again kind laws before d h.0 h.1) ∙ fault_read (before ++ h.0 ∷ []) ds f h.2
 
-  abbrev after : Items → Result (Tree S) FlatError
-  after ds = nodes_from kind [] ds >>= λ ts. last_tree ts
+  abbrev after : Items → Result (Option (Tree S)) FlatError
+  after ds = nodes_from kind [] ds >>= λ ts. as_some (last_tree ts)
 
-  abbrev whole : Option Items → Result (Tree S) FlatError
+  abbrev whole : Option Items → Result (Option (Tree S)) FlatError
   whole o = ok_or o (faults.Shape 0) >>= λ ds. after ds
 
-  pub root_found : (d : Data) (t : Tree S) → root_of kind d ≡ Ok t → IsList kind d t
+  pub root_found : (d : Data) (o : Option (Tree S)) → root_of kind d ≡ Ok o → IsList kind d o
   unfolding root_of
-  root_found d t e =
-      let ds = bind_ok (ok_or (as_array d) (faults.Shape 0)) after t e in
-      let ts = bind_ok (nodes_from kind [] ds.0) (λ ts. last_tree ts) t ds.2 in
+  root_found d o e =
+      let ds = bind_ok (ok_or (as_array d) (faults.Shape 0)) after o e in
+      let ts = bind_ok (nodes_from kind [] ds.0) (λ ts. as_some (last_tree ts)) o ds.2 in
+      let t = bind_ok (last_tree ts.0) (λ t. done (Some t)) o ts.2 in
       let us = nodes_found [] ds.0 ts.0 ts.1 in
-      let last = last_split us.0 t (ap last_tree (sym us.1) ∙ ts.2) in
-      record { items = ds.0; before = last.0; is = ok_or_found (as_array d) (faults.Shape 0) ds.0 ds.1; nodes = subst (AreNodes kind [] ds.0) last.1 us.2 }
+      let last = last_split us.0 t.0 (ap last_tree (sym us.1) ∙ t.1) in
+      record {
+        items = ds.0;
+        before = last.0;
+        root = t.0;
+        tree = done_is (λ v. v ≡ Some t.0) (Some t.0) o t.2 refl;
+        is = ok_or_found (as_array d) (faults.Shape 0) ds.0 ds.1;
+        nodes = subst (AreNodes kind [] ds.0) {x = us.0} {y = last.0 ++ t.0 ∷ []} last.1 us.2;
+      }
 
-  pub root_again : (d : Data) (t : Tree S) → IsList kind d t → root_of kind d ≡ Ok t
+  pub root_again : (d : Data) (o : Option (Tree S)) → IsList kind d o → root_of kind d ≡ Ok o
   unfolding root_of
-  root_again d t h =
+  root_again d o h =
       ap whole h.is
-      ∙ ap (λ r. r >>= λ ts. last_tree ts) (nodes_again [] h.items (h.before ++ t ∷ []) h.nodes)
-      ∙ last_of_push h.before t
+      ∙ ap (λ r. r >>= λ ts. as_some (last_tree ts)) (nodes_again [] h.items (h.before ++ h.root ∷ []) h.nodes)
+      ∙ ap (λ r. as_some r) (last_of_push h.before h.root)
+      ∙ ap (λ v. done v) (sym h.tree)
 
-  items_fault : (ds : Items) (r : Result (List (Tree S)) FlatError) (f : FlatError) → nodes_from kind [] ds ≡ r → (r >>= λ ts. last_tree ts) ≡ Err f → ItemsFault kind ds f
+  items_fault : (ds : Items) (r : Result (List (Tree S)) FlatError) (f : FlatError) → nodes_from kind [] ds ≡ r → (r >>= λ ts. as_some (last_tree ts)) ≡ Err f → ItemsFault kind ds f
   unfolding nodes_from last_tree
   items_fault no_items (Ok ts) f is e =
-      sym (err_is faults.EmptyList f (ap (λ us. ok_or (slice_get us (length us - 1)) faults.EmptyList) (done_is (λ v. [] ≡ v) [] ts is refl) ∙ e))
+      sym (err_is faults.EmptyList f (ap (λ us. as_some (ok_or (slice_get us (length us - 1)) faults.EmptyList)) (done_is (λ v. [] ≡ v) [] ts is refl) ∙ e))
   items_fault no_items (Err g) f is e = absurd cc
   items_fault (item d ds) (Ok ts) f is e = absurd (found (nodes_found [] (item d ds) ts is))
     where
       found : (us : List (Tree S)) × (ts ≡ [] ++ us) × AreNodes kind [] (item d ds) us → ⊥
       found ([], same, h) = h
-      found (u ∷ us, same, h) = last_there u us f (ap last_tree (sym same) ∙ e)
+      found (u ∷ us, same, h) = last_there u us f (ap last_tree (sym same) ∙ before_done (last_tree ts) (λ t. Some t) f e)
   items_fault (item d ds) (Err g) f is e = fault_found [] (item d ds) f (is ∙ ap (λ h. failed h) (err_is g f e))
 
   pub root_fault : (d : Data) (f : FlatError) → root_of kind d ≡ Err f → HasFault kind d f
@@ -137,7 +146,7 @@ module _ {S F : Type 0} (kind : Kind S F) (laws : KindLaws kind) where
   items_fault_read : (ds : Items) (f : FlatError) → ItemsFault kind ds f → after ds ≡ Err f
   unfolding nodes_from last_tree
   items_fault_read no_items f h = ap (λ g. failed g) (sym h)
-  items_fault_read (item d ds) f h = ap (λ r. r >>= λ ts. last_tree ts) (fault_read [] (item d ds) f h)
+  items_fault_read (item d ds) f h = ap (λ r. r >>= λ ts. as_some (last_tree ts)) (fault_read [] (item d ds) f h)
 
   pub root_fault_read : (d : Data) (f : FlatError) → HasFault kind d f → root_of kind d ≡ Err f
   unfolding root_of
@@ -146,10 +155,10 @@ module _ {S F : Type 0} (kind : Kind S F) (laws : KindLaws kind) where
 
   -- ---- what follows
 
-  pub one_tree : (d : Data) (t u : Tree S) → IsList kind d t → IsList kind d u → t ≡ u
+  pub one_tree : (d : Data) (t u : Option (Tree S)) → IsList kind d t → IsList kind d u → t ≡ u
   one_tree d t u h k = done_is (λ v. t ≡ v) t u (sym (root_again d t h) ∙ root_again d u k) refl
 
-  pub no_fault : (d : Data) (t : Tree S) (f : FlatError) → IsList kind d t → HasFault kind d f → ⊥
+  pub no_fault : (d : Data) (t : Option (Tree S)) (f : FlatError) → IsList kind d t → HasFault kind d f → ⊥
   no_fault d t f h k = not_done (λ _. ⊥) f t (sym (root_fault_read d f k) ∙ root_again d t h)
 
   pub one_fault : (d : Data) (f g : FlatError) → HasFault kind d f → HasFault kind d g → f ≡ g
@@ -186,7 +195,7 @@ fails_if (faults.WrongDegree at stated found) read h = h (λ e. absurd cc)
 fails_if (faults.NotCanonical at) read h = h (λ e. absurd cc)
 
 -- a call that answers a list's root or its first fault gives what reading gives
-pub root_given : {X S F : Type 0} (kind : Kind S F) (laws : KindLaws kind) (tree : X → Tree S) (d : Data) (r : Result X FlatError)
+pub root_given : {X S F : Type 0} (kind : Kind S F) (laws : KindLaws kind) (tree : X → Option (Tree S)) (d : Data) (r : Result X FlatError)
     → IfOk r (λ i. IsList kind d (tree i)) → IfErr r (λ f. f ≢ faults.Memory → HasFault kind d f) → Gives tree r (root_of kind d)
 root_given kind laws tree d (Ok i) h n = root_again kind laws d (tree i) h
 root_given kind laws tree d (Err f) h n = fails_if f (root_of kind d) (λ m. root_fault_read kind laws d f (n m))
@@ -194,4 +203,4 @@ root_given kind laws tree d (Err f) h n = fails_if f (root_of kind d) (λ m. roo
 -- a value is read by its items
 pub same_root : {S F : Type 0} (kind : Kind S F) (d : Data) (ds : Items) → as_array d ≡ Some ds → root_of kind (array ds) ≡ root_of kind d
 unfolding root_of
-same_root kind d ds e = ap (λ o. ok_or o (faults.Shape 0) >>= λ es. nodes_from kind [] es >>= λ ts. last_tree ts) (sym e)
+same_root kind d ds e = ap (λ o. ok_or o (faults.Shape 0) >>= λ es. nodes_from kind [] es >>= λ ts. as_some (last_tree ts)) (sym e)

@@ -4,7 +4,7 @@ use Rattle.std.specs.Option.{ok_or}
 use Rattle.std.specs.List.{slice_get}
 use Rattle.std.proofs.lemmas.Bool.{ltb-true, eqb-true, lt-ltb}
 use Rattle.serde_json.specs.Data.{Data}
-use Rattle.air_symbolic.specs.Trees.{Tree, nothing, leaf_tree, add_tree, sub_tree, neg_tree, mul_tree}
+use Rattle.air_symbolic.specs.Trees.{Tree, leaf_tree, add_tree, sub_tree, neg_tree, mul_tree}
 use Rattle.air_wire.specs.declared.errors.FlatError.TheVariants as faults
 use Rattle.air_wire.specs.Results.{◌>>=◌}
 use Rattle.air_wire.specs.Spelling.{case_data, HasWhole}
@@ -81,7 +81,7 @@ module _ {S F : Type 0} (kind : Kind S F) (before : List (Tree S)) where
       (p : ℕ × ℕ × ℕ) × (operands_of op c ≡ Some p) × (slice_get before p.1 ≡ Some q.0) × (slice_get before p.2 ≡ Some q.1)
       × (joined_degree op (degree kind.term q.0) (degree kind.term q.1) ≡ Ok p.0)
 
-  operands_found : (op : Operation) (c : Data) (q : Tree S × Tree S) → operands_at kind before op c ≡ Ok q → AreOperands op c q
+  operands_found : (op : Operation) (c : Data) (q : Tree S × Tree S) → operands_at (degree kind.term) before op c ≡ Ok q → AreOperands op c q
   unfolding operands_at
   operands_found op c q e =
       bind_then (AreOperands op c q) (ok_or (operands_of op c) (faults.Shape (length before)))
@@ -100,7 +100,7 @@ module _ {S F : Type 0} (kind : Kind S F) (before : List (Tree S)) where
         subst (λ k. joined_degree op (degree kind.term t) (degree kind.term u) ≡ done k) (sym s.0) n_is,
       )))))
 
-  operands_read : (op : Operation) (c : Data) (t u : Tree S) → AreOperands op c (t, u) → operands_at kind before op c ≡ Ok (t, u)
+  operands_read : (op : Operation) (c : Data) (t u : Tree S) → AreOperands op c (t, u) → operands_at (degree kind.term) before op c ≡ Ok (t, u)
   unfolding operands_at
   operands_read op c t u h = rw (h.1, operand_read before h.0.1 t h.2, operand_read before h.0.2 u h.3, h.4, same_number h.0.0 h.0.0 refl) refl
 
@@ -112,11 +112,11 @@ module _ {S F : Type 0} (kind : Kind S F) (before : List (Tree S)) where
 
   two_read : (op : Operation) (c : Data) (t u : Tree S) (n : ℕ) → ((y : ℕ) → HasWhole (codes "y") y c → second_of op c ≡ Some y)
       → joined_degree op (degree kind.term t) (degree kind.term u) ≡ Ok n → HasTwoOperands before t u n c
-      → operands_at kind before op c ≡ Ok (t, u)
+      → operands_at (degree kind.term) before op c ≡ Ok (t, u)
   two_read op c t u n second e h =
       operands_read op c t u ((n, h.1.0, h.2.0), places_read op c n h.1.0 h.2.0 h.0 h.1.1 (second h.2.0 h.2.1), h.1.2, h.2.2, e)
 
-  operation_found : (op : Operation) (c : Data) (q : Tree S × Tree S) → operands_at kind before op c ≡ Ok q → SpellsNode kind before (case_data (operation_name op) c) (joined_tree op q.0 q.1)
+  operation_found : (op : Operation) (c : Data) (q : Tree S × Tree S) → operands_at (degree kind.term) before op c ≡ Ok q → SpellsNode kind before (case_data (operation_name op) c) (joined_tree op q.0 q.1)
   unfolding operation_name
   operation_found Add c q e =
       let h = operands_found Add c q e in
@@ -148,7 +148,7 @@ module _ {S F : Type 0} (kind : Kind S F) (laws : KindLaws kind) (before : List 
       at_operation : (o : Option Operation) → find_name operations name ≡ o → operation_or kind before o c ≡ Ok t → SpellsNode kind before (case_data name c) t
       at_operation None is e = not_done (SpellsNode kind before (case_data name c)) (faults.Shape (length before)) t e
       at_operation (Some op) is e =
-          let q = bind_ok (operands_at kind before op c) (λ q. done (joined_tree op q.0 q.1)) t e in
+          let q = bind_ok (operands_at (degree kind.term) before op c) (λ q. done (joined_tree op q.0 q.1)) t e in
           done_is (SpellsNode kind before (case_data name c)) (joined_tree op q.0.0 q.0.1) t q.2
           (subst (λ s. SpellsNode kind before (case_data s c) (joined_tree op q.0.0 q.0.1)) (sym (named_operation name op is)) (operation_found kind before op c q.0 q.1))
 
@@ -160,7 +160,6 @@ module _ {S F : Type 0} (kind : Kind S F) (laws : KindLaws kind) (before : List 
 
   pub node_again : (d : Data) (t : Tree S) → SpellsNode kind before d t → node_of_value kind before d ≡ Ok t
   unfolding node_of_value
-  node_again d nothing h = absurd h
   node_again d (leaf_tree a) h =
       ap (node_of_value kind before) h.1 ∙ ap (λ r. r >>= λ a. done (leaf_tree a)) (laws.again (length before) h.0 a h.2)
   node_again d (add_tree t u) h = ap (node_of_value kind before) h.1 ∙ ap (λ r. r >>= λ q. done (add_tree q.0 q.1)) (two_read kind before Add h.0 t u _ (λ y. field_read (codes "y") h.0 y) refl h.2)

@@ -1,10 +1,10 @@
 -- What is written for a tree is a list of that tree, and it is one value.
-use Rattle.std.proofs.Common.{◌≡◌, ℕ, suc, zero, ◌+◌, ◌≤◌, max, List, [], ◌∷◌, ◌++◌, append_assoc, length, length-append, Some, codes, refl, sym, ap, ap₂, subst, ◌∙◌, arith, ◌⊎◌, inl, inr, ⊎_elim}
+use Rattle.std.proofs.Common.{◌≡◌, ℕ, suc, zero, ◌+◌, ◌≤◌, max, List, [], ◌∷◌, ◌++◌, append_assoc, length, length-append, Option, Some, codes, refl, sym, ap, ap₂, subst, ◌∙◌, arith, ◌⊎◌, inl, inr, ⊎_elim}
 use Rattle.std.specs.List.{slice_get}
 use Rattle.serde_json.specs.Data.{Data, array}
 use Rattle.serde_json.specs.Find.{as_array}
 use Rattle.serde_json.specs.View.{items_of}
-use Rattle.air_symbolic.specs.Trees.{Tree, nothing, leaf_tree, add_tree, sub_tree, neg_tree, mul_tree}
+use Rattle.air_symbolic.specs.Trees.{Tree, leaf_tree, add_tree, sub_tree, neg_tree, mul_tree}
 use Rattle.air_wire.specs.Spelling.{case_data}
 use Rattle.air_wire.specs.Unshared.{degree}
 use Rattle.air_wire.specs.Nodes.{Kind, KindLaws}
@@ -129,7 +129,6 @@ module _ {X : Type 0} where
 
 -- the subtrees of the operands
 abbrev pub parts : {S : Type 0} → Tree S → List (Tree S)
-parts nothing = []
 parts (leaf_tree a) = []
 parts (add_tree t u) = subtrees t ++ subtrees u
 parts (sub_tree t u) = subtrees t ++ subtrees u
@@ -138,7 +137,6 @@ parts (mul_tree t u) = subtrees t ++ subtrees u
 
 module _ {S : Type 0} where
   pub parts_root : (t : Tree S) → subtrees t ≡ parts t ++ t ∷ []
-  parts_root nothing = refl
   parts_root (leaf_tree a) = refl
   parts_root (add_tree t u) = refl
   parts_root (sub_tree t u) = refl
@@ -178,7 +176,6 @@ module _ {S : Type 0} where
       elim_none i e = cc
 
   small : (t x : Tree S) → Stands (subtrees t) x → count x ≤ count t
-  small nothing x h = within nothing x (λ l. absurd (none x l)) h
   small (leaf_tree a) x h = within (leaf_tree a) x (λ l. absurd (none x l)) h
   small (add_tree t u) x h = within (add_tree t u) x (smaller_of_two t u x (small t) (small u)) h
   small (sub_tree t u) x h = within (sub_tree t u) x (smaller_of_two t u x (small t) (small u)) h
@@ -186,7 +183,6 @@ module _ {S : Type 0} where
   small (mul_tree t u) x h = within (mul_tree t u) x (smaller_of_two t u x (small t) (small u)) h
 
   part_small : (t x : Tree S) → Stands (parts t) x → count x ≤ length (parts t)
-  part_small nothing x h = absurd (none x h)
   part_small (leaf_tree a) x h = absurd (none x h)
   part_small (add_tree t u) x h = smaller_of_two t u x (small t) (small u) h
   part_small (sub_tree t u) x h = smaller_of_two t u x (small t) (small u) h
@@ -209,7 +205,6 @@ module _ {S F : Type 0} (kind : Kind S F) (laws : KindLaws kind) where
   -- ---- what is written is a list of nodes
 
   written_node : (before : List (Tree S)) (d : Data) (t : Tree S) → IsWrittenNode kind before d t → SpellsNode kind before d t
-  written_node before d nothing h = h
   written_node before d (leaf_tree a) h = (h.0, h.1, laws.written h.0 a h.2)
   written_node before d (add_tree t u) (x, y, is) =
       (two_data (max (degree kind.term t) (degree kind.term u)) x.0 y.0, is, (refl, (x.0, refl, x.1), (y.0, refl, y.1)))
@@ -226,14 +221,16 @@ module _ {S F : Type 0} (kind : Kind S F) (laws : KindLaws kind) where
   written_nodes before (d ∷ ds) [] h = absurd h
   written_nodes before (d ∷ ds) (t ∷ ts) h = (written_node before d t h.0, written_nodes (before ++ t ∷ []) ds ts h.1)
 
-  pub written_list : (d : Data) (t : Tree S) → IsWritten kind d t → IsList kind d t
-  written_list d t h =
-      let root = root_last t h.of.trees h.of.order in
+  pub written_list : (d : Data) (o : Option (Tree S)) → IsWritten kind d o → IsList kind d o
+  written_list d o h =
+      let last = root_last h.root h.of.trees h.of.order in
       record {
         items = items_of h.items;
-        before = root.0;
+        before = last.0;
+        root = h.root;
+        tree = h.tree;
         is = ap as_array h.is;
-        nodes = subst (AreNodes kind [] (items_of h.items)) root.1 (written_nodes [] h.items h.of.trees h.of.nodes);
+        nodes = subst (AreNodes kind [] (items_of h.items)) last.1 (written_nodes [] h.items h.of.trees h.of.nodes);
       }
 
   -- ---- one value is written
@@ -247,7 +244,6 @@ module _ {S F : Type 0} (kind : Kind S F) (laws : KindLaws kind) where
       is ∙ ap (λ (i : ℕ). case_data name (one_data n i)) (once t x.0 v.0 x.1 v.1) ∙ sym also
 
   one_node : (before : List (Tree S)) (d e : Data) (t : Tree S) → Once before → IsWrittenNode kind before d t → IsWrittenNode kind before e t → d ≡ e
-  one_node before d e nothing once h k = absurd h
   one_node before d e (leaf_tree a) once h k = h.1 ∙ ap (case_data (codes "Leaf")) (laws.once h.0 k.0 a h.2 k.2) ∙ sym k.1
   one_node before d e (add_tree t u) once h k = one_two (codes "Add") before t u _ d e once h k
   one_node before d e (sub_tree t u) once h k = one_two (codes "Sub") before t u _ d e once h k
@@ -269,14 +265,15 @@ module _ {S F : Type 0} (kind : Kind S F) (laws : KindLaws kind) where
   same_items : (ds es : List Data) (ts us : List (Tree S)) → ts ≡ us → Once ts → AreWritten kind [] ds ts → AreWritten kind [] es us → ds ≡ es
   same_items ds es ts us same once h k = one_items [] ds es ts once h (subst (AreWritten kind [] es) (sym same) k)
 
-  pub one_list : (d e : Data) (t : Tree S) → IsWritten kind d t → IsWritten kind e t → d ≡ e
-  one_list d e t h k =
+  pub one_list : (d e : Data) (o : Option (Tree S)) → IsWritten kind d o → IsWritten kind e o → d ≡ e
+  one_list d e o h k =
+      let same : k.root ≡ h.root = cc (h.tree, k.tree) in
       h.is
       ∙ ap (λ (ds : List Data). array (items_of ds))
       (same_items h.items k.items h.of.trees k.of.trees
-      (adds_same [] (subtrees t) h.of.trees k.of.trees h.of.order k.of.order)
-      (adds_once [] (subtrees t) h.of.trees nothing_twice h.of.order) h.of.nodes k.of.nodes)
+      (adds_same [] (subtrees h.root) h.of.trees k.of.trees h.of.order (subst (λ t. Adds [] (subtrees t) k.of.trees) same k.of.order))
+      (adds_once [] (subtrees h.root) h.of.trees nothing_twice h.of.order) h.of.nodes k.of.nodes)
       ∙ sym k.is
 
-  pub written_tree : (d : Data) (t u : Tree S) → IsWritten kind d t → IsWritten kind d u → t ≡ u
+  pub written_tree : (d : Data) (t u : Option (Tree S)) → IsWritten kind d t → IsWritten kind d u → t ≡ u
   written_tree d t u h k = one_tree kind laws d t u (written_list d t h) (written_list d u k)

@@ -1,4 +1,4 @@
-use Rattle.std.proofs.Common.{◌≡◌, map, Some, arith, subst, Result}
+use Rattle.std.proofs.Common.{◌≡◌, map, Option, Some, arith, subst, Result}
 use Rattle.serde_json.specs.Data.{array}
 use Rattle.serde_json.specs.Find.{as_array}
 use Rattle.serde_json.specs.View.{view, items_of, items_view}
@@ -20,6 +20,6 @@ returns g c =
       grown = c.items_from-list.ensures.grown;
       here = c.root.ensures.here new ds read;
       read =
-          subst (λ (r : Result (Tree _) FlatError). Gives (seen_at A.seen new) c.root.result r) (same_root A.kind (view c.args.value.now) (items_of ds) there)
+          subst (λ (r : Result (Option (Tree _)) FlatError). Gives (seen_at A.seen new) c.root.result r) (same_root A.kind (view c.args.value.now) (items_of ds) there)
           (root_given A.kind g.met.A.WireLeaf.kind_laws (seen_at A.seen new) (array (items_of ds)) c.root.result (c.root.ensures.root new ds read) (c.root.ensures.fault new ds read));
     }

@@ -1,8 +1,10 @@
-use Rattle.std.proofs.Common.{refl}
+use Rattle.std.proofs.Common.{refl, Ok, Some}
 use Rattle.serde_json.specs.View.{view}
 use Rattle.air_symbolic.specs.Pools.{on_base, tree_at}
+use Rattle.air_symbolic.specs.Trees.{leaf_tree}
 use Rattle.air_symbolic.specs.laws.Pools.{Grown-trans}
 use Rattle.air_wire.specs.Faults.{ring_fault}
+use Rattle.air_wire.specs.Results.{◌>>=◌}
 use Rattle.air_wire.specs.laws.ReadCalls.{gives_up}
 use Rattle.air_wire.proofs.Growing.{lent_grown}
 use Rattle.air_wire.proofs.Loop.{carry}
@@ -14,7 +16,8 @@ returns-in_err-leaf g c =
     gives_up c.in_err-leaf.field-0.0
     (lent_grown _ g.A.SymLeaf.reads g.A.SymLeaf.grows _ g.met.A.SymLeaf.leaf_laws c.args.pool.now c.base_mut.result.now c.leaf_from_value.new.under c.base_mut.ensures.value c.leaf_from_value.ensures.grown)
     c.from_residual.ensures.1
-    (carry _ (g.A.WireLeaf.kind.leaf_at c.args.at (view c.args.contents.now)) _ _ refl c.in_err-leaf.ensures.read)
+    (carry _ (g.A.WireLeaf.kind.leaf_at c.args.at (view c.args.contents.now) >>= λ a. Ok (leaf_tree a)) (λ t. Ok (Some t)) _ refl
+    (carry _ (g.A.WireLeaf.kind.leaf_at c.args.at (view c.args.contents.now)) (λ a. Ok (leaf_tree a)) _ refl c.in_err-leaf.ensures.read))
 
 pub leaf-requires-clause-owed : goal.leaf-requires-clause-owed
 leaf-requires-clause-owed g c u h =

@@ -1,14 +1,16 @@
 use Rattle.std.proofs.Common.{◌+◌, map}
 use Rattle.serde_json.specs.View.{view}
-use Rattle.air_wire.specs.Unshared.{seen_at}
+use Rattle.air_symbolic.specs.Trees.{Tree}
 use Rattle.air_wire.proofs.Left.{work}
+use Rattle.air_wire.proofs.PoolNodes.{tree_or, form_at}
 use Rattle.air_wire.proofs.Progress.{Progress}
 use Rattle.air_wire.proofs.written_lists.nodes_of.Given as goal
 
+-- z is any tree
 abbrev pub invariant-loop-step : goal.invariant-loop-step
 invariant-loop-step g l =
     let A = g.A.WireLeaf in
-    Progress A.kind (seen_at A.seen l.pool) (l.fn.root + 1) (seen_at A.seen l.pool l.fn.root) l.steps.items l.places.items (map view l.items.items)
+    (z : Tree A.View) × Progress A.kind (tree_or A.seen z l.pool) (l.fn.root + 1) (tree_or A.seen z l.pool l.fn.root) l.steps.items l.places.items (map view l.items.items)
 
 abbrev pub decreases-loop-step : goal.decreases-loop-step
-decreases-loop-step g l = work (seen_at g.A.WireLeaf.seen l.pool) l.steps.items
+decreases-loop-step g l = work (form_at l.pool) l.steps.items
