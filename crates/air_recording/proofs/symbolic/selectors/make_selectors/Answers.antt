@@ -1,5 +1,5 @@
 use Rattle.air_field.specs.Term.{first_row, last_row, leaf_term}
-use Rattle.std.proofs.Common.{ℕ, ◌∙◌}
+use Rattle.std.proofs.Common.{ℕ, Option, ◌∙◌}
 use Rattle.air_field.specs.Ring.{CommRing}
 use Rattle.air_symbolic.specs.Trees.{Tree}
 use Rattle.air_symbolic.specs.Pools.{Pool, HasTree, Grown}
