@@ -21,8 +21,8 @@ module _ {F : Type 0} where
   abbrev pub square : Term F → Term F
   square x = x ⊙ x
 
-  abbrev pub power : CommRing F → Term F → ℕ → Term F
-  power R x n = power_term R.one x n
+  abbrev pub to_power : CommRing F → Term F → ℕ → Term F
+  to_power R x n = power_term R.one x n
 
   -- x is one; the same over the extension; there, x is zero or one
   abbrev pub is_one : CommRing F → Term F → List (Assertion F)

@@ -18,7 +18,7 @@ use Rattle.air_gadgets.specs.laws.ExactSums.{add2_is_exact, add3_is_exact}
 use Rattle.air_gadgets.specs.laws.ExactXors.{xor_is_exact}
 use Rattle.blake3.specs.Compression.{half_mix, mix}
 use Rattle.blake3.specs.declared.words.Quarter.{Quarter}
-use Rattle.air_blake3.specs.Words.{QuarterTerms, packed_limbs, under}
+use Rattle.air_blake3.specs.Words.{QuarterTerms, packed_limbs, map_terms}
 use Rattle.air_blake3.specs.Mixing.{half_mix_asserts, mix_asserts}
 use Rattle.air_blake3.specs.Holding.{IsLimbsOf, IsBitsOf, IsQuarterOf, MixIsComplete}
 use Rattle.air_blake3.proofs.WordNumbers.{xor_back, bits-take, bits-xor, bits-rotated, length-xor, length-rotated, number_of-lt, number_of-append, number_of-xor, number_of-halves, low_half-lt, rotated_back}
@@ -126,4 +126,4 @@ mix_is_complete R p has t m n u v s q x y domain big h first second middle last 
     let k = half_mix_asserts R 8 7 u n v in
     let vg = half_mix_vanishes R s p has domain big 16 12 t m u q x (omega arith) (omega arith) (omega arith) (omega arith) h first middle in
     let vk = half_mix_vanishes R s p has domain big 8 7 u n v (half_mix 16 12 q x) y (omega arith) (omega arith) (omega arith) (omega arith) middle second last in
-    vanish-both R s (under (λ z. z) g) (under (λ z. z) k) (subst (AllVanish R s) (sym (under-same g)) vg) (subst (AllVanish R s) (sym (under-same k)) vk)
+    vanish-both R s (map_terms (λ z. z) g) (map_terms (λ z. z) k) (subst (AllVanish R s) (sym (under-same g)) vg) (subst (AllVanish R s) (sym (under-same k)) vk)

@@ -20,7 +20,7 @@ use Rattle.air_gadgets.specs.laws.PackedBits.{value-packed_term}
 use Rattle.air_gadgets.specs.laws.Xors.{packed-images}
 use Rattle.blake3.specs.Compression.{half_mix, mix}
 use Rattle.blake3.specs.declared.words.Quarter.{Quarter}
-use Rattle.air_blake3.specs.Words.{QuarterTerms, packed_limbs, under}
+use Rattle.air_blake3.specs.Words.{QuarterTerms, packed_limbs, map_terms}
 use Rattle.air_blake3.specs.Mixing.{half_mix_asserts, mix_asserts}
 use Rattle.air_blake3.specs.Holding.{IsLimbsOf, IsBitsOf, IsQuarterOf, HasAllBits, MixIsSound}
 use Rattle.air_blake3.proofs.WordNumbers.{bits-xor, length-xor, length-rotated, number_of-halves, low_half-lt, high_half-lt, rotated_xor}
@@ -122,13 +122,13 @@ module _ {F : Type 0} (R : CommRing F) (s : Leaf → F) where
           d = new_d;
         }
 
-pub under-same : {F : Type 0} (ts : List (Assertion F)) → under (λ z. z) ts ≡ ts
+pub under-same : {F : Type 0} (ts : List (Assertion F)) → map_terms (λ z. z) ts ≡ ts
 under-same [] = refl
 under-same (Base t ∷ ts) = ap (λ us. Base t ∷ us) (under-same ts)
 under-same (Extension t ∷ ts) = ap (λ us. Extension t ∷ us) (under-same ts)
 
 abbrev pub same : {F : Type 0} → List (Assertion F) → List (Assertion F)
-same ts = under (λ z. z) ts
+same ts = map_terms (λ z. z) ts
 
 -- the first of two lists vanishes as it stands
 pub vanish-same : {F : Type 0} (R : CommRing F) (s : Leaf → F) (ts us : List (Assertion F)) → AllVanish R s (same ts ++ us) → AllVanish R s ts × AllVanish R s us

@@ -4,7 +4,7 @@ use Rattle.air_field.specs.Ring.{CommRing}
 use Rattle.air_field.specs.Term.{Term}
 use Rattle.air_builder.specs.Assertion.{Assertion}
 use Rattle.air_gadgets.specs.Gadgets.{add2_asserts, add3_asserts, xor_asserts}
-use Rattle.air_blake3.specs.Words.{QuarterTerms, packed_limbs, under}
+use Rattle.air_blake3.specs.Words.{QuarterTerms, packed_limbs, map_terms}
 
 -- u is half of G of t, with its rotations and a word of the message
 abbrev pub half_mix_asserts : {F : Type 0} → CommRing F → ℕ → ℕ → QuarterTerms F → List (Term F) → QuarterTerms F → List (Assertion F)
@@ -16,4 +16,4 @@ half_mix_asserts R j k t m u =
 
 -- v is G of t, by way of u, each term becoming another
 unfoldable pub mix_asserts : {F : Type 0} → CommRing F → (Term F → Term F) → QuarterTerms F → List (Term F) → List (Term F) → QuarterTerms F → QuarterTerms F → List (Assertion F)
-mix_asserts R f t m n u v = under f (half_mix_asserts R 16 12 t m u) ++ under f (half_mix_asserts R 8 7 u n v)
+mix_asserts R f t m n u v = map_terms f (half_mix_asserts R 16 12 t m u) ++ map_terms f (half_mix_asserts R 8 7 u n v)

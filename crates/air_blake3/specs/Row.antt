@@ -11,7 +11,7 @@ use Rattle.air_author.specs.Constraints.{asserts_of_first}
 use Rattle.blake3.specs.Compression.{diagonals, from_diagonals, place_in}
 use Rattle.blake3.specs.declared.words.Quarter.{Quarter}
 use Rattle.blake3.specs.declared.words.State.{State}
-use Rattle.air_blake3.specs.Words.{QuarterTerms, BitTerms, StateTerms, packed_limbs, under, bits_at, bits_of, state_of}
+use Rattle.air_blake3.specs.Words.{QuarterTerms, BitTerms, StateTerms, packed_limbs, map_terms, bits_at, bits_of, state_of}
 use Rattle.air_blake3.specs.Mixing.{mix_asserts}
 
 -- ---- columns
@@ -91,11 +91,11 @@ xors_are (t ∷ ts) (u ∷ us) (v ∷ vs) = (v ≐ xor_term t u) ++ xors_are ts 
 -- a column of the first state: its word a is that of some bits, its words b and d are made of bits, its word c is constant
 unfoldable pub first_asserts : {F : Type 0} → CommRing F → (Term F → Term F) → QuarterTerms F → List (Term F) → ℕ → List (Assertion F)
 first_asserts R f q low n =
-    under f (test_asserts R low) ++
-    (under f (limbs_are q.a (packed_limbs R low)) ++
-    (under f (test_asserts R q.b) ++
-    (under f (limbs_are q.c (constant_limbs R n)) ++
-    under f (test_asserts R q.d))))
+    map_terms f (test_asserts R low) ++
+    (map_terms f (limbs_are q.a (packed_limbs R low)) ++
+    (map_terms f (test_asserts R q.b) ++
+    (map_terms f (limbs_are q.c (constant_limbs R n)) ++
+    map_terms f (test_asserts R q.d))))
 
 unfoldable pub first_at : {F : Type 0} → CommRing F → (Term F → Term F) → List (Assertion F)
 first_at R f =
@@ -108,11 +108,11 @@ first_at R f =
 -- a column of the output, of one of the last state, the bits of its word c, and two words of the chaining value
 unfoldable pub output_asserts : {F : Type 0} → CommRing F → (Term F → Term F) → QuarterTerms F → List (Term F) → List (Term F) → List (Term F) → BitTerms F → List (Assertion F)
 output_asserts R f q bits low high out =
-    (under f (test_asserts R bits) ++ under f (limbs_are q.c (packed_limbs R bits))) ++
-    (under f (xor_asserts R q.a bits out.a 0) ++
-    (under f (xors_are q.b q.d out.b) ++
-    (under f (xors_are bits low out.c) ++
-    under f (xors_are q.d high out.d))))
+    (map_terms f (test_asserts R bits) ++ map_terms f (limbs_are q.c (packed_limbs R bits))) ++
+    (map_terms f (xor_asserts R q.a bits out.a 0) ++
+    (map_terms f (xors_are q.b q.d out.b) ++
+    (map_terms f (xors_are bits low out.c) ++
+    map_terms f (xors_are q.d high out.d))))
 
 unfoldable pub output_at : {F : Type 0} → CommRing F → (Term F → Term F) → List (Assertion F)
 output_at R f =
@@ -125,7 +125,7 @@ output_at R f =
 
 -- a word of the message is made of bits
 unfoldable pub message_at : {F : Type 0} → CommRing F → (Term F → Term F) → ℕ → List (Assertion F)
-message_at R f i = under f (test_asserts R (bits_at (message_column i)))
+message_at R f i = map_terms f (test_asserts R (bits_at (message_column i)))
 
 -- one compression a row
 abbrev pub compression : {F : Type 0} → CommRing F → List (Assertion F)

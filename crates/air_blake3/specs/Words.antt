@@ -35,10 +35,10 @@ abbrev pub packed_limbs : {F : Type 0} → CommRing F → List (Term F) → Limb
 packed_limbs R ts = record { low = packed_term R.zero (take 16 ts); high = packed_term R.zero (drop 16 ts) }
 
 -- the assertions with another term in each one's place
-abbrev pub under : {F : Type 0} → (Term F → Term F) → List (Assertion F) → List (Assertion F)
-under f [] = []
-under f (Base t ∷ ts) = Base (f t) ∷ under f ts
-under f (Extension t ∷ ts) = Extension (f t) ∷ under f ts
+abbrev pub map_terms : {F : Type 0} → (Term F → Term F) → List (Assertion F) → List (Assertion F)
+map_terms f [] = []
+map_terms f (Base t ∷ ts) = Base (f t) ∷ map_terms f ts
+map_terms f (Extension t ∷ ts) = Extension (f t) ∷ map_terms f ts
 
 -- ---- columns of the row
 

@@ -1,5 +1,5 @@
 //! G, the mixing of four words. Each number is the column at which a word begins.
-ghost use Rattle.air_blake3.specs.Words.{bits_at, quarter_of, under};
+ghost use Rattle.air_blake3.specs.Words.{bits_at, quarter_of, map_terms};
 ghost use Rattle.air_blake3.specs.Mixing.{half_mix_asserts, mix_asserts};
 
 use crate::words::{AddThree, AddTwo};
@@ -17,7 +17,7 @@ struct FirstHalf {
 }
 
 impl<AB: AirBuilder> Constraint<AB> for FirstHalf {
-    ghost asserts = { λ s f _. under f (half_mix_asserts AB.F.ring 16 12 (quarter_of s.before)
+    ghost asserts = { λ s f _. map_terms f (half_mix_asserts AB.F.ring 16 12 (quarter_of s.before)
         (bits_at s.message) (quarter_of s.after)) };
 
     #[tactic(auto, unfolding(crate::specs::Words::bits_at, crate::specs::Words::limbs_at, air_words::specs::BitTerms::bits_asserts))]
@@ -60,7 +60,7 @@ struct SecondHalf {
 }
 
 impl<AB: AirBuilder> Constraint<AB> for SecondHalf {
-    ghost asserts = { λ s f _. under f (half_mix_asserts AB.F.ring 8 7 (quarter_of s.before)
+    ghost asserts = { λ s f _. map_terms f (half_mix_asserts AB.F.ring 8 7 (quarter_of s.before)
         (bits_at s.message) (quarter_of s.after)) };
 
     #[tactic(auto, unfolding(crate::specs::Words::bits_at, crate::specs::Words::limbs_at, air_words::specs::BitTerms::bits_asserts))]

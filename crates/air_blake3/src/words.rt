@@ -4,7 +4,7 @@ ghost use Rattle.air_field.specs.Algebra.{xor_term};
 ghost use Rattle.air_builder.specs.Notation.{◌⊖◌, is_zero};
 ghost use Rattle.air_gadgets.specs.Gadgets.{add2_asserts, add3_asserts, test_asserts};
 ghost use Rattle.air_blake3.specs.Row.{constant_limbs, limbs_are};
-ghost use Rattle.air_blake3.specs.Words.{bits_at, column, limbs_at, packed_limbs, under};
+ghost use Rattle.air_blake3.specs.Words.{bits_at, column, limbs_at, packed_limbs, map_terms};
 
 use air_author::{
     AirResult, Condition, Constraint, Current, Difference, Double, Equal, Expression, Family,
@@ -39,7 +39,7 @@ impl<AB: AirBuilder> Series<AB> for Half {
 pub(crate) struct AreBits(pub(crate) u32);
 
 impl<AB: AirBuilder> Constraint<AB> for AreBits {
-    ghost asserts = { λ s f _. under f (test_asserts AB.F.ring (bits_at s.0)) };
+    ghost asserts = { λ s f _. map_terms f (test_asserts AB.F.ring (bits_at s.0)) };
 
     #[tactic(auto, unfolding(crate::specs::Words::bits_at, air_words::specs::BitTerms::bits_asserts))]
     fn assert_under<K: Condition<AB>>(&self, builder: &mut AB, condition: &K) -> AirResult {
@@ -60,8 +60,8 @@ pub(crate) struct AddTwo {
 }
 
 impl<AB: AirBuilder> Constraint<AB> for AddTwo {
-    ghost asserts = { λ s f _. under f (add2_asserts AB.F.ring (limbs_at s.sum) (limbs_at s.limbs)
-        (packed_limbs AB.F.ring (bits_at s.bits))) };
+    ghost asserts = { λ s f _. map_terms f (add2_asserts AB.F.ring
+        (limbs_at s.sum) (limbs_at s.limbs) (packed_limbs AB.F.ring (bits_at s.bits))) };
 
     #[tactic(auto, unfolding(crate::specs::Words::bits_at, crate::specs::Words::limbs_at))]
     fn assert_under<K: Condition<AB>>(&self, builder: &mut AB, condition: &K) -> AirResult {
@@ -93,7 +93,8 @@ pub(crate) struct AddThree {
 }
 
 impl<AB: AirBuilder> Constraint<AB> for AddThree {
-    ghost asserts = { λ s f _. under f (add3_asserts AB.F.ring (limbs_at s.sum) (limbs_at s.limbs)
+    ghost asserts = { λ s f _. map_terms f (add3_asserts AB.F.ring
+        (limbs_at s.sum) (limbs_at s.limbs)
         (packed_limbs AB.F.ring (bits_at s.bits)) (packed_limbs AB.F.ring (bits_at s.more))) };
 
     #[tactic(auto, unfolding(crate::specs::Words::bits_at, crate::specs::Words::limbs_at))]
@@ -131,7 +132,7 @@ impl<AB: AirBuilder> Constraint<AB> for AddThree {
 pub(crate) struct LimbsOf(pub(crate) u32, pub(crate) u32);
 
 impl<AB: AirBuilder> Constraint<AB> for LimbsOf {
-    ghost asserts = { λ s f _. under f (limbs_are (limbs_at s.0)
+    ghost asserts = { λ s f _. map_terms f (limbs_are (limbs_at s.0)
         (packed_limbs AB.F.ring (bits_at s.1))) };
 
     #[tactic(auto, unfolding(crate::specs::Words::bits_at, crate::specs::Words::limbs_at))]
@@ -158,7 +159,7 @@ impl<AB: AirBuilder> Constraint<AB> for LimbsOf {
 pub(crate) struct LimbsOfConstant(pub(crate) u32, pub(crate) u32);
 
 impl<AB: AirBuilder> Constraint<AB> for LimbsOfConstant {
-    ghost asserts = { λ s f _. under f (limbs_are (limbs_at s.0)
+    ghost asserts = { λ s f _. map_terms f (limbs_are (limbs_at s.0)
         (constant_limbs AB.F.ring s.1)) };
 
     #[tactic(auto, unfolding(crate::specs::Words::limbs_at))]

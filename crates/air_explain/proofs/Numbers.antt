@@ -12,7 +12,7 @@ use Rattle.air_symbolic.specs.declared.leaves.base_leaf.BaseLeaf.{BaseLeaf}
 use Rattle.air_symbolic.specs.declared.pools.expr.SymbolicExpr.{SymbolicExpr}
 use Rattle.air_symbolic.specs.declared.pools.expr.SymbolicExpr.TheVariants as node
 use Rattle.air_infix.specs.Names.{passing_below}
-use Rattle.air_explain.specs.Values.{value_at, node_value, Known, AreClosed}
+use Rattle.air_explain.specs.Values.{number_value, node_value, Known, AreClosed}
 
 -- what a mark says that was read
 pub mark-own : {F : Type 0} (ns : List (SymbolicExpr (BaseLeaf F))) (marks : List (Option ℕ)) (k : ℕ) (d : Option ℕ) (id : ℕ) → AreClosed ns marks → k < length marks → get_or marks k d ≡ Some id → (id ≡ k) × (id < length ns) × (get_or marks k None ≡ Some id)
@@ -22,12 +22,12 @@ mark-own ns marks k d id h lt e =
     (is, omega (arith, is, lt, h.places), at)
 
 -- one value more is known
-pub Known-more : {F : Type 0} (r : CommRing F) (s : Leaf → F) (ns : List (SymbolicExpr (BaseLeaf F))) (marks : List (Option ℕ)) (k : ℕ) (old new : List F) (x : F) → length old ≡ k → new ≡ old ++ x ∷ [] → Known r s ns marks k old → (Marked marks k → x ≡ value_at r s ns k) → Known r s ns marks (k + 1) new
+pub Known-more : {F : Type 0} (r : CommRing F) (s : Leaf → F) (ns : List (SymbolicExpr (BaseLeaf F))) (marks : List (Option ℕ)) (k : ℕ) (old new : List F) (x : F) → length old ≡ k → new ≡ old ++ x ∷ [] → Known r s ns marks k old → (Marked marks k → x ≡ number_value r s ns k) → Known r s ns marks (k + 1) new
 Known-more r s ns marks k old new x places e h now i below m =
     ap (λ (vs : List _). get_or vs i r.zero) e
     ∙ ⊎_elim
     (λ (lt : i < k). get_or_append_left old (x ∷ []) r.zero i (omega (arith, lt, places)) ∙ h i lt m)
-    (λ (at : i ≡ k). get_or_push old x r.zero i (places ∙ sym at) ∙ now (subst (λ j. Marked marks j) at m) ∙ ap (value_at r s ns) (sym at))
+    (λ (at : i ≡ k). get_or_push old x r.zero i (places ∙ sym at) ∙ now (subst (λ j. Marked marks j) at m) ∙ ap (number_value r s ns) (sym at))
     (before_or_at i k below)
   where
     before_or_at : (i k : ℕ) → i < k + 1 → (i < k) ⊎ (i ≡ k)

@@ -9,7 +9,7 @@ use Rattle.air_infix.specs.Lines.{definition_line}
 use Rattle.air_infix.specs.Names.{is_reached}
 use Rattle.air_explain.specs.Equations.{equation, equation_lines}
 use Rattle.air_explain.specs.Reading.{Reads}
-use Rattle.air_explain.specs.Values.{value_at}
+use Rattle.air_explain.specs.Values.{number_value}
 
 -- the line of a number and its value, and one of what it reads and their values, if there is such
 abbrev pub explained_lines : {F : Type 0} {p : ℕ} → Modular F p → BaseNodes F → List (Option ℕ) → (ℕ → F) → ℕ → List ℕ → List (List ℕ)
@@ -20,7 +20,7 @@ explained_lines m pool names at root reads =
 pub record Explains {F : Type 0} {p : ℕ} (m : Modular F p) (r : CommRing F) (s : Leaf → F) (pool : BaseNodes F) (names : List (Option ℕ)) (root : ℕ) (lines : List (List ℕ)) : Type 0 where
   pub reads : List ℕ
   pub are_reads : Reads pool.nodes root reads
-  pub lines_are : lines ≡ explained_lines m pool names (value_at r s pool.nodes) root reads
+  pub lines_are : lines ≡ explained_lines m pool names (number_value r s pool.nodes) root reads
 
 -- a line for each name that stands for a marked number: names.0 has the numbers, names.1 at each number's place its name
 abbrev pub reached_definitions : {F : Type 0} {p : ℕ} → Modular F p → BaseNodes F → List ℕ × List (Option ℕ) → List (Option ℕ) → List (List ℕ)

@@ -13,8 +13,8 @@ use Rattle.air_symbolic.specs.declared.pools.expr.SymbolicExpr.TheVariants as no
 
 module _ {F : Type 0} (r : CommRing F) (s : Leaf → F) where
   -- the value of the term of number i, the leaves having the values of s
-  abbrev pub value_at : List (SymbolicExpr (BaseLeaf F)) → ℕ → F
-  value_at ns i = value (itself r) s (term_of base_term (tree_of ns i))
+  abbrev pub number_value : List (SymbolicExpr (BaseLeaf F)) → ℕ → F
+  number_value ns i = value (itself r) s (term_of base_term (tree_of ns i))
 
   -- the value of a node, the operands having those of at
   abbrev pub node_value : (ℕ → F) → SymbolicExpr (BaseLeaf F) → F
@@ -26,7 +26,7 @@ module _ {F : Type 0} (r : CommRing F) (s : Leaf → F) where
 
   -- the values of the marked numbers below k are known
   abbrev pub Known : List (SymbolicExpr (BaseLeaf F)) → List (Option ℕ) → ℕ → List F → Type 0
-  Known ns marks k values = (i : ℕ) → i < k → Marked marks i → slice_index_or values i r.zero ≡ value_at ns i
+  Known ns marks k values = (i : ℕ) → i < k → Marked marks i → slice_index_or values i r.zero ≡ number_value ns i
 
 -- Marks of all nodes: each stands at its own place, and with a node its operands are marked.
 pub record AreClosed {F : Type 0} (ns : List (SymbolicExpr (BaseLeaf F))) (marks : List (Option ℕ)) : Type 0 where

@@ -5,7 +5,7 @@ ghost use Rattle.air_symbolic.specs.Nodes.{OperandsBelow};
 ghost use Rattle.air_symbolic.specs.Pools.{size};
 ghost use Rattle.air_symbolic.specs.Reach.{Marked};
 ghost use Rattle.air_explain.specs.Rows.{trace_of};
-ghost use Rattle.air_explain.specs.Values.{value_at, node_value, Known, AreClosed};
+ghost use Rattle.air_explain.specs.Values.{number_value, node_value, Known, AreClosed};
 
 use crate::rows::{TraceRows, leaf_value};
 use air_field::Field;
@@ -56,7 +56,7 @@ fn marked_value<F: Field>(
     requires places { length values.now ≡ number }
     requires before { Known F.ring (row_assignment F.ring (trace_of trace.now) row)
         pool.now.nodes marks.now number values.now }
-    ensures { Marked marks.now number → result ≡ value_at F.ring
+    ensures { Marked marks.now number → result ≡ number_value F.ring
         (row_assignment F.ring (trace_of trace.now) row) pool.now.nodes number }
 {
     match marks[number] {

@@ -4,20 +4,20 @@ use Rattle.std.proofs.Common.{◌≡◌, Result, Ok, Err, IfOk, IfErr}
 use Rattle.std.proofs.lemmas.Result.{err_from_is_err_and}
 use Rattle.air_field.specs.Algebra.{AlgebraLaws, MadeOfBoth, RefusedOfBoth}
 use Rattle.air_field.specs.Term.{Term}
-use Rattle.air_gadgets.specs.Gadgets.{FromTwo, Makes}
+use Rattle.air_gadgets.specs.Gadgets.{FromTwo, MakesFrom}
 
 module _ {E X A : Type 0} {has : E → Type 0} {means : E → A → Type 0} {refuses : X → A → Type 0}
     {from : (A → Type 0) → Type 0} where
   -- a `?` gives up
   pub gives_up : (e : X) {result : Result E X} → IsErrAnd result (λ x. x ≡ e) → from (refuses e)
-      → Makes has means refuses from result
+      → MakesFrom has means refuses from result
   gives_up e {result = result} p h =
       let q = err_from_is_err_and result p in
       rw (q.1, q.2) record { made = tt; refused = h }
 
   -- the last call made it, from what was made before
   pub makes_from : {was : (A → Type 0) → Type 0} (result : Result E X) → ((M : A → Type 0) → was M → from M)
-      → Makes has means refuses was result → Makes has means refuses from result
+      → MakesFrom has means refuses was result → MakesFrom has means refuses from result
   makes_from (Ok z) f h = record { made = (h.made.0, f (means z) h.made.1); refused = tt }
   makes_from (Err e) f h = record { made = tt; refused = f (refuses e) h.refused }
 
@@ -28,7 +28,7 @@ module _ {R E F X : Type 0} {valid : R → Type 0} {has : R → E → Type 0} {m
       (result : Result E X) → IfOk result (MadeOfBoth has means op old new x y)
       → IfErr result (RefusedOfBoth means refuses op old x y)
       → ((M : Term F → Type 0) → FromTwo op (means old x) (means old y) M → from M)
-      → Makes (has new) (means new) refuses from result
+      → MakesFrom (has new) (means new) refuses from result
   makes_by {new = new} (Ok z) m r f = record { made = (m.0, f (means new z) m.1); refused = tt }
   makes_by (Err e) m r f = record { made = tt; refused = f (refuses e) r }
 

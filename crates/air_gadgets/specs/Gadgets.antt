@@ -101,7 +101,7 @@ FromFour {A} {B} {C} {D} op P Q S T M = (t : A) (u : B) (v : C) (w : D) → P t 
 
 -- What a call that makes something in a ring answers: what it made means the terms, or the making of them may be refused.
 -- The terms are those `from` operands.
-pub record Makes {E X A : Type 0} (has : E → Type 0) (means : E → A → Type 0) (refuses : X → A → Type 0)
+pub record MakesFrom {E X A : Type 0} (has : E → Type 0) (means : E → A → Type 0) (refuses : X → A → Type 0)
     (from : (A → Type 0) → Type 0) (result : Result E X) : Type 0 where
   pub made : IfOk result (λ z. has z × from (means z))
   pub refused : IfErr result (λ e. from (refuses e))

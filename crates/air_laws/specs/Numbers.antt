@@ -7,14 +7,14 @@ use Rattle.air_gadgets.specs.Words.{Limbs, AreLimbs, word, word_sum, word_sum_3}
 use Rattle.air_gadgets.specs.Exact.{LimbsAre}
 
 -- the term's value is the image of a number below a bound
-pub record IsBelow {F : Type 0} (R : CommRing F) (s : Leaf → F) (bound : ℕ) (t : Term F) : Type 0 where
+pub record IsNumberBelow {F : Type 0} (R : CommRing F) (s : Leaf → F) (bound : ℕ) (t : Term F) : Type 0 where
   pub number : ℕ
   pub below : number < bound
   pub is : value (itself R) s t ≡ image R number
 
 -- both limbs have 16 bits
 abbrev pub IsWord : {F : Type 0} → CommRing F → (Leaf → F) → Limbs (Term F) → Type 0
-IsWord R s t = IsBelow R s (2 ^ 16) t.low × IsBelow R s (2 ^ 16) t.high
+IsWord R s t = IsNumberBelow R s (2 ^ 16) t.low × IsNumberBelow R s (2 ^ 16) t.high
 
 -- The limbs are those of words a, b and c, and a is b + c modulo 2^32.
 pub record AddsUp {F : Type 0} (R : CommRing F) (s : Leaf → F) (t u v : Limbs (Term F)) : Type 0 where

@@ -24,7 +24,7 @@ use Rattle.air_wire.specs.Results.{◌>>=◌, Fails, Gives}
 use Rattle.air_wire.specs.declared.errors.FlatError.{FlatError}
 use Rattle.air_wire.specs.declared.errors.FlatError.TheVariants as faults
 use Rattle.air_object.specs.Members.{MemberValues}
-use Rattle.air_object.specs.Parts.{GivenElements, AreElements, GivenTrees, AreGiven, and_one, one_more, root_numbers, of_member, AreMembersOf, ArePartsOf, given_elements, given_by, members_with}
+use Rattle.air_object.specs.Parts.{GivenElements, AreElements, GivenTrees, AreGiven, and_one, read_one_more, root_numbers, of_member, AreMembersOf, ArePartsOf, given_elements, given_by, members_with}
 use Rattle.air_object.specs.Readers.{Reader, each_from, elements, tree, trees, width_member, elements_member, table_member, constraints_member, periodic_member, boundary_member, cap_member, weight_member, members_read}
 use Rattle.air_object.proofs.TokenLemmas.{data_before, one_more_data, item_read}
 use Rattle.air_object.proofs.Trees.{GrownTo, AllIn, all_in_push, trees_kept}
@@ -82,18 +82,18 @@ item_taken p all start n ts r ds d enough so_far less going taken shorter = (
 )
 
 -- what is read of one value more
-pub more_read : {X : Type 0} (read : Reader X) (before : List X) (d : Data) (x : X) → read d ≡ Ok x → one_more read (Ok before) d ≡ Ok (before ++ x ∷ [])
+pub more_read : {X : Type 0} (read : Reader X) (before : List X) (d : Data) (x : X) → read d ≡ Ok x → read_one_more read (Ok before) d ≡ Ok (before ++ x ∷ [])
 more_read {X} read before d x e = ap (λ (r : Result X FlatError). r >>= λ y. Ok (before ++ y ∷ [])) e
 
 -- a first fault stays the first
 module _ {X : Type 0} (read : Reader X) where
-  pub still_fails : (f : FlatError) (given : Result (List X) FlatError) (d : Data) → Fails f given → Fails f (one_more read given d)
+  pub still_fails : (f : FlatError) (given : Result (List X) FlatError) (d : Data) → Fails f given → Fails f (read_one_more read given d)
   still_fails f given d h = next_fails f given _ h
 
   -- a turn of the loop that reads the items of an array, of which so much is known
   pub one_item_more : (Before After : Result (List X) FlatError → Type 0) (p : Parse Json) (all : Option (Items × List Token)) (start n : ℕ) (ts r : List Token) (ds : List Data) (d : Data) → length ts ≤ n
       → all ≡ parse_map (data_before ds) (converted of_items (items p n ts)) → length ts ≤ start → Before (each_from read [] (items_of ds)) → after_end_array ts ≡ None
-      → converted of_json (p ts) ≡ Some (d, r) → length r < length ts → ((given : Result (List X) FlatError) → Before given → After (one_more read given d))
+      → converted of_json (p ts) ≡ Some (d, r) → length r < length ts → ((given : Result (List X) FlatError) → Before given → After (read_one_more read given d))
       → (m : ℕ) × (length r ≤ m) × (es : List Data) × (all ≡ parse_map (data_before es) (converted of_items (items p m r))) × (length r ≤ start) × After (each_from read [] (items_of es))
   one_item_more Before After p all start n ts r ds d enough so_far less given going taken shorter more =
       let turn = item_taken p all start n ts r ds d enough so_far less going taken shorter in
@@ -124,7 +124,7 @@ module _ {F : Type 0} {order : ℕ} (modular : Modular F order) where
 
   module _ (p q : BaseNodes F) (d : Data) (given : GivenTrees F) (grown : GrownTo p q) where
     abbrev more : GivenTrees F
-    more = one_more (tree modular) given d
+    more = read_one_more (tree modular) given d
 
     roots_more : (roots : Result (Vec ℕ Global) FlatError) (root : Result ℕ FlatError) → IfOk roots (λ v. AllIn p v.items) → IfOk root (λ i. i < length q.nodes)
         → Gives (λ v. map (tree_at p) v.items) roots given → Gives (tree_at q) root (tree modular d)
@@ -140,7 +140,7 @@ module _ {F : Type 0} {order : ℕ} (modular : Modular F order) where
     roots_seen all (Err f) one here g = (tt, fails_if f more (λ n. fails_is f more (subst (λ r. Gives (map (tree_at q)) r more) (fails_is f all one n) g) n))
 
   pub root_more : (c e : Constraints F) (root : Result ℕ FlatError) (d : Data) (given : GivenTrees F) → ReadsTree base_grows base_reads tree_at c.pool e.pool root (tree modular d)
-      → Gives (λ v. v.items) e.roots (and_one (root_numbers c.roots) root) → AreGiven given c → AreGiven (one_more (tree modular) given d) e
+      → Gives (λ v. v.items) e.roots (and_one (root_numbers c.roots) root) → AreGiven given c → AreGiven (read_one_more (tree modular) given d) e
   root_more c e root d given reads one h =
       let both = roots_more c.pool e.pool d given reads.grown c.roots root h.inside.here reads.here h.read reads.read in
       let seen = roots_seen c.pool e.pool d given reads.grown (and_one (root_numbers c.roots) root) e.roots one both.0 both.1 in

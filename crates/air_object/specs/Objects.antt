@@ -50,8 +50,8 @@ optional name absent g = record {
 }
 
 -- one member and then another: the first one's fault comes first
-abbrev pub both : {X Y : Type 0} → Grammar X → Grammar Y → Grammar (X × Y)
-both {X} g h = record {
+abbrev pub both_members : {X Y : Type 0} → Grammar X → Grammar Y → Grammar (X × Y)
+both_members {X} g h = record {
   spells = λ d p. g.spells d p.0 × h.spells d p.1;
   fault = λ d f. g.fault d f ⊎ ((x : X) × g.spells d x × h.fault d f);
 }
@@ -65,6 +65,6 @@ abbrev pub both_or_none : {X Y : Type 0} → List ℕ → Grammar X → List ℕ
 both_or_none {X} {Y} one g other h = record {
   spells = λ d o.
       ((get one d ≡ None) × (get other d ≡ None) × (o ≡ None))
-      ⊎ ((p : X × Y) × (both (needed one g) (needed other h)).spells d p × (o ≡ Some p));
-  fault = λ d f. HasEither one other d × (both (needed one g) (needed other h)).fault d f;
+      ⊎ ((p : X × Y) × (both_members (needed one g) (needed other h)).spells d p × (o ≡ Some p));
+  fault = λ d f. HasEither one other d × (both_members (needed one g) (needed other h)).fault d f;
 }

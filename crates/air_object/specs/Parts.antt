@@ -46,8 +46,8 @@ abbrev pub and_one : {X : Type 0} → Result (List X) FlatError → Result X Fla
 and_one given one = given >>= λ before. one >>= λ x. Ok (before ++ x ∷ [])
 
 -- those, and what is read of one value more
-abbrev pub one_more : {X : Type 0} → Reader X → Result (List X) FlatError → Data → Result (List X) FlatError
-one_more read given d = and_one given (read d)
+abbrev pub read_one_more : {X : Type 0} → Reader X → Result (List X) FlatError → Data → Result (List X) FlatError
+read_one_more read given d = and_one given (read d)
 
 -- what a member's value gives, if there is one
 abbrev pub of_member : {X : Type 0} → Reader X → Option Data → Result X FlatError

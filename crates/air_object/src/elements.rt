@@ -4,7 +4,7 @@ ghost use Rattle.serde_json.specs.View.{view, items_view};
 ghost use Rattle.air_wire.specs.BaseLeaves.{element_at};
 ghost use Rattle.air_wire.specs.Results.{Gives};
 ghost use Rattle.air_wire.specs.declared.errors.FlatError.TheVariants.{Shape};
-ghost use Rattle.air_object.specs.Parts.{GivenElements, AreElements, one_more};
+ghost use Rattle.air_object.specs.Parts.{GivenElements, AreElements, read_one_more};
 ghost use Rattle.air_object.specs.Readers.{each_from, elements, columns};
 
 use air_field::PrimeField64;
@@ -52,8 +52,8 @@ pub(crate) fn missing_elements<F: PrimeField64>() -> Elements<F>
 
 // The elements, and that of the value, or its fault.
 fn pushed<F: PrimeField64>(mut before: Vec<F>, item: &Value) -> Elements<F>
-    ensures { AreElements (one_more (element_at F.residues 0) (Ok before.items) (view item.now))
-        result }
+    ensures { AreElements (read_one_more (element_at F.residues 0) (Ok before.items)
+        (view item.now)) result }
 {
     let element = element_from(0, item)?;
     before.push(element)?;
@@ -63,7 +63,7 @@ fn pushed<F: PrimeField64>(mut before: Vec<F>, item: &Value) -> Elements<F>
 /// The elements, and that of the value; behind a fault no further one is read.
 pub(crate) fn with_element<F: PrimeField64>(before: Elements<F>, item: &Value) -> Elements<F>
     ensures { (given : GivenElements F) → AreElements given before
-        → AreElements (one_more (element_at F.residues 0) given (view item.now)) result }
+        → AreElements (read_one_more (element_at F.residues 0) given (view item.now)) result }
 {
     match before {
         Ok(before) => pushed(before, item),

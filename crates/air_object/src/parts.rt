@@ -9,7 +9,7 @@ ghost use Rattle.air_symbolic.specs.Pools.{tree_at};
 ghost use Rattle.air_wire.specs.BaseLeaves.{element_at};
 ghost use Rattle.air_wire.specs.ReadCalls.{ReadsTree};
 ghost use Rattle.air_object.specs.Begun.{value_at, items_at, members_at};
-ghost use Rattle.air_object.specs.Parts.{GivenElements, AreElements, GivenTrees, InPool, AreGiven, AreMembersOf, ArePartsOf, one_more};
+ghost use Rattle.air_object.specs.Parts.{GivenElements, AreElements, GivenTrees, InPool, AreGiven, AreMembersOf, ArePartsOf, read_one_more};
 ghost use Rattle.air_object.specs.Readers.{each_from, elements, tree, trees};
 
 use crate::constraints::{
@@ -45,7 +45,7 @@ fn read_element<F: PrimeField64>(
     ensures ok { IfOk result (λ es. (d : Data)
         × (value_at depth reader.old ≡ Some (d, reader.new))
         × ((given : GivenElements F) → AreElements given elements
-        → AreElements (one_more (element_at F.residues 0) given d) es)) }
+        → AreElements (read_one_more (element_at F.residues 0) given d) es)) }
     ensures shorter { OnOk result (length reader.new < length reader.old) }
     ensures err { result ≡ Err TextFault.Json → value_at depth reader.old ≡ None }
 {
@@ -141,7 +141,7 @@ fn read_list<F: PrimeField64>(
     ensures ok { IfOk result (λ c. (d : Data)
         × (value_at depth reader.old ≡ Some (d, reader.new))
         × ((given : GivenTrees F) → AreGiven given constraints
-        → AreGiven (one_more (tree F.residues) given d) c)) }
+        → AreGiven (read_one_more (tree F.residues) given d) c)) }
     ensures shorter { OnOk result (length reader.new < length reader.old) }
     ensures err { result ≡ Err TextFault.Json → value_at depth reader.old ≡ None }
 {

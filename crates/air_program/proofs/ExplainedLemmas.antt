@@ -29,7 +29,7 @@ use Rattle.air_report.specs.FailureTexts.{seen_failure}
 use Rattle.air_report.specs.Given.{table_grid}
 use Rattle.air_report.specs.declared.debug.failure.ConstraintFailure.{ConstraintFailure}
 use Rattle.air_program.specs.AtHand.{KnownAt}
-use Rattle.air_program.specs.Explained.{Failure, IsBelow, IsExplained, IsExplainedText, PushesExplained, PushesNames, failing_roots, cell_lines}
+use Rattle.air_program.specs.Explained.{Failure, StandsBelow, IsExplained, IsExplainedText, PushesExplained, PushesNames, failing_roots, cell_lines}
 use Rattle.air_program.specs.Texts.{Found, count_lines, place_of, IsFailureLine, PushesLine}
 use Rattle.air_infix.specs.Lines.{lines_text}
 use Rattle.air_program.specs.declared.explain.RowValues.{RowValues}
@@ -107,7 +107,7 @@ block-pieces : (old first rest : List ℕ) → (old ++ (first ++ [])) ++ rest �
 block-pieces old first rest = simp (append_assoc, append-nil)
 
 -- a failure's line, and what stands below it
-pub one-explained : {F : Type 0} {p : ℕ} (m : Modular F p) (pool : BaseNodes F) (roots : List ℕ) (cells : List BoundaryPublic) (trace : Trace F) (names : List (Option ℕ)) (f : Failure) (line : List ℕ) (below : List (List ℕ)) (old mid new : List ℕ) → IsFailureLine f line → IsBelow m pool roots cells trace names (place_of f) (slice_get roots (place_of f).1) below → mid ≡ old ++ lines_text (line ∷ []) → new ≡ mid ++ lines_text below → PushesExplained m pool roots cells trace names (f ∷ []) old new
+pub one-explained : {F : Type 0} {p : ℕ} (m : Modular F p) (pool : BaseNodes F) (roots : List ℕ) (cells : List BoundaryPublic) (trace : Trace F) (names : List (Option ℕ)) (f : Failure) (line : List ℕ) (below : List (List ℕ)) (old mid new : List ℕ) → IsFailureLine f line → StandsBelow m pool roots cells trace names (place_of f) (slice_get roots (place_of f).1) below → mid ≡ old ++ lines_text (line ∷ []) → new ≡ mid ++ lines_text below → PushesExplained m pool roots cells trace names (f ∷ []) old new
 one-explained m pool roots cells trace names f line below old mid new is_line is_below one rest = record {
   blocks = (line ∷ below) ∷ [];
   each = (record { line = line; below = below; is_line = is_line; is_below = is_below; lines_are = refl }, tt);
@@ -129,20 +129,20 @@ module _ {F : Type 0} {p : ℕ} (m : Modular F p) (r : CommRing F) (ring_is : r 
       subst (λ (q : CommRing F). Explains m q (row_assignment q trace (place_of f).0) pool names root lines) ring_is
       (subst (λ (k : ℕ). Explains m r (row_assignment r trace k) pool names root lines) row there) in
       one-explained m pool roots cells trace names f line.line lines old mid new line.is_line
-      (subst (λ (o : Option ℕ). IsBelow m pool roots cells trace names (place_of f) o lines) (sym is) (λ lt. below)) line.pushed written
+      (subst (λ (o : Option ℕ). StandsBelow m pool roots cells trace names (place_of f) o lines) (sym is) (λ lt. below)) line.pushed written
 
   -- past the trace there is nothing to say
   pub past_explained : (root : ℕ) (old new : List ℕ) → slice_get roots (place_of f).1 ≡ Some root → length trace.main_trace.rows ≤ (place_of f).0 → PushesLine f old new → PushesExplained m pool roots cells trace names (f ∷ []) old new
   past_explained root old new is past line =
       one-explained m pool roots cells trace names f line.line [] old new new line.is_line
-      (subst (λ (o : Option ℕ). IsBelow m pool roots cells trace names (place_of f) o []) (sym is) (λ lt. absurd (omega (arith, lt, past)))) line.pushed (sym (append-nil new))
+      (subst (λ (o : Option ℕ). StandsBelow m pool roots cells trace names (place_of f) o []) (sym is) (λ lt. absurd (omega (arith, lt, past)))) line.pushed (sym (append-nil new))
 
   -- its cell
   pub cell_explained : (old mid new : List ℕ) → slice_get roots (place_of f).1 ≡ None → PushesLine f old mid → new ≡ mid ++ lines_text (cell_lines m (row_assignment r trace (place_of f).0) (slice_get cells ((place_of f).1 - length roots))) → PushesExplained m pool roots cells trace names (f ∷ []) old new
   cell_explained old mid new is line written =
       let at : CommRing F → List (List ℕ) = λ q. cell_lines m (row_assignment q trace (place_of f).0) (slice_get cells ((place_of f).1 - length roots)) in
       one-explained m pool roots cells trace names f line.line (at r) old mid new line.is_line
-      (subst (λ (o : Option ℕ). IsBelow m pool roots cells trace names (place_of f) o (at r)) (sym is) (ap at ring_is)) line.pushed written
+      (subst (λ (o : Option ℕ). StandsBelow m pool roots cells trace names (place_of f) o (at r)) (sym is) (ap at ring_is)) line.pushed written
 
 -- ---- names
 

@@ -3,7 +3,7 @@ use Rattle.std.proofs.Common.{◌≡◌, ℕ, ◌+◌, ◌<◌, true, List, [], 
 use Rattle.std.proofs.lemmas.Bool.{lt-ltb}
 use Rattle.std.proofs.lemmas.List.{append-nil, length-map}
 use Rattle.air_field.specs.BabyBear.{BabyBear}
-use Rattle.air_program.specs.Grammar.{number_in, fields_of, numbers_of_line, numbers_in, rows_in, rows_of_lines, has_some}
+use Rattle.air_program.specs.Grammar.{element_number, fields_of, numbers_of_line, numbers_in, rows_in, rows_of_lines, has_some}
 use Rattle.air_program.specs.Parsing.{element_values, onto, with_row, PushesRow}
 
 -- ---- one line
@@ -20,13 +20,13 @@ cons_of (Some n) (Some ns) row e = (n, ns, cc)
 first_row : (fields : List (List ℕ)) (lines : List (List (List ℕ))) (row : List ℕ) → numbers_in fields ≡ Some row → 0 < length row → rows_in (fields ∷ lines) ≡ with_row row (rows_in lines)
 first_row [] lines row e some = let none : row ≡ [] = cc in absurd (omega (arith, ap length none))
 first_row (f ∷ fs) lines row e some =
-    let made = cons_of (number_in f) (numbers_in fs) row e in
+    let made = cons_of (element_number f) (numbers_in fs) row e in
     rw (some_true f fs, e, made.2) refl
 
 blank : (fields : List (List ℕ)) (lines : List (List (List ℕ))) (row : List ℕ) → numbers_in fields ≡ Some row → length row ≡ 0 → rows_in (fields ∷ lines) ≡ rows_in lines
 blank [] lines row e none = refl
 blank (f ∷ fs) lines row e none =
-    let made = cons_of (number_in f) (numbers_in fs) row e in
+    let made = cons_of (element_number f) (numbers_in fs) row e in
     absurd (omega (arith, ap length made.2))
 
 bad : (fields : List (List ℕ)) (lines : List (List (List ℕ))) → numbers_in fields ≡ None → rows_in (fields ∷ lines) ≡ None

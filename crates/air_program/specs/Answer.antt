@@ -12,7 +12,7 @@ use Rattle.air_core.specs.declared.errors.AirError.{AirError}
 use Rattle.air_fibonacci.specs.Fibonacci.{fibonacci_declaration}
 use Rattle.air_program.specs.Parsing.{element_values}
 use Rattle.air_program.specs.Texts.{Found, found, IsFindingsText, findings_status}
-use Rattle.air_program.specs.Refusals.{IsRefusal}
+use Rattle.air_program.specs.Refusals.{AnswersRefusal}
 
 -- the test whether two elements are equal: whether their numbers are
 abbrev pub equal : {F : Type 0} {p : ℕ} → Modular F p → F → F → Bool
@@ -51,11 +51,11 @@ PassesDegree x cap w = (0 < w) × IsDegreePast (modular_ring baby_bears) (equal 
 abbrev pub AnswersGiven : Instance BabyBear → Option ℕ → ℕ → ℕ → List ℕ → Type 0
 AnswersGiven x cap w status text =
     TellsFound baby_bears x cap w status text
-    ⊎ (PassesDegree x cap w × IsRefusal (codes "DegreeOverflow") status text)
+    ⊎ (PassesDegree x cap w × AnswersRefusal (codes "DegreeOverflow") status text)
 
 -- `Syntax` where the input isn't in the grammar, else what answers Fibonacci on its trace
 abbrev pub IsAnswerTo : Option ℕ → ℕ → Option (List ℕ × List ℕ) → ℕ → List ℕ → Type 0
-IsAnswerTo cap w None status text = IsRefusal (codes "Syntax") status text
+IsAnswerTo cap w None status text = AnswersRefusal (codes "Syntax") status text
 IsAnswerTo cap w (Some p) status text =
     (public : List BabyBear) × (values : List BabyBear)
     × (element_values public ≡ p.0) × (element_values values ≡ p.1)

@@ -6,7 +6,7 @@ use Rattle.serde_json.specs.View.{view}
 use Rattle.air_field.specs.Modular.{Modular}
 use Rattle.air_object.specs.Fields.{field_of, OverField}
 use Rattle.air_object.specs.Parts.{ArePartsOf}
-use Rattle.air_program.specs.Refusals.{IsRefusal}
+use Rattle.air_program.specs.Refusals.{AnswersRefusal}
 use Rattle.air_object.specs.declared.field_name.FieldName.{FieldName}
 use Rattle.air_object.specs.declared.parts.Parts.{Parts}
 
@@ -21,7 +21,7 @@ HasNoValue bytes = (d : Data) → StandsFor bytes d → ⊥
 -- `Json` where they stand for none, else what answers their value
 abbrev pub AnswersValue : (Data → ℕ → List ℕ → Type 0) → List ℕ → ℕ → List ℕ → Type 0
 AnswersValue answers bytes status text =
-    (HasNoValue bytes × IsRefusal (codes "Json") status text)
+    (HasNoValue bytes × AnswersRefusal (codes "Json") status text)
     ⊎ ((d : Data) × StandsFor bytes d × answers d status text)
 
 -- the value has these parts
@@ -36,7 +36,7 @@ AnswersParts answers m parts status text = (d : Data) → HasParts m parts d →
 
 -- over the field that is named, and `Field` where none is
 abbrev pub AnswersNamed : ((F : Type 0) (p : ℕ) → Modular F p → Data → ℕ → List ℕ → Type 0) → Option FieldName → Data → ℕ → List ℕ → Type 0
-AnswersNamed answers None d status text = IsRefusal (codes "Field") status text
+AnswersNamed answers None d status text = AnswersRefusal (codes "Field") status text
 AnswersNamed answers (Some field) d status text = OverField (λ F p m. answers F p m d status text) field
 
 -- the answer to the bytes of a text

@@ -45,17 +45,17 @@ module _ {F : Type 0} {p : ℕ} (m : Modular F p) (pool : BaseNodes F) (roots : 
 
   -- What stands below a failure: the lines of the constraint at its place, in its row; where there is no such constraint, that
   -- of the cell whose number in the list of cells follows those of the constraints.
-  abbrev pub IsBelow : ℕ × ℕ → Option ℕ → List (List ℕ) → Type 0
-  IsBelow place (Some root) lines =
+  abbrev pub StandsBelow : ℕ × ℕ → Option ℕ → List (List ℕ) → Type 0
+  StandsBelow place (Some root) lines =
       place.0 < length trace.main_trace.rows → Explains m (modular_ring m) (at_row place.0) pool names root lines
-  IsBelow place None lines = lines ≡ cell_lines m (at_row place.0) (slice_get cells (place.1 - length roots))
+  StandsBelow place None lines = lines ≡ cell_lines m (at_row place.0) (slice_get cells (place.1 - length roots))
 
   -- the line that `flat` prints for the failure, and what stands below
   pub record IsExplained (f : Failure) (lines : List (List ℕ)) : Type 0 where
     pub line : List ℕ
     pub below : List (List ℕ)
     pub is_line : IsFailureLine f line
-    pub is_below : IsBelow (place_of f) (slice_get roots (place_of f).1) below
+    pub is_below : StandsBelow (place_of f) (slice_get roots (place_of f).1) below
     pub lines_are : lines ≡ line ∷ below
 
   -- new is old and further lines, which explain these failures

@@ -10,7 +10,7 @@ use Rattle.p3_air.specs.Theorem.{Instance, instance}
 use Rattle.air_core.specs.declared.errors.AirError.{AirError}
 use Rattle.air_program.specs.Answer.{CappedAuditRefuses, TellsFound}
 use Rattle.air_program.specs.ByField.{AnswersBytes}
-use Rattle.air_program.specs.Refusals.{IsRefusal, air_name}
+use Rattle.air_program.specs.Refusals.{AnswersRefusal, air_name}
 
 -- that the roots are zero, as wide as the trace and with so many public values; the preprocessed
 -- table, periodic columns and cells
@@ -49,7 +49,7 @@ module _ {F : Type 0} {p : ℕ} (m : Modular F p) where
   abbrev pub AnswersInput : (FlatInput F → ℕ → List ℕ → Type 0) → Data → ℕ → List ℕ → Type 0
   AnswersInput tells d status text =
       ((input : FlatInput F) × SpellsInput m d input × tells input status text)
-      ⊎ ((e : AirError) × RefusesValue d e × IsRefusal (air_name e) status text)
+      ⊎ ((e : AirError) × RefusesValue d e × AnswersRefusal (air_name e) status text)
 
 -- what the audit of the input that the value spells finds, or the first refusal
 abbrev pub AuditedIn : (F : Type 0) (p : ℕ) → Modular F p → Data → ℕ → List ℕ → Type 0

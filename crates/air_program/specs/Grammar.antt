@@ -15,8 +15,8 @@ is_numeral field = nat_lt 0 (length field) && (nat_le (length field) 10 && all_a
 abbrev pub if_element : ℕ → Option ℕ
 if_element n = if nat_le n 2013265920 then Some n else None
 
-unfoldable pub number_in : List ℕ → Option ℕ
-number_in field = if is_numeral field then if_element (digits_value 10 field) else None
+unfoldable pub element_number : List ℕ → Option ℕ
+element_number field = if is_numeral field then if_element (digits_value 10 field) else None
 
 -- ---- lines
 
@@ -34,7 +34,7 @@ all_of (x ∷ xs) = option_and_then (λ v. option_map (λ vs. v ∷ vs) (all_of 
 
 -- the numbers that these fields write
 abbrev pub numbers_in : List (List ℕ) → Option (List ℕ)
-numbers_in fields = all_of (map number_in fields)
+numbers_in fields = all_of (map element_number fields)
 
 abbrev pub numbers_of_line : List ℕ → Option (List ℕ)
 numbers_of_line line = numbers_in (fields_of line)

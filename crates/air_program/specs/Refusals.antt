@@ -53,8 +53,8 @@ abbrev pub refusal_text : List ℕ → List ℕ
 refusal_text name = lines_text ((codes "refused: " ++ name) ∷ [])
 
 -- the status and the text of a refusal
-abbrev pub IsRefusal : List ℕ → ℕ → List ℕ → Type 0
-IsRefusal name status text = (status ≡ 2) × (text ≡ refusal_text name)
+abbrev pub AnswersRefusal : List ℕ → ℕ → List ℕ → Type 0
+AnswersRefusal name status text = (status ≡ 2) × (text ≡ refusal_text name)
 
 -- What is given is an answer: a status and a text are one, and so is a refusal, unless memory ran out.
 pub record GivesAnswer (answers : ℕ → List ℕ → Type 0) (given : Result (ℕ × String Global) Refusal) : Type 0 where

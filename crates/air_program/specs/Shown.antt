@@ -13,7 +13,7 @@ use Rattle.air_infix.specs.Lines.{ShowsRoots}
 use Rattle.air_program.specs.ByField.{AnswersBytes}
 use Rattle.air_object.specs.Members.{constraint}
 use Rattle.air_object.specs.Objects.{Grammar, list_of, needed}
-use Rattle.air_program.specs.Refusals.{IsRefusal, air_name}
+use Rattle.air_program.specs.Refusals.{AnswersRefusal, air_name}
 
 -- the member `constraints`, alone
 abbrev pub constraints : {F : Type 0} {p : ℕ} → Modular F p → Grammar (List (Option (Tree (BaseLeaf F))))
@@ -32,7 +32,7 @@ pub record ShowsValue {F : Type 0} {p : ℕ} (m : Modular F p) (d : Data) (text 
 abbrev pub ShownIn : (F : Type 0) (p : ℕ) → Modular F p → Data → ℕ → List ℕ → Type 0
 ShownIn F p m d status text =
     ((status ≡ 0) × ShowsValue m d text)
-    ⊎ ((f : FlatError) × (constraints m).fault d f × IsRefusal (air_name (air_fault f)) status text)
+    ⊎ ((f : FlatError) × (constraints m).fault d f × AnswersRefusal (air_name (air_fault f)) status text)
 
 abbrev pub IsShowAnswer : List ℕ → ℕ → List ℕ → Type 0
 IsShowAnswer = AnswersBytes ShownIn

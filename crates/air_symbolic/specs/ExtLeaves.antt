@@ -35,11 +35,11 @@ ext_term basis u (ExtVariable v) = leaf_term (ext_entry_leaf v.entry v.index)
 ext_term basis u (ExtConstant c) = ext_const_term (basis.coefficients c)
 
 -- a constant is a Base leaf of a constant, or an extension constant that is an element of the base field
-abbrev pub ext_constant : {F EF : Type 0} → Basis F EF → BaseNodes F → ExtLeaf F EF → Option F
-ext_constant basis u (Base i) = constant_at base_reads u i
-ext_constant basis u (ExtVariable v) = None
-ext_constant basis u (ExtConstant c) = basis.base_part c
+abbrev pub ext_leaf_constant : {F EF : Type 0} → Basis F EF → BaseNodes F → ExtLeaf F EF → Option F
+ext_leaf_constant basis u (Base i) = constant_at base_reads u i
+ext_leaf_constant basis u (ExtVariable v) = None
+ext_leaf_constant basis u (ExtConstant c) = basis.base_part c
 
 abbrev pub ext_reads : {F EF : Type 0} → Basis F EF → BaseNodes F → Leaves (ExtLeaf F EF) F
 ext_reads basis u =
-    record { sound = IsPool base_reads u; valid = ext_valid u; constant = ext_constant basis u; term = ext_term basis u }
+    record { sound = IsPool base_reads u; valid = ext_valid u; constant = ext_leaf_constant basis u; term = ext_term basis u }

@@ -15,7 +15,7 @@ use Rattle.air_wire.specs.Unshared.{over}
 use Rattle.air_wire.specs.Written.{IsWritten}
 use Rattle.air_wire.specs.BaseLeaves.{base_kind, base_seen}
 use Rattle.air_wire.specs.laws.BaseLeaves.{over_same}
-use Rattle.air_wire.specs.ExtLeaves.{at_place, moved, ext_constant_at}
+use Rattle.air_wire.specs.ExtLeaves.{at_place, faults_at, ext_constant_at}
 use Rattle.air_wire.specs.declared.errors.FlatError.{FlatError}
 use Rattle.air_wire.specs.declared.errors.FlatError.TheVariants as faults
 
@@ -24,17 +24,17 @@ pub written_tree : {F : Type 0} {p : ℕ} (m : Modular F p) (d : Data) (o : Opti
 written_tree m d o h = subst (IsWritten (base_kind m) d) (over_same o) h
 
 -- a list that is read gives its tree
-pub moved_tree : {F : Type 0} (place : ℕ) (o : Option (Tree (BaseLeaf F))) (read : Result (Option (Tree (BaseLeaf F))) FlatError) → read ≡ Ok (option_map (over (base_seen tt)) o) → moved place read ≡ Ok o
-moved_tree place o read e = ap (moved place) (e ∙ ap (λ u. Ok u) (over_same o))
+pub moved_tree : {F : Type 0} (place : ℕ) (o : Option (Tree (BaseLeaf F))) (read : Result (Option (Tree (BaseLeaf F))) FlatError) → read ≡ Ok (option_map (over (base_seen tt)) o) → faults_at place read ≡ Ok o
+moved_tree place o read e = ap (faults_at place) (e ∙ ap (λ u. Ok u) (over_same o))
 
-pub moved_fault : {F : Type 0} (place : ℕ) (f : FlatError) (read : Result (Option (Tree (BaseLeaf F))) FlatError) → Fails f read → Fails (at_place place f) (moved place read)
+pub moved_fault : {F : Type 0} (place : ℕ) (f : FlatError) (read : Result (Option (Tree (BaseLeaf F))) FlatError) → Fails f read → Fails (at_place place f) (faults_at place read)
 moved_fault place faults.Memory read h = tt
-moved_fault place faults.DegreeOverflow read h = ap (moved place) h
-moved_fault place (faults.Shape inner) read h = ap (moved place) h
-moved_fault place faults.EmptyList read h = ap (moved place) h
-moved_fault place (faults.Operand inner i) read h = ap (moved place) h
-moved_fault place (faults.WrongDegree inner d found) read h = ap (moved place) h
-moved_fault place (faults.NotCanonical inner) read h = ap (moved place) h
+moved_fault place faults.DegreeOverflow read h = ap (faults_at place) h
+moved_fault place (faults.Shape inner) read h = ap (faults_at place) h
+moved_fault place faults.EmptyList read h = ap (faults_at place) h
+moved_fault place (faults.Operand inner i) read h = ap (faults_at place) h
+moved_fault place (faults.WrongDegree inner d found) read h = ap (faults_at place) h
+moved_fault place (faults.NotCanonical inner) read h = ap (faults_at place) h
 
 -- ---- constants
 

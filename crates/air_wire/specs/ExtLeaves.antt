@@ -64,12 +64,12 @@ WholeFault m basis count = OwnFaultOr (SpellsWhole m basis) (OwnWholeFault m cou
 
 -- ---- how a reader finds it
 
-abbrev pub moved : {A : Type 0} → ℕ → Result A FlatError → Result A FlatError
-moved place (Ok a) = Ok a
-moved place (Err f) = Err (at_place place f)
+abbrev pub faults_at : {A : Type 0} → ℕ → Result A FlatError → Result A FlatError
+faults_at place (Ok a) = Ok a
+faults_at place (Err f) = Err (at_place place f)
 
 abbrev pub lifted_at : {F EF : Type 0} {p : ℕ} → Modular F p → ℕ → Data → Result (WholeLeaf F EF) FlatError
-lifted_at m place c = moved place (root_of (base_kind m) c) >>= λ t. Ok (whole_base t)
+lifted_at m place c = faults_at place (root_of (base_kind m) c) >>= λ t. Ok (whole_base t)
 
 abbrev pub ext_constant_at : {F EF : Type 0} {p : ℕ} → Modular F p → AlgebraOver F EF → ℕ → ℕ → Data → Result EF FlatError
 ext_constant_at m a count place c = elements_at m count place c >>= λ cs. Ok (a.extend cs)

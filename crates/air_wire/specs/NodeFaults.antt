@@ -35,8 +35,8 @@ abbrev pub IsLate : {S : Type 0} → List (Tree S) → ℕ → FlatError → Typ
 IsLate before i f = (length before ≤ i) × (f ≡ faults.Operand (length before) i)
 
 -- the operand at place i is t
-abbrev pub IsAt : {S : Type 0} → List (Tree S) → ℕ → Tree S → Type 0
-IsAt before i t = slice_get before i ≡ Some t
+abbrev pub IsTreeAt : {S : Type 0} → List (Tree S) → ℕ → Tree S → Type 0
+IsTreeAt before i t = slice_get before i ≡ Some t
 
 abbrev pub IsMisstated : {S : Type 0} → List (Tree S) → ℕ → ℕ → FlatError → Type 0
 IsMisstated before n found f = (n ≢ found) × (f ≡ faults.WrongDegree (length before) n found)
@@ -44,7 +44,7 @@ IsMisstated before n found f = (n ≢ found) × (f ≡ faults.WrongDegree (lengt
 -- the first fault of the operands x and y, else that of their trees
 abbrev pub OperandsFault : {S : Type 0} → List (Tree S) → ℕ → ℕ → (Tree S → Tree S → FlatError → Type 0) → FlatError → Type 0
 OperandsFault {S} before x y rest f =
-    IsLate before x f ⊎ ((t : Tree S) × IsAt before x t × (IsLate before y f ⊎ ((u : Tree S) × IsAt before y u × rest t u f)))
+    IsLate before x f ⊎ ((t : Tree S) × IsTreeAt before x t × (IsLate before y f ⊎ ((u : Tree S) × IsTreeAt before y u × rest t u f)))
 
 abbrev pub SumFault : {S F : Type 0} → Kind S F → List (Tree S) → ℕ → Tree S → Tree S → FlatError → Type 0
 SumFault kind before n t u f = IsMisstated before n (max (degree kind.term t) (degree kind.term u)) f
@@ -60,7 +60,7 @@ FormFault kind before (leaf_form c) f = kind.fault (length before) c f
 FormFault kind before (add_form n x y) f = OperandsFault before x y (SumFault kind before n) f
 FormFault kind before (sub_form n x y) f = OperandsFault before x y (SumFault kind before n) f
 FormFault kind before (mul_form n x y) f = OperandsFault before x y (ProductFault kind before n) f
-FormFault {S} kind before (neg_form n x) f = IsLate before x f ⊎ ((t : Tree S) × IsAt before x t × IsMisstated before n (degree kind.term t) f)
+FormFault {S} kind before (neg_form n x) f = IsLate before x f ⊎ ((t : Tree S) × IsTreeAt before x t × IsMisstated before n (degree kind.term t) f)
 
 -- the value, behind nodes with the trees of before, has no form, or it has one whose first fault is f
 abbrev pub NodeFault : {S F : Type 0} → Kind S F → List (Tree S) → Data → FlatError → Type 0

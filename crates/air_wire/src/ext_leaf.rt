@@ -13,7 +13,7 @@ ghost use Rattle.air_wire.specs.Coefficients.{number_items, wholes, if_canonical
 ghost use Rattle.air_wire.specs.BaseLeaves.{base_kind};
 ghost use Rattle.air_wire.specs.Nodes.{root_of};
 ghost use Rattle.air_wire.specs.ExtEntries.{ext_variable_plain};
-ghost use Rattle.air_wire.specs.ExtLeaves.{WritesWhole, at_place, moved, ext_constant_at, ext_leaf_at};
+ghost use Rattle.air_wire.specs.ExtLeaves.{WritesWhole, at_place, faults_at, ext_constant_at, ext_leaf_at};
 
 use crate::base_leaf::{class_of, element_value, is_canonical};
 use crate::cases::case_value;
@@ -120,7 +120,7 @@ fn base_from<F: PrimeField64>(
     contents: &Value,
 ) -> Result<ExprId<BaseLeaf<F>>, FlatError>
     ensures { ReadsTree base_grows base_reads tree_at under.old under.new result
-        (moved at (root_of (base_kind F.residues) (view contents.now))) }
+        (faults_at at (root_of (base_kind F.residues) (view contents.now))) }
 {
     under.nodes_fit();
     match list_from(alloc, under, contents) {

@@ -9,8 +9,8 @@ abbrev pub IsSpeltBy : {S : Type 0} → (Data → S → Type 0) → List ℕ →
 IsSpeltBy spells word x = (d : Data) × (read word ≡ Some d) × spells d x
 
 -- the text of a JSON value; where it has a float nothing is said
-abbrev pub IsWritten : Data → List ℕ → Type 0
-IsWritten d text = has_float d ≡ false → text ≡ compact_text d
+abbrev pub IsCompactText : Data → List ℕ → Type 0
+IsCompactText d text = has_float d ≡ false → text ≡ compact_text d
 
 -- a value's debug text, and how the value is spelt where the word spells it otherwise
 abbrev pub beside_text : List ℕ → List ℕ → List ℕ → List ℕ
@@ -20,5 +20,5 @@ beside_text shown written word =
 -- new is old and these; where the debug text isn't known nothing is said
 pub record ShowsBeside (shown : Option (List ℕ)) (spelling : Data) (word old new : List ℕ) : Type 0 where
   pub written : List ℕ
-  pub is_written : IsWritten spelling written
+  pub is_written : IsCompactText spelling written
   pub added : IfSome shown (λ s. new ≡ old ++ beside_text s written word)

@@ -8,13 +8,13 @@ abbrev pub IsNumber : List ℕ → Type 0
 IsNumber word = IsNumeral 10 (without_leading_plus word) × (digits_value 10 (without_leading_plus word) < 2 ^ 64)
 
 -- that number
-abbrev pub number_in : List ℕ → ℕ
-number_in word = digits_value 10 (without_leading_plus word)
+abbrev pub decimal_number : List ℕ → ℕ
+decimal_number word = digits_value 10 (without_leading_plus word)
 
 -- the word is the number n
 abbrev pub SpellsNumber : ℕ → List ℕ → Type 0
-SpellsNumber n word = IsNumber word × (n ≡ number_in word)
+SpellsNumber n word = IsNumber word × (n ≡ decimal_number word)
 
 -- the word is a whole number, and x its element
 abbrev pub SpellsElement : {F : Type 0} → CommRing F → F → List ℕ → Type 0
-SpellsElement r x word = IsNumber word × (x ≡ image r (number_in word))
+SpellsElement r x word = IsNumber word × (x ≡ image r (decimal_number word))

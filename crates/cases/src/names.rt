@@ -1,7 +1,7 @@
 //! The names that lines give to what they make.
 ghost use Rattle.std.specs.Prelude.{◌≡◌, ◌⊎◌, [], map, IfErr, OnErr, ok_or, bytes_eq};
 ghost use Rattle.std.specs.List.{position};
-ghost use Rattle.cases.specs.Named.{names_in, values_in, value_named, allocator_of, HaveSameNames};
+ghost use Rattle.cases.specs.Named.{names_in, named_values, value_named, allocator_of, HaveSameNames};
 
 use crate::faults::{Fault, Why};
 use std::alloc::Global;
@@ -18,7 +18,7 @@ impl<'a, T: Copy> Names<'a, T> {
     /// No names.
     pub fn new(alloc: Global) -> Self
         ensures names { names_in result ≡ [] }
-        ensures values { values_in result ≡ [] }
+        ensures values { named_values result ≡ [] }
     {
         Names {
             words: Vec::new(alloc),
@@ -42,7 +42,7 @@ impl<'a, T: Copy> Names<'a, T> {
 
     /// What each of them stands for.
     pub fn values(&self) -> &[T]
-        ensures { result.now ≡ values_in self.now }
+        ensures { result.now ≡ named_values self.now }
     {
         self.values.as_slice()
     }

@@ -6,11 +6,11 @@ ghost use Rattle.std.specs.Str.{chars};
 ghost use Rattle.air_field.specs.Ring.{image};
 ghost use Rattle.serde_json.specs.View.{view};
 ghost use Rattle.serde_json.specs.Read.{read as read_text};
-ghost use Rattle.cases.specs.Words.{IsNumber, number_in, SpellsNumber, SpellsElement};
+ghost use Rattle.cases.specs.Words.{IsNumber, decimal_number, SpellsNumber, SpellsElement};
 ghost use Rattle.cases.specs.Listed.{parts_at, listed, coefficients_listed};
 ghost use Rattle.cases.specs.Spelled.{escaped_letter, SpellsText, SpellsNoText, IsTextOf, shown_letter};
 ghost use Rattle.cases.specs.Spelled.{elements_text};
-ghost use Rattle.cases.specs.Values.{IsSpeltBy, IsWritten, beside_text, ShowsBeside};
+ghost use Rattle.cases.specs.Values.{IsSpeltBy, IsCompactText, beside_text, ShowsBeside};
 ghost use Rattle.cases.specs.Numbers.{AreNumbers};
 ghost use Rattle.cases.specs.laws.Numbers.{are_values};
 
@@ -44,7 +44,7 @@ impl<F: PrimeField64> Number for F {
 
 /// A count.
 pub fn count_of(word: &str) -> Result<usize, Fault>
-    ensures number { OkIff result (IsNumber word.now) (number_in word.now) }
+    ensures number { OkIff result (IsNumber word.now) (decimal_number word.now) }
     ensures refused { IfErr result (λ e. e ≡ Fault.Unreadable Why.NoNumber) }
 {
     match word.parse::<usize>() {
@@ -55,7 +55,7 @@ pub fn count_of(word: &str) -> Result<usize, Fault>
 
 /// A number.
 pub fn number_of(word: &str) -> Result<u64, Fault>
-    ensures number { OkIff result (IsNumber word.now) (number_in word.now) }
+    ensures number { OkIff result (IsNumber word.now) (decimal_number word.now) }
     ensures refused { IfErr result (λ e. e ≡ Fault.Unreadable Why.NoNumber) }
 {
     match word.parse::<u64>() {
@@ -102,7 +102,7 @@ pub fn counts_of(alloc: Global, word: &str) -> Result<Vec<usize>, Fault>
 
 /// The element of a number.
 pub fn element_of<F: Field>(word: &str) -> Result<F, Fault>
-    ensures element { OkIff result (IsNumber word.now) (image F.ring (number_in word.now)) }
+    ensures element { OkIff result (IsNumber word.now) (image F.ring (decimal_number word.now)) }
     ensures refused { IfErr result (λ e. e ≡ Fault.Unreadable Why.NoNumber) }
 {
     Ok(F::from_u64(number_of(word)?))
@@ -310,7 +310,8 @@ fn spelt_of<S: Spelled>(alloc: Global, word: &str) -> Result<S, Fault>
 
 // How it is spelt.
 fn spelling_of<S: Spelled>(alloc: Global, x: &S) -> Result<String, Fault>
-    ensures written { IfOk result (λ written. IsWritten (S.spelling x.now) (string_bytes written)) }
+    ensures written { IfOk result (λ written.
+        IsCompactText (S.spelling x.now) (string_bytes written)) }
     ensures refused { IfErr result (λ e. e ≡ Fault.Memory) }
 {
     let value = x.to_value(alloc)?;

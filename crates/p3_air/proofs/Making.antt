@@ -15,7 +15,7 @@ use Rattle.air_author.specs.laws.Each.{of_one}
 use Rattle.air_author.specs.Handing.{each_weaker, made_lasts}
 use Rattle.air_symbolic.specs.laws.Sharing.{found}
 use Rattle.p3_air.specs.declared.flat.step.Step.{Step}
-use Rattle.p3_air.specs.Plans.{number_at, IsPlaceOf, MakesPlace, StepMakes, column_of, IsColumn, IsSum, IsDifference, IsNegative, IsProduct}
+use Rattle.p3_air.specs.Plans.{number_at, IsPlaceOf, MakesPlace, StepMakes, column_of, IsColumn, IsSumOf, IsDifferenceOf, IsNegativeOf, IsProductOf}
 use Rattle.p3_air.specs.Tables.{IsMade, HasAt}
 
 -- what a table has at a place is what is read there
@@ -42,28 +42,28 @@ module _ {A F : Type 0} (l : Leaves A F) (ns : List (SymbolicExpr A)) (numbers :
   main_term i o c (node.Neg x d) is h = absurd h
   main_term i o c (node.Mul x y d) is h = absurd h
 
-  pub sum_term : (i p q : ℕ) (n : SymbolicExpr A) → IsNode l ns i n → IsSum (IsPlaceOf numbers k p) (IsPlaceOf numbers k q) n → add_term (term_of l.term (tree_of ns (number_at numbers p))) (term_of l.term (tree_of ns (number_at numbers q))) ≡ term_of l.term (tree_of ns i)
+  pub sum_term : (i p q : ℕ) (n : SymbolicExpr A) → IsNode l ns i n → IsSumOf (IsPlaceOf numbers k p) (IsPlaceOf numbers k q) n → add_term (term_of l.term (tree_of ns (number_at numbers p))) (term_of l.term (tree_of ns (number_at numbers q))) ≡ term_of l.term (tree_of ns i)
   sum_term i p q (node.Leaf a) is h = absurd h
   sum_term i p q (node.Add x y d) is h = sym (is.term ∙ ap₂ (λ u v. add_term (term_of l.term (tree_of ns u)) (term_of l.term (tree_of ns v))) h.0.1 h.1.1)
   sum_term i p q (node.Sub x y d) is h = absurd h
   sum_term i p q (node.Neg x d) is h = absurd h
   sum_term i p q (node.Mul x y d) is h = absurd h
 
-  pub difference_term : (i p q : ℕ) (n : SymbolicExpr A) → IsNode l ns i n → IsDifference (IsPlaceOf numbers k p) (IsPlaceOf numbers k q) n → sub_term (term_of l.term (tree_of ns (number_at numbers p))) (term_of l.term (tree_of ns (number_at numbers q))) ≡ term_of l.term (tree_of ns i)
+  pub difference_term : (i p q : ℕ) (n : SymbolicExpr A) → IsNode l ns i n → IsDifferenceOf (IsPlaceOf numbers k p) (IsPlaceOf numbers k q) n → sub_term (term_of l.term (tree_of ns (number_at numbers p))) (term_of l.term (tree_of ns (number_at numbers q))) ≡ term_of l.term (tree_of ns i)
   difference_term i p q (node.Leaf a) is h = absurd h
   difference_term i p q (node.Add x y d) is h = absurd h
   difference_term i p q (node.Sub x y d) is h = sym (is.term ∙ ap₂ (λ u v. sub_term (term_of l.term (tree_of ns u)) (term_of l.term (tree_of ns v))) h.0.1 h.1.1)
   difference_term i p q (node.Neg x d) is h = absurd h
   difference_term i p q (node.Mul x y d) is h = absurd h
 
-  pub negative_term : (i p : ℕ) (n : SymbolicExpr A) → IsNode l ns i n → IsNegative (IsPlaceOf numbers k p) n → neg_term (term_of l.term (tree_of ns (number_at numbers p))) ≡ term_of l.term (tree_of ns i)
+  pub negative_term : (i p : ℕ) (n : SymbolicExpr A) → IsNode l ns i n → IsNegativeOf (IsPlaceOf numbers k p) n → neg_term (term_of l.term (tree_of ns (number_at numbers p))) ≡ term_of l.term (tree_of ns i)
   negative_term i p (node.Leaf a) is h = absurd h
   negative_term i p (node.Add x y d) is h = absurd h
   negative_term i p (node.Sub x y d) is h = absurd h
   negative_term i p (node.Neg x d) is h = sym (is.term ∙ ap (λ u. neg_term (term_of l.term (tree_of ns u))) h.1)
   negative_term i p (node.Mul x y d) is h = absurd h
 
-  pub product_term : (i p q : ℕ) (n : SymbolicExpr A) → IsNode l ns i n → IsProduct (IsPlaceOf numbers k p) (IsPlaceOf numbers k q) n → mul_term (term_of l.term (tree_of ns (number_at numbers p))) (term_of l.term (tree_of ns (number_at numbers q))) ≡ term_of l.term (tree_of ns i)
+  pub product_term : (i p q : ℕ) (n : SymbolicExpr A) → IsNode l ns i n → IsProductOf (IsPlaceOf numbers k p) (IsPlaceOf numbers k q) n → mul_term (term_of l.term (tree_of ns (number_at numbers p))) (term_of l.term (tree_of ns (number_at numbers q))) ≡ term_of l.term (tree_of ns i)
   product_term i p q (node.Leaf a) is h = absurd h
   product_term i p q (node.Add x y d) is h = absurd h
   product_term i p q (node.Sub x y d) is h = absurd h
@@ -75,28 +75,28 @@ module _ {A F : Type 0} (l : Leaves A F) (ns : List (SymbolicExpr A)) (numbers :
   place_made wf here s makes = let f : (n : SymbolicExpr A) × IsNode l ns (number_at numbers k) n = found l ns wf (number_at numbers k) here in (f.0, f.1, makes f.0 f.1)
 
   -- the places of a step's operands are before it
-  pub sum_before : (p q : ℕ) (n : SymbolicExpr A) → IsSum (IsPlaceOf numbers k p) (IsPlaceOf numbers k q) n → (p < k) × (q < k)
+  pub sum_before : (p q : ℕ) (n : SymbolicExpr A) → IsSumOf (IsPlaceOf numbers k p) (IsPlaceOf numbers k q) n → (p < k) × (q < k)
   sum_before p q (node.Leaf a) h = absurd h
   sum_before p q (node.Add x y d) h = (h.0.0, h.1.0)
   sum_before p q (node.Sub x y d) h = absurd h
   sum_before p q (node.Neg x d) h = absurd h
   sum_before p q (node.Mul x y d) h = absurd h
 
-  pub difference_before : (p q : ℕ) (n : SymbolicExpr A) → IsDifference (IsPlaceOf numbers k p) (IsPlaceOf numbers k q) n → (p < k) × (q < k)
+  pub difference_before : (p q : ℕ) (n : SymbolicExpr A) → IsDifferenceOf (IsPlaceOf numbers k p) (IsPlaceOf numbers k q) n → (p < k) × (q < k)
   difference_before p q (node.Leaf a) h = absurd h
   difference_before p q (node.Add x y d) h = absurd h
   difference_before p q (node.Sub x y d) h = (h.0.0, h.1.0)
   difference_before p q (node.Neg x d) h = absurd h
   difference_before p q (node.Mul x y d) h = absurd h
 
-  pub negative_before : (p : ℕ) (n : SymbolicExpr A) → IsNegative (IsPlaceOf numbers k p) n → p < k
+  pub negative_before : (p : ℕ) (n : SymbolicExpr A) → IsNegativeOf (IsPlaceOf numbers k p) n → p < k
   negative_before p (node.Leaf a) h = absurd h
   negative_before p (node.Add x y d) h = absurd h
   negative_before p (node.Sub x y d) h = absurd h
   negative_before p (node.Neg x d) h = h.0
   negative_before p (node.Mul x y d) h = absurd h
 
-  pub product_before : (p q : ℕ) (n : SymbolicExpr A) → IsProduct (IsPlaceOf numbers k p) (IsPlaceOf numbers k q) n → (p < k) × (q < k)
+  pub product_before : (p q : ℕ) (n : SymbolicExpr A) → IsProductOf (IsPlaceOf numbers k p) (IsPlaceOf numbers k q) n → (p < k) × (q < k)
   product_before p q (node.Leaf a) h = absurd h
   product_before p q (node.Add x y d) h = absurd h
   product_before p q (node.Sub x y d) h = absurd h

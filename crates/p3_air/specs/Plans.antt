@@ -33,32 +33,32 @@ abbrev pub IsColumn : {A F : Type 0} → Leaves A F → ℕ → ℕ → Symbolic
 IsColumn l o c (node.Leaf a) = column_of (l.term a) ≡ Some (o, c)
 IsColumn l o c _ = ⊥
 
-abbrev pub IsSum : {A : Type 0} → (ℕ → Type 0) → (ℕ → Type 0) → SymbolicExpr A → Type 0
-IsSum P Q (node.Add x y d) = P x × Q y
-IsSum P Q _ = ⊥
+abbrev pub IsSumOf : {A : Type 0} → (ℕ → Type 0) → (ℕ → Type 0) → SymbolicExpr A → Type 0
+IsSumOf P Q (node.Add x y d) = P x × Q y
+IsSumOf P Q _ = ⊥
 
-abbrev pub IsDifference : {A : Type 0} → (ℕ → Type 0) → (ℕ → Type 0) → SymbolicExpr A → Type 0
-IsDifference P Q (node.Sub x y d) = P x × Q y
-IsDifference P Q _ = ⊥
+abbrev pub IsDifferenceOf : {A : Type 0} → (ℕ → Type 0) → (ℕ → Type 0) → SymbolicExpr A → Type 0
+IsDifferenceOf P Q (node.Sub x y d) = P x × Q y
+IsDifferenceOf P Q _ = ⊥
 
-abbrev pub IsNegative : {A : Type 0} → (ℕ → Type 0) → SymbolicExpr A → Type 0
-IsNegative P (node.Neg x d) = P x
-IsNegative P _ = ⊥
+abbrev pub IsNegativeOf : {A : Type 0} → (ℕ → Type 0) → SymbolicExpr A → Type 0
+IsNegativeOf P (node.Neg x d) = P x
+IsNegativeOf P _ = ⊥
 
-abbrev pub IsProduct : {A : Type 0} → (ℕ → Type 0) → (ℕ → Type 0) → SymbolicExpr A → Type 0
-IsProduct P Q (node.Mul x y d) = P x × Q y
-IsProduct P Q _ = ⊥
+abbrev pub IsProductOf : {A : Type 0} → (ℕ → Type 0) → (ℕ → Type 0) → SymbolicExpr A → Type 0
+IsProductOf P Q (node.Mul x y d) = P x × Q y
+IsProductOf P Q _ = ⊥
 
 -- the step makes the node: it is of the node's kind, and names its column, or the places of its operands
 abbrev pub StepMakes : {A F : Type 0} → Leaves A F → (ℕ → ℕ → Type 0) → Step → SymbolicExpr A → Type 0
 StepMakes l at step.Leaf n = IsLeaf n
 StepMakes l at (step.Current c) n = IsColumn l 0 c n
 StepMakes l at (step.Next c) n = IsColumn l 1 c n
-StepMakes l at (step.Add p q) n = IsSum (at p) (at q) n
-StepMakes l at (step.Sub p q) n = IsDifference (at p) (at q) n
-StepMakes l at (step.Neg p) n = IsNegative (at p) n
-StepMakes l at (step.Mul p q) n = IsProduct (at p) (at q) n
-StepMakes l at (step.Gate p q) n = IsProduct (at p) (at q) n
+StepMakes l at (step.Add p q) n = IsSumOf (at p) (at q) n
+StepMakes l at (step.Sub p q) n = IsDifferenceOf (at p) (at q) n
+StepMakes l at (step.Neg p) n = IsNegativeOf (at p) n
+StepMakes l at (step.Mul p q) n = IsProductOf (at p) (at q) n
+StepMakes l at (step.Gate p q) n = IsProductOf (at p) (at q) n
 
 -- the step makes the node of place k's number, out of operands before it
 abbrev pub MakesPlace : {A F : Type 0} → Leaves A F → List (SymbolicExpr A) → List ℕ → ℕ → Step → Type 0

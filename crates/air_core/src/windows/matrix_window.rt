@@ -3,14 +3,14 @@ use crate::windows::access::WindowAccess;
 use air_field::RowMajorMatrix;
 
 impl<T: Copy> WindowAccess<T> for RowMajorMatrix<T> {
-    ghost use Rattle.air_field.specs.Grid.{IsTwoRows, first_row, second_row};
+    ghost use Rattle.air_field.specs.Grid.{IsTwoRows, first_row_of, second_row_of};
     ghost use Rattle.air_field.specs.laws.Grid.{two_rows_width};
 
     ghost is_window = { IsTwoRows };
 
-    ghost current_row = { first_row };
+    ghost current_row = { first_row_of };
 
-    ghost next_row = { second_row };
+    ghost next_row = { second_row_of };
 
     ghost equal_widths = { two_rows_width };
 

@@ -19,7 +19,7 @@ use Rattle.air_infix.specs.declared.binding.Binding.TheVariants.{Loose}
 use Rattle.air_explain.specs.Equations.{equation, equation_lines}
 use Rattle.air_explain.specs.Explained.{explained_lines, Explains}
 use Rattle.air_explain.specs.Reading.{Reads, has_variable, is_read}
-use Rattle.air_explain.specs.Values.{value_at, Known, AreClosed}
+use Rattle.air_explain.specs.Values.{number_value, Known, AreClosed}
 
 -- the marks of what roots reach are closed
 pub reached_closed : {F : Type 0} (ns : List (SymbolicExpr (BaseLeaf F))) (roots : List ℕ) (marks : List (Option ℕ)) → Reached base_leaves ns roots marks → AreClosed ns marks
@@ -86,7 +86,7 @@ pub explains_known : {F : Type 0} {p : ℕ} (m : Modular F p) (r : CommRing F) (
 explains_known {F} m r s pool names marks values from numbers closed known here at reads =
     let ns = pool.nodes in
     let f : ℕ → List ℕ = equation m pool names (λ i. slice_index_or values i r.zero) in
-    let g : ℕ → List ℕ = equation m pool names (value_at r s ns) in
+    let g : ℕ → List ℕ = equation m pool names (number_value r s ns) in
     let same : (i : ℕ) → i < length ns → Marked marks i → f i ≡ g i =
     λ i b marked. ap (λ (v : F). infix_text m Loose (shown (listed_name names) ns i) ++ (codes " = " ++ constant_text m v)) (known i b marked) in
     let all : map f numbers ≡ map g numbers =

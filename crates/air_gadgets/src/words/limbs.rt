@@ -1,6 +1,6 @@
 //! Differences of limbs and their products with carries, made in a ring.
 ghost use Rattle.std.specs.Prelude.{◌≤◌, ◌^◌};
-ghost use Rattle.air_gadgets.specs.Gadgets.{FromOne, FromTwo, FromThree, FromFour, Makes, less_two_term, less_three_term, times_raised_term, carries_term, whole_term};
+ghost use Rattle.air_gadgets.specs.Gadgets.{FromOne, FromTwo, FromThree, FromFour, MakesFrom, less_two_term, less_three_term, times_raised_term, carries_term, whole_term};
 
 use air_field::{Algebra, Field, FromVar, RingError};
 
@@ -14,7 +14,7 @@ pub(crate) fn less_two<F: Field, V: Copy, R: FromVar<F, V>>(
     requires valid { R.valid ring.old }
     requires z_in { R.has ring.old z }
     ensures extended { R.extends ring.old ring.new }
-    ensures makes { Makes (R.has ring.new) (R.means ring.new) R.refuses
+    ensures makes { MakesFrom (R.has ring.new) (R.means ring.new) R.refuses
         (FromThree less_two_term (R.var_means x) (R.var_means y) (R.means ring.old z)) result }
 {
     let minuend = ring.from_var(x)?;
@@ -35,7 +35,7 @@ pub(crate) fn less_three<F: Field, V: Copy, R: FromVar<F, V>>(
     requires z_in { R.has ring.old z }
     requires w_in { R.has ring.old w }
     ensures extended { R.extends ring.old ring.new }
-    ensures makes { Makes (R.has ring.new) (R.means ring.new) R.refuses
+    ensures makes { MakesFrom (R.has ring.new) (R.means ring.new) R.refuses
         (FromFour less_three_term (R.var_means x) (R.var_means y)
         (R.means ring.old z) (R.means ring.old w)) result }
 {
@@ -52,7 +52,7 @@ pub(crate) fn whole<F: Field, R: Algebra<F>>(
     requires low_in { R.has ring.old low }
     requires high_in { R.has ring.old high }
     ensures extended { R.extends ring.old ring.new }
-    ensures makes { Makes (R.has ring.new) (R.means ring.new) R.refuses
+    ensures makes { MakesFrom (R.has ring.new) (R.means ring.new) R.refuses
         (FromTwo (whole_term F.ring) (R.means ring.old low) (R.means ring.old high)) result }
 {
     let scale = ring.constant(F::from_u64(65536))?;
@@ -70,7 +70,7 @@ fn times_raised<F: Field, R: Algebra<F>>(
     requires x_in { R.has ring.old x }
     requires y_in { R.has ring.old y }
     ensures extended { R.extends ring.old ring.new }
-    ensures makes { Makes (R.has ring.new) (R.means ring.new) R.refuses
+    ensures makes { MakesFrom (R.has ring.new) (R.means ring.new) R.refuses
         (FromTwo (times_raised_term F.ring n) (R.means ring.old x) (R.means ring.old y)) result }
 {
     let constant = ring.constant(F::from_u64(n))?;
@@ -88,7 +88,7 @@ pub(crate) fn carries<F: Field, R: Algebra<F>>(
     requires small { n ≤ 2 ^ 32 }
     requires x_in { R.has ring.old x }
     ensures extended { R.extends ring.old ring.new }
-    ensures makes { Makes (R.has ring.new) (R.means ring.new) R.refuses
+    ensures makes { MakesFrom (R.has ring.new) (R.means ring.new) R.refuses
         (FromOne (carries_term F.ring two n) (R.means ring.old x)) result }
 {
     let product = times_raised(ring, n, x, x)?;

@@ -1,7 +1,7 @@
 //! The elements that an addition asserts, made in a ring.
 ghost use Rattle.std.specs.Prelude.{All};
 ghost use Rattle.std.specs.List.{AllZip};
-ghost use Rattle.air_gadgets.specs.Gadgets.{FromTwo, FromThree, FromFour, Makes, LimbsMean, RefusesOne, carried_terms, add2_terms, add3_terms};
+ghost use Rattle.air_gadgets.specs.Gadgets.{FromTwo, FromThree, FromFour, MakesFrom, LimbsMean, RefusesOne, carried_terms, add2_terms, add3_terms};
 
 use crate::words::limbs::{carries, less_three, less_two, whole};
 use air_field::{Algebra, Field, FromVar, RingError};
@@ -16,7 +16,7 @@ fn with_carries<F: Field, R: Algebra<F>>(
     requires low_in { R.has ring.old low }
     requires high_in { R.has ring.old high }
     ensures extended { R.extends ring.old ring.new }
-    ensures makes { Makes (λ r. All (R.has ring.new) r) (λ r. AllZip (R.means ring.new) r)
+    ensures makes { MakesFrom (λ r. All (R.has ring.new) r) (λ r. AllZip (R.means ring.new) r)
         (RefusesOne R.refuses)
         (FromTwo (carried_terms F.ring two) (R.means ring.old low) (R.means ring.old high)) result }
 {
@@ -36,7 +36,7 @@ pub(crate) fn sum_of_two<F: Field, V: Copy, R: FromVar<F, V>>(
     requires valid { R.valid ring.old }
     requires c_in { All (R.has ring.old) c.now }
     ensures extended { R.extends ring.old ring.new }
-    ensures makes { Makes (λ r. All (R.has ring.new) r) (λ r. AllZip (R.means ring.new) r)
+    ensures makes { MakesFrom (λ r. All (R.has ring.new) r) (λ r. AllZip (R.means ring.new) r)
         (RefusesOne R.refuses)
         (FromThree (add2_terms F.ring) (LimbsMean R.var_means a.now) (LimbsMean R.var_means b.now)
         (LimbsMean (R.means ring.old) c.now)) result }
@@ -61,7 +61,7 @@ pub(crate) fn sum_of_three<F: Field, V: Copy, R: FromVar<F, V>>(
     requires c_in { All (R.has ring.old) c.now }
     requires d_in { All (R.has ring.old) d.now }
     ensures extended { R.extends ring.old ring.new }
-    ensures makes { Makes (λ r. All (R.has ring.new) r) (λ r. AllZip (R.means ring.new) r)
+    ensures makes { MakesFrom (λ r. All (R.has ring.new) r) (λ r. AllZip (R.means ring.new) r)
         (RefusesOne R.refuses)
         (FromFour (add3_terms F.ring) (LimbsMean R.var_means a.now) (LimbsMean R.var_means b.now)
         (LimbsMean (R.means ring.old) c.now) (LimbsMean (R.means ring.old) d.now)) result }

@@ -3,7 +3,7 @@ ghost use Rattle.std.specs.Prelude.{◌≡◌, ◌<◌, ◌≤◌, length};
 ghost use Rattle.std.specs.List.{AllZip};
 ghost use Rattle.air_field.specs.Algebra.{xor_term};
 ghost use Rattle.air_gadgets.specs.Words.{rotated_left};
-ghost use Rattle.air_gadgets.specs.Gadgets.{FromTwo, FromThree, Makes, packed_xor_term, half_term};
+ghost use Rattle.air_gadgets.specs.Gadgets.{FromTwo, FromThree, MakesFrom, packed_xor_term, half_term};
 
 use air_field::{Algebra, Field, FromVar, RingError};
 
@@ -11,7 +11,7 @@ use air_field::{Algebra, Field, FromVar, RingError};
 fn bit<F: Field, V: Copy, R: FromVar<F, V>>(ring: &mut R, x: V, y: V) -> Result<R::Elem, RingError>
     requires { R.valid ring.old }
     ensures extended { R.extends ring.old ring.new }
-    ensures makes { Makes (R.has ring.new) (R.means ring.new) R.refuses
+    ensures makes { MakesFrom (R.has ring.new) (R.means ring.new) R.refuses
         (FromTwo xor_term (R.var_means x) (R.var_means y)) result }
 {
     let first = ring.from_var(x)?;
@@ -29,7 +29,7 @@ fn packed<F: Field, V: Copy, R: FromVar<F, V>>(
     requires some { 0 < length b.now }
     requires same { length b.now ≡ length c.now }
     ensures extended { R.extends ring.old ring.new }
-    ensures makes { Makes (R.has ring.new) (R.means ring.new) R.refuses
+    ensures makes { MakesFrom (R.has ring.new) (R.means ring.new) R.refuses
         (FromTwo (packed_xor_term F.ring) (AllZip R.var_means b.now) (AllZip R.var_means c.now))
         result }
 {
@@ -53,7 +53,7 @@ pub(crate) fn less_packed<F: Field, V: Copy, R: FromVar<F, V>>(
     requires some { 0 < length b.now }
     requires same { length b.now ≡ length c.now }
     ensures extended { R.extends ring.old ring.new }
-    ensures makes { Makes (R.has ring.new) (R.means ring.new) R.refuses
+    ensures makes { MakesFrom (R.has ring.new) (R.means ring.new) R.refuses
         (FromThree (half_term F.ring) (R.var_means x) (AllZip R.var_means b.now)
         (AllZip R.var_means c.now)) result }
 {

@@ -15,7 +15,7 @@ use Rattle.air_gadgets.specs.Exact.{AllVanish}
 use Rattle.air_gadgets.specs.Packing.{packed_from}
 use Rattle.air_words.specs.BitTerms.{terms_from, columns_from, bits_asserts, has_bits, packed_bits}
 use Rattle.air_words.specs.WordTerms.{word_at, word_bits}
-use Rattle.air_laws.specs.Numbers.{IsBelow, IsWord}
+use Rattle.air_laws.specs.Numbers.{IsNumberBelow, IsWord}
 use Rattle.air_laws.specs.laws.Vanishing.{both_vanish, one_vanishes}
 
 module _ {F : Type 0} (R : CommRing F) (domain : IsDomain R) (s : Leaf → F) where
@@ -27,11 +27,11 @@ module _ {F : Type 0} (R : CommRing F) (domain : IsDomain R) (s : Leaf → F) wh
         | inr e ↦ (1, omega arith, (ring R (x ∷ R.one ∷ []) (var 0) (plus (less (var 0) (var 1)) (var 1)) refl ∙ (ap (λ z. R.add z R.one) e ∙ zero_add R R.one)) ∙ sym (image-one R))
       ]
 
-  bit_below : (t : Term F) → value (itself R) s (bool_check_term R.one t) ≡ R.zero → IsBelow R s 2 t
+  bit_below : (t : Term F) → value (itself R) s (bool_check_term R.one t) ≡ R.zero → IsNumberBelow R s 2 t
   bit_below t h = let b = bit_of (value (itself R) s t) h in record { number = b.0; below = b.1; is = b.2 }
 
   -- bits packed are below a power of two
-  packed_below : (at : ℕ → Term F) (i m : ℕ) → ((k : ℕ) → k < i + suc m → IsBelow R s 2 (at k)) → IsBelow R s (2 ^ suc m) (packed_from (at i) (terms_from at (i + 1) m))
+  packed_below : (at : ℕ → Term F) (i m : ℕ) → ((k : ℕ) → k < i + suc m → IsNumberBelow R s 2 (at k)) → IsNumberBelow R s (2 ^ suc m) (packed_from (at i) (terms_from at (i + 1) m))
   packed_below at i zero bits = bits i (omega arith)
   packed_below at i (suc m) bits =
       let bit = bits i (omega arith) in
@@ -46,11 +46,11 @@ module _ {F : Type 0} (R : CommRing F) (domain : IsDomain R) (s : Leaf → F) wh
       }
 
   -- what has so many bits is a number below the power of two
-  pub bits_below : (t : Term F) (first m : ℕ) → AllVanish R s (has_bits R t first (suc m) (λ u. u)) → IsBelow R s (2 ^ suc m) t
+  pub bits_below : (t : Term F) (first m : ℕ) → AllVanish R s (has_bits R t first (suc m) (λ u. u)) → IsNumberBelow R s (2 ^ suc m) t
   unfolding packed_bits bits_asserts
   bits_below t first m h =
       let parts = both_vanish R s (bits_asserts R first (suc m) (λ u. u)) (Base (sub_term t (packed_bits R first (suc m))) ∷ []) h in
-      let bits : (k : ℕ) → k < suc m → IsBelow R s 2 (columns_from first k) =
+      let bits : (k : ℕ) → k < suc m → IsNumberBelow R s 2 (columns_from first k) =
       λ k lt. bit_below (columns_from first k) (one_vanishes R s (λ i. Base (bool_check_term R.one (columns_from first i)) ∷ []) (suc m) k lt parts.0).0 in
       let packed = packed_below (columns_from first) 0 m (λ k lt. bits k (omega (arith, lt))) in
       let x = value (itself R) s t in

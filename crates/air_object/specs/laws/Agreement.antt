@@ -7,7 +7,7 @@ use Rattle.air_wire.specs.declared.errors.FlatError.{FlatError}
 use Rattle.air_wire.specs.declared.errors.FlatError.TheVariants as faults
 use Rattle.air_wire.specs.Results.{◌>>=◌}
 use Rattle.air_wire.specs.laws.Readings.{done, done_is, failed, err_is, bind_ok, ok_or_found}
-use Rattle.air_object.specs.Objects.{Grammar, by_form, AllSpell, FirstElementFault, list_of, needed, optional, both, both_or_none}
+use Rattle.air_object.specs.Objects.{Grammar, by_form, AllSpell, FirstElementFault, list_of, needed, optional, both_members, both_or_none}
 use Rattle.air_object.specs.Readers.{Reader, formed, each_from, list_read, needed_read, or_absent, optional_read, both_read, if_either}
 
 pub record Agrees {X : Type 0} (g : Grammar X) (read : Reader X) : Type 0 where
@@ -160,13 +160,13 @@ module _ {X Y : Type 0} (g : Grammar X) (read : Reader X) (agrees : Agrees g rea
   abbrev then_next : Data → Result X FlatError → Result (X × Y) FlatError
   then_next d r = r >>= λ x. next d >>= λ y. paired x y
 
-  both_found : (d : Data) (p : X × Y) → both_read read next d ≡ Ok p → (both g h).spells d p
+  both_found : (d : Data) (p : X × Y) → both_read read next d ≡ Ok p → (both_members g h).spells d p
   both_found d p e =
       let x = bind_ok (read d) (λ x. next d >>= λ y. paired x y) p e in
       let y = bind_ok (next d) (λ y. paired x.0 y) p x.2 in
       done_is (λ q. g.spells d q.0 × h.spells d q.1) (x.0, y.0) p y.2 (agrees.found d x.0 x.1, agree.found d y.0 y.1)
 
-  both_fault : (d : Data) (f : FlatError) (r : Result X FlatError) → read d ≡ r → then_next d r ≡ Err f → (both g h).fault d f
+  both_fault : (d : Data) (f : FlatError) (r : Result X FlatError) → read d ≡ r → then_next d r ≡ Err f → (both_members g h).fault d f
   both_fault d f (Err k) is e = inl (agrees.fault d f (is ∙ ap (λ k. failed k) (err_is k f e)))
   both_fault d f (Ok x) is e = inr (x, agrees.found d x is, agree.fault d f (of_next (next d) e))
     where
@@ -174,11 +174,11 @@ module _ {X Y : Type 0} (g : Grammar X) (read : Reader X) (agrees : Agrees g rea
       of_next (Ok y) e = absurd cc
       of_next (Err k) e = ap (λ k. failed k) (err_is k f e)
 
-  both_refused : (d : Data) (f : FlatError) → (both g h).fault d f → both_read read next d ≡ Err f
+  both_refused : (d : Data) (f : FlatError) → (both_members g h).fault d f → both_read read next d ≡ Err f
   both_refused d f (inl k) = ap (then_next d) (agrees.refused d f k)
   both_refused d f (inr k) = ap (then_next d) (agrees.again d k.0 k.1) ∙ ap (λ (r : Result Y FlatError). r >>= λ y. paired k.0 y) (agree.refused d f k.2)
 
-  pub both_agree : Agrees (both g h) (both_read read next)
+  pub both_agree : Agrees (both_members g h) (both_read read next)
   both_agree = record {
     found = both_found;
     again = λ d p k. ap (then_next d) (agrees.again d p.0 k.0) ∙ ap (λ (r : Result Y FlatError). r >>= λ y. paired p.0 y) (agree.again d p.1 k.1);
@@ -188,7 +188,7 @@ module _ {X Y : Type 0} (g : Grammar X) (read : Reader X) (agrees : Agrees g rea
 
 -- ---- both members or none
 
-module _ {X Y : Type 0} (one other : List ℕ) (g : Grammar X) (h : Grammar Y) (read : Reader (X × Y)) (agrees : Agrees (both (needed one g) (needed other h)) read) where
+module _ {X Y : Type 0} (one other : List ℕ) (g : Grammar X) (h : Grammar Y) (read : Reader (X × Y)) (agrees : Agrees (both_members (needed one g) (needed other h)) read) where
   abbrev either : Grammar (Option (X × Y))
   either = both_or_none one g other h
 

@@ -1,7 +1,7 @@
 //! Numbers in decimal digits.
 
 ghost use Rattle.std.specs.Prelude.{◌≡◌, ◌≤◌, IfSome};
-ghost use Rattle.air_program.specs.Grammar.{number_in};
+ghost use Rattle.air_program.specs.Grammar.{element_number};
 
 const MOST_DIGITS: usize = 10;
 
@@ -9,9 +9,9 @@ const MOST_DIGITS: usize = 10;
 const GREATEST: u64 = 2013265920;
 
 /// The number that a field writes.
-#[tactic(auto, unfolding(crate::specs::Grammar::number_in))]
+#[tactic(auto, unfolding(crate::specs::Grammar::element_number))]
 pub fn number(field: &[u8]) -> Option<u32>
-    ensures value { result ≡ number_in field.now }
+    ensures value { result ≡ element_number field.now }
     ensures small { IfSome result (λ n. n ≤ 2013265920) }
 {
     if field.is_empty() || field.len() > MOST_DIGITS {

@@ -25,27 +25,19 @@ fn label_of<N: Name>(alloc: Global, name: N) -> Result<Option<String>, AllocErro
     }
 }
 
-/// A list that is this long mostly gets much longer, and copying it at each doubling costs more than the checks: room
-/// for two million failures more is then asked for at once.
+/// A list that is this long mostly gets much longer, and copying it at each doubling costs more than the checks: when
+/// it is full, room for two million failures more is asked for at once.
 const LONG: usize = 1 << 15;
 
-/// Asks for much room. Where that much is refused, a push asks for what it needs itself.
+/// Puts a failure at the end of a list that may be full. Where much room is refused, the push asks for what it needs.
 #[cold]
 #[inline(never)]
-fn ask_for_room(failures: &mut Vec<ConstraintFailure>)
-    ensures { failures.new.items ≡ failures.old.items }
-{
-    let _ = failures.reserve(64 * LONG);
-}
-
-/// Puts a failure at the end.
-#[inline(always)]
 fn add(failures: &mut Vec<ConstraintFailure>, failure: ConstraintFailure) -> Result<(), AllocError>
     ensures ok { OnOk result (failures.new.items ≡ failures.old.items ++ failure ∷ []) }
     ensures err { OnErr result (failures.new.items ≡ failures.old.items) }
 {
-    if failures.len() == LONG {
-        ask_for_room(failures);
+    if failures.len() >= LONG && failures.len() == failures.capacity() {
+        let _ = failures.reserve(64 * LONG);
     }
     failures.push(failure)?;
     Ok(())
@@ -75,10 +67,10 @@ fn keep_named<N: Name>(
     add(failures, failure)
 }
 
-/// Keeps a failure that has no name. (Apart from the other, which makes room for a label's text at each call.)
+/// Keeps a failure that has no name, in a list that may be full.
 #[cold]
 #[inline(never)]
-fn keep_nameless(
+fn keep_in_full(
     failures: &mut Vec<ConstraintFailure>,
     row: usize,
     constraint: usize,
@@ -93,6 +85,30 @@ fn keep_nameless(
         label: None,
     };
     add(failures, failure)
+}
+
+/// Keeps a failure that has no name. (Apart from the others: a label's text and a list that is full need registers, and
+/// each failure would save them.)
+#[cold]
+#[inline(never)]
+fn keep_nameless(
+    failures: &mut Vec<ConstraintFailure>,
+    row: usize,
+    constraint: usize,
+) -> Result<(), AllocError>
+    ensures ok { OnOk result (LogsFailure row constraint IsNameless
+        failures.old.items failures.new.items) }
+    ensures err { OnErr result (failures.new.items ≡ failures.old.items) }
+{
+    if failures.len() < failures.capacity() {
+        failures.push_reserved(ConstraintFailure {
+            row,
+            constraint,
+            label: None,
+        });
+        return Ok(());
+    }
+    keep_in_full(failures, row, constraint)
 }
 
 /// Keeps a failure, with what its name displays, if it has one.

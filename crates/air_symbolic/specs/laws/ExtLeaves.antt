@@ -16,7 +16,7 @@ use Rattle.air_symbolic.specs.laws.BaseLeaves.{base_leaf_laws}
 use Rattle.air_symbolic.specs.declared.leaves.base_leaf.BaseLeaf.{BaseLeaf}
 use Rattle.air_symbolic.specs.declared.leaves.ext_leaf.ExtLeaf.{ExtLeaf}
 use Rattle.air_symbolic.specs.declared.leaves.ext_leaf.ExtLeaf.TheVariants.{Base, ExtVariable, ExtConstant}
-use Rattle.air_symbolic.specs.ExtLeaves.{BaseNodes, no_base_nodes, ext_grows, ext_valid, ext_term, ext_constant, ext_reads}
+use Rattle.air_symbolic.specs.ExtLeaves.{BaseNodes, no_base_nodes, ext_grows, ext_valid, ext_term, ext_leaf_constant, ext_reads}
 
 module _ {F EF : Type 0} {r : CommRing F} {over : AlgebraOver F EF} {basis : Basis F EF} {n : ℕ} (laws : ExtensionLaws r over basis n) where
   -- a base tree that is a constant
@@ -34,7 +34,7 @@ module _ {F EF : Type 0} {r : CommRing F} {over : AlgebraOver F EF} {basis : Bas
       subst (λ xs. Same r (const_term c) (ext_const_term xs)) (sym (ap basis.coefficients (laws.part_is x c e) ∙ laws.embed_is c))
       (ext_base (AllZero-replicate r (n - 1)))
 
-  ext_constant-is : (u : BaseNodes F) (a : ExtLeaf F EF) (c : F) → ext_constant basis u a ≡ Some c → Same r (const_term c) (ext_term basis u a)
+  ext_constant-is : (u : BaseNodes F) (a : ExtLeaf F EF) (c : F) → ext_leaf_constant basis u a ≡ Some c → Same r (const_term c) (ext_term basis u a)
   ext_constant-is u (Base i) c e = base_tree-constant (tree_at u i) c e
   ext_constant-is u (ExtVariable v) c e = cc
   ext_constant-is u (ExtConstant d) c e = part-same d c e
@@ -49,7 +49,7 @@ module _ {F EF : Type 0} {r : CommRing F} {over : AlgebraOver F EF} {basis : Bas
   ext_term-kept u v g (ExtVariable x) h = refl
   ext_term-kept u v g (ExtConstant c) h = refl
 
-  ext_constant-kept : (u v : BaseNodes F) → ext_grows u v → (a : ExtLeaf F EF) → ext_valid u a → ext_constant basis v a ≡ ext_constant basis u a
+  ext_constant-kept : (u v : BaseNodes F) → ext_grows u v → (a : ExtLeaf F EF) → ext_valid u a → ext_leaf_constant basis v a ≡ ext_leaf_constant basis u a
   ext_constant-kept u v g (Base i) h = ap (tree_constant base_constant) (tree-kept r base_reads base_grows tt (base_leaf_laws r) u v i g h.here)
   ext_constant-kept u v g (ExtVariable x) h = refl
   ext_constant-kept u v g (ExtConstant c) h = refl

@@ -29,15 +29,15 @@ use Rattle.air_wire.specs.laws.Lists.{root_found, root_again, root_fault, root_f
 use Rattle.air_wire.specs.laws.Written.{written_list, one_list}
 use Rattle.air_wire.specs.BaseLeaves.{base_kind}
 use Rattle.air_wire.specs.laws.BaseLeaves.{base_kind_laws}
-use Rattle.air_wire.specs.ExtLeaves.{SpellsWhole, WritesWhole, whole_leaf_term, at_place, OwnWholeFault, moved, ext_constant_at, ext_leaf_with, ext_leaf_at, ext_kind}
+use Rattle.air_wire.specs.ExtLeaves.{SpellsWhole, WritesWhole, whole_leaf_term, at_place, OwnWholeFault, faults_at, ext_constant_at, ext_leaf_with, ext_leaf_at, ext_kind}
 use Rattle.air_wire.specs.declared.errors.FlatError.{FlatError}
 use Rattle.air_wire.specs.declared.errors.FlatError.TheVariants as faults
 
-moved_ok : {A : Type 0} (place : ℕ) (r : Result A FlatError) (t : A) → moved place r ≡ Ok t → r ≡ Ok t
+moved_ok : {A : Type 0} (place : ℕ) (r : Result A FlatError) (t : A) → faults_at place r ≡ Ok t → r ≡ Ok t
 moved_ok place (Ok a) t e = e
 moved_ok place (Err f) t e = absurd cc
 
-moved_failed : {A : Type 0} (place : ℕ) (r : Result A FlatError) (f : FlatError) → moved place r ≡ Err f → (g : FlatError) × (r ≡ Err g) × (f ≡ at_place place g)
+moved_failed : {A : Type 0} (place : ℕ) (r : Result A FlatError) (f : FlatError) → faults_at place r ≡ Err f → (g : FlatError) × (r ≡ Err g) × (f ≡ at_place place g)
 moved_failed place (Ok a) f e = absurd cc
 moved_failed {A} place (Err g) f e = (g, refl, sym (err_is {A = A} (at_place place g) f e))
 
@@ -78,7 +78,7 @@ module _ {F EF : Type 0} {p : ℕ} (m : Modular F p) (r : CommRing F) (a : Algeb
   ext_leaf_again : (place : ℕ) (d : Data) (l : WholeLeaf F EF) → SpellsWhole m basis d l → ext_leaf_at m a count place d ≡ Ok l
   unfolding ext_leaf_at
   ext_leaf_again place d (whole_base t) h =
-      ap (ext_leaf_at m a count place) h.1 ∙ ap (λ q. moved place q >>= λ t. done (whole_base t)) (root_again (base_kind m) (base_kind_laws m) h.0 t h.2)
+      ap (ext_leaf_at m a count place) h.1 ∙ ap (λ q. faults_at place q >>= λ t. done (whole_base t)) (root_again (base_kind m) (base_kind_laws m) h.0 t h.2)
   ext_leaf_again place d (whole_variable v) h =
       ap (ext_leaf_at m a count place) h.1 ∙ ap (λ o. ok_or (option_map (λ w. whole_variable w) o) (faults.Shape place)) (ext_variable_laws.again h.0 v h.2)
   ext_leaf_again place d (whole_constant e) h =
@@ -89,7 +89,7 @@ module _ {F EF : Type 0} {p : ℕ} (m : Modular F p) (r : CommRing F) (a : Algeb
       let P : WholeLeaf F EF → Type 0 = SpellsWhole m basis (case_data name c) in
       name_ok P name (codes "Base") _ _ l h
       (λ same h.
-      let t = bind_ok (moved place (root_of (base_kind m) c)) (λ t. done (whole_base t)) l h in
+      let t = bind_ok (faults_at place (root_of (base_kind m) c)) (λ t. done (whole_base t)) l h in
       done_is P (whole_base t.0) l t.2 (c, ap (λ n. case_data n c) same, root_found (base_kind m) (base_kind_laws m) c t.0 (moved_ok place (root_of (base_kind m) c) t.0 t.1)))
       (λ h. name_ok P name (codes "ExtVariable") _ _ l h
       (λ same h. mapped P (λ v. whole_variable v) (ext_variable_plain.read c) l (ok_or_found _ _ l h)
@@ -113,7 +113,7 @@ module _ {F EF : Type 0} {p : ℕ} (m : Modular F p) (r : CommRing F) (a : Algeb
       let P : Type 0 = OwnWholeFault m count place (case_data name c) f ⊎ (f ≡ faults.Shape place) in
       name_failed P name (codes "Base") _ _ f e
       (λ same e.
-      let g = moved_failed place (root_of (base_kind m) c) f (before_done (moved place (root_of (base_kind m) c)) (λ t. whole_base t) f e) in
+      let g = moved_failed place (root_of (base_kind m) c) f (before_done (faults_at place (root_of (base_kind m) c)) (λ t. whole_base t) f e) in
       inl (inl (c, ap (λ n. case_data n c) same, (g.0, root_fault (base_kind m) (base_kind_laws m) c g.0 g.1, g.2))))
       (λ e. name_failed P name (codes "ExtVariable") _ _ f e
       (λ same e. inr (ok_or_failed _ (faults.Shape place) f e))
@@ -135,7 +135,7 @@ module _ {F EF : Type 0} {p : ℕ} (m : Modular F p) (r : CommRing F) (a : Algeb
   own_again : (place : ℕ) (d : Data) (f : FlatError) → OwnWholeFault m count place d f → ext_leaf_at m a count place d ≡ Err f
   unfolding ext_leaf_at
   own_again place d f (inl (c, is, (g, bad, h))) =
-      ap (ext_leaf_at m a count place) is ∙ ap (λ q. moved place q >>= λ t. done (whole_base t)) (root_fault_read (base_kind m) (base_kind_laws m) c g bad) ∙ ap (λ k. failed k) (sym h)
+      ap (ext_leaf_at m a count place) is ∙ ap (λ q. faults_at place q >>= λ t. done (whole_base t)) (root_fault_read (base_kind m) (base_kind_laws m) c g bad) ∙ ap (λ k. failed k) (sym h)
   own_again place d f (inr ((c, is, past), h)) =
       ap (ext_leaf_at m a count place) is
       ∙ ap (λ (q : Result (List F) FlatError). (q >>= λ cs. done (a.extend cs)) >>= λ e. done (whole_constant e)) (elements_past m count place c past)

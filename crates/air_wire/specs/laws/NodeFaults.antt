@@ -17,7 +17,7 @@ use Rattle.air_wire.specs.laws.Readings.{done, by_name, none_found, named, mappe
 use Rattle.air_wire.specs.Unshared.{degree}
 use Rattle.air_wire.specs.Nodes.{Kind, KindLaws, operand_of, operand, stated, operations, operands_of, joined_degree, joined_tree, operands_at, operation_or, leaf_node_at, node_with, node_of_value}
 use Rattle.air_wire.specs.laws.Nodes.{operation_name, named_operation, places_found, places_read}
-use Rattle.air_wire.specs.NodeFaults.{Form, leaf_form, add_form, sub_form, mul_form, neg_form, SpellsForm, IsLate, IsAt, IsMisstated, OperandsFault, SumFault, ProductFault, FormFault, NodeFault}
+use Rattle.air_wire.specs.NodeFaults.{Form, leaf_form, add_form, sub_form, mul_form, neg_form, SpellsForm, IsLate, IsTreeAt, IsMisstated, OperandsFault, SumFault, ProductFault, FormFault, NodeFault}
 
 -- ---- the form of a value
 
@@ -146,11 +146,11 @@ module _ {S F : Type 0} (kind : Kind S F) (laws : KindLaws kind) (before : List 
       go true is e = absurd cc
       go false is e = (unlike n found is, sym (err_is (faults.WrongDegree (length before) n found) f e))
 
-  one_operand : {X : Type 0} (i : ℕ) (k : Tree S → Result X FlatError) (f : FlatError) → (operand before i >>= k) ≡ Err f → IsLate before i f ⊎ ((t : Tree S) × IsAt before i t × (k t ≡ Err f))
+  one_operand : {X : Type 0} (i : ℕ) (k : Tree S → Result X FlatError) (f : FlatError) → (operand before i >>= k) ≡ Err f → IsLate before i f ⊎ ((t : Tree S) × IsTreeAt before i t × (k t ≡ Err f))
   unfolding operand
   one_operand {X} i k f e = go (slice_get before i) refl e
     where
-      go : (o : Option (Tree S)) → slice_get before i ≡ o → (operand_of (length before) i o >>= k) ≡ Err f → IsLate before i f ⊎ ((t : Tree S) × IsAt before i t × (k t ≡ Err f))
+      go : (o : Option (Tree S)) → slice_get before i ≡ o → (operand_of (length before) i o >>= k) ≡ Err f → IsLate before i f ⊎ ((t : Tree S) × IsTreeAt before i t × (k t ≡ Err f))
       go None is e = inl (late before i is, sym (err_is (faults.Operand (length before) i) f e))
       go (Some t) is e = inr (t, is, e)
 
@@ -158,11 +158,11 @@ module _ {S F : Type 0} (kind : Kind S F) (laws : KindLaws kind) (before : List 
       → (operand before x >>= λ t. operand before y >>= λ u. k t u) ≡ Err f → OperandsFault before x y rest f
   two_operands {X} x y k rest h f e = at_x (one_operand x (λ t. operand before y >>= λ u. k t u) f e)
     where
-      at_y : (t : Tree S) → IsLate before y f ⊎ ((u : Tree S) × IsAt before y u × (k t u ≡ Err f)) → IsLate before y f ⊎ ((u : Tree S) × IsAt before y u × rest t u f)
+      at_y : (t : Tree S) → IsLate before y f ⊎ ((u : Tree S) × IsTreeAt before y u × (k t u ≡ Err f)) → IsLate before y f ⊎ ((u : Tree S) × IsTreeAt before y u × rest t u f)
       at_y t (inl late) = inl late
       at_y t (inr q) = inr (q.0, q.1, h t q.0 f q.2)
 
-      at_x : IsLate before x f ⊎ ((t : Tree S) × IsAt before x t × ((operand before y >>= λ u. k t u) ≡ Err f)) → OperandsFault before x y rest f
+      at_x : IsLate before x f ⊎ ((t : Tree S) × IsTreeAt before x t × ((operand before y >>= λ u. k t u) ≡ Err f)) → OperandsFault before x y rest f
       at_x (inl late) = inl late
       at_x (inr p) = inr (p.0, p.1, at_y p.0 (one_operand y (λ u. k p.0 u) f p.2))
 
@@ -177,11 +177,11 @@ module _ {S F : Type 0} (kind : Kind S F) (laws : KindLaws kind) (before : List 
   negated_fault : (n x y : ℕ) (f : FlatError) → x ≡ y → operands Neg (n, x, y) ≡ Err f → FormFault kind before (neg_form n x) f
   negated_fault n x y f same e = at_x (one_operand x (λ t. operand before y >>= λ u. step Neg n t u) f e)
     where
-      at_y : (t : Tree S) → IsAt before x t → IsLate before y f ⊎ ((u : Tree S) × IsAt before y u × (step Neg n t u ≡ Err f)) → FormFault kind before (neg_form n x) f
+      at_y : (t : Tree S) → IsTreeAt before x t → IsLate before y f ⊎ ((u : Tree S) × IsTreeAt before y u × (step Neg n t u ≡ Err f)) → FormFault kind before (neg_form n x) f
       at_y t at (inl late) = inl (subst (λ i. IsLate before i f) (sym same) late)
       at_y t at (inr q) = inr (t, at, not_stated n (degree kind.term t) (both t q.0) f q.2)
 
-      at_x : IsLate before x f ⊎ ((t : Tree S) × IsAt before x t × ((operand before y >>= λ u. step Neg n t u) ≡ Err f)) → FormFault kind before (neg_form n x) f
+      at_x : IsLate before x f ⊎ ((t : Tree S) × IsTreeAt before x t × ((operand before y >>= λ u. step Neg n t u) ≡ Err f)) → FormFault kind before (neg_form n x) f
       at_x (inl late) = inl late
       at_x (inr p) = at_y p.0 p.1 (one_operand y (λ u. step Neg n p.0 u) f p.2)
 
@@ -225,7 +225,7 @@ module _ {S F : Type 0} (kind : Kind S F) (laws : KindLaws kind) (before : List 
   unfolding operand
   operand_late i f h = ap (operand_of (length before) i) (past before i h.0) ∙ ap (λ g. failed g) (sym h.1)
 
-  operand_there : (i : ℕ) (t : Tree S) → IsAt before i t → operand before i ≡ Ok t
+  operand_there : (i : ℕ) (t : Tree S) → IsTreeAt before i t → operand before i ≡ Ok t
   unfolding operand
   operand_there i t h = ap (operand_of (length before) i) h
 

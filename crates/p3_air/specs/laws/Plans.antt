@@ -7,7 +7,7 @@ use Rattle.air_symbolic.specs.declared.pools.expr.SymbolicExpr.{SymbolicExpr}
 use Rattle.air_symbolic.specs.declared.pools.expr.SymbolicExpr.TheVariants as node
 use Rattle.p3_air.specs.declared.flat.step.Step.{Step}
 use Rattle.p3_air.specs.declared.flat.step.Step.TheVariants as step
-use Rattle.p3_air.specs.Plans.{number_at, IsPlaceOf, IsLeaf, IsColumn, IsSum, IsDifference, IsNegative, IsProduct, StepMakes, IsPlan}
+use Rattle.p3_air.specs.Plans.{number_at, IsPlaceOf, IsLeaf, IsColumn, IsSumOf, IsDifferenceOf, IsNegativeOf, IsProductOf, StepMakes, IsPlan}
 
 IsLeaf-prop : {A : Type 0} (n : SymbolicExpr A) → IsProp (IsLeaf n)
 IsLeaf-prop (node.Leaf a) = hlevel props
@@ -24,28 +24,28 @@ IsColumn-prop l o c (node.Neg x d) = hlevel props
 IsColumn-prop l o c (node.Mul x y d) = hlevel props
 
 module _ {A F : Type 0} (l : Leaves A F) (numbers : List ℕ) (k : ℕ) where
-  IsSum-prop : (p q : ℕ) (n : SymbolicExpr A) → IsProp (IsSum (IsPlaceOf numbers k p) (IsPlaceOf numbers k q) n)
+  IsSum-prop : (p q : ℕ) (n : SymbolicExpr A) → IsProp (IsSumOf (IsPlaceOf numbers k p) (IsPlaceOf numbers k q) n)
   IsSum-prop p q (node.Leaf a) = hlevel props
   IsSum-prop p q (node.Add x y d) = hlevel props
   IsSum-prop p q (node.Sub x y d) = hlevel props
   IsSum-prop p q (node.Neg x d) = hlevel props
   IsSum-prop p q (node.Mul x y d) = hlevel props
 
-  IsDifference-prop : (p q : ℕ) (n : SymbolicExpr A) → IsProp (IsDifference (IsPlaceOf numbers k p) (IsPlaceOf numbers k q) n)
+  IsDifference-prop : (p q : ℕ) (n : SymbolicExpr A) → IsProp (IsDifferenceOf (IsPlaceOf numbers k p) (IsPlaceOf numbers k q) n)
   IsDifference-prop p q (node.Leaf a) = hlevel props
   IsDifference-prop p q (node.Add x y d) = hlevel props
   IsDifference-prop p q (node.Sub x y d) = hlevel props
   IsDifference-prop p q (node.Neg x d) = hlevel props
   IsDifference-prop p q (node.Mul x y d) = hlevel props
 
-  IsNegative-prop : (p : ℕ) (n : SymbolicExpr A) → IsProp (IsNegative (IsPlaceOf numbers k p) n)
+  IsNegative-prop : (p : ℕ) (n : SymbolicExpr A) → IsProp (IsNegativeOf (IsPlaceOf numbers k p) n)
   IsNegative-prop p (node.Leaf a) = hlevel props
   IsNegative-prop p (node.Add x y d) = hlevel props
   IsNegative-prop p (node.Sub x y d) = hlevel props
   IsNegative-prop p (node.Neg x d) = hlevel props
   IsNegative-prop p (node.Mul x y d) = hlevel props
 
-  IsProduct-prop : (p q : ℕ) (n : SymbolicExpr A) → IsProp (IsProduct (IsPlaceOf numbers k p) (IsPlaceOf numbers k q) n)
+  IsProduct-prop : (p q : ℕ) (n : SymbolicExpr A) → IsProp (IsProductOf (IsPlaceOf numbers k p) (IsPlaceOf numbers k q) n)
   IsProduct-prop p q (node.Leaf a) = hlevel props
   IsProduct-prop p q (node.Add x y d) = hlevel props
   IsProduct-prop p q (node.Sub x y d) = hlevel props

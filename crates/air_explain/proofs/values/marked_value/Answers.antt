@@ -4,7 +4,7 @@ use Rattle.air_field.specs.Ring.{itself}
 use Rattle.air_field.specs.Value.{value}
 use Rattle.air_symbolic.specs.Nodes.{OperandsBelow}
 use Rattle.air_explain.specs.Rows.{trace_of}
-use Rattle.air_explain.specs.Values.{value_at}
+use Rattle.air_explain.specs.Values.{number_value}
 use Rattle.air_explain.proofs.Numbers.{mark-own, node_value-is}
 use Rattle.air_explain.proofs.values.marked_value.Goals as goal
 
@@ -28,4 +28,4 @@ returns-in-Some g c = λ m.
     c.node_value.ensures
     ∙ node_value-is r s ns marks c.args.number c.args.values.now n c.requires.before (subst (λ k. OperandsBelow k n) own.0 c.node.ensures.below) (c.requires.marks.operands c.in-Some.id n marked c.node.ensures)
     ∙ ap (value (itself r) s) (sym c.node.ensures.term)
-    ∙ ap (value_at r s ns) own.0
+    ∙ ap (number_value r s ns) own.0

@@ -1,6 +1,6 @@
 use Rattle.std.proofs.Common.{List, ℕ, sym, subst}
 use Rattle.std.proofs.lemmas.Result.{IfOk-weaker}
-use Rattle.cases.specs.Values.{IsWritten}
+use Rattle.cases.specs.Values.{IsCompactText}
 use Rattle.cases.proofs.words.show_spelt.Goals as goal
 
 pub returns-clause-added : goal.returns-clause-added
@@ -11,7 +11,7 @@ returns-clause-added g c =
       c.in_ok-x.ensures.spelt,
       record {
         written = c.as_str.result.now;
-        is_written = subst (λ (t : List ℕ). IsWritten (g.S.Spelled.spelling c.in_ok-x.x) t) (sym c.as_str.ensures.value) c.in_ok-written.ensures.written;
+        is_written = subst (λ (t : List ℕ). IsCompactText (g.S.Spelled.spelling c.in_ok-x.x) t) (sym c.as_str.ensures.value) c.in_ok-written.ensures.written;
         added = shown;
       },
     )) c.show_beside.ensures.added
