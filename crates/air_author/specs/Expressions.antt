@@ -11,8 +11,8 @@ use Rattle.air_builder.specs.Notation.{constant, ◌⊙◌}
 use Rattle.air_builder.specs.Refusals.{PartOf, EachLeaf}
 
 -- the fact holds of a builder, and of what becomes of it
-abbrev pub Lasts : {S : Type 0} → (S → S → Type 0) → (S → Type 0) → S → Type 0
-Lasts {S} kept fact a = (b : S) → kept a b → fact b
+abbrev pub AlwaysAfter : {S : Type 0} → (S → S → Type 0) → (S → Type 0) → S → Type 0
+AlwaysAfter {S} kept fact a = (b : S) → kept a b → fact b
 
 -- What a call that makes does to a builder: it made an element of each term, in order. Nothing was asserted, and each
 -- leaf of the terms is there. A refusal may be one of any list that has each of the terms as a part.
@@ -53,6 +53,6 @@ power_term one t (suc zero) = t
 power_term one t (suc (suc n)) = power_term one t (suc n) ⊙ t
 
 -- x means the term in the builder, and each leaf of the term is there
-pub record Holds {S E F : Type 0} (means : S → E → Term F → Type 0) (missing : S → Leaf → Type 0) (x : E) (t : Term F) (b : S) : Type 0 where
+pub record IsUsable {S E F : Type 0} (means : S → E → Term F → Type 0) (missing : S → Leaf → Type 0) (x : E) (t : Term F) (b : S) : Type 0 where
   pub meant : means b x t
   pub leaves : EachLeaf (λ l. missing b l → ⊥) t

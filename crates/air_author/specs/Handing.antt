@@ -8,7 +8,7 @@ use Rattle.air_builder.specs.Builders.{MeansIn, BuilderView, RingLaws, BuilderLa
 use Rattle.air_builder.specs.laws.Filters.{means_kept}
 use Rattle.air_builder.specs.Refusals.{EachLeaf, PartOf}
 use Rattle.air_builder.specs.Batches.{Asserted}
-use Rattle.air_author.specs.Expressions.{MakesTerm, Lasts, Holds}
+use Rattle.air_author.specs.Expressions.{MakesTerm, AlwaysAfter, IsUsable}
 use Rattle.air_author.specs.laws.Each.{of_one}
 
 pub each_weaker : {F : Type 0} {P Q : Leaf → Type 0} (t : Term F) → ((l : Leaf) → P l → Q l) → EachLeaf P t → EachLeaf Q t
@@ -25,7 +25,7 @@ module _ {S R E F : Type 0} {view : BuilderView S R E F} (ring : RingLaws view) 
 
   -- what was made means its term, and will
   pub made_lasts : (a b : S) (x : E) (t : Term F) → MakesTerm (MeansIn view) grew missing refuses a b (Ok x) t
-      → Lasts kept (Holds (MeansIn view) missing x t) b
+      → AlwaysAfter kept (IsUsable (MeansIn view) missing x t) b
   made_lasts a b x t h d k =
       let before = laws.kept_joined a b d (laws.by_growth a b [] h.keeps) k in
       record {

@@ -2,7 +2,7 @@
 ghost use Rattle.std.specs.Prelude.{⊤};
 ghost use Rattle.air_field.specs.Term.{Term};
 ghost use Rattle.air_builder.specs.Notation.{◌⊙◌};
-ghost use Rattle.air_author.specs.Expressions.{MakesIn, Lasts};
+ghost use Rattle.air_author.specs.Expressions.{MakesIn, AlwaysAfter};
 
 use crate::AirResult;
 use crate::expressions::arithmetic::Gated;
@@ -20,13 +20,14 @@ pub trait Condition<AB: AirBuilder> {
     ghost ext_under: { Self → Term AB.F → Term AB.F };
 
     /// Every expression inside that was made before was made by this builder, and still means its value's term there.
-    ghost where_holds: { Self → AB → Type 0 } = { λ _ _. ⊤ };
+    ghost usable: { Self → AB → Type 0 } = { λ _ _. ⊤ };
 
     /// Makes the product of the condition and `x`: it vanishes on every row exactly if `x` vanishes wherever the
     /// condition doesn't, in a field.
     fn make_under<X: Expression<AB>>(&self, builder: &mut AB, x: &X) -> AirResult<AB::Expr>
         requires ready { AB.ready builder.old }
-        requires held { Lasts AB.kept (λ b. where_holds self.now b × X.holds x.now b) builder.old }
+        requires usable { AlwaysAfter AB.kept (λ b. usable self.now b × X.usable x.now b)
+            builder.old }
         ensures { MakesIn ⟦<AB as View>⟧.view builder.old builder.new result
             (under self.now (X.term x.now)) };
 
@@ -35,7 +36,7 @@ pub trait Condition<AB: AirBuilder> {
     where
         AB: ExtensionBuilder,
         requires ready { AB.ready builder.old }
-        requires held { Lasts AB.kept (λ b. where_holds self.now b × X.ext_holds x.now b)
+        requires usable { AlwaysAfter AB.kept (λ b. usable self.now b × X.usable x.now b)
             builder.old }
         ensures { MakesIn ⟦<AB as ViewOver>⟧.view builder.old builder.new result
             (ext_under self.now (X.ext_term x.now)) };
@@ -73,7 +74,7 @@ impl<'a, AB: AirBuilder, K: Condition<AB>, S: Expression<AB>> Condition<AB> for 
 
     ghost ext_under = { λ s t. K.ext_under s.0.now (t ⊙ S.term s.1.now) };
 
-    ghost where_holds = { λ s b. K.where_holds s.0.now b × S.holds s.1.now b };
+    ghost usable = { λ s b. K.usable s.0.now b × S.usable s.1.now b };
 
     #[inline(always)]
     fn make_under<X: Expression<AB>>(&self, builder: &mut AB, x: &X) -> AirResult<AB::Expr> {

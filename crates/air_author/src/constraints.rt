@@ -3,7 +3,7 @@ ghost use Rattle.std.specs.Prelude.{⊤, List};
 ghost use Rattle.air_field.specs.Term.{Term};
 ghost use Rattle.air_builder.specs.Assertion.{Assertion};
 ghost use Rattle.air_builder.specs.Batches.{AssertedIn, Evaluates};
-ghost use Rattle.air_author.specs.Expressions.{Lasts};
+ghost use Rattle.air_author.specs.Expressions.{AlwaysAfter};
 
 use crate::AirResult;
 use crate::conditions::{Condition, Everywhere};
@@ -25,12 +25,12 @@ pub trait Constraint<AB: AirBuilder> {
 
     /// Every expression inside that was made before was made by this builder, and still means its value's term there.
     /// Constraints without one owe nothing.
-    ghost all_hold: { Self → AB → Type 0 } = { λ _ _. ⊤ };
+    ghost usable: { Self → AB → Type 0 } = { λ _ _. ⊤ };
 
     /// Asserts them where the condition holds.
     fn assert_under<K: Condition<AB>>(&self, builder: &mut AB, condition: &K) -> AirResult
         requires ready { AB.ready builder.old }
-        requires held { Lasts AB.kept (λ b. all_hold self.now b × K.where_holds condition.now b)
+        requires usable { AlwaysAfter AB.kept (λ b. usable self.now b × K.usable condition.now b)
             builder.old }
         ensures { AssertedIn ⟦<AB as View>⟧.view builder.old builder.new result
             (asserts self.now (K.under condition.now) (K.ext_under condition.now)) };
@@ -39,7 +39,7 @@ pub trait Constraint<AB: AirBuilder> {
 impl<'a, AB: AirBuilder, C: Constraint<AB>> Constraint<AB> for &'a C {
     ghost asserts = { λ s f g. C.asserts s.now f g };
 
-    ghost all_hold = { λ s b. C.all_hold s.now b };
+    ghost usable = { λ s b. C.usable s.now b };
 
     #[inline(always)]
     fn assert_under<K: Condition<AB>>(&self, builder: &mut AB, condition: &K) -> AirResult {
@@ -54,7 +54,7 @@ pub fn assert_these<AB: AirBuilder, C: Constraint<AB>>(
     constraints: &C,
 ) -> AirResult
     requires ready { AB.ready builder.old }
-    requires held { Lasts AB.kept (C.all_hold constraints.now) builder.old }
+    requires usable { AlwaysAfter AB.kept (C.usable constraints.now) builder.old }
     ensures { AssertedIn ⟦<AB as View>⟧.view builder.old builder.new result
         (C.asserts constraints.now (λ t. t) (λ t. t)) }
 {
@@ -65,7 +65,7 @@ pub fn assert_these<AB: AirBuilder, C: Constraint<AB>>(
 #[inline(always)]
 pub fn assert_all<AB: AirBuilder, C: Constraint<AB>>(builder: &mut AB, constraints: &C) -> AirResult
     requires ready { AB.ready builder.old }
-    requires held { Lasts AB.kept (C.all_hold constraints.now) builder.old }
+    requires usable { AlwaysAfter AB.kept (C.usable constraints.now) builder.old }
     ensures { Evaluates ⟦<AB as View>⟧.view builder.old builder.new result
         (C.asserts constraints.now (λ t. t) (λ t. t)) }
 {

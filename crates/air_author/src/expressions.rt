@@ -1,7 +1,7 @@
 //! Expressions as values, each of a small type of its own that knows its term.
 ghost use Rattle.std.specs.Prelude.{◌≡◌, ⊤, Some, None, IfOk, IfErr, slice_get};
 ghost use Rattle.air_field.specs.Term.{Term};
-ghost use Rattle.air_author.specs.Expressions.{MakesIn, Lasts, air_result};
+ghost use Rattle.air_author.specs.Expressions.{MakesIn, AlwaysAfter, air_result};
 
 use crate::AirResult;
 use air_builder::{AirBuilder, AirError, ExtensionBuilder, View, ViewOver};
@@ -23,12 +23,12 @@ pub trait Expression<AB: AirBuilder> {
     ghost term: { Self → Term AB.F };
 
     /// What it holds ready-made is of the builder, and means what it should there.
-    ghost holds: { Self → AB → Type 0 } = { λ _ _. ⊤ };
+    ghost usable: { Self → AB → Type 0 } = { λ _ _. ⊤ };
 
     /// Makes it in the builder's ring. Nothing is asserted.
     fn make(&self, builder: &mut AB) -> AirResult<AB::Expr>
         requires ready { AB.ready builder.old }
-        requires held { Lasts AB.kept (holds self.now) builder.old }
+        requires usable { AlwaysAfter AB.kept (usable self.now) builder.old }
         ensures { MakesIn ⟦<AB as View>⟧.view builder.old builder.new result (term self.now) };
 }
 
@@ -38,12 +38,12 @@ pub trait ExtExpression<AB: ExtensionBuilder> {
     ghost ext_term: { Self → Term AB.F };
 
     /// What it holds ready-made is of the builder, and means what it should there.
-    ghost ext_holds: { Self → AB → Type 0 } = { λ _ _. ⊤ };
+    ghost usable: { Self → AB → Type 0 } = { λ _ _. ⊤ };
 
     /// Makes it in the builder's ring over the extension. Nothing is asserted.
     fn make_ext(&self, builder: &mut AB) -> AirResult<AB::ExprEF>
         requires ready { AB.ready builder.old }
-        requires held { Lasts AB.kept (ext_holds self.now) builder.old }
+        requires usable { AlwaysAfter AB.kept (usable self.now) builder.old }
         ensures { MakesIn ⟦<AB as ViewOver>⟧.view builder.old builder.new result
             (ext_term self.now) };
 }
@@ -51,7 +51,7 @@ pub trait ExtExpression<AB: ExtensionBuilder> {
 impl<'a, AB: AirBuilder, X: Expression<AB>> Expression<AB> for &'a X {
     ghost term = { λ s. X.term s.now };
 
-    ghost holds = { λ s b. X.holds s.now b };
+    ghost usable = { λ s b. X.usable s.now b };
 
     #[inline(always)]
     fn make(&self, builder: &mut AB) -> AirResult<AB::Expr> {
@@ -62,7 +62,7 @@ impl<'a, AB: AirBuilder, X: Expression<AB>> Expression<AB> for &'a X {
 impl<'a, AB: ExtensionBuilder, X: ExtExpression<AB>> ExtExpression<AB> for &'a X {
     ghost ext_term = { λ s. X.ext_term s.now };
 
-    ghost ext_holds = { λ s b. X.ext_holds s.now b };
+    ghost usable = { λ s b. X.usable s.now b };
 
     #[inline(always)]
     fn make_ext(&self, builder: &mut AB) -> AirResult<AB::ExprEF> {

@@ -1,7 +1,7 @@
 //! An AIR's constraints as a value among another's, on columns further right.
 ghost use Rattle.std.specs.Prelude.{⊤, ◌^◌, ◌<◌};
 ghost use Rattle.air_builder.specs.Batches.{AssertedIn};
-ghost use Rattle.air_author.specs.Expressions.{Lasts};
+ghost use Rattle.air_author.specs.Expressions.{AlwaysAfter};
 ghost use Rattle.air_author.specs.Moved.{moved_under};
 
 use crate::AirResult;
@@ -25,7 +25,7 @@ pub trait MovableConstraints<AB: AirBuilder>: PlainAir<AB::F> {
     ) -> AirResult
         requires ready { AB.ready builder.old }
         requires within { columns < 2 ^ 63 }
-        requires held { Lasts AB.kept (λ b. ⊤ × K.where_holds condition.now b) builder.old }
+        requires usable { AlwaysAfter AB.kept (λ b. ⊤ × K.usable condition.now b) builder.old }
         ensures { AssertedIn ⟦<AB as View>⟧.view builder.old builder.new result
             (moved_under (K.under condition.now) (K.ext_under condition.now) columns
             (Self.plain self.now).0) };

@@ -20,7 +20,7 @@ pub struct E<X>(pub X);
 impl<AB: AirBuilder, X: Expression<AB>> Expression<AB> for E<X> {
     ghost term = { λ s. X.term s.0 };
 
-    ghost holds = { λ s b. X.holds s.0 b };
+    ghost usable = { λ s b. X.usable s.0 b };
 
     #[inline(always)]
     fn make(&self, builder: &mut AB) -> AirResult<AB::Expr> {
@@ -31,7 +31,7 @@ impl<AB: AirBuilder, X: Expression<AB>> Expression<AB> for E<X> {
 impl<AB: ExtensionBuilder, X: ExtExpression<AB>> ExtExpression<AB> for E<X> {
     ghost ext_term = { λ s. X.ext_term s.0 };
 
-    ghost ext_holds = { λ s b. X.ext_holds s.0 b };
+    ghost usable = { λ s b. X.usable s.0 b };
 
     #[inline(always)]
     fn make_ext(&self, builder: &mut AB) -> AirResult<AB::ExprEF> {

@@ -47,7 +47,7 @@ impl<AB: AirBuilder> Family<AB> for Products {
 
 impl<F: Field> BaseAir<F> for Cycles<F> {
     ghost declaration = { λ a. record {
-      declared = cycles;
+      constraints = cycles;
       width = 8;
       num_public_values = 0;
       preprocessed = None;

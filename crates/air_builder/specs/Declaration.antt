@@ -9,7 +9,7 @@ use Rattle.air_core.specs.declared.boundary.BoundaryPublic.{BoundaryPublic}
 -- preprocessed table, if there is one; the periodic columns, each the values of one period; and the cells of the main trace
 -- that hold public values.
 pub record Declaration (F : Type 0) : Type 0 where
-  pub declared : List (Assertion F)
+  pub constraints : List (Assertion F)
   pub width : ℕ
   pub num_public_values : ℕ
   pub preprocessed : Option (Grid F)
@@ -19,7 +19,7 @@ pub record Declaration (F : Type 0) : Type 0 where
 -- constraints on a main trace of this width and so many public values, and nothing beside
 abbrev pub plain_declaration : {F : Type 0} → List (Assertion F) → ℕ → ℕ → Declaration F
 plain_declaration ts width public = record {
-  declared = ts;
+  constraints = ts;
   width = width;
   num_public_values = public;
   preprocessed = None;

@@ -57,4 +57,4 @@ abbrev pub FoldingRefuses : {F E : Type 0} → CommRing F → AlgebraOver F E �
     → FolderRow E → AirError → Type 0
 FoldingRefuses r a layout d row e =
     RecordRefuses layout d e
-    ⊎ (RecordingAnswers r a layout d × ((e ≡ Memory) ⊎ FolderRefuses row e d.declared))
+    ⊎ (RecordingAnswers r a layout d × ((e ≡ Memory) ⊎ FolderRefuses row e d.constraints))

@@ -47,14 +47,14 @@ pub fn fold_air<
 ) -> Result<Folded<F, EF>, AirError>
     requires from_zero { accumulator_of folder.old ≡ EF.over.ring.zero }
     ensures folded { IfOk result (IsFolded F.ring EF.over EF.basis
-        (folder_row folder.old) (A.declaration air.now).declared) }
+        (folder_row folder.old) (A.declaration air.now).constraints) }
     ensures accumulator { IfOk result (λ f. accumulator_of folder.new ≡ f.accumulator) }
     ensures row { folder_row folder.new ≡ folder_row folder.old }
     ensures layout { OnOk result (LayoutSuits layout (A.declaration air.now)) }
     ensures there { OnOk result (NoneMissing (FolderMissing (folder_row folder.old))
-        (A.declaration air.now).declared) }
+        (A.declaration air.now).constraints) }
     ensures beginning { OnErr result (GrewByBeginningOf EF.over folder.old folder.new
-        (A.declaration air.now).declared) }
+        (A.declaration air.now).constraints) }
     ensures refused { IfErr result (FoldingRefuses F.ring EF.over layout (A.declaration air.now)
         (folder_row folder.old)) }
 {

@@ -25,7 +25,7 @@ pub record IsOf {F : Type 0} (input : FlatInput F) (pool : BaseNodes F) (roots :
 
 module _ {F : Type 0} (input : FlatInput F) (pool : BaseNodes F) (roots : List ℕ) (width count : ℕ) (table : Option (Grid F)) (periodic : List (Vec F Global)) (cells : List BoundaryPublic) (public : List F) (h : IsOf input pool roots width count table periodic cells public) where
   -- its declaration is the input's
-  pub same_instance : instance (record { declared = zero_at_roots pool roots; width = width; num_public_values = count; preprocessed = table; periodic = periodic; cells = cells }) input.main public ≡ flat_instance input
+  pub same_instance : instance (record { constraints = zero_at_roots pool roots; width = width; num_public_values = count; preprocessed = table; periodic = periodic; cells = cells }) input.main public ≡ flat_instance input
   same_instance = rw (h.pool_is, h.roots_are, h.width_is, h.count_is, h.table_is, h.periodic_are, h.cells_are, h.public_are) refl
 
   -- what explains it explains the input

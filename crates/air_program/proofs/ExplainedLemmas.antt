@@ -26,7 +26,7 @@ use Rattle.air_explain.specs.Rows.{table_rows}
 use Rattle.air_explain.specs.Values.{AreClosed}
 use Rattle.air_explain.specs.laws.Values.{explains_known}
 use Rattle.air_report.specs.FailureTexts.{seen_failure}
-use Rattle.air_report.specs.Given.{table_grid}
+use Rattle.air_report.specs.Instances.{table_grid}
 use Rattle.air_report.specs.declared.debug.failure.ConstraintFailure.{ConstraintFailure}
 use Rattle.air_program.specs.AtHand.{KnownAt}
 use Rattle.air_program.specs.Explained.{Failure, StandsBelow, IsExplained, IsExplainedText, PushesExplained, PushesNames, failing_roots, cell_lines}

@@ -15,7 +15,7 @@ use Rattle.air_symbolic.specs.Reach.{Reached}
 use Rattle.air_infix.specs.Names.{AreNames}
 use Rattle.air_explain.specs.Cells.{cell_line}
 use Rattle.air_explain.specs.Explained.{Explains, reached_definitions}
-use Rattle.air_report.specs.Given.{table_grid}
+use Rattle.air_report.specs.Instances.{table_grid}
 use Rattle.air_object.specs.declared.input.FlatInput.{FlatInput}
 use Rattle.air_program.specs.Answer.{AuditFinds}
 use Rattle.air_program.specs.ByField.{AnswersBytes}

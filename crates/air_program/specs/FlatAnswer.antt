@@ -16,7 +16,7 @@ use Rattle.air_program.specs.Refusals.{AnswersRefusal, air_name}
 -- table, periodic columns and cells
 abbrev pub flat_declaration : {F : Type 0} → FlatInput F → Declaration F
 flat_declaration input = record {
-  declared = zero_at_roots input.pool input.roots.items;
+  constraints = zero_at_roots input.pool input.roots.items;
   width = input.main.width;
   num_public_values = length input.public_values.items;
   preprocessed = input.preprocessed;

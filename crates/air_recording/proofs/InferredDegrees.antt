@@ -85,7 +85,7 @@ weighted_answer (suc w) n periods us (Err DegreeOverflow) some h fits = h
 
 -- a refusal of the degree of what is recorded
 pub inferred_refused : {F E : Type 0} (r : CommRing F) (over : AlgebraOver F E) (w n : ℕ) (layout : AirLayout) (d : Declaration F) (us vs : List (Term F)) (e : RingError)
-    → EachRecords (itself r) us (base_terms d.declared) → EachRecords over vs (ext_terms d.declared) → RecordingAnswers r over layout d
+    → EachRecords (itself r) us (base_terms d.constraints) → EachRecords over vs (ext_terms d.constraints) → RecordingAnswers r over layout d
     → AnswersInferred w n (periods_of d.periodic) (us ++ vs) (Err e) → DegreeRefuses r over w n layout d (air_error e)
 inferred_refused r over w n layout d us vs Memory b x f h = inl (inr (f.suits.fits, tt))
 inferred_refused r over w n layout d us vs DegreeOverflow b x f h =

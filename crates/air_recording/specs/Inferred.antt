@@ -38,9 +38,9 @@ recorded_terms basis recorded =
 pub record IsInferred {F E : Type 0} (r : CommRing F) (over : AlgebraOver F E) (w n : ℕ) (d : Declaration F) (degree : ℕ) : Type 0 where
   pub base : List (Term F)
   pub ext : List (Term F)
-  pub base_recorded : EachRecords (itself r) base (base_terms d.declared)
-  pub base_in_extension : EachRecords over base (base_terms d.declared)
-  pub ext_recorded : EachRecords over ext (ext_terms d.declared)
+  pub base_recorded : EachRecords (itself r) base (base_terms d.constraints)
+  pub base_in_extension : EachRecords over base (base_terms d.constraints)
+  pub ext_recorded : EachRecords over ext (ext_terms d.constraints)
   pub is_degree : IsDegreeFor w n (periods_of d.periodic) (base ++ ext) degree
   pub base_bounded : 2 ≤ n → PolynomialsWithin (itself r) (leaf_degree w n (periods_of d.periodic)) (polynomial_bound w degree n) base
   pub bounded : 2 ≤ n → PolynomialsWithin over (leaf_degree w n (periods_of d.periodic)) (polynomial_bound w degree n) (base ++ ext)
@@ -66,4 +66,4 @@ abbrev pub DegreeRefuses : {F E : Type 0} → CommRing F → AlgebraOver F E →
 DegreeRefuses r over w n layout d e =
     RecordRefuses layout d e
     ⊎ (RecordingAnswers r over layout d
-    × ((e ≡ air.DegreeOverflow) × IsDegreeOver r over (domain_weight w n (periods_of d.periodic)) d.declared))
+    × ((e ≡ air.DegreeOverflow) × IsDegreeOver r over (domain_weight w n (periods_of d.periodic)) d.constraints))

@@ -52,7 +52,7 @@ LayoutRefuses l d _ = ⊥
 -- The layout has the AIR's counts, and each entry that a declared term names.
 pub record LayoutSuits {F : Type 0} (l : AirLayout) (d : Declaration F) : Type 0 where
   pub fits : FitsAir l d
-  pub there : NoneMissing (IsMissing (layout_shape l)) d.declared
+  pub there : NoneMissing (IsMissing (layout_shape l)) d.constraints
 
 -- how many constraints there are
 abbrev pub constraint_count : ConstraintLayout → ℕ

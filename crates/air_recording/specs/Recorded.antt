@@ -53,7 +53,7 @@ pub record RecordsExt {U A F E : Type 0} (r : CommRing F) (over : AlgebraOver F 
 abbrev pub RecordRefuses : {F : Type 0} → AirLayout → Declaration F → AirError → Type 0
 RecordRefuses layout d e =
     LayoutRefuses layout d e
-    ⊎ (FitsAir layout d × Refused (IsMissing (layout_shape layout)) (IsOver cached_weight) (λ _. ⊥) e d.declared)
+    ⊎ (FitsAir layout d × Refused (IsMissing (layout_shape layout)) (IsOver cached_weight) (λ _. ⊥) e d.constraints)
 
 -- The recording answers: the layout has the AIR's counts and each entry that a declared term names, and some terms which
 -- record what is declared have cached degrees within `usize`.
@@ -61,6 +61,6 @@ pub record RecordingAnswers {F E : Type 0} (r : CommRing F) (over : AlgebraOver 
   pub suits : LayoutSuits layout d
   pub base : List (Term F)
   pub ext : List (Term F)
-  pub base_recorded : EachRecords (itself r) base (base_terms d.declared)
-  pub ext_recorded : EachRecords over ext (ext_terms d.declared)
+  pub base_recorded : EachRecords (itself r) base (base_terms d.constraints)
+  pub ext_recorded : EachRecords over ext (ext_terms d.constraints)
   pub within : greatest_degree cached_weight (base ++ ext) < 2 ^ 64

@@ -7,7 +7,7 @@ use Rattle.std.proofs.Math.Seq.{take-append-add}
 use Rattle.air_field.specs.Ring.{CommRing}
 use Rattle.air_field.specs.Grid.{Grid}
 use Rattle.air_core.specs.declared.boundary.BoundaryPublic.{BoundaryPublic}
-use Rattle.air_report.specs.Cells.{differs, differing, left_of, cell_place, cell_label, label_text, ListsCells, IsListedPast}
+use Rattle.air_report.specs.Cells.{differs, differing_cells, left_of, cell_place, cell_label, label_text, ListsCells, IsListedPast}
 use Rattle.air_report.specs.Report.{failure_place, IsReached}
 use Rattle.air_report.specs.laws.Debug.{enumerate_from-append}
 use Rattle.air_report.specs.declared.debug.failure.ConstraintFailure.{ConstraintFailure}
@@ -78,66 +78,66 @@ length-lists h count xs fs gs l =
     ap length l.failures ∙ (length-append fs l.more ∙ ap (λ n. length fs + n) (sym (length-map l.more failure_place) ∙ (ap length l.places ∙ length-map xs (cell_place h count))))
 
 module _ {F : Type 0} (r : CommRing F) (eq : F → F → Bool) (main : Grid F) (public : List F) where
-  differing-append : (xs ys : List BoundaryPublic) → differing r eq main public (xs ++ ys) ≡ differing r eq main public xs ++ filter (λ p. differs r eq main public p.1) (enumerate_from (length xs) ys)
+  differing-append : (xs ys : List BoundaryPublic) → differing_cells r eq main public (xs ++ ys) ≡ differing_cells r eq main public xs ++ filter (λ p. differs r eq main public p.1) (enumerate_from (length xs) ys)
   differing-append xs ys =
       let test : ℕ × BoundaryPublic → Bool = λ p. differs r eq main public p.1 in
       let e : 0 + length xs ≡ length xs = omega arith in
       ap (filter test) (enumerate_from-append 0 xs ys ∙ ap (λ n. enumerate_from 0 xs ++ enumerate_from n ys) e)
       ∙ filter-append test (enumerate_from 0 xs) (enumerate_from (length xs) ys)
 
-  differing-more : (cells : List BoundaryPublic) (i : ℕ) (d : BoundaryPublic) → i < length cells → differing r eq main public (take (i + 1) cells) ≡ differing r eq main public (take i cells) ++ cond (differs r eq main public (get_or cells i d)) ((i, get_or cells i d) ∷ []) []
+  differing-more : (cells : List BoundaryPublic) (i : ℕ) (d : BoundaryPublic) → i < length cells → differing_cells r eq main public (take (i + 1) cells) ≡ differing_cells r eq main public (take i cells) ++ cond (differs r eq main public (get_or cells i d)) ((i, get_or cells i d) ∷ []) []
   differing-more cells i d lt =
       let test : ℕ × BoundaryPublic → Bool = λ p. differs r eq main public p.1 in
       let e : length (take i cells) ≡ i = length-take i cells ∙ omega arith in
-      ap (differing r eq main public) (take_more cells i d lt)
+      ap (differing_cells r eq main public) (take_more cells i d lt)
       ∙ (differing-append (take i cells) (get_or cells i d ∷ [])
-      ∙ ap (λ n. differing r eq main public (take i cells) ++ filter test (enumerate_from n (get_or cells i d ∷ []))) e)
+      ∙ ap (λ n. differing_cells r eq main public (take i cells) ++ filter test (enumerate_from n (get_or cells i d ∷ []))) e)
 
   -- all of them, from the first i and the rest
-  differing-rest : (cells : List BoundaryPublic) (i : ℕ) → differing r eq main public cells ≡ differing r eq main public (take i cells) ++ filter (λ p. differs r eq main public p.1) (enumerate_from (length (take i cells)) (drop i cells))
-  differing-rest cells i = ap (differing r eq main public) (sym (take-append-drop i cells)) ∙ differing-append (take i cells) (drop i cells)
+  differing-rest : (cells : List BoundaryPublic) (i : ℕ) → differing_cells r eq main public cells ≡ differing_cells r eq main public (take i cells) ++ filter (λ p. differs r eq main public p.1) (enumerate_from (length (take i cells)) (drop i cells))
+  differing-rest cells i = ap (differing_cells r eq main public) (sym (take-append-drop i cells)) ∙ differing-append (take i cells) (drop i cells)
 
-  module _ (height count : ℕ) (cap : Option ℕ) (cells : List BoundaryPublic) (i : ℕ) (fs gs : List ConstraintFailure) (l : ListsCells height count (left_of cap (length fs) (differing r eq main public (take i cells))) fs gs) where
+  module _ (height count : ℕ) (cap : Option ℕ) (cells : List BoundaryPublic) (i : ℕ) (fs gs : List ConstraintFailure) (l : ListsCells height count (left_of cap (length fs) (differing_cells r eq main public (take i cells))) fs gs) where
     -- a cell that holds its value adds nothing
-    pub lists_same : (d : BoundaryPublic) → i < length cells → differs r eq main public (get_or cells i d) ≡ false → ListsCells height count (left_of cap (length fs) (differing r eq main public (take (i + 1) cells))) fs gs
+    pub lists_same : (d : BoundaryPublic) → i < length cells → differs r eq main public (get_or cells i d) ≡ false → ListsCells height count (left_of cap (length fs) (differing_cells r eq main public (take (i + 1) cells))) fs gs
     lists_same d lt e =
-        let same : differing r eq main public (take (i + 1) cells) ≡ differing r eq main public (take i cells) =
-        differing-more cells i d lt ∙ (ap (λ b. differing r eq main public (take i cells) ++ cond b ((i, get_or cells i d) ∷ []) []) e ∙ append-nil (differing r eq main public (take i cells))) in
+        let same : differing_cells r eq main public (take (i + 1) cells) ≡ differing_cells r eq main public (take i cells) =
+        differing-more cells i d lt ∙ (ap (λ b. differing_cells r eq main public (take i cells) ++ cond b ((i, get_or cells i d) ∷ []) []) e ∙ append-nil (differing_cells r eq main public (take i cells))) in
         subst (λ xs. ListsCells height count (left_of cap (length fs) xs) fs gs) (sym same) l
 
-    open_cap : (IsReached cap (length gs) → ⊥) → IsReached cap (length fs + length (left_of cap (length fs) (differing r eq main public (take i cells)))) → ⊥
+    open_cap : (IsReached cap (length gs) → ⊥) → IsReached cap (length fs + length (left_of cap (length fs) (differing_cells r eq main public (take i cells)))) → ⊥
     open_cap few h =
-        let e : length gs ≡ length fs + length (left_of cap (length fs) (differing r eq main public (take i cells))) = length-lists height count (left_of cap (length fs) (differing r eq main public (take i cells))) fs gs l in
+        let e : length gs ≡ length fs + length (left_of cap (length fs) (differing_cells r eq main public (take i cells))) = length-lists height count (left_of cap (length fs) (differing_cells r eq main public (take i cells))) fs gs l in
         few (subst (λ n. IsReached cap n) (sym e) h)
 
     -- a cell that differs is listed, where the cap isn't reached
-    pub lists_new : (d : BoundaryPublic) (f : ConstraintFailure) (hs : List ConstraintFailure) → i < length cells → differs r eq main public (get_or cells i d) ≡ true → (IsReached cap (length gs) → ⊥) → hs ≡ gs ++ f ∷ [] → failure_place f ≡ cell_place height count (i, get_or cells i d) → label_text f ≡ Some (cell_label (get_or cells i d)) → ListsCells height count (left_of cap (length fs) (differing r eq main public (take (i + 1) cells))) fs hs
+    pub lists_new : (d : BoundaryPublic) (f : ConstraintFailure) (hs : List ConstraintFailure) → i < length cells → differs r eq main public (get_or cells i d) ≡ true → (IsReached cap (length gs) → ⊥) → hs ≡ gs ++ f ∷ [] → failure_place f ≡ cell_place height count (i, get_or cells i d) → label_text f ≡ Some (cell_label (get_or cells i d)) → ListsCells height count (left_of cap (length fs) (differing_cells r eq main public (take (i + 1) cells))) fs hs
     lists_new d f hs lt e few push place label =
-        let before = differing r eq main public (take i cells) in
+        let before = differing_cells r eq main public (take i cells) in
         let cell : ℕ × BoundaryPublic = (i, get_or cells i d) in
-        let more : differing r eq main public (take (i + 1) cells) ≡ before ++ cell ∷ [] =
+        let more : differing_cells r eq main public (take (i + 1) cells) ≡ before ++ cell ∷ [] =
         differing-more cells i d lt ∙ ap (λ b. before ++ cond b (cell ∷ []) []) e in
         let all = ap (left_of cap (length fs)) more ∙ left_of-more cap (length fs) before cell (open_cap few) in
         subst (λ xs. ListsCells height count xs fs hs) (sym all) (lists_one height count (left_of cap (length fs) before) cell fs gs hs f l push place label)
 
     -- where the cap is reached, all are listed that it leaves
-    pub lists_full : IsReached cap (length gs) → ListsCells height count (left_of cap (length fs) (differing r eq main public cells)) fs gs
+    pub lists_full : IsReached cap (length gs) → ListsCells height count (left_of cap (length fs) (differing_cells r eq main public cells)) fs gs
     lists_full full =
-        let before = differing r eq main public (take i cells) in
+        let before = differing_cells r eq main public (take i cells) in
         let e : length gs ≡ length fs + length (left_of cap (length fs) before) = length-lists height count (left_of cap (length fs) before) fs gs l in
         let all = ap (left_of cap (length fs)) (differing-rest cells i) ∙ left_of-full cap (length fs) before _ (subst (λ n. IsReached cap n) e full) in
         subst (λ xs. ListsCells height count xs fs gs) (sym all) l
 
     -- a cell that differs is among those that are listed, where the cap isn't reached
-    pub listed_past : (d : BoundaryPublic) → i < length cells → differs r eq main public (get_or cells i d) ≡ true → (IsReached cap (length gs) → ⊥) → 2 ^ 64 ≤ count + i → IsListedPast count (left_of cap (length fs) (differing r eq main public cells))
+    pub listed_past : (d : BoundaryPublic) → i < length cells → differs r eq main public (get_or cells i d) ≡ true → (IsReached cap (length gs) → ⊥) → 2 ^ 64 ≤ count + i → IsListedPast count (left_of cap (length fs) (differing_cells r eq main public cells))
     listed_past d lt e few past =
-        let before = differing r eq main public (take i cells) in
+        let before = differing_cells r eq main public (take i cells) in
         let cell : ℕ × BoundaryPublic = (i, get_or cells i d) in
         let test : ℕ × BoundaryPublic → Bool = λ p. differs r eq main public p.1 in
         let after = filter test (enumerate_from (length (take (i + 1) cells)) (drop (i + 1) cells)) in
-        let more : differing r eq main public (take (i + 1) cells) ≡ before ++ cell ∷ [] =
+        let more : differing_cells r eq main public (take (i + 1) cells) ≡ before ++ cell ∷ [] =
         differing-more cells i d lt ∙ ap (λ b. before ++ cond b (cell ∷ []) []) e in
-        let all : differing r eq main public cells ≡ before ++ cell ∷ after =
+        let all : differing_cells r eq main public cells ≡ before ++ cell ∷ after =
         differing-rest cells (i + 1) ∙ (ap (λ xs. xs ++ after) more ∙ append_assoc before (cell ∷ []) after) in
         record {
           at = length before;

@@ -8,9 +8,9 @@ use Rattle.air_field.specs.Ring.{CommRing}
 use Rattle.air_core.specs.declared.boundary.BoundaryPublic.{BoundaryPublic}
 use Rattle.air_core.specs.declared.errors.AirError.{AirError}
 use Rattle.air_core.specs.declared.errors.AirError.TheVariants.{CountOverflow, Memory}
-use Rattle.air_report.specs.Cells.{differing, left_of, IsListedPast, CellsFit}
+use Rattle.air_report.specs.Cells.{differing_cells, left_of, IsListedPast, CellsFit}
 use Rattle.air_report.specs.Checks.{CheckRefuses, Fits, RowsRan}
-use Rattle.air_report.specs.Given.{Given, given_trace, height}
+use Rattle.air_report.specs.Instances.{Instance, instance_trace, row_count}
 use Rattle.air_report.specs.Report.{failure_place, report_of, count_shown}
 use Rattle.air_report.specs.Shapes.{ShapesFit, IsShapeFault, table_height}
 use Rattle.air_report.specs.declared.debug.failure.ConstraintFailure.{ConstraintFailure}
@@ -22,32 +22,32 @@ error_is result p Q h =
     rw (q.1, q.2) h
 
 -- the shapes that were looked at are the given ones
-module _ {F : Type 0} (g : Given F) {columns : List (Vec F Global)} {h : ℕ} {t : Option ℕ}
-    (same : columns ≡ g.declaration.periodic) (high : h ≡ height g) (table : t ≡ table_height g.declaration.preprocessed) where
-  pub given_fits : ShapesFit columns h t → Fits g
-  given_fits fits =
-      subst (λ cs. ShapesFit cs (height g) (table_height g.declaration.preprocessed)) same
-      (subst (λ n. ShapesFit columns n (table_height g.declaration.preprocessed)) high
+module _ {F : Type 0} (g : Instance F) {columns : List (Vec F Global)} {h : ℕ} {t : Option ℕ}
+    (same : columns ≡ g.air.periodic) (high : h ≡ row_count g) (table : t ≡ table_height g.air.preprocessed) where
+  pub instance_fits : ShapesFit columns h t → Fits g
+  instance_fits fits =
+      subst (λ cs. ShapesFit cs (row_count g) (table_height g.air.preprocessed)) same
+      (subst (λ n. ShapesFit columns n (table_height g.air.preprocessed)) high
       (subst (λ o. ShapesFit columns h o) table fits))
 
-  pub given_fault : (e : AirError) → IsShapeFault columns h t e
-      → IsShapeFault g.declaration.periodic (height g) (table_height g.declaration.preprocessed) e
-  given_fault e fault =
-      subst (λ cs. IsShapeFault cs (height g) (table_height g.declaration.preprocessed) e) same
-      (subst (λ n. IsShapeFault columns n (table_height g.declaration.preprocessed) e) high
+  pub instance_fault : (e : AirError) → IsShapeFault columns h t e
+      → IsShapeFault g.air.periodic (row_count g) (table_height g.air.preprocessed) e
+  instance_fault e fault =
+      subst (λ cs. IsShapeFault cs (row_count g) (table_height g.air.preprocessed) e) same
+      (subst (λ n. IsShapeFault columns n (table_height g.air.preprocessed) e) high
       (subst (λ o. IsShapeFault columns h o e) table fault))
 
 -- a list of cells that gave up
-pub cells_refused : {F : Type 0} (r : CommRing F) (eq : F → F → Bool) (g : Given F) (cap : Option ℕ) (shown : ℕ)
+pub cells_refused : {F : Type 0} (r : CommRing F) (eq : F → F → Bool) (g : Instance F) (cap : Option ℕ) (shown : ℕ)
     (fs : List ConstraintFailure) (count : ℕ) (cells : List BoundaryPublic) (e : AirError)
-    → Fits g → RowsRan r eq g cap shown → CellsFit g.main g.public g.declaration.cells
-    → map failure_place fs ≡ report_of r eq (given_trace g) g.declaration.declared shown
-    → count ≡ count_shown g.declaration.declared shown → cells ≡ g.declaration.cells
-    → (e ≡ Memory) ⊎ ((e ≡ CountOverflow) × IsListedPast count (left_of cap (length fs) (differing r eq g.main g.public cells)))
+    → Fits g → RowsRan r eq g cap shown → CellsFit g.main g.public g.air.cells
+    → map failure_place fs ≡ report_of r eq (instance_trace g) g.air.constraints shown
+    → count ≡ count_shown g.air.constraints shown → cells ≡ g.air.cells
+    → (e ≡ Memory) ⊎ ((e ≡ CountOverflow) × IsListedPast count (left_of cap (length fs) (differing_cells r eq g.main g.public cells)))
     → CheckRefuses r eq g cap e
 cells_refused r eq g cap shown fs count cells e fits ran fit places counted same (inl m) = inr (fits, inl (inl m))
 cells_refused r eq g cap shown fs count cells e fits ran fit places counted same (inr o) =
-    let len : length fs ≡ length (report_of r eq (given_trace g) g.declaration.declared shown) = sym (length-map fs failure_place) ∙ ap length places in
+    let len : length fs ≡ length (report_of r eq (instance_trace g) g.air.constraints shown) = sym (length-map fs failure_place) ∙ ap length places in
     inr (
       fits,
       inr (inr (
@@ -56,9 +56,9 @@ cells_refused r eq g cap shown fs count cells e fits ran fit places counted same
           shown = shown;
           ran = ran;
           cells = fit;
-          past = subst (λ n. IsListedPast n (left_of cap (length (report_of r eq (given_trace g) g.declaration.declared shown)) (differing r eq g.main g.public g.declaration.cells))) counted
-              (subst (λ n. IsListedPast count (left_of cap n (differing r eq g.main g.public g.declaration.cells))) len
-              (subst (λ cs. IsListedPast count (left_of cap (length fs) (differing r eq g.main g.public cs))) same o.1));
+          past = subst (λ n. IsListedPast n (left_of cap (length (report_of r eq (instance_trace g) g.air.constraints shown)) (differing_cells r eq g.main g.public g.air.cells))) counted
+              (subst (λ n. IsListedPast count (left_of cap n (differing_cells r eq g.main g.public g.air.cells))) len
+              (subst (λ cs. IsListedPast count (left_of cap (length fs) (differing_cells r eq g.main g.public cs))) same o.1));
         },
       )),
     )

@@ -6,23 +6,23 @@ use Rattle.air_field.specs.Ring.{CommRing}
 use Rattle.air_builder.specs.Assertion.{Assertion}
 use Rattle.air_report.specs.laws.Report.{report_of-more}
 use Rattle.air_core.specs.declared.boundary.BoundaryPublic.{BoundaryPublic}
-use Rattle.air_report.specs.Cells.{differing, left_of, ListsCells}
+use Rattle.air_report.specs.Cells.{differing_cells, left_of, ListsCells}
 use Rattle.air_report.specs.Checks.{CheckedRow, listed_cells}
-use Rattle.air_report.specs.Given.{Given, given_trace, height}
+use Rattle.air_report.specs.Instances.{Instance, instance_trace, row_count}
 use Rattle.air_report.specs.Report.{failure_place, report_of, count_shown, IsReached}
 use Rattle.air_report.specs.declared.debug.failure.ConstraintFailure.{ConstraintFailure}
 
-module _ {F : Type 0} (r : CommRing F) (eq : F → F → Bool) (g : Given F) where
+module _ {F : Type 0} (r : CommRing F) (eq : F → F → Bool) (g : Instance F) where
   -- what a checked row adds are its places
   pub checked_more : (row : ℕ) (fs gs : List ConstraintFailure) (count : ℕ) → CheckedRow r eq g row fs gs count
-      → map failure_place fs ≡ report_of r eq (given_trace g) g.declaration.declared row
-      → map failure_place gs ≡ report_of r eq (given_trace g) g.declaration.declared (row + 1)
+      → map failure_place fs ≡ report_of r eq (instance_trace g) g.air.constraints row
+      → map failure_place gs ≡ report_of r eq (instance_trace g) g.air.constraints (row + 1)
   checked_more row fs gs count checked places =
       ap (map failure_place) checked.failures
       ∙ (map-append failure_place fs checked.more
       ∙ (ap (λ l. l ++ map failure_place checked.more) places
-      ∙ (ap (λ l. report_of r eq (given_trace g) g.declaration.declared row ++ l) checked.places
-      ∙ sym (report_of-more r eq (given_trace g) g.declaration.declared row))))
+      ∙ (ap (λ l. report_of r eq (instance_trace g) g.air.constraints row ++ l) checked.places
+      ∙ sym (report_of-more r eq (instance_trace g) g.air.constraints row))))
 
 -- where a row ran, the count is that of the list
 pub count_shown-more : {F : Type 0} (ts : List (Assertion F)) (n : ℕ) → length ts ≡ count_shown ts (n + 1)
@@ -34,9 +34,9 @@ reached_later None n h = h
 reached_later (Some cap) n h = omega (arith, h)
 
 -- the cells that are listed after the failures of the rows
-pub listed_after : {F : Type 0} (r : CommRing F) (eq : F → F → Bool) (g : Given F) (cap : Option ℕ) (shown : ℕ) (fs gs : List ConstraintFailure) (count : ℕ) (cells : List BoundaryPublic) → map failure_place fs ≡ report_of r eq (given_trace g) g.declaration.declared shown → count ≡ count_shown g.declaration.declared shown → cells ≡ g.declaration.cells → ListsCells (height g) count (left_of cap (length fs) (differing r eq g.main g.public cells)) fs gs → ListsCells (height g) (count_shown g.declaration.declared shown) (listed_cells r eq g cap shown) fs gs
+pub listed_after : {F : Type 0} (r : CommRing F) (eq : F → F → Bool) (g : Instance F) (cap : Option ℕ) (shown : ℕ) (fs gs : List ConstraintFailure) (count : ℕ) (cells : List BoundaryPublic) → map failure_place fs ≡ report_of r eq (instance_trace g) g.air.constraints shown → count ≡ count_shown g.air.constraints shown → cells ≡ g.air.cells → ListsCells (row_count g) count (left_of cap (length fs) (differing_cells r eq g.main g.public cells)) fs gs → ListsCells (row_count g) (count_shown g.air.constraints shown) (listed_cells r eq g cap shown) fs gs
 listed_after r eq g cap shown fs gs count cells places counted same l =
-    let len : length fs ≡ length (report_of r eq (given_trace g) g.declaration.declared shown) = sym (length-map fs failure_place) ∙ ap length places in
-    subst (λ n. ListsCells (height g) n (listed_cells r eq g cap shown) fs gs) counted
-    (subst (λ n. ListsCells (height g) count (left_of cap n (differing r eq g.main g.public g.declaration.cells)) fs gs) len
-    (subst (λ cs. ListsCells (height g) count (left_of cap (length fs) (differing r eq g.main g.public cs)) fs gs) same l))
+    let len : length fs ≡ length (report_of r eq (instance_trace g) g.air.constraints shown) = sym (length-map fs failure_place) ∙ ap length places in
+    subst (λ n. ListsCells (row_count g) n (listed_cells r eq g cap shown) fs gs) counted
+    (subst (λ n. ListsCells (row_count g) count (left_of cap n (differing_cells r eq g.main g.public g.air.cells)) fs gs) len
+    (subst (λ cs. ListsCells (row_count g) count (left_of cap (length fs) (differing_cells r eq g.main g.public cs)) fs gs) same l))

@@ -15,7 +15,7 @@ use Rattle.air_core.specs.Periodic.{column_at, IsFirstEmpty, RefusesPeriodicRow}
 use Rattle.air_core.specs.declared.errors.AirError.{AirError}
 use Rattle.air_core.specs.declared.errors.AirError.TheVariants.{Memory, EmptyPeriodicColumn}
 use Rattle.air_report.specs.Checks.{CheckedRow, Fits, RowRefuses}
-use Rattle.air_report.specs.Given.{Given, given_trace, table_grid}
+use Rattle.air_report.specs.Instances.{Instance, instance_trace, table_grid}
 use Rattle.air_report.specs.Debug.{RowData, row_data, is_zero_at, nonzero_by, GrewAtRow}
 use Rattle.air_report.specs.DebugRow.{debug_row, row_selectors, IsRow, StandsAt}
 use Rattle.air_report.specs.RowRefusals.{RefusedAtRow, IsFull}
@@ -48,26 +48,26 @@ around_table None h i f = refl
 around_table (Some table) h i f = ap (λ n. row_or_none (slice_get table.rows ((i + 1) % n))) f
 
 -- a builder at a row of a trace that is checked
-module _ {F : Type 0} (g : Given F) {i : ℕ} {pair table : ViewPair F} {selected : Selectors F} {row : Row F}
+module _ {F : Type 0} (g : Instance F) {i : ℕ} {pair table : ViewPair F} {selected : Selectors F} {row : Row F}
     {periodic : Vec F Global} {fs : List ConstraintFailure} {b : DebugConstraintBuilder F F}
     (made : IsRow i pair table g.public selected row) (at : StandsAt row periodic fs b) where
   -- where it holds what stands at its row of the trace, it grows by what the check of the row adds
   pub checked_row : {r : CommRing F} {eq : F → F → Bool} {over : AlgebraOver F F} {e : RowData F F} {n : ℕ} {gs hs : List ConstraintFailure}
-      → over ≡ itself r → debug_row b ≡ record { row = i; values = row_at r (given_trace g) i; has_permutation = false; permutation = no_permutation } → hs ≡ gs
-      → GrewAtRow (is_zero_at r over eq eq) (debug_row b) e b.constraint_index n b.failures.items gs g.declaration.declared
+      → over ≡ itself r → debug_row b ≡ record { row = i; values = row_at r (instance_trace g) i; has_permutation = false; permutation = no_permutation } → hs ≡ gs
+      → GrewAtRow (is_zero_at r over eq eq) (debug_row b) e b.constraint_index n b.failures.items gs g.air.constraints
       → CheckedRow r eq g i fs hs n
   checked_row {r} {eq} {over} own there handed grew =
-      let places_of : RowData F F → ℕ → List (ℕ × ℕ) = λ d n. map (λ k. (d.row, k)) (nonzero_by (is_zero_at r over eq eq d) n g.declaration.declared) in
+      let places_of : RowData F F → ℕ → List (ℕ × ℕ) = λ d n. map (λ k. (d.row, k)) (nonzero_by (is_zero_at r over eq eq d) n g.air.constraints) in
       record {
         more = grew.more;
         failures = handed ∙ (grew.failures ∙ ap (λ l. l ++ grew.more) at.failures);
         places = grew.places
-            ∙ (ap₂ places_of there at.constraint_index ∙ ap (map (λ k. (i, k))) (own_nonzero r eq over own i (row_at r (given_trace g) i) 0 g.declaration.declared));
+            ∙ (ap₂ places_of there at.constraint_index ∙ ap (map (λ k. (i, k))) (own_nonzero r eq over own i (row_at r (instance_trace g) i) 0 g.air.constraints));
         constraints = omega (arith, grew.count, at.constraint_index);
       }
 
   -- the table that its preprocessed rows are of, and its periodic row
-  module _ {t : Option (Grid F)} (same : t ≡ g.declaration.preprocessed) (p : map Some periodic.items ≡ map (column_at i) g.declaration.periodic) where
+  module _ {t : Option (Grid F)} (same : t ≡ g.air.preprocessed) (p : map Some periodic.items ≡ map (column_at i) g.air.periodic) where
     holds : debug_row b ≡ row_data i pair.top.values.now pair.bottom.values.now
         table.top.values.now table.bottom.values.now periodic.items g.public selected.is_first_row selected.is_last_row selected.is_transition false no_permutation
     holds = rw (at.row, made.index, made.main, made.preprocessed, made.preprocessed_next, made.public_values, made.selectors, at.periodic_row, at.permutation, at.permutation_challenges, at.permutation_values)
@@ -78,48 +78,48 @@ module _ {F : Type 0} (g : Given F) {i : ℕ} {pair table : ViewPair F} {selecte
         → table.top.values.now ≡ row_or_none (slice_get (table_grid t).rows i)
         → table.bottom.values.now ≡ row_or_none (slice_get (table_grid t).rows ((i + 1) % length (table_grid t).rows))
         → selected ≡ row_selectors r i (length g.main.rows)
-        → debug_row b ≡ record { row = i; values = row_at r (given_trace g) i; has_permutation = false; permutation = no_permutation }
+        → debug_row b ≡ record { row = i; values = row_at r (instance_trace g) i; has_permutation = false; permutation = no_permutation }
     row_at-given r fits c n before after selectors =
-        let u : table.top.values.now ≡ row_or_none (slice_get (table_grid g.declaration.preprocessed).rows i) =
+        let u : table.top.values.now ≡ row_or_none (slice_get (table_grid g.air.preprocessed).rows i) =
         before ∙ ap (λ x. row_or_none (slice_get (table_grid x).rows i)) same in
-        let v : table.bottom.values.now ≡ row_or_none (slice_get (table_grid g.declaration.preprocessed).rows ((i + 1) % length g.main.rows)) =
+        let v : table.bottom.values.now ≡ row_or_none (slice_get (table_grid g.air.preprocessed).rows ((i + 1) % length g.main.rows)) =
         after ∙ (ap (λ x. row_or_none (slice_get (table_grid x).rows ((i + 1) % length (table_grid x).rows))) same
-        ∙ around_table g.declaration.preprocessed (length g.main.rows) i fits.table_fits) in
-        let q = periodic_is r.zero i periodic.items g.declaration.periodic p in
+        ∙ around_table g.air.preprocessed (length g.main.rows) i fits.table_fits) in
+        let q = periodic_is r.zero i periodic.items g.air.periodic p in
         let k = not_selector r (i + 1 == length g.main.rows) in
         holds ∙ rw (c, n, u, v, q, selectors, k)
 
     -- it has what the trace has
     pub shape-given : length pair.top.values.now ≡ g.main.width → length table.top.values.now ≡ (table_grid t).width
-        → one_row_shape (debug_row b).values (debug_row b).permutation ≡ trace_shape (given_trace g)
+        → one_row_shape (debug_row b).values (debug_row b).permutation ≡ trace_shape (instance_trace g)
     shape-given c w =
-        let u : length table.top.values.now ≡ (table_grid g.declaration.preprocessed).width = w ∙ ap (λ x. (table_grid x).width) same in
-        let n : length periodic.items ≡ length (map (λ column. column.items) g.declaration.periodic) =
-        sym (length-map periodic.items Some) ∙ (ap length p ∙ (length-map g.declaration.periodic (column_at i) ∙ sym (length-map g.declaration.periodic (λ column. column.items)))) in
+        let u : length table.top.values.now ≡ (table_grid g.air.preprocessed).width = w ∙ ap (λ x. (table_grid x).width) same in
+        let n : length periodic.items ≡ length (map (λ column. column.items) g.air.periodic) =
+        sym (length-map periodic.items Some) ∙ (ap length p ∙ (length-map g.air.periodic (column_at i) ∙ sym (length-map g.air.periodic (λ column. column.items)))) in
         ap (λ d. one_row_shape d.values d.permutation) holds ∙ rw (c, u, n)
 
     -- so it refuses what the check of the row does
     pub row_refusal : length pair.top.values.now ≡ g.main.width → length table.top.values.now ≡ (table_grid t).width
         → {zero : RowData F F → Assertion F → Bool} (e : AirError)
-        → (e ≡ Memory) ⊎ RefusedAtRow zero (debug_row b) b.constraint_index e g.declaration.declared → RowRefuses g e
+        → (e ≡ Memory) ⊎ RefusedAtRow zero (debug_row b) b.constraint_index e g.air.constraints → RowRefuses g e
     row_refusal c w e h =
-        subst (λ n. Refused (IsMissing (trace_shape (given_trace g))) (λ _. ⊥) (IsFull n) e g.declaration.declared) at.constraint_index
-        (subst (λ s. Refused (IsMissing s) (λ _. ⊥) (IsFull b.constraint_index) e g.declaration.declared) (shape-given c w) (refused_anyway e h))
+        subst (λ n. Refused (IsMissing (trace_shape (instance_trace g))) (λ _. ⊥) (IsFull n) e g.air.constraints) at.constraint_index
+        (subst (λ s. Refused (IsMissing s) (λ _. ⊥) (IsFull b.constraint_index) e g.air.constraints) (shape-given c w) (refused_anyway e h))
 
 no_empty_power : (k : ℕ) → 0 ≡ 2 ^ k → ⊥
 no_empty_power zero e = omega (arith, e)
 no_empty_power (suc k) e = no_empty_power k (omega (arith, pow-suc 2 k, e))
 
-none_empty : {F : Type 0} (g : Given F) (columns : List (Vec F Global)) → columns ≡ g.declaration.periodic → Fits g → (index : ℕ) → IsFirstEmpty columns index → ⊥
+none_empty : {F : Type 0} (g : Instance F) (columns : List (Vec F Global)) → columns ≡ g.air.periodic → Fits g → (index : ℕ) → IsFirstEmpty columns index → ⊥
 none_empty g [] e f index h = omega (arith, h.within)
 none_empty g (c ∷ cs) e f index h =
-    let lt : index < length g.declaration.periodic = subst (λ l. index < length l) e h.within in
+    let lt : index < length g.air.periodic = subst (λ l. index < length l) e h.within in
     let fit = f.periods_fit index c lt in
-    let zero_long : length (slice_index_or g.declaration.periodic index c).items ≡ 0 = subst (λ l. length (slice_index_or l index c).items ≡ 0) e (h.is_empty c) in
+    let zero_long : length (slice_index_or g.air.periodic index c).items ≡ 0 = subst (λ l. length (slice_index_or l index c).items ≡ 0) e (h.is_empty c) in
     no_empty_power fit.0.0 (sym zero_long ∙ fit.0.1)
 
 -- columns that fit aren't empty, so that a row of them is refused for want of memory alone
-pub periodic_refusal : {F : Type 0} (g : Given F) (e : AirError) → Fits g → RefusesPeriodicRow g.declaration.periodic e → RowRefuses g e
+pub periodic_refusal : {F : Type 0} (g : Instance F) (e : AirError) → Fits g → RefusesPeriodicRow g.air.periodic e → RowRefuses g e
 periodic_refusal g Memory f h = tt
-periodic_refusal g (EmptyPeriodicColumn index) f h = absurd (none_empty g g.declaration.periodic refl f index h)
+periodic_refusal g (EmptyPeriodicColumn index) f h = absurd (none_empty g g.air.periodic refl f index h)
 periodic_refusal g _ f h = absurd h

@@ -24,8 +24,8 @@ abbrev pub differs : {F : Type 0} → CommRing F → (F → F → Bool) → Grid
 differs r eq main public cell = not (eq (cell_value r.zero main cell) (slice_index_or public cell.public_value r.zero))
 
 -- the differing cells, each with its place in the list
-abbrev pub differing : {F : Type 0} → CommRing F → (F → F → Bool) → Grid F → List F → List BoundaryPublic → List (ℕ × BoundaryPublic)
-differing r eq main public cells = filter (λ p. differs r eq main public p.1) (enumerate_from 0 cells)
+abbrev pub differing_cells : {F : Type 0} → CommRing F → (F → F → Bool) → Grid F → List F → List BoundaryPublic → List (ℕ × BoundaryPublic)
+differing_cells r eq main public cells = filter (λ p. differs r eq main public p.1) (enumerate_from 0 cells)
 
 -- as many as a cap leaves after n failures
 abbrev pub left_of : {X : Type 0} → Option ℕ → ℕ → List X → List X

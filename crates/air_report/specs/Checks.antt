@@ -7,10 +7,10 @@ use Rattle.air_builder.specs.Refusals.{NoneMissing}
 use Rattle.air_core.specs.declared.boundary.BoundaryPublic.{BoundaryPublic}
 use Rattle.air_core.specs.declared.errors.AirError.{AirError}
 use Rattle.air_core.specs.declared.errors.AirError.TheVariants.{CountOverflow, Memory}
-use Rattle.air_report.specs.Cells.{differing, left_of, ListsCells, IsListedPast, CellsFit, IsCellFault, AgreeBelow, IsFirstDiffering}
+use Rattle.air_report.specs.Cells.{differing_cells, left_of, ListsCells, IsListedPast, CellsFit, IsCellFault, AgreeBelow, IsFirstDiffering}
 use Rattle.air_report.specs.Debug.{nonzero_from}
 use Rattle.air_report.specs.RowRefusals.{IsFull}
-use Rattle.air_report.specs.Given.{Given, given_trace, height}
+use Rattle.air_report.specs.Instances.{Instance, instance_trace, row_count}
 use Rattle.air_builder.specs.Refused.{Refused}
 use Rattle.air_report.specs.Report.{failure_place, report_of, IsReached, IsRowsShown, count_shown}
 use Rattle.air_report.specs.Shapes.{ShapesFit, IsShapeFault, table_height}
@@ -20,114 +20,114 @@ use Rattle.air_report.specs.declared.debug.failure.ConstraintFailure.{Constraint
 use Rattle.air_report.specs.declared.checks.report.ConstraintReport.{ConstraintReport}
 
 -- the trace has each entry that a declared term names
-abbrev pub HasEntries : {F : Type 0} → Given F → Type 0
-HasEntries g = NoneMissing (IsMissing (trace_shape (given_trace g))) g.declaration.declared
+abbrev pub HasEntries : {F : Type 0} → Instance F → Type 0
+HasEntries g = NoneMissing (IsMissing (trace_shape (instance_trace g))) g.air.constraints
 
 -- The failures got the places of one row at which a term isn't zero, in order; the row has so many constraints.
-pub record CheckedRow {F : Type 0} (r : CommRing F) (eq : F → F → Bool) (g : Given F) (row : ℕ) (fs gs : List ConstraintFailure) (count : ℕ) : Type 0 where
+pub record CheckedRow {F : Type 0} (r : CommRing F) (eq : F → F → Bool) (g : Instance F) (row : ℕ) (fs gs : List ConstraintFailure) (count : ℕ) : Type 0 where
   pub more : List ConstraintFailure
   pub failures : gs ≡ fs ++ more
-  pub places : map failure_place more ≡ map (λ k. (row, k)) (nonzero_from r eq (row_assignment r (given_trace g) row) 0 g.declaration.declared)
-  pub constraints : count ≡ length g.declaration.declared
+  pub places : map failure_place more ≡ map (λ k. (row, k)) (nonzero_from r eq (row_assignment r (instance_trace g) row) 0 g.air.constraints)
+  pub constraints : count ≡ length g.air.constraints
 
 -- The rows that a cap shows; where there is one, the trace has the entries.
-pub record RowsRan {F : Type 0} (r : CommRing F) (eq : F → F → Bool) (g : Given F) (cap : Option ℕ) (shown : ℕ) : Type 0 where
-  pub rows : IsRowsShown r eq (given_trace g) g.declaration.declared cap (height g) shown
+pub record RowsRan {F : Type 0} (r : CommRing F) (eq : F → F → Bool) (g : Instance F) (cap : Option ℕ) (shown : ℕ) : Type 0 where
+  pub rows : IsRowsShown r eq (instance_trace g) g.air.constraints cap (row_count g) shown
   pub there : 0 < shown → HasEntries g
 
 -- The failures are the nonzero pairs of the rows that the cap shows.
-pub record CheckedRows {F : Type 0} (r : CommRing F) (eq : F → F → Bool) (g : Given F) (cap : Option ℕ) (fs : List ConstraintFailure) (count : ℕ) : Type 0 where
+pub record CheckedRows {F : Type 0} (r : CommRing F) (eq : F → F → Bool) (g : Instance F) (cap : Option ℕ) (fs : List ConstraintFailure) (count : ℕ) : Type 0 where
   pub shown : ℕ
   pub ran : RowsRan r eq g cap shown
-  pub places : map failure_place fs ≡ report_of r eq (given_trace g) g.declaration.declared shown
-  pub counted : count ≡ count_shown g.declaration.declared shown
+  pub places : map failure_place fs ≡ report_of r eq (instance_trace g) g.air.constraints shown
+  pub counted : count ≡ count_shown g.air.constraints shown
 
 -- the shapes of what the check is given fit
-abbrev pub Fits : {F : Type 0} → Given F → Type 0
-Fits g = ShapesFit g.declaration.periodic (height g) (table_height g.declaration.preprocessed)
+abbrev pub Fits : {F : Type 0} → Instance F → Type 0
+Fits g = ShapesFit g.air.periodic (row_count g) (table_height g.air.preprocessed)
 
 -- the differing cells that a cap lists after the first n rows
-abbrev pub listed_cells : {F : Type 0} → CommRing F → (F → F → Bool) → Given F → Option ℕ → ℕ → List (ℕ × BoundaryPublic)
-listed_cells r eq g cap n = left_of cap (length (report_of r eq (given_trace g) g.declaration.declared n)) (differing r eq g.main g.public g.declaration.cells)
+abbrev pub listed_cells : {F : Type 0} → CommRing F → (F → F → Bool) → Instance F → Option ℕ → ℕ → List (ℕ × BoundaryPublic)
+listed_cells r eq g cap n = left_of cap (length (report_of r eq (instance_trace g) g.air.constraints n)) (differing_cells r eq g.main g.public g.air.cells)
 
 -- The report of a check under a cap: the nonzero pairs of the rows that the cap shows, and then the differing cells, as
 -- many as the cap leaves. The shapes and the cells fit.
-pub record IsReport {F : Type 0} (r : CommRing F) (eq : F → F → Bool) (g : Given F) (cap : Option ℕ) (report : ConstraintReport) : Type 0 where
+pub record IsReport {F : Type 0} (r : CommRing F) (eq : F → F → Bool) (g : Instance F) (cap : Option ℕ) (report : ConstraintReport) : Type 0 where
   pub shapes : Fits g
   pub shown : ℕ
   pub ran : RowsRan r eq g cap shown
-  pub cells : CellsFit g.main g.public g.declaration.cells
+  pub cells : CellsFit g.main g.public g.air.cells
   pub of_rows : List ConstraintFailure
-  pub places : map failure_place of_rows ≡ report_of r eq (given_trace g) g.declaration.declared shown
-  pub lists : ListsCells (height g) (count_shown g.declaration.declared shown) (listed_cells r eq g cap shown) of_rows report.failures.items
-  pub rows : report.total_rows ≡ height g
-  pub count : report.total_constraints_per_row ≡ count_shown g.declaration.declared shown
+  pub places : map failure_place of_rows ≡ report_of r eq (instance_trace g) g.air.constraints shown
+  pub lists : ListsCells (row_count g) (count_shown g.air.constraints shown) (listed_cells r eq g cap shown) of_rows report.failures.items
+  pub rows : report.total_rows ≡ row_count g
+  pub count : report.total_constraints_per_row ≡ count_shown g.air.constraints shown
 
 -- a row refuses for want of memory, a term that names a missing entry, or a count that passes `usize`
-abbrev pub RowRefuses : {F : Type 0} → Given F → AirError → Type 0
-RowRefuses g e = Refused (IsMissing (trace_shape (given_trace g))) (λ _. ⊥) (IsFull 0) e g.declaration.declared
+abbrev pub RowRefuses : {F : Type 0} → Instance F → AirError → Type 0
+RowRefuses g e = Refused (IsMissing (trace_shape (instance_trace g))) (λ _. ⊥) (IsFull 0) e g.air.constraints
 
 -- a row runs: the trace has rows, and the cap isn't reached before the first
 abbrev pub RowRuns : Option ℕ → ℕ → Type 0
 RowRuns cap h = (0 < h) × (IsReached cap 0 → ⊥)
 
 -- Rows refuse only where one runs; memory may be wanting all the same.
-abbrev pub RowsRefuse : {F : Type 0} → Option ℕ → Given F → AirError → Type 0
-RowsRefuse cap g e = (e ≡ Memory) ⊎ (RowRuns cap (height g) × RowRefuses g e)
+abbrev pub RowsRefuse : {F : Type 0} → Option ℕ → Instance F → AirError → Type 0
+RowsRefuse cap g e = (e ≡ Memory) ⊎ (RowRuns cap (row_count g) × RowRefuses g e)
 
 -- the rows ran, the cells fit, and a listed cell's place passes `usize`
-pub record IsCellPastCount {F : Type 0} (r : CommRing F) (eq : F → F → Bool) (g : Given F) (cap : Option ℕ) : Type 0 where
+pub record IsCellPastCount {F : Type 0} (r : CommRing F) (eq : F → F → Bool) (g : Instance F) (cap : Option ℕ) : Type 0 where
   pub shown : ℕ
   pub ran : RowsRan r eq g cap shown
-  pub cells : CellsFit g.main g.public g.declaration.cells
-  pub past : IsListedPast (count_shown g.declaration.declared shown) (listed_cells r eq g cap shown)
+  pub cells : CellsFit g.main g.public g.air.cells
+  pub past : IsListedPast (count_shown g.air.constraints shown) (listed_cells r eq g cap shown)
 
 -- the rows ran, and then the cells had this fault
-abbrev pub RefusesCells : {F : Type 0} → CommRing F → (F → F → Bool) → Given F → Option ℕ → AirError → Type 0
-RefusesCells r eq g cap e = (shown : ℕ) × RowsRan r eq g cap shown × IsCellFault g.main g.public g.declaration.cells e
+abbrev pub RefusesCells : {F : Type 0} → CommRing F → (F → F → Bool) → Instance F → Option ℕ → AirError → Type 0
+RefusesCells r eq g cap e = (shown : ℕ) × RowsRan r eq g cap shown × IsCellFault g.main g.public g.air.cells e
 
 -- A check of a whole trace refuses the first shape that doesn't fit; then what its rows refuse, where one runs; then the first cell that
 -- doesn't fit; then a listed cell whose place passes `usize`. Want of memory comes after the shapes.
-abbrev pub CheckRefuses : {F : Type 0} → CommRing F → (F → F → Bool) → Given F → Option ℕ → AirError → Type 0
-CheckRefuses r eq g cap e = IsShapeFault g.declaration.periodic (height g) (table_height g.declaration.preprocessed) e
+abbrev pub CheckRefuses : {F : Type 0} → CommRing F → (F → F → Bool) → Instance F → Option ℕ → AirError → Type 0
+CheckRefuses r eq g cap e = IsShapeFault g.air.periodic (row_count g) (table_height g.air.preprocessed) e
     ⊎ (Fits g × (RowsRefuse cap g e ⊎ (RefusesCells r eq g cap e ⊎ ((e ≡ CountOverflow) × IsCellPastCount r eq g cap))))
 
 -- each cell fits and holds its public value
-pub record CellsAgree {F : Type 0} (r : CommRing F) (eq : F → F → Bool) (g : Given F) : Type 0 where
-  pub fit : CellsFit g.main g.public g.declaration.cells
-  pub agree : AgreeBelow r eq g.main g.public g.declaration.cells (length g.declaration.cells)
+pub record CellsAgree {F : Type 0} (r : CommRing F) (eq : F → F → Bool) (g : Instance F) : Type 0 where
+  pub fit : CellsFit g.main g.public g.air.cells
+  pub agree : AgreeBelow r eq g.main g.public g.air.cells (length g.air.cells)
 
 -- The trace satisfies the constraints: no cell differs, and no pair of row and place is nonzero.
-pub record IsSatisfied {F : Type 0} (r : CommRing F) (eq : F → F → Bool) (g : Given F) : Type 0 where
+pub record IsSatisfied {F : Type 0} (r : CommRing F) (eq : F → F → Bool) (g : Instance F) : Type 0 where
   pub shapes : Fits g
   pub cells : CellsAgree r eq g
-  pub none : report_of r eq (given_trace g) g.declaration.declared (height g) ≡ []
-  pub there : 0 < height g → HasEntries g
+  pub none : report_of r eq (instance_trace g) g.air.constraints (row_count g) ≡ []
+  pub there : 0 < row_count g → HasEntries g
 
 -- The first differing cell, and its row.
-pub record IsMismatch {F : Type 0} (r : CommRing F) (eq : F → F → Bool) (g : Given F) (row index : ℕ) : Type 0 where
+pub record IsMismatch {F : Type 0} (r : CommRing F) (eq : F → F → Bool) (g : Instance F) (row index : ℕ) : Type 0 where
   pub shapes : Fits g
-  pub cells : CellsFit g.main g.public g.declaration.cells
-  pub first : IsFirstDiffering r eq g.main g.public g.declaration.cells index
-  pub row_is : HoldsAt (λ cell. row ≡ row_of cell.end (height g)) g.declaration.cells index
+  pub cells : CellsFit g.main g.public g.air.cells
+  pub first : IsFirstDiffering r eq g.main g.public g.air.cells index
+  pub row_is : HoldsAt (λ cell. row ≡ row_of cell.end (row_count g)) g.air.cells index
 
 -- No cell differs; this is the least row with a nonzero pair, and these are all of its pairs. The trace has the entries.
-pub record IsFailedRow {F : Type 0} (r : CommRing F) (eq : F → F → Bool) (g : Given F) (row : ℕ) (fs : List ConstraintFailure) : Type 0 where
+pub record IsFailedRow {F : Type 0} (r : CommRing F) (eq : F → F → Bool) (g : Instance F) (row : ℕ) (fs : List ConstraintFailure) : Type 0 where
   pub shapes : Fits g
   pub cells : CellsAgree r eq g
-  pub within : row < height g
-  pub before : report_of r eq (given_trace g) g.declaration.declared row ≡ []
-  pub places : map failure_place fs ≡ report_of r eq (given_trace g) g.declaration.declared (row + 1)
+  pub within : row < row_count g
+  pub before : report_of r eq (instance_trace g) g.air.constraints row ≡ []
+  pub places : map failure_place fs ≡ report_of r eq (instance_trace g) g.air.constraints (row + 1)
   pub some : fs ≢ []
   pub there : HasEntries g
 
 -- The shapes are looked at first, then the cells are validated and compared, and then rows run.
-abbrev pub FirstCheckRefuses : {F : Type 0} → CommRing F → (F → F → Bool) → Given F → AirError → Type 0
-FirstCheckRefuses r eq g e = IsShapeFault g.declaration.periodic (height g) (table_height g.declaration.preprocessed) e
-    ⊎ (Fits g × (IsCellFault g.main g.public g.declaration.cells e ⊎ (CellsAgree r eq g × RowsRefuse None g e)))
+abbrev pub FirstCheckRefuses : {F : Type 0} → CommRing F → (F → F → Bool) → Instance F → AirError → Type 0
+FirstCheckRefuses r eq g e = IsShapeFault g.air.periodic (row_count g) (table_height g.air.preprocessed) e
+    ⊎ (Fits g × (IsCellFault g.main g.public g.air.cells e ⊎ (CellsAgree r eq g × RowsRefuse None g e)))
 
 -- what a check up to the first fault answers where it isn't Ok
-abbrev pub IsFirstError : {F : Type 0} → CommRing F → (F → F → Bool) → Given F → CheckError → Type 0
+abbrev pub IsFirstError : {F : Type 0} → CommRing F → (F → F → Bool) → Instance F → CheckError → Type 0
 IsFirstError r eq g (BoundaryMismatch row index) = IsMismatch r eq g row index
 IsFirstError r eq g (RowFailed row failures) = IsFailedRow r eq g row failures.items
 IsFirstError r eq g (NotChecked e) = FirstCheckRefuses r eq g e

@@ -7,7 +7,7 @@ pub use Rattle.air_field.specs.OneRow
 pub use Rattle.air_builder.specs.Assertion
 pub use Rattle.air_builder.specs.Builders
 pub mod Report
-pub mod Given
+pub mod Instances
 pub mod Shapes
 pub mod Cells
 pub mod Debug

@@ -76,7 +76,7 @@ module _ {U A F : Type 0} (r : CommRing F) (eq : F → F → Bool) (reads : U �
   -- the steps of a sum and of a product, over what lies under later on
   module _ (s q : Pool U A) (u : U) (pool : IsPool reads s) (g : Grown grows reads s q) (later : grows q.base u) (x y : ℕ) (b : x < length s.nodes) (c : y < length s.nodes) where
     now : Keeps (reads s.base) (reads u)
-    now = Keeps-trans (reads s.base) (reads q.base) (reads u) (laws.keeps s.base q.base g.under) (laws.keeps q.base u later)
+    now = Keeps-trans (reads s.base) (reads q.base) (reads u) (laws.keeps s.base q.base g.base) (laws.keeps q.base u later)
 
     constant-later : (i : ℕ) → i < length s.nodes → tree_constant (reads u).constant (tree_at s i) ≡ constant_at reads s i
     constant-later i h = tree_constant-kept (reads s.base) (reads u) now (tree_at s i) (tree_of-valid (reads s.base) s.nodes pool.nodes i h)
@@ -144,7 +144,7 @@ module _ {U A F : Type 0} (r : CommRing F) (eq : F → F → Bool) (reads : U �
     grown = Grown-trans r reads grows empty laws p s q h.grown g;
     total_in = here;
     left_in = λ k d lt. h.left_in (suc k) d (omega arith);
-    leads = λ v u later rest. h.leads v u (laws.joined s.base q.base u g.under later) (step v u (map (tree_at p) left) later rest);
+    leads = λ v u later rest. h.leads v u (laws.joined s.base q.base u g.base later) (step v u (map (tree_at p) left) later rest);
   }
 
   -- the trees of a list's elements, which are of the pool p, stay in s
@@ -183,7 +183,7 @@ module _ {U A F : Type 0} (r : CommRing F) (eq : F → F → Bool) (reads : U �
     pub overflow_told : {Goal : Unit {0} → U → Type 0} → NeedsNode reads r eq s total x × (2 ^ 64 ≤ degree_by cached_weight (term_at reads s total) + degree_by cached_weight (term_at reads s x)) → IsJoining reads grows (OverflowRest r eq reads) Goal p s total (x ∷ left) → Goal tt q.base
     overflow_told o h =
         let b : x < length p.nodes = h.left_in 0 x (omega arith) in
-        h.leads tt q.base g.under
+        h.leads tt q.base g.base
         (inl (subst (λ t. Overflows r eq (reads q.base) (tree_at s total) t) (element-stays p s x h.grown b)
         (overflows-later s q q.base (h.grown.pool pool) g (laws.same q.base) total x h.total_in (here-kept r reads grows empty laws p s x h.grown b) o.0 o.1)))
 

@@ -64,7 +64,7 @@ module _ {U A F : Type 0} (r : CommRing F) (eq : F → F → Bool) (decides : (x
   terms-kept [] h = refl
   terms-kept (x ∷ xs) h =
       ap₂ (λ (t : Term F) ts. t ∷ ts)
-      (term_of-kept (reads p.base) (reads q.base) (laws.keeps p.base q.base g.under) (tree_at p x) (tree_of-valid (reads p.base) p.nodes pool.nodes x (h 0 x (omega arith))))
+      (term_of-kept (reads p.base) (reads q.base) (laws.keeps p.base q.base g.base) (tree_at p x) (tree_of-valid (reads p.base) p.nodes pool.nodes x (h 0 x (omega arith))))
       (terms-kept xs (λ k d lt. h (suc k) d (omega arith)))
 
   pub IsSumOfAll-simplifies : (xs : List ℕ) → All (λ i. i < length p.nodes) xs → (z : ℕ) → IsSumOfAll reads r eq p q xs z → Simplifies r (term_at reads q z) (join_terms add_term r.zero (map (term_at reads p) xs))

@@ -164,7 +164,7 @@ module _ {U A F E : Type 0} {r : CommRing F} {reads : U → Leaves A F} {grows :
       (λ z m. record { here = m.0; tree = subst (λ g. IsSimplified (reads q.base) (tree_at p x) (tree_at p y) (node (tree_at p x) (tree_at p y)) g (tree_at q z)) (sym is) m.1 }) h in (
         made,
         IfOk-weaker answer _ _
-            (λ z m. operation-simplifies r (reads p.base) (reads q.base) (laws.constant_is p.base) (laws.keeps p.base q.base grown.under) o (tree_at p x) (tree_at p y) (whole_at x x_in) (whole_at y y_in) (tree_at q z) m.tree)
+            (λ z m. operation-simplifies r (reads p.base) (reads q.base) (laws.constant_is p.base) (laws.keeps p.base q.base grown.base) o (tree_at p x) (tree_at p y) (whole_at x x_in) (whole_at y y_in) (tree_at q z) m.tree)
             made,
       )
 

@@ -139,7 +139,7 @@ module _ {F EF : Type 0} (l : Leaves (ExtLeaf F EF) F) (p : ExtNodes F EF) (r : 
         (⊎_elim
         (λ (b : j < k).
         let h : LoweredAt s table j = made j b m in
-        (h.0, get_or_append_left table (y ∷ []) None j (omega (arith, b, places)) ∙ h.1, moved j (omega (arith, b, lt, reach.places, ap length first)) h.0 (HasTree-kept r s.base t.base h.0 (lowered s.base (tree_at s j)) g.under h.2)))
+        (h.0, get_or_append_left table (y ∷ []) None j (omega (arith, b, places)) ∙ h.1, moved j (omega (arith, b, lt, reach.places, ap length first)) h.0 (HasTree-kept r s.base t.base h.0 (lowered s.base (tree_at s j)) g.base h.2)))
         (λ (b : j ≡ k).
         let at : o ≡ Some j = e ∙ get_or_default marks k o None lt ∙ subst (λ i. get_or marks i None ≡ Some j) b m in
         let h : IsLoweredIn s t j y = subst (λ w. IfSome w (λ i. IsLoweredIn s t i y)) at now in
@@ -153,7 +153,7 @@ module _ {F EF : Type 0} (l : Leaves (ExtLeaf F EF) F) (p : ExtNodes F EF) (r : 
         moved i here b h = record {
           here = h.here;
           tree = h.tree
-              ∙ sym (lowered-kept r s.base t.base g.under (tree_at s i) (tree_of-valid (ext_reads basis s.base) s.nodes pool.nodes i here))
+              ∙ sym (lowered-kept r s.base t.base g.base (tree_at s i) (tree_of-valid (ext_reads basis s.base) s.nodes pool.nodes i here))
               ∙ ap (λ (ns : List (SymbolicExpr (ExtLeaf F EF))). lowered t.base (tree_of ns i)) (sym same);
         }
 
@@ -165,5 +165,5 @@ lowered-at-first r basis p s table i b pool g same here h e =
       here = last.here;
       tree = last.tree
           ∙ ap (λ (ns : List (SymbolicExpr (ExtLeaf _ _))). lowered s.base (tree_of ns i)) same
-          ∙ lowered-kept r p.base s.base g.under (tree_at p i) (tree_of-valid (ext_reads basis p.base) p.nodes pool.nodes i here);
+          ∙ lowered-kept r p.base s.base g.base (tree_at p i) (tree_of-valid (ext_reads basis p.base) p.nodes pool.nodes i here);
     }

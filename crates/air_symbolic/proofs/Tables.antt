@@ -13,7 +13,7 @@ use Rattle.air_symbolic.specs.declared.pools.expr.SymbolicExpr.{SymbolicExpr}
 
 -- what the type keeps and what is owed of the base make the value a pool
 pub pool-seen : {U A F : Type 0} (reads : U → Leaves A F) (p : Pool U A) (u : U) (xs : List (SymbolicExpr A)) → record { base = u; nodes = xs } ≡ p → IsNodeList reads xs → FitsBase reads p → IsPool reads p
-pool-seen reads p u xs e kept fits = fits kept.under (subst (λ (q : Pool _ _). IsPool reads (on_base q kept.under)) e kept.pool)
+pool-seen reads p u xs e kept fits = fits kept.base (subst (λ (q : Pool _ _). IsPool reads (on_base q kept.base)) e kept.pool)
 
 -- the node read of the table is the pool's node of that number
 pub IsNode-seen : {U A F : Type 0} (l : Leaves A F) (p : Pool U A) (u : U) (xs : List (SymbolicExpr A)) (i : ℕ) (n : SymbolicExpr A) → record { base = u; nodes = xs } ≡ p → WellFormed l p.nodes → slice_get xs i ≡ Some n → IsNode l p.nodes i n
@@ -30,7 +30,7 @@ module _ {U A F : Type 0} {r : CommRing F} {reads : U → Leaves A F} {grows : U
 
   -- so the type keeps the list
   pub list-pushed : (ys : List (SymbolicExpr A)) (n : SymbolicExpr A) → ys ≡ xs ++ n ∷ [] → NodeFits (reads p.base) p.nodes n → ((i : ℕ) → slice_get xs i ≢ Some n) → IsPool reads p → IsNodeList reads ys
-  list-pushed ys n pushed fits absent pool = record { under = u; pool = (Grown-push-seen ys n pushed fits absent).pool pool }
+  list-pushed ys n pushed fits absent pool = record { base = u; pool = (Grown-push-seen ys n pushed fits absent).pool pool }
 
   -- its number has its tree
   pub tree-pushed : (ys : List (SymbolicExpr A)) (n : SymbolicExpr A) (i : ℕ) → ys ≡ xs ++ n ∷ [] → i ≡ length xs → HasTree {U = U} (record { base = u; nodes = ys }) (unfold_node (tree_of p.nodes) n) i

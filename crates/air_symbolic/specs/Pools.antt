@@ -23,13 +23,13 @@ on_base p u = record { base = u; nodes = p.nodes }
 
 -- What lies under the pool is sound, each node fits those before it, and none is there twice.
 pub record IsPool {U A F : Type 0} (reads : U → Leaves A F) (p : Pool U A) : Type 0 where
-  pub under : (reads p.base).sound
+  pub base : (reads p.base).sound
   pub nodes : WellFormed (reads p.base) p.nodes
 
 -- What the type of a pool keeps: over some base its nodes are a pool's.
 pub record IsNodeList {U A F : Type 0} (reads : U → Leaves A F) (nodes : List (SymbolicExpr A)) : Type 0 where
-  pub under : U
-  pub pool : IsPool reads (record { base = under; nodes = nodes })
+  pub base : U
+  pub pool : IsPool reads (record { base = base; nodes = nodes })
 
 -- What is owed of a base that was lent: the nodes fit it, if they fit any. Nothing lies under a base pool, so there it
 -- holds by itself.
@@ -50,7 +50,7 @@ constant_at reads p i = tree_constant (reads p.base).constant (tree_of p.nodes i
 
 -- q is p with nothing lost: earlier numbers keep their trees
 pub record Grown {U A F : Type 0} (grows : U → U → Type 0) (reads : U → Leaves A F) (p q : Pool U A) : Type 0 where
-  pub under : grows p.base q.base
+  pub base : grows p.base q.base
   pub nodes : (more : List (SymbolicExpr A)) × (q.nodes ≡ p.nodes ++ more)
   pub pool : IsPool reads p → IsPool reads q
 

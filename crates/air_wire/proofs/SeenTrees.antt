@@ -73,7 +73,7 @@ module _ {U A S F : Type 0} (reads : U → Leaves A F) (grows : U → U → Type
   pub seen_kept : (p q : Pool U A) → IsPool reads p → Grown grows reads p q → (i : ℕ) → i < length p.nodes → seen_at seen q i ≡ seen_at seen p i
   seen_kept p q w g i h =
       ap (option_map (over (seen q.base))) (ap (λ l. tree_of l i) g.nodes.1 ∙ tree_of-kept p.nodes g.nodes.0 i h)
-      ∙ tree_kept p.base q.base g.under (tree_at p i) (tree_of-valid (reads p.base) p.nodes w.nodes i h)
+      ∙ tree_kept p.base q.base g.base (tree_at p i) (tree_of-valid (reads p.base) p.nodes w.nodes i h)
 
 -- a leaf that is read, and then put into the pool
 pub leaf_seen : {U A S : Type 0} (seen : U → A → S) (u v : U) (a : A) (o : Option (Tree A)) (read : Result S FlatError) → v ≡ u → o ≡ Some (leaf_tree a) → read ≡ Ok (seen u a) → as_some (read >>= λ s. Ok (leaf_tree s)) ≡ Ok (option_map (over (seen v)) o)

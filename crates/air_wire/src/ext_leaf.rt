@@ -116,14 +116,14 @@ fn at_place(at: usize, fault: FlatError) -> FlatError
 fn base_from<F: PrimeField64>(
     alloc: Global,
     at: usize,
-    under: &mut ExprPool<BaseLeaf<F>>,
+    base: &mut ExprPool<BaseLeaf<F>>,
     contents: &Value,
 ) -> Result<ExprId<BaseLeaf<F>>, FlatError>
-    ensures { ReadsTree base_grows base_reads tree_at under.old under.new result
+    ensures { ReadsTree base_grows base_reads tree_at base.old base.new result
         (faults_at at (root_of (base_kind F.residues) (view contents.now))) }
 {
-    under.nodes_fit();
-    match list_from(alloc, under, contents) {
+    base.nodes_fit();
+    match list_from(alloc, base, contents) {
         Ok(id) => Ok(id),
         Err(fault) => Err(at_place(at, fault)),
     }
@@ -133,19 +133,19 @@ fn base_from<F: PrimeField64>(
 fn ext_leaf_from<F: PrimeField64, EF: ExtensionField<F>>(
     alloc: Global,
     at: usize,
-    under: &mut ExprPool<BaseLeaf<F>>,
+    base: &mut ExprPool<BaseLeaf<F>>,
     value: &Value,
 ) -> Result<ExtLeaf<F, EF>, FlatError>
-    ensures grown { Grown base_grows base_reads under.old under.new }
-    ensures valid { IfOk result (λ a. ext_valid under.new a) }
-    ensures read { Gives (λ a. whole_leaf under.new a) result
+    ensures grown { Grown base_grows base_reads base.old base.new }
+    ensures valid { IfOk result (λ a. ext_valid base.new a) }
+    ensures read { Gives (λ a. whole_leaf base.new a) result
         (ext_leaf_at F.residues EF.over EF.DIMENSION at (view value.now)) }
 {
-    under.nodes_fit();
+    base.nodes_fit();
     let shape = FlatError::Shape { at };
     let (name, contents) = only_member(value).ok_or(shape)?;
     if name == "Base" {
-        Ok(ExtLeaf::Base(base_from(alloc, at, under, contents)?))
+        Ok(ExtLeaf::Base(base_from(alloc, at, base, contents)?))
     } else if name == "ExtVariable" {
         let variable = SymbolicVariableExt::read(contents).ok_or(shape)?;
         Ok(ExtLeaf::ExtVariable(variable))
@@ -191,17 +191,17 @@ fn variable_value<F: PrimeField64, EF: ExtensionField<F>>(
 
 fn ext_leaf_value<F: PrimeField64, EF: ExtensionField<F>>(
     alloc: Global,
-    under: &ExprPool<BaseLeaf<F>>,
+    base: &ExprPool<BaseLeaf<F>>,
     leaf: &ExtLeaf<F, EF>,
 ) -> Result<Value, FlatError>
-    requires valid { ext_valid under.now leaf.now }
+    requires valid { ext_valid base.now leaf.now }
     ensures written { IfOk result (λ v. WritesWhole F.residues EF.basis (view v)
-        (whole_leaf under.now leaf.now)) }
+        (whole_leaf base.now leaf.now)) }
     ensures refused { IfErr result (λ e. e ≡ FlatError.Memory) }
 {
     match leaf {
         ExtLeaf::Base(id) => {
-            let list = to_flat_value(alloc, under, *id)?;
+            let list = to_flat_value(alloc, base, *id)?;
             Ok(case_value(alloc, "Base", list)?)
         }
         ExtLeaf::ExtVariable(variable) => Ok(variable_value::<F, EF>(alloc, variable)?),
@@ -223,14 +223,14 @@ impl<F: PrimeField64, EF: ExtensionField<F>> WireLeaf for ExtLeaf<F, EF> {
     fn leaf_from_value(
         alloc: Global,
         at: usize,
-        under: &mut ExprPool<BaseLeaf<F>>,
+        base: &mut ExprPool<BaseLeaf<F>>,
         value: &Value,
     ) -> Result<Self, FlatError> {
-        ext_leaf_from(alloc, at, under, value)
+        ext_leaf_from(alloc, at, base, value)
     }
 
-    fn leaf_value(&self, alloc: Global, under: &ExprPool<BaseLeaf<F>>) -> Result<Value, FlatError> {
-        ext_leaf_value(alloc, under, self)
+    fn leaf_value(&self, alloc: Global, base: &ExprPool<BaseLeaf<F>>) -> Result<Value, FlatError> {
+        ext_leaf_value(alloc, base, self)
     }
 
     ghost wire_laws = { ext_wire_laws F.ring EF.basis };

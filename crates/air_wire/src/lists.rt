@@ -95,7 +95,7 @@ fn last_or<A: WireLeaf>(ids: &[ExprId<A>], fault: Option<FlatError>) -> Result<E
 impl<A: WireLeaf> ListReader<A> {
     /// A reader before the list's first node.
     pub fn new(alloc: Global) -> Self
-        ensures { (p : Pool A.Under A)
+        ensures { (p : Pool A.Base A)
             → HasRead A.kind (seen_at A.seen) p [] result }
     {
         ListReader {
@@ -118,12 +118,12 @@ impl<A: WireLeaf> ListReader<A> {
 
     /// The expression of the root of the list that is read, its last node, or the list's first fault.
     pub fn root(self) -> Result<ExprId<A>, FlatError>
-        ensures here { (p : Pool A.Under A) → (ds : List Data)
+        ensures here { (p : Pool A.Base A) → (ds : List Data)
             → HasRead A.kind (seen_at A.seen) p ds self → IfOk result (λ i. i < size p) }
-        ensures root { (p : Pool A.Under A) → (ds : List Data)
+        ensures root { (p : Pool A.Base A) → (ds : List Data)
             → HasRead A.kind (seen_at A.seen) p ds self
             → IfOk result (λ i. IsList A.kind (array (items_of ds)) (seen_at A.seen p i)) }
-        ensures fault { (p : Pool A.Under A) → (ds : List Data)
+        ensures fault { (p : Pool A.Base A) → (ds : List Data)
             → HasRead A.kind (seen_at A.seen) p ds self → IfErr result
             (λ e. e ≢ FlatError.Memory → HasFault A.kind (array (items_of ds)) e) }
     {

@@ -15,7 +15,7 @@ pub trait WireLeaf: SymLeaf {
     // A leaf that holds no number of a pool.
     ghost View: { Type 0 };
 
-    ghost seen: { Self.Under → Self → View };
+    ghost seen: { Self.Base → Self → View };
 
     ghost kind: { Kind View Self.F };
 
@@ -23,21 +23,21 @@ pub trait WireLeaf: SymLeaf {
     fn leaf_from_value(
         alloc: Global,
         at: usize,
-        under: &mut Self::Under,
+        base: &mut Self::Base,
         value: &Value,
     ) -> Result<Self, FlatError>
     where
         Self: Sized,
-        requires { (Self.reads under.old).sound }
-        ensures grown { Self.grows under.old under.new }
-        ensures valid { IfOk result (λ a. (Self.reads under.new).valid a) }
-        ensures read { Gives (seen under.new) result (kind.leaf_at at (view value.now)) };
+        requires { (Self.reads base.old).sound }
+        ensures grown { Self.grows base.old base.new }
+        ensures valid { IfOk result (λ a. (Self.reads base.new).valid a) }
+        ensures read { Gives (seen base.new) result (kind.leaf_at at (view value.now)) };
 
     /// What is written for the leaf.
-    fn leaf_value(&self, alloc: Global, under: &Self::Under) -> Result<Value, FlatError>
-        requires sound { (Self.reads under.now).sound }
-        requires valid { (Self.reads under.now).valid self.now }
-        ensures written { IfOk result (λ v. kind.writes (view v) (seen under.now self.now)) }
+    fn leaf_value(&self, alloc: Global, base: &Self::Base) -> Result<Value, FlatError>
+        requires sound { (Self.reads base.now).sound }
+        requires valid { (Self.reads base.now).valid self.now }
+        ensures written { IfOk result (λ v. kind.writes (view v) (seen base.now self.now)) }
         ensures refused { IfErr result (λ e. e ≡ FlatError.Memory) };
 
     ghost wire_laws: { WireLaws Self.reads Self.grows seen kind.term };

@@ -114,18 +114,14 @@ fn nodes_of<A: WireLeaf>(
 }
 
 // The one node of a list whose root is a leaf.
-fn leaf_alone<A: WireLeaf>(
-    alloc: Global,
-    under: &A::Under,
-    leaf: &A,
-) -> Result<Vec<Value>, FlatError>
-    requires sound { (A.reads under.now).sound }
-    requires valid { (A.reads under.now).valid leaf.now }
+fn leaf_alone<A: WireLeaf>(alloc: Global, base: &A::Base, leaf: &A) -> Result<Vec<Value>, FlatError>
+    requires sound { (A.reads base.now).sound }
+    requires valid { (A.reads base.now).valid leaf.now }
     ensures written { IfOk result (λ v. AreNodesOf A.kind (map view v.items)
-        (leaf_tree (A.seen under.now leaf.now))) }
+        (leaf_tree (A.seen base.now leaf.now))) }
     ensures refused { IfErr result (λ e. e ≡ FlatError.Memory) }
 {
-    let node = leaf_node_value(alloc, under, leaf)?;
+    let node = leaf_node_value(alloc, base, leaf)?;
     let mut items = Vec::with_capacity(alloc, 1)?;
     items.push(node)?;
     Ok(items)

@@ -55,34 +55,34 @@ fn one_value(alloc: Global, name: &str, degree: usize, x: usize) -> Result<Value
 /// What is written for a leaf.
 pub(crate) fn leaf_node_value<A: WireLeaf>(
     alloc: Global,
-    under: &A::Under,
+    base: &A::Base,
     leaf: &A,
 ) -> Result<Value, FlatError>
-    requires sound { (A.reads under.now).sound }
-    requires valid { (A.reads under.now).valid leaf.now }
+    requires sound { (A.reads base.now).sound }
+    requires valid { (A.reads base.now).valid leaf.now }
     ensures written { IfOk result (λ v. IsCase (codes "Leaf")
-        (λ c. A.kind.writes c (A.seen under.now leaf.now)) (view v)) }
+        (λ c. A.kind.writes c (A.seen base.now leaf.now)) (view v)) }
     ensures refused { IfErr result (λ e. e ≡ FlatError.Memory) }
 {
-    let contents = leaf.leaf_value(alloc, under)?;
+    let contents = leaf.leaf_value(alloc, base)?;
     Ok(case_value(alloc, "Leaf", contents)?)
 }
 
 /// What is written for a node whose operands are written.
 pub(crate) fn node_value<A: WireLeaf>(
     alloc: Global,
-    under: &A::Under,
+    base: &A::Base,
     places: &[Option<usize>],
     node: &SymbolicExpr<A>,
 ) -> Result<Value, FlatError>
-    requires sound { (A.reads under.now).sound }
-    requires ready { IsWritable (A.reads under.now).valid places.now node.now }
-    ensures written { IfOk result (λ v. IsNodeValue A.kind (A.seen under.now) places.now node.now
+    requires sound { (A.reads base.now).sound }
+    requires ready { IsWritable (A.reads base.now).valid places.now node.now }
+    ensures written { IfOk result (λ v. IsNodeValue A.kind (A.seen base.now) places.now node.now
         (view v)) }
     ensures refused { IfErr result (λ e. e ≡ FlatError.Memory) }
 {
     match *node {
-        SymbolicExpr::Leaf(leaf) => leaf_node_value(alloc, under, &leaf),
+        SymbolicExpr::Leaf(leaf) => leaf_node_value(alloc, base, &leaf),
         SymbolicExpr::Add {
             x,
             y,

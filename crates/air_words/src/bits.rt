@@ -97,7 +97,7 @@ impl<AB: AirBuilder, X: Expression<AB>> Constraint<AB> for HasBits<X> {
     ghost asserts = { λ s f _.
         has_bits AB.F.ring (X.term s.0) s.1.first s.1.count f };
 
-    ghost all_hold = { λ s b. X.holds s.0 b };
+    ghost usable = { λ s b. X.usable s.0 b };
 
     fn assert_under<K: Condition<AB>>(&self, builder: &mut AB, condition: &K) -> AirResult {
         (Bits(self.1), Equal(&self.0, PackedBits(self.1))).assert_under(builder, condition)

@@ -5,7 +5,7 @@ ghost use Rattle.air_field.specs.Ring.{image};
 ghost use Rattle.air_builder.specs.Notation.{is_zero};
 ghost use Rattle.air_gadgets.specs.Gadgets.{less_two_term, less_three_term, raised_term, carry_term, times_raised_term, whole_term, carried_terms, add2_terms, add3_terms};
 ghost use Rattle.air_builder.specs.Batches.{AssertedIn};
-ghost use Rattle.air_author.specs.Expressions.{Lasts};
+ghost use Rattle.air_author.specs.Expressions.{AlwaysAfter};
 ghost use Rattle.air_words.specs.WordTerms.{limbs, all_vanish};
 
 use air_author::{
@@ -29,7 +29,7 @@ impl<'a, AB: AirBuilder, X: Expression<AB>, Y: Expression<AB>, Z: Expression<AB>
     for LessTwo<'a, X, Y, Z> {
     ghost term = { λ s. less_two_term (X.term s.0.now) (Y.term s.1.now) (Z.term s.2.now) };
 
-    ghost holds = { λ s b. X.holds s.0.now b × (Y.holds s.1.now b × Z.holds s.2.now b) };
+    ghost usable = { λ s b. X.usable s.0.now b × (Y.usable s.1.now b × Z.usable s.2.now b) };
 
     fn make(&self, builder: &mut AB) -> AirResult<AB::Expr> {
         make_difference(builder, &Less(self.0, self.1), self.2)
@@ -43,7 +43,7 @@ struct Scaled<'a, X>(&'a X);
 impl<'a, AB: AirBuilder, X: Expression<AB>> Expression<AB> for Scaled<'a, X> {
     ghost term = { λ s. scaled_term (image AB.F.ring 65536) (X.term s.0.now) };
 
-    ghost holds = { λ s b. X.holds s.0.now b };
+    ghost usable = { λ s b. X.usable s.0.now b };
 
     fn make(&self, builder: &mut AB) -> AirResult<AB::Expr> {
         make_product(builder, self.0, &Number(65536))
@@ -57,7 +57,7 @@ struct Whole<'a, X, Y>(&'a X, &'a Y);
 impl<'a, AB: AirBuilder, X: Expression<AB>, Y: Expression<AB>> Expression<AB> for Whole<'a, X, Y> {
     ghost term = { λ s. whole_term AB.F.ring (X.term s.0.now) (Y.term s.1.now) };
 
-    ghost holds = { λ s b. X.holds s.0.now b × Y.holds s.1.now b };
+    ghost usable = { λ s b. X.usable s.0.now b × Y.usable s.1.now b };
 
     fn make(&self, builder: &mut AB) -> AirResult<AB::Expr> {
         make_sum(builder, self.0, &Scaled(self.1))
@@ -71,7 +71,7 @@ struct Raised<'a, X>(&'a X, u64);
 impl<'a, AB: AirBuilder, X: Expression<AB>> Expression<AB> for Raised<'a, X> {
     ghost term = { λ s. raised_term AB.F.ring s.1 (X.term s.0.now) };
 
-    ghost holds = { λ s b. X.holds s.0.now b };
+    ghost usable = { λ s b. X.usable s.0.now b };
 
     fn make(&self, builder: &mut AB) -> AirResult<AB::Expr> {
         make_sum(builder, self.0, &Number(self.1))
@@ -85,7 +85,7 @@ struct Carry<'a, X>(&'a X, u64);
 impl<'a, AB: AirBuilder, X: Expression<AB>> Expression<AB> for Carry<'a, X> {
     ghost term = { λ s. carry_term AB.F.ring s.1 (X.term s.0.now) };
 
-    ghost holds = { λ s b. X.holds s.0.now b };
+    ghost usable = { λ s b. X.usable s.0.now b };
 
     fn make(&self, builder: &mut AB) -> AirResult<AB::Expr> {
         make_product(builder, self.0, &Raised(self.0, self.1))
@@ -99,7 +99,7 @@ fn assert_zero<AB: AirBuilder, X: Expression<AB>, K: Condition<AB>>(
     x: &X,
 ) -> AirResult
     requires ready { AB.ready builder.old }
-    requires held { Lasts AB.kept (λ b. X.holds x.now b × K.where_holds condition.now b)
+    requires usable { AlwaysAfter AB.kept (λ b. X.usable x.now b × K.usable condition.now b)
         builder.old }
     ensures { AssertedIn ⟦<AB as View>⟧.view builder.old builder.new result
         (is_zero (K.under condition.now (X.term x.now))) }
@@ -115,8 +115,8 @@ fn assert_both_zero<AB: AirBuilder, X: Expression<AB>, Y: Expression<AB>, K: Con
     y: &Y,
 ) -> AirResult
     requires ready { AB.ready builder.old }
-    requires held { Lasts AB.kept
-        (λ b. (X.holds x.now b × Y.holds y.now b) × K.where_holds condition.now b) builder.old }
+    requires usable { AlwaysAfter AB.kept
+        (λ b. (X.usable x.now b × Y.usable y.now b) × K.usable condition.now b) builder.old }
     ensures { AssertedIn ⟦<AB as View>⟧.view builder.old builder.new result
         (is_zero (K.under condition.now (X.term x.now)) ++
         is_zero (K.under condition.now (Y.term y.now))) }
@@ -133,8 +133,8 @@ fn assert_zero_but_carry<AB: AirBuilder, X: Expression<AB>, Y: Expression<AB>, K
     high: &Y,
 ) -> AirResult
     requires ready { AB.ready builder.old }
-    requires held { Lasts AB.kept
-        (λ b. (X.holds low.now b × Y.holds high.now b) × K.where_holds condition.now b)
+    requires usable { AlwaysAfter AB.kept
+        (λ b. (X.usable low.now b × Y.usable high.now b) × K.usable condition.now b)
         builder.old }
     ensures { AssertedIn ⟦<AB as View>⟧.view builder.old builder.new result
         (all_vanish (K.under condition.now) (carried_terms AB.F.ring false (X.term low.now)
@@ -163,8 +163,8 @@ impl<AB: AirBuilder, X: Expression<AB>, Y: Expression<AB>, Z: Expression<AB>> Co
         (limbs (X.term s.a.0) (X.term s.a.1)) (limbs (Y.term s.b.0) (Y.term s.b.1))
         (limbs (Z.term s.c.0) (Z.term s.c.1))) };
 
-    ghost all_hold = { λ s b. (X.holds s.a.0 b × (Y.holds s.b.0 b × Z.holds s.c.0 b))
-        × (X.holds s.a.1 b × (Y.holds s.b.1 b × Z.holds s.c.1 b)) };
+    ghost usable = { λ s b. (X.usable s.a.0 b × (Y.usable s.b.0 b × Z.usable s.c.0 b))
+        × (X.usable s.a.1 b × (Y.usable s.b.1 b × Z.usable s.c.1 b)) };
 
     fn assert_under<K: Condition<AB>>(&self, builder: &mut AB, condition: &K) -> AirResult {
         let low = LessTwo(&self.a.0, &self.b.0, &self.c.0);
@@ -188,8 +188,8 @@ impl<
     ghost term = { λ s. less_three_term (X.term s.0.now) (Y.term s.1.now) (Z.term s.2.now)
         (W.term s.3.now) };
 
-    ghost holds = { λ s b. X.holds s.0.now b × (Y.holds s.1.now b
-        × (Z.holds s.2.now b × W.holds s.3.now b)) };
+    ghost usable = { λ s b. X.usable s.0.now b × (Y.usable s.1.now b
+        × (Z.usable s.2.now b × W.usable s.3.now b)) };
 
     fn make(&self, builder: &mut AB) -> AirResult<AB::Expr> {
         make_difference(builder, &LessTwo(self.0, self.1, self.2), self.3)
@@ -204,7 +204,7 @@ impl<'a, AB: AirBuilder, X: Expression<AB>> Expression<AB> for TwoCarries<'a, X>
     ghost term = { λ s. times_raised_term AB.F.ring s.2 (X.term s.0.now)
         (carry_term AB.F.ring s.1 (X.term s.0.now)) };
 
-    ghost holds = { λ s b. X.holds s.0.now b };
+    ghost usable = { λ s b. X.usable s.0.now b };
 
     fn make(&self, builder: &mut AB) -> AirResult<AB::Expr> {
         make_product(builder, &Carry(self.0, self.1), &Raised(self.0, self.2))
@@ -219,8 +219,8 @@ fn assert_zero_but_two_carries<
     K: Condition<AB>,
 >(builder: &mut AB, condition: &K, low: &X, high: &Y) -> AirResult
     requires ready { AB.ready builder.old }
-    requires held { Lasts AB.kept
-        (λ b. (X.holds low.now b × Y.holds high.now b) × K.where_holds condition.now b)
+    requires usable { AlwaysAfter AB.kept
+        (λ b. (X.usable low.now b × Y.usable high.now b) × K.usable condition.now b)
         builder.old }
     ensures { AssertedIn ⟦<AB as View>⟧.view builder.old builder.new result
         (all_vanish (K.under condition.now) (carried_terms AB.F.ring true (X.term low.now)
@@ -251,9 +251,9 @@ impl<
         (limbs (X.term s.a.0) (X.term s.a.1)) (limbs (Y.term s.b.0) (Y.term s.b.1))
         (limbs (Z.term s.c.0) (Z.term s.c.1)) (limbs (W.term s.d.0) (W.term s.d.1))) };
 
-    ghost all_hold = { λ s b.
-        (X.holds s.a.0 b × (Y.holds s.b.0 b × (Z.holds s.c.0 b × W.holds s.d.0 b)))
-        × (X.holds s.a.1 b × (Y.holds s.b.1 b × (Z.holds s.c.1 b × W.holds s.d.1 b))) };
+    ghost usable = { λ s b.
+        (X.usable s.a.0 b × (Y.usable s.b.0 b × (Z.usable s.c.0 b × W.usable s.d.0 b)))
+        × (X.usable s.a.1 b × (Y.usable s.b.1 b × (Z.usable s.c.1 b × W.usable s.d.1 b))) };
 
     fn assert_under<K: Condition<AB>>(&self, builder: &mut AB, condition: &K) -> AirResult {
         let low = LessThree(&self.a.0, &self.b.0, &self.c.0, &self.d.0);

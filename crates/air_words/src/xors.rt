@@ -58,7 +58,7 @@ impl<AB: AirBuilder, X: Expression<AB>> Constraint<AB> for Xor32Shift<X> {
     ghost asserts = { λ s f _. xor_shift_asserts AB.F.ring
         (limbs (X.term s.0.0) (X.term s.0.1)) s.1.b s.1.c s.1.shift f };
 
-    ghost all_hold = { λ s b. X.holds s.0.0 b × X.holds s.0.1 b };
+    ghost usable = { λ s b. X.usable s.0.0 b × X.usable s.0.1 b };
 
     fn assert_under<K: Condition<AB>>(&self, builder: &mut AB, condition: &K) -> AirResult {
         let words = self.1;

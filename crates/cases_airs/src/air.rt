@@ -28,7 +28,7 @@ pub struct TableAir<F: Field> {
 
 impl<F: Field> BaseAir<F> for TableAir<F> {
     ghost declaration = { λ a. record {
-      declared = elim a.constraints [
+      constraints = elim a.constraints [
         | Base list ↦ ⟦<BaseList as Declared<F>>⟧.declared list
             (zero_at_roots a.flat.pool a.flat.roots.items)
         | Permutation list ↦ ⟦<PermutationList as Declared<F>>⟧.declared list
@@ -72,7 +72,8 @@ pub struct ListAir<'a, F: Field, C> {
 
 impl<'a, F: Field, C: Declared<F>> BaseAir<F> for ListAir<'a, F, C> {
     ghost declaration = { λ a. record {
-      declared = C.declared a.list (zero_at_roots a.air.now.flat.pool a.air.now.flat.roots.items);
+      constraints = C.declared a.list
+          (zero_at_roots a.air.now.flat.pool a.air.now.flat.roots.items);
       width = a.air.now.flat.width;
       num_public_values = a.air.now.flat.num_public_values;
       preprocessed = a.air.now.table;

@@ -20,7 +20,7 @@ pub struct NamedPool<'a, A: SymLeaf> {
 impl<'a, A: SymLeaf> Model for NamedPool<'a, A> {
     ghost use Rattle.air_symbolic.specs.Pools.{IsPool, Pool};
 
-    ghost Value = { Pool A.Under A };
+    ghost Value = { Pool A.Base A };
 
     ghost view = { λ b. b.pool };
 

@@ -18,7 +18,7 @@ struct Said<F> {
 
 impl<F: Field> BaseAir<F> for Said<F> {
     ghost declaration = { λ a. record {
-      declared = [];
+      constraints = [];
       width = 3;
       num_public_values = 2;
       preprocessed = a.table;

@@ -52,7 +52,7 @@ pub struct PoolBench<'a, A: SymLeaf> {
 impl<'a, A: SymLeaf> Model for PoolBench<'a, A> {
     ghost use Rattle.air_symbolic.specs.Pools.{IsPool, Pool};
 
-    ghost Value = { Pool A.Under A };
+    ghost Value = { Pool A.Base A };
 
     ghost view = { λ b. b.pool };
 

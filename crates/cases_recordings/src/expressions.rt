@@ -74,12 +74,12 @@ pub trait ShownLeaf: SymLeaf {
     /// brackets.
     fn show(
         &self,
-        under: &Self::Under,
+        base: &Self::Base,
         depth: usize,
         inside: bool,
         text: &mut String,
     ) -> Result<(), Fault>
-        requires { (Self.reads under.now).sound };
+        requires { (Self.reads base.now).sound };
 }
 
 impl<F: Number> ShownLeaf for BaseLeaf<F> {
@@ -109,13 +109,13 @@ impl<F: Number> ShownLeaf for BaseLeaf<F> {
 impl<F: Number, EF: ExtensionField<F>> ShownLeaf for ExtLeaf<F, EF> {
     fn show(
         &self,
-        under: &ExprPool<BaseLeaf<F>>,
+        base: &ExprPool<BaseLeaf<F>>,
         depth: usize,
         inside: bool,
         text: &mut String,
     ) -> Result<(), Fault> {
         match self {
-            ExtLeaf::Base(id) => show_expression(under, *id, depth, inside, text),
+            ExtLeaf::Base(id) => show_expression(base, *id, depth, inside, text),
             ExtLeaf::ExtVariable(v) => v.show(text),
             ExtLeaf::ExtConstant(c) => show_elements(c.as_basis_coefficients_slice(), text),
         }

@@ -28,7 +28,7 @@ use Rattle.air_recording.specs.laws.Bounds.{degrees_within, polynomials_within}
 use Rattle.air_report.specs.Checks.{IsReport}
 use Rattle.air_report.specs.declared.checks.report.ConstraintReport.{ConstraintReport}
 use Rattle.p3_air.specs.Theorem.{Instance, row_count, recorded_base, terms_in, RecordConstraints, domain, degree_in, BoundsDegrees, IsLeast, DegreeOverflows}
-use Rattle.p3_air.specs.Audits.{IsAuditUnder, AuditRefusesUnder, check_input}
+use Rattle.p3_air.specs.Audits.{IsAuditUnder, AuditRefusesUnder}
 use Rattle.p3_air.specs.declared.audit.Audit.{Audit}
 use Rattle.p3_air.specs.laws.Theorem.{base_places_are, ext_places_are, each_base, each_ext, recordable, recorded_ext_are, recording_refuses, terms_in_are}
 
@@ -93,16 +93,16 @@ simplified reads r p (i ∷ is) (t ∷ ts) h = (h.0.simplifies, simplified reads
 
 module _ {F : Type 0} (r : CommRing F) (eq : F → F → Bool) (basis : Basis F F) (x : Instance F) (cap : Option ℕ) (w : ℕ) (audit : Audit F) where
   pub audited : RecordingAnswers r (itself r) (air_layout x.air) x.air
-      → RecordsBase r (itself r) base_reads audit.recorded.pool.base audit.recorded.base x.air.declared
-      → RecordsExt r (itself r) (ext_reads basis) audit.recorded.pool audit.recorded.ext x.air.declared
+      → RecordsBase r (itself r) base_reads audit.recorded.pool.base audit.recorded.base x.air.constraints
+      → RecordsExt r (itself r) (ext_reads basis) audit.recorded.pool audit.recorded.ext x.air.constraints
       → All (λ i. i < length audit.recorded.pool.base.nodes) audit.recorded.base
       → All (λ i. i < length audit.recorded.pool.nodes) audit.recorded.ext
-      → ArePlacesOf (map kind_of x.air.declared) audit.layout.base_indices.items audit.layout.ext_indices.items
-      → IsReport r eq (check_input x) cap audit.report
+      → ArePlacesOf (map kind_of x.air.constraints) audit.layout.base_indices.items audit.layout.ext_indices.items
+      → IsReport r eq x cap audit.report
       → IsDegreeFor w (row_count x) (periods_of x.air.periodic) (recorded_terms basis audit.recorded) audit.degree
       → IsAuditUnder r eq basis x cap w audit
   audited answers base ext base_here ext_here places report inferred =
-      let ts = x.air.declared in
+      let ts = x.air.constraints in
       let us = terms_in basis audit.recorded in
       let degree = subst (λ vs. IsDegreeFor w (row_count x) (periods_of x.air.periodic) vs audit.degree) (sym (terms_in_are basis audit.recorded)) inferred in
       record {
@@ -145,15 +145,15 @@ module _ {F : Type 0} (r : CommRing F) (eq : F → F → Bool) (x : Instance F) 
       step (inl other) = absurd (own_layout_fits x.air e other)
       step (inr refused) = inl (recording_refuses x.air e refused.1)
 
-  pub degree_refused : (report : ConstraintReport) (us vs : List (Term F)) (e : RingError) → IsReport r eq (check_input x) cap report
+  pub degree_refused : (report : ConstraintReport) (us vs : List (Term F)) (e : RingError) → IsReport r eq x cap report
       → RecordingAnswers r (itself r) (air_layout x.air) x.air
-      → EachRecords (itself r) us (base_terms x.air.declared) → EachRecords (itself r) vs (ext_terms x.air.declared)
+      → EachRecords (itself r) us (base_terms x.air.constraints) → EachRecords (itself r) vs (ext_terms x.air.constraints)
       → AnswersInferred w (row_count x) (periods_of x.air.periodic) (us ++ vs) (Err e) → AuditRefusesUnder r eq x cap w (air_error e)
   degree_refused report us vs Memory checked answers m n h = inl tt
   degree_refused report us vs DegreeOverflow checked answers m n h = inr (recordable r x.air answers, inr (refl, record { report = report; checked = checked; passes = passes }))
     where
       recorded : RecordConstraints r x.air us vs
-      recorded = record { each_base = each_base (RecordsTerm (itself r)) us x.air.declared m; each_ext = each_ext (RecordsTerm (itself r)) vs x.air.declared n }
+      recorded = record { each_base = each_base (RecordsTerm (itself r)) us x.air.constraints m; each_ext = each_ext (RecordsTerm (itself r)) vs x.air.constraints n }
 
       passes : DegreeOverflows r w x
       passes = record { base = us; ext = vs; recorded = recorded; past = subst (λ v. 2 ^ 64 ≤ greatest_degree v (us ++ vs)) (weight_is x w) h }

@@ -10,7 +10,7 @@ use Rattle.air_symbolic.specs.declared.pools.expr.SymbolicExpr.TheVariants as no
 use Rattle.air_builder.specs.Builders.{MeansIn, BuilderView, RingLaws, BuilderLaws}
 use Rattle.air_builder.specs.laws.Filters.{means_kept}
 use Rattle.air_builder.specs.Refusals.{IsPastWindow, EachLeaf}
-use Rattle.air_author.specs.Expressions.{MakesTerm, Lasts}
+use Rattle.air_author.specs.Expressions.{MakesTerm, AlwaysAfter}
 use Rattle.air_author.specs.laws.Each.{of_one}
 use Rattle.air_author.specs.Handing.{each_weaker, made_lasts}
 use Rattle.air_symbolic.specs.laws.Sharing.{found}
@@ -140,10 +140,10 @@ module _ {S R E F : Type 0} {view : BuilderView S R E F} (ring : RingLaws view) 
 
   -- what a table has, it will have
   pub at_lasts : (table : List E) (p : ℕ) (t : Term F) (a : S) → HasAt (IsMade (MeansIn view) missing a t) table p
-      → Lasts kept (λ b. HasAt (IsMade (MeansIn view) missing b t) table p) a
+      → AlwaysAfter kept (λ b. HasAt (IsMade (MeansIn view) missing b t) table p) a
   at_lasts table p t a h b k = (h.0, h.1, made_stays a b t h.0 k h.2)
 
   pub both_last : (table : List E) (p q : ℕ) (t u : Term F) (a : S) → HasAt (IsMade (MeansIn view) missing a t) table p
       → HasAt (IsMade (MeansIn view) missing a u) table q
-      → Lasts kept (λ b. HasAt (IsMade (MeansIn view) missing b t) table p × HasAt (IsMade (MeansIn view) missing b u) table q) a
+      → AlwaysAfter kept (λ b. HasAt (IsMade (MeansIn view) missing b t) table p × HasAt (IsMade (MeansIn view) missing b u) table q) a
   both_last table p q t u a h i b k = (at_lasts table p t a h b k, at_lasts table q u a i b k)

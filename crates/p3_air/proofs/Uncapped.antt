@@ -8,11 +8,11 @@ use Rattle.air_core.specs.declared.errors.AirError.{AirError}
 use Rattle.air_core.specs.declared.errors.AirError.TheVariants.{Memory}
 use Rattle.air_report.specs.Cells.{cell_label, cell_place, label_text}
 use Rattle.air_report.specs.Checks.{Fits, HasEntries, IsCellPastCount, IsReport, RowsRan, RowRefuses}
-use Rattle.air_report.specs.Given.{given_trace}
+use Rattle.air_report.specs.Instances.{instance_trace}
 use Rattle.air_report.specs.Report.{count_shown, failure_place, report_of}
 use Rattle.air_report.specs.declared.checks.report.ConstraintReport.{ConstraintReport}
 use Rattle.p3_air.specs.Theorem.{Instance, row_count, RowsHaveEntries, FixedColumnsFit, FitsDeclaration, constraints_per_row, failure_places, nonzero_places, violations, violated_cells, LabelsFrom, RecordingRefuses, IsRecordable, ReportRefuses, AuditRefuses}
-use Rattle.p3_air.specs.Audits.{AuditRefusesUnder, check_input}
+use Rattle.p3_air.specs.Audits.{AuditRefusesUnder}
 use Rattle.p3_air.specs.laws.Theorem.{cells_refuse, fixed_columns_fit, fixed_columns_refuse, labels_are, nonzero_places_are, proper_below, rows_refuse, shape_is, violations_are}
 
 -- a fact for the answer, from another
@@ -37,23 +37,23 @@ dropped xs ys n h = ap (λ k. drop k (xs ++ ys)) h ∙ all xs
 
 module _ {F : Type 0} (r : CommRing F) (eq : F → F → Bool) (x : Instance F) where
   -- without a cap all rows are shown
-  all_shown : {shown : ℕ} → RowsRan r eq (check_input x) None shown → shown ≡ row_count x
+  all_shown : {shown : ℕ} → RowsRan r eq x None shown → shown ≡ row_count x
   all_shown {shown} ran = elim ran.rows.enough [
     | inl all ↦ all
     | inr never ↦ absurd never
   ]
 
   -- and so they have the entries
-  entries : {shown : ℕ} → RowsRan r eq (check_input x) None shown → RowsHaveEntries x
+  entries : {shown : ℕ} → RowsRan r eq x None shown → RowsHaveEntries x
   entries ran =
-      subst (λ s. 0 < row_count x → NoneMissing (IsMissing s) x.air.declared) (sym (shape_is x)) (subst (λ n. 0 < n → HasEntries (check_input x)) (all_shown ran) ran.there)
+      subst (λ s. 0 < row_count x → NoneMissing (IsMissing s) x.air.constraints) (sym (shape_is x)) (subst (λ n. 0 < n → HasEntries x) (all_shown ran) ran.there)
 
-  module _ (report : ConstraintReport) (p : IsReport r eq (check_input x) None report) where
+  module _ (report : ConstraintReport) (p : IsReport r eq x None report) where
     at : p.shown ≡ row_count x
     at = all_shown p.ran
 
     of_rows : map failure_place p.of_rows ≡ nonzero_places r eq x
-    of_rows = p.places ∙ (ap (report_of r eq (given_trace (check_input x)) x.air.declared) at ∙ sym (nonzero_places_are r x eq))
+    of_rows = p.places ∙ (ap (report_of r eq (instance_trace x) x.air.constraints) at ∙ sym (nonzero_places_are r x eq))
 
     pub fits : FitsDeclaration x
     fits = record {
@@ -67,7 +67,7 @@ module _ {F : Type 0} (r : CommRing F) (eq : F → F → Bool) (x : Instance F) 
     lists = ap (map failure_place) p.lists.failures
         ∙ (map-append failure_place p.of_rows p.lists.more
         ∙ ap₂ (λ xs ys. xs ++ ys) of_rows
-        (p.lists.places ∙ (ap (λ n. map (cell_place (row_count x) (count_shown x.air.declared n)) _) at ∙ ap (map (cell_place (row_count x) (constraints_per_row x))) (sym (violations_are r x eq)))))
+        (p.lists.places ∙ (ap (λ n. map (cell_place (row_count x) (count_shown x.air.constraints n)) _) at ∙ ap (map (cell_place (row_count x) (constraints_per_row x))) (sym (violations_are r x eq)))))
 
     pub labels : LabelsFrom (length (nonzero_places r eq x)) (violations r eq x) report
     labels = labels_are (drop (length (nonzero_places r eq x)) report.failures.items)
@@ -79,23 +79,23 @@ module _ {F : Type 0} (r : CommRing F) (eq : F → F → Bool) (x : Instance F) 
         counted = ap length (sym of_rows) ∙ length-map p.of_rows failure_place
 
     pub counts : (report.total_rows ≡ row_count x) × (report.total_constraints_per_row ≡ constraints_per_row x)
-    counts = (p.rows, p.count ∙ ap (count_shown x.air.declared) at)
+    counts = (p.rows, p.count ∙ ap (count_shown x.air.constraints) at)
 
   module _ (w : ℕ) where
     memory_refused : (e : AirError) → e ≡ Memory → AuditRefuses r eq x w e
     memory_refused e is = inl (subst (λ k. RecordingRefuses x.air k) (sym is) tt)
 
-    fit : Fits (check_input x) → FixedColumnsFit x
+    fit : Fits x → FixedColumnsFit x
     fit = fixed_columns_fit x
 
-    refused_by_rows : (e : AirError) → IsRecordable r x.air → Fits (check_input x) → 0 < row_count x → RowRefuses (check_input x) e → AuditRefuses r eq x w e
+    refused_by_rows : (e : AirError) → IsRecordable r x.air → Fits x → 0 < row_count x → RowRefuses x e → AuditRefuses r eq x w e
     refused_by_rows e answers shapes some rows = elim (rows_refuse x e some rows) [
       | inl memory ↦ memory_refused e memory
       | inr refused ↦ inr (answers, inr (fit shapes, inl refused))
     ]
 
     -- a cell that is listed past `usize`
-    listed_past : (e : AirError) → ReportRefuses r eq x e → IsRecordable r x.air → Fits (check_input x) → (past : IsCellPastCount r eq (check_input x) None) → AuditRefuses r eq x w e
+    listed_past : (e : AirError) → ReportRefuses r eq x e → IsRecordable r x.air → Fits x → (past : IsCellPastCount r eq x None) → AuditRefuses r eq x w e
     listed_past e refused answers shapes past =
         inr (
           answers,
@@ -123,7 +123,7 @@ module _ {F : Type 0} (r : CommRing F) (eq : F → F → Bool) (x : Instance F) 
           past.past.at,
           past.past.cell,
           ap (λ l. slice_get l past.past.at) (violations_are r x eq) ∙ past.past.is_listed,
-          subst (λ n. 2 ^ 64 ≤ count_shown x.air.declared n + past.past.cell.0) (all_shown past.ran) past.past.past,
+          subst (λ n. 2 ^ 64 ≤ count_shown x.air.constraints n + past.past.cell.0) (all_shown past.ran) past.past.past,
         ))
         answers shapes past
     refuses e (inr (answers, inr (is, past))) =

@@ -6,14 +6,9 @@ use Rattle.air_field.specs.Degree.{greatest_degree}
 use Rattle.air_core.specs.declared.errors.AirError.{AirError}
 use Rattle.air_core.specs.declared.errors.AirError.TheVariants.{DegreeOverflow}
 use Rattle.air_report.specs.Checks.{IsReport, CheckRefuses}
-use Rattle.air_report.specs.Given.{Given, given}
 use Rattle.air_report.specs.declared.checks.report.ConstraintReport.{ConstraintReport}
 use Rattle.p3_air.specs.Theorem.{Instance, row_count, NamesOwnEntries, RecordsEach, MeansEach, terms_in, domain, degree_in, IsLeast, BoundsDegrees, BoundsPolynomials, RecordingRefuses, IsRecordable, DegreeOverflows}
 use Rattle.p3_air.specs.declared.audit.Audit.{Audit}
-
--- an instance as a check is given it
-abbrev pub check_input : {F : Type 0} → Instance F → Given F
-check_input x = given x.air x.main x.public
 
 -- The audit theorem under a cap: all that `audit_air` ensures, of a report of the rows and the cells
 -- that the cap shows.
@@ -21,7 +16,7 @@ pub record IsAuditUnder {F : Type 0} (r : CommRing F) (eq : F → F → Bool) (b
   pub there : NamesOwnEntries x.air
   pub recorded : RecordsEach r basis x.air audit
   pub pool : MeansEach r basis x.air audit.recorded
-  pub report : IsReport r eq (check_input x) cap audit.report
+  pub report : IsReport r eq x cap audit.report
   pub degree : audit.degree ≡ degree_in w x (terms_in basis audit.recorded)
   pub in_range : greatest_degree (domain w x).weight (terms_in basis audit.recorded) < 2 ^ 64
   pub bounded : 2 ≤ row_count x → BoundsPolynomials r (domain w x) (terms_in basis audit.recorded) audit.degree
@@ -30,7 +25,7 @@ pub record IsAuditUnder {F : Type 0} (r : CommRing F) (eq : F → F → Bool) (b
 -- The check under the cap had answered, and a degree passes `usize`.
 pub record IsDegreePast {F : Type 0} (r : CommRing F) (eq : F → F → Bool) (x : Instance F) (cap : Option ℕ) (w : ℕ) : Type 0 where
   pub report : ConstraintReport
-  pub checked : IsReport r eq (check_input x) cap report
+  pub checked : IsReport r eq x cap report
   pub passes : DegreeOverflows r w x
 
 -- An audit under a cap refuses what the recording refuses; where the recording answers, what the
@@ -39,4 +34,4 @@ abbrev pub AuditRefusesUnder : {F : Type 0} → CommRing F → (F → F → Bool
 AuditRefusesUnder r eq x cap w e =
     RecordingRefuses x.air e
     ⊎ (IsRecordable r x.air
-    × (CheckRefuses r eq (check_input x) cap e ⊎ ((e ≡ DegreeOverflow) × IsDegreePast r eq x cap w)))
+    × (CheckRefuses r eq x cap e ⊎ ((e ≡ DegreeOverflow) × IsDegreePast r eq x cap w)))

@@ -132,7 +132,7 @@ pub use Rattle.air_recording.specs.Spellings
 pub use Rattle.air_recording.specs.declared.layouts.air_layout.AirLayout
 pub use Rattle.air_recording.specs.declared.layouts.constraint_layout.ConstraintLayout
 -- checks and their reports
-pub use Rattle.air_report.specs.Given
+pub use Rattle.air_report.specs.Instances
 pub use Rattle.air_report.specs.Shapes
 pub use Rattle.air_report.specs.Cells
 pub use Rattle.air_report.specs.Checks

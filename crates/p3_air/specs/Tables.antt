@@ -4,12 +4,12 @@ use Rattle.std.specs.Global.{Global}
 use Rattle.air_field.specs.Term.{Leaf, Term}
 use Rattle.air_builder.specs.Assertion.{Assertion, Base}
 use Rattle.air_builder.specs.Batches.{AssertsOf}
-use Rattle.air_author.specs.Expressions.{Holds, Makes}
+use Rattle.air_author.specs.Expressions.{IsUsable, Makes}
 use Rattle.p3_air.specs.Plans.{number_at}
 
 -- in the builder the term has this expression
 abbrev pub IsMade : {S E F : Type 0} → (S → E → Term F → Type 0) → (S → Leaf → Type 0) → S → Term F → E → Type 0
-IsMade means missing b t x = Holds means missing x t b
+IsMade means missing b t x = IsUsable means missing x t b
 
 -- there is an expression, and it has the property
 abbrev pub SomeHas : {E : Type 0} → (E → Type 0) → Option E → Type 0

@@ -33,25 +33,11 @@ use Rattle.air_recording.specs.Inferred.{periods_of}
 use Rattle.air_recording.specs.Recorded.{RecordsTerm}
 use Rattle.air_recording.specs.Recordings.{Recording}
 use Rattle.air_report.specs.Cells.{cell_label}
-use Rattle.air_report.specs.Given.{table_grid}
+pub use Rattle.air_report.specs.Instances.{Instance, instance, row_count}
+use Rattle.air_report.specs.Instances.{table_grid}
 use Rattle.air_report.specs.Report.{all_places, assertion_value}
 use Rattle.air_report.specs.declared.checks.report.ConstraintReport.{ConstraintReport}
 use Rattle.p3_air.specs.declared.audit.Audit.{Audit}
-
--- ---- What is audited
-
--- An instance: what an AIR declares, a main trace and public values.
-pub record Instance (F : Type 0) : Type 0 where
-  pub air : Declaration F
-  pub main : Grid F
-  pub public : List F
-
-abbrev pub instance : {F : Type 0} → Declaration F → Grid F → List F → Instance F
-instance air trace values = record { air = air; main = trace; public = values }
-
--- the number of rows of the main trace
-abbrev pub row_count : {F : Type 0} → Instance F → ℕ
-row_count x = length x.main.rows
 
 -- ---- What a constraint is on a row
 
@@ -99,11 +85,11 @@ shape_with air width values = record {
 
 -- each entry that a declared constraint names is one that the AIR says it has
 abbrev pub NamesOwnEntries : {F : Type 0} → Declaration F → Type 0
-NamesOwnEntries air = NoneMissing (IsMissing (shape_with air air.width air.num_public_values)) air.declared
+NamesOwnEntries air = NoneMissing (IsMissing (shape_with air air.width air.num_public_values)) air.constraints
 
 -- where there are rows, they have each entry that a declared constraint names
 abbrev pub RowsHaveEntries : {F : Type 0} → Instance F → Type 0
-RowsHaveEntries x = 0 < row_count x → NoneMissing (IsMissing (shape_with x.air x.main.width (length x.public))) x.air.declared
+RowsHaveEntries x = 0 < row_count x → NoneMissing (IsMissing (shape_with x.air x.main.width (length x.public))) x.air.constraints
 
 -- a period is a power of two that divides the number of rows
 abbrev pub IsPeriodOf : ℕ → ℕ → Type 0
@@ -172,14 +158,14 @@ ext_constraints k (Extension t ∷ ts) = (k, t) ∷ ext_constraints (k + 1) ts
 -- records another one has the same polynomial, the same value and no greater degree, whatever
 -- coefficients, values and weights the leaves have.
 pub record RecordConstraints {F : Type 0} (r : CommRing F) (air : Declaration F) (base ext : List (Term F)) : Type 0 where
-  pub each_base : AllZip (λ u c. RecordsTerm (itself r) u c.1) base (base_constraints 0 air.declared)
-  pub each_ext : AllZip (λ u c. RecordsTerm (itself r) u c.1) ext (ext_constraints 0 air.declared)
+  pub each_base : AllZip (λ u c. RecordsTerm (itself r) u c.1) base (base_constraints 0 air.constraints)
+  pub each_ext : AllZip (λ u c. RecordsTerm (itself r) u c.1) ext (ext_constraints 0 air.constraints)
 
 -- At the place of each declared base constraint, and nowhere else, a base expression is recorded,
 -- and it records that constraint; at the place of each extension constraint an extension expression.
 pub record RecordsEach {F : Type 0} (r : CommRing F) (basis : Basis F F) (air : Declaration F) (audit : Audit F) : Type 0 where
-  pub base_places : audit.layout.base_indices.items ≡ map (λ c. c.0) (base_constraints 0 air.declared)
-  pub ext_places : audit.layout.ext_indices.items ≡ map (λ c. c.0) (ext_constraints 0 air.declared)
+  pub base_places : audit.layout.base_indices.items ≡ map (λ c. c.0) (base_constraints 0 air.constraints)
+  pub ext_places : audit.layout.ext_indices.items ≡ map (λ c. c.0) (ext_constraints 0 air.constraints)
   pub terms : RecordConstraints r air (recorded_base audit.recorded) (recorded_ext basis audit.recorded)
 
 -- The recorded expressions are numbers of the pool, which its type says is one, and mean there the
@@ -187,19 +173,19 @@ pub record RecordsEach {F : Type 0} (r : CommRing F) (basis : Basis F F) (air : 
 pub record MeansEach {F : Type 0} (r : CommRing F) (basis : Basis F F) (air : Declaration F) (recorded : Recording F F) : Type 0 where
   pub base_here : All (λ i. i < length recorded.pool.base.nodes) recorded.base
   pub ext_here : All (λ i. i < length recorded.pool.nodes) recorded.ext
-  pub base : AllZip (λ u c. Simplifies r u c.1) (recorded_base recorded) (base_constraints 0 air.declared)
-  pub ext : AllZip (λ u c. Simplifies r u c.1) (recorded_ext basis recorded) (ext_constraints 0 air.declared)
+  pub base : AllZip (λ u c. Simplifies r u c.1) (recorded_base recorded) (base_constraints 0 air.constraints)
+  pub ext : AllZip (λ u c. Simplifies r u c.1) (recorded_ext basis recorded) (ext_constraints 0 air.constraints)
 
 -- ---- What is reported
 
 -- all pairs of a row and a place at which the declared constraint isn't zero: by rows, and in a row by places
 abbrev pub nonzero_places : {F : Type 0} → CommRing F → (F → F → Bool) → Instance F → List (ℕ × ℕ)
 nonzero_places r eq x =
-    map (λ p. (p.0, p.1.0)) (filter (λ p. not (eq (assertion_value r (read_at r x p.0) p.1.1) r.zero)) (all_places (row_count x) x.air.declared))
+    map (λ p. (p.0, p.1.0)) (filter (λ p. not (eq (assertion_value r (read_at r x p.0) p.1.1) r.zero)) (all_places (row_count x) x.air.constraints))
 
 -- how many constraints a row has, 0 without a row
 abbrev pub constraints_per_row : {F : Type 0} → Instance F → ℕ
-constraints_per_row x = if row_count x == 0 then 0 else length x.air.declared
+constraints_per_row x = if row_count x == 0 then 0 else length x.air.constraints
 
 -- the cells that don't hold their public values, each with its number in the list of cells
 abbrev pub violations : {F : Type 0} → CommRing F → (F → F → Bool) → Instance F → List (ℕ × BoundaryPublic)
@@ -268,17 +254,17 @@ BoundsPolynomials {F = F} r dom ts d =
 -- A constraint names an entry that isn't there: the error names the entry, or its row, or says that
 -- there is no permutation trace.
 abbrev pub NamesMissing : {F : Type 0} → Shape → Declaration F → AirError → Type 0
-NamesMissing shape air (MissingEntry e i) = IsMissing shape (entry_leaf e i) × PartOf (leaf_term (entry_leaf e i)) air.declared × IsOfWindow e
-NamesMissing shape air (MissingExtEntry e i) = IsMissing shape (ext_entry_leaf e i) × PartOf (leaf_term (ext_entry_leaf e i)) air.declared
-NamesMissing shape air (RowOffset o) = (l : Leaf) × IsPastWindow o l × IsMissing shape l × PartOf (leaf_term l) air.declared
-NamesMissing shape air NoPermutation = (o : ℕ) × (i : ℕ) × IsMissing shape (permutation o i) × PartOf (leaf_term (permutation o i)) air.declared
+NamesMissing shape air (MissingEntry e i) = IsMissing shape (entry_leaf e i) × PartOf (leaf_term (entry_leaf e i)) air.constraints × IsOfWindow e
+NamesMissing shape air (MissingExtEntry e i) = IsMissing shape (ext_entry_leaf e i) × PartOf (leaf_term (ext_entry_leaf e i)) air.constraints
+NamesMissing shape air (RowOffset o) = (l : Leaf) × IsPastWindow o l × IsMissing shape l × PartOf (leaf_term l) air.constraints
+NamesMissing shape air NoPermutation = (o : ℕ) × (i : ℕ) × IsMissing shape (permutation o i) × PartOf (leaf_term (permutation o i)) air.constraints
 NamesMissing shape air _ = ⊥
 
 -- The recording: want of memory; a part of a constraint has a cached degree past `usize`; a
 -- constraint names an entry that the AIR hasn't.
 abbrev pub RecordingRefuses : {F : Type 0} → Declaration F → AirError → Type 0
 RecordingRefuses air Memory = ⊤
-RecordingRefuses {F = F} air DegreeOverflow = (t : Term F) × (2 ^ 64 ≤ degree_by cached_weight t) × PartOf t air.declared
+RecordingRefuses {F = F} air DegreeOverflow = (t : Term F) × (2 ^ 64 ≤ degree_by cached_weight t) × PartOf t air.constraints
 RecordingRefuses air e = NamesMissing (shape_with air air.width air.num_public_values) air e
 
 -- The recording answers: the AIR has each entry that its constraints name, and some terms which
@@ -305,7 +291,7 @@ FixedColumnsRefuse x _ = ⊥
 -- The rows, where there are any: more constraints than `usize` counts; a constraint names an entry
 -- that the trace hasn't.
 abbrev pub EvaluationRefuses : {F : Type 0} → Instance F → AirError → Type 0
-EvaluationRefuses x CountOverflow = (0 < row_count x) × (2 ^ 64 ≤ length x.air.declared)
+EvaluationRefuses x CountOverflow = (0 < row_count x) × (2 ^ 64 ≤ length x.air.constraints)
 EvaluationRefuses x e = (0 < row_count x) × NamesMissing (shape_with x.air x.main.width (length x.public)) x.air e
 
 -- a cell's first fault

@@ -4,7 +4,7 @@ ghost use Rattle.air_symbolic.specs.BaseLeaves.{base_reads};
 ghost use Rattle.air_core.specs.declared.errors.AirError.{AirError};
 ghost use Rattle.air_builder.specs.Assertion.{Assertion};
 ghost use Rattle.air_builder.specs.Batches.{Asserted};
-ghost use Rattle.air_author.specs.Expressions.{Lasts};
+ghost use Rattle.air_author.specs.Expressions.{AlwaysAfter};
 ghost use Rattle.air_recording.specs.Layouts.{first_past};
 ghost use Rattle.air_recording.specs.Recorded.{RecordsBase};
 ghost use Rattle.p3_air.specs.RecordedAirs.{zero_at_recorded, RecordedAirRefuses, RecordsBaseTerms};
@@ -24,7 +24,7 @@ pub fn record_these<AB: AirBuilder, C: Constraint<AB>>(
     constraints: &C,
 ) -> Result<(), AirError>
     requires ready { AB.ready builder.old }
-    requires held { Lasts AB.kept (C.all_hold constraints.now) builder.old }
+    requires usable { AlwaysAfter AB.kept (C.usable constraints.now) builder.old }
     ensures ready { AB.ready builder.new }
     ensures asserted { Asserted AB.kept AB.grew AB.missing AB.refuses builder.old builder.new result
         (C.asserts constraints.now (λ t. t) (λ t. t)) }
@@ -68,7 +68,7 @@ pub fn recorded_air<F: Field, EF: ExtensionField<F>>(
     cells: Vec<BoundaryPublic>,
 ) -> Result<FlatAir<F>, AirError>
     ensures declared { IfOk result (λ a.
-        (⟦<FlatAir<F> as BaseAir<F>>⟧.declaration a).declared ≡ zero_at_recorded recorded) }
+        (⟦<FlatAir<F> as BaseAir<F>>⟧.declaration a).constraints ≡ zero_at_recorded recorded) }
     ensures width { IfOk result (λ a. a.width ≡ width) }
     ensures num_public_values { IfOk result (λ a. a.num_public_values ≡ num_public_values) }
     ensures preprocessed { IfOk result (λ a. a.preprocessed ≡ None) }
@@ -77,7 +77,7 @@ pub fn recorded_air<F: Field, EF: ExtensionField<F>>(
     ensures of_an_air { (declared : List (Assertion F)) →
         RecordsBase F.ring EF.over base_reads recorded.pool.base recorded.base declared →
         IfOk result (λ a.
-        RecordsBaseTerms F.ring (⟦<FlatAir<F> as BaseAir<F>>⟧.declaration a).declared declared) }
+        RecordsBaseTerms F.ring (⟦<FlatAir<F> as BaseAir<F>>⟧.declaration a).constraints declared) }
     ensures only_memory { (declared : List (Assertion F)) →
         RecordsBase F.ring EF.over base_reads recorded.pool.base recorded.base declared →
         IfErr result (λ e. e ≡ AirError.Memory) }

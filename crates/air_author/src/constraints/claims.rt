@@ -5,7 +5,7 @@ ghost use Rattle.air_field.specs.Term.{Term};
 ghost use Rattle.air_builder.specs.Notation.{is_zero, ◌⊖◌};
 ghost use Rattle.air_builder.specs.Builders.{less_one_term};
 ghost use Rattle.air_builder.specs.Batches.{AssertedIn};
-ghost use Rattle.air_author.specs.Expressions.{MakesIn, Lasts};
+ghost use Rattle.air_author.specs.Expressions.{MakesIn, AlwaysAfter};
 
 use crate::AirResult;
 use crate::conditions::Condition;
@@ -22,12 +22,12 @@ pub trait Claim<AB: AirBuilder> {
     ghost claims: { Self → Term AB.F };
 
     /// What it holds ready-made is of the builder, and means what it should there.
-    ghost claim_holds: { Self → AB → Type 0 } = { λ _ _. ⊤ };
+    ghost usable: { Self → AB → Type 0 } = { λ _ _. ⊤ };
 
     /// Makes what is zero if the claim holds where the condition does.
     fn make_claim<K: Condition<AB>>(&self, builder: &mut AB, condition: &K) -> AirResult<AB::Expr>
         requires ready { AB.ready builder.old }
-        requires held { Lasts AB.kept (λ b. claim_holds self.now b × K.where_holds condition.now b)
+        requires usable { AlwaysAfter AB.kept (λ b. usable self.now b × K.usable condition.now b)
             builder.old }
         ensures { MakesIn ⟦<AB as View>⟧.view builder.old builder.new result
             (K.under condition.now (claims self.now)) };
@@ -41,7 +41,7 @@ fn assert_claim<AB: AirBuilder, C: Claim<AB>, K: Condition<AB>>(
     claim: &C,
 ) -> AirResult
     requires ready { AB.ready builder.old }
-    requires held { Lasts AB.kept (λ b. C.claim_holds claim.now b × K.where_holds condition.now b)
+    requires usable { AlwaysAfter AB.kept (λ b. C.usable claim.now b × K.usable condition.now b)
         builder.old }
     ensures { AssertedIn ⟦<AB as View>⟧.view builder.old builder.new result
         (is_zero (K.under condition.now (C.claims claim.now))) }
@@ -57,7 +57,7 @@ pub struct Zero<X>(pub X);
 impl<AB: AirBuilder, X: Expression<AB>> Claim<AB> for Zero<X> {
     ghost claims = { λ s. X.term s.0 };
 
-    ghost claim_holds = { λ s b. X.holds s.0 b };
+    ghost usable = { λ s b. X.usable s.0 b };
 
     #[inline(always)]
     fn make_claim<K: Condition<AB>>(&self, builder: &mut AB, condition: &K) -> AirResult<AB::Expr> {
@@ -68,7 +68,7 @@ impl<AB: AirBuilder, X: Expression<AB>> Claim<AB> for Zero<X> {
 impl<AB: AirBuilder, X: Expression<AB>> Constraint<AB> for Zero<X> {
     ghost asserts = { λ s f _. is_zero (f (⟦<Zero<X> as Claim<AB>>⟧.claims s)) };
 
-    ghost all_hold = { λ s b. ⟦<Zero<X> as Claim<AB>>⟧.claim_holds s b };
+    ghost usable = { λ s b. ⟦<Zero<X> as Claim<AB>>⟧.usable s b };
 
     #[inline(always)]
     fn assert_under<K: Condition<AB>>(&self, builder: &mut AB, condition: &K) -> AirResult {
@@ -83,7 +83,7 @@ pub struct IsOne<X>(pub X);
 impl<AB: AirBuilder, X: Expression<AB>> Claim<AB> for IsOne<X> {
     ghost claims = { λ s. less_one_term AB.F.ring.one (X.term s.0) };
 
-    ghost claim_holds = { λ s b. X.holds s.0 b };
+    ghost usable = { λ s b. X.usable s.0 b };
 
     #[inline(always)]
     fn make_claim<K: Condition<AB>>(&self, builder: &mut AB, condition: &K) -> AirResult<AB::Expr> {
@@ -94,7 +94,7 @@ impl<AB: AirBuilder, X: Expression<AB>> Claim<AB> for IsOne<X> {
 impl<AB: AirBuilder, X: Expression<AB>> Constraint<AB> for IsOne<X> {
     ghost asserts = { λ s f _. is_zero (f (⟦<IsOne<X> as Claim<AB>>⟧.claims s)) };
 
-    ghost all_hold = { λ s b. ⟦<IsOne<X> as Claim<AB>>⟧.claim_holds s b };
+    ghost usable = { λ s b. ⟦<IsOne<X> as Claim<AB>>⟧.usable s b };
 
     #[inline(always)]
     fn assert_under<K: Condition<AB>>(&self, builder: &mut AB, condition: &K) -> AirResult {
@@ -109,7 +109,7 @@ pub struct Equal<X, Y>(pub X, pub Y);
 impl<AB: AirBuilder, X: Expression<AB>, Y: Expression<AB>> Claim<AB> for Equal<X, Y> {
     ghost claims = { λ s. X.term s.0 ⊖ Y.term s.1 };
 
-    ghost claim_holds = { λ s b. X.holds s.0 b × Y.holds s.1 b };
+    ghost usable = { λ s b. X.usable s.0 b × Y.usable s.1 b };
 
     #[inline(always)]
     fn make_claim<K: Condition<AB>>(&self, builder: &mut AB, condition: &K) -> AirResult<AB::Expr> {
@@ -120,7 +120,7 @@ impl<AB: AirBuilder, X: Expression<AB>, Y: Expression<AB>> Claim<AB> for Equal<X
 impl<AB: AirBuilder, X: Expression<AB>, Y: Expression<AB>> Constraint<AB> for Equal<X, Y> {
     ghost asserts = { λ s f _. is_zero (f (⟦<Equal<X, Y> as Claim<AB>>⟧.claims s)) };
 
-    ghost all_hold = { λ s b. ⟦<Equal<X, Y> as Claim<AB>>⟧.claim_holds s b };
+    ghost usable = { λ s b. ⟦<Equal<X, Y> as Claim<AB>>⟧.usable s b };
 
     #[inline(always)]
     fn assert_under<K: Condition<AB>>(&self, builder: &mut AB, condition: &K) -> AirResult {
@@ -135,7 +135,7 @@ pub struct Boolean<X>(pub X);
 impl<AB: AirBuilder, X: Expression<AB>> Claim<AB> for Boolean<X> {
     ghost claims = { λ s. bool_check_term AB.F.ring.one (X.term s.0) };
 
-    ghost claim_holds = { λ s b. X.holds s.0 b };
+    ghost usable = { λ s b. X.usable s.0 b };
 
     #[inline(always)]
     fn make_claim<K: Condition<AB>>(&self, builder: &mut AB, condition: &K) -> AirResult<AB::Expr> {
@@ -146,7 +146,7 @@ impl<AB: AirBuilder, X: Expression<AB>> Claim<AB> for Boolean<X> {
 impl<AB: AirBuilder, X: Expression<AB>> Constraint<AB> for Boolean<X> {
     ghost asserts = { λ s f _. is_zero (f (⟦<Boolean<X> as Claim<AB>>⟧.claims s)) };
 
-    ghost all_hold = { λ s b. ⟦<Boolean<X> as Claim<AB>>⟧.claim_holds s b };
+    ghost usable = { λ s b. ⟦<Boolean<X> as Claim<AB>>⟧.usable s b };
 
     #[inline(always)]
     fn assert_under<K: Condition<AB>>(&self, builder: &mut AB, condition: &K) -> AirResult {

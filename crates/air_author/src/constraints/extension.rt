@@ -7,7 +7,7 @@ ghost use Rattle.air_builder.specs.Notation.{ext_is_zero, ◌⊖◌};
 ghost use Rattle.air_builder.specs.Builders.{less_one_term};
 ghost use Rattle.air_builder.specs.Batches.{AssertedIn};
 ghost use Rattle.air_author.specs.Constraints.{IsLabelled};
-ghost use Rattle.air_author.specs.Expressions.{MakesIn, Lasts};
+ghost use Rattle.air_author.specs.Expressions.{MakesIn, AlwaysAfter};
 
 use crate::AirResult;
 use crate::conditions::Condition;
@@ -25,7 +25,7 @@ pub trait ExtClaim<AB: ExtensionBuilder> {
     ghost ext_claims: { Self → Term AB.F };
 
     /// What it holds ready-made is of the builder, and means what it should there.
-    ghost ext_claim_holds: { Self → AB → Type 0 } = { λ _ _. ⊤ };
+    ghost usable: { Self → AB → Type 0 } = { λ _ _. ⊤ };
 
     /// Makes what is zero if the claim holds where the condition does.
     fn make_ext_claim<K: Condition<AB>>(
@@ -34,7 +34,7 @@ pub trait ExtClaim<AB: ExtensionBuilder> {
         condition: &K,
     ) -> AirResult<AB::ExprEF>
         requires ready { AB.ready builder.old }
-        requires held { Lasts AB.kept (λ b. ext_claim_holds self.now b × K.where_holds condition.now
+        requires usable { AlwaysAfter AB.kept (λ b. usable self.now b × K.usable condition.now
             b)
             builder.old }
         ensures { MakesIn ⟦<AB as ViewOver>⟧.view builder.old builder.new result
@@ -49,7 +49,7 @@ fn assert_ext_claim<AB: ExtensionBuilder, C: ExtClaim<AB>, K: Condition<AB>>(
     claim: &C,
 ) -> AirResult
     requires ready { AB.ready builder.old }
-    requires held { Lasts AB.kept (λ b. C.ext_claim_holds claim.now b × K.where_holds condition.now
+    requires usable { AlwaysAfter AB.kept (λ b. C.usable claim.now b × K.usable condition.now
         b)
         builder.old }
     ensures { AssertedIn ⟦<AB as View>⟧.view builder.old builder.new result
@@ -66,7 +66,7 @@ pub struct ExtZero<X>(pub X);
 impl<AB: ExtensionBuilder, X: ExtExpression<AB>> ExtClaim<AB> for ExtZero<X> {
     ghost ext_claims = { λ s. X.ext_term s.0 };
 
-    ghost ext_claim_holds = { λ s b. X.ext_holds s.0 b };
+    ghost usable = { λ s b. X.usable s.0 b };
 
     #[inline(always)]
     fn make_ext_claim<K: Condition<AB>>(
@@ -81,7 +81,7 @@ impl<AB: ExtensionBuilder, X: ExtExpression<AB>> ExtClaim<AB> for ExtZero<X> {
 impl<AB: ExtensionBuilder, X: ExtExpression<AB>> Constraint<AB> for ExtZero<X> {
     ghost asserts = { λ s _ g. ext_is_zero (g (⟦<ExtZero<X> as ExtClaim<AB>>⟧.ext_claims s)) };
 
-    ghost all_hold = { λ s b. ⟦<ExtZero<X> as ExtClaim<AB>>⟧.ext_claim_holds s b };
+    ghost usable = { λ s b. ⟦<ExtZero<X> as ExtClaim<AB>>⟧.usable s b };
 
     #[inline(always)]
     fn assert_under<K: Condition<AB>>(&self, builder: &mut AB, condition: &K) -> AirResult {
@@ -96,7 +96,7 @@ pub struct ExtIsOne<X>(pub X);
 impl<AB: ExtensionBuilder, X: ExtExpression<AB>> ExtClaim<AB> for ExtIsOne<X> {
     ghost ext_claims = { λ s. less_one_term AB.F.ring.one (X.ext_term s.0) };
 
-    ghost ext_claim_holds = { λ s b. X.ext_holds s.0 b };
+    ghost usable = { λ s b. X.usable s.0 b };
 
     #[inline(always)]
     fn make_ext_claim<K: Condition<AB>>(
@@ -111,7 +111,7 @@ impl<AB: ExtensionBuilder, X: ExtExpression<AB>> ExtClaim<AB> for ExtIsOne<X> {
 impl<AB: ExtensionBuilder, X: ExtExpression<AB>> Constraint<AB> for ExtIsOne<X> {
     ghost asserts = { λ s _ g. ext_is_zero (g (⟦<ExtIsOne<X> as ExtClaim<AB>>⟧.ext_claims s)) };
 
-    ghost all_hold = { λ s b. ⟦<ExtIsOne<X> as ExtClaim<AB>>⟧.ext_claim_holds s b };
+    ghost usable = { λ s b. ⟦<ExtIsOne<X> as ExtClaim<AB>>⟧.usable s b };
 
     #[inline(always)]
     fn assert_under<K: Condition<AB>>(&self, builder: &mut AB, condition: &K) -> AirResult {
@@ -127,7 +127,7 @@ impl<AB: ExtensionBuilder, X: ExtExpression<AB>, Y: ExtExpression<AB>> ExtClaim<
     for ExtEqual<X, Y> {
     ghost ext_claims = { λ s. X.ext_term s.0 ⊖ Y.ext_term s.1 };
 
-    ghost ext_claim_holds = { λ s b. X.ext_holds s.0 b × Y.ext_holds s.1 b };
+    ghost usable = { λ s b. X.usable s.0 b × Y.usable s.1 b };
 
     #[inline(always)]
     fn make_ext_claim<K: Condition<AB>>(
@@ -143,7 +143,7 @@ impl<AB: ExtensionBuilder, X: ExtExpression<AB>, Y: ExtExpression<AB>> Constrain
     for ExtEqual<X, Y> {
     ghost asserts = { λ s _ g. ext_is_zero (g (⟦<ExtEqual<X, Y> as ExtClaim<AB>>⟧.ext_claims s)) };
 
-    ghost all_hold = { λ s b. ⟦<ExtEqual<X, Y> as ExtClaim<AB>>⟧.ext_claim_holds s b };
+    ghost usable = { λ s b. ⟦<ExtEqual<X, Y> as ExtClaim<AB>>⟧.usable s b };
 
     #[inline(always)]
     fn assert_under<K: Condition<AB>>(&self, builder: &mut AB, condition: &K) -> AirResult {
@@ -158,7 +158,7 @@ pub struct ExtBoolean<X>(pub X);
 impl<AB: ExtensionBuilder, X: ExtExpression<AB>> ExtClaim<AB> for ExtBoolean<X> {
     ghost ext_claims = { λ s. bool_check_term AB.F.ring.one (X.ext_term s.0) };
 
-    ghost ext_claim_holds = { λ s b. X.ext_holds s.0 b };
+    ghost usable = { λ s b. X.usable s.0 b };
 
     #[inline(always)]
     fn make_ext_claim<K: Condition<AB>>(
@@ -173,7 +173,7 @@ impl<AB: ExtensionBuilder, X: ExtExpression<AB>> ExtClaim<AB> for ExtBoolean<X> 
 impl<AB: ExtensionBuilder, X: ExtExpression<AB>> Constraint<AB> for ExtBoolean<X> {
     ghost asserts = { λ s _ g. ext_is_zero (g (⟦<ExtBoolean<X> as ExtClaim<AB>>⟧.ext_claims s)) };
 
-    ghost all_hold = { λ s b. ⟦<ExtBoolean<X> as ExtClaim<AB>>⟧.ext_claim_holds s b };
+    ghost usable = { λ s b. ⟦<ExtBoolean<X> as ExtClaim<AB>>⟧.usable s b };
 
     #[inline(always)]
     fn assert_under<K: Condition<AB>>(&self, builder: &mut AB, condition: &K) -> AirResult {
@@ -188,13 +188,13 @@ pub struct ExtNamed<N, C>(pub N, pub C);
 impl<AB: NamedExtensionBuilder, N: Label, C: ExtClaim<AB>> Constraint<AB> for ExtNamed<N, C> {
     ghost asserts = { λ s _ g. ext_is_zero (g (C.ext_claims s.1)) };
 
-    ghost all_hold = { λ s b. C.ext_claim_holds s.1 b };
+    ghost usable = { λ s b. C.usable s.1 b };
 
     #[inline(always)]
     fn assert_under<K: Condition<AB>>(&self, builder: &mut AB, condition: &K) -> AirResult
         requires ready { AB.ready builder.old }
-        requires held { Lasts AB.kept (λ b. C.ext_claim_holds self.now.1 b ×
-            K.where_holds condition.now b)
+        requires usable { AlwaysAfter AB.kept (λ b. C.usable self.now.1 b ×
+            K.usable condition.now b)
             builder.old }
         ensures asserted { AssertedIn ⟦<AB as View>⟧.view builder.old builder.new result
             (ext_is_zero (K.ext_under condition.now (C.ext_claims self.now.1))) }

@@ -5,7 +5,7 @@ ghost use Rattle.air_field.specs.Term.{Term};
 ghost use Rattle.air_builder.specs.Assertion.{Assertion};
 ghost use Rattle.air_builder.specs.Batches.{AssertedIn};
 ghost use Rattle.air_author.specs.Constraints.{asserts_of_each, asserts_of_first};
-ghost use Rattle.air_author.specs.Expressions.{Lasts};
+ghost use Rattle.air_author.specs.Expressions.{AlwaysAfter};
 
 use crate::AirResult;
 use crate::conditions::Condition;
@@ -19,7 +19,7 @@ pub struct Each<'a, C>(pub &'a [C]);
 impl<'a, AB: AirBuilder, C: Constraint<AB>> Constraint<AB> for Each<'a, C> {
     ghost asserts = { λ s f g. asserts_of_each (λ c. C.asserts c f g) s.0.now };
 
-    ghost all_hold = { λ s b. EachOf (λ c. C.all_hold c b) s.0.now };
+    ghost usable = { λ s b. EachOf (λ c. C.usable c b) s.0.now };
 
     fn assert_under<K: Condition<AB>>(&self, builder: &mut AB, condition: &K) -> AirResult {
         let constraints = self.0;
@@ -40,7 +40,7 @@ pub trait Family<AB: AirBuilder> {
         (Assertion AB.F) };
 
     /// Every expression inside that was made before was made by this builder, and still means its value's term there.
-    ghost family_holds: { Self → AB → Type 0 } = { λ _ _. ⊤ };
+    ghost usable: { Self → AB → Type 0 } = { λ _ _. ⊤ };
 
     /// How many there are.
     fn size(&self) -> usize
@@ -55,7 +55,7 @@ pub trait Family<AB: AirBuilder> {
     ) -> AirResult
         requires ready { AB.ready builder.old }
         requires within { index < size self.now }
-        requires held { Lasts AB.kept (λ b. family_holds self.now b × K.where_holds condition.now b)
+        requires usable { AlwaysAfter AB.kept (λ b. usable self.now b × K.usable condition.now b)
             builder.old }
         ensures { AssertedIn ⟦<AB as View>⟧.view builder.old builder.new result
             (asserts_at self.now index (K.under condition.now) (K.ext_under condition.now)) };
@@ -68,7 +68,7 @@ pub struct All<C>(pub C);
 impl<AB: AirBuilder, C: Family<AB>> Constraint<AB> for All<C> {
     ghost asserts = { λ s f g. asserts_of_first (λ i. C.asserts_at s.0 i f g) (C.size s.0) };
 
-    ghost all_hold = { λ s b. C.family_holds s.0 b };
+    ghost usable = { λ s b. C.usable s.0 b };
 
     fn assert_under<K: Condition<AB>>(&self, builder: &mut AB, condition: &K) -> AirResult {
         let size = self.0.size();

@@ -4,7 +4,7 @@ ghost use Rattle.air_builder.specs.Assertion.{Base};
 ghost use Rattle.air_builder.specs.Notation.{is_zero};
 ghost use Rattle.air_builder.specs.Batches.{AssertedIn};
 ghost use Rattle.air_author.specs.Constraints.{IsLabelled};
-ghost use Rattle.air_author.specs.Expressions.{Lasts};
+ghost use Rattle.air_author.specs.Expressions.{AlwaysAfter};
 
 use crate::AirResult;
 use crate::conditions::Condition;
@@ -37,12 +37,12 @@ pub struct Named<N, C>(pub N, pub C);
 impl<AB: NamedAirBuilder, N: Label, C: Claim<AB>> Constraint<AB> for Named<N, C> {
     ghost asserts = { λ s f _. is_zero (f (C.claims s.1)) };
 
-    ghost all_hold = { λ s b. C.claim_holds s.1 b };
+    ghost usable = { λ s b. C.usable s.1 b };
 
     #[inline(always)]
     fn assert_under<K: Condition<AB>>(&self, builder: &mut AB, condition: &K) -> AirResult
         requires ready { AB.ready builder.old }
-        requires held { Lasts AB.kept (λ b. C.claim_holds self.now.1 b × K.where_holds condition.now
+        requires usable { AlwaysAfter AB.kept (λ b. C.usable self.now.1 b × K.usable condition.now
             b)
             builder.old }
         ensures asserted { AssertedIn ⟦<AB as View>⟧.view builder.old builder.new result

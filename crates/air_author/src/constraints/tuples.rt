@@ -1,7 +1,7 @@
 //! Constraints one after another.
 ghost use Rattle.std.specs.Prelude.{◌++◌};
 ghost use Rattle.air_builder.specs.Batches.{AssertedIn};
-ghost use Rattle.air_author.specs.Expressions.{Lasts};
+ghost use Rattle.air_author.specs.Expressions.{AlwaysAfter};
 
 use crate::AirResult;
 use crate::conditions::Condition;
@@ -20,8 +20,8 @@ fn assert_two<AB: AirBuilder, C: Constraint<AB>, D: Constraint<AB>, K: Condition
     d: &D,
 ) -> AirResult
     requires ready { AB.ready builder.old }
-    requires held { Lasts AB.kept
-        (λ b. (C.all_hold c.now b × D.all_hold d.now b) × K.where_holds condition.now b)
+    requires usable { AlwaysAfter AB.kept
+        (λ b. (C.usable c.now b × D.usable d.now b) × K.usable condition.now b)
         builder.old }
     ensures { let under = K.under condition.now in let ext_under = K.ext_under condition.now in
         AssertedIn ⟦<AB as View>⟧.view builder.old builder.new result
@@ -40,9 +40,9 @@ fn assert_three<
     K: Condition<AB>,
 >(builder: &mut AB, condition: &K, c: &C, d: &D, e: &E) -> AirResult
     requires ready { AB.ready builder.old }
-    requires held { Lasts AB.kept
-        (λ b. (C.all_hold c.now b × (D.all_hold d.now b × E.all_hold e.now b))
-        × K.where_holds condition.now b) builder.old }
+    requires usable { AlwaysAfter AB.kept
+        (λ b. (C.usable c.now b × (D.usable d.now b × E.usable e.now b))
+        × K.usable condition.now b) builder.old }
     ensures { let under = K.under condition.now in let ext_under = K.ext_under condition.now in
         AssertedIn ⟦<AB as View>⟧.view builder.old builder.new result
         (C.asserts c.now under ext_under ++ (D.asserts d.now under ext_under
@@ -62,9 +62,9 @@ fn assert_four<
     K: Condition<AB>,
 >(builder: &mut AB, condition: &K, c: &C, d: &D, e: &E, g: &G) -> AirResult
     requires ready { AB.ready builder.old }
-    requires held { Lasts AB.kept
-        (λ b. (C.all_hold c.now b × (D.all_hold d.now b × (E.all_hold e.now b
-        × G.all_hold g.now b))) × K.where_holds condition.now b) builder.old }
+    requires usable { AlwaysAfter AB.kept
+        (λ b. (C.usable c.now b × (D.usable d.now b × (E.usable e.now b
+        × G.usable g.now b))) × K.usable condition.now b) builder.old }
     ensures { let under = K.under condition.now in let ext_under = K.ext_under condition.now in
         AssertedIn ⟦<AB as View>⟧.view builder.old builder.new result
         (C.asserts c.now under ext_under ++ (D.asserts d.now under ext_under
@@ -78,7 +78,7 @@ fn assert_four<
 impl<AB: AirBuilder, C: Constraint<AB>, D: Constraint<AB>> Constraint<AB> for (C, D) {
     ghost asserts = { λ s f g. C.asserts s.0 f g ++ D.asserts s.1 f g };
 
-    ghost all_hold = { λ s b. C.all_hold s.0 b × D.all_hold s.1 b };
+    ghost usable = { λ s b. C.usable s.0 b × D.usable s.1 b };
 
     #[inline(always)]
     fn assert_under<K: Condition<AB>>(&self, builder: &mut AB, condition: &K) -> AirResult {
@@ -91,7 +91,7 @@ impl<AB: AirBuilder, C: Constraint<AB>, D: Constraint<AB>, E: Constraint<AB>> Co
     for (C, D, E) {
     ghost asserts = { λ s f g. C.asserts s.0 f g ++ (D.asserts s.1 f g ++ E.asserts s.2 f g) };
 
-    ghost all_hold = { λ s b. C.all_hold s.0 b × (D.all_hold s.1 b × E.all_hold s.2 b) };
+    ghost usable = { λ s b. C.usable s.0 b × (D.usable s.1 b × E.usable s.2 b) };
 
     #[inline(always)]
     fn assert_under<K: Condition<AB>>(&self, builder: &mut AB, condition: &K) -> AirResult {
@@ -110,8 +110,8 @@ impl<
     ghost asserts = { λ s f g. C.asserts s.0 f g ++ (D.asserts s.1 f g
         ++ (E.asserts s.2 f g ++ G.asserts s.3 f g)) };
 
-    ghost all_hold = { λ s b. C.all_hold s.0 b × (D.all_hold s.1 b
-        × (E.all_hold s.2 b × G.all_hold s.3 b)) };
+    ghost usable = { λ s b. C.usable s.0 b × (D.usable s.1 b
+        × (E.usable s.2 b × G.usable s.3 b)) };
 
     #[inline(always)]
     fn assert_under<K: Condition<AB>>(&self, builder: &mut AB, condition: &K) -> AirResult {
@@ -131,8 +131,8 @@ impl<
     ghost asserts = { λ s f g. C.asserts s.0 f g ++ (D.asserts s.1 f g
         ++ (E.asserts s.2 f g ++ (G.asserts s.3 f g ++ H.asserts s.4 f g))) };
 
-    ghost all_hold = { λ s b. C.all_hold s.0 b × (D.all_hold s.1 b
-        × (E.all_hold s.2 b × (G.all_hold s.3 b × H.all_hold s.4 b))) };
+    ghost usable = { λ s b. C.usable s.0 b × (D.usable s.1 b
+        × (E.usable s.2 b × (G.usable s.3 b × H.usable s.4 b))) };
 
     #[inline(always)]
     fn assert_under<K: Condition<AB>>(&self, builder: &mut AB, condition: &K) -> AirResult {

@@ -16,7 +16,7 @@ impl<AB: AirBuilder, S: Expression<AB>, C: Constraint<AB>> Constraint<AB> for Wh
     ghost asserts = { λ s f g. C.asserts s.1 (λ t. f (S.term s.0 ⊙ t))
         (λ t. g (t ⊙ S.term s.0)) };
 
-    ghost all_hold = { λ s b. S.holds s.0 b × C.all_hold s.1 b };
+    ghost usable = { λ s b. S.usable s.0 b × C.usable s.1 b };
 
     #[inline(always)]
     fn assert_under<K: Condition<AB>>(&self, builder: &mut AB, condition: &K) -> AirResult {

@@ -1,6 +1,6 @@
 //! Expressions that are made already.
 ghost use Rattle.air_builder.specs.Builders.{Means};
-ghost use Rattle.air_author.specs.Expressions.{Holds};
+ghost use Rattle.air_author.specs.Expressions.{IsUsable};
 
 use crate::AirResult;
 use crate::expressions::{Expression, ExtExpression};
@@ -15,7 +15,7 @@ pub struct Already<E, X>(pub E, pub X);
 impl<AB: AirBuilder, X: Expression<AB>> Expression<AB> for Already<AB::Expr, X> {
     ghost term = { λ s. X.term s.1 };
 
-    ghost holds = { λ s b. Holds (Means AB.Ring.means AB.ring_of AB.reads_as) AB.missing
+    ghost usable = { λ s b. IsUsable (Means AB.Ring.means AB.ring_of AB.reads_as) AB.missing
         s.0 (X.term s.1) b };
 
     #[inline(always)]
@@ -27,7 +27,7 @@ impl<AB: AirBuilder, X: Expression<AB>> Expression<AB> for Already<AB::Expr, X> 
 impl<AB: ExtensionBuilder, X: ExtExpression<AB>> ExtExpression<AB> for Already<AB::ExprEF, X> {
     ghost ext_term = { λ s. X.ext_term s.1 };
 
-    ghost ext_holds = { λ s b. Holds (Means AB.ExtRing.means AB.ext_ring_of AB.reads_as) AB.missing
+    ghost usable = { λ s b. IsUsable (Means AB.ExtRing.means AB.ext_ring_of AB.reads_as) AB.missing
         s.0 (X.ext_term s.1) b };
 
     #[inline(always)]

@@ -1,7 +1,7 @@
 //! Operations on expressions.
 ghost use Rattle.air_field.specs.Algebra.{double_term, bool_check_term};
 ghost use Rattle.air_builder.specs.Notation.{negative, ◌⊕◌, ◌⊖◌, ◌⊙◌};
-ghost use Rattle.air_author.specs.Expressions.{Lasts, MakesIn, MakesBothIn};
+ghost use Rattle.air_author.specs.Expressions.{AlwaysAfter, MakesIn, MakesBothIn};
 
 use crate::AirResult;
 use crate::expressions::{Expression, answered};
@@ -16,7 +16,7 @@ fn make_both<AB: AirBuilder, X: Expression<AB>, Y: Expression<AB>>(
     y: &Y,
 ) -> AirResult<(AB::Expr, AB::Expr)>
     requires ready { AB.ready builder.old }
-    requires held { Lasts AB.kept (λ b. X.holds x.now b × Y.holds y.now b) builder.old }
+    requires usable { AlwaysAfter AB.kept (λ b. X.usable x.now b × Y.usable y.now b) builder.old }
     ensures { MakesBothIn ⟦<AB as View>⟧.view builder.old builder.new result (X.term x.now)
         (Y.term y.now) }
 {
@@ -33,7 +33,7 @@ pub fn make_sum<AB: AirBuilder, X: Expression<AB>, Y: Expression<AB>>(
     y: &Y,
 ) -> AirResult<AB::Expr>
     requires ready { AB.ready builder.old }
-    requires held { Lasts AB.kept (λ b. X.holds x.now b × Y.holds y.now b) builder.old }
+    requires usable { AlwaysAfter AB.kept (λ b. X.usable x.now b × Y.usable y.now b) builder.old }
     ensures { MakesIn ⟦<AB as View>⟧.view builder.old builder.new result
         (X.term x.now ⊕ Y.term y.now) }
 {
@@ -49,7 +49,7 @@ pub fn make_difference<AB: AirBuilder, X: Expression<AB>, Y: Expression<AB>>(
     y: &Y,
 ) -> AirResult<AB::Expr>
     requires ready { AB.ready builder.old }
-    requires held { Lasts AB.kept (λ b. X.holds x.now b × Y.holds y.now b) builder.old }
+    requires usable { AlwaysAfter AB.kept (λ b. X.usable x.now b × Y.usable y.now b) builder.old }
     ensures { MakesIn ⟦<AB as View>⟧.view builder.old builder.new result
         (X.term x.now ⊖ Y.term y.now) }
 {
@@ -65,7 +65,7 @@ pub fn make_product<AB: AirBuilder, X: Expression<AB>, Y: Expression<AB>>(
     y: &Y,
 ) -> AirResult<AB::Expr>
     requires ready { AB.ready builder.old }
-    requires held { Lasts AB.kept (λ b. X.holds x.now b × Y.holds y.now b) builder.old }
+    requires usable { AlwaysAfter AB.kept (λ b. X.usable x.now b × Y.usable y.now b) builder.old }
     ensures { MakesIn ⟦<AB as View>⟧.view builder.old builder.new result
         (X.term x.now ⊙ Y.term y.now) }
 {
@@ -80,7 +80,7 @@ pub struct Sum<X, Y>(pub X, pub Y);
 impl<AB: AirBuilder, X: Expression<AB>, Y: Expression<AB>> Expression<AB> for Sum<X, Y> {
     ghost term = { λ s. X.term s.0 ⊕ Y.term s.1 };
 
-    ghost holds = { λ s b. X.holds s.0 b × Y.holds s.1 b };
+    ghost usable = { λ s b. X.usable s.0 b × Y.usable s.1 b };
 
     #[inline(always)]
     fn make(&self, builder: &mut AB) -> AirResult<AB::Expr> {
@@ -95,7 +95,7 @@ pub struct Difference<X, Y>(pub X, pub Y);
 impl<AB: AirBuilder, X: Expression<AB>, Y: Expression<AB>> Expression<AB> for Difference<X, Y> {
     ghost term = { λ s. X.term s.0 ⊖ Y.term s.1 };
 
-    ghost holds = { λ s b. X.holds s.0 b × Y.holds s.1 b };
+    ghost usable = { λ s b. X.usable s.0 b × Y.usable s.1 b };
 
     #[inline(always)]
     fn make(&self, builder: &mut AB) -> AirResult<AB::Expr> {
@@ -111,7 +111,7 @@ pub struct Less<'a, X, Y>(pub &'a X, pub &'a Y);
 impl<'a, AB: AirBuilder, X: Expression<AB>, Y: Expression<AB>> Expression<AB> for Less<'a, X, Y> {
     ghost term = { λ s. X.term s.0.now ⊖ Y.term s.1.now };
 
-    ghost holds = { λ s b. X.holds s.0.now b × Y.holds s.1.now b };
+    ghost usable = { λ s b. X.usable s.0.now b × Y.usable s.1.now b };
 
     #[inline(always)]
     fn make(&self, builder: &mut AB) -> AirResult<AB::Expr> {
@@ -127,7 +127,7 @@ pub struct Gated<'a, S, X>(pub &'a S, pub &'a X);
 impl<'a, AB: AirBuilder, S: Expression<AB>, X: Expression<AB>> Expression<AB> for Gated<'a, S, X> {
     ghost term = { λ s. S.term s.0.now ⊙ X.term s.1.now };
 
-    ghost holds = { λ s b. S.holds s.0.now b × X.holds s.1.now b };
+    ghost usable = { λ s b. S.usable s.0.now b × X.usable s.1.now b };
 
     #[inline(always)]
     fn make(&self, builder: &mut AB) -> AirResult<AB::Expr> {
@@ -143,7 +143,7 @@ pub struct Product<X, Y>(pub X, pub Y);
 impl<AB: AirBuilder, X: Expression<AB>, Y: Expression<AB>> Expression<AB> for Product<X, Y> {
     ghost term = { λ s. X.term s.0 ⊙ Y.term s.1 };
 
-    ghost holds = { λ s b. X.holds s.0 b × Y.holds s.1 b };
+    ghost usable = { λ s b. X.usable s.0 b × Y.usable s.1 b };
 
     #[inline(always)]
     fn make(&self, builder: &mut AB) -> AirResult<AB::Expr> {
@@ -158,7 +158,7 @@ pub struct Negative<X>(pub X);
 impl<AB: AirBuilder, X: Expression<AB>> Expression<AB> for Negative<X> {
     ghost term = { λ s. negative (X.term s.0) };
 
-    ghost holds = { λ s b. X.holds s.0 b };
+    ghost usable = { λ s b. X.usable s.0 b };
 
     #[inline(always)]
     fn make(&self, builder: &mut AB) -> AirResult<AB::Expr> {
@@ -174,7 +174,7 @@ pub struct Double<X>(pub X);
 impl<AB: AirBuilder, X: Expression<AB>> Expression<AB> for Double<X> {
     ghost term = { λ s. double_term (X.term s.0) };
 
-    ghost holds = { λ s b. X.holds s.0 b };
+    ghost usable = { λ s b. X.usable s.0 b };
 
     #[inline(always)]
     fn make(&self, builder: &mut AB) -> AirResult<AB::Expr> {
@@ -190,7 +190,7 @@ pub struct Square<X>(pub X);
 impl<AB: AirBuilder, X: Expression<AB>> Expression<AB> for Square<X> {
     ghost term = { λ s. X.term s.0 ⊙ X.term s.0 };
 
-    ghost holds = { λ s b. X.holds s.0 b };
+    ghost usable = { λ s b. X.usable s.0 b };
 
     #[inline(always)]
     fn make(&self, builder: &mut AB) -> AirResult<AB::Expr> {
@@ -206,7 +206,7 @@ pub struct BoolCheck<X>(pub X);
 impl<AB: AirBuilder, X: Expression<AB>> Expression<AB> for BoolCheck<X> {
     ghost term = { λ s. bool_check_term AB.F.ring.one (X.term s.0) };
 
-    ghost holds = { λ s b. X.holds s.0 b };
+    ghost usable = { λ s b. X.usable s.0 b };
 
     #[inline(always)]
     fn make(&self, builder: &mut AB) -> AirResult<AB::Expr> {

@@ -1,7 +1,7 @@
 //! Expressions over the extension. Operations are those on base expressions.
 ghost use Rattle.air_field.specs.Algebra.{double_term, bool_check_term};
 ghost use Rattle.air_builder.specs.Notation.{ext_constant, negative, ◌⊕◌, ◌⊖◌, ◌⊙◌};
-ghost use Rattle.air_author.specs.Expressions.{Lasts, MakesIn, MakesBothIn, power_term};
+ghost use Rattle.air_author.specs.Expressions.{AlwaysAfter, MakesIn, MakesBothIn, power_term};
 
 use crate::AirResult;
 use crate::expressions::arithmetic::{
@@ -20,7 +20,7 @@ pub(crate) fn make_lifted<AB: ExtensionBuilder, X: Expression<AB>>(
     x: &X,
 ) -> AirResult<AB::ExprEF>
     requires ready { AB.ready builder.old }
-    requires held { Lasts AB.kept (X.holds x.now) builder.old }
+    requires usable { AlwaysAfter AB.kept (X.usable x.now) builder.old }
     ensures { MakesIn ⟦<AB as ViewOver>⟧.view builder.old builder.new result (X.term x.now) }
 {
     let x = x.make(builder)?;
@@ -34,7 +34,7 @@ pub struct Lifted<X>(pub X);
 impl<AB: ExtensionBuilder, X: Expression<AB>> ExtExpression<AB> for Lifted<X> {
     ghost ext_term = { λ s. X.term s.0 };
 
-    ghost ext_holds = { λ s b. X.holds s.0 b };
+    ghost usable = { λ s b. X.usable s.0 b };
 
     #[inline(always)]
     fn make_ext(&self, builder: &mut AB) -> AirResult<AB::ExprEF> {
@@ -49,7 +49,7 @@ pub(crate) struct LiftedAt<'a, X>(pub(crate) &'a X);
 impl<'a, AB: ExtensionBuilder, X: Expression<AB>> ExtExpression<AB> for LiftedAt<'a, X> {
     ghost ext_term = { λ s. X.term s.0.now };
 
-    ghost ext_holds = { λ s b. X.holds s.0.now b };
+    ghost usable = { λ s b. X.usable s.0.now b };
 
     #[inline(always)]
     fn make_ext(&self, builder: &mut AB) -> AirResult<AB::ExprEF> {
@@ -78,7 +78,7 @@ fn make_both_ext<AB: ExtensionBuilder, X: ExtExpression<AB>, Y: ExtExpression<AB
     y: &Y,
 ) -> AirResult<(AB::ExprEF, AB::ExprEF)>
     requires ready { AB.ready builder.old }
-    requires held { Lasts AB.kept (λ b. X.ext_holds x.now b × Y.ext_holds y.now b) builder.old }
+    requires usable { AlwaysAfter AB.kept (λ b. X.usable x.now b × Y.usable y.now b) builder.old }
     ensures { MakesBothIn ⟦<AB as ViewOver>⟧.view builder.old builder.new result (X.ext_term x.now)
         (Y.ext_term y.now) }
 {
@@ -91,7 +91,7 @@ impl<AB: ExtensionBuilder, X: ExtExpression<AB>, Y: ExtExpression<AB>> ExtExpres
     for Sum<X, Y> {
     ghost ext_term = { λ s. X.ext_term s.0 ⊕ Y.ext_term s.1 };
 
-    ghost ext_holds = { λ s b. X.ext_holds s.0 b × Y.ext_holds s.1 b };
+    ghost usable = { λ s b. X.usable s.0 b × Y.usable s.1 b };
 
     #[inline(always)]
     fn make_ext(&self, builder: &mut AB) -> AirResult<AB::ExprEF> {
@@ -104,7 +104,7 @@ impl<'a, AB: ExtensionBuilder, X: ExtExpression<AB>, Y: ExtExpression<AB>> ExtEx
     for Less<'a, X, Y> {
     ghost ext_term = { λ s. X.ext_term s.0.now ⊖ Y.ext_term s.1.now };
 
-    ghost ext_holds = { λ s b. X.ext_holds s.0.now b × Y.ext_holds s.1.now b };
+    ghost usable = { λ s b. X.usable s.0.now b × Y.usable s.1.now b };
 
     #[inline(always)]
     fn make_ext(&self, builder: &mut AB) -> AirResult<AB::ExprEF> {
@@ -117,7 +117,7 @@ impl<AB: ExtensionBuilder, X: ExtExpression<AB>, Y: ExtExpression<AB>> ExtExpres
     for Difference<X, Y> {
     ghost ext_term = { λ s. X.ext_term s.0 ⊖ Y.ext_term s.1 };
 
-    ghost ext_holds = { λ s b. X.ext_holds s.0 b × Y.ext_holds s.1 b };
+    ghost usable = { λ s b. X.usable s.0 b × Y.usable s.1 b };
 
     #[inline(always)]
     fn make_ext(&self, builder: &mut AB) -> AirResult<AB::ExprEF> {
@@ -133,7 +133,7 @@ impl<'a, AB: ExtensionBuilder, X: ExtExpression<AB>, Y: ExtExpression<AB>> ExtEx
     for Times<'a, X, Y> {
     ghost ext_term = { λ s. X.ext_term s.0.now ⊙ Y.ext_term s.1.now };
 
-    ghost ext_holds = { λ s b. X.ext_holds s.0.now b × Y.ext_holds s.1.now b };
+    ghost usable = { λ s b. X.usable s.0.now b × Y.usable s.1.now b };
 
     #[inline(always)]
     fn make_ext(&self, builder: &mut AB) -> AirResult<AB::ExprEF> {
@@ -146,7 +146,7 @@ impl<AB: ExtensionBuilder, X: ExtExpression<AB>, Y: ExtExpression<AB>> ExtExpres
     for Product<X, Y> {
     ghost ext_term = { λ s. X.ext_term s.0 ⊙ Y.ext_term s.1 };
 
-    ghost ext_holds = { λ s b. X.ext_holds s.0 b × Y.ext_holds s.1 b };
+    ghost usable = { λ s b. X.usable s.0 b × Y.usable s.1 b };
 
     #[inline(always)]
     fn make_ext(&self, builder: &mut AB) -> AirResult<AB::ExprEF> {
@@ -157,7 +157,7 @@ impl<AB: ExtensionBuilder, X: ExtExpression<AB>, Y: ExtExpression<AB>> ExtExpres
 impl<AB: ExtensionBuilder, X: ExtExpression<AB>> ExtExpression<AB> for Negative<X> {
     ghost ext_term = { λ s. negative (X.ext_term s.0) };
 
-    ghost ext_holds = { λ s b. X.ext_holds s.0 b };
+    ghost usable = { λ s b. X.usable s.0 b };
 
     #[inline(always)]
     fn make_ext(&self, builder: &mut AB) -> AirResult<AB::ExprEF> {
@@ -169,7 +169,7 @@ impl<AB: ExtensionBuilder, X: ExtExpression<AB>> ExtExpression<AB> for Negative<
 impl<AB: ExtensionBuilder, X: ExtExpression<AB>> ExtExpression<AB> for Double<X> {
     ghost ext_term = { λ s. double_term (X.ext_term s.0) };
 
-    ghost ext_holds = { λ s b. X.ext_holds s.0 b };
+    ghost usable = { λ s b. X.usable s.0 b };
 
     #[inline(always)]
     fn make_ext(&self, builder: &mut AB) -> AirResult<AB::ExprEF> {
@@ -181,7 +181,7 @@ impl<AB: ExtensionBuilder, X: ExtExpression<AB>> ExtExpression<AB> for Double<X>
 impl<AB: ExtensionBuilder, X: ExtExpression<AB>> ExtExpression<AB> for Square<X> {
     ghost ext_term = { λ s. X.ext_term s.0 ⊙ X.ext_term s.0 };
 
-    ghost ext_holds = { λ s b. X.ext_holds s.0 b };
+    ghost usable = { λ s b. X.usable s.0 b };
 
     #[inline(always)]
     fn make_ext(&self, builder: &mut AB) -> AirResult<AB::ExprEF> {
@@ -193,7 +193,7 @@ impl<AB: ExtensionBuilder, X: ExtExpression<AB>> ExtExpression<AB> for Square<X>
 impl<AB: ExtensionBuilder, X: ExtExpression<AB>> ExtExpression<AB> for BoolCheck<X> {
     ghost ext_term = { λ s. bool_check_term AB.F.ring.one (X.ext_term s.0) };
 
-    ghost ext_holds = { λ s b. X.ext_holds s.0 b };
+    ghost usable = { λ s b. X.usable s.0 b };
 
     #[inline(always)]
     fn make_ext(&self, builder: &mut AB) -> AirResult<AB::ExprEF> {
@@ -205,7 +205,7 @@ impl<AB: ExtensionBuilder, X: ExtExpression<AB>> ExtExpression<AB> for BoolCheck
 impl<AB: ExtensionBuilder, X: ExtExpression<AB>> ExtExpression<AB> for Power<X> {
     ghost ext_term = { λ s. power_term AB.F.ring.one (X.ext_term s.0) s.1 };
 
-    ghost ext_holds = { λ s b. X.ext_holds s.0 b };
+    ghost usable = { λ s b. X.usable s.0 b };
 
     #[inline(always)]
     fn make_ext(&self, builder: &mut AB) -> AirResult<AB::ExprEF> {

@@ -36,7 +36,7 @@ pub struct Power<X>(pub X, pub usize);
 impl<AB: AirBuilder, X: Expression<AB>> Expression<AB> for Power<X> {
     ghost term = { λ s. power_term AB.F.ring.one (X.term s.0) s.1 };
 
-    ghost holds = { λ s b. X.holds s.0 b };
+    ghost usable = { λ s b. X.usable s.0 b };
 
     #[inline(always)]
     fn make(&self, builder: &mut AB) -> AirResult<AB::Expr> {

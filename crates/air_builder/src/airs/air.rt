@@ -175,5 +175,5 @@ pub trait Air<AB: AirBuilder>: BaseAir<AB::F> {
     fn eval(&self, builder: &mut AB) -> Result<(), AirError>
         requires { AB.ready builder.old }
         ensures { Evaluates ⟦<AB as View>⟧.view builder.old builder.new result
-            (Self.declaration self.now).declared };
+            (Self.declaration self.now).constraints };
 }

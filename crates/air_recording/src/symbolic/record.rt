@@ -69,15 +69,15 @@ fn record<F: Field, EF: ExtensionField<F>, A: Air<SymbolicAirBuilder<F, EF>>>(
     layout: AirLayout,
 ) -> Result<SymbolicAirBuilder<F, EF>, AirError>
     ensures base { IfOk result (λ b. RecordsBase F.ring EF.over base_reads b.pool.base
-        b.constraints.base.items (A.declaration air.now).declared) }
+        b.constraints.base.items (A.declaration air.now).constraints) }
     ensures ext { IfOk result (λ b. RecordsExt F.ring EF.over
         (ext_reads EF.basis) b.pool b.constraints.ext.items
-        (A.declaration air.now).declared) }
+        (A.declaration air.now).constraints) }
     ensures base_here { IfOk result (λ b. All (λ i. i < size b.pool.base)
         b.constraints.base.items) }
     ensures ext_here { IfOk result (λ b. All (λ i. i < size b.pool) b.constraints.ext.items) }
     ensures kinds { IfOk result (λ b. RecordsKinds b.constraints.kinds.items
-        (A.declaration air.now).declared) }
+        (A.declaration air.now).constraints) }
     ensures layout { OnOk result (LayoutSuits layout (A.declaration air.now)) }
     ensures answers { OnOk result (RecordingAnswers F.ring EF.over layout (A.declaration air.now)) }
     ensures refused { IfErr result (RecordRefuses layout (A.declaration air.now)) }
@@ -105,10 +105,10 @@ pub fn get_all_symbolic_constraints<
     A: Air<SymbolicAirBuilder<F, EF>>,
 >(alloc: Global, air: &A, layout: AirLayout) -> Result<Recorded<F, EF>, AirError>
     ensures base { IfOk result (λ r. RecordsBase F.ring EF.over
-        base_reads r.pool.base r.base (A.declaration air.now).declared) }
+        base_reads r.pool.base r.base (A.declaration air.now).constraints) }
     ensures ext { IfOk result (λ r. RecordsExt F.ring EF.over
         (ext_reads EF.basis) r.pool r.ext
-        (A.declaration air.now).declared) }
+        (A.declaration air.now).constraints) }
     ensures layout { OnOk result (LayoutSuits layout (A.declaration air.now)) }
     ensures answers { OnOk result (RecordingAnswers F.ring EF.over layout (A.declaration air.now)) }
     ensures refused { IfErr result (RecordRefuses layout (A.declaration air.now)) }
@@ -124,13 +124,13 @@ pub fn record_with_layout<F: Field, EF: ExtensionField<F>, A: Air<SymbolicAirBui
     layout: AirLayout,
 ) -> Result<(Recorded<F, EF>, ConstraintLayout), AirError>
     ensures base { IfOk result (λ r. RecordsBase F.ring EF.over base_reads r.0.pool.base
-        r.0.base (A.declaration air.now).declared) }
+        r.0.base (A.declaration air.now).constraints) }
     ensures ext { IfOk result (λ r. RecordsExt F.ring EF.over
         (ext_reads EF.basis) r.0.pool r.0.ext
-        (A.declaration air.now).declared) }
+        (A.declaration air.now).constraints) }
     ensures base_here { IfOk result (λ r. All (λ i. i < size r.0.pool.base) r.0.base) }
     ensures ext_here { IfOk result (λ r. All (λ i. i < size r.0.pool) r.0.ext) }
-    ensures places { IfOk result (λ r. ArePlacesOf (map kind_of (A.declaration air.now).declared)
+    ensures places { IfOk result (λ r. ArePlacesOf (map kind_of (A.declaration air.now).constraints)
         r.1.base_indices.items r.1.ext_indices.items) }
     ensures layout { OnOk result (LayoutSuits layout (A.declaration air.now)) }
     ensures answers { OnOk result (RecordingAnswers F.ring EF.over layout (A.declaration air.now)) }
@@ -149,7 +149,7 @@ pub fn get_symbolic_constraints<F: SelfExtension, A: Air<SymbolicAirBuilder<F, F
     layout: AirLayout,
 ) -> Result<Recorded<F, F>, AirError>
     ensures base { IfOk result (λ r. RecordsBase F.ring F.over
-        base_reads r.pool.base r.base (A.declaration air.now).declared) }
+        base_reads r.pool.base r.base (A.declaration air.now).constraints) }
     ensures ext { IfOk result (λ r. r.ext ≡ []) }
     ensures layout { OnOk result (LayoutSuits layout (A.declaration air.now)) }
     ensures answers { OnOk result (RecordingAnswers F.ring F.over layout (A.declaration air.now)) }
@@ -169,7 +169,7 @@ pub fn get_symbolic_constraints_extension<
     ensures base { IfOk result (λ r. r.base ≡ []) }
     ensures ext { IfOk result (λ r. RecordsExt F.ring EF.over
         (ext_reads EF.basis) r.pool r.ext
-        (A.declaration air.now).declared) }
+        (A.declaration air.now).constraints) }
     ensures layout { OnOk result (LayoutSuits layout (A.declaration air.now)) }
     ensures answers { OnOk result (RecordingAnswers F.ring EF.over layout (A.declaration air.now)) }
     ensures refused { IfErr result (RecordRefuses layout (A.declaration air.now)) }
@@ -185,7 +185,7 @@ pub fn get_constraint_layout<F: Field, EF: ExtensionField<F>, A: Air<SymbolicAir
     air: &A,
     layout: AirLayout,
 ) -> Result<ConstraintLayout, AirError>
-    ensures places { IfOk result (λ l. ArePlacesOf (map kind_of (A.declaration air.now).declared)
+    ensures places { IfOk result (λ l. ArePlacesOf (map kind_of (A.declaration air.now).constraints)
         l.base_indices.items l.ext_indices.items) }
     ensures layout { OnOk result (LayoutSuits layout (A.declaration air.now)) }
     ensures answers { OnOk result (RecordingAnswers F.ring EF.over layout (A.declaration air.now)) }

@@ -12,7 +12,7 @@ use Rattle.air_core.specs.declared.errors.AirError.{AirError}
 use Rattle.air_core.specs.declared.errors.AirError.TheVariants.{PreprocessedHeight, PeriodNotPowerOfTwo, PeriodDoesNotDivide, Boundary, EmptyTrace}
 use Rattle.air_report.specs.Cells.{left_of, IsCellFault}
 use Rattle.air_report.specs.Checks.{CheckRefuses}
-use Rattle.air_report.specs.Given.{given}
+use Rattle.air_report.specs.Instances.{instance}
 use Rattle.air_report.specs.RowRefusals.{IsFull}
 use Rattle.air_builder.specs.Refused.{Refused}
 use Rattle.air_report.specs.Report.{plain_trace}
@@ -42,7 +42,7 @@ none_listed cap n at x e =
 
 module _ {F : Type 0} (r : CommRing F) (eq : F → F → Bool) (ts : List (Assertion F)) (width count : ℕ) (main : Grid F) (public : List F) (cap : Option ℕ) where
   -- it is refused as its rows are
-  pub plain_refusal : (e : AirError) → CheckRefuses r eq (given (plain_declaration ts width count) main public) cap e
+  pub plain_refusal : (e : AirError) → CheckRefuses r eq (instance (plain_declaration ts width count) main public) cap e
       → Refused (IsMissing (trace_shape (plain_trace main public))) (λ _. ⊥) (IsFull 0) e ts
   plain_refusal e (inl h) = absurd (fits_shapes F Global (length main.rows) e h)
   plain_refusal e (inr h) = elim h.1 [

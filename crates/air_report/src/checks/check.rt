@@ -4,7 +4,7 @@ ghost use Rattle.std.specs.Option.{option_copied};
 ghost use Rattle.air_field.specs.Assignment.{selector, row_or_none};
 ghost use Rattle.air_report.specs.Report.{IsReached};
 ghost use Rattle.air_report.specs.DebugRow.{row_selectors};
-ghost use Rattle.air_report.specs.Given.{given, table_grid};
+ghost use Rattle.air_report.specs.Instances.{instance, table_grid};
 ghost use Rattle.air_report.specs.Checks.{CheckRefuses, CheckedRow, CheckedRows, Fits, HasEntries, IsReport, RowRefuses, RowsRefuse};
 
 use crate::checks::cells::{check_cells, list_cells};
@@ -117,14 +117,14 @@ pub(crate) fn check_row<'a, F: SelfExtension + 'static, A: Air<DebugConstraintBu
     builder: &mut DebugConstraintBuilder<'a, F, F>,
 ) -> Result<(), AirError>
     requires within { row < length main.now.rows }
-    requires fits { Fits (given (A.declaration air.now) main.now public_values.now) }
+    requires fits { Fits (instance (A.declaration air.now) main.now public_values.now) }
     ensures checked { OnOk result (CheckedRow F.ring F.eq
-        (given (A.declaration air.now) main.now public_values.now) row
+        (instance (A.declaration air.now) main.now public_values.now) row
         builder.old.failures.items builder.new.failures.items builder.new.constraint_index) }
     ensures there { OnOk result (HasEntries
-        (given (A.declaration air.now) main.now public_values.now)) }
+        (instance (A.declaration air.now) main.now public_values.now)) }
     ensures refused { IfErr result (RowRefuses
-        (given (A.declaration air.now) main.now public_values.now)) }
+        (instance (A.declaration air.now) main.now public_values.now)) }
 {
     let height = main.height();
     fill_periodic_row(&mut builder.periodic_row, air.periodic_columns(), row)?;
@@ -158,12 +158,12 @@ fn check_rows<'a, F: SelfExtension + 'static, A: Air<DebugConstraintBuilder<'a, 
     public_values: &'a [F],
     max_failures: Option<usize>,
 ) -> Result<RowOutcome, AirError>
-    requires { Fits (given (A.declaration air.now) main.now public_values.now) }
+    requires { Fits (instance (A.declaration air.now) main.now public_values.now) }
     ensures checked { IfOk result (λ c. CheckedRows F.ring F.eq
-        (given (A.declaration air.now) main.now public_values.now) max_failures
+        (instance (A.declaration air.now) main.now public_values.now) max_failures
         c.failures.items c.constraints) }
     ensures refused { IfErr result (RowsRefuse max_failures
-        (given (A.declaration air.now) main.now public_values.now)) }
+        (instance (A.declaration air.now) main.now public_values.now)) }
 {
     let mut builder = DebugConstraintBuilder::at_no_row(alloc);
     'rows: for row in 0..main.height() {
@@ -196,9 +196,9 @@ pub fn check_all_constraints<
     max_failures: Option<usize>,
 ) -> Result<ConstraintReport, AirError>
     ensures report { IfOk result (IsReport F.ring F.eq
-        (given (A.declaration air.now) main.now public_values.now) max_failures) }
+        (instance (A.declaration air.now) main.now public_values.now) max_failures) }
     ensures refused { IfErr result (CheckRefuses F.ring F.eq
-        (given (A.declaration air.now) main.now public_values.now) max_failures) }
+        (instance (A.declaration air.now) main.now public_values.now) max_failures) }
 {
     let total_rows = main.height();
     check_shapes(

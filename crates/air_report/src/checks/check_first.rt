@@ -1,7 +1,7 @@
 //! A check of a whole trace up to its first fault.
 ghost use Rattle.std.specs.Prelude.{◌≡◌, OnOk, IfErr};
 ghost use Rattle.air_report.specs.Checks.{IsSatisfied, IsFirstError};
-ghost use Rattle.air_report.specs.Given.{given};
+ghost use Rattle.air_report.specs.Instances.{instance};
 ghost use Rattle.air_report.specs.declared.checks.check_first.CheckError.TheVariants.{Refused};
 
 use crate::checks::cells::{check_cells, first_mismatch};
@@ -59,9 +59,9 @@ pub fn check_constraints<'a, F: SelfExtension + 'static, A: Air<DebugConstraintB
     public_values: &'a [F],
 ) -> Result<(), CheckError>
     ensures kept { OnOk result (IsSatisfied F.ring F.eq
-        (given (A.declaration air.now) main.now public_values.now)) }
+        (instance (A.declaration air.now) main.now public_values.now)) }
     ensures error { IfErr result (IsFirstError F.ring F.eq
-        (given (A.declaration air.now) main.now public_values.now)) }
+        (instance (A.declaration air.now) main.now public_values.now)) }
 {
     let height = main.height();
     check_shapes(

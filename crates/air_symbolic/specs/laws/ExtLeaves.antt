@@ -57,7 +57,7 @@ module _ {F EF : Type 0} {r : CommRing F} {over : AlgebraOver F EF} {basis : Bas
   pub ext_leaf_laws : LeafLaws r (ext_reads basis) ext_grows no_base_nodes
   ext_leaf_laws = record {
     constant_is = λ u a c _ e. ext_constant-is u a c e;
-    empty_sound = record { under = tt; nodes = WellFormed-none base_leaves };
+    empty_sound = record { base = tt; nodes = WellFormed-none base_leaves };
     same = λ u. Grown-refl r base_reads base_grows tt (base_leaf_laws r) u;
     joined = λ u v w g h. Grown-trans r base_reads base_grows tt (base_leaf_laws r) u v w g h;
     keeps = λ u v g. record {

@@ -30,15 +30,15 @@ module _ {F EF : Type 0} {r : CommRing F} {over : AlgebraOver F EF} {basis : Bas
 
 -- where the extension pool has grown, its base pool has
 pub base_grown : {F EF : Type 0} (basis : Basis F EF) (p q : ExtNodes F EF) → Grown ext_grows (ext_reads basis) p q → Grown base_grows base_reads p.base q.base
-base_grown basis p q g = g.under
+base_grown basis p q g = g.base
 
 module _ {F EF : Type 0} (r : CommRing F) (basis : Basis F EF) where
   -- what was of the base pool still is, and means what it meant
   pub ext_keeps_base : ExtAlgebraLaws (IsPool (ext_reads basis)) (BaseHas basis) (BaseMeans r basis)
       (Grown ext_grows (ext_reads basis))
   ext_keeps_base = record {
-    base_has_stays = λ p q x g h. record { pool = g.pool h.pool; base = has-kept r base_reads base_grows tt (base_leaf_laws r) p.base q.base x g.under h.base };
-    base_means_stays = λ p q x t g h. record { pool = g.pool h.pool; base = means-kept r base_reads base_grows tt (base_leaf_laws r) p.base q.base x t g.under h.base };
+    base_has_stays = λ p q x g h. record { pool = g.pool h.pool; base = has-kept r base_reads base_grows tt (base_leaf_laws r) p.base q.base x g.base h.base };
+    base_means_stays = λ p q x t g h. record { pool = g.pool h.pool; base = means-kept r base_reads base_grows tt (base_leaf_laws r) p.base q.base x t g.base h.base };
     base_means_has = λ p x t h. record { pool = h.pool; base = record { pool = h.base.pool; here = h.base.here } };
     base_has_valid = λ p x h. h.pool;
     base_means_some = λ p x h.

@@ -17,11 +17,11 @@ use Rattle.air_symbolic.specs.declared.pools.expr.SymbolicExpr.{SymbolicExpr}
 
 module _ {U A F : Type 0} (r : CommRing F) (reads : U → Leaves A F) (grows : U → U → Type 0) (empty : U) (laws : LeafLaws r reads grows empty) where
   pub Grown-refl : (p : Pool U A) → Grown grows reads p p
-  Grown-refl p = record { under = laws.same p.base; nodes = ([], sym (append-nil p.nodes)); pool = λ (h : IsPool reads p). h }
+  Grown-refl p = record { base = laws.same p.base; nodes = ([], sym (append-nil p.nodes)); pool = λ (h : IsPool reads p). h }
 
   pub Grown-trans : (p q s : Pool U A) → Grown grows reads p q → Grown grows reads q s → Grown grows reads p s
   Grown-trans p q s h k = record {
-    under = laws.joined p.base q.base s.base h.under k.under;
+    base = laws.joined p.base q.base s.base h.base k.base;
     nodes = (h.nodes.0 ++ k.nodes.0, k.nodes.1 ∙ ap (λ l. l ++ k.nodes.0) h.nodes.1 ∙ append_assoc p.nodes h.nodes.0 k.nodes.0);
     pool = λ (w : IsPool reads p). k.pool (h.pool w);
   }
@@ -29,10 +29,10 @@ module _ {U A F : Type 0} (r : CommRing F) (reads : U → Leaves A F) (grows : U
   -- what lies under the nodes grows
   pub Grown-under : (p : Pool U A) (u : U) → grows p.base u → Grown grows reads p (on_base p u)
   Grown-under p u g = record {
-    under = g;
+    base = g;
     nodes = ([], sym (append-nil p.nodes));
     pool = λ (h : IsPool reads p). record {
-      under = (laws.keeps p.base u g).sound h.under;
+      base = (laws.keeps p.base u g).sound h.base;
       nodes = WellFormed-kept (reads p.base) (reads u) (laws.keeps p.base u g) p.nodes h.nodes;
     };
   }
@@ -40,9 +40,9 @@ module _ {U A F : Type 0} (r : CommRing F) (reads : U → Leaves A F) (grows : U
   -- one node more, which fits and is new
   pub Grown-push : (p : Pool U A) (n : SymbolicExpr A) → NodeFits (reads p.base) p.nodes n → ((i : ℕ) → slice_get p.nodes i ≡ Some n → ⊥) → Grown grows reads p (record { base = p.base; nodes = p.nodes ++ n ∷ [] })
   Grown-push p n fits absent = record {
-    under = laws.same p.base;
+    base = laws.same p.base;
     nodes = (n ∷ [], refl);
-    pool = λ (h : IsPool reads p). record { under = h.under; nodes = WellFormed-push (reads p.base) p.nodes n h.nodes fits absent };
+    pool = λ (h : IsPool reads p). record { base = h.base; nodes = WellFormed-push (reads p.base) p.nodes n h.nodes fits absent };
   }
 
   -- earlier numbers stay
@@ -57,7 +57,7 @@ module _ {U A F : Type 0} (r : CommRing F) (reads : U → Leaves A F) (grows : U
   pub term-kept : (p q : Pool U A) (i : ℕ) → Grown grows reads p q → PoolHas reads p i → term_at reads q i ≡ term_at reads p i
   term-kept p q i g h =
       ap (term_of (reads q.base).term) (tree-kept p q i g h.here)
-      ∙ term_of-kept (reads p.base) (reads q.base) (laws.keeps p.base q.base g.under) (tree_at p i) (tree_of-valid (reads p.base) p.nodes h.pool.nodes i h.here)
+      ∙ term_of-kept (reads p.base) (reads q.base) (laws.keeps p.base q.base g.base) (tree_at p i) (tree_of-valid (reads p.base) p.nodes h.pool.nodes i h.here)
 
   pub has-kept : (p q : Pool U A) (i : ℕ) → Grown grows reads p q → PoolHas reads p i → PoolHas reads q i
   has-kept p q i g h = record { pool = g.pool h.pool; here = here-kept p q i g h.here }

@@ -21,7 +21,7 @@ pub enum BaseLeaf<F> {
 impl<F: Field> SymLeaf for BaseLeaf<F> {
     type F = F;
 
-    type Under = ();
+    type Base = ();
 
     ghost use Rattle.std.proofs.Common.{arith};
     ghost use Rattle.air_symbolic.specs.BaseLeaves.{base_reads, base_grows};
@@ -31,13 +31,13 @@ impl<F: Field> SymLeaf for BaseLeaf<F> {
 
     ghost grows = { base_grows };
 
-    ghost nodes_under = { λ _. 0 };
+    ghost base_length = { λ _. 0 };
 
     ghost has_degrees = { λ _ _ _. ⊤ };
 
-    ghost no_under = { tt };
+    ghost empty_base = { tt };
 
-    fn new_under(_alloc: Global) {}
+    fn new_base(_alloc: Global) {}
 
     fn degree_multiple(&self, _under: &()) -> usize {
         match self {
@@ -59,11 +59,11 @@ impl<F: Field> SymLeaf for BaseLeaf<F> {
     fn degree_multiple_with_transition(
         &self,
         weight: usize,
-        under: &(),
+        base: &(),
     ) -> Result<usize, RingError> {
         match self {
             BaseLeaf::IsTransition => Ok(weight),
-            _ => Ok(self.degree_multiple(under)),
+            _ => Ok(self.degree_multiple(base)),
         }
     }
 
@@ -82,7 +82,7 @@ impl<F: Field> SymLeaf for BaseLeaf<F> {
         }
     }
 
-    fn degrees_under(
+    fn degrees_of_base(
         _under: &(),
         _weight: LeafWeight<'_>,
         alloc: Global,
@@ -96,13 +96,13 @@ impl<F: Field> SymLeaf for BaseLeaf<F> {
     fn degree_in(
         &self,
         weight: LeafWeight<'_>,
-        under: &(),
+        base: &(),
         _table: &[Result<usize, RingError>],
     ) -> Result<usize, RingError> {
         match weight {
-            LeafWeight::Cached => Ok(self.degree_multiple(under)),
-            LeafWeight::Transition(weight) => self.degree_multiple_with_transition(weight, under),
-            LeafWeight::Trace { trace_len, periods } => self.poly_degree(trace_len, periods, under),
+            LeafWeight::Cached => Ok(self.degree_multiple(base)),
+            LeafWeight::Transition(weight) => self.degree_multiple_with_transition(weight, base),
+            LeafWeight::Trace { trace_len, periods } => self.poly_degree(trace_len, periods, base),
         }
     }
 

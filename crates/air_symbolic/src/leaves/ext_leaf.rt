@@ -23,7 +23,7 @@ pub enum ExtLeaf<F, EF> {
 impl<F: Field, EF: ExtensionField<F>> SymLeaf for ExtLeaf<F, EF> {
     type F = F;
 
-    type Under = ExprPool<BaseLeaf<F>>;
+    type Base = ExprPool<BaseLeaf<F>>;
 
     ghost use Rattle.std.proofs.Common.{arith};
     ghost use Rattle.air_field.specs.Degree.{degree_by};
@@ -38,28 +38,28 @@ impl<F: Field, EF: ExtensionField<F>> SymLeaf for ExtLeaf<F, EF> {
 
     ghost grows = { λ u v. ext_grows u v };
 
-    ghost nodes_under = { λ u. size u };
+    ghost base_length = { λ u. size u };
 
     ghost has_degrees = { λ u w table.
         AnswersDegrees (λ i. degree_by (leaf_weight w) (term_at base_reads u i)) (size u) table };
 
-    ghost no_under = { no_base_nodes };
+    ghost empty_base = { no_base_nodes };
 
-    fn new_under(alloc: Global) -> ExprPool<BaseLeaf<F>> {
+    fn new_base(alloc: Global) -> ExprPool<BaseLeaf<F>> {
         ExprPool::new(alloc)
     }
 
-    fn degree_multiple(&self, under: &ExprPool<BaseLeaf<F>>) -> usize {
+    fn degree_multiple(&self, base: &ExprPool<BaseLeaf<F>>) -> usize {
         match self {
-            ExtLeaf::Base(id) => under.degree_multiple(*id),
+            ExtLeaf::Base(id) => base.degree_multiple(*id),
             ExtLeaf::ExtVariable(v) => v.degree_multiple(),
             ExtLeaf::ExtConstant(_) => 0,
         }
     }
 
-    fn as_const(&self, under: &ExprPool<BaseLeaf<F>>) -> Option<F> {
+    fn as_const(&self, base: &ExprPool<BaseLeaf<F>>) -> Option<F> {
         match self {
-            ExtLeaf::Base(id) => under.as_const(*id),
+            ExtLeaf::Base(id) => base.as_const(*id),
             ExtLeaf::ExtVariable(_) => None,
             ExtLeaf::ExtConstant(c) => base_part(c),
         }
@@ -68,10 +68,10 @@ impl<F: Field, EF: ExtensionField<F>> SymLeaf for ExtLeaf<F, EF> {
     fn degree_multiple_with_transition(
         &self,
         weight: usize,
-        under: &ExprPool<BaseLeaf<F>>,
+        base: &ExprPool<BaseLeaf<F>>,
     ) -> Result<usize, RingError> {
         match self {
-            ExtLeaf::Base(id) => under.degree_multiple_with_transition(*id, weight),
+            ExtLeaf::Base(id) => base.degree_multiple_with_transition(*id, weight),
             ExtLeaf::ExtVariable(v) => Ok(v.degree_multiple()),
             ExtLeaf::ExtConstant(_) => Ok(0),
         }
@@ -81,41 +81,41 @@ impl<F: Field, EF: ExtensionField<F>> SymLeaf for ExtLeaf<F, EF> {
         &self,
         trace_len: usize,
         periods: &[usize],
-        under: &ExprPool<BaseLeaf<F>>,
+        base: &ExprPool<BaseLeaf<F>>,
     ) -> Result<usize, RingError> {
         match self {
-            ExtLeaf::Base(id) => under.poly_degree(*id, trace_len, periods),
+            ExtLeaf::Base(id) => base.poly_degree(*id, trace_len, periods),
             ExtLeaf::ExtVariable(v) => Ok(v.poly_degree(trace_len)),
             ExtLeaf::ExtConstant(_) => Ok(0),
         }
     }
 
-    fn degrees_under(
-        under: &ExprPool<BaseLeaf<F>>,
+    fn degrees_of_base(
+        base: &ExprPool<BaseLeaf<F>>,
         weight: LeafWeight<'_>,
         _alloc: Global,
     ) -> Result<DegreeTable, RingError> {
-        under.degree_table(under.len(), weight)
+        base.degree_table(base.len(), weight)
     }
 
     fn degree_in(
         &self,
         weight: LeafWeight<'_>,
-        under: &ExprPool<BaseLeaf<F>>,
+        base: &ExprPool<BaseLeaf<F>>,
         table: &[Result<usize, RingError>],
     ) -> Result<usize, RingError> {
         if let ExtLeaf::Base(id) = self {
             return known(table, *id);
         }
         match weight {
-            LeafWeight::Cached => Ok(self.degree_multiple(under)),
-            LeafWeight::Transition(weight) => self.degree_multiple_with_transition(weight, under),
-            LeafWeight::Trace { trace_len, periods } => self.poly_degree(trace_len, periods, under),
+            LeafWeight::Cached => Ok(self.degree_multiple(base)),
+            LeafWeight::Transition(weight) => self.degree_multiple_with_transition(weight, base),
+            LeafWeight::Trace { trace_len, periods } => self.poly_degree(trace_len, periods, base),
         }
     }
 
-    fn from_const(c: F, under: &mut ExprPool<BaseLeaf<F>>) -> Result<Self, RingError> {
-        let id = under.constant(c)?;
+    fn from_const(c: F, base: &mut ExprPool<BaseLeaf<F>>) -> Result<Self, RingError> {
+        let id = base.constant(c)?;
         Ok(ExtLeaf::Base(id))
     }
 

@@ -18,47 +18,47 @@ pub trait SymLeaf: Copy + Eq + Ord + Debug {
     type F: Field;
 
     /// What lies under a pool of such leaves.
-    type Under: Drop;
+    type Base: Drop;
 
     /// What the leaves mean over what lies under them.
-    ghost reads: { Self.Under → Leaves Self Self.F };
+    ghost reads: { Self.Base → Leaves Self Self.F };
 
     /// What lies under the leaves has grown: what was named there stays.
-    ghost grows: { Self.Under → Self.Under → Type 0 };
+    ghost grows: { Self.Base → Self.Base → Type 0 };
 
     /// How many nodes lie under the pool.
-    ghost nodes_under: { Self.Under → ℕ };
+    ghost base_length: { Self.Base → ℕ };
 
     /// The list holds, for each number of what lies under the pool, its degree by this weight.
-    ghost has_degrees: { Self.Under → LeafWeight → List (Result ℕ RingError) → Type 0 };
+    ghost has_degrees: { Self.Base → LeafWeight → List (Result ℕ RingError) → Type 0 };
 
     /// What lies under a new pool.
-    ghost no_under: { Self.Under };
+    ghost empty_base: { Self.Base };
 
     /// What lies under a new pool, without nodes.
-    fn new_under(alloc: Global) -> Self::Under
-        ensures { result ≡ no_under };
+    fn new_base(alloc: Global) -> Self::Base
+        ensures { result ≡ empty_base };
 
     /// The degree that nodes state.
-    fn degree_multiple(&self, under: &Self::Under) -> usize
-        requires { (reads under.now).valid self.now }
-        ensures { result ≡ degree_by cached_weight ((reads under.now).term self.now) };
+    fn degree_multiple(&self, base: &Self::Base) -> usize
+        requires { (reads base.now).valid self.now }
+        ensures { result ≡ degree_by cached_weight ((reads base.now).term self.now) };
 
     /// The constant that the leaf is, for folding.
-    fn as_const(&self, under: &Self::Under) -> Option<Self::F>
-        requires { (reads under.now).valid self.now }
-        ensures { result ≡ (reads under.now).constant self.now };
+    fn as_const(&self, base: &Self::Base) -> Option<Self::F>
+        requires { (reads base.now).valid self.now }
+        ensures { result ≡ (reads base.now).constant self.now };
 
     /// The degree that nodes state, with the weight `weight` for the transition selector. It is refused with
     /// `DegreeOverflow` only where it passes `usize`, and otherwise only for want of memory.
     fn degree_multiple_with_transition(
         &self,
         weight: usize,
-        under: &Self::Under,
+        base: &Self::Base,
     ) -> Result<usize, RingError>
-        requires { (reads under.now).valid self.now }
+        requires { (reads base.now).valid self.now }
         ensures { AnswersDegree (degree_by (transition_weight weight)
-            ((reads under.now).term self.now)) result };
+            ((reads base.now).term self.now)) result };
 
     /// The degree of the leaf's polynomial over `trace_len` rows; `periods` holds the lengths of the periodic columns.
     /// It is refused with `DegreeOverflow` only where it passes `usize`, and otherwise only for want of memory.
@@ -66,21 +66,21 @@ pub trait SymLeaf: Copy + Eq + Ord + Debug {
         &self,
         trace_len: usize,
         periods: &[usize],
-        under: &Self::Under,
+        base: &Self::Base,
     ) -> Result<usize, RingError>
-        requires { (reads under.now).valid self.now }
+        requires { (reads base.now).valid self.now }
         ensures { AnswersDegree (degree_by (trace_weight trace_len periods.now)
-            ((reads under.now).term self.now)) result };
+            ((reads base.now).term self.now)) result };
 
     /// The degrees of what lies under the pool, each worked out once for all leaves that name it: one turn a node.
-    fn degrees_under(
-        under: &Self::Under,
+    fn degrees_of_base(
+        base: &Self::Base,
         weight: LeafWeight<'_>,
         alloc: Global,
     ) -> Result<DegreeTable, RingError>
-        requires { (reads under.now).sound }
-        ensures degrees { IfOk result (λ t. has_degrees under.now weight.entry t.degrees.items) }
-        ensures turns { IfOk result (λ t. t.turns ≡ nodes_under under.now) }
+        requires { (reads base.now).sound }
+        ensures degrees { IfOk result (λ t. has_degrees base.now weight.entry t.degrees.items) }
+        ensures turns { IfOk result (λ t. t.turns ≡ base_length base.now) }
         ensures few { IfOk result (λ t. t.turns < 2 ^ 64) }
         ensures refused { IfErr result (λ e. e ≡ RingError.Memory) };
 
@@ -90,64 +90,64 @@ pub trait SymLeaf: Copy + Eq + Ord + Debug {
     fn degree_in(
         &self,
         weight: LeafWeight<'_>,
-        under: &Self::Under,
+        base: &Self::Base,
         table: &[Result<usize, RingError>],
     ) -> Result<usize, RingError>
-        requires valid { (reads under.now).valid self.now }
-        requires known { has_degrees under.now weight table.now }
+        requires valid { (reads base.now).valid self.now }
+        requires known { has_degrees base.now weight table.now }
         ensures { AnswersDegree
-            (degree_by (leaf_weight weight.entry) ((reads under.now).term self.now)) result };
+            (degree_by (leaf_weight weight.entry) ((reads base.now).term self.now)) result };
 
     /// The leaf of a constant.
-    fn from_const(c: Self::F, under: &mut Self::Under) -> Result<Self, RingError>
-        requires { (reads under.old).sound }
-        ensures grown { grows under.old under.new }
-        ensures made { IfOk result (IsConstLeaf (reads under.new) c) }
+    fn from_const(c: Self::F, base: &mut Self::Base) -> Result<Self, RingError>
+        requires { (reads base.old).sound }
+        ensures grown { grows base.old base.new }
+        ensures made { IfOk result (IsConstLeaf (reads base.new) c) }
         ensures refused { IfErr result (λ e. e ≡ RingError.Memory) };
 
     /// The leaf of 0.
-    fn zero(under: &mut Self::Under) -> Result<Self, RingError>
-        requires { (reads under.old).sound }
-        ensures grown { grows under.old under.new }
-        ensures made { IfOk result (IsConstLeaf (reads under.new) Self.F.ring.zero) }
+    fn zero(base: &mut Self::Base) -> Result<Self, RingError>
+        requires { (reads base.old).sound }
+        ensures grown { grows base.old base.new }
+        ensures made { IfOk result (IsConstLeaf (reads base.new) Self.F.ring.zero) }
         ensures refused { IfErr result (λ e. e ≡ RingError.Memory) }
     {
-        Self::from_const(Self::F::ZERO, under)
+        Self::from_const(Self::F::ZERO, base)
     }
 
     /// The leaf of 1.
-    fn one(under: &mut Self::Under) -> Result<Self, RingError>
-        requires { (reads under.old).sound }
-        ensures grown { grows under.old under.new }
-        ensures made { IfOk result (IsConstLeaf (reads under.new) Self.F.ring.one) }
+    fn one(base: &mut Self::Base) -> Result<Self, RingError>
+        requires { (reads base.old).sound }
+        ensures grown { grows base.old base.new }
+        ensures made { IfOk result (IsConstLeaf (reads base.new) Self.F.ring.one) }
         ensures refused { IfErr result (λ e. e ≡ RingError.Memory) }
     {
-        Self::from_const(Self::F::ONE, under)
+        Self::from_const(Self::F::ONE, base)
     }
 
     /// The leaf of 2.
-    fn two(under: &mut Self::Under) -> Result<Self, RingError>
-        requires { (reads under.old).sound }
-        ensures grown { grows under.old under.new }
-        ensures made { IfOk result (IsConstLeaf (reads under.new)
+    fn two(base: &mut Self::Base) -> Result<Self, RingError>
+        requires { (reads base.old).sound }
+        ensures grown { grows base.old base.new }
+        ensures made { IfOk result (IsConstLeaf (reads base.new)
             (Self.F.ring.add Self.F.ring.one Self.F.ring.one)) }
         ensures refused { IfErr result (λ e. e ≡ RingError.Memory) }
     {
-        Self::from_const(Self::F::TWO, under)
+        Self::from_const(Self::F::TWO, base)
     }
 
     /// The leaf of -1.
-    fn neg_one(under: &mut Self::Under) -> Result<Self, RingError>
-        requires { (reads under.old).sound }
-        ensures grown { grows under.old under.new }
-        ensures made { IfOk result (IsConstLeaf (reads under.new)
+    fn neg_one(base: &mut Self::Base) -> Result<Self, RingError>
+        requires { (reads base.old).sound }
+        ensures grown { grows base.old base.new }
+        ensures made { IfOk result (IsConstLeaf (reads base.new)
             (Self.F.ring.neg Self.F.ring.one)) }
         ensures refused { IfErr result (λ e. e ≡ RingError.Memory) }
     {
-        Self::from_const(Self::F::NEG_ONE, under)
+        Self::from_const(Self::F::NEG_ONE, base)
     }
 
     ghost eq_is: { (x y : Self) → (Self.eq x y ≡ true) ↔ (x ≡ y) };
 
-    ghost leaf_laws: { LeafLaws Self.F.ring reads grows no_under };
+    ghost leaf_laws: { LeafLaws Self.F.ring reads grows empty_base };
 }

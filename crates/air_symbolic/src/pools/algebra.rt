@@ -47,5 +47,5 @@ impl<A: SymLeaf> Algebra<A::F> for ExprPool<A> {
 
     ghost use Rattle.air_symbolic.specs.laws.Pools.{pool_laws};
 
-    ghost laws = { pool_laws A.F.ring A.reads A.grows A.no_under A.leaf_laws };
+    ghost laws = { pool_laws A.F.ring A.reads A.grows A.empty_base A.leaf_laws };
 }

@@ -58,19 +58,19 @@ fn added_degree(
 fn degree_of_node<A: SymLeaf>(
     node: SymbolicExpr<A>,
     weight: LeafWeight<'_>,
-    under: &A::Under,
-    known_under: &[Result<usize, RingError>],
+    base: &A::Base,
+    base_degrees: &[Result<usize, RingError>],
     table: &[Result<usize, RingError>],
 ) -> Result<usize, RingError>
-    requires valid { IsValidNode (A.reads under.now).valid node }
-    requires under { A.has_degrees under.now weight known_under.now }
+    requires valid { IsValidNode (A.reads base.now).valid node }
+    requires base { A.has_degrees base.now weight base_degrees.now }
     requires below { OperandsBelow (length table.now) node }
     ensures { (degree : ℕ → ℕ) → AnswersDegrees degree (length table.now) table.now →
-        AnswersDegree (node_degree
-        (λ a. degree_by (leaf_weight weight.entry) ((A.reads under.now).term a)) degree node) result }
+        AnswersDegree (node_degree (λ a. degree_by (leaf_weight weight.entry)
+        ((A.reads base.now).term a)) degree node) result }
 {
     match node {
-        SymbolicExpr::Leaf(a) => a.degree_in(weight, under, known_under),
+        SymbolicExpr::Leaf(a) => a.degree_in(weight, base, base_degrees),
         SymbolicExpr::Add { x, y, .. } => greater_degree(known(table, x), known(table, y)),
         SymbolicExpr::Sub { x, y, .. } => greater_degree(known(table, x), known(table, y)),
         SymbolicExpr::Neg { x, .. } => known(table, x),
@@ -84,12 +84,12 @@ impl<A: SymLeaf> ExprPool<A> {
         &self,
         id: ExprId<A>,
         weight: LeafWeight<'_>,
-        under: &DegreeTable,
+        base: &DegreeTable,
         table: &mut DegreeTable,
     ) -> Result<(), RingError>
         requires owed { FitsBase A.reads self.now }
         requires here { id < size self.now }
-        requires under { A.has_degrees self.now.base weight under.now.degrees.items }
+        requires base { A.has_degrees self.now.base weight base.now.degrees.items }
         requires operands { AnswersDegrees
             (λ i. degree_by (leaf_weight weight) (term_at A.reads self.now i))
             id table.old.degrees.items }
@@ -102,7 +102,7 @@ impl<A: SymLeaf> ExprPool<A> {
     {
         table.turns += 1;
         let node = *self.node(id);
-        let degree = degree_of_node(node, weight, self.base(), &under.degrees, &table.degrees);
+        let degree = degree_of_node(node, weight, self.base(), &base.degrees, &table.degrees);
         table.degrees.push(degree)?;
         Ok(())
     }
@@ -113,11 +113,11 @@ impl<A: SymLeaf> ExprPool<A> {
         &self,
         count: usize,
         weight: LeafWeight<'_>,
-        under: &DegreeTable,
+        base: &DegreeTable,
     ) -> Result<DegreeTable, RingError>
         requires owed { FitsBase A.reads self.now }
         requires here { count ≤ size self.now }
-        requires under { A.has_degrees self.now.base weight under.now.degrees.items }
+        requires base { A.has_degrees self.now.base weight base.now.degrees.items }
         ensures degrees { IfOk result (λ t. AnswersDegrees
             (λ i. degree_by (leaf_weight weight.entry) (term_at A.reads self.now i))
             count t.degrees.items) }
@@ -129,7 +129,7 @@ impl<A: SymLeaf> ExprPool<A> {
             turns: 0,
         };
         for number in 0..count {
-            self.turn(ExprId::new(number), weight, under, &mut table)?;
+            self.turn(ExprId::new(number), weight, base, &mut table)?;
         }
         Ok(table)
     }
@@ -146,14 +146,14 @@ impl<A: SymLeaf> ExprPool<A> {
         ensures degrees { IfOk result (λ t. AnswersDegrees
             (λ i. degree_by (leaf_weight weight.entry) (term_at A.reads self.now i))
             count t.degrees.items) }
-        ensures turns { IfOk result (λ t. t.turns ≡ count + A.nodes_under self.now.base) }
+        ensures turns { IfOk result (λ t. t.turns ≡ count + A.base_length self.now.base) }
         ensures refused { IfErr result (λ e. e ≡ RingError.Memory) }
     {
-        let under = A::degrees_under(self.base(), weight, *self.nodes.allocator())?;
-        let DegreeTable { degrees, turns } = self.table_over(count, weight, &under)?;
+        let base = A::degrees_of_base(self.base(), weight, *self.nodes.allocator())?;
+        let DegreeTable { degrees, turns } = self.table_over(count, weight, &base)?;
         Ok(DegreeTable {
             degrees,
-            turns: under.turns + turns,
+            turns: base.turns + turns,
         })
     }
 }

@@ -76,18 +76,18 @@ impl<A: SymLeaf> ExprPool<A> {
         &self,
         roots: &[ExprId<A>],
         weight: LeafWeight<'_>,
-        under: &DegreeTable,
+        base: &DegreeTable,
     ) -> Result<Degrees, RingError>
         requires owed { FitsBase A.reads self.now }
         requires all_in { All (λ x. x < size self.now) roots.now }
-        requires under { A.has_degrees self.now.base weight under.now.degrees.items }
+        requires base { A.has_degrees self.now.base weight base.now.degrees.items }
         ensures values { IfOk result (λ d. d.values.items ≡
             map (λ x. degree_by (leaf_weight weight.entry) (term_at A.reads self.now x)) roots.now) }
         ensures turns { IfOk result (λ d. d.turns ≡ size self.now) }
         ensures refused { IfErr result (λ e. e ≢ RingError.Memory → SomeOverflows
             (map (λ x. degree_by (leaf_weight weight.entry) (term_at A.reads self.now x)) roots.now)) }
     {
-        let table = self.table_over(self.len(), weight, under)?;
+        let table = self.table_over(self.len(), weight, base)?;
         self.degrees_from(&table, roots)
     }
 
@@ -102,7 +102,7 @@ impl<A: SymLeaf> ExprPool<A> {
         ensures values { IfOk result (λ d. d.values.items ≡
             map (λ x. degree_by (leaf_weight weight.entry) (term_at A.reads self.now x)) roots.now) }
         ensures turns { IfOk result (λ d.
-            d.turns ≡ size self.now + A.nodes_under self.now.base) }
+            d.turns ≡ size self.now + A.base_length self.now.base) }
         ensures refused { IfErr result (λ e. e ≢ RingError.Memory → SomeOverflows
             (map (λ x. degree_by (leaf_weight weight.entry) (term_at A.reads self.now x)) roots.now)) }
     {
@@ -152,9 +152,9 @@ impl<A: SymLeaf> ExprPool<A> {
         ensures values { IfOk result (λ d. d.values.items ≡ map
             (λ x. degree_by (leaf_weight weight.entry) (term_at A.reads self.now x)) roots.now) }
         ensures turns { IfOk result (λ d. d.turns ≡
-            turns_by weight.entry (size self.now + A.nodes_under self.now.base)) }
+            turns_by weight.entry (size self.now + A.base_length self.now.base)) }
         ensures at_most { IfOk result (λ d.
-            d.turns ≤ size self.now + A.nodes_under self.now.base) }
+            d.turns ≤ size self.now + A.base_length self.now.base) }
         ensures refused { IfErr result (λ e. e ≢ RingError.Memory → SomeOverflows
             (map (λ x. degree_by (leaf_weight weight.entry) (term_at A.reads self.now x))
             roots.now)) }

@@ -72,9 +72,9 @@ impl<F: Field, EF: ExtensionField<F>> ExprPool<ExtLeaf<F, EF>> {
         ensures base { result ≡ self.base }
         ensures pool { IsPool base_reads result }
     {
-        let ExprPool { under, .. } = self;
-        under.nodes_fit();
-        under
+        let ExprPool { base, .. } = self;
+        base.nodes_fit();
+        base
     }
 }
 

@@ -20,7 +20,7 @@ impl<A: SymLeaf> ExprPool<A> {
         ensures made { IfOk result (HasConst A.reads self.new c) }
         ensures refused { IfErr result (λ e. e ≡ RingError.Memory) }
     {
-        let a = A::from_const(c, &mut self.under)?;
+        let a = A::from_const(c, &mut self.base)?;
         self.leaf(a)
     }
 

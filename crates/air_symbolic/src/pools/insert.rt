@@ -52,7 +52,7 @@ impl<A: SymLeaf> ExprPool<A> {
     pub(crate) fn insert(&mut self, node: SymbolicExpr<A>) -> Result<ExprId<A>, RingError>
         requires owed { FitsBase A.reads self.old }
         requires fits { NodeFits (A.reads self.old.base) self.old.nodes node }
-        ensures same_under { self.new.base ≡ self.old.base }
+        ensures same_base { self.new.base ≡ self.old.base }
         ensures grown { Grown A.grows A.reads self.old self.new }
         ensures made { IfOk result (HasTree self.new
             (unfold_node (tree_of self.old.nodes) node)) }
@@ -72,7 +72,7 @@ impl<A: SymLeaf> ExprPool<A> {
     pub fn leaf(&mut self, a: A) -> Result<ExprId<A>, RingError>
         requires owed { FitsBase A.reads self.old }
         requires valid { (A.reads self.old.base).valid a }
-        ensures same_under { self.new.base ≡ self.old.base }
+        ensures same_base { self.new.base ≡ self.old.base }
         ensures grown { Grown A.grows A.reads self.old self.new }
         ensures made { IfOk result (HasTree self.new (Some (leaf_tree a))) }
         ensures refused { IfErr result (λ e. e ≡ RingError.Memory) }
@@ -85,7 +85,7 @@ impl<A: SymLeaf> ExprPool<A> {
     pub(crate) fn leaf_at(&mut self, place: usize, a: A) -> Result<ExprId<A>, RingError>
         requires owed { FitsBase A.reads self.old }
         requires valid { (A.reads self.old.base).valid a }
-        ensures same_under { self.new.base ≡ self.old.base }
+        ensures same_base { self.new.base ≡ self.old.base }
         ensures grown { Grown A.grows A.reads self.old self.new }
         ensures made { IfOk result (HasTree self.new (Some (leaf_tree a))) }
         ensures refused { IfErr result (λ e. e ≡ RingError.Memory) }
@@ -104,7 +104,7 @@ impl<A: SymLeaf> ExprPool<A> {
         requires owed { FitsBase A.reads self.old }
         requires x_in { x < size self.old }
         requires y_in { y < size self.old }
-        ensures same_under { self.new.base ≡ self.old.base }
+        ensures same_base { self.new.base ≡ self.old.base }
         ensures grown { Grown A.grows A.reads self.old self.new }
         ensures made { IfOk result (HasTree self.new
             (both add_tree (tree_at self.old x) (tree_at self.old y))) }
@@ -124,7 +124,7 @@ impl<A: SymLeaf> ExprPool<A> {
         requires owed { FitsBase A.reads self.old }
         requires x_in { x < size self.old }
         requires y_in { y < size self.old }
-        ensures same_under { self.new.base ≡ self.old.base }
+        ensures same_base { self.new.base ≡ self.old.base }
         ensures grown { Grown A.grows A.reads self.old self.new }
         ensures made { IfOk result (HasTree self.new
             (both sub_tree (tree_at self.old x) (tree_at self.old y))) }
@@ -143,7 +143,7 @@ impl<A: SymLeaf> ExprPool<A> {
     pub fn insert_neg(&mut self, x: ExprId<A>) -> Result<ExprId<A>, RingError>
         requires owed { FitsBase A.reads self.old }
         requires x_in { x < size self.old }
-        ensures same_under { self.new.base ≡ self.old.base }
+        ensures same_base { self.new.base ≡ self.old.base }
         ensures grown { Grown A.grows A.reads self.old self.new }
         ensures made { IfOk result (HasTree self.new
             (option_map neg_tree (tree_at self.old x))) }
@@ -160,7 +160,7 @@ impl<A: SymLeaf> ExprPool<A> {
         requires owed { FitsBase A.reads self.old }
         requires x_in { x < size self.old }
         requires y_in { y < size self.old }
-        ensures same_under { self.new.base ≡ self.old.base }
+        ensures same_base { self.new.base ≡ self.old.base }
         ensures grown { Grown A.grows A.reads self.old self.new }
         ensures made { IfOk result (HasTree self.new
             (both mul_tree (tree_at self.old x) (tree_at self.old y))) }

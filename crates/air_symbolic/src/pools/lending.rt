@@ -9,21 +9,21 @@ use crate::pools::pool::ExprPool;
 
 impl<A: SymLeaf> ExprPool<A> {
     /// What lies under the pool: of an extension pool its base pool, for reading.
-    pub fn base(&self) -> &A::Under
+    pub fn base(&self) -> &A::Base
         ensures { result.now ≡ self.now.base }
     {
-        &self.under
+        &self.base
     }
 
     /// What lies under the pool: of an extension pool its base pool, for writing. What is left there has to extend what
     /// was lent, as every call of a pool does, and then the pool itself has grown.
-    pub fn base_mut(&mut self) -> &mut A::Under
-        ensures* lends { sem 𝓛 (Lends (the_row A.row A.F.row A.Under.row A.SymLeaf.own
+    pub fn base_mut(&mut self) -> &mut A::Base
+        ensures* lends { sem 𝓛 (Lends (the_row A.row A.F.row A.Base.row A.SymLeaf.own
             A.PartialEq.own A.Ord.own A.PartialOrd.own A.Debug.own A.F.Field.own A.F.PartialEq.own
-            A.F.Ord.own A.F.PartialOrd.own A.F.Debug.own) A.Under.row self.entry result
+            A.F.Ord.own A.F.PartialOrd.own A.F.Debug.own) A.Base.row self.entry result
             (λ w. on_base self.old w)) }
         ensures value { result.now ≡ self.old.base }
     {
-        &mut self.under
+        &mut self.base
     }
 }

@@ -14,15 +14,15 @@ use std::marker::Model;
 #[derive(Drop)]
 pub struct ExprPool<A: SymLeaf> {
     pub(crate) nodes: NodeTable<A>,
-    pub(crate) under: A::Under,
+    pub(crate) base: A::Base,
 }
 
 impl<A: SymLeaf> Model for ExprPool<A> {
     ghost use Rattle.air_symbolic.specs.Pools.{Pool, IsNodeList};
 
-    ghost Value = { Pool A.Under A };
+    ghost Value = { Pool A.Base A };
 
-    ghost view = { λ p. record { base = p.under; nodes = p.nodes } };
+    ghost view = { λ p. record { base = p.base; nodes = p.nodes } };
 
     // Each node's operands are older than it, its degree is right, and no node is there twice.
     ghost invariant = { λ p. IsNodeList A.reads p.nodes };
@@ -31,12 +31,12 @@ impl<A: SymLeaf> Model for ExprPool<A> {
 impl<A: SymLeaf> ExprPool<A> {
     /// An empty pool.
     pub fn new(alloc: Global) -> Self
-        ensures empty { result ≡ record { base = A.no_under; nodes = [] } }
+        ensures empty { result ≡ record { base = A.empty_base; nodes = [] } }
         ensures pool { IsPool A.reads result }
     {
         ExprPool {
             nodes: NodeTable::new(alloc),
-            under: A::new_under(alloc),
+            base: A::new_base(alloc),
         }
     }
 
@@ -80,7 +80,7 @@ impl<A: SymLeaf> ExprPool<A> {
         ensures { result ≡ degree_by cached_weight (term_at A.reads self.now id) }
     {
         match self.node(id) {
-            SymbolicExpr::Leaf(a) => a.degree_multiple(&self.under),
+            SymbolicExpr::Leaf(a) => a.degree_multiple(&self.base),
             SymbolicExpr::Add {
                 degree_multiple,
                 ..
@@ -107,7 +107,7 @@ impl<A: SymLeaf> ExprPool<A> {
         ensures { result ≡ constant_at A.reads self.now id }
     {
         match self.node(id) {
-            SymbolicExpr::Leaf(a) => a.as_const(&self.under),
+            SymbolicExpr::Leaf(a) => a.as_const(&self.base),
             _ => None,
         }
     }

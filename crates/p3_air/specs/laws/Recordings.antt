@@ -9,11 +9,10 @@ use Rattle.air_field.specs.Assignment.{Trace, row_assignment}
 use Rattle.air_builder.specs.Assertion.{Assertion, Base, Extension}
 use Rattle.air_recording.specs.Recorded.{RecordsTerm}
 use Rattle.air_report.specs.Debug.{nonzero_from}
-use Rattle.air_report.specs.Given.{given_trace}
+use Rattle.air_report.specs.Instances.{instance_trace}
 use Rattle.air_report.specs.Report.{assertion_value, report_of}
 use Rattle.air_report.specs.laws.Report.{report_of-more}
 use Rattle.p3_air.specs.Theorem.{Instance, read_at, value_on, RecordsEach, recorded_base, recorded_ext, base_constraints, ext_constraints}
-use Rattle.p3_air.specs.Audits.{check_input}
 use Rattle.p3_air.specs.declared.audit.Audit.{Audit}
 
 -- the recorded terms of both kinds at the places of the declared list
@@ -107,25 +106,25 @@ module _ {F : Type 0} (r : CommRing F) where
 module _ {F : Type 0} (r : CommRing F) (eq : F → F → Bool) (basis : Basis F F) (x : Instance F) (audit : Audit F) (h : RecordsEach r basis x.air audit) where
   -- the recorded constraints, place by place
   abbrev pub recorded_list : List (Assertion F)
-  recorded_list = placed x.air.declared (recorded_base audit.recorded) (recorded_ext basis audit.recorded)
+  recorded_list = placed x.air.constraints (recorded_base audit.recorded) (recorded_ext basis audit.recorded)
 
   -- each records the declared one at its place
-  pub list_records : AllZip (RecordsConstraint r) recorded_list x.air.declared
-  list_records = placed_records r 0 x.air.declared (recorded_base audit.recorded) (recorded_ext basis audit.recorded) h.terms.each_base h.terms.each_ext
+  pub list_records : AllZip (RecordsConstraint r) recorded_list x.air.constraints
+  list_records = placed_records r 0 x.air.constraints (recorded_base audit.recorded) (recorded_ext basis audit.recorded) h.terms.each_base h.terms.each_ext
 
   -- the terms of the recorded numbers stand at the indices
   pub list_at_base : map (λ p. slice_get recorded_list p) audit.layout.base_indices.items ≡ map (λ u. Some (Base u)) (recorded_base audit.recorded)
   list_at_base = ap (map (λ p. slice_get recorded_list p)) h.base_places
-      ∙ at_base_places r (λ p. slice_get recorded_list p) 0 x.air.declared (recorded_base audit.recorded) (recorded_ext basis audit.recorded) h.terms.each_base h.terms.each_ext (λ k. ap (slice_get recorded_list) (omega arith))
+      ∙ at_base_places r (λ p. slice_get recorded_list p) 0 x.air.constraints (recorded_base audit.recorded) (recorded_ext basis audit.recorded) h.terms.each_base h.terms.each_ext (λ k. ap (slice_get recorded_list) (omega arith))
 
   pub list_at_ext : map (λ p. slice_get recorded_list p) audit.layout.ext_indices.items ≡ map (λ v. Some (Extension v)) (recorded_ext basis audit.recorded)
   list_at_ext = ap (map (λ p. slice_get recorded_list p)) h.ext_places
-      ∙ at_ext_places r (λ p. slice_get recorded_list p) 0 x.air.declared (recorded_base audit.recorded) (recorded_ext basis audit.recorded) h.terms.each_base h.terms.each_ext (λ k. ap (slice_get recorded_list) (omega arith))
+      ∙ at_ext_places r (λ p. slice_get recorded_list p) 0 x.air.constraints (recorded_base audit.recorded) (recorded_ext basis audit.recorded) h.terms.each_base h.terms.each_ext (λ k. ap (slice_get recorded_list) (omega arith))
 
   -- on every row their values are those of the declared constraints
-  pub list_values : (i : ℕ) → map (value_on r x i) recorded_list ≡ map (value_on r x i) x.air.declared
-  list_values i = same_values r (read_at r x i) recorded_list x.air.declared list_records
+  pub list_values : (i : ℕ) → map (value_on r x i) recorded_list ≡ map (value_on r x i) x.air.constraints
+  list_values i = same_values r (read_at r x i) recorded_list x.air.constraints list_records
 
   -- and so on any number of rows the report of them is that of the declared constraints
-  pub list_report : (n : ℕ) → report_of r eq (given_trace (check_input x)) recorded_list n ≡ report_of r eq (given_trace (check_input x)) x.air.declared n
-  list_report n = same_report r eq (given_trace (check_input x)) recorded_list x.air.declared list_records n
+  pub list_report : (n : ℕ) → report_of r eq (instance_trace x) recorded_list n ≡ report_of r eq (instance_trace x) x.air.constraints n
+  list_report n = same_report r eq (instance_trace x) recorded_list x.air.constraints list_records n

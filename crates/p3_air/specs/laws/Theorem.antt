@@ -34,15 +34,14 @@ use Rattle.air_recording.specs.Layouts.{air_layout, layout_shape}
 use Rattle.air_recording.specs.Recorded.{RecordsTerm, RecordingAnswers, terms_of}
 use Rattle.air_recording.specs.Recording.{IsOver}
 use Rattle.air_recording.specs.Recordings.{Recording}
-use Rattle.air_report.specs.Cells.{differing, label_text, bytes_of_text, IsCellFault}
+use Rattle.air_report.specs.Cells.{differing_cells, label_text, bytes_of_text, IsCellFault}
 use Rattle.air_report.specs.Checks.{Fits, RowRefuses}
-use Rattle.air_report.specs.Given.{given_trace, table_grid}
+use Rattle.air_report.specs.Instances.{instance_trace, table_grid}
 use Rattle.air_report.specs.Report.{all_places, assertion_value, place, report_of}
 use Rattle.air_report.specs.RowRefusals.{IsFull}
 use Rattle.air_report.specs.Shapes.{FitsHeight, IsShapeFault, PeriodsFitBelow, table_height}
 use Rattle.air_report.specs.declared.debug.failure.ConstraintFailure.{ConstraintFailure}
 use Rattle.p3_air.specs.Theorem.{Instance, row_count, entry_at, read_at, shape_with, IsPeriodOf, FixedColumnsFit, AreProperBelow, ext_leaf_term, recorded_base, recorded_ext, terms_in, base_constraints, ext_constraints, nonzero_places, violations, RecordingRefuses, IsRecordable, FixedColumnsRefuse, EvaluationRefuses, IsFaultOfCell, CellsRefuse}
-use Rattle.p3_air.specs.Audits.{check_input}
 
 -- ---- what is read on a row
 
@@ -55,7 +54,7 @@ module _ {F : Type 0} (r : CommRing F) (x : Instance F) where
   entry_is table i c = ap (λ row. slice_index_or row c r.zero) (row_is (slice_get table.rows i))
 
   -- `read_at` is the assignment of a row
-  pub read_at_is : (i : ℕ) (l : Leaf) → read_at r x i l ≡ row_assignment r (given_trace (check_input x)) i l
+  pub read_at_is : (i : ℕ) (l : Leaf) → read_at r x i l ≡ row_assignment r (instance_trace x) i l
   read_at_is i (main zero c) = entry_is x.main i c
   read_at_is i (main (suc zero) c) = entry_is x.main ((i + 1) % row_count x) c
   read_at_is i (main (suc (suc o)) c) = refl
@@ -72,12 +71,12 @@ module _ {F : Type 0} (r : CommRing F) (x : Instance F) where
   read_at_is i (permutation_value k) = refl
 
   -- `nonzero_places` is the report on all rows
-  pub nonzero_places_are : (eq : F → F → Bool) → nonzero_places r eq x ≡ report_of r eq (given_trace (check_input x)) x.air.declared (row_count x)
+  pub nonzero_places_are : (eq : F → F → Bool) → nonzero_places r eq x ≡ report_of r eq (instance_trace x) x.air.constraints (row_count x)
   nonzero_places_are eq =
-      ap (λ (s : ℕ → Leaf → F). map place (filter (λ p. not (eq (assertion_value r (s p.0) p.1.1) r.zero)) (all_places (row_count x) x.air.declared))) (λ j i l. read_at_is i l j)
+      ap (λ (s : ℕ → Leaf → F). map place (filter (λ p. not (eq (assertion_value r (s p.0) p.1.1) r.zero)) (all_places (row_count x) x.air.constraints))) (λ j i l. read_at_is i l j)
 
   -- `violations` are the differing cells
-  pub violations_are : (eq : F → F → Bool) → violations r eq x ≡ differing r eq x.main x.public x.air.cells
+  pub violations_are : (eq : F → F → Bool) → violations r eq x ≡ differing_cells r eq x.main x.public x.air.cells
   violations_are eq =
       ap (λ (f : BoundaryPublic → F). filter (λ c. not (eq (f c.1) (slice_index_or x.public c.1.public_value r.zero))) (enumerate_from 0 x.air.cells)) (λ j cell. entry_is x.main (row_of cell.end (row_count x)) cell.column j)
 
@@ -110,7 +109,7 @@ own_shape_is {F} air =
     width_is (Some table) = refl
 
 -- an instance's entries are those of its trace
-pub shape_is : {F : Type 0} (x : Instance F) → shape_with x.air x.main.width (length x.public) ≡ trace_shape (given_trace (check_input x))
+pub shape_is : {F : Type 0} (x : Instance F) → shape_with x.air x.main.width (length x.public) ≡ trace_shape (instance_trace x)
 shape_is x =
     ap (λ n. record {
       main_width = x.main.width;
@@ -124,7 +123,7 @@ shape_is x =
     (sym (length-map x.air.periodic (λ column. column.items)))
 
 -- what the recording refuses
-recording_refused_as : {F : Type 0} (air : Declaration F) (e : AirError) → Refused (IsMissing (shape_with air air.width air.num_public_values)) (IsOver cached_weight) (λ _. ⊥) e air.declared → RecordingRefuses air e
+recording_refused_as : {F : Type 0} (air : Declaration F) (e : AirError) → Refused (IsMissing (shape_with air air.width air.num_public_values)) (IsOver cached_weight) (λ _. ⊥) e air.constraints → RecordingRefuses air e
 recording_refused_as air Memory h = tt
 recording_refused_as air DegreeOverflow h = (h.0, h.1.0, h.1.1)
 recording_refused_as air CountOverflow h = absurd h
@@ -134,10 +133,10 @@ recording_refused_as air (MissingExtEntry e i) h = h
 recording_refused_as air NoPermutation h = h
 recording_refused_as air _ h = h
 
-pub recording_refuses : {F : Type 0} (air : Declaration F) (e : AirError) → Refused (IsMissing (layout_shape (air_layout air))) (IsOver cached_weight) (λ _. ⊥) e air.declared → RecordingRefuses air e
-recording_refuses air e h = recording_refused_as air e (subst (λ s. Refused (IsMissing s) (IsOver cached_weight) (λ _. ⊥) e air.declared) (sym (own_shape_is air)) h)
+pub recording_refuses : {F : Type 0} (air : Declaration F) (e : AirError) → Refused (IsMissing (layout_shape (air_layout air))) (IsOver cached_weight) (λ _. ⊥) e air.constraints → RecordingRefuses air e
+recording_refuses air e h = recording_refused_as air e (subst (λ s. Refused (IsMissing s) (IsOver cached_weight) (λ _. ⊥) e air.constraints) (sym (own_shape_is air)) h)
 
-as_recording_refused : {F : Type 0} (air : Declaration F) (e : AirError) → RecordingRefuses air e → Refused (IsMissing (shape_with air air.width air.num_public_values)) (IsOver cached_weight) (λ _. ⊥) e air.declared
+as_recording_refused : {F : Type 0} (air : Declaration F) (e : AirError) → RecordingRefuses air e → Refused (IsMissing (shape_with air air.width air.num_public_values)) (IsOver cached_weight) (λ _. ⊥) e air.constraints
 as_recording_refused air Memory h = tt
 as_recording_refused air DegreeOverflow h = (h.0, (h.1, h.2))
 as_recording_refused air CountOverflow h = absurd h
@@ -147,12 +146,12 @@ as_recording_refused air (MissingExtEntry e i) h = h
 as_recording_refused air NoPermutation h = h
 as_recording_refused air _ h = h
 
-pub recording_refuses_back : {F : Type 0} (air : Declaration F) (e : AirError) → RecordingRefuses air e → Refused (IsMissing (layout_shape (air_layout air))) (IsOver cached_weight) (λ _. ⊥) e air.declared
-recording_refuses_back air e h = subst (λ s. Refused (IsMissing s) (IsOver cached_weight) (λ _. ⊥) e air.declared) (own_shape_is air) (as_recording_refused air e h)
+pub recording_refuses_back : {F : Type 0} (air : Declaration F) (e : AirError) → RecordingRefuses air e → Refused (IsMissing (layout_shape (air_layout air))) (IsOver cached_weight) (λ _. ⊥) e air.constraints
+recording_refuses_back air e h = subst (λ s. Refused (IsMissing s) (IsOver cached_weight) (λ _. ⊥) e air.constraints) (own_shape_is air) (as_recording_refused air e h)
 
 -- what the rows refuse but want of memory
 module _ {F : Type 0} (x : Instance F) where
-  rows_refused_as : (e : AirError) → 0 < row_count x → Refused (IsMissing (shape_with x.air x.main.width (length x.public))) (λ _. ⊥) (IsFull 0) e x.air.declared → (e ≡ Memory) ⊎ EvaluationRefuses x e
+  rows_refused_as : (e : AirError) → 0 < row_count x → Refused (IsMissing (shape_with x.air x.main.width (length x.public))) (λ _. ⊥) (IsFull 0) e x.air.constraints → (e ≡ Memory) ⊎ EvaluationRefuses x e
   rows_refused_as Memory some h = inl refl
   rows_refused_as DegreeOverflow some h = absurd h.1.0
   rows_refused_as CountOverflow some h = inr (some, omega (arith, h))
@@ -162,10 +161,10 @@ module _ {F : Type 0} (x : Instance F) where
   rows_refused_as NoPermutation some h = inr (some, h)
   rows_refused_as _ some h = absurd h
 
-  pub rows_refuse : (e : AirError) → 0 < row_count x → RowRefuses (check_input x) e → (e ≡ Memory) ⊎ EvaluationRefuses x e
-  rows_refuse e some h = rows_refused_as e some (subst (λ s. Refused (IsMissing s) (λ _. ⊥) (IsFull 0) e x.air.declared) (sym (shape_is x)) h)
+  pub rows_refuse : (e : AirError) → 0 < row_count x → RowRefuses x e → (e ≡ Memory) ⊎ EvaluationRefuses x e
+  rows_refuse e some h = rows_refused_as e some (subst (λ s. Refused (IsMissing s) (λ _. ⊥) (IsFull 0) e x.air.constraints) (sym (shape_is x)) h)
 
-  as_rows_refused : (e : AirError) → EvaluationRefuses x e → Refused (IsMissing (shape_with x.air x.main.width (length x.public))) (λ _. ⊥) (IsFull 0) e x.air.declared
+  as_rows_refused : (e : AirError) → EvaluationRefuses x e → Refused (IsMissing (shape_with x.air x.main.width (length x.public))) (λ _. ⊥) (IsFull 0) e x.air.constraints
   as_rows_refused CountOverflow h = omega (arith, h.1)
   as_rows_refused (MissingEntry e i) h = h.1
   as_rows_refused (RowOffset o) h = h.1
@@ -173,8 +172,8 @@ module _ {F : Type 0} (x : Instance F) where
   as_rows_refused NoPermutation h = h.1
   as_rows_refused _ h = absurd h.1
 
-  pub rows_refuse_back : (e : AirError) → EvaluationRefuses x e → RowRefuses (check_input x) e
-  rows_refuse_back e h = subst (λ s. Refused (IsMissing s) (λ _. ⊥) (IsFull 0) e x.air.declared) (shape_is x) (as_rows_refused e h)
+  pub rows_refuse_back : (e : AirError) → EvaluationRefuses x e → RowRefuses x e
+  rows_refuse_back e h = subst (λ s. Refused (IsMissing s) (λ _. ⊥) (IsFull 0) e x.air.constraints) (shape_is x) (as_rows_refused e h)
 
 -- ---- which fixed columns fit
 
@@ -224,13 +223,13 @@ module _ {F : Type 0} where
   period_named columns i n inside h v = sym (get_or_from_slice_get (periods_of columns) i n (period_of v) h) ∙ get_or-map period_of columns i v (period_of v) inside
 
 module _ {F : Type 0} (x : Instance F) where
-  pub fixed_columns_fit : Fits (check_input x) → FixedColumnsFit x
+  pub fixed_columns_fit : Fits x → FixedColumnsFit x
   fixed_columns_fit h = record {
     table_fits = table_fits x.air.preprocessed (row_count x) h.table_fits;
     periods_fit = subst (All (IsPeriodOf (row_count x))) (whole x.air.periodic) (periods_below x.air.periodic (row_count x) (length x.air.periodic) (omega arith) h.periods_fit);
   }
 
-  pub fixed_columns_fit_back : FixedColumnsFit x → Fits (check_input x)
+  pub fixed_columns_fit_back : FixedColumnsFit x → Fits x
   fixed_columns_fit_back h = record {
     table_fits = table_fits_back x.air.preprocessed (row_count x) h.table_fits;
     periods_fit = periods_back x.air.periodic (row_count x) (length x.air.periodic) (omega arith) (subst (All (IsPeriodOf (row_count x))) (sym (whole x.air.periodic)) h.periods_fit);
@@ -417,19 +416,19 @@ module _ {F X : Type 0} (R : X → Term F → Type 0) where
 -- where a recording answers, the declared constraints are recordable
 pub recordable : {F : Type 0} (r : CommRing F) (air : Declaration F) → RecordingAnswers r (itself r) (air_layout air) air → IsRecordable r air
 recordable r air h = record {
-  there = subst (λ s. NoneMissing (IsMissing s) air.declared) (sym (own_shape_is air)) h.suits.there;
+  there = subst (λ s. NoneMissing (IsMissing s) air.constraints) (sym (own_shape_is air)) h.suits.there;
   base = h.base;
   ext = h.ext;
-  recorded = record { each_base = each_base (RecordsTerm (itself r)) h.base air.declared h.base_recorded; each_ext = each_ext (RecordsTerm (itself r)) h.ext air.declared h.ext_recorded };
+  recorded = record { each_base = each_base (RecordsTerm (itself r)) h.base air.constraints h.base_recorded; each_ext = each_ext (RecordsTerm (itself r)) h.ext air.constraints h.ext_recorded };
   within = h.within;
 }
 
 pub recordable_back : {F : Type 0} (r : CommRing F) (air : Declaration F) → IsRecordable r air → RecordingAnswers r (itself r) (air_layout air) air
 recordable_back r air h = record {
-  suits = record { fits = record { width_is = refl; public_is = refl; periodic_is = refl }; there = subst (λ s. NoneMissing (IsMissing s) air.declared) (own_shape_is air) h.there };
+  suits = record { fits = record { width_is = refl; public_is = refl; periodic_is = refl }; there = subst (λ s. NoneMissing (IsMissing s) air.constraints) (own_shape_is air) h.there };
   base = h.base;
   ext = h.ext;
-  base_recorded = each_base_back (RecordsTerm (itself r)) h.base air.declared h.recorded.each_base;
-  ext_recorded = each_ext_back (RecordsTerm (itself r)) h.ext air.declared h.recorded.each_ext;
+  base_recorded = each_base_back (RecordsTerm (itself r)) h.base air.constraints h.recorded.each_base;
+  ext_recorded = each_ext_back (RecordsTerm (itself r)) h.ext air.constraints h.recorded.each_ext;
   within = h.within;
 }

@@ -95,7 +95,7 @@ impl<F: Field> FlatAir<F> {
 
 impl<F: Field> BaseAir<F> for FlatAir<F> {
     ghost declaration = { λ a. record {
-      declared = zero_at_roots a.pool a.roots.items;
+      constraints = zero_at_roots a.pool a.roots.items;
       width = a.width;
       num_public_values = a.num_public_values;
       preprocessed = a.preprocessed;

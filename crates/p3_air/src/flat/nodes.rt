@@ -38,7 +38,7 @@ struct AtPlace<'a, E, F: Field>(
 impl<'a, AB: AirBuilder> Expression<AB> for AtPlace<'a, AB::Expr, AB::F> {
     ghost term = { λ s. term_at base_reads s.0.now (number_at s.1.now s.3) };
 
-    ghost holds = { λ s b. HasAt (IsMade (Means AB.Ring.means AB.ring_of AB.reads_as) AB.missing b
+    ghost usable = { λ s b. HasAt (IsMade (Means AB.Ring.means AB.ring_of AB.reads_as) AB.missing b
         (term_at base_reads s.0.now (number_at s.1.now s.3))) s.2.now s.3 };
 
     #[inline(always)]

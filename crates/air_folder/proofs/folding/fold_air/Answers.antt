@@ -12,7 +12,7 @@ returns-clause-folded g c =
     let r = g.F.Field.ring in
     let over = g.EF.ExtensionField.over in
     let d = folder_row c.args.folder.now in
-    let ts = (g.A.BaseAir.declaration c.args.air.now).declared in
+    let ts = (g.A.BaseAir.declaration c.args.air.now).constraints in
     let values = values_in over (folder_leaves over d) ts in
     folded_air r over g.EF.ExtensionField.basis d ts
     record { recorded = c.in_ok-recorded.recorded; layout = c.in_ok-recorded.layout; accumulator = c.accumulator.result }

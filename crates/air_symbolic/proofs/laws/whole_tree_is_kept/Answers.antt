@@ -17,4 +17,4 @@ returns g c =
     let reads = ext_reads g.EF.ExtensionField.basis in
     let laws = ext_leaf_laws g.met.EF.ExtensionField.laws in
     λ q h. ap (option_map (whole_tree q.base)) (tree-kept r reads ext_grows no_base_nodes laws p q i h c.requires.here)
-    ∙ whole_tree-kept r p.base q.base h.under (tree_at p i) (tree_of-valid (reads p.base) p.nodes c.nodes_fit.ensures.nodes i c.requires.here)
+    ∙ whole_tree-kept r p.base q.base h.base (tree_at p i) (tree_of-valid (reads p.base) p.nodes c.nodes_fit.ensures.nodes i c.requires.here)

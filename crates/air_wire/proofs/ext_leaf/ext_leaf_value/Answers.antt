@@ -6,4 +6,4 @@ use Rattle.air_wire.proofs.ext_leaf.ext_leaf_value.Goals as goal
 pub returns-in_ok-case_value-in-Base-clause-written : goal.returns-in_ok-case_value-in-Base-clause-written
 returns-in_ok-case_value-in-Base-clause-written g c =
     let list = c.in_ok-list-in-Base.list in
-    rw c.in-Base.is (view list, c.in_ok-case_value-in-Base.ensures, written_tree g.F.PrimeField64.residues (view list) (tree_at c.args.under.now c.in-Base.id) c.in_ok-list-in-Base.ensures.written)
+    rw c.in-Base.is (view list, c.in_ok-case_value-in-Base.ensures, written_tree g.F.PrimeField64.residues (view list) (tree_at c.args.base.now c.in-Base.id) c.in_ok-list-in-Base.ensures.written)

@@ -14,7 +14,7 @@ returns-in_ok-insert_neg-in-Neg g c =
       grown = c.in_ok-insert_neg-in-Neg.ensures.grown;
       here = made.here;
       read =
-          rw (c.insert_neg.ensures.same_under, made.tree)
+          rw (c.insert_neg.ensures.same_base, made.tree)
           (ap (λ o. Ok o)
           (negative-both c.args.operation (seen_at A.seen old c.args.operands.0) (seen_at A.seen old c.args.operands.1) u.0 c.in-Neg.is u.1
           ∙ sym (over-negative (A.seen old.base) (tree_at old c.args.operands.0))));

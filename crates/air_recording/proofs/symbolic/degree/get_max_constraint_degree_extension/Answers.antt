@@ -15,12 +15,12 @@ use Rattle.air_recording.proofs.symbolic.degree.get_max_constraint_degree_extens
 pub infer_degree-requires-clause-base_here : goal.infer_degree-requires-clause-base_here
 infer_degree-requires-clause-base_here g c =
     let r = c.in_ok-recorded.recorded in
-    numbers_here g.F.Field.ring base_reads r.pool.base r.base (base_terms (g.A.BaseAir.declaration c.args.air.now).declared) c.in_ok-recorded.ensures.base.means
+    numbers_here g.F.Field.ring base_reads r.pool.base r.base (base_terms (g.A.BaseAir.declaration c.args.air.now).constraints) c.in_ok-recorded.ensures.base.means
 
 pub infer_degree-requires-clause-ext_here : goal.infer_degree-requires-clause-ext_here
 infer_degree-requires-clause-ext_here g c =
     let r = c.in_ok-recorded.recorded in
-    numbers_here g.F.Field.ring (ext_reads g.EF.ExtensionField.basis) r.pool r.ext (ext_terms (g.A.BaseAir.declaration c.args.air.now).declared) c.in_ok-recorded.ensures.ext.means
+    numbers_here g.F.Field.ring (ext_reads g.EF.ExtensionField.basis) r.pool r.ext (ext_terms (g.A.BaseAir.declaration c.args.air.now).constraints) c.in_ok-recorded.ensures.ext.means
 
 pub returns-in_err-degree-clause-refused : goal.returns-in_err-degree-clause-refused
 returns-in_err-degree-clause-refused g c =

@@ -22,7 +22,7 @@ use Rattle.air_recording.proofs.symbolic.record.record.Goals as goal
 pub returns-clause-base : goal.returns-clause-base
 returns-clause-base g c =
     let r = g.F.Field.ring in
-    let ts = (g.A.BaseAir.declaration c.args.air.now).declared in
+    let ts = (g.A.BaseAir.declaration c.args.air.now).constraints in
     let grew = c.in_ok-eval.ensures.ok in
     let pool = c.eval.new.builder.pool in
     let numbers = c.eval.new.builder.constraints.base.items in
@@ -39,7 +39,7 @@ pub returns-clause-ext : goal.returns-clause-ext
 returns-clause-ext g c =
     let r = g.F.Field.ring in
     let reads = ext_reads g.EF.ExtensionField.basis in
-    let ts = (g.A.BaseAir.declaration c.args.air.now).declared in
+    let ts = (g.A.BaseAir.declaration c.args.air.now).constraints in
     let grew = c.in_ok-eval.ensures.ok in
     let pool = c.eval.new.builder.pool in
     let numbers = c.eval.new.builder.constraints.ext.items in
@@ -54,7 +54,7 @@ returns-clause-ext g c =
 pub returns-clause-base_here : goal.returns-clause-base_here
 returns-clause-base_here g c =
     let r = g.F.Field.ring in
-    let ts = base_terms (g.A.BaseAir.declaration c.args.air.now).declared in
+    let ts = base_terms (g.A.BaseAir.declaration c.args.air.now).constraints in
     let grew = c.in_ok-eval.ensures.ok in
     let pool = c.eval.new.builder.pool.base in
     let all : c.eval.new.builder.constraints.base.items ≡ grew.more_base = grew.base ∙ ap (λ l. l.base ++ grew.more_base) c.in_ok-builder.ensures.none in
@@ -64,7 +64,7 @@ pub returns-clause-ext_here : goal.returns-clause-ext_here
 returns-clause-ext_here g c =
     let r = g.F.Field.ring in
     let reads = ext_reads g.EF.ExtensionField.basis in
-    let ts = ext_terms (g.A.BaseAir.declaration c.args.air.now).declared in
+    let ts = ext_terms (g.A.BaseAir.declaration c.args.air.now).constraints in
     let grew = c.in_ok-eval.ensures.ok in
     let pool = c.eval.new.builder.pool in
     let all : c.eval.new.builder.constraints.ext.items ≡ grew.more_ext = grew.ext ∙ ap (λ l. l.ext ++ grew.more_ext) c.in_ok-builder.ensures.none in
@@ -73,17 +73,17 @@ returns-clause-ext_here g c =
 pub returns-clause-kinds : goal.returns-clause-kinds
 returns-clause-kinds g c =
     let grew = c.in_ok-eval.ensures.ok in
-    grew.kinds ∙ ap (λ l. l.kinds ++ map kind_of (g.A.BaseAir.declaration c.args.air.now).declared) c.in_ok-builder.ensures.none
+    grew.kinds ∙ ap (λ l. l.kinds ++ map kind_of (g.A.BaseAir.declaration c.args.air.now).constraints) c.in_ok-builder.ensures.none
 
 pub returns-clause-layout : goal.returns-clause-layout
 returns-clause-layout g c = record {
   fits = c.in_ok-validate_against_air.ensures.fits;
-  there = subst (λ l. NoneMissing (IsMissing (layout_shape l)) (g.A.BaseAir.declaration c.args.air.now).declared) c.in_ok-builder.ensures.layout c.in_ok-eval.ensures.there;
+  there = subst (λ l. NoneMissing (IsMissing (layout_shape l)) (g.A.BaseAir.declaration c.args.air.now).constraints) c.in_ok-builder.ensures.layout c.in_ok-eval.ensures.there;
 }
 
 pub returns-in_err-eval-clause-refused : goal.returns-in_err-eval-clause-refused
 returns-in_err-eval-clause-refused g c =
-    let ts = (g.A.BaseAir.declaration c.args.air.now).declared in
+    let ts = (g.A.BaseAir.declaration c.args.air.now).constraints in
     let e = c.in_err-eval.field-0.0 in
     let refuses = λ (l : AirLayout) (e : AirError). Refused (IsMissing (layout_shape l)) (IsOver cached_weight) (λ _. ⊥) e ts in
     let refused : refuses c.args.layout e =
@@ -98,7 +98,7 @@ pub greatest_recorded-greatest-requires-clause-base_here :
     goal.greatest_recorded-greatest-requires-clause-base_here
 greatest_recorded-greatest-requires-clause-base_here g c =
     let r = g.F.Field.ring in
-    let ts = base_terms (g.A.BaseAir.declaration c.args.air.now).declared in
+    let ts = base_terms (g.A.BaseAir.declaration c.args.air.now).constraints in
     let grew = c.in_ok-eval.ensures.ok in
     let pool = c.eval.new.builder.pool.base in
     let all : c.deref.result.now ≡ grew.more_base = c.deref.ensures.value ∙ (grew.base ∙ ap (λ l. l.base ++ grew.more_base) c.in_ok-builder.ensures.none) in
@@ -109,7 +109,7 @@ pub greatest_recorded-greatest-requires-clause-ext_here :
 greatest_recorded-greatest-requires-clause-ext_here g c =
     let r = g.F.Field.ring in
     let reads = ext_reads g.EF.ExtensionField.basis in
-    let ts = ext_terms (g.A.BaseAir.declaration c.args.air.now).declared in
+    let ts = ext_terms (g.A.BaseAir.declaration c.args.air.now).constraints in
     let grew = c.in_ok-eval.ensures.ok in
     let pool = c.eval.new.builder.pool in
     let all : c.deref-2.result.now ≡ grew.more_ext = c.deref-2.ensures.value ∙ (grew.ext ∙ ap (λ l. l.ext ++ grew.more_ext) c.in_ok-builder.ensures.none) in

@@ -2,9 +2,9 @@ use Rattle.std.proofs.Common.{ap, subst, inl, inr, ◌∙◌}
 use Rattle.std.proofs.lemmas.Result.{err_from_is_err_and}
 use Rattle.air_report.specs.Cells.{CellsFit, IsCellFault}
 use Rattle.air_report.specs.Checks.{CheckRefuses}
-use Rattle.air_report.specs.Given.{given}
+use Rattle.air_report.specs.Instances.{instance}
 use Rattle.air_report.specs.Shapes.{table_height}
-use Rattle.air_report.proofs.GivenUp.{error_is, given_fits, given_fault, cells_refused}
+use Rattle.air_report.proofs.GivenUp.{error_is, instance_fits, instance_fault, cells_refused}
 use Rattle.air_report.proofs.Reports.{listed_after}
 use Rattle.air_report.proofs.checks.check.check_all_constraints.Goals as goal
 
@@ -15,9 +15,9 @@ returns-in_err-check_shapes-clause-report g c =
 
 pub returns-in_err-check_shapes-clause-refused : goal.returns-in_err-check_shapes-clause-refused
 returns-in_err-check_shapes-clause-refused g c =
-    let all = given (g.A.BaseAir.declaration c.args.air.now) c.args.main.now c.args.public_values.now in
+    let all = instance (g.A.BaseAir.declaration c.args.air.now) c.args.main.now c.args.public_values.now in
     error_is c.from_residual.result c.from_residual.ensures.1 (CheckRefuses g.F.Field.ring g.F.PartialEq.eq all c.args.max_failures)
-    (inl (given_fault all c.periodic_columns.ensures c.height-total_rows.ensures (c.table_height.ensures ∙ ap table_height c.preprocessed_trace.ensures) c.in_err-check_shapes.field-0.0 c.in_err-check_shapes.ensures))
+    (inl (instance_fault all c.periodic_columns.ensures c.height-total_rows.ensures (c.table_height.ensures ∙ ap table_height c.preprocessed_trace.ensures) c.in_err-check_shapes.field-0.0 c.in_err-check_shapes.ensures))
 
 pub returns-in_err-checked-clause-report : goal.returns-in_err-checked-clause-report
 returns-in_err-checked-clause-report g c =
@@ -26,8 +26,8 @@ returns-in_err-checked-clause-report g c =
 
 pub returns-in_err-checked-clause-refused : goal.returns-in_err-checked-clause-refused
 returns-in_err-checked-clause-refused g c =
-    let all = given (g.A.BaseAir.declaration c.args.air.now) c.args.main.now c.args.public_values.now in
-    let fits = given_fits all c.periodic_columns.ensures c.height-total_rows.ensures (c.table_height.ensures ∙ ap table_height c.preprocessed_trace.ensures) c.in_ok-check_shapes.ensures in
+    let all = instance (g.A.BaseAir.declaration c.args.air.now) c.args.main.now c.args.public_values.now in
+    let fits = instance_fits all c.periodic_columns.ensures c.height-total_rows.ensures (c.table_height.ensures ∙ ap table_height c.preprocessed_trace.ensures) c.in_ok-check_shapes.ensures in
     error_is c.from_residual-in_err-checked.result c.from_residual-in_err-checked.ensures.1 (CheckRefuses g.F.Field.ring g.F.PartialEq.eq all c.args.max_failures)
     (inr (fits, inl c.in_err-checked.ensures.refused))
 
@@ -38,8 +38,8 @@ returns-in_err-check_cells-clause-report g c =
 
 pub returns-in_err-check_cells-clause-refused : goal.returns-in_err-check_cells-clause-refused
 returns-in_err-check_cells-clause-refused g c =
-    let all = given (g.A.BaseAir.declaration c.args.air.now) c.args.main.now c.args.public_values.now in
-    let fits = given_fits all c.periodic_columns.ensures c.height-total_rows.ensures (c.table_height.ensures ∙ ap table_height c.preprocessed_trace.ensures) c.in_ok-check_shapes.ensures in
+    let all = instance (g.A.BaseAir.declaration c.args.air.now) c.args.main.now c.args.public_values.now in
+    let fits = instance_fits all c.periodic_columns.ensures c.height-total_rows.ensures (c.table_height.ensures ∙ ap table_height c.preprocessed_trace.ensures) c.in_ok-check_shapes.ensures in
     let checked = c.in_ok-checked.ensures.checked in
     error_is c.from_residual-in_err-check_cells.result c.from_residual-in_err-check_cells.ensures.1 (CheckRefuses g.F.Field.ring g.F.PartialEq.eq all c.args.max_failures)
     (inr (fits, inr (inl (checked.shown, checked.ran, subst (λ cs. IsCellFault all.main all.public cs c.in_err-check_cells.field-0.0) c.public_boundary_io-cells.ensures c.in_err-check_cells.ensures.refused))))
@@ -54,8 +54,8 @@ returns-in_err-list_cells-clause-report g c =
 
 pub returns-in_err-list_cells-clause-refused : goal.returns-in_err-list_cells-clause-refused
 returns-in_err-list_cells-clause-refused g c =
-    let all = given (g.A.BaseAir.declaration c.args.air.now) c.args.main.now c.args.public_values.now in
-    let fits = given_fits all c.periodic_columns.ensures c.height-total_rows.ensures (c.table_height.ensures ∙ ap table_height c.preprocessed_trace.ensures) c.in_ok-check_shapes.ensures in
+    let all = instance (g.A.BaseAir.declaration c.args.air.now) c.args.main.now c.args.public_values.now in
+    let fits = instance_fits all c.periodic_columns.ensures c.height-total_rows.ensures (c.table_height.ensures ∙ ap table_height c.preprocessed_trace.ensures) c.in_ok-check_shapes.ensures in
     let checked = c.in_ok-checked.ensures.checked in
     let cells = subst (λ cs. CellsFit all.main all.public cs) c.public_boundary_io-cells.ensures c.in_ok-check_cells.ensures.fit in
     error_is c.from_residual-in_err-list_cells.result c.from_residual-in_err-list_cells.ensures.1 (CheckRefuses g.F.Field.ring g.F.PartialEq.eq all c.args.max_failures)
@@ -63,10 +63,10 @@ returns-in_err-list_cells-clause-refused g c =
 
 pub returns-clause-report : goal.returns-clause-report
 returns-clause-report g c =
-    let all = given (g.A.BaseAir.declaration c.args.air.now) c.args.main.now c.args.public_values.now in
+    let all = instance (g.A.BaseAir.declaration c.args.air.now) c.args.main.now c.args.public_values.now in
     let checked = c.in_ok-checked.ensures.checked in
     record {
-      shapes = given_fits all c.periodic_columns.ensures c.height-total_rows.ensures (c.table_height.ensures ∙ ap table_height c.preprocessed_trace.ensures) c.in_ok-check_shapes.ensures;
+      shapes = instance_fits all c.periodic_columns.ensures c.height-total_rows.ensures (c.table_height.ensures ∙ ap table_height c.preprocessed_trace.ensures) c.in_ok-check_shapes.ensures;
       shown = checked.shown;
       ran = checked.ran;
       cells = subst (λ cs. CellsFit all.main all.public cs) c.public_boundary_io-cells.ensures c.in_ok-check_cells.ensures.fit;

@@ -4,14 +4,14 @@ use Rattle.air_field.specs.Assignment.{IsMissing}
 use Rattle.air_core.specs.Periodic.{column_at, RefusesPeriodicRow}
 use Rattle.air_builder.specs.Refusals.{NoneMissing}
 use Rattle.air_report.specs.DebugRow.{row_selectors}
-use Rattle.air_report.specs.Given.{given}
+use Rattle.air_report.specs.Instances.{instance}
 use Rattle.air_report.proofs.RowsAt.{row_at-given, checked_row, shape-given, row_refusal, periodic_refusal}
 use Rattle.air_report.proofs.checks.check.check_row.Goals as goal
 
 pub returns-clause-checked : goal.returns-clause-checked
 returns-clause-checked g c =
-    let all = given (g.A.BaseAir.declaration c.args.air.now) c.args.main.now c.args.public_values.now in
-    let columns = all.declaration.periodic in
+    let all = instance (g.A.BaseAir.declaration c.args.air.now) c.args.main.now c.args.public_values.now in
+    let columns = all.air.periodic in
     let periodic : map Some c.fill_periodic_row.new.values.items ≡ map (column_at c.args.row) columns =
     rw (← c.periodic_columns.ensures) c.in_ok-fill_periodic_row.ensures.filled in
     let same = row_at-given all c.new.ensures c.move_to.ensures c.preprocessed_trace.ensures periodic g.F.Field.ring c.requires.fits
@@ -20,26 +20,26 @@ returns-clause-checked g c =
 
 pub returns-clause-there : goal.returns-clause-there
 returns-clause-there g c =
-    let all = given (g.A.BaseAir.declaration c.args.air.now) c.args.main.now c.args.public_values.now in
-    let columns = all.declaration.periodic in
+    let all = instance (g.A.BaseAir.declaration c.args.air.now) c.args.main.now c.args.public_values.now in
+    let columns = all.air.periodic in
     let periodic : map Some c.fill_periodic_row.new.values.items ≡ map (column_at c.args.row) columns =
     rw (← c.periodic_columns.ensures) c.in_ok-fill_periodic_row.ensures.filled in
     let same = shape-given all c.new.ensures c.move_to.ensures c.preprocessed_trace.ensures periodic
     c.row_pair.ensures.width c.table_pair.ensures.width in
-    subst (λ s. OnOk c.eval.result (NoneMissing (IsMissing s) all.declaration.declared)) same c.eval.ensures.there
+    subst (λ s. OnOk c.eval.result (NoneMissing (IsMissing s) all.air.constraints)) same c.eval.ensures.there
 
 pub returns-in_err-fill_periodic_row-clause-refused : goal.returns-in_err-fill_periodic_row-clause-refused
 returns-in_err-fill_periodic_row-clause-refused g c =
     let p = err_from_is_err_and c.from_residual.result c.from_residual.ensures.1 in
-    let all = given (g.A.BaseAir.declaration c.args.air.now) c.args.main.now c.args.public_values.now in
-    let refused : RefusesPeriodicRow all.declaration.periodic c.in_err-fill_periodic_row.field-0.0 =
+    let all = instance (g.A.BaseAir.declaration c.args.air.now) c.args.main.now c.args.public_values.now in
+    let refused : RefusesPeriodicRow all.air.periodic c.in_err-fill_periodic_row.field-0.0 =
     rw (← c.periodic_columns.ensures) c.in_err-fill_periodic_row.ensures.refused in
     rw (p.1, p.2) (periodic_refusal all c.in_err-fill_periodic_row.field-0.0 c.requires.fits refused)
 
 pub returns-clause-refused : goal.returns-clause-refused
 returns-clause-refused g c =
-    let all = given (g.A.BaseAir.declaration c.args.air.now) c.args.main.now c.args.public_values.now in
-    let columns = all.declaration.periodic in
+    let all = instance (g.A.BaseAir.declaration c.args.air.now) c.args.main.now c.args.public_values.now in
+    let columns = all.air.periodic in
     let periodic : map Some c.fill_periodic_row.new.values.items ≡ map (column_at c.args.row) columns =
     rw (← c.periodic_columns.ensures) c.in_ok-fill_periodic_row.ensures.filled in
     IfErr-weaker c.eval.result _ _ (row_refusal all c.new.ensures c.move_to.ensures c.preprocessed_trace.ensures periodic

@@ -3,7 +3,7 @@ use Rattle.std.proofs.lemmas.List.{length-map}
 use borrow.Author.Count.{below_more, below_none}
 use Rattle.std.proofs.lemmas.Result.{err_from_is_err_and}
 use Rattle.air_report.specs.Checks.{RowsRefuse}
-use Rattle.air_report.specs.Given.{given, given_trace, height}
+use Rattle.air_report.specs.Instances.{instance, instance_trace, row_count}
 use Rattle.air_report.specs.Report.{failure_place, report_of, IsReached}
 use Rattle.air_report.proofs.GivenUp.{error_is}
 use Rattle.air_report.proofs.Reports.{checked_more, count_shown-more, reached_later}
@@ -11,11 +11,11 @@ use Rattle.air_report.proofs.checks.check.check_rows.Goals as goal
 
 pub rows-init : goal.rows-init
 rows-init g c =
-    let all = given (g.A.BaseAir.declaration c.args.air.now) c.args.main.now c.args.public_values.now in
+    let all = instance (g.A.BaseAir.declaration c.args.air.now) c.args.main.now c.args.public_values.now in
     record {
       places = ap (map failure_place) c.at_no_row-builder.ensures.failures;
       count = c.at_no_row-builder.ensures.counter;
-      least = below_none (λ k. IsReached c.args.max_failures (length (report_of g.F.Field.ring g.F.PartialEq.eq (given_trace all) all.declaration.declared k)) → ⊥);
+      least = below_none (λ k. IsReached c.args.max_failures (length (report_of g.F.Field.ring g.F.PartialEq.eq (instance_trace all) all.air.constraints k)) → ⊥);
       there = λ h. absurd (omega (arith, h));
     }
 
@@ -45,18 +45,18 @@ returns-in_err-check_row-clause-checked g c =
 
 pub returns-in_err-check_row-clause-refused : goal.returns-in_err-check_row-clause-refused
 returns-in_err-check_row-clause-refused g c =
-    let all = given (g.A.BaseAir.declaration c.args.air.now) c.args.main.now c.args.public_values.now in
+    let all = instance (g.A.BaseAir.declaration c.args.air.now) c.args.main.now c.args.public_values.now in
     let cap = c.args.max_failures in
     let open_cap : IsReached cap (length c.rows.builder.failures.items) → ⊥ = search rules in
-    let some : 0 < height all = omega arith in
+    let some : 0 < row_count all = omega arith in
     error_is c.from_residual.result c.from_residual.ensures.1 (RowsRefuse cap all)
     (inr ((some, λ h. open_cap (reached_later cap (length c.rows.builder.failures.items) h)), c.in_err-check_row.ensures.refused))
 
 pub returns-clause-checked : goal.returns-clause-checked
 returns-clause-checked g c =
-    let all = given (g.A.BaseAir.declaration c.args.air.now) c.args.main.now c.args.public_values.now in
+    let all = instance (g.A.BaseAir.declaration c.args.air.now) c.args.main.now c.args.public_values.now in
     let inv = c.rows.invariant in
-    let done : c.rows.row ≡ height all = omega arith in
+    let done : c.rows.row ≡ row_count all = omega arith in
     record {
       shown = c.rows.row;
       ran = record {
@@ -71,9 +71,9 @@ pub rows-preserved : goal.rows-preserved
 rows-preserved g c =
     let r = g.F.Field.ring in
     let eq = g.F.PartialEq.eq in
-    let all = given (g.A.BaseAir.declaration c.args.air.now) c.args.main.now c.args.public_values.now in
-    let ts = all.declaration.declared in
-    let trace = given_trace all in
+    let all = instance (g.A.BaseAir.declaration c.args.air.now) c.args.main.now c.args.public_values.now in
+    let ts = all.air.constraints in
+    let trace = instance_trace all in
     let row = c.rows.row in
     let cap = c.args.max_failures in
     let inv = c.rows.invariant in

@@ -3,10 +3,10 @@ use Rattle.std.proofs.lemmas.Grind.{common_steps}
 use Rattle.std.proofs.lemmas.Result.{err_from_is_err_and}
 use Rattle.air_report.specs.Cells.{CellsFit, IsCellFault}
 use Rattle.air_report.specs.Checks.{IsFirstError}
-use Rattle.air_report.specs.Given.{given, given_trace, height}
+use Rattle.air_report.specs.Instances.{instance, instance_trace, row_count}
 use Rattle.air_report.specs.Report.{failure_place, report_of}
 use Rattle.air_report.specs.Shapes.{table_height}
-use Rattle.air_report.proofs.GivenUp.{error_is, given_fits, given_fault}
+use Rattle.air_report.proofs.GivenUp.{error_is, instance_fits, instance_fault}
 use Rattle.air_report.proofs.Reports.{checked_more}
 use Rattle.air_report.proofs.checks.check_first.check_constraints.Goals as goal
 
@@ -14,9 +14,9 @@ pub returns-then-has_failures-clause-error : goal.returns-then-has_failures-clau
 returns-then-has_failures-clause-error g c =
     let r = g.F.Field.ring in
     let eq = g.F.PartialEq.eq in
-    let all = given (g.A.BaseAir.declaration c.args.air.now) c.args.main.now c.args.public_values.now in
+    let all = instance (g.A.BaseAir.declaration c.args.air.now) c.args.main.now c.args.public_values.now in
     record {
-      shapes = given_fits all c.periodic_columns.ensures c.height-height.ensures (c.table_height.ensures ∙ ap table_height c.preprocessed_trace.ensures) c.in_ok-check_shapes.ensures;
+      shapes = instance_fits all c.periodic_columns.ensures c.height-height.ensures (c.table_height.ensures ∙ ap table_height c.preprocessed_trace.ensures) c.in_ok-check_shapes.ensures;
       cells = record { fit = subst (λ cs. CellsFit all.main all.public cs) c.public_boundary_io-cells.ensures c.in_ok-check_cells.ensures.fit; agree = search rules };
       within = omega arith;
       before = c.rows.invariant.none;
@@ -30,8 +30,8 @@ pub rows-preserved : goal.rows-preserved
 rows-preserved g c =
     let r = g.F.Field.ring in
     let eq = g.F.PartialEq.eq in
-    let all = given (g.A.BaseAir.declaration c.args.air.now) c.args.main.now c.args.public_values.now in
-    let places : map failure_place c.check_row.new.builder.failures.items ≡ report_of r eq (given_trace all) all.declaration.declared (c.rows.row + 1) =
+    let all = instance (g.A.BaseAir.declaration c.args.air.now) c.args.main.now c.args.public_values.now in
+    let places : map failure_place c.check_row.new.builder.failures.items ≡ report_of r eq (instance_trace all) all.air.constraints (c.rows.row + 1) =
     checked_more r eq all c.rows.row _ _ _ c.in_ok-check_row.ensures.checked (ap (map failure_place) c.rows.invariant.empty ∙ sym c.rows.invariant.none) in
     let empty : c.check_row.new.builder.failures.items ≡ [] = grind (arith, common_steps) in
     record {
@@ -44,12 +44,12 @@ pub returns-clause-kept : goal.returns-clause-kept
 returns-clause-kept g c =
     let r = g.F.Field.ring in
     let eq = g.F.PartialEq.eq in
-    let all = given (g.A.BaseAir.declaration c.args.air.now) c.args.main.now c.args.public_values.now in
-    let done : c.rows.row ≡ height all = omega arith in
+    let all = instance (g.A.BaseAir.declaration c.args.air.now) c.args.main.now c.args.public_values.now in
+    let done : c.rows.row ≡ row_count all = omega arith in
     record {
-      shapes = given_fits all c.periodic_columns.ensures c.height-height.ensures (c.table_height.ensures ∙ ap table_height c.preprocessed_trace.ensures) c.in_ok-check_shapes.ensures;
+      shapes = instance_fits all c.periodic_columns.ensures c.height-height.ensures (c.table_height.ensures ∙ ap table_height c.preprocessed_trace.ensures) c.in_ok-check_shapes.ensures;
       cells = record { fit = subst (λ cs. CellsFit all.main all.public cs) c.public_boundary_io-cells.ensures c.in_ok-check_cells.ensures.fit; agree = search rules };
-      none = ap (λ n. report_of r eq (given_trace all) all.declaration.declared n) (sym done) ∙ c.rows.invariant.none;
+      none = ap (λ n. report_of r eq (instance_trace all) all.air.constraints n) (sym done) ∙ c.rows.invariant.none;
       there = λ h. c.rows.invariant.there (subst (λ n. 0 < n) (sym done) h);
     }
 
@@ -57,10 +57,10 @@ pub returns-in_err-check_row-clause-error : goal.returns-in_err-check_row-clause
 returns-in_err-check_row-clause-error g c =
     let r = g.F.Field.ring in
     let eq = g.F.PartialEq.eq in
-    let all = given (g.A.BaseAir.declaration c.args.air.now) c.args.main.now c.args.public_values.now in
-    let fits = given_fits all c.periodic_columns.ensures c.height-height.ensures (c.table_height.ensures ∙ ap table_height c.preprocessed_trace.ensures) c.in_ok-check_shapes.ensures in
+    let all = instance (g.A.BaseAir.declaration c.args.air.now) c.args.main.now c.args.public_values.now in
+    let fits = instance_fits all c.periodic_columns.ensures c.height-height.ensures (c.table_height.ensures ∙ ap table_height c.preprocessed_trace.ensures) c.in_ok-check_shapes.ensures in
     let fit = subst (λ cs. CellsFit all.main all.public cs) c.public_boundary_io-cells.ensures c.in_ok-check_cells.ensures.fit in
-    let some : 0 < height all = omega arith in
+    let some : 0 < row_count all = omega arith in
     error_is c.from_residual-in_err-check_row.result c.from_residual-in_err-check_row.ensures.1 (IsFirstError r eq all)
     (inr (fits, inr (record { fit = fit; agree = search rules }, inr ((some, λ h. h), c.in_err-check_row.ensures.refused))))
 
@@ -76,9 +76,9 @@ returns-in_err-check_shapes-clause-kept g c =
 
 pub returns-in_err-check_shapes-clause-error : goal.returns-in_err-check_shapes-clause-error
 returns-in_err-check_shapes-clause-error g c =
-    let all = given (g.A.BaseAir.declaration c.args.air.now) c.args.main.now c.args.public_values.now in
+    let all = instance (g.A.BaseAir.declaration c.args.air.now) c.args.main.now c.args.public_values.now in
     error_is c.from_residual.result c.from_residual.ensures.1 (IsFirstError g.F.Field.ring g.F.PartialEq.eq all)
-    (inl (given_fault all c.periodic_columns.ensures c.height-height.ensures (c.table_height.ensures ∙ ap table_height c.preprocessed_trace.ensures) c.in_err-check_shapes.field-0.0 c.in_err-check_shapes.ensures))
+    (inl (instance_fault all c.periodic_columns.ensures c.height-height.ensures (c.table_height.ensures ∙ ap table_height c.preprocessed_trace.ensures) c.in_err-check_shapes.field-0.0 c.in_err-check_shapes.ensures))
 
 pub returns-in_err-check_cells-clause-kept : goal.returns-in_err-check_cells-clause-kept
 returns-in_err-check_cells-clause-kept g c =
@@ -87,8 +87,8 @@ returns-in_err-check_cells-clause-kept g c =
 
 pub returns-in_err-check_cells-clause-error : goal.returns-in_err-check_cells-clause-error
 returns-in_err-check_cells-clause-error g c =
-    let all = given (g.A.BaseAir.declaration c.args.air.now) c.args.main.now c.args.public_values.now in
-    let fits = given_fits all c.periodic_columns.ensures c.height-height.ensures (c.table_height.ensures ∙ ap table_height c.preprocessed_trace.ensures) c.in_ok-check_shapes.ensures in
+    let all = instance (g.A.BaseAir.declaration c.args.air.now) c.args.main.now c.args.public_values.now in
+    let fits = instance_fits all c.periodic_columns.ensures c.height-height.ensures (c.table_height.ensures ∙ ap table_height c.preprocessed_trace.ensures) c.in_ok-check_shapes.ensures in
     error_is c.from_residual-in_err-check_cells.result c.from_residual-in_err-check_cells.ensures.1 (IsFirstError g.F.Field.ring g.F.PartialEq.eq all)
     (inr (fits, inl (subst (λ cs. IsCellFault all.main all.public cs c.in_err-check_cells.field-0.0) c.public_boundary_io-cells.ensures c.in_err-check_cells.ensures.refused)))
 

@@ -23,5 +23,5 @@ pub assert_under-requires-clause-held : goal.assert_under-requires-clause-held
 assert_under-requires-clause-held g c =
     let lt : c.loop-constraint.constraint-index < length c.args.self.now.0.now = omega arith in
     λ b k.
-    let h = c.requires.held b (g.met.AB.AirBuilder.laws.kept_joined _ _ _ c.loop-constraint.invariant.keeps k) in
-    (subst (λ x. g.C.Constraint.all_hold x b) (sym c.constraint-item.is) (All-get_or (λ x. g.C.Constraint.all_hold x b) c.args.self.now.0.now c.loop-constraint.constraint-index c.constraint-item.result lt h.0), h.1)
+    let h = c.requires.usable b (g.met.AB.AirBuilder.laws.kept_joined _ _ _ c.loop-constraint.invariant.keeps k) in
+    (subst (λ x. g.C.Constraint.usable x b) (sym c.constraint-item.is) (All-get_or (λ x. g.C.Constraint.usable x b) c.args.self.now.0.now c.loop-constraint.constraint-index c.constraint-item.result lt h.0), h.1)

@@ -5,4 +5,4 @@ pub insert-requires-clause-fits : goal.insert-requires-clause-fits
 insert-requires-clause-fits g c = (c.requires.x_in, c.requires.y_in, c.max-degree_multiple.ensures ∙ ap₂ max c.degree_multiple.ensures c.degree_multiple-2.ensures)
 
 pub returns : goal.returns
-returns g c = let e = c.insert.ensures in record { same_under = e.same_under; grown = e.grown; made = e.made; refused = e.refused; kept = e.kept }
+returns g c = let e = c.insert.ensures in record { same_base = e.same_base; grown = e.grown; made = e.made; refused = e.refused; kept = e.kept }

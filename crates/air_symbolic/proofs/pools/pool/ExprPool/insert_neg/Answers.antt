@@ -4,4 +4,4 @@ pub insert-requires : goal.insert-requires
 insert-requires g c = record { owed = c.requires.owed; fits = (c.requires.x_in, c.degree_multiple-degree_multiple.ensures) }
 
 pub returns : goal.returns
-returns g c = let e = c.insert.ensures in record { same_under = e.same_under; grown = e.grown; made = e.made; refused = e.refused; kept = e.kept }
+returns g c = let e = c.insert.ensures in record { same_base = e.same_base; grown = e.grown; made = e.made; refused = e.refused; kept = e.kept }

@@ -8,5 +8,5 @@ returns-in-Some-clause-made g c =
     let p = c.args.self.now in
     let table = c.self.inside in
     let i = c.in-Some.number in
-    let known = IsNode-seen (g.A.SymLeaf.reads p.base) p table.under table.nodes i (Leaf c.args.a) c.self.view_is (pool-seen g.A.SymLeaf.reads p _ _ c.self.view_is c.self.invariant c.requires.owed).nodes c.in-Some.ensures in
+    let known = IsNode-seen (g.A.SymLeaf.reads p.base) p table.base table.nodes i (Leaf c.args.a) c.self.view_is (pool-seen g.A.SymLeaf.reads p _ _ c.self.view_is c.self.invariant c.requires.owed).nodes c.in-Some.ensures in
     rw c.new.ensures record { here = slice_get_within p.nodes i (Leaf c.args.a) known.node; tree = known.tree }

@@ -8,16 +8,16 @@ use Rattle.air_symbolic.proofs.pools.pool.ExprPool.product.Goals as goal
 
 pub loop-x-init : goal.loop-x-init
 loop-x-init g c =
-    product_begun g.A.F.Field.ring g.A.F.PartialEq.eq g.A.SymLeaf.reads g.A.SymLeaf.grows g.A.SymLeaf.no_under g.met.A.SymLeaf.leaf_laws c.args.self.now c.args.xs.now c.first-item.result (omega arith) c.first-item.is c.requires.all_in
+    product_begun g.A.F.Field.ring g.A.F.PartialEq.eq g.A.SymLeaf.reads g.A.SymLeaf.grows g.A.SymLeaf.empty_base g.met.A.SymLeaf.leaf_laws c.args.self.now c.args.xs.now c.first-item.result (omega arith) c.first-item.is c.requires.all_in
 
 pub returns-in_err-total-clause-grown : goal.returns-in_err-total-clause-grown
 returns-in_err-total-clause-grown g c =
-    Grown-trans g.A.F.Field.ring g.A.SymLeaf.reads g.A.SymLeaf.grows g.A.SymLeaf.no_under g.met.A.SymLeaf.leaf_laws c.args.self.now c.loop-x.self c.mul.new.self
+    Grown-trans g.A.F.Field.ring g.A.SymLeaf.reads g.A.SymLeaf.grows g.A.SymLeaf.empty_base g.met.A.SymLeaf.leaf_laws c.args.self.now c.loop-x.self c.mul.new.self
     c.loop-x.invariant.product.grown c.mul.ensures.grown
 
 pub returns-in_err-total-clause-overflow : goal.returns-in_err-total-clause-overflow
 returns-in_err-total-clause-overflow g c =
-    λ e. overflow_told g.A.F.Field.ring g.A.F.PartialEq.eq g.A.SymLeaf.reads g.A.SymLeaf.grows g.A.SymLeaf.no_under g.met.A.SymLeaf.leaf_laws c.args.self.now c.loop-x.self c.mul.new.self c.loop-x.total c.x-item.result _
+    λ e. overflow_told g.A.F.Field.ring g.A.F.PartialEq.eq g.A.SymLeaf.reads g.A.SymLeaf.grows g.A.SymLeaf.empty_base g.met.A.SymLeaf.leaf_laws c.args.self.now c.loop-x.self c.mul.new.self c.loop-x.total c.x-item.result _
     c.nodes_fit.ensures c.mul.ensures.grown (c.in_err-total.ensures.overflow.0 (let p = err_from_is_err_and c.from_residual.result c.from_residual.ensures.1 in cc))
     (left-is _ _ (drop_item (take (length c.args.xs.now - 1) (drop 1 c.args.xs.now)) c.loop-x.x-index c.x-item.result c.loop-x-test.true c.x-item.is) c.loop-x.invariant.overflow)
 
@@ -25,11 +25,11 @@ pub loop-x-preserved : goal.loop-x-preserved
 loop-x-preserved g c =
     record {
       product =
-          product_taken g.A.F.Field.ring g.A.F.PartialEq.eq g.A.SymLeaf.reads g.A.SymLeaf.grows g.A.SymLeaf.no_under g.met.A.SymLeaf.leaf_laws c.args.self.now c.loop-x.self c.mul.new.self c.loop-x.total c.x-item.result _
+          product_taken g.A.F.Field.ring g.A.F.PartialEq.eq g.A.SymLeaf.reads g.A.SymLeaf.grows g.A.SymLeaf.empty_base g.met.A.SymLeaf.leaf_laws c.args.self.now c.loop-x.self c.mul.new.self c.loop-x.total c.x-item.result _
           c.nodes_fit.ensures c.mul.ensures.grown c.in_ok-total.total (λ o. let e = c.in_ok-total.ensures.overflow.1 o in cc) c.in_ok-total.ensures.made
           (left-is _ _ (drop_item (take (length c.args.xs.now - 1) (drop 1 c.args.xs.now)) c.loop-x.x-index c.x-item.result c.loop-x-test.true c.x-item.is) c.loop-x.invariant.product);
       overflow =
-          overflow_taken g.A.F.Field.ring g.A.F.PartialEq.eq g.A.SymLeaf.reads g.A.SymLeaf.grows g.A.SymLeaf.no_under g.met.A.SymLeaf.leaf_laws c.args.self.now c.loop-x.self c.mul.new.self c.loop-x.total c.x-item.result _
+          overflow_taken g.A.F.Field.ring g.A.F.PartialEq.eq g.A.SymLeaf.reads g.A.SymLeaf.grows g.A.SymLeaf.empty_base g.met.A.SymLeaf.leaf_laws c.args.self.now c.loop-x.self c.mul.new.self c.loop-x.total c.x-item.result _
           c.nodes_fit.ensures c.mul.ensures.grown c.in_ok-total.total (λ o. let e = c.in_ok-total.ensures.overflow.1 o in cc) c.in_ok-total.ensures.made
           (left-is _ _ (drop_item (take (length c.args.xs.now - 1) (drop 1 c.args.xs.now)) c.loop-x.x-index c.x-item.result c.loop-x-test.true c.x-item.is) c.loop-x.invariant.overflow);
     }
@@ -46,11 +46,11 @@ returns-clause-grown g c = c.loop-x.invariant.product.grown
 
 pub returns-clause-made : goal.returns-clause-made
 returns-clause-made g c =
-    product_ended g.A.F.Field.ring g.A.F.PartialEq.eq g.A.SymLeaf.reads g.A.SymLeaf.grows g.A.SymLeaf.no_under g.met.A.SymLeaf.leaf_laws c.args.self.now c.loop-x.self c.args.xs.now c.loop-x.total
+    product_ended g.A.F.Field.ring g.A.F.PartialEq.eq g.A.SymLeaf.reads g.A.SymLeaf.grows g.A.SymLeaf.empty_base g.met.A.SymLeaf.leaf_laws c.args.self.now c.loop-x.self c.args.xs.now c.loop-x.total
     (left-is _ _ (drop_all c.loop-x.x-index (take (length c.args.xs.now - 1) (drop 1 c.args.xs.now)) c.loop-x-test.false) c.loop-x.invariant.product)
 
 pub returns-clause-simplifies : goal.returns-clause-simplifies
 returns-clause-simplifies g c =
-    IsProductOfAll-simplifies g.A.F.Field.ring g.A.F.PartialEq.eq g.met.A.F.Field.eq_is g.A.SymLeaf.reads g.A.SymLeaf.grows g.A.SymLeaf.no_under g.met.A.SymLeaf.leaf_laws c.args.self.now c.loop-x.self c.nodes_fit.ensures c.loop-x.invariant.product.grown
+    IsProductOfAll-simplifies g.A.F.Field.ring g.A.F.PartialEq.eq g.met.A.F.Field.eq_is g.A.SymLeaf.reads g.A.SymLeaf.grows g.A.SymLeaf.empty_base g.met.A.SymLeaf.leaf_laws c.args.self.now c.loop-x.self c.nodes_fit.ensures c.loop-x.invariant.product.grown
     c.args.xs.now c.requires.all_in c.loop-x.total
     (returns-clause-made g c)
