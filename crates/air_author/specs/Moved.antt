@@ -22,9 +22,9 @@ module _ {F : Type 0} where
   moved_term n t = with_leaves (λ l. leaf_term (moved_leaf n l)) t
 
   -- the same of constraints: column i of them is column n + i
-  abbrev pub moved : ℕ → List (Assertion F) → List (Assertion F)
-  moved n ts = under (moved_term n) (moved_term n) ts
+  abbrev pub move_columns : ℕ → List (Assertion F) → List (Assertion F)
+  move_columns n ts = under (moved_term n) (moved_term n) ts
 
   -- what becomes of moved constraints
-  abbrev pub moved_under : (Term F → Term F) → (Term F → Term F) → ℕ → List (Assertion F) → List (Assertion F)
-  moved_under f g n ts = under (λ t. f (moved_term n t)) (λ t. g (moved_term n t)) ts
+  abbrev pub move_columns_under : (Term F → Term F) → (Term F → Term F) → ℕ → List (Assertion F) → List (Assertion F)
+  move_columns_under f g n ts = under (λ t. f (moved_term n t)) (λ t. g (moved_term n t)) ts

@@ -2,7 +2,7 @@
 ghost use Rattle.std.specs.Prelude.{⊤, ◌^◌, ◌<◌};
 ghost use Rattle.air_builder.specs.Batches.{AssertedIn};
 ghost use Rattle.air_author.specs.Expressions.{AlwaysAfter};
-ghost use Rattle.air_author.specs.Moved.{moved_under};
+ghost use Rattle.air_author.specs.Moved.{move_columns_under};
 
 use crate::AirResult;
 use crate::conditions::Condition;
@@ -27,7 +27,7 @@ pub trait MovableConstraints<AB: AirBuilder>: PlainAir<AB::F> {
         requires within { columns < 2 ^ 63 }
         requires usable { AlwaysAfter AB.kept (λ b. ⊤ × K.usable condition.now b) builder.old }
         ensures { AssertedIn ⟦<AB as View>⟧.view builder.old builder.new result
-            (moved_under (K.under condition.now) (K.ext_under condition.now) columns
+            (move_columns_under (K.under condition.now) (K.ext_under condition.now) columns
             (Self.plain self.now).0) };
 }
 
@@ -40,7 +40,7 @@ pub struct Moved<A> {
 }
 
 impl<AB: AirBuilder, A: MovableConstraints<AB>> Constraint<AB> for Moved<A> {
-    ghost asserts = { λ s f g. moved_under f g s.columns (A.plain s.air).0 };
+    ghost asserts = { λ s f g. move_columns_under f g s.columns (A.plain s.air).0 };
 
     fn assert_under<K: Condition<AB>>(&self, builder: &mut AB, condition: &K) -> AirResult {
         self.air.assert_moved(self.columns, builder, condition)

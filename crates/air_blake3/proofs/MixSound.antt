@@ -7,7 +7,7 @@ use Rattle.air_field.specs.Ring.{CommRing, image, itself}
 use Rattle.air_field.specs.laws.Images.{HasCharacteristic}
 use Rattle.air_field.specs.Term.{Leaf, Term}
 use Rattle.air_field.specs.Value.{value}
-use Rattle.air_gadgets.specs.Bits.{AreBits, packed}
+use Rattle.air_gadgets.specs.Bits.{AreBits, binary_sum}
 use Rattle.air_gadgets.specs.Packing.{packed_term}
 use Rattle.air_builder.specs.Assertion.{Assertion, Base, Extension}
 use Rattle.air_gadgets.specs.Words.{Limbs, word_sum, word_sum_3, number_of, xor_bits, rotated_left}
@@ -40,7 +40,7 @@ module _ {F : Type 0} (R : CommRing F) (s : Leaf → F) where
       → value (itself R) s (packed_term R.zero (f ts)) ≡ image R (number_of (h bs))
   packed_value f g h alike alike_too ts bs e =
       value-packed_term (itself R) R.zero refl s (f ts)
-      ∙ ap (packed R) (sym (alike ts) ∙ ap g e ∙ alike_too bs)
+      ∙ ap (binary_sum R) (sym (alike ts) ∙ ap g e ∙ alike_too bs)
       ∙ packed-images R (h bs)
 
   -- a word's bits, packed, are its limbs

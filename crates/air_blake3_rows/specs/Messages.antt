@@ -2,13 +2,13 @@
 use Rattle.std.specs.Prelude.{◌≡◌, ℕ, ◌-◌, List, length, map, HoldsAt}
 use Rattle.std.specs.List.{range_with_len}
 use Rattle.blake3.specs.Compression.{Block, compress}
-use Rattle.blake3.specs.Hashing.{block_at, block_count, chained, first_words}
+use Rattle.blake3.specs.Hashing.{block_at, block_count, chaining_value_after, first_words}
 use Rattle.air_blake3_rows.specs.Traces.{block_in}
 use Rattle.air_blake3_rows.specs.declared.blocks.InputBlock.{InputBlock}
 
 -- the blocks of a message in order, each after the chaining value that those before it leave
 abbrev pub blocks_of : List ℕ → List Block
-blocks_of bytes = map (λ k. block_at bytes k (chained bytes k)) (range_with_len 0 (block_count (length bytes)))
+blocks_of bytes = map (λ k. block_at bytes k (chaining_value_after bytes k)) (range_with_len 0 (block_count (length bytes)))
 
 -- the first eight words of the last block's output are these
 abbrev pub EndsWith : List ℕ → List InputBlock → Type 0

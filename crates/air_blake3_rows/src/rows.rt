@@ -2,7 +2,7 @@
 ghost use Rattle.std.specs.Prelude.{◌≡◌, ◌++◌, OnOk, IfOk, slice_index};
 ghost use Rattle.air_author.specs.Constraints.{asserts_of_first};
 ghost use Rattle.blake3.specs.Compression.{after_rounds, columns_mixed, round};
-ghost use Rattle.blake3.specs.Blocks.{block_of, taken};
+ghost use Rattle.blake3.specs.Blocks.{block_of, word_of_round};
 ghost use Rattle.blake3.specs.Sizes.{AreBlockWords};
 ghost use Rattle.air_blake3_rows.specs.Values.{SatisfiesAll, block_row, columns_values, input_values, round_values};
 
@@ -32,9 +32,9 @@ fn push_round<F: Field>(
     message: &[u32; 16],
     turn: usize,
 ) -> Pushed<State>
-    ensures next { IfOk result (λ w. w ≡ round v (taken message.now turn)) }
+    ensures next { IfOk result (λ w. w ≡ round v (word_of_round message.now turn)) }
     ensures pushed { OnOk result (values.new.items ≡ values.old.items
-        ++ round_values F.ring v (taken message.now turn)) }
+        ++ round_values F.ring v (word_of_round message.now turn)) }
 {
     let low = eight_words(message, turn, 0);
     let high = eight_words(message, turn, 8);
@@ -48,7 +48,7 @@ fn push_rounds<F: Field>(values: &mut Vec<F>, v: State, message: &[u32; 16]) -> 
     ensures last { IfOk result (λ w. w ≡ after_rounds v (slice_index message.now) 7) }
     ensures pushed { OnOk result (values.new.items ≡ values.old.items ++ asserts_of_first
         (λ r. round_values F.ring (after_rounds v (slice_index message.now) r)
-        (taken message.now r)) 7) }
+        (word_of_round message.now r)) 7) }
 {
     let mut state = v;
     for turn in 0usize..7 {

@@ -6,7 +6,7 @@ use Rattle.air_field.specs.Term.{Term, with_leaves}
 use Rattle.air_field.specs.declared.errors.RingError.{RingError}
 use Rattle.air_core.specs.declared.errors.AirError.{AirError}
 use Rattle.air_core.specs.Errors.{air_error}
-use Rattle.air_builder.specs.Assertion.{Assertion, filtered}
+use Rattle.air_builder.specs.Assertion.{Assertion, filter_by}
 use Rattle.air_builder.specs.Batches.{AssertsOf, AssertedEach}
 use Rattle.air_builder.specs.Builders.{MeansIn, BuilderView, RingLaws, BuilderLaws}
 use Rattle.air_builder.specs.Filters.{KeptInside, GrewInside, RefusesInside}
@@ -25,7 +25,7 @@ pub record AssertsUnder {S B I F : Type 0} (means : S → B → Term F → Type 
   pub holds : means a p.0 condition
   pub alone : Assertion F
   pub asserted : asserts a p.1 alone
-  pub is : s ≡ filtered condition alone
+  pub is : s ≡ filter_by condition alone
 
 module _ {S B F I N P X : Type 0} {kept : S → S → Type 0} {grew : S → S → List (Assertion F) → Type 0}
     {refuses : S → X → List (Assertion F) → Type 0} {means : S → B → Term F → Type 0}
@@ -41,11 +41,11 @@ module _ {S B F I N P X : Type 0} {kept : S → S → Type 0} {grew : S → S �
   asserted_inside (Ok u) h =
       let keeps : KeptInside kept (name p) (name q) (condition p) (condition q) (inner p) (inner q) = record { same_reference = name_is; same_condition = condition_is; inside = h.keeps } in
       asserted_one (Ok u) keeps
-      (λ s k. record { keeps = keeps; by = λ c m. grew_one h (filtered c s) (record { condition = c; holds = m; alone = s; asserted = k; is = refl }) }) tt tt
+      (λ s k. record { keeps = keeps; by = λ c m. grew_one h (filter_by c s) (record { condition = c; holds = m; alone = s; asserted = k; is = refl }) }) tt tt
   asserted_inside (Err e) h =
       let keeps : KeptInside kept (name p) (name q) (condition p) (condition q) (inner p) (inner q) = record { same_reference = name_is; same_condition = condition_is; inside = h.keeps } in
       asserted_one (Err e) keeps tt (record { keeps = keeps; by = λ c m. grew_none h })
-      (λ s k c m. refused_one h (filtered c s) (record { condition = c; holds = m; alone = s; asserted = k; is = refl }))
+      (λ s k c m. refused_one h (filter_by c s) (record { condition = c; holds = m; alone = s; asserted = k; is = refl }))
 
 module _ {S B F I N P : Type 0} {kept : S → S → Type 0} {labelled : S → S → List (Labelled F) → Type 0}
     {means : S → B → Term F → Type 0} {asserts : S → I → Assertion F → Type 0} {says : Option (List ℕ) → Type 0}
@@ -60,7 +60,7 @@ module _ {S B F I N P : Type 0} {kept : S → S → Type 0} {labelled : S → S 
   labelled_inside (Ok u) h =
       let one = one_label h in
       labelled_one (Ok u)
-      (record { label = one.label; said = one.said; grown = λ s k. record { keeps = keeps; by = λ c m. one.grown (filtered c s) (record { condition = c; holds = m; alone = s; asserted = k; is = refl }) } })
+      (record { label = one.label; said = one.said; grown = λ s k. record { keeps = keeps; by = λ c m. one.grown (filter_by c s) (record { condition = c; holds = m; alone = s; asserted = k; is = refl }) } })
       tt
   labelled_inside (Err e) h = labelled_one (Err e) tt (record { keeps = keeps; by = λ c m. no_label h })
 
@@ -68,7 +68,7 @@ module _ {S B F I N P : Type 0} {kept : S → S → Type 0} {labelled : S → S 
 -- made of a term under the condition's is `under`, and `held` what the condition means in the ring.
 module _ {S R B E F N P : Type 0} {view : BuilderView S R E F} (ring : RingLaws view) (laws : BuilderLaws view)
     (kind : Term F → Assertion F) (under : Term F → Term F → Term F)
-    (is_under : (c t : Term F) → filtered c (kind t) ≡ kind (under c t))
+    (is_under : (c t : Term F) → filter_by c (kind t) ≡ kind (under c t))
     (inner : P → S) (name : P → N) (condition : P → B) (means : S → B → Term F → Type 0) where
   open view use {ring_refuses, with_ring, reads_as, kept, grew, refuses}
 
@@ -108,7 +108,7 @@ module _ {S R B E F N P : Type 0} {view : BuilderView S R E F} (ring : RingLaws 
         let made = m (with_leaves (reads_as (inner p)) c) below (holds c k.holds) (means_in view.means x below value k.asserted.1) in (
           under c t,
           lent_means ring laws (inner p) o r z (under c t) value extended (subst (λ v. view.means r z v) (through c t) made),
-          k.is ∙ ap (λ u. filtered c u) k.asserted.2 ∙ is_under c t,
+          k.is ∙ ap (λ u. filter_by c u) k.asserted.2 ∙ is_under c t,
         )
 
     refused_under : ((t : Term F) → PartOf t (kind t ∷ [])) → (f : RingError)
@@ -119,7 +119,7 @@ module _ {S R B E F N P : Type 0} {view : BuilderView S R E F} (ring : RingLaws 
         let t = k.asserted.0 in
         let below = with_leaves (reads_as (inner p)) t in
         let refused = m (with_leaves (reads_as (inner p)) c) below (holds c k.holds) (means_in view.means x below value k.asserted.1) in
-        refuses_part ring laws kind inside value f (under c t) s (k.is ∙ ap (λ u. filtered c u) k.asserted.2 ∙ is_under c t)
+        refuses_part ring laws kind inside value f (under c t) s (k.is ∙ ap (λ u. filter_by c u) k.asserted.2 ∙ is_under c t)
         (subst (λ v. ring_refuses f v) (through c t) refused)
 
     pub filter_asserted : {z : E} {result : Result (Unit {0}) AirError}

@@ -7,6 +7,6 @@ pub data Assertion (F : Type 0) : Type 0 where
   Extension : Term F → Assertion F
 
 -- an assertion where a condition holds
-abbrev pub filtered : {F : Type 0} → Term F → Assertion F → Assertion F
-filtered c (Base t) = Base (mul_term c t)
-filtered c (Extension t) = Extension (mul_term t c)
+abbrev pub filter_by : {F : Type 0} → Term F → Assertion F → Assertion F
+filter_by c (Base t) = Base (mul_term c t)
+filter_by c (Extension t) = Extension (mul_term t c)

@@ -3,7 +3,7 @@ use Rattle.std.specs.Prelude.{◌≡◌, ℕ, List, [], map, Result, IsOk, IfOk}
 use Rattle.air_field.specs.Term.{Leaf, Term, leaf_term}
 use Rattle.air_core.specs.declared.errors.AirError.{AirError}
 use Rattle.air_builder.specs.declared.builders.filtered.FilteredAirBuilder.{FilteredAirBuilder}
-use Rattle.air_builder.specs.Assertion.{Assertion, filtered}
+use Rattle.air_builder.specs.Assertion.{Assertion, filter_by}
 use Rattle.air_builder.specs.Builders.{MeansIn, BuilderView}
 
 -- a filter stays on its builder, which keeps what it has
@@ -21,11 +21,11 @@ pub record GrewUnder {S E F A N : Type 0} (under : Term F → A → A) (kept : S
 -- the builder inside grew by the condition times each term
 abbrev pub GrewInside : {S E F N : Type 0} → (S → S → Type 0) → (S → S → List (Assertion F) → Type 0) → (S → E → Term F → Type 0)
     → N → N → E → E → S → S → List (Assertion F) → Type 0
-GrewInside kept grew means n m x y a b ts = GrewUnder filtered kept grew means n m x y a b ts
+GrewInside kept grew means n m x y a b ts = GrewUnder filter_by kept grew means n m x y a b ts
 
 -- the builder inside may refuse the condition times each term
 abbrev pub RefusesInside : {S E F X : Type 0} → (S → X → List (Assertion F) → Type 0) → (S → E → Term F → Type 0) → E → S → X → List (Assertion F) → Type 0
-RefusesInside {F = F} refuses means x a e ts = (c : Term F) → means a x c → refuses a e (map (filtered c) ts)
+RefusesInside {F = F} refuses means x a e ts = (c : Term F) → means a x c → refuses a e (map (filter_by c) ts)
 
 -- What a call answers that filters by a selector: always a filter on the builder that is lent, which grew by nothing, and
 -- whose condition means the selector's leaf.

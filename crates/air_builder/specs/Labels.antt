@@ -31,8 +31,8 @@ abbrev pub without_labels : {F : Type 0} → List (Labelled F) → List (Asserti
 without_labels ls = map (λ l. l.0) ls
 
 -- growth of a builder that discards labels
-abbrev pub discarding : {S F : Type 0} → (S → S → List (Assertion F) → Type 0) → S → S → List (Labelled F) → Type 0
-discarding grew a b ls = grew a b (without_labels ls)
+abbrev pub GrewWithoutLabels : {S F : Type 0} → (S → S → List (Assertion F) → Type 0) → S → S → List (Labelled F) → Type 0
+GrewWithoutLabels grew a b ls = grew a b (without_labels ls)
 
 -- the builder grew by what each element asserts, in order, the i-th under a label that the name at i may display
 pub record LabelledByEach {S I F : Type 0} (asserts : S → I → Assertion F → Type 0)

@@ -1,7 +1,7 @@
 -- The constraints of a counter, and of two of them beside each other.
 use Rattle.std.specs.Prelude.{ℕ, List, ◌++◌}
 use Rattle.p3_air.specs.Author.{CommRing, Assertion, current, next, first_row, last_row, transition}
-use Rattle.p3_air.specs.Author.{◌⊕◌, ◌≐◌, is_zero, boolean, when, moved}
+use Rattle.p3_air.specs.Author.{◌⊕◌, ◌≐◌, is_zero, boolean, when, move_columns}
 
 -- the bit is a bit; the count begins at zero, and rises by the bit
 unfoldable pub one_counter : {F : Type 0} → CommRing F → List (Assertion F)
@@ -14,4 +14,4 @@ one_counter R =
 
 -- a counter in the columns 0 and 1, one in 2 and 3, and on the last row one count is the other
 abbrev pub counters : {F : Type 0} → CommRing F → List (Assertion F)
-counters R = moved 0 (one_counter R) ++ (moved 2 (one_counter R) ++ when last_row (current 1 ≐ current 3))
+counters R = move_columns 0 (one_counter R) ++ (move_columns 2 (one_counter R) ++ when last_row (current 1 ≐ current 3))

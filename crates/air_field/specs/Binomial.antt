@@ -2,7 +2,7 @@
 use Rattle.std.specs.Prelude.{◌≡◌, ℕ, refl, List, length, ◌==◌}
 use Rattle.air_field.specs.Ring.{CommRing, AlgebraOver}
 use Rattle.air_field.specs.RingOps.{ops}
-use Rattle.air_field.specs.Coefficients.{poly_add, poly_neg, binomial_mul, constant_four, padded}
+use Rattle.air_field.specs.Coefficients.{poly_add, poly_neg, binomial_mul, constant_four, pad_to}
 use Rattle.air_field.specs.Extension.{Basis}
 use Rattle.air_field.specs.BaseParts.{base_part}
 use Rattle.air_field.specs.laws.FourCoefficients.{mul_length, add_length, neg_length, four_mul_assoc, four_mul_add}
@@ -56,7 +56,7 @@ binomial_over m w =
     record {
       ring = binomial_ring m w;
       embed = constant_polynomial;
-      extend = λ l. of_list (padded (residue_class m 0) 4 l) (length-padded (residue_class m 0) 4 l);
+      extend = λ l. of_list (pad_to (residue_class m 0) 4 l) (length-padded (residue_class m 0) 4 l);
     }
 
 -- a polynomial's coefficients, and the constant that it is

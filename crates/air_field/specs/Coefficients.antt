@@ -43,10 +43,10 @@ abbrev pub constant_four : {A : Type 0} → RingOps A → A → List A
 constant_four R x = x ∷ R.zero ∷ R.zero ∷ R.zero ∷ []
 
 -- the first n coefficients, zero past the list's end
-abbrev pub padded : {A : Type 0} → A → ℕ → List A → List A
-padded d zero p = []
-padded d (suc n) [] = d ∷ padded d n []
-padded d (suc n) (x ∷ p) = x ∷ padded d n p
+abbrev pub pad_to : {A : Type 0} → A → ℕ → List A → List A
+pad_to d zero p = []
+pad_to d (suc n) [] = d ∷ pad_to d n []
+pad_to d (suc n) (x ∷ p) = x ∷ pad_to d n p
 
 -- the coefficient at a place, zero past the list's end
 abbrev pub coefficient : {A : Type 0} → A → List A → ℕ → A

@@ -2,7 +2,7 @@
 use Rattle.std.specs.Prelude.{◌≡◌, ℕ, ◌-◌, ◌<◌, Option, Some, List, [], ◌∷◌, length, replicate}
 use Rattle.air_field.specs.Ring.{CommRing, AlgebraOver}
 use Rattle.air_field.specs.RingOps.{ops}
-use Rattle.air_field.specs.Coefficients.{poly_add, poly_scale, padded}
+use Rattle.air_field.specs.Coefficients.{poly_add, poly_scale, pad_to}
 
 -- How the elements of an extension lie over F: their coefficients, lowest first, and the element of F that one is, where
 -- it is one.
@@ -20,7 +20,7 @@ pub record ExtensionLaws {F E : Type 0} (R : CommRing F) (a : AlgebraOver F E) (
   pub positive : 0 < n
   pub count : (x : E) → length (basis.coefficients x) ≡ n
   pub same : (x y : E) → basis.coefficients x ≡ basis.coefficients y → x ≡ y
-  pub extend_is : (l : List F) → basis.coefficients (a.extend l) ≡ padded R.zero n l
+  pub extend_is : (l : List F) → basis.coefficients (a.extend l) ≡ pad_to R.zero n l
   pub embed_is : (c : F) → basis.coefficients (a.embed c) ≡ c ∷ replicate (n - 1) R.zero
   pub embed_one : a.embed R.one ≡ a.ring.one
   pub add_is : (x y : E) → basis.coefficients (a.ring.add x y) ≡ poly_add (ops R) (basis.coefficients x) (basis.coefficients y)

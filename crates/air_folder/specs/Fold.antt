@@ -9,6 +9,6 @@ abbrev pub folded_on : {E : Type 0} → CommRing E → E → E → List E → E
 folded_on r alpha acc values = r.add (r.mul acc (power r alpha (length values))) (sum_by_powers r alpha values)
 
 -- the same, value after value
-abbrev pub running : {E : Type 0} → CommRing E → E → E → List E → E
-running r alpha acc [] = acc
-running r alpha acc (v ∷ values) = running r alpha (r.add (r.mul acc alpha) v) values
+abbrev pub fold_from : {E : Type 0} → CommRing E → E → E → List E → E
+fold_from r alpha acc [] = acc
+fold_from r alpha acc (v ∷ values) = fold_from r alpha (r.add (r.mul acc alpha) v) values

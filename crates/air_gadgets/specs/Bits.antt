@@ -13,14 +13,14 @@ AreBits [] = ⊤
 AreBits (b ∷ bs) = (b < 2) × AreBits bs
 
 -- the xor of bits
-abbrev pub xored : List ℕ → ℕ
-xored [] = 0
-xored (b ∷ bs) = (b + xored bs) % 2
+abbrev pub xor_of_bits : List ℕ → ℕ
+xor_of_bits [] = 0
+xor_of_bits (b ∷ bs) = (b + xor_of_bits bs) % 2
 
 -- the sum of 2^i x_i in a ring
-abbrev pub packed : {A : Type 0} → CommRing A → List A → A
-packed R [] = R.zero
-packed R (x ∷ xs) = R.add x (R.mul (R.add R.one R.one) (packed R xs))
+abbrev pub binary_sum : {A : Type 0} → CommRing A → List A → A
+binary_sum R [] = R.zero
+binary_sum R (x ∷ xs) = R.add x (R.mul (R.add R.one R.one) (binary_sum R xs))
 
 -- (x + y) - 2xy
 abbrev pub ring_xor : {A : Type 0} → CommRing A → A → A → A

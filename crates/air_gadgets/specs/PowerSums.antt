@@ -3,7 +3,7 @@ use Rattle.std.specs.Prelude.{◌≡◌, ℕ, suc, ◌^◌, ◌<◌, List, [], �
 use Rattle.air_field.specs.Ring.{CommRing, AlgebraOver, image, itself}
 use Rattle.air_field.specs.Term.{Leaf, Term}
 use Rattle.air_field.specs.Value.{value}
-use Rattle.air_gadgets.specs.Bits.{digits_of, packed}
+use Rattle.air_gadgets.specs.Bits.{digits_of, binary_sum}
 use Rattle.air_gadgets.specs.Packing.{packed_term}
 
 -- the sum of 2^(k + i) x_i
@@ -23,7 +23,7 @@ PacksValues R none = PacksValuesIn (itself R) none
 
 -- both sums of 2^i x_i, by doubling and by powers, are the same
 abbrev pub PacksByPowers : {A : Type 0} → CommRing A → Type 0
-PacksByPowers {A} R = (xs : List A) → packed R xs ≡ power_sum R 0 xs
+PacksByPowers {A} R = (xs : List A) → binary_sum R xs ≡ power_sum R 0 xs
 
 -- what is packed of terms whose values in an algebra are the images of the n lowest bits of a
 -- number below 2^n has the number's image as its value

@@ -10,7 +10,7 @@ use Rattle.air_infix.specs.declared.binding.Binding.{Binding}
 use Rattle.air_infix.specs.declared.binding.Binding.TheVariants.{Loose, Summand, Factor, Negated}
 use Rattle.air_infix.specs.declared.pieces.Piece.{Piece}
 use Rattle.air_infix.specs.declared.pieces.Piece.TheVariants.{Operand, Plus, Minus, Times, Close}
-use Rattle.air_infix.specs.Infix.{Shown, shown_node, infix_text, leaf_text, opening, wrapped, wraps_sum, wraps_product}
+use Rattle.air_infix.specs.Infix.{Shown, shown_node, infix_text, leaf_text, opening_text, in_parentheses, wraps_sum, wraps_product}
 use Rattle.air_infix.specs.Pieces.{piece_text, rest_text, pair_pieces, node_front, node_rest, IsPieceBelow, shown_size, piece_size, rest_size}
 
 -- what follows of two facts on one success
@@ -29,7 +29,7 @@ module _ {F : Type 0} {p : ℕ} (m : Modular F p) (f : ℕ → Shown (BaseLeaf F
   pub rest_text-push : (xs : List (Piece F)) (x : Piece F) → rest_text m f (xs ++ x ∷ []) ≡ piece_text m f x ++ rest_text m f xs
   rest_text-push xs x = rest_text-append xs (x ∷ [])
 
-  pair-text : (wrap : Bool) (left operator right : Piece F) → opening wrap ++ rest_text m f (pair_pieces wrap left operator right) ≡ wrapped wrap (piece_text m f left ++ (piece_text m f operator ++ piece_text m f right))
+  pair-text : (wrap : Bool) (left operator right : Piece F) → opening_text wrap ++ rest_text m f (pair_pieces wrap left operator right) ≡ in_parentheses wrap (piece_text m f left ++ (piece_text m f operator ++ piece_text m f right))
   pair-text true left operator right = simp append_assoc
   pair-text false left operator right = simp (append_assoc, append-nil)
 

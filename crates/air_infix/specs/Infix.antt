@@ -86,15 +86,15 @@ wraps_constant Summand = false
 wraps_constant Factor = false
 wraps_constant Negated = true
 
-abbrev pub opening : Bool → List ℕ
-opening wrap = if wrap then codes "(" else []
+abbrev pub opening_text : Bool → List ℕ
+opening_text wrap = if wrap then codes "(" else []
 
-abbrev pub closing : Bool → List ℕ
-closing wrap = if wrap then codes ")" else []
+abbrev pub closing_text : Bool → List ℕ
+closing_text wrap = if wrap then codes ")" else []
 
 -- the text, in parentheses where they are needed
-abbrev pub wrapped : Bool → List ℕ → List ℕ
-wrapped wrap text = opening wrap ++ (text ++ closing wrap)
+abbrev pub in_parentheses : Bool → List ℕ → List ℕ
+in_parentheses wrap text = opening_text wrap ++ (text ++ closing_text wrap)
 
 -- ---- texts
 
@@ -103,7 +103,7 @@ leaf_text m within (Variable v) = entry_text v.entry ++ (codes "[" ++ (decimal v
 leaf_text m within IsFirstRow = codes "is_first_row"
 leaf_text m within IsLastRow = codes "is_last_row"
 leaf_text m within IsTransition = codes "is_transition"
-leaf_text m within (Constant c) = wrapped (wraps_constant within) (constant_text m c)
+leaf_text m within (Constant c) = in_parentheses (wraps_constant within) (constant_text m c)
 
 abbrev pub name_text : ℕ → List ℕ
 name_text k = codes "%" ++ decimal k
@@ -113,7 +113,7 @@ abbrev pub infix_text : {F : Type 0} {p : ℕ} → Modular F p → Binding → S
 infix_text m within nothing = []
 infix_text m within (leaf a) = leaf_text m within a
 infix_text m within (name k) = name_text k
-infix_text m within (sum t u) = wrapped (wraps_sum within) (infix_text m Loose t ++ (codes " + " ++ infix_text m Summand u))
-infix_text m within (difference t u) = wrapped (wraps_sum within) (infix_text m Loose t ++ (codes " - " ++ infix_text m Summand u))
+infix_text m within (sum t u) = in_parentheses (wraps_sum within) (infix_text m Loose t ++ (codes " + " ++ infix_text m Summand u))
+infix_text m within (difference t u) = in_parentheses (wraps_sum within) (infix_text m Loose t ++ (codes " - " ++ infix_text m Summand u))
 infix_text m within (negative t) = codes "-" ++ infix_text m Negated t
-infix_text m within (product t u) = wrapped (wraps_product within) (infix_text m Summand t ++ (codes " * " ++ infix_text m Factor u))
+infix_text m within (product t u) = in_parentheses (wraps_product within) (infix_text m Summand t ++ (codes " * " ++ infix_text m Factor u))

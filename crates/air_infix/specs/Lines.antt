@@ -30,11 +30,11 @@ module _ {F : Type 0} {p : ℕ} (m : Modular F p) (pool : BaseNodes F) (names : 
       ++ (codes ": " ++ infix_text m Loose (shown (listed_name names) pool.nodes i)))))
 
 -- a line for each element, by its place and itself
-abbrev pub numbered : (ℕ → ℕ → List ℕ) → List ℕ → List (List ℕ)
-numbered line xs = map (λ x. line x.0 x.1) (enumerate_from 0 xs)
+abbrev pub number_lines : (ℕ → ℕ → List ℕ) → List ℕ → List (List ℕ)
+number_lines line xs = map (λ x. line x.0 x.1) (enumerate_from 0 xs)
 
 -- The definitions of what has a name, in order, and then the roots.
 pub record ShowsRoots {F : Type 0} {p : ℕ} (m : Modular F p) (pool : BaseNodes F) (roots : List ℕ) (text : List ℕ) : Type 0 where
   pub names : List ℕ × List (Option ℕ)
   pub are_names : AreNames base_leaves pool.nodes roots names
-  pub text_is : text ≡ lines_text (numbered (definition_line m pool names.1) names.0 ++ numbered (constraint_line m pool names.1) roots)
+  pub text_is : text ≡ lines_text (number_lines (definition_line m pool names.1) names.0 ++ number_lines (constraint_line m pool names.1) roots)

@@ -8,7 +8,7 @@ use Rattle.air_infix.specs.declared.binding.Binding.{Binding}
 use Rattle.air_infix.specs.declared.binding.Binding.TheVariants.{Loose, Summand, Factor, Negated}
 use Rattle.air_infix.specs.declared.pieces.Piece.{Piece}
 use Rattle.air_infix.specs.declared.pieces.Piece.TheVariants.{Operand, Plus, Minus, Times, Close}
-use Rattle.air_infix.specs.Infix.{Shown, nothing, leaf, name, sum, difference, negative, product, infix_text, leaf_text, opening, wraps_sum, wraps_product}
+use Rattle.air_infix.specs.Infix.{Shown, nothing, leaf, name, sum, difference, negative, product, infix_text, leaf_text, opening_text, wraps_sum, wraps_product}
 
 -- the text of a piece, number i being shown as f i
 abbrev pub piece_text : {F : Type 0} {p : ℕ} → Modular F p → (ℕ → Shown (BaseLeaf F)) → Piece F → List ℕ
@@ -30,10 +30,10 @@ pair_pieces wrap left operator right = (if wrap then Close ∷ [] else []) ++ ri
 -- how the text of a node begins
 abbrev pub node_front : {F : Type 0} {p : ℕ} → Modular F p → Binding → SymbolicExpr (BaseLeaf F) → List ℕ
 node_front m within (Leaf a) = leaf_text m within a
-node_front m within (Add x y d) = opening (wraps_sum within)
-node_front m within (Sub x y d) = opening (wraps_sum within)
+node_front m within (Add x y d) = opening_text (wraps_sum within)
+node_front m within (Sub x y d) = opening_text (wraps_sum within)
 node_front m within (Neg x d) = codes "-"
-node_front m within (Mul x y d) = opening (wraps_product within)
+node_front m within (Mul x y d) = opening_text (wraps_product within)
 
 -- and the pieces that follow, in reverse
 abbrev pub node_rest : {F : Type 0} → Binding → SymbolicExpr (BaseLeaf F) → List (Piece F)

@@ -1,6 +1,6 @@
 //! The text of leaves.
 ghost use Rattle.std.specs.Prelude.{◌≡◌, ◌++◌, OnOk, codes, decimal, string_bytes};
-ghost use Rattle.air_infix.specs.Infix.{rows_text, entry_text, constant_text, leaf_text, opening, closing};
+ghost use Rattle.air_infix.specs.Infix.{rows_text, entry_text, constant_text, leaf_text, opening_text, closing_text};
 
 use crate::binding::Binding;
 use air_core::BaseEntry;
@@ -50,7 +50,7 @@ pub fn push_constant<F: PrimeField64>(text: &mut String, c: F) -> Result<(), All
 
 /// Adds a parenthesis that opens, where `wrap` asks for one.
 pub fn push_opening(text: &mut String, wrap: bool) -> Result<(), AllocError>
-    ensures { OnOk result (string_bytes text.new ≡ string_bytes text.old ++ opening wrap) }
+    ensures { OnOk result (string_bytes text.new ≡ string_bytes text.old ++ opening_text wrap) }
 {
     if wrap {
         text.push_str("(")?;
@@ -60,7 +60,7 @@ pub fn push_opening(text: &mut String, wrap: bool) -> Result<(), AllocError>
 
 // Adds a parenthesis that closes, where `wrap` asks for one.
 fn push_closing(text: &mut String, wrap: bool) -> Result<(), AllocError>
-    ensures { OnOk result (string_bytes text.new ≡ string_bytes text.old ++ closing wrap) }
+    ensures { OnOk result (string_bytes text.new ≡ string_bytes text.old ++ closing_text wrap) }
 {
     if wrap {
         text.push_str(")")?;

@@ -1,7 +1,7 @@
 //! The lines that show the constraints of a pool.
 ghost use Rattle.std.specs.Prelude.{◌≡◌, ◌<◌, ◌++◌, All, IfOk, OnOk, string_bytes};
 ghost use Rattle.air_symbolic.specs.Pools.{size};
-ghost use Rattle.air_infix.specs.Lines.{lines_text, numbered, definition_line, constraint_line, ShowsRoots};
+ghost use Rattle.air_infix.specs.Lines.{lines_text, number_lines, definition_line, constraint_line, ShowsRoots};
 
 use crate::infix::{push_definition, push_infix};
 use crate::names::Names;
@@ -18,7 +18,8 @@ pub fn push_definitions<F: PrimeField64>(
 ) -> Result<(), AllocError>
     requires here { All (λ x. x < size pool.now) names.now.0 }
     ensures { OnOk result (string_bytes text.new ≡ string_bytes text.old
-        ++ lines_text (numbered (definition_line F.residues pool.now names.now.1) names.now.0)) }
+        ++ lines_text (number_lines (definition_line F.residues pool.now names.now.1)
+        names.now.0)) }
 {
     for (name, id) in names.named().iter().enumerate() {
         write!(text, "%{name} = ")?;
@@ -38,7 +39,7 @@ fn push_constraints<F: PrimeField64>(
 ) -> Result<(), AllocError>
     requires here { All (λ x. x < size pool.now) roots.now }
     ensures { OnOk result (string_bytes text.new ≡ string_bytes text.old
-        ++ lines_text (numbered (constraint_line F.residues pool.now names.now.1) roots.now)) }
+        ++ lines_text (number_lines (constraint_line F.residues pool.now names.now.1) roots.now)) }
 {
     for (place, root) in roots.iter().enumerate() {
         let degree = pool.degree_multiple(*root);

@@ -1,6 +1,6 @@
 //! What is still to be written of an expression.
 ghost use Rattle.std.specs.Prelude.{◌≡◌, ◌++◌, OnOk, string_bytes};
-ghost use Rattle.air_infix.specs.Infix.{opening};
+ghost use Rattle.air_infix.specs.Infix.{opening_text};
 ghost use Rattle.air_infix.specs.Pieces.{pair_pieces, node_front, node_rest};
 
 use crate::binding::Binding;
@@ -30,7 +30,8 @@ fn leave_pair<F: PrimeField64>(
     operator: Piece<F>,
     right: Piece<F>,
 ) -> Result<(), AllocError>
-    ensures front { OnOk result (string_bytes text.new ≡ string_bytes text.old ++ opening wrap) }
+    ensures front { OnOk result (string_bytes text.new ≡ string_bytes text.old
+        ++ opening_text wrap) }
     ensures rest { OnOk result (rest.new.items ≡
         rest.old.items ++ pair_pieces wrap left operator right) }
 {

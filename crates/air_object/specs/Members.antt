@@ -11,7 +11,7 @@ use Rattle.air_wire.specs.NodeLists.{IsList, HasFault}
 use Rattle.air_wire.specs.Spelling.{IsWholeNumber}
 use Rattle.air_wire.specs.declared.errors.FlatError.{FlatError}
 use Rattle.air_wire.specs.declared.errors.FlatError.TheVariants as faults
-use Rattle.air_object.specs.Objects.{Grammar, by_form, list_of, needed, optional, both_members, both_or_none}
+use Rattle.air_object.specs.Objects.{Grammar, by_form, list_of, needed_member, optional, both_members, both_or_none}
 
 abbrev pub whole_number : Grammar ℕ
 whole_number = by_form (λ d n. IsWholeNumber n d)
@@ -50,11 +50,11 @@ MemberValues F = ℕ × (List F × (Option (TableValues F) × (List F × (List (
 
 abbrev pub members : {F : Type 0} {p : ℕ} → Modular F p → Grammar (MemberValues F)
 members m =
-    both_members (needed (codes "main_width") whole_number)
-    (both_members (needed (codes "main") (list_of (element m)))
+    both_members (needed_member (codes "main_width") whole_number)
+    (both_members (needed_member (codes "main") (list_of (element m)))
     (both_members (both_or_none (codes "preprocessed_width") whole_number (codes "preprocessed") (list_of (element m)))
-    (both_members (needed (codes "public_values") (list_of (element m)))
-    (both_members (needed (codes "constraints") (list_of (constraint m)))
+    (both_members (needed_member (codes "public_values") (list_of (element m)))
+    (both_members (needed_member (codes "constraints") (list_of (constraint m)))
     (both_members (optional (codes "periodic") [] (list_of (list_of (element m))))
     (both_members (optional (codes "boundary") [] (list_of boundary_cell))
     (both_members (optional (codes "cap") None cap)

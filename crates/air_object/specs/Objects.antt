@@ -36,8 +36,8 @@ list_of g = record {
 -- ---- members of an object
 
 -- the member of this name, which is there
-abbrev pub needed : {X : Type 0} → List ℕ → Grammar X → Grammar X
-needed name g = record {
+abbrev pub needed_member : {X : Type 0} → List ℕ → Grammar X → Grammar X
+needed_member name g = record {
   spells = λ d x. HasField name (λ c. g.spells c x) d;
   fault = λ d f. ((get name d ≡ None) × (f ≡ faults.Shape 0)) ⊎ HasField name (λ c. g.fault c f) d;
 }
@@ -65,6 +65,6 @@ abbrev pub both_or_none : {X Y : Type 0} → List ℕ → Grammar X → List ℕ
 both_or_none {X} {Y} one g other h = record {
   spells = λ d o.
       ((get one d ≡ None) × (get other d ≡ None) × (o ≡ None))
-      ⊎ ((p : X × Y) × (both_members (needed one g) (needed other h)).spells d p × (o ≡ Some p));
-  fault = λ d f. HasEither one other d × (both_members (needed one g) (needed other h)).fault d f;
+      ⊎ ((p : X × Y) × (both_members (needed_member one g) (needed_member other h)).spells d p × (o ≡ Some p));
+  fault = λ d f. HasEither one other d × (both_members (needed_member one g) (needed_member other h)).fault d f;
 }

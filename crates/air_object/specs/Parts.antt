@@ -12,7 +12,7 @@ use Rattle.air_symbolic.specs.declared.leaves.base_leaf.BaseLeaf.{BaseLeaf}
 use Rattle.air_wire.specs.Results.{◌>>=◌, Gives}
 use Rattle.air_wire.specs.declared.errors.FlatError.{FlatError}
 use Rattle.air_object.specs.Members.{MemberValues}
-use Rattle.air_object.specs.Readers.{Reader, formed, elements, trees, width_member, elements_member, table_member, constraints_member, periodic_member, boundary_member, cap_member, weight_member}
+use Rattle.air_object.specs.Readers.{Reader, or_wrong_form, elements, trees, width_member, elements_member, table_member, constraints_member, periodic_member, boundary_member, cap_member, weight_member}
 use Rattle.air_object.specs.declared.constraints.Constraints.{Constraints}
 
 -- the elements of the trace, or the first fault
@@ -51,7 +51,7 @@ read_one_more read given d = and_one given (read d)
 
 -- what a member's value gives, if there is one
 abbrev pub of_member : {X : Type 0} → Reader X → Option Data → Result X FlatError
-of_member read o = formed o >>= read
+of_member read o = or_wrong_form o >>= read
 
 -- rest are the members ms but for the trace and the constraints, which are apart
 pub record AreMembersOf {F : Type 0} {p : ℕ} (m : Modular F p) (ms rest : Members) (es : Result (Vec F Global) FlatError) (c : Constraints F) : Type 0 where

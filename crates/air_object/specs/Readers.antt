@@ -19,8 +19,8 @@ abbrev pub Reader : Type 0 → Type 0
 Reader X = Data → Result X FlatError
 
 -- what is found, or the form is wrong
-abbrev pub formed : {X : Type 0} → Option X → Result X FlatError
-formed o = ok_or o (faults.Shape 0)
+abbrev pub or_wrong_form : {X : Type 0} → Option X → Result X FlatError
+or_wrong_form o = ok_or o (faults.Shape 0)
 
 -- ---- lists
 
@@ -30,7 +30,7 @@ each_from read done no_items = Ok done
 each_from read done (item d ds) = read d >>= λ x. each_from read (done ++ x ∷ []) ds
 
 abbrev pub list_read : {X : Type 0} → Reader X → Reader (List X)
-list_read read d = formed (as_array d) >>= λ ds. each_from read [] ds
+list_read read d = or_wrong_form (as_array d) >>= λ ds. each_from read [] ds
 
 unfoldable pub elements : {F : Type 0} {p : ℕ} → Modular F p → Reader (List F)
 elements m d = list_read (element_at m 0) d
@@ -47,7 +47,7 @@ trees m d = list_read (tree m) d
 -- ---- boundary cells
 
 abbrev pub cell_read : Reader BoundaryPublic
-cell_read d = formed (cell_of d)
+cell_read d = or_wrong_form (cell_of d)
 
 unfoldable pub cells : Reader (List BoundaryPublic)
 cells d = list_read cell_read d
@@ -60,7 +60,7 @@ cap_in d = if is_some (as_null d) then Some None else option_map (λ n. Some n) 
 -- ---- members
 
 abbrev pub needed_read : {X : Type 0} → List ℕ → Reader X → Reader X
-needed_read name read d = formed (get name d) >>= read
+needed_read name read d = or_wrong_form (get name d) >>= read
 
 abbrev pub or_absent : {X : Type 0} → X → Reader X → Option Data → Result X FlatError
 or_absent absent read None = Ok absent
@@ -78,7 +78,7 @@ if_either one other read d =
     if is_some (get one d) || is_some (get other d) then (read d >>= λ x. Ok (Some x)) else Ok None
 
 unfoldable pub width_member : List ℕ → Reader ℕ
-width_member name d = needed_read name (λ c. formed (whole c)) d
+width_member name d = needed_read name (λ c. or_wrong_form (whole c)) d
 
 unfoldable pub elements_member : {F : Type 0} {p : ℕ} → Modular F p → List ℕ → Reader (List F)
 elements_member m name d = needed_read name (elements m) d
@@ -97,10 +97,10 @@ unfoldable pub boundary_member : Reader (List BoundaryPublic)
 boundary_member d = optional_read (codes "boundary") [] cells d
 
 unfoldable pub cap_member : Reader (Option ℕ)
-cap_member d = optional_read (codes "cap") None (λ c. formed (cap_in c)) d
+cap_member d = optional_read (codes "cap") None (λ c. or_wrong_form (cap_in c)) d
 
 unfoldable pub weight_member : Reader ℕ
-weight_member d = optional_read (codes "transition_weight") 0 (λ c. formed (whole c)) d
+weight_member d = optional_read (codes "transition_weight") 0 (λ c. or_wrong_form (whole c)) d
 
 unfoldable pub members_read : {F : Type 0} {p : ℕ} → Modular F p → Reader (MemberValues F)
 members_read m d = do

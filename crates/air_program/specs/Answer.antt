@@ -11,7 +11,7 @@ use Rattle.p3_air.specs.declared.audit.Audit.{Audit}
 use Rattle.air_core.specs.declared.errors.AirError.{AirError}
 use Rattle.air_fibonacci.specs.Fibonacci.{fibonacci_declaration}
 use Rattle.air_program.specs.Parsing.{element_values}
-use Rattle.air_program.specs.Texts.{Found, found, IsFindingsText, findings_status}
+use Rattle.air_program.specs.Texts.{Found, found_in, IsFindingsText, findings_status}
 use Rattle.air_program.specs.Refusals.{AnswersRefusal}
 
 -- the test whether two elements are equal: whether their numbers are
@@ -20,7 +20,7 @@ equal m a b = m.value a == m.value b
 
 -- what an audit found
 abbrev pub found_by : {F : Type 0} → Audit F → Found
-found_by audit = found (record { degree = audit.degree; report = audit.report })
+found_by audit = found_in (record { degree = audit.degree; report = audit.report })
 
 -- What an audit under a cap, in a domain of weight w, finds of an instance.
 pub record AuditFinds {F : Type 0} {p : ℕ} (m : Modular F p) (x : Instance F) (cap : Option ℕ) (w : ℕ) (f : Found) : Type 0 where

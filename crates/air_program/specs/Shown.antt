@@ -12,12 +12,12 @@ use Rattle.air_wire.specs.declared.errors.FlatError.{FlatError}
 use Rattle.air_infix.specs.Lines.{ShowsRoots}
 use Rattle.air_program.specs.ByField.{AnswersBytes}
 use Rattle.air_object.specs.Members.{constraint}
-use Rattle.air_object.specs.Objects.{Grammar, list_of, needed}
+use Rattle.air_object.specs.Objects.{Grammar, list_of, needed_member}
 use Rattle.air_program.specs.Refusals.{AnswersRefusal, air_name}
 
 -- the member `constraints`, alone
 abbrev pub constraints : {F : Type 0} {p : ℕ} → Modular F p → Grammar (List (Option (Tree (BaseLeaf F))))
-constraints m = needed (codes "constraints") (list_of (constraint m))
+constraints m = needed_member (codes "constraints") (list_of (constraint m))
 
 -- The text shows roots of a pool that have the trees which the member spells.
 pub record ShowsValue {F : Type 0} {p : ℕ} (m : Modular F p) (d : Data) (text : List ℕ) : Type 0 where

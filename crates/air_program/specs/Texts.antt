@@ -12,8 +12,8 @@ pub record Found : Type 0 where
   pub constraints : ℕ
   pub failures : List (ℕ × ℕ × Option (List ℕ))
 
-abbrev pub found : Findings → Found
-found f = record {
+abbrev pub found_in : Findings → Found
+found_in f = record {
   degree = f.degree;
   rows = f.report.total_rows;
   constraints = f.report.total_constraints_per_row;

@@ -4,7 +4,7 @@ ghost use Rattle.std.specs.Prelude.{◌≡◌, ◌⊎◌, ◌%◌, ◌<◌, ◌^
 ghost use Rattle.air_field.specs.Grid.{grid_of};
 ghost use Rattle.air_field.specs.Modulo.{baby_bears};
 ghost use Rattle.p3_air.specs.Theorem.{instance};
-ghost use Rattle.air_program.specs.Texts.{found, findings_status, IsFindingsText};
+ghost use Rattle.air_program.specs.Texts.{found_in, findings_status, IsFindingsText};
 ghost use Rattle.air_program.specs.Commands.{has_labels};
 ghost use Rattle.air_program.specs.Grammar.{parse};
 ghost use Rattle.air_program.specs.Answer.{AuditFinds, CappedAuditRefuses, fibonacci_instance, PassesDegree, IsAnswerTo};
@@ -59,7 +59,7 @@ pub(crate) fn findings_of<
 ) -> Result<Findings, AirError>
     ensures found { IfOk result (λ findings. AuditFinds F.residues
         (instance (A.declaration air.now) main.now public_values.now)
-        cap transition_weight (found findings)) }
+        cap transition_weight (found_in findings)) }
     ensures refused { IfErr result (CappedAuditRefuses F.residues
         (instance (A.declaration air.now) main.now public_values.now) cap transition_weight) }
 {
@@ -86,7 +86,7 @@ fn audit_fibonacci(
     requires height { length main.now.rows < 2 ^ 63 }
     requires public { length public_values.now ≡ 3 }
     ensures found { IfOk result (λ findings. AuditFinds baby_bears
-        (fibonacci_instance main.now public_values.now) cap transition_weight (found findings)) }
+        (fibonacci_instance main.now public_values.now) cap transition_weight (found_in findings)) }
     ensures refused { IfErr result (λ why. (why ≡ Refusal.Memory)
         ⊎ ((why ≡ Refusal.Air AirError.DegreeOverflow)
         × PassesDegree (fibonacci_instance main.now public_values.now) cap transition_weight)) }
@@ -106,7 +106,7 @@ fn audit_fibonacci(
 
 /// 0 without failures, 1 with.
 pub(crate) fn status(findings: &Findings) -> u8
-    ensures { result ≡ findings_status (found findings.now) }
+    ensures { result ≡ findings_status (found_in findings.now) }
 {
     if findings.report.failures.is_empty() {
         0
@@ -117,8 +117,8 @@ pub(crate) fn status(findings: &Findings) -> u8
 
 /// The status and the text of what was found.
 pub(crate) fn render(alloc: Global, findings: &Findings) -> Result<(u8, String), Refusal>
-    ensures status { IfOk result (λ p. p.0 ≡ findings_status (found findings.now)) }
-    ensures text { IfOk result (λ p. IsFindingsText (found findings.now) (string_bytes p.1)) }
+    ensures status { IfOk result (λ p. p.0 ≡ findings_status (found_in findings.now)) }
+    ensures text { IfOk result (λ p. IsFindingsText (found_in findings.now) (string_bytes p.1)) }
     ensures refused { IfErr result (λ why. why ≡ Refusal.Memory) }
 {
     match findings_text(alloc, findings) {

@@ -15,7 +15,7 @@ ghost use Rattle.air_program.specs.ByField.{AnswersParts};
 ghost use Rattle.air_program.specs.Explained.{failing_roots, cell_lines, PushesNames, PushesExplained, trace_with, IsExplainedText, TellsExplained, ExplainedIn};
 ghost use Rattle.air_program.specs.FlatAnswer.{AuditRefusesInput};
 ghost use Rattle.air_program.specs.Refusals.{air_refusal, GivesAnswer};
-ghost use Rattle.air_program.specs.Texts.{found, findings_status};
+ghost use Rattle.air_program.specs.Texts.{found_in, findings_status};
 ghost use Rattle.air_infix.specs.Lines.{lines_text};
 ghost use Rattle.air_core.specs.declared.errors.AirError.{AirError};
 
@@ -187,7 +187,7 @@ fn explained_text<F: PrimeField64>(
     findings: &Findings,
 ) -> Result<String, AllocError>
     ensures { IfOk result (λ text. IsExplainedText F.residues air.now.pool air.now.roots.items
-        air.now.cells.items (trace_of trace.now) (found findings.now) (string_bytes text)) }
+        air.now.cells.items (trace_of trace.now) (found_in findings.now) (string_bytes text)) }
 {
     let failures = &findings.report.failures;
     let names = Names::of(alloc, &air.pool, &air.roots)?;
@@ -206,10 +206,10 @@ fn explained<F: PrimeField64>(
     public_values: &[F],
     findings: &Findings,
 ) -> Result<(u8, String), Refusal>
-    ensures status { IfOk result (λ p. p.0 ≡ findings_status (found findings.now)) }
+    ensures status { IfOk result (λ p. p.0 ≡ findings_status (found_in findings.now)) }
     ensures text { IfOk result (λ p. IsExplainedText F.residues air.now.pool air.now.roots.items
         air.now.cells.items (trace_with main.now air.now.preprocessed air.now.periodic.items
-        public_values.now) (found findings.now) (string_bytes p.1)) }
+        public_values.now) (found_in findings.now) (string_bytes p.1)) }
     ensures refused { IfErr result (λ why. why ≡ Refusal.Memory) }
 {
     let trace = TraceRows {

@@ -7,7 +7,7 @@ ghost use Rattle.air_program.specs.FlatAnswer.{flat_instance, AuditRefusesInput,
 ghost use Rattle.air_object.specs.Parts.{InPool};
 ghost use Rattle.air_program.specs.ByField.{AnswersParts};
 ghost use Rattle.air_program.specs.Refusals.{GivesAnswer};
-ghost use Rattle.air_program.specs.Texts.{found};
+ghost use Rattle.air_program.specs.Texts.{found_in};
 
 use crate::answer::{findings_of, render};
 use crate::refusals::Refusal;
@@ -42,7 +42,7 @@ fn audit_input<F: PrimeField64 + 'static>(
 ) -> Result<Findings, AirError>
     requires roots { All (λ i. i < size input.pool) input.roots.items }
     ensures found { IfOk result (λ findings. AuditFinds F.residues (flat_instance input) input.cap
-        input.transition_weight (found findings)) }
+        input.transition_weight (found_in findings)) }
     ensures refused { IfErr result (AuditRefusesInput F.residues input) }
 {
     let air = FlatAir::new(

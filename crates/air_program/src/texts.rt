@@ -2,7 +2,7 @@
 
 ghost use Rattle.std.specs.Prelude.{◌≡◌, ◌++◌, OnOk, IfOk, IfSome, option_map, string_bytes};
 ghost use Rattle.air_report.specs.FailureTexts.{label_suffix, seen_failure};
-ghost use Rattle.air_program.specs.Texts.{HasNoLineEnd, count_lines, found, PushesLine, IsFindingsText};
+ghost use Rattle.air_program.specs.Texts.{HasNoLineEnd, count_lines, found_in, PushesLine, IsFindingsText};
 ghost use Rattle.air_infix.specs.Lines.{lines_text};
 
 use p3_air::{ConstraintFailure, ConstraintReport};
@@ -19,7 +19,7 @@ pub struct Findings {
 #[tactic(auto, unfolding(crate::specs::Texts::count_lines))]
 pub(crate) fn push_counts(text: &mut String, findings: &Findings) -> Result<(), AllocError>
     ensures { OnOk result (string_bytes text.new ≡ string_bytes text.old ++ lines_text
-        (count_lines (found findings.now))) }
+        (count_lines (found_in findings.now))) }
 {
     let degree = findings.degree;
     let rows = findings.report.total_rows;
@@ -66,7 +66,7 @@ pub(crate) fn push_failure(
 
 /// A line for each count and for each failure.
 pub fn findings_text(alloc: Global, findings: &Findings) -> Result<String, AllocError>
-    ensures { IfOk result (λ text. IsFindingsText (found findings.now) (string_bytes text)) }
+    ensures { IfOk result (λ text. IsFindingsText (found_in findings.now) (string_bytes text)) }
 {
     let mut text = String::new(alloc);
     push_counts(&mut text, findings)?;

@@ -4,7 +4,7 @@ use Rattle.std.proofs.lemmas.Bool.{cases_lt}
 use Rattle.std.proofs.lemmas.List.{ext_get_or}
 use Rattle.air_field.specs.Ring.{CommRing, AlgebraOver}
 use Rattle.air_field.specs.laws.Ring.{zero_add, mul_zero}
-use Rattle.air_field.specs.Coefficients.{coefficient, padded}
+use Rattle.air_field.specs.Coefficients.{coefficient, pad_to}
 use Rattle.air_field.specs.laws.Coefficients.{coefficient-add, coefficient-scale}
 use Rattle.air_field.specs.Extension.{Basis, ExtensionLaws}
 use Rattle.air_field.specs.laws.Extension.{extension_over_laws}
@@ -23,12 +23,12 @@ delta R (suc d) zero = R.zero
 delta R (suc d) (suc j) = delta R d j
 
 module _ {F : Type 0} (R : CommRing F) where
-  unit-coefficient : (n d j : ℕ) → j < n → coefficient R.zero (padded R.zero n (replicate d R.zero ++ R.one ∷ [])) j ≡ delta R d j
+  unit-coefficient : (n d j : ℕ) → j < n → coefficient R.zero (pad_to R.zero n (replicate d R.zero ++ R.one ∷ [])) j ≡ delta R d j
   unit-coefficient zero d j h = absurd (omega arith)
   unit-coefficient (suc n) zero zero h = refl
   unit-coefficient (suc n) zero (suc j) h = none n j
     where
-      none : (m i : ℕ) → coefficient R.zero (padded R.zero m []) i ≡ R.zero
+      none : (m i : ℕ) → coefficient R.zero (pad_to R.zero m []) i ≡ R.zero
       none zero i = refl
       none (suc m) zero = refl
       none (suc m) (suc i) = none m i

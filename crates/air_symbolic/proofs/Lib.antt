@@ -4,9 +4,9 @@ pub mod Entering
 pub mod Pushed
 pub mod StatedDegrees
 pub mod Making
-pub mod Folding
-pub mod FoldedLists
-pub mod FoldedTerms
+pub mod Simplifying
+pub mod SimplifiedLists
+pub mod SimplifiedTerms
 pub mod BasePart
 pub mod Overflows
 pub mod DegreeTables

@@ -18,14 +18,14 @@ use Rattle.air_symbolic.specs.Reach.{EachOperand}
 use Rattle.air_symbolic.specs.Lowered.{IsLoweredIn, LoweredAt, IsLoweredNode, CanLower}
 use Rattle.air_symbolic.specs.declared.pools.expr.SymbolicExpr.{SymbolicExpr}
 use Rattle.air_symbolic.specs.declared.pools.expr.SymbolicExpr.TheVariants.{Leaf, Add, Sub, Neg, Mul}
-use Rattle.air_symbolic.specs.ExtTrees.{SomeExtOnly, HasExtOnly, lowered_tree, lowered, HasTermOf}
+use Rattle.air_symbolic.specs.ExtTrees.{SomeExtOnly, HasExtOnly, lower_tree, lower, HasTermOf}
 use Rattle.air_symbolic.specs.declared.leaves.base_leaf.BaseLeaf.{BaseLeaf}
 use Rattle.air_symbolic.specs.declared.leaves.ext_leaf.ExtLeaf.{ExtLeaf}
 use Rattle.air_symbolic.specs.declared.leaves.ext_leaf.ExtLeaf.TheVariants.{Base, ExtVariable, ExtConstant}
 
 module _ {F EF : Type 0} (r : CommRing F) where
   -- it stays while the base pool grows
-  lowered_tree-kept : (u v : BaseNodes F) → ext_grows u v → (t : Tree (ExtLeaf F EF)) → AllValid (ext_valid u) t → lowered_tree v t ≡ lowered_tree u t
+  lowered_tree-kept : (u v : BaseNodes F) → ext_grows u v → (t : Tree (ExtLeaf F EF)) → AllValid (ext_valid u) t → lower_tree v t ≡ lower_tree u t
   lowered_tree-kept u v g (leaf_tree (Base i)) h = tree-kept r base_reads base_grows tt (base_leaf_laws r) u v i g h.here
   lowered_tree-kept u v g (leaf_tree (ExtVariable x)) h = refl
   lowered_tree-kept u v g (leaf_tree (ExtConstant c)) h = refl
@@ -34,55 +34,55 @@ module _ {F EF : Type 0} (r : CommRing F) where
   lowered_tree-kept u v g (neg_tree t) h = ap (option_map neg_tree) (lowered_tree-kept u v g t h)
   lowered_tree-kept u v g (mul_tree t x) h = ap₂ (both mul_tree) (lowered_tree-kept u v g t h.0) (lowered_tree-kept u v g x h.1)
 
-  pub lowered-kept : (u v : BaseNodes F) → ext_grows u v → (t : Option (Tree (ExtLeaf F EF))) → IsValidTree (ext_valid u) t → lowered v t ≡ lowered u t
+  pub lowered-kept : (u v : BaseNodes F) → ext_grows u v → (t : Option (Tree (ExtLeaf F EF))) → IsValidTree (ext_valid u) t → lower v t ≡ lower u t
   lowered-kept u v g (Some t) h = lowered_tree-kept u v g t h
   lowered-kept u v g None h = refl
 
   -- it is there where no extension-only leaf occurs
-  lowered-valid : (u : BaseNodes F) (t : Tree (ExtLeaf F EF)) → AllValid (ext_valid u) t → (SomeExtOnly t → ⊥) → IsValidTree base_leaves.valid (lowered_tree u t)
+  lowered-valid : (u : BaseNodes F) (t : Tree (ExtLeaf F EF)) → AllValid (ext_valid u) t → (SomeExtOnly t → ⊥) → IsValidTree base_leaves.valid (lower_tree u t)
   lowered-valid u (leaf_tree (Base i)) h n = tree_of-valid base_leaves u.nodes h.pool.nodes i h.here
   lowered-valid u (leaf_tree (ExtVariable x)) h n = absurd (n tt)
   lowered-valid u (leaf_tree (ExtConstant c)) h n = absurd (n tt)
-  lowered-valid u (add_tree t x) h n = both-valid base_leaves.valid add_tree (λ _ _ p q. (p, q)) (lowered_tree u t) (lowered_tree u x) (lowered-valid u t h.0 (λ e. n (inl e))) (lowered-valid u x h.1 (λ e. n (inr e)))
-  lowered-valid u (sub_tree t x) h n = both-valid base_leaves.valid sub_tree (λ _ _ p q. (p, q)) (lowered_tree u t) (lowered_tree u x) (lowered-valid u t h.0 (λ e. n (inl e))) (lowered-valid u x h.1 (λ e. n (inr e)))
-  lowered-valid u (neg_tree t) h n = negative-valid base_leaves.valid (lowered_tree u t) (lowered-valid u t h n)
-  lowered-valid u (mul_tree t x) h n = both-valid base_leaves.valid mul_tree (λ _ _ p q. (p, q)) (lowered_tree u t) (lowered_tree u x) (lowered-valid u t h.0 (λ e. n (inl e))) (lowered-valid u x h.1 (λ e. n (inr e)))
+  lowered-valid u (add_tree t x) h n = both-valid base_leaves.valid add_tree (λ _ _ p q. (p, q)) (lower_tree u t) (lower_tree u x) (lowered-valid u t h.0 (λ e. n (inl e))) (lowered-valid u x h.1 (λ e. n (inr e)))
+  lowered-valid u (sub_tree t x) h n = both-valid base_leaves.valid sub_tree (λ _ _ p q. (p, q)) (lower_tree u t) (lower_tree u x) (lowered-valid u t h.0 (λ e. n (inl e))) (lowered-valid u x h.1 (λ e. n (inr e)))
+  lowered-valid u (neg_tree t) h n = negative-valid base_leaves.valid (lower_tree u t) (lowered-valid u t h n)
+  lowered-valid u (mul_tree t x) h n = both-valid base_leaves.valid mul_tree (λ _ _ p q. (p, q)) (lower_tree u t) (lower_tree u x) (lowered-valid u t h.0 (λ e. n (inl e))) (lowered-valid u x h.1 (λ e. n (inr e)))
 
   -- and has the tree's term
   module _ (basis : Basis F EF) (u : BaseNodes F) where
     lowered_two-term : (node : Tree (BaseLeaf F) → Tree (BaseLeaf F) → Tree (BaseLeaf F)) (term : Term F → Term F → Term F)
         → ((t x : Tree (BaseLeaf F)) → tree_term base_term (node t x) ≡ term (tree_term base_term t) (tree_term base_term x)) → (t x : Tree (ExtLeaf F EF))
         → AllValid (ext_valid u) t × AllValid (ext_valid u) x → (SomeExtOnly t ⊎ SomeExtOnly x → ⊥)
-        → term_of base_term (lowered_tree u t) ≡ tree_term (ext_term basis u) t → term_of base_term (lowered_tree u x) ≡ tree_term (ext_term basis u) x
-        → term_of base_term (both node (lowered_tree u t) (lowered_tree u x)) ≡ term (tree_term (ext_term basis u) t) (tree_term (ext_term basis u) x)
+        → term_of base_term (lower_tree u t) ≡ tree_term (ext_term basis u) t → term_of base_term (lower_tree u x) ≡ tree_term (ext_term basis u) x
+        → term_of base_term (both node (lower_tree u t) (lower_tree u x)) ≡ term (tree_term (ext_term basis u) t) (tree_term (ext_term basis u) x)
     lowered_two-term node term is t x h n left right =
-        both-term base_leaves.valid base_term node term is (lowered_tree u t) (lowered_tree u x) (lowered-valid u t h.0 (λ e. n (inl e))) (lowered-valid u x h.1 (λ e. n (inr e)))
+        both-term base_leaves.valid base_term node term is (lower_tree u t) (lower_tree u x) (lowered-valid u t h.0 (λ e. n (inl e))) (lowered-valid u x h.1 (λ e. n (inr e)))
         ∙ ap₂ term left right
 
-    lowered_tree-term : (t : Tree (ExtLeaf F EF)) → AllValid (ext_valid u) t → (SomeExtOnly t → ⊥) → term_of base_term (lowered_tree u t) ≡ tree_term (ext_term basis u) t
+    lowered_tree-term : (t : Tree (ExtLeaf F EF)) → AllValid (ext_valid u) t → (SomeExtOnly t → ⊥) → term_of base_term (lower_tree u t) ≡ tree_term (ext_term basis u) t
     lowered_tree-term (leaf_tree (Base i)) h n = refl
     lowered_tree-term (leaf_tree (ExtVariable x)) h n = absurd (n tt)
     lowered_tree-term (leaf_tree (ExtConstant c)) h n = absurd (n tt)
     lowered_tree-term (add_tree t x) h n = lowered_two-term add_tree add_term (λ _ _. refl) t x h n (lowered_tree-term t h.0 (λ e. n (inl e))) (lowered_tree-term x h.1 (λ e. n (inr e)))
     lowered_tree-term (sub_tree t x) h n = lowered_two-term sub_tree sub_term (λ _ _. refl) t x h n (lowered_tree-term t h.0 (λ e. n (inl e))) (lowered_tree-term x h.1 (λ e. n (inr e)))
-    lowered_tree-term (neg_tree t) h n = negative-term base_leaves.valid base_term (lowered_tree u t) (lowered-valid u t h n) ∙ ap (λ v. neg_term v) (lowered_tree-term t h n)
+    lowered_tree-term (neg_tree t) h n = negative-term base_leaves.valid base_term (lower_tree u t) (lowered-valid u t h n) ∙ ap (λ v. neg_term v) (lowered_tree-term t h n)
     lowered_tree-term (mul_tree t x) h n = lowered_two-term mul_tree mul_term (λ _ _. refl) t x h n (lowered_tree-term t h.0 (λ e. n (inl e))) (lowered_tree-term x h.1 (λ e. n (inr e)))
 
-    pub lowered-term : (t : Option (Tree (ExtLeaf F EF))) → IsValidTree (ext_valid u) t → (HasExtOnly t → ⊥) → term_of base_term (lowered u t) ≡ term_of (ext_term basis u) t
+    pub lowered-term : (t : Option (Tree (ExtLeaf F EF))) → IsValidTree (ext_valid u) t → (HasExtOnly t → ⊥) → term_of base_term (lower u t) ≡ term_of (ext_term basis u) t
     lowered-term (Some t) h n = lowered_tree-term t h n
     lowered-term None h n = absurd h
 
 -- What is lowered of a node is made of what is lowered of its operands.
 module _ {F EF : Type 0} (u : BaseNodes F) (node : Tree (ExtLeaf F EF) → Tree (ExtLeaf F EF) → Tree (ExtLeaf F EF)) where
   lowered-both : (lowered_node : Tree (BaseLeaf F) → Tree (BaseLeaf F) → Tree (BaseLeaf F))
-      → ((t x : Tree (ExtLeaf F EF)) → lowered_tree u (node t x) ≡ both lowered_node (lowered_tree u t) (lowered_tree u x))
-      → (o p : Option (Tree (ExtLeaf F EF))) → IsValidTree (ext_valid u) o → IsValidTree (ext_valid u) p → lowered u (both node o p) ≡ both lowered_node (lowered u o) (lowered u p)
+      → ((t x : Tree (ExtLeaf F EF)) → lower_tree u (node t x) ≡ both lowered_node (lower_tree u t) (lower_tree u x))
+      → (o p : Option (Tree (ExtLeaf F EF))) → IsValidTree (ext_valid u) o → IsValidTree (ext_valid u) p → lower u (both node o p) ≡ both lowered_node (lower u o) (lower u p)
   lowered-both lowered_node is (Some t) (Some x) h k = is t x
   lowered-both lowered_node is (Some t) None h k = absurd k
   lowered-both lowered_node is None p h k = absurd h
 
 module _ {F EF : Type 0} (u : BaseNodes F) where
-  lowered-negative : (o : Option (Tree (ExtLeaf F EF))) → IsValidTree (ext_valid u) o → lowered u (option_map neg_tree o) ≡ option_map neg_tree (lowered u o)
+  lowered-negative : (o : Option (Tree (ExtLeaf F EF))) → IsValidTree (ext_valid u) o → lower u (option_map neg_tree o) ≡ option_map neg_tree (lower u o)
   lowered-negative (Some t) h = refl
   lowered-negative None h = absurd h
 
@@ -110,7 +110,7 @@ module _ {F EF : Type 0} where
   ext_only_negative None e = absurd e
 
 -- the lowered tree of a number has the number's term
-pub lowered-has-term : {F EF : Type 0} (r : CommRing F) (basis : Basis F EF) (p : ExtNodes F EF) (i : ℕ) (u : BaseNodes F) (b : ℕ) → IsPool (ext_reads basis) p → i < length p.nodes → (HasExtOnly (tree_at p i) → ⊥) → HasTree u (lowered p.base (tree_at p i)) b → HasTermOf basis p i u b
+pub lowered-has-term : {F EF : Type 0} (r : CommRing F) (basis : Basis F EF) (p : ExtNodes F EF) (i : ℕ) (u : BaseNodes F) (b : ℕ) → IsPool (ext_reads basis) p → i < length p.nodes → (HasExtOnly (tree_at p i) → ⊥) → HasTree u (lower p.base (tree_at p i)) b → HasTermOf basis p i u b
 lowered-has-term r basis p i u b pool here n h =
     ap (term_of base_term) h.tree
     ∙ lowered-term r basis p.base (tree_at p i) (tree_of-valid (ext_reads basis p.base) p.nodes pool.nodes i here) n
@@ -127,11 +127,11 @@ module _ {F EF : Type 0} (p q : ExtNodes F EF) (i : ℕ) (o : Option ℕ) where
   pub lowered-there : IsLoweredIn p q i o → o ≡ None → ⊥
   lowered-there h n = let e : Some h.0 ≡ None = sym h.1 ∙ n in cc
 
-  pub lowered-read : IsLoweredIn p q i o → (b : ℕ) → o ≡ Some b → HasTree q.base (lowered p.base (tree_at p i)) b
+  pub lowered-read : IsLoweredIn p q i o → (b : ℕ) → o ≡ Some b → HasTree q.base (lower p.base (tree_at p i)) b
   lowered-read h b e =
       let s : Some h.0 ≡ Some b = sym h.1 ∙ e in
       let same : h.0 ≡ b = cc in
-      subst (λ k. HasTree q.base (lowered p.base (tree_at p i)) k) same h.2
+      subst (λ k. HasTree q.base (lower p.base (tree_at p i)) k) same h.2
 
 -- operands below k
 pub each_below : {A : Type 0} (P Q : ℕ → Type 0) (k : ℕ) (n : SymbolicExpr A) → ((i : ℕ) → i < k → P i → Q i) → OperandsBelow k n → EachOperand P n → EachOperand Q n
@@ -158,7 +158,7 @@ module _ {F EF : Type 0} (r : CommRing F) {basis : Basis F EF} {p : ExtNodes F E
   record IsFor (x b : ℕ) : Type 0 where
     here : b < length p.base.nodes
     degree : cached_degree (ext_reads basis p.base) p.nodes x ≡ cached_degree base_leaves p.base.nodes b
-    tree : tree_at p.base b ≡ lowered p.base (tree_at p x)
+    tree : tree_at p.base b ≡ lower p.base (tree_at p x)
 
   operand : (x b : ℕ) → x < length p.nodes → (HasExtOnly (tree_at p x) → ⊥) → LoweredAt p table x → get_or table x None ≡ Some b → IsFor x b
   operand x b here base at e =
@@ -171,19 +171,19 @@ module _ {F EF : Type 0} (r : CommRing F) {basis : Basis F EF} {p : ExtNodes F E
 
   -- a node over two operands, and what it is lowered to
   module _ (join : ℕ → ℕ → ℕ) (node : Tree (BaseLeaf F) → Tree (BaseLeaf F) → Tree (BaseLeaf F)) (ext_node : Tree (ExtLeaf F EF) → Tree (ExtLeaf F EF) → Tree (ExtLeaf F EF))
-      (lowers : (t u : Tree (ExtLeaf F EF)) → lowered_tree p.base (ext_node t u) ≡ both node (lowered_tree p.base t) (lowered_tree p.base u))
+      (lowers : (t u : Tree (ExtLeaf F EF)) → lower_tree p.base (ext_node t u) ≡ both node (lower_tree p.base t) (lower_tree p.base u))
       (occurs : (t u : Tree (ExtLeaf F EF)) → SomeExtOnly t ⊎ SomeExtOnly u → SomeExtOnly (ext_node t u)) where
     over_two : (x y d a b : ℕ) → (x < length p.nodes) × (y < length p.nodes) × (d ≡ join (cached_degree (ext_reads basis p.base) p.nodes x) (cached_degree (ext_reads basis p.base) p.nodes y))
         → (HasExtOnly (both ext_node (tree_at p x) (tree_at p y)) → ⊥) → LoweredAt p table x × LoweredAt p table y → tree_at p i ≡ both ext_node (tree_at p x) (tree_at p y)
         → get_or table x None ≡ Some a → get_or table y None ≡ Some b
-        → ((a < length p.base.nodes) × (b < length p.base.nodes) × (d ≡ join (cached_degree base_leaves p.base.nodes a) (cached_degree base_leaves p.base.nodes b))) × (both node (tree_at p.base a) (tree_at p.base b) ≡ lowered p.base (tree_at p i))
+        → ((a < length p.base.nodes) × (b < length p.base.nodes) × (d ≡ join (cached_degree base_leaves p.base.nodes a) (cached_degree base_leaves p.base.nodes b))) × (both node (tree_at p.base a) (tree_at p.base b) ≡ lower p.base (tree_at p i))
     over_two x y d a b fits base at tree ea eb =
         let left = valid_at x fits.0 in
         let right = valid_at y fits.1 in
         let ha = operand x a fits.0 (λ e. base (either_ext_only ext_node (ext_valid p.base) occurs (tree_at p x) (tree_at p y) left right (inl e))) at.0 ea in
         let hb = operand y b fits.1 (λ e. base (either_ext_only ext_node (ext_valid p.base) occurs (tree_at p x) (tree_at p y) left right (inr e))) at.1 eb in (
           (ha.here, hb.here, fits.2 ∙ ap₂ join ha.degree hb.degree),
-          ap₂ (both node) ha.tree hb.tree ∙ sym (ap (lowered p.base) tree ∙ lowered-both p.base ext_node node lowers (tree_at p x) (tree_at p y) left right),
+          ap₂ (both node) ha.tree hb.tree ∙ sym (ap (lower p.base) tree ∙ lowered-both p.base ext_node node lowers (tree_at p x) (tree_at p y) left right),
         )
 
   pub added : {x y d a b : ℕ} → IsNode (ext_reads basis p.base) p.nodes i (Add x y d) → get_or table x None ≡ Some a → get_or table y None ≡ Some b → IsLoweredNode p i (Add a b d)
@@ -199,4 +199,4 @@ module _ {F EF : Type 0} (r : CommRing F) {basis : Basis F EF} {p : ExtNodes F E
   negated {x = x} {d = d} {a = a} is e =
       let valid = valid_at x is.fits.0 in
       let h = operand x a is.fits.0 (λ o. none is (negative_ext_only (tree_at p x) o)) (ready.operands (Neg x d) is.node) e in
-      ((h.here, is.fits.1 ∙ h.degree), ap (option_map neg_tree) h.tree ∙ sym (ap (lowered p.base) is.tree ∙ lowered-negative p.base (tree_at p x) valid))
+      ((h.here, is.fits.1 ∙ h.degree), ap (option_map neg_tree) h.tree ∙ sym (ap (lower p.base) is.tree ∙ lowered-negative p.base (tree_at p x) valid))

@@ -1,4 +1,4 @@
--- What a folded operation makes, in the words of rings that make their elements.
+-- What a simplified operation makes, in the words of rings that make their elements.
 use Rattle.std.proofs.Common.{Result, Ok, Err, IfOk, IfErr, ◌≡◌, ℕ, ◌≤◌, ◌+◌, ◌^◌, refl, sym, ap, subst, ◌∙◌, arith}
 use Rattle.air_field.specs.declared.errors.RingError.{RingError}
 use Rattle.air_field.specs.declared.errors.RingError.TheVariants.{Memory, DegreeOverflow}
@@ -13,13 +13,13 @@ use Rattle.air_field.specs.ExtAlgebra.{Lifted}
 use Rattle.air_symbolic.specs.Leaves.{Leaves}
 use Rattle.air_symbolic.specs.Trees.{Tree, leaf_tree, term_of}
 use Rattle.air_symbolic.specs.Pools.{Pool, IsPool, term_at, PoolHas, PoolMeans, HasTree, HasConst}
-use Rattle.air_symbolic.specs.Folds.{IsOperation}
+use Rattle.air_symbolic.specs.Simplification.{IsOperation}
 use Rattle.air_symbolic.specs.PoolRefusals.{PoolRefuses}
 use Rattle.air_symbolic.specs.BaseLeaves.{base_reads}
 use Rattle.air_symbolic.specs.ExtLeaves.{ext_reads}
 use Rattle.air_symbolic.specs.ExtPool.{ExtNodes, BaseMeans}
 use Rattle.std.specs.Prelude.{Option, Some}
-use Rattle.air_symbolic.specs.declared.pools.fold.Fold.{Fold}
+use Rattle.air_symbolic.specs.declared.pools.simplify.Simplified.{Simplified}
 use Rattle.air_symbolic.specs.declared.leaves.ext_leaf.ExtLeaf.TheVariants.{Base}
 
 IfOk-both : {X E : Type 0} (r : Result X E) (P Q R : X → Type 0) → ((x : X) → P x → Q x → R x) → IfOk r P → IfOk r Q → IfOk r R
@@ -27,9 +27,9 @@ IfOk-both (Ok x) P Q R f p q = f x p q
 IfOk-both (Err e) P Q R f p q = tt
 
 -- An operation, answered, means its term.
-module _ {U A F E : Type 0} {r : CommRing F} {reads : U → Leaves A F} {q : Pool U A} (pool : IsPool reads q) (p : Pool U A) (node : Option (Tree A) → Option (Tree A) → Option (Tree A)) (fold : Option F → Option F → Option (Fold F)) (answer : Result ℕ E) where
+module _ {U A F E : Type 0} {r : CommRing F} {reads : U → Leaves A F} {q : Pool U A} (pool : IsPool reads q) (p : Pool U A) (node : Option (Tree A) → Option (Tree A) → Option (Tree A)) (simplify : Option F → Option F → Option (Simplified F)) (answer : Result ℕ E) where
   pub made-both : (x y : ℕ) (term : Term F → Term F → Term F) → ((t u v w : Term F) → Simplifies r t v → Simplifies r u w → Simplifies r (term t u) (term v w))
-      → IfOk answer (IsOperation reads p q node fold x y) → IfOk answer (λ z. Simplifies r (term_at reads q z) (term (term_at reads p x) (term_at reads p y)))
+      → IfOk answer (IsOperation reads p q node simplify x y) → IfOk answer (λ z. Simplifies r (term_at reads q z) (term (term_at reads p x) (term_at reads p y)))
       → IfOk answer (MadeOfBoth (PoolHas reads) (PoolMeans reads r) term p q x y)
   made-both x y term congruent =
       IfOk-both answer _ _ _ (λ z m s. (
@@ -38,7 +38,7 @@ module _ {U A F E : Type 0} {r : CommRing F} {reads : U → Leaves A F} {q : Poo
       ))
 
   pub made-one : (x : ℕ) (term : Term F → Term F) → ((t v : Term F) → Simplifies r t v → Simplifies r (term t) (term v))
-      → IfOk answer (IsOperation reads p q node fold x x) → IfOk answer (λ z. Simplifies r (term_at reads q z) (term (term_at reads p x)))
+      → IfOk answer (IsOperation reads p q node simplify x x) → IfOk answer (λ z. Simplifies r (term_at reads q z) (term (term_at reads p x)))
       → IfOk answer (MadeOf (PoolHas reads) (PoolMeans reads r) term p q x)
   made-one x term congruent =
       IfOk-both answer _ _ _ (λ z m s. (

@@ -12,7 +12,7 @@ use Rattle.air_symbolic.specs.laws.Sharing.{found, node_at-is}
 use Rattle.air_symbolic.specs.Pools.{IsPool, Grown, HasTree, tree_at}
 use Rattle.air_symbolic.specs.ExtLeaves.{ext_grows, ext_reads}
 use Rattle.air_symbolic.specs.ExtPool.{ExtNodes}
-use Rattle.air_symbolic.specs.ExtTrees.{SomeExtOnly, HasExtOnly, lowered}
+use Rattle.air_symbolic.specs.ExtTrees.{SomeExtOnly, HasExtOnly, lower}
 use Rattle.air_symbolic.specs.Reach.{EachOperand, IsOperand, Marked, Reached, ReachedFrom, root, operand}
 use Rattle.air_symbolic.specs.Lowered.{IsExtOnlyLeaf, IsMarkedExtOnly, IsLoweredIn, LoweredAt, CanLower}
 use Rattle.air_symbolic.specs.declared.pools.expr.SymbolicExpr.{SymbolicExpr}
@@ -139,7 +139,7 @@ module _ {F EF : Type 0} (l : Leaves (ExtLeaf F EF) F) (p : ExtNodes F EF) (r : 
         (⊎_elim
         (λ (b : j < k).
         let h : LoweredAt s table j = made j b m in
-        (h.0, get_or_append_left table (y ∷ []) None j (omega (arith, b, places)) ∙ h.1, moved j (omega (arith, b, lt, reach.places, ap length first)) h.0 (HasTree-kept r s.base t.base h.0 (lowered s.base (tree_at s j)) g.base h.2)))
+        (h.0, get_or_append_left table (y ∷ []) None j (omega (arith, b, places)) ∙ h.1, moved j (omega (arith, b, lt, reach.places, ap length first)) h.0 (HasTree-kept r s.base t.base h.0 (lower s.base (tree_at s j)) g.base h.2)))
         (λ (b : j ≡ k).
         let at : o ≡ Some j = e ∙ get_or_default marks k o None lt ∙ subst (λ i. get_or marks i None ≡ Some j) b m in
         let h : IsLoweredIn s t j y = subst (λ w. IfSome w (λ i. IsLoweredIn s t i y)) at now in
@@ -149,21 +149,21 @@ module _ {F EF : Type 0} (l : Leaves (ExtLeaf F EF) F) (p : ExtNodes F EF) (r : 
         before_or_at : (i k : ℕ) → i < k + 1 → (i < k) ⊎ (i ≡ k)
         before_or_at i k b = grind (arith, b)
 
-        moved : (i : ℕ) → i < length s.nodes → (b : ℕ) → HasTree t.base (lowered s.base (tree_at s i)) b → HasTree t.base (lowered t.base (tree_at t i)) b
+        moved : (i : ℕ) → i < length s.nodes → (b : ℕ) → HasTree t.base (lower s.base (tree_at s i)) b → HasTree t.base (lower t.base (tree_at t i)) b
         moved i here b h = record {
           here = h.here;
           tree = h.tree
               ∙ sym (lowered-kept r s.base t.base g.base (tree_at s i) (tree_of-valid (ext_reads basis s.base) s.nodes pool.nodes i here))
-              ∙ ap (λ (ns : List (SymbolicExpr (ExtLeaf F EF))). lowered t.base (tree_of ns i)) (sym same);
+              ∙ ap (λ (ns : List (SymbolicExpr (ExtLeaf F EF))). lower t.base (tree_of ns i)) (sym same);
         }
 
 -- what is lowered at the end is lowered as it was at first
-pub lowered-at-first : {F EF : Type 0} (r : CommRing F) (basis : Basis F EF) (p s : ExtNodes F EF) (table : List (Option ℕ)) (i b : ℕ) → IsPool (ext_reads basis) p → Grown ext_grows (ext_reads basis) p s → s.nodes ≡ p.nodes → i < length p.nodes → LoweredAt s table i → get_or table i None ≡ Some b → HasTree s.base (lowered p.base (tree_at p i)) b
+pub lowered-at-first : {F EF : Type 0} (r : CommRing F) (basis : Basis F EF) (p s : ExtNodes F EF) (table : List (Option ℕ)) (i b : ℕ) → IsPool (ext_reads basis) p → Grown ext_grows (ext_reads basis) p s → s.nodes ≡ p.nodes → i < length p.nodes → LoweredAt s table i → get_or table i None ≡ Some b → HasTree s.base (lower p.base (tree_at p i)) b
 lowered-at-first r basis p s table i b pool g same here h e =
-    let last : HasTree s.base (lowered s.base (tree_at s i)) b = lowered-read s s i (get_or table i None) h b e in
+    let last : HasTree s.base (lower s.base (tree_at s i)) b = lowered-read s s i (get_or table i None) h b e in
     record {
       here = last.here;
       tree = last.tree
-          ∙ ap (λ (ns : List (SymbolicExpr (ExtLeaf _ _))). lowered s.base (tree_of ns i)) same
+          ∙ ap (λ (ns : List (SymbolicExpr (ExtLeaf _ _))). lower s.base (tree_of ns i)) same
           ∙ lowered-kept r p.base s.base g.base (tree_at p i) (tree_of-valid (ext_reads basis p.base) p.nodes pool.nodes i here);
     }

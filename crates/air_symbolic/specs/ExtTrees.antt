@@ -65,20 +65,20 @@ lowered_leaf u (Base i) = tree_at u i
 lowered_leaf u (ExtVariable v) = None
 lowered_leaf u (ExtConstant c) = None
 
-abbrev pub lowered_tree : {F EF : Type 0} → BaseNodes F → Tree (ExtLeaf F EF) → Option (Tree (BaseLeaf F))
-lowered_tree u (leaf_tree a) = lowered_leaf u a
-lowered_tree u (add_tree t v) = both add_tree (lowered_tree u t) (lowered_tree u v)
-lowered_tree u (sub_tree t v) = both sub_tree (lowered_tree u t) (lowered_tree u v)
-lowered_tree u (neg_tree t) = option_map neg_tree (lowered_tree u t)
-lowered_tree u (mul_tree t v) = both mul_tree (lowered_tree u t) (lowered_tree u v)
+abbrev pub lower_tree : {F EF : Type 0} → BaseNodes F → Tree (ExtLeaf F EF) → Option (Tree (BaseLeaf F))
+lower_tree u (leaf_tree a) = lowered_leaf u a
+lower_tree u (add_tree t v) = both add_tree (lower_tree u t) (lower_tree u v)
+lower_tree u (sub_tree t v) = both sub_tree (lower_tree u t) (lower_tree u v)
+lower_tree u (neg_tree t) = option_map neg_tree (lower_tree u t)
+lower_tree u (mul_tree t v) = both mul_tree (lower_tree u t) (lower_tree u v)
 
-abbrev pub lowered : {F EF : Type 0} → BaseNodes F → Option (Tree (ExtLeaf F EF)) → Option (Tree (BaseLeaf F))
-lowered u t = option_and_then (lowered_tree u) t
+abbrev pub lower : {F EF : Type 0} → BaseNodes F → Option (Tree (ExtLeaf F EF)) → Option (Tree (BaseLeaf F))
+lower u t = option_and_then (lower_tree u) t
 
 -- number b of the base pool u is the lowered tree t, in which no extension-only leaf occurs
 pub record IsLowered {F EF : Type 0} (old u : BaseNodes F) (t : Option (Tree (ExtLeaf F EF))) (b : ℕ) : Type 0 where
   pub base_only : HasExtOnly t → ⊥
-  pub tree : HasTree u (lowered old t) b
+  pub tree : HasTree u (lower old t) b
 
 -- number b of the base pool u has the term of number i of the extension pool p
 abbrev pub HasTermOf : {F EF : Type 0} → Basis F EF → ExtNodes F EF → ℕ → BaseNodes F → ℕ → Type 0

@@ -11,8 +11,8 @@ pub mod Leaves
 pub mod Trees
 pub mod Nodes
 pub mod Pools
-pub mod Folds
-pub mod FoldedLists
+pub mod Simplification
+pub mod SimplifiedLists
 pub mod PoolRefusals
 pub mod Weights
 pub mod DegreeTables

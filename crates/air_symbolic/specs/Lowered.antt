@@ -5,7 +5,7 @@ use Rattle.air_symbolic.specs.Nodes.{unfold_node, tree_of, NodeFits}
 use Rattle.air_symbolic.specs.Pools.{tree_at, HasTree, size}
 use Rattle.air_symbolic.specs.BaseLeaves.{base_leaves}
 use Rattle.air_symbolic.specs.ExtPool.{ExtNodes}
-use Rattle.air_symbolic.specs.ExtTrees.{IsExtOnly, HasExtOnly, lowered}
+use Rattle.air_symbolic.specs.ExtTrees.{IsExtOnly, HasExtOnly, lower}
 use Rattle.air_symbolic.specs.Reach.{EachOperand}
 use Rattle.air_symbolic.specs.declared.pools.expr.SymbolicExpr.{SymbolicExpr}
 use Rattle.air_symbolic.specs.declared.leaves.base_leaf.BaseLeaf.{BaseLeaf}
@@ -27,7 +27,7 @@ IsMarkedExtOnly p (Some i) = IsExtOnlyLeaf (tree_at p i)
 
 -- there is a base number, and in q it is number i of p lowered
 abbrev pub IsLoweredIn : {F EF : Type 0} → ExtNodes F EF → ExtNodes F EF → ℕ → Option ℕ → Type 0
-IsLoweredIn p q i o = (b : ℕ) × (o ≡ Some b) × HasTree q.base (lowered p.base (tree_at p i)) b
+IsLoweredIn p q i o = (b : ℕ) × (o ≡ Some b) × HasTree q.base (lower p.base (tree_at p i)) b
 
 -- the table has at number i the base number that is i lowered
 abbrev pub LoweredAt : {F EF : Type 0} → ExtNodes F EF → List (Option ℕ) → ℕ → Type 0
@@ -35,7 +35,7 @@ LoweredAt p table i = IsLoweredIn p p i (slice_index_or table i None)
 
 -- the node n fits the base pool of p, and there is number i of p lowered
 abbrev pub IsLoweredNode : {F EF : Type 0} → ExtNodes F EF → ℕ → SymbolicExpr (BaseLeaf F) → Type 0
-IsLoweredNode p i n = NodeFits base_leaves p.base.nodes n × (unfold_node (tree_of p.base.nodes) n ≡ lowered p.base (tree_at p i))
+IsLoweredNode p i n = NodeFits base_leaves p.base.nodes n × (unfold_node (tree_of p.base.nodes) n ≡ lower p.base (tree_at p i))
 
 -- Number i can be lowered: no extension-only leaf occurs in its tree, and the table has its operands lowered.
 pub record CanLower {F EF : Type 0} (p : ExtNodes F EF) (table : List (Option ℕ)) (i : ℕ) : Type 0 where

@@ -15,7 +15,7 @@ use Rattle.air_wire.specs.declared.operations.Operation.{Operation}
 use Rattle.air_wire.specs.Results.{◌>>=◌, as_some}
 use Rattle.air_wire.specs.Unshared.{seen_at, degree, degree_of}
 use Rattle.air_wire.specs.ReadCalls.{AreOf}
-use Rattle.air_wire.specs.Nodes.{Kind, operand_of, operand, stated, operations, operands_of, joined_degree, joined_tree, operands_at, operation_at, operation_or, leaf_node_at, node_with, node_of_value}
+use Rattle.air_wire.specs.Nodes.{Kind, operand_of, operand, check_degree, operations, operands_of, joined_degree, joined_tree, operands_at, operation_at, operation_or, leaf_node_at, node_with, node_of_value}
 use Rattle.air_wire.specs.Parts.{only_member, find_name, case_or}
 use Rattle.air_wire.specs.laws.Readings.{done, done_is, not_done, err_is}
 use Rattle.air_wire.proofs.Growing.{AllBelow}
@@ -79,7 +79,7 @@ module _ {S F : Type 0} (kind : Kind S F) (tree : ℕ → Option (Tree S)) (ids 
   joined_trees r = as_some (r >>= λ q. done (joined_tree op q.0 q.1))
 
   module _ (n d : ℕ) where
-    by_degree : (x y : ℕ) (t u : Tree S) → tree x ≡ Some t → tree y ≡ Some u → (m : Result ℕ FlatError) → joined (m >>= λ k. stated n d k (x, y)) ≡ joined_trees (m >>= λ k. stated n d k (t, u))
+    by_degree : (x y : ℕ) (t u : Tree S) → tree x ≡ Some t → tree y ≡ Some u → (m : Result ℕ FlatError) → joined (m >>= λ k. check_degree n d k (x, y)) ≡ joined_trees (m >>= λ k. check_degree n d k (t, u))
     by_degree x y t u is also (Err f) = refl
     by_degree x y t u is also (Ok k) = by_test (d == k)
       where
@@ -88,14 +88,14 @@ module _ {S F : Type 0} (kind : Kind S F) (tree : ℕ → Option (Tree S)) (ids 
         by_test false = refl
 
     abbrev behind : ℕ → ℕ → Result (ℕ × ℕ) FlatError
-    behind x y = joined_degree op (weight x) (weight y) >>= λ k. stated n d k (x, y)
+    behind x y = joined_degree op (weight x) (weight y) >>= λ k. check_degree n d k (x, y)
 
     abbrev behind_trees : Tree S → Tree S → Result (Tree S × Tree S) FlatError
-    behind_trees t u = joined_degree op (degree kind.term t) (degree kind.term u) >>= λ k. stated n d k (t, u)
+    behind_trees t u = joined_degree op (degree kind.term t) (degree kind.term u) >>= λ k. check_degree n d k (t, u)
 
     behind_both : (x y : ℕ) (t u : Tree S) → tree x ≡ Some t → tree y ≡ Some u → joined (behind x y) ≡ joined_trees (behind_trees t u)
     behind_both x y t u is also =
-        ap₂ (λ a b. joined (joined_degree op a b >>= λ k. stated n d k (x, y))) (ap (degree_of kind.term) is) (ap (degree_of kind.term) also)
+        ap₂ (λ a b. joined (joined_degree op a b >>= λ k. check_degree n d k (x, y))) (ap (degree_of kind.term) is) (ap (degree_of kind.term) also)
         ∙ by_degree x y t u is also (joined_degree op (degree kind.term t) (degree kind.term u))
 
     by_operands : (i j : ℕ) → joined (operand ids i >>= λ x. operand ids j >>= λ y. behind x y) ≡ joined_trees (operand ts i >>= λ t. operand ts j >>= λ u. behind_trees t u)

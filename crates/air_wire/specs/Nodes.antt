@@ -42,8 +42,8 @@ unfoldable pub operand : {X : Type 0} → List X → ℕ → Result X FlatError
 operand done i = operand_of (length done) i (slice_get done i)
 
 -- the tree, where its degree is the stated one
-abbrev pub stated : {X : Type 0} → ℕ → ℕ → ℕ → X → Result X FlatError
-stated place d found t = if d == found then Ok t else Err (faults.WrongDegree place d found)
+abbrev pub check_degree : {X : Type 0} → ℕ → ℕ → ℕ → X → Result X FlatError
+check_degree place d found t = if d == found then Ok t else Err (faults.WrongDegree place d found)
 
 -- ---- operations: a negative has one operand, which stands for both
 
@@ -83,7 +83,7 @@ operands_at degree_in done op c = do
   x ← operand done p.1
   y ← operand done p.2
   found ← joined_degree op (degree_in x) (degree_in y)
-  stated (length done) p.0 found (x, y)
+  check_degree (length done) p.0 found (x, y)
 
 -- a node of an operation, of one that may be none
 abbrev pub operation_at : {S F : Type 0} → Kind S F → List (Tree S) → Operation → Data → Result (Tree S) FlatError

@@ -6,7 +6,7 @@ ghost use Rattle.air_symbolic.specs.Trees.{both};
 ghost use Rattle.air_wire.specs.ReadCalls.{AreOf, ReadsTree};
 ghost use Rattle.air_wire.specs.Results.{as_some};
 ghost use Rattle.air_wire.specs.Unshared.{seen_at, degree_of};
-ghost use Rattle.air_wire.specs.Nodes.{operand, stated, joined_degree, joined_tree, operands_at, operation_at, leaf_node_at, node_of_value};
+ghost use Rattle.air_wire.specs.Nodes.{operand, check_degree, joined_degree, joined_tree, operands_at, operation_at, leaf_node_at, node_of_value};
 
 use crate::errors::FlatError;
 use crate::operations::{Operation, joined_degree, operands_of, operation_named};
@@ -38,7 +38,7 @@ fn operand<A: WireLeaf>(
 
 // Whether the node at this place states the degree that was found.
 fn stated(at: usize, degree: usize, found: usize) -> Result<(), FlatError>
-    ensures { result ≡ stated at degree found tt }
+    ensures { result ≡ check_degree at degree found tt }
 {
     if degree == found {
         Ok(())

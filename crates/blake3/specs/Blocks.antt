@@ -21,13 +21,13 @@ columns_whole v m = record {
 }
 
 -- the words that a round takes of a message, and those at eight places from one on
-abbrev pub taken : List ℕ → ℕ → ℕ → ℕ
-taken message r i = slice_index message (place_in r i)
+abbrev pub word_of_round : List ℕ → ℕ → ℕ → ℕ
+word_of_round message r i = slice_index message (place_in r i)
 
 abbrev pub eight_at : List ℕ → ℕ → ℕ → List ℕ
 eight_at message r from =
-    taken message r (from + 0) ∷ taken message r (from + 1) ∷ taken message r (from + 2) ∷ taken message r (from + 3) ∷
-    taken message r (from + 4) ∷ taken message r (from + 5) ∷ taken message r (from + 6) ∷ taken message r (from + 7) ∷ []
+    word_of_round message r (from + 0) ∷ word_of_round message r (from + 1) ∷ word_of_round message r (from + 2) ∷ word_of_round message r (from + 3) ∷
+    word_of_round message r (from + 4) ∷ word_of_round message r (from + 5) ∷ word_of_round message r (from + 6) ∷ word_of_round message r (from + 7) ∷ []
 
 -- the block of a chaining value, a message, and the two halves of the counter, the length and the flags
 abbrev pub block_of : List ℕ → List ℕ → List ℕ → Block

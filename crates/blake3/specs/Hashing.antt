@@ -47,10 +47,10 @@ block_at bytes k chaining =
     block_of chaining (words_at bytes (64 * k)) (0 ∷ 0 ∷ block_length (length bytes) k ∷ block_flags (length bytes) k ∷ [])
 
 -- the chaining value after so many blocks
-unfoldable pub chained : List ℕ → ℕ → List ℕ
-chained bytes zero = start_words
-chained bytes (suc k) = first_words (compress (block_at bytes k (chained bytes k)))
+unfoldable pub chaining_value_after : List ℕ → ℕ → List ℕ
+chaining_value_after bytes zero = start_words
+chaining_value_after bytes (suc k) = first_words (compress (block_at bytes k (chaining_value_after bytes k)))
 
 -- the digest: eight words
 abbrev pub hash : List ℕ → List ℕ
-hash bytes = chained bytes (block_count (length bytes))
+hash bytes = chaining_value_after bytes (block_count (length bytes))

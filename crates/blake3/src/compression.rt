@@ -1,7 +1,7 @@
 //! The compression of a block.
 ghost use Rattle.std.specs.Prelude.{◌≡◌, slice_index};
 ghost use Rattle.blake3.specs.Compression.{compress, first_state, output_column, outputs, round};
-ghost use Rattle.blake3.specs.Blocks.{block_of, taken};
+ghost use Rattle.blake3.specs.Blocks.{block_of, word_of_round};
 
 use crate::messages::eight_words;
 use crate::mixing::{columns_half, columns_whole};
@@ -41,7 +41,7 @@ pub fn first_state(chaining: &[u32; 8], message: &[u32; 16], rest: &[u32; 4]) ->
 
 /// The state after a round, of that before it.
 pub fn round(v: State, message: &[u32; 16], turn: usize) -> State
-    ensures { result ≡ round v (taken message.now turn) }
+    ensures { result ≡ round v (word_of_round message.now turn) }
 {
     let low = eight_words(message, turn, 0);
     let high = eight_words(message, turn, 8);

@@ -1,7 +1,7 @@
 //! The words of the message that each round takes.
 ghost use Rattle.std.specs.Prelude.{◌≡◌, ◌+◌, ◌<◌, ◌≤◌};
 ghost use Rattle.blake3.specs.Compression.{place_in};
-ghost use Rattle.blake3.specs.Blocks.{eight_at, taken};
+ghost use Rattle.blake3.specs.Blocks.{eight_at, word_of_round};
 
 const PERMUTATION: [usize; 16] = [2, 6, 3, 10, 7, 0, 4, 13, 1, 11, 12, 5, 9, 14, 15, 8];
 
@@ -20,7 +20,7 @@ pub fn place_of(round: usize, index: usize) -> usize
 
 fn word_of(message: &[u32; 16], round: usize, index: usize) -> u32
     requires { index < 16 }
-    ensures { result ≡ taken message.now round index }
+    ensures { result ≡ word_of_round message.now round index }
 {
     message[place_of(round, index)]
 }

@@ -7,8 +7,8 @@ abbrev pub parts_at : ℕ → List ℕ → List (List ℕ)
 parts_at separator word = slice_split (λ b. b == separator) word
 
 -- the parts between commas (44), and none of the word `-`
-abbrev pub listed : List ℕ → List (List ℕ)
-listed word = if bytes_eq word (codes "-") then [] else parts_at 44 word
+abbrev pub comma_parts : List ℕ → List (List ℕ)
+comma_parts word = if bytes_eq word (codes "-") then [] else parts_at 44 word
 
 -- the coefficients between dots (46), where the word has one, else between commas
 abbrev pub coefficients_listed : List ℕ → List (List ℕ)

@@ -7,7 +7,7 @@ ghost use Rattle.air_field.specs.Ring.{image};
 ghost use Rattle.serde_json.specs.View.{view};
 ghost use Rattle.serde_json.specs.Read.{read as read_text};
 ghost use Rattle.cases.specs.Words.{IsNumber, decimal_number, SpellsNumber, SpellsElement};
-ghost use Rattle.cases.specs.Listed.{parts_at, listed, coefficients_listed};
+ghost use Rattle.cases.specs.Listed.{parts_at, comma_parts, coefficients_listed};
 ghost use Rattle.cases.specs.Spelled.{escaped_letter, SpellsText, SpellsNoText, IsTextOf, shown_letter};
 ghost use Rattle.cases.specs.Spelled.{elements_text};
 ghost use Rattle.cases.specs.Values.{IsSpeltBy, IsCompactText, beside_text, ShowsBeside};
@@ -76,7 +76,7 @@ fn parts_of<'a>(alloc: Global, word: &'a str, separator: char) -> Result<Vec<&'a
 
 // The parts of a word, which commas separate; `-`: there is none.
 fn listed_parts<'a>(alloc: Global, word: &'a str) -> Result<Vec<&'a str>, Fault>
-    ensures parts { IfOk result (λ ps. map (λ p. p.now) ps.items ≡ listed word.now) }
+    ensures parts { IfOk result (λ ps. map (λ p. p.now) ps.items ≡ comma_parts word.now) }
     ensures refused { IfErr result (λ e. e ≡ Fault.Memory) }
 {
     if word == "-" {
@@ -88,9 +88,9 @@ fn listed_parts<'a>(alloc: Global, word: &'a str) -> Result<Vec<&'a str>, Fault>
 
 /// Counts, which commas separate; `-`: there is none.
 pub fn counts_of(alloc: Global, word: &str) -> Result<Vec<usize>, Fault>
-    ensures counts { IfOk result (λ ns. AllZip SpellsNumber ns.items (listed word.now)) }
+    ensures counts { IfOk result (λ ns. AllZip SpellsNumber ns.items (comma_parts word.now)) }
     ensures refused { IfErr result (λ e. (e ≡ Fault.Memory)
-        ⊎ ((e ≡ Fault.Unreadable Why.NoNumber) × (¬ All IsNumber (listed word.now)))) }
+        ⊎ ((e ≡ Fault.Unreadable Why.NoNumber) × (¬ All IsNumber (comma_parts word.now)))) }
 {
     let parts = listed_parts(alloc, word)?;
     let mut all = Vec::new(alloc);
@@ -125,9 +125,9 @@ pub fn elements_of<F: Field>(alloc: Global, words: &[&str]) -> Result<Vec<F>, Fa
 /// Elements of one word, which commas separate; `-`: there is none.
 pub fn listed_elements<F: Field>(alloc: Global, word: &str) -> Result<Vec<F>, Fault>
     ensures elements { IfOk result (λ xs.
-        AllZip (SpellsElement F.ring) xs.items (listed word.now)) }
+        AllZip (SpellsElement F.ring) xs.items (comma_parts word.now)) }
     ensures refused { IfErr result (λ e. (e ≡ Fault.Memory)
-        ⊎ ((e ≡ Fault.Unreadable Why.NoNumber) × (¬ All IsNumber (listed word.now)))) }
+        ⊎ ((e ≡ Fault.Unreadable Why.NoNumber) × (¬ All IsNumber (comma_parts word.now)))) }
 {
     let parts = listed_parts(alloc, word)?;
     elements_of(alloc, parts.as_slice())

@@ -9,5 +9,5 @@ abbrev pub sum_term : {F : Type 0} → Term F
 sum_term = current 0 ⊕ current 1
 
 -- column 1 of the next row is the sum of this row's columns
-abbrev pub handed : {F : Type 0} → List (Assertion F)
-handed = when transition (next 1 ≐ sum_term)
+abbrev pub handed_asserts : {F : Type 0} → List (Assertion F)
+handed_asserts = when transition (next 1 ≐ sum_term)

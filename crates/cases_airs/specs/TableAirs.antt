@@ -6,16 +6,16 @@ use Rattle.air_builder.specs.Notation.{current, permutation_current, challenge, 
 use Rattle.air_author.specs.Expressions.{power_term}
 
 -- permutation 0 times challenge 0 is permutation value 0
-abbrev pub permuted : {F : Type 0} → List (Assertion F)
-permuted = ext_is_zero (permutation_current 0 ⊙ challenge 0 ⊖ permutation_value 0)
+abbrev pub permuted_asserts : {F : Type 0} → List (Assertion F)
+permuted_asserts = ext_is_zero (permutation_current 0 ⊙ challenge 0 ⊖ permutation_value 0)
 
 -- column 0, the constraint over the extension, column 1
-abbrev pub mixed : {F : Type 0} → List (Assertion F)
-mixed = is_zero (current 0) ++ permuted ++ is_zero (current 1)
+abbrev pub mixed_asserts : {F : Type 0} → List (Assertion F)
+mixed_asserts = is_zero (current 0) ++ permuted_asserts ++ is_zero (current 1)
 
 -- column 0, and columns 1 and 0 over the extension
-abbrev pub labelled : {F : Type 0} → List (Assertion F)
-labelled = is_zero (current 0) ++ ext_is_zero (current 1) ++ ext_is_zero (current 0)
+abbrev pub labelled_asserts : {F : Type 0} → List (Assertion F)
+labelled_asserts = is_zero (current 0) ++ ext_is_zero (current 1) ++ ext_is_zero (current 0)
 
 -- the product of so many, and of so many of these
 abbrev pub raised_twice : {F : Type 0} → F → ℕ → Term F → Term F

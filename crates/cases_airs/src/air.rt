@@ -1,6 +1,6 @@
 //! The AIRs of tables: a list of constraints, with what stands beside.
 ghost use Rattle.cases_airs.specs.declared.lists.Constraints.TheVariants.{Base, Permutation, Labelled};
-ghost use Rattle.cases_airs.specs.TableAirs.{labelled};
+ghost use Rattle.cases_airs.specs.TableAirs.{labelled_asserts};
 ghost use Rattle.p3_air.specs.FlatAirs.{zero_at_roots};
 
 use crate::differing::assert_differing;
@@ -33,7 +33,7 @@ impl<F: Field> BaseAir<F> for TableAir<F> {
             (zero_at_roots a.flat.pool a.flat.roots.items)
         | Permutation list ↦ ⟦<PermutationList as Declared<F>>⟧.declared list
             (zero_at_roots a.flat.pool a.flat.roots.items)
-        | Labelled ↦ labelled
+        | Labelled ↦ labelled_asserts
       ];
       width = a.flat.width;
       num_public_values = a.flat.num_public_values;

@@ -3,7 +3,7 @@ ghost use Rattle.air_builder.specs.Builders.{Means};
 ghost use Rattle.air_builder.specs.Batches.{Asserted, Evaluates};
 ghost use Rattle.air_builder.specs.Notation.{next, transition, when, ◌≐◌};
 ghost use Rattle.air_author.specs.Expressions.{AlwaysAfter, IsUsable};
-ghost use Rattle.cases_airs.specs.Handed.{handed};
+ghost use Rattle.cases_airs.specs.Handed.{handed_asserts};
 
 use p3_air::author::{
     Already, Current, Equal, Expression, Next, Sum, Transition, When, assert_these,
@@ -31,7 +31,7 @@ fn next_is<AB: AirBuilder, X: Expression<AB>>(
 /// Column 1 of the next row is the sum of this row's columns.
 pub fn assert_handed<AB: AirBuilder>(builder: &mut AB) -> Result<(), AirError>
     requires { AB.ready builder.old }
-    ensures { Evaluates ⟦<AB as View>⟧.view builder.old builder.new result handed }
+    ensures { Evaluates ⟦<AB as View>⟧.view builder.old builder.new result handed_asserts }
 {
     let sum = Sum(Current(0), Current(1));
     let x = sum.make(builder)?;

@@ -40,7 +40,7 @@ impl<F: Field> Declared<F> for BaseList {
     ghost use Rattle.air_fibonacci.specs.Fibonacci.{fibonacci};
     ghost use Rattle.cases_airs.specs.declared.lists.BaseList.TheVariants.{Lines, Fibonacci, FibonacciNamed, Steep, Handed, Differing};
     ghost use Rattle.cases_airs.specs.Differing.{differing_asserts};
-    ghost use Rattle.cases_airs.specs.Handed.{handed};
+    ghost use Rattle.cases_airs.specs.Handed.{handed_asserts};
     ghost use Rattle.cases_airs.specs.TableAirs.{steep};
 
     ghost declared = { λ list lines. elim list [
@@ -48,7 +48,7 @@ impl<F: Field> Declared<F> for BaseList {
       | Fibonacci ↦ fibonacci
       | FibonacciNamed ↦ fibonacci
       | Steep n ↦ steep F.ring.one n
-      | Handed ↦ handed
+      | Handed ↦ handed_asserts
       | Differing ↦ differing_asserts F.ONE
     ] };
 }
@@ -71,9 +71,12 @@ impl Copy for PermutationList {}
 
 impl<F> Declared<F> for PermutationList {
     ghost use Rattle.cases_airs.specs.declared.lists.PermutationList.TheVariants.{Permuted, Mixed};
-    ghost use Rattle.cases_airs.specs.TableAirs.{permuted, mixed};
+    ghost use Rattle.cases_airs.specs.TableAirs.{permuted_asserts, mixed_asserts};
 
-    ghost declared = { λ list _. elim list [ Permuted ↦ permuted | Mixed ↦ mixed ] };
+    ghost declared = { λ list _. elim list [
+      | Permuted ↦ permuted_asserts
+      | Mixed ↦ mixed_asserts
+    ] };
 }
 
 /// Column 0 is zero, `base`; column 1 is zero over the extension, `lifted`; then column 0 is so, without a label.
@@ -81,9 +84,9 @@ impl<F> Declared<F> for PermutationList {
 pub struct LabelledList;
 
 impl<F> Declared<F> for LabelledList {
-    ghost use Rattle.cases_airs.specs.TableAirs.{labelled};
+    ghost use Rattle.cases_airs.specs.TableAirs.{labelled_asserts};
 
-    ghost declared = { λ _ _. labelled };
+    ghost declared = { λ _ _. labelled_asserts };
 }
 
 /// A list of any kind.

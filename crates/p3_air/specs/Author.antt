@@ -9,4 +9,4 @@ pub use Rattle.air_words.specs.BitTerms.{packed_bits, bits_asserts, has_bits}
 pub use Rattle.air_words.specs.WordTerms.{limbs, word_at, word_bits}
 pub use Rattle.air_words.specs.XorTerms.{xor_shift_asserts}
 pub use Rattle.air_gadgets.specs.Gadgets.{add2_asserts, add3_asserts}
-pub use Rattle.air_author.specs.Moved.{moved}
+pub use Rattle.air_author.specs.Moved.{move_columns}

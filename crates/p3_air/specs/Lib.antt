@@ -53,8 +53,8 @@ pub use Rattle.air_symbolic.specs.ExtLeaves
 pub use Rattle.air_symbolic.specs.Pools
 pub use Rattle.air_symbolic.specs.ExtPool
 pub use Rattle.air_symbolic.specs.ExtTrees
-pub use Rattle.air_symbolic.specs.FoldedLists
-pub use Rattle.air_symbolic.specs.Folds as PoolFolds
+pub use Rattle.air_symbolic.specs.SimplifiedLists
+pub use Rattle.air_symbolic.specs.Simplification
 pub use Rattle.air_symbolic.specs.PoolRefusals
 pub use Rattle.air_symbolic.specs.DegreeTables
 pub use Rattle.air_symbolic.specs.Weights

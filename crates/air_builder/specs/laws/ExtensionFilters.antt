@@ -1,7 +1,7 @@
 -- What a builder over an extension keeps under a filter.
 use Rattle.std.specs.Prelude.{◌≡◌, [], map}
 use Rattle.std.proofs.Common.{sym, ◌∙◌, ap, subst}
-use Rattle.air_builder.specs.Assertion.{filtered}
+use Rattle.air_builder.specs.Assertion.{filter_by}
 use Rattle.air_builder.specs.Builders.{BuilderView, BuilderLaws}
 use Rattle.air_builder.specs.Extensions.{ExtensionView, ExtensionRingLaws}
 use Rattle.air_builder.specs.Filters.{filter_view}
@@ -35,5 +35,5 @@ module _ {S R X B E F : Type 0} {view : BuilderView S R B F} {over : ExtensionVi
     ext_ring_kept = λ p q g. extension.ext_ring_kept (inner p) (inner q) g.inside;
     has_base = λ p x h m. extension.has_base (inner p) x h.0 m;
     means_base = λ p x t h m. extension.means_base (inner p) x t h.0 m;
-    refuses_in_ext_ring = λ p e t ts h b c m. extension.refuses_in_ext_ring (inner p) e t (map (filtered c) ts) h (PartOf-filtered c t ts b);
+    refuses_in_ext_ring = λ p e t ts h b c m. extension.refuses_in_ext_ring (inner p) e t (map (filter_by c) ts) h (PartOf-filtered c t ts b);
   }

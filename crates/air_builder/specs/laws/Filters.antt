@@ -4,7 +4,7 @@ use Rattle.std.proofs.Common.{sym, ◌∙◌, ap, subst}
 use Rattle.std.proofs.lemmas.List.{map-append}
 use Rattle.air_field.specs.Term.{Term, leaf_term, with_leaves}
 use Rattle.air_core.specs.declared.errors.AirError.{AirError}
-use Rattle.air_builder.specs.Assertion.{Assertion, filtered}
+use Rattle.air_builder.specs.Assertion.{Assertion, filter_by}
 use Rattle.air_builder.specs.Builders.{MeansIn, BuilderView, RingLaws, BuilderLaws}
 use Rattle.air_builder.specs.laws.Refusals.{PartOf-filtered}
 use Rattle.air_builder.specs.Filters.{GrewUnder, GrewInside, RefusesInside, filter_view}
@@ -32,8 +32,8 @@ module _ {S R E F : Type 0} {view : BuilderView S R E F} (ring : RingLaws view) 
 
   -- what a filter may refuse its builder may
   pub refused_filter : (x : E) (a i : S) (e : AirError) (us ts : List (Assertion F)) (t : Term F) → grew a i us
-      → MeansIn view i x t → RefusesInside refuses (MeansIn view) x i e ts → refuses a e (us ++ map (filtered t) ts)
-  refused_filter x a i e us ts t u p h = laws.refuses_then a i e us (map (filtered t) ts) u (h t p)
+      → MeansIn view i x t → RefusesInside refuses (MeansIn view) x i e ts → refuses a e (us ++ map (filter_by t) ts)
+  refused_filter x a i e us ts t u p h = laws.refuses_then a i e us (map (filter_by t) ts) u (h t p)
 
   -- of a list of any kind, assertions or labelled ones
   module _ {A N : Type 0} (under : Term F → A → A) {grown : S → S → List A → Type 0}
@@ -64,22 +64,22 @@ module _ {S R E F : Type 0} {view : BuilderView S R E F} (ring : RingLaws view) 
     pub inside_joined : (n m k : N) (x y z : E) (a b c : S) (xs ys : List (Assertion F))
         → GrewInside kept grew (MeansIn view) n m x y a b xs → GrewInside kept grew (MeansIn view) m k y z b c ys
         → GrewInside kept grew (MeansIn view) n k x z a c (xs ++ ys)
-    inside_joined = under_joined filtered laws.joined
+    inside_joined = under_joined filter_by laws.joined
 
     -- what a filter may refuse after growth it may refuse before
     pub inside_refused : (n m : N) (x y : E) (a b : S) (e : AirError) (xs ys : List (Assertion F))
         → GrewInside kept grew (MeansIn view) n m x y a b xs → RefusesInside refuses (MeansIn view) y b e ys
         → RefusesInside refuses (MeansIn view) x a e (xs ++ ys)
     inside_refused n m x y a b e xs ys g h c p =
-        subst (λ zs. refuses a e zs) (sym (map-append (filtered c) xs ys))
-        (laws.refuses_then a b e (map (filtered c) xs) (map (filtered c) ys) (g.by c p)
+        subst (λ zs. refuses a e zs) (sym (map-append (filter_by c) xs ys))
+        (laws.refuses_then a b e (map (filter_by c) xs) (map (filter_by c) ys) (g.by c p)
         (h c (subst (λ w. MeansIn view b w c) (sym g.keeps.same_condition) (means_kept a b x c g.keeps.inside p))))
 
     -- a builder after a filter on it is done
     pub after_filter : (n m : N) (x y : E) (a b i j : S) (us ts : List (Assertion F)) (t : Term F) → grew a i us
         → MeansIn view i x t → GrewInside kept grew (MeansIn view) n m x y i j ts → b ≡ j
-        → grew a b (us ++ map (filtered t) ts)
-    after_filter = after_under filtered laws.joined
+        → grew a b (us ++ map (filter_by t) ts)
+    after_filter = after_under filter_by laws.joined
 
   module _ {N P : Type 0} (inner : P → S) (name : P → N) (condition : P → E) (with_inner : P → S → P)
       (inner_is : (p : P) (s : S) → inner (with_inner p s) ≡ s)
@@ -128,9 +128,9 @@ module _ {S R E F : Type 0} {view : BuilderView S R E F} (ring : RingLaws view) 
       has_first_row = λ p h. laws.has_first_row (inner p) h;
       has_last_row = λ p h. laws.has_last_row (inner p) h;
       has_transition = λ p h. laws.has_transition (inner p) h;
-      refuses_first = λ p e xs ys h c m. subst (λ zs. refuses (inner p) e zs) (sym (map-append (filtered c) xs ys))
-          (laws.refuses_first (inner p) e (map (filtered c) xs) (map (filtered c) ys) (h c m));
+      refuses_first = λ p e xs ys h c m. subst (λ zs. refuses (inner p) e zs) (sym (map-append (filter_by c) xs ys))
+          (laws.refuses_first (inner p) e (map (filter_by c) xs) (map (filter_by c) ys) (h c m));
       refuses_then = λ p q e xs ys g h. inside_refused (name p) (name q) (condition p) (condition q) (inner p) (inner q) e xs ys g h;
-      refuses_in_ring = λ p e t ts h b c m. laws.refuses_in_ring (inner p) e t (map (filtered c) ts) h (PartOf-filtered c t ts b);
-      refuses_missing = λ p e l ts h n b c m. laws.refuses_missing (inner p) e l (map (filtered c) ts) h n (PartOf-filtered c (leaf_term l) ts b);
+      refuses_in_ring = λ p e t ts h b c m. laws.refuses_in_ring (inner p) e t (map (filter_by c) ts) h (PartOf-filtered c t ts b);
+      refuses_missing = λ p e l ts h n b c m. laws.refuses_missing (inner p) e l (map (filter_by c) ts) h n (PartOf-filtered c (leaf_term l) ts b);
     }

@@ -13,7 +13,7 @@ use Rattle.air_builder.specs.Assertion.{Assertion}
 use Rattle.air_builder.specs.Batches.{AssertsOf, AssertsOfBoth, AssertedEach}
 use Rattle.air_builder.specs.Builders.{MeansIn, BuilderView, RingLaws, BuilderLaws}
 use Rattle.air_builder.specs.Refusals.{PartOf}
-use Rattle.air_builder.specs.Labels.{Label, Unasked, Shown, Labelled, IsSaid, AreSaidFrom, discarding, LabelledByEach, LabelledByBeginning, LabelledEach, NamedLaws}
+use Rattle.air_builder.specs.Labels.{Label, Unasked, Shown, Labelled, IsSaid, AreSaidFrom, GrewWithoutLabels, LabelledByEach, LabelledByBeginning, LabelledEach, NamedLaws}
 use Rattle.air_builder.specs.laws.Batches.{grew_one, grew_none}
 use Rattle.air_builder.specs.laws.Labels.{one_label, labelled_one, no_label}
 use Rattle.air_builder.specs.laws.Growth.{lent, lent_asserted, making_refused, made_of, made_of_both, refused_of, refused_of_both}
@@ -30,7 +30,7 @@ pub discarded : {S I F : Type 0} {asserts : S → I → Assertion F → Type 0} 
     {grew : S → S → List (Assertion F) → Type 0} {refuses : S → AirError → List (Assertion F) → Type 0}
     {says : Option (List ℕ) → Type 0} {a b : S} {x : I} (result : Result ⊤ AirError)
     → AssertedEach asserts kept grew refuses a b (x ∷ []) result
-    → LabelledEach asserts (discarding grew) (λ i. says) a b (x ∷ []) result
+    → LabelledEach asserts (GrewWithoutLabels grew) (λ i. says) a b (x ∷ []) result
 discarded (Ok u) h = labelled_one (Ok u) (record { label = Unasked; said = tt; grown = λ s k. grew_one h s k }) tt
 discarded (Err e) h = labelled_one (Err e) tt (grew_none h)
 

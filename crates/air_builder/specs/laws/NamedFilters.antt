@@ -2,23 +2,23 @@
 use Rattle.std.specs.Prelude.{◌≡◌, List, [], ◌∷◌, ◌++◌, map, refl}
 use Rattle.std.proofs.Common.{sym, ap, subst}
 use Rattle.air_field.specs.Term.{Term}
-use Rattle.air_builder.specs.Assertion.{filtered}
+use Rattle.air_builder.specs.Assertion.{filter_by}
 use Rattle.air_builder.specs.Builders.{MeansIn, BuilderView, RingLaws, BuilderLaws}
 use Rattle.air_builder.specs.Filters.{GrewInside}
 use Rattle.air_builder.specs.laws.Filters.{under_joined, after_under}
 use Rattle.air_builder.specs.laws.Labels.{without_labels-append}
-use Rattle.air_builder.specs.Labels.{Labelled, without_labels, discarding, NamedLaws}
+use Rattle.air_builder.specs.Labels.{Labelled, without_labels, GrewWithoutLabels, NamedLaws}
 use Rattle.air_builder.specs.NamedFilters.{filtered_label, LabelledInside}
 
-without_labels-filtered : {F : Type 0} (c : Term F) (ls : List (Labelled F)) → without_labels (map (filtered_label c) ls) ≡ map (filtered c) (without_labels ls)
+without_labels-filtered : {F : Type 0} (c : Term F) (ls : List (Labelled F)) → without_labels (map (filtered_label c) ls) ≡ map (filter_by c) (without_labels ls)
 without_labels-filtered c [] = refl
-without_labels-filtered c (l ∷ ls) = ap (λ zs. filtered c l.0 ∷ zs) (without_labels-filtered c ls)
+without_labels-filtered c (l ∷ ls) = ap (λ zs. filter_by c l.0 ∷ zs) (without_labels-filtered c ls)
 
 module _ {S R E F : Type 0} {view : BuilderView S R E F} (laws : BuilderLaws view) where
   open view use {grew}
 
   -- a builder that discards labels
-  pub discarding_laws : NamedLaws grew (discarding grew)
+  pub discarding_laws : NamedLaws grew (GrewWithoutLabels grew)
   discarding_laws = record {
     labelled_nothing = λ a b g. g;
     labelled_joined = λ a b c xs ys g h. subst (λ zs. grew a c zs) (sym (without_labels-append xs ys)) (laws.joined a b c (without_labels xs) (without_labels ys) g h);

@@ -4,7 +4,7 @@ use Rattle.std.proofs.Common.{inl, inr, refl, sym, subst, zero, suc, arith}
 use Rattle.air_field.specs.Term.{Leaf, Term, leaf_term}
 use Rattle.air_field.specs.Assignment.{Shape, IsMissing}
 use Rattle.air_field.specs.Part.{Part, whole, in_add_left, in_add_right, in_sub_left, in_sub_right, in_neg, in_mul_left, in_mul_right}
-use Rattle.air_builder.specs.Assertion.{Assertion, Base, Extension, filtered}
+use Rattle.air_builder.specs.Assertion.{Assertion, Base, Extension, filter_by}
 use Rattle.air_builder.specs.Refusals.{IsPastWindow, PartOfOne, PartOf, NoneMissing, EachLeaf, EachLeafOf}
 
 leaf_of_part : {F : Type 0} (P : Leaf → Type 0) (l : Leaf) {t u : Term F} → Part t u → t ≡ leaf_term l → EachLeaf P u → P l
@@ -25,11 +25,11 @@ none_missing missing (Extension t ∷ rest) h l m (inl p) = leaf_of_part (λ k. 
 none_missing missing (Base t ∷ rest) h l m (inr p) = none_missing missing rest h.1 l m p
 none_missing missing (Extension t ∷ rest) h l m (inr p) = none_missing missing rest h.1 l m p
 
-part_filtered : {F : Type 0} (c t : Term F) (a : Assertion F) → PartOfOne t a → PartOfOne t (filtered c a)
+part_filtered : {F : Type 0} (c t : Term F) (a : Assertion F) → PartOfOne t a → PartOfOne t (filter_by c a)
 part_filtered c t (Base u) p = in_mul_right p
 part_filtered c t (Extension u) p = in_mul_left p
 
-pub PartOf-filtered : {F : Type 0} (c t : Term F) (ts : List (Assertion F)) → PartOf t ts → PartOf t (map (filtered c) ts)
+pub PartOf-filtered : {F : Type 0} (c t : Term F) (ts : List (Assertion F)) → PartOf t ts → PartOf t (map (filter_by c) ts)
 PartOf-filtered c t [] p = p
 PartOf-filtered c t (a ∷ rest) (inl p) = inl (part_filtered c t a p)
 PartOf-filtered c t (a ∷ rest) (inr p) = inr (PartOf-filtered c t rest p)

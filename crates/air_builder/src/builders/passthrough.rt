@@ -2,7 +2,7 @@
 ghost use Rattle.std.specs.Prelude.{[], ◌∷◌};
 ghost use Rattle.air_builder.specs.Assertion.{Base};
 ghost use Rattle.air_builder.specs.Batches.{Asserts};
-ghost use Rattle.air_builder.specs.Labels.{Labels, discarding};
+ghost use Rattle.air_builder.specs.Labels.{Labels, GrewWithoutLabels};
 
 use crate::builders::air_builder::AirBuilder;
 use crate::builders::view::View;
@@ -25,7 +25,7 @@ pub trait PassthroughNamedAirBuilder: AirBuilder {
         requires of_ring { Self.Ring.has (Self.ring_of self.old) x }
         ensures asserted { Asserts ⟦<Self as View>⟧.view Base (λ t. t) self.old self.new (x ∷ [])
             result }
-        ensures label { Labels ⟦<Self as View>⟧.view (discarding Self.grew) Base (λ t. t)
+        ensures label { Labels ⟦<Self as View>⟧.view (GrewWithoutLabels Self.grew) Base (λ t. t)
             (λ i. N.displays _name) self.old self.new (x ∷ []) result }
     {
         self.assert_zero(x)

@@ -4,24 +4,24 @@ use Rattle.std.proofs.Common.{sym, ◌∙◌, ap, ap₂, arith}
 use Rattle.air_field.specs.Ring.{CommRing, AllZero, AlgebraOver, AlgebraOverLaws}
 use Rattle.air_field.specs.RingOps.{ops}
 use Rattle.air_field.specs.laws.Ring.{mul_zero, add_cancel}
-use Rattle.air_field.specs.Coefficients.{poly_add, poly_scale, padded}
+use Rattle.air_field.specs.Coefficients.{poly_add, poly_scale, pad_to}
 use Rattle.air_field.specs.Extension.{Basis, ExtensionLaws}
 
 -- ---- lists of coefficients
 
-pub length-padded : {A : Type 0} (d : A) (n : ℕ) (p : List A) → length (padded d n p) ≡ n
+pub length-padded : {A : Type 0} (d : A) (n : ℕ) (p : List A) → length (pad_to d n p) ≡ n
 length-padded d zero p = refl
 length-padded d (suc n) [] = ap suc (length-padded d n [])
 length-padded d (suc n) (x ∷ p) = ap suc (length-padded d n p)
 
 -- a list of n coefficients stays
-pub padded-whole : {A : Type 0} (d : A) (n : ℕ) (p : List A) → length p ≡ n → padded d n p ≡ p
+pub padded-whole : {A : Type 0} (d : A) (n : ℕ) (p : List A) → length p ≡ n → pad_to d n p ≡ p
 padded-whole d zero [] h = refl
 padded-whole d zero (x ∷ p) h = absurd (omega arith)
 padded-whole d (suc n) [] h = absurd (omega arith)
 padded-whole d (suc n) (x ∷ p) h = ap (λ l. x ∷ l) (padded-whole d n p (omega arith))
 
-pub padded-nil : {A : Type 0} (d : A) (n : ℕ) → padded d n [] ≡ replicate n d
+pub padded-nil : {A : Type 0} (d : A) (n : ℕ) → pad_to d n [] ≡ replicate n d
 padded-nil d zero = refl
 padded-nil d (suc n) = ap (λ l. d ∷ l) (padded-nil d n)
 
@@ -30,7 +30,7 @@ module _ {F : Type 0} (R : CommRing F) where
   AllZero-replicate zero = tt
   AllZero-replicate (suc n) = (refl, AllZero-replicate n)
 
-  pub padded-zeros : (n : ℕ) (p : List F) → AllZero R p → padded R.zero n p ≡ replicate n R.zero
+  pub padded-zeros : (n : ℕ) (p : List F) → AllZero R p → pad_to R.zero n p ≡ replicate n R.zero
   padded-zeros zero p h = refl
   padded-zeros (suc n) [] h = ap (λ l. R.zero ∷ l) (padded-nil R.zero n)
   padded-zeros (suc n) (x ∷ p) h = ap₂ (λ c l. c ∷ l) h.0 (padded-zeros n p h.1)
@@ -44,7 +44,7 @@ module _ {F : Type 0} (R : CommRing F) where
   scale-zeros c (suc n) = ap₂ (λ x l. x ∷ l) (mul_zero R c) (scale-zeros c n)
 
   -- the coefficients past the first
-  padded-first : (n : ℕ) (x : F) (p : List F) → 0 < n → AllZero R p → padded R.zero n (x ∷ p) ≡ x ∷ replicate (n - 1) R.zero
+  padded-first : (n : ℕ) (x : F) (p : List F) → 0 < n → AllZero R p → pad_to R.zero n (x ∷ p) ≡ x ∷ replicate (n - 1) R.zero
   padded-first zero x p pos h = absurd (omega arith)
   padded-first (suc n) x p pos h = ap (λ l. x ∷ l) (padded-zeros n p h ∙ ap (λ k. replicate k R.zero) (less_one n))
     where

@@ -2,14 +2,14 @@
 use Rattle.std.specs.Prelude.{◌≡◌, refl, List, [], ◌∷◌, slice_index_or}
 use Rattle.std.proofs.Common.{lit<}
 use Rattle.air_field.specs.Ring.{CommRing, itself}
-use Rattle.air_field.specs.Coefficients.{padded}
+use Rattle.air_field.specs.Coefficients.{pad_to}
 use Rattle.air_field.specs.Extension.{own_basis, ExtensionLaws}
 
 module _ {F : Type 0} (R : CommRing F) where
   single-same : (a b : F) → a ∷ [] ≡ b ∷ [] → a ≡ b
   single-same a b h = cc
 
-  single-extend : (l : List F) → slice_index_or l 0 R.zero ∷ [] ≡ padded R.zero 1 l
+  single-extend : (l : List F) → slice_index_or l 0 R.zero ∷ [] ≡ pad_to R.zero 1 l
   single-extend [] = refl
   single-extend (x ∷ l) = refl
 

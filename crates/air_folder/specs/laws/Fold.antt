@@ -7,7 +7,7 @@ use Rattle.air_field.specs.laws.RingSolver.{var, plus, times, ring}
 use Rattle.air_field.specs.Powers.{power}
 use Rattle.air_recording.specs.AlphaPowers.{alpha_power}
 use Rattle.air_recording.specs.Folds.{sum_below, sum_by_powers}
-use Rattle.air_folder.specs.Fold.{folded_on, running}
+use Rattle.air_folder.specs.Fold.{folded_on, fold_from}
 
 module _ {E : Type 0} (r : CommRing E) where
   -- the first summand apart
@@ -34,14 +34,14 @@ module _ {E : Type 0} (r : CommRing E) where
         (plus (times (var 0) (times (var 3) (var 1))) (plus (times (var 3) (var 2)) (var 4)))
         refl
 
-    pub running-is : (acc : E) (values : List E) → running r alpha acc values ≡ folded_on r alpha acc values
+    pub running-is : (acc : E) (values : List E) → fold_from r alpha acc values ≡ folded_on r alpha acc values
     running-is acc [] = sym (r.add_zero (r.mul acc r.one) ∙ r.mul_one acc)
     running-is acc (v ∷ values) =
         running-is (r.add (r.mul acc alpha) v) values
         ∙ (step acc v (power r alpha (length values)) (sum_by_powers r alpha values)
         ∙ ap (r.add (r.mul acc (power r alpha (suc (length values))))) (sym (sum_by_powers-first v values)))
 
-    running-append : (acc : E) (xs ys : List E) → running r alpha acc (xs ++ ys) ≡ running r alpha (running r alpha acc xs) ys
+    running-append : (acc : E) (xs ys : List E) → fold_from r alpha acc (xs ++ ys) ≡ fold_from r alpha (fold_from r alpha acc xs) ys
     running-append acc [] ys = refl
     running-append acc (x ∷ xs) ys = running-append (r.add (r.mul acc alpha) x) xs ys
 
@@ -53,7 +53,7 @@ module _ {E : Type 0} (r : CommRing E) where
     pub folded_on-append : (acc : E) (xs ys : List E) → folded_on r alpha (folded_on r alpha acc xs) ys ≡ folded_on r alpha acc (xs ++ ys)
     folded_on-append acc xs ys =
         sym (running-is (folded_on r alpha acc xs) ys)
-        ∙ (ap (λ a. running r alpha a ys) (sym (running-is acc xs))
+        ∙ (ap (λ a. fold_from r alpha a ys) (sym (running-is acc xs))
         ∙ (sym (running-append acc xs ys) ∙ running-is acc (xs ++ ys)))
 
     -- of no values it is the accumulator

@@ -2,7 +2,7 @@
 ghost use Rattle.std.specs.Prelude.{[], ◌∷◌, refl};
 ghost use Rattle.air_builder.specs.Assertion.{Base, Extension};
 ghost use Rattle.air_builder.specs.Batches.{Asserts};
-ghost use Rattle.air_builder.specs.Labels.{Labels, discarding};
+ghost use Rattle.air_builder.specs.Labels.{Labels, GrewWithoutLabels};
 ghost use Rattle.air_builder.specs.laws.NamedFilters.{discarding_laws};
 ghost use Rattle.air_folder.specs.laws.Folder.{folder_laws};
 
@@ -17,7 +17,7 @@ impl<'a, F: Field, EF: ExtensionField<F>> PassthroughNamedAirBuilder
     for ConstraintFolder<'a, F, EF> {}
 
 impl<'a, F: Field, EF: ExtensionField<F>> NamedAirBuilder for ConstraintFolder<'a, F, EF> {
-    ghost labelled = { discarding ⟦<ConstraintFolder<'a, F, EF> as AirBuilder>⟧.grew };
+    ghost labelled = { GrewWithoutLabels ⟦<ConstraintFolder<'a, F, EF> as AirBuilder>⟧.grew };
 
     ghost named_laws = { discarding_laws (folder_laws EF.over EF.basis) };
 
@@ -25,7 +25,7 @@ impl<'a, F: Field, EF: ExtensionField<F>> NamedAirBuilder for ConstraintFolder<'
         ensures asserted { Asserts ⟦<ConstraintFolder<'a, F, EF> as View>⟧.view Base (λ t. t)
             self.old self.new (x ∷ []) result }
         ensures label { Labels ⟦<ConstraintFolder<'a, F, EF> as View>⟧.view
-            (discarding ⟦<ConstraintFolder<'a, F, EF> as AirBuilder>⟧.grew) Base (λ t. t)
+            (GrewWithoutLabels ⟦<ConstraintFolder<'a, F, EF> as AirBuilder>⟧.grew) Base (λ t. t)
             (λ i. N.displays name) self.old self.new (x ∷ []) result }
     {
         self.assert_zero_unlabelled(x, name)
@@ -37,8 +37,8 @@ impl<'a, F: Field, EF: ExtensionField<F>> NamedExtensionBuilder for ConstraintFo
         ensures asserted { Asserts ⟦<ConstraintFolder<'a, F, EF> as ViewOver>⟧.view Extension
             (λ t. t) self.old self.new (x ∷ []) result }
         ensures label { Labels ⟦<ConstraintFolder<'a, F, EF> as ViewOver>⟧.view
-            (discarding ⟦<ConstraintFolder<'a, F, EF> as AirBuilder>⟧.grew) Extension (λ t. t)
-            (λ i. N.displays _name) self.old self.new (x ∷ []) result }
+            (GrewWithoutLabels ⟦<ConstraintFolder<'a, F, EF> as AirBuilder>⟧.grew) Extension
+            (λ t. t) (λ i. N.displays _name) self.old self.new (x ∷ []) result }
     {
         self.assert_zero_ext(x)
     }

@@ -4,14 +4,14 @@ use Rattle.std.proofs.Math.Nat.{pow-zero, pow-suc}
 use Rattle.air_field.specs.Ring.{CommRing, image, minus}
 use Rattle.air_field.specs.laws.RingSolver.{var, nought, unit, plus, times, less, ring}
 use Rattle.air_field.specs.laws.Images.{image-zero, image-one, image-two, image-add, image-mul}
-use Rattle.air_gadgets.specs.Bits.{digits_of, AreBits, packed, ring_xor, xored}
+use Rattle.air_gadgets.specs.Bits.{digits_of, AreBits, binary_sum, ring_xor, xor_of_bits}
 
 -- x, and then the xor with each element, from the left
 abbrev pub xors_from : {A : Type 0} → CommRing A → A → List A → A
 xors_from R x [] = x
 xors_from R x (y ∷ ys) = xors_from R (ring_xor R x y) ys
 
-xored_once : (bs : List ℕ) → (0 + xored bs) % 2 ≡ xored bs
+xored_once : (bs : List ℕ) → (0 + xor_of_bits bs) % 2 ≡ xor_of_bits bs
 xored_once [] = refl
 xored_once (b ∷ bs) = omega arith
 
@@ -41,18 +41,18 @@ module _ {A : Type 0} (R : CommRing A) where
   xor-image (suc zero) (suc (suc n)) hm hn = absurd (omega arith)
   xor-image (suc (suc m)) n hm hn = absurd (omega arith)
 
-  xors_from_image : (m : ℕ) (bs : List ℕ) → m < 2 → AreBits bs → xors_from R (image R m) (map (image R) bs) ≡ image R ((m + xored bs) % 2)
+  xors_from_image : (m : ℕ) (bs : List ℕ) → m < 2 → AreBits bs → xors_from R (image R m) (map (image R) bs) ≡ image R ((m + xor_of_bits bs) % 2)
   xors_from_image m [] hm hb =
       let e : m ≡ (m + 0) % 2 = omega arith in
       ap (image R) e
   xors_from_image m (b ∷ bs) hm hb =
       let below : (m + b) % 2 < 2 = omega arith in
-      let e : ((m + b) % 2 + xored bs) % 2 ≡ (m + (b + xored bs) % 2) % 2 = omega arith in
+      let e : ((m + b) % 2 + xor_of_bits bs) % 2 ≡ (m + (b + xor_of_bits bs) % 2) % 2 = omega arith in
       ap (λ x. xors_from R x (map (image R) bs)) (xor-image m b hm hb.0)
       ∙ (xors_from_image ((m + b) % 2) bs below hb.1 ∙ ap (image R) e)
 
   -- the xor of the images of bits
-  pub xors-image : (start : A) (xs : List A) (bs : List ℕ) → start ≡ R.zero → AreBits bs → xs ≡ map (image R) bs → xors_from R start xs ≡ image R (xored bs)
+  pub xors-image : (start : A) (xs : List A) (bs : List ℕ) → start ≡ R.zero → AreBits bs → xs ≡ map (image R) bs → xors_from R start xs ≡ image R (xor_of_bits bs)
   xors-image start xs bs e hb h = ap₂ (xors_from R) (e ∙ sym (image-zero R)) h ∙ (xors_from_image 0 bs (omega arith) hb ∙ ap (image R) (xored_once bs))
 
   -- y and not x, of the images of two bits
@@ -68,7 +68,7 @@ module _ {A : Type 0} (R : CommRing A) where
   andn-image (suc (suc m)) n hm hn = absurd (omega arith)
 
   -- the digits of a number to the base 2, packed
-  pub packed-digits : (k n : ℕ) → n < 2 ^ k → packed R (map (image R) (digits_of 2 k n)) ≡ image R n
+  pub packed-digits : (k n : ℕ) → n < 2 ^ k → binary_sum R (map (image R) (digits_of 2 k n)) ≡ image R n
   packed-digits zero n h =
       let e : 0 ≡ n = omega (arith, pow-zero 2, h) in
       sym (image-zero R) ∙ ap (image R) e

@@ -40,9 +40,9 @@ each_so : {n : ℕ} {P Q : ℕ → Type 0} → ((k : ℕ) → k < n → P k ↔ 
 each_so f = ((λ h. (h.0, h.1, (f h.0 h.1).0 h.2)), (λ h. (h.0, h.1, (f h.0 h.1).1 h.2)))
 
 -- ---- a product with so many carries: x (x + q) (x + 2 q) ..
-abbrev pub carried : {A : Type 0} → CommRing A → A → ℕ → ℕ → A
-carried R x q zero = x
-carried R x q (suc n) = R.mul (carried R x q n) (R.add x (image R (q * suc n)))
+abbrev pub carry_out : {A : Type 0} → CommRing A → A → ℕ → ℕ → A
+carry_out R x q zero = x
+carry_out R x q (suc n) = R.mul (carry_out R x q n) (R.add x (image R (q * suc n)))
 
 -- with nothing added
 plain : {A : Type 0} (R : CommRing A) (x : A) (q : ℕ) → R.add x (image R (q * 0)) ≡ x
@@ -56,11 +56,11 @@ lone R x q (suc k) lt h = absurd (omega (arith, lt))
 
 -- it is zero exactly if one of the factors is
 carried_zero : {A : Type 0} (R : CommRing A) → IsDomain R → (x : A) (q n : ℕ)
-    → (carried R x q n ≡ R.zero) ↔ ((k : ℕ) × (k < suc n) × (R.add x (image R (q * k)) ≡ R.zero))
+    → (carry_out R x q n ≡ R.zero) ↔ ((k : ℕ) × (k < suc n) × (R.add x (image R (q * k)) ≡ R.zero))
 carried_zero R domain x q zero = ((λ h. (0, omega arith, plain R x q ∙ h)), (λ r. lone R x q r.0 r.1 r.2))
 carried_zero R domain x q (suc n) =
     let before = carried_zero R domain x q n in
-    then_so (product_zero R domain (carried R x q n) (R.add x (image R (q * suc n)))) (
+    then_so (product_zero R domain (carry_out R x q n) (R.add x (image R (q * suc n)))) (
       elim [ inl h ↦ (let r = before.0 h in (r.0, omega (arith, r.1), r.2)) | inr h ↦ (suc n, omega arith, h) ],
       (λ r.
           elim (cases_lt r.0 (suc n)) [
@@ -142,13 +142,13 @@ high_carry a0 a1 s0 s1 k h0 h1 e e0 = omega arith
 
 -- ---- the two products, zero exactly if a carry is right
 low_tells : {A : Type 0} (R : CommRing A) (p n a s : ℕ) → IsDomain R → HasCharacteristic R p → 65536 * suc n < p → a < 65536 → s < p
-    → (carried R (low R a s) 65536 n ≡ R.zero) ↔ ((k : ℕ) × (k < suc n) × (a + 65536 * k ≡ s))
+    → (carry_out R (low R a s) 65536 n ≡ R.zero) ↔ ((k : ℕ) × (k < suc n) × (a + 65536 * k ≡ s))
 low_tells R p n a s domain has big ha hs =
     then_so (carried_zero R domain (low R a s) 65536 n) (each_so (λ k lt. difference_zero R p a s (65536 * k) has (omega (arith, lt, ha, big)) hs))
 
 -- with the carry k of the low limbs
 whole_tells : {A : Type 0} (R : CommRing A) (p n a s b t k : ℕ) → IsDomain R → HasCharacteristic R p → 65536 * suc n < p → a + 65536 * k ≡ s → b < 65536 → t + k < p
-    → (carried R (whole R 65536 a s b t) 4294967296 n ≡ R.zero) ↔ ((m : ℕ) × (m < suc n) × (b + 65536 * m ≡ t + k))
+    → (carry_out R (whole R 65536 a s b t) 4294967296 n ≡ R.zero) ↔ ((m : ℕ) × (m < suc n) × (b + 65536 * m ≡ t + k))
 whole_tells R p n a s b t k domain has big e hb ht =
     then_so (carried_zero R domain (whole R 65536 a s b t) 4294967296 n)
     (each_so (λ m lt.
@@ -158,7 +158,7 @@ whole_tells R p n a s b t k domain has big e hb ht =
 
 -- both are zero exactly if the sum of the words is right
 sum_tells : {A : Type 0} (R : CommRing A) (p n a0 a1 s0 s1 : ℕ) → IsDomain R → HasCharacteristic R p → 65536 * suc n < p → a0 < 65536 → a1 < 65536 → s0 < 65536 * suc n → s1 + n < 65536 * suc n
-    → ((carried R (whole R 65536 a0 s0 a1 s1) 4294967296 n ≡ R.zero) × (carried R (low R a0 s0) 65536 n ≡ R.zero))
+    → ((carry_out R (whole R 65536 a0 s0 a1 s1) 4294967296 n ≡ R.zero) × (carry_out R (low R a0 s0) 65536 n ≡ R.zero))
     ↔ (a0 + 65536 * a1 ≡ (s0 + 65536 * s1) % 4294967296)
 sum_tells R p n a0 a1 s0 s1 domain has big h0 h1 k0 k1 =
     let low_so = low_tells R p n a0 s0 domain has big h0 (omega (arith, k0, big)) in (

@@ -4,7 +4,7 @@ use Rattle.std.proofs.Common.{sym, ◌∙◌, ap, ap₂}
 use Rattle.air_field.specs.Ring.{CommRing, image, minus}
 use Rattle.air_field.specs.laws.Images.{HasCharacteristic}
 use Rattle.air_gadgets.specs.Exact.{Add2IsExact, Add3IsExact}
-use Rattle.air_gadgets.specs.laws.Carrying.{carried, add2_exact, add3_exact}
+use Rattle.air_gadgets.specs.laws.Carrying.{carry_out, add2_exact, add3_exact}
 
 less_two_same : {A : Type 0} (R : CommRing A) (x y z k l m : A) → x ≡ k → y ≡ l → z ≡ m → minus R (minus R x y) z ≡ minus R (minus R k l) m
 less_two_same R x y z k l m e f g = λ i. minus R (minus R (e i) (f i)) (g i)
@@ -17,11 +17,11 @@ whole_same R q x y k l e f = ap₂ R.add e (ap (λ z. R.mul z q) f ∙ R.mul_com
 
 -- both terms vanish exactly if what they are is zero
 both_vanish : {A : Type 0} (R : CommRing A) (n : ℕ) {P : Type 0} {x y k l : A} → x ≡ k → y ≡ l
-    → ((carried R k 4294967296 n ≡ R.zero) × (carried R l 65536 n ≡ R.zero)) ↔ P
-    → ((carried R x 4294967296 n ≡ R.zero) × ((carried R y 65536 n ≡ R.zero) × ⊤)) ↔ P
+    → ((carry_out R k 4294967296 n ≡ R.zero) × (carry_out R l 65536 n ≡ R.zero)) ↔ P
+    → ((carry_out R x 4294967296 n ≡ R.zero) × ((carry_out R y 65536 n ≡ R.zero) × ⊤)) ↔ P
 both_vanish R n whole low exact =
-    let whole_is = ap (λ z. carried R z 4294967296 n) whole in
-    let low_is = ap (λ z. carried R z 65536 n) low in (
+    let whole_is = ap (λ z. carry_out R z 4294967296 n) whole in
+    let low_is = ap (λ z. carry_out R z 65536 n) low in (
       (λ h. exact.0 (sym whole_is ∙ h.0, sym low_is ∙ h.1.0)),
       (λ e. let r = exact.1 e in (whole_is ∙ r.0, (low_is ∙ r.1, tt))),
     )

@@ -6,7 +6,7 @@ use Rattle.air_field.specs.Ring.{CommRing, minus, itself}
 use Rattle.air_field.specs.Term.{Leaf, Term}
 use Rattle.air_field.specs.Value.{value}
 use Rattle.air_field.specs.Algebra.{bool_check_term, xor_term}
-use Rattle.air_gadgets.specs.Bits.{packed}
+use Rattle.air_gadgets.specs.Bits.{binary_sum}
 use Rattle.air_gadgets.specs.Packing.{packed_term}
 use Rattle.air_builder.specs.Assertion.{Assertion, Base}
 use Rattle.air_gadgets.specs.Words.{rotated_left}
@@ -35,10 +35,10 @@ module _ {F : Type 0} (R : CommRing F) (s : Leaf → F) where
 
   -- of a half, cut alike
   half_value : (f : List (Term F) → List (Term F)) (g : List F → List F) → ((ts : List (Term F)) → g (map (value (itself R) s) ts) ≡ map (value (itself R) s) (f ts))
-      → (u v : List (Term F)) (shift : ℕ) → value (itself R) s (packed_term R.zero (f (xor_terms u (rotated_left shift v)))) ≡ packed R (g (ring_xors R (map (value (itself R) s) u) (rotated_left shift (map (value (itself R) s) v))))
+      → (u v : List (Term F)) (shift : ℕ) → value (itself R) s (packed_term R.zero (f (xor_terms u (rotated_left shift v)))) ≡ binary_sum R (g (ring_xors R (map (value (itself R) s) u) (rotated_left shift (map (value (itself R) s) v))))
   half_value f g alike u v shift =
       let bits = xor_terms u (rotated_left shift v) in
-      value-packed_term (itself R) R.zero refl s (f bits) ∙ (ap (packed R) (sym (alike bits)) ∙ ap (λ xs. packed R (g xs)) (values_of u v shift))
+      value-packed_term (itself R) R.zero refl s (f bits) ∙ (ap (binary_sum R) (sym (alike bits)) ∙ ap (λ xs. binary_sum R (g xs)) (values_of u v shift))
 
 pub xor_is_exact : {F : Type 0} (R : CommRing F) → XorIsExact R
 xor_is_exact R t u v shift s b domain hb eu =

@@ -6,7 +6,7 @@ use Rattle.air_field.specs.Ring.{CommRing, image, minus}
 use Rattle.air_field.specs.laws.Ring.{zero_add, ring_rules}
 use Rattle.air_field.specs.laws.RingSolver.{var, nought, unit, plus, times, less, ring}
 use Rattle.air_field.specs.laws.Images.{image-add, image-mul, image-zero, image-one, image-two}
-use Rattle.air_gadgets.specs.Bits.{AreBits, packed, ring_xor}
+use Rattle.air_gadgets.specs.Bits.{AreBits, binary_sum, ring_xor}
 use Rattle.air_gadgets.specs.Words.{number_of, xor_bits, rotated_left}
 use Rattle.air_field.specs.Domain.{IsDomain}
 
@@ -88,7 +88,7 @@ xors-images R [] cs hb hc = refl
 xors-images R (b ∷ bs) [] hb hc = refl
 xors-images R (b ∷ bs) (c ∷ cs) hb hc = ap₂ (λ y ys. y ∷ ys) (xor-image R b c hb.0 hc.0) (xors-images R bs cs hb.1 hc.1)
 
-pub packed-images : {A : Type 0} (R : CommRing A) (bs : List ℕ) → packed R (map (image R) bs) ≡ image R (number_of bs)
+pub packed-images : {A : Type 0} (R : CommRing A) (bs : List ℕ) → binary_sum R (map (image R) bs) ≡ image R (number_of bs)
 packed-images R [] = sym (image-zero R)
 packed-images R (b ∷ bs) =
     ap₂ (λ x y. R.add (image R b) (R.mul x y)) (sym (image-two R)) (packed-images R bs)
@@ -116,7 +116,7 @@ bits-rotated s bs h = bits-append (drop (32 - s) bs) (take (32 - s) bs) (bits-dr
 
 -- the terms: the tests for bits, and what each half differs by
 abbrev pub half_value : {A : Type 0} → CommRing A → A → List A → A
-half_value R a xs = minus R a (packed R xs)
+half_value R a xs = minus R a (binary_sum R xs)
 
 abbrev pub TermsAreZero : {A : Type 0} → CommRing A → A → A → List A → List A → ℕ → Type 0
 TermsAreZero R a0 a1 bs cs s =
@@ -137,10 +137,10 @@ half-image R s bs ns hb hn =
 -- a half of both lists, cut alike
 cut_half : {A : Type 0} (R : CommRing A) (f : List A → List A) (g : List ℕ → List ℕ) → ((ns : List ℕ) → f (map (image R) ns) ≡ map (image R) (g ns))
     → (s : ℕ) (bs ns : List ℕ) → AreBits bs → AreBits ns
-    → packed R (f (ring_xors R (map (image R) bs) (rotated_left s (map (image R) ns)))) ≡ image R (number_of (g (xor_bits bs (rotated_left s ns))))
+    → binary_sum R (f (ring_xors R (map (image R) bs) (rotated_left s (map (image R) ns)))) ≡ image R (number_of (g (xor_bits bs (rotated_left s ns))))
 cut_half R f g alike s bs ns hb hn =
-    ap (λ xs. packed R (f xs)) (half-image R s bs ns hb hn)
-    ∙ (ap (packed R) (alike (xor_bits bs (rotated_left s ns))) ∙ packed-images R (g (xor_bits bs (rotated_left s ns))))
+    ap (λ xs. binary_sum R (f xs)) (half-image R s bs ns hb hn)
+    ∙ (ap (binary_sum R) (alike (xor_bits bs (rotated_left s ns))) ∙ packed-images R (g (xor_bits bs (rotated_left s ns))))
 
 minus_own : {A : Type 0} (R : CommRing A) (x y : A) → x ≡ y → minus R x y ≡ R.zero
 minus_own R x y e = ap (λ z. minus R z y) e ∙ R.add_neg y

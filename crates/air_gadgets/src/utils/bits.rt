@@ -1,14 +1,14 @@
 //! Bits of numbers, as elements of a field.
 ghost use Rattle.std.specs.Prelude.{◌≡◌, ℕ, ◌-◌, ◌*◌, ◌^◌, ◌<◌, List, map};
 ghost use Rattle.air_field.specs.Ring.{image};
-ghost use Rattle.air_gadgets.specs.Bits.{AreBits, digits_of, packed, ring_xor, xored};
+ghost use Rattle.air_gadgets.specs.Bits.{AreBits, digits_of, binary_sum, ring_xor, xor_of_bits};
 
 use air_field::Field;
 
 /// The `N` lowest bits, lowest first.
 fn bits_le<F: Field, const N: usize>(val: u64) -> [F; N]
     ensures bits { result ≡ map (image F.ring) (digits_of 2 N val) }
-    ensures packed { val < 2 ^ N → packed F.ring result ≡ image F.ring val }
+    ensures packed { val < 2 ^ N → binary_sum F.ring result ≡ image F.ring val }
 {
     let mut bits = [F::ZERO; N];
     let mut left = val;
@@ -22,7 +22,7 @@ fn bits_le<F: Field, const N: usize>(val: u64) -> [F; N]
 /// The bits of the number, lowest first.
 pub fn u32_to_bits_le<F: Field>(val: u32) -> [F; 32]
     ensures bits { result ≡ map (image F.ring) (digits_of 2 32 val) }
-    ensures packed { packed F.ring result ≡ image F.ring val }
+    ensures packed { binary_sum F.ring result ≡ image F.ring val }
 {
     bits_le(val as u64)
 }
@@ -30,7 +30,7 @@ pub fn u32_to_bits_le<F: Field>(val: u32) -> [F; 32]
 /// The bits of the number, lowest first.
 pub fn u64_to_bits_le<F: Field>(val: u64) -> [F; 64]
     ensures bits { result ≡ map (image F.ring) (digits_of 2 64 val) }
-    ensures packed { packed F.ring result ≡ image F.ring val }
+    ensures packed { binary_sum F.ring result ≡ image F.ring val }
 {
     bits_le(val)
 }
@@ -61,7 +61,7 @@ fn xor_of<F: Field>(x: F, y: F) -> F
 /// The xor of bits; of none, 0.
 pub fn checked_xor<F: Field>(xs: &[F]) -> F
     ensures { (bits : List ℕ) → AreBits bits → xs.now ≡ map (image F.ring) bits
-        → result ≡ image F.ring (xored bits) }
+        → result ≡ image F.ring (xor_of_bits bits) }
 {
     let mut total = F::ZERO;
     for x in xs {

@@ -7,8 +7,8 @@ use Rattle.air_wire.specs.declared.errors.FlatError.{FlatError}
 use Rattle.air_wire.specs.declared.errors.FlatError.TheVariants as faults
 use Rattle.air_wire.specs.Results.{◌>>=◌}
 use Rattle.air_wire.specs.laws.Readings.{done, done_is, failed, err_is, bind_ok, ok_or_found}
-use Rattle.air_object.specs.Objects.{Grammar, by_form, AllSpell, FirstElementFault, list_of, needed, optional, both_members, both_or_none}
-use Rattle.air_object.specs.Readers.{Reader, formed, each_from, list_read, needed_read, or_absent, optional_read, both_read, if_either}
+use Rattle.air_object.specs.Objects.{Grammar, by_form, AllSpell, FirstElementFault, list_of, needed_member, optional, both_members, both_or_none}
+use Rattle.air_object.specs.Readers.{Reader, or_wrong_form, each_from, list_read, needed_read, or_absent, optional_read, both_read, if_either}
 
 pub record Agrees {X : Type 0} (g : Grammar X) (read : Reader X) : Type 0 where
   pub found : (d : Data) (x : X) → read d ≡ Ok x → g.spells d x
@@ -31,20 +31,20 @@ some_is x y e = cc
 -- ---- values of one form
 
 module _ {X : Type 0} (spells : Data → X → Type 0) (find : Data → Option X) (found : (d : Data) (x : X) → find d ≡ Some x → spells d x) (again : (d : Data) (x : X) → spells d x → find d ≡ Some x) where
-  pub by_form_agrees : Agrees (by_form spells) (λ d. formed (find d))
+  pub by_form_agrees : Agrees (by_form spells) (λ d. or_wrong_form (find d))
   by_form_agrees = record {
     found = λ d x e. found d x (ok_or_found (find d) (faults.Shape 0) x e);
-    again = λ d x h. ap (λ o. formed o) (again d x h);
+    again = λ d x h. ap (λ o. or_wrong_form o) (again d x h);
     fault = λ d f e. nothing d f (find d) refl e;
     refused = λ d f h. refusal d (find d) refl h.0 ∙ ap (λ g. failed g) (sym h.1);
   }
     where
-      nothing : (d : Data) (f : FlatError) (o : Option X) → find d ≡ o → formed o ≡ Err f → (by_form spells).fault d f
+      nothing : (d : Data) (f : FlatError) (o : Option X) → find d ≡ o → or_wrong_form o ≡ Err f → (by_form spells).fault d f
       nothing d f None is e = ((λ x h. absurd (cc (sym is ∙ again d x h))), sym (err_is (faults.Shape 0) f e))
       nothing d f (Some x) is e = absurd cc
 
-      refusal : (d : Data) (o : Option X) → find d ≡ o → ((x : X) → spells d x → ⊥) → formed (find d) ≡ failed (faults.Shape 0)
-      refusal d None is none = ap (λ o. formed o) is
+      refusal : (d : Data) (o : Option X) → find d ≡ o → ((x : X) → spells d x → ⊥) → or_wrong_form (find d) ≡ failed (faults.Shape 0)
+      refusal d None is none = ap (λ o. or_wrong_form o) is
       refusal d (Some x) is none = absurd (none x (found d x is))
 
 -- ---- lists
@@ -84,7 +84,7 @@ module _ {X : Type 0} (g : Grammar X) (read : Reader X) (agrees : Agrees g read)
       ap (λ (r : Result X FlatError). r >>= λ x. each_from read (before ++ x ∷ []) ds) (agrees.again d h.0 h.1) ∙ each_refused (before ++ h.0 ∷ []) ds f h.2
 
   abbrev of_items : Option Items → Result (List X) FlatError
-  of_items o = formed o >>= λ ds. each_from read [] ds
+  of_items o = or_wrong_form o >>= λ ds. each_from read [] ds
 
   list_fault : (d : Data) (f : FlatError) (o : Option Items) → as_array d ≡ o → of_items o ≡ Err f → (list_of g).fault d f
   list_fault d f None is e = inl (is, sym (err_is (faults.Shape 0) f e))
@@ -96,7 +96,7 @@ module _ {X : Type 0} (g : Grammar X) (read : Reader X) (agrees : Agrees g read)
 
   list_found : (d : Data) (xs : List X) → list_read read d ≡ Ok xs → (list_of g).spells d xs
   list_found d xs e =
-      let ds = bind_ok (formed (as_array d)) (λ ds. each_from read [] ds) xs e in
+      let ds = bind_ok (or_wrong_form (as_array d)) (λ ds. each_from read [] ds) xs e in
       let r = each_found [] ds.0 xs ds.2 in
       (ds.0, ok_or_found (as_array d) (faults.Shape 0) ds.0 ds.1, subst (AllSpell g ds.0) (sym r.1) r.2)
 
@@ -111,23 +111,23 @@ module _ {X : Type 0} (g : Grammar X) (read : Reader X) (agrees : Agrees g read)
 -- ---- members
 
 module _ {X : Type 0} (name : List ℕ) (g : Grammar X) (read : Reader X) (agrees : Agrees g read) where
-  needed_found : (d : Data) (x : X) → needed_read name read d ≡ Ok x → (needed name g).spells d x
+  needed_found : (d : Data) (x : X) → needed_read name read d ≡ Ok x → (needed_member name g).spells d x
   needed_found d x e =
-      let c = bind_ok (formed (get name d)) read x e in
+      let c = bind_ok (or_wrong_form (get name d)) read x e in
       (c.0, ok_or_found (get name d) (faults.Shape 0) c.0 c.1, agrees.found c.0 x c.2)
 
-  needed_fault : (d : Data) (f : FlatError) (o : Option Data) → get name d ≡ o → (formed o >>= read) ≡ Err f → (needed name g).fault d f
+  needed_fault : (d : Data) (f : FlatError) (o : Option Data) → get name d ≡ o → (or_wrong_form o >>= read) ≡ Err f → (needed_member name g).fault d f
   needed_fault d f None is e = inl (is, sym (err_is (faults.Shape 0) f e))
   needed_fault d f (Some c) is e = inr (c, is, agrees.fault c f e)
 
-  needed_refused : (d : Data) (f : FlatError) → (needed name g).fault d f → needed_read name read d ≡ Err f
-  needed_refused d f (inl h) = ap (λ o. formed o >>= read) h.0 ∙ ap (λ k. failed k) (sym h.1)
-  needed_refused d f (inr h) = ap (λ o. formed o >>= read) h.1 ∙ agrees.refused h.0 f h.2
+  needed_refused : (d : Data) (f : FlatError) → (needed_member name g).fault d f → needed_read name read d ≡ Err f
+  needed_refused d f (inl h) = ap (λ o. or_wrong_form o >>= read) h.0 ∙ ap (λ k. failed k) (sym h.1)
+  needed_refused d f (inr h) = ap (λ o. or_wrong_form o >>= read) h.1 ∙ agrees.refused h.0 f h.2
 
-  pub needed_agrees : Agrees (needed name g) (needed_read name read)
+  pub needed_agrees : Agrees (needed_member name g) (needed_read name read)
   needed_agrees = record {
     found = needed_found;
-    again = λ d x h. ap (λ o. formed o >>= read) h.1 ∙ agrees.again h.0 x h.2;
+    again = λ d x h. ap (λ o. or_wrong_form o >>= read) h.1 ∙ agrees.again h.0 x h.2;
     fault = λ d f e. needed_fault d f (get name d) refl e;
     refused = needed_refused;
   }
@@ -188,7 +188,7 @@ module _ {X Y : Type 0} (g : Grammar X) (read : Reader X) (agrees : Agrees g rea
 
 -- ---- both members or none
 
-module _ {X Y : Type 0} (one other : List ℕ) (g : Grammar X) (h : Grammar Y) (read : Reader (X × Y)) (agrees : Agrees (both_members (needed one g) (needed other h)) read) where
+module _ {X Y : Type 0} (one other : List ℕ) (g : Grammar X) (h : Grammar Y) (read : Reader (X × Y)) (agrees : Agrees (both_members (needed_member one g) (needed_member other h)) read) where
   abbrev either : Grammar (Option (X × Y))
   either = both_or_none one g other h
 

@@ -15,15 +15,15 @@ use Rattle.air_wire.specs.laws.Readings.{named, number_found, failed, err_is}
 use Rattle.air_wire.specs.Spelling.{IsWholeNumber}
 use Rattle.air_wire.specs.declared.errors.FlatError.{FlatError}
 use Rattle.air_wire.specs.declared.errors.FlatError.TheVariants as faults
-use Rattle.air_object.specs.Objects.{list_of, needed, optional, both_or_none}
+use Rattle.air_object.specs.Objects.{list_of, needed_member, optional, both_or_none}
 use Rattle.air_object.specs.Members.{whole_number, ElementFault, element, constraint, boundary_cell, SpellsCap, cap, MemberValues, members}
-use Rattle.air_object.specs.Readers.{formed, tree, trees, elements, columns, cell_read, cells, cap_in, width_member, elements_member, table_member, constraints_member, periodic_member, boundary_member, cap_member, weight_member, members_read, Reader, both_read}
+use Rattle.air_object.specs.Readers.{or_wrong_form, tree, trees, elements, columns, cell_read, cells, cap_in, width_member, elements_member, table_member, constraints_member, periodic_member, boundary_member, cap_member, weight_member, members_read, Reader, both_read}
 use Rattle.air_object.specs.laws.Agreement.{Agrees, by_form_agrees, list_agrees, needed_agrees, optional_agrees, both_agree, both_or_none_agrees, agrees_as}
 
 whole_again : (d : Data) (n : ℕ) → IsWholeNumber n d → whole d ≡ Some n
 whole_again d n h = ap whole h
 
-whole_agrees : Agrees whole_number (λ d. formed (whole d))
+whole_agrees : Agrees whole_number (λ d. or_wrong_form (whole d))
 whole_agrees = by_form_agrees (λ d n. IsWholeNumber n d) whole number_found whole_again
 
 cell_agrees : Agrees boundary_cell cell_read
@@ -49,12 +49,12 @@ unfolding cap_in
 cap_again d None h = rw h refl
 cap_again d (Some n) h = rw h refl
 
-cap_agrees : Agrees cap (λ d. formed (cap_in d))
+cap_agrees : Agrees cap (λ d. or_wrong_form (cap_in d))
 cap_agrees = by_form_agrees SpellsCap cap_in cap_found cap_again
 
-width_agrees : (name : List ℕ) → Agrees (needed name whole_number) (width_member name)
+width_agrees : (name : List ℕ) → Agrees (needed_member name whole_number) (width_member name)
 unfolding width_member
-width_agrees name = needed_agrees name whole_number (λ d. formed (whole d)) whole_agrees
+width_agrees name = needed_agrees name whole_number (λ d. or_wrong_form (whole d)) whole_agrees
 
 boundary_agrees : Agrees (optional (codes "boundary") [] (list_of boundary_cell)) boundary_member
 unfolding boundary_member
@@ -62,11 +62,11 @@ boundary_agrees = optional_agrees (codes "boundary") (list_of boundary_cell) cel
 
 cap_member_agrees : Agrees (optional (codes "cap") None cap) cap_member
 unfolding cap_member
-cap_member_agrees = optional_agrees (codes "cap") cap (λ d. formed (cap_in d)) cap_agrees None
+cap_member_agrees = optional_agrees (codes "cap") cap (λ d. or_wrong_form (cap_in d)) cap_agrees None
 
 weight_agrees : Agrees (optional (codes "transition_weight") 0 whole_number) weight_member
 unfolding weight_member
-weight_agrees = optional_agrees (codes "transition_weight") whole_number (λ d. formed (whole d)) whole_agrees 0
+weight_agrees = optional_agrees (codes "transition_weight") whole_number (λ d. or_wrong_form (whole d)) whole_agrees 0
 
 module _ {O P Q R S T U V W : Type 0} where
   abbrev in_a_row : Result O FlatError → Result P FlatError → Result Q FlatError → Result R FlatError → Result S FlatError → Result T FlatError → Result U FlatError → Result V FlatError → Result W FlatError → Result (O × (P × (Q × (R × (S × (T × (U × (V × W)))))))) FlatError
@@ -148,7 +148,7 @@ module _ {F : Type 0} {order : ℕ} (modular : Modular F order) where
 
   -- ---- members
 
-  numbers_agree : (name : List ℕ) → Agrees (needed name (list_of (element modular))) (elements_member modular name)
+  numbers_agree : (name : List ℕ) → Agrees (needed_member name (list_of (element modular))) (elements_member modular name)
   unfolding elements_member
   numbers_agree name = needed_agrees name (list_of (element modular)) (elements modular) elements_agree
 
@@ -158,7 +158,7 @@ module _ {F : Type 0} {order : ℕ} (modular : Modular F order) where
       both_or_none_agrees (codes "preprocessed_width") (codes "preprocessed") whole_number (list_of (element modular)) _
       (both_agree _ (width_member (codes "preprocessed_width")) (width_agrees (codes "preprocessed_width")) _ (elements_member modular (codes "preprocessed")) (numbers_agree (codes "preprocessed")))
 
-  pub constraints_agree : Agrees (needed (codes "constraints") (list_of (constraint modular))) (constraints_member modular)
+  pub constraints_agree : Agrees (needed_member (codes "constraints") (list_of (constraint modular))) (constraints_member modular)
   unfolding constraints_member
   constraints_agree = needed_agrees (codes "constraints") (list_of (constraint modular)) (trees modular) trees_agree
 

@@ -7,7 +7,7 @@ ghost use Rattle.air_symbolic.specs.laws.BasePool.{base_pool_laws};
 ghost use Rattle.air_symbolic.specs.laws.ExtPool.{ext_pool_laws, base_lent, base_grown};
 ghost use Rattle.air_builder.specs.Assertion.{Base, Extension};
 ghost use Rattle.air_builder.specs.Batches.{Asserts};
-ghost use Rattle.air_builder.specs.Labels.{Labels, discarding};
+ghost use Rattle.air_builder.specs.Labels.{Labels, GrewWithoutLabels};
 ghost use Rattle.air_builder.specs.laws.NamedFilters.{discarding_laws};
 ghost use Rattle.air_recording.specs.laws.Recording.{recording_laws};
 ghost use Rattle.air_recording.specs.RecordedLists.{lists_of};
@@ -24,7 +24,7 @@ use air_symbolic::{BaseLeaf, ExprId, ExtLeaf};
 impl<F: Field, EF: ExtensionField<F>> PassthroughNamedAirBuilder for SymbolicAirBuilder<F, EF> {}
 
 impl<F: Field, EF: ExtensionField<F>> NamedAirBuilder for SymbolicAirBuilder<F, EF> {
-    ghost labelled = { discarding ⟦<SymbolicAirBuilder<F, EF> as AirBuilder>⟧.grew };
+    ghost labelled = { GrewWithoutLabels ⟦<SymbolicAirBuilder<F, EF> as AirBuilder>⟧.grew };
 
     ghost named_laws = { discarding_laws (recording_laws (base_pool_laws F.ring)
         (ext_pool_laws EF.ExtensionField.laws) (λ p. p.base)
@@ -43,7 +43,7 @@ impl<F: Field, EF: ExtensionField<F>> NamedAirBuilder for SymbolicAirBuilder<F, 
         ensures asserted { Asserts ⟦<SymbolicAirBuilder<F, EF> as View>⟧.view Base (λ t. t) self.old
             self.new (x ∷ []) result }
         ensures label { Labels ⟦<SymbolicAirBuilder<F, EF> as View>⟧.view
-            (discarding ⟦<SymbolicAirBuilder<F, EF> as AirBuilder>⟧.grew) Base (λ t. t)
+            (GrewWithoutLabels ⟦<SymbolicAirBuilder<F, EF> as AirBuilder>⟧.grew) Base (λ t. t)
             (λ i. N.displays name) self.old self.new (x ∷ []) result }
     {
         self.assert_zero_unlabelled(x, name)
@@ -61,7 +61,7 @@ impl<F: Field, EF: ExtensionField<F>> NamedExtensionBuilder for SymbolicAirBuild
         ensures asserted { Asserts ⟦<SymbolicAirBuilder<F, EF> as ViewOver>⟧.view Extension
             (λ t. t) self.old self.new (x ∷ []) result }
         ensures label { Labels ⟦<SymbolicAirBuilder<F, EF> as ViewOver>⟧.view
-            (discarding ⟦<SymbolicAirBuilder<F, EF> as AirBuilder>⟧.grew) Extension (λ t. t)
+            (GrewWithoutLabels ⟦<SymbolicAirBuilder<F, EF> as AirBuilder>⟧.grew) Extension (λ t. t)
             (λ i. N.displays _name) self.old self.new (x ∷ []) result }
     {
         self.assert_zero_ext(x)

@@ -44,7 +44,7 @@ pub trait SymLeaf: Copy + Eq + Ord + Debug {
         requires { (reads base.now).valid self.now }
         ensures { result ≡ degree_by cached_weight ((reads base.now).term self.now) };
 
-    /// The constant that the leaf is, for folding.
+    /// The constant that the leaf is, to simplify by.
     fn as_const(&self, base: &Self::Base) -> Option<Self::F>
         requires { (reads base.now).valid self.now }
         ensures { result ≡ (reads base.now).constant self.now };

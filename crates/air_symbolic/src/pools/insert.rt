@@ -1,4 +1,4 @@
-//! The calls that make a node as it is, without folding. Where one is refused the pool is as it was.
+//! The calls that make a node as it is, without simplification. Where one is refused the pool is as it was.
 ghost use Rattle.std.specs.Prelude.{◌≡◌, ℕ, ◌<◌, ◌≤◌, ◌+◌, ◌^◌, ◌↔◌, true, Some, MatchOption, IfOk, IfErr, OnErr, option_map};
 ghost use Rattle.std.specs.List.{slice_get};
 ghost use Rattle.air_field.specs.Degree.{degree_by, cached_weight};
@@ -99,7 +99,7 @@ impl<A: SymLeaf> ExprPool<A> {
         Ok(id)
     }
 
-    /// The sum, not folded.
+    /// The sum, not simplified.
     pub fn insert_add(&mut self, x: ExprId<A>, y: ExprId<A>) -> Result<ExprId<A>, RingError>
         requires owed { FitsBase A.reads self.old }
         requires x_in { x < size self.old }
@@ -119,7 +119,7 @@ impl<A: SymLeaf> ExprPool<A> {
         })
     }
 
-    /// The difference, not folded.
+    /// The difference, not simplified.
     pub fn insert_sub(&mut self, x: ExprId<A>, y: ExprId<A>) -> Result<ExprId<A>, RingError>
         requires owed { FitsBase A.reads self.old }
         requires x_in { x < size self.old }
@@ -139,7 +139,7 @@ impl<A: SymLeaf> ExprPool<A> {
         })
     }
 
-    /// The negative, not folded.
+    /// The negative, not simplified.
     pub fn insert_neg(&mut self, x: ExprId<A>) -> Result<ExprId<A>, RingError>
         requires owed { FitsBase A.reads self.old }
         requires x_in { x < size self.old }
@@ -154,7 +154,7 @@ impl<A: SymLeaf> ExprPool<A> {
         self.insert(SymbolicExpr::Neg { x, degree_multiple })
     }
 
-    /// The product, not folded. It is refused with `DegreeOverflow` exactly where the operands' degrees add past
+    /// The product, not simplified. It is refused with `DegreeOverflow` exactly where the operands' degrees add past
     /// `usize`.
     pub fn insert_mul(&mut self, x: ExprId<A>, y: ExprId<A>) -> Result<ExprId<A>, RingError>
         requires owed { FitsBase A.reads self.old }

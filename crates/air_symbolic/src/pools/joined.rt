@@ -1,10 +1,10 @@
-//! Folded sums and products of lists, from the left.
+//! Simplified sums and products of lists, from the left.
 ghost use Rattle.std.specs.Prelude.{◌≡◌, ◌<◌, map, All, IfOk, IfErr};
 ghost use Rattle.air_field.specs.Term.{add_term, mul_term};
 ghost use Rattle.air_field.specs.Same.{Simplifies};
 ghost use Rattle.air_field.specs.Joins.{join_terms};
 ghost use Rattle.air_symbolic.specs.Pools.{FitsBase, tree_at, term_at, Grown, size};
-ghost use Rattle.air_symbolic.specs.FoldedLists.{IsSumOfAll, IsProductOfAll, ProductOverflows};
+ghost use Rattle.air_symbolic.specs.SimplifiedLists.{IsSumOfAll, IsProductOfAll, ProductOverflows};
 
 use crate::leaves::sym_leaf::SymLeaf;
 use crate::pools::expr::ExprId;
@@ -12,7 +12,7 @@ use crate::pools::pool::ExprPool;
 use air_field::{Field, RingError};
 
 impl<A: SymLeaf> ExprPool<A> {
-    /// The sum, folded step by step from the left; of none, 0. It refuses for want of memory alone.
+    /// The sum, simplified step by step from the left; of none, 0. It refuses for want of memory alone.
     pub fn sum(&mut self, xs: &[ExprId<A>]) -> Result<ExprId<A>, RingError>
         requires owed { FitsBase A.reads self.old }
         requires all_in { All (λ x. x < size self.old) xs.now }
@@ -33,7 +33,7 @@ impl<A: SymLeaf> ExprPool<A> {
         Ok(total)
     }
 
-    /// The product, folded step by step from the left; of none, 1. It is refused with `DegreeOverflow` only where a
+    /// The product, simplified step by step from the left; of none, 1. It is refused with `DegreeOverflow` only where a
     /// step needs a node and the degrees add past `usize`, and always there unless memory is wanting before.
     pub fn product(&mut self, xs: &[ExprId<A>]) -> Result<ExprId<A>, RingError>
         requires owed { FitsBase A.reads self.old }

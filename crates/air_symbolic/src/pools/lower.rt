@@ -2,7 +2,7 @@
 ghost use Rattle.std.specs.Prelude.{◌≡◌, ◌≢◌, ◌<◌, [], ◌∷◌, slice_index_or, None, IfOk, IfErr, IfNone, MatchOption, ◌↔◌, true};
 ghost use Rattle.std.specs.Option.{IfSome};
 ghost use Rattle.air_symbolic.specs.ExtLeaves.{ext_reads, ext_grows};
-ghost use Rattle.air_symbolic.specs.ExtTrees.{HasExtOnly, lowered, IsLowered, HasTermOf};
+ghost use Rattle.air_symbolic.specs.ExtTrees.{HasExtOnly, lower, IsLowered, HasTermOf};
 ghost use Rattle.air_symbolic.specs.Lowered.{IsMarkedExtOnly, IsLoweredIn, IsLoweredNode, CanLower};
 ghost use Rattle.air_symbolic.specs.Pools.{IsPool, FitsBase, Grown, HasTree, tree_at, size};
 ghost use Rattle.air_symbolic.specs.Reach.{Reached};
@@ -76,7 +76,7 @@ impl<F: Field, EF: ExtensionField<F>> ExprPool<ExtLeaf<F, EF>> {
         requires ready { CanLower self.now table.now id }
         ensures node { IfOk result (IsLoweredNode self.now id) }
         ensures there { IfErr result (HasTree self.now.base
-            (lowered self.now.base (tree_at self.now id))) }
+            (lower self.now.base (tree_at self.now id))) }
     {
         match *self.node(id) {
             SymbolicExpr::Leaf(ExtLeaf::Base(b)) => Err(b),
@@ -126,7 +126,7 @@ impl<F: Field, EF: ExtensionField<F>> ExprPool<ExtLeaf<F, EF>> {
         ensures same_nodes { self.new.nodes ≡ self.old.nodes }
         ensures grown { Grown ext_grows (ext_reads EF.basis) self.old self.new }
         ensures made { IfOk result (HasTree self.new.base
-            (lowered self.old.base (tree_at self.old id))) }
+            (lower self.old.base (tree_at self.old id))) }
         ensures refused { IfErr result (λ e. e ≡ RingError.Memory) }
     {
         match self.over_base(id, table) {
@@ -174,7 +174,7 @@ impl<F: Field, EF: ExtensionField<F>> ExprPool<ExtLeaf<F, EF>> {
         ensures same_nodes { self.new.nodes ≡ self.old.nodes }
         ensures grown { Grown ext_grows (ext_reads EF.basis) self.old self.new }
         ensures made { IfOk result (HasTree self.new.base
-            (lowered self.old.base (tree_at self.old id))) }
+            (lower self.old.base (tree_at self.old id))) }
         ensures refused { IfErr result (λ e. e ≡ RingError.Memory) }
     {
         for mark in marks {
@@ -198,15 +198,15 @@ impl<F: Field, EF: ExtensionField<F>> ExprPool<ExtLeaf<F, EF>> {
         ensures same_nodes { self.new.nodes ≡ self.old.nodes }
         ensures grown { Grown ext_grows (ext_reads EF.basis) self.old self.new }
         ensures made { IfOk result (HasTree self.new.base
-            (lowered self.old.base (tree_at self.old id))) }
+            (lower self.old.base (tree_at self.old id))) }
         ensures refused { IfErr result (λ e. e ≡ RingError.Memory) }
     {
         let mut table = Vec::with_capacity(*self.nodes.allocator(), marks.len())?;
         self.lower_into(id, marks, &mut table)
     }
 
-    /// The base expression with the same tree, not folded, and so with the same term; None exactly where a leaf of the
-    /// extension alone occurs, and then the base pool is as it was. It refuses for want of memory alone.
+    /// The base expression with the same tree, not simplified, and so with the same term; None exactly where a leaf of
+    /// the extension alone occurs, and then the base pool is as it was. It refuses for want of memory alone.
     pub fn to_base(
         &mut self,
         id: ExprId<ExtLeaf<F, EF>>,

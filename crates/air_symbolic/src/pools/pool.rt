@@ -100,7 +100,7 @@ impl<A: SymLeaf> ExprPool<A> {
         }
     }
 
-    /// The constant that the expression is, for folding: only a leaf is one.
+    /// The constant that the expression is, to simplify by: only a leaf is one.
     pub fn as_const(&self, id: ExprId<A>) -> Option<A::F>
         requires owed { FitsBase A.reads self.now }
         requires here { id < size self.now }

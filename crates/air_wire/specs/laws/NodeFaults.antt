@@ -15,7 +15,7 @@ use Rattle.air_wire.specs.Results.{◌>>=◌}
 use Rattle.air_wire.specs.Spelling.{case_data}
 use Rattle.air_wire.specs.laws.Readings.{done, by_name, none_found, named, mapped, then_found, field_found, field_read, case_read, failed, err_is, before_done}
 use Rattle.air_wire.specs.Unshared.{degree}
-use Rattle.air_wire.specs.Nodes.{Kind, KindLaws, operand_of, operand, stated, operations, operands_of, joined_degree, joined_tree, operands_at, operation_or, leaf_node_at, node_with, node_of_value}
+use Rattle.air_wire.specs.Nodes.{Kind, KindLaws, operand_of, operand, check_degree, operations, operands_of, joined_degree, joined_tree, operands_at, operation_or, leaf_node_at, node_with, node_of_value}
 use Rattle.air_wire.specs.laws.Nodes.{operation_name, named_operation, places_found, places_read}
 use Rattle.air_wire.specs.NodeFaults.{Form, leaf_form, add_form, sub_form, mul_form, neg_form, SpellsForm, IsLate, IsTreeAt, IsMisstated, OperandsFault, SumFault, ProductFault, FormFault, NodeFault}
 
@@ -107,7 +107,7 @@ module _ {S F : Type 0} (kind : Kind S F) (laws : KindLaws kind) (before : List 
   both t u = (t, u)
 
   abbrev step : Operation → ℕ → Tree S → Tree S → Result (Tree S × Tree S) FlatError
-  step op n t u = joined_degree op (degree kind.term t) (degree kind.term u) >>= λ s. stated (length before) n s (both t u)
+  step op n t u = joined_degree op (degree kind.term t) (degree kind.term u) >>= λ s. check_degree (length before) n s (both t u)
 
   abbrev operands : Operation → ℕ × ℕ × ℕ → Result (Tree S × Tree S) FlatError
   operands op p = operand before p.1 >>= λ t. operand before p.2 >>= λ u. step op p.0 t u
@@ -139,7 +139,7 @@ module _ {S F : Type 0} (kind : Kind S F) (laws : KindLaws kind) (before : List 
 
   -- ---- faults
 
-  not_stated : {X : Type 0} (n found : ℕ) (t : X) (f : FlatError) → stated (length before) n found t ≡ Err f → IsMisstated before n found f
+  not_stated : {X : Type 0} (n found : ℕ) (t : X) (f : FlatError) → check_degree (length before) n found t ≡ Err f → IsMisstated before n found f
   not_stated n found t f e = go (eqb n found) refl e
     where
       go : (b : Bool) → eqb n found ≡ b → if b then Ok t else Err (faults.WrongDegree (length before) n found) ≡ Err f → IsMisstated before n found f
@@ -169,7 +169,7 @@ module _ {S F : Type 0} (kind : Kind S F) (laws : KindLaws kind) (before : List 
   product_fault : (n : ℕ) (t u : Tree S) (f : FlatError) → step Mul n t u ≡ Err f → ProductFault kind before n t u f
   product_fault n t u f e = go (ltb (degree kind.term t + degree kind.term u) (2 ^ 64)) refl e
     where
-      go : (b : Bool) → ltb (degree kind.term t + degree kind.term u) (2 ^ 64) ≡ b → ((if b then Ok (degree kind.term t + degree kind.term u) else Err faults.DegreeOverflow) >>= λ s. stated (length before) n s (both t u)) ≡ Err f → ProductFault kind before n t u f
+      go : (b : Bool) → ltb (degree kind.term t + degree kind.term u) (2 ^ 64) ≡ b → ((if b then Ok (degree kind.term t + degree kind.term u) else Err faults.DegreeOverflow) >>= λ s. check_degree (length before) n s (both t u)) ≡ Err f → ProductFault kind before n t u f
       go true is e = inr (ltb-true (degree kind.term t + degree kind.term u) (2 ^ 64) is, not_stated n (degree kind.term t + degree kind.term u) (both t u) f e)
       go false is e = inl (not_below (degree kind.term t + degree kind.term u) (2 ^ 64) is, sym (err_is faults.DegreeOverflow f e))
 
@@ -217,7 +217,7 @@ module _ {S F : Type 0} (kind : Kind S F) (laws : KindLaws kind) (before : List 
 
   -- ---- what has a fault isn't read
 
-  stated_wrong : {X : Type 0} (n found : ℕ) (t : X) (f : FlatError) → IsMisstated before n found f → stated (length before) n found t ≡ Err f
+  stated_wrong : {X : Type 0} (n found : ℕ) (t : X) (f : FlatError) → IsMisstated before n found f → check_degree (length before) n found t ≡ Err f
   stated_wrong n found t f h =
       ap (λ b. if b then Ok t else Err (faults.WrongDegree (length before) n found)) (test_of_unlike n found h.0) ∙ ap (λ g. failed g) (sym h.1)
 
@@ -243,10 +243,10 @@ module _ {S F : Type 0} (kind : Kind S F) (laws : KindLaws kind) (before : List 
 
   product_fails : (n : ℕ) (t u : Tree S) (f : FlatError) → ProductFault kind before n t u f → step Mul n t u ≡ Err f
   product_fails n t u f (inl (big, is)) =
-      ap (λ b. (if b then Ok (degree kind.term t + degree kind.term u) else Err faults.DegreeOverflow) >>= λ s. stated (length before) n s (both t u)) (le-ltb (degree kind.term t + degree kind.term u) (2 ^ 64) big)
+      ap (λ b. (if b then Ok (degree kind.term t + degree kind.term u) else Err faults.DegreeOverflow) >>= λ s. check_degree (length before) n s (both t u)) (le-ltb (degree kind.term t + degree kind.term u) (2 ^ 64) big)
       ∙ ap (λ g. failed g) (sym is)
   product_fails n t u f (inr (small, wrong)) =
-      ap (λ b. (if b then Ok (degree kind.term t + degree kind.term u) else Err faults.DegreeOverflow) >>= λ s. stated (length before) n s (both t u)) (lt-ltb (degree kind.term t + degree kind.term u) (2 ^ 64) small)
+      ap (λ b. (if b then Ok (degree kind.term t + degree kind.term u) else Err faults.DegreeOverflow) >>= λ s. check_degree (length before) n s (both t u)) (lt-ltb (degree kind.term t + degree kind.term u) (2 ^ 64) small)
       ∙ stated_wrong n (degree kind.term t + degree kind.term u) (both t u) f wrong
 
   negative_fails : (n x : ℕ) (f : FlatError) → FormFault kind before (neg_form n x) f → operands Neg (n, x, x) ≡ Err f

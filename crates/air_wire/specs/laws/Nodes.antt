@@ -10,7 +10,7 @@ use Rattle.air_wire.specs.Results.{◌>>=◌}
 use Rattle.air_wire.specs.Spelling.{case_data, HasWhole}
 use Rattle.air_wire.specs.laws.Readings.{three_found, name_found, field_found, field_read, done, done_is, not_done, bind_ok, bind_then, ok_or_found, test_ok, name_ok, case_read}
 use Rattle.air_wire.specs.Unshared.{degree}
-use Rattle.air_wire.specs.Nodes.{Kind, KindLaws, operand_of, operand, stated, operations, second_of, operands_of, joined_degree, joined_tree, operands_at, operation_or, node_with, node_of_value}
+use Rattle.air_wire.specs.Nodes.{Kind, KindLaws, operand_of, operand, check_degree, operations, second_of, operands_of, joined_degree, joined_tree, operands_at, operation_or, node_with, node_of_value}
 use Rattle.air_wire.specs.Parts.{find_name}
 use Rattle.air_wire.specs.declared.operations.Operation.{Operation}
 use Rattle.air_wire.specs.declared.operations.Operation.TheVariants.{Add, Sub, Mul, Neg}
@@ -52,7 +52,7 @@ operand_read : {S : Type 0} (before : List (Tree S)) (i : ℕ) (t : Tree S) → 
 unfolding operand
 operand_read before i t h = ap (operand_of (length before) i) h
 
-stated_found : {X : Type 0} (place d n : ℕ) (t u : X) → stated place d n t ≡ Ok u → (d ≡ n) × (t ≡ u)
+stated_found : {X : Type 0} (place d n : ℕ) (t u : X) → check_degree place d n t ≡ Ok u → (d ≡ n) × (t ≡ u)
 stated_found place d n t u e =
     test_ok (λ v. (d ≡ n) × (t ≡ v)) (eqb d n) (Ok t) (Err (faults.WrongDegree place d n)) u e
     (λ same e. done_is (λ v. (d ≡ n) × (t ≡ v)) t u e (eqb-true d n same, refl)) (not_done (λ v. (d ≡ n) × (t ≡ v)) (faults.WrongDegree place d n) u)
@@ -60,7 +60,7 @@ stated_found place d n t u e =
 same_number : (m n : ℕ) → m ≡ n → eqb m n ≡ true
 same_number m n h = search (rules, tests)
 
-stated_right : {X : Type 0} (place n : ℕ) (t : X) → stated place n n t ≡ Ok t
+stated_right : {X : Type 0} (place n : ℕ) (t : X) → check_degree place n n t ≡ Ok t
 stated_right place n t = ap (λ b. if b then Ok t else Err (faults.WrongDegree place n n)) (same_number n n refl)
 
 product_found : (a b n : ℕ) → joined_degree Mul a b ≡ Ok n → (a + b < 2 ^ 64) × (n ≡ a + b)
@@ -85,11 +85,11 @@ module _ {S F : Type 0} (kind : Kind S F) (before : List (Tree S)) where
   unfolding operands_at
   operands_found op c q e =
       bind_then (AreOperands op c q) (ok_or (operands_of op c) (faults.Shape (length before)))
-      (λ p. operand before p.1 >>= λ t. operand before p.2 >>= λ u. joined_degree op (degree kind.term t) (degree kind.term u) >>= λ n. stated (length before) p.0 n (t, u)) q e
+      (λ p. operand before p.1 >>= λ t. operand before p.2 >>= λ u. joined_degree op (degree kind.term t) (degree kind.term u) >>= λ n. check_degree (length before) p.0 n (t, u)) q e
       (λ p p_is e. bind_then (AreOperands op c q) (operand before p.1)
-      (λ t. operand before p.2 >>= λ u. joined_degree op (degree kind.term t) (degree kind.term u) >>= λ n. stated (length before) p.0 n (t, u)) q e
-      (λ t t_is e. bind_then (AreOperands op c q) (operand before p.2) (λ u. joined_degree op (degree kind.term t) (degree kind.term u) >>= λ n. stated (length before) p.0 n (t, u)) q e
-      (λ u u_is e. bind_then (AreOperands op c q) (joined_degree op (degree kind.term t) (degree kind.term u)) (λ n. stated (length before) p.0 n (t, u)) q e
+      (λ t. operand before p.2 >>= λ u. joined_degree op (degree kind.term t) (degree kind.term u) >>= λ n. check_degree (length before) p.0 n (t, u)) q e
+      (λ t t_is e. bind_then (AreOperands op c q) (operand before p.2) (λ u. joined_degree op (degree kind.term t) (degree kind.term u) >>= λ n. check_degree (length before) p.0 n (t, u)) q e
+      (λ u u_is e. bind_then (AreOperands op c q) (joined_degree op (degree kind.term t) (degree kind.term u)) (λ n. check_degree (length before) p.0 n (t, u)) q e
       (λ n n_is e.
       let s = stated_found (length before) p.0 n (t, u) q e in
       subst (AreOperands op c) {x = (t, u)} {y = q} s.1 (

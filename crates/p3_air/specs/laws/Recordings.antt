@@ -16,12 +16,12 @@ use Rattle.p3_air.specs.Theorem.{Instance, read_at, value_on, RecordsEach, recor
 use Rattle.p3_air.specs.declared.audit.Audit.{Audit}
 
 -- the recorded terms of both kinds at the places of the declared list
-abbrev pub placed : {F : Type 0} → List (Assertion F) → List (Term F) → List (Term F) → List (Assertion F)
-placed [] us vs = []
-placed (Base t ∷ ts) [] vs = []
-placed (Base t ∷ ts) (u ∷ us) vs = Base u ∷ placed ts us vs
-placed (Extension t ∷ ts) us [] = []
-placed (Extension t ∷ ts) us (v ∷ vs) = Extension v ∷ placed ts us vs
+abbrev pub at_places : {F : Type 0} → List (Assertion F) → List (Term F) → List (Term F) → List (Assertion F)
+at_places [] us vs = []
+at_places (Base t ∷ ts) [] vs = []
+at_places (Base t ∷ ts) (u ∷ us) vs = Base u ∷ at_places ts us vs
+at_places (Extension t ∷ ts) us [] = []
+at_places (Extension t ∷ ts) us (v ∷ vs) = Extension v ∷ at_places ts us vs
 
 module _ {F : Type 0} (r : CommRing F) where
   -- a constraint of the same kind, whose term records that of the declared one
@@ -34,7 +34,7 @@ module _ {F : Type 0} (r : CommRing F) where
   abbrev Records : Term F → ℕ × Term F → Type 0
   Records u c = RecordsTerm (itself r) u c.1
 
-  placed_records : (n : ℕ) (ts : List (Assertion F)) (us vs : List (Term F)) → AllZip Records us (base_constraints n ts) → AllZip Records vs (ext_constraints n ts) → AllZip RecordsConstraint (placed ts us vs) ts
+  placed_records : (n : ℕ) (ts : List (Assertion F)) (us vs : List (Term F)) → AllZip Records us (base_constraints n ts) → AllZip Records vs (ext_constraints n ts) → AllZip RecordsConstraint (at_places ts us vs) ts
   placed_records n [] us vs l m = tt
   placed_records n (Base t ∷ ts) [] vs l m = absurd l
   placed_records n (Base t ∷ ts) (u ∷ us) vs l m = (l.0, placed_records (n + 1) ts us vs l.1 m)
@@ -43,7 +43,7 @@ module _ {F : Type 0} (r : CommRing F) where
 
   -- at the places of the base kind stand the base terms, in order
   at_base_places : (at : ℕ → Option (Assertion F)) (n : ℕ) (ts : List (Assertion F)) (us vs : List (Term F)) → AllZip Records us (base_constraints n ts) → AllZip Records vs (ext_constraints n ts)
-      → ((k : ℕ) → at (n + k) ≡ slice_get (placed ts us vs) k) → map at (map (λ c. c.0) (base_constraints n ts)) ≡ map (λ u. Some (Base u)) us
+      → ((k : ℕ) → at (n + k) ≡ slice_get (at_places ts us vs) k) → map at (map (λ c. c.0) (base_constraints n ts)) ≡ map (λ u. Some (Base u)) us
   at_base_places at n [] [] vs l m h = refl
   at_base_places at n [] (u ∷ us) vs l m h = absurd l
   at_base_places at n (Base t ∷ ts) [] vs l m h = absurd l
@@ -54,7 +54,7 @@ module _ {F : Type 0} (r : CommRing F) where
 
   -- and at those of the extension kind the extension terms
   at_ext_places : (at : ℕ → Option (Assertion F)) (n : ℕ) (ts : List (Assertion F)) (us vs : List (Term F)) → AllZip Records us (base_constraints n ts) → AllZip Records vs (ext_constraints n ts)
-      → ((k : ℕ) → at (n + k) ≡ slice_get (placed ts us vs) k) → map at (map (λ c. c.0) (ext_constraints n ts)) ≡ map (λ v. Some (Extension v)) vs
+      → ((k : ℕ) → at (n + k) ≡ slice_get (at_places ts us vs) k) → map at (map (λ c. c.0) (ext_constraints n ts)) ≡ map (λ v. Some (Extension v)) vs
   at_ext_places at n [] us [] l m h = refl
   at_ext_places at n [] us (v ∷ vs) l m h = absurd m
   at_ext_places at n (Base t ∷ ts) [] vs l m h = absurd l
@@ -106,7 +106,7 @@ module _ {F : Type 0} (r : CommRing F) where
 module _ {F : Type 0} (r : CommRing F) (eq : F → F → Bool) (basis : Basis F F) (x : Instance F) (audit : Audit F) (h : RecordsEach r basis x.air audit) where
   -- the recorded constraints, place by place
   abbrev pub recorded_list : List (Assertion F)
-  recorded_list = placed x.air.constraints (recorded_base audit.recorded) (recorded_ext basis audit.recorded)
+  recorded_list = at_places x.air.constraints (recorded_base audit.recorded) (recorded_ext basis audit.recorded)
 
   -- each records the declared one at its place
   pub list_records : AllZip (RecordsConstraint r) recorded_list x.air.constraints

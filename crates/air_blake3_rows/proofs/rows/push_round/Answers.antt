@@ -1,7 +1,7 @@
 use Rattle.std.proofs.Common.{◌≡◌, ◌+◌, ◌++◌, ◌∙◌, ap, ap₂, append_assoc}
 use Rattle.std.specs.Prelude.{slice_index}
 use Rattle.blake3.specs.Compression.{columns_mixed, diagonals, from_diagonals, round}
-use Rattle.blake3.specs.Blocks.{taken}
+use Rattle.blake3.specs.Blocks.{word_of_round}
 use Rattle.air_blake3_rows.specs.Values.{columns_values, round_values}
 use Rattle.air_blake3_rows.proofs.rows.push_round.Goals as goal
 
@@ -9,7 +9,7 @@ pub returns-clause-next : goal.returns-clause-next
 unfolding round
 returns-clause-next g c =
     let v = c.args.v in
-    let n = taken c.args.message.now c.args.turn in
+    let n = word_of_round c.args.message.now c.args.turn in
     let columns : c.in_ok-columns.columns ≡ columns_mixed v n =
     c.in_ok-columns.ensures.mixed ∙ ap (λ m. columns_mixed v (slice_index m)) c.eight_words-low.ensures in
     let last : c.in_ok-last.last ≡ columns_mixed (diagonals (columns_mixed v n)) (λ i. n (8 + i)) =
@@ -21,7 +21,7 @@ unfolding round_values columns_values
 returns-clause-pushed g c =
     let R = g.F.Field.ring in
     let v = c.args.v in
-    let n = taken c.args.message.now c.args.turn in
+    let n = word_of_round c.args.message.now c.args.turn in
     let old = c.args.values.now.items in
     let columns : c.in_ok-columns.columns ≡ columns_mixed v n =
     c.in_ok-columns.ensures.mixed ∙ ap (λ m. columns_mixed v (slice_index m)) c.eight_words-low.ensures in

@@ -1,7 +1,7 @@
 use Rattle.std.proofs.Common.{◌≡◌, ◌+◌, ◌++◌, ◌∙◌, suc, refl, ap, arith}
 use Rattle.std.specs.Prelude.{slice_index}
 use Rattle.blake3.specs.Compression.{round, after_rounds}
-use Rattle.blake3.specs.Blocks.{taken}
+use Rattle.blake3.specs.Blocks.{word_of_round}
 use Rattle.air_blake3_rows.specs.Values.{round_values}
 use Rattle.air_blake3_rows.proofs.Pushes.{first_more, first_none}
 use Rattle.air_blake3_rows.proofs.rows.push_rounds.Goals as goal
@@ -10,7 +10,7 @@ pub loop-turn-init : goal.loop-turn-init
 unfolding after_rounds
 loop-turn-init g c = record {
   now = refl;
-  pushed = first_none (λ r. round_values g.F.Field.ring (after_rounds c.args.v (slice_index c.args.message.now) r) (taken c.args.message.now r)) c.args.values.now.items;
+  pushed = first_none (λ r. round_values g.F.Field.ring (after_rounds c.args.v (slice_index c.args.message.now) r) (word_of_round c.args.message.now r)) c.args.values.now.items;
 }
 
 pub loop-turn-preserved : goal.loop-turn-preserved
@@ -22,8 +22,8 @@ loop-turn-preserved g c =
     let t = c.loop-turn.turn in
     let s : suc t ≡ t + 1 = omega arith in
     record {
-      now = c.in_ok-state.ensures.next ∙ ap (λ x. round x (taken m t)) c.loop-turn.invariant.now ∙ ap (after_rounds v (slice_index m)) s;
+      now = c.in_ok-state.ensures.next ∙ ap (λ x. round x (word_of_round m t)) c.loop-turn.invariant.now ∙ ap (after_rounds v (slice_index m)) s;
       pushed = c.in_ok-state.ensures.pushed
-          ∙ ap (λ x. c.loop-turn.values.items ++ round_values R x (taken m t)) c.loop-turn.invariant.now
-          ∙ first_more (λ r. round_values R (after_rounds v (slice_index m) r) (taken m r)) c.args.values.now.items c.loop-turn.values.items t c.loop-turn.invariant.pushed;
+          ∙ ap (λ x. c.loop-turn.values.items ++ round_values R x (word_of_round m t)) c.loop-turn.invariant.now
+          ∙ first_more (λ r. round_values R (after_rounds v (slice_index m) r) (word_of_round m r)) c.args.values.now.items c.loop-turn.values.items t c.loop-turn.invariant.pushed;
     }

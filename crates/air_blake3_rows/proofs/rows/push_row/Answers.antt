@@ -3,7 +3,7 @@ use Rattle.std.specs.Prelude.{slice_index}
 use Rattle.air_field.specs.Ring.{CommRing}
 use Rattle.air_author.specs.Constraints.{asserts_of_first}
 use Rattle.blake3.specs.Compression.{Block, first_state, after_rounds, outputs}
-use Rattle.blake3.specs.Blocks.{taken, block_of}
+use Rattle.blake3.specs.Blocks.{word_of_round, block_of}
 use Rattle.blake3.specs.declared.words.State.{State}
 use Rattle.air_blake3_rows.specs.Values.{block_row, four_bits, input_values, output_values, round_values}
 use Rattle.air_blake3_rows.proofs.Pushes.{joined_4, on_any, on_ok}
@@ -11,7 +11,7 @@ use Rattle.air_blake3_rows.proofs.rows.push_row.Goals as goal
 
 -- the rounds' values, from a first state
 abbrev rounds_of : {F : Type 0} → CommRing F → List ℕ → State → List F
-rounds_of R message v = asserts_of_first (λ r. round_values R (after_rounds v (slice_index message) r) (taken message r)) 7
+rounds_of R message v = asserts_of_first (λ r. round_values R (after_rounds v (slice_index message) r) (word_of_round message r)) 7
 
 pub returns-clause-pushed : goal.returns-clause-pushed
 unfolding block_row

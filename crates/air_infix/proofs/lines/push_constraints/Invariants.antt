@@ -1,5 +1,5 @@
 use Rattle.std.proofs.Common.{◌≡◌, ◌++◌, string_bytes}
-use Rattle.air_infix.specs.Lines.{lines_text, numbered, constraint_line}
+use Rattle.air_infix.specs.Lines.{lines_text, number_lines, constraint_line}
 use Rattle.air_infix.proofs.LineLemmas.{lines_from}
 use Rattle.air_infix.proofs.lines.push_constraints.Given as goal
 
@@ -7,4 +7,4 @@ use Rattle.air_infix.proofs.lines.push_constraints.Given as goal
 abbrev pub invariant-loop-place : goal.invariant-loop-place
 invariant-loop-place g l =
     let line = constraint_line g.F.PrimeField64.residues l.pool l.names.1 in
-    string_bytes l.text ++ lines_from line l.place-counter l.roots ≡ string_bytes l.fn.text ++ lines_text (numbered line l.roots)
+    string_bytes l.text ++ lines_from line l.place-counter l.roots ≡ string_bytes l.fn.text ++ lines_text (number_lines line l.roots)

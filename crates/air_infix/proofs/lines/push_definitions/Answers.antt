@@ -1,6 +1,6 @@
 use Rattle.std.proofs.Common.{◌≡◌, ◌++◌, get_or, None, codes, decimal, string_bytes, ap, ◌∙◌}
 use Rattle.air_infix.specs.Infix.{shown_at, infix_text}
-use Rattle.air_infix.specs.Lines.{lines_text, numbered, definition_line}
+use Rattle.air_infix.specs.Lines.{lines_text, number_lines, definition_line}
 use Rattle.air_infix.specs.declared.binding.Binding.TheVariants.{Loose}
 use Rattle.air_infix.proofs.LineLemmas.{line-more, line-all, definition-pieces}
 use Rattle.air_infix.proofs.lines.push_definitions.Goals as goal
@@ -22,4 +22,4 @@ pub returns : goal.returns
 returns g c =
     let line = definition_line g.F.PrimeField64.residues c.args.pool.now c.args.names.now.1 in
     line-all line c.named-id-items.result.now c.loop-name.name-counter (string_bytes c.loop-name.text) _ c.loop-name-test.false c.loop-name.invariant
-    ∙ ap (λ xs. string_bytes c.args.text.now ++ lines_text (numbered line xs)) c.named-id-items.ensures
+    ∙ ap (λ xs. string_bytes c.args.text.now ++ lines_text (number_lines line xs)) c.named-id-items.ensures

@@ -1,5 +1,5 @@
 use Rattle.std.proofs.Common.{◌≡◌, ◌++◌, string_bytes}
-use Rattle.air_infix.specs.Lines.{lines_text, numbered, definition_line}
+use Rattle.air_infix.specs.Lines.{lines_text, number_lines, definition_line}
 use Rattle.air_infix.proofs.LineLemmas.{lines_from}
 use Rattle.air_infix.proofs.lines.push_definitions.Given as goal
 
@@ -7,4 +7,4 @@ use Rattle.air_infix.proofs.lines.push_definitions.Given as goal
 abbrev pub invariant-loop-name : goal.invariant-loop-name
 invariant-loop-name g l =
     let line = definition_line g.F.PrimeField64.residues l.pool l.names.1 in
-    string_bytes l.text ++ lines_from line l.name-counter l.id-items ≡ string_bytes l.fn.text ++ lines_text (numbered line l.id-items)
+    string_bytes l.text ++ lines_from line l.name-counter l.id-items ≡ string_bytes l.fn.text ++ lines_text (number_lines line l.id-items)

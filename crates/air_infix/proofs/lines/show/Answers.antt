@@ -1,7 +1,7 @@
 use Rattle.std.proofs.Common.{ℕ, ◌<◌, ◌++◌, List, length, All, codes, sym, ap, subst, ◌∙◌, arith}
 use Rattle.std.proofs.lemmas.Grind.{flat_map-append}
 use Rattle.air_infix.specs.Names.{is_named}
-use Rattle.air_infix.specs.Lines.{lines_text, numbered, definition_line, constraint_line}
+use Rattle.air_infix.specs.Lines.{lines_text, number_lines, definition_line, constraint_line}
 use Rattle.air_infix.proofs.NameLemmas.{passing-low}
 use Rattle.air_infix.proofs.lines.show.Goals as goal
 
@@ -18,8 +18,8 @@ pub returns : goal.returns
 returns g c =
     let m = g.F.PrimeField64.residues in
     let names = c.in_ok-names.names in
-    let definitions = numbered (definition_line m c.args.pool.now names.1) names.0 in
-    let constraints = numbered (constraint_line m c.args.pool.now names.1) c.args.roots.now in
+    let definitions = number_lines (definition_line m c.args.pool.now names.1) names.0 in
+    let constraints = number_lines (constraint_line m c.args.pool.now names.1) c.args.roots.now in
     record {
       names = names;
       are_names = c.in_ok-names.ensures;

@@ -1,6 +1,6 @@
 use Rattle.std.proofs.Common.{string_bytes, sym}
 use Rattle.std.proofs.lemmas.Result.{err_from_is_err_and}
-use Rattle.air_program.specs.Texts.{found}
+use Rattle.air_program.specs.Texts.{found_in}
 use Rattle.air_program.proofs.NamedAnswers.{gives_both}
 use Rattle.air_program.proofs.Traces.{answered, refused}
 use Rattle.air_program.proofs.answer.answer_trace.Goals as goal
@@ -16,5 +16,5 @@ pub returns : goal.returns
 returns c =
     let input = c.in-Ok.input in
     gives_both _ _ c.render.result
-    (λ p s t. answered c.args.cap c.args.transition_weight c.args.input.now input.public_values.items input.values.items (found c.in_ok-findings.findings) c.in-Ok.ensures.ok (rw (sym c.trace_of-main.ensures.trace, sym c.deref.ensures.value) c.in_ok-findings.ensures.found) p.0 (string_bytes p.1) s t)
+    (λ p s t. answered c.args.cap c.args.transition_weight c.args.input.now input.public_values.items input.values.items (found_in c.in_ok-findings.findings) c.in-Ok.ensures.ok (rw (sym c.trace_of-main.ensures.trace, sym c.deref.ensures.value) c.in_ok-findings.ensures.found) p.0 (string_bytes p.1) s t)
     c.render.ensures.status c.render.ensures.text c.render.ensures.refused

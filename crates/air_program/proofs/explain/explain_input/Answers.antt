@@ -7,7 +7,7 @@ use Rattle.p3_air.specs.Theorem.{Instance}
 use Rattle.air_program.specs.Answer.{AuditFinds, CappedAuditRefuses}
 use Rattle.air_program.specs.Explained.{IsExplainedText, trace_with}
 use Rattle.air_program.specs.FlatAnswer.{AuditRefusesInput, flat_instance}
-use Rattle.air_program.specs.Texts.{found}
+use Rattle.air_program.specs.Texts.{found_in}
 use Rattle.air_program.proofs.ExplainAnswers.{IsOf, same_instance, same_text}
 use Rattle.air_program.proofs.NamedAnswers.{if_both}
 use Rattle.air_program.proofs.explain.explain_input.Goals as goal
@@ -73,7 +73,7 @@ returns-clause-ok g c =
       cells_are = ap (λ (v : Vec BoundaryPublic Global). v.items) (tabled.cells ∙ made.cells);
       public_are = c.deref.ensures.value;
     } in
-    let f = found c.in_ok-findings.findings in
+    let f = found_in c.in_ok-findings.findings in
     let same = same_instance input air.pool air.roots.items air.width air.num_public_values air.preprocessed air.periodic.items air.cells.items public of in
     let finds : AuditFinds m (flat_instance input) input.cap input.transition_weight f =
     subst (λ (x : Instance _). AuditFinds m x input.cap input.transition_weight f) same c.in_ok-findings.ensures.found in

@@ -5,7 +5,7 @@ use Rattle.air_explain.specs.Rows.{trace_of}
 use Rattle.air_report.specs.FailureTexts.{seen_failure}
 use Rattle.air_report.specs.declared.debug.failure.ConstraintFailure.{ConstraintFailure}
 use Rattle.air_program.specs.Explained.{PushesExplained, PushesNames}
-use Rattle.air_program.specs.Texts.{count_lines, found}
+use Rattle.air_program.specs.Texts.{count_lines, found_in}
 use Rattle.air_infix.specs.Lines.{lines_text}
 use Rattle.air_program.proofs.ExplainedLemmas.{text_explained}
 use Rattle.air_program.proofs.explain.explained_text.Goals as goal
@@ -19,7 +19,7 @@ returns g c =
     let air = c.args.air.now in
     let trace = trace_of c.args.trace.now in
     let names = c.in_ok-names.names in
-    let f = found c.args.findings.now in
+    let f = found_in c.args.findings.now in
     let counts = string_bytes c.push_counts.new.text in
     let front = string_bytes c.push_names.new.text in
     let text = string_bytes c.push_failures.new.text in

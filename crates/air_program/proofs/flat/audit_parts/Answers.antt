@@ -2,7 +2,7 @@ use Rattle.std.proofs.Common.{inl, inr}
 use Rattle.std.proofs.lemmas.Result.{err_from_is_err_and}
 use Rattle.air_program.specs.ByField.{HasParts}
 use Rattle.air_program.specs.FlatAnswer.{TellsInput}
-use Rattle.air_program.specs.Texts.{found}
+use Rattle.air_program.specs.Texts.{found_in}
 use Rattle.air_program.proofs.FlatAnswers.{parts_refused}
 use Rattle.air_program.proofs.NamedAnswers.{gives_both}
 use Rattle.air_program.proofs.flat.audit_parts.Goals as goal
@@ -25,5 +25,5 @@ returns-in_err-findings g c =
 pub returns : goal.returns
 returns g c =
     gives_both _ _ c.render.result
-    (λ p s t. λ d h. inl (c.in_ok-input.input, c.in_ok-input.ensures.read d h, (found c.in_ok-findings.findings, c.in_ok-findings.ensures.found, s, t)))
+    (λ p s t. λ d h. inl (c.in_ok-input.input, c.in_ok-input.ensures.read d h, (found_in c.in_ok-findings.findings, c.in_ok-findings.ensures.found, s, t)))
     c.render.ensures.status c.render.ensures.text c.render.ensures.refused

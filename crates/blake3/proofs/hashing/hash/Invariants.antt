@@ -1,7 +1,7 @@
 use Rattle.std.proofs.Common.{◌≡◌}
-use Rattle.blake3.specs.Hashing.{chained}
+use Rattle.blake3.specs.Hashing.{chaining_value_after}
 use Rattle.blake3.proofs.hashing.hash.Given as goal
 
 -- the chaining value is that after so many blocks
 abbrev pub invariant-loop-block : goal.invariant-loop-block
-invariant-loop-block l = l.chaining ≡ chained l.message l.block
+invariant-loop-block l = l.chaining ≡ chaining_value_after l.message l.block

@@ -1,6 +1,6 @@
 use Rattle.std.proofs.Common.{◌<◌, ◌≤◌, ◌∙◌, All, Bor, List, ℕ, length, map, ap, arith, rules}
 use Rattle.cases.specs.Words.{IsNumber, SpellsNumber}
-use Rattle.cases.specs.Listed.{listed}
+use Rattle.cases.specs.Listed.{comma_parts}
 use Rattle.cases.proofs.Lists.{AllZip-more, AllZip-all, AllZip-read, All-read}
 use Rattle.cases.proofs.words.counts_of.Goals as goal
 
@@ -12,12 +12,12 @@ loop-part-preserved c =
 pub returns-in_err-count_of-clause-refused : goal.returns-in_err-count_of-clause-refused
 returns-in_err-count_of-clause-refused c =
     let parts = ap (λ (ps : List (Bor (List ℕ))). map (λ (p : Bor (List ℕ)). p.now) ps) c.deref-part-items.ensures.value ∙ c.in_ok-parts.ensures.parts in
-    let no = λ (all : All IsNumber (listed c.args.word.now)). c.in_err-count_of.ensures.number (All-read IsNumber (λ (p : Bor (List ℕ)). p.now) c.deref-part-items.result.now (listed c.args.word.now) c.loop-part.part-index _ parts (omega arith) all) in
+    let no = λ (all : All IsNumber (comma_parts c.args.word.now)). c.in_err-count_of.ensures.number (All-read IsNumber (λ (p : Bor (List ℕ)). p.now) c.deref-part-items.result.now (comma_parts c.args.word.now) c.loop-part.part-index _ parts (omega arith) all) in
     search (rules, no)
 
 pub returns-clause-counts : goal.returns-clause-counts
 returns-clause-counts c =
     let parts = ap (λ (ps : List (Bor (List ℕ))). map (λ (p : Bor (List ℕ)). p.now) ps) c.deref-part-items.ensures.value ∙ c.in_ok-parts.ensures.parts in
     let le : length c.deref-part-items.result.now ≤ c.loop-part.part-index = omega arith in
-    AllZip-read SpellsNumber (λ (p : Bor (List ℕ)). p.now) c.loop-part.all.items c.deref-part-items.result.now (listed c.args.word.now) parts
+    AllZip-read SpellsNumber (λ (p : Bor (List ℕ)). p.now) c.loop-part.all.items c.deref-part-items.result.now (comma_parts c.args.word.now) parts
     (AllZip-all (λ n (w : Bor (List ℕ)). SpellsNumber n w.now) c.loop-part.all.items c.deref-part-items.result.now c.loop-part.part-index le c.loop-part.invariant)

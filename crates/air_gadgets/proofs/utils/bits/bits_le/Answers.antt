@@ -2,7 +2,7 @@ use Rattle.std.proofs.Common.{◌≡◌, ◌∙◌, ◌-◌, ◌<◌, ◌≤◌,
 use Rattle.std.proofs.Math.Seq.{take-suc-set}
 use Rattle.std.proofs.lemmas.List.{take_all}
 use Rattle.air_field.specs.Ring.{image}
-use Rattle.air_gadgets.specs.Bits.{digits_of, packed}
+use Rattle.air_gadgets.specs.Bits.{digits_of, binary_sum}
 use Rattle.air_gadgets.specs.laws.Bits.{digit_taken, packed-digits}
 use Rattle.air_gadgets.proofs.utils.bits.bits_le.Goals as goal
 
@@ -27,4 +27,4 @@ returns-clause-bits g c =
 
 pub returns-clause-packed : goal.returns-clause-packed
 returns-clause-packed g c =
-    λ below. ap (packed g.F.Field.ring) (returns-clause-bits g c) ∙ packed-digits g.F.Field.ring g.row.N c.args.val below
+    λ below. ap (binary_sum g.F.Field.ring) (returns-clause-bits g c) ∙ packed-digits g.F.Field.ring g.row.N c.args.val below

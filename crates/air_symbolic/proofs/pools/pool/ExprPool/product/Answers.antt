@@ -2,8 +2,8 @@ use Rattle.std.proofs.Common.{length, ◌-◌, drop, take, arith}
 use Rattle.std.proofs.lemmas.List.{drop_all}
 use Rattle.std.proofs.lemmas.Result.{err_from_is_err_and}
 use Rattle.air_symbolic.specs.laws.Pools.{Grown-trans}
-use Rattle.air_symbolic.proofs.FoldedLists.{left-is, product_begun, product_taken, overflow_taken, overflow_told, product_ended, drop_item, next_in}
-use Rattle.air_symbolic.proofs.FoldedTerms.{IsProductOfAll-simplifies}
+use Rattle.air_symbolic.proofs.SimplifiedLists.{left-is, product_begun, product_taken, overflow_taken, overflow_told, product_ended, drop_item, next_in}
+use Rattle.air_symbolic.proofs.SimplifiedTerms.{IsProductOfAll-simplifies}
 use Rattle.air_symbolic.proofs.pools.pool.ExprPool.product.Goals as goal
 
 pub loop-x-init : goal.loop-x-init

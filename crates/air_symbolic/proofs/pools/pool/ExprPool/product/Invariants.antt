@@ -1,5 +1,5 @@
 use Rattle.std.proofs.Common.{drop}
-use Rattle.air_symbolic.proofs.FoldedLists.{IsMultiplying}
+use Rattle.air_symbolic.proofs.SimplifiedLists.{IsMultiplying}
 use Rattle.air_symbolic.proofs.pools.pool.ExprPool.product.Given as goal
 
 abbrev pub invariant-loop-x : goal.invariant-loop-x

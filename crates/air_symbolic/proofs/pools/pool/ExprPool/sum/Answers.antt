@@ -1,8 +1,8 @@
 use Rattle.std.proofs.Common.{length, ◌-◌, drop, take, arith}
 use Rattle.std.proofs.lemmas.List.{drop_all}
 use Rattle.air_symbolic.specs.laws.Pools.{Grown-trans}
-use Rattle.air_symbolic.proofs.FoldedLists.{left-is, sum_begun, sum_taken, sum_ended, drop_item, next_in}
-use Rattle.air_symbolic.proofs.FoldedTerms.{IsSumOfAll-simplifies}
+use Rattle.air_symbolic.proofs.SimplifiedLists.{left-is, sum_begun, sum_taken, sum_ended, drop_item, next_in}
+use Rattle.air_symbolic.proofs.SimplifiedTerms.{IsSumOfAll-simplifies}
 use Rattle.air_symbolic.proofs.pools.pool.ExprPool.sum.Goals as goal
 
 pub loop-x-init : goal.loop-x-init

@@ -1,7 +1,7 @@
 use Rattle.std.proofs.Common.{drop, map}
 use Rattle.air_symbolic.specs.Pools.{tree_at}
-use Rattle.air_symbolic.specs.FoldedLists.{IsJoined, SumStep}
-use Rattle.air_symbolic.proofs.FoldedLists.{IsJoining, SumRest}
+use Rattle.air_symbolic.specs.SimplifiedLists.{IsJoined, SumStep}
+use Rattle.air_symbolic.proofs.SimplifiedLists.{IsJoining, SumRest}
 use Rattle.air_symbolic.proofs.pools.pool.ExprPool.sum.Given as goal
 
 abbrev pub invariant-loop-x : goal.invariant-loop-x

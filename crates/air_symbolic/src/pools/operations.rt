@@ -1,15 +1,15 @@
-//! The folded operations: the first case of the folding table that fits, else a node.
+//! The simplified operations: the first case of the table of simplification that fits, else a node.
 ghost use Rattle.std.specs.Prelude.{◌≡◌, ◌<◌, ◌≤◌, ◌+◌, ◌^◌, ◌↔◌, IfOk, IfErr};
 ghost use Rattle.air_field.specs.Term.{add_term, sub_term, neg_term, mul_term};
 ghost use Rattle.air_field.specs.Degree.{degree_by, cached_weight};
 ghost use Rattle.air_field.specs.Same.{Simplifies};
 ghost use Rattle.air_symbolic.specs.Pools.{FitsBase, tree_at, term_at, Grown, HasConst, size};
-ghost use Rattle.air_symbolic.specs.Folds.{HasFold, IsSum, IsDifference, IsNegative, IsProduct, NeedsNode};
+ghost use Rattle.air_symbolic.specs.Simplification.{HasSimplified, IsSum, IsDifference, IsNegative, IsProduct, NeedsNode};
 
 use crate::leaves::sym_leaf::SymLeaf;
 use crate::pools::expr::ExprId;
-use crate::pools::fold::{Fold, fold_of_difference, fold_of_product, fold_of_sum};
 use crate::pools::pool::ExprPool;
+use crate::pools::simplify::{Simplified, simplify_difference, simplify_product, simplify_sum};
 use air_field::{Field, RingError};
 
 impl<A: SymLeaf> ExprPool<A> {
@@ -34,10 +34,10 @@ impl<A: SymLeaf> ExprPool<A> {
         self.constant(A::F::ZERO)
     }
 
-    // What an operation on x and y folds to.
-    fn folded(
+    // What an operation on x and y simplifies to.
+    fn simplified_to(
         &mut self,
-        fold: Fold<A::F>,
+        simplified: Simplified<A::F>,
         x: ExprId<A>,
         y: ExprId<A>,
     ) -> Result<ExprId<A>, RingError>
@@ -45,19 +45,19 @@ impl<A: SymLeaf> ExprPool<A> {
         requires x_in { x < size self.old }
         requires y_in { y < size self.old }
         ensures grown { Grown A.grows A.reads self.old self.new }
-        ensures made { IfOk result (HasFold A.reads self.new (tree_at self.old x)
-            (tree_at self.old y) fold) }
+        ensures made { IfOk result (HasSimplified A.reads self.new (tree_at self.old x)
+            (tree_at self.old y) simplified) }
         ensures refused { IfErr result (λ e. e ≡ RingError.Memory) }
     {
-        match fold {
-            Fold::Constant(c) => self.constant(c),
-            Fold::Left => Ok(x),
-            Fold::Right => Ok(y),
-            Fold::Negated => self.insert_neg(y),
+        match simplified {
+            Simplified::Constant(c) => self.constant(c),
+            Simplified::Left => Ok(x),
+            Simplified::Right => Ok(y),
+            Simplified::Negated => self.insert_neg(y),
         }
     }
 
-    /// The sum, folded.
+    /// The sum, simplified.
     pub fn add(&mut self, x: ExprId<A>, y: ExprId<A>) -> Result<ExprId<A>, RingError>
         requires owed { FitsBase A.reads self.old }
         requires x_in { x < size self.old }
@@ -69,13 +69,13 @@ impl<A: SymLeaf> ExprPool<A> {
         ensures refused { IfErr result (λ e. e ≡ RingError.Memory) }
     {
         self.nodes_fit();
-        match fold_of_sum(self.as_const(x), self.as_const(y)) {
-            Some(fold) => self.folded(fold, x, y),
+        match simplify_sum(self.as_const(x), self.as_const(y)) {
+            Some(simplified) => self.simplified_to(simplified, x, y),
             None => self.insert_add(x, y),
         }
     }
 
-    /// The difference, folded.
+    /// The difference, simplified.
     pub fn sub(&mut self, x: ExprId<A>, y: ExprId<A>) -> Result<ExprId<A>, RingError>
         requires owed { FitsBase A.reads self.old }
         requires x_in { x < size self.old }
@@ -87,13 +87,13 @@ impl<A: SymLeaf> ExprPool<A> {
         ensures refused { IfErr result (λ e. e ≡ RingError.Memory) }
     {
         self.nodes_fit();
-        match fold_of_difference(self.as_const(x), self.as_const(y)) {
-            Some(fold) => self.folded(fold, x, y),
+        match simplify_difference(self.as_const(x), self.as_const(y)) {
+            Some(simplified) => self.simplified_to(simplified, x, y),
             None => self.insert_sub(x, y),
         }
     }
 
-    /// The negative, folded.
+    /// The negative, simplified.
     pub fn neg(&mut self, x: ExprId<A>) -> Result<ExprId<A>, RingError>
         requires owed { FitsBase A.reads self.old }
         requires x_in { x < size self.old }
@@ -110,7 +110,7 @@ impl<A: SymLeaf> ExprPool<A> {
         }
     }
 
-    /// The product, folded. It is refused with `DegreeOverflow` exactly where a node is needed and the operands'
+    /// The product, simplified. It is refused with `DegreeOverflow` exactly where a node is needed and the operands'
     /// degrees add past `usize`.
     pub fn mul(&mut self, x: ExprId<A>, y: ExprId<A>) -> Result<ExprId<A>, RingError>
         requires owed { FitsBase A.reads self.old }
@@ -126,8 +126,8 @@ impl<A: SymLeaf> ExprPool<A> {
             cached_weight (term_at A.reads self.old y))) }
     {
         self.nodes_fit();
-        match fold_of_product(self.as_const(x), self.as_const(y)) {
-            Some(fold) => self.folded(fold, x, y),
+        match simplify_product(self.as_const(x), self.as_const(y)) {
+            Some(simplified) => self.simplified_to(simplified, x, y),
             None => self.insert_mul(x, y),
         }
     }

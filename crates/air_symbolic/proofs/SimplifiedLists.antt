@@ -1,4 +1,4 @@
--- The folded sum or product of a list, step by step.
+-- The simplified sum or product of a list, step by step.
 use Rattle.std.proofs.Common.{◌≡◌, ℕ, suc, ◌+◌, ◌<◌, ◌≤◌, ◌^◌, Bool, List, [], ◌∷◌, All, length, map, refl, sym, ap, ap₂, subst, ◌∙◌, arith, inl, inr, drop, get_or, drop-cons, add-one, ◌-◌, take}
 use Rattle.std.proofs.lemmas.List.{take_rest}
 use Rattle.std.specs.Prelude.{Option, Some, None}
@@ -9,12 +9,12 @@ use Rattle.air_symbolic.specs.Trees.{Tree, leaf_tree, add_tree, sub_tree, neg_tr
 use Rattle.air_symbolic.specs.Pools.{Pool, IsPool, Grown, tree_at, term_at, constant_at, IsConst}
 use Rattle.air_symbolic.specs.laws.Pools.{Grown-refl, Grown-trans, here-kept, tree-kept}
 use Rattle.air_symbolic.specs.laws.Numbers.{tree_of-valid, term_of-kept}
-use Rattle.air_symbolic.specs.Folds.{IsSimplified, sum_fold, product_fold, IsSum, IsProduct, NeedsNode}
-use Rattle.air_symbolic.specs.FoldedLists.{JoinedFrom, IsJoined, SumStep, ProductStep, Overflows, OverflowsFrom, ProductOverflows, IsSumOfAll, IsProductOfAll}
-use Rattle.air_symbolic.specs.declared.pools.fold.Fold.{Fold}
-use Rattle.air_symbolic.specs.declared.pools.fold.Fold.TheVariants.{Constant, Left, Right, Negated}
+use Rattle.air_symbolic.specs.Simplification.{IsSimplified, simplified_sum, simplified_product, IsSum, IsProduct, NeedsNode}
+use Rattle.air_symbolic.specs.SimplifiedLists.{JoinedFrom, IsJoined, SumStep, ProductStep, Overflows, OverflowsFrom, ProductOverflows, IsSumOfAll, IsProductOfAll}
+use Rattle.air_symbolic.specs.declared.pools.simplify.Simplified.{Simplified}
+use Rattle.air_symbolic.specs.declared.pools.simplify.Simplified.TheVariants.{Constant, Left, Right, Negated}
 
--- What folding says stays while what lies under grows.
+-- What is simplified stays so while what lies under grows.
 module _ {A F : Type 0} (l m : Leaves A F) (k : Keeps l m) where
   pub tree_constant-kept : (t : Option (Tree A)) → IsValidTree l.valid t → tree_constant m.constant t ≡ tree_constant l.constant t
   tree_constant-kept None h = refl
@@ -29,12 +29,12 @@ module _ {A F : Type 0} (l m : Leaves A F) (k : Keeps l m) where
       let a : A = h.0 in
       (a, h.1, record { valid = k.valid a h.2.valid; constant = k.constant a h.2.valid ∙ h.2.constant; term = k.term a h.2.valid ∙ h.2.term })
 
-  pub IsFolded-kept : (t u node v : Option (Tree A)) (f : Option (Fold F)) → IsSimplified l t u node f v → IsSimplified m t u node f v
-  IsFolded-kept t u unfolded v (Some (Constant c)) h = IsConst-kept c v h
-  IsFolded-kept t u unfolded v (Some Left) h = h
-  IsFolded-kept t u unfolded v (Some Right) h = h
-  IsFolded-kept t u unfolded v (Some Negated) h = h
-  IsFolded-kept t u unfolded v None h = h
+  pub IsSimplified-kept : (t u node v : Option (Tree A)) (f : Option (Simplified F)) → IsSimplified l t u node f v → IsSimplified m t u node f v
+  IsSimplified-kept t u plain v (Some (Constant c)) h = IsConst-kept c v h
+  IsSimplified-kept t u plain v (Some Left) h = h
+  IsSimplified-kept t u plain v (Some Right) h = h
+  IsSimplified-kept t u plain v (Some Negated) h = h
+  IsSimplified-kept t u plain v None h = h
 
 Keeps-trans : {A F : Type 0} (l m n : Leaves A F) → Keeps l m → Keeps m n → Keeps l n
 Keeps-trans l m n h k = record {
@@ -87,27 +87,27 @@ module _ {U A F : Type 0} (r : CommRing F) (eq : F → F → Bool) (reads : U �
     pub sum-later : (z : ℕ) → IsSum reads r eq s q x y z → SumStep r eq (reads u) (tree_at s x) (tree_at s y) (tree_at q z)
     sum-later z h =
         subst (λ f. IsSimplified (reads u) (tree_at s x) (tree_at s y) (both add_tree (tree_at s x) (tree_at s y)) f (tree_at q z))
-        (sym (ap₂ (sum_fold r eq) (constant-later x b) (constant-later y c)))
-        (IsFolded-kept (reads q.base) (reads u) (laws.keeps q.base u later) (tree_at s x) (tree_at s y) (both add_tree (tree_at s x) (tree_at s y)) (tree_at q z) _ h.tree)
+        (sym (ap₂ (simplified_sum r eq) (constant-later x b) (constant-later y c)))
+        (IsSimplified-kept (reads q.base) (reads u) (laws.keeps q.base u later) (tree_at s x) (tree_at s y) (both add_tree (tree_at s x) (tree_at s y)) (tree_at q z) _ h.tree)
 
-    fold-later : product_fold r eq (tree_constant (reads u).constant (tree_at s x)) (tree_constant (reads u).constant (tree_at s y)) ≡ product_fold r eq (constant_at reads s x) (constant_at reads s y)
-    fold-later = ap₂ (product_fold r eq) (constant-later x b) (constant-later y c)
+    simplified-later : simplified_product r eq (tree_constant (reads u).constant (tree_at s x)) (tree_constant (reads u).constant (tree_at s y)) ≡ simplified_product r eq (constant_at reads s x) (constant_at reads s y)
+    simplified-later = ap₂ (simplified_product r eq) (constant-later x b) (constant-later y c)
 
     degrees-later : degree_by cached_weight (term_of (reads u).term (tree_at s x)) + degree_by cached_weight (term_of (reads u).term (tree_at s y)) ≡ degree_by cached_weight (term_at reads s x) + degree_by cached_weight (term_at reads s y)
     degrees-later = ap₂ (λ t v. degree_by cached_weight t + degree_by cached_weight v) (term-later x b) (term-later y c)
 
     pub overflows-later : NeedsNode reads r eq s x y → 2 ^ 64 ≤ degree_by cached_weight (term_at reads s x) + degree_by cached_weight (term_at reads s y) → Overflows r eq (reads u) (tree_at s x) (tree_at s y)
-    overflows-later h k = (fold-later ∙ h, omega (arith, degrees-later))
+    overflows-later h k = (simplified-later ∙ h, omega (arith, degrees-later))
 
     pub overflows-before : Overflows r eq (reads u) (tree_at s x) (tree_at s y) → NeedsNode reads r eq s x y × (2 ^ 64 ≤ degree_by cached_weight (term_at reads s x) + degree_by cached_weight (term_at reads s y))
-    overflows-before h = (sym fold-later ∙ h.0, omega (arith, degrees-later, h.1))
+    overflows-before h = (sym simplified-later ∙ h.0, omega (arith, degrees-later, h.1))
 
     pub product-later : (z : ℕ) → (NeedsNode reads r eq s x y × (2 ^ 64 ≤ degree_by cached_weight (term_at reads s x) + degree_by cached_weight (term_at reads s y)) → ⊥) → IsProduct reads r eq s q x y z → ProductStep r eq (reads u) (tree_at s x) (tree_at s y) (tree_at q z)
     product-later z n h = (
       λ o. n (overflows-before o),
       subst (λ f. IsSimplified (reads u) (tree_at s x) (tree_at s y) (both mul_tree (tree_at s x) (tree_at s y)) f (tree_at q z))
-          (sym fold-later)
-          (IsFolded-kept (reads q.base) (reads u) (laws.keeps q.base u later) (tree_at s x) (tree_at s y) (both mul_tree (tree_at s x) (tree_at s y)) (tree_at q z) _ h.tree),
+          (sym simplified-later)
+          (IsSimplified-kept (reads q.base) (reads u) (laws.keeps q.base u later) (tree_at s x) (tree_at s y) (both mul_tree (tree_at s x) (tree_at s y)) (tree_at q z) _ h.tree),
     )
 
   -- joining begins with the first element

@@ -1,4 +1,4 @@
--- The folded sum or product of a list stands for the sum or product of its terms.
+-- The simplified sum or product of a list stands for the sum or product of its terms.
 use Rattle.std.proofs.Common.{◌≡◌, ℕ, suc, ◌<◌, Bool, Decides, List, [], ◌∷◌, All, length, map, refl, sym, ap, ap₂, subst, ◌∙◌, arith}
 use Rattle.std.specs.Prelude.{Option, Some, None}
 use Rattle.air_field.specs.Ring.{CommRing}
@@ -11,23 +11,23 @@ use Rattle.air_symbolic.specs.Trees.{Tree, add_tree, mul_tree, both, term_of, Is
 use Rattle.air_symbolic.specs.Pools.{Pool, IsPool, Grown, tree_at, term_at}
 use Rattle.air_symbolic.specs.laws.Pools.{here-kept, tree-kept}
 use Rattle.air_symbolic.specs.laws.Numbers.{tree_of-valid, term_of-kept, both-valid, negative-valid}
-use Rattle.air_symbolic.specs.Folds.{IsSimplified}
-use Rattle.air_symbolic.specs.FoldedLists.{JoinedFrom, IsJoined, SumStep, ProductStep, IsSumOfAll, IsProductOfAll}
-use Rattle.air_symbolic.proofs.Folding.{operation-simplifies, sum, product}
-use Rattle.air_symbolic.specs.declared.pools.fold.Fold.{Fold}
-use Rattle.air_symbolic.specs.declared.pools.fold.Fold.TheVariants.{Constant, Left, Right, Negated}
+use Rattle.air_symbolic.specs.Simplification.{IsSimplified}
+use Rattle.air_symbolic.specs.SimplifiedLists.{JoinedFrom, IsJoined, SumStep, ProductStep, IsSumOfAll, IsProductOfAll}
+use Rattle.air_symbolic.proofs.Simplifying.{operation-simplifies, sum, product}
+use Rattle.air_symbolic.specs.declared.pools.simplify.Simplified.{Simplified}
+use Rattle.air_symbolic.specs.declared.pools.simplify.Simplified.TheVariants.{Constant, Left, Right, Negated}
 
 abbrev TreesValid : {A : Type 0} → (A → Type 0) → List (Option (Tree A)) → Type 0
 TreesValid valid [] = Unit {0}
 TreesValid valid (t ∷ ts) = IsValidTree valid t × TreesValid valid ts
 
--- what folding answers is valid
-IsFolded-valid : {A F : Type 0} (l : Leaves A F) (t u node v : Option (Tree A)) (f : Option (Fold F)) → IsValidTree l.valid t → IsValidTree l.valid u → IsValidTree l.valid node → IsSimplified l t u node f v → IsValidTree l.valid v
-IsFolded-valid l t u unfolded v (Some (Constant c)) ht hu hn h = subst (IsValidTree l.valid) (sym h.1) h.2.valid
-IsFolded-valid l t u unfolded v (Some Left) ht hu hn h = subst (IsValidTree l.valid) (sym h) ht
-IsFolded-valid l t u unfolded v (Some Right) ht hu hn h = subst (IsValidTree l.valid) (sym h) hu
-IsFolded-valid l t u unfolded v (Some Negated) ht hu hn h = subst (IsValidTree l.valid) (sym h) (negative-valid l.valid u hu)
-IsFolded-valid l t u unfolded v None ht hu hn h = subst (IsValidTree l.valid) (sym h) hn
+-- what is simplified is valid
+IsSimplified-valid : {A F : Type 0} (l : Leaves A F) (t u node v : Option (Tree A)) (f : Option (Simplified F)) → IsValidTree l.valid t → IsValidTree l.valid u → IsValidTree l.valid node → IsSimplified l t u node f v → IsValidTree l.valid v
+IsSimplified-valid l t u plain v (Some (Constant c)) ht hu hn h = subst (IsValidTree l.valid) (sym h.1) h.2.valid
+IsSimplified-valid l t u plain v (Some Left) ht hu hn h = subst (IsValidTree l.valid) (sym h) ht
+IsSimplified-valid l t u plain v (Some Right) ht hu hn h = subst (IsValidTree l.valid) (sym h) hu
+IsSimplified-valid l t u plain v (Some Negated) ht hu hn h = subst (IsValidTree l.valid) (sym h) (negative-valid l.valid u hu)
+IsSimplified-valid l t u plain v None ht hu hn h = subst (IsValidTree l.valid) (sym h) hn
 
 module _ {A F : Type 0} (r : CommRing F) (l : Leaves A F) (op : Term F → Term F → Term F) (step : Option (Tree A) → Option (Tree A) → Option (Tree A) → Type 0)
     (congruent : (t u v w : Term F) → Simplifies r t v → Simplifies r u w → Simplifies r (op t u) (op v w))
@@ -72,7 +72,7 @@ module _ {U A F : Type 0} (r : CommRing F) (eq : F → F → Bool) (decides : (x
       subst (λ ts. Simplifies r (term_at reads q z) (join_terms add_term r.zero ts)) (terms-kept xs h)
       (joined-simplifies r (reads q.base) add_term (SumStep r eq (reads q.base)) (Simplifies-add r)
       (λ t u v ht hu s. operation-simplifies r (reads q.base) (reads q.base) (laws.constant_is q.base) (laws.keeps q.base q.base (laws.same q.base)) (sum decides (reads q.base)) t u ht hu v s)
-      (λ t u v ht hu s. IsFolded-valid (reads q.base) t u (both add_tree t u) v _ ht hu (both-valid (reads q.base).valid add_tree (λ _ _ h k. (h, k)) t u ht hu) s)
+      (λ t u v ht hu s. IsSimplified-valid (reads q.base) t u (both add_tree t u) v _ ht hu (both-valid (reads q.base).valid add_tree (λ _ _ h k. (h, k)) t u ht hu) s)
       r.zero (map (tree_at p) xs) (tree_at q z) (trees-valid xs h) m.tree)
 
   pub IsProductOfAll-simplifies : (xs : List ℕ) → All (λ i. i < length p.nodes) xs → (z : ℕ) → IsProductOfAll reads r eq p q xs z → Simplifies r (term_at reads q z) (join_terms mul_term r.one (map (term_at reads p) xs))
@@ -80,5 +80,5 @@ module _ {U A F : Type 0} (r : CommRing F) (eq : F → F → Bool) (decides : (x
       subst (λ ts. Simplifies r (term_at reads q z) (join_terms mul_term r.one ts)) (terms-kept xs h)
       (joined-simplifies r (reads q.base) mul_term (ProductStep r eq (reads q.base)) (Simplifies-mul r)
       (λ t u v ht hu s. operation-simplifies r (reads q.base) (reads q.base) (laws.constant_is q.base) (laws.keeps q.base q.base (laws.same q.base)) (product decides (reads q.base)) t u ht hu v s.1)
-      (λ t u v ht hu s. IsFolded-valid (reads q.base) t u (both mul_tree t u) v _ ht hu (both-valid (reads q.base).valid mul_tree (λ _ _ h k. (h, k)) t u ht hu) s.1)
+      (λ t u v ht hu s. IsSimplified-valid (reads q.base) t u (both mul_tree t u) v _ ht hu (both-valid (reads q.base).valid mul_tree (λ _ _ h k. (h, k)) t u ht hu) s.1)
       r.one (map (tree_at p) xs) (tree_at q z) (trees-valid xs h) m.tree)
