@@ -11,8 +11,8 @@ returns-in_err-x g c =
     rw (p.1, p.2)
     (evaluates _ (making_refused g.met.AB.AirBuilder.laws _ _ _ _ _ (omega arith) (inl (in_mul_right (in_sub_right whole))) c.in_err-x.ensures))
 
-pub next_is-requires-clause-held : goal.next_is-requires-clause-held
-next_is-requires-clause-held g c = made_lasts g.met.AB.Ring.Algebra.laws g.met.AB.AirBuilder.laws _ _ _ _ c.in_ok-x.ensures
+pub next_is-requires-clause-usable : goal.next_is-requires-clause-usable
+next_is-requires-clause-usable g c = made_lasts g.met.AB.Ring.Algebra.laws g.met.AB.AirBuilder.laws _ _ _ _ c.in_ok-x.ensures
 
 pub returns : goal.returns
 returns g c = evaluates _ (made_then g.met.AB.AirBuilder.laws _ _ _ _ _ _ _ c.in_ok-x.ensures c.next_is.ensures)

@@ -19,8 +19,8 @@ loop-constraint-preserved g c =
     let h = each_more g.met.AB.AirBuilder.laws (λ x. g.C.Constraint.asserts x (g.K.Condition.under c.args.condition.now) (g.K.Condition.ext_under c.args.condition.now)) c.args.builder.now c.loop-constraint.builder c.assert_under.new.builder c.in_ok-assert_under.field-0 c.args.self.now.0.now c.loop-constraint.constraint-index c.constraint-item.result lt c.constraint-item.is c.loop-constraint.invariant.asserted c.in_ok-assert_under.ensures in
     record { keeps = h.keeps; asserted = h }
 
-pub assert_under-requires-clause-held : goal.assert_under-requires-clause-held
-assert_under-requires-clause-held g c =
+pub assert_under-requires-clause-usable : goal.assert_under-requires-clause-usable
+assert_under-requires-clause-usable g c =
     let lt : c.loop-constraint.constraint-index < length c.args.self.now.0.now = omega arith in
     λ b k.
     let h = c.requires.usable b (g.met.AB.AirBuilder.laws.kept_joined _ _ _ c.loop-constraint.invariant.keeps k) in

@@ -7,7 +7,7 @@ returns g c = asserted_then g.met.AB.AirBuilder.laws _ _ _ _ c.assert_four.resul
 pub returns-in_err-assert_under : goal.returns-in_err-assert_under
 returns-in_err-assert_under g c = beginning_gives_up g.met.AB.AirBuilder.laws _ c.from_residual.ensures.1 c.in_err-assert_under.ensures
 
-pub assert_four-requires-clause-held : goal.assert_four-requires-clause-held
-assert_four-requires-clause-held g c = λ b k.
+pub assert_four-requires-clause-usable : goal.assert_four-requires-clause-usable
+assert_four-requires-clause-usable g c = λ b k.
     let h = c.requires.usable b (g.met.AB.AirBuilder.laws.kept_joined _ _ _ c.in_ok-assert_under.ensures.keeps k) in
     (h.0.1, h.1)
