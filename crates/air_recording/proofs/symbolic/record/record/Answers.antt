@@ -29,7 +29,7 @@ returns-clause-base g c =
     let all : numbers ≡ grew.more_base = grew.base ∙ ap (λ l. l.base ++ grew.more_base) c.in_ok-builder.ensures.none in
     let means : AllZip (PoolMeans base_reads r pool.base) numbers (base_terms ts) = subst (λ l. AllZip (PoolMeans base_reads r pool.base) l (base_terms ts)) (sym all) grew.each_base in
     record {
-      well_formed = (grew.keeps.pool.pool c.in_ok-builder.ensures.ready.pool).under;
+      well_formed = (grew.keeps.pool.pool c.in_ok-builder.ensures.ready.pool).base;
       means = means;
       terms = each_records r base_reads pool.base (itself r) (itself_laws r) numbers (base_terms ts) means;
       in_extension = each_records r base_reads pool.base g.EF.ExtensionField.over g.met.EF.ExtensionField.over_laws numbers (base_terms ts) means;
