@@ -7,8 +7,8 @@ use Rattle.p3_air.specs.Plans.{number_at, IsPlaceOf, StepMakes}
 use Rattle.p3_air.proofs.Making.{place_made, at_lasts, both_last, sum_term, difference_term, negative_term, product_term, main_term, sum_before, difference_before, negative_before, product_before}
 use Rattle.p3_air.proofs.flat.nodes.make_step.Goals as goal
 
-pub make-requires-in-Add-clause-held : goal.make-requires-in-Add-clause-held
-make-requires-in-Add-clause-held g c =
+pub make-requires-in-Add-clause-usable : goal.make-requires-in-Add-clause-usable
+make-requires-in-Add-clause-usable g c =
     let ns = c.args.pool.now.nodes in
     let numbers = c.args.numbers.now in
     let k = c.args.place in
@@ -18,8 +18,8 @@ make-requires-in-Add-clause-held g c =
     let b = sum_before base_leaves ns numbers k c.in-Add.x c.in-Add.y f.0 m in
     both_last g.met.AB.Ring.Algebra.laws g.met.AB.AirBuilder.laws c.args.table.now c.in-Add.x c.in-Add.y (term (number_at numbers c.in-Add.x)) (term (number_at numbers c.in-Add.y)) c.args.builder.now (c.requires.table c.in-Add.x b.0) (c.requires.table c.in-Add.y b.1)
 
-pub make-requires-in-Sub-clause-held : goal.make-requires-in-Sub-clause-held
-make-requires-in-Sub-clause-held g c =
+pub make-requires-in-Sub-clause-usable : goal.make-requires-in-Sub-clause-usable
+make-requires-in-Sub-clause-usable g c =
     let ns = c.args.pool.now.nodes in
     let numbers = c.args.numbers.now in
     let k = c.args.place in
@@ -29,8 +29,8 @@ make-requires-in-Sub-clause-held g c =
     let b = difference_before base_leaves ns numbers k c.in-Sub.x c.in-Sub.y f.0 m in
     both_last g.met.AB.Ring.Algebra.laws g.met.AB.AirBuilder.laws c.args.table.now c.in-Sub.x c.in-Sub.y (term (number_at numbers c.in-Sub.x)) (term (number_at numbers c.in-Sub.y)) c.args.builder.now (c.requires.table c.in-Sub.x b.0) (c.requires.table c.in-Sub.y b.1)
 
-pub make-requires-in-Neg-clause-held : goal.make-requires-in-Neg-clause-held
-make-requires-in-Neg-clause-held g c =
+pub make-requires-in-Neg-clause-usable : goal.make-requires-in-Neg-clause-usable
+make-requires-in-Neg-clause-usable g c =
     let ns = c.args.pool.now.nodes in
     let numbers = c.args.numbers.now in
     let k = c.args.place in
@@ -40,8 +40,8 @@ make-requires-in-Neg-clause-held g c =
     let b = negative_before base_leaves ns numbers k c.in-Neg.x f.0 m in
     at_lasts g.met.AB.Ring.Algebra.laws g.met.AB.AirBuilder.laws c.args.table.now c.in-Neg.x (term (number_at numbers c.in-Neg.x)) c.args.builder.now (c.requires.table c.in-Neg.x b)
 
-pub make-requires-in-Mul-clause-held : goal.make-requires-in-Mul-clause-held
-make-requires-in-Mul-clause-held g c =
+pub make-requires-in-Mul-clause-usable : goal.make-requires-in-Mul-clause-usable
+make-requires-in-Mul-clause-usable g c =
     let ns = c.args.pool.now.nodes in
     let numbers = c.args.numbers.now in
     let k = c.args.place in
@@ -51,8 +51,8 @@ make-requires-in-Mul-clause-held g c =
     let b = product_before base_leaves ns numbers k c.in-Mul.x c.in-Mul.y f.0 m in
     both_last g.met.AB.Ring.Algebra.laws g.met.AB.AirBuilder.laws c.args.table.now c.in-Mul.x c.in-Mul.y (term (number_at numbers c.in-Mul.x)) (term (number_at numbers c.in-Mul.y)) c.args.builder.now (c.requires.table c.in-Mul.x b.0) (c.requires.table c.in-Mul.y b.1)
 
-pub make-requires-in-Gate-clause-held : goal.make-requires-in-Gate-clause-held
-make-requires-in-Gate-clause-held g c =
+pub make-requires-in-Gate-clause-usable : goal.make-requires-in-Gate-clause-usable
+make-requires-in-Gate-clause-usable g c =
     let ns = c.args.pool.now.nodes in
     let numbers = c.args.numbers.now in
     let k = c.args.place in
