@@ -352,7 +352,7 @@ STD = {
 }
 RING = {
     "one": 1,
-    "nil": 0,
+    "zero": 0,
     "add": lambda a: lambda b: (a + b) % ORDER,
     "mul": lambda a: lambda b: a * b % ORDER,
     "neg": lambda a: -a % ORDER,
