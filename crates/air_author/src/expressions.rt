@@ -72,7 +72,7 @@ impl<'a, AB: ExtensionBuilder, X: ExtExpression<AB>> ExtExpression<AB> for &'a X
 
 /// What a ring answered, as its builder answers it.
 #[inline(always)]
-pub fn answered<E: Copy>(answer: Result<E, RingError>) -> AirResult<E>
+pub fn to_air_result<E: Copy>(answer: Result<E, RingError>) -> AirResult<E>
     ensures { result ≡ air_result answer }
 {
     match answer {
@@ -83,7 +83,7 @@ pub fn answered<E: Copy>(answer: Result<E, RingError>) -> AirResult<E>
 
 /// The entry, or the refusal that names it.
 #[inline(always)]
-pub(crate) fn present<T: Copy>(found: Option<T>, missing: AirError) -> AirResult<T>
+pub(crate) fn entry_or<T: Copy>(found: Option<T>, missing: AirError) -> AirResult<T>
     ensures ok { IfOk result (λ x. found ≡ Some x) }
     ensures err { IfErr result (λ e. (found ≡ None) × (e ≡ missing)) }
 {

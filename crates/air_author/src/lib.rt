@@ -52,7 +52,7 @@ pub use expressions::permutation::{
 };
 pub use expressions::power::Power;
 pub use expressions::selectors::{FirstRow, LastRow, Transition};
-pub use expressions::{Expression, ExtExpression, answered};
+pub use expressions::{Expression, ExtExpression, to_air_result};
 pub use moved::{MovableConstraints, Moved};
 pub use operators::E;
 pub use operators::leaves::{

@@ -15,7 +15,7 @@ fn cap_of(round: usize) -> Option<usize> {
 }
 
 // How many failures a check finds, and how many constraints a row has.
-fn checked<'a, F: Field + 'static, A: Air<DebugConstraintBuilder<'a, F, F>>>(
+fn counts_of_check<'a, F: Field + 'static, A: Air<DebugConstraintBuilder<'a, F, F>>>(
     alloc: Global,
     air: &'a A,
     main: &'a RowMajorMatrix<F>,
@@ -37,7 +37,7 @@ fn check_rounds<'a, F: Field + 'static, A: Air<DebugConstraintBuilder<'a, F, F>>
     let mut failures = 0usize;
     let mut constraints = 0usize;
     for round in 0..rounds {
-        let (found, in_row) = checked(alloc, air, main, public, cap_of(round))?;
+        let (found, in_row) = counts_of_check(alloc, air, main, public, cap_of(round))?;
         failures = failures.wrapping_add(found);
         constraints = constraints.wrapping_add(in_row);
     }

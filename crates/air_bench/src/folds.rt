@@ -34,7 +34,7 @@ fn folder_at<'a, F: Field + 'static, EF: ExtensionField<F> + 'static>(
 }
 
 // The constraints that one fold folds.
-fn folded<
+fn count_folded<
     'a,
     F: Field + 'static,
     EF: ExtensionField<F> + 'static,
@@ -56,7 +56,7 @@ pub fn fold_rounds<
     let alpha = EF::from_base(F::from_u64(7));
     let mut count = 0usize;
     for _ in 0..rounds {
-        count = count.wrapping_add(folded::<F, EF, A>(alloc, air, row, alpha)?);
+        count = count.wrapping_add(count_folded::<F, EF, A>(alloc, air, row, alpha)?);
     }
     Ok(count)
 }

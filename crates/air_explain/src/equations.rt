@@ -4,7 +4,7 @@ ghost use Rattle.air_symbolic.specs.Pools.{size};
 ghost use Rattle.air_infix.specs.Lines.{lines_text};
 ghost use Rattle.air_explain.specs.Equations.{equation, equation_lines};
 
-use crate::values::known;
+use crate::values::value;
 use air_field::PrimeField64;
 use air_infix::{Names, push_constant, push_infix};
 use air_symbolic::{BaseLeaf, ExprId, ExprPool};
@@ -26,7 +26,7 @@ pub(crate) fn push_equation<F: PrimeField64>(
 {
     push_infix(alloc, text, pool, names, id)?;
     text.push_str(" = ")?;
-    push_constant(text, known(values, id.number()))
+    push_constant(text, value(values, id.number()))
 }
 
 // Adds what stands before an equation of a line.

@@ -59,7 +59,7 @@ pub fn push_reached_definitions<F: PrimeField64>(
     ensures { OnOk result (string_bytes text.new ≡ string_bytes text.old ++ lines_text
         (reached_definitions F.residues pool.now names.now marks.now)) }
 {
-    for (name, id) in names.named().iter().enumerate() {
+    for (name, id) in names.named_expressions().iter().enumerate() {
         push_name(alloc, text, pool, names, marks, name, *id)?;
     }
     Ok(())

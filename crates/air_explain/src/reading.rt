@@ -5,7 +5,7 @@ ghost use Rattle.air_explain.specs.Values.{AreClosed};
 ghost use Rattle.air_explain.specs.Reading.{is_variable, is_read, read_below, Reads};
 
 use air_field::Field;
-use air_symbolic::{BaseLeaf, ExprId, ExprPool, SymbolicExpr, SymbolicExpression, reached};
+use air_symbolic::{BaseLeaf, ExprId, ExprPool, SymbolicExpr, SymbolicExpression, reached_nodes};
 use std::alloc::{AllocError, Global};
 
 // Whether a node is a column, a periodic column or a public value.
@@ -65,7 +65,7 @@ pub fn reads<F: Field>(
     requires here { root < size pool.now }
     ensures { IfOk result (λ numbers. Reads pool.now.nodes root numbers.items) }
 {
-    let Ok(marks) = reached(alloc, pool, &[root]) else {
+    let Ok(marks) = reached_nodes(alloc, pool, &[root]) else {
         return Err(AllocError);
     };
     marked_reads(alloc, pool, &marks)

@@ -13,7 +13,7 @@ use air_symbolic::{BaseLeaf, ExprId, ExprPool, SymbolicExpr, SymbolicExpression}
 use std::alloc::{AllocError, Global};
 
 /// The value of a number that is known.
-pub(crate) fn known<F: Field>(values: &[F], number: usize) -> F
+pub(crate) fn value<F: Field>(values: &[F], number: usize) -> F
     requires { number < length values.now }
     ensures { result ≡ slice_index_or values.now number F.ring.zero }
 {
@@ -34,10 +34,10 @@ fn node_value<F: Field>(
 {
     match node {
         SymbolicExpr::Leaf(leaf) => leaf_value(trace, row, leaf),
-        SymbolicExpr::Add { x, y, .. } => known(values, x.number()).add(known(values, y.number())),
-        SymbolicExpr::Sub { x, y, .. } => known(values, x.number()).sub(known(values, y.number())),
-        SymbolicExpr::Neg { x, .. } => known(values, x.number()).neg(),
-        SymbolicExpr::Mul { x, y, .. } => known(values, x.number()).mul(known(values, y.number())),
+        SymbolicExpr::Add { x, y, .. } => value(values, x.number()).add(value(values, y.number())),
+        SymbolicExpr::Sub { x, y, .. } => value(values, x.number()).sub(value(values, y.number())),
+        SymbolicExpr::Neg { x, .. } => value(values, x.number()).neg(),
+        SymbolicExpr::Mul { x, y, .. } => value(values, x.number()).mul(value(values, y.number())),
     }
 }
 

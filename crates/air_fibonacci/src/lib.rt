@@ -13,7 +13,7 @@ use p3_air::{Air, AirError, BaseAir, BoundaryPublic, NamedAirBuilder, RowMajorMa
 /// The Fibonacci AIR. The first row holds public values 0 and 1, each further row the second number of the one before
 /// it and the sum of both, and the last row's second number is public value 2.
 ///
-/// Its assertions have labels where it is made by `named`; they change no value and no place.
+/// Its assertions have labels where it is made by `with_labels`; they change no value and no place.
 #[derive(Clone, Copy, Debug)]
 pub struct Fibonacci {
     /// Whether its assertions have labels.
@@ -29,7 +29,7 @@ impl Fibonacci {
     }
 
     /// The AIR whose assertions have labels.
-    pub fn named() -> Self
+    pub fn with_labels() -> Self
         ensures { result.is_named ≡ true }
     {
         Fibonacci { is_named: true }

@@ -21,7 +21,7 @@ pub fn push_definitions<F: PrimeField64>(
         ++ lines_text (number_lines (definition_line F.residues pool.now names.now.1)
         names.now.0)) }
 {
-    for (name, id) in names.named().iter().enumerate() {
+    for (name, id) in names.named_expressions().iter().enumerate() {
         write!(text, "%{name} = ")?;
         push_definition(alloc, text, pool, names, *id)?;
         text.push_str("\n")?;

@@ -31,7 +31,7 @@ impl<A: SymLeaf> Names<A> {
     }
 
     /// The expressions that have a name, in order.
-    pub fn named(&self) -> &[ExprId<A>]
+    pub fn named_expressions(&self) -> &[ExprId<A>]
         ensures { result.now ≡ self.now.0 }
     {
         &self.named

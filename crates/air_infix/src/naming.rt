@@ -7,7 +7,7 @@ ghost use Rattle.air_infix.specs.Counts.{passes, AreMarks};
 
 use crate::counts::{Places, count_places};
 use crate::names::Names;
-use air_symbolic::{ExprId, ExprPool, SymLeaf, SymbolicExpr, reached};
+use air_symbolic::{ExprId, ExprPool, SymLeaf, SymbolicExpr, reached_nodes};
 use std::alloc::{AllocError, Global};
 
 // Whether a node has operands.
@@ -97,7 +97,7 @@ impl<A: SymLeaf> Names<A> {
         ensures { IfOk result
             (AreNames (A.reads pool.now.base) pool.now.nodes roots.now) }
     {
-        let Ok(marks) = reached(alloc, pool, roots) else {
+        let Ok(marks) = reached_nodes(alloc, pool, roots) else {
             return Err(AllocError);
         };
         let counts = count_places(alloc, pool, roots, &marks)?;

@@ -51,7 +51,7 @@ pub(crate) fn missing_elements<F: PrimeField64>() -> Elements<F>
 }
 
 // The elements, and that of the value, or its fault.
-fn pushed<F: PrimeField64>(mut before: Vec<F>, item: &Value) -> Elements<F>
+fn push_element<F: PrimeField64>(mut before: Vec<F>, item: &Value) -> Elements<F>
     ensures { AreElements (read_one_more (element_at F.residues 0) (Ok before.items)
         (view item.now)) result }
 {
@@ -66,7 +66,7 @@ pub(crate) fn with_element<F: PrimeField64>(before: Elements<F>, item: &Value) -
         → AreElements (read_one_more (element_at F.residues 0) given (view item.now)) result }
 {
     match before {
-        Ok(before) => pushed(before, item),
+        Ok(before) => push_element(before, item),
         Err(fault) => Err(fault),
     }
 }

@@ -14,7 +14,7 @@ use crate::constraints::{BasePool, Constraints, Roots};
 use crate::elements::{Elements, columns_from, elements_from};
 use air_core::BoundaryPublic;
 use air_field::{Field, PrimeField64};
-use air_wire::{FlatError, whole};
+use air_wire::{FlatError, whole_number};
 use serde_json::Value;
 use std::alloc::Global;
 
@@ -40,7 +40,7 @@ pub struct Members<F: Field> {
     pub transition_weight: usize,
 }
 
-fn needed<'a>(value: &'a Value, name: &str) -> Result<&'a Value, FlatError>
+fn needed_member<'a>(value: &'a Value, name: &str) -> Result<&'a Value, FlatError>
     ensures { Gives (λ v. view v.now) result (ok_or (get name.now (view value.now)) (Shape 0)) }
 {
     value.get(name).ok_or(FlatError::Shape { at: 0 })
@@ -50,8 +50,8 @@ fn needed<'a>(value: &'a Value, name: &str) -> Result<&'a Value, FlatError>
 fn width_at(value: &Value, name: &str) -> Result<usize, FlatError>
     ensures { Gives (λ n. n) result (width_member name.now (view value.now)) }
 {
-    let width = needed(value, name)?;
-    whole(width).ok_or(FlatError::Shape { at: 0 })
+    let width = needed_member(value, name)?;
+    whole_number(width).ok_or(FlatError::Shape { at: 0 })
 }
 
 /// The elements of the member of this name.
@@ -60,7 +60,7 @@ pub(crate) fn elements_at<F: PrimeField64>(alloc: Global, value: &Value, name: &
     ensures { Gives (λ v. v.items) result
         (elements_member F.residues name.now (view value.now)) }
 {
-    elements_from(alloc, needed(value, name)?)
+    elements_from(alloc, needed_member(value, name)?)
 }
 
 #[tactic(auto, unfolding(crate::specs::Readers::table_member))]
@@ -106,7 +106,7 @@ fn cap_in(value: &Value) -> Option<Option<usize>>
     if value.is_null() {
         return Some(None);
     }
-    let cap = whole(value)?;
+    let cap = whole_number(value)?;
     Some(Some(cap))
 }
 
@@ -125,7 +125,7 @@ fn weight_from(value: &Value) -> Result<usize, FlatError>
     ensures { Gives (λ n. n) result (weight_member (view value.now)) }
 {
     match value.get("transition_weight") {
-        Some(weight) => whole(weight).ok_or(FlatError::Shape { at: 0 }),
+        Some(weight) => whole_number(weight).ok_or(FlatError::Shape { at: 0 }),
         None => Ok(0),
     }
 }

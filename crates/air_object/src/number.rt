@@ -13,22 +13,22 @@ fn has_minus(bytes: &[u8]) -> bool
     !bytes.is_empty() && bytes[0] == b'-'
 }
 
-fn nearest(negative: bool, numeral: &Numeral<'_>) -> Option<Number>
+fn nearest_number(negative: bool, numeral: &Numeral<'_>) -> Option<Number>
     ensures { option_map number_view result ≡ float_of negative numeral.now }
 {
     Number::from_f64(numeral.to_float::<f64>(negative))
 }
 
-fn unsigned(numeral: &Numeral<'_>) -> Option<Number>
+fn unsigned_number(numeral: &Numeral<'_>) -> Option<Number>
     ensures { option_map number_view result ≡ number_from false numeral.now }
 {
     match numeral.to_u64() {
         Some(number) => Some(Number::from(number)),
-        None => nearest(false, numeral),
+        None => nearest_number(false, numeral),
     }
 }
 
-fn negative(numeral: &Numeral<'_>) -> Option<Number>
+fn negative_number(numeral: &Numeral<'_>) -> Option<Number>
     ensures { option_map number_view result ≡ number_from true numeral.now }
 {
     if let Some(number) = numeral.to_i64(true) {
@@ -36,7 +36,7 @@ fn negative(numeral: &Numeral<'_>) -> Option<Number>
             return Some(Number::from(number));
         }
     }
-    nearest(true, numeral)
+    nearest_number(true, numeral)
 }
 
 /// The number that a token writes, where a JSON value may hold it.
@@ -45,8 +45,8 @@ pub fn number_of(text: &str) -> Option<Number>
 {
     let bytes = text.as_bytes();
     if has_minus(bytes) {
-        negative(&Numeral::scan(&bytes[1..]))
+        negative_number(&Numeral::scan(&bytes[1..]))
     } else {
-        unsigned(&Numeral::scan(bytes))
+        unsigned_number(&Numeral::scan(bytes))
     }
 }

@@ -18,7 +18,7 @@ use crate::constraints::{
 };
 use crate::elements::{Elements, elements_from, missing_elements, no_elements, with_element};
 use crate::members::elements_at;
-use crate::text::{Beginning, TextFault, begun, read, read_from};
+use crate::text::{Beginning, TextFault, read, read_beginning, read_from};
 use air_field::{Field, PrimeField64};
 use air_wire::ListReader;
 use json::{Reader, Scratch, Token};
@@ -84,7 +84,7 @@ fn read_elements<F: PrimeField64>(
     ensures shorter { OnOk result (length reader.new < length reader.old) }
     ensures err { result ≡ Err TextFault.Json → value_at depth reader.old ≡ None }
 {
-    match begun(alloc, reader, depth)? {
+    match read_beginning(alloc, reader, depth)? {
         Beginning::Array(inside) => read_items(alloc, reader, inside),
         Beginning::Other(other) => Ok(elements_from(alloc, &other)),
     }
@@ -124,7 +124,7 @@ fn read_root<F: PrimeField64>(
     ensures shorter { OnOk result (length reader.new < length reader.old) }
     ensures err { result ≡ Err TextFault.Json → value_at depth reader.old ≡ None }
 {
-    match begun(alloc, reader, depth)? {
+    match read_beginning(alloc, reader, depth)? {
         Beginning::Array(inside) => read_nodes(alloc, reader, inside, pool),
         Beginning::Other(other) => Ok(root_from(alloc, pool, &other)),
     }
@@ -182,7 +182,7 @@ fn read_constraints<F: PrimeField64>(
     ensures shorter { OnOk result (length reader.new < length reader.old) }
     ensures err { result ≡ Err TextFault.Json → value_at depth reader.old ≡ None }
 {
-    match begun(alloc, reader, depth)? {
+    match read_beginning(alloc, reader, depth)? {
         Beginning::Array(inside) => read_lists(alloc, reader, inside),
         Beginning::Other(other) => Ok(constraints_listed(alloc, &other)),
     }

@@ -57,7 +57,11 @@ pub enum Beginning {
 }
 
 /// What begins where the reader stands.
-pub fn begun(alloc: Global, reader: &mut Reader<'_>, depth: usize) -> Result<Beginning, TextFault>
+pub fn read_beginning(
+    alloc: Global,
+    reader: &mut Reader<'_>,
+    depth: usize,
+) -> Result<Beginning, TextFault>
     ensures ok { IfOk result (IsBegun depth reader.old reader.new) }
     ensures shorter { OnOk result (length reader.new < length reader.old) }
     ensures err { result ≡ Err TextFault.Json → value_at depth reader.old ≡ None }

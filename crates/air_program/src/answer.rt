@@ -40,7 +40,7 @@ fn air_of(command: Command) -> Fibonacci
 {
     match command {
         Command::Fibonacci => Fibonacci::new(),
-        Command::Named => Fibonacci::named(),
+        Command::Named => Fibonacci::with_labels(),
     }
 }
 

@@ -29,7 +29,7 @@ use air_explain::{
 use air_field::{PrimeField64, RowMajorMatrix};
 use air_infix::Names;
 use air_object::{BaseId, BasePool, FlatInput, Parts, input_from};
-use air_symbolic::{BaseLeaf, reached};
+use air_symbolic::{BaseLeaf, reached_nodes};
 use p3_air::{ConstraintFailure, FlatAir};
 use std::alloc::{AllocError, Global};
 
@@ -150,7 +150,7 @@ fn push_failures<F: PrimeField64>(
         air.now.cells.items (trace_of trace.now) names.now.1 (map seen_failure failures.now)
         (string_bytes text.old) (string_bytes text.new)) }
 {
-    let Ok(marks) = reached(alloc, &air.pool, &air.roots) else {
+    let Ok(marks) = reached_nodes(alloc, &air.pool, &air.roots) else {
         return Err(AllocError);
     };
     let mut at_hand = None;
@@ -173,7 +173,7 @@ fn push_names<F: PrimeField64>(
         (map seen_failure failures.now) (string_bytes text.old) (string_bytes text.new)) }
 {
     let failing = failing_roots(alloc, &air.roots, failures)?;
-    let Ok(marks) = reached(alloc, &air.pool, &failing) else {
+    let Ok(marks) = reached_nodes(alloc, &air.pool, &failing) else {
         return Err(AllocError);
     };
     push_reached_definitions(alloc, text, &air.pool, names, &marks)
@@ -199,7 +199,7 @@ fn explained_text<F: PrimeField64>(
 }
 
 /// The status and the text of what was found, explained.
-fn explained<F: PrimeField64>(
+fn explain_findings<F: PrimeField64>(
     alloc: Global,
     air: &FlatAir<F>,
     main: &RowMajorMatrix<F>,
@@ -251,7 +251,7 @@ fn explain_input<F: PrimeField64 + 'static>(
         input.cap,
         input.transition_weight,
     )?;
-    explained(alloc, &air, &input.main, &input.public_values, &findings)
+    explain_findings(alloc, &air, &input.main, &input.public_values, &findings)
 }
 
 /// The status and the text of what that audit finds, explained.

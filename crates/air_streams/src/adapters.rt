@@ -42,7 +42,7 @@ impl<R: Read> Source for ReadSource<R> {
         Err(StreamFault)
     }
 
-    fn failed(&self) -> bool {
+    fn has_failed(&self) -> bool {
         self.failed
     }
 }
@@ -81,7 +81,7 @@ impl<W: Write> Sink for WriteSink<W> {
         Ok(bytes.len())
     }
 
-    fn failed(&self) -> bool {
+    fn has_failed(&self) -> bool {
         self.failed
     }
 }

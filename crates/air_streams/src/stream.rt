@@ -26,7 +26,7 @@ pub trait Source {
         ensures err { OnErr result (has_failed self.new ≡ true) };
 
     /// Whether a call has answered an `Err`.
-    fn failed(&self) -> bool
+    fn has_failed(&self) -> bool
         ensures { result ≡ has_failed self.now };
 }
 
@@ -48,6 +48,6 @@ pub trait Sink {
         ensures err { OnErr result (has_failed self.new ≡ true) };
 
     /// Whether a call has answered an `Err`.
-    fn failed(&self) -> bool
+    fn has_failed(&self) -> bool
         ensures { result ≡ has_failed self.now };
 }

@@ -11,7 +11,7 @@ pub use leaves::ext_leaf::ExtLeaf;
 pub use leaves::sym_leaf::SymLeaf;
 pub use pools::expr::{ExprId, SymbolicExpr};
 pub use pools::pool::ExprPool;
-pub use pools::reach::reached;
+pub use pools::reach::reached_nodes;
 pub use pools::weight::{Degrees, LeafWeight};
 
 /// A node of an expression of base leaves.

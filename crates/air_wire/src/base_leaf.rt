@@ -7,7 +7,7 @@ ghost use Rattle.air_wire.specs.Coefficients.{is_canonical};
 
 use crate::cases::case_value;
 use crate::errors::FlatError;
-use crate::parts::{only_member, whole};
+use crate::parts::{only_member, whole_number};
 use crate::plain::Plain;
 use crate::wire_leaf::WireLeaf;
 use air_core::SymbolicVariable;
@@ -36,7 +36,7 @@ pub(crate) fn is_canonical<F: PrimeField64>(number: usize) -> bool
 pub fn element_from<F: PrimeField64>(at: usize, value: &Value) -> Result<F, FlatError>
     ensures { result ≡ element_at F.residues at (view value.now) }
 {
-    let number = whole(value).ok_or(FlatError::Shape { at })?;
+    let number = whole_number(value).ok_or(FlatError::Shape { at })?;
     if is_canonical::<F>(number) {
         Ok(class_of(number))
     } else {
@@ -94,7 +94,7 @@ fn base_leaf_value<F: PrimeField64>(alloc: Global, leaf: &BaseLeaf<F>) -> Result
 {
     match leaf {
         BaseLeaf::Variable(variable) => {
-            let contents = variable.written(alloc)?;
+            let contents = variable.spell(alloc)?;
             case_value(alloc, "Variable", contents)
         }
         BaseLeaf::IsFirstRow => json!(in alloc; "IsFirstRow"),

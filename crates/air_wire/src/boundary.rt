@@ -14,7 +14,7 @@ impl Plain for BoundaryEnd {
 
     ghost plain = { end_plain };
 
-    fn written(&self, alloc: Global) -> Result<Value, AllocError> {
+    fn spell(&self, alloc: Global) -> Result<Value, AllocError> {
         match *self {
             BoundaryEnd::First => json!(in alloc; "First"),
             BoundaryEnd::Last => json!(in alloc; "Last"),
@@ -42,8 +42,8 @@ impl Plain for BoundaryPublic {
 
     ghost plain = { cell_plain };
 
-    fn written(&self, alloc: Global) -> Result<Value, AllocError> {
-        let end = self.end.written(alloc)?;
+    fn spell(&self, alloc: Global) -> Result<Value, AllocError> {
+        let end = self.end.spell(alloc)?;
         json!(in alloc; {
             "column": self.column, "end": end, "public_value": self.public_value
         })

@@ -15,7 +15,7 @@ impl Plain for BaseEntry {
 
     ghost plain = { entry_plain };
 
-    fn written(&self, alloc: Global) -> Result<Value, AllocError> {
+    fn spell(&self, alloc: Global) -> Result<Value, AllocError> {
         match *self {
             BaseEntry::Preprocessed { offset } => offset_value(alloc, "Preprocessed", offset),
             BaseEntry::Main { offset } => offset_value(alloc, "Main", offset),
@@ -55,8 +55,8 @@ impl<F> Plain for SymbolicVariable<F> {
 
     ghost plain = { variable_plain };
 
-    fn written(&self, alloc: Global) -> Result<Value, AllocError> {
-        let entry = self.entry.written(alloc)?;
+    fn spell(&self, alloc: Global) -> Result<Value, AllocError> {
+        let entry = self.entry.spell(alloc)?;
         indexed_value(alloc, entry, self.index)
     }
 

@@ -15,7 +15,7 @@ impl Plain for ExtEntry {
 
     ghost plain = { ext_entry_plain };
 
-    fn written(&self, alloc: Global) -> Result<Value, AllocError> {
+    fn spell(&self, alloc: Global) -> Result<Value, AllocError> {
         match *self {
             ExtEntry::Permutation { offset } => offset_value(alloc, "Permutation", offset),
             ExtEntry::Challenge => json!(in alloc; "Challenge"),
@@ -52,8 +52,8 @@ impl<F, EF> Plain for SymbolicVariableExt<F, EF> {
 
     ghost plain = { ext_variable_plain };
 
-    fn written(&self, alloc: Global) -> Result<Value, AllocError> {
-        let entry = self.entry.written(alloc)?;
+    fn spell(&self, alloc: Global) -> Result<Value, AllocError> {
+        let entry = self.entry.spell(alloc)?;
         indexed_value(alloc, entry, self.index)
     }
 

@@ -19,7 +19,7 @@ use crate::base_leaf::{class_of, element_value, is_canonical};
 use crate::cases::case_value;
 use crate::errors::FlatError;
 use crate::lists::list_from;
-use crate::parts::{only_member, whole};
+use crate::parts::{only_member, whole_number};
 use crate::plain::Plain;
 use crate::wire_leaf::WireLeaf;
 use crate::written_lists::to_flat_value;
@@ -30,13 +30,17 @@ use serde_json::Value;
 use std::alloc::{AllocError, Global};
 
 // The whole numbers of a list.
-pub(crate) fn wholes(alloc: Global, at: usize, items: &[Value]) -> Result<Vec<usize>, FlatError>
+pub(crate) fn whole_numbers(
+    alloc: Global,
+    at: usize,
+    items: &[Value],
+) -> Result<Vec<usize>, FlatError>
     ensures { Gives (λ v. v.items) result
         (ok_or (wholes (items_view items.now)) (FlatError.Shape at)) }
 {
     let mut numbers = Vec::new(alloc);
     for item in items {
-        let Some(number) = whole(item) else {
+        let Some(number) = whole_number(item) else {
             return Err(FlatError::Shape { at });
         };
         numbers.push(number)?;
@@ -45,7 +49,7 @@ pub(crate) fn wholes(alloc: Global, at: usize, items: &[Value]) -> Result<Vec<us
 }
 
 // The elements with these numbers, each below the modulus.
-fn canonical<F: PrimeField64>(
+fn canonical_elements<F: PrimeField64>(
     alloc: Global,
     at: usize,
     numbers: &[usize],
@@ -73,11 +77,11 @@ fn elements_from<F: PrimeField64>(
 {
     let shape = FlatError::Shape { at };
     let items = contents.as_array().ok_or(shape)?;
-    let numbers = wholes(alloc, at, items)?;
+    let numbers = whole_numbers(alloc, at, items)?;
     if numbers.len() != count {
         return Err(shape);
     }
-    canonical(alloc, at, &numbers)
+    canonical_elements(alloc, at, &numbers)
 }
 
 // The element with these coefficients.
@@ -185,7 +189,7 @@ fn variable_value<F: PrimeField64, EF: ExtensionField<F>>(
     ensures { IfOk result (λ v. view v ≡ case_data (codes "ExtVariable")
         (ext_variable_plain.written variable.now)) }
 {
-    let contents = variable.written(alloc)?;
+    let contents = variable.spell(alloc)?;
     case_value(alloc, "ExtVariable", contents)
 }
 

@@ -23,7 +23,7 @@ mod written_nodes;
 pub use base_leaf::element_from;
 pub use errors::FlatError;
 pub use lists::{ListReader, from_flat_value};
-pub use parts::{whole, whole_at};
+pub use parts::{whole_at, whole_number};
 pub use plain::Plain;
 pub use spelled::Spelled;
 pub use wire_leaf::WireLeaf;

@@ -37,7 +37,7 @@ fn operand<A: WireLeaf>(
 }
 
 // Whether the node at this place states the degree that was found.
-fn stated(at: usize, degree: usize, found: usize) -> Result<(), FlatError>
+fn check_degree(at: usize, degree: usize, found: usize) -> Result<(), FlatError>
     ensures { result ≡ check_degree at degree found tt }
 {
     if degree == found {
@@ -82,12 +82,12 @@ fn operands<A: WireLeaf>(
     let left = operand(pool, ids, x)?;
     let right = operand(pool, ids, y)?;
     let found = joined_degree(operation, degree_of(pool, left), degree_of(pool, right))?;
-    stated(ids.len(), degree, found)?;
+    check_degree(ids.len(), degree, found)?;
     Ok((left, right))
 }
 
 // The operation of two expressions, whose degree fits.
-fn inserted<A: WireLeaf>(
+fn insert_operation<A: WireLeaf>(
     pool: &mut ExprPool<A>,
     operation: Operation,
     operands: (ExprId<A>, ExprId<A>),
@@ -126,7 +126,7 @@ fn operation_from<A: WireLeaf>(
         (view contents.now))) }
 {
     let operands = operands(pool, ids, operation, contents)?;
-    inserted(pool, operation, operands)
+    insert_operation(pool, operation, operands)
 }
 
 fn leaf_from<A: WireLeaf>(

@@ -6,7 +6,7 @@ ghost use Rattle.air_wire.specs.Parts.{find_name};
 ghost use Rattle.air_wire.specs.Nodes.{operations, second_of, operands_of, joined_degree};
 
 use crate::errors::FlatError;
-use crate::parts::{whole, whole_at};
+use crate::parts::{whole_at, whole_number};
 use serde_json::Value;
 
 #[derive(Clone, Copy)]
@@ -72,7 +72,11 @@ pub(crate) fn operands_of(operation: Operation, contents: &Value) -> Option<(usi
             Operation::Neg => x,
             _ => y,
         };
-        return Some((whole(degree)?, whole(x)?, whole(second)?));
+        return Some((
+            whole_number(degree)?,
+            whole_number(x)?,
+            whole_number(second)?,
+        ));
     }
     let degree = whole_at(contents, "degree_multiple")?;
     let x = whole_at(contents, "x")?;

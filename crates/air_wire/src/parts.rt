@@ -19,7 +19,7 @@ pub(crate) fn only_member(value: &Value) -> Option<(&str, &Value)>
 }
 
 /// A whole number from 0 on that fits 64 bits.
-pub fn whole(value: &Value) -> Option<usize>
+pub fn whole_number(value: &Value) -> Option<usize>
     ensures { result ≡ whole (view value.now) }
 {
     let number = value.as_u64()?;
@@ -30,5 +30,5 @@ pub fn whole(value: &Value) -> Option<usize>
 pub fn whole_at(value: &Value, name: &str) -> Option<usize>
     ensures { result ≡ whole_at name.now (view value.now) }
 {
-    whole(value.get(name)?)
+    whole_number(value.get(name)?)
 }

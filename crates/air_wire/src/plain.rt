@@ -13,7 +13,7 @@ pub trait Plain {
     ghost plain: { PlainSpelling Self };
 
     /// The spelling.
-    fn written(&self, alloc: Global) -> Result<Value, AllocError>
+    fn spell(&self, alloc: Global) -> Result<Value, AllocError>
         ensures { IfOk result (λ v. view v ≡ plain.written self.now) };
 
     /// What the value spells, if anything.
@@ -33,7 +33,7 @@ impl<T: Plain> Spelled for T {
     ghost spells = { T.plain.spells };
 
     fn to_value(&self, alloc: Global) -> Result<Value, FlatError> {
-        Ok(self.written(alloc)?)
+        Ok(self.spell(alloc)?)
     }
 
     fn from_value(_alloc: Global, value: &Value) -> Result<Self, FlatError> {

@@ -5,7 +5,7 @@ ghost use Rattle.air_wire.specs.Results.{Gives};
 ghost use Rattle.air_wire.specs.WholeNumbers.{wholes_data, wholes_at};
 
 use crate::errors::FlatError;
-use crate::ext_leaf::wholes;
+use crate::ext_leaf::whole_numbers;
 use serde_json::Value;
 use std::alloc::{AllocError, Global};
 
@@ -29,5 +29,5 @@ pub fn wholes_at(alloc: Global, value: &Value, name: &str) -> Result<Vec<usize>,
     let shape = FlatError::Shape { at: 0 };
     let list = value.get(name).ok_or(shape)?;
     let items = list.as_array().ok_or(shape)?;
-    wholes(alloc, 0, items)
+    whole_numbers(alloc, 0, items)
 }

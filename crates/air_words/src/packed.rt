@@ -6,7 +6,7 @@ ghost use Rattle.air_gadgets.specs.Packing.{packed_from, packed_term};
 ghost use Rattle.air_author.specs.Expressions.{MakesIn};
 ghost use Rattle.air_words.specs.BitTerms.{twice_and_term, terms_from, first_terms};
 
-use air_author::{AirResult, Constant, Expression, answered};
+use air_author::{AirResult, Constant, Expression, to_air_result};
 use air_builder::{AirBuilder, View};
 use air_field::{Algebra, Field, RingError};
 
@@ -65,7 +65,7 @@ fn make_packed<AB: AirBuilder, S: Series<AB>>(
     }
     let above = make_packed(builder, series, at + 1, more - 1)?;
     let bit = series.make_at(at, builder)?;
-    answered(twice_and(builder.ring(), above, bit))
+    to_air_result(twice_and(builder.ring(), above, bit))
 }
 
 /// The sum of 2^i x_i; of none, zero.

@@ -76,7 +76,7 @@ fn show_digest(rt: HostRuntime, trace: &RowMajorMatrix<BabyBear>, row: usize) ->
 }
 
 /// What an audit finds: the degree, and the report.
-fn audited(
+fn audit_trace(
     alloc: Global,
     trace: &RowMajorMatrix<BabyBear>,
 ) -> Result<(usize, ConstraintReport), AirError> {
@@ -86,7 +86,7 @@ fn audited(
 
 /// A line for each count, and for each failure.
 fn show_audit(rt: HostRuntime, trace: &RowMajorMatrix<BabyBear>) -> io::Result<()> {
-    match audited(rt.alloc(), trace) {
+    match audit_trace(rt.alloc(), trace) {
         Ok((degree, report)) => {
             println!(rt; "degree {degree}")?;
             println!(rt; "rows {}", report.total_rows)?;

@@ -51,7 +51,7 @@ fn output_of<F: Field>(trace: &RowMajorMatrix<F>, row: usize) -> [u32; 8] {
 }
 
 /// The trace with one more in a cell.
-fn spoilt<F: Field>(
+fn spoil_cell<F: Field>(
     alloc: Global,
     trace: &RowMajorMatrix<F>,
     cell: Cell,
@@ -115,7 +115,7 @@ pub fn findings_of<F: PrimeField + 'static>(
     let trace = trace_of_blocks::<F>(alloc, &blocks)?;
     match cell {
         Some(cell) => {
-            let other = spoilt(alloc, &trace, cell)?;
+            let other = spoil_cell(alloc, &trace, cell)?;
             found_of_trace(alloc, message, blocks.len(), &other)
         }
         None => found_of_trace(alloc, message, blocks.len(), &trace),

@@ -53,7 +53,7 @@ fn read_message(rt: &HostRuntime) -> Result<Vec<u8>, Refusal>
 }
 
 /// What is found of the input.
-fn found(rt: &HostRuntime) -> Result<Findings, Refusal> {
+fn read_findings(rt: &HostRuntime) -> Result<Findings, Refusal> {
     let cell = cell_to_spoil(rt)?;
     let message = read_message(rt)?;
     findings_of::<BabyBear>(rt.alloc(), &message, cell)
@@ -89,7 +89,7 @@ fn show(rt: &HostRuntime, found: &Findings) -> io::Result<u8> {
 
 /// Answers a status and never an `Err`, which would print to standard error.
 fn main(rt: HostRuntime) -> ExitCode {
-    let shown = match found(&rt) {
+    let shown = match read_findings(&rt) {
         Ok(found) => show(&rt, &found),
         Err(why) => println!(rt; "refused: {}", why.name()).map(|_| 2u8),
     };

@@ -16,7 +16,7 @@ pub trait Bench<'a>: Sized + Drop {
     fn answer(&mut self, line: &Line<'a>, text: &mut String) -> Result<(), Fault>;
 
     /// Adds what has to stand when a call was refused for want of memory, as what the names stand for.
-    fn standing(&self, text: &mut String) -> Result<(), Fault>;
+    fn show_state(&self, text: &mut String) -> Result<(), Fault>;
 }
 
 /// The tables of a program.

@@ -40,7 +40,7 @@ fn answer_again<'a, B: Bench<'a>>(
     text: &mut String,
 ) -> Result<bool, Fault> {
     let mut before = String::new(alloc);
-    bench.standing(&mut before)?;
+    bench.show_state(&mut before)?;
     match answer_times(bench, line, text) {
         Err(Fault::Memory) => {}
         Err(fault) => return Err(fault),
@@ -48,7 +48,7 @@ fn answer_again<'a, B: Bench<'a>>(
     }
     *refused = true;
     let mut after = String::new(alloc);
-    bench.standing(&mut after)?;
+    bench.show_state(&mut after)?;
     if after.as_str() == before.as_str() {
         answer_times(bench, line, text)?;
         return Ok(true);

@@ -194,7 +194,7 @@ pub fn value_of(alloc: Global, word: &str) -> Result<Value, Fault>
 }
 
 // The character that a letter behind a backslash stands for.
-fn escaped(letter: char) -> Result<char, Fault>
+fn unescape(letter: char) -> Result<char, Fault>
     ensures { result ≡ ok_or (escaped_letter letter) (Fault.Unreadable Why.NoText) }
 {
     match letter {
@@ -224,7 +224,7 @@ pub fn text_of(alloc: Global, word: &str) -> Result<String, Fault>
     let mut behind = false;
     for letter in word.chars() {
         if behind {
-            text.push(escaped(letter)?)?;
+            text.push(unescape(letter)?)?;
             behind = false;
         } else if letter == '\\' {
             behind = true;

@@ -107,7 +107,7 @@ impl<'a, AB: NamedAirBuilder> Air<AB> for ListAir<'a, AB::F, BaseList> {
         match self.list {
             BaseList::Lines => self.air.flat.eval(builder),
             BaseList::Fibonacci => Fibonacci::new().eval(builder),
-            BaseList::FibonacciNamed => Fibonacci::named().eval(builder),
+            BaseList::FibonacciNamed => Fibonacci::with_labels().eval(builder),
             BaseList::Steep(n) => {
                 let four = Power(Power(Power(Power(Current(0), n), n), n), n);
                 let eight = Power(Power(Power(Power(four, n), n), n), n);

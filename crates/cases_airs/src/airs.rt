@@ -134,7 +134,7 @@ impl<'a, F: Field> Airs<'a, F> {
 
     /// Adds the numbers of the expressions that have names: a refused call may leave nodes that nothing names. Where an
     /// AIR was refused that had taken the pool, no line can be tried any more.
-    pub fn standing(&self, text: &mut String) -> Result<(), Fault> {
+    pub fn show_state(&self, text: &mut String) -> Result<(), Fault> {
         if self.lost {
             return Err(Fault::Memory);
         }

@@ -96,7 +96,11 @@ impl<'a, A: SymLeaf> NamedPool<'a, A> {
     }
 
     // The expression that an operation makes, if the call is one.
-    fn made(&mut self, call: &str, operands: &[&str]) -> Result<Option<ExprId<A>>, Fault> {
+    fn make_operation(
+        &mut self,
+        call: &str,
+        operands: &[&str],
+    ) -> Result<Option<ExprId<A>>, Fault> {
         match call {
             "constant" => self.constant(operands),
             "neg" => self.neg(operands),
@@ -128,7 +132,7 @@ impl<'a, A: SymLeaf> NamedPool<'a, A> {
         call: &str,
         operands: &[&str],
     ) -> Result<bool, Fault> {
-        match self.made(call, operands)? {
+        match self.make_operation(call, operands)? {
             Some(x) => {
                 self.keep(line, x)?;
                 Ok(true)

@@ -9,7 +9,7 @@ use cases::words::{Number, element_of, elements_of, number_of, show_elements};
 use cases::{Fault, Why};
 use std::alloc::Global;
 
-fn packed<F: Number>(bits: &[F]) -> Result<F, AirError> {
+fn pack<F: Number>(bits: &[F]) -> Result<F, AirError> {
     let mut ring = FieldRing::<F>::new();
     pack_bits_le(&mut ring, bits)
 }
@@ -17,7 +17,7 @@ fn packed<F: Number>(bits: &[F]) -> Result<F, AirError> {
 fn of_bits<F: Number>(alloc: Global, word: &str, bits: &[&str]) -> Result<F, Fault> {
     let bits: Vec<F> = elements_of(alloc, bits)?;
     match word {
-        "pack_bits_le" => Ok(packed(&bits)?),
+        "pack_bits_le" => Ok(pack(&bits)?),
         _ => Ok(checked_xor(&bits)),
     }
 }
@@ -31,7 +31,7 @@ fn of_two<F: Number>(given: &[&str]) -> Result<F, Fault> {
 }
 
 // The element that a call makes of bits.
-fn made<F: Number>(alloc: Global, word: &str, given: &[&str]) -> Result<F, Fault> {
+fn make_element<F: Number>(alloc: Global, word: &str, given: &[&str]) -> Result<F, Fault> {
     match word {
         "pack_bits_le" | "checked_xor" => of_bits(alloc, word, given),
         "checked_andn" => of_two(given),
@@ -45,7 +45,7 @@ fn show_made<F: Number>(
     given: &[&str],
     text: &mut String,
 ) -> Result<(), Fault> {
-    let made: F = made(alloc, word, given)?;
+    let made: F = make_element(alloc, word, given)?;
     let number = made.number();
     write!(text, "{number}")?;
     Ok(())

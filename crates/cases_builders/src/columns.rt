@@ -72,7 +72,7 @@ fn weighted_column<F: Field>(word: &str) -> Result<(PairCol, F), Fault> {
     Ok((column, element_of(weight)?))
 }
 
-fn weighted<F: Field>(alloc: Global, words: &[&str]) -> Result<Vec<(PairCol, F)>, Fault> {
+fn weighted_columns<F: Field>(alloc: Global, words: &[&str]) -> Result<Vec<(PairCol, F)>, Fault> {
     let mut all = Vec::new(alloc);
     for word in words {
         all.push(weighted_column(*word)?)?;
@@ -112,13 +112,17 @@ fn newly_here<F: Field>(
 }
 
 // The virtual column of columns with weights, and of a constant.
-fn newly<F: Field>(alloc: Global, word: &str, given: &[&str]) -> Result<VirtualPairCol<F>, Fault> {
+fn new_column<F: Field>(
+    alloc: Global,
+    word: &str,
+    given: &[&str],
+) -> Result<VirtualPairCol<F>, Fault> {
     let [c, all @ ..] = given else {
         return Err(Fault::Unreadable(Why::NoSuchCall));
     };
     let c: F = element_of(*c)?;
     match word {
-        "new" => Ok(VirtualPairCol::new(weighted(alloc, all)?, c)),
+        "new" => Ok(VirtualPairCol::new(weighted_columns(alloc, all)?, c)),
         _ => newly_here(alloc, word, c, all),
     }
 }
@@ -186,12 +190,12 @@ fn of_few<F: Field>(alloc: Global, word: &str, given: &[&str]) -> Result<Virtual
 }
 
 // The virtual column that a call makes.
-fn made<F: Field>(alloc: Global, call: &[&str]) -> Result<VirtualPairCol<F>, Fault> {
+fn make_column<F: Field>(alloc: Global, call: &[&str]) -> Result<VirtualPairCol<F>, Fault> {
     let [word, given @ ..] = call else {
         return Err(Fault::Unreadable(Why::NoSuchCall));
     };
     match *word {
-        "new" | "new_main" | "new_preprocessed" => newly(alloc, *word, given),
+        "new" | "new_main" | "new_preprocessed" => new_column(alloc, *word, given),
         word => of_few(alloc, word, given),
     }
 }
@@ -264,7 +268,7 @@ pub fn virtual_pair_col<F: Number>(
     };
     match *word {
         "fits" | "apply" | "clone_apply" => {
-            let column: VirtualPairCol<F> = made(alloc, maker)?;
+            let column: VirtualPairCol<F> = make_column(alloc, maker)?;
             show_call(alloc, &column, *word, *preprocessed, *main, text)
         }
         _ => Err(Fault::Unreadable(Why::NoSuchCall)),

@@ -19,7 +19,7 @@ pub struct Recordings<F, EF> {
 }
 
 // What is recorded of the assertions.
-fn recorded<F: Field, EF: ExtensionField<F>>(
+fn record_words<F: Field, EF: ExtensionField<F>>(
     alloc: Global,
     words: &[&str],
 ) -> Result<Recorded<F, EF>, Fault> {
@@ -53,7 +53,7 @@ fn answer_recorded<F: Number, EF: ExtensionField<F>>(
     words: &[&str],
     text: &mut String,
 ) -> Result<(), Fault> {
-    show_recorded(&recorded::<F, EF>(alloc, words)?, text)
+    show_recorded(&record_words::<F, EF>(alloc, words)?, text)
 }
 
 // How many rows the window of the symbolic builder has.
@@ -80,7 +80,7 @@ impl<'a, F: Number, EF: ExtensionField<F>> Bench<'a> for Recordings<F, EF> {
         }
     }
 
-    fn standing(&self, _text: &mut String) -> Result<(), Fault> {
+    fn show_state(&self, _text: &mut String) -> Result<(), Fault> {
         Ok(())
     }
 }

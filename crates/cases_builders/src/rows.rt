@@ -113,7 +113,7 @@ impl<'a, F: Field + 'static, EF: ExtensionField<F> + 'static> Bench<'a> for Rows
         }
     }
 
-    fn standing(&self, _text: &mut String) -> Result<(), Fault> {
+    fn show_state(&self, _text: &mut String) -> Result<(), Fault> {
         Ok(())
     }
 }

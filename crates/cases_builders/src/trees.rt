@@ -52,7 +52,7 @@ pub fn show_tree<F: Number>(
 }
 
 // The sum, the difference or the product.
-fn joined<F: Field, EF: ExtensionField<F>>(operation: char, x: EF, y: EF) -> EF {
+fn apply_operation<F: Field, EF: ExtensionField<F>>(operation: char, x: EF, y: EF) -> EF {
     match operation {
         '+' => x.add(y),
         '-' => x.sub(y),
@@ -84,7 +84,7 @@ fn value_of<F: Field, EF: ExtensionField<F>>(
     };
     let left = value_of(pool, x, depth - 1)?;
     let right = value_of(pool, y, depth - 1)?;
-    Some(joined::<F, EF>(operation, left, right))
+    Some(apply_operation::<F, EF>(operation, left, right))
 }
 
 /// Adds the value of an expression over constants alone.

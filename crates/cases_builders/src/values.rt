@@ -50,7 +50,7 @@ impl<'a, F: PrimeField64 + 'static> Bench<'a> for Values<F> {
         }
     }
 
-    fn standing(&self, _text: &mut String) -> Result<(), Fault> {
+    fn show_state(&self, _text: &mut String) -> Result<(), Fault> {
         Ok(())
     }
 }

@@ -155,7 +155,7 @@ fn record_gadget<F: Field>(builder: &mut Recorder<F>, gadget: Gadget) -> Result<
 
 // What is recorded of a gadget over the columns from 0 on: the limbs of a, then those of the other words, or their
 // bits.
-fn recorded<F: Field>(
+fn gadget_recording<F: Field>(
     alloc: Global,
     gadget: Gadget,
     width: usize,
@@ -171,7 +171,7 @@ fn recorded<F: Field>(
 
 // The AIR of what is recorded of a gadget.
 fn gadget_air<F: Field>(alloc: Global, gadget: Gadget, width: usize) -> Result<FlatAir<F>, Fault> {
-    let recorded = recorded::<F>(alloc, gadget, width)?;
+    let recorded = gadget_recording::<F>(alloc, gadget, width)?;
     Ok(recorded_air(recorded, width, 0, Vec::new(alloc), Vec::new(alloc))?)
 }
 
@@ -194,7 +194,7 @@ fn report_at_row<F: Field + 'static>(
 }
 
 // What a check of a gadget reports at a row.
-fn checked<F: Field + 'static>(
+fn check_gadget<F: Field + 'static>(
     alloc: Global,
     gadget: Gadget,
     row: Vec<F>,
@@ -220,7 +220,7 @@ fn show_checked<F: Field + 'static>(
     row: Vec<F>,
     text: &mut String,
 ) -> Result<(), Fault> {
-    let report = checked(alloc, gadget, row)?;
+    let report = check_gadget(alloc, gadget, row)?;
     show_report(&report, text)
 }
 
@@ -249,7 +249,7 @@ fn show_degrees<F: Field>(
     width: usize,
     text: &mut String,
 ) -> Result<(), Fault> {
-    let Recorded { pool, base, .. } = recorded::<F>(alloc, gadget, width)?;
+    let Recorded { pool, base, .. } = gadget_recording::<F>(alloc, gadget, width)?;
     show_degrees_in(&pool.into_base(), &base, text)
 }
 

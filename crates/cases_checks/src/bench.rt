@@ -3,7 +3,7 @@
 use crate::assertions::{Answer, answer_row};
 use crate::recorded::{recorded_counter, recorded_elsewhere};
 use crate::reports::{Asked, Given, given_of, show_base_audit, show_check};
-use crate::rows::{lend, resolved};
+use crate::rows::{lend, show_resolved};
 use cases::words::{Number, count_of};
 use cases::{Bench, Fault, Line, Why};
 use cases_airs::words::cap_of;
@@ -114,7 +114,7 @@ impl<'a, F: Number + 'static, EF: ExtensionField<F> + 'static> Checks<'a, F, EF>
         let [x, words @ ..] = words else {
             return Err(Fault::Unreadable(Why::NoSuchCall));
         };
-        resolved(self.alloc, &self.airs.pool, *x, words, text)
+        show_resolved(self.alloc, &self.airs.pool, *x, words, text)
     }
 
     // Adds what a call answers that is not about a row.
@@ -160,7 +160,7 @@ impl<'a, F: Number + 'static, EF: ExtensionField<F> + 'static> Bench<'a> for Che
         }
     }
 
-    fn standing(&self, text: &mut String) -> Result<(), Fault> {
-        self.airs.standing(text)
+    fn show_state(&self, text: &mut String) -> Result<(), Fault> {
+        self.airs.show_state(text)
     }
 }

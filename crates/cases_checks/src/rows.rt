@@ -39,7 +39,7 @@ pub struct Row<F, EF> {
     pub values: Vec<EF>,
 }
 
-fn nothing<T: Drop>(alloc: Global) -> Two<T> {
+fn empty_rows<T: Drop>(alloc: Global) -> Two<T> {
     Two {
         current: Vec::new(alloc),
         next: Vec::new(alloc),
@@ -85,12 +85,12 @@ impl<F: Field, EF: ExtensionField<F>> Row<F, EF> {
         Row {
             index: 0,
             from: 0,
-            main: nothing(alloc),
-            preprocessed: nothing(alloc),
+            main: empty_rows(alloc),
+            preprocessed: empty_rows(alloc),
             public: Vec::new(alloc),
             selectors: Vec::new(alloc),
             periodic: Vec::new(alloc),
-            permutation: nothing(alloc),
+            permutation: empty_rows(alloc),
             challenges: Vec::new(alloc),
             values: Vec::new(alloc),
         }
@@ -389,7 +389,7 @@ fn resolve_at<F: Number + 'static>(
 }
 
 /// Adds the value of an expression at a row.
-pub fn resolved<F: Number + 'static>(
+pub fn show_resolved<F: Number + 'static>(
     alloc: Global,
     pool: &NamedPool<'_, BaseLeaf<F>>,
     x: &str,

@@ -39,7 +39,7 @@ impl<'a, F: PrimeField64 + DomainExtension<F>, EF: DomainExtension<F>> Bench<'a>
         }
     }
 
-    fn standing(&self, _text: &mut String) -> Result<(), Fault> {
+    fn show_state(&self, _text: &mut String) -> Result<(), Fault> {
         Ok(())
     }
 }

@@ -27,7 +27,7 @@ fn of_two<F: Field>(word: &str, x: F, y: F) -> Result<F, RingError> {
         "add" => ring.add(x, y),
         "sub" => ring.sub(x, y),
         "mul" => ring.mul(x, y),
-        "gated" => ring.gated(x, y),
+        "gate" => ring.gate(x, y),
         "xor" => ring.xor(x, y),
         _ => ring.andn(x, y),
     }
@@ -46,7 +46,7 @@ fn of_power<F: Field>(x: F, power: u64) -> Result<F, RingError> {
     ring.mul_2exp_u64(x, power)
 }
 
-fn doubled<F: Field>(x: &str, power: &str) -> Result<F, Fault> {
+fn times_power<F: Field>(x: &str, power: &str) -> Result<F, Fault> {
     let x: F = element_of(x)?;
     let power = number_of(power)?;
     Ok(of_power(x, power)?)
@@ -69,8 +69,8 @@ fn made_of_one<F: Field>(word: &str, x: &str) -> Result<F, Fault> {
 
 fn made_of_two<F: Field>(word: &str, x: &str, y: &str) -> Result<F, Fault> {
     match word {
-        "add" | "sub" | "mul" | "gated" | "xor" | "andn" => joined_two(word, x, y),
-        "mul_2exp_u64" => doubled(x, y),
+        "add" | "sub" | "mul" | "gate" | "xor" | "andn" => joined_two(word, x, y),
+        "mul_2exp_u64" => times_power(x, y),
         _ => Err(Fault::Unreadable(Why::NoSuchCall)),
     }
 }
@@ -84,18 +84,18 @@ fn made_of_few<F: Field>(word: &str, given: &[&str]) -> Result<F, Fault> {
 }
 
 // The sum or the product of elements.
-fn joined<F: Field>(alloc: Global, word: &str, all: &[&str]) -> Result<F, Fault> {
+fn join_all<F: Field>(alloc: Global, word: &str, all: &[&str]) -> Result<F, Fault> {
     let all: Vec<F> = elements_of(alloc, all)?;
     Ok(of_many(word, &all)?)
 }
 
 // The element that a call of the field's ring answers.
-fn made<F: Field>(alloc: Global, call: &[&str]) -> Result<F, Fault> {
+fn make_element<F: Field>(alloc: Global, call: &[&str]) -> Result<F, Fault> {
     let [word, given @ ..] = call else {
         return Err(Fault::Unreadable(Why::NoSuchCall));
     };
     match *word {
-        "sum" | "product" => joined(alloc, *word, given),
+        "sum" | "product" => join_all(alloc, *word, given),
         word => made_of_few(word, given),
     }
 }
@@ -106,7 +106,7 @@ pub fn field_ring<F: PrimeField64>(
     call: &[&str],
     text: &mut String,
 ) -> Result<(), Fault> {
-    let number = made::<F>(alloc, call)?.as_canonical_u64();
+    let number = make_element::<F>(alloc, call)?.as_canonical_u64();
     write!(text, "{number}")?;
     Ok(())
 }

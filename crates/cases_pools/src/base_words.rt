@@ -123,7 +123,7 @@ impl<'a, F: Number> PoolBench<'a, BaseLeaf<F>> {
 }
 
 impl<F: Number> TableLeaf for BaseLeaf<F> {
-    fn made<'a>(
+    fn make_own<'a>(
         bench: &mut PoolBench<'a, Self>,
         call: &str,
         operands: &[&str],
@@ -131,7 +131,7 @@ impl<F: Number> TableLeaf for BaseLeaf<F> {
         match call {
             "variable" => bench.push_variable(operands),
             "leaf" | "leaf_expr" => bench.push_leaf(call, operands),
-            _ => bench.made(call, operands),
+            _ => bench.make_common(call, operands),
         }
     }
 

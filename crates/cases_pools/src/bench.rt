@@ -19,7 +19,7 @@ use std::marker::Model;
 /// proof.
 pub trait TableLeaf: Shown {
     /// The expression that a call makes which pools of these leaves alone have, or pools of all.
-    fn made<'a>(
+    fn make_own<'a>(
         bench: &mut PoolBench<'a, Self>,
         call: &str,
         operands: &[&str],
@@ -115,7 +115,7 @@ impl<'a, A: SymLeaf> PoolBench<'a, A> {
     }
 
     /// The expression of the one operand.
-    pub fn only(&self, operands: &[&str]) -> Result<ExprId<A>, Fault>
+    pub fn only_operand(&self, operands: &[&str]) -> Result<ExprId<A>, Fault>
         ensures { IfOk result (λ x. x < size self.now) }
     {
         match operands {
@@ -224,7 +224,7 @@ impl<'a, A: SymLeaf> PoolBench<'a, A> {
 
     // What an operation on one makes.
     fn made_of_one(&mut self, word: &str, operands: &[&str]) -> Result<ExprId<A>, Fault> {
-        let x = self.only(operands)?;
+        let x = self.only_operand(operands)?;
         Ok(self.operate(word, x)?)
     }
 
@@ -249,7 +249,7 @@ impl<'a, A: SymLeaf> PoolBench<'a, A> {
     }
 
     // The same of some names.
-    fn joined(&mut self, word: &str, names: &[&str]) -> Result<ExprId<A>, Fault> {
+    fn join_named(&mut self, word: &str, names: &[&str]) -> Result<ExprId<A>, Fault> {
         let all = self.all_at(names)?;
         self.join(word, &all)
     }
@@ -269,7 +269,7 @@ impl<'a, A: SymLeaf> PoolBench<'a, A> {
         Ok(self.pool.constant(c)?)
     }
 
-    fn doubled(&mut self, operands: &[&str]) -> Result<ExprId<A>, Fault> {
+    fn times_power(&mut self, operands: &[&str]) -> Result<ExprId<A>, Fault> {
         let [x, power] = operands else {
             return Err(Fault::Unreadable(Why::NoSuchCall));
         };
@@ -279,14 +279,14 @@ impl<'a, A: SymLeaf> PoolBench<'a, A> {
     }
 
     /// The expression that an operation makes.
-    pub fn made(&mut self, call: &str, operands: &[&str]) -> Result<ExprId<A>, Fault> {
+    pub fn make_common(&mut self, call: &str, operands: &[&str]) -> Result<ExprId<A>, Fault> {
         match operands_of(call) {
             Some(Operands::None) => self.zero(operands),
             Some(Operands::Number) => self.constant(operands),
-            Some(Operands::OneAndPower) => self.doubled(operands),
+            Some(Operands::OneAndPower) => self.times_power(operands),
             Some(Operands::One) => self.made_of_one(call, operands),
             Some(Operands::Two) => self.made_of_two(call, operands),
-            Some(Operands::Any) => self.joined(call, operands),
+            Some(Operands::Any) => self.join_named(call, operands),
             None => Err(Fault::Unreadable(Why::NoSuchCall)),
         }
     }
@@ -321,7 +321,7 @@ impl<'a, A: SymLeaf> PoolBench<'a, A> {
 
     // The number of an expression, or its degree.
     fn count_of_one(&self, call: &str, operands: &[&str]) -> Result<usize, Fault> {
-        let x = self.only(operands)?;
+        let x = self.only_operand(operands)?;
         match call {
             "number" => Ok(x.number()),
             _ => Ok(self.pool.degree_multiple(x)),
@@ -402,7 +402,7 @@ impl<'a, A: SymLeaf> PoolBench<'a, A> {
 
 impl<'a, A: Shown> PoolBench<'a, A> {
     fn show_const(&self, operands: &[&str], text: &mut String) -> Result<(), Fault> {
-        let x = self.only(operands)?;
+        let x = self.only_operand(operands)?;
         show_constant::<A>(self.pool.as_const(x), text)
     }
 
@@ -430,7 +430,7 @@ impl<'a, A: Shown + WireLeaf> PoolBench<'a, A> {
     }
 
     fn show_written(&self, operands: &[&str], text: &mut String) -> Result<(), Fault> {
-        let x = self.only(operands)?;
+        let x = self.only_operand(operands)?;
         let value = to_flat_value(self.names.alloc(), &self.pool, x)?;
         show_value(self.names.alloc(), &value, text)
     }
@@ -488,7 +488,7 @@ impl<'a, A: TableLeaf + WireLeaf> PoolBench<'a, A> {
     fn made_by(&mut self, call: &str, operands: &[&str]) -> Result<ExprId<A>, Fault> {
         match call {
             "from_flat_value" => self.read(operands),
-            _ => A::made(self, call, operands),
+            _ => A::make_own(self, call, operands),
         }
     }
 
@@ -527,7 +527,7 @@ impl<'a, A: TableLeaf + WireLeaf> Bench<'a> for PoolBench<'a, A> {
         }
     }
 
-    fn standing(&self, text: &mut String) -> Result<(), Fault> {
+    fn show_state(&self, text: &mut String) -> Result<(), Fault> {
         show_all(&self.pool, &self.names, &self.base_names, text)?;
         A::show_under(self, text)
     }

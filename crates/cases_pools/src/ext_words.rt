@@ -176,7 +176,7 @@ impl<'a, F: Number, EF: ExtensionField<F>> PoolBench<'a, ExtLeaf<F, EF>> {
         operands: &[&str],
         text: &mut String,
     ) -> Result<(), Fault> {
-        let x = self.only(operands)?;
+        let x = self.only_operand(operands)?;
         let found = self.pool.to_base(x)?;
         self.keep_found(line, found, text)
     }
@@ -191,7 +191,7 @@ impl<'a, F: Number, EF: ExtensionField<F>> PoolBench<'a, ExtLeaf<F, EF>> {
         Ok(self.pool.ext_constant(c)?)
     }
 
-    fn lifted(&mut self, operands: &[&str]) -> Result<ExprId<ExtLeaf<F, EF>>, Fault> {
+    fn lift_base(&mut self, operands: &[&str]) -> Result<ExprId<ExtLeaf<F, EF>>, Fault> {
         let [x] = operands else {
             return Err(Fault::Unreadable(Why::NoSuchCall));
         };
@@ -226,7 +226,7 @@ impl<F: Number, EF: ExtensionField<F>> Shown for ExtLeaf<F, EF> {
 }
 
 impl<F: Number, EF: ExtensionField<F>> TableLeaf for ExtLeaf<F, EF> {
-    fn made<'a>(
+    fn make_own<'a>(
         bench: &mut PoolBench<'a, Self>,
         call: &str,
         operands: &[&str],
@@ -234,8 +234,8 @@ impl<F: Number, EF: ExtensionField<F>> TableLeaf for ExtLeaf<F, EF> {
         match call {
             "variable" => bench.push_variable(operands),
             "ext_constant" => bench.push_constant(operands),
-            "lift" => bench.lifted(operands),
-            _ => bench.made(call, operands),
+            "lift" => bench.lift_base(operands),
+            _ => bench.make_common(call, operands),
         }
     }
 

@@ -77,7 +77,7 @@ impl<'a, F: PrimeField64 + 'static> Bench<'a> for Program<'a, F> {
         }
     }
 
-    fn standing(&self, text: &mut String) -> Result<(), Fault> {
+    fn show_state(&self, text: &mut String) -> Result<(), Fault> {
         for (name, input) in self.inputs.words().iter().zip(self.inputs.values()) {
             write!(text, "{name} = {input}\n")?;
         }

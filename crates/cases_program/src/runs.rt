@@ -48,7 +48,7 @@ fn run_by(
     let Ok(status) = run(alloc, words, &mut reader, &mut writer) else {
         return Err(Fault::Memory);
     };
-    show_answer(status, reader.left(), writer.bytes(), text)
+    show_answer(status, reader.bytes_left(), writer.bytes(), text)
 }
 
 // Adds what a run answers that moves so many bytes at a time, where it isn't this.

@@ -17,7 +17,7 @@ impl Pieces<'_> {
         Pieces { bytes, most }
     }
 
-    pub fn left(&self) -> usize {
+    pub fn bytes_left(&self) -> usize {
         self.bytes.len()
     }
 }
@@ -38,7 +38,7 @@ impl Source for Pieces<'_> {
         Ok(count)
     }
 
-    fn failed(&self) -> bool {
+    fn has_failed(&self) -> bool {
         false
     }
 }
@@ -83,7 +83,7 @@ impl Sink for Kept {
         Ok(count)
     }
 
-    fn failed(&self) -> bool {
+    fn has_failed(&self) -> bool {
         self.failed
     }
 }

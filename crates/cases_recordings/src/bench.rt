@@ -90,7 +90,7 @@ fn audited_of<F: Field>(
 }
 
 // Adds what an audit of an AIR finds.
-fn audited<F: Number + 'static>(
+fn show_audit_of<F: Number + 'static>(
     alloc: Global,
     air: &TableAir<F>,
     given: Given<F>,
@@ -114,7 +114,7 @@ fn layout_by<F: Field>(air: &TableAir<F>, word: &str) -> Result<AirLayout, Fault
 }
 
 // Adds whether the layout suits the AIR, where the call has no more words.
-fn validated<F: Field>(
+fn show_validation<F: Field>(
     air: &TableAir<F>,
     layout: AirLayout,
     words: &[&str],
@@ -155,7 +155,7 @@ fn recorded_with_extension<F: Number + 'static, EF: ExtensionField<F> + 'static>
 }
 
 // Adds what a call answers that records an AIR, over the base field or with an extension.
-fn recorded<F: Number + 'static, EF: ExtensionField<F> + 'static>(
+fn show_recording_call<F: Number + 'static, EF: ExtensionField<F> + 'static>(
     alloc: Global,
     air: &TableAir<F>,
     layout: AirLayout,
@@ -170,7 +170,7 @@ fn recorded<F: Number + 'static, EF: ExtensionField<F> + 'static>(
 }
 
 // Adds what an AIR's values at the row of the words are folded to.
-fn folded<F: Number + 'static, EF: ExtensionField<F> + 'static>(
+fn show_fold<F: Number + 'static, EF: ExtensionField<F> + 'static>(
     alloc: Global,
     air: &TableAir<F>,
     layout: AirLayout,
@@ -205,11 +205,11 @@ fn answer_by<F: Number + 'static, EF: ExtensionField<F> + 'static>(
     text: &mut String,
 ) -> Result<(), Fault> {
     match call {
-        "fold_air" => folded::<F, EF>(alloc, air, layout, words, text),
+        "fold_air" => show_fold::<F, EF>(alloc, air, layout, words, text),
         "eval_when" => recorded_when::<F, EF>(alloc, air, layout, words, text),
-        "validate_against_air" => validated(air, layout, words, text),
+        "validate_against_air" => show_validation(air, layout, words, text),
         "layout" => show_air_layout(layout, words, text),
-        _ => recorded::<F, EF>(alloc, air, layout, call, words, text),
+        _ => show_recording_call::<F, EF>(alloc, air, layout, call, words, text),
     }
 }
 
@@ -238,7 +238,7 @@ fn answer_of<F: Number + 'static, EF: ExtensionField<F> + 'static>(
     text: &mut String,
 ) -> Result<(), Fault> {
     match audited_of(alloc, call, words)? {
-        Some(given) => audited(alloc, air, given, text),
+        Some(given) => show_audit_of(alloc, air, given, text),
         None => answer_by_words::<F, EF>(alloc, air, call, words, text),
     }
 }
@@ -264,8 +264,8 @@ impl<'a, F: Number + 'static, EF: ExtensionField<F> + 'static> Bench<'a> for Air
         }
     }
 
-    fn standing(&self, text: &mut String) -> Result<(), Fault> {
-        self.airs.standing(text)
+    fn show_state(&self, text: &mut String) -> Result<(), Fault> {
+        self.airs.show_state(text)
     }
 }
 
@@ -301,7 +301,7 @@ impl<'a, F: Number, EF: ExtensionField<F>> Bench<'a> for Alone<F, EF> {
         }
     }
 
-    fn standing(&self, _text: &mut String) -> Result<(), Fault> {
+    fn show_state(&self, _text: &mut String) -> Result<(), Fault> {
         Ok(())
     }
 }

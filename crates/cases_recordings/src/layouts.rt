@@ -127,7 +127,7 @@ fn show_total(alloc: Global, words: &[&str], text: &mut String) -> Result<(), Fa
 }
 
 // The sum of weight times value, each value of the constraint at the index beside the weight.
-fn weighted<F: Field>(weights: &[F], places: &[usize], values: &[F]) -> Result<F, Fault> {
+fn weigh<F: Field>(weights: &[F], places: &[usize], values: &[F]) -> Result<F, Fault> {
     let mut sum = F::ZERO;
     for (weight, place) in weights.iter().zip(places) {
         match values.get(*place) {
@@ -139,15 +139,15 @@ fn weighted<F: Field>(weights: &[F], places: &[usize], values: &[F]) -> Result<F
 }
 
 // The recombination of values by the coordinates of the base weights, and the whole weights.
-fn recombined<F: Field>(
+fn recombination<F: Field>(
     layout: &ConstraintLayout,
     coordinates: &[Vec<F>],
     powers: &[F],
     values: &[F],
 ) -> Result<F, Fault> {
-    let mut sum = weighted(powers, &layout.ext_indices, values)?;
+    let mut sum = weigh(powers, &layout.ext_indices, values)?;
     for list in coordinates {
-        let more = weighted(list.as_slice(), &layout.base_indices, values)?;
+        let more = weigh(list.as_slice(), &layout.base_indices, values)?;
         sum = Field::add(sum, more);
     }
     Ok(sum)
@@ -162,7 +162,7 @@ fn recombined_by<F: Field>(
 ) -> Result<F, Fault> {
     let alpha = extension_of::<F, F>(alloc, &[alpha])?;
     let (coordinates, powers) = layout.decompose_alpha::<F, F>(alloc, alpha)?;
-    recombined(layout, &coordinates, &powers, values)
+    recombination(layout, &coordinates, &powers, values)
 }
 
 // The same of the values in words.

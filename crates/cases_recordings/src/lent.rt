@@ -278,7 +278,7 @@ fn asked_of<F: Field, EF: ExtensionField<F>>(
 }
 
 // Does that, and gives the selector, if one is asked for.
-fn done<AB: NamedExtensionBuilder>(
+fn do_asked<AB: NamedExtensionBuilder>(
     builder: &mut AB,
     asked: Asked<AB::F, AB::EF>,
 ) -> Result<Option<AB::Expr>, AirError>
@@ -306,7 +306,7 @@ fn done_by<F: Field, EF: ExtensionField<F>>(
     requires { ⟦<SymbolicAirBuilder<F, EF> as AirBuilder>⟧.ready builder.old }
     ensures { ⟦<SymbolicAirBuilder<F, EF> as AirBuilder>⟧.ready builder.new }
 {
-    done(builder, asked)
+    do_asked(builder, asked)
 }
 
 // Adds a selector that the builder lends, or what it has recorded over the extension.

@@ -173,7 +173,7 @@ fn show_extension<F: Number, EF: ExtensionField<F>, A: Air<Recorder<F, EF>>>(
 }
 
 // The builder on which the AIR was evaluated.
-fn evaluated<F: Number, EF: ExtensionField<F>, A: Air<Recorder<F, EF>>>(
+fn evaluate_air<F: Number, EF: ExtensionField<F>, A: Air<Recorder<F, EF>>>(
     alloc: Global,
     air: &A,
     layout: AirLayout,
@@ -202,7 +202,7 @@ fn show_evaluated<F: Number, EF: ExtensionField<F>, A: Air<Recorder<F, EF>>>(
     layout: AirLayout,
     text: &mut String,
 ) -> Result<(), Fault> {
-    let builder = evaluated::<F, EF, A>(alloc, air, layout)?;
+    let builder = evaluate_air::<F, EF, A>(alloc, air, layout)?;
     show_places(&builder, text)
 }
 

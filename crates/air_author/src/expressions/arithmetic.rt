@@ -4,7 +4,7 @@ ghost use Rattle.air_builder.specs.Notation.{negative, ◌⊕◌, ◌⊖◌, ◌
 ghost use Rattle.air_author.specs.Expressions.{AlwaysAfter, MakesIn, MakesBothIn};
 
 use crate::AirResult;
-use crate::expressions::{Expression, answered};
+use crate::expressions::{Expression, to_air_result};
 use air_builder::{AirBuilder, View};
 use air_field::Algebra;
 
@@ -38,7 +38,7 @@ pub fn make_sum<AB: AirBuilder, X: Expression<AB>, Y: Expression<AB>>(
         (X.term x.now ⊕ Y.term y.now) }
 {
     let (x, y) = make_both(builder, x, y)?;
-    answered(builder.ring().add(x, y))
+    to_air_result(builder.ring().add(x, y))
 }
 
 /// Makes x - y, of expressions that stand elsewhere.
@@ -54,7 +54,7 @@ pub fn make_difference<AB: AirBuilder, X: Expression<AB>, Y: Expression<AB>>(
         (X.term x.now ⊖ Y.term y.now) }
 {
     let (x, y) = make_both(builder, x, y)?;
-    answered(builder.ring().sub(x, y))
+    to_air_result(builder.ring().sub(x, y))
 }
 
 /// Makes x y, of expressions that stand elsewhere.
@@ -70,7 +70,7 @@ pub fn make_product<AB: AirBuilder, X: Expression<AB>, Y: Expression<AB>>(
         (X.term x.now ⊙ Y.term y.now) }
 {
     let (x, y) = make_both(builder, x, y)?;
-    answered(builder.ring().mul(x, y))
+    to_air_result(builder.ring().mul(x, y))
 }
 
 /// x + y
@@ -132,7 +132,7 @@ impl<'a, AB: AirBuilder, S: Expression<AB>, X: Expression<AB>> Expression<AB> fo
     #[inline(always)]
     fn make(&self, builder: &mut AB) -> AirResult<AB::Expr> {
         let (condition, x) = make_both(builder, self.0, self.1)?;
-        answered(builder.ring().gated(condition, x))
+        to_air_result(builder.ring().gate(condition, x))
     }
 }
 
@@ -163,7 +163,7 @@ impl<AB: AirBuilder, X: Expression<AB>> Expression<AB> for Negative<X> {
     #[inline(always)]
     fn make(&self, builder: &mut AB) -> AirResult<AB::Expr> {
         let x = self.0.make(builder)?;
-        answered(builder.ring().neg(x))
+        to_air_result(builder.ring().neg(x))
     }
 }
 
@@ -179,7 +179,7 @@ impl<AB: AirBuilder, X: Expression<AB>> Expression<AB> for Double<X> {
     #[inline(always)]
     fn make(&self, builder: &mut AB) -> AirResult<AB::Expr> {
         let x = self.0.make(builder)?;
-        answered(builder.ring().double(x))
+        to_air_result(builder.ring().double(x))
     }
 }
 
@@ -195,7 +195,7 @@ impl<AB: AirBuilder, X: Expression<AB>> Expression<AB> for Square<X> {
     #[inline(always)]
     fn make(&self, builder: &mut AB) -> AirResult<AB::Expr> {
         let x = self.0.make(builder)?;
-        answered(builder.ring().mul(x, x))
+        to_air_result(builder.ring().mul(x, x))
     }
 }
 
@@ -211,6 +211,6 @@ impl<AB: AirBuilder, X: Expression<AB>> Expression<AB> for BoolCheck<X> {
     #[inline(always)]
     fn make(&self, builder: &mut AB) -> AirResult<AB::Expr> {
         let x = self.0.make(builder)?;
-        answered(builder.ring().bool_check(x))
+        to_air_result(builder.ring().bool_check(x))
     }
 }

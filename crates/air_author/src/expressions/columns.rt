@@ -8,7 +8,7 @@ ghost use Rattle.air_builder.specs.Refusals.{IsOfWindow};
 ghost use Rattle.air_author.specs.Expressions.{MakesIn};
 
 use crate::AirResult;
-use crate::expressions::{Expression, answered, element, present};
+use crate::expressions::{Expression, element, entry_or, to_air_result};
 use air_builder::{AirBuilder, AirError, View};
 use air_core::BaseEntry;
 use air_field::{Algebra, FromVar};
@@ -29,8 +29,8 @@ fn make_found<AB: AirBuilder>(
     ensures { MakesIn ⟦<AB as View>⟧.view builder.old builder.new result
         (leaf_term (entry_leaf entry index)) }
 {
-    let v = present(found, AirError::MissingEntry { entry, index })?;
-    answered(builder.ring().from_var(v))
+    let v = entry_or(found, AirError::MissingEntry { entry, index })?;
+    to_air_result(builder.ring().from_var(v))
 }
 
 /// A column of the current row.
@@ -111,8 +111,8 @@ impl<AB: AirBuilder> Expression<AB> for Public {
         let entry = BaseEntry::Public;
         let index = self.0;
         let missing = AirError::MissingEntry { entry, index };
-        let v = present(element(builder.public_values(), index), missing)?;
-        answered(builder.ring().from_var(v))
+        let v = entry_or(element(builder.public_values(), index), missing)?;
+        to_air_result(builder.ring().from_var(v))
     }
 }
 
@@ -128,7 +128,7 @@ impl<AB: AirBuilder> Expression<AB> for Periodic {
         let entry = BaseEntry::Periodic;
         let index = self.0;
         let missing = AirError::MissingEntry { entry, index };
-        let v = present(element(builder.periodic_values(), index), missing)?;
-        answered(builder.ring().from_var(v))
+        let v = entry_or(element(builder.periodic_values(), index), missing)?;
+        to_air_result(builder.ring().from_var(v))
     }
 }

@@ -3,7 +3,7 @@ ghost use Rattle.air_field.specs.Ring.{image};
 ghost use Rattle.air_builder.specs.Notation.{constant};
 
 use crate::AirResult;
-use crate::expressions::{Expression, answered};
+use crate::expressions::{Expression, to_air_result};
 use air_builder::AirBuilder;
 use air_field::{Algebra, Field};
 
@@ -16,7 +16,7 @@ impl<AB: AirBuilder> Expression<AB> for Constant<AB::F> {
 
     #[inline(always)]
     fn make(&self, builder: &mut AB) -> AirResult<AB::Expr> {
-        answered(builder.ring().constant(self.0))
+        to_air_result(builder.ring().constant(self.0))
     }
 }
 

@@ -8,8 +8,8 @@ use crate::expressions::arithmetic::{
     BoolCheck, Difference, Double, Less, Negative, Product, Square, Sum,
 };
 use crate::expressions::constants::One;
-use crate::expressions::power::{Power, multiplied};
-use crate::expressions::{Expression, ExtExpression, answered};
+use crate::expressions::power::{Power, multiply_by_itself};
+use crate::expressions::{Expression, ExtExpression, to_air_result};
 use air_builder::{ExtensionBuilder, ViewOver};
 use air_field::{Algebra, ExtAlgebra, ExtensionField};
 
@@ -24,7 +24,7 @@ pub(crate) fn make_lifted<AB: ExtensionBuilder, X: Expression<AB>>(
     ensures { MakesIn ⟦<AB as ViewOver>⟧.view builder.old builder.new result (X.term x.now) }
 {
     let x = x.make(builder)?;
-    answered(builder.ext_ring().lift(x))
+    to_air_result(builder.ext_ring().lift(x))
 }
 
 /// A base expression, over the extension.
@@ -66,7 +66,7 @@ impl<AB: ExtensionBuilder> ExtExpression<AB> for ExtConstant<AB::EF> {
 
     #[inline(always)]
     fn make_ext(&self, builder: &mut AB) -> AirResult<AB::ExprEF> {
-        answered(builder.ext_ring().ext_constant(self.0))
+        to_air_result(builder.ext_ring().ext_constant(self.0))
     }
 }
 
@@ -96,7 +96,7 @@ impl<AB: ExtensionBuilder, X: ExtExpression<AB>, Y: ExtExpression<AB>> ExtExpres
     #[inline(always)]
     fn make_ext(&self, builder: &mut AB) -> AirResult<AB::ExprEF> {
         let (x, y) = make_both_ext(builder, &self.0, &self.1)?;
-        answered(builder.ext_ring().add(x, y))
+        to_air_result(builder.ext_ring().add(x, y))
     }
 }
 
@@ -109,7 +109,7 @@ impl<'a, AB: ExtensionBuilder, X: ExtExpression<AB>, Y: ExtExpression<AB>> ExtEx
     #[inline(always)]
     fn make_ext(&self, builder: &mut AB) -> AirResult<AB::ExprEF> {
         let (x, y) = make_both_ext(builder, self.0, self.1)?;
-        answered(builder.ext_ring().sub(x, y))
+        to_air_result(builder.ext_ring().sub(x, y))
     }
 }
 
@@ -138,7 +138,7 @@ impl<'a, AB: ExtensionBuilder, X: ExtExpression<AB>, Y: ExtExpression<AB>> ExtEx
     #[inline(always)]
     fn make_ext(&self, builder: &mut AB) -> AirResult<AB::ExprEF> {
         let (x, y) = make_both_ext(builder, self.0, self.1)?;
-        answered(builder.ext_ring().mul(x, y))
+        to_air_result(builder.ext_ring().mul(x, y))
     }
 }
 
@@ -162,7 +162,7 @@ impl<AB: ExtensionBuilder, X: ExtExpression<AB>> ExtExpression<AB> for Negative<
     #[inline(always)]
     fn make_ext(&self, builder: &mut AB) -> AirResult<AB::ExprEF> {
         let x = self.0.make_ext(builder)?;
-        answered(builder.ext_ring().neg(x))
+        to_air_result(builder.ext_ring().neg(x))
     }
 }
 
@@ -174,7 +174,7 @@ impl<AB: ExtensionBuilder, X: ExtExpression<AB>> ExtExpression<AB> for Double<X>
     #[inline(always)]
     fn make_ext(&self, builder: &mut AB) -> AirResult<AB::ExprEF> {
         let x = self.0.make_ext(builder)?;
-        answered(builder.ext_ring().double(x))
+        to_air_result(builder.ext_ring().double(x))
     }
 }
 
@@ -186,7 +186,7 @@ impl<AB: ExtensionBuilder, X: ExtExpression<AB>> ExtExpression<AB> for Square<X>
     #[inline(always)]
     fn make_ext(&self, builder: &mut AB) -> AirResult<AB::ExprEF> {
         let x = self.0.make_ext(builder)?;
-        answered(builder.ext_ring().mul(x, x))
+        to_air_result(builder.ext_ring().mul(x, x))
     }
 }
 
@@ -198,7 +198,7 @@ impl<AB: ExtensionBuilder, X: ExtExpression<AB>> ExtExpression<AB> for BoolCheck
     #[inline(always)]
     fn make_ext(&self, builder: &mut AB) -> AirResult<AB::ExprEF> {
         let x = self.0.make_ext(builder)?;
-        answered(builder.ext_ring().bool_check(x))
+        to_air_result(builder.ext_ring().bool_check(x))
     }
 }
 
@@ -213,6 +213,6 @@ impl<AB: ExtensionBuilder, X: ExtExpression<AB>> ExtExpression<AB> for Power<X> 
             return One.make_ext(builder);
         }
         let x = self.0.make_ext(builder)?;
-        answered(multiplied(builder.ext_ring(), x, self.1 - 1))
+        to_air_result(multiply_by_itself(builder.ext_ring(), x, self.1 - 1))
     }
 }

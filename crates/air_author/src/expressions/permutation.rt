@@ -6,7 +6,7 @@ ghost use Rattle.air_builder.specs.Notation.{challenge, permutation_current, per
 ghost use Rattle.air_author.specs.Expressions.{MakesIn};
 
 use crate::AirResult;
-use crate::expressions::{ExtExpression, answered, element, present};
+use crate::expressions::{ExtExpression, element, entry_or, to_air_result};
 use air_builder::{AirError, PermutationAirBuilder, ViewOver};
 use air_core::ExtEntry;
 use air_field::{Algebra, FromVar};
@@ -28,8 +28,8 @@ where
     let found = builder.permutation_variable(offset, index)?;
     let entry = ExtEntry::Permutation { offset };
     let missing = AirError::MissingExtEntry { entry, index };
-    let v = present(found, missing)?;
-    answered(builder.ext_ring().from_var(v))
+    let v = entry_or(found, missing)?;
+    to_air_result(builder.ext_ring().from_var(v))
 }
 
 /// A column of the permutation trace's current row.
@@ -79,8 +79,8 @@ where
         let entry = ExtEntry::Challenge;
         let index = self.0;
         let missing = AirError::MissingExtEntry { entry, index };
-        let v = present(element(builder.permutation_randomness(), index), missing)?;
-        answered(builder.ext_ring().from_var(v))
+        let v = entry_or(element(builder.permutation_randomness(), index), missing)?;
+        to_air_result(builder.ext_ring().from_var(v))
     }
 }
 
@@ -99,7 +99,7 @@ where
         let entry = ExtEntry::PermutationValue;
         let index = self.0;
         let missing = AirError::MissingExtEntry { entry, index };
-        let v = present(element(builder.permutation_values(), index), missing)?;
-        answered(builder.ext_ring().from_var(v))
+        let v = entry_or(element(builder.permutation_values(), index), missing)?;
+        to_air_result(builder.ext_ring().from_var(v))
     }
 }

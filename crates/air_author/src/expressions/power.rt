@@ -5,12 +5,12 @@ ghost use Rattle.air_author.specs.Expressions.{power_term};
 
 use crate::AirResult;
 use crate::expressions::constants::One;
-use crate::expressions::{Expression, answered};
+use crate::expressions::{Expression, to_air_result};
 use air_builder::AirBuilder;
 use air_field::{Algebra, Field, RingError};
 
 /// x, times x so many times more, from the left
-pub(crate) fn multiplied<F: Field, R: Algebra<F>>(
+pub(crate) fn multiply_by_itself<F: Field, R: Algebra<F>>(
     ring: &mut R,
     x: R::Elem,
     more: usize,
@@ -44,6 +44,6 @@ impl<AB: AirBuilder, X: Expression<AB>> Expression<AB> for Power<X> {
             return One.make(builder);
         }
         let x = self.0.make(builder)?;
-        answered(multiplied(builder.ring(), x, self.1 - 1))
+        to_air_result(multiply_by_itself(builder.ring(), x, self.1 - 1))
     }
 }

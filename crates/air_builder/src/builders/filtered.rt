@@ -141,7 +141,7 @@ impl<'a, AB: AirBuilder> AirBuilder for FilteredAirBuilder<'a, AB> {
 
     #[inline(always)]
     fn assert_zero(&mut self, x: AB::Expr) -> Result<(), AirError> {
-        let y = self.inner.ring().gated(self.condition, x)?;
+        let y = self.inner.ring().gate(self.condition, x)?;
         self.inner.assert_zero(y)
     }
 }

@@ -20,7 +20,7 @@ impl<'a, AB: NamedAirBuilder> NamedAirBuilder for FilteredAirBuilder<'a, AB> {
 
     #[inline(always)]
     fn assert_zero_named<N: Name>(&mut self, x: AB::Expr, name: N) -> Result<(), AirError> {
-        let y = self.inner.ring().gated(self.condition, x)?;
+        let y = self.inner.ring().gate(self.condition, x)?;
         self.inner.assert_zero_named(y, name)
     }
 }

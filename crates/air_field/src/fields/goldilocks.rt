@@ -26,7 +26,7 @@ impl Goldilocks {
     }
 
     /// The class of `hi * 2^96 + mid * 2^64 + lo`: 2^64 is 2^32 - 1, and 2^96 is -1.
-    pub(crate) fn reduced(hi: u64, mid: u64, lo: u64) -> Self
+    pub(crate) fn reduce(hi: u64, mid: u64, lo: u64) -> Self
         requires high { hi < 4294967296 }
         requires middle { mid < 4294967296 }
         ensures { result.residue ≡ from_limbs hi mid lo % 18446744069414584321 }

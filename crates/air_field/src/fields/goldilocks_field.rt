@@ -61,7 +61,7 @@ impl Field for Goldilocks {
     fn mul(self, other: Self) -> Self {
         let n = self.residue as u128 * other.residue as u128;
         let high = (n / 18446744073709551616) as u64;
-        Goldilocks::reduced(
+        Goldilocks::reduce(
             high / 4294967296,
             high % 4294967296,
             (n % 18446744073709551616) as u64,

@@ -13,7 +13,7 @@ pub(crate) fn dot_product<M: Modulus>(a: &[Residue<M>; 4], b: &[Residue<M>; 4]) 
 {
     let [a0, a1, a2, a3] = *a;
     let [b0, b1, b2, b3] = *b;
-    Residue::reduced(
+    Residue::reduce(
         a0.unreduced_product(b0)
             + a1.unreduced_product(b1)
             + a2.unreduced_product(b2)

@@ -60,7 +60,7 @@ impl<M: Modulus> Residue<M> {
     }
 
     /// The class of any number.
-    pub(crate) fn reduced(n: u64) -> Self
+    pub(crate) fn reduce(n: u64) -> Self
         ensures { result.residue ≡ n % M.P }
     {
         Residue {

@@ -74,7 +74,7 @@ impl<M: Modulus> Field for Residue<M> {
     }
 
     fn from_u64(n: u64) -> Self {
-        Residue::reduced(n)
+        Residue::reduce(n)
     }
 
     fn from_bool(b: bool) -> Self {

@@ -79,7 +79,7 @@ pub trait Algebra<F: Field> {
 
     /// condition x, of an assertion under a condition. A condition is mostly a selector, 0 or 1 at each row: where the
     /// elements are values, a ring can see that and spare the product.
-    fn gated(&mut self, condition: Self::Elem, x: Self::Elem) -> Result<Self::Elem, RingError>
+    fn gate(&mut self, condition: Self::Elem, x: Self::Elem) -> Result<Self::Elem, RingError>
         requires condition_in { has self.old condition }
         requires x_in { has self.old x }
         ensures extended { extends self.old self.new }

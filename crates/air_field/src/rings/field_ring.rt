@@ -75,7 +75,7 @@ impl<F: Field> Algebra<F> for FieldRing<F> {
     }
 
     #[inline(always)]
-    fn gated(&mut self, condition: F, x: F) -> Result<F, RingError>
+    fn gate(&mut self, condition: F, x: F) -> Result<F, RingError>
         ensures { result ≡ Ok (F.ring.mul condition x) }
     {
         if condition == F::ONE {

@@ -30,7 +30,7 @@ impl<F> Model for VirtualPairCol<F> {
 }
 
 /// x times the constant `weight`
-fn weighted<F: Field, R: Algebra<F>>(
+fn times_weight<F: Field, R: Algebra<F>>(
     ring: &mut R,
     x: R::Elem,
     weight: F,
@@ -241,7 +241,7 @@ impl<F: Field> VirtualPairCol<F> {
         let mut total = ring.constant(self.constant)?;
         for (column, weight) in &self.column_weights {
             let entry = column.get(preprocessed, main);
-            let scaled = weighted(ring, entry, *weight)?;
+            let scaled = times_weight(ring, entry, *weight)?;
             total = ring.add(total, scaled)?;
         }
         Ok(total)

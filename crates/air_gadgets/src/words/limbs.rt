@@ -44,7 +44,7 @@ pub(crate) fn less_three<F: Field, V: Copy, R: FromVar<F, V>>(
 }
 
 /// low + 2^16 high
-pub(crate) fn whole<F: Field, R: Algebra<F>>(
+pub(crate) fn whole_word<F: Field, R: Algebra<F>>(
     ring: &mut R,
     low: R::Elem,
     high: R::Elem,

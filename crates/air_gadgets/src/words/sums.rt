@@ -3,7 +3,7 @@ ghost use Rattle.std.specs.Prelude.{All};
 ghost use Rattle.std.specs.List.{AllZip};
 ghost use Rattle.air_gadgets.specs.Gadgets.{FromTwo, FromThree, FromFour, MakesFrom, LimbsMean, RefusesOne, carried_terms, add2_terms, add3_terms};
 
-use crate::words::limbs::{carries, less_three, less_two, whole};
+use crate::words::limbs::{carries, less_three, less_two, whole_word};
 use air_field::{Algebra, Field, FromVar, RingError};
 
 /// The whole difference and the low one, each times itself and a carry, or two.
@@ -20,7 +20,7 @@ fn with_carries<F: Field, R: Algebra<F>>(
         (RefusesOne R.refuses)
         (FromTwo (carried_terms F.ring two) (R.means ring.old low) (R.means ring.old high)) result }
 {
-    let both = whole(ring, low, high)?;
+    let both = whole_word(ring, low, high)?;
     let first = carries(ring, two, 4294967296, both)?;
     let second = carries(ring, two, 65536, low)?;
     Ok([first, second])

@@ -20,7 +20,7 @@ fn bit<F: Field, V: Copy, R: FromVar<F, V>>(ring: &mut R, x: V, y: V) -> Result<
 }
 
 /// The packed xor of two lists of variables.
-fn packed<F: Field, V: Copy, R: FromVar<F, V>>(
+fn packed_xor<F: Field, V: Copy, R: FromVar<F, V>>(
     ring: &mut R,
     b: &[V],
     c: &[V],
@@ -37,7 +37,7 @@ fn packed<F: Field, V: Copy, R: FromVar<F, V>>(
     if b.len() == 1 {
         return Ok(lowest);
     }
-    let rest = packed(ring, &b[1..], &c[1..])?;
+    let rest = packed_xor(ring, &b[1..], &c[1..])?;
     let twice = ring.double(rest)?;
     ring.add(twice, lowest)
 }
@@ -57,7 +57,7 @@ pub(crate) fn less_packed<F: Field, V: Copy, R: FromVar<F, V>>(
         (FromThree (half_term F.ring) (R.var_means x) (AllZip R.var_means b.now)
         (AllZip R.var_means c.now)) result }
 {
-    let half = packed(ring, b, c)?;
+    let half = packed_xor(ring, b, c)?;
     let limb = ring.from_var(x)?;
     ring.sub(limb, half)
 }

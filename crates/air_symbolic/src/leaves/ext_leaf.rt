@@ -3,7 +3,7 @@
 use crate::leaves::base_leaf::BaseLeaf;
 use crate::leaves::base_part::base_part;
 use crate::leaves::sym_leaf::SymLeaf;
-use crate::pools::degree_table::known;
+use crate::pools::degree_table::degree_at;
 use crate::pools::expr::ExprId;
 use crate::pools::pool::ExprPool;
 use crate::pools::weight::{DegreeTable, LeafWeight};
@@ -105,7 +105,7 @@ impl<F: Field, EF: ExtensionField<F>> SymLeaf for ExtLeaf<F, EF> {
         table: &[Result<usize, RingError>],
     ) -> Result<usize, RingError> {
         if let ExtLeaf::Base(id) = self {
-            return known(table, *id);
+            return degree_at(table, *id);
         }
         match weight {
             LeafWeight::Cached => Ok(self.degree_multiple(base)),

@@ -14,7 +14,7 @@ use crate::pools::weight::{DegreeTable, LeafWeight};
 use air_field::RingError;
 
 /// The degree of a number.
-pub(crate) fn known<A: Copy>(
+pub(crate) fn degree_at<A: Copy>(
     table: &[Result<usize, RingError>],
     id: ExprId<A>,
 ) -> Result<usize, RingError>
@@ -71,10 +71,10 @@ fn degree_of_node<A: SymLeaf>(
 {
     match node {
         SymbolicExpr::Leaf(a) => a.degree_in(weight, base, base_degrees),
-        SymbolicExpr::Add { x, y, .. } => greater_degree(known(table, x), known(table, y)),
-        SymbolicExpr::Sub { x, y, .. } => greater_degree(known(table, x), known(table, y)),
-        SymbolicExpr::Neg { x, .. } => known(table, x),
-        SymbolicExpr::Mul { x, y, .. } => added_degree(known(table, x), known(table, y)),
+        SymbolicExpr::Add { x, y, .. } => greater_degree(degree_at(table, x), degree_at(table, y)),
+        SymbolicExpr::Sub { x, y, .. } => greater_degree(degree_at(table, x), degree_at(table, y)),
+        SymbolicExpr::Neg { x, .. } => degree_at(table, x),
+        SymbolicExpr::Mul { x, y, .. } => added_degree(degree_at(table, x), degree_at(table, y)),
     }
 }
 

@@ -7,7 +7,7 @@ ghost use Rattle.air_symbolic.specs.PoolRefusals.{AnswersDegree};
 ghost use Rattle.air_symbolic.specs.DegreeTables.{AnswersDegrees};
 
 use crate::leaves::sym_leaf::SymLeaf;
-use crate::pools::degree_table::known;
+use crate::pools::degree_table::degree_at;
 use crate::pools::expr::ExprId;
 use crate::pools::pool::ExprPool;
 use crate::pools::weight::{DegreeTable, Degrees, LeafWeight};
@@ -25,7 +25,7 @@ impl<A: SymLeaf> ExprPool<A> {
         let last = id.number();
         prove!(last < count);
         let table = self.degree_table(last + 1, weight)?;
-        known(&table.degrees, id)
+        degree_at(&table.degrees, id)
     }
 
     // The degrees that the roots' nodes state.
@@ -61,7 +61,7 @@ impl<A: SymLeaf> ExprPool<A> {
     {
         let mut values = Vec::with_capacity(*self.nodes.allocator(), roots.len())?;
         for root in roots {
-            let degree = known(&table.degrees, *root)?;
+            let degree = degree_at(&table.degrees, *root)?;
             values.push(degree)?;
         }
         Ok(Degrees {

@@ -11,7 +11,7 @@ use crate::leaves::base_leaf::BaseLeaf;
 use crate::leaves::ext_leaf::ExtLeaf;
 use crate::pools::expr::{ExprId, SymbolicExpr};
 use crate::pools::pool::ExprPool;
-use crate::pools::reach::reached;
+use crate::pools::reach::reached_nodes;
 use air_field::{ExtensionField, Field, RingError};
 
 // The base number at a number's place.
@@ -223,7 +223,7 @@ impl<F: Field, EF: ExtensionField<F>> ExprPool<ExtLeaf<F, EF>> {
         ensures refused { IfErr result (λ e. e ≡ RingError.Memory) }
     {
         self.nodes_fit();
-        let marks = reached(*self.nodes.allocator(), self, &[id])?;
+        let marks = reached_nodes(*self.nodes.allocator(), self, &[id])?;
         if self.has_ext_only(id, &marks) {
             return Ok(None);
         }

@@ -11,7 +11,7 @@ use air_field::RingError;
 use std::alloc::Global;
 
 // So many places, of which none is marked.
-fn unmarked<A: SymLeaf>(alloc: Global, places: usize) -> Result<Vec<Option<ExprId<A>>>, RingError>
+fn no_marks<A: SymLeaf>(alloc: Global, places: usize) -> Result<Vec<Option<ExprId<A>>>, RingError>
     ensures places { IfOk result (λ marks. length marks.items ≡ places) }
     ensures none { IfOk result (λ marks. (i : ℕ) → slice_index_or marks.items i None ≡ None) }
     ensures refused { IfErr result (λ e. e ≡ RingError.Memory) }
@@ -93,7 +93,7 @@ fn mark_reached<A: SymLeaf>(
 }
 
 /// The expressions that the roots reach, each at the place of its number. It is refused for want of memory alone.
-pub fn reached<A: SymLeaf>(
+pub fn reached_nodes<A: SymLeaf>(
     alloc: Global,
     pool: &ExprPool<A>,
     roots: &[ExprId<A>],
@@ -104,7 +104,7 @@ pub fn reached<A: SymLeaf>(
         Reached (A.reads pool.now.base) pool.now.nodes roots.now marks.items) }
     ensures refused { IfErr result (λ e. e ≡ RingError.Memory) }
 {
-    let mut marks = unmarked(alloc, pool.len())?;
+    let mut marks = no_marks(alloc, pool.len())?;
     mark_reached(&mut marks, pool, roots);
     Ok(marks)
 }

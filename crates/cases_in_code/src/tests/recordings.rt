@@ -164,7 +164,7 @@ fn folder_by<'a, F: Field, EF: ExtensionField<F>>(alpha: EF) -> Folder<'a, F, EF
 }
 
 // What 1, `x`, 12 and 30 are folded to by 10; the last two are products with conditions.
-fn folded<F: Field, EF: ExtensionField<F>>(x: EF, asked: &Cell<u32>) -> Result<EF, AirError> {
+fn fold_four<F: Field, EF: ExtensionField<F>>(x: EF, asked: &Cell<u32>) -> Result<EF, AirError> {
     let conditions = (element::<F, EF>(3), element::<F, EF>(5));
     let under = (element::<F, EF>(4), element::<F, EF>(6));
     let mut folder: Folder<'_, F, EF> = folder_by(element::<F, EF>(10));
@@ -176,7 +176,7 @@ fn folded<F: Field, EF: ExtensionField<F>>(x: EF, asked: &Cell<u32>) -> Result<E
 #[test]
 fn each_assertion_is_folded(rt: HostRuntime) -> Result<(), Fail> {
     let asked = Cell::new(0);
-    let sum = folded::<BabyBear, Element>(root_times(2), &asked)?;
+    let sum = fold_four::<BabyBear, Element>(root_times(2), &asked)?;
     assert_eq!(rt; asked.get(), 0);
     let wanted = Element::from_basis_coefficients(&[1150, 200, 0, 0].map(BabyBear::new));
     assert_eq!(rt; sum, wanted);

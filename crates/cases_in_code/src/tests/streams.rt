@@ -35,7 +35,7 @@ impl Source for Pieces<'_> {
         Ok(count)
     }
 
-    fn failed(&self) -> bool {
+    fn has_failed(&self) -> bool {
         self.failed
     }
 }
@@ -65,7 +65,7 @@ impl Sink for Kept {
         Ok(count)
     }
 
-    fn failed(&self) -> bool {
+    fn has_failed(&self) -> bool {
         self.failed
     }
 }

@@ -19,7 +19,7 @@ use air_symbolic::{BaseLeaf, ExprId, ExprPool, SymbolicExpr};
 
 /// The expression at a place of the table.
 #[inline(always)]
-pub(crate) fn known<E: Copy>(table: &[E], place: usize) -> E
+pub(crate) fn expression_at<E: Copy>(table: &[E], place: usize) -> E
     requires { place < length table.now }
     ensures { slice_get table.now place ≡ Some result }
 {
@@ -43,7 +43,7 @@ impl<'a, AB: AirBuilder> Expression<AB> for AtPlace<'a, AB::Expr, AB::F> {
 
     #[inline(always)]
     fn make(&self, _builder: &mut AB) -> Result<AB::Expr, AirError> {
-        Ok(known(self.2, self.3))
+        Ok(expression_at(self.2, self.3))
     }
 }
 

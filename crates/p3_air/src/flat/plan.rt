@@ -14,7 +14,7 @@ use crate::flat::pushing::push;
 use crate::flat::step::Step;
 use air_builder::AirError;
 use air_field::Field;
-use air_symbolic::{BaseEntry, BaseLeaf, ExprId, ExprPool, SymLeaf, SymbolicExpr, reached};
+use air_symbolic::{BaseEntry, BaseLeaf, ExprId, ExprPool, SymLeaf, SymbolicExpr, reached_nodes};
 use std::alloc::Global;
 
 /// How the expressions of some roots are made, one after another.
@@ -162,7 +162,7 @@ pub(crate) fn plan_of<F: Field>(
         plan.numbers.items plan.steps.items plan.places.items) }
     ensures refused { IfErr result (λ e. e ≡ AirError.Memory) }
 {
-    let marks = reached(alloc, pool, roots)?;
+    let marks = reached_nodes(alloc, pool, roots)?;
     let (numbers, places) = number_marked(alloc, &marks)?;
     let steps = steps_of(alloc, pool, &numbers, &places)?;
     let places = places_of(alloc, roots, &places)?;

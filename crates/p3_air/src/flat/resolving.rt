@@ -7,7 +7,7 @@ ghost use Rattle.air_author.specs.Expressions.{MakesTerm};
 ghost use Rattle.air_builder.specs.Batches.{OrMemory};
 ghost use Rattle.p3_air.specs.Tables.{MakesAll};
 
-use crate::flat::nodes::known;
+use crate::flat::nodes::expression_at;
 use crate::flat::plan::plan_of;
 use crate::flat::table::make_planned;
 use air_builder::{AirBuilder, AirError};
@@ -32,7 +32,7 @@ pub fn resolve<AB: AirBuilder>(
         (term_at base_reads pool.now id) }
 {
     let expressions = resolve_all(alloc, pool, &[id], builder)?;
-    Ok(known(&expressions, 0))
+    Ok(expression_at(&expressions, 0))
 }
 
 /// The same of several expressions, in order: what they have in common is made once.

@@ -11,7 +11,7 @@ ghost use Rattle.p3_air.specs.Plans.{number_at, IsPlan};
 ghost use Rattle.air_builder.specs.Batches.{AssertedEach, OrMemory};
 ghost use Rattle.p3_air.specs.Tables.{IsMade, HasAt, AssertsAt, TableMade, MakesAll};
 
-use crate::flat::nodes::{known, make_step};
+use crate::flat::nodes::{expression_at, make_step};
 use crate::flat::plan::Plan;
 use crate::flat::pushing::push;
 use air_builder::{AirBuilder, AirError};
@@ -57,7 +57,7 @@ fn read_places<E: Copy>(alloc: Global, table: &[E], places: &[usize]) -> Result<
 {
     let mut expressions = Vec::with_capacity(alloc, places.len())?;
     for place in places {
-        push(&mut expressions, known(table, *place))?;
+        push(&mut expressions, expression_at(table, *place))?;
     }
     Ok(expressions)
 }
@@ -95,7 +95,7 @@ pub(crate) fn assert_places<AB: AirBuilder>(
         AB.kept AB.grew AB.refuses builder.old builder.new places.now result }
 {
     for place in places {
-        builder.assert_zero(known(table, *place))?;
+        builder.assert_zero(expression_at(table, *place))?;
     }
     Ok(())
 }

@@ -16,10 +16,10 @@ loop-name-preserved g c =
     c.in_ok-push_str.ensures.bytes
     ∙ ap (λ t. t ++ codes "\n") (c.in_ok-push_definition.ensures ∙ ap (λ t. t ++ text) c.in_ok-write.ensures.bytes)
     ∙ definition-pieces old (codes "%") (decimal k) (codes " = ") text (codes "\n") in
-    line-more line c.named-id-items.result.now k c.id-item.result old (string_bytes c.push_str.new.self) _ c.loop-name-test.true c.id-item.is c.loop-name.invariant written
+    line-more line c.named_expressions-id-items.result.now k c.id-item.result old (string_bytes c.push_str.new.self) _ c.loop-name-test.true c.id-item.is c.loop-name.invariant written
 
 pub returns : goal.returns
 returns g c =
     let line = definition_line g.F.PrimeField64.residues c.args.pool.now c.args.names.now.1 in
-    line-all line c.named-id-items.result.now c.loop-name.name-counter (string_bytes c.loop-name.text) _ c.loop-name-test.false c.loop-name.invariant
-    ∙ ap (λ xs. string_bytes c.args.text.now ++ lines_text (number_lines line xs)) c.named-id-items.ensures
+    line-all line c.named_expressions-id-items.result.now c.loop-name.name-counter (string_bytes c.loop-name.text) _ c.loop-name-test.false c.loop-name.invariant
+    ∙ ap (λ xs. string_bytes c.args.text.now ++ lines_text (number_lines line xs)) c.named_expressions-id-items.ensures

@@ -8,7 +8,7 @@ use Rattle.air_object.proofs.parts.read_elements.Goals as goal
 
 pub returns-in-Array-clause-ok : goal.returns-in-Array-clause-ok
 returns-in-Array-clause-ok g c =
-    elements_of_array g.F.PrimeField64.residues c.read_items.result (converted of_json (value c.args.depth c.args.reader.now)) (converted of_items (items (value c.in-Array.inside) (length c.begun.new.reader) c.begun.new.reader)) c.read_items.new.reader (subst (IsBegun c.args.depth c.args.reader.now c.begun.new.reader) c.in-Array.is c.in_ok-inside.ensures.ok) c.read_items.ensures.ok
+    elements_of_array g.F.PrimeField64.residues c.read_items.result (converted of_json (value c.args.depth c.args.reader.now)) (converted of_items (items (value c.in-Array.inside) (length c.read_beginning.new.reader) c.read_beginning.new.reader)) c.read_items.new.reader (subst (IsBegun c.args.depth c.args.reader.now c.read_beginning.new.reader) c.in-Array.is c.in_ok-inside.ensures.ok) c.read_items.ensures.ok
 
 pub returns-in-Array-clause-err : goal.returns-in-Array-clause-err
-returns-in-Array-clause-err g c refused = (subst (IsBegun c.args.depth c.args.reader.now c.begun.new.reader) c.in-Array.is c.in_ok-inside.ensures.ok) ∙ ap (parse_map array) (c.read_items.ensures.err refused)
+returns-in-Array-clause-err g c refused = (subst (IsBegun c.args.depth c.args.reader.now c.read_beginning.new.reader) c.in-Array.is c.in_ok-inside.ensures.ok) ∙ ap (parse_map array) (c.read_items.ensures.err refused)

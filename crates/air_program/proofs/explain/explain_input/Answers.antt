@@ -77,7 +77,7 @@ returns-clause-ok g c =
     let same = same_instance input air.pool air.roots.items air.width air.num_public_values air.preprocessed air.periodic.items air.cells.items public of in
     let finds : AuditFinds m (flat_instance input) input.cap input.transition_weight f =
     subst (λ (x : Instance _). AuditFinds m x input.cap input.transition_weight f) same c.in_ok-findings.ensures.found in
-    if_both _ _ _ c.explained.result
+    if_both _ _ _ c.explain_findings.result
     (λ p s t. (
       f,
       finds,
@@ -85,4 +85,4 @@ returns-clause-ok g c =
       same_text input air.pool air.roots.items air.width air.num_public_values air.preprocessed air.periodic.items air.cells.items public of m f (string_bytes p.1)
           (subst (λ (values : List _). IsExplainedText m air.pool air.roots.items air.cells.items (trace_with input.main air.preprocessed air.periodic.items values) f (string_bytes p.1)) (c.deref-2.ensures.value ∙ sym c.deref.ensures.value) t),
     ))
-    c.explained.ensures.status c.explained.ensures.text
+    c.explain_findings.ensures.status c.explain_findings.ensures.text

@@ -7,8 +7,8 @@ use Rattle.air_program.specs.Explained.{failing_roots}
 use Rattle.air_program.proofs.ExplainedLemmas.{names_here, failing_here}
 use Rattle.air_program.proofs.explain.push_names.Goals as goal
 
-pub reached-requires-clause-here : goal.reached-requires-clause-here
-reached-requires-clause-here g c =
+pub reached_nodes-requires-clause-here : goal.reached_nodes-requires-clause-here
+reached_nodes-requires-clause-here g c =
     let ns = c.args.air.now.pool.nodes in
     let fs = map seen_failure c.args.failures.now in
     let same : c.deref-2.result.now ≡ failing_roots c.args.air.now.roots.items fs =

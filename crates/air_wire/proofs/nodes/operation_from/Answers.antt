@@ -30,7 +30,7 @@ returns g c =
     let d = view c.args.contents.now in
     let same = operation_seen A.kind tree ids trees (trees_are A.seen c.requires) c.args.operation d (Ok c.in_ok-operands.operands) c.in_ok-operands.ensures.read in
     record {
-      grown = c.inserted.ensures.grown;
-      here = c.inserted.ensures.here;
-      read = subst (Gives (seen_at A.seen c.inserted.new.pool) c.inserted.result) same c.inserted.ensures.read;
+      grown = c.insert_operation.ensures.grown;
+      here = c.insert_operation.ensures.here;
+      read = subst (Gives (seen_at A.seen c.insert_operation.new.pool) c.insert_operation.result) same c.insert_operation.ensures.read;
     }

@@ -16,7 +16,7 @@ returns-in_err-bit g t c =
 pub returns : goal.returns
 returns g t c =
     let some : 0 < c.args.more = omega (arith, c.if-more-eq0.false) in
-    packed_answered (g.S.Series.term_at c.args.series.now) g.met.AB.Ring.Algebra.laws g.met.AB.AirBuilder.laws c.args.at c.args.more some _ _ _ _ _ _ _ _ _ c.in_ok-above.ensures c.in_ok-bit.ensures c.answered.ensures c.ring.ensures.value c.twice_and.ensures.extended c.twice_and.ensures.made c.twice_and.ensures.refused
+    packed_answered (g.S.Series.term_at c.args.series.now) g.met.AB.Ring.Algebra.laws g.met.AB.AirBuilder.laws c.args.at c.args.more some _ _ _ _ _ _ _ _ _ c.in_ok-above.ensures c.in_ok-bit.ensures c.to_air_result.ensures c.ring.ensures.value c.twice_and.ensures.extended c.twice_and.ensures.made c.twice_and.ensures.refused
 
 pub twice_and-requires-clause-x_in : goal.twice_and-requires-clause-x_in
 twice_and-requires-clause-x_in g t c = stays_in_ring g.met.AB.Ring.Algebra.laws g.met.AB.AirBuilder.laws _ _ _ _ _ _ _ _ c.in_ok-above.ensures c.in_ok-bit.ensures c.ring.ensures.value

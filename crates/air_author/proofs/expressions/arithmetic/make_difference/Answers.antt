@@ -8,7 +8,7 @@ pub returns-in_err-x : goal.returns-in_err-x
 returns-in_err-x g c = operand_gives_up (in_sub_left whole) (in_sub_right whole) c.from_residual.ensures.1 c.in_err-x.ensures
 
 pub returns : goal.returns
-returns g c = both_answered g.met.AB.Ring.Algebra.laws g.met.AB.AirBuilder.laws sub_term _ _ _ _ _ _ _ _ _ _ _ c.in_ok-x.ensures c.answered.ensures c.ring.ensures.value c.sub.ensures.extended c.sub.ensures.made c.sub.ensures.refused refl (λ h. h)
+returns g c = both_answered g.met.AB.Ring.Algebra.laws g.met.AB.AirBuilder.laws sub_term _ _ _ _ _ _ _ _ _ _ _ c.in_ok-x.ensures c.to_air_result.ensures c.ring.ensures.value c.sub.ensures.extended c.sub.ensures.made c.sub.ensures.refused refl (λ h. h)
 
 pub sub-requires-clause-x_in : goal.sub-requires-clause-x_in
 sub-requires-clause-x_in g c = first_in_ring g.met.AB.Ring.Algebra.laws g.met.AB.AirBuilder.laws _ _ _ _ _ _ _ c.in_ok-x.ensures c.ring.ensures.value

@@ -8,7 +8,7 @@ pub returns-in_err-x : goal.returns-in_err-x
 returns-in_err-x g c = operand_gives_up (in_mul_left whole) (in_mul_right whole) c.from_residual.ensures.1 c.in_err-x.ensures
 
 pub returns : goal.returns
-returns g c = both_answered g.met.AB.Ring.Algebra.laws g.met.AB.AirBuilder.laws mul_term _ _ _ _ _ _ _ _ _ _ _ c.in_ok-x.ensures c.answered.ensures c.ring.ensures.value c.mul.ensures.extended c.mul.ensures.made c.mul.ensures.refused refl (λ h. h)
+returns g c = both_answered g.met.AB.Ring.Algebra.laws g.met.AB.AirBuilder.laws mul_term _ _ _ _ _ _ _ _ _ _ _ c.in_ok-x.ensures c.to_air_result.ensures c.ring.ensures.value c.mul.ensures.extended c.mul.ensures.made c.mul.ensures.refused refl (λ h. h)
 
 pub mul-requires-clause-x_in : goal.mul-requires-clause-x_in
 mul-requires-clause-x_in g c = first_in_ring g.met.AB.Ring.Algebra.laws g.met.AB.AirBuilder.laws _ _ _ _ _ _ _ c.in_ok-x.ensures c.ring.ensures.value

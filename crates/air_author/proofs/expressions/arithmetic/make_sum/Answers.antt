@@ -8,7 +8,7 @@ pub returns-in_err-x : goal.returns-in_err-x
 returns-in_err-x g c = operand_gives_up (in_add_left whole) (in_add_right whole) c.from_residual.ensures.1 c.in_err-x.ensures
 
 pub returns : goal.returns
-returns g c = both_answered g.met.AB.Ring.Algebra.laws g.met.AB.AirBuilder.laws add_term _ _ _ _ _ _ _ _ _ _ _ c.in_ok-x.ensures c.answered.ensures c.ring.ensures.value c.add.ensures.extended c.add.ensures.made c.add.ensures.refused refl (λ h. h)
+returns g c = both_answered g.met.AB.Ring.Algebra.laws g.met.AB.AirBuilder.laws add_term _ _ _ _ _ _ _ _ _ _ _ c.in_ok-x.ensures c.to_air_result.ensures c.ring.ensures.value c.add.ensures.extended c.add.ensures.made c.add.ensures.refused refl (λ h. h)
 
 pub add-requires-clause-x_in : goal.add-requires-clause-x_in
 add-requires-clause-x_in g c = first_in_ring g.met.AB.Ring.Algebra.laws g.met.AB.AirBuilder.laws _ _ _ _ _ _ _ c.in_ok-x.ensures c.ring.ensures.value

@@ -9,7 +9,7 @@ use Rattle.air_author.proofs.expressions.columns.make_found.Goals as goal
 pub returns : goal.returns
 returns g c =
     let m = subst (λ o. IfSome o (VariableReadsAs g.AB.Ring.FromVar-1.var_means (g.AB.AirBuilder.reads_as c.args.builder.now) (entry_leaf c.args.entry c.args.index))) c.in_ok-v.ensures.ok c.requires.found in
-    operation_answered g.met.AB.Ring.Algebra.laws g.met.AB.AirBuilder.laws (g.AB.Ring.FromVar-1.var_means c.in_ok-v.v) (λ u. u) _ _ _ _ _ _ (leaf_term (entry_leaf c.args.entry c.args.index)) _ c.answered.ensures (g.met.AB.AirBuilder.laws.same _) c.ring.ensures.value c.from_var.ensures.extended c.from_var.ensures.made c.from_var.ensures.refused m refl (λ h. some_none (sym c.in_ok-v.ensures.ok ∙ c.requires.none.1 h))
+    operation_answered g.met.AB.Ring.Algebra.laws g.met.AB.AirBuilder.laws (g.AB.Ring.FromVar-1.var_means c.in_ok-v.v) (λ u. u) _ _ _ _ _ _ (leaf_term (entry_leaf c.args.entry c.args.index)) _ c.to_air_result.ensures (g.met.AB.AirBuilder.laws.same _) c.ring.ensures.value c.from_var.ensures.extended c.from_var.ensures.made c.from_var.ensures.refused m refl (λ h. some_none (sym c.in_ok-v.ensures.ok ∙ c.requires.none.1 h))
 
 pub returns-in_err-v : goal.returns-in_err-v
 returns-in_err-v g c =

@@ -14,7 +14,7 @@ returns g c =
     let is = c.in_ok-v.ensures.ok in
     let means = subst (λ o. IfSome o (VariableReadsAs g.AB.ExtRing.FromVar-1.var_means (g.AB.AirBuilder.reads_as c.args.builder.now) leaf)) is found.found in
     let there = found.none c.requires.within in
-    operation_answered g.met.AB.ExtRing.Algebra.laws (over_extension laws g.met.AB.ExtensionBuilder.ext_laws) (g.AB.ExtRing.FromVar-1.var_means c.in_ok-v.v) (λ u. u) _ _ _ _ _ _ (leaf_term leaf) _ c.answered.ensures (laws.same _) c.ext_ring.ensures.value c.from_var.ensures.extended c.from_var.ensures.made c.from_var.ensures.refused means refl (λ h. some_none (sym is ∙ there.1 h))
+    operation_answered g.met.AB.ExtRing.Algebra.laws (over_extension laws g.met.AB.ExtensionBuilder.ext_laws) (g.AB.ExtRing.FromVar-1.var_means c.in_ok-v.v) (λ u. u) _ _ _ _ _ _ (leaf_term leaf) _ c.to_air_result.ensures (laws.same _) c.ext_ring.ensures.value c.from_var.ensures.extended c.from_var.ensures.made c.from_var.ensures.refused means refl (λ h. some_none (sym is ∙ there.1 h))
 
 pub returns-in_err-found : goal.returns-in_err-found
 returns-in_err-found g c = window_gives_up g.met.AB.AirBuilder.laws _ _ _ c.args.offset _ c.from_residual.ensures.1 c.in_err-found.ensures.refused

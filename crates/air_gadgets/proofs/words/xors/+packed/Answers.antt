@@ -26,23 +26,23 @@ returns-in_err-twice-clause-makes g m c =
     let more : 1 < length c.args.b.now = omega (arith, c.requires.some, c.if-b-eq1.false) in
     let e = c.in_err-twice.field-0.0 in
     gives_up e c.from_residual-in_err-twice.ensures.1
-    (from_all g.R.FromVar.var_means g.F.Field.ring c.args.b.now c.args.c.now c.index-b-0.is c.index-c-0.is c.requires.same (λ _. Unit {0}) (g.R.Algebra.means c.packed.new.ring c.in_ok-rest.rest) (g.R.Algebra.refuses e) more (λ _ _ _ _. tt) c.in_ok-rest.ensures.makes.made.1
+    (from_all g.R.FromVar.var_means g.F.Field.ring c.args.b.now c.args.c.now c.index-b-0.is c.index-c-0.is c.requires.same (λ _. Unit {0}) (g.R.Algebra.means c.packed_xor.new.ring c.in_ok-rest.rest) (g.R.Algebra.refuses e) more (λ _ _ _ _. tt) c.in_ok-rest.ensures.makes.made.1
     (λ x y h _. g.met.R.Algebra.laws.refuses_whole e (double_term x) (add_term (double_term x) y) (in_add_left whole) (c.in_err-twice.ensures.refused x h)))
 
 pub returns-clause-extended : goal.returns-clause-extended
 returns-clause-extended g m c =
     let laws = g.met.R.Algebra.laws in
     laws.joined c.args.ring.now c.bit.new.ring c.add.new.self c.bit.ensures.extended
-    (laws.joined c.bit.new.ring c.packed.new.ring c.add.new.self c.packed.ensures.extended
-    (laws.joined c.packed.new.ring c.double.new.self c.add.new.self c.double.ensures.extended c.add.ensures.extended))
+    (laws.joined c.bit.new.ring c.packed_xor.new.ring c.add.new.self c.packed_xor.ensures.extended
+    (laws.joined c.packed_xor.new.ring c.double.new.self c.add.new.self c.double.ensures.extended c.add.ensures.extended))
 
 pub returns-clause-makes : goal.returns-clause-makes
 returns-clause-makes g m c =
     let laws = g.met.R.Algebra.laws in
     let more : 1 < length c.args.b.now = omega (arith, c.requires.some, c.if-b-eq1.false) in
-    let later = laws.joined c.bit.new.ring c.packed.new.ring c.double.new.self c.packed.ensures.extended c.double.ensures.extended in
+    let later = laws.joined c.bit.new.ring c.packed_xor.new.ring c.double.new.self c.packed_xor.ensures.extended c.double.ensures.extended in
     makes_by laws c.add.result c.add.ensures.made c.add.ensures.refused
-    (λ M h. from_all g.R.FromVar.var_means g.F.Field.ring c.args.b.now c.args.c.now c.index-b-0.is c.index-c-0.is c.requires.same (g.R.Algebra.means c.bit.new.ring c.in_ok-lowest.lowest) (g.R.Algebra.means c.packed.new.ring c.in_ok-rest.rest) M more c.in_ok-lowest.ensures.makes.made.1 c.in_ok-rest.ensures.makes.made.1
+    (λ M h. from_all g.R.FromVar.var_means g.F.Field.ring c.args.b.now c.args.c.now c.index-b-0.is c.index-c-0.is c.requires.same (g.R.Algebra.means c.bit.new.ring c.in_ok-lowest.lowest) (g.R.Algebra.means c.packed_xor.new.ring c.in_ok-rest.rest) M more c.in_ok-lowest.ensures.makes.made.1 c.in_ok-rest.ensures.makes.made.1
     (λ x y i j. h (double_term x) y (c.in_ok-twice.ensures.made.1 x i) (laws.means_stays c.bit.new.ring c.double.new.self c.in_ok-lowest.lowest y later j)))
 
 pub bit-requires : goal.bit-requires
@@ -54,7 +54,7 @@ double-requires g m c = c.in_ok-rest.ensures.makes.made.0
 pub add-requires : goal.add-requires
 add-requires g m c =
     let laws = g.met.R.Algebra.laws in
-    let later = laws.joined c.bit.new.ring c.packed.new.ring c.double.new.self c.packed.ensures.extended c.double.ensures.extended in record {
+    let later = laws.joined c.bit.new.ring c.packed_xor.new.ring c.double.new.self c.packed_xor.ensures.extended c.double.ensures.extended in record {
       x_in = c.in_ok-twice.ensures.made.0;
       y_in = laws.has_stays c.bit.new.ring c.double.new.self c.in_ok-lowest.lowest later c.in_ok-lowest.ensures.makes.made.0;
     }
@@ -66,10 +66,10 @@ pub returns-then-b-eq1-clause-extended : goal.returns-then-b-eq1-clause-extended
 returns-then-b-eq1-clause-extended g m c = c.bit.ensures.extended
 
 pub returns-in_err-rest-clause-extended : goal.returns-in_err-rest-clause-extended
-returns-in_err-rest-clause-extended g m c = g.met.R.Algebra.laws.joined c.args.ring.now c.bit.new.ring c.packed.new.ring c.bit.ensures.extended c.packed.ensures.extended
+returns-in_err-rest-clause-extended g m c = g.met.R.Algebra.laws.joined c.args.ring.now c.bit.new.ring c.packed_xor.new.ring c.bit.ensures.extended c.packed_xor.ensures.extended
 
 pub returns-in_err-twice-clause-extended : goal.returns-in_err-twice-clause-extended
 returns-in_err-twice-clause-extended g m c =
     let laws = g.met.R.Algebra.laws in
     laws.joined c.args.ring.now c.bit.new.ring c.double.new.self c.bit.ensures.extended
-    (laws.joined c.bit.new.ring c.packed.new.ring c.double.new.self c.packed.ensures.extended c.double.ensures.extended)
+    (laws.joined c.bit.new.ring c.packed_xor.new.ring c.double.new.self c.packed_xor.ensures.extended c.double.ensures.extended)

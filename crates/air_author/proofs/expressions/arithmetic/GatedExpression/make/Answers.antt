@@ -8,10 +8,10 @@ pub returns-in_err-condition : goal.returns-in_err-condition
 returns-in_err-condition g c = operand_gives_up (in_mul_left whole) (in_mul_right whole) c.from_residual.ensures.1 c.in_err-condition.ensures
 
 pub returns : goal.returns
-returns g c = both_answered g.met.AB.Ring.Algebra.laws g.met.AB.AirBuilder.laws mul_term _ _ _ _ _ _ _ _ _ _ _ c.in_ok-condition.ensures c.answered.ensures c.ring.ensures.value c.gated.ensures.extended c.gated.ensures.made c.gated.ensures.refused refl (λ h. h)
+returns g c = both_answered g.met.AB.Ring.Algebra.laws g.met.AB.AirBuilder.laws mul_term _ _ _ _ _ _ _ _ _ _ _ c.in_ok-condition.ensures c.to_air_result.ensures c.ring.ensures.value c.gate.ensures.extended c.gate.ensures.made c.gate.ensures.refused refl (λ h. h)
 
-pub gated-requires-clause-condition_in : goal.gated-requires-clause-condition_in
-gated-requires-clause-condition_in g c = first_in_ring g.met.AB.Ring.Algebra.laws g.met.AB.AirBuilder.laws _ _ _ _ _ _ _ c.in_ok-condition.ensures c.ring.ensures.value
+pub gate-requires-clause-condition_in : goal.gate-requires-clause-condition_in
+gate-requires-clause-condition_in g c = first_in_ring g.met.AB.Ring.Algebra.laws g.met.AB.AirBuilder.laws _ _ _ _ _ _ _ c.in_ok-condition.ensures c.ring.ensures.value
 
-pub gated-requires-clause-x_in : goal.gated-requires-clause-x_in
-gated-requires-clause-x_in g c = second_in_ring g.met.AB.Ring.Algebra.laws g.met.AB.AirBuilder.laws _ _ _ _ _ _ _ c.in_ok-condition.ensures c.ring.ensures.value
+pub gate-requires-clause-x_in : goal.gate-requires-clause-x_in
+gate-requires-clause-x_in g c = second_in_ring g.met.AB.Ring.Algebra.laws g.met.AB.AirBuilder.laws _ _ _ _ _ _ _ c.in_ok-condition.ensures c.ring.ensures.value

@@ -8,7 +8,7 @@ pub returns-in_err-x : goal.returns-in_err-x
 returns-in_err-x g c = part_gives_up (in_neg whole) c.from_residual.ensures.1 c.in_err-x.ensures
 
 pub returns : goal.returns
-returns g c = one_answered g.met.AB.Ring.Algebra.laws g.met.AB.AirBuilder.laws neg_term _ _ _ _ _ _ _ _ _ c.in_ok-x.ensures c.answered.ensures c.ring.ensures.value c.neg.ensures.extended c.neg.ensures.made c.neg.ensures.refused refl (λ h. h)
+returns g c = one_answered g.met.AB.Ring.Algebra.laws g.met.AB.AirBuilder.laws neg_term _ _ _ _ _ _ _ _ _ c.in_ok-x.ensures c.to_air_result.ensures c.ring.ensures.value c.neg.ensures.extended c.neg.ensures.made c.neg.ensures.refused refl (λ h. h)
 
 pub neg-requires : goal.neg-requires
 neg-requires g c = made_in_ring g.met.AB.Ring.Algebra.laws g.met.AB.AirBuilder.laws _ _ _ _ _ c.in_ok-x.ensures c.ring.ensures.value

@@ -5,7 +5,7 @@ use Rattle.air_author.specs.laws.Making.{entry_answered, leaf_gives_up}
 use Rattle.air_author.proofs.expressions.columns.PeriodicExpression.make.Goals as goal
 
 pub returns : goal.returns
-returns g c = entry_answered g.met.AB.Ring.Algebra.laws g.met.AB.AirBuilder.laws g.AB.Ring.FromVar-3.var_means periodic _ _ _ _ _ _ _ _ c.answered.ensures c.ring.ensures.value c.from_var.ensures.extended c.from_var.ensures.made c.from_var.ensures.refused c.periodic_values.ensures.reads_as c.periodic_values.ensures.ends (sym c.element.ensures ∙ c.in_ok-v.ensures.ok)
+returns g c = entry_answered g.met.AB.Ring.Algebra.laws g.met.AB.AirBuilder.laws g.AB.Ring.FromVar-3.var_means periodic _ _ _ _ _ _ _ _ c.to_air_result.ensures c.ring.ensures.value c.from_var.ensures.extended c.from_var.ensures.made c.from_var.ensures.refused c.periodic_values.ensures.reads_as c.periodic_values.ensures.ends (sym c.element.ensures ∙ c.in_ok-v.ensures.ok)
 
 pub returns-in_err-v : goal.returns-in_err-v
 returns-in_err-v g c =

@@ -5,4 +5,4 @@ use Rattle.air_author.specs.laws.Making.{ring_answered}
 use Rattle.air_author.proofs.expressions.extension.ExtConstantEFExtExpression.make_ext.Goals as goal
 
 pub returns : goal.returns
-returns g c = ring_answered g.met.AB.ExtRing.Algebra.laws (over_extension g.met.AB.AirBuilder.laws g.met.AB.ExtensionBuilder.ext_laws) _ _ _ _ _ (ext_const_term (g.AB.EF.ExtensionField.basis.coefficients c.args.self.now.0)) _ _ c.answered.ensures (g.met.AB.AirBuilder.laws.same _) c.ext_ring.ensures.value c.ext_constant.ensures.extended c.ext_constant.ensures.made c.ext_constant.ensures.refused refl tt
+returns g c = ring_answered g.met.AB.ExtRing.Algebra.laws (over_extension g.met.AB.AirBuilder.laws g.met.AB.ExtensionBuilder.ext_laws) _ _ _ _ _ (ext_const_term (g.AB.EF.ExtensionField.basis.coefficients c.args.self.now.0)) _ _ c.to_air_result.ensures (g.met.AB.AirBuilder.laws.same _) c.ext_ring.ensures.value c.ext_constant.ensures.extended c.ext_constant.ensures.made c.ext_constant.ensures.refused refl tt

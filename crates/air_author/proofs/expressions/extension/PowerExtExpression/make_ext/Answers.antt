@@ -17,8 +17,8 @@ returns g c =
     let at = g.AB.AirBuilder.reads_as c.make_ext-2.new.builder in
     let t = g.X.ExtExpression.ext_term c.args.self.now.0 in
     let n : suc (c.args.self.now.1 - 1) ≡ c.args.self.now.1 = omega arith in
-    one_answered g.met.AB.ExtRing.Algebra.laws (over_extension g.met.AB.AirBuilder.laws g.met.AB.ExtensionBuilder.ext_laws) (λ u. power_term one u (suc (c.args.self.now.1 - 1))) _ _ _ _ _ _ _ _ _ c.in_ok-x.ensures c.answered.ensures c.ext_ring.ensures.value c.multiplied.ensures.extended c.multiplied.ensures.made c.multiplied.ensures.refused
+    one_answered g.met.AB.ExtRing.Algebra.laws (over_extension g.met.AB.AirBuilder.laws g.met.AB.ExtensionBuilder.ext_laws) (λ u. power_term one u (suc (c.args.self.now.1 - 1))) _ _ _ _ _ _ _ _ _ c.in_ok-x.ensures c.to_air_result.ensures c.ext_ring.ensures.value c.multiply_by_itself.ensures.extended c.multiply_by_itself.ensures.made c.multiply_by_itself.ensures.refused
     (ap (power_term one (with_leaves at t)) n ∙ power_with_leaves at one t c.args.self.now.1) (each_power _ one t c.args.self.now.1)
 
-pub multiplied-requires : goal.multiplied-requires
-multiplied-requires g c = made_in_ring g.met.AB.ExtRing.Algebra.laws (over_extension g.met.AB.AirBuilder.laws g.met.AB.ExtensionBuilder.ext_laws) _ _ _ _ _ c.in_ok-x.ensures c.ext_ring.ensures.value
+pub multiply_by_itself-requires : goal.multiply_by_itself-requires
+multiply_by_itself-requires g c = made_in_ring g.met.AB.ExtRing.Algebra.laws (over_extension g.met.AB.AirBuilder.laws g.met.AB.ExtensionBuilder.ext_laws) _ _ _ _ _ c.in_ok-x.ensures c.ext_ring.ensures.value

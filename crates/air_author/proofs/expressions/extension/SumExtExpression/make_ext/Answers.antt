@@ -9,7 +9,7 @@ pub returns-in_err-x : goal.returns-in_err-x
 returns-in_err-x g c = operand_gives_up (in_add_left whole) (in_add_right whole) c.from_residual.ensures.1 c.in_err-x.ensures
 
 pub returns : goal.returns
-returns g c = both_answered g.met.AB.ExtRing.Algebra.laws (over_extension g.met.AB.AirBuilder.laws g.met.AB.ExtensionBuilder.ext_laws) add_term _ _ _ _ _ _ _ _ _ _ _ c.in_ok-x.ensures c.answered.ensures c.ext_ring.ensures.value c.add.ensures.extended c.add.ensures.made c.add.ensures.refused refl (λ h. h)
+returns g c = both_answered g.met.AB.ExtRing.Algebra.laws (over_extension g.met.AB.AirBuilder.laws g.met.AB.ExtensionBuilder.ext_laws) add_term _ _ _ _ _ _ _ _ _ _ _ c.in_ok-x.ensures c.to_air_result.ensures c.ext_ring.ensures.value c.add.ensures.extended c.add.ensures.made c.add.ensures.refused refl (λ h. h)
 
 pub add-requires-clause-x_in : goal.add-requires-clause-x_in
 add-requires-clause-x_in g c = first_in_ring g.met.AB.ExtRing.Algebra.laws (over_extension g.met.AB.AirBuilder.laws g.met.AB.ExtensionBuilder.ext_laws) _ _ _ _ _ _ _ c.in_ok-x.ensures c.ext_ring.ensures.value

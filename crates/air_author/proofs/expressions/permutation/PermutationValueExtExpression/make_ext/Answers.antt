@@ -6,7 +6,7 @@ use Rattle.air_author.specs.laws.Making.{entry_answered, leaf_gives_up}
 use Rattle.air_author.proofs.expressions.permutation.PermutationValueExtExpression.make_ext.Goals as goal
 
 pub returns : goal.returns
-returns g c = entry_answered g.met.AB.ExtRing.Algebra.laws (over_extension g.met.AB.AirBuilder.laws g.met.AB.ExtensionBuilder.ext_laws) g.AB.ExtRing.FromVar-3.var_means permutation_value _ _ _ _ _ _ _ _ c.answered.ensures c.ext_ring.ensures.value c.from_var.ensures.extended c.from_var.ensures.made c.from_var.ensures.refused c.permutation_values.ensures.reads_as c.permutation_values.ensures.ends (sym c.element.ensures ∙ c.in_ok-v.ensures.ok)
+returns g c = entry_answered g.met.AB.ExtRing.Algebra.laws (over_extension g.met.AB.AirBuilder.laws g.met.AB.ExtensionBuilder.ext_laws) g.AB.ExtRing.FromVar-3.var_means permutation_value _ _ _ _ _ _ _ _ c.to_air_result.ensures c.ext_ring.ensures.value c.from_var.ensures.extended c.from_var.ensures.made c.from_var.ensures.refused c.permutation_values.ensures.reads_as c.permutation_values.ensures.ends (sym c.element.ensures ∙ c.in_ok-v.ensures.ok)
 
 pub returns-in_err-v : goal.returns-in_err-v
 returns-in_err-v g c =

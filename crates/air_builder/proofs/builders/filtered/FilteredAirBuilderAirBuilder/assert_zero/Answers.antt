@@ -9,8 +9,8 @@ use Rattle.air_builder.proofs.builders.filtered.FilteredAirBuilderAirBuilder.ass
 
 pub returns : goal.returns
 returns g c =
-    filter_asserted g.met.AB.Ring.Algebra.laws g.met.AB.AirBuilder.laws Base mul_term (λ s t. refl) (λ p. p.inner.now) (λ p. p.inner.ghost_name) (λ p. p.condition) (Means g.AB.Ring.Algebra.means g.AB.AirBuilder.ring_of g.AB.AirBuilder.reads_as) (g.AB.Ring.Algebra.means c.ring.result.now c.args.self.now.condition) c.ring.ensures.value c.gated.ensures.extended (λ s k. means_in g.AB.Ring.Algebra.means _ _ c.ring.ensures.value k) (λ s t. refl) refl refl c.in_ok-y.ensures.made.1 c.assert_zero.ensures
+    filter_asserted g.met.AB.Ring.Algebra.laws g.met.AB.AirBuilder.laws Base mul_term (λ s t. refl) (λ p. p.inner.now) (λ p. p.inner.ghost_name) (λ p. p.condition) (Means g.AB.Ring.Algebra.means g.AB.AirBuilder.ring_of g.AB.AirBuilder.reads_as) (g.AB.Ring.Algebra.means c.ring.result.now c.args.self.now.condition) c.ring.ensures.value c.gate.ensures.extended (λ s k. means_in g.AB.Ring.Algebra.means _ _ c.ring.ensures.value k) (λ s t. refl) refl refl c.in_ok-y.ensures.made.1 c.assert_zero.ensures
 
 pub returns-in_err-y : goal.returns-in_err-y
 returns-in_err-y g c =
-    filter_gives_up g.met.AB.Ring.Algebra.laws g.met.AB.AirBuilder.laws Base mul_term (λ s t. refl) (λ p. p.inner.now) (λ p. p.inner.ghost_name) (λ p. p.condition) (Means g.AB.Ring.Algebra.means g.AB.AirBuilder.ring_of g.AB.AirBuilder.reads_as) (g.AB.Ring.Algebra.means c.ring.result.now c.args.self.now.condition) c.ring.ensures.value c.gated.ensures.extended (λ s k. means_in g.AB.Ring.Algebra.means _ _ c.ring.ensures.value k) (λ s t. refl) refl refl (λ t. inl whole) refl c.from_residual.ensures.1 c.in_err-y.ensures.refused
+    filter_gives_up g.met.AB.Ring.Algebra.laws g.met.AB.AirBuilder.laws Base mul_term (λ s t. refl) (λ p. p.inner.now) (λ p. p.inner.ghost_name) (λ p. p.condition) (Means g.AB.Ring.Algebra.means g.AB.AirBuilder.ring_of g.AB.AirBuilder.reads_as) (g.AB.Ring.Algebra.means c.ring.result.now c.args.self.now.condition) c.ring.ensures.value c.gate.ensures.extended (λ s k. means_in g.AB.Ring.Algebra.means _ _ c.ring.ensures.value k) (λ s t. refl) refl refl (λ t. inl whole) refl c.from_residual.ensures.1 c.in_err-y.ensures.refused

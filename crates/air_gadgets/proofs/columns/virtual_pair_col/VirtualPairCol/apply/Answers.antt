@@ -19,8 +19,8 @@ loop-column-init g c =
     (begin_combining g.met.R.Algebra.laws _ c.args.preprocessed.now c.args.main.now c.args.ring.now c.constant.new.self c.in_ok-total.total
     c.in_ok-total.ensures.extended c.in_ok-total.ensures.made)
 
-pub weighted-requires : goal.weighted-requires
-weighted-requires g c =
+pub times_weight-requires : goal.times_weight-requires
+times_weight-requires g c =
     entry_in (g.R.Algebra.has c.loop-column.ring) c.loop-column-item.result.0 c.args.preprocessed.now c.args.main.now c.get-entry.result
     (stays_in g.met.R.Algebra.laws _ _ c.args.preprocessed.now c.loop-column.invariant.extended c.requires.preprocessed_in)
     (stays_in g.met.R.Algebra.laws _ _ c.args.main.now c.loop-column.invariant.extended c.requires.main_in)
@@ -40,37 +40,37 @@ returns-in_err-scaled-clause-refused g c =
 
 pub returns-in_err-total-2-clause-extended : goal.returns-in_err-total-2-clause-extended
 returns-in_err-total-2-clause-extended g c =
-    g.met.R.Algebra.laws.joined _ _ _ c.loop-column.invariant.extended (g.met.R.Algebra.laws.joined _ _ _ c.weighted.ensures.extended c.add.ensures.extended)
+    g.met.R.Algebra.laws.joined _ _ _ c.loop-column.invariant.extended (g.met.R.Algebra.laws.joined _ _ _ c.times_weight.ensures.extended c.add.ensures.extended)
 
 pub returns-in_err-total-2-clause-refused : goal.returns-in_err-total-2-clause-refused
 returns-in_err-total-2-clause-refused g c =
     let p = err_from_is_err_and c.from_residual-in_err-total-2.result c.from_residual-in_err-total-2.ensures.1 in
     rw (p.1, p.2)
     (columns_as_air g.R.Algebra.means g.R.Algebra.refuses c.args.ring.now c.args.self.now c.args.preprocessed.now c.args.main.now c.in_err-total-2.field-0.0
-    (adding_refused g.met.R.Algebra.laws c.args.self.now c.args.preprocessed.now c.args.main.now c.args.ring.now c.loop-column.ring c.weighted.new.ring c.in_err-total-2.field-0.0
+    (adding_refused g.met.R.Algebra.laws c.args.self.now c.args.preprocessed.now c.args.main.now c.args.ring.now c.loop-column.ring c.times_weight.new.ring c.in_err-total-2.field-0.0
     c.loop-column-item.result.0 c.loop-column-item.result.1 c.loop-column.total c.get-entry.result c.in_ok-scaled.scaled (drop (c.loop-column.column-index + 1) c.deref-column-items.result.now)
-    c.get-entry.ensures c.weighted.ensures.extended c.in_ok-scaled.ensures.made c.in_err-total-2.ensures.refused
+    c.get-entry.ensures c.times_weight.ensures.extended c.in_ok-scaled.ensures.made c.in_err-total-2.ensures.refused
     (subst (IsCombining g.R.Algebra.has g.R.Algebra.means g.R.Algebra.extends c.args.ring.now c.loop-column.ring c.args.self.now c.args.preprocessed.now c.args.main.now c.loop-column.total)
     (drop_item c.deref-column-items.result.now c.loop-column.column-index c.loop-column-item.result c.loop-column-test.true c.loop-column-item.is)
     c.loop-column.invariant)))
 
 pub loop-column-preserved : goal.loop-column-preserved
 loop-column-preserved g c =
-    combine_one g.met.R.Algebra.laws c.args.self.now c.args.preprocessed.now c.args.main.now c.args.ring.now c.loop-column.ring c.weighted.new.ring c.add.new.self
+    combine_one g.met.R.Algebra.laws c.args.self.now c.args.preprocessed.now c.args.main.now c.args.ring.now c.loop-column.ring c.times_weight.new.ring c.add.new.self
     c.loop-column-item.result.0 c.loop-column-item.result.1 c.loop-column.total c.get-entry.result c.in_ok-scaled.scaled c.in_ok-total-2.total (drop (c.loop-column.column-index + 1) c.deref-column-items.result.now)
-    c.get-entry.ensures c.weighted.ensures.extended c.add.ensures.extended c.in_ok-scaled.ensures.made c.in_ok-total-2.ensures.made
+    c.get-entry.ensures c.times_weight.ensures.extended c.add.ensures.extended c.in_ok-scaled.ensures.made c.in_ok-total-2.ensures.made
     (subst (IsCombining g.R.Algebra.has g.R.Algebra.means g.R.Algebra.extends c.args.ring.now c.loop-column.ring c.args.self.now c.args.preprocessed.now c.args.main.now c.loop-column.total)
     (drop_item c.deref-column-items.result.now c.loop-column.column-index c.loop-column-item.result c.loop-column-test.true c.loop-column-item.is)
     c.loop-column.invariant)
 
 pub add-requires : goal.add-requires
 add-requires g c = record {
-  x_in = g.met.R.Algebra.laws.has_stays _ _ _ c.weighted.ensures.extended c.loop-column.invariant.total_in;
+  x_in = g.met.R.Algebra.laws.has_stays _ _ _ c.times_weight.ensures.extended c.loop-column.invariant.total_in;
   y_in = c.in_ok-scaled.ensures.made.0;
 }
 
 pub returns-in_err-scaled-clause-extended : goal.returns-in_err-scaled-clause-extended
-returns-in_err-scaled-clause-extended g c = g.met.R.Algebra.laws.joined _ _ _ c.loop-column.invariant.extended c.weighted.ensures.extended
+returns-in_err-scaled-clause-extended g c = g.met.R.Algebra.laws.joined _ _ _ c.loop-column.invariant.extended c.times_weight.ensures.extended
 
 pub returns-clause-extended : goal.returns-clause-extended
 returns-clause-extended g c = c.loop-column.invariant.extended

@@ -16,8 +16,8 @@ returns-in_err-degree-clause-refused g c =
     (subst (λ a. AnswersDegree (degree root) a) (sym c.in_err-degree.ensures)
     (subst (λ t. AnswersDegree (degree root) (answer_at t root)) (sym c.deref.ensures.value) (known.each root))) n))
 
-pub known-requires : goal.known-requires
-known-requires g c =
+pub degree_at-requires : goal.degree_at-requires
+degree_at-requires g c =
     let root = c.root-item.result in
     let here = c.requires.all_in c.loop-root.root-index root c.loop-root-test.true in
     subst (λ t. root < length t) (sym c.deref.ensures.value) (subst (λ x. x < length c.args.table.now.degrees.items) (sym c.root-item.is) here)

@@ -2,10 +2,10 @@ use Rattle.p3_air.proofs.Making.{made_already, read_is}
 use Rattle.p3_air.proofs.Roots.{has_within}
 use Rattle.p3_air.proofs.flat.nodes.AtPlaceExprFExpression.make.Goals as goal
 
-pub known-requires : goal.known-requires
-known-requires g c = has_within _ _ _ (c.requires.usable _ (g.met.AB.AirBuilder.laws.by_growth _ _ _ (g.met.AB.AirBuilder.laws.same _)))
+pub expression_at-requires : goal.expression_at-requires
+expression_at-requires g c = has_within _ _ _ (c.requires.usable _ (g.met.AB.AirBuilder.laws.by_growth _ _ _ (g.met.AB.AirBuilder.laws.same _)))
 
 pub returns : goal.returns
 returns g c =
     let laws = g.met.AB.AirBuilder.laws in
-    made_already laws _ _ _ (read_is _ c.args.self.now.2.now c.args.self.now.3 _ (c.requires.usable _ (laws.by_growth _ _ _ (laws.same _))) c.known.ensures)
+    made_already laws _ _ _ (read_is _ c.args.self.now.2.now c.args.self.now.3 _ (c.requires.usable _ (laws.by_growth _ _ _ (laws.same _))) c.expression_at.ensures)

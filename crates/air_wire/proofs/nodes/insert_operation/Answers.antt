@@ -2,7 +2,7 @@ use Rattle.std.proofs.Common.{Ok, sym, ap, ◌∙◌}
 use Rattle.air_symbolic.specs.Pools.{tree_at}
 use Rattle.air_wire.specs.Unshared.{seen_at}
 use Rattle.air_wire.proofs.SeenTrees.{over-negative, negative-both, seen_there}
-use Rattle.air_wire.proofs.nodes.inserted.Goals as goal
+use Rattle.air_wire.proofs.nodes.insert_operation.Goals as goal
 
 pub returns-in_ok-insert_neg-in-Neg : goal.returns-in_ok-insert_neg-in-Neg
 returns-in_ok-insert_neg-in-Neg g c =

@@ -1,7 +1,7 @@
 use Rattle.std.proofs.Common.{◌<◌, rules}
 use Rattle.std.proofs.lemmas.Result.{err_from_is_err_and}
 use Rattle.air_author.proofs.Powers.{first_power, next_power, power_refused}
-use Rattle.air_author.proofs.expressions.power.multiplied.Goals as goal
+use Rattle.air_author.proofs.expressions.power.multiply_by_itself.Goals as goal
 
 pub loop-done-init : goal.loop-done-init
 loop-done-init g c = first_power g.met.R.Algebra.laws g.F.Field.ring.one _ _ c.requires

@@ -4,7 +4,7 @@ use Rattle.air_field.specs.Term.{const_term, mul_term}
 use Rattle.air_field.specs.Part.{whole, in_add_right, in_mul_right}
 use Rattle.air_gadgets.specs.Gadgets.{whole_term}
 use Rattle.air_gadgets.proofs.Making.{gives_up, makes_by}
-use Rattle.air_gadgets.proofs.words.limbs.whole.Goals as goal
+use Rattle.air_gadgets.proofs.words.limbs.whole_word.Goals as goal
 
 pub returns-in_err-scale-clause-makes : goal.returns-in_err-scale-clause-makes
 returns-in_err-scale-clause-makes g c =

@@ -1,5 +1,5 @@
 use Rattle.std.proofs.Common.{◌≡◌, ℕ, length, get_or, None}
-use Rattle.air_symbolic.proofs.pools.reach.unmarked.Given as goal
+use Rattle.air_symbolic.proofs.pools.reach.no_marks.Given as goal
 
 abbrev pub invariant-loop-place : goal.invariant-loop-place
 invariant-loop-place g l = record {

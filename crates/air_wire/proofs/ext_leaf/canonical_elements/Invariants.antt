@@ -1,7 +1,7 @@
 use Rattle.std.proofs.Common.{◌≡◌, take, drop, map}
 use Rattle.std.specs.List.{list_all}
 use Rattle.air_wire.specs.Coefficients.{is_canonical}
-use Rattle.air_wire.proofs.ext_leaf.canonical.Given as goal
+use Rattle.air_wire.proofs.ext_leaf.canonical_elements.Given as goal
 
 abbrev pub invariant-loop-number : goal.invariant-loop-number
 invariant-loop-number g l = record {

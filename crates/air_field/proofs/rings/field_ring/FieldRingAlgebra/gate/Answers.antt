@@ -1,6 +1,6 @@
 use Rattle.std.proofs.Common.{ap, sym, ◌∙◌, Ok}
 use Rattle.air_field.specs.laws.Ring.{zero_mul}
-use Rattle.air_field.proofs.rings.field_ring.FieldRingAlgebra.gated.Goals as goal
+use Rattle.air_field.proofs.rings.field_ring.FieldRingAlgebra.gate.Goals as goal
 
 pub returns-then-eq-2 : goal.returns-then-eq-2
 returns-then-eq-2 g c =

@@ -4,7 +4,7 @@ use Rattle.json.specs.Reads.{token_of}
 use Rattle.json.proofs.Grammar.{value_is, value-begin_array}
 use Rattle.serde_json.specs.Read.{of_json, converted}
 use Rattle.air_object.proofs.TokenLemmas.{converted-array}
-use Rattle.air_object.proofs.text.begun.Goals as goal
+use Rattle.air_object.proofs.text.read_beginning.Goals as goal
 
 pub returns-in_err-token-clause-err : goal.returns-in_err-token-clause-err
 returns-in_err-token-clause-err c refused =

@@ -2,7 +2,7 @@ use Rattle.std.proofs.lemmas.Result.{err_from_is_err_and}
 use Rattle.air_field.specs.Term.{const_term}
 use Rattle.air_field.specs.Part.{whole, in_mul_right}
 use Rattle.air_field.specs.Algebra.{scaled_term}
-use Rattle.air_gadgets.proofs.columns.virtual_pair_col.weighted.Goals as goal
+use Rattle.air_gadgets.proofs.columns.virtual_pair_col.times_weight.Goals as goal
 
 pub returns-in_err-scale-clause-refused : goal.returns-in_err-scale-clause-refused
 returns-in_err-scale-clause-refused g c =
