@@ -13,8 +13,8 @@ loop-letter-init c = rw c.new-text.ensures.bytes spells-nothing
 pub loop-letter-preserved-then-behind : goal.loop-letter-preserved-then-behind
 loop-letter-preserved-then-behind c =
     let behind = subst (λ (b : Bool). SpellsSoFar c.loop-letter.yielded b (string_bytes c.loop-letter.text)) c.if-behind.true c.loop-letter.invariant in
-    let letter = letter-of (escaped_letter c.in-Some.letter) _ c.in_ok-escaped.field-0 c.in_ok-escaped.ensures in
-    rw c.in_ok-push.ensures.bytes (spells-more c.loop-letter.yielded (string_bytes c.loop-letter.text) true c.in-Some.letter c.in_ok-escaped.field-0 behind (inr (c.in-Some.letter, refl, letter)))
+    let letter = letter-of (escaped_letter c.in-Some.letter) _ c.in_ok-unescape.field-0 c.in_ok-unescape.ensures in
+    rw c.in_ok-push.ensures.bytes (spells-more c.loop-letter.yielded (string_bytes c.loop-letter.text) true c.in-Some.letter c.in_ok-unescape.field-0 behind (inr (c.in-Some.letter, refl, letter)))
 
 pub loop-letter-preserved-then-letter-eq92 : goal.loop-letter-preserved-then-letter-eq92
 loop-letter-preserved-then-letter-eq92 c =
@@ -32,14 +32,14 @@ returns-clause-text c = λ _.
     let whole = subst (λ (b : Bool). SpellsSoFar c.loop-letter.yielded b (string_bytes c.loop-letter.text)) c.if-behind-2.false c.loop-letter.invariant in
     spells-all c.args.word.now (string_bytes c.loop-letter.text) c.loop-letter.yielded (sym (map-id c.loop-letter.yielded) ∙ t.0) whole
 
-pub returns-in_err-escaped-clause-refused : goal.returns-in_err-escaped-clause-refused
-returns-in_err-escaped-clause-refused c =
+pub returns-in_err-unescape-clause-refused : goal.returns-in_err-unescape-clause-refused
+returns-in_err-unescape-clause-refused c =
     let road = YieldsList-from_chars c.args.word.now c.utf8.word cc in
     let read = sym (map-id c.loop-letter.yielded) ∙ YieldsList-so_far road c.loop-letter.yielded _ c.loop-letter.yielded_by in
     let t = YieldsList-turn road c.loop-letter.yielded _ c.loop-letter.yielded_by _ _ c.in-Some.letter c.in-Some.is c.next.ensures.steps in
     let all = read-next (chars c.args.word.now) c.loop-letter.yielded c.in-Some.letter read t.0 t.1 in
     let behind = subst (λ (b : Bool). SpellsSoFar c.loop-letter.yielded b (string_bytes c.loop-letter.text)) c.if-behind.true c.loop-letter.invariant in
-    let not = no-letter (escaped_letter c.in-Some.letter) _ c.in_err-escaped.field-0.0 c.in_err-escaped.ensures in
+    let not = no-letter (escaped_letter c.in-Some.letter) _ c.in_err-unescape.field-0.0 c.in_err-unescape.ensures in
     let none = not.0 in
     let is = not.1 in
     let no : SpellsNoText c.args.word.now = λ text. spells-none c.args.word.now c.loop-letter.yielded _ text c.in-Some.letter all none (string_bytes c.loop-letter.text) behind in
