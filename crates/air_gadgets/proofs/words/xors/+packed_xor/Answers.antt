@@ -4,7 +4,7 @@ use Rattle.air_field.specs.Term.{add_term}
 use Rattle.air_field.specs.Algebra.{double_term}
 use Rattle.air_gadgets.proofs.Making.{gives_up, makes_by}
 use Rattle.air_gadgets.proofs.PackedXors.{from_lowest, from_all}
-use Rattle.air_gadgets.proofs.words.xors.+packed.Goals as goal
+use Rattle.air_gadgets.proofs.words.xors.+packed_xor.Goals as goal
 
 pub returns-in_err-lowest-clause-makes : goal.returns-in_err-lowest-clause-makes
 returns-in_err-lowest-clause-makes g m c =
