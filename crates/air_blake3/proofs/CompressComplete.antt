@@ -1,7 +1,7 @@
 -- Where a row holds a block, its states and its compression, all terms are zero.
 use Rattle.std.specs.Prelude.{◌≡◌, ℕ, zero, suc, refl, ◌+◌, ◌-◌, ◌*◌, ◌^◌, ◌<◌, ◌≤◌, List, [], ◌∷◌, ◌++◌, length, map, take, drop, bit_xor, slice_index}
 use Rattle.std.proofs.Common.{sym, ◌∙◌, ap, ap₂, subst, arith}
-use Rattle.air_field.specs.Ring.{CommRing, image, itself, minus}
+use Rattle.air_field.specs.Ring.{CommRing, image, self_algebra, minus}
 use Rattle.air_field.specs.laws.Images.{HasCharacteristic}
 use Rattle.air_field.specs.Term.{Leaf, Term}
 use Rattle.air_field.specs.Value.{value}
@@ -36,7 +36,7 @@ module _ {F : Type 0} (R : CommRing F) (s : Leaf → F) where
   vanish-each f zero h = tt
   vanish-each f (suc n) h = vanish-both R s (asserts_of_first f n) (f n) (vanish-each f n (λ i l. h i (omega arith))) (h n (omega arith))
 
-  checks_vanish : (ts : List (Term F)) → AllChecked R (map (value (itself R) s) ts) → AllVanish R s (test_asserts R ts)
+  checks_vanish : (ts : List (Term F)) → AllChecked R (map (value (self_algebra R) s) ts) → AllVanish R s (test_asserts R ts)
   checks_vanish [] h = tt
   checks_vanish (t ∷ ts) h = (h.0, checks_vanish ts h.1)
 
@@ -61,7 +61,7 @@ module _ {F : Type 0} (R : CommRing F) (s : Leaf → F) where
       let high : number_of bs ≡ number_of cs = omega (arith, hb.0, hc.0, n) in
       ap₂ (λ x xs. x ∷ xs) low (same_bits bs cs hb.1 hc.1 (omega arith) high)
 
-  ring_vanish : (ts us vs : List (Term F)) → map (value (itself R) s) vs ≡ ring_xors R (map (value (itself R) s) ts) (map (value (itself R) s) us) → AllVanish R s (xors_are ts us vs)
+  ring_vanish : (ts us vs : List (Term F)) → map (value (self_algebra R) s) vs ≡ ring_xors R (map (value (self_algebra R) s) ts) (map (value (self_algebra R) s) us) → AllVanish R s (xors_are ts us vs)
   ring_vanish [] us vs e = tt
   ring_vanish (t ∷ ts) [] vs e = tt
   ring_vanish (t ∷ ts) (u ∷ us) [] e = tt

@@ -3,7 +3,7 @@ use Rattle.std.specs.Prelude.{◌≡◌, ℕ, zero, suc, refl, ◌+◌, ◌*◌,
 use Rattle.std.proofs.Common.{sym, ◌∙◌, ap, ap₂, subst, inl, inr, arith}
 use Rattle.std.proofs.lemmas.Bool.{cases_lt}
 use Rattle.std.proofs.lemmas.List.{length-map}
-use Rattle.air_field.specs.Ring.{CommRing, image, itself}
+use Rattle.air_field.specs.Ring.{CommRing, image, self_algebra}
 use Rattle.air_field.specs.laws.Images.{HasCharacteristic, same_of_image}
 use Rattle.air_field.specs.Term.{Leaf, Term}
 use Rattle.air_field.specs.Value.{value}
@@ -42,19 +42,19 @@ pub unturned : (bs : List ℕ) → length bs ≡ 32 → rotated_left 0 bs ≡ bs
 unturned bs e = ap₂ (λ xs ys. xs ++ ys) (drop_all 32 bs (omega arith)) (take_all 32 bs (omega arith))
 
 module _ {F : Type 0} (R : CommRing F) (s : Leaf → F) where
-  checked : (ts : List (Term F)) → AllVanish R s (test_asserts R ts) → AllChecked R (map (value (itself R) s) ts)
+  checked : (ts : List (Term F)) → AllVanish R s (test_asserts R ts) → AllChecked R (map (value (self_algebra R) s) ts)
   checked [] h = tt
   checked (t ∷ ts) h = (h.0, checked ts h.1)
 
   -- columns that are bits hold a word
   bits_hold : IsDomain R → (ts : List (Term F)) → length ts ≡ 32 → AllVanish R s (test_asserts R ts) → (n : ℕ) × IsBitsOf R s ts n
   bits_hold domain ts whole vanish =
-      let bits : (ns : List ℕ) × (AreBits ns) × (map (value (itself R) s) ts ≡ map (image R) ns) = bits_of_checks R domain (map (value (itself R) s) ts) (checked ts vanish) in (
+      let bits : (ns : List ℕ) × (AreBits ns) × (map (value (self_algebra R) s) ts ≡ map (image R) ns) = bits_of_checks R domain (map (value (self_algebra R) s) ts) (checked ts vanish) in (
         number_of bits.0,
         record {
           bits = bits.0;
           are = bits.1;
-          count = sym (length-map bits.0 (image R)) ∙ ap length (sym bits.2) ∙ length-map ts (value (itself R) s) ∙ whole;
+          count = sym (length-map bits.0 (image R)) ∙ ap length (sym bits.2) ∙ length-map ts (value (self_algebra R) s) ∙ whole;
           values = bits.2;
           number = refl;
         },
@@ -78,7 +78,7 @@ module _ {F : Type 0} (R : CommRing F) (s : Leaf → F) where
   }
 
   ring_values : (ts us vs : List (Term F)) → length ts ≡ length us → length us ≡ length vs → AllVanish R s (xors_are ts us vs)
-      → map (value (itself R) s) vs ≡ ring_xors R (map (value (itself R) s) ts) (map (value (itself R) s) us)
+      → map (value (self_algebra R) s) vs ≡ ring_xors R (map (value (self_algebra R) s) ts) (map (value (self_algebra R) s) us)
   ring_values [] us [] m n vanish = refl
   ring_values [] us (v ∷ vs) m n vanish = absurd (omega (arith, m, n))
   ring_values (t ∷ ts) [] vs m n vanish = absurd (omega arith)
@@ -88,8 +88,8 @@ module _ {F : Type 0} (R : CommRing F) (s : Leaf → F) where
 
   xor_values : (ts us vs : List (Term F)) (bs cs : List ℕ) → AreBits bs → AreBits cs
       → length ts ≡ length us → length us ≡ length vs
-      → map (value (itself R) s) ts ≡ map (image R) bs → map (value (itself R) s) us ≡ map (image R) cs
-      → AllVanish R s (xors_are ts us vs) → map (value (itself R) s) vs ≡ map (image R) (xor_bits bs cs)
+      → map (value (self_algebra R) s) ts ≡ map (image R) bs → map (value (self_algebra R) s) us ≡ map (image R) cs
+      → AllVanish R s (xors_are ts us vs) → map (value (self_algebra R) s) vs ≡ map (image R) (xor_bits bs cs)
   xor_values ts us vs bs cs hb hc m n eb ec vanish =
       ring_values ts us vs m n vanish ∙ ap₂ (ring_xors R) eb ec ∙ xors-images R bs cs hb hc
 
@@ -117,7 +117,7 @@ module _ {F : Type 0} (R : CommRing F) (s : Leaf → F) where
         → AllVanish R s (xor_asserts R w ts us 0) → IsBitsOf R s us (bit_xor n m)
     flat_holds w ts us n m whole h k vanish =
         let new : IsXorOf R s w us 0 h.bits = (xor_is_exact R w ts us 0 s h.bits domain h.are h.values).0 vanish in
-        let count : length new.c ≡ 32 = sym (length-map new.c (image R)) ∙ ap length (sym new.values) ∙ length-map us (value (itself R) s) ∙ whole in
+        let count : length new.c ≡ 32 = sym (length-map new.c (image R)) ∙ ap length (sym new.values) ∙ length-map us (value (self_algebra R) s) ∙ whole in
         let bits = xor_bits h.bits (rotated_left 0 new.c) in
         let flat = unturned new.c count in
         let are : AreBits bits = bits-xor h.bits (rotated_left 0 new.c) in

@@ -3,7 +3,7 @@ use Rattle.std.specs.Prelude.{◌≡◌, ℕ, refl, ◌*◌, ◌^◌, ◌<◌, L
 use Rattle.std.specs.Int.{w32, rotate_right}
 use Rattle.std.proofs.lemmas.List.{take-map, drop-map, length-map}
 use Rattle.std.proofs.Common.{sym, ◌∙◌, ap, ap₂, subst, arith}
-use Rattle.air_field.specs.Ring.{CommRing, image, itself}
+use Rattle.air_field.specs.Ring.{CommRing, image, self_algebra}
 use Rattle.air_field.specs.laws.Images.{HasCharacteristic}
 use Rattle.air_field.specs.Term.{Leaf, Term}
 use Rattle.air_field.specs.Value.{value}
@@ -34,12 +34,12 @@ module _ {F : Type 0} (R : CommRing F) (s : Leaf → F) where
 
   -- some of a word's bits, packed
   packed_value : (f : List (Term F) → List (Term F)) (g : List F → List F) (h : List ℕ → List ℕ)
-      → ((ts : List (Term F)) → g (map (value (itself R) s) ts) ≡ map (value (itself R) s) (f ts))
+      → ((ts : List (Term F)) → g (map (value (self_algebra R) s) ts) ≡ map (value (self_algebra R) s) (f ts))
       → ((ns : List ℕ) → g (map (image R) ns) ≡ map (image R) (h ns))
-      → (ts : List (Term F)) (bs : List ℕ) → map (value (itself R) s) ts ≡ map (image R) bs
-      → value (itself R) s (packed_term R.zero (f ts)) ≡ image R (number_of (h bs))
+      → (ts : List (Term F)) (bs : List ℕ) → map (value (self_algebra R) s) ts ≡ map (image R) bs
+      → value (self_algebra R) s (packed_term R.zero (f ts)) ≡ image R (number_of (h bs))
   packed_value f g h alike alike_too ts bs e =
-      value-packed_term (itself R) R.zero refl s (f ts)
+      value-packed_term (self_algebra R) R.zero refl s (f ts)
       ∙ ap (binary_sum R) (sym (alike ts) ∙ ap g e ∙ alike_too bs)
       ∙ packed-images R (h bs)
 
@@ -49,8 +49,8 @@ module _ {F : Type 0} (R : CommRing F) (s : Leaf → F) where
     limbs = record { low = number_of (take 16 h.bits); high = number_of (drop 16 h.bits) };
     small = (low_half-lt h.bits h.are h.count, high_half-lt h.bits h.are h.count);
     values = (
-      packed_value (take 16) (take 16) (take 16) (take-map (value (itself R) s) 16) (take-map (image R) 16) ts h.bits h.values,
-      packed_value (drop 16) (drop 16) (drop 16) (drop-map (value (itself R) s) 16) (drop-map (image R) 16) ts h.bits h.values,
+      packed_value (take 16) (take 16) (take 16) (take-map (value (self_algebra R) s) 16) (take-map (image R) 16) ts h.bits h.values,
+      packed_value (drop 16) (drop 16) (drop 16) (drop-map (value (self_algebra R) s) 16) (drop-map (image R) 16) ts h.bits h.values,
     );
     number = sym (number_of-halves h.bits h.count) ∙ h.number;
   }
@@ -61,7 +61,7 @@ module _ {F : Type 0} (R : CommRing F) (s : Leaf → F) where
       → (x : ℕ) × (IsLimbsOf R s w x) × (IsBitsOf R s us (rotate_right w32 (bit_xor n x) j))
   xored domain w ts us n j some within whole h vanish =
       let new : IsXorOf R s w us j h.bits = (xor_is_exact R w ts us j s h.bits domain h.are h.values).0 vanish in
-      let count : length new.c ≡ 32 = sym (length-map new.c (image R)) ∙ ap length (sym new.values) ∙ length-map us (value (itself R) s) ∙ whole in
+      let count : length new.c ≡ 32 = sym (length-map new.c (image R)) ∙ ap length (sym new.values) ∙ length-map us (value (self_algebra R) s) ∙ whole in
       let bits = xor_bits h.bits (rotated_left j new.c) in
       let are : AreBits bits = bits-xor h.bits (rotated_left j new.c) in
       let long : length bits ≡ 32 = length-xor h.bits (rotated_left j new.c) (h.count ∙ sym (length-rotated j new.c count)) ∙ h.count in (

@@ -1,6 +1,6 @@
 -- What it means that columns hold words, and what the theorems say.
 use Rattle.std.specs.Prelude.{◌≡◌, ℕ, ◌+◌, ◌*◌, ◌^◌, ◌<◌, List, length, map}
-use Rattle.air_field.specs.Ring.{CommRing, image, itself}
+use Rattle.air_field.specs.Ring.{CommRing, image, self_algebra}
 use Rattle.air_field.specs.Term.{Leaf, Term}
 use Rattle.air_field.specs.Value.{value}
 use Rattle.air_gadgets.specs.Bits.{AreBits}
@@ -27,7 +27,7 @@ pub record IsBitsOf {F : Type 0} (R : CommRing F) (s : Leaf → F) (ts : List (T
   pub bits : List ℕ
   pub are : AreBits bits
   pub count : length bits ≡ 32
-  pub values : map (value (itself R) s) ts ≡ map (image R) bits
+  pub values : map (value (self_algebra R) s) ts ≡ map (image R) bits
   pub number : number_of bits ≡ n
 
 -- the terms have these four words as their values, and these sixteen

@@ -8,7 +8,7 @@ use Rattle.air_gadgets.specs.Exact.{AllVanish}
 use Rattle.air_field.specs.Domain.{IsDomain}
 use Rattle.air_report.specs.Instances.{instance_trace, row_count}
 use Rattle.air_report.specs.Report.{report_of, failure_place}
-use Rattle.air_report.specs.Cells.{cell_place, left_of}
+use Rattle.air_report.specs.Cells.{cell_place, take_within_cap}
 use Rattle.air_report.specs.Checks.{IsReport}
 use Rattle.air_report.specs.declared.checks.report.ConstraintReport.{ConstraintReport}
 use Rattle.air_laws.specs.laws.Checks.{report_vanish}
@@ -18,7 +18,7 @@ use Rattle.air_blake3.specs.Row.{compression}
 use Rattle.air_blake3_rows.specs.Checks.{compression_instance, HoldCompressions, ReportsListNothing}
 use Rattle.air_blake3_rows.specs.Traces.{AreCompressionRows}
 
-none_left : {X : Type 0} (cap : Option ℕ) (n : ℕ) → left_of {X = X} cap n [] ≡ []
+none_left : {X : Type 0} (cap : Option ℕ) (n : ℕ) → take_within_cap {X = X} cap n [] ≡ []
 none_left None n = refl
 none_left {X} (Some k) n = none_taken (k - n)
   where

@@ -2,7 +2,7 @@
 use Rattle.std.specs.Prelude.{◌≡◌, ℕ, zero, suc, refl, ◌/◌, ◌%◌, ◌^◌, ◌<◌, List, length, map}
 use Rattle.std.proofs.Common.{ap, arith}
 use Rattle.std.proofs.Math.Nat.{pow-suc}
-use Rattle.air_field.specs.Ring.{CommRing, image, itself}
+use Rattle.air_field.specs.Ring.{CommRing, image, self_algebra}
 use Rattle.air_field.specs.Term.{Leaf, Term}
 use Rattle.air_field.specs.Value.{value}
 use Rattle.air_gadgets.specs.Bits.{AreBits, digits_of}
@@ -26,7 +26,7 @@ digits-number (suc k) n h =
 
 module _ {F : Type 0} (R : CommRing F) (s : Leaf → F) where
   -- the terms have the limbs of a word as their values, or its bits
-  pub limbs_hold : (t : Limbs (Term F)) (n : ℕ) → n < 2 ^ 32 → value (itself R) s t.low ≡ image R (n % 2 ^ 16) → value (itself R) s t.high ≡ image R (n / 2 ^ 16)
+  pub limbs_hold : (t : Limbs (Term F)) (n : ℕ) → n < 2 ^ 32 → value (self_algebra R) s t.low ≡ image R (n % 2 ^ 16) → value (self_algebra R) s t.high ≡ image R (n / 2 ^ 16)
       → IsLimbsOf R s t n
   limbs_hold t n fits low high = record {
     limbs = record { low = n % 2 ^ 16; high = n / 2 ^ 16 };
@@ -35,7 +35,7 @@ module _ {F : Type 0} (R : CommRing F) (s : Leaf → F) where
     number = omega arith;
   }
 
-  pub bits_hold : (ts : List (Term F)) (n : ℕ) → n < 2 ^ 32 → map (value (itself R) s) ts ≡ bit_values R n → IsBitsOf R s ts n
+  pub bits_hold : (ts : List (Term F)) (n : ℕ) → n < 2 ^ 32 → map (value (self_algebra R) s) ts ≡ bit_values R n → IsBitsOf R s ts n
   bits_hold ts n fits e = record {
     bits = digits_of 2 32 n;
     are = digits-bits 32 n;

@@ -3,7 +3,7 @@ use Rattle.std.specs.Prelude.{◌≡◌, ℕ, zero, suc, refl, ◌+◌, ◌*◌,
 use Rattle.std.proofs.Common.{◌∙◌, ap₂, subst, inl, inr, arith, length-append, append_assoc}
 use Rattle.std.proofs.lemmas.Bool.{cases_lt}
 use Rattle.air_field.specs.Assignment.{RowValues, leaf_value}
-use Rattle.air_field.specs.Ring.{CommRing, image, itself}
+use Rattle.air_field.specs.Ring.{CommRing, image, self_algebra}
 use Rattle.air_field.specs.Term.{Leaf}
 use Rattle.air_field.specs.Value.{value}
 use Rattle.air_author.specs.Constraints.{asserts_of_first}
@@ -81,7 +81,7 @@ module _ {F : Type 0} (R : CommRing F) (row : List F) where
     abbrev pub holder : Leaf → F
     holder = leaf_value R.zero (record beside { current = row })
 
-    columns_stand : (n i : ℕ) (xs : List F) → Stands (n + i) xs → map (value (itself R) holder) (terms_numbered (column n) i (length xs)) ≡ xs
+    columns_stand : (n i : ℕ) (xs : List F) → Stands (n + i) xs → map (value (self_algebra R) holder) (terms_numbered (column n) i (length xs)) ≡ xs
     unfolding Stands
     columns_stand n i [] h = refl
     columns_stand n i (x ∷ xs) h =

@@ -1,7 +1,7 @@
 -- Marks and values, one number after another.
 use Rattle.std.proofs.Common.{◌≡◌, ◌⊎◌, ℕ, ◌+◌, ◌<◌, Bool, cond, List, [], ◌∷◌, ◌++◌, length, get_or, Option, None, Some, refl, sym, ap, ap₂, subst, ◌∙◌, arith, ⊎_elim, add-one}
 use Rattle.std.proofs.lemmas.List.{get_or_default, get_or_append_left, get_or_push}
-use Rattle.air_field.specs.Ring.{CommRing, minus, itself}
+use Rattle.air_field.specs.Ring.{CommRing, minus, self_algebra}
 use Rattle.air_field.specs.Term.{Leaf}
 use Rattle.air_field.specs.Value.{value}
 use Rattle.air_symbolic.specs.BaseLeaves.{base_term}
@@ -34,7 +34,7 @@ Known-more r s ns marks k old new x places e h now i below m =
     before_or_at i k b = grind (arith, b)
 
 -- the value of a node whose operands' values are known
-pub node_value-is : {F : Type 0} (r : CommRing F) (s : Leaf → F) (ns : List (SymbolicExpr (BaseLeaf F))) (marks : List (Option ℕ)) (k : ℕ) (values : List F) (n : SymbolicExpr (BaseLeaf F)) → Known r s ns marks k values → OperandsBelow k n → EachOperand (λ j. Marked marks j) n → node_value r s (λ i. get_or values i r.zero) n ≡ value (itself r) s (node_term base_term (λ i. term_of base_term (tree_of ns i)) n)
+pub node_value-is : {F : Type 0} (r : CommRing F) (s : Leaf → F) (ns : List (SymbolicExpr (BaseLeaf F))) (marks : List (Option ℕ)) (k : ℕ) (values : List F) (n : SymbolicExpr (BaseLeaf F)) → Known r s ns marks k values → OperandsBelow k n → EachOperand (λ j. Marked marks j) n → node_value r s (λ i. get_or values i r.zero) n ≡ value (self_algebra r) s (node_term base_term (λ i. term_of base_term (tree_of ns i)) n)
 node_value-is r s ns marks k values (node.Leaf a) h b m = refl
 node_value-is r s ns marks k values (node.Add x y d) h b m = ap₂ r.add (h x b.0 m.0) (h y b.1 m.1)
 node_value-is r s ns marks k values (node.Sub x y d) h b m = ap₂ (minus r) (h x b.0 m.0) (h y b.1 m.1)

@@ -1,6 +1,6 @@
 -- The values of a pool's numbers.
 use Rattle.std.specs.Prelude.{◌≡◌, ℕ, ◌<◌, List, length, slice_index_or, Option, None, Some}
-use Rattle.air_field.specs.Ring.{CommRing, minus, itself}
+use Rattle.air_field.specs.Ring.{CommRing, minus, self_algebra}
 use Rattle.air_field.specs.Term.{Leaf}
 use Rattle.air_field.specs.Value.{value}
 use Rattle.air_symbolic.specs.BaseLeaves.{base_term, base_leaves}
@@ -14,11 +14,11 @@ use Rattle.air_symbolic.specs.declared.pools.expr.SymbolicExpr.TheVariants as no
 module _ {F : Type 0} (r : CommRing F) (s : Leaf → F) where
   -- the value of the term of number i, the leaves having the values of s
   abbrev pub number_value : List (SymbolicExpr (BaseLeaf F)) → ℕ → F
-  number_value ns i = value (itself r) s (term_of base_term (tree_of ns i))
+  number_value ns i = value (self_algebra r) s (term_of base_term (tree_of ns i))
 
   -- the value of a node, the operands having those of at
   abbrev pub node_value : (ℕ → F) → SymbolicExpr (BaseLeaf F) → F
-  node_value at (node.Leaf a) = value (itself r) s (base_term a)
+  node_value at (node.Leaf a) = value (self_algebra r) s (base_term a)
   node_value at (node.Add x y d) = r.add (at x) (at y)
   node_value at (node.Sub x y d) = minus r (at x) (at y)
   node_value at (node.Neg x d) = r.neg (at x)

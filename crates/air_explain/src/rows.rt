@@ -1,7 +1,7 @@
 //! The rows of a trace, as leaves read them.
 ghost use Rattle.std.specs.Prelude.{◌≡◌, ◌<◌, ◌+◌, ◌%◌, ◌==◌, if◌then◌else◌, length, map, slice_get, slice_index_or};
 ghost use Rattle.air_field.specs.Assignment.{row_or_none, column_value, selector, row_assignment};
-ghost use Rattle.air_field.specs.Ring.{itself};
+ghost use Rattle.air_field.specs.Ring.{self_algebra};
 ghost use Rattle.air_field.specs.Value.{value};
 ghost use Rattle.air_core.specs.Entries.{entry_leaf};
 ghost use Rattle.air_symbolic.specs.BaseLeaves.{base_term};
@@ -157,7 +157,7 @@ fn variable_value<F: Field>(
 /// The value of a leaf at a row.
 pub(crate) fn leaf_value<F: Field>(trace: &TraceRows<'_, F>, row: usize, leaf: BaseLeaf<F>) -> F
     requires { row < length trace.now.main.now.rows }
-    ensures { result ≡ value (itself F.ring) (row_assignment F.ring (trace_of trace.now) row)
+    ensures { result ≡ value (self_algebra F.ring) (row_assignment F.ring (trace_of trace.now) row)
         (base_term leaf) }
 {
     let height = trace.main.height();

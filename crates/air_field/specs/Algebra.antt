@@ -1,5 +1,5 @@
 -- What a ring that makes its elements keeps.
-use Rattle.air_field.specs.Ring.{CommRing, AlgebraOver, itself}
+use Rattle.air_field.specs.Ring.{CommRing, AlgebraOver, self_algebra}
 use Rattle.air_field.specs.Term.{Term, const_term, add_term, sub_term, mul_term}
 use Rattle.air_field.specs.Value.{value}
 use Rattle.air_field.specs.Part.{Part}
@@ -63,4 +63,4 @@ closed_value_in a t = value a (λ _. a.ring.zero) t
 
 -- the same in the ring itself
 abbrev pub closed_value : {F : Type 0} → CommRing F → Term F → F
-closed_value r t = value (itself r) (λ _. r.zero) t
+closed_value r t = value (self_algebra r) (λ _. r.zero) t

@@ -1,6 +1,6 @@
 -- What a folder holds of a row, and how it grows.
 use Rattle.std.specs.Prelude.{◌≡◌, ◌≢◌, ⊤, ℕ, Bool, List, map}
-use Rattle.air_field.specs.Ring.{AlgebraOver, itself}
+use Rattle.air_field.specs.Ring.{AlgebraOver, self_algebra}
 use Rattle.air_field.specs.Extension.{Basis}
 use Rattle.air_field.specs.Term.{Leaf, permutation, Term, ext_const_term}
 use Rattle.air_field.specs.Value.{value}
@@ -42,7 +42,7 @@ pub record FolderRow (E : Type 0) : Type 0 where
 
 -- the assignment of the row; a missing entry reads as zero
 abbrev pub folder_leaves : {F E : Type 0} → AlgebraOver F E → FolderRow E → Leaf → E
-folder_leaves a d l = one_row_value a.ring.zero (itself a.ring) d.values d.others l
+folder_leaves a d l = one_row_value a.ring.zero (self_algebra a.ring) d.values d.others l
 
 -- what stands at a leaf, as a constant of the extension
 abbrev pub folder_reads_as : {F E : Type 0} → AlgebraOver F E → Basis F E → FolderRow E → Leaf → Term F

@@ -1,6 +1,6 @@
 -- What it means that the asserted terms are zero.
 use Rattle.std.specs.Prelude.{◌≡◌, ℕ, ◌*◌, ◌^◌, ◌<◌, ◌⊎◌, ◌↔◌, List, [], ◌∷◌, map, ⊤}
-use Rattle.air_field.specs.Ring.{CommRing, image, itself}
+use Rattle.air_field.specs.Ring.{CommRing, image, self_algebra}
 use Rattle.air_field.specs.Term.{Leaf, Term}
 use Rattle.air_field.specs.Value.{value}
 use Rattle.air_field.specs.Domain.{IsDomain}
@@ -12,12 +12,14 @@ use Rattle.air_gadgets.specs.Gadgets.{add2_asserts, add3_asserts, xor_asserts}
 -- each term has the value zero
 abbrev pub AllVanish : {F : Type 0} → CommRing F → (Leaf → F) → List (Assertion F) → Type 0
 AllVanish R s [] = ⊤
-AllVanish R s (Base t ∷ ts) = (value (itself R) s t ≡ R.zero) × AllVanish R s ts
-AllVanish R s (Extension t ∷ ts) = (value (itself R) s t ≡ R.zero) × AllVanish R s ts
+AllVanish R s (Base t ∷ ts) = (value (self_algebra R) s t ≡ R.zero) × AllVanish R s ts
+AllVanish R s (Extension t ∷ ts) = (value (self_algebra R) s t ≡ R.zero) × AllVanish R s ts
 
 -- the terms of the limbs have the images of two numbers as their values
 abbrev pub LimbsAre : {F : Type 0} → CommRing F → (Leaf → F) → Limbs (Term F) → Limbs ℕ → Type 0
-LimbsAre R s t n = (value (itself R) s t.low ≡ image R n.low) × (value (itself R) s t.high ≡ image R n.high)
+LimbsAre R s t n =
+    (value (self_algebra R) s t.low ≡ image R n.low)
+    × (value (self_algebra R) s t.high ≡ image R n.high)
 
 -- over limbs of 16 bits both terms of `add2` are zero exactly if a is b + c modulo 2^32
 abbrev pub Add2IsExact : {F : Type 0} → CommRing F → ℕ → Type 0
@@ -38,14 +40,15 @@ Add3IsExact {F} R characteristic =
 pub record IsXorOf {F : Type 0} (R : CommRing F) (s : Leaf → F) (t : Limbs (Term F)) (v : List (Term F)) (shift : ℕ) (b : List ℕ) : Type 0 where
   pub c : List ℕ
   pub bits : AreBits c
-  pub values : map (value (itself R) s) v ≡ map (image R) c
-  pub low : value (itself R) s t.low ≡ image R (low_half (xor_bits b (rotated_left shift c)))
-  pub high : value (itself R) s t.high ≡ image R (high_half (xor_bits b (rotated_left shift c)))
+  pub values : map (value (self_algebra R) s) v ≡ map (image R) c
+  pub low : value (self_algebra R) s t.low ≡ image R (low_half (xor_bits b (rotated_left shift c)))
+  pub high :
+      value (self_algebra R) s t.high ≡ image R (high_half (xor_bits b (rotated_left shift c)))
 
 -- with b made of bits all 34 terms of `xor_32_shift` are zero exactly if c is made of bits, and a0 and a1 are the
 -- images of the halves of b xor c rotated to the left
 abbrev pub XorIsExact : {F : Type 0} → CommRing F → Type 0
 XorIsExact {F} R =
     (t : Limbs (Term F)) (u v : List (Term F)) (shift : ℕ) (s : Leaf → F) (b : List ℕ) → IsDomain R
-    → AreBits b → map (value (itself R) s) u ≡ map (image R) b
+    → AreBits b → map (value (self_algebra R) s) u ≡ map (image R) b
     → AllVanish R s (xor_asserts R t u v shift) ↔ IsXorOf R s t v shift b

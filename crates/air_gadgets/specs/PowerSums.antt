@@ -1,6 +1,6 @@
 -- Sums of powers of two times elements.
 use Rattle.std.specs.Prelude.{◌≡◌, ℕ, suc, ◌^◌, ◌<◌, List, [], ◌∷◌, map}
-use Rattle.air_field.specs.Ring.{CommRing, AlgebraOver, image, itself}
+use Rattle.air_field.specs.Ring.{CommRing, AlgebraOver, image, self_algebra}
 use Rattle.air_field.specs.Term.{Leaf, Term}
 use Rattle.air_field.specs.Value.{value}
 use Rattle.air_gadgets.specs.Bits.{digits_of, binary_sum}
@@ -19,7 +19,7 @@ PacksValuesIn {F} {E} a none =
 
 -- the same in the field itself
 abbrev pub PacksValues : {F : Type 0} → CommRing F → F → Type 0
-PacksValues R none = PacksValuesIn (itself R) none
+PacksValues R none = PacksValuesIn (self_algebra R) none
 
 -- both sums of 2^i x_i, by doubling and by powers, are the same
 abbrev pub PacksByPowers : {A : Type 0} → CommRing A → Type 0

@@ -1,5 +1,5 @@
 //! What callers rely on, as the contracts of functions.
-ghost use Rattle.air_field.specs.Ring.{itself};
+ghost use Rattle.air_field.specs.Ring.{self_algebra};
 ghost use Rattle.air_gadgets.specs.Exact.{Add2IsExact, Add3IsExact, XorIsExact};
 ghost use Rattle.air_gadgets.specs.PowerSums.{PacksValuesIn, PacksByPowers, PacksNumbers, EmbedsImages};
 
@@ -20,9 +20,9 @@ pub fn words_are_exact<F: Field>()
 /// the images of the field's elements for bits are the extension's own. What it makes of any elements is the sum of
 /// 2^i v_i, and packing by doubling that sum.
 pub fn packed_bits_are_numbers<F: Field, EF: ExtensionField<F>>()
-    ensures numbers { PacksNumbers (itself F.ring) F.ZERO }
+    ensures numbers { PacksNumbers (self_algebra F.ring) F.ZERO }
     ensures ext_numbers { PacksNumbers EF.over F.ZERO }
-    ensures sums { PacksValuesIn (itself F.ring) F.ZERO }
+    ensures sums { PacksValuesIn (self_algebra F.ring) F.ZERO }
     ensures ext_sums { PacksValuesIn EF.over F.ZERO }
     ensures powers { PacksByPowers F.ring }
     ensures ext_powers { PacksByPowers EF.over.ring }

@@ -1,6 +1,6 @@
 -- Numbers and words that stand at a row.
 use Rattle.std.specs.Prelude.{◌≡◌, ℕ, ◌^◌, ◌<◌}
-use Rattle.air_field.specs.Ring.{CommRing, image, itself}
+use Rattle.air_field.specs.Ring.{CommRing, image, self_algebra}
 use Rattle.air_field.specs.Term.{Leaf, Term}
 use Rattle.air_field.specs.Value.{value}
 use Rattle.air_gadgets.specs.Words.{Limbs, AreLimbs, word, word_sum, word_sum_3}
@@ -10,7 +10,7 @@ use Rattle.air_gadgets.specs.Exact.{LimbsAre}
 pub record IsNumberBelow {F : Type 0} (R : CommRing F) (s : Leaf → F) (bound : ℕ) (t : Term F) : Type 0 where
   pub number : ℕ
   pub below : number < bound
-  pub is : value (itself R) s t ≡ image R number
+  pub is : value (self_algebra R) s t ≡ image R number
 
 -- both limbs have 16 bits
 abbrev pub IsWord : {F : Type 0} → CommRing F → (Leaf → F) → Limbs (Term F) → Type 0

@@ -2,7 +2,7 @@
 -- domain whose weight is great.
 use Rattle.std.proofs.Common.{◌≡◌, ◌⊎◌, ℕ, zero, suc, ◌+◌, ◌<◌, ◌≤◌, ◌^◌, List, [], ◌∷◌, ◌++◌, length, refl, arith, Bool, Option, inl, inr}
 use Rattle.std.proofs.Math.Nat.{max-le, le-max_left, le-max_right}
-use Rattle.air_field.specs.Ring.{CommRing, AlgebraOver, itself}
+use Rattle.air_field.specs.Ring.{CommRing, AlgebraOver, self_algebra}
 use Rattle.air_field.specs.Term.{Leaf, permutation, Term}
 use Rattle.air_field.specs.Part.{Part, whole, in_add_left, in_add_right, in_sub_left, in_sub_right, in_neg, in_mul_left, in_mul_right}
 use Rattle.air_field.specs.Degree.{degree_by, cached_weight, trace_weight, greatest_degree}
@@ -120,16 +120,16 @@ module _ (F : Type 0) where
   recording_refuses _ h = absurd h
 
   -- no degree passes `usize`
-  degree_fits : (r : CommRing F) (n : ℕ) (us vs : List (Term F)) → n < 2 ^ 63 → EachRecords (itself r) us (base_terms fibonacci) → EachRecords (itself r) vs (ext_terms fibonacci) → 2 ^ 64 ≤ greatest_degree (trace_weight n []) (us ++ vs) → ⊥
+  degree_fits : (r : CommRing F) (n : ℕ) (us vs : List (Term F)) → n < 2 ^ 63 → EachRecords (self_algebra r) us (base_terms fibonacci) → EachRecords (self_algebra r) vs (ext_terms fibonacci) → 2 ^ 64 ≤ greatest_degree (trace_weight n []) (us ++ vs) → ⊥
   degree_fits r n us vs b m k past =
-      absurd (omega (arith, b, past, both_below (itself r) (trace_weight n []) (n + n + 1) us (base_terms fibonacci) vs (ext_terms fibonacci) m k (trace_below n) (none_below n)))
+      absurd (omega (arith, b, past, both_below (self_algebra r) (trace_weight n []) (n + n + 1) us (base_terms fibonacci) vs (ext_terms fibonacci) m k (trace_below n) (none_below n)))
 
   -- the only degree that may pass `usize` is one of a domain whose weight isn't 0
   some_weight : (r : CommRing F) (eq : F → F → Bool) (main : Grid F) (public : List F) (cap : Option ℕ) (w : ℕ) → length main.rows < 2 ^ 63
       → IsDegreePast r eq (instance fibonacci_declaration main public) cap w → 0 < w
   some_weight r eq main public cap zero b past =
       let p : DegreeOverflows r 0 (instance fibonacci_declaration main public) = past.passes in
-      absurd (degree_fits r (length main.rows) p.base p.ext b (each_base_back (RecordsTerm (itself r)) p.base fibonacci p.recorded.each_base) (each_ext_back (RecordsTerm (itself r)) p.ext fibonacci p.recorded.each_ext) p.past)
+      absurd (degree_fits r (length main.rows) p.base p.ext b (each_base_back (RecordsTerm (self_algebra r)) p.base fibonacci p.recorded.each_base) (each_ext_back (RecordsTerm (self_algebra r)) p.ext fibonacci p.recorded.each_ext) p.past)
   some_weight r eq main public cap (suc w) b past = omega arith
 
   -- and so an audit refuses memory alone, or such a degree

@@ -9,7 +9,7 @@ use Rattle.air_symbolic.specs.PoolRefusals.{AnswersDegree}
 use Rattle.air_symbolic.specs.Weights.{SomeOverflows}
 use Rattle.air_symbolic.specs.Leaves.{Leaves}
 use Rattle.air_symbolic.specs.Pools.{Pool, term_at}
-use Rattle.air_field.specs.Ring.{CommRing, AlgebraOver, itself}
+use Rattle.air_field.specs.Ring.{CommRing, AlgebraOver, self_algebra}
 use Rattle.air_builder.specs.Declaration.{Declaration}
 use Rattle.air_core.specs.Errors.{air_error}
 use Rattle.air_recording.specs.Inferred.{periods_of, greatest_in, AnswersInferred, DegreeRefuses}
@@ -85,7 +85,7 @@ weighted_answer (suc w) n periods us (Err DegreeOverflow) some h fits = h
 
 -- a refusal of the degree of what is recorded
 pub inferred_refused : {F E : Type 0} (r : CommRing F) (over : AlgebraOver F E) (w n : ℕ) (layout : AirLayout) (d : Declaration F) (us vs : List (Term F)) (e : RingError)
-    → EachRecords (itself r) us (base_terms d.constraints) → EachRecords over vs (ext_terms d.constraints) → RecordingAnswers r over layout d
+    → EachRecords (self_algebra r) us (base_terms d.constraints) → EachRecords over vs (ext_terms d.constraints) → RecordingAnswers r over layout d
     → AnswersInferred w n (periods_of d.periodic) (us ++ vs) (Err e) → DegreeRefuses r over w n layout d (air_error e)
 inferred_refused r over w n layout d us vs Memory b x f h = inl (inr (f.suits.fits, tt))
 inferred_refused r over w n layout d us vs DegreeOverflow b x f h =

@@ -1,6 +1,6 @@
 -- The degree that is inferred, and where it is refused.
 use Rattle.std.specs.Prelude.{Result, Ok, Err, ◌≡◌, ◌⊎◌, ℕ, ◌≤◌, ◌^◌, max, List, [], ◌∷◌, ◌++◌, Vec, length, map, ⊤}
-use Rattle.air_field.specs.Ring.{CommRing, AlgebraOver, itself}
+use Rattle.air_field.specs.Ring.{CommRing, AlgebraOver, self_algebra}
 use Rattle.air_field.specs.Extension.{Basis}
 use Rattle.air_field.specs.Term.{Leaf, Term}
 use Rattle.air_field.specs.Degree.{greatest_degree}
@@ -38,11 +38,12 @@ recorded_terms basis recorded =
 pub record IsInferred {F E : Type 0} (r : CommRing F) (over : AlgebraOver F E) (w n : ℕ) (d : Declaration F) (degree : ℕ) : Type 0 where
   pub base : List (Term F)
   pub ext : List (Term F)
-  pub base_recorded : EachRecords (itself r) base (base_terms d.constraints)
+  pub base_recorded : EachRecords (self_algebra r) base (base_terms d.constraints)
   pub base_in_extension : EachRecords over base (base_terms d.constraints)
   pub ext_recorded : EachRecords over ext (ext_terms d.constraints)
   pub is_degree : IsDegreeFor w n (periods_of d.periodic) (base ++ ext) degree
-  pub base_bounded : 2 ≤ n → PolynomialsWithin (itself r) (leaf_degree w n (periods_of d.periodic)) (polynomial_bound w degree n) base
+  pub base_bounded : 2 ≤ n → PolynomialsWithin (self_algebra r)
+      (leaf_degree w n (periods_of d.periodic)) (polynomial_bound w degree n) base
   pub bounded : 2 ≤ n → PolynomialsWithin over (leaf_degree w n (periods_of d.periodic)) (polynomial_bound w degree n) (base ++ ext)
 
 -- the answer is the degree for n rows of these terms, in a domain of weight w; it is refused where their greatest degree,
@@ -56,7 +57,7 @@ AnswersInferred w n periods us (Err DegreeOverflow) = 2 ^ 64 ≤ greatest_degree
 pub record IsDegreeOver {F E : Type 0} (r : CommRing F) (over : AlgebraOver F E) (weights : Leaf → ℕ) (ts : List (Assertion F)) : Type 0 where
   pub base : List (Term F)
   pub ext : List (Term F)
-  pub base_recorded : EachRecords (itself r) base (base_terms ts)
+  pub base_recorded : EachRecords (self_algebra r) base (base_terms ts)
   pub ext_recorded : EachRecords over ext (ext_terms ts)
   pub past : 2 ^ 64 ≤ greatest_degree weights (base ++ ext)
 

@@ -1,7 +1,7 @@
 -- What a recording answers and refuses.
 use Rattle.std.specs.List.{AllZip}
 use Rattle.std.specs.Prelude.{◌≡◌, ◌⊎◌, ℕ, ◌≤◌, ◌<◌, ◌^◌, List, ◌++◌, map}
-use Rattle.air_field.specs.Ring.{CommRing, AlgebraOver, itself}
+use Rattle.air_field.specs.Ring.{CommRing, AlgebraOver, self_algebra}
 use Rattle.air_field.specs.Term.{Leaf, Term}
 use Rattle.air_field.specs.Value.{value}
 use Rattle.air_field.specs.Polynomial.{polynomial}
@@ -15,7 +15,7 @@ use Rattle.air_core.specs.declared.errors.AirError.{AirError}
 use Rattle.air_recording.specs.Kinds.{base_terms, ext_terms}
 use Rattle.air_recording.specs.Layouts.{layout_shape, FitsAir, LayoutSuits, LayoutRefuses}
 use Rattle.air_recording.specs.declared.layouts.air_layout.AirLayout.{AirLayout}
-use Rattle.air_recording.specs.Recording.{IsOver}
+use Rattle.air_recording.specs.Recording.{OverflowsDegree}
 use Rattle.air_builder.specs.Refused.{Refused}
 
 -- a recorded term for one that is declared: in an algebra, the same polynomial (each coefficient) under every assignment
@@ -38,7 +38,7 @@ terms_of reads pool is = map (λ i. term_at reads pool i) is
 pub record RecordsBase {U A F E : Type 0} (r : CommRing F) (over : AlgebraOver F E) (reads : U → Leaves A F) (pool : Pool U A) (numbers : List ℕ) (ts : List (Assertion F)) : Type 0 where
   pub well_formed : IsPool reads pool
   pub means : AllZip (PoolMeans reads r pool) numbers (base_terms ts)
-  pub terms : EachRecords (itself r) (terms_of reads pool numbers) (base_terms ts)
+  pub terms : EachRecords (self_algebra r) (terms_of reads pool numbers) (base_terms ts)
   pub in_extension : EachRecords over (terms_of reads pool numbers) (base_terms ts)
 
 -- Each declared extension term has one number of the extension pool, in order: it means that term, and so has its
@@ -53,7 +53,9 @@ pub record RecordsExt {U A F E : Type 0} (r : CommRing F) (over : AlgebraOver F 
 abbrev pub RecordRefuses : {F : Type 0} → AirLayout → Declaration F → AirError → Type 0
 RecordRefuses layout d e =
     LayoutRefuses layout d e
-    ⊎ (FitsAir layout d × Refused (IsMissing (layout_shape layout)) (IsOver cached_weight) (λ _. ⊥) e d.constraints)
+    ⊎ (FitsAir layout d
+        × Refused (IsMissing (layout_shape layout)) (OverflowsDegree cached_weight) (λ _. ⊥)
+            e d.constraints)
 
 -- The recording answers: the layout has the AIR's counts and each entry that a declared term names, and some terms which
 -- record what is declared have cached degrees within `usize`.
@@ -61,6 +63,6 @@ pub record RecordingAnswers {F E : Type 0} (r : CommRing F) (over : AlgebraOver 
   pub suits : LayoutSuits layout d
   pub base : List (Term F)
   pub ext : List (Term F)
-  pub base_recorded : EachRecords (itself r) base (base_terms d.constraints)
+  pub base_recorded : EachRecords (self_algebra r) base (base_terms d.constraints)
   pub ext_recorded : EachRecords over ext (ext_terms d.constraints)
   pub within : greatest_degree cached_weight (base ++ ext) < 2 ^ 64

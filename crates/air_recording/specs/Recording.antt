@@ -59,5 +59,5 @@ pub record GrewRecording {Q E X F : Type 0} (base_means : Q → E → Term F →
   pub each_ext : AllZip (ext_means q) more_ext (ext_terms ts)
 
 -- the term has a degree past `usize` by these weights
-abbrev pub IsOver : {F : Type 0} → (Leaf → ℕ) → Term F → Type 0
-IsOver w t = 2 ^ 64 ≤ degree_by w t
+abbrev pub OverflowsDegree : {F : Type 0} → (Leaf → ℕ) → Term F → Type 0
+OverflowsDegree w t = 2 ^ 64 ≤ degree_by w t

@@ -7,7 +7,7 @@ use Rattle.std.proofs.Math.Seq.{take-append-add}
 use Rattle.air_field.specs.Ring.{CommRing}
 use Rattle.air_field.specs.Grid.{Grid}
 use Rattle.air_core.specs.declared.boundary.BoundaryPublic.{BoundaryPublic}
-use Rattle.air_report.specs.Cells.{differs, differing_cells, left_of, cell_place, cell_label, label_text, ListsCells, IsListedPast}
+use Rattle.air_report.specs.Cells.{differs, differing_cells, take_within_cap, cell_place, cell_label, label_text, ListsCells, IsListedPast}
 use Rattle.air_report.specs.Report.{failure_place, IsReached}
 use Rattle.air_report.specs.laws.Debug.{enumerate_from-append}
 use Rattle.air_report.specs.declared.debug.failure.ConstraintFailure.{ConstraintFailure}
@@ -19,7 +19,7 @@ below_cap cap n xs h =
     omega (arith, lens, h)
 
 -- one more after those that a cap has left, where it isn't reached
-left_of-more : {X : Type 0} (cap : Option ℕ) (n : ℕ) (xs : List X) (x : X) → (IsReached cap (n + length (left_of cap n xs)) → ⊥) → left_of cap n (xs ++ x ∷ []) ≡ left_of cap n xs ++ x ∷ []
+left_of-more : {X : Type 0} (cap : Option ℕ) (n : ℕ) (xs : List X) (x : X) → (IsReached cap (n + length (take_within_cap cap n xs)) → ⊥) → take_within_cap cap n (xs ++ x ∷ []) ≡ take_within_cap cap n xs ++ x ∷ []
 left_of-more None n xs x h = refl
 left_of-more (Some cap) n xs x h =
     let few : length xs + 1 ≤ cap - n = below_cap cap n xs h in
@@ -27,7 +27,7 @@ left_of-more (Some cap) n xs x h =
     take_all (cap - n) (xs ++ x ∷ []) fit ∙ ap (λ l. l ++ x ∷ []) (sym (take_all (cap - n) xs (omega arith)))
 
 -- where the cap is reached the rest adds nothing
-left_of-full : {X : Type 0} (cap : Option ℕ) (n : ℕ) (xs ys : List X) → IsReached cap (n + length (left_of cap n xs)) → left_of cap n (xs ++ ys) ≡ left_of cap n xs
+left_of-full : {X : Type 0} (cap : Option ℕ) (n : ℕ) (xs ys : List X) → IsReached cap (n + length (take_within_cap cap n xs)) → take_within_cap cap n (xs ++ ys) ≡ take_within_cap cap n xs
 left_of-full None n xs ys h = absurd h
 left_of-full (Some cap) n xs ys h =
     let lens : length (take (cap - n) xs) ≡ min (cap - n) (length xs) = length-take (cap - n) xs in
@@ -38,7 +38,7 @@ get_seam [] x ys = refl
 get_seam (y ∷ xs) x ys = get_seam xs x ys
 
 -- the next one is among those that a cap leaves, where it isn't reached
-left_of-next : {X : Type 0} (cap : Option ℕ) (n : ℕ) (xs : List X) (x : X) (ys : List X) → (IsReached cap (n + length (left_of cap n xs)) → ⊥) → slice_get (left_of cap n (xs ++ x ∷ ys)) (length xs) ≡ Some x
+left_of-next : {X : Type 0} (cap : Option ℕ) (n : ℕ) (xs : List X) (x : X) (ys : List X) → (IsReached cap (n + length (take_within_cap cap n xs)) → ⊥) → slice_get (take_within_cap cap n (xs ++ x ∷ ys)) (length xs) ≡ Some x
 left_of-next None n xs x ys h = get_seam xs x ys
 left_of-next (Some cap) n xs x ys h =
     let few : length xs + 1 ≤ cap - n = below_cap cap n xs h in
@@ -47,11 +47,11 @@ left_of-next (Some cap) n xs x ys h =
     ap (λ k. slice_get (take k (xs ++ x ∷ ys)) (length xs)) whole
     ∙ (ap (λ l. slice_get l (length xs)) (take-append-add xs (x ∷ ys) (suc m)) ∙ get_seam xs x (take m ys))
 
-left_of-none : {X : Type 0} (cap : Option ℕ) (n : ℕ) → left_of {X = X} cap n [] ≡ []
+left_of-none : {X : Type 0} (cap : Option ℕ) (n : ℕ) → take_within_cap {X = X} cap n [] ≡ []
 left_of-none None n = refl
 left_of-none (Some cap) n = take_all (cap - n) [] (omega arith)
 
-pub lists_none : (h count : ℕ) (cap : Option ℕ) (n : ℕ) (fs : List ConstraintFailure) → ListsCells h count (left_of cap n []) fs fs
+pub lists_none : (h count : ℕ) (cap : Option ℕ) (n : ℕ) (fs : List ConstraintFailure) → ListsCells h count (take_within_cap cap n []) fs fs
 lists_none h count cap n fs = record {
   more = [];
   failures = sym (append-nil fs);
@@ -97,39 +97,39 @@ module _ {F : Type 0} (r : CommRing F) (eq : F → F → Bool) (main : Grid F) (
   differing-rest : (cells : List BoundaryPublic) (i : ℕ) → differing_cells r eq main public cells ≡ differing_cells r eq main public (take i cells) ++ filter (λ p. differs r eq main public p.1) (enumerate_from (length (take i cells)) (drop i cells))
   differing-rest cells i = ap (differing_cells r eq main public) (sym (take-append-drop i cells)) ∙ differing-append (take i cells) (drop i cells)
 
-  module _ (height count : ℕ) (cap : Option ℕ) (cells : List BoundaryPublic) (i : ℕ) (fs gs : List ConstraintFailure) (l : ListsCells height count (left_of cap (length fs) (differing_cells r eq main public (take i cells))) fs gs) where
+  module _ (height count : ℕ) (cap : Option ℕ) (cells : List BoundaryPublic) (i : ℕ) (fs gs : List ConstraintFailure) (l : ListsCells height count (take_within_cap cap (length fs) (differing_cells r eq main public (take i cells))) fs gs) where
     -- a cell that holds its value adds nothing
-    pub lists_same : (d : BoundaryPublic) → i < length cells → differs r eq main public (get_or cells i d) ≡ false → ListsCells height count (left_of cap (length fs) (differing_cells r eq main public (take (i + 1) cells))) fs gs
+    pub lists_same : (d : BoundaryPublic) → i < length cells → differs r eq main public (get_or cells i d) ≡ false → ListsCells height count (take_within_cap cap (length fs) (differing_cells r eq main public (take (i + 1) cells))) fs gs
     lists_same d lt e =
         let same : differing_cells r eq main public (take (i + 1) cells) ≡ differing_cells r eq main public (take i cells) =
         differing-more cells i d lt ∙ (ap (λ b. differing_cells r eq main public (take i cells) ++ cond b ((i, get_or cells i d) ∷ []) []) e ∙ append-nil (differing_cells r eq main public (take i cells))) in
-        subst (λ xs. ListsCells height count (left_of cap (length fs) xs) fs gs) (sym same) l
+        subst (λ xs. ListsCells height count (take_within_cap cap (length fs) xs) fs gs) (sym same) l
 
-    open_cap : (IsReached cap (length gs) → ⊥) → IsReached cap (length fs + length (left_of cap (length fs) (differing_cells r eq main public (take i cells)))) → ⊥
+    open_cap : (IsReached cap (length gs) → ⊥) → IsReached cap (length fs + length (take_within_cap cap (length fs) (differing_cells r eq main public (take i cells)))) → ⊥
     open_cap few h =
-        let e : length gs ≡ length fs + length (left_of cap (length fs) (differing_cells r eq main public (take i cells))) = length-lists height count (left_of cap (length fs) (differing_cells r eq main public (take i cells))) fs gs l in
+        let e : length gs ≡ length fs + length (take_within_cap cap (length fs) (differing_cells r eq main public (take i cells))) = length-lists height count (take_within_cap cap (length fs) (differing_cells r eq main public (take i cells))) fs gs l in
         few (subst (λ n. IsReached cap n) (sym e) h)
 
     -- a cell that differs is listed, where the cap isn't reached
-    pub lists_new : (d : BoundaryPublic) (f : ConstraintFailure) (hs : List ConstraintFailure) → i < length cells → differs r eq main public (get_or cells i d) ≡ true → (IsReached cap (length gs) → ⊥) → hs ≡ gs ++ f ∷ [] → failure_place f ≡ cell_place height count (i, get_or cells i d) → label_text f ≡ Some (cell_label (get_or cells i d)) → ListsCells height count (left_of cap (length fs) (differing_cells r eq main public (take (i + 1) cells))) fs hs
+    pub lists_new : (d : BoundaryPublic) (f : ConstraintFailure) (hs : List ConstraintFailure) → i < length cells → differs r eq main public (get_or cells i d) ≡ true → (IsReached cap (length gs) → ⊥) → hs ≡ gs ++ f ∷ [] → failure_place f ≡ cell_place height count (i, get_or cells i d) → label_text f ≡ Some (cell_label (get_or cells i d)) → ListsCells height count (take_within_cap cap (length fs) (differing_cells r eq main public (take (i + 1) cells))) fs hs
     lists_new d f hs lt e few push place label =
         let before = differing_cells r eq main public (take i cells) in
         let cell : ℕ × BoundaryPublic = (i, get_or cells i d) in
         let more : differing_cells r eq main public (take (i + 1) cells) ≡ before ++ cell ∷ [] =
         differing-more cells i d lt ∙ ap (λ b. before ++ cond b (cell ∷ []) []) e in
-        let all = ap (left_of cap (length fs)) more ∙ left_of-more cap (length fs) before cell (open_cap few) in
-        subst (λ xs. ListsCells height count xs fs hs) (sym all) (lists_one height count (left_of cap (length fs) before) cell fs gs hs f l push place label)
+        let all = ap (take_within_cap cap (length fs)) more ∙ left_of-more cap (length fs) before cell (open_cap few) in
+        subst (λ xs. ListsCells height count xs fs hs) (sym all) (lists_one height count (take_within_cap cap (length fs) before) cell fs gs hs f l push place label)
 
     -- where the cap is reached, all are listed that it leaves
-    pub lists_full : IsReached cap (length gs) → ListsCells height count (left_of cap (length fs) (differing_cells r eq main public cells)) fs gs
+    pub lists_full : IsReached cap (length gs) → ListsCells height count (take_within_cap cap (length fs) (differing_cells r eq main public cells)) fs gs
     lists_full full =
         let before = differing_cells r eq main public (take i cells) in
-        let e : length gs ≡ length fs + length (left_of cap (length fs) before) = length-lists height count (left_of cap (length fs) before) fs gs l in
-        let all = ap (left_of cap (length fs)) (differing-rest cells i) ∙ left_of-full cap (length fs) before _ (subst (λ n. IsReached cap n) e full) in
+        let e : length gs ≡ length fs + length (take_within_cap cap (length fs) before) = length-lists height count (take_within_cap cap (length fs) before) fs gs l in
+        let all = ap (take_within_cap cap (length fs)) (differing-rest cells i) ∙ left_of-full cap (length fs) before _ (subst (λ n. IsReached cap n) e full) in
         subst (λ xs. ListsCells height count xs fs gs) (sym all) l
 
     -- a cell that differs is among those that are listed, where the cap isn't reached
-    pub listed_past : (d : BoundaryPublic) → i < length cells → differs r eq main public (get_or cells i d) ≡ true → (IsReached cap (length gs) → ⊥) → 2 ^ 64 ≤ count + i → IsListedPast count (left_of cap (length fs) (differing_cells r eq main public cells))
+    pub listed_past : (d : BoundaryPublic) → i < length cells → differs r eq main public (get_or cells i d) ≡ true → (IsReached cap (length gs) → ⊥) → 2 ^ 64 ≤ count + i → IsListedPast count (take_within_cap cap (length fs) (differing_cells r eq main public cells))
     listed_past d lt e few past =
         let before = differing_cells r eq main public (take i cells) in
         let cell : ℕ × BoundaryPublic = (i, get_or cells i d) in
@@ -142,6 +142,6 @@ module _ {F : Type 0} (r : CommRing F) (eq : F → F → Bool) (main : Grid F) (
         record {
           at = length before;
           cell = cell;
-          is_listed = ap (λ xs. slice_get (left_of cap (length fs) xs) (length before)) all ∙ left_of-next cap (length fs) before cell after (open_cap few);
+          is_listed = ap (λ xs. slice_get (take_within_cap cap (length fs) xs) (length before)) all ∙ left_of-next cap (length fs) before cell after (open_cap few);
           past = past;
         }

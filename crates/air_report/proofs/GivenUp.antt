@@ -8,10 +8,10 @@ use Rattle.air_field.specs.Ring.{CommRing}
 use Rattle.air_core.specs.declared.boundary.BoundaryPublic.{BoundaryPublic}
 use Rattle.air_core.specs.declared.errors.AirError.{AirError}
 use Rattle.air_core.specs.declared.errors.AirError.TheVariants.{CountOverflow, Memory}
-use Rattle.air_report.specs.Cells.{differing_cells, left_of, IsListedPast, CellsFit}
+use Rattle.air_report.specs.Cells.{differing_cells, take_within_cap, IsListedPast, CellsFit}
 use Rattle.air_report.specs.Checks.{CheckRefuses, Fits, RowsRan}
 use Rattle.air_report.specs.Instances.{Instance, instance_trace, row_count}
-use Rattle.air_report.specs.Report.{failure_place, report_of, count_shown}
+use Rattle.air_report.specs.Report.{failure_place, report_of, constraints_counted}
 use Rattle.air_report.specs.Shapes.{ShapesFit, IsShapeFault, table_height}
 use Rattle.air_report.specs.declared.debug.failure.ConstraintFailure.{ConstraintFailure}
 
@@ -42,8 +42,8 @@ pub cells_refused : {F : Type 0} (r : CommRing F) (eq : F → F → Bool) (g : I
     (fs : List ConstraintFailure) (count : ℕ) (cells : List BoundaryPublic) (e : AirError)
     → Fits g → RowsRan r eq g cap shown → CellsFit g.main g.public g.air.cells
     → map failure_place fs ≡ report_of r eq (instance_trace g) g.air.constraints shown
-    → count ≡ count_shown g.air.constraints shown → cells ≡ g.air.cells
-    → (e ≡ Memory) ⊎ ((e ≡ CountOverflow) × IsListedPast count (left_of cap (length fs) (differing_cells r eq g.main g.public cells)))
+    → count ≡ constraints_counted g.air.constraints shown → cells ≡ g.air.cells
+    → (e ≡ Memory) ⊎ ((e ≡ CountOverflow) × IsListedPast count (take_within_cap cap (length fs) (differing_cells r eq g.main g.public cells)))
     → CheckRefuses r eq g cap e
 cells_refused r eq g cap shown fs count cells e fits ran fit places counted same (inl m) = inr (fits, inl (inl m))
 cells_refused r eq g cap shown fs count cells e fits ran fit places counted same (inr o) =
@@ -56,9 +56,9 @@ cells_refused r eq g cap shown fs count cells e fits ran fit places counted same
           shown = shown;
           ran = ran;
           cells = fit;
-          past = subst (λ n. IsListedPast n (left_of cap (length (report_of r eq (instance_trace g) g.air.constraints shown)) (differing_cells r eq g.main g.public g.air.cells))) counted
-              (subst (λ n. IsListedPast count (left_of cap n (differing_cells r eq g.main g.public g.air.cells))) len
-              (subst (λ cs. IsListedPast count (left_of cap (length fs) (differing_cells r eq g.main g.public cs))) same o.1));
+          past = subst (λ n. IsListedPast n (take_within_cap cap (length (report_of r eq (instance_trace g) g.air.constraints shown)) (differing_cells r eq g.main g.public g.air.cells))) counted
+              (subst (λ n. IsListedPast count (take_within_cap cap n (differing_cells r eq g.main g.public g.air.cells))) len
+              (subst (λ cs. IsListedPast count (take_within_cap cap (length fs) (differing_cells r eq g.main g.public cs))) same o.1));
         },
       )),
     )

@@ -5,7 +5,7 @@ use Rattle.std.proofs.Math.Nat.{pow-suc}
 use Rattle.std.proofs.lemmas.List.{length-map}
 use Rattle.std.proofs.lemmas.Option.{get_or_from_slice_get}
 use Rattle.air_field.specs.Grid.{Grid}
-use Rattle.air_field.specs.Ring.{CommRing, AlgebraOver, itself}
+use Rattle.air_field.specs.Ring.{CommRing, AlgebraOver, self_algebra}
 use Rattle.air_field.specs.Assignment.{selector, row_at, row_or_none, trace_shape, IsMissing}
 use Rattle.air_field.specs.OneRow.{no_permutation, one_row_shape}
 use Rattle.air_field.specs.declared.matrices.view.ViewPair.{ViewPair}
@@ -53,7 +53,7 @@ module _ {F : Type 0} (g : Instance F) {i : ℕ} {pair table : ViewPair F} {sele
     (made : IsRow i pair table g.public selected row) (at : StandsAt row periodic fs b) where
   -- where it holds what stands at its row of the trace, it grows by what the check of the row adds
   pub checked_row : {r : CommRing F} {eq : F → F → Bool} {over : AlgebraOver F F} {e : RowData F F} {n : ℕ} {gs hs : List ConstraintFailure}
-      → over ≡ itself r → debug_row b ≡ record { row = i; values = row_at r (instance_trace g) i; has_permutation = false; permutation = no_permutation } → hs ≡ gs
+      → over ≡ self_algebra r → debug_row b ≡ record { row = i; values = row_at r (instance_trace g) i; has_permutation = false; permutation = no_permutation } → hs ≡ gs
       → GrewAtRow (is_zero_at r over eq eq) (debug_row b) e b.constraint_index n b.failures.items gs g.air.constraints
       → CheckedRow r eq g i fs hs n
   checked_row {r} {eq} {over} own there handed grew =

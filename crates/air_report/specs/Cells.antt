@@ -28,9 +28,9 @@ abbrev pub differing_cells : {F : Type 0} → CommRing F → (F → F → Bool) 
 differing_cells r eq main public cells = filter (λ p. differs r eq main public p.1) (enumerate_from 0 cells)
 
 -- as many as a cap leaves after n failures
-abbrev pub left_of : {X : Type 0} → Option ℕ → ℕ → List X → List X
-left_of None n xs = xs
-left_of (Some cap) n xs = take (cap - n) xs
+abbrev pub take_within_cap : {X : Type 0} → Option ℕ → ℕ → List X → List X
+take_within_cap None n xs = xs
+take_within_cap (Some cap) n xs = take (cap - n) xs
 
 -- where a cell's failure stands: its row of h, and its place after the constraints
 abbrev pub cell_place : ℕ → ℕ → ℕ × BoundaryPublic → ℕ × ℕ

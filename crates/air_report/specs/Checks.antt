@@ -7,12 +7,12 @@ use Rattle.air_builder.specs.Refusals.{NoneMissing}
 use Rattle.air_core.specs.declared.boundary.BoundaryPublic.{BoundaryPublic}
 use Rattle.air_core.specs.declared.errors.AirError.{AirError}
 use Rattle.air_core.specs.declared.errors.AirError.TheVariants.{CountOverflow, Memory}
-use Rattle.air_report.specs.Cells.{differing_cells, left_of, ListsCells, IsListedPast, CellsFit, IsCellFault, AgreeBelow, IsFirstDiffering}
+use Rattle.air_report.specs.Cells.{differing_cells, take_within_cap, ListsCells, IsListedPast, CellsFit, IsCellFault, AgreeBelow, IsFirstDiffering}
 use Rattle.air_report.specs.Debug.{nonzero_from}
 use Rattle.air_report.specs.RowRefusals.{IsFull}
 use Rattle.air_report.specs.Instances.{Instance, instance_trace, row_count}
 use Rattle.air_builder.specs.Refused.{Refused}
-use Rattle.air_report.specs.Report.{failure_place, report_of, IsReached, IsRowsShown, count_shown}
+use Rattle.air_report.specs.Report.{failure_place, report_of, IsReached, IsRowsShown, constraints_counted}
 use Rattle.air_report.specs.Shapes.{ShapesFit, IsShapeFault, table_height}
 use Rattle.air_report.specs.declared.checks.check_first.CheckError.{CheckError}
 use Rattle.air_report.specs.declared.checks.check_first.CheckError.TheVariants.{BoundaryMismatch, RowFailed, Refused as NotChecked}
@@ -40,7 +40,7 @@ pub record CheckedRows {F : Type 0} (r : CommRing F) (eq : F → F → Bool) (g 
   pub shown : ℕ
   pub ran : RowsRan r eq g cap shown
   pub places : map failure_place fs ≡ report_of r eq (instance_trace g) g.air.constraints shown
-  pub counted : count ≡ count_shown g.air.constraints shown
+  pub counted : count ≡ constraints_counted g.air.constraints shown
 
 -- the shapes of what the check is given fit
 abbrev pub Fits : {F : Type 0} → Instance F → Type 0
@@ -48,7 +48,9 @@ Fits g = ShapesFit g.air.periodic (row_count g) (table_height g.air.preprocessed
 
 -- the differing cells that a cap lists after the first n rows
 abbrev pub listed_cells : {F : Type 0} → CommRing F → (F → F → Bool) → Instance F → Option ℕ → ℕ → List (ℕ × BoundaryPublic)
-listed_cells r eq g cap n = left_of cap (length (report_of r eq (instance_trace g) g.air.constraints n)) (differing_cells r eq g.main g.public g.air.cells)
+listed_cells r eq g cap n =
+    take_within_cap cap (length (report_of r eq (instance_trace g) g.air.constraints n))
+    (differing_cells r eq g.main g.public g.air.cells)
 
 -- The report of a check under a cap: the nonzero pairs of the rows that the cap shows, and then the differing cells, as
 -- many as the cap leaves. The shapes and the cells fit.
@@ -59,9 +61,10 @@ pub record IsReport {F : Type 0} (r : CommRing F) (eq : F → F → Bool) (g : I
   pub cells : CellsFit g.main g.public g.air.cells
   pub of_rows : List ConstraintFailure
   pub places : map failure_place of_rows ≡ report_of r eq (instance_trace g) g.air.constraints shown
-  pub lists : ListsCells (row_count g) (count_shown g.air.constraints shown) (listed_cells r eq g cap shown) of_rows report.failures.items
+  pub lists : ListsCells (row_count g) (constraints_counted g.air.constraints shown)
+      (listed_cells r eq g cap shown) of_rows report.failures.items
   pub rows : report.total_rows ≡ row_count g
-  pub count : report.total_constraints_per_row ≡ count_shown g.air.constraints shown
+  pub count : report.total_constraints_per_row ≡ constraints_counted g.air.constraints shown
 
 -- a row refuses for want of memory, a term that names a missing entry, or a count that passes `usize`
 abbrev pub RowRefuses : {F : Type 0} → Instance F → AirError → Type 0
@@ -80,7 +83,8 @@ pub record IsCellPastCount {F : Type 0} (r : CommRing F) (eq : F → F → Bool)
   pub shown : ℕ
   pub ran : RowsRan r eq g cap shown
   pub cells : CellsFit g.main g.public g.air.cells
-  pub past : IsListedPast (count_shown g.air.constraints shown) (listed_cells r eq g cap shown)
+  pub past : IsListedPast (constraints_counted g.air.constraints shown)
+      (listed_cells r eq g cap shown)
 
 -- the rows ran, and then the cells had this fault
 abbrev pub RefusesCells : {F : Type 0} → CommRing F → (F → F → Bool) → Instance F → Option ℕ → AirError → Type 0

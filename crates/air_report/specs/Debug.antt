@@ -1,7 +1,7 @@
 -- What the debug builder holds of a row, and how it grows.
 use Rattle.std.specs.Prelude.{◌≡◌, ℕ, ◌+◌, List, ◌++◌, length, map, Bool, not}
 use Rattle.std.specs.List.{filter, enumerate_from}
-use Rattle.air_field.specs.Ring.{CommRing, AlgebraOver, itself}
+use Rattle.air_field.specs.Ring.{CommRing, AlgebraOver, self_algebra}
 use Rattle.air_field.specs.Extension.{Basis}
 use Rattle.air_field.specs.Term.{Leaf, permutation, challenge, permutation_value, Term, const_term, ext_const_term}
 use Rattle.air_field.specs.Value.{value}
@@ -54,7 +54,7 @@ row_reads_as r a basis d l = const_term (row_leaves r d l)
 -- whether an assertion is zero at the row: a base term by its value in F, an extension term by its value over the
 -- extension
 abbrev pub is_zero_at : {F E : Type 0} → CommRing F → AlgebraOver F E → (F → F → Bool) → (E → E → Bool) → RowData F E → Assertion F → Bool
-is_zero_at r a eq ext_eq d (Base t) = eq (value (itself r) (row_leaves r d) t) r.zero
+is_zero_at r a eq ext_eq d (Base t) = eq (value (self_algebra r) (row_leaves r d) t) r.zero
 is_zero_at r a eq ext_eq d (Extension t) = ext_eq (value a (ext_row_leaves r a d) t) a.ring.zero
 
 -- the places, counted from n on, of the assertions that the test doesn't find zero

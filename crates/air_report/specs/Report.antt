@@ -1,7 +1,7 @@
 -- The report on a whole trace: where the declared terms are not zero.
 use Rattle.std.specs.Prelude.{◌≡◌, ℕ, ◌≤◌, ◌<◌, List, [], length, map, Bool, not, Option, None, Some, ◌⊎◌, ◌==◌, if◌then◌else◌}
 use Rattle.std.specs.List.{filter, flat_map, range_with_len, enumerate_from}
-use Rattle.air_field.specs.Ring.{CommRing, itself}
+use Rattle.air_field.specs.Ring.{CommRing, self_algebra}
 use Rattle.air_field.specs.Term.{Leaf}
 use Rattle.air_field.specs.Value.{value}
 use Rattle.air_field.specs.Assignment.{Trace, row_assignment}
@@ -11,8 +11,8 @@ use Rattle.air_report.specs.declared.debug.failure.ConstraintFailure.{Constraint
 
 -- the value of an assertion's term, the leaves having the values of s
 abbrev pub assertion_value : {F : Type 0} → CommRing F → (Leaf → F) → Assertion F → F
-assertion_value r s (Base t) = value (itself r) s t
-assertion_value r s (Extension t) = value (itself r) s t
+assertion_value r s (Base t) = value (self_algebra r) s t
+assertion_value r s (Extension t) = value (self_algebra r) s t
 
 -- the first h rows, each with every place of the list and the assertion there: rows ascending, and in each row the
 -- places ascending
@@ -51,5 +51,5 @@ pub record IsRowsShown {F : Type 0} (r : CommRing F) (eq : F → F → Bool) (tr
   pub least : (k : ℕ) → k < m → IsReached cap (length (report_of r eq trace ts k)) → ⊥
 
 -- the number of constraints of row 0, none where no row ran
-abbrev pub count_shown : {F : Type 0} → List (Assertion F) → ℕ → ℕ
-count_shown ts m = if m == 0 then 0 else length ts
+abbrev pub constraints_counted : {F : Type 0} → List (Assertion F) → ℕ → ℕ
+constraints_counted ts m = if m == 0 then 0 else length ts

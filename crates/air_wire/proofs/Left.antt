@@ -18,13 +18,13 @@ node_tree seen f (Neg x d) = neg_tree (f x)
 node_tree seen f (Mul x y d) = mul_tree (f x) (f y)
 
 -- the trees that a step is to bring into the list, and those of all steps, the last step first
-abbrev pub left_of : {S : Type 0} → (ℕ → Tree S) → ℕ × Bool → List (Tree S)
-left_of f (n, false) = subtrees (f n)
-left_of f (n, true) = f n ∷ []
+abbrev pub take_within_cap : {S : Type 0} → (ℕ → Tree S) → ℕ × Bool → List (Tree S)
+take_within_cap f (n, false) = subtrees (f n)
+take_within_cap f (n, true) = f n ∷ []
 
 pub left : {S : Type 0} → (ℕ → Tree S) → List (ℕ × Bool) → List (Tree S)
 left f [] = []
-left f (s ∷ steps) = left f steps ++ left_of f s
+left f (s ∷ steps) = left f steps ++ take_within_cap f s
 
 -- how many steps come at most
 abbrev pub work_of : {S : Type 0} → (ℕ → Tree S) → ℕ × Bool → ℕ
@@ -63,13 +63,13 @@ module _ {S : Type 0} (f : ℕ → Tree S) where
   left_append : (xs ys : List (ℕ × Bool)) → left f (xs ++ ys) ≡ left f ys ++ left f xs
   unfolding left
   left_append [] ys = sym (append-nil (left f ys))
-  left_append (s ∷ xs) ys = ap (λ (l : List (Tree S)). l ++ left_of f s) (left_append xs ys) ∙ append_assoc (left f ys) (left f xs) (left_of f s)
+  left_append (s ∷ xs) ys = ap (λ (l : List (Tree S)). l ++ take_within_cap f s) (left_append xs ys) ∙ append_assoc (left f ys) (left f xs) (take_within_cap f s)
 
-  pub left_one : (s : ℕ × Bool) → left f (s ∷ []) ≡ left_of f s
+  pub left_one : (s : ℕ × Bool) → left f (s ∷ []) ≡ take_within_cap f s
   unfolding left
   left_one s = refl
 
-  pub left_push : (xs : List (ℕ × Bool)) (s : ℕ × Bool) → left f (xs ++ s ∷ []) ≡ left_of f s ++ left f xs
+  pub left_push : (xs : List (ℕ × Bool)) (s : ℕ × Bool) → left f (xs ++ s ∷ []) ≡ take_within_cap f s ++ left f xs
   left_push xs s = left_append xs (s ∷ []) ∙ ap (λ (l : List (Tree S)). l ++ left f xs) (left_one s)
 
   pub left_none : left f [] ≡ []

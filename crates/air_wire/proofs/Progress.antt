@@ -13,7 +13,7 @@ use Rattle.air_wire.specs.Nodes.{Kind}
 use Rattle.air_wire.specs.Written.{subtrees, Stands, Adds, IsWrittenNode, AreWritten, AreNodesOf}
 use Rattle.air_wire.specs.laws.Written.{at_push, at_more, stands_cons, pushed_either}
 use Rattle.air_wire.specs.Writing.{steps_of}
-use Rattle.air_wire.proofs.Left.{node_tree, left_of, left, left_push, left_one, left_none, look_left, Within, within_one, within_front, within_last, look_within}
+use Rattle.air_wire.proofs.Left.{node_tree, take_within_cap, left, left_push, left_one, left_none, look_left, Within, within_one, within_front, within_last, look_within}
 use Rattle.air_wire.proofs.Ordered.{HasOperands, Ordered, Closed, ordered_head, ordered_all, adds_skip, ordered_skip, closed_push}
 
 -- ---- the table of places
@@ -162,8 +162,8 @@ module _ {S F : Type 0} (kind : Kind S F) (f : ℕ → Tree S) (size : ℕ) wher
     table = h.table;
     nodes = h.nodes;
     closed = h.closed;
-    ordered = ordered_skip h.done (left_of f (n, b)) (left f steps) (there b) (subst (Ordered h.done) (left_push f steps (n, b)) h.ordered);
-    order = λ all a. h.order all (subst (λ (l : List (Tree S)). Adds h.done l all) (sym (left_push f steps (n, b))) (adds_skip h.done (left_of f (n, b)) (left f steps) all (there b) a));
+    ordered = ordered_skip h.done (take_within_cap f (n, b)) (left f steps) (there b) (subst (Ordered h.done) (left_push f steps (n, b)) h.ordered);
+    order = λ all a. h.order all (subst (λ (l : List (Tree S)). Adds h.done l all) (sym (left_push f steps (n, b))) (adds_skip h.done (take_within_cap f (n, b)) (left f steps) all (there b) a));
   }
     where
       root_there : Stands h.done (f n)
@@ -172,7 +172,7 @@ module _ {S F : Type 0} (kind : Kind S F) (f : ℕ → Tree S) (size : ℕ) wher
       parts_there : (x : Tree S) → Stands (subtrees (f n)) x → Stands h.done x
       parts_there = h.closed (f n) root_there
 
-      there : (b : Bool) (x : Tree S) → Stands (left_of f (n, b)) x → Stands h.done x
+      there : (b : Bool) (x : Tree S) → Stands (take_within_cap f (n, b)) x → Stands h.done x
       there false x s = parts_there x s
       there true x s = ⊎_elim (λ (e : f n ≡ x). subst (λ (t : Tree S). Stands h.done t) e root_there) (λ (r : Stands [] x). absurd (no_tree f size x r)) (stands_cons (f n) [] x s)
 

@@ -2,7 +2,7 @@
 use Rattle.std.proofs.Common.{Err, ◌≡◌, ℕ, zero, suc, ◌-◌, ◌*◌, ◌≤◌, ◌<◌, ◌^◌, max, List, [], ◌∷◌, ◌++◌, length, map, All, Bool, Option, slice_index_or, refl, sym, ◌∙◌, subst, arith, inl, inr, add-mul}
 use Rattle.std.specs.List.{AllZip}
 use Rattle.std.proofs.Math.Nat.{le-max_left, le-max_right, le_of_mul-le-mul_right}
-use Rattle.air_field.specs.Ring.{CommRing, itself}
+use Rattle.air_field.specs.Ring.{CommRing, self_algebra}
 use Rattle.air_field.specs.Extension.{Basis}
 use Rattle.air_field.specs.Term.{Leaf, Term, leaf_term, const_term, ext_const_term, add_term, sub_term, neg_term, mul_term}
 use Rattle.air_field.specs.Degree.{degree_by, transition_weight, greatest_degree}
@@ -92,9 +92,9 @@ simplified reads r p (i ∷ is) (t ∷ ts) h = (h.0.simplifies, simplified reads
 -- ---- the theorem under a cap
 
 module _ {F : Type 0} (r : CommRing F) (eq : F → F → Bool) (basis : Basis F F) (x : Instance F) (cap : Option ℕ) (w : ℕ) (audit : Audit F) where
-  pub audited : RecordingAnswers r (itself r) (air_layout x.air) x.air
-      → RecordsBase r (itself r) base_reads audit.recorded.pool.base audit.recorded.base x.air.constraints
-      → RecordsExt r (itself r) (ext_reads basis) audit.recorded.pool audit.recorded.ext x.air.constraints
+  pub audited : RecordingAnswers r (self_algebra r) (air_layout x.air) x.air
+      → RecordsBase r (self_algebra r) base_reads audit.recorded.pool.base audit.recorded.base x.air.constraints
+      → RecordsExt r (self_algebra r) (ext_reads basis) audit.recorded.pool audit.recorded.ext x.air.constraints
       → All (λ i. i < length audit.recorded.pool.base.nodes) audit.recorded.base
       → All (λ i. i < length audit.recorded.pool.nodes) audit.recorded.ext
       → ArePlacesOf (map kind_of x.air.constraints) audit.layout.base_indices.items audit.layout.ext_indices.items
@@ -111,8 +111,8 @@ module _ {F : Type 0} (r : CommRing F) (eq : F → F → Bool) (basis : Basis F 
           base_places = places.base ∙ sym (base_places_are 0 ts);
           ext_places = places.extension ∙ sym (ext_places_are 0 ts);
           terms = record {
-            each_base = each_base (RecordsTerm (itself r)) (recorded_base audit.recorded) ts base.terms;
-            each_ext = each_ext (RecordsTerm (itself r)) _ ts (subst (λ vs. EachRecords (itself r) vs (ext_terms ts)) (sym (recorded_ext_are basis audit.recorded)) ext.terms);
+            each_base = each_base (RecordsTerm (self_algebra r)) (recorded_base audit.recorded) ts base.terms;
+            each_ext = each_ext (RecordsTerm (self_algebra r)) _ ts (subst (λ vs. EachRecords (self_algebra r) vs (ext_terms ts)) (sym (recorded_ext_are basis audit.recorded)) ext.terms);
           };
         };
         pool = record {
@@ -124,7 +124,7 @@ module _ {F : Type 0} (r : CommRing F) (eq : F → F → Bool) (basis : Basis F 
         report = report;
         degree = degree_is r x us audit.degree w degree;
         in_range = degree_in_range r x us audit.degree w degree;
-        bounded = λ two. polynomials_within (itself r) _ _ us (degree_bounds r x us audit.degree w degree two);
+        bounded = λ two. polynomials_within (self_algebra r) _ _ us (degree_bounds r x us audit.degree w degree two);
         least = degree_least r x us audit.degree w degree;
       }
 
@@ -146,14 +146,14 @@ module _ {F : Type 0} (r : CommRing F) (eq : F → F → Bool) (x : Instance F) 
       step (inr refused) = inl (recording_refuses x.air e refused.1)
 
   pub degree_refused : (report : ConstraintReport) (us vs : List (Term F)) (e : RingError) → IsReport r eq x cap report
-      → RecordingAnswers r (itself r) (air_layout x.air) x.air
-      → EachRecords (itself r) us (base_terms x.air.constraints) → EachRecords (itself r) vs (ext_terms x.air.constraints)
+      → RecordingAnswers r (self_algebra r) (air_layout x.air) x.air
+      → EachRecords (self_algebra r) us (base_terms x.air.constraints) → EachRecords (self_algebra r) vs (ext_terms x.air.constraints)
       → AnswersInferred w (row_count x) (periods_of x.air.periodic) (us ++ vs) (Err e) → AuditRefusesUnder r eq x cap w (air_error e)
   degree_refused report us vs Memory checked answers m n h = inl tt
   degree_refused report us vs DegreeOverflow checked answers m n h = inr (recordable r x.air answers, inr (refl, record { report = report; checked = checked; passes = passes }))
     where
       recorded : RecordConstraints r x.air us vs
-      recorded = record { each_base = each_base (RecordsTerm (itself r)) us x.air.constraints m; each_ext = each_ext (RecordsTerm (itself r)) vs x.air.constraints n }
+      recorded = record { each_base = each_base (RecordsTerm (self_algebra r)) us x.air.constraints m; each_ext = each_ext (RecordsTerm (self_algebra r)) vs x.air.constraints n }
 
       passes : DegreeOverflows r w x
       passes = record { base = us; ext = vs; recorded = recorded; past = subst (λ v. 2 ^ 64 ≤ greatest_degree v (us ++ vs)) (weight_is x w) h }

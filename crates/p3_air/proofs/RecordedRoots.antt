@@ -2,7 +2,7 @@
 use Rattle.std.specs.List.{AllZip}
 use Rattle.std.proofs.Common.{◌≡◌, ℕ, true, false, cond, leb, List, [], ◌∷◌, length, map, None, Some, refl, ap, ap₂, ◌∙◌, subst, sym, arith}
 use borrow.Author.Tests.{leb-true}
-use Rattle.air_field.specs.Ring.{CommRing, itself}
+use Rattle.air_field.specs.Ring.{CommRing, self_algebra}
 use Rattle.air_field.specs.Term.{Term}
 use Rattle.air_symbolic.specs.BaseLeaves.{base_reads}
 use Rattle.air_symbolic.specs.Leaves.{Leaves}
@@ -30,6 +30,6 @@ base_terms-map [] = refl
 base_terms-map (u ∷ us) = ap (λ ts. u ∷ ts) (base_terms-map us)
 
 -- Where roots of a pool have the terms that were recorded, the list that they declare records what is declared.
-pub records_zero_at : {F : Type 0} (r : CommRing F) (pool given : Pool (Unit {0}) (BaseLeaf F)) (roots numbers : List ℕ) (ts : List (Assertion F)) → pool ≡ given → roots ≡ numbers → EachRecords (itself r) (terms_of base_reads given numbers) (base_terms ts) → RecordsBaseTerms r (zero_at_roots pool roots) ts
+pub records_zero_at : {F : Type 0} (r : CommRing F) (pool given : Pool (Unit {0}) (BaseLeaf F)) (roots numbers : List ℕ) (ts : List (Assertion F)) → pool ≡ given → roots ≡ numbers → EachRecords (self_algebra r) (terms_of base_reads given numbers) (base_terms ts) → RecordsBaseTerms r (zero_at_roots pool roots) ts
 records_zero_at r pool given roots numbers ts same_pool same h =
-    subst (λ us. EachRecords (itself r) us (base_terms ts)) (sym (ap₂ (λ p is. base_terms (zero_at_roots p is)) same_pool same ∙ base_terms-map (terms_of base_reads given numbers))) h
+    subst (λ us. EachRecords (self_algebra r) us (base_terms ts)) (sym (ap₂ (λ p is. base_terms (zero_at_roots p is)) same_pool same ∙ base_terms-map (terms_of base_reads given numbers))) h

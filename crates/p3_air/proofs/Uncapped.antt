@@ -9,7 +9,7 @@ use Rattle.air_core.specs.declared.errors.AirError.TheVariants.{Memory}
 use Rattle.air_report.specs.Cells.{cell_label, cell_place, label_text}
 use Rattle.air_report.specs.Checks.{Fits, HasEntries, IsCellPastCount, IsReport, RowsRan, RowRefuses}
 use Rattle.air_report.specs.Instances.{instance_trace}
-use Rattle.air_report.specs.Report.{count_shown, failure_place, report_of}
+use Rattle.air_report.specs.Report.{constraints_counted, failure_place, report_of}
 use Rattle.air_report.specs.declared.checks.report.ConstraintReport.{ConstraintReport}
 use Rattle.p3_air.specs.Theorem.{Instance, row_count, RowsHaveEntries, FixedColumnsFit, FitsDeclaration, constraints_per_row, failure_places, nonzero_places, violations, violated_cells, LabelsFrom, RecordingRefuses, IsRecordable, ReportRefuses, AuditRefuses}
 use Rattle.p3_air.specs.Audits.{AuditRefusesUnder}
@@ -67,7 +67,7 @@ module _ {F : Type 0} (r : CommRing F) (eq : F → F → Bool) (x : Instance F) 
     lists = ap (map failure_place) p.lists.failures
         ∙ (map-append failure_place p.of_rows p.lists.more
         ∙ ap₂ (λ xs ys. xs ++ ys) of_rows
-        (p.lists.places ∙ (ap (λ n. map (cell_place (row_count x) (count_shown x.air.constraints n)) _) at ∙ ap (map (cell_place (row_count x) (constraints_per_row x))) (sym (violations_are r x eq)))))
+        (p.lists.places ∙ (ap (λ n. map (cell_place (row_count x) (constraints_counted x.air.constraints n)) _) at ∙ ap (map (cell_place (row_count x) (constraints_per_row x))) (sym (violations_are r x eq)))))
 
     pub labels : LabelsFrom (length (nonzero_places r eq x)) (violations r eq x) report
     labels = labels_are (drop (length (nonzero_places r eq x)) report.failures.items)
@@ -79,7 +79,7 @@ module _ {F : Type 0} (r : CommRing F) (eq : F → F → Bool) (x : Instance F) 
         counted = ap length (sym of_rows) ∙ length-map p.of_rows failure_place
 
     pub counts : (report.total_rows ≡ row_count x) × (report.total_constraints_per_row ≡ constraints_per_row x)
-    counts = (p.rows, p.count ∙ ap (count_shown x.air.constraints) at)
+    counts = (p.rows, p.count ∙ ap (constraints_counted x.air.constraints) at)
 
   module _ (w : ℕ) where
     memory_refused : (e : AirError) → e ≡ Memory → AuditRefuses r eq x w e
@@ -123,7 +123,7 @@ module _ {F : Type 0} (r : CommRing F) (eq : F → F → Bool) (x : Instance F) 
           past.past.at,
           past.past.cell,
           ap (λ l. slice_get l past.past.at) (violations_are r x eq) ∙ past.past.is_listed,
-          subst (λ n. 2 ^ 64 ≤ count_shown x.air.constraints n + past.past.cell.0) (all_shown past.ran) past.past.past,
+          subst (λ n. 2 ^ 64 ≤ constraints_counted x.air.constraints n + past.past.cell.0) (all_shown past.ran) past.past.past,
         ))
         answers shapes past
     refuses e (inr (answers, inr (is, past))) =

@@ -1,6 +1,6 @@
 -- The AIR that a recording is.
 use Rattle.std.specs.Prelude.{◌≡◌, List, map, Some, ⊤}
-use Rattle.air_field.specs.Ring.{CommRing, itself}
+use Rattle.air_field.specs.Ring.{CommRing, self_algebra}
 use Rattle.air_symbolic.specs.BaseLeaves.{base_reads}
 use Rattle.air_builder.specs.Assertion.{Assertion, Base}
 use Rattle.air_core.specs.declared.errors.AirError.{AirError}
@@ -26,4 +26,5 @@ RecordedAirRefuses recorded _ = ⊥
 -- each declared base term is recorded by the one that another list declares, in order
 abbrev pub RecordsBaseTerms : {F : Type 0} → CommRing F
     → List (Assertion F) → List (Assertion F) → Type 0
-RecordsBaseTerms r recorded declared = EachRecords (itself r) (base_terms recorded) (base_terms declared)
+RecordsBaseTerms r recorded declared =
+    EachRecords (self_algebra r) (base_terms recorded) (base_terms declared)

@@ -3,7 +3,7 @@ use Rattle.std.specs.Prelude.{◌≡◌, ◌≢◌, ◌⊎◌, ℕ, zero, suc, �
 use Rattle.std.specs.Int.{IsPowerOfTwo}
 use Rattle.std.specs.Option.{option_map}
 use Rattle.std.specs.List.{AllZip, filter, enumerate_from}
-use Rattle.air_field.specs.Ring.{CommRing, itself}
+use Rattle.air_field.specs.Ring.{CommRing, self_algebra}
 use Rattle.air_field.specs.Extension.{Basis}
 use Rattle.air_field.specs.Grid.{Grid}
 use Rattle.air_field.specs.Term.{Leaf, preprocessed, main, periodic, public, first_row, last_row, transition, permutation, challenge, permutation_value, Term, leaf_term, ext_const_term}
@@ -158,8 +158,10 @@ ext_constraints k (Extension t ∷ ts) = (k, t) ∷ ext_constraints (k + 1) ts
 -- records another one has the same polynomial, the same value and no greater degree, whatever
 -- coefficients, values and weights the leaves have.
 pub record RecordConstraints {F : Type 0} (r : CommRing F) (air : Declaration F) (base ext : List (Term F)) : Type 0 where
-  pub each_base : AllZip (λ u c. RecordsTerm (itself r) u c.1) base (base_constraints 0 air.constraints)
-  pub each_ext : AllZip (λ u c. RecordsTerm (itself r) u c.1) ext (ext_constraints 0 air.constraints)
+  pub each_base : AllZip (λ u c. RecordsTerm (self_algebra r) u c.1)
+      base (base_constraints 0 air.constraints)
+  pub each_ext : AllZip (λ u c. RecordsTerm (self_algebra r) u c.1)
+      ext (ext_constraints 0 air.constraints)
 
 -- At the place of each declared base constraint, and nowhere else, a base expression is recorded,
 -- and it records that constraint; at the place of each extension constraint an extension expression.
@@ -246,8 +248,10 @@ BoundsDegrees dom ts d = All (λ t. degree_by dom.leaf_degree t ≤ dom.bound d)
 -- has at most its degree
 abbrev pub BoundsPolynomials : {F : Type 0} → CommRing F → Domain → List (Term F) → ℕ → Type 0
 BoundsPolynomials {F = F} r dom ts d =
-    (s : Leaf → List F) → ((l : Leaf) → HasDegreeAtMost r (polynomial (itself r) s (leaf_term l)) (dom.leaf_degree l))
-    → All (λ t. HasDegreeAtMost r (polynomial (itself r) s t) (dom.bound d)) ts
+    (s : Leaf → List F)
+    → ((l : Leaf)
+        → HasDegreeAtMost r (polynomial (self_algebra r) s (leaf_term l)) (dom.leaf_degree l))
+    → All (λ t. HasDegreeAtMost r (polynomial (self_algebra r) s t) (dom.bound d)) ts
 
 -- ---- What is refused
 

@@ -1,7 +1,7 @@
 -- Values as a ring that makes expressions, and values of terms under leaves.
 use Rattle.std.specs.Prelude.{◌≡◌, ⊤, List, refl}
 use Rattle.std.proofs.Common.{ap, ap₂}
-use Rattle.air_field.specs.Ring.{CommRing, minus, AlgebraOver, itself}
+use Rattle.air_field.specs.Ring.{CommRing, minus, AlgebraOver, self_algebra}
 use Rattle.air_field.specs.Term.{Leaf, Term, leaf_term, const_term, ext_const_term, add_term, sub_term, neg_term, mul_term, with_leaves, IsBase}
 use Rattle.air_field.specs.Value.{value}
 use Rattle.air_field.specs.Algebra.{AlgebraLaws, closed_value_in, closed_value}
@@ -35,7 +35,7 @@ value_laws r = stateless_laws (λ x t. IsBase t × (closed_value r t ≡ x)) (λ
 
 -- a term with its leaves' values put in has the term's value
 module _ {F : Type 0} (r : CommRing F) (at w : Leaf → F) where
-  pub value-with_leaves : (t : Term F) → value (itself r) w (with_leaves (λ l. const_term (at l)) t) ≡ value (itself r) at t
+  pub value-with_leaves : (t : Term F) → value (self_algebra r) w (with_leaves (λ l. const_term (at l)) t) ≡ value (self_algebra r) at t
   value-with_leaves (leaf_term l) = refl
   value-with_leaves (const_term c) = refl
   value-with_leaves (ext_const_term c) = refl

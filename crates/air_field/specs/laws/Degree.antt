@@ -9,11 +9,11 @@ use Rattle.air_field.specs.Polynomial.{convolve, polynomial, HasDegreeAtMost}
 use Rattle.air_field.specs.Degree.{degree_by}
 use Rattle.air_field.specs.Same.{same_refl, same_trans, same_add, same_neg, same_mul, Simplifies}
 use Rattle.air_field.specs.laws.Same.{same_sub}
-use Rattle.air_field.specs.laws.Sums.{only}
+use Rattle.air_field.specs.laws.Sums.{constant_coefficients}
 use Rattle.air_field.specs.laws.Sums as sums
 
 module _ {E : Type 0} (r : CommRing E) where
-  only-degree : (c : E) (d : ℕ) → HasDegreeAtMost r (only r c) d
+  only-degree : (c : E) (d : ℕ) → HasDegreeAtMost r (constant_coefficients r c) d
   only-degree c d zero b = absurd (omega arith)
   only-degree c d (suc k) b = refl
 

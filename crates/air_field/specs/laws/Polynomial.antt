@@ -8,7 +8,7 @@ use Rattle.air_field.specs.Polynomial.{polynomial}
 use Rattle.air_field.specs.Same.{Same, same_refl, same_sym, same_trans, same_add, same_neg, same_mul}
 use Rattle.air_field.specs.Same.{const_add, const_mul, add_zero, mul_one, assoc_add, comm_add, add_opposite, sub_is}
 use Rattle.air_field.specs.Same.{assoc_mul, comm_mul, mul_sum, ext_base}
-use Rattle.air_field.specs.laws.Sums.{only}
+use Rattle.air_field.specs.laws.Sums.{constant_coefficients}
 use Rattle.air_field.specs.laws.Sums as sums
 
 -- The constant coefficient is the value.
@@ -39,7 +39,7 @@ module _ {F E : Type 0} (r : CommRing F) (a : AlgebraOver F E) (m : AlgebraOverL
   Same-poly (const_add {x = x} {y = y}) (suc n) = sym (a.ring.add_zero a.ring.zero)
   Same-poly (const_mul {x = x} {y = y}) zero = m.embed_mul x y
   Same-poly (const_mul {x = x} {y = y}) (suc n) =
-      sym (sums.convolve-only_left a.ring (a.embed x) (only a.ring (a.embed y)) (suc n) ∙ mul_zero a.ring (a.embed x))
+      sym (sums.convolve-only_left a.ring (a.embed x) (constant_coefficients a.ring (a.embed y)) (suc n) ∙ mul_zero a.ring (a.embed x))
   Same-poly (add_zero {t = t}) n =
       cc (m.embed_zero, sums.only-nil a.ring n, a.ring.add_zero (polynomial a s t n))
   Same-poly (mul_one {t = t}) n =
@@ -51,7 +51,7 @@ module _ {F E : Type 0} (r : CommRing F) (a : AlgebraOver F E) (m : AlgebraOverL
   Same-poly (assoc_mul {t = t} {u = u} {v = v}) n = sums.convolve-assoc a.ring (polynomial a s t) (polynomial a s u) (polynomial a s v) n
   Same-poly (comm_mul {t = t} {u = u}) n = sums.convolve-comm a.ring (polynomial a s t) (polynomial a s u) n
   Same-poly (mul_sum {t = t} {u = u} {v = v}) n = sums.convolve-add a.ring (polynomial a s t) (polynomial a s u) (polynomial a s v) n
-  Same-poly (ext_base {x = x} {xs = xs} z) n = ap (λ c. only a.ring c n) (sym (m.extend_base x xs z))
+  Same-poly (ext_base {x = x} {xs = xs} z) n = ap (λ c. constant_coefficients a.ring c n) (sym (m.extend_base x xs z))
 
   -- so they have one value under every assignment
   pub Same-value : {t u : Term F} → Same r t u → value a (λ l. slice_index_or (s l) 0 a.ring.zero) t ≡ value a (λ l. slice_index_or (s l) 0 a.ring.zero) u

@@ -1,7 +1,7 @@
 -- A ring is an extension of itself: its elements are lists of one coefficient.
 use Rattle.std.specs.Prelude.{◌≡◌, refl, List, [], ◌∷◌, slice_index_or}
 use Rattle.std.proofs.Common.{lit<}
-use Rattle.air_field.specs.Ring.{CommRing, itself}
+use Rattle.air_field.specs.Ring.{CommRing, self_algebra}
 use Rattle.air_field.specs.Coefficients.{pad_to}
 use Rattle.air_field.specs.Extension.{own_basis, ExtensionLaws}
 
@@ -13,7 +13,7 @@ module _ {F : Type 0} (R : CommRing F) where
   single-extend [] = refl
   single-extend (x ∷ l) = refl
 
-  pub single_laws : ExtensionLaws R (itself R) own_basis 1
+  pub single_laws : ExtensionLaws R (self_algebra R) own_basis 1
   single_laws =
       record {
         positive = lit< tt;

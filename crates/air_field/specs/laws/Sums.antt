@@ -5,8 +5,8 @@ use Rattle.air_field.specs.laws.Ring.{zero_add, zero_mul, neg_unique, neg_zero, 
 use Rattle.air_field.specs.Polynomial.{sum_to, convolve}
 
 -- the coefficients of a constant
-abbrev pub only : {E : Type 0} → CommRing E → E → ℕ → E
-only r c n = slice_index_or (c ∷ []) n r.zero
+abbrev pub constant_coefficients : {E : Type 0} → CommRing E → E → ℕ → E
+constant_coefficients r c n = slice_index_or (c ∷ []) n r.zero
 
 module _ {E : Type 0} (r : CommRing E) where
   pub minus_zero : (x : E) → minus r x r.zero ≡ x
@@ -82,13 +82,13 @@ module _ {E : Type 0} (r : CommRing E) where
       row : (i : ℕ) → i ≤ n → sum_to r (λ j. f i j) (suc n - i) ≡ r.add (sum_to r (λ j. f i j) (n - i)) (f i (suc n - i))
       row i b = ap (λ m. sum_to r (λ j. f i j) m) (above i b) ∙ ap (λ m. r.add (sum_to r (λ j. f i j) (n - i)) (f i m)) (sym (above i b))
 
-  pub only-nil : (n : ℕ) → only r r.zero n ≡ r.zero
+  pub only-nil : (n : ℕ) → constant_coefficients r r.zero n ≡ r.zero
   only-nil zero = refl
   only-nil (suc n) = refl
 
-  pub convolve-only_left : (c : E) (g : ℕ → E) (n : ℕ) → convolve r (only r c) g n ≡ r.mul c (g n)
+  pub convolve-only_left : (c : E) (g : ℕ → E) (n : ℕ) → convolve r (constant_coefficients r c) g n ≡ r.mul c (g n)
   convolve-only_left c g n =
-      sum_to-first (λ i. r.mul (only r c i) (g (n - i))) n (λ i. zero_mul r (g (n - suc i)))
+      sum_to-first (λ i. r.mul (constant_coefficients r c i) (g (n - i))) n (λ i. zero_mul r (g (n - suc i)))
       ∙ ap (λ k. r.mul c (g k)) (omega arith)
 
   pub convolve-ext : (f g h k : ℕ → E) (n : ℕ) → ((i : ℕ) → f i ≡ h i) → ((i : ℕ) → g i ≡ k i) → convolve r f g n ≡ convolve r h k n
@@ -106,8 +106,8 @@ module _ {E : Type 0} (r : CommRing E) where
       swap : (i : ℕ) → i ≤ n → r.mul (f i) (g (n - i)) ≡ r.mul (g (n - i)) (f (n - (n - i)))
       swap i b = r.mul_comm (f i) (g (n - i)) ∙ ap (λ j. r.mul (g (n - i)) (f j)) (twice i b)
 
-  pub convolve-only_right : (f : ℕ → E) (c : E) (n : ℕ) → convolve r f (only r c) n ≡ r.mul (f n) c
-  convolve-only_right f c n = convolve-comm f (only r c) n ∙ (convolve-only_left c f n ∙ r.mul_comm c (f n))
+  pub convolve-only_right : (f : ℕ → E) (c : E) (n : ℕ) → convolve r f (constant_coefficients r c) n ≡ r.mul (f n) c
+  convolve-only_right f c n = convolve-comm f (constant_coefficients r c) n ∙ (convolve-only_left c f n ∙ r.mul_comm c (f n))
 
   pub convolve-add : (f g h : ℕ → E) (n : ℕ) → convolve r f (λ i. r.add (g i) (h i)) n ≡ r.add (convolve r f g n) (convolve r f h n)
   convolve-add f g h n =

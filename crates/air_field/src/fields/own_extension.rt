@@ -1,5 +1,5 @@
 //! A field is an extension of itself of dimension 1.
-ghost use Rattle.air_field.specs.Ring.{itself, itself_laws};
+ghost use Rattle.air_field.specs.Ring.{self_algebra, self_algebra_laws};
 ghost use Rattle.air_field.specs.Extension.{own_basis};
 ghost use Rattle.air_field.specs.laws.Single.{single_laws};
 
@@ -8,7 +8,7 @@ use crate::fields::field::Field;
 use std::slice;
 
 impl<F: Field> ExtensionField<F> for F {
-    ghost over = { itself F.ring };
+    ghost over = { self_algebra F.ring };
 
     ghost basis = { own_basis };
 
@@ -58,7 +58,7 @@ impl<F: Field> ExtensionField<F> for F {
 
     ghost laws = { single_laws F.ring };
 
-    ghost over_laws = { itself_laws F.ring };
+    ghost over_laws = { self_algebra_laws F.ring };
 
     ghost eq_is = { F.eq_is };
 }

@@ -1,6 +1,6 @@
 //! Fields that are extensions of themselves.
 ghost use Rattle.std.specs.Prelude.{◌≡◌, refl};
-ghost use Rattle.air_field.specs.Ring.{itself};
+ghost use Rattle.air_field.specs.Ring.{self_algebra};
 
 use crate::fields::extension::ExtensionField;
 use crate::fields::field::Field;
@@ -8,7 +8,7 @@ use crate::fields::field::Field;
 /// A field as an extension of itself: its elements and operations are those of the field.
 pub trait SelfExtension: Field + ExtensionField<Self> {
     // the algebra over the field is the field itself
-    ghost over_itself: { Self.over ≡ itself Self.ring };
+    ghost over_itself: { Self.over ≡ self_algebra Self.ring };
 }
 
 impl<F: Field> SelfExtension for F {

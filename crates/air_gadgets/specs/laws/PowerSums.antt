@@ -1,7 +1,7 @@
 -- what is packed is the sum of powers of two times elements
 use Rattle.std.proofs.Common.{◌≡◌, ◌∙◌, ℕ, suc, ◌+◌, ◌^◌, List, [], ◌∷◌, map, refl, sym, ap, ap₂, arith}
 use Rattle.std.proofs.Math.Nat.{pow-suc}
-use Rattle.air_field.specs.Ring.{CommRing, image, itself}
+use Rattle.air_field.specs.Ring.{CommRing, image, self_algebra}
 use Rattle.air_field.specs.laws.RingSolver.{var, nought, unit, plus, times, ring}
 use Rattle.air_field.specs.laws.Images.{image-one, image-add}
 use Rattle.air_field.specs.Term.{Leaf, Term}
@@ -40,13 +40,13 @@ module _ {A : Type 0} (R : CommRing A) where
       ∙ (ap (λ w. R.add w x) (sym (twice_power_sum 0 xs)) ∙ sym (first_place x (power_sum R 1 xs))))
 
 module _ {F : Type 0} (R : CommRing F) (s : Leaf → F) where
-  packed_from_value : (t : Term F) (us : List (Term F)) → value (itself R) s (packed_from t us) ≡ power_sum R 0 (map (value (itself R) s) (t ∷ us))
-  packed_from_value t [] = sym (first_place R (value (itself R) s t) R.zero ∙ none_after R (value (itself R) s t))
+  packed_from_value : (t : Term F) (us : List (Term F)) → value (self_algebra R) s (packed_from t us) ≡ power_sum R 0 (map (value (self_algebra R) s) (t ∷ us))
+  packed_from_value t [] = sym (first_place R (value (self_algebra R) s t) R.zero ∙ none_after R (value (self_algebra R) s t))
   packed_from_value t (u ∷ us) =
-      let rest = map (value (itself R) s) (u ∷ us) in
-      ap (λ w. R.add (R.add w w) (value (itself R) s t)) (packed_from_value u us)
-      ∙ (ap (λ w. R.add w (value (itself R) s t)) (sym (twice_power_sum R 0 rest))
-      ∙ sym (first_place R (value (itself R) s t) (power_sum R 1 rest)))
+      let rest = map (value (self_algebra R) s) (u ∷ us) in
+      ap (λ w. R.add (R.add w w) (value (self_algebra R) s t)) (packed_from_value u us)
+      ∙ (ap (λ w. R.add w (value (self_algebra R) s t)) (sym (twice_power_sum R 0 rest))
+      ∙ sym (first_place R (value (self_algebra R) s t) (power_sum R 1 rest)))
 
 pub packs_values : {F : Type 0} (R : CommRing F) (none : F) → none ≡ R.zero → PacksValues R none
 packs_values R none e s [] = e

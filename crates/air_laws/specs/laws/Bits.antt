@@ -4,7 +4,7 @@ use Rattle.std.proofs.Common.{sym, ◌∙◌, ap, ap₂, inl, inr, arith}
 use Rattle.std.proofs.Math.Nat.{pow-suc}
 use Rattle.air_field.specs.Algebra.{bool_check_term}
 use Rattle.air_field.specs.Domain.{IsDomain}
-use Rattle.air_field.specs.Ring.{CommRing, image, itself, minus}
+use Rattle.air_field.specs.Ring.{CommRing, image, self_algebra, minus}
 use Rattle.air_field.specs.Term.{Leaf, Term, leaf_term, main, sub_term}
 use Rattle.air_field.specs.Value.{value}
 use Rattle.air_field.specs.laws.Images.{image-add, image-mul, image-zero, image-one, image-two}
@@ -27,8 +27,8 @@ module _ {F : Type 0} (R : CommRing F) (domain : IsDomain R) (s : Leaf → F) wh
         | inr e ↦ (1, omega arith, (ring R (x ∷ R.one ∷ []) (var 0) (plus (less (var 0) (var 1)) (var 1)) refl ∙ (ap (λ z. R.add z R.one) e ∙ zero_add R R.one)) ∙ sym (image-one R))
       ]
 
-  bit_below : (t : Term F) → value (itself R) s (bool_check_term R.one t) ≡ R.zero → IsNumberBelow R s 2 t
-  bit_below t h = let b = bit_of (value (itself R) s t) h in record { number = b.0; below = b.1; is = b.2 }
+  bit_below : (t : Term F) → value (self_algebra R) s (bool_check_term R.one t) ≡ R.zero → IsNumberBelow R s 2 t
+  bit_below t h = let b = bit_of (value (self_algebra R) s t) h in record { number = b.0; below = b.1; is = b.2 }
 
   -- bits packed are below a power of two
   packed_below : (at : ℕ → Term F) (i m : ℕ) → ((k : ℕ) → k < i + suc m → IsNumberBelow R s 2 (at k)) → IsNumberBelow R s (2 ^ suc m) (packed_from (at i) (terms_from at (i + 1) m))
@@ -53,8 +53,8 @@ module _ {F : Type 0} (R : CommRing F) (domain : IsDomain R) (s : Leaf → F) wh
       let bits : (k : ℕ) → k < suc m → IsNumberBelow R s 2 (columns_from first k) =
       λ k lt. bit_below (columns_from first k) (one_vanishes R s (λ i. Base (bool_check_term R.one (columns_from first i)) ∷ []) (suc m) k lt parts.0).0 in
       let packed = packed_below (columns_from first) 0 m (λ k lt. bits k (omega (arith, lt))) in
-      let x = value (itself R) s t in
-      let y = value (itself R) s (packed_bits R first (suc m)) in
+      let x = value (self_algebra R) s t in
+      let y = value (self_algebra R) s (packed_bits R first (suc m)) in
       record {
         number = packed.number;
         below = packed.below;

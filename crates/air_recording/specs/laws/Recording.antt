@@ -18,7 +18,7 @@ use Rattle.air_builder.specs.Extensions.{ExtensionView, ExtensionRingLaws}
 use Rattle.air_builder.specs.Refused.{Refused}
 use Rattle.air_builder.specs.laws.Refused.{Refused-first, Refused-then, Refused-missing, Refused-ring}
 use Rattle.air_recording.specs.Kinds.{kind_of, base_terms, ext_terms}
-use Rattle.air_recording.specs.Recording.{Fixed, Lists, with_base, with_ext, IsReady, KeptRecording, GrewRecording, IsOver}
+use Rattle.air_recording.specs.Recording.{Fixed, Lists, with_base, with_ext, IsReady, KeptRecording, GrewRecording, OverflowsDegree}
 
 -- a term with each leaf put at itself
 pub with_leaves-same : {F : Type 0} (t : Term F) → with_leaves (λ l. leaf_term l) t ≡ t
@@ -30,7 +30,7 @@ with_leaves-same (sub_term t u) = ap₂ (λ x y. sub_term x y) (with_leaves-same
 with_leaves-same (neg_term t) = ap (λ x. neg_term x) (with_leaves-same t)
 with_leaves-same (mul_term t u) = ap₂ (λ x y. mul_term x y) (with_leaves-same t) (with_leaves-same u)
 
-over_ring : {F : Type 0} (e : RingError) (t : Term F) → PoolRefuses e (with_leaves (λ l. leaf_term l) t) → e ≡ DegreeOverflow → IsOver cached_weight t
+over_ring : {F : Type 0} (e : RingError) (t : Term F) → PoolRefuses e (with_leaves (λ l. leaf_term l) t) → e ≡ DegreeOverflow → OverflowsDegree cached_weight t
 over_ring e t h q = subst (λ v. PoolRefuses DegreeOverflow v) (with_leaves-same t) (subst (λ x. PoolRefuses x (with_leaves (λ l. leaf_term l) t)) q h)
 
 base_terms-append : {F : Type 0} (xs ys : List (Assertion F)) → base_terms (xs ++ ys) ≡ base_terms xs ++ base_terms ys
@@ -166,7 +166,7 @@ module _ {R Q E X F : Type 0}
       grew = λ a b ts.
           GrewRecording (λ v x t. means (base_of v) x t) ext_means ext_extends (pool a) (pool b) (fixed a) (fixed b) (lists a) (lists b) ts;
       missing = λ b l. IsMissing (fixed b).shape l;
-      refuses = λ b e ts. Refused (IsMissing (fixed b).shape) (IsOver cached_weight) (λ _. ⊥) e ts;
+      refuses = λ b e ts. Refused (IsMissing (fixed b).shape) (OverflowsDegree cached_weight) (λ _. ⊥) e ts;
     }
 
     -- it keeps the laws
@@ -188,12 +188,12 @@ module _ {R Q E X F : Type 0}
       has_first_row = λ a h. h;
       has_last_row = λ a h. h;
       has_transition = λ a h. h;
-      refuses_first = λ a e xs ys h. Refused-first (IsMissing (fixed a).shape) (IsOver cached_weight) (λ _. ⊥) e xs ys (λ f. f) h;
+      refuses_first = λ a e xs ys h. Refused-first (IsMissing (fixed a).shape) (OverflowsDegree cached_weight) (λ _. ⊥) e xs ys (λ f. f) h;
       refuses_then = λ a b e xs ys g h.
-          subst (λ v. Refused (IsMissing v.shape) (IsOver cached_weight) (λ _. ⊥) e (xs ++ ys)) g.keeps.fixed
-          (Refused-then (IsMissing (fixed b).shape) (IsOver cached_weight) (λ _. ⊥) (λ _. ⊥) e xs ys (λ f. f) h);
-      refuses_in_ring = λ a e t ts h p. Refused-ring (IsMissing (fixed a).shape) (IsOver cached_weight) (λ _. ⊥) e t ts (over_ring e t h) p;
-      refuses_missing = λ a e l ts m n p. Refused-missing (IsMissing (fixed a).shape) (IsOver cached_weight) (λ _. ⊥) e l ts m n p;
+          subst (λ v. Refused (IsMissing v.shape) (OverflowsDegree cached_weight) (λ _. ⊥) e (xs ++ ys)) g.keeps.fixed
+          (Refused-then (IsMissing (fixed b).shape) (OverflowsDegree cached_weight) (λ _. ⊥) (λ _. ⊥) e xs ys (λ f. f) h);
+      refuses_in_ring = λ a e t ts h p. Refused-ring (IsMissing (fixed a).shape) (OverflowsDegree cached_weight) (λ _. ⊥) e t ts (over_ring e t h) p;
+      refuses_missing = λ a e l ts m n p. Refused-missing (IsMissing (fixed a).shape) (OverflowsDegree cached_weight) (λ _. ⊥) e l ts m n p;
     }
 
     -- and those of builders over the extension: the base of the pool is the builder's ring
@@ -226,5 +226,5 @@ module _ {R Q E X F : Type 0}
         ext_ring_kept = λ a b k. k.pool;
         has_base = λ a x h m. has_base (pool a) x h.pool m;
         means_base = λ a x t h m. means_base (pool a) x t h.pool m;
-        refuses_in_ext_ring = λ a e t ts h p. Refused-ring (IsMissing (fixed a).shape) (IsOver cached_weight) (λ _. ⊥) e t ts (over_ring e t h) p;
+        refuses_in_ext_ring = λ a e t ts h p. Refused-ring (IsMissing (fixed a).shape) (OverflowsDegree cached_weight) (λ _. ⊥) e t ts (over_ring e t h) p;
       }

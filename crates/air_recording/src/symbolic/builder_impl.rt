@@ -8,7 +8,7 @@ ghost use Rattle.air_symbolic.specs.BaseLeaves.{base_reads};
 ghost use Rattle.air_symbolic.specs.laws.BasePool.{base_pool_laws};
 ghost use Rattle.air_symbolic.specs.ExtLeaves.{ext_reads, ext_grows};
 ghost use Rattle.air_symbolic.specs.laws.ExtPool.{ext_pool_laws, base_lent, base_grown};
-ghost use Rattle.air_recording.specs.Recording.{IsReady, KeptRecording, GrewRecording, IsOver};
+ghost use Rattle.air_recording.specs.Recording.{IsReady, KeptRecording, GrewRecording, OverflowsDegree};
 ghost use Rattle.air_recording.specs.laws.Recording.{recording_laws};
 ghost use Rattle.air_recording.specs.RecordedLists.{lists_of};
 ghost use Rattle.air_builder.specs.Refused.{Refused};
@@ -58,8 +58,9 @@ impl<F: Field, EF: ExtensionField<F>> AirBuilder for SymbolicAirBuilder<F, EF> {
 
     ghost missing = { λ b l. IsMissing (fixed_by b.selectors b.entries.base.layout).shape l };
 
-    ghost refuses = { λ b e ts. Refused (IsMissing
-        (fixed_by b.selectors b.entries.base.layout).shape) (IsOver cached_weight) (λ _. ⊥) e ts };
+    ghost refuses = { λ b e ts. Refused
+        (IsMissing (fixed_by b.selectors b.entries.base.layout).shape)
+        (OverflowsDegree cached_weight) (λ _. ⊥) e ts };
 
     ghost laws = { recording_laws (base_pool_laws F.ring)
         (ext_pool_laws EF.ExtensionField.laws) (λ p. p.base)

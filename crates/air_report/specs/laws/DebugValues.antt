@@ -1,7 +1,7 @@
 -- What a debug builder's expressions mean: the values of terms at its row.
 use Rattle.std.specs.Prelude.{◌≡◌, Bool, refl}
 use Rattle.std.proofs.Common.{sym, ◌∙◌, ap, ap₂}
-use Rattle.air_field.specs.Ring.{CommRing, minus, AlgebraOver, itself}
+use Rattle.air_field.specs.Ring.{CommRing, minus, AlgebraOver, self_algebra}
 use Rattle.air_field.specs.Extension.{Basis}
 use Rattle.air_field.specs.Term.{Leaf, preprocessed, main, periodic, public, first_row, last_row, transition}
 use Rattle.air_field.specs.Term.{permutation, challenge, permutation_value, Term, leaf_term, const_term}
@@ -17,7 +17,7 @@ module _ {F E : Type 0} (r : CommRing F) (a : AlgebraOver F E) (basis : Basis F 
   -- a base term whose leaves' values are put in has the term's value
   base_value : (w : Leaf → F) (d : RowData F E) (t : Term F)
       → IsBase (with_leaves (row_reads_as r a basis d) t)
-      → value (itself r) (row_leaves r d) t ≡ value (itself r) w (with_leaves (row_reads_as r a basis d) t)
+      → value (self_algebra r) (row_leaves r d) t ≡ value (self_algebra r) w (with_leaves (row_reads_as r a basis d) t)
   base_value w d (leaf_term (preprocessed o i)) h = refl
   base_value w d (leaf_term (main o i)) h = refl
   base_value w d (leaf_term (periodic i)) h = refl

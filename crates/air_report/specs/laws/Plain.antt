@@ -10,7 +10,7 @@ use Rattle.air_builder.specs.Assertion.{Assertion}
 use Rattle.air_builder.specs.Declaration.{plain_declaration}
 use Rattle.air_core.specs.declared.errors.AirError.{AirError}
 use Rattle.air_core.specs.declared.errors.AirError.TheVariants.{PreprocessedHeight, PeriodNotPowerOfTwo, PeriodDoesNotDivide, Boundary, EmptyTrace}
-use Rattle.air_report.specs.Cells.{left_of, IsCellFault}
+use Rattle.air_report.specs.Cells.{take_within_cap, IsCellFault}
 use Rattle.air_report.specs.Checks.{CheckRefuses}
 use Rattle.air_report.specs.Instances.{instance}
 use Rattle.air_report.specs.RowRefusals.{IsFull}
@@ -18,7 +18,7 @@ use Rattle.air_builder.specs.Refused.{Refused}
 use Rattle.air_report.specs.Report.{plain_trace}
 use Rattle.air_report.specs.Shapes.{IsShapeFault}
 
-left_of-none : {X : Type 0} (cap : Option ℕ) (n : ℕ) → left_of {X = X} cap n [] ≡ []
+left_of-none : {X : Type 0} (cap : Option ℕ) (n : ℕ) → take_within_cap {X = X} cap n [] ≡ []
 left_of-none None n = refl
 left_of-none (Some cap) n = take_all (cap - n) [] (omega arith)
 
@@ -35,7 +35,7 @@ fits_cells main public (Boundary b) f = let lt : f.place < 0 = f.within in absur
 fits_cells main public EmptyTrace f = f.1 refl
 fits_cells main public _ f = f
 
-none_listed : {X : Type 0} (cap : Option ℕ) (n at : ℕ) (x : X) → slice_get (left_of cap n []) at ≡ Some x → ⊥
+none_listed : {X : Type 0} (cap : Option ℕ) (n at : ℕ) (x : X) → slice_get (take_within_cap cap n []) at ≡ Some x → ⊥
 none_listed cap n at x e =
     let none : None ≡ Some x = sym (ap (λ l. slice_get l at) (left_of-none cap n)) ∙ e in
     cc

@@ -1,7 +1,7 @@
 //! Boundary cells of a whole trace.
 ghost use Rattle.std.specs.Prelude.{◌≡◌, ◌+◌, ◌<◌, ◌≤◌, ◌^◌, ◌⊎◌, Some, IfOk, IfErr, OnOk, MatchOption, length, string_bytes};
 ghost use Rattle.air_core.specs.Boundary.{row_of, AreSound};
-ghost use Rattle.air_report.specs.Cells.{differs, differing_cells, left_of, ListsCells, IsListedPast, cell_label, label_text, CellsFit, IsCellFault, AgreeBelow, IsFirstDiffering};
+ghost use Rattle.air_report.specs.Cells.{differs, differing_cells, take_within_cap, ListsCells, IsListedPast, cell_label, label_text, CellsFit, IsCellFault, AgreeBelow, IsFirstDiffering};
 ghost use Rattle.air_report.specs.Report.{failure_place};
 
 use crate::checks::check::{is_reached, main_row};
@@ -96,12 +96,12 @@ pub(crate) fn list_cells<F: Field>(
 ) -> Result<(), AirError>
     requires { CellsFit main.now public_values.now cells.now }
     ensures listed { OnOk result (ListsCells (length main.now.rows) count
-        (left_of max_failures (length failures.old.items)
+        (take_within_cap max_failures (length failures.old.items)
         (differing_cells F.ring F.eq main.now public_values.now cells.now)) failures.old.items
         failures.new.items) }
     ensures refused { IfErr result (λ e. (e ≡ AirError.Memory)
         ⊎ ((e ≡ AirError.CountOverflow) × IsListedPast count
-        (left_of max_failures (length failures.old.items)
+        (take_within_cap max_failures (length failures.old.items)
         (differing_cells F.ring F.eq main.now public_values.now cells.now)))) }
 {
     let height = main.height();

@@ -2,7 +2,7 @@
 -- report.
 use Rattle.std.proofs.Common.{◌≡◌, ℕ, zero, suc, ◌+◌, List, [], ◌∷◌, ◌++◌, map, Bool, true, false, not, Option, Some, slice_get, refl, sym, ap, ap₂, ◌∙◌, arith, cond}
 use Rattle.std.specs.List.{AllZip, filter, enumerate_from}
-use Rattle.air_field.specs.Ring.{CommRing, itself}
+use Rattle.air_field.specs.Ring.{CommRing, self_algebra}
 use Rattle.air_field.specs.Extension.{Basis}
 use Rattle.air_field.specs.Term.{Leaf, Term}
 use Rattle.air_field.specs.Assignment.{Trace, row_assignment}
@@ -26,13 +26,13 @@ at_places (Extension t ∷ ts) us (v ∷ vs) = Extension v ∷ at_places ts us v
 module _ {F : Type 0} (r : CommRing F) where
   -- a constraint of the same kind, whose term records that of the declared one
   abbrev pub RecordsConstraint : Assertion F → Assertion F → Type 0
-  RecordsConstraint (Base u) (Base t) = RecordsTerm (itself r) u t
+  RecordsConstraint (Base u) (Base t) = RecordsTerm (self_algebra r) u t
   RecordsConstraint (Base u) (Extension t) = ⊥
   RecordsConstraint (Extension u) (Base t) = ⊥
-  RecordsConstraint (Extension u) (Extension t) = RecordsTerm (itself r) u t
+  RecordsConstraint (Extension u) (Extension t) = RecordsTerm (self_algebra r) u t
 
   abbrev Records : Term F → ℕ × Term F → Type 0
-  Records u c = RecordsTerm (itself r) u c.1
+  Records u c = RecordsTerm (self_algebra r) u c.1
 
   placed_records : (n : ℕ) (ts : List (Assertion F)) (us vs : List (Term F)) → AllZip Records us (base_constraints n ts) → AllZip Records vs (ext_constraints n ts) → AllZip RecordsConstraint (at_places ts us vs) ts
   placed_records n [] us vs l m = tt

@@ -7,7 +7,7 @@ use Rattle.std.specs.List.{AllZip, filter, enumerate_from}
 use Rattle.std.proofs.lemmas.List.{length-map, length-take, get_or-map, get_or-take, take_all}
 use Rattle.std.proofs.lemmas.Option.{slice_get-map, slice_get_cases, slice_get_within, slice_get-get_or, get_or_from_slice_get}
 use Rattle.std.proofs.lemmas.Simd.{map-map}
-use Rattle.air_field.specs.Ring.{CommRing, itself}
+use Rattle.air_field.specs.Ring.{CommRing, self_algebra}
 use Rattle.air_field.specs.Extension.{Basis}
 use Rattle.air_field.specs.Grid.{Grid}
 use Rattle.air_field.specs.Term.{Leaf, preprocessed, main, periodic, public, first_row, last_row, transition, permutation, challenge, permutation_value, Term}
@@ -32,7 +32,7 @@ use Rattle.air_recording.specs.Inferred.{periods_of, recorded_terms}
 use Rattle.air_recording.specs.Kinds.{kind_of, base_terms, ext_terms, is_base, is_extension, places_from}
 use Rattle.air_recording.specs.Layouts.{air_layout, layout_shape}
 use Rattle.air_recording.specs.Recorded.{RecordsTerm, RecordingAnswers, terms_of}
-use Rattle.air_recording.specs.Recording.{IsOver}
+use Rattle.air_recording.specs.Recording.{OverflowsDegree}
 use Rattle.air_recording.specs.Recordings.{Recording}
 use Rattle.air_report.specs.Cells.{differing_cells, label_text, bytes_of_text, IsCellFault}
 use Rattle.air_report.specs.Checks.{Fits, RowRefuses}
@@ -123,7 +123,7 @@ shape_is x =
     (sym (length-map x.air.periodic (λ column. column.items)))
 
 -- what the recording refuses
-recording_refused_as : {F : Type 0} (air : Declaration F) (e : AirError) → Refused (IsMissing (shape_with air air.width air.num_public_values)) (IsOver cached_weight) (λ _. ⊥) e air.constraints → RecordingRefuses air e
+recording_refused_as : {F : Type 0} (air : Declaration F) (e : AirError) → Refused (IsMissing (shape_with air air.width air.num_public_values)) (OverflowsDegree cached_weight) (λ _. ⊥) e air.constraints → RecordingRefuses air e
 recording_refused_as air Memory h = tt
 recording_refused_as air DegreeOverflow h = (h.0, h.1.0, h.1.1)
 recording_refused_as air CountOverflow h = absurd h
@@ -133,10 +133,10 @@ recording_refused_as air (MissingExtEntry e i) h = h
 recording_refused_as air NoPermutation h = h
 recording_refused_as air _ h = h
 
-pub recording_refuses : {F : Type 0} (air : Declaration F) (e : AirError) → Refused (IsMissing (layout_shape (air_layout air))) (IsOver cached_weight) (λ _. ⊥) e air.constraints → RecordingRefuses air e
-recording_refuses air e h = recording_refused_as air e (subst (λ s. Refused (IsMissing s) (IsOver cached_weight) (λ _. ⊥) e air.constraints) (sym (own_shape_is air)) h)
+pub recording_refuses : {F : Type 0} (air : Declaration F) (e : AirError) → Refused (IsMissing (layout_shape (air_layout air))) (OverflowsDegree cached_weight) (λ _. ⊥) e air.constraints → RecordingRefuses air e
+recording_refuses air e h = recording_refused_as air e (subst (λ s. Refused (IsMissing s) (OverflowsDegree cached_weight) (λ _. ⊥) e air.constraints) (sym (own_shape_is air)) h)
 
-as_recording_refused : {F : Type 0} (air : Declaration F) (e : AirError) → RecordingRefuses air e → Refused (IsMissing (shape_with air air.width air.num_public_values)) (IsOver cached_weight) (λ _. ⊥) e air.constraints
+as_recording_refused : {F : Type 0} (air : Declaration F) (e : AirError) → RecordingRefuses air e → Refused (IsMissing (shape_with air air.width air.num_public_values)) (OverflowsDegree cached_weight) (λ _. ⊥) e air.constraints
 as_recording_refused air Memory h = tt
 as_recording_refused air DegreeOverflow h = (h.0, (h.1, h.2))
 as_recording_refused air CountOverflow h = absurd h
@@ -146,8 +146,8 @@ as_recording_refused air (MissingExtEntry e i) h = h
 as_recording_refused air NoPermutation h = h
 as_recording_refused air _ h = h
 
-pub recording_refuses_back : {F : Type 0} (air : Declaration F) (e : AirError) → RecordingRefuses air e → Refused (IsMissing (layout_shape (air_layout air))) (IsOver cached_weight) (λ _. ⊥) e air.constraints
-recording_refuses_back air e h = subst (λ s. Refused (IsMissing s) (IsOver cached_weight) (λ _. ⊥) e air.constraints) (own_shape_is air) (as_recording_refused air e h)
+pub recording_refuses_back : {F : Type 0} (air : Declaration F) (e : AirError) → RecordingRefuses air e → Refused (IsMissing (layout_shape (air_layout air))) (OverflowsDegree cached_weight) (λ _. ⊥) e air.constraints
+recording_refuses_back air e h = subst (λ s. Refused (IsMissing s) (OverflowsDegree cached_weight) (λ _. ⊥) e air.constraints) (own_shape_is air) (as_recording_refused air e h)
 
 -- what the rows refuse but want of memory
 module _ {F : Type 0} (x : Instance F) where
@@ -414,21 +414,21 @@ module _ {F X : Type 0} (R : X → Term F → Type 0) where
   each_ext_back xs ts h = subst (AllZip R xs) (ext_terms_are 0 ts) (each_term xs (ext_constraints 0 ts) h)
 
 -- where a recording answers, the declared constraints are recordable
-pub recordable : {F : Type 0} (r : CommRing F) (air : Declaration F) → RecordingAnswers r (itself r) (air_layout air) air → IsRecordable r air
+pub recordable : {F : Type 0} (r : CommRing F) (air : Declaration F) → RecordingAnswers r (self_algebra r) (air_layout air) air → IsRecordable r air
 recordable r air h = record {
   there = subst (λ s. NoneMissing (IsMissing s) air.constraints) (sym (own_shape_is air)) h.suits.there;
   base = h.base;
   ext = h.ext;
-  recorded = record { each_base = each_base (RecordsTerm (itself r)) h.base air.constraints h.base_recorded; each_ext = each_ext (RecordsTerm (itself r)) h.ext air.constraints h.ext_recorded };
+  recorded = record { each_base = each_base (RecordsTerm (self_algebra r)) h.base air.constraints h.base_recorded; each_ext = each_ext (RecordsTerm (self_algebra r)) h.ext air.constraints h.ext_recorded };
   within = h.within;
 }
 
-pub recordable_back : {F : Type 0} (r : CommRing F) (air : Declaration F) → IsRecordable r air → RecordingAnswers r (itself r) (air_layout air) air
+pub recordable_back : {F : Type 0} (r : CommRing F) (air : Declaration F) → IsRecordable r air → RecordingAnswers r (self_algebra r) (air_layout air) air
 recordable_back r air h = record {
   suits = record { fits = record { width_is = refl; public_is = refl; periodic_is = refl }; there = subst (λ s. NoneMissing (IsMissing s) air.constraints) (own_shape_is air) h.there };
   base = h.base;
   ext = h.ext;
-  base_recorded = each_base_back (RecordsTerm (itself r)) h.base air.constraints h.recorded.each_base;
-  ext_recorded = each_ext_back (RecordsTerm (itself r)) h.ext air.constraints h.recorded.each_ext;
+  base_recorded = each_base_back (RecordsTerm (self_algebra r)) h.base air.constraints h.recorded.each_base;
+  ext_recorded = each_ext_back (RecordsTerm (self_algebra r)) h.ext air.constraints h.recorded.each_ext;
   within = h.within;
 }

@@ -1,6 +1,6 @@
 use Rattle.std.proofs.Common.{◌≡◌, get_or, None, Some, sym, ap, subst, ◌∙◌}
 use Rattle.air_field.specs.Assignment.{row_assignment}
-use Rattle.air_field.specs.Ring.{itself}
+use Rattle.air_field.specs.Ring.{self_algebra}
 use Rattle.air_field.specs.Value.{value}
 use Rattle.air_symbolic.specs.Nodes.{OperandsBelow}
 use Rattle.air_explain.specs.Rows.{trace_of}
@@ -27,5 +27,5 @@ returns-in-Some g c = λ m.
     let marked = subst (λ j. get_or marks j None ≡ Some c.in-Some.id) (sym own.0) own.2 in
     c.node_value.ensures
     ∙ node_value-is r s ns marks c.args.number c.args.values.now n c.requires.before (subst (λ k. OperandsBelow k n) own.0 c.node.ensures.below) (c.requires.marks.operands c.in-Some.id n marked c.node.ensures)
-    ∙ ap (value (itself r) s) (sym c.node.ensures.term)
+    ∙ ap (value (self_algebra r) s) (sym c.node.ensures.term)
     ∙ ap (number_value r s ns) own.0

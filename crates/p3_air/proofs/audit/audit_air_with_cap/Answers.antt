@@ -1,6 +1,6 @@
 use Rattle.std.proofs.Common.{◌++◌, Err, subst, inl, inr}
 use Rattle.std.proofs.lemmas.Result.{err_from_is_err_and}
-use Rattle.air_field.specs.Ring.{itself}
+use Rattle.air_field.specs.Ring.{self_algebra}
 use Rattle.air_recording.specs.Bounds.{IsDegreeFor}
 use Rattle.air_symbolic.specs.BaseLeaves.{base_reads}
 use Rattle.air_symbolic.specs.ExtLeaves.{ext_reads}
@@ -37,7 +37,7 @@ returns-in_err-degree-clause-refused g c =
     let recorded = c.in_ok-recorded.recorded in
     let us = terms_of base_reads recorded.pool.base recorded.base in
     let vs = terms_of reads recorded.pool recorded.ext in
-    let ext : RecordsExt r (itself r) reads recorded.pool recorded.ext ts = subst (λ a. RecordsExt r a reads recorded.pool recorded.ext ts) own c.in_ok-recorded.ensures.ext in
+    let ext : RecordsExt r (self_algebra r) reads recorded.pool recorded.ext ts = subst (λ a. RecordsExt r a reads recorded.pool recorded.ext ts) own c.in_ok-recorded.ensures.ext in
     let e = c.in_err-degree.field-0.0 in
     let past = subst (λ n. AnswersInferred c.args.transition_weight n (periods_of d.periodic) (us ++ vs) (Err e)) c.height.ensures c.in_err-degree.ensures in
     let answers = subst (λ a. RecordingAnswers r a (air_layout d) d) own (rw c.from_air.ensures at c.in_ok-recorded.ensures.answers) in
@@ -53,8 +53,8 @@ returns-clause-audited g c =
     let d = g.A.BaseAir.declaration c.args.air.now in
     let ts = d.constraints in
     let recorded = c.in_ok-recorded.recorded in
-    let base : RecordsBase r (itself r) base_reads recorded.pool.base recorded.base ts = subst (λ a. RecordsBase r a base_reads recorded.pool.base recorded.base ts) own c.in_ok-recorded.ensures.base in
-    let ext : RecordsExt r (itself r) reads recorded.pool recorded.ext ts = subst (λ a. RecordsExt r a reads recorded.pool recorded.ext ts) own c.in_ok-recorded.ensures.ext in
+    let base : RecordsBase r (self_algebra r) base_reads recorded.pool.base recorded.base ts = subst (λ a. RecordsBase r a base_reads recorded.pool.base recorded.base ts) own c.in_ok-recorded.ensures.base in
+    let ext : RecordsExt r (self_algebra r) reads recorded.pool recorded.ext ts = subst (λ a. RecordsExt r a reads recorded.pool recorded.ext ts) own c.in_ok-recorded.ensures.ext in
     let us = terms_of base_reads recorded.pool.base recorded.base in
     let vs = terms_of reads recorded.pool recorded.ext in
     audited r g.F.PartialEq.eq basis (instance d c.args.main.now c.args.public_values.now) c.args.max_failures c.args.transition_weight

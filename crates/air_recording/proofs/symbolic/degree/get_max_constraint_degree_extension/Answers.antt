@@ -1,5 +1,5 @@
 use Rattle.std.proofs.Common.{◌++◌}
-use Rattle.air_field.specs.Ring.{itself}
+use Rattle.air_field.specs.Ring.{self_algebra}
 use Rattle.air_recording.specs.Bounds.{leaf_degree, polynomial_bound, IsDegreeFor}
 use Rattle.air_recording.specs.laws.Bounds.{degrees_within, polynomials_within}
 use Rattle.std.proofs.lemmas.Result.{err_from_is_err_and}
@@ -53,6 +53,6 @@ returns-clause-inferred g c =
       base_in_extension = c.in_ok-recorded.ensures.base.in_extension;
       ext_recorded = c.in_ok-recorded.ensures.ext.terms;
       is_degree = degree;
-      base_bounded = λ h. polynomials_within (itself field) w bound us (base_within w bound us vs (degrees_within v n periods (us ++ vs) d degree h));
+      base_bounded = λ h. polynomials_within (self_algebra field) w bound us (base_within w bound us vs (degrees_within v n periods (us ++ vs) d degree h));
       bounded = λ h. polynomials_within over w bound (us ++ vs) (degrees_within v n periods (us ++ vs) d degree h);
     }

@@ -1,7 +1,7 @@
 use Rattle.std.specs.List.{AllZip}
 use Rattle.std.proofs.Common.{◌≡◌, ◌<◌, ◌^◌, ◌++◌, inr, ⊎_elim, map, sym, subst, ◌∙◌, ap, ap₂}
 use Rattle.std.proofs.lemmas.Result.{err_from_is_err_and}
-use Rattle.air_field.specs.Ring.{itself, itself_laws}
+use Rattle.air_field.specs.Ring.{self_algebra, self_algebra_laws}
 use Rattle.air_field.specs.Assignment.{IsMissing}
 use Rattle.air_field.specs.Degree.{cached_weight, greatest_degree}
 use Rattle.air_symbolic.specs.BaseLeaves.{base_reads}
@@ -15,7 +15,7 @@ use Rattle.air_recording.specs.Kinds.{kind_of, base_terms, ext_terms}
 use Rattle.air_recording.specs.Layouts.{layout_shape}
 use Rattle.air_recording.specs.declared.layouts.air_layout.AirLayout.{AirLayout}
 use Rattle.air_recording.specs.Recorded.{terms_of}
-use Rattle.air_recording.specs.Recording.{IsOver}
+use Rattle.air_recording.specs.Recording.{OverflowsDegree}
 use Rattle.air_recording.proofs.Recordings.{each_records, numbers_here}
 use Rattle.air_recording.proofs.symbolic.record.record.Goals as goal
 
@@ -31,7 +31,7 @@ returns-clause-base g c =
     record {
       well_formed = (grew.keeps.pool.pool c.in_ok-builder.ensures.ready.pool).base;
       means = means;
-      terms = each_records r base_reads pool.base (itself r) (itself_laws r) numbers (base_terms ts) means;
+      terms = each_records r base_reads pool.base (self_algebra r) (self_algebra_laws r) numbers (base_terms ts) means;
       in_extension = each_records r base_reads pool.base g.EF.ExtensionField.over g.met.EF.ExtensionField.over_laws numbers (base_terms ts) means;
     }
 
@@ -85,7 +85,7 @@ pub returns-in_err-eval-clause-refused : goal.returns-in_err-eval-clause-refused
 returns-in_err-eval-clause-refused g c =
     let ts = (g.A.BaseAir.declaration c.args.air.now).constraints in
     let e = c.in_err-eval.field-0.0 in
-    let refuses = λ (l : AirLayout) (e : AirError). Refused (IsMissing (layout_shape l)) (IsOver cached_weight) (λ _. ⊥) e ts in
+    let refuses = λ (l : AirLayout) (e : AirError). Refused (IsMissing (layout_shape l)) (OverflowsDegree cached_weight) (λ _. ⊥) e ts in
     let refused : refuses c.args.layout e =
     ⊎_elim
     (λ (m : e ≡ Memory). subst (refuses c.args.layout) (sym m) tt)
