@@ -54,8 +54,8 @@ abbrev pub RecordRefuses : {F : Type 0} → AirLayout → Declaration F → AirE
 RecordRefuses layout d e =
     LayoutRefuses layout d e
     ⊎ (FitsAir layout d
-        × Refused (IsMissing (layout_shape layout)) (OverflowsDegree cached_weight) (λ _. ⊥)
-            e d.constraints)
+    × Refused (IsMissing (layout_shape layout)) (OverflowsDegree cached_weight) (λ _. ⊥)
+    e d.constraints)
 
 -- The recording answers: the layout has the AIR's counts and each entry that a declared term names, and some terms which
 -- record what is declared have cached degrees within `usize`.

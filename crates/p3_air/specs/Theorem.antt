@@ -250,7 +250,7 @@ abbrev pub BoundsPolynomials : {F : Type 0} → CommRing F → Domain → List (
 BoundsPolynomials {F = F} r dom ts d =
     (s : Leaf → List F)
     → ((l : Leaf)
-        → HasDegreeAtMost r (polynomial (self_algebra r) s (leaf_term l)) (dom.leaf_degree l))
+    → HasDegreeAtMost r (polynomial (self_algebra r) s (leaf_term l)) (dom.leaf_degree l))
     → All (λ t. HasDegreeAtMost r (polynomial (self_algebra r) s t) (dom.bound d)) ts
 
 -- ---- What is refused
