@@ -12,7 +12,7 @@ use Rattle.air_report.specs.Cells.{cell_place, take_within_cap}
 use Rattle.air_report.specs.Checks.{IsReport}
 use Rattle.air_report.specs.declared.checks.report.ConstraintReport.{ConstraintReport}
 use Rattle.air_laws.specs.laws.Checks.{report_vanish}
-use Rattle.air_laws.specs.laws.Reports.{none_reported, unmapped}
+use Rattle.air_laws.specs.laws.Reports.{none_reported, empty_map}
 use Rattle.air_blake3.specs.Holding.{CompressionIsSound}
 use Rattle.air_blake3.specs.Row.{compression}
 use Rattle.air_blake3_rows.specs.Checks.{compression_instance, HoldCompressions, ReportsListNothing}
@@ -48,7 +48,7 @@ module _ {F : Type 0} (r : CommRing F) (eq : F → F → Bool) (decides : (a b :
       λ row l. subst (λ x. AllVanish r (leaf_value r.zero (record (row_at r t row) { current = x })) (compression r)) (sym (row_there main.rows row)) (rows row [] l (row_at r t row)) in
       let empty : report_of r eq t (compression r) h.shown ≡ [] =
       none_reported r eq decides t (compression r) h.shown (λ row l. vanish row (omega (arith, h.ran.rows.within))) in
-      let own : h.of_rows ≡ [] = unmapped failure_place h.of_rows (h.places ∙ empty) in
+      let own : h.of_rows ≡ [] = empty_map failure_place h.of_rows (h.places ∙ empty) in
       let more : h.lists.more ≡ [] =
-      unmapped failure_place h.lists.more (h.lists.places ∙ ap (map (cell_place (row_count g) _)) (none_left cap _)) in
+      empty_map failure_place h.lists.more (h.lists.places ∙ ap (map (cell_place (row_count g) _)) (none_left cap _)) in
       h.lists.failures ∙ ap₂ (λ xs ys. xs ++ ys) own more

@@ -3,13 +3,13 @@ use Rattle.std.specs.Prelude.{ℕ, List, [], ◌∷◌, ◌++◌, Option, codes}
 use Rattle.std.specs.List.{join_by}
 use Rattle.air_field.specs.Modular.{Modular}
 use Rattle.air_symbolic.specs.ExtLeaves.{BaseNodes}
-use Rattle.air_infix.specs.Infix.{shown, infix_text, constant_text}
+use Rattle.air_infix.specs.Infix.{shown_number, infix_text, constant_text}
 use Rattle.air_infix.specs.Lines.{listed_name}
 use Rattle.air_infix.specs.declared.binding.Binding.TheVariants.{Loose}
 
 -- `TEXT = V`: number i as it is shown, and its value
 abbrev pub equation : {F : Type 0} {p : ℕ} → Modular F p → BaseNodes F → List (Option ℕ) → (ℕ → F) → ℕ → List ℕ
-equation m pool names at i = infix_text m Loose (shown (listed_name names) pool.nodes i) ++ (codes " = " ++ constant_text m (at i))
+equation m pool names at i = infix_text m Loose (shown_number (listed_name names) pool.nodes i) ++ (codes " = " ++ constant_text m (at i))
 
 -- no line of no equations, else one, with `, ` between them
 abbrev pub equation_lines : List (List ℕ) → List (List ℕ)

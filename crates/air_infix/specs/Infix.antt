@@ -41,8 +41,8 @@ abbrev pub shown_at : {A : Type 0} → (ℕ → Option ℕ) → List (SymbolicEx
 shown_at named ns i = slice_index_or (in_turn nothing (λ f. shown_node (λ x. named_or (named x) (f x))) [] ns) i nothing
 
 -- number i where an expression names it
-abbrev pub shown : {A : Type 0} → (ℕ → Option ℕ) → List (SymbolicExpr A) → ℕ → Shown A
-shown named ns i = named_or (named i) (shown_at named ns i)
+abbrev pub shown_number : {A : Type 0} → (ℕ → Option ℕ) → List (SymbolicExpr A) → ℕ → Shown A
+shown_number named ns i = named_or (named i) (shown_at named ns i)
 
 -- ---- leaves
 

@@ -7,7 +7,7 @@ use Rattle.air_symbolic.specs.BaseLeaves.{base_leaves, base_reads}
 use Rattle.air_symbolic.specs.ExtLeaves.{BaseNodes}
 use Rattle.air_symbolic.specs.Pools.{term_at}
 use Rattle.air_infix.specs.declared.binding.Binding.TheVariants.{Loose}
-use Rattle.air_infix.specs.Infix.{shown, shown_at, infix_text, name_text}
+use Rattle.air_infix.specs.Infix.{shown_number, shown_at, infix_text, name_text}
 use Rattle.air_infix.specs.Names.{AreNames}
 
 -- the names of a list, in which number i has its name at place i
@@ -27,7 +27,7 @@ module _ {F : Type 0} {p : ℕ} (m : Modular F p) (pool : BaseNodes F) (names : 
   abbrev pub constraint_line : ℕ → ℕ → List ℕ
   constraint_line j i =
       codes "#" ++ (decimal j ++ (codes " degree " ++ (decimal (degree_by cached_weight (term_at base_reads pool i))
-      ++ (codes ": " ++ infix_text m Loose (shown (listed_name names) pool.nodes i)))))
+      ++ (codes ": " ++ infix_text m Loose (shown_number (listed_name names) pool.nodes i)))))
 
 -- a line for each element, by its place and itself
 abbrev pub number_lines : (ℕ → ℕ → List ℕ) → List ℕ → List (List ℕ)

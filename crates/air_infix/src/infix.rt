@@ -1,7 +1,7 @@
 //! Expressions in infix notation.
 ghost use Rattle.std.specs.Prelude.{◌≡◌, ◌+◌, ◌<◌, ◌++◌, slice_index_or, None, All, OnOk, string_bytes};
 ghost use Rattle.air_symbolic.specs.Pools.{size};
-ghost use Rattle.air_infix.specs.Infix.{shown, shown_at, infix_text};
+ghost use Rattle.air_infix.specs.Infix.{shown_number, shown_at, infix_text};
 ghost use Rattle.air_infix.specs.Pieces.{piece_text, rest_text, IsPieceBelow, piece_size, rest_size};
 
 use crate::binding::Binding;
@@ -20,13 +20,13 @@ fn write_piece<F: PrimeField64>(
     piece: Piece<F>,
 ) -> Result<(), AllocError>
     requires here { IsPieceBelow (size pool.now) piece }
-    ensures text { let f = shown (λ i. slice_index_or names.now.1 i None) pool.now.nodes in
+    ensures text { let f = shown_number (λ i. slice_index_or names.now.1 i None) pool.now.nodes in
         OnOk result (string_bytes text.new ++ rest_text F.residues f rest.new.items ≡
         string_bytes text.old ++ (piece_text F.residues f piece
         ++ rest_text F.residues f rest.old.items)) }
     ensures here { OnOk result (All (IsPieceBelow (size pool.now)) rest.old.items →
         All (IsPieceBelow (size pool.now)) rest.new.items) }
-    ensures size { let f = shown (λ i. slice_index_or names.now.1 i None) pool.now.nodes in
+    ensures size { let f = shown_number (λ i. slice_index_or names.now.1 i None) pool.now.nodes in
         OnOk result (rest_size f rest.new.items < rest_size f rest.old.items + piece_size f piece) }
 {
     match piece {
@@ -49,7 +49,7 @@ fn write_rest<F: PrimeField64>(
     names: &Names<BaseLeaf<F>>,
 ) -> Result<(), AllocError>
     requires here { All (IsPieceBelow (size pool.now)) rest.items }
-    ensures { let f = shown (λ i. slice_index_or names.now.1 i None) pool.now.nodes in
+    ensures { let f = shown_number (λ i. slice_index_or names.now.1 i None) pool.now.nodes in
         OnOk result (string_bytes text.new ≡
         string_bytes text.old ++ rest_text F.residues f rest.items) }
 {
@@ -70,7 +70,7 @@ pub fn push_infix<F: PrimeField64>(
     requires here { id < size pool.now }
     ensures { OnOk result (string_bytes text.new ≡ string_bytes text.old ++
         infix_text F.residues Binding.Loose
-        (shown (λ i. slice_index_or names.now.1 i None) pool.now.nodes id)) }
+        (shown_number (λ i. slice_index_or names.now.1 i None) pool.now.nodes id)) }
 {
     let mut rest = Vec::new(alloc);
     rest.push(Piece::Operand(id, Binding::Loose))?;

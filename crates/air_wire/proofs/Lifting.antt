@@ -7,7 +7,7 @@ use Rattle.air_field.specs.Extension.{Basis, ExtensionLaws}
 use Rattle.air_symbolic.specs.Trees.{Tree}
 use Rattle.air_symbolic.specs.declared.leaves.base_leaf.BaseLeaf.{BaseLeaf}
 use Rattle.air_wire.specs.Results.{◌>>=◌, Fails}
-use Rattle.air_wire.specs.laws.Readings.{done}
+use Rattle.air_wire.specs.laws.Readings.{ok_of}
 use Rattle.air_wire.specs.Coefficients.{elements_at}
 use Rattle.air_wire.specs.laws.Coefficients.{elements_found}
 use Rattle.air_wire.specs.laws.ExtLeaves.{made_of}
@@ -45,5 +45,5 @@ module _ {F : Type 0} {p : ℕ} (m : Modular F p) where
   pub made_constant : {EF : Type 0} (r : CommRing F) (a : AlgebraOver F EF) (basis : Basis F EF) (n : ℕ) → ExtensionLaws r a basis n → (k place : ℕ) (d : Data) (cs list : List F) (e : EF) → k ≡ n → elements_at m k place d ≡ Ok cs → list ≡ cs → basis.coefficients e ≡ list → ext_constant_at m a n place d ≡ Ok e
   made_constant {EF} r a basis n laws k place d cs list e same read is of =
       let there : elements_at m n place d ≡ Ok cs = subst (λ j. elements_at m j place d ≡ Ok cs) same read in
-      ap (λ (q : Result (List F) FlatError). q >>= λ xs. done (a.extend xs)) there
-      ∙ ap (λ x. done x) (sym (made_of m r a basis n laws e cs (elements_found m n place d cs there).1 (of ∙ is)))
+      ap (λ (q : Result (List F) FlatError). q >>= λ xs. ok_of (a.extend xs)) there
+      ∙ ap (λ x. ok_of x) (sym (made_of m r a basis n laws e cs (elements_found m n place d cs there).1 (of ∙ is)))

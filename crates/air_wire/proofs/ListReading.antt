@@ -16,22 +16,22 @@ use Rattle.air_wire.specs.Nodes.{Kind, KindLaws, node_of_value, node_more, nodes
 use Rattle.air_wire.specs.NodeLists.{AreNodes, IsList, HasFault}
 use Rattle.air_wire.specs.ListReaders.{last_number, HasRead}
 use Rattle.air_wire.specs.laws.Lists.{nodes_found, nodes_again, fault_found, fault_read, root_found, root_fault, fails_is, fails_if, gives_ok, gives_err}
-use Rattle.air_wire.specs.laws.Readings.{done, done_is, bind_ok, before_done}
+use Rattle.air_wire.specs.laws.Readings.{ok_of, done_is, bind_ok, before_done}
 use Rattle.air_wire.proofs.Growing.{AllBelow}
 use Rattle.air_wire.proofs.NumberTrees.{there_are}
 use Rattle.air_wire.proofs.Loop.{carry}
 
 -- a fault of what is there is one of what is read
-pub fails_before : {X Y : Type 0} (f : FlatError) (r : Result X FlatError) (h : X → Y) → Fails f (r >>= λ x. done (h x)) → Fails f r
-fails_before f r h e = fails_if f r (λ n. before_done r h f (fails_is f (r >>= λ x. done (h x)) e n))
+pub fails_before : {X Y : Type 0} (f : FlatError) (r : Result X FlatError) (h : X → Y) → Fails f (r >>= λ x. ok_of (h x)) → Fails f r
+fails_before f r h e = fails_if f r (λ n. before_done r h f (fails_is f (r >>= λ x. ok_of (h x)) e n))
 
-nodes_push : {S F : Type 0} (kind : Kind S F) (done : List (Tree S)) (ds : List Data) (d : Data) → nodes_from kind done (items_of (ds ++ d ∷ [])) ≡ node_more kind (nodes_from kind done (items_of ds)) d
+nodes_push : {S F : Type 0} (kind : Kind S F) (ok_of : List (Tree S)) (ds : List Data) (d : Data) → nodes_from kind ok_of (items_of (ds ++ d ∷ [])) ≡ node_more kind (nodes_from kind ok_of (items_of ds)) d
 unfolding nodes_from
-nodes_push kind done [] d = refl
-nodes_push {S} kind done (e ∷ ds) d = later (node_of_value kind done e) (λ t. nodes_push kind (done ++ t ∷ []) ds d)
+nodes_push kind ok_of [] d = refl
+nodes_push {S} kind ok_of (e ∷ ds) d = later (node_of_value kind ok_of e) (λ t. nodes_push kind (ok_of ++ t ∷ []) ds d)
   where
-    later : (r : Result (Tree S) FlatError) → ((t : Tree S) → nodes_from kind (done ++ t ∷ []) (items_of (ds ++ d ∷ [])) ≡ node_more kind (nodes_from kind (done ++ t ∷ []) (items_of ds)) d)
-        → (r >>= λ t. nodes_from kind (done ++ t ∷ []) (items_of (ds ++ d ∷ []))) ≡ node_more kind (r >>= λ t. nodes_from kind (done ++ t ∷ []) (items_of ds)) d
+    later : (r : Result (Tree S) FlatError) → ((t : Tree S) → nodes_from kind (ok_of ++ t ∷ []) (items_of (ds ++ d ∷ [])) ≡ node_more kind (nodes_from kind (ok_of ++ t ∷ []) (items_of ds)) d)
+        → (r >>= λ t. nodes_from kind (ok_of ++ t ∷ []) (items_of (ds ++ d ∷ []))) ≡ node_more kind (r >>= λ t. nodes_from kind (ok_of ++ t ∷ []) (items_of ds)) d
     later (Ok t) h = h t
     later (Err f) h = refl
 
@@ -39,10 +39,10 @@ nodes_push {S} kind done (e ∷ ds) d = later (node_of_value kind done e) (λ t.
 pub more_given : {S F : Type 0} (kind : Kind S F) (before : List (Tree S)) (d : Data) (olds : List (Option (Tree S))) (o : Option (Tree S)) → as_some (node_of_value kind before d) ≡ Ok o → olds ≡ map Some before
     → all_some (node_more kind (Ok before) d) ≡ Ok (olds ++ o ∷ [])
 more_given kind before d olds o good are =
-    let t = bind_ok (node_of_value kind before d) (λ t. done (Some t)) o good in
-    ap (λ r. all_some (r >>= λ t. done (before ++ t ∷ []))) t.1
-    ∙ ap (λ l. done l) (map_push (λ t. Some t) before t.0)
-    ∙ ap₂ (λ l v. done (l ++ v ∷ [])) (sym are) (done_is (λ v. Some t.0 ≡ v) (Some t.0) o t.2 refl)
+    let t = bind_ok (node_of_value kind before d) (λ t. ok_of (Some t)) o good in
+    ap (λ r. all_some (r >>= λ t. ok_of (before ++ t ∷ []))) t.1
+    ∙ ap (λ l. ok_of l) (map_push (λ t. Some t) before t.0)
+    ∙ ap₂ (λ l v. ok_of (l ++ v ∷ [])) (sym are) (done_is (λ v. Some t.0 ≡ v) (Some t.0) o t.2 refl)
 
 -- ---- the last number
 
@@ -95,7 +95,7 @@ module _ {U A S F : Type 0} (kind : Kind S F) (laws : KindLaws kind) (tree : Poo
 
     gives_read : (r : Result (List ℕ) FlatError) → IfOk r (AllBelow (length p.nodes)) → Gives (map (tree p)) r (all_some given) → HasRead kind tree p ds r
     gives_read (Ok ids) here g =
-        let ts = bind_ok given (λ ts. done (map Some ts)) (map (tree p) ids) g in
+        let ts = bind_ok given (λ ts. ok_of (map Some ts)) (map (tree p) ids) g in
         let us = nodes_found kind laws [] (items_of ds) ts.0 ts.1 in
         record {
           here = here;
@@ -136,13 +136,13 @@ module _ {U A S F : Type 0} (kind : Kind S F) (laws : KindLaws kind) (tree : Poo
     pub still_read : (f : FlatError) → HasRead kind tree p ds (Err f) → HasRead kind tree q (ds ++ d ∷ []) (Err f)
     still_read f h =
         gives_read q (ds ++ d ∷ []) (Err f) tt
-        (carry f (nodes_from kind [] (items_of (ds ++ d ∷ []))) (λ ts. done (map Some ts)) _ refl
-        (carry f (nodes_from kind [] (items_of ds)) (λ done. node_of_value kind done d >>= λ t. Ok (done ++ t ∷ [])) _ (sym (nodes_push kind [] ds d)) (given_fails p ds f h)))
+        (carry f (nodes_from kind [] (items_of (ds ++ d ∷ []))) (λ ts. ok_of (map Some ts)) _ refl
+        (carry f (nodes_from kind [] (items_of ds)) (λ ok_of. node_of_value kind ok_of d >>= λ t. Ok (ok_of ++ t ∷ [])) _ (sym (nodes_push kind [] ds d)) (given_fails p ds f h)))
 
     pub read_on : (ids : List ℕ) (r : Result (List ℕ) FlatError) → IfOk r (AllBelow (length q.nodes)) → Gives (map (tree q)) r (all_some (node_more kind (Ok (filter_map (tree p) ids)) d))
         → HasRead kind tree p ds (Ok ids) → HasRead kind tree q (ds ++ d ∷ []) r
     read_on ids r here g h =
         let n = h.nodes in
-        let so_far : nodes_from kind [] (items_of ds) ≡ Ok (filter_map (tree p) ids) = given_all p ds n.0 n.2 ∙ ap (λ ts. done ts) (sym (there_are (tree p) ids n.0 n.1)) in
+        let so_far : nodes_from kind [] (items_of ds) ≡ Ok (filter_map (tree p) ids) = given_all p ds n.0 n.2 ∙ ap (λ ts. ok_of ts) (sym (there_are (tree p) ids n.0 n.1)) in
         let same = nodes_push kind [] ds d ∙ ap (λ so_far. node_more kind so_far d) so_far in
         gives_read q (ds ++ d ∷ []) r here (subst (λ given. Gives (map (tree q)) r (all_some given)) (sym same) g)

@@ -17,7 +17,7 @@ use Rattle.air_wire.specs.Unshared.{seen_at, degree, degree_of}
 use Rattle.air_wire.specs.ReadCalls.{AreOf}
 use Rattle.air_wire.specs.Nodes.{Kind, operand_of, operand, check_degree, operations, operands_of, joined_degree, joined_tree, operands_at, operation_at, operation_or, leaf_node_at, node_with, node_of_value}
 use Rattle.air_wire.specs.Parts.{only_member, find_name, case_or}
-use Rattle.air_wire.specs.laws.Readings.{done, done_is, not_done, err_is}
+use Rattle.air_wire.specs.laws.Readings.{ok_of, done_is, not_done, err_is}
 use Rattle.air_wire.proofs.Growing.{AllBelow}
 use Rattle.air_wire.proofs.SeenTrees.{seen_there}
 
@@ -46,18 +46,18 @@ module _ {X : Type 0} (tree : ℕ → Option X) where
 -- ---- one of two calls, seen as the other
 
 alike : {X Y Z : Type 0} (f : X → Z) (g : Y → Z) (P : Result X FlatError → Result Y FlatError → Type 0) → ((e : FlatError) → P (Err e) (Err e)) → ((x : X) (y : Y) → f x ≡ g y → P (Ok x) (Ok y))
-    → (r : Result X FlatError) (s : Result Y FlatError) → (r >>= λ x. done (f x)) ≡ (s >>= λ y. done (g y)) → P r s
+    → (r : Result X FlatError) (s : Result Y FlatError) → (r >>= λ x. ok_of (f x)) ≡ (s >>= λ y. ok_of (g y)) → P r s
 alike f g P err ok (Ok x) (Ok y) e = ok x y (done_is (λ z. f x ≡ z) (f x) (g y) e refl)
 alike f g P err ok (Ok x) (Err k) e = not_done (λ _. P (Ok x) (Err k)) k (f x) (sym e)
 alike f g P err ok (Err k) (Ok y) e = not_done (λ _. P (Err k) (Ok y)) k (g y) e
 alike {Z = Z} f g P err ok (Err h) (Err k) e = subst (λ j. P (Err h) (Err j)) (err_is {A = Z} h k e) (err h)
 
 module _ {X Y : Type 0} (f : X → Y) where
-  operand_mapped : (place i : ℕ) (o : Option X) → (operand_of place i o >>= λ x. done (f x)) ≡ operand_of place i (option_map f o)
+  operand_mapped : (place i : ℕ) (o : Option X) → (operand_of place i o >>= λ x. ok_of (f x)) ≡ operand_of place i (option_map f o)
   operand_mapped place i None = refl
   operand_mapped place i (Some x) = refl
 
-  operand-map : (xs : List X) (i : ℕ) → (operand xs i >>= λ x. done (f x)) ≡ operand (map f xs) i
+  operand-map : (xs : List X) (i : ℕ) → (operand xs i >>= λ x. ok_of (f x)) ≡ operand (map f xs) i
   unfolding operand
   operand-map xs i =
       operand_mapped (length xs) i (slice_get xs i)
@@ -69,14 +69,14 @@ module _ {S F : Type 0} (kind : Kind S F) (tree : ℕ → Option (Tree S)) (ids 
   abbrev weight : ℕ → ℕ
   weight i = degree_of kind.term (tree i)
 
-  operand_read : (i : ℕ) → (operand ids i >>= λ x. done (tree x)) ≡ (operand ts i >>= λ t. done (Some t))
+  operand_read : (i : ℕ) → (operand ids i >>= λ x. ok_of (tree x)) ≡ (operand ts i >>= λ t. ok_of (Some t))
   operand_read i = operand-map tree ids i ∙ ap (λ l. operand l i) are ∙ sym (operand-map (λ t. Some t) ts i)
 
   abbrev joined : Result (ℕ × ℕ) FlatError → Result (Option (Tree S)) FlatError
-  joined r = r >>= λ p. done (both (joined_tree op) (tree p.0) (tree p.1))
+  joined r = r >>= λ p. ok_of (both (joined_tree op) (tree p.0) (tree p.1))
 
   abbrev joined_trees : Result (Tree S × Tree S) FlatError → Result (Option (Tree S)) FlatError
-  joined_trees r = as_some (r >>= λ q. done (joined_tree op q.0 q.1))
+  joined_trees r = as_some (r >>= λ q. ok_of (joined_tree op q.0 q.1))
 
   module _ (n d : ℕ) where
     by_degree : (x y : ℕ) (t u : Tree S) → tree x ≡ Some t → tree y ≡ Some u → (m : Result ℕ FlatError) → joined (m >>= λ k. check_degree n d k (x, y)) ≡ joined_trees (m >>= λ k. check_degree n d k (t, u))
@@ -84,7 +84,7 @@ module _ {S F : Type 0} (kind : Kind S F) (tree : ℕ → Option (Tree S)) (ids 
     by_degree x y t u is also (Ok k) = by_test (d == k)
       where
         by_test : (b : Bool) → joined (if b then Ok (x, y) else Err (faults.WrongDegree n d k)) ≡ joined_trees (if b then Ok (t, u) else Err (faults.WrongDegree n d k))
-        by_test true = ap₂ (λ o p. done (both (joined_tree op) o p)) is also
+        by_test true = ap₂ (λ o p. ok_of (both (joined_tree op) o p)) is also
         by_test false = refl
 
     abbrev behind : ℕ → ℕ → Result (ℕ × ℕ) FlatError

@@ -6,14 +6,14 @@ use Rattle.std.proofs.lemmas.Bool.{ne_eqb}
 use Rattle.std.proofs.lemmas.List.{take_more, take_all, map-append}
 
 -- the numbers, with spaces between them
-abbrev pub spaced : {A : Type 0} → (A → ℕ) → List A → List ℕ
-spaced f xs = join_with_byte 32 (map decimal (map f xs))
+abbrev pub with_spaces : {A : Type 0} → (A → ℕ) → List A → List ℕ
+with_spaces f xs = join_with_byte 32 (map decimal (map f xs))
 
 join-more : (c : ℕ) (x : List ℕ) (xs : List (List ℕ)) (y : List ℕ) → join_with_byte c ((x ∷ xs) ++ y ∷ []) ≡ join_with_byte c (x ∷ xs) ++ (c ∷ y)
 join-more c x [] y = refl
 join-more c x (z ∷ xs) y = ap (λ t. x ++ (c ∷ t)) (join-more c z xs y) ∙ sym (append_assoc x (c ∷ join_with_byte c (z ∷ xs)) (c ∷ y))
 
-spaced-end : {A : Type 0} (f : A → ℕ) (xs : List A) (k : ℕ) (x : A) → k < length xs → spaced f (take k xs ++ x ∷ []) ≡ spaced f (take k xs) ++ ((if k == 0 then [] else codes " ") ++ decimal (f x))
+spaced-end : {A : Type 0} (f : A → ℕ) (xs : List A) (k : ℕ) (x : A) → k < length xs → with_spaces f (take k xs ++ x ∷ []) ≡ with_spaces f (take k xs) ++ ((if k == 0 then [] else codes " ") ++ decimal (f x))
 spaced-end f xs zero x lt = refl
 spaced-end f [] (suc k) x lt = absurd (omega (arith, lt))
 spaced-end f (y ∷ ys) (suc k) x lt =
@@ -24,19 +24,19 @@ spaced-end f (y ∷ ys) (suc k) x lt =
 
 -- one number more
 pub spaced-more : {A : Type 0} (f : A → ℕ) (xs : List A) (k : ℕ) (x : A) (start old mid new : List ℕ)
-    → k < length xs → x ≡ get_or xs k x → old ≡ start ++ spaced f (take k xs)
-    → mid ≡ old ++ (if k == 0 then [] else codes " ") → new ≡ mid ++ decimal (f x) → new ≡ start ++ spaced f (take (k + 1) xs)
+    → k < length xs → x ≡ get_or xs k x → old ≡ start ++ with_spaces f (take k xs)
+    → mid ≡ old ++ (if k == 0 then [] else codes " ") → new ≡ mid ++ decimal (f x) → new ≡ start ++ with_spaces f (take (k + 1) xs)
 spaced-more f xs k x start old mid new lt is h separated written =
     let here : take (k + 1) xs ≡ take k xs ++ x ∷ [] = take_more xs k x lt ∙ ap (λ v. take k xs ++ v ∷ []) (sym is) in
     let s : List ℕ = if k == 0 then [] else codes " " in
     written ∙ ap (λ t. t ++ decimal (f x)) (separated ∙ ap (λ t. t ++ s) h)
-    ∙ append_assoc (start ++ spaced f (take k xs)) s (decimal (f x)) ∙ append_assoc start (spaced f (take k xs)) (s ++ decimal (f x))
-    ∙ ap (λ t. start ++ t) (sym (spaced-end f xs k x lt) ∙ ap (spaced f) (sym here))
+    ∙ append_assoc (start ++ with_spaces f (take k xs)) s (decimal (f x)) ∙ append_assoc start (with_spaces f (take k xs)) (s ++ decimal (f x))
+    ∙ ap (λ t. start ++ t) (sym (spaced-end f xs k x lt) ∙ ap (with_spaces f) (sym here))
 
 -- all of them, between brackets
 pub spaced-all : {A : Type 0} (f : A → ℕ) (xs : List A) (k : ℕ) (start text new : List ℕ)
-    → length xs ≤ k → text ≡ (start ++ codes "[") ++ spaced f (take k xs) → new ≡ text ++ codes "]"
-    → new ≡ start ++ (codes "[" ++ (spaced f xs ++ codes "]"))
+    → length xs ≤ k → text ≡ (start ++ codes "[") ++ with_spaces f (take k xs) → new ≡ text ++ codes "]"
+    → new ≡ start ++ (codes "[" ++ (with_spaces f xs ++ codes "]"))
 spaced-all f xs k start text new le h ended =
-    ended ∙ ap (λ t. t ++ codes "]") (h ∙ ap (λ ys. (start ++ codes "[") ++ spaced f ys) (take_all k xs le))
-    ∙ append_assoc (start ++ codes "[") (spaced f xs) (codes "]") ∙ append_assoc start (codes "[") (spaced f xs ++ codes "]")
+    ended ∙ ap (λ t. t ++ codes "]") (h ∙ ap (λ ys. (start ++ codes "[") ++ with_spaces f ys) (take_all k xs le))
+    ∙ append_assoc (start ++ codes "[") (with_spaces f xs) (codes "]") ∙ append_assoc start (codes "[") (with_spaces f xs ++ codes "]")

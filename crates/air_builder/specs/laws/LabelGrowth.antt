@@ -26,13 +26,13 @@ IsSaid-weaker w Unasked h = tt
 IsSaid-weaker w (Shown text) h = w text h
 
 -- a builder that discards labels asks for none
-pub discarded : {S I F : Type 0} {asserts : S → I → Assertion F → Type 0} {kept : S → S → Type 0}
+pub no_label_asked : {S I F : Type 0} {asserts : S → I → Assertion F → Type 0} {kept : S → S → Type 0}
     {grew : S → S → List (Assertion F) → Type 0} {refuses : S → AirError → List (Assertion F) → Type 0}
     {says : Option (List ℕ) → Type 0} {a b : S} {x : I} (result : Result ⊤ AirError)
     → AssertedEach asserts kept grew refuses a b (x ∷ []) result
     → LabelledEach asserts (GrewWithoutLabels grew) (λ i. says) a b (x ∷ []) result
-discarded (Ok u) h = labelled_one (Ok u) (record { label = Unasked; said = tt; grown = λ s k. grew_one h s k }) tt
-discarded (Err e) h = labelled_one (Err e) tt (grew_none h)
+no_label_asked (Ok u) h = labelled_one (Ok u) (record { label = Unasked; said = tt; grown = λ s k. grew_one h s k }) tt
+no_label_asked (Err e) h = labelled_one (Err e) tt (grew_none h)
 
 -- one element was asserted, or refused, and so was it under a label
 pub record NamedOne {S I F : Type 0} (asserts : S → I → Assertion F → Type 0) (kept : S → S → Type 0)

@@ -12,7 +12,7 @@ use Rattle.air_symbolic.specs.Reach.{EachOperand, IsOperand, Marked, Reached, Re
 use Rattle.air_symbolic.specs.declared.leaves.base_leaf.BaseLeaf.{BaseLeaf}
 use Rattle.air_symbolic.specs.declared.pools.expr.SymbolicExpr.{SymbolicExpr}
 use Rattle.air_symbolic.specs.declared.pools.expr.SymbolicExpr.TheVariants as node
-use Rattle.air_infix.specs.Infix.{shown, infix_text, constant_text}
+use Rattle.air_infix.specs.Infix.{shown_number, infix_text, constant_text}
 use Rattle.air_infix.specs.Lines.{listed_name}
 use Rattle.air_infix.specs.Names.{is_reached, passing_below}
 use Rattle.air_infix.specs.declared.binding.Binding.TheVariants.{Loose}
@@ -88,7 +88,7 @@ explains_known {F} m r s pool names marks values from numbers closed known here 
     let f : ℕ → List ℕ = equation m pool names (λ i. slice_index_or values i r.zero) in
     let g : ℕ → List ℕ = equation m pool names (number_value r s ns) in
     let same : (i : ℕ) → i < length ns → Marked marks i → f i ≡ g i =
-    λ i b marked. ap (λ (v : F). infix_text m Loose (shown (listed_name names) ns i) ++ (codes " = " ++ constant_text m v)) (known i b marked) in
+    λ i b marked. ap (λ (v : F). infix_text m Loose (shown_number (listed_name names) ns i) ++ (codes " = " ++ constant_text m v)) (known i b marked) in
     let all : map f numbers ≡ map g numbers =
     ap (map f) reads.numbers_are
     ∙ same_below (is_read ns reads.marks) f g (length ns) (λ i b t. same i b (read_marked ns marks reads.marks from i closed at reads.reached t))

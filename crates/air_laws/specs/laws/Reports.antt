@@ -18,9 +18,9 @@ nothing_first [] ys e = (refl, e)
 nothing_first (x ∷ xs) ys e = absurd (never_empty x (xs ++ ys) e)
 
 -- what an empty list is mapped from
-pub unmapped : {A B : Type 0} (f : A → B) (xs : List A) → map f xs ≡ [] → xs ≡ []
-unmapped f [] e = refl
-unmapped f (x ∷ xs) e = absurd (never (f x) (map f xs) e)
+pub empty_map : {A B : Type 0} (f : A → B) (xs : List A) → map f xs ≡ [] → xs ≡ []
+empty_map f [] e = refl
+empty_map f (x ∷ xs) e = absurd (never (f x) (map f xs) e)
   where
     never : {B : Type 0} (x : B) (xs : List B) → x ∷ xs ≡ [] → ⊥
     never x xs e = cc
@@ -36,10 +36,10 @@ unfolding Fails
 fails_first f x xs true is e rest = absurd (never_empty x (filter f xs) e)
 fails_first f x xs false is e rest = (is, rest e)
 
-unfiltered : {A : Type 0} (f : A → Bool) (xs : List A) → filter f xs ≡ [] → Fails f xs
+none_passes : {A : Type 0} (f : A → Bool) (xs : List A) → filter f xs ≡ [] → Fails f xs
 unfolding Fails
-unfiltered f [] e = tt
-unfiltered f (x ∷ xs) e = fails_first f x xs (f x) refl e (unfiltered f xs)
+none_passes f [] e = tt
+none_passes f (x ∷ xs) e = fails_first f x xs (f x) refl e (none_passes f xs)
 
 filtered : {A : Type 0} (f : A → Bool) (xs : List A) → Fails f xs → filter f xs ≡ []
 unfolding Fails
@@ -83,7 +83,7 @@ module _ {F : Type 0} (r : CommRing F) (eq : F → F → Bool) (decides : (a b :
   -- the report on the first h rows lists nothing, so that each term vanishes at each of them
   pub all_vanish : (ts : List (Assertion F)) (h : ℕ) → report_of r eq trace ts h ≡ [] → (row : ℕ) → row < h → AllVanish r (row_assignment r trace row) ts
   all_vanish ts h e row l =
-      rows_vanish ts 0 h (unfiltered (is_nonzero r eq trace) (all_places h ts) (unmapped place _ e)) row (omega arith) (omega arith)
+      rows_vanish ts 0 h (none_passes (is_nonzero r eq trace) (all_places h ts) (empty_map place _ e)) row (omega arith) (omega arith)
 
   is_zero : (a : F) → a ≡ r.zero → not (eq a r.zero) ≡ false
   is_zero a e = ap not ((decides a r.zero).1 e)

@@ -6,7 +6,7 @@ use Rattle.serde_json.specs.Find.{get, as_array}
 use Rattle.air_wire.specs.declared.errors.FlatError.{FlatError}
 use Rattle.air_wire.specs.declared.errors.FlatError.TheVariants as faults
 use Rattle.air_wire.specs.Results.{◌>>=◌}
-use Rattle.air_wire.specs.laws.Readings.{done, done_is, failed, err_is, bind_ok, ok_or_found}
+use Rattle.air_wire.specs.laws.Readings.{ok_of, done_is, err_of, err_is, bind_ok, ok_or_found}
 use Rattle.air_object.specs.Objects.{Grammar, by_form, AllSpell, FirstElementFault, list_of, needed_member, optional, both_members, both_or_none}
 use Rattle.air_object.specs.Readers.{Reader, or_wrong_form, each_from, list_read, needed_read, or_absent, optional_read, both_read, if_either}
 
@@ -36,14 +36,14 @@ module _ {X : Type 0} (spells : Data → X → Type 0) (find : Data → Option X
     found = λ d x e. found d x (ok_or_found (find d) (faults.Shape 0) x e);
     again = λ d x h. ap (λ o. or_wrong_form o) (again d x h);
     fault = λ d f e. nothing d f (find d) refl e;
-    refused = λ d f h. refusal d (find d) refl h.0 ∙ ap (λ g. failed g) (sym h.1);
+    refused = λ d f h. refusal d (find d) refl h.0 ∙ ap (λ g. err_of g) (sym h.1);
   }
     where
       nothing : (d : Data) (f : FlatError) (o : Option X) → find d ≡ o → or_wrong_form o ≡ Err f → (by_form spells).fault d f
       nothing d f None is e = ((λ x h. absurd (cc (sym is ∙ again d x h))), sym (err_is (faults.Shape 0) f e))
       nothing d f (Some x) is e = absurd cc
 
-      refusal : (d : Data) (o : Option X) → find d ≡ o → ((x : X) → spells d x → ⊥) → or_wrong_form (find d) ≡ failed (faults.Shape 0)
+      refusal : (d : Data) (o : Option X) → find d ≡ o → ((x : X) → spells d x → ⊥) → or_wrong_form (find d) ≡ err_of (faults.Shape 0)
       refusal d None is none = ap (λ o. or_wrong_form o) is
       refusal d (Some x) is none = absurd (none x (found d x is))
 
@@ -60,12 +60,12 @@ module _ {X : Type 0} (g : Grammar X) (read : Reader X) (agrees : Agrees g read)
 
   each_again : (before : List X) (ds : Items) (xs : List X) → AllSpell g ds xs → each_from read before ds ≡ Ok (before ++ xs)
   unfolding each_from
-  each_again before no_items [] h = ap (λ v. done v) (sym (append-nil before))
+  each_again before no_items [] h = ap (λ v. ok_of v) (sym (append-nil before))
   each_again before no_items (x ∷ xs) h = absurd h
   each_again before (item d ds) [] h = absurd h
   each_again before (item d ds) (x ∷ xs) h =
       ap (λ (r : Result X FlatError). r >>= λ y. each_from read (before ++ y ∷ []) ds) (agrees.again d x h.0)
-      ∙ each_again (before ++ x ∷ []) ds xs h.1 ∙ ap (λ v. done v) (append_assoc before (x ∷ []) xs)
+      ∙ each_again (before ++ x ∷ []) ds xs h.1 ∙ ap (λ v. ok_of v) (append_assoc before (x ∷ []) xs)
 
   each_fault : (before : List X) (ds : Items) (f : FlatError) → each_from read before ds ≡ Err f → FirstElementFault g ds f
   unfolding each_from
@@ -74,7 +74,7 @@ module _ {X : Type 0} (g : Grammar X) (read : Reader X) (agrees : Agrees g read)
     where
       at_item : ((x : X) → each_from read (before ++ x ∷ []) ds ≡ Err f → FirstElementFault g ds f) → (r : Result X FlatError) → read d ≡ r → (r >>= λ x. each_from read (before ++ x ∷ []) ds) ≡ Err f → FirstElementFault g (item d ds) f
       at_item later (Ok x) is e = inr (x, agrees.found d x is, later x e)
-      at_item later (Err h) is e = inl (agrees.fault d f (is ∙ ap (λ k. failed k) (err_is h f e)))
+      at_item later (Err h) is e = inl (agrees.fault d f (is ∙ ap (λ k. err_of k) (err_is h f e)))
 
   each_refused : (before : List X) (ds : Items) (f : FlatError) → FirstElementFault g ds f → each_from read before ds ≡ Err f
   unfolding each_from
@@ -91,7 +91,7 @@ module _ {X : Type 0} (g : Grammar X) (read : Reader X) (agrees : Agrees g read)
   list_fault d f (Some ds) is e = inr (ds, is, each_fault [] ds f e)
 
   list_refused : (d : Data) (f : FlatError) → (list_of g).fault d f → list_read read d ≡ Err f
-  list_refused d f (inl h) = ap of_items h.0 ∙ ap (λ k. failed k) (sym h.1)
+  list_refused d f (inl h) = ap of_items h.0 ∙ ap (λ k. err_of k) (sym h.1)
   list_refused d f (inr h) = ap of_items h.1 ∙ each_refused [] h.0 f h.2
 
   list_found : (d : Data) (xs : List X) → list_read read d ≡ Ok xs → (list_of g).spells d xs
@@ -121,7 +121,7 @@ module _ {X : Type 0} (name : List ℕ) (g : Grammar X) (read : Reader X) (agree
   needed_fault d f (Some c) is e = inr (c, is, agrees.fault c f e)
 
   needed_refused : (d : Data) (f : FlatError) → (needed_member name g).fault d f → needed_read name read d ≡ Err f
-  needed_refused d f (inl h) = ap (λ o. or_wrong_form o >>= read) h.0 ∙ ap (λ k. failed k) (sym h.1)
+  needed_refused d f (inl h) = ap (λ o. or_wrong_form o >>= read) h.0 ∙ ap (λ k. err_of k) (sym h.1)
   needed_refused d f (inr h) = ap (λ o. or_wrong_form o >>= read) h.1 ∙ agrees.refused h.0 f h.2
 
   pub needed_agrees : Agrees (needed_member name g) (needed_read name read)
@@ -138,7 +138,7 @@ module _ {X : Type 0} (name : List ℕ) (g : Grammar X) (read : Reader X) (agree
     optional_found d x (Some c) is e = inr (c, is, agrees.found c x e)
 
     optional_again : (d : Data) (x : X) → (optional name absent g).spells d x → optional_read name absent read d ≡ Ok x
-    optional_again d x (inl h) = ap (or_absent absent read) h.0 ∙ ap (λ y. done y) (sym h.1)
+    optional_again d x (inl h) = ap (or_absent absent read) h.0 ∙ ap (λ y. ok_of y) (sym h.1)
     optional_again d x (inr h) = ap (or_absent absent read) h.1 ∙ agrees.again h.0 x h.2
 
     optional_fault : (d : Data) (f : FlatError) (o : Option Data) → get name d ≡ o → or_absent absent read o ≡ Err f → (optional name absent g).fault d f
@@ -167,12 +167,12 @@ module _ {X Y : Type 0} (g : Grammar X) (read : Reader X) (agrees : Agrees g rea
       done_is (λ q. g.spells d q.0 × h.spells d q.1) (x.0, y.0) p y.2 (agrees.found d x.0 x.1, agree.found d y.0 y.1)
 
   both_fault : (d : Data) (f : FlatError) (r : Result X FlatError) → read d ≡ r → then_next d r ≡ Err f → (both_members g h).fault d f
-  both_fault d f (Err k) is e = inl (agrees.fault d f (is ∙ ap (λ k. failed k) (err_is k f e)))
+  both_fault d f (Err k) is e = inl (agrees.fault d f (is ∙ ap (λ k. err_of k) (err_is k f e)))
   both_fault d f (Ok x) is e = inr (x, agrees.found d x is, agree.fault d f (of_next (next d) e))
     where
       of_next : (r : Result Y FlatError) → (r >>= λ y. paired x y) ≡ Err f → r ≡ Err f
       of_next (Ok y) e = absurd cc
-      of_next (Err k) e = ap (λ k. failed k) (err_is k f e)
+      of_next (Err k) e = ap (λ k. err_of k) (err_is k f e)
 
   both_refused : (d : Data) (f : FlatError) → (both_members g h).fault d f → both_read read next d ≡ Err f
   both_refused d f (inl k) = ap (then_next d) (agrees.refused d f k)
@@ -212,12 +212,12 @@ module _ {X Y : Type 0} (one other : List ℕ) (g : Grammar X) (h : Grammar Y) (
   first_there d c at = ap (λ a. of_either (read d) a (get other d)) at
 
   either_again : (d : Data) (o : Option (X × Y)) → either.spells d o → if_either one other read d ≡ Ok o
-  either_again d o (inl k) = ap (λ a. of_either (read d) a (get other d)) k.0 ∙ ap (λ b. of_either (read d) None b) k.1 ∙ ap (λ v. done v) (sym k.2)
-  either_again d o (inr k) = first_there d k.1.0.0 k.1.0.1 ∙ ap some_of (agrees.again d k.0 k.1) ∙ ap (λ v. done v) (sym k.2)
+  either_again d o (inl k) = ap (λ a. of_either (read d) a (get other d)) k.0 ∙ ap (λ b. of_either (read d) None b) k.1 ∙ ap (λ v. ok_of v) (sym k.2)
+  either_again d o (inr k) = first_there d k.1.0.0 k.1.0.1 ∙ ap some_of (agrees.again d k.0 k.1) ∙ ap (λ v. ok_of v) (sym k.2)
 
   some_fault : (f : FlatError) (r : Result (X × Y) FlatError) → some_of r ≡ Err f → r ≡ Err f
   some_fault f (Ok p) e = absurd cc
-  some_fault f (Err k) e = ap (λ k. failed k) (err_is k f e)
+  some_fault f (Err k) e = ap (λ k. err_of k) (err_is k f e)
 
   either_fault : (d : Data) (f : FlatError) (a b : Option Data) → get one d ≡ a → get other d ≡ b → of_either (read d) a b ≡ Err f → either.fault d f
   either_fault d f None None at by e = absurd cc

@@ -11,7 +11,7 @@ use Rattle.air_wire.specs.laws.Boundaries.{cell_laws}
 use Rattle.air_wire.specs.laws.Lists.{root_found, root_again, root_fault, root_fault_read}
 use Rattle.air_wire.specs.Parts.{whole}
 use Rattle.air_wire.specs.Results.{◌>>=◌}
-use Rattle.air_wire.specs.laws.Readings.{named, number_found, failed, err_is}
+use Rattle.air_wire.specs.laws.Readings.{by_some, number_found, err_of, err_is}
 use Rattle.air_wire.specs.Spelling.{IsWholeNumber}
 use Rattle.air_wire.specs.declared.errors.FlatError.{FlatError}
 use Rattle.air_wire.specs.declared.errors.FlatError.TheVariants as faults
@@ -35,9 +35,9 @@ cells_agree = list_agrees boundary_cell cell_read cell_agrees
 
 cap_found : (d : Data) (o : Option ℕ) → cap_in d ≡ Some o → SpellsCap d o
 unfolding cap_in
-cap_found null o e = named (SpellsCap null) None o refl e
+cap_found null o e = by_some (SpellsCap null) None o refl e
 cap_found (boolean b) o e = absurd cc
-cap_found (number (unsigned n)) o e = named (SpellsCap (number (unsigned n))) (Some n) o refl e
+cap_found (number (unsigned n)) o e = by_some (SpellsCap (number (unsigned n))) (Some n) o refl e
 cap_found (number (negative z)) o e = absurd cc
 cap_found (number (float x)) o e = absurd cc
 cap_found (string s) o e = absurd cc
@@ -111,11 +111,11 @@ module _ {F : Type 0} {order : ℕ} (modular : Modular F order) where
   element_refused d f (inl h) = none (whole d) refl
     where
       none : (o : Option ℕ) → whole d ≡ o → element_or modular 0 o ≡ Err f
-      none None is = ap (λ g. failed g) (sym h.1)
+      none None is = ap (λ g. err_of g) (sym h.1)
       none (Some n) is = absurd (h.0 n (number_found d n is))
   element_refused d f (inr h) =
       ap (λ e. element_or modular 0 (whole e)) h.1
-      ∙ ap (λ b. if b then Ok (modular.class h.0) else Err (faults.NotCanonical 0)) (le-ltb h.0 order h.2) ∙ ap (λ g. failed g) (sym h.3)
+      ∙ ap (λ b. if b then Ok (modular.class h.0) else Err (faults.NotCanonical 0)) (le-ltb h.0 order h.2) ∙ ap (λ g. err_of g) (sym h.3)
 
   fault_of_element : (d : Data) (f : FlatError) → element_at modular 0 d ≡ Err f → ElementFault order d f
   unfolding element_at

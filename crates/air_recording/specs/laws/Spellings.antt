@@ -5,7 +5,7 @@ use Rattle.serde_json.specs.Data.{Data}
 use Rattle.air_wire.specs.Spelling.{HasWhole}
 use Rattle.air_wire.specs.laws.WholeNumbers.{wholes_read}
 use Rattle.air_wire.specs.Parts.{whole_at}
-use Rattle.air_wire.specs.laws.Readings.{named, field_found, field_read}
+use Rattle.air_wire.specs.laws.Readings.{by_some, field_found, field_read}
 use Rattle.air_recording.specs.Spellings.{layout_data, constraints_data, SpellsLayout, SpellsConstraints, HaveSameIndices, with_count, layout_of}
 use Rattle.air_recording.specs.declared.layouts.air_layout.AirLayout.{AirLayout}
 use Rattle.air_recording.specs.declared.layouts.constraint_layout.ConstraintLayout.{ConstraintLayout}
@@ -43,7 +43,7 @@ layout_found d l e =
     let challenges = found_of (whole_at (codes "num_permutation_challenges") d) _ l permutation.2 in
     let values = found_of (whole_at (codes "num_permutation_values") d) _ l challenges.2 in
     let periodic = found_of (whole_at (codes "num_periodic_columns") d) _ l values.2 in
-    named (SpellsLayout d) _ l
+    by_some (SpellsLayout d) _ l
     (record {
       preprocessed = field_found (codes "preprocessed_width") d preprocessed.0 preprocessed.1;
       main = field_found (codes "main_width") d main.0 main.1;

@@ -12,7 +12,7 @@ use Rattle.air_symbolic.specs.declared.leaves.base_leaf.BaseLeaf.TheVariants as 
 use Rattle.air_wire.specs.Parts.{whole}
 use Rattle.air_wire.specs.Results.{◌>>=◌}
 use Rattle.air_wire.specs.Spelling.{number_data, case_data, IsWholeNumber}
-use Rattle.air_wire.specs.laws.Readings.{mapped, done, done_is, not_done, bind_ok, ok_or_found, test_ok, name_ok, name_found, text_read, number_found, failed, err_is, not_failed, ok_or_failed, before_done, test_failed, name_failed}
+use Rattle.air_wire.specs.laws.Readings.{map_found, ok_of, done_is, not_done, bind_ok, ok_or_found, test_ok, name_ok, name_found, text_read, number_found, err_of, err_is, not_failed, ok_or_failed, before_done, test_failed, name_failed}
 use Rattle.air_wire.specs.Entries.{variable_plain}
 use Rattle.air_wire.specs.laws.Entries.{variable_laws}
 use Rattle.air_wire.specs.Nodes.{KindLaws}
@@ -24,7 +24,7 @@ use Rattle.air_wire.specs.declared.errors.FlatError.TheVariants as faults
 
 module _ {F : Type 0} {p : ℕ} (m : Modular F p) where
   -- an element and its canonical number
-  class_number : (n : ℕ) (x : F) → nat_lt n p ≡ true → done (m.class n) ≡ done x → n ≡ m.value x
+  class_number : (n : ℕ) (x : F) → nat_lt n p ≡ true → ok_of (m.class n) ≡ ok_of x → n ≡ m.value x
   class_number n x small e = done_is (λ y. n ≡ m.value y) (m.class n) x e (sym (m.value_class n ∙ mod-eq_of_lt (ltb-true n p small)))
 
   element_found_of : (place : ℕ) (o : Option ℕ) (x : F) → element_or m place o ≡ Ok x → o ≡ Some (m.value x)
@@ -42,7 +42,7 @@ module _ {F : Type 0} {p : ℕ} (m : Modular F p) where
   element_again place d x h =
       ap (λ e. element_or m place (whole e)) h
       ∙ ap (λ b. if b then Ok (m.class (m.value x)) else Err (faults.NotCanonical place)) (lt-ltb (m.value x) p (m.bound x))
-      ∙ ap (λ y. done y) (class_of m x)
+      ∙ ap (λ y. ok_of y) (class_of m x)
 
   -- ---- leaves
 
@@ -54,17 +54,17 @@ module _ {F : Type 0} {p : ℕ} (m : Modular F p) where
   leaf_again place d leaves.IsLastRow h = ap (leaf_at m place) h
   leaf_again place d leaves.IsTransition h = ap (leaf_at m place) h
   leaf_again place d (leaves.Constant x) h =
-      ap (leaf_at m place) h.1 ∙ ap (λ r. r >>= λ c. done (leaves.Constant c)) (element_again place h.0 x h.2)
+      ap (leaf_at m place) h.1 ∙ ap (λ r. r >>= λ c. ok_of (leaves.Constant c)) (element_again place h.0 x h.2)
 
   with_found : (place : ℕ) (name : List ℕ) (c : Data) (a : BaseLeaf F) → leaf_with m place name c ≡ Ok a → SpellsLeaf m (case_data name c) a
   with_found place name c a h =
       let P : BaseLeaf F → Type 0 = SpellsLeaf m (case_data name c) in
       name_ok P name (codes "Variable") _ _ a h
-      (λ same h. mapped P (λ v. leaves.Variable v) (variable_plain.read c) a (ok_or_found _ _ a h)
+      (λ same h. map_found P (λ v. leaves.Variable v) (variable_plain.read c) a (ok_or_found _ _ a h)
       (λ v at. (c, ap (λ t. case_data t c) same, variable_laws.found c v at)))
       (λ h. name_ok P name (codes "Constant") _ _ a h
       (λ same h.
-      let x = bind_ok (element_at m place c) (λ x. done (leaves.Constant x)) a h in
+      let x = bind_ok (element_at m place c) (λ x. ok_of (leaves.Constant x)) a h in
       done_is P (leaves.Constant x.0) a x.2 (c, ap (λ t. case_data t c) same, element_found place c x.0 x.1))
       (not_done P (faults.Shape place) a))
 
@@ -115,7 +115,7 @@ module _ {F : Type 0} {p : ℕ} (m : Modular F p) where
   own_again : (place : ℕ) (d : Data) (f : FlatError) → OwnLeafFault p place d f → leaf_at m place d ≡ Err f
   unfolding leaf_at
   own_again place d f ((c, is, past), h) =
-      ap (leaf_at m place) is ∙ ap (λ (r : Result F FlatError). r >>= λ x. done (leaves.Constant x)) (past_refused place c past) ∙ ap (λ g. failed g) (sym h)
+      ap (leaf_at m place) is ∙ ap (λ (r : Result F FlatError). r >>= λ x. ok_of (leaves.Constant x)) (past_refused place c past) ∙ ap (λ g. err_of g) (sym h)
 
   leaf_written : (d : Data) (a : BaseLeaf F) → WritesLeaf m d a → SpellsLeaf m d a
   leaf_written d (leaves.Variable v) h = (variable_plain.written v, h, variable_laws.is_spelt v)

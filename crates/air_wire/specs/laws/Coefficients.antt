@@ -11,7 +11,7 @@ use Rattle.air_field.specs.laws.Modular.{class_of}
 use Rattle.air_wire.specs.Parts.{whole}
 use Rattle.air_wire.specs.Results.{◌>>=◌}
 use Rattle.air_wire.specs.Spelling.{number_data}
-use Rattle.air_wire.specs.laws.Readings.{done, done_is, not_done, bind_ok, ok_or_found, test_ok, number_found, err_is, not_failed, ok_or_failed, bind_failed, test_failed}
+use Rattle.air_wire.specs.laws.Readings.{ok_of, done_is, not_done, bind_ok, ok_or_found, test_ok, number_found, err_is, not_failed, ok_or_failed, bind_failed, test_failed}
 use Rattle.air_wire.specs.WholeNumbers.{wholes_data, SomePast, HasPast}
 use Rattle.air_wire.specs.laws.WholeNumbers.{whole_items_found, whole_items_again}
 use Rattle.air_wire.specs.declared.errors.FlatError.{FlatError}
@@ -109,9 +109,9 @@ module _ {F : Type 0} {p : ℕ} (m : Modular F p) where
   elements_again count place d cs is len =
       ap (λ x. ok_or (as_array x) (faults.Shape place) >>= λ ds. ok_or (wholes ds) (faults.Shape place) >>= λ ns. if_count count place ns >>= λ all. if_canonical m place all) is
       ∙ ap (λ o. ok_or o (faults.Shape place) >>= λ ns. if_count count place ns >>= λ all. if_canonical m place all) (items_read cs)
-      ∙ ap (λ b. (if b then done (residues cs) else Err (faults.Shape place)) >>= λ all. if_canonical m place all) (same_number (length (residues cs)) count (residues_length cs ∙ len))
+      ∙ ap (λ b. (if b then ok_of (residues cs) else Err (faults.Shape place)) >>= λ all. if_canonical m place all) (same_number (length (residues cs)) count (residues_length cs ∙ len))
       ∙ ap (λ b. if b then Ok (map m.class (residues cs)) else Err (faults.NotCanonical place)) (residues_canonical cs)
-      ∙ ap (λ v. done v) (residues_again cs)
+      ∙ ap (λ v. ok_of v) (residues_again cs)
 
   -- ---- lists that aren't read
 
@@ -161,5 +161,5 @@ module _ {F : Type 0} {p : ℕ} (m : Modular F p) where
   elements_past count place d (ns, is, len, some) =
       ap (λ x. ok_or (as_array x) (faults.Shape place) >>= λ ds. ok_or (wholes ds) (faults.Shape place) >>= λ ns. if_count count place ns >>= λ all. if_canonical m place all) is
       ∙ ap (λ o. ok_or o (faults.Shape place) >>= λ ns. if_count count place ns >>= λ all. if_canonical m place all) (whole_items_again ns)
-      ∙ ap (λ b. (if b then done ns else Err (faults.Shape place)) >>= λ all. if_canonical m place all) (same_number (length ns) count len)
+      ∙ ap (λ b. (if b then ok_of ns else Err (faults.Shape place)) >>= λ all. if_canonical m place all) (same_number (length ns) count len)
       ∙ ap (λ b. if b then Ok (map m.class ns) else Err (faults.NotCanonical place)) (past_some ns some)

@@ -6,7 +6,7 @@ use Rattle.serde_json.specs.Find.{get}
 use Rattle.air_wire.specs.Parts.{whole_at, find_name}
 use Rattle.air_wire.specs.Plain.{Plain, PlainLaws}
 use Rattle.air_wire.specs.EntryForms.{EntryForm, bare, at_offset, form_data, SpellsEntryForm, offset_form, entry_form_of, EntryNames, entry_of_form, entry_read, named_plain, SpellsIndexed, indexed_read, indexed_plain}
-use Rattle.air_wire.specs.laws.Readings.{none_found, named, mapped, both_found, then_found, field_again, field_with, field_found, field_read, Rows, name_found, text_read}
+use Rattle.air_wire.specs.laws.Readings.{none_found, by_some, map_found, both_found, then_found, field_again, field_with, field_found, field_read, Rows, name_found, text_read}
 
 form_is_spelt : (m : EntryForm) → SpellsEntryForm (form_data m) m
 form_is_spelt (bare name) = refl
@@ -19,9 +19,9 @@ form_again d (at_offset name o) h = ap entry_form_of h.1 ∙ ap (option_map (λ 
 form_found : (d : Data) (m : EntryForm) → entry_form_of d ≡ Some m → SpellsEntryForm d m
 form_found d m e =
     text_read (λ x. SpellsEntryForm x m) (λ o. o ≡ Some m) None (λ name. Some (bare name)) offset_form d e
-    (λ name e. named (SpellsEntryForm _) (bare name) m refl e)
+    (λ name e. by_some (SpellsEntryForm _) (bare name) m refl e)
     (none_found (SpellsEntryForm d) m)
-    (λ name c e. mapped (SpellsEntryForm _) (λ o. at_offset name o) (whole_at (codes "offset") c) m e (λ o at. (c, refl, field_found (codes "offset") c o at)))
+    (λ name c e. map_found (SpellsEntryForm _) (λ o. at_offset name o) (whole_at (codes "offset") c) m e (λ o at. (c, refl, field_found (codes "offset") c o at)))
 
 -- entries that have these forms and names
 module _ {E : Type 0} (form : E → EntryForm) (names : EntryNames E) (offset_rows : Rows (λ s make. (o : ℕ) → form (make o) ≡ at_offset s o) names.offsets)
@@ -29,7 +29,7 @@ module _ {E : Type 0} (form : E → EntryForm) (names : EntryNames E) (offset_ro
   form_of_entry : (m : EntryForm) (e : E) → entry_of_form names m ≡ Some e → form e ≡ m
   form_of_entry (bare s) e h = name_found (λ s e. form e ≡ bare s) names.bares s e h bare_rows
   form_of_entry (at_offset s o) e h =
-      mapped (λ e. form e ≡ at_offset s o) (λ make. make o) (find_name names.offsets s) e h
+      map_found (λ e. form e ≡ at_offset s o) (λ make. make o) (find_name names.offsets s) e h
       (λ make at. name_found (λ s make. (o : ℕ) → form (make o) ≡ at_offset s o) names.offsets s make at offset_rows o)
 
   pub named_laws : PlainLaws (named_plain form names)

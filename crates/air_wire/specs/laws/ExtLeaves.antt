@@ -16,7 +16,7 @@ use Rattle.air_symbolic.specs.declared.leaves.ext_leaf.ExtLeaf.{ExtLeaf}
 use Rattle.air_symbolic.specs.declared.leaves.ext_leaf.ExtLeaf.TheVariants.{Base, ExtVariable, ExtConstant}
 use Rattle.air_wire.specs.Results.{◌>>=◌}
 use Rattle.air_wire.specs.Spelling.{case_data}
-use Rattle.air_wire.specs.laws.Readings.{mapped, done, done_is, not_done, bind_ok, ok_or_found, name_ok, case_read, failed, err_is, ok_or_failed, before_done, name_failed}
+use Rattle.air_wire.specs.laws.Readings.{map_found, ok_of, done_is, not_done, bind_ok, ok_or_found, name_ok, case_read, err_of, err_is, ok_or_failed, before_done, name_failed}
 use Rattle.air_wire.specs.ExtEntries.{ext_variable_plain}
 use Rattle.air_wire.specs.laws.ExtEntries.{ext_variable_laws}
 use Rattle.air_wire.specs.Coefficients.{number_items, elements_at}
@@ -66,37 +66,37 @@ module _ {F EF : Type 0} {p : ℕ} (m : Modular F p) (r : CommRing F) (a : Algeb
 
   constant_found : (place : ℕ) (c : Data) (e : EF) → ext_constant_at m a count place c ≡ Ok e → c ≡ array (number_items m (basis.coefficients e))
   constant_found place c e h =
-      let cs = bind_ok (elements_at m count place c) (λ cs. done (a.extend cs)) e h in
+      let cs = bind_ok (elements_at m count place c) (λ cs. ok_of (a.extend cs)) e h in
       let found = elements_found m count place c cs.0 cs.1 in
       done_is (λ x. c ≡ array (number_items m (basis.coefficients x))) (a.extend cs.0) e cs.2 (found.0 ∙ ap (λ l. array (number_items m l)) (sym (extended cs.0 found.1)))
 
   constant_again : (place : ℕ) (c : Data) (e : EF) → c ≡ array (number_items m (basis.coefficients e)) → ext_constant_at m a count place c ≡ Ok e
   constant_again place c e h =
-      ap (λ q. q >>= λ cs. done (a.extend cs)) (elements_again m count place c (basis.coefficients e) h (laws.count e))
-      ∙ ap (λ x. done x) (sym (made_of e (basis.coefficients e) (laws.count e) refl))
+      ap (λ q. q >>= λ cs. ok_of (a.extend cs)) (elements_again m count place c (basis.coefficients e) h (laws.count e))
+      ∙ ap (λ x. ok_of x) (sym (made_of e (basis.coefficients e) (laws.count e) refl))
 
   ext_leaf_again : (place : ℕ) (d : Data) (l : WholeLeaf F EF) → SpellsWhole m basis d l → ext_leaf_at m a count place d ≡ Ok l
   unfolding ext_leaf_at
   ext_leaf_again place d (whole_base t) h =
-      ap (ext_leaf_at m a count place) h.1 ∙ ap (λ q. faults_at place q >>= λ t. done (whole_base t)) (root_again (base_kind m) (base_kind_laws m) h.0 t h.2)
+      ap (ext_leaf_at m a count place) h.1 ∙ ap (λ q. faults_at place q >>= λ t. ok_of (whole_base t)) (root_again (base_kind m) (base_kind_laws m) h.0 t h.2)
   ext_leaf_again place d (whole_variable v) h =
       ap (ext_leaf_at m a count place) h.1 ∙ ap (λ o. ok_or (option_map (λ w. whole_variable w) o) (faults.Shape place)) (ext_variable_laws.again h.0 v h.2)
   ext_leaf_again place d (whole_constant e) h =
-      ap (ext_leaf_at m a count place) h.1 ∙ ap (λ q. q >>= λ e. done (whole_constant e)) (constant_again place h.0 e h.2)
+      ap (ext_leaf_at m a count place) h.1 ∙ ap (λ q. q >>= λ e. ok_of (whole_constant e)) (constant_again place h.0 e h.2)
 
   with_found : (place : ℕ) (name : List ℕ) (c : Data) (l : WholeLeaf F EF) → ext_leaf_with m a count place name c ≡ Ok l → SpellsWhole m basis (case_data name c) l
   with_found place name c l h =
       let P : WholeLeaf F EF → Type 0 = SpellsWhole m basis (case_data name c) in
       name_ok P name (codes "Base") _ _ l h
       (λ same h.
-      let t = bind_ok (faults_at place (root_of (base_kind m) c)) (λ t. done (whole_base t)) l h in
+      let t = bind_ok (faults_at place (root_of (base_kind m) c)) (λ t. ok_of (whole_base t)) l h in
       done_is P (whole_base t.0) l t.2 (c, ap (λ n. case_data n c) same, root_found (base_kind m) (base_kind_laws m) c t.0 (moved_ok place (root_of (base_kind m) c) t.0 t.1)))
       (λ h. name_ok P name (codes "ExtVariable") _ _ l h
-      (λ same h. mapped P (λ v. whole_variable v) (ext_variable_plain.read c) l (ok_or_found _ _ l h)
+      (λ same h. map_found P (λ v. whole_variable v) (ext_variable_plain.read c) l (ok_or_found _ _ l h)
       (λ v at. (c, ap (λ n. case_data n c) same, ext_variable_laws.found c v at)))
       (λ h. name_ok P name (codes "ExtConstant") _ _ l h
       (λ same h.
-      let e = bind_ok (ext_constant_at m a count place c) (λ e. done (whole_constant e)) l h in
+      let e = bind_ok (ext_constant_at m a count place c) (λ e. ok_of (whole_constant e)) l h in
       done_is P (whole_constant e.0) l e.2 (c, ap (λ n. case_data n c) same, constant_found place c e.0 e.1))
       (not_done P (faults.Shape place) l)))
 
@@ -135,11 +135,11 @@ module _ {F EF : Type 0} {p : ℕ} (m : Modular F p) (r : CommRing F) (a : Algeb
   own_again : (place : ℕ) (d : Data) (f : FlatError) → OwnWholeFault m count place d f → ext_leaf_at m a count place d ≡ Err f
   unfolding ext_leaf_at
   own_again place d f (inl (c, is, (g, bad, h))) =
-      ap (ext_leaf_at m a count place) is ∙ ap (λ q. faults_at place q >>= λ t. done (whole_base t)) (root_fault_read (base_kind m) (base_kind_laws m) c g bad) ∙ ap (λ k. failed k) (sym h)
+      ap (ext_leaf_at m a count place) is ∙ ap (λ q. faults_at place q >>= λ t. ok_of (whole_base t)) (root_fault_read (base_kind m) (base_kind_laws m) c g bad) ∙ ap (λ k. err_of k) (sym h)
   own_again place d f (inr ((c, is, past), h)) =
       ap (ext_leaf_at m a count place) is
-      ∙ ap (λ (q : Result (List F) FlatError). (q >>= λ cs. done (a.extend cs)) >>= λ e. done (whole_constant e)) (elements_past m count place c past)
-      ∙ ap (λ k. failed k) (sym h)
+      ∙ ap (λ (q : Result (List F) FlatError). (q >>= λ cs. ok_of (a.extend cs)) >>= λ e. ok_of (whole_constant e)) (elements_past m count place c past)
+      ∙ ap (λ k. err_of k) (sym h)
 
   ext_leaf_written : (d : Data) (l : WholeLeaf F EF) → WritesWhole m basis d l → SpellsWhole m basis d l
   ext_leaf_written d (whole_base t) h = (h.0, h.1, written_list (base_kind m) (base_kind_laws m) h.0 t h.2)

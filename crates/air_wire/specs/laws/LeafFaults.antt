@@ -3,7 +3,7 @@ use Rattle.std.proofs.Common.{◌≡◌, ℕ, Result, Ok, Err, refl, sym, ap, �
 use Rattle.serde_json.specs.Data.{Data}
 use Rattle.air_wire.specs.declared.errors.FlatError.{FlatError}
 use Rattle.air_wire.specs.declared.errors.FlatError.TheVariants as faults
-use Rattle.air_wire.specs.laws.Readings.{failed, err_is, not_done}
+use Rattle.air_wire.specs.laws.Readings.{err_of, err_is, not_done}
 use Rattle.air_wire.specs.LeafFaults.{OwnFaultOr}
 
 module _ {S : Type 0} (spells : Data → S → Type 0) (own : ℕ → Data → FlatError → Type 0) (read : ℕ → Data → Result S FlatError)
@@ -17,7 +17,7 @@ module _ {S : Type 0} (spells : Data → S → Type 0) (own : ℕ → Data → F
       go : own place d f ⊎ (f ≡ faults.Shape place) → OwnFaultOr spells own place d f
       go (inl h) = inl h
       go (inr is) =
-          inr ((λ a h. not_done (λ _. ⊥) f a (sym e ∙ again place d a h)), (λ g h. err_is g (faults.Shape place) (sym (own_again place d g h) ∙ e ∙ ap (λ k. failed k) is)), is)
+          inr ((λ a h. not_done (λ _. ⊥) f a (sym e ∙ again place d a h)), (λ g h. err_is g (faults.Shape place) (sym (own_again place d g h) ∙ e ∙ ap (λ k. err_of k) is)), is)
 
   pub leaf_fault_again : (place : ℕ) (d : Data) (f : FlatError) → OwnFaultOr spells own place d f → read place d ≡ Err f
   leaf_fault_again place d f (inl h) = own_again place d f h
@@ -29,4 +29,4 @@ module _ {S : Type 0} (spells : Data → S → Type 0) (own : ℕ → Data → F
 
       go : (r : Result S FlatError) → read place d ≡ r → read place d ≡ Err f
       go (Ok a) e = absurd (nowhere a (found place d a e))
-      go (Err g) e = e ∙ ap (λ k. failed k) (shape g (own_found place d g e) ∙ sym is)
+      go (Err g) e = e ∙ ap (λ k. err_of k) (shape g (own_found place d g e) ∙ sym is)

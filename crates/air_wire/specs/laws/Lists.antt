@@ -10,7 +10,7 @@ use Rattle.air_symbolic.specs.Trees.{Tree}
 use Rattle.air_wire.specs.declared.errors.FlatError.{FlatError}
 use Rattle.air_wire.specs.declared.errors.FlatError.TheVariants as faults
 use Rattle.air_wire.specs.Results.{◌>>=◌, as_some, Fails, Gives}
-use Rattle.air_wire.specs.laws.Readings.{done, done_is, not_done, bind_ok, ok_or_found, failed, err_is, before_done}
+use Rattle.air_wire.specs.laws.Readings.{ok_of, done_is, not_done, bind_ok, ok_or_found, err_of, err_is, before_done}
 use Rattle.air_wire.specs.Nodes.{Kind, KindLaws, node_of_value, nodes_from, last_tree, root_of}
 use Rattle.air_wire.specs.NodeLists.{AreNodes, IsList, FirstFault, ItemsFault, HasFault}
 use Rattle.air_wire.specs.laws.Nodes.{node_found, node_again}
@@ -66,12 +66,12 @@ module _ {S F : Type 0} (kind : Kind S F) (laws : KindLaws kind) where
 
   pub nodes_again : (before : List (Tree S)) (ds : Items) (us : List (Tree S)) → AreNodes kind before ds us → nodes_from kind before ds ≡ Ok (before ++ us)
   unfolding nodes_from
-  nodes_again before no_items [] h = ap (λ v. done v) (sym (append-nil before))
+  nodes_again before no_items [] h = ap (λ v. ok_of v) (sym (append-nil before))
   nodes_again before no_items (t ∷ us) h = absurd h
   nodes_again before (item d ds) [] h = absurd h
   nodes_again before (item d ds) (t ∷ us) h =
       ap (λ r. r >>= λ t. nodes_from kind (before ++ t ∷ []) ds) (node_again kind laws before d t h.0)
-      ∙ nodes_again (before ++ t ∷ []) ds us h.1 ∙ ap (λ v. done v) (append_assoc before (t ∷ []) us)
+      ∙ nodes_again (before ++ t ∷ []) ds us h.1 ∙ ap (λ v. ok_of v) (append_assoc before (t ∷ []) us)
 
   pub fault_found : (before : List (Tree S)) (ds : Items) (f : FlatError) → nodes_from kind before ds ≡ Err f → FirstFault kind before ds f
   unfolding nodes_from
@@ -83,7 +83,7 @@ module _ {S F : Type 0} (kind : Kind S F) (laws : KindLaws kind) where
           → (r : Result (Tree S) FlatError) → node_of_value kind before d ≡ r
           → (r >>= λ t. nodes_from kind (before ++ t ∷ []) ds) ≡ Err f → FirstFault kind before (item d ds) f
       at_node later (Ok t) is e = inr (t, node_found kind laws before d t is, later t e)
-      at_node later (Err g) is e = inl (node_fault kind laws before d f (is ∙ ap (λ h. failed h) (err_is {A = List (Tree S)} g f e)))
+      at_node later (Err g) is e = inl (node_fault kind laws before d f (is ∙ ap (λ h. err_of h) (err_is {A = List (Tree S)} g f e)))
 
   pub fault_read : (before : List (Tree S)) (ds : Items) (f : FlatError) → FirstFault kind before ds f → nodes_from kind before ds ≡ Err f
   unfolding nodes_from
@@ -103,7 +103,7 @@ module _ {S F : Type 0} (kind : Kind S F) (laws : KindLaws kind) where
   root_found d o e =
       let ds = bind_ok (ok_or (as_array d) (faults.Shape 0)) after o e in
       let ts = bind_ok (nodes_from kind [] ds.0) (λ ts. as_some (last_tree ts)) o ds.2 in
-      let t = bind_ok (last_tree ts.0) (λ t. done (Some t)) o ts.2 in
+      let t = bind_ok (last_tree ts.0) (λ t. ok_of (Some t)) o ts.2 in
       let us = nodes_found [] ds.0 ts.0 ts.1 in
       let last = last_split us.0 t.0 (ap last_tree (sym us.1) ∙ t.1) in
       record {
@@ -121,7 +121,7 @@ module _ {S F : Type 0} (kind : Kind S F) (laws : KindLaws kind) where
       ap whole h.is
       ∙ ap (λ r. r >>= λ ts. as_some (last_tree ts)) (nodes_again [] h.items (h.before ++ h.root ∷ []) h.nodes)
       ∙ ap (λ r. as_some r) (last_of_push h.before h.root)
-      ∙ ap (λ v. done v) (sym h.tree)
+      ∙ ap (λ v. ok_of v) (sym h.tree)
 
   items_fault : (ds : Items) (r : Result (List (Tree S)) FlatError) (f : FlatError) → nodes_from kind [] ds ≡ r → (r >>= λ ts. as_some (last_tree ts)) ≡ Err f → ItemsFault kind ds f
   unfolding nodes_from last_tree
@@ -133,7 +133,7 @@ module _ {S F : Type 0} (kind : Kind S F) (laws : KindLaws kind) where
       found : (us : List (Tree S)) × (ts ≡ [] ++ us) × AreNodes kind [] (item d ds) us → ⊥
       found ([], same, h) = h
       found (u ∷ us, same, h) = last_there u us f (ap last_tree (sym same) ∙ before_done (last_tree ts) (λ t. Some t) f e)
-  items_fault (item d ds) (Err g) f is e = fault_found [] (item d ds) f (is ∙ ap (λ h. failed h) (err_is g f e))
+  items_fault (item d ds) (Err g) f is e = fault_found [] (item d ds) f (is ∙ ap (λ h. err_of h) (err_is g f e))
 
   pub root_fault : (d : Data) (f : FlatError) → root_of kind d ≡ Err f → HasFault kind d f
   unfolding root_of
@@ -145,12 +145,12 @@ module _ {S F : Type 0} (kind : Kind S F) (laws : KindLaws kind) where
 
   items_fault_read : (ds : Items) (f : FlatError) → ItemsFault kind ds f → after ds ≡ Err f
   unfolding nodes_from last_tree
-  items_fault_read no_items f h = ap (λ g. failed g) (sym h)
+  items_fault_read no_items f h = ap (λ g. err_of g) (sym h)
   items_fault_read (item d ds) f h = ap (λ r. r >>= λ ts. as_some (last_tree ts)) (fault_read [] (item d ds) f h)
 
   pub root_fault_read : (d : Data) (f : FlatError) → HasFault kind d f → root_of kind d ≡ Err f
   unfolding root_of
-  root_fault_read d f (inl h) = ap whole h.0 ∙ ap (λ g. failed g) (sym h.1)
+  root_fault_read d f (inl h) = ap whole h.0 ∙ ap (λ g. err_of g) (sym h.1)
   root_fault_read d f (inr h) = ap whole h.1 ∙ items_fault_read h.0 f h.2
 
   -- ---- what follows

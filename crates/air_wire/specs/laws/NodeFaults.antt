@@ -13,7 +13,7 @@ use Rattle.air_wire.specs.declared.errors.FlatError.TheVariants as faults
 use Rattle.air_wire.specs.Parts.{only_member, find_name, case_or}
 use Rattle.air_wire.specs.Results.{◌>>=◌}
 use Rattle.air_wire.specs.Spelling.{case_data}
-use Rattle.air_wire.specs.laws.Readings.{done, by_name, none_found, named, mapped, then_found, field_found, field_read, case_read, failed, err_is, before_done}
+use Rattle.air_wire.specs.laws.Readings.{ok_of, by_name, none_found, by_some, map_found, then_found, field_found, field_read, case_read, err_of, err_is, before_done}
 use Rattle.air_wire.specs.Unshared.{degree}
 use Rattle.air_wire.specs.Nodes.{Kind, KindLaws, operand_of, operand, check_degree, operations, operands_of, joined_degree, joined_tree, operands_at, operation_or, leaf_node_at, node_with, node_of_value}
 use Rattle.air_wire.specs.laws.Nodes.{operation_name, named_operation, places_found, places_read}
@@ -57,9 +57,9 @@ raw_found d m e =
     (λ name c e.
     let P : Raw → Type 0 = SpellsRaw (case_data name c) in
     by_name P name (codes "Leaf") _ _ m e
-    (λ same. named P (raw_leaf c) m (ap (λ n. case_data n c) same))
+    (λ same. by_some P (raw_leaf c) m (ap (λ n. case_data n c) same))
     (λ e. then_found (P m) (λ op. option_map (λ p. raw op p) (operands_of op c)) (find_name operations name) m e
-    (λ op is e. mapped P (λ p. raw op p) (operands_of op c) m e (λ p at. (c, ap (λ n. case_data n c) (named_operation name op is), at)))))
+    (λ op is e. map_found P (λ p. raw op p) (operands_of op c) m e (λ p at. (c, ap (λ n. case_data n c) (named_operation name op is), at)))))
 
 -- what is read so has a form
 operation_spelt : (op : Operation) (d c : Data) (p : ℕ × ℕ × ℕ) → d ≡ case_data (operation_name op) c → operands_of op c ≡ Some p → (m : Form) × SpellsForm d m
@@ -114,7 +114,7 @@ module _ {S F : Type 0} (kind : Kind S F) (laws : KindLaws kind) (before : List 
 
   abbrev raw_at : Raw → Result (Tree S) FlatError
   raw_at (raw_leaf c) = leaf_node_at kind (length before) c
-  raw_at (raw op p) = operands op p >>= λ q. done (joined_tree op q.0 q.1)
+  raw_at (raw op p) = operands op p >>= λ q. ok_of (joined_tree op q.0 q.1)
 
   abbrev by_raw : Option Raw → Result (Tree S) FlatError
   by_raw None = Err (faults.Shape (length before))
@@ -124,7 +124,7 @@ module _ {S F : Type 0} (kind : Kind S F) (laws : KindLaws kind) (before : List 
   either true x y o p h k = h
   either false x y o p h k = k
 
-  places_by : (op : Operation) (o : Option (ℕ × ℕ × ℕ)) → ((ok_or o (faults.Shape (length before)) >>= λ p. operands op p) >>= λ q. done (joined_tree op q.0 q.1)) ≡ by_raw (option_map (λ p. raw op p) o)
+  places_by : (op : Operation) (o : Option (ℕ × ℕ × ℕ)) → ((ok_or o (faults.Shape (length before)) >>= λ p. operands op p) >>= λ q. ok_of (joined_tree op q.0 q.1)) ≡ by_raw (option_map (λ p. raw op p) o)
   places_by op None = refl
   places_by op (Some p) = refl
 
@@ -219,11 +219,11 @@ module _ {S F : Type 0} (kind : Kind S F) (laws : KindLaws kind) (before : List 
 
   stated_wrong : {X : Type 0} (n found : ℕ) (t : X) (f : FlatError) → IsMisstated before n found f → check_degree (length before) n found t ≡ Err f
   stated_wrong n found t f h =
-      ap (λ b. if b then Ok t else Err (faults.WrongDegree (length before) n found)) (test_of_unlike n found h.0) ∙ ap (λ g. failed g) (sym h.1)
+      ap (λ b. if b then Ok t else Err (faults.WrongDegree (length before) n found)) (test_of_unlike n found h.0) ∙ ap (λ g. err_of g) (sym h.1)
 
   operand_late : (i : ℕ) (f : FlatError) → IsLate before i f → operand before i ≡ Err f
   unfolding operand
-  operand_late i f h = ap (operand_of (length before) i) (past before i h.0) ∙ ap (λ g. failed g) (sym h.1)
+  operand_late i f h = ap (operand_of (length before) i) (past before i h.0) ∙ ap (λ g. err_of g) (sym h.1)
 
   operand_there : (i : ℕ) (t : Tree S) → IsTreeAt before i t → operand before i ≡ Ok t
   unfolding operand
@@ -244,7 +244,7 @@ module _ {S F : Type 0} (kind : Kind S F) (laws : KindLaws kind) (before : List 
   product_fails : (n : ℕ) (t u : Tree S) (f : FlatError) → ProductFault kind before n t u f → step Mul n t u ≡ Err f
   product_fails n t u f (inl (big, is)) =
       ap (λ b. (if b then Ok (degree kind.term t + degree kind.term u) else Err faults.DegreeOverflow) >>= λ s. check_degree (length before) n s (both t u)) (le-ltb (degree kind.term t + degree kind.term u) (2 ^ 64) big)
-      ∙ ap (λ g. failed g) (sym is)
+      ∙ ap (λ g. err_of g) (sym is)
   product_fails n t u f (inr (small, wrong)) =
       ap (λ b. (if b then Ok (degree kind.term t + degree kind.term u) else Err faults.DegreeOverflow) >>= λ s. check_degree (length before) n s (both t u)) (lt-ltb (degree kind.term t + degree kind.term u) (2 ^ 64) small)
       ∙ stated_wrong n (degree kind.term t + degree kind.term u) (both t u) f wrong
@@ -258,10 +258,10 @@ module _ {S F : Type 0} (kind : Kind S F) (laws : KindLaws kind) (before : List 
       ∙ stated_wrong n (degree kind.term t) (both t t) f wrong
 
   abbrev joins : Operation → Result (Tree S × Tree S) FlatError → Result (Tree S) FlatError
-  joins op r = r >>= λ q. done (joined_tree op q.0 q.1)
+  joins op r = r >>= λ q. ok_of (joined_tree op q.0 q.1)
 
   form_fails : (m : Form) (f : FlatError) → FormFault kind before m f → raw_at (raw_form m) ≡ Err f
-  form_fails (leaf_form c) f h = ap (λ (r : Result S FlatError). r >>= λ a. done (leaf_tree a)) (laws.fault_again (length before) c f h)
+  form_fails (leaf_form c) f h = ap (λ (r : Result S FlatError). r >>= λ a. ok_of (leaf_tree a)) (laws.fault_again (length before) c f h)
   form_fails (add_form n x y) f h =
       ap (joins Add) (operands_fail x y (step Add n) (SumFault kind before n) (λ t u g. stated_wrong n (max (degree kind.term t) (degree kind.term u)) (both t u) g) f h)
   form_fails (sub_form n x y) f h =
@@ -274,6 +274,6 @@ module _ {S F : Type 0} (kind : Kind S F) (laws : KindLaws kind) (before : List 
   node_fails d f (inl (nowhere, is)) = case_by (only_member d) ∙ go (raw_of d) refl
     where
       go : (o : Option Raw) → raw_of d ≡ o → by_raw o ≡ Err f
-      go None e = ap (λ g. failed g) (sym is)
+      go None e = ap (λ g. err_of g) (sym is)
       go (Some m) e = absurd (let w = raw_spelt d m (raw_found d m e) in nowhere w.0 w.1)
   node_fails d f (inr (m, spelt, bad)) = case_by (only_member d) ∙ ap by_raw (raw_again d m spelt) ∙ form_fails m f bad

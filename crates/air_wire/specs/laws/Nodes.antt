@@ -8,7 +8,7 @@ use Rattle.air_symbolic.specs.Trees.{Tree, leaf_tree, add_tree, sub_tree, neg_tr
 use Rattle.air_wire.specs.declared.errors.FlatError.TheVariants as faults
 use Rattle.air_wire.specs.Results.{◌>>=◌}
 use Rattle.air_wire.specs.Spelling.{case_data, HasWhole}
-use Rattle.air_wire.specs.laws.Readings.{three_found, name_found, field_found, field_read, done, done_is, not_done, bind_ok, bind_then, ok_or_found, test_ok, name_ok, case_read}
+use Rattle.air_wire.specs.laws.Readings.{three_found, name_found, field_found, field_read, ok_of, done_is, not_done, bind_ok, bind_then, ok_or_found, test_ok, name_ok, case_read}
 use Rattle.air_wire.specs.Unshared.{degree}
 use Rattle.air_wire.specs.Nodes.{Kind, KindLaws, operand_of, operand, check_degree, operations, second_of, operands_of, joined_degree, joined_tree, operands_at, operation_or, node_with, node_of_value}
 use Rattle.air_wire.specs.Parts.{find_name}
@@ -71,7 +71,7 @@ product_found a b n e =
 product_read : (a b : ℕ) → a + b < 2 ^ 64 → joined_degree Mul a b ≡ Ok (a + b)
 product_read a b h = ap (λ t. if t then Ok (a + b) else Err faults.DegreeOverflow) (lt-ltb (a + b) (2 ^ 64) h)
 
-done_back : {A : Type 0} (P : A → Type 0) (x z : A) → done x ≡ done z → P z → P x
+done_back : {A : Type 0} (P : A → Type 0) (x z : A) → ok_of x ≡ ok_of z → P z → P x
 done_back P x z e h = done_is P z x (sym e) h
 
 module _ {S F : Type 0} (kind : Kind S F) (before : List (Tree S)) where
@@ -97,7 +97,7 @@ module _ {S F : Type 0} (kind : Kind S F) (before : List (Tree S)) where
         ok_or_found (operands_of op c) (faults.Shape (length before)) p p_is,
         operand_found before p.1 t t_is,
         operand_found before p.2 u u_is,
-        subst (λ k. joined_degree op (degree kind.term t) (degree kind.term u) ≡ done k) (sym s.0) n_is,
+        subst (λ k. joined_degree op (degree kind.term t) (degree kind.term u) ≡ ok_of k) (sym s.0) n_is,
       )))))
 
   operands_read : (op : Operation) (c : Data) (t u : Tree S) → AreOperands op c (t, u) → operands_at (degree kind.term) before op c ≡ Ok (t, u)
@@ -141,14 +141,14 @@ module _ {S F : Type 0} (kind : Kind S F) (laws : KindLaws kind) (before : List 
       let P : Tree S → Type 0 = SpellsNode kind before (case_data name c) in
       name_ok P name (codes "Leaf") _ _ t e
       (λ same e.
-      let a = bind_ok (kind.leaf_at (length before) c) (λ a. done (leaf_tree a)) t e in
+      let a = bind_ok (kind.leaf_at (length before) c) (λ a. ok_of (leaf_tree a)) t e in
       done_is P (leaf_tree a.0) t a.2 (c, ap (λ n. case_data n c) same, laws.found (length before) c a.0 a.1))
       (λ e. at_operation (find_name operations name) refl e)
     where
       at_operation : (o : Option Operation) → find_name operations name ≡ o → operation_or kind before o c ≡ Ok t → SpellsNode kind before (case_data name c) t
       at_operation None is e = not_done (SpellsNode kind before (case_data name c)) (faults.Shape (length before)) t e
       at_operation (Some op) is e =
-          let q = bind_ok (operands_at (degree kind.term) before op c) (λ q. done (joined_tree op q.0 q.1)) t e in
+          let q = bind_ok (operands_at (degree kind.term) before op c) (λ q. ok_of (joined_tree op q.0 q.1)) t e in
           done_is (SpellsNode kind before (case_data name c)) (joined_tree op q.0.0 q.0.1) t q.2
           (subst (λ s. SpellsNode kind before (case_data s c) (joined_tree op q.0.0 q.0.1)) (sym (named_operation name op is)) (operation_found kind before op c q.0 q.1))
 
@@ -161,15 +161,15 @@ module _ {S F : Type 0} (kind : Kind S F) (laws : KindLaws kind) (before : List 
   pub node_again : (d : Data) (t : Tree S) → SpellsNode kind before d t → node_of_value kind before d ≡ Ok t
   unfolding node_of_value
   node_again d (leaf_tree a) h =
-      ap (node_of_value kind before) h.1 ∙ ap (λ r. r >>= λ a. done (leaf_tree a)) (laws.again (length before) h.0 a h.2)
-  node_again d (add_tree t u) h = ap (node_of_value kind before) h.1 ∙ ap (λ r. r >>= λ q. done (add_tree q.0 q.1)) (two_read kind before Add h.0 t u _ (λ y. field_read (codes "y") h.0 y) refl h.2)
-  node_again d (sub_tree t u) h = ap (node_of_value kind before) h.1 ∙ ap (λ r. r >>= λ q. done (sub_tree q.0 q.1)) (two_read kind before Sub h.0 t u _ (λ y. field_read (codes "y") h.0 y) refl h.2)
+      ap (node_of_value kind before) h.1 ∙ ap (λ r. r >>= λ a. ok_of (leaf_tree a)) (laws.again (length before) h.0 a h.2)
+  node_again d (add_tree t u) h = ap (node_of_value kind before) h.1 ∙ ap (λ r. r >>= λ q. ok_of (add_tree q.0 q.1)) (two_read kind before Add h.0 t u _ (λ y. field_read (codes "y") h.0 y) refl h.2)
+  node_again d (sub_tree t u) h = ap (node_of_value kind before) h.1 ∙ ap (λ r. r >>= λ q. ok_of (sub_tree q.0 q.1)) (two_read kind before Sub h.0 t u _ (λ y. field_read (codes "y") h.0 y) refl h.2)
   node_again d (mul_tree t u) h =
       ap (node_of_value kind before) h.0.1
-      ∙ ap (λ r. r >>= λ q. done (mul_tree q.0 q.1)) (two_read kind before Mul h.0.0 t u _ (λ y. field_read (codes "y") h.0.0 y) (product_read (degree kind.term t) (degree kind.term u) h.1) h.0.2)
+      ∙ ap (λ r. r >>= λ q. ok_of (mul_tree q.0 q.1)) (two_read kind before Mul h.0.0 t u _ (λ y. field_read (codes "y") h.0.0 y) (product_read (degree kind.term t) (degree kind.term u) h.1) h.0.2)
   node_again d (neg_tree t) h =
       ap (node_of_value kind before) h.1
-      ∙ ap (λ r. r >>= λ q. done (neg_tree q.0))
+      ∙ ap (λ r. r >>= λ q. ok_of (neg_tree q.0))
       (operands_read kind before Neg h.0 t t (
         (degree kind.term t, h.2.1.0, h.2.1.0),
         places_read Neg h.0 (degree kind.term t) h.2.1.0 h.2.1.0 h.2.0 h.2.1.1 (field_read (codes "x") h.0 h.2.1.0 h.2.1.1),

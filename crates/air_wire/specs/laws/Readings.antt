@@ -23,12 +23,12 @@ by_name P s t x y z e p q = by_test P (bytes_eq s t) x y z e (λ b. p ((bytes_eq
 pub none_found : {A : Type 0} (P : A → Type 0) (z : A) → None ≡ Some z → P z
 none_found P z e = absurd cc
 
-pub named : {A : Type 0} (P : A → Type 0) (x z : A) → P x → Some x ≡ Some z → P z
-named P x z h e = subst P (some_is x z e) h
+pub by_some : {A : Type 0} (P : A → Type 0) (x z : A) → P x → Some x ≡ Some z → P z
+by_some P x z h e = subst P (some_is x z e) h
 
-pub mapped : {A B : Type 0} (P : B → Type 0) (f : A → B) (o : Option A) (z : B) → option_map f o ≡ Some z → ((a : A) → o ≡ Some a → P (f a)) → P z
-mapped P f None z e h = absurd cc
-mapped P f (Some a) z e h = subst P (some_is (f a) z e) (h a refl)
+pub map_found : {A B : Type 0} (P : B → Type 0) (f : A → B) (o : Option A) (z : B) → option_map f o ≡ Some z → ((a : A) → o ≡ Some a → P (f a)) → P z
+map_found P f None z e h = absurd cc
+map_found P f (Some a) z e h = subst P (some_is (f a) z e) (h a refl)
 
 -- a whole number, as a value and as a field
 whole_found : (o : Option Data) (n : ℕ) → option_and_then whole o ≡ Some n → o ≡ Some (number_data n)
@@ -53,14 +53,14 @@ field_read name d n h = ap (option_and_then whole) h
 pub both_found : {A B C : Type 0} (P : C → Type 0) (make : A → B → C) (x : Option A) (y : Option B) (z : C) → all_two make x y ≡ Some z → ((a : A) (b : B) → x ≡ Some a → y ≡ Some b → P (make a b)) → P z
 both_found P make None y z e h = none_found P z e
 both_found P make (Some a) None z e h = none_found P z e
-both_found P make (Some a) (Some b) z e h = named P (make a b) z (h a b refl refl) e
+both_found P make (Some a) (Some b) z e h = by_some P (make a b) z (h a b refl refl) e
 
 pub three_found : {A B C D : Type 0} (P : D → Type 0) (make : A → B → C → D) (x : Option A) (y : Option B) (o : Option C) (z : D)
     → all_three make x y o ≡ Some z → ((a : A) (b : B) (c : C) → x ≡ Some a → y ≡ Some b → o ≡ Some c → P (make a b c)) → P z
 three_found P make None y o z e h = none_found P z e
 three_found P make (Some a) None o z e h = none_found P z e
 three_found P make (Some a) (Some b) None z e h = none_found P z e
-three_found P make (Some a) (Some b) (Some c) z e h = named P (make a b c) z (h a b c refl refl refl) e
+three_found P make (Some a) (Some b) (Some c) z e h = by_some P (make a b c) z (h a b c refl refl refl) e
 
 pub then_found : {A B : Type 0} (P : Type 0) (f : A → Option B) (o : Option A) (z : B) → option_and_then f o ≡ Some z → ((a : A) → o ≡ Some a → f a ≡ Some z → P) → P
 then_found P f None z e h = none_found (λ _. P) z e
@@ -85,20 +85,20 @@ pub name_found : {A : Type 0} (P : List ℕ → A → Type 0) (rows : List (List
 name_found P [] s z e h = none_found (P s) z e
 name_found P (row ∷ rows) s z e h =
     by_name (P s) s row.0 (Some row.1) (find_name rows s) z e
-    (λ same e. subst (λ t. P t z) (sym same) (named (P row.0) row.1 z h.0 e)) (λ e. name_found P rows s z e h.1)
+    (λ same e. subst (λ t. P t z) (sym same) (by_some (P row.0) row.1 z h.0 e)) (λ e. name_found P rows s z e h.1)
 
 -- ---- results
 
-abbrev pub done : {A : Type 0} → A → Result A FlatError
-done x = Ok x
+abbrev pub ok_of : {A : Type 0} → A → Result A FlatError
+ok_of x = Ok x
 
-pub done_is : {A : Type 0} (P : A → Type 0) (x z : A) → done x ≡ done z → P x → P z
+pub done_is : {A : Type 0} (P : A → Type 0) (x z : A) → ok_of x ≡ ok_of z → P x → P z
 done_is {A} P x z e h = subst P (same x z e) h
   where
-    same : (x z : A) → done x ≡ done z → x ≡ z
+    same : (x z : A) → ok_of x ≡ ok_of z → x ≡ z
     same x z e = cc
 
-pub not_done : {A : Type 0} (P : A → Type 0) (f : FlatError) (z : A) → Err f ≡ done z → P z
+pub not_done : {A : Type 0} (P : A → Type 0) (f : FlatError) (z : A) → Err f ≡ ok_of z → P z
 not_done P f z e = absurd cc
 
 pub bind_ok : {A B : Type 0} (r : Result A FlatError) (f : A → Result B FlatError) (y : B) → (r >>= f) ≡ Ok y → (x : A) × (r ≡ Ok x) × (f x ≡ Ok y)
@@ -122,26 +122,26 @@ name_ok P s t x y z e p q = test_ok P (bytes_eq s t) x y z e (λ b. p ((bytes_eq
 
 -- ---- faults
 
-abbrev pub failed : {A : Type 0} → FlatError → Result A FlatError
-failed f = Err f
+abbrev pub err_of : {A : Type 0} → FlatError → Result A FlatError
+err_of f = Err f
 
-pub err_is : {A : Type 0} (f g : FlatError) → failed {A = A} f ≡ failed g → f ≡ g
+pub err_is : {A : Type 0} (f g : FlatError) → err_of {A = A} f ≡ err_of g → f ≡ g
 err_is f g e = cc
 
-pub not_failed : {A : Type 0} (P : Type 0) (a : A) (f : FlatError) → done a ≡ failed f → P
+pub not_failed : {A : Type 0} (P : Type 0) (a : A) (f : FlatError) → ok_of a ≡ err_of f → P
 not_failed P a f e = absurd cc
 
 pub ok_or_failed : {A : Type 0} (o : Option A) (g f : FlatError) → ok_or o g ≡ Err f → f ≡ g
 ok_or_failed {A} None g f e = sym (err_is {A = A} g f e)
 ok_or_failed (Some a) g f e = absurd cc
 
-pub before_done : {A B : Type 0} (r : Result A FlatError) (h : A → B) (f : FlatError) → (r >>= λ a. done (h a)) ≡ Err f → r ≡ Err f
+pub before_done : {A B : Type 0} (r : Result A FlatError) (h : A → B) (f : FlatError) → (r >>= λ a. ok_of (h a)) ≡ Err f → r ≡ Err f
 before_done (Ok a) h f e = absurd cc
-before_done {A} {B} (Err g) h f e = ap (λ k. failed k) (err_is {A = B} g f e)
+before_done {A} {B} (Err g) h f e = ap (λ k. err_of k) (err_is {A = B} g f e)
 
 pub bind_failed : {A B : Type 0} (P : Type 0) (r : Result A FlatError) (k : A → Result B FlatError) (f : FlatError) → (r >>= k) ≡ Err f → (r ≡ Err f → P) → ((x : A) → r ≡ Ok x → k x ≡ Err f → P) → P
 bind_failed P (Ok x) k f e p q = q x refl e
-bind_failed {A} {B} P (Err g) k f e p q = p (ap (λ h. failed h) (err_is {A = B} g f e))
+bind_failed {A} {B} P (Err g) k f e p q = p (ap (λ h. err_of h) (err_is {A = B} g f e))
 
 -- one of the two ways of a test, or of a comparison of names, failed
 pub test_failed : {A : Type 0} (P : Type 0) (b : Bool) (x y : Result A FlatError) (f : FlatError) → if b then x else y ≡ Err f → (b ≡ true → x ≡ Err f → P) → (b ≡ false → y ≡ Err f → P) → P

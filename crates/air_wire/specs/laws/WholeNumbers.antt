@@ -4,7 +4,7 @@ use Rattle.std.proofs.Common.{ap, ap₂, ◌∙◌}
 use Rattle.serde_json.specs.Data.{Data, null, boolean, number, string, array, object, Items, no_items, item}
 use Rattle.serde_json.specs.Find.{get, as_array}
 use Rattle.air_wire.specs.Parts.{whole}
-use Rattle.air_wire.specs.laws.Readings.{none_found, named, number_found}
+use Rattle.air_wire.specs.laws.Readings.{none_found, by_some, number_found}
 use Rattle.air_wire.specs.Coefficients.{wholes}
 use Rattle.air_wire.specs.WholeNumbers.{whole_items, wholes_data, HasWholes, wholes_at}
 
@@ -21,11 +21,11 @@ items_found_of : (d : Data) (ds : Items) (o : Option ℕ) (p : Option (List ℕ)
 items_found_of d ds None p ns later is e = none_found (ItemsAre (item d ds)) ns e
 items_found_of d ds (Some n) None ns later is e = none_found (ItemsAre (item d ds)) ns e
 items_found_of d ds (Some n) (Some ms) ns later is e =
-    named (ItemsAre (item d ds)) (n ∷ ms) ns (ap₂ (λ x xs. item x xs) (number_found d n is) (later ms refl)) e
+    by_some (ItemsAre (item d ds)) (n ∷ ms) ns (ap₂ (λ x xs. item x xs) (number_found d n is) (later ms refl)) e
 
 pub whole_items_found : (ds : Items) (ns : List ℕ) → wholes ds ≡ Some ns → ItemsAre ds ns
 unfolding wholes
-whole_items_found no_items ns e = named (ItemsAre no_items) [] ns refl e
+whole_items_found no_items ns e = by_some (ItemsAre no_items) [] ns refl e
 whole_items_found (item d ds) ns e = items_found_of d ds (whole d) (wholes ds) ns (whole_items_found ds) refl e
 
 abbrev Holds : Option Data → List ℕ → Type 0

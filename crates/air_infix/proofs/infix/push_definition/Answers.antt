@@ -1,6 +1,6 @@
 use Rattle.std.proofs.Common.{◌≡◌, ℕ, ◌++◌, [], get_or, None, string_bytes, append-nil, sym, ap, ap₂, ◌∙◌}
 use Rattle.std.proofs.lemmas.Result.{on_ok_weaker}
-use Rattle.air_infix.specs.Infix.{shown, shown_at, shown_node, infix_text}
+use Rattle.air_infix.specs.Infix.{shown_number, shown_at, shown_node, infix_text}
 use Rattle.air_infix.specs.Pieces.{rest_text, node_rest}
 use Rattle.air_infix.specs.declared.binding.Binding.TheVariants.{Loose}
 use Rattle.air_infix.proofs.PieceLemmas.{left-text}
@@ -12,7 +12,7 @@ returns g c =
     let m = g.F.PrimeField64.residues in
     let ns = c.args.pool.now.nodes in
     let named = λ (i : ℕ). get_or c.args.names.now.1 i None in
-    let f = shown named ns in
+    let f = shown_number named ns in
     let n = c.node.result.now in
     let old = string_bytes c.args.text.now in
     let node : shown_at named ns c.args.id ≡ shown_node f n = shown_at-node named _ ns c.args.id n c.node.ensures in

@@ -1,5 +1,5 @@
 use Rattle.std.proofs.Common.{◌≡◌, ℕ, ◌+◌, ◌<◌, ◌++◌, length, get_or, None, All, string_bytes, sym, ap, ap₂, subst, ◌∙◌, arith}
-use Rattle.air_infix.specs.Infix.{shown, shown_node, infix_text}
+use Rattle.air_infix.specs.Infix.{shown_number, shown_node, infix_text}
 use Rattle.air_infix.specs.Pieces.{rest_text, rest_size, piece_text, piece_size, shown_size, IsPieceBelow}
 use Rattle.air_infix.proofs.PieceLemmas.{on_both, left-text, left-size, left-below}
 use Rattle.air_infix.proofs.ShownLemmas.{unnamed, below-more}
@@ -10,7 +10,7 @@ returns-in-None-clause-text g c =
     let m = g.F.PrimeField64.residues in
     let ns = c.args.pool.now.nodes in
     let named = λ (i : ℕ). get_or c.args.names.now.1 i None in
-    let f = shown named ns in
+    let f = shown_number named ns in
     let id = c.in-Operand.id in
     let within = c.in-Operand.within in
     let n = c.node.result.now in
@@ -41,7 +41,7 @@ pub returns-in-None-clause-size : goal.returns-in-None-clause-size
 returns-in-None-clause-size g c =
     let ns = c.args.pool.now.nodes in
     let named = λ (i : ℕ). get_or c.args.names.now.1 i None in
-    let f = shown named ns in
+    let f = shown_number named ns in
     let id = c.in-Operand.id in
     let n = c.node.result.now in
     let here : id < length ns = subst (λ q. IsPieceBelow (length ns) q) c.in-Operand.is c.requires.here in

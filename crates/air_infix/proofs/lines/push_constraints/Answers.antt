@@ -2,7 +2,7 @@ use Rattle.std.proofs.Common.{◌≡◌, ◌++◌, get_or, None, codes, decimal,
 use Rattle.air_field.specs.Degree.{degree_by, cached_weight}
 use Rattle.air_symbolic.specs.BaseLeaves.{base_reads}
 use Rattle.air_symbolic.specs.Pools.{term_at}
-use Rattle.air_infix.specs.Infix.{shown, infix_text}
+use Rattle.air_infix.specs.Infix.{shown_number, infix_text}
 use Rattle.air_infix.specs.Lines.{constraint_line}
 use Rattle.air_infix.specs.declared.binding.Binding.TheVariants.{Loose}
 use Rattle.air_infix.proofs.LineLemmas.{line-more, line-all, constraint-pieces}
@@ -15,7 +15,7 @@ loop-place-preserved g c =
     let k = c.loop-place.place-counter in
     let root = c.index-roots-place.result in
     let old = string_bytes c.loop-place.text in
-    let text = infix_text m Loose (shown (λ i. get_or c.args.names.now.1 i None) c.args.pool.now.nodes root) in
+    let text = infix_text m Loose (shown_number (λ i. get_or c.args.names.now.1 i None) c.args.pool.now.nodes root) in
     let degree = degree_by cached_weight (term_at base_reads c.args.pool.now root) in
     let written : string_bytes c.push_str.new.self ≡ old ++ (line k root ++ codes "\n") =
     c.in_ok-push_str.ensures.bytes

@@ -1,5 +1,5 @@
-use Rattle.air_builder.specs.laws.LabelGrowth.{discarded}
+use Rattle.air_builder.specs.laws.LabelGrowth.{no_label_asked}
 use Rattle.air_recording.proofs.symbolic.named.SymbolicAirBuilderNamedExtensionBuilder.assert_zero_ext_named.Goals as goal
 
 pub returns-clause-label : goal.returns-clause-label
-returns-clause-label g c = discarded c.assert_zero_ext.result c.assert_zero_ext.ensures
+returns-clause-label g c = no_label_asked c.assert_zero_ext.result c.assert_zero_ext.ensures
