@@ -1,6 +1,6 @@
 -- What holds of the first elements of a list.
-use Rattle.std.specs.Prelude.{ℕ, ◌<◌, List, slice_index_or}
+use Rattle.std.specs.Prelude.{ℕ, ◌<◌, List, HoldsAt}
 
--- P holds of each of the first n elements, told its place
+-- P k holds of the element at k, for each k below n
 abbrev pub EachOfFirst : {X : Type 0} → (ℕ → X → Type 0) → List X → ℕ → Type 0
-EachOfFirst {X} P xs n = (k : ℕ) (d : X) → k < n → P k (slice_index_or xs k d)
+EachOfFirst P xs n = (k : ℕ) → k < n → HoldsAt (P k) xs k

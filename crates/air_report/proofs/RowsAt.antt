@@ -114,7 +114,7 @@ none_empty : {F : Type 0} (g : Instance F) (columns : List (Vec F Global)) → c
 none_empty g [] e f index h = omega (arith, h.within)
 none_empty g (c ∷ cs) e f index h =
     let lt : index < length g.air.periodic = subst (λ l. index < length l) e h.within in
-    let fit = f.periods_fit index c lt in
+    let fit = f.periods_fit index lt c in
     let zero_long : length (slice_index_or g.air.periodic index c).items ≡ 0 = subst (λ l. length (slice_index_or l index c).items ≡ 0) e (h.is_empty c) in
     no_empty_power fit.0.0 (sym zero_long ∙ fit.0.1)
 

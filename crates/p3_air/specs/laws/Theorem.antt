@@ -196,12 +196,12 @@ module _ {F : Type 0} where
       elim (slice_get_cases columns k).1 [
         | inl found ↦
             let v = found.0 in
-            subst (IsPeriodOf h) (sym (get_or-take n (periods_of columns) k d below ∙ get_or-map period_of columns k v d inside)) (fit k v below)
+            subst (IsPeriodOf h) (sym (get_or-take n (periods_of columns) k d below ∙ get_or-map period_of columns k v d inside)) (fit k below v)
         | inr past ↦ absurd (omega (arith, inside, past.0))
       ]
 
   periods_back : (columns : List (Vec F Global)) (h n : ℕ) → n ≤ length columns → All (IsPeriodOf h) (take n (periods_of columns)) → PeriodsFitBelow columns h n
-  periods_back columns h n within fit k v below =
+  periods_back columns h n within fit k below v =
       let inside : k < length columns = omega (arith, below, within) in
       subst (IsPeriodOf h) (get_or-take n (periods_of columns) k (period_of v) below ∙ get_or-map period_of columns k v (period_of v) inside)
       (fit k (period_of v) (omega (arith, below, within, length-take n (periods_of columns), length-map columns period_of)))
@@ -284,11 +284,11 @@ module _ {F : Type 0} (x : Instance F) where
 module _ {F : Type 0} (x : Instance F) where
   pub proper_below : (n : ℕ) → AreSoundBelow x.main.width (length x.public) x.air.cells n → AreProperBelow x n
   proper_below n h k cell below is =
-      let s : IsSoundCell x.main.width (length x.public) (take k x.air.cells) cell = subst (IsSoundCell x.main.width (length x.public) (take k x.air.cells)) (get_or_from_slice_get x.air.cells k cell cell is) (h k cell below) in
+      let s : IsSoundCell x.main.width (length x.public) (take k x.air.cells) cell = subst (IsSoundCell x.main.width (length x.public) (take k x.air.cells)) (get_or_from_slice_get x.air.cells k cell cell is) (h k below cell) in
       record { column_in = s.column_in; value_in = s.value_in; is_new = s.new_cell }
 
   pub proper_back : (n : ℕ) → n ≤ length x.air.cells → AreProperBelow x n → AreSoundBelow x.main.width (length x.public) x.air.cells n
-  proper_back n within h k d below =
+  proper_back n within h k below d =
       let s = h k (slice_index_or x.air.cells k d) below (slice_get-get_or x.air.cells k d (omega (arith, below, within))) in
       record { column_in = s.column_in; value_in = s.value_in; new_cell = s.is_new }
 

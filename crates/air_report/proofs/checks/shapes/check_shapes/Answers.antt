@@ -9,9 +9,9 @@ use Rattle.air_report.proofs.checks.shapes.check_shapes.Goals.{in-Some+else-prep
 
 -- one element more has the property
 each_more : {X : Type 0} (P : ℕ → X → Type 0) (xs : List X) (n : ℕ) (x : X) → n < length xs → x ≡ get_or xs n x → EachOfFirst P xs n → P n x → EachOfFirst P xs (n + 1)
-each_more P xs n x lt is h p k d b =
+each_more P xs n x lt is h p k b d =
     ⊎_elim
-    (λ (below : k < n). h k d below)
+    (λ (below : k < n). h k below d)
     (λ (at : k ≡ n). subst (λ j. P j (get_or xs j d)) (sym at) (subst (P n) (is ∙ get_or_default xs n x d lt) p))
     (before_or_at k n b)
   where
@@ -30,4 +30,4 @@ pub returns : goal.returns
 returns g c =
     let fits : FitsHeight c.args.preprocessed c.args.height =
     elim c.match-preprocessed.branch [ in-Some+else-preprocessed-height w ↦ rw w.in-Some.is w.if-preprocessed-height.false | in_default w ↦ rw w.in_default.is tt ] in
-    record { table_fits = fits; periods_fit = λ k d lt. c.loop-index.invariant k d (omega (arith, lt, c.loop-index-test.false)) }
+    record { table_fits = fits; periods_fit = λ k lt. c.loop-index.invariant k (omega (arith, lt, c.loop-index-test.false)) }
