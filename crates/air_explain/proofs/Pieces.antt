@@ -27,12 +27,6 @@ periodic-within [] row i z x lt is = absurd (omega (arith, lt))
 periodic-within (y ∷ ys) row zero z x lt is = ap (λ (v : Vec _ Global). slice_index_or v.items (row % length v.items) z) is
 periodic-within (y ∷ ys) row (suc i) z x lt is = periodic-within ys row i z x (omega (arith, lt)) is
 
--- and one that isn't
-pub periodic-past : {F : Type 0} (columns : List (Vec F Global)) (row i : ℕ) (z : F) → length columns ≤ i → z ≡ periodic_at z columns row i
-periodic-past [] row i z le = sym (get_or_past [] i z (omega arith))
-periodic-past (y ∷ ys) row zero z le = absurd (omega (arith, le))
-periodic-past (y ∷ ys) row (suc i) z le = periodic-past ys row i z (omega (arith, le))
-
 -- the pieces of a cell's line are its text
 pub cell-pieces : (old sp a comma b n : List ℕ) → ((((old ++ sp) ++ a) ++ comma) ++ b) ++ n ≡ old ++ (((sp ++ (a ++ (comma ++ b))) ++ n) ++ [])
 cell-pieces old sp a comma b n = simp (append_assoc, append-nil)

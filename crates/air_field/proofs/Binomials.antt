@@ -17,9 +17,6 @@ use Rattle.air_field.specs.declared.fields.residue.Residue.{Residue}
 use Rattle.air_field.specs.declared.fields.binomial.BinomialExtension.{BinomialExtension}
 use lib.Pointwise.{pointwise}
 
-pub same_four : {M : Type 0} {mo : Ghosts M} (a b c d e f g h : Residue M mo) → a.residue ≡ e.residue → b.residue ≡ f.residue → c.residue ≡ g.residue → d.residue ≡ h.residue → a ∷ b ∷ c ∷ d ∷ [] ≡ e ∷ f ∷ g ∷ h ∷ []
-same_four {M = M} {mo = mo} a b c d e f g h p q r s = λ i. same_value a e p i ∷ same_value b f q i ∷ same_value c g r i ∷ same_value d h s i ∷ []
-
 -- four coefficients read are the list
 pub given_four : {M : Type 0} {mo : Ghosts M} (l : List (Residue M mo)) (a b c d : Residue M mo) → length l ≡ 4 → a ≡ get_or l 0 a → b ≡ get_or l 1 b → c ≡ get_or l 2 c → d ≡ get_or l 3 d → a ∷ b ∷ c ∷ d ∷ [] ≡ l
 given_four {M = M} {mo = mo} l a b c d h =

@@ -3,10 +3,10 @@ use Rattle.std.specs.List.{AllZip}
 use Rattle.std.specs.Result.{IsErrAnd}
 use Rattle.std.proofs.lemmas.Result.{err_from_is_err_and}
 use Rattle.std.proofs.Common.{Result, IfErr, ◌≡◌, ◌∙◌, ℕ, suc, ◌+◌, ◌<◌, List, [], ◌∷◌, All, length, drop, get_or, refl, sym, ap, subst, arith, drop-cons, add-one}
-use Rattle.air_field.specs.Term.{Term, const_term, add_term, mul_term}
+use Rattle.air_field.specs.Term.{Term, add_term, mul_term}
 use Rattle.air_field.specs.Part.{Part, whole, in_add_left, in_mul_left}
-use Rattle.air_field.specs.Algebra.{AlgebraLaws, Made, MadeOfBoth, RefusedOfBoth}
-use Rattle.air_field.specs.Joins.{join_from, join_terms, MadeOfAll, RefusedOfAll}
+use Rattle.air_field.specs.Algebra.{AlgebraLaws, MadeOfBoth, RefusedOfBoth}
+use Rattle.air_field.specs.Joins.{join_from, join_terms, RefusedOfAll}
 
 -- total means a term t, and what is left means terms us, which joined to t make the goal
 pub record Leads {E F : Type 0} (means : E → Term F → Type 0) (op : Term F → Term F → Term F) (total : E) (left : List E) (goal : Term F) : Type 0 where
@@ -86,18 +86,6 @@ module _ {R E F X : Type 0} {valid : R → Type 0} {has : R → E → Type 0} {m
             take_leads p q total x z left (join_terms op none ts) g made l.t l.us l.total_means l.left_means l.joined;
       }
 
-  end_leads : (p : R) (total : E) (goal t : Term F) (us : List (Term F)) → means p total t → AllZip (means p) [] us → join_from op t us ≡ goal → means p total goal
-  end_leads p total goal t [] m h e = subst (means p total) e m
-  end_leads p total goal t (u ∷ us) m h e = absurd h
-
-  pub end_joining : (first p : R) (xs : List E) (total : E) → IsJoining has means extends op none first p xs total [] → MadeOfAll has means op none first p xs total
-  end_joining first p xs total h = (
-    h.total_in,
-    λ ts m.
-        let l = h.leads ts m in
-        end_leads p total (join_terms op none ts) l.t l.us l.total_means l.left_means l.joined,
-  )
-
   refused_leads : (p : R) (e : X) (total x : E) (left : List E) (goal : Term F) → ((s t u : Term F) → Part s t → Part s (op t u)) → RefusedOfBoth means refuses op p total x e
       → (t : Term F) (us : List (Term F)) → means p total t → AllZip (means p) (x ∷ left) us → join_from op t us ≡ goal → refuses e goal
   refused_leads p e total x left goal inside refused t [] m h same = absurd h
@@ -114,15 +102,3 @@ module _ {R E F X : Type 0} {valid : R → Type 0} {has : R → E → Type 0} {m
       (λ ts m.
       let l = h.leads ts m in
       refused_leads p e total x (drop (i + 1) rest) (join_terms op none ts) inside refused l.t l.us l.total_means l.left_means l.joined)
-
-  -- the join of no elements is the constant
-  none_means : (p q : R) (z : E) (ts : List (Term F)) → means q z (const_term none) → AllZip (means p) [] ts → means q z (join_terms op none ts)
-  none_means p q z [] m h = m
-  none_means p q z (t ∷ ts) m h = absurd h
-
-  pub join_of_none : (p q : R) (z : E) → Made has means (const_term none) q z → MadeOfAll has means op none p q [] z
-  join_of_none p q z h = (h.0, λ ts n. none_means p q z ts h.1 n)
-
-  pub none_refused : (p : R) (e : X) → refuses e (const_term none) → RefusedOfAll means refuses op none p [] e
-  none_refused p e h [] n = h
-  none_refused p e h (t ∷ ts) n = absurd n

@@ -45,17 +45,6 @@ pub record RowValues (F : Type 0) : Type 0 where
   pub on_last_row : F
   pub on_transition : F
 
-abbrev pub shape_of : {F : Type 0} → RowValues F → Shape
-shape_of v = record {
-  main_width = length v.current;
-  preprocessed_width = length v.preprocessed_current;
-  periodic_columns = length v.periodic_row;
-  public_values = length v.public_row;
-  permutation_width = 0;
-  challenges = 0;
-  permutation_values = 0;
-}
-
 -- a column of two rows, z where there is none
 abbrev pub column_value : {F : Type 0} → F → List F → List F → ℕ → ℕ → F
 column_value z current next zero i = slice_index_or current i z

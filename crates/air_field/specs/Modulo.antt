@@ -2,7 +2,7 @@
 use Rattle.std.specs.Prelude.{ℕ}
 use Rattle.air_field.specs.Ring.{CommRing}
 use Rattle.air_field.specs.BabyBear.{BabyBear, baby_bear_modulus}
-use Rattle.air_field.specs.Modular.{Modular, modular_add, modular_mul, modular_neg}
+use Rattle.air_field.specs.Modular.{Modular, modular_add}
 use Rattle.air_field.specs.Residue.{residue_class, residue_ring, residues}
 
 abbrev pub baby_bears : Modular BabyBear 2013265921
@@ -14,12 +14,6 @@ class n = residue_class baby_bear_modulus n
 
 abbrev pub baby_bear_add : BabyBear → BabyBear → BabyBear
 baby_bear_add a b = modular_add baby_bears a b
-
-abbrev pub baby_bear_mul : BabyBear → BabyBear → BabyBear
-baby_bear_mul a b = modular_mul baby_bears a b
-
-abbrev pub baby_bear_neg : BabyBear → BabyBear
-baby_bear_neg a = modular_neg baby_bears a
 
 abbrev pub baby_bear_ring : CommRing BabyBear
 baby_bear_ring = residue_ring baby_bear_modulus

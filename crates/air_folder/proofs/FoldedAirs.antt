@@ -1,6 +1,5 @@
 -- What a fold beside a recording answers, from what the recording and the folder promise.
 use Rattle.std.proofs.Common.{◌≡◌, ℕ, suc, ◌+◌, List, [], ◌∷◌, map, length, get_or, refl, sym, ap, ap₂, ◌∙◌, arith}
-use Rattle.std.specs.Prelude.{Result, Ok, Err, OnErr}
 use Rattle.std.proofs.lemmas.List.{length-map}
 use Rattle.air_field.specs.Ring.{CommRing, AlgebraOver}
 use Rattle.air_field.specs.Extension.{Basis}
@@ -15,10 +14,7 @@ use Rattle.air_recording.specs.Recorded.{EachRecords, RecordsBase, RecordsExt, t
 use Rattle.air_folder.specs.Fold.{folded_on}
 use Rattle.air_folder.specs.laws.Fold.{folded_on-nil}
 use Rattle.air_folder.specs.Folder.{FolderRow, folder_leaves, values_in}
-use Rattle.air_folder.specs.laws.Folder.{unchanged}
-use Rattle.air_folder.specs.FolderRow.{folder_row}
-use Rattle.air_folder.specs.Folding.{IsFolded, GrewByBeginningOf}
-use Rattle.air_folder.specs.declared.folder.builder.ConstraintFolder.{ConstraintFolder}
+use Rattle.air_folder.specs.Folding.{IsFolded}
 use Rattle.air_folder.specs.declared.folding.Folded.{Folded}
 
 module _ {F E : Type 0} (a : AlgebraOver F E) (s : Leaf → E) (z : E) where
@@ -77,8 +73,3 @@ module _ {F E : Type 0} (r : CommRing F) (a : AlgebraOver F E) (basis : Basis F 
 
       ext_is : map at f.layout.ext_indices.items ≡ map (value a (folder_leaves a d)) (terms_of (ext_reads basis) f.recorded.pool f.recorded.ext)
       ext_is = ap (map at) places.extension ∙ ext_at a (folder_leaves a d) a.ring.zero at 0 ts _ ext.terms (λ k. ap at (omega arith))
-
--- a folder beside which the recording was refused grew by none
-pub refused_before : {F E T X : Type 0} (a : AlgebraOver F E) (b : ConstraintFolder F E) (ts : List (Assertion F)) (result : Result T X) → OnErr result (GrewByBeginningOf a b b ts)
-refused_before a b ts (Ok v) = tt
-refused_before a b ts (Err e) = record { count = 0; within = omega arith; beginning = unchanged a (folder_row b) (folder_row b) b.accumulator b.accumulator refl refl }

@@ -1,6 +1,6 @@
 -- Counts, one place after another.
 use Rattle.std.specs.Prelude.{slice_get}
-use Rattle.std.proofs.Common.{◌≡◌, ◌≢◌, ℕ, zero, suc, ◌+◌, ◌<◌, true, false, cond, eqb, List, length, get_or, set, replicate, Option, None, Some, is_some, refl, sym, ap, subst, ◌∙◌, arith, ⊎_elim, add-one, length-set}
+use Rattle.std.proofs.Common.{◌≡◌, ◌≢◌, ℕ, ◌+◌, ◌<◌, true, false, cond, eqb, List, length, get_or, set, Option, None, Some, is_some, refl, sym, ap, subst, ◌∙◌, arith, ⊎_elim, add-one, length-set}
 use Rattle.std.proofs.lemmas.Bool.{cases_eq, ne_eqb}
 use Rattle.std.proofs.lemmas.Bool.Decides.{eqb_tells}
 use Rattle.std.proofs.lemmas.List.{get_or-set_same, get_or-set_other, get_or_default}
@@ -53,12 +53,3 @@ module _ {A : Type 0} (ns : List (SymbolicExpr A)) (marks : List (Option ℕ)) w
 -- one number more
 pub sum-more : (f : ℕ → ℕ) (n : ℕ) → total_below f (n + 1) ≡ total_below f n + f n
 sum-more f n = ap (total_below f) (add-one n)
-
--- at first nothing is counted
-pub none-counted : (n : ℕ) (counts : List Places) → counts ≡ replicate n Nowhere → AreCounted (λ _. 0) counts
-none-counted n counts e = record { each = λ i b. ap (λ (cs : List Places). get_or cs i Nowhere) e ∙ nowhere n i }
-  where
-    nowhere : (n i : ℕ) → get_or (replicate n Nowhere) i Nowhere ≡ Nowhere
-    nowhere zero i = refl
-    nowhere (suc n) zero = refl
-    nowhere (suc n) (suc i) = nowhere n i

@@ -1,15 +1,14 @@
 -- Failures with what stands below them, one after another.
 use Rattle.std.specs.List.{AllZip, flat_map}
 use Rattle.std.specs.Option.{option_to_list}
-use Rattle.std.proofs.Common.{◌≡◌, ℕ, zero, suc, ◌+◌, ◌-◌, ◌<◌, ◌≤◌, Bool, true, false, cond, List, [], ◌∷◌, ◌++◌, append_assoc, append-nil, length, map, take, get_or, All, Option, Some, None, Bor, codes, refl, sym, ap, subst, ◌∙◌, arith, inl, inr}
+use Rattle.std.proofs.Common.{◌≡◌, ℕ, zero, ◌+◌, ◌-◌, ◌<◌, ◌≤◌, List, [], ◌∷◌, ◌++◌, append_assoc, append-nil, length, map, take, get_or, All, Option, Some, None, Bor, codes, refl, sym, ap, subst, ◌∙◌, arith, inl, inr}
 use Rattle.std.specs.Prelude.{slice_get}
 use Rattle.std.specs.Slice.{IsItemAt}
 use Rattle.std.proofs.lemmas.Grind.{flat_map-append}
-use Rattle.std.proofs.lemmas.List.{map-append, take_more, take_all}
+use Rattle.std.proofs.lemmas.List.{map-append, take_more}
 use Rattle.std.proofs.lemmas.List.Elements.{All-nil, All-cons, All-append}
 use Rattle.std.proofs.lemmas.Option.{slice_get_cases, slice_get_read, slice_get_past}
 use Rattle.air_field.specs.Assignment.{Trace, row_assignment}
-use Rattle.air_field.specs.Grid.{Grid}
 use Rattle.air_field.specs.Modular.{Modular, modular_ring}
 use Rattle.air_field.specs.Ring.{CommRing}
 use Rattle.air_field.specs.Term.{Leaf}
@@ -19,14 +18,12 @@ use Rattle.air_symbolic.specs.ExtLeaves.{BaseNodes}
 use Rattle.air_symbolic.specs.Leaves.{Leaves}
 use Rattle.air_symbolic.specs.Reach.{Marked}
 use Rattle.air_symbolic.specs.declared.pools.expr.SymbolicExpr.{SymbolicExpr}
-use Rattle.air_infix.specs.Names.{AreNames, is_named, passing_below}
+use Rattle.air_infix.specs.Names.{AreNames, is_named}
 use Rattle.air_explain.specs.Explained.{Explains, explained_lines, reached_definitions}
 use Rattle.air_explain.specs.Reading.{Reads}
-use Rattle.air_explain.specs.Rows.{table_rows}
 use Rattle.air_explain.specs.Values.{AreClosed}
-use Rattle.air_explain.specs.laws.Values.{explains_known}
+use Rattle.air_explain.specs.laws.Values.{explains_known, passing_low}
 use Rattle.air_report.specs.FailureTexts.{seen_failure}
-use Rattle.air_report.specs.Instances.{table_grid}
 use Rattle.air_report.specs.declared.debug.failure.ConstraintFailure.{ConstraintFailure}
 use Rattle.air_program.specs.AtHand.{KnownAt}
 use Rattle.air_program.specs.Explained.{Failure, StandsBelow, IsExplained, IsExplainedText, PushesExplained, PushesNames, failing_roots, cell_lines}
@@ -48,10 +45,6 @@ seen-more failures i f lt is =
     ∙ ap (λ g. map seen_failure (take i failures) ++ seen_failure g ∷ []) (sym is))
 
 module _ {F : Type 0} {p : ℕ} (m : Modular F p) (pool : BaseNodes F) (roots : List ℕ) (cells : List BoundaryPublic) (trace : Trace F) (names : List (Option ℕ)) where
-  -- nothing yet
-  pub explained-none : (text : List ℕ) → PushesExplained m pool roots cells trace names [] text text
-  explained-none text = record { blocks = []; each = tt; pushed = sym (append-nil text) }
-
   -- further failures
   pub explained-further : (fs gs : List Failure) (old mid new : List ℕ) → PushesExplained m pool roots cells trace names fs old mid → PushesExplained m pool roots cells trace names gs mid new → PushesExplained m pool roots cells trace names (fs ++ gs) old new
   explained-further fs gs old mid new h k =
@@ -146,16 +139,6 @@ module _ {F : Type 0} {p : ℕ} (m : Modular F p) (r : CommRing F) (ring_is : r 
 
 -- ---- names
 
--- what passes below n is below k, if n isn't above it
-passing_low : (test : ℕ → Bool) (k n : ℕ) → n ≤ k → All (λ x. x < k) (passing_below test n)
-passing_low test k zero le = All-nil (λ x. x < k)
-passing_low test k (suc n) le =
-    All-append (λ x. x < k) (passing_below test n) (cond (test n) (n ∷ []) []) (passing_low test k n (omega (arith, le))) (either (test n))
-  where
-    either : (b : Bool) → All (λ x. x < k) (cond b (n ∷ []) [])
-    either true = All-cons (λ x. x < k) n [] (omega (arith, le)) (All-nil (λ x. x < k))
-    either false = All-nil (λ x. x < k)
-
 -- what has a name is in the pool
 pub names_here : {A F : Type 0} (l : Leaves A F) (ns : List (SymbolicExpr A)) (roots : List ℕ) (names : List ℕ × List (Option ℕ)) → AreNames l ns roots names → All (λ x. x < length ns) names.0
 names_here l ns roots names h = subst (λ xs. All (λ x. x < length ns) xs) (sym h.named) (passing_low (is_named ns roots h.marks) (length ns) (length ns) (omega arith))
@@ -173,10 +156,6 @@ failing_here P roots (f ∷ fs) h =
     All-append P (option_to_list (slice_get roots (place_of f).1)) (failing_roots roots fs) (optional_here P roots (place_of f).1 h) (failing_here P roots fs h)
 
 -- ---- the whole text
-
-pub same_table : {F : Type 0} (table : Option (Grid F)) → table_rows table ≡ table_grid table
-same_table None = refl
-same_table (Some table) = refl
 
 -- counts, names, failures
 pub text_explained : {F : Type 0} {p : ℕ} (m : Modular F p) (pool : BaseNodes F) (roots : List ℕ) (cells : List BoundaryPublic) (trace : Trace F) (names : List ℕ × List (Option ℕ)) (f : Found) (counts front text : List ℕ) → AreNames base_leaves pool.nodes roots names → counts ≡ lines_text (count_lines f) → PushesNames m pool roots names f.failures counts front → PushesExplained m pool roots cells trace names.1 f.failures front text → IsExplainedText m pool roots cells trace f text

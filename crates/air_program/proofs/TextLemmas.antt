@@ -1,8 +1,8 @@
 -- Texts, line after line.
 use Rattle.std.specs.List.{AllZip}
-use Rattle.std.proofs.Common.{◌≡◌, ℕ, ◌+◌, ◌<◌, ◌≤◌, List, [], ◌∷◌, ◌++◌, append_assoc, append-nil, length, map, take, get_or, codes, sym, ap, subst, ◌∙◌}
+use Rattle.std.proofs.Common.{◌≡◌, ℕ, ◌+◌, ◌<◌, List, [], ◌∷◌, ◌++◌, append_assoc, length, map, take, get_or, codes, sym, ap, subst, ◌∙◌}
 use Rattle.std.proofs.lemmas.Grind.{flat_map-append}
-use Rattle.std.proofs.lemmas.List.{map-append, take_more, take_all}
+use Rattle.std.proofs.lemmas.List.{map-append, take_more}
 use Rattle.air_report.specs.FailureTexts.{seen_failure}
 use Rattle.air_report.specs.declared.debug.failure.ConstraintFailure.{ConstraintFailure}
 use Rattle.air_program.specs.Texts.{IsFailureLine, PushesLine}
@@ -23,10 +23,6 @@ AllZip-more R (z ∷ xs) (w ∷ ys) x y h r = (h.0, AllZip-more R xs ys x y h.1 
 next_line : (front lines : List (List ℕ)) (line : List ℕ) → lines_text (front ++ (lines ++ line ∷ [])) ≡ lines_text (front ++ lines) ++ lines_text (line ∷ [])
 next_line front lines line = ap lines_text (sym (append_assoc front lines (line ∷ []))) ∙ flat_map-append (λ l. l ++ codes "\n") (front ++ lines) (line ∷ [])
 
--- no failure yet
-pub HasLines-none : (front : List (List ℕ)) (failures : List ConstraintFailure) (text : List ℕ) → text ≡ lines_text front → HasLines front failures 0 text
-HasLines-none front failures text e = record { lines = []; each = tt; text_is = e ∙ ap lines_text (sym (append-nil front)) }
-
 -- one more failure
 pub HasLines-more : (front : List (List ℕ)) (items failures : List ConstraintFailure) (i : ℕ) (f : ConstraintFailure) (old new : List ℕ) → items ≡ failures → i < length items → f ≡ get_or items i f → HasLines front failures i old → PushesLine (seen_failure f) old new → HasLines front failures (i + 1) new
 HasLines-more front items failures i f old new e below found h p =
@@ -41,7 +37,3 @@ HasLines-more front items failures i f old new e below found h p =
       each = subst (λ fs. AllZip IsFailureLine fs (h.lines ++ p.line ∷ [])) (sym seen) (AllZip-more IsFailureLine (map seen_failure (take i failures)) h.lines (seen_failure f) p.line h.each p.is_line);
       text_is = p.pushed ∙ (ap (λ t. t ++ lines_text (p.line ∷ [])) h.text_is ∙ sym (next_line front h.lines p.line));
     }
-
--- all of them
-pub HasLines-all : (front : List (List ℕ)) (failures : List ConstraintFailure) (i : ℕ) (text : List ℕ) (h : HasLines front failures i text) → length failures ≤ i → AllZip IsFailureLine (map seen_failure failures) h.lines
-HasLines-all front failures i text h le = subst (λ fs. AllZip IsFailureLine (map seen_failure fs) h.lines) (take_all i failures le) h.each

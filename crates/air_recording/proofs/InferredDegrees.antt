@@ -109,10 +109,6 @@ module _ {U A F : Type 0} (reads : U → Leaves A F) (pool : Pool U A) (w : Leaf
   some_over (x ∷ numbers) (inr h) =
       omega (arith, some_over numbers h, le-max_right (degree_by w (term_at reads pool x)) (greatest_degree w (terms_of reads pool numbers)))
 
-  pub degrees_refused : (numbers : List ℕ) (e : RingError) → (e ≢ Memory → SomeOverflows (map (λ x. degree_by w (term_at reads pool x)) numbers)) → AnswersDegree (greatest_degree w (terms_of reads pool numbers)) (Err e)
-  degrees_refused numbers Memory h = tt
-  degrees_refused numbers DegreeOverflow h = some_over numbers (h (λ e. cc))
-
 -- a refusal for some term of either list is one for all terms
 pub both_refused : {U A V B F : Type 0} (reads : U → Leaves A F) (pool : Pool U A) (ext_reads : V → Leaves B F) (ext_pool : Pool V B) (w : Leaf → ℕ) (base ext : List ℕ) (e : RingError) → (e ≢ Memory → SomeOverflows (map (λ x. degree_by w (term_at reads pool x)) base) ⊎ SomeOverflows (map (λ x. degree_by w (term_at ext_reads ext_pool x)) ext)) → AnswersDegree (greatest_degree w (terms_of reads pool base ++ terms_of ext_reads ext_pool ext)) (Err e)
 both_refused reads pool ext_reads ext_pool w base ext Memory h = tt

@@ -9,11 +9,6 @@ pub refused-degree : (d : ℕ) (e : RingError) → AnswersDegree d (Err e) → e
 refused-degree d Memory h n = absurd (n refl)
 refused-degree d DegreeOverflow h n = h
 
--- what refuses an operand's degree refuses the whole's
-pub refused-left : (d n : ℕ) (e : RingError) → d ≤ n → AnswersDegree d (Err e) → AnswersDegree n (Err e)
-refused-left d n Memory b h = tt
-refused-left d n DegreeOverflow b h = omega (arith, b, h)
-
 -- the degree at place i passes
 pub overflows-at : {X : Type 0} (f : X → ℕ) (xs : List X) (i : ℕ) (x : X) → i < length xs → x ≡ get_or xs i x → 2 ^ 64 ≤ f x → SomeOverflows (map f xs)
 overflows-at f [] i x b e h = absurd (omega arith)

@@ -1,5 +1,5 @@
 -- What is reached of an extension pool, and the leaves of the extension alone in its trees.
-use Rattle.std.proofs.Common.{◌≡◌, ◌⊎◌, ℕ, zero, suc, ◌+◌, ◌<◌, List, [], ◌∷◌, ◌++◌, length, get_or, All, Bool, true, false, Decides, Option, None, Some, IfSome, inl, inr, refl, sym, ap, subst, ◌∙◌, arith, ⊎_elim}
+use Rattle.std.proofs.Common.{◌≡◌, ◌⊎◌, ℕ, zero, suc, ◌+◌, ◌<◌, List, [], ◌∷◌, ◌++◌, length, get_or, Bool, true, false, Decides, Option, None, Some, IfSome, inl, inr, refl, sym, ap, subst, ◌∙◌, arith, ⊎_elim}
 use Rattle.std.proofs.lemmas.List.{get_or_default, get_or_append_left, get_or_push}
 use Rattle.std.specs.Prelude.{slice_get}
 use Rattle.air_field.specs.Ring.{CommRing}
@@ -45,12 +45,6 @@ leaf-ext-only (Some (add_tree t u)) h = absurd h
 leaf-ext-only (Some (sub_tree t u)) h = absurd h
 leaf-ext-only (Some (neg_tree t)) h = absurd h
 leaf-ext-only (Some (mul_tree t u)) h = absurd h
-
--- what holds of one root holds of all
-pub one-root : (P : ℕ → Type 0) (r : ℕ) → P r → All P (r ∷ [])
-one-root P r h k d lt =
-    let z : k ≡ 0 = omega (arith, lt) in
-    subst (λ j. P (get_or (r ∷ []) j d)) (sym z) h
 
 -- a mark that was tested
 pub not-marked : {F EF : Type 0} (p : ExtNodes F EF) (marks : List (Option ℕ)) (k : ℕ) (o : Option ℕ) (b : Bool) → k < length marks → o ≡ get_or marks k o → Decides b (IsMarkedExtOnly p o) → b ≡ false → IsMarkedExtOnly p (get_or marks k None) → ⊥

@@ -1,5 +1,5 @@
 -- What a reader of a list has read, beside what reading the list gives.
-use Rattle.std.proofs.Common.{◌≡◌, ℕ, zero, suc, ◌<◌, ◌-◌, List, [], ◌∷◌, ◌++◌, length, map, Option, Some, None, option_map, Result, Ok, Err, IfOk, IfErr, refl, sym, ap, ap₂, subst, ◌∙◌, arith}
+use Rattle.std.proofs.Common.{◌≡◌, ℕ, ◌-◌, List, [], ◌∷◌, ◌++◌, length, map, Option, Some, None, option_map, Result, Ok, Err, IfOk, IfErr, refl, sym, ap, ap₂, subst, ◌∙◌}
 use Rattle.std.proofs.lemmas.List.{length-map, map_push}
 use Rattle.std.proofs.lemmas.Option.{slice_get-map}
 use Rattle.std.specs.Prelude.{filter_map}
@@ -45,11 +45,6 @@ more_given kind before d olds o good are =
     ∙ ap₂ (λ l v. ok_of (l ++ v ∷ [])) (sym are) (done_is (λ v. Some t.0 ≡ v) (Some t.0) o t.2 refl)
 
 -- ---- the last number
-
-at_below : (n : ℕ) (ids : List ℕ) (k : ℕ) → AllBelow n ids → IfOk (ok_or (slice_get ids k) faults.EmptyList) (λ i. i < n)
-at_below n [] k h = tt
-at_below n (i ∷ ids) zero h = h zero zero (omega arith)
-at_below n (i ∷ ids) (suc k) h = at_below n ids k (λ l e c. h (suc l) e (omega (arith, c)))
 
 found_there : {X : Type 0} (g : ℕ → X) (o : Option ℕ) → Gives g (ok_or o faults.EmptyList) (ok_or (option_map g o) faults.EmptyList)
 found_there g None = refl
@@ -117,10 +112,6 @@ module _ {U A S F : Type 0} (kind : Kind S F) (laws : KindLaws kind) (tree : Poo
         subst (Gives (tree p) (last_number (Ok ids))) (sym (ap (λ (g : Result (List (Tree S)) FlatError). g >>= λ ts. as_some (last_tree ts)) (given_all n.0 n.2))) (last_seen (tree p) ids n.0 n.1)
     root_gives (Err f) h = carry f given (λ ts. as_some (last_tree ts)) _ refl (given_fails f h)
 
-    pub root_here : (r : Result (List ℕ) FlatError) → HasRead kind tree p ds r → IfOk (last_number r) (λ i. i < length p.nodes)
-    root_here (Ok ids) h = at_below (length p.nodes) ids (length ids - 1) h.here
-    root_here (Err f) h = tt
-
     pub root_is : (r : Result (List ℕ) FlatError) → HasRead kind tree p ds r → IfOk (last_number r) (λ i. IsList kind whole (tree p i))
     root_is r h = gives_ok (IsList kind whole) (tree p) (last_number r) (root_of kind whole) (root_gives r h) (root_found kind laws whole)
 
@@ -128,9 +119,6 @@ module _ {U A S F : Type 0} (kind : Kind S F) (laws : KindLaws kind) (tree : Poo
     root_fails r h = gives_err (HasFault kind whole) (tree p) (last_number r) (root_of kind whole) (root_gives r h) (root_fault kind laws whole)
 
   -- ---- one node more
-
-  pub none_read : (p : Pool U A) → HasRead kind tree p [] (Ok [])
-  none_read p = record { here = λ k d lt. absurd (omega (arith, lt)); nodes = ([], refl, tt); fault = tt }
 
   module _ (p q : Pool U A) (ds : List Data) (d : Data) where
     pub still_read : (f : FlatError) → HasRead kind tree p ds (Err f) → HasRead kind tree q (ds ++ d ∷ []) (Err f)

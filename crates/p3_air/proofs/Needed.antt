@@ -117,11 +117,6 @@ roots_are numbers places roots z = AllZip-map (number_at numbers) places roots z
 pub planned_terms : {T : Type 0} (term : ℕ → T) (numbers places roots : List ℕ) → AllZip (λ p i. i ≡ number_at numbers p) places roots → map (λ p. term (number_at numbers p)) places ≡ map term roots
 planned_terms term numbers places roots z = sym (map-map term (number_at numbers) places) ∙ ap (map term) (sym (roots_are numbers places roots z))
 
--- the place of one root
-pub root_place : (numbers places : List ℕ) (i : ℕ) → AllZip (λ p j. j ≡ number_at numbers p) places (i ∷ []) → (0 < length places) × (i ≡ number_at numbers (get_or places 0 0))
-root_place numbers [] i z = absurd z
-root_place numbers (p ∷ places) i z = (omega arith, z.0)
-
 -- the same plan is one of the numbers of its roots' places
 pub plan_of_places : {A F : Type 0} (l : Leaves A F) (ns : List (SymbolicExpr A)) (roots numbers : List ℕ) (steps : List Step) (places : List ℕ) → IsPlan l ns roots numbers steps places → IsPlan l ns (map (number_at numbers) places) numbers steps places
 plan_of_places l ns roots numbers steps places h = subst (λ v. IsPlan l ns v numbers steps places) (roots_are numbers places roots h.stand) h

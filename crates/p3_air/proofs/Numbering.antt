@@ -22,15 +22,6 @@ pub record NumberedTo (marks : List (Option ℕ)) (numbers places : List ℕ) (m
   pub placed : (i : ℕ) → i < m → Marked marks i → IsPlaceOf numbers (length numbers) (get_or places i 0) i
   pub before : (k i : ℕ) → k < length numbers → i < number_at numbers k → Marked marks i → IsPlaceOf numbers k (get_or places i 0) i
 
-pub none_numbered : (marks : List (Option ℕ)) → NumberedTo marks [] [] 0
-none_numbered marks = record {
-  long = refl;
-  marked = λ k lt. absurd (omega (arith, lt));
-  below = λ k lt. absurd (omega (arith, lt));
-  placed = λ i lt m. absurd (omega (arith, lt));
-  before = λ k i lt b m. absurd (omega (arith, lt));
-}
-
 module _ (marks : List (Option ℕ)) (numbers places : List ℕ) (m : ℕ) (lt : m < length marks) (h : NumberedTo marks numbers places m) where
   old_place : (i : ℕ) → i < m → get_or (places ++ length numbers ∷ []) i 0 ≡ get_or places i 0
   old_place i below = get_or_append_left places (length numbers ∷ []) 0 i (omega (arith, below, h.long))

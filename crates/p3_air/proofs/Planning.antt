@@ -145,9 +145,6 @@ roots_placed marks numbers table (p ∷ places) (i ∷ roots) h m z = (
 )
 
 module _ {A F : Type 0} (l : Leaves A F) (ns : List (SymbolicExpr A)) (roots : List ℕ) (marks : List (Option ℕ)) (r : Reached l ns roots marks) where
-  pub own_place : (i j : ℕ) → get_or marks i None ≡ Some j → j ≡ i
-  own_place i j e = (r.only_reached i j e).0
-
   -- what is marked has a place
   pub marked_here : (i : ℕ) → Marked marks i → i < length ns
   marked_here i m = ⊎_elim (λ (lt : i < length ns). lt) (λ (past : length ns ≤ i). absurd (nothing past)) (below_or_past i (length ns))
@@ -177,12 +174,6 @@ module _ {A F : Type 0} (l : Leaves A F) (ns : List (SymbolicExpr A)) (roots : L
         let found : some_has_operand i (slice_get ns j) ≡ true = ap (λ o. some_has_operand i o) is.node ∙ operand_found i n p in
         or_right (list_any (λ j. eqb i j) roots) (list_any (λ j. some_has_operand i (slice_get ns j)) numbers)
         (list_any_at (λ j. some_has_operand i (slice_get ns j)) numbers q 0 at.0 (subst (λ v. some_has_operand i (slice_get ns v) ≡ true) at.1 found))
-
-    -- the operands of a number stand before it
-    pub operands_before : (k : ℕ) → k < length numbers → (n : SymbolicExpr A) → IsNode l ns (number_at numbers k) n → EachOperand (λ i. IsPlaceOf numbers k (get_or table i 0) i) n
-    operands_before k lt n is =
-        each_below (λ j. Marked marks j) (λ i. IsPlaceOf numbers k (get_or table i 0) i) (number_at numbers k) n
-        (λ i below m. h.before k i lt below m) is.below (r.operands_marked (number_at numbers k) n (h.marked k lt) is)
 
     pub numbers_here : All (λ i. i < length ns) numbers
     numbers_here k d lt = marked_here (get_or numbers k d) (subst (λ i. Marked marks i) (same k d lt) (h.marked k lt))

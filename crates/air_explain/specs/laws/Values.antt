@@ -21,10 +21,6 @@ use Rattle.air_explain.specs.Explained.{explained_lines, Explains}
 use Rattle.air_explain.specs.Reading.{Reads, has_variable, is_read}
 use Rattle.air_explain.specs.Values.{number_value, Known, AreClosed}
 
--- the marks of what roots reach are closed
-pub reached_closed : {F : Type 0} (ns : List (SymbolicExpr (BaseLeaf F))) (roots : List ℕ) (marks : List (Option ℕ)) → Reached base_leaves ns roots marks → AreClosed ns marks
-reached_closed ns roots marks h = record { places = h.places; own = λ i j e. (h.only_reached i j e).0; operands = h.operands_marked }
-
 each_operand : {A : Type 0} (P : ℕ → Type 0) (i : ℕ) (n : SymbolicExpr A) → EachOperand P n → IsOperand i n → P i
 each_operand P i (node.Leaf a) h e = absurd e
 each_operand P i (node.Add x y d) h e = ⊎_elim (λ (p : i ≡ x). subst P (sym p) h.0) (λ (p : i ≡ y). subst P (sym p) h.1) e
@@ -62,7 +58,7 @@ same_below test f g (suc n) h =
     last false e = refl
 
 -- what passes below n is below k, if n isn't above it
-passing_low : (test : ℕ → Bool) (k n : ℕ) → n ≤ k → All (λ x. x < k) (passing_below test n)
+pub passing_low : (test : ℕ → Bool) (k n : ℕ) → n ≤ k → All (λ x. x < k) (passing_below test n)
 passing_low test k zero le = All-nil (λ x. x < k)
 passing_low test k (suc n) le =
     All-append (λ x. x < k) (passing_below test n) (cond (test n) (n ∷ []) []) (passing_low test k n (omega (arith, le))) (either (test n))

@@ -51,9 +51,6 @@ module _ {R Q E X F : Type 0}
     (ring : AlgebraLaws valid has means extends PoolRefuses)
     (ext : AlgebraLaws ext_valid ext_has ext_means ext_extends PoolRefuses) (base_of : Q → R)
     (under : (p q : Q) → ext_extends p q → extends (base_of p) (base_of q)) where
-  means_now : Q → E → Term F → Type 0
-  means_now q x t = means (base_of q) x t
-
   -- nothing was recorded
   pub recorded_none : (p q : Q) (s u : Fixed E) (a b : Lists E X) → ext_extends p q → u ≡ s → b ≡ a → GrewRecording (λ v x t. means (base_of v) x t) ext_means ext_extends p q s u a b []
   recorded_none p q s u a b g e h = record {

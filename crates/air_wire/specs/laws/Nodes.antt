@@ -60,9 +60,6 @@ stated_found place d n t u e =
 same_number : (m n : ℕ) → m ≡ n → eqb m n ≡ true
 same_number m n h = search (rules, tests)
 
-stated_right : {X : Type 0} (place n : ℕ) (t : X) → check_degree place n n t ≡ Ok t
-stated_right place n t = ap (λ b. if b then Ok t else Err (faults.WrongDegree place n n)) (same_number n n refl)
-
 product_found : (a b n : ℕ) → joined_degree Mul a b ≡ Ok n → (a + b < 2 ^ 64) × (n ≡ a + b)
 product_found a b n e =
     test_ok (λ k. (a + b < 2 ^ 64) × (k ≡ a + b)) (ltb (a + b) (2 ^ 64)) (Ok (a + b)) (Err faults.DegreeOverflow) n e
