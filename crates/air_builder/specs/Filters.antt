@@ -27,6 +27,10 @@ GrewInside kept grew means n m x y a b ts = GrewUnder filter_by kept grew means 
 abbrev pub RefusesInside : {S E F X : Type 0} → (S → X → List (Assertion F) → Type 0) → (S → E → Term F → Type 0) → E → S → X → List (Assertion F) → Type 0
 RefusesInside {F = F} refuses means x a e ts = (c : Term F) → means a x c → refuses a e (map (filter_by c) ts)
 
+-- what a filter multiplies each assertion by
+abbrev pub condition_of : {S F E V P Q W M R : Type 0} → FilteredAirBuilder S F E V P Q W M R → E
+condition_of f = f.condition
+
 -- What a call answers that filters by a selector: always a filter on the builder that is lent, which grew by nothing, and
 -- whose condition means the selector's leaf.
 pub record FiltersBy {S R E F V P Q W M : Type 0} (view : BuilderView S R E F) (l : Leaf) (a : S) (name : ℕ)

@@ -18,6 +18,10 @@ use Rattle.air_field.specs.laws.SamePolynomial.{same_list}
 abbrev pub of_list : {M : Type 0} {m : Ghosts M} (l : List (Residue M m)) → length l ≡ 4 → BinomialExtension M m
 of_list l h = record { value = l; four = h }
 
+-- the four coefficients of an element, the constant one first
+abbrev pub coefficients_of : {M : Type 0} {m : Ghosts M} → BinomialExtension M m → List (Residue M m)
+coefficients_of a = a.value
+
 abbrev pub binomial_add : {M : Type 0} {m : Ghosts M} → BinomialExtension M m → BinomialExtension M m → BinomialExtension M m
 binomial_add {m = m} a b = of_list (poly_add (ops (residue_ring m)) a.value b.value) (add_length (residue_ring m) a.value b.value a.four b.four)
 

@@ -5,6 +5,10 @@ use Rattle.air_field.specs.Modular.{Modular, modular_ring}
 use Rattle.air_field.specs.declared.fields.goldilocks.Goldilocks.{Goldilocks}
 use Rattle.air_field.specs.laws.Goldilocks.{same_goldilocks, goldilocks_bound}
 
+-- the whole number below the modulus
+abbrev pub goldilocks_number : Goldilocks → ℕ
+goldilocks_number a = a.residue
+
 abbrev pub goldilocks : ℕ → Goldilocks
 goldilocks n = record { residue = n % 18446744069414584321; reduced = goldilocks_bound n }
 

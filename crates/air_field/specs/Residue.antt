@@ -6,6 +6,10 @@ use Rattle.air_field.specs.declared.fields.modulus.Modulus.{Ghosts}
 use Rattle.air_field.specs.declared.fields.residue.Residue.{Residue}
 use Rattle.air_field.specs.laws.Residues.{same_value, class_bound}
 
+-- the whole number below the modulus
+abbrev pub residue_number : {M : Type 0} {m : Ghosts M} → Residue M m → ℕ
+residue_number a = a.residue
+
 -- the class of a whole number
 abbrev pub residue_class : {M : Type 0} (m : Ghosts M) → ℕ → Residue M m
 residue_class m n = record { residue = n % m.P; modulus = record {}; reduced = class_bound m n }

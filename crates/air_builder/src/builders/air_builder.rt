@@ -7,7 +7,7 @@ ghost use Rattle.air_field.specs.Term.{Leaf, preprocessed, main, periodic, publi
 ghost use Rattle.air_builder.specs.Assertion.{Assertion, Base};
 ghost use Rattle.air_builder.specs.Builders.{MeansIn, MeansOfBoth, RowReadsAs, VariableReadsAs, BuilderLaws, less_one_term};
 ghost use Rattle.air_builder.specs.Batches.{Asserts, AssertsBoth};
-ghost use Rattle.air_builder.specs.Filters.{FiltersBy};
+ghost use Rattle.air_builder.specs.Filters.{FiltersBy, condition_of};
 ghost use Rattle.air_builder.specs.Refusals.{RowEnds, RefusesPartOfBoth};
 ghost use Rattle.air_core.specs.declared.errors.AirError.{AirError};
 
@@ -313,7 +313,7 @@ pub trait AirBuilder {
         ensures always { IsOk result }
         ensures same_reference { IfOk result (λ f. f.inner.ghost_name ≡ self.entry.ghost_name) }
         ensures inner { IfOk result (λ f. f.inner.now ≡ self.old) }
-        ensures condition { IfOk result (λ f. f.condition ≡ condition) }
+        ensures condition { IfOk result (λ f. condition_of f ≡ condition) }
     {
         Ok(FilteredAirBuilder::new(self, condition))
     }
@@ -369,9 +369,9 @@ pub trait AirBuilder {
         requires y_in { Self.Ring.has (ring_of self.old) y }
         ensures same_reference { IfOk result (λ f. f.inner.ghost_name ≡ self.entry.ghost_name) }
         ensures inner { IfOk result (λ f. grew self.old f.inner.now []) }
-        ensures of_ring { IfOk result (λ f. Self.Ring.has (ring_of f.inner.now) f.condition) }
+        ensures of_ring { IfOk result (λ f. Self.Ring.has (ring_of f.inner.now) (condition_of f)) }
         ensures condition { IfOk result (λ f. MeansOfBoth (MeansIn ⟦<Self as View>⟧.view) sub_term
-            self.old f.inner.now x y f.condition) }
+            self.old f.inner.now x y (condition_of f)) }
         ensures refused { IfErr result (RefusesPartOfBoth (MeansIn ⟦<Self as View>⟧.view) refuses
             sub_term self.old x y) }
     {

@@ -1,7 +1,7 @@
 //! Filters: builders that assert where a condition holds.
 ghost use Rattle.std.specs.Prelude.{◌≡◌, refl};
 ghost use Rattle.air_builder.specs.Builders.{Means};
-ghost use Rattle.air_builder.specs.Filters.{KeptInside, GrewInside, RefusesInside};
+ghost use Rattle.air_builder.specs.Filters.{condition_of, KeptInside, GrewInside, RefusesInside};
 ghost use Rattle.air_builder.specs.laws.Filters.{filter_laws};
 
 use crate::builders::air_builder::AirBuilder;
@@ -27,7 +27,7 @@ impl<'a, AB: AirBuilder> FilteredAirBuilder<'a, AB> {
     /// What each assertion is multiplied by.
     #[inline(always)]
     pub fn condition(&self) -> AB::Expr
-        ensures { result ≡ self.now.condition }
+        ensures { result ≡ condition_of self.now }
     {
         self.condition
     }

@@ -33,9 +33,10 @@ impl<'a, T: Copy> RowWindow<'a, T> {
     /// The window of a view of two rows. A view of another shape is refused with `WindowShape`. It takes no memory.
     pub fn from_view(view: &RowMajorMatrixView<'a, T>) -> Result<Self, AirError>
         ensures shape { OnOk result (length view.now.values.now ≡ 2 * view.now.width) }
-        ensures current { IfOk result (λ w. w.current.now ≡ take view.now.width
-            view.now.values.now) }
-        ensures next { IfOk result (λ w. w.next.now ≡ drop view.now.width view.now.values.now) }
+        ensures current { IfOk result (λ w. ⟦<RowWindow<'a, T> as WindowAccess<T>>⟧.current_row w
+            ≡ take view.now.width view.now.values.now) }
+        ensures next { IfOk result (λ w. ⟦<RowWindow<'a, T> as WindowAccess<T>>⟧.next_row w
+            ≡ drop view.now.width view.now.values.now) }
         ensures refused { IfErr result (IsNoWindow (length view.now.values.now) view.now.width) }
     {
         let len = view.values.len();
@@ -52,8 +53,8 @@ impl<'a, T: Copy> RowWindow<'a, T> {
     /// The window of two rows, which must be of one width.
     pub fn from_two_rows(current: &'a [T], next: &'a [T]) -> Self
         requires { length current.now ≡ length next.now }
-        ensures current { result.current.now ≡ current.now }
-        ensures next { result.next.now ≡ next.now }
+        ensures current { ⟦<RowWindow<'a, T> as WindowAccess<T>>⟧.current_row result ≡ current.now }
+        ensures next { ⟦<RowWindow<'a, T> as WindowAccess<T>>⟧.next_row result ≡ next.now }
     {
         RowWindow { current, next }
     }

@@ -12,11 +12,13 @@ pub struct TwoRows<T> {
 }
 
 impl<T: Copy> TwoRows<T> {
+    ghost use Rattle.air_core.specs.WindowShapes.{current_of, next_of};
+
     /// The window of two rows, which must be of one width.
     pub fn new(current: Vec<T>, next: Vec<T>) -> Self
         requires { length current.items ≡ length next.items }
-        ensures current { result.current.items ≡ current.items }
-        ensures next { result.next.items ≡ next.items }
+        ensures current { current_of result ≡ current.items }
+        ensures next { next_of result ≡ next.items }
     {
         TwoRows { current, next }
     }

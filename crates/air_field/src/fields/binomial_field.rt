@@ -3,7 +3,7 @@ ghost use Rattle.std.specs.Prelude.{◌≡◌};
 ghost use Rattle.air_field.specs.Residue.{residue_class, residue_ring};
 ghost use Rattle.air_field.specs.Coefficients.{IsProductModulo};
 ghost use Rattle.air_field.specs.Domain.{IsAdjugate};
-ghost use Rattle.air_field.specs.Binomial.{binomial_product, binomial_over, binomial_basis};
+ghost use Rattle.air_field.specs.Binomial.{coefficients_of, binomial_product, binomial_over, binomial_basis};
 ghost use Rattle.air_field.specs.laws.BinomialDomain.{binomial_domain};
 ghost use Rattle.air_field.specs.laws.Binomial.{binomial_laws, binomial_over_laws, same_polynomial};
 
@@ -81,7 +81,8 @@ impl<M: BinomialModulus> ExtensionField<Residue<M>> for BinomialExtension<M> {
     fn mul(self, other: Self) -> Self
         ensures product { result ≡ binomial_product M.W self other }
         ensures coefficients { IsProductModulo (residue_ring M.Modulus)
-            (residue_class M.Modulus M.W) self.value other.value result.value }
+            (residue_class M.Modulus M.W) (coefficients_of self) (coefficients_of other)
+            (coefficients_of result) }
     {
         let a = self.value;
         let [b0, b1, b2, b3] = other.value;

@@ -10,12 +10,14 @@ pub struct Goldilocks {
 }
 
 impl Goldilocks {
+    ghost use Rattle.air_field.specs.Goldilocks.{goldilocks_number};
+
     /// 2^64 - 2^32 + 1.
     pub const MODULUS: u64 = 18446744069414584321;
 
     /// The class of any number.
     pub fn new(n: u64) -> Self
-        ensures { result.residue ≡ n % 18446744069414584321 }
+        ensures { goldilocks_number result ≡ n % 18446744069414584321 }
     {
         let residue = if n < Self::MODULUS {
             n
@@ -49,7 +51,7 @@ impl Goldilocks {
 
     /// The number below the modulus.
     pub fn as_canonical_u64(self) -> u64
-        ensures { result ≡ self.residue }
+        ensures { result ≡ goldilocks_number self }
     {
         self.residue
     }

@@ -36,9 +36,11 @@ impl<M: Modulus> fmt::Debug for Residue<M> {
 }
 
 impl<M: Modulus> Residue<M> {
+    ghost use Rattle.air_field.specs.Residue.{residue_number};
+
     /// The class of `n`.
     pub fn new(n: u32) -> Self
-        ensures { result.residue ≡ n % M.P }
+        ensures { residue_number result ≡ n % M.P }
     {
         Residue {
             residue: n % M::P,
@@ -80,7 +82,7 @@ impl<M: Modulus> Residue<M> {
 
     /// The number below the modulus.
     pub fn as_canonical_u64(self) -> u64
-        ensures { result ≡ self.residue }
+        ensures { result ≡ residue_number self }
     {
         self.residue as u64
     }

@@ -7,7 +7,8 @@ ghost use Rattle.air_folder.specs.FolderRow.{folder_row, folder_permutation};
 use crate::folder::builder::ConstraintFolder;
 use crate::folder::ring::FolderRing;
 use p3_air::{
-    AirBuilder, AirError, ExtensionBuilder, ExtensionField, Field, PermutationAirBuilder, RowWindow,
+    AirBuilder, AirError, ExtensionBuilder, ExtensionField, Field, PermutationAirBuilder,
+    RowWindow, WindowAccess,
 };
 
 impl<'a, F: Field, EF: ExtensionField<F>> ExtensionBuilder for ConstraintFolder<'a, F, EF> {
@@ -44,13 +45,14 @@ impl<'a, F: Field, EF: ExtensionField<F>> PermutationAirBuilder for ConstraintFo
 
     /// The window of the permutation trace; a folder that was made without one, and it alone, refuses.
     fn permutation(&self) -> Result<RowWindow<'a, EF>, AirError>
-        ensures current { IfOk result (λ w.
-            PermutationReadsAs EF.over EF.basis (folder_row self.now) 0 w.current.now) }
-        ensures next { IfOk result (λ w.
-            PermutationReadsAs EF.over EF.basis (folder_row self.now) 1 w.next.now) }
-        ensures current_ends { IfOk result (λ w.
-            PermutationEnds (folder_row self.now) 0 w.current.now) }
-        ensures next_ends { IfOk result (λ w. PermutationEnds (folder_row self.now) 1 w.next.now) }
+        ensures current { IfOk result (λ w. PermutationReadsAs EF.over EF.basis
+            (folder_row self.now) 0 (⟦<RowWindow<'a, EF> as WindowAccess<EF>>⟧.current_row w)) }
+        ensures next { IfOk result (λ w. PermutationReadsAs EF.over EF.basis
+            (folder_row self.now) 1 (⟦<RowWindow<'a, EF> as WindowAccess<EF>>⟧.next_row w)) }
+        ensures current_ends { IfOk result (λ w. PermutationEnds (folder_row self.now) 0
+            (⟦<RowWindow<'a, EF> as WindowAccess<EF>>⟧.current_row w)) }
+        ensures next_ends { IfOk result (λ w. PermutationEnds (folder_row self.now) 1
+            (⟦<RowWindow<'a, EF> as WindowAccess<EF>>⟧.next_row w)) }
         ensures answered { folder_permutation self.now ≢ None → IsOk result }
         ensures without { folder_permutation self.now ≡ None → result ≡ Err AirError.NoPermutation }
         ensures refused { IfErr result (λ e.

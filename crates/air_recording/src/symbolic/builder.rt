@@ -1,6 +1,6 @@
 //! The symbolic builder: what is asserted becomes expressions of a pool.
 ghost use Rattle.std.specs.Prelude.{◌≡◌, IfOk, IfErr};
-ghost use Rattle.air_recording.specs.RecordedLists.{no_lists, lists_of};
+ghost use Rattle.air_recording.specs.RecordedLists.{no_lists, recorded_by, pool_of, selectors_of, layout_of};
 ghost use Rattle.air_recording.specs.Folds.{ArePlacesOf};
 ghost use Rattle.air_recording.specs.SymbolicParts.{SelectorsAreLeaves};
 
@@ -29,9 +29,10 @@ impl<F: Field, EF: ExtensionField<F>> SymbolicAirBuilder<F, EF> {
     /// A builder of this layout that has recorded nothing. Its selectors are made at once, so that they are there.
     pub fn new(alloc: Global, layout: AirLayout) -> Result<Self, AirError>
         ensures ready { IfOk result ⟦<SymbolicAirBuilder<F, EF> as AirBuilder>⟧.ready }
-        ensures layout { IfOk result (λ b. b.entries.base.layout ≡ layout) }
-        ensures selectors { IfOk result (λ b. SelectorsAreLeaves b.pool.base b.selectors) }
-        ensures none { IfOk result (λ b. lists_of b.constraints ≡ no_lists) }
+        ensures layout { IfOk result (λ b. layout_of b ≡ layout) }
+        ensures selectors { IfOk result (λ b. SelectorsAreLeaves (pool_of b).base
+            (selectors_of b)) }
+        ensures none { IfOk result (λ b. recorded_by b ≡ no_lists) }
         ensures refused { IfErr result (λ e. e ≡ AirError.Memory) }
     {
         let mut pool = ExprPool::new(alloc);
@@ -47,21 +48,21 @@ impl<F: Field, EF: ExtensionField<F>> SymbolicAirBuilder<F, EF> {
 
     /// The recorded base constraints, in order: numbers of the pool's base pool.
     pub fn base_constraints(&self) -> &[ExprId<BaseLeaf<F>>]
-        ensures { result.now ≡ self.now.constraints.base.items }
+        ensures { result.now ≡ (recorded_by self.now).base }
     {
         self.constraints.base.as_slice()
     }
 
     /// The recorded extension constraints, in order: numbers of the pool.
     pub fn extension_constraints(&self) -> &[ExprId<ExtLeaf<F, EF>>]
-        ensures { result.now ≡ self.now.constraints.ext.items }
+        ensures { result.now ≡ (recorded_by self.now).ext }
     {
         self.constraints.ext.as_slice()
     }
 
     /// Where the base and the extension constraints recorded so far stand among all of them.
     pub fn constraint_layout(&self) -> Result<ConstraintLayout, AirError>
-        ensures places { IfOk result (λ l. ArePlacesOf self.now.constraints.kinds.items
+        ensures places { IfOk result (λ l. ArePlacesOf (recorded_by self.now).kinds
             l.base_indices.items l.ext_indices.items) }
         ensures refused { IfErr result (λ e. e ≡ AirError.Memory) }
     {

@@ -3,9 +3,10 @@ ghost use Rattle.std.specs.Prelude.{◌≡◌, [], refl, IfOk, IfErr};
 ghost use Rattle.air_symbolic.specs.Pools.{on_base};
 ghost use Rattle.air_symbolic.specs.laws.BasePool.{base_pool_laws};
 ghost use Rattle.air_symbolic.specs.laws.ExtPool.{ext_pool_laws, base_lent, base_grown};
+ghost use Rattle.air_core.specs.WindowShapes.{current_of, next_of};
 ghost use Rattle.air_recording.specs.Rows.{IsExtRowOf};
 ghost use Rattle.air_recording.specs.laws.Recording.{recording_ext_laws};
-ghost use Rattle.air_recording.specs.RecordedLists.{lists_of};
+ghost use Rattle.air_recording.specs.RecordedLists.{lists_of, layout_of};
 ghost use Rattle.air_recording.specs.SymbolicParts.{fixed_by, base_has_it, base_means_it};
 
 use crate::symbolic::builder::SymbolicAirBuilder;
@@ -56,9 +57,9 @@ impl<F: Field, EF: ExtensionField<F>> PermutationAirBuilder for SymbolicAirBuild
     /// memory alone.
     fn permutation(&self) -> Result<TwoRows<SymbolicVariableExt<F, EF>>, AirError>
         ensures current { IfOk result (λ w. IsExtRowOf (ExtEntry.Permutation 0)
-            self.now.entries.base.layout.permutation_width w.current.items) }
+            (layout_of self.now).permutation_width (current_of w)) }
         ensures next { IfOk result (λ w. IsExtRowOf (ExtEntry.Permutation 1)
-            self.now.entries.base.layout.permutation_width w.next.items) }
+            (layout_of self.now).permutation_width (next_of w)) }
         ensures refused { IfErr result (λ e. e ≡ AirError.Memory) }
     {
         let width = self.entries.ext.layout.permutation_width;

@@ -10,7 +10,7 @@ ghost use Rattle.air_builder.specs.Batches.{Asserts};
 ghost use Rattle.air_builder.specs.Labels.{Labels, GrewWithoutLabels};
 ghost use Rattle.air_builder.specs.laws.NamedFilters.{discarding_laws};
 ghost use Rattle.air_recording.specs.laws.Recording.{recording_laws};
-ghost use Rattle.air_recording.specs.RecordedLists.{lists_of};
+ghost use Rattle.air_recording.specs.RecordedLists.{lists_of, pool_of};
 ghost use Rattle.air_recording.specs.SymbolicParts.{fixed_by};
 
 use crate::symbolic::builder::SymbolicAirBuilder;
@@ -39,7 +39,7 @@ impl<F: Field, EF: ExtensionField<F>> NamedAirBuilder for SymbolicAirBuilder<F, 
         name: N,
     ) -> Result<(), AirError>
         requires ready { ⟦<SymbolicAirBuilder<F, EF> as AirBuilder>⟧.ready self.old }
-        requires of_ring { PoolHas base_reads self.old.pool.base x }
+        requires of_ring { PoolHas base_reads (pool_of self.old).base x }
         ensures asserted { Asserts ⟦<SymbolicAirBuilder<F, EF> as View>⟧.view Base (λ t. t) self.old
             self.new (x ∷ []) result }
         ensures label { Labels ⟦<SymbolicAirBuilder<F, EF> as View>⟧.view
@@ -57,7 +57,7 @@ impl<F: Field, EF: ExtensionField<F>> NamedExtensionBuilder for SymbolicAirBuild
         _name: N,
     ) -> Result<(), AirError>
         requires ready { ⟦<SymbolicAirBuilder<F, EF> as AirBuilder>⟧.ready self.old }
-        requires of_ring { PoolHas (ext_reads EF.basis) self.old.pool x }
+        requires of_ring { PoolHas (ext_reads EF.basis) (pool_of self.old) x }
         ensures asserted { Asserts ⟦<SymbolicAirBuilder<F, EF> as ViewOver>⟧.view Extension
             (λ t. t) self.old self.new (x ∷ []) result }
         ensures label { Labels ⟦<SymbolicAirBuilder<F, EF> as ViewOver>⟧.view

@@ -7,6 +7,7 @@ ghost use Rattle.air_recording.specs.Layouts.{LayoutSuits};
 ghost use Rattle.air_recording.specs.Folds.{ArePlacesOf};
 ghost use Rattle.air_recording.specs.Kinds.{kind_of, RecordsKinds};
 ghost use Rattle.air_recording.specs.Recorded.{RecordsBase, RecordsExt, RecordRefuses, RecordingAnswers};
+ghost use Rattle.air_recording.specs.RecordedLists.{pool_of, recorded_by};
 
 use crate::layouts::air_layout::AirLayout;
 use crate::layouts::constraint_layout::ConstraintLayout;
@@ -45,10 +46,10 @@ impl<F: Field, EF: ExtensionField<F>> Model for Recorded<F, EF> {
 impl<F: Field, EF: ExtensionField<F>> SymbolicAirBuilder<F, EF> {
     /// What was recorded, handed over.
     pub fn into_recorded(self) -> Recorded<F, EF>
-        requires { FitsBase (ext_reads EF.basis) self.pool }
-        ensures pool { result.pool ≡ self.pool }
-        ensures base { result.base ≡ self.constraints.base.items }
-        ensures ext { result.ext ≡ self.constraints.ext.items }
+        requires { FitsBase (ext_reads EF.basis) (pool_of self) }
+        ensures pool { result.pool ≡ pool_of self }
+        ensures base { result.base ≡ (recorded_by self).base }
+        ensures ext { result.ext ≡ (recorded_by self).ext }
     {
         let SymbolicAirBuilder {
             pool,

@@ -89,14 +89,14 @@ impl<'a, F: Field, EF: ExtensionField<F> + 'static> PermutationAirBuilder
     fn permutation(&self) -> Result<RowWindow<'a, EF>, AirError>
         ensures current { IfOk result (λ w. RowReadsAs (λ v t. closed_value_in EF.over t ≡ v)
             (λ i. row_reads_as F.ring EF.over EF.basis (debug_row self.now) (permutation 0 i))
-            w.current.now) }
+            (⟦<RowWindow<'a, EF> as WindowAccess<EF>>⟧.current_row w)) }
         ensures next { IfOk result (λ w. RowReadsAs (λ v t. closed_value_in EF.over t ≡ v)
             (λ i. row_reads_as F.ring EF.over EF.basis (debug_row self.now) (permutation 1 i))
-            w.next.now) }
+            (⟦<RowWindow<'a, EF> as WindowAccess<EF>>⟧.next_row w)) }
         ensures current_ends { IfOk result (λ w. RowEnds (RowMissing (debug_row self.now))
-            (λ i. permutation 0 i) w.current.now) }
+            (λ i. permutation 0 i) (⟦<RowWindow<'a, EF> as WindowAccess<EF>>⟧.current_row w)) }
         ensures next_ends { IfOk result (λ w. RowEnds (RowMissing (debug_row self.now))
-            (λ i. permutation 1 i) w.next.now) }
+            (λ i. permutation 1 i) (⟦<RowWindow<'a, EF> as WindowAccess<EF>>⟧.next_row w)) }
         ensures answered { permutation_of self.now ≢ None → IsOk result }
         ensures without { permutation_of self.now ≡ None → result ≡ Err AirError.NoPermutation }
         ensures refused { IfErr result (λ e. (e ≡ AirError.NoPermutation)
