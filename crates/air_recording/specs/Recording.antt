@@ -30,15 +30,15 @@ abbrev pub with_ext : {E X : Type 0} → Lists E X → X → Lists E X
 with_ext l x = record { base = l.base; ext = l.ext ++ x ∷ []; kinds = l.kinds ++ kind.Extension ∷ [] }
 
 -- the selectors' expressions mean their leaves
-pub record SelectorsMean {E F : Type 0} (means : E → Term F → Type 0) (s : Fixed E) : Type 0 where
-  pub first : means s.on_first_row (leaf_term first_row)
-  pub last : means s.on_last_row (leaf_term last_row)
-  pub step : means s.on_transition (leaf_term transition)
+pub record SelectorsMean {E F : Type 0} (means : E → Term F → Type 0) (on_first_row on_last_row on_transition : E) : Type 0 where
+  pub first : means on_first_row (leaf_term first_row)
+  pub last : means on_last_row (leaf_term last_row)
+  pub step : means on_transition (leaf_term transition)
 
 -- the pool is as its calls left it, and the selectors' expressions mean their leaves
 pub record IsReady {E F : Type 0} (valid : Type 0) (means : E → Term F → Type 0) (s : Fixed E) : Type 0 where
   pub pool : valid
-  pub selectors : SelectorsMean means s
+  pub selectors : SelectorsMean means s.on_first_row s.on_last_row s.on_transition
 
 -- the pool extends, and the rest stays
 pub record KeptRecording {Q E : Type 0} (extends : Q → Q → Type 0) (p q : Q) (s u : Fixed E) : Type 0 where

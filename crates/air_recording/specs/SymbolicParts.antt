@@ -2,7 +2,7 @@
 use Rattle.std.specs.Prelude.{ℕ, Some}
 use Rattle.air_field.specs.Ring.{CommRing}
 use Rattle.air_field.specs.Extension.{Basis}
-use Rattle.air_field.specs.Term.{first_row, last_row, transition, Term, leaf_term}
+use Rattle.air_field.specs.Term.{Term}
 use Rattle.air_symbolic.specs.Trees.{leaf_tree}
 use Rattle.air_symbolic.specs.Pools.{IsPool, PoolHas, PoolMeans, HasTree}
 use Rattle.air_symbolic.specs.BaseLeaves.{base_reads}
@@ -28,12 +28,6 @@ pub record SelectorsAreLeaves {F : Type 0} (pool : BaseNodes F) (s : Selectors F
   pub first : HasTree pool (Some (leaf_tree IsFirstRow)) s.first_row
   pub last : HasTree pool (Some (leaf_tree IsLastRow)) s.last_row
   pub step : HasTree pool (Some (leaf_tree IsTransition)) s.transition
-
--- the selectors' expressions mean their leaves
-pub record SelectorsMeanLeaves {F : Type 0} (means : ℕ → Term F → Type 0) (s : Selectors F) : Type 0 where
-  pub first : means s.first_row (leaf_term first_row)
-  pub last : means s.last_row (leaf_term last_row)
-  pub step : means s.transition (leaf_term transition)
 
 -- what is of the base pool that lies under an extension pool, and means a term there, is and does in the extension pool
 module _ {F EF : Type 0} (basis : Basis F EF) where

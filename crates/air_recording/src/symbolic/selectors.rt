@@ -2,7 +2,8 @@
 ghost use Rattle.std.specs.Prelude.{◌≡◌, IfOk, IfErr};
 ghost use Rattle.air_symbolic.specs.Pools.{PoolMeans, Grown};
 ghost use Rattle.air_symbolic.specs.BaseLeaves.{base_reads, base_grows};
-ghost use Rattle.air_recording.specs.SymbolicParts.{SelectorsAreLeaves, SelectorsMeanLeaves};
+ghost use Rattle.air_recording.specs.Recording.{SelectorsMean};
+ghost use Rattle.air_recording.specs.SymbolicParts.{SelectorsAreLeaves};
 
 use air_builder::AirError;
 use air_field::Field;
@@ -22,7 +23,8 @@ pub(crate) fn make_selectors<F: Field>(
 ) -> Result<Selectors<F>, AirError>
     ensures grown { Grown base_grows base_reads pool.old pool.new }
     ensures leaves { IfOk result (SelectorsAreLeaves pool.new) }
-    ensures mean { IfOk result (SelectorsMeanLeaves (PoolMeans base_reads F.ring pool.new)) }
+    ensures mean { IfOk result (λ s. SelectorsMean (PoolMeans base_reads F.ring pool.new)
+        s.first_row s.last_row s.transition) }
     ensures refused { IfErr result (λ e. e ≡ AirError.Memory) }
 {
     let first_row = pool.leaf_expr(BaseLeaf::IsFirstRow)?;
