@@ -56,3 +56,7 @@ power_term one t (suc (suc n)) = power_term one t (suc n) ⊙ t
 pub record IsUsable {S E F : Type 0} (means : S → E → Term F → Type 0) (missing : S → Leaf → Type 0) (x : E) (t : Term F) (b : S) : Type 0 where
   pub meant : means b x t
   pub leaves : EachLeaf (λ l. missing b l → ⊥) t
+
+-- the same of a builder as its laws see it
+abbrev pub IsUsableIn : {S R E F : Type 0} → BuilderView S R E F → E → Term F → S → Type 0
+IsUsableIn view = IsUsable (MeansIn view) view.missing

@@ -7,7 +7,7 @@ use Rattle.air_builder.specs.Assertion.{Assertion}
 use Rattle.air_builder.specs.Builders.{MeansIn, BuilderView, RingLaws, BuilderLaws}
 use Rattle.air_builder.specs.laws.Filters.{means_kept}
 use Rattle.air_builder.specs.Refusals.{EachLeaf, PartOf}
-use Rattle.air_builder.specs.Batches.{Asserted}
+use Rattle.air_builder.specs.Batches.{AssertedList}
 use Rattle.air_author.specs.Expressions.{MakesTerm, AlwaysAfter, IsUsable}
 use Rattle.air_author.specs.laws.Each.{of_one}
 
@@ -39,34 +39,41 @@ module _ {S R B E F : Type 0} {view : BuilderView S R B F} {means : S → E → 
 
   -- it wasn't made, so that nothing was asserted of what it is a part of
   pub making_refused : (a b : S) (e : AirError) (t : Term F) (ts : List (Assertion F)) → 0 < length ts → PartOf t ts
-      → MakesTerm means grew missing refuses a b (Err e) t → Asserted kept grew missing refuses a b (Err e) ts
+      → MakesTerm means grew missing refuses a b (Err e) t → AssertedList kept grew missing refuses a b (Err e) ts
   making_refused a b e t ts some part h = record {
-    keeps = laws.by_growth a b [] h.keeps;
-    ok = tt;
+    asserted = record {
+      keeps = laws.by_growth a b [] h.keeps;
+      ok = tt;
+      err = record { count = 0; within = some; beginning = h.keeps };
+      refused = h.refused ts (of_one (λ u. PartOf u ts) t part);
+    };
     there = tt;
-    err = record { count = 0; within = some; beginning = h.keeps };
-    refused = h.refused ts (of_one (λ u. PartOf u ts) t part);
   }
 
   -- it was made, and then the list was asserted
   pub made_then : (a b d : S) (x : E) (r : Result ⊤ AirError) (t : Term F) (ts : List (Assertion F))
-      → MakesTerm means grew missing refuses a b (Ok x) t → Asserted kept grew missing refuses b d r ts
-      → Asserted kept grew missing refuses a d r ts
+      → MakesTerm means grew missing refuses a b (Ok x) t → AssertedList kept grew missing refuses b d r ts
+      → AssertedList kept grew missing refuses a d r ts
   made_then a b d x (Ok u) t ts h k = record {
-    keeps = laws.kept_joined a b d (laws.by_growth a b [] h.keeps) k.keeps;
-    ok = laws.joined a b d [] ts h.keeps k.ok;
-    there = λ l m. k.there l (laws.missing_stays a b l (laws.by_growth a b [] h.keeps) m);
-    err = tt;
-    refused = tt;
-  }
-  made_then a b d x (Err e) t ts h k = record {
-    keeps = laws.kept_joined a b d (laws.by_growth a b [] h.keeps) k.keeps;
-    ok = tt;
-    there = tt;
-    err = record {
-      count = k.err.count;
-      within = k.err.within;
-      beginning = laws.joined a b d [] (take k.err.count ts) h.keeps k.err.beginning;
+    asserted = record {
+      keeps = laws.kept_joined a b d (laws.by_growth a b [] h.keeps) k.asserted.keeps;
+      ok = laws.joined a b d [] ts h.keeps k.asserted.ok;
+      err = tt;
+      refused = tt;
     };
-    refused = laws.refuses_then a b e [] ts h.keeps k.refused;
+    there = λ l m. k.there l (laws.missing_stays a b l (laws.by_growth a b [] h.keeps) m);
   }
+  made_then a b d x (Err e) t ts h k =
+      let rest = k.asserted.err in record {
+        asserted = record {
+          keeps = laws.kept_joined a b d (laws.by_growth a b [] h.keeps) k.asserted.keeps;
+          ok = tt;
+          err = record {
+            count = rest.count;
+            within = rest.within;
+            beginning = laws.joined a b d [] (take rest.count ts) h.keeps rest.beginning;
+          };
+          refused = laws.refuses_then a b e [] ts h.keeps k.asserted.refused;
+        };
+        there = tt;
+      }

@@ -16,63 +16,63 @@ AssertsOf {F = F} kind means op a x s = (t : Term F) × means a x t × (s ≡ ki
 abbrev pub AssertsOfBoth : {S E F : Type 0} → (Term F → Assertion F) → (S → E → Term F → Type 0) → (Term F → Term F → Term F) → S → E × E → Assertion F → Type 0
 AssertsOfBoth {F = F} kind means op a p s = (t : Term F) × (u : Term F) × means a p.0 t × means a p.1 u × (s ≡ kind (op t u))
 
--- the builder grew by what each element asserts, in order
-abbrev pub GrewByEach : {S I F : Type 0} → (S → I → Assertion F → Type 0) → (S → S → List (Assertion F) → Type 0) → S → S → List I → Type 0
-GrewByEach {F = F} asserts grew a b xs = (ss : List (Assertion F)) → AllZip (asserts a) xs ss → grew a b ss
+-- a fact is true of the list of what each element asserts in the builder, in order
+abbrev pub OfEach : {S I F : Type 0} → (S → I → Assertion F → Type 0) → List I → S → (List (Assertion F) → Type 0) → Type 0
+OfEach {F = F} asserts xs a fact = (ss : List (Assertion F)) → AllZip (asserts a) xs ss → fact ss
 
--- the builder grew by what some of the elements assert, the first ones and not all
-pub record GrewByBeginning {S I F : Type 0} (asserts : S → I → Assertion F → Type 0) (grew : S → S → List (Assertion F) → Type 0) (a b : S) (xs : List I) : Type 0 where
+-- a fact is true of a beginning of the list: of its first elements, and not of all
+pub record OfBeginning {X : Type 0} (xs : List X) (fact : List X → Type 0) : Type 0 where
   pub count : ℕ
   pub within : count < length xs
-  pub beginning : GrewByEach asserts grew a b (take count xs)
+  pub beginning : fact (take count xs)
 
--- the builder grew by the first ones of the list, and not by all
-pub record GrewByFirst {S F : Type 0} (grew : S → S → List (Assertion F) → Type 0) (a b : S) (ts : List (Assertion F)) : Type 0 where
-  pub count : ℕ
-  pub within : count < length ts
-  pub beginning : grew a b (take count ts)
+-- a fact is true of what some of the elements assert, the first ones and not all
+abbrev pub OfFirst : {S I F : Type 0} → (S → I → Assertion F → Type 0) → List I → S → (List (Assertion F) → Type 0) → Type 0
+OfFirst asserts xs a fact = OfBeginning xs (λ ys. OfEach asserts ys a fact)
 
--- growing by what each element asserts may be refused with e
-abbrev pub RefusesByEach : {S I F X : Type 0} → (S → I → Assertion F → Type 0) → (S → X → List (Assertion F) → Type 0) → S → List I → X → Type 0
-RefusesByEach {F = F} asserts refuses a xs e = (ss : List (Assertion F)) → AllZip (asserts a) xs ss → refuses a e ss
-
--- What a call that asserts each of xs does to a builder: it keeps it, and grew it by all of them; or it grew it by some,
--- the first ones and not all, and refuses as growing by all may be refused.
-pub record AssertedEach {S I F X : Type 0} (asserts : S → I → Assertion F → Type 0) (kept : S → S → Type 0)
+-- What a call that asserts does to a builder: it keeps it, and grew it by all of what it asserts; or it grew it by a
+-- beginning of that, which isn't all, and refuses as growing by all may be refused. A call says what it asserts by what
+-- it is to be true of all of that, and of a beginning.
+pub record Asserted {S F X : Type 0} (of_all of_beginning : S → (List (Assertion F) → Type 0) → Type 0) (kept : S → S → Type 0)
     (grew : S → S → List (Assertion F) → Type 0) (refuses : S → X → List (Assertion F) → Type 0)
-    (a b : S) (xs : List I) (result : Result ⊤ X) : Type 0 where
+    (a b : S) (result : Result ⊤ X) : Type 0 where
   pub keeps : kept a b
-  pub ok : OnOk result (GrewByEach asserts grew a b xs)
-  pub err : OnErr result (GrewByBeginning asserts grew a b xs)
-  pub refused : IfErr result (RefusesByEach asserts refuses a xs)
+  pub ok : OnOk result (of_all a (grew a b))
+  pub err : OnErr result (of_beginning a (grew a b))
+  pub refused : IfErr result (λ e. of_all a (refuses a e))
+
+-- what a call does that asserts what each of xs does
+abbrev pub AssertedEach : {S I F X : Type 0} → (S → I → Assertion F → Type 0) → (S → S → Type 0)
+    → (S → S → List (Assertion F) → Type 0) → (S → X → List (Assertion F) → Type 0) → S → S → List I → Result ⊤ X → Type 0
+AssertedEach asserts kept grew refuses a b xs result =
+    Asserted (OfEach asserts xs) (OfFirst asserts xs) kept grew refuses a b result
+
+-- the same of a builder as its laws see it
+abbrev pub AssertedEachIn : {S R I E F : Type 0} → BuilderView S R E F → (S → I → Assertion F → Type 0) → S → S → List I
+    → Result ⊤ AirError → Type 0
+AssertedEachIn view asserts a b xs result = AssertedEach asserts view.kept view.grew view.refuses a b xs result
 
 -- What a call does to a builder that asserts of each of xs, in order, that the operation of what it means is zero: by an
 -- assertion of this kind.
 abbrev pub Asserts : {S R E F : Type 0} → BuilderView S R E F → (Term F → Assertion F) → (Term F → Term F) → S → S → List E
     → Result ⊤ AirError → Type 0
-Asserts view kind op a b xs result = AssertedEach (AssertsOf kind (MeansIn view) op) view.kept view.grew view.refuses a b xs result
+Asserts view kind op a b xs result = AssertedEachIn view (AssertsOf kind (MeansIn view) op) a b xs result
 
 -- the same of pairs
 abbrev pub AssertsBoth : {S R E F : Type 0} → BuilderView S R E F → (Term F → Assertion F) → (Term F → Term F → Term F) → S → S
     → List (E × E) → Result ⊤ AirError → Type 0
-AssertsBoth view kind op a b ps result =
-    AssertedEach (AssertsOfBoth kind (MeansIn view) op) view.kept view.grew view.refuses a b ps result
+AssertsBoth view kind op a b ps result = AssertedEachIn view (AssertsOfBoth kind (MeansIn view) op) a b ps result
 
--- What a call that asserts a list does to a builder: it keeps it. Where it is Ok, the builder grew by the list, and each
--- leaf of the list is there; else it grew by a beginning of the list that isn't the whole, and the refusal is one of the
--- list.
-pub record Asserted {S F X : Type 0} (kept : S → S → Type 0) (grew : S → S → List (Assertion F) → Type 0)
+-- What a call that asserts a list does to a builder; where it is Ok, each leaf of the list is there.
+pub record AssertedList {S F X : Type 0} (kept : S → S → Type 0) (grew : S → S → List (Assertion F) → Type 0)
     (missing : S → Leaf → Type 0) (refuses : S → X → List (Assertion F) → Type 0) (a b : S)
     (r : Result ⊤ X) (ts : List (Assertion F)) : Type 0 where
-  pub keeps : kept a b
-  pub ok : OnOk r (grew a b ts)
+  pub asserted : Asserted (λ s fact. fact ts) (λ s. OfBeginning ts) kept grew refuses a b r
   pub there : OnOk r (NoneMissing (missing a) ts)
-  pub err : OnErr r (GrewByFirst grew a b ts)
-  pub refused : IfErr r (λ e. refuses a e ts)
 
 -- the same of a builder as its laws see it
 abbrev pub AssertedIn : {S R E F : Type 0} → BuilderView S R E F → S → S → Result ⊤ AirError → List (Assertion F) → Type 0
-AssertedIn view a b r ts = Asserted view.kept view.grew view.missing view.refuses a b r ts
+AssertedIn view a b r ts = AssertedList view.kept view.grew view.missing view.refuses a b r ts
 
 -- besides what is refused, memory may be wanting
 abbrev pub OrMemory : {S F : Type 0} → (S → AirError → List (Assertion F) → Type 0) → S → AirError → List (Assertion F) → Type 0
@@ -80,4 +80,4 @@ OrMemory refuses a e ts = (e ≡ Memory) ⊎ refuses a e ts
 
 -- What the evaluation of an AIR with these constraints does to a builder: it asserts them. It may lack memory of its own.
 abbrev pub Evaluates : {S R E F : Type 0} → BuilderView S R E F → S → S → Result ⊤ AirError → List (Assertion F) → Type 0
-Evaluates view a b r ts = Asserted view.kept view.grew view.missing (OrMemory view.refuses) a b r ts
+Evaluates view a b r ts = AssertedList view.kept view.grew view.missing (OrMemory view.refuses) a b r ts

@@ -5,11 +5,11 @@ use Rattle.std.proofs.lemmas.Slice.Zip.{AllZip-long}
 use Rattle.air_field.specs.Term.{Leaf, Term}
 use Rattle.air_core.specs.declared.errors.AirError.{AirError}
 use Rattle.air_builder.specs.Assertion.{Assertion}
-use Rattle.air_builder.specs.Batches.{GrewByFirst, AssertedEach}
+use Rattle.air_builder.specs.Batches.{OfBeginning, AssertedEach}
 use Rattle.air_builder.specs.Builders.{BuilderView, BuilderLaws}
 use Rattle.air_builder.specs.laws.Batches.{first_of_two, first_whole}
 use Rattle.air_builder.specs.laws.Zips.{AllZip-take}
-use Rattle.air_gadgets.specs.Gadgets.{AssertedList}
+use Rattle.air_gadgets.specs.Gadgets.{AssertedSuch}
 
 -- one list, and then another
 abbrev pub Then : {F : Type 0} → (List (Assertion F) → Type 0) → (List (Assertion F) → Type 0) → List (Assertion F) → Type 0
@@ -20,8 +20,8 @@ module _ {S R E F : Type 0} {view : BuilderView S R E F} (laws : BuilderLaws vie
 
   -- what is said of some lists, of any that are among them
   pub list_of : {is was : List (Assertion F) → Type 0} {a b : S} (result : Result (Unit {0}) AirError)
-      → ((ss : List (Assertion F)) → is ss → was ss) → AssertedList was kept grew refuses a b result
-      → AssertedList is kept grew refuses a b result
+      → ((ss : List (Assertion F)) → is ss → was ss) → AssertedSuch was kept grew refuses a b result
+      → AssertedSuch is kept grew refuses a b result
   list_of (Ok u) f h = record { keeps = h.keeps; ok = λ ss i. h.ok ss (f ss i); err = tt; refused = tt }
   list_of (Err e) f h = record {
     keeps = h.keeps;
@@ -33,7 +33,7 @@ module _ {S R E F : Type 0} {view : BuilderView S R E F} (laws : BuilderLaws vie
   -- what each element asserts makes a list
   pub list_of_each : {I : Type 0} {asserts : S → I → Assertion F → Type 0} {a b : S} {xs : List I}
       (result : Result (Unit {0}) AirError) → AssertedEach asserts kept grew refuses a b xs result
-      → AssertedList (AllZip (asserts a) xs) kept grew refuses a b result
+      → AssertedSuch (AllZip (asserts a) xs) kept grew refuses a b result
   list_of_each (Ok u) h = record { keeps = h.keeps; ok = h.ok; err = tt; refused = tt }
   list_of_each {asserts = asserts} {a = a} {xs = xs} (Err e) h = record {
     keeps = h.keeps;
@@ -49,8 +49,8 @@ module _ {S R E F : Type 0} {view : BuilderView S R E F} (laws : BuilderLaws vie
   module _ {is more : List (Assertion F) → Type 0} {a b : S} where
     -- a list was asserted, and then another
     pub list_then : {d : S} {u : Unit {0}} (result : Result (Unit {0}) AirError)
-        → AssertedList is kept grew refuses a b (Ok u) → AssertedList more kept grew refuses b d result
-        → AssertedList (Then is more) kept grew refuses a d result
+        → AssertedSuch is kept grew refuses a b (Ok u) → AssertedSuch more kept grew refuses b d result
+        → AssertedSuch (Then is more) kept grew refuses a d result
     list_then {d = d} (Ok v) h k = record {
       keeps = laws.kept_joined a b d h.keeps k.keeps;
       ok = λ ss w. subst (grew a d) (sym w.4) (laws.joined a b d w.0 w.1 (h.ok w.0 w.2) (k.ok w.1 w.3));
@@ -62,27 +62,27 @@ module _ {S R E F : Type 0} {view : BuilderView S R E F} (laws : BuilderLaws vie
       ok = tt;
       err = λ ss w.
           let rest = k.err w.1 w.3 in
-          subst (GrewByFirst grew a d) (sym w.4)
+          subst (λ v. OfBeginning v (grew a d)) (sym w.4)
           (first_whole grew a d w.0 w.1 rest.count rest.within
           (laws.joined a b d w.0 (take rest.count w.1) (h.ok w.0 w.2) rest.beginning));
       refused = λ ss w. subst (refuses a e) (sym w.4) (laws.refuses_then a b e w.0 w.1 (h.ok w.0 w.2) (k.refused w.1 w.3));
     }
 
     -- the first of two was refused
-    pub list_first : {e : AirError} → AssertedList is kept grew refuses a b (Err e)
-        → AssertedList (Then is more) kept grew refuses a b (Err e)
+    pub list_first : {e : AirError} → AssertedSuch is kept grew refuses a b (Err e)
+        → AssertedSuch (Then is more) kept grew refuses a b (Err e)
     list_first {e = e} h = record {
       keeps = h.keeps;
       ok = tt;
-      err = λ ss w. subst (GrewByFirst grew a b) (sym w.4) (first_of_two grew a b w.0 w.1 (h.err w.0 w.2));
+      err = λ ss w. subst (λ v. OfBeginning v (grew a b)) (sym w.4) (first_of_two grew a b w.0 w.1 (h.err w.0 w.2));
       refused = λ ss w. subst (refuses a e) (sym w.4) (laws.refuses_first a e w.0 w.1 (h.refused w.0 w.2));
     }
 
   -- nothing was asserted, and then a list
   pub list_after : {is : List (Assertion F) → Type 0} {a b d : S} (result : Result (Unit {0}) AirError) → grew a b []
-      → AssertedList is kept grew refuses b d result → AssertedList is kept grew refuses a d result
+      → AssertedSuch is kept grew refuses b d result → AssertedSuch is kept grew refuses a d result
   list_after {a = a} {b = b} result g h =
-      let none : AssertedList (λ ss. ss ≡ []) kept grew refuses a b (Ok tt) = record {
+      let none : AssertedSuch (λ ss. ss ≡ []) kept grew refuses a b (Ok tt) = record {
         keeps = laws.by_growth a b [] g;
         ok = λ ss e. subst (grew a b) (sym e) g;
         err = tt;
@@ -97,9 +97,9 @@ module _ {S R E F : Type 0} {view : BuilderView S R E F} (laws : BuilderLaws vie
 
     -- a list was asserted, and then each element
     pub list_then_each : {is : List (Assertion F) → Type 0} {a b d : S} {xs : List I} {u : Unit {0}}
-        (result : Result (Unit {0}) AirError) → AssertedList is kept grew refuses a b (Ok u)
+        (result : Result (Unit {0}) AirError) → AssertedSuch is kept grew refuses a b (Ok u)
         → AssertedEach (λ c. over (reads_as c)) kept grew refuses b d xs result
-        → AssertedList (Then is (AllZip (over (reads_as a)) xs)) kept grew refuses a d result
+        → AssertedSuch (Then is (AllZip (over (reads_as a)) xs)) kept grew refuses a d result
     list_then_each {is = is} {a = a} {b = b} {d = d} {xs = xs} result h k =
-        subst (λ l. AssertedList (Then is (AllZip (over l) xs)) kept grew refuses a d result) (laws.stands_kept a b h.keeps)
+        subst (λ l. AssertedSuch (Then is (AllZip (over l) xs)) kept grew refuses a d result) (laws.stands_kept a b h.keeps)
         (list_then result h (list_of_each result k))

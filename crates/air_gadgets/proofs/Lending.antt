@@ -15,7 +15,7 @@ use Rattle.air_builder.specs.Builders.{MeansIn, BuilderView, RingLaws, BuilderLa
 use Rattle.air_builder.specs.Refusals.{PartOf}
 use Rattle.air_builder.specs.laws.Growth.{lent, lent_means, lent_asserted, making_refused}
 use Rattle.air_gadgets.specs.Words.{Limbs}
-use Rattle.air_gadgets.specs.Gadgets.{FromThree, FromFour, LimbsMean, VariableMeans, RefusesOne, Adds2, Adds3, AssertedList, add2_terms, add3_terms}
+use Rattle.air_gadgets.specs.Gadgets.{FromThree, FromFour, LimbsMean, VariableMeans, RefusesOne, Adds2, Adds3, AssertedSuch, add2_terms, add3_terms}
 use Rattle.air_gadgets.proofs.Asserting.{list_of, list_of_each, list_after}
 
 -- ---- lists beside one another
@@ -27,8 +27,8 @@ zip_mapped P f (x ∷ xs) [] h = absurd h
 zip_mapped P f (x ∷ xs) (y ∷ ys) h = (h.0, zip_mapped P f xs ys h.1)
 
 -- what is said of terms with what stands at their leaves is said of a list's
-abbrev Made : {F : Type 0} → (Leaf → Term F) → (List (Term F) → Type 0) → List (Assertion F) → Type 0
-Made {F = F} s P ss = (ts : List (Term F)) × P (map (with_leaves s) ts) × (ss ≡ map Base ts)
+abbrev MadeEach : {F : Type 0} → (Leaf → Term F) → (List (Term F) → Type 0) → List (Assertion F) → Type 0
+MadeEach {F = F} s P ss = (ts : List (Term F)) × P (map (with_leaves s) ts) × (ss ≡ map Base ts)
 
 -- the same of one term, that an operation is asserted of
 abbrev pub MadeOne : {F : Type 0} → (Term F → Term F) → (Leaf → Term F) → (Term F → Type 0) → Assertion F → Type 0
@@ -65,9 +65,9 @@ module _ {S R E F : Type 0} {view : BuilderView S R E F} (ring : RingLaws view) 
 
   -- the lent ring made elements, and then each was asserted to be zero
   pub made_asserted : {is : List (Assertion F) → Type 0} {b : S} {xs : List E} (result : Result (Unit {0}) AirError)
-      → ((ss : List (Assertion F)) → is ss → Made (reads_as a) (AllZip (means r) xs) ss)
+      → ((ss : List (Assertion F)) → is ss → MadeEach (reads_as a) (AllZip (means r) xs) ss)
       → AssertedEach (AssertsOf Base (MeansIn view) (λ t. t)) kept grew refuses (with_ring a r) b xs result
-      → AssertedList is kept grew refuses a b result
+      → AssertedSuch is kept grew refuses a b result
   made_asserted {xs = xs} result made h =
       list_after laws result (lent laws a q r p e)
       (list_of laws result
@@ -75,8 +75,8 @@ module _ {S R E F : Type 0} {view : BuilderView S R E F} (ring : RingLaws view) 
       (list_of_each laws result h))
 
   making_list_refused : {is : List (Assertion F) → Type 0} (f : RingError)
-      → ((ss : List (Assertion F)) → is ss → Made (reads_as a) (RefusesOne ring_refuses f) ss)
-      → AssertedList is kept grew refuses a (with_ring a r) (Err (air_error f))
+      → ((ss : List (Assertion F)) → is ss → MadeEach (reads_as a) (RefusesOne ring_refuses f) ss)
+      → AssertedSuch is kept grew refuses a (with_ring a r) (Err (air_error f))
   making_list_refused f made =
       let none = lent laws a q r p e in record {
         keeps = laws.by_growth a (with_ring a r) [] none;
@@ -94,8 +94,8 @@ module _ {S R E F : Type 0} {view : BuilderView S R E F} (ring : RingLaws view) 
 
   -- a `?` gives up where the lent ring refused to make one
   pub list_gives_up : {is : List (Assertion F) → Type 0} {f : RingError} {result : Result (Unit {0}) AirError}
-      → IsErrAnd result (λ y. y ≡ air_error f) → ((ss : List (Assertion F)) → is ss → Made (reads_as a) (RefusesOne ring_refuses f) ss)
-      → AssertedList is kept grew refuses a (with_ring a r) result
+      → IsErrAnd result (λ y. y ≡ air_error f) → ((ss : List (Assertion F)) → is ss → MadeEach (reads_as a) (RefusesOne ring_refuses f) ss)
+      → AssertedSuch is kept grew refuses a (with_ring a r) result
   list_gives_up {f = f} {result = result} given made =
       let i = err_from_is_err_and result given in
       rw (i.1, i.2) (making_list_refused f made)
@@ -136,7 +136,7 @@ module _ {S R E F : Type 0} {view : BuilderView S R E F} (ring : RingLaws view) 
     pub sum_made : (C : CommRing F) (P : List (Term F) → Type 0) (xs ys : List V) (zs : List E)
         → FromThree (add2_terms C) (LimbsMean vm xs) (LimbsMean vm ys) (LimbsMean (means q) zs) P
         → (ss : List (Assertion F)) → Adds2 C (VariableMeans vm reads_as a) (MeansIn view a) xs ys zs ss
-        → Made (reads_as a) P ss
+        → MadeEach (reads_as a) P ss
     sum_made C P xs ys zs h ss w = (
       add2_terms C w.0 w.1 w.2,
       h (leaves_of (reads_as a) w.0) (leaves_of (reads_as a) w.1) (leaves_of (reads_as a) w.2)
@@ -147,7 +147,7 @@ module _ {S R E F : Type 0} {view : BuilderView S R E F} (ring : RingLaws view) 
     pub sum_of_three_made : (C : CommRing F) (P : List (Term F) → Type 0) (xs ys : List V) (zs vs : List E)
         → FromFour (add3_terms C) (LimbsMean vm xs) (LimbsMean vm ys) (LimbsMean (means q) zs) (LimbsMean (means q) vs) P
         → (ss : List (Assertion F)) → Adds3 C (VariableMeans vm reads_as a) (MeansIn view a) xs ys zs vs ss
-        → Made (reads_as a) P ss
+        → MadeEach (reads_as a) P ss
     sum_of_three_made C P xs ys zs vs h ss w = (
       add3_terms C w.0 w.1 w.2 w.3,
       h (leaves_of (reads_as a) w.0) (leaves_of (reads_as a) w.1) (leaves_of (reads_as a) w.2) (leaves_of (reads_as a) w.3)

@@ -1,12 +1,14 @@
 -- What the gadgets of words assert.
-use Rattle.std.specs.Prelude.{◌≡◌, ℕ, ◌*◌, ◌^◌, ◌⊎◌, List, [], ◌∷◌, ◌++◌, map, take, drop, Bool, true, false, Result, OnOk, OnErr, IfOk, IfErr, ⊤}
+use Rattle.std.specs.Prelude.{◌≡◌, ℕ, ◌*◌, ◌^◌, ◌⊎◌, List, [], ◌∷◌, ◌++◌, map, take, drop, Bool, true, false, Result, IfOk, IfErr, ⊤}
 use Rattle.std.specs.List.{AllZip}
 use Rattle.air_field.specs.Ring.{CommRing, image}
 use Rattle.air_field.specs.Term.{Leaf, Term, with_leaves}
 use Rattle.air_field.specs.Algebra.{bool_check_term, scaled_term, xor_term}
+use Rattle.air_core.specs.declared.errors.AirError.{AirError}
 use Rattle.air_gadgets.specs.Packing.{packed_term}
 use Rattle.air_builder.specs.Assertion.{Assertion, Base}
-use Rattle.air_builder.specs.Batches.{GrewByFirst}
+use Rattle.air_builder.specs.Batches.{Asserted, OfBeginning}
+use Rattle.air_builder.specs.Builders.{BuilderView}
 use Rattle.air_builder.specs.Notation.{constant, ◌⊕◌, ◌⊖◌, ◌⊙◌}
 use Rattle.air_gadgets.specs.Words.{Limbs, rotated_left}
 
@@ -119,6 +121,10 @@ LimbsMean means xs t = AllZip means xs (t.low ∷ t.high ∷ [])
 abbrev pub VariableMeans : {S V F : Type 0} → (V → Term F → Type 0) → (S → Leaf → Term F) → S → V → Term F → Type 0
 VariableMeans means reads_as b v t = means v (with_leaves (reads_as b) t)
 
+-- the same of a builder as its laws see it
+abbrev pub VariableMeansIn : {S R V E F : Type 0} → BuilderView S R E F → (V → Term F → Type 0) → S → V → Term F → Type 0
+VariableMeansIn view means = VariableMeans means view.reads_as
+
 -- the list is what `add2` asserts of terms that were handed to it
 abbrev pub Adds2 : {V E F : Type 0} → CommRing F → (V → Term F → Type 0) → (E → Term F → Type 0) → List V → List V → List E → List (Assertion F) → Type 0
 Adds2 {F = F} R reads_as means a b c ts =
@@ -144,13 +150,14 @@ HalfOf {F = F} R means a p s =
     × means a p.0 t × AllZip (means a) p.1 us × AllZip (means a) p.2 vs
     × (s ≡ Base (half_term R t us vs))
 
--- What a call that asserts a list does to a builder, whichever of the lists it is that the terms handed to it make: it
--- keeps it, and grew it by the list; or it grew it by a beginning, and not by all, and refuses as growing by the list may
--- be refused.
-pub record AssertedList {S X F : Type 0} (is : List (Assertion F) → Type 0) (kept : S → S → Type 0)
-    (grew : S → S → List (Assertion F) → Type 0) (refuses : S → X → List (Assertion F) → Type 0)
-    (a b : S) (result : Result ⊤ X) : Type 0 where
-  pub keeps : kept a b
-  pub ok : OnOk result ((ts : List (Assertion F)) → is ts → grew a b ts)
-  pub err : OnErr result ((ts : List (Assertion F)) → is ts → GrewByFirst grew a b ts)
-  pub refused : IfErr result (λ e. (ts : List (Assertion F)) → is ts → refuses a e ts)
+-- What a call that asserts a list does to a builder, whichever of the lists it is that the terms handed to it make.
+abbrev pub AssertedSuch : {S X F : Type 0} → (List (Assertion F) → Type 0) → (S → S → Type 0)
+    → (S → S → List (Assertion F) → Type 0) → (S → X → List (Assertion F) → Type 0) → S → S → Result ⊤ X → Type 0
+AssertedSuch {F = F} is kept grew refuses a b result =
+    Asserted (λ s fact. (ts : List (Assertion F)) → is ts → fact ts)
+    (λ s fact. (ts : List (Assertion F)) → is ts → OfBeginning ts fact) kept grew refuses a b result
+
+-- the same of a builder as its laws see it
+abbrev pub AssertedSuchIn : {S R E F : Type 0} → BuilderView S R E F → (List (Assertion F) → Type 0) → S → S
+    → Result ⊤ AirError → Type 0
+AssertedSuchIn view is a b result = AssertedSuch is view.kept view.grew view.refuses a b result

@@ -1,8 +1,8 @@
 //! An AIR whose `eval` is written against the calls of the builder, under a condition that is a difference.
 ghost use Rattle.std.specs.Prelude.{OnOk, OnErr, IfOk, IfErr, []};
 ghost use Rattle.air_field.specs.Term.{main};
-ghost use Rattle.air_builder.specs.Batches.{GrewByFirst, Evaluates};
-ghost use Rattle.air_builder.specs.Builders.{Means};
+ghost use Rattle.air_builder.specs.Batches.{OfBeginning, Evaluates};
+ghost use Rattle.air_builder.specs.Builders.{MeansIn};
 ghost use Rattle.air_builder.specs.Notation.{current};
 ghost use Rattle.air_builder.specs.Refusals.{NoneMissing};
 ghost use Rattle.cases_airs.specs.Differing.{differing_asserts, RowMeans, RefusesPart};
@@ -21,8 +21,7 @@ struct Row<E> {
 fn read_cell<AB: AirBuilder>(builder: &mut AB, column: usize) -> Result<AB::Expr, AirError>
     requires { AB.ready builder.old }
     ensures keeps { AB.grew builder.old builder.new [] }
-    ensures made { IfOk result (λ x. Means AB.Ring.means AB.ring_of AB.reads_as builder.new x
-        (current column)) }
+    ensures made { IfOk result (λ x. MeansIn ⟦<AB as View>⟧.view builder.new x (current column)) }
     ensures there { OnOk result (AB.missing builder.old (main 0 column) → ⊥) }
     ensures refused { IfErr result (RefusesPart AB.refuses builder.old
         (current column)) }
@@ -41,7 +40,7 @@ fn read_row<AB: AirBuilder>(builder: &mut AB) -> Result<Row<AB::Expr>, AirError>
     requires { AB.ready builder.old }
     ensures keeps { AB.grew builder.old builder.new [] }
     ensures made { IfOk result (λ row. RowMeans
-        (Means AB.Ring.means AB.ring_of AB.reads_as builder.new) row.x row.y row.z) }
+        (MeansIn ⟦<AB as View>⟧.view builder.new) row.x row.y row.z) }
     ensures there { OnOk result (NoneMissing (AB.missing builder.old)
         (differing_asserts AB.F.ONE)) }
     ensures refused { IfErr result (λ e. AB.refuses builder.old e (differing_asserts AB.F.ONE)) }
@@ -54,12 +53,11 @@ fn read_row<AB: AirBuilder>(builder: &mut AB) -> Result<Row<AB::Expr>, AirError>
 
 fn assert_row<AB: AirBuilder>(builder: &mut AB, row: Row<AB::Expr>) -> Result<(), AirError>
     requires ready { AB.ready builder.old }
-    requires means { RowMeans (Means AB.Ring.means AB.ring_of AB.reads_as builder.old) row.x row.y
-        row.z }
+    requires means { RowMeans (MeansIn ⟦<AB as View>⟧.view builder.old) row.x row.y row.z }
     ensures keeps { AB.kept builder.old builder.new }
     ensures ok { OnOk result (AB.grew builder.old builder.new (differing_asserts AB.F.ONE)) }
-    ensures err { OnErr result (GrewByFirst AB.grew builder.old builder.new
-        (differing_asserts AB.F.ONE)) }
+    ensures err { OnErr result (OfBeginning (differing_asserts AB.F.ONE)
+        (AB.grew builder.old builder.new)) }
     ensures refused { IfErr result (λ e. AB.refuses builder.old e (differing_asserts AB.F.ONE)) }
 {
     let condition = builder.difference(row.y, row.z)?;

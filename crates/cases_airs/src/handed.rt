@@ -1,8 +1,7 @@
 //! An AIR with a gadget that is handed an expression.
-ghost use Rattle.air_builder.specs.Builders.{Means};
-ghost use Rattle.air_builder.specs.Batches.{Asserted, Evaluates};
+ghost use Rattle.air_builder.specs.Batches.{AssertedIn, Evaluates};
 ghost use Rattle.air_builder.specs.Notation.{next, transition, when, ◌≐◌};
-ghost use Rattle.air_author.specs.Expressions.{AlwaysAfter, IsUsable};
+ghost use Rattle.air_author.specs.Expressions.{AlwaysAfter, IsUsableIn};
 ghost use Rattle.cases_airs.specs.Handed.{handed_asserts};
 
 use p3_air::author::{
@@ -17,9 +16,9 @@ fn next_is<AB: AirBuilder, X: Expression<AB>>(
     value: &X,
 ) -> Result<(), AirError>
     requires ready { AB.ready builder.old }
-    requires usable { AlwaysAfter AB.kept (IsUsable (Means AB.Ring.means AB.ring_of AB.reads_as)
-        AB.missing x (X.term value.now)) builder.old }
-    ensures { Asserted AB.kept AB.grew AB.missing AB.refuses builder.old builder.new result
+    requires usable { AlwaysAfter AB.kept (IsUsableIn ⟦<AB as View>⟧.view x (X.term value.now))
+        builder.old }
+    ensures { AssertedIn ⟦<AB as View>⟧.view builder.old builder.new result
         (when transition (next 1 ≐ X.term value.now)) }
 {
     assert_these(

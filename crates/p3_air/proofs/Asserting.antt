@@ -10,7 +10,7 @@ use Rattle.air_builder.specs.Assertion.{Assertion, Base}
 use Rattle.air_builder.specs.laws.Batches.{asserts_kept, asserted_one, grew_one, grew_none, refused_one, nothing_asserted, asserted_more, asserted_refused, asserted_all}
 use Rattle.air_builder.specs.laws.Zips.{AllZip-take}
 use Rattle.std.proofs.lemmas.Slice.Zip.{AllZip-long}
-use Rattle.air_builder.specs.Batches.{AssertsOf, AssertedEach, Asserted, OrMemory}
+use Rattle.air_builder.specs.Batches.{AssertsOf, AssertedEach, AssertedList, OrMemory}
 use Rattle.air_builder.specs.Builders.{MeansIn, BuilderView, RingLaws, BuilderLaws}
 use Rattle.air_builder.specs.Refusals.{PartOf, EachLeaf, EachLeafOf}
 use Rattle.air_builder.specs.laws.Refusals.{none_missing}
@@ -91,51 +91,54 @@ module _ {S R E F : Type 0} {view : BuilderView S R E F} (ring : RingLaws view) 
   pub roots_asserted : (a b d : S) (table : List E) (places : List ℕ) (ts : List (Term F)) (r : Result (Unit {0}) AirError) → grew a b []
       → AllZip (AssertsAt (MeansIn view) table b) places (map (λ t. Base t) ts) → All (λ t. EachLeaf (λ l. missing a l → ⊥) t) ts
       → AssertedEach (AssertsAt (MeansIn view) table) kept grew refuses b d places r
-      → Asserted kept grew missing (OrMemory refuses) a d r (map (λ t. Base t) ts)
+      → AssertedList kept grew missing (OrMemory refuses) a d r (map (λ t. Base t) ts)
   roots_asserted a b d table places ts (Ok u) g each there h = record {
-    keeps = laws.kept_joined a b d (laws.by_growth a b [] g) h.keeps;
-    ok = laws.joined a b d [] (map (λ t. Base t) ts) g (h.ok (map (λ t. Base t) ts) each);
+    asserted = record {
+      keeps = laws.kept_joined a b d (laws.by_growth a b [] g) h.keeps;
+      ok = laws.joined a b d [] (map (λ t. Base t) ts) g (h.ok (map (λ t. Base t) ts) each);
+      err = tt;
+      refused = tt;
+    };
     there = none_missing (missing a) (map (λ t. Base t) ts) (leaves_of (λ l. missing a l → ⊥) ts there);
-    err = tt;
-    refused = tt;
   }
   roots_asserted a b d table places ts (Err e) g each there h =
       let ss : List (Assertion F) = map (λ t. Base t) ts in
       let len = sym (AllZip-long _ places ss each) in
       let within = h.err.within in
       record {
-        keeps = laws.kept_joined a b d (laws.by_growth a b [] g) h.keeps;
-        ok = tt;
-        there = tt;
-        err = record {
-          count = h.err.count;
-          within = omega (arith, len, within);
-          beginning = laws.joined a b d [] (take h.err.count ss) g (h.err.beginning (take h.err.count ss) (AllZip-take _ h.err.count places ss each));
+        asserted = record {
+          keeps = laws.kept_joined a b d (laws.by_growth a b [] g) h.keeps;
+          ok = tt;
+          err = record {
+            count = h.err.count;
+            within = omega (arith, len, within);
+            beginning = laws.joined a b d [] (take h.err.count ss) g (h.err.beginning (take h.err.count ss) (AllZip-take _ h.err.count places ss each));
+          };
+          refused = inr (laws.refuses_then a b e [] ss g (h.refused ss each));
         };
-        refused = inr (laws.refuses_then a b e [] ss g (h.refused ss each));
+        there = tt;
       }
 
   -- of no roots nothing is asserted
-  pub none_asserted : (a : S) → Asserted kept grew missing (OrMemory refuses) a a (Ok tt) []
+  pub none_asserted : (a : S) → AssertedList kept grew missing (OrMemory refuses) a a (Ok tt) []
   none_asserted a = let none : List (Assertion F) = [] in record {
-    keeps = laws.by_growth a a [] (laws.same a);
-    ok = laws.same a;
+    asserted = record { keeps = laws.by_growth a a [] (laws.same a); ok = laws.same a; err = tt; refused = tt };
     there = none_missing (missing a) none tt;
-    err = tt;
-    refused = tt;
   }
 
   -- the making of the expressions was refused
   pub making_refused : (a b : S) (e : AirError) (ts : List (Term F)) → 0 < length ts → grew a b []
       → ((ss : List (Assertion F)) → All (λ u. PartOf u ss) ts → OrMemory refuses a e ss)
-      → Asserted kept grew missing (OrMemory refuses) a b (Err e) (map (λ u. Base u) ts)
+      → AssertedList kept grew missing (OrMemory refuses) a b (Err e) (map (λ u. Base u) ts)
   making_refused a b e ts some g f =
       let ss : List (Assertion F) = map (λ u. Base u) ts in
       let len : length ss ≡ length ts = length-map ts (λ (u : Term F). Base u) in
       record {
-        keeps = laws.by_growth a b [] g;
-        ok = tt;
+        asserted = record {
+          keeps = laws.by_growth a b [] g;
+          ok = tt;
+          err = record { count = 0; within = omega (arith, len, some); beginning = g };
+          refused = f ss (all_parts ts);
+        };
         there = tt;
-        err = record { count = 0; within = omega (arith, len, some); beginning = g };
-        refused = f ss (all_parts ts);
       }

@@ -3,15 +3,16 @@ ghost use Rattle.std.specs.Prelude.{◌≡◌, List, None, IfOk, IfErr};
 ghost use Rattle.air_symbolic.specs.BaseLeaves.{base_reads};
 ghost use Rattle.air_core.specs.declared.errors.AirError.{AirError};
 ghost use Rattle.air_builder.specs.Assertion.{Assertion};
-ghost use Rattle.air_builder.specs.Batches.{Asserted};
+ghost use Rattle.air_builder.specs.Batches.{AssertedIn};
 ghost use Rattle.air_author.specs.Expressions.{AlwaysAfter};
 ghost use Rattle.air_recording.specs.Layouts.{first_past};
 ghost use Rattle.air_recording.specs.Recorded.{RecordsBase};
+ghost use Rattle.air_recording.specs.RecordedLists.{recorded_by, pool_of};
 ghost use Rattle.p3_air.specs.RecordedAirs.{zero_at_recorded, RecordedAirRefuses, RecordsBaseTerms};
 
 use crate::flat::flat_air::FlatAir;
 use air_author::{Constraint, assert_these};
-use air_builder::{AirBuilder, AirError, BaseAir, BoundaryPublic};
+use air_builder::{AirBuilder, AirError, BaseAir, BoundaryPublic, View};
 use air_field::{ExtensionField, Field};
 use air_recording::{Recorded, SymbolicAirBuilder};
 use air_symbolic::ExprId;
@@ -26,7 +27,7 @@ pub fn record_these<AB: AirBuilder, C: Constraint<AB>>(
     requires ready { AB.ready builder.old }
     requires usable { AlwaysAfter AB.kept (C.usable constraints.now) builder.old }
     ensures ready { AB.ready builder.new }
-    ensures asserted { Asserted AB.kept AB.grew AB.missing AB.refuses builder.old builder.new result
+    ensures asserted { AssertedIn ⟦<AB as View>⟧.view builder.old builder.new result
         (C.asserts constraints.now (λ t. t) (λ t. t)) }
 {
     assert_these(builder, constraints)
@@ -38,9 +39,9 @@ pub fn finish_recording<F: Field, EF: ExtensionField<F>>(
     builder: SymbolicAirBuilder<F, EF>,
 ) -> Recorded<F, EF>
     requires { ⟦<SymbolicAirBuilder<F, EF> as AirBuilder>⟧.ready builder }
-    ensures pool { result.pool ≡ builder.pool }
-    ensures base { result.base ≡ builder.constraints.base.items }
-    ensures ext { result.ext ≡ builder.constraints.ext.items }
+    ensures pool { result.pool ≡ pool_of builder }
+    ensures base { result.base ≡ (recorded_by builder).base }
+    ensures ext { result.ext ≡ (recorded_by builder).ext }
 {
     builder.into_recorded()
 }

@@ -10,29 +10,22 @@ use Rattle.std.specs.Result.{IsErrAnd}
 use Rattle.air_field.specs.Term.{Leaf, Term}
 use Rattle.air_core.specs.declared.errors.AirError.{AirError}
 use Rattle.air_builder.specs.Assertion.{Assertion}
-use Rattle.air_builder.specs.Batches.{AssertsOf, AssertsOfBoth, GrewByEach, GrewByBeginning, GrewByFirst, RefusesByEach, AssertedEach, Asserted, OrMemory}
+use Rattle.air_builder.specs.Batches.{AssertsOf, AssertsOfBoth, OfEach, OfBeginning, OfFirst, AssertedEach, AssertedList, OrMemory}
 use Rattle.air_builder.specs.Builders.{MeansIn, BuilderView, RingLaws, BuilderLaws}
 use Rattle.air_builder.specs.laws.Filters.{means_kept}
 use Rattle.air_builder.specs.laws.Zips.{AllZip-parts, AllZip-nil}
 
 -- what is said of one element, of the list of it alone
-module _ {S I F : Type 0} (asserts : S → I → Assertion F → Type 0) (a b : S) (x : I) where
-  module _ (grew : S → S → List (Assertion F) → Type 0) where
-    one_grew : ((s : Assertion F) → asserts a x s → grew a b (s ∷ [])) → GrewByEach asserts grew a b (x ∷ [])
-    one_grew g [] h = absurd h
-    one_grew g (s ∷ []) h = g s h.0
-    one_grew g (s ∷ t ∷ ss) h = absurd h.1
+module _ {S I F : Type 0} (asserts : S → I → Assertion F → Type 0) (a : S) (x : I) (fact : List (Assertion F) → Type 0) where
+  of_one_element : ((s : Assertion F) → asserts a x s → fact (s ∷ [])) → OfEach asserts (x ∷ []) a fact
+  of_one_element f [] h = absurd h
+  of_one_element f (s ∷ []) h = f s h.0
+  of_one_element f (s ∷ t ∷ ss) h = absurd h.1
 
-    -- a beginning of it that isn't the whole is nothing
-    first_of_one : (n : ℕ) → n < 1 → GrewByEach asserts grew a b (take n (x ∷ [])) → grew a b []
-    first_of_one zero lt g = g [] tt
-    first_of_one (suc n) lt g = absurd (omega (arith, lt))
-
-  one_refused : {X : Type 0} (refuses : S → X → List (Assertion F) → Type 0) (e : X)
-      → ((s : Assertion F) → asserts a x s → refuses a e (s ∷ [])) → RefusesByEach asserts refuses a (x ∷ []) e
-  one_refused refuses e r [] h = absurd h
-  one_refused refuses e r (s ∷ []) h = r s h.0
-  one_refused refuses e r (s ∷ t ∷ ss) h = absurd h.1
+  -- a beginning of it that isn't the whole is nothing
+  first_of_one : (n : ℕ) → n < 1 → OfEach asserts (take n (x ∷ [])) a fact → fact []
+  first_of_one zero lt f = f [] tt
+  first_of_one (suc n) lt f = absurd (omega (arith, lt))
 
 module _ {S I F X : Type 0} {asserts : S → I → Assertion F → Type 0} {kept : S → S → Type 0}
     {grew : S → S → List (Assertion F) → Type 0} {refuses : S → X → List (Assertion F) → Type 0} {a b : S} {x : I} where
@@ -41,7 +34,7 @@ module _ {S I F X : Type 0} {asserts : S → I → Assertion F → Type 0} {kept
       → OnOk result ((s : Assertion F) → asserts a x s → grew a b (s ∷ [])) → OnErr result (grew a b [])
       → IfErr result (λ e. (s : Assertion F) → asserts a x s → refuses a e (s ∷ []))
       → AssertedEach asserts kept grew refuses a b (x ∷ []) result
-  asserted_one (Ok u) k g n r = record { keeps = k; ok = one_grew asserts a b x grew g; err = tt; refused = tt }
+  asserted_one (Ok u) k g n r = record { keeps = k; ok = of_one_element asserts a x (grew a b) g; err = tt; refused = tt }
   asserted_one (Err e) k g n r = record {
     keeps = k;
     ok = tt;
@@ -50,7 +43,7 @@ module _ {S I F X : Type 0} {asserts : S → I → Assertion F → Type 0} {kept
       within = omega arith;
       beginning = λ ss h. subst (λ v. grew a b v) (sym (AllZip-nil (asserts a) ss h)) n;
     };
-    refused = one_refused asserts a b x refuses e r;
+    refused = of_one_element asserts a x (refuses a e) r;
   }
 
   -- and what that says
@@ -59,7 +52,7 @@ module _ {S I F X : Type 0} {asserts : S → I → Assertion F → Type 0} {kept
   grew_one h s k = h.ok (s ∷ []) (k, tt)
 
   pub grew_none : {e : X} → AssertedEach asserts kept grew refuses a b (x ∷ []) (Err e) → grew a b []
-  grew_none h = first_of_one asserts a b x grew h.err.count h.err.within h.err.beginning
+  grew_none h = first_of_one asserts a x (grew a b) h.err.count h.err.within h.err.beginning
 
   pub refused_one : {e : X} → AssertedEach asserts kept grew refuses a b (x ∷ []) (Err e)
       → (s : Assertion F) → asserts a x s → refuses a e (s ∷ [])
@@ -67,7 +60,7 @@ module _ {S I F X : Type 0} {asserts : S → I → Assertion F → Type 0} {kept
 
 module _ {S F : Type 0} (grew : S → S → List (Assertion F) → Type 0) (a b : S) (xs ys : List (Assertion F)) where
   -- a beginning of the first of two lists
-  pub first_of_two : GrewByFirst grew a b xs → GrewByFirst grew a b (xs ++ ys)
+  pub first_of_two : OfBeginning xs (grew a b) → OfBeginning (xs ++ ys) (grew a b)
   first_of_two h =
       let e = length-append xs ys in
       let lt = h.within in
@@ -78,7 +71,7 @@ module _ {S F : Type 0} (grew : S → S → List (Assertion F) → Type 0) (a b 
       }
 
   -- the first of two lists whole, and a beginning of the other
-  pub first_whole : (n : ℕ) → n < length ys → grew a b (xs ++ take n ys) → GrewByFirst grew a b (xs ++ ys)
+  pub first_whole : (n : ℕ) → n < length ys → grew a b (xs ++ take n ys) → OfBeginning (xs ++ ys) (grew a b)
   first_whole n lt h =
       let e = length-append xs ys in record {
         count = length xs + n;
@@ -95,14 +88,14 @@ module _ {S R E F : Type 0} {view : BuilderView S R E F} (laws : BuilderLaws vie
   open view use {kept, grew, refuses}
 
   -- no element yet
-  none_yet : (a : S) → GrewByEach asserts grew a a []
+  none_yet : (a : S) → OfEach asserts [] a (grew a a)
   none_yet a [] h = laws.same a
   none_yet a (s ∷ ss) h = absurd h
 
   -- one element more
   each_more : (a b c : S) (xs : List I) (i : ℕ) (x : I) → i < length xs → x ≡ slice_index_or xs i x → kept a b
-      → GrewByEach asserts grew a b (take i xs) → ((s : Assertion F) → asserts b x s → grew b c (s ∷ []))
-      → GrewByEach asserts grew a c (take (i + 1) xs)
+      → OfEach asserts (take i xs) a (grew a b) → ((s : Assertion F) → asserts b x s → grew b c (s ∷ []))
+      → OfEach asserts (take (i + 1) xs) a (grew a c)
   each_more a b c xs i x lt is k g one ss h =
       let here : take (i + 1) xs ≡ take i xs ++ (x ∷ []) = take_more xs i x lt ∙ ap (λ v. take i xs ++ (v ∷ [])) (sym is) in
       let parts = AllZip-parts (asserts a) (take i xs) x [] ss (subst (λ v. AllZip (asserts a) v ss) here h) in
@@ -111,12 +104,12 @@ module _ {S R E F : Type 0} {view : BuilderView S R E F} (laws : BuilderLaws vie
       (laws.joined a b c parts.0 (parts.1 ∷ []) (g parts.0 parts.4) (one parts.1 (asserts_kept a b k x parts.1 parts.5)))
 
   -- a refused element leaves the builder as it was
-  each_then : (a b c : S) (xs : List I) → GrewByEach asserts grew a b xs → grew b c [] → GrewByEach asserts grew a c xs
+  each_then : (a b c : S) (xs : List I) → OfEach asserts xs a (grew a b) → grew b c [] → OfEach asserts xs a (grew a c)
   each_then a b c xs g none ss h = subst (λ v. grew a c v) (append-nil ss) (laws.joined a b c ss [] (g ss h) none)
 
   -- so some of the first elements stand
-  beginning : (a b c : S) (xs : List I) (i : ℕ) → i < length xs → GrewByEach asserts grew a b (take i xs)
-      → grew b c [] → GrewByBeginning asserts grew a c xs
+  beginning : (a b c : S) (xs : List I) (i : ℕ) → i < length xs → OfEach asserts (take i xs) a (grew a b)
+      → grew b c [] → OfFirst asserts xs a (grew a c)
   beginning a b c xs i lt g none = record { count = i; within = lt; beginning = each_then a b c (take i xs) g none }
 
   -- one assertion was refused after others
@@ -128,9 +121,9 @@ module _ {S R E F : Type 0} {view : BuilderView S R E F} (laws : BuilderLaws vie
 
   -- one element was refused
   each_refused : (a b : S) (e : AirError) (xs : List I) (i : ℕ) (x : I) → i < length xs → x ≡ slice_index_or xs i x
-      → kept a b → GrewByEach asserts grew a b (take i xs)
+      → kept a b → OfEach asserts (take i xs) a (grew a b)
       → ((s : Assertion F) → asserts b x s → refuses b e (s ∷ []))
-      → RefusesByEach asserts refuses a xs e
+      → OfEach asserts xs a (refuses a e)
   each_refused a b e xs i x lt is k g one ss h =
       let here : xs ≡ take i xs ++ (x ∷ drop (i + 1) xs) = in_parts xs i x lt ∙ ap (λ v. take i xs ++ (v ∷ drop (i + 1) xs)) (sym is) in
       let parts = AllZip-parts (asserts a) (take i xs) x (drop (i + 1) xs) ss (subst (λ v. AllZip (asserts a) v ss) here h) in
@@ -173,7 +166,7 @@ module _ {S R E F : Type 0} {view : BuilderView S R E F} (laws : BuilderLaws vie
       → AssertedEach asserts kept grew refuses a b xs (Ok v)
   asserted_all {a} {b} xs i end h = record {
     keeps = h.keeps;
-    ok = subst (λ v. GrewByEach asserts grew a b v) (take_all i xs end) h.ok;
+    ok = subst (λ v. OfEach asserts v a (grew a b)) (take_all i xs end) h.ok;
     err = tt;
     refused = tt;
   }
@@ -199,11 +192,13 @@ module _ {S R E F : Type 0} {view : BuilderView S R E F} (ring : RingLaws view) 
 -- a call that asserts a list may be all of an evaluation
 pub evaluates : {S F : Type 0} {kept : S → S → Type 0} {grew : S → S → List (Assertion F) → Type 0} {missing : S → Leaf → Type 0}
     {refuses : S → AirError → List (Assertion F) → Type 0} {a b : S} {ts : List (Assertion F)} (r : Result ⊤ AirError)
-    → Asserted kept grew missing refuses a b r ts → Asserted kept grew missing (OrMemory refuses) a b r ts
+    → AssertedList kept grew missing refuses a b r ts → AssertedList kept grew missing (OrMemory refuses) a b r ts
 evaluates r h = record {
-  keeps = h.keeps;
-  ok = h.ok;
+  asserted = record {
+    keeps = h.asserted.keeps;
+    ok = h.asserted.ok;
+    err = h.asserted.err;
+    refused = IfErr-weaker r _ _ (λ e refused. inr refused) h.asserted.refused;
+  };
   there = h.there;
-  err = h.err;
-  refused = IfErr-weaker r _ _ (λ e refused. inr refused) h.refused;
 }

@@ -34,16 +34,6 @@ module _ {S R E F : Type 0} {view : BuilderView S R E F} (laws : BuilderLaws vie
       → refuses (with_ring a r) e ts → refuses a e ts
   lent_refused a q r e ts p x h = laws.refuses_then a (with_ring a r) e [] ts (lent a q r p x) h
 
-  pub lent_ready : (a : S) (q r : R) → q ≡ ring_of a → extends q r → ready a → ready (with_ring a r)
-  lent_ready a q r p e h = laws.ready_kept a (with_ring a r) (laws.by_growth a (with_ring a r) [] (lent a q r p e)) h
-
-  pub lent_has : {B : Type 0} (has : R → B → Type 0) (a : S) (r : R) (x : B) → has r x → has (ring_of (with_ring a r)) x
-  lent_has has a r x h = subst (λ q. has q x) (sym (laws.ring_with a r)) h
-
--- what is in the builder's ring is in the ring as it is lent
-pub has_in : {R E : Type 0} (has : R → E → Type 0) {q r : R} (x : E) → q ≡ r → has r x → has q x
-has_in has x e h = subst (λ r. has r x) (sym e) h
-
 module _ {S R E F : Type 0} {view : BuilderView S R E F} (ring : RingLaws view) (laws : BuilderLaws view) where
   open view use {means, extends, ring_refuses, ring_of, with_ring, reads_as, grew, refuses}
 

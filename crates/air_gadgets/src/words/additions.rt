@@ -1,10 +1,10 @@
 //! Sums of words as assertions.
 ghost use Rattle.std.specs.Prelude.{All};
-ghost use Rattle.air_builder.specs.Builders.{Means};
-ghost use Rattle.air_gadgets.specs.Gadgets.{Adds2, Adds3, VariableMeans, AssertedList};
+ghost use Rattle.air_builder.specs.Builders.{MeansIn};
+ghost use Rattle.air_gadgets.specs.Gadgets.{Adds2, Adds3, VariableMeansIn, AssertedSuchIn};
 
 use crate::words::sums::{sum_of_three, sum_of_two};
-use air_builder::{AirBuilder, AirError};
+use air_builder::{AirBuilder, AirError, View};
 use air_field::{Algebra, Field, FromVar};
 
 /// Asserts a = b + c modulo 2^32, of words of two limbs of 16 bits, the lower one first.
@@ -23,10 +23,10 @@ pub fn add2<AB: AirBuilder>(
 ) -> Result<(), AirError>
     requires ready { AB.ready builder.old }
     requires c_in { All (AB.Ring.has (AB.ring_of builder.old)) c.now }
-    ensures { AssertedList (Adds2 AB.F.ring
-        (VariableMeans AB.Ring.FromVar-1.var_means AB.reads_as builder.old)
-        (Means AB.Ring.means AB.ring_of AB.reads_as builder.old) a.now b.now c.now)
-        AB.kept AB.grew AB.refuses builder.old builder.new result }
+    ensures { AssertedSuchIn ⟦<AB as View>⟧.view (Adds2 AB.F.ring
+        (VariableMeansIn ⟦<AB as View>⟧.view AB.Ring.FromVar-1.var_means builder.old)
+        (MeansIn ⟦<AB as View>⟧.view builder.old) a.now b.now c.now) builder.old builder.new
+        result }
 {
     let elements = sum_of_two(builder.ring(), a, b, c)?;
     builder.assert_zeros_slice(&elements)
@@ -49,10 +49,10 @@ pub fn add3<AB: AirBuilder>(
     requires ready { AB.ready builder.old }
     requires c_in { All (AB.Ring.has (AB.ring_of builder.old)) c.now }
     requires d_in { All (AB.Ring.has (AB.ring_of builder.old)) d.now }
-    ensures { AssertedList (Adds3 AB.F.ring
-        (VariableMeans AB.Ring.FromVar-1.var_means AB.reads_as builder.old)
-        (Means AB.Ring.means AB.ring_of AB.reads_as builder.old) a.now b.now c.now d.now)
-        AB.kept AB.grew AB.refuses builder.old builder.new result }
+    ensures { AssertedSuchIn ⟦<AB as View>⟧.view (Adds3 AB.F.ring
+        (VariableMeansIn ⟦<AB as View>⟧.view AB.Ring.FromVar-1.var_means builder.old)
+        (MeansIn ⟦<AB as View>⟧.view builder.old) a.now b.now c.now d.now) builder.old builder.new
+        result }
 {
     let elements = sum_of_three(builder.ring(), a, b, c, d)?;
     builder.assert_zeros_slice(&elements)

@@ -2,20 +2,19 @@
 ghost use Rattle.std.specs.Prelude.{◌≡◌, ◌<◌, ◌≤◌, ◌∷◌, [], length};
 ghost use Rattle.air_field.specs.Algebra.{bool_check_term};
 ghost use Rattle.air_builder.specs.Assertion.{Base};
-ghost use Rattle.air_builder.specs.Batches.{AssertsOf, AssertedEach};
-ghost use Rattle.air_gadgets.specs.Gadgets.{VariableMeans, HalfOf, Xors, AssertedList};
+ghost use Rattle.air_builder.specs.Batches.{AssertsOf, AssertedEachIn};
+ghost use Rattle.air_gadgets.specs.Gadgets.{VariableMeansIn, HalfOf, Xors, AssertedSuchIn};
 
 use crate::words::xors::{less_packed, rotate_left};
-use air_builder::{AirBuilder, AirError};
+use air_builder::{AirBuilder, AirError, View};
 use air_field::{Algebra, Field, FromVar};
 
 /// Asserts that a variable is zero or one.
 fn assert_bit<AB: AirBuilder>(builder: &mut AB, variable: AB::Var) -> Result<(), AirError>
     requires { AB.ready builder.old }
-    ensures { AssertedEach
-        (AssertsOf Base (VariableMeans AB.Ring.FromVar-1.var_means AB.reads_as)
-        (bool_check_term AB.F.ONE))
-        AB.kept AB.grew AB.refuses builder.old builder.new (variable ∷ []) result }
+    ensures { AssertedEachIn ⟦<AB as View>⟧.view (AssertsOf Base
+        (VariableMeansIn ⟦<AB as View>⟧.view AB.Ring.FromVar-1.var_means)
+        (bool_check_term AB.F.ONE)) builder.old builder.new (variable ∷ []) result }
 {
     let element = builder.ring().from_var(variable)?;
     builder.assert_bool(element)
@@ -24,10 +23,9 @@ fn assert_bit<AB: AirBuilder>(builder: &mut AB, variable: AB::Var) -> Result<(),
 /// Asserts that each variable is zero or one, in order.
 fn assert_bits<AB: AirBuilder>(builder: &mut AB, variables: &[AB::Var]) -> Result<(), AirError>
     requires { AB.ready builder.old }
-    ensures { AssertedEach
-        (AssertsOf Base (VariableMeans AB.Ring.FromVar-1.var_means AB.reads_as)
-        (bool_check_term AB.F.ONE))
-        AB.kept AB.grew AB.refuses builder.old builder.new variables.now result }
+    ensures { AssertedEachIn ⟦<AB as View>⟧.view (AssertsOf Base
+        (VariableMeansIn ⟦<AB as View>⟧.view AB.Ring.FromVar-1.var_means)
+        (bool_check_term AB.F.ONE)) builder.old builder.new variables.now result }
 {
     for variable in variables {
         assert_bit(builder, *variable)?;
@@ -45,9 +43,9 @@ fn assert_half<AB: AirBuilder>(
     requires ready { AB.ready builder.old }
     requires some { 0 < length b.now }
     requires same { length b.now ≡ length c.now }
-    ensures { AssertedEach
-        (HalfOf AB.F.ring (VariableMeans AB.Ring.FromVar-1.var_means AB.reads_as))
-        AB.kept AB.grew AB.refuses builder.old builder.new ((limb, b.now, c.now) ∷ []) result }
+    ensures { AssertedEachIn ⟦<AB as View>⟧.view (HalfOf AB.F.ring
+        (VariableMeansIn ⟦<AB as View>⟧.view AB.Ring.FromVar-1.var_means)) builder.old builder.new
+        ((limb, b.now, c.now) ∷ []) result }
 {
     let difference = less_packed(builder.ring(), limb, b, c)?;
     builder.assert_zero(difference)
@@ -67,9 +65,9 @@ pub fn xor_32_shift<AB: AirBuilder>(
 ) -> Result<(), AirError>
     requires ready { AB.ready builder.old }
     requires within { shift ≤ 32 }
-    ensures { AssertedList (Xors AB.F.ring
-        (VariableMeans AB.Ring.FromVar-1.var_means AB.reads_as builder.old) a.now b.now c.now shift)
-        AB.kept AB.grew AB.refuses builder.old builder.new result }
+    ensures { AssertedSuchIn ⟦<AB as View>⟧.view (Xors AB.F.ring
+        (VariableMeansIn ⟦<AB as View>⟧.view AB.Ring.FromVar-1.var_means builder.old) a.now b.now
+        c.now shift) builder.old builder.new result }
 {
     let [a0, a1] = *a;
     let rotated = rotate_left(c, shift);

@@ -2,14 +2,13 @@
 ghost use Rattle.air_field.specs.Term.{leaf_term};
 ghost use Rattle.air_core.specs.Entries.{entry_leaf};
 ghost use Rattle.air_symbolic.specs.BaseLeaves.{base_term};
-ghost use Rattle.air_builder.specs.Builders.{Means};
-ghost use Rattle.air_author.specs.Expressions.{MakesTerm};
+ghost use Rattle.air_author.specs.Expressions.{MakesIn};
 
 use air_author::{
     Constant, Current, Expression, FirstRow, LastRow, Next, Periodic, PreprocessedCurrent,
     PreprocessedNext, Public,
 };
-use air_builder::{AirBuilder, AirError};
+use air_builder::{AirBuilder, AirError, View};
 use air_field::Algebra;
 use air_symbolic::{BaseEntry, BaseLeaf, SymbolicVariable};
 
@@ -19,8 +18,8 @@ fn make_variable<AB: AirBuilder>(
     variable: SymbolicVariable<AB::F>,
 ) -> Result<AB::Expr, AirError>
     requires { AB.ready builder.old }
-    ensures { MakesTerm (Means AB.Ring.means AB.ring_of AB.reads_as) AB.grew AB.missing AB.refuses
-        builder.old builder.new result (leaf_term (entry_leaf variable.entry variable.index)) }
+    ensures { MakesIn ⟦<AB as View>⟧.view builder.old builder.new result
+        (leaf_term (entry_leaf variable.entry variable.index)) }
 {
     let index = variable.index;
     match variable.entry {
@@ -45,8 +44,8 @@ pub(crate) fn make_leaf<AB: AirBuilder>(
     leaf: BaseLeaf<AB::F>,
 ) -> Result<AB::Expr, AirError>
     requires { AB.ready builder.old }
-    ensures { MakesTerm (Means AB.Ring.means AB.ring_of AB.reads_as) AB.grew AB.missing AB.refuses
-        builder.old builder.new result (base_term leaf) }
+    ensures { MakesIn ⟦<AB as View>⟧.view builder.old builder.new result
+        (base_term leaf) }
 {
     match leaf {
         BaseLeaf::Variable(variable) => make_variable(builder, variable),

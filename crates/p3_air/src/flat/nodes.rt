@@ -5,15 +5,14 @@ ghost use Rattle.air_symbolic.specs.Nodes.{IsNode};
 ghost use Rattle.air_symbolic.specs.Pools.{term_at, size};
 ghost use Rattle.air_symbolic.specs.declared.leaves.base_leaf.BaseLeaf.{BaseLeaf};
 ghost use Rattle.air_symbolic.specs.declared.pools.expr.SymbolicExpr.{SymbolicExpr};
-ghost use Rattle.air_builder.specs.Builders.{Means};
-ghost use Rattle.air_author.specs.Expressions.{MakesTerm};
+ghost use Rattle.air_author.specs.Expressions.{MakesIn};
 ghost use Rattle.p3_air.specs.Plans.{number_at, IsLeaf, MakesPlace};
-ghost use Rattle.p3_air.specs.Tables.{IsMade, HasAt, TableMade};
+ghost use Rattle.p3_air.specs.Tables.{IsMadeIn, HasAt, TableMade};
 
 use crate::flat::leaves::make_leaf;
 use crate::flat::step::Step;
 use air_author::{Current, Difference, Expression, Gated, Negative, Next, Product, Sum};
-use air_builder::{AirBuilder, AirError};
+use air_builder::{AirBuilder, AirError, View};
 use air_field::{Algebra, Field};
 use air_symbolic::{BaseLeaf, ExprId, ExprPool, SymbolicExpr};
 
@@ -38,7 +37,7 @@ struct AtPlace<'a, E, F: Field>(
 impl<'a, AB: AirBuilder> Expression<AB> for AtPlace<'a, AB::Expr, AB::F> {
     ghost term = { λ s. term_at base_reads s.0.now (number_at s.1.now s.3) };
 
-    ghost usable = { λ s b. HasAt (IsMade (Means AB.Ring.means AB.ring_of AB.reads_as) AB.missing b
+    ghost usable = { λ s b. HasAt (IsMadeIn ⟦<AB as View>⟧.view b
         (term_at base_reads s.0.now (number_at s.1.now s.3))) s.2.now s.3 };
 
     #[inline(always)]
@@ -58,8 +57,8 @@ fn make_number<AB: AirBuilder>(
     requires here { id < size pool.now }
     requires leaf { (n : SymbolicExpr (BaseLeaf AB.F)) →
         IsNode base_leaves pool.now.nodes id n → IsLeaf n }
-    ensures { MakesTerm (Means AB.Ring.means AB.ring_of AB.reads_as) AB.grew AB.missing AB.refuses
-        builder.old builder.new result (term_at base_reads pool.now id) }
+    ensures { MakesIn ⟦<AB as View>⟧.view builder.old builder.new result
+        (term_at base_reads pool.now id) }
 {
     match *pool.node(id) {
         SymbolicExpr::Leaf(leaf) => make_leaf(builder, leaf),
@@ -81,11 +80,9 @@ pub(crate) fn make_step<AB: AirBuilder>(
     requires within { place < length numbers.now }
     requires here { number_at numbers.now place < size pool.now }
     requires makes { MakesPlace base_leaves pool.now.nodes numbers.now place step }
-    requires table { TableMade
-        (IsMade (Means AB.Ring.means AB.ring_of AB.reads_as) AB.missing builder.old)
+    requires table { TableMade (IsMadeIn ⟦<AB as View>⟧.view builder.old)
         (term_at base_reads pool.now) numbers.now table.now place }
-    ensures { MakesTerm (Means AB.Ring.means AB.ring_of AB.reads_as) AB.grew AB.missing AB.refuses
-        builder.old builder.new result
+    ensures { MakesIn ⟦<AB as View>⟧.view builder.old builder.new result
         (term_at base_reads pool.now (number_at numbers.now place)) }
 {
     pool.nodes_fit();

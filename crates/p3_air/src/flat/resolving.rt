@@ -2,15 +2,12 @@
 ghost use Rattle.std.specs.Prelude.{◌<◌, map, All};
 ghost use Rattle.air_symbolic.specs.BaseLeaves.{base_reads};
 ghost use Rattle.air_symbolic.specs.Pools.{term_at, size};
-ghost use Rattle.air_builder.specs.Builders.{Means};
-ghost use Rattle.air_author.specs.Expressions.{MakesTerm};
-ghost use Rattle.air_builder.specs.Batches.{OrMemory};
-ghost use Rattle.p3_air.specs.Tables.{MakesAll};
+ghost use Rattle.p3_air.specs.Tables.{MakesOrMemory, MakesAllOrMemory};
 
 use crate::flat::nodes::expression_at;
 use crate::flat::plan::plan_of;
 use crate::flat::table::make_planned;
-use air_builder::{AirBuilder, AirError};
+use air_builder::{AirBuilder, AirError, View};
 use air_field::Algebra;
 use air_symbolic::{BaseLeaf, ExprId, ExprPool};
 use std::alloc::Global;
@@ -27,8 +24,7 @@ pub fn resolve<AB: AirBuilder>(
 ) -> Result<AB::Expr, AirError>
     requires ready { AB.ready builder.old }
     requires here { id < size pool.now }
-    ensures { MakesTerm (Means AB.Ring.means AB.ring_of AB.reads_as)
-        AB.grew AB.missing (OrMemory AB.refuses) builder.old builder.new result
+    ensures { MakesOrMemory ⟦<AB as View>⟧.view builder.old builder.new result
         (term_at base_reads pool.now id) }
 {
     let expressions = resolve_all(alloc, pool, &[id], builder)?;
@@ -44,8 +40,7 @@ pub fn resolve_all<AB: AirBuilder>(
 ) -> Result<Vec<AB::Expr>, AirError>
     requires ready { AB.ready builder.old }
     requires here { All (λ i. i < size pool.now) roots.now }
-    ensures { MakesAll (Means AB.Ring.means AB.ring_of AB.reads_as)
-        AB.grew AB.missing (OrMemory AB.refuses) builder.old builder.new result
+    ensures { MakesAllOrMemory ⟦<AB as View>⟧.view builder.old builder.new result
         (map (term_at base_reads pool.now) roots.now) }
 {
     let plan = plan_of(alloc, pool, roots)?;

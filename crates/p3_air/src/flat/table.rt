@@ -5,16 +5,16 @@ ghost use Rattle.air_symbolic.specs.BaseLeaves.{base_leaves, base_reads};
 ghost use Rattle.air_symbolic.specs.Pools.{term_at};
 ghost use Rattle.air_core.specs.declared.errors.AirError.{AirError};
 ghost use Rattle.air_builder.specs.Assertion.{Assertion};
-ghost use Rattle.air_builder.specs.Builders.{Means};
+ghost use Rattle.air_builder.specs.Builders.{MeansIn};
 ghost use Rattle.air_builder.specs.Refusals.{PartOf};
 ghost use Rattle.p3_air.specs.Plans.{number_at, IsPlan};
-ghost use Rattle.air_builder.specs.Batches.{AssertedEach, OrMemory};
-ghost use Rattle.p3_air.specs.Tables.{IsMade, HasAt, AssertsAt, TableMade, MakesAll};
+ghost use Rattle.air_builder.specs.Batches.{AssertedEachIn, OrMemory};
+ghost use Rattle.p3_air.specs.Tables.{IsMadeIn, HasAt, AssertsAt, TableMade, MakesAllOrMemory};
 
 use crate::flat::nodes::{expression_at, make_step};
 use crate::flat::plan::Plan;
 use crate::flat::pushing::push;
-use air_builder::{AirBuilder, AirError};
+use air_builder::{AirBuilder, AirError, View};
 use air_field::Algebra;
 use air_symbolic::{BaseLeaf, ExprPool};
 use std::alloc::Global;
@@ -32,7 +32,7 @@ pub(crate) fn make_places<AB: AirBuilder>(
         plan.now.numbers.items plan.now.steps.items plan.now.places.items }
     ensures keeps { AB.grew builder.old builder.new [] }
     ensures made { IfOk result (λ table. TableMade
-        (IsMade (Means AB.Ring.means AB.ring_of AB.reads_as) AB.missing builder.new)
+        (IsMadeIn ⟦<AB as View>⟧.view builder.new)
         (term_at base_reads pool.now) plan.now.numbers.items table.items
         (length plan.now.numbers.items)) }
     ensures refused { IfErr result (λ e. (ss : List (Assertion AB.F)) →
@@ -73,8 +73,7 @@ pub(crate) fn make_planned<AB: AirBuilder>(
     requires planned { IsPlan base_leaves pool.now.nodes
         (map (number_at plan.now.numbers.items) plan.now.places.items)
         plan.now.numbers.items plan.now.steps.items plan.now.places.items }
-    ensures { MakesAll (Means AB.Ring.means AB.ring_of AB.reads_as)
-        AB.grew AB.missing (OrMemory AB.refuses) builder.old builder.new result
+    ensures { MakesAllOrMemory ⟦<AB as View>⟧.view builder.old builder.new result
         (map (λ p. term_at base_reads pool.now (number_at plan.now.numbers.items p))
         plan.now.places.items) }
 {
@@ -90,9 +89,9 @@ pub(crate) fn assert_places<AB: AirBuilder>(
 ) -> Result<(), AirError>
     requires ready { AB.ready builder.old }
     requires of_ring { All (HasAt (AB.Ring.has (AB.ring_of builder.old)) table.now) places.now }
-    ensures { AssertedEach
-        (AssertsAt (Means AB.Ring.means AB.ring_of AB.reads_as) table.now)
-        AB.kept AB.grew AB.refuses builder.old builder.new places.now result }
+    ensures { AssertedEachIn ⟦<AB as View>⟧.view
+        (AssertsAt (MeansIn ⟦<AB as View>⟧.view) table.now) builder.old builder.new places.now
+        result }
 {
     for place in places {
         builder.assert_zero(expression_at(table, *place))?;

@@ -10,11 +10,13 @@ returns-in_err-row g c =
     let p = err_from_is_err_and c.from_residual.result c.from_residual.ensures.1 in
     rw (p.1, p.2)
     (record {
-      keeps = laws.by_growth _ _ [] c.in_err-row.ensures.keeps;
-      ok = tt;
+      asserted = record {
+        keeps = laws.by_growth _ _ [] c.in_err-row.ensures.keeps;
+        ok = tt;
+        err = record { count = 0; within = omega arith; beginning = c.in_err-row.ensures.keeps };
+        refused = inr c.in_err-row.ensures.refused;
+      };
       there = tt;
-      err = record { count = 0; within = omega arith; beginning = c.in_err-row.ensures.keeps };
-      refused = inr c.in_err-row.ensures.refused;
     })
 
 pub returns : goal.returns
@@ -24,11 +26,13 @@ returns g c =
     let before = c.in_ok-row.ensures.keeps in
     let then = c.assert_row in
     record {
-      keeps = laws.kept_joined _ _ _ (laws.by_growth _ _ [] before) then.ensures.keeps;
-      ok = on_ok then.result (λ h. laws.joined _ _ _ [] all before h) then.ensures.ok;
+      asserted = record {
+        keeps = laws.kept_joined _ _ _ (laws.by_growth _ _ [] before) then.ensures.keeps;
+        ok = on_ok then.result (λ h. laws.joined _ _ _ [] all before h) then.ensures.ok;
+        err = on_err then.result
+            (λ h. record { count = h.count; within = h.within; beginning = laws.joined _ _ _ [] _ before h.beginning })
+            then.ensures.err;
+        refused = if_err then.result (λ e h. inr (laws.refuses_then _ _ e [] all before h)) then.ensures.refused;
+      };
       there = always then.result c.in_ok-row.ensures.there;
-      err = on_err then.result
-          (λ h. record { count = h.count; within = h.within; beginning = laws.joined _ _ _ [] _ before h.beginning })
-          then.ensures.err;
-      refused = if_err then.result (λ e h. inr (laws.refuses_then _ _ e [] all before h)) then.ensures.refused;
     }

@@ -16,7 +16,7 @@ returns-clause-checked g c =
     rw (← c.periodic_columns.ensures) c.in_ok-fill_periodic_row.ensures.filled in
     let same = row_at-given all c.new.ensures c.move_to.ensures c.preprocessed_trace.ensures periodic g.F.Field.ring c.requires.fits
     c.row_pair.ensures.top c.row_pair.ensures.bottom c.table_pair.ensures.top c.table_pair.ensures.bottom (c.selectors_at.ensures ∙ ap (row_selectors g.F.Field.ring c.args.row) c.height-height.ensures) in
-    on_ok_weaker c.eval.result (λ grew. checked_row all c.new.ensures c.move_to.ensures g.met.F.SelfExtension.over_itself same refl grew) c.eval.ensures.ok
+    on_ok_weaker c.eval.result (λ grew. checked_row all c.new.ensures c.move_to.ensures g.met.F.SelfExtension.over_itself same refl grew) c.eval.ensures.asserted.ok
 
 pub returns-clause-there : goal.returns-clause-there
 returns-clause-there g c =
@@ -43,4 +43,4 @@ returns-clause-refused g c =
     let periodic : map Some c.fill_periodic_row.new.values.items ≡ map (column_at c.args.row) columns =
     rw (← c.periodic_columns.ensures) c.in_ok-fill_periodic_row.ensures.filled in
     IfErr-weaker c.eval.result _ _ (row_refusal all c.new.ensures c.move_to.ensures c.preprocessed_trace.ensures periodic
-    c.row_pair.ensures.width c.table_pair.ensures.width) c.eval.ensures.refused
+    c.row_pair.ensures.width c.table_pair.ensures.width) c.eval.ensures.asserted.refused

@@ -4,7 +4,7 @@ use Rattle.air_author.specs.laws.Asserting.{first_more, first_refused, nothing_a
 use Rattle.air_author.proofs.constraints.families.AllConstraint.assert_under.Goals as goal
 
 pub loop-index-init : goal.loop-index-init
-loop-index-init g c = let h = nothing_asserted g.met.AB.AirBuilder.laws c.args.builder.now in record { keeps = h.keeps; asserted = h }
+loop-index-init g c = let h = nothing_asserted g.met.AB.AirBuilder.laws c.args.builder.now in record { keeps = h.asserted.keeps; asserted = h }
 
 pub returns-in_err-assert_at : goal.returns-in_err-assert_at
 returns-in_err-assert_at g c =
@@ -15,4 +15,4 @@ returns-in_err-assert_at g c =
 pub loop-index-preserved : goal.loop-index-preserved
 loop-index-preserved g c =
     let h = first_more g.met.AB.AirBuilder.laws (λ i. g.C.Family.asserts_at c.args.self.now.0 i (g.K.Condition.under c.args.condition.now) (g.K.Condition.ext_under c.args.condition.now)) c.args.builder.now c.loop-index.builder c.assert_at.new.builder c.in_ok-assert_at.field-0 c.loop-index.index c.loop-index.invariant.asserted c.in_ok-assert_at.ensures in
-    record { keeps = h.keeps; asserted = h }
+    record { keeps = h.asserted.keeps; asserted = h }

@@ -9,5 +9,5 @@ returns-in_err-assert_under g c = beginning_gives_up g.met.AB.AirBuilder.laws _ 
 
 pub assert_four-requires-clause-usable : goal.assert_four-requires-clause-usable
 assert_four-requires-clause-usable g c = λ b k.
-    let h = c.requires.usable b (g.met.AB.AirBuilder.laws.kept_joined _ _ _ c.in_ok-assert_under.ensures.keeps k) in
+    let h = c.requires.usable b (g.met.AB.AirBuilder.laws.kept_joined _ _ _ c.in_ok-assert_under.ensures.asserted.keeps k) in
     (h.0.1, h.1)

@@ -9,7 +9,7 @@ use Rattle.air_symbolic.specs.Pools.{term_at}
 use Rattle.air_builder.specs.Assertion.{Base}
 use Rattle.air_builder.specs.Builders.{Means}
 use Rattle.air_builder.specs.Refusals.{PartOf, EachLeaf}
-use Rattle.air_builder.specs.Batches.{Asserted, OrMemory}
+use Rattle.air_builder.specs.Batches.{AssertedList, OrMemory}
 use Rattle.p3_air.specs.Plans.{number_at}
 use Rattle.p3_air.specs.Tables.{IsMade, HasAt, AssertsAt}
 use Rattle.p3_air.proofs.Asserting.{each_asserts, made_has, none_asserted, roots_asserted, making_refused}
@@ -33,7 +33,7 @@ returns-then-is_empty g c =
     let b = c.args.builder.now in
     let none = zero_by_test _ c.if-is_empty.ensures in
     let short : length a.roots.items ≡ 0 = omega (arith, none) in
-    subst (λ xs. Asserted A.kept A.grew A.missing (OrMemory A.refuses) b b (Ok tt) (map (λ t. Base t) (map (term_at base_reads a.pool) xs)))
+    subst (λ xs. AssertedList A.kept A.grew A.missing (OrMemory A.refuses) b b (Ok tt) (map (λ t. Base t) (map (term_at base_reads a.pool) xs)))
     (sym (none_there a.roots.items short)) (none_asserted g.met.AB.Ring.Algebra.laws g.met.AB.AirBuilder.laws b)
 
 pub make_places-requires-clause-planned : goal.make_places-requires-clause-planned
