@@ -9,9 +9,9 @@ use Rattle.air_core.specs.Errors.{air_error}
 use Rattle.air_builder.specs.Assertion.{Assertion, filter_by}
 use Rattle.air_builder.specs.Batches.{AssertsOf, AssertedEach}
 use Rattle.air_builder.specs.Builders.{MeansIn, BuilderView, RingLaws, BuilderLaws}
-use Rattle.air_builder.specs.Filters.{KeptInside, GrewInside, RefusesInside}
+use Rattle.air_builder.specs.Filters.{KeptInside, GrewUnder, RefusesUnder}
 use Rattle.air_builder.specs.Labels.{Labelled, LabelledEach, NamedLaws}
-use Rattle.air_builder.specs.NamedFilters.{LabelledInside}
+use Rattle.air_builder.specs.NamedFilters.{filtered_label}
 use Rattle.air_builder.specs.Refusals.{PartOf}
 use Rattle.air_builder.specs.laws.Batches.{asserted_one, grew_one, grew_none, refused_one}
 use Rattle.air_builder.specs.laws.Labels.{labelled_one, one_label, no_label}
@@ -36,8 +36,8 @@ module _ {S B F I N P X : Type 0} {kept : S → S → Type 0} {grew : S → S �
       → AssertedEach (AssertsUnder means asserts) kept grew refuses (inner p) (inner q) ((condition p, x) ∷ []) result
       → AssertedEach (λ f. asserts (inner f))
       (λ f g. KeptInside kept (name f) (name g) (condition f) (condition g) (inner f) (inner g))
-      (λ f g ts. GrewInside kept grew means (name f) (name g) (condition f) (condition g) (inner f) (inner g) ts)
-      (λ f e ts. RefusesInside refuses means (condition f) (inner f) e ts) p q (x ∷ []) result
+      (λ f g ts. GrewUnder filter_by kept grew means (name f) (name g) (condition f) (condition g) (inner f) (inner g) ts)
+      (λ f e ts. RefusesUnder refuses means (condition f) (inner f) e ts) p q (x ∷ []) result
   asserted_inside (Ok u) h =
       let keeps : KeptInside kept (name p) (name q) (condition p) (condition q) (inner p) (inner q) = record { same_reference = name_is; same_condition = condition_is; inside = h.keeps } in
       asserted_one (Ok u) keeps
@@ -55,7 +55,7 @@ module _ {S B F I N P : Type 0} {kept : S → S → Type 0} {labelled : S → S 
   labelled_inside : (result : Result (Unit {0}) AirError)
       → LabelledEach (AssertsUnder means asserts) labelled (λ i. says) (inner p) (inner q) ((condition p, x) ∷ []) result
       → LabelledEach (λ f. asserts (inner f))
-      (λ f g ls. LabelledInside kept labelled means (name f) (name g) (condition f) (condition g) (inner f) (inner g) ls)
+      (λ f g ls. GrewUnder filtered_label kept labelled means (name f) (name g) (condition f) (condition g) (inner f) (inner g) ls)
       (λ i. says) p q (x ∷ []) result
   labelled_inside (Ok u) h =
       let one = one_label h in
@@ -84,14 +84,14 @@ module _ {S R B E F N P : Type 0} {view : BuilderView S R E F} (ring : RingLaws 
   KeptHere f g = KeptInside kept (name f) (name g) (condition f) (condition g) (inner f) (inner g)
 
   abbrev GrewHere : P → P → List (Assertion F) → Type 0
-  GrewHere f g ts = GrewInside kept grew means (name f) (name g) (condition f) (condition g) (inner f) (inner g) ts
+  GrewHere f g ts = GrewUnder filter_by kept grew means (name f) (name g) (condition f) (condition g) (inner f) (inner g) ts
 
   abbrev RefusesHere : P → AirError → List (Assertion F) → Type 0
-  RefusesHere f e ts = RefusesInside refuses means (condition f) (inner f) e ts
+  RefusesHere f e ts = RefusesUnder refuses means (condition f) (inner f) e ts
 
   abbrev LabelledHere : (S → S → List (Labelled F) → Type 0) → P → P → List (Labelled F) → Type 0
   LabelledHere labelled f g ls =
-      LabelledInside kept labelled means (name f) (name g) (condition f) (condition g) (inner f) (inner g) ls
+      GrewUnder filtered_label kept labelled means (name f) (name g) (condition f) (condition g) (inner f) (inner g) ls
 
   module _ (held : Term F → Type 0) {p q : P} {o r : R} (value : o ≡ view.ring_of (inner p)) (extended : view.extends o r)
       (holds : (c : Term F) → means (inner p) (condition p) c → held (with_leaves (reads_as (inner p)) c))

@@ -63,11 +63,20 @@ abbrev pub AssertsBoth : {S R E F : Type 0} → BuilderView S R E F → (Term F 
     → List (E × E) → Result ⊤ AirError → Type 0
 AssertsBoth view kind op a b ps result = AssertedEachIn view (AssertsOfBoth kind (MeansIn view) op) a b ps result
 
+-- what a call does that asserts a list
+abbrev pub AssertedAll : {S F X : Type 0} → (S → S → Type 0) → (S → S → List (Assertion F) → Type 0)
+    → (S → X → List (Assertion F) → Type 0) → S → S → Result ⊤ X → List (Assertion F) → Type 0
+AssertedAll kept grew refuses a b r ts = Asserted (λ s fact. fact ts) (λ s. OfBeginning ts) kept grew refuses a b r
+
+-- the same of a builder as its laws see it
+abbrev pub AssertedAllIn : {S R E F : Type 0} → BuilderView S R E F → S → S → Result ⊤ AirError → List (Assertion F) → Type 0
+AssertedAllIn view a b r ts = AssertedAll view.kept view.grew view.refuses a b r ts
+
 -- What a call that asserts a list does to a builder; where it is Ok, each leaf of the list is there.
 pub record AssertedList {S F X : Type 0} (kept : S → S → Type 0) (grew : S → S → List (Assertion F) → Type 0)
     (missing : S → Leaf → Type 0) (refuses : S → X → List (Assertion F) → Type 0) (a b : S)
     (r : Result ⊤ X) (ts : List (Assertion F)) : Type 0 where
-  pub asserted : Asserted (λ s fact. fact ts) (λ s. OfBeginning ts) kept grew refuses a b r
+  pub asserted : AssertedAll kept grew refuses a b r ts
   pub there : OnOk r (NoneMissing (missing a) ts)
 
 -- the same of a builder as its laws see it

@@ -18,14 +18,18 @@ pub record GrewUnder {S E F A N : Type 0} (under : Term F → A → A) (kept : S
   pub keeps : KeptInside kept n m x y a b
   pub by : (c : Term F) → means a x c → grew a b (map (under c) xs)
 
--- the builder inside grew by the condition times each term
-abbrev pub GrewInside : {S E F N : Type 0} → (S → S → Type 0) → (S → S → List (Assertion F) → Type 0) → (S → E → Term F → Type 0)
-    → N → N → E → E → S → S → List (Assertion F) → Type 0
-GrewInside kept grew means n m x y a b ts = GrewUnder filter_by kept grew means n m x y a b ts
-
 -- the builder inside may refuse the condition times each term
-abbrev pub RefusesInside : {S E F X : Type 0} → (S → X → List (Assertion F) → Type 0) → (S → E → Term F → Type 0) → E → S → X → List (Assertion F) → Type 0
-RefusesInside {F = F} refuses means x a e ts = (c : Term F) → means a x c → refuses a e (map (filter_by c) ts)
+abbrev pub RefusesUnder : {S E F X : Type 0} → (S → X → List (Assertion F) → Type 0) → (S → E → Term F → Type 0) → E → S → X
+    → List (Assertion F) → Type 0
+RefusesUnder {F = F} refuses means x a e ts = (c : Term F) → means a x c → refuses a e (map (filter_by c) ts)
+
+-- a builder, as its laws see it, that is inside a filter grew by the condition times each term
+abbrev pub GrewInside : {S R E F N : Type 0} → BuilderView S R E F → N → N → E → E → S → S → List (Assertion F) → Type 0
+GrewInside view n m x y a b ts = GrewUnder filter_by view.kept view.grew (MeansIn view) n m x y a b ts
+
+-- and may refuse that
+abbrev pub RefusesInside : {S R E F : Type 0} → BuilderView S R E F → E → S → AirError → List (Assertion F) → Type 0
+RefusesInside view x a e ts = RefusesUnder view.refuses (MeansIn view) x a e ts
 
 -- what a filter multiplies each assertion by
 abbrev pub condition_of : {S F E V P Q W M R : Type 0} → FilteredAirBuilder S F E V P Q W M R → E
@@ -54,8 +58,7 @@ filter_view view inner name condition with_inner = record {
   reads_as = λ p. view.reads_as (inner p);
   ready = λ p. view.ready (inner p) × view.has (view.ring_of (inner p)) (condition p);
   kept = λ p q. KeptInside view.kept (name p) (name q) (condition p) (condition q) (inner p) (inner q);
-  grew = λ p q ts.
-      GrewInside view.kept view.grew (MeansIn view) (name p) (name q) (condition p) (condition q) (inner p) (inner q) ts;
+  grew = λ p q ts. GrewInside view (name p) (name q) (condition p) (condition q) (inner p) (inner q) ts;
   missing = λ p l. view.missing (inner p) l;
-  refuses = λ p e ts. RefusesInside view.refuses (MeansIn view) (condition p) (inner p) e ts;
+  refuses = λ p e ts. RefusesInside view (condition p) (inner p) e ts;
 }

@@ -1,5 +1,5 @@
 -- Parts of terms.
-use Rattle.air_field.specs.Term.{Leaf, Term, add_term, sub_term, neg_term, mul_term, with_leaves}
+use Rattle.air_field.specs.Term.{Term, add_term, sub_term, neg_term, mul_term}
 
 -- a part of a term
 pub data Part {F : Type 0} : Term F → Term F → Type 0 where
@@ -11,13 +11,3 @@ pub data Part {F : Type 0} : Term F → Term F → Type 0 where
   in_neg : {t u : Term F} → Part t u → Part t (neg_term u)
   in_mul_left : {t u v : Term F} → Part t u → Part t (mul_term u v)
   in_mul_right : {t u v : Term F} → Part t v → Part t (mul_term u v)
-
-pub Part-with_leaves : {F : Type 0} (s : Leaf → Term F) {t u : Term F} → Part t u → Part (with_leaves s t) (with_leaves s u)
-Part-with_leaves s whole = whole
-Part-with_leaves s (in_add_left p) = in_add_left (Part-with_leaves s p)
-Part-with_leaves s (in_add_right p) = in_add_right (Part-with_leaves s p)
-Part-with_leaves s (in_sub_left p) = in_sub_left (Part-with_leaves s p)
-Part-with_leaves s (in_sub_right p) = in_sub_right (Part-with_leaves s p)
-Part-with_leaves s (in_neg p) = in_neg (Part-with_leaves s p)
-Part-with_leaves s (in_mul_left p) = in_mul_left (Part-with_leaves s p)
-Part-with_leaves s (in_mul_right p) = in_mul_right (Part-with_leaves s p)

@@ -19,7 +19,6 @@ pub mod Single
 pub mod Sums
 pub mod Value
 pub mod Algebra
-pub mod Comparison
 pub mod Extension
 pub mod BaseParts
 pub mod Grid

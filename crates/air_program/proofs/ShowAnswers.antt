@@ -1,5 +1,5 @@
 -- What `show` answers to the member `constraints`.
-use Rattle.std.proofs.Common.{◌≡◌, ◌⊎◌, ℕ, ◌<◌, List, length, map, All, Result, Ok, Err, IfOk, refl, sym, subst, ◌∙◌, inl, inr}
+use Rattle.std.proofs.Common.{◌≡◌, ◌⊎◌, ℕ, ◌<◌, List, length, map, All, Ok, Err, refl, subst, inl, inr}
 use Rattle.std.proofs.lemmas.Result.{IfOk-at_ok}
 use Rattle.serde_json.specs.Data.{Data}
 use Rattle.air_field.specs.Modular.{Modular}
@@ -12,9 +12,8 @@ use Rattle.air_infix.specs.Lines.{ShowsRoots}
 use Rattle.air_object.specs.Parts.{InPool, AreGiven}
 use Rattle.air_object.specs.Readers.{constraints_member}
 use Rattle.air_program.specs.Refusals.{name_of, refusal_text, air_refusal}
-use Rattle.air_program.specs.Shown.{constraints, ShowsValue, ShownIn}
+use Rattle.air_program.specs.Shown.{ShowsValue, ShownIn}
 use Rattle.air_object.specs.declared.constraints.Constraints.{Constraints}
-use Rattle.air_program.specs.declared.refusals.Refusal.{Refusal}
 use Rattle.air_program.specs.declared.refusals.Refusal.TheVariants as refusals
 use Rattle.air_object.specs.laws.Members.{constraints_agree}
 

@@ -1,8 +1,10 @@
 -- The parts of the constraints under a difference.
-use Rattle.std.proofs.Common.{◌≡◌, List, [], Result, Ok, Err, OnOk, OnErr, IfErr, inl, sym, subst}
+use Rattle.std.proofs.Common.{◌≡◌, ℕ, ◌<◌, List, [], length, take, ⊤, Result, Ok, Err, OnOk, OnErr, IfErr, inl, sym, subst}
 use Rattle.air_field.specs.Part.{whole, in_sub_left, in_sub_right, in_mul_left, in_mul_right}
 use Rattle.air_field.specs.Term.{Term, sub_term}
+use Rattle.air_core.specs.declared.errors.AirError.{AirError}
 use Rattle.air_builder.specs.Assertion.{Assertion}
+use Rattle.air_builder.specs.Batches.{AssertedAllIn}
 use Rattle.air_builder.specs.Builders.{MeansIn, BuilderView, RingLaws, BuilderLaws}
 use Rattle.air_builder.specs.Refusals.{PartOf}
 use Rattle.air_builder.specs.laws.Filters.{means_kept}
@@ -51,7 +53,21 @@ pub record Inside {S E F : Type 0} (grew : S → S → List (Assertion F) → Ty
   pub y_means : means b y (current 1)
 
 module _ {S R E F : Type 0} {view : BuilderView S R E F} (ring : RingLaws view) (laws : BuilderLaws view) where
-  open view use {grew}
+  open view use {grew, refuses}
+
+  -- what a call answers that refuses after it asserted the first n of a list
+  pub ended : (a b : S) (e : AirError) (ts : List (Assertion F)) (n : ℕ) → n < length ts → grew a b (take n ts)
+      → refuses a e ts → AssertedAllIn view a b (Err e) ts
+  ended a b e ts n within grown refused = record {
+    keeps = laws.by_growth a b (take n ts) grown;
+    ok = tt;
+    err = record { count = n; within = within; beginning = grown };
+    refused = refused;
+  }
+
+  -- what a call answers that asserted all of it
+  pub completed : (a b : S) (u : ⊤) (ts : List (Assertion F)) → grew a b ts → AssertedAllIn view a b (Ok u) ts
+  completed a b u ts grown = record { keeps = laws.by_growth a b ts grown; ok = grown; err = tt; refused = tt }
 
   pub inside : {a i b : S} {made condition x y z : E} → b ≡ i → condition ≡ made → grew a i []
       → MeansIn view i made (sub_term (current 1) (current 2)) → RowMeans (MeansIn view a) x y z

@@ -1,7 +1,7 @@
 //! An AIR whose `eval` is written against the calls of the builder, under a condition that is a difference.
-ghost use Rattle.std.specs.Prelude.{OnOk, OnErr, IfOk, IfErr, []};
+ghost use Rattle.std.specs.Prelude.{OnOk, IfOk, IfErr, []};
 ghost use Rattle.air_field.specs.Term.{main};
-ghost use Rattle.air_builder.specs.Batches.{OfBeginning, Evaluates};
+ghost use Rattle.air_builder.specs.Batches.{AssertedAllIn, Evaluates};
 ghost use Rattle.air_builder.specs.Builders.{MeansIn};
 ghost use Rattle.air_builder.specs.Notation.{current};
 ghost use Rattle.air_builder.specs.Refusals.{NoneMissing};
@@ -54,11 +54,8 @@ fn read_row<AB: AirBuilder>(builder: &mut AB) -> Result<Row<AB::Expr>, AirError>
 fn assert_row<AB: AirBuilder>(builder: &mut AB, row: Row<AB::Expr>) -> Result<(), AirError>
     requires ready { AB.ready builder.old }
     requires means { RowMeans (MeansIn ⟦<AB as View>⟧.view builder.old) row.x row.y row.z }
-    ensures keeps { AB.kept builder.old builder.new }
-    ensures ok { OnOk result (AB.grew builder.old builder.new (differing_asserts AB.F.ONE)) }
-    ensures err { OnErr result (OfBeginning (differing_asserts AB.F.ONE)
-        (AB.grew builder.old builder.new)) }
-    ensures refused { IfErr result (λ e. AB.refuses builder.old e (differing_asserts AB.F.ONE)) }
+    ensures { AssertedAllIn ⟦<AB as View>⟧.view builder.old builder.new result
+        (differing_asserts AB.F.ONE) }
 {
     let condition = builder.difference(row.y, row.z)?;
     let mut filter = builder.when(condition)?;

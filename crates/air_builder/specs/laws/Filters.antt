@@ -32,7 +32,7 @@ module _ {S R E F : Type 0} {view : BuilderView S R E F} (ring : RingLaws view) 
 
   -- what a filter may refuse its builder may
   pub refused_filter : (x : E) (a i : S) (e : AirError) (us ts : List (Assertion F)) (t : Term F) → grew a i us
-      → MeansIn view i x t → RefusesInside refuses (MeansIn view) x i e ts → refuses a e (us ++ map (filter_by t) ts)
+      → MeansIn view i x t → RefusesInside view x i e ts → refuses a e (us ++ map (filter_by t) ts)
   refused_filter x a i e us ts t u p h = laws.refuses_then a i e us (map (filter_by t) ts) u (h t p)
 
   -- of a list of any kind, assertions or labelled ones
@@ -53,23 +53,17 @@ module _ {S R E F : Type 0} {view : BuilderView S R E F} (ring : RingLaws view) 
           (h.by t (subst (λ e. MeansIn view b e t) (sym g.keeps.same_condition) (means_kept a b x t g.keeps.inside m))));
     }
 
-    -- a builder after a filter on it is done
-    pub after_under : (n m : N) (x y : E) (a b i j : S) (us xs : List A) (t : Term F) → grown a i us → MeansIn view i x t
-        → GrewUnder under kept grown (MeansIn view) n m x y i j xs → b ≡ j → grown a b (us ++ map (under t) xs)
-    after_under n m x y a b i j us xs t u p g e =
-        subst (λ s. grown a s (us ++ map (under t) xs)) (sym e) (joined a i j us (map (under t) xs) u (g.by t p))
-
   module _ {N : Type 0} where
     -- the same of assertions
     pub inside_joined : (n m k : N) (x y z : E) (a b c : S) (xs ys : List (Assertion F))
-        → GrewInside kept grew (MeansIn view) n m x y a b xs → GrewInside kept grew (MeansIn view) m k y z b c ys
-        → GrewInside kept grew (MeansIn view) n k x z a c (xs ++ ys)
+        → GrewInside view n m x y a b xs → GrewInside view m k y z b c ys
+        → GrewInside view n k x z a c (xs ++ ys)
     inside_joined = under_joined filter_by laws.joined
 
     -- what a filter may refuse after growth it may refuse before
     pub inside_refused : (n m : N) (x y : E) (a b : S) (e : AirError) (xs ys : List (Assertion F))
-        → GrewInside kept grew (MeansIn view) n m x y a b xs → RefusesInside refuses (MeansIn view) y b e ys
-        → RefusesInside refuses (MeansIn view) x a e (xs ++ ys)
+        → GrewInside view n m x y a b xs → RefusesInside view y b e ys
+        → RefusesInside view x a e (xs ++ ys)
     inside_refused n m x y a b e xs ys g h c p =
         subst (λ zs. refuses a e zs) (sym (map-append (filter_by c) xs ys))
         (laws.refuses_then a b e (map (filter_by c) xs) (map (filter_by c) ys) (g.by c p)
@@ -77,9 +71,9 @@ module _ {S R E F : Type 0} {view : BuilderView S R E F} (ring : RingLaws view) 
 
     -- a builder after a filter on it is done
     pub after_filter : (n m : N) (x y : E) (a b i j : S) (us ts : List (Assertion F)) (t : Term F) → grew a i us
-        → MeansIn view i x t → GrewInside kept grew (MeansIn view) n m x y i j ts → b ≡ j
-        → grew a b (us ++ map (filter_by t) ts)
-    after_filter = after_under filter_by laws.joined
+        → MeansIn view i x t → GrewInside view n m x y i j ts → b ≡ j → grew a b (us ++ map (filter_by t) ts)
+    after_filter n m x y a b i j us ts t u p g e =
+        subst (λ s. grew a s (us ++ map (filter_by t) ts)) (sym e) (laws.joined a i j us (map (filter_by t) ts) u (g.by t p))
 
   module _ {N P : Type 0} (inner : P → S) (name : P → N) (condition : P → E) (with_inner : P → S → P)
       (inner_is : (p : P) (s : S) → inner (with_inner p s) ≡ s)

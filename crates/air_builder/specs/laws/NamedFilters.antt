@@ -1,11 +1,11 @@
 -- What a named builder keeps that discards labels, and one under a filter.
-use Rattle.std.specs.Prelude.{◌≡◌, List, [], ◌∷◌, ◌++◌, map, refl}
+use Rattle.std.specs.Prelude.{◌≡◌, List, [], ◌∷◌, map, refl}
 use Rattle.std.proofs.Common.{sym, ap, subst}
 use Rattle.air_field.specs.Term.{Term}
 use Rattle.air_builder.specs.Assertion.{filter_by}
-use Rattle.air_builder.specs.Builders.{MeansIn, BuilderView, RingLaws, BuilderLaws}
+use Rattle.air_builder.specs.Builders.{BuilderView, RingLaws, BuilderLaws}
 use Rattle.air_builder.specs.Filters.{GrewInside}
-use Rattle.air_builder.specs.laws.Filters.{under_joined, after_under}
+use Rattle.air_builder.specs.laws.Filters.{under_joined}
 use Rattle.air_builder.specs.laws.Labels.{without_labels-append}
 use Rattle.air_builder.specs.Labels.{Labelled, without_labels, GrewWithoutLabels, NamedLaws}
 use Rattle.air_builder.specs.NamedFilters.{filtered_label, LabelledInside}
@@ -27,29 +27,23 @@ module _ {S R E F : Type 0} {view : BuilderView S R E F} (laws : BuilderLaws vie
 
 module _ {S R E F : Type 0} {view : BuilderView S R E F} {labelled : S → S → List (Labelled F) → Type 0}
     (ring : RingLaws view) (laws : BuilderLaws view) (named : NamedLaws view.grew labelled) where
-  open view use {kept, grew}
+  open view use {grew}
 
   module _ {N : Type 0} where
     inside_grew : (n m : N) (x y : E) (a b : S) (ls : List (Labelled F))
-        → LabelledInside kept labelled (MeansIn view) n m x y a b ls
-        → GrewInside kept grew (MeansIn view) n m x y a b (without_labels ls)
+        → LabelledInside view labelled n m x y a b ls
+        → GrewInside view n m x y a b (without_labels ls)
     inside_grew n m x y a b ls g = record {
       keeps = g.keeps;
       by = λ t k. subst (λ zs. grew a b zs) (without_labels-filtered t ls) (named.labelled_grew a b (map (filtered_label t) ls) (g.by t k));
     }
 
-    -- a builder after a filter on it is done
-    pub after_named_filter : (n m : N) (x y : E) (a b i j : S) (us ls : List (Labelled F)) (t : Term F)
-        → labelled a i us → MeansIn view i x t → LabelledInside kept labelled (MeansIn view) n m x y i j ls → b ≡ j
-        → labelled a b (us ++ map (filtered_label t) ls)
-    after_named_filter = after_under ring laws filtered_label named.labelled_joined
-
   module _ {N P : Type 0} (inner : P → S) (name : P → N) (condition : P → E) where
     -- a filter keeps the laws of the named builder inside
     pub named_filter_laws : NamedLaws
-        (λ p q ts. GrewInside kept grew (MeansIn view) (name p) (name q) (condition p) (condition q) (inner p)
+        (λ p q ts. GrewInside view (name p) (name q) (condition p) (condition q) (inner p)
         (inner q) ts)
-        (λ p q ls. LabelledInside kept labelled (MeansIn view) (name p) (name q) (condition p) (condition q)
+        (λ p q ls. LabelledInside view labelled (name p) (name q) (condition p) (condition q)
         (inner p) (inner q) ls)
     named_filter_laws = record {
       labelled_nothing = λ p q g. record { keeps = g.keeps; by = λ c m. named.labelled_nothing (inner p) (inner q) (g.by c m) };

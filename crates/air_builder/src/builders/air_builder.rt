@@ -3,7 +3,7 @@ ghost use Rattle.std.specs.Prelude.{◌≡◌, ◌↔◌, ◌≤◌, List, [], �
 ghost use Rattle.std.specs.List.{zip};
 ghost use Rattle.std.specs.Borrow.{sem, Lends};
 ghost use Rattle.air_field.specs.Algebra.{MadeOf, RefusedOf, bool_check_term};
-ghost use Rattle.air_field.specs.Term.{Leaf, preprocessed, main, periodic, public, first_row, last_row, transition, Term, leaf_term, const_term, sub_term};
+ghost use Rattle.air_field.specs.Term.{Leaf, preprocessed, main, periodic, public, first_row, last_row, transition, Term, leaf_term, sub_term};
 ghost use Rattle.air_builder.specs.Assertion.{Assertion, Base};
 ghost use Rattle.air_builder.specs.Builders.{MeansIn, MeansOfBoth, RowReadsAs, VariableReadsAs, BuilderLaws, less_one_term};
 ghost use Rattle.air_builder.specs.Batches.{Asserts, AssertsBoth};

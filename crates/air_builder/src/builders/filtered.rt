@@ -1,10 +1,10 @@
 //! Filters: builders that assert where a condition holds.
 ghost use Rattle.std.specs.Prelude.{◌≡◌, refl};
-ghost use Rattle.air_builder.specs.Builders.{Means};
 ghost use Rattle.air_builder.specs.Filters.{condition_of, KeptInside, GrewInside, RefusesInside};
 ghost use Rattle.air_builder.specs.laws.Filters.{filter_laws};
 
 use crate::builders::air_builder::AirBuilder;
+use crate::builders::view::View;
 use air_core::errors::AirError;
 use air_field::Algebra;
 
@@ -76,13 +76,13 @@ impl<'a, AB: AirBuilder> AirBuilder for FilteredAirBuilder<'a, AB> {
     ghost kept = { λ f g. KeptInside AB.kept f.inner.ghost_name g.inner.ghost_name f.condition
         g.condition f.inner.now g.inner.now };
 
-    ghost grew = { λ f g ts. GrewInside AB.kept AB.grew (Means AB.Ring.means AB.ring_of AB.reads_as)
-        f.inner.ghost_name g.inner.ghost_name f.condition g.condition f.inner.now g.inner.now ts };
+    ghost grew = { λ f g ts. GrewInside ⟦<AB as View>⟧.view f.inner.ghost_name
+        g.inner.ghost_name f.condition g.condition f.inner.now g.inner.now ts };
 
     ghost missing = { λ f l. AB.missing f.inner.now l };
 
-    ghost refuses = { λ f e ts. RefusesInside AB.refuses
-        (Means AB.Ring.means AB.ring_of AB.reads_as) f.condition f.inner.now e ts };
+    ghost refuses = { λ f e ts. RefusesInside ⟦<AB as View>⟧.view f.condition f.inner.now e
+        ts };
 
     ghost laws = { filter_laws AB.Ring.Algebra.laws AB.laws (λ p. p.inner.now)
         (λ p. p.inner.ghost_name) (λ p. p.condition)

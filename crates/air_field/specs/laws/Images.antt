@@ -1,12 +1,11 @@
 -- The images of the whole numbers in a commutative ring.
-use Rattle.std.specs.Prelude.{◌≡◌, ℕ, zero, suc, refl, ◌+◌, ◌-◌, ◌*◌, ◌^◌, ◌≤◌, ◌<◌, ◌↔◌}
+use Rattle.std.specs.Prelude.{◌≡◌, ℕ, zero, suc, refl, ◌+◌, ◌-◌, ◌*◌, ◌≤◌, ◌<◌, ◌↔◌}
 use Rattle.std.specs.Int.{◌∣◌}
 use Rattle.std.proofs.Common.{sym, ◌∙◌, ap, inl, inr, arith, add-suc, add-zero}
 use Rattle.std.proofs.lemmas.Bool.{cases_lt}
-use Rattle.std.proofs.Math.Nat.{le_of_dvd, mul-suc, mul-zero, pow-zero, pow-suc, eq-zero-or-pos, add-sub_of_le}
+use Rattle.std.proofs.Math.Nat.{le_of_dvd, mul-suc, mul-zero, eq-zero-or-pos, add-sub_of_le}
 use Rattle.air_field.specs.Ring.{CommRing, image}
 use Rattle.air_field.specs.laws.Ring.{add_cancel, zero_add, mul_zero, ring_rules}
-use Rattle.air_field.specs.Powers.{power}
 
 pub image-zero : {A : Type 0} (R : CommRing A) → image R 0 ≡ R.zero
 unfolding image
@@ -43,15 +42,6 @@ module _ {A : Type 0} (R : CommRing A) where
       ∙ (ap (λ x. R.add x (image R m)) (image-mul m n)
       ∙ (mul_step (image R m) (image R n)
       ∙ ap (R.mul (image R m)) (sym (image-suc R n)))))
-
-  pub image-power : (m k : ℕ) → image R (m ^ k) ≡ power R (image R m) k
-  image-power m zero = ap (image R) (pow-zero m) ∙ image-one
-  image-power m (suc k) =
-      ap (image R) (pow-suc m k) ∙ (image-mul (m ^ k) m ∙ ap (λ x. R.mul x (image R m)) (image-power m k))
-
-  -- the powers of 1 + 1
-  pub image-two_power : (two : A) → two ≡ R.add R.one R.one → (k : ℕ) → power R two k ≡ image R (2 ^ k)
-  image-two_power two is k = ap (λ x. power R x k) (is ∙ sym image-two) ∙ sym (image-power 2 k)
 
 -- the image of n is zero exactly if p divides n
 abbrev pub HasCharacteristic : {A : Type 0} → CommRing A → ℕ → Type 0

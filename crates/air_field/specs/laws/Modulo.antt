@@ -1,6 +1,5 @@
--- Classes of whole numbers modulo 2013265921: how they add, which are zero, and when two are the same.
+-- Classes of whole numbers modulo 2013265921: how they add, and when two are the same.
 use Rattle.std.specs.Prelude.{◌≡◌, ℕ, ◌+◌, eqb, ◌↔◌, true}
-use Rattle.std.specs.Int.{◌∣◌}
 use Rattle.air_field.specs.Ring.{image}
 use Rattle.air_field.specs.BabyBear.{BabyBear}
 use Rattle.air_field.specs.laws.Modular as modular
@@ -16,9 +15,6 @@ class-add m n = modular.class-add baby_bears m n
 -- the image of n is its class
 pub image-class : (n : ℕ) → image baby_bear_ring n ≡ class n
 image-class n = modular.image-class baby_bears n
-
-pub image-is-zero : (n : ℕ) → (image baby_bear_ring n ≡ class 0) ↔ (2013265921 ∣ n)
-image-is-zero n = modular.image-zero baby_bears n
 
 -- `==` tells the same value
 pub equal_is : (a b : BabyBear) → (eqb a.residue b.residue ≡ true) ↔ (a ≡ b)

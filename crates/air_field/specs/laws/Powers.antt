@@ -1,20 +1,10 @@
 -- Laws of powers, and a step of squaring and multiplying.
 use Rattle.std.specs.Prelude.{◌≡◌, ℕ, zero, suc, ◌+◌, ◌/◌, ◌%◌, refl}
-use Rattle.std.proofs.Common.{sym, ◌∙◌, ap, ap₂, arith, add-zero, add-suc}
+use Rattle.std.proofs.Common.{sym, ◌∙◌, ap, ap₂, arith}
 use Rattle.air_field.specs.Ring.{CommRing}
-use Rattle.air_field.specs.laws.Ring.{one_mul}
 use Rattle.air_field.specs.Powers.{power}
 
 module _ {A : Type 0} (R : CommRing A) where
-  pub power-add : (a : A) (m n : ℕ) → power R a (m + n) ≡ R.mul (power R a m) (power R a n)
-  power-add a m zero = ap (power R a) (add-zero m) ∙ sym (R.mul_one (power R a m))
-  power-add a m (suc n) =
-      ap (power R a) (add-suc m n)
-      ∙ (ap (λ x. R.mul x a) (power-add a m n) ∙ R.mul_assoc (power R a m) (power R a n) a)
-
-  pub power-one : (a : A) → power R a 1 ≡ a
-  power-one a = one_mul R a
-
   pub power-square : (a : A) (n : ℕ) → power R (R.mul a a) n ≡ power R a (n + n)
   power-square a zero = refl
   power-square a (suc n) =

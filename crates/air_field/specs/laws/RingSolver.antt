@@ -213,10 +213,6 @@ ring R env a b h =
     ∙ (sum-canonical R env ((parts b).above ++ (parts a).below)
     ∙ fold-append (sums R) (product_of R env) (parts b).above (parts a).below))))
 
-example : {A : Type 0} (R : CommRing A) (a b c : A) → R.add (R.mul (R.add a b) c) (R.neg (R.mul c b)) ≡ R.mul a c
-example R a b c =
-    ring R (a ∷ b ∷ c ∷ []) (less (times (plus (var 0) (var 1)) (var 2)) (times (var 2) (var 1))) (times (var 0) (var 2)) refl
-
 -- ---- lists of expressions, as a definition over `RingOps` computes them
 abbrev pub expr_ops : RingOps Expr
 expr_ops = record { zero = nought; one = unit; add = plus; mul = times; neg = opp }

@@ -1,7 +1,7 @@
 -- Sums and convolutions in a commutative ring.
 use Rattle.std.proofs.Common.{◌≡◌, ℕ, zero, suc, ◌+◌, ◌-◌, ◌≤◌, [], ◌∷◌, slice_index_or, refl, sym, ap, ap₂, ◌∙◌, arith}
 use Rattle.air_field.specs.Ring.{CommRing, minus, AlgebraOver, AlgebraOverLaws}
-use Rattle.air_field.specs.laws.Ring.{zero_add, zero_mul, neg_unique, neg_zero, add_left_comm}
+use Rattle.air_field.specs.laws.Ring.{zero_mul, neg_unique, add_left_comm}
 use Rattle.air_field.specs.Polynomial.{sum_to, convolve}
 
 -- the coefficients of a constant
@@ -9,12 +9,6 @@ abbrev pub constant_coefficients : {E : Type 0} → CommRing E → E → ℕ →
 constant_coefficients r c n = slice_index_or (c ∷ []) n r.zero
 
 module _ {E : Type 0} (r : CommRing E) where
-  pub minus_zero : (x : E) → minus r x r.zero ≡ x
-  minus_zero x = cc (neg_zero r, r.add_zero x)
-
-  pub zero_minus : (x : E) → minus r r.zero x ≡ r.neg x
-  zero_minus x = zero_add r (r.neg x)
-
   pub sum_to-ext : (f g : ℕ → E) (n : ℕ) → ((i : ℕ) → i ≤ n → f i ≡ g i) → sum_to r f n ≡ sum_to r g n
   sum_to-ext f g zero h = h 0 (omega arith)
   sum_to-ext f g (suc n) h = cc (sum_to-ext f g n (λ i b. h i (omega arith)), h (suc n) (omega arith))

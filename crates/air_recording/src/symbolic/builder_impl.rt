@@ -1,5 +1,5 @@
 //! The symbolic builder as a builder: an expression is a number of the pool, and an assertion records it at its place.
-ghost use Rattle.std.specs.Prelude.{◌≡◌, [], refl};
+ghost use Rattle.std.specs.Prelude.{◌≡◌, refl};
 ghost use Rattle.air_field.specs.Term.{leaf_term};
 ghost use Rattle.air_field.specs.Degree.{cached_weight};
 ghost use Rattle.air_field.specs.Assignment.{IsMissing};

@@ -1,5 +1,5 @@
 //! The symbolic builder over the extension, and with permutation data.
-ghost use Rattle.std.specs.Prelude.{◌≡◌, [], refl, IfOk, IfErr};
+ghost use Rattle.std.specs.Prelude.{◌≡◌, refl, IfOk, IfErr};
 ghost use Rattle.air_symbolic.specs.Pools.{on_base};
 ghost use Rattle.air_symbolic.specs.laws.BasePool.{base_pool_laws};
 ghost use Rattle.air_symbolic.specs.laws.ExtPool.{ext_pool_laws, base_lent, base_grown};

@@ -1,14 +1,14 @@
 //! The debug builder over an extension.
-ghost use Rattle.std.specs.Prelude.{◌≡◌, ◌≢◌, false, [], ◌∷◌, OnOk, OnErr, IfOk, IfErr, IsOk, Err, None, refl};
+ghost use Rattle.std.specs.Prelude.{◌≡◌, ◌≢◌, false, [], ◌∷◌, OnOk, IfOk, IfErr, IsOk, Err, None, refl};
 ghost use Rattle.air_field.specs.Algebra.{closed_value, closed_value_in};
 ghost use Rattle.air_field.specs.Term.{IsBase, permutation};
 ghost use Rattle.air_builder.specs.Assertion.{Extension};
 ghost use Rattle.air_builder.specs.Batches.{Asserts, AssertsOf};
 ghost use Rattle.air_builder.specs.Labels.{Labels};
-ghost use Rattle.air_builder.specs.Builders.{Means, RowReadsAs};
+ghost use Rattle.air_builder.specs.Builders.{RowReadsAs};
 ghost use Rattle.air_builder.specs.Refusals.{RowEnds};
 ghost use Rattle.air_report.specs.Debug.{is_zero_at, row_reads_as};
-ghost use Rattle.air_report.specs.DebugLabels.{LabelledAtRow, LogRefuses};
+ghost use Rattle.air_report.specs.DebugLabels.{LogRefuses};
 ghost use Rattle.air_report.specs.DebugAsserts.{AssertedAtRow, ExtMeansAtRow, LogsNameless};
 ghost use Rattle.air_report.specs.laws.Debug.{debug_extension_laws};
 ghost use Rattle.air_report.specs.RowRefusals.{RowMissing};

@@ -1,4 +1,4 @@
-use Rattle.std.proofs.Common.{◌≡◌, map, take, string_bytes}
+use Rattle.std.proofs.Common.{map, take, string_bytes}
 use Rattle.std.specs.Prelude.{IfSome}
 use Rattle.air_report.specs.FailureTexts.{seen_failure}
 use Rattle.air_explain.specs.Rows.{trace_of}

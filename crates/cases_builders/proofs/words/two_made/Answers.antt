@@ -1,4 +1,4 @@
-use Rattle.std.proofs.Common.{ℕ, zero, suc, [], ◌∷◌, All, arith}
+use Rattle.std.proofs.Common.{zero, suc, [], ◌∷◌, All, arith}
 use Rattle.air_symbolic.specs.Pools.{PoolHas}
 use Rattle.air_symbolic.specs.BaseLeaves.{base_reads}
 use Rattle.cases_builders.proofs.words.two_made.Goals as goal
