@@ -99,7 +99,7 @@ pub fn row_of_block<F: PrimeField>(
 ) -> Pushed<Vec<F>>
     ensures row { IfOk result (λ row. row.items
         ≡ block_row F.ring (block_of chaining.now message.now rest.now)) }
-    ensures holds { IfOk result (λ row. SatisfiesAll F.ring F.ZERO F.CHARACTERISTIC
+    ensures satisfied { IfOk result (λ row. SatisfiesAll F.ring F.ZERO F.CHARACTERISTIC
         row.items) }
 {
     compression_is_complete::<F>();

@@ -96,7 +96,7 @@ pub fn trace_of_blocks<F: PrimeField>(
     ensures height { IfOk result (λ trace. IsNextPowerOfTwo (length blocks.now)
         (length trace.rows)) }
     ensures blocks { IfOk result (HoldBlocks F.ring blocks.now) }
-    ensures holds { IfOk result (SatisfyAll F.ring F.ZERO F.CHARACTERISTIC) }
+    ensures satisfied { IfOk result (SatisfyAll F.ring F.ZERO F.CHARACTERISTIC) }
     ensures reports { IfOk result (ListNothing F.ring F.eq F.CHARACTERISTIC) }
     ensures refused { IfErr result (λ why. why ≡ TraceError.TooManyRows → IsTooMany
         (length blocks.now)) }

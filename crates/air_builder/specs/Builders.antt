@@ -65,7 +65,7 @@ pub record BuilderLaws {S R E F : Type 0} (view : BuilderView S R E F) : Type 0 
   pub by_growth : (a b : S) (xs : List (Assertion F)) → view.grew a b xs → view.kept a b
   pub kept_joined : (a b c : S) → view.kept a b → view.kept b c → view.kept a c
   pub ring_kept : (a b : S) → view.kept a b → view.extends (view.ring_of a) (view.ring_of b)
-  pub stands_kept : (a b : S) → view.kept a b → view.reads_as b ≡ view.reads_as a
+  pub reads_as_kept : (a b : S) → view.kept a b → view.reads_as b ≡ view.reads_as a
   pub ready_kept : (a b : S) → view.kept a b → view.ready a → view.ready b
   pub missing_kept : (a b : S) (l : Leaf) → view.kept a b → view.missing b l → view.missing a l
   pub missing_stays : (a b : S) (l : Leaf) → view.kept a b → view.missing a l → view.missing b l

@@ -93,7 +93,7 @@ module _ {S R E F : Type 0} {view : BuilderView S R E F} (laws : BuilderLaws vie
   -- what is asserted over what stands at the leaves
   module _ {I : Type 0} (over : (Leaf → Term F) → I → Assertion F → Type 0) where
     pub over_kept : (a b : S) → kept a b → (x : I) (s : Assertion F) → over (reads_as a) x s → over (reads_as b) x s
-    over_kept a b k x s h = subst (λ l. over l x s) (sym (laws.stands_kept a b k)) h
+    over_kept a b k x s h = subst (λ l. over l x s) (sym (laws.reads_as_kept a b k)) h
 
     -- a list was asserted, and then each element
     pub list_then_each : {is : List (Assertion F) → Type 0} {a b d : S} {xs : List I} {u : Unit {0}}
@@ -101,5 +101,5 @@ module _ {S R E F : Type 0} {view : BuilderView S R E F} (laws : BuilderLaws vie
         → AssertedEach (λ c. over (reads_as c)) kept grew refuses b d xs result
         → AssertedSuch (Then is (AllZip (over (reads_as a)) xs)) kept grew refuses a d result
     list_then_each {is = is} {a = a} {b = b} {d = d} {xs = xs} result h k =
-        subst (λ l. AssertedSuch (Then is (AllZip (over l) xs)) kept grew refuses a d result) (laws.stands_kept a b h.keeps)
+        subst (λ l. AssertedSuch (Then is (AllZip (over l) xs)) kept grew refuses a d result) (laws.reads_as_kept a b h.keeps)
         (list_then result h (list_of_each result k))

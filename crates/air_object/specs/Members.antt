@@ -11,7 +11,7 @@ use Rattle.air_wire.specs.NodeLists.{IsList, HasFault}
 use Rattle.air_wire.specs.Spelling.{IsWholeNumber}
 use Rattle.air_wire.specs.declared.errors.FlatError.{FlatError}
 use Rattle.air_wire.specs.declared.errors.FlatError.TheVariants as faults
-use Rattle.air_object.specs.Objects.{Grammar, by_form, list_of, needed_member, optional, both_members, both_or_none}
+use Rattle.air_object.specs.Objects.{Grammar, by_form, list_of, needed_member, optional_member, both_members, both_or_none}
 
 abbrev pub whole_number : Grammar ℕ
 whole_number = by_form (λ d n. IsWholeNumber n d)
@@ -55,7 +55,7 @@ members m =
     (both_members (both_or_none (codes "preprocessed_width") whole_number (codes "preprocessed") (list_of (element m)))
     (both_members (needed_member (codes "public_values") (list_of (element m)))
     (both_members (needed_member (codes "constraints") (list_of (constraint m)))
-    (both_members (optional (codes "periodic") [] (list_of (list_of (element m))))
-    (both_members (optional (codes "boundary") [] (list_of boundary_cell))
-    (both_members (optional (codes "cap") None cap)
-    (optional (codes "transition_weight") 0 whole_number))))))))
+    (both_members (optional_member (codes "periodic") [] (list_of (list_of (element m))))
+    (both_members (optional_member (codes "boundary") [] (list_of boundary_cell))
+    (both_members (optional_member (codes "cap") None cap)
+    (optional_member (codes "transition_weight") 0 whole_number))))))))

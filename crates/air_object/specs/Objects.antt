@@ -43,8 +43,8 @@ needed_member name g = record {
 }
 
 -- the member of this name, or what stands for its absence
-abbrev pub optional : {X : Type 0} → List ℕ → X → Grammar X → Grammar X
-optional name absent g = record {
+abbrev pub optional_member : {X : Type 0} → List ℕ → X → Grammar X → Grammar X
+optional_member name absent g = record {
   spells = λ d x. ((get name d ≡ None) × (x ≡ absent)) ⊎ HasField name (λ c. g.spells c x) d;
   fault = λ d f. HasField name (λ c. g.fault c f) d;
 }

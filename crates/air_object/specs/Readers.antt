@@ -9,7 +9,7 @@ use Rattle.air_core.specs.declared.boundary.BoundaryPublic.{BoundaryPublic}
 use Rattle.air_wire.specs.BaseLeaves.{element_at, base_kind}
 use Rattle.air_wire.specs.Boundaries.{cell_of}
 use Rattle.air_wire.specs.Nodes.{root_of}
-use Rattle.air_wire.specs.Parts.{whole}
+use Rattle.air_wire.specs.Parts.{as_whole_number}
 use Rattle.air_wire.specs.Results.{◌>>=◌}
 use Rattle.air_wire.specs.declared.errors.FlatError.{FlatError}
 use Rattle.air_wire.specs.declared.errors.FlatError.TheVariants as faults
@@ -55,7 +55,7 @@ cells d = list_read cell_read d
 -- ---- the cap
 
 unfoldable pub cap_in : Data → Option (Option ℕ)
-cap_in d = if is_some (as_null d) then Some None else option_map (λ n. Some n) (whole d)
+cap_in d = if is_some (as_null d) then Some None else option_map (λ n. Some n) (as_whole_number d)
 
 -- ---- members
 
@@ -78,7 +78,7 @@ if_either one other read d =
     if is_some (get one d) || is_some (get other d) then (read d >>= λ x. Ok (Some x)) else Ok None
 
 unfoldable pub width_member : List ℕ → Reader ℕ
-width_member name d = needed_read name (λ c. or_wrong_form (whole c)) d
+width_member name d = needed_read name (λ c. or_wrong_form (as_whole_number c)) d
 
 unfoldable pub elements_member : {F : Type 0} {p : ℕ} → Modular F p → List ℕ → Reader (List F)
 elements_member m name d = needed_read name (elements m) d
@@ -100,7 +100,7 @@ unfoldable pub cap_member : Reader (Option ℕ)
 cap_member d = optional_read (codes "cap") None (λ c. or_wrong_form (cap_in c)) d
 
 unfoldable pub weight_member : Reader ℕ
-weight_member d = optional_read (codes "transition_weight") 0 (λ c. or_wrong_form (whole c)) d
+weight_member d = optional_read (codes "transition_weight") 0 (λ c. or_wrong_form (as_whole_number c)) d
 
 unfoldable pub members_read : {F : Type 0} {p : ℕ} → Modular F p → Reader (MemberValues F)
 members_read m d = do

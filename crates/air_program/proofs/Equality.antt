@@ -10,18 +10,18 @@ use Rattle.p3_air.specs.Theorem.{Instance}
 use Rattle.p3_air.specs.Audits.{IsAuditUnder, AuditRefusesUnder}
 use Rattle.p3_air.specs.declared.audit.Audit.{Audit}
 use Rattle.air_core.specs.declared.errors.AirError.{AirError}
-use Rattle.air_program.specs.Answer.{equal, CappedAuditRefuses}
+use Rattle.air_program.specs.Answer.{equal_numbers, CappedAuditRefuses}
 
 -- tests that agree on all elements are the same
 same_test : {F : Type 0} (f g : F → F → Bool) → ((a b : F) → f a b ≡ g a b) → f ≡ g
 same_test f g h = λ i a b. h a b i
 
 module _ {F : Type 0} {order : ℕ} (modular : Modular F order) (r : CommRing F) (eq : F → F → Bool) (ring_is : r ≡ modular_ring modular) (eq_is : (a b : F) → Decides (eq a b) (a ≡ b)) where
-  eq_same : eq ≡ equal modular
-  eq_same = same_test eq (equal modular) (λ a b. same_from_decides (eq a b) (equal modular a b) (eq_is a b) (equal_is modular a b))
+  eq_same : eq ≡ equal_numbers modular
+  eq_same = same_test eq (equal_numbers modular) (λ a b. same_from_decides (eq a b) (equal_numbers modular a b) (eq_is a b) (equal_is modular a b))
 
   -- so the audit by these is an audit by the residues, and refuses the same
-  pub audit_of_residues : (basis : Basis F F) (x : Instance F) (cap : Option ℕ) (w : ℕ) (audit : Audit F) → IsAuditUnder r eq basis x cap w audit → IsAuditUnder (modular_ring modular) (equal modular) basis x cap w audit
+  pub audit_of_residues : (basis : Basis F F) (x : Instance F) (cap : Option ℕ) (w : ℕ) (audit : Audit F) → IsAuditUnder r eq basis x cap w audit → IsAuditUnder (modular_ring modular) (equal_numbers modular) basis x cap w audit
   audit_of_residues basis x cap w audit h =
       subst (λ e. IsAuditUnder (modular_ring modular) e basis x cap w audit) eq_same
       (subst (λ q. IsAuditUnder q eq basis x cap w audit) ring_is h)

@@ -15,8 +15,8 @@ use Rattle.air_program.specs.Texts.{Found, found_in, IsFindingsText, findings_st
 use Rattle.air_program.specs.Refusals.{AnswersRefusal}
 
 -- the test whether two elements are equal: whether their numbers are
-abbrev pub equal : {F : Type 0} {p : ℕ} → Modular F p → F → F → Bool
-equal m a b = m.value a == m.value b
+abbrev pub equal_numbers : {F : Type 0} {p : ℕ} → Modular F p → F → F → Bool
+equal_numbers m a b = m.value a == m.value b
 
 -- what an audit found
 abbrev pub found_by : {F : Type 0} → Audit F → Found
@@ -25,12 +25,12 @@ found_by audit = found_in (record { degree = audit.degree; report = audit.report
 -- What an audit under a cap, in a domain of weight w, finds of an instance.
 pub record AuditFinds {F : Type 0} {p : ℕ} (m : Modular F p) (x : Instance F) (cap : Option ℕ) (w : ℕ) (f : Found) : Type 0 where
   pub audit : Audit F
-  pub is_audit : IsAuditUnder (modular_ring m) (equal m) own_basis x cap w audit
+  pub is_audit : IsAuditUnder (modular_ring m) (equal_numbers m) own_basis x cap w audit
   pub found_is : f ≡ found_by audit
 
 -- what such an audit refuses
 abbrev pub CappedAuditRefuses : {F : Type 0} {p : ℕ} → Modular F p → Instance F → Option ℕ → ℕ → AirError → Type 0
-CappedAuditRefuses m = AuditRefusesUnder (modular_ring m) (equal m)
+CappedAuditRefuses m = AuditRefusesUnder (modular_ring m) (equal_numbers m)
 
 -- the text and the status of what an audit finds
 abbrev pub TellsFound : {F : Type 0} {p : ℕ} → Modular F p → Instance F → Option ℕ → ℕ → ℕ → List ℕ → Type 0
@@ -45,7 +45,7 @@ fibonacci_instance main public = instance fibonacci_declaration main public
 
 -- a recorded degree passes `usize`, in a domain whose weight isn't 0
 abbrev pub PassesDegree : Instance BabyBear → Option ℕ → ℕ → Type 0
-PassesDegree x cap w = (0 < w) × IsDegreePast (modular_ring baby_bears) (equal baby_bears) x cap w
+PassesDegree x cap w = (0 < w) × IsDegreePast (modular_ring baby_bears) (equal_numbers baby_bears) x cap w
 
 -- what is found, or the name of a degree that passes `usize`
 abbrev pub AnswersGiven : Instance BabyBear → Option ℕ → ℕ → ℕ → List ℕ → Type 0

@@ -4,12 +4,12 @@ use Rattle.serde_json.specs.Data.{Data}
 use Rattle.air_symbolic.specs.Trees.{leaf_tree}
 use Rattle.air_wire.specs.Nodes.{Kind}
 use Rattle.air_wire.specs.Spelling.{IsCase}
-use Rattle.air_wire.specs.Written.{Stands, Adds, AreWritten, AreNodesOf}
+use Rattle.air_wire.specs.Written.{IsAmong, Adds, AreWritten, AreNodesOf}
 
 pub leaf_written : {S F : Type 0} (kind : Kind S F) (d : Data) (a : S) → IsCase (codes "Leaf") (λ c. kind.writes c a) d → AreNodesOf kind (d ∷ []) (leaf_tree a)
 unfolding Adds AreWritten
 leaf_written kind d a h = record {
   trees = leaf_tree a ∷ [];
-  order = inr ((λ (s : Stands [] (leaf_tree a)). absurd (cc s.1)), refl);
+  order = inr ((λ (s : IsAmong [] (leaf_tree a)). absurd (cc s.1)), refl);
   nodes = (h, tt);
 }

@@ -11,7 +11,7 @@ use Rattle.air_wire.specs.laws.Readings.{ok_of}
 use Rattle.air_wire.specs.Coefficients.{elements_at}
 use Rattle.air_wire.specs.laws.Coefficients.{elements_found}
 use Rattle.air_wire.specs.laws.ExtLeaves.{made_of}
-use Rattle.air_wire.specs.Unshared.{over}
+use Rattle.air_wire.specs.Unshared.{map_leaves}
 use Rattle.air_wire.specs.Written.{IsWritten}
 use Rattle.air_wire.specs.BaseLeaves.{base_kind, base_seen}
 use Rattle.air_wire.specs.laws.BaseLeaves.{over_same}
@@ -20,11 +20,11 @@ use Rattle.air_wire.specs.declared.errors.FlatError.{FlatError}
 use Rattle.air_wire.specs.declared.errors.FlatError.TheVariants as faults
 
 -- a list that is written for what is seen of a tree is the tree's own
-pub written_tree : {F : Type 0} {p : ℕ} (m : Modular F p) (d : Data) (o : Option (Tree (BaseLeaf F))) → IsWritten (base_kind m) d (option_map (over (base_seen tt)) o) → IsWritten (base_kind m) d o
+pub written_tree : {F : Type 0} {p : ℕ} (m : Modular F p) (d : Data) (o : Option (Tree (BaseLeaf F))) → IsWritten (base_kind m) d (option_map (map_leaves (base_seen tt)) o) → IsWritten (base_kind m) d o
 written_tree m d o h = subst (IsWritten (base_kind m) d) (over_same o) h
 
 -- a list that is read gives its tree
-pub moved_tree : {F : Type 0} (place : ℕ) (o : Option (Tree (BaseLeaf F))) (read : Result (Option (Tree (BaseLeaf F))) FlatError) → read ≡ Ok (option_map (over (base_seen tt)) o) → faults_at place read ≡ Ok o
+pub moved_tree : {F : Type 0} (place : ℕ) (o : Option (Tree (BaseLeaf F))) (read : Result (Option (Tree (BaseLeaf F))) FlatError) → read ≡ Ok (option_map (map_leaves (base_seen tt)) o) → faults_at place read ≡ Ok o
 moved_tree place o read e = ap (faults_at place) (e ∙ ap (λ u. Ok u) (over_same o))
 
 pub moved_fault : {F : Type 0} (place : ℕ) (f : FlatError) (read : Result (Option (Tree (BaseLeaf F))) FlatError) → Fails f read → Fails (at_place place f) (faults_at place read)

@@ -15,10 +15,10 @@ use Rattle.air_symbolic.specs.declared.pools.expr.SymbolicExpr.{SymbolicExpr}
 use Rattle.air_symbolic.specs.declared.pools.expr.SymbolicExpr.TheVariants.{Leaf, Add, Sub, Neg, Mul}
 use Rattle.air_wire.specs.Spelling.{case_data}
 use Rattle.air_wire.specs.Nodes.{Kind}
-use Rattle.air_wire.specs.Unshared.{over, seen_at, degree, degree_of, WireLaws}
-use Rattle.air_wire.specs.Written.{Stands, two_data, one_data, IsWrittenNode}
+use Rattle.air_wire.specs.Unshared.{map_leaves, seen_at, degree, degree_of, WireLaws}
+use Rattle.air_wire.specs.Written.{IsAmong, two_data, one_data, IsWrittenNode}
 use Rattle.air_wire.specs.Writing.{Placed, IsWritable, IsNodeValue, steps_of}
-use Rattle.air_wire.proofs.SeenTrees.{over-both, over-negative, seen_there, degree_is_seen}
+use Rattle.air_wire.proofs.SeenTrees.{map_leaves-both, map_leaves-negative, seen_there, degree_is_seen}
 use Rattle.air_wire.proofs.Left.{node_tree, within_last, work, work_pop, look_less}
 use Rattle.air_wire.proofs.Ordered.{HasOperands}
 use Rattle.air_wire.proofs.Progress.{IsTable, IsOneToOne, Progress, skips, looks, is_next, writes}
@@ -30,7 +30,7 @@ module _ {A S F : Type 0} (kind : Kind S F) (seen : A → S) (f : ℕ → Tree S
   stands_at x p = t.placed x p.0 p.1
 
   -- the operand that stands in the list has a place
-  placed_at : (x : ℕ) → x < size → Stands done (f x) → Placed places x
+  placed_at : (x : ℕ) → x < size → IsAmong done (f x) → Placed places x
   placed_at x h s = by_entry (entry places x (omega (arith, t.len, h)))
     where
       entry : {X : Type 0} (xs : List X) (n : ℕ) → n < length xs → (y : X) × (slice_get xs n ≡ Some y)
@@ -73,21 +73,21 @@ module _ {U A S F : Type 0} (reads : U → Leaves A F) (seen : U → A → S) (z
   pub is_there : (i : ℕ) → i < length p.nodes → seen_at seen p i ≡ Some (tree i)
   is_there i h = let t = seen_there reads seen p w i h in t.1 ∙ ap (λ o. Some (unwrap_or o z)) (sym t.1)
 
-  over_two : (node : Tree A → Tree A → Tree A) (made : Tree S → Tree S → Tree S) → ((t u : Tree A) → over (seen p.base) (node t u) ≡ made (over (seen p.base) t) (over (seen p.base) u)) → (x y : ℕ) → x < length p.nodes → y < length p.nodes
-      → option_map (over (seen p.base)) (both node (tree_at p x) (tree_at p y)) ≡ Some (made (tree x) (tree y))
+  over_two : (node : Tree A → Tree A → Tree A) (made : Tree S → Tree S → Tree S) → ((t u : Tree A) → map_leaves (seen p.base) (node t u) ≡ made (map_leaves (seen p.base) t) (map_leaves (seen p.base) u)) → (x y : ℕ) → x < length p.nodes → y < length p.nodes
+      → option_map (map_leaves (seen p.base)) (both node (tree_at p x) (tree_at p y)) ≡ Some (made (tree x) (tree y))
   over_two node made is x y h k =
-      over-both (seen p.base) node made is (tree_at p x) (tree_at p y) ∙ ap₂ (both made) (is_there x h) (is_there y k)
+      map_leaves-both (seen p.base) node made is (tree_at p x) (tree_at p y) ∙ ap₂ (both made) (is_there x h) (is_there y k)
 
-  over_node : (node : SymbolicExpr A) → NodeFits (reads p.base) p.nodes node → option_map (over (seen p.base)) (unfold_node (tree_of p.nodes) node) ≡ Some (node_tree (seen p.base) tree node)
+  over_node : (node : SymbolicExpr A) → NodeFits (reads p.base) p.nodes node → option_map (map_leaves (seen p.base)) (unfold_node (tree_of p.nodes) node) ≡ Some (node_tree (seen p.base) tree node)
   over_node (Leaf a) h = refl
   over_node (Add x y d) h = over_two add_tree add_tree (λ t u. refl) x y h.0 h.1
   over_node (Sub x y d) h = over_two sub_tree sub_tree (λ t u. refl) x y h.0 h.1
-  over_node (Neg x d) h = over-negative (seen p.base) (tree_at p x) ∙ ap (option_map neg_tree) (is_there x h.0)
+  over_node (Neg x d) h = map_leaves-negative (seen p.base) (tree_at p x) ∙ ap (option_map neg_tree) (is_there x h.0)
   over_node (Mul x y d) h = over_two mul_tree mul_tree (λ t u. refl) x y h.0 h.1
 
   -- the tree of a number is that of its node
   pub node_there : (n : ℕ) (node : SymbolicExpr A) → IsNode (reads p.base) p.nodes n node → seen_at seen p n ≡ Some (node_tree (seen p.base) tree node)
-  node_there n node is = ap (option_map (over (seen p.base))) is.tree ∙ over_node node is.fits
+  node_there n node is = ap (option_map (map_leaves (seen p.base))) is.tree ∙ over_node node is.fits
 
   pub node_seen : (n : ℕ) (node : SymbolicExpr A) → IsNode (reads p.base) p.nodes n node → tree n ≡ node_tree (seen p.base) tree node
   node_seen n node is = ap (λ o. unwrap_or o z) (node_there n node is)
@@ -107,7 +107,7 @@ looks_smaller reads p w steps rest more s node e b is m =
     (look_less (form_at p) (λ a. tt) rest s.0 node (node_seen reads (λ u a. tt) (leaf_tree tt) p w s.0 node is)))
 
 module _ {U A S F : Type 0} (reads : U → Leaves A F) (grows : U → U → Type 0) (seen : U → A → S) (kind : Kind S F) (laws : WireLaws reads grows seen kind.term) where
-  over_one : (u : U) (t v : Tree A) → AllValid (reads u).valid t → AllValid (reads u).valid v → over (seen u) t ≡ over (seen u) v → t ≡ v
+  over_one : (u : U) (t v : Tree A) → AllValid (reads u).valid t → AllValid (reads u).valid v → map_leaves (seen u) t ≡ map_leaves (seen u) v → t ≡ v
   over_one u (leaf_tree a) (leaf_tree b) h k e =
       let l : seen u a ≡ seen u b = cc in
       ap (λ (x : A). leaf_tree x) (laws.one u a b h k l)
@@ -121,9 +121,9 @@ module _ {U A S F : Type 0} (reads : U → Leaves A F) (grows : U → U → Type
       let p : t ≡ x = over_one u t x h.0 k.0 (cc) in let q : v ≡ y = over_one u v y h.1 k.1 (cc) in cc
   over_one u _ _ h k e = absurd (cc)
 
-  tree_one : (u : U) (o r : Option (Tree A)) → IsValidTree (reads u).valid o → IsValidTree (reads u).valid r → option_map (over (seen u)) o ≡ option_map (over (seen u)) r → o ≡ r
+  tree_one : (u : U) (o r : Option (Tree A)) → IsValidTree (reads u).valid o → IsValidTree (reads u).valid r → option_map (map_leaves (seen u)) o ≡ option_map (map_leaves (seen u)) r → o ≡ r
   tree_one u (Some t) (Some v) h k e =
-      let same : over (seen u) t ≡ over (seen u) v = cc in ap (λ (x : Tree A). Some x) (over_one u t v h k same)
+      let same : map_leaves (seen u) t ≡ map_leaves (seen u) v = cc in ap (λ (x : Tree A). Some x) (over_one u t v h k same)
   tree_one u (Some t) None h k e = absurd k
   tree_one u None r h k e = absurd h
 

@@ -10,8 +10,8 @@ use Rattle.air_symbolic.specs.Trees.{Tree}
 use Rattle.air_symbolic.specs.Nodes.{OperandsBelow}
 use Rattle.air_symbolic.specs.declared.pools.expr.SymbolicExpr.{SymbolicExpr}
 use Rattle.air_wire.specs.Nodes.{Kind}
-use Rattle.air_wire.specs.Written.{subtrees, Stands, Adds, IsWrittenNode, AreWritten, AreNodesOf}
-use Rattle.air_wire.specs.laws.Written.{at_push, at_more, stands_cons, pushed_either}
+use Rattle.air_wire.specs.Written.{subtrees, IsAmong, Adds, IsWrittenNode, AreWritten, AreNodesOf}
+use Rattle.air_wire.specs.laws.Written.{at_push, at_more, among_cons, pushed_either}
 use Rattle.air_wire.specs.Writing.{steps_of}
 use Rattle.air_wire.proofs.Left.{node_tree, take_within_cap, left, left_push, left_one, left_none, look_left, Within, within_one, within_front, within_last, look_within}
 use Rattle.air_wire.proofs.Ordered.{HasOperands, Ordered, Closed, ordered_head, ordered_all, adds_skip, ordered_skip, closed_push}
@@ -22,7 +22,7 @@ use Rattle.air_wire.proofs.Ordered.{HasOperands, Ordered, Closed, ordered_head, 
 pub record IsTable {S : Type 0} (f : ℕ → Tree S) (size : ℕ) (done : List (Tree S)) (places : List (Option ℕ)) : Type 0 where
   pub len : length places ≡ size
   pub placed : (n i : ℕ) → slice_get places n ≡ Some (Some i) → slice_get done i ≡ Some (f n)
-  pub missing : (n : ℕ) → slice_get places n ≡ Some None → Stands done (f n) → ⊥
+  pub missing : (n : ℕ) → slice_get places n ≡ Some None → IsAmong done (f n) → ⊥
 
 set_same : {X : Type 0} (xs : List X) (n : ℕ) (x : X) → n < length xs → slice_get (set xs n x) n ≡ Some x
 set_same [] n x h = absurd (omega arith)
@@ -46,7 +46,7 @@ abbrev pub IsOneToOne : {S : Type 0} → (ℕ → Tree S) → ℕ → Type 0
 IsOneToOne f size = (n m : ℕ) → n < size → m < size → f n ≡ f m → n ≡ m
 
 module _ {S : Type 0} (f : ℕ → Tree S) (size : ℕ) where
-  no_tree : (t : Tree S) → Stands [] t → ⊥
+  no_tree : (t : Tree S) → IsAmong [] t → ⊥
   no_tree t h = nowhere h.0 h.1
     where
       nowhere : (i : ℕ) → slice_get [] i ≡ Some t → ⊥
@@ -87,14 +87,14 @@ module _ {S : Type 0} (f : ℕ → Tree S) (size : ℕ) where
           (λ (q : (eqb n m ≡ false) × (n ≢ m)). at_more done (f n ∷ []) i (f m) (t.placed m i (sym (set_other places n m (Some (length done)) q.1) ∙ h)))
           (eqb_tells n m)
 
-      missing : (m : ℕ) → slice_get (set places n (Some (length done))) m ≡ Some None → Stands (done ++ f n ∷ []) (f m) → ⊥
+      missing : (m : ℕ) → slice_get (set places n (Some (length done))) m ≡ Some None → IsAmong (done ++ f n ∷ []) (f m) → ⊥
       missing m h s =
           ⊎_elim
           (λ (q : (eqb n m ≡ true) × (n ≡ m)). none_is (sym (set_same places n (Some (length done)) here) ∙ ap (slice_get (set places n (Some (length done)))) q.1 ∙ h))
           (λ (q : (eqb n m ≡ false) × (n ≢ m)).
           let k : slice_get places m ≡ Some None = sym (set_other places n m (Some (length done)) q.1) ∙ h in
           ⊎_elim
-          (λ (l : Stands done (f m)). t.missing m k l)
+          (λ (l : IsAmong done (f m)). t.missing m k l)
           (λ (e : f n ≡ f m). q.1 (one n m small (omega (arith, t.len, slice_get_within places m None k)) e))
           (pushed_either done (f n) (f m) s))
           (eqb_tells n m)
@@ -166,15 +166,15 @@ module _ {S F : Type 0} (kind : Kind S F) (f : ℕ → Tree S) (size : ℕ) wher
     order = λ all a. h.order all (subst (λ (l : List (Tree S)). Adds h.done l all) (sym (left_push f steps (n, b))) (adds_skip h.done (take_within_cap f (n, b)) (left f steps) all (there b) a));
   }
     where
-      root_there : Stands h.done (f n)
+      root_there : IsAmong h.done (f n)
       root_there = (i, h.table.placed n i at)
 
-      parts_there : (x : Tree S) → Stands (subtrees (f n)) x → Stands h.done x
+      parts_there : (x : Tree S) → IsAmong (subtrees (f n)) x → IsAmong h.done x
       parts_there = h.closed (f n) root_there
 
-      there : (b : Bool) (x : Tree S) → Stands (take_within_cap f (n, b)) x → Stands h.done x
+      there : (b : Bool) (x : Tree S) → IsAmong (take_within_cap f (n, b)) x → IsAmong h.done x
       there false x s = parts_there x s
-      there true x s = ⊎_elim (λ (e : f n ≡ x). subst (λ (t : Tree S). Stands h.done t) e root_there) (λ (r : Stands [] x). absurd (no_tree f size x r)) (stands_cons (f n) [] x s)
+      there true x s = ⊎_elim (λ (e : f n ≡ x). subst (λ (t : Tree S). IsAmong h.done t) e root_there) (λ (r : IsAmong [] x). absurd (no_tree f size x r)) (among_cons (f n) [] x s)
 
   -- a step that looks at an expression
   pub looks : {A : Type 0} (seen : A → S) (root : Tree S) (steps : List (ℕ × Bool)) (places : List (Option ℕ)) (ds : List Data) (n : ℕ) (node : SymbolicExpr A) → f n ≡ node_tree seen f node → OperandsBelow n node → Progress kind f size root (steps ++ (n, false) ∷ []) places ds

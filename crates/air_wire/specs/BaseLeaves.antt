@@ -6,7 +6,7 @@ use Rattle.air_field.specs.Modular.{Modular}
 use Rattle.air_symbolic.specs.BaseLeaves.{base_term, base_reads, base_grows}
 use Rattle.air_symbolic.specs.declared.leaves.base_leaf.BaseLeaf.{BaseLeaf}
 use Rattle.air_symbolic.specs.declared.leaves.base_leaf.BaseLeaf.TheVariants as leaves
-use Rattle.air_wire.specs.Parts.{whole, find_name, text_or}
+use Rattle.air_wire.specs.Parts.{as_whole_number, find_name, text_or}
 use Rattle.air_wire.specs.Results.{◌>>=◌}
 use Rattle.air_wire.specs.Entries.{SpellsVariable, variable_plain}
 use Rattle.air_wire.specs.Spelling.{number_data, case_data, IsCase, IsWholeNumber}
@@ -56,7 +56,7 @@ element_or m place None = Err (faults.Shape place)
 element_or {p = p} m place (Some n) = if nat_lt n p then Ok (m.class n) else Err (faults.NotCanonical place)
 
 unfoldable pub element_at : {F : Type 0} {p : ℕ} → Modular F p → ℕ → Data → Result F FlatError
-element_at m place d = element_or m place (whole d)
+element_at m place d = element_or m place (as_whole_number d)
 
 -- a leaf without contents, by its name
 abbrev pub bare_leaves : {F : Type 0} → List (List ℕ × BaseLeaf F)

@@ -4,7 +4,7 @@ use Rattle.std.specs.List.{list_all}
 use Rattle.serde_json.specs.Data.{Data, Items, no_items, item}
 use Rattle.serde_json.specs.Find.{as_array}
 use Rattle.air_field.specs.Modular.{Modular}
-use Rattle.air_wire.specs.Parts.{whole}
+use Rattle.air_wire.specs.Parts.{as_whole_number}
 use Rattle.air_wire.specs.Results.{◌>>=◌}
 use Rattle.air_wire.specs.Spelling.{number_data}
 use Rattle.air_wire.specs.declared.errors.FlatError.{FlatError}
@@ -20,7 +20,7 @@ number_items m (c ∷ cs) = item (number_data (m.value c)) (number_items m cs)
 -- the whole numbers of a list, where each is one
 unfoldable pub wholes : Items → Option (List ℕ)
 wholes no_items = Some []
-wholes (item d ds) = option_and_then (λ n. option_map (λ ns. n ∷ ns) (wholes ds)) (whole d)
+wholes (item d ds) = option_and_then (λ n. option_map (λ ns. n ∷ ns) (wholes ds)) (as_whole_number d)
 
 -- below the modulus p
 abbrev pub is_canonical : ℕ → ℕ → Bool

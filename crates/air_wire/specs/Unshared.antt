@@ -7,16 +7,16 @@ use Rattle.air_symbolic.specs.Trees.{Tree, leaf_tree, add_tree, sub_tree, neg_tr
 use Rattle.air_symbolic.specs.Pools.{tree_at, Pool}
 
 -- the tree over other leaves
-abbrev pub over : {A S : Type 0} → (A → S) → Tree A → Tree S
-over f (leaf_tree a) = leaf_tree (f a)
-over f (add_tree t u) = add_tree (over f t) (over f u)
-over f (sub_tree t u) = sub_tree (over f t) (over f u)
-over f (neg_tree t) = neg_tree (over f t)
-over f (mul_tree t u) = mul_tree (over f t) (over f u)
+abbrev pub map_leaves : {A S : Type 0} → (A → S) → Tree A → Tree S
+map_leaves f (leaf_tree a) = leaf_tree (f a)
+map_leaves f (add_tree t u) = add_tree (map_leaves f t) (map_leaves f u)
+map_leaves f (sub_tree t u) = sub_tree (map_leaves f t) (map_leaves f u)
+map_leaves f (neg_tree t) = neg_tree (map_leaves f t)
+map_leaves f (mul_tree t u) = mul_tree (map_leaves f t) (map_leaves f u)
 
 -- the tree of number i, if there is the number
 abbrev pub seen_at : {U A S : Type 0} → (U → A → S) → Pool U A → ℕ → Option (Tree S)
-seen_at seen p i = option_map (over (seen p.base)) (tree_at p i)
+seen_at seen p i = option_map (map_leaves (seen p.base)) (tree_at p i)
 
 -- the degree by the cached weights, which a list states
 abbrev pub degree : {S F : Type 0} → (S → Term F) → Tree S → ℕ

@@ -16,14 +16,14 @@ subtrees (sub_tree t u) = subtrees t ++ subtrees u ++ sub_tree t u ∷ []
 subtrees (neg_tree t) = subtrees t ++ neg_tree t ∷ []
 subtrees (mul_tree t u) = subtrees t ++ subtrees u ++ mul_tree t u ∷ []
 
--- x has a place in the list
-abbrev pub Stands : {X : Type 0} → List X → X → Type 0
-Stands xs x = (i : ℕ) × (slice_get xs i ≡ Some x)
+-- x is in the list
+abbrev pub IsAmong : {X : Type 0} → List X → X → Type 0
+IsAmong xs x = (i : ℕ) × (slice_get xs i ≡ Some x)
 
 -- all is done, and behind it what of xs isn't there yet, each element once, at its first place
 unfoldable pub Adds : {X : Type 0} → List X → List X → List X → Type 0
 Adds done [] all = all ≡ done
-Adds done (x ∷ xs) all = (Stands done x × Adds done xs all) ⊎ ((Stands done x → ⊥) × Adds (done ++ x ∷ []) xs all)
+Adds done (x ∷ xs) all = (IsAmong done x × Adds done xs all) ⊎ ((IsAmong done x → ⊥) × Adds (done ++ x ∷ []) xs all)
 
 -- ---- one node
 
@@ -35,10 +35,10 @@ one_data d x = object (member (codes "degree_multiple") (number_data d) (member 
 
 -- the case of this name with the degree d, and the places of t and u
 abbrev pub WritesTwo : {S : Type 0} → List ℕ → List (Tree S) → Tree S → Tree S → ℕ → Data → Type 0
-WritesTwo name done t u d v = (x : Stands done t) × (y : Stands done u) × (v ≡ case_data name (two_data d x.0 y.0))
+WritesTwo name done t u d v = (x : IsAmong done t) × (y : IsAmong done u) × (v ≡ case_data name (two_data d x.0 y.0))
 
 abbrev pub WritesOne : {S : Type 0} → List ℕ → List (Tree S) → Tree S → ℕ → Data → Type 0
-WritesOne name done t d v = (x : Stands done t) × (v ≡ case_data name (one_data d x.0))
+WritesOne name done t d v = (x : IsAmong done t) × (v ≡ case_data name (one_data d x.0))
 
 -- Behind nodes with the trees of done, the value is what is written for the tree: its degree, which fits `usize`, and
 -- the places of its operands.

@@ -2,7 +2,7 @@
 
 ghost use Rattle.std.specs.Prelude.{◌≡◌, option_map};
 ghost use Rattle.serde_json.specs.View.{view};
-ghost use Rattle.air_wire.specs.Parts.{only_member, whole, whole_at};
+ghost use Rattle.air_wire.specs.Parts.{only_member, as_whole_number, whole_at};
 
 use serde_json::Value;
 
@@ -20,7 +20,7 @@ pub(crate) fn only_member(value: &Value) -> Option<(&str, &Value)>
 
 /// A whole number from 0 on that fits 64 bits.
 pub fn whole_number(value: &Value) -> Option<usize>
-    ensures { result ≡ whole (view value.now) }
+    ensures { result ≡ as_whole_number (view value.now) }
 {
     let number = value.as_u64()?;
     Some(number as usize)

@@ -15,7 +15,7 @@ module _ {S R X B E F : Type 0} {view : BuilderView S R B F} {over : ExtensionVi
     by_growth = laws.by_growth;
     kept_joined = laws.kept_joined;
     ring_kept = extension.ext_ring_kept;
-    stands_kept = laws.stands_kept;
+    reads_as_kept = laws.reads_as_kept;
     ready_kept = laws.ready_kept;
     missing_kept = laws.missing_kept;
     missing_stays = laws.missing_stays;

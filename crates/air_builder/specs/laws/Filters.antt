@@ -15,7 +15,7 @@ module _ {S R E F : Type 0} {view : BuilderView S R E F} (ring : RingLaws view) 
   -- what meant a term before still means it
   pub means_kept : (a b : S) (x : E) (t : Term F) → kept a b → MeansIn view a x t → MeansIn view b x t
   means_kept a b x t k m =
-      subst (λ s. means (ring_of b) x (with_leaves s t)) (sym (laws.stands_kept a b k))
+      subst (λ s. means (ring_of b) x (with_leaves s t)) (sym (laws.reads_as_kept a b k))
       (ring.means_stays (ring_of a) (ring_of b) x (with_leaves (reads_as a) t) (laws.ring_kept a b k) m)
 
   -- what was in the ring is in it still
@@ -27,7 +27,7 @@ module _ {S R E F : Type 0} {view : BuilderView S R E F} (ring : RingLaws view) 
       → means r x (with_leaves (reads_as a) t) → MeansIn view (with_ring a r) x t
   means_lent a r x t e m =
       subst (λ s. means (ring_of (with_ring a r)) x (with_leaves s t))
-      (sym (laws.stands_kept a (with_ring a r) (laws.by_growth a (with_ring a r) [] (laws.ring_lent a r e))))
+      (sym (laws.reads_as_kept a (with_ring a r) (laws.by_growth a (with_ring a r) [] (laws.ring_lent a r e))))
       (subst (λ q. means q x (with_leaves (reads_as a) t)) (sym (laws.ring_with a r)) m)
 
   -- what a filter may refuse its builder may
@@ -111,7 +111,7 @@ module _ {S R E F : Type 0} {view : BuilderView S R E F} (ring : RingLaws view) 
         inside = laws.kept_joined (inner p) (inner q) (inner s) g.inside h.inside;
       };
       ring_kept = λ p q g. laws.ring_kept (inner p) (inner q) g.inside;
-      stands_kept = λ p q g. laws.stands_kept (inner p) (inner q) g.inside;
+      reads_as_kept = λ p q g. laws.reads_as_kept (inner p) (inner q) g.inside;
       ready_kept = λ p q g h. (
         laws.ready_kept (inner p) (inner q) g.inside h.0,
         subst (λ x. has (ring_of (inner q)) x) (sym g.same_condition) (has_kept (inner p) (inner q) (condition p) g.inside h.1),

@@ -69,7 +69,7 @@ module _ {S D F : Type 0} (row : S → D) (shape : D → Shape) (reads_as : D �
       by_growth = grows.same_row;
       kept_joined = λ a b c g h. h ∙ g;
       ring_kept = λ a b k. tt;
-      stands_kept = λ a b k. ap reads_as k;
+      reads_as_kept = λ a b k. ap reads_as k;
       ready_kept = λ a b k h. tt;
       missing_kept = λ a b l k h. subst (λ d. IsMissing (shape d) l) k h;
       missing_stays = λ a b l k h. subst (λ d. IsMissing (shape d) l) (sym k) h;

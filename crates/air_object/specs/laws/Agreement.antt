@@ -7,7 +7,7 @@ use Rattle.air_wire.specs.declared.errors.FlatError.{FlatError}
 use Rattle.air_wire.specs.declared.errors.FlatError.TheVariants as faults
 use Rattle.air_wire.specs.Results.{◌>>=◌}
 use Rattle.air_wire.specs.laws.Readings.{ok_of, done_is, err_of, err_is, bind_ok, ok_or_found}
-use Rattle.air_object.specs.Objects.{Grammar, by_form, AllSpell, FirstElementFault, list_of, needed_member, optional, both_members, both_or_none}
+use Rattle.air_object.specs.Objects.{Grammar, by_form, AllSpell, FirstElementFault, list_of, needed_member, optional_member, both_members, both_or_none}
 use Rattle.air_object.specs.Readers.{Reader, or_wrong_form, each_from, list_read, needed_read, or_absent, optional_read, both_read, if_either}
 
 pub record Agrees {X : Type 0} (g : Grammar X) (read : Reader X) : Type 0 where
@@ -133,19 +133,19 @@ module _ {X : Type 0} (name : List ℕ) (g : Grammar X) (read : Reader X) (agree
   }
 
   module _ (absent : X) where
-    optional_found : (d : Data) (x : X) (o : Option Data) → get name d ≡ o → or_absent absent read o ≡ Ok x → (optional name absent g).spells d x
+    optional_found : (d : Data) (x : X) (o : Option Data) → get name d ≡ o → or_absent absent read o ≡ Ok x → (optional_member name absent g).spells d x
     optional_found d x None is e = inl (is, done_is (λ y. y ≡ absent) absent x e refl)
     optional_found d x (Some c) is e = inr (c, is, agrees.found c x e)
 
-    optional_again : (d : Data) (x : X) → (optional name absent g).spells d x → optional_read name absent read d ≡ Ok x
+    optional_again : (d : Data) (x : X) → (optional_member name absent g).spells d x → optional_read name absent read d ≡ Ok x
     optional_again d x (inl h) = ap (or_absent absent read) h.0 ∙ ap (λ y. ok_of y) (sym h.1)
     optional_again d x (inr h) = ap (or_absent absent read) h.1 ∙ agrees.again h.0 x h.2
 
-    optional_fault : (d : Data) (f : FlatError) (o : Option Data) → get name d ≡ o → or_absent absent read o ≡ Err f → (optional name absent g).fault d f
+    optional_fault : (d : Data) (f : FlatError) (o : Option Data) → get name d ≡ o → or_absent absent read o ≡ Err f → (optional_member name absent g).fault d f
     optional_fault d f None is e = absurd cc
     optional_fault d f (Some c) is e = (c, is, agrees.fault c f e)
 
-    pub optional_agrees : Agrees (optional name absent g) (optional_read name absent read)
+    pub optional_agrees : Agrees (optional_member name absent g) (optional_read name absent read)
     optional_agrees = record {
       found = λ d x e. optional_found d x (get name d) refl e;
       again = optional_again;

@@ -9,22 +9,22 @@ use Rattle.air_wire.specs.laws.BaseLeaves.{element_found, element_again, base_ki
 use Rattle.air_wire.specs.Boundaries.{SpellsCell, cell_of}
 use Rattle.air_wire.specs.laws.Boundaries.{cell_laws}
 use Rattle.air_wire.specs.laws.Lists.{root_found, root_again, root_fault, root_fault_read}
-use Rattle.air_wire.specs.Parts.{whole}
+use Rattle.air_wire.specs.Parts.{as_whole_number}
 use Rattle.air_wire.specs.Results.{◌>>=◌}
 use Rattle.air_wire.specs.laws.Readings.{by_some, number_found, err_of, err_is}
 use Rattle.air_wire.specs.Spelling.{IsWholeNumber}
 use Rattle.air_wire.specs.declared.errors.FlatError.{FlatError}
 use Rattle.air_wire.specs.declared.errors.FlatError.TheVariants as faults
-use Rattle.air_object.specs.Objects.{list_of, needed_member, optional, both_or_none}
+use Rattle.air_object.specs.Objects.{list_of, needed_member, optional_member, both_or_none}
 use Rattle.air_object.specs.Members.{whole_number, ElementFault, element, constraint, boundary_cell, SpellsCap, cap, MemberValues, members}
 use Rattle.air_object.specs.Readers.{or_wrong_form, tree, trees, elements, columns, cell_read, cells, cap_in, width_member, elements_member, table_member, constraints_member, periodic_member, boundary_member, cap_member, weight_member, members_read, Reader, both_read}
 use Rattle.air_object.specs.laws.Agreement.{Agrees, by_form_agrees, list_agrees, needed_agrees, optional_agrees, both_agree, both_or_none_agrees, agrees_as}
 
-whole_again : (d : Data) (n : ℕ) → IsWholeNumber n d → whole d ≡ Some n
-whole_again d n h = ap whole h
+whole_again : (d : Data) (n : ℕ) → IsWholeNumber n d → as_whole_number d ≡ Some n
+whole_again d n h = ap as_whole_number h
 
-whole_agrees : Agrees whole_number (λ d. or_wrong_form (whole d))
-whole_agrees = by_form_agrees (λ d n. IsWholeNumber n d) whole number_found whole_again
+whole_agrees : Agrees whole_number (λ d. or_wrong_form (as_whole_number d))
+whole_agrees = by_form_agrees (λ d n. IsWholeNumber n d) as_whole_number number_found whole_again
 
 cell_agrees : Agrees boundary_cell cell_read
 cell_agrees = by_form_agrees SpellsCell cell_of cell_laws.found cell_laws.again
@@ -54,19 +54,19 @@ cap_agrees = by_form_agrees SpellsCap cap_in cap_found cap_again
 
 width_agrees : (name : List ℕ) → Agrees (needed_member name whole_number) (width_member name)
 unfolding width_member
-width_agrees name = needed_agrees name whole_number (λ d. or_wrong_form (whole d)) whole_agrees
+width_agrees name = needed_agrees name whole_number (λ d. or_wrong_form (as_whole_number d)) whole_agrees
 
-boundary_agrees : Agrees (optional (codes "boundary") [] (list_of boundary_cell)) boundary_member
+boundary_agrees : Agrees (optional_member (codes "boundary") [] (list_of boundary_cell)) boundary_member
 unfolding boundary_member
 boundary_agrees = optional_agrees (codes "boundary") (list_of boundary_cell) cells cells_agree []
 
-cap_member_agrees : Agrees (optional (codes "cap") None cap) cap_member
+cap_member_agrees : Agrees (optional_member (codes "cap") None cap) cap_member
 unfolding cap_member
 cap_member_agrees = optional_agrees (codes "cap") cap (λ d. or_wrong_form (cap_in d)) cap_agrees None
 
-weight_agrees : Agrees (optional (codes "transition_weight") 0 whole_number) weight_member
+weight_agrees : Agrees (optional_member (codes "transition_weight") 0 whole_number) weight_member
 unfolding weight_member
-weight_agrees = optional_agrees (codes "transition_weight") whole_number (λ d. or_wrong_form (whole d)) whole_agrees 0
+weight_agrees = optional_agrees (codes "transition_weight") whole_number (λ d. or_wrong_form (as_whole_number d)) whole_agrees 0
 
 module _ {O P Q R S T U V W : Type 0} where
   abbrev in_a_row : Result O FlatError → Result P FlatError → Result Q FlatError → Result R FlatError → Result S FlatError → Result T FlatError → Result U FlatError → Result V FlatError → Result W FlatError → Result (O × (P × (Q × (R × (S × (T × (U × (V × W)))))))) FlatError
@@ -98,7 +98,7 @@ module _ {O P Q R S T U V W : Type 0} where
 module _ {F : Type 0} {order : ℕ} (modular : Modular F order) where
   -- ---- elements
 
-  element_fault : (d : Data) (f : FlatError) (o : Option ℕ) → whole d ≡ o → element_or modular 0 o ≡ Err f → ElementFault order d f
+  element_fault : (d : Data) (f : FlatError) (o : Option ℕ) → as_whole_number d ≡ o → element_or modular 0 o ≡ Err f → ElementFault order d f
   element_fault d f None is e = inl ((λ n h. absurd (cc (sym is ∙ whole_again d n h))), sym (err_is (faults.Shape 0) f e))
   element_fault d f (Some n) is e = by_size (nat_lt n order) refl e
     where
@@ -108,18 +108,18 @@ module _ {F : Type 0} {order : ℕ} (modular : Modular F order) where
 
   element_refused : (d : Data) (f : FlatError) → ElementFault order d f → element_at modular 0 d ≡ Err f
   unfolding element_at
-  element_refused d f (inl h) = none (whole d) refl
+  element_refused d f (inl h) = none (as_whole_number d) refl
     where
-      none : (o : Option ℕ) → whole d ≡ o → element_or modular 0 o ≡ Err f
+      none : (o : Option ℕ) → as_whole_number d ≡ o → element_or modular 0 o ≡ Err f
       none None is = ap (λ g. err_of g) (sym h.1)
       none (Some n) is = absurd (h.0 n (number_found d n is))
   element_refused d f (inr h) =
-      ap (λ e. element_or modular 0 (whole e)) h.1
+      ap (λ e. element_or modular 0 (as_whole_number e)) h.1
       ∙ ap (λ b. if b then Ok (modular.class h.0) else Err (faults.NotCanonical 0)) (le-ltb h.0 order h.2) ∙ ap (λ g. err_of g) (sym h.3)
 
   fault_of_element : (d : Data) (f : FlatError) → element_at modular 0 d ≡ Err f → ElementFault order d f
   unfolding element_at
-  fault_of_element d f e = element_fault d f (whole d) refl e
+  fault_of_element d f e = element_fault d f (as_whole_number d) refl e
 
   element_agrees : Agrees (element modular) (element_at modular 0)
   element_agrees = record { found = element_found modular 0; again = element_again modular 0; fault = fault_of_element; refused = element_refused }
@@ -162,7 +162,7 @@ module _ {F : Type 0} {order : ℕ} (modular : Modular F order) where
   unfolding constraints_member
   constraints_agree = needed_agrees (codes "constraints") (list_of (constraint modular)) (trees modular) trees_agree
 
-  periodic_agrees : Agrees (optional (codes "periodic") [] (list_of (list_of (element modular)))) (periodic_member modular)
+  periodic_agrees : Agrees (optional_member (codes "periodic") [] (list_of (list_of (element modular)))) (periodic_member modular)
   unfolding periodic_member
   periodic_agrees = optional_agrees (codes "periodic") (list_of (list_of (element modular))) (columns modular) columns_agree []
 

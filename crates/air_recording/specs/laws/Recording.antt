@@ -177,7 +177,7 @@ module _ {R Q E X F : Type 0}
       by_growth = λ a b xs g. g.keeps;
       kept_joined = λ a b c g h. record { pool = ext.joined (pool a) (pool b) (pool c) g.pool h.pool; fixed = h.fixed ∙ g.fixed };
       ring_kept = λ a b k. under (pool a) (pool b) k.pool;
-      stands_kept = λ a b k. refl;
+      reads_as_kept = λ a b k. refl;
       ready_kept = λ a b k h. ready_stays (pool a) (pool b) (fixed a) (fixed b) k h;
       missing_kept = λ a b l k h. subst (λ v. IsMissing v.shape l) k.fixed h;
       missing_stays = λ a b l k h. subst (λ v. IsMissing v.shape l) (sym k.fixed) h;

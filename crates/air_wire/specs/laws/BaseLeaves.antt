@@ -9,14 +9,14 @@ use Rattle.std.proofs.Math.Nat.{mod-eq_of_lt}
 use Rattle.air_symbolic.specs.Trees.{Tree, leaf_tree, add_tree, sub_tree, neg_tree, mul_tree}
 use Rattle.air_symbolic.specs.declared.leaves.base_leaf.BaseLeaf.{BaseLeaf}
 use Rattle.air_symbolic.specs.declared.leaves.base_leaf.BaseLeaf.TheVariants as leaves
-use Rattle.air_wire.specs.Parts.{whole}
+use Rattle.air_wire.specs.Parts.{as_whole_number}
 use Rattle.air_wire.specs.Results.{◌>>=◌}
 use Rattle.air_wire.specs.Spelling.{number_data, case_data, IsWholeNumber}
 use Rattle.air_wire.specs.laws.Readings.{map_found, ok_of, done_is, not_done, bind_ok, ok_or_found, test_ok, name_ok, name_found, text_read, number_found, err_of, err_is, not_failed, ok_or_failed, before_done, test_failed, name_failed}
 use Rattle.air_wire.specs.Entries.{variable_plain}
 use Rattle.air_wire.specs.laws.Entries.{variable_laws}
 use Rattle.air_wire.specs.Nodes.{KindLaws}
-use Rattle.air_wire.specs.Unshared.{over}
+use Rattle.air_wire.specs.Unshared.{map_leaves}
 use Rattle.air_wire.specs.laws.LeafFaults.{leaf_fault_found, leaf_fault_again}
 use Rattle.air_wire.specs.BaseLeaves.{SpellsLeaf, IsPast, OwnLeafFault, WritesLeaf, element_or, element_at, bare_leaves, bare_leaf, leaf_with, leaf_at, base_kind, base_seen}
 use Rattle.air_wire.specs.declared.errors.FlatError.{FlatError}
@@ -35,12 +35,12 @@ module _ {F : Type 0} {p : ℕ} (m : Modular F p) where
 
   pub element_found : (place : ℕ) (d : Data) (x : F) → element_at m place d ≡ Ok x → IsWholeNumber (m.value x) d
   unfolding element_at
-  element_found place d x e = number_found d (m.value x) (element_found_of place (whole d) x e)
+  element_found place d x e = number_found d (m.value x) (element_found_of place (as_whole_number d) x e)
 
   pub element_again : (place : ℕ) (d : Data) (x : F) → IsWholeNumber (m.value x) d → element_at m place d ≡ Ok x
   unfolding element_at
   element_again place d x h =
-      ap (λ e. element_or m place (whole e)) h
+      ap (λ e. element_or m place (as_whole_number e)) h
       ∙ ap (λ b. if b then Ok (m.class (m.value x)) else Err (faults.NotCanonical place)) (lt-ltb (m.value x) p (m.bound x))
       ∙ ap (λ y. ok_of y) (class_of m x)
 
@@ -77,7 +77,7 @@ module _ {F : Type 0} {p : ℕ} (m : Modular F p) where
 
   -- ---- faults
 
-  element_failed : (place : ℕ) (d : Data) (o : Option ℕ) (f : FlatError) → whole d ≡ o → element_or m place o ≡ Err f → (IsPast p d × (f ≡ faults.NotCanonical place)) ⊎ (f ≡ faults.Shape place)
+  element_failed : (place : ℕ) (d : Data) (o : Option ℕ) (f : FlatError) → as_whole_number d ≡ o → element_or m place o ≡ Err f → (IsPast p d × (f ≡ faults.NotCanonical place)) ⊎ (f ≡ faults.Shape place)
   element_failed place d None f is e = inr (sym (err_is {A = F} (faults.Shape place) f e))
   element_failed place d (Some n) f is e =
       test_failed ((IsPast p d × (f ≡ faults.NotCanonical place)) ⊎ (f ≡ faults.Shape place)) (nat_lt n p) (Ok (m.class n)) (Err (faults.NotCanonical place)) f e
@@ -87,7 +87,7 @@ module _ {F : Type 0} {p : ℕ} (m : Modular F p) where
   past_refused : (place : ℕ) (d : Data) → IsPast p d → element_at m place d ≡ Err (faults.NotCanonical place)
   unfolding element_at
   past_refused place d (n, is, great) =
-      ap (λ e. element_or m place (whole e)) is
+      ap (λ e. element_or m place (as_whole_number e)) is
       ∙ ap (λ b. if b then Ok (m.class n) else Err (faults.NotCanonical place)) (le-ltb n p great)
 
   with_failed : (place : ℕ) (name : List ℕ) (c : Data) (f : FlatError) → leaf_with m place name c ≡ Err f → OwnLeafFault p place (case_data name c) f ⊎ (f ≡ faults.Shape place)
@@ -101,7 +101,7 @@ module _ {F : Type 0} {p : ℕ} (m : Modular F p) where
       ⊎_elim
       (λ (h : IsPast p c × (f ≡ faults.NotCanonical place)). inl ((c, ap (λ t. case_data t c) same, h.0), h.1))
       (λ (h : f ≡ faults.Shape place). inr h)
-      (element_failed place c (whole c) f refl (before_done (element_at m place c) (λ x. leaves.Constant x) f e)))
+      (element_failed place c (as_whole_number c) f refl (before_done (element_at m place c) (λ x. leaves.Constant x) f e)))
       (λ e. inr (sym (err_is {A = BaseLeaf F} (faults.Shape place) f e))))
 
   own_found : (place : ℕ) (d : Data) (f : FlatError) → leaf_at m place d ≡ Err f → OwnLeafFault p place d f ⊎ (f ≡ faults.Shape place)
@@ -135,13 +135,13 @@ module _ {F : Type 0} {p : ℕ} (m : Modular F p) where
   }
 
 -- what is seen of a tree of base leaves is the tree
-same_tree : {F : Type 0} (t : Tree (BaseLeaf F)) → over (base_seen tt) t ≡ t
+same_tree : {F : Type 0} (t : Tree (BaseLeaf F)) → map_leaves (base_seen tt) t ≡ t
 same_tree (leaf_tree a) = refl
 same_tree (add_tree t u) = cc (same_tree t, same_tree u)
 same_tree (sub_tree t u) = cc (same_tree t, same_tree u)
 same_tree (neg_tree t) = cc (same_tree t)
 same_tree (mul_tree t u) = cc (same_tree t, same_tree u)
 
-pub over_same : {F : Type 0} (o : Option (Tree (BaseLeaf F))) → option_map (over (base_seen tt)) o ≡ o
+pub over_same : {F : Type 0} (o : Option (Tree (BaseLeaf F))) → option_map (map_leaves (base_seen tt)) o ≡ o
 over_same (Some t) = ap (λ u. Some u) (same_tree t)
 over_same None = refl

@@ -8,7 +8,7 @@ use Rattle.serde_json.specs.Data.{Data, null, boolean, number, string, object, a
 use Rattle.serde_json.specs.Find.{as_array}
 use Rattle.air_field.specs.Modular.{Modular}
 use Rattle.air_field.specs.laws.Modular.{class_of}
-use Rattle.air_wire.specs.Parts.{whole}
+use Rattle.air_wire.specs.Parts.{as_whole_number}
 use Rattle.air_wire.specs.Results.{◌>>=◌}
 use Rattle.air_wire.specs.Spelling.{number_data}
 use Rattle.air_wire.specs.laws.Readings.{ok_of, done_is, not_done, bind_ok, ok_or_found, test_ok, number_found, err_is, not_failed, ok_or_failed, bind_failed, test_failed}
@@ -47,7 +47,7 @@ module _ {F : Type 0} {p : ℕ} (m : Modular F p) where
 
   items_found_of : (d : Data) (ds : Items) (o : Option ℕ) (later : Option (List ℕ)) (ns : List ℕ)
       → ((ms : List ℕ) → later ≡ Some ms → list_all (is_canonical p) ms ≡ true → ds ≡ number_items m (map m.class ms))
-      → whole d ≡ o
+      → as_whole_number d ≡ o
       → option_and_then (λ n. option_map (λ ns. n ∷ ns) later) o ≡ Some ns → list_all (is_canonical p) ns ≡ true → item d ds ≡ number_items m (map m.class ns)
   items_found_of d ds None p ns later is e h = absurd cc
   items_found_of d ds (Some n) None ns later is e h = absurd cc
@@ -60,7 +60,7 @@ module _ {F : Type 0} {p : ℕ} (m : Modular F p) where
   items_found : (ds : Items) (ns : List ℕ) → wholes ds ≡ Some ns → list_all (is_canonical p) ns ≡ true → ds ≡ number_items m (map m.class ns)
   unfolding wholes
   items_found no_items ns e h = ap (λ ks. number_items m (map m.class ks)) (some_list [] ns e)
-  items_found (item d ds) ns e h = items_found_of d ds (whole d) (wholes ds) ns (items_found ds) refl e h
+  items_found (item d ds) ns e h = items_found_of d ds (as_whole_number d) (wholes ds) ns (items_found ds) refl e h
 
   items_read : (cs : List F) → wholes (number_items m cs) ≡ Some (residues cs)
   unfolding wholes

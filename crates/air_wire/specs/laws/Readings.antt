@@ -6,7 +6,7 @@ use Rattle.std.proofs.Common.{sym, ap, subst, ◌∙◌}
 use Rattle.std.proofs.lemmas.Slice.Eq.{bytes_eq-Decides}
 use Rattle.serde_json.specs.Data.{Data, null, boolean, number, string, array, object, unsigned, negative, float, no_members, member}
 use Rattle.serde_json.specs.Find.{get, as_str}
-use Rattle.air_wire.specs.Parts.{only_member, whole, whole_at, all_two, all_three, find_name, case_or, text_or}
+use Rattle.air_wire.specs.Parts.{only_member, as_whole_number, whole_at, all_two, all_three, find_name, case_or, text_or}
 use Rattle.air_wire.specs.Spelling.{number_data, case_data, HasField, HasWhole}
 
 some_is : {A : Type 0} (x y : A) → Some x ≡ Some y → x ≡ y
@@ -31,7 +31,7 @@ map_found P f None z e h = absurd cc
 map_found P f (Some a) z e h = subst P (some_is (f a) z e) (h a refl)
 
 -- a whole number, as a value and as a field
-whole_found : (o : Option Data) (n : ℕ) → option_and_then whole o ≡ Some n → o ≡ Some (number_data n)
+whole_found : (o : Option Data) (n : ℕ) → option_and_then as_whole_number o ≡ Some n → o ≡ Some (number_data n)
 whole_found None n e = absurd cc
 whole_found (Some null) n e = absurd cc
 whole_found (Some (boolean b)) n e = absurd cc
@@ -46,7 +46,7 @@ pub field_found : (name : List ℕ) (d : Data) (n : ℕ) → whole_at name d ≡
 field_found name d n e = whole_found (get name d) n e
 
 pub field_read : (name : List ℕ) (d : Data) (n : ℕ) → HasWhole name n d → whole_at name d ≡ Some n
-field_read name d n h = ap (option_and_then whole) h
+field_read name d n h = ap (option_and_then as_whole_number) h
 
 -- ---- what was made of parts that were found
 
@@ -187,7 +187,7 @@ text_read P Is other bare read d h text none case = go (as_str d) refl h
     go None is h = case_read P Is other read d h none case
     go (Some s) is h = subst P (sym (text_found d s is)) (text s h)
 
-pub number_found : (d : Data) (n : ℕ) → whole d ≡ Some n → d ≡ number_data n
+pub number_found : (d : Data) (n : ℕ) → as_whole_number d ≡ Some n → d ≡ number_data n
 number_found null n e = absurd cc
 number_found (boolean b) n e = absurd cc
 number_found (number (unsigned m)) n e = ap number_data (some_is m n e)

@@ -3,7 +3,7 @@ use Rattle.std.specs.Prelude.{◌≡◌, ℕ, List, [], ◌∷◌, Option, Some,
 use Rattle.std.proofs.Common.{ap, ap₂, ◌∙◌}
 use Rattle.serde_json.specs.Data.{Data, null, boolean, number, string, array, object, Items, no_items, item}
 use Rattle.serde_json.specs.Find.{get, as_array}
-use Rattle.air_wire.specs.Parts.{whole}
+use Rattle.air_wire.specs.Parts.{as_whole_number}
 use Rattle.air_wire.specs.laws.Readings.{none_found, by_some, number_found}
 use Rattle.air_wire.specs.Coefficients.{wholes}
 use Rattle.air_wire.specs.WholeNumbers.{whole_items, wholes_data, HasWholes, wholes_at}
@@ -16,7 +16,7 @@ whole_items_again (n ∷ ns) = ap (option_map (λ ms. n ∷ ms)) (whole_items_ag
 abbrev pub ItemsAre : Items → List ℕ → Type 0
 ItemsAre ds ns = ds ≡ whole_items ns
 
-items_found_of : (d : Data) (ds : Items) (o : Option ℕ) (p : Option (List ℕ)) (ns : List ℕ) → ((ms : List ℕ) → p ≡ Some ms → ds ≡ whole_items ms) → whole d ≡ o
+items_found_of : (d : Data) (ds : Items) (o : Option ℕ) (p : Option (List ℕ)) (ns : List ℕ) → ((ms : List ℕ) → p ≡ Some ms → ds ≡ whole_items ms) → as_whole_number d ≡ o
     → option_and_then (λ n. option_map (λ ms. n ∷ ms) p) o ≡ Some ns → ItemsAre (item d ds) ns
 items_found_of d ds None p ns later is e = none_found (ItemsAre (item d ds)) ns e
 items_found_of d ds (Some n) None ns later is e = none_found (ItemsAre (item d ds)) ns e
@@ -26,7 +26,7 @@ items_found_of d ds (Some n) (Some ms) ns later is e =
 pub whole_items_found : (ds : Items) (ns : List ℕ) → wholes ds ≡ Some ns → ItemsAre ds ns
 unfolding wholes
 whole_items_found no_items ns e = by_some (ItemsAre no_items) [] ns refl e
-whole_items_found (item d ds) ns e = items_found_of d ds (whole d) (wholes ds) ns (whole_items_found ds) refl e
+whole_items_found (item d ds) ns e = items_found_of d ds (as_whole_number d) (wholes ds) ns (whole_items_found ds) refl e
 
 abbrev Holds : Option Data → List ℕ → Type 0
 Holds o ns = o ≡ Some (wholes_data ns)

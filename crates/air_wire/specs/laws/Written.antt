@@ -10,7 +10,7 @@ use Rattle.air_wire.specs.Unshared.{degree}
 use Rattle.air_wire.specs.Nodes.{Kind, KindLaws}
 use Rattle.air_wire.specs.NodeLists.{SpellsNode, AreNodes, IsList}
 use Rattle.air_wire.specs.laws.Lists.{one_tree}
-use Rattle.air_wire.specs.Written.{subtrees, Stands, Adds, two_data, one_data, WritesTwo, WritesOne, IsWrittenNode, AreWritten, IsWritten}
+use Rattle.air_wire.specs.Written.{subtrees, IsAmong, Adds, two_data, one_data, WritesTwo, WritesOne, IsWrittenNode, AreWritten, IsWritten}
 
 -- ---- places
 
@@ -34,26 +34,26 @@ module _ {X : Type 0} where
       (λ (r : (i ≡ length xs) × (y ≡ x)). inr (ap (λ (n : ℕ). suc n) r.0, r.1))
       (push_cases xs y i x h)
 
-  pub stands_more : (xs ys : List X) (x : X) → Stands xs x → Stands (xs ++ ys) x
-  stands_more xs ys x h = (h.0, at_more xs ys h.0 x h.1)
+  pub among_more : (xs ys : List X) (x : X) → IsAmong xs x → IsAmong (xs ++ ys) x
+  among_more xs ys x h = (h.0, at_more xs ys h.0 x h.1)
 
-  pub stands_push : (xs : List X) (x : X) → Stands (xs ++ x ∷ []) x
-  stands_push xs x = (length xs, at_push xs x)
+  pub among_push : (xs : List X) (x : X) → IsAmong (xs ++ x ∷ []) x
+  among_push xs x = (length xs, at_push xs x)
 
-  pub stands_cons : (y : X) (xs : List X) (x : X) → Stands (y ∷ xs) x → (y ≡ x) ⊎ Stands xs x
-  stands_cons y xs x (zero, h) = inl cc
-  stands_cons y xs x (suc i, h) = inr (i, h)
+  pub among_cons : (y : X) (xs : List X) (x : X) → IsAmong (y ∷ xs) x → (y ≡ x) ⊎ IsAmong xs x
+  among_cons y xs x (zero, h) = inl cc
+  among_cons y xs x (suc i, h) = inr (i, h)
 
-  pub stands_either : (xs ys : List X) (x : X) → Stands (xs ++ ys) x → Stands xs x ⊎ Stands ys x
-  stands_either [] ys x h = inr h
-  stands_either (y ∷ xs) ys x (zero, h) = inl (zero, h)
-  stands_either (y ∷ xs) ys x (suc i, h) =
+  pub among_either : (xs ys : List X) (x : X) → IsAmong (xs ++ ys) x → IsAmong xs x ⊎ IsAmong ys x
+  among_either [] ys x h = inr h
+  among_either (y ∷ xs) ys x (zero, h) = inl (zero, h)
+  among_either (y ∷ xs) ys x (suc i, h) =
       ⊎_elim
-      (λ (l : Stands xs x). inl (suc l.0, l.1))
-      (λ (r : Stands ys x). inr r)
-      (stands_either xs ys x (i, h))
+      (λ (l : IsAmong xs x). inl (suc l.0, l.1))
+      (λ (r : IsAmong ys x). inr r)
+      (among_either xs ys x (i, h))
 
-  pub pushed_either : (xs : List X) (y x : X) → Stands (xs ++ y ∷ []) x → Stands xs x ⊎ (y ≡ x)
+  pub pushed_either : (xs : List X) (y x : X) → IsAmong (xs ++ y ∷ []) x → IsAmong xs x ⊎ (y ≡ x)
   pushed_either xs y x h =
       ⊎_elim
       (λ (l : slice_get xs h.0 ≡ Some x). inl (h.0, l))
@@ -67,7 +67,7 @@ module _ {X : Type 0} where
   nothing_twice : Once []
   nothing_twice x i j a b = absurd cc
 
-  once_push : (xs : List X) (y : X) → Once xs → (Stands xs y → ⊥) → Once (xs ++ y ∷ [])
+  once_push : (xs : List X) (y : X) → Once xs → (IsAmong xs y → ⊥) → Once (xs ++ y ∷ [])
   once_push xs y once not x i j h k =
       ⊎_elim
       (λ (a : slice_get xs i ≡ Some x).
@@ -110,19 +110,19 @@ module _ {X : Type 0} where
       let r = adds_split (done ++ x ∷ []) xs ys all h.1 in (r.0, inr (h.0, r.1), r.2)
 
   -- each element is of done or was added
-  adds_from : (done xs all : List X) (y : X) → Adds done xs all → Stands all y → Stands done y ⊎ Stands xs y
+  adds_from : (done xs all : List X) (y : X) → Adds done xs all → IsAmong all y → IsAmong done y ⊎ IsAmong xs y
   unfolding Adds
-  adds_from done [] all y h k = inl (subst (λ (l : List X). Stands l y) h k)
+  adds_from done [] all y h k = inl (subst (λ (l : List X). IsAmong l y) h k)
   adds_from done (x ∷ xs) all y (inl h) k =
       ⊎_elim
-      (λ (l : Stands done y). inl l)
-      (λ (r : Stands xs y). inr (suc r.0, r.1))
+      (λ (l : IsAmong done y). inl l)
+      (λ (r : IsAmong xs y). inr (suc r.0, r.1))
       (adds_from done xs all y h.1 k)
   adds_from done (x ∷ xs) all y (inr h) k =
       ⊎_elim
-      (λ (l : Stands (done ++ x ∷ []) y).
-      ⊎_elim (λ (m : Stands done y). inl m) (λ (e : x ≡ y). inr (zero, ap (λ (z : X). Some z) e)) (pushed_either done x y l))
-      (λ (r : Stands xs y). inr (suc r.0, r.1))
+      (λ (l : IsAmong (done ++ x ∷ []) y).
+      ⊎_elim (λ (m : IsAmong done y). inl m) (λ (e : x ≡ y). inr (zero, ap (λ (z : X). Some z) e)) (pushed_either done x y l))
+      (λ (r : IsAmong xs y). inr (suc r.0, r.1))
       (adds_from (done ++ x ∷ []) xs all y h.1 k)
 
 -- ---- the root stands last
@@ -153,36 +153,36 @@ module _ {S : Type 0} where
       plus_one n = omega arith
 
   -- a part of the operands is smaller
-  smaller_of_two : (t u x : Tree S) → ((x : Tree S) → Stands (subtrees t) x → count x ≤ count t)
-      → ((x : Tree S) → Stands (subtrees u) x → count x ≤ count u) → Stands (subtrees t ++ subtrees u) x
+  smaller_of_two : (t u x : Tree S) → ((x : Tree S) → IsAmong (subtrees t) x → count x ≤ count t)
+      → ((x : Tree S) → IsAmong (subtrees u) x → count x ≤ count u) → IsAmong (subtrees t ++ subtrees u) x
       → count x ≤ length (subtrees t ++ subtrees u)
   smaller_of_two t u x left right h =
       ⊎_elim
-      (λ (l : Stands (subtrees t) x). omega (arith, left x l, length-append (subtrees t) (subtrees u)))
-      (λ (r : Stands (subtrees u) x). omega (arith, right x r, length-append (subtrees t) (subtrees u)))
-      (stands_either (subtrees t) (subtrees u) x h)
+      (λ (l : IsAmong (subtrees t) x). omega (arith, left x l, length-append (subtrees t) (subtrees u)))
+      (λ (r : IsAmong (subtrees u) x). omega (arith, right x r, length-append (subtrees t) (subtrees u)))
+      (among_either (subtrees t) (subtrees u) x h)
 
-  within : (t x : Tree S) → (Stands (parts t) x → count x ≤ length (parts t)) → Stands (subtrees t) x → count x ≤ count t
+  within : (t x : Tree S) → (IsAmong (parts t) x → count x ≤ length (parts t)) → IsAmong (subtrees t) x → count x ≤ count t
   within t x part h =
       ⊎_elim
-      (λ (l : Stands (parts t) x). omega (arith, part l, one_longer t))
+      (λ (l : IsAmong (parts t) x). omega (arith, part l, one_longer t))
       (λ (e : t ≡ x). subst (λ (y : Tree S). count y ≤ count t) e (omega arith))
-      (pushed_either (parts t) t x (subst (λ (l : List (Tree S)). Stands l x) (parts_root t) h))
+      (pushed_either (parts t) t x (subst (λ (l : List (Tree S)). IsAmong l x) (parts_root t) h))
 
-  none : (x : Tree S) → Stands [] x → ⊥
+  none : (x : Tree S) → IsAmong [] x → ⊥
   none x h = absurd (elim_none h.0 h.1)
     where
       elim_none : (i : ℕ) → slice_get [] i ≡ Some x → ⊥
       elim_none i e = cc
 
-  small : (t x : Tree S) → Stands (subtrees t) x → count x ≤ count t
+  small : (t x : Tree S) → IsAmong (subtrees t) x → count x ≤ count t
   small (leaf_tree a) x h = within (leaf_tree a) x (λ l. absurd (none x l)) h
   small (add_tree t u) x h = within (add_tree t u) x (smaller_of_two t u x (small t) (small u)) h
   small (sub_tree t u) x h = within (sub_tree t u) x (smaller_of_two t u x (small t) (small u)) h
   small (neg_tree t) x h = within (neg_tree t) x (small t x) h
   small (mul_tree t u) x h = within (mul_tree t u) x (smaller_of_two t u x (small t) (small u)) h
 
-  part_small : (t x : Tree S) → Stands (parts t) x → count x ≤ length (parts t)
+  part_small : (t x : Tree S) → IsAmong (parts t) x → count x ≤ length (parts t)
   part_small (leaf_tree a) x h = absurd (none x h)
   part_small (add_tree t u) x h = smaller_of_two t u x (small t) (small u) h
   part_small (sub_tree t u) x h = smaller_of_two t u x (small t) (small u) h
@@ -190,7 +190,7 @@ module _ {S : Type 0} where
   part_small (mul_tree t u) x h = smaller_of_two t u x (small t) (small u) h
 
   -- no tree is a part of its operands
-  no_part : (t : Tree S) → Stands (parts t) t → ⊥
+  no_part : (t : Tree S) → IsAmong (parts t) t → ⊥
   no_part t h = absurd (omega (arith, part_small t t h, one_longer t))
 
   root_last : (t : Tree S) (all : List (Tree S)) → Adds [] (subtrees t) all → (before : List (Tree S)) × (all ≡ before ++ t ∷ [])
@@ -198,7 +198,7 @@ module _ {S : Type 0} where
   root_last t all h = at_root (adds_split [] (parts t) (t ∷ []) all (subst (λ (l : List (Tree S)). Adds [] l all) (parts_root t) h))
     where
       at_root : (mid : List (Tree S)) × Adds [] (parts t) mid × Adds mid (t ∷ []) all → (before : List (Tree S)) × (all ≡ before ++ t ∷ [])
-      at_root (mid, first, inl last) = absurd (⊎_elim (λ (l : Stands [] t). none t l) (λ (r : Stands (parts t) t). no_part t r) (adds_from [] (parts t) mid t first last.0))
+      at_root (mid, first, inl last) = absurd (⊎_elim (λ (l : IsAmong [] t). none t l) (λ (r : IsAmong (parts t) t). no_part t r) (adds_from [] (parts t) mid t first last.0))
       at_root (mid, first, inr last) = (mid, last.1)
 
 module _ {S F : Type 0} (kind : Kind S F) (laws : KindLaws kind) where

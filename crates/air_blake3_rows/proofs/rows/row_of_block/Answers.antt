@@ -10,8 +10,8 @@ returns-clause-row g c =
     let b : Block = block_of c.args.chaining.now c.args.message.now c.args.rest.now in
     c.in_ok-push_row.ensures.pushed ∙ ap (λ ys. ys ++ block_row g.F.Field.ring b) c.new-values.ensures.items
 
-pub returns-clause-holds : goal.returns-clause-holds
-returns-clause-holds g c =
+pub returns-clause-satisfied : goal.returns-clause-satisfied
+returns-clause-satisfied g c =
     let b : Block = block_of c.args.chaining.now c.args.message.now c.args.rest.now in
     subst (SatisfiesAll g.F.Field.ring g.F.Field.ZERO g.F.Field.CHARACTERISTIC) (sym (returns-clause-row g c))
     (block_row_holds g.F.Field.ring g.F.Field.ZERO g.F.Field.CHARACTERISTIC g.met.F.Field.zero_is g.met.F.PrimeField.domain

@@ -55,8 +55,8 @@ returns-clause-blocks g c =
     c.in_ok-values.ensures.items c.in_ok-push_rows.ensures.pushed c.in-Ok.trace (sym c.new.ensures ∙ c.in-Ok.is) in
     subst (λ t. HoldBlocks R blocks t) (sym is) (row_listed (row_of R blocks) h)
 
-pub returns-clause-holds : goal.returns-clause-holds
-returns-clause-holds g c =
+pub returns-clause-satisfied : goal.returns-clause-satisfied
+returns-clause-satisfied g c =
     let R = g.F.Field.ring in
     let none = g.F.Field.ZERO in
     let blocks = c.args.blocks.now in
@@ -74,4 +74,4 @@ pub returns-clause-reports : goal.returns-clause-reports
 returns-clause-reports g c =
     λ big.
     compression_rows_pass g.F.Field.ring g.F.PartialEq.eq g.met.F.Field.eq_is c.in-Ok.trace
-    (subst (λ z. AreCompressionRows g.F.Field.ring z c.in-Ok.trace) g.met.F.Field.zero_is (returns-clause-holds g c big))
+    (subst (λ z. AreCompressionRows g.F.Field.ring z c.in-Ok.trace) g.met.F.Field.zero_is (returns-clause-satisfied g c big))

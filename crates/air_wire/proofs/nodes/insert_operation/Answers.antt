@@ -1,7 +1,7 @@
 use Rattle.std.proofs.Common.{Ok, sym, ap, ◌∙◌}
 use Rattle.air_symbolic.specs.Pools.{tree_at}
 use Rattle.air_wire.specs.Unshared.{seen_at}
-use Rattle.air_wire.proofs.SeenTrees.{over-negative, negative-both, seen_there}
+use Rattle.air_wire.proofs.SeenTrees.{map_leaves-negative, negative-both, seen_there}
 use Rattle.air_wire.proofs.nodes.insert_operation.Goals as goal
 
 pub returns-in_ok-insert_neg-in-Neg : goal.returns-in_ok-insert_neg-in-Neg
@@ -17,5 +17,5 @@ returns-in_ok-insert_neg-in-Neg g c =
           rw (c.insert_neg.ensures.same_base, made.tree)
           (ap (λ o. Ok o)
           (negative-both c.args.operation (seen_at A.seen old c.args.operands.0) (seen_at A.seen old c.args.operands.1) u.0 c.in-Neg.is u.1
-          ∙ sym (over-negative (A.seen old.base) (tree_at old c.args.operands.0))));
+          ∙ sym (map_leaves-negative (A.seen old.base) (tree_at old c.args.operands.0))));
     }
