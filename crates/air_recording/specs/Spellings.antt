@@ -50,8 +50,8 @@ pub record HaveSameIndices (l m : ConstraintLayout) : Type 0 where
 abbrev pub with_count : List ℕ → Data → (ℕ → Option AirLayout) → Option AirLayout
 with_count name d next = option_and_then next (whole_at name d)
 
-unfoldable pub layout_of : Data → Option AirLayout
-layout_of d =
+unfoldable pub layout_from_data : Data → Option AirLayout
+layout_from_data d =
     with_count (codes "preprocessed_width") d (λ preprocessed.
     with_count (codes "main_width") d (λ main.
     with_count (codes "num_public_values") d (λ public.

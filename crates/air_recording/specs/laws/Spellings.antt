@@ -6,7 +6,7 @@ use Rattle.air_wire.specs.Spelling.{HasWhole}
 use Rattle.air_wire.specs.laws.WholeNumbers.{wholes_read}
 use Rattle.air_wire.specs.Parts.{whole_at}
 use Rattle.air_wire.specs.laws.Readings.{by_some, field_found, field_read}
-use Rattle.air_recording.specs.Spellings.{layout_data, constraints_data, SpellsLayout, SpellsConstraints, HaveSameIndices, with_count, layout_of}
+use Rattle.air_recording.specs.Spellings.{layout_data, constraints_data, SpellsLayout, SpellsConstraints, HaveSameIndices, with_count, layout_from_data}
 use Rattle.air_recording.specs.declared.layouts.air_layout.AirLayout.{AirLayout}
 use Rattle.air_recording.specs.declared.layouts.constraint_layout.ConstraintLayout.{ConstraintLayout}
 
@@ -17,8 +17,8 @@ layout_is_spelt l = record { preprocessed = refl; main = refl; public = refl; pe
 count_read : (name : List ℕ) (d : Data) (n : ℕ) (next : ℕ → Option AirLayout) → HasWhole name n d → with_count name d next ≡ next n
 count_read name d n next h = ap (option_and_then next) (field_read name d n h)
 
-pub layout_again : (d : Data) (l : AirLayout) → SpellsLayout d l → layout_of d ≡ Some l
-unfolding layout_of
+pub layout_again : (d : Data) (l : AirLayout) → SpellsLayout d l → layout_from_data d ≡ Some l
+unfolding layout_from_data
 layout_again d l h =
     count_read (codes "preprocessed_width") d l.preprocessed_width _ h.preprocessed
     ∙ (count_read (codes "main_width") d l.main_width _ h.main
@@ -33,8 +33,8 @@ found_of : (o : Option ℕ) (next : ℕ → Option AirLayout) (l : AirLayout) �
 found_of None next l e = absurd cc
 found_of (Some n) next l e = (n, refl, e)
 
-pub layout_found : (d : Data) (l : AirLayout) → layout_of d ≡ Some l → SpellsLayout d l
-unfolding layout_of
+pub layout_found : (d : Data) (l : AirLayout) → layout_from_data d ≡ Some l → SpellsLayout d l
+unfolding layout_from_data
 layout_found d l e =
     let preprocessed = found_of (whole_at (codes "preprocessed_width") d) _ l e in
     let main = found_of (whole_at (codes "main_width") d) _ l preprocessed.2 in

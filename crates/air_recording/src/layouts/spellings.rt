@@ -1,7 +1,7 @@
 //! Layouts as JSON values.
 ghost use Rattle.std.specs.Prelude.{◌≡◌, IfOk};
 ghost use Rattle.serde_json.specs.View.{view};
-ghost use Rattle.air_recording.specs.Spellings.{layout_data, layout_of, constraints_data};
+ghost use Rattle.air_recording.specs.Spellings.{layout_data, layout_from_data, constraints_data};
 
 use crate::layouts::air_layout::AirLayout;
 use crate::layouts::constraint_layout::ConstraintLayout;
@@ -25,9 +25,9 @@ fn layout_value(alloc: Global, layout: &AirLayout) -> Result<Value, AllocError>
     })
 }
 
-#[tactic(auto, unfolding(crate::specs::Spellings::layout_of))]
+#[tactic(auto, unfolding(crate::specs::Spellings::layout_from_data))]
 fn layout_from(value: &Value) -> Option<AirLayout>
-    ensures { result ≡ layout_of (view value.now) }
+    ensures { result ≡ layout_from_data (view value.now) }
 {
     Some(AirLayout {
         preprocessed_width: whole_at(value, "preprocessed_width")?,
