@@ -1,5 +1,6 @@
 -- The parts of the constraints under a difference.
-use Rattle.std.proofs.Common.{◌≡◌, ℕ, ◌<◌, List, [], length, take, ⊤, Result, Ok, Err, OnOk, OnErr, IfErr, inl, sym, subst}
+use Rattle.std.proofs.Common.{◌≡◌, ℕ, ◌<◌, List, [], length, take, Result, Ok, Err, OnOk, OnErr, IfErr, inl, sym, subst}
+use Rattle.std.specs.Prelude.{⊤}
 use Rattle.air_field.specs.Part.{whole, in_sub_left, in_sub_right, in_mul_left, in_mul_right}
 use Rattle.air_field.specs.Term.{Term, sub_term}
 use Rattle.air_core.specs.declared.errors.AirError.{AirError}
