@@ -52,6 +52,11 @@ RingLaws view = AlgebraLaws view.valid view.has view.means view.extends view.rin
 abbrev pub MeansIn : {S R E F : Type 0} → BuilderView S R E F → S → E → Term F → Type 0
 MeansIn view = Means view.means view.ring_of view.reads_as
 
+-- growing by any list that has the operation of what x and y mean as a part may be refused with e
+abbrev pub RefusesPartOfBoth : {S R E F : Type 0} → BuilderView S R E F → (Term F → Term F → Term F) → S → E → E → AirError → Type 0
+RefusesPartOfBoth {F = F} view op a x y e = (t u : Term F) (ts : List (Assertion F)) → MeansIn view a x t → MeansIn view a y u
+    → PartOf (op t u) ts → view.refuses a e ts
+
 -- What every builder keeps. Growth joins; lending the ring grows nothing; what it kept, it still has.
 pub record BuilderLaws {S R E F : Type 0} (view : BuilderView S R E F) : Type 0 where
   -- growth by nothing, and by one list after another

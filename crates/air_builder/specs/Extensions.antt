@@ -11,8 +11,8 @@ use Rattle.air_builder.specs.Refusals.{PartOf}
 
 -- why there is no window of the permutation trace: the builder may refuse before any assertion, or it has no permutation
 -- column
-abbrev pub RefusesWindow : {F : Type 0} → (AirError → List (Assertion F) → Type 0) → (Leaf → Type 0) → AirError → Type 0
-RefusesWindow refuses missing e = refuses e [] ⊎ ((e ≡ NoPermutation) × ((o i : ℕ) → missing (permutation o i)))
+abbrev pub RefusesWindow : {S R E F : Type 0} → BuilderView S R E F → S → AirError → Type 0
+RefusesWindow view a e = view.refuses a e [] ⊎ ((e ≡ NoPermutation) × ((o i : ℕ) → view.missing a (permutation o i)))
 
 -- A builder's ring over the extension as the laws see it: the ghost members of this ring, whose refusals are
 -- `ring_refuses`, the ring that the builder lends, and the builder with another one.

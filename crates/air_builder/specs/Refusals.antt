@@ -49,10 +49,6 @@ abbrev pub PartOf : {F : Type 0} → Term F → List (Assertion F) → Type 0
 PartOf t [] = ⊥
 PartOf t (a ∷ rest) = PartOfOne t a ⊎ PartOf t rest
 
--- growing by any list that has the operation of what x and y mean as a part may be refused with e
-abbrev pub RefusesPartOfBoth : {S E F X : Type 0} → (S → E → Term F → Type 0) → (S → X → List (Assertion F) → Type 0) → (Term F → Term F → Term F) → S → E → E → X → Type 0
-RefusesPartOfBoth {F = F} means refuses op a x y e = (t u : Term F) (ts : List (Assertion F)) → means a x t → means a y u → PartOf (op t u) ts → refuses a e ts
-
 -- no term names a missing leaf
 abbrev pub NoneMissing : {F : Type 0} → (Leaf → Type 0) → List (Assertion F) → Type 0
 NoneMissing missing ts = (l : Leaf) → missing l → PartOf (leaf_term l) ts → ⊥

@@ -5,10 +5,10 @@ ghost use Rattle.std.specs.Borrow.{sem, Lends};
 ghost use Rattle.air_field.specs.Algebra.{MadeOf, RefusedOf, bool_check_term};
 ghost use Rattle.air_field.specs.Term.{Leaf, preprocessed, main, periodic, public, first_row, last_row, transition, Term, leaf_term, sub_term};
 ghost use Rattle.air_builder.specs.Assertion.{Assertion, Base};
-ghost use Rattle.air_builder.specs.Builders.{MeansIn, MeansOfBoth, RowReadsAs, VariableReadsAs, BuilderLaws, less_one_term};
+ghost use Rattle.air_builder.specs.Builders.{MeansIn, MeansOfBoth, RefusesPartOfBoth, RowReadsAs, VariableReadsAs, BuilderLaws, less_one_term};
 ghost use Rattle.air_builder.specs.Batches.{Asserts, AssertsBoth};
 ghost use Rattle.air_builder.specs.Filters.{FiltersBy, condition_of};
-ghost use Rattle.air_builder.specs.Refusals.{RowEnds, RefusesPartOfBoth};
+ghost use Rattle.air_builder.specs.Refusals.{RowEnds};
 ghost use Rattle.air_core.specs.declared.errors.AirError.{AirError};
 
 use crate::builders::filtered::FilteredAirBuilder;
@@ -207,8 +207,8 @@ pub trait AirBuilder {
         ensures of_ring { IfOk result (λ z. Self.Ring.has (ring_of self.new) z) }
         ensures made { IfOk result (λ z. MeansOfBoth (MeansIn ⟦<Self as View>⟧.view) sub_term
             self.old self.new x y z) }
-        ensures refused { IfErr result (RefusesPartOfBoth (MeansIn ⟦<Self as View>⟧.view) refuses
-            sub_term self.old x y) }
+        ensures refused { IfErr result (RefusesPartOfBoth ⟦<Self as View>⟧.view sub_term self.old x
+            y) }
     {
         let difference = self.ring().sub(x, y)?;
         Ok(difference)
@@ -372,8 +372,8 @@ pub trait AirBuilder {
         ensures of_ring { IfOk result (λ f. Self.Ring.has (ring_of f.inner.now) (condition_of f)) }
         ensures condition { IfOk result (λ f. MeansOfBoth (MeansIn ⟦<Self as View>⟧.view) sub_term
             self.old f.inner.now x y (condition_of f)) }
-        ensures refused { IfErr result (RefusesPartOfBoth (MeansIn ⟦<Self as View>⟧.view) refuses
-            sub_term self.old x y) }
+        ensures refused { IfErr result (RefusesPartOfBoth ⟦<Self as View>⟧.view sub_term self.old x
+            y) }
     {
         let condition = self.difference(x, y)?;
         self.when(condition)

@@ -7,6 +7,7 @@ ghost use Rattle.air_builder.specs.Extensions.{RefusesWindow};
 
 use crate::builders::air_builder::AirBuilder;
 use crate::builders::extension::ExtensionBuilder;
+use crate::builders::view::View;
 use air_core::errors::AirError;
 use air_core::windows::access::WindowAccess;
 use air_field::{Algebra, FromVar};
@@ -37,8 +38,7 @@ where
             (λ i. permutation 0 i) (Self.MP.current_row w)) }
         ensures next_ends { IfOk result (λ w. RowEnds (Self.missing self.now) (λ i. permutation 1 i)
             (Self.MP.next_row w)) }
-        ensures refused { IfErr result (RefusesWindow (Self.refuses self.now)
-            (Self.missing self.now)) };
+        ensures refused { IfErr result (RefusesWindow ⟦<Self as View>⟧.view self.now) };
 
     /// The variable in a column of the permutation trace, at offset 0 the current row's and at 1 the next one's, if
     /// there is one. It may be refused where `permutation` is.
@@ -53,8 +53,7 @@ where
         ensures none { offset ≤ 1 → IfOk result (λ o. (o ≡ None) ↔ Self.missing self.now
             (permutation offset column)) }
         ensures past { 1 < offset → IfOk result (λ o. o ≡ None) }
-        ensures refused { IfErr result (RefusesWindow (Self.refuses self.now)
-            (Self.missing self.now)) }
+        ensures refused { IfErr result (RefusesWindow ⟦<Self as View>⟧.view self.now) }
     {
         let window = self.permutation()?;
         match offset {
