@@ -1,6 +1,6 @@
 -- What a builder keeps of its ring over the extension.
 use Rattle.std.specs.Prelude.{◌≡◌, ◌⊎◌, ℕ, List, []}
-use Rattle.air_field.specs.Term.{Leaf, Term, permutation, with_leaves}
+use Rattle.air_field.specs.Term.{Term, permutation, with_leaves}
 use Rattle.air_field.specs.declared.errors.RingError.{RingError}
 use Rattle.air_core.specs.declared.errors.AirError.{AirError}
 use Rattle.air_core.specs.declared.errors.AirError.TheVariants.{NoPermutation}
