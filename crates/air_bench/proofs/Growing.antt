@@ -6,7 +6,7 @@ use Rattle.air_symbolic.specs.BaseLeaves.{base_reads}
 use Rattle.air_symbolic.specs.ExtLeaves.{BaseNodes}
 use Rattle.air_symbolic.specs.Pools.{Pool, Grown, IsPool, size}
 use Rattle.air_symbolic.specs.declared.leaves.base_leaf.BaseLeaf.{BaseLeaf}
-use Rattle.p3_air.specs.FlatAirs.{RootsIn}
+use Rattle.air_audit.specs.FlatAirs.{RootsIn}
 
 module _ {F : Type 0} {grows : Unit {0} → Unit {0} → Type 0} {p q : Pool (Unit {0}) (BaseLeaf F)} (g : Grown grows base_reads p q) where
   kept : {i : ℕ} → i < length p.nodes → i < length q.nodes

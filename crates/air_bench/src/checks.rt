@@ -1,11 +1,11 @@
 //! Checks of Fibonacci, of an AIR as it is recorded, and of any AIR on a trace.
 
 use crate::traces::{fibonacci_trace, wide_trace};
-use air_fibonacci::Fibonacci;
-use p3_air::{
+use air_audit::{
     Air, AirError, AirLayout, BaseAir, DebugConstraintBuilder, Field, FlatAir, RowMajorMatrix,
     SymbolicAirBuilder, check_all_constraints, get_symbolic_constraints, recorded_air,
 };
+use air_fibonacci::Fibonacci;
 use std::alloc::Global;
 
 /// A cap that no check of a trace reaches, another one each round: so no compiler does the work of

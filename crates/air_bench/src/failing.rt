@@ -4,11 +4,11 @@ ghost use Rattle.air_bench.specs.More.{zeros};
 
 use crate::checks::count_failures;
 use crate::traces::constant_trace;
-use p3_air::author::{
+use air_audit::author::{
     All, Condition, Constraint, Current, Family, Plain, PlainAir, PlainConstraints, Zero,
     assert_all,
 };
-use p3_air::{AirBuilder, AirError, Field};
+use air_audit::{AirBuilder, AirError, Field};
 use std::alloc::Global;
 
 /// Column 0 is zero, so many times.

@@ -2,11 +2,11 @@
 ghost use Rattle.std.specs.Prelude.{◌≡◌};
 ghost use Rattle.air_folder.specs.FolderRow.{accumulator_of};
 
-use air_folder::{ConstraintFolder, fold_air};
-use p3_air::{
+use air_audit::{
     Air, AirError, AirLayout, BaseAir, ExtensionField, Field, RowMajorMatrixView,
     SymbolicAirBuilder, ViewPair,
 };
+use air_folder::{ConstraintFolder, fold_air};
 use std::alloc::Global;
 
 // A folder at the first of these rows, whose next row it is too.

@@ -6,12 +6,12 @@ ghost use Rattle.air_bench.specs.More.{cycles, lookups, lookup_term};
 use crate::checks::count_checked;
 use crate::recordings::record_rounds_ext;
 use crate::traces::constant_trace;
-use p3_air::author::{
+use air_audit::author::{
     All, Challenge, Condition, Constraint, Current, Difference, ExtZero, Family, Periodic,
     PermutationCurrent, PermutationNext, Plain, PlainAir, PlainConstraints, Product, Sum, Zero,
     assert_all,
 };
-use p3_air::{
+use air_audit::{
     Air, AirBuilder, AirError, AirLayout, BaseAir, BoundaryPublic, ExtensionField, Field, FromVar,
     PermutationAirBuilder, RowMajorMatrix,
 };

@@ -1,10 +1,10 @@
 //! Recordings of Fibonacci, and of any AIR.
 
-use air_fibonacci::Fibonacci;
-use p3_air::{
+use air_audit::{
     Air, AirError, AirLayout, BaseAir, ExtensionField, Field, SymbolicAirBuilder,
     get_all_symbolic_constraints, get_max_constraint_degree, get_symbolic_constraints,
 };
+use air_fibonacci::Fibonacci;
 use std::alloc::Global;
 
 /// The constraints that so many recordings over the base field record.

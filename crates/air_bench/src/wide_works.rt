@@ -7,8 +7,8 @@ use crate::folds::fold_rounds;
 use crate::recordings::{infer_rounds, record_rounds, record_rounds_ext};
 use crate::traces::wide_trace;
 use crate::wide::Wide;
+use air_audit::{Air, AirError, AirLayout, BaseAir, ExtensionField, Field, SymbolicAirBuilder};
 use air_folder::ConstraintFolder;
-use p3_air::{Air, AirError, AirLayout, BaseAir, ExtensionField, Field, SymbolicAirBuilder};
 use std::alloc::Global;
 
 /// What is done with an AIR that is recorded over the base field.

@@ -60,6 +60,9 @@ pub enum AirError {
         layout: usize,
         air: usize,
     },
+    /// An expression is used in constraints other than those that made it.
+    #[error("an expression of other constraints is used")]
+    ForeignExpression,
     /// A constraint's index is at or past their count.
     #[error("constraint index {index} is past the total of {total}")]
     IndexPastTotal {

@@ -1,6 +1,6 @@
 -- The constraints of the Fibonacci AIR.
 use Rattle.std.specs.Prelude.{List, ◌++◌}
-use Rattle.p3_air.specs.Author.{Assertion, Declaration, plain_declaration, current, next, public, first_row, last_row, transition, ◌⊕◌, ◌≐◌, when}
+use Rattle.air_audit.specs.Author.{Assertion, Declaration, plain_declaration, current, next, public, first_row, last_row, transition, ◌⊕◌, ◌≐◌, when}
 
 -- a and b begin with public values 0 and 1; the next a is b, and the next b is a + b; the last b is public value 2
 abbrev pub fibonacci : {F : Type 0} → List (Assertion F)

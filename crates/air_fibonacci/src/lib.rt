@@ -5,10 +5,10 @@
 ghost use Rattle.std.specs.Prelude.{◌≡◌, true, false, if◌then◌else◌, []};
 ghost use Rattle.air_fibonacci.specs.Fibonacci.{fibonacci_declaration};
 
-use p3_air::author::{
+use air_audit::author::{
     Current, Equal, FirstRow, LastRow, Named, Next, Public, Sum, Transition, When, assert_all,
 };
-use p3_air::{Air, AirError, BaseAir, BoundaryPublic, NamedAirBuilder, RowMajorMatrix};
+use air_audit::{Air, AirError, BaseAir, BoundaryPublic, NamedAirBuilder, RowMajorMatrix};
 
 /// The Fibonacci AIR. The first row holds public values 0 and 1, each further row the second number of the one before
 /// it and the sum of both, and the last row's second number is public value 2.

@@ -7,11 +7,11 @@ ghost use Rattle.air_folder.specs.FolderRow.{accumulator_of, folder_row};
 ghost use Rattle.air_folder.specs.Folding.{IsFolded, GrewByBeginningOf, FoldingRefuses};
 
 use crate::folder::builder::ConstraintFolder;
-use air_recording::symbolic::record::record_with_layout;
-use p3_air::{
+use air_audit::{
     Air, AirError, AirLayout, BaseAir, ConstraintLayout, ExtensionField, Field, Recorded,
     SymbolicAirBuilder,
 };
+use air_recording::symbolic::record::record_with_layout;
 use std::alloc::Global;
 
 /// An AIR's constraints, and the fold of their values at one row.

@@ -4,7 +4,7 @@ ghost use Rattle.air_field.specs.Ring.{AllZero};
 ghost use Rattle.air_recording.specs.Folds.{sum_by_powers};
 ghost use Rattle.air_folder.specs.Hiding.{folds_to_zero, IsIncreasing};
 
-use p3_air::{DomainExtension, ExtensionField, Field};
+use air_audit::{DomainExtension, ExtensionField, Field};
 
 /// Horner's fold of the values.
 fn fold<F: Field, EF: ExtensionField<F>>(values: &[EF], alpha: EF) -> EF

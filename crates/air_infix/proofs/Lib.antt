@@ -3,3 +3,5 @@ pub mod PieceLemmas
 pub mod CountLemmas
 pub mod NameLemmas
 pub mod LineLemmas
+pub mod LineEnds
+pub mod LabelLemmas

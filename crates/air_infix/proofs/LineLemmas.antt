@@ -28,5 +28,6 @@ line-all line xs i text whole past h =
 pub definition-pieces : (old a b c t n : List ℕ) → ((old ++ (a ++ (b ++ c))) ++ t) ++ n ≡ old ++ (((a ++ b) ++ (c ++ t)) ++ n)
 definition-pieces old a b c t n = simp append_assoc
 
-pub constraint-pieces : (old a b c d e t n : List ℕ) → ((old ++ (a ++ (b ++ (c ++ (d ++ e))))) ++ t) ++ n ≡ old ++ ((a ++ (b ++ (c ++ (d ++ (e ++ t))))) ++ n)
-constraint-pieces old a b c d e t n = simp append_assoc
+pub constraint-pieces : (old a b s c d e t n : List ℕ) → ((old ++ (a ++ (b ++ (s ++ (c ++ (d ++ e)))))) ++ t) ++ n
+    ≡ old ++ ((a ++ (b ++ (s ++ (c ++ (d ++ (e ++ t)))))) ++ n)
+constraint-pieces old a b s c d e t n = simp append_assoc

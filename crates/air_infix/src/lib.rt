@@ -4,6 +4,7 @@
 mod binding;
 mod counts;
 mod infix;
+mod labels;
 mod leaves;
 mod lines;
 mod names;
@@ -11,6 +12,7 @@ mod naming;
 mod pieces;
 
 pub use infix::{push_definition, push_infix};
+pub use labels::shown_label;
 pub use leaves::{push_constant, push_variable};
 pub use lines::{push_definitions, show};
 pub use names::Names;

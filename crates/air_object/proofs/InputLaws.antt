@@ -41,8 +41,8 @@ module _ {F : Type 0} {order : ℕ} (modular : Modular F order) where
   one_member_fault d f g h k = err_is f g (sym ((members_agree modular).refused d f h) ∙ (members_agree modular).refused d g k)
 
   no_matrix_fault : (d : Data) (v : MemberValues F) (f : MatrixError) (input : FlatInput F) → SpellsInput modular d input → (members modular).spells d v → HasMatrixFault v f → ⊥
-  no_matrix_fault d v f input s h (inl k) = absurd (cc (sym s.main ∙ sym (ap (λ (u : MemberValues F). matrix_of u.0 u.1.0) (one_value d v _ h s.members)) ∙ k))
-  no_matrix_fault d v f input s h (inr k) = absurd (cc (sym s.preprocessed ∙ sym (ap (λ (u : MemberValues F). table_of u.1.1.0) (one_value d v _ h s.members)) ∙ k.2))
+  no_matrix_fault d v f input s h (inl k) = absurd (cc (sym s.main ∙ sym (ap (λ (u : MemberValues F). matrix_of u.0.0 u.0.1.0) (one_value d v _ h s.members)) ∙ k))
+  no_matrix_fault d v f input s h (inr k) = absurd (cc (sym s.preprocessed ∙ sym (ap (λ (u : MemberValues F). table_of u.0.1.1.0) (one_value d v _ h s.members)) ∙ k.2))
 
   pub no_fault : (d : Data) (input : FlatInput F) (e : AirError) → SpellsInput modular d input → HasInputFault modular d e → ⊥
   no_fault d input e s (inl h) = not_both d _ h.0 s.members h.1

@@ -23,9 +23,9 @@ use Rattle.air_wire.specs.laws.Lists.{fails_is, fails_if}
 use Rattle.air_wire.specs.Results.{◌>>=◌, Fails, Gives}
 use Rattle.air_wire.specs.declared.errors.FlatError.{FlatError}
 use Rattle.air_wire.specs.declared.errors.FlatError.TheVariants as faults
-use Rattle.air_object.specs.Members.{MemberValues}
-use Rattle.air_object.specs.Parts.{GivenElements, AreElements, GivenTrees, AreGiven, and_one, read_one_more, root_numbers, of_member, AreMembersOf, ArePartsOf, given_elements, given_by, members_with}
-use Rattle.air_object.specs.Readers.{Reader, each_from, elements, tree, trees, width_member, elements_member, table_member, constraints_member, periodic_member, boundary_member, cap_member, weight_member, members_read}
+use Rattle.air_object.specs.Members.{MemberValues, LabelledTrees}
+use Rattle.air_object.specs.Parts.{GivenElements, AreElements, GivenTrees, AreGiven, and_one, read_one_more, root_numbers, of_member, AreMembersOf, ArePartsOf, given_elements, given_by, labelled_with, members_with}
+use Rattle.air_object.specs.Readers.{Reader, each_from, elements, tree, trees, width_member, elements_member, table_member, constraints_member, periodic_member, boundary_member, cap_member, weight_member, labels_member, labelled_read, members_read}
 use Rattle.air_object.proofs.TokenLemmas.{data_before, one_more_data, item_read}
 use Rattle.air_object.proofs.Trees.{GrownTo, AllIn, all_in_push, trees_kept}
 use Rattle.air_object.specs.declared.constraints.Constraints.{Constraints}
@@ -273,10 +273,21 @@ module _ {F : Type 0} {order : ℕ} (modular : Modular F order) where
     weight_same = rw (same (codes "transition_weight") (λ e. absurd cc) (λ e. absurd cc)) refl
 
     members_same : members_read modular d ≡ members_with modular (elements_member modular (codes "main") d) (constraints_member modular d) rest
-    unfolding members_read members_with
-    members_same = rw (width_same (codes "main_width") (λ e. absurd cc) (λ e. absurd cc), table_same, elements_same (codes "public_values") (λ e. absurd cc) (λ e. absurd cc), periodic_same, boundary_same, cap_same, weight_same) refl
+    unfolding members_read members_with labels_member
+    members_same = rw (width_same (codes "main_width") (λ e. absurd cc) (λ e. absurd cc), table_same, elements_same (codes "public_values") (λ e. absurd cc) (λ e. absurd cc), periodic_same, boundary_same, cap_same, weight_same, same (codes "labels") (λ e. absurd cc) (λ e. absurd cc)) refl
 
     pub parts_give : {X : Type 0} (see : X → MemberValues F) (r : Result X FlatError) → Gives see r (members_with modular (given_elements es) (given_by c) rest) → Gives see r (members_read modular d)
     parts_give see r h =
         subst (λ v. Gives see r v) (sym members_same)
         (both_give see r rest (elements_member modular (codes "main") d) (constraints_member modular d) (λ v. v.items) (λ roots. map (tree_at c.pool) roots.items) es c.roots parts.main parts.constraints.read h)
+
+    labelled_same : labelled_read modular d ≡ labelled_with (constraints_member modular d) rest
+    unfolding labels_member
+    labelled_same = rw (same (codes "labels") (λ e. absurd cc) (λ e. absurd cc)) refl
+
+    -- and so do the constraints with their labels
+    pub labelled_give : {X : Type 0} (see : X → LabelledTrees F) (r : Result X FlatError) → Gives see r (labelled_with (given_by c) rest)
+        → Gives see r (labelled_read modular d)
+    labelled_give see r h =
+        subst (λ v. Gives see r v) (sym labelled_same)
+        (read_gives see r (λ g. labelled_with g rest) (constraints_member modular d) (only_memory see r _) (λ roots. map (tree_at c.pool) roots.items) c.roots parts.constraints.read h)

@@ -1,5 +1,5 @@
 -- Which objects are inputs, and which fault is the first of one that is none.
-use Rattle.std.specs.Prelude.{◌≡◌, ℕ, List, map, Option, None, Some, Result, Ok, Err, ◌⊎◌}
+use Rattle.std.specs.Prelude.{◌≡◌, ℕ, List, map, Option, None, Some, Result, Ok, Err, string_bytes, ◌⊎◌}
 use Rattle.std.specs.Result.{result_map_both}
 use Rattle.serde_json.specs.Data.{Data}
 use Rattle.air_field.specs.Grid.{Grid}
@@ -26,23 +26,26 @@ pub record SpellsInput {F : Type 0} {p : ℕ} (m : Modular F p) (d : Data) (inpu
   pub values : List F
   pub table : Option (TableValues F)
   pub members : (members m).spells d (
-    main_width,
     (
-      values,
+      main_width,
       (
-        table,
+        values,
         (
-          input.public_values.items,
+          table,
           (
-            map (tree_at input.pool) input.roots.items,
+            input.public_values.items,
             (
-              map (λ c. c.items) input.periodic.items,
-              (input.cells.items, (input.cap, input.transition_weight)),
+              map (tree_at input.pool) input.roots.items,
+              (
+                map (λ c. c.items) input.periodic.items,
+                (input.cells.items, (input.cap, input.transition_weight)),
+              ),
             ),
           ),
         ),
       ),
     ),
+    map string_bytes input.labels.items,
   )
   pub main : matrix_of main_width values ≡ Ok input.main
   pub preprocessed : table_of table ≡ Ok input.preprocessed
@@ -50,8 +53,8 @@ pub record SpellsInput {F : Type 0} {p : ℕ} (m : Modular F p) (d : Data) (inpu
 -- the values of the trace fill no rows, or those of the table don't, behind a trace
 abbrev pub HasMatrixFault : {F : Type 0} → MemberValues F → MatrixError → Type 0
 HasMatrixFault {F} v f =
-    (matrix_of v.0 v.1.0 ≡ Err f)
-    ⊎ ((main : Grid F) × (matrix_of v.0 v.1.0 ≡ Ok main) × (table_of v.1.1.0 ≡ Err f))
+    (matrix_of v.0.0 v.0.1.0 ≡ Err f)
+    ⊎ ((main : Grid F) × (matrix_of v.0.0 v.0.1.0 ≡ Ok main) × (table_of v.0.1.1.0 ≡ Err f))
 
 -- the first fault of the members, or else that of the matrices
 abbrev pub HasInputFault : {F : Type 0} {p : ℕ} → Modular F p → Data → AirError → Type 0

@@ -1,6 +1,6 @@
 -- The members of the object: what they spell, in the order in which they are read.
-use Rattle.std.specs.Prelude.{◌≡◌, ℕ, ◌≤◌, List, [], Option, Some, None, ◌⊎◌, codes}
-use Rattle.serde_json.specs.Data.{Data, null}
+use Rattle.std.specs.Prelude.{◌≡◌, ℕ, ◌≤◌, List, [], length, Option, Some, None, ◌⊎◌, codes}
+use Rattle.serde_json.specs.Data.{Data, null, string}
 use Rattle.air_field.specs.Modular.{Modular}
 use Rattle.air_symbolic.specs.Trees.{Tree}
 use Rattle.air_symbolic.specs.declared.leaves.base_leaf.BaseLeaf.{BaseLeaf}
@@ -11,7 +11,7 @@ use Rattle.air_wire.specs.NodeLists.{IsList, HasFault}
 use Rattle.air_wire.specs.Spelling.{IsWholeNumber}
 use Rattle.air_wire.specs.declared.errors.FlatError.{FlatError}
 use Rattle.air_wire.specs.declared.errors.FlatError.TheVariants as faults
-use Rattle.air_object.specs.Objects.{Grammar, by_form, list_of, needed_member, optional_member, both_members, both_or_none}
+use Rattle.air_object.specs.Objects.{Grammar, by_form, list_of, at_most, needed_member, optional_member, then_member, both_members, both_or_none}
 
 abbrev pub whole_number : Grammar ℕ
 whole_number = by_form (λ d n. IsWholeNumber n d)
@@ -39,17 +39,32 @@ SpellsCap d (Some n) = IsWholeNumber n d
 abbrev pub cap : Grammar (Option ℕ)
 cap = by_form SpellsCap
 
+abbrev pub label : Grammar (List ℕ)
+label = by_form (λ d text. d ≡ string text)
+
+-- the labels of n constraints, of which the first ones may have one each
+abbrev pub labels : ℕ → Grammar (List (List ℕ))
+labels n = optional_member (codes "labels") [] (at_most n (list_of label))
+
 -- a width, and values for rows of it
 abbrev pub TableValues : Type 0 → Type 0
 TableValues F = ℕ × List F
 
 -- the width, the trace's values, the preprocessed table's width and values, the public values, the constraints, the
 -- periodic columns, the boundary cells, the cap, the weight of the transition selector
-abbrev pub MemberValues : Type 0 → Type 0
-MemberValues F = ℕ × (List F × (Option (TableValues F) × (List F × (List (Option (Tree (BaseLeaf F))) × (List (List F) × (List BoundaryPublic × (Option ℕ × ℕ)))))))
+abbrev pub OtherValues : Type 0 → Type 0
+OtherValues F = ℕ × (List F × (Option (TableValues F) × (List F × (List (Option (Tree (BaseLeaf F))) × (List (List F) × (List BoundaryPublic × (Option ℕ × ℕ)))))))
 
-abbrev pub members : {F : Type 0} {p : ℕ} → Modular F p → Grammar (MemberValues F)
-members m =
+-- those, and the constraints' labels
+abbrev pub MemberValues : Type 0 → Type 0
+MemberValues F = OtherValues F × List (List ℕ)
+
+-- how many constraints there are
+abbrev pub constraint_count : {F : Type 0} → OtherValues F → ℕ
+constraint_count v = length v.1.1.1.1.0
+
+abbrev pub other_members : {F : Type 0} {p : ℕ} → Modular F p → Grammar (OtherValues F)
+other_members m =
     both_members (needed_member (codes "main_width") whole_number)
     (both_members (needed_member (codes "main") (list_of (element m)))
     (both_members (both_or_none (codes "preprocessed_width") whole_number (codes "preprocessed") (list_of (element m)))
@@ -59,3 +74,13 @@ members m =
     (both_members (optional_member (codes "boundary") [] (list_of boundary_cell))
     (both_members (optional_member (codes "cap") None cap)
     (optional_member (codes "transition_weight") 0 whole_number))))))))
+
+abbrev pub members : {F : Type 0} {p : ℕ} → Modular F p → Grammar (MemberValues F)
+members m = then_member (other_members m) (λ v. labels (constraint_count v))
+
+-- the constraints and their labels, without the other members
+abbrev pub LabelledTrees : Type 0 → Type 0
+LabelledTrees F = List (Option (Tree (BaseLeaf F))) × List (List ℕ)
+
+abbrev pub labelled_constraints : {F : Type 0} {p : ℕ} → Modular F p → Grammar (LabelledTrees F)
+labelled_constraints m = then_member (needed_member (codes "constraints") (list_of (constraint m))) (λ trees. labels (length trees))

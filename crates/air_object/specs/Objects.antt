@@ -1,5 +1,5 @@
 -- What data spell, and the first fault of data that spell nothing.
-use Rattle.std.specs.Prelude.{◌≡◌, ℕ, List, [], ◌∷◌, Option, Some, None, ◌⊎◌, ⊤}
+use Rattle.std.specs.Prelude.{◌≡◌, ℕ, List, [], ◌∷◌, length, ◌<◌, ◌≤◌, Option, Some, None, ◌⊎◌, ⊤}
 use Rattle.serde_json.specs.Data.{Data, Items, no_items, item}
 use Rattle.serde_json.specs.Find.{get, as_array}
 use Rattle.air_wire.specs.Spelling.{HasField}
@@ -33,6 +33,13 @@ list_of g = record {
   fault = λ d f. ((as_array d ≡ None) × (f ≡ faults.Shape 0)) ⊎ ((ds : Items) × (as_array d ≡ Some ds) × FirstElementFault g ds f);
 }
 
+-- a list of n elements at most
+abbrev pub at_most : {X : Type 0} → ℕ → Grammar (List X) → Grammar (List X)
+at_most {X} n g = record {
+  spells = λ d xs. g.spells d xs × (length xs ≤ n);
+  fault = λ d f. g.fault d f ⊎ ((xs : List X) × g.spells d xs × (n < length xs) × (f ≡ faults.Shape 0));
+}
+
 -- ---- members of an object
 
 -- the member of this name, which is there
@@ -49,12 +56,16 @@ optional_member name absent g = record {
   fault = λ d f. HasField name (λ c. g.fault c f) d;
 }
 
--- one member and then another: the first one's fault comes first
-abbrev pub both_members : {X Y : Type 0} → Grammar X → Grammar Y → Grammar (X × Y)
-both_members {X} g h = record {
-  spells = λ d p. g.spells d p.0 × h.spells d p.1;
-  fault = λ d f. g.fault d f ⊎ ((x : X) × g.spells d x × h.fault d f);
+-- one member and then another, whose form what the first one spells determines: the first one's fault comes first
+abbrev pub then_member : {X Y : Type 0} → Grammar X → (X → Grammar Y) → Grammar (X × Y)
+then_member {X} g h = record {
+  spells = λ d p. g.spells d p.0 × (h p.0).spells d p.1;
+  fault = λ d f. g.fault d f ⊎ ((x : X) × g.spells d x × (h x).fault d f);
 }
+
+-- one member and then another
+abbrev pub both_members : {X Y : Type 0} → Grammar X → Grammar Y → Grammar (X × Y)
+both_members g h = then_member g (λ _. h)
 
 -- there is a member of one of these names
 abbrev pub HasEither : List ℕ → List ℕ → Data → Type 0

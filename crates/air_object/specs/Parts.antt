@@ -1,5 +1,5 @@
 -- An object whose trace and constraints are read apart from its other members.
-use Rattle.std.specs.Prelude.{◌≡◌, ◌≢◌, ℕ, ◌<◌, List, [], ◌∷◌, ◌++◌, map, All, Option, Result, Ok, IfOk, codes, Vec}
+use Rattle.std.specs.Prelude.{◌≡◌, ◌≢◌, ℕ, ◌<◌, List, [], ◌∷◌, ◌++◌, length, map, All, Option, Result, Ok, IfOk, codes, Vec}
 use Rattle.std.specs.Global.{Global}
 use Rattle.std.specs.Result.{result_map_both}
 use Rattle.serde_json.specs.Data.{Data, Members}
@@ -11,8 +11,8 @@ use Rattle.air_symbolic.specs.Trees.{Tree}
 use Rattle.air_symbolic.specs.declared.leaves.base_leaf.BaseLeaf.{BaseLeaf}
 use Rattle.air_wire.specs.Results.{◌>>=◌, Gives}
 use Rattle.air_wire.specs.declared.errors.FlatError.{FlatError}
-use Rattle.air_object.specs.Members.{MemberValues}
-use Rattle.air_object.specs.Readers.{Reader, or_wrong_form, elements, trees, width_member, elements_member, table_member, constraints_member, periodic_member, boundary_member, cap_member, weight_member}
+use Rattle.air_object.specs.Members.{MemberValues, LabelledTrees}
+use Rattle.air_object.specs.Readers.{Reader, or_wrong_form, elements, trees, width_member, elements_member, table_member, constraints_member, periodic_member, boundary_member, cap_member, weight_member, labels_member}
 use Rattle.air_object.specs.declared.constraints.Constraints.{Constraints}
 
 -- the elements of the trace, or the first fault
@@ -73,6 +73,9 @@ given_elements es = result_map_both (λ v. v.items) (λ f. f) es
 abbrev pub given_by : {F : Type 0} → Constraints F → GivenTrees F
 given_by c = result_map_both (λ roots. map (tree_at c.pool) roots.items) (λ f. f) c.roots
 
+abbrev pub labelled_with : {F : Type 0} → GivenTrees F → Reader (LabelledTrees F)
+labelled_with given d = given >>= λ trees. labels_member (length trees) d >>= λ labels. Ok (trees, labels)
+
 unfoldable pub members_with : {F : Type 0} {p : ℕ} → Modular F p → GivenElements F → GivenTrees F → Reader (MemberValues F)
 members_with m trace given d = do
   width ← width_member (codes "main_width") d
@@ -84,4 +87,5 @@ members_with m trace given d = do
   boundary ← boundary_member d
   cap ← cap_member d
   weight ← weight_member d
-  Ok (width, (main, (table, (public_values, (constraints, (periodic, (boundary, (cap, weight))))))))
+  labels ← labels_member (length constraints) d
+  Ok ((width, (main, (table, (public_values, (constraints, (periodic, (boundary, (cap, weight)))))))), labels)

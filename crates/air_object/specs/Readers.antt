@@ -1,7 +1,7 @@
 -- How the members of the object are found.
-use Rattle.std.specs.Prelude.{ℕ, List, [], ◌∷◌, ◌++◌, ◌||◌, Option, Some, None, Result, Ok, option_map, codes, if◌then◌else◌, is_some, ok_or}
+use Rattle.std.specs.Prelude.{ℕ, List, [], ◌∷◌, ◌++◌, length, nat_lt, ◌||◌, Option, Some, None, Result, Ok, Err, option_map, codes, if◌then◌else◌, is_some, ok_or}
 use Rattle.serde_json.specs.Data.{Data, Items, no_items, item}
-use Rattle.serde_json.specs.Find.{get, as_array, as_null}
+use Rattle.serde_json.specs.Find.{get, as_array, as_null, as_str}
 use Rattle.air_field.specs.Modular.{Modular}
 use Rattle.air_symbolic.specs.Trees.{Tree}
 use Rattle.air_symbolic.specs.declared.leaves.base_leaf.BaseLeaf.{BaseLeaf}
@@ -13,7 +13,7 @@ use Rattle.air_wire.specs.Parts.{as_whole_number}
 use Rattle.air_wire.specs.Results.{◌>>=◌}
 use Rattle.air_wire.specs.declared.errors.FlatError.{FlatError}
 use Rattle.air_wire.specs.declared.errors.FlatError.TheVariants as faults
-use Rattle.air_object.specs.Members.{TableValues, MemberValues}
+use Rattle.air_object.specs.Members.{TableValues, MemberValues, LabelledTrees}
 
 abbrev pub Reader : Type 0 → Type 0
 Reader X = Data → Result X FlatError
@@ -44,6 +44,18 @@ tree m d = root_of (base_kind m) d
 unfoldable pub trees : {F : Type 0} {p : ℕ} → Modular F p → Reader (List (Option (Tree (BaseLeaf F))))
 trees m d = list_read (tree m) d
 
+-- what is read, if that is n elements at most
+abbrev pub if_at_most : {X : Type 0} → ℕ → List X → Result (List X) FlatError
+if_at_most n xs = if nat_lt n (length xs) then Err (faults.Shape 0) else Ok xs
+
+-- ---- labels
+
+abbrev pub label_read : Reader (List ℕ)
+label_read d = or_wrong_form (as_str d)
+
+unfoldable pub labels : ℕ → Reader (List (List ℕ))
+labels n d = list_read label_read d >>= if_at_most n
+
 -- ---- boundary cells
 
 abbrev pub cell_read : Reader BoundaryPublic
@@ -69,9 +81,13 @@ or_absent absent read (Some d) = read d
 abbrev pub optional_read : {X : Type 0} → List ℕ → X → Reader X → Reader X
 optional_read name absent read d = or_absent absent read (get name d)
 
+-- one reader and then another, which what the first one read determines
+abbrev pub then_read : {X Y : Type 0} → Reader X → (X → Reader Y) → Reader (X × Y)
+then_read read next d = read d >>= λ x. next x d >>= λ y. Ok (x, y)
+
 -- one reader and then another
 abbrev pub both_read : {X Y : Type 0} → Reader X → Reader Y → Reader (X × Y)
-both_read read next d = read d >>= λ x. next d >>= λ y. Ok (x, y)
+both_read read next d = then_read read (λ _. next) d
 
 abbrev pub if_either : {X : Type 0} → List ℕ → List ℕ → Reader X → Reader (Option X)
 if_either one other read d =
@@ -102,6 +118,14 @@ cap_member d = optional_read (codes "cap") None (λ c. or_wrong_form (cap_in c))
 unfoldable pub weight_member : Reader ℕ
 weight_member d = optional_read (codes "transition_weight") 0 (λ c. or_wrong_form (as_whole_number c)) d
 
+-- the labels of n constraints
+unfoldable pub labels_member : ℕ → Reader (List (List ℕ))
+labels_member n d = optional_read (codes "labels") [] (labels n) d
+
+-- the constraints and their labels, without the other members
+abbrev pub labelled_read : {F : Type 0} {p : ℕ} → Modular F p → Reader (LabelledTrees F)
+labelled_read m = then_read (constraints_member m) (λ trees. labels_member (length trees))
+
 unfoldable pub members_read : {F : Type 0} {p : ℕ} → Modular F p → Reader (MemberValues F)
 members_read m d = do
   width ← width_member (codes "main_width") d
@@ -113,4 +137,5 @@ members_read m d = do
   boundary ← boundary_member d
   cap ← cap_member d
   weight ← weight_member d
-  Ok (width, (main, (table, (public_values, (constraints, (periodic, (boundary, (cap, weight))))))))
+  labels ← labels_member (length constraints) d
+  Ok ((width, (main, (table, (public_values, (constraints, (periodic, (boundary, (cap, weight)))))))), labels)

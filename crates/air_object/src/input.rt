@@ -37,6 +37,8 @@ pub struct FlatInput<F: Field> {
     pub cap: Option<usize>,
     /// What the transition selector weighs in the domain; 0 where it is linear.
     pub transition_weight: usize,
+    /// The labels of the constraints, in order. A constraint past their end has none, nor has one whose label is empty.
+    pub labels: Vec<String>,
 }
 
 // The preprocessed table of the values.
@@ -78,12 +80,14 @@ pub fn input_from<F: PrimeField64>(
         cells: members.cells,
         cap: members.cap,
         transition_weight: members.transition_weight,
+        labels: members.labels,
     })
 }
 
-/// Reads the object as one over F, whatever its member `field` says, at which it doesn't look: its members in the order `main_width`, `main` (row after row), `preprocessed_width`,
-/// `preprocessed` (the table's values, row after row), `public_values`, `constraints` (lists of nodes), `periodic`,
-/// `boundary`, `cap` and `transition_weight`. The last four may be absent, and `cap` may be null; no weight is the
+/// Reads the object as one over F, whatever its member `field` says, at which it doesn't look: its members in the order
+/// `main_width`, `main` (row after row), `preprocessed_width`, `preprocessed` (the table's values, row after row),
+/// `public_values`, `constraints` (lists of nodes), `periodic`, `boundary`, `cap`, `transition_weight` and `labels`
+/// (texts, no more than there are constraints). The last five may be absent, and `cap` may be null; no weight is the
 /// weight 0. The two of the preprocessed table may be absent together, and there is then no table; where one of them is
 /// there, the other is needed. Any other value is refused with the first fault in this order; values that aren't whole
 /// rows of their width are `Ragged` after all members, those of the trace before those of the table. Other members are

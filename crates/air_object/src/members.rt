@@ -12,6 +12,7 @@ ghost use Rattle.air_object.specs.Seen.{seen_rows, seen_members};
 use crate::cells::cells_from;
 use crate::constraints::{BasePool, Constraints, Roots};
 use crate::elements::{Elements, columns_from, elements_from};
+use crate::labels::labels_at;
 use air_core::BoundaryPublic;
 use air_field::{Field, PrimeField64};
 use air_wire::{FlatError, whole_number};
@@ -38,6 +39,7 @@ pub struct Members<F: Field> {
     pub cells: Vec<BoundaryPublic>,
     pub cap: Option<usize>,
     pub transition_weight: usize,
+    pub labels: Vec<String>,
 }
 
 fn needed_member<'a>(value: &'a Value, name: &str) -> Result<&'a Value, FlatError>
@@ -154,6 +156,7 @@ pub fn members_from<F: PrimeField64>(
     let cells = boundary_from(alloc, value)?;
     let cap = cap_from(value)?;
     let transition_weight = weight_from(value)?;
+    let labels = labels_at(alloc, value, roots.len())?;
     Ok(Members {
         main_width,
         main,
@@ -165,5 +168,6 @@ pub fn members_from<F: PrimeField64>(
         cells,
         cap,
         transition_weight,
+        labels,
     })
 }

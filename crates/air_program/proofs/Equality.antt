@@ -1,14 +1,14 @@
 -- A field's own test of equality and its own ring are those of its residues.
-use Rattle.std.proofs.Common.{◌≡◌, ℕ, Bool, Option, subst, ◌==◌}
+use Rattle.std.proofs.Common.{◌≡◌, ℕ, Bool, Option, subst}
 use Rattle.std.specs.Bool.{Decides}
 use Rattle.std.proofs.lemmas.Bool.Decides.{same_from_decides}
 use Rattle.air_field.specs.Extension.{Basis}
 use Rattle.air_field.specs.Ring.{CommRing}
 use Rattle.air_field.specs.Modular.{Modular, modular_ring}
 use Rattle.air_field.specs.laws.Modular.{equal_is}
-use Rattle.p3_air.specs.Theorem.{Instance}
-use Rattle.p3_air.specs.Audits.{IsAuditUnder, AuditRefusesUnder}
-use Rattle.p3_air.specs.declared.audit.Audit.{Audit}
+use Rattle.air_audit.specs.Theorem.{Instance}
+use Rattle.air_audit.specs.Audits.{IsAuditUnder, AuditRefusesUnder}
+use Rattle.air_audit.specs.declared.audit.Audit.{Audit}
 use Rattle.air_core.specs.declared.errors.AirError.{AirError}
 use Rattle.air_program.specs.Answer.{equal_numbers, CappedAuditRefuses}
 

@@ -6,8 +6,8 @@ use Rattle.air_field.specs.Modular.{Modular}
 use Rattle.air_core.specs.declared.boundary.BoundaryPublic.{BoundaryPublic}
 use Rattle.air_symbolic.specs.ExtLeaves.{BaseNodes}
 use Rattle.air_object.specs.declared.input.FlatInput.{FlatInput}
-use Rattle.p3_air.specs.FlatAirs.{zero_at_roots}
-use Rattle.p3_air.specs.Theorem.{instance}
+use Rattle.air_audit.specs.FlatAirs.{zero_at_roots}
+use Rattle.air_audit.specs.Theorem.{instance}
 use Rattle.air_program.specs.Explained.{IsExplainedText, trace_with}
 use Rattle.air_program.specs.FlatAnswer.{flat_instance}
 use Rattle.air_program.specs.Texts.{Found}

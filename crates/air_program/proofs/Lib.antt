@@ -5,7 +5,6 @@ pub mod Numbers
 pub mod Rows
 pub mod Inputs
 pub mod TextLemmas
-pub mod LineEnds
 pub mod FibonacciRefusals
 pub mod Caps
 pub mod Traces

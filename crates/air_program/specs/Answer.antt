@@ -5,9 +5,9 @@ use Rattle.air_field.specs.Extension.{own_basis}
 use Rattle.air_field.specs.Modular.{Modular, modular_ring}
 use Rattle.air_field.specs.Modulo.{baby_bears}
 use Rattle.air_field.specs.BabyBear.{BabyBear}
-use Rattle.p3_air.specs.Theorem.{Instance, instance}
-use Rattle.p3_air.specs.Audits.{IsAuditUnder, IsDegreePast, AuditRefusesUnder}
-use Rattle.p3_air.specs.declared.audit.Audit.{Audit}
+use Rattle.air_audit.specs.Theorem.{Instance, instance}
+use Rattle.air_audit.specs.Audits.{IsAuditUnder, IsDegreePast, AuditRefusesUnder}
+use Rattle.air_audit.specs.declared.audit.Audit.{Audit}
 use Rattle.air_core.specs.declared.errors.AirError.{AirError}
 use Rattle.air_fibonacci.specs.Fibonacci.{fibonacci_declaration}
 use Rattle.air_program.specs.Parsing.{element_values}

@@ -3,10 +3,10 @@ use Rattle.std.specs.Prelude.{◌⊎◌, ℕ, List, length}
 use Rattle.serde_json.specs.Data.{Data}
 use Rattle.air_field.specs.Modular.{Modular}
 use Rattle.air_builder.specs.Declaration.{Declaration}
-use Rattle.p3_air.specs.FlatAirs.{zero_at_roots}
+use Rattle.air_audit.specs.FlatAirs.{zero_at_roots}
 use Rattle.air_object.specs.Input.{SpellsInput, HasInputFault}
 use Rattle.air_object.specs.declared.input.FlatInput.{FlatInput}
-use Rattle.p3_air.specs.Theorem.{Instance, instance}
+use Rattle.air_audit.specs.Theorem.{Instance, instance}
 use Rattle.air_core.specs.declared.errors.AirError.{AirError}
 use Rattle.air_program.specs.Answer.{CappedAuditRefuses, TellsFound}
 use Rattle.air_program.specs.ByField.{AnswersBytes}

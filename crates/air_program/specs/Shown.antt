@@ -1,38 +1,33 @@
 -- What answers the word `show`.
-use Rattle.std.specs.Prelude.{◌≡◌, ◌⊎◌, ℕ, ◌<◌, List, map, All, Option, codes}
+use Rattle.std.specs.Prelude.{◌≡◌, ◌⊎◌, ℕ, ◌<◌, List, map, All}
 use Rattle.serde_json.specs.Data.{Data}
 use Rattle.air_field.specs.Modular.{Modular}
 use Rattle.air_symbolic.specs.BaseLeaves.{base_reads}
 use Rattle.air_symbolic.specs.ExtLeaves.{BaseNodes}
 use Rattle.air_symbolic.specs.Pools.{IsPool, tree_at, size}
-use Rattle.air_symbolic.specs.Trees.{Tree}
-use Rattle.air_symbolic.specs.declared.leaves.base_leaf.BaseLeaf.{BaseLeaf}
 use Rattle.air_wire.specs.Faults.{air_fault}
 use Rattle.air_wire.specs.declared.errors.FlatError.{FlatError}
 use Rattle.air_infix.specs.Lines.{ShowsRoots}
 use Rattle.air_program.specs.ByField.{AnswersBytes}
-use Rattle.air_object.specs.Members.{constraint}
-use Rattle.air_object.specs.Objects.{Grammar, list_of, needed_member}
+use Rattle.air_object.specs.Members.{labelled_constraints}
 use Rattle.air_program.specs.Refusals.{AnswersRefusal, air_name}
 
--- the member `constraints`, alone
-abbrev pub constraints : {F : Type 0} {p : ℕ} → Modular F p → Grammar (List (Option (Tree (BaseLeaf F))))
-constraints m = needed_member (codes "constraints") (list_of (constraint m))
-
--- The text shows roots of a pool that have the trees which the member spells.
+-- The text shows roots of a pool that have the trees which the member `constraints` spells, with the labels which the member
+-- `labels` does.
 pub record ShowsValue {F : Type 0} {p : ℕ} (m : Modular F p) (d : Data) (text : List ℕ) : Type 0 where
   pub pool : BaseNodes F
   pub roots : List ℕ
   pub is_pool : IsPool base_reads pool
   pub here : All (λ i. i < size pool) roots
-  pub spelt : (constraints m).spells d (map (tree_at pool) roots)
-  pub shows : ShowsRoots m pool roots text
+  pub labels : List (List ℕ)
+  pub spelt : (labelled_constraints m).spells d (map (tree_at pool) roots, labels)
+  pub shows : ShowsRoots m pool roots labels text
 
--- it is shown, or the first fault of the member is named
+-- that is shown, or the first fault of the two members is named
 abbrev pub ShownIn : (F : Type 0) (p : ℕ) → Modular F p → Data → ℕ → List ℕ → Type 0
 ShownIn F p m d status text =
     ((status ≡ 0) × ShowsValue m d text)
-    ⊎ ((f : FlatError) × (constraints m).fault d f × AnswersRefusal (air_name (air_fault f)) status text)
+    ⊎ ((f : FlatError) × (labelled_constraints m).fault d f × AnswersRefusal (air_name (air_fault f)) status text)
 
 abbrev pub IsShowAnswer : List ℕ → ℕ → List ℕ → Type 0
 IsShowAnswer = AnswersBytes ShownIn

@@ -1,6 +1,7 @@
 -- The lines that are printed.
-use Rattle.std.specs.Prelude.{◌≡◌, ◌≢◌, ℕ, All, List, [], ◌∷◌, ◌++◌, length, map, codes, decimal, ◌==◌, if◌then◌else◌, Option, IfSome}
-use Rattle.std.specs.List.{AllZip, flat_map}
+use Rattle.std.specs.Prelude.{◌≡◌, ℕ, List, [], ◌∷◌, ◌++◌, length, map, codes, decimal, ◌==◌, if◌then◌else◌, Option, IfSome}
+use Rattle.std.specs.List.{AllZip}
+use Rattle.air_infix.specs.Labels.{HasNoLineEnd}
 use Rattle.air_infix.specs.Lines.{lines_text}
 use Rattle.air_report.specs.FailureTexts.{seen_failure, label_suffix}
 use Rattle.air_program.specs.declared.texts.Findings.{Findings}
@@ -27,10 +28,6 @@ place_of f = (f.0, f.1)
 -- `row r: #k`
 unfoldable pub place_text : ℕ × ℕ → List ℕ
 place_text p = codes "row " ++ (decimal p.0 ++ (codes ": #" ++ decimal p.1))
-
--- no byte 10
-abbrev pub HasNoLineEnd : List ℕ → Type 0
-HasNoLineEnd text = All (λ byte. byte ≢ 10) text
 
 -- the place of the failure, and behind it what its label shows as: any text without a line end, where nothing more is said
 -- of that

@@ -3,7 +3,7 @@
 ghost use Rattle.std.specs.Prelude.{◌≡◌, ◌⊎◌, ◌%◌, ◌<◌, ◌^◌, length, vec_len, IfOk, IfErr, string_bytes};
 ghost use Rattle.air_field.specs.Grid.{grid_of};
 ghost use Rattle.air_field.specs.Modulo.{baby_bears};
-ghost use Rattle.p3_air.specs.Theorem.{instance};
+ghost use Rattle.air_audit.specs.Theorem.{instance};
 ghost use Rattle.air_program.specs.Texts.{found_in, findings_status, IsFindingsText};
 ghost use Rattle.air_program.specs.Commands.{has_labels};
 ghost use Rattle.air_program.specs.Grammar.{parse};
@@ -16,10 +16,10 @@ use crate::commands::{Command, Request};
 use crate::input::{Input, ParseFault, parse};
 use crate::refusals::Refusal;
 use crate::texts::{Findings, findings_text};
+use air_audit::{Air, BaseAir, DebugConstraintBuilder, SymbolicAirBuilder, audit_air_with_cap};
 use air_builder::AirError;
 use air_fibonacci::Fibonacci;
 use air_field::{BabyBear, PrimeField64, RowMajorMatrix};
-use p3_air::{Air, BaseAir, DebugConstraintBuilder, SymbolicAirBuilder, audit_air_with_cap};
 use std::alloc::Global;
 
 /// The trace of these values, two a row.

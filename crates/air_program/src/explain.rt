@@ -23,6 +23,7 @@ use crate::answer::{findings_of, status};
 use crate::flat::with_table;
 use crate::refusals::Refusal;
 use crate::texts::{Findings, push_counts, push_failure};
+use air_audit::{ConstraintFailure, FlatAir};
 use air_explain::{
     TraceRows, push_cell, push_explained, push_reached_definitions, reads, values_at,
 };
@@ -30,7 +31,6 @@ use air_field::{PrimeField64, RowMajorMatrix};
 use air_infix::Names;
 use air_object::{BaseId, BasePool, FlatInput, Parts, input_from};
 use air_symbolic::{BaseLeaf, reached_nodes};
-use p3_air::{ConstraintFailure, FlatAir};
 use std::alloc::{AllocError, Global};
 
 /// A row, and the values that the expressions have there.
@@ -243,6 +243,7 @@ fn explain_input<F: PrimeField64 + 'static>(
         input.cells,
     )?;
     let air = with_table(air, input.preprocessed);
+    let air = air.with_labels(input.labels);
     let findings = findings_of(
         alloc,
         &air,

@@ -12,10 +12,10 @@ ghost use Rattle.air_program.specs.Texts.{found_in};
 use crate::answer::{findings_of, render};
 use crate::refusals::Refusal;
 use crate::texts::Findings;
+use air_audit::FlatAir;
 use air_builder::AirError;
 use air_field::{Field, PrimeField64, RowMajorMatrix};
 use air_object::{FlatInput, Parts, input_from};
-use p3_air::FlatAir;
 use std::alloc::Global;
 
 /// An AIR without a preprocessed table, and with this one, if there is one.
@@ -54,6 +54,7 @@ fn audit_input<F: PrimeField64 + 'static>(
         input.cells,
     )?;
     let air = with_table(air, input.preprocessed);
+    let air = air.with_labels(input.labels);
     findings_of(
         alloc,
         &air,

@@ -63,6 +63,7 @@ fn air_name(error: AirError) -> &'static str
         AirError::LayoutMainWidth { .. } => "LayoutMainWidth",
         AirError::LayoutPublicValues { .. } => "LayoutPublicValues",
         AirError::LayoutPeriodicColumns { .. } => "LayoutPeriodicColumns",
+        AirError::ForeignExpression => "ForeignExpression",
         AirError::IndexPastTotal { .. } => "IndexPastTotal",
         AirError::PreprocessedHeight { .. } => "PreprocessedHeight",
         AirError::PeriodNotPowerOfTwo { .. } => "PeriodNotPowerOfTwo",

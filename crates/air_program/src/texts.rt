@@ -2,10 +2,12 @@
 
 ghost use Rattle.std.specs.Prelude.{◌≡◌, ◌++◌, OnOk, IfOk, IfSome, option_map, string_bytes};
 ghost use Rattle.air_report.specs.FailureTexts.{label_suffix, seen_failure};
-ghost use Rattle.air_program.specs.Texts.{HasNoLineEnd, count_lines, found_in, PushesLine, IsFindingsText};
+ghost use Rattle.air_infix.specs.Labels.{HasNoLineEnd};
+ghost use Rattle.air_program.specs.Texts.{count_lines, found_in, PushesLine, IsFindingsText};
 ghost use Rattle.air_infix.specs.Lines.{lines_text};
 
-use p3_air::{ConstraintFailure, ConstraintReport};
+use air_audit::{ConstraintFailure, ConstraintReport};
+use air_infix::shown_label;
 use std::alloc::{AllocError, Global};
 
 /// What an audit found.
@@ -29,21 +31,14 @@ pub(crate) fn push_counts(text: &mut String, findings: &Findings) -> Result<(), 
     writeln!(text, "constraints {constraints}")
 }
 
-/// What stands behind a failure's place: nothing, or a space and the label's debug text. A text that would break the
-/// line isn't shown, so that no label can feign a further line.
-fn shown_label(alloc: Global, label: &Option<String>) -> Result<String, AllocError>
+/// What stands behind a failure's place: nothing, or what its label shows as.
+fn text_behind(alloc: Global, label: &Option<String>) -> Result<String, AllocError>
     ensures one_line { IfOk result (λ text. HasNoLineEnd (string_bytes text)) }
     ensures shown { IfOk result (λ text. IfSome (label_suffix (option_map string_bytes label.now))
         (λ suffix. string_bytes text ≡ suffix)) }
 {
     match label {
-        Some(label) => {
-            let shown = format!(in alloc; " {label:?}")?;
-            if shown.as_bytes().contains(&b'\n') {
-                return Ok(String::new(alloc));
-            }
-            Ok(shown)
-        }
+        Some(label) => shown_label(alloc, label),
         None => Ok(String::new(alloc)),
     }
 }
@@ -60,7 +55,7 @@ pub(crate) fn push_failure(
 {
     let row = failure.row;
     let constraint = failure.constraint;
-    let label = shown_label(alloc, &failure.label)?;
+    let label = text_behind(alloc, &failure.label)?;
     writeln!(text, "row {row}: #{constraint}{label}")
 }
 

@@ -1,20 +1,20 @@
 //! The AIRs of tables: a list of constraints, with what stands beside.
 ghost use Rattle.cases_airs.specs.declared.lists.Constraints.TheVariants.{Base, Permutation, Labelled};
 ghost use Rattle.cases_airs.specs.TableAirs.{labelled_asserts};
-ghost use Rattle.p3_air.specs.FlatAirs.{zero_at_roots};
+ghost use Rattle.air_audit.specs.FlatAirs.{zero_at_roots};
 
 use crate::differing::assert_differing;
 use crate::handed::assert_handed;
 use crate::lists::{BaseList, Constraints, Declared, LabelledList, PermutationList};
-use air_fibonacci::Fibonacci;
-use p3_air::author::{
+use air_audit::author::{
     Challenge, Current, Difference, ExtNamed, ExtZero, Lifted, Named, PermutationCurrent,
     PermutationValue, Power, Product, Zero, assert_all,
 };
-use p3_air::{
+use air_audit::{
     Air, AirError, BaseAir, BoundaryPublic, Field, FlatAir, FromVar, NamedAirBuilder,
     NamedExtensionBuilder, PermutationAirBuilder, RowMajorMatrix,
 };
+use air_fibonacci::Fibonacci;
 
 /// An AIR of a table.
 #[derive(Drop)]

@@ -5,8 +5,8 @@ ghost use Rattle.air_symbolic.specs.Pools.{size};
 use crate::air::TableAir;
 use crate::parts::Parts;
 use crate::pool::NamedPool;
+use air_audit::{AirError, BaseLeaf, ExprId, Field, FlatAir};
 use cases::{Fault, Line, Names, Why};
-use p3_air::{AirError, BaseLeaf, ExprId, Field, FlatAir};
 use std::alloc::Global;
 use std::mem;
 

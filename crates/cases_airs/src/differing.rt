@@ -7,7 +7,7 @@ ghost use Rattle.air_builder.specs.Notation.{current};
 ghost use Rattle.air_builder.specs.Refusals.{NoneMissing};
 ghost use Rattle.cases_airs.specs.Differing.{differing_asserts, RowMeans, RefusesPart};
 
-use p3_air::{AirBuilder, AirError, Algebra, BaseEntry, FromVar, View};
+use air_audit::{AirBuilder, AirError, Algebra, BaseEntry, FromVar, View};
 
 /// The cells of a row.
 #[derive(Clone, Copy)]

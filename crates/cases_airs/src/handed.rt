@@ -4,10 +4,10 @@ ghost use Rattle.air_builder.specs.Notation.{next, transition, when, ◌≐◌};
 ghost use Rattle.air_author.specs.Expressions.{AlwaysAfter, IsUsableIn};
 ghost use Rattle.cases_airs.specs.Handed.{handed_asserts};
 
-use p3_air::author::{
+use air_audit::author::{
     Already, Current, Equal, Expression, Next, Sum, Transition, When, assert_these,
 };
-use p3_air::{AirBuilder, AirError, View};
+use air_audit::{AirBuilder, AirError, View};
 
 /// The gadget: column 1 of the next row is x, which was made of a value.
 fn next_is<AB: AirBuilder, X: Expression<AB>>(

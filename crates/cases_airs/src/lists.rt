@@ -2,7 +2,7 @@
 ghost use Rattle.std.specs.Prelude.{List};
 ghost use Rattle.air_builder.specs.Assertion.{Assertion};
 
-use p3_air::Field;
+use air_audit::Field;
 use std::alloc::AllocError;
 
 /// A kind of constraints.

@@ -2,9 +2,9 @@
 
 use crate::lists::{BaseList, Constraints, PermutationList};
 use crate::words::{cell_of, trace_of};
+use air_audit::{BoundaryPublic, Field, RowMajorMatrix};
 use cases::words::{count_of, listed_elements};
 use cases::{Fault, Why};
-use p3_air::{BoundaryPublic, Field, RowMajorMatrix};
 use std::alloc::Global;
 
 /// The parts of an AIR but its expressions.

@@ -4,9 +4,9 @@ ghost use Rattle.std.specs.Prelude.{◌<◌, IsTrue, All, IfOk};
 ghost use Rattle.air_symbolic.specs.Pools.{size};
 
 use crate::words::leaf_of;
+use air_audit::{Algebra, BaseLeaf, ExprId, ExprPool, Field, RingError, SymLeaf};
 use cases::words::element_of;
 use cases::{Fault, Line, Names, Why};
-use p3_air::{Algebra, BaseLeaf, ExprId, ExprPool, Field, RingError, SymLeaf};
 use std::alloc::Global;
 use std::marker::Model;
 

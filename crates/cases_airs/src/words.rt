@@ -1,10 +1,10 @@
 //! Words as leaves, traces, cells and caps.
 
-use cases::words::{count_of, listed_elements};
-use cases::{Fault, Why};
-use p3_air::{
+use air_audit::{
     BaseEntry, BaseLeaf, BoundaryEnd, BoundaryPublic, Field, RowMajorMatrix, SymbolicVariable,
 };
+use cases::words::{count_of, listed_elements};
+use cases::{Fault, Why};
 use std::alloc::Global;
 
 // The variable of an entry.

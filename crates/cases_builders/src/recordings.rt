@@ -1,13 +1,13 @@
 //! Assertions that are recorded: each line has a builder of its own.
 
 use crate::trees::{show_tree, show_value};
+use air_audit::finish_recording;
 use air_builder::AirBuilder;
 use air_field::{ExtensionField, Field};
 use air_recording::{AirLayout, Recorded, SymbolicAirBuilder};
 use cases::words::Number;
 use cases::{Bench, Fault, Line};
 use cases_assertions::assert_all;
-use p3_air::finish_recording;
 use std::alloc::Global;
 use std::marker::PhantomData;
 

@@ -1,6 +1,7 @@
 //! Sums and xors of words: recorded over columns of the main trace, made an AIR, and checked on a trace of one row.
 ghost use Rattle.std.specs.Prelude.{ℕ, ◌≤◌, All, IfOk, OnOk};
 
+use air_audit::{FlatAir, finish_recording, recorded_air};
 use air_builder::{AirBuilder, AirError};
 use air_core::{BaseEntry, SymbolicVariable};
 use air_field::{
@@ -12,7 +13,6 @@ use air_report::{ConstraintReport, check_all_constraints};
 use air_symbolic::{BaseLeaf, ExprId, ExprPool};
 use cases::words::{count_of, element_of, listed_elements};
 use cases::{Fault, Why};
-use p3_air::{FlatAir, finish_recording, recorded_air};
 use std::alloc::Global;
 
 type Column<F> = SymbolicVariable<F>;

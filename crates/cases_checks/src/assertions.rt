@@ -2,11 +2,11 @@
 
 use crate::reports::show_failures;
 use crate::rows::{ExtRow, Row, ext_row, row_of};
+use air_audit::{Air, AirError, ConstraintFailure, ExtensionField, Field};
 use cases::Fault;
 use cases::words::texts_of;
 use cases_airs::{Airs, TableAir};
 use cases_assertions::assert_all;
-use p3_air::{Air, AirError, ConstraintFailure, ExtensionField, Field};
 use std::alloc::Global;
 
 /// What is asked of the builder after the assertions.

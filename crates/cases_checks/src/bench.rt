@@ -4,11 +4,11 @@ use crate::assertions::{Answer, answer_row};
 use crate::recorded::{recorded_counter, recorded_elsewhere};
 use crate::reports::{Asked, Given, given_of, show_base_audit, show_check};
 use crate::rows::{lend, show_resolved};
+use air_audit::{ExtensionField, Field};
 use cases::words::{Number, count_of};
 use cases::{Bench, Fault, Line, Why};
 use cases_airs::words::cap_of;
 use cases_airs::{Airs, TableAir};
-use p3_air::{ExtensionField, Field};
 use std::alloc::Global;
 use std::marker::PhantomData;
 

@@ -8,8 +8,8 @@ mod reports;
 mod rows;
 
 use crate::bench::Checks;
+use air_audit::{BabyBear, BinomialExtensionField};
 use cases::{Fault, Report, Table, Tables, Why, check_lines};
-use p3_air::{BabyBear, BinomialExtensionField};
 
 /// The tables of this layer, by their heads.
 pub struct CheckTables;

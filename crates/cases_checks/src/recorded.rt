@@ -2,13 +2,13 @@
 ghost use Rattle.std.specs.Prelude.{IfOk};
 
 use crate::reports::{given_of, show_audit};
-use cases::Fault;
-use cases::words::count_of;
-use p3_air::author::{Boolean, Current, Equal, Next, Sum, Transition, When};
-use p3_air::{
+use air_audit::author::{Boolean, Current, Equal, Next, Sum, Transition, When};
+use air_audit::{
     AirBuilder, AirError, AirLayout, ExprPool, Field, FlatAir, Recorded, SymbolicAirBuilder,
     finish_recording, record_these, recorded_air,
 };
+use cases::Fault;
+use cases::words::count_of;
 use std::alloc::Global;
 
 // Column 0 is a bit, and from each row to the next column 1 rises by it.

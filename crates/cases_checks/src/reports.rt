@@ -1,13 +1,13 @@
 //! Checks of a trace, and audits.
 
+use air_audit::{
+    Air, Audit, BaseAir, CheckError, ConstraintFailure, ConstraintReport, DebugConstraintBuilder,
+    Field, RowMajorMatrix, SymbolicAirBuilder, audit_air, check_all_constraints, check_constraints,
+};
 use cases::words::listed_elements;
 use cases::{Fault, Why};
 use cases_airs::words::trace_of;
 use cases_airs::{Constraints, ListAir, TableAir};
-use p3_air::{
-    Air, Audit, BaseAir, CheckError, ConstraintFailure, ConstraintReport, DebugConstraintBuilder,
-    Field, RowMajorMatrix, SymbolicAirBuilder, audit_air, check_all_constraints, check_constraints,
-};
 use std::alloc::Global;
 
 /// What records an AIR of the base.

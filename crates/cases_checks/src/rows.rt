@@ -1,13 +1,13 @@
 //! Single rows.
 ghost use Rattle.std.specs.Prelude.{◌≡◌, length, IfOk};
 
-use cases::words::{Number, count_of, extension_of, listed_elements, show_elements};
-use cases::{Fault, Why};
-use cases_airs::pool::NamedPool;
-use p3_air::{
+use air_audit::{
     AirBuilder, BaseLeaf, DebugConstraintBuilder, ExtensionField, Field, PermutationAirBuilder,
     RowMajorMatrixView, RowWindow, ViewPair, WindowAccess, resolve,
 };
+use cases::words::{Number, count_of, extension_of, listed_elements, show_elements};
+use cases::{Fault, Why};
+use cases_airs::pool::NamedPool;
 use std::alloc::Global;
 
 /// A builder at a row without permutation data.

@@ -1,13 +1,13 @@
 //! Checks of whole traces.
 
+use air_audit::{
+    Air, CheckError, ConstraintFailure, ConstraintReport, DebugConstraintBuilder, FlatAir,
+    check_all_constraints, check_constraints,
+};
 use air_field::{Field, PrimeField64, RowMajorMatrix};
 use air_program::{FlatInput, flat_input_from};
 use cases::words::value_of;
 use cases::{Fault, Why};
-use p3_air::{
-    Air, CheckError, ConstraintFailure, ConstraintReport, DebugConstraintBuilder, FlatAir,
-    check_all_constraints, check_constraints,
-};
 use std::alloc::Global;
 
 // Adds each failure behind a space.

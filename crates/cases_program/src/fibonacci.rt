@@ -2,16 +2,16 @@
 //! prove.)
 
 use crate::checks::{show_check, show_report};
-use air_fibonacci::Fibonacci;
-use air_field::{Field, RowMajorMatrix};
-use cases::words::{count_of, listed_elements};
-use cases::{Fault, Why};
-use p3_air::{
+use air_audit::{
     Air, AirLayout, Audit, BaseAir, ConstraintLayout, DebugConstraintBuilder, Recorded,
     SymbolicAirBuilder, audit_air, get_all_symbolic_constraints, get_constraint_layout,
     get_max_constraint_degree, get_max_constraint_degree_extension, get_symbolic_constraints,
     get_symbolic_constraints_extension,
 };
+use air_fibonacci::Fibonacci;
+use air_field::{Field, RowMajorMatrix};
+use cases::words::{count_of, listed_elements};
+use cases::{Fault, Why};
 use std::alloc::Global;
 
 type Recorder<F> = SymbolicAirBuilder<F, F>;

@@ -30,7 +30,18 @@ fn show_roots<F: Field>(roots: &[ExprId<BaseLeaf<F>>], text: &mut String) -> Res
     Ok(())
 }
 
-// Adds the columns, cells, the cap and the weight.
+// Adds the labels, if there are some.
+fn show_labels(labels: &[String], text: &mut String) -> Result<(), Fault> {
+    if !labels.is_empty() {
+        text.push_str(" labels")?;
+    }
+    for label in labels {
+        write!(text, " {label:?}")?;
+    }
+    Ok(())
+}
+
+// Adds the columns, cells, the cap, the weight and the labels.
 fn show_rest<F: Number>(input: &FlatInput<F>, text: &mut String) -> Result<(), Fault> {
     text.push_str(" periodic")?;
     for column in &input.periodic {
@@ -45,7 +56,7 @@ fn show_rest<F: Number>(input: &FlatInput<F>, text: &mut String) -> Result<(), F
     }
     let weight = input.transition_weight;
     write!(text, " weight {weight}")?;
-    Ok(())
+    show_labels(&input.labels, text)
 }
 
 // Adds all that an input has, but for its expressions their number and those of the constraints.

@@ -1,13 +1,13 @@
 //! Audits: the recording, the report and the degree at once.
 
 use crate::recordings::{Recorder, show_base};
+use air_audit::{Audit, audit_air, audit_air_with_cap};
 use air_builder::{Air, BaseAir};
 use air_field::RowMajorMatrix;
 use air_report::{ConstraintFailure, DebugConstraintBuilder};
 use air_symbolic::{BaseLeaf, SymLeaf};
 use cases::Fault;
 use cases::words::Number;
-use p3_air::{Audit, audit_air, audit_air_with_cap};
 use std::alloc::Global;
 
 pub type RowBuilder<'a, F> = DebugConstraintBuilder<'a, F, F>;

@@ -2,13 +2,13 @@
 ghost use Rattle.std.specs.Prelude.{OnOk};
 
 use crate::recordings::{Recorder, show_both};
+use air_audit::finish_recording;
 use air_builder::{Air, AirBuilder, AirError, NamedExtensionBuilder, PermutationAirBuilder};
 use air_field::{Algebra, ExtensionField, Field, FromVar};
 use air_recording::{AirLayout, Recorded, SymbolicAirBuilder};
 use cases::Fault;
 use cases::words::{Number, element_of};
 use cases_airs::TableAir;
-use p3_air::finish_recording;
 use std::alloc::Global;
 
 // Asserts an AIR's constraints where a condition holds.

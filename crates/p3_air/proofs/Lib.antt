@@ -1,10 +1,2 @@
-pub mod AuditTheorem
-pub mod Uncapped
-pub mod RecordedRoots
-mod Numbering
-mod Planning
-mod Making
-mod Needed
-mod Roots
-mod Asserting
-mod Rows
+pub mod Numbered
+pub mod Recording

@@ -148,14 +148,20 @@ pub use Rattle.air_report.specs.declared.checks.report.ConstraintReport
 pub use Rattle.air_report.specs.declared.debug.failure.ConstraintFailure
 pub use Rattle.air_laws.specs.Numbers
 -- an author's words in one place; the audit theorem; AIRs that are recorded or read from lists
-pub mod Author
-pub mod Claims
-pub mod Theorem
-pub mod Audits
-pub mod RecordedAirs
+pub use Rattle.air_audit.specs.Author
+pub use Rattle.air_audit.specs.Claims
+pub use Rattle.air_audit.specs.Theorem
+pub use Rattle.air_audit.specs.Audits
+pub use Rattle.air_audit.specs.RecordedAirs
 pub use Rattle.air_builder.specs.Builders
-pub mod Plans
-pub mod Tables
-pub mod FlatAirs
-pub mod PermutationRows
-pub mod laws
+pub use Rattle.air_audit.specs.Plans
+pub use Rattle.air_audit.specs.Tables
+pub use Rattle.air_audit.specs.FlatAirs
+pub use Rattle.air_audit.specs.RootLabels
+pub use Rattle.air_audit.specs.PermutationRows
+pub use Rattle.air_audit.specs.laws
+-- what is written down in code alone, and what the AIR of it declares
+pub mod DraftTerms
+pub mod DraftEntries
+pub mod Drafts
+pub mod TraceRows

@@ -1,51 +1,33 @@
 //! The constraint crate: AIRs recorded as symbolic expressions, and evaluated on concrete rows.
 //!
-//! An AIR is written once, as values that are its constraints:
+//! An AIR is written in code alone, with ordinary operators on handles, and `into_air` makes the AIR of it:
 //!
-//!     struct CounterColumns {
-//!         bit: usize,
-//!         count: usize,
+//!     fn counter(alloc: Global) -> Result<FlatAir<BabyBear>, AirError> {
+//!         let c = Constraints::new(alloc, 2);
+//!         let (bit, count) = (c.current(0), c.current(1));
+//!         c.assert_bool(bit);
+//!         c.when_first_row().assert_zero(count);
+//!         c.when_transition().assert_eq(c.next(1), count + bit);
+//!         c.into_air()
 //!     }
-//!
-//!     const COLUMNS: CounterColumns = CounterColumns { bit: 0, count: 1 };
-//!
-//!     pub struct Counter {}
-//!
-//!     impl<F: Field> PlainAir<F> for Counter {
-//!         ghost plain = { λ _. (counter F.ring, 2, 0) };
-//!
-//!         fn width_and_public_values(&self) -> (usize, usize) {
-//!             (2, 0)
-//!         }
-//!     }
-//!
-//!     impl<AB: AirBuilder> PlainConstraints<AB> for Counter {
-//!         fn eval(&self, builder: &mut AB) -> Result<(), AirError> {
-//!             let CounterColumns { bit, count } = COLUMNS;
-//!             let rises = When(Transition, next(count).equals(current(count) + current(bit)));
-//!             let constraints = (Boolean(current(bit)), When(FirstRow, Zero(current(count))), rises);
-//!             assert_all(builder, &constraints)
-//!         }
-//!     }
-//!
-//! What it declares is a definition in its `specs`:
-//!
-//!     counter R =
-//!         boolean R.one (current 0) ++
-//!         when first_row (is_zero (current 1)) ++
-//!         when transition (next 1 ≐ current 1 ⊕ current 0)
 //!
 //! A trace of it is audited:
 //!
+//!     let air = counter(alloc)?;
 //!     let trace = trace_of_rows(alloc, &[[1, 0], [0, 1], [1, 1], [0, 2]])?;
-//!     let audit = audit_air(alloc, &Plain(Counter {}), &trace, &[], 0)?;
+//!     let audit = audit_air(alloc, &air, &trace, &[], 0)?;
 //!
-//! Where that is Ok, and the report lists nothing, each constraint that `Counter` declares is zero at each row.
+//! Where that is Ok, and the report lists nothing, each constraint of the AIR is zero at each row. [`print_audit`] prints
+//! what an audit found, and [`print_constraints`] the constraints as people read them.
+//!
+//! A call writes an entry of a [`Draft`], or a few. What AIR a draft makes is proved ([`Draft::into_air`]); that a call
+//! writes its own entries is tested, since no contract sees into the cell that the handles share.
 //!
 //! | to | call | its promise |
 //! |---|---|---|
-//! | write an AIR | [`author`], [`utils`], [`BaseAir`] | `eval` asserts just the declared list on each builder |
-//! | make a trace | [`trace_of_rows`], [`with_bits`], [`word_with_bits`] | the rows and numbers that were given |
+//! | write an AIR in code alone | [`Constraints`] | the AIR records what was written down |
+//! | write one that declares its list | [`author`], [`utils`], [`BaseAir`] | `eval` asserts just the declared list on each builder |
+//! | make a trace | [`trace_of_rows`], [`TraceRows`], [`with_bits`], [`word_with_bits`] | the rows and numbers that were given |
 //! | check it | [`check_constraints`], [`check_all_constraints`] | the first fault; each row and constraint not zero |
 //! | check a row | [`check_row_with_permutation`] | each constraint that isn't zero there, the extension's too |
 //! | record an AIR | [`get_all_symbolic_constraints`] | of each constraint its polynomial, at no greater degree |
@@ -58,121 +40,136 @@
 //! What users need of the crates below is passed on here. What differs at a call from Rust is in `CALLING.md`.
 #![tactic(auto)]
 
-pub mod audit;
-pub mod author;
-mod cells;
-mod flat;
-pub mod laws;
-mod permutation_rows;
-pub mod recorded_airs;
-pub mod symbolic;
-pub mod traces;
-pub mod utils;
+pub mod gadgets;
+pub mod handles;
+pub mod printing;
+pub mod rows;
+pub mod written;
 
-pub use air_builder::Air;
-pub use air_builder::AirBuilder;
-pub use air_builder::AirBuilderWithContext;
-pub use air_builder::AirError;
-pub use air_builder::AssertAll;
-pub use air_builder::AssertAllExt;
-pub use air_builder::AssertAllNamed;
-pub use air_builder::BaseAir;
-pub use air_builder::BoundaryEnd;
-pub use air_builder::BoundaryIoError;
-pub use air_builder::BoundaryPublic;
-pub use air_builder::Element;
-pub use air_builder::EvaluatedJoined;
-pub use air_builder::ExtensionBuilder;
-pub use air_builder::FilteredAirBuilder;
-pub use air_builder::Joined;
-pub use air_builder::Lazy;
-pub use air_builder::Name;
-pub use air_builder::NamedAirBuilder;
-pub use air_builder::NamedExtensionBuilder;
-pub use air_builder::Namespace;
-pub use air_builder::NamespaceExt;
-pub use air_builder::PassthroughNamedAirBuilder;
-pub use air_builder::PermutationAirBuilder;
-pub use air_builder::RowWindow;
-pub use air_builder::TwoRows;
-pub use air_builder::View;
-pub use air_builder::WindowAccess;
-pub use air_core::BaseEntry;
-pub use air_core::ExtEntry;
-pub use air_core::SymbolicVariable;
-pub use air_core::SymbolicVariableExt;
-pub use air_core::boundary;
-pub use air_field::Algebra;
-pub use air_field::BabyBear;
-pub use air_field::BinomialExtension;
-pub use air_field::BinomialExtensionField;
-pub use air_field::BinomialModulus;
-pub use air_field::DomainExtension;
-pub use air_field::ExtAlgebra;
-pub use air_field::ExtFieldRing;
-pub use air_field::ExtensionField;
-pub use air_field::Field;
-pub use air_field::FieldRing;
-pub use air_field::FromVar;
-pub use air_field::Goldilocks;
-pub use air_field::KoalaBear;
-pub use air_field::KoalaBearExtension;
-pub use air_field::MatrixError;
-pub use air_field::Mersenne31;
-pub use air_field::Modulus;
-pub use air_field::PrimeField;
-pub use air_field::PrimeField64;
-pub use air_field::Residue;
-pub use air_field::RingError;
-pub use air_field::RowMajorMatrix;
-pub use air_field::RowMajorMatrixView;
-pub use air_field::SelfExtension;
-pub use air_field::ViewPair;
-pub use air_gadgets::PairCol;
-pub use air_gadgets::VirtualPairCol;
-pub use air_recording::AirLayout;
-pub use air_recording::ConstraintLayout;
-pub use air_recording::Recorded;
-pub use air_recording::SymbolicAirBuilder;
-pub use air_recording::constraint_degree_from_poly_degree;
-pub use air_recording::get_all_symbolic_constraints;
-pub use air_recording::get_constraint_layout;
-pub use air_recording::get_max_constraint_degree;
-pub use air_recording::get_max_constraint_degree_extension;
-pub use air_recording::get_symbolic_constraints;
-pub use air_recording::get_symbolic_constraints_extension;
-pub use air_report::CheckError;
-pub use air_report::ConstraintFailure;
-pub use air_report::ConstraintReport;
-pub use air_report::DebugConstraintBuilder;
-pub use air_report::check_all_constraints;
-pub use air_report::check_constraints;
-pub use air_symbolic::BaseLeaf;
-pub use air_symbolic::Degrees;
-pub use air_symbolic::ExprId;
-pub use air_symbolic::ExprPool;
-pub use air_symbolic::ExtLeaf;
-pub use air_symbolic::LeafWeight;
-pub use air_symbolic::SymLeaf;
-pub use air_symbolic::SymbolicExpr;
-pub use air_symbolic::SymbolicExpression;
-pub use air_symbolic::SymbolicExpressionExt;
-pub use air_wire::FlatError;
-pub use air_wire::Spelled;
-pub use air_wire::WireLeaf;
-pub use air_wire::from_flat_value;
-pub use air_wire::to_flat_value;
-pub use audit::Audit;
-pub use audit::audit_air;
-pub use audit::audit_air_with_cap;
-pub use cells::with_bits;
-pub use cells::word_with_bits;
-pub use flat::flat_air::FlatAir;
-pub use flat::resolving::resolve;
-pub use flat::resolving::resolve_all;
-pub use permutation_rows::Permutation;
-pub use permutation_rows::check_row_with_permutation;
-pub use recorded_airs::finish_recording;
-pub use recorded_airs::record_these;
-pub use recorded_airs::recorded_air;
-pub use traces::trace_of_rows;
+pub use air_audit::Air;
+pub use air_audit::AirBuilder;
+pub use air_audit::AirBuilderWithContext;
+pub use air_audit::AirError;
+pub use air_audit::AirLayout;
+pub use air_audit::Algebra;
+pub use air_audit::AssertAll;
+pub use air_audit::AssertAllExt;
+pub use air_audit::AssertAllNamed;
+pub use air_audit::Audit;
+pub use air_audit::BabyBear;
+pub use air_audit::BaseAir;
+pub use air_audit::BaseEntry;
+pub use air_audit::BaseLeaf;
+pub use air_audit::BinomialExtension;
+pub use air_audit::BinomialExtensionField;
+pub use air_audit::BinomialModulus;
+pub use air_audit::BoundaryEnd;
+pub use air_audit::BoundaryIoError;
+pub use air_audit::BoundaryPublic;
+pub use air_audit::CheckError;
+pub use air_audit::ConstraintFailure;
+pub use air_audit::ConstraintLayout;
+pub use air_audit::ConstraintReport;
+pub use air_audit::DebugConstraintBuilder;
+pub use air_audit::Degrees;
+pub use air_audit::DomainExtension;
+pub use air_audit::Element;
+pub use air_audit::EvaluatedJoined;
+pub use air_audit::ExprId;
+pub use air_audit::ExprPool;
+pub use air_audit::ExtAlgebra;
+pub use air_audit::ExtEntry;
+pub use air_audit::ExtFieldRing;
+pub use air_audit::ExtLeaf;
+pub use air_audit::ExtensionBuilder;
+pub use air_audit::ExtensionField;
+pub use air_audit::Field;
+pub use air_audit::FieldRing;
+pub use air_audit::FilteredAirBuilder;
+pub use air_audit::FlatAir;
+pub use air_audit::FlatError;
+pub use air_audit::FromVar;
+pub use air_audit::Goldilocks;
+pub use air_audit::Joined;
+pub use air_audit::KoalaBear;
+pub use air_audit::KoalaBearExtension;
+pub use air_audit::Lazy;
+pub use air_audit::LeafWeight;
+pub use air_audit::MatrixError;
+pub use air_audit::Mersenne31;
+pub use air_audit::Modulus;
+pub use air_audit::Name;
+pub use air_audit::NamedAirBuilder;
+pub use air_audit::NamedExtensionBuilder;
+pub use air_audit::Namespace;
+pub use air_audit::NamespaceExt;
+pub use air_audit::PairCol;
+pub use air_audit::PassthroughNamedAirBuilder;
+pub use air_audit::Permutation;
+pub use air_audit::PermutationAirBuilder;
+pub use air_audit::PrimeField;
+pub use air_audit::PrimeField64;
+pub use air_audit::Recorded;
+pub use air_audit::Residue;
+pub use air_audit::RingError;
+pub use air_audit::RowMajorMatrix;
+pub use air_audit::RowMajorMatrixView;
+pub use air_audit::RowWindow;
+pub use air_audit::SelfExtension;
+pub use air_audit::Spelled;
+pub use air_audit::SymLeaf;
+pub use air_audit::SymbolicAirBuilder;
+pub use air_audit::SymbolicExpr;
+pub use air_audit::SymbolicExpression;
+pub use air_audit::SymbolicExpressionExt;
+pub use air_audit::SymbolicVariable;
+pub use air_audit::SymbolicVariableExt;
+pub use air_audit::TwoRows;
+pub use air_audit::View;
+pub use air_audit::ViewPair;
+pub use air_audit::VirtualPairCol;
+pub use air_audit::WindowAccess;
+pub use air_audit::WireLeaf;
+pub use air_audit::audit;
+pub use air_audit::audit_air;
+pub use air_audit::audit_air_with_cap;
+pub use air_audit::author;
+pub use air_audit::boundary;
+pub use air_audit::check_all_constraints;
+pub use air_audit::check_constraints;
+pub use air_audit::check_row_with_permutation;
+pub use air_audit::constraint_degree_from_poly_degree;
+pub use air_audit::finish_recording;
+pub use air_audit::from_flat_value;
+pub use air_audit::get_all_symbolic_constraints;
+pub use air_audit::get_constraint_layout;
+pub use air_audit::get_max_constraint_degree;
+pub use air_audit::get_max_constraint_degree_extension;
+pub use air_audit::get_symbolic_constraints;
+pub use air_audit::get_symbolic_constraints_extension;
+pub use air_audit::laws;
+pub use air_audit::record_these;
+pub use air_audit::recorded_air;
+pub use air_audit::recorded_airs;
+pub use air_audit::resolve;
+pub use air_audit::resolve_all;
+pub use air_audit::symbolic;
+pub use air_audit::to_flat_value;
+pub use air_audit::trace_of_rows;
+pub use air_audit::traces;
+pub use air_audit::utils;
+pub use air_audit::with_bits;
+pub use air_audit::word_with_bits;
+pub use handles::claims::Claims;
+pub use handles::columns::Column;
+pub use handles::columns::Columns;
+pub use handles::constraints::Constraints;
+pub use handles::expr::Expr;
+pub use handles::windows::Window;
+pub use printing::print_audit;
+pub use printing::print_constraints;
+pub use rows::TraceRows;
+pub use written::claim::Claim;
+pub use written::claim::Claimed;
+pub use written::draft::Draft;
+pub use written::step::Step;

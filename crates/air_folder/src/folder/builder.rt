@@ -4,7 +4,7 @@ ghost use Rattle.air_folder.specs.FolderRow.{StartsAt, accumulator_of};
 
 use crate::folder::ring::FolderRing;
 use crate::folder::row::{Row, Selectors};
-use p3_air::{ExtensionField, Field, RowWindow, ViewPair};
+use air_audit::{ExtensionField, Field, RowWindow, ViewPair};
 use std::marker::PhantomData;
 
 /// Evaluates constraints on one row whose values are of the extension `EF`, and folds them: after values v1 to vK the

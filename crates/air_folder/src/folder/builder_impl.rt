@@ -6,7 +6,7 @@ ghost use Rattle.air_folder.specs.FolderRow.{folder_row, FolderGrew};
 
 use crate::folder::builder::ConstraintFolder;
 use crate::folder::ring::FolderRing;
-use p3_air::{AirBuilder, AirError, ExtensionField, Field, RowWindow, WindowAccess};
+use air_audit::{AirBuilder, AirError, ExtensionField, Field, RowWindow, WindowAccess};
 
 impl<'a, F: Field, EF: ExtensionField<F>> AirBuilder for ConstraintFolder<'a, F, EF> {
     type F = F;

@@ -6,7 +6,7 @@ ghost use Rattle.air_folder.specs.FolderRow.{folder_row, folder_permutation};
 
 use crate::folder::builder::ConstraintFolder;
 use crate::folder::ring::FolderRing;
-use p3_air::{
+use air_audit::{
     AirBuilder, AirError, ExtensionBuilder, ExtensionField, Field, PermutationAirBuilder,
     RowWindow, WindowAccess,
 };

@@ -7,11 +7,11 @@ ghost use Rattle.air_builder.specs.laws.NamedFilters.{discarding_laws};
 ghost use Rattle.air_folder.specs.laws.Folder.{folder_laws};
 
 use crate::folder::builder::ConstraintFolder;
-use air_builder::{View, ViewOver};
-use p3_air::{
+use air_audit::{
     AirBuilder, AirBuilderWithContext, AirError, ExtensionBuilder, ExtensionField, Field, Name,
     NamedAirBuilder, NamedExtensionBuilder, PassthroughNamedAirBuilder,
 };
+use air_builder::{View, ViewOver};
 
 impl<'a, F: Field, EF: ExtensionField<F>> PassthroughNamedAirBuilder
     for ConstraintFolder<'a, F, EF> {}

@@ -6,7 +6,7 @@ ghost use Rattle.air_field.specs.laws.Algebra.{value_in_laws};
 ghost use Rattle.air_field.specs.laws.Extension.{extend-coefficients};
 ghost use Rattle.air_folder.specs.Folder.{HasValue, values_are_their_base};
 
-use p3_air::{Algebra, ExtAlgebra, ExtensionField, Field, FromVar, RingError};
+use air_audit::{Algebra, ExtAlgebra, ExtensionField, Field, FromVar, RingError};
 use std::marker::PhantomData;
 
 /// The extension as a ring over itself: base expressions are elements of the extension too. It keeps nothing and

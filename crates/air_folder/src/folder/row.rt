@@ -1,6 +1,6 @@
 //! The row that a folder stands at.
 
-use p3_air::RowWindow;
+use air_audit::RowWindow;
 
 /// The values of the three selectors at a row.
 #[derive(Drop)]

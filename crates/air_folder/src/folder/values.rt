@@ -3,7 +3,7 @@ ghost use Rattle.std.specs.Prelude.{◌≡◌};
 ghost use Rattle.air_folder.specs.FolderRow.{folder_row, StepsBy};
 
 use crate::folder::builder::ConstraintFolder;
-use p3_air::{ExtensionField, Field};
+use air_audit::{ExtensionField, Field};
 
 impl<'a, F: Field, EF: ExtensionField<F>> ConstraintFolder<'a, F, EF> {
     /// Folds one value more: what was folded before counts alpha times.

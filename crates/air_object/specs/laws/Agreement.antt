@@ -1,5 +1,7 @@
 -- Readers that find exactly what is spelt, and refuse with exactly the first fault.
-use Rattle.std.proofs.Common.{◌≡◌, ℕ, List, [], ◌∷◌, ◌++◌, append_assoc, ◌||◌, is_some, if◌then◌else◌, Option, Some, None, Result, Ok, Err, refl, sym, ap, subst, ◌∙◌, inl, inr}
+use Rattle.std.proofs.Common.{◌≡◌, ℕ, ◌<◌, ◌≤◌, Bool, true, false, List, [], ◌∷◌, ◌++◌, length, append_assoc, ◌||◌, is_some, if◌then◌else◌, Option, Some, None, Result, Ok, Err, refl, sym, ap, subst, ◌∙◌, inl, inr}
+use Rattle.std.specs.Prelude.{nat_lt}
+use Rattle.std.proofs.lemmas.Bool.{ltb-true, ltb-false, lt-ltb, le-ltb}
 use Rattle.std.proofs.lemmas.List.{append-nil}
 use Rattle.serde_json.specs.Data.{Data, Items, no_items, item}
 use Rattle.serde_json.specs.Find.{get, as_array}
@@ -7,8 +9,8 @@ use Rattle.air_wire.specs.declared.errors.FlatError.{FlatError}
 use Rattle.air_wire.specs.declared.errors.FlatError.TheVariants as faults
 use Rattle.air_wire.specs.Results.{◌>>=◌}
 use Rattle.air_wire.specs.laws.Readings.{ok_of, done_is, err_of, err_is, bind_ok, ok_or_found}
-use Rattle.air_object.specs.Objects.{Grammar, by_form, AllSpell, FirstElementFault, list_of, needed_member, optional_member, both_members, both_or_none}
-use Rattle.air_object.specs.Readers.{Reader, or_wrong_form, each_from, list_read, needed_read, or_absent, optional_read, both_read, if_either}
+use Rattle.air_object.specs.Objects.{Grammar, by_form, AllSpell, FirstElementFault, list_of, at_most, needed_member, optional_member, then_member, both_members, both_or_none}
+use Rattle.air_object.specs.Readers.{Reader, or_wrong_form, each_from, list_read, if_at_most, needed_read, or_absent, optional_read, then_read, both_read, if_either}
 
 pub record Agrees {X : Type 0} (g : Grammar X) (read : Reader X) : Type 0 where
   pub found : (d : Data) (x : X) → read d ≡ Ok x → g.spells d x
@@ -108,6 +110,43 @@ module _ {X : Type 0} (g : Grammar X) (read : Reader X) (agrees : Agrees g read)
     refused = list_refused;
   }
 
+module _ {X : Type 0} (n : ℕ) (g : Grammar (List X)) (read : Reader (List X)) (agrees : Agrees g read) where
+  -- by whether they are more
+  abbrev by_count : List X → Bool → Result (List X) FlatError
+  by_count xs more = if more then Err (faults.Shape 0) else Ok xs
+
+  few : (xs ys : List X) (more : Bool) → nat_lt n (length xs) ≡ more → by_count xs more ≡ Ok ys → (ys ≡ xs) × (length xs ≤ n)
+  few xs ys true is e = absurd cc
+  few xs ys false is e = (done_is (λ zs. zs ≡ xs) xs ys e refl, ltb-false n (length xs) is)
+
+  many : (xs : List X) (f : FlatError) (more : Bool) → nat_lt n (length xs) ≡ more → by_count xs more ≡ Err f → (n < length xs) × (f ≡ faults.Shape 0)
+  many xs f true is e = (ltb-true n (length xs) is, sym (err_is (faults.Shape 0) f e))
+  many xs f false is e = absurd cc
+
+  most_found : (d : Data) (xs : List X) → (read d >>= if_at_most n) ≡ Ok xs → (at_most n g).spells d xs
+  most_found d xs e =
+      let r = bind_ok (read d) (if_at_most n) xs e in
+      let both = few r.0 xs (nat_lt n (length r.0)) refl r.2 in
+      subst (λ ys. g.spells d ys × (length ys ≤ n)) (sym both.0) (agrees.found d r.0 r.1, both.1)
+
+  most_fault : (d : Data) (f : FlatError) (r : Result (List X) FlatError) → read d ≡ r → (r >>= if_at_most n) ≡ Err f → (at_most n g).fault d f
+  most_fault d f (Err k) is e = inl (agrees.fault d f (is ∙ ap (λ k. err_of k) (err_is k f e)))
+  most_fault d f (Ok xs) is e =
+      let both = many xs f (nat_lt n (length xs)) refl e in
+      inr (xs, agrees.found d xs is, both.0, both.1)
+
+  most_refused : (d : Data) (f : FlatError) → (at_most n g).fault d f → (read d >>= if_at_most n) ≡ Err f
+  most_refused d f (inl k) = ap (λ r. r >>= if_at_most n) (agrees.refused d f k)
+  most_refused d f (inr k) = ap (λ r. r >>= if_at_most n) (agrees.again d k.0 k.1) ∙ ap (by_count k.0) (lt-ltb n (length k.0) k.2) ∙ ap (λ g. err_of g) (sym k.3)
+
+  pub at_most_agrees : Agrees (at_most n g) (λ d. read d >>= if_at_most n)
+  at_most_agrees = record {
+    found = most_found;
+    again = λ d xs h. ap (λ r. r >>= if_at_most n) (agrees.again d xs h.0) ∙ ap (by_count xs) (le-ltb n (length xs) h.1);
+    fault = λ d f e. most_fault d f (read d) refl e;
+    refused = most_refused;
+  }
+
 -- ---- members
 
 module _ {X : Type 0} (name : List ℕ) (g : Grammar X) (read : Reader X) (agrees : Agrees g read) where
@@ -153,38 +192,42 @@ module _ {X : Type 0} (name : List ℕ) (g : Grammar X) (read : Reader X) (agree
       refused = λ d f h. ap (or_absent absent read) h.1 ∙ agrees.refused h.0 f h.2;
     }
 
-module _ {X Y : Type 0} (g : Grammar X) (read : Reader X) (agrees : Agrees g read) (h : Grammar Y) (next : Reader Y) (agree : Agrees h next) where
+module _ {X Y : Type 0} (g : Grammar X) (read : Reader X) (agrees : Agrees g read) (h : X → Grammar Y) (next : X → Reader Y) (agree : (x : X) → Agrees (h x) (next x)) where
   abbrev paired : X → Y → Result (X × Y) FlatError
   paired x y = Ok (x, y)
 
-  abbrev then_next : Data → Result X FlatError → Result (X × Y) FlatError
-  then_next d r = r >>= λ x. next d >>= λ y. paired x y
+  abbrev and_next : Data → Result X FlatError → Result (X × Y) FlatError
+  and_next d r = r >>= λ x. next x d >>= λ y. paired x y
 
-  both_found : (d : Data) (p : X × Y) → both_read read next d ≡ Ok p → (both_members g h).spells d p
-  both_found d p e =
-      let x = bind_ok (read d) (λ x. next d >>= λ y. paired x y) p e in
-      let y = bind_ok (next d) (λ y. paired x.0 y) p x.2 in
-      done_is (λ q. g.spells d q.0 × h.spells d q.1) (x.0, y.0) p y.2 (agrees.found d x.0 x.1, agree.found d y.0 y.1)
+  then_found : (d : Data) (p : X × Y) → then_read read next d ≡ Ok p → (then_member g h).spells d p
+  then_found d p e =
+      let x = bind_ok (read d) (λ x. next x d >>= λ y. paired x y) p e in
+      let y = bind_ok (next x.0 d) (λ y. paired x.0 y) p x.2 in
+      done_is (λ q. g.spells d q.0 × (h q.0).spells d q.1) (x.0, y.0) p y.2 (agrees.found d x.0 x.1, (agree x.0).found d y.0 y.1)
 
-  both_fault : (d : Data) (f : FlatError) (r : Result X FlatError) → read d ≡ r → then_next d r ≡ Err f → (both_members g h).fault d f
-  both_fault d f (Err k) is e = inl (agrees.fault d f (is ∙ ap (λ k. err_of k) (err_is k f e)))
-  both_fault d f (Ok x) is e = inr (x, agrees.found d x is, agree.fault d f (of_next (next d) e))
+  then_fault : (d : Data) (f : FlatError) (r : Result X FlatError) → read d ≡ r → and_next d r ≡ Err f → (then_member g h).fault d f
+  then_fault d f (Err k) is e = inl (agrees.fault d f (is ∙ ap (λ k. err_of k) (err_is k f e)))
+  then_fault d f (Ok x) is e = inr (x, agrees.found d x is, (agree x).fault d f (of_next (next x d) e))
     where
       of_next : (r : Result Y FlatError) → (r >>= λ y. paired x y) ≡ Err f → r ≡ Err f
       of_next (Ok y) e = absurd cc
       of_next (Err k) e = ap (λ k. err_of k) (err_is k f e)
 
-  both_refused : (d : Data) (f : FlatError) → (both_members g h).fault d f → both_read read next d ≡ Err f
-  both_refused d f (inl k) = ap (then_next d) (agrees.refused d f k)
-  both_refused d f (inr k) = ap (then_next d) (agrees.again d k.0 k.1) ∙ ap (λ (r : Result Y FlatError). r >>= λ y. paired k.0 y) (agree.refused d f k.2)
+  then_refused : (d : Data) (f : FlatError) → (then_member g h).fault d f → then_read read next d ≡ Err f
+  then_refused d f (inl k) = ap (and_next d) (agrees.refused d f k)
+  then_refused d f (inr k) = ap (and_next d) (agrees.again d k.0 k.1) ∙ ap (λ (r : Result Y FlatError). r >>= λ y. paired k.0 y) ((agree k.0).refused d f k.2)
 
-  pub both_agree : Agrees (both_members g h) (both_read read next)
-  both_agree = record {
-    found = both_found;
-    again = λ d p k. ap (then_next d) (agrees.again d p.0 k.0) ∙ ap (λ (r : Result Y FlatError). r >>= λ y. paired p.0 y) (agree.again d p.1 k.1);
-    fault = λ d f e. both_fault d f (read d) refl e;
-    refused = both_refused;
+  pub then_agrees : Agrees (then_member g h) (then_read read next)
+  then_agrees = record {
+    found = then_found;
+    again = λ d p k. ap (and_next d) (agrees.again d p.0 k.0) ∙ ap (λ (r : Result Y FlatError). r >>= λ y. paired p.0 y) ((agree p.0).again d p.1 k.1);
+    fault = λ d f e. then_fault d f (read d) refl e;
+    refused = then_refused;
   }
+
+pub both_agree : {X Y : Type 0} (g : Grammar X) (read : Reader X) → Agrees g read → (h : Grammar Y) (next : Reader Y) → Agrees h next
+    → Agrees (both_members g h) (both_read read next)
+both_agree g read agrees h next agree = then_agrees g read agrees (λ _. h) (λ _. next) (λ _. agree)
 
 -- ---- both members or none
 

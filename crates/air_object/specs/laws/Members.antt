@@ -1,7 +1,8 @@
 -- The members are read as they are spelt.
-use Rattle.std.proofs.Common.{◌≡◌, ℕ, Bool, true, false, List, [], Option, Some, None, Result, Ok, Err, if◌then◌else◌, codes, refl, sym, ap, ◌∙◌, inl, inr}
+use Rattle.std.proofs.Common.{◌≡◌, ℕ, Bool, true, false, List, [], length, Option, Some, None, Result, Ok, Err, if◌then◌else◌, codes, refl, sym, ap, ◌∙◌, inl, inr}
 use Rattle.std.proofs.lemmas.Bool.{ltb-false, le-ltb}
 use Rattle.std.specs.Prelude.{nat_lt}
+use Rattle.serde_json.specs.Find.{as_str}
 use Rattle.serde_json.specs.Data.{Data, null, boolean, number, unsigned, negative, float, string, array, object}
 use Rattle.air_field.specs.Modular.{Modular}
 use Rattle.air_wire.specs.BaseLeaves.{element_or, element_at, base_kind}
@@ -11,14 +12,14 @@ use Rattle.air_wire.specs.laws.Boundaries.{cell_laws}
 use Rattle.air_wire.specs.laws.Lists.{root_found, root_again, root_fault, root_fault_read}
 use Rattle.air_wire.specs.Parts.{as_whole_number}
 use Rattle.air_wire.specs.Results.{◌>>=◌}
-use Rattle.air_wire.specs.laws.Readings.{by_some, number_found, err_of, err_is}
+use Rattle.air_wire.specs.laws.Readings.{by_some, number_found, text_found, err_of, err_is}
 use Rattle.air_wire.specs.Spelling.{IsWholeNumber}
 use Rattle.air_wire.specs.declared.errors.FlatError.{FlatError}
 use Rattle.air_wire.specs.declared.errors.FlatError.TheVariants as faults
-use Rattle.air_object.specs.Objects.{list_of, needed_member, optional_member, both_or_none}
-use Rattle.air_object.specs.Members.{whole_number, ElementFault, element, constraint, boundary_cell, SpellsCap, cap, MemberValues, members}
-use Rattle.air_object.specs.Readers.{or_wrong_form, tree, trees, elements, columns, cell_read, cells, cap_in, width_member, elements_member, table_member, constraints_member, periodic_member, boundary_member, cap_member, weight_member, members_read, Reader, both_read}
-use Rattle.air_object.specs.laws.Agreement.{Agrees, by_form_agrees, list_agrees, needed_agrees, optional_agrees, both_agree, both_or_none_agrees, agrees_as}
+use Rattle.air_object.specs.Objects.{list_of, at_most, needed_member, optional_member, both_or_none}
+use Rattle.air_object.specs.Members.{whole_number, ElementFault, element, constraint, boundary_cell, SpellsCap, cap, label, OtherValues, constraint_count, MemberValues, other_members, members, labelled_constraints}
+use Rattle.air_object.specs.Readers.{or_wrong_form, list_read, tree, trees, elements, columns, cell_read, cells, label_read, labels, cap_in, width_member, elements_member, table_member, constraints_member, periodic_member, boundary_member, cap_member, weight_member, labels_member, labelled_read, members_read, Reader, then_read, both_read}
+use Rattle.air_object.specs.laws.Agreement.{Agrees, by_form_agrees, list_agrees, at_most_agrees, needed_agrees, optional_agrees, then_agrees, both_agree, both_or_none_agrees, agrees_as}
 
 whole_again : (d : Data) (n : ℕ) → IsWholeNumber n d → as_whole_number d ≡ Some n
 whole_again d n h = ap as_whole_number h
@@ -68,9 +69,20 @@ weight_agrees : Agrees (optional_member (codes "transition_weight") 0 whole_numb
 unfolding weight_member
 weight_agrees = optional_agrees (codes "transition_weight") whole_number (λ d. or_wrong_form (as_whole_number d)) whole_agrees 0
 
-module _ {O P Q R S T U V W : Type 0} where
-  abbrev in_a_row : Result O FlatError → Result P FlatError → Result Q FlatError → Result R FlatError → Result S FlatError → Result T FlatError → Result U FlatError → Result V FlatError → Result W FlatError → Result (O × (P × (Q × (R × (S × (T × (U × (V × W)))))))) FlatError
-  in_a_row o p q r s t u v w = do
+label_agrees : Agrees label label_read
+label_agrees = by_form_agrees (λ d text. d ≡ string text) as_str text_found (λ d text h. ap as_str h)
+
+labels_agree : (n : ℕ) → Agrees (at_most n (list_of label)) (labels n)
+unfolding labels
+labels_agree n = at_most_agrees n (list_of label) (list_read label_read) (list_agrees label label_read label_agrees)
+
+labels_member_agrees : (n : ℕ) → Agrees (optional_member (codes "labels") [] (at_most n (list_of label))) (labels_member n)
+unfolding labels_member
+labels_member_agrees n = optional_agrees (codes "labels") (at_most n (list_of label)) (labels n) (labels_agree n) []
+
+module _ {O P Q R S T U V W X : Type 0} where
+  abbrev in_a_row : Result O FlatError → Result P FlatError → Result Q FlatError → Result R FlatError → Result S FlatError → Result T FlatError → Result U FlatError → Result V FlatError → Result W FlatError → (S → Result X FlatError) → Result ((O × (P × (Q × (R × (S × (T × (U × (V × W)))))))) × X) FlatError
+  in_a_row o p q r s t u v w l = do
     h ← o
     x ← p
     y ← q
@@ -80,20 +92,21 @@ module _ {O P Q R S T U V W : Type 0} where
     c ← u
     e ← v
     g ← w
-    Ok (h, (x, (y, (z, (a, (b, (c, (e, g))))))))
+    i ← l a
+    Ok ((h, (x, (y, (z, (a, (b, (c, (e, g)))))))), i)
 
-  same_row : (d : Data) (o : Result O FlatError) (p : Result P FlatError) (q : Result Q FlatError) (r : Result R FlatError) (s : Result S FlatError) (t : Result T FlatError) (u : Result U FlatError) (v : Result V FlatError) (w : Result W FlatError)
-      → in_a_row o p q r s t u v w ≡ both_read (λ _. o) (both_read (λ _. p) (both_read (λ _. q) (both_read (λ _. r) (both_read (λ _. s) (both_read (λ _. t) (both_read (λ _. u) (both_read (λ _. v) (λ _. w)))))))) d
-  same_row d (Err f) p q r s t u v w = refl
-  same_row d (Ok h) (Err f) q r s t u v w = refl
-  same_row d (Ok h) (Ok x) (Err f) r s t u v w = refl
-  same_row d (Ok h) (Ok x) (Ok y) (Err f) s t u v w = refl
-  same_row d (Ok h) (Ok x) (Ok y) (Ok z) (Err f) t u v w = refl
-  same_row d (Ok h) (Ok x) (Ok y) (Ok z) (Ok a) (Err f) u v w = refl
-  same_row d (Ok h) (Ok x) (Ok y) (Ok z) (Ok a) (Ok b) (Err f) v w = refl
-  same_row d (Ok h) (Ok x) (Ok y) (Ok z) (Ok a) (Ok b) (Ok c) (Err f) w = refl
-  same_row d (Ok h) (Ok x) (Ok y) (Ok z) (Ok a) (Ok b) (Ok c) (Ok e) (Err f) = refl
-  same_row d (Ok h) (Ok x) (Ok y) (Ok z) (Ok a) (Ok b) (Ok c) (Ok e) (Ok g) = refl
+  same_row : (d : Data) (o : Result O FlatError) (p : Result P FlatError) (q : Result Q FlatError) (r : Result R FlatError) (s : Result S FlatError) (t : Result T FlatError) (u : Result U FlatError) (v : Result V FlatError) (w : Result W FlatError) (l : S → Result X FlatError)
+      → in_a_row o p q r s t u v w l ≡ then_read (both_read (λ _. o) (both_read (λ _. p) (both_read (λ _. q) (both_read (λ _. r) (both_read (λ _. s) (both_read (λ _. t) (both_read (λ _. u) (both_read (λ _. v) (λ _. w))))))))) (λ values _. l values.1.1.1.1.0) d
+  same_row d (Err f) p q r s t u v w l = refl
+  same_row d (Ok h) (Err f) q r s t u v w l = refl
+  same_row d (Ok h) (Ok x) (Err f) r s t u v w l = refl
+  same_row d (Ok h) (Ok x) (Ok y) (Err f) s t u v w l = refl
+  same_row d (Ok h) (Ok x) (Ok y) (Ok z) (Err f) t u v w l = refl
+  same_row d (Ok h) (Ok x) (Ok y) (Ok z) (Ok a) (Err f) u v w l = refl
+  same_row d (Ok h) (Ok x) (Ok y) (Ok z) (Ok a) (Ok b) (Err f) v w l = refl
+  same_row d (Ok h) (Ok x) (Ok y) (Ok z) (Ok a) (Ok b) (Ok c) (Err f) w l = refl
+  same_row d (Ok h) (Ok x) (Ok y) (Ok z) (Ok a) (Ok b) (Ok c) (Ok e) (Err f) l = refl
+  same_row d (Ok h) (Ok x) (Ok y) (Ok z) (Ok a) (Ok b) (Ok c) (Ok e) (Ok g) l = refl
 
 module _ {F : Type 0} {order : ℕ} (modular : Modular F order) where
   -- ---- elements
@@ -166,12 +179,15 @@ module _ {F : Type 0} {order : ℕ} (modular : Modular F order) where
   unfolding periodic_member
   periodic_agrees = optional_agrees (codes "periodic") (list_of (list_of (element modular))) (columns modular) columns_agree []
 
-  -- the readers in turn, each with all that follow it
-  abbrev in_turn : Reader (MemberValues F)
-  in_turn = both_read (width_member (codes "main_width")) (both_read (elements_member modular (codes "main")) (both_read (table_member modular) (both_read (elements_member modular (codes "public_values")) (both_read (constraints_member modular) (both_read (periodic_member modular) (both_read boundary_member (both_read cap_member weight_member)))))))
+  pub labelled_agree : Agrees (labelled_constraints modular) (labelled_read modular)
+  labelled_agree = then_agrees _ (constraints_member modular) constraints_agree _ (λ trees. labels_member (length trees)) (λ trees. labels_member_agrees (length trees))
 
-  turns_agree : Agrees (members modular) in_turn
-  turns_agree =
+  -- the readers in turn, each with all that follow it
+  abbrev others_in_turn : Reader (OtherValues F)
+  others_in_turn = both_read (width_member (codes "main_width")) (both_read (elements_member modular (codes "main")) (both_read (table_member modular) (both_read (elements_member modular (codes "public_values")) (both_read (constraints_member modular) (both_read (periodic_member modular) (both_read boundary_member (both_read cap_member weight_member)))))))
+
+  others_agree : Agrees (other_members modular) others_in_turn
+  others_agree =
       both_agree _ (width_member (codes "main_width")) (width_agrees (codes "main_width")) _ _
       (both_agree _ (elements_member modular (codes "main")) (numbers_agree (codes "main")) _ _
       (both_agree _ (table_member modular) table_agrees _ _
@@ -181,9 +197,17 @@ module _ {F : Type 0} {order : ℕ} (modular : Modular F order) where
       (both_agree _ boundary_member boundary_agrees _ _
       (both_agree _ cap_member cap_member_agrees _ weight_member weight_agrees)))))))
 
+  abbrev in_turn : Reader (MemberValues F)
+  in_turn = then_read others_in_turn (λ v. labels_member (constraint_count v))
+
+  turns_agree : Agrees (members modular) in_turn
+  turns_agree = then_agrees (other_members modular) others_in_turn others_agree _ (λ v. labels_member (constraint_count v)) (λ v. labels_member_agrees (constraint_count v))
+
   same_read : (d : Data) → members_read modular d ≡ in_turn d
   unfolding members_read
-  same_read d = same_row d (width_member (codes "main_width") d) (elements_member modular (codes "main") d) (table_member modular d) (elements_member modular (codes "public_values") d) (constraints_member modular d) (periodic_member modular d) (boundary_member d) (cap_member d) (weight_member d)
+  same_read d =
+      same_row d (width_member (codes "main_width") d) (elements_member modular (codes "main") d) (table_member modular d) (elements_member modular (codes "public_values") d) (constraints_member modular d) (periodic_member modular d) (boundary_member d) (cap_member d) (weight_member d)
+      (λ constraints. labels_member (length constraints) d)
 
   pub members_agree : Agrees (members modular) (members_read modular)
   members_agree = agrees_as (members modular) in_turn (members_read modular) same_read turns_agree

@@ -4,7 +4,7 @@
 
 use crate::tests::labels::{Asking, zero_asking, zero_ext_asking};
 use crate::tests::rows::{Element, Row, no_rows, root_times, row_with};
-use p3_air::{
+use air_audit::{
     AirBuilder, AirError, Algebra, AssertAll, AssertAllExt, AssertAllNamed, BabyBear,
     ExtensionBuilder, ExtensionField, Field, NamedAirBuilder, NamedExtensionBuilder, ViewPair,
 };

@@ -2,7 +2,7 @@
 //! proved far sooner than the same on a given one.)
 ghost use Rattle.std.specs.Prelude.{⊤};
 
-use p3_air::{
+use air_audit::{
     AirBuilder, AirError, Algebra, ExtensionBuilder, Lazy, Name, NamedAirBuilder,
     NamedExtensionBuilder, Namespace,
 };

@@ -2,7 +2,7 @@
 ghost use Rattle.std.specs.Prelude.{◌≡◌, IfOk};
 
 use crate::tests::rows::{Element, Row, no_rows, root_times, row_with};
-use p3_air::{
+use air_audit::{
     AirBuilder, AirBuilderWithContext, AirError, Algebra, BabyBear, ExtensionBuilder,
     ExtensionField, Field, FilteredAirBuilder, FromVar, PermutationAirBuilder, RowMajorMatrixView,
     ViewPair, WindowAccess,

@@ -2,12 +2,12 @@
 //! functions over any builder, and the builders are made over any fields: at given ones each call is dear to prove.
 use crate::tests::labels::{zero_asking, zero_ext_asking};
 use crate::tests::rows::{Element, root_times};
-use air_folder::ConstraintFolder;
-use p3_air::{
+use air_audit::{
     AirBuilder, AirError, AirLayout, Algebra, BabyBear, ExtAlgebra, ExtensionBuilder,
     ExtensionField, Field, NamedAirBuilder, NamedExtensionBuilder, RowMajorMatrixView,
     SymbolicAirBuilder, ViewPair,
 };
+use air_folder::ConstraintFolder;
 use std::alloc::Global;
 use std::cell::Cell;
 use std::test::Fail;

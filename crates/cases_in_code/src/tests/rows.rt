@@ -1,6 +1,6 @@
 //! A builder at a row, over any fields.
 
-use p3_air::{
+use air_audit::{
     BabyBear, BinomialExtensionField, DebugConstraintBuilder, ExtensionField, Field,
     RowMajorMatrixView, ViewPair,
 };

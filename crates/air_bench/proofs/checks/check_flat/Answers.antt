@@ -13,3 +13,9 @@ count_checked-requires-lives-A-Air-3 g c κs within a m = ⊑_static _ a (c.type
 
 pub count_checked-requires-lives-A-Air-4 : goal.count_checked-requires-lives-A-Air-4
 count_checked-requires-lives-A-Air-4 g c κs within a m = ⊑_static _ a (c.type_bounds.static-F a m)
+
+pub count_checked-requires-lives-A-Air-5 : goal.count_checked-requires-lives-A-Air-5
+count_checked-requires-lives-A-Air-5 g c κs within a m = ⊑_static _ a (c.type_bounds.static-F a m)
+
+pub count_checked-requires-lives-A-Air-6 : goal.count_checked-requires-lives-A-Air-6
+count_checked-requires-lives-A-Air-6 g c κs within a m = ⊑_static _ a (c.type_bounds.static-F a m)

@@ -7,13 +7,15 @@ pub returns-clause-refused : goal.returns-clause-refused
 returns-clause-refused g c =
     let made = c.in_ok-air.ensures in
     let tabled = c.with_table-air.ensures in
-    rw (tabled.pool, tabled.roots, tabled.width, tabled.num_public_values, tabled.preprocessed, tabled.periodic, tabled.cells, made.pool, made.roots, made.width, made.num_public_values, made.periodic, made.cells, c.width.ensures, c.len.ensures, ← c.deref.ensures.len, c.deref.ensures.value) at c.findings_of.ensures.refused
+    let labelled = c.with_labels-air.ensures in
+    rw (labelled.pool, labelled.roots, labelled.width, labelled.num_public_values, labelled.preprocessed, labelled.periodic, labelled.cells, tabled.pool, tabled.roots, tabled.width, tabled.num_public_values, tabled.preprocessed, tabled.periodic, tabled.cells, made.pool, made.roots, made.width, made.num_public_values, made.periodic, made.cells, c.width.ensures, c.len.ensures, ← c.deref.ensures.len, c.deref.ensures.value) at c.findings_of.ensures.refused
 
 pub returns-clause-found : goal.returns-clause-found
 returns-clause-found g c =
     let made = c.in_ok-air.ensures in
     let tabled = c.with_table-air.ensures in
-    rw (tabled.pool, tabled.roots, tabled.width, tabled.num_public_values, tabled.preprocessed, tabled.periodic, tabled.cells, made.pool, made.roots, made.width, made.num_public_values, made.periodic, made.cells, c.width.ensures, c.len.ensures, ← c.deref.ensures.len, c.deref.ensures.value) at c.findings_of.ensures.found
+    let labelled = c.with_labels-air.ensures in
+    rw (labelled.pool, labelled.roots, labelled.width, labelled.num_public_values, labelled.preprocessed, labelled.periodic, labelled.cells, tabled.pool, tabled.roots, tabled.width, tabled.num_public_values, tabled.preprocessed, tabled.periodic, tabled.cells, made.pool, made.roots, made.width, made.num_public_values, made.periodic, made.cells, c.width.ensures, c.len.ensures, ← c.deref.ensures.len, c.deref.ensures.value) at c.findings_of.ensures.found
 
 pub returns-in_err-air-clause-refused : goal.returns-in_err-air-clause-refused
 returns-in_err-air-clause-refused g c =
@@ -31,3 +33,9 @@ findings_of-requires-lives-A-Air-2-3 g c κs within = λ a m. ⊑_static _ a (c.
 
 pub findings_of-requires-lives-A-Air-2-4 : goal.findings_of-requires-lives-A-Air-2-4
 findings_of-requires-lives-A-Air-2-4 g c κs within = λ a m. ⊑_static _ a (c.type_bounds.static-F a m)
+
+pub findings_of-requires-lives-A-Air-2-5 : goal.findings_of-requires-lives-A-Air-2-5
+findings_of-requires-lives-A-Air-2-5 g c κs within = λ a m. ⊑_static _ a (c.type_bounds.static-F a m)
+
+pub findings_of-requires-lives-A-Air-2-6 : goal.findings_of-requires-lives-A-Air-2-6
+findings_of-requires-lives-A-Air-2-6 g c κs within = λ a m. ⊑_static _ a (c.type_bounds.static-F a m)

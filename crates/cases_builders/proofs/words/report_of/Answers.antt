@@ -13,3 +13,9 @@ check_all_constraints-requires-lives-A-Air-3 g c κs within a m = ⊑_static _ a
 
 pub check_all_constraints-requires-lives-A-Air-4 : goal.check_all_constraints-requires-lives-A-Air-4
 check_all_constraints-requires-lives-A-Air-4 g c κs within a m = ⊑_static _ a (c.type_bounds.static-F a m)
+
+pub check_all_constraints-requires-lives-A-Air-5 : goal.check_all_constraints-requires-lives-A-Air-5
+check_all_constraints-requires-lives-A-Air-5 g c κs within a m = ⊑_static _ a (c.type_bounds.static-F a m)
+
+pub check_all_constraints-requires-lives-A-Air-6 : goal.check_all_constraints-requires-lives-A-Air-6
+check_all_constraints-requires-lives-A-Air-6 g c κs within a m = ⊑_static _ a (c.type_bounds.static-F a m)

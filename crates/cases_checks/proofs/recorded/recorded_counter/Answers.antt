@@ -12,3 +12,9 @@ show_audit-requires-lives-A-Air-2-3 g c κs within = λ a m. ⊑_static _ a (c.t
 
 pub show_audit-requires-lives-A-Air-2-4 : goal.show_audit-requires-lives-A-Air-2-4
 show_audit-requires-lives-A-Air-2-4 g c κs within = λ a m. ⊑_static _ a (c.type_bounds.static-F a m)
+
+pub show_audit-requires-lives-A-Air-2-5 : goal.show_audit-requires-lives-A-Air-2-5
+show_audit-requires-lives-A-Air-2-5 g c κs within = λ a m. ⊑_static _ a (c.type_bounds.static-F a m)
+
+pub show_audit-requires-lives-A-Air-2-6 : goal.show_audit-requires-lives-A-Air-2-6
+show_audit-requires-lives-A-Air-2-6 g c κs within = λ a m. ⊑_static _ a (c.type_bounds.static-F a m)

@@ -1,0 +1,149 @@
+-- Making the expressions of numbers.
+use Rattle.std.proofs.Common.{◌≡◌, ◌<◌, ℕ, List, [], length, slice_get, Option, Some, Ok, Err, sym, ap, ap₂, subst, ◌∙◌, arith}
+use Rattle.air_field.specs.Term.{Leaf, main, Term, leaf_term, add_term, sub_term, neg_term, mul_term}
+use Rattle.air_core.specs.declared.errors.AirError.TheVariants.{RowOffset}
+use Rattle.air_symbolic.specs.Leaves.{Leaves}
+use Rattle.air_symbolic.specs.Nodes.{tree_of, IsNode, WellFormed}
+use Rattle.air_symbolic.specs.Trees.{term_of}
+use Rattle.air_symbolic.specs.declared.pools.expr.SymbolicExpr.{SymbolicExpr}
+use Rattle.air_symbolic.specs.declared.pools.expr.SymbolicExpr.TheVariants as node
+use Rattle.air_builder.specs.Builders.{MeansIn, BuilderView, RingLaws, BuilderLaws}
+use Rattle.air_builder.specs.laws.Filters.{means_kept}
+use Rattle.air_builder.specs.Refusals.{IsPastWindow, EachLeaf}
+use Rattle.air_author.specs.Expressions.{MakesTerm, AlwaysAfter}
+use Rattle.air_author.specs.laws.Each.{of_one}
+use Rattle.air_author.specs.Handing.{each_weaker, made_lasts}
+use Rattle.air_symbolic.specs.laws.Sharing.{found}
+use Rattle.air_audit.specs.declared.flat.step.Step.{Step}
+use Rattle.air_audit.specs.Plans.{number_at, IsPlaceOf, MakesPlace, StepMakes, column_of, IsColumn, IsSumOf, IsDifferenceOf, IsNegativeOf, IsProductOf}
+use Rattle.air_audit.specs.Tables.{IsMade, HasAt}
+
+-- what a table has at a place is what is read there
+pub read_is : {E : Type 0} (P : E → Type 0) (table : List E) (p : ℕ) (r : E) → HasAt P table p → slice_get table p ≡ Some r → P r
+read_is {E} P table p r (x, e, h) at = subst P (same (sym e ∙ at)) h
+  where
+    same : Some x ≡ Some r → x ≡ r
+    same e = cc
+
+column_term : {F : Type 0} (o c : ℕ) (t : Term F) → column_of t ≡ Some (o, c) → leaf_term (main o c) ≡ t
+column_term o c (leaf_term (main p i)) h = ap (λ q. leaf_term (main q.0 q.1)) (same h)
+  where
+    same : ◌≡◌ {A = Option (ℕ × ℕ)} (Some (p, i)) (Some (o, c)) → ◌≡◌ {A = ℕ × ℕ} (o, c) (p, i)
+    same e = cc
+column_term o c (leaf_term _) h = absurd (cc h)
+column_term o c _ h = absurd (cc h)
+
+-- the terms of nodes that steps make
+module _ {A F : Type 0} (l : Leaves A F) (ns : List (SymbolicExpr A)) (numbers : List ℕ) (k : ℕ) where
+  pub main_term : (i o c : ℕ) (n : SymbolicExpr A) → IsNode l ns i n → IsColumn l o c n → leaf_term (main o c) ≡ term_of l.term (tree_of ns i)
+  main_term i o c (node.Leaf a) is h = column_term o c (l.term a) h ∙ sym is.term
+  main_term i o c (node.Add x y d) is h = absurd h
+  main_term i o c (node.Sub x y d) is h = absurd h
+  main_term i o c (node.Neg x d) is h = absurd h
+  main_term i o c (node.Mul x y d) is h = absurd h
+
+  pub sum_term : (i p q : ℕ) (n : SymbolicExpr A) → IsNode l ns i n → IsSumOf (IsPlaceOf numbers k p) (IsPlaceOf numbers k q) n → add_term (term_of l.term (tree_of ns (number_at numbers p))) (term_of l.term (tree_of ns (number_at numbers q))) ≡ term_of l.term (tree_of ns i)
+  sum_term i p q (node.Leaf a) is h = absurd h
+  sum_term i p q (node.Add x y d) is h = sym (is.term ∙ ap₂ (λ u v. add_term (term_of l.term (tree_of ns u)) (term_of l.term (tree_of ns v))) h.0.1 h.1.1)
+  sum_term i p q (node.Sub x y d) is h = absurd h
+  sum_term i p q (node.Neg x d) is h = absurd h
+  sum_term i p q (node.Mul x y d) is h = absurd h
+
+  pub difference_term : (i p q : ℕ) (n : SymbolicExpr A) → IsNode l ns i n → IsDifferenceOf (IsPlaceOf numbers k p) (IsPlaceOf numbers k q) n → sub_term (term_of l.term (tree_of ns (number_at numbers p))) (term_of l.term (tree_of ns (number_at numbers q))) ≡ term_of l.term (tree_of ns i)
+  difference_term i p q (node.Leaf a) is h = absurd h
+  difference_term i p q (node.Add x y d) is h = absurd h
+  difference_term i p q (node.Sub x y d) is h = sym (is.term ∙ ap₂ (λ u v. sub_term (term_of l.term (tree_of ns u)) (term_of l.term (tree_of ns v))) h.0.1 h.1.1)
+  difference_term i p q (node.Neg x d) is h = absurd h
+  difference_term i p q (node.Mul x y d) is h = absurd h
+
+  pub negative_term : (i p : ℕ) (n : SymbolicExpr A) → IsNode l ns i n → IsNegativeOf (IsPlaceOf numbers k p) n → neg_term (term_of l.term (tree_of ns (number_at numbers p))) ≡ term_of l.term (tree_of ns i)
+  negative_term i p (node.Leaf a) is h = absurd h
+  negative_term i p (node.Add x y d) is h = absurd h
+  negative_term i p (node.Sub x y d) is h = absurd h
+  negative_term i p (node.Neg x d) is h = sym (is.term ∙ ap (λ u. neg_term (term_of l.term (tree_of ns u))) h.1)
+  negative_term i p (node.Mul x y d) is h = absurd h
+
+  pub product_term : (i p q : ℕ) (n : SymbolicExpr A) → IsNode l ns i n → IsProductOf (IsPlaceOf numbers k p) (IsPlaceOf numbers k q) n → mul_term (term_of l.term (tree_of ns (number_at numbers p))) (term_of l.term (tree_of ns (number_at numbers q))) ≡ term_of l.term (tree_of ns i)
+  product_term i p q (node.Leaf a) is h = absurd h
+  product_term i p q (node.Add x y d) is h = absurd h
+  product_term i p q (node.Sub x y d) is h = absurd h
+  product_term i p q (node.Neg x d) is h = absurd h
+  product_term i p q (node.Mul x y d) is h = sym (is.term ∙ ap₂ (λ u v. mul_term (term_of l.term (tree_of ns u)) (term_of l.term (tree_of ns v))) h.0.1 h.1.1)
+
+  -- the node that a step makes
+  pub place_made : WellFormed l ns → number_at numbers k < length ns → (s : Step) → MakesPlace l ns numbers k s → (n : SymbolicExpr A) × IsNode l ns (number_at numbers k) n × StepMakes l (IsPlaceOf numbers k) s n
+  place_made wf here s makes = let f : (n : SymbolicExpr A) × IsNode l ns (number_at numbers k) n = found l ns wf (number_at numbers k) here in (f.0, f.1, makes f.0 f.1)
+
+  -- the places of a step's operands are before it
+  pub sum_before : (p q : ℕ) (n : SymbolicExpr A) → IsSumOf (IsPlaceOf numbers k p) (IsPlaceOf numbers k q) n → (p < k) × (q < k)
+  sum_before p q (node.Leaf a) h = absurd h
+  sum_before p q (node.Add x y d) h = (h.0.0, h.1.0)
+  sum_before p q (node.Sub x y d) h = absurd h
+  sum_before p q (node.Neg x d) h = absurd h
+  sum_before p q (node.Mul x y d) h = absurd h
+
+  pub difference_before : (p q : ℕ) (n : SymbolicExpr A) → IsDifferenceOf (IsPlaceOf numbers k p) (IsPlaceOf numbers k q) n → (p < k) × (q < k)
+  difference_before p q (node.Leaf a) h = absurd h
+  difference_before p q (node.Add x y d) h = absurd h
+  difference_before p q (node.Sub x y d) h = (h.0.0, h.1.0)
+  difference_before p q (node.Neg x d) h = absurd h
+  difference_before p q (node.Mul x y d) h = absurd h
+
+  pub negative_before : (p : ℕ) (n : SymbolicExpr A) → IsNegativeOf (IsPlaceOf numbers k p) n → p < k
+  negative_before p (node.Leaf a) h = absurd h
+  negative_before p (node.Add x y d) h = absurd h
+  negative_before p (node.Sub x y d) h = absurd h
+  negative_before p (node.Neg x d) h = h.0
+  negative_before p (node.Mul x y d) h = absurd h
+
+  pub product_before : (p q : ℕ) (n : SymbolicExpr A) → IsProductOf (IsPlaceOf numbers k p) (IsPlaceOf numbers k q) n → (p < k) × (q < k)
+  product_before p q (node.Leaf a) h = absurd h
+  product_before p q (node.Add x y d) h = absurd h
+  product_before p q (node.Sub x y d) h = absurd h
+  product_before p q (node.Neg x d) h = absurd h
+  product_before p q (node.Mul x y d) h = (h.0.0, h.1.0)
+
+module _ {S R B F : Type 0} {view : BuilderView S R B F} (laws : BuilderLaws view) where
+  open view use {grew, missing, refuses}
+
+  -- what the table has is made already
+  pub made_already : {means : S → B → Term F → Type 0} (a : S) (t : Term F) (x : B) → IsMade means missing a t x → MakesTerm means grew missing refuses a a (Ok x) t
+  made_already a t x h = record { keeps = laws.same a; made = (h.meant, tt); there = of_one (EachLeaf (λ l. missing a l → ⊥)) t h.leaves; refused = tt }
+
+  -- no window has the row
+  pub past_window_refused : {E : Type 0} {means : S → E → Term F → Type 0} (a : S) (o : ℕ) (l : Leaf)
+      → IsPastWindow o l → MakesTerm {E = E} means grew missing refuses a a (Err (RowOffset o)) (leaf_term l)
+  past_window_refused a o l past = record {
+    keeps = laws.same a;
+    made = tt;
+    there = tt;
+    refused = λ ts p. laws.refuses_missing a (RowOffset o) l ts (laws.past_window a o l past) past (p 0 (leaf_term l) (omega arith));
+  }
+
+module _ {S R E F : Type 0} {view : BuilderView S R E F} (ring : RingLaws view) (laws : BuilderLaws view) where
+  open view use {kept, grew, missing, refuses}
+
+  -- what was made stays made
+  pub made_stays : (a b : S) (t : Term F) (x : E) → kept a b → IsMade (MeansIn view) missing a t x → IsMade (MeansIn view) missing b t x
+  made_stays a b t x k h = record {
+    meant = means_kept ring laws a b x t k h.meant;
+    leaves = each_weaker t (λ l n m. n (laws.missing_kept a b l k m)) h.leaves;
+  }
+
+  -- what was made is made
+  pub is_made : (a b : S) (t : Term F) (x : E) → MakesTerm (MeansIn view) grew missing refuses a b (Ok x) t → IsMade (MeansIn view) missing b t x
+  is_made a b t x h = made_lasts ring laws a b x t h b (laws.by_growth b b [] (laws.same b))
+
+  -- it was there before
+  pub there_before : (a b : S) (t : Term F) (x : E) → kept a b → IsMade (MeansIn view) missing b t x → EachLeaf (λ l. missing a l → ⊥) t
+  there_before a b t x k h = each_weaker t (λ l n m. n (laws.missing_stays a b l k m)) h.leaves
+
+  -- what a table has, it will have
+  pub at_lasts : (table : List E) (p : ℕ) (t : Term F) (a : S) → HasAt (IsMade (MeansIn view) missing a t) table p
+      → AlwaysAfter kept (λ b. HasAt (IsMade (MeansIn view) missing b t) table p) a
+  at_lasts table p t a h b k = (h.0, h.1, made_stays a b t h.0 k h.2)
+
+  pub both_last : (table : List E) (p q : ℕ) (t u : Term F) (a : S) → HasAt (IsMade (MeansIn view) missing a t) table p
+      → HasAt (IsMade (MeansIn view) missing a u) table q
+      → AlwaysAfter kept (λ b. HasAt (IsMade (MeansIn view) missing b t) table p × HasAt (IsMade (MeansIn view) missing b u) table q) a
+  both_last table p q t u a h i b k = (at_lasts table p t a h b k, at_lasts table q u a i b k)

@@ -1,0 +1,149 @@
+-- What roots need, and the table of expressions, one place after another.
+use Rattle.std.specs.List.{AllZip, Any, list_any}
+use Rattle.std.proofs.Common.{◌≡◌, ◌⊎◌, ◌≤◌, ◌||◌, ℕ, zero, suc, ◌+◌, ◌<◌, List, [], ◌∷◌, ◌++◌, length, get_or, slice_get, map, All, Bool, true, false, eqb, Some, inl, inr, refl, sym, subst, ap, ◌∙◌, arith, ⊎_elim}
+use Rattle.std.proofs.lemmas.List.{get_or_default, get_or_append_left, get_or_push, length_push}
+use Rattle.std.proofs.lemmas.List.Folds.{Any-from_list_any}
+use Rattle.std.proofs.lemmas.Slice.Zip.{AllZip-map}
+use Rattle.std.proofs.lemmas.Simd.{map-map}
+use Rattle.std.proofs.lemmas.Option.{slice_get-get_or}
+use Rattle.air_field.specs.Term.{Term}
+use Rattle.air_field.specs.Part.{Part, whole, in_add_left, in_add_right, in_sub_left, in_sub_right, in_neg, in_mul_left, in_mul_right}
+use Rattle.air_builder.specs.laws.Parts.{part_of_in}
+use Rattle.air_symbolic.specs.Leaves.{Leaves}
+use Rattle.air_symbolic.specs.Trees.{term_of}
+use Rattle.air_symbolic.specs.Nodes.{node_term, tree_of, IsNode, OperandsBelow, WellFormed}
+use Rattle.air_symbolic.specs.laws.Sharing.{found}
+use Rattle.air_symbolic.specs.declared.pools.expr.SymbolicExpr.{SymbolicExpr}
+use Rattle.air_symbolic.specs.declared.pools.expr.SymbolicExpr.TheVariants as node
+use Rattle.air_builder.specs.Assertion.{Assertion}
+use Rattle.air_builder.specs.Refusals.{PartOf}
+use Rattle.air_symbolic.specs.Reach.{IsOperand, ReachedFrom, root, operand}
+use Rattle.air_audit.specs.declared.flat.step.Step.{Step}
+use Rattle.air_audit.specs.Plans.{number_at, has_operand, some_has_operand, IsPlan}
+use Rattle.air_audit.specs.Tables.{TableMade}
+
+-- an operand's term is a part of the node's
+module _ {A F : Type 0} (f : A → Term F) (at : ℕ → Term F) where
+  same_part : (i x : ℕ) → i ≡ x → Part (at i) (at x)
+  same_part i x e = subst (λ k. Part (at i) (at k)) e whole
+
+  operand_part : (i : ℕ) (n : SymbolicExpr A) → IsOperand i n → Part (at i) (node_term f at n)
+  operand_part i (node.Leaf a) p = absurd p
+  operand_part i (node.Add x y d) (inl e) = in_add_left (same_part i x e)
+  operand_part i (node.Add x y d) (inr e) = in_add_right (same_part i y e)
+  operand_part i (node.Sub x y d) (inl e) = in_sub_left (same_part i x e)
+  operand_part i (node.Sub x y d) (inr e) = in_sub_right (same_part i y e)
+  operand_part i (node.Neg x d) e = in_neg (same_part i x e)
+  operand_part i (node.Mul x y d) (inl e) = in_mul_left (same_part i x e)
+  operand_part i (node.Mul x y d) (inr e) = in_mul_right (same_part i y e)
+
+eqb_true : (i x : ℕ) → eqb i x ≡ true → i ≡ x
+eqb_true i x e = grind (arith, e)
+
+either : (a b : Bool) → (a || b) ≡ true → (a ≡ true) ⊎ (b ≡ true)
+either true b e = inl refl
+either false b e = inr e
+
+not_true : false ≡ true → ⊥
+not_true e = cc
+
+either_operand : (i x y : ℕ) → (eqb i x || eqb i y) ≡ true → (i ≡ x) ⊎ (i ≡ y)
+either_operand i x y e = ⊎_elim (λ (a : eqb i x ≡ true). inl (eqb_true i x a)) (λ (b : eqb i y ≡ true). inr (eqb_true i y b)) (either (eqb i x) (eqb i y) e)
+
+is_operand : {A : Type 0} (i : ℕ) (n : SymbolicExpr A) → has_operand i n ≡ true → IsOperand i n
+is_operand i (node.Leaf a) e = not_true e
+is_operand i (node.Add x y d) e = either_operand i x y e
+is_operand i (node.Sub x y d) e = either_operand i x y e
+is_operand i (node.Neg x d) e = eqb_true i x e
+is_operand i (node.Mul x y d) e = either_operand i x y e
+
+operand_less : {A : Type 0} (i j : ℕ) (n : SymbolicExpr A) → IsOperand i n → OperandsBelow j n → i < j
+operand_less i j (node.Leaf a) is b = absurd is
+operand_less i j (node.Add x y d) (inl e) b = omega (arith, e, b.0)
+operand_less i j (node.Add x y d) (inr e) b = omega (arith, e, b.1)
+operand_less i j (node.Sub x y d) (inl e) b = omega (arith, e, b.0)
+operand_less i j (node.Sub x y d) (inr e) b = omega (arith, e, b.1)
+operand_less i j (node.Neg x d) e b = omega (arith, e, b)
+operand_less i j (node.Mul x y d) (inl e) b = omega (arith, e, b.0)
+operand_less i j (node.Mul x y d) (inr e) b = omega (arith, e, b.1)
+
+module _ {A F : Type 0} (l : Leaves A F) (ns : List (SymbolicExpr A)) where
+  -- a list that has the roots' terms as parts has those of all that they reach
+  reached_part : (roots : List ℕ) (ss : List (Assertion F)) → All (λ i. PartOf (term_of l.term (tree_of ns i)) ss) roots → (i : ℕ) → ReachedFrom l ns roots i → PartOf (term_of l.term (tree_of ns i)) ss
+  reached_part roots ss h i (root (k, lt, e)) = subst (λ j. PartOf (term_of l.term (tree_of ns j)) ss) e (h k i lt)
+  reached_part roots ss h i (operand {j = j} {n = n} r is p) =
+      part_of_in (term_of l.term (tree_of ns i)) (term_of l.term (tree_of ns j)) ss
+      (subst (Part (term_of l.term (tree_of ns i))) (sym is.term) (operand_part l.term (λ x. term_of l.term (tree_of ns x)) i n p))
+      (reached_part roots ss h j r)
+
+  module _ (wf : WellFormed l ns) (roots numbers : List ℕ) (steps : List Step) (places : List ℕ) (h : IsPlan l ns roots numbers steps places) where
+    equal_root : (i : ℕ) → Any (λ r. eqb i r ≡ true) roots → ReachedFrom l ns roots i
+    equal_root i (k, r, lt, is, e) = root (k, lt, at)
+      where
+        at : get_or roots k i ≡ i
+        at = subst (λ d. get_or roots k d ≡ d) (sym (eqb_true i r e)) is
+
+    -- an operand of a number's node is reached where that number is
+    of_operand : (m i : ℕ) → length ns ≤ i + suc m
+        → ((q : ℕ) → q < length numbers → length ns ≤ number_at numbers q + m → ReachedFrom l ns roots (number_at numbers q))
+        → Any (λ j. some_has_operand i (slice_get ns j) ≡ true) numbers → ReachedFrom l ns roots i
+    of_operand m i far earlier (q, j, q_in, is, e) =
+        let same : number_at numbers q ≡ j = get_or_default numbers q 0 j q_in ∙ is in
+        let here : j < length ns = subst (λ v. v < length ns) same (h.here q q_in) in
+        let f : (n : SymbolicExpr A) × IsNode l ns j n = found l ns wf j here in
+        let p : IsOperand i f.0 = is_operand i f.0 (subst (λ o. some_has_operand i o ≡ true) f.1.node e) in
+        let less = operand_less i j f.0 p f.1.below in
+        operand (subst (λ v. ReachedFrom l ns roots v) same (earlier q q_in (omega (arith, far, less, same)))) f.1 p
+
+    -- the roots reach each number
+    needed : (m k : ℕ) → k < length numbers → length ns ≤ number_at numbers k + m → ReachedFrom l ns roots (number_at numbers k)
+    needed zero k lt far = let here = h.here k lt in absurd (omega (arith, here, far))
+    needed (suc m) k lt far =
+        let i = number_at numbers k in
+        ⊎_elim
+        (λ (a : list_any (λ r. eqb i r) roots ≡ true). equal_root i (Any-from_list_any (λ r. eqb i r) roots a))
+        (λ (b : list_any (λ j. some_has_operand i (slice_get ns j)) numbers ≡ true). of_operand m i far (λ q q_in less. needed m q q_in less) (Any-from_list_any (λ j. some_has_operand i (slice_get ns j)) numbers b))
+        (either (list_any (λ r. eqb i r) roots) (list_any (λ j. some_has_operand i (slice_get ns j)) numbers) (h.used k lt))
+
+    -- a list that has the terms at the roots' places as parts has those of all numbers
+    pub number_part : (ss : List (Assertion F)) → All (λ i. PartOf (term_of l.term (tree_of ns i)) ss) roots → (k : ℕ) → k < length numbers → PartOf (term_of l.term (tree_of ns (number_at numbers k))) ss
+    number_part ss all k lt = reached_part roots ss all (number_at numbers k) (needed (length ns) k lt (omega arith))
+
+-- the roots are the numbers of their places
+pub roots_are : (numbers places roots : List ℕ) → AllZip (λ p i. i ≡ number_at numbers p) places roots → roots ≡ map (number_at numbers) places
+roots_are numbers places roots z = AllZip-map (number_at numbers) places roots z
+
+-- the terms of the roots are those of the numbers of their places
+pub planned_terms : {T : Type 0} (term : ℕ → T) (numbers places roots : List ℕ) → AllZip (λ p i. i ≡ number_at numbers p) places roots → map (λ p. term (number_at numbers p)) places ≡ map term roots
+planned_terms term numbers places roots z = sym (map-map term (number_at numbers) places) ∙ ap (map term) (sym (roots_are numbers places roots z))
+
+-- the same plan is one of the numbers of its roots' places
+pub plan_of_places : {A F : Type 0} (l : Leaves A F) (ns : List (SymbolicExpr A)) (roots numbers : List ℕ) (steps : List Step) (places : List ℕ) → IsPlan l ns roots numbers steps places → IsPlan l ns (map (number_at numbers) places) numbers steps places
+plan_of_places l ns roots numbers steps places h = subst (λ v. IsPlan l ns v numbers steps places) (roots_are numbers places roots h.stand) h
+
+-- a table gets one place more
+pub table_more : {E F : Type 0} (P Q : Term F → E → Type 0) (term : ℕ → Term F) (numbers : List ℕ) (table : List E) (k : ℕ) (x : E) → length table ≡ k → ((t : Term F) (y : E) → P t y → Q t y) → TableMade P term numbers table k → Q (term (number_at numbers k)) x → TableMade Q term numbers (table ++ x ∷ []) (k + 1)
+table_more {E} P Q term numbers table k x long f h new p below =
+    ⊎_elim
+    (λ (b : p < k).
+    let y = h p b in
+    (y.0, kept p y.0 (omega (arith, b, long)) ∙ y.1, f (term (number_at numbers p)) y.0 y.2))
+    (λ (e : p ≡ k). (x, last p e, subst (λ v. Q (term (number_at numbers v)) x) (sym e) new))
+    (before_or_at p k below)
+  where
+    before_or_at : (p k : ℕ) → p < k + 1 → (p < k) ⊎ (p ≡ k)
+    before_or_at p k below = grind (arith, below)
+
+    size : length (table ++ x ∷ []) ≡ length table + 1
+    size = length_push table x
+
+    kept : (p : ℕ) (d : E) → p < length table → slice_get (table ++ x ∷ []) p ≡ slice_get table p
+    kept p d lt =
+        slice_get-get_or (table ++ x ∷ []) p d (omega (arith, size, lt))
+        ∙ ap (λ y. Some y) (get_or_append_left table (x ∷ []) d p lt)
+        ∙ sym (slice_get-get_or table p d lt)
+
+    last : (p : ℕ) → p ≡ k → slice_get (table ++ x ∷ []) p ≡ Some x
+    last p e =
+        slice_get-get_or (table ++ x ∷ []) p x (omega (arith, size, long, e))
+        ∙ ap (λ y. Some y) (get_or_push table x x p (long ∙ sym e))

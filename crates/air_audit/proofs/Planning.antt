@@ -1,0 +1,191 @@
+-- The plan of roots.
+use Rattle.std.specs.List.{AllZip, list_any}
+use Rattle.std.proofs.Common.{slice_get, ◌≡◌, ◌⊎◌, ◌≤◌, ◌||◌, ℕ, zero, suc, ◌+◌, ◌<◌, List, [], ◌∷◌, ◌++◌, length, get_or, All, Bool, true, false, eqb, Option, None, Some, inl, inr, refl, sym, subst, ap, ◌∙◌, arith, ⊎_elim}
+use Rattle.std.proofs.lemmas.List.Folds.{list_any_at}
+use Rattle.std.proofs.Math.ListN.{get_or-eq_default}
+use Rattle.std.proofs.lemmas.List.{get_or_default, get_or_append_left, get_or_push}
+use Rattle.air_symbolic.specs.Leaves.{Leaves}
+use Rattle.air_symbolic.specs.Nodes.{IsNode, OperandsBelow}
+use Rattle.air_symbolic.specs.Reach.{EachOperand, IsOperand, Marked, Reached, ReachedFrom, root, operand}
+use Rattle.air_symbolic.specs.declared.pools.expr.SymbolicExpr.{SymbolicExpr}
+use Rattle.air_symbolic.specs.declared.pools.expr.SymbolicExpr.TheVariants as node
+use Rattle.air_audit.specs.declared.flat.step.Step.{Step}
+use Rattle.air_audit.specs.declared.flat.step.Step.TheVariants as step
+use Rattle.air_audit.specs.Plans.{number_at, IsPlaceOf, StepMakes, MakesPlace, AreSteps, has_operand, some_has_operand, IsUsed, IsPlan, HavePlaces}
+
+-- operands below k
+pub each_below : {A : Type 0} (P Q : ℕ → Type 0) (k : ℕ) (n : SymbolicExpr A) → ((i : ℕ) → i < k → P i → Q i) → OperandsBelow k n → EachOperand P n → EachOperand Q n
+each_below P Q k (node.Leaf a) f b h = tt
+each_below P Q k (node.Add x y d) f b h = (f x b.0 h.0, f y b.1 h.1)
+each_below P Q k (node.Sub x y d) f b h = (f x b.0 h.0, f y b.1 h.1)
+each_below P Q k (node.Neg x d) f b h = f x b h
+each_below P Q k (node.Mul x y d) f b h = (f x b.0 h.0, f y b.1 h.1)
+
+pub each_within : {A : Type 0} (k m : ℕ) (n : SymbolicExpr A) → k ≤ m → OperandsBelow k n → EachOperand (λ i. i < m) n
+each_within k m (node.Leaf a) le b = tt
+each_within k m (node.Add x y d) le b = (omega (arith, le, b.0), omega (arith, le, b.1))
+each_within k m (node.Sub x y d) le b = (omega (arith, le, b.0), omega (arith, le, b.1))
+each_within k m (node.Neg x d) le b = omega (arith, le, b)
+each_within k m (node.Mul x y d) le b = (omega (arith, le, b.0), omega (arith, le, b.1))
+
+-- what holds of each operand holds of one
+one_operand : {A : Type 0} (P : ℕ → Type 0) (i : ℕ) (n : SymbolicExpr A) → IsOperand i n → EachOperand P n → P i
+one_operand P i (node.Leaf a) is h = absurd is
+one_operand P i (node.Add x y d) (inl e) h = subst P (sym e) h.0
+one_operand P i (node.Add x y d) (inr e) h = subst P (sym e) h.1
+one_operand P i (node.Sub x y d) (inl e) h = subst P (sym e) h.0
+one_operand P i (node.Sub x y d) (inr e) h = subst P (sym e) h.1
+one_operand P i (node.Neg x d) e h = subst P (sym e) h
+one_operand P i (node.Mul x y d) (inl e) h = subst P (sym e) h.0
+one_operand P i (node.Mul x y d) (inr e) h = subst P (sym e) h.1
+
+-- a step whose places are those of the operands
+pub step_placed : {A F : Type 0} (l : Leaves A F) (P Q : ℕ → ℕ → Type 0) (R : ℕ → Type 0) (s : Step) (n : SymbolicExpr A) → ((p i : ℕ) → R i → P p i → Q p i) → EachOperand R n → StepMakes l P s n → StepMakes l Q s n
+step_placed l P Q R step.Leaf n f r h = h
+step_placed l P Q R (step.Current c) n f r h = h
+step_placed l P Q R (step.Next c) n f r h = h
+step_placed l P Q R (step.Add p q) (node.Leaf a) f r h = absurd h
+step_placed l P Q R (step.Add p q) (node.Add x y d) f r h = (f p x r.0 h.0, f q y r.1 h.1)
+step_placed l P Q R (step.Add p q) (node.Sub x y d) f r h = absurd h
+step_placed l P Q R (step.Add p q) (node.Neg x d) f r h = absurd h
+step_placed l P Q R (step.Add p q) (node.Mul x y d) f r h = absurd h
+step_placed l P Q R (step.Sub p q) (node.Leaf a) f r h = absurd h
+step_placed l P Q R (step.Sub p q) (node.Add x y d) f r h = absurd h
+step_placed l P Q R (step.Sub p q) (node.Sub x y d) f r h = (f p x r.0 h.0, f q y r.1 h.1)
+step_placed l P Q R (step.Sub p q) (node.Neg x d) f r h = absurd h
+step_placed l P Q R (step.Sub p q) (node.Mul x y d) f r h = absurd h
+step_placed l P Q R (step.Neg p) (node.Leaf a) f r h = absurd h
+step_placed l P Q R (step.Neg p) (node.Add x y d) f r h = absurd h
+step_placed l P Q R (step.Neg p) (node.Sub x y d) f r h = absurd h
+step_placed l P Q R (step.Neg p) (node.Neg x d) f r h = f p x r h
+step_placed l P Q R (step.Neg p) (node.Mul x y d) f r h = absurd h
+step_placed l P Q R (step.Mul p q) (node.Leaf a) f r h = absurd h
+step_placed l P Q R (step.Mul p q) (node.Add x y d) f r h = absurd h
+step_placed l P Q R (step.Mul p q) (node.Sub x y d) f r h = absurd h
+step_placed l P Q R (step.Mul p q) (node.Neg x d) f r h = absurd h
+step_placed l P Q R (step.Mul p q) (node.Mul x y d) f r h = (f p x r.0 h.0, f q y r.1 h.1)
+step_placed l P Q R (step.Gate p q) (node.Leaf a) f r h = absurd h
+step_placed l P Q R (step.Gate p q) (node.Add x y d) f r h = absurd h
+step_placed l P Q R (step.Gate p q) (node.Sub x y d) f r h = absurd h
+step_placed l P Q R (step.Gate p q) (node.Neg x d) f r h = absurd h
+step_placed l P Q R (step.Gate p q) (node.Mul x y d) f r h = (f p x r.0 h.0, f q y r.1 h.1)
+
+-- One step more makes the node of place k, whose operands stand before it.
+pub one_step_more : {A F : Type 0} (l : Leaves A F) (ns : List (SymbolicExpr A)) (numbers places : List ℕ) (k id : ℕ) (steps new : List Step) (s : Step) (n : SymbolicExpr A)
+    → new ≡ steps ++ s ∷ [] → length steps ≡ k → ((j : ℕ) → j < k → MakesPlace l ns numbers j (get_or steps j step.Leaf))
+    → k < length numbers → id ≡ get_or numbers k id → IsNode l ns id n
+    → ((m : SymbolicExpr A) → IsNode l ns (number_at numbers k) m → EachOperand (λ i. IsPlaceOf numbers k (get_or places i 0) i) m)
+    → StepMakes l (λ p i. p ≡ get_or places i 0) s n → (j : ℕ) → j < k + 1 → MakesPlace l ns numbers j (get_or new j step.Leaf)
+one_step_more l ns numbers places k id steps new s n pushed long before in_numbers at is operands made j below =
+    subst (λ x. MakesPlace l ns numbers j x) (sym (ap (λ xs. get_or xs j step.Leaf) pushed))
+    (⊎_elim
+    (λ (lt : j < k).
+    subst (λ x. MakesPlace l ns numbers j x) (sym (get_or_append_left steps (s ∷ []) step.Leaf j (omega (arith, lt, long)))) (before j lt))
+    (λ (last : j ≡ k).
+    subst (λ x. MakesPlace l ns numbers j x) (sym (get_or_push steps s step.Leaf j (long ∙ sym last)))
+    (subst (λ i. MakesPlace l ns numbers i s) (sym last) makes))
+    (before_or_at j k below))
+  where
+    before_or_at : (j k : ℕ) → j < k + 1 → (j < k) ⊎ (j ≡ k)
+    before_or_at j k b = grind (arith, b)
+
+    number : number_at numbers k ≡ id
+    number = get_or_default numbers k 0 id in_numbers ∙ sym at
+
+    makes : MakesPlace l ns numbers k s
+    makes m m_is =
+        let one : Some n ≡ Some m = sym is.node ∙ ap (slice_get ns) (sym number) ∙ m_is.node in
+        let same : n ≡ m = cc in
+        subst (StepMakes l (IsPlaceOf numbers k) s) same
+        (step_placed l (λ p i. p ≡ get_or places i 0) (IsPlaceOf numbers k) (λ i. IsPlaceOf numbers k (get_or places i 0) i) s n
+        (λ p i r e. subst (λ q. IsPlaceOf numbers k q i) (sym e) r)
+        (operands n (subst (λ v. IsNode l ns v n) (sym number) is)) made)
+
+eqb_same : (i x : ℕ) → i ≡ x → eqb i x ≡ true
+eqb_same i x e = grind (arith, e)
+
+or_left : (a b : Bool) → a ≡ true → (a || b) ≡ true
+or_left true b e = refl
+or_left false b e = cc
+
+or_right : (a b : Bool) → b ≡ true → (a || b) ≡ true
+or_right true b e = refl
+or_right false b e = e
+
+operand_found : {A : Type 0} (i : ℕ) (n : SymbolicExpr A) → IsOperand i n → has_operand i n ≡ true
+operand_found i (node.Leaf a) is = absurd is
+operand_found i (node.Add x y d) (inl e) = or_left (eqb i x) (eqb i y) (eqb_same i x e)
+operand_found i (node.Add x y d) (inr e) = or_right (eqb i x) (eqb i y) (eqb_same i y e)
+operand_found i (node.Sub x y d) (inl e) = or_left (eqb i x) (eqb i y) (eqb_same i x e)
+operand_found i (node.Sub x y d) (inr e) = or_right (eqb i x) (eqb i y) (eqb_same i y e)
+operand_found i (node.Neg x d) e = eqb_same i x e
+operand_found i (node.Mul x y d) (inl e) = or_left (eqb i x) (eqb i y) (eqb_same i x e)
+operand_found i (node.Mul x y d) (inr e) = or_right (eqb i x) (eqb i y) (eqb_same i y e)
+
+-- the roots' places
+roots_within : (marks : List (Option ℕ)) (numbers table places roots : List ℕ) → HavePlaces marks numbers table → All (λ i. Marked marks i) roots → AllZip (λ p i. p ≡ get_or table i 0) places roots → All (λ p. p < length numbers) places
+roots_within marks numbers table [] [] h m z = λ k d lt. absurd (omega (arith, lt))
+roots_within marks numbers table [] (i ∷ roots) h m z = absurd z
+roots_within marks numbers table (p ∷ places) [] h m z = absurd z
+roots_within marks numbers table (p ∷ places) (i ∷ roots) h m z = all_cons p places
+    (let at = h.placed i (m 0 i (omega arith)) in let here = z.0 in omega (arith, at.0, here))
+    (roots_within marks numbers table places roots h (λ k d lt. m (suc k) d (omega (arith, lt))) z.1)
+  where
+    all_cons : (p : ℕ) (places : List ℕ) → p < length numbers → All (λ q. q < length numbers) places → All (λ q. q < length numbers) (p ∷ places)
+    all_cons p places lt h zero d b = lt
+    all_cons p places lt h (suc k) d b = h k d (omega (arith, b))
+
+roots_placed : (marks : List (Option ℕ)) (numbers table places roots : List ℕ) → HavePlaces marks numbers table → All (λ i. Marked marks i) roots → AllZip (λ p i. p ≡ get_or table i 0) places roots → AllZip (λ p i. i ≡ number_at numbers p) places roots
+roots_placed marks numbers table [] [] h m z = tt
+roots_placed marks numbers table [] (i ∷ roots) h m z = absurd z
+roots_placed marks numbers table (p ∷ places) [] h m z = absurd z
+roots_placed marks numbers table (p ∷ places) (i ∷ roots) h m z = (
+  (h.placed i (m 0 i (omega arith))).1 ∙ ap (λ q. number_at numbers q) (sym z.0),
+  roots_placed marks numbers table places roots h (λ k d lt. m (suc k) d (omega (arith, lt))) z.1,
+)
+
+module _ {A F : Type 0} (l : Leaves A F) (ns : List (SymbolicExpr A)) (roots : List ℕ) (marks : List (Option ℕ)) (r : Reached l ns roots marks) where
+  -- what is marked has a place
+  pub marked_here : (i : ℕ) → Marked marks i → i < length ns
+  marked_here i m = ⊎_elim (λ (lt : i < length ns). lt) (λ (past : length ns ≤ i). absurd (nothing past)) (below_or_past i (length ns))
+    where
+      below_or_past : (i k : ℕ) → (i < k) ⊎ (k ≤ i)
+      below_or_past i k = grind arith
+
+      empty : None ≡ Some i → ⊥
+      empty e = cc
+
+      nothing : length ns ≤ i → ⊥
+      nothing past = empty (sym (get_or-eq_default marks None (omega (arith, past, r.places))) ∙ m)
+
+  reached_marked : (i : ℕ) → ReachedFrom l ns roots i → Marked marks i
+  reached_marked i (root (k, lt, e)) = subst (λ j. Marked marks j) e (r.roots_marked k i lt)
+  reached_marked i (operand {j = j} {n = n} f is p) = one_operand (λ k. Marked marks k) i n p (r.operands_marked j n (reached_marked j f) is)
+
+  module _ (numbers table : List ℕ) (h : HavePlaces marks numbers table) where
+    -- what is reached is needed
+    reached_used : (i : ℕ) → ReachedFrom l ns roots i → IsUsed ns roots numbers i
+    reached_used i (root (k, lt, e)) =
+        or_left (list_any (λ j. eqb i j) roots) (list_any (λ j. some_has_operand i (slice_get ns j)) numbers)
+        (list_any_at (λ j. eqb i j) roots k i lt (eqb_same i (get_or roots k i) (sym e)))
+    reached_used i (operand {j = j} {n = n} f is p) =
+        let at = h.placed j (reached_marked j f) in
+        let q = get_or table j 0 in
+        let found : some_has_operand i (slice_get ns j) ≡ true = ap (λ o. some_has_operand i o) is.node ∙ operand_found i n p in
+        or_right (list_any (λ j. eqb i j) roots) (list_any (λ j. some_has_operand i (slice_get ns j)) numbers)
+        (list_any_at (λ j. some_has_operand i (slice_get ns j)) numbers q 0 at.0 (subst (λ v. some_has_operand i (slice_get ns v) ≡ true) at.1 found))
+
+    pub numbers_here : All (λ i. i < length ns) numbers
+    numbers_here k d lt = marked_here (get_or numbers k d) (subst (λ i. Marked marks i) (same k d lt) (h.marked k lt))
+      where
+        same : (k d : ℕ) → k < length numbers → number_at numbers k ≡ get_or numbers k d
+        same k d lt = get_or_default numbers k 0 d lt
+
+    pub is_plan : (steps : List Step) (places : List ℕ) → AreSteps l ns numbers steps → AllZip (λ p i. p ≡ get_or table i 0) places roots → IsPlan l ns roots numbers steps places
+    is_plan steps places made z = record {
+      here = λ k lt. marked_here (number_at numbers k) (h.marked k lt);
+      made = made;
+      within = roots_within marks numbers table places roots h r.roots_marked z;
+      stand = roots_placed marks numbers table places roots h r.roots_marked z;
+      used = λ k lt. reached_used (number_at numbers k) (r.only_reached (number_at numbers k) (number_at numbers k) (h.marked k lt)).1;
+    }

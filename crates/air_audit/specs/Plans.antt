@@ -1,0 +1,101 @@
+-- How the expressions of roots are made, one after another.
+use Rattle.std.specs.List.{AllZip, list_any}
+use Rattle.std.specs.Prelude.{slice_get, ◌≡◌, ◌||◌, ℕ, ◌<◌, List, length, slice_index_or, All, Bool, false, Option, None, Some, ⊤, ◌==◌}
+use Rattle.air_field.specs.Term.{Term, leaf_term, main}
+use Rattle.air_symbolic.specs.Leaves.{Leaves}
+use Rattle.air_symbolic.specs.Nodes.{IsNode}
+use Rattle.air_symbolic.specs.Reach.{Marked}
+use Rattle.air_symbolic.specs.declared.pools.expr.SymbolicExpr.{SymbolicExpr}
+use Rattle.air_symbolic.specs.declared.pools.expr.SymbolicExpr.TheVariants as node
+use Rattle.air_audit.specs.declared.flat.step.Step.{Step}
+use Rattle.air_audit.specs.declared.flat.step.Step.TheVariants as step
+
+-- the number of a place
+abbrev pub number_at : List ℕ → ℕ → ℕ
+number_at numbers p = slice_index_or numbers p 0
+
+-- place p is before place k, and has number i
+abbrev pub IsPlaceOf : List ℕ → ℕ → ℕ → ℕ → Type 0
+IsPlaceOf numbers k p i = (p < k) × (i ≡ number_at numbers p)
+
+-- a leaf; and operations whose operands have these properties
+abbrev pub IsLeaf : {A : Type 0} → SymbolicExpr A → Type 0
+IsLeaf (node.Leaf a) = ⊤
+IsLeaf _ = ⊥
+
+-- the column of the main trace that a term is, behind its row's offset
+abbrev pub column_of : {F : Type 0} → Term F → Option (ℕ × ℕ)
+column_of (leaf_term (main o c)) = Some (o, c)
+column_of _ = None
+
+-- the leaf of a column of the main trace, on the row at this offset
+abbrev pub IsColumn : {A F : Type 0} → Leaves A F → ℕ → ℕ → SymbolicExpr A → Type 0
+IsColumn l o c (node.Leaf a) = column_of (l.term a) ≡ Some (o, c)
+IsColumn l o c _ = ⊥
+
+abbrev pub IsSumOf : {A : Type 0} → (ℕ → Type 0) → (ℕ → Type 0) → SymbolicExpr A → Type 0
+IsSumOf P Q (node.Add x y d) = P x × Q y
+IsSumOf P Q _ = ⊥
+
+abbrev pub IsDifferenceOf : {A : Type 0} → (ℕ → Type 0) → (ℕ → Type 0) → SymbolicExpr A → Type 0
+IsDifferenceOf P Q (node.Sub x y d) = P x × Q y
+IsDifferenceOf P Q _ = ⊥
+
+abbrev pub IsNegativeOf : {A : Type 0} → (ℕ → Type 0) → SymbolicExpr A → Type 0
+IsNegativeOf P (node.Neg x d) = P x
+IsNegativeOf P _ = ⊥
+
+abbrev pub IsProductOf : {A : Type 0} → (ℕ → Type 0) → (ℕ → Type 0) → SymbolicExpr A → Type 0
+IsProductOf P Q (node.Mul x y d) = P x × Q y
+IsProductOf P Q _ = ⊥
+
+-- the step makes the node: it is of the node's kind, and names its column, or the places of its operands
+abbrev pub StepMakes : {A F : Type 0} → Leaves A F → (ℕ → ℕ → Type 0) → Step → SymbolicExpr A → Type 0
+StepMakes l at step.Leaf n = IsLeaf n
+StepMakes l at (step.Current c) n = IsColumn l 0 c n
+StepMakes l at (step.Next c) n = IsColumn l 1 c n
+StepMakes l at (step.Add p q) n = IsSumOf (at p) (at q) n
+StepMakes l at (step.Sub p q) n = IsDifferenceOf (at p) (at q) n
+StepMakes l at (step.Neg p) n = IsNegativeOf (at p) n
+StepMakes l at (step.Mul p q) n = IsProductOf (at p) (at q) n
+StepMakes l at (step.Gate p q) n = IsProductOf (at p) (at q) n
+
+-- the step makes the node of place k's number, out of operands before it
+abbrev pub MakesPlace : {A F : Type 0} → Leaves A F → List (SymbolicExpr A) → List ℕ → ℕ → Step → Type 0
+MakesPlace {A} l ns numbers k s = (n : SymbolicExpr A) → IsNode l ns (number_at numbers k) n → StepMakes l (IsPlaceOf numbers k) s n
+
+-- for each number there is a step, which makes its node
+pub record AreSteps {A F : Type 0} (l : Leaves A F) (ns : List (SymbolicExpr A)) (numbers : List ℕ) (steps : List Step) : Type 0 where
+  pub long : length steps ≡ length numbers
+  pub makes : (k : ℕ) → k < length numbers → MakesPlace l ns numbers k (slice_index_or steps k step.Leaf)
+
+-- whether number i is an operand of the node
+abbrev pub has_operand : {A : Type 0} → ℕ → SymbolicExpr A → Bool
+has_operand i (node.Leaf a) = false
+has_operand i (node.Add x y d) = (i == x) || (i == y)
+has_operand i (node.Sub x y d) = (i == x) || (i == y)
+has_operand i (node.Neg x d) = i == x
+has_operand i (node.Mul x y d) = (i == x) || (i == y)
+
+abbrev pub some_has_operand : {A : Type 0} → ℕ → Option (SymbolicExpr A) → Bool
+some_has_operand i None = false
+some_has_operand i (Some n) = has_operand i n
+
+-- number i is a root, or an operand of the node of one of the numbers
+abbrev pub IsUsed : {A : Type 0} → List (SymbolicExpr A) → List ℕ → List ℕ → ℕ → Type 0
+IsUsed ns roots numbers i = (list_any (λ r. i == r) roots || list_any (λ j. some_has_operand i (slice_get ns j)) numbers) ≡ Bool.true
+
+-- The steps make, in order, the nodes of some numbers, each of which the roots need, and the roots stand at these places.
+pub record IsPlan {A F : Type 0} (l : Leaves A F) (ns : List (SymbolicExpr A)) (roots numbers : List ℕ) (steps : List Step) (places : List ℕ) : Type 0 where
+  pub here : (k : ℕ) → k < length numbers → number_at numbers k < length ns
+  pub made : AreSteps l ns numbers steps
+  pub within : All (λ p. p < length numbers) places
+  pub stand : AllZip (λ p i. i ≡ number_at numbers p) places roots
+  pub used : (k : ℕ) → k < length numbers → IsUsed ns roots numbers (number_at numbers k)
+
+-- Each marked number has a place, where it stands, and those that are less stand before it.
+pub record HavePlaces (marks : List (Option ℕ)) (numbers places : List ℕ) : Type 0 where
+  pub long : length places ≡ length marks
+  pub marked : (k : ℕ) → k < length numbers → Marked marks (number_at numbers k)
+  pub placed : (i : ℕ) → Marked marks i → IsPlaceOf numbers (length numbers) (slice_index_or places i 0) i
+  pub before : (k i : ℕ) → k < length numbers → i < number_at numbers k → Marked marks i → IsPlaceOf numbers k (slice_index_or places i 0) i

@@ -1,0 +1,61 @@
+-- The clauses on the degree say that it is the one inferred for the trace: they hold what `IsDegreeFor` does.
+use Rattle.std.proofs.Common.{◌≡◌, ℕ, zero, suc, ◌+◌, ◌-◌, ◌*◌, ◌<◌, ◌≤◌, ◌^◌, max, List, [], ◌∷◌, sym, subst, arith}
+use Rattle.std.proofs.Math.Nat.{max-eq_left, max-le, le-max_left, le-max_right, mul-le-mul_right}
+use Rattle.std.proofs.lemmas.Grind.{div_ceil_times}
+use Rattle.std.specs.Int.{div_ceil}
+use Rattle.air_field.specs.Term.{Leaf, Term}
+use Rattle.air_field.specs.Degree.{degree_by, cached_weight, transition_weight, trace_weight, greatest_degree, quotient_degree, inferred_degree}
+use Rattle.air_recording.specs.Bounds.{bound_of, DegreesWithin, IsDegreeFor}
+use Rattle.air_recording.specs.Inferred.{periods_of}
+use Rattle.air_audit.specs.Theorem.{Instance, row_count, domain, degree_in, BoundsDegrees, IsLeast}
+
+quotient_of : (k n : ℕ) → quotient_degree (suc k) n ≡ div_ceil k (max (n - 1) 1)
+quotient_of k n = Prim.grind arith
+
+-- the bound of a quotient's degree is no less than the degree of what is divided
+quotient_reaches : (p n : ℕ) → 2 ≤ n → p ≤ quotient_degree p n * (n - 1) + 1
+quotient_reaches zero n h = omega arith
+quotient_reaches (suc k) n h =
+    let m : max (n - 1) 1 ≡ n - 1 = max-eq_left (omega (arith, h)) in
+    let b = div_ceil_times k (n - 1) (omega (arith, h)) in
+    subst (λ x. suc k ≤ x * (n - 1) + 1) (sym (quotient_of k n)) (subst (λ x. suc k ≤ div_ceil k x * (n - 1) + 1) (sym m) (omega (arith, b.0)))
+
+inferred_bounds : {F : Type 0} (n : ℕ) (periods : List ℕ) (ts : List (Term F)) → 2 ≤ n → greatest_degree (trace_weight n periods) ts ≤ inferred_degree n periods ts * (n - 1) + 1
+inferred_bounds n [] ts h =
+    let p = greatest_degree (trace_weight n []) ts in
+    let q = quotient_degree p n in
+    omega (arith, quotient_reaches p n h, mul-le-mul_right (n - 1) (le-max_left q (greatest_degree cached_weight ts)))
+inferred_bounds n (x ∷ periods) ts h = quotient_reaches (greatest_degree (trace_weight n (x ∷ periods)) ts) n h
+
+-- the greatest degree bounds each, and is the least that does
+each_within : {F : Type 0} (w : Leaf → ℕ) (n : ℕ) (ts : List (Term F)) → greatest_degree w ts ≤ n → DegreesWithin w n ts
+each_within w n [] h k d b = absurd (omega arith)
+each_within w n (t ∷ ts) h zero d b = omega (arith, le-max_left (degree_by w t) (greatest_degree w ts))
+each_within w n (t ∷ ts) h (suc k) d b = each_within w n ts (omega (arith, h, le-max_right (degree_by w t) (greatest_degree w ts))) k d (omega arith)
+
+greatest_within_all : {F : Type 0} (w : Leaf → ℕ) (n : ℕ) (ts : List (Term F)) → DegreesWithin w n ts → greatest_degree w ts ≤ n
+greatest_within_all w n [] h = omega arith
+greatest_within_all w n (t ∷ ts) h = max-le (h 0 t (omega arith)) (greatest_within_all w n ts (λ k d b. h (suc k) d (omega arith)))
+
+module _ {F : Type 0} (x : Instance F) (ts : List (Term F)) (d : ℕ) where
+  -- what `audit_air` says of the degree, in its clauses `degree` and `least`
+  pub is_degree_for : (w : ℕ) → d ≡ degree_in w x ts → greatest_degree (domain w x).weight ts < 2 ^ 64
+      → (3 ≤ row_count x → IsLeast (BoundsDegrees (domain w x) ts) d)
+      → IsDegreeFor w (row_count x) (periods_of x.air.periodic) ts d
+  is_degree_for zero value fits least =
+      let n = row_count x in
+      let weight = trace_weight n (periods_of x.air.periodic) in
+      record {
+        value = value;
+        fits = fits;
+        within = λ two. each_within weight (bound_of d n) ts (subst (λ e. greatest_degree weight ts ≤ bound_of e n) (sym value) (inferred_bounds n (periods_of x.air.periodic) ts two));
+        least = λ three. (least three).least;
+      }
+  is_degree_for (suc w) value fits least =
+      let weight = transition_weight (suc w) in
+      record {
+        value = value;
+        fits = fits;
+        within = each_within weight d ts (omega (arith, value));
+        least = λ e within. subst (λ k. k ≤ e) (sym value) (greatest_within_all weight e ts within);
+      }

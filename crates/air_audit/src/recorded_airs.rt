@@ -1,0 +1,98 @@
+//! A recording as an AIR.
+ghost use Rattle.std.specs.Prelude.{◌≡◌, List, None, IfOk, IfErr};
+ghost use Rattle.air_symbolic.specs.BaseLeaves.{base_reads};
+ghost use Rattle.air_core.specs.declared.errors.AirError.{AirError};
+ghost use Rattle.air_builder.specs.Assertion.{Assertion};
+ghost use Rattle.air_builder.specs.Batches.{AssertedIn};
+ghost use Rattle.air_author.specs.Expressions.{AlwaysAfter};
+ghost use Rattle.air_recording.specs.Layouts.{first_past};
+ghost use Rattle.air_recording.specs.Recorded.{RecordsBase};
+ghost use Rattle.air_recording.specs.RecordedLists.{recorded_by, pool_of};
+ghost use Rattle.air_audit.specs.RecordedAirs.{zero_at_recorded, RecordedAirRefuses, RecordsBaseTerms};
+
+use crate::flat::flat_air::FlatAir;
+use air_author::{Constraint, assert_these};
+use air_builder::{AirBuilder, AirError, BaseAir, BoundaryPublic, View};
+use air_field::{ExtensionField, Field};
+use air_recording::{Recorded, SymbolicAirBuilder};
+use air_symbolic::ExprId;
+
+/// Asserts the constraints on a builder, which is ready for more afterwards, also where they are refused. Refused ones
+/// leave a beginning of them asserted, which isn't the whole. On a
+/// [`SymbolicAirBuilder`] they are recorded, and no AIR has to be written.
+pub fn record_these<AB: AirBuilder, C: Constraint<AB>>(
+    builder: &mut AB,
+    constraints: &C,
+) -> Result<(), AirError>
+    requires ready { AB.ready builder.old }
+    requires usable { AlwaysAfter AB.kept (C.usable constraints.now) builder.old }
+    ensures ready { AB.ready builder.new }
+    ensures asserted { AssertedIn ⟦<AB as View>⟧.view builder.old builder.new result
+        (C.asserts constraints.now (λ t. t) (λ t. t)) }
+{
+    assert_these(builder, constraints)
+}
+
+/// What was recorded on a builder that is ready, handed over with its pool, which is one over the base and over the
+/// extension.
+pub fn finish_recording<F: Field, EF: ExtensionField<F>>(
+    builder: SymbolicAirBuilder<F, EF>,
+) -> Recorded<F, EF>
+    requires { ⟦<SymbolicAirBuilder<F, EF> as AirBuilder>⟧.ready builder }
+    ensures pool { result.pool ≡ pool_of builder }
+    ensures base { result.base ≡ (recorded_by builder).base }
+    ensures ext { result.ext ≡ (recorded_by builder).ext }
+{
+    builder.into_recorded()
+}
+
+// The first of these numbers at or past the total.
+fn first_past<A: Copy>(numbers: &[ExprId<A>], total: usize) -> Option<ExprId<A>>
+    ensures { result ≡ first_past total numbers.now }
+{
+    numbers.iter().copied().find(|id| id.number() >= total)
+}
+
+/// The AIR that declares the recorded base constraints, in order: that each recorded term is zero. Its main trace has
+/// `width` columns. It has no preprocessed table until [`FlatAir::with_preprocessed`] gives it one: a column that a
+/// recorded term names and that no table has is refused by its name (`MissingEntry`), or at an offset past 1 with
+/// `RowOffset`, when the AIR is audited, or a row of it checked. Recorded extension constraints are left out.
+///
+/// Of what was recorded of an AIR with its base constraints nothing but memory can be wanting, and the declared list
+/// then records these. Of numbers that were put together otherwise the first that isn't in the base pool is refused
+/// (`IndexPastTotal`). What the numbers reach is looked up here, once, which takes memory (`Memory`).
+pub fn recorded_air<F: Field, EF: ExtensionField<F>>(
+    recorded: Recorded<F, EF>,
+    width: usize,
+    num_public_values: usize,
+    periodic: Vec<Vec<F>>,
+    cells: Vec<BoundaryPublic>,
+) -> Result<FlatAir<F>, AirError>
+    ensures declared { IfOk result (λ a.
+        (⟦<FlatAir<F> as BaseAir<F>>⟧.declaration a).constraints ≡ zero_at_recorded recorded) }
+    ensures width { IfOk result (λ a. a.width ≡ width) }
+    ensures num_public_values { IfOk result (λ a. a.num_public_values ≡ num_public_values) }
+    ensures preprocessed { IfOk result (λ a. a.preprocessed ≡ None) }
+    ensures periodic { IfOk result (λ a. a.periodic ≡ periodic) }
+    ensures cells { IfOk result (λ a. a.cells ≡ cells) }
+    ensures of_an_air { (declared : List (Assertion F)) →
+        RecordsBase F.ring EF.over base_reads recorded.pool.base recorded.base declared →
+        IfOk result (λ a.
+        RecordsBaseTerms F.ring (⟦<FlatAir<F> as BaseAir<F>>⟧.declaration a).constraints declared) }
+    ensures only_memory { (declared : List (Assertion F)) →
+        RecordsBase F.ring EF.over base_reads recorded.pool.base recorded.base declared →
+        IfErr result (λ e. e ≡ AirError.Memory) }
+    ensures refused { IfErr result (RecordedAirRefuses recorded) }
+{
+    let Recorded { pool, base, .. } = recorded;
+    let pool = pool.into_base();
+    let total = pool.len();
+    if let Some(id) = first_past(&base, total) {
+        return Err(AirError::IndexPastTotal {
+            index: id.number(),
+            total,
+        });
+    }
+    let air = FlatAir::new(pool, base, width, num_public_values, periodic, cells)?;
+    Ok(air)
+}

@@ -1,0 +1,65 @@
+//! A memory log, sorted by address and then by clock: a read answers what was written last.
+#![tactic(auto)]
+
+use p3_air::boundary::BoundaryEnd;
+use p3_air::{AirError, BabyBear, Constraints, Field, FlatAir, print_audit, trace_of_rows};
+use std::alloc::Global;
+use std::io;
+
+/// A row is an access: a write or a read of a value at an address, at a time. Within an address the clock rises by 1 to
+/// 256, and so does the address from one to the next.
+fn memory<F: Field>(alloc: Global) -> Result<FlatAir<F>, AirError> {
+    let c = Constraints::new(alloc, 0)
+        .with_public_values(1)
+        .with_periodic_numbers(&[0, 1])
+        .with_boundary(2, BoundaryEnd::First, 0);
+    let (address, clock, value) = (c.column(), c.column(), c.column());
+    let (is_write, same, parity) = (c.column(), c.column(), c.column());
+    let gap_bits = c.columns(8);
+
+    c.named("write is a bit").assert_bool(is_write.current());
+    c.named("same is a bit").assert_bool(same.current());
+    c.named("parity").assert_eq(parity.current(), c.periodic(0));
+    c.named("gap").assert_bools_in(gap_bits);
+    let gap = gap_bits.pack();
+
+    let step = c.when_transition().named("step");
+    let stays = step.when(same.current());
+    stays
+        .named("address stays")
+        .assert_eq(address.next(), address.current());
+    stays
+        .named("clock rises")
+        .assert_eq(clock.next(), clock.current() + gap + 1);
+    let is_read = 1 - is_write.next();
+    let read = stays.when(is_read).named("read");
+    read.assert_eq(value.next(), value.current());
+    let moves = step.when(1 - same.current());
+    moves
+        .named("address rises")
+        .assert_eq(address.next(), address.current() + gap + 1);
+    moves
+        .named("a new address is written")
+        .assert_one(is_write.next());
+    c.when_last_row().named("end").assert_zero(same.current());
+    c.into_air()
+}
+
+fn main(rt: HostRuntime) -> io::Result<()> {
+    let alloc = rt.alloc();
+    for read in [5, 6] {
+        let rows = [
+            [7, 1, 5, 1, 1, 0, 1, 0, 0, 0, 0, 0, 0, 0],
+            [7, 3, read, 0, 0, 1, 1, 0, 0, 0, 0, 0, 0, 0],
+            [9, 2, 8, 1, 1, 0, 0, 1, 0, 0, 0, 0, 0, 0],
+            [9, 5, 8, 0, 0, 1, 0, 0, 0, 0, 0, 0, 0, 0],
+        ];
+        print_audit(
+            &rt,
+            memory(alloc),
+            trace_of_rows(alloc, &rows),
+            &[BabyBear::new(5)],
+        )?;
+    }
+    Ok(())
+}

@@ -1,0 +1,145 @@
+//! Poseidon2 as an AIR: a row is a permutation.
+use crate::constants::{DIAGONAL, EXTERNAL, INTERNAL};
+use p3_air::{AirError, BabyBear, Claims, Constraints, Expr, FlatAir};
+use std::alloc::Global;
+
+type Element<'a> = Expr<'a, BabyBear>;
+
+type Four<'a> = [Element<'a>; 4];
+
+type State<'a> = (Four<'a>, Four<'a>, Four<'a>, Four<'a>);
+
+fn add_four<'a>(x: Four<'a>, y: Four<'a>) -> Four<'a> {
+    let [a, b, c, d] = x;
+    let [e, f, g, h] = y;
+    [a + e, b + f, c + g, d + h]
+}
+
+fn sum_of<'a>(x: Four<'a>) -> Element<'a> {
+    let [a, b, c, d] = x;
+    a + b + c + d
+}
+
+// The matrix of four elements.
+fn mix_four<'a>(x: Four<'a>) -> Four<'a> {
+    let sum = sum_of(x);
+    let [a, b, c, d] = x;
+    [
+        sum + a + b.double(),
+        sum + b + c.double(),
+        sum + c + d.double(),
+        sum + d + a.double(),
+    ]
+}
+
+/// The matrix of the external rounds.
+fn external_layer<'a>(state: State<'a>) -> State<'a> {
+    let (w, x, y, z) = state;
+    let (w, x, y, z) = (mix_four(w), mix_four(x), mix_four(y), mix_four(z));
+    let sums = add_four(add_four(w, x), add_four(y, z));
+    (
+        add_four(w, sums),
+        add_four(x, sums),
+        add_four(y, sums),
+        add_four(z, sums),
+    )
+}
+
+// Each element times its factor, and the sum added.
+fn scaled<'a>(sum: Element<'a>, x: Four<'a>, factors: [u64; 4]) -> Four<'a> {
+    let [a, b, c, d] = x;
+    [
+        sum + a * factors[0],
+        sum + b * factors[1],
+        sum + c * factors[2],
+        sum + d * factors[3],
+    ]
+}
+
+/// The matrix of the internal rounds.
+fn internal_layer<'a>(state: State<'a>) -> State<'a> {
+    let (w, x, y, z) = state;
+    let sum = sum_of(w) + sum_of(x) + sum_of(y) + sum_of(z);
+    (
+        scaled(sum, w, DIAGONAL[0]),
+        scaled(sum, x, DIAGONAL[1]),
+        scaled(sum, y, DIAGONAL[2]),
+        scaled(sum, z, DIAGONAL[3]),
+    )
+}
+
+/// The seventh power of x, which one column holds, and another the cube.
+fn s_box<'a>(c: &'a Constraints<BabyBear>, x: Element<'a>) -> Element<'a> {
+    let cube = c.column().current();
+    let seventh = c.column().current();
+    c.assert_eq(cube, x.cube());
+    c.assert_eq(seventh, cube.square() * x);
+    seventh
+}
+
+fn s_boxes<'a>(c: &'a Constraints<BabyBear>, x: Four<'a>, constants: [u64; 4]) -> Four<'a> {
+    let [x0, x1, x2, x3] = x;
+    [
+        s_box(c, x0 + constants[0]),
+        s_box(c, x1 + constants[1]),
+        s_box(c, x2 + constants[2]),
+        s_box(c, x3 + constants[3]),
+    ]
+}
+
+fn external_round<'a>(
+    c: &'a Constraints<BabyBear>,
+    state: State<'a>,
+    constants: &[[u64; 4]; 4],
+) -> State<'a> {
+    let (w, x, y, z) = state;
+    external_layer((
+        s_boxes(c, w, constants[0]),
+        s_boxes(c, x, constants[1]),
+        s_boxes(c, y, constants[2]),
+        s_boxes(c, z, constants[3]),
+    ))
+}
+
+fn internal_round<'a>(c: &'a Constraints<BabyBear>, state: State<'a>, constant: u64) -> State<'a> {
+    let (w, x, y, z) = state;
+    let [w0, w1, w2, w3] = w;
+    internal_layer(([s_box(c, w0 + constant), w1, w2, w3], x, y, z))
+}
+
+// Four more columns.
+fn four<'a>(c: &'a Constraints<BabyBear>) -> Four<'a> {
+    let x = c.columns(4);
+    [x.current(0), x.current(1), x.current(2), x.current(3)]
+}
+
+// Four more columns hold the elements.
+fn assert_in_columns<'a>(
+    c: &'a Constraints<BabyBear>,
+    claims: Claims<'a, BabyBear>,
+    elements: Four<'a>,
+) {
+    claims.assert_eq_arrays(&four(c), &elements);
+}
+
+/// A row holds the permutation's input, the powers of each round, and its output: 314 columns, of degree 3.
+pub fn poseidon(alloc: Global) -> Result<FlatAir<BabyBear>, AirError> {
+    let c = Constraints::new(alloc, 0);
+    let mut state = external_layer((four(&c), four(&c), four(&c), four(&c)));
+    for constants in &EXTERNAL[..4] {
+        state = external_round(&c, state, constants);
+    }
+    for constant in &INTERNAL {
+        state = internal_round(&c, state, *constant);
+    }
+    for constants in &EXTERNAL[4..] {
+        state = external_round(&c, state, constants);
+    }
+    let (w, x, y, z) = state;
+    let output = c.named("output");
+    assert_in_columns(&c, output.at(0), w);
+    assert_in_columns(&c, output.at(1), x);
+    assert_in_columns(&c, output.at(2), y);
+    assert_in_columns(&c, output.at(3), z);
+    c.into_air()
+}

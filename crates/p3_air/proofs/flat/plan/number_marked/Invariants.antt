@@ -1,6 +1,0 @@
-use Rattle.p3_air.proofs.Numbering.{NumberedTo}
-use Rattle.p3_air.proofs.flat.plan.number_marked.Given as goal
-
--- what is marked so far is numbered
-abbrev pub invariant-loop-mark : goal.invariant-loop-mark
-invariant-loop-mark g l = NumberedTo l.marks l.numbers.items l.places.items l.mark-index

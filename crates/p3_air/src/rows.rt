@@ -1,0 +1,93 @@
+//! Traces that are made row by row.
+ghost use Rattle.std.specs.Prelude.{◌≡◌, ◌++◌, [], length, map, Ok, OnOk, OnErr, IfOk, IfErr};
+ghost use Rattle.air_field.specs.Matrix.{matrix_of};
+ghost use Rattle.air_field.specs.Ring.{image};
+ghost use Rattle.p3_air.specs.TraceRows.{RowRefuses};
+
+use air_core::AirError;
+use air_field::{Field, RowMajorMatrix};
+use std::alloc::{AllocError, Global};
+
+/// A trace in the making: a call adds a row.
+#[derive(Drop)]
+pub struct TraceRows<F: Field> {
+    /// The number of columns.
+    pub width: usize,
+    /// The cells, row after row.
+    pub cells: Vec<F>,
+}
+
+// Adds the elements of whole numbers.
+fn push_elements<F: Field>(cells: &mut Vec<F>, row: &[u64]) -> Result<(), AllocError>
+    ensures { OnOk result
+        (cells.new.items ≡ cells.old.items ++ map (image F.ring) row.now) }
+{
+    cells.reserve(row.len())?;
+    for n in row {
+        cells.push(F::from_u64(*n))?;
+    }
+    Ok(())
+}
+
+impl<F: Field> TraceRows<F> {
+    /// No rows yet, of `width` cells each.
+    pub fn new(alloc: Global, width: usize) -> Self
+        ensures width { result.width ≡ width }
+        ensures cells { result.cells.items ≡ [] }
+    {
+        TraceRows {
+            width,
+            cells: Vec::new(alloc),
+        }
+    }
+
+    // Whether a row has the trace's width.
+    fn fits(&self, len: usize) -> Result<(), AirError>
+        ensures whole { OnOk result (len ≡ self.now.width) }
+        ensures refused { IfErr result (RowRefuses len self.now.width) }
+    {
+        if len == self.width {
+            return Ok(());
+        }
+        Err(AirError::Ragged {
+            len,
+            width: self.width,
+        })
+    }
+
+    /// Adds a row. One of another width is refused (`Ragged`). A refusal adds nothing.
+    pub fn push(&mut self, row: &[F]) -> Result<(), AirError>
+        ensures width { self.new.width ≡ self.old.width }
+        ensures whole { OnOk result (length row.now ≡ self.old.width) }
+        ensures added { OnOk result (self.new.cells.items ≡ self.old.cells.items ++ row.now) }
+        ensures kept { OnErr result (self.new.cells.items ≡ self.old.cells.items) }
+        ensures refused { IfErr result (RowRefuses (length row.now) self.old.width) }
+    {
+        self.fits(row.len())?;
+        self.cells.extend_from_slice(row)?;
+        Ok(())
+    }
+
+    /// Adds a row of whole numbers: one, added n times. A row of another width is refused (`Ragged`). Where memory is
+    /// refused, a part of the row may be left.
+    pub fn push_numbers(&mut self, row: &[u64]) -> Result<(), AirError>
+        ensures width { self.new.width ≡ self.old.width }
+        ensures whole { OnOk result (length row.now ≡ self.old.width) }
+        ensures added { OnOk result (self.new.cells.items
+            ≡ self.old.cells.items ++ map (image F.ring) row.now) }
+        ensures refused { IfErr result (RowRefuses (length row.now) self.old.width) }
+    {
+        self.fits(row.len())?;
+        push_elements(&mut self.cells, row)?;
+        Ok(())
+    }
+
+    /// The trace of the rows. It takes no memory.
+    pub fn into_trace(self) -> Result<RowMajorMatrix<F>, AirError>
+        ensures { IfOk result (λ trace. matrix_of self.width self.cells.items ≡ Ok trace) }
+    {
+        let TraceRows { width, cells } = self;
+        let trace = RowMajorMatrix::new(cells, width)?;
+        Ok(trace)
+    }
+}
