@@ -7,10 +7,12 @@
 mod error;
 mod expressions;
 mod fields;
+mod labels;
 mod numbers;
 
 pub use error::ExportError;
 pub use fields::AuditedField;
+pub use labels::LabellingBuilder;
 
 use expressions::list_of;
 use numbers::numbers;
@@ -58,7 +60,9 @@ where
     F: AuditedField,
     A: Air<SymbolicAirBuilder<F>>,
 {
-    object_of::<F, F, A>(air, trace, public_values, &Options::default())
+    let options = Options::default();
+    let recorded = recorded::<F, F, A>(air, &options)?;
+    Ok(object_of(air, trace, public_values, &recorded, &options))
 }
 
 /// Does what `export` does, with options, for an AIR that is recorded with extension `EF` (the field itself, where it
@@ -79,23 +83,50 @@ where
     EF::PrimeSubfield: AuditedField,
     A: Air<SymbolicAirBuilder<EF::PrimeSubfield, EF>>,
 {
-    object_of::<EF::PrimeSubfield, EF, A>(air, trace, public_values, options)
+    let recorded = recorded::<EF::PrimeSubfield, EF, A>(air, options)?;
+    Ok(object_of(air, trace, public_values, &recorded, options))
 }
 
-/// The object for an AIR over `F` that is recorded with extension `EF`.
-fn object_of<F, EF, A>(
+/// Does what `export_with` does, with the labels of the constraints: the AIR asserts on a [`LabellingBuilder`], which is
+/// a `NamedAirBuilder`. `air_check` then writes a failing constraint's label beside its number.
+///
+/// # Errors
+///
+/// As `export_with`.
+pub fn export_labelled<EF, A>(
     air: &A,
-    trace: &RowMajorMatrix<F>,
-    public_values: &[F],
+    trace: &RowMajorMatrix<EF::PrimeSubfield>,
+    public_values: &[EF::PrimeSubfield],
     options: &Options,
 ) -> Result<Value, ExportError>
 where
+    EF: PrimeCharacteristicRing + ExtensionField<<EF as PrimeCharacteristicRing>::PrimeSubfield>,
+    EF::PrimeSubfield: AuditedField,
+    A: Air<LabellingBuilder<EF::PrimeSubfield, EF>>,
+{
+    let recorded = recorded_with_labels::<EF::PrimeSubfield, EF, A>(air, options)?;
+    Ok(object_of(air, trace, public_values, &recorded, options))
+}
+
+/// What is recorded of an AIR: its constraints over the base field, and their labels, or none.
+struct Recorded<F> {
+    constraints: Vec<SymbolicExpression<F>>,
+    labels: Vec<String>,
+}
+
+/// The object for an AIR over `F` of which this is recorded.
+fn object_of<F, A>(
+    air: &A,
+    trace: &RowMajorMatrix<F>,
+    public_values: &[F],
+    recorded: &Recorded<F>,
+    options: &Options,
+) -> Value
+where
     F: AuditedField,
-    EF: ExtensionField<F>,
-    A: Air<SymbolicAirBuilder<F, EF>>,
+    A: BaseAir<F>,
 {
     let table = air.preprocessed_trace();
-    let constraints = constraints_of::<F, EF, A>(air, table.as_ref(), options)?;
     let mut object = Map::new();
     insert_field::<F>(&mut object);
     insert_matrix(&mut object, "main_width", "main", trace);
@@ -106,7 +137,7 @@ where
     insert(
         &mut object,
         "constraints",
-        constraints.iter().map(list_of).collect(),
+        recorded.constraints.iter().map(list_of).collect(),
     );
     insert(&mut object, "periodic", periodic_columns(air));
     insert(
@@ -115,29 +146,64 @@ where
         air.public_boundary_io().iter().map(cell).collect(),
     );
     insert_options(&mut object, options);
-    Ok(Value::Object(object))
+    insert_labels(&mut object, &recorded.labels);
+    Value::Object(object)
 }
 
-/// The recorded constraints over the base field of an AIR with this table.
-fn constraints_of<F, EF, A>(
-    air: &A,
-    table: Option<&RowMajorMatrix<F>>,
-    options: &Options,
-) -> Result<Vec<SymbolicExpression<F>>, ExportError>
+/// The recorded constraints over the base field of an AIR.
+fn recorded<F, EF, A>(air: &A, options: &Options) -> Result<Recorded<F>, ExportError>
 where
     F: AuditedField,
     EF: ExtensionField<F>,
     A: Air<SymbolicAirBuilder<F, EF>>,
 {
+    let layout = layout_of(air, options)?;
+    let (constraints, extension) = get_all_symbolic_constraints::<F, EF, A>(air, layout);
+    refuse_extension(extension.len(), options)?;
+    Ok(Recorded {
+        constraints,
+        labels: Vec::new(),
+    })
+}
+
+/// The same with their labels.
+fn recorded_with_labels<F, EF, A>(air: &A, options: &Options) -> Result<Recorded<F>, ExportError>
+where
+    F: AuditedField,
+    EF: ExtensionField<F>,
+    A: Air<LabellingBuilder<F, EF>>,
+{
+    let layout = layout_of(air, options)?;
+    layout.validate_against_air::<F>(air);
+    let mut builder = LabellingBuilder::new(layout);
+    air.eval(&mut builder);
+    refuse_extension(builder.extension_constraints().len(), options)?;
+    let (constraints, labels) = builder.into_base();
+    Ok(Recorded {
+        constraints,
+        labels,
+    })
+}
+
+/// The layout that an AIR is recorded by, if its width is that of the AIR's table.
+fn layout_of<F, A>(air: &A, options: &Options) -> Result<AirLayout, ExportError>
+where
+    F: AuditedField,
+    A: BaseAir<F>,
+{
     let layout = options
         .layout
         .unwrap_or_else(|| AirLayout::from_air::<F>(air));
-    compare_widths(layout.preprocessed_width, table)?;
-    let (base, extension) = get_all_symbolic_constraints::<F, EF, A>(air, layout);
-    if !extension.is_empty() && !options.leave_out_extension {
-        return Err(ExportError::ExtensionConstraints(extension.len()));
+    compare_widths(layout.preprocessed_width, air.preprocessed_trace().as_ref())?;
+    Ok(layout)
+}
+
+/// Refuses constraints over the extension, unless they are to be left out.
+fn refuse_extension(count: usize, options: &Options) -> Result<(), ExportError> {
+    if count > 0 && !options.leave_out_extension {
+        return Err(ExportError::ExtensionConstraints(count));
     }
-    Ok(base)
+    Ok(())
 }
 
 /// Refuses another width than the table's. The width says which columns the AIR sees while it is recorded, and the
@@ -200,6 +266,13 @@ fn insert_options(object: &mut Map<String, Value>, options: &Options) {
             "transition_weight",
             json!(options.transition_weight),
         );
+    }
+}
+
+/// Adds the labels, one a constraint, if there is any.
+fn insert_labels(object: &mut Map<String, Value>, labels: &[String]) {
+    if labels.iter().any(|label| !label.is_empty()) {
+        insert(object, "labels", json!(labels));
     }
 }
 

@@ -12,7 +12,7 @@ mod airs;
 mod fields;
 mod traces;
 
-use air_check_export::{AuditedField, Options, export_with};
+use air_check_export::{AuditedField, LabellingBuilder, Options, export_labelled};
 use p3_air::{
     Air, AirLayout, ConstraintFailure, DebugConstraintBuilder, SymbolicAirBuilder,
     check_all_constraints, get_max_constraint_degree, get_symbolic_constraints,
@@ -38,6 +38,19 @@ pub fn elements<F: AuditedField>(numbers: &[u64]) -> Vec<F> {
     numbers.iter().copied().map(F::from_u64).collect()
 }
 
+/// An AIR that is recorded with its labels and without, and checked on rows.
+pub trait Tried<F: AuditedField>:
+    Air<SymbolicAirBuilder<F>> + Air<LabellingBuilder<F>> + for<'a> Air<DebugConstraintBuilder<'a, F>>
+{
+}
+
+impl<F: AuditedField, A> Tried<F> for A where
+    A: Air<SymbolicAirBuilder<F>>
+        + Air<LabellingBuilder<F>>
+        + for<'a> Air<DebugConstraintBuilder<'a, F>>
+{
+}
+
 /// A trace of an AIR as an object, and what air_check is to say of it.
 pub struct Case {
     name: String,
@@ -59,11 +72,12 @@ pub struct Given {
 pub fn case<F, A>(name: String, air: &A, given: &Given, options: &Options, by_hand: bool) -> Case
 where
     F: AuditedField,
-    A: Air<SymbolicAirBuilder<F>> + for<'a> Air<DebugConstraintBuilder<'a, F>>,
+    A: Tried<F>,
 {
     let trace = RowMajorMatrix::new(elements(&given.rows), given.width);
     let public_values = elements(&given.public_values);
-    let object = export_with::<F, A>(air, &trace, &public_values, options).expect("it is exported");
+    let object =
+        export_labelled::<F, A>(air, &trace, &public_values, options).expect("it is exported");
     let degree = degree_of::<F, A>(air, trace.height(), options.transition_weight);
     let report = check_all_constraints(air, &trace, &public_values, options.cap);
     let mut answer = format!(
@@ -71,7 +85,7 @@ where
         report.total_rows, report.total_constraints_per_row
     );
     for failure in &report.failures {
-        answer += &failure_line(failure, report.total_constraints_per_row);
+        answer += &failure_line(failure);
     }
     Case {
         name,
@@ -100,18 +114,16 @@ where
         .unwrap_or(0)
 }
 
-/// A failure's line. The object has no labels of constraints; a cell's label is made of the cell.
-fn failure_line(failure: &ConstraintFailure, constraints: usize) -> String {
+/// A failure's line.
+fn failure_line(failure: &ConstraintFailure) -> String {
     let ConstraintFailure {
         row,
         constraint,
         label,
     } = failure;
     match label {
-        Some(label) if *constraint >= constraints => {
-            format!("row {row}: #{constraint} {label:?}\n")
-        }
-        _ => format!("row {row}: #{constraint}\n"),
+        Some(label) => format!("row {row}: #{constraint} {label:?}\n"),
+        None => format!("row {row}: #{constraint}\n"),
     }
 }
 
