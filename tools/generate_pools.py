@@ -1,5 +1,5 @@
 #!/usr/bin/env python3
-"""Writes the tables of crates/cases_tables/data/pools that no hand writes: generate_pools.py FOLDER
+"""Writes the tables of crates/test_tables/data/pools that no hand writes: generate_pools.py FOLDER
 
 FOLDER/shared_nodes.txt: calls that make nodes again, and a shared node's list.
 FOLDER/generated.txt: calls of base pools and lists of nodes, good ones and damaged ones, by chance with seed 19; ten

@@ -5,7 +5,7 @@ use air_audit::{
     Air, AirError, AirLayout, BaseAir, DebugConstraintBuilder, Field, FlatAir, RowMajorMatrix,
     SymbolicAirBuilder, check_all_constraints, get_symbolic_constraints, recorded_air,
 };
-use air_fibonacci::Fibonacci;
+use example_fibonacci::Fibonacci;
 use std::alloc::Global;
 
 /// A cap that no check of a trace reaches, another one each round: so no compiler does the work of

@@ -4,7 +4,7 @@ use air_audit::{
     Air, AirError, AirLayout, BaseAir, ExtensionField, Field, SymbolicAirBuilder,
     get_all_symbolic_constraints, get_max_constraint_degree, get_symbolic_constraints,
 };
-use air_fibonacci::Fibonacci;
+use example_fibonacci::Fibonacci;
 use std::alloc::Global;
 
 /// The constraints that so many recordings over the base field record.

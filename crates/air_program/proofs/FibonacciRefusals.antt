@@ -24,7 +24,7 @@ use Rattle.air_recording.specs.Recorded.{EachRecords, RecordsTerm}
 use Rattle.air_audit.specs.Theorem.{DegreeOverflows, RecordingRefuses, instance, shape_with}
 use Rattle.air_audit.specs.Audits.{AuditRefusesUnder, IsDegreePast}
 use Rattle.air_audit.specs.laws.Theorem.{each_base_back, each_ext_back}
-use Rattle.air_fibonacci.specs.Fibonacci.{fibonacci, fibonacci_declaration}
+use Rattle.example_fibonacci.specs.Fibonacci.{fibonacci, fibonacci_declaration}
 
 part_degree : {F : Type 0} (w : Leaf → ℕ) {t u : Term F} → Part t u → degree_by w t ≤ degree_by w u
 part_degree w whole = omega arith

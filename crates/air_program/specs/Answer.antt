@@ -9,7 +9,7 @@ use Rattle.air_audit.specs.Theorem.{Instance, instance}
 use Rattle.air_audit.specs.Audits.{IsAuditUnder, IsDegreePast, AuditRefusesUnder}
 use Rattle.air_audit.specs.declared.audit.Audit.{Audit}
 use Rattle.air_core.specs.declared.errors.AirError.{AirError}
-use Rattle.air_fibonacci.specs.Fibonacci.{fibonacci_declaration}
+use Rattle.example_fibonacci.specs.Fibonacci.{fibonacci_declaration}
 use Rattle.air_program.specs.Parsing.{element_values}
 use Rattle.air_program.specs.Texts.{Found, found_in, IsFindingsText, findings_status}
 use Rattle.air_program.specs.Refusals.{AnswersRefusal}

@@ -18,8 +18,8 @@ use crate::refusals::Refusal;
 use crate::texts::{Findings, findings_text};
 use air_audit::{Air, BaseAir, DebugConstraintBuilder, SymbolicAirBuilder, audit_air_with_cap};
 use air_builder::AirError;
-use air_fibonacci::Fibonacci;
 use air_field::{BabyBear, PrimeField64, RowMajorMatrix};
+use example_fibonacci::Fibonacci;
 use std::alloc::Global;
 
 /// The trace of these values, two a row.

@@ -12,8 +12,8 @@ pub mod refusals;
 mod show;
 mod texts;
 
-pub use air_fibonacci::Fibonacci;
 pub use air_object::{FieldName, FlatInput, field_of, flat_input_from};
 pub use air_streams::{ReadSource, Sink, Source, StreamFault, WriteSink};
+pub use example_fibonacci::Fibonacci;
 pub use program::{refuse, run};
 pub use refusals::Refusal;

@@ -1,7 +1,7 @@
 //! Exports traces, and says what p3-air answers to them.
 //!
 //!     traces FOLDER     writes each trace: FOLDER/NAME, and FOLDER/NAME.stdout, what air_check is to print
-//!     traces --table    prints those that are good or turned by hand as a table of crates/cases_program
+//!     traces --table    prints those that are good or turned by hand as a table of crates/test_program
 
 mod airs;
 #[cfg(any(

@@ -1,7 +1,0 @@
-use Rattle.std.specs.List.{AllZip}
-use Rattle.std.proofs.Common.{take}
-use Rattle.cases.specs.Words.{SpellsNumber}
-use Rattle.cases.proofs.words.counts_of.Given as goal
-
-abbrev pub invariant-loop-part : goal.invariant-loop-part
-invariant-loop-part l = AllZip (λ n w. SpellsNumber n w.now) l.all.items (take l.part-index l.part-items)

@@ -1,7 +1,0 @@
-use Rattle.std.proofs.Common.{◌≡◌, ◌++◌, codes, string_bytes, take}
-use Rattle.cases.proofs.Shown.{with_spaces}
-use Rattle.cases.proofs.words.show_elements.Given as goal
-
--- the numbers so far
-abbrev pub invariant-loop-place : goal.invariant-loop-place
-invariant-loop-place g l = string_bytes l.text ≡ (string_bytes l.fn.text ++ codes "[") ++ with_spaces g.F.Number.least (take l.place l.elements)

@@ -1,4 +1,0 @@
-use Rattle.cases_builders.proofs.words.add_three.Goals as goal
-
-pub returns : goal.returns
-returns g c = g.met.AB.AirBuilder.laws.ready_kept _ _ c.add3.ensures.keeps c.requires.ready

@@ -1,0 +1,85 @@
+//! Fibonacci: columns a and b, in which each row leads to the next. The program audits it, and tests and the benchmark
+//! use it.
+#![tactic(auto)]
+
+ghost use Rattle.std.specs.Prelude.{◌≡◌, true, false, if◌then◌else◌, []};
+ghost use Rattle.example_fibonacci.specs.Fibonacci.{fibonacci_declaration};
+
+use air_audit::author::{
+    Current, Equal, FirstRow, LastRow, Named, Next, Public, Sum, Transition, When, assert_all,
+};
+use air_audit::{Air, AirError, BaseAir, BoundaryPublic, NamedAirBuilder, RowMajorMatrix};
+
+/// The Fibonacci AIR. The first row holds public values 0 and 1, each further row the second number of the one before
+/// it and the sum of both, and the last row's second number is public value 2.
+///
+/// Its assertions have labels where it is made by `with_labels`; they change no value and no place.
+#[derive(Clone, Copy, Debug)]
+pub struct Fibonacci {
+    /// Whether its assertions have labels.
+    pub is_named: bool,
+}
+
+impl Fibonacci {
+    /// The AIR whose assertions have no labels.
+    pub fn new() -> Self
+        ensures { result.is_named ≡ false }
+    {
+        Fibonacci { is_named: false }
+    }
+
+    /// The AIR whose assertions have labels.
+    pub fn with_labels() -> Self
+        ensures { result.is_named ≡ true }
+    {
+        Fibonacci { is_named: true }
+    }
+
+    /// The label of an assertion; an empty one is none.
+    fn label(self, text: &'static str) -> &'static str
+        ensures { result.now ≡ (if self.is_named then text.now else []) }
+    {
+        if self.is_named { text } else { "" }
+    }
+}
+
+impl<F: Copy> BaseAir<F> for Fibonacci {
+    ghost declaration = { λ _. fibonacci_declaration };
+
+    fn width(&self) -> usize {
+        2
+    }
+
+    fn num_public_values(&self) -> usize {
+        3
+    }
+
+    fn preprocessed_trace(&self) -> Option<&RowMajorMatrix<F>> {
+        None
+    }
+
+    fn periodic_columns(&self) -> &[Vec<F>] {
+        &[]
+    }
+
+    fn public_boundary_io(&self) -> &[BoundaryPublic] {
+        &[]
+    }
+}
+
+impl<AB: NamedAirBuilder> Air<AB> for Fibonacci {
+    fn eval(&self, builder: &mut AB) -> Result<(), AirError> {
+        let first_a = Named(self.label("fib::first_a"), Equal(Current(0), Public(0)));
+        let first_b = Named(self.label("fib::first_b"), Equal(Current(1), Public(1)));
+        let step_a = Named(self.label("fib::step_a"), Equal(Next(0), Current(1)));
+        let sum = Sum(Current(0), Current(1));
+        let step_b = Named(self.label("fib::step_b"), Equal(Next(1), sum));
+        let last_b = Named(self.label("fib::last_b"), Equal(Current(1), Public(2)));
+        let constraints = (
+            When(FirstRow, (first_a, first_b)),
+            When(Transition, (step_a, step_b)),
+            When(LastRow, last_b),
+        );
+        assert_all(builder, &constraints)
+    }
+}

@@ -1,0 +1,91 @@
+//! What stands beside the expressions of an AIR.
+
+use crate::lists::{BaseList, Constraints, PermutationList};
+use crate::words::{cell_of, trace_of};
+use air_audit::{BoundaryPublic, Field, RowMajorMatrix};
+use std::alloc::Global;
+use test_lines::words::{count_of, listed_elements};
+use test_lines::{Fault, Why};
+
+/// The parts of an AIR but its expressions.
+#[derive(Drop)]
+pub struct Parts<F: Field> {
+    pub constraints: Constraints,
+    pub width: usize,
+    pub num_public_values: usize,
+    pub table: Option<RowMajorMatrix<F>>,
+    pub periodic: Vec<Vec<F>>,
+    pub cells: Vec<BoundaryPublic>,
+}
+
+// The constraints of a name.
+fn named_constraints(word: &str) -> Result<Constraints, Fault> {
+    match word {
+        "fibonacci" => Ok(Constraints::Base(BaseList::Fibonacci)),
+        "fibonacci_named" => Ok(Constraints::Base(BaseList::FibonacciNamed)),
+        "handed" => Ok(Constraints::Base(BaseList::Handed)),
+        "differing" => Ok(Constraints::Base(BaseList::Differing)),
+        "permuted" => Ok(Constraints::Permutation(PermutationList::Permuted)),
+        "mixed" => Ok(Constraints::Permutation(PermutationList::Mixed)),
+        "labelled" => Ok(Constraints::Labelled),
+        _ => Err(Fault::Unreadable(Why::NoSuchWord)),
+    }
+}
+
+impl<F: Field> Parts<F> {
+    pub fn new(alloc: Global) -> Self {
+        Parts {
+            constraints: Constraints::Base(BaseList::Lines),
+            width: 0,
+            num_public_values: 0,
+            table: None,
+            periodic: Vec::new(alloc),
+            cells: Vec::new(alloc),
+        }
+    }
+
+    // Sets a count.
+    fn set_count(&mut self, key: &str, count: usize) {
+        match key {
+            "width" => self.width = count,
+            "public" => self.num_public_values = count,
+            _ => self.constraints = Constraints::Base(BaseList::Steep(count)),
+        }
+    }
+
+    fn set_table(&mut self, value: &str) -> Result<(), Fault> {
+        let table = trace_of(*self.periodic.allocator(), value)?;
+        self.table = Some(table);
+        Ok(())
+    }
+
+    fn push_periodic(&mut self, value: &str) -> Result<(), Fault> {
+        let column = listed_elements(*self.periodic.allocator(), value)?;
+        Ok(self.periodic.push(column)?)
+    }
+
+    fn push_cell(&mut self, value: &str) -> Result<(), Fault> {
+        let cell = cell_of(value)?;
+        Ok(self.cells.push(cell)?)
+    }
+
+    /// Sets what a word `KEY:VALUE` says.
+    pub fn set(&mut self, key: &str, value: &str) -> Result<(), Fault> {
+        match key {
+            "width" | "public" | "steep" => {
+                self.set_count(key, count_of(value)?);
+                Ok(())
+            }
+            "table" => self.set_table(value),
+            "periodic" => self.push_periodic(value),
+            "cell" => self.push_cell(value),
+            _ => Err(Fault::Unreadable(Why::NoSuchWord)),
+        }
+    }
+
+    /// Takes the named list of constraints.
+    pub fn take(&mut self, word: &str) -> Result<(), Fault> {
+        self.constraints = named_constraints(word)?;
+        Ok(())
+    }
+}

@@ -1,0 +1,119 @@
+//! Assertions that are evaluated at one row without columns: each line has a builder of its own.
+
+use air_builder::AirBuilder;
+use air_field::{ExtensionField, Field, RowMajorMatrixView, ViewPair};
+use air_report::DebugConstraintBuilder;
+use std::alloc::Global;
+use std::marker::PhantomData;
+use test_assertions::assert_all;
+use test_lines::words::element_of;
+use test_lines::{Bench, Fault, Line};
+
+/// Rows over these fields. (The fields are named where the tables are checked and nowhere else: at given ones each call
+/// is dear to prove.)
+#[derive(Drop)]
+pub struct Rows<F, EF> {
+    alloc: Global,
+    fields: PhantomData<(F, EF)>,
+}
+
+type RowBuilder<'a, F, EF> = DebugConstraintBuilder<'a, F, EF>;
+
+// A builder at the first row, with no columns of any kind, and with these selectors of the first, the last and the
+// other rows.
+fn row_builder<'a, F: Field, EF: ExtensionField<F>>(
+    alloc: Global,
+    none: &'a [F],
+    none_over: &'a [EF],
+    selectors: (F, F, F),
+) -> RowBuilder<'a, F, EF> {
+    let (first, last, transition) = selectors;
+    let empty = RowMajorMatrixView::new_row(none);
+    let empty_over = RowMajorMatrixView::new_row(none_over);
+    DebugConstraintBuilder::new_with_permutation(
+        alloc,
+        0,
+        ViewPair::new(empty, empty),
+        ViewPair::new(empty, empty),
+        none,
+        first,
+        last,
+        transition,
+        ViewPair::new(empty_over, empty_over),
+        none_over,
+        none_over,
+        Vec::new(alloc),
+    )
+}
+
+fn assert_at_row<F: Field + 'static, EF: ExtensionField<F> + 'static>(
+    alloc: Global,
+    builder: &mut RowBuilder<'_, F, EF>,
+    words: &[&str],
+) -> Result<(), Fault> {
+    assert_all(alloc, builder, words)
+}
+
+fn show_failures<F: Field, EF: ExtensionField<F>>(
+    builder: &RowBuilder<'_, F, EF>,
+    text: &mut String,
+) -> Result<(), Fault> {
+    let failures = builder.formatted_failures()?;
+    text.push_str(failures.as_str())?;
+    Ok(())
+}
+
+// How many rows the window of a builder at a row has.
+fn window_rows<F: Field + 'static, EF: ExtensionField<F> + 'static>() -> usize {
+    DebugConstraintBuilder::<'static, F, EF>::WINDOW
+}
+
+fn show_window_rows<F: Field + 'static, EF: ExtensionField<F> + 'static>(
+    text: &mut String,
+) -> Result<(), Fault> {
+    let rows = window_rows::<F, EF>();
+    write!(text, "{rows}")?;
+    Ok(())
+}
+
+fn selectors_of<F: Field>(first: &str, last: &str, transition: &str) -> Result<(F, F, F), Fault> {
+    let first: F = element_of(first)?;
+    let last: F = element_of(last)?;
+    Ok((first, last, element_of(transition)?))
+}
+
+// Adds what fails of the assertions at a row with these selectors.
+fn answer_at_row<F: Field + 'static, EF: ExtensionField<F> + 'static>(
+    alloc: Global,
+    selectors: (F, F, F),
+    words: &[&str],
+    text: &mut String,
+) -> Result<(), Fault> {
+    let mut builder: RowBuilder<'_, F, EF> = row_builder(alloc, &[], &[], selectors);
+    assert_at_row(alloc, &mut builder, words)?;
+    show_failures(&builder, text)
+}
+
+impl<'a, F: Field + 'static, EF: ExtensionField<F> + 'static> Bench<'a> for Rows<F, EF> {
+    fn new(alloc: Global) -> Self {
+        Rows {
+            alloc,
+            fields: PhantomData,
+        }
+    }
+
+    fn answer(&mut self, line: &Line<'a>, text: &mut String) -> Result<(), Fault> {
+        match line.words.as_slice() {
+            ["WINDOW"] => show_window_rows::<F, EF>(text),
+            ["at", first, last, transition, words @ ..] => {
+                let selectors = selectors_of(*first, *last, *transition)?;
+                answer_at_row::<F, EF>(self.alloc, selectors, words, text)
+            }
+            words => answer_at_row::<F, EF>(self.alloc, (F::ONE, F::ONE, F::ONE), words, text),
+        }
+    }
+
+    fn show_state(&self, _text: &mut String) -> Result<(), Fault> {
+        Ok(())
+    }
+}
