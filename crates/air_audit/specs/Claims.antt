@@ -2,4 +2,4 @@
 pub use Rattle.air_field.specs.Assignment.{row_assignment}
 pub use Rattle.air_field.specs.Grid.{Grid}
 pub use Rattle.air_report.specs.Report.{plain_trace}
-pub use Rattle.air_laws.specs.Numbers.{IsNumberBelow, IsWord, AddsUp, AddsUp3}
+pub use Rattle.air_gadgets.specs.Numbers.{IsNumberBelow, IsWord, AddsUp, AddsUp3}

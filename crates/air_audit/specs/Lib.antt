@@ -64,28 +64,28 @@ pub use Rattle.air_symbolic.specs.declared.pools.expr.SymbolicExpr
 pub use Rattle.air_symbolic.specs.declared.leaves.base_leaf.BaseLeaf
 pub use Rattle.air_symbolic.specs.declared.leaves.ext_leaf.ExtLeaf
 pub use Rattle.air_symbolic.specs.declared.pools.weight.LeafWeight
-pub use Rattle.air_wire.specs.NodeLists
-pub use Rattle.air_wire.specs.ListReaders
-pub use Rattle.air_wire.specs.NodeFaults
-pub use Rattle.air_wire.specs.Nodes as NodesFromValues
-pub use Rattle.air_wire.specs.ReadCalls
-pub use Rattle.air_wire.specs.Results
-pub use Rattle.air_wire.specs.Unshared
-pub use Rattle.air_wire.specs.Written
-pub use Rattle.air_wire.specs.Writing
-pub use Rattle.air_wire.specs.Spelling
-pub use Rattle.air_wire.specs.Parts
-pub use Rattle.air_wire.specs.Plain
-pub use Rattle.air_wire.specs.Coefficients as CoefficientSpellings
-pub use Rattle.air_wire.specs.EntryForms
-pub use Rattle.air_wire.specs.Faults as ReadingFaults
-pub use Rattle.air_wire.specs.Entries as EntrySpellings
-pub use Rattle.air_wire.specs.ExtEntries as ExtEntrySpellings
-pub use Rattle.air_wire.specs.BaseLeaves as BaseLeafSpellings
-pub use Rattle.air_wire.specs.ExtLeaves as ExtLeafSpellings
-pub use Rattle.air_wire.specs.Boundaries as BoundarySpellings
-pub use Rattle.air_wire.specs.WholeNumbers
-pub use Rattle.air_wire.specs.declared.errors.FlatError
+pub use Rattle.air_json.specs.NodeLists
+pub use Rattle.air_json.specs.ListReaders
+pub use Rattle.air_json.specs.NodeFaults
+pub use Rattle.air_json.specs.Nodes as NodesFromValues
+pub use Rattle.air_json.specs.ReadCalls
+pub use Rattle.air_json.specs.Results
+pub use Rattle.air_json.specs.Unshared
+pub use Rattle.air_json.specs.Written
+pub use Rattle.air_json.specs.Writing
+pub use Rattle.air_json.specs.Spelling
+pub use Rattle.air_json.specs.Parts
+pub use Rattle.air_json.specs.Plain
+pub use Rattle.air_json.specs.Coefficients as CoefficientSpellings
+pub use Rattle.air_json.specs.EntryForms
+pub use Rattle.air_json.specs.Faults as ReadingFaults
+pub use Rattle.air_json.specs.Entries as EntrySpellings
+pub use Rattle.air_json.specs.ExtEntries as ExtEntrySpellings
+pub use Rattle.air_json.specs.BaseLeaves as BaseLeafSpellings
+pub use Rattle.air_json.specs.ExtLeaves as ExtLeafSpellings
+pub use Rattle.air_json.specs.Boundaries as BoundarySpellings
+pub use Rattle.air_json.specs.WholeNumbers
+pub use Rattle.air_json.specs.declared.errors.FlatError
 -- an AIR's declaration, and what its calls to a builder assert and refuse
 pub use Rattle.air_builder.specs.Assertion
 pub use Rattle.air_builder.specs.Notation
@@ -113,9 +113,9 @@ pub use Rattle.air_author.specs.Constraints
 pub use Rattle.air_author.specs.Kinds
 pub use Rattle.air_author.specs.Handing
 pub use Rattle.air_author.specs.Moved
-pub use Rattle.air_words.specs.BitTerms
-pub use Rattle.air_words.specs.WordTerms
-pub use Rattle.air_words.specs.XorTerms
+pub use Rattle.air_gadgets.specs.BitTerms
+pub use Rattle.air_gadgets.specs.WordTerms
+pub use Rattle.air_gadgets.specs.XorTerms
 -- recordings, their layouts and degrees
 pub use Rattle.air_recording.specs.Recorded
 pub use Rattle.air_recording.specs.Kinds as ConstraintKinds
@@ -146,7 +146,7 @@ pub use Rattle.air_report.specs.FailureTexts
 pub use Rattle.air_report.specs.declared.checks.check_first.CheckError
 pub use Rattle.air_report.specs.declared.checks.report.ConstraintReport
 pub use Rattle.air_report.specs.declared.debug.failure.ConstraintFailure
-pub use Rattle.air_laws.specs.Numbers
+pub use Rattle.air_gadgets.specs.Numbers
 -- an author's words in one place; the audit theorem; AIRs that are recorded or read from lists
 pub mod Author
 pub mod Claims

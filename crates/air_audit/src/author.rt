@@ -13,7 +13,7 @@ pub use air_author::{
 };
 pub use air_builder::{AirBuilder, AirError, PermutationAirBuilder};
 pub use air_field::{Field, FromVar};
-pub use air_words::{
+pub use air_gadgets::{
     Add2, Add3, Bits, Columns, HasBits, Packed, PackedBits, Rotated, Series, Word, WordOfBits,
     Xor32Shift,
 };

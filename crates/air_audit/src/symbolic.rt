@@ -5,6 +5,7 @@
 pub use crate::flat::flat_air::FlatAir;
 pub use crate::flat::resolving::{resolve, resolve_all};
 pub use air_core::{BaseEntry, ExtEntry, SymbolicVariable, SymbolicVariableExt};
+pub use air_json::{FlatError, Spelled, WireLeaf, from_flat_value, to_flat_value};
 pub use air_recording::{
     AirLayout, ConstraintLayout, Recorded, SymbolicAirBuilder, constraint_degree_from_poly_degree,
     get_all_symbolic_constraints, get_constraint_layout, get_max_constraint_degree,
@@ -15,4 +16,3 @@ pub use air_symbolic::{
     BaseLeaf, Degrees, ExprId, ExprPool, ExtLeaf, LeafWeight, SymLeaf, SymbolicExpr,
     SymbolicExpression, SymbolicExpressionExt,
 };
-pub use air_wire::{FlatError, Spelled, WireLeaf, from_flat_value, to_flat_value};

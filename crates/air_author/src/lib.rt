@@ -14,7 +14,7 @@
 //! multiplies first. Over the extension, `ExtZero`, `ExtEqual`, `ExtIsOne` and `ExtBoolean` take the same expressions,
 //! of `permutation_current(i)`, `challenge(i)` and so on, and of base leaves.
 //!
-//! Bits, words and their sums are in air_words. An AIR with nothing beside its trace is a [`PlainAir`]. What a filter
+//! Bits, words and their sums are in air_gadgets. An AIR with nothing beside its trace is a [`PlainAir`]. What a filter
 //! or a gadget was handed stands among values as `Already(x, value)`, with the value that it was made of.
 //!
 //! An entry that the builder hasn't is refused by its name, and an entry of the permutation trace with `NoPermutation`

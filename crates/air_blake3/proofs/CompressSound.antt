@@ -11,7 +11,8 @@ use Rattle.air_gadgets.specs.Bits.{AreBits}
 use Rattle.air_builder.specs.Assertion.{Assertion}
 use Rattle.air_author.specs.Constraints.{asserts_of_first}
 use Rattle.air_gadgets.specs.Words.{Limbs, number_of, xor_bits, rotated_left}
-use Rattle.air_gadgets.specs.Exact.{AllVanish, IsXorOf}
+use Rattle.air_builder.specs.Vanishing.{AllVanish}
+use Rattle.air_gadgets.specs.Exact.{IsXorOf}
 use Rattle.air_field.specs.Domain.{IsDomain}
 use Rattle.air_gadgets.specs.Gadgets.{test_asserts, xor_asserts}
 use Rattle.air_gadgets.specs.laws.ExactXors.{xor_is_exact}

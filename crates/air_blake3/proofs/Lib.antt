@@ -5,3 +5,10 @@ mod RoundSound
 mod CompressSound
 mod MixComplete
 mod CompressComplete
+mod Digits
+mod Standing
+mod RowHolds
+mod Pushes
+mod Checked
+mod WholeTraces
+mod LastBlock

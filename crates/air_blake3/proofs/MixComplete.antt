@@ -12,7 +12,7 @@ use Rattle.air_gadgets.specs.Bits.{AreBits}
 use Rattle.air_builder.specs.Assertion.{Assertion, Base, Extension}
 use Rattle.air_gadgets.specs.Words.{Limbs, word, word_sum, word_sum_3, number_of, xor_bits, rotated_left}
 use Rattle.air_gadgets.specs.Gadgets.{add2_asserts, add3_asserts, xor_asserts}
-use Rattle.air_gadgets.specs.Exact.{AllVanish}
+use Rattle.air_builder.specs.Vanishing.{AllVanish}
 use Rattle.air_field.specs.Domain.{IsDomain}
 use Rattle.air_gadgets.specs.laws.ExactSums.{add2_is_exact, add3_is_exact}
 use Rattle.air_gadgets.specs.laws.ExactXors.{xor_is_exact}

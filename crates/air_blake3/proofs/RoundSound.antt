@@ -7,7 +7,7 @@ use Rattle.air_field.specs.laws.Images.{HasCharacteristic}
 use Rattle.air_field.specs.Term.{Leaf}
 use Rattle.air_builder.specs.Assertion.{Assertion}
 use Rattle.air_author.specs.Constraints.{asserts_of_first}
-use Rattle.air_gadgets.specs.Exact.{AllVanish}
+use Rattle.air_builder.specs.Vanishing.{AllVanish}
 use Rattle.air_field.specs.Domain.{IsDomain}
 use Rattle.blake3.specs.Compression.{columns_mixed, diagonals, from_diagonals, round, place_in, after_rounds}
 use Rattle.blake3.specs.laws.Places.{place_in-below}

@@ -5,7 +5,8 @@ use Rattle.air_field.specs.Term.{Leaf, Term}
 use Rattle.air_field.specs.Value.{value}
 use Rattle.air_gadgets.specs.Bits.{AreBits}
 use Rattle.air_gadgets.specs.Words.{Limbs, AreLimbs, word, number_of}
-use Rattle.air_gadgets.specs.Exact.{AllVanish, LimbsAre}
+use Rattle.air_builder.specs.Vanishing.{AllVanish}
+use Rattle.air_gadgets.specs.Exact.{LimbsAre}
 use Rattle.air_field.specs.Domain.{IsDomain}
 use Rattle.blake3.specs.Compression.{Block, half_mix, mix, columns_mixed, diagonals, place_in, first_state, after_rounds, compress}
 use Rattle.blake3.specs.Blocks.{columns_half}

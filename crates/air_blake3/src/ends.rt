@@ -7,7 +7,7 @@ use crate::columns::{output_from, state_at};
 use crate::words::{AreBits, BitXors, LimbsOf, LimbsOfConstant};
 use air_author::{AirResult, All, Condition, Constraint, Current, Family};
 use air_builder::AirBuilder;
-use air_words::{Rotated, Word, Xor32Shift};
+use air_gadgets::{Rotated, Word, Xor32Shift};
 use blake3::{Quarter, State};
 
 /// The words of the message are made of bits.
@@ -104,7 +104,7 @@ impl<AB: AirBuilder> Constraint<AB> for OutputColumn {
     ghost asserts = { λ s f _. output_asserts AB.F.ring f (quarter_of s.words)
         (bits_at s.bits) (bits_at s.low) (bits_at s.high) (bits_of s.output) };
 
-    #[tactic(auto, unfolding(crate::specs::Row::output_asserts, crate::specs::Words::bits_at, crate::specs::Words::limbs_at, air_words::specs::BitTerms::bits_asserts))]
+    #[tactic(auto, unfolding(crate::specs::Row::output_asserts, crate::specs::Words::bits_at, crate::specs::Words::limbs_at, air_gadgets::specs::BitTerms::bits_asserts))]
     fn assert_under<K: Condition<AB>>(&self, builder: &mut AB, condition: &K) -> AirResult {
         let (words, output) = (self.words, self.output);
         let a = words.a as usize;

@@ -5,7 +5,7 @@ ghost use Rattle.air_blake3.specs.Mixing.{half_mix_asserts, mix_asserts};
 use crate::words::{AddThree, AddTwo};
 use air_author::{AirResult, Condition, Constraint, Current};
 use air_builder::AirBuilder;
-use air_words::{Rotated, Word, Xor32Shift};
+use air_gadgets::{Rotated, Word, Xor32Shift};
 use blake3::Quarter;
 
 /// The words after are the first half of G of those before, with a word of the message.
@@ -20,7 +20,7 @@ impl<AB: AirBuilder> Constraint<AB> for FirstHalf {
     ghost asserts = { λ s f _. map_terms f (half_mix_asserts AB.F.ring 16 12 (quarter_of s.before)
         (bits_at s.message) (quarter_of s.after)) };
 
-    #[tactic(auto, unfolding(crate::specs::Words::bits_at, crate::specs::Words::limbs_at, air_words::specs::BitTerms::bits_asserts))]
+    #[tactic(auto, unfolding(crate::specs::Words::bits_at, crate::specs::Words::limbs_at, air_gadgets::specs::BitTerms::bits_asserts))]
     fn assert_under<K: Condition<AB>>(&self, builder: &mut AB, condition: &K) -> AirResult {
         let (before, after) = (self.before, self.after);
         let sum = AddThree {
@@ -63,7 +63,7 @@ impl<AB: AirBuilder> Constraint<AB> for SecondHalf {
     ghost asserts = { λ s f _. map_terms f (half_mix_asserts AB.F.ring 8 7 (quarter_of s.before)
         (bits_at s.message) (quarter_of s.after)) };
 
-    #[tactic(auto, unfolding(crate::specs::Words::bits_at, crate::specs::Words::limbs_at, air_words::specs::BitTerms::bits_asserts))]
+    #[tactic(auto, unfolding(crate::specs::Words::bits_at, crate::specs::Words::limbs_at, air_gadgets::specs::BitTerms::bits_asserts))]
     fn assert_under<K: Condition<AB>>(&self, builder: &mut AB, condition: &K) -> AirResult {
         let (before, after) = (self.before, self.after);
         let sum = AddThree {

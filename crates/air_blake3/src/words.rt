@@ -11,7 +11,7 @@ use air_author::{
     Number, Product, Sum,
 };
 use air_builder::AirBuilder;
-use air_words::{Add2, Add3, Bits, Columns, Packed, Series, Word};
+use air_gadgets::{Add2, Add3, Bits, Columns, Packed, Series, Word};
 
 /// Sixteen of the columns of a word of bits: those of its lower limb, or of its upper one.
 #[derive(Clone, Copy, Drop)]
@@ -41,7 +41,7 @@ pub(crate) struct AreBits(pub(crate) u32);
 impl<AB: AirBuilder> Constraint<AB> for AreBits {
     ghost asserts = { λ s f _. map_terms f (test_asserts AB.F.ring (bits_at s.0)) };
 
-    #[tactic(auto, unfolding(crate::specs::Words::bits_at, air_words::specs::BitTerms::bits_asserts))]
+    #[tactic(auto, unfolding(crate::specs::Words::bits_at, air_gadgets::specs::BitTerms::bits_asserts))]
     fn assert_under<K: Condition<AB>>(&self, builder: &mut AB, condition: &K) -> AirResult {
         let columns = Columns {
             first: self.0 as usize,

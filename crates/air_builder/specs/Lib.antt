@@ -9,6 +9,7 @@ pub use Rattle.air_core.specs.Periodic
 pub use Rattle.air_core.specs.Texts
 pub use Rattle.air_core.specs.Errors
 pub mod Assertion
+pub mod Vanishing
 pub mod Notation
 pub mod Declaration
 pub mod Refusals

@@ -8,3 +8,4 @@ mod Halves
 mod Asserting
 mod PackedXors
 mod ZipLaws
+mod Packing

@@ -5,15 +5,9 @@ use Rattle.air_field.specs.Term.{Leaf, Term}
 use Rattle.air_field.specs.Value.{value}
 use Rattle.air_field.specs.Domain.{IsDomain}
 use Rattle.air_gadgets.specs.Bits.{AreBits}
-use Rattle.air_builder.specs.Assertion.{Assertion, Base, Extension}
+use Rattle.air_builder.specs.Vanishing.{AllVanish}
 use Rattle.air_gadgets.specs.Words.{Limbs, AreLimbs, word, word_sum, word_sum_3, xor_bits, rotated_left, low_half, high_half}
 use Rattle.air_gadgets.specs.Gadgets.{add2_asserts, add3_asserts, xor_asserts}
-
--- each term has the value zero
-abbrev pub AllVanish : {F : Type 0} → CommRing F → (Leaf → F) → List (Assertion F) → Type 0
-AllVanish R s [] = ⊤
-AllVanish R s (Base t ∷ ts) = (value (self_algebra R) s t ≡ R.zero) × AllVanish R s ts
-AllVanish R s (Extension t ∷ ts) = (value (self_algebra R) s t ≡ R.zero) × AllVanish R s ts
 
 -- the terms of the limbs have the images of two numbers as their values
 abbrev pub LimbsAre : {F : Type 0} → CommRing F → (Leaf → F) → Limbs (Term F) → Limbs ℕ → Type 0

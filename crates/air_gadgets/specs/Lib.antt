@@ -7,3 +7,7 @@ pub mod Words
 pub mod Gadgets
 pub mod Exact
 pub mod laws
+pub mod BitTerms
+pub mod WordTerms
+pub mod XorTerms
+pub mod Numbers

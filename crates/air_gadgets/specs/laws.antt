@@ -6,3 +6,6 @@ pub mod Carrying
 pub mod ExactSums
 pub mod Xors
 pub mod ExactXors
+pub mod Vanishing
+pub mod VanishingBits
+pub mod VanishingSums

@@ -7,16 +7,16 @@ use Rattle.air_field.specs.Modular.{Modular}
 use Rattle.air_field.specs.Matrix.{matrix_of}
 use Rattle.air_field.specs.declared.errors.MatrixError.{MatrixError}
 use Rattle.air_core.specs.Errors.{matrix_air_error}
-use Rattle.air_wire.specs.Faults.{air_fault}
-use Rattle.air_wire.specs.laws.Readings.{done_is, not_done}
-use Rattle.air_wire.specs.Results.{Fails}
-use Rattle.air_wire.specs.declared.errors.FlatError.{FlatError}
-use Rattle.air_wire.specs.declared.errors.FlatError.TheVariants as faults
+use Rattle.air_json.specs.Faults.{air_fault}
+use Rattle.air_json.specs.laws.Readings.{done_is, not_done}
+use Rattle.air_json.specs.Results.{Fails}
+use Rattle.air_json.specs.declared.errors.FlatError.{FlatError}
+use Rattle.air_json.specs.declared.errors.FlatError.TheVariants as faults
 use Rattle.air_object.specs.Input.{table_of, HasMatrixFault, SpellsInput, HasInputFault}
 use Rattle.air_object.specs.declared.input.FlatInput.{FlatInput}
 use Rattle.air_object.specs.Members.{MemberValues, members}
 use Rattle.air_object.specs.Readers.{members_read}
-use Rattle.air_wire.specs.laws.Readings.{err_is}
+use Rattle.air_json.specs.laws.Readings.{err_is}
 use Rattle.air_object.specs.laws.Members.{members_agree}
 
 module _ {F : Type 0} {order : ℕ} (modular : Modular F order) where

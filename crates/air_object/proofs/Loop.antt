@@ -4,9 +4,9 @@ use Rattle.std.proofs.lemmas.Grind.{common_steps}
 use Rattle.serde_json.specs.Data.{item}
 use Rattle.serde_json.specs.View.{view, items_view}
 use Rattle.serde_json.specs.declared.value.Value.{Value}
-use Rattle.air_wire.specs.declared.errors.FlatError.{FlatError}
-use Rattle.air_wire.specs.declared.errors.FlatError.TheVariants as faults
-use Rattle.air_wire.specs.Results.{◌>>=◌, Fails}
+use Rattle.air_json.specs.declared.errors.FlatError.{FlatError}
+use Rattle.air_json.specs.declared.errors.FlatError.TheVariants as faults
+use Rattle.air_json.specs.Results.{◌>>=◌, Fails}
 use Rattle.air_object.specs.Readers.{Reader, each_from}
 
 items_at : (vs : List Value) (i : ℕ) (v : Value) → i < length vs → v ≡ get_or vs i v → items_view (drop i vs) ≡ item (view v) (items_view (drop (i + 1) vs))

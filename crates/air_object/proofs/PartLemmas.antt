@@ -17,12 +17,12 @@ use Rattle.air_symbolic.specs.BaseLeaves.{base_reads, base_grows}
 use Rattle.air_symbolic.specs.Pools.{tree_at}
 use Rattle.air_symbolic.specs.Trees.{Tree}
 use Rattle.air_symbolic.specs.declared.leaves.base_leaf.BaseLeaf.{BaseLeaf}
-use Rattle.air_wire.specs.BaseLeaves.{element_at}
-use Rattle.air_wire.specs.ReadCalls.{ReadsTree}
-use Rattle.air_wire.specs.laws.Lists.{fails_is, fails_if}
-use Rattle.air_wire.specs.Results.{◌>>=◌, Fails, Gives}
-use Rattle.air_wire.specs.declared.errors.FlatError.{FlatError}
-use Rattle.air_wire.specs.declared.errors.FlatError.TheVariants as faults
+use Rattle.air_json.specs.BaseLeaves.{element_at}
+use Rattle.air_json.specs.ReadCalls.{ReadsTree}
+use Rattle.air_json.specs.laws.Lists.{fails_is, fails_if}
+use Rattle.air_json.specs.Results.{◌>>=◌, Fails, Gives}
+use Rattle.air_json.specs.declared.errors.FlatError.{FlatError}
+use Rattle.air_json.specs.declared.errors.FlatError.TheVariants as faults
 use Rattle.air_object.specs.Members.{MemberValues, LabelledTrees}
 use Rattle.air_object.specs.Parts.{GivenElements, AreElements, GivenTrees, AreGiven, and_one, read_one_more, root_numbers, of_member, AreMembersOf, ArePartsOf, given_elements, given_by, labelled_with, members_with}
 use Rattle.air_object.specs.Readers.{Reader, each_from, elements, tree, trees, width_member, elements_member, table_member, constraints_member, periodic_member, boundary_member, cap_member, weight_member, labels_member, labelled_read, members_read}

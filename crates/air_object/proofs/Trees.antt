@@ -8,14 +8,14 @@ use Rattle.air_symbolic.specs.laws.BaseLeaves.{base_leaf_laws}
 use Rattle.air_symbolic.specs.ExtLeaves.{BaseNodes}
 use Rattle.air_symbolic.specs.Pools.{Grown, tree_at}
 use Rattle.air_symbolic.specs.laws.Pools.{Grown-trans, here-kept, tree-kept}
-use Rattle.air_wire.specs.BaseLeaves.{base_kind, base_seen}
-use Rattle.air_wire.specs.laws.BaseLeaves.{base_kind_laws, over_same}
-use Rattle.air_wire.specs.NodeLists.{IsList, HasFault}
-use Rattle.air_wire.specs.laws.Lists.{root_again, root_fault_read, fails_if}
-use Rattle.air_wire.specs.Results.{Gives}
-use Rattle.air_wire.specs.Unshared.{seen_at}
-use Rattle.air_wire.specs.declared.errors.FlatError.{FlatError}
-use Rattle.air_wire.specs.declared.errors.FlatError.TheVariants as faults
+use Rattle.air_json.specs.BaseLeaves.{base_kind, base_seen}
+use Rattle.air_json.specs.laws.BaseLeaves.{base_kind_laws, over_same}
+use Rattle.air_json.specs.NodeLists.{IsList, HasFault}
+use Rattle.air_json.specs.laws.Lists.{root_again, root_fault_read, fails_if}
+use Rattle.air_json.specs.Results.{Gives}
+use Rattle.air_json.specs.Unshared.{seen_at}
+use Rattle.air_json.specs.declared.errors.FlatError.{FlatError}
+use Rattle.air_json.specs.declared.errors.FlatError.TheVariants as faults
 use Rattle.air_object.specs.Readers.{tree}
 
 abbrev pub GrownTo : {F : Type 0} → BaseNodes F → BaseNodes F → Type 0

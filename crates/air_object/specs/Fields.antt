@@ -8,7 +8,7 @@ use Rattle.air_field.specs.Modulo.{baby_bears}
 use Rattle.air_field.specs.KoalaBear.{KoalaBear, koala_bear_modulus}
 use Rattle.air_field.specs.Mersenne31.{Mersenne31, mersenne31_modulus}
 use Rattle.air_field.specs.Goldilocks.{goldilocks_modular}
-use Rattle.air_wire.specs.Parts.{find_name}
+use Rattle.air_json.specs.Parts.{find_name}
 use Rattle.air_object.specs.declared.field_name.FieldName.{FieldName}
 use Rattle.air_object.specs.declared.field_name.FieldName.TheVariants as fields
 

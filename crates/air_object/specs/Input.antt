@@ -9,8 +9,8 @@ use Rattle.air_field.specs.Modular.{Modular}
 use Rattle.air_symbolic.specs.Pools.{tree_at}
 use Rattle.air_core.specs.Errors.{matrix_air_error}
 use Rattle.air_core.specs.declared.errors.AirError.{AirError}
-use Rattle.air_wire.specs.Faults.{air_fault}
-use Rattle.air_wire.specs.declared.errors.FlatError.{FlatError}
+use Rattle.air_json.specs.Faults.{air_fault}
+use Rattle.air_json.specs.declared.errors.FlatError.{FlatError}
 use Rattle.air_object.specs.Members.{TableValues, MemberValues, members}
 use Rattle.air_object.specs.declared.input.FlatInput.{FlatInput}
 

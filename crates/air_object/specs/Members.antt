@@ -5,12 +5,12 @@ use Rattle.air_field.specs.Modular.{Modular}
 use Rattle.air_symbolic.specs.Trees.{Tree}
 use Rattle.air_symbolic.specs.declared.leaves.base_leaf.BaseLeaf.{BaseLeaf}
 use Rattle.air_core.specs.declared.boundary.BoundaryPublic.{BoundaryPublic}
-use Rattle.air_wire.specs.BaseLeaves.{base_kind}
-use Rattle.air_wire.specs.Boundaries.{SpellsCell}
-use Rattle.air_wire.specs.NodeLists.{IsList, HasFault}
-use Rattle.air_wire.specs.Spelling.{IsWholeNumber}
-use Rattle.air_wire.specs.declared.errors.FlatError.{FlatError}
-use Rattle.air_wire.specs.declared.errors.FlatError.TheVariants as faults
+use Rattle.air_json.specs.BaseLeaves.{base_kind}
+use Rattle.air_json.specs.Boundaries.{SpellsCell}
+use Rattle.air_json.specs.NodeLists.{IsList, HasFault}
+use Rattle.air_json.specs.Spelling.{IsWholeNumber}
+use Rattle.air_json.specs.declared.errors.FlatError.{FlatError}
+use Rattle.air_json.specs.declared.errors.FlatError.TheVariants as faults
 use Rattle.air_object.specs.Objects.{Grammar, by_form, list_of, at_most, needed_member, optional_member, then_member, both_members, both_or_none}
 
 abbrev pub whole_number : Grammar ℕ

@@ -2,9 +2,9 @@
 use Rattle.std.specs.Prelude.{◌≡◌, ℕ, List, [], ◌∷◌, length, ◌<◌, ◌≤◌, Option, Some, None, ◌⊎◌, ⊤}
 use Rattle.serde_json.specs.Data.{Data, Items, no_items, item}
 use Rattle.serde_json.specs.Find.{get, as_array}
-use Rattle.air_wire.specs.Spelling.{HasField}
-use Rattle.air_wire.specs.declared.errors.FlatError.{FlatError}
-use Rattle.air_wire.specs.declared.errors.FlatError.TheVariants as faults
+use Rattle.air_json.specs.Spelling.{HasField}
+use Rattle.air_json.specs.declared.errors.FlatError.{FlatError}
+use Rattle.air_json.specs.declared.errors.FlatError.TheVariants as faults
 
 pub record Grammar (X : Type 0) : Type 1 where
   pub spells : Data → X → Type 0

@@ -9,8 +9,8 @@ use Rattle.air_symbolic.specs.BaseLeaves.{base_reads}
 use Rattle.air_symbolic.specs.Pools.{IsPool, tree_at, size}
 use Rattle.air_symbolic.specs.Trees.{Tree}
 use Rattle.air_symbolic.specs.declared.leaves.base_leaf.BaseLeaf.{BaseLeaf}
-use Rattle.air_wire.specs.Results.{◌>>=◌, Gives}
-use Rattle.air_wire.specs.declared.errors.FlatError.{FlatError}
+use Rattle.air_json.specs.Results.{◌>>=◌, Gives}
+use Rattle.air_json.specs.declared.errors.FlatError.{FlatError}
 use Rattle.air_object.specs.Members.{MemberValues, LabelledTrees}
 use Rattle.air_object.specs.Readers.{Reader, or_wrong_form, elements, trees, width_member, elements_member, table_member, constraints_member, periodic_member, boundary_member, cap_member, weight_member, labels_member}
 use Rattle.air_object.specs.declared.constraints.Constraints.{Constraints}

@@ -6,13 +6,13 @@ use Rattle.air_field.specs.Modular.{Modular}
 use Rattle.air_symbolic.specs.Trees.{Tree}
 use Rattle.air_symbolic.specs.declared.leaves.base_leaf.BaseLeaf.{BaseLeaf}
 use Rattle.air_core.specs.declared.boundary.BoundaryPublic.{BoundaryPublic}
-use Rattle.air_wire.specs.BaseLeaves.{element_at, base_kind}
-use Rattle.air_wire.specs.Boundaries.{cell_of}
-use Rattle.air_wire.specs.Nodes.{root_of}
-use Rattle.air_wire.specs.Parts.{as_whole_number}
-use Rattle.air_wire.specs.Results.{◌>>=◌}
-use Rattle.air_wire.specs.declared.errors.FlatError.{FlatError}
-use Rattle.air_wire.specs.declared.errors.FlatError.TheVariants as faults
+use Rattle.air_json.specs.BaseLeaves.{element_at, base_kind}
+use Rattle.air_json.specs.Boundaries.{cell_of}
+use Rattle.air_json.specs.Nodes.{root_of}
+use Rattle.air_json.specs.Parts.{as_whole_number}
+use Rattle.air_json.specs.Results.{◌>>=◌}
+use Rattle.air_json.specs.declared.errors.FlatError.{FlatError}
+use Rattle.air_json.specs.declared.errors.FlatError.TheVariants as faults
 use Rattle.air_object.specs.Members.{TableValues, MemberValues, LabelledTrees}
 
 abbrev pub Reader : Type 0 → Type 0

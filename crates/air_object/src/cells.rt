@@ -1,11 +1,11 @@
 //! Boundary cells.
 ghost use Rattle.std.specs.Prelude.{◌≡◌, []};
 ghost use Rattle.serde_json.specs.View.{view, items_view};
-ghost use Rattle.air_wire.specs.Results.{Gives};
+ghost use Rattle.air_json.specs.Results.{Gives};
 ghost use Rattle.air_object.specs.Readers.{each_from, cell_read, cells};
 
 use air_core::BoundaryPublic;
-use air_wire::{FlatError, Plain};
+use air_json::{FlatError, Plain};
 use serde_json::Value;
 use std::alloc::Global;
 

@@ -3,15 +3,15 @@ ghost use Rattle.std.specs.Prelude.{[], Ok, Err};
 ghost use Rattle.serde_json.specs.View.{view, items_view};
 ghost use Rattle.air_symbolic.specs.BaseLeaves.{base_reads, base_grows};
 ghost use Rattle.air_symbolic.specs.Pools.{tree_at};
-ghost use Rattle.air_wire.specs.ReadCalls.{ReadsTree, ReadsAll};
-ghost use Rattle.air_wire.specs.Results.{Gives};
-ghost use Rattle.air_wire.specs.declared.errors.FlatError.TheVariants.{Shape};
+ghost use Rattle.air_json.specs.ReadCalls.{ReadsTree, ReadsAll};
+ghost use Rattle.air_json.specs.Results.{Gives};
+ghost use Rattle.air_json.specs.declared.errors.FlatError.TheVariants.{Shape};
 ghost use Rattle.air_object.specs.Parts.{AreGiven, and_one, root_numbers};
 ghost use Rattle.air_object.specs.Readers.{each_from, tree, trees, constraints_member};
 
 use air_field::{Field, PrimeField64};
+use air_json::{FlatError, from_flat_value};
 use air_symbolic::{BaseLeaf, ExprId, ExprPool};
-use air_wire::{FlatError, from_flat_value};
 use serde_json::Value;
 use std::alloc::Global;
 

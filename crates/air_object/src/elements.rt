@@ -1,14 +1,14 @@
 //! Lists of field elements.
 ghost use Rattle.std.specs.Prelude.{◌≡◌, [], map, Ok, Err};
 ghost use Rattle.serde_json.specs.View.{view, items_view};
-ghost use Rattle.air_wire.specs.BaseLeaves.{element_at};
-ghost use Rattle.air_wire.specs.Results.{Gives};
-ghost use Rattle.air_wire.specs.declared.errors.FlatError.TheVariants.{Shape};
+ghost use Rattle.air_json.specs.BaseLeaves.{element_at};
+ghost use Rattle.air_json.specs.Results.{Gives};
+ghost use Rattle.air_json.specs.declared.errors.FlatError.TheVariants.{Shape};
 ghost use Rattle.air_object.specs.Parts.{GivenElements, AreElements, read_one_more};
 ghost use Rattle.air_object.specs.Readers.{each_from, elements, columns};
 
 use air_field::PrimeField64;
-use air_wire::{FlatError, element_from};
+use air_json::{FlatError, element_from};
 use serde_json::Value;
 use std::alloc::Global;
 

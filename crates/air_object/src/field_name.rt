@@ -1,7 +1,7 @@
 //! The fields that an object may be over.
 ghost use Rattle.std.specs.Prelude.{◌≡◌, codes};
 ghost use Rattle.serde_json.specs.View.{view};
-ghost use Rattle.air_wire.specs.Parts.{find_name};
+ghost use Rattle.air_json.specs.Parts.{find_name};
 ghost use Rattle.air_object.specs.Fields.{field_names, field_of};
 
 use serde_json::Value;

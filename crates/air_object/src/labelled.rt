@@ -3,14 +3,14 @@ ghost use Rattle.std.specs.Prelude.{◌<◌, All, IfOk};
 ghost use Rattle.serde_json.specs.View.{view};
 ghost use Rattle.air_symbolic.specs.BaseLeaves.{base_reads};
 ghost use Rattle.air_symbolic.specs.Pools.{IsPool, size};
-ghost use Rattle.air_wire.specs.Results.{Gives};
+ghost use Rattle.air_json.specs.Results.{Gives};
 ghost use Rattle.air_object.specs.Parts.{InPool, given_by, labelled_with};
 ghost use Rattle.air_object.specs.Seen.{seen_labelled};
 
 use crate::constraints::{BasePool, Constraints, Roots};
 use crate::labels::labels_at;
 use air_field::{Field, PrimeField64};
-use air_wire::FlatError;
+use air_json::FlatError;
 use serde_json::Value;
 use std::alloc::Global;
 

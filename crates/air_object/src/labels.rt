@@ -1,10 +1,10 @@
 //! The labels of constraints.
 ghost use Rattle.std.specs.Prelude.{[], map, string_bytes};
 ghost use Rattle.serde_json.specs.View.{view, items_view};
-ghost use Rattle.air_wire.specs.Results.{Gives};
+ghost use Rattle.air_json.specs.Results.{Gives};
 ghost use Rattle.air_object.specs.Readers.{each_from, label_read, labels, labels_member};
 
-use air_wire::FlatError;
+use air_json::FlatError;
 use serde_json::Value;
 use std::alloc::Global;
 

@@ -3,8 +3,8 @@ ghost use Rattle.std.specs.Prelude.{◌≡◌, ◌<◌, map, All, IfOk, option_m
 ghost use Rattle.serde_json.specs.Find.{get};
 ghost use Rattle.serde_json.specs.View.{view};
 ghost use Rattle.air_symbolic.specs.Pools.{size};
-ghost use Rattle.air_wire.specs.Results.{Gives};
-ghost use Rattle.air_wire.specs.declared.errors.FlatError.TheVariants.{Shape};
+ghost use Rattle.air_json.specs.Results.{Gives};
+ghost use Rattle.air_json.specs.declared.errors.FlatError.TheVariants.{Shape};
 ghost use Rattle.air_object.specs.Parts.{InPool, given_elements, given_by, members_with};
 ghost use Rattle.air_object.specs.Readers.{width_member, elements_member, table_member, periodic_member, boundary_member, cap_in, cap_member, weight_member};
 ghost use Rattle.air_object.specs.Seen.{seen_rows, seen_members};
@@ -15,7 +15,7 @@ use crate::elements::{Elements, columns_from, elements_from};
 use crate::labels::labels_at;
 use air_core::BoundaryPublic;
 use air_field::{Field, PrimeField64};
-use air_wire::{FlatError, whole_number};
+use air_json::{FlatError, whole_number};
 use serde_json::Value;
 use std::alloc::Global;
 

@@ -18,17 +18,17 @@ use Rattle.air_symbolic.specs.ExtLeaves.{BaseNodes}
 use Rattle.air_symbolic.specs.Leaves.{Leaves}
 use Rattle.air_symbolic.specs.Reach.{Marked}
 use Rattle.air_symbolic.specs.declared.pools.expr.SymbolicExpr.{SymbolicExpr}
-use Rattle.air_infix.specs.Names.{AreNames, is_named}
-use Rattle.air_explain.specs.Explained.{Explains, explained_lines, reached_definitions}
-use Rattle.air_explain.specs.Reading.{Reads}
-use Rattle.air_explain.specs.Values.{AreClosed}
-use Rattle.air_explain.specs.laws.Values.{explains_known, passing_low}
+use Rattle.air_print.specs.Names.{AreNames, is_named}
+use Rattle.air_print.specs.Explained.{Explains, explained_lines, reached_definitions}
+use Rattle.air_print.specs.Reading.{Reads}
+use Rattle.air_print.specs.Values.{AreClosed}
+use Rattle.air_print.specs.laws.Values.{explains_known, passing_low}
 use Rattle.air_report.specs.FailureTexts.{seen_failure}
 use Rattle.air_report.specs.declared.debug.failure.ConstraintFailure.{ConstraintFailure}
 use Rattle.air_program.specs.AtHand.{KnownAt}
 use Rattle.air_program.specs.Explained.{Failure, StandsBelow, IsExplained, IsExplainedText, PushesExplained, PushesNames, failing_roots, cell_lines}
 use Rattle.air_program.specs.Texts.{Found, count_lines, place_of, IsFailureLine, PushesLine}
-use Rattle.air_infix.specs.Lines.{lines_text}
+use Rattle.air_print.specs.Lines.{lines_text}
 use Rattle.air_program.specs.declared.explain.RowValues.{RowValues}
 
 AllZip-append : {A B : Type 0} (R : A → B → Type 0) (xs : List A) (ys : List B) (vs : List A) (ws : List B) → AllZip R xs ys → AllZip R vs ws → AllZip R (xs ++ vs) (ys ++ ws)

@@ -5,12 +5,12 @@ use Rattle.serde_json.specs.View.{view}
 use Rattle.air_field.specs.Modular.{Modular}
 use Rattle.air_symbolic.specs.BaseLeaves.{base_reads}
 use Rattle.air_symbolic.specs.Pools.{IsPool}
-use Rattle.air_wire.specs.Faults.{air_fault}
-use Rattle.air_wire.specs.Results.{Gives}
-use Rattle.air_wire.specs.laws.Lists.{fails_is}
-use Rattle.air_wire.specs.declared.errors.FlatError.{FlatError}
-use Rattle.air_wire.specs.declared.errors.FlatError.TheVariants as faults
-use Rattle.air_infix.specs.Lines.{ShowsRoots}
+use Rattle.air_json.specs.Faults.{air_fault}
+use Rattle.air_json.specs.Results.{Gives}
+use Rattle.air_json.specs.laws.Lists.{fails_is}
+use Rattle.air_json.specs.declared.errors.FlatError.{FlatError}
+use Rattle.air_json.specs.declared.errors.FlatError.TheVariants as faults
+use Rattle.air_print.specs.Lines.{ShowsRoots}
 use Rattle.air_object.specs.Members.{labelled_constraints}
 use Rattle.air_object.specs.Parts.{given_by, labelled_with}
 use Rattle.air_object.specs.Readers.{labelled_read}

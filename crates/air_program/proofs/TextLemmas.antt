@@ -6,7 +6,7 @@ use Rattle.std.proofs.lemmas.List.{map-append, take_more}
 use Rattle.air_report.specs.FailureTexts.{seen_failure}
 use Rattle.air_report.specs.declared.debug.failure.ConstraintFailure.{ConstraintFailure}
 use Rattle.air_program.specs.Texts.{IsFailureLine, PushesLine}
-use Rattle.air_infix.specs.Lines.{lines_text}
+use Rattle.air_print.specs.Lines.{lines_text}
 
 -- the text is the lines in front, and one for each of the failures before i
 pub record HasLines (front : List (List ℕ)) (failures : List ConstraintFailure) (i : ℕ) (text : List ℕ) : Type 0 where

@@ -4,7 +4,7 @@ use Rattle.air_field.specs.Assignment.{Trace, row_assignment}
 use Rattle.air_field.specs.Ring.{CommRing}
 use Rattle.air_symbolic.specs.declared.leaves.base_leaf.BaseLeaf.{BaseLeaf}
 use Rattle.air_symbolic.specs.declared.pools.expr.SymbolicExpr.{SymbolicExpr}
-use Rattle.air_explain.specs.Values.{Known}
+use Rattle.air_print.specs.Values.{Known}
 use Rattle.air_program.specs.declared.explain.RowValues.{RowValues}
 
 -- They are the values of the marked numbers at their row.

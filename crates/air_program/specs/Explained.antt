@@ -12,16 +12,16 @@ use Rattle.air_core.specs.declared.boundary.BoundaryPublic.{BoundaryPublic}
 use Rattle.air_symbolic.specs.BaseLeaves.{base_leaves}
 use Rattle.air_symbolic.specs.ExtLeaves.{BaseNodes}
 use Rattle.air_symbolic.specs.Reach.{Reached}
-use Rattle.air_infix.specs.Names.{AreNames}
-use Rattle.air_explain.specs.Cells.{cell_line}
-use Rattle.air_explain.specs.Explained.{Explains, reached_definitions}
+use Rattle.air_print.specs.Names.{AreNames}
+use Rattle.air_print.specs.Cells.{cell_line}
+use Rattle.air_print.specs.Explained.{Explains, reached_definitions}
 use Rattle.air_report.specs.Instances.{table_grid}
 use Rattle.air_object.specs.declared.input.FlatInput.{FlatInput}
 use Rattle.air_program.specs.Answer.{AuditFinds}
 use Rattle.air_program.specs.ByField.{AnswersBytes}
 use Rattle.air_program.specs.FlatAnswer.{flat_instance, AnswersInput}
 use Rattle.air_program.specs.Texts.{Found, place_of, IsFailureLine, count_lines, findings_status}
-use Rattle.air_infix.specs.Lines.{lines_text}
+use Rattle.air_print.specs.Lines.{lines_text}
 
 -- a failure: its row, its constraint and the label's bytes
 abbrev pub Failure : Type 0

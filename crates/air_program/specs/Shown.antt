@@ -5,9 +5,9 @@ use Rattle.air_field.specs.Modular.{Modular}
 use Rattle.air_symbolic.specs.BaseLeaves.{base_reads}
 use Rattle.air_symbolic.specs.ExtLeaves.{BaseNodes}
 use Rattle.air_symbolic.specs.Pools.{IsPool, tree_at, size}
-use Rattle.air_wire.specs.Faults.{air_fault}
-use Rattle.air_wire.specs.declared.errors.FlatError.{FlatError}
-use Rattle.air_infix.specs.Lines.{ShowsRoots}
+use Rattle.air_json.specs.Faults.{air_fault}
+use Rattle.air_json.specs.declared.errors.FlatError.{FlatError}
+use Rattle.air_print.specs.Lines.{ShowsRoots}
 use Rattle.air_program.specs.ByField.{AnswersBytes}
 use Rattle.air_object.specs.Members.{labelled_constraints}
 use Rattle.air_program.specs.Refusals.{AnswersRefusal, air_name}

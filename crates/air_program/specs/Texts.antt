@@ -1,8 +1,8 @@
 -- The lines that are printed.
 use Rattle.std.specs.Prelude.{◌≡◌, ℕ, List, [], ◌∷◌, ◌++◌, length, map, codes, decimal, ◌==◌, if◌then◌else◌, Option, IfSome}
 use Rattle.std.specs.List.{AllZip}
-use Rattle.air_infix.specs.Labels.{HasNoLineEnd}
-use Rattle.air_infix.specs.Lines.{lines_text}
+use Rattle.air_print.specs.Labels.{HasNoLineEnd}
+use Rattle.air_print.specs.Lines.{lines_text}
 use Rattle.air_report.specs.FailureTexts.{seen_failure, label_suffix}
 use Rattle.air_program.specs.declared.texts.Findings.{Findings}
 

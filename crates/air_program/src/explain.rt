@@ -5,9 +5,9 @@ ghost use Rattle.air_field.specs.Assignment.{row_assignment};
 ghost use Rattle.air_symbolic.specs.BaseLeaves.{base_leaves};
 ghost use Rattle.air_symbolic.specs.Pools.{size};
 ghost use Rattle.air_symbolic.specs.Reach.{Marked};
-ghost use Rattle.air_infix.specs.Names.{AreNames};
-ghost use Rattle.air_explain.specs.Rows.{trace_of};
-ghost use Rattle.air_explain.specs.Values.{AreClosed};
+ghost use Rattle.air_print.specs.Names.{AreNames};
+ghost use Rattle.air_print.specs.Rows.{trace_of};
+ghost use Rattle.air_print.specs.Values.{AreClosed};
 ghost use Rattle.air_report.specs.FailureTexts.{seen_failure};
 ghost use Rattle.air_object.specs.Parts.{InPool};
 ghost use Rattle.air_program.specs.AtHand.{KnownAt};
@@ -16,7 +16,7 @@ ghost use Rattle.air_program.specs.Explained.{failing_roots, cell_lines, PushesN
 ghost use Rattle.air_program.specs.FlatAnswer.{AuditRefusesInput};
 ghost use Rattle.air_program.specs.Refusals.{air_refusal, GivesAnswer};
 ghost use Rattle.air_program.specs.Texts.{found_in, findings_status};
-ghost use Rattle.air_infix.specs.Lines.{lines_text};
+ghost use Rattle.air_print.specs.Lines.{lines_text};
 ghost use Rattle.air_core.specs.declared.errors.AirError.{AirError};
 
 use crate::answer::{findings_of, status};
@@ -24,12 +24,11 @@ use crate::flat::with_table;
 use crate::refusals::Refusal;
 use crate::texts::{Findings, push_counts, push_failure};
 use air_audit::{ConstraintFailure, FlatAir};
-use air_explain::{
-    TraceRows, push_cell, push_explained, push_reached_definitions, reads, values_at,
-};
 use air_field::{PrimeField64, RowMajorMatrix};
-use air_infix::Names;
 use air_object::{BaseId, BasePool, FlatInput, Parts, input_from};
+use air_print::{
+    Names, TraceRows, push_cell, push_explained, push_reached_definitions, reads, values_at,
+};
 use air_symbolic::{BaseLeaf, reached_nodes};
 use std::alloc::{AllocError, Global};
 

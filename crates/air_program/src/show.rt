@@ -2,7 +2,7 @@
 
 ghost use Rattle.std.specs.Prelude.{◌≡◌, ◌<◌, map, All, IfOk, IfErr, string_bytes};
 ghost use Rattle.air_symbolic.specs.Pools.{size};
-ghost use Rattle.air_infix.specs.Lines.{ShowsRoots};
+ghost use Rattle.air_print.specs.Lines.{ShowsRoots};
 ghost use Rattle.air_object.specs.Parts.{InPool};
 ghost use Rattle.air_program.specs.ByField.{AnswersParts};
 ghost use Rattle.air_program.specs.Refusals.{GivesAnswer};
@@ -11,8 +11,8 @@ ghost use Rattle.air_program.specs.Shown.{ShownIn};
 use crate::refusals::Refusal;
 use air_builder::AirError;
 use air_field::PrimeField64;
-use air_infix::show;
 use air_object::{BaseId, BasePool, Parts, labelled_from};
+use air_print::show;
 use std::alloc::Global;
 
 /// The status and the text that show the roots, with their labels.

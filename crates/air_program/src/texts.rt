@@ -2,12 +2,12 @@
 
 ghost use Rattle.std.specs.Prelude.{◌≡◌, ◌++◌, OnOk, IfOk, IfSome, option_map, string_bytes};
 ghost use Rattle.air_report.specs.FailureTexts.{label_suffix, seen_failure};
-ghost use Rattle.air_infix.specs.Labels.{HasNoLineEnd};
+ghost use Rattle.air_print.specs.Labels.{HasNoLineEnd};
 ghost use Rattle.air_program.specs.Texts.{count_lines, found_in, PushesLine, IsFindingsText};
-ghost use Rattle.air_infix.specs.Lines.{lines_text};
+ghost use Rattle.air_print.specs.Lines.{lines_text};
 
 use air_audit::{ConstraintFailure, ConstraintReport};
-use air_infix::shown_label;
+use air_print::shown_label;
 use std::alloc::{AllocError, Global};
 
 /// What an audit found.

@@ -2,13 +2,13 @@
 use Rattle.std.proofs.Common.{◌≡◌, ◌≢◌, ℕ, List, Option, Some, Ok, Err, sym, ap, ◌∙◌}
 use Rattle.std.specs.Option.{ok_or}
 use Rattle.serde_json.specs.Data.{Data}
-use Rattle.air_wire.specs.laws.Lists.{fails_is}
-use Rattle.air_wire.specs.laws.Readings.{ok_or_found}
-use Rattle.air_wire.specs.Results.{Fails}
-use Rattle.air_wire.specs.WholeNumbers.{HasWholes, wholes_at}
-use Rattle.air_wire.specs.laws.WholeNumbers.{wholes_found, wholes_read}
-use Rattle.air_wire.specs.declared.errors.FlatError.{FlatError}
-use Rattle.air_wire.specs.declared.errors.FlatError.TheVariants as faults
+use Rattle.air_json.specs.laws.Lists.{fails_is}
+use Rattle.air_json.specs.laws.Readings.{ok_or_found}
+use Rattle.air_json.specs.Results.{Fails}
+use Rattle.air_json.specs.WholeNumbers.{HasWholes, wholes_at}
+use Rattle.air_json.specs.laws.WholeNumbers.{wholes_found, wholes_read}
+use Rattle.air_json.specs.declared.errors.FlatError.{FlatError}
+use Rattle.air_json.specs.declared.errors.FlatError.TheVariants as faults
 
 not_missing : (o : Option (List ℕ)) (ns : List ℕ) (f e : FlatError) → o ≡ Some ns → ok_or o f ≡ Err e → ⊥
 not_missing o ns f e h k =

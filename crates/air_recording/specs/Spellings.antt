@@ -1,9 +1,9 @@
 -- Layouts as JSON values: how they are spelt, and how they are read.
 use Rattle.std.specs.Prelude.{◌≡◌, ℕ, List, Option, Some, option_and_then, codes}
 use Rattle.serde_json.specs.Data.{Data, object, member, no_members}
-use Rattle.air_wire.specs.Parts.{whole_at}
-use Rattle.air_wire.specs.Spelling.{number_data, HasWhole}
-use Rattle.air_wire.specs.WholeNumbers.{wholes_data, HasWholes}
+use Rattle.air_json.specs.Parts.{whole_at}
+use Rattle.air_json.specs.Spelling.{number_data, HasWhole}
+use Rattle.air_json.specs.WholeNumbers.{wholes_data, HasWholes}
 use Rattle.air_recording.specs.declared.layouts.air_layout.AirLayout.{AirLayout}
 use Rattle.air_recording.specs.declared.layouts.constraint_layout.ConstraintLayout.{ConstraintLayout}
 

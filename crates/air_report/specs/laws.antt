@@ -4,3 +4,5 @@ pub mod DebugLabels
 pub mod DebugValues
 pub mod Plain
 pub mod Report
+pub mod VanishingReports
+pub mod VanishingChecks

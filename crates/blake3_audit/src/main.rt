@@ -4,8 +4,7 @@
 
 ghost use Rattle.std.specs.Prelude.{◌≤◌, ◌^◌};
 
-use air_blake3::Compression;
-use air_blake3_rows::row_of_block;
+use air_blake3::{Compression, row_of_block};
 use blake3::{hash, start_words};
 use p3_air::{
     AirError, BabyBear, ConstraintReport, Field, PrimeField64, RowMajorMatrix, audit_air,

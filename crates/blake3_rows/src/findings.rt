@@ -1,12 +1,11 @@
 //! What is found of a message.
 ghost use Rattle.std.specs.Prelude.{◌≡◌, ◌*◌, ◌<◌, ◌≤◌, ◌^◌, [], IfOk, length};
 ghost use Rattle.blake3.specs.Hashing.{hash};
-ghost use Rattle.air_blake3_rows.specs.Checks.{ReportsListNothing};
+ghost use Rattle.air_blake3.specs.Checks.{ReportsListNothing};
 
 use crate::refusals::Refusal;
 use crate::words::Cell;
-use air_blake3::Compression;
-use air_blake3_rows::{blocks_of_message, trace_of_blocks};
+use air_blake3::{Compression, blocks_of_message, trace_of_blocks};
 use blake3::hash;
 use p3_air::{ConstraintReport, Field, PrimeField, RowMajorMatrix, audit_air_with_cap};
 use std::alloc::Global;

@@ -2,7 +2,7 @@
 ghost use Rattle.std.specs.Prelude.{◌≡◌};
 ghost use Rattle.blake3_rows.specs.Refusals.{refusal_name};
 
-use air_blake3_rows::TraceError;
+use air_blake3::TraceError;
 use p3_air::AirError;
 use std::alloc::{AllocError, AllocFailed};
 

@@ -2,13 +2,13 @@
 use air_audit::{Audit, FlatAir, audit_air};
 use air_core::AirError;
 use air_field::{PrimeField64, RowMajorMatrix, SelfExtension};
-use air_infix::show;
+use air_print::show;
 use std::io;
 
 /// Prints the constraints of an AIR as people read them, each with its degree and its label. Where the AIR is refused, it
 /// prints why.
 ///
-/// So an author sees what the AIR says: that the text is that of the AIR's expressions is proved (air_infix).
+/// So an author sees what the AIR says: that the text is that of the AIR's expressions is proved (air_print).
 pub fn print_constraints<F: PrimeField64>(
     rt: &HostRuntime,
     air: Result<FlatAir<F>, AirError>,

@@ -3,7 +3,7 @@
 use air_core::{Element, Name, NamespaceExt};
 use std::alloc::Global;
 use std::string::ToString;
-use test_assertions::Label;
+use test_airs::Label;
 use test_lines::words::count_of;
 use test_lines::{Fault, Why};
 

@@ -7,7 +7,7 @@ use air_field::{ExtensionField, Field};
 use air_recording::{AirLayout, Recorded, SymbolicAirBuilder};
 use std::alloc::Global;
 use std::marker::PhantomData;
-use test_assertions::assert_all;
+use test_airs::assert_all;
 use test_lines::words::Number;
 use test_lines::{Bench, Fault, Line};
 

@@ -5,7 +5,7 @@ use air_field::{ExtensionField, Field, RowMajorMatrixView, ViewPair};
 use air_report::DebugConstraintBuilder;
 use std::alloc::Global;
 use std::marker::PhantomData;
-use test_assertions::assert_all;
+use test_airs::assert_all;
 use test_lines::words::element_of;
 use test_lines::{Bench, Fault, Line};
 

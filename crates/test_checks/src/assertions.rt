@@ -4,8 +4,7 @@ use crate::reports::show_failures;
 use crate::rows::{ExtRow, Row, ext_row, row_of};
 use air_audit::{Air, AirError, ConstraintFailure, ExtensionField, Field};
 use std::alloc::Global;
-use test_airs::{Airs, TableAir};
-use test_assertions::assert_all;
+use test_airs::{Airs, TableAir, assert_all};
 use test_lines::Fault;
 use test_lines::words::texts_of;
 

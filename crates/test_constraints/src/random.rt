@@ -1,6 +1,6 @@
 //! Random programs of 200 calls, written with handles and by the pool's own calls: both make the same constraints.
 use crate::shown::shown;
-use air_infix::show;
+use air_print::show;
 use p3_air::{
     AirError, Algebra, BabyBear, BaseEntry, BaseLeaf, Constraints, Expr, ExprId, ExprPool, Field,
     FlatAir, SymbolicVariable,

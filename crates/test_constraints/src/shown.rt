@@ -1,5 +1,5 @@
 //! Constraints as text.
-use air_infix::show;
+use air_print::show;
 use p3_air::{AirError, BabyBear, FlatAir, print_constraints};
 use std::alloc::{AllocError, Global};
 use std::io;

@@ -1,7 +1,7 @@
 -- What is counted of lines, and what is told of a line without an answer.
 use Rattle.std.specs.Prelude.{ℕ, ◌+◌, ◌-◌, ◌^◌, min, ⊤}
-use Rattle.air_wire.specs.declared.errors.FlatError.{FlatError}
-use Rattle.air_wire.specs.declared.errors.FlatError.TheVariants as errors
+use Rattle.air_json.specs.declared.errors.FlatError.{FlatError}
+use Rattle.air_json.specs.declared.errors.FlatError.TheVariants as errors
 use Rattle.test_lines.specs.declared.faults.Fault.{Fault}
 use Rattle.test_lines.specs.declared.faults.Fault.TheVariants.{Memory, Stream, Air, List, Matrix, Unreadable}
 

@@ -5,7 +5,7 @@ ghost use Rattle.test_lines.specs.declared.faults.Fault.TheVariants.{Memory, Str
 
 use air_core::AirError;
 use air_field::{MatrixError, RingError};
-use air_wire::FlatError;
+use air_json::FlatError;
 use std::alloc::{AllocError, AllocFailed};
 use std::io;
 

@@ -16,7 +16,7 @@ ghost use Rattle.test_lines.specs.laws.Numbers.{are_values};
 
 use crate::faults::{Fault, Why};
 use air_field::{ExtensionField, Field, PrimeField64};
-use air_wire::{FlatError, Spelled};
+use air_json::{FlatError, Spelled};
 use serde_json::Value;
 use std::alloc::Global;
 use std::fmt::Debug;

@@ -2,11 +2,10 @@
 #![tactic(auto)]
 
 use std::process::ExitCode;
+use test_algebra::{FieldTables, PoolTables};
 use test_builders::BuilderTables;
 use test_checks::CheckTables;
-use test_fields::FieldTables;
 use test_lines::{Fault, Report, Table, Tables, Why};
-use test_pools::PoolTables;
 use test_program::ProgramTables;
 use test_recordings::RecordingTables;
 

@@ -11,7 +11,8 @@ use Rattle.air_gadgets.specs.Packing.{packed_term}
 use Rattle.air_builder.specs.Assertion.{Assertion, Base}
 use Rattle.air_gadgets.specs.Words.{rotated_left}
 use Rattle.air_gadgets.specs.Gadgets.{xor_terms, half_terms}
-use Rattle.air_gadgets.specs.Exact.{AllVanish, XorIsExact}
+use Rattle.air_builder.specs.Vanishing.{AllVanish}
+use Rattle.air_gadgets.specs.Exact.{XorIsExact}
 use Rattle.air_gadgets.specs.laws.PackedBits.{value-packed_term}
 use Rattle.air_gadgets.specs.laws.Xors.{AllChecked, TermsAreZero, ring_xors, map-rotated, xor_exact}
 

@@ -5,10 +5,10 @@ use Rattle.std.proofs.lemmas.Bool.{ltb-true, ltb-false, lt-ltb, le-ltb}
 use Rattle.std.proofs.lemmas.List.{append-nil}
 use Rattle.serde_json.specs.Data.{Data, Items, no_items, item}
 use Rattle.serde_json.specs.Find.{get, as_array}
-use Rattle.air_wire.specs.declared.errors.FlatError.{FlatError}
-use Rattle.air_wire.specs.declared.errors.FlatError.TheVariants as faults
-use Rattle.air_wire.specs.Results.{◌>>=◌}
-use Rattle.air_wire.specs.laws.Readings.{ok_of, done_is, err_of, err_is, bind_ok, ok_or_found}
+use Rattle.air_json.specs.declared.errors.FlatError.{FlatError}
+use Rattle.air_json.specs.declared.errors.FlatError.TheVariants as faults
+use Rattle.air_json.specs.Results.{◌>>=◌}
+use Rattle.air_json.specs.laws.Readings.{ok_of, done_is, err_of, err_is, bind_ok, ok_or_found}
 use Rattle.air_object.specs.Objects.{Grammar, by_form, AllSpell, FirstElementFault, list_of, at_most, needed_member, optional_member, then_member, both_members, both_or_none}
 use Rattle.air_object.specs.Readers.{Reader, or_wrong_form, each_from, list_read, if_at_most, needed_read, or_absent, optional_read, then_read, both_read, if_either}
 

@@ -5,17 +5,17 @@ use Rattle.std.specs.Prelude.{nat_lt}
 use Rattle.serde_json.specs.Find.{as_str}
 use Rattle.serde_json.specs.Data.{Data, null, boolean, number, unsigned, negative, float, string, array, object}
 use Rattle.air_field.specs.Modular.{Modular}
-use Rattle.air_wire.specs.BaseLeaves.{element_or, element_at, base_kind}
-use Rattle.air_wire.specs.laws.BaseLeaves.{element_found, element_again, base_kind_laws}
-use Rattle.air_wire.specs.Boundaries.{SpellsCell, cell_of}
-use Rattle.air_wire.specs.laws.Boundaries.{cell_laws}
-use Rattle.air_wire.specs.laws.Lists.{root_found, root_again, root_fault, root_fault_read}
-use Rattle.air_wire.specs.Parts.{as_whole_number}
-use Rattle.air_wire.specs.Results.{◌>>=◌}
-use Rattle.air_wire.specs.laws.Readings.{by_some, number_found, text_found, err_of, err_is}
-use Rattle.air_wire.specs.Spelling.{IsWholeNumber}
-use Rattle.air_wire.specs.declared.errors.FlatError.{FlatError}
-use Rattle.air_wire.specs.declared.errors.FlatError.TheVariants as faults
+use Rattle.air_json.specs.BaseLeaves.{element_or, element_at, base_kind}
+use Rattle.air_json.specs.laws.BaseLeaves.{element_found, element_again, base_kind_laws}
+use Rattle.air_json.specs.Boundaries.{SpellsCell, cell_of}
+use Rattle.air_json.specs.laws.Boundaries.{cell_laws}
+use Rattle.air_json.specs.laws.Lists.{root_found, root_again, root_fault, root_fault_read}
+use Rattle.air_json.specs.Parts.{as_whole_number}
+use Rattle.air_json.specs.Results.{◌>>=◌}
+use Rattle.air_json.specs.laws.Readings.{by_some, number_found, text_found, err_of, err_is}
+use Rattle.air_json.specs.Spelling.{IsWholeNumber}
+use Rattle.air_json.specs.declared.errors.FlatError.{FlatError}
+use Rattle.air_json.specs.declared.errors.FlatError.TheVariants as faults
 use Rattle.air_object.specs.Objects.{list_of, at_most, needed_member, optional_member, both_or_none}
 use Rattle.air_object.specs.Members.{whole_number, ElementFault, element, constraint, boundary_cell, SpellsCap, cap, label, OtherValues, constraint_count, MemberValues, other_members, members, labelled_constraints}
 use Rattle.air_object.specs.Readers.{or_wrong_form, list_read, tree, trees, elements, columns, cell_read, cells, label_read, labels, cap_in, width_member, elements_member, table_member, constraints_member, periodic_member, boundary_member, cap_member, weight_member, labels_member, labelled_read, members_read, Reader, then_read, both_read}

@@ -2,10 +2,10 @@
 use Rattle.std.specs.Prelude.{◌≡◌, ℕ, List, Option, Some, None, option_and_then, codes, refl}
 use Rattle.std.proofs.Common.{sym, ap, ◌∙◌}
 use Rattle.serde_json.specs.Data.{Data}
-use Rattle.air_wire.specs.Spelling.{HasWhole}
-use Rattle.air_wire.specs.laws.WholeNumbers.{wholes_read}
-use Rattle.air_wire.specs.Parts.{whole_at}
-use Rattle.air_wire.specs.laws.Readings.{by_some, field_found, field_read}
+use Rattle.air_json.specs.Spelling.{HasWhole}
+use Rattle.air_json.specs.laws.WholeNumbers.{wholes_read}
+use Rattle.air_json.specs.Parts.{whole_at}
+use Rattle.air_json.specs.laws.Readings.{by_some, field_found, field_read}
 use Rattle.air_recording.specs.Spellings.{layout_data, constraints_data, SpellsLayout, SpellsConstraints, HaveSameIndices, with_count, layout_from_data}
 use Rattle.air_recording.specs.declared.layouts.air_layout.AirLayout.{AirLayout}
 use Rattle.air_recording.specs.declared.layouts.constraint_layout.ConstraintLayout.{ConstraintLayout}

@@ -5,9 +5,9 @@ ghost use Rattle.air_recording.specs.Spellings.{layout_data, layout_from_data, c
 
 use crate::layouts::air_layout::AirLayout;
 use crate::layouts::constraint_layout::ConstraintLayout;
-use air_wire::parts::whole_at;
-use air_wire::whole_lists::{wholes_at, wholes_value};
-use air_wire::{FlatError, Spelled};
+use air_json::parts::whole_at;
+use air_json::whole_lists::{wholes_at, wholes_value};
+use air_json::{FlatError, Spelled};
 use serde_json::{Value, json};
 use std::alloc::{AllocError, Global};
 

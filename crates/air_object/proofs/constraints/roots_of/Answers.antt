@@ -1,8 +1,8 @@
 use Rattle.std.proofs.Common.{map}
 use Rattle.std.proofs.lemmas.List.{map_push}
 use Rattle.air_symbolic.specs.Pools.{tree_at}
-use Rattle.air_wire.specs.declared.errors.FlatError.TheVariants.{Memory}
-use Rattle.air_wire.specs.laws.ReadCalls.{gives_up_all}
+use Rattle.air_json.specs.declared.errors.FlatError.TheVariants.{Memory}
+use Rattle.air_json.specs.laws.ReadCalls.{gives_up_all}
 use Rattle.air_object.specs.Readers.{tree}
 use Rattle.air_object.proofs.Loop.{goes_on, ends, is_done}
 use Rattle.air_object.proofs.Trees.{grown_on, all_in_push, trees_kept}

@@ -1,6 +1,6 @@
 use Rattle.std.proofs.Common.{◌≡◌, [], drop}
 use Rattle.serde_json.specs.View.{items_view}
-use Rattle.air_wire.specs.BaseLeaves.{element_at}
+use Rattle.air_json.specs.BaseLeaves.{element_at}
 use Rattle.air_object.specs.Readers.{each_from}
 use Rattle.air_object.proofs.elements.elements_of.Given as goal
 

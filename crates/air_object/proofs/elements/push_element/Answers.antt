@@ -1,6 +1,6 @@
 use Rattle.std.proofs.Common.{sym}
 use Rattle.serde_json.specs.View.{view}
-use Rattle.air_wire.specs.BaseLeaves.{element_at}
+use Rattle.air_json.specs.BaseLeaves.{element_at}
 use Rattle.air_object.proofs.PartLemmas.{more_read}
 use Rattle.air_object.proofs.elements.push_element.Goals as goal
 

@@ -1,5 +1,5 @@
 use Rattle.serde_json.specs.View.{view}
-use Rattle.air_wire.specs.BaseLeaves.{element_at}
+use Rattle.air_json.specs.BaseLeaves.{element_at}
 use Rattle.air_object.proofs.PartLemmas.{gives_ok, gives_err, still_fails}
 use Rattle.air_object.proofs.elements.with_element.Goals as goal
 

@@ -2,7 +2,7 @@ use Rattle.std.proofs.Common.{◌≡◌, [], length, Some, None, ap, ◌∙◌, 
 use Rattle.json.specs.Json.{parse_map, after_end_array, items, value}
 use Rattle.serde_json.specs.Read.{of_items, converted}
 use Rattle.serde_json.specs.View.{items_of}
-use Rattle.air_wire.specs.BaseLeaves.{element_at}
+use Rattle.air_json.specs.BaseLeaves.{element_at}
 use Rattle.air_object.specs.Parts.{AreElements}
 use Rattle.air_object.specs.Readers.{each_from}
 use Rattle.air_object.proofs.PartLemmas.{one_item_more}

@@ -3,7 +3,7 @@ use Rattle.json.specs.Json.{items, value, parse_map}
 use Rattle.serde_json.specs.Data.{Data}
 use Rattle.serde_json.specs.Read.{of_items, converted}
 use Rattle.serde_json.specs.View.{items_of}
-use Rattle.air_wire.specs.BaseLeaves.{element_at}
+use Rattle.air_json.specs.BaseLeaves.{element_at}
 use Rattle.air_object.specs.Parts.{AreElements}
 use Rattle.air_object.specs.Readers.{each_from}
 use Rattle.air_object.proofs.TokenLemmas.{data_before}

@@ -2,9 +2,9 @@ use Rattle.std.proofs.Common.{◌≡◌, ℕ, ◌≤◌, List, length}
 use Rattle.json.specs.Json.{items, value, parse_map}
 use Rattle.serde_json.specs.Data.{Data}
 use Rattle.serde_json.specs.Read.{of_items, converted}
-use Rattle.air_wire.specs.BaseLeaves.{base_kind, base_seen}
-use Rattle.air_wire.specs.ListReaders.{HasRead}
-use Rattle.air_wire.specs.Unshared.{seen_at}
+use Rattle.air_json.specs.BaseLeaves.{base_kind, base_seen}
+use Rattle.air_json.specs.ListReaders.{HasRead}
+use Rattle.air_json.specs.Unshared.{seen_at}
 use Rattle.air_object.proofs.TokenLemmas.{data_before}
 use Rattle.air_object.proofs.Trees.{GrownTo}
 use Rattle.air_object.proofs.parts.read_nodes.Given as goal

@@ -4,7 +4,7 @@ use Rattle.serde_json.specs.Data.{array}
 use Rattle.serde_json.specs.Read.{of_json, of_items, converted}
 use Rattle.air_symbolic.specs.BaseLeaves.{base_reads, base_grows}
 use Rattle.air_symbolic.specs.Pools.{tree_at}
-use Rattle.air_wire.specs.ReadCalls.{ReadsTree}
+use Rattle.air_json.specs.ReadCalls.{ReadsTree}
 use Rattle.air_object.specs.Readers.{tree}
 use Rattle.air_object.specs.Begun.{IsBegun}
 use Rattle.air_object.proofs.PartLemmas.{of_array}

@@ -1,12 +1,12 @@
 use Rattle.std.proofs.Common.{List, ℕ, ◌++◌, map, string_bytes, ap, subst, ◌∙◌}
 use Rattle.air_symbolic.specs.BaseLeaves.{base_leaves}
-use Rattle.air_infix.specs.Names.{AreNames}
-use Rattle.air_explain.specs.Rows.{trace_of}
+use Rattle.air_print.specs.Names.{AreNames}
+use Rattle.air_print.specs.Rows.{trace_of}
 use Rattle.air_report.specs.FailureTexts.{seen_failure}
 use Rattle.air_report.specs.declared.debug.failure.ConstraintFailure.{ConstraintFailure}
 use Rattle.air_program.specs.Explained.{PushesExplained, PushesNames}
 use Rattle.air_program.specs.Texts.{count_lines, found_in}
-use Rattle.air_infix.specs.Lines.{lines_text}
+use Rattle.air_print.specs.Lines.{lines_text}
 use Rattle.air_program.proofs.ExplainedLemmas.{text_explained}
 use Rattle.air_program.proofs.explain.explained_text.Goals as goal
 

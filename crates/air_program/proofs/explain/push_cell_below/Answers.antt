@@ -2,7 +2,7 @@ use Rattle.std.proofs.Common.{List, ℕ, ◌-◌, sym, ap₂, ◌∙◌, string_
 use Rattle.std.specs.Prelude.{slice_get}
 use Rattle.air_field.specs.Assignment.{row_assignment}
 use Rattle.air_core.specs.declared.boundary.BoundaryPublic.{BoundaryPublic}
-use Rattle.air_explain.specs.Rows.{trace_of}
+use Rattle.air_print.specs.Rows.{trace_of}
 use Rattle.air_program.proofs.ExplainedLemmas.{item_past, no_cell}
 use Rattle.air_program.proofs.explain.push_cell_below.Goals as goal
 

@@ -2,12 +2,12 @@ use Rattle.std.proofs.Common.{◌≡◌, ◌<◌, ◌++◌, List, ℕ, Some, len
 use Rattle.std.specs.Prelude.{slice_get}
 use Rattle.std.specs.Slice.{IsItemAt}
 use Rattle.air_symbolic.specs.Reach.{Marked}
-use Rattle.air_explain.specs.Explained.{explained_lines}
-use Rattle.air_explain.specs.Reading.{Reads}
-use Rattle.air_explain.specs.Rows.{trace_of}
-use Rattle.air_explain.specs.laws.Values.{reads_here}
+use Rattle.air_print.specs.Explained.{explained_lines}
+use Rattle.air_print.specs.Reading.{Reads}
+use Rattle.air_print.specs.Rows.{trace_of}
+use Rattle.air_print.specs.laws.Values.{reads_here}
 use Rattle.air_report.specs.FailureTexts.{seen_failure}
-use Rattle.air_infix.specs.Lines.{lines_text}
+use Rattle.air_print.specs.Lines.{lines_text}
 use Rattle.air_program.proofs.ExplainedLemmas.{item_there, item_past, item_has, root_explained, past_explained, cell_explained}
 use Rattle.air_program.proofs.explain.push_explained_failure.Goals as goal
 

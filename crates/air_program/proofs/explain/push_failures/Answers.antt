@@ -1,6 +1,6 @@
 use Rattle.std.proofs.Common.{List, ℕ, Option, string_bytes, subst}
 use Rattle.std.specs.Prelude.{IfSome}
-use Rattle.air_explain.specs.Rows.{trace_of}
+use Rattle.air_print.specs.Rows.{trace_of}
 use Rattle.air_program.specs.AtHand.{KnownAt}
 use Rattle.air_program.proofs.ExplainedLemmas.{explained-more}
 use Rattle.air_program.proofs.explain.push_failures.Goals as goal

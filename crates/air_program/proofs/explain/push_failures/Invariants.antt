@@ -1,7 +1,7 @@
 use Rattle.std.proofs.Common.{map, take, string_bytes}
 use Rattle.std.specs.Prelude.{IfSome}
 use Rattle.air_report.specs.FailureTexts.{seen_failure}
-use Rattle.air_explain.specs.Rows.{trace_of}
+use Rattle.air_print.specs.Rows.{trace_of}
 use Rattle.air_program.specs.AtHand.{KnownAt}
 use Rattle.air_program.specs.Explained.{PushesExplained}
 use Rattle.air_program.proofs.explain.push_failures.Given as goal

@@ -1,6 +1,6 @@
 use Rattle.std.proofs.Common.{◌≡◌, List, ℕ, String, Global, Ok, Err, map, string_bytes, refl, ap, subst, ◌∙◌, inl}
-use Rattle.air_wire.specs.Faults.{air_fault}
-use Rattle.air_infix.specs.Lines.{ShowsRoots}
+use Rattle.air_json.specs.Faults.{air_fault}
+use Rattle.air_print.specs.Lines.{ShowsRoots}
 use Rattle.air_program.specs.Refusals.{air_refusal}
 use Rattle.air_program.proofs.NamedAnswers.{gives_both}
 use Rattle.air_program.proofs.ShowAnswers.{shows_given, refused_given}

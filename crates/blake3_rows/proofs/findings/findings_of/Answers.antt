@@ -1,5 +1,5 @@
 use Rattle.std.proofs.Common.{◌≡◌, ◌*◌, ◌^◌, ◌<◌, [], Result, Ok, Err, None, IfOk}
-use Rattle.air_blake3_rows.specs.Checks.{ReportsListNothing}
+use Rattle.air_blake3.specs.Checks.{ReportsListNothing}
 use Rattle.blake3_rows.specs.declared.findings.Findings.{Findings}
 use Rattle.blake3_rows.proofs.findings.findings_of.Goals as goal
 

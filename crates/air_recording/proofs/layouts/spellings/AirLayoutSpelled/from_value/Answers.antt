@@ -1,7 +1,7 @@
 use Rattle.std.proofs.Common.{sym, ◌∙◌}
 use Rattle.serde_json.specs.View.{view}
 use Rattle.air_recording.specs.laws.Spellings.{layout_found, layout_again}
-use Rattle.air_wire.specs.laws.Answering.{read_is, nothing_is}
+use Rattle.air_json.specs.laws.Answering.{read_is, nothing_is}
 use Rattle.air_recording.proofs.layouts.spellings.AirLayoutSpelled.from_value.Goals as goal
 
 pub returns-clause-read : goal.returns-clause-read

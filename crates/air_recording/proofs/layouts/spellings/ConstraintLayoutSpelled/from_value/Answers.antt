@@ -1,7 +1,7 @@
 use Rattle.std.proofs.Common.{codes}
 use Rattle.std.proofs.lemmas.Result.{err_from_is_err_and}
 use Rattle.serde_json.specs.View.{view}
-use Rattle.air_wire.specs.declared.errors.FlatError.TheVariants.{Shape}
+use Rattle.air_json.specs.declared.errors.FlatError.TheVariants.{Shape}
 use Rattle.air_recording.proofs.ListFields.{no_list, list_is}
 use Rattle.air_recording.proofs.layouts.spellings.ConstraintLayoutSpelled.from_value.Goals as goal
 

@@ -1,4 +1,0 @@
-pub mod Values
-pub mod Traces
-pub mod Checks
-pub mod Messages

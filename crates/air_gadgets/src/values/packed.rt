@@ -1,0 +1,85 @@
+//! Expressions that an index numbers, packed into one.
+ghost use Rattle.std.specs.Prelude.{◌≡◌, ℕ, ◌+◌, ◌<◌, ◌≤◌, IfOk, IfErr};
+ghost use Rattle.air_field.specs.Algebra.{MadeOfBoth, RefusedOfBoth};
+ghost use Rattle.air_field.specs.Term.{Term};
+ghost use Rattle.air_gadgets.specs.Packing.{packed_from, packed_term};
+ghost use Rattle.air_author.specs.Expressions.{MakesIn};
+ghost use Rattle.air_gadgets.specs.BitTerms.{twice_and_term, terms_from, first_terms};
+
+use air_author::{AirResult, Constant, Expression, to_air_result};
+use air_builder::{AirBuilder, View};
+use air_field::{Algebra, Field, RingError};
+
+/// Expressions that an index numbers.
+pub trait Series<AB: AirBuilder> {
+    /// How many there are.
+    ghost count: { Self → ℕ };
+
+    /// What the one at an index means.
+    ghost term_at: { Self → ℕ → Term AB.F };
+
+    /// How many there are.
+    fn count(&self) -> usize
+        ensures { result ≡ count self.now };
+
+    /// Makes the one at the index.
+    fn make_at(&self, index: usize, builder: &mut AB) -> AirResult<AB::Expr>
+        requires ready { AB.ready builder.old }
+        requires within { index < count self.now }
+        ensures { MakesIn ⟦<AB as View>⟧.view builder.old builder.new result
+            (term_at self.now index) };
+}
+
+/// 2x + y
+#[inline(always)]
+fn twice_and<F: Field, R: Algebra<F>>(
+    ring: &mut R,
+    x: R::Elem,
+    y: R::Elem,
+) -> Result<R::Elem, RingError>
+    requires x_in { R.has ring.old x }
+    requires y_in { R.has ring.old y }
+    ensures extended { R.extends ring.old ring.new }
+    ensures made { IfOk result (MadeOfBoth R.has R.means twice_and_term ring.old ring.new x y) }
+    ensures refused { IfErr result (RefusedOfBoth R.means R.refuses twice_and_term ring.old x y) }
+{
+    let twice = ring.double(x)?;
+    ring.add(twice, y)
+}
+
+/// The sum of 2^i x_i, of the one at an index and of so many more.
+fn make_packed<AB: AirBuilder, S: Series<AB>>(
+    builder: &mut AB,
+    series: &S,
+    at: usize,
+    more: usize,
+) -> AirResult<AB::Expr>
+    requires ready { AB.ready builder.old }
+    requires within { at + more < S.count series.now }
+    requires fits { at + more ≤ usize.MAX }
+    ensures { MakesIn ⟦<AB as View>⟧.view builder.old builder.new result
+        (packed_from (S.term_at series.now at) (terms_from (S.term_at series.now) (at + 1) more)) }
+{
+    if more == 0 {
+        return series.make_at(at, builder);
+    }
+    let above = make_packed(builder, series, at + 1, more - 1)?;
+    let bit = series.make_at(at, builder)?;
+    to_air_result(twice_and(builder.ring(), above, bit))
+}
+
+/// The sum of 2^i x_i; of none, zero.
+#[derive(Clone, Copy, Drop)]
+pub struct Packed<S>(pub S);
+
+impl<AB: AirBuilder, S: Series<AB>> Expression<AB> for Packed<S> {
+    ghost term = { λ s. packed_term AB.F.ring.zero (first_terms (S.term_at s.0) (S.count s.0)) };
+
+    fn make(&self, builder: &mut AB) -> AirResult<AB::Expr> {
+        let count = self.0.count();
+        if count == 0 {
+            return Constant(AB::F::ZERO).make(builder);
+        }
+        make_packed(builder, &self.0, 0, count - 1)
+    }
+}

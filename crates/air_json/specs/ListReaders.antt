@@ -1,0 +1,31 @@
+-- A list of nodes that is read node by node.
+use Rattle.std.specs.Prelude.{◌≡◌, ◌≢◌, ℕ, ◌<◌, ◌-◌, List, [], length, map, All, Option, Some, None, Result, Ok, Err, IfOk, IfErr, ok_or}
+use Rattle.std.specs.List.{slice_get}
+use Rattle.serde_json.specs.Data.{Data}
+use Rattle.serde_json.specs.View.{items_of}
+use Rattle.air_symbolic.specs.Trees.{Tree}
+use Rattle.air_json.specs.Results.{◌>>=◌}
+use Rattle.air_json.specs.Nodes.{Kind}
+use Rattle.air_json.specs.NodeLists.{AreNodes, FirstFault}
+use Rattle.air_json.specs.declared.errors.FlatError.{FlatError}
+use Rattle.air_json.specs.declared.errors.FlatError.TheVariants as faults
+use Rattle.air_symbolic.specs.Pools.{Pool, size}
+
+-- a reader's numbers, unless it has met a fault
+abbrev pub numbers_or : List ℕ → Option FlatError → Result (List ℕ) FlatError
+numbers_or ids None = Ok ids
+numbers_or ids (Some f) = Err f
+
+-- the last of them
+abbrev pub last_number : Result (List ℕ) FlatError → Result ℕ FlatError
+last_number reader = reader >>= λ ids. ok_or (slice_get ids (length ids - 1)) faults.EmptyList
+
+-- The reader has read the values ds: each is a node behind those before it, and the reader has
+-- numbers of the pool p with their trees, as tree sees them; or one is none, and the reader has the
+-- first fault, unless memory ran out.
+pub record HasRead {U A S F : Type 0} (kind : Kind S F) (tree : Pool U A → ℕ → Option (Tree S))
+    (p : Pool U A) (ds : List Data) (reader : Result (List ℕ) FlatError) : Type 0 where
+  pub here : IfOk reader (λ ids. All (λ i. i < size p) ids)
+  pub nodes : IfOk reader (λ ids. (ts : List (Tree S)) × (map (tree p) ids ≡ map Some ts)
+      × AreNodes kind [] (items_of ds) ts)
+  pub fault : IfErr reader (λ f. f ≢ faults.Memory → FirstFault kind [] (items_of ds) f)

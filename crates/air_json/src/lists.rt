@@ -1,0 +1,177 @@
+//! Lists of nodes.
+ghost use Rattle.std.specs.Prelude.{◌≡◌, ◌≢◌, ◌<◌, ◌∷◌, ◌++◌, [], List, map, filter_map, All, Ok, IfOk, IfErr};
+ghost use Rattle.serde_json.specs.Data.{Data, array};
+ghost use Rattle.serde_json.specs.View.{view, items_of};
+ghost use Rattle.air_symbolic.specs.Pools.{Pool, IsPool, FitsBase, Grown, size};
+ghost use Rattle.air_json.specs.ListReaders.{numbers_or, last_number, HasRead};
+ghost use Rattle.air_json.specs.ReadCalls.{AreOf, ReadsTree, ReadsAll};
+ghost use Rattle.air_json.specs.Results.{all_some};
+ghost use Rattle.air_json.specs.Unshared.{seen_at};
+ghost use Rattle.air_json.specs.NodeLists.{IsList, HasFault};
+ghost use Rattle.air_json.specs.Nodes.{root_of, node_more};
+
+use crate::errors::FlatError;
+use crate::nodes::node_from;
+use crate::wire_leaf::WireLeaf;
+use air_symbolic::{ExprId, ExprPool, SymLeaf};
+use serde_json::Value;
+use std::alloc::Global;
+use std::marker::Model;
+
+/// A list of nodes that is read into a pool node by node, so that no more than one need be there as a value: the
+/// expressions of the nodes so far, or the list's first fault.
+#[derive(Drop)]
+pub struct ListReader<A: SymLeaf> {
+    ids: Vec<ExprId<A>>,
+    fault: Option<FlatError>,
+}
+
+impl<A: SymLeaf> Model for ListReader<A> {
+    ghost use Rattle.std.specs.Prelude.{ℕ, List, Result};
+    ghost use Rattle.air_json.specs.ListReaders.{numbers_or};
+    ghost use Rattle.air_json.specs.declared.errors.FlatError.{FlatError};
+
+    ghost Value = { Result (List ℕ) FlatError };
+
+    ghost view = { λ l. numbers_or l.ids.items l.fault };
+}
+
+// The expressions, and that of the node that the value spells.
+fn push_node<A: WireLeaf>(
+    alloc: Global,
+    pool: &mut ExprPool<A>,
+    ids: &mut Vec<ExprId<A>>,
+    value: &Value,
+) -> Result<(), FlatError>
+    requires { AreOf A.reads pool.old ids.old.items }
+    ensures { ReadsAll A.grows A.reads (seen_at A.seen) (λ _. ids.new.items) pool.old pool.new
+        result (all_some (node_more A.kind (Ok (filter_map (seen_at A.seen pool.old) ids.old.items))
+        (view value.now))) }
+{
+    let id = node_from(alloc, pool, ids, value)?;
+    ids.push(id)?;
+    Ok(())
+}
+
+// The same, unless there is a fault already; then the fault.
+fn fault_after<A: WireLeaf>(
+    alloc: Global,
+    pool: &mut ExprPool<A>,
+    ids: &mut Vec<ExprId<A>>,
+    fault: Option<FlatError>,
+    value: &Value,
+) -> Option<FlatError>
+    requires pool { IsPool A.reads pool.old }
+    requires here { IfOk (numbers_or ids.old.items fault)
+        (λ is. All (λ i. i < size pool.old) is) }
+    ensures grown { Grown A.grows A.reads pool.old pool.new }
+    ensures read { (ds : List Data)
+        → HasRead A.kind (seen_at A.seen) pool.old ds (numbers_or ids.old.items fault)
+        → HasRead A.kind (seen_at A.seen) pool.new (ds ++ view value.now ∷ [])
+        (numbers_or ids.new.items result) }
+{
+    match fault {
+        Some(fault) => Some(fault),
+        None => match push_node(alloc, pool, ids, value) {
+            Ok(()) => None,
+            Err(fault) => Some(fault),
+        },
+    }
+}
+
+// The expression at the last place, unless there is a fault.
+fn last_or<A: WireLeaf>(ids: &[ExprId<A>], fault: Option<FlatError>) -> Result<ExprId<A>, FlatError>
+    ensures { result ≡ last_number (numbers_or ids.now fault) }
+{
+    match fault {
+        Some(fault) => Err(fault),
+        None => match ids.last() {
+            Some(id) => Ok(*id),
+            None => Err(FlatError::EmptyList),
+        },
+    }
+}
+
+impl<A: WireLeaf> ListReader<A> {
+    /// A reader before the list's first node.
+    pub fn new(alloc: Global) -> Self
+        ensures { (p : Pool A.Base A)
+            → HasRead A.kind (seen_at A.seen) p [] result }
+    {
+        ListReader {
+            ids: Vec::new(alloc),
+            fault: None,
+        }
+    }
+
+    /// Reads the list's next node, which is inserted unfolded; behind a fault no further node is read.
+    pub fn read_node(&mut self, alloc: Global, pool: &mut ExprPool<A>, value: &Value)
+        requires owed { FitsBase A.reads pool.old }
+        requires here { IfOk self.old (λ ids. All (λ i. i < size pool.old) ids) }
+        ensures grown { Grown A.grows A.reads pool.old pool.new }
+        ensures read { (ds : List Data) → HasRead A.kind (seen_at A.seen) pool.old ds self.old
+            → HasRead A.kind (seen_at A.seen) pool.new (ds ++ view value.now ∷ []) self.new }
+    {
+        pool.nodes_fit();
+        self.fault = fault_after(alloc, pool, &mut self.ids, self.fault, value);
+    }
+
+    /// The expression of the root of the list that is read, its last node, or the list's first fault.
+    pub fn root(self) -> Result<ExprId<A>, FlatError>
+        ensures here { (p : Pool A.Base A) → (ds : List Data)
+            → HasRead A.kind (seen_at A.seen) p ds self → IfOk result (λ i. i < size p) }
+        ensures root { (p : Pool A.Base A) → (ds : List Data)
+            → HasRead A.kind (seen_at A.seen) p ds self
+            → IfOk result (λ i. IsList A.kind (array (items_of ds)) (seen_at A.seen p i)) }
+        ensures fault { (p : Pool A.Base A) → (ds : List Data)
+            → HasRead A.kind (seen_at A.seen) p ds self → IfErr result
+            (λ e. e ≢ FlatError.Memory → HasFault A.kind (array (items_of ds)) e) }
+    {
+        last_or(&self.ids, self.fault)
+    }
+}
+
+// The reader that has read the items.
+fn items_from<A: WireLeaf>(alloc: Global, pool: &mut ExprPool<A>, items: &[Value]) -> ListReader<A>
+    requires { IsPool A.reads pool.old }
+    ensures grown { Grown A.grows A.reads pool.old pool.new }
+    ensures read { HasRead A.kind (seen_at A.seen) pool.new (map view items.now) result }
+{
+    let mut list = ListReader::new(alloc);
+    for item in items {
+        list.read_node(alloc, pool, item);
+    }
+    list
+}
+
+#[tactic(auto, unfolding(crate::specs::Nodes::root_of))]
+pub(crate) fn list_from<A: WireLeaf>(
+    alloc: Global,
+    pool: &mut ExprPool<A>,
+    value: &Value,
+) -> Result<ExprId<A>, FlatError>
+    requires { IsPool A.reads pool.old }
+    ensures { ReadsTree A.grows A.reads (seen_at A.seen) pool.old pool.new result
+        (root_of A.kind (view value.now)) }
+{
+    let items = value.as_array().ok_or(FlatError::Shape { at: 0 })?;
+    let list = items_from(alloc, pool, items);
+    list.root()
+}
+
+/// Reads a list of nodes, which are inserted unfolded, and answers the expression of its root, the last node. Any
+/// other value is refused with the first fault in the list's order; nodes before it may stay in the pool.
+pub fn from_flat_value<A: WireLeaf>(
+    alloc: Global,
+    pool: &mut ExprPool<A>,
+    value: &Value,
+) -> Result<ExprId<A>, FlatError>
+    requires { FitsBase A.reads pool.old }
+    ensures grown { Grown A.grows A.reads pool.old pool.new }
+    ensures here { IfOk result (λ i. i < size pool.new) }
+    ensures root { IfOk result (λ i. IsList A.kind (view value.now) (seen_at A.seen pool.new i)) }
+    ensures fault { IfErr result (λ e. e ≢ FlatError.Memory → HasFault A.kind (view value.now) e) }
+{
+    pool.nodes_fit();
+    list_from(alloc, pool, value)
+}

@@ -1,0 +1,162 @@
+//! Lists of nodes that are written.
+ghost use Rattle.std.specs.Prelude.{◌≡◌, ◌<◌, ◌+◌, [], ◌∷◌, ◌++◌, true, false, map, replicate, IfOk, IfErr};
+ghost use Rattle.serde_json.specs.Data.{array};
+ghost use Rattle.serde_json.specs.View.{view, items_of};
+ghost use Rattle.air_symbolic.specs.Pools.{IsPool, FitsBase, size};
+ghost use Rattle.air_symbolic.specs.Trees.{leaf_tree};
+ghost use Rattle.air_json.specs.Unshared.{seen_at};
+ghost use Rattle.air_json.specs.Written.{AreNodesOf, IsWritten};
+ghost use Rattle.air_json.specs.Writing.{steps_of};
+
+use crate::errors::FlatError;
+use crate::wire_leaf::WireLeaf;
+use crate::written_nodes::{leaf_node_value, node_value, place_of};
+use air_symbolic::{ExprId, ExprPool, SymbolicExpr};
+use serde_json::Value;
+use std::alloc::{AllocError, Global};
+
+// A table of places by number in which none is known.
+fn no_places(alloc: Global, count: usize) -> Result<Vec<Option<usize>>, AllocError>
+    ensures { IfOk result (λ v. v.items ≡ replicate count None) }
+{
+    vec![in alloc; None; count]
+}
+
+// How many numbers there are up to this one, which is the greatest that its list may name.
+fn numbers_to<A: WireLeaf>(pool: &ExprPool<A>, id: ExprId<A>) -> usize
+    requires { id < size pool.now }
+    ensures { result ≡ id + 1 }
+{
+    pool.len().min(id.number() + 1)
+}
+
+fn push_one<A: WireLeaf>(
+    steps: &mut Vec<(ExprId<A>, bool)>,
+    id: ExprId<A>,
+    x: ExprId<A>,
+) -> Result<(), FlatError>
+    ensures pushed { IfOk result (λ _. steps.new.items ≡ steps.old.items
+        ++ (id, true) ∷ (x, false) ∷ []) }
+    ensures refused { IfErr result (λ e. e ≡ FlatError.Memory) }
+{
+    steps.push((id, true))?;
+    steps.push((x, false))?;
+    Ok(())
+}
+
+fn push_two<A: WireLeaf>(
+    steps: &mut Vec<(ExprId<A>, bool)>,
+    id: ExprId<A>,
+    x: ExprId<A>,
+    y: ExprId<A>,
+) -> Result<(), FlatError>
+    ensures pushed { IfOk result (λ _. steps.new.items ≡ steps.old.items
+        ++ (id, true) ∷ (y, false) ∷ (x, false) ∷ []) }
+    ensures refused { IfErr result (λ e. e ≡ FlatError.Memory) }
+{
+    steps.push((id, true))?;
+    steps.push((y, false))?;
+    steps.push((x, false))?;
+    Ok(())
+}
+
+// Looks at the operands, left before right, and writes the node behind them.
+fn push_steps<A: WireLeaf>(
+    steps: &mut Vec<(ExprId<A>, bool)>,
+    id: ExprId<A>,
+    node: &SymbolicExpr<A>,
+) -> Result<(), FlatError>
+    ensures pushed { IfOk result (λ _. steps.new.items ≡ steps.old.items
+        ++ steps_of id node.now) }
+    ensures refused { IfErr result (λ e. e ≡ FlatError.Memory) }
+{
+    match *node {
+        SymbolicExpr::Leaf(_) => Ok(steps.push((id, true))?),
+        SymbolicExpr::Add { x, y, .. } => push_two(steps, id, x, y),
+        SymbolicExpr::Sub { x, y, .. } => push_two(steps, id, x, y),
+        SymbolicExpr::Neg { x, .. } => push_one(steps, id, x),
+        SymbolicExpr::Mul { x, y, .. } => push_two(steps, id, x, y),
+    }
+}
+
+// The nodes of the list. A node is written where it has no place yet and its operands have theirs, so each once; the
+// steps that are left stand on a stack, which is as deep as the tree may be.
+fn nodes_of<A: WireLeaf>(
+    alloc: Global,
+    pool: &ExprPool<A>,
+    root: ExprId<A>,
+) -> Result<Vec<Value>, FlatError>
+    requires pool { IsPool A.reads pool.now }
+    requires here { root < size pool.now }
+    ensures written { IfOk result (λ v. IsWritten A.kind (array (items_of (map view v.items)))
+        (seen_at A.seen pool.now root)) }
+    ensures refused { IfErr result (λ e. e ≡ FlatError.Memory) }
+{
+    let mut places = no_places(alloc, numbers_to(pool, root))?;
+    let mut items = Vec::new(alloc);
+    let mut steps = Vec::new(alloc);
+    steps.push((root, false))?;
+    while let Some(step) = steps.pop() {
+        let (id, ready) = step;
+        if place_of(&places, id).is_some() {
+            continue;
+        }
+        let node = pool.node(id);
+        if !ready {
+            push_steps(&mut steps, id, node)?;
+            continue;
+        }
+        let value = node_value(alloc, pool.base(), &places, node)?;
+        places[id.number()] = Some(items.len());
+        items.push(value)?;
+    }
+    Ok(items)
+}
+
+// The one node of a list whose root is a leaf.
+fn leaf_alone<A: WireLeaf>(alloc: Global, base: &A::Base, leaf: &A) -> Result<Vec<Value>, FlatError>
+    requires sound { (A.reads base.now).sound }
+    requires valid { (A.reads base.now).valid leaf.now }
+    ensures written { IfOk result (λ v. AreNodesOf A.kind (map view v.items)
+        (leaf_tree (A.seen base.now leaf.now))) }
+    ensures refused { IfErr result (λ e. e ≡ FlatError.Memory) }
+{
+    let node = leaf_node_value(alloc, base, leaf)?;
+    let mut items = Vec::with_capacity(alloc, 1)?;
+    items.push(node)?;
+    Ok(items)
+}
+
+// The nodes of the list; a leaf, as most Base leaves hold one, needs no table.
+fn items_of<A: WireLeaf>(
+    alloc: Global,
+    pool: &ExprPool<A>,
+    root: ExprId<A>,
+) -> Result<Vec<Value>, FlatError>
+    requires pool { IsPool A.reads pool.now }
+    requires here { root < size pool.now }
+    ensures written { IfOk result (λ v. IsWritten A.kind (array (items_of (map view v.items)))
+        (seen_at A.seen pool.now root)) }
+    ensures refused { IfErr result (λ e. e ≡ FlatError.Memory) }
+{
+    match pool.node(root) {
+        SymbolicExpr::Leaf(leaf) => leaf_alone(alloc, pool.base(), leaf),
+        _ => nodes_of(alloc, pool, root),
+    }
+}
+
+/// The list of the expression's nodes: the subtrees of its tree in post-order, each once, at its first place.
+pub fn to_flat_value<A: WireLeaf>(
+    alloc: Global,
+    pool: &ExprPool<A>,
+    id: ExprId<A>,
+) -> Result<Value, FlatError>
+    requires owed { FitsBase A.reads pool.now }
+    requires here { id < size pool.now }
+    ensures written { IfOk result (λ v. IsWritten A.kind (view v) (seen_at A.seen pool.now id)) }
+    ensures refused { IfErr result (λ e. e ≡ FlatError.Memory) }
+{
+    pool.nodes_fit();
+    let items = items_of(alloc, pool, id)?;
+    Ok(Value::from(items))
+}

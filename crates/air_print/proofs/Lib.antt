@@ -1,0 +1,10 @@
+pub mod ShownLemmas
+pub mod PieceLemmas
+pub mod CountLemmas
+pub mod NameLemmas
+pub mod LineLemmas
+pub mod LineEnds
+pub mod LabelLemmas
+pub mod Numbers
+pub mod Definitions
+pub mod Pieces

@@ -1,0 +1,6 @@
+use Rattle.std.proofs.Common.{length}
+use Rattle.air_print.proofs.CountLemmas.{mark-own}
+use Rattle.air_print.proofs.naming.named_at.Goals as goal
+
+pub node-requires-clause-here : goal.node-requires-clause-here
+node-requires-clause-here g c = (mark-own (length c.args.pool.now.nodes) c.args.marks.now c.args.number _ c.in-Some.id c.requires.marks c.requires.here c.in-Some.is).1

@@ -1,0 +1,13 @@
+pub mod Infix
+pub mod Pieces
+pub mod Names
+pub mod Counts
+pub mod Labels
+pub mod Lines
+pub mod Rows
+pub mod Values
+pub mod Reading
+pub mod Equations
+pub mod Cells
+pub mod Explained
+pub mod laws

@@ -1,0 +1,43 @@
+-- The columns, periodic columns and public values that an expression names.
+use Rattle.std.specs.Prelude.{slice_get, ◌≡◌, ℕ, Bool, true, false, ◌&&◌, List, [], ◌∷◌, length, Option, None, Some}
+use Rattle.air_symbolic.specs.BaseLeaves.{base_leaves}
+use Rattle.air_symbolic.specs.Reach.{Reached}
+use Rattle.air_symbolic.specs.declared.leaves.base_leaf.BaseLeaf.{BaseLeaf}
+use Rattle.air_symbolic.specs.declared.leaves.base_leaf.BaseLeaf.TheVariants as leaf
+use Rattle.air_symbolic.specs.declared.pools.expr.SymbolicExpr.{SymbolicExpr}
+use Rattle.air_symbolic.specs.declared.pools.expr.SymbolicExpr.TheVariants as node
+use Rattle.air_print.specs.Names.{is_reached, passing_below}
+
+abbrev pub is_variable_leaf : {F : Type 0} → BaseLeaf F → Bool
+is_variable_leaf (leaf.Variable v) = true
+is_variable_leaf leaf.IsFirstRow = false
+is_variable_leaf leaf.IsLastRow = false
+is_variable_leaf leaf.IsTransition = false
+is_variable_leaf (leaf.Constant c) = false
+
+-- a column, a periodic column or a public value
+abbrev pub is_variable : {F : Type 0} → SymbolicExpr (BaseLeaf F) → Bool
+is_variable (node.Leaf a) = is_variable_leaf a
+is_variable (node.Add x y d) = false
+is_variable (node.Sub x y d) = false
+is_variable (node.Neg x d) = false
+is_variable (node.Mul x y d) = false
+
+abbrev pub has_variable : {F : Type 0} → Option (SymbolicExpr (BaseLeaf F)) → Bool
+has_variable None = false
+has_variable (Some n) = is_variable n
+
+-- number i is marked and such a leaf
+abbrev pub is_read : {F : Type 0} → List (SymbolicExpr (BaseLeaf F)) → List (Option ℕ) → ℕ → Bool
+is_read ns marks i = is_reached marks i && has_variable (slice_get ns i)
+
+-- those below n, in order
+abbrev pub read_below : {F : Type 0} → List (SymbolicExpr (BaseLeaf F)) → List (Option ℕ) → ℕ → List ℕ
+read_below ns marks n = passing_below (is_read ns marks) n
+
+-- The numbers of the columns, periodic columns and public values that the tree of a number has: each once, in the order of
+-- the pool.
+pub record Reads {F : Type 0} (ns : List (SymbolicExpr (BaseLeaf F))) (root : ℕ) (numbers : List ℕ) : Type 0 where
+  pub marks : List (Option ℕ)
+  pub reached : Reached base_leaves ns (root ∷ []) marks
+  pub numbers_are : numbers ≡ read_below ns marks (length ns)

@@ -1,0 +1,96 @@
+-- Lines by values that are known, and what a number's reads are.
+use Rattle.std.specs.Prelude.{slice_get}
+use Rattle.std.proofs.Common.{◌≡◌, ℕ, zero, suc, ◌<◌, ◌≤◌, Bool, true, false, ◌&&◌, cond, List, [], ◌∷◌, ◌++◌, length, slice_index_or, map, All, Contains, Option, None, Some, is_some, codes, refl, sym, ap, ap₂, subst, ◌∙◌, arith, ⊎_elim}
+use Rattle.std.proofs.lemmas.List.{map-append}
+use Rattle.std.proofs.lemmas.List.Elements.{All-nil, All-cons, All-append}
+use Rattle.air_field.specs.Modular.{Modular}
+use Rattle.air_field.specs.Ring.{CommRing}
+use Rattle.air_field.specs.Term.{Leaf}
+use Rattle.air_symbolic.specs.BaseLeaves.{base_leaves}
+use Rattle.air_symbolic.specs.ExtLeaves.{BaseNodes}
+use Rattle.air_symbolic.specs.Reach.{EachOperand, IsOperand, Marked, Reached, ReachedFrom, root, operand}
+use Rattle.air_symbolic.specs.declared.leaves.base_leaf.BaseLeaf.{BaseLeaf}
+use Rattle.air_symbolic.specs.declared.pools.expr.SymbolicExpr.{SymbolicExpr}
+use Rattle.air_symbolic.specs.declared.pools.expr.SymbolicExpr.TheVariants as node
+use Rattle.air_print.specs.Infix.{shown_number, infix_text, constant_text}
+use Rattle.air_print.specs.Lines.{listed_name}
+use Rattle.air_print.specs.Names.{is_reached, passing_below}
+use Rattle.air_print.specs.declared.binding.Binding.TheVariants.{Loose}
+use Rattle.air_print.specs.Equations.{equation, equation_lines}
+use Rattle.air_print.specs.Explained.{explained_lines, Explains}
+use Rattle.air_print.specs.Reading.{Reads, has_variable, is_read}
+use Rattle.air_print.specs.Values.{number_value, Known, AreClosed}
+
+each_operand : {A : Type 0} (P : ℕ → Type 0) (i : ℕ) (n : SymbolicExpr A) → EachOperand P n → IsOperand i n → P i
+each_operand P i (node.Leaf a) h e = absurd e
+each_operand P i (node.Add x y d) h e = ⊎_elim (λ (p : i ≡ x). subst P (sym p) h.0) (λ (p : i ≡ y). subst P (sym p) h.1) e
+each_operand P i (node.Sub x y d) h e = ⊎_elim (λ (p : i ≡ x). subst P (sym p) h.0) (λ (p : i ≡ y). subst P (sym p) h.1) e
+each_operand P i (node.Neg x d) h e = subst P (sym e) h
+each_operand P i (node.Mul x y d) h e = ⊎_elim (λ (p : i ≡ x). subst P (sym p) h.0) (λ (p : i ≡ y). subst P (sym p) h.1) e
+
+-- what a marked number reaches is marked
+marked_reach : {F : Type 0} (ns : List (SymbolicExpr (BaseLeaf F))) (marks : List (Option ℕ)) (from i : ℕ) → AreClosed ns marks → Marked marks from → ReachedFrom base_leaves ns (from ∷ []) i → Marked marks i
+marked_reach ns marks from i closed at (root c) = subst (λ j. Marked marks j) (only c) at
+  where
+    only : Contains (from ∷ []) i → from ≡ i
+    only c = let first : c.0 ≡ 0 = omega (arith, c.1) in sym (ap (λ (j : ℕ). slice_index_or (from ∷ []) j i) first) ∙ c.2
+marked_reach ns marks from i closed at (operand {j = j} {n = n} h is op) =
+    each_operand (λ k. Marked marks k) i n (closed.operands j n (marked_reach ns marks from j closed at h) is) op
+
+both_true : (a b : Bool) → a && b ≡ true → a ≡ true
+both_true true b h = refl
+both_true false b h = h
+
+some_of : (o : Option ℕ) → is_some o ≡ true → (j : ℕ) × (o ≡ Some j)
+some_of None h = cc
+some_of (Some j) h = (j, refl)
+
+-- functions that agree on what passes
+same_below : {X : Type 0} (test : ℕ → Bool) (f g : ℕ → X) (n : ℕ) → ((i : ℕ) → i < n → test i ≡ true → f i ≡ g i) → map f (passing_below test n) ≡ map g (passing_below test n)
+same_below test f g zero h = refl
+same_below test f g (suc n) h =
+    map-append f (passing_below test n) (cond (test n) (n ∷ []) [])
+    ∙ ap₂ (λ xs ys. xs ++ ys) (same_below test f g n (λ i b t. h i (omega (arith, b)) t)) (last (test n) refl)
+    ∙ sym (map-append g (passing_below test n) (cond (test n) (n ∷ []) []))
+  where
+    last : (b : Bool) → test n ≡ b → map f (cond b (n ∷ []) []) ≡ map g (cond b (n ∷ []) [])
+    last true e = ap (λ x. x ∷ []) (h n (omega arith) e)
+    last false e = refl
+
+-- what passes below n is below k, if n isn't above it
+pub passing_low : (test : ℕ → Bool) (k n : ℕ) → n ≤ k → All (λ x. x < k) (passing_below test n)
+passing_low test k zero le = All-nil (λ x. x < k)
+passing_low test k (suc n) le =
+    All-append (λ x. x < k) (passing_below test n) (cond (test n) (n ∷ []) []) (passing_low test k n (omega (arith, le))) (either (test n))
+  where
+    either : (b : Bool) → All (λ x. x < k) (cond b (n ∷ []) [])
+    either true = All-cons (λ x. x < k) n [] (omega (arith, le)) (All-nil (λ x. x < k))
+    either false = All-nil (λ x. x < k)
+
+-- what is read is in the pool
+pub reads_here : {F : Type 0} (ns : List (SymbolicExpr (BaseLeaf F))) (from : ℕ) (numbers : List ℕ) → Reads ns from numbers → All (λ i. i < length ns) numbers
+reads_here ns from numbers h = subst (λ xs. All (λ i. i < length ns) xs) (sym h.numbers_are) (passing_low (is_read ns h.marks) (length ns) (length ns) (omega arith))
+
+-- what a number reads is marked where the number is
+read_marked : {F : Type 0} (ns : List (SymbolicExpr (BaseLeaf F))) (marks read : List (Option ℕ)) (from i : ℕ) → AreClosed ns marks → Marked marks from → Reached base_leaves ns (from ∷ []) read → is_read ns read i ≡ true → Marked marks i
+read_marked ns marks read from i closed at h is =
+    let some = some_of (slice_index_or read i None) (both_true (is_reached read i) (has_variable (slice_get ns i)) is) in
+    marked_reach ns marks from i closed at (h.only_reached i some.0 some.1).1
+
+-- The lines by values that are known explain a number.
+pub explains_known : {F : Type 0} {p : ℕ} (m : Modular F p) (r : CommRing F) (s : Leaf → F) (pool : BaseNodes F) (names marks : List (Option ℕ)) (values : List F) (from : ℕ) (numbers : List ℕ) → AreClosed pool.nodes marks → Known r s pool.nodes marks (length pool.nodes) values → from < length pool.nodes → Marked marks from → Reads pool.nodes from numbers → Explains m r s pool names from (explained_lines m pool names (λ i. slice_index_or values i r.zero) from numbers)
+explains_known {F} m r s pool names marks values from numbers closed known here at reads =
+    let ns = pool.nodes in
+    let f : ℕ → List ℕ = equation m pool names (λ i. slice_index_or values i r.zero) in
+    let g : ℕ → List ℕ = equation m pool names (number_value r s ns) in
+    let same : (i : ℕ) → i < length ns → Marked marks i → f i ≡ g i =
+    λ i b marked. ap (λ (v : F). infix_text m Loose (shown_number (listed_name names) ns i) ++ (codes " = " ++ constant_text m v)) (known i b marked) in
+    let all : map f numbers ≡ map g numbers =
+    ap (map f) reads.numbers_are
+    ∙ same_below (is_read ns reads.marks) f g (length ns) (λ i b t. same i b (read_marked ns marks reads.marks from i closed at reads.reached t))
+    ∙ ap (map g) (sym reads.numbers_are) in
+    record {
+      reads = numbers;
+      are_reads = reads;
+      lines_are = ap₂ (λ (x : List ℕ) (xs : List (List ℕ)). (codes "  " ++ x) ∷ equation_lines xs) (same from here at) all;
+    }

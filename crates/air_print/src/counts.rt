@@ -1,0 +1,143 @@
+//! How many places name each number, as far as it matters.
+ghost use Rattle.std.specs.Prelude.{◌≡◌, ℕ, ◌+◌, ◌<◌, ◌==◌, length, All, IfOk};
+ghost use Rattle.std.specs.List.{count_by};
+ghost use Rattle.air_symbolic.specs.Nodes.{OperandsBelow};
+ghost use Rattle.air_symbolic.specs.Pools.{FitsBase, size};
+ghost use Rattle.air_print.specs.Names.{one_if_is, operand_places, total_below, places_at, count_of_places};
+ghost use Rattle.air_print.specs.Counts.{places_for, AreCounted, AreMarks};
+
+use air_symbolic::{ExprId, ExprPool, SymLeaf, SymbolicExpr};
+use std::alloc::{AllocError, Global};
+
+/// How many places name an expression.
+#[derive(Clone, Copy, Debug, PartialEq, Eq)]
+pub enum Places {
+    Nowhere,
+    Once,
+    More,
+}
+
+// One place more.
+fn one_more(places: Places) -> Places
+    ensures { (n : ℕ) → places ≡ places_for n → result ≡ places_for (n + 1) }
+{
+    match places {
+        Places::Nowhere => Places::Once,
+        _ => Places::More,
+    }
+}
+
+// Counts a place that names `x`.
+fn count_place<A: SymLeaf>(counts: &mut [Places], x: ExprId<A>)
+    requires { x < length counts.old }
+    ensures { (f : ℕ → ℕ) → AreCounted f counts.old
+        → AreCounted (λ i. f i + one_if_is i x) counts.new }
+{
+    let number = x.number();
+    counts[number] = one_more(counts[number]);
+}
+
+// Counts the operands of a node.
+fn count_operands<A: SymLeaf>(counts: &mut [Places], node: SymbolicExpr<A>)
+    requires { OperandsBelow (length counts.old) node }
+    ensures { (f : ℕ → ℕ) → AreCounted f counts.old →
+        AreCounted (λ i. f i + operand_places i node) counts.new }
+{
+    match node {
+        SymbolicExpr::Leaf(_) => {}
+        SymbolicExpr::Add { x, y, .. } => {
+            count_place(counts, x);
+            count_place(counts, y);
+        }
+        SymbolicExpr::Sub { x, y, .. } => {
+            count_place(counts, x);
+            count_place(counts, y);
+        }
+        SymbolicExpr::Neg { x, .. } => count_place(counts, x),
+        SymbolicExpr::Mul { x, y, .. } => {
+            count_place(counts, x);
+            count_place(counts, y);
+        }
+    }
+}
+
+// Counts the places of the roots.
+fn count_roots<A: SymLeaf>(counts: &mut [Places], roots: &[ExprId<A>])
+    requires { All (λ x. x < length counts.old) roots.now }
+    ensures { (f : ℕ → ℕ) → AreCounted f counts.old →
+        AreCounted (λ i. f i + count_by (λ root. root == i) roots.now) counts.new }
+{
+    for root in roots {
+        count_place(counts, *root);
+    }
+}
+
+// Counts the operands of the node at a number, if it is reached.
+fn count_node<A: SymLeaf>(
+    counts: &mut [Places],
+    pool: &ExprPool<A>,
+    marks: &[Option<ExprId<A>>],
+    number: usize,
+)
+    requires owed { FitsBase A.reads pool.now }
+    requires places { length counts.old ≡ size pool.now }
+    requires marks { AreMarks (size pool.now) marks.now }
+    requires here { number < length marks.now }
+    ensures { (f : ℕ → ℕ) → AreCounted f counts.old →
+        AreCounted (λ i. f i + places_at pool.now.nodes marks.now i number) counts.new }
+{
+    if let Some(id) = marks[number] {
+        count_operands(counts, *pool.node(id));
+    }
+}
+
+// Counts the operands of the nodes that are reached.
+fn count_reached<A: SymLeaf>(counts: &mut [Places], pool: &ExprPool<A>, marks: &[Option<ExprId<A>>])
+    requires owed { FitsBase A.reads pool.now }
+    requires places { length counts.old ≡ size pool.now }
+    requires marks { AreMarks (size pool.now) marks.now }
+    ensures { (f : ℕ → ℕ) → AreCounted f counts.old → AreCounted
+        (λ i. f i + total_below (places_at pool.now.nodes marks.now i) (size pool.now))
+        counts.new }
+{
+    for number in 0..marks.len() {
+        count_node(counts, pool, marks, number);
+    }
+}
+
+// Counts all places, where none was counted.
+fn count_all<A: SymLeaf>(
+    counts: &mut [Places],
+    pool: &ExprPool<A>,
+    roots: &[ExprId<A>],
+    marks: &[Option<ExprId<A>>],
+)
+    requires owed { FitsBase A.reads pool.now }
+    requires here { All (λ x. x < size pool.now) roots.now }
+    requires places { length counts.old ≡ size pool.now }
+    requires marks { AreMarks (size pool.now) marks.now }
+    requires none { AreCounted (λ _. 0) counts.old }
+    ensures { AreCounted (count_of_places pool.now.nodes roots.now marks.now) counts.new }
+{
+    count_roots(counts, roots);
+    count_reached(counts, pool, marks);
+}
+
+/// Counts the places that name each number: operands of nodes that the roots reach, and roots.
+pub fn count_places<A: SymLeaf>(
+    alloc: Global,
+    pool: &ExprPool<A>,
+    roots: &[ExprId<A>],
+    marks: &[Option<ExprId<A>>],
+) -> Result<Vec<Places>, AllocError>
+    requires owed { FitsBase A.reads pool.now }
+    requires here { All (λ x. x < size pool.now) roots.now }
+    requires marks { AreMarks (size pool.now) marks.now }
+    ensures places { IfOk result (λ counts. length counts.items ≡ size pool.now) }
+    ensures counted { IfOk result (λ counts.
+        AreCounted (count_of_places pool.now.nodes roots.now marks.now) counts.items) }
+{
+    let mut counts = vec![in alloc; Places::Nowhere; pool.len()]?;
+    count_all(&mut counts, pool, roots, marks);
+    Ok(counts)
+}

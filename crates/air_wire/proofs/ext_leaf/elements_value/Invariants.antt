@@ -1,7 +1,0 @@
-use Rattle.std.proofs.Common.{◌≡◌, take, map}
-use Rattle.serde_json.specs.View.{view}
-use Rattle.air_wire.specs.Spelling.{number_data}
-use Rattle.air_wire.proofs.ext_leaf.elements_value.Given as goal
-
-abbrev pub invariant-loop-element : goal.invariant-loop-element
-invariant-loop-element g l = map view l.items.items ≡ map (λ x. number_data (g.F.PrimeField64.residues.value x)) (take l.element-index l.elements)
