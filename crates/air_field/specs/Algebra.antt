@@ -4,7 +4,7 @@ use Rattle.air_field.specs.Term.{Term, const_term, add_term, sub_term, mul_term}
 use Rattle.air_field.specs.Value.{value}
 use Rattle.air_field.specs.Part.{Part}
 
--- The ring keeps its elements and their meaning. An error that a part of a term allows, the whole allows too. Every
+-- The ring keeps its elements and their meaning. An error allowed for a part of a term is allowed for the whole. Every
 -- element means some term.
 pub record AlgebraLaws {R E F X : Type 0} (valid : R → Type 0) (has : R → E → Type 0) (means : R → E → Term F → Type 0) (extends : R → R → Type 0) (refuses : X → Term F → Type 0) : Type 0 where
   pub refuses_whole : (e : X) (t u : Term F) → Part t u → refuses e t → refuses e u
