@@ -80,7 +80,7 @@ impl<F> SymbolicVariable<F> {
     /// The degree of the variable's polynomial over `trace_len` rows; `periods` holds the lengths of the periodic
     /// columns. A column that repeats with period p, a divisor of the number N of rows, is a polynomial in the (N/p)-th
     /// power of the trace's variable, of degree at most N - N/p. For any other p up to N the answer is N - N/p with N/p
-    /// rounded down. A column without a listed period, or with one above N, counts as a column of the trace.
+    /// rounded down. A column of length 0, one that isn't listed, and one longer than N count as columns of the trace.
     pub fn poly_degree(&self, trace_len: usize, periods: &[usize]) -> usize
         ensures { result ≡ trace_weight trace_len periods.now
             (entry_leaf self.now.entry self.now.index) }
