@@ -30,7 +30,7 @@ pub data ReachedFrom {A F : Type 0} (l : Leaves A F) (ns : List (SymbolicExpr A)
 abbrev pub Marked : List (Option ℕ) → ℕ → Type 0
 Marked marks i = slice_index_or marks i None ≡ Some i
 
--- More numbers may be marked, but only ones with the property P.
+-- Earlier marks stay, and more numbers may be marked, but only ones with the property P.
 pub record MarkedMore (P : ℕ → Type 0) (old new : List (Option ℕ)) : Type 0 where
   pub places : length new ≡ length old
   pub stays : (i : ℕ) → Marked old i → Marked new i

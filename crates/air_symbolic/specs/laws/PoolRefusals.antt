@@ -1,4 +1,4 @@
--- An error that a pool allows for a part of a term it allows for the whole; `Memory` it always allows.
+-- If a pool allows an error for a part of a term, it allows it for the whole. It always allows `Memory`.
 use Rattle.std.specs.Prelude.{◌≡◌, ℕ, ◌≤◌}
 use Rattle.std.proofs.Common.{sym, subst, arith}
 use Rattle.std.proofs.Math.Nat.{le-max_left, le-max_right}

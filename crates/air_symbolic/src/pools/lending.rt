@@ -15,8 +15,8 @@ impl<A: SymLeaf> ExprPool<A> {
         &self.base
     }
 
-    /// The pool's base, for writing: an extension pool's base pool. Whatever is left there must extend the base that
-    /// was lent, as every call of a pool does; then the pool itself has grown.
+    /// The pool's base, for writing: an extension pool's base pool. The caller must only extend it, as every call of a
+    /// pool does; then the pool itself has grown.
     pub fn base_mut(&mut self) -> &mut A::Base
         ensures* lends { sem 𝓛 (Lends (the_row A.row A.F.row A.Base.row A.SymLeaf.own
             A.PartialEq.own A.Ord.own A.PartialOrd.own A.Debug.own A.F.Field.own A.F.PartialEq.own

@@ -5,7 +5,7 @@ use air_field::RingError;
 /// The weight of each leaf in a degree.
 #[derive(Clone, Copy, Debug)]
 pub enum LeafWeight<'a> {
-    /// The weights behind the degrees that nodes state.
+    /// The weights by which nodes state their degrees.
     Cached,
     /// The cached weights, but with this weight for the transition selector.
     Transition(usize),
