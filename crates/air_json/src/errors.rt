@@ -8,8 +8,9 @@ use air_field::RingError;
 use std::alloc::{AllocError, AllocFailed};
 use thiserror::Error;
 
-/// Why a value could not be read: for a list of nodes, its first fault. A fault in a list nested in a `Base` leaf is
-/// reported at the place of the leaf's node, but its operand and degrees are those of the nested list.
+/// Why a value could not be read or written; for a list of nodes that is read, its first fault. A fault in a list
+/// nested in a `Base` leaf is reported at the place of the leaf's node, but its operand and degrees are those of the
+/// nested list.
 #[derive(Clone, Copy, Debug, PartialEq, Eq, Error)]
 pub enum FlatError {
     /// Out of memory.

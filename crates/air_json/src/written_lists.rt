@@ -22,7 +22,7 @@ fn no_places(alloc: Global, count: usize) -> Result<Vec<Option<usize>>, AllocErr
     vec![in alloc; None; count]
 }
 
-// The count of numbers up to this one, which is the greatest that its list can use.
+// The size of a table for this number and all smaller ones; its list has no greater ones.
 fn numbers_to<A: WireLeaf>(pool: &ExprPool<A>, id: ExprId<A>) -> usize
     requires { id < size pool.now }
     ensures { result ≡ id + 1 }
